@@ -1,0 +1,22 @@
+-- What the contracts of the project cite. docs/DEFINITIONS.md explains each definition.
+pub mod Rounding
+pub mod Dates
+pub mod Decimals
+pub mod World
+pub mod Order
+pub mod Window
+pub mod Kind
+pub mod Formula
+pub mod Pointwise
+pub mod Cross
+pub mod Term
+pub mod Value
+pub mod NodeValue
+pub mod Table
+pub mod Graph
+pub mod Text
+pub mod Parts
+pub mod Agree
+pub mod Reading
+pub mod Sorted
+pub mod Laws

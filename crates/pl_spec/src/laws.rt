@@ -1,0 +1,47 @@
+ghost use Rattle.pl_spec.specs.Laws.{ValuesAgree, RoundingIsExact, BufferSteps, TablesAgree, TermsAreDistinct, OrderIsOne, RootIsGreatest, UsedAreListed};
+ghost use Rattle.pl_spec.specs.NodeValue.{NodesUnfold};
+
+/// The rounded quotient is the one nearest number.
+pub fn rounding_is_exact()
+    ensures { RoundingIsExact }
+{}
+
+/// What came to be known later changes no value.
+pub fn values_agree()
+    ensures { ValuesAgree }
+{}
+
+/// A buffered row follows the sessions by the new events alone.
+pub fn buffer_steps()
+    ensures { BufferSteps }
+{}
+
+/// A numbered term is worth what its node gives over lower numbers.
+pub fn nodes_unfold()
+    ensures { NodesUnfold }
+{}
+
+/// What came to be known later changes no row.
+pub fn tables_agree()
+    ensures { TablesAgree }
+{}
+
+/// No two numbers of a graph have one tree.
+pub fn terms_are_distinct()
+    ensures { TermsAreDistinct }
+{}
+
+/// The adjustments by day are one list.
+pub fn order_is_one()
+    ensures { OrderIsOne }
+{}
+
+/// The root is the greatest number whose square fits.
+pub fn root_is_greatest()
+    ensures { RootIsGreatest }
+{}
+
+/// The list of used terms has exactly the used ones.
+pub fn used_are_listed()
+    ensures { UsedAreListed }
+{}

@@ -1,0 +1,90 @@
+//! What pipelines mean: the definitions on which every contract of the project rests, and their laws.
+//!
+//! The definitions stand in `specs/`, and docs/DEFINITIONS.md explains each of them. The types here are those that
+//! both the definitions and the code speak of; the crates that they belong to export them. The functions in `laws`
+//! do nothing: the contract of each is a law of the definitions.
+#![tactic(auto)]
+
+pub mod laws;
+
+/// A column of daily bars. Prices are millionths of a unit of money, volumes millionths of a share.
+#[derive(Clone, Copy, Debug, PartialEq, Eq)]
+pub enum Column {
+    OpenPrice,
+    High,
+    Low,
+    Close,
+    Volume,
+}
+
+/// What an adjustment comes from.
+#[derive(Clone, Copy, Debug, PartialEq, Eq)]
+pub enum AdjustmentKind {
+    Split,
+    Merger,
+    Dividend,
+}
+
+/// How two numbers are compared.
+#[derive(Clone, Copy, Debug, PartialEq, Eq)]
+pub enum Compare {
+    Less,
+    LessEqual,
+    Greater,
+    GreaterEqual,
+    Equal,
+    NotEqual,
+}
+
+/// Which rank equal values have: places of their own by ascending sid, the least or the greatest of their places, one
+/// place for each distinct value, or the average of their places. These are the methods of Zipline's `Factor.rank`.
+#[derive(Clone, Copy, Debug, PartialEq, Eq)]
+pub enum RankMethod {
+    Ordinal,
+    Min,
+    Max,
+    Dense,
+    Average,
+}
+
+/// Whether the least value or the greatest has the first rank.
+#[derive(Clone, Copy, Debug, PartialEq, Eq)]
+pub enum RankOrder {
+    Ascending,
+    Descending,
+}
+
+/// The form of a table's text.
+#[derive(Clone, Copy, Debug, PartialEq, Eq)]
+pub enum Format {
+    Csv,
+    Fixed,
+}
+
+/// An asset, which exists on each session whose day is later than `start` and at most `end`. Days are counted from
+/// 1970-01-01.
+#[derive(Clone, Copy, Debug, PartialEq, Eq)]
+pub struct AssetRow {
+    pub sid: u32,
+    pub start: i32,
+    pub end: i32,
+}
+
+/// The bar of the asset in a column on a session: open, high, low, close and volume, in millionths.
+#[derive(Clone, Copy, Debug, PartialEq, Eq)]
+pub struct BarRow {
+    pub col: u32,
+    pub session: u32,
+    pub cells: [i64; 5],
+}
+
+/// A row of a table of splits, mergers or dividends. `effective` is in seconds since 1970-01-01 UTC: from that day on
+/// earlier bars are seen times `num / den`.
+#[derive(Clone, Copy, Debug, PartialEq, Eq)]
+pub struct RawAdjust {
+    pub id: i64,
+    pub effective: i64,
+    pub num: i64,
+    pub den: i64,
+    pub sid: i64,
+}
