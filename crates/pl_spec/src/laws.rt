@@ -1,4 +1,4 @@
-ghost use Rattle.pl_spec.specs.Laws.{ValuesAgree, RoundingIsExact, BufferSteps, TablesAgree, TermsAreDistinct, OrderIsOne, RootIsGreatest, UsedAreListed};
+ghost use Rattle.pl_spec.specs.Laws.{ValuesAgree, RoundingIsExact, BufferSteps, TablesAgree, TermsAreDistinct, OrderIsOne, RootIsGreatest, UsedAreListed, RawWithoutEvents, WindowOfOne, OpenMasksChangeNothing};
 ghost use Rattle.pl_spec.specs.NodeValue.{NodesUnfold};
 
 /// The rounded quotient is the one nearest number.
@@ -36,7 +36,7 @@ pub fn order_is_one()
     ensures { OrderIsOne }
 {}
 
-/// The root is the greatest number whose square fits.
+/// The root is the one greatest number whose square fits.
 pub fn root_is_greatest()
     ensures { RootIsGreatest }
 {}
@@ -44,4 +44,19 @@ pub fn root_is_greatest()
 /// The list of used terms has exactly the used ones.
 pub fn used_are_listed()
     ensures { UsedAreListed }
+{}
+
+/// An asset without adjustments is seen as its bars stand.
+pub fn raw_without_events()
+    ensures { RawWithoutEvents }
+{}
+
+/// A window of one session over a term is the term's value.
+pub fn window_of_one()
+    ensures { WindowOfOne }
+{}
+
+/// A mask that every existing asset passes changes no value.
+pub fn open_masks_change_nothing()
+    ensures { OpenMasksChangeNothing }
 {}
