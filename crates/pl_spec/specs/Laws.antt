@@ -1,5 +1,5 @@
 -- The laws of the definitions, each the contract of a function.
-use Rattle.std.specs.Prelude.{◌≡◌, true, ℕ, ◌<◌, ℤ, pos, ◌+ℤ◌, ◌≤ℤ◌, List, [], ◌∷◌, length, Some}
+use Rattle.std.specs.Prelude.{◌≡◌, true, ℕ, suc, ◌<◌, ◌≤◌, ◌++◌, ℤ, pos, ◌+ℤ◌, ◌≤ℤ◌, List, [], ◌∷◌, length, Some}
 use Rattle.pl_spec.specs.Rounding.{IsNearest, div_round, IsRoot, isqrt}
 use Rattle.pl_spec.specs.Graph.{Used, contains, used_terms}
 use Rattle.pl_spec.specs.Order.{IsByDay, by_day}
@@ -65,3 +65,8 @@ OpenMasksChangeNothing = (w : World) (names : List (List ℕ)) (mask : Term)
     → ((b : ℕ) (s : ℤ) → exists w b s ≡ true → holds (value w names mask b s) ≡ true)
     → (kind : Kind) (size : ℕ) (x y z group : Term) (a : ℕ) (d : ℤ)
     → value w names (node kind size x y z mask group) a d ≡ value w names (node kind size x y z absent group) a d
+
+-- the tables of two pieces of a range, one behind the other, are the table of the range: a run may be cut anywhere
+abbrev pub TablesConcatenate : Type 0
+TablesConcatenate = (w : World) (p : Pipeline) (from mid to : ℕ) → from ≤ suc mid → mid ≤ to
+    → table w p from to ≡ table w p from mid ++ table w p (suc mid) to

@@ -14,6 +14,7 @@ pub mod Value
 pub mod NodeValue
 pub mod Table
 pub mod Graph
+pub mod Reaching
 pub mod Text
 pub mod Parts
 pub mod Agree

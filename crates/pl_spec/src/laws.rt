@@ -1,5 +1,6 @@
-ghost use Rattle.pl_spec.specs.Laws.{ValuesAgree, RoundingIsExact, BufferSteps, TablesAgree, TermsAreDistinct, OrderIsOne, RootIsGreatest, UsedAreListed, RawWithoutEvents, WindowOfOne, OpenMasksChangeNothing};
+ghost use Rattle.pl_spec.specs.Laws.{ValuesAgree, RoundingIsExact, BufferSteps, TablesAgree, TermsAreDistinct, OrderIsOne, RootIsGreatest, UsedAreListed, RawWithoutEvents, WindowOfOne, OpenMasksChangeNothing, TablesConcatenate};
 ghost use Rattle.pl_spec.specs.NodeValue.{NodesUnfold};
+ghost use Rattle.pl_spec.specs.Reaching.{ReachIsEnough};
 
 /// The rounded quotient is the one nearest number.
 pub fn rounding_is_exact()
@@ -59,4 +60,14 @@ pub fn window_of_one()
 /// A mask that every existing asset passes changes no value.
 pub fn open_masks_change_nothing()
     ensures { OpenMasksChangeNothing }
+{}
+
+/// No bar before a term's reach counts for its value.
+pub fn reach_is_enough()
+    ensures { ReachIsEnough }
+{}
+
+/// A range that is run in pieces gives the rows of the whole.
+pub fn tables_concatenate()
+    ensures { TablesConcatenate }
 {}
