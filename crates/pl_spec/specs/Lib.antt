@@ -3,6 +3,7 @@ pub mod Rounding
 pub mod Dates
 pub mod Decimals
 pub mod World
+pub mod Lookups
 pub mod Order
 pub mod Window
 pub mod Kind
