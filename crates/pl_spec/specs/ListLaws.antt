@@ -13,3 +13,8 @@ use Rattle.pl_spec.specs.Cross.{Entry, ordinal, rank, value_at, bin_of, cross}
 abbrev pub ValuesAreSorted : Type 0
 ValuesAreSorted = (vs sorted : List ℤ) → IsPermutation vs sorted → AllPairs (λ x y. x ≤ℤ y) sorted
     → (i : ℕ) → i < length vs → slice_get sorted i ≡ Some (value_at vs i)
+
+-- where no two entries have one sid, each of the numbers from 1 on is the place of one entry
+abbrev pub OrdinalsAreNumbers : Type 0
+OrdinalsAreNumbers = (order : RankOrder) (list : List Entry) → AllPairs (λ e f. e.0 ≢ f.0) list
+    → IsPermutation (map (λ e. ordinal order list e.0 e.1) list) (range_with_len 1 (length list))

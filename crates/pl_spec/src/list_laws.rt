@@ -1,6 +1,11 @@
-ghost use Rattle.pl_spec.specs.ListLaws.{ValuesAreSorted};
+ghost use Rattle.pl_spec.specs.ListLaws.{ValuesAreSorted, OrdinalsAreNumbers};
 
 /// The values of a cross-section in ascending order are those that counting gives.
 pub fn values_are_sorted()
     ensures { ValuesAreSorted }
+{}
+
+/// The ordinal ranks of m assets are the numbers from 1 to m, each once.
+pub fn ordinals_are_numbers()
+    ensures { OrdinalsAreNumbers }
 {}
