@@ -18,3 +18,7 @@ ValuesAreSorted = (vs sorted : List ℤ) → IsPermutation vs sorted → AllPair
 abbrev pub OrdinalsAreNumbers : Type 0
 OrdinalsAreNumbers = (order : RankOrder) (list : List Entry) → AllPairs (λ e f. e.0 ≢ f.0) list
     → IsPermutation (map (λ e. ordinal order list e.0 e.1) list) (range_with_len 1 (length list))
+
+-- the rounded mean of cells lies between the least and the greatest of them
+abbrev pub MeanIsBetween : Type 0
+MeanIsBetween = (xs : List ℤ) → All IsCell xs → 0 < count xs → (least xs ≤ℤ mean xs) × (mean xs ≤ℤ greatest xs)
