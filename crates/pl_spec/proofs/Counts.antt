@@ -47,3 +47,13 @@ map-agree f g (x ∷ xs) h = ap (λ y. y ∷ map f xs) (h x (inl refl)) ∙ ap (
 pub map-map : {A B C : Type 0} (f : B → C) (g : A → B) (xs : List A) → map f (map g xs) ≡ map (λ x. f (g x)) xs
 map-map f g [] = refl
 map-map f g (x ∷ xs) = ap (λ l. f (g x) ∷ l) (map-map f g xs)
+
+pub count-agree : {A : Type 0} (p q : A → Bool) (xs : List A) → ((y : A) → In y xs → p y ≡ q y) → count_by p xs ≡ count_by q xs
+count-agree p q [] h = refl
+count-agree p q (x ∷ xs) h =
+    let first : p x ≡ q x = h x (inl refl) in
+    rw (count-cons p x xs, count-cons q x xs, first) (omega (arith, count-agree p q xs (λ y i. h y (inr i))))
+
+pub count-map : {A B : Type 0} (p : B → Bool) (f : A → B) (xs : List A) → count_by p (map f xs) ≡ count_by (λ x. p (f x)) xs
+count-map p f [] = refl
+count-map p f (x ∷ xs) = rw (count-cons p (f x) (map f xs), count-cons (λ y. p (f y)) x xs) (omega (arith, count-map p f xs))
