@@ -22,3 +22,4 @@ pub mod Agree
 pub mod Reading
 pub mod Sorted
 pub mod Laws
+pub mod ListLaws
