@@ -23,3 +23,4 @@ pub mod Reading
 pub mod Sorted
 pub mod Laws
 pub mod ListLaws
+pub mod DateLaws

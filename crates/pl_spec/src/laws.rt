@@ -2,6 +2,7 @@ ghost use Rattle.pl_spec.specs.Laws.{ValuesAgree, RoundingIsExact, BufferSteps, 
 ghost use Rattle.pl_spec.specs.NodeValue.{NodesUnfold};
 ghost use Rattle.pl_spec.specs.Reaching.{ReachIsEnough};
 ghost use Rattle.pl_spec.specs.Lookups.{BarsAreFound, LabelsAreFound};
+ghost use Rattle.pl_spec.specs.DateLaws.{DatesAreRead};
 
 /// The rounded quotient is the one nearest number.
 pub fn rounding_is_exact()
@@ -81,4 +82,7 @@ pub fn bars_are_found()
 /// The label of an asset is that of the row that started last.
 pub fn labels_are_found()
     ensures { LabelsAreFound }
+/// A text is read as a day exactly where it is the date of that day.
+pub fn dates_are_read()
+    ensures { DatesAreRead }
 {}
