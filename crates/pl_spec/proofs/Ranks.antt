@@ -21,7 +21,7 @@ earlier-fewer a x list c =
     let self : nat_lt a a ≡ false = grind (arith, nat_tests) in
     let one : int_eq x x ≡ true = grind (arith, ints) in
     let fewer = count-fewer (λ (e : Entry). int_eq x e.1 && nat_lt e.0 a) (λ (e : Entry). int_eq x e.1) list (a, x) (contains-in list (a, x) c)
-        (both_false (int_eq x x) (nat_lt a a) self) one (λ e i. first_true (int_eq x e.1) (nat_lt e.0 a)) in
+    (both_false (int_eq x x) (nat_lt a a) self) one (λ e i. first_true (int_eq x e.1) (nat_lt e.0 a)) in
     omega (arith, fewer, count-map (int_eq x) (λ (e : Entry). e.1) list)
   where
     both_false : (b c : Bool) → c ≡ false → (b && c) ≡ false

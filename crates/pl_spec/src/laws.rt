@@ -82,6 +82,8 @@ pub fn bars_are_found()
 /// The label of an asset is that of the row that started last.
 pub fn labels_are_found()
     ensures { LabelsAreFound }
+{}
+
 /// A text is read as a day exactly where it is the date of that day.
 pub fn dates_are_read()
     ensures { DatesAreRead }
