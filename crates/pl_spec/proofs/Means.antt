@@ -1,5 +1,5 @@
 -- The rounded mean lies between the least value and the greatest.
-use Rattle.std.proofs.Common.{◌≡◌, ℕ, zero, suc, ◌+◌, ◌*◌, ◌<◌, ◌≤◌, Bool, true, false, cond, nat_le, ℤ, pos, negsuc, ◌+ℤ◌, ◌*ℤ◌, neg_ℤ, ◌≤ℤ◌, ◌<ℤ◌, List, [], ◌∷◌, length, fold, unwrap_or, refl, sym, ◌∙◌, ap, arith, inl, inr, ◌⊎◌}
+use Rattle.std.proofs.Common.{◌≡◌, ℕ, suc, ◌+◌, ◌*◌, ◌<◌, ◌≤◌, true, nat_le, ℤ, pos, ◌+ℤ◌, ◌*ℤ◌, neg_ℤ, ◌≤ℤ◌, List, [], ◌∷◌, length, fold, unwrap_or, refl, sym, ◌∙◌, ap, arith, inl, inr}
 use Rattle.std.specs.List.{All, reduce}
 use Rattle.std.specs.Int.{int_max, int_min}
 use Rattle.std.specs.Int.RustNames.{unsigned_abs}
@@ -17,19 +17,19 @@ use Rattle.pl_spec.proofs.Nearest.{div_round-is_nearest}
 nearest-from : (l t : ℤ) (n : ℕ) (q : ℤ) → 0 < n → IsNearest t n q → (l *ℤ pos n) ≤ℤ t → l ≤ℤ q
 nearest-from l t n q h f le = by_lt_z q l
     (λ lt.
-      let apart : up q + down l + 1 ≤ up l + down q = omega (arith, ints) in
-      let times : (up q + down l + 1) * n ≤ (up l + down q) * n = mul-le (up q + down l + 1) n (up l + down q) n apart (omega arith) in
-      let near = f.near in
-      absurd (omega (arith, ints)))
+    let apart : up q + down l + 1 ≤ up l + down q = omega (arith, ints) in
+    let times : (up q + down l + 1) * n ≤ (up l + down q) * n = mul-le (up q + down l + 1) n (up l + down q) n apart (omega arith) in
+    let near = f.near in
+    absurd (omega (arith, ints)))
     (λ ge. ge)
 
 nearest-to : (g t : ℤ) (n : ℕ) (q : ℤ) → 0 < n → IsNearest t n q → t ≤ℤ (g *ℤ pos n) → q ≤ℤ g
 nearest-to g t n q h f le = by_lt_z g q
     (λ lt.
-      let apart : up g + down q + 1 ≤ up q + down g = omega (arith, ints) in
-      let times : (up g + down q + 1) * n ≤ (up q + down g) * n = mul-le (up g + down q + 1) n (up q + down g) n apart (omega arith) in
-      let near = f.near in
-      absurd (omega (arith, ints)))
+    let apart : up g + down q + 1 ≤ up q + down g = omega (arith, ints) in
+    let times : (up g + down q + 1) * n ≤ (up q + down g) * n = mul-le (up g + down q + 1) n (up q + down g) n apart (omega arith) in
+    let near = f.near in
+    absurd (omega (arith, ints)))
     (λ ge. ge)
 
 -- ---- a total of values that lie between two numbers
@@ -91,9 +91,10 @@ between [] h some = absurd (omega arith)
 between (y ∷ ys) h some =
     let low = fold-int_min_bounds y ys (fold int_min y ys) refl in
     let high = fold-int_max_bounds y ys (fold int_max y ys) refl in
-    rw (mean_of-is y ys h)
-    (rounded-from (fold int_min y ys) y ys (All-cons (λ x. fold int_min y ys ≤ℤ x) y ys low.0 low.1),
-     rounded-to (fold int_max y ys) y ys (All-cons (λ x. x ≤ℤ fold int_max y ys) y ys high.0 high.1))
+    rw (mean_of-is y ys h) (
+      rounded-from (fold int_min y ys) y ys (All-cons (λ x. fold int_min y ys ≤ℤ x) y ys low.0 low.1),
+      rounded-to (fold int_max y ys) y ys (All-cons (λ x. x ≤ℤ fold int_max y ys) y ys high.0 high.1),
+    )
 
 pub mean-between : (xs : List ℤ) → All IsCell xs → 0 < count xs → (least xs ≤ℤ mean xs) × (mean xs ≤ℤ greatest xs)
 unfolding mean_of

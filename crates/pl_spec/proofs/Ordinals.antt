@@ -1,11 +1,11 @@
 -- The ordinal ranks of m entries are the numbers from 1 to m, each once.
-use Rattle.std.proofs.Common.{◌≡◌, ◌≢◌, ℕ, zero, suc, ◌+◌, ◌<◌, ◌≤◌, Bool, true, false, ◌&&◌, ◌||◌, cond, nat_le, nat_lt, ℤ, ◌≤ℤ◌, ◌<ℤ◌, List, [], ◌∷◌, ◌++◌, length, map, get_or, refl, sym, ◌∙◌, ap, subst, arith, inl, inr, ◌⊎◌, IsPermutation}
+use Rattle.std.proofs.Common.{◌≡◌, ◌≢◌, ℕ, zero, suc, ◌+◌, ◌<◌, ◌≤◌, Bool, true, false, ◌&&◌, ◌||◌, cond, nat_le, nat_lt, ℤ, List, [], ◌∷◌, length, map, get_or, refl, sym, ◌∙◌, ap, subst, arith, inl, inr, ◌⊎◌, IsPermutation}
 use Rattle.std.specs.List.{AllPairs, count_by, range_with_len}
 use Rattle.std.specs.Int.RustNames.{int_lt}
 use Rattle.std.specs.Ordering.{int_eq}
 use Rattle.std.proofs.lemmas.Bool.{cases_lt}
 use Rattle.std.proofs.lemmas.Bool.Decides.{nat_tests}
-use Rattle.std.proofs.lemmas.Int.{ints, by_lt_z}
+use Rattle.std.proofs.lemmas.Int.{ints}
 use Rattle.std.proofs.lemmas.List.Sorted.{IsPermutation-refl, IsPermutation-cons, IsPermutation-map, IsPermutation-trans, IsPermutation-sym, IsPermutation-middle}
 use Rattle.std.proofs.lemmas.List.Sums.{count_by-le-length}
 use Rattle.pl_spec.specs.declared.RankOrder.{RankOrder}
@@ -93,12 +93,12 @@ module _ {A : Type 0} (lt : A → A → Bool) where
         let own : count_by (λ z. lt z x) (x ∷ xs) ≡ count_by (λ z. lt z x) xs = rw (count-cons (λ z. lt z x) x xs, irreflexive x) (omega arith) in
         let few : count_by (λ z. lt z x) xs ≤ length xs = count_by-le-length (λ z. lt z x) xs in
         let moved : map (place (x ∷ xs)) xs ≡ map (shift k) (map (place xs) xs) =
-            map-agree (place (x ∷ xs)) (λ y. shift k (place xs y)) xs (λ y i. place-more x xs y i (h.0 y i)) ∙ sym (map-map (shift k) (place xs) xs) in
+        map-agree (place (x ∷ xs)) (λ y. shift k (place xs y)) xs (λ y i. place-more x xs y i (h.0 y i)) ∙ sym (map-map (shift k) (place xs) xs) in
         let rest : IsPermutation (k ∷ map (shift k) (map (place xs) xs)) (k ∷ map (shift k) (range_with_len 1 (length xs))) =
-            IsPermutation-cons k (map (shift k) (map (place xs) xs)) (map (shift k) (range_with_len 1 (length xs))) (IsPermutation-map (shift k) (map (place xs) xs) (range_with_len 1 (length xs)) (places-numbers xs h.1)) in
+        IsPermutation-cons k (map (shift k) (map (place xs) xs)) (map (shift k) (range_with_len 1 (length xs))) (IsPermutation-map (shift k) (map (place xs) xs) (range_with_len 1 (length xs)) (places-numbers xs h.1)) in
         let whole : IsPermutation (k ∷ map (shift k) (map (place xs) xs)) (range_with_len 1 (suc (length xs))) =
-            IsPermutation-trans (k ∷ map (shift k) (map (place xs) xs)) (k ∷ map (shift k) (range_with_len 1 (length xs))) (range_with_len 1 (suc (length xs))) rest
-            (filled k 1 (length xs) (omega arith) (omega arith)) in
+        IsPermutation-trans (k ∷ map (shift k) (map (place xs) xs)) (k ∷ map (shift k) (range_with_len 1 (length xs))) (range_with_len 1 (suc (length xs))) rest
+        (filled k 1 (length xs) (omega arith) (omega arith)) in
         subst (λ l. IsPermutation (k ∷ l) (range_with_len 1 (suc (length xs)))) (sym moved) whole
 
 -- ---- the order of entries
@@ -132,11 +132,12 @@ some_first Descending e f ne = grind (arith, ints, nat_tests)
 apart : (order : RankOrder) (list : List Entry) → AllPairs (λ e f. e.0 ≢ f.0) list → AreApart (comes_before order) list
 unfolding AreApart
 apart order [] h = tt
-apart order (e ∷ es) h =
-    (λ f i. let c = in-contains es f i in
-        let ne : e.0 ≢ (get_or es c.0 f).0 = h 0 (suc c.0) f (omega arith) (omega (arith, c.1)) in
-        some_first order e f (subst (λ (g : Entry). e.0 ≢ g.0) c.2 ne),
-     apart order es (λ i j d l m. h (suc i) (suc j) d (omega arith) (omega arith)))
+apart order (e ∷ es) h = (
+  λ f i. let c = in-contains es f i in
+      let ne : e.0 ≢ (get_or es c.0 f).0 = h 0 (suc c.0) f (omega arith) (omega (arith, c.1)) in
+      some_first order e f (subst (λ (g : Entry). e.0 ≢ g.0) c.2 ne),
+  apart order es (λ i j d l m. h (suc i) (suc j) d (omega arith) (omega arith)),
+)
 
 one_way : (b c : Bool) → (b ≡ true → c ≡ false) → cond b 1 0 + cond c 1 0 ≡ cond (b || c) 1 0
 one_way true c h = rw (h refl) refl
@@ -159,6 +160,6 @@ pub ordinals-numbers : (order : RankOrder) (list : List Entry) → AllPairs (λ 
 unfolding place
 ordinals-numbers order list h =
     let same : map (λ e. ordinal order list e.0 e.1) list ≡ map (place (comes_before order) list) list =
-        map-agree (λ (e : Entry). ordinal order list e.0 e.1) (place (comes_before order) list) list (λ e i. omega (arith, counted order list e.0 e.1)) in
+    map-agree (λ (e : Entry). ordinal order list e.0 e.1) (place (comes_before order) list) list (λ e i. omega (arith, counted order list e.0 e.1)) in
     subst (λ l. IsPermutation l (range_with_len 1 (length list))) (sym same)
     (places-numbers (comes_before order) (before-itself order) (before-trans order) list (apart order list h))

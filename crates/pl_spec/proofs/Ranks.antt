@@ -1,12 +1,11 @@
 -- How the five ranks of a value lie to one another.
-use Rattle.std.proofs.Common.{◌≡◌, ℕ, ◌+◌, ◌*◌, ◌≤◌, Bool, true, false, ◌&&◌, ◌||◌, cond, nat_lt, ℤ, List, [], ◌∷◌, refl, sym, ◌∙◌, ap, arith}
-use Rattle.std.specs.List.{Contains, count_by, list_any}
+use Rattle.std.proofs.Common.{◌≡◌, ℕ, ◌+◌, ◌≤◌, Bool, true, false, ◌&&◌, cond, nat_lt, ℤ, List, [], ◌∷◌, refl, arith}
+use Rattle.std.specs.List.{Contains, list_any}
 use Rattle.std.specs.Ordering.{int_eq}
 use Rattle.std.proofs.lemmas.Bool.Decides.{nat_tests}
 use Rattle.std.proofs.lemmas.Int.{ints}
-use Rattle.pl_spec.specs.declared.RankMethod.TheVariants.{Ordinal, Min, Max, Dense, Average}
 use Rattle.pl_spec.specs.declared.RankOrder.{RankOrder}
-use Rattle.pl_spec.specs.Cross.{Entry, values, precedes, preceding, same, earlier_same, distinct_values, rank}
+use Rattle.pl_spec.specs.Cross.{Entry, values, precedes, preceding, same, earlier_same, distinct_values}
 use Rattle.pl_spec.specs.ListLaws.{AreRanks}
 use Rattle.pl_spec.proofs.Counts.{count-cons, count-fewer, count-map}
 use Rattle.pl_spec.proofs.Sorts.{contains-in}
@@ -21,7 +20,7 @@ earlier-fewer a x list c =
     let self : nat_lt a a ≡ false = grind (arith, nat_tests) in
     let one : int_eq x x ≡ true = grind (arith, ints) in
     let fewer = count-fewer (λ (e : Entry). int_eq x e.1 && nat_lt e.0 a) (λ (e : Entry). int_eq x e.1) list (a, x) (contains-in list (a, x) c)
-        (both_false (int_eq x x) (nat_lt a a) self) one (λ e i. first_true (int_eq x e.1) (nat_lt e.0 a)) in
+    (both_false (int_eq x x) (nat_lt a a) self) one (λ e i. first_true (int_eq x e.1) (nat_lt e.0 a)) in
     omega (arith, fewer, count-map (int_eq x) (λ (e : Entry). e.1) list)
   where
     both_false : (b c : Bool) → c ≡ false → (b && c) ≡ false

@@ -1,5 +1,5 @@
 -- How many entries stand among the first.
-use Rattle.std.proofs.Common.{◌≡◌, ◌≢◌, ℕ, zero, suc, ◌+◌, ◌-◌, min, Bool, true, false, cond, nat_le, ℤ, List, [], ◌∷◌, length, map, refl, sym, ◌∙◌, ap, arith}
+use Rattle.std.proofs.Common.{◌≡◌, ◌≢◌, ℕ, zero, suc, ◌+◌, ◌-◌, min, Bool, true, false, cond, nat_le, List, length, map, refl, sym, ◌∙◌, arith}
 use Rattle.std.specs.List.{AllPairs, count_by, range_with_len}
 use Rattle.std.proofs.lemmas.Bool.Decides.{nat_tests}
 use Rattle.std.proofs.lemmas.List.Sorted.{sum_by-IsPermutation}
@@ -33,8 +33,9 @@ among_first order n list h =
 pub tops-many : (n : ℕ) (list : List Entry) → AllPairs (λ e f. e.0 ≢ f.0) list
     → (count_by (λ e. is_true (cross (Top n) list e.0 e.1)) list ≡ min n (length list)) × (count_by (λ e. is_true (cross (Bottom n) list e.0 e.1)) list ≡ min n (length list))
 unfolding cross
-tops-many n list h =
-    (count-agree (λ (e : Entry). is_true (cross (Top n) list e.0 e.1)) (λ (e : Entry). nat_le (ordinal Descending list e.0 e.1) n) list (λ e i. is_true-truth (nat_le (ordinal Descending list e.0 e.1) n))
-     ∙ among_first Descending n list h,
-     count-agree (λ (e : Entry). is_true (cross (Bottom n) list e.0 e.1)) (λ (e : Entry). nat_le (ordinal Ascending list e.0 e.1) n) list (λ e i. is_true-truth (nat_le (ordinal Ascending list e.0 e.1) n))
-     ∙ among_first Ascending n list h)
+tops-many n list h = (
+  count-agree (λ (e : Entry). is_true (cross (Top n) list e.0 e.1)) (λ (e : Entry). nat_le (ordinal Descending list e.0 e.1) n) list (λ e i. is_true-truth (nat_le (ordinal Descending list e.0 e.1) n))
+      ∙ among_first Descending n list h,
+  count-agree (λ (e : Entry). is_true (cross (Bottom n) list e.0 e.1)) (λ (e : Entry). nat_le (ordinal Ascending list e.0 e.1) n) list (λ e i. is_true-truth (nat_le (ordinal Ascending list e.0 e.1) n))
+      ∙ among_first Ascending n list h,
+)

@@ -1,11 +1,10 @@
 -- What is seen of bars after splits, mergers and dividends.
-use Rattle.std.specs.Prelude.{◌≡◌, ℕ, ℤ, pos, negsuc, refl, List, [], ◌∷◌, map, length}
+use Rattle.std.specs.Prelude.{◌≡◌, ℕ, ℤ, pos, negsuc, refl, [], ◌∷◌, map, length}
 use Rattle.pl_spec.specs.Rounding.{MISSING, scaled}
 use Rattle.pl_spec.specs.declared.Column.TheVariants.{Close, Volume}
-use Rattle.pl_spec.specs.declared.RawAdjust.{RawAdjust}
-use Rattle.pl_spec.specs.World.{World, events_of}
+use Rattle.pl_spec.specs.World.{events_of}
 use Rattle.pl_spec.specs.Order.{day_of_time, adjustments_of}
-use Rattle.pl_spec.specs.Window.{seen_cell, events_in, bar_window, applied_steps}
+use Rattle.pl_spec.specs.Window.{events_in, bar_window, applied_steps}
 use Rattle.pl_spec.specs.Kind.{WindowKind as kind}
 use Rattle.pl_spec.specs.Term.Term.{column}
 use Rattle.pl_spec.specs.Value.Value.{Number}

@@ -1,10 +1,9 @@
 -- Ranks, quantiles and the other cross-sections.
-use Rattle.std.specs.Prelude.{◌≡◌, ℕ, ◌*◌, ◌++◌, ℤ, pos, negsuc, refl, List, [], ◌∷◌, map}
+use Rattle.std.specs.Prelude.{◌≡◌, ℤ, pos, negsuc, refl, List, [], ◌∷◌, map}
 use Rattle.pl_spec.specs.Rounding.{MISSING}
 use Rattle.pl_spec.specs.declared.Column.TheVariants.{Close}
 use Rattle.pl_spec.specs.declared.RankMethod.TheVariants as method
 use Rattle.pl_spec.specs.declared.RankOrder.TheVariants.{Ascending, Descending}
-use Rattle.pl_spec.specs.World.{World}
 use Rattle.pl_spec.specs.Kind.{WindowKind, CrossKind as kind}
 use Rattle.pl_spec.specs.Cross.{Entry, values, value_at, cross}
 use Rattle.pl_spec.specs.Term.Term.{absent}

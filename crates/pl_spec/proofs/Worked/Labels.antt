@@ -1,8 +1,8 @@
 -- Labels, groups by labels, and tests of labels.
-use Rattle.std.specs.Prelude.{◌≡◌, ℕ, ◌*◌, ℤ, pos, negsuc, refl, codes, List, [], ◌∷◌, map, Some, None}
+use Rattle.std.specs.Prelude.{◌≡◌, pos, negsuc, refl, codes, List, [], ◌∷◌, map, Some, None}
 use Rattle.pl_spec.specs.Rounding.{MISSING}
 use Rattle.pl_spec.specs.declared.Column.TheVariants.{Close}
-use Rattle.pl_spec.specs.World.{World, LabelRow, label_at}
+use Rattle.pl_spec.specs.World.{World, label_at}
 use Rattle.pl_spec.specs.Kind.{Kind, PointKind, LabelKind, CrossKind}
 use Rattle.pl_spec.specs.Term.{Term}
 use Rattle.pl_spec.specs.Term.Term.{absent, node}

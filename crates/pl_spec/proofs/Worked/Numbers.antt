@@ -1,10 +1,9 @@
 -- Rounding, cells, decimals, sids and dates.
-use Rattle.std.specs.Prelude.{◌≡◌, ℕ, ◌+◌, ◌^◌, ◌<◌, ℤ, pos, negsuc, neg_ℤ, refl, codes, List, [], ◌∷◌, map, Some, None, true, false, length}
+use Rattle.std.specs.Prelude.{◌≡◌, ℕ, ◌+◌, ◌^◌, pos, negsuc, neg_ℤ, refl, codes, List, [], ◌∷◌, map, Some, None, true, false}
 use Rattle.std.proofs.Common.{lit<}
-use Rattle.std.specs.Fmt.{digits as decimal_digits}
 use Rattle.jiff_core.specs.Calendar.{days_from_civil, day_count, days_of_years, days_of_months}
-use Rattle.pl_spec.specs.Rounding.{MISSING, LIMIT, div_round, to_cell, quot, isqrt, root_by, add, mul, div}
-use Rattle.pl_spec.specs.Dates.{date_text, digits, day_if, date_in}
+use Rattle.pl_spec.specs.Rounding.{MISSING, LIMIT, div_round, to_cell, quot, isqrt, add, mul, div}
+use Rattle.pl_spec.specs.Dates.{date_text, day_if, date_in}
 use Rattle.pl_spec.specs.Decimals.{Decimal, IsTooLong, millionths, cell_text, sid_in}
 use Rattle.pl_spec.proofs.Worked.Worlds.{opened}
 

@@ -1,9 +1,9 @@
 -- What a graph uses, how far it reaches back, and how many of its results are live at once.
-use Rattle.std.specs.Prelude.{◌≡◌, ℕ, ◌*◌, ℤ, pos, negsuc, refl, List, [], ◌∷◌, map, Some}
+use Rattle.std.specs.Prelude.{◌≡◌, ℕ, pos, negsuc, refl, List, [], ◌∷◌, map, Some}
 use Rattle.pl_spec.specs.declared.Column.TheVariants.{Close, Volume}
 use Rattle.pl_spec.specs.declared.Compare.TheVariants as compare
 use Rattle.pl_spec.specs.Kind.{Kind, WindowKind, PointKind}
-use Rattle.pl_spec.specs.Term.{Graph, Node, term_at}
+use Rattle.pl_spec.specs.Term.{Graph, term_at}
 use Rattle.pl_spec.specs.Graph.{reach, used_terms, live_terms, columns_at, bound}
 use Rattle.pl_spec.proofs.Worked.Worlds.{opened, units, at_close, of_bars, of_terms, latest_close}
 

@@ -1,5 +1,5 @@
 -- Arithmetic, comparisons and selections on the values of one asset and session, and masks.
-use Rattle.std.specs.Prelude.{◌≡◌, ℕ, ◌*◌, ℤ, pos, negsuc, refl, List, [], ◌∷◌, map}
+use Rattle.std.specs.Prelude.{◌≡◌, pos, negsuc, refl, [], ◌∷◌, map}
 use Rattle.pl_spec.specs.Rounding.{MISSING}
 use Rattle.pl_spec.specs.declared.Column.TheVariants.{Close}
 use Rattle.pl_spec.specs.declared.Compare.TheVariants as compare
@@ -8,7 +8,7 @@ use Rattle.pl_spec.specs.Pointwise.{pointwise}
 use Rattle.pl_spec.specs.Term.{Term}
 use Rattle.pl_spec.specs.Term.Term.{absent, column, node}
 use Rattle.pl_spec.specs.Value.Value.{Number}
-use Rattle.pl_spec.proofs.Worked.Worlds.{opened, units, closed, alone, plain, no_tables, window, point, number, at_close, latest, by_session, on}
+use Rattle.pl_spec.proofs.Worked.Worlds.{opened, units, closed, alone, plain, no_tables, point, number, latest, by_session, on}
 
 -- (close - 50).clip(0, 10) and (close - 60).clip(-8, 8), where the close is 51
 clips_hold_a_value_between : on plain 3

@@ -1,12 +1,11 @@
 -- Whole tables as texts, and the sum of their cells.
-use Rattle.std.specs.Prelude.{◌≡◌, ℕ, ◌*◌, ◌++◌, ℤ, pos, negsuc, refl, codes, List, [], ◌∷◌, map, length, Some, None}
+use Rattle.std.specs.Prelude.{◌≡◌, ℕ, ◌++◌, pos, negsuc, refl, codes, [], ◌∷◌, map, length, Some}
 use Rattle.pl_spec.specs.declared.Column.TheVariants.{Close, Volume}
 use Rattle.pl_spec.specs.declared.Compare.TheVariants as compare
 use Rattle.pl_spec.specs.declared.Format.TheVariants as format
 use Rattle.pl_spec.specs.declared.RankMethod.{RankMethod}
 use Rattle.pl_spec.specs.declared.RankMethod.TheVariants as method
 use Rattle.pl_spec.specs.declared.RankOrder.TheVariants.{Ascending}
-use Rattle.pl_spec.specs.World.{World, LabelRow}
 use Rattle.pl_spec.specs.Kind.{Kind, WindowKind, PointKind, CrossKind}
 use Rattle.pl_spec.specs.Term.{Node}
 use Rattle.pl_spec.specs.Table.{Pipeline, table, cells}

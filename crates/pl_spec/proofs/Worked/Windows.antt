@@ -1,8 +1,7 @@
 -- The formulas over windows.
-use Rattle.std.specs.Prelude.{◌≡◌, ℕ, ◌*◌, ℤ, pos, negsuc, refl, List, [], ◌∷◌, map}
+use Rattle.std.specs.Prelude.{◌≡◌, pos, negsuc, refl, [], ◌∷◌, map}
 use Rattle.pl_spec.specs.Rounding.{MISSING}
 use Rattle.pl_spec.specs.declared.Column.TheVariants.{High, Low, Close, Volume}
-use Rattle.pl_spec.specs.World.{World, Bar}
 use Rattle.pl_spec.specs.Kind.{WindowKind as kind}
 use Rattle.pl_spec.specs.Formula.{formula}
 use Rattle.pl_spec.specs.Term.Term.{column}
