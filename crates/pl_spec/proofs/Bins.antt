@@ -1,6 +1,6 @@
 -- Quantiles have their number of bins, and these grow with the value.
-use Rattle.std.proofs.Common.{◌≡◌, ℕ, zero, suc, ◌+◌, ◌-◌, ◌*◌, ◌≤◌, Bool, true, false, ℤ, pos, ◌*ℤ◌, ◌≤ℤ◌, List, length, refl, ap, arith}
-use Rattle.std.specs.List.{count_by, range_with_len}
+use Rattle.std.proofs.Common.{◌≡◌, ℕ, zero, suc, ◌+◌, ◌-◌, ◌*◌, ◌≤◌, true, ℤ, pos, ◌*ℤ◌, ◌≤ℤ◌, List, length, refl, ap, arith}
+use Rattle.std.specs.List.{range_with_len}
 use Rattle.std.specs.Int.RustNames.{int_lt}
 use Rattle.std.proofs.lemmas.Int.{ints}
 use Rattle.std.proofs.lemmas.List.Sums.{count_by-le-length}

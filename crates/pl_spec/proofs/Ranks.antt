@@ -1,12 +1,11 @@
 -- How the five ranks of a value lie to one another.
-use Rattle.std.proofs.Common.{◌≡◌, ℕ, ◌+◌, ◌*◌, ◌≤◌, Bool, true, false, ◌&&◌, ◌||◌, cond, nat_lt, ℤ, List, [], ◌∷◌, refl, sym, ◌∙◌, ap, arith}
-use Rattle.std.specs.List.{Contains, count_by, list_any}
+use Rattle.std.proofs.Common.{◌≡◌, ℕ, ◌+◌, ◌≤◌, Bool, true, false, ◌&&◌, cond, nat_lt, ℤ, List, [], ◌∷◌, refl, arith}
+use Rattle.std.specs.List.{Contains, list_any}
 use Rattle.std.specs.Ordering.{int_eq}
 use Rattle.std.proofs.lemmas.Bool.Decides.{nat_tests}
 use Rattle.std.proofs.lemmas.Int.{ints}
-use Rattle.pl_spec.specs.declared.RankMethod.TheVariants.{Ordinal, Min, Max, Dense, Average}
 use Rattle.pl_spec.specs.declared.RankOrder.{RankOrder}
-use Rattle.pl_spec.specs.Cross.{Entry, values, precedes, preceding, same, earlier_same, distinct_values, rank}
+use Rattle.pl_spec.specs.Cross.{Entry, values, precedes, preceding, same, earlier_same, distinct_values}
 use Rattle.pl_spec.specs.ListLaws.{AreRanks}
 use Rattle.pl_spec.proofs.Counts.{count-cons, count-fewer, count-map}
 use Rattle.pl_spec.proofs.Sorts.{contains-in}

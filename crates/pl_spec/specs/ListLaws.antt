@@ -1,5 +1,5 @@
 -- The laws of cross-sections and of windows on lists, each the contract of a function.
-use Rattle.std.specs.Prelude.{◌≡◌, ◌≢◌, ℕ, ◌+◌, ◌-◌, ◌*◌, ◌<◌, ◌≤◌, min, ℤ, pos, ◌≤ℤ◌, List, [], length, map, Some, slice_get, count_by, All, AllPairs, Contains, IsPermutation}
+use Rattle.std.specs.Prelude.{◌≡◌, ◌≢◌, ℕ, ◌+◌, ◌-◌, ◌*◌, ◌<◌, ◌≤◌, min, ℤ, ◌≤ℤ◌, List, length, map, Some, slice_get, count_by, All, AllPairs, Contains, IsPermutation}
 use Rattle.std.specs.List.{range_with_len}
 use Rattle.pl_spec.specs.declared.RankMethod.TheVariants.{Ordinal, Min, Max, Dense, Average}
 use Rattle.pl_spec.specs.declared.RankOrder.{RankOrder}
