@@ -1,5 +1,5 @@
 -- Numbers without zeros in front.
-use Rattle.std.proofs.Common.{◌≡◌, ◌≢◌, ℕ, zero, suc, ◌<◌, ◌^◌, List, length, get_or, true, Option, Some, None, IfSome, IfNone, refl, sym, ap, arith}
+use Rattle.std.proofs.Common.{◌≡◌, ℕ, zero, suc, ◌<◌, ◌^◌, List, length, get_or, true, Option, Some, None, IfSome, refl, sym, ap, arith}
 use Rattle.std.specs.Fmt.{decimal}
 use Rattle.std.specs.Str.Parse.{AllDigits, digits_value}
 use Rattle.std.proofs.lemmas.Fmt.{decimal_is_IsNumeral, decimal_digit, first_decimal, decimal-digits_value}
@@ -7,7 +7,7 @@ use Rattle.std.proofs.lemmas.Str.Parse.{numerals_by_value, tells_digits}
 use Rattle.pl_spec.specs.Decimals.{sid_in}
 use Rattle.pl_spec.proofs.SidsRead.{sid_in-decimal, decimal-sid_in}
 use Rattle.pl_fixed.specs.Reading.{is_numeral}
-use Rattle.pl_fixed.proofs.DecimalLemmas.{is_numeral-from_digits}
+use Rattle.pl_fixed.proofs.DigitLemmas.{is_numeral-from_digits}
 
 pub is_numeral-decimal : (bs : List ℕ) (n : ℕ) → n < 2 ^ 32 → bs ≡ decimal n → is_numeral bs ≡ true
 is_numeral-decimal bs n small e = let h = (decimal_is_IsNumeral n (omega arith)).0 in rw e (is_numeral-from_digits (decimal n) h.0 h.1)
@@ -24,10 +24,10 @@ pub decimal-value_of : (bs : List ℕ) → is_numeral bs ≡ true → AllDigits 
 decimal-value_of bs t digits some lead small = decimal-digits_value (numerals_by_value (AllDigits 10) tells_digits) bs digits some lead small
 
 -- what answers exactly the numbers whose text it is answers as the definition
-pub sid_exact : (text : List ℕ) (o : Option ℕ) → IfSome o (λ n. n < 2 ^ 32) → IfSome o (λ n. text ≡ decimal n) → IfNone o ((n : ℕ) → n < 2 ^ 32 → text ≢ decimal n) → o ≡ sid_in text
-sid_exact text (Some n) small some none = sym (sid_in-decimal text n small some)
-sid_exact text None small some none = here (sid_in text) refl
+pub as_sid_in : (text : List ℕ) (o : Option ℕ) → IfSome o (λ sid. (sid < 2 ^ 32) × (text ≡ decimal sid)) → ((sid : ℕ) → sid < 2 ^ 32 → text ≡ decimal sid → o ≡ Some sid) → o ≡ sid_in text
+as_sid_in text (Some sid) found only = sym (sid_in-decimal text sid found.0 found.1)
+as_sid_in text None found only = here (sid_in text) refl
   where
     here : (p : Option ℕ) → sid_in text ≡ p → None ≡ p
     here None e = refl
-    here (Some n) e = let s = decimal-sid_in text n e in absurd (none n s.0 s.1)
+    here (Some sid) e = let s = decimal-sid_in text sid e in only sid s.0 s.1
