@@ -173,7 +173,11 @@ HasDate-month z y m early late from to low high =
     let d : ℕ = suc (z - day_count (pos y) m 1) in
     let few : d ≤ days_in_month (pos y) m = omega arith in
     record {
-      year = y; month = m; date = d; early = early; late = late;
+      year = y;
+      month = m;
+      date = d;
+      early = early;
+      late = late;
       civil = ((omega (arith, ints), omega (arith, ints)), (from, to), (omega arith, few));
       counted = omega (arith, day_count-day (pos y) m d 1 (omega arith) (omega arith));
     }
@@ -200,13 +204,25 @@ IsDate-count : (day : ℤ) (n : ℕ) → day +ℤ pos 4371953 ≡ pos n → (r :
 IsDate-count day n e r =
     let count = count_days r.year r.month r.date in
     record {
-      year = r.year; month = r.month; date = r.date; early = r.early; late = r.late; civil = r.civil; spelled = refl;
+      year = r.year;
+      month = r.month;
+      date = r.date;
+      early = r.early;
+      late = r.late;
+      civil = r.civil;
+      spelled = refl;
       counted = omega (arith, ints, r.counted);
     }
 
 computed : (text : List ℕ) (day : ℤ) → IsDate text day → IsDate (date_text day) day
 computed text day h = record {
-  year = h.year; month = h.month; date = h.date; early = h.early; late = h.late; civil = h.civil; counted = h.counted;
+  year = h.year;
+  month = h.month;
+  date = h.date;
+  early = h.early;
+  late = h.late;
+  civil = h.civil;
+  counted = h.counted;
   spelled = sym (date_text-IsDate text day h) ∙ h.spelled;
 }
 
