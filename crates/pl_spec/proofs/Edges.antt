@@ -1,5 +1,5 @@
 -- The points between the least value and the greatest, and the bins between them.
-use Rattle.std.proofs.Common.{◌≡◌, ℕ, zero, suc, ◌+◌, ◌-◌, ◌*◌, ◌/◌, ◌<◌, ◌≤◌, ◌↔◌, Bool, true, false, ◌&&◌, cond, ℤ, pos, ◌+ℤ◌, ◌*ℤ◌, ◌<ℤ◌, ◌≤ℤ◌, List, [], ◌∷◌, length, refl, sym, ◌∙◌, ap, subst, arith, inl, inr, ◌⊎◌}
+use Rattle.std.proofs.Common.{◌≡◌, ℕ, zero, suc, ◌+◌, ◌-◌, ◌*◌, ◌/◌, ◌<◌, ◌≤◌, ◌↔◌, Bool, true, false, ◌&&◌, cond, ℤ, pos, ◌+ℤ◌, ◌*ℤ◌, ◌<ℤ◌, ◌≤ℤ◌, List, [], ◌∷◌, length, refl, sym, ◌∙◌, ap, subst, arith, inl, inr}
 use Rattle.std.specs.List.{Contains, count_by, range_with_len}
 use Rattle.std.specs.Int.RustNames.{int_lt, int_le}
 use Rattle.std.specs.Ordering.{int_eq}
@@ -8,7 +8,6 @@ use Rattle.std.proofs.lemmas.Int.{ints, by_lt_z}
 use Rattle.std.proofs.lemmas.List.Sums.{count_by-le-length}
 use Rattle.std.proofs.lemmas.Nat.{mul-le, div-mul-add}
 use Rattle.std.proofs.Math.Nat.{div-mul-le_self, lt-div-mul-add}
-use borrow.Author.Differences.{up, down}
 use Rattle.pl_spec.specs.Formula.{truth}
 use Rattle.pl_spec.specs.Kind.CrossKind.{PercentileBetween}
 use Rattle.pl_spec.specs.Cross.{Entry, values, below, same, value_at, edge, bin_of, is_between, cross}
@@ -61,7 +60,7 @@ edge-step vs n i r h le = elim (cases_lt (suc r) n) [
       let close : between vs n i r ≤ℤ between vs n i (suc r) = nearer (value_at vs i) (value_at vs (i + 1)) n r h le in
       le_same (edge vs (i * n + r) n) (edge vs (suc (i * n + r)) n) (between vs n i r) (between vs n i (suc r)) (edge-between vs n i r h)
       (ap (λ q. edge vs q n) next_place ∙ edge-between vs n (i + 1) 0 (omega arith) ∙ sym (arrived (value_at vs i) (value_at vs (i + 1)) (value_at vs (i + 1 + 1)) n)
-        ∙ ap (λ k. between vs n i k) (sym full)) close
+      ∙ ap (λ k. between vs n i k) (sym full)) close
 ]
 
 place-inside : (i m n p : ℕ) → i * n ≤ p → suc p ≤ n * m → i < m
@@ -126,9 +125,9 @@ front Q a (suc n) fall =
         })
     here false f c few e rest =
         let nothing : c ≡ 0 = elim (cases_lt 0 c) [
-              | inl some ↦ (let up : Q a ≡ true = fall a (a + 1 + c - 1) (omega arith) (omega arith) (omega arith) (rest.last some) in absurd (let bad : true ≡ false = sym up ∙ f in cc))
-              | inr zero_many ↦ omega arith
-            ] in
+          | inl some ↦ (let up : Q a ≡ true = fall a (a + 1 + c - 1) (omega arith) (omega arith) (omega arith) (rest.last some) in absurd (let bad : true ≡ false = sym up ∙ f in cc))
+          | inr zero_many ↦ omega arith
+        ] in
         let all : count_by Q (range_with_len a (suc n)) ≡ 0 = e ∙ ap (λ b. cond b 1 0 + c) f ∙ omega arith in
         let at : a ≡ a + 0 = omega arith in
         subst (λ k. IsFront Q a (suc n) k) (sym all) (record { last = λ h. absurd (omega arith); next = λ h. subst (λ k. Q k ≡ false) at f })
@@ -239,9 +238,9 @@ whole vs x i h =
     let low : edge vs (0 * (length vs - 1)) 10000 ≡ value_at vs 0 *ℤ pos 10000 = edge-on vs 10000 0 (0 * (length vs - 1)) (omega arith) (omega arith) in
     let high : edge vs (10000 * (length vs - 1)) 10000 ≡ value_at vs (length vs - 1) *ℤ pos 10000 = edge-on vs 10000 (length vs - 1) (10000 * (length vs - 1)) (omega arith) (omega arith) in
     let over : int_le (edge vs (0 * (length vs - 1)) 10000) (x *ℤ pos 10000) ≡ true =
-        ap (λ z. int_le z (x *ℤ pos 10000)) low ∙ is-le (value_at vs 0 *ℤ pos 10000) (x *ℤ pos 10000) (times-le (value_at vs 0) x 10000 (least-le vs x i h)) in
+    ap (λ z. int_le z (x *ℤ pos 10000)) low ∙ is-le (value_at vs 0 *ℤ pos 10000) (x *ℤ pos 10000) (times-le (value_at vs 0) x 10000 (least-le vs x i h)) in
     let under : int_le (x *ℤ pos 10000) (edge vs (10000 * (length vs - 1)) 10000) ≡ true =
-        ap (λ z. int_le (x *ℤ pos 10000) z) high ∙ is-le (x *ℤ pos 10000) (value_at vs (length vs - 1) *ℤ pos 10000) (times-le x (value_at vs (length vs - 1)) 10000 (le-greatest vs x i h)) in
+    ap (λ z. int_le (x *ℤ pos 10000) z) high ∙ is-le (x *ℤ pos 10000) (value_at vs (length vs - 1) *ℤ pos 10000) (times-le x (value_at vs (length vs - 1)) 10000 (le-greatest vs x i h)) in
     ap (λ b. b && int_le (x *ℤ pos 10000) (edge vs (10000 * (length vs - 1)) 10000)) over ∙ under
 
 some-length : (vs : List ℤ) (x : ℤ) → In x vs → 0 < length vs

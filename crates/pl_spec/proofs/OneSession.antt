@@ -1,11 +1,11 @@
 -- Over one session a mean, a sum and an extremum are the value itself.
-use Rattle.std.proofs.Common.{◌≡◌, ◌==◌, ℕ, ◌≤◌, Bool, false, not, cond, ℤ, pos, ◌+ℤ◌, List, [], ◌∷◌, length, unwrap_or, refl, sym, ◌∙◌, ap, subst, arith, inl, inr}
+use Rattle.std.proofs.Common.{◌≡◌, ◌==◌, ◌≤◌, false, not, cond, ℤ, pos, ◌+ℤ◌, List, [], ◌∷◌, length, unwrap_or, refl, sym, ◌∙◌, ap, subst, arith, inl, inr}
 use Rattle.std.specs.List.{All, reduce}
 use Rattle.std.specs.Int.{int_max, int_min}
 use Rattle.std.specs.Int.RustNames.{unsigned_abs}
 use Rattle.std.proofs.lemmas.Int.{ints}
 use Rattle.std.proofs.lemmas.List.Elements.{All-from_recursion}
-use Rattle.pl_spec.specs.Rounding.{MISSING, LIMIT, IsCell, is_missing, is_present, div_round, to_cell, quot}
+use Rattle.pl_spec.specs.Rounding.{MISSING, LIMIT, IsCell, is_missing, div_round, to_cell, quot}
 use Rattle.pl_spec.specs.Formula.{present_values, total, mean, if_any, greatest, least, formula}
 use Rattle.pl_spec.specs.ListLaws.{summaries}
 use Rattle.pl_spec.proofs.Means.{to_cell-within}

@@ -97,7 +97,7 @@ FiltersCount = (xs ys zs : List ℤ) → (formula (window.AtLeastN 1) xs ys zs �
 abbrev pub GreatestIsLeast : Type 0
 GreatestIsLeast = (xs ys zs : List ℤ) → All IsCell xs → formula window.WindowMax xs ys zs ≡ neg (formula window.WindowMin (map neg xs) ys zs)
 
--- the kinds that sum up the values of one window by one of their size
+-- the latest value, the mean, the sum and the extremes
 abbrev pub summaries : List window
 summaries = window.Latest ∷ window.SimpleMovingAverage ∷ window.BollingerMiddle ∷ window.WindowSum ∷ window.WindowMax ∷ window.WindowMin ∷ []
 

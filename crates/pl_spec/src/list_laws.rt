@@ -1,3 +1,4 @@
+//! The laws of cross-sections and of windows on lists. The functions do nothing: the contract of each is a law.
 ghost use Rattle.pl_spec.specs.ListLaws.{ValuesAreSorted, ValuesAreCounted, OrdinalsAreNumbers, OrdinalsArePlaces, MeanIsBetween, BinsAreFew, EdgesAscend, BinsLieBetweenEdges, WholeRangeIsAll, RanksAreBetween, DescendingIsNegated, TopsAreMany, FiltersCount, GreatestIsLeast, OneIsItself};
 
 /// The values of a cross-section in ascending order are those that counting gives.
