@@ -52,7 +52,7 @@ BinsAreFew = (bins : ℕ) (vs : List ℤ) (x y : ℤ) → (bin_of bins vs x ≤ 
 abbrev pub EdgesAscend : Type 0
 EdgesAscend = (vs : List ℤ) (n p q : ℕ) → 0 < n → p ≤ q → q ≤ n * (length vs - 1) → edge vs p n ≤ℤ edge vs q n
 
--- the edge in front of bin k, as many times as there are bins
+-- the edge in front of bin k, times the number of bins
 abbrev pub edge_of : ℕ → List ℤ → ℕ → ℤ
 edge_of bins vs k = edge vs (k * (length vs - 1)) bins
 
