@@ -9,11 +9,11 @@ use borrow.Author.Differences.{up, down}
 use Rattle.pl_spec.specs.Cross.{edge, bin_of}
 use Rattle.pl_spec.proofs.Counts.{count-within}
 
-length-range : (a n : ℕ) → length (range_with_len a n) ≡ n
+pub length-range : (a n : ℕ) → length (range_with_len a n) ≡ n
 length-range a zero = refl
 length-range a (suc n) = ap suc (length-range (a + 1) n)
 
-times-le : (x y : ℤ) (n : ℕ) → x ≤ℤ y → (x *ℤ pos n) ≤ℤ (y *ℤ pos n)
+pub times-le : (x y : ℤ) (n : ℕ) → x ≤ℤ y → (x *ℤ pos n) ≤ℤ (y *ℤ pos n)
 times-le x y n h =
     let le : up x + down y ≤ up y + down x = omega (arith, ints) in
     let times : (up x + down y) * n ≤ (up y + down x) * n = mul-le (up x + down y) n (up y + down x) n le (omega arith) in

@@ -11,7 +11,7 @@ use Rattle.pl_spec.specs.Formula.{present_values, formula}
 use Rattle.pl_spec.specs.Kind.{WindowKind as window}
 use Rattle.pl_spec.proofs.Means.{present-within}
 
-missing-far : (x : ℤ) → unsigned_abs x ≤ LIMIT → is_missing x ≡ false
+pub missing-far : (x : ℤ) → unsigned_abs x ≤ LIMIT → is_missing x ≡ false
 missing-far x h = let apart : x ≢ MISSING = (λ e. let bad : unsigned_abs x ≡ 9223372036854775808 = ap unsigned_abs e in omega (arith, ints)) in grind (arith, ints)
 
 neg-present : (x : ℤ) → unsigned_abs x ≤ LIMIT → is_missing (neg_ℤ x) ≡ false

@@ -1,16 +1,18 @@
 -- The ordinal ranks of m entries are the numbers from 1 to m, each once.
-use Rattle.std.proofs.Common.{◌≡◌, ◌≢◌, ℕ, zero, suc, ◌+◌, ◌<◌, ◌≤◌, Bool, true, false, ◌&&◌, ◌||◌, cond, nat_le, nat_lt, ℤ, List, [], ◌∷◌, length, map, get_or, refl, sym, ◌∙◌, ap, subst, arith, inl, inr, ◌⊎◌, IsPermutation}
-use Rattle.std.specs.List.{AllPairs, count_by, range_with_len}
+use Rattle.std.proofs.Common.{◌≡◌, ◌≢◌, ℕ, zero, suc, ◌+◌, ◌<◌, ◌≤◌, Bool, true, false, ◌&&◌, ◌||◌, cond, nat_le, nat_lt, ℤ, List, [], ◌∷◌, length, map, get_or, refl, sym, ◌∙◌, ap, subst, arith, inl, inr, ◌⊎◌, IsPermutation, Some}
+use Rattle.std.specs.List.{All, AllPairs, count_by, range_with_len, slice_get}
 use Rattle.std.specs.Int.RustNames.{int_lt}
 use Rattle.std.specs.Ordering.{int_eq}
 use Rattle.std.proofs.lemmas.Bool.{cases_lt}
 use Rattle.std.proofs.lemmas.Bool.Decides.{nat_tests}
 use Rattle.std.proofs.lemmas.Int.{ints}
-use Rattle.std.proofs.lemmas.List.Sorted.{IsPermutation-refl, IsPermutation-cons, IsPermutation-map, IsPermutation-trans, IsPermutation-sym, IsPermutation-middle}
+use Rattle.std.proofs.lemmas.List.Sorted.{IsPermutation-refl, IsPermutation-cons, IsPermutation-map, IsPermutation-trans, IsPermutation-sym, IsPermutation-middle, sum_by-IsPermutation}
 use Rattle.std.proofs.lemmas.List.Sums.{count_by-le-length}
+use Rattle.std.proofs.lemmas.Option.{slice_get_within}
 use Rattle.pl_spec.specs.declared.RankOrder.{RankOrder}
 use Rattle.pl_spec.specs.declared.RankOrder.TheVariants.{Ascending, Descending}
 use Rattle.pl_spec.specs.Cross.{Entry, values, precedes, preceding, earlier_same, ordinal}
+use Rattle.pl_spec.specs.ListLaws.{StandsBefore}
 use Rattle.pl_spec.proofs.Counts.{count-cons, count-within, count-fewer, map-agree, map-map}
 use Rattle.pl_spec.proofs.Sorts.{In, in-contains}
 
@@ -163,3 +165,47 @@ ordinals-numbers order list h =
     map-agree (λ (e : Entry). ordinal order list e.0 e.1) (place (comes_before order) list) list (λ e i. omega (arith, counted order list e.0 e.1)) in
     subst (λ l. IsPermutation l (range_with_len 1 (length list))) (sym same)
     (places-numbers (comes_before order) (before-itself order) (before-trans order) list (apart order list h))
+
+-- ---- entries in order
+
+same_value : (b c d : Bool) → c ≡ true → d ≡ true → (b || (c && d)) ≡ true
+same_value true c d e f = refl
+same_value false c d e f = rw (e, f) refl
+
+got : {A : Type 0} (xs : List A) (i : ℕ) (x : A) → slice_get xs i ≡ Some x → get_or xs i x ≡ x
+got [] i x at = refl
+got (y ∷ ys) zero x at = cc
+got (y ∷ ys) (suc i) x at = got ys i x at
+
+stands : (order : RankOrder) (e f : Entry) → StandsBefore order e f → comes_before order e f ≡ true
+unfolding comes_before
+stands order e f (inl t) = rw t refl
+stands Ascending e f (inr h) = same_value (int_lt e.1 f.1) (int_eq f.1 e.1) (nat_lt e.0 f.0) (grind (arith, ints)) (grind (arith, nat_tests))
+stands Descending e f (inr h) = same_value (int_lt f.1 e.1) (int_eq f.1 e.1) (nat_lt e.0 f.0) (grind (arith, ints)) (grind (arith, nat_tests))
+
+none_before : (order : RankOrder) (e : Entry) (list : List Entry) → All (λ f. comes_before order e f ≡ true) list → count_by (λ f. comes_before order f e) list ≡ 0
+none_before order e [] h = refl
+none_before order e (f ∷ fs) h =
+    let no : comes_before order f e ≡ false = asymmetric (comes_before order) (before-itself order) (before-trans order) e f (h 0 f (omega arith)) in
+    rw (count-cons (λ g. comes_before order g e) f fs, no) (omega (arith, none_before order e fs (λ k d l. h (suc k) d (omega arith))))
+
+-- as many entries come before the one at place i
+place-in_order : (order : RankOrder) (list : List Entry) → AllPairs (StandsBefore order) list → (i : ℕ) (e : Entry) → slice_get list i ≡ Some e → count_by (λ f. comes_before order f e) list ≡ i
+place-in_order order [] up i e at = absurd (cc)
+place-in_order order (f ∷ fs) up zero e at =
+    let same : f ≡ e = cc in
+    let no : comes_before order f f ≡ false = before-itself order f in
+    subst (λ g. count_by (λ h. comes_before order h g) (f ∷ fs) ≡ 0) same
+    (rw (count-cons (λ h. comes_before order h f) f fs, no) (omega (arith, none_before order f fs (λ k d l. stands order f (get_or fs k d) (up 0 (suc k) d (omega arith) (omega arith))))))
+place-in_order order (f ∷ fs) up (suc i) e at =
+    let within : i < length fs = slice_get_within fs i e at in
+    let first : StandsBefore order f (get_or fs i e) = up 0 (suc i) e (omega arith) (omega arith) in
+    let yes : comes_before order f e ≡ true = subst (λ (g : Entry). comes_before order f g ≡ true) (got fs i e at) (stands order f (get_or fs i e) first) in
+    rw (count-cons (λ h. comes_before order h e) f fs, yes)
+    (omega (arith, place-in_order order fs (λ i j d l m. up (suc i) (suc j) d (omega arith) (omega arith)) i e at))
+
+pub ordinals-places : (order : RankOrder) (list sorted : List Entry) → IsPermutation list sorted → AllPairs (StandsBefore order) sorted
+    → (i : ℕ) (e : Entry) → slice_get sorted i ≡ Some e → ordinal order list e.0 e.1 ≡ i + 1
+ordinals-places order list sorted moved up i e at =
+    let all : count_by (λ f. comes_before order f e) sorted ≡ count_by (λ f. comes_before order f e) list = sum_by-IsPermutation (λ f. cond (comes_before order f e) 1 0) list sorted moved in
+    omega (arith, counted order list e.0 e.1, place-in_order order sorted up i e at)

@@ -7,8 +7,9 @@ use Rattle.pl_spec.specs.declared.RankOrder.TheVariants.{Ascending, Descending}
 use Rattle.pl_spec.specs.Kind.{WindowKind, CrossKind as kind}
 use Rattle.pl_spec.specs.Cross.{Entry, values, value_at, cross}
 use Rattle.pl_spec.specs.Term.Term.{absent}
+use Rattle.pl_spec.specs.Value.{Value}
 use Rattle.pl_spec.specs.Value.Value.{Number}
-use Rattle.pl_spec.proofs.Worked.Worlds.{opened, units, three_bars, leaving, window, across, latest, by_asset, by_session}
+use Rattle.pl_spec.proofs.Worked.Worlds.{opened, units, four_bars, three_bars, leaving, window, across, latest, by_asset, by_session}
 
 -- what a cross-section gives to each entry of a list
 all_of : kind → List Entry → List ℤ
@@ -81,7 +82,23 @@ peers_are_all_entries : all_of kind.PeerCount tied ≡ units 3 ∷ units 3 ∷ u
 unfolding all_of tied opened
 peers_are_all_entries = refl
 
+-- there is no deviation to divide by
+scores_of_equal_values_are_missing : all_of kind.ZScore ((1, units 2) ∷ (2, units 2) ∷ []) ≡ MISSING ∷ MISSING ∷ []
+unfolding all_of opened
+scores_of_equal_values_are_missing = refl
+
 -- ---- in a world
+
+of_closes : kind → List Value
+of_closes k = by_asset four_bars [] (across k (latest Close) absent)
+
+closes_against_each_other : map of_closes (kind.ZScore ∷ kind.Top 2 ∷ kind.PercentileBetween 2500 7500 ∷ kind.Rank method.Ordinal Descending ∷ [])
+    ≡ (Number (negsuc 1341641) ∷ Number (negsuc 447213) ∷ Number (pos 447214) ∷ Number (pos 1341642) ∷ [])
+    ∷ (Number (pos 0) ∷ Number (pos 0) ∷ Number (pos 1) ∷ Number (pos 1) ∷ [])
+    ∷ (Number (pos 0) ∷ Number (pos 1) ∷ Number (pos 1) ∷ Number (pos 0) ∷ [])
+    ∷ (Number (units 4) ∷ Number (units 3) ∷ Number (units 2) ∷ Number (units 1) ∷ []) ∷ []
+unfolding of_closes opened
+closes_against_each_other = refl
 
 what_has_no_value_has_no_rank : by_asset three_bars [] (across (kind.Rank method.Dense Ascending) (latest Close) absent) ≡ Number (units 2) ∷ Number (units 1) ∷ Number (units 2) ∷ Number MISSING ∷ []
 unfolding opened

@@ -43,6 +43,16 @@ six_comparisons : map (λ c. pointwise (kind.Comparison c) (pos 2) (pos 3) MISSI
 unfolding opened
 six_comparisons = refl
 
+logic_of_truth_values : pointwise kind.And (pos 1) (pos 1) MISSING ∷ pointwise kind.And (pos 1) (pos 0) MISSING ∷ pointwise kind.Or (pos 0) (pos 1) MISSING ∷ pointwise kind.Or (pos 0) (pos 0) MISSING ∷ pointwise kind.Not (pos 1) MISSING MISSING ∷ pointwise kind.Not (pos 0) MISSING MISSING ∷ []
+    ≡ pos 1 ∷ pos 0 ∷ pos 1 ∷ pos 0 ∷ pos 0 ∷ pos 1 ∷ []
+unfolding opened
+logic_of_truth_values = refl
+
+signs_are_turned_and_dropped : map (λ x. pointwise kind.Neg x MISSING MISSING) (units 3 ∷ negsuc 1999999 ∷ MISSING ∷ []) ∷ map (λ x. pointwise kind.Abs x MISSING MISSING) (units 3 ∷ negsuc 1999999 ∷ MISSING ∷ []) ∷ []
+    ≡ (negsuc 2999999 ∷ units 2 ∷ MISSING ∷ []) ∷ (units 3 ∷ units 2 ∷ MISSING ∷ []) ∷ []
+unfolding opened
+signs_are_turned_and_dropped = refl
+
 filter_selects_a_value : pointwise kind.IfElse (pos 1) (pos 5) (pos 8) ∷ pointwise kind.IfElse (pos 0) (pos 6) (pos 9) ∷ pointwise kind.IfElse (pos 1) (pos 7) MISSING ∷ [] ≡ pos 5 ∷ pos 9 ∷ pos 7 ∷ []
 unfolding opened
 filter_selects_a_value = refl

@@ -1,6 +1,6 @@
 -- The formulas over windows.
-use Rattle.std.specs.Prelude.{◌≡◌, pos, negsuc, refl, [], ◌∷◌, map}
-use Rattle.pl_spec.specs.Rounding.{MISSING}
+use Rattle.std.specs.Prelude.{◌≡◌, pos, negsuc, refl, [], ◌∷◌, map, neg_ℤ}
+use Rattle.pl_spec.specs.Rounding.{MISSING, LIMIT}
 use Rattle.pl_spec.specs.declared.Column.TheVariants.{High, Low, Close, Volume}
 use Rattle.pl_spec.specs.Kind.{WindowKind as kind}
 use Rattle.pl_spec.specs.Formula.{formula}
@@ -75,6 +75,11 @@ mean_leaves_out_what_is_missing = refl
 mean_of_nothing_is_missing : on gap 2 (at_close kind.SimpleMovingAverage 1 ∷ at_close kind.WindowSum 1 ∷ at_close kind.WindowMax 1 ∷ at_close kind.WindowStd 1 ∷ []) ≡ Number MISSING ∷ Number MISSING ∷ Number MISSING ∷ Number MISSING ∷ []
 unfolding opened
 mean_of_nothing_is_missing = refl
+
+-- the ends of the range of cells, and one that is missing
+extremes_of_what_is_present : formula kind.WindowMin (pos LIMIT ∷ MISSING ∷ neg_ℤ (pos LIMIT) ∷ []) [] [] ∷ formula kind.WindowMax (pos LIMIT ∷ MISSING ∷ neg_ℤ (pos LIMIT) ∷ []) [] [] ∷ [] ≡ neg_ℤ (pos LIMIT) ∷ pos LIMIT ∷ []
+unfolding opened
+extremes_of_what_is_present = refl
 
 some_sums_of_nothing_are_zero : on gap 2 (at_close kind.LinearWeightedMovingAverage 1 ∷ window kind.AverageDollarVolume 1 (column Close ∷ column Volume ∷ []) ∷ []) ≡ Number (pos 0) ∷ Number (pos 0) ∷ []
 unfolding opened

@@ -114,6 +114,10 @@ leaving =
 abbrev pub four_assets : List AssetRow
 four_assets = asset 1 ∷ asset 2 ∷ asset 3 ∷ asset 4 ∷ []
 
+-- closes of 1, 2, 3 and 4
+abbrev pub four_bars : World
+four_bars = world four_assets [] [] (closed 1 0 (units 1) ∷ closed 2 0 (units 2) ∷ closed 3 0 (units 3) ∷ closed 4 0 (units 4) ∷ []) no_tables
+
 -- closes of 3, 1 and 3, and no bar of asset 4
 abbrev pub three_bars : World
 three_bars = world four_assets [] [] (closed 1 0 (units 3) ∷ closed 2 0 (units 1) ∷ closed 3 0 (units 3) ∷ []) no_tables
