@@ -55,16 +55,19 @@ front_step false c ds h hs = tt
 -- the digits in front are digits
 pub AllDigits-front : (bs : List ℕ) → AllDigits 10 (front_digits bs)
 AllDigits-front [] = tt
-AllDigits-front (c ∷ cs) = rw (take_while-cons is_ascii_digit c cs) (front_step (is_ascii_digit c) c (front_digits cs) (digit_from_test c) (AllDigits-front cs))
+AllDigits-front (c ∷ cs) =
+    rw (take_while-cons is_ascii_digit c cs) (front_step (is_ascii_digit c) c (front_digits cs) (digit_from_test c) (AllDigits-front cs))
 
 pub front-append : (ds rest : List ℕ) → AllDigits 10 ds → front_digits rest ≡ [] → front_digits (ds ++ rest) ≡ ds
 front-append [] rest h e = e
-front-append (d ∷ ds) rest h e = rw (take_while-cons is_ascii_digit d (ds ++ rest), test_from_digit d h.0, front-append ds rest h.1 e)
+front-append (d ∷ ds) rest h e =
+    rw (take_while-cons is_ascii_digit d (ds ++ rest), test_from_digit d h.0, front-append ds rest h.1 e)
 
 -- ---- the number that digits write
 
 -- one more digit of a number that stops at `most`
-pub capped : (most value before digit part after next : ℕ) → value ≡ min most before → after ≡ before * 10 + digit → part ≡ digit → next ≡ min (value * 10 + part) most → next ≡ min most after
+pub capped : (most value before digit part after next : ℕ) → value ≡ min most before → after ≡ before * 10 + digit → part ≡ digit
+    → next ≡ min (value * 10 + part) most → next ≡ min most after
 capped most value before digit part after next e f g h = omega arith
 
 digits_value_after-append : (n : ℕ) (xs ys : List ℕ) → digits_value_after 10 n (xs ++ ys) ≡ digits_value_after 10 (digits_value_after 10 n xs) ys
@@ -77,8 +80,10 @@ shifted n d p v a f e h = omega arith
 digits_value_after-is : (n : ℕ) (ys : List ℕ) → digits_value_after 10 n ys ≡ n * 10 ^ length ys + digits_value 10 ys
 digits_value_after-is n [] = omega arith
 digits_value_after-is n (y ∷ ys) =
-    let more : digits_value_after 10 n (y ∷ ys) ≡ (n * 10 + digit_value y) * 10 ^ length ys + digits_value 10 ys = digits_value_after-is (n * 10 + digit_value y) ys in
-    let first : digits_value 10 (y ∷ ys) ≡ (0 * 10 + digit_value y) * 10 ^ length ys + digits_value 10 ys = digits_value_after-is (0 * 10 + digit_value y) ys in
+    let more : digits_value_after 10 n (y ∷ ys) ≡ (n * 10 + digit_value y) * 10 ^ length ys + digits_value 10 ys =
+    digits_value_after-is (n * 10 + digit_value y) ys in
+    let first : digits_value 10 (y ∷ ys) ≡ (0 * 10 + digit_value y) * 10 ^ length ys + digits_value 10 ys =
+    digits_value_after-is (0 * 10 + digit_value y) ys in
     rw (pow-suc 10 (length ys)) (shifted n (digit_value y) (10 ^ length ys) (digits_value 10 ys) _ _ more first)
 
 pub digits_value-append : (xs ys : List ℕ) → digits_value 10 (xs ++ ys) ≡ digits_value 10 xs * 10 ^ length ys + digits_value 10 ys
@@ -106,14 +111,16 @@ length-digits (suc k) n = omega (arith, length-append (digits k (n / 10)) ((48 +
 pub AllDigits-digits : (k n : ℕ) → AllDigits 10 (digits k n)
 unfolding digits
 AllDigits-digits zero n = tt
-AllDigits-digits (suc k) n = digits_push 10 (digits k (n / 10)) (48 + n % 10) (AllDigits-digits k (n / 10)) (digit_below (n % 10) (mod_below n 10 (omega arith)))
+AllDigits-digits (suc k) n =
+    digits_push 10 (digits k (n / 10)) (48 + n % 10) (AllDigits-digits k (n / 10)) (digit_below (n % 10) (mod_below n 10 (omega arith)))
 
 pub digits_value-digits : (k n : ℕ) → n < 10 ^ k → digits_value 10 (digits k n) ≡ n
 unfolding digits
 digits_value-digits zero n h = omega arith
 digits_value-digits (suc k) n h =
     let low = mod_below n 10 (omega arith) in
-    let high : digits_value 10 (digits k (n / 10)) ≡ n / 10 = digits_value-digits k (n / 10) (div_below n 10 (10 ^ k) (omega arith) (rw (pow-suc 10 k) at h)) in
+    let high : digits_value 10 (digits k (n / 10)) ≡ n / 10 =
+    digits_value-digits k (n / 10) (div_below n 10 (10 ^ k) (omega arith) (rw (pow-suc 10 k) at h)) in
     digits_value_push 10 (digits k (n / 10)) (48 + n % 10) ∙ rw (high, digit_of _ low) (div-add-mod' n 10)
 
 pub digits_none : (k n : ℕ) → k ≡ 0 → digits k n ≡ []

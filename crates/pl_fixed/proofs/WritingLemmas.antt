@@ -25,7 +25,8 @@ div_round-signed true m b p = div_round-multiple_neg m b p
 div_round-signed false m b p = div_round-multiple m b p
 
 -- the text of a number of millionths is read as that number
-pub reads_back : (v : ℤ) → unsigned_abs v ≤ LIMIT → (d : Decimal) × IsDecimal d (sign_text (int_lt v (pos 0)) ++ units_text (unsigned_abs v)) × IsReadAs d v
+pub reads_back : (v : ℤ) → unsigned_abs v ≤ LIMIT
+    → (d : Decimal) × IsDecimal d (sign_text (int_lt v (pos 0)) ++ units_text (unsigned_abs v)) × IsReadAs d v
 reads_back v small =
     let n = unsigned_abs v in
     let q = n / MILLION in
@@ -35,10 +36,12 @@ reads_back v small =
     let d : Decimal = record { negative = int_lt v (pos 0); whole = decimal q; fraction = digits 6 r } in
     let whole = decimal_is_IsNumeral q (omega arith) in
     let point = point_text-some (digits 6 r) (rw (length-digits 6 r) (omega arith)) in
-    let value : digits_value 10 (decimal q ++ digits 6 r) ≡ n = digits_value-append (decimal q) (digits 6 r) ∙ rw (length-digits 6 r, whole.1, digits_value-digits 6 r low) parts in (
+    let value : digits_value 10 (decimal q ++ digits 6 r) ≡ n =
+    digits_value-append (decimal q) (digits 6 r) ∙ rw (length-digits 6 r, whole.1, digits_value-digits 6 r low) parts in
+    let exact = div_round-signed (int_lt v (pos 0)) n MILLION (omega arith) in (
       d,
       record { whole = whole.0; fraction = AllDigits-digits 6 r; spelled = rw point },
-      (rw (length-digits 6 r) (omega arith), small, rw (value, length-digits 6 r, div_round-signed (int_lt v (pos 0)) n MILLION (omega arith), signed-abs v)),
+      (rw (length-digits 6 r) (omega arith), small, rw (value, length-digits 6 r, exact, signed-abs v)),
     )
 
 pub length-sign_text-le : (negative : Bool) → length (sign_text negative) ≤ 1

@@ -8,4 +8,5 @@ returns-then-width-eq0-clause-text t c = rw (digits_none c.args.width c.args.n c
 
 pub returns-clause-text : goal.returns-clause-text
 returns-clause-text t c =
-    rw (c.put.ensures.text, c.put_digits-end.ensures.text, digits-step c.args.width c.args.n (omega arith)) (append_assoc (take c.args.at c.args.out.now) (digits (c.args.width - 1) (c.args.n / 10)) ((48 + c.args.n % 10) ∷ []))
+    rw (c.put.ensures.text, c.put_digits-end.ensures.text, digits-step c.args.width c.args.n (omega arith))
+    (append_assoc (take c.args.at c.args.out.now) (digits (c.args.width - 1) (c.args.n / 10)) ((48 + c.args.n % 10) ∷ []))

@@ -24,7 +24,7 @@ returns-then-value-lt-SID_END-clause-found c =
       | else-b-eq48-via-then-b-eq48+else-b-gt1 w ↦ omega (arith, is_numeral-some b numeral)
       | else-b-eq48-via-else-b-eq48 w ↦ absurd (w.if-b-eq48.false z)
     ] in
-    (omega arith, rw value (sym (decimal-value_of b numeral (is_numeral-digits b numeral) (is_numeral-some b numeral) lead (omega arith))))
+    (omega arith, rw value (sym (decimal-value_of b (is_numeral-digits b numeral) (is_numeral-some b numeral) lead (omega arith))))
 
 pub returns-then-value-lt-SID_END-clause-only : goal.returns-then-value-lt-SID_END-clause-only
 returns-then-value-lt-SID_END-clause-only c = λ sid small e.
