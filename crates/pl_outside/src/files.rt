@@ -25,12 +25,11 @@ pub fn put_file(files: &mut Vec<File>, name: String, bytes: Vec<u8>) -> Result<(
         ≡ (if bytes_eq (string_bytes name) other then Some bytes.items else held (map shown files.old.items) other)) }
     ensures err { OnErr result (files.new.items ≡ files.old.items) }
 {
-    match place_of(files, &name) {
-        Some(place) => {
-            let file = &mut files[place];
-            file.bytes = bytes;
-        }
-        None => files.push(File { name, bytes })?,
+    let place = place_of(files, &name);
+    let file = File { name, bytes };
+    match place {
+        Some(place) => files[place] = file,
+        None => files.push(file)?,
     }
     Ok(())
 }

@@ -105,7 +105,7 @@ impl AdjustKeeper for MemoryKeeper {
     }
 
     ghost use Rattle.std.proofs.Common.{rules};
-    ghost use Rattle.pl_outside.proofs.Keepers.{kept-ascends};
+    ghost use Rattle.pl_outside.specs.KeeperState.{kept-ascends};
 
     ghost sound_tells = { Prim.search rules };
 

@@ -82,13 +82,13 @@ impl Shelf for MemoryShelf {
             rest = if is_err result then [] else unwrap_or (held self.old.files name.now) [];
             calls = one_more self.old.calls (is_err result) } }
     {
-        let fails = self.calls.count_call();
+        self.begun = None;
         self.read = 0;
-        self.begun = if fails {
-            None
-        } else {
-            place_of(&self.files, name)
-        };
+        if self.calls.count_call() {
+            self.calls.count_fault();
+            return Err(Failed);
+        }
+        self.begun = place_of(&self.files, name);
         if self.begun.is_none() {
             self.calls.count_fault();
             return Err(Failed);
