@@ -1,5 +1,5 @@
 -- The calls that a part in memory was given.
-use Rattle.std.specs.Prelude.{ℕ, Bool, List, ◌==◌, if◌then◌else◌}
+use Rattle.std.specs.Prelude.{ℕ, Bool, List, length, ◌==◌, if◌then◌else◌}
 use Rattle.std.specs.List.{list_any}
 use Rattle.pl_outside.specs.Counts.{count_plus}
 
@@ -12,6 +12,10 @@ pub record Calls : Type 0 where
 -- before the first call
 abbrev pub no_calls : List ℕ → Calls
 no_calls failing = record { failing = failing; made = 0; faults = 0 }
+
+-- whether no call is to fail
+abbrev pub never_fails : Calls → Bool
+never_fails calls = length calls.failing == 0
 
 -- whether the next call is to fail, where calls are numbered from 1
 abbrev pub next_fails : Calls → Bool

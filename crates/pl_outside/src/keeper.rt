@@ -64,7 +64,7 @@ pub struct NoKeeper {
     faults: u64,
 }
 
-/// It is seen as its count of faults.
+// It is seen as its count of faults.
 impl Model for NoKeeper {
     ghost Value = { ℕ };
 

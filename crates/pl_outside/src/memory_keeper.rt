@@ -1,6 +1,6 @@
 // Rows of adjustments in memory.
 ghost use Rattle.std.specs.Prelude.{◌≡◌, ◌++◌, ◌==◌, ◌↔◌, ℕ, Some, length, Bool, IsTrue, IsErrOf, if◌then◌else◌, is_ok, string_bytes};
-ghost use Rattle.pl_outside.specs.Calls.{next_fails, no_calls, one_more};
+ghost use Rattle.pl_outside.specs.Calls.{never_fails, next_fails, no_calls, one_more};
 ghost use Rattle.pl_outside.specs.KeeperState.{kept};
 ghost use Rattle.pl_outside.specs.Lists.{IsAscending};
 
@@ -81,7 +81,7 @@ impl AdjustKeeper for MemoryKeeper {
 
     ghost faults = { λ keeper. keeper.calls.faults };
 
-    ghost sound = { λ keeper. length keeper.calls.failing == 0 };
+    ghost sound = { λ keeper. never_fails keeper.calls };
 
     fn load(
         &mut self,

@@ -1,8 +1,7 @@
 // Files in memory.
 ghost use Rattle.std.specs.Prelude.{◌≡◌, ◌-◌, ◌+◌, ◌≤◌, ◌<◌, ◌==◌, ◌||◌, ◌++◌, ℕ, [], List, Option, Some, None, length, take, drop, min, OnOk, OnErr, IfOk, Bool, if◌then◌else◌, is_err, is_none, unwrap_or, bytes_eq, string_bytes};
-ghost use Rattle.pl_outside.specs.Calls.{next_fails, no_calls, one_more};
-ghost use Rattle.pl_outside.specs.Counts.{count_plus};
-ghost use Rattle.pl_outside.specs.Files.{moved};
+ghost use Rattle.pl_outside.specs.Calls.{never_fails, next_fails, no_calls, one_more};
+ghost use Rattle.pl_outside.specs.Counts.{count_plus, moved};
 ghost use Rattle.pl_outside.specs.ShelfState.{held};
 
 use crate::call_log::CallLog;
@@ -74,7 +73,7 @@ impl Shelf for MemoryShelf {
 
     ghost given = { λ shelf. shelf.given };
 
-    ghost sound = { λ shelf. length shelf.calls.failing == 0 };
+    ghost sound = { λ shelf. never_fails shelf.calls };
 
     fn begin(&mut self, name: &str) -> Result<(), Failed>
         ensures fails { is_err result ≡ (next_fails self.old.calls || is_none (held self.old.files name.now)) }

@@ -1,7 +1,7 @@
 // A sink in memory.
 ghost use Rattle.std.specs.Prelude.{◌≡◌, ◌≤◌, ◌<◌, ◌+◌, ◌-◌, ◌==◌, ◌||◌, ◌++◌, ℕ, [], List, Option, Some, take, length, min, OnOk, OnErr, IfOk, Bool, if◌then◌else◌, is_err, nat_lt};
-ghost use Rattle.pl_outside.specs.Calls.{next_fails, no_calls, one_more};
-ghost use Rattle.pl_outside.specs.Files.{moved};
+ghost use Rattle.pl_outside.specs.Calls.{never_fails, next_fails, no_calls, one_more};
+ghost use Rattle.pl_outside.specs.Counts.{moved};
 
 use crate::call_log::CallLog;
 use crate::faults::{Failed, Memory};
@@ -70,7 +70,7 @@ impl Sink for MemorySink {
 
     ghost calls = { λ sink. sink.calls.made };
 
-    ghost sound = { λ sink. length sink.calls.failing == 0 };
+    ghost sound = { λ sink. never_fails sink.calls };
 
     ghost room = { λ sink. sink.room };
 

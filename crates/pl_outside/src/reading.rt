@@ -1,5 +1,5 @@
 // A file as a whole.
-ghost use Rattle.std.specs.Prelude.{◌≡◌, ◌≤◌, ◌<◌, ◌+◌, ◌^◌, Some, None, length, IfOk, IsTrue, IsSome, IsSomeAnd, IsErrOf};
+ghost use Rattle.std.specs.Prelude.{◌≡◌, ◌≤◌, ◌<◌, ◌+◌, ◌^◌, ◌↔◌, Some, None, length, IfOk, IsTrue, IsSome, IsSomeAnd, IsErrOf};
 ghost use Rattle.std.specs.Option.{ForSome};
 ghost use Rattle.pl_outside.specs.Counts.{Rose, count_plus};
 ghost use Rattle.pl_outside.specs.Reads.{IsReadWhole};
@@ -63,9 +63,11 @@ pub fn read_file<S: Shelf>(
     ensures whole { ForSome (S.holds shelf.old) (λ files. ¬ IsErrOf result ReadError.Failed → ¬ IsErrOf result ReadError.Memory
         → IsReadWhole cap (files name.now) result) }
 
-    // a sound shelf fails only where the name isn't held
-    ensures blameless { IsTrue (S.sound shelf.old) → ForSome (S.holds shelf.old) (λ files. IsSome (files name.now)
-        → ¬ IsErrOf result ReadError.Failed × (S.faults shelf.new ≡ S.faults shelf.old)) }
+    // over a sound shelf a failure comes exactly where the name isn't held
+    ensures misses { IsTrue (S.sound shelf.old) → ForSome (S.holds shelf.old) (λ files.
+        IsErrOf result ReadError.Failed ↔ (files name.now ≡ None)) }
+    ensures quiet { IsTrue (S.sound shelf.old) → ForSome (S.holds shelf.old) (λ files. IsSome (files name.now)
+        → S.faults shelf.new ≡ S.faults shelf.old) }
     ensures keeps { S.holds shelf.new ≡ S.holds shelf.old }
     ensures stays { S.sound shelf.new ≡ S.sound shelf.old }
     ensures calls { S.calls shelf.new ≤ S.calls shelf.old + (cap + 2) }

@@ -1,8 +1,8 @@
 // Where files are read.
-ghost use Rattle.std.specs.Prelude.{◌≡◌, ◌≤◌, ◌<◌, ◌++◌, ℕ, List, Option, Bool, [], take, length, IfOk, IsTrue, IsOk, IsSome};
+ghost use Rattle.std.specs.Prelude.{◌≡◌, ◌≤◌, ◌<◌, ◌++◌, ◌↔◌, ℕ, List, Option, None, Bool, [], take, length, IfOk, IsTrue, IsOk, IsErr, IsSome};
 ghost use Rattle.std.specs.Option.{ForSome};
-ghost use Rattle.pl_outside.specs.Counts.{HasCause, count_plus};
-ghost use Rattle.pl_outside.specs.Files.{Files, Begins, moved};
+ghost use Rattle.pl_outside.specs.Counts.{HasCause, count_plus, moved};
+ghost use Rattle.pl_outside.specs.Files.{Files, Begins};
 
 use crate::faults::Failed;
 
@@ -33,8 +33,9 @@ pub trait Shelf {
     fn begin(&mut self, name: &str) -> Result<(), Failed>
         ensures begun { ForSome (holds self.old) (λ files. Begins (files name.now) (rest self.new) result) }
         ensures cause { HasCause (faults self.old) (faults self.new) result }
-        ensures blameless { IsTrue (sound self.old)
-            → ForSome (holds self.old) (λ files. IsSome (files name.now) → IsOk result × (faults self.new ≡ faults self.old)) }
+        ensures misses { IsTrue (sound self.old) → ForSome (holds self.old) (λ files. IsErr result ↔ (files name.now ≡ None)) }
+        ensures quiet { IsTrue (sound self.old)
+            → ForSome (holds self.old) (λ files. IsSome (files name.now) → faults self.new ≡ faults self.old) }
         ensures counted { calls self.new ≡ count_plus (calls self.old) 1 }
         ensures given { given self.new ≡ given self.old }
         ensures keeps { holds self.new ≡ holds self.old }

@@ -1,7 +1,6 @@
 // What takes bytes.
 ghost use Rattle.std.specs.Prelude.{◌≡◌, ◌≤◌, ◌<◌, ◌+◌, ℕ, List, Option, None, Ok, take, length, IfOk, IsTrue, Bool, false, IsSome};
-ghost use Rattle.pl_outside.specs.Counts.{HasCause, count_plus, count_end};
-ghost use Rattle.pl_outside.specs.Files.{moved};
+ghost use Rattle.pl_outside.specs.Counts.{HasCause, count_plus, count_end, moved};
 ghost use Rattle.pl_outside.specs.Taken.{TakesAll, IsBlameless};
 
 use crate::faults::Failed;
