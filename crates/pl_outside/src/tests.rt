@@ -1,6 +1,5 @@
 // The calls over parts in memory: with ample memory, with each call failing in turn, and after a failure.
-ghost use Rattle.std.specs.Prelude.{◌≡◌, IfOk};
-ghost use Rattle.pl_outside.specs.Lists.{IsAscending};
+ghost use Rattle.std.specs.Prelude.{◌≡◌};
 
 use super::*;
 use std::alloc::{AllocError, Global};
@@ -77,17 +76,28 @@ fn writes_after_failures(rt: HostRuntime) -> Result<(), Fail> {
         assert_eq!(rt; sink.bytes().len(), taken, "{number}");
         assert!(rt; b"0123456789".starts_with(sink.bytes()), "{number}");
     }
+    Ok(())
+}
+
+#[test]
+fn writes_within_room(rt: HostRuntime) -> Result<(), Fail> {
+    let alloc = rt.alloc();
     let mut sink = MemorySink::new(alloc, Vec::new(alloc), 3);
     sink.reserve(4)?;
     sink.reserve(6)?;
-    assert_eq!(rt; write_bytes(&mut sink, b""), Ok(()));
-    assert_eq!(rt; write_bytes(&mut sink, b"0123456789"), Ok(()));
-    assert_eq!(rt; sink.bytes(), b"0123456789".as_slice());
-    assert_eq!(rt; write_bytes(&mut sink, b"a"), Err(Failed));
+    for (text, answer, taken) in [
+        ("", Ok(()), ""),
+        ("01234567", Ok(()), "01234567"),
+        ("89a", Err(Failed), "01234567"),
+        ("89", Ok(()), "0123456789"),
+        ("a", Err(Failed), "0123456789"),
+    ] {
+        assert_eq!(rt; write_bytes(&mut sink, text.as_bytes()), answer, "{text}");
+        assert_eq!(rt; sink.bytes(), taken.as_bytes(), "{text}");
+    }
     let mut whole = MemorySink::new(alloc, Vec::new(alloc), 0);
     whole.reserve(3)?;
-    assert_eq!(rt; whole.write(b"abcd"), Err(Failed));
-    assert_eq!(rt; whole.write(b"abc"), Ok(3));
+    assert_eq!(rt; whole.write(b"012"), Ok(3));
     assert_eq!(rt; write_bytes(&mut NullSink, b"0123456789"), Ok(()));
     Ok(())
 }
