@@ -8,6 +8,7 @@ Rose-means before now later = (there, back)
   where
     there : Rose before now → (before < now) ⊎ (count_end ≤ now)
     there rose = grind arith
+
     back : (before < now) ⊎ (count_end ≤ now) → Rose before now
     back (inl more) = omega arith
     back (inr ended) = omega arith

@@ -13,8 +13,8 @@ IsAscending-prop rows = hlevel props
 pub same_rows : (name : List ℕ) (splits mergers dividends : List RawAdjust) (calls : Calls)
     (s t : IsAscending splits) (m n : IsAscending mergers) (d e : IsAscending dividends)
     → ◌≡◌ {A = KeeperState}
-      (record { name = name; splits = splits; mergers = mergers; dividends = dividends; calls = calls; splits_ascend = s; mergers_ascend = m; dividends_ascend = d })
-      (record { name = name; splits = splits; mergers = mergers; dividends = dividends; calls = calls; splits_ascend = t; mergers_ascend = n; dividends_ascend = e })
+    (record { name = name; splits = splits; mergers = mergers; dividends = dividends; calls = calls; splits_ascend = s; mergers_ascend = m; dividends_ascend = d })
+    (record { name = name; splits = splits; mergers = mergers; dividends = dividends; calls = calls; splits_ascend = t; mergers_ascend = n; dividends_ascend = e })
 same_rows name splits mergers dividends calls s t m n d e = λ i.
     record {
       name = name;

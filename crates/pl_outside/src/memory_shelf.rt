@@ -78,8 +78,9 @@ impl Shelf for MemoryShelf {
     fn begin(&mut self, name: &str) -> Result<(), Failed>
         ensures fails { is_err result ≡ (next_fails self.old.calls || is_none (held self.old.files name.now)) }
         ensures after { self.new ≡ record self.old {
-            rest = if is_err result then [] else unwrap_or (held self.old.files name.now) [];
-            calls = one_more self.old.calls (is_err result) } }
+          rest = if is_err result then [] else unwrap_or (held self.old.files name.now) [];
+          calls = one_more self.old.calls (is_err result);
+        } }
     {
         self.begun = None;
         self.read = 0;
@@ -100,9 +101,10 @@ impl Shelf for MemoryShelf {
         ensures count { IfOk result (λ n. n ≡ min (length self.old.rest) (length into.old)) }
         ensures into { into.new ≡ take (moved result) self.old.rest ++ drop (moved result) into.old }
         ensures after { self.new ≡ record self.old {
-            rest = drop (moved result) self.old.rest;
-            given = count_plus self.old.given (moved result);
-            calls = one_more self.old.calls (is_err result) } }
+          rest = drop (moved result) self.old.rest;
+          given = count_plus self.old.given (moved result);
+          calls = one_more self.old.calls (is_err result);
+        } }
     {
         if self.calls.count_call() {
             self.calls.count_fault();

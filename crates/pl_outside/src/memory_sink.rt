@@ -79,9 +79,10 @@ impl Sink for MemorySink {
         ensures count { IfOk result (λ n. n
             ≡ (if self.old.piece == 0 then length bytes.now else min (length bytes.now) self.old.piece)) }
         ensures after { self.new ≡ record self.old {
-            taken = self.old.taken ++ take (moved result) bytes.now;
-            room = self.old.room - moved result;
-            calls = one_more self.old.calls (is_err result) } }
+          taken = self.old.taken ++ take (moved result) bytes.now;
+          room = self.old.room - moved result;
+          calls = one_more self.old.calls (is_err result);
+        } }
     {
         let fails = self.calls.count_call();
         if fails || bytes.len() > self.room {

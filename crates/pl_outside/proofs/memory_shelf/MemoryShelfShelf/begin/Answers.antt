@@ -22,5 +22,5 @@ returns-clause-after c =
     let files = c.self.inside.files.items in
     let place = position_in files _ c.args.name.now _ c.deref.ensures.value c.place_of-self-inside.ensures in
     let rest : rest_at files c.place_of-self-inside.result 0 ≡ unwrap_or (held (map shown files) c.args.name.now) [] =
-        rw (← place) (rest_at-held files c.args.name.now) in
+    rw (← place) (rest_at-held files c.args.name.now) in
     rw (← c.self.view_is, rest, c.count_call.ensures.made)
