@@ -1,5 +1,5 @@
 -- What a clause sees of a shelf in memory.
-use Rattle.std.specs.Prelude.{ℕ, List, [], ◌∷◌, Option, Some, None, bytes_eq, if◌then◌else◌}
+use Rattle.std.specs.Prelude.{ℕ, List, [], ◌∷◌, Some, None, bytes_eq, if◌then◌else◌}
 use Rattle.pl_outside.specs.Calls.{Calls}
 use Rattle.pl_outside.specs.Files.{Files}
 

@@ -1,5 +1,5 @@
 // Rows of adjustments in memory.
-ghost use Rattle.std.specs.Prelude.{◌≡◌, ◌++◌, ◌==◌, ◌↔◌, ℕ, Some, length, Bool, IsTrue, IsErrOf, if◌then◌else◌, is_ok, string_bytes};
+ghost use Rattle.std.specs.Prelude.{◌≡◌, ◌++◌, ◌↔◌, Some, IsTrue, IsErrOf, if◌then◌else◌, is_ok, string_bytes};
 ghost use Rattle.pl_outside.specs.Calls.{never_fails, next_fails, no_calls, one_more};
 ghost use Rattle.pl_outside.specs.KeeperState.{kept};
 ghost use Rattle.pl_outside.specs.Lists.{IsAscending};

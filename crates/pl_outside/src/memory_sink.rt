@@ -1,5 +1,5 @@
 // A sink in memory.
-ghost use Rattle.std.specs.Prelude.{◌≡◌, ◌≤◌, ◌<◌, ◌+◌, ◌-◌, ◌==◌, ◌||◌, ◌++◌, ℕ, [], List, Option, Some, take, length, min, OnOk, OnErr, IfOk, Bool, if◌then◌else◌, is_err, nat_lt};
+ghost use Rattle.std.specs.Prelude.{◌≡◌, ◌+◌, ◌-◌, ◌==◌, ◌||◌, ◌++◌, [], Some, take, length, min, OnOk, OnErr, IfOk, if◌then◌else◌, is_err, nat_lt};
 ghost use Rattle.pl_outside.specs.Calls.{never_fails, next_fails, no_calls, one_more};
 ghost use Rattle.pl_outside.specs.Counts.{moved};
 
