@@ -1,11 +1,11 @@
 -- What is written is read back.
-use Rattle.std.proofs.Common.{◌≡◌, ℕ, zero, suc, ◌*◌, ◌/◌, ◌%◌, ◌^◌, ◌<◌, ◌≤◌, Bool, true, false, List, [], ◌∷◌, ◌++◌, length, ℤ, pos, negsuc, unsigned_abs, refl, ◌∙◌, arith, nat_lt}
+use Rattle.std.proofs.Common.{◌≡◌, ℕ, zero, suc, ◌+◌, ◌*◌, ◌/◌, ◌%◌, ◌^◌, ◌<◌, ◌≤◌, Bool, true, false, List, [], ◌∷◌, ◌++◌, length, ℤ, pos, negsuc, unsigned_abs, refl, ◌∙◌, arith, nat_lt}
 use Rattle.std.specs.Prelude.{int_lt}
 use Rattle.std.specs.Fmt.{sign_text, decimal}
 use Rattle.std.specs.Str.Parse.{digits_value}
 use Rattle.std.proofs.lemmas.Nat.{div-add-mod', mod_below}
 use Rattle.std.proofs.lemmas.Bool.Decides.{nat_tests}
-use Rattle.std.proofs.lemmas.Fmt.{decimal_is_IsNumeral}
+use Rattle.std.proofs.lemmas.Fmt.{decimal_is_IsNumeral, length-decimal-le}
 use Rattle.pl_spec.specs.Rounding.{LIMIT, MILLION, div_round}
 use Rattle.pl_spec.specs.Dates.{digits}
 use Rattle.pl_spec.specs.Decimals.{Decimal, IsDecimal, IsReadAs, point_text, signed, units_text}
@@ -44,6 +44,14 @@ reads_back v small =
       (rw (length-digits 6 r) (omega arith), small, rw (value, length-digits 6 r, exact, signed-abs v)),
     )
 
-pub length-sign_text-le : (negative : Bool) → length (sign_text negative) ≤ 1
-length-sign_text-le true = omega arith
-length-sign_text-le false = omega arith
+-- the sign and the digits in front of the point take 13 bytes at most
+pub length-front-le : (v : ℤ) (n : ℕ) → n ≡ unsigned_abs v → unsigned_abs v ≤ LIMIT
+    → length (sign_text (int_lt v (pos 0))) + length (decimal (n / MILLION)) ≤ 13
+length-front-le v n e small =
+    let sign : length (sign_text (int_lt v (pos 0))) ≤ 1 = sign_text_small (int_lt v (pos 0)) in
+    let below : n / MILLION < 10 ^ 12 = omega arith in
+    omega (arith, length-decimal-le 12 (n / MILLION) (omega arith) below (omega arith))
+  where
+    sign_text_small : (negative : Bool) → length (sign_text negative) ≤ 1
+    sign_text_small true = omega arith
+    sign_text_small false = omega arith

