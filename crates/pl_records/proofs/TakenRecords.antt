@@ -53,15 +53,15 @@ pub record Gives (a b : Reader (Bor (List ℕ))) (fields : List (List ℕ)) : Ty
   pub left : records_left a.state (unread a) ≡ fields ∷ records_left b.state (unread b)
   pub ready : IsAtRecord b
 
-pub gives-more : (a b : Reader (Bor (List ℕ))) (fields : List (List ℕ)) → IsAtRecord a → has_failed a ≡ false → took_first b ≡ true
+pub gives-more : (a b : Reader (Bor (List ℕ))) (fields : List (List ℕ)) → IsAtRecord a → has_failed a ≡ false → took_first b ≡ true → b.flexible ≡ a.flexible
     → ReadRecord (λ s. Some s.now) a b true fields → Gives a b fields
-gives-more a b fields at f first r =
+gives-more a b fields at f first any r =
     let y = unread-known a f in
     let same : pending_of (Some b.rdr.now) b ≡ unread b = rw r.1 refl in
     let it : Took a.state b.state y.0 (unread b) fields = took a.state b.state y.0 (unread b) fields at.between (rw (at.config, y.1, same) at r.0) in
     record {
       left = rw y.1 it.left;
-      ready = record { trim = r.3 ∙ at.trim; ready = inl first; config = r.2 ∙ at.config; between = it.between };
+      ready = record { any_length = any ∙ at.any_length; trim = r.3 ∙ at.trim; ready = inl first; config = r.2 ∙ at.config; between = it.between };
     }
 
 pub gives-none : (a b : Reader (Bor (List ℕ))) (fields : List (List ℕ)) (failed : Bool) → has_failed a ≡ failed → IsAtRecord a

@@ -27,6 +27,7 @@ view_of a = record { fields = fields_of a.row; left = left_unless a.done (record
 
 -- a reader that gives the records of a text, as it was set up
 pub record IsAtRecord (reader : Reader (Bor (List ℕ))) : Type 0 where
+  pub any_length : reader.flexible ≡ true
   pub trim : reader.trim ≡ trim.None
   pub ready : Ready reader
   pub config : reader.config ≡ default_config

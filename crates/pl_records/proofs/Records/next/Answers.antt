@@ -16,7 +16,7 @@ more : (c : goal.In-Ok-true) → Gives c.self.inside.reader c.read_byte_record.n
 more c =
     let was : c.read_byte_record.result ≡ Ok true = c.in-Ok-true.is ∙ ap (λ b. Ok b) c.in-Ok-true.field-0-test in
     let e = c.in-Ok-true.ensures in
-    gives-more _ _ _ (start c) (not-failed _ _ was c.read_byte_record.ensures.failed) (e.ready (start c).trim)
+    gives-more _ _ _ (start c) (not-failed _ _ was c.read_byte_record.ensures.failed) (e.ready (start c).trim) e.flexible
     (rw c.in-Ok-true.field-0-test at (e.reads (start c).trim (start c).ready))
 
 pub invariant_of-self : goal.invariant_of-self
@@ -30,7 +30,7 @@ returns-clause-ok c =
           let was : c.read_byte_record.result ≡ Ok true = w.in-Ok-true.is ∙ ap (λ b. Ok b) w.in-Ok-true.field-0-test in
           let e = w.in-Ok-true.ensures in
           let it : Gives c.self.inside.reader c.read_byte_record.new.self (fields_of c.read_byte_record.new.row) =
-          gives-more _ _ _ at (not-failed _ _ was c.read_byte_record.ensures.failed) (e.ready at.trim)
+          gives-more _ _ _ at (not-failed _ _ was c.read_byte_record.ensures.failed) (e.ready at.trim) e.flexible
           (rw w.in-Ok-true.field-0-test at (e.reads at.trim at.ready)) in
           rw (w.result-is, w.self-is, ← c.self.view_is, c.if-self.false) it.left
       | in-Ok-false w ↦
