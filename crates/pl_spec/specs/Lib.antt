@@ -20,3 +20,4 @@ pub mod Agree
 pub mod Reading
 pub mod Sorted
 pub mod Laws
+pub mod DateLaws

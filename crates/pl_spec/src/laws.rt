@@ -1,5 +1,6 @@
 ghost use Rattle.pl_spec.specs.Laws.{ValuesAgree, RoundingIsExact, BufferSteps, TablesAgree, TermsAreDistinct, OrderIsOne, RootIsGreatest, UsedAreListed};
 ghost use Rattle.pl_spec.specs.NodeValue.{NodesUnfold};
+ghost use Rattle.pl_spec.specs.DateLaws.{DatesAreRead};
 
 /// The rounded quotient is the one nearest number.
 pub fn rounding_is_exact()
@@ -44,4 +45,9 @@ pub fn root_is_greatest()
 /// The list of used terms has exactly the used ones.
 pub fn used_are_listed()
     ensures { UsedAreListed }
+{}
+
+/// A text is read as a day exactly where it is the date of that day.
+pub fn dates_are_read()
+    ensures { DatesAreRead }
 {}
