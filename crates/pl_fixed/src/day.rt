@@ -1,6 +1,6 @@
 ghost use Rattle.std.specs.Prelude.{◌≡◌, ◌<◌, ◌+◌, ◌/◌, ◌%◌, ℕ, ℤ, pos, ◌≤ℤ◌, IfSome, length};
 ghost use Rattle.jiff.specs.Words.{epoch_day};
-ghost use Rattle.pl_spec.specs.Dates.{IsDate, IsDay, date_spelling, date_in};
+ghost use Rattle.pl_spec.specs.Dates.{IsDate, IsDay, date_spelling, date_in, date_text};
 ghost use Rattle.pl_fixed.specs.Pairs.{IsPairAt};
 
 use jiff::civil::Date;
@@ -11,6 +11,7 @@ pub fn read_day(b: &[u8]) -> Option<i32>
     ensures exact { result ≡ date_in b.now }
     ensures found { IfSome result (IsDate b.now) }
     ensures only { (day : ℤ) → IsDate b.now day → result ≡ Some day }
+    ensures range { IfSome result IsDay }
 {
     day_of(b)
 }
@@ -75,7 +76,8 @@ fn pair_at(b: &[u8], place: usize) -> Option<u8>
 /// Writes the date `YYYY-MM-DD` of a day from 1900-01-01 to 2199-12-31, which `read_day` reads as that day.
 pub fn write_day(day: i32, out: &mut [u8; 10])
     requires { IsDay day }
-    ensures { IsDate out.new day }
+    ensures text { out.new ≡ date_text day }
+    ensures date { IsDate out.new day }
 {
     put_date(day, out)
 }

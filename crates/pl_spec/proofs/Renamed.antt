@@ -1,5 +1,5 @@
 -- A cross-section by column numbers is the one by sids, since both ascend.
-use Rattle.std.proofs.Common.{◌≡◌, ℕ, suc, ◌+◌, ◌*◌, ◌&&◌, cond, ℤ, pos, List, [], ◌∷◌, length, map, refl, sym, ◌∙◌, ap, fold, nat_lt, nat_le}
+use Rattle.std.proofs.Common.{◌≡◌, ℕ, suc, ◌+◌, ◌*◌, ◌&&◌, cond, ℤ, pos, List, [], ◌∷◌, length, map, refl, ◌∙◌, ap, fold, nat_lt, nat_le}
 use Rattle.std.proofs.Math.Path.{fun_ext}
 use Rattle.std.specs.Ordering.{int_eq}
 use Rattle.pl_spec.specs.Rounding.{MILLION}

@@ -1,5 +1,5 @@
 -- Dates of the years 1900 to 2199 as ten bytes, and their days, counted from 1970-01-01.
-use Rattle.std.specs.Prelude.{◌≡◌, ℕ, zero, suc, ◌+◌, ◌-◌, ◌*◌, ◌/◌, ◌%◌, ◌≤◌, nat_le, Bool, ◌&&◌, if◌then◌else◌, ℤ, pos, negsuc, neg_ℤ, ◌-ℤ◌, ◌≤ℤ◌, List, [], ◌∷◌, ◌++◌, map, sum, filter, length, Option, Some, None, slice_index, bytes_eq}
+use Rattle.std.specs.Prelude.{◌≡◌, ℕ, zero, suc, ◌+◌, ◌-◌, ◌*◌, ◌/◌, ◌%◌, ◌≤◌, nat_le, Bool, ◌&&◌, if◌then◌else◌, ℤ, pos, neg_ℤ, ◌-ℤ◌, ◌≤ℤ◌, List, [], ◌∷◌, ◌++◌, map, sum, filter, length, Option, Some, None, slice_index, bytes_eq}
 use Rattle.std.specs.List.{range_with_len}
 use Rattle.std.specs.Int.RustNames.{int_le, unsigned_abs}
 use Rattle.jiff_core.specs.Calendar.{IsCivilDate, days_in_month, days_from_civil}

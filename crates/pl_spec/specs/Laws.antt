@@ -1,15 +1,18 @@
 -- The laws of the definitions, each the contract of a function.
-use Rattle.std.specs.Prelude.{◌≡◌, true, ℕ, ◌<◌, ℤ, pos, ◌+ℤ◌, ◌≤ℤ◌, List, length, Some}
+use Rattle.std.specs.Prelude.{◌≡◌, true, ℕ, suc, ◌<◌, ◌≤◌, ◌++◌, ℤ, pos, ◌+ℤ◌, ◌≤ℤ◌, List, [], ◌∷◌, length, Some}
 use Rattle.pl_spec.specs.Rounding.{IsNearest, div_round, IsRoot, isqrt}
 use Rattle.pl_spec.specs.Graph.{Used, contains, used_terms}
 use Rattle.pl_spec.specs.Order.{IsByDay, by_day}
 use Rattle.pl_spec.specs.Table.{Pipeline, table}
 use Rattle.pl_spec.specs.declared.Column.{Column}
-use Rattle.pl_spec.specs.World.{World, IsWorld, Adjustment, day_of, events_of}
-use Rattle.pl_spec.specs.Window.{seen_cell, after_all, events_in}
+use Rattle.pl_spec.specs.World.{World, IsWorld, Adjustment, day_of, events_of, exists}
+use Rattle.pl_spec.specs.Window.{seen_cell, after_all, events_in, bar_window, raw_window}
 use Rattle.pl_spec.specs.Agree.{Agree}
+use Rattle.pl_spec.specs.Kind.{Kind}
 use Rattle.pl_spec.specs.Term.{Term, Graph, IsGraph, term_at}
-use Rattle.pl_spec.specs.Value.{value}
+use Rattle.pl_spec.specs.Term.Term.{absent, node}
+use Rattle.pl_spec.specs.Value.{Meaning, number_of, holds, window_of, value}
+use Rattle.pl_spec.specs.Value.Part.{Values}
 
 -- later data changes no value: of every term, for every sid, at every session up to d
 abbrev pub ValuesAgree : Type 0
@@ -39,10 +42,31 @@ TermsAreDistinct = (g : Graph) → IsGraph g → (j k : ℕ) → j < length g �
 abbrev pub OrderIsOne : Type 0
 OrderIsOne = (rows sorted : List Adjustment) → IsByDay rows (by_day rows) × (IsByDay rows sorted → sorted ≡ by_day rows)
 
+-- there is one greatest number whose square is at most v, and isqrt is it
 abbrev pub RootIsGreatest : Type 0
-RootIsGreatest = (v : ℕ) → IsRoot v (isqrt v)
+RootIsGreatest = (v r : ℕ) → IsRoot v (isqrt v) × (IsRoot v r → r ≡ isqrt v)
 
 -- the list of used terms has exactly the used terms of the graph
 abbrev pub UsedAreListed : Type 0
 UsedAreListed = (g : Graph) (outputs : List ℕ) → IsGraph g → (k : ℕ)
     → (contains (used_terms g outputs) k ≡ true → Used g outputs k) × (k < length g → Used g outputs k → contains (used_terms g outputs) k ≡ true)
+
+-- without events, a window over a bar column is the raw bars
+abbrev pub RawWithoutEvents : Type 0
+RawWithoutEvents = (w : World) (c : Column) (size a : ℕ) (d : ℤ) → events_of w a ≡ [] → bar_window w c size a d ≡ raw_window w c size a d
+
+-- a window of one session over a term is the term's value
+abbrev pub WindowOfOne : Type 0
+WindowOfOne = (w : World) (term : Meaning) (a : ℕ) (d : ℤ) → window_of w 1 (Values term) a d ≡ number_of (term a d) ∷ []
+
+-- a mask that is true of every existing asset changes no value
+abbrev pub OpenMasksChangeNothing : Type 0
+OpenMasksChangeNothing = (w : World) (names : List (List ℕ)) (mask : Term)
+    → ((b : ℕ) (s : ℤ) → exists w b s ≡ true → holds (value w names mask b s) ≡ true)
+    → (kind : Kind) (size : ℕ) (x y z group : Term) (a : ℕ) (d : ℤ)
+    → value w names (node kind size x y z mask group) a d ≡ value w names (node kind size x y z absent group) a d
+
+-- the tables of two pieces of a range, one behind the other, are the table of the range: a run may be cut anywhere
+abbrev pub TablesConcatenate : Type 0
+TablesConcatenate = (w : World) (p : Pipeline) (from mid to : ℕ) → from ≤ suc mid → mid ≤ to
+    → table w p from to ≡ table w p from mid ++ table w p (suc mid) to

@@ -3,6 +3,7 @@ pub mod Rounding
 pub mod Dates
 pub mod Decimals
 pub mod World
+pub mod Lookups
 pub mod Order
 pub mod Window
 pub mod Kind
@@ -14,10 +15,13 @@ pub mod Value
 pub mod NodeValue
 pub mod Table
 pub mod Graph
+pub mod Reaching
 pub mod Text
 pub mod Parts
 pub mod Agree
 pub mod Reading
 pub mod Sorted
 pub mod Laws
+pub mod ListLaws
 pub mod DateLaws
+pub mod SidLaws

@@ -31,8 +31,8 @@ abbrev pub day_of_time : ℤ → ℤ
 day_of_time (pos t) = pos (t / 86400)
 day_of_time (negsuc t) = negsuc (t / 86400)
 
-abbrev pub adjustment_of : AdjustmentKind → RawAdjust → Adjustment
-adjustment_of kind r =
+abbrev pub adjustment_in : AdjustmentKind → RawAdjust → Adjustment
+adjustment_in kind r =
     record {
       sid = unsigned_abs r.sid;
       event = record { kind = kind; day = day_of_time r.effective; ratio = record { num = unsigned_abs r.num; den = unsigned_abs r.den } };
@@ -43,7 +43,7 @@ abbrev pub is_of : List AssetRow → RawAdjust → Bool
 is_of assets r = list_any (λ a. int_eq (pos a.sid) r.sid) assets
 
 abbrev pub of_table : List AssetRow → AdjustmentKind → List RawAdjust → List Adjustment
-of_table assets kind rows = map (adjustment_of kind) (filter (is_of assets) rows)
+of_table assets kind rows = map (adjustment_in kind) (filter (is_of assets) rows)
 
 -- splits act before mergers and these before dividends, each in the order of their table
 abbrev pub adjustments_of : List AssetRow → List RawAdjust → List RawAdjust → List RawAdjust → List Adjustment

@@ -1,6 +1,9 @@
-ghost use Rattle.pl_spec.specs.Laws.{ValuesAgree, RoundingIsExact, BufferSteps, TablesAgree, TermsAreDistinct, OrderIsOne, RootIsGreatest, UsedAreListed};
+ghost use Rattle.pl_spec.specs.Laws.{ValuesAgree, RoundingIsExact, BufferSteps, TablesAgree, TermsAreDistinct, OrderIsOne, RootIsGreatest, UsedAreListed, RawWithoutEvents, WindowOfOne, OpenMasksChangeNothing, TablesConcatenate};
 ghost use Rattle.pl_spec.specs.NodeValue.{NodesUnfold};
-ghost use Rattle.pl_spec.specs.DateLaws.{DatesAreRead};
+ghost use Rattle.pl_spec.specs.Reaching.{ReachIsEnough};
+ghost use Rattle.pl_spec.specs.Lookups.{BarsAreFound, LabelsAreFound};
+ghost use Rattle.pl_spec.specs.DateLaws.{DatesAreRead, DatesAreWritten, DaysHaveOneDate};
+ghost use Rattle.pl_spec.specs.SidLaws.{SidsAreRead};
 
 /// The rounded quotient is the one nearest number.
 pub fn rounding_is_exact()
@@ -37,7 +40,7 @@ pub fn order_is_one()
     ensures { OrderIsOne }
 {}
 
-/// The root is the greatest number whose square fits.
+/// The root is the one greatest number whose square fits.
 pub fn root_is_greatest()
     ensures { RootIsGreatest }
 {}
@@ -47,7 +50,57 @@ pub fn used_are_listed()
     ensures { UsedAreListed }
 {}
 
+/// An asset without adjustments is seen as its bars stand.
+pub fn raw_without_events()
+    ensures { RawWithoutEvents }
+{}
+
+/// A window of one session over a term is the term's value.
+pub fn window_of_one()
+    ensures { WindowOfOne }
+{}
+
+/// A mask that every existing asset passes changes no value.
+pub fn open_masks_change_nothing()
+    ensures { OpenMasksChangeNothing }
+{}
+
+/// No bar before a term's reach counts for its value.
+pub fn reach_is_enough()
+    ensures { ReachIsEnough }
+{}
+
+/// A range that is run in pieces gives the rows of the whole.
+pub fn tables_concatenate()
+    ensures { TablesConcatenate }
+{}
+
+/// The raw cell of an asset and session is that of its bar.
+pub fn bars_are_found()
+    ensures { BarsAreFound }
+{}
+
+/// The label of an asset is that of the row that started last.
+pub fn labels_are_found()
+    ensures { LabelsAreFound }
+{}
+
 /// A text is read as a day exactly where it is the date of that day.
 pub fn dates_are_read()
     ensures { DatesAreRead }
+{}
+
+/// The text of a day is its date.
+pub fn dates_are_written()
+    ensures { DatesAreWritten }
+{}
+
+/// A day has no other date, and there are no dates of other days.
+pub fn days_have_one_date()
+    ensures { DaysHaveOneDate }
+{}
+
+/// A text is read as a sid exactly where it is the text of that number.
+pub fn sids_are_read()
+    ensures { SidsAreRead }
 {}

@@ -1,6 +1,6 @@
 use Rattle.std.proofs.Common.{arith, ◌+◌, ◌-◌, ◌/◌, ◌%◌, ◌∷◌, [], take, append_assoc, append-nil, sym}
 use Rattle.pl_spec.specs.Dates.{digits}
-use Rattle.pl_fixed.proofs.WritingLemmas.{digits_none, digits-step}
+use Rattle.pl_fixed.proofs.DigitLemmas.{digits_none, digits-step}
 use Rattle.pl_fixed.proofs.digits.+put_digits.Goals as goal
 
 pub returns-then-width-eq0-clause-text : goal.returns-then-width-eq0-clause-text

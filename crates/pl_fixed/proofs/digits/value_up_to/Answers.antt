@@ -3,7 +3,7 @@ use Rattle.std.proofs.lemmas.Str.Parse.{digit_at}
 use Rattle.std.proofs.lemmas.Str.{digit_value_digit}
 use Rattle.std.proofs.lemmas.Int.Digits.{digits_value_more}
 use Rattle.std.specs.Char.{digit_value}
-use Rattle.pl_fixed.proofs.DecimalLemmas.{capped}
+use Rattle.pl_fixed.proofs.DigitLemmas.{capped}
 use Rattle.pl_fixed.proofs.digits.value_up_to.Goals as goal
 
 pub overflow_sub-digit : goal.overflow_sub-digit

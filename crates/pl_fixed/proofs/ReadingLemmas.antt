@@ -1,92 +1,50 @@
--- Decimal texts: what is read is spelled so, and what is spelled so is read.
+-- Decimal texts: what is spelled is read, and what is read is spelled so.
 use Rattle.std.proofs.Common.{◌≡◌, ◌≢◌, ◌⊎◌, ◌↔◌, inl, inr, ℕ, zero, suc, ◌+◌, ◌*◌, ◌^◌, ◌<◌, ◌≤◌, Bool, true, false, ◌&&◌, cond, ◌==◌, List, [], ◌∷◌, ◌++◌, length, take, drop, ℤ, unsigned_abs, Result, Ok, Err, refl, sym, ap, ◌∙◌, arith, nat_lt, min}
-use Rattle.std.proofs.Math.Nat.{one-le-pow, pow-le-pow_right, pow-suc}
-use Rattle.std.proofs.lemmas.Nat.{le-div, mul-le}
-use Rattle.std.proofs.lemmas.Int.Digits.{digits_value-lt}
-use Rattle.pl_spec.specs.Rounding.{div_round}
-use Rattle.pl_fixed.proofs.RoundingLemmas.{unsigned_abs-div_round}
-use Rattle.std.specs.List.{list_all, prefix_len}
+use Rattle.std.specs.List.{prefix_len}
 use Rattle.std.specs.Char.{is_ascii_digit, digit_value}
 use Rattle.std.specs.Fmt.{sign_text}
-use Rattle.std.specs.Str.Parse.{AllDigits, digits_value, digits_value_after}
-use Rattle.std.proofs.lemmas.Bool.Decides.{nat_tests}
-use Rattle.std.proofs.lemmas.Bool.{false≢true, cases_lt}
-use Rattle.std.proofs.lemmas.List.Sums.{take_while-cons}
-use Rattle.std.proofs.lemmas.Str.Parse.{digit_from_value}
+use Rattle.std.specs.Str.Parse.{AllDigits, digits_value}
 use Rattle.std.proofs.Math.Seq.{drop-append_seam}
+use Rattle.std.proofs.lemmas.Nat.{le-div, mul-le}
+use Rattle.std.proofs.lemmas.Bool.{false≢true, cases_lt, and_parts}
+use Rattle.std.proofs.lemmas.Bool.Decides.{nat_tests}
+use Rattle.std.proofs.lemmas.Int.Digits.{digits_value-lt}
 use Rattle.std.proofs.lemmas.List.{take-append-drop}
 use Rattle.std.proofs.lemmas.List.Folds.{length-prefix_len}
+use Rattle.std.proofs.lemmas.List.Sums.{take_while-cons}
+use Rattle.std.proofs.lemmas.Str.Parse.{digit_from_value}
+use Rattle.pl_spec.specs.Rounding.{LIMIT, MILLION, div_round}
+use Rattle.pl_spec.specs.Decimals.{Decimal, IsDecimal, IsTooLong, IsTooLarge, IsReadAs, millionths, point_text, signed}
 use Rattle.pl_fixed.specs.declared.decimal.DecimalFault.{DecimalFault}
 use Rattle.pl_fixed.specs.declared.decimal.DecimalFault.TheVariants.{Empty, Shape, TooManyDigits, TooLarge}
-use Rattle.pl_spec.specs.Rounding.{LIMIT, MILLION}
-use Rattle.pl_spec.specs.Decimals.{Decimal, IsDecimal, IsTooLong, IsTooLarge, IsReadAs, millionths, point_text, signed}
 use Rattle.pl_fixed.specs.Reading.{is_numeral, front_digits, in_range, judged, fraction_read, unsigned_read, read}
+use Rattle.pl_fixed.proofs.RoundingLemmas.{unsigned_abs-div_round}
+use Rattle.pl_fixed.proofs.DigitLemmas.{AllDigits-from_test, test-AllDigits, nat_lt-zero-suc, AllDigits-front, front-append, digits_value-append, power_pos, power_le}
 
--- ---- digits
-digit_from_test : (c : ℕ) → is_ascii_digit c ≡ true → digit_value c < 10
-digit_from_test c h = grind (arith, nat_tests)
+abbrev decimal_of : Bool → List ℕ → List ℕ → Decimal
+decimal_of negative whole fraction = record { negative = negative; whole = whole; fraction = fraction }
 
-test_from_digit : (c : ℕ) → digit_value c < 10 → is_ascii_digit c ≡ true
-test_from_digit c h = let p = digit_from_value c h in grind (arith, nat_tests)
-
-and_both : (a b : Bool) → (a && b) ≡ true → (a ≡ true) × (b ≡ true)
-and_both true b h = (refl, h)
-and_both false b h = absurd (false≢true h)
-
-pub AllDigits-from_test : (ds : List ℕ) → list_all is_ascii_digit ds ≡ true → AllDigits 10 ds
-AllDigits-from_test [] h = tt
-AllDigits-from_test (c ∷ cs) h =
-    let p = and_both (is_ascii_digit c) _ h in
-    (digit_from_test c p.0, AllDigits-from_test cs p.1)
-
-test-AllDigits : (ds : List ℕ) → AllDigits 10 ds → list_all is_ascii_digit ds ≡ true
-test-AllDigits [] h = refl
-test-AllDigits (c ∷ cs) h = rw (test_from_digit c h.0) (test-AllDigits cs h.1)
-
-front_step : (b : Bool) (c : ℕ) (ds : List ℕ) → (b ≡ true → digit_value c < 10) → AllDigits 10 ds → AllDigits 10 (cond b (c ∷ ds) [])
-front_step true c ds h hs = (h refl, hs)
-front_step false c ds h hs = tt
-
--- the digits in front are digits
-pub AllDigits-front : (bs : List ℕ) → AllDigits 10 (front_digits bs)
-AllDigits-front [] = tt
-AllDigits-front (c ∷ cs) = rw (take_while-cons is_ascii_digit c cs) (front_step (is_ascii_digit c) c (front_digits cs) (digit_from_test c) (AllDigits-front cs))
-
-front-append : (ds rest : List ℕ) → AllDigits 10 ds → front_digits rest ≡ [] → front_digits (ds ++ rest) ≡ ds
-front-append [] rest h e = e
-front-append (d ∷ ds) rest h e = rw (take_while-cons is_ascii_digit d (ds ++ rest), test_from_digit d h.0, front-append ds rest h.1 e)
+-- ---- what is spelled is read
 
 front-point : (fs : List ℕ) → front_digits (point_text fs) ≡ []
 front-point [] = refl
 front-point (f ∷ fs) = take_while-cons is_ascii_digit 46 (f ∷ fs)
 
-nat_lt-zero-suc : (n : ℕ) → nat_lt 0 (suc n) ≡ true
-nat_lt-zero-suc n = grind (arith, nat_tests)
-
 not_minus : (c : ℕ) → digit_value c < 10 → (c == 45) ≡ false
 not_minus c h = let p = digit_from_value c h in grind (arith, nat_tests)
 
-point_cases : (negative : Bool) (whole : List ℕ) (c : ℕ) (ds : List ℕ) (p : Bool) → (c == 46) ≡ p → (q : Bool) → is_numeral ds ≡ q → (cond (p && q) (judged (record { negative = negative; whole = whole; fraction = ds })) (Err Shape) ≡ Err Shape) ⊎ ((fs : List ℕ) × AllDigits 10 fs × (c ∷ ds ≡ point_text fs) × (cond (p && q) (judged (record { negative = negative; whole = whole; fraction = ds })) (Err Shape) ≡ judged (record { negative = negative; whole = whole; fraction = fs })))
-point_cases negative whole c ds false e q f = inl refl
-point_cases negative whole c ds true e false f = inl refl
-point_cases negative whole c [] true e true f = absurd (false≢true f)
-point_cases negative whole c (d ∷ ds) true e true f =
-    let dot : c ≡ 46 = grind (arith, nat_tests) in
-    inr (d ∷ ds, AllDigits-from_test (d ∷ ds) (and_both _ _ f).1, ap (λ x. x ∷ d ∷ ds) dot, refl)
-
--- ---- what is spelled is read
-fraction_spelled : (negative : Bool) (whole fs : List ℕ) → AllDigits 10 fs → fraction_read negative whole (point_text fs) ≡ judged (record { negative = negative; whole = whole; fraction = fs })
+fraction_spelled : (negative : Bool) (whole fs : List ℕ) → AllDigits 10 fs → fraction_read negative whole (point_text fs) ≡ judged (decimal_of negative whole fs)
 unfolding fraction_read
 fraction_spelled negative whole [] h = refl
 fraction_spelled negative whole (f ∷ fs) h = rw (test-AllDigits (f ∷ fs) h, nat_lt-zero-suc (length fs)) refl
 
-unsigned_spelled : (negative : Bool) (whole fs : List ℕ) → 0 < length whole → AllDigits 10 whole → AllDigits 10 fs → unsigned_read negative (whole ++ point_text fs) ≡ judged (record { negative = negative; whole = whole; fraction = fs })
+unsigned_spelled : (negative : Bool) (whole fs : List ℕ) → 0 < length whole → AllDigits 10 whole → AllDigits 10 fs → unsigned_read negative (whole ++ point_text fs) ≡ judged (decimal_of negative whole fs)
 unfolding unsigned_read
 unsigned_spelled negative whole fs p hw hf =
     let n : (length whole == 0) ≡ false = grind (arith, nat_tests) in
     rw (front-append whole (point_text fs) hw (front-point fs), n, drop-append_seam whole (point_text fs)) (fraction_spelled negative whole fs hf)
 
-signed_spelled : (negative : Bool) (whole fs : List ℕ) → 0 < length whole → AllDigits 10 whole → AllDigits 10 fs → read (sign_text negative ++ (whole ++ point_text fs)) ≡ judged (record { negative = negative; whole = whole; fraction = fs })
+signed_spelled : (negative : Bool) (whole fs : List ℕ) → 0 < length whole → AllDigits 10 whole → AllDigits 10 fs → read (sign_text negative ++ (whole ++ point_text fs)) ≡ judged (decimal_of negative whole fs)
 unfolding read
 signed_spelled true whole fs p hw hf = unsigned_spelled true whole fs p hw hf
 signed_spelled false [] fs p hw hf = absurd (omega arith)
@@ -98,6 +56,7 @@ pub read-spelled : (d : Decimal) (bytes : List ℕ) → IsDecimal d bytes → re
 read-spelled d bytes h = ap read h.spelled ∙ signed_spelled d.negative d.whole d.fraction h.whole.0 h.whole.1 h.fraction
 
 -- ---- what is read is spelled so
+
 not_none : (bs : List ℕ) → (length (front_digits bs) == 0) ≡ false → 0 < length (front_digits bs)
 not_none bs e = grind (arith, nat_tests)
 
@@ -107,7 +66,15 @@ front_spelled negative bs fs e =
     let rest : drop (prefix_len is_ascii_digit bs) bs ≡ point_text fs = ap (λ n. drop n bs) (sym (length-prefix_len is_ascii_digit bs)) ∙ e in
     ap (λ x. sign_text negative ++ x) (sym whole ∙ ap (λ x. front_digits bs ++ x) rest)
 
-found_fraction : (negative : Bool) (whole rest : List ℕ) → (fraction_read negative whole rest ≡ Err Shape) ⊎ ((fs : List ℕ) × AllDigits 10 fs × (rest ≡ point_text fs) × (fraction_read negative whole rest ≡ judged (record { negative = negative; whole = whole; fraction = fs })))
+point_cases : (negative : Bool) (whole : List ℕ) (c : ℕ) (ds : List ℕ) (p : Bool) → (c == 46) ≡ p → (q : Bool) → is_numeral ds ≡ q → (cond (p && q) (judged (decimal_of negative whole ds)) (Err Shape) ≡ Err Shape) ⊎ ((fs : List ℕ) × AllDigits 10 fs × (c ∷ ds ≡ point_text fs) × (cond (p && q) (judged (decimal_of negative whole ds)) (Err Shape) ≡ judged (decimal_of negative whole fs)))
+point_cases negative whole c ds false e q f = inl refl
+point_cases negative whole c ds true e false f = inl refl
+point_cases negative whole c [] true e true f = absurd (false≢true f)
+point_cases negative whole c (d ∷ ds) true e true f =
+    let dot : c ≡ 46 = grind (arith, nat_tests) in
+    inr (d ∷ ds, AllDigits-from_test (d ∷ ds) (and_parts _ _ f).1, ap (λ x. x ∷ d ∷ ds) dot, refl)
+
+found_fraction : (negative : Bool) (whole rest : List ℕ) → (fraction_read negative whole rest ≡ Err Shape) ⊎ ((fs : List ℕ) × AllDigits 10 fs × (rest ≡ point_text fs) × (fraction_read negative whole rest ≡ judged (decimal_of negative whole fs)))
 unfolding fraction_read
 found_fraction negative whole [] = inr ([], tt, refl, refl)
 found_fraction negative whole (c ∷ ds) = point_cases negative whole c ds (c == 46) refl (is_numeral ds) refl
@@ -117,7 +84,7 @@ found_front negative bs true e = inl refl
 found_front negative bs false e =
     elim (found_fraction negative (front_digits bs) (drop (length (front_digits bs)) bs)) [
       | inl h ↦ inl h
-      | inr h ↦ inr (record { negative = negative; whole = front_digits bs; fraction = h.0 }, record { whole = (not_none bs e, AllDigits-front bs); fraction = h.1; spelled = front_spelled negative bs h.0 h.2 }, h.3)
+      | inr h ↦ inr (decimal_of negative (front_digits bs) h.0, record { whole = (not_none bs e, AllDigits-front bs); fraction = h.1; spelled = front_spelled negative bs h.0 h.2 }, h.3)
     ]
 
 found_unsigned : (negative : Bool) (bs : List ℕ) → (unsigned_read negative bs ≡ Err Shape) ⊎ ((d : Decimal) × IsDecimal d (sign_text negative ++ bs) × (unsigned_read negative bs ≡ judged d))
@@ -135,14 +102,7 @@ unfolding read
 found [] h = absurd (h refl)
 found (c ∷ cs) h = found_signed c cs (c == 45) refl
 
--- ---- each answer, exactly where it comes
-some_or_none : (bs : List ℕ) → (bs ≡ []) ⊎ (bs ≢ [])
-some_or_none [] = inl refl
-some_or_none (c ∷ cs) = inr (λ e. cc)
-
-read_none : read [] ≡ Err Empty
-unfolding read
-read_none = refl
+-- ---- what a decimal is judged
 
 in_range-large : (v : ℤ) → LIMIT < unsigned_abs v → in_range v ≡ Err TooLarge
 unfolding in_range
@@ -170,6 +130,28 @@ judged_is d =
       ])
     ]
 
+not_judged_shape : (d : Decimal) → judged d ≢ Err Shape
+not_judged_shape d e = elim (judged_is d) [ inl h ↦ absurd (cc (e, h.1)) | inr k ↦ elim k [ inl h ↦ absurd (cc (e, h.1)) | inr h ↦ absurd (cc (e, h.1)) ] ]
+
+too_long_from : (d : Decimal) → judged d ≡ Err TooManyDigits → IsTooLong d
+too_long_from d e = elim (judged_is d) [ inl h ↦ h.0 | inr k ↦ elim k [ inl h ↦ absurd (cc (e, h.1)) | inr h ↦ absurd (cc (e, h.1)) ] ]
+
+too_large_from : (d : Decimal) → judged d ≡ Err TooLarge → IsTooLarge d
+too_large_from d e = elim (judged_is d) [ inl h ↦ absurd (cc (e, h.1)) | inr k ↦ elim k [ inl h ↦ h.0 | inr h ↦ absurd (cc (e, h.1)) ] ]
+
+read_as_from : (d : Decimal) (v : ℤ) → judged d ≡ Ok v → IsReadAs d v
+read_as_from d v e = elim (judged_is d) [ inl h ↦ absurd (cc (e, h.1)) | inr k ↦ elim k [ inl h ↦ absurd (cc (e, h.1)) | inr h ↦ let same : v ≡ millionths d = cc (e, h.1) in rw same h.0 ] ]
+
+-- ---- each answer, exactly where it comes
+
+some_or_none : (bs : List ℕ) → (bs ≡ []) ⊎ (bs ≢ [])
+some_or_none [] = inl refl
+some_or_none (c ∷ cs) = inr (λ e. cc)
+
+read_none : read [] ≡ Err Empty
+unfolding read
+read_none = refl
+
 -- an answer other than the first two is the judgement of a decimal that the bytes spell
 spelled_from : (bs : List ℕ) (r : Result ℤ DecimalFault) → r ≢ Err Empty → r ≢ Err Shape → read bs ≡ r → (d : Decimal) × IsDecimal d bs × (judged d ≡ r)
 spelled_from bs r some shaped e =
@@ -194,23 +176,11 @@ read-empty bs = (λ e. empty_from bs e, λ e. ap read e ∙ read_none)
           ]
         ]
 
-not_judged_shape : (d : Decimal) → judged d ≢ Err Shape
-not_judged_shape d e = elim (judged_is d) [ inl h ↦ absurd (cc (e, h.1)) | inr k ↦ elim k [ inl h ↦ absurd (cc (e, h.1)) | inr h ↦ absurd (cc (e, h.1)) ] ]
-
 pub read-shape : (bs : List ℕ) → (read bs ≡ Err Shape) ↔ ((bs ≢ []) × ((d : Decimal) → ¬ IsDecimal d bs))
 read-shape bs = (
   λ e. (λ none. absurd (cc (e, ap read none, read_none)), λ d h. not_judged_shape d (sym (read-spelled d bs h) ∙ e)),
   λ w. elim (found bs w.0) [ inl bad ↦ bad | inr f ↦ absurd (w.1 f.0 f.1) ],
 )
-
-too_long_from : (d : Decimal) → judged d ≡ Err TooManyDigits → IsTooLong d
-too_long_from d e = elim (judged_is d) [ inl h ↦ h.0 | inr k ↦ elim k [ inl h ↦ absurd (cc (e, h.1)) | inr h ↦ absurd (cc (e, h.1)) ] ]
-
-too_large_from : (d : Decimal) → judged d ≡ Err TooLarge → IsTooLarge d
-too_large_from d e = elim (judged_is d) [ inl h ↦ absurd (cc (e, h.1)) | inr k ↦ elim k [ inl h ↦ h.0 | inr h ↦ absurd (cc (e, h.1)) ] ]
-
-read_as_from : (d : Decimal) (v : ℤ) → judged d ≡ Ok v → IsReadAs d v
-read_as_from d v e = elim (judged_is d) [ inl h ↦ absurd (cc (e, h.1)) | inr k ↦ elim k [ inl h ↦ absurd (cc (e, h.1)) | inr h ↦ let same : v ≡ millionths d = cc (e, h.1) in rw same h.0 ] ]
 
 pub read-too_many_digits : (bs : List ℕ) → (read bs ≡ Err TooManyDigits) ↔ ((d : Decimal) × IsDecimal d bs × IsTooLong d)
 read-too_many_digits bs = (
@@ -230,36 +200,7 @@ read-value bs v = (
   λ w. read-spelled w.0 bs w.1 ∙ judged-short w.0 w.2.0 ∙ ap in_range (sym w.2.2) ∙ in_range-cell v w.2.1,
 )
 
--- ---- numbers
-pub power_pos : (k : ℕ) → 0 < 10 ^ k
-power_pos k = one-le-pow k 10 (omega arith)
-
-pub power_le : (k : ℕ) → k ≤ 18 → 10 ^ k ≤ 10 ^ 18
-power_le k h = pow-le-pow_right (omega arith) h
-
--- one more digit of a number that stops at `most`
-pub capped : (most value before digit part after next : ℕ) → value ≡ min most before → after ≡ before * 10 + digit → part ≡ digit → next ≡ min (value * 10 + part) most → next ≡ min most after
-capped most value before digit part after next e f g h = omega arith
-
-digits_value_after-append : (n : ℕ) (xs ys : List ℕ) → digits_value_after 10 n (xs ++ ys) ≡ digits_value_after 10 (digits_value_after 10 n xs) ys
-digits_value_after-append n [] ys = refl
-digits_value_after-append n (x ∷ xs) ys = digits_value_after-append (n * 10 + digit_value x) xs ys
-
-shifted : (n d p v a f : ℕ) → a ≡ (n * 10 + d) * p + v → f ≡ (0 * 10 + d) * p + v → a ≡ n * (p * 10) + f
-shifted n d p v a f e h = omega arith
-
-digits_value_after-is : (n : ℕ) (ys : List ℕ) → digits_value_after 10 n ys ≡ n * 10 ^ length ys + digits_value 10 ys
-digits_value_after-is n [] = omega arith
-digits_value_after-is n (y ∷ ys) =
-    let more : digits_value_after 10 n (y ∷ ys) ≡ (n * 10 + digit_value y) * 10 ^ length ys + digits_value 10 ys = digits_value_after-is (n * 10 + digit_value y) ys in
-    let first : digits_value 10 (y ∷ ys) ≡ (0 * 10 + digit_value y) * 10 ^ length ys + digits_value 10 ys = digits_value_after-is (0 * 10 + digit_value y) ys in
-    rw (pow-suc 10 (length ys)) (shifted n (digit_value y) (10 ^ length ys) (digits_value 10 ys) _ _ more first)
-
-pub digits_value-append : (xs ys : List ℕ) → digits_value 10 (xs ++ ys) ≡ digits_value 10 xs * 10 ^ length ys + digits_value 10 ys
-digits_value-append xs ys = digits_value_after-append 0 xs ys ∙ digits_value_after-is (digits_value 10 xs) ys
-
-pub is_numeral-digits : (bs : List ℕ) → is_numeral bs ≡ true → AllDigits 10 bs
-is_numeral-digits bs h = AllDigits-from_test bs (and_both _ _ h).1
+-- ---- the number from capped parts
 
 abs-signed : (negative : Bool) (n : ℕ) → unsigned_abs (signed negative n) ≡ n
 abs-signed true zero = refl
@@ -290,10 +231,3 @@ in_range-capped d units part scale short digits u p s =
           rw (whole, fraction, s, value) in
           rw (same, s)
     ]
-
-pub is_numeral-from_digits : (bs : List ℕ) → 0 < length bs → AllDigits 10 bs → is_numeral bs ≡ true
-is_numeral-from_digits [] p h = absurd (omega arith)
-is_numeral-from_digits (c ∷ cs) p h = rw (test-AllDigits (c ∷ cs) h, nat_lt-zero-suc (length cs)) refl
-
-pub is_numeral-some : (bs : List ℕ) → is_numeral bs ≡ true → 0 < length bs
-is_numeral-some bs h = let some = (and_both (nat_lt 0 (length bs)) (list_all is_ascii_digit bs) h).0 in grind (arith, nat_tests)

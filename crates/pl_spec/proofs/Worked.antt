@@ -1,0 +1,10 @@
+-- Worked examples, each computed from the definitions.
+pub mod Worlds
+pub mod Numbers
+pub mod Adjusting
+pub mod Windows
+pub mod Pointwise
+pub mod Crossing
+pub mod Labels
+pub mod Tables
+pub mod Planning
