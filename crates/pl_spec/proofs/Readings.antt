@@ -1,9 +1,5 @@
 -- Rows that are read are those of the records, and the fault is the first.
-<<<<<<< HEAD
 use Rattle.std.proofs.Common.{◌≡◌, ◌≢◌, Bool, true, false, bytes_eq, ℕ, zero, suc, ◌+◌, ◌<◌, ◌≤◌, ◌↔◌, List, [], ◌∷◌, ◌++◌, length, take, drop, get_or, Option, Some, None, IfSome, Result, Ok, Err, refl, sym, ◌∙◌, ap, arith, rules, append_assoc, length-append, inl, inr, ◌⊎◌, add-one}
-=======
-use Rattle.std.proofs.Common.{◌≡◌, Bool, true, false, bytes_eq, ℕ, zero, suc, ◌+◌, ◌<◌, ◌≤◌, ◌↔◌, List, [], ◌∷◌, ◌++◌, length, take, drop, Option, Some, None, IfSome, Result, Ok, Err, refl, sym, ◌∙◌, ap, arith, append_assoc, length-append, inl, inr, add-one}
->>>>>>> main
 use Rattle.std.specs.List.{slice_get}
 use Rattle.std.specs.Bool.{Decides, if◌then◌else◌}
 use Rattle.std.specs.Option.{ok_or}
@@ -13,12 +9,8 @@ use Rattle.std.proofs.lemmas.Bool.{cases_lt}
 use Rattle.std.proofs.lemmas.List.{take-append-le}
 use Rattle.std.proofs.lemmas.Option.{slice_get_within}
 use Rattle.std.proofs.Math.Seq.{take-append_seam}
-<<<<<<< HEAD
 use Rattle.std.proofs.lemmas.Grind.{common_steps}
 use Rattle.pl_spec.specs.Reading.{rows_under, has_header, Record, field, Fault, ◌>>=◌, at_line, rows_behind, rows_of, AreRows, IsFirstFault, BreaksFirst, Judges, AreRowsUnder, IsFaultUnder}
-=======
-use Rattle.pl_spec.specs.Reading.{rows_under, has_header, Record, field, Fault, ◌>>=◌, at_line, rows_behind, rows_of, AreRows, IsFirstFault}
->>>>>>> main
 
 pub rows-step : {Row R : Type 0} (first : ℕ) (says : List Row → Record → Result Row R) (before : List Row) (r : Record) (rs : List Record) (row : Row)
     → says before r ≡ Ok row → rows_behind first says before (r ∷ rs) ≡ rows_behind first says (before ++ row ∷ []) rs
