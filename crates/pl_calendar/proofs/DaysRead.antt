@@ -1,6 +1,6 @@
 -- Days that are read ascend, and are no more than a calendar has.
-use Rattle.std.proofs.Common.{◌≡◌, ℕ, ◌+◌, ◌-◌, ◌<◌, ◌≤◌, nat_le, Bool, true, false, if◌then◌else◌, ℤ, ◌<ℤ◌, List, [], ◌∷◌, ◌++◌, length, length-append, get_or, Option, Some, None, IfSome, option_map, unwrap_or, Result, Ok, Err, refl, sym, ◌∙◌, ap, arith, inl, inr}
-use Rattle.std.specs.List.{AllPairs}
+use Rattle.std.proofs.Common.{◌≡◌, ℕ, ◌+◌, ◌-◌, ◌<◌, ◌≤◌, ◌==◌, nat_le, Bool, true, false, if◌then◌else◌, ℤ, ◌<ℤ◌, List, [], ◌∷◌, ◌++◌, length, length-append, get_or, Option, Some, None, IfSome, option_map, unwrap_or, Result, Ok, Err, refl, sym, ◌∙◌, ap, arith, inl, inr}
+use Rattle.std.specs.List.{All, AllPairs}
 use Rattle.std.specs.Int.RustNames.{int_lt}
 use Rattle.std.proofs.lemmas.Int.{ints}
 use Rattle.std.proofs.lemmas.Bool.{cases_lt}
@@ -8,7 +8,11 @@ use Rattle.std.proofs.lemmas.Bool.Decides.{nat_tests}
 use Rattle.std.proofs.lemmas.List.{get_or_append_left}
 use Rattle.std.proofs.lemmas.Option.{slice_get-get_or}
 use Rattle.std.proofs.Math.Seq.{get_or-append_seam}
-use Rattle.pl_spec.specs.Reading.{Record, Fault, rows_of, rows_behind}
+use Rattle.pl_spec.specs.Reading.{Record, Fault, field, rows_of, rows_behind}
+use Rattle.pl_spec.specs.Dates.{IsDay, date_in}
+use Rattle.pl_spec.proofs.DatesRead.{IsDate-date_in}
+use Rattle.pl_spec.proofs.DatesWritten.{IsDay-IsDate}
+use Rattle.std.proofs.lemmas.List.Elements.{All-push}
 use Rattle.pl_spec.proofs.Readings.{rows-keep, rows-as_many, guard_ok, some_ok}
 use Rattle.pl_calendar.specs.Days.{Rule, day_in, last_of, is_later, says_day, sessions_of, AreDays}
 use Rattle.pl_calendar.specs.Days as days
@@ -44,35 +48,46 @@ later-last xs y d h t =
 
 -- days that ascend, and are few; there may be none
 pub record AreFront (xs : List ℤ) : Type 0 where
+  pub dates : All IsDay xs
   pub ascend : AllPairs (λ a b. a <ℤ b) xs
   pub few : length xs ≤ 16_000
 
 AreFront-none : AreFront []
-AreFront-none = record { ascend = λ i j d h l. absurd (omega arith); few = omega arith }
+AreFront-none = record { dates = λ k d h. absurd (omega arith); ascend = λ i j d h l. absurd (omega arith); few = omega arith }
 
-AreFront-more : (xs : List ℤ) (y : ℤ) → AreFront xs → nat_le 16000 (length xs) ≡ false → is_later xs y ≡ true → AreFront (xs ++ y ∷ [])
-AreFront-more xs y up n t =
-    record { ascend = pairs; few = (let small : length xs < 16000 = grind (arith, nat_tests) in omega (arith, length-append xs (y ∷ []))) }
+AreFront-more : (xs : List ℤ) (y : ℤ) → IsDay y → AreFront xs → nat_le 16000 (length xs) ≡ false → is_later xs y ≡ true → AreFront (xs ++ y ∷ [])
+AreFront-more xs y dated up n t =
+    record { dates = All-push IsDay xs y up.dates dated; ascend = pairs; few = (let small : length xs < 16000 = grind (arith, nat_tests) in omega (arith, length-append xs (y ∷ []))) }
   where
     both : (a b z : ℤ) → a <ℤ b → b <ℤ z → a <ℤ z
     both a b z f g = omega (arith, ints)
+
     under : (i : ℕ) (d : ℤ) → i < length xs → get_or xs i d <ℤ y
     under i d h = elim (cases_lt i (length xs - 1)) [
       | inl l ↦ both _ _ _ (up.ascend i (length xs - 1) d l (omega arith)) (later-last xs y d (omega arith) t)
       | inr g ↦ (let same : i ≡ length xs - 1 = omega arith in rw same (later-last xs y d (omega arith) t))
     ]
+
     pairs : (i j : ℕ) (d : ℤ) → i < j → j < length (xs ++ y ∷ []) → get_or (xs ++ y ∷ []) i d <ℤ get_or (xs ++ y ∷ []) j d
     pairs i j d h l = elim (cases_lt j (length xs)) [
       | inl k ↦ (let a : get_or (xs ++ y ∷ []) i d ≡ get_or xs i d = get_or_append_left xs (y ∷ []) d i (omega arith) in
-        let b : get_or (xs ++ y ∷ []) j d ≡ get_or xs j d = get_or_append_left xs (y ∷ []) d j k in rw (a, b) (up.ascend i j d h k))
+          let b : get_or (xs ++ y ∷ []) j d ≡ get_or xs j d = get_or_append_left xs (y ∷ []) d j k in rw (a, b) (up.ascend i j d h k))
       | inr g ↦ (let same : j ≡ length xs = omega (arith, length-append xs (y ∷ [])) in
-        let a : get_or (xs ++ y ∷ []) i d ≡ get_or xs i d = get_or_append_left xs (y ∷ []) d i (omega arith) in
-        rw (a, same, get_or-append_seam xs y [] d) (under i d (omega arith)))
+          let a : get_or (xs ++ y ∷ []) i d ≡ get_or xs i d = get_or_append_left xs (y ∷ []) d i (omega arith) in
+          rw (a, same, get_or-append_seam xs y [] d) (under i d (omega arith)))
     ]
+
+-- a record of one date is that of a day that dates have
+read_day-dated : (r : Record) (day : ℤ) → day_in r ≡ Some day → IsDay day
+read_day-dated r day e = here (length r == 1) e
+  where
+    here : (b : Bool) → (if b then date_in (field r 0) else None) ≡ Some day → IsDay day
+    here true f = IsDay-IsDate (field r 0) day (IsDate-date_in (field r 0) day f)
+    here false f = absurd (let bad : None ≡ Some day = f in cc)
 
 AreFront-read : (records : List Record) (ds : List ℤ) → rows_of 1 says_day records ≡ Ok ds → AreFront ds
 AreFront-read records ds e =
-    rows-keep AreFront 1 says_day (λ before r day up s. let ok = says_day-ok before r day s in AreFront-more before day up ok.few ok.later)
+    rows-keep AreFront 1 says_day (λ before r day up s. let ok = says_day-ok before r day s in AreFront-more before day (read_day-dated r day ok.date) up ok.few ok.later)
     records [] ds AreFront-none e
 
 -- ---- a file with and without records
@@ -105,4 +120,4 @@ pub AreDays-read : (records : List Record) (ds : List ℤ) → sessions_of recor
 AreDays-read records ds e =
     let it = rows-sessions_of records ds e in
     let up = AreFront-read records ds it.0 in
-    record { some = it.1; ascend = up.ascend; few = up.few }
+    record { some = it.1; dates = up.dates; ascend = up.ascend; few = up.few }

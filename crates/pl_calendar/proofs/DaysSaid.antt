@@ -135,9 +135,11 @@ sessions-fault records f = (there records, back)
   where
     told : (records : List Record) (f : Fault Rule) → (rows_of 1 says_day records ≡ Err f) ↔ IsFirstFault 1 IsSession (λ before r. BreaksFirst order (Breaks before r)) records f
     told = fault-is 1 IsSession (λ before r. BreaksFirst order (Breaks before r)) says_day days_judged
+
     there : (records : List Record) → sessions_of records ≡ Err f → IsSessionsFault records f
     there [] e = inl (refl, (let same : Err (record { rule = days.Empty; line = 1 }) ≡ Err f = e in cc))
     there (r ∷ rs) e = inr ((told (r ∷ rs) f).0 e)
+
     back : IsSessionsFault records f → sessions_of records ≡ Err f
     back (inl h) = rw (h.0, h.1) refl
     back (inr h) = sessions_of-err records f ((told records f).1 h)

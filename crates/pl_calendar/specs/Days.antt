@@ -1,9 +1,9 @@
 -- The days of the records of a sessions file, and the first rule that a record breaks.
-use Rattle.std.specs.Prelude.{◌≡◌, ◌-◌, ◌==◌, ◌<◌, ◌≤◌, nat_le, Bool, true, if◌then◌else◌, ℤ, ◌<ℤ◌, List, [], ◌∷◌, length, slice_get, AllPairs, Option, Some, None, option_map, unwrap_or, Result, Ok, Err}
+use Rattle.std.specs.Prelude.{◌≡◌, ◌-◌, ◌==◌, ◌<◌, ◌≤◌, nat_le, Bool, true, if◌then◌else◌, ℤ, ◌<ℤ◌, List, [], ◌∷◌, length, slice_get, All, AllPairs, Option, Some, None, option_map, unwrap_or, Result, Ok, Err}
 use Rattle.std.specs.Int.RustNames.{int_lt}
 use Rattle.std.specs.Option.{ok_or}
 use Rattle.pl_spec.specs.Reading.{Record, Fault, field, ◌>>=◌, rows_of}
-use Rattle.pl_spec.specs.Dates.{date_in}
+use Rattle.pl_spec.specs.Dates.{IsDay, date_in}
 
 -- in the order in which they are tested
 pub data Rule : Type 0 where
@@ -35,5 +35,6 @@ sessions_of (r ∷ rs) = rows_of 1 says_day (r ∷ rs)
 -- days as sessions have them
 pub record AreDays (days : List ℤ) : Type 0 where
   pub some : 0 < length days
+  pub dates : All IsDay days
   pub ascend : AllPairs (λ a b. a <ℤ b) days
   pub few : length days ≤ 16_000
