@@ -4,6 +4,7 @@
 ghost use Rattle.std.specs.Prelude.{◌≡◌, ◌<◌, ◌≤◌, length, slice_get, position, Some, IfOk, IfSome};
 ghost use Rattle.std.specs.Int.RustNames.{int_le};
 ghost use Rattle.std.specs.Ordering.{int_eq};
+ghost use Rattle.pl_spec.specs.Dates.{IsDay};
 ghost use Rattle.pl_spec.specs.Reading.{Answers};
 ghost use Rattle.pl_records.specs.Records.{csv_records};
 ghost use Rattle.pl_calendar.specs.Days.{AreDays, sessions_of};
@@ -68,7 +69,8 @@ impl Sessions {
     /// The day of a session.
     pub fn day(&self, i: usize) -> i32
         requires { i < length self.now }
-        ensures { slice_get self.now i ≡ Some result }
+        ensures exact { slice_get self.now i ≡ Some result }
+        ensures date { IsDay result }
     {
         self.days[i]
     }
