@@ -1,6 +1,6 @@
 -- Places in days that ascend.
-use Rattle.std.proofs.Common.{◌≡◌, ℕ, ◌<◌, ◌≤◌, Bool, true, false, not, ℤ, ◌<ℤ◌, ◌≤ℤ◌, List, length, get_or, Option, Some, None, refl, sym, ◌∙◌, ap, arith, nat_lt, inl, inr}
-use Rattle.std.specs.List.{position, position_or_len, AllPairs}
+use Rattle.std.proofs.Common.{◌≡◌, ℕ, ◌<◌, ◌≤◌, true, false, not, ℤ, ◌<ℤ◌, ◌≤ℤ◌, List, length, get_or, Some, None, refl, sym, ◌∙◌, ap, arith, nat_lt, inl, inr}
+use Rattle.std.specs.List.{position, position_or_len}
 use Rattle.std.specs.List.Sorted.{IsPartitionPoint, IsPartitionedBy}
 use Rattle.std.specs.Int.RustNames.{int_lt, int_le}
 use Rattle.std.specs.Ordering.{int_eq}
@@ -33,12 +33,13 @@ found_none day xs n h g point =
 
 not_later : (xs : List ℤ) → AreDays xs → (i j : ℕ) (d : ℤ) → i ≤ j → j < length xs → get_or xs i d ≤ℤ get_or xs j d
 not_later xs up i j d h l = elim (cases_lt i j) [
-    | inl p ↦ before _ _ (up.ascend i j d p l)
-    | inr p ↦ let same : i ≡ j = omega arith in equal _ _ (ap (λ k. get_or xs k d) same)
-  ]
+  | inl p ↦ before _ _ (up.ascend i j d p l)
+  | inr p ↦ let same : i ≡ j = omega arith in equal _ _ (ap (λ k. get_or xs k d) same)
+]
   where
     before : (a b : ℤ) → a <ℤ b → a ≤ℤ b
     before a b h = omega (arith, ints)
+
     equal : (a b : ℤ) → a ≡ b → a ≤ℤ b
     equal a b h = omega (arith, ints)
 

@@ -1,5 +1,5 @@
 -- Days that are read ascend, and are no more than a calendar has.
-use Rattle.std.proofs.Common.{◌≡◌, ℕ, ◌+◌, ◌-◌, ◌<◌, ◌≤◌, nat_le, Bool, true, false, if◌then◌else◌, ℤ, ◌<ℤ◌, List, [], ◌∷◌, ◌++◌, length, length-append, get_or, Option, Some, None, IfSome, option_map, unwrap_or, Result, Ok, Err, refl, sym, ◌∙◌, ap, arith, inl, inr}
+use Rattle.std.proofs.Common.{◌≡◌, ℕ, ◌-◌, ◌<◌, ◌≤◌, nat_le, Bool, true, false, if◌then◌else◌, ℤ, ◌<ℤ◌, List, [], ◌∷◌, ◌++◌, length, length-append, get_or, Option, Some, None, IfSome, option_map, unwrap_or, Result, Ok, Err, refl, sym, ◌∙◌, ap, arith, inl, inr}
 use Rattle.std.specs.List.{AllPairs}
 use Rattle.std.specs.Int.RustNames.{int_lt}
 use Rattle.std.proofs.lemmas.Int.{ints}
@@ -56,18 +56,20 @@ AreFront-more xs y up n t =
   where
     both : (a b z : ℤ) → a <ℤ b → b <ℤ z → a <ℤ z
     both a b z f g = omega (arith, ints)
+
     under : (i : ℕ) (d : ℤ) → i < length xs → get_or xs i d <ℤ y
     under i d h = elim (cases_lt i (length xs - 1)) [
       | inl l ↦ both _ _ _ (up.ascend i (length xs - 1) d l (omega arith)) (later-last xs y d (omega arith) t)
       | inr g ↦ (let same : i ≡ length xs - 1 = omega arith in rw same (later-last xs y d (omega arith) t))
     ]
+
     pairs : (i j : ℕ) (d : ℤ) → i < j → j < length (xs ++ y ∷ []) → get_or (xs ++ y ∷ []) i d <ℤ get_or (xs ++ y ∷ []) j d
     pairs i j d h l = elim (cases_lt j (length xs)) [
       | inl k ↦ (let a : get_or (xs ++ y ∷ []) i d ≡ get_or xs i d = get_or_append_left xs (y ∷ []) d i (omega arith) in
-        let b : get_or (xs ++ y ∷ []) j d ≡ get_or xs j d = get_or_append_left xs (y ∷ []) d j k in rw (a, b) (up.ascend i j d h k))
+          let b : get_or (xs ++ y ∷ []) j d ≡ get_or xs j d = get_or_append_left xs (y ∷ []) d j k in rw (a, b) (up.ascend i j d h k))
       | inr g ↦ (let same : j ≡ length xs = omega (arith, length-append xs (y ∷ [])) in
-        let a : get_or (xs ++ y ∷ []) i d ≡ get_or xs i d = get_or_append_left xs (y ∷ []) d i (omega arith) in
-        rw (a, same, get_or-append_seam xs y [] d) (under i d (omega arith)))
+          let a : get_or (xs ++ y ∷ []) i d ≡ get_or xs i d = get_or_append_left xs (y ∷ []) d i (omega arith) in
+          rw (a, same, get_or-append_seam xs y [] d) (under i d (omega arith)))
     ]
 
 AreFront-read : (records : List Record) (ds : List ℤ) → rows_of 1 says_day records ≡ Ok ds → AreFront ds

@@ -1,11 +1,11 @@
 -- What a record says of its day, in plain words.
-use Rattle.std.proofs.Common.{◌≡◌, ◌⊎◌, ℕ, zero, suc, ◌<◌, ◌≤◌, ◌↔◌, ◌==◌, nat_le, Bool, true, false, if◌then◌else◌, ℤ, ◌<ℤ◌, ◌≤ℤ◌, List, [], ◌∷◌, length, Option, Some, None, option_map, unwrap_or, Result, Ok, Err, refl, sym, ◌∙◌, ap, arith, inl, inr}
+use Rattle.std.proofs.Common.{◌≡◌, ℕ, zero, suc, ◌<◌, ◌≤◌, ◌↔◌, ◌==◌, nat_le, Bool, true, false, if◌then◌else◌, ℤ, ◌<ℤ◌, ◌≤ℤ◌, List, [], ◌∷◌, length, Option, Some, None, option_map, unwrap_or, Result, Ok, Err, refl, sym, ◌∙◌, arith, inl, inr}
 use Rattle.std.specs.Int.RustNames.{int_lt}
 use Rattle.std.specs.Option.{ok_or}
 use Rattle.std.proofs.lemmas.Int.{ints}
 use Rattle.std.proofs.lemmas.Bool.Decides.{nat_tests}
 use Rattle.pl_spec.specs.Reading.{Record, Fault, field, ◌>>=◌, rows_of, AreRows, BreaksFirst, IsFirstFault, Judges}
-use Rattle.pl_spec.specs.Dates.{IsDate, date_in}
+use Rattle.pl_spec.specs.Dates.{date_in}
 use Rattle.pl_spec.proofs.Readings.{Judges-from, rows-are, fault-is}
 use Rattle.pl_spec.proofs.DatesRead.{date_in-IsDate, IsDate-date_in}
 use Rattle.pl_calendar.specs.Days.{Rule, day_in, last_of, is_later, says_day, sessions_of}
@@ -135,9 +135,11 @@ sessions-fault records f = (there records, back)
   where
     told : (records : List Record) (f : Fault Rule) → (rows_of 1 says_day records ≡ Err f) ↔ IsFirstFault 1 IsSession (λ before r. BreaksFirst order (Breaks before r)) records f
     told = fault-is 1 IsSession (λ before r. BreaksFirst order (Breaks before r)) says_day days_judged
+
     there : (records : List Record) → sessions_of records ≡ Err f → IsSessionsFault records f
     there [] e = inl (refl, (let same : Err (record { rule = days.Empty; line = 1 }) ≡ Err f = e in cc))
     there (r ∷ rs) e = inr ((told (r ∷ rs) f).0 e)
+
     back : IsSessionsFault records f → sessions_of records ≡ Err f
     back (inl h) = rw (h.0, h.1) refl
     back (inr h) = sessions_of-err records f ((told records f).1 h)

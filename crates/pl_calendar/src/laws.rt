@@ -14,5 +14,4 @@ pub fn sessions_in_plain_words()
     ensures days { (records : List Record) (days : List ℤ) → (sessions_of records ≡ Ok days)
         ↔ ((0 < length days) × AreRows IsSession records days) }
     ensures fault { (records : List Record) (fault : Fault Rule) → (sessions_of records ≡ Err fault) ↔ IsSessionsFault records fault }
-{
-}
+{}

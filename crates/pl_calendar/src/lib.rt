@@ -17,7 +17,6 @@ mod search;
 mod tests;
 
 pub use error::CalendarError;
-
 use std::alloc::Global;
 use std::marker::Model;
 
@@ -30,8 +29,11 @@ pub struct Sessions {
 impl Model for Sessions {
     ghost use Rattle.std.specs.Prelude.{List, ℤ};
     ghost use Rattle.pl_calendar.specs.Days.{AreDays};
+
     ghost Value = { List ℤ };
+
     ghost view = { λ s. s.days.items };
+
     ghost invariant = { λ s. AreDays s.days.items };
 }
 

@@ -3,6 +3,7 @@ use std::test::*;
 
 // 2024-01-02 to 2024-01-05, a weekend, 2024-01-08 and 2024-01-09.
 const WEEK: &[u8] = b"2024-01-02\n2024-01-03\n2024-01-04\n2024-01-05\n2024-01-08\n2024-01-09\n";
+
 const DAYS: [i32; 6] = [19724, 19725, 19726, 19727, 19730, 19731];
 
 #[test]
@@ -51,11 +52,23 @@ fn names_the_first_fault(rt: HostRuntime) -> Result<(), Fail> {
         (b"\xef\xbb\xbf", CalendarError::Empty),
         (b"\n\r\n", CalendarError::Empty),
         (b"\"\"\n", CalendarError::BadDate { line: 1 }),
-        (b"2024-01-02\n\n2024-02-30\n2024-01-01\n", CalendarError::BadDate { line: 2 }),
+        (
+            b"2024-01-02\n\n2024-02-30\n2024-01-01\n",
+            CalendarError::BadDate { line: 2 },
+        ),
         (b"2024-01-02,\n", CalendarError::BadDate { line: 1 }),
-        (b"2024-01-02\n 2024-01-03\n", CalendarError::BadDate { line: 2 }),
-        (b"2024-01-02\n2024-01-03\n2024-01-03\n", CalendarError::NotAscending { line: 3 }),
-        (b"2024-01-03\n2024-01-02\n2200-01-01\n", CalendarError::NotAscending { line: 2 }),
+        (
+            b"2024-01-02\n 2024-01-03\n",
+            CalendarError::BadDate { line: 2 },
+        ),
+        (
+            b"2024-01-02\n2024-01-03\n2024-01-03\n",
+            CalendarError::NotAscending { line: 3 },
+        ),
+        (
+            b"2024-01-03\n2024-01-02\n2200-01-01\n",
+            CalendarError::NotAscending { line: 2 },
+        ),
     ];
     for (bytes, fault) in table.iter() {
         assert!(rt; matches!(Sessions::read(rt.alloc(), bytes), Err(e) if e == *fault));
