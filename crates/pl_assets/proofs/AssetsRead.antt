@@ -1,10 +1,10 @@
 -- Assets that are read have sids of their own, and are no more than a file may have.
-use Rattle.std.proofs.Common.{◌≡◌, ℕ, ◌==◌, ◌||◌, ◌<◌, ◌≤◌, nat_eq, nat_le, not, cond, Bool, true, false, List, [], ◌∷◌, ◌++◌, length, Option, Some, Result, Ok, Err, refl, ap, sym, ◌∙◌, arith, length-append}
+use Rattle.std.proofs.Common.{◌≡◌, ℕ, ◌==◌, ◌||◌, ◌<◌, ◌≤◌, nat_eq, nat_le, not, cond, Bool, true, false, List, [], ◌∷◌, ◌++◌, length, Some, Result, Ok, Err, refl, ap, sym, ◌∙◌, arith, length-append}
 use Rattle.std.proofs.lemmas.Bool.Decides.{nat_tests}
 use Rattle.std.specs.List.{list_any}
 use Rattle.std.specs.Int.RustNames.{int_lt}
 use Rattle.std.specs.HashSet.{HashSet, contains}
-use Rattle.pl_spec.specs.Reading.{Record, Fault, ◌>>=◌, rows_of}
+use Rattle.pl_spec.specs.Reading.{Record, Fault, ◌>>=◌}
 use Rattle.pl_spec.specs.Sorted.{sorted_by, HasOwnKeys}
 use Rattle.pl_spec.specs.declared.AssetRow.{AssetRow}
 use Rattle.pl_spec.proofs.Readings.{rows-keep, guard_ok, some_ok, under_ok}

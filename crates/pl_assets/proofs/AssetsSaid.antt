@@ -1,16 +1,15 @@
 -- What a record says of its asset, in plain words.
-use Rattle.std.proofs.Common.{◌≡◌, ◌≢◌, ◌⊎◌, ℕ, zero, suc, ◌<◌, ◌≤◌, ◌↔◌, ◌^◌, ◌==◌, ◌||◌, nat_le, Bool, true, false, if◌then◌else◌, ℤ, ◌<ℤ◌, ◌≤ℤ◌, List, [], ◌∷◌, length, get_or, Option, Some, None, option_map, option_and_then, All, Any, Result, Ok, Err, refl, sym, ◌∙◌, ap, arith, inl, inr}
-use Rattle.std.specs.Fmt.{decimal}
+use Rattle.std.proofs.Common.{◌≡◌, ◌≢◌, ℕ, zero, suc, ◌<◌, ◌↔◌, ◌==◌, nat_le, Bool, true, false, if◌then◌else◌, ℤ, ◌<ℤ◌, ◌≤ℤ◌, List, length, get_or, Option, Some, None, option_map, option_and_then, All, Any, Result, Ok, Err, refl, sym, ◌∙◌, ap, arith}
 use Rattle.std.specs.List.{list_any, AllPairs}
-use Rattle.std.specs.List.Sorted.{IsPermutation, IsNonDecreasingBy}
+use Rattle.std.specs.List.Sorted.{IsPermutation}
 use Rattle.std.specs.Int.RustNames.{int_lt}
 use Rattle.std.specs.Option.{ok_or}
 use Rattle.std.proofs.lemmas.Int.{ints}
 use Rattle.std.proofs.lemmas.Bool.Decides.{nat_tests}
 use Rattle.std.proofs.lemmas.List.Folds.{list_any_at, Any-from_list_any}
-use Rattle.pl_spec.specs.Reading.{Record, Fault, field, ◌>>=◌, rows_under, AreRowsUnder, BreaksFirst, IsFaultUnder, Judges}
+use Rattle.pl_spec.specs.Reading.{Record, Fault, field, ◌>>=◌, rows_under, AreRowsUnder, BreaksFirst, Judges}
 use Rattle.pl_spec.specs.Sorted.{sorted_by}
-use Rattle.pl_spec.specs.Dates.{IsDate, date_in}
+use Rattle.pl_spec.specs.Dates.{date_in}
 use Rattle.pl_spec.specs.Decimals.{sid_in}
 use Rattle.pl_spec.specs.declared.AssetRow.{AssetRow}
 use Rattle.pl_spec.proofs.Readings.{Judges-from, under-are, under-fault}
@@ -20,7 +19,7 @@ use Rattle.pl_fixed.proofs.SidLemmas.{sid_in-complete, sid_in-sound}
 use Rattle.pl_assets.specs.Assets.{Rule, asset_in, says_asset, rows_in, assets_of, sid_of, header}
 use Rattle.pl_assets.specs.Assets as rules
 use Rattle.pl_assets.specs.Rules.{IsAssetRecord, IsAsset, Breaks, order, AreAssetsOf, IsAssetsFault}
-use Rattle.pl_assets.proofs.AssetsRead.{says_asset-ok, sorted_from, OwnSids-read}
+use Rattle.pl_assets.proofs.AssetsRead.{says_asset-ok, OwnSids-read}
 
 -- ---- the fields
 
@@ -226,10 +225,13 @@ assets-are records assets = (there, back)
   where
     sorted : ((rows_in records >>= λ rows. Ok (sorted_by sid_of rows)) ≡ Ok assets) ↔ ((rows : List AssetRow) × (rows_in records ≡ Ok rows) × IsPermutation rows assets × AllPairs (λ a b. sid_of a < sid_of b) assets)
     sorted = sorted-are sid_of (rows_in records) assets (OwnSids-read records)
+
     under : (rows : List AssetRow) → (rows_in records ≡ Ok rows) ↔ AreRowsUnder header IsAsset records rows
     under rows = under-are header rules.BadHeader IsAsset Told says_asset assets_judged records rows
+
     there : assets_of records ≡ Ok assets → AreAssetsOf records assets
     there e = let it = sorted.0 e in record { rows = it.0; read = (under it.0).0 it.1; same = it.2; ascend = it.3 }
+
     back : AreAssetsOf records assets → assets_of records ≡ Ok assets
     back h = sorted.1 (h.rows, (under h.rows).1 h.read, h.same, h.ascend)
 
@@ -240,5 +242,6 @@ assets-fault records fault =
   where
     told : ((rows_in records >>= λ rows. Ok (sorted_by sid_of rows)) ≡ Err fault) ↔ (rows_in records ≡ Err fault)
     told = sorted-fault sid_of (rows_in records) fault
+
     under : (rows_under header rules.BadHeader says_asset records ≡ Err fault) ↔ IsAssetsFault records fault
     under = under-fault header rules.BadHeader IsAsset Told says_asset assets_judged records fault
