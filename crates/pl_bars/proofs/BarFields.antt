@@ -25,10 +25,13 @@ use Rattle.pl_bars.specs.Rules.{IsCellText, IsBarRecord, IsNegative}
 
 -- ---- a cell
 
+not_empty : (c : ℕ) (cs : List ℕ) → (length (c ∷ cs) == 0) ≡ false
+not_empty c cs = grind (arith, nat_tests)
+
 IsCellText-cell_in : (text : List ℕ) (v : ℤ) → cell_in text ≡ Some v → IsCellText text v
 unfolding cell_in
 IsCellText-cell_in [] v e = inl (refl, (let same : Some MISSING ≡ Some v = e in cc))
-IsCellText-cell_in (c ∷ cs) v e = inr ((read-value (c ∷ cs) v).0 (here (read (c ∷ cs)) e))
+IsCellText-cell_in (c ∷ cs) v e = inr ((read-value (c ∷ cs) v).0 (here (read (c ∷ cs)) (rw (not_empty c cs) at e)))
   where
     here : (x : Result ℤ DecimalFault) → result_ok x ≡ Some v → x ≡ Ok v
     here (Ok w) e = let same : Some w ≡ Some v = e in ap Ok (let it : w ≡ v = cc in it)
@@ -42,7 +45,7 @@ cell_in-IsCellText [] v (inr h) =
     let empty : read [] ≡ Err Empty = (read-empty []).1 refl in
     absurd (let bad : Err Empty ≡ Ok v = sym empty ∙ value in cc)
 cell_in-IsCellText (c ∷ cs) v (inl h) = absurd (let bad : c ∷ cs ≡ [] = h.0 in cc)
-cell_in-IsCellText (c ∷ cs) v (inr h) = rw ((read-value (c ∷ cs) v).1 h) refl
+cell_in-IsCellText (c ∷ cs) v (inr h) = rw (not_empty c cs, (read-value (c ∷ cs) v).1 h) refl
 
 missing-is : (v : ℤ) → v ≡ MISSING → is_missing v ≡ true
 missing-is v e = rw e refl

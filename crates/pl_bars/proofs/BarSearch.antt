@@ -13,6 +13,7 @@ use Rattle.pl_spec.specs.declared.Column.{Column}
 use Rattle.pl_spec.proofs.Places.{is_at as place_is, is_nowhere, nowhere}
 use Rattle.pl_bars.specs.Bars.{is_at, is_before, is_bar_cell, AreBars, cell_at, cell_of, place}
 use Rattle.pl_bars.specs.BarPoint.{BarPoint}
+use Rattle.pl_bars.proofs.BarSets.{same_default}
 
 -- ---- the order
 
@@ -93,11 +94,6 @@ not_here col session b h = here (is_at col session b) refl
     here : (t : Bool) → is_at col session b ≡ t → t ≡ false
     here true t = let p = at_parts col session b t in absurd (split h p.0 p.1)
     here false t = refl
-
-same_default : {A : Type 0} (xs : List A) (n : ℕ) (x y : A) → n < length xs → get_or xs n x ≡ get_or xs n y
-same_default [] n x y h = absurd (omega arith)
-same_default (z ∷ zs) zero x y h = refl
-same_default (z ∷ zs) (suc n) x y h = same_default zs n x y (omega arith)
 
 -- the bar at the point is taken
 pub point_taken : (col session : ℕ) (rows : List BarRow) (n : ℕ) (d : BarRow) → AreBars rows → n < length rows → BarPoint col session rows n

@@ -27,6 +27,12 @@ number_other a b ne = here (a == b) refl
     here true t = absurd (ne (same_number a b t))
     here false t = refl
 
+-- inside a list the default doesn't matter
+pub same_default : {A : Type 0} (xs : List A) (n : ℕ) (x y : A) → n < length xs → get_or xs n x ≡ get_or xs n y
+same_default [] n x y h = absurd (omega arith)
+same_default (z ∷ zs) zero x y h = refl
+same_default (z ∷ zs) (suc n) x y h = same_default zs n x y (omega arith)
+
 -- ---- columns and sessions have places of their own
 
 one_col : (n a b c d : ℕ) → b < n → d < n → a * n + b ≡ c * n + d → a ≡ c

@@ -51,16 +51,16 @@ same_cell assets Volume b = refl
 cells : (assets : List AssetRow) → AllPairs (λ a b. a.sid < b.sid) assets → (bars : List BarRow) → All (λ b. b.col < length assets) bars
     → (col : ℕ) (column : Column) (session : ℕ) → col < length assets
     → unwrap_or (option_map (cell_of column) (find (is_at col session) bars)) MISSING ≡ cell_in (map (bar_of assets) bars) (sid_at assets col) column session
-cells assets up [] inside col column session h = refl
-cells assets up (b ∷ bars) inside col column session h =
-    here (b.col == col && b.session == session) refl (cells assets up bars (λ k d l. inside (suc k) d (omega arith)) col column session h)
+cells assets up [] inside col which session h = refl
+cells assets up (b ∷ bars) inside col which session h =
+    here (b.col == col && b.session == session) refl (cells assets up bars (λ k d l. inside (suc k) d (omega arith)) col which session h)
   where
     same_test : (b.col == col && b.session == session) ≡ (sid_at assets b.col == sid_at assets col && b.session == session)
     same_test = ap (λ t. t && b.session == session) (same_col assets up b.col col (inside 0 b (omega arith)) h)
     here : (t : Bool) → (b.col == col && b.session == session) ≡ t
-        → unwrap_or (option_map (cell_of column) (find (is_at col session) bars)) MISSING ≡ cell_in (map (bar_of assets) bars) (sid_at assets col) column session
-        → unwrap_or (option_map (cell_of column) (find (is_at col session) (b ∷ bars))) MISSING ≡ cell_in (map (bar_of assets) (b ∷ bars)) (sid_at assets col) column session
-    here true t more = rw (t, sym same_test ∙ t) (same_cell assets column b)
+        → unwrap_or (option_map (cell_of which) (find (is_at col session) bars)) MISSING ≡ cell_in (map (bar_of assets) bars) (sid_at assets col) which session
+        → unwrap_or (option_map (cell_of which) (find (is_at col session) (b ∷ bars))) MISSING ≡ cell_in (map (bar_of assets) (b ∷ bars)) (sid_at assets col) which session
+    here true t more = rw (t, sym same_test ∙ t) (same_cell assets which b)
     here false t more = rw (t, sym same_test ∙ t) more
 
 pub cells_raw : CellsAreRaw

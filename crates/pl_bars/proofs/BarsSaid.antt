@@ -311,13 +311,12 @@ bars_judged days assets ud ua =
 -- ---- and of a file
 
 pub bars-are : (days : List ℤ) (assets : List AssetRow) → AreDays days → AreAssets assets → (records : List Record) (bars : List BarRow) → (bars_of days assets records ≡ Ok bars) ↔ AreBarsOf days assets records bars
-unfolding bars_of
+unfolding bars_of rows_in
 bars-are days assets ud ua records bars = (forth, back)
   where
     sorted : ((rows_in days assets records >>= λ rows. Ok (sorted_by key_of rows)) ≡ Ok bars) ↔ ((rows : List BarRow) × (rows_in days assets records ≡ Ok rows) × IsPermutation rows bars × AllPairs (λ a b. key_of a < key_of b) bars)
     sorted = sorted-are key_of (rows_in days assets records) bars (λ rows e. (AreKept-read days assets records rows ud.few e).own)
     under : (rows : List BarRow) → (rows_in days assets records ≡ Ok rows) ↔ AreRowsUnder header (IsBar days assets) records rows
-    unfolding rows_in
     under rows = under-are header rules.BadHeader (IsBar days assets) (Told days assets) (says_bar days assets) (bars_judged days assets ud ua) records rows
     small : (rows : List BarRow) → rows_in days assets records ≡ Ok rows → IsPermutation rows bars → All (λ b. b.session < 2 ^ 32) bars
     small rows e moved = All-permutation (λ (b : BarRow). b.session < 2 ^ 32) rows bars moved (AreKept-read days assets records rows ud.few e).small

@@ -3,4 +3,5 @@ pub mod BarsRead
 pub mod BarFields
 pub mod BarsSaid
 pub mod BarSearch
+pub mod BarFilling
 pub mod BarWorlds

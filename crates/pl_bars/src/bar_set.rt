@@ -1,5 +1,4 @@
 ghost use Rattle.std.specs.Prelude.{◌≡◌, ℕ, ◌+◌, ◌*◌, ◌<◌, ◌≤◌, ◌==◌, ◌&&◌, ◌||◌, [], length, IfOk, vec_len};
-ghost use Rattle.pl_bars.specs.BarSet.{has_bar, AreBarsIn};
 
 use std::alloc::{AllocError, Global};
 
@@ -9,10 +8,14 @@ pub(crate) struct BarSet {
     cols: usize,
     sessions: usize,
     words: Vec<u64>,
+    ghost few_cols: { cols ≤ 8_000 },
+    ghost few_sessions: { sessions ≤ 16_000 },
     ghost room: { cols * sessions ≤ 64 * vec_len words },
 }
 
 impl BarSet {
+    ghost use Rattle.pl_bars.specs.BarSet.{has_bar, AreBarsIn};
+
     /// No bars, of so many columns and sessions.
     pub(crate) fn new(alloc: Global, cols: usize, sessions: usize) -> Result<BarSet, AllocError>
         requires cols { cols ≤ 8_000 }
@@ -46,7 +49,7 @@ impl BarSet {
         ensures cols { self.new.cols ≡ self.old.cols }
         ensures sessions { self.new.sessions ≡ self.old.sessions }
         ensures bars { (c s : ℕ) → s < self.old.sessions
-            → has_bar self.new c s ≡ (has_bar self.old c s || (c == col && s == session)) }
+            → has_bar self.new c s ≡ (has_bar self.old c s || (col == c && session == s)) }
     {
         let place = col * self.sessions + session;
         self.words[place / 64] |= 1 << (place % 64);

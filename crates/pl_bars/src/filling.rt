@@ -1,4 +1,4 @@
-ghost use Rattle.std.specs.Prelude.{◌≡◌, ℕ, ◌+◌, ◌*◌, ◌^◌, ◌<◌, ◌≤◌, length, slice_index};
+ghost use Rattle.std.specs.Prelude.{◌≡◌, ℕ, ◌+◌, ◌*◌, ◌^◌, ◌<◌, ◌≤◌, length, pos, slice_index, slice_index_or};
 ghost use Rattle.pl_spec.specs.Rounding.{IsCell};
 ghost use Rattle.pl_bars.specs.Bars.{AreBars, cell_at};
 ghost use Rattle.pl_bars.specs.BarPoint.{BarPoint};
@@ -13,8 +13,8 @@ pub(crate) fn fill_assets(bars: &[BarRow], column: Column, first: usize, rows: u
     requires size { length into.old ≡ rows * length cols.now }
     requires range { first + rows ≤ 2 ^ 32 }
     ensures values { (i k : ℕ) → i < length cols.now → k < rows
-        → slice_index into.new (i * rows + k) ≡ cell_at bars.now (slice_index cols.now i) column (first + k) }
-    ensures cells { (i k : ℕ) → i < length cols.now → k < rows → IsCell (slice_index into.new (i * rows + k)) }
+        → slice_index_or into.new (i * rows + k) (pos 0) ≡ cell_at bars.now (slice_index cols.now i) column (first + k) }
+    ensures cells { (i k : ℕ) → i < length cols.now → k < rows → IsCell (slice_index_or into.new (i * rows + k) (pos 0)) }
 {
     for (i, col) in cols.iter().enumerate() {
         fill_asset(bars, *col as usize, column, first, &mut into[i * rows..(i + 1) * rows]);
@@ -25,8 +25,8 @@ pub(crate) fn fill_assets(bars: &[BarRow], column: Column, first: usize, rows: u
 fn fill_asset(bars: &[BarRow], col: usize, column: Column, first: usize, into: &mut [i64])
     requires bars { AreBars bars.now }
     requires range { first + length into.old ≤ 2 ^ 32 }
-    ensures values { (k : ℕ) → k < length into.old → slice_index into.new k ≡ cell_at bars.now col column (first + k) }
-    ensures cells { (k : ℕ) → k < length into.old → IsCell (slice_index into.new k) }
+    ensures values { (k : ℕ) → k < length into.old → slice_index_or into.new k (pos 0) ≡ cell_at bars.now col column (first + k) }
+    ensures cells { (k : ℕ) → k < length into.old → IsCell (slice_index_or into.new k (pos 0)) }
 {
     let mut at = point_of(bars, col, first);
     for k in 0..into.len() {

@@ -2,7 +2,7 @@
 //! assets, and by its session, a place among the sessions.
 #![tactic(auto)]
 
-ghost use Rattle.std.specs.Prelude.{◌≡◌, ℕ, ◌+◌, ◌*◌, ◌^◌, ◌<◌, ◌≤◌, length, slice_index, IfOk};
+ghost use Rattle.std.specs.Prelude.{◌≡◌, ℕ, ◌+◌, ◌*◌, ◌^◌, ◌<◌, ◌≤◌, length, pos, slice_index, slice_index_or, IfOk};
 ghost use Rattle.pl_spec.specs.Reading.{Answers};
 ghost use Rattle.pl_spec.specs.Rounding.{IsCell};
 ghost use Rattle.pl_records.specs.Records.{csv_records};
@@ -76,8 +76,8 @@ impl Bars {
         requires size { length into.old ≡ rows * length cols.now }
         requires range { first + rows ≤ 2 ^ 32 }
         ensures values { (i k : ℕ) → i < length cols.now → k < rows
-            → slice_index into.new (i * rows + k) ≡ cell_at self.now (slice_index cols.now i) column (first + k) }
-        ensures cells { (i k : ℕ) → i < length cols.now → k < rows → IsCell (slice_index into.new (i * rows + k)) }
+            → slice_index_or into.new (i * rows + k) (pos 0) ≡ cell_at self.now (slice_index cols.now i) column (first + k) }
+        ensures cells { (i k : ℕ) → i < length cols.now → k < rows → IsCell (slice_index_or into.new (i * rows + k) (pos 0)) }
     {
         filling::fill_assets(&self.rows, column, first, rows, cols, into)
     }

@@ -25,6 +25,10 @@ returns-then-has_negative-clause-exact c =
 
 pub returns-then-contains-clause-exact : goal.returns-then-contains-clause-exact
 returns-then-contains-clause-exact c =
+    let col_in : c.in-Some-col_of.col < length c.args.assets.now = c.in-Some-col_of.ensures.within in
+    let session_in : c.in-Some-index_of.session < length c.args.sessions.now = c.in-Some-index_of.ensures.within in
+    let inside : c.in-Some-col_of.col < c.args.seen.now.cols = omega arith in
+    let within : c.in-Some-index_of.session < c.args.seen.now.sessions = omega arith in
     let fits : FitsSigned w32 c.in-Some.fields.day = search rules in
     let session = simp to_z-of_z at c.index_of.ensures.exact in
-    told _ _ _ _ (duplicate c.args.sessions.now c.args.assets.now c.args.before.now c.args.row.now.fields c.in-Some.fields c.in-Some-index_of.session c.in-Some-col_of.col c.if-before-ge-MOST_BARS.false (sym c.fields_of.ensures ∙ c.in-Some.is) (sym session ∙ c.in-Some-index_of.is) (sym c.col_of.ensures.exact ∙ c.in-Some-col_of.is) (sym c.has_negative.ensures ∙ c.if-has_negative.false) (sym c.contains.ensures ∙ c.if-contains.true)) (omega arith)
+    told _ _ _ _ (duplicate c.args.sessions.now c.args.assets.now c.args.before.now c.args.row.now.fields c.in-Some.fields c.in-Some-index_of.session c.in-Some-col_of.col c.if-before-ge-MOST_BARS.false (sym c.fields_of.ensures ∙ c.in-Some.is) (sym session ∙ c.in-Some-index_of.is) (sym c.col_of.ensures.exact ∙ c.in-Some-col_of.is) (sym c.has_negative.ensures ∙ c.if-has_negative.false) (sym (c.requires.seen.each c.in-Some-col_of.col c.in-Some-index_of.session inside within) ∙ sym c.contains.ensures ∙ c.if-contains.true)) (omega arith)
