@@ -14,5 +14,4 @@ pub fn assets_in_plain_words()
     ensures record { Judges IsAsset (λ before r. BreaksFirst order (Breaks before r)) says_asset }
     ensures assets { (records : List Record) (assets : List AssetRow) → (assets_of records ≡ Ok assets) ↔ AreAssetsOf records assets }
     ensures fault { (records : List Record) (fault : Fault Rule) → (assets_of records ≡ Err fault) ↔ IsAssetsFault records fault }
-{
-}
+{}

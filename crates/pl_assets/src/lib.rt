@@ -18,7 +18,6 @@ mod tests;
 
 pub use error::AssetsError;
 pub use pl_spec::AssetRow;
-
 use std::alloc::Global;
 use std::marker::Model;
 
@@ -32,8 +31,11 @@ impl Model for Assets {
     ghost use Rattle.std.specs.Prelude.{List};
     ghost use Rattle.pl_spec.specs.declared.AssetRow.{AssetRow};
     ghost use Rattle.pl_assets.specs.Assets.{AreAssets};
+
     ghost Value = { List AssetRow };
+
     ghost view = { λ a. a.rows.items };
+
     ghost invariant = { λ a. AreAssets a.rows.items };
 }
 

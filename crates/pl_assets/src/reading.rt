@@ -59,7 +59,11 @@ fn rows_behind(alloc: Global, records: &mut Records) -> Result<Vec<AssetRow>, As
 
 // The asset of the record that was read last, behind the assets before it, whose sids are given.
 #[tactic(auto, unfolding(crate::specs::Assets::says_asset))]
-fn next_asset(before: &[AssetRow], sids: &mut HashSet<u32>, row: &Records) -> Result<AssetRow, AssetsError>
+fn next_asset(
+    before: &[AssetRow],
+    sids: &mut HashSet<u32>,
+    row: &Records,
+) -> Result<AssetRow, AssetsError>
     requires few { length before.now ≤ 8_000 }
     requires sids { AreSids sids.old before.now }
     ensures room { OnOk result (length before.now < 8_000) }

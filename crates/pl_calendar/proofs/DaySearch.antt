@@ -1,6 +1,6 @@
 -- Places in days that ascend.
-use Rattle.std.proofs.Common.{◌≡◌, ℕ, ◌<◌, ◌≤◌, Bool, true, false, not, ℤ, ◌<ℤ◌, ◌≤ℤ◌, List, length, get_or, Option, Some, None, refl, sym, ◌∙◌, ap, arith, nat_lt, inl, inr}
-use Rattle.std.specs.List.{position, position_or_len, AllPairs}
+use Rattle.std.proofs.Common.{◌≡◌, ℕ, ◌<◌, ◌≤◌, true, false, not, ℤ, ◌<ℤ◌, ◌≤ℤ◌, List, length, get_or, Some, None, refl, sym, ◌∙◌, ap, arith, nat_lt, inl, inr}
+use Rattle.std.specs.List.{position, position_or_len}
 use Rattle.std.specs.List.Sorted.{IsPartitionPoint, IsPartitionedBy}
 use Rattle.std.specs.Int.RustNames.{int_lt, int_le}
 use Rattle.std.specs.Ordering.{int_eq}

@@ -1,11 +1,11 @@
 -- What a record says of its day, in plain words.
-use Rattle.std.proofs.Common.{◌≡◌, ◌⊎◌, ℕ, zero, suc, ◌<◌, ◌≤◌, ◌↔◌, ◌==◌, nat_le, Bool, true, false, if◌then◌else◌, ℤ, ◌<ℤ◌, ◌≤ℤ◌, List, [], ◌∷◌, length, Option, Some, None, option_map, unwrap_or, Result, Ok, Err, refl, sym, ◌∙◌, ap, arith, inl, inr}
+use Rattle.std.proofs.Common.{◌≡◌, ℕ, zero, suc, ◌<◌, ◌≤◌, ◌↔◌, ◌==◌, nat_le, Bool, true, false, if◌then◌else◌, ℤ, ◌<ℤ◌, ◌≤ℤ◌, List, [], ◌∷◌, length, Option, Some, None, option_map, unwrap_or, Result, Ok, Err, refl, sym, ◌∙◌, arith, inl, inr}
 use Rattle.std.specs.Int.RustNames.{int_lt}
 use Rattle.std.specs.Option.{ok_or}
 use Rattle.std.proofs.lemmas.Int.{ints}
 use Rattle.std.proofs.lemmas.Bool.Decides.{nat_tests}
 use Rattle.pl_spec.specs.Reading.{Record, Fault, field, ◌>>=◌, rows_of, AreRows, BreaksFirst, IsFirstFault, Judges}
-use Rattle.pl_spec.specs.Dates.{IsDate, date_in}
+use Rattle.pl_spec.specs.Dates.{date_in}
 use Rattle.pl_spec.proofs.Readings.{Judges-from, rows-are, fault-is}
 use Rattle.pl_spec.proofs.DatesRead.{date_in-IsDate, IsDate-date_in}
 use Rattle.pl_calendar.specs.Days.{Rule, day_in, last_of, is_later, says_day, sessions_of}

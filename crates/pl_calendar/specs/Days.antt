@@ -1,5 +1,5 @@
 -- The days of the records of a sessions file, and the first rule that a record breaks.
-use Rattle.std.specs.Prelude.{◌≡◌, ◌-◌, ◌==◌, ◌<◌, ◌≤◌, nat_le, Bool, true, if◌then◌else◌, ℤ, ◌<ℤ◌, List, [], ◌∷◌, length, slice_get, All, AllPairs, Option, Some, None, option_map, unwrap_or, Result, Ok, Err}
+use Rattle.std.specs.Prelude.{◌-◌, ◌==◌, ◌<◌, ◌≤◌, nat_le, Bool, true, if◌then◌else◌, ℤ, ◌<ℤ◌, List, [], ◌∷◌, length, slice_get, All, AllPairs, Option, None, option_map, unwrap_or, Result, Ok, Err}
 use Rattle.std.specs.Int.RustNames.{int_lt}
 use Rattle.std.specs.Option.{ok_or}
 use Rattle.pl_spec.specs.Reading.{Record, Fault, field, ◌>>=◌, rows_of}

@@ -1,6 +1,5 @@
-use Rattle.std.proofs.Common.{◌≡◌, ◌∙◌, ap, position, FitsSigned, w32}
+use Rattle.std.proofs.Common.{◌∙◌, ap, position, FitsSigned, w32}
 use Rattle.std.specs.Int.RustNames.{int_le}
-use Rattle.std.specs.Ordering.{int_eq}
 use Rattle.std.proofs.lemmas.Int.{to_z-of_z}
 use Rattle.pl_calendar.proofs.Sessions.first_at_or_after.Goals as goal
 

@@ -1,5 +1,4 @@
-use Rattle.std.proofs.Common.{rules, get_or, ◌≡◌, ◌∙◌, sym, refl, pos, position, Some, None, FitsSigned, w32, ℤ}
-use Rattle.std.specs.Int.RustNames.{int_le}
+use Rattle.std.proofs.Common.{rules, get_or, ◌∙◌, sym, pos, FitsSigned, w32}
 use Rattle.std.proofs.lemmas.Int.{to_z-of_z}
 use Rattle.pl_calendar.proofs.DaySearch.{found_index, found_other, found_nowhere}
 use Rattle.pl_calendar.proofs.search.index_of.Goals as goal
