@@ -53,9 +53,12 @@ pub trait AdjustKeeper {
         ensures keeps { lists self.new ≡ lists self.old }
         ensures stays { sound self.new ≡ sound self.old };
 
+    // A sound keeper tells.
     ghost sound_tells: { (keeper : Self) → IsTrue (sound keeper) → IsSome (lists keeper) };
 
-    ghost lists_ascend: { (keeper : Self) → ForSome (lists keeper) (λ lists. (name : List ℕ) (table : Table) → IsAscending (lists name table)) };
+    // Each list that is told is in ascending id.
+    ghost lists_ascend: { (keeper : Self)
+        → ForSome (lists keeper) (λ lists. (name : List ℕ) (table : Table) → IsAscending (lists name table)) };
 }
 
 /// A keeper of nothing, which tells nothing: each load is a fault.

@@ -27,11 +27,11 @@ impl Model for MemoryShelf {
 
     ghost Value = { ShelfState };
 
-    ghost use Rattle.pl_outside.specs.MemoryShelf.{state_of, IsReadingWithin};
+    ghost use Rattle.pl_outside.specs.MemoryShelf.{state_of, IsReading};
 
     ghost view = { state_of };
 
-    ghost invariant = { IsReadingWithin };
+    ghost invariant = { IsReading };
 }
 
 impl MemoryShelf {
