@@ -1,15 +1,15 @@
 -- Each day from 1900-01-01 to 2199-12-31 has one date, and its text is that of the day.
-use Rattle.std.proofs.Common.{◌≡◌, ℕ, zero, suc, ◌+◌, ◌-◌, ◌*◌, ◌/◌, ◌<◌, ◌≤◌, ◌⊎◌, inl, inr, Bool, true, false, cond, List, length, map, filter, sum, ℤ, pos, neg_ℤ, ◌+ℤ◌, ◌-ℤ◌, ◌≤ℤ◌, ◌<ℤ◌, unsigned_abs, refl, sym, ◌∙◌, ap, add-one, arith}
+use Rattle.std.proofs.Common.{◌≡◌, ℕ, zero, suc, ◌+◌, ◌-◌, ◌*◌, ◌/◌, ◌<◌, ◌≤◌, inl, inr, Bool, true, false, List, length, map, filter, sum, ℤ, pos, ◌+ℤ◌, ◌-ℤ◌, ◌≤ℤ◌, ◌<ℤ◌, unsigned_abs, refl, sym, ◌∙◌, ap, add-one, arith}
 use Rattle.std.specs.List.{range_with_len}
 use Rattle.std.specs.Int.RustNames.{int_le}
 use Rattle.std.proofs.lemmas.Int.{ints}
 use Rattle.std.proofs.lemmas.Bool.{cases_lt}
 use Rattle.std.proofs.lemmas.List.FromFn.{sum_by-map-range_with_len_more}
-use Rattle.jiff_core.specs.Calendar.{IsCivilDate, days_in_month, days_in_year, days_of_months, day_count, days_from_civil}
-use Rattle.jiff_core.proofs.CalendarLemmas.{day_count-epoch, day_count-day_of_year, day_count-later_year, day_count-lt_year, day_count-lt_month, day_count-day, day_count-next_month, day_count-next_year, days_of_months_all, days_of_months_mono, days_of_months-zero}
+use Rattle.jiff_core.specs.Calendar.{IsCivilDate, days_in_month, days_of_months, day_count, days_from_civil}
+use Rattle.jiff_core.proofs.CalendarLemmas.{day_count-epoch, day_count-day_of_year, day_count-later_year, day_count-lt_year, day_count-lt_month, day_count-day, day_count-next_month, day_count-next_year, days_of_months_all, days_of_months_mono}
 use Rattle.jiff_core.proofs.MarchLemmas.{day_count-early}
 use Rattle.jiff_core.proofs.SignedLemmas.{unsigned_abs-parts}
-use Rattle.pl_spec.specs.Dates.{IsDate, IsDay, date_spelling, days_before_year, days_before_month, day_number, year_of, month_of, date_text}
+use Rattle.pl_spec.specs.Dates.{IsDate, IsDay, date_spelling, days_before_year, day_number, year_of, month_of, date_text}
 
 -- ---- the day of a date, as the calendar of jiff counts it
 
@@ -191,7 +191,11 @@ HasDate-month z y m early late from to low high =
     let d : ℕ = suc (z - day_count (pos y) m 1) in
     let few : d ≤ days_in_month (pos y) m = omega arith in
     record {
-      year = y; month = m; date = d; early = early; late = late;
+      year = y;
+      month = m;
+      date = d;
+      early = early;
+      late = late;
       civil = ((omega (arith, ints), omega (arith, ints)), (from, to), (omega arith, few));
       counted = omega (arith, day_count-day (pos y) m d 1 (omega arith) (omega arith));
     }
@@ -218,13 +222,25 @@ IsDate-count : (day : ℤ) (n : ℕ) → day +ℤ pos 4371953 ≡ pos n → (r :
 IsDate-count day n e r =
     let count = count_days r.year r.month r.date in
     record {
-      year = r.year; month = r.month; date = r.date; early = r.early; late = r.late; civil = r.civil; spelled = refl;
+      year = r.year;
+      month = r.month;
+      date = r.date;
+      early = r.early;
+      late = r.late;
+      civil = r.civil;
+      spelled = refl;
       counted = omega (arith, ints, r.counted);
     }
 
 computed : (text : List ℕ) (day : ℤ) → IsDate text day → IsDate (date_text day) day
 computed text day h = record {
-  year = h.year; month = h.month; date = h.date; early = h.early; late = h.late; civil = h.civil; counted = h.counted;
+  year = h.year;
+  month = h.month;
+  date = h.date;
+  early = h.early;
+  late = h.late;
+  civil = h.civil;
+  counted = h.counted;
   spelled = sym (date_text-IsDate text day h) ∙ h.spelled;
 }
 
