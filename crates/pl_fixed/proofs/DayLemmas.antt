@@ -1,5 +1,5 @@
 -- The years of days, and the ten bytes of a date.
-use Rattle.std.proofs.Common.{◌≡◌, ℕ, List, ◌∷◌, [], length, get_or, ◌+◌, ◌*◌, ◌/◌, ◌%◌, ◌<◌, pos, neg_ℤ, ◌≤ℤ◌, refl, sym, ◌∙◌, arith}
+use Rattle.std.proofs.Common.{◌≡◌, ℕ, List, length, get_or, ◌+◌, ◌*◌, ◌/◌, ◌%◌, ◌<◌, pos, neg_ℤ, ◌≤ℤ◌, refl, arith}
 use Rattle.std.proofs.lemmas.Int.{ints, by_lt_z}
 use Rattle.std.proofs.lemmas.Slice.Eq.{text_from_reads}
 use Rattle.jiff_core.specs.declared.civil.date.Date.{Date}
@@ -25,18 +25,18 @@ pub year_early : (d : Date) → neg_ℤ (pos 25_567) ≤ℤ epoch_day d → pos 
 year_early d h =
     by_lt_z d.year (pos 1900)
     (λ before.
-      let count = days_from_civil-day_count d.year d.month d.day in
-      let less = day_count-lt_year d.year d.month d.day (pos 1900) 1 1 (civil d) (omega arith) before in
-      absurd (omega (arith, ints, day_count-first)))
+    let count = days_from_civil-day_count d.year d.month d.day in
+    let less = day_count-lt_year d.year d.month d.day (pos 1900) 1 1 (civil d) (omega arith) before in
+    absurd (omega (arith, ints, day_count-first)))
     (λ after. after)
 
 pub year_late : (d : Date) → epoch_day d ≤ℤ pos 84_005 → d.year ≤ℤ pos 2199
 year_late d h =
     by_lt_z (pos 2199) d.year
     (λ after.
-      let count = days_from_civil-day_count d.year d.month d.day in
-      let more = day_count-lt_year (pos 2199) 12 31 d.year d.month d.day last_civil d.day_in.0 after in
-      absurd (omega (arith, ints, day_count-last)))
+    let count = days_from_civil-day_count d.year d.month d.day in
+    let more = day_count-lt_year (pos 2199) 12 31 d.year d.month d.day last_civil d.day_in.0 after in
+    absurd (omega (arith, ints, day_count-last)))
     (λ before. before)
 
 -- ten bytes that hold the digits of a date and its dashes are its spelling

@@ -100,10 +100,10 @@ found_front negative bs true e = inl refl
 found_front negative bs false e = elim (found_fraction negative (front_digits bs) (drop (length (front_digits bs)) bs)) [
   | inl h ↦ inl h
   | inr h ↦ inr (
-      decimal_of negative (front_digits bs) h.0,
-      record { whole = (not_none bs e, AllDigits-front bs); fraction = h.1; spelled = front_spelled negative bs h.0 h.2 },
-      h.3,
-    )
+    decimal_of negative (front_digits bs) h.0,
+    record { whole = (not_none bs e, AllDigits-front bs); fraction = h.1; spelled = front_spelled negative bs h.0 h.2 },
+    h.3,
+  )
 ]
 
 found_unsigned : (negative : Bool) (bs : List ℕ) → IsAnswer (sign_text negative ++ bs) (unsigned_read negative bs)

@@ -21,7 +21,8 @@ pub leading_zero : (bs : List ℕ) (n : ℕ) → n < 2 ^ 32 → bs ≡ decimal n
 leading_zero bs zero small e z = rw e (ap length (decimal_digit 0 (omega arith)))
 leading_zero bs (suc n) small e z = absurd (omega (arith, first_decimal (suc n) (omega arith) (omega arith), rw e at z))
 
-pub decimal-value_of : (bs : List ℕ) → AllDigits 10 bs → 0 < length bs → (get_or bs 0 0 ≡ 48 → length bs ≡ 1) → digits_value 10 bs < 2 ^ 64 → decimal (digits_value 10 bs) ≡ bs
+pub decimal-value_of : (bs : List ℕ) → AllDigits 10 bs → 0 < length bs → (get_or bs 0 0 ≡ 48 → length bs ≡ 1)
+    → digits_value 10 bs < 2 ^ 64 → decimal (digits_value 10 bs) ≡ bs
 decimal-value_of bs digits some lead small =
     decimal-digits_value (numerals_by_value (AllDigits 10) tells_digits) bs digits some lead small
 

@@ -1,15 +1,15 @@
 -- Each day from 1900-01-01 to 2199-12-31 has one date, and its text is that of the day.
-use Rattle.std.proofs.Common.{◌≡◌, ℕ, zero, suc, ◌+◌, ◌-◌, ◌*◌, ◌/◌, ◌<◌, ◌≤◌, ◌⊎◌, inl, inr, Bool, true, false, cond, List, length, map, filter, sum, ℤ, pos, neg_ℤ, ◌+ℤ◌, ◌-ℤ◌, ◌≤ℤ◌, ◌<ℤ◌, unsigned_abs, refl, sym, ◌∙◌, ap, add-one, arith}
+use Rattle.std.proofs.Common.{◌≡◌, ℕ, zero, suc, ◌+◌, ◌-◌, ◌*◌, ◌/◌, ◌<◌, ◌≤◌, inl, inr, Bool, true, false, List, length, map, filter, sum, ℤ, pos, ◌+ℤ◌, ◌-ℤ◌, ◌≤ℤ◌, ◌<ℤ◌, unsigned_abs, refl, sym, ◌∙◌, ap, add-one, arith}
 use Rattle.std.specs.List.{range_with_len}
 use Rattle.std.specs.Int.RustNames.{int_le}
 use Rattle.std.proofs.lemmas.Int.{ints}
 use Rattle.std.proofs.lemmas.Bool.{cases_lt}
 use Rattle.std.proofs.lemmas.List.FromFn.{sum_by-map-range_with_len_more}
-use Rattle.jiff_core.specs.Calendar.{IsCivilDate, days_in_month, days_in_year, days_of_months, day_count, days_from_civil}
-use Rattle.jiff_core.proofs.CalendarLemmas.{day_count-epoch, day_count-day_of_year, day_count-later_year, day_count-lt_year, day_count-lt_month, day_count-day, day_count-next_month, day_count-next_year, days_of_months_all, days_of_months_mono, days_of_months-zero}
+use Rattle.jiff_core.specs.Calendar.{IsCivilDate, days_in_month, days_of_months, day_count, days_from_civil}
+use Rattle.jiff_core.proofs.CalendarLemmas.{day_count-epoch, day_count-day_of_year, day_count-later_year, day_count-lt_year, day_count-lt_month, day_count-day, day_count-next_month, day_count-next_year, days_of_months_all, days_of_months_mono}
 use Rattle.jiff_core.proofs.MarchLemmas.{day_count-early}
 use Rattle.jiff_core.proofs.SignedLemmas.{unsigned_abs-parts}
-use Rattle.pl_spec.specs.Dates.{IsDate, IsDay, date_spelling, days_before_year, days_before_month, day_number, year_of, month_of, date_text}
+use Rattle.pl_spec.specs.Dates.{IsDate, IsDay, date_spelling, days_before_year, day_number, year_of, month_of, date_text}
 
 -- ---- the day of a date, as the calendar of jiff counts it
 

@@ -4,7 +4,8 @@ use Rattle.pl_spec.specs.Dates.{IsDate, IsDay, date_in, date_text}
 
 -- a text is read as a day exactly where it is the date of that day
 abbrev pub DatesAreRead : Type 0
-DatesAreRead = (text : List ℕ) (day : ℤ) → (IsDate text day → date_in text ≡ Some day) × (date_in text ≡ Some day → IsDate text day)
+DatesAreRead = (text : List ℕ) (day : ℤ)
+    → (IsDate text day → date_in text ≡ Some day) × (date_in text ≡ Some day → IsDate text day)
 
 -- the text of a day is its date
 abbrev pub DatesAreWritten : Type 0
