@@ -37,7 +37,7 @@ impl From<AllocError> for ReadError {
 }
 
 // how many bytes are asked for at once
-const PIECE: usize = 4096;
+const PIECE: usize = 65_536;
 
 /// The whole bytes of the named file, if there are at most `cap`. `TooLong` comes where `cap + 1` bytes were given. It
 /// makes at most `cap + 2` calls of the shelf.

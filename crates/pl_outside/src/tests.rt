@@ -14,10 +14,10 @@ fn text(alloc: Global, len: usize) -> Result<Vec<u8>, AllocError> {
     Ok(text)
 }
 
-/// A shelf with the file `whole` of 10,000 bytes, which are three pieces, and the empty file `empty`.
+/// A shelf with the file `whole` of 150,000 bytes, which are three pieces, and the empty file `empty`.
 fn shelf(alloc: Global, failing: Vec<u64>) -> Result<MemoryShelf, Fail> {
     let mut shelf = MemoryShelf::new(alloc, failing);
-    shelf.put(String::from_str(alloc, "whole")?, text(alloc, 10_000)?)?;
+    shelf.put(String::from_str(alloc, "whole")?, text(alloc, 150_000)?)?;
     shelf.put(String::from_str(alloc, "empty")?, Vec::new(alloc))?;
     Ok(shelf)
 }
@@ -27,13 +27,13 @@ fn reads_files(rt: HostRuntime) -> Result<(), Fail> {
     let alloc = rt.alloc();
     let mut shelf = shelf(alloc, Vec::new(alloc))?;
     for (name, cap, answer) in [
-        ("whole", 10_000, Ok(10_000)),
-        ("whole", 20_000, Ok(10_000)),
-        ("whole", 9_999, Err(ReadError::TooLong)),
+        ("whole", 150_000, Ok(150_000)),
+        ("whole", 200_000, Ok(150_000)),
+        ("whole", 149_999, Err(ReadError::TooLong)),
         ("whole", 0, Err(ReadError::TooLong)),
         ("empty", 0, Ok(0)),
-        ("none", 10_000, Err(ReadError::Failed)),
-        ("whole", 4_096, Err(ReadError::TooLong)),
+        ("none", 150_000, Err(ReadError::Failed)),
+        ("whole", 65_536, Err(ReadError::TooLong)),
     ] {
         let read = read_file(alloc, &mut shelf, name, cap).map(|bytes| bytes.len());
         assert_eq!(rt; read, answer, "{name} {cap}");
@@ -46,14 +46,14 @@ fn reads_files(rt: HostRuntime) -> Result<(), Fail> {
 
 /// What a read of the file `whole` answers, and whether the bytes are right where it answers them.
 fn read_whole(alloc: Global, shelf: &mut MemoryShelf, bytes: &[u8]) -> Result<bool, ReadError> {
-    let read = read_file(alloc, shelf, "whole", 10_000)?;
+    let read = read_file(alloc, shelf, "whole", 150_000)?;
     Ok(read.as_slice() == bytes)
 }
 
 #[test]
 fn reads_after_failures(rt: HostRuntime) -> Result<(), Fail> {
     let alloc = rt.alloc();
-    let bytes = text(alloc, 10_000)?;
+    let bytes = text(alloc, 150_000)?;
     // a read is one beginning, three pieces and the end
     for number in 1..=10 {
         let mut shelf = shelf(alloc, vec![in alloc; number]?)?;
