@@ -16,8 +16,8 @@ use Rattle.pl_spec.proofs.DatesRead.{date_in-IsDate, IsDate-date_in}
 use Rattle.pl_fixed.specs.declared.decimal.DecimalFault.{DecimalFault}
 use Rattle.pl_fixed.specs.declared.decimal.DecimalFault.TheVariants.{Empty}
 use Rattle.pl_fixed.specs.Reading.{read}
-use Rattle.pl_fixed.proofs.SidLemmas.{sid_in-complete, sid_in-sound}
-use Rattle.pl_fixed.proofs.DecimalLemmas.{read-empty, read-value}
+use Rattle.pl_spec.proofs.SidsRead.{sid_in-decimal, decimal-sid_in}
+use Rattle.pl_fixed.proofs.ReadingLemmas.{read-empty, read-value}
 use Rattle.pl_bars.specs.declared.fields.Fields.{Fields}
 use Rattle.pl_bars.specs.Bars.{cell_in, cells_in, fields_in, is_negative, is_bar_cell}
 use Rattle.pl_bars.specs.Rules.{IsCellText, IsBarRecord, IsNegative}
@@ -140,7 +140,7 @@ IsBarRecord-fields_in r f e = here (length r == 7) refl e
         let s = and_then_some (sid_in (field r 0)) _ f e in
         let d = and_then_some (date_in (field r 1)) _ f s.2 in
         let c = map_some (cells_in r) (λ cells. record { sid = s.0; day = d.0; cells = cells }) f d.2 in
-        let n = sid_in-sound (field r 0) s.0 s.1 in
+        let n = decimal-sid_in (field r 0) s.0 s.1 in
         let texts = AreCellTexts-cells_in r c.0 c.1 in
         rw (← c.2) record {
           seven = grind (arith, nat_tests);
@@ -156,7 +156,7 @@ unfolding fields_in
 fields_in-IsBarRecord r f h =
     let seven : length r ≡ 7 = h.seven in
     let t : (length r == 7) ≡ true = grind (arith, nat_tests) in
-    rw (t, sid_in-complete (field r 0) f.sid h.small h.sid, date_in-IsDate (field r 1) f.day h.day, cells_in-AreCellTexts r f.cells h.five h.cells) refl
+    rw (t, sid_in-decimal (field r 0) f.sid h.small h.sid, date_in-IsDate (field r 1) f.day h.day, cells_in-AreCellTexts r f.cells h.five h.cells) refl
 
 pub no_record : (r : Record) → fields_in r ≡ None → (f : Fields) → IsBarRecord r f → ⊥
 no_record r e f h = let found : fields_in r ≡ Some f = fields_in-IsBarRecord r f h in let bad : None ≡ Some f = sym e ∙ found in cc
