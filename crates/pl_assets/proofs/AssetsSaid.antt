@@ -15,7 +15,7 @@ use Rattle.pl_spec.specs.declared.AssetRow.{AssetRow}
 use Rattle.pl_spec.proofs.Readings.{Judges-from, under-are, under-fault}
 use Rattle.pl_spec.proofs.Sorts.{sorted-are, sorted-fault}
 use Rattle.pl_spec.proofs.DatesRead.{date_in-IsDate, IsDate-date_in}
-use Rattle.pl_fixed.proofs.SidLemmas.{sid_in-complete, sid_in-sound}
+use Rattle.pl_spec.proofs.SidsRead.{sid_in-decimal, decimal-sid_in}
 use Rattle.pl_assets.specs.Assets.{Rule, asset_in, says_asset, rows_in, assets_of, sid_of, header}
 use Rattle.pl_assets.specs.Assets as rules
 use Rattle.pl_assets.specs.Rules.{IsAssetRecord, IsAsset, Breaks, order, AreAssetsOf, IsAssetsFault}
@@ -46,7 +46,7 @@ IsAssetRecord-asset_in r a e = here (length r == 3) refl e
         let s = and_then_some (sid_in (field r 0)) _ a e in
         let d = and_then_some (date_in (field r 1)) _ a s.2 in
         let f = map_some (date_in (field r 2)) (λ end. record { sid = s.0; start = d.0; end = end }) a d.2 in
-        let n = sid_in-sound (field r 0) s.0 s.1 in
+        let n = decimal-sid_in (field r 0) s.0 s.1 in
         rw (← f.2) record {
           three = grind (arith, nat_tests);
           small = n.0;
@@ -59,7 +59,7 @@ asset_in-IsAssetRecord : (r : Record) (a : AssetRow) → IsAssetRecord r a → a
 asset_in-IsAssetRecord r a h =
     let three : length r ≡ 3 = h.three in
     let t : (length r == 3) ≡ true = grind (arith, nat_tests) in
-    rw (t, sid_in-complete (field r 0) a.sid h.small h.sid, date_in-IsDate (field r 1) a.start h.start, date_in-IsDate (field r 2) a.end h.end) refl
+    rw (t, sid_in-decimal (field r 0) a.sid h.small h.sid, date_in-IsDate (field r 1) a.start h.start, date_in-IsDate (field r 2) a.end h.end) refl
 
 no_record : (r : Record) → asset_in r ≡ None → (a : AssetRow) → IsAssetRecord r a → ⊥
 no_record r e a h = let found : asset_in r ≡ Some a = asset_in-IsAssetRecord r a h in let bad : None ≡ Some a = sym e ∙ found in cc

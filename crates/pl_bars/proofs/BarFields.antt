@@ -1,24 +1,23 @@
 -- The fields of a record, in plain words.
-use Rattle.std.proofs.Common.{◌≡◌, ◌≢◌, ◌⊎◌, ℕ, zero, suc, ◌+◌, ◌^◌, ◌==◌, ◌<◌, ◌≤◌, ◌&&◌, ◌||◌, not, nat_le, IsTrue, Bool, true, false, List, [], ◌∷◌, length, get_or, All, Option, Some, None, option_map, option_and_then, Result, Ok, Err, refl, ap, sym, ◌∙◌, ℤ, pos, ◌<ℤ◌, arith, inl, inr}
+use Rattle.std.proofs.Common.{◌≡◌, ℕ, zero, suc, ◌+◌, ◌==◌, ◌≤◌, ◌&&◌, not, nat_le, IsTrue, Bool, true, false, List, [], ◌∷◌, length, get_or, All, Option, Some, None, option_map, option_and_then, Result, Ok, Err, refl, ap, subst, sym, ◌∙◌, ℤ, pos, ◌<ℤ◌, arith, inl, inr}
 use Rattle.std.specs.List.{list_any, slice_get}
 use Rattle.std.specs.Result.{result_ok}
 use Rattle.std.specs.Int.RustNames.{int_lt, int_le, unsigned_abs}
-use Rattle.std.specs.Ordering.{int_eq}
 use Rattle.std.specs.Bool.{if◌then◌else◌}
 use Rattle.std.proofs.lemmas.Int.{ints}
 use Rattle.std.proofs.lemmas.Bool.Decides.{nat_tests}
 use Rattle.std.proofs.lemmas.List.Folds.{list_any_at}
 use Rattle.std.proofs.lemmas.Option.{slice_get-get_or}
 use Rattle.pl_spec.specs.Reading.{Record, field}
-use Rattle.pl_spec.specs.Rounding.{MISSING, LIMIT, is_missing, IsCell}
-use Rattle.pl_spec.specs.Dates.{IsDate, date_in}
-use Rattle.pl_spec.specs.Decimals.{Decimal, IsDecimal, IsReadAs, sid_in}
+use Rattle.pl_spec.specs.Rounding.{MISSING, LIMIT, is_missing}
+use Rattle.pl_spec.specs.Dates.{date_in}
+use Rattle.pl_spec.specs.Decimals.{sid_in}
 use Rattle.pl_spec.proofs.DatesRead.{date_in-IsDate, IsDate-date_in}
 use Rattle.pl_fixed.specs.declared.decimal.DecimalFault.{DecimalFault}
 use Rattle.pl_fixed.specs.declared.decimal.DecimalFault.TheVariants.{Empty}
 use Rattle.pl_fixed.specs.Reading.{read}
-use Rattle.pl_fixed.proofs.SidLemmas.{sid_in-complete, sid_in-sound}
-use Rattle.pl_fixed.proofs.DecimalLemmas.{read-empty, read-value}
+use Rattle.pl_spec.proofs.SidsRead.{sid_in-decimal, decimal-sid_in}
+use Rattle.pl_fixed.proofs.ReadingLemmas.{read-empty, read-value}
 use Rattle.pl_bars.specs.declared.fields.Fields.{Fields}
 use Rattle.pl_bars.specs.Bars.{cell_in, cells_in, fields_in, is_negative, is_bar_cell}
 use Rattle.pl_bars.specs.Rules.{IsCellText, IsBarRecord, IsNegative}
@@ -62,9 +61,11 @@ IsCellText-bar_cell text v h t = here (is_missing v) refl
     at_least : (b : Bool) → int_lt v (pos 0) ≡ b → is_missing v ≡ false → int_lt v (pos 0) ≡ false
     at_least true u m = absurd (let bad : true ≡ false = rw (u, m) at t in cc)
     at_least false u m = u
+
     small : is_missing v ≡ false → IsCellText text v → unsigned_abs v ≤ LIMIT
     small m (inl e) = absurd (let bad : true ≡ false = sym (missing-is v e.1) ∙ m in cc)
     small m (inr d) = d.2.1
+
     here : (b : Bool) → is_missing v ≡ b → IsTrue (is_bar_cell v)
     here true m = rw m refl
     here false m = rw (m, small-is v (at_least (int_lt v (pos 0)) refl m) (small m h)) refl
@@ -87,6 +88,18 @@ pub record AreCellTexts (r : Record) (cells : List ℤ) : Type 0 where
 one_of : (text : List ℕ) (x v : ℤ) → cell_in text ≡ Some x → Some x ≡ Some v → IsCellText text v
 one_of text x v e s = IsCellText-cell_in text v (e ∙ s)
 
+five_texts : (r : Record) (a b c d f : ℤ) → cell_in (field r 2) ≡ Some a → cell_in (field r 3) ≡ Some b → cell_in (field r 4) ≡ Some c → cell_in (field r 5) ≡ Some d → cell_in (field r 6) ≡ Some f
+    → AreCellTexts r (a ∷ b ∷ c ∷ d ∷ f ∷ [])
+five_texts r a b c d f p q s t u = record { five = refl; each = each }
+  where
+    each : (k : ℕ) (v : ℤ) → slice_get (a ∷ b ∷ c ∷ d ∷ f ∷ []) k ≡ Some v → IsCellText (field r (k + 2)) v
+    each zero v e = one_of (field r 2) a v p e
+    each (suc zero) v e = one_of (field r 3) b v q e
+    each (suc (suc zero)) v e = one_of (field r 4) c v s e
+    each (suc (suc (suc zero))) v e = one_of (field r 5) d v t e
+    each (suc (suc (suc (suc zero)))) v e = one_of (field r 6) f v u e
+    each (suc (suc (suc (suc (suc k))))) v e = absurd (let bad : None ≡ Some v = e in cc)
+
 AreCellTexts-cells_in : (r : Record) (cells : List ℤ) → cells_in r ≡ Some cells → AreCellTexts r cells
 AreCellTexts-cells_in r cells e =
     let a = and_then_some (cell_in (field r 2)) _ cells e in
@@ -94,21 +107,17 @@ AreCellTexts-cells_in r cells e =
     let c = and_then_some (cell_in (field r 4)) _ cells b.2 in
     let d = and_then_some (cell_in (field r 5)) _ cells c.2 in
     let f = map_some (cell_in (field r 6)) (λ x. a.0 ∷ b.0 ∷ c.0 ∷ d.0 ∷ x ∷ []) cells d.2 in
-    rw (← f.2) record { five = refl; each = each a.0 b.0 c.0 d.0 f.0 a.1 b.1 c.1 d.1 f.1 }
-  where
-    each : (a b c d f : ℤ) → cell_in (field r 2) ≡ Some a → cell_in (field r 3) ≡ Some b → cell_in (field r 4) ≡ Some c → cell_in (field r 5) ≡ Some d → cell_in (field r 6) ≡ Some f
-        → (k : ℕ) (v : ℤ) → slice_get (a ∷ b ∷ c ∷ d ∷ f ∷ []) k ≡ Some v → IsCellText (field r (k + 2)) v
-    each a b c d f p q s t u zero v e = one_of (field r 2) a v p e
-    each a b c d f p q s t u (suc zero) v e = one_of (field r 3) b v q e
-    each a b c d f p q s t u (suc (suc zero)) v e = one_of (field r 4) c v s e
-    each a b c d f p q s t u (suc (suc (suc zero))) v e = one_of (field r 5) d v t e
-    each a b c d f p q s t u (suc (suc (suc (suc zero)))) v e = one_of (field r 6) f v u e
-    each a b c d f p q s t u (suc (suc (suc (suc (suc k))))) v e = absurd (let bad : None ≡ Some v = e in cc)
+    subst (AreCellTexts r) f.2 (five_texts r a.0 b.0 c.0 d.0 f.0 a.1 b.1 c.1 d.1 f.1)
 
 cells_in-AreCellTexts : (r : Record) (cells : List ℤ) → length cells ≡ 5 → ((k : ℕ) (v : ℤ) → slice_get cells k ≡ Some v → IsCellText (field r (k + 2)) v) → cells_in r ≡ Some cells
 cells_in-AreCellTexts r (a ∷ b ∷ c ∷ d ∷ f ∷ []) n h =
-    rw (cell_in-IsCellText (field r 2) a (h 0 a refl), cell_in-IsCellText (field r 3) b (h 1 b refl), cell_in-IsCellText (field r 4) c (h 2 c refl),
-      cell_in-IsCellText (field r 5) d (h 3 d refl), cell_in-IsCellText (field r 6) f (h 4 f refl)) refl
+    rw (
+      cell_in-IsCellText (field r 2) a (h 0 a refl),
+      cell_in-IsCellText (field r 3) b (h 1 b refl),
+      cell_in-IsCellText (field r 4) c (h 2 c refl),
+      cell_in-IsCellText (field r 5) d (h 3 d refl),
+      cell_in-IsCellText (field r 6) f (h 4 f refl),
+    ) refl
 cells_in-AreCellTexts r [] n h = absurd (omega arith)
 cells_in-AreCellTexts r (a ∷ []) n h = absurd (omega arith)
 cells_in-AreCellTexts r (a ∷ b ∷ []) n h = absurd (omega arith)
@@ -131,7 +140,7 @@ IsBarRecord-fields_in r f e = here (length r == 7) refl e
         let s = and_then_some (sid_in (field r 0)) _ f e in
         let d = and_then_some (date_in (field r 1)) _ f s.2 in
         let c = map_some (cells_in r) (λ cells. record { sid = s.0; day = d.0; cells = cells }) f d.2 in
-        let n = sid_in-sound (field r 0) s.0 s.1 in
+        let n = decimal-sid_in (field r 0) s.0 s.1 in
         let texts = AreCellTexts-cells_in r c.0 c.1 in
         rw (← c.2) record {
           seven = grind (arith, nat_tests);
@@ -147,7 +156,7 @@ unfolding fields_in
 fields_in-IsBarRecord r f h =
     let seven : length r ≡ 7 = h.seven in
     let t : (length r == 7) ≡ true = grind (arith, nat_tests) in
-    rw (t, sid_in-complete (field r 0) f.sid h.small h.sid, date_in-IsDate (field r 1) f.day h.day, cells_in-AreCellTexts r f.cells h.five h.cells) refl
+    rw (t, sid_in-decimal (field r 0) f.sid h.small h.sid, date_in-IsDate (field r 1) f.day h.day, cells_in-AreCellTexts r f.cells h.five h.cells) refl
 
 pub no_record : (r : Record) → fields_in r ≡ None → (f : Fields) → IsBarRecord r f → ⊥
 no_record r e f h = let found : fields_in r ≡ Some f = fields_in-IsBarRecord r f h in let bad : None ≡ Some f = sym e ∙ found in cc
@@ -173,9 +182,11 @@ IsNegative-test v t = here (is_missing v) refl
   where
     below : int_lt v (pos 0) ≡ true → v <ℤ pos 0
     below u = grind (arith, ints)
+
     first : (a b : Bool) → (a && b) ≡ true → a ≡ true
     first true b e = refl
     first false b e = absurd (let bad : false ≡ true = e in cc)
+
     here : (b : Bool) → is_missing v ≡ b → IsNegative v
     here true m = absurd (let bad : false ≡ true = sym (none (int_lt v (pos 0)) (is_missing v) m) ∙ t in cc)
       where
@@ -190,8 +201,10 @@ is_negative-test v h = rw (below h.1, present (is_missing v) refl) refl
   where
     below : v <ℤ pos 0 → int_lt v (pos 0) ≡ true
     below l = grind (arith, ints)
+
     value : is_missing v ≡ true → v ≡ MISSING
     value m = grind (arith, ints)
+
     present : (b : Bool) → is_missing v ≡ b → is_missing v ≡ false
     present true m = absurd (h.0 (value m))
     present false m = m

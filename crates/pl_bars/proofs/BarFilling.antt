@@ -34,15 +34,15 @@ pub part_written : (Q : ℕ → ℕ → ℤ → Type 0) (xs ys : List ℤ) (i ro
     → ((k : ℕ) → k < rows → Q i k (get_or ys k (pos 0)))
     → (j k : ℕ) → j < i + 1 → k < rows → Q j k (get_or (put_mid (i * rows) n xs ys) (j * rows + k) (pos 0))
 part_written Q xs ys i rows n within long old new j k h l = elim (cases_lt j i) [
-    | inl lt ↦
+  | inl lt ↦
       let e : i * rows + rows ≡ (i + 1) * rows = part_start i rows in
       let inside : j * rows + k < i * rows = place_within i rows j k lt l in
       subst (Q j k) (sym (front xs (ys ++ post_of (i * rows) n xs) (i * rows) (j * rows + k) (pos 0) inside (omega arith))) (old j k lt l)
-    | inr ge ↦
+  | inr ge ↦
       let e : i * rows + rows ≡ (i + 1) * rows = part_start i rows in
       let same : i ≡ j = omega arith in
       let place : j * rows + k ≡ i * rows + k = ap (λ x. x * rows + k) (sym same) in
       let value : get_or (put_mid (i * rows) n xs ys) (j * rows + k) (pos 0) ≡ get_or ys k (pos 0) =
-        behind xs (ys ++ post_of (i * rows) n xs) (i * rows) (j * rows + k) k (pos 0) place (omega arith) ∙ get_or_append_left ys (post_of (i * rows) n xs) (pos 0) k (omega arith) in
+      behind xs (ys ++ post_of (i * rows) n xs) (i * rows) (j * rows + k) k (pos 0) place (omega arith) ∙ get_or_append_left ys (post_of (i * rows) n xs) (pos 0) k (omega arith) in
       subst (Q j k) (sym value) (subst (λ x. Q x k (get_or ys k (pos 0))) same (new k l))
-  ]
+]

@@ -1,7 +1,6 @@
 -- Places among bars that stand by column and session, and the cells there.
-use Rattle.std.proofs.Common.{◌≡◌, ◌≢◌, ◌⊎◌, ℕ, zero, suc, ◌+◌, ◌<◌, ◌≤◌, ◌==◌, ◌&&◌, ◌||◌, nat_lt, nat_le, IsTrue, Bool, true, false, ℤ, pos, List, [], ◌∷◌, length, get_or, All, Option, Some, None, find, position, option_map, unwrap_or, refl, sym, ◌∙◌, ap, arith, inl, inr}
-use Rattle.std.specs.List.{AllPairs}
-use Rattle.std.specs.List.Sorted.{IsPartitionPoint, IsPartitionedBy}
+use Rattle.std.proofs.Common.{◌≡◌, ◌⊎◌, ℕ, zero, suc, ◌+◌, ◌<◌, ◌≤◌, ◌==◌, ◌&&◌, ◌||◌, nat_le, IsTrue, Bool, true, false, ℤ, pos, List, [], ◌∷◌, length, get_or, All, Option, Some, None, find, position, option_map, unwrap_or, refl, sym, ◌∙◌, ap, arith, inl, inr}
+use Rattle.std.specs.List.Sorted.{IsPartitionedBy}
 use Rattle.std.specs.Int.RustNames.{int_le, unsigned_abs}
 use Rattle.std.proofs.lemmas.Int.{ints}
 use Rattle.std.proofs.lemmas.Bool.{cases_lt, and_parts}
@@ -72,7 +71,7 @@ pub bar_found : (col session : ℕ) (rows : List BarRow) (n : ℕ) (d : BarRow) 
     → (get_or rows n d).col ≡ col → (get_or rows n d).session ≡ session → Some n ≡ position (is_at col session) rows
 bar_found col session rows n d h point e f =
     sym (place_is (is_at col session) rows n d h (at_true col session (get_or rows n d) e f)
-      (λ k l. before_not_at col session (get_or rows k d) (point.0 k d (omega arith) l)))
+    (λ k l. before_not_at col session (get_or rows k d) (point.0 k d (omega arith) l)))
 
 pub bar_none : (col session : ℕ) (rows : List BarRow) (n : ℕ) (d : BarRow) → AreBars rows → BarPoint col session rows n
     → (n < length rows → is_at col session (get_or rows n d) ≡ false) → None ≡ position (is_at col session) rows
@@ -91,6 +90,7 @@ not_here col session b h = here (is_at col session b) refl
     split : ((b.col ≡ col → ⊥) ⊎ (b.session ≡ session → ⊥)) → (b.col ≡ col) → (b.session ≡ session) → ⊥
     split (inl f) e g = f e
     split (inr f) e g = f g
+
     here : (t : Bool) → is_at col session b ≡ t → t ≡ false
     here true t = let p = at_parts col session b t in absurd (split h p.0 p.1)
     here false t = refl
@@ -104,9 +104,10 @@ point_taken col session rows n d up h point e f = (before, after)
     before k x z l = elim (cases_lt k n) [
       | inl lt ↦ next_before col session (get_or rows k x) (point.0 k x z lt)
       | inr ge ↦ (let same : k ≡ n = omega arith in
-        let own : get_or rows k x ≡ get_or rows n d = ap (λ i. get_or rows i x) same ∙ same_default rows n x d h in
-        ap (is_before col (session + 1)) own ∙ next_at col session (get_or rows n d) e f)
+          let own : get_or rows k x ≡ get_or rows n d = ap (λ i. get_or rows i x) same ∙ same_default rows n x d h in
+          ap (is_before col (session + 1)) own ∙ next_at col session (get_or rows n d) e f)
     ]
+
     after : (k : ℕ) (x : BarRow) → n + 1 ≤ k → k < length rows → is_before col (session + 1) (get_or rows k x) ≡ false
     after k x g l =
         let own : get_or rows n x ≡ get_or rows n d = same_default rows n x d h in
@@ -120,14 +121,15 @@ point_passed col session rows n d up point other = (before, after)
   where
     before : (k : ℕ) (x : BarRow) → 0 ≤ k → k < n → is_before col (session + 1) (get_or rows k x) ≡ true
     before k x z l = next_before col session (get_or rows k x) (point.0 k x z l)
+
     after : (k : ℕ) (x : BarRow) → n ≤ k → k < length rows → is_before col (session + 1) (get_or rows k x) ≡ false
     after k x g l =
         let inside : n < length rows = omega arith in
         elim (cases_lt n k) [
           | inl gt ↦ next_behind col session (get_or rows k x) (point.1 k x g l) (after_point col session rows n k x up point gt l)
           | inr le ↦ (let same : k ≡ n = omega arith in
-            let own : get_or rows k x ≡ get_or rows n d = ap (λ i. get_or rows i x) same ∙ same_default rows n x d inside in
-            next_behind col session (get_or rows k x) (point.1 k x g l) (ap (is_at col session) own ∙ other inside))
+              let own : get_or rows k x ≡ get_or rows n d = ap (λ i. get_or rows i x) same ∙ same_default rows n x d inside in
+              next_behind col session (get_or rows k x) (point.1 k x g l) (ap (is_at col session) own ∙ other inside))
         ]
 
 -- ---- cells
@@ -160,12 +162,15 @@ IsCell-bar_cell v t = here (is_missing v) refl
   where
     value : is_missing v ≡ true → v ≡ MISSING
     value m = grind (arith, ints)
+
     second : (a b c : Bool) → a ≡ false → (a || (b && c)) ≡ true → c ≡ true
     second true b c e f = absurd (let bad : true ≡ false = e in cc)
     second false true c e f = f
     second false false c e f = absurd (let bad : false ≡ true = f in cc)
+
     small : nat_le (unsigned_abs v) LIMIT ≡ true → unsigned_abs v ≤ LIMIT
     small u = grind (arith, nat_tests)
+
     here : (b : Bool) → is_missing v ≡ b → IsCell v
     here true m = inl (value m)
     here false m = inr (small (second (is_missing v) (int_le (pos 0) v) (nat_le (unsigned_abs v) LIMIT) m t))
@@ -177,9 +182,9 @@ past-end (x ∷ xs) (suc k) d h = past-end xs k d (omega arith)
 
 cell_of-IsCell : (column : Column) (b : BarRow) → All (λ v. IsTrue (is_bar_cell v)) b.cells → IsCell (cell_of column b)
 cell_of-IsCell column b all = elim (cases_lt (place column) (length b.cells)) [
-    | inl lt ↦ IsCell-bar_cell (get_or b.cells (place column) (pos 0)) (all (place column) (pos 0) lt)
-    | inr ge ↦ (let zero_is : get_or b.cells (place column) (pos 0) ≡ pos 0 = past-end b.cells (place column) (pos 0) ge in rw zero_is nought)
-  ]
+  | inl lt ↦ IsCell-bar_cell (get_or b.cells (place column) (pos 0)) (all (place column) (pos 0) lt)
+  | inr ge ↦ (let zero_is : get_or b.cells (place column) (pos 0) ≡ pos 0 = past-end b.cells (place column) (pos 0) ge in rw zero_is nought)
+]
   where
     nought : IsCell (pos 0)
     nought = inr (omega arith)
@@ -190,6 +195,7 @@ cell_at-IsCell rows col column session up = here (position (is_at col session) r
   where
     blank : BarRow
     blank = record { col = 0; session = 0; cells = [] }
+
     here : (o : Option ℕ) → position (is_at col session) rows ≡ o → IsCell (unwrap_or (option_map (cell_of column) (find (is_at col session) rows)) MISSING)
     here None e = rw (find-none (is_at col session) rows e) (inl refl)
     here (Some n) e =

@@ -1,5 +1,5 @@
 -- A bit for each column and session.
-use Rattle.std.proofs.Common.{◌≡◌, ◌≢◌, ℕ, zero, suc, ◌+◌, ◌*◌, ◌/◌, ◌%◌, ◌^◌, ◌<◌, ◌≤◌, ◌==◌, ◌&&◌, ◌||◌, Bool, true, false, List, [], ◌∷◌, ◌++◌, length, get_or, bit_or, refl, sym, ◌∙◌, ap, arith, inl, inr, w64}
+use Rattle.std.proofs.Common.{◌≡◌, ◌≢◌, ℕ, zero, suc, ◌+◌, ◌*◌, ◌/◌, ◌%◌, ◌^◌, ◌<◌, ◌==◌, ◌&&◌, ◌||◌, Bool, true, false, List, [], ◌∷◌, ◌++◌, length, get_or, bit_or, refl, sym, ◌∙◌, ap, arith, w64}
 use Rattle.std.specs.Int.{bit_at}
 use Rattle.std.specs.List.{list_any}
 use Rattle.std.proofs.Math.ListN.{set}
@@ -7,7 +7,6 @@ use Rattle.std.proofs.lemmas.List.{get_or-set_same, get_or-set_other}
 use Rattle.std.proofs.lemmas.List.Folds.{list_any-append}
 use Rattle.std.proofs.lemmas.Nat.{div-mul-add}
 use Rattle.std.proofs.lemmas.Nat.Bits.{bit_at-zero, bit_at_set_same, bit_at_set_other}
-use Rattle.std.proofs.lemmas.Bool.{and_parts}
 use Rattle.std.proofs.lemmas.Bool.Decides.{nat_tests}
 use Rattle.pl_spec.specs.declared.BarRow.{BarRow}
 use Rattle.pl_bars.specs.Bars.{is_at}
@@ -49,20 +48,22 @@ same_place n col session c s h l = here (col * n + session == c * n + s) refl
   where
     joined : (x y : Bool) → x ≡ true → y ≡ true → true ≡ (x && y)
     joined x y e f = rw (e, f) refl
+
     apart : (x y : Bool) → (x ≡ true → y ≡ true → ⊥) → false ≡ (x && y)
     apart true true f = absurd (f refl refl)
     apart true false f = refl
     apart false y f = refl
+
     here : (b : Bool) → (col * n + session == c * n + s) ≡ b → b ≡ (col == c && session == s)
     here true t =
         let e : col * n + session ≡ c * n + s = same_number _ _ t in
         joined (col == c) (session == s) (number_same _ _ (one_col n col session c s h l e)) (number_same _ _ (one_session n col session c s h l e))
     here false t =
         apart (col == c) (session == s) (λ a b.
-          let e : col ≡ c = same_number _ _ a in
-          let f : session ≡ s = same_number _ _ b in
-          let same : col * n + session ≡ c * n + s = ap (λ x. x * n + session) e ∙ ap (λ x. c * n + x) f in
-          let yes_ : true ≡ false = sym (number_same _ _ same) ∙ t in absurd (let bad : true ≡ false = yes_ in cc))
+        let e : col ≡ c = same_number _ _ a in
+        let f : session ≡ s = same_number _ _ b in
+        let same : col * n + session ≡ c * n + s = ap (λ x. x * n + session) e ∙ ap (λ x. c * n + x) f in
+        let yes_ : true ≡ false = sym (number_same _ _ same) ∙ t in absurd (let bad : true ≡ false = yes_ in cc))
 
 -- ---- one bit more
 
@@ -92,8 +93,10 @@ bit_in-other words k j h ne = here (j / 64 == k / 64) refl
   where
     n : ℕ
     n = get_or words (k / 64) 0
+
     w : ℕ
     w = bit_or n (1 * 2 ^ (k % 64) % 2 ^ 64)
+
     here : (b : Bool) → (j / 64 == k / 64) ≡ b → bit_in (set words (k / 64) w) j ≡ bit_in words j
     here true t =
         let e : j / 64 ≡ k / 64 = same_number _ _ t in
@@ -125,9 +128,10 @@ no_bits words zeros k = ap (λ x. bit_at x (k % 64) == 1) (zeros (k / 64)) ∙ a
 pub AreBarsIn-more : (old new : BarSet) (rows : List BarRow) (b : BarRow) → AreBarsIn old rows → new.cols ≡ old.cols → new.sessions ≡ old.sessions
     → ((c s : ℕ) → s < old.sessions → has_bar new c s ≡ (has_bar old c s || (b.col == c && b.session == s))) → AreBarsIn new (rows ++ b ∷ [])
 AreBarsIn-more old new rows b h e f more =
-    record { each = λ c s k l.
-      let k' : c < old.cols = omega (arith, e) in
-      let l' : s < old.sessions = omega (arith, f) in
-      more c s l' ∙ ap (λ x. x || is_at c s b) (h.each c s k' l') ∙ ap (λ x. list_any (is_at c s) rows || x) (sym (or_false (is_at c s b)))
-      ∙ sym (list_any-append (is_at c s) rows (b ∷ []))
+    record {
+      each = λ c s k l.
+          let k' : c < old.cols = omega (arith, e) in
+          let l' : s < old.sessions = omega (arith, f) in
+          more c s l' ∙ ap (λ x. x || is_at c s b) (h.each c s k' l') ∙ ap (λ x. list_any (is_at c s) rows || x) (sym (or_false (is_at c s b)))
+          ∙ sym (list_any-append (is_at c s) rows (b ∷ []));
     }

@@ -1,8 +1,7 @@
 -- The cells of a table in the world that is made of it.
-use Rattle.std.proofs.Common.{◌≡◌, ◌≢◌, ℕ, zero, suc, ◌<◌, ◌==◌, ◌&&◌, Bool, true, false, ℤ, pos, List, [], ◌∷◌, length, get_or, map, All, Option, Some, None, find, option_map, unwrap_or, refl, sym, ◌∙◌, ap, arith, inl, inr}
-use Rattle.std.specs.List.{AllPairs, slice_get}
+use Rattle.std.proofs.Common.{◌≡◌, ℕ, suc, ◌<◌, ◌==◌, ◌&&◌, Bool, true, false, pos, List, [], ◌∷◌, length, get_or, map, All, find, option_map, unwrap_or, refl, sym, ◌∙◌, ap, arith, inl, inr}
+use Rattle.std.specs.List.{AllPairs}
 use Rattle.std.proofs.lemmas.Bool.{cases_lt}
-use Rattle.std.proofs.lemmas.Bool.Decides.{nat_tests}
 use Rattle.std.proofs.lemmas.Option.{slice_get-get_or}
 use Rattle.pl_spec.specs.Rounding.{MISSING}
 use Rattle.pl_spec.specs.World.{Bar, cell_in}
@@ -57,6 +56,7 @@ cells assets up (b ∷ bars) inside col which session h =
   where
     same_test : (b.col == col && b.session == session) ≡ (sid_at assets b.col == sid_at assets col && b.session == session)
     same_test = ap (λ t. t && b.session == session) (same_col assets up b.col col (inside 0 b (omega arith)) h)
+
     here : (t : Bool) → (b.col == col && b.session == session) ≡ t
         → unwrap_or (option_map (cell_of which) (find (is_at col session) bars)) MISSING ≡ cell_in (map (bar_of assets) bars) (sid_at assets col) which session
         → unwrap_or (option_map (cell_of which) (find (is_at col session) (b ∷ bars))) MISSING ≡ cell_in (map (bar_of assets) (b ∷ bars)) (sid_at assets col) which session

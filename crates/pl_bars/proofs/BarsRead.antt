@@ -1,7 +1,6 @@
 -- Bars that are read: what each test tells, and what is kept of all rows.
-use Rattle.std.proofs.Common.{◌≡◌, ◌≢◌, ◌⊎◌, ℕ, zero, suc, ◌+◌, ◌*◌, ◌^◌, ◌==◌, ◌<◌, ◌≤◌, ◌&&◌, ◌||◌, nat_le, nat_lt, IsTrue, Bool, true, false, List, [], ◌∷◌, ◌++◌, length, get_or, length-append, All, Option, Some, None, Result, Ok, Err, refl, ap, sym, ◌∙◌, ℤ, pos, position, arith, inl, inr}
+use Rattle.std.proofs.Common.{◌≡◌, ℕ, zero, suc, ◌^◌, ◌==◌, ◌<◌, ◌≤◌, ◌||◌, nat_le, IsTrue, Bool, true, false, List, [], ◌∷◌, ◌++◌, length, get_or, length-append, All, Option, Some, None, Result, Ok, Err, refl, ap, sym, ◌∙◌, ℤ, pos, position, arith}
 use Rattle.std.specs.List.{list_any, AllPairs}
-use Rattle.std.specs.Int.RustNames.{int_lt, int_le, unsigned_abs}
 use Rattle.std.specs.Ordering.{int_eq}
 use Rattle.std.specs.Option.{ok_or}
 use Rattle.std.specs.Bool.{if◌then◌else◌}
@@ -9,8 +8,7 @@ use Rattle.std.proofs.lemmas.Bool.Decides.{nat_tests}
 use Rattle.std.proofs.lemmas.List.Quantifiers.{position-Some}
 use Rattle.std.proofs.lemmas.List.Elements.{All-append}
 use Rattle.std.proofs.lemmas.List.Sorted.{All-permutation}
-use Rattle.pl_spec.specs.Reading.{Record, Fault, ◌>>=◌, rows_of}
-use Rattle.pl_spec.specs.Rounding.{MISSING, LIMIT, is_missing}
+use Rattle.pl_spec.specs.Reading.{Record, Fault, ◌>>=◌}
 use Rattle.pl_spec.specs.Sorted.{sorted_by, HasOwnKeys}
 use Rattle.pl_spec.specs.declared.AssetRow.{AssetRow}
 use Rattle.pl_spec.specs.declared.BarRow.{BarRow}
@@ -20,7 +18,7 @@ use Rattle.pl_assets.specs.Assets.{sid_of}
 use Rattle.pl_bars.specs.declared.fields.Fields.{Fields}
 use Rattle.pl_bars.specs.Bars.{Rule, header, fields_in, is_negative, is_at, says_bar, key_of, rows_in, bars_of, is_before, is_bar_cell, AreBars}
 use Rattle.pl_bars.specs.Bars as rules
-use Rattle.pl_bars.proofs.BarSets.{same_number, number_same, same_place}
+use Rattle.pl_bars.proofs.BarSets.{same_place}
 use Rattle.pl_bars.proofs.BarFields.{fields-cells}
 
 few : (n : ℕ) → n < 4000000 → nat_le 4000000 n ≡ false
@@ -147,7 +145,7 @@ kept-more days assets n before r b h s =
       small = All-append (λ (x : BarRow). x.session < 2 ^ 32) before (b ∷ []) h.small (one_row (λ x. x.session < 2 ^ 32) b small);
       few = omega (arith, length-append before (b ∷ []));
       cells = All-append (λ (x : BarRow). All (λ v. IsTrue (is_bar_cell v)) x.cells) before (b ∷ []) h.cells
-        (one_row (λ x. All (λ v. IsTrue (is_bar_cell v)) x.cells) b (rw ok.cells (fields-cells r ok.fields ok.written (rw ok.cells at ok.not_negative))));
+          (one_row (λ x. All (λ v. IsTrue (is_bar_cell v)) x.cells) b (rw ok.cells (fields-cells r ok.fields ok.written (rw ok.cells at ok.not_negative))));
     }
 
 kept-none : AreKept []

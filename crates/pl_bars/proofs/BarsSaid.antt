@@ -1,5 +1,5 @@
 -- What a record says of its bar, in plain words.
-use Rattle.std.proofs.Common.{◌≡◌, ◌≢◌, ◌⊎◌, ℕ, zero, suc, ◌+◌, ◌^◌, ◌<◌, ◌≤◌, ◌↔◌, ◌==◌, ◌&&◌, nat_le, IsTrue, Bool, true, false, if◌then◌else◌, ℤ, ◌<ℤ◌, pos, List, [], ◌∷◌, length, get_or, Option, Some, None, option_map, position, All, Any, Result, Ok, Err, refl, sym, ◌∙◌, ap, arith, inl, inr}
+use Rattle.std.proofs.Common.{◌≡◌, ◌≢◌, ℕ, zero, suc, ◌+◌, ◌^◌, ◌<◌, ◌≤◌, ◌↔◌, ◌==◌, nat_le, Bool, true, false, if◌then◌else◌, ℤ, ◌<ℤ◌, pos, List, length, get_or, Option, Some, None, option_map, position, All, Any, Result, Ok, Err, refl, sym, ◌∙◌, ap, arith, inl, inr}
 use Rattle.std.specs.List.{list_any, slice_get, AllPairs}
 use Rattle.std.specs.List.Sorted.{IsPermutation}
 use Rattle.std.specs.Ordering.{int_eq}
@@ -9,9 +9,9 @@ use Rattle.std.proofs.lemmas.Bool.{cases_lt, and_parts}
 use Rattle.std.proofs.lemmas.Bool.Decides.{nat_tests}
 use Rattle.std.proofs.lemmas.List.Folds.{list_any_at, Any-from_list_any, list_any-from_Any}
 use Rattle.std.proofs.lemmas.List.Quantifiers.{position-Some}
-use Rattle.std.proofs.lemmas.List.Sorted.{All-permutation, IsPermutation-sym}
+use Rattle.std.proofs.lemmas.List.Sorted.{All-permutation}
 use Rattle.std.proofs.lemmas.Option.{slice_get-get_or, slice_get_within}
-use Rattle.pl_spec.specs.Reading.{Record, Fault, ◌>>=◌, rows_under, AreRowsUnder, BreaksFirst, IsFaultUnder, Judges}
+use Rattle.pl_spec.specs.Reading.{Record, Fault, ◌>>=◌, rows_under, AreRowsUnder, BreaksFirst, Judges}
 use Rattle.pl_spec.specs.Sorted.{sorted_by}
 use Rattle.pl_spec.specs.declared.AssetRow.{AssetRow}
 use Rattle.pl_spec.specs.declared.BarRow.{BarRow}
@@ -72,15 +72,16 @@ no_col_found assets sid e col at = here (slice_get assets col) refl at
 -- a day has one session, and a sid one column
 one_session : (days : List ℤ) → AreDays days → (s t : ℕ) (day : ℤ) → slice_get days s ≡ Some day → slice_get days t ≡ Some day → s ≡ t
 one_session days up s t day e f = elim (cases_lt s t) [
-    | inl lt ↦ absurd (below day (rising s t lt e f))
-    | inr ge ↦ elim (cases_lt t s) [
-      | inl lt ↦ absurd (below day (rising t s lt f e))
-      | inr le ↦ omega arith
-    ]
+  | inl lt ↦ absurd (below day (rising s t lt e f))
+  | inr ge ↦ elim (cases_lt t s) [
+    | inl lt ↦ absurd (below day (rising t s lt f e))
+    | inr le ↦ omega arith
   ]
+]
   where
     below : (x : ℤ) → x <ℤ x → ⊥
     below x h = omega (arith, ints)
+
     rising : (i j : ℕ) → i < j → slice_get days i ≡ Some day → slice_get days j ≡ Some day → day <ℤ day
     rising i j h p q =
         let lt : get_or days i day <ℤ get_or days j day = up.ascend i j day h (slice_get_within days j day q) in
@@ -91,12 +92,14 @@ one_col assets up c d sid e f = here (slice_get assets c) refl (slice_get assets
   where
     some_sid : (a : AssetRow) → option_map sid_of (Some a) ≡ Some sid → sid_of a ≡ sid
     some_sid a e = let u : Some (sid_of a) ≡ Some sid = e in cc
+
     rising : (i j : ℕ) (a b : AssetRow) → i < j → slice_get assets i ≡ Some a → slice_get assets j ≡ Some b → sid_of a < sid_of b
     rising i j a b h p q =
         let lt : (get_or assets i a).sid < (get_or assets j a).sid = up.ascend i j a h (slice_get_within assets j b q) in
         let left : (get_or assets i a).sid ≡ a.sid = ap (λ (x : AssetRow). x.sid) (there assets i a p) in
         let right : get_or assets j a ≡ b = (let same : Some (get_or assets j a) ≡ Some b = sym (slice_get-get_or assets j a (slice_get_within assets j b q)) ∙ q in cc) in
         let right' : (get_or assets j a).sid ≡ b.sid = ap (λ (x : AssetRow). x.sid) right in omega arith
+
     here : (o : Option AssetRow) → slice_get assets c ≡ o → (p : Option AssetRow) → slice_get assets d ≡ p → option_map sid_of o ≡ Some sid → option_map sid_of p ≡ Some sid → c ≡ d
     here None s p t e f = absurd (let bad : None ≡ Some sid = e in cc)
     here (Some a) s None t e f = absurd (let bad : None ≡ Some sid = f in cc)
@@ -288,8 +291,10 @@ keeps_all days assets ud ua before r b h rules.Duplicate x =
     let row : BarRow = x.2.1 in
     let place : IsPlaced days assets x.0 row.col row.session = x.2.4 in
     let none : ¬ (((get_or before x.2.0 row).col ≡ b.col) × ((get_or before x.2.0 row).session ≡ b.session)) = h.own_place x.2.0 row x.2.2 in
-    none (ap (λ (y : BarRow). y.col) x.2.3 ∙ one_col assets ua row.col b.col x.0.sid place.sid sid,
-      ap (λ (y : BarRow). y.session) x.2.3 ∙ one_session days ud row.session b.session x.0.day place.day day)
+    none (
+      ap (λ (y : BarRow). y.col) x.2.3 ∙ one_col assets ua row.col b.col x.0.sid place.sid sid,
+      ap (λ (y : BarRow). y.session) x.2.3 ∙ one_session days ud row.session b.session x.0.day place.day day,
+    )
 
 one_bar : (days : List ℤ) (assets : List AssetRow) → AreDays days → AreAssets assets → (before : List BarRow) (r : Record) (x y : BarRow) → IsBar days assets before r x → IsBar days assets before r y → x ≡ y
 one_bar days assets ud ua before r x y h k =
@@ -316,14 +321,18 @@ bars-are days assets ud ua records bars = (forth, back)
   where
     sorted : ((rows_in days assets records >>= λ rows. Ok (sorted_by key_of rows)) ≡ Ok bars) ↔ ((rows : List BarRow) × (rows_in days assets records ≡ Ok rows) × IsPermutation rows bars × AllPairs (λ a b. key_of a < key_of b) bars)
     sorted = sorted-are key_of (rows_in days assets records) bars (λ rows e. (AreKept-read days assets records rows ud.few e).own)
+
     under : (rows : List BarRow) → (rows_in days assets records ≡ Ok rows) ↔ AreRowsUnder header (IsBar days assets) records rows
     under rows = under-are header rules.BadHeader (IsBar days assets) (Told days assets) (says_bar days assets) (bars_judged days assets ud ua) records rows
+
     small : (rows : List BarRow) → rows_in days assets records ≡ Ok rows → IsPermutation rows bars → All (λ b. b.session < 2 ^ 32) bars
     small rows e moved = All-permutation (λ (b : BarRow). b.session < 2 ^ 32) rows bars moved (AreKept-read days assets records rows ud.few e).small
+
     forth : (rows_in days assets records >>= λ rows. Ok (sorted_by key_of rows)) ≡ Ok bars → AreBarsOf days assets records bars
     forth e =
         let it = sorted.0 e in
         record { rows = it.0; read = (under it.0).0 it.1; same = it.2; ascend = ascend-from_keys bars (small it.0 it.1 it.2) it.3 }
+
     back : AreBarsOf days assets records bars → (rows_in days assets records >>= λ rows. Ok (sorted_by key_of rows)) ≡ Ok bars
     back h =
         let e : rows_in days assets records ≡ Ok h.rows = (under h.rows).1 h.read in
@@ -335,5 +344,6 @@ bars-fault days assets ud ua records fault = (λ e. under.0 (told.0 e), λ h. to
   where
     told : ((rows_in days assets records >>= λ rows. Ok (sorted_by key_of rows)) ≡ Err fault) ↔ (rows_in days assets records ≡ Err fault)
     told = sorted-fault key_of (rows_in days assets records) fault
+
     under : (rows_under header rules.BadHeader (says_bar days assets) records ≡ Err fault) ↔ IsBarsFault days assets records fault
     under = under-fault header rules.BadHeader (IsBar days assets) (Told days assets) (says_bar days assets) (bars_judged days assets ud ua) records fault

@@ -1,5 +1,5 @@
 -- The bars of the records of a bars file, the first rule that a record breaks, and the cells of bars.
-use Rattle.std.specs.Prelude.{◌≡◌, ℕ, ◌+◌, ◌*◌, ◌^◌, ◌==◌, ◌<◌, ◌≤◌, ◌&&◌, ◌||◌, not, nat_le, nat_lt, IsTrue, Bool, if◌then◌else◌, ℤ, pos, codes, List, [], ◌∷◌, length, All, AllPairs, Option, Some, None, option_map, option_and_then, unwrap_or, Result, Ok, Err, find, position, slice_index_or}
+use Rattle.std.specs.Prelude.{ℕ, ◌+◌, ◌*◌, ◌^◌, ◌==◌, ◌≤◌, ◌&&◌, ◌||◌, not, nat_le, nat_lt, IsTrue, Bool, if◌then◌else◌, ℤ, pos, codes, List, [], ◌∷◌, length, All, AllPairs, Option, Some, None, option_map, option_and_then, unwrap_or, Result, Ok, Err, find, position, slice_index_or}
 use Rattle.std.specs.List.{list_any}
 use Rattle.std.specs.Result.{result_ok}
 use Rattle.std.specs.Int.RustNames.{int_lt, int_le, unsigned_abs}
@@ -32,14 +32,14 @@ cell_in text = if length text == 0 then Some MISSING else result_ok (read text)
 abbrev pub cells_in : Record → Option (List ℤ)
 cells_in r =
     option_and_then (λ a. option_and_then (λ b. option_and_then (λ c. option_and_then (λ d. option_map (λ e. a ∷ b ∷ c ∷ d ∷ e ∷ [])
-      (cell_in (field r 6))) (cell_in (field r 5))) (cell_in (field r 4))) (cell_in (field r 3))) (cell_in (field r 2))
+    (cell_in (field r 6))) (cell_in (field r 5))) (cell_in (field r 4))) (cell_in (field r 3))) (cell_in (field r 2))
 
 -- the sid, the day and the cells of a record of seven fields
 unfoldable pub fields_in : Record → Option Fields
 fields_in r =
     if length r == 7 then
-      option_and_then (λ sid. option_and_then (λ day. option_map (λ cells. record { sid = sid; day = day; cells = cells })
-        (cells_in r)) (date_in (field r 1))) (sid_in (field r 0))
+    option_and_then (λ sid. option_and_then (λ day. option_map (λ cells. record { sid = sid; day = day; cells = cells })
+    (cells_in r)) (date_in (field r 1))) (sid_in (field r 0))
     else None
 
 abbrev pub is_negative : ℤ → Bool
@@ -54,11 +54,11 @@ unfoldable pub says_bar : List ℤ → List AssetRow → List BarRow → Record 
 says_bar days assets before r =
     if nat_le 4000000 (length before) then Err TooMany
     else ok_or (fields_in r) BadField >>= λ f.
-      ok_or (position (λ d. int_eq d f.day) days) NotSession >>= λ session.
-        ok_or (position (λ a. sid_of a == f.sid) assets) UnknownSid >>= λ col.
-          if list_any is_negative f.cells then Err Negative
-          else if list_any (is_at col session) before then Err Duplicate
-          else Ok (record { col = col; session = session; cells = f.cells })
+    ok_or (position (λ d. int_eq d f.day) days) NotSession >>= λ session.
+    ok_or (position (λ a. sid_of a == f.sid) assets) UnknownSid >>= λ col.
+    if list_any is_negative f.cells then Err Negative
+    else if list_any (is_at col session) before then Err Duplicate
+    else Ok (record { col = col; session = session; cells = f.cells })
 
 -- a number that rises by column, and then by session
 abbrev pub key_of : BarRow → ℕ

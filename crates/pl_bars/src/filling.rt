@@ -8,7 +8,14 @@ use pl_fixed::MISSING;
 use pl_spec::{BarRow, Column};
 
 // Writes the cells of some columns on sessions from the first one on, column by column.
-pub(crate) fn fill_assets(bars: &[BarRow], column: Column, first: usize, rows: usize, cols: &[u32], into: &mut [i64])
+pub(crate) fn fill_assets(
+    bars: &[BarRow],
+    column: Column,
+    first: usize,
+    rows: usize,
+    cols: &[u32],
+    into: &mut [i64],
+)
     requires bars { AreBars bars.now }
     requires size { length into.old ≡ rows * length cols.now }
     requires range { first + rows ≤ 2 ^ 32 }
@@ -17,7 +24,8 @@ pub(crate) fn fill_assets(bars: &[BarRow], column: Column, first: usize, rows: u
     ensures cells { (i k : ℕ) → i < length cols.now → k < rows → IsCell (slice_index_or into.new (i * rows + k) (pos 0)) }
 {
     for (i, col) in cols.iter().enumerate() {
-        fill_asset(bars, *col as usize, column, first, &mut into[i * rows..(i + 1) * rows]);
+        let part = &mut into[i * rows..(i + 1) * rows];
+        fill_asset(bars, *col as usize, column, first, part);
     }
 }
 

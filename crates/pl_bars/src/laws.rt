@@ -21,11 +21,9 @@ pub fn bars_in_plain_words()
         → (records : List Record) (bars : List BarRow) → (bars_of days assets records ≡ Ok bars) ↔ AreBarsOf days assets records bars }
     ensures fault { (days : List ℤ) (assets : List AssetRow) → AreDays days → AreAssets assets
         → (records : List Record) (fault : Fault Rule) → (bars_of days assets records ≡ Err fault) ↔ IsBarsFault days assets records fault }
-{
-}
+{}
 
 /// The cell of a table is the raw cell, of the column's sid, in the world that is made of the table.
 pub fn cells_are_raw()
     ensures { CellsAreRaw }
-{
-}
+{}

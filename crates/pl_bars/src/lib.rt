@@ -20,10 +20,9 @@ mod search;
 mod tests;
 
 pub use error::BarsError;
-pub use pl_spec::BarRow;
-
 use pl_assets::Assets;
 use pl_calendar::Sessions;
+pub use pl_spec::BarRow;
 use pl_spec::Column;
 use std::alloc::Global;
 use std::marker::Model;
@@ -38,15 +37,23 @@ impl Model for Bars {
     ghost use Rattle.std.specs.Prelude.{List};
     ghost use Rattle.pl_spec.specs.declared.BarRow.{BarRow};
     ghost use Rattle.pl_bars.specs.Bars.{AreBars};
+
     ghost Value = { List BarRow };
+
     ghost view = { λ b. b.rows.items };
+
     ghost invariant = { λ b. AreBars b.rows.items };
 }
 
 impl Bars {
     /// The bars of a file: the header `sid,session,open,high,low,close,volume`, and in each further record a sid, the date of
     /// a session and five decimals or empty fields, in any order. An empty field is missing.
-    pub fn read(alloc: Global, bytes: &[u8], sessions: &Sessions, assets: &Assets) -> Result<Bars, BarsError>
+    pub fn read(
+        alloc: Global,
+        bytes: &[u8],
+        sessions: &Sessions,
+        assets: &Assets,
+    ) -> Result<Bars, BarsError>
         // The bars of the records, or the fault of the first faulty one. Only want of memory may come beside.
         ensures exact { Answers (λ b. b) fault_of result (bars_of sessions.now assets.now (csv_records bytes.now)) }
         ensures bars { IfOk result AreBars }
@@ -72,7 +79,14 @@ impl Bars {
     }
 
     /// Writes the cells of some columns on `rows` sessions from the first one on, asset by asset.
-    pub fn fill_column(&self, column: Column, first: usize, rows: usize, cols: &[u32], into: &mut [i64])
+    pub fn fill_column(
+        &self,
+        column: Column,
+        first: usize,
+        rows: usize,
+        cols: &[u32],
+        into: &mut [i64],
+    )
         requires size { length into.old ≡ rows * length cols.now }
         requires range { first + rows ≤ 2 ^ 32 }
         ensures values { (i k : ℕ) → i < length cols.now → k < rows

@@ -19,7 +19,12 @@ const MOST_BARS: usize = 4_000_000;
 
 // The bars of a file by column and session.
 #[tactic(auto, unfolding(crate::specs::Bars::bars_of))]
-pub(crate) fn read_bars(alloc: Global, bytes: &[u8], sessions: &Sessions, assets: &Assets) -> Result<Vec<BarRow>, BarsError>
+pub(crate) fn read_bars(
+    alloc: Global,
+    bytes: &[u8],
+    sessions: &Sessions,
+    assets: &Assets,
+) -> Result<Vec<BarRow>, BarsError>
     ensures exact { Answers (λ v. v.items) fault_of result (bars_of sessions.now assets.now (csv_records bytes.now)) }
     ensures few { length sessions.now ≤ 16_000 }
 {
@@ -44,11 +49,18 @@ fn key(row: &BarRow) -> u64
 
 // The bars in the order of the file.
 #[tactic(auto, unfolding(crate::specs::Bars::rows_in))]
-fn read_rows(alloc: Global, bytes: &[u8], sessions: &Sessions, assets: &Assets) -> Result<Vec<BarRow>, BarsError>
+fn read_rows(
+    alloc: Global,
+    bytes: &[u8],
+    sessions: &Sessions,
+    assets: &Assets,
+) -> Result<Vec<BarRow>, BarsError>
     ensures { Answers (λ v. v.items) fault_of result (rows_in sessions.now assets.now (csv_records bytes.now)) }
 {
     let mut records = Records::new(alloc, bytes);
-    if !records.read_header(&[b"sid", b"session", b"open", b"high", b"low", b"close", b"volume"])? {
+    if !records.read_header(&[
+        b"sid", b"session", b"open", b"high", b"low", b"close", b"volume",
+    ])? {
         return Err(BarsError::BadHeader);
     }
     let rows = room_for(alloc, bytes)?;
@@ -65,7 +77,13 @@ fn room_for(alloc: Global, bytes: &[u8]) -> Result<Vec<BarRow>, AllocError>
 }
 
 // The bars of the records behind the header.
-fn rows_behind(alloc: Global, mut rows: Vec<BarRow>, records: &mut Records, sessions: &Sessions, assets: &Assets) -> Result<Vec<BarRow>, BarsError>
+fn rows_behind(
+    alloc: Global,
+    mut rows: Vec<BarRow>,
+    records: &mut Records,
+    sessions: &Sessions,
+    assets: &Assets,
+) -> Result<Vec<BarRow>, BarsError>
     requires { rows.items ≡ [] }
     ensures { Answers (λ v. v.items) fault_of result (rows_of 2 (says_bar sessions.now assets.now) records.old.left) }
 {
@@ -79,7 +97,13 @@ fn rows_behind(alloc: Global, mut rows: Vec<BarRow>, records: &mut Records, sess
 
 // The bar of the record that was read last, behind the bars before it, which are those of the set.
 #[tactic(auto, unfolding(crate::specs::Bars::says_bar))]
-fn next_bar(before: &[BarRow], seen: &mut BarSet, row: &Records, sessions: &Sessions, assets: &Assets) -> Result<BarRow, BarsError>
+fn next_bar(
+    before: &[BarRow],
+    seen: &mut BarSet,
+    row: &Records,
+    sessions: &Sessions,
+    assets: &Assets,
+) -> Result<BarRow, BarsError>
     requires few { length before.now ≤ 4_000_000 }
     requires cols { seen.old.cols ≡ length assets.now }
     requires sessions { seen.old.sessions ≡ length sessions.now }

@@ -1,4 +1,4 @@
-use Rattle.std.proofs.Common.{rules, ◌≡◌, ◌<◌, ◌∙◌, ap, arith, inl, inr, [], get_or, pos, FitsSigned, w64}
+use Rattle.std.proofs.Common.{rules, ◌∙◌, ap, arith, inl, inr, [], get_or, pos, FitsSigned, w64}
 use Rattle.std.proofs.lemmas.Int.{to_z-of_z}
 use Rattle.pl_spec.specs.declared.BarRow.{BarRow}
 use Rattle.pl_bars.proofs.BarSearch.{bar_found, bar_none, not_here, cell_found, cell_none, cell_at-IsCell, point_taken, point_passed}
@@ -14,7 +14,7 @@ returns-then-bars-at-2-clause-value c =
     let fits : FitsSigned w64 (get_or row.cells c.place_of.result (pos 0)) = search rules in
     to_z-of_z w64 _ fits ∙ ap (λ k. get_or row.cells k (pos 0)) c.place_of.ensures.value
     ∙ cell_found c.args.bars.now c.args.col c.args.session c.args.column c.args.at blank
-      (bar_found c.args.col c.args.session c.args.bars.now c.args.at blank c.if-at-bars.true c.requires.point c.if-bars-at.true c.if-bars-at-2.true)
+    (bar_found c.args.col c.args.session c.args.bars.now c.args.at blank c.if-at-bars.true c.requires.point c.if-bars-at.true c.if-bars-at-2.true)
 
 pub returns-then-bars-at-2-clause-cell : goal.returns-then-bars-at-2-clause-cell
 returns-then-bars-at-2-clause-cell c =
@@ -22,7 +22,7 @@ returns-then-bars-at-2-clause-cell c =
     let fits : FitsSigned w64 (get_or row.cells c.place_of.result (pos 0)) = search rules in
     rw (to_z-of_z w64 _ fits ∙ ap (λ k. get_or row.cells k (pos 0)) c.place_of.ensures.value
     ∙ cell_found c.args.bars.now c.args.col c.args.session c.args.column c.args.at blank
-      (bar_found c.args.col c.args.session c.args.bars.now c.args.at blank c.if-at-bars.true c.requires.point c.if-bars-at.true c.if-bars-at-2.true))
+    (bar_found c.args.col c.args.session c.args.bars.now c.args.at blank c.if-at-bars.true c.requires.point c.if-bars-at.true c.if-bars-at-2.true))
     (cell_at-IsCell c.args.bars.now c.args.col c.args.column c.args.session c.requires.bars)
 
 pub returns-then-bars-at-2-clause-point : goal.returns-then-bars-at-2-clause-point

@@ -1,4 +1,4 @@
-use Rattle.std.proofs.Common.{rules, ◌≡◌, ◌<◌, ◌+◌, ◌∙◌, sym, arith, length, FitsSigned, w32, None, Some}
+use Rattle.std.proofs.Common.{rules, ◌<◌, ◌∙◌, sym, arith, length, FitsSigned, w32}
 use Rattle.std.proofs.lemmas.Int.{to_z-of_z}
 use Rattle.pl_spec.proofs.Readings.{told}
 use Rattle.pl_bars.proofs.BarsRead.{no_session, no_asset, negative, duplicate}
@@ -9,7 +9,7 @@ returns-in_default-index_of-clause-exact c =
     let fits : FitsSigned w32 c.in-Some.fields.day = search rules in
     let session = simp to_z-of_z at c.index_of.ensures.exact in
     told _ _ _ _ (no_session c.args.sessions.now c.args.assets.now c.args.before.now c.args.row.now.fields c.in-Some.fields c.if-before-ge-MOST_BARS.false
-      (sym c.fields_of.ensures ∙ c.in-Some.is) (sym session ∙ c.in_default-index_of.is)) (omega arith)
+    (sym c.fields_of.ensures ∙ c.in-Some.is) (sym session ∙ c.in_default-index_of.is)) (omega arith)
 
 pub returns-in_default-col_of-clause-exact : goal.returns-in_default-col_of-clause-exact
 returns-in_default-col_of-clause-exact c =

@@ -1,4 +1,4 @@
-use Rattle.std.proofs.Common.{◌≡◌, ◌≤◌, length, arith}
+use Rattle.std.proofs.Common.{◌≤◌, length, arith}
 use Rattle.pl_records.specs.Records.{csv_records}
 use Rattle.pl_bars.proofs.BarsRead.{AreKept-read}
 use Rattle.pl_bars.proofs.reading.read_bars.Goals as goal

@@ -1,4 +1,4 @@
-use Rattle.std.proofs.Common.{rules, ◌≡◌, ◌+◌, ◌*◌, ◌^◌, nat_lt, arith, inl, inr, [], get_or}
+use Rattle.std.proofs.Common.{arith, inl, inr, [], get_or}
 use Rattle.pl_spec.specs.declared.BarRow.{BarRow}
 use Rattle.pl_bars.proofs.BarSearch.{bar_found, bar_none, not_here}
 use Rattle.pl_bars.proofs.search.row_of.Goals as goal
@@ -20,4 +20,5 @@ returns-else-i-rows c =
     (λ inside. elim c.else-i-rows.branch [
       | else-i-rows-via-then-i-rows+then-rows-i+else-rows-i-2 w ↦ not_here c.args.col c.args.session (get_or c.args.rows.now c.point_of-i.result blank) (inr w.if-rows-i-2.false)
       | else-i-rows-via-then-i-rows+else-rows-i w ↦ not_here c.args.col c.args.session (get_or c.args.rows.now c.point_of-i.result blank) (inl w.if-rows-i.false)
-      | else-i-rows-via-else-i-rows w ↦ absurd (omega (arith, w.if-i-rows.false)) ])
+      | else-i-rows-via-else-i-rows w ↦ absurd (omega (arith, w.if-i-rows.false))
+    ])
