@@ -218,17 +218,19 @@ IsFirstFault-other first P P' Q Q' f g records fault h =
 -- the rows are read exactly where they are those of the records
 pub rows-are : {Row R : Type 0} (first : ℕ) (IsRow : List Row → Record → Row → Type 0) (Breaks : List Row → Record → R → Type 0) (says : List Row → Record → Result Row R)
     → Judges IsRow Breaks says → (records : List Record) (rows : List Row) → (rows_of first says records ≡ Ok rows) ↔ AreRows IsRow records rows
-rows-are first IsRow Breaks says j records rows =
-    (λ e. AreRows-other (Says says) IsRow (λ before r row. (j.row before r row).0) records rows ((said_rows first says records rows).0 e),
-    λ h. (said_rows first says records rows).1 (AreRows-other IsRow (Says says) (λ before r row. (j.row before r row).1) records rows h))
+rows-are first IsRow Breaks says j records rows = (
+  λ e. AreRows-other (Says says) IsRow (λ before r row. (j.row before r row).0) records rows ((said_rows first says records rows).0 e),
+  λ h. (said_rows first says records rows).1 (AreRows-other IsRow (Says says) (λ before r row. (j.row before r row).1) records rows h),
+)
 
 -- and the fault is told exactly where it is the first
 pub fault-is : {Row R : Type 0} (first : ℕ) (IsRow : List Row → Record → Row → Type 0) (Breaks : List Row → Record → R → Type 0) (says : List Row → Record → Result Row R)
     → Judges IsRow Breaks says → (records : List Record) (fault : Fault R) → (rows_of first says records ≡ Err fault) ↔ IsFirstFault first IsRow Breaks records fault
-fault-is first IsRow Breaks says j records fault =
-    (λ e. IsFirstFault-other first (Says says) IsRow (Names says) Breaks (λ before r row. (j.row before r row).0) (λ before r rule. (j.rule before r rule).0) records fault
+fault-is first IsRow Breaks says j records fault = (
+  λ e. IsFirstFault-other first (Says says) IsRow (Names says) Breaks (λ before r row. (j.row before r row).0) (λ before r rule. (j.rule before r rule).0) records fault
       ((said_fault first says records fault).0 e),
-    λ h. (said_fault first says records fault).1 (IsFirstFault-other first IsRow (Says says) Breaks (Names says) (λ before r row. (j.row before r row).1) (λ before r rule. (j.rule before r rule).1) records fault h))
+  λ h. (said_fault first says records fault).1 (IsFirstFault-other first IsRow (Says says) Breaks (Names says) (λ before r row. (j.row before r row).1) (λ before r rule. (j.rule before r rule).1) records fault h),
+)
 
 -- no more rows than records
 pub rows-as_many : {Row R : Type 0} (first : ℕ) (says : List Row → Record → Result Row R) (records : List Record) (rows : List Row) → rows_of first says records ≡ Ok rows → length rows ≡ length records
@@ -377,6 +379,7 @@ under-are names bad IsRow Breaks says j records rows = (there, back)
     there e =
         let it = under_ok names bad says records rows e in
         record { behind = drop 1 records; parts = header-there names records it.0; right = (rows-are 2 IsRow Breaks says j (drop 1 records) rows).0 it.1 }
+
     back : AreRowsUnder names IsRow records rows → rows_under names bad says records ≡ Ok rows
     back h =
         rw (header-found names records h.behind h.parts)
@@ -390,8 +393,10 @@ under-fault {Row} {R} names bad IsRow Breaks says j records fault = (there (has_
         → IsFaultUnder names bad IsRow Breaks records fault
     there true t e = inr (drop 1 records, header-there names records t, (fault-is 2 IsRow Breaks says j (drop 1 records) fault).0 e)
     there false t e =
-        inl (λ behind h. absurd (let yes : has_header names records ≡ true = header-found names records behind h in let bad : true ≡ false = sym yes ∙ t in cc),
-        (let told : Err (record { rule = bad; line = 1 }) ≡ Err fault = e in cc))
+        inl (
+          λ behind h. absurd (let yes : has_header names records ≡ true = header-found names records behind h in let bad : true ≡ false = sym yes ∙ t in cc),
+          (let told : Err (record { rule = bad; line = 1 }) ≡ Err fault = e in cc),
+        )
 
     no_header : (b : Bool) → has_header names records ≡ b → ((behind : List Record) → records ≢ names ∷ behind) → has_header names records ≡ false
     no_header true t none = absurd (none (drop 1 records) (header-there names records t))
