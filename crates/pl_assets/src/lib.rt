@@ -1,5 +1,5 @@
-//! The assets: their sids and the days on which they exist. A column is the place of an asset among them by ascending sid,
-//! from 0.
+//! The assets: their sids and the days on which they exist. A column is the place of an asset among
+//! them by ascending sid, from 0.
 #![tactic(auto)]
 
 ghost use Rattle.std.specs.Prelude.{◌≡◌, ◌<◌, ◌≤◌, ◌==◌, length, slice_get, position, Some, IfOk, IfSome, option_map};
@@ -40,9 +40,11 @@ impl Model for Assets {
 }
 
 impl Assets {
-    /// The assets of a file: the header `sid,start,end`, and in each further record a sid and two dates, in any order of sids.
+    /// The assets of a file: the header `sid,start,end`, and in each further record a sid and two
+    /// dates, in any order of sids.
     pub fn read(alloc: Global, bytes: &[u8]) -> Result<Assets, AssetsError>
-        // The assets of the records, or the fault of the first faulty one. Only want of memory may come beside.
+        // The assets of the records, or the fault of the first faulty one. Only want of memory may
+        // come beside.
         ensures exact { Answers (λ a. a) fault_of result (assets_of (csv_records bytes.now)) }
         ensures assets { IfOk result AreAssets }
     {

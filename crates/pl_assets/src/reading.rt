@@ -68,7 +68,8 @@ fn next_asset(
     requires sids { AreSids sids.old before.now }
     ensures room { OnOk result (length before.now < 8_000) }
     ensures sids { IfOk result (λ a. AreSids sids.new (before.now ++ a ∷ [])) }
-    ensures exact { Answers (λ a. a) fault_of result (at_line (2 + length before.now) (says_asset before.now row.now.fields)) }
+    ensures exact { Answers (λ a. a) fault_of result
+        (at_line (2 + length before.now) (says_asset before.now row.now.fields)) }
 {
     let line = before.len() as u32 + 2;
     if before.len() >= MOST_ASSETS {

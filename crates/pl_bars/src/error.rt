@@ -4,9 +4,10 @@ ghost use Rattle.pl_bars.specs.declared.error.BarsError.TheVariants.{Memory};
 use std::alloc::{AllocError, AllocFailed};
 use thiserror::Error;
 
-/// Why a file has no list of bars. `line` is the number of the first faulty record, from 1, where the header is the first;
-/// blank lines are no records. Of the faults of a record the first decides, in the order `TooMany`, `BadField`,
-/// `NotSession`, `UnknownSid`, `Negative`, `Duplicate`.
+/// Why a file has no list of bars. `line` is the number of the first faulty record, from 1, where
+/// the header is the first; blank lines are no records. Of the faults of a record the first
+/// decides, in the order `TooMany`, `BadField`, `NotSession`, `UnknownSid`, `Negative`,
+/// `Duplicate`.
 #[derive(Clone, Copy, Debug, Drop, Error, PartialEq, Eq)]
 pub enum BarsError {
     /// The first record is not `sid,session,open,high,low,close,volume`, or there is none.

@@ -20,8 +20,10 @@ pub(crate) fn fill_assets(
     requires size { length into.old ≡ rows * length cols.now }
     requires range { first + rows ≤ 2 ^ 32 }
     ensures values { (i k : ℕ) → i < length cols.now → k < rows
-        → slice_index_or into.new (i * rows + k) (pos 0) ≡ cell_at bars.now (slice_index cols.now i) column (first + k) }
-    ensures cells { (i k : ℕ) → i < length cols.now → k < rows → IsCell (slice_index_or into.new (i * rows + k) (pos 0)) }
+        → slice_index_or into.new (i * rows + k) (pos 0)
+        ≡ cell_at bars.now (slice_index cols.now i) column (first + k) }
+    ensures cells { (i k : ℕ) → i < length cols.now → k < rows
+        → IsCell (slice_index_or into.new (i * rows + k) (pos 0)) }
 {
     for (i, col) in cols.iter().enumerate() {
         let part = &mut into[i * rows..(i + 1) * rows];
@@ -33,7 +35,8 @@ pub(crate) fn fill_assets(
 fn fill_asset(bars: &[BarRow], col: usize, column: Column, first: usize, into: &mut [i64])
     requires bars { AreBars bars.now }
     requires range { first + length into.old ≤ 2 ^ 32 }
-    ensures values { (k : ℕ) → k < length into.old → slice_index_or into.new k (pos 0) ≡ cell_at bars.now col column (first + k) }
+    ensures values { (k : ℕ) → k < length into.old
+        → slice_index_or into.new k (pos 0) ≡ cell_at bars.now col column (first + k) }
     ensures cells { (k : ℕ) → k < length into.old → IsCell (slice_index_or into.new k (pos 0)) }
 {
     let mut at = point_of(bars, col, first);
@@ -44,7 +47,8 @@ fn fill_asset(bars: &[BarRow], col: usize, column: Column, first: usize, into: &
     }
 }
 
-// The cell of the column on the session, whose bar stands at the point where there is one, and the next session's point.
+// The cell of the column on the session, whose bar stands at the point where there is one, and the
+// next session's point.
 fn step(bars: &[BarRow], at: usize, col: usize, session: usize, column: Column) -> (i64, usize)
     requires bars { AreBars bars.now }
     requires within { at ≤ length bars.now }

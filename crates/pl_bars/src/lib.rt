@@ -1,5 +1,5 @@
-//! The daily bars: five cells for an asset on a session. A bar is known by the column of its asset, a place among the
-//! assets, and by its session, a place among the sessions.
+//! The daily bars: five cells for an asset on a session. A bar is known by the column of its asset,
+//! a place among the assets, and by its session, a place among the sessions.
 #![tactic(auto)]
 
 ghost use Rattle.std.specs.Prelude.{◌≡◌, ℕ, ◌+◌, ◌*◌, ◌^◌, ◌<◌, ◌≤◌, length, pos, slice_index, slice_index_or, IfOk};
@@ -27,7 +27,8 @@ use pl_spec::Column;
 use std::alloc::Global;
 use std::marker::Model;
 
-/// The bars, at most 4,000,000 of them, by ascending column and then session. Their cells are missing or at least 0.
+/// The bars, at most 4,000,000 of them, by ascending column and then session. Their cells are
+/// missing or at least 0.
 #[derive(Debug, Drop)]
 pub struct Bars {
     rows: Vec<BarRow>,
@@ -46,16 +47,19 @@ impl Model for Bars {
 }
 
 impl Bars {
-    /// The bars of a file: the header `sid,session,open,high,low,close,volume`, and in each further record a sid, the date of
-    /// a session and five decimals or empty fields, in any order. An empty field is missing.
+    /// The bars of a file: the header `sid,session,open,high,low,close,volume`, and in each further
+    /// record a sid, the date of a session and five decimals or empty fields, in any order. An
+    /// empty field is missing.
     pub fn read(
         alloc: Global,
         bytes: &[u8],
         sessions: &Sessions,
         assets: &Assets,
     ) -> Result<Bars, BarsError>
-        // The bars of the records, or the fault of the first faulty one. Only want of memory may come beside.
-        ensures exact { Answers (λ b. b) fault_of result (bars_of sessions.now assets.now (csv_records bytes.now)) }
+        // The bars of the records, or the fault of the first faulty one. Only want of memory may
+        // come beside.
+        ensures exact { Answers (λ b. b) fault_of result
+            (bars_of sessions.now assets.now (csv_records bytes.now)) }
         ensures bars { IfOk result AreBars }
     {
         let rows = reading::read_bars(alloc, bytes, sessions, assets)?;
@@ -70,7 +74,8 @@ impl Bars {
         Bars { rows }
     }
 
-    /// The cell of the bar of a column on a session, in millionths; `MISSING` where there is no bar.
+    /// The cell of the bar of a column on a session, in millionths; `MISSING` where there is no
+    /// bar.
     pub fn get(&self, col: usize, session: usize, column: Column) -> i64
         ensures value { result ≡ cell_at self.now col column session }
         ensures cell { IsCell result }
@@ -90,8 +95,10 @@ impl Bars {
         requires size { length into.old ≡ rows * length cols.now }
         requires range { first + rows ≤ 2 ^ 32 }
         ensures values { (i k : ℕ) → i < length cols.now → k < rows
-            → slice_index_or into.new (i * rows + k) (pos 0) ≡ cell_at self.now (slice_index cols.now i) column (first + k) }
-        ensures cells { (i k : ℕ) → i < length cols.now → k < rows → IsCell (slice_index_or into.new (i * rows + k) (pos 0)) }
+            → slice_index_or into.new (i * rows + k) (pos 0)
+            ≡ cell_at self.now (slice_index cols.now i) column (first + k) }
+        ensures cells { (i k : ℕ) → i < length cols.now → k < rows
+            → IsCell (slice_index_or into.new (i * rows + k) (pos 0)) }
     {
         filling::fill_assets(&self.rows, column, first, rows, cols, into)
     }

@@ -25,7 +25,8 @@ pub(crate) fn read_bars(
     sessions: &Sessions,
     assets: &Assets,
 ) -> Result<Vec<BarRow>, BarsError>
-    ensures exact { Answers (λ v. v.items) fault_of result (bars_of sessions.now assets.now (csv_records bytes.now)) }
+    ensures exact { Answers (λ v. v.items) fault_of result
+        (bars_of sessions.now assets.now (csv_records bytes.now)) }
     ensures few { length sessions.now ≤ 16_000 }
 {
     let _count = sessions.len();
@@ -55,7 +56,8 @@ fn read_rows(
     sessions: &Sessions,
     assets: &Assets,
 ) -> Result<Vec<BarRow>, BarsError>
-    ensures { Answers (λ v. v.items) fault_of result (rows_in sessions.now assets.now (csv_records bytes.now)) }
+    ensures { Answers (λ v. v.items) fault_of result
+        (rows_in sessions.now assets.now (csv_records bytes.now)) }
 {
     let mut records = Records::new(alloc, bytes);
     if !records.read_header(&[
@@ -70,7 +72,8 @@ fn read_rows(
 // No bars, with room for one on each line of the file.
 fn room_for(alloc: Global, bytes: &[u8]) -> Result<Vec<BarRow>, AllocError>
     ensures none { IfOk result (λ v. v.items ≡ []) }
-    ensures room { IfOk result (λ v. vec_capacity v ≡ min (count_by (λ byte. byte == 10) bytes.now) 4_000_000) }
+    ensures room { IfOk result (λ v.
+        vec_capacity v ≡ min (count_by (λ byte. byte == 10) bytes.now) 4_000_000) }
 {
     let lines = bytes.iter().filter(|byte| **byte == b'\n').count();
     Vec::with_capacity(alloc, lines.min(MOST_BARS))
@@ -85,7 +88,8 @@ fn rows_behind(
     assets: &Assets,
 ) -> Result<Vec<BarRow>, BarsError>
     requires { rows.items ≡ [] }
-    ensures { Answers (λ v. v.items) fault_of result (rows_of 2 (says_bar sessions.now assets.now) records.old.left) }
+    ensures { Answers (λ v. v.items) fault_of result
+        (rows_of 2 (says_bar sessions.now assets.now) records.old.left) }
 {
     let mut seen = BarSet::new(alloc, assets.len(), sessions.len())?;
     'rows: while records.next()? {
@@ -112,7 +116,8 @@ fn next_bar(
     ensures cols { seen.new.cols ≡ length assets.now }
     ensures sessions { seen.new.sessions ≡ length sessions.now }
     ensures seen { IfOk result (λ b. AreBarsIn seen.new (before.now ++ b ∷ [])) }
-    ensures exact { Answers (λ b. b) fault_of result (at_line (2 + length before.now) (says_bar sessions.now assets.now before.now row.now.fields)) }
+    ensures exact { Answers (λ b. b) fault_of result
+        (at_line (2 + length before.now) (says_bar sessions.now assets.now before.now row.now.fields)) }
 {
     let line = before.len() as u32 + 2;
     if before.len() >= MOST_BARS {
