@@ -28,7 +28,7 @@ decimal-value_of bs t digits some lead small = decimal-digits_value (numerals_by
 
 -- ---- a text is a sid exactly where it is the text of a number of 32 bits
 
-sid_in-complete : (text : List ℕ) (n : ℕ) → n < 2 ^ 32 → text ≡ decimal n → sid_in text ≡ Some n
+pub sid_in-complete : (text : List ℕ) (n : ℕ) → n < 2 ^ 32 → text ≡ decimal n → sid_in text ≡ Some n
 unfolding sid_in
 sid_in-complete text n h e =
     let v : digits_value 10 text ≡ n = digits_value-decimal_of text n h e in
@@ -36,7 +36,7 @@ sid_in-complete text n h e =
     let s : bytes_eq text (decimal n) ≡ true = (bytes_eq-Decides text (decimal n)).1 e in
     rw (v, t, s) refl
 
-sid_in-sound : (text : List ℕ) (n : ℕ) → sid_in text ≡ Some n → (n < 2 ^ 32) × (text ≡ decimal n)
+pub sid_in-sound : (text : List ℕ) (n : ℕ) → sid_in text ≡ Some n → (n < 2 ^ 32) × (text ≡ decimal n)
 unfolding sid_in
 sid_in-sound text n e =
     let p = cond_some _ _ _ e in

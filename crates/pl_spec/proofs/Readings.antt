@@ -1,5 +1,5 @@
 -- Rows that are read are those of the records, and the fault is the first.
-use Rattle.std.proofs.Common.{◌≡◌, Bool, true, false, bytes_eq, ℕ, zero, suc, ◌+◌, ◌<◌, ◌≤◌, ◌↔◌, List, [], ◌∷◌, ◌++◌, length, take, drop, get_or, Option, Some, None, IfSome, Result, Ok, Err, refl, sym, ◌∙◌, ap, arith, rules, append_assoc, length-append, inl, inr, ◌⊎◌, add-one}
+use Rattle.std.proofs.Common.{◌≡◌, ◌≢◌, Bool, true, false, bytes_eq, ℕ, zero, suc, ◌+◌, ◌<◌, ◌≤◌, ◌↔◌, List, [], ◌∷◌, ◌++◌, length, take, drop, get_or, Option, Some, None, IfSome, Result, Ok, Err, refl, sym, ◌∙◌, ap, arith, rules, append_assoc, length-append, inl, inr, ◌⊎◌, add-one}
 use Rattle.std.specs.List.{slice_get}
 use Rattle.std.specs.Bool.{Decides, if◌then◌else◌}
 use Rattle.std.specs.Option.{ok_or}
@@ -10,7 +10,7 @@ use Rattle.std.proofs.lemmas.List.{take-append-le}
 use Rattle.std.proofs.lemmas.Option.{slice_get_within}
 use Rattle.std.proofs.Math.Seq.{take-append_seam}
 use Rattle.std.proofs.lemmas.Grind.{common_steps}
-use Rattle.pl_spec.specs.Reading.{rows_under, has_header, Record, field, Fault, ◌>>=◌, at_line, rows_behind, rows_of, AreRows, IsFirstFault}
+use Rattle.pl_spec.specs.Reading.{rows_under, has_header, Record, field, Fault, ◌>>=◌, at_line, rows_behind, rows_of, AreRows, IsFirstFault, BreaksFirst, Judges, AreRowsUnder, IsFaultUnder}
 
 pub rows-step : {Row R : Type 0} (first : ℕ) (says : List Row → Record → Result Row R) (before : List Row) (r : Record) (rs : List Record) (row : Row)
     → says before r ≡ Ok row → rows_behind first says before (r ∷ rs) ≡ rows_behind first says (before ++ row ∷ []) rs
@@ -72,11 +72,18 @@ nothing_behind (x ∷ xs) = ap (λ ys. x ∷ ys) (nothing_behind xs)
 
 -- ---- rows and their records
 
-AreRows-none : {Row R : Type 0} (says : List Row → Record → Result Row R) → AreRows says [] []
+-- the row that a judgement says, and the rule that it names
+abbrev pub Says : {Row R : Type 0} → (List Row → Record → Result Row R) → List Row → Record → Row → Type 0
+Says says before r row = says before r ≡ Ok row
+
+abbrev pub Names : {Row R : Type 0} → (List Row → Record → Result Row R) → List Row → Record → R → Type 0
+Names says before r rule = says before r ≡ Err rule
+
+AreRows-none : {Row R : Type 0} (says : List Row → Record → Result Row R) → AreRows (Says says) [] []
 AreRows-none says = record { as_many = refl; each = λ k r e. absurd (cc) }
 
 AreRows-more : {Row R : Type 0} (says : List Row → Record → Result Row R) (records : List Record) (rows : List Row) (r : Record) (row : Row)
-    → AreRows says records rows → says rows r ≡ Ok row → AreRows says (records ++ r ∷ []) (rows ++ row ∷ [])
+    → AreRows (Says says) records rows → says rows r ≡ Ok row → AreRows (Says says) (records ++ r ∷ []) (rows ++ row ∷ [])
 AreRows-more {Row} {R} says records rows r row h e =
     record {
       as_many = omega (arith, h.as_many, length-append rows (row ∷ []), length-append records (r ∷ []));
@@ -101,7 +108,7 @@ AreRows-more {Row} {R} says records rows r row h e =
 
 -- what is read behind rows of the records that are done
 reads : {Row R : Type 0} (first : ℕ) (says : List Row → Record → Result Row R) (rest done : List Record) (before rows : List Row)
-    → AreRows says done before → rows_behind first says before rest ≡ Ok rows → AreRows says (done ++ rest) rows
+    → AreRows (Says says) done before → rows_behind first says before rest ≡ Ok rows → AreRows (Says says) (done ++ rest) rows
 unfolding rows_behind
 reads first says [] done before rows h e =
     let same : before ≡ rows = cc in rw (nothing_behind done, ← same) h
@@ -109,21 +116,21 @@ reads {Row} {R} first says (r ∷ rs) done before rows h e =
     here (says before r) refl (λ row. reads first says rs (done ++ r ∷ []) (before ++ row ∷ []) rows) e
   where
     here : (x : Result Row R) → says before r ≡ x
-        → ((row : Row) → AreRows says (done ++ r ∷ []) (before ++ row ∷ []) → rows_behind first says (before ++ row ∷ []) rs ≡ Ok rows → AreRows says ((done ++ r ∷ []) ++ rs) rows)
-        → (at_line (first + length before) x >>= λ row. rows_behind first says (before ++ row ∷ []) rs) ≡ Ok rows → AreRows says (done ++ r ∷ rs) rows
+        → ((row : Row) → AreRows (Says says) (done ++ r ∷ []) (before ++ row ∷ []) → rows_behind first says (before ++ row ∷ []) rs ≡ Ok rows → AreRows (Says says) ((done ++ r ∷ []) ++ rs) rows)
+        → (at_line (first + length before) x >>= λ row. rows_behind first says (before ++ row ∷ []) rs) ≡ Ok rows → AreRows (Says says) (done ++ r ∷ rs) rows
     here (Ok row) was more e = rw append_assoc at (more row (AreRows-more says done before r row h was) e)
     here (Err rule) was more e = absurd (cc)
 
 fails : {Row R : Type 0} (first : ℕ) (says : List Row → Record → Result Row R) (rest done : List Record) (before : List Row) (fault : Fault R)
-    → AreRows says done before → rows_behind first says before rest ≡ Err fault → IsFirstFault first says (done ++ rest) fault
+    → AreRows (Says says) done before → rows_behind first says before rest ≡ Err fault → IsFirstFault first (Says says) (Names says) (done ++ rest) fault
 unfolding rows_behind
 fails first says [] done before fault h e = absurd (cc)
 fails {Row} {R} first says (r ∷ rs) done before fault h e =
     here (says before r) refl (λ row. fails first says rs (done ++ r ∷ []) (before ++ row ∷ []) fault) e
   where
     here : (x : Result Row R) → says before r ≡ x
-        → ((row : Row) → AreRows says (done ++ r ∷ []) (before ++ row ∷ []) → rows_behind first says (before ++ row ∷ []) rs ≡ Err fault → IsFirstFault first says ((done ++ r ∷ []) ++ rs) fault)
-        → (at_line (first + length before) x >>= λ row. rows_behind first says (before ++ row ∷ []) rs) ≡ Err fault → IsFirstFault first says (done ++ r ∷ rs) fault
+        → ((row : Row) → AreRows (Says says) (done ++ r ∷ []) (before ++ row ∷ []) → rows_behind first says (before ++ row ∷ []) rs ≡ Err fault → IsFirstFault first (Says says) (Names says) ((done ++ r ∷ []) ++ rs) fault)
+        → (at_line (first + length before) x >>= λ row. rows_behind first says (before ++ row ∷ []) rs) ≡ Err fault → IsFirstFault first (Says says) (Names says) (done ++ r ∷ rs) fault
     here (Ok row) was more e = rw append_assoc at (more row (AreRows-more says done before r row h was) e)
     here (Err rule) was more e =
         let same : record { rule = rule; line = first + length before } ≡ fault = cc in
@@ -140,7 +147,7 @@ fails {Row} {R} first says (r ∷ rs) done before fault h e =
 
 -- and back
 read_back : {Row R : Type 0} (first : ℕ) (says : List Row → Record → Result Row R) (rest done : List Record) (before rows : List Row)
-    → AreRows says (done ++ rest) rows → take (length done) rows ≡ before → rows_behind first says before rest ≡ Ok rows
+    → AreRows (Says says) (done ++ rest) rows → take (length done) rows ≡ before → rows_behind first says before rest ≡ Ok rows
 unfolding rows_behind
 read_back first says [] done before rows h e =
     let n : length rows ≤ length done = omega (arith, h.as_many, ap length (nothing_behind done)) in
@@ -165,24 +172,67 @@ rows-append {Row} {R} first says (r ∷ rs) ys before rows e =
     here (Ok row) more e = more row e
     here (Err rule) more e = absurd (cc)
 
--- the rows are read exactly where each record says its row
-pub rows-are : {Row R : Type 0} (first : ℕ) (says : List Row → Record → Result Row R) (records : List Record) (rows : List Row)
-    → (rows_of first says records ≡ Ok rows) ↔ AreRows says records rows
-rows-are first says records rows =
+said_rows : {Row R : Type 0} (first : ℕ) (says : List Row → Record → Result Row R) (records : List Record) (rows : List Row)
+    → (rows_of first says records ≡ Ok rows) ↔ AreRows (Says says) records rows
+said_rows first says records rows =
     (reads first says records [] [] rows (AreRows-none says), λ h. read_back first says records [] [] rows h refl)
 
--- and the fault is told exactly where it is the first
-pub fault-is : {Row R : Type 0} (first : ℕ) (says : List Row → Record → Result Row R) (records : List Record) (fault : Fault R)
-    → (rows_of first says records ≡ Err fault) ↔ IsFirstFault first says records fault
-fault-is {Row} {R} first says records fault = (fails first says records [] [] fault (AreRows-none says), back)
+said_fault : {Row R : Type 0} (first : ℕ) (says : List Row → Record → Result Row R) (records : List Record) (fault : Fault R)
+    → (rows_of first says records ≡ Err fault) ↔ IsFirstFault first (Says says) (Names says) records fault
+said_fault {Row} {R} first says records fault = (fails first says records [] [] fault (AreRows-none says), back)
   where
-    back : IsFirstFault first says records fault → rows_of first says records ≡ Err fault
+    back : IsFirstFault first (Says says) (Names says) records fault → rows_of first says records ≡ Err fault
     back h =
         let read : rows_of first says h.front ≡ Ok h.rows = read_back first says h.front [] [] h.rows h.right refl in
         let line : first + length h.rows ≡ fault.line = ap (λ n. first + n) h.right.as_many ∙ sym h.numbered in
         rw h.parts (rows-append first says h.front (h.faulty ∷ h.back) [] h.rows read
         ∙ rows-stop first says h.rows h.faulty h.back fault.rule h.breaks
         ∙ ap (λ n. Err (record { rule = fault.rule; line = n })) line)
+
+-- ---- by what a row and a broken rule are
+
+AreRows-other : {Row : Type 0} (P Q : List Row → Record → Row → Type 0) → ((before : List Row) (r : Record) (row : Row) → P before r row → Q before r row)
+    → (records : List Record) (rows : List Row) → AreRows P records rows → AreRows Q records rows
+AreRows-other P Q f records rows h =
+    record {
+      as_many = h.as_many;
+      each = λ k r e. (let it = h.each k r e in (it.0, it.1, f (take k rows) r it.0 it.2));
+    }
+
+IsFirstFault-other : {Row R : Type 0} (first : ℕ) (P P' : List Row → Record → Row → Type 0) (Q Q' : List Row → Record → R → Type 0)
+    → ((before : List Row) (r : Record) (row : Row) → P before r row → P' before r row)
+    → ((before : List Row) (r : Record) (rule : R) → Q before r rule → Q' before r rule)
+    → (records : List Record) (fault : Fault R) → IsFirstFault first P Q records fault → IsFirstFault first P' Q' records fault
+IsFirstFault-other first P P' Q Q' f g records fault h =
+    record {
+      front = h.front;
+      faulty = h.faulty;
+      back = h.back;
+      rows = h.rows;
+      parts = h.parts;
+      right = AreRows-other P P' f h.front h.rows h.right;
+      breaks = g h.rows h.faulty fault.rule h.breaks;
+      numbered = h.numbered;
+    }
+
+-- the rows are read exactly where they are those of the records
+pub rows-are : {Row R : Type 0} (first : ℕ) (IsRow : List Row → Record → Row → Type 0) (Breaks : List Row → Record → R → Type 0) (says : List Row → Record → Result Row R)
+    → Judges IsRow Breaks says → (records : List Record) (rows : List Row) → (rows_of first says records ≡ Ok rows) ↔ AreRows IsRow records rows
+rows-are first IsRow Breaks says j records rows =
+    (λ e. AreRows-other (Says says) IsRow (λ before r row. (j.row before r row).0) records rows ((said_rows first says records rows).0 e),
+    λ h. (said_rows first says records rows).1 (AreRows-other IsRow (Says says) (λ before r row. (j.row before r row).1) records rows h))
+
+-- and the fault is told exactly where it is the first
+pub fault-is : {Row R : Type 0} (first : ℕ) (IsRow : List Row → Record → Row → Type 0) (Breaks : List Row → Record → R → Type 0) (says : List Row → Record → Result Row R)
+    → Judges IsRow Breaks says → (records : List Record) (fault : Fault R) → (rows_of first says records ≡ Err fault) ↔ IsFirstFault first IsRow Breaks records fault
+fault-is first IsRow Breaks says j records fault =
+    (λ e. IsFirstFault-other first (Says says) IsRow (Names says) Breaks (λ before r row. (j.row before r row).0) (λ before r rule. (j.rule before r rule).0) records fault
+      ((said_fault first says records fault).0 e),
+    λ h. (said_fault first says records fault).1 (IsFirstFault-other first IsRow (Says says) Breaks (Names says) (λ before r row. (j.row before r row).1) (λ before r rule. (j.rule before r rule).1) records fault h))
+
+-- no more rows than records
+pub rows-as_many : {Row R : Type 0} (first : ℕ) (says : List Row → Record → Result Row R) (records : List Record) (rows : List Row) → rows_of first says records ≡ Ok rows → length rows ≡ length records
+rows-as_many first says records rows e = let it = (said_rows first says records rows).0 e in it.as_many
 
 -- ---- records as lists of fields
 
@@ -264,3 +314,83 @@ none_err o rule f e = rw e refl
 
 pub told : {A R : Type 0} (x : Result A R) (rule : R) (n m : ℕ) → x ≡ Err rule → n ≡ m → at_line n x ≡ Err (record { rule = rule; line = m })
 told x rule n m e f = rw (e, f) refl
+
+-- ---- a judgement that names the first rule that is broken
+
+-- A row keeps every rule, a record has one row, and the place of a rule tells it: so it is enough that what the judgement
+-- says is right.
+pub Judges-from : {Row R : Type 0} (IsRow : List Row → Record → Row → Type 0) (Breaks : List Row → Record → R → Type 0) (says : List Row → Record → Result Row R) (order : R → ℕ) (rule_at : ℕ → R)
+    → ((q : R) → rule_at (order q) ≡ q)
+    → ((before : List Row) (r : Record) (row : Row) → says before r ≡ Ok row → IsRow before r row)
+    → ((before : List Row) (r : Record) (rule : R) → says before r ≡ Err rule → BreaksFirst order (Breaks before r) rule)
+    → ((before : List Row) (r : Record) (x y : Row) → IsRow before r x → IsRow before r y → x ≡ y)
+    → ((before : List Row) (r : Record) (row : Row) → IsRow before r row → (q : R) → Breaks before r q → ⊥)
+    → Judges IsRow (λ before r. BreaksFirst order (Breaks before r)) says
+Judges-from {Row} {R} IsRow Breaks says order rule_at at ok err one kept =
+    record {
+      row = λ before r row. (ok before r row, says_row before r row (says before r) refl);
+      rule = λ before r rule. (err before r rule, says_rule before r rule (says before r) refl);
+    }
+  where
+    says_row : (before : List Row) (r : Record) (row : Row) (x : Result Row R) → says before r ≡ x → IsRow before r row → x ≡ Ok row
+    says_row before r row (Ok y) e h = ap Ok (one before r y row (ok before r y e) h)
+    says_row before r row (Err q) e h = absurd (let b = err before r q e in kept before r row h q b.breaks)
+
+    says_rule : (before : List Row) (r : Record) (rule : R) (x : Result Row R) → says before r ≡ x → BreaksFirst order (Breaks before r) rule → x ≡ Err rule
+    says_rule before r rule (Ok y) e h = absurd (kept before r y (ok before r y e) rule h.breaks)
+    says_rule before r rule (Err q) e h = ap Err (same (err before r q e))
+      where
+        same : BreaksFirst order (Breaks before r) q → q ≡ rule
+        same b = elim (cases_lt (order q) (order rule)) [
+          | inl lt ↦ absurd (h.no_earlier q lt b.breaks)
+          | inr ge ↦ elim (cases_lt (order rule) (order q)) [
+            | inl lt ↦ absurd (b.no_earlier rule lt h.breaks)
+            | inr le ↦ (let level : order q ≡ order rule = omega arith in sym (at q) ∙ ap rule_at level ∙ at rule)
+          ]
+        ]
+
+-- ---- rows under a header
+
+header-there : (names : Record) (records : List Record) → has_header names records ≡ true → records ≡ names ∷ drop 1 records
+header-there names [] e = absurd (let no : false ≡ true = e in cc)
+header-there names (r ∷ rs) e = ap (λ x. x ∷ rs) ((same_record r names).0 e)
+
+header-found : (names : Record) (records behind : List Record) → records ≡ names ∷ behind → has_header names records ≡ true
+header-found names records behind e = rw e ((same_record names names).1 refl)
+
+behind-header : (names : Record) (records behind : List Record) → records ≡ names ∷ behind → drop 1 records ≡ behind
+behind-header names records behind e = ap (drop 1) e
+
+pub under-are : {Row R : Type 0} (names : Record) (bad : R) (IsRow : List Row → Record → Row → Type 0) (Breaks : List Row → Record → R → Type 0) (says : List Row → Record → Result Row R)
+    → Judges IsRow Breaks says → (records : List Record) (rows : List Row) → (rows_under names bad says records ≡ Ok rows) ↔ AreRowsUnder names IsRow records rows
+under-are names bad IsRow Breaks says j records rows = (there, back)
+  where
+    there : rows_under names bad says records ≡ Ok rows → AreRowsUnder names IsRow records rows
+    there e =
+        let it = under_ok names bad says records rows e in
+        record { behind = drop 1 records; parts = header-there names records it.0; right = (rows-are 2 IsRow Breaks says j (drop 1 records) rows).0 it.1 }
+    back : AreRowsUnder names IsRow records rows → rows_under names bad says records ≡ Ok rows
+    back h =
+        rw (header-found names records h.behind h.parts)
+        (ap (rows_of 2 says) (behind-header names records h.behind h.parts) ∙ (rows-are 2 IsRow Breaks says j h.behind rows).1 h.right)
+
+pub under-fault : {Row R : Type 0} (names : Record) (bad : R) (IsRow : List Row → Record → Row → Type 0) (Breaks : List Row → Record → R → Type 0) (says : List Row → Record → Result Row R)
+    → Judges IsRow Breaks says → (records : List Record) (fault : Fault R) → (rows_under names bad says records ≡ Err fault) ↔ IsFaultUnder names bad IsRow Breaks records fault
+under-fault {Row} {R} names bad IsRow Breaks says j records fault = (there (has_header names records) refl, back)
+  where
+    there : (b : Bool) → has_header names records ≡ b → (if b then rows_of 2 says (drop 1 records) else Err (record { rule = bad; line = 1 })) ≡ Err fault
+        → IsFaultUnder names bad IsRow Breaks records fault
+    there true t e = inr (drop 1 records, header-there names records t, (fault-is 2 IsRow Breaks says j (drop 1 records) fault).0 e)
+    there false t e =
+        inl (λ behind h. absurd (let yes : has_header names records ≡ true = header-found names records behind h in let bad : true ≡ false = sym yes ∙ t in cc),
+        (let told : Err (record { rule = bad; line = 1 }) ≡ Err fault = e in cc))
+
+    no_header : (b : Bool) → has_header names records ≡ b → ((behind : List Record) → records ≢ names ∷ behind) → has_header names records ≡ false
+    no_header true t none = absurd (none (drop 1 records) (header-there names records t))
+    no_header false t none = t
+
+    back : IsFaultUnder names bad IsRow Breaks records fault → rows_under names bad says records ≡ Err fault
+    back (inl h) = rw (no_header _ refl h.0, h.1) refl
+    back (inr h) =
+        rw (header-found names records h.0 h.1)
+        (ap (rows_of 2 says) (behind-header names records h.0 h.1) ∙ (fault-is 2 IsRow Breaks says j h.0 fault).1 h.2)

@@ -1,0 +1,2 @@
+pub mod AssetsRead
+pub mod AssetsSaid

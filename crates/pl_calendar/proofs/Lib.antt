@@ -1,0 +1,3 @@
+pub mod DaysRead
+pub mod DaysSaid
+pub mod DaySearch

@@ -1,0 +1,39 @@
+-- The days of the records of a sessions file, and the first rule that a record breaks.
+use Rattle.std.specs.Prelude.{◌-◌, ◌==◌, ◌<◌, ◌≤◌, nat_le, Bool, true, if◌then◌else◌, ℤ, ◌<ℤ◌, List, [], ◌∷◌, length, slice_get, AllPairs, Option, None, option_map, unwrap_or, Result, Ok, Err}
+use Rattle.std.specs.Int.RustNames.{int_lt}
+use Rattle.std.specs.Option.{ok_or}
+use Rattle.pl_spec.specs.Reading.{Record, Fault, field, ◌>>=◌, rows_of}
+use Rattle.pl_spec.specs.Dates.{date_in}
+
+-- in the order in which they are tested
+pub data Rule : Type 0 where
+  TooMany BadDate NotAscending Empty : Rule
+
+-- the day of a record of one date
+abbrev pub day_in : Record → Option ℤ
+day_in r = if length r == 1 then date_in (field r 0) else None
+
+-- the last of some days
+abbrev pub last_of : List ℤ → Option ℤ
+last_of days = slice_get days (length days - 1)
+
+-- later than the last of the days before, where there is one
+abbrev pub is_later : List ℤ → ℤ → Bool
+is_later before day = unwrap_or (option_map (λ last. int_lt last day) (last_of before)) true
+
+-- the day of a record behind the days before it, or the first rule that it breaks
+unfoldable pub says_day : List ℤ → Record → Result ℤ Rule
+says_day before r =
+    if nat_le 16000 (length before) then Err TooMany
+    else ok_or (day_in r) BadDate >>= λ day. if is_later before day then Ok day else Err NotAscending
+
+-- the days of a file, or its first fault
+unfoldable pub sessions_of : List Record → Result (List ℤ) (Fault Rule)
+sessions_of [] = Err (record { rule = Empty; line = 1 })
+sessions_of (r ∷ rs) = rows_of 1 says_day (r ∷ rs)
+
+-- days as sessions have them
+pub record AreDays (days : List ℤ) : Type 0 where
+  pub some : 0 < length days
+  pub ascend : AllPairs (λ a b. a <ℤ b) days
+  pub few : length days ≤ 16_000

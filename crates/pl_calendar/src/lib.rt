@@ -1,0 +1,91 @@
+//! The sessions of the calendar: their days, which ascend. A session is known by its place, from 0.
+#![tactic(auto)]
+
+ghost use Rattle.std.specs.Prelude.{◌≡◌, ◌<◌, ◌≤◌, length, slice_get, position, Some, IfOk, IfSome};
+ghost use Rattle.std.specs.Int.RustNames.{int_le};
+ghost use Rattle.std.specs.Ordering.{int_eq};
+ghost use Rattle.pl_spec.specs.Reading.{Answers};
+ghost use Rattle.pl_records.specs.Records.{csv_records};
+ghost use Rattle.pl_calendar.specs.Days.{AreDays, sessions_of};
+ghost use Rattle.pl_calendar.specs.Faults.{fault_of};
+
+mod error;
+pub mod laws;
+mod reading;
+mod search;
+#[cfg(test)]
+mod tests;
+
+pub use error::CalendarError;
+use std::alloc::Global;
+use std::marker::Model;
+
+/// The days of the sessions, ascending: from 1 to 16,000 of them, each counted from 1970-01-01.
+#[derive(Debug, Drop)]
+pub struct Sessions {
+    days: Vec<i32>,
+}
+
+impl Model for Sessions {
+    ghost use Rattle.std.specs.Prelude.{List, ℤ};
+    ghost use Rattle.pl_calendar.specs.Days.{AreDays};
+
+    ghost Value = { List ℤ };
+
+    ghost view = { λ s. s.days.items };
+
+    ghost invariant = { λ s. AreDays s.days.items };
+}
+
+impl Sessions {
+    /// The sessions of a file: each record is one date, `YYYY-MM-DD`, later than the one before. There is no header.
+    pub fn read(alloc: Global, bytes: &[u8]) -> Result<Sessions, CalendarError>
+        // The days of the records, or the fault of the first faulty one. Only want of memory may come beside.
+        ensures exact { Answers (λ s. s) fault_of result (sessions_of (csv_records bytes.now)) }
+        ensures days { IfOk result AreDays }
+    {
+        let days = reading::read_sessions(alloc, bytes)?;
+        Ok(Sessions { days })
+    }
+
+    /// The sessions of these days.
+    pub fn from_days(days: Vec<i32>) -> Sessions
+        requires { AreDays days.items }
+        ensures { result ≡ days.items }
+    {
+        Sessions { days }
+    }
+
+    /// How many sessions there are.
+    pub fn len(&self) -> usize
+        ensures length { result ≡ length self.now }
+        ensures some { 0 < result }
+        ensures few { result ≤ 16_000 }
+    {
+        self.days.len()
+    }
+
+    /// The day of a session.
+    pub fn day(&self, i: usize) -> i32
+        requires { i < length self.now }
+        ensures { slice_get self.now i ≡ Some result }
+    {
+        self.days[i]
+    }
+
+    /// The session of a day, if the day has one.
+    pub fn index_of(&self, day: i32) -> Option<usize>
+        ensures within { IfSome result (λ i. i < length self.now) }
+        ensures exact { result ≡ position (λ d. int_eq d day) self.now }
+    {
+        search::index_of(&self.days, day)
+    }
+
+    /// The first session whose day is this one or a later one, if there is one.
+    pub fn first_at_or_after(&self, day: i32) -> Option<usize>
+        ensures within { IfSome result (λ i. i < length self.now) }
+        ensures exact { result ≡ position (λ d. int_le day d) self.now }
+    {
+        search::first_at_or_after(&self.days, day)
+    }
+}

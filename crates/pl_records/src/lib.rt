@@ -1,0 +1,150 @@
+//! The records of a CSV file, one at a time: the form in which all data files of the project are read.
+//!
+//! The separator is the comma. No header is set apart, records have any number of fields, nothing is trimmed, and a
+//! byte order mark at the front is dropped. A blank line is no record.
+#![tactic(auto)]
+
+ghost use Rattle.std.specs.Prelude.{◌≡◌, ◌<◌, [], map, drop, length, bytes_eq, IsTrue, IfOk, OnErr};
+ghost use lib.Pointwise.{pointwise};
+ghost use Rattle.pl_spec.specs.Reading.{field, has_header};
+ghost use Rattle.pl_records.specs.Records.{csv_records, GivesNext};
+
+use csv::{ByteRecord, Reader, ReaderBuilder};
+use std::alloc::{AllocError, Global};
+use std::marker::Model;
+
+/// The records of a file: the one that was read last, and those that are left.
+#[derive(Drop)]
+pub struct Records<'a> {
+    reader: Reader<&'a [u8]>,
+    row: ByteRecord,
+    done: bool,
+}
+
+impl<'a> Model for Records<'a> {
+    ghost use Rattle.pl_records.specs.View.{RecordsView};
+    ghost use Rattle.pl_records.specs.Inside.{view_of, IsReading};
+
+    ghost Value = { RecordsView };
+
+    ghost view = { view_of };
+
+    ghost invariant = { IsReading };
+}
+
+impl<'a> Records<'a> {
+    /// All records of the file are left, and none was read.
+    pub fn new(alloc: Global, bytes: &'a [u8]) -> Records<'a>
+        ensures none { result.fields ≡ [] }
+        ensures all { result.left ≡ csv_records bytes.entry.now }
+    {
+        let reader = ReaderBuilder::new()
+            .has_headers(false)
+            .flexible(true)
+            .from_reader(alloc, bytes);
+        Records {
+            reader,
+            row: ByteRecord::new(alloc),
+            done: false,
+        }
+    }
+
+    /// Reads the next record, if there is one. After an error none is left.
+    pub fn next(&mut self) -> Result<bool, AllocError>
+        ensures ok { IfOk result (λ found. GivesNext self.old self.new found) }
+        ensures err { OnErr result (self.new.left ≡ []) }
+    {
+        if self.done {
+            return Ok(false);
+        }
+        match self.reader.read_byte_record(&mut self.row) {
+            Ok(true) => Ok(true),
+            Ok(false) => {
+                self.done = true;
+                Ok(false)
+            }
+            // Over bytes in memory nothing else can fail.
+            Err(_) => {
+                self.done = true;
+                Err(AllocError)
+            }
+        }
+    }
+
+    /// How many fields the record has that was read last.
+    pub fn field_count(&self) -> usize
+        ensures { result ≡ length self.now.fields }
+    {
+        self.row.len()
+    }
+
+    /// A field of the record that was read last, counted from 0.
+    pub fn field(&self, i: usize) -> &[u8]
+        requires { i < length self.now.fields }
+        ensures { result.now ≡ field self.now.fields i }
+    {
+        match self.row.get(i) {
+            Some(field) => field,
+            None => unreachable!(),
+        }
+    }
+
+    /// Whether the record that was read last has exactly these fields.
+    pub fn has_fields(&self, names: &[&[u8]]) -> bool
+        ensures { result ≡ pointwise bytes_eq self.now.fields (map (λ n. n.now) names.now) }
+    {
+        if self.field_count() != names.len() {
+            return false;
+        }
+        for i in 0..names.len() {
+            let name: &[u8] = names[i];
+            if self.field(i) != name {
+                return false;
+            }
+        }
+        true
+    }
+
+    /// Reads the first record, and tells whether it is this header. A file without records has none.
+    pub fn read_header(&mut self, names: &[&[u8]]) -> Result<bool, AllocError>
+        ensures header { IfOk result (λ b. b ≡ has_header (map (λ n. n.now) names.now) self.old.left) }
+        ensures rest { IfOk result (λ b. IsTrue b → self.new.left ≡ drop 1 self.old.left) }
+    {
+        let found = self.next()?;
+        Ok(found && self.has_fields(names))
+    }
+}
+
+#[cfg(test)]
+mod tests {
+    use super::*;
+    use std::test::*;
+
+    #[test]
+    fn reads_records(rt: HostRuntime) -> Result<(), Fail> {
+        let one: &[&[u8]] = &[b"2024-01-02"];
+        let pair: &[&[u8]] = &[b"a", b"b"];
+        let quoted: &[&[u8]] = &[b"a,b", b"c\"d", b""];
+        let spaced: &[&[u8]] = &[b" a ", b"b "];
+        let empty: &[&[u8]] = &[b""];
+        let table: &[(&[u8], &[&[&[u8]]])] = &[
+            (b"", &[]),
+            (b"\xef\xbb\xbf", &[]),
+            (b"\r\n\n\n", &[]),
+            (b"2024-01-02", &[one]),
+            (b"2024-01-02\r\n\r\na,b\r\n", &[one, pair]),
+            (b"\xef\xbb\xbf2024-01-02\na,b", &[one, pair]),
+            (b"\"a,b\",\"c\"\"d\",\na,b\n", &[quoted, pair]),
+            (b" a ,b \n\"\"\n", &[spaced, empty]),
+        ];
+        for (bytes, wanted) in table.iter() {
+            let mut records = Records::new(rt.alloc(), bytes);
+            for fields in wanted.iter() {
+                assert!(rt; records.next()?);
+                assert!(rt; records.has_fields(fields));
+            }
+            assert!(rt; !records.next()?);
+        }
+        Ok(())
+    }
+}
