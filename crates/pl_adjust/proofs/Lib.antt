@@ -1,3 +1,6 @@
 pub mod Runs
 pub mod Between
 pub mod Folds
+pub mod OneOrder
+pub mod Kept
+pub mod RowOrder

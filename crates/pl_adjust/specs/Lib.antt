@@ -1,2 +1,4 @@
 -- What the contracts of this crate cite beside the definitions of pl_spec.
 pub mod Events
+pub mod Columns
+pub mod Rows
