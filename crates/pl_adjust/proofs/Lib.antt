@@ -4,3 +4,5 @@ pub mod Folds
 pub mod OneOrder
 pub mod Kept
 pub mod RowOrder
+pub mod Known
+pub mod Walks

@@ -1,12 +1,26 @@
 -- Adjustments with their columns.
 use Rattle.std.specs.Prelude.{◌≡◌, ℕ, ◌==◌, List, [], ◌∷◌, map, filter, length}
+use Rattle.std.specs.List.{position_or_len}
 use Rattle.std.specs.List.Sorted.{IsSorted, IsStable}
 use Rattle.std.specs.declared.cmp.Ordering.{Ordering}
 use Rattle.std.specs.Ordering.{nat_cmp, int_cmp, ordering_then}
-use Rattle.pl_spec.specs.World.{Event}
+use Rattle.pl_spec.specs.declared.AssetRow.{AssetRow}
+use Rattle.pl_spec.specs.World.{Adjustment, Event}
 use Rattle.pl_spec.specs.Parts.{ColumnAdjustment}
+use Rattle.pl_spec.specs.Sorted.{sorted_by}
 use Rattle.pl_adjust.specs.declared.adjust.Adjust.{Adjust}
 use Rattle.pl_adjust.specs.Events.{event_of}
+
+-- the column of a sid: the place of its asset
+abbrev pub col_in : List AssetRow → ℕ → ℕ
+col_in assets sid = position_or_len (λ a. a.sid == sid) assets
+
+abbrev pub in_column : List AssetRow → Adjustment → ColumnAdjustment
+in_column assets x = record { col = col_in assets x.sid; event = x.event }
+
+-- column by column, those of a column as they stood
+abbrev pub by_column : List ColumnAdjustment → List ColumnAdjustment
+by_column xs = sorted_by (λ x. x.col) xs
 
 -- each adjustment with the column at its place
 abbrev pub in_columns : List ℕ → List Adjust → List ColumnAdjustment

@@ -2,3 +2,6 @@
 pub mod Events
 pub mod Columns
 pub mod Rows
+pub mod Walk
+pub mod Faults
+pub mod Tables

@@ -1,20 +1,28 @@
 //! Adjustments: what splits, mergers and dividends make of earlier bars, and when.
 #![tactic(auto)]
 
-ghost use Rattle.std.specs.Prelude.{◌≡◌, ◌≤ℤ◌, [], map, AllPairs};
+ghost use Rattle.std.specs.Prelude.{◌≡◌, ◌≤ℤ◌, [], map, AllPairs, IfOk};
+ghost use Rattle.pl_spec.specs.Reading.{Answers};
 ghost use Rattle.pl_adjust.specs.Events.{event_of};
 ghost use Rattle.pl_adjust.specs.Columns.{events_at};
+ghost use Rattle.pl_adjust.specs.Faults.{fault_of};
+ghost use Rattle.pl_adjust.specs.Tables.{AreOf, adjustments_in};
 
 mod adjust;
 mod columns;
+mod error;
+mod rows;
 mod seen;
 mod table;
 
 pub use adjust::{Adjust, factor_for};
+pub use error::AdjustError;
 pub use pl_spec::AdjustmentKind as Kind;
 pub use seen::seen_now;
 pub use table::Table;
 
+use pl_assets::Assets;
+use pl_spec::RawAdjust;
 use std::alloc::Global;
 use std::marker::Model;
 
@@ -43,6 +51,26 @@ impl Adjustments {
             cols: Vec::new(alloc),
             adjusts: Vec::new(alloc),
         }
+    }
+
+    /// The adjustments of the rows of three tables. A row acts from the day of its effective time on, which is in seconds since
+    /// 1970-01-01. Rows are tested in the order of the tables, then their own; those of sids that no asset has are left out.
+    pub fn from_rows(
+        alloc: Global,
+        assets: &Assets,
+        splits: &[RawAdjust],
+        mergers: &[RawAdjust],
+        dividends: &[RawAdjust],
+    ) -> Result<Adjustments, AdjustError>
+        // The adjustments of the rows, or their first fault. Only want of memory may come beside.
+        ensures exact { Answers (λ a. a) fault_of result (adjustments_in assets.now splits.now mergers.now dividends.now) }
+        ensures columns { IfOk result (AreOf assets.now) }
+    {
+        let rows = rows::rows_of(alloc, assets, splits, mergers, dividends)?;
+        let rows = columns::by_place(rows)?;
+        let cols = rows.iter().map(|row| row.col).collect(alloc)?;
+        let adjusts = rows.iter().map(|row| row.adjust).collect(alloc)?;
+        Ok(Adjustments { cols, adjusts })
     }
 
     /// The adjustments of a column in the order in which they act: by day, on one day splits before mergers and these before

@@ -1,0 +1,69 @@
+-- One more row of a table.
+use Rattle.std.proofs.Common.{◌≡◌, ℕ, zero, suc, ◌+◌, ◌<◌, ◌≤◌, Bool, true, false, cond, List, [], ◌∷◌, ◌++◌, map, filter, length, drop, get_or, Option, Some, None, refl, sym, ◌∙◌, ap, arith, unsigned_abs, IfSome, ℤ, pos, append_assoc}
+use Rattle.std.proofs.lemmas.List.{at_drop_more, at_drop_all, map-append}
+use Rattle.pl_spec.specs.declared.AdjustmentKind.{AdjustmentKind}
+use Rattle.pl_spec.specs.declared.AssetRow.{AssetRow}
+use Rattle.pl_spec.specs.declared.RawAdjust.{RawAdjust}
+use Rattle.pl_spec.specs.Order.{adjustment_in, is_of, of_table}
+use Rattle.pl_spec.specs.Parts.{ColumnAdjustment}
+use Rattle.pl_adjust.specs.declared.adjust.Adjust.{Adjust}
+use Rattle.pl_adjust.specs.declared.columns.Row.{Row}
+use Rattle.pl_adjust.specs.declared.table.Table.{Table}
+use Rattle.pl_adjust.specs.Events.{event_of}
+use Rattle.pl_adjust.specs.Columns.{col_in, in_column}
+use Rattle.pl_adjust.specs.Rows.{row_of}
+use Rattle.pl_adjust.specs.Walk.{Fault, TableRow, fault_at, first_fault, in_table, kind_of}
+
+-- where a row is past the end
+abbrev pub blank : RawAdjust
+blank = record { id = pos 0; effective = pos 0; num = pos 0; den = pos 0; sid = pos 0 }
+
+next_row : (before i : ℕ) → before + (i + 1) ≡ suc (before + i)
+next_row before i = omega arith
+
+pub fault_more : (before i : ℕ) (table : Table) (raw : List RawAdjust) (d : RawAdjust) → i < length raw → fault_at (before + i) (record { table = table; row = get_or raw i d }) ≡ None
+    → first_fault (before + (i + 1)) (in_table table (drop (i + 1) raw)) ≡ first_fault (before + i) (in_table table (drop i raw))
+unfolding first_fault
+fault_more before i table raw d within none =
+    ap (λ n. first_fault n (in_table table (drop (i + 1) raw))) (next_row before i)
+    ∙ sym (at_drop_more (λ rows. first_fault (before + i) (in_table table rows)) raw i d within ∙ (rw none refl))
+
+pub fault_stops : (before i : ℕ) (table : Table) (raw : List RawAdjust) (d : RawAdjust) (f : Fault) → i < length raw → fault_at (before + i) (record { table = table; row = get_or raw i d }) ≡ Some f
+    → first_fault (before + i) (in_table table (drop i raw)) ≡ Some f
+unfolding first_fault
+fault_stops before i table raw d f within some =
+    at_drop_more (λ rows. first_fault (before + i) (in_table table rows)) raw i d within ∙ (rw some refl)
+
+-- an error that tells the row's fault tells the table's
+pub fault_told : (before i : ℕ) (table : Table) (raw : List RawAdjust) (d : RawAdjust) (told : Option Fault) → i < length raw
+    → IfSome told (λ f. fault_at (before + i) (record { table = table; row = get_or raw i d }) ≡ Some f)
+    → first_fault (before + i) (in_table table (drop i raw)) ≡ first_fault before (in_table table raw)
+    → IfSome told (λ f. first_fault before (in_table table raw) ≡ Some f)
+fault_told before i table raw d None within some left = tt
+fault_told before i table raw d (Some f) within some left = sym left ∙ fault_stops before i table raw d f within some
+
+pub fault_ends : (before i : ℕ) (table : Table) (raw : List RawAdjust) → length raw ≤ i → first_fault (before + i) (in_table table (drop i raw)) ≡ None
+unfolding first_fault
+fault_ends before i table raw past = at_drop_all (λ rows. first_fault (before + i) (in_table table rows)) raw i past
+
+-- the adjustments of what is left of a table
+abbrev rest : List AssetRow → AdjustmentKind → List RawAdjust → List ColumnAdjustment
+rest assets kind raw = map (in_column assets) (of_table assets kind raw)
+
+pub row_known : (assets : List AssetRow) (kind : AdjustmentKind) (raw : List RawAdjust) (i : ℕ) (d : RawAdjust) (rows : List Row) (x : Row) → i < length raw
+    → is_of assets (get_or raw i d) ≡ true → row_of x ≡ in_column assets (adjustment_in kind (get_or raw i d))
+    → map row_of (rows ++ x ∷ []) ++ map (in_column assets) (of_table assets kind (drop (i + 1) raw)) ≡ map row_of rows ++ map (in_column assets) (of_table assets kind (drop i raw))
+row_known assets kind raw i d rows x within known is =
+    ap (λ l. l ++ rest assets kind (drop (i + 1) raw)) (map-append row_of rows (x ∷ []))
+    ∙ append_assoc (map row_of rows) (row_of x ∷ []) (rest assets kind (drop (i + 1) raw))
+    ∙ ap (λ y. map row_of rows ++ (y ∷ rest assets kind (drop (i + 1) raw))) is
+    ∙ sym (at_drop_more (λ l. map row_of rows ++ rest assets kind l) raw i d within ∙ (rw known refl))
+
+pub row_unknown : (assets : List AssetRow) (kind : AdjustmentKind) (raw : List RawAdjust) (i : ℕ) (d : RawAdjust) (rows : List Row) → i < length raw → is_of assets (get_or raw i d) ≡ false
+    → map row_of rows ++ map (in_column assets) (of_table assets kind (drop (i + 1) raw)) ≡ map row_of rows ++ map (in_column assets) (of_table assets kind (drop i raw))
+row_unknown assets kind raw i d rows within other = sym (at_drop_more (λ l. map row_of rows ++ rest assets kind l) raw i d within ∙ (rw other refl))
+
+-- a row's adjustment by column, from its parts
+pub row_parts : (assets : List AssetRow) (kind : AdjustmentKind) (r : RawAdjust) (col : ℕ) (a : Adjust) → col ≡ col_in assets (unsigned_abs r.sid) → event_of a ≡ (adjustment_in kind r).event
+    → row_of (record { col = col; adjust = a }) ≡ in_column assets (adjustment_in kind r)
+row_parts assets kind r col a place event = cc
