@@ -24,7 +24,7 @@ in_front x y = is_lt (place_cmp x y)
 pub front_order : IsStrictWeakOrder in_front
 front_order = ranks_by (then_total (on_total (λ (x : ColumnAdjustment). x.col) nat_cmp_total) (on_total (λ (x : ColumnAdjustment). x.event.day) int_cmp_total)) (λ x. x)
 
-not_in_front : (a b : ℕ) (p q : ℤ) → is_lt (ordering_then (nat_cmp b a) (int_cmp q p)) ≡ false → (a ≤ b) × (a ≡ b → p ≤ℤ q)
+pub not_in_front : (a b : ℕ) (p q : ℤ) → is_lt (ordering_then (nat_cmp b a) (int_cmp q p)) ≡ false → (a ≤ b) × (a ≡ b → p ≤ℤ q)
 not_in_front a b p q h = here (nat_lt b a) (b == a) (int_lt q p) refl refl refl
   where
     here : (l e d : Bool) → nat_lt b a ≡ l → (b == a) ≡ e → int_lt q p ≡ d → (a ≤ b) × (a ≡ b → p ≤ℤ q)

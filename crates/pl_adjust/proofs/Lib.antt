@@ -6,3 +6,4 @@ pub mod Kept
 pub mod RowOrder
 pub mod Known
 pub mod Walks
+pub mod ByColumn

@@ -1,9 +1,10 @@
 -- Rows by place, as the definitions know them.
 use Rattle.std.proofs.Common.{◌≡◌, ℕ, ◌+◌, ◌<◌, Bool, true, false, ℤ, List, [], ◌∷◌, map, filter, cond, length, get_or, refl, sym, ◌∙◌, ap, arith}
-use Rattle.std.specs.List.Sorted.{IsSortedByKey, IsStableByKey, ties}
+use Rattle.std.specs.List.Sorted.{IsPermutation, IsSortedByKey, IsStableByKey, ties}
 use Rattle.std.specs.declared.cmp.Ordering.{Ordering}
 use Rattle.std.specs.Ordering.{nat_cmp, int_cmp, ordering_then}
 use Rattle.std.proofs.lemmas.List.{get_or-map, length-map}
+use Rattle.std.proofs.lemmas.List.Sorted.{IsPermutation-map}
 use Rattle.pl_spec.specs.Parts.{ColumnAdjustment}
 use Rattle.pl_adjust.specs.declared.columns.Row.{Row}
 use Rattle.pl_adjust.specs.Columns.{IsByPlace, place_cmp}
@@ -28,8 +29,9 @@ pair_cmp x y = ordering_then (nat_cmp x.0 y.0) (int_cmp x.1 y.1)
 abbrev to_row : ColumnAdjustment → Row
 to_row x = record { col = x.col; adjust = record { day = x.event.day; kind = x.event.kind; ratio = x.event.ratio } }
 
-pub by_place : (xs ys : List Row) → IsSortedByKey place_of pair_cmp ys → IsStableByKey place_of pair_cmp xs ys → IsByPlace (map row_of xs) (map row_of ys)
-by_place xs ys sorted stable = record {
+pub by_place : (xs ys : List Row) → IsPermutation xs ys → IsSortedByKey place_of pair_cmp ys → IsStableByKey place_of pair_cmp xs ys → IsByPlace (map row_of xs) (map row_of ys)
+by_place xs ys same sorted stable = record {
+  same = IsPermutation-map row_of xs ys same;
   sorted = λ k d low h.
       let long : length (map row_of ys) ≡ length ys = length-map ys row_of in
       let now : get_or (map row_of ys) k d ≡ row_of (get_or ys k (to_row d)) = get_or-map row_of ys k (to_row d) d (omega arith) in

@@ -1,6 +1,7 @@
 -- One more row of a table.
-use Rattle.std.proofs.Common.{◌≡◌, ℕ, zero, suc, ◌+◌, ◌<◌, ◌≤◌, Bool, true, false, cond, List, [], ◌∷◌, ◌++◌, map, filter, length, drop, get_or, Option, Some, None, refl, sym, ◌∙◌, ap, arith, unsigned_abs, IfSome, ℤ, pos, append_assoc}
-use Rattle.std.proofs.lemmas.List.{at_drop_more, at_drop_all, map-append}
+use Rattle.std.proofs.Common.{◌≡◌, ℕ, zero, suc, ◌+◌, ◌<◌, ◌≤◌, Bool, true, false, cond, List, [], ◌∷◌, ◌++◌, map, filter, length, drop, get_or, Option, Some, None, refl, sym, ◌∙◌, ap, arith, unsigned_abs, IfSome, ℤ, pos, append_assoc, add-zero, zero-add, length-append}
+use Rattle.std.proofs.lemmas.List.{at_drop_more, at_drop_all, map-append, length-map}
+use Rattle.std.specs.Option.{option_or}
 use Rattle.pl_spec.specs.declared.AdjustmentKind.{AdjustmentKind}
 use Rattle.pl_spec.specs.declared.AssetRow.{AssetRow}
 use Rattle.pl_spec.specs.declared.RawAdjust.{RawAdjust}
@@ -9,10 +10,11 @@ use Rattle.pl_spec.specs.Parts.{ColumnAdjustment}
 use Rattle.pl_adjust.specs.declared.adjust.Adjust.{Adjust}
 use Rattle.pl_adjust.specs.declared.columns.Row.{Row}
 use Rattle.pl_adjust.specs.declared.table.Table.{Table}
+use Rattle.pl_adjust.specs.declared.table.Table.TheVariants.{Splits, Mergers, Dividends}
 use Rattle.pl_adjust.specs.Events.{event_of}
 use Rattle.pl_adjust.specs.Columns.{col_in, in_column}
 use Rattle.pl_adjust.specs.Rows.{row_of}
-use Rattle.pl_adjust.specs.Walk.{Fault, TableRow, fault_at, first_fault, in_table, kind_of}
+use Rattle.pl_adjust.specs.Walk.{Fault, TableRow, fault_at, first_fault, in_table, walk}
 
 -- where a row is past the end
 abbrev pub blank : RawAdjust
@@ -67,3 +69,52 @@ row_unknown assets kind raw i d rows within other = sym (at_drop_more (λ l. map
 pub row_parts : (assets : List AssetRow) (kind : AdjustmentKind) (r : RawAdjust) (col : ℕ) (a : Adjust) → col ≡ col_in assets (unsigned_abs r.sid) → event_of a ≡ (adjustment_in kind r).event
     → row_of (record { col = col; adjust = a }) ≡ in_column assets (adjustment_in kind r)
 row_parts assets kind r col a place event = cc
+
+-- ---- one table behind the other
+
+pub first_fault-append : (n : ℕ) (xs ys : List TableRow) → first_fault n (xs ++ ys) ≡ option_or (first_fault n xs) (first_fault (n + length xs) ys)
+unfolding first_fault
+first_fault-append n [] ys = ap (λ k. first_fault k ys) (sym (add-zero n))
+first_fault-append n (x ∷ xs) ys = here (fault_at n x) (first_fault-append (suc n) xs ys ∙ ap (λ k. option_or (first_fault (suc n) xs) (first_fault k ys)) (next n (length xs)))
+  where
+    next : (n m : ℕ) → suc n + m ≡ n + suc m
+    next n m = omega arith
+    here : (o : Option Fault) → first_fault (suc n) (xs ++ ys) ≡ option_or (first_fault (suc n) xs) (first_fault (n + suc (length xs)) ys)
+        → option_or o (first_fault (suc n) (xs ++ ys)) ≡ option_or (option_or o (first_fault (suc n) xs)) (first_fault (n + suc (length xs)) ys)
+    here None e = e
+    here (Some f) e = refl
+
+length-in_table : (table : Table) (raw : List RawAdjust) → length (in_table table raw) ≡ length raw
+length-in_table table raw = length-map raw (λ r. record { table = table; row = r })
+
+walk-faults : (splits mergers dividends : List RawAdjust) → first_fault 0 (walk splits mergers dividends)
+    ≡ option_or (option_or (first_fault 0 (in_table Splits splits)) (first_fault (length splits) (in_table Mergers mergers))) (first_fault (length splits + length mergers) (in_table Dividends dividends))
+walk-faults splits mergers dividends =
+    let long : length (in_table Splits splits) ≡ length splits = length-in_table Splits splits in
+    let both : length (in_table Splits splits ++ in_table Mergers mergers) ≡ length splits + length mergers
+    = length-append (in_table Splits splits) (in_table Mergers mergers) ∙ ap (λ n. n + length (in_table Mergers mergers)) long ∙ ap (λ n. length splits + n) (length-in_table Mergers mergers) in
+    first_fault-append 0 (in_table Splits splits ++ in_table Mergers mergers) (in_table Dividends dividends)
+    ∙ ap (λ n. option_or (first_fault 0 (in_table Splits splits ++ in_table Mergers mergers)) (first_fault n (in_table Dividends dividends))) (zero-add _ ∙ both)
+    ∙ ap (λ o. option_or o (first_fault (length splits + length mergers) (in_table Dividends dividends)))
+    (first_fault-append 0 (in_table Splits splits) (in_table Mergers mergers)
+    ∙ ap (λ n. option_or (first_fault 0 (in_table Splits splits)) (first_fault n (in_table Mergers mergers))) (zero-add _ ∙ long))
+
+pub told_first : (splits mergers dividends : List RawAdjust) (told : Option Fault) → IfSome told (λ f. first_fault 0 (in_table Splits splits) ≡ Some f)
+    → IfSome told (λ f. first_fault 0 (walk splits mergers dividends) ≡ Some f)
+told_first splits mergers dividends None some = tt
+told_first splits mergers dividends (Some f) some = walk-faults splits mergers dividends ∙ rw some refl
+
+pub told_second : (splits mergers dividends : List RawAdjust) (told : Option Fault) → first_fault 0 (in_table Splits splits) ≡ None → IfSome told (λ f. first_fault (length splits) (in_table Mergers mergers) ≡ Some f)
+    → IfSome told (λ f. first_fault 0 (walk splits mergers dividends) ≡ Some f)
+told_second splits mergers dividends None first some = tt
+told_second splits mergers dividends (Some f) first some = walk-faults splits mergers dividends ∙ rw (first, some) refl
+
+pub told_third : (splits mergers dividends : List RawAdjust) (told : Option Fault) → first_fault 0 (in_table Splits splits) ≡ None → first_fault (length splits) (in_table Mergers mergers) ≡ None
+    → IfSome told (λ f. first_fault (length splits + length mergers) (in_table Dividends dividends) ≡ Some f)
+    → IfSome told (λ f. first_fault 0 (walk splits mergers dividends) ≡ Some f)
+told_third splits mergers dividends None first second some = tt
+told_third splits mergers dividends (Some f) first second some = walk-faults splits mergers dividends ∙ rw (first, second, some) refl
+
+pub told_none : (splits mergers dividends : List RawAdjust) → first_fault 0 (in_table Splits splits) ≡ None → first_fault (length splits) (in_table Mergers mergers) ≡ None
+    → first_fault (length splits + length mergers) (in_table Dividends dividends) ≡ None → first_fault 0 (walk splits mergers dividends) ≡ None
+told_none splits mergers dividends first second third = walk-faults splits mergers dividends ∙ rw (first, second, third) refl

@@ -1,7 +1,7 @@
 -- Adjustments with their columns.
 use Rattle.std.specs.Prelude.{◌≡◌, ℕ, ◌==◌, List, [], ◌∷◌, map, filter, length}
 use Rattle.std.specs.List.{position_or_len}
-use Rattle.std.specs.List.Sorted.{IsSorted, IsStable}
+use Rattle.std.specs.List.Sorted.{IsPermutation, IsSorted, IsStable}
 use Rattle.std.specs.declared.cmp.Ordering.{Ordering}
 use Rattle.std.specs.Ordering.{nat_cmp, int_cmp, ordering_then}
 use Rattle.pl_spec.specs.declared.AssetRow.{AssetRow}
@@ -38,6 +38,7 @@ place_cmp x y = ordering_then (nat_cmp x.col y.col) (int_cmp x.event.day y.event
 
 -- the same adjustments by column and day; what has one column and one day stands as it stood
 pub record IsByPlace (xs ys : List ColumnAdjustment) : Type 0 where
+  pub same : IsPermutation xs ys
   pub sorted : IsSorted place_cmp ys
   pub stable : IsStable place_cmp xs ys
 
