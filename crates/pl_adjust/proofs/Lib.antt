@@ -7,3 +7,4 @@ pub mod RowOrder
 pub mod Known
 pub mod Walks
 pub mod ByColumn
+pub mod Made

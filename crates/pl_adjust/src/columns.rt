@@ -3,7 +3,7 @@ ghost use Rattle.pl_adjust.specs.Events.{event_of};
 ghost use Rattle.pl_adjust.specs.Columns.{AreKept, IsByPlace, events_at, in_columns};
 
 use crate::adjust::Adjust;
-use std::alloc::AllocError;
+use std::alloc::{AllocError, Global};
 
 // An adjustment of the asset in a column.
 #[derive(Clone, Copy, Debug)]
@@ -20,6 +20,20 @@ pub(crate) fn by_place(mut rows: Vec<Row>) -> Result<Vec<Row>, AllocError>
 {
     rows.sort_by_key(|row| (row.col, row.adjust.day))?;
     Ok(rows)
+}
+
+// The columns of the rows.
+pub(crate) fn cols_of(alloc: Global, rows: &[Row]) -> Result<Vec<usize>, AllocError>
+    ensures { IfOk result (λ cols. cols.items ≡ map (λ r. r.col) rows.now) }
+{
+    rows.iter().map(|row| row.col).collect(alloc)
+}
+
+// The adjustments of the rows.
+pub(crate) fn adjusts_of(alloc: Global, rows: &[Row]) -> Result<Vec<Adjust>, AllocError>
+    ensures { IfOk result (λ adjusts. adjusts.items ≡ map (λ r. r.adjust) rows.now) }
+{
+    rows.iter().map(|row| row.adjust).collect(alloc)
 }
 
 // The adjustments of a column.

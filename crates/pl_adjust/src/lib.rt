@@ -67,9 +67,9 @@ impl Adjustments {
         ensures columns { IfOk result (AreOf assets.now) }
     {
         let rows = rows::rows_of(alloc, assets, splits, mergers, dividends)?;
-        let rows = columns::by_place(rows)?;
-        let cols = rows.iter().map(|row| row.col).collect(alloc)?;
-        let adjusts = rows.iter().map(|row| row.adjust).collect(alloc)?;
+        let sorted = columns::by_place(rows)?;
+        let cols = columns::cols_of(alloc, &sorted)?;
+        let adjusts = columns::adjusts_of(alloc, &sorted)?;
         Ok(Adjustments { cols, adjusts })
     }
 
