@@ -1,0 +1,5 @@
+pub mod Counting
+pub mod Held
+pub mod Keepers
+pub mod Pieces
+pub mod Takes

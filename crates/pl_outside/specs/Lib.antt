@@ -1,0 +1,13 @@
+-- What the contracts of the outside cite.
+pub mod Counts
+pub mod Files
+pub mod Lists
+pub mod Taken
+pub mod Reads
+pub mod Calls
+pub mod ShelfState
+pub mod KeeperState
+pub mod SinkState
+pub mod HeldFiles
+pub mod MemoryShelf
+pub mod MemoryKeeper

@@ -1,0 +1,35 @@
+//! The outside of a run: where files, rows of adjustments and written bytes come from and go to.
+//!
+//! `Shelf`, `AdjustKeeper` and `Sink` are what a run is given. Each says by ghost members what it holds or took, as far
+//! as it tells, and counts its faults. A call fails only where the count rose in it: as the call ends, the count is
+//! greater than at its start or stands at the greatest number of 64 bits. A sound object tells, and counts no fault but
+//! those that its trait names, so that a caller of sound objects knows each answer.
+//!
+//! `read_file` and `write_bytes` are the two loops over them. The parts in memory are for tests and for runs that
+//! write nothing.
+#![tactic(auto)]
+
+mod call_log;
+mod faults;
+mod files;
+mod keeper;
+mod memory_keeper;
+mod memory_shelf;
+mod memory_sink;
+mod reading;
+mod shelf;
+mod sink;
+#[cfg(test)]
+mod tests;
+mod writing;
+
+pub use faults::{Failed, Memory};
+pub use keeper::{AdjustKeeper, KeepError, NoKeeper, Table};
+pub use memory_keeper::MemoryKeeper;
+pub use memory_shelf::MemoryShelf;
+pub use memory_sink::MemorySink;
+pub use pl_spec::RawAdjust;
+pub use reading::{ReadError, read_file};
+pub use shelf::Shelf;
+pub use sink::{NullSink, Sink};
+pub use writing::write_bytes;

@@ -1,0 +1,105 @@
+// A file as a whole.
+ghost use Rattle.std.specs.Prelude.{◌≡◌, ◌≤◌, ◌<◌, ◌+◌, ◌^◌, ◌↔◌, Some, None, length, IfOk, IsTrue, IsSome, IsSomeAnd, IsErrOf};
+ghost use Rattle.std.specs.Option.{ForSome};
+ghost use Rattle.pl_outside.specs.Counts.{Rose, count_plus};
+ghost use Rattle.pl_outside.specs.Reads.{IsReadWhole};
+
+use crate::faults::Failed;
+use crate::shelf::Shelf;
+use std::alloc::{AllocError, Global};
+
+/// Why a file isn't read: the shelf counted a fault, the file has more bytes than are allowed, or no memory was found.
+#[derive(Clone, Copy, Debug, PartialEq, Eq)]
+pub enum ReadError {
+    Failed,
+    TooLong,
+    Memory,
+}
+
+impl From<Failed> for ReadError {
+    ghost use Rattle.pl_outside.specs.declared.reading.ReadError.TheVariants.{Failed};
+
+    ghost from_gives = { λ _ e. e ≡ Failed };
+
+    fn from(_fault: Failed) -> ReadError {
+        ReadError::Failed
+    }
+}
+
+impl From<AllocError> for ReadError {
+    ghost use Rattle.pl_outside.specs.declared.reading.ReadError.TheVariants.{Memory};
+
+    ghost from_gives = { λ _ e. e ≡ Memory };
+
+    fn from(_refused: AllocError) -> ReadError {
+        ReadError::Memory
+    }
+}
+
+// how many bytes are asked for at once
+const PIECE: usize = 4096;
+
+/// The whole bytes of the named file, if there are at most `cap`. `TooLong` comes where `cap + 1` bytes were given. It
+/// makes at most `cap + 2` calls of the shelf.
+pub fn read_file<S: Shelf>(
+    alloc: Global,
+    shelf: &mut S,
+    name: &str,
+    cap: usize,
+) -> Result<Vec<u8>, ReadError>
+    requires { cap < 2 ^ 32 }
+    ensures within { IfOk result (λ bytes. length bytes.items ≤ cap) }
+    ensures exact { ForSome (S.holds shelf.old) (λ files. IfOk result (λ bytes. files name.now ≡ Some bytes.items)) }
+
+    // whatever the shelf is, a failure has its cause
+    ensures failed { IsErrOf result ReadError.Failed → Rose (S.faults shelf.old) (S.faults shelf.new) }
+    ensures later { S.faults shelf.old ≤ S.faults shelf.new }
+    ensures too_long { IsErrOf result ReadError.TooLong → S.given shelf.new ≡ count_plus (S.given shelf.old) (cap + 1) }
+
+    // where the shelf tells, each answer but Failed and Memory is by the file's length
+    ensures absent { ForSome (S.holds shelf.old) (λ files. files name.now ≡ None → IsErrOf result ReadError.Failed) }
+    ensures longer { ForSome (S.holds shelf.old) (λ files. IsErrOf result ReadError.TooLong
+        → IsSomeAnd (files name.now) (λ bytes. cap < length bytes)) }
+    ensures whole { ForSome (S.holds shelf.old) (λ files. ¬ IsErrOf result ReadError.Failed → ¬ IsErrOf result ReadError.Memory
+        → IsReadWhole cap (files name.now) result) }
+
+    // over a sound shelf a failure comes exactly where the name isn't held
+    ensures misses { IsTrue (S.sound shelf.old) → ForSome (S.holds shelf.old) (λ files.
+        IsErrOf result ReadError.Failed ↔ (files name.now ≡ None)) }
+    ensures quiet { IsTrue (S.sound shelf.old) → ForSome (S.holds shelf.old) (λ files. IsSome (files name.now)
+        → S.faults shelf.new ≡ S.faults shelf.old) }
+    ensures keeps { S.holds shelf.new ≡ S.holds shelf.old }
+    ensures stays { S.sound shelf.new ≡ S.sound shelf.old }
+    ensures calls { S.calls shelf.new ≤ S.calls shelf.old + (cap + 2) }
+{
+    shelf.begin(name)?;
+    read_rest(alloc, shelf, cap)
+}
+
+/// What is left of the file that was begun.
+fn read_rest<S: Shelf>(alloc: Global, shelf: &mut S, cap: usize) -> Result<Vec<u8>, ReadError>
+    requires { cap < 2 ^ 32 }
+    ensures within { IfOk result (λ bytes. length bytes.items ≤ cap) }
+    ensures exact { ForSome (S.holds shelf.old) (λ files. IfOk result (λ bytes. S.rest shelf.old ≡ bytes.items)) }
+    ensures failed { IsErrOf result ReadError.Failed → Rose (S.faults shelf.old) (S.faults shelf.new) }
+    ensures later { S.faults shelf.old ≤ S.faults shelf.new }
+    ensures too_long { IsErrOf result ReadError.TooLong → S.given shelf.new ≡ count_plus (S.given shelf.old) (cap + 1) }
+    ensures longer { ForSome (S.holds shelf.old) (λ files. IsErrOf result ReadError.TooLong → cap < length (S.rest shelf.old)) }
+    ensures blameless { IsTrue (S.sound shelf.old)
+        → ¬ IsErrOf result ReadError.Failed × (S.faults shelf.new ≡ S.faults shelf.old) }
+    ensures keeps { S.holds shelf.new ≡ S.holds shelf.old }
+    ensures stays { S.sound shelf.new ≡ S.sound shelf.old }
+    ensures calls { S.calls shelf.new ≤ S.calls shelf.old + (cap + 1) }
+{
+    let mut piece = [0u8; PIECE];
+    let mut bytes = Vec::new(alloc);
+    while bytes.len() <= cap {
+        let most = (cap + 1 - bytes.len()).min(PIECE);
+        let count = shelf.next(&mut piece[..most])?;
+        if count == 0 {
+            return Ok(bytes);
+        }
+        bytes.extend_from_slice(&piece[..count])?;
+    }
+    Err(ReadError::TooLong)
+}

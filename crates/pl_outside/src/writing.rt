@@ -1,0 +1,21 @@
+// A text as a whole.
+ghost use Rattle.std.specs.Prelude.{◌≡◌, ◌≤◌, ◌+◌, max, length};
+ghost use Rattle.pl_outside.specs.Counts.{count_plus};
+ghost use Rattle.pl_outside.specs.Taken.{Writes};
+
+use crate::faults::Failed;
+use crate::sink::Sink;
+
+/// Writes all of the bytes, or answers Failed after a prefix of them. It makes at most one call of the sink for each
+/// byte, and one where there is no byte.
+pub fn write_bytes<O: Sink>(out: &mut O, bytes: &[u8]) -> Result<(), Failed>
+    ensures writes { Writes O.taken O.faults O.sound O.room out.old out.new bytes.now result }
+    ensures calls { O.calls out.new ≤ O.calls out.old + max 1 (length bytes.now) }
+    ensures empty { length bytes.now ≡ 0 → O.calls out.new ≡ count_plus (O.calls out.old) 1 }
+{
+    let mut done = out.write(bytes)?;
+    while done < bytes.len() {
+        done += out.write(&bytes[done..])?;
+    }
+    Ok(())
+}
