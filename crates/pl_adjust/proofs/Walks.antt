@@ -9,8 +9,8 @@ use Rattle.pl_spec.specs.Order.{adjustment_in, is_of, of_table}
 use Rattle.pl_spec.specs.Parts.{ColumnAdjustment}
 use Rattle.pl_adjust.specs.declared.adjust.Adjust.{Adjust}
 use Rattle.pl_adjust.specs.declared.columns.Row.{Row}
-use Rattle.pl_adjust.specs.declared.table.Table.{Table}
-use Rattle.pl_adjust.specs.declared.table.Table.TheVariants.{Splits, Mergers, Dividends}
+use Rattle.pl_outside.specs.declared.keeper.Table.{Table}
+use Rattle.pl_outside.specs.declared.keeper.Table.TheVariants.{Splits, Mergers, Dividends}
 use Rattle.pl_adjust.specs.Events.{event_of}
 use Rattle.pl_adjust.specs.Columns.{col_in, in_column}
 use Rattle.pl_adjust.specs.Rows.{row_of}

@@ -6,8 +6,8 @@ use Rattle.pl_spec.specs.declared.AdjustmentKind.{AdjustmentKind}
 use Rattle.pl_spec.specs.declared.AdjustmentKind.TheVariants.{Split, Merger, Dividend}
 use Rattle.pl_spec.specs.declared.RawAdjust.{RawAdjust}
 use Rattle.pl_spec.specs.Order.{day_of_time}
-use Rattle.pl_adjust.specs.declared.table.Table.{Table}
-use Rattle.pl_adjust.specs.declared.table.Table.TheVariants.{Splits, Mergers, Dividends}
+use Rattle.pl_outside.specs.declared.keeper.Table.{Table}
+use Rattle.pl_outside.specs.declared.keeper.Table.TheVariants.{Splits, Mergers, Dividends}
 
 -- what the rows of a table are
 abbrev pub kind_of : Table → AdjustmentKind

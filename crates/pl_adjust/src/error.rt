@@ -1,7 +1,7 @@
 ghost use Rattle.std.specs.Prelude.{◌≡◌};
 ghost use Rattle.pl_adjust.specs.declared.error.AdjustError.TheVariants.{Memory};
 
-use crate::table::Table;
+use pl_outside::Table;
 use std::alloc::{AllocError, AllocFailed};
 use thiserror::Error;
 

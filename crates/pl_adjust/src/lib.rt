@@ -13,13 +13,11 @@ mod columns;
 mod error;
 mod rows;
 mod seen;
-mod table;
 
 pub use adjust::{Adjust, factor_for};
 pub use error::AdjustError;
 pub use pl_spec::AdjustmentKind as Kind;
 pub use seen::seen_now;
-pub use table::Table;
 
 use pl_assets::Assets;
 use pl_spec::RawAdjust;

@@ -11,7 +11,7 @@ ghost use Rattle.pl_adjust.specs.Walk.{fault_at, first_fault, in_table, is_effec
 use crate::adjust::Adjust;
 use crate::columns::Row;
 use crate::error::AdjustError;
-use crate::table::Table;
+use pl_outside::Table;
 use pl_assets::Assets;
 use pl_fixed::Ratio;
 use pl_spec::{AdjustmentKind as Kind, RawAdjust};
