@@ -13,6 +13,8 @@ mod columns;
 mod error;
 mod rows;
 mod seen;
+#[cfg(test)]
+mod tests;
 
 pub use adjust::{Adjust, factor_for};
 pub use error::AdjustError;
