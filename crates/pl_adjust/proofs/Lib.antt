@@ -8,3 +8,4 @@ pub mod Known
 pub mod Walks
 pub mod ByColumn
 pub mod Made
+pub mod FirstFaults

@@ -5,3 +5,4 @@ pub mod Rows
 pub mod Walk
 pub mod Faults
 pub mod Tables
+pub mod Rules

@@ -11,6 +11,7 @@ ghost use Rattle.pl_adjust.specs.Tables.{AreOf, adjustments_in};
 mod adjust;
 mod columns;
 mod error;
+pub mod laws;
 mod rows;
 mod seen;
 #[cfg(test)]
