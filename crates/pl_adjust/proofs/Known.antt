@@ -23,7 +23,7 @@ list_any-same p q same (x ∷ xs) = ap (λ b. b || list_any p xs) (same x) ∙ a
 abbrev pub has_sid : ℤ → List AssetRow → Bool
 has_sid z assets = list_any (λ a. int_eq (pos a.sid) z) assets
 
-same_sid : (sid n : ℕ) → int_eq (pos n) (pos sid) ≡ (n == sid)
+pub same_sid : (sid n : ℕ) → int_eq (pos n) (pos sid) ≡ (n == sid)
 same_sid sid n = grind (arith, nat_tests, ints)
 
 pub known-found : (assets : List AssetRow) (sid i : ℕ) (d : AssetRow) → position (λ a. a.sid == sid) assets ≡ Some i → has_sid (pos sid) assets ≡ true

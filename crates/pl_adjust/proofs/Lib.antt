@@ -9,3 +9,4 @@ pub mod Walks
 pub mod ByColumn
 pub mod Made
 pub mod FirstFaults
+pub mod Sids

@@ -43,7 +43,7 @@ kept_from before rows cols adjusts h e f = record {
 
 -- ---- each column is one of an asset
 
-place_known : (z : ℤ) (assets : List AssetRow) → list_any (λ a. int_eq (pos a.sid) z) assets ≡ true → position_or_len (λ a. a.sid == unsigned_abs z) assets < length assets
+pub place_known : (z : ℤ) (assets : List AssetRow) → list_any (λ a. int_eq (pos a.sid) z) assets ≡ true → position_or_len (λ a. a.sid == unsigned_abs z) assets < length assets
 place_known z [] e = absurd (cc)
 place_known z (a ∷ assets) e = here (a.sid == unsigned_abs z) (int_eq (pos a.sid) z) refl refl e (place_known z assets)
   where
