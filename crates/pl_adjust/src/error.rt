@@ -3,23 +3,18 @@ ghost use Rattle.pl_adjust.specs.declared.error.AdjustError.TheVariants.{Memory}
 
 use pl_outside::Table;
 use std::alloc::{AllocError, AllocFailed};
-use thiserror::Error;
 
 /// Why the rows of three tables are no adjustments: the first fault of their rows, splits before mergers and these before
 /// dividends. Of the faults of a row the first decides, in the order `TooMany`, `BadEffective`, `BadRatio`.
-#[derive(Clone, Copy, Debug, Drop, Error, PartialEq, Eq)]
+#[derive(Clone, Copy, Debug, PartialEq, Eq)]
 pub enum AdjustError {
     /// The day of the row is not of the years 1900 to 2199.
-    #[error("row {id}: the effective time is of no day from 1900-01-01 to 2199-12-31")]
     BadEffective { table: Table, id: i64 },
     /// A part of the row's ratio is not from 1 to 10^9.
-    #[error("row {id}: the ratio is of no two numbers from 1 to 1000000000")]
     BadRatio { table: Table, id: i64 },
     /// The tables have more than 1,000,000 rows in all.
-    #[error("more than 1000000 rows")]
     TooMany,
     /// Memory ran out.
-    #[error("out of memory")]
     Memory,
 }
 

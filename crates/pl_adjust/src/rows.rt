@@ -105,6 +105,7 @@ fn col_of(assets: &Assets, row: &RawAdjust) -> Option<usize>
     ensures some { IfSome result (λ col. (is_of assets.now row.now ≡ true) × (col ≡ col_in assets.now (unsigned_abs row.now.sid))) }
     ensures none { IfNone result (is_of assets.now row.now ≡ false) }
 {
+    // Where there are assets, their sids are numbers of 32 bits.
     if assets.len() == 0 {
         return None;
     }

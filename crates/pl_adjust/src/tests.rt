@@ -1,5 +1,4 @@
 ghost use Rattle.std.specs.Prelude.{◌≡◌, ◌<◌};
-ghost use Rattle.pl_spec.specs.Rounding.{IsCell};
 
 use super::*;
 use pl_assets::AssetRow;
@@ -32,14 +31,16 @@ fn assets(alloc: Global) -> Result<Assets, Fail> {
     Ok(Assets::from_rows(rows))
 }
 
-fn seen<L: Ledger>(list: &Adjustments, cell: i64, bar_day: i32, day: i32, column: Column, blank: Blank) -> i64
-    requires cell { IsCell cell }
+fn seen<L: Ledger>(list: &Adjustments, cell: i64, bar_day: i32, day: i32, column: Column, blank: Blank) -> Option<i64>
     requires name { blank.name ≡ L.name }
     requires parts { blank.parts ≡ L.parts }
     requires one { 0 < L.parts }
 {
+    if !is_cell(cell) {
+        return None;
+    }
     let mut steps = Steps::<L>::new(blank);
-    seen_now(cell, bar_day, day, list.of_col(0), column, &mut steps)
+    Some(seen_now(cell, bar_day, day, list.of_col(0), column, &mut steps))
 }
 
 // Days: 2024-01-02 is 19724.
@@ -69,10 +70,8 @@ fn sees_cells(rt: HostRuntime) -> Result<(), Fail> {
     ];
     for (splits, mergers, column, cell, bar_day, day, want) in table.iter() {
         let list = Adjustments::from_rows(rt.alloc(), &assets, splits, mergers, &none)?;
-        if is_cell(*cell) {
-            let got = seen::<Brand>(&list, *cell, *bar_day, *day, *column, Blank::new(1));
-            assert_eq!(rt; got, *want);
-        }
+        let got = seen::<Brand>(&list, *cell, *bar_day, *day, *column, Blank::new(1));
+        assert_eq!(rt; got, Some(*want));
     }
     assert_eq!(rt; Adjustments::none(rt.alloc()).of_col(0).len(), 0);
     Ok(())
