@@ -1,5 +1,5 @@
 -- Adjustments between two days.
-use Rattle.std.proofs.Common.{◌≡◌, ℕ, ◌+◌, ◌-◌, ◌<◌, ◌≤◌, Bool, true, false, ℤ, ◌≤ℤ◌, ◌&&◌, List, [], length, get_or, take, drop, refl, sym, ap, arith, inl, inr, length-drop}
+use Rattle.std.proofs.Common.{◌≡◌, ℕ, ◌+◌, ◌-◌, ◌<◌, ◌≤◌, Bool, true, false, ℤ, ◌≤ℤ◌, ◌&&◌, List, [], length, get_or, take, drop, sym, arith, inl, inr, length-drop}
 use Rattle.std.specs.Int.RustNames.{int_lt, int_le}
 use Rattle.std.specs.List.{filter, AllPairs}
 use Rattle.std.specs.List.Sorted.{IsPartitionPoint, IsPartitionedBy}
@@ -19,9 +19,9 @@ IsEnd day xs n = IsPartitionPoint (λ a. int_le a.day day ≡ true) (λ a. int_l
 
 pub parted : (day : ℤ) (xs : List Adjust) → AllPairs (λ a b. a.day ≤ℤ b.day) xs → IsPartitionedBy (λ a. int_le a.day day) xs
 parted day xs up i j d h l t = elim (cases_lt i j) [
-    | inl p ↦ at_most (get_or xs i d).day (get_or xs j d).day (up i j d p l) t
-    | inr p ↦ let same : i ≡ j = omega arith in rw same t
-  ]
+  | inl p ↦ at_most (get_or xs i d).day (get_or xs j d).day (up i j d p l) t
+  | inr p ↦ let same : i ≡ j = omega arith in rw same t
+]
   where
     at_most : (a b : ℤ) → a ≤ℤ b → int_le b day ≡ true → int_le a day ≡ true
     at_most a b h t = grind (arith, ints)

@@ -1,14 +1,12 @@
 -- The rows by column and day are the adjustments of the tables column by column.
-use Rattle.std.proofs.Common.{◌≡◌, ◌≢◌, ℕ, zero, suc, ◌+◌, ◌<◌, ◌≤◌, ◌==◌, nat_lt, nat_le, Bool, true, false, cond, not, ◌&&◌, ℤ, pos, ◌≤ℤ◌, List, [], ◌∷◌, ◌++◌, map, filter, length, get_or, All, AllPairs, refl, sym, ◌∙◌, ap, arith, unsigned_abs}
-use Rattle.std.specs.List.Sorted.{IsPermutation, ties}
+use Rattle.std.proofs.Common.{◌≡◌, ℕ, suc, ◌<◌, ◌≤◌, ◌==◌, nat_lt, nat_le, Bool, true, false, cond, not, ℤ, ◌≤ℤ◌, List, [], ◌∷◌, map, filter, length, get_or, AllPairs, refl, sym, ◌∙◌, ap, arith}
+use Rattle.std.specs.List.Sorted.{ties}
 use Rattle.std.specs.Int.RustNames.{int_lt}
 use Rattle.std.specs.declared.cmp.Ordering.TheVariants.{Less, Equal, Greater}
 use Rattle.std.specs.Ordering.{is_lt, nat_cmp, int_cmp, int_eq, ordering_then}
 use Rattle.std.proofs.lemmas.Bool.{and_parts, not-true}
 use Rattle.std.proofs.lemmas.Bool.Decides.{nat_tests}
 use Rattle.std.proofs.lemmas.Int.{ints}
-use Rattle.std.proofs.lemmas.List.Kept.{AllPairs-filter}
-use Rattle.std.proofs.lemmas.List.Sorted.{sorted_far}
 use Rattle.pl_spec.specs.declared.AssetRow.{AssetRow}
 use Rattle.pl_spec.specs.World.{Adjustment}
 use Rattle.pl_spec.specs.Order.{acts_at, by_day}
@@ -123,6 +121,7 @@ rises-insert x (y ∷ ys) l r = here (nat_le x.col y.col) refl (rises-insert x y
         place : (b : Bool) → NoneBelow in_front front_order y (insert_by col_of x zs) → NoneBelow in_front front_order y (cond b (x ∷ z ∷ zs) (z ∷ insert_by col_of x zs))
         place true rest = (e, n)
         place false rest = (n.0, rest)
+
     here : (b : Bool) → nat_le x.col y.col ≡ b → Rises in_front front_order (insert_by col_of x ys) → Rises in_front front_order (cond b (x ∷ y ∷ ys) (y ∷ insert_by col_of x ys))
     here true t rest =
         let low : x.col ≤ y.col = grind (arith, nat_tests) in
@@ -154,6 +153,7 @@ module _ (assets : List AssetRow) where
     where
       kept : Adjustment → Bool
       kept x = ties in_front z (in_column assets x)
+
       on_day : (x : Adjustment) → ties in_front z (in_column assets x) ≡ true → acts_at z.event.day x ≡ true
       on_day x t = let same : z.event.day ≡ x.event.day = (tied z (in_column assets x) t).1 in same_day x.event.day z.event.day (sym same)
         where

@@ -1,5 +1,5 @@
 -- The first fault of a walk, in plain words.
-use Rattle.std.proofs.Common.{◌≡◌, ◌↔◌, ℕ, zero, suc, ◌+◌, ◌<◌, ◌≤◌, ◌/◌, nat_le, Bool, true, false, ◌&&◌, if◌then◌else◌, ℤ, pos, negsuc, ◌<ℤ◌, ◌≤ℤ◌, List, [], ◌∷◌, ◌++◌, length, map, slice_get, Option, Some, None, Result, Ok, Err, refl, sym, ◌∙◌, ap, arith, zero-add, add-zero}
+use Rattle.std.proofs.Common.{◌≡◌, ◌↔◌, ℕ, zero, suc, ◌+◌, ◌<◌, ◌≤◌, ◌/◌, nat_le, Bool, true, false, ◌&&◌, if◌then◌else◌, ℤ, pos, negsuc, ◌<ℤ◌, ◌≤ℤ◌, List, [], ◌∷◌, ◌++◌, length, map, slice_get, Option, Some, None, Ok, Err, refl, sym, ◌∙◌, ap, arith, zero-add, add-zero}
 use Rattle.std.specs.Int.RustNames.{int_le}
 use Rattle.std.specs.Option.{option_or}
 use Rattle.std.proofs.lemmas.Bool.{and_parts}
@@ -54,6 +54,7 @@ part_if n e = let both = and_parts (int_le (pos 1) n) (int_le n (pos 1000000000)
   where
     low : int_le (pos 1) n ≡ true → pos 1 ≤ℤ n
     low e = grind (arith, ints)
+
     high : int_le n (pos 1000000000) ≡ true → n ≤ℤ pos 1000000000
     high e = grind (arith, ints)
 
@@ -210,15 +211,17 @@ module _ (assets : List AssetRow) (splits mergers dividends : List RawAdjust) wh
 
   pub tables_right : ((xs : List ColumnAdjustment) × (adjustments_in assets splits mergers dividends ≡ Ok xs)) ↔ AreRight (walk splits mergers dividends)
   unfolding adjustments_in
-  tables_right =
-      ((λ h. (right-is (walk splits mergers dividends)).0 (none_of (first_fault 0 (walk splits mergers dividends)) made h.0 h.1)),
-      (λ h. (made, ap (λ o. ok_unless o made) ((right-is (walk splits mergers dividends)).1 h))))
+  tables_right = (
+    (λ h. (right-is (walk splits mergers dividends)).0 (none_of (first_fault 0 (walk splits mergers dividends)) made h.0 h.1)),
+    (λ h. (made, ap (λ o. ok_unless o made) ((right-is (walk splits mergers dividends)).1 h))),
+  )
 
   pub tables_fault : (fault : Fault) → (adjustments_in assets splits mergers dividends ≡ Err fault) ↔ IsFirstFault (walk splits mergers dividends) fault
   unfolding adjustments_in
-  tables_fault fault =
-      ((λ h. (fault-is (walk splits mergers dividends) fault).0 (some_of (first_fault 0 (walk splits mergers dividends)) made fault h)),
-      (λ h. ap (λ o. ok_unless o made) ((fault-is (walk splits mergers dividends) fault).1 h)))
+  tables_fault fault = (
+    (λ h. (fault-is (walk splits mergers dividends) fault).0 (some_of (first_fault 0 (walk splits mergers dividends)) made fault h)),
+    (λ h. ap (λ o. ok_unless o made) ((fault-is (walk splits mergers dividends) fault).1 h)),
+  )
 
   pub made_is : (xs : List ColumnAdjustment) → adjustments_in assets splits mergers dividends ≡ Ok xs → xs ≡ by_column (map (in_column assets) (adjustments_of assets splits mergers dividends))
   unfolding adjustments_in

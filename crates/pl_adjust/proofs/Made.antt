@@ -1,5 +1,5 @@
 -- The adjustments that three tables make.
-use Rattle.std.proofs.Common.{◌≡◌, ℕ, zero, suc, ◌+◌, ◌<◌, ◌≤◌, ◌==◌, ◌||◌, Bool, true, false, cond, not, ℤ, pos, negsuc, ◌≤ℤ◌, List, [], ◌∷◌, ◌++◌, map, filter, length, get_or, All, AllPairs, Option, Some, None, IfSome, Ok, Err, refl, sym, ◌∙◌, ap, arith, unsigned_abs, inl, inr}
+use Rattle.std.proofs.Common.{◌≡◌, ℕ, suc, ◌+◌, ◌<◌, ◌==◌, ◌||◌, Bool, true, false, cond, not, ℤ, pos, ◌≤ℤ◌, List, [], ◌∷◌, ◌++◌, map, filter, length, All, AllPairs, Option, Some, None, IfSome, Ok, Err, refl, sym, ◌∙◌, ap, arith, unsigned_abs}
 use Rattle.std.specs.List.{list_any, position_or_len}
 use Rattle.std.specs.List.Sorted.{IsSorted}
 use Rattle.std.specs.Ordering.{int_eq}
@@ -13,12 +13,11 @@ use Rattle.pl_spec.specs.declared.AdjustmentKind.{AdjustmentKind}
 use Rattle.pl_spec.specs.declared.AdjustmentKind.TheVariants.{Split, Merger, Dividend}
 use Rattle.pl_spec.specs.declared.AssetRow.{AssetRow}
 use Rattle.pl_spec.specs.declared.RawAdjust.{RawAdjust}
-use Rattle.pl_spec.specs.World.{Adjustment}
 use Rattle.pl_spec.specs.Order.{adjustment_in, by_day, is_of, of_table}
 use Rattle.pl_spec.specs.Parts.{ColumnAdjustment}
 use Rattle.pl_adjust.specs.declared.adjust.Adjust.{Adjust}
 use Rattle.pl_adjust.specs.declared.columns.Row.{Row}
-use Rattle.pl_adjust.specs.Columns.{AreKept, IsByPlace, by_column, col_in, in_column, in_columns, place_cmp}
+use Rattle.pl_adjust.specs.Columns.{AreKept, IsByPlace, by_column, in_column, in_columns, place_cmp}
 use Rattle.pl_adjust.specs.Rows.{row_of}
 use Rattle.pl_adjust.specs.Tables.{AreOf, adjustments_in, ok_unless}
 use Rattle.pl_adjust.specs.Walk.{Fault, first_fault, walk}
@@ -38,7 +37,7 @@ pub kept_from : (before : List ColumnAdjustment) (rows : List Row) (cols : List 
     → cols ≡ map (λ r. r.col) rows → adjusts ≡ map (λ r. r.adjust) rows → AreKept cols adjusts
 kept_from before rows cols adjusts h e f = record {
   as_many = ap length f ∙ length-map rows (λ (r : Row). r.adjust) ∙ sym (length-map rows (λ (r : Row). r.col)) ∙ ap length (sym e);
-  sorted = rw (view_is rows cols adjusts e f) h.sorted
+  sorted = rw (view_is rows cols adjusts e f) h.sorted;
 }
 
 -- ---- each column is one of an asset
@@ -49,6 +48,7 @@ place_known z (a ∷ assets) e = here (a.sid == unsigned_abs z) (int_eq (pos a.s
   where
     same : (n : ℕ) → int_eq (pos n) z ≡ true → n ≡ unsigned_abs z
     same n t = let it : pos n ≡ z = grind (arith, ints) in ap unsigned_abs it
+
     here : (b c : Bool) → (a.sid == unsigned_abs z) ≡ b → int_eq (pos a.sid) z ≡ c → (c || list_any (λ (x : AssetRow). int_eq (pos x.sid) z) assets) ≡ true
         → (list_any (λ (x : AssetRow). int_eq (pos x.sid) z) assets ≡ true → position_or_len (λ (x : AssetRow). x.sid == unsigned_abs z) assets < length assets)
         → cond (not b) (1 + position_or_len (λ (x : AssetRow). x.sid == unsigned_abs z) assets) 0 < suc (length assets)
@@ -70,8 +70,10 @@ module _ (assets : List AssetRow) where
 
   tables_in : (splits mergers dividends : List RawAdjust) → All HasAsset (map (in_column assets) (of_table assets Split splits ++ of_table assets Merger mergers ++ of_table assets Dividend dividends))
   tables_in splits mergers dividends =
-      rw (map-append (in_column assets) (of_table assets Split splits ++ of_table assets Merger mergers) (of_table assets Dividend dividends),
-      map-append (in_column assets) (of_table assets Split splits) (of_table assets Merger mergers))
+      rw (
+        map-append (in_column assets) (of_table assets Split splits ++ of_table assets Merger mergers) (of_table assets Dividend dividends),
+        map-append (in_column assets) (of_table assets Split splits) (of_table assets Merger mergers),
+      )
       (All-append HasAsset _ _ (All-append HasAsset _ _ (table_in Split splits) (table_in Merger mergers)) (table_in Dividend dividends))
 
   -- ---- those of a column stand by day
@@ -94,7 +96,7 @@ module _ (assets : List AssetRow) where
       → before ≡ map (in_column assets) (of_table assets Split splits ++ of_table assets Merger mergers ++ of_table assets Dividend dividends) → IsByPlace before ys → AreOf assets ys
   are_of splits mergers dividends before ys e h = record {
     in_columns = All-permutation HasAsset before ys h.same (rw e (tables_in splits mergers dividends));
-    in_order = in_order ys h.sorted
+    in_order = in_order ys h.sorted;
   }
 
   pub made : (splits mergers dividends : List RawAdjust) (before ys : List ColumnAdjustment) → first_fault 0 (walk splits mergers dividends) ≡ None

@@ -1,5 +1,5 @@
 -- Rows by place, as the definitions know them.
-use Rattle.std.proofs.Common.{◌≡◌, ℕ, ◌+◌, ◌<◌, Bool, true, false, ℤ, List, [], ◌∷◌, map, filter, cond, length, get_or, refl, sym, ◌∙◌, ap, arith}
+use Rattle.std.proofs.Common.{◌≡◌, ℕ, ◌+◌, Bool, true, false, ℤ, List, [], ◌∷◌, map, filter, cond, length, get_or, refl, sym, ◌∙◌, ap, arith}
 use Rattle.std.specs.List.Sorted.{IsPermutation, IsSortedByKey, IsStableByKey, ties}
 use Rattle.std.specs.declared.cmp.Ordering.{Ordering}
 use Rattle.std.specs.Ordering.{nat_cmp, int_cmp, ordering_then}
@@ -7,7 +7,7 @@ use Rattle.std.proofs.lemmas.List.{get_or-map, length-map}
 use Rattle.std.proofs.lemmas.List.Sorted.{IsPermutation-map}
 use Rattle.pl_spec.specs.Parts.{ColumnAdjustment}
 use Rattle.pl_adjust.specs.declared.columns.Row.{Row}
-use Rattle.pl_adjust.specs.Columns.{IsByPlace, place_cmp}
+use Rattle.pl_adjust.specs.Columns.{IsByPlace}
 use Rattle.pl_adjust.specs.Rows.{row_of}
 use Rattle.pl_adjust.proofs.Kept.{in_front}
 
@@ -37,5 +37,5 @@ by_place xs ys same sorted stable = record {
       let now : get_or (map row_of ys) k d ≡ row_of (get_or ys k (to_row d)) = get_or-map row_of ys k (to_row d) d (omega arith) in
       let next : get_or (map row_of ys) (k + 1) d ≡ row_of (get_or ys (k + 1) (to_row d)) = get_or-map row_of ys (k + 1) (to_row d) d (omega arith) in
       rw (now, next) (sorted k (to_row d) low (omega arith));
-  stable = λ z. filter-map (ties in_front z) row_of ys ∙ ap (map row_of) (stable (to_row z)) ∙ sym (filter-map (ties in_front z) row_of xs)
+  stable = λ z. filter-map (ties in_front z) row_of ys ∙ ap (map row_of) (stable (to_row z)) ∙ sym (filter-map (ties in_front z) row_of xs);
 }

@@ -1,11 +1,9 @@
 -- Adjustments by column are those by sid.
-use Rattle.std.proofs.Common.{◌≡◌, ℕ, zero, suc, ◌+◌, ◌<◌, ◌≤◌, ◌==◌, ◌&&◌, ◌||◌, not, nat_lt, Bool, true, false, cond, ℤ, pos, negsuc, List, [], ◌∷◌, ◌++◌, map, filter, length, get_or, All, AllPairs, slice_get, Option, Some, None, option_map, unwrap_or, Ok, refl, sym, ◌∙◌, ap, arith, inl, inr, unsigned_abs}
-use Rattle.std.specs.List.{list_any, position_or_len}
+use Rattle.std.proofs.Common.{◌≡◌, ℕ, suc, ◌+◌, ◌<◌, ◌==◌, ◌&&◌, not, nat_lt, Bool, true, false, cond, ℤ, pos, negsuc, List, [], ◌∷◌, ◌++◌, map, filter, length, get_or, All, AllPairs, slice_get, Some, option_map, unwrap_or, Ok, refl, sym, ◌∙◌, ap, arith, inl, inr, unsigned_abs}
 use Rattle.std.specs.Int.RustNames.{int_le}
 use Rattle.std.specs.Ordering.{int_eq}
 use Rattle.std.proofs.lemmas.Bool.{and_parts, cases_lt}
 use Rattle.std.proofs.lemmas.Bool.Decides.{nat_tests}
-use Rattle.std.proofs.lemmas.Int.{ints}
 use Rattle.std.proofs.lemmas.List.Elements.{All-append, All-cons, All-map}
 use Rattle.std.proofs.lemmas.List.Sorted.{All-permutation}
 use Rattle.std.proofs.lemmas.Option.{slice_get-get_or, slice_get_within}
@@ -16,8 +14,7 @@ use Rattle.pl_spec.specs.declared.BarRow.{BarRow}
 use Rattle.pl_spec.specs.declared.RawAdjust.{RawAdjust}
 use Rattle.pl_spec.specs.Order.{adjustment_in, adjustments_of, by_day, insert_by_day, is_of, of_table}
 use Rattle.pl_spec.specs.Parts.{ColumnAdjustment, ColumnLabel, adjustment_of, sid_at, world_of}
-use Rattle.pl_spec.specs.Sorted.{sorted_by}
-use Rattle.pl_spec.specs.World.{Adjustment, Event, events_of}
+use Rattle.pl_spec.specs.World.{Adjustment, events_of}
 use Rattle.pl_spec.proofs.Sorts.{sorted-permutes}
 use Rattle.pl_adjust.specs.Columns.{by_column, col_in, events_at, in_column}
 use Rattle.pl_adjust.specs.Tables.{adjustments_in}
@@ -164,6 +161,7 @@ module _ (assets : List AssetRow) where
     where
       below : (n : ℕ) → nat_lt n (length assets) ≡ true → n < length assets
       below n t = grind (arith, nat_tests)
+
       equal : (n : ℕ) → (n == sid) ≡ true → n ≡ sid
       equal n t = grind (arith, nat_tests)
 

@@ -1,5 +1,5 @@
 -- One more row of a table.
-use Rattle.std.proofs.Common.{◌≡◌, ℕ, zero, suc, ◌+◌, ◌<◌, ◌≤◌, Bool, true, false, cond, List, [], ◌∷◌, ◌++◌, map, filter, length, drop, get_or, Option, Some, None, refl, sym, ◌∙◌, ap, arith, unsigned_abs, IfSome, ℤ, pos, append_assoc, add-zero, zero-add, length-append}
+use Rattle.std.proofs.Common.{◌≡◌, ℕ, suc, ◌+◌, ◌<◌, ◌≤◌, true, false, List, [], ◌∷◌, ◌++◌, map, length, drop, get_or, Option, Some, None, refl, sym, ◌∙◌, ap, arith, unsigned_abs, IfSome, pos, append_assoc, add-zero, zero-add, length-append}
 use Rattle.std.proofs.lemmas.List.{at_drop_more, at_drop_all, map-append, length-map}
 use Rattle.std.specs.Option.{option_or}
 use Rattle.pl_spec.specs.declared.AdjustmentKind.{AdjustmentKind}
@@ -79,6 +79,7 @@ first_fault-append n (x ∷ xs) ys = here (fault_at n x) (first_fault-append (su
   where
     next : (n m : ℕ) → suc n + m ≡ n + suc m
     next n m = omega arith
+
     here : (o : Option Fault) → first_fault (suc n) (xs ++ ys) ≡ option_or (first_fault (suc n) xs) (first_fault (n + suc (length xs)) ys)
         → option_or o (first_fault (suc n) (xs ++ ys)) ≡ option_or (option_or o (first_fault (suc n) xs)) (first_fault (n + suc (length xs)) ys)
     here None e = e

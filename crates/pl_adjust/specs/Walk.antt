@@ -43,7 +43,7 @@ unfoldable pub fault_at : ℕ → TableRow → Option Fault
 fault_at n r =
     if nat_le 1000000 n then Some TooMany
     else if is_effective r.row.effective then
-      if is_part r.row.num && is_part r.row.den then None else Some (BadRatio r.table r.row.id)
+    if is_part r.row.num && is_part r.row.den then None else Some (BadRatio r.table r.row.id)
     else Some (BadEffective r.table r.row.id)
 
 -- the first fault of rows that stand behind n rows

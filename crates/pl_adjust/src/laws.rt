@@ -20,8 +20,7 @@ pub fn tables_in_plain_words()
         → ((xs : List ColumnAdjustment) × (adjustments_in assets splits mergers dividends ≡ Ok xs)) ↔ AreRight (walk splits mergers dividends) }
     ensures fault { (assets : List AssetRow) (splits mergers dividends : List RawAdjust) (fault : Fault)
         → (adjustments_in assets splits mergers dividends ≡ Err fault) ↔ IsFirstFault (walk splits mergers dividends) fault }
-{
-}
+{}
 
 /// In a world of parts the adjustments of an asset are those of its column.
 pub fn columns_are_sids()
@@ -29,8 +28,7 @@ pub fn columns_are_sids()
         → AllPairs (λ a b. a.sid < b.sid) assets → All (λ x. x.col < length assets) xs
         → (col : ℕ) (a : AssetRow) → slice_get assets col ≡ Some a
         → events_of (world_of days assets labels texts bars xs) a.sid ≡ events_at xs col }
-{
-}
+{}
 
 /// In a world of parts whose adjustments are those of three tables, each sid has the adjustments of the tables' rows with that
 /// sid in the order in which they act, and no others.
@@ -40,5 +38,4 @@ pub fn tables_are_kept()
         → AllPairs (λ a b. a.sid < b.sid) assets → adjustments_in assets splits mergers dividends ≡ Ok xs
         → (sid : ℕ) → events_of (world_of days assets labels texts bars xs) sid
         ≡ map (λ x. x.event) (filter (λ x. x.sid == sid) (adjustments_of assets splits mergers dividends)) }
-{
-}
+{}

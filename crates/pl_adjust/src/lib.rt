@@ -19,11 +19,10 @@ mod tests;
 
 pub use adjust::{Adjust, factor_for};
 pub use error::AdjustError;
-pub use pl_spec::AdjustmentKind as Kind;
-pub use seen::seen_now;
-
 use pl_assets::Assets;
+pub use pl_spec::AdjustmentKind as Kind;
 use pl_spec::RawAdjust;
+pub use seen::seen_now;
 use std::alloc::Global;
 use std::marker::Model;
 
@@ -38,8 +37,11 @@ impl Model for Adjustments {
     ghost use Rattle.std.specs.Prelude.{List};
     ghost use Rattle.pl_spec.specs.Parts.{ColumnAdjustment};
     ghost use Rattle.pl_adjust.specs.Columns.{AreKept, in_columns};
+
     ghost Value = { List ColumnAdjustment };
+
     ghost view = { λ a. in_columns a.cols.items a.adjusts.items };
+
     ghost invariant = { λ a. AreKept a.cols.items a.adjusts.items };
 }
 

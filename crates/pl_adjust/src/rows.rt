@@ -11,9 +11,9 @@ ghost use Rattle.pl_adjust.specs.Walk.{fault_at, first_fault, in_table, is_effec
 use crate::adjust::Adjust;
 use crate::columns::Row;
 use crate::error::AdjustError;
-use pl_outside::Table;
 use pl_assets::Assets;
 use pl_fixed::Ratio;
+use pl_outside::Table;
 use pl_spec::{AdjustmentKind as Kind, RawAdjust};
 use std::alloc::Global;
 
@@ -24,10 +24,17 @@ const SECONDS_A_DAY: i64 = 86_400;
 
 // 1900-01-01 and 2199-12-31.
 const FIRST_DAY: i64 = -25_567;
+
 const LAST_DAY: i64 = 84_005;
 
 // The adjustments of the tables' rows in their order, those of unknown sids left out.
-pub(crate) fn rows_of(alloc: Global, assets: &Assets, splits: &[RawAdjust], mergers: &[RawAdjust], dividends: &[RawAdjust]) -> Result<Vec<Row>, AdjustError>
+pub(crate) fn rows_of(
+    alloc: Global,
+    assets: &Assets,
+    splits: &[RawAdjust],
+    mergers: &[RawAdjust],
+    dividends: &[RawAdjust],
+) -> Result<Vec<Row>, AdjustError>
     ensures rows { IfOk result (λ rows. map row_of rows.items ≡ map (in_column assets.now) (of_table assets.now Split splits.now
         ++ of_table assets.now Merger mergers.now ++ of_table assets.now Dividend dividends.now)) }
     ensures fault { Tells result (first_fault 0 (walk splits.now mergers.now dividends.now)) }
@@ -35,12 +42,24 @@ pub(crate) fn rows_of(alloc: Global, assets: &Assets, splits: &[RawAdjust], merg
     let mut rows = Vec::new(alloc);
     read_table(assets, Table::Splits, splits, 0, &mut rows)?;
     read_table(assets, Table::Mergers, mergers, splits.len(), &mut rows)?;
-    read_table(assets, Table::Dividends, dividends, splits.len() + mergers.len(), &mut rows)?;
+    read_table(
+        assets,
+        Table::Dividends,
+        dividends,
+        splits.len() + mergers.len(),
+        &mut rows,
+    )?;
     Ok(rows)
 }
 
 // Appends the adjustments of a table whose rows stand behind so many others.
-fn read_table(assets: &Assets, table: Table, raw: &[RawAdjust], before: usize, rows: &mut Vec<Row>) -> Result<(), AdjustError>
+fn read_table(
+    assets: &Assets,
+    table: Table,
+    raw: &[RawAdjust],
+    before: usize,
+    rows: &mut Vec<Row>,
+) -> Result<(), AdjustError>
     requires { before + length raw.now < 2 ^ 64 }
     ensures rows { OnOk result (map row_of rows.new.items ≡ map row_of rows.old.items ++ map (in_column assets.now) (of_table assets.now (kind_of table) raw.now)) }
     ensures fault { Tells result (first_fault before (in_table table raw.now)) }

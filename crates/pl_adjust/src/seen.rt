@@ -10,7 +10,14 @@ use std::sync::ledger::Ledger;
 
 /// The cell of a bar of the day `bar_day` as it is seen on `day`: changed by each adjustment of the list that acts on the
 /// column later than the one day and by the other, one after the other, rounded each time. Each of these is one step.
-pub fn seen_now<L: Ledger>(cell: i64, bar_day: i32, day: i32, list: &[Adjust], column: Column, steps: &mut Steps<L>) -> i64
+pub fn seen_now<L: Ledger>(
+    cell: i64,
+    bar_day: i32,
+    day: i32,
+    list: &[Adjust],
+    column: Column,
+    steps: &mut Steps<L>,
+) -> i64
     requires cell { IsCell cell }
     requires in_order { AllPairs (λ a b. a.day ≤ℤ b.day) list.now }
     ensures value { result ≡ after_all column cell (events_in column bar_day day (map event_of list.now)) }

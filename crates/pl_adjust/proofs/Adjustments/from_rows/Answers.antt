@@ -1,7 +1,6 @@
 use Rattle.std.proofs.Common.{◌∙◌, ap, sym, Ok}
 use Rattle.std.proofs.lemmas.Result.{err_from_is_err_and}
 use Rattle.pl_adjust.specs.Faults.{fault_of}
-use Rattle.pl_adjust.specs.Tables.{AreOf}
 use Rattle.pl_adjust.proofs.Made.{are_of, kept_from, made, refused, view_is}
 use Rattle.pl_adjust.proofs.Adjustments.from_rows.Goals as goal
 

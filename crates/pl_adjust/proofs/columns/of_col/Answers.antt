@@ -1,4 +1,4 @@
-use Rattle.std.proofs.Common.{rules, ◌≡◌, ◌≤◌, arith, nat_lt, nat_le}
+use Rattle.std.proofs.Common.{rules, nat_lt, nat_le}
 use Rattle.std.proofs.lemmas.List.Sorted.{IsPartitionPoint-from_clause, IsPartitionedBy-ltb, IsPartitionedBy-leb}
 use Rattle.pl_adjust.proofs.Kept.{cols_rise, start_first, events_run, days_run}
 use Rattle.pl_adjust.proofs.columns.of_col.Goals as goal

@@ -19,18 +19,18 @@ loop-i-preserved c =
     let kind = kind_of c.args.table in
     let fault = fault_more c.args.before i c.args.table raw blank c.loop-i-test.true c.in_ok-adjust.ensures.fault ∙ c.loop-i.invariant.fault in
     elim c.match-col_of.branch [
-    | in-Some+in_ok-push w ↦
-        let known = w.in-Some.ensures.some in
-        record {
-          rows = rw (w.rows-is, w.in_ok-push.ensures.items)
-          (row_known assets kind raw i blank c.loop-i.rows.items _ c.loop-i-test.true known.0 (row_parts assets kind (get_or raw i blank) w.in-Some.col c.in_ok-adjust.adjust known.1 c.in_ok-adjust.ensures.adjust) ∙ c.loop-i.invariant.rows);
-          fault = fault
-        }
-    | in_default w ↦
-        record {
-          rows = rw w.rows-is (row_unknown assets kind raw i blank c.loop-i.rows.items c.loop-i-test.true w.in_default.ensures.none ∙ c.loop-i.invariant.rows);
-          fault = fault
-        }
+      | in-Some+in_ok-push w ↦
+          let known = w.in-Some.ensures.some in
+          record {
+            rows = rw (w.rows-is, w.in_ok-push.ensures.items)
+                (row_known assets kind raw i blank c.loop-i.rows.items _ c.loop-i-test.true known.0 (row_parts assets kind (get_or raw i blank) w.in-Some.col c.in_ok-adjust.adjust known.1 c.in_ok-adjust.ensures.adjust) ∙ c.loop-i.invariant.rows);
+            fault = fault;
+          }
+      | in_default w ↦
+          record {
+            rows = rw w.rows-is (row_unknown assets kind raw i blank c.loop-i.rows.items c.loop-i-test.true w.in_default.ensures.none ∙ c.loop-i.invariant.rows);
+            fault = fault;
+          }
     ]
 
 pub returns-clause-fault : goal.returns-clause-fault

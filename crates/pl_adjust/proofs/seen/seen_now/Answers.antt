@@ -16,9 +16,9 @@ loop-adjust-preserved g c =
     let step = ap (λ v. after_all column v (acting column (drop (i + 1) list))) c.adjusted-seen.ensures.value in
     let more = count_more column list i adjust c.loop-adjust-test.true c.adjust-item.is in
     record {
-    seen = simp to_z-of_z (step ∙ seen_more column _ list i adjust c.loop-adjust-test.true c.adjust-item.is ∙ before);
-    cell = simp to_z-of_z c.adjusted-seen.ensures.cell;
-    cost = omega (arith, more, c.adjusted-seen.ensures.cost, c.loop-adjust.invariant.cost)
+      seen = simp to_z-of_z (step ∙ seen_more column _ list i adjust c.loop-adjust-test.true c.adjust-item.is ∙ before);
+      cell = simp to_z-of_z c.adjusted-seen.ensures.cell;
+      cost = omega (arith, more, c.adjusted-seen.ensures.cost, c.loop-adjust.invariant.cost);
     }
 
 pub returns-clause-value : goal.returns-clause-value

@@ -9,5 +9,5 @@ abbrev pub invariant-loop-adjust : goal.invariant-loop-adjust
 invariant-loop-adjust g l = record {
   seen : after_all l.column l.seen (acting l.column (drop l.adjust-index l.adjust-items)) ≡ after_all l.column l.fn.cell (acting l.column l.adjust-items);
   cell : IsCell l.seen;
-  cost : l.steps + length (acting l.column (drop l.adjust-index l.adjust-items)) ≡ l.fn.steps + length (acting l.column l.adjust-items)
+  cost : l.steps + length (acting l.column (drop l.adjust-index l.adjust-items)) ≡ l.fn.steps + length (acting l.column l.adjust-items);
 }
