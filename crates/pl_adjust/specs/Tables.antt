@@ -12,6 +12,7 @@ abbrev pub ok_unless : {A F : Type 0} → Option F → A → Result A F
 ok_unless None x = Ok x
 ok_unless (Some f) x = Err f
 
+-- the adjustments of the tables in the order in which they act, column by column, or the first fault of a row
 unfoldable pub adjustments_in : List AssetRow → List RawAdjust → List RawAdjust → List RawAdjust → Result (List ColumnAdjustment) Fault
 adjustments_in assets splits mergers dividends =
     ok_unless (first_fault 0 (walk splits mergers dividends))

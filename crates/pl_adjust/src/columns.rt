@@ -1,6 +1,7 @@
 ghost use Rattle.std.specs.Prelude.{◌≡◌, ◌≤ℤ◌, map, AllPairs, IfOk};
 ghost use Rattle.pl_adjust.specs.Events.{event_of};
 ghost use Rattle.pl_adjust.specs.Columns.{AreKept, IsByPlace, events_at, in_columns};
+ghost use Rattle.pl_adjust.specs.Rows.{row_of};
 
 use crate::adjust::Adjust;
 use std::alloc::{AllocError, Global};
@@ -11,8 +12,6 @@ pub(crate) struct Row {
     pub(crate) col: usize,
     pub(crate) adjust: Adjust,
 }
-
-ghost use Rattle.pl_adjust.specs.Rows.{row_of};
 
 // The rows by column, those of a column by day, and those of a day as they stood.
 pub(crate) fn by_place(mut rows: Vec<Row>) -> Result<Vec<Row>, AllocError>
