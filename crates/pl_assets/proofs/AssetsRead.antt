@@ -1,14 +1,19 @@
 -- Assets that are read have sids of their own, and are no more than a file may have.
-use Rattle.std.proofs.Common.{◌≡◌, ℕ, ◌==◌, ◌||◌, ◌<◌, ◌≤◌, nat_eq, nat_le, not, cond, Bool, true, false, List, [], ◌∷◌, ◌++◌, length, Some, Result, Ok, Err, refl, ap, sym, ◌∙◌, arith, length-append}
+use Rattle.std.proofs.Common.{◌≡◌, ℕ, zero, suc, ℤ, ◌==◌, ◌||◌, ◌<◌, ◌≤◌, ◌^◌, nat_eq, nat_le, not, cond, Bool, true, false, List, [], ◌∷◌, ◌++◌, length, All, Option, Some, None, option_map, option_and_then, if◌then◌else◌, Result, Ok, Err, refl, ap, sym, ◌∙◌, arith, length-append}
 use Rattle.std.proofs.lemmas.Bool.Decides.{nat_tests}
 use Rattle.std.specs.List.{list_any}
+use Rattle.std.proofs.lemmas.List.Elements.{All-append}
+use Rattle.std.proofs.lemmas.List.Sorted.{All-permutation}
 use Rattle.std.specs.Int.RustNames.{int_lt}
 use Rattle.std.specs.HashSet.{HashSet, contains}
-use Rattle.pl_spec.specs.Reading.{Record, Fault, ◌>>=◌}
+use Rattle.pl_spec.specs.Reading.{Record, Fault, field, ◌>>=◌, rows_of}
 use Rattle.pl_spec.specs.Sorted.{sorted_by, HasOwnKeys}
+use Rattle.pl_spec.specs.Dates.{date_in}
+use Rattle.pl_spec.specs.Decimals.{sid_in}
 use Rattle.pl_spec.specs.declared.AssetRow.{AssetRow}
 use Rattle.pl_spec.proofs.Readings.{rows-keep, guard_ok, some_ok, under_ok}
-use Rattle.pl_spec.proofs.Sorts.{OwnKeys-none, OwnKeys-more, sorted-rises, length-sorted_by}
+use Rattle.pl_spec.proofs.Sorts.{OwnKeys-none, OwnKeys-more, sorted-rises, sorted-permutes, length-sorted_by}
+use Rattle.pl_spec.proofs.SidsRead.{decimal-sid_in}
 use Rattle.pl_assets.specs.Assets.{Rule, asset_in, says_asset, rows_in, assets_of, AreAssets, sid_of, header}
 use Rattle.pl_assets.specs.Assets as rules
 use Rattle.pl_assets.specs.Seen.{AreSids}
@@ -50,6 +55,42 @@ few-read records rows e =
     rows-keep (λ rs. length rs ≤ 8000) 2 says_asset (λ before r a n s. few_more before a (says_asset-ok before r a s).few) _ [] rows (omega arith)
     (under_ok header rules.BadHeader says_asset records rows e).1
 
+-- the sid of a record is one of 32 bits
+small_sid : (r : Record) (a : AssetRow) → asset_in r ≡ Some a → a.sid < 2 ^ 32
+small_sid r a e = three (length r == 3) e
+  where
+    dates : (sid : ℕ) (o q : Option ℤ) → option_and_then (λ start. option_map (λ end. record { sid = sid; start = start; end = end }) q) o ≡ Some a → a.sid ≡ sid
+    dates sid (Some start) (Some end) e = let same : Some (record { sid = sid; start = start; end = end }) ≡ Some a = e in cc
+    dates sid (Some start) None e = absurd (let bad : None ≡ Some a = e in cc)
+    dates sid None q e = absurd (let bad : None ≡ Some a = e in cc)
+
+    found : (o : Option ℕ) → sid_in (field r 0) ≡ o
+        → option_and_then (λ sid. option_and_then (λ start. option_map (λ end. record { sid = sid; start = start; end = end }) (date_in (field r 2))) (date_in (field r 1))) o ≡ Some a → a.sid < 2 ^ 32
+    found (Some sid) was e =
+        let small : sid < 2 ^ 32 = (decimal-sid_in (field r 0) sid was).0 in
+        let same : a.sid ≡ sid = dates sid (date_in (field r 1)) (date_in (field r 2)) e in rw same small
+    found None was e = absurd (let bad : None ≡ Some a = e in cc)
+
+    three : (b : Bool)
+        → (if b then option_and_then (λ sid. option_and_then (λ start. option_map (λ end. record { sid = sid; start = start; end = end }) (date_in (field r 2))) (date_in (field r 1))) (sid_in (field r 0)) else None) ≡ Some a
+        → a.sid < 2 ^ 32
+    three true e = found (sid_in (field r 0)) refl e
+    three false e = absurd (let bad : None ≡ Some a = e in cc)
+
+abbrev SmallSids : List AssetRow → Type 0
+SmallSids rows = All (λ a. a.sid < 2 ^ 32) rows
+
+small-read : (records : List Record) (rows : List AssetRow) → rows_in records ≡ Ok rows → SmallSids rows
+unfolding rows_in
+small-read records rows e =
+    rows-keep SmallSids 2 says_asset
+    (λ before r a all s. All-append (λ (b : AssetRow). b.sid < 2 ^ 32) before (a ∷ []) all (All-one a (small_sid r a (says_asset-ok before r a s).fields))) _ [] rows (λ k d h. absurd (omega arith))
+    (under_ok header rules.BadHeader says_asset records rows e).1
+  where
+    All-one : (a : AssetRow) → a.sid < 2 ^ 32 → SmallSids (a ∷ [])
+    All-one a h zero d l = h
+    All-one a h (suc k) d l = absurd (omega arith)
+
 -- the rows that a file's assets are sorted from
 pub sorted_from : (records : List Record) (assets : List AssetRow) → assets_of records ≡ Ok assets → (rows : List AssetRow) × (rows_in records ≡ Ok rows) × (sorted_by sid_of rows ≡ assets)
 unfolding assets_of
@@ -66,6 +107,7 @@ AreAssets-read records assets e =
     record {
       ascend = rw (← it.2) (sorted-rises sid_of it.0 (OwnSids-read records it.0 it.1));
       few = rw (← it.2) (omega (arith, length-sorted_by sid_of it.0, few-read records it.0 it.1));
+      small = rw (← it.2) (All-permutation (λ (a : AssetRow). a.sid < 2 ^ 32) it.0 (sorted_by sid_of it.0) (sorted-permutes sid_of it.0) (small-read records it.0 it.1));
     }
 
 -- ---- the set of the sids that were read

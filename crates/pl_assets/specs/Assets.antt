@@ -1,5 +1,5 @@
 -- The assets of the records of an assets file, and the first rule that a record breaks.
-use Rattle.std.specs.Prelude.{ℕ, ◌==◌, ◌<◌, ◌≤◌, nat_le, if◌then◌else◌, codes, List, [], ◌∷◌, length, AllPairs, Option, None, option_map, option_and_then, Result, Ok, Err}
+use Rattle.std.specs.Prelude.{◌≡◌, ℕ, ◌==◌, ◌<◌, ◌≤◌, ◌^◌, nat_le, if◌then◌else◌, codes, List, [], ◌∷◌, length, All, AllPairs, Option, Some, None, option_map, option_and_then, Result, Ok, Err}
 use Rattle.std.specs.List.{list_any}
 use Rattle.std.specs.Int.RustNames.{int_lt}
 use Rattle.std.specs.Option.{ok_or}
@@ -48,3 +48,4 @@ assets_of records = rows_in records >>= λ rows. Ok (sorted_by sid_of rows)
 pub record AreAssets (rows : List AssetRow) : Type 0 where
   pub ascend : AllPairs (λ a b. a.sid < b.sid) rows
   pub few : length rows ≤ 8_000
+  pub small : All (λ a. a.sid < 2 ^ 32) rows

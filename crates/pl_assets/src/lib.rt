@@ -2,7 +2,7 @@
 //! them by ascending sid, from 0.
 #![tactic(auto)]
 
-ghost use Rattle.std.specs.Prelude.{◌≡◌, ◌<◌, ◌≤◌, ◌==◌, length, slice_get, position, Some, IfOk, IfSome, option_map};
+ghost use Rattle.std.specs.Prelude.{◌≡◌, ◌<◌, ◌≤◌, ◌^◌, ◌==◌, All, length, slice_get, position, Some, IfOk, IfSome, option_map};
 ghost use Rattle.pl_spec.specs.Reading.{Answers};
 ghost use Rattle.pl_spec.specs.World.{lives_on};
 ghost use Rattle.pl_records.specs.Records.{csv_records};
@@ -60,10 +60,11 @@ impl Assets {
         Assets { rows }
     }
 
-    /// How many assets there are.
+    /// How many assets there are. Their sids are numbers of 32 bits.
     pub fn len(&self) -> usize
         ensures length { result ≡ length self.now }
         ensures few { result ≤ 8_000 }
+        ensures small { All (λ a. a.sid < 2 ^ 32) self.now }
     {
         self.rows.len()
     }

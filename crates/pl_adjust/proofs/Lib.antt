@@ -1,0 +1,12 @@
+pub mod Runs
+pub mod Between
+pub mod Folds
+pub mod OneOrder
+pub mod Kept
+pub mod RowOrder
+pub mod Known
+pub mod Walks
+pub mod ByColumn
+pub mod Made
+pub mod FirstFaults
+pub mod Sids

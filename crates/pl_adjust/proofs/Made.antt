@@ -1,0 +1,114 @@
+-- The adjustments that three tables make.
+use Rattle.std.proofs.Common.{◌≡◌, ℕ, suc, ◌+◌, ◌<◌, ◌==◌, ◌||◌, Bool, true, false, cond, not, ℤ, pos, ◌≤ℤ◌, List, [], ◌∷◌, ◌++◌, map, filter, length, All, AllPairs, Option, Some, None, IfSome, Ok, Err, refl, sym, ◌∙◌, ap, arith, unsigned_abs}
+use Rattle.std.specs.List.{list_any, position_or_len}
+use Rattle.std.specs.List.Sorted.{IsSorted}
+use Rattle.std.specs.Ordering.{int_eq}
+use Rattle.std.proofs.lemmas.Bool.Decides.{nat_tests}
+use Rattle.std.proofs.lemmas.Int.{ints}
+use Rattle.std.proofs.lemmas.List.{length-map, map-append}
+use Rattle.std.proofs.lemmas.List.Elements.{All-append, All-cons, filter_passes}
+use Rattle.std.proofs.lemmas.List.Kept.{AllPairs-filter}
+use Rattle.std.proofs.lemmas.List.Sorted.{All-permutation, sorted_far}
+use Rattle.pl_spec.specs.declared.AdjustmentKind.{AdjustmentKind}
+use Rattle.pl_spec.specs.declared.AdjustmentKind.TheVariants.{Split, Merger, Dividend}
+use Rattle.pl_spec.specs.declared.AssetRow.{AssetRow}
+use Rattle.pl_spec.specs.declared.RawAdjust.{RawAdjust}
+use Rattle.pl_spec.specs.Order.{adjustment_in, by_day, is_of, of_table}
+use Rattle.pl_spec.specs.Parts.{ColumnAdjustment}
+use Rattle.pl_adjust.specs.declared.adjust.Adjust.{Adjust}
+use Rattle.pl_adjust.specs.declared.columns.Row.{Row}
+use Rattle.pl_adjust.specs.Columns.{AreKept, IsByPlace, by_column, in_column, in_columns, place_cmp}
+use Rattle.pl_adjust.specs.Rows.{row_of}
+use Rattle.pl_adjust.specs.Tables.{AreOf, adjustments_in, ok_unless}
+use Rattle.pl_adjust.specs.Walk.{Fault, first_fault, walk}
+use Rattle.pl_adjust.proofs.Kept.{in_front, front_order, not_in_front}
+use Rattle.pl_adjust.proofs.ByColumn.{by_column_is}
+
+-- ---- what is kept of rows
+
+in_columns-rows : (rows : List Row) → in_columns (map (λ r. r.col) rows) (map (λ r. r.adjust) rows) ≡ map row_of rows
+in_columns-rows [] = refl
+in_columns-rows (r ∷ rs) = ap (λ l. row_of r ∷ l) (in_columns-rows rs)
+
+pub view_is : (rows : List Row) (cols : List ℕ) (adjusts : List Adjust) → cols ≡ map (λ r. r.col) rows → adjusts ≡ map (λ r. r.adjust) rows → in_columns cols adjusts ≡ map row_of rows
+view_is rows cols adjusts e f = ap (λ l. in_columns l adjusts) e ∙ ap (in_columns (map (λ (r : Row). r.col) rows)) f ∙ in_columns-rows rows
+
+pub kept_from : (before : List ColumnAdjustment) (rows : List Row) (cols : List ℕ) (adjusts : List Adjust) → IsByPlace before (map row_of rows)
+    → cols ≡ map (λ r. r.col) rows → adjusts ≡ map (λ r. r.adjust) rows → AreKept cols adjusts
+kept_from before rows cols adjusts h e f = record {
+  as_many = ap length f ∙ length-map rows (λ (r : Row). r.adjust) ∙ sym (length-map rows (λ (r : Row). r.col)) ∙ ap length (sym e);
+  sorted = rw (view_is rows cols adjusts e f) h.sorted;
+}
+
+-- ---- each column is one of an asset
+
+pub place_known : (z : ℤ) (assets : List AssetRow) → list_any (λ a. int_eq (pos a.sid) z) assets ≡ true → position_or_len (λ a. a.sid == unsigned_abs z) assets < length assets
+place_known z [] e = absurd (cc)
+place_known z (a ∷ assets) e = here (a.sid == unsigned_abs z) (int_eq (pos a.sid) z) refl refl e (place_known z assets)
+  where
+    same : (n : ℕ) → int_eq (pos n) z ≡ true → n ≡ unsigned_abs z
+    same n t = let it : pos n ≡ z = grind (arith, ints) in ap unsigned_abs it
+
+    here : (b c : Bool) → (a.sid == unsigned_abs z) ≡ b → int_eq (pos a.sid) z ≡ c → (c || list_any (λ (x : AssetRow). int_eq (pos x.sid) z) assets) ≡ true
+        → (list_any (λ (x : AssetRow). int_eq (pos x.sid) z) assets ≡ true → position_or_len (λ (x : AssetRow). x.sid == unsigned_abs z) assets < length assets)
+        → cond (not b) (1 + position_or_len (λ (x : AssetRow). x.sid == unsigned_abs z) assets) 0 < suc (length assets)
+    here true c t u e more = omega arith
+    here false true t u e more = let it : a.sid ≡ unsigned_abs z = same a.sid u in absurd (grind (arith, nat_tests))
+    here false false t u e more = let rest = more e in omega arith
+
+module _ (assets : List AssetRow) where
+  abbrev HasAsset : ColumnAdjustment → Type 0
+  HasAsset x = x.col < length assets
+
+  table_in : (kind : AdjustmentKind) (raw : List RawAdjust) → All HasAsset (map (in_column assets) (of_table assets kind raw))
+  table_in kind [] = λ k d h. absurd (omega arith)
+  table_in kind (r ∷ rs) = here (is_of assets r) refl (table_in kind rs)
+    where
+      here : (b : Bool) → is_of assets r ≡ b → All HasAsset (map (in_column assets) (of_table assets kind rs)) → All HasAsset (map (in_column assets) (map (adjustment_in kind) (cond b (r ∷ filter (is_of assets) rs) (filter (is_of assets) rs))))
+      here true e rest = All-cons HasAsset (in_column assets (adjustment_in kind r)) (map (in_column assets) (of_table assets kind rs)) (place_known r.sid assets e) rest
+      here false e rest = rest
+
+  tables_in : (splits mergers dividends : List RawAdjust) → All HasAsset (map (in_column assets) (of_table assets Split splits ++ of_table assets Merger mergers ++ of_table assets Dividend dividends))
+  tables_in splits mergers dividends =
+      rw (
+        map-append (in_column assets) (of_table assets Split splits ++ of_table assets Merger mergers) (of_table assets Dividend dividends),
+        map-append (in_column assets) (of_table assets Split splits) (of_table assets Merger mergers),
+      )
+      (All-append HasAsset _ _ (All-append HasAsset _ _ (table_in Split splits) (table_in Merger mergers)) (table_in Dividend dividends))
+
+  -- ---- those of a column stand by day
+
+  abbrev InTurn : ColumnAdjustment → ColumnAdjustment → Type 0
+  InTurn x y = x.col ≡ y.col → x.event.day ≤ℤ y.event.day
+
+  in_turn : (ys : List ColumnAdjustment) → IsSorted place_cmp ys → AllPairs InTurn ys
+  in_turn ys up i j d h l = (not_in_front _ _ _ _ (sorted_far in_front front_order ys up i j d (omega arith) l)).1
+
+  in_order : (ys : List ColumnAdjustment) → IsSorted place_cmp ys → (col : ℕ) → AllPairs (λ x y. x.event.day ≤ℤ y.event.day) (filter (λ x. x.col == col) ys)
+  in_order ys up col i j d h l =
+      let all = filter_passes (λ (x : ColumnAdjustment). x.col == col) ys in
+      AllPairs-filter InTurn (λ x. x.col == col) ys (in_turn ys up) i j d h l (one _ _ (all i d (omega arith)) (all j d l))
+    where
+      one : (a b : ℕ) → (a == col) ≡ true → (b == col) ≡ true → a ≡ b
+      one a b t u = grind (arith, nat_tests)
+
+  pub are_of : (splits mergers dividends : List RawAdjust) (before ys : List ColumnAdjustment)
+      → before ≡ map (in_column assets) (of_table assets Split splits ++ of_table assets Merger mergers ++ of_table assets Dividend dividends) → IsByPlace before ys → AreOf assets ys
+  are_of splits mergers dividends before ys e h = record {
+    in_columns = All-permutation HasAsset before ys h.same (rw e (tables_in splits mergers dividends));
+    in_order = in_order ys h.sorted;
+  }
+
+  pub made : (splits mergers dividends : List RawAdjust) (before ys : List ColumnAdjustment) → first_fault 0 (walk splits mergers dividends) ≡ None
+      → before ≡ map (in_column assets) (of_table assets Split splits ++ of_table assets Merger mergers ++ of_table assets Dividend dividends) → IsByPlace before ys
+      → adjustments_in assets splits mergers dividends ≡ Ok ys
+  unfolding adjustments_in
+  made splits mergers dividends before ys none e h =
+      let all = of_table assets Split splits ++ of_table assets Merger mergers ++ of_table assets Dividend dividends in
+      ap (λ o. ok_unless o (by_column (map (in_column assets) (by_day all)))) none ∙ ap Ok (sym (by_column_is assets all ys (rw e at h)))
+
+  pub refused : (splits mergers dividends : List RawAdjust) (told : Option Fault) → IfSome told (λ f. first_fault 0 (walk splits mergers dividends) ≡ Some f)
+      → IfSome told (λ f. adjustments_in assets splits mergers dividends ≡ Err f)
+  unfolding adjustments_in
+  refused splits mergers dividends None h = tt
+  refused splits mergers dividends (Some f) h = rw h refl

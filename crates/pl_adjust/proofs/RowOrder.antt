@@ -1,0 +1,41 @@
+-- Rows by place, as the definitions know them.
+use Rattle.std.proofs.Common.{◌≡◌, ℕ, ◌+◌, Bool, true, false, ℤ, List, [], ◌∷◌, map, filter, cond, length, get_or, refl, sym, ◌∙◌, ap, arith}
+use Rattle.std.specs.List.Sorted.{IsPermutation, IsSortedByKey, IsStableByKey, ties}
+use Rattle.std.specs.declared.cmp.Ordering.{Ordering}
+use Rattle.std.specs.Ordering.{nat_cmp, int_cmp, ordering_then}
+use Rattle.std.proofs.lemmas.List.{get_or-map, length-map}
+use Rattle.std.proofs.lemmas.List.Sorted.{IsPermutation-map}
+use Rattle.pl_spec.specs.Parts.{ColumnAdjustment}
+use Rattle.pl_adjust.specs.declared.columns.Row.{Row}
+use Rattle.pl_adjust.specs.Columns.{IsByPlace}
+use Rattle.pl_adjust.specs.Rows.{row_of}
+use Rattle.pl_adjust.proofs.Kept.{in_front}
+
+pub filter-map : {X Y : Type 0} (p : Y → Bool) (f : X → Y) (xs : List X) → filter p (map f xs) ≡ map f (filter (λ x. p (f x)) xs)
+filter-map p f [] = refl
+filter-map {X} {Y} p f (x ∷ xs) = here (p (f x)) (filter-map p f xs)
+  where
+    here : (b : Bool) → filter p (map f xs) ≡ map f (filter (λ x. p (f x)) xs) → cond b (f x ∷ filter p (map f xs)) (filter p (map f xs)) ≡ map f (cond b (x ∷ filter (λ x. p (f x)) xs) (filter (λ x. p (f x)) xs))
+    here true e = ap (λ l. f x ∷ l) e
+    here false e = e
+
+abbrev pub place_of : Row → ℕ × ℤ
+place_of r = (r.col, r.adjust.day)
+
+abbrev pub pair_cmp : ℕ × ℤ → ℕ × ℤ → Ordering
+pair_cmp x y = ordering_then (nat_cmp x.0 y.0) (int_cmp x.1 y.1)
+
+-- the row of an adjustment with its column
+abbrev to_row : ColumnAdjustment → Row
+to_row x = record { col = x.col; adjust = record { day = x.event.day; kind = x.event.kind; ratio = x.event.ratio } }
+
+pub by_place : (xs ys : List Row) → IsPermutation xs ys → IsSortedByKey place_of pair_cmp ys → IsStableByKey place_of pair_cmp xs ys → IsByPlace (map row_of xs) (map row_of ys)
+by_place xs ys same sorted stable = record {
+  same = IsPermutation-map row_of xs ys same;
+  sorted = λ k d low h.
+      let long : length (map row_of ys) ≡ length ys = length-map ys row_of in
+      let now : get_or (map row_of ys) k d ≡ row_of (get_or ys k (to_row d)) = get_or-map row_of ys k (to_row d) d (omega arith) in
+      let next : get_or (map row_of ys) (k + 1) d ≡ row_of (get_or ys (k + 1) (to_row d)) = get_or-map row_of ys (k + 1) (to_row d) d (omega arith) in
+      rw (now, next) (sorted k (to_row d) low (omega arith));
+  stable = λ z. filter-map (ties in_front z) row_of ys ∙ ap (map row_of) (stable (to_row z)) ∙ sym (filter-map (ties in_front z) row_of xs);
+}

@@ -1,0 +1,194 @@
+-- Adjustments by column are those by sid.
+use Rattle.std.proofs.Common.{◌≡◌, ℕ, suc, ◌+◌, ◌<◌, ◌==◌, ◌&&◌, not, nat_lt, Bool, true, false, cond, ℤ, pos, negsuc, List, [], ◌∷◌, ◌++◌, map, filter, length, get_or, All, AllPairs, slice_get, Some, option_map, unwrap_or, Ok, refl, sym, ◌∙◌, ap, arith, inl, inr, unsigned_abs}
+use Rattle.std.specs.Int.RustNames.{int_le}
+use Rattle.std.specs.Ordering.{int_eq}
+use Rattle.std.proofs.lemmas.Bool.{and_parts, cases_lt}
+use Rattle.std.proofs.lemmas.Bool.Decides.{nat_tests}
+use Rattle.std.proofs.lemmas.List.Elements.{All-append, All-cons, All-map}
+use Rattle.std.proofs.lemmas.List.Sorted.{All-permutation}
+use Rattle.std.proofs.lemmas.Option.{slice_get-get_or, slice_get_within}
+use Rattle.pl_spec.specs.declared.AdjustmentKind.{AdjustmentKind}
+use Rattle.pl_spec.specs.declared.AdjustmentKind.TheVariants.{Split, Merger, Dividend}
+use Rattle.pl_spec.specs.declared.AssetRow.{AssetRow}
+use Rattle.pl_spec.specs.declared.BarRow.{BarRow}
+use Rattle.pl_spec.specs.declared.RawAdjust.{RawAdjust}
+use Rattle.pl_spec.specs.Order.{adjustment_in, adjustments_of, by_day, insert_by_day, is_of, of_table}
+use Rattle.pl_spec.specs.Parts.{ColumnAdjustment, ColumnLabel, adjustment_of, sid_at, world_of}
+use Rattle.pl_spec.specs.World.{Adjustment, events_of}
+use Rattle.pl_spec.proofs.Sorts.{sorted-permutes}
+use Rattle.pl_adjust.specs.Columns.{by_column, col_in, events_at, in_column}
+use Rattle.pl_adjust.specs.Tables.{adjustments_in}
+use Rattle.pl_adjust.proofs.ByColumn.{filter-sorted_by}
+use Rattle.pl_adjust.proofs.FirstFaults.{made_is}
+use Rattle.pl_adjust.proofs.Known.{has_sid, list_any-none, same_sid}
+use Rattle.pl_adjust.proofs.Made.{place_known}
+use Rattle.pl_adjust.proofs.RowOrder.{filter-map}
+
+filter-same : {X : Type 0} (p q : X → Bool) (xs : List X) → All (λ x. p x ≡ q x) xs → filter p xs ≡ filter q xs
+filter-same p q [] same = refl
+filter-same p q (x ∷ xs) same =
+    ap (λ b. cond b (x ∷ filter p xs) (filter p xs)) (same 0 x (omega arith))
+    ∙ ap (λ l. cond (q x) (x ∷ l) l) (filter-same p q xs (λ k d h. same (suc k) d (omega arith)))
+
+All-weaker : {X : Type 0} (P Q : X → Type 0) → ((x : X) → P x → Q x) → (xs : List X) → All P xs → All Q xs
+All-weaker P Q h xs all k d l = h (get_or xs k d) (all k d l)
+
+-- ---- the sid of a column
+
+sid_at-get_or : (assets : List AssetRow) (k : ℕ) (d : AssetRow) → k < length assets → sid_at assets k ≡ (get_or assets k d).sid
+sid_at-get_or assets k d h = ap (λ o. unwrap_or (option_map (λ (a : AssetRow). a.sid) o) 0) (slice_get-get_or assets k d h)
+
+blank : AssetRow
+blank = record { sid = 0; start = pos 0; end = pos 0 }
+
+one_col : (assets : List AssetRow) → AllPairs (λ a b. a.sid < b.sid) assets → (j k : ℕ) → j < length assets → k < length assets → sid_at assets j ≡ sid_at assets k → j ≡ k
+one_col assets up j k j_in k_in e = elim (cases_lt j k) [
+  | inl l ↦
+      let below = up j k blank l k_in in
+      let first = sid_at-get_or assets j blank j_in in
+      let second = sid_at-get_or assets k blank k_in in absurd (omega arith)
+  | inr g ↦ elim (cases_lt k j) [
+    | inl l ↦
+        let below = up k j blank l j_in in
+        let first = sid_at-get_or assets j blank j_in in
+        let second = sid_at-get_or assets k blank k_in in absurd (omega arith)
+    | inr h ↦ omega arith
+  ]
+]
+
+col_test : (assets : List AssetRow) → AllPairs (λ a b. a.sid < b.sid) assets → (j k : ℕ) → j < length assets → k < length assets → (sid_at assets j == sid_at assets k) ≡ (j == k)
+col_test assets up j k j_in k_in = here (sid_at assets j == sid_at assets k) (j == k) refl refl
+  where
+    here : (b c : Bool) → (sid_at assets j == sid_at assets k) ≡ b → (j == k) ≡ c → b ≡ c
+    here true true t u = refl
+    here true false t u = let same : sid_at assets j ≡ sid_at assets k = grind (arith, nat_tests) in let it : j ≡ k = one_col assets up j k j_in k_in same in absurd (grind (arith, nat_tests))
+    here false true t u = let it : j ≡ k = grind (arith, nat_tests) in let same : sid_at assets j ≡ sid_at assets k = ap (sid_at assets) it in absurd (grind (arith, nat_tests))
+    here false false t u = refl
+
+-- ---- a world of parts
+
+events-adjustment_of : (assets : List AssetRow) (xs : List ColumnAdjustment) → map (λ (x : Adjustment). x.event) (map (adjustment_of assets) xs) ≡ map (λ (x : ColumnAdjustment). x.event) xs
+events-adjustment_of assets [] = refl
+events-adjustment_of assets (x ∷ xs) = ap (λ l. x.event ∷ l) (events-adjustment_of assets xs)
+
+module _ (days : List ℤ) (assets : List AssetRow) (labels : List ColumnLabel) (texts : List (List ℕ)) (bars : List BarRow) (xs : List ColumnAdjustment) (up : AllPairs (λ a b. a.sid < b.sid) assets) where
+  parts_events : (sid : ℕ) → events_of (world_of days assets labels texts bars xs) sid ≡ map (λ x. x.event) (filter (λ x. sid_at assets x.col == sid) xs)
+  parts_events sid =
+      ap (map (λ (x : Adjustment). x.event)) (filter-map (λ (x : Adjustment). x.sid == sid) (adjustment_of assets) xs)
+      ∙ events-adjustment_of assets (filter (λ x. sid_at assets x.col == sid) xs)
+
+  pub column_events : All (λ x. x.col < length assets) xs → (col : ℕ) (a : AssetRow) → slice_get assets col ≡ Some a → events_of (world_of days assets labels texts bars xs) a.sid ≡ events_at xs col
+  column_events all col a e =
+      let col_in : col < length assets = slice_get_within assets col a e in
+      let sid : a.sid ≡ sid_at assets col = sym (ap (λ o. unwrap_or (option_map (λ (b : AssetRow). b.sid) o) 0) e) in
+      parts_events a.sid
+      ∙ ap (map (λ (x : ColumnAdjustment). x.event)) (filter-same (λ x. sid_at assets x.col == a.sid) (λ x. x.col == col) xs
+      (λ k d h. rw sid (col_test assets up (get_or xs k d).col col (all k d h) col_in)))
+
+-- ---- the sids of adjustments are those of assets
+
+All-insert_by_day : (P : Adjustment → Type 0) (x : Adjustment) (ys : List Adjustment) → P x → All P ys → All P (insert_by_day x ys)
+All-insert_by_day P x [] h all = All-cons P x [] h all
+All-insert_by_day P x (y ∷ ys) h all = here (int_le x.event.day y.event.day) (All-insert_by_day P x ys h (λ k d l. all (suc k) d (omega arith)))
+  where
+    here : (b : Bool) → All P (insert_by_day x ys) → All P (cond b (x ∷ y ∷ ys) (y ∷ insert_by_day x ys))
+    here true rest = All-cons P x (y ∷ ys) h all
+    here false rest = All-cons P y (insert_by_day x ys) (all 0 y (omega arith)) rest
+
+All-by_day : (P : Adjustment → Type 0) (xs : List Adjustment) → All P xs → All P (by_day xs)
+All-by_day P [] all = all
+All-by_day P (x ∷ xs) all = All-insert_by_day P x (by_day xs) (all 0 x (omega arith)) (All-by_day P xs (λ k d l. all (suc k) d (omega arith)))
+
+has_sid_abs : (assets : List AssetRow) (z : ℤ) → has_sid z assets ≡ true → has_sid (pos (unsigned_abs z)) assets ≡ true
+has_sid_abs assets (pos n) e = e
+has_sid_abs assets (negsuc n) e =
+    let none : has_sid (negsuc n) assets ≡ false = list_any-none (λ a. int_eq (pos a.sid) (negsuc n)) assets (λ k d h. refl) in
+    let bad : true ≡ false = sym e ∙ none in absurd (cc)
+
+sid_of_col : (assets : List AssetRow) (s : ℕ) → has_sid (pos s) assets ≡ true → sid_at assets (col_in assets s) ≡ s
+sid_of_col [] s e = absurd (let bad : false ≡ true = e in cc)
+sid_of_col (a ∷ assets) s e = here (a.sid == s) refl (sid_of_col assets s)
+  where
+    here : (b : Bool) → (a.sid == s) ≡ b → (has_sid (pos s) assets ≡ true → sid_at assets (col_in assets s) ≡ s) → sid_at (a ∷ assets) (cond (not b) (1 + col_in assets s) 0) ≡ s
+    here true t more = grind (arith, nat_tests)
+    here false t more =
+        let other : int_eq (pos a.sid) (pos s) ≡ false = same_sid s a.sid ∙ t in
+        let rest : has_sid (pos s) assets ≡ true = rw other at e in
+        let next : 1 + col_in assets s ≡ suc (col_in assets s) = omega arith in
+        rw next (more rest)
+
+module _ (assets : List AssetRow) where
+  abbrev Known : Adjustment → Type 0
+  Known z = has_sid (pos z.sid) assets ≡ true
+
+  table_known : (kind : AdjustmentKind) (raw : List RawAdjust) → All Known (of_table assets kind raw)
+  table_known kind [] = λ k d h. absurd (omega arith)
+  table_known kind (r ∷ rs) = here (is_of assets r) refl (table_known kind rs)
+    where
+      here : (b : Bool) → is_of assets r ≡ b → All Known (of_table assets kind rs) → All Known (map (adjustment_in kind) (cond b (r ∷ filter (is_of assets) rs) (filter (is_of assets) rs)))
+      here true e rest = All-cons Known (adjustment_in kind r) (of_table assets kind rs) (has_sid_abs assets r.sid e) rest
+      here false e rest = rest
+
+  tables_known : (splits mergers dividends : List RawAdjust) → All Known (adjustments_of assets splits mergers dividends)
+  tables_known splits mergers dividends =
+      All-by_day Known (of_table assets Split splits ++ of_table assets Merger mergers ++ of_table assets Dividend dividends)
+      (All-append Known _ _ (All-append Known _ _ (table_known Split splits) (table_known Merger mergers)) (table_known Dividend dividends))
+
+  -- the test of a sid that also asks for a column of an asset
+  is_sid : ℕ → ColumnAdjustment → Bool
+  is_sid sid x = nat_lt x.col (length assets) && (sid_at assets x.col == sid)
+
+  col_known : (z : Adjustment) → Known z → col_in assets z.sid < length assets
+  col_known z e = place_known (pos z.sid) assets e
+
+  sid_test : (sid : ℕ) (z : Adjustment) → Known z → is_sid sid (in_column assets z) ≡ (z.sid == sid)
+  unfolding is_sid
+  sid_test sid z e =
+      let within : col_in assets z.sid < length assets = col_known z e in
+      let t : nat_lt (col_in assets z.sid) (length assets) ≡ true = grind (arith, nat_tests) in
+      rw (t, sid_of_col assets z.sid e) refl
+
+  in_range : (sid : ℕ) (x : ColumnAdjustment) → x.col < length assets → (sid_at assets x.col == sid) ≡ is_sid sid x
+  unfolding is_sid
+  in_range sid x h = let t : nat_lt x.col (length assets) ≡ true = grind (arith, nat_tests) in rw t refl
+
+  one_place : AllPairs (λ a b. a.sid < b.sid) assets → (sid : ℕ) (x y : ColumnAdjustment) → is_sid sid x ≡ true → is_sid sid y ≡ true → x.col ≡ y.col
+  unfolding is_sid
+  one_place up sid x y e f =
+      let p = and_parts (nat_lt x.col (length assets)) (sid_at assets x.col == sid) e in
+      let q = and_parts (nat_lt y.col (length assets)) (sid_at assets y.col == sid) f in
+      one_col assets up x.col y.col (below x.col p.0) (below y.col q.0) (equal (sid_at assets x.col) p.1 ∙ sym (equal (sid_at assets y.col) q.1))
+    where
+      below : (n : ℕ) → nat_lt n (length assets) ≡ true → n < length assets
+      below n t = grind (arith, nat_tests)
+
+      equal : (n : ℕ) → (n == sid) ≡ true → n ≡ sid
+      equal n t = grind (arith, nat_tests)
+
+  cols_known : (zs : List Adjustment) → All Known zs → All (λ x. x.col < length assets) (by_column (map (in_column assets) zs))
+  cols_known zs all =
+      All-permutation (λ (x : ColumnAdjustment). x.col < length assets) (map (in_column assets) zs) (by_column (map (in_column assets) zs)) (sorted-permutes (λ (x : ColumnAdjustment). x.col) (map (in_column assets) zs))
+      (All-map (λ (x : ColumnAdjustment). x.col < length assets) (in_column assets) zs (λ k d h. col_known (get_or zs k d) (all k d h)))
+
+  events-in_column : (zs : List Adjustment) → map (λ (x : ColumnAdjustment). x.event) (map (in_column assets) zs) ≡ map (λ (x : Adjustment). x.event) zs
+  events-in_column [] = refl
+  events-in_column (z ∷ zs) = ap (λ l. z.event ∷ l) (events-in_column zs)
+
+  by_sid : AllPairs (λ a b. a.sid < b.sid) assets → (zs : List Adjustment) → All Known zs → (sid : ℕ)
+      → map (λ x. x.event) (filter (λ x. sid_at assets x.col == sid) (by_column (map (in_column assets) zs))) ≡ map (λ x. x.event) (filter (λ x. x.sid == sid) zs)
+  by_sid up zs all sid =
+      let columns = map (in_column assets) zs in
+      ap (map (λ (x : ColumnAdjustment). x.event))
+      (filter-same (λ x. sid_at assets x.col == sid) (is_sid sid) (by_column columns) (λ k d h. in_range sid (get_or (by_column columns) k d) (cols_known zs all k d h))
+      ∙ filter-sorted_by (λ (x : ColumnAdjustment). x.col) (is_sid sid) (one_place up sid) columns
+      ∙ filter-map (is_sid sid) (in_column assets) zs
+      ∙ ap (map (in_column assets)) (filter-same (λ z. is_sid sid (in_column assets z)) (λ z. z.sid == sid) zs (λ k d h. sid_test sid (get_or zs k d) (all k d h))))
+      ∙ events-in_column (filter (λ (x : Adjustment). x.sid == sid) zs)
+
+pub table_events : (days : List ℤ) (assets : List AssetRow) (labels : List ColumnLabel) (texts : List (List ℕ)) (bars : List BarRow) (splits mergers dividends : List RawAdjust) (xs : List ColumnAdjustment)
+    → AllPairs (λ a b. a.sid < b.sid) assets → adjustments_in assets splits mergers dividends ≡ Ok xs → (sid : ℕ)
+    → events_of (world_of days assets labels texts bars xs) sid ≡ map (λ x. x.event) (filter (λ x. x.sid == sid) (adjustments_of assets splits mergers dividends))
+table_events days assets labels texts bars splits mergers dividends xs up e sid =
+    parts_events days assets labels texts bars xs up sid
+    ∙ ap (λ l. map (λ (x : ColumnAdjustment). x.event) (filter (λ x. sid_at assets x.col == sid) l)) (made_is assets splits mergers dividends xs e)
+    ∙ by_sid assets up (adjustments_of assets splits mergers dividends) (tables_known assets splits mergers dividends) sid

@@ -1,0 +1,121 @@
+-- One more row of a table.
+use Rattle.std.proofs.Common.{◌≡◌, ℕ, suc, ◌+◌, ◌<◌, ◌≤◌, true, false, List, [], ◌∷◌, ◌++◌, map, length, drop, get_or, Option, Some, None, refl, sym, ◌∙◌, ap, arith, unsigned_abs, IfSome, pos, append_assoc, add-zero, zero-add, length-append}
+use Rattle.std.proofs.lemmas.List.{at_drop_more, at_drop_all, map-append, length-map}
+use Rattle.std.specs.Option.{option_or}
+use Rattle.pl_spec.specs.declared.AdjustmentKind.{AdjustmentKind}
+use Rattle.pl_spec.specs.declared.AssetRow.{AssetRow}
+use Rattle.pl_spec.specs.declared.RawAdjust.{RawAdjust}
+use Rattle.pl_spec.specs.Order.{adjustment_in, is_of, of_table}
+use Rattle.pl_spec.specs.Parts.{ColumnAdjustment}
+use Rattle.pl_adjust.specs.declared.adjust.Adjust.{Adjust}
+use Rattle.pl_adjust.specs.declared.columns.Row.{Row}
+use Rattle.pl_outside.specs.declared.keeper.Table.{Table}
+use Rattle.pl_outside.specs.declared.keeper.Table.TheVariants.{Splits, Mergers, Dividends}
+use Rattle.pl_adjust.specs.Events.{event_of}
+use Rattle.pl_adjust.specs.Columns.{col_in, in_column}
+use Rattle.pl_adjust.specs.Rows.{row_of}
+use Rattle.pl_adjust.specs.Walk.{Fault, TableRow, fault_at, first_fault, in_table, walk}
+
+-- where a row is past the end
+abbrev pub blank : RawAdjust
+blank = record { id = pos 0; effective = pos 0; num = pos 0; den = pos 0; sid = pos 0 }
+
+next_row : (before i : ℕ) → before + (i + 1) ≡ suc (before + i)
+next_row before i = omega arith
+
+pub fault_more : (before i : ℕ) (table : Table) (raw : List RawAdjust) (d : RawAdjust) → i < length raw → fault_at (before + i) (record { table = table; row = get_or raw i d }) ≡ None
+    → first_fault (before + (i + 1)) (in_table table (drop (i + 1) raw)) ≡ first_fault (before + i) (in_table table (drop i raw))
+unfolding first_fault
+fault_more before i table raw d within none =
+    ap (λ n. first_fault n (in_table table (drop (i + 1) raw))) (next_row before i)
+    ∙ sym (at_drop_more (λ rows. first_fault (before + i) (in_table table rows)) raw i d within ∙ (rw none refl))
+
+pub fault_stops : (before i : ℕ) (table : Table) (raw : List RawAdjust) (d : RawAdjust) (f : Fault) → i < length raw → fault_at (before + i) (record { table = table; row = get_or raw i d }) ≡ Some f
+    → first_fault (before + i) (in_table table (drop i raw)) ≡ Some f
+unfolding first_fault
+fault_stops before i table raw d f within some =
+    at_drop_more (λ rows. first_fault (before + i) (in_table table rows)) raw i d within ∙ (rw some refl)
+
+-- an error that tells the row's fault tells the table's
+pub fault_told : (before i : ℕ) (table : Table) (raw : List RawAdjust) (d : RawAdjust) (told : Option Fault) → i < length raw
+    → IfSome told (λ f. fault_at (before + i) (record { table = table; row = get_or raw i d }) ≡ Some f)
+    → first_fault (before + i) (in_table table (drop i raw)) ≡ first_fault before (in_table table raw)
+    → IfSome told (λ f. first_fault before (in_table table raw) ≡ Some f)
+fault_told before i table raw d None within some left = tt
+fault_told before i table raw d (Some f) within some left = sym left ∙ fault_stops before i table raw d f within some
+
+pub fault_ends : (before i : ℕ) (table : Table) (raw : List RawAdjust) → length raw ≤ i → first_fault (before + i) (in_table table (drop i raw)) ≡ None
+unfolding first_fault
+fault_ends before i table raw past = at_drop_all (λ rows. first_fault (before + i) (in_table table rows)) raw i past
+
+-- the adjustments of what is left of a table
+abbrev rest : List AssetRow → AdjustmentKind → List RawAdjust → List ColumnAdjustment
+rest assets kind raw = map (in_column assets) (of_table assets kind raw)
+
+pub row_known : (assets : List AssetRow) (kind : AdjustmentKind) (raw : List RawAdjust) (i : ℕ) (d : RawAdjust) (rows : List Row) (x : Row) → i < length raw
+    → is_of assets (get_or raw i d) ≡ true → row_of x ≡ in_column assets (adjustment_in kind (get_or raw i d))
+    → map row_of (rows ++ x ∷ []) ++ map (in_column assets) (of_table assets kind (drop (i + 1) raw)) ≡ map row_of rows ++ map (in_column assets) (of_table assets kind (drop i raw))
+row_known assets kind raw i d rows x within known is =
+    ap (λ l. l ++ rest assets kind (drop (i + 1) raw)) (map-append row_of rows (x ∷ []))
+    ∙ append_assoc (map row_of rows) (row_of x ∷ []) (rest assets kind (drop (i + 1) raw))
+    ∙ ap (λ y. map row_of rows ++ (y ∷ rest assets kind (drop (i + 1) raw))) is
+    ∙ sym (at_drop_more (λ l. map row_of rows ++ rest assets kind l) raw i d within ∙ (rw known refl))
+
+pub row_unknown : (assets : List AssetRow) (kind : AdjustmentKind) (raw : List RawAdjust) (i : ℕ) (d : RawAdjust) (rows : List Row) → i < length raw → is_of assets (get_or raw i d) ≡ false
+    → map row_of rows ++ map (in_column assets) (of_table assets kind (drop (i + 1) raw)) ≡ map row_of rows ++ map (in_column assets) (of_table assets kind (drop i raw))
+row_unknown assets kind raw i d rows within other = sym (at_drop_more (λ l. map row_of rows ++ rest assets kind l) raw i d within ∙ (rw other refl))
+
+-- a row's adjustment by column, from its parts
+pub row_parts : (assets : List AssetRow) (kind : AdjustmentKind) (r : RawAdjust) (col : ℕ) (a : Adjust) → col ≡ col_in assets (unsigned_abs r.sid) → event_of a ≡ (adjustment_in kind r).event
+    → row_of (record { col = col; adjust = a }) ≡ in_column assets (adjustment_in kind r)
+row_parts assets kind r col a place event = cc
+
+-- ---- one table behind the other
+
+pub first_fault-append : (n : ℕ) (xs ys : List TableRow) → first_fault n (xs ++ ys) ≡ option_or (first_fault n xs) (first_fault (n + length xs) ys)
+unfolding first_fault
+first_fault-append n [] ys = ap (λ k. first_fault k ys) (sym (add-zero n))
+first_fault-append n (x ∷ xs) ys = here (fault_at n x) (first_fault-append (suc n) xs ys ∙ ap (λ k. option_or (first_fault (suc n) xs) (first_fault k ys)) (next n (length xs)))
+  where
+    next : (n m : ℕ) → suc n + m ≡ n + suc m
+    next n m = omega arith
+
+    here : (o : Option Fault) → first_fault (suc n) (xs ++ ys) ≡ option_or (first_fault (suc n) xs) (first_fault (n + suc (length xs)) ys)
+        → option_or o (first_fault (suc n) (xs ++ ys)) ≡ option_or (option_or o (first_fault (suc n) xs)) (first_fault (n + suc (length xs)) ys)
+    here None e = e
+    here (Some f) e = refl
+
+length-in_table : (table : Table) (raw : List RawAdjust) → length (in_table table raw) ≡ length raw
+length-in_table table raw = length-map raw (λ r. record { table = table; row = r })
+
+walk-faults : (splits mergers dividends : List RawAdjust) → first_fault 0 (walk splits mergers dividends)
+    ≡ option_or (option_or (first_fault 0 (in_table Splits splits)) (first_fault (length splits) (in_table Mergers mergers))) (first_fault (length splits + length mergers) (in_table Dividends dividends))
+walk-faults splits mergers dividends =
+    let long : length (in_table Splits splits) ≡ length splits = length-in_table Splits splits in
+    let both : length (in_table Splits splits ++ in_table Mergers mergers) ≡ length splits + length mergers
+    = length-append (in_table Splits splits) (in_table Mergers mergers) ∙ ap (λ n. n + length (in_table Mergers mergers)) long ∙ ap (λ n. length splits + n) (length-in_table Mergers mergers) in
+    first_fault-append 0 (in_table Splits splits ++ in_table Mergers mergers) (in_table Dividends dividends)
+    ∙ ap (λ n. option_or (first_fault 0 (in_table Splits splits ++ in_table Mergers mergers)) (first_fault n (in_table Dividends dividends))) (zero-add _ ∙ both)
+    ∙ ap (λ o. option_or o (first_fault (length splits + length mergers) (in_table Dividends dividends)))
+    (first_fault-append 0 (in_table Splits splits) (in_table Mergers mergers)
+    ∙ ap (λ n. option_or (first_fault 0 (in_table Splits splits)) (first_fault n (in_table Mergers mergers))) (zero-add _ ∙ long))
+
+pub told_first : (splits mergers dividends : List RawAdjust) (told : Option Fault) → IfSome told (λ f. first_fault 0 (in_table Splits splits) ≡ Some f)
+    → IfSome told (λ f. first_fault 0 (walk splits mergers dividends) ≡ Some f)
+told_first splits mergers dividends None some = tt
+told_first splits mergers dividends (Some f) some = walk-faults splits mergers dividends ∙ rw some refl
+
+pub told_second : (splits mergers dividends : List RawAdjust) (told : Option Fault) → first_fault 0 (in_table Splits splits) ≡ None → IfSome told (λ f. first_fault (length splits) (in_table Mergers mergers) ≡ Some f)
+    → IfSome told (λ f. first_fault 0 (walk splits mergers dividends) ≡ Some f)
+told_second splits mergers dividends None first some = tt
+told_second splits mergers dividends (Some f) first some = walk-faults splits mergers dividends ∙ rw (first, some) refl
+
+pub told_third : (splits mergers dividends : List RawAdjust) (told : Option Fault) → first_fault 0 (in_table Splits splits) ≡ None → first_fault (length splits) (in_table Mergers mergers) ≡ None
+    → IfSome told (λ f. first_fault (length splits + length mergers) (in_table Dividends dividends) ≡ Some f)
+    → IfSome told (λ f. first_fault 0 (walk splits mergers dividends) ≡ Some f)
+told_third splits mergers dividends None first second some = tt
+told_third splits mergers dividends (Some f) first second some = walk-faults splits mergers dividends ∙ rw (first, second, some) refl
+
+pub told_none : (splits mergers dividends : List RawAdjust) → first_fault 0 (in_table Splits splits) ≡ None → first_fault (length splits) (in_table Mergers mergers) ≡ None
+    → first_fault (length splits + length mergers) (in_table Dividends dividends) ≡ None → first_fault 0 (walk splits mergers dividends) ≡ None
+told_none splits mergers dividends first second third = walk-faults splits mergers dividends ∙ rw (first, second, third) refl

@@ -1,0 +1,38 @@
+use Rattle.std.proofs.Common.{◌∙◌, sym, get_or}
+use Rattle.std.proofs.lemmas.Result.{err_from_is_err_and}
+use Rattle.pl_adjust.specs.Faults.{fault_of}
+use Rattle.pl_adjust.specs.Walk.{kind_of}
+use Rattle.pl_adjust.proofs.Walks.{blank, fault_more, fault_told, fault_ends, row_known, row_unknown, row_parts}
+use Rattle.pl_adjust.proofs.rows.read_table.Goals as goal
+use Rattle.pl_adjust.proofs.rows.read_table.Goals.{in-Some+in_ok-push, in_default}
+
+pub returns-in_err-adjust-clause-fault : goal.returns-in_err-adjust-clause-fault
+returns-in_err-adjust-clause-fault c =
+    let p = err_from_is_err_and c.from_residual.result c.from_residual.ensures.1 in
+    rw (p.1, p.2) (fault_told c.args.before c.loop-i.i c.args.table c.args.raw.now blank (fault_of c.in_err-adjust.field-0.0) c.loop-i-test.true c.in_err-adjust.ensures.fault c.loop-i.invariant.fault)
+
+pub loop-i-preserved : goal.loop-i-preserved
+loop-i-preserved c =
+    let raw = c.args.raw.now in
+    let i = c.loop-i.i in
+    let assets = c.args.assets.now in
+    let kind = kind_of c.args.table in
+    let fault = fault_more c.args.before i c.args.table raw blank c.loop-i-test.true c.in_ok-adjust.ensures.fault ∙ c.loop-i.invariant.fault in
+    elim c.match-col_of.branch [
+      | in-Some+in_ok-push w ↦
+          let known = w.in-Some.ensures.some in
+          record {
+            rows = rw (w.rows-is, w.in_ok-push.ensures.items)
+                (row_known assets kind raw i blank c.loop-i.rows.items _ c.loop-i-test.true known.0 (row_parts assets kind (get_or raw i blank) w.in-Some.col c.in_ok-adjust.adjust known.1 c.in_ok-adjust.ensures.adjust) ∙ c.loop-i.invariant.rows);
+            fault = fault;
+          }
+      | in_default w ↦
+          record {
+            rows = rw w.rows-is (row_unknown assets kind raw i blank c.loop-i.rows.items c.loop-i-test.true w.in_default.ensures.none ∙ c.loop-i.invariant.rows);
+            fault = fault;
+          }
+    ]
+
+pub returns-clause-fault : goal.returns-clause-fault
+returns-clause-fault c =
+    sym c.loop-i.invariant.fault ∙ fault_ends c.args.before c.loop-i.i c.args.table c.args.raw.now c.loop-i-test.false

@@ -1,0 +1,48 @@
+-- Adjustments with their columns.
+use Rattle.std.specs.Prelude.{◌≡◌, ℕ, ◌==◌, List, [], ◌∷◌, map, filter, length}
+use Rattle.std.specs.List.{position_or_len}
+use Rattle.std.specs.List.Sorted.{IsPermutation, IsSorted, IsStable}
+use Rattle.std.specs.declared.cmp.Ordering.{Ordering}
+use Rattle.std.specs.Ordering.{nat_cmp, int_cmp, ordering_then}
+use Rattle.pl_spec.specs.declared.AssetRow.{AssetRow}
+use Rattle.pl_spec.specs.World.{Adjustment, Event}
+use Rattle.pl_spec.specs.Parts.{ColumnAdjustment}
+use Rattle.pl_spec.specs.Sorted.{sorted_by}
+use Rattle.pl_adjust.specs.declared.adjust.Adjust.{Adjust}
+use Rattle.pl_adjust.specs.Events.{event_of}
+
+-- the column of a sid: the place of its asset
+abbrev pub col_in : List AssetRow → ℕ → ℕ
+col_in assets sid = position_or_len (λ a. a.sid == sid) assets
+
+abbrev pub in_column : List AssetRow → Adjustment → ColumnAdjustment
+in_column assets x = record { col = col_in assets x.sid; event = x.event }
+
+-- column by column, those of a column as they stood
+abbrev pub by_column : List ColumnAdjustment → List ColumnAdjustment
+by_column xs = sorted_by (λ x. x.col) xs
+
+-- each adjustment with the column at its place
+abbrev pub in_columns : List ℕ → List Adjust → List ColumnAdjustment
+in_columns [] xs = []
+in_columns (c ∷ cs) [] = []
+in_columns (c ∷ cs) (x ∷ xs) = record { col = c; event = event_of x } ∷ in_columns cs xs
+
+-- the events of a column
+abbrev pub events_at : List ColumnAdjustment → ℕ → List Event
+events_at xs col = map (λ x. x.event) (filter (λ x. x.col == col) xs)
+
+-- first by column, and then by day
+abbrev pub place_cmp : ColumnAdjustment → ColumnAdjustment → Ordering
+place_cmp x y = ordering_then (nat_cmp x.col y.col) (int_cmp x.event.day y.event.day)
+
+-- the same adjustments by column and day; what has one column and one day stands as it stood
+pub record IsByPlace (xs ys : List ColumnAdjustment) : Type 0 where
+  pub same : IsPermutation xs ys
+  pub sorted : IsSorted place_cmp ys
+  pub stable : IsStable place_cmp xs ys
+
+-- columns and adjustments as they are kept
+pub record AreKept (cols : List ℕ) (adjusts : List Adjust) : Type 0 where
+  pub as_many : length adjusts ≡ length cols
+  pub sorted : IsSorted place_cmp (in_columns cols adjusts)

@@ -1,0 +1,8 @@
+-- What the contracts of this crate cite beside the definitions of pl_spec.
+pub mod Events
+pub mod Columns
+pub mod Rows
+pub mod Walk
+pub mod Faults
+pub mod Tables
+pub mod Rules

@@ -1,0 +1,24 @@
+-- The adjustments of three tables by column, or the first fault of their rows.
+use Rattle.std.specs.Prelude.{ℕ, ◌<◌, ◌≤ℤ◌, ◌==◌, List, map, filter, length, All, AllPairs, Option, Some, None, Result, Ok, Err}
+use Rattle.pl_spec.specs.declared.AssetRow.{AssetRow}
+use Rattle.pl_spec.specs.declared.RawAdjust.{RawAdjust}
+use Rattle.pl_spec.specs.Order.{adjustments_of}
+use Rattle.pl_spec.specs.Parts.{ColumnAdjustment}
+use Rattle.pl_adjust.specs.Columns.{by_column, in_column}
+use Rattle.pl_adjust.specs.Walk.{Fault, first_fault, walk}
+
+-- the value, unless there is a fault
+abbrev pub ok_unless : {A F : Type 0} → Option F → A → Result A F
+ok_unless None x = Ok x
+ok_unless (Some f) x = Err f
+
+-- the adjustments of the tables in the order in which they act, column by column, or the first fault of a row
+unfoldable pub adjustments_in : List AssetRow → List RawAdjust → List RawAdjust → List RawAdjust → Result (List ColumnAdjustment) Fault
+adjustments_in assets splits mergers dividends =
+    ok_unless (first_fault 0 (walk splits mergers dividends))
+    (by_column (map (in_column assets) (adjustments_of assets splits mergers dividends)))
+
+-- the adjustments are of these assets, and those of a column stand by day
+pub record AreOf (assets : List AssetRow) (xs : List ColumnAdjustment) : Type 0 where
+  pub in_columns : All (λ x. x.col < length assets) xs
+  pub in_order : (col : ℕ) → AllPairs (λ x y. x.event.day ≤ℤ y.event.day) (filter (λ x. x.col == col) xs)

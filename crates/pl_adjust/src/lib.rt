@@ -1,0 +1,87 @@
+//! Adjustments: what splits, mergers and dividends make of earlier bars, and when.
+#![tactic(auto)]
+
+ghost use Rattle.std.specs.Prelude.{◌≡◌, ◌≤ℤ◌, [], map, AllPairs, IfOk};
+ghost use Rattle.pl_spec.specs.Reading.{Answers};
+ghost use Rattle.pl_adjust.specs.Events.{event_of};
+ghost use Rattle.pl_adjust.specs.Columns.{events_at};
+ghost use Rattle.pl_adjust.specs.Faults.{fault_of};
+ghost use Rattle.pl_adjust.specs.Tables.{AreOf, adjustments_in};
+
+mod adjust;
+mod columns;
+mod error;
+pub mod laws;
+mod rows;
+mod seen;
+#[cfg(test)]
+mod tests;
+
+pub use adjust::{Adjust, factor_for};
+pub use error::AdjustError;
+use pl_assets::Assets;
+pub use pl_spec::AdjustmentKind as Kind;
+use pl_spec::RawAdjust;
+pub use seen::seen_now;
+use std::alloc::Global;
+use std::marker::Model;
+
+/// The adjustments of the assets, by column. A column is the place of an asset by ascending sid, from 0.
+#[derive(Debug, Drop)]
+pub struct Adjustments {
+    cols: Vec<usize>,
+    adjusts: Vec<Adjust>,
+}
+
+impl Model for Adjustments {
+    ghost use Rattle.std.specs.Prelude.{List};
+    ghost use Rattle.pl_spec.specs.Parts.{ColumnAdjustment};
+    ghost use Rattle.pl_adjust.specs.Columns.{AreKept, in_columns};
+
+    ghost Value = { List ColumnAdjustment };
+
+    ghost view = { λ a. in_columns a.cols.items a.adjusts.items };
+
+    ghost invariant = { λ a. AreKept a.cols.items a.adjusts.items };
+}
+
+impl Adjustments {
+    /// No adjustments.
+    pub fn none(alloc: Global) -> Adjustments
+        ensures { result ≡ [] }
+    {
+        Adjustments {
+            cols: Vec::new(alloc),
+            adjusts: Vec::new(alloc),
+        }
+    }
+
+    /// The adjustments of the rows of three tables. A row acts from the day of its effective time on, which is in seconds since
+    /// 1970-01-01. Rows are tested in the order of the tables, then their own; those of sids that no asset has are left out.
+    pub fn from_rows(
+        alloc: Global,
+        assets: &Assets,
+        splits: &[RawAdjust],
+        mergers: &[RawAdjust],
+        dividends: &[RawAdjust],
+    ) -> Result<Adjustments, AdjustError>
+        // The adjustments of the rows, or their first fault. Only want of memory may come beside.
+        ensures exact { Answers (λ a. a) fault_of result (adjustments_in assets.now splits.now mergers.now dividends.now) }
+        ensures columns { IfOk result (AreOf assets.now) }
+    {
+        let rows = rows::rows_of(alloc, assets, splits, mergers, dividends)?;
+        let sorted = columns::by_place(rows)?;
+        let cols = columns::cols_of(alloc, &sorted)?;
+        let adjusts = columns::adjusts_of(alloc, &sorted)?;
+        Ok(Adjustments { cols, adjusts })
+    }
+
+    /// The adjustments of a column in the order in which they act: by day, on one day splits before mergers and these before
+    /// dividends, each in the order of its table.
+    pub fn of_col(&self, col: usize) -> &[Adjust]
+        ensures events { map event_of result.now ≡ events_at self.now col }
+        ensures in_order { AllPairs (λ a b. a.day ≤ℤ b.day) result.now }
+    {
+        columns::of_col(&self.cols, &self.adjusts, col)
+    }
+}
