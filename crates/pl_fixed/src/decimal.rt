@@ -27,7 +27,8 @@ pub enum DecimalFault {
 // As many units as no cell holds: more of them count as these.
 const MOST_UNITS: u64 = 1_000_000_000_000;
 
-/// The cell that the bytes write in decimal, rounded once to millionths, ties away from zero. Zeros in front are read.
+/// The cell that the bytes write in decimal: an optional `-`, digits, and optionally a point and 1 to 18 digits. It is
+/// rounded once to millionths, ties away from zero. Leading zeros are accepted.
 pub fn read_decimal(b: &[u8]) -> Result<i64, DecimalFault>
     ensures exact { result ≡ read b.now }
     ensures value { (v : ℤ) → (result ≡ Ok v) ↔ ((d : Decimal) × IsDecimal d b.now × IsReadAs d v) }
