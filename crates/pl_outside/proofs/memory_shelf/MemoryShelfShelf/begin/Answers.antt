@@ -25,5 +25,5 @@ returns-clause-after c =
     let goes : next_fails c.self.inside.calls ≡ false = sym c.in_ok-take_call.ensures.fails in
     let place = position_in files _ c.args.name.now _ c.deref.ensures.value c.place_of-self-inside.ensures in
     let rest : rest_at files c.place_of-self-inside.result 0 ≡ unwrap_or (held (map shown files) c.args.name.now) [] =
-        rw (← place) (rest_at-held files c.args.name.now) in
+    rw (← place) (rest_at-held files c.args.name.now) in
     rw (← c.self.view_is, rest, c.take_call.ensures.after, goes)
