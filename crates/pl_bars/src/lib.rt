@@ -2,7 +2,7 @@
 //! assets, and by its session, a place among the sessions.
 #![tactic(auto)]
 
-ghost use Rattle.std.specs.Prelude.{◌≡◌, ℕ, ◌+◌, ◌*◌, ◌^◌, ◌<◌, ◌≤◌, length, pos, slice_index, slice_index_or, IfOk};
+ghost use Rattle.std.specs.Prelude.{◌≡◌, ℕ, ◌+◌, ◌*◌, ◌^◌, ◌<◌, ◌≤◌, length, pos, slice_index, slice_index_or, IfOk, All};
 ghost use Rattle.pl_spec.specs.Reading.{Answers};
 ghost use Rattle.pl_spec.specs.Rounding.{IsCell};
 ghost use Rattle.pl_records.specs.Records.{csv_records};
@@ -57,6 +57,9 @@ impl Bars {
         // The bars of the records, or the fault of the first faulty one. Only want of memory may come beside.
         ensures exact { Answers (λ b. b) fault_of result (bars_of sessions.now assets.now (csv_records bytes.now)) }
         ensures bars { IfOk result AreBars }
+        // Each stands in the column of an asset, and on a session.
+        ensures cols { IfOk result (All (λ b. b.col < length assets.now)) }
+        ensures sessions { IfOk result (All (λ b. b.session < length sessions.now)) }
     {
         let rows = reading::read_bars(alloc, bytes, sessions, assets)?;
         Ok(Bars { rows })
