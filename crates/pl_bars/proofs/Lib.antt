@@ -5,3 +5,4 @@ pub mod BarsSaid
 pub mod BarSearch
 pub mod BarFilling
 pub mod BarWorlds
+pub mod BarPlaces

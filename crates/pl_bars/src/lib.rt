@@ -2,7 +2,7 @@
 //! a place among the assets, and by its session, a place among the sessions.
 #![tactic(auto)]
 
-ghost use Rattle.std.specs.Prelude.{◌≡◌, ℕ, ◌+◌, ◌*◌, ◌^◌, ◌<◌, ◌≤◌, length, pos, slice_index, slice_index_or, IfOk};
+ghost use Rattle.std.specs.Prelude.{◌≡◌, ℕ, ◌+◌, ◌*◌, ◌^◌, ◌<◌, ◌≤◌, length, pos, slice_index, slice_index_or, IfOk, All};
 ghost use Rattle.pl_spec.specs.Reading.{Answers};
 ghost use Rattle.pl_spec.specs.Rounding.{IsCell};
 ghost use Rattle.pl_records.specs.Records.{csv_records};
@@ -61,6 +61,9 @@ impl Bars {
         ensures exact { Answers (λ b. b) fault_of result
             (bars_of sessions.now assets.now (csv_records bytes.now)) }
         ensures bars { IfOk result AreBars }
+        // Each stands in the column of an asset, and on a session.
+        ensures cols { IfOk result (All (λ b. b.col < length assets.now)) }
+        ensures sessions { IfOk result (All (λ b. b.session < length sessions.now)) }
     {
         let rows = reading::read_bars(alloc, bytes, sessions, assets)?;
         Ok(Bars { rows })

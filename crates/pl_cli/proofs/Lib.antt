@@ -1,0 +1,8 @@
+pub mod CellTexts
+pub mod FileSteps
+pub mod Finish
+pub mod PlainFiles
+pub mod Ranges
+pub mod RowTexts
+pub mod SessionLines
+pub mod Steps

@@ -1,0 +1,70 @@
+// What the errors of the readers are to the program.
+ghost use Rattle.std.specs.Prelude.{◌≡◌, option_map};
+ghost use Rattle.pl_calendar.specs.Faults as calendar;
+ghost use Rattle.pl_assets.specs.Faults as assets;
+ghost use Rattle.pl_bars.specs.Faults as bars;
+ghost use Rattle.pl_cli.specs.Work.{sessions_fault, assets_fault, bars_fault};
+ghost use Rattle.pl_cli.specs.Ends.{IsRisen, told_by};
+
+use crate::stop::{DataFault, Limit, Refusal, Stop};
+use pl_assets::AssetsError;
+use pl_bars::BarsError;
+use pl_calendar::CalendarError;
+
+/// The stop for an error of the sessions file of that name.
+pub fn sessions_stop<'a>(name: &'a str, error: CalendarError) -> Stop<'a>
+    ensures told { told_by result ≡ option_map (λ f. sessions_fault name.now f.line f.rule) (calendar.fault_of error) }
+    ensures risen { IsRisen ⊥ ⊥ result }
+{
+    match error {
+        CalendarError::TooMany { .. } => passed(Limit::Sessions),
+        CalendarError::BadDate { line } => faulty(name, line, DataFault::BadDate),
+        CalendarError::NotAscending { line } => faulty(name, line, DataFault::NotAscending),
+        CalendarError::Empty => faulty(name, 1, DataFault::Empty),
+        CalendarError::Memory => Stop::Memory,
+    }
+}
+
+/// The stop for an error of the assets file of that name.
+pub fn assets_stop<'a>(name: &'a str, error: AssetsError) -> Stop<'a>
+    ensures told { told_by result ≡ option_map (λ f. assets_fault name.now f.line f.rule) (assets.fault_of error) }
+    ensures risen { IsRisen ⊥ ⊥ result }
+{
+    match error {
+        AssetsError::BadHeader => faulty(name, 1, DataFault::BadHeader),
+        AssetsError::TooMany { .. } => passed(Limit::Assets),
+        AssetsError::BadField { line } => faulty(name, line, DataFault::BadField),
+        AssetsError::StartAfterEnd { line } => faulty(name, line, DataFault::StartAfterEnd),
+        AssetsError::DuplicateSid { line } => faulty(name, line, DataFault::DuplicateSid),
+        AssetsError::Memory => Stop::Memory,
+    }
+}
+
+/// The stop for an error of the bars file of that name.
+pub fn bars_stop<'a>(name: &'a str, error: BarsError) -> Stop<'a>
+    ensures told { told_by result ≡ option_map (λ f. bars_fault name.now f.line f.rule) (bars.fault_of error) }
+    ensures risen { IsRisen ⊥ ⊥ result }
+{
+    match error {
+        BarsError::BadHeader => faulty(name, 1, DataFault::BadHeader),
+        BarsError::TooMany { .. } => passed(Limit::Bars),
+        BarsError::BadField { line } => faulty(name, line, DataFault::BadField),
+        BarsError::NotSession { line } => faulty(name, line, DataFault::NotSession),
+        BarsError::UnknownSid { line } => faulty(name, line, DataFault::UnknownSid),
+        BarsError::Negative { line } => faulty(name, line, DataFault::Negative),
+        BarsError::Duplicate { line } => faulty(name, line, DataFault::Duplicate),
+        BarsError::Memory => Stop::Memory,
+    }
+}
+
+fn faulty<'a>(name: &'a str, line: u32, fault: DataFault) -> Stop<'a>
+    ensures { result ≡ Stop.Judged (Refusal.Data name.entry line fault) }
+{
+    Stop::Judged(Refusal::Data { name, line, fault })
+}
+
+fn passed(limit: Limit) -> Stop<'static>
+    ensures { result ≡ Stop.Judged (Refusal.Passed limit) }
+{
+    Stop::Judged(Refusal::Passed(limit))
+}

@@ -1,0 +1,24 @@
+//! The top call: it reads the words and the files that they name, judges them in order, and writes the table.
+//!
+//! Its contract says which bytes stand on `out` and `err` and which status is answered, for whatever the parts outside tell
+//! of what they hold and took.
+#![tactic(auto)]
+
+mod commands;
+mod faults;
+mod header;
+mod line;
+mod names;
+mod plain;
+mod range;
+mod rows;
+mod stages;
+mod stop;
+#[cfg(test)]
+mod tests;
+mod top;
+mod words;
+mod writing;
+
+pub use plain::plain_files_are_read;
+pub use top::run_program;

@@ -1,0 +1,163 @@
+// The top call.
+ghost use Rattle.std.specs.Prelude.{◌≡◌, ◌≤◌, ◌⊎◌, ℕ, List, None, Err, true, map, string_bytes, length, IfOk, IfErr, IsTrue, codes, decimal, [], ◌∷◌, ◌++◌};
+ghost use Rattle.std.specs.Option.{ForSome};
+ghost use Rattle.pl_outside.specs.Counts.{Rose};
+ghost use Rattle.pl_outside.specs.Taken.{TakesAll, TakesPrefix};
+ghost use Rattle.pl_cli.specs.Request.{request};
+ghost use Rattle.pl_cli.specs.Step.{first_fault};
+ghost use Rattle.pl_cli.specs.Work.{work, text_of};
+ghost use Rattle.pl_cli.specs.Ends.{Ends, EndsJudged, EndsForMemory, IsTold, CommandEnds, IsCaused, stop_line, end_status, end_line, is_stopped};
+
+use crate::commands::run_command;
+use crate::stop::{End, Refusal, Stop};
+use crate::words::read_words;
+use pl_fixed::Steps;
+use pl_outside::{AdjustKeeper, Shelf, Sink, write_bytes};
+use std::alloc::{AllocError, Global};
+use std::sync::ledger::Ledger;
+
+/// Runs the program on the words after its name: `run PIPELINE SESSIONS ASSETS BARS FROM TO` reads the four files from the
+/// shelf and writes the table of the sessions FROM to TO to `out`. It answers the status:
+///
+/// - 0: all was read, judged and written;
+/// - 2: the words are not of that form;
+/// - 4: a record of a data file breaks a rule; 5: the range is not one of sessions with earlier bars; 6: a limit is passed;
+/// - 7: the shelf counted a fault; 8: the keeper did; 9: `out` did, and a prefix of the text stands on it;
+/// - 10: memory ran out before the first byte;
+/// - 11: the pipeline file has a form that is not read yet.
+///
+/// Every status but 0 has its line on `err`. The first fault in the order of work decides: the words, the pipeline file, the
+/// sessions, the assets, the bars, the range. No words name adjustments yet, so the keeper is asked for nothing.
+pub fn run_program<S: Shelf, K: AdjustKeeper, O: Sink, E: Sink, L: Ledger>(
+    alloc: Global,
+    words: &[String],
+    shelf: &mut S,
+    keeper: &mut K,
+    out: &mut O,
+    err: &mut E,
+    steps: &mut Steps<L>,
+) -> u8
+    // With status 0 the text stands on out, and nothing else.
+    ensures text { result ≡ 0 → ForSome (S.holds shelf.old) (λ files.
+        TakesAll (O.taken out.old) (O.taken out.new) (text_of files (request (map (λ s. string_bytes s) words.now)))) }
+
+    // The status and its line are those of the first fault; or a read or a write failed; or memory was wanted.
+    ensures ends { ForSome (S.holds shelf.old) (λ files.
+        (line : List ℕ) × Ends (work files (request (map (λ s. string_bytes s) words.now))) result line
+        × IsTold E.taken E.faults E.sound E.room err.old err.new line) }
+
+    // Whether the parts tell or not: the words decide of status 2, and the others have their cause.
+    ensures usage { result ≡ 2 → request (map (λ s. string_bytes s) words.now) ≡ None }
+    ensures refused { request (map (λ s. string_bytes s) words.now) ≡ None → result ≡ 2 }
+    ensures read { result ≡ 7 → Rose (S.faults shelf.old) (S.faults shelf.new) }
+    ensures store { result ≡ 8 → Rose (K.faults keeper.old) (K.faults keeper.new) }
+    ensures write { result ≡ 9 → Rose (O.faults out.old) (O.faults out.new) }
+
+    // Out is as it was, but for status 9, which leaves a prefix of the text.
+    ensures kept { ¬ (result ≡ 0) → ¬ (result ≡ 9) → O.taken out.new ≡ O.taken out.old }
+    ensures prefix { result ≡ 9 → ForSome (S.holds shelf.old) (λ files.
+        TakesPrefix (O.taken out.old) (O.taken out.new) (text_of files (request (map (λ s. string_bytes s) words.now)))) }
+
+    // Over sound parts with room the status and its line are those of the first fault, or memory was wanted.
+    ensures complete { ForSome (S.holds shelf.old) (λ files. let asked = request (map (λ s. string_bytes s) words.now) in
+        IsTrue (S.sound shelf.old) → IsTrue (O.sound out.old)
+        → (first_fault (work files asked) ≡ None → length (text_of files asked) ≤ O.room out.old)
+        → (line : List ℕ) × (EndsJudged (work files asked) result line ⊎ EndsForMemory result line)
+        × IsTold E.taken E.faults E.sound E.room err.old err.new line) }
+    ensures cost { steps.new ≡ steps.old }
+{
+    let ended = answer(alloc, words, shelf, out, steps);
+    finish(alloc, ended, err)
+}
+
+// Does the work that the words ask for, up to what is told of it.
+#[tactic(auto, unfolding(crate::specs::Work::work, crate::specs::Work::text_of))]
+fn answer<'a, S: Shelf, O: Sink, L: Ledger>(
+    alloc: Global,
+    words: &'a [String],
+    shelf: &mut S,
+    out: &mut O,
+    steps: &mut Steps<L>,
+) -> Result<(), End<'a>>
+    ensures ends { ForSome (S.holds shelf.old) (λ files. let asked = request (map (λ s. string_bytes s) words.now) in
+        CommandEnds (S.sound shelf.old) true (work files asked) (O.taken out.old) (O.taken out.new)
+        (IsTrue (O.sound out.old) × (length (text_of files asked) ≤ O.room out.old)) (text_of files asked) result) }
+    ensures refused { request (map (λ s. string_bytes s) words.now) ≡ None → result ≡ Err End.Usage }
+    ensures caused { IfErr result (IsCaused (request (map (λ s. string_bytes s) words.now) ≡ None)
+        (Rose (S.faults shelf.old) (S.faults shelf.new)) ⊥
+        (Rose (O.faults out.old) (O.faults out.new)) (O.taken out.new ≡ O.taken out.old)) }
+    ensures cost { steps.new ≡ steps.old }
+{
+    match read_words(words) {
+        None => Err(End::Usage),
+        Some(request) => run_command(alloc, &request, shelf, out, steps),
+    }
+}
+
+// Tells how the work ended, and answers its status. Without memory for the line it is that which is told.
+fn finish<E: Sink>(alloc: Global, ended: Result<(), End<'_>>, err: &mut E) -> u8
+    ensures { ((result ≡ end_status ended.entry) × IsTold E.taken E.faults E.sound E.room err.old err.new (end_line ended.entry))
+        ⊎ (IsTrue (is_stopped ended.entry) × (result ≡ 10) × IsTold E.taken E.faults E.sound E.room err.old err.new (codes "memory\n")) }
+{
+    match ended {
+        Ok(()) => 0,
+        Err(End::Usage) => {
+            say(err, b"usage\n");
+            2
+        }
+        Err(End::Unwritten) => {
+            say(err, b"write\n");
+            9
+        }
+        Err(End::Stopped(stop)) => match line_of(alloc, stop) {
+            Ok(line) => {
+                say(err, line.as_bytes());
+                stop.status()
+            }
+            Err(_) => {
+                say(err, b"memory\n");
+                10
+            }
+        },
+    }
+}
+
+fn say<E: Sink>(err: &mut E, line: &[u8])
+    ensures { IsTold E.taken E.faults E.sound E.room err.old err.new line.now }
+{
+    let _ = write_bytes(err, line);
+}
+
+fn line_of(alloc: Global, stop: Stop<'_>) -> Result<String, AllocError>
+    ensures { IfOk result (λ line. string_bytes line ≡ stop_line stop.entry) }
+{
+    match stop {
+        Stop::Judged(refusal) => refusal_line(alloc, refusal),
+        Stop::Missed(name) => format!(in alloc; "read: {name}\n"),
+        Stop::Unkept(name) => format!(in alloc; "store: {name}\n"),
+        Stop::Memory => format!(in alloc; "memory\n"),
+    }
+}
+
+fn refusal_line(alloc: Global, refusal: Refusal<'_>) -> Result<String, AllocError>
+    ensures { IfOk result (λ line. string_bytes line ≡ stop_line (Stop.Judged refusal.entry)) }
+{
+    match refusal {
+        Refusal::Unbuilt => format!(in alloc; "unbuilt\n"),
+        Refusal::Data { name, line, fault } => data_line(alloc, name, line, fault.name()),
+        Refusal::NoSession { date } => format!(in alloc; "range: NotSession {date}\n"),
+        Refusal::Backwards => format!(in alloc; "range: Backwards\n"),
+        Refusal::TooEarly { reach } => format!(in alloc; "range: TooEarly {reach}\n"),
+        Refusal::Passed(limit) => {
+            let name = limit.name();
+            format!(in alloc; "limit: {name}\n")
+        }
+    }
+}
+
+fn data_line(alloc: Global, name: &str, line: u32, fault: &str) -> Result<String, AllocError>
+    ensures { IfOk result (λ text. string_bytes text
+        ≡ name.now ++ codes ":" ++ decimal line ++ codes ": data " ++ fault.now ++ 10 ∷ []) }
+{
+    format!(in alloc; "{name}:{line}: data {fault}\n")
+}

@@ -1,0 +1,9 @@
+//! The data of a pipeline as one world, and the value of a term in it, computed plainly, one cell at a time.
+#![tactic(auto)]
+
+mod cell;
+pub mod laws;
+mod world;
+
+pub use cell::{PlainTerm, plain_cell};
+pub use world::World;
