@@ -1,5 +1,5 @@
 -- The bars of the records of a bars file, the first rule that a record breaks, and the cells of bars.
-use Rattle.std.specs.Prelude.{ℕ, ◌+◌, ◌*◌, ◌^◌, ◌==◌, ◌≤◌, ◌&&◌, ◌||◌, not, nat_le, nat_lt, IsTrue, Bool, if◌then◌else◌, ℤ, pos, codes, List, [], ◌∷◌, length, All, AllPairs, Option, Some, None, option_map, option_and_then, unwrap_or, Result, Ok, Err, find, position, slice_index_or}
+use Rattle.std.specs.Prelude.{ℕ, ◌+◌, ◌*◌, ◌^◌, ◌==◌, ◌<◌, ◌≤◌, ◌&&◌, ◌||◌, not, nat_le, nat_lt, IsTrue, Bool, if◌then◌else◌, ℤ, pos, codes, List, [], ◌∷◌, length, All, AllPairs, Option, Some, None, option_map, option_and_then, unwrap_or, Result, Ok, Err, find, position, slice_index_or}
 use Rattle.std.specs.List.{list_any}
 use Rattle.std.specs.Result.{result_ok}
 use Rattle.std.specs.Int.RustNames.{int_lt, int_le, unsigned_abs}
@@ -86,6 +86,11 @@ pub record AreBars (rows : List BarRow) : Type 0 where
   pub ascend : AllPairs (λ a b. IsTrue (is_before b.col b.session a)) rows
   pub few : length rows ≤ 4_000_000
   pub cells : All (λ b. All (λ v. IsTrue (is_bar_cell v)) b.cells) rows
+
+-- bars of these assets on these sessions
+pub record AreInside (days : List ℤ) (assets : List AssetRow) (rows : List BarRow) : Type 0 where
+  pub cols : All (λ b. b.col < length assets) rows
+  pub sessions : All (λ b. b.session < length days) rows
 
 -- ---- their cells
 

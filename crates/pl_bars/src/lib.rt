@@ -6,7 +6,7 @@ ghost use Rattle.std.specs.Prelude.{◌≡◌, ℕ, ◌+◌, ◌*◌, ◌^◌, �
 ghost use Rattle.pl_spec.specs.Reading.{Answers};
 ghost use Rattle.pl_spec.specs.Rounding.{IsCell};
 ghost use Rattle.pl_records.specs.Records.{csv_records};
-ghost use Rattle.pl_bars.specs.Bars.{AreBars, bars_of, cell_at};
+ghost use Rattle.pl_bars.specs.Bars.{AreBars, AreInside, bars_of, cell_at};
 ghost use Rattle.pl_bars.specs.Faults.{fault_of};
 
 mod bar_set;
@@ -61,6 +61,7 @@ impl Bars {
         ensures exact { Answers (λ b. b) fault_of result
             (bars_of sessions.now assets.now (csv_records bytes.now)) }
         ensures bars { IfOk result AreBars }
+        ensures inside { IfOk result (AreInside sessions.now assets.now) }
     {
         let rows = reading::read_bars(alloc, bytes, sessions, assets)?;
         Ok(Bars { rows })
