@@ -13,7 +13,7 @@ use Rattle.pl_spec.specs.Decimals.{sid_in}
 use Rattle.pl_spec.specs.declared.AssetRow.{AssetRow}
 use Rattle.pl_spec.proofs.Readings.{rows-keep, guard_ok, some_ok, under_ok}
 use Rattle.pl_spec.proofs.Sorts.{OwnKeys-none, OwnKeys-more, sorted-rises, sorted-permutes, length-sorted_by}
-use Rattle.pl_fixed.proofs.SidLemmas.{sid_in-sound}
+use Rattle.pl_spec.proofs.SidsRead.{decimal-sid_in}
 use Rattle.pl_assets.specs.Assets.{Rule, asset_in, says_asset, rows_in, assets_of, AreAssets, sid_of, header}
 use Rattle.pl_assets.specs.Assets as rules
 use Rattle.pl_assets.specs.Seen.{AreSids}
@@ -66,7 +66,7 @@ small_sid r a e = three (length r == 3) e
     found : (o : Option ℕ) → sid_in (field r 0) ≡ o
         → option_and_then (λ sid. option_and_then (λ start. option_map (λ end. record { sid = sid; start = start; end = end }) (date_in (field r 2))) (date_in (field r 1))) o ≡ Some a → a.sid < 2 ^ 32
     found (Some sid) was e =
-        let small : sid < 2 ^ 32 = (sid_in-sound (field r 0) sid was).0 in
+        let small : sid < 2 ^ 32 = (decimal-sid_in (field r 0) sid was).0 in
         let same : a.sid ≡ sid = dates sid (date_in (field r 1)) (date_in (field r 2)) e in rw same small
     found None was e = absurd (let bad : None ≡ Some a = e in cc)
     three : (b : Bool)

@@ -1,26 +1,25 @@
 -- What a record says of its asset, in plain words.
-use Rattle.std.proofs.Common.{◌≡◌, ◌≢◌, ◌⊎◌, ℕ, zero, suc, ◌<◌, ◌≤◌, ◌↔◌, ◌^◌, ◌==◌, ◌||◌, nat_le, Bool, true, false, if◌then◌else◌, ℤ, ◌<ℤ◌, ◌≤ℤ◌, List, [], ◌∷◌, length, get_or, Option, Some, None, option_map, option_and_then, All, Any, Result, Ok, Err, refl, sym, ◌∙◌, ap, arith, inl, inr}
-use Rattle.std.specs.Fmt.{decimal}
+use Rattle.std.proofs.Common.{◌≡◌, ◌≢◌, ℕ, zero, suc, ◌+◌, ◌<◌, ◌≤◌, ◌↔◌, ◌==◌, nat_le, Bool, true, false, if◌then◌else◌, ℤ, ◌<ℤ◌, ◌≤ℤ◌, List, length, get_or, Option, Some, None, option_map, option_and_then, All, Any, Result, Ok, Err, refl, sym, ◌∙◌, ap, arith}
 use Rattle.std.specs.List.{list_any, AllPairs}
-use Rattle.std.specs.List.Sorted.{IsPermutation, IsNonDecreasingBy}
+use Rattle.std.specs.List.Sorted.{IsPermutation}
 use Rattle.std.specs.Int.RustNames.{int_lt}
 use Rattle.std.specs.Option.{ok_or}
 use Rattle.std.proofs.lemmas.Int.{ints}
 use Rattle.std.proofs.lemmas.Bool.Decides.{nat_tests}
 use Rattle.std.proofs.lemmas.List.Folds.{list_any_at, Any-from_list_any}
-use Rattle.pl_spec.specs.Reading.{Record, Fault, field, ◌>>=◌, rows_under, AreRowsUnder, BreaksFirst, IsFaultUnder, Judges}
+use Rattle.pl_spec.specs.Reading.{Record, Fault, field, ◌>>=◌, rows_under, AreRowsUnder, BreaksFirst, Judges}
 use Rattle.pl_spec.specs.Sorted.{sorted_by}
-use Rattle.pl_spec.specs.Dates.{IsDate, date_in}
+use Rattle.pl_spec.specs.Dates.{date_in}
 use Rattle.pl_spec.specs.Decimals.{sid_in}
 use Rattle.pl_spec.specs.declared.AssetRow.{AssetRow}
-use Rattle.pl_spec.proofs.Readings.{Judges-from, under-are, under-fault}
+use Rattle.pl_spec.proofs.Readings.{Judges-from, passed-more, under-are, under-fault}
 use Rattle.pl_spec.proofs.Sorts.{sorted-are, sorted-fault}
 use Rattle.pl_spec.proofs.DatesRead.{date_in-IsDate, IsDate-date_in}
-use Rattle.pl_fixed.proofs.SidLemmas.{sid_in-complete, sid_in-sound}
+use Rattle.pl_spec.proofs.SidsRead.{sid_in-decimal, decimal-sid_in}
 use Rattle.pl_assets.specs.Assets.{Rule, asset_in, says_asset, rows_in, assets_of, sid_of, header}
 use Rattle.pl_assets.specs.Assets as rules
 use Rattle.pl_assets.specs.Rules.{IsAssetRecord, IsAsset, Breaks, order, AreAssetsOf, IsAssetsFault}
-use Rattle.pl_assets.proofs.AssetsRead.{says_asset-ok, sorted_from, OwnSids-read}
+use Rattle.pl_assets.proofs.AssetsRead.{says_asset-ok, OwnSids-read}
 
 -- ---- the fields
 
@@ -47,7 +46,7 @@ IsAssetRecord-asset_in r a e = here (length r == 3) refl e
         let s = and_then_some (sid_in (field r 0)) _ a e in
         let d = and_then_some (date_in (field r 1)) _ a s.2 in
         let f = map_some (date_in (field r 2)) (λ end. record { sid = s.0; start = d.0; end = end }) a d.2 in
-        let n = sid_in-sound (field r 0) s.0 s.1 in
+        let n = decimal-sid_in (field r 0) s.0 s.1 in
         rw (← f.2) record {
           three = grind (arith, nat_tests);
           small = n.0;
@@ -60,7 +59,7 @@ asset_in-IsAssetRecord : (r : Record) (a : AssetRow) → IsAssetRecord r a → a
 asset_in-IsAssetRecord r a h =
     let three : length r ≡ 3 = h.three in
     let t : (length r == 3) ≡ true = grind (arith, nat_tests) in
-    rw (t, sid_in-complete (field r 0) a.sid h.small h.sid, date_in-IsDate (field r 1) a.start h.start, date_in-IsDate (field r 2) a.end h.end) refl
+    rw (t, sid_in-decimal (field r 0) a.sid h.small h.sid, date_in-IsDate (field r 1) a.start h.start, date_in-IsDate (field r 2) a.end h.end) refl
 
 no_record : (r : Record) → asset_in r ≡ None → (a : AssetRow) → IsAssetRecord r a → ⊥
 no_record r e a h = let found : asset_in r ≡ Some a = asset_in-IsAssetRecord r a h in let bad : None ≡ Some a = sym e ∙ found in cc
@@ -114,39 +113,43 @@ is_asset before r a e =
       own_sid = none_has a.sid before s.own_sid;
     }
 
--- the tests in front of a rule were passed
+abbrev rule_at : ℕ → Rule
+rule_at zero = rules.BadHeader
+rule_at (suc zero) = rules.TooMany
+rule_at (suc (suc zero)) = rules.BadField
+rule_at (suc (suc (suc zero))) = rules.StartAfterEnd
+rule_at (suc (suc (suc (suc n)))) = rules.DuplicateSid
+
+rule_at-order : (q : Rule) → rule_at (order q) ≡ q
+rule_at-order rules.BadHeader = refl
+rule_at-order rules.TooMany = refl
+rule_at-order rules.BadField = refl
+rule_at-order rules.StartAfterEnd = refl
+rule_at-order rules.DuplicateSid = refl
+
+-- the rules in front of n are kept
 abbrev Passed : List AssetRow → Record → ℕ → Type 0
 Passed before r n = (q : Rule) → order q < n → Breaks before r q → ⊥
 
+passed : (before : List AssetRow) (r : Record) (n : ℕ) → Passed before r n → (Breaks before r (rule_at n) → ⊥) → Passed before r (n + 1)
+passed before r n p here = passed-more order rule_at rule_at-order (Breaks before r) n p here
+
 passed_header : (before : List AssetRow) (r : Record) → Passed before r 1
-passed_header before r rules.BadHeader l b = b
-passed_header before r rules.TooMany l b = omega arith
-passed_header before r rules.BadField l b = omega arith
-passed_header before r rules.StartAfterEnd l b = omega arith
-passed_header before r rules.DuplicateSid l b = omega arith
+passed_header before r = passed before r 0 (λ q l b. absurd (omega arith)) (λ b. b)
 
 passed_count : (before : List AssetRow) (r : Record) → nat_le 8000 (length before) ≡ false → Passed before r 2
-passed_count before r t rules.BadHeader l b = b
-passed_count before r t rules.TooMany l b = let small : length before < 8000 = grind (arith, nat_tests) in omega arith
-passed_count before r t rules.BadField l b = omega arith
-passed_count before r t rules.StartAfterEnd l b = omega arith
-passed_count before r t rules.DuplicateSid l b = omega arith
+passed_count before r t = passed before r 1 (passed_header before r) (λ b. full b)
+  where
+    full : 8_000 ≤ length before → ⊥
+    full h = let small : length before < 8000 = grind (arith, nat_tests) in omega arith
 
 passed_fields : (before : List AssetRow) (r : Record) (a : AssetRow) → Passed before r 2 → asset_in r ≡ Some a → Passed before r 3
-passed_fields before r a p f rules.BadHeader l b = b
-passed_fields before r a p f rules.TooMany l b = p rules.TooMany (omega arith) b
-passed_fields before r a p f rules.BadField l b = b a (IsAssetRecord-asset_in r a f)
-passed_fields before r a p f rules.StartAfterEnd l b = omega arith
-passed_fields before r a p f rules.DuplicateSid l b = omega arith
+passed_fields before r a p f = passed before r 2 p (λ b. b a (IsAssetRecord-asset_in r a f))
 
 passed_order : (before : List AssetRow) (r : Record) (a : AssetRow) → Passed before r 3 → asset_in r ≡ Some a → int_lt a.end a.start ≡ false → Passed before r 4
-passed_order before r a p f t rules.BadHeader l b = b
-passed_order before r a p f t rules.TooMany l b = p rules.TooMany (omega arith) b
-passed_order before r a p f t rules.BadField l b = p rules.BadField (omega arith) b
-passed_order before r a p f t rules.StartAfterEnd l b =
+passed_order before r a p f t = passed before r 3 p (λ b.
     let same : b.0 ≡ a = one_asset r b.0 a b.1 (IsAssetRecord-asset_in r a f) in
-    not_both a.start a.end (in_order a t) (rw same at b.2)
-passed_order before r a p f t rules.DuplicateSid l b = omega arith
+    not_both a.start a.end (in_order a t) (rw same at b.2))
 
 -- what is told at each rule
 abbrev Told : List AssetRow → Record → Rule → Type 0
@@ -200,21 +203,6 @@ keeps_all before r a h rules.DuplicateSid b =
     let here : (get_or before it.0 it.1).sid ≢ a.sid = h.own_sid it.0 it.1 it.2 in
     here (ap (λ (x : AssetRow). x.sid) it.3 ∙ it.4)
 
-rule_at : ℕ → Rule
-rule_at zero = rules.BadHeader
-rule_at (suc zero) = rules.TooMany
-rule_at (suc (suc zero)) = rules.BadField
-rule_at (suc (suc (suc zero))) = rules.StartAfterEnd
-rule_at (suc (suc (suc (suc n)))) = rules.DuplicateSid
-
-rule_at-order : (q : Rule) → rule_at (order q) ≡ q
-unfolding rule_at
-rule_at-order rules.BadHeader = refl
-rule_at-order rules.TooMany = refl
-rule_at-order rules.BadField = refl
-rule_at-order rules.StartAfterEnd = refl
-rule_at-order rules.DuplicateSid = refl
-
 pub assets_judged : Judges IsAsset Told says_asset
 assets_judged = Judges-from IsAsset Breaks says_asset order rule_at rule_at-order is_asset breaks_first (λ before r x y h k. one_asset r x y h.written k.written) keeps_all
 
@@ -226,10 +214,13 @@ assets-are records assets = (there, back)
   where
     sorted : ((rows_in records >>= λ rows. Ok (sorted_by sid_of rows)) ≡ Ok assets) ↔ ((rows : List AssetRow) × (rows_in records ≡ Ok rows) × IsPermutation rows assets × AllPairs (λ a b. sid_of a < sid_of b) assets)
     sorted = sorted-are sid_of (rows_in records) assets (OwnSids-read records)
+
     under : (rows : List AssetRow) → (rows_in records ≡ Ok rows) ↔ AreRowsUnder header IsAsset records rows
     under rows = under-are header rules.BadHeader IsAsset Told says_asset assets_judged records rows
+
     there : assets_of records ≡ Ok assets → AreAssetsOf records assets
     there e = let it = sorted.0 e in record { rows = it.0; read = (under it.0).0 it.1; same = it.2; ascend = it.3 }
+
     back : AreAssetsOf records assets → assets_of records ≡ Ok assets
     back h = sorted.1 (h.rows, (under h.rows).1 h.read, h.same, h.ascend)
 
@@ -240,5 +231,6 @@ assets-fault records fault =
   where
     told : ((rows_in records >>= λ rows. Ok (sorted_by sid_of rows)) ≡ Err fault) ↔ (rows_in records ≡ Err fault)
     told = sorted-fault sid_of (rows_in records) fault
+
     under : (rows_under header rules.BadHeader says_asset records ≡ Err fault) ↔ IsAssetsFault records fault
     under = under-fault header rules.BadHeader IsAsset Told says_asset assets_judged records fault

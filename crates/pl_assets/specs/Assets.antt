@@ -1,5 +1,5 @@
 -- The assets of the records of an assets file, and the first rule that a record breaks.
-use Rattle.std.specs.Prelude.{◌≡◌, ℕ, ◌==◌, ◌<◌, ◌≤◌, ◌^◌, nat_le, if◌then◌else◌, codes, List, [], ◌∷◌, length, All, AllPairs, Option, Some, None, option_map, option_and_then, Result, Ok, Err}
+use Rattle.std.specs.Prelude.{ℕ, ◌==◌, ◌<◌, ◌≤◌, ◌^◌, nat_le, if◌then◌else◌, codes, List, [], ◌∷◌, length, All, AllPairs, Option, None, option_map, option_and_then, Result, Ok, Err}
 use Rattle.std.specs.List.{list_any}
 use Rattle.std.specs.Int.RustNames.{int_lt}
 use Rattle.std.specs.Option.{ok_or}
@@ -20,8 +20,8 @@ header = codes "sid" ∷ codes "start" ∷ codes "end" ∷ []
 abbrev pub asset_in : Record → Option AssetRow
 asset_in r =
     if length r == 3 then
-      option_and_then (λ sid. option_and_then (λ start. option_map (λ end. record { sid = sid; start = start; end = end })
-        (date_in (field r 2))) (date_in (field r 1))) (sid_in (field r 0))
+    option_and_then (λ sid. option_and_then (λ start. option_map (λ end. record { sid = sid; start = start; end = end })
+    (date_in (field r 2))) (date_in (field r 1))) (sid_in (field r 0))
     else None
 
 abbrev pub sid_of : AssetRow → ℕ
@@ -32,9 +32,9 @@ unfoldable pub says_asset : List AssetRow → Record → Result AssetRow Rule
 says_asset before r =
     if nat_le 8000 (length before) then Err TooMany
     else ok_or (asset_in r) BadField >>= λ a.
-      if int_lt a.end a.start then Err StartAfterEnd
-      else if list_any (λ x. sid_of x == a.sid) before then Err DuplicateSid
-      else Ok a
+    if int_lt a.end a.start then Err StartAfterEnd
+    else if list_any (λ x. sid_of x == a.sid) before then Err DuplicateSid
+    else Ok a
 
 -- the assets of a file in its order, or its first fault
 unfoldable pub rows_in : List Record → Result (List AssetRow) (Fault Rule)

@@ -4,9 +4,9 @@ ghost use Rattle.pl_assets.specs.declared.error.AssetsError.TheVariants.{Memory}
 use std::alloc::{AllocError, AllocFailed};
 use thiserror::Error;
 
-/// Why a file has no list of assets. `line` is the number of the first faulty record, from 1, where the header is the first;
-/// blank lines are no records. Of the faults of a record the first decides, in the order `TooMany`, `BadField`,
-/// `StartAfterEnd`, `DuplicateSid`.
+/// Why a file has no list of assets. `line` is the number of the first faulty record, from 1, where
+/// the header is the first; blank lines are no records. Of the faults of a record the first
+/// decides, in the order `TooMany`, `BadField`, `StartAfterEnd`, `DuplicateSid`.
 #[derive(Clone, Copy, Debug, Drop, Error, PartialEq, Eq)]
 pub enum AssetsError {
     /// The first record is not `sid,start,end`, or there is none.

@@ -1,5 +1,5 @@
-//! The assets: their sids and the days on which they exist. A column is the place of an asset among them by ascending sid,
-//! from 0.
+//! The assets: their sids and the days on which they exist. A column is the place of an asset among
+//! them by ascending sid, from 0.
 #![tactic(auto)]
 
 ghost use Rattle.std.specs.Prelude.{◌≡◌, ◌<◌, ◌≤◌, ◌^◌, ◌==◌, All, length, slice_get, position, Some, IfOk, IfSome, option_map};
@@ -18,7 +18,6 @@ mod tests;
 
 pub use error::AssetsError;
 pub use pl_spec::AssetRow;
-
 use std::alloc::Global;
 use std::marker::Model;
 
@@ -32,15 +31,20 @@ impl Model for Assets {
     ghost use Rattle.std.specs.Prelude.{List};
     ghost use Rattle.pl_spec.specs.declared.AssetRow.{AssetRow};
     ghost use Rattle.pl_assets.specs.Assets.{AreAssets};
+
     ghost Value = { List AssetRow };
+
     ghost view = { λ a. a.rows.items };
+
     ghost invariant = { λ a. AreAssets a.rows.items };
 }
 
 impl Assets {
-    /// The assets of a file: the header `sid,start,end`, and in each further record a sid and two dates, in any order of sids.
+    /// The assets of a file: the header `sid,start,end`, and in each further record a sid and two
+    /// dates, in any order of sids.
     pub fn read(alloc: Global, bytes: &[u8]) -> Result<Assets, AssetsError>
-        // The assets of the records, or the fault of the first faulty one. Only want of memory may come beside.
+        // The assets of the records, or the fault of the first faulty one. Only want of memory may
+        // come beside.
         ensures exact { Answers (λ a. a) fault_of result (assets_of (csv_records bytes.now)) }
         ensures assets { IfOk result AreAssets }
     {

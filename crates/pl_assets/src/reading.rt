@@ -59,12 +59,17 @@ fn rows_behind(alloc: Global, records: &mut Records) -> Result<Vec<AssetRow>, As
 
 // The asset of the record that was read last, behind the assets before it, whose sids are given.
 #[tactic(auto, unfolding(crate::specs::Assets::says_asset))]
-fn next_asset(before: &[AssetRow], sids: &mut HashSet<u32>, row: &Records) -> Result<AssetRow, AssetsError>
+fn next_asset(
+    before: &[AssetRow],
+    sids: &mut HashSet<u32>,
+    row: &Records,
+) -> Result<AssetRow, AssetsError>
     requires few { length before.now ≤ 8_000 }
     requires sids { AreSids sids.old before.now }
     ensures room { OnOk result (length before.now < 8_000) }
     ensures sids { IfOk result (λ a. AreSids sids.new (before.now ++ a ∷ [])) }
-    ensures exact { Answers (λ a. a) fault_of result (at_line (2 + length before.now) (says_asset before.now row.now.fields)) }
+    ensures exact { Answers (λ a. a) fault_of result
+        (at_line (2 + length before.now) (says_asset before.now row.now.fields)) }
 {
     let line = before.len() as u32 + 2;
     if before.len() >= MOST_ASSETS {

@@ -11,7 +11,11 @@ pub(crate) fn col_of(rows: &[AssetRow], sid: u32) -> Option<usize>
     ensures exact { result ≡ position (λ a. sid_of a == sid) rows.now }
 {
     let i = rows.partition_point(|row| row.sid < sid);
-    if i < rows.len() && rows[i].sid == sid { Some(i) } else { None }
+    if i < rows.len() && rows[i].sid == sid {
+        Some(i)
+    } else {
+        None
+    }
 }
 
 // Whether the asset exists on the day.

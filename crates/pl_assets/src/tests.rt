@@ -27,11 +27,25 @@ fn reads_assets(rt: HostRuntime) -> Result<(), Fail> {
 #[test]
 fn tells_who_exists(rt: HostRuntime) -> Result<(), Fail> {
     // From 2024-01-02 to 2024-01-09, and an asset that starts on its last day.
-    let long = AssetRow { sid: 1, start: 19724, end: 19731 };
-    let never = AssetRow { sid: u32::MAX, start: 19724, end: 19724 };
+    let long = AssetRow {
+        sid: 1,
+        start: 19724,
+        end: 19731,
+    };
+    let never = AssetRow {
+        sid: u32::MAX,
+        start: 19724,
+        end: 19724,
+    };
     let assets = Assets::from_rows(vec![in rt.alloc(); long, never]?);
     assert_eq!(rt; assets.col_of(u32::MAX), Some(1));
-    let table = [(19723, false), (19724, false), (19725, true), (19731, true), (19732, false)];
+    let table = [
+        (19723, false),
+        (19724, false),
+        (19725, true),
+        (19731, true),
+        (19732, false),
+    ];
     for (day, exists) in table.iter() {
         assert!(rt; assets.len() == 2);
         assert_eq!(rt; assets.exists(0, *day), *exists);
@@ -47,15 +61,49 @@ fn names_the_first_fault(rt: HostRuntime) -> Result<(), Fail> {
         (b"\xef\xbb\xbf", AssetsError::BadHeader),
         (b"sid,start\n", AssetsError::BadHeader),
         (b"1,2024-01-02,2024-01-09\n", AssetsError::BadHeader),
-        (b"sid,start,end\n1,2024-01-02\n", AssetsError::BadField { line: 2 }),
-        (b"sid,start,end\n01,2024-01-02,2024-01-09\n", AssetsError::BadField { line: 2 }),
-        (b"sid,start,end\n4294967296,2024-01-02,2024-01-09\n", AssetsError::BadField { line: 2 }),
-        (b"sid,start,end\n\n1,2024-01-02,2024-01-09\n2,2024-01-02,\n", AssetsError::BadField { line: 3 }),
-        (b"sid,start,end\n1,2024-01-02,2024-01-02\n1,2024-01-03,2024-01-02\n", AssetsError::StartAfterEnd { line: 3 }),
-        (b"sid,start,end\n1,2024-01-02,2024-01-09\n2,2024-01-02,2024-01-09\n1,2024-01-04,2024-01-05\nx\n", AssetsError::DuplicateSid { line: 4 }),
+        (
+            b"sid,start,end\n1,2024-01-02\n",
+            AssetsError::BadField { line: 2 },
+        ),
+        (
+            b"sid,start,end\n01,2024-01-02,2024-01-09\n",
+            AssetsError::BadField { line: 2 },
+        ),
+        (
+            b"sid,start,end\n4294967296,2024-01-02,2024-01-09\n",
+            AssetsError::BadField { line: 2 },
+        ),
+        (
+            b"sid,start,end\n\n1,2024-01-02,2024-01-09\n2,2024-01-02,\n",
+            AssetsError::BadField { line: 3 },
+        ),
+        (
+            b"sid,start,end\n1,2024-01-02,2024-01-02\n1,2024-01-03,2024-01-02\n",
+            AssetsError::StartAfterEnd { line: 3 },
+        ),
+        (
+            b"sid,start,end\n1,2024-01-02,2024-01-09\n2,2024-01-02,2024-01-09\n1,2024-01-04,2024-01-05\nx\n",
+            AssetsError::DuplicateSid { line: 4 },
+        ),
     ];
     for (bytes, fault) in table.iter() {
         assert!(rt; matches!(Assets::read(rt.alloc(), bytes), Err(e) if e == *fault));
     }
+    Ok(())
+}
+
+#[test]
+fn reads_8_000_assets(rt: HostRuntime) -> Result<(), Fail> {
+    let mut bytes = Vec::new(rt.alloc());
+    bytes.extend_from_slice(b"sid,start,end\n")?;
+    for sid in 0..8_000u32 {
+        let row = format!(in rt.alloc(); "{sid},2024-01-02,2024-01-09\n")?;
+        bytes.extend_from_slice(row.as_bytes())?;
+    }
+    assert_eq!(rt; Assets::read(rt.alloc(), &bytes)?.len(), 8_000);
+    // The next record is no asset, but the count is told.
+    bytes.extend_from_slice(b"x\n")?;
+    let fault = AssetsError::TooMany { line: 8_002 };
+    assert!(rt; matches!(Assets::read(rt.alloc(), &bytes), Err(e) if e == fault));
     Ok(())
 }

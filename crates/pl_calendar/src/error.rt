@@ -4,8 +4,9 @@ ghost use Rattle.pl_calendar.specs.declared.error.CalendarError.TheVariants.{Mem
 use std::alloc::{AllocError, AllocFailed};
 use thiserror::Error;
 
-/// Why a file has no list of sessions. `line` is the number of the first faulty record, from 1; blank lines are no records.
-/// Of the faults of a record the first decides, in the order `TooMany`, `BadDate`, `NotAscending`.
+/// Why a file has no list of sessions. `line` is the number of the first faulty record, from 1;
+/// blank lines are no records. Of the faults of a record the first decides, in the order `TooMany`,
+/// `BadDate`, `NotAscending`.
 #[derive(Clone, Copy, Debug, Drop, Error, PartialEq, Eq)]
 pub enum CalendarError {
     /// The record is not one field with a date of the years 1900 to 2199.

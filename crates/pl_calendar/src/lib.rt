@@ -38,9 +38,11 @@ impl Model for Sessions {
 }
 
 impl Sessions {
-    /// The sessions of a file: each record is one date, `YYYY-MM-DD`, later than the one before. There is no header.
+    /// The sessions of a file: each record is one date, `YYYY-MM-DD`, later than the one before.
+    /// There is no header.
     pub fn read(alloc: Global, bytes: &[u8]) -> Result<Sessions, CalendarError>
-        // The days of the records, or the fault of the first faulty one. Only want of memory may come beside.
+        // The days of the records, or the fault of the first faulty one. Only want of memory may
+        // come beside.
         ensures exact { Answers (λ s. s) fault_of result (sessions_of (csv_records bytes.now)) }
         ensures days { IfOk result AreDays }
     {

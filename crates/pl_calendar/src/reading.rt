@@ -40,7 +40,8 @@ fn read_days(alloc: Global, bytes: &[u8]) -> Result<Vec<i32>, CalendarError>
 fn next_day(before: &[i32], row: &Records) -> Result<i32, CalendarError>
     requires { length before.now ≤ 16_000 }
     ensures room { OnOk result (length before.now < 16_000) }
-    ensures exact { Answers (λ d. d) fault_of result (at_line (1 + length before.now) (says_day before.now row.now.fields)) }
+    ensures exact { Answers (λ d. d) fault_of result
+        (at_line (1 + length before.now) (says_day before.now row.now.fields)) }
 {
     let line = before.len() as u32 + 1;
     if before.len() >= MOST_SESSIONS {

@@ -1,5 +1,5 @@
--- The ten bytes of a date, and the years of days.
-use Rattle.std.proofs.Common.{◌≡◌, ℕ, List, ◌∷◌, [], length, get_or, ◌+◌, ◌*◌, ◌/◌, ◌%◌, ◌<◌, pos, neg_ℤ, ◌≤ℤ◌, refl, sym, ◌∙◌, arith}
+-- The years of days, and the ten bytes of a date.
+use Rattle.std.proofs.Common.{◌≡◌, ℕ, List, length, get_or, ◌+◌, ◌*◌, ◌/◌, ◌%◌, ◌<◌, pos, neg_ℤ, ◌≤ℤ◌, refl, arith}
 use Rattle.std.proofs.lemmas.Int.{ints, by_lt_z}
 use Rattle.std.proofs.lemmas.Slice.Eq.{text_from_reads}
 use Rattle.jiff_core.specs.declared.civil.date.Date.{Date}
@@ -9,8 +9,8 @@ use Rattle.jiff_core.proofs.CalendarLemmas.{days_from_civil-day_count, day_count
 use Rattle.jiff_core.proofs.DateLemmas.{civil}
 use Rattle.jiff_core.proofs.MarchLemmas.{day_count-early, day_count-late}
 use Rattle.pl_spec.specs.Dates.{date_spelling}
-use Rattle.pl_fixed.specs.Pairs.{IsPairAt}
 use Rattle.pl_spec.proofs.DatesRead.{date_spelling-bytes}
+use Rattle.pl_fixed.specs.Pairs.{IsPairAt}
 
 day_count-first : day_count (pos 1900) 1 1 ≡ 4_346_386
 day_count-first = day_count-early _ 11899 1 1 refl (omega arith) (omega arith) (omega arith)
@@ -24,13 +24,19 @@ last_civil = ((omega (arith, ints), omega (arith, ints)), (omega arith, omega ar
 pub year_early : (d : Date) → neg_ℤ (pos 25_567) ≤ℤ epoch_day d → pos 1900 ≤ℤ d.year
 year_early d h =
     by_lt_z d.year (pos 1900)
-    (λ before. absurd (omega (arith, ints, days_from_civil-day_count d.year d.month d.day, day_count-first, day_count-lt_year d.year d.month d.day (pos 1900) 1 1 (civil d) (omega arith) before)))
+    (λ before.
+    let count = days_from_civil-day_count d.year d.month d.day in
+    let less = day_count-lt_year d.year d.month d.day (pos 1900) 1 1 (civil d) (omega arith) before in
+    absurd (omega (arith, ints, day_count-first)))
     (λ after. after)
 
 pub year_late : (d : Date) → epoch_day d ≤ℤ pos 84_005 → d.year ≤ℤ pos 2199
 year_late d h =
     by_lt_z (pos 2199) d.year
-    (λ after. absurd (omega (arith, ints, days_from_civil-day_count d.year d.month d.day, day_count-last, day_count-lt_year (pos 2199) 12 31 d.year d.month d.day last_civil d.day_in.0 after)))
+    (λ after.
+    let count = days_from_civil-day_count d.year d.month d.day in
+    let more = day_count-lt_year (pos 2199) 12 31 d.year d.month d.day last_civil d.day_in.0 after in
+    absurd (omega (arith, ints, day_count-last)))
     (λ before. before)
 
 -- ten bytes that hold the digits of a date and its dashes are its spelling
@@ -39,26 +45,14 @@ pub date_spelling-pairs : (bytes : List ℕ) (century rest m d : ℕ) → length
     → bytes ≡ date_spelling (century * 100 + rest) m d
 date_spelling-pairs bytes century rest m d len dash again c r mm dd =
     let y = century * 100 + rest in
-    text_from_reads bytes (
-    (48 + y / 10 / 10 / 10 % 10) ∷ (48 + y / 10 / 10 % 10) ∷ (48 + y / 10 % 10) ∷ (48 + y % 10)
-    ∷ 45 ∷ (48 + m / 10 % 10) ∷ (48 + m % 10) ∷ 45 ∷ (48 + d / 10 % 10) ∷ (48 + d % 10) ∷ []
-    ) len (
-      c.tens ∙ omega (arith, c.below, r.below),
-      (
-        c.ones ∙ omega (arith, c.below, r.below),
-        (
-          r.tens ∙ omega (arith, r.below),
-          (
-            r.ones ∙ omega (arith, r.below),
-            (
-              dash,
-              (mm.tens ∙ omega (arith, mm.below), (mm.ones, (again, (dd.tens ∙ omega (arith, dd.below), (dd.ones, tt))))),
-            ),
-          ),
-        ),
-      ),
-    )
-    ∙ sym (date_spelling-bytes y m d)
+    let y0 : get_or bytes 0 0 ≡ 48 + y / 10 / 10 / 10 % 10 = omega (arith, c.tens, c.below, r.below) in
+    let y1 : get_or bytes 1 0 ≡ 48 + y / 10 / 10 % 10 = omega (arith, c.ones, c.below, r.below) in
+    let y2 : get_or bytes 2 0 ≡ 48 + y / 10 % 10 = omega (arith, r.tens, r.below) in
+    let y3 : get_or bytes 3 0 ≡ 48 + y % 10 = omega (arith, r.ones, r.below) in
+    let m0 : get_or bytes 5 0 ≡ 48 + m / 10 % 10 = omega (arith, mm.tens, mm.below) in
+    let d0 : get_or bytes 8 0 ≡ 48 + d / 10 % 10 = omega (arith, dd.tens, dd.below) in
+    rw (date_spelling-bytes y m d)
+    (text_from_reads bytes _ len (y0, (y1, (y2, (y3, (dash, (m0, (mm.ones, (again, (d0, (dd.ones, tt)))))))))))
 
 -- and the spelling of a date holds them
 pub record IsSpelled (bytes : List ℕ) (y m d : ℕ) : Type 0 where
@@ -70,7 +64,8 @@ pub record IsSpelled (bytes : List ℕ) (y m d : ℕ) : Type 0 where
   pub month : IsPairAt bytes 5 m
   pub day : IsPairAt bytes 8 d
 
-pub IsSpelled-date_spelling : (bytes : List ℕ) (y m d : ℕ) → y < 10000 → m < 100 → d < 100 → bytes ≡ date_spelling y m d → IsSpelled bytes y m d
+pub IsSpelled-date_spelling : (bytes : List ℕ) (y m d : ℕ) → y < 10000 → m < 100 → d < 100
+    → bytes ≡ date_spelling y m d → IsSpelled bytes y m d
 IsSpelled-date_spelling bytes y m d hy hm hd e =
     rw (e, date_spelling-bytes y m d) (record {
       size = refl;

@@ -1,6 +1,7 @@
 pub mod RoundingLemmas
 pub mod CellLemmas
-pub mod DecimalLemmas
+pub mod DigitLemmas
+pub mod ReadingLemmas
 pub mod WritingLemmas
 pub mod SidLemmas
 pub mod DayLemmas

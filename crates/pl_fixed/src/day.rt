@@ -1,16 +1,17 @@
 ghost use Rattle.std.specs.Prelude.{◌≡◌, ◌<◌, ◌+◌, ◌/◌, ◌%◌, ℕ, ℤ, pos, ◌≤ℤ◌, IfSome, length};
 ghost use Rattle.jiff.specs.Words.{epoch_day};
-ghost use Rattle.pl_spec.specs.Dates.{IsDate, IsDay, date_spelling, date_in};
+ghost use Rattle.pl_spec.specs.Dates.{IsDate, IsDay, date_spelling, date_in, date_text};
 ghost use Rattle.pl_fixed.specs.Pairs.{IsPairAt};
 
 use jiff::civil::Date;
 use jiff_core::civil;
 
-/// The day of a date `YYYY-MM-DD` of the years 1900 to 2199, counted from 1970-01-01.
+/// The day of a date `YYYY-MM-DD` of the years 1900 to 2199, counted from 1970-01-01; `None` for any other bytes.
 pub fn read_day(b: &[u8]) -> Option<i32>
     ensures exact { result ≡ date_in b.now }
     ensures found { IfSome result (IsDate b.now) }
     ensures only { (day : ℤ) → IsDate b.now day → result ≡ Some day }
+    ensures range { IfSome result IsDay }
 {
     day_of(b)
 }
@@ -72,10 +73,12 @@ fn pair_at(b: &[u8], place: usize) -> Option<u8>
     }
 }
 
-/// Writes the date `YYYY-MM-DD` of a day from 1900-01-01 to 2199-12-31, which `read_day` reads as that day.
+/// Writes the date `YYYY-MM-DD` of a day from 1900-01-01 to 2199-12-31. `read_day` reads it as that day.
 pub fn write_day(day: i32, out: &mut [u8; 10])
     requires { IsDay day }
-    ensures { IsDate out.new day }
+    ensures text { out.new ≡ date_text day }
+    ensures date { IsDate out.new day }
+    ensures reads_back { date_in out.new ≡ Some day }
 {
     put_date(day, out)
 }

@@ -136,6 +136,7 @@ fn millionths(negative: bool, units: u64, part: u64, scale: u64) -> i128
 #[tactic(auto, unfolding(pl_spec::specs::Decimals::cell_text))]
 pub fn write_decimal(cell: i64, out: &mut [u8; 32]) -> usize
     requires { IsCell cell }
+    ensures within { result ≤ 32 }
     ensures text { take result out.new ≡ cell_text cell }
     ensures reads_back { cell ≢ MISSING
         → (d : Decimal) × IsDecimal d (take result out.new) × IsReadAs d cell }
@@ -150,7 +151,8 @@ pub fn write_decimal(cell: i64, out: &mut [u8; 32]) -> usize
 fn write_present(cell: i64, out: &mut [u8]) -> usize
     requires room { 32 ≤ length out.old }
     requires small { unsigned_abs cell ≤ LIMIT }
-    ensures { take result out.new ≡ sign_text (int_lt cell (pos 0)) ++ units_text (unsigned_abs cell) }
+    ensures within { result ≤ 32 }
+    ensures text { take result out.new ≡ sign_text (int_lt cell (pos 0)) ++ units_text (unsigned_abs cell) }
 {
     let magnitude = cell.unsigned_abs();
     let sign_end = put_sign(cell < 0, out, 0);

@@ -6,6 +6,7 @@ mod cell;
 mod day;
 mod decimal;
 mod digits;
+mod memory;
 mod ratio;
 mod rounding;
 mod sid;
@@ -16,12 +17,9 @@ mod tests;
 pub use cell::{LIM, MISSING, add, div, is_cell, mul, neg, quot, sub, to_cell};
 pub use day::{read_day, write_day};
 pub use decimal::{DecimalFault, read_decimal, write_decimal};
+pub use memory::Memory;
 pub use pl_spec::Column;
 pub use ratio::Ratio;
 pub use rounding::{div_round, isqrt};
 pub use sid::read_sid;
 pub use steps::Steps;
-
-/// Want of memory, where it is the only refusal.
-#[derive(Clone, Copy, Debug, PartialEq, Eq)]
-pub struct Memory;

@@ -1,4 +1,4 @@
-ghost use Rattle.std.specs.Prelude.{◌≡◌, ◌≢◌, ◌<◌, ◌^◌, ℕ, IfSome, IfNone};
+ghost use Rattle.std.specs.Prelude.{◌≡◌, ◌<◌, ◌^◌, ℕ, IfSome};
 ghost use Rattle.std.specs.Fmt.{decimal};
 ghost use Rattle.pl_spec.specs.Decimals.{sid_in};
 
@@ -7,19 +7,19 @@ use crate::digits::{is_numeral, value_up_to};
 // One more than the greatest sid.
 const SID_END: u64 = 1 << 32;
 
-/// The sid that the bytes write: a number from 0 to 4294967295 without sign and without leading zeros.
+/// The sid that the bytes write: a number from 0 to 4294967295 without sign and without leading zeros; `None` for any
+/// other bytes.
 pub fn read_sid(b: &[u8]) -> Option<u32>
     ensures exact { result ≡ sid_in b.now }
-    ensures some { IfSome result (λ sid. b.now ≡ decimal sid) }
-    ensures none { IfNone result ((n : ℕ) → n < 2 ^ 32 → b.now ≢ decimal n) }
+    ensures found { IfSome result (λ sid. b.now ≡ decimal sid) }
+    ensures only { (sid : ℕ) → sid < 2 ^ 32 → b.now ≡ decimal sid → result ≡ Some sid }
 {
     sid_of(b)
 }
 
 fn sid_of(b: &[u8]) -> Option<u32>
-    ensures range { IfSome result (λ sid. sid < 2 ^ 32) }
-    ensures some { IfSome result (λ sid. b.now ≡ decimal sid) }
-    ensures none { IfNone result ((n : ℕ) → n < 2 ^ 32 → b.now ≢ decimal n) }
+    ensures found { IfSome result (λ sid. (sid < 2 ^ 32) × (b.now ≡ decimal sid)) }
+    ensures only { (sid : ℕ) → sid < 2 ^ 32 → b.now ≡ decimal sid → result ≡ Some sid }
 {
     if !is_numeral(b) {
         return None;

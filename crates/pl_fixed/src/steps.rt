@@ -1,6 +1,6 @@
 ghost use Rattle.std.specs.Prelude.{◌≡◌, ℕ, ◌+◌, ◌<◌};
 
-use std::marker::Model;
+use std::marker::{Brand, Model};
 use std::sync::ledger::{Blank, Book, Ledger, Share};
 
 /// The number of steps counted so far. It takes no bytes at run time, and only `tick` changes it, so a contract
@@ -10,6 +10,8 @@ pub struct Steps<L: Ledger> {
     book: Book<L>,
     share: Share<L>,
 }
+
+const _: () = prove!(size_of::<Steps<Brand>>() == 0);
 
 impl<L: Ledger> Model for Steps<L> {
     ghost Value = { ℕ };

@@ -1,7 +1,8 @@
-//! The records of a CSV file, one at a time: the form in which all data files of the project are read.
+//! The records of a CSV file, one at a time: the form in which all data files of the project are
+//! read.
 //!
-//! The separator is the comma. No header is set apart, records have any number of fields, nothing is trimmed, and a
-//! byte order mark at the front is dropped. A blank line is no record.
+//! The separator is the comma. No header is set apart, records have any number of fields, nothing
+//! is trimmed, and a byte order mark at the front is dropped. A blank line is no record.
 #![tactic(auto)]
 
 ghost use Rattle.std.specs.Prelude.{◌≡◌, ◌<◌, [], map, drop, length, bytes_eq, IsTrue, IfOk, OnErr};
@@ -105,9 +106,11 @@ impl<'a> Records<'a> {
         true
     }
 
-    /// Reads the first record, and tells whether it is this header. A file without records has none.
+    /// Reads the first record, and tells whether it is this header. A file without records has
+    /// none.
     pub fn read_header(&mut self, names: &[&[u8]]) -> Result<bool, AllocError>
-        ensures header { IfOk result (λ b. b ≡ has_header (map (λ n. n.now) names.now) self.old.left) }
+        ensures header { IfOk result (λ b.
+            b ≡ has_header (map (λ n. n.now) names.now) self.old.left) }
         ensures rest { IfOk result (λ b. IsTrue b → self.new.left ≡ drop 1 self.old.left) }
     {
         let found = self.next()?;

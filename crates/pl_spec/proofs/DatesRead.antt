@@ -1,5 +1,5 @@
 -- A text is read as a day exactly where it is the date of that day.
-use Rattle.std.proofs.Common.{◌≡◌, ℕ, ◌+◌, ◌*◌, ◌/◌, ◌%◌, ◌<◌, ◌≤◌, nat_le, Bool, true, ◌&&◌, List, [], ◌∷◌, ℤ, pos, Some, refl, sym, ◌∙◌, ap, arith, bytes_eq}
+use Rattle.std.proofs.Common.{◌≡◌, ℕ, ◌+◌, ◌/◌, ◌%◌, ◌<◌, ◌≤◌, nat_le, true, ◌&&◌, List, [], ◌∷◌, ℤ, pos, Some, refl, sym, ◌∙◌, ap, arith, bytes_eq}
 use Rattle.std.proofs.lemmas.Int.{ints}
 use Rattle.std.proofs.lemmas.Bool.Decides.{nat_tests}
 use Rattle.std.proofs.lemmas.Bool.{and_parts}
@@ -27,13 +27,15 @@ date_again y m d h = ap (λ t. pair_in t 8) (date_spelling-bytes y m d) ∙ omeg
 
 -- ---- the date of a day is read as that day
 
-day_if-date : (y m d : ℕ) (text : List ℕ) → is_date y m d ≡ true → text ≡ date_spelling y m d → day_if y m d text ≡ Some (days_from_civil (pos y) m d)
+day_if-date : (y m d : ℕ) (text : List ℕ) → is_date y m d ≡ true → text ≡ date_spelling y m d
+    → day_if y m d text ≡ Some (days_from_civil (pos y) m d)
 unfolding day_if
 day_if-date y m d text t e =
     let same : bytes_eq text (date_spelling y m d) ≡ true = (bytes_eq-Decides text (date_spelling y m d)).1 e in
     rw (t, same) refl
 
-passes : (y m d n : ℕ) → 1900 ≤ y → y ≤ 2199 → 1 ≤ m → m ≤ 12 → 1 ≤ d → d ≤ n → (nat_le 1900 y && nat_le y 2199 && nat_le 1 m && nat_le m 12 && nat_le 1 d && nat_le d n) ≡ true
+passes : (y m d n : ℕ) → 1900 ≤ y → y ≤ 2199 → 1 ≤ m → m ≤ 12 → 1 ≤ d → d ≤ n
+    → (nat_le 1900 y && nat_le y 2199 && nat_le 1 m && nat_le m 12 && nat_le 1 d && nat_le d n) ≡ true
 passes y m d n a b e f g h = grind (arith, nat_tests)
 
 pub date_in-IsDate : (text : List ℕ) (day : ℤ) → IsDate text day → date_in text ≡ Some day
@@ -45,8 +47,11 @@ date_in-IsDate text day h =
     let y : year_in text ≡ h.year = ap year_in h.spelled ∙ year_again h.year h.month h.date h.late in
     let m : pair_in text 5 ≡ h.month = ap (λ t. pair_in t 5) h.spelled ∙ month_again h.year h.month h.date (omega arith) in
     let d : pair_in text 8 ≡ h.date = ap (λ t. pair_in t 8) h.spelled ∙ date_again h.year h.month h.date (omega arith) in
-    let t : is_date h.year h.month h.date ≡ true = passes h.year h.month h.date (days_in_month (pos h.year) h.month) h.early h.late months.0 months.1 days.0 days.1 in
-    ap (λ n. day_if n (pair_in text 5) (pair_in text 8) text) y ∙ ap (λ n. day_if h.year n (pair_in text 8) text) m ∙ ap (λ n. day_if h.year h.month n text) d
+    let t : is_date h.year h.month h.date ≡ true =
+    passes h.year h.month h.date (days_in_month (pos h.year) h.month) h.early h.late months.0 months.1 days.0 days.1 in
+    ap (λ n. day_if n (pair_in text 5) (pair_in text 8) text) y
+    ∙ ap (λ n. day_if h.year n (pair_in text 8) text) m
+    ∙ ap (λ n. day_if h.year h.month n text) d
     ∙ day_if-date h.year h.month h.date text t h.spelled ∙ ap Some (sym h.counted)
 
 -- ---- what is read is a date
@@ -59,11 +64,20 @@ record Passed (y m d n : ℕ) : Type 0 where
   day_from : 1 ≤ d
   day_to : d ≤ n
 
-passed : (y m d n : ℕ) → (nat_le 1900 y && nat_le y 2199 && nat_le 1 m && nat_le m 12 && nat_le 1 d && nat_le d n) ≡ true → Passed y m d n
+passed : (y m d n : ℕ) → (nat_le 1900 y && nat_le y 2199 && nat_le 1 m && nat_le m 12 && nat_le 1 d && nat_le d n) ≡ true
+    → Passed y m d n
 passed y m d n t =
-    let a = and_parts _ _ t in let b = and_parts _ _ a.0 in let e = and_parts _ _ b.0 in let f = and_parts _ _ e.0 in let g = and_parts _ _ f.0 in
-    let t0 : nat_le 1900 y ≡ true = g.0 in let t1 : nat_le y 2199 ≡ true = g.1 in let t2 : nat_le 1 m ≡ true = f.1 in
-    let t3 : nat_le m 12 ≡ true = e.1 in let t4 : nat_le 1 d ≡ true = b.1 in let t5 : nat_le d n ≡ true = a.1 in
+    let a = and_parts _ _ t in
+    let b = and_parts _ _ a.0 in
+    let e = and_parts _ _ b.0 in
+    let f = and_parts _ _ e.0 in
+    let g = and_parts _ _ f.0 in
+    let t0 : nat_le 1900 y ≡ true = g.0 in
+    let t1 : nat_le y 2199 ≡ true = g.1 in
+    let t2 : nat_le 1 m ≡ true = f.1 in
+    let t3 : nat_le m 12 ≡ true = e.1 in
+    let t4 : nat_le 1 d ≡ true = b.1 in
+    let t5 : nat_le d n ≡ true = a.1 in
     record {
       early = grind (arith, nat_tests);
       late = grind (arith, nat_tests);

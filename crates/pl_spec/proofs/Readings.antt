@@ -1,5 +1,5 @@
 -- Rows that are read are those of the records, and the fault is the first.
-use Rattle.std.proofs.Common.{◌≡◌, ◌≢◌, Bool, true, false, bytes_eq, ℕ, zero, suc, ◌+◌, ◌<◌, ◌≤◌, ◌↔◌, List, [], ◌∷◌, ◌++◌, length, take, drop, get_or, Option, Some, None, IfSome, Result, Ok, Err, refl, sym, ◌∙◌, ap, arith, rules, append_assoc, length-append, inl, inr, ◌⊎◌, add-one}
+use Rattle.std.proofs.Common.{◌≡◌, ◌≢◌, Bool, true, false, bytes_eq, ℕ, zero, suc, ◌+◌, ◌<◌, ◌≤◌, ◌↔◌, List, [], ◌∷◌, ◌++◌, length, take, drop, get_or, Option, Some, None, IfSome, Result, Ok, Err, refl, sym, ◌∙◌, ap, subst, arith, rules, append_assoc, length-append, inl, inr, ◌⊎◌, add-one}
 use Rattle.std.specs.List.{slice_get}
 use Rattle.std.specs.Bool.{Decides, if◌then◌else◌}
 use Rattle.std.specs.Option.{ok_or}
@@ -348,6 +348,14 @@ Judges-from {Row} {R} IsRow Breaks says order rule_at at ok err one kept =
             | inr le ↦ (let level : order q ≡ order rule = omega arith in sym (at q) ∙ ap rule_at level ∙ at rule)
           ]
         ]
+
+-- one rule more is kept
+pub passed-more : {R : Type 0} (order : R → ℕ) (rule_at : ℕ → R) → ((q : R) → rule_at (order q) ≡ q) → (Breaks : R → Type 0) (n : ℕ)
+    → ((q : R) → order q < n → Breaks q → ⊥) → (Breaks (rule_at n) → ⊥) → (q : R) → order q < n + 1 → Breaks q → ⊥
+passed-more order rule_at at Breaks n passed here q l b = elim (cases_lt (order q) n) [
+  | inl lt ↦ passed q lt b
+  | inr ge ↦ (let same : order q ≡ n = omega arith in here (subst Breaks (sym (at q) ∙ ap rule_at same) b))
+]
 
 -- ---- rows under a header
 

@@ -24,3 +24,4 @@ pub mod Sorted
 pub mod Laws
 pub mod ListLaws
 pub mod DateLaws
+pub mod SidLaws

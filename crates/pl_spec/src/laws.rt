@@ -3,6 +3,8 @@ ghost use Rattle.pl_spec.specs.NodeValue.{NodesUnfold};
 ghost use Rattle.pl_spec.specs.Reaching.{ReachIsEnough};
 ghost use Rattle.pl_spec.specs.Lookups.{BarsAreFound, LabelsAreFound};
 ghost use Rattle.pl_spec.specs.DateLaws.{DatesAreRead};
+ghost use Rattle.pl_spec.specs.DateLaws.{DatesAreRead, DatesAreWritten, DaysHaveOneDate};
+ghost use Rattle.pl_spec.specs.SidLaws.{SidsAreRead};
 
 /// The rounded quotient is the one nearest number.
 pub fn rounding_is_exact()
@@ -87,4 +89,19 @@ pub fn labels_are_found()
 /// A text is read as a day exactly where it is the date of that day.
 pub fn dates_are_read()
     ensures { DatesAreRead }
+{}
+
+/// The text of a day is its date.
+pub fn dates_are_written()
+    ensures { DatesAreWritten }
+{}
+
+/// A day has no other date, and there are no dates of other days.
+pub fn days_have_one_date()
+    ensures { DaysHaveOneDate }
+{}
+
+/// A text is read as a sid exactly where it is the text of that number.
+pub fn sids_are_read()
+    ensures { SidsAreRead }
 {}

@@ -1,4 +1,3 @@
-use Rattle.std.proofs.Common.{rules, ◌≡◌}
 use Rattle.pl_records.specs.Records.{csv_records}
 use Rattle.pl_assets.proofs.AssetsRead.{OwnSids-read}
 use Rattle.pl_assets.proofs.reading.read_assets.Goals as goal

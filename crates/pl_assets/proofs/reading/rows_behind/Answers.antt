@@ -1,12 +1,9 @@
-use Rattle.std.proofs.lemmas.Int.{to_z-of_z}
-use Rattle.std.proofs.Common.{rules, FitsSigned, w32, ◌≡◌, ◌<◌, length, arith, length-append, ◌∷◌, ◌++◌, []}
+use Rattle.std.proofs.Common.{◌≡◌, ◌<◌, length, arith, length-append, ◌∷◌, ◌++◌, []}
 use Rattle.std.proofs.lemmas.Result.{err_from_is_err_and}
 use Rattle.pl_spec.specs.Reading.{rows_of}
 use Rattle.pl_spec.proofs.Readings.{goes_on, stops, is_done}
-use Rattle.pl_records.specs.Records.{csv_records}
 use Rattle.pl_assets.specs.Assets.{says_asset}
 use Rattle.pl_assets.specs.Faults.{fault_of}
-use Rattle.pl_assets.specs.Seen.{AreSids}
 use Rattle.pl_assets.proofs.reading.rows_behind.Goals as goal
 
 pub next_asset-requires-clause-sids : goal.next_asset-requires-clause-sids

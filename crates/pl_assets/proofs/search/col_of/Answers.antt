@@ -1,4 +1,4 @@
-use Rattle.std.proofs.Common.{rules, ◌≡◌, nat_lt, sym, pos, arith}
+use Rattle.std.proofs.Common.{rules, nat_lt, sym, pos, arith}
 use Rattle.std.proofs.lemmas.List.Sorted.{IsPartitionPoint-from_clause}
 use Rattle.pl_spec.proofs.Places.{key_found, key_other, parted_by}
 use Rattle.pl_spec.specs.declared.AssetRow.{AssetRow}

@@ -1,6 +1,7 @@
 use Rattle.std.proofs.Common.{◌≡◌, ℤ, Option, Some, None, IfSome, List, ℕ, refl, sym}
-use Rattle.pl_spec.specs.Dates.{IsDate, date_in}
+use Rattle.pl_spec.specs.Dates.{IsDate, IsDay, date_in}
 use Rattle.pl_spec.proofs.DatesRead.{date_in-IsDate, IsDate-date_in}
+use Rattle.pl_spec.proofs.DatesWritten.{IsDay-IsDate}
 use Rattle.pl_fixed.proofs.day.read_day.Goals as goal
 
 -- what answers exactly the days whose date the text is answers as the definition
@@ -9,5 +10,12 @@ as_defined text (Some day) p e found only = sym (rw e (date_in-IsDate text day f
 as_defined text None None e found only = refl
 as_defined text None (Some day) e found only = only day (IsDate-date_in text day (sym e))
 
+in_range : (text : List ℕ) (o : Option ℤ) → IfSome o (IsDate text) → IfSome o IsDay
+in_range text (Some day) found = IsDay-IsDate text day found
+in_range text None found = tt
+
 pub returns-clause-exact : goal.returns-clause-exact
 returns-clause-exact c = as_defined c.args.b.now c.day_of.result _ refl c.day_of.ensures.found c.day_of.ensures.only
+
+pub returns-clause-range : goal.returns-clause-range
+returns-clause-range c = in_range c.args.b.now c.day_of.result c.day_of.ensures.found

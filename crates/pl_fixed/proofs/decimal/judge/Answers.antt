@@ -3,7 +3,7 @@ use Rattle.std.specs.Int.{w128}
 use Rattle.std.proofs.lemmas.Int.{to_z-of_z}
 use Rattle.pl_spec.specs.Decimals.{Decimal}
 use Rattle.pl_fixed.specs.Reading.{in_range}
-use Rattle.pl_fixed.proofs.DecimalLemmas.{in_range-capped, judged-short}
+use Rattle.pl_fixed.proofs.ReadingLemmas.{in_range-capped, judged-short}
 use Rattle.pl_fixed.proofs.decimal.judge.Goals as goal
 
 pub returns : goal.returns

@@ -8,5 +8,5 @@ pub returns-else-cell-eq-MISSING-clause-reads_back : goal.returns-else-cell-eq-M
 returns-else-cell-eq-MISSING-clause-reads_back c = λ present.
     let f : FitsSigned w64 c.args.cell = c.ranges.cell in
     let small : unsigned_abs c.args.cell ≤ LIMIT = elim c.requires [ inl missing ↦ absurd (present missing) | inr h ↦ h ] in
-    let text = simp to_z-of_z at c.write_present.ensures in
+    let text = simp to_z-of_z at c.write_present.ensures.text in
     rw text (reads_back c.args.cell small)

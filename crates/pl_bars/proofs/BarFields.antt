@@ -1,0 +1,210 @@
+-- The fields of a record, in plain words.
+use Rattle.std.proofs.Common.{◌≡◌, ℕ, zero, suc, ◌+◌, ◌==◌, ◌≤◌, ◌&&◌, not, nat_le, IsTrue, Bool, true, false, List, [], ◌∷◌, length, get_or, All, Option, Some, None, option_map, option_and_then, Result, Ok, Err, refl, ap, subst, sym, ◌∙◌, ℤ, pos, ◌<ℤ◌, arith, inl, inr}
+use Rattle.std.specs.List.{list_any, slice_get}
+use Rattle.std.specs.Result.{result_ok}
+use Rattle.std.specs.Int.RustNames.{int_lt, int_le, unsigned_abs}
+use Rattle.std.specs.Bool.{if◌then◌else◌}
+use Rattle.std.proofs.lemmas.Int.{ints}
+use Rattle.std.proofs.lemmas.Bool.Decides.{nat_tests}
+use Rattle.std.proofs.lemmas.List.Folds.{list_any_at}
+use Rattle.std.proofs.lemmas.Option.{slice_get-get_or}
+use Rattle.pl_spec.specs.Reading.{Record, field}
+use Rattle.pl_spec.specs.Rounding.{MISSING, LIMIT, is_missing}
+use Rattle.pl_spec.specs.Dates.{date_in}
+use Rattle.pl_spec.specs.Decimals.{sid_in}
+use Rattle.pl_spec.proofs.DatesRead.{date_in-IsDate, IsDate-date_in}
+use Rattle.pl_fixed.specs.declared.decimal.DecimalFault.{DecimalFault}
+use Rattle.pl_fixed.specs.declared.decimal.DecimalFault.TheVariants.{Empty}
+use Rattle.pl_fixed.specs.Reading.{read}
+use Rattle.pl_spec.proofs.SidsRead.{sid_in-decimal, decimal-sid_in}
+use Rattle.pl_fixed.proofs.ReadingLemmas.{read-empty, read-value}
+use Rattle.pl_bars.specs.declared.fields.Fields.{Fields}
+use Rattle.pl_bars.specs.Bars.{cell_in, cells_in, fields_in, is_negative, is_bar_cell}
+use Rattle.pl_bars.specs.Rules.{IsCellText, IsBarRecord, IsNegative}
+
+-- ---- a cell
+
+not_empty : (c : ℕ) (cs : List ℕ) → (length (c ∷ cs) == 0) ≡ false
+not_empty c cs = grind (arith, nat_tests)
+
+IsCellText-cell_in : (text : List ℕ) (v : ℤ) → cell_in text ≡ Some v → IsCellText text v
+unfolding cell_in
+IsCellText-cell_in [] v e = inl (refl, (let same : Some MISSING ≡ Some v = e in cc))
+IsCellText-cell_in (c ∷ cs) v e = inr ((read-value (c ∷ cs) v).0 (here (read (c ∷ cs)) (rw (not_empty c cs) at e)))
+  where
+    here : (x : Result ℤ DecimalFault) → result_ok x ≡ Some v → x ≡ Ok v
+    here (Ok w) e = let same : Some w ≡ Some v = e in ap Ok (let it : w ≡ v = cc in it)
+    here (Err f) e = absurd (let bad : None ≡ Some v = e in cc)
+
+cell_in-IsCellText : (text : List ℕ) (v : ℤ) → IsCellText text v → cell_in text ≡ Some v
+unfolding cell_in
+cell_in-IsCellText [] v (inl h) = ap Some (sym h.1)
+cell_in-IsCellText [] v (inr h) =
+    let value : read [] ≡ Ok v = (read-value [] v).1 h in
+    let empty : read [] ≡ Err Empty = (read-empty []).1 refl in
+    absurd (let bad : Err Empty ≡ Ok v = sym empty ∙ value in cc)
+cell_in-IsCellText (c ∷ cs) v (inl h) = absurd (let bad : c ∷ cs ≡ [] = h.0 in cc)
+cell_in-IsCellText (c ∷ cs) v (inr h) = rw (not_empty c cs, (read-value (c ∷ cs) v).1 h) refl
+
+missing-is : (v : ℤ) → v ≡ MISSING → is_missing v ≡ true
+missing-is v e = rw e refl
+
+small-is : (v : ℤ) → int_lt v (pos 0) ≡ false → unsigned_abs v ≤ LIMIT → (int_le (pos 0) v && nat_le (unsigned_abs v) LIMIT) ≡ true
+small-is v t h =
+    let a : int_le (pos 0) v ≡ true = grind (arith, ints) in
+    let b : nat_le (unsigned_abs v) LIMIT ≡ true = grind (arith, nat_tests) in rw (a, b) refl
+
+-- a text's cell that is not below 0
+IsCellText-bar_cell : (text : List ℕ) (v : ℤ) → IsCellText text v → is_negative v ≡ false → IsTrue (is_bar_cell v)
+IsCellText-bar_cell text v h t = here (is_missing v) refl
+  where
+    at_least : (b : Bool) → int_lt v (pos 0) ≡ b → is_missing v ≡ false → int_lt v (pos 0) ≡ false
+    at_least true u m = absurd (let bad : true ≡ false = rw (u, m) at t in cc)
+    at_least false u m = u
+
+    small : is_missing v ≡ false → IsCellText text v → unsigned_abs v ≤ LIMIT
+    small m (inl e) = absurd (let bad : true ≡ false = sym (missing-is v e.1) ∙ m in cc)
+    small m (inr d) = d.2.1
+
+    here : (b : Bool) → is_missing v ≡ b → IsTrue (is_bar_cell v)
+    here true m = rw m refl
+    here false m = rw (m, small-is v (at_least (int_lt v (pos 0)) refl m) (small m h)) refl
+
+-- ---- five cells
+
+and_then_some : {A B : Type 0} (o : Option A) (f : A → Option B) (y : B) → option_and_then f o ≡ Some y → (x : A) × (o ≡ Some x) × (f x ≡ Some y)
+and_then_some None f y e = absurd (let bad : None ≡ Some y = e in cc)
+and_then_some (Some x) f y e = (x, refl, e)
+
+map_some : {A B : Type 0} (o : Option A) (f : A → B) (y : B) → option_map f o ≡ Some y → (x : A) × (o ≡ Some x) × (f x ≡ y)
+map_some None f y e = absurd (let bad : None ≡ Some y = e in cc)
+map_some (Some x) f y e = (x, refl, (let same : Some (f x) ≡ Some y = e in cc))
+
+-- the cells are those of the texts from the third on
+pub record AreCellTexts (r : Record) (cells : List ℤ) : Type 0 where
+  pub five : length cells ≡ 5
+  pub each : (k : ℕ) (v : ℤ) → slice_get cells k ≡ Some v → IsCellText (field r (k + 2)) v
+
+one_of : (text : List ℕ) (x v : ℤ) → cell_in text ≡ Some x → Some x ≡ Some v → IsCellText text v
+one_of text x v e s = IsCellText-cell_in text v (e ∙ s)
+
+five_texts : (r : Record) (a b c d f : ℤ) → cell_in (field r 2) ≡ Some a → cell_in (field r 3) ≡ Some b → cell_in (field r 4) ≡ Some c → cell_in (field r 5) ≡ Some d → cell_in (field r 6) ≡ Some f
+    → AreCellTexts r (a ∷ b ∷ c ∷ d ∷ f ∷ [])
+five_texts r a b c d f p q s t u = record { five = refl; each = each }
+  where
+    each : (k : ℕ) (v : ℤ) → slice_get (a ∷ b ∷ c ∷ d ∷ f ∷ []) k ≡ Some v → IsCellText (field r (k + 2)) v
+    each zero v e = one_of (field r 2) a v p e
+    each (suc zero) v e = one_of (field r 3) b v q e
+    each (suc (suc zero)) v e = one_of (field r 4) c v s e
+    each (suc (suc (suc zero))) v e = one_of (field r 5) d v t e
+    each (suc (suc (suc (suc zero)))) v e = one_of (field r 6) f v u e
+    each (suc (suc (suc (suc (suc k))))) v e = absurd (let bad : None ≡ Some v = e in cc)
+
+AreCellTexts-cells_in : (r : Record) (cells : List ℤ) → cells_in r ≡ Some cells → AreCellTexts r cells
+AreCellTexts-cells_in r cells e =
+    let a = and_then_some (cell_in (field r 2)) _ cells e in
+    let b = and_then_some (cell_in (field r 3)) _ cells a.2 in
+    let c = and_then_some (cell_in (field r 4)) _ cells b.2 in
+    let d = and_then_some (cell_in (field r 5)) _ cells c.2 in
+    let f = map_some (cell_in (field r 6)) (λ x. a.0 ∷ b.0 ∷ c.0 ∷ d.0 ∷ x ∷ []) cells d.2 in
+    subst (AreCellTexts r) f.2 (five_texts r a.0 b.0 c.0 d.0 f.0 a.1 b.1 c.1 d.1 f.1)
+
+cells_in-AreCellTexts : (r : Record) (cells : List ℤ) → length cells ≡ 5 → ((k : ℕ) (v : ℤ) → slice_get cells k ≡ Some v → IsCellText (field r (k + 2)) v) → cells_in r ≡ Some cells
+cells_in-AreCellTexts r (a ∷ b ∷ c ∷ d ∷ f ∷ []) n h =
+    rw (
+      cell_in-IsCellText (field r 2) a (h 0 a refl),
+      cell_in-IsCellText (field r 3) b (h 1 b refl),
+      cell_in-IsCellText (field r 4) c (h 2 c refl),
+      cell_in-IsCellText (field r 5) d (h 3 d refl),
+      cell_in-IsCellText (field r 6) f (h 4 f refl),
+    ) refl
+cells_in-AreCellTexts r [] n h = absurd (omega arith)
+cells_in-AreCellTexts r (a ∷ []) n h = absurd (omega arith)
+cells_in-AreCellTexts r (a ∷ b ∷ []) n h = absurd (omega arith)
+cells_in-AreCellTexts r (a ∷ b ∷ c ∷ []) n h = absurd (omega arith)
+cells_in-AreCellTexts r (a ∷ b ∷ c ∷ d ∷ []) n h = absurd (omega arith)
+cells_in-AreCellTexts r (a ∷ b ∷ c ∷ d ∷ e ∷ f ∷ rest) n h = absurd (omega arith)
+
+-- ---- all fields
+
+fields_said : Record → Option Fields
+fields_said r = option_and_then (λ sid. option_and_then (λ day. option_map (λ cells. record { sid = sid; day = day; cells = cells }) (cells_in r)) (date_in (field r 1))) (sid_in (field r 0))
+
+pub IsBarRecord-fields_in : (r : Record) (f : Fields) → fields_in r ≡ Some f → IsBarRecord r f
+unfolding fields_in fields_said
+IsBarRecord-fields_in r f e = here (length r == 7) refl e
+  where
+    here : (b : Bool) → (length r == 7) ≡ b → (if b then fields_said r else None) ≡ Some f → IsBarRecord r f
+    here false t e = absurd (let bad : None ≡ Some f = e in cc)
+    here true t e =
+        let s = and_then_some (sid_in (field r 0)) _ f e in
+        let d = and_then_some (date_in (field r 1)) _ f s.2 in
+        let c = map_some (cells_in r) (λ cells. record { sid = s.0; day = d.0; cells = cells }) f d.2 in
+        let n = decimal-sid_in (field r 0) s.0 s.1 in
+        let texts = AreCellTexts-cells_in r c.0 c.1 in
+        rw (← c.2) record {
+          seven = grind (arith, nat_tests);
+          small = n.0;
+          sid = n.1;
+          day = IsDate-date_in (field r 1) d.0 d.1;
+          five = texts.five;
+          cells = texts.each;
+        }
+
+pub fields_in-IsBarRecord : (r : Record) (f : Fields) → IsBarRecord r f → fields_in r ≡ Some f
+unfolding fields_in
+fields_in-IsBarRecord r f h =
+    let seven : length r ≡ 7 = h.seven in
+    let t : (length r == 7) ≡ true = grind (arith, nat_tests) in
+    rw (t, sid_in-decimal (field r 0) f.sid h.small h.sid, date_in-IsDate (field r 1) f.day h.day, cells_in-AreCellTexts r f.cells h.five h.cells) refl
+
+pub no_record : (r : Record) → fields_in r ≡ None → (f : Fields) → IsBarRecord r f → ⊥
+no_record r e f h = let found : fields_in r ≡ Some f = fields_in-IsBarRecord r f h in let bad : None ≡ Some f = sym e ∙ found in cc
+
+pub one_record : (r : Record) (x y : Fields) → IsBarRecord r x → IsBarRecord r y → x ≡ y
+one_record r x y h k = let same : Some x ≡ Some y = sym (fields_in-IsBarRecord r x h) ∙ fields_in-IsBarRecord r y k in cc
+
+-- cells that are read, and not below 0
+pub fields-cells : (r : Record) (f : Fields) → fields_in r ≡ Some f → list_any is_negative f.cells ≡ false → All (λ v. IsTrue (is_bar_cell v)) f.cells
+fields-cells r f e t k d h =
+    let it = IsBarRecord-fields_in r f e in
+    let text = it.cells k (get_or f.cells k d) (slice_get-get_or f.cells k d h) in
+    IsCellText-bar_cell (field r (k + 2)) (get_or f.cells k d) text (not_one (is_negative (get_or f.cells k d)) refl)
+  where
+    not_one : (b : Bool) → is_negative (get_or f.cells k d) ≡ b → is_negative (get_or f.cells k d) ≡ false
+    not_one true u = absurd (let bad : true ≡ false = sym (list_any_at is_negative f.cells k d h u) ∙ t in cc)
+    not_one false u = u
+
+-- ---- cells below 0
+
+pub IsNegative-test : (v : ℤ) → is_negative v ≡ true → IsNegative v
+IsNegative-test v t = here (is_missing v) refl
+  where
+    below : int_lt v (pos 0) ≡ true → v <ℤ pos 0
+    below u = grind (arith, ints)
+
+    first : (a b : Bool) → (a && b) ≡ true → a ≡ true
+    first true b e = refl
+    first false b e = absurd (let bad : false ≡ true = e in cc)
+
+    here : (b : Bool) → is_missing v ≡ b → IsNegative v
+    here true m = absurd (let bad : false ≡ true = sym (none (int_lt v (pos 0)) (is_missing v) m) ∙ t in cc)
+      where
+        none : (a b : Bool) → b ≡ true → (a && not b) ≡ false
+        none true b e = rw e refl
+        none false b e = refl
+    here false m =
+        (λ e. absurd (let bad : true ≡ false = sym (missing-is v e) ∙ m in cc), below (first (int_lt v (pos 0)) (not (is_missing v)) t))
+
+pub is_negative-test : (v : ℤ) → IsNegative v → is_negative v ≡ true
+is_negative-test v h = rw (below h.1, present (is_missing v) refl) refl
+  where
+    below : v <ℤ pos 0 → int_lt v (pos 0) ≡ true
+    below l = grind (arith, ints)
+
+    value : is_missing v ≡ true → v ≡ MISSING
+    value m = grind (arith, ints)
+
+    present : (b : Bool) → is_missing v ≡ b → is_missing v ≡ false
+    present true m = absurd (h.0 (value m))
+    present false m = m

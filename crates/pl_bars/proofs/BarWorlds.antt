@@ -1,0 +1,68 @@
+-- The cells of a table in the world that is made of it.
+use Rattle.std.proofs.Common.{◌≡◌, ℕ, suc, ◌<◌, ◌==◌, ◌&&◌, Bool, true, false, pos, List, [], ◌∷◌, length, get_or, map, All, find, option_map, unwrap_or, refl, sym, ◌∙◌, ap, arith, inl, inr}
+use Rattle.std.specs.List.{AllPairs}
+use Rattle.std.proofs.lemmas.Bool.{cases_lt}
+use Rattle.std.proofs.lemmas.Option.{slice_get-get_or}
+use Rattle.pl_spec.specs.Rounding.{MISSING}
+use Rattle.pl_spec.specs.World.{Bar, cell_in}
+use Rattle.pl_spec.specs.World as worlds
+use Rattle.pl_spec.specs.Parts.{sid_at, bar_of}
+use Rattle.pl_spec.specs.declared.AssetRow.{AssetRow}
+use Rattle.pl_spec.specs.declared.BarRow.{BarRow}
+use Rattle.pl_spec.specs.declared.Column.{Column}
+use Rattle.pl_spec.specs.declared.Column.TheVariants.{OpenPrice, High, Low, Close, Volume}
+use Rattle.pl_bars.specs.Bars.{is_at, cell_of, cell_at}
+use Rattle.pl_bars.specs.Worlds.{CellsAreRaw}
+use Rattle.pl_bars.proofs.BarSets.{same_number, number_same, number_other}
+
+blank : AssetRow
+blank = record { sid = 0; start = pos 0; end = pos 0 }
+
+sid_there : (assets : List AssetRow) (col : ℕ) → col < length assets → sid_at assets col ≡ (get_or assets col blank).sid
+sid_there assets col h = ap (λ o. unwrap_or (option_map (λ (a : AssetRow). a.sid) o) 0) (slice_get-get_or assets col blank h)
+
+-- columns have sids of their own
+one_sid : (assets : List AssetRow) → AllPairs (λ a b. a.sid < b.sid) assets → (c d : ℕ) → c < length assets → d < length assets → sid_at assets c ≡ sid_at assets d → c ≡ d
+one_sid assets up c d h l e =
+    let same : (get_or assets c blank).sid ≡ (get_or assets d blank).sid = sym (sid_there assets c h) ∙ e ∙ sid_there assets d l in
+    elim (cases_lt c d) [
+      | inl lt ↦ absurd (let below : (get_or assets c blank).sid < (get_or assets d blank).sid = up c d blank lt l in omega arith)
+      | inr ge ↦ elim (cases_lt d c) [
+        | inl lt ↦ absurd (let below : (get_or assets d blank).sid < (get_or assets c blank).sid = up d c blank lt h in omega arith)
+        | inr le ↦ omega arith
+      ]
+    ]
+
+same_col : (assets : List AssetRow) → AllPairs (λ a b. a.sid < b.sid) assets → (c d : ℕ) → c < length assets → d < length assets → (c == d) ≡ (sid_at assets c == sid_at assets d)
+same_col assets up c d h l = here (c == d) refl
+  where
+    here : (b : Bool) → (c == d) ≡ b → b ≡ (sid_at assets c == sid_at assets d)
+    here true t = sym (number_same _ _ (ap (sid_at assets) (same_number c d t)))
+    here false t = sym (number_other _ _ (λ e. absurd (let bad : true ≡ false = sym (number_same c d (one_sid assets up c d h l e)) ∙ t in cc)))
+
+same_cell : (assets : List AssetRow) (column : Column) (b : BarRow) → cell_of column b ≡ worlds.cell_of column (bar_of assets b)
+same_cell assets OpenPrice b = refl
+same_cell assets High b = refl
+same_cell assets Low b = refl
+same_cell assets Close b = refl
+same_cell assets Volume b = refl
+
+cells : (assets : List AssetRow) → AllPairs (λ a b. a.sid < b.sid) assets → (bars : List BarRow) → All (λ b. b.col < length assets) bars
+    → (col : ℕ) (column : Column) (session : ℕ) → col < length assets
+    → unwrap_or (option_map (cell_of column) (find (is_at col session) bars)) MISSING ≡ cell_in (map (bar_of assets) bars) (sid_at assets col) column session
+cells assets up [] inside col which session h = refl
+cells assets up (b ∷ bars) inside col which session h =
+    here (b.col == col && b.session == session) refl (cells assets up bars (λ k d l. inside (suc k) d (omega arith)) col which session h)
+  where
+    same_test : (b.col == col && b.session == session) ≡ (sid_at assets b.col == sid_at assets col && b.session == session)
+    same_test = ap (λ t. t && b.session == session) (same_col assets up b.col col (inside 0 b (omega arith)) h)
+
+    here : (t : Bool) → (b.col == col && b.session == session) ≡ t
+        → unwrap_or (option_map (cell_of which) (find (is_at col session) bars)) MISSING ≡ cell_in (map (bar_of assets) bars) (sid_at assets col) which session
+        → unwrap_or (option_map (cell_of which) (find (is_at col session) (b ∷ bars))) MISSING ≡ cell_in (map (bar_of assets) (b ∷ bars)) (sid_at assets col) which session
+    here true t more = rw (t, sym same_test ∙ t) (same_cell assets which b)
+    here false t more = rw (t, sym same_test ∙ t) more
+
+pub cells_raw : CellsAreRaw
+unfolding cell_at
+cells_raw days assets labels texts bars adjustments up inside col column session h = cells assets up bars inside col column session h

@@ -1,0 +1,214 @@
+-- Bars that are read: what each test tells, and what is kept of all rows.
+use Rattle.std.proofs.Common.{◌≡◌, ℕ, zero, suc, ◌^◌, ◌==◌, ◌<◌, ◌≤◌, ◌||◌, nat_le, IsTrue, Bool, true, false, List, [], ◌∷◌, ◌++◌, length, get_or, length-append, All, Option, Some, None, Result, Ok, Err, refl, subst, ◌∙◌, ℤ, pos, position, arith}
+use Rattle.std.specs.List.{list_any, AllPairs}
+use Rattle.std.specs.Ordering.{int_eq}
+use Rattle.std.specs.Option.{ok_or}
+use Rattle.std.specs.Bool.{if◌then◌else◌}
+use Rattle.std.proofs.lemmas.Bool.Decides.{nat_tests}
+use Rattle.std.proofs.lemmas.List.Quantifiers.{position-Some}
+use Rattle.std.proofs.lemmas.List.Elements.{All-append}
+use Rattle.std.proofs.lemmas.List.Sorted.{All-permutation}
+use Rattle.pl_spec.specs.Reading.{Record, Fault, ◌>>=◌}
+use Rattle.pl_spec.specs.Sorted.{sorted_by, HasOwnKeys}
+use Rattle.pl_spec.specs.declared.AssetRow.{AssetRow}
+use Rattle.pl_spec.specs.declared.BarRow.{BarRow}
+use Rattle.pl_spec.proofs.Readings.{guard_on, guard_err, some_on, none_err, guard_ok, some_ok, rows-keep, under_ok}
+use Rattle.pl_spec.proofs.Sorts.{OwnKeys-none, OwnKeys-more, sorted-rises, sorted-permutes, length-sorted_by}
+use Rattle.pl_assets.specs.Assets.{sid_of}
+use Rattle.pl_bars.specs.declared.fields.Fields.{Fields}
+use Rattle.pl_bars.specs.Bars.{Rule, header, fields_in, is_negative, is_at, says_bar, key_of, rows_in, bars_of, is_before, is_bar_cell, AreBars, AreInside}
+use Rattle.pl_bars.specs.Bars as rules
+use Rattle.pl_bars.proofs.BarSets.{same_place}
+use Rattle.pl_bars.proofs.BarFields.{fields-cells}
+
+few : (n : ℕ) → n < 4000000 → nat_le 4000000 n ≡ false
+few n h = grind (arith, nat_tests)
+
+-- ---- the exits of a judgement
+
+abbrev SessionIs : List ℤ → Fields → Option ℕ → Type 0
+SessionIs days f o = position (λ d. int_eq d f.day) days ≡ o
+
+abbrev ColIs : List AssetRow → Fields → Option ℕ → Type 0
+ColIs assets f o = position (λ a. sid_of a == f.sid) assets ≡ o
+
+pub no_session : (days : List ℤ) (assets : List AssetRow) (before : List BarRow) (r : Record) (f : Fields) → length before < 4000000 → fields_in r ≡ Some f
+    → SessionIs days f None → says_bar days assets before r ≡ Err rules.NotSession
+unfolding says_bar
+no_session days assets before r f n e p = guard_on _ _ _ (few (length before) n) ∙ some_on _ _ _ f e ∙ none_err _ _ _ p
+
+pub no_asset : (days : List ℤ) (assets : List AssetRow) (before : List BarRow) (r : Record) (f : Fields) (session : ℕ) → length before < 4000000 → fields_in r ≡ Some f
+    → SessionIs days f (Some session) → ColIs assets f None → says_bar days assets before r ≡ Err rules.UnknownSid
+unfolding says_bar
+no_asset days assets before r f session n e p q = guard_on _ _ _ (few (length before) n) ∙ some_on _ _ _ f e ∙ some_on _ _ _ session p ∙ none_err _ _ _ q
+
+pub negative : (days : List ℤ) (assets : List AssetRow) (before : List BarRow) (r : Record) (f : Fields) (session col : ℕ) → length before < 4000000 → fields_in r ≡ Some f
+    → SessionIs days f (Some session) → ColIs assets f (Some col) → list_any is_negative f.cells ≡ true → says_bar days assets before r ≡ Err rules.Negative
+unfolding says_bar
+negative days assets before r f session col n e p q t =
+    guard_on _ _ _ (few (length before) n) ∙ some_on _ _ _ f e ∙ some_on _ _ _ session p ∙ some_on _ _ _ col q ∙ guard_err _ _ _ t
+
+pub duplicate : (days : List ℤ) (assets : List AssetRow) (before : List BarRow) (r : Record) (f : Fields) (session col : ℕ) → length before < 4000000 → fields_in r ≡ Some f
+    → SessionIs days f (Some session) → ColIs assets f (Some col) → list_any is_negative f.cells ≡ false → list_any (is_at col session) before ≡ true
+    → says_bar days assets before r ≡ Err rules.Duplicate
+unfolding says_bar
+duplicate days assets before r f session col n e p q t u =
+    guard_on _ _ _ (few (length before) n) ∙ some_on _ _ _ f e ∙ some_on _ _ _ session p ∙ some_on _ _ _ col q ∙ guard_on _ _ _ t ∙ guard_err _ _ _ u
+
+pub bar : (days : List ℤ) (assets : List AssetRow) (before : List BarRow) (r : Record) (f : Fields) (session col : ℕ) → length before < 4000000 → fields_in r ≡ Some f
+    → SessionIs days f (Some session) → ColIs assets f (Some col) → list_any is_negative f.cells ≡ false → list_any (is_at col session) before ≡ false
+    → says_bar days assets before r ≡ Ok (record { col = col; session = session; cells = f.cells })
+unfolding says_bar
+bar days assets before r f session col n e p q t u =
+    guard_on _ _ _ (few (length before) n) ∙ some_on _ _ _ f e ∙ some_on _ _ _ session p ∙ some_on _ _ _ col q ∙ guard_on _ _ _ t ∙ guard_on _ _ _ u
+
+-- ---- what the tests were where a record says its bar
+
+pub record Says (days : List ℤ) (assets : List AssetRow) (before : List BarRow) (r : Record) (b : BarRow) : Type 0 where
+  pub few : nat_le 4000000 (length before) ≡ false
+  pub fields : Fields
+  pub written : fields_in r ≡ Some fields
+  pub session : position (λ d. int_eq d fields.day) days ≡ Some b.session
+  pub col : position (λ a. sid_of a == fields.sid) assets ≡ Some b.col
+  pub cells : b.cells ≡ fields.cells
+  pub not_negative : list_any is_negative b.cells ≡ false
+  pub own_place : list_any (is_at b.col b.session) before ≡ false
+
+abbrev pub after_col : List BarRow → Fields → ℕ → ℕ → Result BarRow Rule
+after_col before f session col =
+    if list_any is_negative f.cells then Err rules.Negative
+    else if list_any (is_at col session) before then Err rules.Duplicate
+    else Ok (record { col = col; session = session; cells = f.cells })
+
+abbrev pub after_session : List AssetRow → List BarRow → Fields → ℕ → Result BarRow Rule
+after_session assets before f session = ok_or (position (λ a. sid_of a == f.sid) assets) rules.UnknownSid >>= λ col. after_col before f session col
+
+abbrev pub after_fields : List ℤ → List AssetRow → List BarRow → Fields → Result BarRow Rule
+after_fields days assets before f = ok_or (position (λ d. int_eq d f.day) days) rules.NotSession >>= λ session. after_session assets before f session
+
+pub says_bar-ok : (days : List ℤ) (assets : List AssetRow) (before : List BarRow) (r : Record) (b : BarRow) → says_bar days assets before r ≡ Ok b → Says days assets before r b
+unfolding says_bar
+says_bar-ok days assets before r b e =
+    let f = guard_ok (nat_le 4000000 (length before)) rules.TooMany (ok_or (fields_in r) rules.BadField >>= λ f. after_fields days assets before f) b e in
+    let g = some_ok (fields_in r) rules.BadField (λ f. after_fields days assets before f) b f.1 in
+    let h = some_ok (position (λ d. int_eq d g.0.day) days) rules.NotSession (λ session. after_session assets before g.0 session) b g.2 in
+    let i = some_ok (position (λ a. sid_of a == g.0.sid) assets) rules.UnknownSid (λ col. after_col before g.0 h.0 col) b h.2 in
+    let j = guard_ok (list_any is_negative g.0.cells) rules.Negative (if list_any (is_at i.0 h.0) before then Err rules.Duplicate else Ok (record { col = i.0; session = h.0; cells = g.0.cells })) b i.2 in
+    let k = guard_ok (list_any (is_at i.0 h.0) before) rules.Duplicate (Ok (record { col = i.0; session = h.0; cells = g.0.cells })) b j.1 in
+    told g.0 h.0 i.0 f.0 g.1 h.1 i.1 j.0 k.0 k.1
+  where
+    told : (f : Fields) (session col : ℕ) → nat_le 4000000 (length before) ≡ false → fields_in r ≡ Some f
+        → position (λ d. int_eq d f.day) days ≡ Some session → position (λ a. sid_of a == f.sid) assets ≡ Some col
+        → list_any is_negative f.cells ≡ false → list_any (is_at col session) before ≡ false
+        → (let x : Result BarRow Rule = Ok (record { col = col; session = session; cells = f.cells }) in x) ≡ Ok b → Says days assets before r b
+    told f session col few w s c n o e =
+        let row : BarRow = record { col = col; session = session; cells = f.cells } in
+        let same : row ≡ b = cc in
+        subst (Says days assets before r) same record { few = few; fields = f; written = w; session = s; col = c; cells = refl; not_negative = n; own_place = o }
+
+-- ---- what is kept of all rows
+
+or_none : (a b : Bool) → (a || b) ≡ false → (a ≡ false) × (b ≡ false)
+or_none true b e = absurd (let bad : true ≡ false = e in cc)
+or_none false b e = (refl, e)
+
+other_keys : (xs : List BarRow) (y : BarRow) → All (λ x. x.session < 2 ^ 32) xs → y.session < 2 ^ 32 → list_any (is_at y.col y.session) xs ≡ false → list_any (λ x. key_of x == key_of y) xs ≡ false
+other_keys [] y s h e = refl
+other_keys (x ∷ xs) y s h e =
+    let p = or_none (is_at y.col y.session x) (list_any (is_at y.col y.session) xs) e in
+    let first : (key_of x == key_of y) ≡ false = same_place (2 ^ 32) x.col x.session y.col y.session (s 0 x (omega arith)) h ∙ p.0 in
+    rw first (other_keys xs y (λ k d l. s (suc k) d (omega arith)) h p.1)
+
+pub record AreKept (rows : List BarRow) : Type 0 where
+  pub own : HasOwnKeys key_of rows
+  pub small : All (λ b. b.session < 2 ^ 32) rows
+  pub few : length rows ≤ 4_000_000
+  pub cells : All (λ b. All (λ v. IsTrue (is_bar_cell v)) b.cells) rows
+
+one_row : (P : BarRow → Type 0) (b : BarRow) → P b → All P (b ∷ [])
+one_row P b p zero d h = p
+one_row P b p (suc k) d h = absurd (omega arith)
+
+kept-more : (days : List ℤ) (assets : List AssetRow) → length days ≤ 16000 → (before : List BarRow) (r : Record) (b : BarRow) → AreKept before → says_bar days assets before r ≡ Ok b → AreKept (before ++ b ∷ [])
+kept-more days assets n before r b h s =
+    let ok = says_bar-ok days assets before r b s in
+    let at = position-Some (λ d. int_eq d ok.fields.day) days b.session (pos 0) ok.session in
+    let small : b.session < 2 ^ 32 = omega (arith, at.0) in
+    let room : length before < 4000000 = (let t = ok.few in grind (arith, nat_tests)) in
+    record {
+      own = OwnKeys-more key_of before b h.own (other_keys before b h.small small ok.own_place);
+      small = All-append (λ (x : BarRow). x.session < 2 ^ 32) before (b ∷ []) h.small (one_row (λ x. x.session < 2 ^ 32) b small);
+      few = omega (arith, length-append before (b ∷ []));
+      cells = All-append (λ (x : BarRow). All (λ v. IsTrue (is_bar_cell v)) x.cells) before (b ∷ []) h.cells
+          (one_row (λ x. All (λ v. IsTrue (is_bar_cell v)) x.cells) b (rw ok.cells (fields-cells r ok.fields ok.written (rw ok.cells at ok.not_negative))));
+    }
+
+kept-none : AreKept []
+kept-none = record { own = OwnKeys-none key_of; small = λ k d h. absurd (omega arith); few = omega arith; cells = λ k d h. absurd (omega arith) }
+
+pub AreKept-read : (days : List ℤ) (assets : List AssetRow) (records : List Record) (rows : List BarRow) → length days ≤ 16000 → rows_in days assets records ≡ Ok rows → AreKept rows
+unfolding rows_in
+AreKept-read days assets records rows n e =
+    rows-keep AreKept 2 (says_bar days assets) (kept-more days assets n) _ [] rows kept-none (under_ok header rules.BadHeader (says_bar days assets) records rows e).1
+
+-- ---- by column and session
+
+pub before_by_key : (a b : BarRow) → a.session < 2 ^ 32 → b.session < 2 ^ 32 → key_of a < key_of b → IsTrue (is_before b.col b.session a)
+before_by_key a b h l lt = grind (arith, nat_tests)
+
+pub key_by_before : (a b : BarRow) → a.session < 2 ^ 32 → b.session < 2 ^ 32 → IsTrue (is_before b.col b.session a) → key_of a < key_of b
+key_by_before a b h l t = grind (arith, nat_tests)
+
+pub sorted_from : (days : List ℤ) (assets : List AssetRow) (records : List Record) (bars : List BarRow) → bars_of days assets records ≡ Ok bars
+    → (rows : List BarRow) × (rows_in days assets records ≡ Ok rows) × (sorted_by key_of rows ≡ bars)
+unfolding bars_of
+sorted_from days assets records bars e = here (rows_in days assets records) refl e
+  where
+    here : (x : Result (List BarRow) (Fault Rule)) → rows_in days assets records ≡ x → (x >>= λ rs. Ok (sorted_by key_of rs)) ≡ Ok bars
+        → (rows : List BarRow) × (rows_in days assets records ≡ Ok rows) × (sorted_by key_of rows ≡ bars)
+    here (Ok rs) was e = (rs, was, (let same : Ok (sorted_by key_of rs) ≡ Ok bars = e in cc))
+    here (Err f) was e = absurd (let bad : Err f ≡ Ok bars = e in cc)
+
+pub ascend-from_keys : (rows : List BarRow) → All (λ b. b.session < 2 ^ 32) rows → AllPairs (λ a b. key_of a < key_of b) rows → AllPairs (λ a b. IsTrue (is_before b.col b.session a)) rows
+ascend-from_keys rows small up i j d h l = before_by_key (get_or rows i d) (get_or rows j d) (small i d (omega arith)) (small j d l) (up i j d h l)
+
+pub keys-from_ascend : (rows : List BarRow) → All (λ b. b.session < 2 ^ 32) rows → AllPairs (λ a b. IsTrue (is_before b.col b.session a)) rows → AllPairs (λ a b. key_of a < key_of b) rows
+keys-from_ascend rows small up i j d h l = key_by_before (get_or rows i d) (get_or rows j d) (small i d (omega arith)) (small j d l) (up i j d h l)
+
+pub AreBars-read : (days : List ℤ) (assets : List AssetRow) (records : List Record) (bars : List BarRow) → length days ≤ 16000 → bars_of days assets records ≡ Ok bars → AreBars bars
+AreBars-read days assets records bars n e =
+    let it = sorted_from days assets records bars e in
+    let kept = AreKept-read days assets records it.0 n it.1 in
+    let moved = sorted-permutes key_of it.0 in
+    rw (← it.2) record {
+      ascend = ascend-from_keys (sorted_by key_of it.0) (All-permutation (λ (b : BarRow). b.session < 2 ^ 32) it.0 (sorted_by key_of it.0) moved kept.small) (sorted-rises key_of it.0 kept.own);
+      few = omega (arith, length-sorted_by key_of it.0, kept.few);
+      cells = All-permutation (λ (b : BarRow). All (λ v. IsTrue (is_bar_cell v)) b.cells) it.0 (sorted_by key_of it.0) moved kept.cells;
+    }
+
+-- ---- bars of assets on sessions
+
+inside-more : (days : List ℤ) (assets : List AssetRow) (before : List BarRow) (r : Record) (b : BarRow) → AreInside days assets before → says_bar days assets before r ≡ Ok b → AreInside days assets (before ++ b ∷ [])
+inside-more days assets before r b h s =
+    let ok = says_bar-ok days assets before r b s in
+    let session = position-Some (λ d. int_eq d ok.fields.day) days b.session (pos 0) ok.session in
+    let col = position-Some (λ a. sid_of a == ok.fields.sid) assets b.col (record { sid = 0; start = pos 0; end = pos 0 }) ok.col in
+    record {
+      cols = All-append (λ (x : BarRow). x.col < length assets) before (b ∷ []) h.cols (one_row (λ x. x.col < length assets) b col.0);
+      sessions = All-append (λ (x : BarRow). x.session < length days) before (b ∷ []) h.sessions (one_row (λ x. x.session < length days) b session.0);
+    }
+
+inside-none : (days : List ℤ) (assets : List AssetRow) → AreInside days assets []
+inside-none days assets = record { cols = λ k d h. absurd (omega arith); sessions = λ k d h. absurd (omega arith) }
+
+pub AreInside-read : (days : List ℤ) (assets : List AssetRow) (records : List Record) (bars : List BarRow) → bars_of days assets records ≡ Ok bars → AreInside days assets bars
+unfolding rows_in
+AreInside-read days assets records bars e =
+    let it = sorted_from days assets records bars e in
+    let kept = rows-keep (AreInside days assets) 2 (says_bar days assets) (inside-more days assets) _ [] it.0 (inside-none days assets)
+    (under_ok header rules.BadHeader (says_bar days assets) records it.0 it.1).1 in
+    let moved = sorted-permutes key_of it.0 in
+    rw (← it.2) record {
+      cols = All-permutation (λ (b : BarRow). b.col < length assets) it.0 (sorted_by key_of it.0) moved kept.cols;
+      sessions = All-permutation (λ (b : BarRow). b.session < length days) it.0 (sorted_by key_of it.0) moved kept.sessions;
+    }

@@ -1,0 +1,109 @@
+-- The bars of the records of a bars file, the first rule that a record breaks, and the cells of bars.
+use Rattle.std.specs.Prelude.{ℕ, ◌+◌, ◌*◌, ◌^◌, ◌==◌, ◌<◌, ◌≤◌, ◌&&◌, ◌||◌, not, nat_le, nat_lt, IsTrue, Bool, if◌then◌else◌, ℤ, pos, codes, List, [], ◌∷◌, length, All, AllPairs, Option, Some, None, option_map, option_and_then, unwrap_or, Result, Ok, Err, find, position, slice_index_or}
+use Rattle.std.specs.List.{list_any}
+use Rattle.std.specs.Result.{result_ok}
+use Rattle.std.specs.Int.RustNames.{int_lt, int_le, unsigned_abs}
+use Rattle.std.specs.Ordering.{int_eq}
+use Rattle.std.specs.Option.{ok_or}
+use Rattle.pl_spec.specs.Reading.{Record, Fault, field, ◌>>=◌, rows_under}
+use Rattle.pl_spec.specs.Rounding.{MISSING, LIMIT, is_missing}
+use Rattle.pl_spec.specs.Sorted.{sorted_by}
+use Rattle.pl_spec.specs.Dates.{date_in}
+use Rattle.pl_spec.specs.Decimals.{sid_in}
+use Rattle.pl_spec.specs.declared.AssetRow.{AssetRow}
+use Rattle.pl_spec.specs.declared.BarRow.{BarRow}
+use Rattle.pl_spec.specs.declared.Column.{Column}
+use Rattle.pl_spec.specs.declared.Column.TheVariants.{OpenPrice, High, Low, Close, Volume}
+use Rattle.pl_fixed.specs.Reading.{read}
+use Rattle.pl_assets.specs.Assets.{sid_of}
+use Rattle.pl_bars.specs.declared.fields.Fields.{Fields}
+
+-- in the order in which they are tested
+pub data Rule : Type 0 where
+  BadHeader TooMany BadField NotSession UnknownSid Negative Duplicate : Rule
+
+abbrev pub header : Record
+header = codes "sid" ∷ codes "session" ∷ codes "open" ∷ codes "high" ∷ codes "low" ∷ codes "close" ∷ codes "volume" ∷ []
+
+-- the cell of a field: missing where it is empty
+unfoldable pub cell_in : List ℕ → Option ℤ
+cell_in text = if length text == 0 then Some MISSING else result_ok (read text)
+
+abbrev pub cells_in : Record → Option (List ℤ)
+cells_in r =
+    option_and_then (λ a. option_and_then (λ b. option_and_then (λ c. option_and_then (λ d. option_map (λ e. a ∷ b ∷ c ∷ d ∷ e ∷ [])
+    (cell_in (field r 6))) (cell_in (field r 5))) (cell_in (field r 4))) (cell_in (field r 3))) (cell_in (field r 2))
+
+-- the sid, the day and the cells of a record of seven fields
+unfoldable pub fields_in : Record → Option Fields
+fields_in r =
+    if length r == 7 then
+    option_and_then (λ sid. option_and_then (λ day. option_map (λ cells. record { sid = sid; day = day; cells = cells })
+    (cells_in r)) (date_in (field r 1))) (sid_in (field r 0))
+    else None
+
+abbrev pub is_negative : ℤ → Bool
+is_negative v = int_lt v (pos 0) && not (is_missing v)
+
+-- the bar of the column on the session
+abbrev pub is_at : ℕ → ℕ → BarRow → Bool
+is_at col session b = b.col == col && b.session == session
+
+-- the bar of a record behind the bars before it, or the first rule that it breaks
+unfoldable pub says_bar : List ℤ → List AssetRow → List BarRow → Record → Result BarRow Rule
+says_bar days assets before r =
+    if nat_le 4000000 (length before) then Err TooMany
+    else ok_or (fields_in r) BadField >>= λ f.
+    ok_or (position (λ d. int_eq d f.day) days) NotSession >>= λ session.
+    ok_or (position (λ a. sid_of a == f.sid) assets) UnknownSid >>= λ col.
+    if list_any is_negative f.cells then Err Negative
+    else if list_any (is_at col session) before then Err Duplicate
+    else Ok (record { col = col; session = session; cells = f.cells })
+
+-- a number that rises by column, and then by session
+abbrev pub key_of : BarRow → ℕ
+key_of b = b.col * 2 ^ 32 + b.session
+
+-- the bars of a file in its order, or its first fault
+unfoldable pub rows_in : List ℤ → List AssetRow → List Record → Result (List BarRow) (Fault Rule)
+rows_in days assets records = rows_under header BadHeader (says_bar days assets) records
+
+-- the same by column and session
+unfoldable pub bars_of : List ℤ → List AssetRow → List Record → Result (List BarRow) (Fault Rule)
+bars_of days assets records = rows_in days assets records >>= λ rows. Ok (sorted_by key_of rows)
+
+-- ---- bars as they are kept
+
+-- the bar stands before the column and session: in an earlier column, or in this one on an earlier session
+abbrev pub is_before : ℕ → ℕ → BarRow → Bool
+is_before col session b = nat_lt b.col col || (b.col == col && nat_lt b.session session)
+
+-- missing, or a cell of at least 0
+abbrev pub is_bar_cell : ℤ → Bool
+is_bar_cell v = is_missing v || (int_le (pos 0) v && nat_le (unsigned_abs v) LIMIT)
+
+pub record AreBars (rows : List BarRow) : Type 0 where
+  pub ascend : AllPairs (λ a b. IsTrue (is_before b.col b.session a)) rows
+  pub few : length rows ≤ 4_000_000
+  pub cells : All (λ b. All (λ v. IsTrue (is_bar_cell v)) b.cells) rows
+
+-- bars of these assets on these sessions
+pub record AreInside (days : List ℤ) (assets : List AssetRow) (rows : List BarRow) : Type 0 where
+  pub cols : All (λ b. b.col < length assets) rows
+  pub sessions : All (λ b. b.session < length days) rows
+
+-- ---- their cells
+
+abbrev pub place : Column → ℕ
+place OpenPrice = 0
+place High = 1
+place Low = 2
+place Close = 3
+place Volume = 4
+
+abbrev pub cell_of : Column → BarRow → ℤ
+cell_of column b = slice_index_or b.cells (place column) (pos 0)
+
+-- the cell of the bar of the column on the session, missing where there is none
+unfoldable pub cell_at : List BarRow → ℕ → Column → ℕ → ℤ
+cell_at rows col column session = unwrap_or (option_map (cell_of column) (find (is_at col session) rows)) MISSING

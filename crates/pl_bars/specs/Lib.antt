@@ -1,0 +1,6 @@
+pub mod Bars
+pub mod BarPoint
+pub mod BarSet
+pub mod Rules
+pub mod Faults
+pub mod Worlds

@@ -1,0 +1,106 @@
+//! The daily bars: five cells for an asset on a session. A bar is known by the column of its asset,
+//! a place among the assets, and by its session, a place among the sessions.
+#![tactic(auto)]
+
+ghost use Rattle.std.specs.Prelude.{◌≡◌, ℕ, ◌+◌, ◌*◌, ◌^◌, ◌<◌, ◌≤◌, length, pos, slice_index, slice_index_or, IfOk};
+ghost use Rattle.pl_spec.specs.Reading.{Answers};
+ghost use Rattle.pl_spec.specs.Rounding.{IsCell};
+ghost use Rattle.pl_records.specs.Records.{csv_records};
+ghost use Rattle.pl_bars.specs.Bars.{AreBars, AreInside, bars_of, cell_at};
+ghost use Rattle.pl_bars.specs.Faults.{fault_of};
+
+mod bar_set;
+mod error;
+mod fields;
+mod filling;
+pub mod laws;
+mod reading;
+mod search;
+#[cfg(test)]
+mod tests;
+
+pub use error::BarsError;
+use pl_assets::Assets;
+use pl_calendar::Sessions;
+pub use pl_spec::BarRow;
+use pl_spec::Column;
+use std::alloc::Global;
+use std::marker::Model;
+
+/// The bars, at most 4,000,000 of them, by ascending column and then session. Their cells are
+/// missing or at least 0.
+#[derive(Debug, Drop)]
+pub struct Bars {
+    rows: Vec<BarRow>,
+}
+
+impl Model for Bars {
+    ghost use Rattle.std.specs.Prelude.{List};
+    ghost use Rattle.pl_spec.specs.declared.BarRow.{BarRow};
+    ghost use Rattle.pl_bars.specs.Bars.{AreBars};
+
+    ghost Value = { List BarRow };
+
+    ghost view = { λ b. b.rows.items };
+
+    ghost invariant = { λ b. AreBars b.rows.items };
+}
+
+impl Bars {
+    /// The bars of a file: the header `sid,session,open,high,low,close,volume`, and in each further
+    /// record a sid, the date of a session and five decimals or empty fields, in any order. An
+    /// empty field is missing.
+    pub fn read(
+        alloc: Global,
+        bytes: &[u8],
+        sessions: &Sessions,
+        assets: &Assets,
+    ) -> Result<Bars, BarsError>
+        // The bars of the records, or the fault of the first faulty one. Only want of memory may
+        // come beside.
+        ensures exact { Answers (λ b. b) fault_of result
+            (bars_of sessions.now assets.now (csv_records bytes.now)) }
+        ensures bars { IfOk result AreBars }
+        ensures inside { IfOk result (AreInside sessions.now assets.now) }
+    {
+        let rows = reading::read_bars(alloc, bytes, sessions, assets)?;
+        Ok(Bars { rows })
+    }
+
+    /// The bars of these rows.
+    pub fn from_rows(rows: Vec<BarRow>) -> Bars
+        requires { AreBars rows.items }
+        ensures { result ≡ rows.items }
+    {
+        Bars { rows }
+    }
+
+    /// The cell of the bar of a column on a session, in millionths; `MISSING` where there is no
+    /// bar.
+    pub fn get(&self, col: usize, session: usize, column: Column) -> i64
+        ensures value { result ≡ cell_at self.now col column session }
+        ensures cell { IsCell result }
+    {
+        search::cell_at(&self.rows, col, session, column)
+    }
+
+    /// Writes the cells of some columns on `rows` sessions from the first one on, asset by asset.
+    pub fn fill_column(
+        &self,
+        column: Column,
+        first: usize,
+        rows: usize,
+        cols: &[u32],
+        into: &mut [i64],
+    )
+        requires size { length into.old ≡ rows * length cols.now }
+        requires range { first + rows ≤ 2 ^ 32 }
+        ensures values { (i k : ℕ) → i < length cols.now → k < rows
+            → slice_index_or into.new (i * rows + k) (pos 0)
+            ≡ cell_at self.now (slice_index cols.now i) column (first + k) }
+        ensures cells { (i k : ℕ) → i < length cols.now → k < rows
+            → IsCell (slice_index_or into.new (i * rows + k) (pos 0)) }
+    {
+        filling::fill_assets(&self.rows, column, first, rows, cols, into)
+    }
+}

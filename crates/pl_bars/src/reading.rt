@@ -1,0 +1,147 @@
+ghost use Rattle.std.specs.Prelude.{◌≡◌, ◌+◌, ◌*◌, ◌^◌, ◌<◌, ◌≤◌, [], ◌∷◌, ◌++◌, ◌==◌, length, min, count_by, vec_capacity, OnOk, IfOk};
+ghost use Rattle.pl_spec.specs.Reading.{Answers, at_line, rows_of};
+ghost use Rattle.pl_spec.specs.Sorted.{HasOwnKeys, sorted_by};
+ghost use Rattle.pl_records.specs.Records.{csv_records};
+ghost use Rattle.pl_bars.specs.Bars.{bars_of, key_of, rows_in, says_bar};
+ghost use Rattle.pl_bars.specs.BarSet.{AreBarsIn};
+ghost use Rattle.pl_bars.specs.Faults.{fault_of};
+
+use crate::bar_set::BarSet;
+use crate::error::BarsError;
+use crate::fields::{fields_of, has_negative};
+use pl_assets::Assets;
+use pl_calendar::Sessions;
+use pl_records::Records;
+use pl_spec::BarRow;
+use std::alloc::{AllocError, Global};
+
+const MOST_BARS: usize = 4_000_000;
+
+// The bars of a file by column and session.
+#[tactic(auto, unfolding(crate::specs::Bars::bars_of))]
+pub(crate) fn read_bars(
+    alloc: Global,
+    bytes: &[u8],
+    sessions: &Sessions,
+    assets: &Assets,
+) -> Result<Vec<BarRow>, BarsError>
+    ensures exact { Answers (λ v. v.items) fault_of result
+        (bars_of sessions.now assets.now (csv_records bytes.now)) }
+    ensures few { length sessions.now ≤ 16_000 }
+{
+    let _count = sessions.len();
+    let mut rows = read_rows(alloc, bytes, sessions, assets)?;
+    sort_by_place(&mut rows);
+    Ok(rows)
+}
+
+fn sort_by_place(rows: &mut [BarRow])
+    requires { HasOwnKeys key_of rows.old }
+    ensures { rows.new ≡ sorted_by key_of rows.old }
+{
+    rows.sort_unstable_by_key(|row| key(row));
+}
+
+fn key(row: &BarRow) -> u64
+    ensures { result ≡ key_of row.now }
+{
+    ((row.col as u64) << 32) + row.session as u64
+}
+
+// The bars in the order of the file.
+#[tactic(auto, unfolding(crate::specs::Bars::rows_in))]
+fn read_rows(
+    alloc: Global,
+    bytes: &[u8],
+    sessions: &Sessions,
+    assets: &Assets,
+) -> Result<Vec<BarRow>, BarsError>
+    ensures { Answers (λ v. v.items) fault_of result
+        (rows_in sessions.now assets.now (csv_records bytes.now)) }
+{
+    let mut records = Records::new(alloc, bytes);
+    if !records.read_header(&[
+        b"sid", b"session", b"open", b"high", b"low", b"close", b"volume",
+    ])? {
+        return Err(BarsError::BadHeader);
+    }
+    let rows = room_for(alloc, bytes)?;
+    rows_behind(alloc, rows, &mut records, sessions, assets)
+}
+
+// No bars, with room for one on each line of the file.
+fn room_for(alloc: Global, bytes: &[u8]) -> Result<Vec<BarRow>, AllocError>
+    ensures none { IfOk result (λ v. v.items ≡ []) }
+    ensures room { IfOk result (λ v.
+        vec_capacity v ≡ min (count_by (λ byte. byte == 10) bytes.now) 4_000_000) }
+{
+    let lines = bytes.iter().filter(|byte| **byte == b'\n').count();
+    Vec::with_capacity(alloc, lines.min(MOST_BARS))
+}
+
+// The bars of the records behind the header.
+fn rows_behind(
+    alloc: Global,
+    mut rows: Vec<BarRow>,
+    records: &mut Records,
+    sessions: &Sessions,
+    assets: &Assets,
+) -> Result<Vec<BarRow>, BarsError>
+    requires { rows.items ≡ [] }
+    ensures { Answers (λ v. v.items) fault_of result
+        (rows_of 2 (says_bar sessions.now assets.now) records.old.left) }
+{
+    let mut seen = BarSet::new(alloc, assets.len(), sessions.len())?;
+    'rows: while records.next()? {
+        let bar = next_bar(&rows, &mut seen, records, sessions, assets)?;
+        rows.push(bar)?;
+    }
+    Ok(rows)
+}
+
+// The bar of the record that was read last, behind the bars before it, which are those of the set.
+#[tactic(auto, unfolding(crate::specs::Bars::says_bar))]
+fn next_bar(
+    before: &[BarRow],
+    seen: &mut BarSet,
+    row: &Records,
+    sessions: &Sessions,
+    assets: &Assets,
+) -> Result<BarRow, BarsError>
+    requires few { length before.now ≤ 4_000_000 }
+    requires cols { seen.old.cols ≡ length assets.now }
+    requires sessions { seen.old.sessions ≡ length sessions.now }
+    requires seen { AreBarsIn seen.old before.now }
+    ensures room { OnOk result (length before.now < 4_000_000) }
+    ensures cols { seen.new.cols ≡ length assets.now }
+    ensures sessions { seen.new.sessions ≡ length sessions.now }
+    ensures seen { IfOk result (λ b. AreBarsIn seen.new (before.now ++ b ∷ [])) }
+    ensures exact { Answers (λ b. b) fault_of result
+        (at_line (2 + length before.now) (says_bar sessions.now assets.now before.now row.now.fields)) }
+{
+    let line = before.len() as u32 + 2;
+    if before.len() >= MOST_BARS {
+        return Err(BarsError::TooMany { line });
+    }
+    let Some(fields) = fields_of(row) else {
+        return Err(BarsError::BadField { line });
+    };
+    let Some(session) = sessions.index_of(fields.day) else {
+        return Err(BarsError::NotSession { line });
+    };
+    let Some(col) = assets.col_of(fields.sid) else {
+        return Err(BarsError::UnknownSid { line });
+    };
+    if has_negative(&fields.cells) {
+        return Err(BarsError::Negative { line });
+    }
+    if seen.contains(col, session) {
+        return Err(BarsError::Duplicate { line });
+    }
+    seen.insert(col, session);
+    Ok(BarRow {
+        col: col as u32,
+        session: session as u32,
+        cells: fields.cells,
+    })
+}

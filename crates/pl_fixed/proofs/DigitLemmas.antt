@@ -1,0 +1,134 @@
+-- Digits, and the numbers that they write.
+use Rattle.std.proofs.Common.{◌≡◌, ℕ, zero, suc, ◌+◌, ◌-◌, ◌*◌, ◌/◌, ◌%◌, ◌^◌, ◌<◌, ◌≤◌, Bool, true, false, cond, nat_lt, min, List, [], ◌∷◌, ◌++◌, length, length-append, refl, ◌∙◌, arith}
+use Rattle.std.proofs.Math.Nat.{one-le-pow, pow-le-pow_right, pow-suc}
+use Rattle.std.specs.List.{list_all}
+use Rattle.std.specs.Char.{is_ascii_digit, digit_value}
+use Rattle.std.specs.Str.Parse.{AllDigits, digits_value, digits_value_after}
+use Rattle.std.proofs.lemmas.Nat.{div-add-mod', mod_below, div_below}
+use Rattle.std.proofs.lemmas.Bool.{and_parts}
+use Rattle.std.proofs.lemmas.Bool.Decides.{nat_tests}
+use Rattle.std.proofs.lemmas.Int.Digits.{digits_value_push, digits_push}
+use Rattle.std.proofs.lemmas.List.Sums.{take_while-cons}
+use Rattle.std.proofs.lemmas.Str.Parse.{digit_from_value}
+use Rattle.pl_spec.specs.Dates.{digits}
+use Rattle.pl_fixed.specs.Reading.{is_numeral, front_digits}
+
+-- ---- bytes that are digits
+
+digit_from_test : (c : ℕ) → is_ascii_digit c ≡ true → digit_value c < 10
+digit_from_test c h = grind (arith, nat_tests)
+
+test_from_digit : (c : ℕ) → digit_value c < 10 → is_ascii_digit c ≡ true
+test_from_digit c h = let p = digit_from_value c h in grind (arith, nat_tests)
+
+pub AllDigits-from_test : (ds : List ℕ) → list_all is_ascii_digit ds ≡ true → AllDigits 10 ds
+AllDigits-from_test [] h = tt
+AllDigits-from_test (c ∷ cs) h =
+    let p = and_parts (is_ascii_digit c) _ h in
+    (digit_from_test c p.0, AllDigits-from_test cs p.1)
+
+pub test-AllDigits : (ds : List ℕ) → AllDigits 10 ds → list_all is_ascii_digit ds ≡ true
+test-AllDigits [] h = refl
+test-AllDigits (c ∷ cs) h = rw (test_from_digit c h.0) (test-AllDigits cs h.1)
+
+-- ---- one digit or more
+
+pub nat_lt-zero-suc : (n : ℕ) → nat_lt 0 (suc n) ≡ true
+nat_lt-zero-suc n = grind (arith, nat_tests)
+
+pub is_numeral-digits : (bs : List ℕ) → is_numeral bs ≡ true → AllDigits 10 bs
+is_numeral-digits bs h = AllDigits-from_test bs (and_parts _ _ h).1
+
+pub is_numeral-some : (bs : List ℕ) → is_numeral bs ≡ true → 0 < length bs
+is_numeral-some bs h = let some = (and_parts (nat_lt 0 (length bs)) (list_all is_ascii_digit bs) h).0 in grind (arith, nat_tests)
+
+pub is_numeral-from_digits : (bs : List ℕ) → 0 < length bs → AllDigits 10 bs → is_numeral bs ≡ true
+is_numeral-from_digits [] p h = absurd (omega arith)
+is_numeral-from_digits (c ∷ cs) p h = rw (test-AllDigits (c ∷ cs) h, nat_lt-zero-suc (length cs)) refl
+
+-- ---- the digits in front
+
+front_step : (b : Bool) (c : ℕ) (ds : List ℕ) → (b ≡ true → digit_value c < 10) → AllDigits 10 ds → AllDigits 10 (cond b (c ∷ ds) [])
+front_step true c ds h hs = (h refl, hs)
+front_step false c ds h hs = tt
+
+-- the digits in front are digits
+pub AllDigits-front : (bs : List ℕ) → AllDigits 10 (front_digits bs)
+AllDigits-front [] = tt
+AllDigits-front (c ∷ cs) =
+    rw (take_while-cons is_ascii_digit c cs) (front_step (is_ascii_digit c) c (front_digits cs) (digit_from_test c) (AllDigits-front cs))
+
+pub front-append : (ds rest : List ℕ) → AllDigits 10 ds → front_digits rest ≡ [] → front_digits (ds ++ rest) ≡ ds
+front-append [] rest h e = e
+front-append (d ∷ ds) rest h e =
+    rw (take_while-cons is_ascii_digit d (ds ++ rest), test_from_digit d h.0, front-append ds rest h.1 e)
+
+-- ---- the number that digits write
+
+-- one more digit of a number that stops at `most`
+pub capped : (most value before digit part after next : ℕ) → value ≡ min most before → after ≡ before * 10 + digit → part ≡ digit
+    → next ≡ min (value * 10 + part) most → next ≡ min most after
+capped most value before digit part after next e f g h = omega arith
+
+digits_value_after-append : (n : ℕ) (xs ys : List ℕ) → digits_value_after 10 n (xs ++ ys) ≡ digits_value_after 10 (digits_value_after 10 n xs) ys
+digits_value_after-append n [] ys = refl
+digits_value_after-append n (x ∷ xs) ys = digits_value_after-append (n * 10 + digit_value x) xs ys
+
+shifted : (n d p v a f : ℕ) → a ≡ (n * 10 + d) * p + v → f ≡ (0 * 10 + d) * p + v → a ≡ n * (p * 10) + f
+shifted n d p v a f e h = omega arith
+
+digits_value_after-is : (n : ℕ) (ys : List ℕ) → digits_value_after 10 n ys ≡ n * 10 ^ length ys + digits_value 10 ys
+digits_value_after-is n [] = omega arith
+digits_value_after-is n (y ∷ ys) =
+    let more : digits_value_after 10 n (y ∷ ys) ≡ (n * 10 + digit_value y) * 10 ^ length ys + digits_value 10 ys =
+    digits_value_after-is (n * 10 + digit_value y) ys in
+    let first : digits_value 10 (y ∷ ys) ≡ (0 * 10 + digit_value y) * 10 ^ length ys + digits_value 10 ys =
+    digits_value_after-is (0 * 10 + digit_value y) ys in
+    rw (pow-suc 10 (length ys)) (shifted n (digit_value y) (10 ^ length ys) (digits_value 10 ys) _ _ more first)
+
+pub digits_value-append : (xs ys : List ℕ) → digits_value 10 (xs ++ ys) ≡ digits_value 10 xs * 10 ^ length ys + digits_value 10 ys
+digits_value-append xs ys = digits_value_after-append 0 xs ys ∙ digits_value_after-is (digits_value 10 xs) ys
+
+pub power_pos : (k : ℕ) → 0 < 10 ^ k
+power_pos k = one-le-pow k 10 (omega arith)
+
+pub power_le : (k : ℕ) → k ≤ 18 → 10 ^ k ≤ 10 ^ 18
+power_le k h = pow-le-pow_right (omega arith) h
+
+-- ---- a number in so many digits
+
+digit_of : (d : ℕ) → d < 10 → digit_value (48 + d) ≡ d
+digit_of d h = grind (arith, nat_tests)
+
+digit_below : (d : ℕ) → d < 10 → digit_value (48 + d) < 10
+digit_below d h = rw (digit_of d h) h
+
+pub length-digits : (k n : ℕ) → length (digits k n) ≡ k
+unfolding digits
+length-digits zero n = refl
+length-digits (suc k) n = omega (arith, length-append (digits k (n / 10)) ((48 + n % 10) ∷ []), length-digits k (n / 10))
+
+pub AllDigits-digits : (k n : ℕ) → AllDigits 10 (digits k n)
+unfolding digits
+AllDigits-digits zero n = tt
+AllDigits-digits (suc k) n =
+    digits_push 10 (digits k (n / 10)) (48 + n % 10) (AllDigits-digits k (n / 10)) (digit_below (n % 10) (mod_below n 10 (omega arith)))
+
+pub digits_value-digits : (k n : ℕ) → n < 10 ^ k → digits_value 10 (digits k n) ≡ n
+unfolding digits
+digits_value-digits zero n h = omega arith
+digits_value-digits (suc k) n h =
+    let low = mod_below n 10 (omega arith) in
+    let high : digits_value 10 (digits k (n / 10)) ≡ n / 10 =
+    digits_value-digits k (n / 10) (div_below n 10 (10 ^ k) (omega arith) (rw (pow-suc 10 k) at h)) in
+    digits_value_push 10 (digits k (n / 10)) (48 + n % 10) ∙ rw (high, digit_of _ low) (div-add-mod' n 10)
+
+pub digits_none : (k n : ℕ) → k ≡ 0 → digits k n ≡ []
+unfolding digits
+digits_none zero n e = refl
+digits_none (suc k) n e = absurd (omega arith)
+
+pub digits-step : (k n : ℕ) → 0 < k → digits k n ≡ digits (k - 1) (n / 10) ++ (48 + n % 10) ∷ []
+unfolding digits
+digits-step zero n p = absurd (omega arith)
+digits-step (suc k) n p = let e : suc k - 1 ≡ k = omega arith in rw e
