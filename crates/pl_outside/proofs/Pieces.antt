@@ -3,7 +3,7 @@ use Rattle.std.proofs.Common.{◌≡◌, ◌≤◌, ◌+◌, ◌++◌, ℕ, List
 use Rattle.std.proofs.lemmas.Grind.{common_steps}
 use Rattle.std.proofs.lemmas.List.{take-append-le}
 use Rattle.std.proofs.Math.Seq.{take-append-add}
-use Rattle.pl_outside.specs.Taken.{TakesAll, TakesPrefix, Writes}
+use Rattle.pl_outside.specs.Taken.{TakesAll, Writes}
 use Rattle.pl_outside.proofs.Counting.{Rose-later}
 use Rattle.pl_outside.proofs.Takes.{takes-none, takes-more}
 

@@ -17,6 +17,6 @@ rest_at files None read = []
 rest_at files (Some place) read = drop read (bytes_at files place)
 
 -- the file that was begun is there, and no more than all of it was read
-abbrev pub IsReading : List File → Option ℕ → ℕ → Type 0
-IsReading files None read = ⊤
-IsReading files (Some place) read = (place < length files) × (read ≤ length (bytes_at files place))
+abbrev pub IsWithin : List File → Option ℕ → ℕ → Type 0
+IsWithin files None read = ⊤
+IsWithin files (Some place) read = (place < length files) × (read ≤ length (bytes_at files place))

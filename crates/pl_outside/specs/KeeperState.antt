@@ -1,6 +1,5 @@
 -- What a clause sees of a keeper in memory.
 use Rattle.std.specs.Prelude.{ℕ, List, [], Bool, true, false, bytes_eq, if◌then◌else◌}
-use Rattle.std.proofs.Common.{arith}
 use Rattle.pl_spec.specs.declared.RawAdjust.{RawAdjust}
 use Rattle.pl_outside.specs.declared.keeper.Table.{Table}
 use Rattle.pl_outside.specs.declared.keeper.Table.TheVariants.{Splits, Mergers, Dividends}
@@ -34,7 +33,7 @@ rows_of-ascends keeper Dividends = keeper.dividends_ascend
 
 if-ascends : (b : Bool) (rows : List RawAdjust) → IsAscending rows → IsAscending (if b then rows else [])
 if-ascends true rows ascend = ascend
-if-ascends false rows ascend = λ i j d before within. absurd (omega arith)
+if-ascends false rows ascend = λ i j d before within. elim within [ ]
 
 -- each list that a keeper in memory tells is in ascending id
 pub kept-ascends : (keeper : KeeperState) (name : List ℕ) (table : Table) → IsAscending (kept keeper name table)

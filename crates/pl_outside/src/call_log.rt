@@ -1,8 +1,9 @@
 // Which calls of a part in memory fail, and what was counted.
-ghost use Rattle.std.specs.Prelude.{◌≡◌};
-ghost use Rattle.pl_outside.specs.Calls.{next_fails, no_calls};
+ghost use Rattle.std.specs.Prelude.{◌≡◌, is_err};
+ghost use Rattle.pl_outside.specs.Calls.{next_fails, no_calls, one_more};
 ghost use Rattle.pl_outside.specs.Counts.{count_plus};
 
+use crate::faults::Failed;
 use std::marker::Model;
 
 /// The calls of a part in memory, numbered from 1 over all methods of its trait.
@@ -33,13 +34,17 @@ impl CallLog {
         }
     }
 
-    /// Counts a call, and tells whether it is to fail.
-    pub fn count_call(&mut self) -> bool
-        ensures fails { result ≡ next_fails self.old }
-        ensures made { self.new ≡ record self.old { made = count_plus self.old.made 1 } }
+    /// Counts a call, and its fault where it is to fail.
+    pub fn take_call(&mut self) -> Result<(), Failed>
+        ensures fails { is_err result ≡ next_fails self.old }
+        ensures after { self.new ≡ one_more self.old (next_fails self.old) }
     {
         self.made = self.made.saturating_add(1);
-        self.failing.contains(&self.made)
+        if self.failing.contains(&self.made) {
+            self.count_fault();
+            return Err(Failed);
+        }
+        Ok(())
     }
 
     /// Counts a fault.

@@ -5,8 +5,9 @@ ghost use Rattle.pl_outside.specs.declared.keeper.Table.{Table};
 ghost use Rattle.pl_outside.specs.Counts.{Rose, count_plus};
 ghost use Rattle.pl_outside.specs.Lists.{Lists, IsAscending};
 
+use crate::faults::Failed;
 use pl_spec::RawAdjust;
-use std::alloc::Global;
+use std::alloc::{AllocError, Global};
 use std::marker::Model;
 
 /// A table of adjustments.
@@ -22,6 +23,26 @@ pub enum Table {
 pub enum KeepError {
     Failed,
     Memory,
+}
+
+impl From<Failed> for KeepError {
+    ghost use Rattle.pl_outside.specs.declared.keeper.KeepError.TheVariants.{Failed};
+
+    ghost from_gives = { λ _ e. e ≡ Failed };
+
+    fn from(_fault: Failed) -> KeepError {
+        KeepError::Failed
+    }
+}
+
+impl From<AllocError> for KeepError {
+    ghost use Rattle.pl_outside.specs.declared.keeper.KeepError.TheVariants.{Memory};
+
+    ghost from_gives = { λ _ e. e ≡ Memory };
+
+    fn from(_refused: AllocError) -> KeepError {
+        KeepError::Memory
+    }
 }
 
 /// Three lists of rows by name, each in ascending id with distinct ids.
@@ -53,9 +74,12 @@ pub trait AdjustKeeper {
         ensures keeps { lists self.new ≡ lists self.old }
         ensures stays { sound self.new ≡ sound self.old };
 
+    // A sound keeper tells.
     ghost sound_tells: { (keeper : Self) → IsTrue (sound keeper) → IsSome (lists keeper) };
 
-    ghost lists_ascend: { (keeper : Self) → ForSome (lists keeper) (λ lists. (name : List ℕ) (table : Table) → IsAscending (lists name table)) };
+    // Each list that is told is in ascending id.
+    ghost lists_ascend: { (keeper : Self)
+        → ForSome (lists keeper) (λ lists. (name : List ℕ) (table : Table) → IsAscending (lists name table)) };
 }
 
 /// A keeper of nothing, which tells nothing: each load is a fault.

@@ -94,14 +94,9 @@ impl AdjustKeeper for MemoryKeeper {
         ensures rows { into.new.items ≡ (if is_ok result then into.old.items ++ kept self.old name.now table else into.old.items) }
         ensures after { self.new ≡ record self.old { calls = one_more self.old.calls (next_fails self.old.calls) } }
     {
-        if self.calls.count_call() {
-            self.calls.count_fault();
-            return Err(KeepError::Failed);
-        }
-        match into.extend_from_slice(self.rows(name, table)) {
-            Ok(()) => Ok(()),
-            Err(_) => Err(KeepError::Memory),
-        }
+        self.calls.take_call()?;
+        into.extend_from_slice(self.rows(name, table))?;
+        Ok(())
     }
 
     ghost use Rattle.std.proofs.Common.{rules};

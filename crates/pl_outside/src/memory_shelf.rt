@@ -27,11 +27,11 @@ impl Model for MemoryShelf {
 
     ghost Value = { ShelfState };
 
-    ghost use Rattle.pl_outside.specs.MemoryShelf.{state_of, IsReadingWithin};
+    ghost use Rattle.pl_outside.specs.MemoryShelf.{state_of, IsReading};
 
     ghost view = { state_of };
 
-    ghost invariant = { IsReadingWithin };
+    ghost invariant = { IsReading };
 }
 
 impl MemoryShelf {
@@ -84,10 +84,7 @@ impl Shelf for MemoryShelf {
     {
         self.begun = None;
         self.read = 0;
-        if self.calls.count_call() {
-            self.calls.count_fault();
-            return Err(Failed);
-        }
+        self.calls.take_call()?;
         self.begun = place_of(&self.files, name);
         if self.begun.is_none() {
             self.calls.count_fault();
@@ -106,10 +103,7 @@ impl Shelf for MemoryShelf {
           calls = one_more self.old.calls (is_err result);
         } }
     {
-        if self.calls.count_call() {
-            self.calls.count_fault();
-            return Err(Failed);
-        }
+        self.calls.take_call()?;
         let Some(place) = self.begun else {
             return Ok(0);
         };

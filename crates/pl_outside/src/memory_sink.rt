@@ -84,8 +84,8 @@ impl Sink for MemorySink {
           calls = one_more self.old.calls (is_err result);
         } }
     {
-        let fails = self.calls.count_call();
-        if fails || bytes.len() > self.room {
+        self.calls.take_call()?;
+        if bytes.len() > self.room {
             self.calls.count_fault();
             return Err(Failed);
         }

@@ -36,6 +36,7 @@ pub trait Sink {
         ensures counted { calls self.new ≡ count_plus (calls self.old) 1 }
         ensures stays { sound self.new ≡ sound self.old };
 
+    // A sound sink tells.
     ghost sound_tells: { (sink : Self) → IsTrue (sound sink) → IsSome (taken sink) };
 }
 
