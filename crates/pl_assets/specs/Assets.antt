@@ -1,5 +1,5 @@
 -- The assets of the records of an assets file, and the first rule that a record breaks.
-use Rattle.std.specs.Prelude.{◌≡◌, ℕ, ◌==◌, ◌<◌, ◌≤◌, ◌^◌, nat_le, if◌then◌else◌, codes, List, [], ◌∷◌, length, All, AllPairs, Option, Some, None, option_map, option_and_then, Result, Ok, Err}
+use Rattle.std.specs.Prelude.{ℕ, ◌==◌, ◌<◌, ◌≤◌, ◌^◌, nat_le, if◌then◌else◌, codes, List, [], ◌∷◌, length, All, AllPairs, Option, None, option_map, option_and_then, Result, Ok, Err}
 use Rattle.std.specs.List.{list_any}
 use Rattle.std.specs.Int.RustNames.{int_lt}
 use Rattle.std.specs.Option.{ok_or}

@@ -1,5 +1,5 @@
 -- Bars that are read: what each test tells, and what is kept of all rows.
-use Rattle.std.proofs.Common.{◌≡◌, ℕ, zero, suc, ◌^◌, ◌==◌, ◌<◌, ◌≤◌, ◌||◌, nat_le, IsTrue, Bool, true, false, List, [], ◌∷◌, ◌++◌, length, get_or, length-append, All, Option, Some, None, Result, Ok, Err, refl, ap, sym, ◌∙◌, ℤ, pos, position, arith}
+use Rattle.std.proofs.Common.{◌≡◌, ℕ, zero, suc, ◌^◌, ◌==◌, ◌<◌, ◌≤◌, ◌||◌, nat_le, IsTrue, Bool, true, false, List, [], ◌∷◌, ◌++◌, length, get_or, length-append, All, Option, Some, None, Result, Ok, Err, refl, subst, ◌∙◌, ℤ, pos, position, arith}
 use Rattle.std.specs.List.{list_any, AllPairs}
 use Rattle.std.specs.Ordering.{int_eq}
 use Rattle.std.specs.Option.{ok_or}
@@ -95,21 +95,16 @@ says_bar-ok days assets before r b e =
     let i = some_ok (position (λ a. sid_of a == g.0.sid) assets) rules.UnknownSid (λ col. after_col before g.0 h.0 col) b h.2 in
     let j = guard_ok (list_any is_negative g.0.cells) rules.Negative (if list_any (is_at i.0 h.0) before then Err rules.Duplicate else Ok (record { col = i.0; session = h.0; cells = g.0.cells })) b i.2 in
     let k = guard_ok (list_any (is_at i.0 h.0) before) rules.Duplicate (Ok (record { col = i.0; session = h.0; cells = g.0.cells })) b j.1 in
-    let row : BarRow = record { col = i.0; session = h.0; cells = g.0.cells } in
-    let same : row ≡ b = told_row row k.1 in
-    record {
-      few = f.0;
-      fields = g.0;
-      written = g.1;
-      session = h.1 ∙ ap (λ (x : BarRow). Some x.session) same;
-      col = i.1 ∙ ap (λ (x : BarRow). Some x.col) same;
-      cells = sym (ap (λ (x : BarRow). x.cells) same);
-      not_negative = ap (λ (x : BarRow). list_any is_negative x.cells) (sym same) ∙ j.0;
-      own_place = ap (λ (x : BarRow). list_any (is_at x.col x.session) before) (sym same) ∙ k.0;
-    }
+    told g.0 h.0 i.0 f.0 g.1 h.1 i.1 j.0 k.0 k.1
   where
-    told_row : (row : BarRow) → (let x : Result BarRow Rule = Ok row in x) ≡ Ok b → row ≡ b
-    told_row row e = cc
+    told : (f : Fields) (session col : ℕ) → nat_le 4000000 (length before) ≡ false → fields_in r ≡ Some f
+        → position (λ d. int_eq d f.day) days ≡ Some session → position (λ a. sid_of a == f.sid) assets ≡ Some col
+        → list_any is_negative f.cells ≡ false → list_any (is_at col session) before ≡ false
+        → (let x : Result BarRow Rule = Ok (record { col = col; session = session; cells = f.cells }) in x) ≡ Ok b → Says days assets before r b
+    told f session col few w s c n o e =
+        let row : BarRow = record { col = col; session = session; cells = f.cells } in
+        let same : row ≡ b = cc in
+        subst (Says days assets before r) same record { few = few; fields = f; written = w; session = s; col = c; cells = refl; not_negative = n; own_place = o }
 
 -- ---- what is kept of all rows
 
@@ -189,4 +184,36 @@ AreBars-read days assets records bars n e =
       ascend = ascend-from_keys (sorted_by key_of it.0) (All-permutation (λ (b : BarRow). b.session < 2 ^ 32) it.0 (sorted_by key_of it.0) moved kept.small) (sorted-rises key_of it.0 kept.own);
       few = omega (arith, length-sorted_by key_of it.0, kept.few);
       cells = All-permutation (λ (b : BarRow). All (λ v. IsTrue (is_bar_cell v)) b.cells) it.0 (sorted_by key_of it.0) moved kept.cells;
+    }
+
+-- ---- bars of assets on sessions
+
+-- bars of these assets on these sessions
+pub record AreInside (days : List ℤ) (assets : List AssetRow) (rows : List BarRow) : Type 0 where
+  pub cols : All (λ b. b.col < length assets) rows
+  pub sessions : All (λ b. b.session < length days) rows
+
+inside-more : (days : List ℤ) (assets : List AssetRow) (before : List BarRow) (r : Record) (b : BarRow) → AreInside days assets before → says_bar days assets before r ≡ Ok b → AreInside days assets (before ++ b ∷ [])
+inside-more days assets before r b h s =
+    let ok = says_bar-ok days assets before r b s in
+    let session = position-Some (λ d. int_eq d ok.fields.day) days b.session (pos 0) ok.session in
+    let col = position-Some (λ a. sid_of a == ok.fields.sid) assets b.col (record { sid = 0; start = pos 0; end = pos 0 }) ok.col in
+    record {
+      cols = All-append (λ (x : BarRow). x.col < length assets) before (b ∷ []) h.cols (one_row (λ x. x.col < length assets) b col.0);
+      sessions = All-append (λ (x : BarRow). x.session < length days) before (b ∷ []) h.sessions (one_row (λ x. x.session < length days) b session.0);
+    }
+
+inside-none : (days : List ℤ) (assets : List AssetRow) → AreInside days assets []
+inside-none days assets = record { cols = λ k d h. absurd (omega arith); sessions = λ k d h. absurd (omega arith) }
+
+pub AreInside-read : (days : List ℤ) (assets : List AssetRow) (records : List Record) (bars : List BarRow) → bars_of days assets records ≡ Ok bars → AreInside days assets bars
+unfolding rows_in
+AreInside-read days assets records bars e =
+    let it = sorted_from days assets records bars e in
+    let kept = rows-keep (AreInside days assets) 2 (says_bar days assets) (inside-more days assets) _ [] it.0 (inside-none days assets)
+    (under_ok header rules.BadHeader (says_bar days assets) records it.0 it.1).1 in
+    let moved = sorted-permutes key_of it.0 in
+    rw (← it.2) record {
+      cols = All-permutation (λ (b : BarRow). b.col < length assets) it.0 (sorted_by key_of it.0) moved kept.cols;
+      sessions = All-permutation (λ (b : BarRow). b.session < length days) it.0 (sorted_by key_of it.0) moved kept.sessions;
     }

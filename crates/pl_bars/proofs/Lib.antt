@@ -5,4 +5,3 @@ pub mod BarsSaid
 pub mod BarSearch
 pub mod BarFilling
 pub mod BarWorlds
-pub mod BarPlaces
