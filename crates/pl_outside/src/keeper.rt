@@ -10,7 +10,7 @@ use pl_spec::RawAdjust;
 use std::alloc::{AllocError, Global};
 use std::marker::Model;
 
-/// A table of adjustments.
+/// A table of adjustments, as Zipline's database of adjustments has them.
 #[derive(Clone, Copy, Debug, PartialEq, Eq)]
 pub enum Table {
     Splits,

@@ -39,8 +39,10 @@ impl From<AllocError> for ReadError {
 // how many bytes are asked for at once
 const PIECE: usize = 65_536;
 
-/// The whole bytes of the named file, if there are at most `cap`. `TooLong` comes where `cap + 1` bytes were given. It
-/// makes at most `cap + 2` calls of the shelf.
+/// The whole bytes of the named file, if there are at most `cap`, which is below 2^32.
+///
+/// Answers Failed only where the shelf counted a fault, over a sound shelf exactly where the name isn't held; TooLong
+/// where `cap + 1` bytes were given; Memory where the bytes find none. It makes at most `cap + 2` calls of the shelf.
 pub fn read_file<S: Shelf>(
     alloc: Global,
     shelf: &mut S,
