@@ -88,5 +88,16 @@ nine-prefix shelf keeper steps old new roomy text ended result Told h (inr q) z 
 pub store-never : (files : Files) (asked : Option RunRequest) (name : List ℕ) → ReachesRead (work files asked) (Store name) → ⊥
 unfolding work range_steps
 store-never files None name h = elim h [ inl p ↦ absurd (cc p) | inr a ↦ absurd a.1 ]
-store-never files (Some q) name h = elim h [ inl p ↦ absurd (cc p) | inr a ↦ elim a.1 [ inl p ↦ absurd (cc p) | inr b ↦ elim b.1 [ inl p ↦ absurd (cc p) | inr d ↦ elim d.1 [ inl p ↦ absurd (cc p)
-  | inr e ↦ elim e.1 [ inl p ↦ absurd (cc p) | inr f ↦ elim f.1 [ inl p ↦ absurd (cc p) | inr g ↦ elim g.1 [ inl p ↦ absurd (cc p) | inr i ↦ elim i.1 [ inl p ↦ absurd (cc p) | inr j ↦ absurd j.1 ] ] ] ] ] ] ] ]
+store-never files (Some q) name h = elim h [
+  | inl p ↦ absurd (cc p)
+  | inr a ↦ elim a.1 [
+    | inl p ↦ absurd (cc p)
+    | inr b ↦ elim b.1 [
+      | inl p ↦ absurd (cc p)
+      | inr d ↦ elim d.1 [
+        | inl p ↦ absurd (cc p)
+        | inr e ↦ elim e.1 [ inl p ↦ absurd (cc p) | inr f ↦ elim f.1 [ inl p ↦ absurd (cc p) | inr g ↦ elim g.1 [ inl p ↦ absurd (cc p) | inr i ↦ elim i.1 [ inl p ↦ absurd (cc p) | inr j ↦ absurd j.1 ] ] ] ]
+      ]
+    ]
+  ]
+]

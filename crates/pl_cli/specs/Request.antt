@@ -40,7 +40,7 @@ run_over words from to =
 abbrev pub run_request : List (List ℕ) → Option RunRequest
 run_request words =
     if is_run words then
-      option_and_then (λ from. option_map (run_over words from) (dated (word words 6))) (dated (word words 5))
+    option_and_then (λ from. option_map (run_over words from) (dated (word words 6))) (dated (word words 5))
     else None
 
 -- the command, four names and two dates, and no other words

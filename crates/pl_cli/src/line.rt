@@ -15,8 +15,11 @@ pub struct Line {
 
 impl Model for Line {
     ghost use Rattle.std.specs.Prelude.{ℕ, List, take, ◌≤◌};
+
     ghost Value = { List ℕ };
+
     ghost view = { λ l. take l.len l.bytes };
+
     ghost invariant = { λ l. l.len ≤ 2_048 };
 }
 

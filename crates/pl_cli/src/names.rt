@@ -11,7 +11,9 @@ pub struct Name {
 
 impl Model for Name {
     ghost use Rattle.std.specs.Prelude.{ℕ, List};
+
     ghost Value = { List ℕ };
+
     ghost view = { λ n. n.bytes.items };
 }
 

@@ -127,5 +127,4 @@ fn is_keyword(name: &[u8]) -> bool
 /// A file is read as the names of its columns exactly where it is the plain pipeline file of these columns.
 pub fn plain_files_are_read()
     ensures { PlainFilesAreRead }
-{
-}
+{}

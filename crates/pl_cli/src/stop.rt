@@ -79,11 +79,15 @@ pub enum Refusal<'a> {
         fault: DataFault,
     },
     /// No session has the date.
-    NoSession { date: &'a str },
+    NoSession {
+        date: &'a str,
+    },
     /// The first date is after the second.
     Backwards,
     /// The columns show bars of a session before the first one.
-    TooEarly { reach: i64 },
+    TooEarly {
+        reach: i64,
+    },
     /// There is more than a limit allows.
     Passed(Limit),
 }

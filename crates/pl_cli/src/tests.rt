@@ -24,6 +24,7 @@ const TABLE: &[u8] = b"session,sid,c\n2024-01-03,1,100.000000\n2024-01-04,1,102.
     2024-01-05,1,51.000000\n2024-01-08,1,52.000000\n2024-01-09,1,53.000000\n";
 
 /// What a run left: its status, and what stands on `out` and `err`.
+#[derive(Drop)]
 struct Left {
     status: u8,
     out: MemorySink,
@@ -33,7 +34,15 @@ struct Left {
 /// The words of a run over the base files.
 fn base_words(alloc: Global, from: &str, to: &str) -> Result<Vec<String>, Fail> {
     let mut words = Vec::new(alloc);
-    for word in ["run", "p.pl", "sessions.csv", "assets.csv", "bars.csv", from, to] {
+    for word in [
+        "run",
+        "p.pl",
+        "sessions.csv",
+        "assets.csv",
+        "bars.csv",
+        from,
+        to,
+    ] {
         words.push(String::from_str(alloc, word)?)?;
     }
     Ok(words)
@@ -71,7 +80,12 @@ fn run<L: Ledger>(
 }
 
 /// The run over a shelf and an `out` whose calls of these numbers fail.
-fn left(alloc: Global, words: &[String], mut shelf: MemoryShelf, failing: Vec<u64>) -> Result<Left, Fail> {
+fn run_over(
+    alloc: Global,
+    words: &[String],
+    mut shelf: MemoryShelf,
+    failing: Vec<u64>,
+) -> Result<Left, Fail> {
     let mut out = MemorySink::new(alloc, failing, 0);
     let mut err = MemorySink::new(alloc, Vec::new(alloc), 3);
     out.reserve(1_000)?;
@@ -81,11 +95,20 @@ fn left(alloc: Global, words: &[String], mut shelf: MemoryShelf, failing: Vec<u6
 }
 
 /// Whether the run over the base files, with this one in the place of one of them, ends so.
-fn is_answered(alloc: Global, name: &str, bytes: &[u8], from: &str, to: &str, status: u8, text: &[u8], line: &[u8]) -> Result<bool, Fail> {
+fn is_answered(
+    alloc: Global,
+    name: &str,
+    bytes: &[u8],
+    from: &str,
+    to: &str,
+    status: u8,
+    text: &[u8],
+    line: &[u8],
+) -> Result<bool, Fail> {
     let words = base_words(alloc, from, to)?;
     let mut shelf = base_shelf(alloc, Vec::new(alloc))?;
     shelf.put(String::from_str(alloc, name)?, bytes.to_vec(alloc)?)?;
-    let left = left(alloc, &words, shelf, Vec::new(alloc))?;
+    let left = run_over(alloc, &words, shelf, Vec::new(alloc))?;
     Ok(left.status == status && left.out.bytes() == text && left.err.bytes() == line)
 }
 
@@ -118,7 +141,10 @@ fn writes_tables(rt: HostRuntime) -> Result<(), Fail> {
             b"session,sid,c\n2024-01-04,1,102.000000\n2024-01-05,1,51.000000\n2024-01-05,7,\n2024-01-08,7,\n",
         ),
     ] {
-        assert!(rt; is_answered(alloc, name, bytes, from, to, 0, text, b"")?, "{name} {from}");
+        assert!(rt;
+            is_answered(alloc, name, bytes, from, to, 0, text, b"")?,
+            "{name} {from}"
+        );
     }
     Ok(())
 }
@@ -127,10 +153,26 @@ fn writes_tables(rt: HostRuntime) -> Result<(), Fail> {
 fn refuses_data(rt: HostRuntime) -> Result<(), Fail> {
     let alloc = rt.alloc();
     for (name, bytes, line) in [
-        ("sessions.csv", b"".as_slice(), b"sessions.csv:1: data Empty\n".as_slice()),
-        ("sessions.csv", b"2024-01-03\n2024-01-02\n", b"sessions.csv:2: data NotAscending\n"),
-        ("sessions.csv", b"2024-01-03\n2024-01-32\n", b"sessions.csv:2: data BadDate\n"),
-        ("assets.csv", b"sid,start\n", b"assets.csv:1: data BadHeader\n"),
+        (
+            "sessions.csv",
+            b"".as_slice(),
+            b"sessions.csv:1: data Empty\n".as_slice(),
+        ),
+        (
+            "sessions.csv",
+            b"2024-01-03\n2024-01-02\n",
+            b"sessions.csv:2: data NotAscending\n",
+        ),
+        (
+            "sessions.csv",
+            b"2024-01-03\n2024-01-32\n",
+            b"sessions.csv:2: data BadDate\n",
+        ),
+        (
+            "assets.csv",
+            b"sid,start\n",
+            b"assets.csv:1: data BadHeader\n",
+        ),
         (
             "assets.csv",
             b"sid,start,end\n1,2024-01-02,2024-01-09\n1,2024-01-02,2024-01-09\n",
@@ -172,7 +214,10 @@ fn refuses_data(rt: HostRuntime) -> Result<(), Fail> {
             b"bars.csv:2: data Negative\n",
         ),
     ] {
-        assert!(rt; is_answered(alloc, name, bytes, "2024-01-03", "2024-01-09", 4, b"", line)?, "{name}");
+        assert!(rt;
+            is_answered(alloc, name, bytes, "2024-01-03", "2024-01-09", 4, b"", line)?,
+            "{name}"
+        );
     }
     Ok(())
 }
@@ -191,10 +236,32 @@ fn refuses_pipelines(rt: HostRuntime) -> Result<(), Fail> {
         b"pipeline 1;\ncolumn a23456789012345678901234567890123 = close.latest;\n",
         b"pipeline 1;\ncolumn c = close.latest;\nscreen close.latest > 1000;\n",
     ] {
-        assert!(rt; is_answered(alloc, "p.pl", bytes, "2024-01-03", "2024-01-09", 11, b"", b"unbuilt\n")?);
+        assert!(rt;
+            is_answered(
+                alloc,
+                "p.pl",
+                bytes,
+                "2024-01-03",
+                "2024-01-09",
+                11,
+                b"",
+                b"unbuilt\n"
+            )?
+        );
     }
     let long = vec![in alloc; b' '; 262_145]?;
-    assert!(rt; is_answered(alloc, "p.pl", &long, "2024-01-03", "2024-01-09", 6, b"", b"limit: pipeline\n")?);
+    assert!(rt;
+        is_answered(
+            alloc,
+            "p.pl",
+            &long,
+            "2024-01-03",
+            "2024-01-09",
+            6,
+            b"",
+            b"limit: pipeline\n"
+        )?
+    );
     Ok(())
 }
 
@@ -202,12 +269,27 @@ fn refuses_pipelines(rt: HostRuntime) -> Result<(), Fail> {
 fn refuses_ranges(rt: HostRuntime) -> Result<(), Fail> {
     let alloc = rt.alloc();
     for (from, to, line) in [
-        ("2024-01-02", "2024-01-09", b"range: TooEarly -1\n".as_slice()),
-        ("2024-01-06", "2024-01-07", b"range: NotSession 2024-01-06\n"),
-        ("2024-01-05", "2024-01-07", b"range: NotSession 2024-01-07\n"),
+        (
+            "2024-01-02",
+            "2024-01-09",
+            b"range: TooEarly -1\n".as_slice(),
+        ),
+        (
+            "2024-01-06",
+            "2024-01-07",
+            b"range: NotSession 2024-01-06\n",
+        ),
+        (
+            "2024-01-05",
+            "2024-01-07",
+            b"range: NotSession 2024-01-07\n",
+        ),
         ("2024-01-05", "2024-01-04", b"range: Backwards\n"),
     ] {
-        assert!(rt; is_answered(alloc, "p.pl", PIPELINE, from, to, 5, b"", line)?, "{from}");
+        assert!(rt;
+            is_answered(alloc, "p.pl", PIPELINE, from, to, 5, b"", line)?,
+            "{from}"
+        );
     }
     for (from, to) in [
         ("2024-01-32", "2024-01-09"),
@@ -215,7 +297,10 @@ fn refuses_ranges(rt: HostRuntime) -> Result<(), Fail> {
         ("-2024-01-03", "2024-01-09"),
         ("", "2024-01-09"),
     ] {
-        assert!(rt; is_answered(alloc, "p.pl", PIPELINE, from, to, 2, b"", b"usage\n")?, "{from}");
+        assert!(rt;
+            is_answered(alloc, "p.pl", PIPELINE, from, to, 2, b"", b"usage\n")?,
+            "{from}"
+        );
     }
     Ok(())
 }
@@ -225,7 +310,7 @@ fn dates(alloc: Global, count: i32) -> Result<Vec<u8>, Fail> {
     let mut text = Vec::new(alloc);
     for day in 0..count {
         let mut date = [0u8; 10];
-        if day <= 84_005 {
+        if 0 <= day && day <= 84_005 {
             write_day(day, &mut date);
         }
         text.extend_from_slice(&date)?;
@@ -238,7 +323,18 @@ fn dates(alloc: Global, count: i32) -> Result<Vec<u8>, Fail> {
 fn passes_no_limit(rt: HostRuntime) -> Result<(), Fail> {
     let alloc = rt.alloc();
     let many = dates(alloc, 16_001)?;
-    assert!(rt; is_answered(alloc, "sessions.csv", &many, "2024-01-03", "2024-01-09", 6, b"", b"limit: sessions\n")?);
+    assert!(rt;
+        is_answered(
+            alloc,
+            "sessions.csv",
+            &many,
+            "2024-01-03",
+            "2024-01-09",
+            6,
+            b"",
+            b"limit: sessions\n"
+        )?
+    );
     Ok(())
 }
 
@@ -248,17 +344,17 @@ fn tells_what_failed(rt: HostRuntime) -> Result<(), Fail> {
     let words = base_words(alloc, "2024-01-03", "2024-01-09")?;
     // the second beginning is the fourth call: the first file is one piece, and then its end
     let shelf = base_shelf(alloc, vec![in alloc; 4u64]?)?;
-    let unread = left(alloc, &words, shelf, Vec::new(alloc))?;
+    let unread = run_over(alloc, &words, shelf, Vec::new(alloc))?;
     assert_eq!(rt; unread.status, 7);
     assert_eq!(rt; unread.out.bytes(), b"".as_slice());
     assert_eq!(rt; unread.err.bytes(), b"read: sessions.csv\n".as_slice());
     let shelf = base_shelf(alloc, Vec::new(alloc))?;
-    let unwritten = left(alloc, &words, shelf, vec![in alloc; 2u64]?)?;
+    let unwritten = run_over(alloc, &words, shelf, vec![in alloc; 2u64]?)?;
     assert_eq!(rt; unwritten.status, 9);
     assert_eq!(rt; unwritten.out.bytes(), b"session,sid,c\n".as_slice());
     assert_eq!(rt; unwritten.err.bytes(), b"write\n".as_slice());
     let shelf = base_shelf(alloc, Vec::new(alloc))?;
-    let short = left(alloc, &words[..6], shelf, Vec::new(alloc))?;
+    let short = run_over(alloc, &words[..6], shelf, Vec::new(alloc))?;
     assert_eq!(rt; short.status, 2);
     assert_eq!(rt; short.err.bytes(), b"usage\n".as_slice());
     Ok(())

@@ -12,10 +12,10 @@ ghost use Rattle.pl_cli.specs.Loads.{loaded_text, loaded_world, loaded_pipeline,
 
 use crate::rows;
 use crate::stages::Loaded;
+use pl_fixed::Steps;
 use pl_model::{PlainTerm, World, plain_cell};
 use pl_outside::{Failed, Sink, write_bytes};
 use pl_spec::Column;
-use pl_fixed::Steps;
 use std::sync::ledger::Ledger;
 
 /// Writes the header and the rows.
@@ -79,7 +79,13 @@ fn write_row<O: Sink, L: Ledger>(
         bars: &loaded.bars,
     };
     let day = loaded.sessions.day(session);
-    let cell = plain_cell(&world, PlainTerm::Latest(Column::Close), col, session, steps);
+    let cell = plain_cell(
+        &world,
+        PlainTerm::Latest(Column::Close),
+        col,
+        session,
+        steps,
+    );
     let line = rows::row_line(day, loaded.assets.sid(col), cell, loaded.names.len());
     write_bytes(out, line.as_slice())
 }

@@ -9,12 +9,11 @@ returns-in_err-rest c =
     (no-behind c.args.text.now c.in_ok-line.line.now c.name_end.result c.in_ok-line.ensures c.name_end.ensures.front (rw c.split_at.ensures.back at c.in_err-rest.ensures))
 
 pub returns-then-is_name : goal.returns-then-is_name
-returns-then-is_name c =
-    (
-      sym c.if-is_name.ensures,
-      rw c.split_at.ensures.front
+returns-then-is_name c = (
+  sym c.if-is_name.ensures,
+  rw c.split_at.ensures.front
       (first-is c.args.text.now c.in_ok-line.line.now c.in_ok-rest.rest.now c.name_end.result c.in_ok-line.ensures (rw c.split_at.ensures.back at c.in_ok-rest.ensures)),
-    )
+)
 
 pub returns-else-is_name : goal.returns-else-is_name
 returns-else-is_name c =

@@ -1,0 +1,2 @@
+pipeline 1;
+column c = close.latest;
