@@ -1,11 +1,22 @@
 -- The adjustments of three tables by column, or the first fault of their rows.
-use Rattle.std.specs.Prelude.{ℕ, ◌<◌, ◌≤ℤ◌, ◌==◌, List, map, filter, length, All, AllPairs, Option, Some, None, Result, Ok, Err}
+use Rattle.std.specs.Prelude.{ℕ, ◌<◌, ◌≤ℤ◌, ◌==◌, List, ◌++◌, map, filter, length, All, AllPairs, Option, Some, None, Result, Ok, Err}
+use Rattle.pl_spec.specs.declared.AdjustmentKind.{AdjustmentKind}
+use Rattle.pl_spec.specs.declared.AdjustmentKind.TheVariants.{Split, Merger, Dividend}
 use Rattle.pl_spec.specs.declared.AssetRow.{AssetRow}
 use Rattle.pl_spec.specs.declared.RawAdjust.{RawAdjust}
-use Rattle.pl_spec.specs.Order.{adjustments_of}
+use Rattle.pl_spec.specs.Order.{adjustments_of, of_table}
 use Rattle.pl_spec.specs.Parts.{ColumnAdjustment}
 use Rattle.pl_adjust.specs.Columns.{by_column, in_column}
 use Rattle.pl_adjust.specs.Walk.{Fault, first_fault, walk}
+
+-- the adjustments of a table's rows, each with its column
+abbrev pub of_rows : List AssetRow → AdjustmentKind → List RawAdjust → List ColumnAdjustment
+of_rows assets kind raw = map (in_column assets) (of_table assets kind raw)
+
+-- those of all three tables, as they stand there
+abbrev pub of_walk : List AssetRow → List RawAdjust → List RawAdjust → List RawAdjust → List ColumnAdjustment
+of_walk assets splits mergers dividends =
+    map (in_column assets) (of_table assets Split splits ++ of_table assets Merger mergers ++ of_table assets Dividend dividends)
 
 -- the value, unless there is a fault
 abbrev pub ok_unless : {A F : Type 0} → Option F → A → Result A F

@@ -5,7 +5,8 @@ ghost use Rattle.pl_adjust.specs.Events.{event_of};
 use pl_fixed::{Column, Ratio};
 use pl_spec::AdjustmentKind as Kind;
 
-/// An adjustment of an asset: from its day on, counted from 1970-01-01, the bars of earlier days are seen times the ratio.
+/// An adjustment of an asset: from its day on, counted from 1970-01-01, the bars of earlier days
+/// are seen times the ratio.
 #[derive(Clone, Copy, Debug, PartialEq, Eq)]
 pub struct Adjust {
     pub day: i32,
@@ -13,11 +14,13 @@ pub struct Adjust {
     pub ratio: Ratio,
 }
 
-/// What an adjustment multiplies the cells of a column by: prices by its ratio, and volumes by the inverse of a split's.
-/// `None` for a merger or a dividend on volume, which they leave as it is. That prices and splits are treated so is Zipline's
-/// rule; that mergers and dividends leave volume alone is our own.
+/// What an adjustment multiplies the cells of a column by: prices by its ratio, and volumes by the
+/// inverse of a split's. `None` for a merger or a dividend on volume, which they leave as it is.
+/// That prices and splits are treated so is Zipline's rule; that mergers and dividends leave volume
+/// alone is our own.
 pub fn factor_for(adjust: &Adjust, column: Column) -> Option<Ratio>
-    ensures some { IfSome result (λ r. (acts_on column adjust.now.kind ≡ true) × (r ≡ factor column (event_of adjust.now))) }
+    ensures some { IfSome result (λ r. (acts_on column adjust.now.kind ≡ true)
+        × (r ≡ factor column (event_of adjust.now))) }
     ensures none { IfNone result (acts_on column adjust.now.kind ≡ false) }
 {
     match (column, adjust.kind) {

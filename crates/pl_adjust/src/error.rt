@@ -4,8 +4,9 @@ ghost use Rattle.pl_adjust.specs.declared.error.AdjustError.TheVariants.{Memory}
 use pl_outside::Table;
 use std::alloc::{AllocError, AllocFailed};
 
-/// Why the rows of three tables are no adjustments: the first fault of their rows, splits before mergers and these before
-/// dividends. Of the faults of a row the first decides, in the order `TooMany`, `BadEffective`, `BadRatio`.
+/// Why the rows of three tables are no adjustments: the first fault of their rows, splits before
+/// mergers and these before dividends. Of the faults of a row the first decides, in the order
+/// `TooMany`, `BadEffective`, `BadRatio`.
 #[derive(Clone, Copy, Debug, PartialEq, Eq)]
 pub enum AdjustError {
     /// The day of the row is not of the years 1900 to 2199.

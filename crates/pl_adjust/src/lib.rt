@@ -26,7 +26,8 @@ pub use seen::seen_now;
 use std::alloc::Global;
 use std::marker::Model;
 
-/// The adjustments of the assets, by column. A column is the place of an asset by ascending sid, from 0.
+/// The adjustments of the assets, by column. A column is the place of an asset by ascending sid,
+/// from 0.
 #[derive(Debug, Drop)]
 pub struct Adjustments {
     cols: Vec<usize>,
@@ -56,8 +57,9 @@ impl Adjustments {
         }
     }
 
-    /// The adjustments of the rows of three tables. A row acts from the day of its effective time on, which is in seconds since
-    /// 1970-01-01. Rows are tested in the order of the tables, then their own; those of sids that no asset has are left out.
+    /// The adjustments of the rows of three tables. A row acts from the day of its effective time
+    /// on, which is in seconds since 1970-01-01. The rows are tested in the order of the tables and
+    /// then in their own; those whose sid is of no asset are tested too, and left out.
     pub fn from_rows(
         alloc: Global,
         assets: &Assets,
@@ -66,7 +68,8 @@ impl Adjustments {
         dividends: &[RawAdjust],
     ) -> Result<Adjustments, AdjustError>
         // The adjustments of the rows, or their first fault. Only want of memory may come beside.
-        ensures exact { Answers (λ a. a) fault_of result (adjustments_in assets.now splits.now mergers.now dividends.now) }
+        ensures exact { Answers (λ a. a) fault_of result
+            (adjustments_in assets.now splits.now mergers.now dividends.now) }
         ensures columns { IfOk result (AreOf assets.now) }
     {
         let rows = rows::rows_of(alloc, assets, splits, mergers, dividends)?;
@@ -76,8 +79,8 @@ impl Adjustments {
         Ok(Adjustments { cols, adjusts })
     }
 
-    /// The adjustments of a column in the order in which they act: by day, on one day splits before mergers and these before
-    /// dividends, each in the order of its table.
+    /// The adjustments of a column in the order in which they act: by day, on one day splits before
+    /// mergers and these before dividends, each in the order of its table.
     pub fn of_col(&self, col: usize) -> &[Adjust]
         ensures events { map event_of result.now ≡ events_at self.now col }
         ensures in_order { AllPairs (λ a b. a.day ≤ℤ b.day) result.now }

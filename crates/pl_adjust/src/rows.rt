@@ -1,12 +1,14 @@
-ghost use Rattle.std.specs.Prelude.{◌≡◌, ◌+◌, ◌<◌, ◌^◌, ◌++◌, true, false, map, length, IfSome, IfNone, IfOk, OnOk};
+ghost use Rattle.std.specs.Prelude.{◌≡◌, ◌+◌, ◌<◌, ◌^◌, ◌++◌, true, false, map, length};
+ghost use Rattle.std.specs.Prelude.{IfSome, IfNone, IfOk, OnOk};
 ghost use Rattle.std.specs.Int.RustNames.{unsigned_abs};
-ghost use Rattle.pl_spec.specs.declared.AdjustmentKind.TheVariants.{Split, Merger, Dividend};
-ghost use Rattle.pl_spec.specs.Order.{adjustment_in, day_of_time, is_of, of_table};
+ghost use Rattle.pl_spec.specs.Order.{adjustment_in, day_of_time, is_of};
 ghost use Rattle.pl_adjust.specs.Events.{event_of};
-ghost use Rattle.pl_adjust.specs.Columns.{col_in, in_column};
+ghost use Rattle.pl_adjust.specs.Columns.{col_in};
 ghost use Rattle.pl_adjust.specs.Faults.{Tells};
 ghost use Rattle.pl_adjust.specs.Rows.{row_of};
-ghost use Rattle.pl_adjust.specs.Walk.{fault_at, first_fault, in_table, is_effective, kind_of, walk};
+ghost use Rattle.pl_adjust.specs.Tables.{of_rows, of_walk};
+ghost use Rattle.pl_adjust.specs.Walk.{fault_at, first_fault, in_table, is_effective, kind_of};
+ghost use Rattle.pl_adjust.specs.Walk.{walk};
 
 use crate::adjust::Adjust;
 use crate::columns::Row;
@@ -35,8 +37,8 @@ pub(crate) fn rows_of(
     mergers: &[RawAdjust],
     dividends: &[RawAdjust],
 ) -> Result<Vec<Row>, AdjustError>
-    ensures rows { IfOk result (λ rows. map row_of rows.items ≡ map (in_column assets.now) (of_table assets.now Split splits.now
-        ++ of_table assets.now Merger mergers.now ++ of_table assets.now Dividend dividends.now)) }
+    ensures rows { IfOk result (λ rows. map row_of rows.items
+        ≡ of_walk assets.now splits.now mergers.now dividends.now) }
     ensures fault { Tells result (first_fault 0 (walk splits.now mergers.now dividends.now)) }
 {
     let mut rows = Vec::new(alloc);
@@ -61,7 +63,8 @@ fn read_table(
     rows: &mut Vec<Row>,
 ) -> Result<(), AdjustError>
     requires { before + length raw.now < 2 ^ 64 }
-    ensures rows { OnOk result (map row_of rows.new.items ≡ map row_of rows.old.items ++ map (in_column assets.now) (of_table assets.now (kind_of table) raw.now)) }
+    ensures rows { OnOk result (map row_of rows.new.items
+        ≡ map row_of rows.old.items ++ of_rows assets.now (kind_of table) raw.now) }
     ensures fault { Tells result (first_fault before (in_table table raw.now)) }
 {
     for (i, row) in raw.iter().enumerate() {
@@ -76,7 +79,8 @@ fn read_table(
 // The adjustment of a row that stands behind so many others.
 #[tactic(auto, unfolding(crate::specs::Walk::fault_at))]
 fn adjust_of(table: Table, row: &RawAdjust, before: usize) -> Result<Adjust, AdjustError>
-    ensures adjust { IfOk result (λ a. event_of a ≡ (adjustment_in (kind_of table) row.now).event) }
+    ensures adjust { IfOk result (λ a.
+        event_of a ≡ (adjustment_in (kind_of table) row.now).event) }
     ensures fault { Tells result (fault_at before (record { table = table; row = row.now })) }
 {
     if before >= MOST_ROWS {
@@ -97,7 +101,8 @@ fn adjust_of(table: Table, row: &RawAdjust, before: usize) -> Result<Adjust, Adj
 
 // The day of a time in seconds, where it is one from 1900-01-01 to 2199-12-31.
 fn day_of(time: i64) -> Option<i32>
-    ensures some { IfSome result (λ day. (is_effective time ≡ true) × (day ≡ day_of_time time)) }
+    ensures some { IfSome result (λ day.
+        (is_effective time ≡ true) × (day ≡ day_of_time time)) }
     ensures none { IfNone result (is_effective time ≡ false) }
 {
     let day = time.div_euclid(SECONDS_A_DAY);
@@ -121,7 +126,8 @@ fn kind_of(table: Table) -> Kind
 
 // The column of the row's asset, if the sid is one of an asset.
 fn col_of(assets: &Assets, row: &RawAdjust) -> Option<usize>
-    ensures some { IfSome result (λ col. (is_of assets.now row.now ≡ true) × (col ≡ col_in assets.now (unsigned_abs row.now.sid))) }
+    ensures some { IfSome result (λ col. (is_of assets.now row.now ≡ true)
+        × (col ≡ col_in assets.now (unsigned_abs row.now.sid))) }
     ensures none { IfNone result (is_of assets.now row.now ≡ false) }
 {
     // Where there are assets, their sids are numbers of 32 bits.

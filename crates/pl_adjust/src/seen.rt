@@ -1,4 +1,5 @@
-ghost use Rattle.std.specs.Prelude.{◌≡◌, ◌+◌, ◌≤ℤ◌, ◌&&◌, if◌then◌else◌, AllPairs, filter, map, length};
+ghost use Rattle.std.specs.Prelude.{◌≡◌, ◌+◌, ◌≤ℤ◌, ◌&&◌, if◌then◌else◌};
+ghost use Rattle.std.specs.Prelude.{AllPairs, filter, map, length};
 ghost use Rattle.std.specs.Int.RustNames.{int_lt, int_le};
 ghost use Rattle.pl_spec.specs.Rounding.{IsCell};
 ghost use Rattle.pl_spec.specs.Window.{acts_on, after, after_all, events_in};
@@ -8,8 +9,9 @@ use crate::adjust::{Adjust, factor_for};
 use pl_fixed::{Column, Steps};
 use std::sync::ledger::Ledger;
 
-/// The cell of a bar of the day `bar_day` as it is seen on `day`: changed by each adjustment of the list that acts on the
-/// column later than the one day and by the other, one after the other, rounded each time. Each of these is one step.
+/// The cell of a bar of the day `bar_day` as it is seen on `day`: changed by each adjustment of the
+/// list that acts on the column later than the one day and by the other, one after the other,
+/// rounded each time. Each of these is one step.
 pub fn seen_now<L: Ledger>(
     cell: i64,
     bar_day: i32,
@@ -20,9 +22,11 @@ pub fn seen_now<L: Ledger>(
 ) -> i64
     requires cell { IsCell cell }
     requires in_order { AllPairs (λ a b. a.day ≤ℤ b.day) list.now }
-    ensures value { result ≡ after_all column cell (events_in column bar_day day (map event_of list.now)) }
+    ensures value { result
+        ≡ after_all column cell (events_in column bar_day day (map event_of list.now)) }
     ensures cell { IsCell result }
-    ensures cost { steps.new ≡ steps.old + length (events_in column bar_day day (map event_of list.now)) }
+    ensures cost { steps.new
+        ≡ steps.old + length (events_in column bar_day day (map event_of list.now)) }
 {
     let mut seen = cell;
     for adjust in between(list, bar_day, day) {
@@ -34,7 +38,8 @@ pub fn seen_now<L: Ledger>(
 // The cell after an adjustment, which may leave the column as it is.
 fn adjusted<L: Ledger>(cell: i64, adjust: &Adjust, column: Column, steps: &mut Steps<L>) -> i64
     requires { IsCell cell }
-    ensures value { result ≡ (if acts_on column adjust.now.kind then after column cell (event_of adjust.now) else cell) }
+    ensures value { result ≡ (if acts_on column adjust.now.kind
+        then after column cell (event_of adjust.now) else cell) }
     ensures cell { IsCell result }
     ensures cost { steps.new ≡ steps.old + (if acts_on column adjust.now.kind then 1 else 0) }
 {

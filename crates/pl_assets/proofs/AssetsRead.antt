@@ -6,7 +6,7 @@ use Rattle.std.proofs.lemmas.List.Elements.{All-append}
 use Rattle.std.proofs.lemmas.List.Sorted.{All-permutation}
 use Rattle.std.specs.Int.RustNames.{int_lt}
 use Rattle.std.specs.HashSet.{HashSet, contains}
-use Rattle.pl_spec.specs.Reading.{Record, Fault, field, ◌>>=◌, rows_of}
+use Rattle.pl_spec.specs.Reading.{Record, Fault, field, ◌>>=◌}
 use Rattle.pl_spec.specs.Sorted.{sorted_by, HasOwnKeys}
 use Rattle.pl_spec.specs.Dates.{date_in}
 use Rattle.pl_spec.specs.Decimals.{sid_in}
