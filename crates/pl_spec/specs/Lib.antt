@@ -21,3 +21,4 @@ pub mod Agree
 pub mod Reading
 pub mod Sorted
 pub mod Laws
+pub mod DateLaws

@@ -1,6 +1,7 @@
 ghost use Rattle.pl_spec.specs.Laws.{ValuesAgree, RoundingIsExact, BufferSteps, TablesAgree, TermsAreDistinct, OrderIsOne, RootIsGreatest, UsedAreListed, RawWithoutEvents, WindowOfOne, OpenMasksChangeNothing, TablesConcatenate};
 ghost use Rattle.pl_spec.specs.NodeValue.{NodesUnfold};
 ghost use Rattle.pl_spec.specs.Reaching.{ReachIsEnough};
+ghost use Rattle.pl_spec.specs.DateLaws.{DatesAreRead};
 
 /// The rounded quotient is the one nearest number.
 pub fn rounding_is_exact()
@@ -70,4 +71,7 @@ pub fn reach_is_enough()
 /// A range that is run in pieces gives the rows of the whole.
 pub fn tables_concatenate()
     ensures { TablesConcatenate }
+/// A text is read as a day exactly where it is the date of that day.
+pub fn dates_are_read()
+    ensures { DatesAreRead }
 {}

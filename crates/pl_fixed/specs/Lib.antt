@@ -1,0 +1,4 @@
+-- What the contracts of this crate cite beside the definitions of pl_spec.
+pub mod Reading
+pub mod Pairs
+pub mod Ratios

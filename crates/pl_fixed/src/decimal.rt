@@ -1,0 +1,168 @@
+ghost use Rattle.std.specs.Prelude.{◌≡◌, ◌≢◌, ◌↔◌, ◌<◌, ◌≤◌, ◌+◌, ◌*◌, ◌^◌, ℤ, pos, int_lt, unsigned_abs, [], ◌++◌, length, take};
+ghost use Rattle.std.specs.Str.Parse.{AllDigits};
+ghost use Rattle.std.specs.Fmt.{sign_text};
+ghost use Rattle.pl_spec.specs.Rounding.{MILLION, LIMIT, IsCell, div_round};
+ghost use Rattle.pl_spec.specs.Decimals.{Decimal, IsDecimal, IsTooLong, IsTooLarge, IsReadAs, signed, cell_text, units_text};
+ghost use Rattle.pl_fixed.specs.Reading.{read, unsigned_read, fraction_read, judged, in_range};
+
+use crate::cell::{LIM, MISSING, UNIT};
+use crate::digits::{
+    MOST_VALUE, count_digits, is_numeral, put, put_decimal, put_digits, value_up_to,
+};
+use crate::rounding::div_round;
+
+/// Why bytes are no decimal of a cell. The faults are tested in this order.
+#[derive(Clone, Copy, Debug, PartialEq, Eq)]
+pub enum DecimalFault {
+    /// There are no bytes.
+    Empty,
+    /// They are no optional `-`, digits, and optionally a point and digits.
+    Shape,
+    /// More than 18 digits stand behind the point.
+    TooManyDigits,
+    /// The rounded value is outside `-LIM` to `LIM`.
+    TooLarge,
+}
+
+// As many units as no cell holds: more of them count as these.
+const MOST_UNITS: u64 = 1_000_000_000_000;
+
+/// The cell that the bytes write in decimal, rounded once to millionths, ties away from zero. Zeros in front are read.
+pub fn read_decimal(b: &[u8]) -> Result<i64, DecimalFault>
+    ensures exact { result ≡ read b.now }
+    ensures value { (v : ℤ) → (result ≡ Ok v) ↔ ((d : Decimal) × IsDecimal d b.now × IsReadAs d v) }
+
+    ensures empty { (result ≡ Err DecimalFault.Empty) ↔ (b.now ≡ []) }
+    ensures shape { (result ≡ Err DecimalFault.Shape)
+        ↔ ((b.now ≢ []) × ((d : Decimal) → ¬ (IsDecimal d b.now))) }
+    ensures too_many_digits { (result ≡ Err DecimalFault.TooManyDigits)
+        ↔ ((d : Decimal) × IsDecimal d b.now × IsTooLong d) }
+    ensures too_large { (result ≡ Err DecimalFault.TooLarge)
+        ↔ ((d : Decimal) × IsDecimal d b.now × IsTooLarge d) }
+{
+    read_bytes(b)
+}
+
+#[tactic(auto, unfolding(crate::specs::Reading::read))]
+fn read_bytes(b: &[u8]) -> Result<i64, DecimalFault>
+    ensures { result ≡ read b.now }
+{
+    match b {
+        [] => Err(DecimalFault::Empty),
+        [b'-', unsigned @ ..] => read_unsigned(true, unsigned),
+        _ => read_unsigned(false, b),
+    }
+}
+
+#[tactic(auto, unfolding(crate::specs::Reading::unsigned_read))]
+fn read_unsigned(negative: bool, b: &[u8]) -> Result<i64, DecimalFault>
+    ensures { result ≡ unsigned_read negative b.now }
+{
+    let count = count_digits(b);
+    if count == 0 {
+        return Err(DecimalFault::Shape);
+    }
+    read_fraction(negative, &b[..count], &b[count..])
+}
+
+#[tactic(auto, unfolding(crate::specs::Reading::fraction_read))]
+fn read_fraction(negative: bool, whole: &[u8], rest: &[u8]) -> Result<i64, DecimalFault>
+    requires { AllDigits 10 whole.now }
+    ensures { result ≡ fraction_read negative whole.now rest.now }
+{
+    match rest {
+        [] => judge(negative, whole, rest),
+        [b'.', fraction @ ..] if is_numeral(fraction) => judge(negative, whole, fraction),
+        _ => Err(DecimalFault::Shape),
+    }
+}
+
+#[tactic(auto, unfolding(crate::specs::Reading::judged))]
+fn judge(negative: bool, whole: &[u8], fraction: &[u8]) -> Result<i64, DecimalFault>
+    requires whole_digits { AllDigits 10 whole.now }
+    requires fraction_digits { AllDigits 10 fraction.now }
+    ensures { result
+        ≡ judged (record { negative = negative; whole = whole.now; fraction = fraction.now }) }
+{
+    if fraction.len() > 18 {
+        return Err(DecimalFault::TooManyDigits);
+    }
+    in_range(millionths(
+        negative,
+        value_up_to(MOST_UNITS, whole),
+        value_up_to(MOST_VALUE, fraction),
+        power_of_ten(fraction.len()),
+    ))
+}
+
+#[tactic(auto, unfolding(crate::specs::Reading::in_range))]
+fn in_range(millionths: i128) -> Result<i64, DecimalFault>
+    ensures { result ≡ in_range millionths }
+{
+    if millionths.unsigned_abs() > LIM as u128 {
+        Err(DecimalFault::TooLarge)
+    } else {
+        Ok(millionths as i64)
+    }
+}
+
+fn power_of_ten(exponent: usize) -> u64
+    requires { exponent ≤ 18 }
+    ensures value { result ≡ 10 ^ exponent }
+    ensures bound { result ≤ MOST_VALUE }
+    ensures positive { 0 < result }
+{
+    10u64.pow(exponent as u32)
+}
+
+// The millionths of `units` and `part` of `scale` parts of a unit, rounded once.
+fn millionths(negative: bool, units: u64, part: u64, scale: u64) -> i128
+    requires units { units ≤ MOST_UNITS }
+    requires part { part ≤ MOST_VALUE }
+    requires positive { 0 < scale }
+    requires scale { scale ≤ MOST_VALUE }
+    ensures { result ≡ div_round (signed negative ((units * scale + part) * MILLION)) scale }
+{
+    let magnitude = (units as u128 * scale as u128 + part as u128) * UNIT as u128;
+    if negative {
+        div_round(-(magnitude as i128), scale as i128)
+    } else {
+        div_round(magnitude as i128, scale as i128)
+    }
+}
+
+/// Writes the text of a cell at the front of `out`, with exactly six digits behind the point and no zeros in front,
+/// and gives its length: 0 for `MISSING`. `read_decimal` reads the text of any other cell as that cell.
+#[tactic(auto, unfolding(pl_spec::specs::Decimals::cell_text))]
+pub fn write_decimal(cell: i64, out: &mut [u8; 32]) -> usize
+    requires { IsCell cell }
+    ensures text { take result out.new ≡ cell_text cell }
+    ensures reads_back { cell ≢ MISSING
+        → (d : Decimal) × IsDecimal d (take result out.new) × IsReadAs d cell }
+{
+    if cell == MISSING {
+        0
+    } else {
+        write_present(cell, out)
+    }
+}
+
+fn write_present(cell: i64, out: &mut [u8]) -> usize
+    requires room { 32 ≤ length out.old }
+    requires small { unsigned_abs cell ≤ LIMIT }
+    ensures { take result out.new ≡ sign_text (int_lt cell (pos 0)) ++ units_text (unsigned_abs cell) }
+{
+    let magnitude = cell.unsigned_abs();
+    let sign_end = put_sign(cell < 0, out, 0);
+    let whole_end = put_decimal(magnitude / UNIT as u64, out, sign_end);
+    let point_end = put(b'.', out, whole_end);
+    put_digits(magnitude % UNIT as u64, 6, out, point_end)
+}
+
+fn put_sign(negative: bool, out: &mut [u8], at: usize) -> usize
+    requires { at < length out.old }
+    ensures end { result ≡ at + length (sign_text negative) }
+    ensures text { take result out.new ≡ take at out.old ++ sign_text negative }
+{
+    if negative { put(b'-', out, at) } else { at }
+}

@@ -1,0 +1,27 @@
+//! Fixed-point numbers: cells of millionths with exact arithmetic, ratios, the texts of cells, days and sids, and the
+//! counter of steps. No call takes memory.
+#![tactic(auto)]
+
+mod cell;
+mod day;
+mod decimal;
+mod digits;
+mod ratio;
+mod rounding;
+mod sid;
+mod steps;
+#[cfg(test)]
+mod tests;
+
+pub use cell::{LIM, MISSING, add, div, is_cell, mul, neg, quot, sub, to_cell};
+pub use day::{read_day, write_day};
+pub use decimal::{DecimalFault, read_decimal, write_decimal};
+pub use pl_spec::Column;
+pub use ratio::Ratio;
+pub use rounding::{div_round, isqrt};
+pub use sid::read_sid;
+pub use steps::Steps;
+
+/// Want of memory, where it is the only refusal.
+#[derive(Clone, Copy, Debug, PartialEq, Eq)]
+pub struct Memory;
