@@ -71,6 +71,8 @@ pub fn reach_is_enough()
 /// A range that is run in pieces gives the rows of the whole.
 pub fn tables_concatenate()
     ensures { TablesConcatenate }
+{}
+
 /// A text is read as a day exactly where it is the date of that day.
 pub fn dates_are_read()
     ensures { DatesAreRead }
