@@ -65,9 +65,12 @@ passed y m d n t =
     let t0 : nat_le 1900 y ≡ true = g.0 in let t1 : nat_le y 2199 ≡ true = g.1 in let t2 : nat_le 1 m ≡ true = f.1 in
     let t3 : nat_le m 12 ≡ true = e.1 in let t4 : nat_le 1 d ≡ true = b.1 in let t5 : nat_le d n ≡ true = a.1 in
     record {
-      early = grind (arith, nat_tests); late = grind (arith, nat_tests);
-      month_from = grind (arith, nat_tests); month_to = grind (arith, nat_tests);
-      day_from = grind (arith, nat_tests); day_to = grind (arith, nat_tests);
+      early = grind (arith, nat_tests);
+      late = grind (arith, nat_tests);
+      month_from = grind (arith, nat_tests);
+      month_to = grind (arith, nat_tests);
+      day_from = grind (arith, nat_tests);
+      day_to = grind (arith, nat_tests);
     }
 
 IsDate-day_if : (y m d : ℕ) (text : List ℕ) (day : ℤ) → day_if y m d text ≡ Some day → IsDate text day
@@ -77,7 +80,11 @@ IsDate-day_if y m d text day e =
     let q = and_parts _ _ p.0 in
     let t : Passed y m d (days_in_month (pos y) m) = passed y m d (days_in_month (pos y) m) q.0 in
     record {
-      year = y; month = m; date = d; early = t.early; late = t.late;
+      year = y;
+      month = m;
+      date = d;
+      early = t.early;
+      late = t.late;
       civil = ((omega (arith, ints, t.late), omega (arith, ints, t.late)), (t.month_from, t.month_to), (t.day_from, t.day_to));
       spelled = (bytes_eq-Decides text (date_spelling y m d)).0 q.1;
       counted = sym p.1;

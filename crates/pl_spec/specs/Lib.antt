@@ -3,6 +3,7 @@ pub mod Rounding
 pub mod Dates
 pub mod Decimals
 pub mod World
+pub mod Lookups
 pub mod Order
 pub mod Window
 pub mod Kind
@@ -21,4 +22,5 @@ pub mod Agree
 pub mod Reading
 pub mod Sorted
 pub mod Laws
+pub mod ListLaws
 pub mod DateLaws

@@ -1,6 +1,7 @@
 ghost use Rattle.pl_spec.specs.Laws.{ValuesAgree, RoundingIsExact, BufferSteps, TablesAgree, TermsAreDistinct, OrderIsOne, RootIsGreatest, UsedAreListed, RawWithoutEvents, WindowOfOne, OpenMasksChangeNothing, TablesConcatenate};
 ghost use Rattle.pl_spec.specs.NodeValue.{NodesUnfold};
 ghost use Rattle.pl_spec.specs.Reaching.{ReachIsEnough};
+ghost use Rattle.pl_spec.specs.Lookups.{BarsAreFound, LabelsAreFound};
 ghost use Rattle.pl_spec.specs.DateLaws.{DatesAreRead};
 
 /// The rounded quotient is the one nearest number.
@@ -71,6 +72,16 @@ pub fn reach_is_enough()
 /// A range that is run in pieces gives the rows of the whole.
 pub fn tables_concatenate()
     ensures { TablesConcatenate }
+{}
+
+/// The raw cell of an asset and session is that of its bar.
+pub fn bars_are_found()
+    ensures { BarsAreFound }
+{}
+
+/// The label of an asset is that of the row that started last.
+pub fn labels_are_found()
+    ensures { LabelsAreFound }
 {}
 
 /// A text is read as a day exactly where it is the date of that day.

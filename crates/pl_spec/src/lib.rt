@@ -6,6 +6,7 @@
 #![tactic(auto)]
 
 pub mod laws;
+pub mod list_laws;
 
 /// A column of daily bars. Prices are millionths of a unit of money, volumes millionths of a share.
 #[derive(Clone, Copy, Debug, PartialEq, Eq)]
