@@ -1,0 +1,5 @@
+pub mod Longest
+pub mod Numbers
+pub mod Bad
+pub mod Reading
+pub mod Steps
