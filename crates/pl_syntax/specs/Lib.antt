@@ -1,0 +1,9 @@
+pub mod Rows
+pub mod Plain
+pub mod Frames
+pub mod Statements
+pub mod Open
+pub mod Stages
+pub mod Spells
+pub mod Scripts
+pub mod Parsing

@@ -1,0 +1,86 @@
+// A script, as it was read.
+ghost use Rattle.std.specs.Prelude.{◌≡◌};
+ghost use Rattle.pl_syntax.specs.Statements.{statement_of, head_of};
+ghost use Rattle.pl_syntax.specs.Plain.{plain};
+
+use crate::tree::Expr;
+use pl_grammar::Place;
+use pl_tokens::Word;
+
+/// A statement. Its place is that of its NAME, or of `screen`.
+#[derive(Drop, Debug)]
+pub enum Statement {
+    Let {
+        place: Place,
+        name: Word,
+        expr: Expr,
+    },
+    Column {
+        place: Place,
+        name: Word,
+        expr: Expr,
+    },
+    Screen {
+        place: Place,
+        expr: Expr,
+    },
+}
+
+/// What a pipeline file says: its version, and its statements in order.
+#[derive(Drop, Debug)]
+pub struct Script {
+    statements: Vec<Statement>,
+    end: Place,
+}
+
+impl Script {
+    ghost use Rattle.pl_syntax.specs.Scripts.{statements_in, end_in};
+
+    /// The script of these statements, whose file ends at `end`.
+    pub(crate) fn new(statements: Vec<Statement>, end: Place) -> Script
+        ensures statements { statements_in result ≡ statements.items }
+        ensures end { end_in result ≡ end }
+    {
+        Script { statements, end }
+    }
+
+    /// The version of the language that the file names, which is 1.
+    pub fn version(&self) -> u32
+        ensures { result ≡ 1 }
+    {
+        1
+    }
+
+    /// Lends the statements, in the order of the file.
+    pub fn statements(&self) -> &[Statement]
+        ensures { result.now ≡ statements_in self.now }
+    {
+        self.statements.as_slice()
+    }
+
+    /// The end of the file, just past its last byte.
+    pub fn end(&self) -> Place
+        ensures { result ≡ end_in self.now }
+    {
+        self.end
+    }
+}
+
+/// How a statement begins.
+#[derive(Drop)]
+pub(crate) enum Head {
+    Let { place: Place, name: Word },
+    Column { place: Place, name: Word },
+    Screen { place: Place },
+}
+
+/// The statement with its expression.
+pub(crate) fn stated(head: Head, expr: Expr) -> Statement
+    ensures { statement_of result ≡ record { head = head_of head; tree = plain expr } }
+{
+    match head {
+        Head::Let { place, name } => Statement::Let { place, name, expr },
+        Head::Column { place, name } => Statement::Column { place, name, expr },
+        Head::Screen { place } => Statement::Screen { place, expr },
+    }
+}
