@@ -55,7 +55,7 @@ some_place : (b : Bool) (n d : ℕ) → n ≤ d → placed_depth b n ≤ suc d
 some_place true n d h = omega (arith, h)
 some_place false n d h = omega (arith, h)
 
-least_place : (b : Bool) (n : ℕ) → n ≤ placed_depth b n
+pub least_place : (b : Bool) (n : ℕ) → n ≤ placed_depth b n
 least_place true n = omega arith
 least_place false n = omega arith
 

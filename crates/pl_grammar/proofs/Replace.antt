@@ -6,14 +6,14 @@ use Rattle.pl_grammar.specs.Grammar.{Derives, a_number, a_text, a_name, a_call, 
 use Rattle.pl_grammar.specs.Printed.{nowhere}
 use Rattle.pl_grammar.specs.Places.{SameTokens, same_none, same_next, bare as bared, bare_args}
 
-record Cut (xs ys us : List Lexeme) : Type 0 where
-  front : List Lexeme
-  back : List Lexeme
-  whole : us ≡ front ++ back
-  front_same : SameTokens xs front
-  back_same : SameTokens ys back
+pub record Cut (xs ys us : List Lexeme) : Type 0 where
+  pub front : List Lexeme
+  pub back : List Lexeme
+  pub whole : us ≡ front ++ back
+  pub front_same : SameTokens xs front
+  pub back_same : SameTokens ys back
 
-cut : (xs ys us : List Lexeme) → SameTokens (xs ++ ys) us → Cut xs ys us
+pub cut : (xs ys us : List Lexeme) → SameTokens (xs ++ ys) us → Cut xs ys us
 cut [] ys us h = record { front = []; back = us; whole = refl; front_same = same_none; back_same = h }
 cut (mark p t ∷ xs) ys _ (same_next {us = us} q h) =
     let c = cut xs ys us h in
@@ -35,13 +35,13 @@ cut_last xs p t us h =
     of_back fs _ e f (same_next q same_none) = record { front = fs; place = q; whole = e; front_same = f }
 
 -- a first token
-record Next (t : Token) (xs us : List Lexeme) : Type 0 where
-  place : Place
-  rest : List Lexeme
-  whole : us ≡ mark place t ∷ rest
-  same : SameTokens xs rest
+pub record Next (t : Token) (xs us : List Lexeme) : Type 0 where
+  pub place : Place
+  pub rest : List Lexeme
+  pub whole : us ≡ mark place t ∷ rest
+  pub same : SameTokens xs rest
 
-next_of : {p : Place} {t : Token} {xs us : List Lexeme} → SameTokens (mark p t ∷ xs) us → Next t xs us
+pub next_of : {p : Place} {t : Token} {xs us : List Lexeme} → SameTokens (mark p t ∷ xs) us → Next t xs us
 next_of (same_next {us = us} q h) = record { place = q; rest = us; whole = refl; same = h }
 
 nothing_of : {us : List Lexeme} → SameTokens [] us → us ≡ []

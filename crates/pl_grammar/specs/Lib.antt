@@ -2,8 +2,8 @@ pub mod Tree
 pub mod Grammar
 pub mod Machine
 pub mod Script
-pub mod Literal
 pub mod Printed
 pub mod Places
 pub mod Faults
+pub mod Whole
 pub mod Laws

@@ -1,2 +1,4 @@
 pub mod Pushed
 pub mod Verdicts
+pub mod Arguments
+pub mod Lines

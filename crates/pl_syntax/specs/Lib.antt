@@ -7,3 +7,4 @@ pub mod Stages
 pub mod Spells
 pub mod Scripts
 pub mod Parsing
+pub mod Canonical

@@ -14,6 +14,7 @@ mod stage;
 #[cfg(test)]
 mod tests;
 mod tree;
+mod writer;
 
 pub use pl_grammar::{BinarySign, Place, PrefixSign};
 pub use pl_tokens::Word;
@@ -21,3 +22,4 @@ pub use error::SyntaxError;
 pub use parser::{MOST_BYTES, one_script_spelled, parse};
 pub use script::{Script, Statement};
 pub use tree::{Arg, ArgList, Expr, ExprNode};
+pub use writer::print;

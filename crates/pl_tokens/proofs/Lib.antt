@@ -3,3 +3,5 @@ pub mod Numbers
 pub mod Bad
 pub mod Reading
 pub mod Steps
+pub mod Written
+pub mod Shows

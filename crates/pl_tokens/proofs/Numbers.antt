@@ -37,11 +37,11 @@ all_digits (c ∷ cs) h = let p = both (is_digit c) (list_all is_digit cs) h in 
 abbrev pub decimal_of : ℕ → List ℕ → Decimal
 decimal_of whole xs = record { negative = false; whole = take whole xs; fraction = drop (whole + 1) xs }
 
-past : (xs : List ℕ) → drop (length xs + 1) xs ≡ []
+pub past : (xs : List ℕ) → drop (length xs + 1) xs ≡ []
 past [] = refl
 past (x ∷ xs) = ap (λ n. drop n (x ∷ xs)) (let e : suc (length xs) + 1 ≡ suc (length xs + 1) = omega arith in e) ∙ past xs
 
-behind : (xs ys : List ℕ) (b : ℕ) → drop (length xs + 1) (xs ++ (b ∷ ys)) ≡ ys
+pub behind : (xs ys : List ℕ) (b : ℕ) → drop (length xs + 1) (xs ++ (b ∷ ys)) ≡ ys
 behind [] ys b = refl
 behind (x ∷ xs) ys b = ap (λ n. drop n (x ∷ (xs ++ (b ∷ ys)))) (let e : suc (length xs) + 1 ≡ suc (length xs + 1) = omega arith in e) ∙ behind xs ys b
 

@@ -4,3 +4,5 @@ pub mod Front
 pub mod Text
 pub mod Laws
 pub mod Code
+pub mod Numerals
+pub mod Sound
