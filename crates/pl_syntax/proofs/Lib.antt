@@ -2,3 +2,4 @@ pub mod Pushed
 pub mod Verdicts
 pub mod Arguments
 pub mod Lines
+pub mod Shown

@@ -27,8 +27,8 @@ use Rattle.pl_grammar.specs.Places.{SameTokens, same_none, same_next}
 use Rattle.pl_grammar.specs.Faults.{AtEnd}
 use Rattle.pl_tokens.specs.declared.front.Form.{Form}
 use Rattle.pl_tokens.specs.declared.front.Form.TheVariants.{Number}
-use Rattle.pl_tokens.specs.Bytes.{is_digit, starts_word, is_word_byte, is_text_byte, may_pair, is_sign, is_blank, Stops}
-use Rattle.pl_tokens.specs.Tokens.{Front, a_word, a_whole, a_decimal, a_text, a_pair, a_sign, NoDecimals, token_in, word_token, one_token, decimal_token}
+use Rattle.pl_tokens.specs.Bytes.{is_digit, starts_word, is_word_byte, is_text_byte, may_pair, pairs, is_sign, is_blank, Stops}
+use Rattle.pl_tokens.specs.Tokens.{Front, a_word, a_whole, a_decimal, a_text, a_pair, a_sign, NoDecimals, token_in, word_token, one_token, two_token, decimal_token}
 use Rattle.pl_tokens.specs.Sound.{is_keyword, is_name, is_number}
 use Rattle.pl_tokens.specs.Numerals.{is_zero, trimmed, fraction_of, number_text}
 use Rattle.pl_tokens.specs.Text.{after, Read, at_text_end, a_blank, a_token}
@@ -221,3 +221,15 @@ number_shows (pos n) rest us p h s k =
     plus_zero : (a : ℕ) → a + 0 ≡ a
     plus_zero a = omega arith
 number_shows (negsuc n) rest us p h s k = cc
+
+pub pair_shows : (c : ℕ) (rest : List ℕ) (us : List Lexeme) (p : Place) → pairs c ≡ true → Shows rest us → Shows (c ∷ (61 ∷ rest)) (mark p (two_token c) ∷ us)
+pair_shows c rest us p h k = token_shows (c ∷ (61 ∷ [])) rest _ us p (two_token c) (a_pair c h) refl k
+
+-- a keyword
+pub word_shows : (c : ℕ) (cs rest : List ℕ) (us : List Lexeme) (p : Place) (x : Token) → starts_word c ≡ true → list_all is_word_byte cs ≡ true → length cs < 32 → Stops is_word_byte rest → word_token (c ∷ cs) ≡ x → Shows rest us → Shows ((c ∷ cs) ++ rest) (mark p x ∷ us)
+word_shows c cs rest us p x h all few s e k = token_shows (c ∷ cs) rest _ us p x (a_word c cs h all s few) e k
+
+-- the version
+pub one_shows : (rest : List ℕ) (us : List Lexeme) (p : Place) → NoDecimals rest → Shows rest us → Shows (49 ∷ rest) (mark p (t.Number (pos 1000000)) ∷ us)
+unfolding div_round
+one_shows rest us p s k = token_shows (49 ∷ []) rest (Number 1 0) us p (t.Number (pos 1000000)) (a_whole 49 [] refl refl s) refl k
