@@ -3,3 +3,4 @@ pub mod Verdicts
 pub mod Arguments
 pub mod Lines
 pub mod Shown
+pub mod Printing

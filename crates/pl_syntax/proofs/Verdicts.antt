@@ -8,9 +8,13 @@ use Rattle.pl_grammar.specs.Script.{script_step}
 use Rattle.pl_grammar.specs.Faults as f
 use Rattle.pl_grammar.specs.Faults.{Kind, Tail, AtEnd, AtBad, Verdict, Good, Fault, place_of, too_large, counted, most_tokens, most_depth, Spelled, IsFirst, step_verdict, finish_verdict, verdict}
 use Rattle.pl_grammar.proofs.ScriptRead.{one_script}
+use Rattle.pl_grammar.specs.Whole.{are_sound}
+use Rattle.pl_grammar.proofs.Scripts.{script_sound}
 use Rattle.pl_grammar.proofs.First.{Right, right_of, spelled_only, first_only}
 use Rattle.pl_tokens.specs.Text.{start, Read}
 use Rattle.pl_tokens.specs.Code.{Begins}
+use Rattle.pl_tokens.specs.Sound.{is_written}
+use Rattle.pl_tokens.proofs.Written.{read_written}
 use Rattle.pl_tokens.proofs.Reading.{one_way, is_read}
 use Rattle.pl_syntax.specs.Spells.{Parsed, Spells, FirstFault}
 use Rattle.pl_syntax.specs.Statements.{statements_of}
@@ -180,3 +184,12 @@ at_end bytes bs p q n s r goes x h = let c = goes [] (AtEnd q) x in record { tok
 
 pub out_of_memory : (bytes : List ℕ) (r : Result Script SyntaxError) → r ≡ Err Memory → Outcome bytes r
 out_of_memory bytes r e = let y = is_read start bytes in subst (λ z. Outcome bytes z) (sym e) (record { tokens = y.tokens; tail = y.tail; reads = y.reads; gives = tt })
+
+-- what ends is sound
+pub end_sound : (bytes bs : List ℕ) (p q : Place) (n : ℕ) (s : g.Stage) → Goes bytes p bs n s → Read p bs [] (AtEnd q) → (ss : List g.Statement) → g.script_finish s ≡ Some ss → are_sound is_written ss ≡ true
+unfolding verdict
+end_sound bytes bs p q n s goes x ss e =
+    let c = goes [] (AtEnd q) x in
+    let good : verdict 0 g.Opening c.tokens (AtEnd q) ≡ Good ss = c.same ∙ ap (λ o. finish_verdict o q) e in
+    let y : Spelled c.tokens (AtEnd q) ss = subst (λ v. Right v c.tokens (AtEnd q)) good (right_of c.tokens (AtEnd q)) in
+    script_sound is_written y.derives y.short (read_written c.reads)

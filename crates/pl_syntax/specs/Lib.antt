@@ -8,3 +8,4 @@ pub mod Spells
 pub mod Scripts
 pub mod Parsing
 pub mod Canonical
+pub mod Laws

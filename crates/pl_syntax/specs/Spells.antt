@@ -3,6 +3,7 @@ use Rattle.std.specs.Prelude.{ℕ, ◌≡◌, List}
 use Rattle.pl_grammar.specs.declared.Place.{Place}
 use Rattle.pl_grammar.specs.Tree.{Lexeme}
 use Rattle.pl_grammar.specs.Script.{Statement, Script}
+use Rattle.pl_grammar.specs.Whole.{bare_script}
 use Rattle.pl_grammar.specs.Faults.{Tail, AtEnd, Kind, IsShort, IsFirst, most_depth}
 use Rattle.pl_tokens.specs.Text.{start, Read}
 
@@ -25,6 +26,17 @@ pub record FirstFault (bytes : List ℕ) (kind : Kind) (place : Place) : Type 0 
   pub tail : Tail
   pub reads : Read start bytes tokens tail
   pub first : IsFirst tokens tail kind place
+
+-- the same script, places aside
+abbrev pub SameScript : Parsed → Parsed → Type 0
+SameScript a b = bare_script a.statements ≡ bare_script b.statements
+
+-- The bytes spell the script again: they spell a script that is the same but for its places, and no other.
+pub record SpellsAgain (bytes : List ℕ) (s : Parsed) : Type 0 where
+  pub script : Parsed
+  pub spells : Spells bytes script
+  pub same : SameScript script s
+  pub only : (x : Parsed) → Spells bytes x → SameScript x s
 
 -- no bytes spell two scripts
 abbrev pub OneScriptSpelled : Type 0

@@ -22,4 +22,4 @@ pub use error::SyntaxError;
 pub use parser::{MOST_BYTES, one_script_spelled, parse};
 pub use script::{Script, Statement};
 pub use tree::{Arg, ArgList, Expr, ExprNode};
-pub use writer::print;
+pub use writer::{print, scripts_are_spelled};

@@ -1,14 +1,17 @@
 // From bytes to a script.
-ghost use Rattle.std.specs.Prelude.{◌≡◌, ◌≤◌, ◌<◌, ◌↔◌, Err, length, IfOk, IfErr};
+ghost use Rattle.std.specs.Prelude.{◌≡◌, ◌≤◌, ◌<◌, ◌↔◌, Err, List, Some, true, length, IfOk, IfErr};
 ghost use Rattle.pl_grammar.specs.Tree.{mark};
 ghost use Rattle.pl_grammar.specs.Script.{script_finish};
+ghost use Rattle.pl_grammar.specs.Script as g;
+ghost use Rattle.pl_grammar.specs.Whole.{are_sound};
+ghost use Rattle.pl_tokens.specs.Sound.{is_written};
 ghost use Rattle.pl_grammar.specs.Faults.{Kind, counted};
 ghost use Rattle.pl_tokens.specs.Code.{token_of};
 ghost use Rattle.pl_syntax.specs.Spells.{Parsed, Spells, FirstFault, OneScriptSpelled};
 ghost use Rattle.pl_syntax.specs.Scripts.{parsed};
 ghost use Rattle.pl_syntax.specs.Stages.{stage_of};
 ghost use Rattle.pl_syntax.specs.Parsing.{token_step, Steps, Ends, Outcome, IsCause, AnswersFault, AnswersScript};
-ghost use Rattle.pl_grammar.specs.declared.Place as g;
+ghost use Rattle.pl_grammar.specs.declared.Place as p;
 
 use crate::error::SyntaxError;
 use crate::machine::MoveError;
@@ -58,6 +61,7 @@ fn step(
 
 /// The end of the file.
 fn finish(progress: Progress, end: Place) -> Result<Script, SyntaxError>
+    requires { (ss : List g.Statement) → script_finish (stage_of progress.stage) ≡ Some ss → are_sound is_written ss ≡ true }
     ensures { Ends result (script_finish (stage_of progress.stage)) end }
 {
     let stage = progress.stage;
@@ -101,7 +105,7 @@ pub fn parse(alloc: Global, bytes: &[u8]) -> Result<Script, SyntaxError>
     // Each fault comes where it is the first, and what is the first is answered.
     ensures too_long { (result ≡ Err SyntaxError.TooLong) ↔ (MOST_BYTES < length bytes.now) }
     ensures cause { IfErr result (IsCause bytes.now) }
-    ensures fault { (kind : Kind) (place : g.Place) → length bytes.now ≤ MOST_BYTES → FirstFault bytes.now kind place → AnswersFault result kind place }
+    ensures fault { (kind : Kind) (place : p.Place) → length bytes.now ≤ MOST_BYTES → FirstFault bytes.now kind place → AnswersFault result kind place }
 {
     if bytes.len() > MOST_BYTES {
         return Err(SyntaxError::TooLong);

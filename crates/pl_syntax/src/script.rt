@@ -1,6 +1,8 @@
 // A script, as it was read.
-ghost use Rattle.std.specs.Prelude.{◌≡◌};
-ghost use Rattle.pl_syntax.specs.Statements.{statement_of, head_of};
+ghost use Rattle.std.specs.Prelude.{◌≡◌, IsTrue};
+ghost use Rattle.pl_grammar.specs.Whole.{are_sound};
+ghost use Rattle.pl_tokens.specs.Sound.{is_written};
+ghost use Rattle.pl_syntax.specs.Statements.{statement_of, statements_of, head_of};
 ghost use Rattle.pl_syntax.specs.Plain.{plain};
 
 use crate::tree::Expr;
@@ -26,11 +28,14 @@ pub enum Statement {
     },
 }
 
-/// What a pipeline file says: its version, and its statements in order.
+/// What a pipeline file says: its version, and its statements in order. Each can be written: its names, strings and
+/// numbers are those of tokens, its canonical text has at most 1,024 tokens, and opens at most 32 constructs inside one
+/// another.
 #[derive(Drop, Debug)]
 pub struct Script {
     statements: Vec<Statement>,
     end: Place,
+    ghost sound: { IsTrue (are_sound is_written (statements_of statements.items)) },
 }
 
 impl Script {
@@ -38,6 +43,7 @@ impl Script {
 
     /// The script of these statements, whose file ends at `end`.
     pub(crate) fn new(statements: Vec<Statement>, end: Place) -> Script
+        requires { IsTrue (are_sound is_written (statements_of statements.items)) }
         ensures statements { statements_in result ≡ statements.items }
         ensures end { end_in result ≡ end }
     {
@@ -53,7 +59,8 @@ impl Script {
 
     /// Lends the statements, in the order of the file.
     pub fn statements(&self) -> &[Statement]
-        ensures { result.now ≡ statements_in self.now }
+        ensures value { result.now ≡ statements_in self.now }
+        ensures sound { IsTrue (are_sound is_written (statements_of result.now)) }
     {
         self.statements.as_slice()
     }

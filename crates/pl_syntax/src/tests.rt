@@ -99,3 +99,58 @@ fn refuses_long_files(rt: HostRuntime) -> Result<(), Fail> {
     assert_eq!(rt; parse(rt.alloc(), &text).err(), Some(SyntaxError::TooLong));
     Ok(())
 }
+
+// Prints `pipeline 1;`, a line end and these bytes, without the first line.
+fn printed(rt: &HostRuntime, text: &[u8]) -> Result<Vec<u8>, Fail> {
+    let alloc = rt.alloc();
+    let mut bytes = Vec::new(alloc);
+    bytes.extend_from_slice(b"pipeline 1;\n")?;
+    bytes.extend_from_slice(text)?;
+    let script = parse(alloc, &bytes)?;
+    let mut out = Vec::new(alloc);
+    if let Ok(text) = print(alloc, &script) {
+        if let Some(rest) = text.get(12..) {
+            out.extend_from_slice(rest)?;
+        }
+    }
+    Ok(out)
+}
+
+#[test]
+fn prints_the_canonical_text(rt: HostRuntime) -> Result<(), Fail> {
+    for (text, want) in [
+        (
+            b"column x=- (a.rank( ))-(b-(1.50));".as_slice(),
+            b"column x = -a.rank() - (b - 1.5);\n".as_slice(),
+        ),
+        (
+            b"let  m = Returns( close ,252 ) ;\tscreen((m));",
+            b"let m = Returns(close, 252);\nscreen m;\n",
+        ),
+        (
+            b"screen (a|b)&~(c&d)|(~e)&((f<g)==(h>=1));",
+            b"screen (a | b) & ~(c & d) | ~e & (f < g) == (h >= 1);\n",
+        ),
+        (
+            b"column y = (a-b)-c+(d-(e+f))*2/(g*h);",
+            b"column y = a - b - c + (d - (e + f)) * 2 / (g * h);\n",
+        ),
+        (
+            b"column z = (-a).b+-(a.b)-(-(-c));",
+            b"column z = (-a).b + -a.b - --c;\n",
+        ),
+        (
+            b"column z = (1).abs() + (a.b).c(\"x y\" , mask=(d!=e)); # end",
+            b"column z = 1.abs() + a.b.c(\"x y\", mask=d != e);\n",
+        ),
+        (
+            b"column n = f(007.250, 0.0000004, 1.9999995, 0.100000);",
+            b"column n = f(7.25, 0, 2, 0.1);\n",
+        ),
+        (b"", b""),
+    ] {
+        assert_eq!(rt; printed(&rt, text)?.as_slice(), want);
+        assert_eq!(rt; printed(&rt, want)?.as_slice(), want);
+    }
+    Ok(())
+}

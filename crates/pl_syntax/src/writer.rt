@@ -9,7 +9,9 @@ ghost use Rattle.pl_tokens.specs.Numerals.{is_zero, trimmed, number_text};
 ghost use Rattle.pl_syntax.specs.Canonical.{comma_text, prefix_text, binary_text, open_text, close_text, name_text, tree_text, args_text, head_text, statement_text, script_text};
 ghost use Rattle.pl_syntax.specs.Plain.{plain, args_tree};
 ghost use Rattle.pl_syntax.specs.Statements.{statement_of, statements_of};
-ghost use Rattle.pl_syntax.specs.Scripts.{statements_in};
+ghost use Rattle.pl_syntax.specs.Scripts.{statements_in, parsed};
+ghost use Rattle.pl_syntax.specs.Spells.{SpellsAgain};
+ghost use Rattle.pl_syntax.specs.Laws.{ScriptsAreSpelled};
 
 use crate::script::{Script, Statement};
 use crate::stack::{left_level_of, level_of, prefix_level_of, right_level_of};
@@ -280,12 +282,19 @@ fn text_of(alloc: Global, script: &Script) -> Result<Vec<u8>, AllocError>
     Ok(out)
 }
 
-/// The canonical text of a script, one statement a line.
+/// The canonical text of a script, one statement a line: parentheses stand exactly where the levels ask for them. `parse`
+/// reads it as the same script, places aside, where it has at most 262,144 bytes.
 pub fn print(alloc: Global, script: &Script) -> Result<Vec<u8>, Memory>
     ensures text { IfOk result (λ v. v.items ≡ script_text (statements_of (statements_in script.now))) }
+    ensures again { IfOk result (λ v. SpellsAgain v.items (parsed script.now)) }
 {
     match text_of(alloc, script) {
         Ok(text) => Ok(text),
         Err(_) => Err(Memory),
     }
 }
+
+/// Whatever can be written is spelled by its canonical text, so each script is spelled by some bytes.
+pub fn scripts_are_spelled()
+    ensures { ScriptsAreSpelled }
+{}

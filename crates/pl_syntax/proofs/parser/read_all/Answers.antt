@@ -6,7 +6,7 @@ use Rattle.pl_tokens.specs.Text.{start, Read}
 use Rattle.pl_tokens.specs.Code.{token_of, HasRoom, Begins, IsNext}
 use Rattle.pl_syntax.specs.Stages.{stage_of}
 use Rattle.pl_syntax.specs.Parsing.{Outcome}
-use Rattle.pl_syntax.proofs.Verdicts.{Continues, on_token, at_step_fault, at_bad, at_end, out_of_memory}
+use Rattle.pl_syntax.proofs.Verdicts.{Continues, on_token, at_step_fault, at_bad, at_end, end_sound, out_of_memory}
 use Rattle.pl_syntax.proofs.parser.read_all.Goals as goal
 
 pub loop-progress-init : goal.loop-progress-init
@@ -71,3 +71,12 @@ returns-in-End c =
     let rest = c.next.new.self.bytes.now in
     let x : Read p bs [] (AtEnd c.in-End.place) = subst (λ z. IsNext p bs z q rest) c.in-End.is c.in_ok-place.ensures in
     at_end c.args.bytes.now bs p c.in-End.place c.loop-progress.progress.1.0 (stage_of c.loop-progress.progress.0) c.finish.result c.loop-progress.invariant.goes x c.finish.ensures
+
+pub finish-requires : goal.finish-requires
+finish-requires c =
+    let p = c.loop-progress.text.place in
+    let bs = c.loop-progress.text.bytes.now in
+    let q = c.next.new.self.place in
+    let rest = c.next.new.self.bytes.now in
+    let x : Read p bs [] (AtEnd c.in-End.place) = subst (λ z. IsNext p bs z q rest) c.in-End.is c.in_ok-place.ensures in
+    end_sound c.args.bytes.now bs p c.in-End.place c.loop-progress.progress.1.0 (stage_of c.loop-progress.progress.0) c.loop-progress.invariant.goes x

@@ -5,7 +5,7 @@ use Rattle.pl_syntax.proofs.Lines.{begun_lines, more_lines, ended_lines}
 use Rattle.pl_syntax.proofs.writer.text_of.Goals as goal
 
 pub loop-statement-init : goal.loop-statement-init
-loop-statement-init c = begun_lines c.statements-statement-items.result.now (statements_in c.args.script.now) c.new-out.result.items c.put.new.out.items c.statements-statement-items.ensures c.new-out.ensures.items c.in_ok-put.ensures
+loop-statement-init c = begun_lines c.statements-statement-items.result.now (statements_in c.args.script.now) c.new-out.result.items c.put.new.out.items c.statements-statement-items.ensures.value c.new-out.ensures.items c.in_ok-put.ensures
 
 pub loop-statement-preserved : goal.loop-statement-preserved
 loop-statement-preserved c =
