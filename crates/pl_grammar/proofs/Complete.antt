@@ -1,15 +1,13 @@
 -- What the grammar derives, the machine reads.
-use Rattle.std.proofs.Common.{◌≡◌, ℕ, zero, suc, ◌+◌, ◌≤◌, ◌<◌, Bool, true, false, cond, leb, List, [], ◌∷◌, ◌++◌, Option, Some, None, Result, Ok, Err, refl, sym, ap, subst, ◌∙◌, arith, append_assoc}
+use Rattle.std.proofs.Common.{◌≡◌, ℕ, suc, ◌+◌, ◌≤◌, Bool, true, false, leb, List, [], ◌∷◌, ◌++◌, Option, Some, None, Result, Ok, refl, sym, ap, ◌∙◌, arith, append_assoc}
 use Rattle.std.proofs.lemmas.Bool.{le-leb}
 use Rattle.pl_grammar.specs.declared.Place.{Place}
-use Rattle.pl_grammar.specs.declared.PrefixSign.{PrefixSign}
 use Rattle.pl_grammar.specs.declared.BinarySign.{BinarySign}
 use Rattle.pl_grammar.specs.declared.PrefixSign.TheVariants.{Minus, Not}
-use Rattle.pl_grammar.specs.declared.BinarySign.TheVariants.{Sub}
-use Rattle.pl_grammar.specs.Tree.{Token, Name, Number, Text, Operator, Tilde, Dot, Open, Close, Comma, Assign, Semicolon, PipelineWord, LetWord, ColumnWord, ScreenWord, Lexeme, mark, Tree, number, text, name, call, prefix, binary, member, method, Args, no_args, arg, sign_token, prefix_level, level, left_level, right_level}
+use Rattle.pl_grammar.specs.Tree.{Name, Number, Text, Operator, Dot, Open, Close, Comma, Assign, Lexeme, mark, Tree, number, text, name, call, member, method, Args, no_args, arg, sign_token, prefix_level, level, left_level}
 use Rattle.pl_grammar.specs.Grammar.{Derives, a_number, a_text, a_name, a_call, a_group, a_prefix, a_binary, a_member, a_method, ArgsDerive, none, some, OneArg, bare, named, MoreArgs, end, more}
-use Rattle.pl_grammar.specs.Machine.{Frame, Prefixed, Behind, Group, Call, Mode, Wanted, ArgWanted, Named, ArgNamed, Membered, Given, Dotted, State, Closed, Stop, Arg, Callee, function, method_of, operand, is_wanted, callee, args_of, applied, asked, depth, close, closed, at, move, step, then_run, run, allowed, behind, operator_move, dot_move, close_move, comma_move, shut, next_arg}
-use Rattle.pl_grammar.proofs.Levels.{levels, apart, prefix_least, prefix_most, stays, stays_at_dot, run-append, run_on, run_step, allowed_some, cond_true}
+use Rattle.pl_grammar.specs.Machine.{Frame, Prefixed, Behind, Group, Call, Mode, Wanted, ArgWanted, Named, ArgNamed, Membered, Given, Dotted, State, Closed, Stop, Arg, Callee, function, method_of, operand, is_wanted, args_of, applied, asked, depth, close, closed, at, move, run, behind, operator_move, dot_move, close_move, comma_move, shut, next_arg}
+use Rattle.pl_grammar.proofs.Levels.{levels, prefix_most, stays, stays_at_dot, run_on, run_step, allowed_some, cond_true}
 
 -- an operand may begin here: anywhere, or at the beginning of an argument
 abbrev pub start : Bool → Mode

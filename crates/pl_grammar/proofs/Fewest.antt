@@ -1,9 +1,9 @@
 -- Of all tokens that derive a tree the canonical ones are the fewest, and none of them ends a statement.
-use Rattle.std.proofs.Common.{◌≡◌, ℕ, suc, ◌+◌, ◌≤◌, ◌<◌, Bool, true, false, cond, ◌&&◌, leb, List, [], ◌∷◌, ◌++◌, length, Option, Some, None, refl, sym, ap, ap₂, subst, ◌∙◌, arith, length-append}
+use Rattle.std.proofs.Common.{◌≡◌, ℕ, ◌+◌, ◌≤◌, Bool, true, false, ◌&&◌, leb, List, [], ◌∷◌, ◌++◌, length, Option, refl, sym, ap, ap₂, ◌∙◌, arith, length-append}
 use Rattle.std.proofs.lemmas.Bool.{le-leb}
 use Rattle.pl_grammar.specs.declared.PrefixSign.{PrefixSign}
 use Rattle.pl_grammar.specs.declared.PrefixSign.TheVariants.{Minus, Not}
-use Rattle.pl_grammar.specs.Tree.{Token, Name, Number, LargeNumber, Text, Operator, Tilde, Dot, Open, Close, Comma, Assign, Semicolon, PipelineWord, LetWord, ColumnWord, ScreenWord, Lexeme, mark, Tree, number, text, name, call, prefix, binary, member, method, Args, no_args, arg, sign_token, prefix_level, level, left_level, right_level}
+use Rattle.pl_grammar.specs.Tree.{Token, Name, Number, LargeNumber, Text, Operator, Dot, Open, Close, Comma, Assign, Semicolon, Lexeme, mark, Tree, Args, sign_token, left_level, right_level}
 use Rattle.pl_grammar.specs.Grammar.{Derives, a_number, a_text, a_name, a_call, a_group, a_prefix, a_binary, a_member, a_method, ArgsDerive, none, some, OneArg, bare, named, MoreArgs, end, more}
 use Rattle.pl_grammar.specs.Printed.{here, tree_level, placed, name_tokens, tokens, args_tokens, more_tokens, printed}
 use Rattle.pl_grammar.specs.Whole.{tokens_pass, name_passes, tree_passes, args_pass}
@@ -140,8 +140,16 @@ mutual
   fewest {l = l} {e = e} (a_binary {p = p} {xs = xs} {ys = ys} {a = a} {b = b} o h i j) = omega (arith, own_size l e h, fewest i, fewest j, length-append xs (mark p (Operator o) ∷ ys), length-append (printed (left_level o) a) (mark p (Operator o) ∷ printed (right_level o) b))
   fewest {l = l} {e = e} (a_member {p = p} q {n = n} {ts = ts} {e = x} h i) = omega (arith, own_size l e h, fewest i, length-append ts (mark q Dot ∷ (mark p (Name n) ∷ [])), length-append (printed 8 x) (here Dot ∷ (mark p (Name n) ∷ [])))
   fewest {l = l} {e = e} (a_method {p = p} q r t {n = n} {ts = ts} {us = us} {e = x} {ps = ps} h i j) =
-      omega (arith, own_size l e h, fewest i, fewest_args j, length-append ts (mark q Dot ∷ (mark p (Name n) ∷ (mark r Open ∷ (us ++ (mark t Close ∷ []))))), length-append us (mark t Close ∷ []),
-      length-append (printed 8 x) (here Dot ∷ (mark p (Name n) ∷ (here Open ∷ (args_tokens ps ++ (here Close ∷ []))))), length-append (args_tokens ps) (here Close ∷ []))
+      omega (
+        arith,
+        own_size l e h,
+        fewest i,
+        fewest_args j,
+        length-append ts (mark q Dot ∷ (mark p (Name n) ∷ (mark r Open ∷ (us ++ (mark t Close ∷ []))))),
+        length-append us (mark t Close ∷ []),
+        length-append (printed 8 x) (here Dot ∷ (mark p (Name n) ∷ (here Open ∷ (args_tokens ps ++ (here Close ∷ []))))),
+        length-append (args_tokens ps) (here Close ∷ []),
+      )
 
   fewest_args : {d : ℕ} {ts : List Lexeme} {ps : Args} → ArgsDerive d ts ps → length (args_tokens ps) ≤ length ts
   fewest_args none = omega arith

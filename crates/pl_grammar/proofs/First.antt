@@ -1,14 +1,14 @@
 -- The verdict is the script that the tokens spell, or their first fault.
-use Rattle.std.proofs.Common.{◌≡◌, ℕ, zero, suc, ◌+◌, ◌≤◌, ◌<◌, Bool, true, false, cond, leb, List, [], ◌∷◌, ◌++◌, Option, Some, None, Result, Ok, Err, refl, sym, ap, subst, ◌∙◌, arith, append_assoc, append-nil}
+use Rattle.std.proofs.Common.{◌≡◌, ℕ, ◌≤◌, ◌<◌, Bool, true, false, cond, leb, List, [], ◌∷◌, ◌++◌, Option, Some, None, Result, Ok, Err, refl, sym, ap, subst, ◌∙◌, arith, append_assoc, append-nil}
 use Rattle.std.proofs.lemmas.Bool.{le-leb, leb-true}
 use Rattle.std.proofs.lemmas.Bool.Decides.{nat_tests}
 use Rattle.pl_grammar.specs.declared.Place.{Place}
 use Rattle.pl_grammar.specs.Tree.{Lexeme, mark, Semicolon}
 use Rattle.pl_grammar.specs.Machine.{Stop, Stuck, Deep}
 use Rattle.pl_grammar.specs.Script.{Statement, Script, Viable, Stage, Opening, Between, script_move, stage_depth, stage_allowed, script_step, script_then, script_run, script_finish}
-use Rattle.pl_grammar.specs.Faults.{Tail, AtEnd, AtBad, Kind, BadByte, Unexpected, TooDeep, NumberTooLarge, LongStatement, place_of, most_depth, most_tokens, too_large, counted, since, IsShort, IsFine, Never, IsFault, is_long, is_large, is_unexpected, is_deep, IsFirst, at_bad, at_end, at_token, Spelled, Verdict, Good, Fault, finish_verdict, end_verdict, step_verdict, verdict}
+use Rattle.pl_grammar.specs.Faults.{Tail, AtEnd, AtBad, Kind, NumberTooLarge, LongStatement, place_of, most_depth, most_tokens, too_large, counted, since, IsShort, IsFine, Never, IsFault, is_long, is_large, is_unexpected, is_deep, IsFirst, at_bad, at_end, at_token, Spelled, Verdict, Good, Fault, finish_verdict, end_verdict, step_verdict, verdict}
 use Rattle.pl_grammar.proofs.Levels.{cond_true, cond_false, lt-leb-false}
-use Rattle.pl_grammar.proofs.ScriptRead.{script_run-append, script_on, script_nil, script_viable, viable_script, bound_stage, same_stage, no_stage, no_script, same_script, script_reads, script_derives}
+use Rattle.pl_grammar.proofs.ScriptRead.{script_on, script_viable, viable_script, bound_stage, same_stage, no_stage, script_reads, script_derives}
 use Rattle.pl_grammar.proofs.Judged.{stuck_never, deep_viable, unfinished}
 
 abbrev stop_result : Stop → Result Stage Stop

@@ -1,11 +1,10 @@
 -- What each token does to a text that is viable so far.
-use Rattle.std.proofs.Common.{◌≡◌, ℕ, zero, suc, ◌+◌, ◌≤◌, ◌<◌, max, Bool, true, false, cond, leb, List, [], ◌∷◌, ◌++◌, Option, Some, None, Result, Ok, Err, refl, sym, ap, subst, ◌∙◌, arith}
-use Rattle.std.proofs.lemmas.Bool.{le-leb, leb-true}
+use Rattle.std.proofs.Common.{◌≡◌, ℕ, ◌≤◌, ◌<◌, Bool, true, false, cond, leb, List, [], ◌∷◌, ◌++◌, Option, Some, None, Ok, Err, refl, sym, ap, subst, ◌∙◌, arith}
+use Rattle.std.proofs.lemmas.Bool.{leb-true}
 use Rattle.pl_grammar.specs.Tree.{Lexeme}
-use Rattle.pl_grammar.specs.Machine.{Stop, Stuck, Deep}
-use Rattle.pl_grammar.specs.Script.{Statement, Script, Viable, Stage, Opening, script_move, stage_depth, stage_allowed, script_step, script_then, script_run, script_finish}
-use Rattle.pl_grammar.proofs.Levels.{cond_true, cond_false, lt-leb-false}
-use Rattle.pl_grammar.proofs.ScriptRead.{script_run-append, script_on, script_next, script_nil, script_viable, viable_script, bound_stage, same_stage, no_stage, no_script, script_reads, script_derives}
+use Rattle.pl_grammar.specs.Machine.{Deep}
+use Rattle.pl_grammar.specs.Script.{Statement, Script, Viable, Stage, Opening, script_move, stage_depth, stage_allowed, script_step, script_run, script_finish}
+use Rattle.pl_grammar.proofs.ScriptRead.{script_run-append, script_on, script_next, script_nil, script_viable, viable_script, bound_stage, same_stage, no_stage, no_script, script_reads}
 
 some_stage : {s t : Stage} → Some s ≡ Some t → s ≡ t
 some_stage h = cc

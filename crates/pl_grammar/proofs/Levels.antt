@@ -1,14 +1,13 @@
 -- What holds of the levels, by cases on the signs; runs of the machine, joined.
-use Rattle.std.proofs.Common.{◌≡◌, ℕ, zero, suc, ◌+◌, ◌≤◌, ◌<◌, Bool, true, false, cond, leb, List, [], ◌∷◌, ◌++◌, Option, Some, None, Result, Ok, Err, refl, sym, ap, ◌∙◌, arith}
+use Rattle.std.proofs.Common.{◌≡◌, ℕ, suc, ◌≤◌, ◌<◌, Bool, true, false, cond, leb, List, [], ◌∷◌, ◌++◌, Option, Some, Result, Ok, Err, refl, ap, ◌∙◌, arith}
 use Rattle.std.proofs.lemmas.Bool.{le-leb}
 use Rattle.std.proofs.lemmas.Bool.Decides.{nat_tests}
-use Rattle.pl_grammar.specs.declared.Place.{Place}
 use Rattle.pl_grammar.specs.declared.PrefixSign.{PrefixSign}
 use Rattle.pl_grammar.specs.declared.BinarySign.{BinarySign}
 use Rattle.pl_grammar.specs.declared.PrefixSign.TheVariants.{Minus, Not}
 use Rattle.pl_grammar.specs.declared.BinarySign.TheVariants.{Or, And, Less, LessEqual, Greater, GreaterEqual, Equal, NotEqual, Add, Sub, Mul, Div}
-use Rattle.pl_grammar.specs.Tree.{Token, Lexeme, mark, Tree, prefix_level, level, left_level, right_level}
-use Rattle.pl_grammar.specs.Machine.{Frame, Prefixed, Behind, Group, Call, Mode, State, Closed, Stop, asked, depth, close, closed, at, step, then_run, run, allowed}
+use Rattle.pl_grammar.specs.Tree.{Lexeme, Tree, prefix_level, level, left_level, right_level}
+use Rattle.pl_grammar.specs.Machine.{Frame, Prefixed, Behind, Group, Call, State, Stop, asked, depth, close, step, then_run, run, allowed}
 
 pub record Levels (o : BinarySign) : Type 0 where
   pub low : 1 ≤ level o

@@ -1,7 +1,7 @@
 -- Tokens at other places derive the same tree at other places.
-use Rattle.std.proofs.Common.{◌≡◌, ℕ, suc, ◌≤◌, List, [], ◌∷◌, ◌++◌, Option, Some, None, refl, sym, ap, ap₂, subst, ◌∙◌}
+use Rattle.std.proofs.Common.{◌≡◌, ℕ, List, [], ◌∷◌, ◌++◌, Option, refl, sym, ap, ap₂, subst, ◌∙◌}
 use Rattle.pl_grammar.specs.declared.Place.{Place}
-use Rattle.pl_grammar.specs.Tree.{Token, Name, Operator, Assign, Open, Close, Dot, Comma, Lexeme, mark, Tree, number, text, name, call, prefix, binary, member, method, Args, no_args, arg, prefix_level, left_level, right_level}
+use Rattle.pl_grammar.specs.Tree.{Token, Name, Operator, Open, Close, Dot, Comma, Lexeme, mark, Tree, number, text, name, call, prefix, binary, member, method, Args, no_args, arg}
 use Rattle.pl_grammar.specs.Grammar.{Derives, a_number, a_text, a_name, a_call, a_group, a_prefix, a_binary, a_member, a_method, ArgsDerive, none, some, OneArg, bare, named, MoreArgs, end, more}
 use Rattle.pl_grammar.specs.Printed.{nowhere}
 use Rattle.pl_grammar.specs.Places.{SameTokens, same_none, same_next, bare as bared, bare_args}

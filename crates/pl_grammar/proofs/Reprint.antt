@@ -1,9 +1,9 @@
 -- What some tokens derive, its canonical tokens derive.
-use Rattle.std.proofs.Common.{◌≡◌, ℕ, zero, suc, ◌+◌, ◌≤◌, ◌<◌, Bool, true, false, cond, leb, List, [], ◌∷◌, ◌++◌, Option, Some, None, refl, sym, ap, subst, ◌∙◌, arith}
+use Rattle.std.proofs.Common.{◌≡◌, ℕ, suc, ◌≤◌, Bool, true, false, leb, List, ◌++◌, Option, refl, sym, subst, arith}
 use Rattle.std.proofs.lemmas.Bool.{le-leb, leb-true}
-use Rattle.pl_grammar.specs.Tree.{Token, Name, Assign, Open, Close, Lexeme, mark, Tree, number, text, name, call, prefix, binary, member, method, Args, no_args, arg, prefix_level, level, left_level, right_level}
+use Rattle.pl_grammar.specs.Tree.{Lexeme, Tree, number, text, name, call, prefix, binary, member, method, Args}
 use Rattle.pl_grammar.specs.Grammar.{Derives, a_number, a_text, a_name, a_call, a_group, a_prefix, a_binary, a_member, a_method, ArgsDerive, none, some, OneArg, bare, named, MoreArgs, end, more}
-use Rattle.pl_grammar.specs.Printed.{nowhere, here, tree_level, placed, name_tokens, tokens, args_tokens, more_tokens, printed}
+use Rattle.pl_grammar.specs.Printed.{nowhere, tree_level, placed, name_tokens, tokens, args_tokens, more_tokens, printed}
 use Rattle.pl_grammar.proofs.Levels.{levels, prefix_least}
 use Rattle.pl_grammar.proofs.Sound.{weaken}
 

@@ -1,21 +1,17 @@
 -- Whole scripts: what is read has a canonical text within the limits, and that text derives it.
-use Rattle.std.proofs.Common.{◌≡◌, ℕ, suc, ◌+◌, ◌≤◌, ◌<◌, Bool, true, false, cond, ◌&&◌, leb, List, [], ◌∷◌, ◌++◌, length, refl, sym, ap, ap₂, subst, ◌∙◌, arith, length-append, append_assoc}
+use Rattle.std.proofs.Common.{◌≡◌, ℕ, suc, ◌+◌, ◌≤◌, Bool, true, false, ◌&&◌, leb, List, [], ◌∷◌, ◌++◌, length, refl, sym, ap, ap₂, subst, ◌∙◌, arith, length-append}
 use Rattle.std.proofs.lemmas.Bool.{le-leb, leb-true}
-use Rattle.std.specs.List.{list_all}
-use Rattle.std.specs.Prelude.{map}
-use Rattle.pl_grammar.specs.declared.Place.{Place}
-use Rattle.pl_grammar.specs.Tree.{Token, Name, Number, LargeNumber, Assign, Semicolon, PipelineWord, LetWord, ColumnWord, ScreenWord, Lexeme, mark, Tree}
-use Rattle.pl_grammar.specs.Grammar.{Derives}
-use Rattle.pl_grammar.specs.Script.{Head, LetHead, ColumnHead, ScreenHead, Statement, HeadRead, let_read, column_read, screen_read, Statements, no_statement, statement, version, Script, script}
+use Rattle.pl_grammar.specs.Tree.{Token, Name, Number, LargeNumber, Assign, Semicolon, PipelineWord, LetWord, ColumnWord, Lexeme, mark, Tree}
+use Rattle.pl_grammar.specs.Script.{Head, LetHead, ColumnHead, ScreenHead, Statement, HeadRead, let_read, column_read, screen_read, Statements, no_statement, statement, Script, script}
 use Rattle.pl_grammar.specs.Faults.{most_depth, most_tokens, token_counted, token_too_large, IsShort}
 use Rattle.pl_grammar.specs.Printed.{nowhere, here, tree_level, tokens, tree_depth}
-use Rattle.pl_grammar.specs.Places.{SameTokens, same_none, same_next, bare}
-use Rattle.pl_grammar.specs.Whole.{head_tokens, statements_tokens, script_tokens, bare_head, bare_statement, bare_script, tokens_pass, tree_passes, head_passes, is_sound, are_sound}
+use Rattle.pl_grammar.specs.Places.{SameTokens, same_none, same_next}
+use Rattle.pl_grammar.specs.Whole.{head_tokens, statements_tokens, script_tokens, bare_head, bare_script, tokens_pass, tree_passes, head_passes, is_sound, are_sound}
 use Rattle.pl_grammar.proofs.Sound.{weaken}
 use Rattle.pl_grammar.proofs.Reprint.{level_least}
 use Rattle.pl_grammar.proofs.Canonical.{canonical, shallow, least_place}
-use Rattle.pl_grammar.proofs.Replace.{Cut, cut, Next, next_of, Replaced, replaced}
-use Rattle.pl_grammar.proofs.Fewest.{is_inner, inner, passes, fewest, own_size, part, join, both, and_true}
+use Rattle.pl_grammar.proofs.Replace.{cut, next_of, replaced}
+use Rattle.pl_grammar.proofs.Fewest.{is_inner, inner, passes, fewest, own_size, part, both, and_true}
 
 -- counting
 
@@ -172,7 +168,7 @@ replaced_statements {d = d} (statement p {hs = hs} {ts = xs} {us = ys} {h = h} {
     subst (λ z. StatementsReplaced d z (made h e ∷ ss)) (sym whole) (record {
       statements = made g.head t.tree ∷ r.statements;
       derives = statement c.place g.reads t.derives r.derives;
-      same = ap₂ (λ (z : Statement) zs. z ∷ zs) (ap₂ made g.same t.same) r.same
+      same = ap₂ (λ (z : Statement) zs. z ∷ zs) (ap₂ made g.same t.same) r.same;
     })
 
 pub record ScriptReplaced (d : ℕ) (us : List Lexeme) (ss : List Statement) : Type 0 where

@@ -1,16 +1,16 @@
 -- What the machine reads, the grammar derives.
 use Rattle.std.proofs.Common.{◌≡◌, ℕ, zero, suc, ◌+◌, ◌≤◌, ◌<◌, Bool, true, false, cond, leb, List, [], ◌∷◌, ◌++◌, Option, Some, None, Result, Ok, Err, refl, sym, ap, subst, ◌∙◌, arith, append_assoc, append-nil}
-use Rattle.std.proofs.lemmas.Bool.{le-leb, leb-true, ltb-false}
+use Rattle.std.proofs.lemmas.Bool.{leb-true}
 use Rattle.std.proofs.lemmas.Bool.Decides.{nat_tests}
 use Rattle.pl_grammar.specs.declared.Place.{Place}
 use Rattle.pl_grammar.specs.declared.PrefixSign.{PrefixSign}
 use Rattle.pl_grammar.specs.declared.BinarySign.{BinarySign}
 use Rattle.pl_grammar.specs.declared.PrefixSign.TheVariants.{Minus, Not}
 use Rattle.pl_grammar.specs.declared.BinarySign.TheVariants.{Or, And, Less, LessEqual, Greater, GreaterEqual, Equal, NotEqual, Add, Sub, Mul, Div}
-use Rattle.pl_grammar.specs.Tree.{Token, Name, Number, LargeNumber, Text, Operator, Tilde, Dot, Open, Close, Comma, Assign, Semicolon, PipelineWord, LetWord, ColumnWord, ScreenWord, Lexeme, mark, Tree, number, text, name, call, prefix, binary, member, method, Args, no_args, arg, sign_token, prefix_level, level, left_level, right_level}
+use Rattle.pl_grammar.specs.Tree.{Name, Number, LargeNumber, Text, Operator, Tilde, Dot, Open, Close, Comma, Assign, Semicolon, PipelineWord, LetWord, ColumnWord, ScreenWord, Lexeme, mark, Tree, number, text, prefix, binary, method, sign_token, prefix_level, level, left_level, right_level}
 use Rattle.pl_grammar.specs.Grammar.{Derives, a_number, a_text, a_name, a_call, a_group, a_prefix, a_binary, a_member, a_method, ArgsDerive, none, some, OneArg, bare, named, MoreArgs, end, more}
-use Rattle.pl_grammar.specs.Machine.{Frame, Prefixed, Behind, Group, Call, Mode, Wanted, ArgWanted, Named, ArgNamed, Membered, Given, Dotted, State, Closed, Stop, Stuck, Deep, Arg, Callee, function, method_of, operand, is_wanted, callee, args_of, applied, asked, depth, close, closed, at, move, step, then_run, run, allowed, literal, named_move, sign_move, minus_move, behind, operator_move, dot_move, open_move, close_move, comma_move, assign_move, name_arg, shut, shut_empty, next_arg}
-use Rattle.pl_grammar.proofs.Levels.{levels, apart, prefix_least, prefix_most, stays, stays_at_dot, run-append, run_on, run_step, allowed_some, cond_true}
+use Rattle.pl_grammar.specs.Machine.{Frame, Prefixed, Behind, Group, Call, Mode, Wanted, ArgWanted, Named, ArgNamed, Membered, Given, Dotted, State, Closed, Stop, Deep, Arg, Callee, function, method_of, operand, is_wanted, callee, args_of, applied, asked, depth, close, move, step, then_run, run, allowed, literal, named_move, sign_move, minus_move, operator_move, dot_move, open_move, close_move, comma_move, assign_move, shut, shut_empty, next_arg}
+use Rattle.pl_grammar.proofs.Levels.{levels, prefix_most}
 
 pub weaken : {d k : ℕ} {ts : List Lexeme} {e : Tree} → Derives d k ts e → (l : ℕ) → l ≤ k → Derives d l ts e
 weaken (a_number p) l h = a_number (omega arith)

@@ -1,16 +1,13 @@
 -- The machine goes on exactly while some continuation is an expression.
-use Rattle.std.proofs.Common.{◌≡◌, ℕ, zero, suc, ◌+◌, ◌≤◌, ◌<◌, Bool, true, false, cond, leb, List, [], ◌∷◌, ◌++◌, Option, Some, None, Result, Ok, Err, refl, sym, ap, subst, ◌∙◌, arith, append_assoc, append-nil, ◌⊎◌}
-use Rattle.std.proofs.lemmas.Bool.{le-leb, leb-true, ltb-false}
-use Rattle.std.proofs.lemmas.Bool.Decides.{nat_tests}
+use Rattle.std.proofs.Common.{◌≡◌, ℕ, ◌≤◌, true, leb, List, [], ◌∷◌, ◌++◌, Option, Some, None, Result, Ok, Err, refl, sym, ap, subst, ◌∙◌, arith}
+use Rattle.std.proofs.lemmas.Bool.{le-leb}
 use Rattle.pl_grammar.specs.declared.Place.{Place}
-use Rattle.pl_grammar.specs.declared.PrefixSign.{PrefixSign}
-use Rattle.pl_grammar.specs.declared.BinarySign.{BinarySign}
-use Rattle.pl_grammar.specs.Tree.{Token, Name, Number, Text, Operator, Tilde, Dot, Open, Close, Comma, Assign, Semicolon, PipelineWord, LetWord, ColumnWord, ScreenWord, Lexeme, mark, Tree, number, text, name, call, prefix, binary, member, method, prefix_level, level}
+use Rattle.pl_grammar.specs.Tree.{Name, Close, Lexeme, mark, Tree, name, prefix, binary, member, prefix_level, level}
 use Rattle.pl_grammar.specs.Grammar.{Derives, Viable}
-use Rattle.pl_grammar.specs.Machine.{Frame, Prefixed, Behind, Group, Call, Mode, Wanted, ArgWanted, Named, ArgNamed, Membered, Given, Dotted, State, Closed, Stop, Stuck, Deep, Arg, Callee, operand, applied, asked, depth, close, closed, at, move, step, then_run, run, allowed, first, outermost, finish, finished}
+use Rattle.pl_grammar.specs.Machine.{Frame, Prefixed, Behind, Group, Call, Mode, Wanted, ArgWanted, Named, ArgNamed, Membered, Given, Dotted, State, Closed, Stop, operand, applied, asked, depth, close, closed, at, move, step, then_run, run, first, outermost, finish, finished}
 use Rattle.pl_grammar.proofs.Levels.{run-append, run_on, run_step, allowed_some, cond_true}
-use Rattle.pl_grammar.proofs.Complete.{Reads, reads, start, shut_operand}
-use Rattle.pl_grammar.proofs.Sound.{Opens, opens_nothing, opens_prefix, opens_behind, opens_group, opens_call, Has, has_wanted, has_arg_wanted, has_named, has_arg_named, has_member, has_given, has_dotted, HasClosed, HasOperand, IfOperand, has_operand, close_has, asked_most, budget, IfRun, run_has, weaken}
+use Rattle.pl_grammar.proofs.Complete.{reads, shut_operand}
+use Rattle.pl_grammar.proofs.Sound.{Opens, opens_nothing, opens_prefix, opens_behind, opens_group, opens_call, Has, has_wanted, has_arg_wanted, has_named, has_arg_named, has_member, has_given, has_dotted, IfOperand, has_operand, close_has, asked_most, budget, IfRun, run_has, weaken}
 
 -- the tokens from s on end an expression
 pub record Ends (most : ℕ) (ts : List Lexeme) (s : State) : Type 0 where

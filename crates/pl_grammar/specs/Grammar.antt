@@ -3,7 +3,7 @@ use Rattle.std.specs.Prelude.{ℕ, suc, ◌≤◌, ℤ, List, [], ◌∷◌, ◌
 use Rattle.pl_grammar.specs.declared.Place.{Place}
 use Rattle.pl_grammar.specs.declared.PrefixSign.{PrefixSign}
 use Rattle.pl_grammar.specs.declared.BinarySign.{BinarySign}
-use Rattle.pl_grammar.specs.Tree.{Token, Name, Number, Text, Operator, Tilde, Dot, Open, Close, Comma, Assign, Semicolon, Lexeme, mark, Tree, number, text, name, call, prefix, binary, member, method, Args, no_args, arg, sign_token, prefix_level, level, left_level, right_level}
+use Rattle.pl_grammar.specs.Tree.{Name, Number, Text, Operator, Dot, Open, Close, Comma, Assign, Lexeme, mark, Tree, number, text, name, call, prefix, binary, member, method, Args, no_args, arg, sign_token, prefix_level, level, left_level, right_level}
 
 -- Derives d l ts e: the tokens spell e where an operand of level l or above is asked, and open at most d
 -- constructs inside one another. ArgsDerive d ts ps: they are what stands between a call's parentheses;

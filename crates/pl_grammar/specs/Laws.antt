@@ -2,9 +2,8 @@
 use Rattle.std.specs.Prelude.{◌≡◌, ◌↔◌, List}
 use Rattle.pl_grammar.specs.declared.Place.{Place}
 use Rattle.pl_grammar.specs.Tree.{Lexeme}
-use Rattle.pl_grammar.specs.Script.{Statement, Script, Opening}
+use Rattle.pl_grammar.specs.Script.{Statement, Opening}
 use Rattle.pl_grammar.specs.Faults.{Tail, Kind, IsFirst, Spelled, Good, Fault, verdict}
-use Rattle.std.specs.Prelude.{ℕ}
 
 abbrev pub VerdictIsRight : Type 0
 VerdictIsRight =

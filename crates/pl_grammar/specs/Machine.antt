@@ -1,11 +1,11 @@
 -- The machine that reads an expression token by token, over a stack of what is open.
-use Rattle.std.specs.Prelude.{ℕ, zero, suc, ◌+◌, Bool, true, false, cond, nat_le, ℤ, List, [], ◌∷◌, ◌++◌, Option, Some, None, Result, Ok, Err}
+use Rattle.std.specs.Prelude.{ℕ, suc, Bool, true, false, cond, nat_le, List, [], ◌∷◌, ◌++◌, Option, Some, None, Result, Ok, Err}
 use Rattle.pl_grammar.specs.declared.Place.{Place}
 use Rattle.pl_grammar.specs.declared.PrefixSign.{PrefixSign}
 use Rattle.pl_grammar.specs.declared.BinarySign.{BinarySign}
 use Rattle.pl_grammar.specs.declared.PrefixSign.TheVariants.{Minus, Not}
 use Rattle.pl_grammar.specs.declared.BinarySign.TheVariants.{Or, And, Less, LessEqual, Greater, GreaterEqual, Equal, NotEqual, Add, Sub, Mul, Div}
-use Rattle.pl_grammar.specs.Tree.{Token, Name, Number, LargeNumber, Text, Operator, Tilde, Dot, Open, Close, Comma, Assign, Semicolon, PipelineWord, LetWord, ColumnWord, ScreenWord, Lexeme, mark, Tree, number, text, name, call, prefix, binary, member, method, Args, no_args, arg, sign_token, prefix_level, level, left_level, right_level}
+use Rattle.pl_grammar.specs.Tree.{Name, Number, LargeNumber, Text, Operator, Tilde, Dot, Open, Close, Comma, Assign, Semicolon, PipelineWord, LetWord, ColumnWord, ScreenWord, Lexeme, mark, Tree, number, text, name, call, prefix, binary, member, method, Args, no_args, arg, prefix_level, level, left_level, right_level}
 
 -- what a list of arguments belongs to
 pub data Callee : Type 0 where

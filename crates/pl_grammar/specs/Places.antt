@@ -1,5 +1,5 @@
 -- Tokens and trees that differ in their places alone.
-use Rattle.std.specs.Prelude.{ℕ, List, [], ◌∷◌, Option}
+use Rattle.std.specs.Prelude.{List, [], ◌∷◌}
 use Rattle.pl_grammar.specs.declared.Place.{Place}
 use Rattle.pl_grammar.specs.Tree.{Token, Lexeme, mark, Tree, number, text, name, call, prefix, binary, member, method, Args, no_args, arg}
 use Rattle.pl_grammar.specs.Printed.{nowhere}

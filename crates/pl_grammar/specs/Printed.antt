@@ -1,5 +1,5 @@
 -- The canonical tokens of a tree: parentheses exactly where a place asks for a level above the operand's.
-use Rattle.std.specs.Prelude.{ℕ, suc, max, Bool, true, false, cond, nat_le, List, [], ◌∷◌, ◌++◌, Option, Some, None}
+use Rattle.std.specs.Prelude.{ℕ, suc, max, Bool, true, false, nat_le, List, [], ◌∷◌, ◌++◌, Option, Some, None}
 use Rattle.pl_grammar.specs.declared.Place.{Place}
 use Rattle.pl_grammar.specs.Tree.{Token, Name, Number, Text, Operator, Dot, Open, Close, Comma, Assign, Lexeme, mark, Tree, number, text, name, call, prefix, binary, member, method, Args, no_args, arg, sign_token, prefix_level, level, left_level, right_level}
 

@@ -1,10 +1,10 @@
 -- A script: its grammar, and the machine that reads it token by token.
-use Rattle.std.specs.Prelude.{ℕ, ℤ, pos, zero, suc, ◌≡◌, Bool, true, false, cond, nat_le, List, [], ◌∷◌, ◌++◌, Option, Some, None, Result, Ok, Err}
+use Rattle.std.specs.Prelude.{ℕ, ℤ, pos, ◌≡◌, Bool, true, false, cond, nat_le, List, [], ◌∷◌, ◌++◌, Option, Some, None, Result, Ok, Err}
 use Rattle.std.specs.Ordering.{int_eq}
 use Rattle.pl_grammar.specs.declared.Place.{Place}
-use Rattle.pl_grammar.specs.Tree.{Token, Name, Number, Text, Operator, Tilde, Dot, Open, Close, Comma, Assign, Semicolon, PipelineWord, LetWord, ColumnWord, ScreenWord, Lexeme, mark, Tree}
+use Rattle.pl_grammar.specs.Tree.{Token, Name, Number, Assign, Semicolon, PipelineWord, LetWord, ColumnWord, ScreenWord, Lexeme, mark, Tree}
 use Rattle.pl_grammar.specs.Grammar.{Derives}
-use Rattle.pl_grammar.specs.Machine.{State, Stop, Stuck, Deep, at, first, move, depth, finish}
+use Rattle.pl_grammar.specs.Machine.{State, Stop, Stuck, Deep, first, move, depth, finish}
 
 -- how a statement begins: its place is its NAME, or `screen`
 pub data Head : Type 0 where

@@ -1,5 +1,5 @@
 -- The canonical tokens of whole scripts, what a script's tokens say of its parts, and scripts without their places.
-use Rattle.std.specs.Prelude.{ℕ, suc, ◌≤◌, Bool, true, false, ◌&&◌, nat_le, List, [], ◌∷◌, ◌++◌, length, Option, Some, None, map}
+use Rattle.std.specs.Prelude.{ℕ, suc, Bool, true, ◌&&◌, nat_le, List, [], ◌∷◌, ◌++◌, length, Option, Some, None, map}
 use Rattle.std.specs.List.{list_all}
 use Rattle.pl_grammar.specs.Tree.{Token, Name, Number, Text, Assign, Semicolon, PipelineWord, LetWord, ColumnWord, ScreenWord, Lexeme, mark, Tree, number, text, name, call, prefix, binary, member, method, Args, no_args, arg}
 use Rattle.pl_grammar.specs.Printed.{nowhere, here, tokens, tree_depth}

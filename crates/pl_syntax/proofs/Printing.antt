@@ -1,5 +1,5 @@
 -- The canonical text of a script spells it again.
-use Rattle.std.proofs.Common.{◌≡◌, ℕ, true, List, Result, Ok, Err, IfOk, refl, sym, ap, subst, ◌∙◌}
+use Rattle.std.proofs.Common.{◌≡◌, true, List, ap, ◌∙◌}
 use Rattle.pl_grammar.specs.declared.Place.{Place}
 use Rattle.pl_grammar.specs.Script.{Statement}
 use Rattle.pl_grammar.specs.Whole.{are_sound, bare_script}
@@ -7,7 +7,7 @@ use Rattle.pl_grammar.proofs.Scripts.{script_derives, script_short, same_short, 
 use Rattle.pl_tokens.specs.Sound.{is_written}
 use Rattle.pl_tokens.specs.Text.{start}
 use Rattle.pl_syntax.specs.Canonical.{script_text}
-use Rattle.pl_syntax.specs.Spells.{Parsed, Spells, SameScript, SpellsAgain}
+use Rattle.pl_syntax.specs.Spells.{Parsed, Spells, SpellsAgain}
 use Rattle.pl_syntax.proofs.Shown.{script_shows}
 use Rattle.pl_syntax.proofs.Verdicts.{one_parsed}
 
@@ -21,5 +21,5 @@ spells_again ss end h =
       script = s;
       spells = x;
       same = d.same;
-      only = λ y z. ap (λ (w : Parsed). bare_script w.statements) (one_parsed (script_text ss) y s z x) ∙ d.same
+      only = λ y z. ap (λ (w : Parsed). bare_script w.statements) (one_parsed (script_text ss) y s z x) ∙ d.same;
     }

@@ -1,10 +1,8 @@
 -- The stack of what is open, with one more on top.
-use Rattle.std.proofs.Common.{◌≤◌, ◌≡◌, ℕ, zero, suc, ◌-◌, Bool, true, false, cond, List, [], ◌∷◌, ◌++◌, length, Option, Some, None, slice_get, get_or, ◌<◌, refl, sym, ap, ◌∙◌, arith, rules, append-nil, MatchOption, Vec, Global, vec_len, ◌+◌}
+use Rattle.std.proofs.Common.{◌≤◌, ◌≡◌, ℕ, ◌-◌, List, [], ◌∷◌, ◌++◌, length, Option, Some, None, slice_get, ◌<◌, refl, sym, ap, ◌∙◌, arith, rules, append-nil, MatchOption, Vec, Global, vec_len, ◌+◌}
 use Rattle.std.specs.Option.{option_to_list}
 use Rattle.std.proofs.lemmas.Option.{slice_get-get_or}
 use Rattle.pl_grammar.specs.Machine as m
-use Rattle.pl_grammar.specs.Tree.{Tree}
-use Rattle.pl_grammar.proofs.Levels.{cond_true, cond_false}
 use Rattle.pl_syntax.specs.declared.stack.Frame.{Frame}
 use Rattle.pl_grammar.specs.Tree.{arg}
 use Rattle.pl_syntax.specs.Plain.{tree_of, args_tree, row_tree}

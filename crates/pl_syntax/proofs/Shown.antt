@@ -1,15 +1,13 @@
 -- The canonical text of a script is read as its canonical tokens.
-use Rattle.std.proofs.Common.{◌≡◌, ℕ, ℤ, pos, negsuc, zero, suc, ◌+◌, ◌<◌, ◌≤◌, Bool, true, false, cond, ◌&&◌, leb, List, [], ◌∷◌, ◌++◌, length, Option, Some, None, refl, sym, ap, ap₂, ◌∙◌, arith, subst, append_assoc, append-nil}
-use Rattle.std.specs.Prelude.{codes, ◌==◌, nat_le, ◌/◌, unsigned_abs}
-use Rattle.std.specs.List.{list_all}
+use Rattle.std.proofs.Common.{◌≡◌, ℕ, ℤ, pos, negsuc, ◌<◌, ◌≤◌, Bool, true, false, cond, leb, List, [], ◌∷◌, ◌++◌, length, Option, Some, None, refl, sym, ap, ◌∙◌, arith, subst, append_assoc, append-nil}
+use Rattle.std.specs.Prelude.{codes, ◌==◌, nat_le, ◌/◌}
 use Rattle.std.specs.Fmt.{decimal}
 use Rattle.std.specs.Str.Parse.{AllDigits}
 use Rattle.std.specs.Char.{digit_value}
 use Rattle.std.proofs.lemmas.Bool.Decides.{nat_tests}
 use Rattle.std.proofs.lemmas.Fmt.{decimal_is_IsNumeral}
 use Rattle.std.proofs.lemmas.Str.Parse.{digit_from_value}
-use Rattle.pl_spec.specs.Rounding.{LIMIT, MILLION, div_round}
-use Rattle.pl_spec.specs.Decimals.{point_text}
+use Rattle.pl_spec.specs.Rounding.{LIMIT, MILLION}
 use Rattle.pl_grammar.specs.declared.Place.{Place}
 use Rattle.pl_grammar.specs.declared.PrefixSign.{PrefixSign}
 use Rattle.pl_grammar.specs.declared.PrefixSign.TheVariants.{Minus, Not}
@@ -18,16 +16,16 @@ use Rattle.pl_grammar.specs.declared.BinarySign.TheVariants.{Or, And, Less, Less
 use Rattle.pl_grammar.specs.Tree as t
 use Rattle.pl_grammar.specs.Tree.{Lexeme, mark, Tree, number, text, name, call, prefix, binary, member, method, Args, no_args, arg, sign_token, prefix_level, left_level, right_level}
 use Rattle.pl_grammar.specs.Printed.{here, tree_level, placed, name_tokens, tokens, args_tokens, more_tokens}
-use Rattle.pl_grammar.specs.Script.{Head, LetHead, ColumnHead, ScreenHead, Statement, version}
+use Rattle.pl_grammar.specs.Script.{Head, LetHead, ColumnHead, ScreenHead, Statement}
 use Rattle.pl_grammar.specs.Whole.{tree_passes, args_pass, name_passes, head_passes, head_tokens, statements_tokens, script_tokens, is_sound, are_sound}
 use Rattle.pl_grammar.proofs.Fewest.{both}
-use Rattle.pl_grammar.proofs.Scripts.{Parts, parts}
+use Rattle.pl_grammar.proofs.Scripts.{parts}
 use Rattle.pl_tokens.specs.Bytes.{is_digit, starts_word, is_word_byte, Stops}
 use Rattle.pl_tokens.specs.Tokens.{NoDecimals}
 use Rattle.pl_tokens.specs.Numerals.{number_text}
 use Rattle.pl_tokens.specs.Sound.{is_name, is_number, is_written}
 use Rattle.pl_tokens.proofs.Shows.{Shows, end_shows, pair_shows, word_shows, one_shows, blank_shows, sign_shows, name_shows, text_shows, number_shows}
-use Rattle.pl_syntax.specs.Canonical.{prefix_text, binary_text, open_text, close_text, placed_text, name_text, comma_text, in_parentheses, tree_text, list_text, head_text, statement_text, statements_text, script_text}
+use Rattle.pl_syntax.specs.Canonical.{prefix_text, binary_text, placed_text, name_text, comma_text, in_parentheses, tree_text, list_text, head_text, statements_text, script_text}
 
 -- what may follow an operand: nothing that a name or a number before it would take
 abbrev Clear : List ℕ → Type 0

@@ -1,5 +1,5 @@
 -- The verdict over a text, token by token, and what it says of the bytes.
-use Rattle.std.proofs.Common.{◌≡◌, ℕ, ◌≤◌, ◌<◌, Bool, true, false, cond, leb, List, [], ◌∷◌, Option, Some, None, Result, Ok, Err, refl, sym, ap, ap₂, subst, ◌∙◌, arith, IfOk, IfErr}
+use Rattle.std.proofs.Common.{◌≡◌, ℕ, Bool, true, false, cond, leb, List, [], ◌∷◌, Some, Result, Ok, Err, refl, sym, ap, ap₂, subst, ◌∙◌, IfOk, IfErr}
 use Rattle.pl_grammar.specs.declared.Place.{Place}
 use Rattle.pl_grammar.specs.Machine.{Stop, Stuck, Deep}
 use Rattle.pl_grammar.specs.Tree.{Token, Lexeme, mark}
@@ -18,7 +18,7 @@ use Rattle.pl_tokens.proofs.Written.{read_written}
 use Rattle.pl_tokens.proofs.Reading.{one_way, is_read}
 use Rattle.pl_syntax.specs.Spells.{Parsed, Spells, FirstFault}
 use Rattle.pl_syntax.specs.Statements.{statements_of}
-use Rattle.pl_syntax.specs.Scripts.{statements_in, end_in, parsed}
+use Rattle.pl_syntax.specs.Scripts.{statements_in, parsed}
 use Rattle.pl_syntax.specs.Parsing.{stepped, token_step, error_of, IsCause, AnswersScript, AnswersFault, Steps, Ends, Gives, Outcome}
 use Rattle.pl_syntax.specs.declared.script.Script.{Script}
 use Rattle.pl_syntax.specs.declared.error.SyntaxError.{SyntaxError}
@@ -143,7 +143,7 @@ on_token bytes bs rest p q r t n k s x goes b e size ts tail y =
     record {
       tokens = c.tokens;
       reads = c.reads;
-      same = c.same ∙ (verdict_step n s (mark r t) ts tail ∙ (ap (λ z. after_step r z (λ s. verdict (counted n (mark r t)) s ts tail)) e ∙ ap (λ m. verdict m x ts tail) (sym size)))
+      same = c.same ∙ (verdict_step n s (mark r t) ts tail ∙ (ap (λ z. after_step r z (λ s. verdict (counted n (mark r t)) s ts tail)) e ∙ ap (λ m. verdict m x ts tail) (sym size)));
     }
 
 pub at_step_fault : (bytes bs rest : List ℕ) (p q r : Place) (t : Token) (n k : ℕ) (s : g.Stage) (e : SyntaxError) → Goes bytes p bs n s → Begins p bs r t q rest → Steps (Err e) (token_step n (mark r t) s) k r → Outcome bytes (Err e)

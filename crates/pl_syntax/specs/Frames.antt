@@ -1,5 +1,5 @@
 -- What is open, and where the machine stands, as the grammar's machine has them.
-use Rattle.std.specs.Prelude.{ℕ, List, [], ◌∷◌, Option, Some, None, map, ◌≡◌, Result, Ok, Err}
+use Rattle.std.specs.Prelude.{List, [], ◌∷◌, Option, Some, None, map, ◌≡◌, Result, Ok, Err}
 use Rattle.pl_grammar.specs.Machine as m
 use Rattle.pl_grammar.specs.Tree.{Tree}
 use Rattle.pl_syntax.specs.Plain.{plain}

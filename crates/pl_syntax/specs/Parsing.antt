@@ -1,5 +1,5 @@
 -- What the parser answers: of a token, of the end, and of the bytes.
-use Rattle.std.specs.Prelude.{ℕ, ◌≡◌, ◌<◌, ◌≤◌, Bool, cond, nat_le, List, length, Option, Some, None, Result, Ok, Err}
+use Rattle.std.specs.Prelude.{ℕ, ◌≡◌, ◌<◌, cond, nat_le, List, length, Option, Some, None, Result, Ok, Err}
 use Rattle.pl_grammar.specs.declared.Place.{Place}
 use Rattle.pl_grammar.specs.Machine.{Stop, Stuck, Deep}
 use Rattle.pl_grammar.specs.Script as g

@@ -1,11 +1,10 @@
 -- The tree of an expression, without where it lies in memory.
-use Rattle.std.specs.Prelude.{ℕ, List, [], ◌∷◌, Option, Some, None}
+use Rattle.std.specs.Prelude.{ℕ, List}
 use Rattle.pl_grammar.specs.declared.Place.{Place}
 use Rattle.pl_grammar.specs.Tree.{Tree, number, text, name, call, prefix, binary, member, method, Args, no_args, arg}
 use Rattle.pl_syntax.specs.declared.tree.Expr.{Expr}
 use Rattle.pl_syntax.specs.declared.tree.ExprNode.{ExprNode, Held-ExprNode-Member-2, None', Some'}
 use Rattle.pl_syntax.specs.declared.tree.ArgList.{ArgList, ArgList', Row_of-Arg, end_of-Arg, more_of-Arg}
-use Rattle.pl_syntax.specs.declared.tree.Arg.{Arg}
 use Rattle.pl_syntax.specs.declared.tree.ExprNode.TheVariants.{Number, Text, Name, Call, Prefix', Binary', Member'}
 
 abbrev mutual

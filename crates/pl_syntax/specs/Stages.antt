@@ -1,11 +1,8 @@
 -- Where the reader of a script stands, as the grammar's machine has it, and what a step answers.
-use Rattle.std.specs.Prelude.{ℕ, ◌≡◌, cond, nat_le, List, [], Option, Some, None, Result, Ok, Err}
-use Rattle.pl_grammar.specs.declared.Place.{Place}
+use Rattle.std.specs.Prelude.{◌≡◌, Option, Some, None, Result, Ok, Err}
 use Rattle.pl_grammar.specs.Machine as m
 use Rattle.pl_grammar.specs.Script as g
-use Rattle.pl_grammar.specs.Tree.{Tree, Lexeme}
-use Rattle.pl_grammar.specs.Faults as f
-use Rattle.pl_grammar.specs.Faults.{Kind, too_large, counted, most_tokens, most_depth}
+use Rattle.pl_grammar.specs.Tree.{Tree}
 use Rattle.pl_syntax.specs.Frames.{mode_of}
 use Rattle.pl_syntax.specs.Open.{open_in}
 use Rattle.pl_syntax.specs.Plain.{plain}

@@ -16,10 +16,10 @@ mod tests;
 mod tree;
 mod writer;
 
-pub use pl_grammar::{BinarySign, Place, PrefixSign};
-pub use pl_tokens::Word;
 pub use error::SyntaxError;
 pub use parser::{MOST_BYTES, one_script_spelled, parse};
+pub use pl_grammar::{BinarySign, Place, PrefixSign};
+pub use pl_tokens::Word;
 pub use script::{Script, Statement};
 pub use tree::{Arg, ArgList, Expr, ExprNode};
 pub use writer::{print, scripts_are_spelled};

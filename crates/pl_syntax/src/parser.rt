@@ -78,10 +78,7 @@ fn read_all(alloc: Global, bytes: &[u8]) -> Result<Script, SyntaxError>
 {
     let mut text = Text {
         bytes,
-        place: Place {
-            line: 1,
-            col: 1,
-        },
+        place: Place { line: 1, col: 1 },
     };
     let mut progress = Progress {
         stage: Stage::Opening,

@@ -105,11 +105,7 @@ fn at_statement(
     }
 }
 
-fn at_let_name(
-    statements: Vec<Statement>,
-    place: Place,
-    token: Token,
-) -> Result<Stage, MoveError>
+fn at_let_name(statements: Vec<Statement>, place: Place, token: Token) -> Result<Stage, MoveError>
     ensures { StageMoves result (name_move (λ n. g.AssignWanted (statements_of statements.items) (LetHead place n)) (token_of token)) }
 {
     match token {

@@ -19,10 +19,22 @@ fn finds_the_first_fault(rt: HostRuntime) -> Result<(), Fail> {
     for (text, want) in [
         (b"".as_slice(), None),
         (b"column x = a < b;", None),
-        (b"column x = a < b < c;", Some(SyntaxError::Unexpected(at(2, 18)))),
-        (b"column x = a + ~b;", Some(SyntaxError::Unexpected(at(2, 16)))),
-        (b"column x = f(a,);", Some(SyntaxError::Unexpected(at(2, 16)))),
-        (b"column x = f(a=b=c);", Some(SyntaxError::Unexpected(at(2, 17)))),
+        (
+            b"column x = a < b < c;",
+            Some(SyntaxError::Unexpected(at(2, 18))),
+        ),
+        (
+            b"column x = a + ~b;",
+            Some(SyntaxError::Unexpected(at(2, 16))),
+        ),
+        (
+            b"column x = f(a,);",
+            Some(SyntaxError::Unexpected(at(2, 16))),
+        ),
+        (
+            b"column x = f(a=b=c);",
+            Some(SyntaxError::Unexpected(at(2, 17))),
+        ),
         (b"column let = 1;", Some(SyntaxError::Unexpected(at(2, 8)))),
         (b"pipeline 1;", Some(SyntaxError::Unexpected(at(2, 1)))),
         (b"screen a", Some(SyntaxError::Unexpected(at(2, 9)))),
@@ -49,10 +61,7 @@ fn finds_the_first_fault(rt: HostRuntime) -> Result<(), Fail> {
             b"column x = (((((((((((((((((((((((((((((((((",
             Some(SyntaxError::TooDeep(at(2, 44))),
         ),
-        (
-            b"column x = --------------------------------a;",
-            None,
-        ),
+        (b"column x = --------------------------------a;", None),
         (
             b"column x = --------------------------------a.b();",
             Some(SyntaxError::TooDeep(at(2, 47))),

@@ -5,6 +5,7 @@ ghost use Rattle.pl_syntax.specs.Rows.{args_of};
 use pl_grammar::{BinarySign, Place, PrefixSign};
 use pl_tokens::Word;
 
+/// An expression, at the place of its token: the operator; the NAME of a call or member; the literal or name itself.
 #[cycle(tree)]
 #[derive(Drop, Debug)]
 pub struct Expr {
@@ -12,10 +13,13 @@ pub struct Expr {
     pub node: ExprNode,
 }
 
+/// The nodes of expressions. Parentheses leave none.
 #[cycle(tree)]
 #[derive(Drop, Debug)]
 pub enum ExprNode {
+    /// A number in millionths.
     Number(i64),
+    /// A string, without its quotes.
     Text(Word),
     Name(Word),
     Call {
@@ -31,6 +35,7 @@ pub enum ExprNode {
         left: Box<Expr>,
         right: Box<Expr>,
     },
+    /// A member, with arguments where it was written with parentheses.
     Member {
         object: Box<Expr>,
         name: Word,
@@ -38,6 +43,7 @@ pub enum ExprNode {
     },
 }
 
+/// An argument, with its name where it has one.
 #[cycle(tree)]
 #[derive(Drop, Debug)]
 pub struct Arg {
@@ -45,6 +51,7 @@ pub struct Arg {
     pub expr: Expr,
 }
 
+/// The arguments of a call, in the order written.
 #[cycle(tree)]
 #[derive(Drop, Debug)]
 pub struct ArgList {
@@ -52,6 +59,7 @@ pub struct ArgList {
 }
 
 impl ArgList {
+    /// Lends the arguments.
     pub fn as_slice(&self) -> &[Arg]
         ensures { result.now ≡ args_of self.now }
     {

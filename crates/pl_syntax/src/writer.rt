@@ -139,13 +139,7 @@ fn trimmed_digits(digits: &[u8]) -> &[u8]
 }
 
 /// A number of millionths.
-#[tactic(
-    auto,
-    unfolding(
-        pl_tokens::specs::Numerals::number_text,
-        pl_tokens::specs::Numerals::fraction_of
-    )
-)]
+#[tactic(auto, unfolding(pl_tokens::specs::Numerals::number_text, pl_tokens::specs::Numerals::fraction_of))]
 fn put_number(value: i64, out: &mut Vec<u8>) -> Result<(), AllocError>
     ensures { OnOk result (out.new.items ≡ out.old.items ++ number_text value) }
 {

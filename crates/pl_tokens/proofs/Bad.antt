@@ -1,11 +1,10 @@
 -- No token begins where a gap does, and a bad byte is found as one.
-use Rattle.std.proofs.Common.{◌≡◌, ℕ, zero, suc, ◌+◌, ◌<◌, ◌≤◌, Bool, true, false, cond, ◌&&◌, ◌||◌, List, [], ◌∷◌, ◌++◌, length, take, drop, refl, sym, ap, ◌∙◌, arith, length-append}
+use Rattle.std.proofs.Common.{◌≡◌, ℕ, suc, ◌+◌, ◌<◌, ◌≤◌, Bool, true, false, ◌&&◌, List, [], ◌∷◌, ◌++◌, length, drop, refl, ap, ◌∙◌, arith, length-append}
 use Rattle.std.specs.Prelude.{◌==◌, nat_le}
-use Rattle.std.specs.List.{list_all, take_while}
 use Rattle.std.proofs.lemmas.Bool.Decides.{nat_tests}
 use Rattle.pl_tokens.specs.declared.front.Form.{Form}
-use Rattle.pl_tokens.specs.declared.front.Found.TheVariants.{End, Bad, Token}
-use Rattle.pl_tokens.specs.Bytes.{Stops, is_word_byte, is_digit, is_text_byte, starts_word, may_pair, pairs, is_sign, is_blank, begins_gap}
+use Rattle.pl_tokens.specs.declared.front.Found.TheVariants.{Bad}
+use Rattle.pl_tokens.specs.Bytes.{Stops, is_word_byte, is_digit, is_text_byte, starts_word, pairs, is_sign, begins_gap}
 use Rattle.pl_tokens.specs.Tokens.{Front, a_word, a_whole, a_decimal, a_text, a_pair, a_sign}
 use Rattle.pl_tokens.specs.Front.{word_front, text_end, sign_front, front}
 use Rattle.pl_tokens.specs.Text.{IsBad, bad_word, bad_text, bad_sign, IsUnquoted}

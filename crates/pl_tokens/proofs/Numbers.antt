@@ -1,18 +1,18 @@
 -- The text of a number is a decimal without a sign, and reading it gives its token.
-use Rattle.std.proofs.Common.{◌≡◌, ℕ, ℤ, zero, suc, ◌+◌, ◌<◌, Bool, true, false, cond, ◌&&◌, ◌||◌, List, [], ◌∷◌, ◌++◌, length, take, drop, append-nil, Result, Ok, Err, refl, sym, ap, ◌∙◌, arith, subst}
-use Rattle.std.specs.Prelude.{nat_lt, if◌then◌else◌}
+use Rattle.std.proofs.Common.{◌≡◌, ℕ, ℤ, suc, ◌+◌, ◌<◌, Bool, true, false, cond, ◌&&◌, ◌||◌, List, [], ◌∷◌, ◌++◌, length, take, drop, append-nil, Result, Ok, Err, refl, sym, ap, ◌∙◌, arith, subst}
+use Rattle.std.specs.Prelude.{nat_lt}
 use Rattle.std.specs.List.{list_all}
 use Rattle.std.specs.Char.{digit_value}
-use Rattle.std.specs.Str.Parse.{AllDigits, IsNumeral}
+use Rattle.std.specs.Str.Parse.{AllDigits}
 use Rattle.std.specs.Int.RustNames.{unsigned_abs}
 use Rattle.std.proofs.lemmas.Bool.Decides.{nat_tests}
-use Rattle.std.proofs.Math.Seq.{take-append_seam, drop-append_seam, take-length}
+use Rattle.std.proofs.Math.Seq.{take-append_seam, take-length}
 use Rattle.pl_spec.specs.Rounding.{LIMIT}
 use Rattle.pl_spec.specs.Decimals.{Decimal, IsDecimal, millionths}
 use Rattle.pl_fixed.specs.Reading.{read, judged, in_range}
 use Rattle.pl_fixed.specs.declared.decimal.DecimalFault.{DecimalFault}
 use Rattle.pl_fixed.specs.declared.decimal.DecimalFault.TheVariants.{TooManyDigits, TooLarge}
-use Rattle.pl_fixed.proofs.DecimalLemmas.{AllDigits-from_test, read-spelled}
+use Rattle.pl_fixed.proofs.DecimalLemmas.{read-spelled}
 use Rattle.pl_grammar.specs.Tree as t
 use Rattle.pl_grammar.specs.Tree.{Token}
 use Rattle.pl_tokens.specs.declared.front.Form.{Form}

@@ -1,6 +1,6 @@
 -- Each text is read, and in one way.
-use Rattle.std.proofs.Common.{◌≡◌, ℕ, zero, suc, ◌+◌, ◌<◌, ◌≤◌, Bool, true, false, cond, ◌&&◌, ◌||◌, List, [], ◌∷◌, ◌++◌, length, take, drop, refl, sym, ap, ap₂, ◌∙◌, arith, length-append, subst}
-use Rattle.std.specs.Prelude.{◌==◌, not}
+use Rattle.std.proofs.Common.{◌≡◌, ℕ, zero, suc, ◌+◌, ◌<◌, Bool, true, false, cond, ◌||◌, List, [], ◌∷◌, ◌++◌, length, take, drop, refl, sym, ap, ap₂, ◌∙◌, arith, length-append, subst}
+use Rattle.std.specs.Prelude.{◌==◌}
 use Rattle.std.specs.List.{list_all, take_while}
 use Rattle.std.proofs.lemmas.Bool.Decides.{nat_tests}
 use Rattle.std.proofs.Math.Seq.{take-append_seam}
@@ -9,14 +9,13 @@ use Rattle.pl_grammar.specs.Tree.{Lexeme, mark}
 use Rattle.pl_grammar.specs.Tree as t
 use Rattle.pl_grammar.specs.Faults.{Tail, AtEnd, AtBad}
 use Rattle.pl_tokens.specs.declared.front.Form.{Form}
-use Rattle.pl_tokens.specs.declared.front.Form.TheVariants.{Word, Number, Text, One, Two}
 use Rattle.pl_tokens.specs.declared.front.Found.{Found}
 use Rattle.pl_tokens.specs.declared.front.Found.TheVariants.{End, Bad, Token}
 use Rattle.pl_tokens.specs.Bytes.{Stops, is_blank, no_line_end, begins_gap}
 use Rattle.pl_tokens.specs.Tokens.{Front, a_word, a_whole, a_decimal, a_text, a_pair, a_sign, token_in, form_length}
 use Rattle.pl_tokens.specs.Front.{front}
-use Rattle.pl_tokens.specs.Text.{after, after_byte, Read, at_text_end, at_bad_byte, a_blank, a_comment, a_token, IsBad}
-use Rattle.pl_tokens.proofs.Longest.{longest, cond_true, cond_false, drop_front, front_only, front_found, FoundAt, TokenAt, Run, run_of}
+use Rattle.pl_tokens.specs.Text.{after, after_byte, Read, at_text_end, at_bad_byte, a_blank, a_comment, a_token}
+use Rattle.pl_tokens.proofs.Longest.{longest, cond_true, cond_false, drop_front, front_only, front_found, FoundAt, run_of}
 use Rattle.pl_tokens.proofs.Bad.{front_no_gap, front_some, bad_no_gap, bad_within, bad_only}
 
 abbrev pub Whole : Type 0

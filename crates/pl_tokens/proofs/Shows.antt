@@ -1,7 +1,7 @@
 -- A text that is written token by token is read as these tokens, at whatever places they come to stand.
-use Rattle.std.proofs.Common.{◌≡◌, ℕ, ℤ, pos, negsuc, zero, suc, ◌+◌, ◌-◌, ◌*◌, ◌/◌, ◌%◌, ◌^◌, ◌<◌, ◌≤◌, Bool, true, false, cond, ◌&&◌, ◌||◌, List, [], ◌∷◌, ◌++◌, length, take, drop, reverse, refl, sym, ap, ap₂, ◌∙◌, arith, subst, append_assoc, append-nil, length-append}
+use Rattle.std.proofs.Common.{◌≡◌, ℕ, ℤ, pos, negsuc, zero, suc, ◌+◌, ◌-◌, ◌*◌, ◌/◌, ◌%◌, ◌^◌, ◌<◌, ◌≤◌, Bool, true, false, cond, ◌&&◌, ◌||◌, List, [], ◌∷◌, ◌++◌, length, take, reverse, refl, sym, ap, ap₂, ◌∙◌, arith, subst, append_assoc, append-nil, length-append}
 use Rattle.std.specs.Prelude.{◌==◌, not, nat_lt, nat_le, codes, bytes_eq, unsigned_abs}
-use Rattle.std.specs.List.{list_all, take_while}
+use Rattle.std.specs.List.{list_all}
 use Rattle.std.specs.Fmt.{decimal}
 use Rattle.std.specs.Char.{digit_value}
 use Rattle.std.specs.Str.Parse.{AllDigits, digits_value, digits_value_after}
@@ -16,7 +16,7 @@ use Rattle.std.proofs.lemmas.Nat.{div-add-mod', mod_below, div_below, pow-add}
 use Rattle.std.proofs.lemmas.Str.Parse.{digit_from_value}
 use Rattle.pl_spec.specs.Rounding.{LIMIT, MILLION, div_round}
 use Rattle.pl_spec.specs.Dates.{digits}
-use Rattle.pl_spec.specs.Decimals.{Decimal, millionths, point_text}
+use Rattle.pl_spec.specs.Decimals.{point_text}
 use Rattle.pl_fixed.proofs.DecimalLemmas.{digits_value-append, power_pos}
 use Rattle.pl_fixed.proofs.RoundingLemmas.{div_round-multiple}
 use Rattle.pl_fixed.proofs.WritingLemmas.{length-digits}
@@ -29,11 +29,11 @@ use Rattle.pl_tokens.specs.declared.front.Form.{Form}
 use Rattle.pl_tokens.specs.declared.front.Form.TheVariants.{Number}
 use Rattle.pl_tokens.specs.Bytes.{is_digit, starts_word, is_word_byte, is_text_byte, may_pair, pairs, is_sign, is_blank, Stops}
 use Rattle.pl_tokens.specs.Tokens.{Front, a_word, a_whole, a_decimal, a_text, a_pair, a_sign, NoDecimals, token_in, word_token, one_token, two_token, decimal_token}
-use Rattle.pl_tokens.specs.Sound.{is_keyword, is_name, is_number}
+use Rattle.pl_tokens.specs.Sound.{is_name, is_number}
 use Rattle.pl_tokens.specs.Numerals.{is_zero, trimmed, fraction_of, number_text}
 use Rattle.pl_tokens.specs.Text.{after, Read, at_text_end, a_blank, a_token}
-use Rattle.pl_tokens.proofs.Longest.{Run, run_of}
-use Rattle.pl_tokens.proofs.Numbers.{past, behind, all_digits}
+use Rattle.pl_tokens.proofs.Longest.{run_of}
+use Rattle.pl_tokens.proofs.Numbers.{past, behind}
 
 pub record Reading (q : Place) (bs : List ℕ) (us : List Lexeme) : Type 0 where
   pub tokens : List Lexeme
@@ -185,7 +185,7 @@ number_front (c ∷ cs) (f ∷ fs) rest some w g h =
     record {
       form = Number (suc (length cs)) (suc (length fs));
       front = a_decimal c cs f fs (test_digit c w.0) (test_digits cs w.1) (test_digit f g.0) (test_digits fs g.1) (no_digit rest h);
-      token = ap₂ token_of_parts (take-append_seam (c ∷ cs) (46 ∷ (f ∷ fs))) (behind (c ∷ cs) (f ∷ fs) 46)
+      token = ap₂ token_of_parts (take-append_seam (c ∷ cs) (46 ∷ (f ∷ fs))) (behind (c ∷ cs) (f ∷ fs) 46);
     }
 
 small_token : (ws fs : List ℕ) (n : ℕ) → length fs ≤ 6 → n ≤ LIMIT → div_round (pos (digits_value 10 (ws ++ fs) * MILLION)) (10 ^ length fs) ≡ pos n → token_of_parts ws fs ≡ t.Number (pos n)

@@ -1,7 +1,7 @@
 -- Steps over a text: places behind bytes, and gaps.
-use Rattle.std.proofs.Common.{◌≡◌, ℕ, zero, suc, ◌+◌, ◌-◌, ◌<◌, ◌≤◌, ◌^◌, Bool, true, false, cond, ◌||◌, List, [], ◌∷◌, ◌++◌, length, take, drop, get_or, refl, sym, ap, ap₂, ◌∙◌, arith, length-append, length-take, length-drop, subst}
+use Rattle.std.proofs.Common.{◌≡◌, ℕ, suc, ◌+◌, ◌-◌, ◌<◌, ◌≤◌, Bool, true, false, cond, ◌||◌, List, [], ◌∷◌, ◌++◌, length, take, drop, get_or, refl, sym, ap, ap₂, ◌∙◌, arith, length-append, length-take, length-drop, subst}
 use Rattle.std.specs.Prelude.{◌==◌}
-use Rattle.std.specs.List.{list_all, take_while}
+use Rattle.std.specs.List.{take_while}
 use Rattle.std.proofs.lemmas.Bool.Decides.{nat_tests}
 use Rattle.std.proofs.lemmas.List.{take_more, take-append-drop}
 use Rattle.std.proofs.Math.Seq.{take-append_seam, drop-append_seam, take-length}
@@ -118,7 +118,7 @@ token_found bs f tight e =
     record {
       within = omega (arith, n, ap length r.whole, length-append r.own r.rest);
       some = omega (arith, n, front_some r.form);
-      front = subst (λ z. Front z (drop (form_length f) bs) f) (sym own) (subst (λ z. Front r.own z f) (sym rest) r.form)
+      front = subst (λ z. Front z (drop (form_length f) bs) f) (sym own) (subst (λ z. Front r.own z f) (sym rest) r.form);
     }
 
 pub bad_found : (bs : List ℕ) (k : ℕ) → Stops begins_gap bs → Bad k ≡ front bs → IsBad bs k

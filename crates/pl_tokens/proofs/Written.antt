@@ -1,12 +1,11 @@
 -- What is read as tokens can be written as tokens.
-use Rattle.std.proofs.Common.{◌≡◌, ℕ, ℤ, pos, zero, suc, ◌+◌, ◌-◌, ◌*◌, ◌/◌, ◌^◌, ◌<◌, ◌≤◌, Bool, true, false, cond, ◌&&◌, ◌||◌, List, [], ◌∷◌, ◌++◌, length, take, drop, refl, sym, ap, ap₂, ◌∙◌, arith, subst}
-use Rattle.std.specs.Prelude.{◌==◌, not, nat_lt, nat_le, codes, bytes_eq, unsigned_abs}
+use Rattle.std.proofs.Common.{◌≡◌, ℕ, pos, suc, ◌+◌, ◌-◌, ◌*◌, ◌/◌, ◌^◌, ◌<◌, Bool, true, false, cond, ◌&&◌, ◌||◌, List, [], ◌∷◌, ◌++◌, length, take, drop, refl, ap, ap₂, ◌∙◌, arith}
+use Rattle.std.specs.Prelude.{◌==◌, not, nat_lt, nat_le, codes, bytes_eq}
 use Rattle.std.specs.List.{list_all}
 use Rattle.std.specs.Str.Parse.{digits_value}
 use Rattle.std.proofs.lemmas.Bool.Decides.{nat_tests}
 use Rattle.std.proofs.Math.Seq.{take-append_seam}
 use Rattle.pl_spec.specs.Rounding.{LIMIT, MILLION, div_round}
-use Rattle.pl_spec.specs.Decimals.{Decimal, millionths}
 use Rattle.pl_grammar.specs.declared.Place.{Place}
 use Rattle.pl_grammar.specs.declared.BinarySign.TheVariants.{Or, And, Less, LessEqual, Greater, GreaterEqual, Equal, NotEqual, Add, Sub, Mul, Div}
 use Rattle.pl_grammar.specs.Tree as t
@@ -15,8 +14,8 @@ use Rattle.pl_grammar.specs.Faults.{Tail}
 use Rattle.pl_grammar.specs.Whole.{tokens_pass}
 use Rattle.pl_tokens.specs.declared.front.Form.{Form}
 use Rattle.pl_tokens.specs.Bytes.{starts_word, is_word_byte, is_text_byte}
-use Rattle.pl_tokens.specs.Tokens.{Front, a_word, a_whole, a_decimal, a_text, a_pair, a_sign, token_in, word_token, one_token, two_token, decimal_token, number_token}
-use Rattle.pl_tokens.specs.Sound.{is_keyword, is_name, is_number, is_written}
+use Rattle.pl_tokens.specs.Tokens.{Front, a_word, a_whole, a_decimal, a_text, a_pair, a_sign, token_in, word_token, one_token, two_token, number_token}
+use Rattle.pl_tokens.specs.Sound.{is_keyword, is_written}
 use Rattle.pl_tokens.specs.Text.{Read, at_text_end, at_bad_byte, a_blank, a_comment, a_token}
 
 choose : (b : Bool) (x y : Token) → is_written x ≡ true → is_written y ≡ true → is_written (cond b x y) ≡ true

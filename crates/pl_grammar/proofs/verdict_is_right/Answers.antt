@@ -1,6 +1,4 @@
-use Rattle.std.proofs.Common.{◌≡◌, subst, [], refl}
-use Rattle.pl_grammar.specs.Script.{Opening}
-use Rattle.pl_grammar.specs.Faults.{verdict, since}
+use Rattle.std.proofs.Common.{subst}
 use Rattle.pl_grammar.proofs.First.{right_of, spelled_only, first_only, Right}
 use Rattle.pl_grammar.proofs.verdict_is_right.Goals as goal
 

@@ -1,4 +1,4 @@
-use Rattle.std.proofs.Common.{◌≡◌, ap, sym, ◌∙◌}
+use Rattle.std.proofs.Common.{ap, sym, ◌∙◌}
 use Rattle.pl_grammar.specs.Tree.{call, method}
 use Rattle.pl_grammar.specs.Machine.{applied}
 use Rattle.pl_syntax.specs.Plain.{plain}

@@ -1,19 +1,19 @@
-use Rattle.std.proofs.Common.{◌≡◌, ◌+◌, ◌<◌, ◌^◌, List, [], ◌∷◌, length, arith, refl, sym, ap, subst, ◌∙◌, Ok, Err}
-use Rattle.pl_grammar.specs.Tree.{Lexeme, mark}
+use Rattle.std.proofs.Common.{[], arith, refl, sym, ap, subst, ◌∙◌, Err}
+use Rattle.pl_grammar.specs.Tree.{mark}
 use Rattle.std.proofs.lemmas.Result.{err_from_is_err_and}
 use Rattle.pl_grammar.specs.Faults.{AtEnd, AtBad, counted}
-use Rattle.pl_tokens.specs.Text.{start, Read}
-use Rattle.pl_tokens.specs.Code.{token_of, HasRoom, Begins, IsNext}
+use Rattle.pl_tokens.specs.Text.{Read}
+use Rattle.pl_tokens.specs.Code.{token_of, Begins, IsNext}
 use Rattle.pl_syntax.specs.Stages.{stage_of}
 use Rattle.pl_syntax.specs.Parsing.{Outcome}
-use Rattle.pl_syntax.proofs.Verdicts.{Continues, on_token, at_step_fault, at_bad, at_end, end_sound, out_of_memory}
+use Rattle.pl_syntax.proofs.Verdicts.{on_token, at_step_fault, at_bad, at_end, end_sound, out_of_memory}
 use Rattle.pl_syntax.proofs.parser.read_all.Goals as goal
 
 pub loop-progress-init : goal.loop-progress-init
 loop-progress-init c = record {
   goes = λ ts tail x. record { tokens = ts; reads = x; same = refl };
   room = record { line = omega arith; col = omega arith };
-  few = omega arith
+  few = omega arith;
 }
 
 pub next-requires : goal.next-requires
@@ -31,7 +31,7 @@ loop-progress-preserved c =
     record {
       goes = on_token c.args.bytes.now bs rest p q c.in-Token.place (token_of c.in-Token.token) c.loop-progress.progress.1.0 x.count (stage_of c.loop-progress.progress.0) (stage_of x.stage) c.loop-progress.invariant.goes b h.0 h.1;
       room = b.room;
-      few = x.few
+      few = x.few;
     }
 
 pub returns-in_err-place : goal.returns-in_err-place

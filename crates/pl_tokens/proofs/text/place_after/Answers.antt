@@ -1,5 +1,5 @@
 use Rattle.std.proofs.Common.{arith, take, get_or, sym, ap, ◌∙◌, length-take}
-use Rattle.pl_tokens.specs.Text.{after, after_byte}
+use Rattle.pl_tokens.specs.Text.{after_byte}
 use Rattle.pl_tokens.proofs.Steps.{after_line, after_col, after_more}
 use Rattle.pl_tokens.proofs.text.place_after.Goals as goal
 

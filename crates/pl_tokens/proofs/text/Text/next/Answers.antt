@@ -1,11 +1,11 @@
-use Rattle.std.proofs.Common.{◌≡◌, ◌≤◌, ℕ, List, length, take, drop, arith, sym, ap, subst, ◌∙◌, length-take, length-drop, [], ◌∷◌}
+use Rattle.std.proofs.Common.{◌≡◌, length, take, drop, arith, sym, ap, subst, ◌∙◌, length-take, length-drop, [], ◌∷◌}
 use Rattle.pl_grammar.specs.Tree.{mark}
-use Rattle.pl_grammar.specs.Faults.{AtEnd, AtBad}
+use Rattle.pl_grammar.specs.Faults.{AtBad}
 use Rattle.pl_tokens.specs.Text.{after, Read, at_bad_byte}
 use Rattle.pl_tokens.specs.Tokens.{Front, form_length, token_in}
 use Rattle.pl_tokens.specs.Code.{token_of}
 use Rattle.pl_tokens.proofs.Bad.{bad_within}
-use Rattle.pl_tokens.proofs.Steps.{IsToken, token_found, bad_found, end_found, token_reads, end_reads}
+use Rattle.pl_tokens.proofs.Steps.{token_found, bad_found, end_found, token_reads, end_reads}
 use Rattle.pl_tokens.proofs.text.Text.next.Goals as goal
 
 pub skip-requires-clause-within : goal.skip-requires-clause-within
@@ -63,5 +63,5 @@ returns-in_ok-token-in-Token c =
           c.skip_gap.ensures.reads (mark p (token_of c.in_ok-token-in-Token.token) ∷ ts) tail
           (subst (λ z. Read p bs (mark p z ∷ ts) tail) (sym token) (token_reads p bs f here ts tail y));
       fewer = omega (arith, here.within, here.some, ap length bytes, length-drop (form_length f) bs, c.skip_gap.ensures.fewer);
-      room = c.skip-in-Token.ensures.room
+      room = c.skip-in-Token.ensures.room;
     }

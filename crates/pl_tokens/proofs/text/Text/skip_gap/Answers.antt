@@ -1,7 +1,4 @@
-use Rattle.std.proofs.Common.{◌≡◌, ◌≤◌, ◌<◌, ℕ, List, length, take, drop, arith, sym, ap, ap₂, subst, ◌∙◌, length-drop}
-use Rattle.pl_grammar.specs.Tree.{Lexeme}
-use Rattle.pl_grammar.specs.Faults.{Tail}
-use Rattle.pl_tokens.specs.Front.{gap_front}
+use Rattle.std.proofs.Common.{length, take, drop, arith, sym, ap, subst, length-drop}
 use Rattle.pl_tokens.specs.Text.{after, Read}
 use Rattle.pl_tokens.proofs.Steps.{Gap, gap}
 use Rattle.pl_tokens.proofs.text.Text.skip_gap.Goals as goal
@@ -20,5 +17,5 @@ loop-count-preserved c =
           c.loop-count.invariant.reads ts tail (here.reads (omega arith) ts tail y);
       count = c.gap_length-count-in-loop-count.ensures;
       fewer = omega (arith, c.loop-count.invariant.fewer, length-drop n bs, ap length c.skip.ensures.bytes);
-      room = c.skip.ensures.room
+      room = c.skip.ensures.room;
     }

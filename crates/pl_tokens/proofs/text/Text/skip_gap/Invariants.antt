@@ -11,7 +11,7 @@ invariant-loop-count l = record {
   reads : (ts : List Lexeme) (tail : Tail) → Read l.self.place l.self.bytes.now ts tail → Read l.fn.self.place l.fn.self.bytes.now ts tail;
   count : l.count ≡ gap_front l.self.bytes.now;
   fewer : length l.self.bytes.now ≤ length l.fn.self.bytes.now;
-  room : HasRoom l.self.place l.self.bytes.now
+  room : HasRoom l.self.place l.self.bytes.now;
 }
 
 abbrev pub decreases-loop-count : goal.decreases-loop-count
