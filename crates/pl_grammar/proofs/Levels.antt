@@ -1,0 +1,101 @@
+-- What holds of the levels, by cases on the signs; runs of the machine, joined.
+use Rattle.std.proofs.Common.{◌≡◌, ℕ, suc, ◌≤◌, ◌<◌, Bool, true, false, cond, leb, List, [], ◌∷◌, ◌++◌, Option, Some, Result, Ok, Err, refl, ap, ◌∙◌, arith}
+use Rattle.std.proofs.lemmas.Bool.{le-leb}
+use Rattle.std.proofs.lemmas.Bool.Decides.{nat_tests}
+use Rattle.pl_grammar.specs.declared.PrefixSign.{PrefixSign}
+use Rattle.pl_grammar.specs.declared.BinarySign.{BinarySign}
+use Rattle.pl_grammar.specs.declared.PrefixSign.TheVariants.{Minus, Not}
+use Rattle.pl_grammar.specs.declared.BinarySign.TheVariants.{Or, And, Less, LessEqual, Greater, GreaterEqual, Equal, NotEqual, Add, Sub, Mul, Div}
+use Rattle.pl_grammar.specs.Tree.{Lexeme, Tree, prefix_level, level, left_level, right_level}
+use Rattle.pl_grammar.specs.Machine.{Frame, Prefixed, Behind, Group, Call, State, Stop, asked, depth, close, step, then_run, run, allowed}
+
+pub record Levels (o : BinarySign) : Type 0 where
+  pub low : 1 ≤ level o
+  pub left : level o ≤ left_level o
+  pub left_most : left_level o ≤ right_level o
+  pub right : right_level o ≡ suc (level o)
+  pub most : right_level o ≤ 7
+
+pub levels : (o : BinarySign) → Levels o
+levels Or = record { low = omega arith; left = omega arith; left_most = omega arith; right = omega arith; most = omega arith }
+levels And = record { low = omega arith; left = omega arith; left_most = omega arith; right = omega arith; most = omega arith }
+levels Less = record { low = omega arith; left = omega arith; left_most = omega arith; right = omega arith; most = omega arith }
+levels LessEqual = record { low = omega arith; left = omega arith; left_most = omega arith; right = omega arith; most = omega arith }
+levels Greater = record { low = omega arith; left = omega arith; left_most = omega arith; right = omega arith; most = omega arith }
+levels GreaterEqual = record { low = omega arith; left = omega arith; left_most = omega arith; right = omega arith; most = omega arith }
+levels Equal = record { low = omega arith; left = omega arith; left_most = omega arith; right = omega arith; most = omega arith }
+levels NotEqual = record { low = omega arith; left = omega arith; left_most = omega arith; right = omega arith; most = omega arith }
+levels Add = record { low = omega arith; left = omega arith; left_most = omega arith; right = omega arith; most = omega arith }
+levels Sub = record { low = omega arith; left = omega arith; left_most = omega arith; right = omega arith; most = omega arith }
+levels Mul = record { low = omega arith; left = omega arith; left_most = omega arith; right = omega arith; most = omega arith }
+levels Div = record { low = omega arith; left = omega arith; left_most = omega arith; right = omega arith; most = omega arith }
+
+-- no binary sign is of the level of a prefix sign
+pub apart : (s : PrefixSign) (o : BinarySign) → prefix_level s ≤ level o → prefix_level s < level o
+apart Minus o h = absurd (omega (arith, (levels o).most, (levels o).right))
+apart Not Or h = absurd (omega arith)
+apart Not And h = absurd (omega arith)
+apart Not Less h = omega arith
+apart Not LessEqual h = omega arith
+apart Not Greater h = omega arith
+apart Not GreaterEqual h = omega arith
+apart Not Equal h = omega arith
+apart Not NotEqual h = omega arith
+apart Not Add h = omega arith
+apart Not Sub h = omega arith
+apart Not Mul h = omega arith
+apart Not Div h = omega arith
+
+pub prefix_least : (s : PrefixSign) → 3 ≤ prefix_level s
+prefix_least Minus = omega arith
+prefix_least Not = omega arith
+
+pub prefix_most : (s : PrefixSign) → prefix_level s ≤ 7
+prefix_most Minus = omega arith
+prefix_most Not = omega arith
+
+pub lt-leb-false : (a b : ℕ) → b < a → leb a b ≡ false
+lt-leb-false a b h = grind (arith, nat_tests)
+
+pub cond_true {ℓ} : {A : Type ℓ} (b : Bool) (x y : A) → b ≡ true → cond b x y ≡ x
+cond_true b x y h = rw h refl
+
+pub cond_false {ℓ} : {A : Type ℓ} (b : Bool) (x y : A) → b ≡ false → cond b x y ≡ y
+cond_false b x y h = rw h refl
+
+-- an operator of a level that its place allows ends nothing of its surroundings
+pub stays : (o : BinarySign) (h : ℕ) (e : Tree) (fs : List Frame) → asked fs ≤ level o → close (level o) h e fs ≡ record { height = h; tree = e; frames = fs }
+stays o h e [] p = refl
+stays o h e (Prefixed q s ∷ fs) p = cond_false (leb (level o) (prefix_level s)) _ _ (lt-leb-false (level o) (prefix_level s) (apart s o p))
+stays o h e (Behind r q a ∷ fs) p = cond_false (leb (level o) (level q)) _ _ (lt-leb-false (level o) (level q) (omega (arith, (levels q).right)))
+stays o h e (Group ∷ fs) p = refl
+stays o h e (Call c ps n ∷ fs) p = refl
+
+-- a dot ends nothing
+pub stays_at_dot : (h : ℕ) (e : Tree) (fs : List Frame) → close 8 h e fs ≡ record { height = h; tree = e; frames = fs }
+stays_at_dot h e [] = refl
+stays_at_dot h e (Prefixed p s ∷ fs) = cond_false (leb 8 (prefix_level s)) _ _ (lt-leb-false 8 (prefix_level s) (omega (arith, prefix_most s)))
+stays_at_dot h e (Behind p q a ∷ fs) = cond_false (leb 8 (level q)) _ _ (lt-leb-false 8 (level q) (omega (arith, (levels q).right, (levels q).most)))
+stays_at_dot h e (Group ∷ fs) = refl
+stays_at_dot h e (Call c ps n ∷ fs) = refl
+
+-- runs, joined
+
+pub run-append : (most : ℕ) (xs ys : List Lexeme) (s : State) → run most (xs ++ ys) s ≡ then_run (run most ys) (run most xs s)
+unfolding run
+run-append most [] ys s = refl
+run-append most (x ∷ xs) ys s = by_step most xs ys (step most x s) (run-append most xs ys)
+  where
+    by_step : (most : ℕ) (xs ys : List Lexeme) (r : Result State Stop) → ((s : State) → run most (xs ++ ys) s ≡ then_run (run most ys) (run most xs s)) → then_run (run most (xs ++ ys)) r ≡ then_run (run most ys) (then_run (run most xs) r)
+    by_step most xs ys (Ok s) h = h s
+    by_step most xs ys (Err e) h = refl
+
+pub run_on : (most : ℕ) (xs ys : List Lexeme) (s t : State) (r : Result State Stop) → run most xs s ≡ Ok t → run most ys t ≡ r → run most (xs ++ ys) s ≡ r
+run_on most xs ys s t r h k = run-append most xs ys s ∙ (ap (then_run (run most ys)) h ∙ k)
+
+pub run_step : (most : ℕ) (x : Lexeme) (ys : List Lexeme) (s t : State) (r : Result State Stop) → step most x s ≡ Ok t → run most ys t ≡ r → run most (x ∷ ys) s ≡ r
+unfolding run
+run_step most x ys s t r h k = ap (then_run (run most ys)) h ∙ k
+
+pub allowed_some : (most : ℕ) (o : Option State) (t : State) → o ≡ Some t → depth t.frames ≤ most → allowed most o ≡ Ok t
+allowed_some most o t h k = ap (allowed most) h ∙ cond_true (leb (depth t.frames) most) _ _ (le-leb (depth t.frames) most k)

@@ -1,0 +1,9 @@
+pub mod Tree
+pub mod Grammar
+pub mod Machine
+pub mod Script
+pub mod Printed
+pub mod Places
+pub mod Faults
+pub mod Whole
+pub mod Laws

@@ -1,0 +1,285 @@
+-- The machine that reads an expression token by token, over a stack of what is open.
+use Rattle.std.specs.Prelude.{ℕ, suc, Bool, true, false, cond, nat_le, List, [], ◌∷◌, ◌++◌, Option, Some, None, Result, Ok, Err}
+use Rattle.pl_grammar.specs.declared.Place.{Place}
+use Rattle.pl_grammar.specs.declared.PrefixSign.{PrefixSign}
+use Rattle.pl_grammar.specs.declared.BinarySign.{BinarySign}
+use Rattle.pl_grammar.specs.declared.PrefixSign.TheVariants.{Minus, Not}
+use Rattle.pl_grammar.specs.declared.BinarySign.TheVariants.{Or, And, Less, LessEqual, Greater, GreaterEqual, Equal, NotEqual, Add, Sub, Mul, Div}
+use Rattle.pl_grammar.specs.Tree.{Name, Number, LargeNumber, Text, Operator, Tilde, Dot, Open, Close, Comma, Assign, Semicolon, PipelineWord, LetWord, ColumnWord, ScreenWord, Lexeme, mark, Tree, number, text, name, call, prefix, binary, member, method, Args, no_args, arg, prefix_level, level, left_level, right_level}
+
+-- what a list of arguments belongs to
+pub data Callee : Type 0 where
+  function : Place → List ℕ → Callee
+  method_of : Place → Tree → List ℕ → Callee
+
+pub record Arg : Type 0 where
+  pub name : Option (List ℕ)
+  pub tree : Tree
+
+-- what is open, the innermost first: a prefix sign, a binary sign behind its left operand, a group, and
+-- an argument behind its callee, the arguments before it and its name
+pub data Frame : Type 0 where
+  Prefixed : Place → PrefixSign → Frame
+  Behind : Place → BinarySign → Tree → Frame
+  Group : Frame
+  Call : Callee → List Arg → Option (List ℕ) → Frame
+
+-- where the machine stands: an operand is wanted; an argument begins; a name was read, at an argument's
+-- beginning or elsewhere; a member's name was read; an operand ended by `)` or a literal; a dot was read
+pub data Mode : Type 0 where
+  Wanted : Mode
+  ArgWanted : Mode
+  Named : Place → List ℕ → Mode
+  ArgNamed : Place → List ℕ → Mode
+  Membered : Place → Tree → List ℕ → Mode
+  Given : Tree → Mode
+  Dotted : Tree → Mode
+
+pub record State : Type 0 where
+  pub mode : Mode
+  pub frames : List Frame
+
+-- the operand that was read
+abbrev pub operand : Mode → Option Tree
+operand Wanted = None
+operand ArgWanted = None
+operand (Named p n) = Some (name p n)
+operand (ArgNamed p n) = Some (name p n)
+operand (Membered p e n) = Some (member p e n)
+operand (Given e) = Some e
+operand (Dotted e) = None
+
+abbrev pub is_wanted : Mode → Bool
+is_wanted Wanted = true
+is_wanted ArgWanted = true
+is_wanted (Named p n) = false
+is_wanted (ArgNamed p n) = false
+is_wanted (Membered p e n) = false
+is_wanted (Given e) = false
+is_wanted (Dotted e) = false
+
+-- what may be called by a `(` here
+abbrev pub callee : Mode → Option Callee
+callee Wanted = None
+callee ArgWanted = None
+callee (Named p n) = Some (function p n)
+callee (ArgNamed p n) = Some (function p n)
+callee (Membered p e n) = Some (method_of p e n)
+callee (Given e) = None
+callee (Dotted e) = None
+
+abbrev pub args_of : List Arg → Args
+args_of [] = no_args
+args_of (a ∷ ps) = arg a.name a.tree (args_of ps)
+
+abbrev pub applied : Callee → List Arg → Tree
+applied (function p n) ps = call p n (args_of ps)
+applied (method_of p e n) ps = method p e n (args_of ps)
+
+-- the level that the place inside the innermost construct asks
+abbrev pub asked : List Frame → ℕ
+asked [] = 1
+asked (Prefixed p s ∷ fs) = prefix_level s
+asked (Behind p o a ∷ fs) = right_level o
+asked (Group ∷ fs) = 1
+asked (Call c ps n ∷ fs) = 1
+
+-- how many of the constructs that the limit counts are open
+abbrev pub depth : List Frame → ℕ
+depth [] = 0
+depth (Prefixed p s ∷ fs) = suc (depth fs)
+depth (Behind p o a ∷ fs) = depth fs
+depth (Group ∷ fs) = suc (depth fs)
+depth (Call c ps n ∷ fs) = suc (depth fs)
+
+-- an operand with its level, and what is open around it
+pub record Closed : Type 0 where
+  pub height : ℕ
+  pub tree : Tree
+  pub frames : List Frame
+
+-- is the construct ended by a sign of level m behind its operand
+abbrev pub ends : ℕ → Frame → Bool
+ends m (Prefixed p s) = nat_le m (prefix_level s)
+ends m (Behind p o a) = nat_le m (level o)
+ends m Group = false
+ends m (Call c ps n) = false
+
+abbrev pub frame_level : Frame → ℕ
+frame_level (Prefixed p s) = prefix_level s
+frame_level (Behind p o a) = level o
+frame_level Group = 0
+frame_level (Call c ps n) = 0
+
+-- the construct with its operand
+abbrev pub join : Frame → Tree → Tree
+join (Prefixed p s) e = prefix p s e
+join (Behind p o a) e = binary p o a e
+join Group e = e
+join (Call c ps n) e = e
+
+-- ends the constructs of level m and above that the operand ends
+abbrev pub close : ℕ → ℕ → Tree → List Frame → Closed
+close m h e [] = record { height = h; tree = e; frames = [] }
+close m h e (f ∷ fs) = cond (ends m f) (close m (frame_level f) (join f e) fs) (record { height = h; tree = e; frames = f ∷ fs })
+
+abbrev pub closed : ℕ → Tree → List Frame → Closed
+closed m e fs = close m 8 e fs
+
+abbrev pub at : Mode → List Frame → State
+at m fs = record { mode = m; frames = fs }
+
+-- each token's move
+
+abbrev pub literal : Tree → Bool → List Frame → Option State
+literal e true fs = Some (at (Given e) fs)
+literal e false fs = None
+
+abbrev pub named_move : Place → List ℕ → Mode → List Frame → Option State
+named_move q n Wanted fs = Some (at (Named q n) fs)
+named_move q n ArgWanted fs = Some (at (ArgNamed q n) fs)
+named_move q n (Named p m) fs = None
+named_move q n (ArgNamed p m) fs = None
+named_move q n (Membered p e m) fs = None
+named_move q n (Given e) fs = None
+named_move q n (Dotted e) fs = Some (at (Membered q e n) fs)
+
+abbrev pub sign_move : Place → PrefixSign → Bool → List Frame → Option State
+sign_move p s true fs = cond (nat_le (asked fs) (prefix_level s)) (Some (at Wanted (Prefixed p s ∷ fs))) None
+sign_move p s false fs = None
+
+abbrev pub minus_move : Place → BinarySign → Bool → List Frame → Option State
+minus_move p Sub w fs = sign_move p Minus w fs
+minus_move p Or w fs = None
+minus_move p And w fs = None
+minus_move p Less w fs = None
+minus_move p LessEqual w fs = None
+minus_move p Greater w fs = None
+minus_move p GreaterEqual w fs = None
+minus_move p Equal w fs = None
+minus_move p NotEqual w fs = None
+minus_move p Add w fs = None
+minus_move p Mul w fs = None
+minus_move p Div w fs = None
+
+abbrev pub behind : Place → BinarySign → Closed → Option State
+behind p o c = cond (nat_le (left_level o) c.height) (Some (at Wanted (Behind p o c.tree ∷ c.frames))) None
+
+abbrev pub operator_move : Place → BinarySign → Option Tree → Bool → List Frame → Option State
+operator_move p o (Some e) w fs = behind p o (closed (level o) e fs)
+operator_move p o None w fs = minus_move p o w fs
+
+abbrev pub dot_move : Option Tree → List Frame → Option State
+dot_move (Some e) fs = Some (at (Dotted e) fs)
+dot_move None fs = None
+
+abbrev pub open_move : Bool → Option Callee → List Frame → Option State
+open_move true c fs = Some (at Wanted (Group ∷ fs))
+open_move false (Some c) fs = Some (at ArgWanted (Call c [] None ∷ fs))
+open_move false None fs = None
+
+abbrev pub shut : Tree → List Frame → Option State
+shut e [] = None
+shut e (Prefixed p s ∷ fs) = None
+shut e (Behind p o a ∷ fs) = None
+shut e (Group ∷ fs) = Some (at (Given e) fs)
+shut e (Call c ps n ∷ fs) = Some (at (Given (applied c (ps ++ (record { name = n; tree = e } ∷ [])))) fs)
+
+-- a `)` where no operand was read: only behind the `(` of a call
+abbrev pub shut_empty : Mode → List Frame → Option State
+shut_empty Wanted fs = None
+shut_empty ArgWanted [] = None
+shut_empty ArgWanted (Prefixed p s ∷ fs) = None
+shut_empty ArgWanted (Behind p o a ∷ fs) = None
+shut_empty ArgWanted (Group ∷ fs) = None
+shut_empty ArgWanted (Call c [] n ∷ fs) = Some (at (Given (applied c [])) fs)
+shut_empty ArgWanted (Call c (a ∷ ps) n ∷ fs) = None
+shut_empty (Named p n) fs = None
+shut_empty (ArgNamed p n) fs = None
+shut_empty (Membered p e n) fs = None
+shut_empty (Given e) fs = None
+shut_empty (Dotted e) fs = None
+
+abbrev pub close_move : Option Tree → Mode → List Frame → Option State
+close_move (Some e) m fs = let c = closed 0 e fs in shut c.tree c.frames
+close_move None m fs = shut_empty m fs
+
+abbrev pub next_arg : Tree → List Frame → Option State
+next_arg e [] = None
+next_arg e (Prefixed p s ∷ fs) = None
+next_arg e (Behind p o a ∷ fs) = None
+next_arg e (Group ∷ fs) = None
+next_arg e (Call c ps n ∷ fs) = Some (at ArgWanted (Call c (ps ++ (record { name = n; tree = e } ∷ [])) None ∷ fs))
+
+abbrev pub comma_move : Option Tree → List Frame → Option State
+comma_move (Some e) fs = let c = closed 0 e fs in next_arg c.tree c.frames
+comma_move None fs = None
+
+abbrev pub name_arg : List ℕ → List Frame → Option State
+name_arg n [] = None
+name_arg n (Prefixed p s ∷ fs) = None
+name_arg n (Behind p o a ∷ fs) = None
+name_arg n (Group ∷ fs) = None
+name_arg n (Call c ps m ∷ fs) = Some (at Wanted (Call c ps (Some n) ∷ fs))
+
+abbrev pub assign_move : Mode → List Frame → Option State
+assign_move Wanted fs = None
+assign_move ArgWanted fs = None
+assign_move (Named p n) fs = None
+assign_move (ArgNamed p n) fs = name_arg n fs
+assign_move (Membered p e n) fs = None
+assign_move (Given e) fs = None
+assign_move (Dotted e) fs = None
+
+abbrev pub move : Lexeme → Mode → List Frame → Option State
+move (mark p (Name n)) m fs = named_move p n m fs
+move (mark p (Number v)) m fs = literal (number p v) (is_wanted m) fs
+move (mark p LargeNumber) m fs = None
+move (mark p (Text t)) m fs = literal (text p t) (is_wanted m) fs
+move (mark p (Operator o)) m fs = operator_move p o (operand m) (is_wanted m) fs
+move (mark p Tilde) m fs = sign_move p Not (is_wanted m) fs
+move (mark p Dot) m fs = dot_move (operand m) fs
+move (mark p Open) m fs = open_move (is_wanted m) (callee m) fs
+move (mark p Close) m fs = close_move (operand m) m fs
+move (mark p Comma) m fs = comma_move (operand m) fs
+move (mark p Assign) m fs = assign_move m fs
+move (mark p Semicolon) m fs = None
+move (mark p PipelineWord) m fs = None
+move (mark p LetWord) m fs = None
+move (mark p ColumnWord) m fs = None
+move (mark p ScreenWord) m fs = None
+
+-- why the machine stops
+pub data Stop : Type 0 where
+  Stuck : Stop
+  Deep : Stop
+
+abbrev pub allowed : ℕ → Option State → Result State Stop
+allowed most (Some s) = cond (nat_le (depth s.frames) most) (Ok s) (Err Deep)
+allowed most None = Err Stuck
+
+abbrev pub step : ℕ → Lexeme → State → Result State Stop
+step most t s = allowed most (move t s.mode s.frames)
+
+abbrev pub then_run : (State → Result State Stop) → Result State Stop → Result State Stop
+then_run f (Ok s) = f s
+then_run f (Err e) = Err e
+
+unfoldable pub run : ℕ → List Lexeme → State → Result State Stop
+run most [] s = Ok s
+run most (t ∷ ts) s = then_run (run most ts) (step most t s)
+
+abbrev pub first : State
+first = at Wanted []
+
+-- the tree that was read, where nothing is left open
+abbrev pub outermost : Tree → List Frame → Option Tree
+outermost e [] = Some e
+outermost e (f ∷ fs) = None
+
+abbrev pub finished : Option Tree → List Frame → Option Tree
+finished (Some e) fs = let c = closed 0 e fs in outermost c.tree c.frames
+finished None fs = None
+
+abbrev pub finish : State → Option Tree
+finish s = finished (operand s.mode) s.frames

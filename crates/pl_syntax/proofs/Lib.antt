@@ -1,0 +1,6 @@
+pub mod Pushed
+pub mod Verdicts
+pub mod Arguments
+pub mod Lines
+pub mod Shown
+pub mod Printing

@@ -1,0 +1,195 @@
+-- The verdict over a text, token by token, and what it says of the bytes.
+use Rattle.std.proofs.Common.{◌≡◌, ℕ, Bool, true, false, cond, leb, List, [], ◌∷◌, Some, Result, Ok, Err, refl, sym, ap, ap₂, subst, ◌∙◌, IfOk, IfErr}
+use Rattle.pl_grammar.specs.declared.Place.{Place}
+use Rattle.pl_grammar.specs.Machine.{Stop, Stuck, Deep}
+use Rattle.pl_grammar.specs.Tree.{Token, Lexeme, mark}
+use Rattle.pl_grammar.specs.Script as g
+use Rattle.pl_grammar.specs.Script.{script_step}
+use Rattle.pl_grammar.specs.Faults as f
+use Rattle.pl_grammar.specs.Faults.{Kind, Tail, AtEnd, AtBad, Verdict, Good, Fault, place_of, too_large, counted, most_tokens, most_depth, Spelled, IsFirst, step_verdict, finish_verdict, verdict}
+use Rattle.pl_grammar.proofs.ScriptRead.{one_script}
+use Rattle.pl_grammar.specs.Whole.{are_sound}
+use Rattle.pl_grammar.proofs.Scripts.{script_sound}
+use Rattle.pl_grammar.proofs.First.{Right, right_of, spelled_only, first_only}
+use Rattle.pl_tokens.specs.Text.{start, Read}
+use Rattle.pl_tokens.specs.Code.{Begins}
+use Rattle.pl_tokens.specs.Sound.{is_written}
+use Rattle.pl_tokens.proofs.Written.{read_written}
+use Rattle.pl_tokens.proofs.Reading.{one_way, is_read}
+use Rattle.pl_syntax.specs.Spells.{Parsed, Spells, FirstFault}
+use Rattle.pl_syntax.specs.Statements.{statements_of}
+use Rattle.pl_syntax.specs.Scripts.{statements_in, parsed}
+use Rattle.pl_syntax.specs.Parsing.{stepped, token_step, error_of, IsCause, AnswersScript, AnswersFault, Steps, Ends, Gives, Outcome}
+use Rattle.pl_syntax.specs.declared.script.Script.{Script}
+use Rattle.pl_syntax.specs.declared.error.SyntaxError.{SyntaxError}
+use Rattle.pl_syntax.specs.declared.error.SyntaxError.TheVariants.{BadByte, Unexpected, TooDeep, NumberTooLarge, TooLong, LongStatement, Memory}
+
+-- behind the tokens that were read, the rest decides as the whole does
+pub record Continues (bytes : List ℕ) (ts : List Lexeme) (tail : Tail) (n : ℕ) (s : g.Stage) : Type 0 where
+  pub tokens : List Lexeme
+  pub reads : Read start bytes tokens tail
+  pub same : verdict 0 g.Opening tokens tail ≡ verdict n s ts tail
+
+abbrev pub after_step : Place → Result g.Stage Kind → (g.Stage → Verdict) → Verdict
+after_step p (Ok s) k = k s
+after_step p (Err e) k = Fault e p
+
+pub verdict_step : (n : ℕ) (s : g.Stage) (t : Lexeme) (ts : List Lexeme) (tail : Tail) → verdict n s (t ∷ ts) tail ≡ after_step (place_of t) (token_step n t s) (λ s. verdict (counted n t) s ts tail)
+unfolding verdict
+verdict_step n s t ts tail = by_tests (leb most_tokens n) (too_large t) (script_step most_depth t s) (λ s. verdict (counted n t) s ts tail)
+  where
+    by_step : (r : Result g.Stage Stop) (k : g.Stage → Verdict) → step_verdict (place_of t) r k ≡ after_step (place_of t) (stepped r) k
+    by_step (Ok x) k = refl
+    by_step (Err Stuck) k = refl
+    by_step (Err Deep) k = refl
+
+    by_tests : (a b : Bool) (r : Result g.Stage Stop) (k : g.Stage → Verdict) → cond a (Fault f.LongStatement (place_of t)) (cond b (Fault f.NumberTooLarge (place_of t)) (step_verdict (place_of t) r k)) ≡ after_step (place_of t) (cond a (Err f.LongStatement) (cond b (Err f.NumberTooLarge) (stepped r))) k
+    by_tests true b r k = refl
+    by_tests false true r k = refl
+    by_tests false false r k = by_step r k
+
+-- what the answer says of the bytes
+
+pub gives_at : (bytes : List ℕ) (r : Result Script SyntaxError) → Outcome bytes r → (ts : List Lexeme) (tail : Tail) → Read start bytes ts tail → Gives r tail (verdict 0 g.Opening ts tail)
+gives_at bytes r o ts tail x =
+    let same = one_way start bytes o.tokens ts o.tail tail o.reads x in
+    subst (λ z. Gives r z (verdict 0 g.Opening ts z)) same.1 (subst (λ z. Gives r o.tail (verdict 0 g.Opening z o.tail)) same.0 o.gives)
+
+pub spelled : (bytes : List ℕ) (r : Result Script SyntaxError) → Outcome bytes r → IfOk r (λ s. Spells bytes (parsed s))
+spelled bytes (Ok s) o =
+    let x : Spelled o.tokens o.tail (statements_of (statements_in s)) = subst (λ v. Right v o.tokens o.tail) o.gives.0 (right_of o.tokens o.tail) in
+    record { tokens = o.tokens; reads = subst (λ z. Read start bytes o.tokens z) o.gives.1 o.reads; short = x.short; derives = x.derives }
+spelled bytes (Err e) o = tt
+
+same_good : {a b : List g.Statement} → Good a ≡ Good b → a ≡ b
+same_good h = cc
+
+same_end : {p q : Place} → AtEnd p ≡ AtEnd q → p ≡ q
+same_end h = cc
+
+not_good : {a : List g.Statement} {k : Kind} {p : Place} → Good a ≡ Fault k p → ⊥
+not_good h = cc
+
+same_kind : {k j : Kind} {p q : Place} → Fault k p ≡ Fault j q → k ≡ j
+same_kind h = cc
+
+same_place : {k j : Kind} {p q : Place} → Fault k p ≡ Fault j q → p ≡ q
+same_place h = cc
+
+abbrev made : List g.Statement → Place → Parsed
+made ss p = record { statements = ss; end = p }
+
+answers_script : (r : Result Script SyntaxError) (x : Parsed) → Gives r (AtEnd x.end) (Good x.statements) → AnswersScript r x
+answers_script (Ok s) x h = ap₂ made (sym (same_good h.0)) (sym (same_end h.1))
+answers_script (Err (BadByte p)) x h = absurd (not_good h)
+answers_script (Err (Unexpected p)) x h = absurd (not_good h)
+answers_script (Err (TooDeep p)) x h = absurd (not_good h)
+answers_script (Err (NumberTooLarge p)) x h = absurd (not_good h)
+answers_script (Err (LongStatement p)) x h = absurd (not_good h)
+answers_script (Err TooLong) x h = absurd h
+answers_script (Err Memory) x h = tt
+
+pub spelled_answers : (bytes : List ℕ) (r : Result Script SyntaxError) → Outcome bytes r → (x : Parsed) → Spells bytes x → AnswersScript r x
+spelled_answers bytes r o x s =
+    let v : verdict 0 g.Opening s.tokens (AtEnd x.end) ≡ Good x.statements = spelled_only s.tokens (AtEnd x.end) x.statements (record { end = x.end; ended = refl; short = s.short; derives = s.derives }) in
+    answers_script r x (subst (λ z. Gives r (AtEnd x.end) z) v (gives_at bytes r o s.tokens (AtEnd x.end) s.reads))
+
+error_at : (e : Kind) (q : Place) (k : Kind) (p : Place) → Fault k p ≡ Fault e q → error_of e q ≡ error_of k p
+error_at e q k p h = sym (ap₂ error_of (same_kind h) (same_place h))
+
+no_fault : {a : List g.Statement} {k : Kind} {p : Place} → Fault k p ≡ Good a → ⊥
+no_fault h = cc
+
+answers_fault : (r : Result Script SyntaxError) (k : Kind) (p : Place) (tail : Tail) → Gives r tail (Fault k p) → AnswersFault r k p
+answers_fault (Ok s) k p tail h = no_fault h.0
+answers_fault (Err (BadByte q)) k p tail h = error_at f.BadByte q k p h
+answers_fault (Err (Unexpected q)) k p tail h = error_at f.Unexpected q k p h
+answers_fault (Err (TooDeep q)) k p tail h = error_at f.TooDeep q k p h
+answers_fault (Err (NumberTooLarge q)) k p tail h = error_at f.NumberTooLarge q k p h
+answers_fault (Err (LongStatement q)) k p tail h = error_at f.LongStatement q k p h
+answers_fault (Err TooLong) k p tail h = absurd h
+answers_fault (Err Memory) k p tail h = tt
+
+pub fault_answers : (bytes : List ℕ) (r : Result Script SyntaxError) → Outcome bytes r → (k : Kind) (p : Place) → FirstFault bytes k p → AnswersFault r k p
+fault_answers bytes r o k p x = answers_fault r k p x.tail (subst (λ z. Gives r x.tail z) (first_only x.first) (gives_at bytes r o x.tokens x.tail x.reads))
+
+first_of : (bytes : List ℕ) (ts : List Lexeme) (tail : Tail) (k : Kind) (p : Place) → Read start bytes ts tail → verdict 0 g.Opening ts tail ≡ Fault k p → FirstFault bytes k p
+first_of bytes ts tail k p x h = record { tokens = ts; tail = tail; reads = x; first = subst (λ v. Right v ts tail) h (right_of ts tail) }
+
+pub cause : (bytes : List ℕ) (r : Result Script SyntaxError) → Outcome bytes r → IfErr r (IsCause bytes)
+cause bytes (Ok s) o = tt
+cause bytes (Err (BadByte p)) o = first_of bytes o.tokens o.tail f.BadByte p o.reads o.gives
+cause bytes (Err (Unexpected p)) o = first_of bytes o.tokens o.tail f.Unexpected p o.reads o.gives
+cause bytes (Err (TooDeep p)) o = first_of bytes o.tokens o.tail f.TooDeep p o.reads o.gives
+cause bytes (Err (NumberTooLarge p)) o = first_of bytes o.tokens o.tail f.NumberTooLarge p o.reads o.gives
+cause bytes (Err (LongStatement p)) o = first_of bytes o.tokens o.tail f.LongStatement p o.reads o.gives
+cause bytes (Err TooLong) o = absurd o.gives
+cause bytes (Err Memory) o = tt
+
+-- the bytes decide the script
+pub one_parsed : (bytes : List ℕ) (a b : Parsed) → Spells bytes a → Spells bytes b → a ≡ b
+one_parsed bytes a b x y =
+    let same = one_way start bytes x.tokens y.tokens (AtEnd a.end) (AtEnd b.end) x.reads y.reads in
+    ap₂ made (one_script most_depth y.tokens a.statements b.statements (subst (λ z. g.Script most_depth z a.statements) same.0 x.derives) y.derives) (same_end same.1)
+
+-- the reader's turns
+
+abbrev pub Goes : List ℕ → Place → List ℕ → ℕ → g.Stage → Type 0
+Goes bytes p bs n s = (ts : List Lexeme) (tail : Tail) → Read p bs ts tail → Continues bytes ts tail n s
+
+pub on_token : (bytes bs rest : List ℕ) (p q r : Place) (t : Token) (n k : ℕ) (s x : g.Stage) → Goes bytes p bs n s → Begins p bs r t q rest → token_step n (mark r t) s ≡ Ok x → k ≡ counted n (mark r t) → Goes bytes q rest k x
+on_token bytes bs rest p q r t n k s x goes b e size ts tail y =
+    let c = goes (mark r t ∷ ts) tail (b.reads ts tail y) in
+    record {
+      tokens = c.tokens;
+      reads = c.reads;
+      same = c.same ∙ (verdict_step n s (mark r t) ts tail ∙ (ap (λ z. after_step r z (λ s. verdict (counted n (mark r t)) s ts tail)) e ∙ ap (λ m. verdict m x ts tail) (sym size)));
+    }
+
+pub at_step_fault : (bytes bs rest : List ℕ) (p q r : Place) (t : Token) (n k : ℕ) (s : g.Stage) (e : SyntaxError) → Goes bytes p bs n s → Begins p bs r t q rest → Steps (Err e) (token_step n (mark r t) s) k r → Outcome bytes (Err e)
+at_step_fault bytes bs rest p q r t n k s e goes b h =
+    let y = is_read q rest in
+    let c = goes (mark r t ∷ y.tokens) y.tail (b.reads y.tokens y.tail y.reads) in
+    record { tokens = c.tokens; tail = y.tail; reads = c.reads; gives = of_error e c.tokens y.tokens y.tail (c.same ∙ verdict_step n s (mark r t) y.tokens y.tail) h }
+  where
+    of_kind : (kind : Kind) (place : Place) (us ts : List Lexeme) (tail : Tail) → verdict 0 g.Opening us tail ≡ after_step r (token_step n (mark r t) s) (λ s. verdict (counted n (mark r t)) s ts tail) → token_step n (mark r t) s ≡ Err kind → place ≡ r → verdict 0 g.Opening us tail ≡ Fault kind place
+    of_kind kind place us ts tail v h same = v ∙ (ap (λ z. after_step r z (λ s. verdict (counted n (mark r t)) s ts tail)) h ∙ ap (Fault kind) (sym same))
+
+    of_error : (e : SyntaxError) (us ts : List Lexeme) (tail : Tail) → verdict 0 g.Opening us tail ≡ after_step r (token_step n (mark r t) s) (λ s. verdict (counted n (mark r t)) s ts tail) → Steps (Err e) (token_step n (mark r t) s) k r → Gives (Err e) tail (verdict 0 g.Opening us tail)
+    of_error (BadByte p) us ts tail v h = absurd h
+    of_error (Unexpected p) us ts tail v h = of_kind f.Unexpected p us ts tail v h.0 h.1
+    of_error (TooDeep p) us ts tail v h = of_kind f.TooDeep p us ts tail v h.0 h.1
+    of_error (NumberTooLarge p) us ts tail v h = of_kind f.NumberTooLarge p us ts tail v h.0 h.1
+    of_error (LongStatement p) us ts tail v h = of_kind f.LongStatement p us ts tail v h.0 h.1
+    of_error TooLong us ts tail v h = absurd h
+    of_error Memory us ts tail v h = tt
+
+pub at_bad : (bytes bs : List ℕ) (p r : Place) (n : ℕ) (s : g.Stage) → Goes bytes p bs n s → Read p bs [] (AtBad r) → Outcome bytes (Err (BadByte r))
+unfolding verdict
+at_bad bytes bs p r n s goes x = let c = goes [] (AtBad r) x in record { tokens = c.tokens; tail = AtBad r; reads = c.reads; gives = c.same }
+
+pub at_end : (bytes bs : List ℕ) (p q : Place) (n : ℕ) (s : g.Stage) (r : Result Script SyntaxError) → Goes bytes p bs n s → Read p bs [] (AtEnd q) → Ends r (g.script_finish s) q → Outcome bytes r
+unfolding verdict
+at_end bytes bs p q n s r goes x h = let c = goes [] (AtEnd q) x in record { tokens = c.tokens; tail = AtEnd q; reads = c.reads; gives = of_result r c.tokens c.same h }
+  where
+    of_result : (r : Result Script SyntaxError) (us : List Lexeme) → verdict 0 g.Opening us (AtEnd q) ≡ finish_verdict (g.script_finish s) q → Ends r (g.script_finish s) q → Gives r (AtEnd q) (verdict 0 g.Opening us (AtEnd q))
+    of_result (Ok x) us v h = (v ∙ ap (λ o. finish_verdict o q) h.0, ap AtEnd (sym h.1))
+    of_result (Err (Unexpected p)) us v h = v ∙ (ap (λ o. finish_verdict o q) h.0 ∙ ap (Fault f.Unexpected) (sym h.1))
+    of_result (Err (BadByte p)) us v h = absurd h
+    of_result (Err (TooDeep p)) us v h = absurd h
+    of_result (Err (NumberTooLarge p)) us v h = absurd h
+    of_result (Err (LongStatement p)) us v h = absurd h
+    of_result (Err TooLong) us v h = absurd h
+    of_result (Err Memory) us v h = absurd h
+
+pub out_of_memory : (bytes : List ℕ) (r : Result Script SyntaxError) → r ≡ Err Memory → Outcome bytes r
+out_of_memory bytes r e = let y = is_read start bytes in subst (λ z. Outcome bytes z) (sym e) (record { tokens = y.tokens; tail = y.tail; reads = y.reads; gives = tt })
+
+-- what ends is sound
+pub end_sound : (bytes bs : List ℕ) (p q : Place) (n : ℕ) (s : g.Stage) → Goes bytes p bs n s → Read p bs [] (AtEnd q) → (ss : List g.Statement) → g.script_finish s ≡ Some ss → are_sound is_written ss ≡ true
+unfolding verdict
+end_sound bytes bs p q n s goes x ss e =
+    let c = goes [] (AtEnd q) x in
+    let good : verdict 0 g.Opening c.tokens (AtEnd q) ≡ Good ss = c.same ∙ ap (λ o. finish_verdict o q) e in
+    let y : Spelled c.tokens (AtEnd q) ss = subst (λ v. Right v c.tokens (AtEnd q)) good (right_of c.tokens (AtEnd q)) in
+    script_sound is_written y.derives y.short (read_written c.reads)

@@ -1,0 +1,18 @@
+use Rattle.std.proofs.Common.{◌≤◌, List, length}
+use Rattle.pl_grammar.specs.Tree.{Lexeme}
+use Rattle.pl_grammar.specs.Faults.{Tail}
+use Rattle.pl_tokens.specs.Text.{Read}
+use Rattle.pl_tokens.specs.Code.{HasRoom}
+use Rattle.pl_syntax.specs.Stages.{stage_of}
+use Rattle.pl_syntax.proofs.Verdicts.{Continues}
+use Rattle.pl_syntax.proofs.parser.read_all.Given as goal
+
+abbrev pub invariant-loop-progress : goal.invariant-loop-progress
+invariant-loop-progress l = record {
+  goes : (ts : List Lexeme) (tail : Tail) → Read l.text.place l.text.bytes.now ts tail → Continues l.fn.bytes ts tail l.progress.1.0 (stage_of l.progress.0);
+  room : HasRoom l.text.place l.text.bytes.now;
+  few : l.progress.1.0 ≤ 1024;
+}
+
+abbrev pub decreases-loop-progress : goal.decreases-loop-progress
+decreases-loop-progress l = length l.text.bytes.now

@@ -1,0 +1,11 @@
+pub mod Rows
+pub mod Plain
+pub mod Frames
+pub mod Statements
+pub mod Open
+pub mod Stages
+pub mod Spells
+pub mod Scripts
+pub mod Parsing
+pub mod Canonical
+pub mod Laws

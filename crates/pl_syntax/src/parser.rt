@@ -1,0 +1,116 @@
+// From bytes to a script.
+ghost use Rattle.std.specs.Prelude.{◌≡◌, ◌≤◌, ◌<◌, ◌↔◌, Err, List, Some, true, length, IfOk, IfErr};
+ghost use Rattle.pl_grammar.specs.Tree.{mark};
+ghost use Rattle.pl_grammar.specs.Script.{script_finish};
+ghost use Rattle.pl_grammar.specs.Script as g;
+ghost use Rattle.pl_grammar.specs.Whole.{are_sound};
+ghost use Rattle.pl_tokens.specs.Sound.{is_written};
+ghost use Rattle.pl_grammar.specs.Faults.{Kind, counted};
+ghost use Rattle.pl_tokens.specs.Code.{token_of};
+ghost use Rattle.pl_syntax.specs.Spells.{Parsed, Spells, FirstFault, OneScriptSpelled};
+ghost use Rattle.pl_syntax.specs.Scripts.{parsed};
+ghost use Rattle.pl_syntax.specs.Stages.{stage_of};
+ghost use Rattle.pl_syntax.specs.Parsing.{token_step, Steps, Ends, Outcome, IsCause, AnswersFault, AnswersScript};
+ghost use Rattle.pl_grammar.specs.declared.Place as p;
+
+use crate::error::SyntaxError;
+use crate::machine::MoveError;
+use crate::progress::{Progress, count_with, is_too_large};
+use crate::script::Script;
+use crate::stage::{Stage, depth_in, stage_after};
+use pl_grammar::Place;
+use pl_tokens::{Next, Text, Token};
+use std::alloc::Global;
+
+/// The most bytes of a file.
+pub const MOST_BYTES: usize = 262_144;
+
+const MOST_TOKENS: usize = 1024;
+
+const MOST_DEPTH: usize = 32;
+
+/// A token's step, or its fault.
+fn step(
+    alloc: Global,
+    progress: Progress,
+    place: Place,
+    token: Token,
+) -> Result<Progress, SyntaxError>
+    ensures { let t = mark place (token_of token) in
+        Steps result (token_step progress.count t (stage_of progress.stage)) (counted progress.count t) place }
+{
+    if progress.count >= MOST_TOKENS {
+        return Err(SyntaxError::LongStatement(place));
+    }
+    if is_too_large(&token) {
+        return Err(SyntaxError::NumberTooLarge(place));
+    }
+    let count = count_with(&token, progress.count);
+    match stage_after(alloc, progress.stage, place, token) {
+        Ok(stage) => {
+            if depth_in(&stage) <= MOST_DEPTH {
+                Ok(Progress { stage, count })
+            } else {
+                Err(SyntaxError::TooDeep(place))
+            }
+        }
+        Err(MoveError::Unexpected) => Err(SyntaxError::Unexpected(place)),
+        Err(MoveError::Memory) => Err(SyntaxError::Memory),
+    }
+}
+
+/// The end of the file.
+fn finish(progress: Progress, end: Place) -> Result<Script, SyntaxError>
+    requires { (ss : List g.Statement) → script_finish (stage_of progress.stage) ≡ Some ss → are_sound is_written ss ≡ true }
+    ensures { Ends result (script_finish (stage_of progress.stage)) end }
+{
+    let stage = progress.stage;
+    match stage {
+        Stage::Between { statements } => Ok(Script::new(statements, end)),
+        _ => Err(SyntaxError::Unexpected(end)),
+    }
+}
+
+/// The script that the bytes spell, or their first fault.
+fn read_all(alloc: Global, bytes: &[u8]) -> Result<Script, SyntaxError>
+    requires { length bytes.now ≤ 262144 }
+    ensures { Outcome bytes.now result }
+{
+    let mut text = Text {
+        bytes,
+        place: Place { line: 1, col: 1 },
+    };
+    let mut progress = Progress {
+        stage: Stage::Opening,
+        count: 0,
+    };
+    loop {
+        match text.next(alloc)? {
+            Next::Token(place, token) => progress = step(alloc, progress, place, token)?,
+            Next::Bad(place) => return Err(SyntaxError::BadByte(place)),
+            Next::End(place) => return finish(progress, place),
+        }
+    }
+}
+
+/// The script that the bytes of a pipeline file spell, or the first fault in the text with its place.
+pub fn parse(alloc: Global, bytes: &[u8]) -> Result<Script, SyntaxError>
+    // What is read is spelled so, and what is spelled so is read.
+    ensures found { IfOk result (λ script. Spells bytes.now (parsed script)) }
+    ensures only { (x : Parsed) → length bytes.now ≤ MOST_BYTES → Spells bytes.now x → AnswersScript result x }
+
+    // Each fault comes where it is the first, and what is the first is answered.
+    ensures too_long { (result ≡ Err SyntaxError.TooLong) ↔ (MOST_BYTES < length bytes.now) }
+    ensures cause { IfErr result (IsCause bytes.now) }
+    ensures fault { (kind : Kind) (place : p.Place) → length bytes.now ≤ MOST_BYTES → FirstFault bytes.now kind place → AnswersFault result kind place }
+{
+    if bytes.len() > MOST_BYTES {
+        return Err(SyntaxError::TooLong);
+    }
+    read_all(alloc, bytes)
+}
+
+/// No bytes spell two scripts.
+pub fn one_script_spelled()
+    ensures { OneScriptSpelled }
+{}

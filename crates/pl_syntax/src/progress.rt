@@ -1,0 +1,33 @@
+// How far a script is read.
+ghost use Rattle.std.specs.Prelude.{◌≡◌, ◌≤◌, ◌<◌};
+ghost use Rattle.pl_grammar.specs.Faults.{token_too_large, token_counted};
+ghost use Rattle.pl_tokens.specs.Code.{token_of};
+
+use crate::stage::Stage;
+use pl_tokens::Token;
+
+// Where the reader stands, and how many tokens of its statement have come.
+#[derive(Drop)]
+pub(crate) struct Progress {
+    pub(crate) stage: Stage,
+    pub(crate) count: usize,
+    ghost few: { count ≤ 1024 },
+}
+
+pub(crate) fn is_too_large(token: &Token) -> bool
+    ensures { result ≡ token_too_large (token_of token.now) }
+{
+    matches!(token, Token::LargeNumber)
+}
+
+/// How many tokens of its statement have come with this one, 0 behind its `;`.
+pub(crate) fn count_with(token: &Token, count: usize) -> usize
+    requires { count < 1024 }
+    ensures value { result ≡ token_counted count (token_of token.now) }
+    ensures few { result ≤ 1024 }
+{
+    match token {
+        Token::Semicolon => 0,
+        _ => count + 1,
+    }
+}

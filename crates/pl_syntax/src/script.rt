@@ -1,0 +1,93 @@
+// A script, as it was read.
+ghost use Rattle.std.specs.Prelude.{◌≡◌, IsTrue};
+ghost use Rattle.pl_grammar.specs.Whole.{are_sound};
+ghost use Rattle.pl_tokens.specs.Sound.{is_written};
+ghost use Rattle.pl_syntax.specs.Statements.{statement_of, statements_of, head_of};
+ghost use Rattle.pl_syntax.specs.Plain.{plain};
+
+use crate::tree::Expr;
+use pl_grammar::Place;
+use pl_tokens::Word;
+
+/// A statement. Its place is that of its NAME, or of `screen`.
+#[derive(Drop, Debug)]
+pub enum Statement {
+    Let {
+        place: Place,
+        name: Word,
+        expr: Expr,
+    },
+    Column {
+        place: Place,
+        name: Word,
+        expr: Expr,
+    },
+    Screen {
+        place: Place,
+        expr: Expr,
+    },
+}
+
+/// What a pipeline file says: its version, and its statements in order. Each can be written: its names, strings and
+/// numbers are those of tokens, its canonical text has at most 1,024 tokens, and opens at most 32 constructs inside one
+/// another.
+#[derive(Drop, Debug)]
+pub struct Script {
+    statements: Vec<Statement>,
+    end: Place,
+    ghost sound: { IsTrue (are_sound is_written (statements_of statements.items)) },
+}
+
+impl Script {
+    ghost use Rattle.pl_syntax.specs.Scripts.{statements_in, end_in};
+
+    /// The script of these statements, whose file ends at `end`.
+    pub(crate) fn new(statements: Vec<Statement>, end: Place) -> Script
+        requires { IsTrue (are_sound is_written (statements_of statements.items)) }
+        ensures statements { statements_in result ≡ statements.items }
+        ensures end { end_in result ≡ end }
+    {
+        Script { statements, end }
+    }
+
+    /// The version of the language that the file names, which is 1.
+    pub fn version(&self) -> u32
+        ensures { result ≡ 1 }
+    {
+        1
+    }
+
+    /// Lends the statements, in the order of the file.
+    pub fn statements(&self) -> &[Statement]
+        ensures value { result.now ≡ statements_in self.now }
+        ensures sound { IsTrue (are_sound is_written (statements_of result.now)) }
+    {
+        self.statements.as_slice()
+    }
+
+    /// The end of the file, just past its last byte.
+    pub fn end(&self) -> Place
+        ensures { result ≡ end_in self.now }
+    {
+        self.end
+    }
+}
+
+/// How a statement begins.
+#[derive(Drop)]
+pub(crate) enum Head {
+    Let { place: Place, name: Word },
+    Column { place: Place, name: Word },
+    Screen { place: Place },
+}
+
+/// The statement with its expression.
+pub(crate) fn stated(head: Head, expr: Expr) -> Statement
+    ensures { statement_of result ≡ record { head = head_of head; tree = plain expr } }
+{
+    match head {
+        Head::Let { place, name } => Statement::Let { place, name, expr },
+        Head::Column { place, name } => Statement::Column { place, name, expr },
+        Head::Screen { place } => Statement::Screen { place, expr },
+    }
+}

@@ -1,0 +1,258 @@
+// The stages of a script round its expressions, and each token's move.
+ghost use Rattle.std.specs.Prelude.{◌≡◌, OnOk, ◌++◌, ◌∷◌, []};
+ghost use Rattle.pl_grammar.specs.Tree.{mark};
+ghost use Rattle.pl_grammar.specs.Machine.{finished, operand, move, at};
+ghost use Rattle.pl_grammar.specs.Script.{opening_move, version_move, given_move, between_move, name_move, assign_head, ended, within_move, script_move, stage_depth, LetHead, ColumnHead};
+ghost use Rattle.pl_grammar.specs.Script as g;
+ghost use Rattle.pl_tokens.specs.Code.{token_of};
+ghost use Rattle.pl_syntax.specs.Frames.{mode_of};
+ghost use Rattle.pl_syntax.specs.Open.{open_in};
+ghost use Rattle.pl_syntax.specs.Statements.{statement_of, statements_of, head_of};
+ghost use Rattle.pl_syntax.specs.Stages.{stage_of, StageMoves, Finishes};
+
+use crate::machine::{Mode, MoveError, end_constructs, moved, operand_of};
+use crate::script::{Head, Statement, stated};
+use crate::stack::Stack;
+use crate::tree::Expr;
+use pl_grammar::Place;
+use pl_tokens::Token;
+use std::alloc::{AllocError, Global};
+
+/// Where the reader of a script stands.
+#[derive(Drop)]
+pub(crate) enum Stage {
+    Opening,
+    VersionWanted,
+    VersionGiven,
+    Between {
+        statements: Vec<Statement>,
+    },
+    LetWanted {
+        statements: Vec<Statement>,
+    },
+    ColumnWanted {
+        statements: Vec<Statement>,
+    },
+    AssignWanted {
+        statements: Vec<Statement>,
+        head: Head,
+    },
+    Within {
+        statements: Vec<Statement>,
+        head: Head,
+        mode: Mode,
+        stack: Stack,
+    },
+}
+
+// The version in millionths.
+const VERSION: i64 = 1_000_000;
+
+fn at_opening(token: Token) -> Result<Stage, MoveError>
+    ensures { StageMoves result (opening_move (token_of token)) }
+{
+    match token {
+        Token::PipelineWord => Ok(Stage::VersionWanted),
+        _ => Err(MoveError::Unexpected),
+    }
+}
+
+fn at_version(token: Token) -> Result<Stage, MoveError>
+    ensures { StageMoves result (version_move (token_of token)) }
+{
+    match token {
+        Token::Number(value) => {
+            if value == VERSION {
+                Ok(Stage::VersionGiven)
+            } else {
+                Err(MoveError::Unexpected)
+            }
+        }
+        _ => Err(MoveError::Unexpected),
+    }
+}
+
+fn at_version_end(alloc: Global, token: Token) -> Result<Stage, MoveError>
+    ensures { StageMoves result (given_move (token_of token)) }
+{
+    match token {
+        Token::Semicolon => Ok(Stage::Between {
+            statements: Vec::new(alloc),
+        }),
+        _ => Err(MoveError::Unexpected),
+    }
+}
+
+/// The first token of a statement.
+fn at_statement(
+    alloc: Global,
+    statements: Vec<Statement>,
+    place: Place,
+    token: Token,
+) -> Result<Stage, MoveError>
+    ensures { StageMoves result (between_move (statements_of statements.items) place (token_of token)) }
+{
+    match token {
+        Token::LetWord => Ok(Stage::LetWanted { statements }),
+        Token::ColumnWord => Ok(Stage::ColumnWanted { statements }),
+        Token::ScreenWord => Ok(Stage::Within {
+            statements,
+            head: Head::Screen { place },
+            mode: Mode::Wanted,
+            stack: Stack::new(alloc),
+        }),
+        _ => Err(MoveError::Unexpected),
+    }
+}
+
+fn at_let_name(statements: Vec<Statement>, place: Place, token: Token) -> Result<Stage, MoveError>
+    ensures { StageMoves result (name_move (λ n. g.AssignWanted (statements_of statements.items) (LetHead place n)) (token_of token)) }
+{
+    match token {
+        Token::Name(name) => Ok(Stage::AssignWanted {
+            statements,
+            head: Head::Let { place, name },
+        }),
+        _ => Err(MoveError::Unexpected),
+    }
+}
+
+fn at_column_name(
+    statements: Vec<Statement>,
+    place: Place,
+    token: Token,
+) -> Result<Stage, MoveError>
+    ensures { StageMoves result (name_move (λ n. g.AssignWanted (statements_of statements.items) (ColumnHead place n)) (token_of token)) }
+{
+    match token {
+        Token::Name(name) => Ok(Stage::AssignWanted {
+            statements,
+            head: Head::Column { place, name },
+        }),
+        _ => Err(MoveError::Unexpected),
+    }
+}
+
+fn at_head_end(
+    alloc: Global,
+    statements: Vec<Statement>,
+    head: Head,
+    token: Token,
+) -> Result<Stage, MoveError>
+    ensures { StageMoves result (assign_head (statements_of statements.items) (head_of head) (token_of token)) }
+{
+    match token {
+        Token::Assign => Ok(Stage::Within {
+            statements,
+            head,
+            mode: Mode::Wanted,
+            stack: Stack::new(alloc),
+        }),
+        _ => Err(MoveError::Unexpected),
+    }
+}
+
+/// The expression that was read, where it may end here.
+fn finished_expr(alloc: Global, mode: Mode, stack: Stack) -> Result<Expr, MoveError>
+    ensures { Finishes result (finished (operand (mode_of mode)) (open_in stack)) }
+{
+    let mut stack = stack;
+    match operand_of(mode) {
+        Some(expr) => {
+            let ended = end_constructs(alloc, &mut stack, 0, expr)?;
+            match stack.pop() {
+                None => Ok(ended.expr),
+                Some(_) => Err(MoveError::Unexpected),
+            }
+        }
+        None => Err(MoveError::Unexpected),
+    }
+}
+
+/// One more statement.
+fn add(statements: &mut Vec<Statement>, statement: Statement) -> Result<(), AllocError>
+    ensures { OnOk result (statements_of statements.new.items ≡ statements_of statements.old.items ++ (statement_of statement ∷ [])) }
+{
+    statements.push(statement)?;
+    Ok(())
+}
+
+/// The `;` of a statement.
+fn at_end(
+    alloc: Global,
+    statements: Vec<Statement>,
+    head: Head,
+    mode: Mode,
+    stack: Stack,
+) -> Result<Stage, MoveError>
+    ensures { StageMoves result (ended (statements_of statements.items) (head_of head) (finished (operand (mode_of mode)) (open_in stack)) (token_of Token.Semicolon)) }
+{
+    let mut statements = statements;
+    let expr = finished_expr(alloc, mode, stack)?;
+    add(&mut statements, stated(head, expr))?;
+    Ok(Stage::Between { statements })
+}
+
+/// A token within an expression.
+fn at_expression(
+    alloc: Global,
+    statements: Vec<Statement>,
+    head: Head,
+    mode: Mode,
+    stack: Stack,
+    place: Place,
+    token: Token,
+) -> Result<Stage, MoveError>
+    ensures { StageMoves result (within_move (statements_of statements.items) (head_of head) (finished (operand (mode_of mode)) (open_in stack)) (token_of token) (move (mark place (token_of token)) (mode_of mode) (open_in stack))) }
+{
+    match token {
+        Token::Semicolon => at_end(alloc, statements, head, mode, stack),
+        token => {
+            let mut stack = stack;
+            let mode = moved(alloc, &mut stack, mode, place, token)?;
+            Ok(Stage::Within {
+                statements,
+                head,
+                mode,
+                stack,
+            })
+        }
+    }
+}
+
+/// A token's move.
+#[tactic(auto, unfolding(pl_grammar::specs::Script::script_move))]
+pub(crate) fn stage_after(
+    alloc: Global,
+    stage: Stage,
+    place: Place,
+    token: Token,
+) -> Result<Stage, MoveError>
+    ensures { StageMoves result (script_move (mark place (token_of token)) (stage_of stage)) }
+{
+    match stage {
+        Stage::Opening => at_opening(token),
+        Stage::VersionWanted => at_version(token),
+        Stage::VersionGiven => at_version_end(alloc, token),
+        Stage::Between { statements } => at_statement(alloc, statements, place, token),
+        Stage::LetWanted { statements } => at_let_name(statements, place, token),
+        Stage::ColumnWanted { statements } => at_column_name(statements, place, token),
+        Stage::AssignWanted { statements, head } => at_head_end(alloc, statements, head, token),
+        Stage::Within {
+            statements,
+            head,
+            mode,
+            stack,
+        } => at_expression(alloc, statements, head, mode, stack, place, token),
+    }
+}
+
+/// How many of the constructs that the limit counts are open.
+pub(crate) fn depth_in(stage: &Stage) -> usize
+    ensures { result ≡ stage_depth (stage_of stage.now) }
+{
+    match stage {
+        Stage::Within { stack, .. } => stack.depth(),
+        _ => 0,
+    }
+}

@@ -1,0 +1,294 @@
+// From a script to its canonical text.
+ghost use Rattle.std.specs.Prelude.{◌≡◌, ◌++◌, ◌-◌, ◌≤◌, length, reverse, codes, OnOk, IfOk};
+ghost use Rattle.std.specs.List.{take_while};
+ghost use Rattle.std.specs.Fmt.{decimal};
+ghost use Rattle.pl_spec.specs.Dates.{digits};
+ghost use Rattle.pl_spec.specs.Decimals.{point_text};
+ghost use Rattle.pl_grammar.specs.Printed.{tree_level};
+ghost use Rattle.pl_tokens.specs.Numerals.{is_zero, trimmed, number_text};
+ghost use Rattle.pl_syntax.specs.Canonical.{comma_text, prefix_text, binary_text, open_text, close_text, name_text, tree_text, args_text, head_text, statement_text, script_text};
+ghost use Rattle.pl_syntax.specs.Plain.{plain, args_tree};
+ghost use Rattle.pl_syntax.specs.Statements.{statement_of, statements_of};
+ghost use Rattle.pl_syntax.specs.Scripts.{statements_in, parsed};
+ghost use Rattle.pl_syntax.specs.Spells.{SpellsAgain};
+ghost use Rattle.pl_syntax.specs.Laws.{ScriptsAreSpelled};
+
+use crate::script::{Script, Statement};
+use crate::stack::{left_level_of, level_of, prefix_level_of, right_level_of};
+use crate::tree::{ArgList, Expr, ExprNode};
+use pl_fixed::Memory;
+use pl_grammar::{BinarySign, PrefixSign};
+use pl_tokens::Word;
+use std::alloc::{AllocError, Global};
+
+fn put(out: &mut Vec<u8>, bytes: &[u8]) -> Result<(), AllocError>
+    ensures { OnOk result (out.new.items ≡ out.old.items ++ bytes.now) }
+{
+    out.extend_from_slice(bytes)?;
+    Ok(())
+}
+
+fn prefix_bytes(sign: PrefixSign) -> &'static [u8]
+    ensures { result.now ≡ prefix_text sign }
+{
+    match sign {
+        PrefixSign::Minus => b"-",
+        PrefixSign::Not => b"~",
+    }
+}
+
+fn binary_bytes(sign: BinarySign) -> &'static [u8]
+    ensures { result.now ≡ binary_text sign }
+{
+    match sign {
+        BinarySign::Or => b" | ",
+        BinarySign::And => b" & ",
+        BinarySign::Less => b" < ",
+        BinarySign::LessEqual => b" <= ",
+        BinarySign::Greater => b" > ",
+        BinarySign::GreaterEqual => b" >= ",
+        BinarySign::Equal => b" == ",
+        BinarySign::NotEqual => b" != ",
+        BinarySign::Add => b" + ",
+        BinarySign::Sub => b" - ",
+        BinarySign::Mul => b" * ",
+        BinarySign::Div => b" / ",
+    }
+}
+
+/// The level of an expression, from 1 for `|` to 9 for what needs no parentheses anywhere.
+fn level_in(expr: &Expr) -> u8
+    ensures { result ≡ tree_level (plain expr.now) }
+{
+    match &expr.node {
+        ExprNode::Prefix { sign, .. } => prefix_level_of(*sign),
+        ExprNode::Binary { sign, .. } => level_of(*sign),
+        ExprNode::Member { .. } => 8,
+        ExprNode::Number(_) | ExprNode::Text(_) | ExprNode::Name(_) | ExprNode::Call { .. } => 9,
+    }
+}
+
+fn open_unless(fits: bool, out: &mut Vec<u8>) -> Result<(), AllocError>
+    ensures { OnOk result (out.new.items ≡ out.old.items ++ open_text fits) }
+{
+    if fits { Ok(()) } else { put(out, b"(") }
+}
+
+fn close_unless(fits: bool, out: &mut Vec<u8>) -> Result<(), AllocError>
+    ensures { OnOk result (out.new.items ≡ out.old.items ++ close_text fits) }
+{
+    if fits { Ok(()) } else { put(out, b")") }
+}
+
+/// How many zeros stand at the end.
+fn zeros_behind(digits: &[u8]) -> usize
+    ensures { result ≡ length (take_while is_zero (reverse digits.now)) }
+{
+    digits.iter().rev().take_while(|d| **d == b'0').count()
+}
+
+/// A number in decimal, without zeros in front.
+fn put_decimal(number: u64, out: &mut Vec<u8>) -> Result<(), AllocError>
+    ensures { OnOk result (out.new.items ≡ out.old.items ++ decimal number) }
+{
+    if number < 10 {
+        put(out, &[b'0' + number as u8])
+    } else {
+        put_decimal(number / 10, out)?;
+        put(out, &[b'0' + (number % 10) as u8])
+    }
+}
+
+/// The six digits of a number below a million.
+fn six_digits(number: u64) -> [u8; 6]
+    ensures { result ≡ digits 6 number }
+{
+    let tens = number / 10;
+    let hundreds = tens / 10;
+    let thousands = hundreds / 10;
+    let ten_thousands = thousands / 10;
+    let hundred_thousands = ten_thousands / 10;
+    [
+        b'0' + (hundred_thousands % 10) as u8,
+        b'0' + (ten_thousands % 10) as u8,
+        b'0' + (thousands % 10) as u8,
+        b'0' + (hundreds % 10) as u8,
+        b'0' + (tens % 10) as u8,
+        b'0' + (number % 10) as u8,
+    ]
+}
+
+/// A point and digits, or nothing where there are none.
+fn put_fraction(digits: &[u8], out: &mut Vec<u8>) -> Result<(), AllocError>
+    ensures { OnOk result (out.new.items ≡ out.old.items ++ point_text digits.now) }
+{
+    match digits {
+        [] => Ok(()),
+        [..] => {
+            put(out, b".")?;
+            put(out, digits)
+        }
+    }
+}
+
+/// Digits without the zeros at their end.
+fn trimmed_digits(digits: &[u8]) -> &[u8]
+    ensures { result.now ≡ trimmed digits.now }
+{
+    &digits[..digits.len() - zeros_behind(digits)]
+}
+
+/// A number of millionths.
+#[tactic(auto, unfolding(pl_tokens::specs::Numerals::number_text, pl_tokens::specs::Numerals::fraction_of))]
+fn put_number(value: i64, out: &mut Vec<u8>) -> Result<(), AllocError>
+    ensures { OnOk result (out.new.items ≡ out.old.items ++ number_text value) }
+{
+    let number = value.unsigned_abs();
+    put_decimal(number / 1_000_000, out)?;
+    let digits = six_digits(number % 1_000_000);
+    put_fraction(trimmed_digits(&digits), out)
+}
+
+/// The name of an argument.
+fn put_name(name: &Option<Word>, out: &mut Vec<u8>) -> Result<(), AllocError>
+    ensures { OnOk result (out.new.items ≡ out.old.items ++ name_text name.now) }
+{
+    match name {
+        Some(name) => {
+            put(out, name.bytes())?;
+            put(out, b"=")
+        }
+        None => Ok(()),
+    }
+}
+
+#[cycle(print)]
+#[tactic(auto, unfolding(crate::specs::Canonical::tree_text))]
+fn put_expr(expr: &Expr, out: &mut Vec<u8>) -> Result<(), AllocError>
+    ensures { OnOk result (out.new.items ≡ out.old.items ++ tree_text (plain expr.now)) }
+{
+    match &expr.node {
+        ExprNode::Number(value) => put_number(*value, out),
+        ExprNode::Text(text) => {
+            put(out, b"\"")?;
+            put(out, text.bytes())?;
+            put(out, b"\"")
+        }
+        ExprNode::Name(name) => put(out, name.bytes()),
+        ExprNode::Call { name, args } => {
+            put(out, name.bytes())?;
+            put_args(args, out)
+        }
+        ExprNode::Prefix { sign, operand } => {
+            put(out, prefix_bytes(*sign))?;
+            let fits = prefix_level_of(*sign) <= level_in(operand);
+            open_unless(fits, out)?;
+            put_expr(operand, out)?;
+            close_unless(fits, out)
+        }
+        ExprNode::Binary { sign, left, right } => {
+            let left_fits = left_level_of(*sign) <= level_in(left);
+            open_unless(left_fits, out)?;
+            put_expr(left, out)?;
+            close_unless(left_fits, out)?;
+            put(out, binary_bytes(*sign))?;
+            let right_fits = right_level_of(*sign) <= level_in(right);
+            open_unless(right_fits, out)?;
+            put_expr(right, out)?;
+            close_unless(right_fits, out)
+        }
+        ExprNode::Member { object, name, args } => {
+            let fits = 8 <= level_in(object);
+            open_unless(fits, out)?;
+            put_expr(object, out)?;
+            close_unless(fits, out)?;
+            put(out, b".")?;
+            put(out, name.bytes())?;
+            match args {
+                Some(args) => put_args(args, out),
+                None => Ok(()),
+            }
+        }
+    }
+}
+
+#[cycle(print)]
+fn put_args(list: &ArgList, out: &mut Vec<u8>) -> Result<(), AllocError>
+    ensures { OnOk result (out.new.items ≡ out.old.items ++ args_text (args_tree list.now)) }
+{
+    put(out, b"(")?;
+    let mut first = true;
+    for arg in &list.args {
+        separate(first, out)?;
+        first = false;
+        put_name(&arg.name, out)?;
+        put_expr(&arg.expr, out)?;
+    }
+    put(out, b")")
+}
+
+/// What stands before an argument that isn't the first.
+fn separate(first: bool, out: &mut Vec<u8>) -> Result<(), AllocError>
+    ensures { OnOk result (out.new.items ≡ out.old.items ++ comma_text first) }
+{
+    if first { Ok(()) } else { put(out, b", ") }
+}
+
+/// How a statement begins.
+fn put_head(word: &[u8], name: &Word, out: &mut Vec<u8>) -> Result<(), AllocError>
+    ensures { OnOk result (out.new.items ≡ out.old.items ++ (word.now ++ (name.now ++ codes " = "))) }
+{
+    put(out, word)?;
+    put(out, name.bytes())?;
+    put(out, b" = ")
+}
+
+/// A statement on its line.
+fn put_statement(statement: &Statement, out: &mut Vec<u8>) -> Result<(), AllocError>
+    ensures { OnOk result (out.new.items ≡ out.old.items ++ statement_text (statement_of statement.now)) }
+{
+    match statement {
+        Statement::Let { name, expr, .. } => {
+            put_head(b"let ", name, out)?;
+            put_expr(expr, out)?;
+        }
+        Statement::Column { name, expr, .. } => {
+            put_head(b"column ", name, out)?;
+            put_expr(expr, out)?;
+        }
+        Statement::Screen { expr, .. } => {
+            put(out, b"screen ")?;
+            put_expr(expr, out)?;
+        }
+    }
+    put(out, b";\n")
+}
+
+/// The canonical text, in memory of its own.
+fn text_of(alloc: Global, script: &Script) -> Result<Vec<u8>, AllocError>
+    ensures { IfOk result (λ v. v.items ≡ script_text (statements_of (statements_in script.now))) }
+{
+    let mut out = Vec::new(alloc);
+    put(&mut out, b"pipeline 1;\n")?;
+    for statement in script.statements() {
+        put_statement(statement, &mut out)?;
+    }
+    Ok(out)
+}
+
+/// The canonical text of a script, one statement a line: parentheses stand exactly where the levels ask for them. `parse`
+/// reads it as the same script, places aside, where it has at most 262,144 bytes.
+pub fn print(alloc: Global, script: &Script) -> Result<Vec<u8>, Memory>
+    ensures text { IfOk result (λ v. v.items ≡ script_text (statements_of (statements_in script.now))) }
+    ensures again { IfOk result (λ v. SpellsAgain v.items (parsed script.now)) }
+{
+    match text_of(alloc, script) {
+        Ok(text) => Ok(text),
+        Err(_) => Err(Memory),
+    }
+}
+
+/// Whatever can be written is spelled by its canonical text, so each script is spelled by some bytes.
+pub fn scripts_are_spelled()
+    ensures { ScriptsAreSpelled }
+{}
