@@ -45,5 +45,5 @@ pub fn tables_are_kept()
         → adjustments_in assets splits mergers dividends ≡ Ok xs
         → (sid : ℕ) → events_of (world_of days assets labels texts bars xs) sid
         ≡ map (λ x. x.event)
-            (filter (λ x. x.sid == sid) (adjustments_of assets splits mergers dividends)) }
+        (filter (λ x. x.sid == sid) (adjustments_of assets splits mergers dividends)) }
 {}
