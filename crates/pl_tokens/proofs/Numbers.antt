@@ -12,7 +12,7 @@ use Rattle.pl_spec.specs.Decimals.{Decimal, IsDecimal, millionths}
 use Rattle.pl_fixed.specs.Reading.{read, judged, in_range}
 use Rattle.pl_fixed.specs.declared.decimal.DecimalFault.{DecimalFault}
 use Rattle.pl_fixed.specs.declared.decimal.DecimalFault.TheVariants.{TooManyDigits, TooLarge}
-use Rattle.pl_fixed.proofs.DecimalLemmas.{read-spelled}
+use Rattle.pl_fixed.proofs.ReadingLemmas.{read-spelled}
 use Rattle.pl_grammar.specs.Tree as t
 use Rattle.pl_grammar.specs.Tree.{Token}
 use Rattle.pl_tokens.specs.declared.front.Form.{Form}

@@ -17,9 +17,8 @@ use Rattle.std.proofs.lemmas.Str.Parse.{digit_from_value}
 use Rattle.pl_spec.specs.Rounding.{LIMIT, MILLION, div_round}
 use Rattle.pl_spec.specs.Dates.{digits}
 use Rattle.pl_spec.specs.Decimals.{point_text}
-use Rattle.pl_fixed.proofs.DecimalLemmas.{digits_value-append, power_pos}
+use Rattle.pl_fixed.proofs.DigitLemmas.{digits_value-append, length-digits, power_pos}
 use Rattle.pl_fixed.proofs.RoundingLemmas.{div_round-multiple}
-use Rattle.pl_fixed.proofs.WritingLemmas.{length-digits}
 use Rattle.pl_grammar.specs.declared.Place.{Place}
 use Rattle.pl_grammar.specs.Tree as t
 use Rattle.pl_grammar.specs.Tree.{Token, Lexeme, mark}
