@@ -91,19 +91,3 @@ fn names_the_first_fault(rt: HostRuntime) -> Result<(), Fail> {
     }
     Ok(())
 }
-
-#[test]
-fn reads_8_000_assets(rt: HostRuntime) -> Result<(), Fail> {
-    let mut bytes = Vec::new(rt.alloc());
-    bytes.extend_from_slice(b"sid,start,end\n")?;
-    for sid in 0..8_000u32 {
-        let row = format!(in rt.alloc(); "{sid},2024-01-02,2024-01-09\n")?;
-        bytes.extend_from_slice(row.as_bytes())?;
-    }
-    assert_eq!(rt; Assets::read(rt.alloc(), &bytes)?.len(), 8_000);
-    // The next record is no asset, but the count is told.
-    bytes.extend_from_slice(b"x\n")?;
-    let fault = AssetsError::TooMany { line: 8_002 };
-    assert!(rt; matches!(Assets::read(rt.alloc(), &bytes), Err(e) if e == fault));
-    Ok(())
-}

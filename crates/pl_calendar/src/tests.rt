@@ -1,5 +1,4 @@
 use crate::{CalendarError, Sessions};
-use pl_fixed::write_day;
 use std::test::*;
 
 // 2024-01-02 to 2024-01-05, a weekend, 2024-01-08 and 2024-01-09.
@@ -74,22 +73,5 @@ fn names_the_first_fault(rt: HostRuntime) -> Result<(), Fail> {
     for (bytes, fault) in table.iter() {
         assert!(rt; matches!(Sessions::read(rt.alloc(), bytes), Err(e) if e == *fault));
     }
-    Ok(())
-}
-
-#[test]
-fn reads_16_000_sessions(rt: HostRuntime) -> Result<(), Fail> {
-    let mut bytes = Vec::new(rt.alloc());
-    let mut date = [0; 10];
-    for day in 0..16_000 {
-        write_day(day, &mut date);
-        bytes.extend_from_slice(&date)?;
-        bytes.push(b'\n')?;
-    }
-    assert_eq!(rt; Sessions::read(rt.alloc(), &bytes)?.len(), 16_000);
-    // The next record is no date, but the count is told.
-    bytes.extend_from_slice(b"x\n")?;
-    let fault = CalendarError::TooMany { line: 16_001 };
-    assert!(rt; matches!(Sessions::read(rt.alloc(), &bytes), Err(e) if e == fault));
     Ok(())
 }
