@@ -16,7 +16,9 @@ pub struct FileShelf<'a> {
 
 impl<'a> FileShelf<'a> {
     /// No file is begun.
-    pub fn new(rt: &'a HostRuntime) -> FileShelf<'a> {
+    pub fn new(rt: &'a HostRuntime) -> FileShelf<'a>
+        ensures { result.faults ≡ 0 }
+    {
         FileShelf {
             rt,
             file: None,

@@ -14,7 +14,9 @@ pub struct Stream<W: Write + Drop> {
 
 impl<W: Write + Drop> Stream<W> {
     /// Nothing is written yet.
-    pub fn new(to: W) -> Stream<W> {
+    pub fn new(to: W) -> Stream<W>
+        ensures { result.faults ≡ 0 }
+    {
         Stream { to, faults: 0 }
     }
 
