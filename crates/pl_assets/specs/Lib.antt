@@ -2,3 +2,4 @@ pub mod Assets
 pub mod Rules
 pub mod Faults
 pub mod Seen
+pub mod Labels

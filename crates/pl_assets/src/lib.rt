@@ -10,6 +10,7 @@ ghost use Rattle.pl_assets.specs.Assets.{AreAssets, assets_of, sid_of};
 ghost use Rattle.pl_assets.specs.Faults.{fault_of};
 
 mod error;
+mod labels;
 pub mod laws;
 mod reading;
 mod search;
@@ -17,6 +18,7 @@ mod search;
 mod tests;
 
 pub use error::AssetsError;
+pub use labels::Labels;
 pub use pl_spec::AssetRow;
 use std::alloc::Global;
 use std::marker::Model;

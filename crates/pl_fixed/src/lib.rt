@@ -1,5 +1,5 @@
-//! Fixed-point numbers: cells of millionths with exact arithmetic, ratios, the texts of cells, days and sids, and the
-//! counter of steps. No call takes memory.
+//! Fixed-point numbers: cells of millionths with exact arithmetic, ratios, the texts of cells, days, sids and names, and
+//! the counter of steps. No call takes memory.
 #![tactic(auto)]
 
 mod cell;
@@ -7,6 +7,7 @@ mod day;
 mod decimal;
 mod digits;
 mod memory;
+mod name;
 mod ratio;
 mod rounding;
 mod sid;
@@ -18,6 +19,7 @@ pub use cell::{LIM, MISSING, add, div, is_cell, mul, neg, quot, sub, to_cell};
 pub use day::{read_day, write_day};
 pub use decimal::{DecimalFault, read_decimal, write_decimal};
 pub use memory::Memory;
+pub use name::is_name;
 pub use pl_spec::Column;
 pub use ratio::Ratio;
 pub use rounding::{div_round, isqrt};

@@ -19,6 +19,7 @@ pub mod Reaching
 pub mod Text
 pub mod Parts
 pub mod Agree
+pub mod Names
 pub mod Reading
 pub mod Sorted
 pub mod Laws

@@ -20,10 +20,11 @@ use Rattle.pl_grammar.specs.Script.{Head, LetHead, ColumnHead, ScreenHead, State
 use Rattle.pl_grammar.specs.Whole.{tree_passes, args_pass, name_passes, head_passes, head_tokens, statements_tokens, script_tokens, is_sound, are_sound}
 use Rattle.pl_grammar.proofs.Fewest.{both}
 use Rattle.pl_grammar.proofs.Scripts.{parts}
-use Rattle.pl_tokens.specs.Bytes.{is_digit, starts_word, is_word_byte, Stops}
+use Rattle.pl_tokens.specs.Bytes.{Stops}
+use Rattle.pl_spec.specs.Names.{is_digit, starts_word, is_word_byte, is_name}
 use Rattle.pl_tokens.specs.Tokens.{NoDecimals}
 use Rattle.pl_tokens.specs.Numerals.{number_text}
-use Rattle.pl_tokens.specs.Sound.{is_name, is_number, is_written}
+use Rattle.pl_tokens.specs.Sound.{is_number, is_written}
 use Rattle.pl_tokens.proofs.Shows.{Shows, end_shows, pair_shows, word_shows, one_shows, blank_shows, sign_shows, name_shows, text_shows, number_shows}
 use Rattle.pl_syntax.specs.Canonical.{prefix_text, binary_text, placed_text, name_text, comma_text, in_parentheses, tree_text, list_text, head_text, statements_text, script_text}
 

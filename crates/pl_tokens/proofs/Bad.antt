@@ -4,7 +4,8 @@ use Rattle.std.specs.Prelude.{◌==◌, nat_le}
 use Rattle.std.proofs.lemmas.Bool.Decides.{nat_tests}
 use Rattle.pl_tokens.specs.declared.front.Form.{Form}
 use Rattle.pl_tokens.specs.declared.front.Found.TheVariants.{Bad}
-use Rattle.pl_tokens.specs.Bytes.{Stops, is_word_byte, is_digit, is_text_byte, starts_word, pairs, is_sign, begins_gap}
+use Rattle.pl_tokens.specs.Bytes.{Stops, is_text_byte, pairs, is_sign, begins_gap}
+use Rattle.pl_spec.specs.Names.{is_word_byte, is_digit, starts_word}
 use Rattle.pl_tokens.specs.Tokens.{Front, a_word, a_whole, a_decimal, a_text, a_pair, a_sign}
 use Rattle.pl_tokens.specs.Front.{word_front, text_end, sign_front, front}
 use Rattle.pl_tokens.specs.Text.{IsBad, bad_word, bad_text, bad_sign, IsUnquoted}

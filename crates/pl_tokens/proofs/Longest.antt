@@ -9,7 +9,8 @@ use Rattle.pl_tokens.specs.declared.front.Form.{Form}
 use Rattle.pl_tokens.specs.declared.front.Form.TheVariants.{Word, Number, Text, One, Two}
 use Rattle.pl_tokens.specs.declared.front.Found.{Found}
 use Rattle.pl_tokens.specs.declared.front.Found.TheVariants.{End, Bad, Token}
-use Rattle.pl_tokens.specs.Bytes.{Stops, is_word_byte, is_digit, is_text_byte, starts_word, may_pair, pairs, is_sign, begins_gap}
+use Rattle.pl_tokens.specs.Bytes.{Stops, is_text_byte, may_pair, pairs, is_sign, begins_gap}
+use Rattle.pl_spec.specs.Names.{is_word_byte, is_digit, starts_word}
 use Rattle.pl_tokens.specs.Tokens.{NoDecimals, Front, a_word, a_whole, a_decimal, a_text, a_pair, a_sign}
 use Rattle.pl_tokens.specs.Front.{word_front, fraction_behind, text_end, sign_front, front}
 use Rattle.pl_tokens.specs.Text.{IsBad, bad_word, bad_text, bad_sign}

@@ -17,7 +17,7 @@ use Rattle.pl_grammar.specs.Tree as t
 use Rattle.pl_grammar.specs.Tree.{Token}
 use Rattle.pl_tokens.specs.declared.front.Form.{Form}
 use Rattle.pl_tokens.specs.declared.front.Form.TheVariants.{Word, Number, Text, One, Two}
-use Rattle.pl_tokens.specs.Bytes.{is_digit}
+use Rattle.pl_spec.specs.Names.{is_digit}
 use Rattle.pl_tokens.specs.Tokens.{Front, a_word, a_whole, a_decimal, a_text, a_pair, a_sign, decimal_token}
 
 -- digits

@@ -26,9 +26,10 @@ use Rattle.pl_grammar.specs.Places.{SameTokens, same_none, same_next}
 use Rattle.pl_grammar.specs.Faults.{AtEnd}
 use Rattle.pl_tokens.specs.declared.front.Form.{Form}
 use Rattle.pl_tokens.specs.declared.front.Form.TheVariants.{Number}
-use Rattle.pl_tokens.specs.Bytes.{is_digit, starts_word, is_word_byte, is_text_byte, may_pair, pairs, is_sign, is_blank, Stops}
+use Rattle.pl_tokens.specs.Bytes.{is_text_byte, may_pair, pairs, is_sign, is_blank, Stops}
+use Rattle.pl_spec.specs.Names.{is_digit, starts_word, is_word_byte, is_name}
 use Rattle.pl_tokens.specs.Tokens.{Front, a_word, a_whole, a_decimal, a_text, a_pair, a_sign, NoDecimals, token_in, word_token, one_token, two_token, decimal_token}
-use Rattle.pl_tokens.specs.Sound.{is_name, is_number}
+use Rattle.pl_tokens.specs.Sound.{is_number}
 use Rattle.pl_tokens.specs.Numerals.{is_zero, trimmed, fraction_of, number_text}
 use Rattle.pl_tokens.specs.Text.{after, Read, at_text_end, a_blank, a_token}
 use Rattle.pl_tokens.proofs.Longest.{run_of}

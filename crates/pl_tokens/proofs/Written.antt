@@ -13,9 +13,10 @@ use Rattle.pl_grammar.specs.Tree.{Token, Lexeme}
 use Rattle.pl_grammar.specs.Faults.{Tail}
 use Rattle.pl_grammar.specs.Whole.{tokens_pass}
 use Rattle.pl_tokens.specs.declared.front.Form.{Form}
-use Rattle.pl_tokens.specs.Bytes.{starts_word, is_word_byte, is_text_byte}
+use Rattle.pl_tokens.specs.Bytes.{is_text_byte}
+use Rattle.pl_spec.specs.Names.{starts_word, is_word_byte, is_keyword}
 use Rattle.pl_tokens.specs.Tokens.{Front, a_word, a_whole, a_decimal, a_text, a_pair, a_sign, token_in, word_token, one_token, two_token, number_token}
-use Rattle.pl_tokens.specs.Sound.{is_keyword, is_written}
+use Rattle.pl_tokens.specs.Sound.{is_written}
 use Rattle.pl_tokens.specs.Text.{Read, at_text_end, at_bad_byte, a_blank, a_comment, a_token}
 
 choose : (b : Bool) (x y : Token) → is_written x ≡ true → is_written y ≡ true → is_written (cond b x y) ≡ true

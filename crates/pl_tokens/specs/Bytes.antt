@@ -1,16 +1,6 @@
 -- The bytes of which tokens and gaps are made.
 use Rattle.std.specs.Prelude.{ℕ, ◌≡◌, Bool, false, ◌&&◌, ◌||◌, not, nat_le, ◌==◌, List, [], ◌∷◌}
 
-abbrev pub is_digit : ℕ → Bool
-is_digit b = nat_le 48 b && nat_le b 57
-
--- a letter or `_`
-abbrev pub starts_word : ℕ → Bool
-starts_word b = (nat_le 97 b && nat_le b 122) || ((nat_le 65 b && nat_le b 90) || (b == 95))
-
-abbrev pub is_word_byte : ℕ → Bool
-is_word_byte b = starts_word b || is_digit b
-
 -- from the space to `~`, but for `"` and the backslash
 abbrev pub is_text_byte : ℕ → Bool
 is_text_byte b = nat_le 32 b && (nat_le b 126 && (not (b == 34) && not (b == 92)))

@@ -1,7 +1,8 @@
 -- What stands at the front of a text that begins with no gap: found by tests and by the lengths of runs.
 use Rattle.std.specs.Prelude.{ℕ, ◌+◌, cond, ◌&&◌, nat_le, ◌==◌, List, [], ◌∷◌, length, drop}
 use Rattle.std.specs.List.{take_while}
-use Rattle.pl_tokens.specs.Bytes.{is_digit, starts_word, is_word_byte, is_text_byte, pairs, is_sign, is_blank, no_line_end}
+use Rattle.pl_tokens.specs.Bytes.{is_text_byte, pairs, is_sign, is_blank, no_line_end}
+use Rattle.pl_spec.specs.Names.{is_digit, starts_word, is_word_byte}
 use Rattle.pl_tokens.specs.declared.front.Form.TheVariants.{Word, Number, Text, One, Two}
 use Rattle.pl_tokens.specs.declared.front.Found.{Found}
 use Rattle.pl_tokens.specs.declared.front.Found.TheVariants.{End, Bad, Token}

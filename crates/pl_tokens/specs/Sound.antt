@@ -1,18 +1,11 @@
 -- What names, strings and numbers can be written as tokens.
-use Rattle.std.specs.Prelude.{ℕ, Bool, true, false, ◌&&◌, ◌||◌, not, nat_le, nat_lt, ℤ, pos, negsuc, List, [], ◌∷◌, length, codes, bytes_eq}
+use Rattle.std.specs.Prelude.{ℕ, Bool, true, false, nat_le, ℤ, pos, negsuc, List}
 use Rattle.std.specs.List.{list_all}
 use Rattle.pl_spec.specs.Rounding.{LIMIT}
 use Rattle.pl_grammar.specs.Tree as t
 use Rattle.pl_grammar.specs.Tree.{Token}
-use Rattle.pl_tokens.specs.Bytes.{starts_word, is_word_byte, is_text_byte}
-
-abbrev pub is_keyword : List ℕ → Bool
-is_keyword w = bytes_eq w (codes "pipeline") || (bytes_eq w (codes "let") || (bytes_eq w (codes "column") || bytes_eq w (codes "screen")))
-
--- a letter or `_`, then letters, digits or `_`, at most 32 bytes, and no keyword
-abbrev pub is_name : List ℕ → Bool
-is_name [] = false
-is_name (c ∷ cs) = (starts_word c && (list_all is_word_byte cs && nat_lt (length cs) 32)) && not (is_keyword (c ∷ cs))
+use Rattle.pl_tokens.specs.Bytes.{is_text_byte}
+use Rattle.pl_spec.specs.Names.{is_name}
 
 -- a number that isn't below 0 nor past the greatest cell
 abbrev pub is_number : ℤ → Bool

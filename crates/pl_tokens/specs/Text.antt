@@ -4,7 +4,8 @@ use Rattle.std.specs.List.{list_all}
 use Rattle.pl_grammar.specs.declared.Place.{Place}
 use Rattle.pl_grammar.specs.Tree.{Lexeme, mark}
 use Rattle.pl_grammar.specs.Faults.{Tail, AtEnd, AtBad}
-use Rattle.pl_tokens.specs.Bytes.{is_digit, starts_word, is_word_byte, is_text_byte, pairs, is_sign, is_blank, no_line_end, begins_gap, Stops}
+use Rattle.pl_tokens.specs.Bytes.{is_text_byte, pairs, is_sign, is_blank, no_line_end, begins_gap, Stops}
+use Rattle.pl_spec.specs.Names.{is_digit, starts_word, is_word_byte}
 use Rattle.pl_tokens.specs.Tokens.{Front, token_in}
 use Rattle.pl_tokens.specs.declared.front.Form.{Form}
 

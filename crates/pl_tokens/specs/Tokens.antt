@@ -7,7 +7,8 @@ use Rattle.pl_spec.specs.Decimals.{Decimal, millionths}
 use Rattle.pl_grammar.specs.declared.BinarySign.TheVariants.{Or, And, Less, LessEqual, Greater, GreaterEqual, Equal, NotEqual, Add, Sub, Mul, Div}
 use Rattle.pl_grammar.specs.Tree as t
 use Rattle.pl_grammar.specs.Tree.{Token}
-use Rattle.pl_tokens.specs.Bytes.{is_digit, starts_word, is_word_byte, is_text_byte, may_pair, pairs, is_sign, Stops}
+use Rattle.pl_tokens.specs.Bytes.{is_text_byte, may_pair, pairs, is_sign, Stops}
+use Rattle.pl_spec.specs.Names.{is_digit, starts_word, is_word_byte}
 use Rattle.pl_tokens.specs.declared.front.Form.{Form}
 use Rattle.pl_tokens.specs.declared.front.Form.TheVariants.{Word, Number, Text, One, Two}
 

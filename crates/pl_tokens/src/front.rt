@@ -1,7 +1,8 @@
 // What stands at the front of a text.
 ghost use Rattle.std.specs.Prelude.{◌≡◌, ◌+◌, ◌^◌, ◌<◌, ◌≤◌, length};
 ghost use Rattle.std.specs.List.{take_while};
-ghost use Rattle.pl_tokens.specs.Bytes.{is_digit, starts_word, is_word_byte, is_text_byte, pairs, is_sign};
+ghost use Rattle.pl_tokens.specs.Bytes.{is_text_byte, pairs, is_sign};
+ghost use Rattle.pl_spec.specs.Names.{is_digit, starts_word, is_word_byte};
 ghost use Rattle.pl_tokens.specs.Front.{fraction_behind, text_end, sign_front, word_front, front};
 
 /// The form of a token, with its lengths in bytes.
