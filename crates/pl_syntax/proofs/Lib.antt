@@ -4,3 +4,4 @@ pub mod Arguments
 pub mod Lines
 pub mod Shown
 pub mod Printing
+pub mod TextsSaid

@@ -9,3 +9,4 @@ pub mod Scripts
 pub mod Parsing
 pub mod Canonical
 pub mod Laws
+pub mod Said

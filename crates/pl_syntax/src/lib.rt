@@ -17,7 +17,7 @@ mod tree;
 mod writer;
 
 pub use error::SyntaxError;
-pub use parser::{MOST_BYTES, one_script_spelled, parse};
+pub use parser::{MOST_BYTES, one_script_spelled, parse, texts_say};
 pub use pl_grammar::{BinarySign, Place, PrefixSign};
 pub use pl_tokens::Word;
 pub use script::{Script, Statement};

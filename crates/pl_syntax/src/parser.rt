@@ -8,6 +8,7 @@ ghost use Rattle.pl_tokens.specs.Sound.{is_written};
 ghost use Rattle.pl_grammar.specs.Faults.{Kind, counted};
 ghost use Rattle.pl_tokens.specs.Code.{token_of};
 ghost use Rattle.pl_syntax.specs.Spells.{Parsed, Spells, FirstFault, OneScriptSpelled};
+ghost use Rattle.pl_syntax.specs.Said.{TextsSay};
 ghost use Rattle.pl_syntax.specs.Scripts.{parsed};
 ghost use Rattle.pl_syntax.specs.Stages.{stage_of};
 ghost use Rattle.pl_syntax.specs.Parsing.{token_step, Steps, Ends, Outcome, IsCause, AnswersFault, AnswersScript};
@@ -113,4 +114,9 @@ pub fn parse(alloc: Global, bytes: &[u8]) -> Result<Script, SyntaxError>
 /// No bytes spell two scripts.
 pub fn one_script_spelled()
     ensures { OneScriptSpelled }
+{}
+
+/// What a text says, by the verdict over its tokens, is the script that it spells or its first fault.
+pub fn texts_say()
+    ensures { TextsSay }
 {}

@@ -14,12 +14,10 @@ use Rattle.pl_tokens.specs.declared.front.Found.TheVariants.{End, Bad, Token}
 use Rattle.pl_tokens.specs.Bytes.{Stops, is_blank, no_line_end, begins_gap}
 use Rattle.pl_tokens.specs.Tokens.{Front, a_word, a_whole, a_decimal, a_text, a_pair, a_sign, token_in, form_length}
 use Rattle.pl_tokens.specs.Front.{front}
-use Rattle.pl_tokens.specs.Text.{after, after_byte, Read, at_text_end, at_bad_byte, a_blank, a_comment, a_token}
+use Rattle.pl_tokens.specs.Text.{start, after, after_byte, Read, at_text_end, at_bad_byte, a_blank, a_comment, a_token}
+use Rattle.pl_tokens.specs.Reading.{Whole, with_token, at_found, reading, whole}
 use Rattle.pl_tokens.proofs.Longest.{longest, cond_true, cond_false, drop_front, front_only, front_found, FoundAt, run_of}
 use Rattle.pl_tokens.proofs.Bad.{front_no_gap, front_some, bad_no_gap, bad_within, bad_only}
-
-abbrev pub Whole : Type 0
-Whole = List Lexeme × Tail
 
 pub form_whole : {xs rest : List ℕ} {f : Form} → Front xs rest f → form_length f ≡ length xs
 form_whole (a_word c cs h s few z) = refl
@@ -28,24 +26,6 @@ form_whole (a_decimal c cs f fs h all g more s) = omega (arith, length-append cs
 form_whole (a_text cs h) = omega (arith, length-append cs (34 ∷ []))
 form_whole (a_pair c h) = refl
 form_whole (a_sign c h s) = refl
-
--- the reading of a text, in so many steps
-
-abbrev pub with_token : Place → t.Token → Whole → Whole
-with_token p t r = (mark p t ∷ r.0, r.1)
-
-abbrev pub at_found : Place → List ℕ → (Place → List ℕ → Whole) → Found → Whole
-at_found p bs k End = ([], AtEnd p)
-at_found p bs k (Bad n) = ([], AtBad (after (take n bs) p))
-at_found p bs k (Token f) = let xs = take (form_length f) bs in with_token p (token_in f xs) (k (after xs p) (drop (form_length f) bs))
-
-unfoldable pub reading : ℕ → Place → List ℕ → Whole
-reading zero p bs = ([], AtEnd p)
-reading (suc n) p [] = ([], AtEnd p)
-reading (suc n) p (b ∷ bs) =
-    cond (is_blank b) (reading n (after_byte b p) bs)
-    (cond (b == 35) (let cs = take_while no_line_end bs in reading n (after (35 ∷ cs) p) (drop (length cs) bs))
-    (at_found p (b ∷ bs) (reading n) (front (b ∷ bs))))
 
 neither : (a b : Bool) → (a || b) ≡ false → (a ≡ false) × (b ≡ false)
 neither true b h = cc
@@ -137,3 +117,13 @@ read_within (suc n) p (b ∷ bs) few = by_blank (is_blank b) refl (read_within n
 
 pub is_read : (p : Place) (bs : List ℕ) → IsRead p bs
 is_read p bs = read_within (length bs + 1) p bs (omega arith)
+
+-- the tokens that are found are those of the text
+pub whole_read : (bs : List ℕ) → Read start bs (whole bs).0 (whole bs).1
+whole_read bs =
+    let r = is_read start bs in
+    let same : whole bs ≡ (r.tokens, r.tail) = read_only (length bs + 1) r.reads (omega arith) in
+    subst (λ (x : Whole). Read start bs x.0 x.1) (sym same) r.reads
+
+pub whole_only : (bs : List ℕ) (ts : List Lexeme) (tail : Tail) → Read start bs ts tail → whole bs ≡ (ts, tail)
+whole_only bs ts tail x = read_only (length bs + 1) x (omega arith)

@@ -6,3 +6,4 @@ pub mod Laws
 pub mod Code
 pub mod Numerals
 pub mod Sound
+pub mod Reading
