@@ -3,6 +3,7 @@
 pub mod Request
 pub mod Fault
 pub mod PlainPipeline
+pub mod PlainScript
 pub mod Step
 pub mod Work
 pub mod Range

@@ -10,6 +10,7 @@ mod header;
 mod line;
 mod names;
 mod plain;
+mod plain_script;
 mod range;
 mod rows;
 mod stages;
@@ -21,4 +22,5 @@ mod words;
 mod writing;
 
 pub use plain::plain_files_are_read;
+pub use plain_script::{PlainColumn, PlainTerm, plain_columns, plain_scripts_are_read};
 pub use top::run_program;
