@@ -9,13 +9,15 @@ use Rattle.pl_cli.specs.declared.stop.Stop.TheVariants.{Judged, Missed, Unkept, 
 use Rattle.pl_cli.specs.declared.stop.End.{End}
 use Rattle.pl_cli.specs.declared.stop.End.TheVariants as ends
 use Rattle.pl_cli.specs.Fault.{Fault, status_of, line_of, judged_status, judged_line}
-use Rattle.pl_cli.specs.Fault.Fault.{Usage, Unbuilt, Data, NoSession, Backwards, TooEarly, Passed, Unread}
+use Rattle.pl_cli.specs.Fault.Fault.{Usage, Unbuilt, Syntax, Data, Row, NoSession, Backwards, TooEarly, Passed, Unread}
 use Rattle.pl_cli.specs.Step.{Step, first_fault, ReachesRead}
 use Rattle.pl_cli.specs.Step.Source.{File, Store}
 
 abbrev pub fault_of : Refusal → Fault
 fault_of refusals.Unbuilt = Unbuilt
+fault_of (refusals.Syntax name place fault) = Syntax name.now place fault
 fault_of (refusals.Data name line fault) = Data name.now line fault
+fault_of (refusals.Row name table id fault) = Row name.now table id fault
 fault_of (refusals.NoSession date) = NoSession date.now
 fault_of refusals.Backwards = Backwards
 fault_of (refusals.TooEarly reach) = TooEarly reach

@@ -1,11 +1,16 @@
 -- What the words ask for.
-use Rattle.std.specs.Prelude.{ℕ, ℤ, List, [], ◌∷◌, Bool, false, not, ◌&&◌, ◌==◌, if◌then◌else◌, Option, Some, None, option_map, option_and_then, length, unwrap_or, slice_get, bytes_eq, codes}
+use Rattle.std.specs.Prelude.{ℕ, suc, ℤ, List, [], ◌∷◌, Bool, false, not, ◌&&◌, ◌==◌, if◌then◌else◌, Option, Some, None, option_map, option_and_then, length, unwrap_or, slice_get, bytes_eq, codes}
 use Rattle.pl_spec.specs.Dates.{date_in}
 
 -- a date as it is written, and its day
 pub record Dated : Type 0 where
   pub text : List ℕ
   pub day : ℤ
+
+-- the names behind the options of a run
+pub record Options : Type 0 where
+  pub labels : Option (List ℕ)
+  pub adjustments : Option (List ℕ)
 
 -- a pipeline over the files of these names, from a date to a date
 pub record RunRequest : Type 0 where
@@ -15,6 +20,12 @@ pub record RunRequest : Type 0 where
   pub bars : List ℕ
   pub from : Dated
   pub to : Dated
+  pub options : Options
+
+-- the table of a pipeline, or the canonical text of a pipeline file
+pub data Request : Type 0 where
+  Run : RunRequest → Request
+  Fmt : (pipeline : List ℕ) → Request
 
 -- not empty, and not of the form of an option
 abbrev pub is_plain_word : List ℕ → Bool
@@ -27,22 +38,59 @@ word words i = unwrap_or (slice_get words i) []
 abbrev pub dated : List ℕ → Option Dated
 dated text = option_map (λ day. record { text = text; day = day }) (date_in text)
 
+-- an option of this name stands at i, and its value behind it
+abbrev pub is_option : List (List ℕ) → ℕ → List ℕ → Bool
+is_option words i name = bytes_eq (word words i) name && is_plain_word (word words (suc i))
+
+abbrev pub one_option : List (List ℕ) → Option Options
+one_option words =
+    if is_option words 7 (codes "--labels") then Some (record { labels = Some (word words 8); adjustments = None })
+    else if is_option words 7 (codes "--adjustments") then Some (record { labels = None; adjustments = Some (word words 8) })
+    else None
+
+abbrev pub two_options : List (List ℕ) → Option Options
+two_options words =
+    if is_option words 7 (codes "--labels") && is_option words 9 (codes "--adjustments")
+    then Some (record { labels = Some (word words 8); adjustments = Some (word words 10) })
+    else None
+
+-- behind the seven words of a run: nothing, `--labels NAME`, `--adjustments NAME`, or both in this order
+abbrev pub run_options : List (List ℕ) → Option Options
+run_options words =
+    if length words == 7 then Some (record { labels = None; adjustments = None })
+    else if length words == 9 then one_option words
+    else if length words == 11 then two_options words
+    else None
+
 -- the command and four names
 abbrev pub is_run : List (List ℕ) → Bool
 is_run words =
     bytes_eq (word words 0) (codes "run") && (is_plain_word (word words 1) && (is_plain_word (word words 2)
     && (is_plain_word (word words 3) && is_plain_word (word words 4))))
 
-abbrev pub run_over : List (List ℕ) → Dated → Dated → RunRequest
-run_over words from to =
-    record { pipeline = word words 1; sessions = word words 2; assets = word words 3; bars = word words 4; from = from; to = to }
+abbrev pub run_over : List (List ℕ) → Options → Dated → Dated → RunRequest
+run_over words options from to =
+    record { pipeline = word words 1; sessions = word words 2; assets = word words 3; bars = word words 4; from = from; to = to; options = options }
 
-abbrev pub run_request : List (List ℕ) → Option RunRequest
-run_request words =
+-- two dates behind the command and the names
+abbrev pub run_with : List (List ℕ) → Options → Option RunRequest
+run_with words options =
     if is_run words then
-    option_and_then (λ from. option_map (run_over words from) (dated (word words 6))) (dated (word words 5))
+    option_and_then (λ from. option_map (run_over words options from) (dated (word words 6))) (dated (word words 5))
     else None
 
--- the command, four names and two dates, and no other words
-unfoldable pub request : List (List ℕ) → Option RunRequest
-request words = if length words == 7 then run_request words else None
+abbrev pub run_request : List (List ℕ) → Option RunRequest
+run_request words = option_and_then (run_with words) (run_options words)
+
+-- the command and a name, and no other words
+abbrev pub is_fmt : List (List ℕ) → Bool
+is_fmt words = length words == 2 && (bytes_eq (word words 0) (codes "fmt") && is_plain_word (word words 1))
+
+unfoldable pub request : List (List ℕ) → Option Request
+request words = if is_fmt words then Some (Fmt (word words 1)) else option_map Run (run_request words)
+
+-- the name of the adjustments that are asked for
+abbrev pub adjustments_of : Option Request → Option (List ℕ)
+adjustments_of (Some (Run q)) = q.options.adjustments
+adjustments_of (Some (Fmt name)) = None
+adjustments_of None = None
