@@ -1,13 +1,17 @@
-ghost use Rattle.std.specs.Prelude.{◌≡◌, ◌<◌, [], pos, length};
+ghost use Rattle.std.specs.Prelude.{◌≡◌, ◌+◌, ◌<◌, ◌≤◌, [], pos, length};
 ghost use Rattle.pl_spec.specs.Rounding.{IsCell};
 ghost use Rattle.pl_spec.specs.Parts.{sid_at};
+ghost use Rattle.pl_spec.specs.World.{exists};
+ghost use Rattle.pl_spec.specs.Window.{bar_window, events, seen_cell};
+ghost use Rattle.pl_spec.specs.Formula.{mean, oldest};
 ghost use Rattle.pl_spec.specs.Value.{value};
 ghost use Rattle.pl_spec.specs.Value.Value.{Number};
 ghost use Rattle.pl_model.specs.Worlds.{world_of, IsMade};
-ghost use Rattle.pl_model.specs.PlainTerms.{term_of};
+ghost use Rattle.pl_model.specs.PlainTerms.{HasWindow, steps_of, term_of, window_steps};
 
 use crate::world::World;
-use pl_fixed::{Column, MISSING, Steps};
+use pl_adjust::seen_now;
+use pl_fixed::{Column, MISSING, Steps, quot};
 use std::sync::ledger::Ledger;
 
 /// A term that is computed without a graph of terms.
@@ -15,41 +19,120 @@ use std::sync::ledger::Ledger;
 pub enum PlainTerm {
     /// The column of the latest bar that is known: that of the session before.
     Latest(Column),
+    /// The mean of the column over so many sessions before, from 1 to 1,260 of them.
+    SimpleMovingAverage(Column, u32),
 }
 
 /// The value of a term for the asset of a column on a session, in millionths; `MISSING` where the asset does not exist on
-/// the session, and where the session before has no bar of it. It takes no memory and counts no step.
+/// the session, and where no bar of the window has a cell. Each bar is seen as of the session: changed by every adjustment
+/// that is effective after the bar's day and by the session's, and each of these changes is one step. Sessions before the
+/// first have no bars. It takes no memory.
 pub fn plain_cell<L: Ledger>(
     world: &World,
     term: PlainTerm,
     col: usize,
     session: usize,
-    _steps: &mut Steps<L>,
+    steps: &mut Steps<L>,
 ) -> i64
     requires made { IsMade world.now }
+    requires window { HasWindow term }
     requires col { col < length world.now.assets.now }
     requires session { session < length world.now.sessions.now }
     ensures value { value (world_of world.now) [] (term_of term) (sid_at world.now.assets.now col) (pos session) ≡ Number result }
     ensures cell { IsCell result }
-    ensures cost { _steps.new ≡ _steps.old }
+    ensures cost { steps.new ≡ steps.old + steps_of (world_of world.now) term (sid_at world.now.assets.now col) (pos session) }
 {
-    let PlainTerm::Latest(column) = term;
-    latest_cell(world, column, col, session)
+    if !exists(world, col, session) {
+        return MISSING;
+    }
+    match term {
+        PlainTerm::Latest(column) => latest(world, column, col, session, steps),
+        PlainTerm::SimpleMovingAverage(column, window) => {
+            average(world, column, window as usize, col, session, steps)
+        }
+    }
 }
 
-fn latest_cell(world: &World, column: Column, col: usize, session: usize) -> i64
+fn exists(world: &World, col: usize, session: usize) -> bool
     requires made { IsMade world.now }
     requires col { col < length world.now.assets.now }
     requires session { session < length world.now.sessions.now }
-    ensures value { value (world_of world.now) [] (term_of (PlainTerm.Latest column)) (sid_at world.now.assets.now col) (pos session) ≡ Number result }
-    ensures cell { IsCell result }
+    ensures { result ≡ exists (world_of world.now) (sid_at world.now.assets.now col) (pos session) }
 {
     let day = world.sessions.day(session);
-    if !world.assets.exists(col, day) {
-        return MISSING;
-    }
+    world.assets.exists(col, day)
+}
+
+// The cell of the session before as it is seen on this one.
+fn latest<L: Ledger>(
+    world: &World,
+    column: Column,
+    col: usize,
+    session: usize,
+    steps: &mut Steps<L>,
+) -> i64
+    requires made { IsMade world.now }
+    requires col { col < length world.now.assets.now }
+    requires session { session < length world.now.sessions.now }
+    ensures value { result ≡ oldest (bar_window (world_of world.now) column 1 (sid_at world.now.assets.now col) (pos session)) }
+    ensures cell { IsCell result }
+    ensures cost { steps.new ≡ steps.old + window_steps (world_of world.now) column 1 (sid_at world.now.assets.now col) (pos session) }
+{
     if session == 0 {
-        return MISSING;
+        MISSING
+    } else {
+        seen_cell(world, column, col, session - 1, session, steps)
     }
-    world.bars.get(col, session - 1, column)
+}
+
+// The mean of the cells of the sessions before, as they are seen on this one.
+fn average<L: Ledger>(
+    world: &World,
+    column: Column,
+    window: usize,
+    col: usize,
+    session: usize,
+    steps: &mut Steps<L>,
+) -> i64
+    requires made { IsMade world.now }
+    requires most { window ≤ 1_260 }
+    requires col { col < length world.now.assets.now }
+    requires session { session < length world.now.sessions.now }
+    ensures value { result ≡ mean (bar_window (world_of world.now) column window (sid_at world.now.assets.now col) (pos session)) }
+    ensures cell { IsCell result }
+    ensures cost { steps.new ≡ steps.old + window_steps (world_of world.now) column window (sid_at world.now.assets.now col) (pos session) }
+{
+    let mut total = 0i128;
+    let mut count = 0i128;
+    for bar_session in session.saturating_sub(window)..session {
+        let cell = seen_cell(world, column, col, bar_session, session, steps);
+        if cell != MISSING {
+            total += cell as i128;
+            count += 1;
+        }
+    }
+    quot(total, count)
+}
+
+// The cell of the bar of an earlier session as it is seen on this one.
+fn seen_cell<L: Ledger>(
+    world: &World,
+    column: Column,
+    col: usize,
+    bar_session: usize,
+    session: usize,
+    steps: &mut Steps<L>,
+) -> i64
+    requires made { IsMade world.now }
+    requires col { col < length world.now.assets.now }
+    requires bar_session { bar_session < session }
+    requires session { session < length world.now.sessions.now }
+    ensures value { result ≡ seen_cell (world_of world.now) (sid_at world.now.assets.now col) column (pos bar_session) (pos session) }
+    ensures cell { IsCell result }
+    ensures cost { steps.new ≡ steps.old + length (events (world_of world.now) (sid_at world.now.assets.now col) column (pos bar_session) (pos session)) }
+{
+    let cell = world.bars.get(col, bar_session, column);
+    let bar_day = world.sessions.day(bar_session);
+    let day = world.sessions.day(session);
+    seen_now(cell, bar_day, day, world.adjustments.of_col(col), column, steps)
 }

@@ -3,6 +3,8 @@
 
 mod cell;
 pub mod laws;
+#[cfg(test)]
+mod tests;
 mod world;
 
 pub use cell::{PlainTerm, plain_cell};

@@ -1,0 +1,4 @@
+use Rattle.pl_model.proofs.laws.parts_make_a_world.Goals as goal
+
+pub returns : goal.returns
+returns c = ?
