@@ -1,7 +1,6 @@
 pub mod CellTexts
 pub mod FileSteps
 pub mod Finish
-pub mod PlainFiles
 pub mod Ranges
 pub mod RowTexts
 pub mod SessionLines

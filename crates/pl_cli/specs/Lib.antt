@@ -2,7 +2,6 @@
 -- a run may end.
 pub mod Request
 pub mod Fault
-pub mod PlainPipeline
 pub mod PlainScript
 pub mod Step
 pub mod Work

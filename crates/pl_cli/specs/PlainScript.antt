@@ -6,17 +6,16 @@ use Rattle.std.specs.Set.{distinct_count}
 use Rattle.pl_spec.specs.declared.Column.{Column}
 use Rattle.pl_spec.specs.declared.Column.TheVariants.{OpenPrice, High, Low, Close, Volume}
 use Rattle.pl_spec.specs.Rounding.{MILLION}
-use Rattle.pl_spec.specs.Kind.{WindowKind as window}
 use Rattle.pl_spec.specs.Kind.Kind.{Window}
-use Rattle.pl_spec.specs.Term.{Term, Node}
-use Rattle.pl_spec.specs.Term.Term.{absent, column, node}
+use Rattle.pl_spec.specs.Term.{Node}
 use Rattle.pl_spec.specs.Term.Input.{BarColumn}
 use Rattle.pl_spec.specs.Table.{NamedColumn, Pipeline}
 use Rattle.pl_grammar.specs.declared.Place.{Place}
 use Rattle.pl_grammar.specs.Tree.{Tree, number, name, call, member, Args, no_args, arg}
 use Rattle.pl_grammar.specs.Script.{Head, ColumnHead, Statement}
-use Rattle.pl_cli.specs.declared.plain_script.PlainTerm.{PlainTerm}
-use Rattle.pl_cli.specs.declared.plain_script.PlainTerm.TheVariants.{Latest, SimpleMovingAverage}
+use Rattle.pl_model.specs.declared.cell.PlainTerm.{PlainTerm}
+use Rattle.pl_model.specs.declared.cell.PlainTerm.TheVariants.{Latest, SimpleMovingAverage}
+use Rattle.pl_model.specs.PlainTerms.{kind_of, column_of, size_of, term_of}
 use Rattle.pl_cli.specs.declared.plain_script.PlainColumn.{PlainColumn}
 
 -- ---- the form
@@ -118,24 +117,8 @@ PlainScriptsAreRead = (columns : List PlainColumn) (statements : List Statement)
 
 -- ---- the pipeline
 
-abbrev pub kind_of : PlainTerm → window
-kind_of (Latest c) = window.Latest
-kind_of (SimpleMovingAverage c size) = window.SimpleMovingAverage
-
--- how many sessions it looks back
-abbrev pub window_of : PlainTerm → ℕ
-window_of (Latest c) = 1
-window_of (SimpleMovingAverage c size) = size
-
-abbrev pub bars_of : PlainTerm → Column
-bars_of (Latest c) = c
-bars_of (SimpleMovingAverage c size) = c
-
-abbrev pub term_of : PlainTerm → Term
-term_of t = node (Window (kind_of t)) (window_of t) (column (bars_of t)) absent absent absent absent
-
 abbrev pub node_of : PlainTerm → Node
-node_of t = record { kind = Window (kind_of t); inputs = BarColumn (bars_of t) ∷ []; mask = None; group = None; window = window_of t }
+node_of t = record { kind = Window (kind_of t); inputs = BarColumn (column_of t) ∷ []; mask = None; group = None; window = size_of t }
 
 -- a term for each column
 abbrev pub pipeline_of : List PlainColumn → Pipeline
@@ -148,4 +131,4 @@ pipeline_of cs =
     }
 
 abbrev pub greatest_window : List PlainColumn → ℕ
-greatest_window cs = fold max 0 (map (λ c. window_of c.term) cs)
+greatest_window cs = fold max 0 (map (λ c. size_of c.term) cs)

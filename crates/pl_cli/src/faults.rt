@@ -3,13 +3,17 @@ ghost use Rattle.std.specs.Prelude.{◌≡◌, option_map};
 ghost use Rattle.pl_calendar.specs.Faults as calendar;
 ghost use Rattle.pl_assets.specs.Faults as assets;
 ghost use Rattle.pl_bars.specs.Faults as bars;
-ghost use Rattle.pl_cli.specs.Work.{sessions_fault, assets_fault, bars_fault};
+ghost use Rattle.pl_assets.specs.LabelFaults as labels;
+ghost use Rattle.pl_adjust.specs.Faults as rows;
+ghost use Rattle.pl_cli.specs.Work.{sessions_fault, assets_fault, labels_fault, bars_fault, rows_fault};
 ghost use Rattle.pl_cli.specs.Ends.{IsRisen, told_by};
 
-use crate::stop::{DataFault, Limit, Refusal, Stop};
-use pl_assets::AssetsError;
+use crate::stop::{DataFault, Limit, Refusal, RowFault, Stop};
+use pl_adjust::AdjustError;
+use pl_assets::{AssetsError, LabelsError};
 use pl_bars::BarsError;
 use pl_calendar::CalendarError;
+use pl_outside::Table;
 
 /// The stop for an error of the sessions file of that name.
 pub fn sessions_stop<'a>(name: &'a str, error: CalendarError) -> Stop<'a>
@@ -40,6 +44,35 @@ pub fn assets_stop<'a>(name: &'a str, error: AssetsError) -> Stop<'a>
     }
 }
 
+/// The stop for an error of the labels file of that name.
+pub fn labels_stop<'a>(name: &'a str, error: LabelsError) -> Stop<'a>
+    ensures told { told_by result ≡ option_map (λ f. labels_fault name.now f.line f.rule) (labels.fault_of error) }
+    ensures risen { IsRisen ⊥ ⊥ result }
+{
+    match error {
+        LabelsError::BadHeader => faulty(name, 1, DataFault::BadHeader),
+        LabelsError::TooMany { .. } => passed(Limit::Labels),
+        LabelsError::BadField { line } => faulty(name, line, DataFault::BadField),
+        LabelsError::LabelTooLong { line } => faulty(name, line, DataFault::LabelTooLong),
+        LabelsError::UnknownSid { line } => faulty(name, line, DataFault::UnknownSid),
+        LabelsError::DuplicateStart { line } => faulty(name, line, DataFault::DuplicateStart),
+        LabelsError::Memory => Stop::Memory,
+    }
+}
+
+/// The stop for an error of the adjustments of that name.
+pub fn rows_stop<'a>(name: &'a str, error: AdjustError) -> Stop<'a>
+    ensures told { told_by result ≡ option_map (λ f. rows_fault name.now f) (rows.fault_of error) }
+    ensures risen { IsRisen ⊥ ⊥ result }
+{
+    match error {
+        AdjustError::TooMany => passed(Limit::Adjustments),
+        AdjustError::BadEffective { table, id } => wrong(name, table, id, RowFault::BadEffective),
+        AdjustError::BadRatio { table, id } => wrong(name, table, id, RowFault::BadRatio),
+        AdjustError::Memory => Stop::Memory,
+    }
+}
+
 /// The stop for an error of the bars file of that name.
 pub fn bars_stop<'a>(name: &'a str, error: BarsError) -> Stop<'a>
     ensures told { told_by result ≡ option_map (λ f. bars_fault name.now f.line f.rule) (bars.fault_of error) }
@@ -61,6 +94,17 @@ fn faulty<'a>(name: &'a str, line: u32, fault: DataFault) -> Stop<'a>
     ensures { result ≡ Stop.Judged (Refusal.Data name.entry line fault) }
 {
     Stop::Judged(Refusal::Data { name, line, fault })
+}
+
+fn wrong<'a>(name: &'a str, table: Table, id: i64, fault: RowFault) -> Stop<'a>
+    ensures { result ≡ Stop.Judged (Refusal.Row name.entry table id fault) }
+{
+    Stop::Judged(Refusal::Row {
+        name,
+        table,
+        id,
+        fault,
+    })
 }
 
 fn passed(limit: Limit) -> Stop<'static>

@@ -10,9 +10,10 @@ ghost use Rattle.pl_syntax.specs.Statements.{statement_of, statements_of};
 ghost use Rattle.pl_cli.specs.PlainScript.{bar_column, window_in, column_in, size_in, mean_in, plain_term, plain_column, names_of, PlainScriptsAreRead};
 ghost use Rattle.pl_cli.specs.PlainScript.{mean_over};
 ghost use Rattle.pl_cli.specs.PlainScript as spec;
-ghost use Rattle.pl_cli.specs.declared.plain_script.PlainTerm.TheVariants.{Latest};
+ghost use Rattle.pl_model.specs.declared.cell.PlainTerm.TheVariants.{Latest};
 
 use crate::names::Name;
+use pl_model::PlainTerm;
 use pl_spec::Column;
 use pl_syntax::{Arg, ArgList, Expr, ExprNode, Script, Statement};
 use std::alloc::{AllocError, Global};
@@ -22,15 +23,6 @@ const MOST_COLUMNS: usize = 64;
 
 /// The most sessions of a window.
 const MOST_SESSIONS: u32 = 1_260;
-
-/// What a column of the plain form shows.
-#[derive(Clone, Copy, Debug, PartialEq, Eq)]
-pub enum PlainTerm {
-    /// The column of the latest bar that is known: that of the session before.
-    Latest(Column),
-    /// The mean of the column over the bars of so many sessions before.
-    SimpleMovingAverage(Column, u32),
-}
 
 /// A column of the plain form.
 #[derive(Debug, Drop)]

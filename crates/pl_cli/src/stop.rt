@@ -1,7 +1,10 @@
 // Why the work stops before its first row.
 ghost use Rattle.std.specs.Prelude.{◌≡◌};
-ghost use Rattle.pl_cli.specs.Fault.{data_text, limit_text};
+ghost use Rattle.pl_cli.specs.Fault.{syntax_text, data_text, row_fault_text, limit_text};
 ghost use Rattle.pl_cli.specs.Ends.{stop_status};
+
+use pl_outside::Table;
+use pl_syntax::Place;
 
 /// The limit that a count passes.
 #[derive(Clone, Copy, Debug)]
@@ -12,7 +15,9 @@ pub enum Limit {
     File,
     Sessions,
     Assets,
+    Labels,
     Bars,
+    Adjustments,
 }
 
 impl Limit {
@@ -25,7 +30,53 @@ impl Limit {
             Limit::File => "file",
             Limit::Sessions => "sessions",
             Limit::Assets => "assets",
+            Limit::Labels => "labels",
             Limit::Bars => "bars",
+            Limit::Adjustments => "adjustments",
+        }
+    }
+}
+
+/// The fault of the syntax of a pipeline file.
+#[derive(Clone, Copy, Debug)]
+pub enum SyntaxFault {
+    BadByte,
+    Unexpected,
+    TooDeep,
+    NumberTooLarge,
+    LongStatement,
+}
+
+impl SyntaxFault {
+    /// Its name in the line of the fault.
+    pub fn name(self) -> &'static str
+        ensures { result.now ≡ syntax_text self }
+    {
+        match self {
+            SyntaxFault::BadByte => "BadByte",
+            SyntaxFault::Unexpected => "Unexpected",
+            SyntaxFault::TooDeep => "TooDeep",
+            SyntaxFault::NumberTooLarge => "NumberTooLarge",
+            SyntaxFault::LongStatement => "LongStatement",
+        }
+    }
+}
+
+/// The rule that a row of a table of adjustments breaks.
+#[derive(Clone, Copy, Debug)]
+pub enum RowFault {
+    BadEffective,
+    BadRatio,
+}
+
+impl RowFault {
+    /// Its name in the line of the fault.
+    pub fn name(self) -> &'static str
+        ensures { result.now ≡ row_fault_text self }
+    {
+        match self {
+            RowFault::BadEffective => "BadEffective",
+            RowFault::BadRatio => "BadRatio",
         }
     }
 }
@@ -40,6 +91,8 @@ pub enum DataFault {
     BadField,
     StartAfterEnd,
     DuplicateSid,
+    LabelTooLong,
+    DuplicateStart,
     NotSession,
     UnknownSid,
     Negative,
@@ -59,6 +112,8 @@ impl DataFault {
             DataFault::BadField => "BadField",
             DataFault::StartAfterEnd => "StartAfterEnd",
             DataFault::DuplicateSid => "DuplicateSid",
+            DataFault::LabelTooLong => "LabelTooLong",
+            DataFault::DuplicateStart => "DuplicateStart",
             DataFault::NotSession => "NotSession",
             DataFault::UnknownSid => "UnknownSid",
             DataFault::Negative => "Negative",
@@ -70,13 +125,26 @@ impl DataFault {
 /// A fault of the input.
 #[derive(Clone, Copy)]
 pub enum Refusal<'a> {
-    /// The pipeline file has a form that is not read yet.
+    /// The pipeline file has a form that is not computed yet.
     Unbuilt,
+    /// The pipeline file has this fault at this place.
+    Syntax {
+        name: &'a str,
+        place: Place,
+        fault: SyntaxFault,
+    },
     /// The record of this number of a data file breaks a rule.
     Data {
         name: &'a str,
         line: u32,
         fault: DataFault,
+    },
+    /// The row of this id of a table of adjustments breaks a rule.
+    Row {
+        name: &'a str,
+        table: Table,
+        id: i64,
+        fault: RowFault,
     },
     /// No session has the date.
     NoSession {
@@ -118,7 +186,8 @@ impl Stop<'_> {
     {
         match self {
             Stop::Judged(Refusal::Unbuilt) => 11,
-            Stop::Judged(Refusal::Data { .. }) => 4,
+            Stop::Judged(Refusal::Syntax { .. }) => 3,
+            Stop::Judged(Refusal::Data { .. } | Refusal::Row { .. }) => 4,
             Stop::Judged(
                 Refusal::NoSession { .. } | Refusal::Backwards | Refusal::TooEarly { .. },
             ) => 5,
