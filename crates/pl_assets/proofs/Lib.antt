@@ -1,2 +1,3 @@
 pub mod AssetsRead
 pub mod AssetsSaid
+pub mod TextLists

@@ -1,6 +1,17 @@
--- Labels by column, with the list of their texts.
-use Rattle.std.specs.Prelude.{ℕ, List, []}
+-- Labels by column, with the list of their texts: those of the records of a labels file, and the first rule that a record
+-- breaks.
+use Rattle.std.specs.Prelude.{◌≡◌, ℕ, ◌==◌, ◌≤◌, ◌&&◌, not, nat_le, nat_lt, Bool, false, if◌then◌else◌, IsTrue, ℤ, codes, List, [], ◌∷◌, length, map, filter, position, bytes_eq, All, AllPairs, Option, None, option_map, option_and_then, Result, Ok, Err}
+use Rattle.std.specs.List.{list_any, list_all}
+use Rattle.std.specs.Option.{ok_or}
+use Rattle.std.specs.Ordering.{int_eq}
+use Rattle.pl_spec.specs.Reading.{Record, Fault, field, ◌>>=◌, rows_under}
+use Rattle.pl_spec.specs.Dates.{date_in}
+use Rattle.pl_spec.specs.Decimals.{sid_in}
+use Rattle.pl_spec.specs.Names.{is_name}
 use Rattle.pl_spec.specs.Parts.{ColumnLabel}
+use Rattle.pl_spec.specs.World.{LabelRow, last_started, nonempty, is_label_of}
+use Rattle.pl_spec.specs.declared.AssetRow.{AssetRow}
+use Rattle.pl_assets.specs.Assets.{sid_of}
 
 -- the rows of labels, and the distinct texts in them: a text's place in that list, from 0, is its code
 pub record LabelTable : Type 0 where
@@ -9,3 +20,92 @@ pub record LabelTable : Type 0 where
 
 abbrev pub no_labels : LabelTable
 no_labels = record { rows = []; texts = [] }
+
+-- ---- names and texts
+
+-- each text once, in the order in which they first stand in the list
+unfoldable pub first_seen : List (List ℕ) → List (List ℕ)
+first_seen [] = []
+first_seen (x ∷ xs) = x ∷ filter (λ y. not (bytes_eq x y)) (first_seen xs)
+
+abbrev pub is_text : List ℕ → Bool
+is_text text = not (length text == 0)
+
+-- the names of rows; a name's place in this list, from 0, is its number
+abbrev pub names_of : List ColumnLabel → List (List ℕ)
+names_of rows = first_seen (map (λ r. r.name) rows)
+
+-- the texts of rows that are not empty
+abbrev pub texts_of : List ColumnLabel → List (List ℕ)
+texts_of rows = first_seen (filter is_text (map (λ r. r.text) rows))
+
+abbrev pub table_of : List ColumnLabel → LabelTable
+table_of rows = record { rows = rows; texts = texts_of rows }
+
+-- ---- the label of a column
+
+-- the row as one of the asset that has its column for a sid
+abbrev pub by_column : ColumnLabel → LabelRow
+by_column r = record { name = r.name; sid = r.col; start = r.start; text = r.text }
+
+-- the text of the row under the name that started last in the column by the day, if it is not empty
+unfoldable pub label_on : List ColumnLabel → List ℕ → ℕ → ℤ → Option (List ℕ)
+label_on rows name col day =
+    option_and_then (λ r. nonempty r.text) (last_started (filter (is_label_of name col day) (map by_column rows)))
+
+-- ---- the records of a file
+
+-- in the order in which they are tested
+pub data Rule : Type 0 where
+  BadHeader TooMany BadField LabelTooLong UnknownSid DuplicateStart : Rule
+
+abbrev pub header : Record
+header = codes "name" ∷ codes "sid" ∷ codes "start" ∷ codes "label" ∷ []
+
+-- only spaces and the visible characters of ASCII
+abbrev pub is_printable : List ℕ → Bool
+is_printable text = list_all (λ b. nat_le 32 b && nat_le b 126) text
+
+-- the name, the sid, the day and the text of a record of four fields
+unfoldable pub label_in : Record → Option LabelRow
+label_in r =
+    if length r == 4 && (is_name (field r 0) && is_printable (field r 3)) then
+    option_and_then (λ sid. option_map (λ start. record { name = field r 0; sid = sid; start = start; text = field r 3 })
+    (date_in (field r 2))) (sid_in (field r 1))
+    else None
+
+-- the row under the name of the column from the day on
+abbrev pub is_from : List ℕ → ℕ → ℤ → ColumnLabel → Bool
+is_from name col start r = bytes_eq r.name name && (r.col == col && int_eq r.start start)
+
+-- the row of a record behind the rows before it, or the first rule that it breaks
+unfoldable pub says_label : List AssetRow → List ColumnLabel → Record → Result ColumnLabel Rule
+says_label assets before r =
+    if nat_le 200000 (length before) then Err TooMany
+    else ok_or (label_in r) BadField >>= λ l.
+    if nat_lt 64 (length l.text) then Err LabelTooLong
+    else ok_or (position (λ a. sid_of a == l.sid) assets) UnknownSid >>= λ col.
+    if list_any (is_from l.name col l.start) before then Err DuplicateStart
+    else Ok (record { name = l.name; col = col; start = l.start; text = l.text })
+
+-- the rows of a file in its order, or its first fault
+unfoldable pub label_rows_in : List AssetRow → List Record → Result (List ColumnLabel) (Fault Rule)
+label_rows_in assets records = rows_under header BadHeader (says_label assets) records
+
+-- the same with their texts
+unfoldable pub labels_of : List AssetRow → List Record → Result LabelTable (Fault Rule)
+labels_of assets records = label_rows_in assets records >>= λ rows. Ok (table_of rows)
+
+-- ---- labels as they are kept
+
+-- the row has a name of the pipeline language and a text of a label
+pub record IsLabelRow (r : ColumnLabel) : Type 0 where
+  pub name : IsTrue (is_name r.name)
+  pub printable : IsTrue (is_printable r.text)
+  pub short : length r.text ≤ 64
+
+pub record AreLabels (t : LabelTable) : Type 0 where
+  pub rows : All IsLabelRow t.rows
+  pub once : AllPairs (λ r q. is_from r.name r.col r.start q ≡ false) t.rows
+  pub few : length t.rows ≤ 200_000
+  pub texts : t.texts ≡ texts_of t.rows

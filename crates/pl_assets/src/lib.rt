@@ -18,7 +18,7 @@ mod search;
 mod tests;
 
 pub use error::AssetsError;
-pub use labels::Labels;
+pub use labels::{Labels, LabelsError};
 pub use pl_spec::AssetRow;
 use std::alloc::Global;
 use std::marker::Model;

@@ -1,0 +1,119 @@
+ghost use Rattle.std.specs.Prelude.{◌≡◌, ◌+◌, ◌<◌, ◌≤◌, [], ◌∷◌, ◌++◌, length, option_map, OnOk, IfOk};
+ghost use Rattle.pl_spec.specs.Reading.{Answers, at_line, field, rows_of};
+ghost use Rattle.pl_records.specs.Records.{csv_records};
+ghost use Rattle.pl_assets.specs.Labels.{is_printable, label_in, label_rows_in, labels_of, says_label};
+ghost use Rattle.pl_assets.specs.LabelFaults.{fault_of};
+ghost use Rattle.pl_assets.specs.LabelPlaces.{shown_rows};
+
+use crate::Assets;
+use crate::labels::error::LabelsError;
+use crate::labels::order::{key, key_of};
+use crate::labels::rows::LabelRows;
+use pl_fixed::{is_name, read_day, read_sid};
+use pl_records::Records;
+use std::alloc::Global;
+use std::collections::HashSet;
+
+const MOST_LABELS: usize = 200_000;
+const LONGEST_LABEL: usize = 64;
+
+// The labels of a file in its order.
+pub(crate) fn read_rows(
+    alloc: Global,
+    bytes: &[u8],
+    assets: &Assets,
+) -> Result<LabelRows, LabelsError>
+{
+    let mut records = Records::new(alloc, bytes);
+    if !records.read_header(&[b"name", b"sid", b"start", b"label"])? {
+        return Err(LabelsError::BadHeader);
+    }
+    rows_behind(alloc, &mut records, assets)
+}
+
+// The labels of the records behind the header.
+fn rows_behind(
+    alloc: Global,
+    records: &mut Records,
+    assets: &Assets,
+) -> Result<LabelRows, LabelsError>
+{
+    let mut rows = LabelRows::new(alloc);
+    let mut keys = HashSet::new(alloc);
+    'rows: while records.next()? {
+        let start = next_start(&rows, &keys, records, assets)?;
+        let place = rows.push(records.field(0), start.col, start.day, records.field(3))?;
+        keys.insert(key_of(&place))?;
+    }
+    Ok(rows)
+}
+
+/// From when on a record gives a label, and to which column.
+#[derive(Clone, Copy)]
+struct ColumnStart {
+    col: u32,
+    day: i32,
+}
+
+// The start of the label of the record that was read last, behind the rows before it, whose keys are
+// given.
+fn next_start(
+    before: &LabelRows,
+    keys: &HashSet<u128>,
+    row: &Records,
+    assets: &Assets,
+) -> Result<ColumnStart, LabelsError>
+{
+    let line = before.places.len() as u32 + 2;
+    if before.places.len() >= MOST_LABELS {
+        return Err(LabelsError::TooMany { line });
+    }
+    let Some(start) = start_of(row) else {
+        return Err(LabelsError::BadField { line });
+    };
+    if row.field(3).len() > LONGEST_LABEL {
+        return Err(LabelsError::LabelTooLong { line });
+    }
+    let Some(col) = assets.col_of(start.sid) else {
+        return Err(LabelsError::UnknownSid { line });
+    };
+    if is_known(before, keys, row.field(0), col, start.day) {
+        return Err(LabelsError::DuplicateStart { line });
+    }
+    Ok(ColumnStart {
+        col: col as u32,
+        day: start.day,
+    })
+}
+
+// Whether a row has the name, the column and the day.
+fn is_known(rows: &LabelRows, keys: &HashSet<u128>, name: &[u8], col: usize, day: i32) -> bool {
+    match rows.names.number_of(name) {
+        Some(number) => keys.contains(&key(number as u32, col, day)),
+        None => false,
+    }
+}
+
+/// The sid and the day of a record.
+#[derive(Clone, Copy)]
+struct SidStart {
+    sid: u32,
+    day: i32,
+}
+
+// The sid and the day of the record that was read last, where it is a label.
+fn start_of(row: &Records) -> Option<SidStart>
+{
+    if row.field_count() != 4 || !is_name(row.field(0)) || !is_printable(row.field(3)) {
+        return None;
+    }
+    let sid = read_sid(row.field(1))?;
+    let day = read_day(row.field(2))?;
+    Some(SidStart { sid, day })
+}
+
+fn is_printable(text: &[u8]) -> bool
+    ensures { result ≡ is_printable text.now }
+{
+    text.iter().all(|b| matches!(*b, b' '..=b'~'))
+}

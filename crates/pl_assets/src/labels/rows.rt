@@ -1,0 +1,105 @@
+ghost use Rattle.std.specs.Prelude.{◌≡◌, ◌<◌, ◌≤◌, [], ◌∷◌, ◌++◌, length, IfOk, OnOk, OnErr, IsTrue};
+ghost use Rattle.pl_assets.specs.Labels.{is_text};
+ghost use Rattle.pl_assets.specs.LabelPlaces.{AreNumbered, IsBehind, KeepsFront, shown_rows};
+
+use crate::labels::texts::{LabelTexts, Texts};
+use std::alloc::{AllocError, Global};
+
+/// A row of labels: the number of its name, its column, its first day and the code of its text,
+/// which an empty text lacks.
+#[derive(Clone, Copy, Debug)]
+pub(crate) struct Place {
+    pub(crate) name: u32,
+    pub(crate) col: u32,
+    pub(crate) start: i32,
+    pub(crate) code: Option<u32>,
+}
+
+/// Rows of labels, one behind the other, with their distinct names and texts.
+#[derive(Debug, Drop)]
+pub(crate) struct LabelRows {
+    pub(crate) names: Texts,
+    pub(crate) texts: LabelTexts,
+    pub(crate) places: Vec<Place>,
+}
+
+impl LabelRows {
+    /// No rows.
+    pub(crate) fn new(alloc: Global) -> LabelRows
+        ensures names { result.names ≡ [] }
+        ensures texts { result.texts ≡ [] }
+        ensures places { result.places.items ≡ [] }
+    {
+        LabelRows {
+            names: Texts::new(alloc),
+            texts: LabelTexts::new(alloc),
+            places: Vec::new(alloc),
+        }
+    }
+
+    /// One row behind the others. Where memory runs out, none is added.
+    pub(crate) fn push(
+        &mut self,
+        name: &[u8],
+        col: u32,
+        start: i32,
+        text: &[u8],
+    ) -> Result<Place, AllocError>
+        requires numbered { AreNumbered self.old }
+        requires few { length self.old.places.items < 200_000 }
+        ensures numbered { AreNumbered self.new }
+        ensures place { IfOk result (λ p. IsBehind self.old self.new p) }
+        ensures row { OnOk result (shown_rows self.new
+            ≡ shown_rows self.old ++ record { name = name.now; col = col; start = start; text = text.now } ∷ []) }
+        ensures kept { OnErr result (shown_rows self.new ≡ shown_rows self.old) }
+        ensures texts_kept { OnErr result (self.new.texts ≡ self.old.texts) }
+        ensures places_kept { OnErr result (self.new.places.items ≡ self.old.places.items) }
+    {
+        let names = self.names.len();
+        let texts = self.texts.len();
+        let place = self.put(name, col, start, text);
+        if place.is_err() {
+            self.names.truncate(names);
+            self.texts.truncate(texts);
+        }
+        place
+    }
+
+    // The same, but where memory runs out, a name and a text may stay behind the others.
+    fn put(
+        &mut self,
+        name: &[u8],
+        col: u32,
+        start: i32,
+        text: &[u8],
+    ) -> Result<Place, AllocError>
+        requires numbered { AreNumbered self.old }
+        requires few { length self.old.places.items < 200_000 }
+        ensures numbered { OnOk result (AreNumbered self.new) }
+        ensures place { IfOk result (λ p. IsBehind self.old self.new p) }
+        ensures row { OnOk result (shown_rows self.new
+            ≡ shown_rows self.old ++ record { name = name.now; col = col; start = start; text = text.now } ∷ []) }
+        ensures front { OnErr result (KeepsFront self.old self.new) }
+    {
+        let number = self.names.insert(name)? as u32;
+        let code = self.code_of(text)?;
+        let place = Place {
+            name: number,
+            col,
+            start,
+            code,
+        };
+        self.places.push(place)?;
+        Ok(place)
+    }
+
+    // The code of a text, which is added if it is new; an empty text has none.
+    fn code_of(&mut self, text: &[u8]) -> Result<Option<u32>, AllocError>
+    {
+        if text.is_empty() {
+            return Ok(None);
+        }
+        let code = self.texts.insert(text)?;
+        Ok(Some(code as u32))
+    }
+}

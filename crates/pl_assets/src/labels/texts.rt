@@ -1,0 +1,186 @@
+ghost use Rattle.std.specs.Prelude.{◌≡◌, ◌<◌, [], length, take, position, slice_index_or, bytes_eq, IfOk, OnOk, OnErr};
+ghost use Rattle.std.specs.List.{position_or_len};
+ghost use Rattle.csv.specs.Writing.{default_writer, field_text};
+ghost use Rattle.pl_assets.specs.LabelTexts.{with_text};
+
+use csv::WriterBuilder;
+use indexmap::IndexSet;
+use std::alloc::{AllocError, Global};
+use std::marker::Model;
+
+/// Distinct texts, numbered from 0 in the order in which they came.
+#[derive(Debug, Drop)]
+pub(crate) struct Texts {
+    set: IndexSet<Vec<u8>>,
+}
+
+impl Model for Texts {
+    ghost use Rattle.std.specs.Prelude.{List, ℕ, map};
+
+    ghost Value = { List (List ℕ) };
+
+    ghost view = { λ t. map (λ v. v.items) t.set.keys };
+}
+
+impl Texts {
+    /// No texts.
+    pub(crate) fn new(alloc: Global) -> Texts
+        ensures { result ≡ [] }
+    {
+        Texts {
+            set: IndexSet::new(alloc),
+        }
+    }
+
+    /// How many texts there are.
+    pub(crate) fn len(&self) -> usize
+        ensures { result ≡ length self.now }
+    {
+        self.set.len()
+    }
+
+    /// The number of a text.
+    pub(crate) fn number_of(&self, text: &[u8]) -> Option<usize>
+        ensures { result ≡ position (bytes_eq text.now) self.now }
+    {
+        self.set.get_index_of(text)
+    }
+
+    /// The text of a number.
+    pub(crate) fn text(&self, number: usize) -> &[u8]
+        requires { number < length self.now }
+        ensures { result.now ≡ slice_index_or self.now number [] }
+    {
+        match self.set.get_index(number) {
+            Some(text) => text.as_slice(),
+            None => unreachable!(),
+        }
+    }
+
+    /// The number of a text, which is added if it is new.
+    pub(crate) fn insert(&mut self, text: &[u8]) -> Result<usize, AllocError>
+        ensures texts { OnOk result (self.new ≡ with_text self.old text.now) }
+        ensures number { IfOk result (λ n. n ≡ position_or_len (bytes_eq text.now) self.old) }
+        ensures err { OnErr result (self.new ≡ self.old) }
+    {
+        if let Some(number) = self.number_of(text) {
+            return Ok(number);
+        }
+        let alloc = *self.set.allocator();
+        let owned = Vec::from_slice(alloc, text)?;
+        self.add(owned)
+    }
+
+    fn add(&mut self, text: Vec<u8>) -> Result<usize, AllocError>
+        ensures texts { OnOk result (self.new ≡ with_text self.old text.items) }
+        ensures number { IfOk result (λ n. n ≡ position_or_len (bytes_eq text.items) self.old) }
+        ensures err { OnErr result (self.new ≡ self.old) }
+    {
+        match self.set.insert_full(text) {
+            Ok((number, _)) => Ok(number),
+            Err(_) => Err(AllocError),
+        }
+    }
+
+    /// Keeps the first `len` texts.
+    pub(crate) fn truncate(&mut self, len: usize)
+        ensures { self.new ≡ take len self.old }
+    {
+        self.set.truncate(len);
+    }
+}
+
+/// Distinct texts of labels, each with the field that csv writes for it.
+#[derive(Debug, Drop)]
+pub(crate) struct LabelTexts {
+    texts: Texts,
+    fields: Vec<Vec<u8>>,
+}
+
+impl Model for LabelTexts {
+    ghost use Rattle.std.specs.Prelude.{◌≡◌, List, ℕ, map};
+    ghost use Rattle.csv.specs.Writing.{default_writer, field_text};
+
+    ghost Value = { List (List ℕ) };
+
+    ghost view = { λ t. t.texts };
+
+    ghost invariant = { λ t. map (λ v. v.items) t.fields.items ≡ map (field_text default_writer) t.texts };
+}
+
+impl LabelTexts {
+    /// No texts.
+    pub(crate) fn new(alloc: Global) -> LabelTexts
+        ensures { result ≡ [] }
+    {
+        LabelTexts {
+            texts: Texts::new(alloc),
+            fields: Vec::new(alloc),
+        }
+    }
+
+    /// How many texts there are.
+    pub(crate) fn len(&self) -> usize
+        ensures { result ≡ length self.now }
+    {
+        self.texts.len()
+    }
+
+    /// The text of a code.
+    pub(crate) fn text(&self, code: usize) -> &[u8]
+        requires { code < length self.now }
+        ensures { result.now ≡ slice_index_or self.now code [] }
+    {
+        self.texts.text(code)
+    }
+
+    /// The text of a code as a field of csv.
+    pub(crate) fn field(&self, code: usize) -> &[u8]
+        requires { code < length self.now }
+        ensures { result.now ≡ field_text default_writer (slice_index_or self.now code []) }
+    {
+        self.fields[code].as_slice()
+    }
+
+    /// The code of a text, which is added if it is new.
+    pub(crate) fn insert(&mut self, text: &[u8]) -> Result<usize, AllocError>
+        ensures texts { OnOk result (self.new ≡ with_text self.old text.now) }
+        ensures code { IfOk result (λ n. n ≡ position_or_len (bytes_eq text.now) self.old) }
+        ensures err { OnErr result (self.new ≡ self.old) }
+    {
+        if let Some(code) = self.texts.number_of(text) {
+            return Ok(code);
+        }
+        let field = csv_field(*self.fields.allocator(), text)?;
+        self.fields.push(field)?;
+        match self.texts.insert(text) {
+            Ok(code) => Ok(code),
+            Err(error) => {
+                self.fields.pop();
+                Err(error)
+            }
+        }
+    }
+
+    /// Keeps the first `len` texts.
+    pub(crate) fn truncate(&mut self, len: usize)
+        ensures { self.new ≡ take len self.old }
+    {
+        self.texts.truncate(len);
+        self.fields.truncate(len);
+    }
+}
+
+// The text as csv writes it in a row of several fields.
+fn csv_field(alloc: Global, text: &[u8]) -> Result<Vec<u8>, AllocError>
+    ensures { IfOk result (λ v. v.items ≡ field_text default_writer text.now) }
+{
+    let mut writer = WriterBuilder::new().from_writer(Vec::new(alloc));
+    if writer.write_field(text).is_err() {
+        return Err(AllocError);
+    }
+    match writer.into_inner() {
+        Ok(bytes) => Ok(bytes),
+        Err(_) => Err(AllocError),
+    }
+}
