@@ -50,6 +50,13 @@ IsRisen shelf keeper (Unkept name) = keeper
 IsRisen shelf keeper (Judged refusal) = ⊤
 IsRisen shelf keeper Memory = ⊤
 
+-- the rows of that name were not loaded: over a sound keeper only for want of memory, and else since its count rose
+abbrev pub IsUnkept : Bool → Type 0 → List ℕ → Stop → Type 0
+IsUnkept sound risen name (Unkept unkept) = (unkept.now ≡ name) × risen × (IsTrue sound → ⊥)
+IsUnkept sound risen name Memory = ⊤
+IsUnkept sound risen name (Judged refusal) = ⊥
+IsUnkept sound risen name (Missed missed) = ⊥
+
 -- a command has no fault and has written its text, or it stops, or after a prefix the text isn't written
 abbrev pub IsEnd : Bool → Bool → List Step → Option (List ℕ) → Option (List ℕ) → Type 0 → List ℕ → End → Type 0
 IsEnd shelf keeper steps old new roomy text ends.Usage = first_fault steps ≡ Some Usage

@@ -10,3 +10,4 @@ pub mod Reading
 pub mod Loads
 pub mod Rows
 pub mod Ends
+pub mod Misspelled

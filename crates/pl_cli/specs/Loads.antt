@@ -1,26 +1,36 @@
 -- What was read, and the text that it gives.
-use Rattle.std.specs.Prelude.{◌≡◌, ℕ, ◌<◌, ◌≤◌, List, [], length, vec_len}
+use Rattle.std.specs.Prelude.{◌≡◌, ℕ, ◌<◌, ◌≤◌, List, length, All}
 use Rattle.pl_spec.specs.declared.Format.TheVariants.{Csv}
 use Rattle.pl_spec.specs.World.{World}
 use Rattle.pl_spec.specs.Parts.{world_of, AreFor}
 use Rattle.pl_spec.specs.Table.{Pipeline, table}
 use Rattle.pl_spec.specs.Text.{header, text}
-use Rattle.pl_cli.specs.declared.stages.Loaded.{Loaded}
-use Rattle.pl_cli.specs.PlainPipeline.{pipeline_of}
+use Rattle.pl_model.specs.PlainTerms.{HasWindow}
+use Rattle.pl_cli.specs.declared.load.Data.{Data}
+use Rattle.pl_cli.specs.declared.load.Loaded.{Loaded}
+use Rattle.pl_cli.specs.PlainScript.{pipeline_of}
+
+abbrev pub data_world : Data → World
+data_world d = world_of d.sessions d.assets d.labels.rows d.labels.texts d.bars d.adjustments
 
 abbrev pub loaded_world : Loaded → World
-loaded_world l = world_of l.sessions l.assets [] [] l.bars []
+loaded_world l = data_world l.data
 
 abbrev pub loaded_pipeline : Loaded → Pipeline
-loaded_pipeline l = pipeline_of l.names.items
+loaded_pipeline l = pipeline_of l.columns.items
 
 abbrev pub loaded_text : Loaded → List ℕ
 loaded_text l = text (loaded_world l) (loaded_pipeline l) Csv (table (loaded_world l) (loaded_pipeline l) l.from l.to)
 
+-- the parts were made for one another
+pub record IsMadeData (d : Data) : Type 0 where
+  pub made : AreFor d.sessions d.assets d.labels.rows d.bars d.adjustments
+  pub few : length d.sessions ≤ 16_000
+
 -- The parts were made for one another, the range is within the sessions, and the header is that of the columns.
 pub record IsLoaded (l : Loaded) : Type 0 where
-  pub made : AreFor l.sessions l.assets [] l.bars []
-  pub within : l.to < length l.sessions
-  pub sessions : length l.sessions ≤ 16_000
-  pub few : length l.names.items ≤ 64
+  pub data : IsMadeData l.data
+  pub within : l.to < length l.data.sessions
+  pub few : length l.columns.items ≤ 64
+  pub windows : All (λ c. HasWindow c.term) l.columns.items
   pub header : l.header.items ≡ header (loaded_pipeline l) Csv

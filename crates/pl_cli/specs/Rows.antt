@@ -1,11 +1,18 @@
--- The line of a row whose cells are one and the same.
-use Rattle.std.specs.Prelude.{ℕ, ℤ, List, [], ◌∷◌, ◌++◌, flat_map, replicate, decimal}
-use Rattle.pl_spec.specs.Dates.{date_text}
+-- The fields of a row of a plain pipeline.
+use Rattle.std.specs.Prelude.{ℕ, ℤ, List, ◌∷◌, [], ◌++◌, flat_map, map}
 use Rattle.pl_spec.specs.Decimals.{cell_text}
+use Rattle.pl_spec.specs.World.{World}
+use Rattle.pl_spec.specs.Value.{value, number_of}
+use Rattle.pl_model.specs.PlainTerms.{term_of}
+use Rattle.pl_cli.specs.declared.plain_script.PlainColumn.{PlainColumn}
 
 -- fields, each behind a comma
 abbrev pub behind_commas : List (List ℕ) → List ℕ
 behind_commas fields = flat_map (λ f. (44 ∷ []) ++ f) fields
 
-abbrev pub row_text : ℤ → ℕ → ℤ → ℕ → List ℕ
-row_text day sid cell columns = (date_text day ++ behind_commas (decimal sid ∷ replicate columns (cell_text cell))) ++ 10 ∷ []
+-- the cells of the columns for an asset on a session
+abbrev pub cells_of : World → List PlainColumn → ℕ → ℤ → List ℤ
+cells_of w columns a d = map (λ c. number_of (value w [] (term_of c.term) a d)) columns
+
+abbrev pub cell_fields : World → List PlainColumn → ℕ → ℤ → List ℕ
+cell_fields w columns a d = behind_commas (map cell_text (cells_of w columns a d))

@@ -185,18 +185,20 @@ abbrev pub adjustments_steps : List AssetRow → Lists → Option (List ℕ) →
 adjustments_steps assets lists None = []
 adjustments_steps assets lists (Some name) = record { reads = Some (Store name); fault = rows_rule assets lists name } ∷ []
 
--- Each file is read whole and judged before the next one is begun, then the adjustments, and the range is judged last.
-abbrev pub run_steps : Files → Lists → RunRequest → List Step
-run_steps files lists q =
+-- Each file is read whole and judged before the next one is begun, and the adjustments come last.
+abbrev pub data_steps : Files → Lists → RunRequest → List Step
+data_steps files lists q =
     let days = days_held files q.sessions in
     let assets = assets_held files q.assets in
+    sessions_step files q.sessions ∷ assets_step files q.assets
+    ∷ (labels_steps assets files q.options.labels
+    ++ (bars_step days assets files q.bars ∷ adjustments_steps assets lists q.options.adjustments))
+
+-- first the pipeline file, then the data, and then the range
+abbrev pub run_steps : Files → Lists → RunRequest → List Step
+run_steps files lists q =
     pipeline_steps files q.pipeline
-    ++ (sessions_step files q.sessions ∷ [])
-    ++ (assets_step files q.assets ∷ [])
-    ++ labels_steps assets files q.options.labels
-    ++ (bars_step days assets files q.bars ∷ [])
-    ++ adjustments_steps assets lists q.options.adjustments
-    ++ range_steps q (pipeline_held files q.pipeline) days
+    ++ (data_steps files lists q ++ range_steps q (pipeline_held files q.pipeline) (days_held files q.sessions))
 
 unfoldable pub work : Files → Lists → Option Request → List Step
 work files lists None = rule (Some Usage) ∷ []

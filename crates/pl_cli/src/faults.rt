@@ -7,13 +7,33 @@ ghost use Rattle.pl_assets.specs.LabelFaults as labels;
 ghost use Rattle.pl_adjust.specs.Faults as rows;
 ghost use Rattle.pl_cli.specs.Work.{sessions_fault, assets_fault, labels_fault, bars_fault, rows_fault};
 ghost use Rattle.pl_cli.specs.Ends.{IsRisen, told_by};
+ghost use Rattle.pl_cli.specs.Misspelled.{error_fault};
 
-use crate::stop::{DataFault, Limit, Refusal, RowFault, Stop};
+use crate::stop::{DataFault, Limit, Refusal, RowFault, Stop, SyntaxFault};
 use pl_adjust::AdjustError;
 use pl_assets::{AssetsError, LabelsError};
 use pl_bars::BarsError;
 use pl_calendar::CalendarError;
 use pl_outside::Table;
+use pl_syntax::{Place, SyntaxError};
+
+/// The stop for an error of the pipeline file of that name.
+pub fn syntax_stop<'a>(name: &'a str, error: SyntaxError) -> Stop<'a>
+    ensures told { told_by result ≡ error_fault name.now error }
+    ensures risen { IsRisen ⊥ ⊥ result }
+{
+    match error {
+        SyntaxError::BadByte(place) => misspelled(name, place, SyntaxFault::BadByte),
+        SyntaxError::Unexpected(place) => misspelled(name, place, SyntaxFault::Unexpected),
+        SyntaxError::TooDeep(place) => misspelled(name, place, SyntaxFault::TooDeep),
+        SyntaxError::NumberTooLarge(place) => {
+            misspelled(name, place, SyntaxFault::NumberTooLarge)
+        }
+        SyntaxError::TooLong => passed(Limit::Pipeline),
+        SyntaxError::LongStatement(place) => misspelled(name, place, SyntaxFault::LongStatement),
+        SyntaxError::Memory => Stop::Memory,
+    }
+}
 
 /// The stop for an error of the sessions file of that name.
 pub fn sessions_stop<'a>(name: &'a str, error: CalendarError) -> Stop<'a>
@@ -88,6 +108,12 @@ pub fn bars_stop<'a>(name: &'a str, error: BarsError) -> Stop<'a>
         BarsError::Duplicate { line } => faulty(name, line, DataFault::Duplicate),
         BarsError::Memory => Stop::Memory,
     }
+}
+
+fn misspelled<'a>(name: &'a str, place: Place, fault: SyntaxFault) -> Stop<'a>
+    ensures { result ≡ Stop.Judged (Refusal.Syntax name.entry place fault) }
+{
+    Stop::Judged(Refusal::Syntax { name, place, fault })
 }
 
 fn faulty<'a>(name: &'a str, line: u32, fault: DataFault) -> Stop<'a>

@@ -6,21 +6,21 @@
 
 mod commands;
 mod faults;
+mod files;
 mod header;
 mod line;
+mod load;
 mod names;
-mod plain;
 mod plain_script;
 mod range;
 mod rows;
-mod stages;
 mod stop;
+mod tables;
 #[cfg(test)]
 mod tests;
 mod top;
 mod words;
 mod writing;
 
-pub use plain::plain_files_are_read;
-pub use plain_script::{PlainColumn, PlainTerm, plain_columns, plain_scripts_are_read};
+pub use plain_script::plain_scripts_are_read;
 pub use top::run_program;

@@ -1,21 +1,19 @@
 // The table, each line of it written in one piece.
-ghost use Rattle.std.specs.Prelude.{◌≡◌, ◌<◌, pos, length, flat_map};
-ghost use Rattle.pl_spec.specs.Dates.{IsDay};
+ghost use Rattle.std.specs.Prelude.{◌≡◌, ◌≤◌, ◌<◌, ◌+◌, ◌++◌, pos, length, flat_map, All};
 ghost use Rattle.pl_spec.specs.Parts.{sid_at};
-ghost use Rattle.pl_spec.specs.World.{day_of, exists};
 ghost use Rattle.pl_spec.specs.Table.{row, session_rows};
 ghost use Rattle.pl_spec.specs.Text.{row_line};
 ghost use Rattle.pl_spec.specs.declared.Format.TheVariants.{Csv};
 ghost use Rattle.pl_outside.specs.Taken.{Writes};
-ghost use Rattle.pl_model.specs.Worlds.{world_of, IsMade};
 ghost use Rattle.pl_cli.specs.Loads.{loaded_text, loaded_world, loaded_pipeline, IsLoaded};
+ghost use Rattle.pl_cli.specs.Rows.{cell_fields};
 
-use crate::rows;
-use crate::stages::Loaded;
+use crate::line::Line;
+use crate::load::Loaded;
+use crate::rows::{put_cell, put_date, put_sid};
 use pl_fixed::Steps;
-use pl_model::{PlainTerm, World, plain_cell};
+use pl_model::plain_cell;
 use pl_outside::{Failed, Sink, write_bytes};
-use pl_spec::Column;
 use std::sync::ledger::Ledger;
 
 /// Writes the header and the rows.
@@ -25,8 +23,7 @@ pub fn write_table<O: Sink, L: Ledger>(
     steps: &mut Steps<L>,
 ) -> Result<(), Failed>
     requires { IsLoaded loaded.now }
-    ensures writes { Writes O.taken O.faults O.sound O.room out.old out.new (loaded_text loaded.now) result }
-    ensures cost { steps.new ≡ steps.old }
+    ensures { Writes O.taken O.faults O.sound O.room out.old out.new (loaded_text loaded.now) result }
 {
     write_bytes(out, &loaded.header)?;
     for session in loaded.from..loaded.to + 1 {
@@ -43,14 +40,14 @@ fn write_session<O: Sink, L: Ledger>(
     steps: &mut Steps<L>,
 ) -> Result<(), Failed>
     requires loaded { IsLoaded loaded.now }
-    requires session { session < length loaded.now.sessions }
-    ensures writes { Writes O.taken O.faults O.sound O.room out.old out.new
+    requires session { session < length loaded.now.data.sessions }
+    ensures { Writes O.taken O.faults O.sound O.room out.old out.new
         (flat_map (row_line (loaded_world loaded.now) (loaded_pipeline loaded.now) Csv) (session_rows (loaded_world loaded.now) (loaded_pipeline loaded.now) (pos session))) result }
-    ensures cost { steps.new ≡ steps.old }
 {
-    let day = loaded.sessions.day(session);
-    for col in 0..loaded.assets.len() {
-        if loaded.assets.exists(col, day) {
+    let assets = &loaded.data.assets;
+    let day = loaded.data.sessions.day(session);
+    for col in 0..assets.len() {
+        if assets.exists(col, day) {
             write_row(loaded, session, col, out, steps)?;
         }
     }
@@ -66,26 +63,37 @@ fn write_row<O: Sink, L: Ledger>(
     steps: &mut Steps<L>,
 ) -> Result<(), Failed>
     requires loaded { IsLoaded loaded.now }
-    requires session { session < length loaded.now.sessions }
-    requires col { col < length loaded.now.assets }
-    ensures writes { Writes O.taken O.faults O.sound O.room out.old out.new
+    requires session { session < length loaded.now.data.sessions }
+    requires col { col < length loaded.now.data.assets }
+    ensures { Writes O.taken O.faults O.sound O.room out.old out.new
         (row_line (loaded_world loaded.now) (loaded_pipeline loaded.now) Csv
-        (row (loaded_world loaded.now) (loaded_pipeline loaded.now) (pos session) (sid_at loaded.now.assets col))) result }
-    ensures cost { steps.new ≡ steps.old }
+        (row (loaded_world loaded.now) (loaded_pipeline loaded.now) (pos session) (sid_at loaded.now.data.assets col))) result }
 {
-    let world = World {
-        sessions: &loaded.sessions,
-        assets: &loaded.assets,
-        bars: &loaded.bars,
-    };
-    let day = loaded.sessions.day(session);
-    let cell = plain_cell(
-        &world,
-        PlainTerm::Latest(Column::Close),
-        col,
-        session,
-        steps,
-    );
-    let line = rows::row_line(day, loaded.assets.sid(col), cell, loaded.names.len());
+    let mut line = Line::new();
+    put_date(&mut line, loaded.data.sessions.day(session));
+    put_sid(&mut line, loaded.data.assets.sid(col));
+    put_cells(&mut line, loaded, session, col, steps);
+    line.put(b"\n");
     write_bytes(out, line.as_slice())
+}
+
+// Puts the cells of the columns, each behind a comma.
+fn put_cells<L: Ledger>(
+    line: &mut Line,
+    loaded: &Loaded,
+    session: usize,
+    col: usize,
+    steps: &mut Steps<L>,
+)
+    requires room { length line.old + 21 * length loaded.now.columns.items ≤ 2_047 }
+    requires loaded { IsLoaded loaded.now }
+    requires session { session < length loaded.now.data.sessions }
+    requires col { col < length loaded.now.data.assets }
+    ensures text { line.new ≡ line.old ++ cell_fields (loaded_world loaded.now) loaded.now.columns.items (sid_at loaded.now.data.assets col) (pos session) }
+    ensures within { length line.new ≤ length line.old + 21 * length loaded.now.columns.items }
+{
+    let world = loaded.data.world();
+    for column in &loaded.columns {
+        put_cell(line, plain_cell(&world, column.term, col, session, steps));
+    }
 }

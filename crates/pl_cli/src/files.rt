@@ -1,26 +1,25 @@
-// The stages of the work before the first row. Each reads one file, judges it, and ends as its steps say.
-ghost use Rattle.std.specs.Prelude.{◌≡◌, ◌≤◌, ◌<◌, ◌^◌, [], ◌∷◌, ℕ, List, Option, Some, None, true, length, All, IfOk, IfErr};
+// The files of the shelf. Each stage reads one file whole and judges it, and ends as its steps say.
+ghost use Rattle.std.specs.Prelude.{◌≡◌, ◌≤◌, ◌<◌, ◌^◌, [], ◌∷◌, ℕ, List, Option, Some, None, true, length, All, IfOk, IfErr, option_map};
 ghost use Rattle.std.specs.Option.{ForSome};
 ghost use Rattle.pl_outside.specs.Counts.{Rose};
 ghost use Rattle.pl_calendar.specs.Days.{AreDays};
 ghost use Rattle.pl_assets.specs.Assets.{AreAssets};
+ghost use Rattle.pl_model.specs.PlainTerms.{HasWindow};
+ghost use Rattle.pl_syntax.specs.Statements.{statements_of};
+ghost use Rattle.pl_syntax.specs.Scripts.{statements_in};
+ghost use Rattle.pl_cli.specs.PlainScript.{pipeline_of};
 ghost use Rattle.pl_cli.specs.Step.{file, no_rule};
-ghost use Rattle.pl_cli.specs.Work.{pipeline_step, sessions_step, assets_step, bars_step, names_held, days_held, assets_held, bars_held, run_steps, run_text};
+ghost use Rattle.pl_cli.specs.Work.{syntax_step, pipeline_steps, sessions_step, assets_step, labels_steps, bars_step, statements_held, pipeline_held, days_held, assets_held, labels_held, bars_held};
 ghost use Rattle.pl_cli.specs.Ends.{StageEnds, IsRisen};
-ghost use Rattle.pl_cli.specs.Reading.{run_of};
-ghost use Rattle.pl_cli.specs.Loads.{loaded_text, IsLoaded};
 
-use crate::faults::{assets_stop, bars_stop, sessions_stop};
-use crate::header::make_header;
-use crate::names::Name;
-use crate::plain::read_plain;
-use crate::range::judge_range;
+use crate::faults::{assets_stop, bars_stop, labels_stop, sessions_stop, syntax_stop};
+use crate::plain_script::{PlainColumn, plain_columns};
 use crate::stop::{Limit, Refusal, Stop};
-use crate::words::RunRequest;
-use pl_assets::Assets;
+use pl_assets::{Assets, Labels};
 use pl_bars::Bars;
 use pl_calendar::Sessions;
 use pl_outside::{ReadError, Shelf, read_file};
+use pl_syntax::{Script, parse};
 use std::alloc::Global;
 
 /// The greatest number of bytes of a pipeline file.
@@ -28,18 +27,6 @@ const PIPELINE_CAP: usize = 262_144;
 
 /// The greatest number of bytes of a data file.
 const FILE_CAP: usize = 536_870_912;
-
-/// What was read and judged, and is left to write: the rows of the sessions `from` to `to`, behind the header.
-#[derive(Drop)]
-pub struct Loaded {
-    pub header: Vec<u8>,
-    pub names: Vec<Name>,
-    pub sessions: Sessions,
-    pub assets: Assets,
-    pub bars: Bars,
-    pub from: usize,
-    pub to: usize,
-}
 
 // The file of that name, whole.
 fn read_named<'a, S: Shelf>(
@@ -67,24 +54,46 @@ fn read_named<'a, S: Shelf>(
     }
 }
 
-/// The names of the columns of the pipeline file.
-pub fn read_pipeline<'a, S: Shelf>(
+/// The script of the pipeline file.
+pub fn read_script<'a, S: Shelf>(
     alloc: Global,
     shelf: &mut S,
     name: &'a str,
-) -> Result<Vec<Name>, Stop<'a>>
+) -> Result<Script, Stop<'a>>
     ensures ends { ForSome (S.holds shelf.old) (λ files.
-        StageEnds (S.sound shelf.old) true (pipeline_step files name.now ∷ []) result) }
-    ensures exact { ForSome (S.holds shelf.old) (λ files. IfOk result (λ names. names_held files name.now ≡ names.items)) }
-    ensures few { IfOk result (λ names. length names.items ≤ 64) }
+        StageEnds (S.sound shelf.old) true (syntax_step files name.now ∷ []) result) }
+    ensures exact { ForSome (S.holds shelf.old) (λ files. IfOk result (λ script. statements_held files name.now ≡ statements_of (statements_in script))) }
     ensures risen { IfErr result (IsRisen (Rose (S.faults shelf.old) (S.faults shelf.new)) ⊥) }
     ensures later { S.faults shelf.old ≤ S.faults shelf.new }
     ensures keeps { S.holds shelf.new ≡ S.holds shelf.old }
     ensures stays { S.sound shelf.new ≡ S.sound shelf.old }
 {
     let bytes = read_named(alloc, shelf, name, PIPELINE_CAP, Limit::Pipeline)?;
-    match read_plain(alloc, &bytes) {
-        Ok(Some(names)) => Ok(names),
+    match parse(alloc, &bytes) {
+        Ok(script) => Ok(script),
+        Err(error) => Err(syntax_stop(name, error)),
+    }
+}
+
+/// The columns of the pipeline file, from 1 to 64 of them.
+pub fn read_columns<'a, S: Shelf>(
+    alloc: Global,
+    shelf: &mut S,
+    name: &'a str,
+) -> Result<Vec<PlainColumn>, Stop<'a>>
+    ensures ends { ForSome (S.holds shelf.old) (λ files.
+        StageEnds (S.sound shelf.old) true (pipeline_steps files name.now) result) }
+    ensures exact { ForSome (S.holds shelf.old) (λ files. IfOk result (λ columns. pipeline_held files name.now ≡ pipeline_of columns.items)) }
+    ensures few { IfOk result (λ columns. length columns.items ≤ 64) }
+    ensures windows { IfOk result (λ columns. All (λ c. HasWindow c.term) columns.items) }
+    ensures risen { IfErr result (IsRisen (Rose (S.faults shelf.old) (S.faults shelf.new)) ⊥) }
+    ensures later { S.faults shelf.old ≤ S.faults shelf.new }
+    ensures keeps { S.holds shelf.new ≡ S.holds shelf.old }
+    ensures stays { S.sound shelf.new ≡ S.sound shelf.old }
+{
+    let script = read_script(alloc, shelf, name)?;
+    match plain_columns(alloc, &script) {
+        Ok(Some(columns)) => Ok(columns),
         Ok(None) => Err(Stop::Judged(Refusal::Unbuilt)),
         Err(_) => Err(Stop::Memory),
     }
@@ -134,6 +143,52 @@ pub fn read_assets<'a, S: Shelf>(
     }
 }
 
+/// The labels of the labels file of that name; none where no name is given.
+pub fn read_labels<'a, S: Shelf>(
+    alloc: Global,
+    shelf: &mut S,
+    name: Option<&'a str>,
+    assets: &Assets,
+) -> Result<Labels, Stop<'a>>
+    ensures ends { ForSome (S.holds shelf.old) (λ files.
+        StageEnds (S.sound shelf.old) true (labels_steps assets.now files (option_map (λ n. n.now) name)) result) }
+    ensures exact { ForSome (S.holds shelf.old) (λ files.
+        IfOk result (λ labels. labels_held assets.now files (option_map (λ n. n.now) name) ≡ labels)) }
+    ensures cols { IfOk result (λ labels. All (λ r. r.col < length assets.now) labels.rows) }
+    ensures risen { IfErr result (IsRisen (Rose (S.faults shelf.old) (S.faults shelf.new)) ⊥) }
+    ensures later { S.faults shelf.old ≤ S.faults shelf.new }
+    ensures keeps { S.holds shelf.new ≡ S.holds shelf.old }
+    ensures stays { S.sound shelf.new ≡ S.sound shelf.old }
+{
+    match name {
+        None => Ok(Labels::none(alloc)),
+        Some(name) => read_named_labels(alloc, shelf, name, assets),
+    }
+}
+
+fn read_named_labels<'a, S: Shelf>(
+    alloc: Global,
+    shelf: &mut S,
+    name: &'a str,
+    assets: &Assets,
+) -> Result<Labels, Stop<'a>>
+    ensures ends { ForSome (S.holds shelf.old) (λ files.
+        StageEnds (S.sound shelf.old) true (labels_steps assets.now files (Some name.now)) result) }
+    ensures exact { ForSome (S.holds shelf.old) (λ files.
+        IfOk result (λ labels. labels_held assets.now files (Some name.now) ≡ labels)) }
+    ensures cols { IfOk result (λ labels. All (λ r. r.col < length assets.now) labels.rows) }
+    ensures risen { IfErr result (IsRisen (Rose (S.faults shelf.old) (S.faults shelf.new)) ⊥) }
+    ensures later { S.faults shelf.old ≤ S.faults shelf.new }
+    ensures keeps { S.holds shelf.new ≡ S.holds shelf.old }
+    ensures stays { S.sound shelf.new ≡ S.sound shelf.old }
+{
+    let bytes = read_named(alloc, shelf, name, FILE_CAP, Limit::File)?;
+    match Labels::read(alloc, &bytes, assets) {
+        Ok(labels) => Ok(labels),
+        Err(error) => Err(labels_stop(name, error)),
+    }
+}
+
 /// The bars of the bars file.
 pub fn read_bars<'a, S: Shelf>(
     alloc: Global,
@@ -157,33 +212,4 @@ pub fn read_bars<'a, S: Shelf>(
         Ok(bars) => Ok(bars),
         Err(error) => Err(bars_stop(name, error)),
     }
-}
-
-/// All that a run reads and judges, in the order of work.
-pub fn load<'a, S: Shelf>(
-    alloc: Global,
-    request: &RunRequest<'a>,
-    shelf: &mut S,
-) -> Result<Loaded, Stop<'a>>
-    ensures ends { ForSome (S.holds shelf.old) (λ files.
-        StageEnds (S.sound shelf.old) true (run_steps files (run_of request.now)) result) }
-    ensures text { ForSome (S.holds shelf.old) (λ files. IfOk result (λ l. loaded_text l ≡ run_text files (run_of request.now))) }
-    ensures loaded { IfOk result IsLoaded }
-    ensures risen { IfErr result (IsRisen (Rose (S.faults shelf.old) (S.faults shelf.new)) ⊥) }
-{
-    let names = read_pipeline(alloc, shelf, request.pipeline)?;
-    let sessions = read_sessions(alloc, shelf, request.sessions)?;
-    let assets = read_assets(alloc, shelf, request.assets)?;
-    let bars = read_bars(alloc, shelf, request.bars, &sessions, &assets)?;
-    let range = judge_range(request, &sessions)?;
-    let header = make_header(alloc, &names)?;
-    Ok(Loaded {
-        header,
-        names,
-        sessions,
-        assets,
-        bars,
-        from: range.from,
-        to: range.to,
-    })
 }
