@@ -1,4 +1,5 @@
+use Rattle.pl_model.proofs.Made.{parts_make_a_world}
 use Rattle.pl_model.proofs.laws.parts_make_a_world.Goals as goal
 
 pub returns : goal.returns
-returns c = ?
+returns c = parts_make_a_world
