@@ -2,6 +2,7 @@ pub mod CellTexts
 pub mod FileSteps
 pub mod Finish
 pub mod PlainFiles
+pub mod PlainScripts
 pub mod Ranges
 pub mod RowTexts
 pub mod SessionLines
