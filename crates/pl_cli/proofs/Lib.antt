@@ -3,6 +3,7 @@ pub mod FileSteps
 pub mod Finish
 pub mod PlainFiles
 pub mod PlainScripts
+pub mod PlainPipelines
 pub mod Ranges
 pub mod RowTexts
 pub mod SessionLines
