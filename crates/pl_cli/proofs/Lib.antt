@@ -1,6 +1,8 @@
 pub mod CellTexts
 pub mod FileSteps
 pub mod Finish
+pub mod PlainScripts
+pub mod PlainPipelines
 pub mod Ranges
 pub mod RowTexts
 pub mod SessionLines

@@ -7,7 +7,7 @@ use Rattle.pl_spec.specs.declared.Column.{Column}
 use Rattle.pl_spec.specs.declared.Column.TheVariants.{OpenPrice, High, Low, Close, Volume}
 use Rattle.pl_spec.specs.Rounding.{MILLION}
 use Rattle.pl_spec.specs.Kind.Kind.{Window}
-use Rattle.pl_spec.specs.Term.{Node}
+use Rattle.pl_spec.specs.Term.{Node, Graph}
 use Rattle.pl_spec.specs.Term.Input.{BarColumn}
 use Rattle.pl_spec.specs.Table.{NamedColumn, Pipeline}
 use Rattle.pl_grammar.specs.declared.Place.{Place}
@@ -121,14 +121,15 @@ abbrev pub node_of : PlainTerm → Node
 node_of t = record { kind = Window (kind_of t); inputs = BarColumn (column_of t) ∷ []; mask = None; group = None; window = size_of t }
 
 -- a term for each column
+abbrev pub graph_of : List PlainColumn → Graph
+graph_of cs = map (λ c. node_of c.term) cs
+
+-- column k shows term k
+abbrev pub numbered : ℕ → List PlainColumn → List NamedColumn
+numbered k cs = map (λ x. record { name = x.0; term = x.1 }) (zip (names_of cs) (range_with_len k (length cs)))
+
 abbrev pub pipeline_of : List PlainColumn → Pipeline
-pipeline_of cs =
-    record {
-      graph = map (λ c. node_of c.term) cs;
-      columns = map (λ x. record { name = x.0; term = x.1 }) (zip (names_of cs) (range_with_len 0 (length cs)));
-      screen = None;
-      names = [];
-    }
+pipeline_of cs = record { graph = graph_of cs; columns = numbered 0 cs; screen = None; names = [] }
 
 abbrev pub greatest_window : List PlainColumn → ℕ
 greatest_window cs = fold max 0 (map (λ c. size_of c.term) cs)

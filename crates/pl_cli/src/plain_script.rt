@@ -71,7 +71,7 @@ fn columns_in(
 }
 
 fn has_name(columns: &[PlainColumn], name: &[u8]) -> bool
-    ensures { result ≡ list_any (bytes_eq name.now) (names_of columns.now) }
+    ensures { result ≡ list_any (λ c. bytes_eq name.now c.name) columns.now }
 {
     columns.iter().any(|c| name == c.name.bytes())
 }
