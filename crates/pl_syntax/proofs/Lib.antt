@@ -4,3 +4,5 @@ pub mod Arguments
 pub mod Lines
 pub mod Shown
 pub mod Printing
+pub mod Same
+pub mod SameText
