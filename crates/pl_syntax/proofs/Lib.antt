@@ -5,3 +5,5 @@ pub mod Lines
 pub mod Shown
 pub mod Printing
 pub mod TextsSaid
+pub mod Same
+pub mod SameText

@@ -1,5 +1,5 @@
 -- The canonical text of a script spells it again.
-use Rattle.std.proofs.Common.{◌≡◌, true, List, ap, ◌∙◌}
+use Rattle.std.proofs.Common.{◌≡◌, ℕ, true, List, Result, Ok, Err, ap, subst, sym, ◌∙◌}
 use Rattle.pl_grammar.specs.declared.Place.{Place}
 use Rattle.pl_grammar.specs.Script.{Statement}
 use Rattle.pl_grammar.specs.Whole.{are_sound, bare_script}
@@ -7,9 +7,15 @@ use Rattle.pl_grammar.proofs.Scripts.{script_derives, script_short, same_short, 
 use Rattle.pl_tokens.specs.Sound.{is_written}
 use Rattle.pl_tokens.specs.Text.{start}
 use Rattle.pl_syntax.specs.Canonical.{script_text}
-use Rattle.pl_syntax.specs.Spells.{Parsed, Spells, SpellsAgain}
+use Rattle.pl_syntax.specs.Spells.{Parsed, Spells, SameScript, SpellsAgain}
+use Rattle.pl_syntax.specs.Statements.{statements_of}
+use Rattle.pl_syntax.specs.Scripts.{statements_in, end_in, parsed, printed_text}
+use Rattle.pl_syntax.specs.Parsing.{AnswersScript, AnswersSame, Outcome}
+use Rattle.pl_syntax.specs.declared.script.Script.{Script}
+use Rattle.pl_syntax.specs.declared.error.SyntaxError.{SyntaxError}
+use Rattle.pl_syntax.specs.declared.error.SyntaxError.TheVariants.{Memory}
 use Rattle.pl_syntax.proofs.Shown.{script_shows}
-use Rattle.pl_syntax.proofs.Verdicts.{one_parsed}
+use Rattle.pl_syntax.proofs.Verdicts.{one_parsed, spelled_answers}
 
 pub spells_again : (ss : List Statement) (end : Place) → are_sound is_written ss ≡ true → SpellsAgain (script_text ss) (record { statements = ss; end = end })
 spells_again ss end h =
@@ -23,3 +29,14 @@ spells_again ss end h =
       same = d.same;
       only = λ y z. ap (λ (w : Parsed). bare_script w.statements) (one_parsed (script_text ss) y s z x) ∙ d.same;
     }
+
+same_answer : (r : Result Script SyntaxError) (x y : Parsed) → AnswersScript r x → SameScript x y → AnswersSame r y
+same_answer (Ok s) x y a h = ap (λ (w : Parsed). bare_script w.statements) a ∙ h
+same_answer (Err Memory) x y a h = tt
+same_answer (Err e) x y a h = a
+
+-- what is printed of a script is read as it
+pub printed_answers : (bytes : List ℕ) (r : Result Script SyntaxError) → Outcome bytes r → (s : Script) → bytes ≡ printed_text s → AnswersSame r (parsed s)
+printed_answers bytes r o s e =
+    let x = spells_again (statements_of (statements_in s)) (end_in s) s.sound in
+    same_answer r x.script (parsed s) (spelled_answers bytes r o x.script (subst (λ z. Spells z x.script) (sym e) x.spells)) x.same

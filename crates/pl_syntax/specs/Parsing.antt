@@ -8,7 +8,7 @@ use Rattle.pl_grammar.specs.Tree.{Lexeme}
 use Rattle.pl_grammar.specs.Faults as f
 use Rattle.pl_grammar.specs.Faults.{Kind, Tail, AtEnd, Verdict, Good, Fault, too_large, most_tokens, most_depth, verdict}
 use Rattle.pl_tokens.specs.Text.{start, Read}
-use Rattle.pl_syntax.specs.Spells.{Parsed, FirstFault}
+use Rattle.pl_syntax.specs.Spells.{Parsed, FirstFault, SameScript}
 use Rattle.pl_syntax.specs.Statements.{statements_of}
 use Rattle.pl_syntax.specs.Scripts.{statements_in, end_in, parsed}
 use Rattle.pl_syntax.specs.Stages.{stage_of}
@@ -42,6 +42,12 @@ abbrev pub AnswersScript : Result Script SyntaxError → Parsed → Type 0
 AnswersScript (Ok s) x = parsed s ≡ x
 AnswersScript (Err Memory) x = Unit {0}
 AnswersScript (Err e) x = ⊥
+
+-- the answer is the same script as this one, places aside, unless memory ran out
+abbrev pub AnswersSame : Result Script SyntaxError → Parsed → Type 0
+AnswersSame (Ok s) x = SameScript (parsed s) x
+AnswersSame (Err Memory) x = Unit {0}
+AnswersSame (Err e) x = ⊥
 
 -- the answer is this fault, unless memory ran out
 abbrev pub AnswersFault : Result Script SyntaxError → Kind → Place → Type 0

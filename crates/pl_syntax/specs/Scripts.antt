@@ -1,8 +1,9 @@
 -- What a script of the code holds.
-use Rattle.std.specs.Prelude.{List}
+use Rattle.std.specs.Prelude.{ℕ, List}
 use Rattle.pl_grammar.specs.declared.Place.{Place}
 use Rattle.pl_syntax.specs.declared.script.Statement.{Statement}
 use Rattle.pl_syntax.specs.declared.script.Script.{Script}
+use Rattle.pl_syntax.specs.Canonical.{script_text}
 use Rattle.pl_syntax.specs.Statements.{statements_of}
 use Rattle.pl_syntax.specs.Spells.{Parsed}
 
@@ -15,3 +16,7 @@ end_in s = s.end
 -- the script without where it lies in memory
 abbrev pub parsed : Script → Parsed
 parsed s = record { statements = statements_of (statements_in s); end = end_in s }
+
+-- the script's canonical text
+abbrev pub printed_text : Script → List ℕ
+printed_text s = script_text (statements_of (statements_in s))

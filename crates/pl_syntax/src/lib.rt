@@ -4,6 +4,7 @@
 //! over the grammar of `pl_grammar` and the tokens of `pl_tokens`.
 #![tactic(auto)]
 
+mod equal;
 mod error;
 mod machine;
 mod parser;

@@ -9,10 +9,11 @@ ghost use Rattle.pl_grammar.specs.Faults.{Kind, counted};
 ghost use Rattle.pl_tokens.specs.Code.{token_of};
 ghost use Rattle.pl_syntax.specs.Spells.{Parsed, Spells, FirstFault, OneScriptSpelled};
 ghost use Rattle.pl_syntax.specs.Said.{TextsSay};
-ghost use Rattle.pl_syntax.specs.Scripts.{parsed};
+ghost use Rattle.pl_syntax.specs.Scripts.{parsed, printed_text};
 ghost use Rattle.pl_syntax.specs.Stages.{stage_of};
-ghost use Rattle.pl_syntax.specs.Parsing.{token_step, Steps, Ends, Outcome, IsCause, AnswersFault, AnswersScript};
+ghost use Rattle.pl_syntax.specs.Parsing.{token_step, Steps, Ends, Outcome, IsCause, AnswersFault, AnswersScript, AnswersSame};
 ghost use Rattle.pl_grammar.specs.declared.Place as p;
+ghost use Rattle.pl_syntax.specs.declared.script.Script as s;
 
 use crate::error::SyntaxError;
 use crate::machine::MoveError;
@@ -99,6 +100,9 @@ pub fn parse(alloc: Global, bytes: &[u8]) -> Result<Script, SyntaxError>
     // What is read is spelled so, and what is spelled so is read.
     ensures found { IfOk result (λ script. Spells bytes.now (parsed script)) }
     ensures only { (x : Parsed) → length bytes.now ≤ MOST_BYTES → Spells bytes.now x → AnswersScript result x }
+
+    // The canonical text of a script is read as that script, places aside.
+    ensures printed { (script : s.Script) → length bytes.now ≤ MOST_BYTES → bytes.now ≡ printed_text script → AnswersSame result (parsed script) }
 
     // Each fault comes where it is the first, and what is the first is answered.
     ensures too_long { (result ≡ Err SyntaxError.TooLong) ↔ (MOST_BYTES < length bytes.now) }

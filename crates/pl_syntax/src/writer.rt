@@ -6,10 +6,10 @@ ghost use Rattle.pl_spec.specs.Dates.{digits};
 ghost use Rattle.pl_spec.specs.Decimals.{point_text};
 ghost use Rattle.pl_grammar.specs.Printed.{tree_level};
 ghost use Rattle.pl_tokens.specs.Numerals.{is_zero, trimmed, number_text};
-ghost use Rattle.pl_syntax.specs.Canonical.{comma_text, prefix_text, binary_text, open_text, close_text, name_text, tree_text, args_text, head_text, statement_text, script_text};
+ghost use Rattle.pl_syntax.specs.Canonical.{comma_text, prefix_text, binary_text, open_text, close_text, name_text, tree_text, args_text, head_text, statement_text};
 ghost use Rattle.pl_syntax.specs.Plain.{plain, args_tree};
-ghost use Rattle.pl_syntax.specs.Statements.{statement_of, statements_of};
-ghost use Rattle.pl_syntax.specs.Scripts.{statements_in, parsed};
+ghost use Rattle.pl_syntax.specs.Statements.{statement_of};
+ghost use Rattle.pl_syntax.specs.Scripts.{parsed, printed_text};
 ghost use Rattle.pl_syntax.specs.Spells.{SpellsAgain};
 ghost use Rattle.pl_syntax.specs.Laws.{ScriptsAreSpelled};
 
@@ -266,7 +266,7 @@ fn put_statement(statement: &Statement, out: &mut Vec<u8>) -> Result<(), AllocEr
 
 /// The canonical text, in memory of its own.
 fn text_of(alloc: Global, script: &Script) -> Result<Vec<u8>, AllocError>
-    ensures { IfOk result (λ v. v.items ≡ script_text (statements_of (statements_in script.now))) }
+    ensures { IfOk result (λ v. v.items ≡ printed_text script.now) }
 {
     let mut out = Vec::new(alloc);
     put(&mut out, b"pipeline 1;\n")?;
@@ -279,7 +279,7 @@ fn text_of(alloc: Global, script: &Script) -> Result<Vec<u8>, AllocError>
 /// The canonical text of a script, one statement a line: parentheses stand exactly where the levels ask for them. `parse`
 /// reads it as the same script, places aside, where it has at most 262,144 bytes.
 pub fn print(alloc: Global, script: &Script) -> Result<Vec<u8>, Memory>
-    ensures text { IfOk result (λ v. v.items ≡ script_text (statements_of (statements_in script.now))) }
+    ensures text { IfOk result (λ v. v.items ≡ printed_text script.now) }
     ensures again { IfOk result (λ v. SpellsAgain v.items (parsed script.now)) }
 {
     match text_of(alloc, script) {
