@@ -1,3 +1,5 @@
 pub mod AssetsRead
 pub mod AssetsSaid
 pub mod TextLists
+pub mod FirstSeen
+pub mod LabelRowsMade

@@ -1,5 +1,6 @@
 -- Rows of labels as they are kept: numbers for their names, codes for their texts, and an order in which they are found.
-use Rattle.std.specs.Prelude.{◌≡◌, ℕ, zero, suc, ◌+◌, ◌*◌, ◌^◌, ◌==◌, ◌<◌, nat_eq, ℤ, pos, ◌+ℤ◌, List, [], ◌∷◌, ◌++◌, length, map, take, slice_get, slice_index_or, All, AllPairs, Contains, Option, Some, None, IfSome, option_map, unwrap_or, FitsSigned, w32}
+use Rattle.std.specs.Prelude.{◌≡◌, ℕ, zero, suc, ◌+◌, ◌*◌, ◌^◌, ◌==◌, ◌<◌, nat_eq, ℤ, pos, ◌+ℤ◌, List, [], ◌∷◌, ◌++◌, length, map, take, slice_get, slice_index_or, All, AllPairs, Contains, Option, Some, None, IfSome, option_map, unwrap_or, FitsSigned}
+use Rattle.std.specs.Int.{w32}
 use Rattle.std.specs.Int.RustNames.{unsigned_abs}
 use Rattle.std.specs.List.{list_any}
 use Rattle.std.specs.HashSet.{HashSet, contains}
@@ -79,4 +80,4 @@ pub record IsOrder (places : List Place) (order : List ℕ) : Type 0 where
 pub record IsTable (t : LabelRows) (order : List ℕ) : Type 0 where
   pub numbered : AreNumbered t
   pub labels : AreLabels (table_in t)
-  pub order : IsOrder t.places.items order
+  pub found : IsOrder t.places.items order
