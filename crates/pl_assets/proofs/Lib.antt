@@ -3,3 +3,4 @@ pub mod AssetsSaid
 pub mod TextLists
 pub mod FirstSeen
 pub mod LabelRowsMade
+pub mod LabelOrder

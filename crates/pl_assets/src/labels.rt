@@ -57,11 +57,7 @@ impl Labels {
     /// the label; an empty one says that it has none.
     pub fn read(alloc: Global, bytes: &[u8], assets: &Assets) -> Result<Labels, LabelsError> {
         let rows = reading::read_rows(alloc, bytes, assets)?;
-        let mut order = Vec::with_capacity(alloc, rows.places.len())?;
-        for i in 0..rows.places.len() {
-            order.push(i as u32)?;
-        }
-        order::sort_by_key(&rows.places, &mut order);
+        let order = order::order_of(alloc, &rows.places)?;
         Ok(Labels { rows, order })
     }
 
@@ -100,7 +96,7 @@ impl Labels {
     /// The code of the label of a column under a name on a day, if it has one: that of the row that
     /// started last, unless its text is empty.
     pub fn label_at(&self, name: u32, col: usize, day: i32) -> Option<u32> {
-        match order::last_started(&self.rows.places, &self.order, name, col, day) {
+        match order::last_started(&self.rows, &self.order, name, col, day) {
             Some(place) => place.code,
             None => None,
         }
