@@ -59,6 +59,17 @@ between : (n c a b m k : ℕ) (d e f : ℕ) → c < 2 ^ 64 → k < 2 ^ 64 → d 
     → n * 2 ^ 96 + c * 2 ^ 32 + d ≤ m * 2 ^ 96 + k * 2 ^ 32 + e → m * 2 ^ 96 + k * 2 ^ 32 + e ≤ n * 2 ^ 96 + c * 2 ^ 32 + f → (m ≡ n) × (k ≡ c)
 between n c a b m k d e f small_c small_k small_d small_e small_f low high = (omega arith, omega arith)
 
+pub same_key : (n c : ℕ) (x : ℤ) (m k : ℕ) (y : ℤ) → c < 2 ^ 32 → k < 2 ^ 64 → FitsSigned w32 x → FitsSigned w32 y → key n c x ≡ key m k y → (n ≡ m) × (c ≡ k) × (x ≡ y)
+unfolding day_at
+same_key n c x m k y small_c small_k fits_x fits_y e =
+    let a : day_at x < 2 ^ 32 = day_small x fits_x in
+    let b : day_at y < 2 ^ 32 = day_small y fits_y in
+    let p : pos (day_at x) ≡ x +ℤ pos (2 ^ 31) = day_is x fits_x in
+    let q : pos (day_at y) ≡ y +ℤ pos (2 ^ 31) = day_is y fits_y in
+    let same = between m k (day_at y) (day_at y) n c (day_at y) (day_at x) (day_at y) small_k (omega arith) b a b (omega (arith, e)) (omega (arith, e)) in
+    let days : day_at x ≡ day_at y = omega (arith, e, same.0, same.1) in
+    (same.0, same.1, omega (arith, ints))
+
 key_there : (places : List Place) (i : ℕ) (d : Place) → i < length places → key_at places i ≡ key_of (get_or places i d)
 unfolding key_at
 key_there places i d h = ap (λ o. unwrap_or (option_map key_of o) 0) (slice_get-get_or places i d h)

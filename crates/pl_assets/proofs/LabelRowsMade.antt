@@ -5,7 +5,7 @@ use Rattle.std.proofs.lemmas.List.Elements.{All-append}
 use Rattle.std.specs.List.{position_or_len}
 use Rattle.std.specs.Str.{bytes_eq}
 use Rattle.pl_spec.specs.Parts.{ColumnLabel}
-use Rattle.pl_assets.specs.Labels.{is_text, names_of, texts_of}
+use Rattle.pl_assets.specs.Labels.{first_seen, is_text, names_of, texts_of}
 use Rattle.pl_assets.specs.LabelTexts.{with_text, with_label}
 use Rattle.pl_assets.specs.LabelPlaces.{AreNumbered, IsPlace, KeepsFront, shown_rows, row_at, text_in}
 use Rattle.pl_assets.specs.declared.labels.rows.Place.{Place}
@@ -142,4 +142,18 @@ front_kept (Err f) old new name text n t e =
       names = ap (take (length old.names)) n ∙ front-with_text old.names name;
       texts = ap (take (length old.texts)) t ∙ front-with_label old.texts text;
       places = e;
+    }
+
+-- ---- no rows
+
+pub no_rows : (t : LabelRows) → t.places.items ≡ [] → shown_rows t ≡ []
+no_rows t e = ap (map (row_at t.names t.texts)) e
+
+pub no_numbers : (t : LabelRows) → t.names ≡ [] → t.texts ≡ [] → t.places.items ≡ [] → AreNumbered t
+unfolding first_seen
+no_numbers t n x e =
+    record {
+      places = rw e (λ k d h. absurd (omega arith));
+      names = n ∙ sym (ap names_of (no_rows t e));
+      texts = x ∙ sym (ap texts_of (no_rows t e));
     }

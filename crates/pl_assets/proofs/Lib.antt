@@ -4,3 +4,4 @@ pub mod TextLists
 pub mod FirstSeen
 pub mod LabelRowsMade
 pub mod LabelOrder
+pub mod LabelKeys

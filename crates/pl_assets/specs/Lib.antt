@@ -6,3 +6,4 @@ pub mod Labels
 pub mod LabelFaults
 pub mod LabelTexts
 pub mod LabelPlaces
+pub mod LabelStarts
