@@ -14,7 +14,7 @@ use Rattle.std.specs.Str.{bytes_eq}
 use Rattle.pl_spec.proofs.Places.{is_at, nowhere, past_all}
 use Rattle.pl_spec.specs.Parts.{ColumnLabel}
 use Rattle.pl_assets.specs.Labels.{first_seen, is_text, names_of, texts_of}
-use Rattle.pl_assets.specs.LabelTexts.{with_text, with_label}
+use Rattle.pl_assets.specs.Labels.{with_text, with_label}
 use Rattle.pl_assets.proofs.TextLists.{not_new, is_new, place_there}
 
 pub same_text : (x y : List ℕ) → bytes_eq x y ≡ true → x ≡ y

@@ -15,7 +15,7 @@ use Rattle.std.proofs.lemmas.Option.{slice_get-get_or}
 use Rattle.pl_spec.specs.Sorted.{HasOwnKeys, sorted_by}
 use Rattle.pl_spec.proofs.Sorts.{OwnKeys-none, OwnKeys-more, sorted-rises, sorted-permutes}
 use Rattle.pl_spec.proofs.Places.{rising_at}
-use Rattle.pl_assets.specs.LabelPlaces.{HasStarted, IsLastStarted, IsOrder, IsPlace, KeyPoint, OwnKeys, key, key_at, key_of, numbers}
+use Rattle.pl_assets.specs.LabelPlaces.{Ascend, HasStarted, IsLastStarted, IsOrder, IsPlace, KeyPoint, OwnKeys, key, key_at, key_of, numbers}
 use Rattle.pl_assets.specs.declared.labels.rows.Place.{Place}
 
 -- ---- the number of a day
@@ -70,7 +70,7 @@ same_key n c x m k y small_c small_k fits_x fits_y e =
     let days : day_at x ≡ day_at y = omega (arith, e, same.0, same.1) in
     (same.0, same.1, omega (arith, ints))
 
-key_there : (places : List Place) (i : ℕ) (d : Place) → i < length places → key_at places i ≡ key_of (get_or places i d)
+pub key_there : (places : List Place) (i : ℕ) (d : Place) → i < length places → key_at places i ≡ key_of (get_or places i d)
 unfolding key_at
 key_there places i d h = ap (λ o. unwrap_or (option_map key_of o) 0) (slice_get-get_or places i d h)
 
@@ -118,7 +118,7 @@ own_below places own (suc n) h =
 pub own_numbers : (places : List Place) → OwnKeys places → HasOwnKeys (key_at places) (numbers (length places))
 own_numbers places own = own_below places own (length places) (omega arith)
 
-pub order_made : (places : List Place) (order : List ℕ) → OwnKeys places → order ≡ sorted_by (key_at places) (numbers (length places)) → IsOrder places order
+pub order_made : (places : List Place) (order : List ℕ) → OwnKeys places → order ≡ sorted_by (key_at places) (numbers (length places)) → IsOrder places (length places) order
 order_made places order own sorted =
     rw sorted record {
       ascend = sorted-rises (key_at places) (numbers (length places)) (own_numbers places own);
@@ -128,7 +128,7 @@ order_made places order own sorted =
 
 -- ---- places in the order
 
-pub parted : (places : List Place) (k : ℕ) (order : List ℕ) → AllPairs (λ i j. key_at places i < key_at places j) order → IsPartitionedBy (λ i. nat_le (key_at places i) k) order
+pub parted : (places : List Place) (k : ℕ) (order : List ℕ) → Ascend places order → IsPartitionedBy (λ i. nat_le (key_at places i) k) order
 parted places k order up i j d h l t =
     let le : key_at places (get_or order i d) ≤ key_at places (get_or order j d) = rising_at (key_at places) order up i j d h l in
     let low : key_at places (get_or order j d) ≤ k = grind (arith, nat_tests) in
@@ -136,7 +136,7 @@ parted places k order up i j d h l t =
 
 -- ---- the row that started last
 
-module _ (places : List Place) (order : List ℕ) (names texts : List (List ℕ)) (all : All (IsPlace names texts) places) (sorted : IsOrder places order) (name col : ℕ) (day : ℤ) (small : col < 2 ^ 64) (fits : FitsSigned w32 day) (n : ℕ) (point : KeyPoint places (key name col day) order n) where
+module _ (places : List Place) (order : List ℕ) (names texts : List (List ℕ)) (all : All (IsPlace names texts) places) (sorted : IsOrder places (length places) order) (name col : ℕ) (day : ℤ) (small : col < 2 ^ 64) (fits : FitsSigned w32 day) (n : ℕ) (point : KeyPoint places (key name col day) order n) where
   is_place : (q : Place) → Contains places q → IsPlace names texts q
   is_place q h = rw h.2 at (all h.0 q h.1)
 

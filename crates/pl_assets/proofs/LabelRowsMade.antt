@@ -6,7 +6,7 @@ use Rattle.std.specs.List.{position_or_len}
 use Rattle.std.specs.Str.{bytes_eq}
 use Rattle.pl_spec.specs.Parts.{ColumnLabel}
 use Rattle.pl_assets.specs.Labels.{first_seen, is_text, names_of, texts_of}
-use Rattle.pl_assets.specs.LabelTexts.{with_text, with_label}
+use Rattle.pl_assets.specs.Labels.{with_text, with_label}
 use Rattle.pl_assets.specs.LabelPlaces.{AreNumbered, IsPlace, KeepsFront, shown_rows, row_at, text_in}
 use Rattle.pl_assets.specs.declared.labels.rows.Place.{Place}
 use Rattle.pl_assets.specs.declared.labels.rows.LabelRows.{LabelRows}

@@ -5,3 +5,6 @@ pub mod FirstSeen
 pub mod LabelRowsMade
 pub mod LabelOrder
 pub mod LabelKeys
+pub mod LabelFields
+pub mod LabelsRead
+pub mod LabelTables

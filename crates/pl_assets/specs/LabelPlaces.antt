@@ -76,11 +76,15 @@ unfoldable pub numbers : ℕ → List ℕ
 numbers zero = []
 numbers (suc n) = numbers n ++ n ∷ []
 
--- the numbers of all rows, by ascending keys
-pub record IsOrder (places : List Place) (order : List ℕ) : Type 0 where
-  pub ascend : AllPairs (λ i j. key_at places i < key_at places j) order
-  pub within : All (λ i. i < length places) order
-  pub all : (i : ℕ) → i < length places → Contains order i
+-- the rows of the numbers stand by ascending keys
+abbrev pub Ascend : List Place → List ℕ → Type 0
+Ascend places order = AllPairs (λ i j. key_at places i < key_at places j) order
+
+-- the numbers of the first n rows, by ascending keys
+pub record IsOrder (places : List Place) (n : ℕ) (order : List ℕ) : Type 0 where
+  pub ascend : Ascend places order
+  pub within : All (λ i. i < n) order
+  pub all : (i : ℕ) → i < n → Contains order i
 
 -- below n the rows in the order have no greater key, from n on all have
 abbrev pub KeyPoint : List Place → ℕ → List ℕ → ℕ → Type 0
@@ -101,4 +105,4 @@ IsLastStarted places name col day (Some p) =
 pub record IsTable (t : LabelRows) (order : List ℕ) : Type 0 where
   pub numbered : AreNumbered t
   pub labels : AreLabels (table_in t)
-  pub found : IsOrder t.places.items order
+  pub found : IsOrder t.places.items (length t.places.items) order

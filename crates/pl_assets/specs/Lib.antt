@@ -4,6 +4,6 @@ pub mod Faults
 pub mod Seen
 pub mod Labels
 pub mod LabelFaults
-pub mod LabelTexts
 pub mod LabelPlaces
 pub mod LabelStarts
+pub mod LabelRules

@@ -1,6 +1,6 @@
-ghost use Rattle.std.specs.Prelude.{◌≡◌, ◌+◌, ◌^◌, ◌≤◌, length, pos, ◌+ℤ◌, IfOk};
+ghost use Rattle.std.specs.Prelude.{◌≡◌, ◌+◌, ◌^◌, ◌-◌, ◌<◌, ◌≤◌, length, pos, ◌+ℤ◌, vec_len, vec_capacity, IfOk};
 ghost use Rattle.pl_spec.specs.Sorted.{HasOwnKeys, sorted_by};
-ghost use Rattle.pl_assets.specs.LabelPlaces.{AreNumbered, IsLastStarted, IsOrder, KeyPoint, OwnKeys, key, key_at, key_of, numbers};
+ghost use Rattle.pl_assets.specs.LabelPlaces.{AreNumbered, Ascend, IsLastStarted, IsOrder, KeyPoint, OwnKeys, key, key_at, key_of, numbers};
 
 use crate::labels::rows::{LabelRows, Place};
 use std::alloc::{AllocError, Global};
@@ -40,7 +40,7 @@ fn key_at(places: &[Place], i: u32) -> u128
 pub(crate) fn order_of(alloc: Global, places: &[Place]) -> Result<Vec<u32>, AllocError>
     requires few { length places.now ≤ 200_000 }
     requires own { OwnKeys places.now }
-    ensures { IfOk result (λ v. IsOrder places.now v.items) }
+    ensures { IfOk result (λ v. IsOrder places.now (length places.now) v.items) }
 {
     sorted_numbers(alloc, places)
 }
@@ -75,9 +75,26 @@ fn sort_by_key(places: &[Place], order: &mut [u32])
     order.sort_unstable_by_key(|i| key_at(places, *i));
 }
 
-/// How many of the rows in the order have no greater key.
-pub(crate) fn point_of(places: &[Place], order: &[u32], key: u128) -> usize
-    requires { IsOrder places.now order.now }
+/// Puts the number of the last row, whose key no other has, into the order of the others.
+pub(crate) fn insert_last(places: &[Place], order: &mut Vec<u32>)
+    requires some { 0 < length places.now }
+    requires few { length places.now ≤ 200_000 }
+    requires room { vec_len order.old < vec_capacity order.old }
+    requires own { OwnKeys places.now }
+    requires others { IsOrder places.now (length places.now - 1) order.old.items }
+    ensures { IsOrder places.now (length places.now) order.new.items }
+{
+    let last = places.len() - 1;
+    let at = point_of(places, order, key_of(&places[last]));
+    match order.insert(at, last as u32) {
+        Ok(()) => {}
+        Err(_) => unreachable!(),
+    }
+}
+
+// How many of the rows in the order have no greater key.
+fn point_of(places: &[Place], order: &[u32], key: u128) -> usize
+    requires { Ascend places.now order.now }
     ensures within { result ≤ length order.now }
     ensures point { KeyPoint places.now key order.now result }
 {
@@ -93,7 +110,7 @@ pub(crate) fn last_started(
     day: i32,
 ) -> Option<Place>
     requires numbered { AreNumbered rows.now }
-    requires order { IsOrder rows.now.places.items order.now }
+    requires order { IsOrder rows.now.places.items (length rows.now.places.items) order.now }
     ensures { IsLastStarted rows.now.places.items name col day result }
 {
     let end = point_of(&rows.places, order, key(name, col, day));

@@ -1,5 +1,5 @@
 ghost use Rattle.std.specs.Prelude.{◌≡◌, ◌<◌, ◌≤◌, [], ◌∷◌, ◌++◌, length, IfOk, IfSome, OnOk, OnErr};
-ghost use Rattle.pl_assets.specs.LabelTexts.{with_label};
+ghost use Rattle.pl_assets.specs.Labels.{with_label};
 ghost use Rattle.pl_assets.specs.LabelPlaces.{AreNumbered, IsBehind, KeepsFront, shown_rows, text_in};
 
 use crate::labels::texts::{LabelTexts, Texts};
