@@ -8,3 +8,4 @@ pub mod LabelKeys
 pub mod LabelFields
 pub mod LabelsRead
 pub mod LabelTables
+pub mod LabelSearch
