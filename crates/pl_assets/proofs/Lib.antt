@@ -9,3 +9,5 @@ pub mod LabelFields
 pub mod LabelsRead
 pub mod LabelTables
 pub mod LabelSearch
+pub mod LabelWorlds
+pub mod LabelsSaid

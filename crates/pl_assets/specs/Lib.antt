@@ -7,3 +7,4 @@ pub mod LabelFaults
 pub mod LabelPlaces
 pub mod LabelStarts
 pub mod LabelRules
+pub mod LabelWorlds
