@@ -11,6 +11,8 @@ mod error;
 mod order;
 mod reading;
 mod rows;
+#[cfg(test)]
+mod tests;
 mod texts;
 
 use crate::Assets;
@@ -96,7 +98,8 @@ impl Labels {
 
     /// The number of a name, if a row has it.
     pub fn name_of(&self, name: &[u8]) -> Option<u32>
-        ensures { result ≡ position (bytes_eq name.now) (names_of self.now.rows) }
+        ensures within { IfSome result (λ number. number < length (names_of self.now.rows)) }
+        ensures exact { result ≡ position (bytes_eq name.now) (names_of self.now.rows) }
     {
         match self.rows.names.number_of(name) {
             Some(number) => Some(number as u32),
