@@ -1,17 +1,18 @@
 -- Tables of labels: their order, with one row more, and of a file.
-use Rattle.std.proofs.Common.{◌≡◌, ◌≢◌, ℕ, zero, suc, ◌+◌, ◌-◌, ◌<◌, ◌≤◌, ◌^◌, nat_le, Bool, true, false, ℤ, List, [], ◌∷◌, ◌++◌, length, length-append, map, get_or, All, AllPairs, Option, Some, None, refl, sym, ap, ◌∙◌, arith, inl, inr, pos}
+use Rattle.std.proofs.Common.{◌≡◌, ◌≢◌, ℕ, zero, suc, ◌+◌, ◌-◌, ◌<◌, ◌≤◌, ◌^◌, nat_le, IsTrue, Bool, true, false, ℤ, List, [], ◌∷◌, ◌++◌, length, length-append, map, get_or, All, AllPairs, Option, Some, None, refl, sym, ap, ◌∙◌, arith, inl, inr, pos}
 use Rattle.std.specs.Prelude.{Contains}
 use Rattle.std.specs.List.{insert, list_any}
 use Rattle.std.proofs.lemmas.Bool.{cases_lt, true≢false}
 use Rattle.std.proofs.lemmas.Bool.Decides.{nat_tests}
 use Rattle.std.proofs.lemmas.List.{length-map, get_or-map, get_or_append_left, get_or_default}
+use Rattle.std.proofs.lemmas.List.Elements.{All-filter, All-map}
 use Rattle.std.proofs.lemmas.List.Edits.{length-insert, get_or-insert_at, get_or-insert_below, get_or-insert_above}
 use Rattle.pl_spec.specs.Parts.{ColumnLabel}
-use Rattle.pl_assets.specs.Labels.{AreLabels, IsLabelRow, MayFollow, is_from, texts_of, with_label}
+use Rattle.pl_assets.specs.Labels.{AreLabels, IsLabelRow, LabelTable, MayFollow, is_from, is_printable, is_text, texts_of, with_label}
 use Rattle.pl_assets.specs.LabelPlaces.{AreNumbered, Ascend, IsOrder, IsTable, KeyPoint, OwnKeys, key_at, key_of, row_at, shown_rows, table_in}
 use Rattle.pl_assets.specs.declared.labels.rows.Place.{Place}
 use Rattle.pl_assets.specs.declared.labels.rows.LabelRows.{LabelRows}
-use Rattle.pl_assets.proofs.FirstSeen.{texts_more}
+use Rattle.pl_assets.proofs.FirstSeen.{texts_more, seen-all}
 use Rattle.pl_assets.proofs.LabelKeys.{parts_from}
 use Rattle.pl_assets.proofs.LabelOrder.{key_there, same_key}
 use Rattle.pl_assets.proofs.LabelRowsMade.{no_numbers, no_rows}
@@ -173,3 +174,13 @@ order_before places new p order kept e o sorted =
 
 pub texts_behind : (old new : LabelRows) (r : ColumnLabel) → AreNumbered old → AreNumbered new → shown_rows new ≡ shown_rows old ++ r ∷ [] → new.texts ≡ with_label old.texts r.text
 texts_behind old new r h g e = g.texts ∙ ap texts_of e ∙ texts_more (shown_rows old) r ∙ ap (λ l. with_label l r.text) (sym h.texts)
+
+-- ---- the texts of labels
+
+pub right_texts : (t : LabelTable) → AreLabels t → All (λ x. IsTrue (is_printable x) × (length x ≤ 64)) t.texts
+right_texts t h =
+    rw h.texts (seen-all IsText _ (All-filter is_text IsText (map (λ (r : ColumnLabel). r.text) t.rows) (All-map IsText (λ (r : ColumnLabel). r.text) t.rows
+    (λ k d l. let row = h.rows k d l in (row.printable, row.short)))))
+  where
+    IsText : List ℕ → Type 0
+    IsText x = IsTrue (is_printable x) × (length x ≤ 64)

@@ -71,11 +71,24 @@ fn adds_labels(rt: HostRuntime) -> Result<(), Fail> {
     let assets = Assets::from_rows(vec![in rt.alloc(); asset]?);
     let mut labels = Labels::none(rt.alloc());
     assert_eq!(rt; labels.name_of(b"sector"), None);
+    assert!(rt; labels.add(&assets, b"sector", 7, 19727, b"").is_ok());
     assert!(rt; labels.add(&assets, b"sector", 7, 19725, b"b").is_ok());
-    assert_eq!(rt; labels.name_of(b"sector"), Some(0));
-    if let Some(number) = labels.name_of(b"sector") {
-        assert_eq!(rt; labels.label_at(number, 0, 19725), Some(0));
-        assert_eq!(rt; labels.label_at(number, 0, 19724), None);
+    assert!(rt; labels.add(&assets, b"country", 7, 19725, b"a").is_ok());
+    assert!(rt; labels.add(&assets, b"country", 7, 19727, b"b").is_ok());
+    let table: &[(&[u8], i32, Option<u32>)] = &[
+        (b"sector", 19724, None),
+        (b"sector", 19726, Some(0)),
+        (b"sector", 19727, None),
+        (b"country", 19724, None),
+        (b"country", 19726, Some(1)),
+        (b"country", 19727, Some(0)),
+    ];
+    for (name, day, code) in table.iter() {
+        let number = labels.name_of(name);
+        assert!(rt; number.is_some());
+        if let Some(number) = number {
+            assert_eq!(rt; labels.label_at(number, 0, *day), *code);
+        }
     }
     Ok(())
 }
