@@ -1,5 +1,5 @@
 -- The keys of rows of labels tell their names, columns and days.
-use Rattle.std.proofs.Common.{◌≡◌, ◌≢◌, ℕ, zero, suc, ◌+◌, ◌*◌, ◌<◌, ◌≤◌, ◌^◌, ◌==◌, ◌&&◌, ◌||◌, nat_eq, not, cond, Bool, true, false, ℤ, pos, ◌+ℤ◌, List, [], ◌∷◌, ◌++◌, length, map, get_or, All, AllPairs, Option, Some, None, FitsSigned, w32, refl, sym, ap, ◌∙◌, arith, inl, inr}
+use Rattle.std.proofs.Common.{◌≡◌, ℕ, suc, ◌<◌, ◌^◌, ◌==◌, ◌&&◌, ◌||◌, nat_eq, cond, Bool, true, false, ℤ, List, [], ◌∷◌, ◌++◌, length, map, get_or, All, Some, None, FitsSigned, w32, refl, sym, ap, ◌∙◌, arith}
 use Rattle.std.specs.List.{list_any, position}
 use Rattle.std.specs.HashSet.{HashSet, contains}
 use Rattle.std.specs.Str.{bytes_eq}
@@ -11,7 +11,7 @@ use Rattle.std.proofs.lemmas.List.Folds.{list_any_none}
 use Rattle.std.proofs.lemmas.List.Quantifiers.{position-Some}
 use Rattle.pl_spec.specs.Parts.{ColumnLabel}
 use Rattle.pl_spec.proofs.Places.{nowhere}
-use Rattle.pl_assets.specs.Labels.{is_from, names_of}
+use Rattle.pl_assets.specs.Labels.{is_from}
 use Rattle.pl_assets.specs.LabelPlaces.{AreKeys, AreNumbered, IsPlace, key, key_of, row_at, shown_rows}
 use Rattle.pl_assets.specs.declared.labels.rows.Place.{Place}
 use Rattle.pl_assets.specs.declared.labels.rows.LabelRows.{LabelRows}

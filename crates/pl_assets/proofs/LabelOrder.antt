@@ -1,14 +1,12 @@
 -- The order of rows of labels by their keys.
-use Rattle.std.proofs.Common.{◌≡◌, ◌≢◌, ℕ, zero, suc, ◌+◌, ◌*◌, ◌-◌, ◌<◌, ◌≤◌, ◌^◌, ◌==◌, nat_le, Bool, true, false, ℤ, pos, negsuc, ◌+ℤ◌, ◌≤ℤ◌, List, [], ◌∷◌, ◌++◌, length, get_or, All, Option, Some, None, FitsSigned, w32, refl, sym, ap, ◌∙◌, arith, inl, inr, length-append, unsigned_abs, option_map, unwrap_or, slice_get}
+use Rattle.std.proofs.Common.{◌≡◌, ◌≢◌, ℕ, zero, suc, ◌+◌, ◌*◌, ◌-◌, ◌<◌, ◌≤◌, ◌^◌, ◌==◌, nat_le, true, false, ℤ, pos, negsuc, ◌+ℤ◌, ◌≤ℤ◌, List, [], ◌∷◌, ◌++◌, length, get_or, All, Some, None, FitsSigned, w32, refl, sym, ap, ◌∙◌, arith, inl, inr, length-append, unsigned_abs, option_map, unwrap_or}
 use Rattle.std.specs.Prelude.{Contains}
-use Rattle.std.specs.List.{list_any, AllPairs}
-use Rattle.std.specs.List.Sorted.{IsPartitionedBy, IsPartitionPoint}
+use Rattle.std.specs.List.Sorted.{IsPartitionedBy}
 use Rattle.std.proofs.Math.Seq.{get_or-append_seam}
 use Rattle.std.proofs.lemmas.Int.{ints}
 use Rattle.std.proofs.lemmas.Bool.{cases_lt}
 use Rattle.std.proofs.lemmas.Bool.Decides.{nat_tests}
 use Rattle.std.proofs.lemmas.List.{get_or_append_left, get_or_default}
-use Rattle.std.proofs.lemmas.List.Elements.{All-append}
 use Rattle.std.proofs.lemmas.List.Folds.{list_any_none}
 use Rattle.std.proofs.lemmas.List.Sorted.{All-permutation, Contains-permutation}
 use Rattle.std.proofs.lemmas.Option.{slice_get-get_or}
@@ -195,7 +193,7 @@ module _ (places : List Place) (order : List ℕ) (names texts : List (List ℕ)
         let b : q.col ≡ col = s.same_col in
         let first : key_of q ≤ key_of p = not_later q h s in
         let same = between name col (day_at q.start) (day_at p.start) p.name p.col (day_at q.start) (day_at p.start) (day_at day) small (let c : p.col < 2 ^ 32 = of_p.col in omega arith)
-            (day_small q.start of_q.day) (day_small p.start of_p.day) (day_small day fits) (rw (a, b) at first) low in
+        (day_small q.start of_q.day) (day_small p.start of_p.day) (day_small day fits) (rw (a, b) at first) low in
         other same.0 same.1
 
     has_started : p.name ≡ name → p.col ≡ col → HasStarted name col day p

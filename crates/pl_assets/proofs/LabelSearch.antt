@@ -1,5 +1,5 @@
 -- The label of a column on a day, found by numbers.
-use Rattle.std.proofs.Common.{◌≡◌, ℕ, zero, suc, ◌<◌, ◌==◌, ◌&&◌, Bool, true, false, ℤ, pos, ◌≤ℤ◌, List, [], ◌∷◌, length, map, get_or, All, AllPairs, Option, Some, None, IfSome, option_and_then, refl, sym, ap, ◌∙◌, arith, inl, inr}
+use Rattle.std.proofs.Common.{◌≡◌, ℕ, zero, suc, ◌<◌, ◌==◌, true, false, ℤ, pos, ◌≤ℤ◌, List, [], ◌∷◌, length, map, get_or, All, AllPairs, Option, Some, None, IfSome, option_and_then, refl, sym, ap, ◌∙◌, arith, inl, inr}
 use Rattle.std.specs.Prelude.{Contains}
 use Rattle.std.specs.List.{position}
 use Rattle.std.specs.Str.{bytes_eq}
@@ -12,7 +12,7 @@ use Rattle.pl_spec.specs.Parts.{ColumnLabel}
 use Rattle.pl_spec.specs.World.{World, LabelRow, is_label_of, label_at, nonempty}
 use Rattle.pl_spec.specs.Lookups.{LabelsOnce}
 use Rattle.pl_spec.proofs.Finds.{labels_are_found}
-use Rattle.pl_assets.specs.Labels.{by_column, is_from, is_text, label_on, names_of, texts_of}
+use Rattle.pl_assets.specs.Labels.{by_column, is_from, is_text, label_on, names_of}
 use Rattle.pl_assets.specs.LabelPlaces.{AreNumbered, HasStarted, IsLastStarted, IsPlace, row_at, shown_rows, text_in}
 use Rattle.pl_assets.specs.declared.labels.rows.Place.{Place}
 use Rattle.pl_assets.specs.declared.labels.rows.LabelRows.{LabelRows}
@@ -61,9 +61,9 @@ once_labels rows day once r q h g e f s =
         let p : ColumnLabel = get_or rows i blank_row in
         let q : ColumnLabel = get_or rows j blank_row in
         let same : is_from p.name p.col p.start q ≡ true =
-            parts_from p.name p.col p.start q (sym (ap (λ (x : LabelRow). x.name) a ∙ e ∙ ap (λ (x : LabelRow). x.name) (sym b)))
-            (sym (ap (λ (x : LabelRow). x.sid) a ∙ f ∙ ap (λ (x : LabelRow). x.sid) (sym b)))
-            (sym (ap (λ (x : LabelRow). x.start) a ∙ s ∙ ap (λ (x : LabelRow). x.start) (sym b))) in
+        parts_from p.name p.col p.start q (sym (ap (λ (x : LabelRow). x.name) a ∙ e ∙ ap (λ (x : LabelRow). x.name) (sym b)))
+        (sym (ap (λ (x : LabelRow). x.sid) a ∙ f ∙ ap (λ (x : LabelRow). x.sid) (sym b)))
+        (sym (ap (λ (x : LabelRow). x.start) a ∙ s ∙ ap (λ (x : LabelRow). x.start) (sym b))) in
         true≢false (sym same ∙ once i j blank_row lt l)
 
 on_day : (rows : List ColumnLabel) (name : List ℕ) (col : ℕ) (day : ℤ) → label_at (world rows day) name col (pos 0) ≡ label_on rows name col day
@@ -135,8 +135,8 @@ module _ (t : LabelRows) (numbered : AreNumbered t) (number col : ℕ) (day : �
       sym (on_day rows name col day)
       ∙ labels_are_found.found (world rows day) (once_labels rows day once) name col (pos 0) day refl (row p) (there p h.0) (is_row p h.1)
       (λ q in_rows e. let it = from_place q in_rows in
-        let started : HasStarted number col day it.0 = row_is it.0 it.1 (ap (is_label_of name col day) it.2 ∙ e) in
-        let le : it.0.start ≤ℤ p.start = h.2 it.0 it.1 started in rw (ap (λ (x : LabelRow). x.start) it.2) at le)
+      let started : HasStarted number col day it.0 = row_is it.0 it.1 (ap (is_label_of name col day) it.2 ∙ e) in
+      let le : it.0.start ≤ℤ p.start = h.2 it.0 it.1 started in rw (ap (λ (x : LabelRow). x.start) it.2) at le)
 
   label_none : IsLastStarted t.places.items number col day None → label_on rows name col day ≡ None
   label_none h =

@@ -1,7 +1,7 @@
 -- Tables of labels: their order, with one row more, and of a file.
-use Rattle.std.proofs.Common.{◌≡◌, ◌≢◌, ℕ, zero, suc, ◌+◌, ◌-◌, ◌<◌, ◌≤◌, ◌^◌, nat_le, IsTrue, Bool, true, false, ℤ, List, [], ◌∷◌, ◌++◌, length, length-append, map, get_or, All, AllPairs, Option, Some, None, refl, sym, ap, ◌∙◌, arith, inl, inr, pos}
+use Rattle.std.proofs.Common.{◌≡◌, ◌≢◌, ℕ, ◌+◌, ◌-◌, ◌<◌, ◌≤◌, ◌^◌, nat_le, IsTrue, true, false, List, [], ◌∷◌, ◌++◌, length, length-append, map, get_or, All, AllPairs, None, sym, ap, ◌∙◌, arith, inl, inr, pos}
 use Rattle.std.specs.Prelude.{Contains}
-use Rattle.std.specs.List.{insert, list_any}
+use Rattle.std.specs.List.{insert}
 use Rattle.std.proofs.lemmas.Bool.{cases_lt, true≢false}
 use Rattle.std.proofs.lemmas.Bool.Decides.{nat_tests}
 use Rattle.std.proofs.lemmas.List.{length-map, get_or-map, get_or_append_left, get_or_default}
@@ -9,14 +9,14 @@ use Rattle.std.proofs.lemmas.List.Elements.{All-filter, All-map}
 use Rattle.std.proofs.lemmas.List.Edits.{length-insert, get_or-insert_at, get_or-insert_below, get_or-insert_above}
 use Rattle.pl_spec.specs.Parts.{ColumnLabel}
 use Rattle.pl_assets.specs.Labels.{AreLabels, IsLabelRow, LabelTable, MayFollow, is_from, is_printable, is_text, texts_of, with_label}
-use Rattle.pl_assets.specs.LabelPlaces.{AreNumbered, Ascend, IsOrder, IsTable, KeyPoint, OwnKeys, key_at, key_of, row_at, shown_rows, table_in}
+use Rattle.pl_assets.specs.LabelPlaces.{AreNumbered, IsOrder, IsTable, KeyPoint, OwnKeys, key_at, key_of, row_at, shown_rows, table_in}
 use Rattle.pl_assets.specs.declared.labels.rows.Place.{Place}
 use Rattle.pl_assets.specs.declared.labels.rows.LabelRows.{LabelRows}
 use Rattle.pl_assets.proofs.FirstSeen.{texts_more, seen-all}
 use Rattle.pl_assets.proofs.LabelKeys.{parts_from}
 use Rattle.pl_assets.proofs.LabelOrder.{key_there, same_key}
 use Rattle.pl_assets.proofs.LabelRowsMade.{no_numbers, no_rows}
-use Rattle.pl_assets.proofs.LabelsRead.{AreRead, once-more, right-more}
+use Rattle.pl_assets.proofs.LabelsRead.{once-more, right-more}
 
 blank : Place
 blank = record { name = 0; col = 0; start = pos 0; code = None }

@@ -99,7 +99,7 @@ unfolding label_on
 on_day assets rows up inside name col day h =
     label-mapped (label_of assets) (λ r. refl) (λ r. refl) (is_label_of name (sid_at assets col) day) rows
     ∙ ap (λ l. option_and_then (λ (r : ColumnLabel). nonempty r.text) (last_row l)) (filter-same _ _ rows (λ k d l.
-      ap (λ b. (bytes_eq (get_or rows k d).name name && b) && int_le (get_or rows k d).start day) (same_test assets up (get_or rows k d).col col (inside k d l) h)))
+    ap (λ b. (bytes_eq (get_or rows k d).name name && b) && int_le (get_or rows k d).start day) (same_test assets up (get_or rows k d).col col (inside k d l) h)))
     ∙ sym (label-mapped by_column (λ r. refl) (λ r. refl) (is_label_of name col day) rows)
 
 pub labels_those : LabelsAreThose

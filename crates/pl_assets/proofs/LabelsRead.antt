@@ -1,5 +1,5 @@
 -- Labels that are read: what each test tells, and what is kept of all rows.
-use Rattle.std.proofs.Common.{◌≡◌, ℕ, zero, suc, ◌==◌, ◌<◌, ◌≤◌, ◌||◌, nat_le, nat_lt, IsTrue, Bool, true, false, List, [], ◌∷◌, ◌++◌, length, get_or, length-append, All, Option, Some, None, Result, Ok, Err, refl, sym, subst, ap, ◌∙◌, ℤ, pos, position, arith}
+use Rattle.std.proofs.Common.{◌≡◌, ℕ, zero, suc, ◌==◌, ◌<◌, ◌≤◌, nat_le, nat_lt, Bool, true, false, List, [], ◌∷◌, ◌++◌, length, get_or, length-append, All, Some, Result, Ok, Err, refl, sym, subst, ap, ◌∙◌, pos, position, arith}
 use Rattle.std.specs.List.{list_any, AllPairs}
 use Rattle.std.specs.Option.{ok_or}
 use Rattle.std.specs.Bool.{if◌then◌else◌}
@@ -7,7 +7,7 @@ use Rattle.std.proofs.lemmas.Bool.Decides.{nat_tests}
 use Rattle.std.proofs.lemmas.List.Quantifiers.{position-Some, all_pairs_push}
 use Rattle.std.proofs.lemmas.List.Elements.{All-append}
 use Rattle.std.proofs.lemmas.List.Folds.{list_any_at}
-use Rattle.pl_spec.specs.Reading.{Record, Fault, ◌>>=◌}
+use Rattle.pl_spec.specs.Reading.{Record, ◌>>=◌}
 use Rattle.pl_spec.specs.Parts.{ColumnLabel}
 use Rattle.pl_spec.specs.World.{LabelRow}
 use Rattle.pl_spec.specs.declared.AssetRow.{AssetRow}

@@ -1,13 +1,13 @@
 -- What a record says of its label, in plain words.
-use Rattle.std.proofs.Common.{◌≡◌, ◌≢◌, ℕ, zero, suc, ◌+◌, ◌<◌, ◌≤◌, ◌↔◌, ◌==◌, nat_le, nat_lt, Bool, true, false, if◌then◌else◌, ℤ, pos, List, length, get_or, Option, Some, None, option_map, position, All, Any, Result, Ok, Err, refl, sym, ◌∙◌, ap, arith, inl, inr}
-use Rattle.std.specs.List.{list_any, slice_get, AllPairs}
+use Rattle.std.proofs.Common.{◌≡◌, ℕ, zero, suc, ◌+◌, ◌<◌, ◌≤◌, ◌↔◌, ◌==◌, nat_le, nat_lt, Bool, true, false, if◌then◌else◌, ℤ, pos, List, length, get_or, Option, Some, None, option_map, position, All, Any, Result, Ok, Err, refl, sym, ◌∙◌, ap, arith, inl, inr}
+use Rattle.std.specs.List.{list_any, slice_get}
 use Rattle.std.specs.Option.{ok_or}
 use Rattle.std.proofs.lemmas.Bool.{cases_lt, true≢false}
 use Rattle.std.proofs.lemmas.Bool.Decides.{nat_tests}
 use Rattle.std.proofs.lemmas.List.Folds.{list_any_at, Any-from_list_any}
 use Rattle.std.proofs.lemmas.List.Quantifiers.{position-Some}
 use Rattle.std.proofs.lemmas.Option.{slice_get-get_or, slice_get_within}
-use Rattle.pl_spec.specs.Reading.{Record, Fault, ◌>>=◌, rows_under, AreRowsUnder, BreaksFirst, Judges}
+use Rattle.pl_spec.specs.Reading.{Record, Fault, ◌>>=◌, AreRowsUnder, BreaksFirst, Judges}
 use Rattle.pl_spec.specs.Parts.{ColumnLabel}
 use Rattle.pl_spec.specs.World.{LabelRow}
 use Rattle.pl_spec.specs.declared.AssetRow.{AssetRow}

@@ -17,6 +17,7 @@ use std::alloc::Global;
 use std::collections::HashSet;
 
 const MOST_LABELS: usize = 200_000;
+
 const LONGEST_LABEL: usize = 64;
 
 // The labels of a file in its order.

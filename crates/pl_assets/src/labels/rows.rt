@@ -66,13 +66,7 @@ impl LabelRows {
     }
 
     // The same, but where memory runs out, a name and a text may stay behind the others.
-    fn put(
-        &mut self,
-        name: &[u8],
-        col: u32,
-        start: i32,
-        text: &[u8],
-    ) -> Result<Place, AllocError>
+    fn put(&mut self, name: &[u8], col: u32, start: i32, text: &[u8]) -> Result<Place, AllocError>
         requires numbered { AreNumbered self.old }
         requires few { length self.old.places.items < 200_000 }
         ensures numbered { OnOk result (AreNumbered self.new) }

@@ -3,7 +3,8 @@ use std::test::*;
 
 const ASSETS: &[u8] = b"sid,start,end\n7,2024-01-03,2024-01-05\n1,2024-01-02,2024-01-09\n";
 
-const LABELS: &[u8] = b"name,sid,start,label\nsector,1,2024-01-05,\nsector,7,2023-12-29,\"Oil, Gas\"\nsector,1,2024-01-03,a\ncountry,1,2024-01-01,a\ncountry,7,2024-01-01,\" a \"\"b\"\"\"\n";
+const LABELS: &[u8] =
+    b"name,sid,start,label\nsector,1,2024-01-05,\nsector,7,2023-12-29,\"Oil, Gas\"\nsector,1,2024-01-03,a\ncountry,1,2024-01-01,a\ncountry,7,2024-01-01,\" a \"\"b\"\"\"\n";
 
 #[test]
 fn tells_the_label_of_a_day(rt: HostRuntime) -> Result<(), Fail> {

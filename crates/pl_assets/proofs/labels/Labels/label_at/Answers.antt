@@ -1,4 +1,4 @@
-use Rattle.std.proofs.Common.{◌≡◌, ◌<◌, length, w32, Some, None, refl}
+use Rattle.std.proofs.Common.{◌<◌, length, w32, Some, None, refl}
 use Rattle.std.proofs.lemmas.Int.{to_z-of_z}
 use Rattle.pl_assets.specs.Labels.{names_of}
 use Rattle.pl_assets.specs.LabelPlaces.{IsLastStarted, shown_rows}

@@ -1,4 +1,4 @@
-use Rattle.std.proofs.Common.{◌≡◌, ◌<◌, ◌≤◌, ◌^◌, ◌∙◌, length, arith, rules, sym}
+use Rattle.std.proofs.Common.{◌<◌, ◌^◌, ◌∙◌, length, arith, rules, sym}
 use Rattle.std.proofs.lemmas.List.{length-map}
 use Rattle.pl_assets.specs.LabelPlaces.{row_at}
 use Rattle.pl_assets.proofs.LabelKeys.{number_inside}

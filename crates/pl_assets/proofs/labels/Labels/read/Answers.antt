@@ -1,4 +1,4 @@
-use Rattle.std.proofs.Common.{◌≡◌, ◌≤◌, length, arith}
+use Rattle.std.proofs.Common.{arith}
 use Rattle.std.proofs.lemmas.List.{length-map}
 use Rattle.pl_records.specs.Records.{csv_records}
 use Rattle.pl_assets.specs.LabelPlaces.{row_at}

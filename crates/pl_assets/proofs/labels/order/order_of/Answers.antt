@@ -1,5 +1,4 @@
 use Rattle.std.proofs.lemmas.Result.{IfOk-weaker}
-use Rattle.pl_assets.specs.LabelPlaces.{numbers}
 use Rattle.pl_assets.proofs.LabelOrder.{order_made}
 use Rattle.pl_assets.proofs.labels.order.order_of.Goals as goal
 

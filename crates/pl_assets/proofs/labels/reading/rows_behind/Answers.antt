@@ -1,4 +1,4 @@
-use Rattle.std.proofs.Common.{◌≡◌, ◌<◌, ◌∙◌, ap, length, arith, rules, length-append, ◌∷◌, ◌++◌, [], FitsSigned, w32}
+use Rattle.std.proofs.Common.{◌≡◌, ◌<◌, length, arith, rules, length-append, ◌∷◌, ◌++◌, [], FitsSigned, w32}
 use Rattle.std.proofs.lemmas.Int.{to_z-of_z}
 use Rattle.std.proofs.lemmas.Result.{err_from_is_err_and}
 use Rattle.pl_spec.specs.Reading.{rows_of}

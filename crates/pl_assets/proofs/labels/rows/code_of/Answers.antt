@@ -1,4 +1,4 @@
-use Rattle.std.proofs.Common.{◌≡◌, ◌^◌, ◌<◌, ◌≤◌, length, arith, rules, Fits, w32}
+use Rattle.std.proofs.Common.{◌^◌, ◌<◌, arith, rules}
 use Rattle.pl_assets.proofs.FirstSeen.{place_count, text_placed}
 use Rattle.pl_assets.proofs.labels.rows.code_of.Goals as goal
 

@@ -1,11 +1,8 @@
-use Rattle.std.proofs.Common.{◌≡◌, ◌<◌, ◌^◌, ◌∙◌, ◌++◌, ◌∷◌, [], ap, arith, rules, w32}
+use Rattle.std.proofs.Common.{◌<◌, ◌^◌, ◌∙◌, ◌++◌, ◌∷◌, [], ap, arith, rules, w32}
 use Rattle.std.proofs.lemmas.Int.{to_z-of_z}
 use Rattle.pl_assets.specs.LabelPlaces.{shown_rows}
-use Rattle.std.specs.List.{position_or_len}
-use Rattle.std.specs.Str.{bytes_eq}
-use Rattle.pl_assets.specs.Labels.{with_text, with_label}
 use Rattle.pl_assets.proofs.FirstSeen.{place_count}
-use Rattle.pl_assets.proofs.LabelRowsMade.{IsNext, rows_more, numbered_more, few_names, few_texts, front_kept}
+use Rattle.pl_assets.proofs.LabelRowsMade.{rows_more, numbered_more, few_names, few_texts, front_kept}
 use Rattle.pl_assets.proofs.labels.rows.LabelRows.put.Goals as goal
 
 pub overflow_cast-number : goal.overflow_cast-number
