@@ -1,3 +1,13 @@
 pub mod AssetsRead
 pub mod AssetsSaid
 pub mod TextLists
+pub mod FirstSeen
+pub mod LabelRowsMade
+pub mod LabelOrder
+pub mod LabelKeys
+pub mod LabelFields
+pub mod LabelsRead
+pub mod LabelTables
+pub mod LabelSearch
+pub mod LabelWorlds
+pub mod LabelsSaid

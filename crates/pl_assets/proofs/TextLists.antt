@@ -1,5 +1,5 @@
 -- Lists of distinct texts.
-use Rattle.std.proofs.Common.{◌≡◌, ℕ, zero, suc, ◌+◌, ◌<◌, ◌≤◌, ◌||◌, not, nat_lt, Bool, true, false, cond, if◌then◌else◌, List, [], ◌∷◌, ◌++◌, length, take, map, get_or, All, Option, Some, None, refl, sym, ap, ◌∙◌, arith, inl, inr}
+use Rattle.std.proofs.Common.{◌≡◌, ℕ, ◌+◌, ◌<◌, ◌||◌, not, nat_lt, Bool, true, false, cond, if◌then◌else◌, List, [], ◌∷◌, ◌++◌, length, take, map, get_or, Some, None, refl, sym, ap, ◌∙◌, arith, inl, inr}
 use Rattle.std.proofs.lemmas.List.{length-map, map-append, take-append-le, take_all, get_or-map}
 use Rattle.std.proofs.lemmas.List.Folds.{list_any_at, list_any_none}
 use Rattle.std.proofs.lemmas.List.Quantifiers.{position-Some}
@@ -9,7 +9,7 @@ use Rattle.std.specs.List.{prefix_len, position, position_or_len, list_any}
 use Rattle.std.specs.Str.{bytes_eq}
 use Rattle.indexmap.specs.IndexSet.{insert_key}
 use Rattle.pl_spec.proofs.Places.{nowhere}
-use Rattle.pl_assets.specs.LabelTexts.{with_text}
+use Rattle.pl_assets.specs.Labels.{with_text}
 
 -- ---- tests on a list that is read through a function
 
@@ -33,11 +33,11 @@ joined f ks k false = map-append f ks (k ∷ [])
 pub inserted : {A : Type 0} (f : A → List ℕ) (ks : List A) (k : A) → map f (insert_key (λ x y. bytes_eq (f x) (f y)) ks k) ≡ with_text (map f ks) (f k)
 inserted f ks k = rw (any-map (bytes_eq (f k)) f ks) (joined f ks k _)
 
-any_there : {A : Type 0} (p : A → Bool) (xs : List A) (n : ℕ) → position p xs ≡ Some n → list_any p xs ≡ true
+pub any_there : {A : Type 0} (p : A → Bool) (xs : List A) (n : ℕ) → position p xs ≡ Some n → list_any p xs ≡ true
 any_there p [] n e = absurd (let bad : None ≡ Some n = e in cc)
 any_there p (x ∷ xs) n e = let it = position-Some p (x ∷ xs) n x e in list_any_at p (x ∷ xs) n x it.0 it.1
 
-none_there : {A : Type 0} (p : A → Bool) (xs : List A) → position p xs ≡ None → list_any p xs ≡ false
+pub none_there : {A : Type 0} (p : A → Bool) (xs : List A) → position p xs ≡ None → list_any p xs ≡ false
 none_there p xs e = list_any_none p xs (λ k d h. nowhere p xs e k d h)
 
 pub place_there : {A : Type 0} (p : A → Bool) (xs : List A) (n : ℕ) → position p xs ≡ Some n → n ≡ position_or_len p xs

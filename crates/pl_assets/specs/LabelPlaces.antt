@@ -1,7 +1,9 @@
 -- Rows of labels as they are kept: numbers for their names, codes for their texts, and an order in which they are found.
-use Rattle.std.specs.Prelude.{◌≡◌, ℕ, zero, suc, ◌+◌, ◌*◌, ◌^◌, ◌==◌, ◌<◌, nat_eq, ℤ, pos, ◌+ℤ◌, List, [], ◌∷◌, ◌++◌, length, map, take, slice_get, slice_index_or, All, AllPairs, Contains, Option, Some, None, IfSome, option_map, unwrap_or, FitsSigned, w32}
+use Rattle.std.specs.Prelude.{◌≡◌, ◌≢◌, ℕ, zero, suc, ◌+◌, ◌*◌, ◌^◌, ◌==◌, ◌<◌, nat_eq, nat_le, true, false, ℤ, pos, ◌+ℤ◌, ◌≤ℤ◌, List, [], ◌∷◌, ◌++◌, length, map, take, slice_get, slice_index_or, All, AllPairs, Contains, Option, Some, None, IfSome, option_map, unwrap_or, FitsSigned}
+use Rattle.std.specs.Int.{w32}
 use Rattle.std.specs.Int.RustNames.{unsigned_abs}
 use Rattle.std.specs.List.{list_any}
+use Rattle.std.specs.List.Sorted.{IsPartitionPoint}
 use Rattle.std.specs.HashSet.{HashSet, contains}
 use Rattle.pl_spec.specs.Parts.{ColumnLabel}
 use Rattle.pl_assets.specs.Labels.{LabelTable, AreLabels, names_of, texts_of}
@@ -63,6 +65,10 @@ key_at places i = unwrap_or (option_map key_of (slice_get places i)) 0
 pub record AreKeys {S : Type 0} (keys : HashSet ℕ S) (places : List Place) : Type 0 where
   pub each : (k : ℕ) → contains nat_eq keys k ≡ list_any (λ p. key_of p == k) places
 
+-- no two rows have one key
+abbrev pub OwnKeys : List Place → Type 0
+OwnKeys places = AllPairs (λ p q. key_of p ≢ key_of q) places
+
 -- ---- their order
 
 -- the numbers below n
@@ -70,13 +76,33 @@ unfoldable pub numbers : ℕ → List ℕ
 numbers zero = []
 numbers (suc n) = numbers n ++ n ∷ []
 
--- the numbers of all rows, by ascending keys
-pub record IsOrder (places : List Place) (order : List ℕ) : Type 0 where
-  pub ascend : AllPairs (λ i j. key_at places i < key_at places j) order
-  pub within : All (λ i. i < length places) order
-  pub all : (i : ℕ) → i < length places → Contains order i
+-- the rows of the numbers stand by ascending keys
+abbrev pub Ascend : List Place → List ℕ → Type 0
+Ascend places order = AllPairs (λ i j. key_at places i < key_at places j) order
+
+-- the numbers of the first n rows, by ascending keys
+pub record IsOrder (places : List Place) (n : ℕ) (order : List ℕ) : Type 0 where
+  pub ascend : Ascend places order
+  pub within : All (λ i. i < n) order
+  pub all : (i : ℕ) → i < n → Contains order i
+
+-- below n the rows in the order have no greater key, from n on all have
+abbrev pub KeyPoint : List Place → ℕ → List ℕ → ℕ → Type 0
+KeyPoint places k order n = IsPartitionPoint (λ i. nat_le (key_at places i) k ≡ true) (λ i. nat_le (key_at places i) k ≡ false) order n
+
+-- the row is of the name and the column, and has started by the day
+pub record HasStarted (name col : ℕ) (day : ℤ) (p : Place) : Type 0 where
+  pub same_name : p.name ≡ name
+  pub same_col : p.col ≡ col
+  pub started : p.start ≤ℤ day
+
+-- of these rows that which started last
+abbrev pub IsLastStarted : List Place → ℕ → ℕ → ℤ → Option Place → Type 0
+IsLastStarted places name col day None = (q : Place) → Contains places q → ¬ HasStarted name col day q
+IsLastStarted places name col day (Some p) =
+    Contains places p × HasStarted name col day p × ((q : Place) → Contains places q → HasStarted name col day q → q.start ≤ℤ p.start)
 
 pub record IsTable (t : LabelRows) (order : List ℕ) : Type 0 where
   pub numbered : AreNumbered t
   pub labels : AreLabels (table_in t)
-  pub order : IsOrder t.places.items order
+  pub found : IsOrder t.places.items (length t.places.items) order

@@ -1,7 +1,7 @@
 -- Labels by column, with the list of their texts: those of the records of a labels file, and the first rule that a record
 -- breaks.
-use Rattle.std.specs.Prelude.{◌≡◌, ℕ, ◌==◌, ◌≤◌, ◌&&◌, not, nat_le, nat_lt, Bool, false, if◌then◌else◌, IsTrue, ℤ, codes, List, [], ◌∷◌, length, map, filter, position, bytes_eq, All, AllPairs, Option, None, option_map, option_and_then, Result, Ok, Err}
-use Rattle.std.specs.List.{list_any, list_all}
+use Rattle.std.specs.Prelude.{◌≡◌, ℕ, ◌==◌, ◌<◌, ◌≤◌, ◌&&◌, not, nat_le, nat_lt, Bool, false, if◌then◌else◌, IsTrue, ℤ, codes, List, [], ◌∷◌, ◌++◌, length, map, filter, position, bytes_eq, All, AllPairs, Option, None, option_map, option_and_then, Result, Ok, Err}
+use Rattle.std.specs.List.{list_any, list_all, position_or_len}
 use Rattle.std.specs.Option.{ok_or}
 use Rattle.std.specs.Ordering.{int_eq}
 use Rattle.pl_spec.specs.Reading.{Record, Fault, field, ◌>>=◌, rows_under}
@@ -38,6 +38,14 @@ names_of rows = first_seen (map (λ r. r.name) rows)
 -- the texts of rows that are not empty
 abbrev pub texts_of : List ColumnLabel → List (List ℕ)
 texts_of rows = first_seen (filter is_text (map (λ r. r.text) rows))
+
+-- the texts with one that may be new
+abbrev pub with_text : List (List ℕ) → List ℕ → List (List ℕ)
+with_text texts text = if list_any (bytes_eq text) texts then texts else texts ++ text ∷ []
+
+-- the same, where an empty text is none
+abbrev pub with_label : List (List ℕ) → List ℕ → List (List ℕ)
+with_label texts text = if is_text text then with_text texts text else texts
 
 abbrev pub table_of : List ColumnLabel → LabelTable
 table_of rows = record { rows = rows; texts = texts_of rows }
@@ -109,3 +117,13 @@ pub record AreLabels (t : LabelTable) : Type 0 where
   pub once : AllPairs (λ r q. is_from r.name r.col r.start q ≡ false) t.rows
   pub few : length t.rows ≤ 200_000
   pub texts : t.texts ≡ texts_of t.rows
+
+-- the row of a label of the asset that has the sid
+abbrev pub label_row : List AssetRow → List ℕ → ℕ → ℤ → List ℕ → ColumnLabel
+label_row assets name sid start text = record { name = name; col = position_or_len (λ a. sid_of a == sid) assets; start = start; text = text }
+
+-- the row may stand behind the rows: none of them has its name, column and start
+pub record MayFollow (rows : List ColumnLabel) (r : ColumnLabel) : Type 0 where
+  pub row : IsLabelRow r
+  pub own_start : list_any (is_from r.name r.col r.start) rows ≡ false
+  pub room : length rows < 200_000

@@ -4,5 +4,7 @@ pub mod Faults
 pub mod Seen
 pub mod Labels
 pub mod LabelFaults
-pub mod LabelTexts
 pub mod LabelPlaces
+pub mod LabelStarts
+pub mod LabelRules
+pub mod LabelWorlds

@@ -1,16 +1,18 @@
-ghost use Rattle.std.specs.Prelude.{◌≡◌, ◌<◌, ◌++◌, ◌∷◌, [], length, position, slice_index_or, bytes_eq, All, IfOk, IfSome, OnOk, OnErr, IsTrue, IsSome, option_and_then};
+ghost use Rattle.std.specs.Prelude.{◌≡◌, ◌<◌, ◌≤◌, ◌++◌, ◌∷◌, ◌==◌, [], length, position, slice_index_or, bytes_eq, All, Contains, IfOk, IfSome, IsTrue, OnOk, OnErr, option_and_then};
+ghost use Rattle.std.specs.List.{list_any, position_or_len};
 ghost use Rattle.csv.specs.Writing.{default_writer, field_text};
-ghost use Rattle.pl_spec.specs.Names.{is_name};
 ghost use Rattle.pl_spec.specs.Reading.{Answers};
 ghost use Rattle.pl_records.specs.Records.{csv_records};
 ghost use Rattle.pl_assets.specs.Assets.{sid_of};
-ghost use Rattle.pl_assets.specs.Labels.{AreLabels, is_printable, label_on, labels_of, names_of, no_labels, table_of};
+ghost use Rattle.pl_assets.specs.Labels.{AreLabels, MayFollow, is_printable, label_on, label_row, labels_of, names_of, no_labels, table_of, with_label};
 ghost use Rattle.pl_assets.specs.LabelFaults.{fault_of};
 
 mod error;
 mod order;
 mod reading;
 mod rows;
+#[cfg(test)]
+mod tests;
 mod texts;
 
 use crate::Assets;
@@ -55,13 +57,17 @@ impl Labels {
     /// The labels of a file: the header `name,sid,start,label`, and in each further record a name,
     /// the sid of an asset, a date and a label of at most 64 bytes. From the date on the asset has
     /// the label; an empty one says that it has none.
-    pub fn read(alloc: Global, bytes: &[u8], assets: &Assets) -> Result<Labels, LabelsError> {
+    #[tactic(auto, unfolding(crate::specs::Labels::labels_of))]
+    pub fn read(alloc: Global, bytes: &[u8], assets: &Assets) -> Result<Labels, LabelsError>
+        // The labels of the records, or the fault of the first faulty one. Only want of memory may
+        // come beside.
+        ensures exact { Answers (λ l. l) fault_of result (labels_of assets.now (csv_records bytes.now)) }
+        ensures labels { IfOk result AreLabels }
+        // Each stands in the column of an asset.
+        ensures cols { IfOk result (λ l. All (λ r. r.col < length assets.now) l.rows) }
+    {
         let rows = reading::read_rows(alloc, bytes, assets)?;
-        let mut order = Vec::with_capacity(alloc, rows.places.len())?;
-        for i in 0..rows.places.len() {
-            order.push(i as u32)?;
-        }
-        order::sort_by_key(&rows.places, &mut order);
+        let order = order::order_of(alloc, &rows.places)?;
         Ok(Labels { rows, order })
     }
 
@@ -74,23 +80,27 @@ impl Labels {
         sid: u32,
         start: i32,
         label: &[u8],
-    ) -> Result<(), Memory> {
-        let col = match assets.col_of(sid) {
-            Some(col) => col as u32,
-            None => unreachable!(),
-        };
+    ) -> Result<(), Memory>
+        requires asset { IsTrue (list_any (λ a. sid_of a == sid) assets.now) }
+        requires row { MayFollow self.old.rows (label_row assets.now name.now sid start label.now) }
+        ensures row { OnOk result (self.new
+            ≡ table_of (self.old.rows ++ label_row assets.now name.now sid start label.now ∷ [])) }
+        // A text that is new and not empty stands behind the others.
+        ensures texts { OnOk result (self.new.texts ≡ with_label self.old.texts label.now) }
+        ensures kept { OnErr result (self.new ≡ self.old) }
+    {
+        let col = column_of(assets, sid);
         self.order.reserve(1)?;
-        let number = self.rows.places.len() as u32;
-        let place = self.rows.push(name, col, start, label)?;
-        let at = order::point_of(&self.rows.places, &self.order, order::key_of(&place));
-        match self.order.insert(at, number) {
-            Ok(()) => Ok(()),
-            Err(_) => unreachable!(),
-        }
+        self.rows.push(name, col, start, label)?;
+        order::insert_last(&self.rows.places, &mut self.order);
+        Ok(())
     }
 
     /// The number of a name, if a row has it.
-    pub fn name_of(&self, name: &[u8]) -> Option<u32> {
+    pub fn name_of(&self, name: &[u8]) -> Option<u32>
+        ensures within { IfSome result (λ number. number < length (names_of self.now.rows)) }
+        ensures exact { result ≡ position (bytes_eq name.now) (names_of self.now.rows) }
+    {
         match self.rows.names.number_of(name) {
             Some(number) => Some(number as u32),
             None => None,
@@ -99,20 +109,48 @@ impl Labels {
 
     /// The code of the label of a column under a name on a day, if it has one: that of the row that
     /// started last, unless its text is empty.
-    pub fn label_at(&self, name: u32, col: usize, day: i32) -> Option<u32> {
-        match order::last_started(&self.rows.places, &self.order, name, col, day) {
+    pub fn label_at(&self, name: u32, col: usize, day: i32) -> Option<u32>
+        requires { name < length (names_of self.now.rows) }
+        ensures code { result ≡ option_and_then (λ text. position (bytes_eq text) self.now.texts)
+            (label_on self.now.rows (slice_index_or (names_of self.now.rows) name []) col day) }
+        ensures within { IfSome result (λ code. code < length self.now.texts) }
+        // Each label has a code, so that none is missing.
+        ensures known { IfSome
+            (label_on self.now.rows (slice_index_or (names_of self.now.rows) name []) col day)
+            (Contains self.now.texts) }
+    {
+        match order::last_started(&self.rows, &self.order, name, col, day) {
             Some(place) => place.code,
             None => None,
         }
     }
 
     /// The text of a code.
-    pub fn text(&self, code: u32) -> &[u8] {
+    pub fn text(&self, code: u32) -> &[u8]
+        requires { code < length self.now.texts }
+        ensures exact { result.now ≡ slice_index_or self.now.texts code [] }
+        ensures printable { IsTrue (is_printable result.now) }
+        ensures short { length result.now ≤ 64 }
+    {
         self.rows.texts.text(code as usize)
     }
 
     /// The text of a code as a field of csv, with quotes where it needs them.
-    pub fn csv_text(&self, code: u32) -> &[u8] {
+    pub fn csv_text(&self, code: u32) -> &[u8]
+        requires { code < length self.now.texts }
+        ensures { result.now ≡ field_text default_writer (slice_index_or self.now.texts code []) }
+    {
         self.rows.texts.field(code as usize)
+    }
+}
+
+// The column of the asset that has the sid.
+fn column_of(assets: &Assets, sid: u32) -> u32
+    requires { IsTrue (list_any (λ a. sid_of a == sid) assets.now) }
+    ensures { result ≡ position_or_len (λ a. sid_of a == sid) assets.now }
+{
+    match assets.col_of(sid) {
+        Some(col) => col as u32,
+        None => unreachable!(),
     }
 }

@@ -1,11 +1,15 @@
-//! What an assets file says, in plain words. The function does nothing: its contract is the law of
-//! the definitions that the reader's contract cites.
+//! What an assets file and a labels file say, in plain words, and what the labels of a table are in
+//! a world. The functions do nothing: the contract of each is a law of the definitions that the
+//! calls' contracts cite.
 
 ghost use Rattle.std.specs.Prelude.{◌≡◌, ◌↔◌, List, Ok, Err};
 ghost use Rattle.pl_spec.specs.declared.AssetRow.{AssetRow};
 ghost use Rattle.pl_spec.specs.Reading.{Record, Fault, BreaksFirst, Judges};
-ghost use Rattle.pl_assets.specs.Assets.{Rule, assets_of, says_asset};
+ghost use Rattle.pl_assets.specs.Assets.{Rule, AreAssets, assets_of, says_asset};
 ghost use Rattle.pl_assets.specs.Rules.{AreAssetsOf, Breaks, IsAsset, IsAssetsFault, order};
+ghost use Rattle.pl_assets.specs.Labels as labels;
+ghost use Rattle.pl_assets.specs.LabelRules as label_rules;
+ghost use Rattle.pl_assets.specs.LabelWorlds.{LabelsAreThose};
 
 /// A file is read as assets exactly where it has its header and each further record is an asset
 /// with a sid of its own; they stand by ascending sid. It has a fault exactly where the header is
@@ -17,4 +21,27 @@ pub fn assets_in_plain_words()
         ↔ AreAssetsOf records assets }
     ensures fault { (records : List Record) (fault : Fault Rule) → (assets_of records ≡ Err fault)
         ↔ IsAssetsFault records fault }
+{}
+
+/// A file is read as labels exactly where it has its header and each further record is a label of
+/// an asset, the only one of its name, asset and start; they stand in the order of the file. It has
+/// a fault exactly where the header is missing, or where that record breaks that rule and no
+/// earlier one, and the records before it are labels.
+pub fn labels_in_plain_words()
+    ensures record { (assets : List AssetRow) → AreAssets assets
+        → Judges (label_rules.IsLabel assets)
+        (λ before r. BreaksFirst label_rules.order (label_rules.Breaks assets before r))
+        (labels.says_label assets) }
+    ensures labels { (assets : List AssetRow) → AreAssets assets → (records : List Record)
+        (table : labels.LabelTable) → (labels.labels_of assets records ≡ Ok table)
+        ↔ label_rules.AreLabelsOf assets records table }
+    ensures fault { (assets : List AssetRow) → AreAssets assets → (records : List Record)
+        (fault : Fault labels.Rule) → (labels.labels_of assets records ≡ Err fault)
+        ↔ label_rules.IsLabelsFault assets records fault }
+{}
+
+/// In a world of parts the label of an asset on a session is that of its column on the session's
+/// day.
+pub fn labels_are_those_of_the_world()
+    ensures { LabelsAreThose }
 {}

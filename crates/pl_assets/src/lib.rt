@@ -82,6 +82,7 @@ impl Assets {
     /// The column of a sid, if an asset has it.
     pub fn col_of(&self, sid: u32) -> Option<usize>
         ensures within { IfSome result (λ i. i < length self.now) }
+        ensures few { IfSome result (λ i. i < 8_000) }
         ensures exact { result ≡ position (λ a. sid_of a == sid) self.now }
     {
         search::col_of(&self.rows, sid)

@@ -1,4 +1,4 @@
-use crate::{AssetRow, Assets, AssetsError, Labels, LabelsError};
+use crate::{AssetRow, Assets, AssetsError};
 use std::test::*;
 
 const ASSETS: &[u8] = b"sid,start,end\n7,2024-01-03,2024-01-05\n1,2024-01-02,2024-01-09\n";
@@ -89,37 +89,5 @@ fn names_the_first_fault(rt: HostRuntime) -> Result<(), Fail> {
     for (bytes, fault) in table.iter() {
         assert!(rt; matches!(Assets::read(rt.alloc(), bytes), Err(e) if e == *fault));
     }
-    Ok(())
-}
-
-const LABELS: &[u8] = b"name,sid,start,label\nsector,1,2024-01-05,\nsector,7,2023-12-29,\"Oil, Gas\"\nsector,1,2024-01-03,a\ncountry,1,2024-01-01,a\ncountry,7,2024-01-01, \"\"b\"\" \n";
-
-#[test]
-fn reads_labels(rt: HostRuntime) -> Result<(), Fail> {
-    let assets = Assets::read(rt.alloc(), ASSETS)?;
-    let labels = Labels::read(rt.alloc(), LABELS, &assets)?;
-    let table: &[(&[u8], usize, i32, Option<u32>)] = &[
-        (b"sector", 0, 19724, None),
-        (b"sector", 0, 19725, Some(1)),
-        (b"sector", 0, 19726, Some(1)),
-        (b"sector", 0, 19727, None),
-        (b"sector", 0, i32::MAX, None),
-        (b"sector", 1, i32::MAX, Some(0)),
-        (b"sector", 1, i32::MIN, None),
-        (b"sector", 2, 19725, None),
-        (b"sector", usize::MAX, 19725, None),
-        (b"country", 0, 19725, Some(1)),
-        (b"country", 1, 19725, Some(2)),
-    ];
-    for (name, col, day, code) in table.iter() {
-        let number = labels.name_of(name);
-        assert!(rt; number.is_some());
-        if let Some(number) = number {
-            assert_eq!(rt; labels.label_at(number, *col, *day), *code);
-        }
-    }
-    assert_eq!(rt; labels.name_of(b"sector"), Some(0));
-    assert_eq!(rt; labels.name_of(b"country"), Some(1));
-    assert_eq!(rt; labels.name_of(b"sect"), None);
     Ok(())
 }

@@ -1,9 +1,11 @@
-ghost use Rattle.std.specs.Prelude.{◌≡◌, ◌+◌, ◌<◌, ◌≤◌, [], ◌∷◌, ◌++◌, length, option_map, OnOk, IfOk};
+ghost use Rattle.std.specs.Prelude.{◌≡◌, ◌+◌, ◌<◌, ◌≤◌, length, option_map, OnOk, OnSome, IfOk};
+ghost use Rattle.std.specs.List.{list_any};
 ghost use Rattle.pl_spec.specs.Reading.{Answers, at_line, field, rows_of};
 ghost use Rattle.pl_records.specs.Records.{csv_records};
-ghost use Rattle.pl_assets.specs.Labels.{is_printable, label_in, label_rows_in, labels_of, says_label};
+ghost use Rattle.pl_assets.specs.Labels.{is_from, is_printable, label_in, label_rows_in, says_label};
 ghost use Rattle.pl_assets.specs.LabelFaults.{fault_of};
-ghost use Rattle.pl_assets.specs.LabelPlaces.{shown_rows};
+ghost use Rattle.pl_assets.specs.LabelPlaces.{AreKeys, AreNumbered, shown_rows};
+ghost use Rattle.pl_assets.specs.LabelStarts.{label_from, row_from};
 
 use crate::Assets;
 use crate::labels::error::LabelsError;
@@ -15,14 +17,18 @@ use std::alloc::Global;
 use std::collections::HashSet;
 
 const MOST_LABELS: usize = 200_000;
+
 const LONGEST_LABEL: usize = 64;
 
 // The labels of a file in its order.
+#[tactic(auto, unfolding(crate::specs::Labels::label_rows_in))]
 pub(crate) fn read_rows(
     alloc: Global,
     bytes: &[u8],
     assets: &Assets,
 ) -> Result<LabelRows, LabelsError>
+    ensures exact { Answers shown_rows fault_of result (label_rows_in assets.now (csv_records bytes.now)) }
+    ensures numbered { IfOk result AreNumbered }
 {
     let mut records = Records::new(alloc, bytes);
     if !records.read_header(&[b"name", b"sid", b"start", b"label"])? {
@@ -37,6 +43,8 @@ fn rows_behind(
     records: &mut Records,
     assets: &Assets,
 ) -> Result<LabelRows, LabelsError>
+    ensures exact { Answers shown_rows fault_of result (rows_of 2 (says_label assets.now) records.old.left) }
+    ensures numbered { IfOk result AreNumbered }
 {
     let mut rows = LabelRows::new(alloc);
     let mut keys = HashSet::new(alloc);
@@ -57,12 +65,20 @@ struct ColumnStart {
 
 // The start of the label of the record that was read last, behind the rows before it, whose keys are
 // given.
+#[tactic(auto, unfolding(crate::specs::Labels::says_label))]
 fn next_start(
     before: &LabelRows,
     keys: &HashSet<u128>,
     row: &Records,
     assets: &Assets,
 ) -> Result<ColumnStart, LabelsError>
+    requires numbered { AreNumbered before.now }
+    requires few { length (shown_rows before.now) ≤ 200_000 }
+    requires keys { AreKeys keys.now before.now.places.items }
+    ensures room { OnOk result (length (shown_rows before.now) < 200_000) }
+    ensures four { OnOk result (length row.now.fields ≡ 4) }
+    ensures exact { Answers (row_from row.now.fields) fault_of result (at_line
+        (2 + length (shown_rows before.now)) (says_label assets.now (shown_rows before.now) row.now.fields)) }
 {
     let line = before.places.len() as u32 + 2;
     if before.places.len() >= MOST_LABELS {
@@ -87,7 +103,12 @@ fn next_start(
 }
 
 // Whether a row has the name, the column and the day.
-fn is_known(rows: &LabelRows, keys: &HashSet<u128>, name: &[u8], col: usize, day: i32) -> bool {
+fn is_known(rows: &LabelRows, keys: &HashSet<u128>, name: &[u8], col: usize, day: i32) -> bool
+    requires numbered { AreNumbered rows.now }
+    requires few { length (shown_rows rows.now) ≤ 200_000 }
+    requires keys { AreKeys keys.now rows.now.places.items }
+    ensures { result ≡ list_any (is_from name.now col day) (shown_rows rows.now) }
+{
     match rows.names.number_of(name) {
         Some(number) => keys.contains(&key(number as u32, col, day)),
         None => false,
@@ -102,7 +123,10 @@ struct SidStart {
 }
 
 // The sid and the day of the record that was read last, where it is a label.
+#[tactic(auto, unfolding(crate::specs::Labels::label_in))]
 fn start_of(row: &Records) -> Option<SidStart>
+    ensures four { OnSome result (length row.now.fields ≡ 4) }
+    ensures exact { option_map (label_from row.now.fields) result ≡ label_in row.now.fields }
 {
     if row.field_count() != 4 || !is_name(row.field(0)) || !is_printable(row.field(3)) {
         return None;

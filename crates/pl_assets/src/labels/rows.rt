@@ -1,6 +1,6 @@
-ghost use Rattle.std.specs.Prelude.{◌≡◌, ◌<◌, ◌≤◌, [], ◌∷◌, ◌++◌, length, IfOk, OnOk, OnErr, IsTrue};
-ghost use Rattle.pl_assets.specs.Labels.{is_text};
-ghost use Rattle.pl_assets.specs.LabelPlaces.{AreNumbered, IsBehind, KeepsFront, shown_rows};
+ghost use Rattle.std.specs.Prelude.{◌≡◌, ◌<◌, ◌≤◌, [], ◌∷◌, ◌++◌, length, IfOk, IfSome, OnOk, OnErr};
+ghost use Rattle.pl_assets.specs.Labels.{with_label};
+ghost use Rattle.pl_assets.specs.LabelPlaces.{AreNumbered, IsBehind, KeepsFront, shown_rows, text_in};
 
 use crate::labels::texts::{LabelTexts, Texts};
 use std::alloc::{AllocError, Global};
@@ -66,13 +66,7 @@ impl LabelRows {
     }
 
     // The same, but where memory runs out, a name and a text may stay behind the others.
-    fn put(
-        &mut self,
-        name: &[u8],
-        col: u32,
-        start: i32,
-        text: &[u8],
-    ) -> Result<Place, AllocError>
+    fn put(&mut self, name: &[u8], col: u32, start: i32, text: &[u8]) -> Result<Place, AllocError>
         requires numbered { AreNumbered self.old }
         requires few { length self.old.places.items < 200_000 }
         ensures numbered { OnOk result (AreNumbered self.new) }
@@ -82,7 +76,7 @@ impl LabelRows {
         ensures front { OnErr result (KeepsFront self.old self.new) }
     {
         let number = self.names.insert(name)? as u32;
-        let code = self.code_of(text)?;
+        let code = code_of(&mut self.texts, text)?;
         let place = Place {
             name: number,
             col,
@@ -92,14 +86,19 @@ impl LabelRows {
         self.places.push(place)?;
         Ok(place)
     }
+}
 
-    // The code of a text, which is added if it is new; an empty text has none.
-    fn code_of(&mut self, text: &[u8]) -> Result<Option<u32>, AllocError>
-    {
-        if text.is_empty() {
-            return Ok(None);
-        }
-        let code = self.texts.insert(text)?;
-        Ok(Some(code as u32))
+// The code of a text, which is added if it is new; an empty text has none.
+fn code_of(texts: &mut LabelTexts, text: &[u8]) -> Result<Option<u32>, AllocError>
+    requires { length texts.old < 200_000 }
+    ensures texts { OnOk result (texts.new ≡ with_label texts.old text.now) }
+    ensures code { IfOk result (λ code. text_in texts.new code ≡ text.now) }
+    ensures known { IfOk result (λ code. IfSome code (λ c. c < length texts.new)) }
+    ensures err { OnErr result (texts.new ≡ texts.old) }
+{
+    if text.is_empty() {
+        return Ok(None);
     }
+    let code = texts.insert(text)?;
+    Ok(Some(code as u32))
 }

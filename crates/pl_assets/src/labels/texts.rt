@@ -1,7 +1,7 @@
 ghost use Rattle.std.specs.Prelude.{◌≡◌, ◌<◌, [], length, take, position, slice_index_or, bytes_eq, IfOk, OnOk, OnErr};
 ghost use Rattle.std.specs.List.{position_or_len};
 ghost use Rattle.csv.specs.Writing.{default_writer, field_text};
-ghost use Rattle.pl_assets.specs.LabelTexts.{with_text};
+ghost use Rattle.pl_assets.specs.Labels.{with_text};
 
 use csv::WriterBuilder;
 use indexmap::IndexSet;

@@ -1,4 +1,4 @@
-use Rattle.std.proofs.Common.{sym, ◌∙◌, ap, ◌≡◌, ◌<◌, length, get_or, []}
+use Rattle.std.proofs.Common.{◌∙◌, ap, get_or, []}
 use Rattle.csv.specs.Writing.{default_writer, field_text}
 use Rattle.pl_assets.proofs.TextLists.{field_at_code}
 use Rattle.pl_assets.proofs.labels.texts.LabelTexts.field.Goals as goal

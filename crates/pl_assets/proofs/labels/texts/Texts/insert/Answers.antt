@@ -1,5 +1,5 @@
 use Rattle.std.proofs.Common.{sym, ◌∙◌}
-use Rattle.pl_assets.proofs.TextLists.{not_new, place_there}
+use Rattle.pl_assets.proofs.TextLists.{not_new}
 use Rattle.pl_assets.proofs.labels.texts.Texts.insert.Goals as goal
 
 pub returns-in-Some-clause-texts : goal.returns-in-Some-clause-texts

@@ -1,0 +1,95 @@
+-- The fields of a record of a label.
+use Rattle.std.proofs.Common.{◌≡◌, ℕ, zero, suc, ◌≤◌, ◌==◌, ◌&&◌, nat_le, Bool, true, false, if◌then◌else◌, ℤ, List, [], ◌∷◌, length, All, Option, Some, None, option_map, option_and_then, refl, sym, ◌∙◌, arith}
+use Rattle.std.proofs.lemmas.Bool.{and_parts}
+use Rattle.std.proofs.lemmas.Bool.Decides.{nat_tests}
+use Rattle.pl_spec.specs.Reading.{Record, field}
+use Rattle.pl_spec.specs.Dates.{date_in}
+use Rattle.pl_spec.specs.Decimals.{sid_in}
+use Rattle.pl_spec.specs.Names.{is_name}
+use Rattle.pl_spec.specs.World.{LabelRow}
+use Rattle.pl_spec.proofs.DatesRead.{date_in-IsDate, IsDate-date_in}
+use Rattle.pl_spec.proofs.SidsRead.{sid_in-decimal, decimal-sid_in}
+use Rattle.pl_assets.specs.Labels.{is_printable, label_in}
+use Rattle.pl_assets.specs.LabelRules.{IsLabelRecord}
+
+and_then_some : {A B : Type 0} (o : Option A) (f : A → Option B) (y : B) → option_and_then f o ≡ Some y → (x : A) × (o ≡ Some x) × (f x ≡ Some y)
+and_then_some None f y e = absurd (let bad : None ≡ Some y = e in cc)
+and_then_some (Some x) f y e = (x, refl, e)
+
+map_some : {A B : Type 0} (o : Option A) (f : A → B) (y : B) → option_map f o ≡ Some y → (x : A) × (o ≡ Some x) × (f x ≡ y)
+map_some None f y e = absurd (let bad : None ≡ Some y = e in cc)
+map_some (Some x) f y e = (x, refl, (let same : Some (f x) ≡ Some y = e in cc))
+
+-- ---- printable bytes
+
+printed_byte : (b : ℕ) → (nat_le 32 b && nat_le b 126) ≡ true → (32 ≤ b) × (b ≤ 126)
+printed_byte b t = let p = and_parts (nat_le 32 b) (nat_le b 126) t in (low b p.0, high b p.1)
+  where
+    low : (b : ℕ) → nat_le 32 b ≡ true → 32 ≤ b
+    low b t = grind (arith, nat_tests)
+
+    high : (b : ℕ) → nat_le b 126 ≡ true → b ≤ 126
+    high b t = grind (arith, nat_tests)
+
+byte_printed : (b : ℕ) → 32 ≤ b → b ≤ 126 → (nat_le 32 b && nat_le b 126) ≡ true
+byte_printed b h l = let t : nat_le 32 b ≡ true = grind (arith, nat_tests) in let u : nat_le b 126 ≡ true = grind (arith, nat_tests) in rw (t, u) refl
+
+bytes-printable : (text : List ℕ) → is_printable text ≡ true → All (λ b. (32 ≤ b) × (b ≤ 126)) text
+bytes-printable [] t k d h = absurd (omega arith)
+bytes-printable (b ∷ bs) t zero d h = printed_byte b (and_parts (nat_le 32 b && nat_le b 126) (is_printable bs) t).0
+bytes-printable (b ∷ bs) t (suc k) d h = bytes-printable bs (and_parts (nat_le 32 b && nat_le b 126) (is_printable bs) t).1 k d (omega arith)
+
+pub printable-bytes : (text : List ℕ) → All (λ b. (32 ≤ b) × (b ≤ 126)) text → is_printable text ≡ true
+printable-bytes [] all = refl
+printable-bytes (b ∷ bs) all =
+    let first : (32 ≤ b) × (b ≤ 126) = all 0 b (omega arith) in
+    rw (byte_printed b first.0 first.1, printable-bytes bs (λ k d h. all (suc k) d (omega arith))) refl
+
+-- ---- the record
+
+made : Record → ℕ → ℤ → LabelRow
+made r sid start = record { name = field r 0; sid = sid; start = start; text = field r 3 }
+
+fields_said : Record → Option LabelRow
+unfolding made
+fields_said r = option_and_then (λ sid. option_map (λ start. made r sid start) (date_in (field r 2))) (sid_in (field r 1))
+
+pub IsLabelRecord-label_in : (r : Record) (l : LabelRow) → label_in r ≡ Some l → IsLabelRecord r l
+unfolding label_in fields_said made
+IsLabelRecord-label_in r l e = here (length r == 4 && (is_name (field r 0) && is_printable (field r 3))) refl e
+  where
+    here : (b : Bool) → (length r == 4 && (is_name (field r 0) && is_printable (field r 3))) ≡ b → (if b then fields_said r else None) ≡ Some l → IsLabelRecord r l
+    here false t e = absurd (let bad : None ≡ Some l = e in cc)
+    here true t e =
+        let p = and_parts (length r == 4) (is_name (field r 0) && is_printable (field r 3)) t in
+        let q = and_parts (is_name (field r 0)) (is_printable (field r 3)) p.1 in
+        let s = and_then_some (sid_in (field r 1)) _ l e in
+        let d = map_some (date_in (field r 2)) (λ start. made r s.0 start) l s.2 in
+        let n = decimal-sid_in (field r 1) s.0 s.1 in
+        rw (← d.2) record {
+          four = same_length p.0;
+          name = refl;
+          right_name = q.0;
+          small = n.0;
+          sid = n.1;
+          start = IsDate-date_in (field r 2) d.0 d.1;
+          text = refl;
+          printable = bytes-printable (field r 3) q.1;
+        }
+      where
+        same_length : (length r == 4) ≡ true → length r ≡ 4
+        same_length t = grind (arith, nat_tests)
+
+label_in-IsLabelRecord : (r : Record) (l : LabelRow) → IsLabelRecord r l → label_in r ≡ Some l
+unfolding label_in
+label_in-IsLabelRecord r l h =
+    let four : length r ≡ 4 = h.four in
+    let t : (length r == 4) ≡ true = grind (arith, nat_tests) in
+    let n : is_name l.name ≡ true = h.right_name in
+    rw (t, h.name, h.text, n, printable-bytes l.text h.printable, sid_in-decimal (field r 1) l.sid h.small h.sid, date_in-IsDate (field r 2) l.start h.start) refl
+
+pub no_record : (r : Record) → label_in r ≡ None → (l : LabelRow) → IsLabelRecord r l → ⊥
+no_record r e l h = let found : label_in r ≡ Some l = label_in-IsLabelRecord r l h in let bad : None ≡ Some l = sym e ∙ found in cc
+
+pub one_label : (r : Record) (x y : LabelRow) → IsLabelRecord r x → IsLabelRecord r y → x ≡ y
+one_label r x y h k = let same : Some x ≡ Some y = sym (label_in-IsLabelRecord r x h) ∙ label_in-IsLabelRecord r y k in cc
