@@ -134,5 +134,12 @@ fn seen_cell<L: Ledger>(
     let cell = world.bars.get(col, bar_session, column);
     let bar_day = world.sessions.day(bar_session);
     let day = world.sessions.day(session);
-    seen_now(cell, bar_day, day, world.adjustments.of_col(col), column, steps)
+    seen_now(
+        cell,
+        bar_day,
+        day,
+        world.adjustments.of_col(col),
+        column,
+        steps,
+    )
 }
