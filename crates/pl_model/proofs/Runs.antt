@@ -1,5 +1,5 @@
 -- Windows of cells as they are seen, and sums and means over them, by session.
-use Rattle.std.proofs.Common.{◌*◌, unsigned_abs, length-append, ◌≡◌, ℕ, zero, suc, ◌+◌, ◌-◌, ◌≤◌, true, false, cond, ℤ, pos, negsuc, ◌+ℤ◌, List, [], ◌∷◌, ◌++◌, length, map, sum_by, Option, Some, None, inl, inr, refl, sym, ◌∙◌, ap, arith, zero-add}
+use Rattle.std.proofs.Common.{◌≡◌, ℕ, zero, suc, ◌+◌, ◌-◌, ◌*◌, ◌≤◌, true, false, cond, ℤ, pos, negsuc, ◌+ℤ◌, unsigned_abs, List, [], ◌∷◌, ◌++◌, length, map, sum_by, Option, Some, None, inl, inr, refl, sym, ◌∙◌, ap, arith, zero-add, length-append}
 use Rattle.std.specs.List.{range_with_len}
 use Rattle.std.proofs.lemmas.Bool.{cases_lt}
 use Rattle.std.proofs.lemmas.Int.{ints}
@@ -141,7 +141,7 @@ module _ (w : World) (a : ℕ) (c : Column) (d first s : ℕ) (sum number x : �
         few = omega (arith, so_far.few);
       }
 
--- at the end of the window
+-- at the end of the window the quotient is its mean
 pub measured_all : (w : World) (a : ℕ) (c : Column) (d size s : ℕ) (sum number : ℤ) → s ≡ d → IsMeasured w a c d (d - size) s sum number → quot sum number ≡ mean (bar_window w c size a (pos d))
 measured_all w a c d size s sum number end all =
     ap (λ t. quot t number) all.total
@@ -149,5 +149,6 @@ measured_all w a c d size s sum number end all =
     ∙ ap (λ s. quot (total (present_values (run w a c d (d - size) (s - (d - size))))) (pos (count (run w a c d (d - size) (s - (d - size)))))) end
     ∙ ap (λ l. quot (total l) (pos (length l))) (sym (present-window w a c d size))
 
+-- and so are its steps
 pub counted_all : (w : World) (a : ℕ) (c : Column) (d size s now old : ℕ) → s ≡ d → now ≡ old + run_steps w a c d (d - size) (s - (d - size)) → now ≡ old + window_steps w c size a (pos d)
 counted_all w a c d size s now old end all = all ∙ ap (λ s. old + run_steps w a c d (d - size) (s - (d - size))) end ∙ ap (λ n. old + n) (sym (window-steps w a c d size))
