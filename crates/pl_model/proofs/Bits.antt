@@ -1,5 +1,5 @@
 -- What is computed in 64 and 128 bits is what it is in whole numbers.
-use Rattle.std.proofs.Common.{◌≡◌, ℕ, ◌+◌, ◌*◌, ◌^◌, ◌≤◌, Bool, true, false, not, ℤ, pos, ◌+ℤ◌, unsigned_abs, w64, FitsSigned, to_z, of_z, ap, arith}
+use Rattle.std.proofs.Common.{◌≡◌, ℕ, ◌*◌, ◌^◌, ◌≤◌, true, false, not, ℤ, pos, ◌+ℤ◌, unsigned_abs, w64, FitsSigned, to_z, of_z, ap, arith}
 use Rattle.std.specs.Int.{w128}
 use Rattle.std.proofs.lemmas.Int.{ints}
 use Rattle.pl_spec.specs.Rounding.{IsCell, LIMIT, is_missing}

@@ -1,5 +1,5 @@
 -- The world that parts make: its adjustments by sid, and its cells as they are seen.
-use Rattle.std.proofs.Common.{◌≡◌, ℕ, suc, ◌<◌, ◌==◌, Bool, true, false, cond, ℤ, pos, ◌≤ℤ◌, ◌⊎◌, inl, inr, List, [], ◌∷◌, map, filter, length, get_or, All, slice_get, Some, option_map, unwrap_or, refl, sym, ◌∙◌, ap, arith}
+use Rattle.std.proofs.Common.{◌≡◌, ℕ, suc, ◌<◌, ◌==◌, Bool, true, false, ℤ, pos, ◌≤ℤ◌, ◌⊎◌, inl, inr, List, [], ◌∷◌, map, filter, length, get_or, All, slice_get, Some, option_map, unwrap_or, refl, sym, ◌∙◌, ap, arith}
 use Rattle.std.specs.List.{AllPairs}
 use Rattle.std.proofs.lemmas.Bool.Decides.{nat_tests}
 use Rattle.std.proofs.lemmas.List.{get_or-map, length-map}
@@ -7,7 +7,7 @@ use Rattle.std.proofs.lemmas.Option.{slice_get-get_or}
 use Rattle.pl_spec.specs.declared.AssetRow.{AssetRow}
 use Rattle.pl_spec.specs.declared.Column.{Column}
 use Rattle.pl_spec.specs.Parts.{ColumnAdjustment, adjustment_of, sid_at}
-use Rattle.pl_spec.specs.World.{Event, IsWorld, events_of}
+use Rattle.pl_spec.specs.World.{Event, events_of}
 use Rattle.pl_spec.specs.Window.{after_all, events, events_in, seen_cell}
 use Rattle.pl_bars.specs.Bars.{cell_at}
 use Rattle.pl_bars.proofs.BarWorlds.{cells_raw}

@@ -1,5 +1,5 @@
 -- The values of plain terms, and their steps.
-use Rattle.std.proofs.Common.{◌≡◌, ℕ, [], true, false, ℤ, refl, sym, ap}
+use Rattle.std.proofs.Common.{◌≡◌, ℕ, ◌+◌, [], true, false, ℤ, refl, sym, ap}
 use Rattle.pl_spec.specs.declared.Column.{Column}
 use Rattle.pl_spec.specs.Rounding.{MISSING}
 use Rattle.pl_spec.specs.World.{World, exists}
@@ -30,6 +30,7 @@ module _ (w : World) (a : ℕ) (d : ℤ) where
   unfolding value step formula
   average-lives c size x lives is = rw lives (ap Number (sym is))
 
-  pub steps-lives : (t : PlainTerm) → exists w a d ≡ true → steps_of w t a d ≡ window_steps w (column_of t) (size_of t) a d
+  -- the steps of the window are those of the term
+  pub steps-lives : (t same : PlainTerm) (now old : ℕ) → exists w a d ≡ true → t ≡ same → now ≡ old + window_steps w (column_of same) (size_of same) a d → now ≡ old + steps_of w t a d
   unfolding steps_of
-  steps-lives t lives = rw lives refl
+  steps-lives t same now old lives is cost = rw (lives, is) cost

@@ -1,5 +1,5 @@
 -- Windows of cells as they are seen, and sums and means over them, by session.
-use Rattle.std.proofs.Common.{◌*◌, unsigned_abs, length-append, ◌≡◌, ℕ, zero, suc, ◌+◌, ◌-◌, ◌≤◌, Bool, true, false, cond, ℤ, pos, negsuc, ◌+ℤ◌, List, [], ◌∷◌, ◌++◌, length, map, filter, fold, sum_by, Option, Some, None, inl, inr, refl, sym, ◌∙◌, ap, arith, zero-add}
+use Rattle.std.proofs.Common.{◌≡◌, ℕ, zero, suc, ◌+◌, ◌-◌, ◌*◌, ◌≤◌, true, false, cond, ℤ, pos, negsuc, ◌+ℤ◌, unsigned_abs, List, [], ◌∷◌, ◌++◌, length, map, sum_by, Option, Some, None, inl, inr, refl, sym, ◌∙◌, ap, arith, zero-add, length-append}
 use Rattle.std.specs.List.{range_with_len}
 use Rattle.std.proofs.lemmas.Bool.{cases_lt}
 use Rattle.std.proofs.lemmas.Int.{ints}
@@ -122,7 +122,7 @@ module _ (w : World) (a : ℕ) (c : Column) (d first s : ℕ) (sum number x : �
   pub measured_more : is_missing x ≡ false → unsigned_abs x ≤ LIMIT → IsMeasured w a c d first (s + 1) (sum +ℤ x) (number +ℤ pos 1)
   measured_more there within =
       let more : present_values (run w a c d first ((s + 1) - first)) ≡ present_values (run w a c d first (s - first)) ++ x ∷ [] =
-          ap (λ n. present_values (run w a c d first n)) next ∙ present_more w a c d first (s - first) s x at is there in
+      ap (λ n. present_values (run w a c d first n)) next ∙ present_more w a c d first (s - first) s x at is there in
       record {
         total = ap (λ t. t +ℤ x) so_far.total ∙ sym (ap total more ∙ total_more (present_values (run w a c d first (s - first))) x);
         count = ap (λ t. t +ℤ pos 1) so_far.count ∙ sym (ap (λ l. pos (length l)) more ∙ ap pos (length-append (present_values (run w a c d first (s - first))) (x ∷ [])));
@@ -133,7 +133,7 @@ module _ (w : World) (a : ℕ) (c : Column) (d first s : ℕ) (sum number x : �
   pub measured_same : is_missing x ≡ true → IsMeasured w a c d first (s + 1) sum number
   measured_same gone =
       let same : present_values (run w a c d first ((s + 1) - first)) ≡ present_values (run w a c d first (s - first)) =
-          ap (λ n. present_values (run w a c d first n)) next ∙ missing_more w a c d first (s - first) s x at is gone in
+      ap (λ n. present_values (run w a c d first n)) next ∙ missing_more w a c d first (s - first) s x at is gone in
       record {
         total = so_far.total ∙ sym (ap total same);
         count = so_far.count ∙ sym (ap (λ l. pos (length l)) same);
@@ -141,10 +141,14 @@ module _ (w : World) (a : ℕ) (c : Column) (d first s : ℕ) (sum number x : �
         few = omega (arith, so_far.few);
       }
 
--- at the end of the window
+-- at the end of the window the quotient is its mean
 pub measured_all : (w : World) (a : ℕ) (c : Column) (d size s : ℕ) (sum number : ℤ) → s ≡ d → IsMeasured w a c d (d - size) s sum number → quot sum number ≡ mean (bar_window w c size a (pos d))
 measured_all w a c d size s sum number end all =
     ap (λ t. quot t number) all.total
     ∙ ap (quot _) all.count
     ∙ ap (λ s. quot (total (present_values (run w a c d (d - size) (s - (d - size))))) (pos (count (run w a c d (d - size) (s - (d - size)))))) end
     ∙ ap (λ l. quot (total l) (pos (length l))) (sym (present-window w a c d size))
+
+-- and so are its steps
+pub counted_all : (w : World) (a : ℕ) (c : Column) (d size s now old : ℕ) → s ≡ d → now ≡ old + run_steps w a c d (d - size) (s - (d - size)) → now ≡ old + window_steps w c size a (pos d)
+counted_all w a c d size s now old end all = all ∙ ap (λ s. old + run_steps w a c d (d - size) (s - (d - size))) end ∙ ap (λ n. old + n) (sym (window-steps w a c d size))

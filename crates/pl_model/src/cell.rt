@@ -19,14 +19,14 @@ use std::sync::ledger::Ledger;
 pub enum PlainTerm {
     /// The column of the latest bar that is known: that of the session before.
     Latest(Column),
-    /// The mean of the column over so many sessions before, from 1 to 1,260 of them.
+    /// The mean of the column's present cells over so many sessions before, from 1 to 1,260 of them.
     SimpleMovingAverage(Column, u32),
 }
 
 /// The value of a term for the asset of a column on a session, in millionths; `MISSING` where the asset does not exist on
-/// the session, and where no bar of the window has a cell. Each bar is seen as of the session: changed by every adjustment
-/// that is effective after the bar's day and by the session's, and each of these changes is one step. Sessions before the
-/// first have no bars. It takes no memory.
+/// the session, and where no bar of the window has a cell. Each cell is as it is seen on the session: changed by every
+/// adjustment that acts on the column later than the bar's day and by the session's. Each of these is one step, also where
+/// the cell is missing. A window may begin before the first session: no bars stand there. It takes no memory.
 pub fn plain_cell<L: Ledger>(
     world: &World,
     term: PlainTerm,
@@ -38,9 +38,11 @@ pub fn plain_cell<L: Ledger>(
     requires window { HasWindow term }
     requires col { col < length world.now.assets.now }
     requires session { session < length world.now.sessions.now }
-    ensures value { value (world_of world.now) [] (term_of term) (sid_at world.now.assets.now col) (pos session) ≡ Number result }
+    ensures value { value (world_of world.now) [] (term_of term)
+        (sid_at world.now.assets.now col) (pos session) ≡ Number result }
     ensures cell { IsCell result }
-    ensures cost { steps.new ≡ steps.old + steps_of (world_of world.now) term (sid_at world.now.assets.now col) (pos session) }
+    ensures cost { steps.new ≡ steps.old + steps_of (world_of world.now) term
+        (sid_at world.now.assets.now col) (pos session) }
 {
     if !exists(world, col, session) {
         return MISSING;
@@ -74,9 +76,11 @@ fn latest<L: Ledger>(
     requires made { IsMade world.now }
     requires col { col < length world.now.assets.now }
     requires session { session < length world.now.sessions.now }
-    ensures value { result ≡ oldest (bar_window (world_of world.now) column 1 (sid_at world.now.assets.now col) (pos session)) }
+    ensures value { result ≡ oldest (bar_window (world_of world.now) column 1
+        (sid_at world.now.assets.now col) (pos session)) }
     ensures cell { IsCell result }
-    ensures cost { steps.new ≡ steps.old + window_steps (world_of world.now) column 1 (sid_at world.now.assets.now col) (pos session) }
+    ensures cost { steps.new ≡ steps.old + window_steps (world_of world.now) column 1
+        (sid_at world.now.assets.now col) (pos session) }
 {
     if session == 0 {
         MISSING
@@ -98,9 +102,11 @@ fn average<L: Ledger>(
     requires most { window ≤ 1_260 }
     requires col { col < length world.now.assets.now }
     requires session { session < length world.now.sessions.now }
-    ensures value { result ≡ mean (bar_window (world_of world.now) column window (sid_at world.now.assets.now col) (pos session)) }
+    ensures value { result ≡ mean (bar_window (world_of world.now) column window
+        (sid_at world.now.assets.now col) (pos session)) }
     ensures cell { IsCell result }
-    ensures cost { steps.new ≡ steps.old + window_steps (world_of world.now) column window (sid_at world.now.assets.now col) (pos session) }
+    ensures cost { steps.new ≡ steps.old + window_steps (world_of world.now) column window
+        (sid_at world.now.assets.now col) (pos session) }
 {
     let mut total = 0i128;
     let mut count = 0i128;
@@ -127,12 +133,21 @@ fn seen_cell<L: Ledger>(
     requires col { col < length world.now.assets.now }
     requires bar_session { bar_session < session }
     requires session { session < length world.now.sessions.now }
-    ensures value { result ≡ seen_cell (world_of world.now) (sid_at world.now.assets.now col) column (pos bar_session) (pos session) }
+    ensures value { result ≡ seen_cell (world_of world.now)
+        (sid_at world.now.assets.now col) column (pos bar_session) (pos session) }
     ensures cell { IsCell result }
-    ensures cost { steps.new ≡ steps.old + length (events (world_of world.now) (sid_at world.now.assets.now col) column (pos bar_session) (pos session)) }
+    ensures cost { steps.new ≡ steps.old + length (events (world_of world.now)
+        (sid_at world.now.assets.now col) column (pos bar_session) (pos session)) }
 {
     let cell = world.bars.get(col, bar_session, column);
     let bar_day = world.sessions.day(bar_session);
     let day = world.sessions.day(session);
-    seen_now(cell, bar_day, day, world.adjustments.of_col(col), column, steps)
+    seen_now(
+        cell,
+        bar_day,
+        day,
+        world.adjustments.of_col(col),
+        column,
+        steps,
+    )
 }

@@ -1,11 +1,9 @@
-use Rattle.std.proofs.Common.{rules, ◌≡◌, ◌+◌, ◌-◌, ◌≤◌, ◌∙◌, w64, ℤ, ◌+ℤ◌, pos, false, true, FitsSigned, to_z, of_z, arith, sym, ap, unsigned_abs}
-use Rattle.std.specs.Int.{w128}
-use Rattle.std.proofs.lemmas.Int.{ints, to_z-of_z}
-use Rattle.pl_spec.specs.Rounding.{LIMIT, is_missing}
+use Rattle.std.proofs.Common.{rules, ◌≡◌, ◌-◌, ◌≤◌, ◌∙◌, w64, FitsSigned, arith}
+use Rattle.std.proofs.lemmas.Int.{to_z-of_z}
 use Rattle.pl_spec.specs.Parts.{sid_at}
 use Rattle.pl_model.specs.Worlds.{world_of}
 use Rattle.pl_model.proofs.Bits.{is_present, is_gone, is_within, sum_exact, count_exact}
-use Rattle.pl_model.proofs.Runs.{run_steps, measured_more, measured_same, measured_all, steps_more, window-steps}
+use Rattle.pl_model.proofs.Runs.{counted_all, measured_more, measured_same, measured_all, steps_more}
 use Rattle.pl_model.proofs.cell.average.Goals as goal
 use Rattle.pl_model.proofs.cell.average.Goals.{then-cell, else-cell}
 
@@ -23,20 +21,20 @@ loop-bar_session-preserved g c =
     let steps = steps_more w a c.args.column d first s so_far.from in
     elim c.if-cell.branch [
       | then-cell v ↦
-        let there = is_present x fits v.if-cell.true in
-        let within = is_within x c.seen_cell-cell.ensures.cell there in
-        record {
-          from = omega (arith, so_far.from);
-          to = omega (arith, c.loop-bar_session-test.true);
-          measured = rw (v.total-is, v.count-is, sum_exact _ x (s - first) so_far.measured.bound few within, count_exact _ (s - first) so_far.measured.few few)
-            (measured_more w a c.args.column d first s _ _ x so_far.from so_far.measured c.seen_cell-cell.ensures.value there within);
-          cost = omega (arith, steps, so_far.cost, c.seen_cell-cell.ensures.cost);
-        }
+          let there = is_present x fits v.if-cell.true in
+          let within = is_within x c.seen_cell-cell.ensures.cell there in
+          record {
+            from = omega (arith, so_far.from);
+            to = omega (arith, c.loop-bar_session-test.true);
+            measured = rw (v.total-is, v.count-is, sum_exact _ x (s - first) so_far.measured.bound few within, count_exact _ (s - first) so_far.measured.few few)
+                (measured_more w a c.args.column d first s _ _ x so_far.from so_far.measured c.seen_cell-cell.ensures.value there within);
+            cost = omega (arith, steps, so_far.cost, c.seen_cell-cell.ensures.cost);
+          }
       | else-cell v ↦ record {
         from = omega (arith, so_far.from);
         to = omega (arith, c.loop-bar_session-test.true);
         measured = rw (v.total-is, v.count-is)
-          (measured_same w a c.args.column d first s _ _ x so_far.from so_far.measured c.seen_cell-cell.ensures.value (is_gone x fits v.if-cell.false));
+            (measured_same w a c.args.column d first s _ _ x so_far.from so_far.measured c.seen_cell-cell.ensures.value (is_gone x fits v.if-cell.false));
         cost = omega (arith, steps, so_far.cost, c.seen_cell-cell.ensures.cost);
       }
     ]
@@ -58,6 +56,4 @@ returns-clause-cost g c =
     let a = sid_at c.args.world.now.assets.now c.args.col in
     let d = c.args.session in
     let end : c.loop-bar_session.bar_session ≡ c.args.session = omega (arith, c.loop-bar_session-test.false, c.loop-bar_session.invariant.to) in
-    c.loop-bar_session.invariant.cost
-    ∙ ap (λ s. c.args.steps.now + run_steps w a c.args.column d (d - c.args.window) (s - (d - c.args.window))) end
-    ∙ ap (λ n. c.args.steps.now + n) (sym (window-steps w a c.args.column d c.args.window))
+    counted_all w a c.args.column d c.args.window c.loop-bar_session.bar_session _ _ end c.loop-bar_session.invariant.cost

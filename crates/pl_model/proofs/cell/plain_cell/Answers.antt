@@ -1,10 +1,10 @@
-use Rattle.std.proofs.Common.{rules, ◌≡◌, ◌+◌, ◌∙◌, [], pos, sym, ap, add-zero, w64, FitsSigned}
+use Rattle.std.proofs.Common.{rules, ◌+◌, ◌∙◌, [], pos, sym, ap, add-zero, w64, FitsSigned}
 use Rattle.std.proofs.lemmas.Int.{to_z-of_z}
 use Rattle.pl_spec.specs.Parts.{sid_at}
 use Rattle.pl_spec.specs.Value.{value}
 use Rattle.pl_spec.specs.Value.Value.{Number}
 use Rattle.pl_model.specs.Worlds.{world_of}
-use Rattle.pl_model.specs.PlainTerms.{steps_of, term_of}
+use Rattle.pl_model.specs.PlainTerms.{term_of}
 use Rattle.pl_model.proofs.Plain.{value-lacks, steps-lacks, latest-lives, average-lives, steps-lives}
 use Rattle.pl_model.proofs.cell.plain_cell.Goals as goal
 
@@ -25,12 +25,7 @@ returns-in-Latest-clause-value g c =
     ∙ ap Number (sym (to_z-of_z w64 _ fits))
 
 pub returns-in-Latest-clause-cost : goal.returns-in-Latest-clause-cost
-returns-in-Latest-clause-cost g c =
-    let w = world_of c.args.world.now in
-    let a = sid_at c.args.world.now.assets.now c.args.col in
-    c.latest.ensures.cost
-    ∙ ap (λ n. c.args.steps.now + n)
-    (sym (ap (λ t. steps_of w t a (pos c.args.session)) c.in-Latest.is ∙ steps-lives w a _ _ (sym c.exists.ensures ∙ c.if-not-exists.false)))
+returns-in-Latest-clause-cost g c = steps-lives _ _ _ c.args.term _ _ _ (sym c.exists.ensures ∙ c.if-not-exists.false) c.in-Latest.is c.latest.ensures.cost
 
 pub returns-in-SimpleMovingAverage-clause-value : goal.returns-in-SimpleMovingAverage-clause-value
 returns-in-SimpleMovingAverage-clause-value g c =
@@ -42,9 +37,4 @@ returns-in-SimpleMovingAverage-clause-value g c =
     ∙ ap Number (sym (to_z-of_z w64 _ fits))
 
 pub returns-in-SimpleMovingAverage-clause-cost : goal.returns-in-SimpleMovingAverage-clause-cost
-returns-in-SimpleMovingAverage-clause-cost g c =
-    let w = world_of c.args.world.now in
-    let a = sid_at c.args.world.now.assets.now c.args.col in
-    c.average.ensures.cost
-    ∙ ap (λ n. c.args.steps.now + n)
-    (sym (ap (λ t. steps_of w t a (pos c.args.session)) c.in-SimpleMovingAverage.is ∙ steps-lives w a _ _ (sym c.exists.ensures ∙ c.if-not-exists.false)))
+returns-in-SimpleMovingAverage-clause-cost g c = steps-lives _ _ _ c.args.term _ _ _ (sym c.exists.ensures ∙ c.if-not-exists.false) c.in-SimpleMovingAverage.is c.average.ensures.cost
