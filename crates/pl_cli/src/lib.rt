@@ -11,6 +11,8 @@ mod line;
 mod names;
 mod plain;
 mod plain_script;
+#[cfg(test)]
+mod plain_tests;
 mod range;
 mod rows;
 mod stages;
@@ -22,5 +24,5 @@ mod words;
 mod writing;
 
 pub use plain::plain_files_are_read;
-pub use plain_script::{PlainColumn, PlainTerm, plain_columns, plain_scripts_are_read};
+pub use plain_script::plain_scripts_are_read;
 pub use top::run_program;
