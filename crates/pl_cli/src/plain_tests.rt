@@ -46,7 +46,10 @@ fn reads_plain_scripts(rt: HostRuntime) -> Result<(), Fail> {
         (b"column a = SimpleMovingAverage(close, 2.5);", None),
         (b"column a = SimpleMovingAverage(close, -2);", None),
         (b"column a = SimpleMovingAverage(2, close);", None),
-        (b"column a = SimpleMovingAverage(close, window_length=2);", None),
+        (
+            b"column a = SimpleMovingAverage(close, window_length=2);",
+            None,
+        ),
         (b"column a = SimpleMovingAverage(close);", None),
         (b"column a = SimpleMovingAverage(close, 2, 3);", None),
         (b"column a = WeightedAverageValue(close, 2);", None),
