@@ -103,7 +103,7 @@ unfolding reach
 reach-is (Latest c) d = back d 1
 reach-is (SimpleMovingAverage c size) d = back d size
 
-least-from : (d : ℤ) (m : ℕ) (cs : List PlainColumn) → fold int_min (before d m) (map (λ c. reach (term_of c.term) d) cs) ≡ before d (fold (λ n c. max n (window_of c.term)) m cs)
+least-from : (d : ℤ) (m : ℕ) (cs : List PlainColumn) → fold int_min (before d m) (map (λ c. reach (term_of c.term) d) cs) ≡ before d (fold max m (map (λ c. window_of c.term) cs))
 least-from d m [] = refl
 least-from d m (c ∷ cs) =
     ap (λ r. fold int_min (int_min (before d m) r) (map (λ c. reach (term_of c.term) d) cs)) (reach-is c.term d)

@@ -149,4 +149,4 @@ abbrev pub pipeline_of : List PlainColumn → Pipeline
 pipeline_of cs = record { graph = graph_of cs; columns = numbered 0 cs; screen = None; names = [] }
 
 abbrev pub greatest_window : List PlainColumn → ℕ
-greatest_window cs = fold (λ n c. max n (window_of c.term)) 0 cs
+greatest_window cs = fold max 0 (map (λ c. window_of c.term) cs)

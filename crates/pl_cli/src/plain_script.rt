@@ -218,22 +218,6 @@ fn whole_window(millionths: u32) -> Option<u32>
     }
 }
 
-/// The most sessions that one of the columns looks back over.
-pub fn greatest_window(columns: &[PlainColumn]) -> u32
-    ensures { result ≡ spec.greatest_window columns.now }
-{
-    columns.iter().fold(0, |n, c| n.max(sessions_of(c.term)))
-}
-
-fn sessions_of(term: PlainTerm) -> u32
-    ensures { result ≡ spec.window_of term }
-{
-    match term {
-        PlainTerm::Latest(_) => 1,
-        PlainTerm::SimpleMovingAverage(_, sessions) => sessions,
-    }
-}
-
 /// A script is read as the columns that it has exactly where it is of the plain form with these columns.
 pub fn plain_scripts_are_read()
     ensures { PlainScriptsAreRead }
