@@ -1,6 +1,6 @@
 -- The pipeline of plain columns: its terms, how far they reach back, and the text of its rows.
-use Rattle.std.proofs.Common.{◌≡◌, ℕ, zero, suc, ◌+◌, ◌<◌, ◌≤◌, max, Bool, true, false, ℤ, pos, ◌≤ℤ◌, List, [], ◌∷◌, ◌++◌, length, map, fold, zip, slice_get, get_or, Option, Some, None, option_map, codes, refl, sym, ap, ◌∙◌, arith, append_assoc, append-nil, length-append, decimal}
-use Rattle.std.specs.List.{range_with_len, AllZip}
+use Rattle.std.proofs.Common.{◌≡◌, ℕ, ◌+◌, ◌<◌, ◌≤◌, max, Bool, true, false, ℤ, pos, List, [], ◌∷◌, ◌++◌, length, map, fold, slice_get, get_or, Some, option_map, codes, refl, sym, ap, ◌∙◌, arith, append_assoc, append-nil, length-append, decimal}
+use Rattle.std.specs.List.{AllZip}
 use Rattle.std.specs.Int.{int_min}
 use Rattle.std.specs.Int.RustNames.{int_lt}
 use Rattle.std.proofs.lemmas.Int.{ints, int_min_is}
@@ -17,9 +17,9 @@ use Rattle.pl_spec.specs.Kind.Kind.{Window}
 use Rattle.pl_spec.specs.Term.{Term, tree_over, trees_after, term_at}
 use Rattle.pl_spec.specs.Term.Term.{absent}
 use Rattle.pl_spec.specs.Graph.{least_of, reach}
-use Rattle.pl_spec.specs.Value.{Value, value}
+use Rattle.pl_spec.specs.Value.{value}
 use Rattle.pl_spec.specs.Value.Value.{Number}
-use Rattle.pl_spec.specs.Table.{NamedColumn, value_of, row}
+use Rattle.pl_spec.specs.Table.{value_of, row}
 use Rattle.pl_spec.specs.Text.{number_text, kind_at, header, row_fields, row_line}
 use Rattle.pl_cli.specs.Rows.{behind_commas}
 use Rattle.pl_model.specs.declared.cell.PlainTerm.{PlainTerm}
@@ -177,5 +177,5 @@ row-line-is w cs a d day xs is_day cells =
     let values = values-are w cs a (pos d) ∙ numbers-are w cs a (pos d) xs cells in
     let long : length xs ≡ length cs = AllZip-long (λ c x. value w [] (term_of c.term) a (pos d) ≡ Number x) cs xs cells in
     let fields : row_fields (pipeline_of cs) Csv (numbered 0 cs) (map (λ n. value_of w (pipeline_of cs) n.term a (pos d)) (numbered 0 cs)) ≡ map cell_text xs =
-        ap (row_fields (pipeline_of cs) Csv (numbered 0 cs)) values ∙ fields-from cs [] cs xs refl long in
+    ap (row_fields (pipeline_of cs) Csv (numbered 0 cs)) values ∙ fields-from cs [] cs xs refl long in
     rw (is_day, fields) refl

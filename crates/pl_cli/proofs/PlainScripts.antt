@@ -1,6 +1,6 @@
 -- Scripts of the plain form, and the columns of their statements.
-use Rattle.std.proofs.Common.{◌≡◌, ◌≢◌, ℕ, zero, suc, ◌+◌, ◌*◌, ◌/◌, ◌%◌, ◌<◌, ◌≤◌, ◌==◌, nat_le, Bool, true, false, ◌&&◌, ◌||◌, cond, ℤ, pos, negsuc, List, [], ◌∷◌, ◌++◌, length, map, take, drop, get_or, slice_get, Option, Some, None, option_map, bytes_eq, codes, refl, sym, ap, subst, ◌∙◌, arith, drop-cons, eq-eqb, length-append, length-take, length-drop}
-use Rattle.std.specs.List.{list_any, filter_map, cons_option, AllZip, AllPairs, IsDistinct, AllByRecursion}
+use Rattle.std.proofs.Common.{◌≡◌, ℕ, suc, ◌+◌, ◌*◌, ◌/◌, ◌%◌, ◌<◌, ◌≤◌, ◌==◌, nat_le, Bool, true, false, ◌&&◌, ◌||◌, cond, ℤ, pos, negsuc, List, [], ◌∷◌, ◌++◌, length, take, drop, get_or, Option, Some, None, option_map, bytes_eq, codes, refl, sym, ap, subst, ◌∙◌, arith, drop-cons, eq-eqb, length-append, length-take, length-drop}
+use Rattle.std.specs.List.{list_any, filter_map, cons_option, AllZip, IsDistinct, AllByRecursion}
 use Rattle.std.specs.Set.{distinct_count}
 use Rattle.std.proofs.lemmas.List.{map-append, length-map, take-append-drop, take_all, take_more}
 use Rattle.std.proofs.lemmas.List.Elements.{filter_map-append}
@@ -16,7 +16,7 @@ use Rattle.pl_spec.specs.declared.Column.{Column}
 use Rattle.pl_spec.specs.declared.Column.TheVariants.{OpenPrice, High, Low, Close, Volume}
 use Rattle.pl_spec.specs.Rounding.{MILLION}
 use Rattle.pl_grammar.specs.declared.Place.{Place}
-use Rattle.pl_grammar.specs.Tree.{Tree, number, text, name, call, prefix, binary, member, method, Args, no_args, arg}
+use Rattle.pl_grammar.specs.Tree.{Tree, number, name, call, member, Args, no_args, arg}
 use Rattle.pl_grammar.specs.Script as g
 use Rattle.pl_grammar.specs.Script.{Head, LetHead, ColumnHead, ScreenHead}
 use Rattle.pl_syntax.specs.declared.script.Statement.{Statement}
@@ -272,8 +272,8 @@ not-new xs i x cs c h e front shows old = not-plain (statements_of xs) (λ all p
     twice all plain =
         let back = filter_map plain_column (statements_of (drop (suc i) xs)) in
         let parts : all ≡ cs ++ c ∷ back =
-            sym (read-of all (statements_of xs) plain.each) ∙ columns-split plain_column xs i x h e
-            ∙ ap (λ o. filter_map plain_column (statements_of (take i xs)) ++ cons_option o back) shows ∙ ap (λ z. z ++ c ∷ back) (sym front) in
+        sym (read-of all (statements_of xs) plain.each) ∙ columns-split plain_column xs i x h e
+        ∙ ap (λ o. filter_map plain_column (statements_of (take i xs)) ++ cons_option o back) shows ∙ ap (λ z. z ++ c ∷ back) (sym front) in
         let names : names_of all ≡ names_of cs ++ c.name ∷ names_of back = ap names_of parts ∙ map-append (λ c. c.name) cs (c ∷ back) in
         let distinct : IsDistinct bytes_eq (names_of all) = IsDistinct-from_AllPairs bytes_eq-Decides (names_of all) plain.distinct in
         let new = new-behind c.name (names_of cs) (names_of back) (subst (IsDistinct bytes_eq) names distinct) in

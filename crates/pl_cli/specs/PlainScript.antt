@@ -1,6 +1,6 @@
 -- The plain form of a script: its statements are columns with names of their own, and each shows the latest bar of a bar
 -- column, or its mean over a window.
-use Rattle.std.specs.Prelude.{◌≡◌, ◌≢◌, ℕ, ◌*◌, ◌/◌, ◌%◌, ◌<◌, ◌≤◌, ◌==◌, nat_le, max, Bool, ◌&&◌, if◌then◌else◌, ℤ, pos, negsuc, List, [], ◌∷◌, length, map, fold, zip, Option, Some, None, option_map, bytes_eq, codes, AllPairs}
+use Rattle.std.specs.Prelude.{◌≡◌, ◌≢◌, ℕ, ◌*◌, ◌/◌, ◌%◌, ◌≤◌, ◌==◌, nat_le, max, Bool, ◌&&◌, if◌then◌else◌, ℤ, pos, negsuc, List, [], ◌∷◌, length, map, fold, zip, Option, Some, None, option_map, bytes_eq, codes, AllPairs}
 use Rattle.std.specs.List.{filter_map, range_with_len, AllZip}
 use Rattle.std.specs.Set.{distinct_count}
 use Rattle.pl_spec.specs.declared.Column.{Column}
