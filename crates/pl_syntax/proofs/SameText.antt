@@ -25,6 +25,7 @@ operand l e h = ap (λ k. placed_text (nat_le l k) (tree_text (bare e))) (bare_l
 
 mutual
   unfolding bare tree_text
+
   bare_text : (e : Tree) → tree_text (bare e) ≡ tree_text e
   bare_text (number p v) = refl
   bare_text (text p t) = refl
