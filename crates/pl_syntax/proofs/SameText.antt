@@ -9,7 +9,7 @@ use Rattle.pl_grammar.specs.Tree.{Tree, number, text, name, call, prefix, binary
 use Rattle.pl_grammar.specs.Printed.{tree_level}
 use Rattle.pl_grammar.specs.Places.{bare, bare_args}
 use Rattle.pl_grammar.specs.Script.{Head, LetHead, ColumnHead, ScreenHead, Statement}
-use Rattle.pl_grammar.specs.Whole.{are_sound, bare_head, bare_statement, bare_script}
+use Rattle.pl_grammar.specs.Whole.{are_sound, bare_head, bare_script}
 use Rattle.pl_tokens.specs.Sound.{is_written}
 use Rattle.pl_syntax.specs.Canonical.{prefix_text, binary_text, placed_text, comma_text, name_text, in_parentheses, tree_text, list_text, head_text, statement_text, statements_text, script_text}
 use Rattle.pl_syntax.specs.Spells.{Spells}
