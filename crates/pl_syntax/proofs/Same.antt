@@ -51,9 +51,10 @@ module _ {A : Type 0} {S : A → A → Type 0} {R : List A → List A → Type 0
       let n : suc i ≡ i + 1 = omega arith in
       let d : drop i xs ≡ x ∷ drop (i + 1) xs = drop-cons xs i x h ∙ (ap (λ z. z ∷ drop (suc i) xs) (sym e) ∙ ap (λ m. x ∷ drop m xs) n) in
       let w = whole z ys in
-      let b = r.both x z (drop (i + 1) xs) ys in
-      (λ g. (let p = b.0 (subst (λ l. R l (z ∷ ys)) d g) in (subst (S x) (sym f) p.0, subst (R (drop (i + 1) xs)) (sym w) p.1)),
-       λ g. subst (λ l. R l (z ∷ ys)) (sym d) (b.1 (subst (S x) f g.0, subst (R (drop (i + 1) xs)) w g.1)))
+      let b = r.both x z (drop (i + 1) xs) ys in (
+        λ g. (let p = b.0 (subst (λ l. R l (z ∷ ys)) d g) in (subst (S x) (sym f) p.0, subst (R (drop (i + 1) xs)) (sym w) p.1)),
+        λ g. subst (λ l. R l (z ∷ ys)) (sym d) (b.1 (subst (S x) f g.0, subst (R (drop (i + 1) xs)) w g.1)),
+      )
 
   pub next : (P : Type 0) (xs ys : List A) (i : ℕ) (x y : A) → i < length xs → x ≡ get_or xs i x → 1 ≤ length ys → y ≡ get_or ys 0 y → P ↔ R (drop i xs) ys → S x y → P ↔ R (drop (i + 1) xs) (take (length ys - 1) (drop 1 ys))
   next P xs ys i x y h e k f p s = let b = split xs ys i x y h e k f in (λ g. (b.0 (p.0 g)).1, λ g. p.1 (b.1 (s, g)))

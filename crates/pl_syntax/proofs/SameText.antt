@@ -9,7 +9,7 @@ use Rattle.pl_grammar.specs.Tree.{Tree, number, text, name, call, prefix, binary
 use Rattle.pl_grammar.specs.Printed.{tree_level}
 use Rattle.pl_grammar.specs.Places.{bare, bare_args}
 use Rattle.pl_grammar.specs.Script.{Head, LetHead, ColumnHead, ScreenHead, Statement}
-use Rattle.pl_grammar.specs.Whole.{are_sound, bare_head, bare_statement, bare_script}
+use Rattle.pl_grammar.specs.Whole.{are_sound, bare_head, bare_script}
 use Rattle.pl_tokens.specs.Sound.{is_written}
 use Rattle.pl_syntax.specs.Canonical.{prefix_text, binary_text, placed_text, comma_text, name_text, in_parentheses, tree_text, list_text, head_text, statement_text, statements_text, script_text}
 use Rattle.pl_syntax.specs.Spells.{Spells}
@@ -25,6 +25,7 @@ operand l e h = ap (λ k. placed_text (nat_le l k) (tree_text (bare e))) (bare_l
 
 mutual
   unfolding bare tree_text
+
   bare_text : (e : Tree) → tree_text (bare e) ≡ tree_text e
   bare_text (number p v) = refl
   bare_text (text p t) = refl

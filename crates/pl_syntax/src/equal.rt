@@ -92,13 +92,15 @@ fn same_expr(a: &Expr, b: &Expr) -> bool
                 args: ys,
             },
         ) => {
-            same_words(x, y) && same_expr(d, e) && match xs {
-                Some(xs) => match ys {
-                    Some(ys) => same_args(xs, ys),
-                    None => false,
-                },
-                None => ys.is_none(),
-            }
+            same_words(x, y)
+                && same_expr(d, e)
+                && match xs {
+                    Some(xs) => match ys {
+                        Some(ys) => same_args(xs, ys),
+                        None => false,
+                    },
+                    None => ys.is_none(),
+                }
         }
         _ => false,
     }
@@ -134,12 +136,29 @@ fn same_statement(a: &Statement, b: &Statement) -> bool
     ensures { (result ≡ true) ↔ (bare_statement (statement_of a.now) ≡ bare_statement (statement_of b.now)) }
 {
     match (a, b) {
-        (Statement::Let { name: x, expr: d, .. }, Statement::Let { name: y, expr: e, .. }) => {
-            same_words(x, y) && same_expr(d, e)
-        }
         (
-            Statement::Column { name: x, expr: d, .. },
-            Statement::Column { name: y, expr: e, .. },
+            Statement::Let {
+                name: x,
+                expr: d,
+                ..
+            },
+            Statement::Let {
+                name: y,
+                expr: e,
+                ..
+            },
+        ) => { same_words(x, y) && same_expr(d, e) }
+        (
+            Statement::Column {
+                name: x,
+                expr: d,
+                ..
+            },
+            Statement::Column {
+                name: y,
+                expr: e,
+                ..
+            },
         ) => same_words(x, y) && same_expr(d, e),
         (Statement::Screen { expr: d, .. }, Statement::Screen { expr: e, .. }) => same_expr(d, e),
         _ => false,

@@ -61,22 +61,13 @@ pub(crate) fn level_of(sign: BinarySign) -> u8
     }
 }
 
-/// The level that a binary sign asks of its left operand.
+/// The level that a binary sign asks of its left operand: its own, but that comparisons don't chain.
 pub(crate) fn left_level_of(sign: BinarySign) -> u8
     ensures { result ≡ left_level sign }
 {
-    match sign {
-        BinarySign::Or => 1,
-        BinarySign::And => 2,
-        BinarySign::Less
-        | BinarySign::LessEqual
-        | BinarySign::Greater
-        | BinarySign::GreaterEqual
-        | BinarySign::Equal
-        | BinarySign::NotEqual
-        | BinarySign::Add
-        | BinarySign::Sub => 5,
-        BinarySign::Mul | BinarySign::Div => 6,
+    match level_of(sign) {
+        4 => 5,
+        level => level,
     }
 }
 

@@ -38,6 +38,14 @@ fn finds_the_first_fault(rt: HostRuntime) -> Result<(), Fail> {
         (b"column let = 1;", Some(SyntaxError::Unexpected(at(2, 8)))),
         (b"pipeline 1;", Some(SyntaxError::Unexpected(at(2, 1)))),
         (b"screen a", Some(SyntaxError::Unexpected(at(2, 9)))),
+        (
+            b"column x = (close.latest",
+            Some(SyntaxError::Unexpected(at(2, 25))),
+        ),
+        (
+            b"# \xc3\xa9\n\tscreen \xc3",
+            Some(SyntaxError::BadByte(at(3, 9))),
+        ),
         (b"screen a;\n# the end", None),
         (b"screen a ! b;", Some(SyntaxError::BadByte(at(2, 10)))),
         (b"screen \"a\nb\";", Some(SyntaxError::BadByte(at(2, 10)))),
@@ -68,6 +76,21 @@ fn finds_the_first_fault(rt: HostRuntime) -> Result<(), Fail> {
         ),
     ] {
         assert_eq!(rt; fault_of(&rt, text)?, want);
+    }
+    Ok(())
+}
+
+#[test]
+fn reads_the_first_line(rt: HostRuntime) -> Result<(), Fail> {
+    for (text, want) in [
+        (b"pipeline 1.0 ; # the end".as_slice(), None),
+        (b"", Some(SyntaxError::Unexpected(at(1, 1)))),
+        (b"#", Some(SyntaxError::Unexpected(at(1, 2)))),
+        (b"pipeline 2;", Some(SyntaxError::Unexpected(at(1, 10)))),
+        (b"pipeline 1\r\n", Some(SyntaxError::Unexpected(at(2, 1)))),
+        (b"screen a;", Some(SyntaxError::Unexpected(at(1, 1)))),
+    ] {
+        assert_eq!(rt; parse(rt.alloc(), text).err(), want);
     }
     Ok(())
 }
@@ -109,20 +132,13 @@ fn refuses_long_files(rt: HostRuntime) -> Result<(), Fail> {
     Ok(())
 }
 
-// Prints `pipeline 1;`, a line end and these bytes, without the first line.
-fn printed(rt: &HostRuntime, text: &[u8]) -> Result<Vec<u8>, Fail> {
+// The script of `pipeline 1;`, a line end and these bytes.
+fn script_of(rt: &HostRuntime, text: &[u8]) -> Result<Script, Fail> {
     let alloc = rt.alloc();
     let mut bytes = Vec::new(alloc);
     bytes.extend_from_slice(b"pipeline 1;\n")?;
     bytes.extend_from_slice(text)?;
-    let script = parse(alloc, &bytes)?;
-    let mut out = Vec::new(alloc);
-    if let Ok(text) = print(alloc, &script) {
-        if let Some(rest) = text.get(12..) {
-            out.extend_from_slice(rest)?;
-        }
-    }
-    Ok(out)
+    Ok(parse(alloc, &bytes)?)
 }
 
 #[test]
@@ -153,13 +169,62 @@ fn prints_the_canonical_text(rt: HostRuntime) -> Result<(), Fail> {
             b"column z = 1.abs() + a.b.c(\"x y\", mask=d != e);\n",
         ),
         (
+            b"column x = ((close.latest)+1)*2;",
+            b"column x = (close.latest + 1) * 2;\n",
+        ),
+        (
+            b"column x=a<b|c<=d&e>f|~(g>=h)==i;column y=j!=k/(l/m);",
+            b"column x = a < b | c <= d & e > f | ~(g >= h) == i;\ncolumn y = j != k / (l / m);\n",
+        ),
+        (
+            b"column x = f ( a = ( - 1 ) , \"#;=\" ) . g . h ( ) . i ( ( j ) == k );",
+            b"column x = f(a=-1, \"#;=\").g.h().i(j == k);\n",
+        ),
+        (
             b"column n = f(007.250, 0.0000004, 1.9999995, 0.100000);",
             b"column n = f(7.25, 0, 2, 0.1);\n",
         ),
+        (
+            b"column n = f(100000000000, 99999999999.9999994, 0.0000005, 10.000010);",
+            b"column n = f(100000000000, 99999999999.999999, 0.000001, 10.00001);\n",
+        ),
         (b"", b""),
     ] {
-        assert_eq!(rt; printed(&rt, text)?.as_slice(), want);
-        assert_eq!(rt; printed(&rt, want)?.as_slice(), want);
+        let script = script_of(&rt, text)?;
+        let printed = print(rt.alloc(), &script)?;
+        assert!(rt; printed.get(12..) == Some(want));
+        assert!(rt; parse(rt.alloc(), &printed)? == script);
+    }
+    Ok(())
+}
+
+#[test]
+fn compares_scripts(rt: HostRuntime) -> Result<(), Fail> {
+    for (text, other, want) in [
+        (
+            b"screen (a);".as_slice(),
+            b"\n screen a ;# end".as_slice(),
+            true,
+        ),
+        (b"screen a - b - c;", b"screen (a-b)-c;", true),
+        (b"screen a - b - c;", b"screen a - (b - c);", false),
+        (
+            b"screen f(x=1.50, \"s\");",
+            b"screen f( x = 1.5,\"s\" );",
+            true,
+        ),
+        (b"screen f(x=1);", b"screen f(y=1);", false),
+        (b"screen f(x=1);", b"screen f(1);", false),
+        (b"screen f(1);", b"screen f(1, 1);", false),
+        (b"screen f;", b"screen f();", false),
+        (b"screen a.f;", b"screen a.f();", false),
+        (b"screen \"f\";", b"screen f;", false),
+        (b"let a = 1;", b"column a = 1;", false),
+        (b"let a = 1;", b"let b = 1;", false),
+        (b"screen a; screen b;", b"screen b; screen a;", false),
+        (b"screen a;", b"screen a; screen a;", false),
+    ] {
+        assert_eq!(rt; script_of(&rt, text)? == script_of(&rt, other)?, want);
     }
     Ok(())
 }

@@ -1,5 +1,5 @@
 -- What names, strings and numbers can be written as tokens.
-use Rattle.std.specs.Prelude.{ℕ, Bool, true, false, nat_le, ℤ, pos, negsuc, List}
+use Rattle.std.specs.Prelude.{Bool, true, false, nat_le, ℤ, pos, negsuc}
 use Rattle.std.specs.List.{list_all}
 use Rattle.pl_spec.specs.Rounding.{LIMIT}
 use Rattle.pl_grammar.specs.Tree as t

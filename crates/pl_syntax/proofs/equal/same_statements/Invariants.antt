@@ -1,4 +1,4 @@
-use Rattle.std.proofs.Common.{◌≡◌, ◌↔◌, drop}
+use Rattle.std.proofs.Common.{◌↔◌, drop}
 use Rattle.pl_syntax.proofs.Same.{SameStatements}
 use Rattle.pl_syntax.proofs.equal.same_statements.Given as goal
 
