@@ -9,7 +9,8 @@ use Rattle.pl_spec.specs.World.{World, day_of, lives_on}
 use Rattle.pl_spec.specs.Parts.{sid_at}
 use Rattle.pl_spec.specs.Table.{Pipeline, row, session_rows, table, is_kept}
 use Rattle.pl_spec.specs.Text.{header, row_line, text}
-use Rattle.pl_cli.specs.PlainPipeline.{pipeline_of}
+use Rattle.pl_cli.specs.declared.plain_script.PlainColumn.{PlainColumn}
+use Rattle.pl_cli.specs.PlainScript.{pipeline_of}
 
 -- the lines of the assets that live on a day
 abbrev pub lines_of : World → Pipeline → ℕ → ℤ → List AssetRow → List ℕ
@@ -53,9 +54,9 @@ all-kept w p d [] = refl
 all-kept w p d (s ∷ ss) = ap (λ xs. s ∷ xs) (all-kept w p d ss)
 
 -- without a screen, the lines of a session are those of the assets that live on its day
-pub lines-session : (w : World) (names : List (List ℕ)) (d : ℕ) (day : ℤ) → day_of w (pos d) ≡ Some day
-    → lines_of w (pipeline_of names) d day w.assets ≡ flat_map (row_line w (pipeline_of names) Csv) (session_rows w (pipeline_of names) (pos d))
-lines-session w names d day e = rw (all-kept w (pipeline_of names) (pos d) _, e) refl
+pub lines-session : (w : World) (cs : List PlainColumn) (d : ℕ) (day : ℤ) → day_of w (pos d) ≡ Some day
+    → lines_of w (pipeline_of cs) d day w.assets ≡ flat_map (row_line w (pipeline_of cs) Csv) (session_rows w (pipeline_of cs) (pos d))
+lines-session w cs d day e = rw (all-kept w (pipeline_of cs) (pos d) _, e) refl
 
 -- ---- a table, one session after the other
 

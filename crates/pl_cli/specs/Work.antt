@@ -186,7 +186,7 @@ adjustments_steps assets lists None = []
 adjustments_steps assets lists (Some name) = record { reads = Some (Store name); fault = rows_rule assets lists name } ∷ []
 
 -- Each file is read whole and judged before the next one is begun, and the adjustments come last.
-abbrev pub data_steps : Files → Lists → RunRequest → List Step
+unfoldable pub data_steps : Files → Lists → RunRequest → List Step
 data_steps files lists q =
     let days = days_held files q.sessions in
     let assets = assets_held files q.assets in

@@ -151,9 +151,9 @@ pub fn read_labels<'a, S: Shelf>(
     assets: &Assets,
 ) -> Result<Labels, Stop<'a>>
     ensures ends { ForSome (S.holds shelf.old) (λ files.
-        StageEnds (S.sound shelf.old) true (labels_steps assets.now files (option_map (λ n. n.now) name)) result) }
+        StageEnds (S.sound shelf.old) true (labels_steps assets.now files (option_map (λ n. n.now) name.entry)) result) }
     ensures exact { ForSome (S.holds shelf.old) (λ files.
-        IfOk result (λ labels. labels_held assets.now files (option_map (λ n. n.now) name) ≡ labels)) }
+        IfOk result (λ labels. labels_held assets.now files (option_map (λ n. n.now) name.entry) ≡ labels)) }
     ensures cols { IfOk result (λ labels. All (λ r. r.col < length assets.now) labels.rows) }
     ensures risen { IfErr result (IsRisen (Rose (S.faults shelf.old) (S.faults shelf.new)) ⊥) }
     ensures later { S.faults shelf.old ≤ S.faults shelf.new }

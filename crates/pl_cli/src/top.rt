@@ -1,6 +1,5 @@
 // The top call.
 ghost use Rattle.std.specs.Prelude.{◌≡◌, ◌≤◌, ◌⊎◌, ℕ, List, None, Err, true, map, string_bytes, length, IfOk, IfErr, IsTrue, IsSome, codes, decimal, [], ◌∷◌, ◌++◌};
-ghost use Rattle.std.specs.Fmt.{signed_decimal};
 ghost use Rattle.pl_outside.specs.Counts.{Rose};
 ghost use Rattle.pl_outside.specs.Taken.{TakesAll, TakesPrefix};
 ghost use Rattle.pl_cli.specs.Request.{request, adjustments_of};
@@ -10,11 +9,11 @@ ghost use Rattle.pl_cli.specs.Fault.{table_text};
 ghost use Rattle.pl_cli.specs.Ends.{Ends, EndsJudged, EndsForMemory, IsTold, CommandEnds, IsCaused, stop_line, end_status, end_line, is_stopped};
 
 use crate::commands::{fmt_command, run_command};
-use crate::stop::{End, Refusal, RowFault, Stop, SyntaxFault};
+use crate::stop::{End, Refusal, Stop};
 use crate::words::{Request, read_words};
+use itoa::Buffer;
 use pl_fixed::Steps;
 use pl_outside::{AdjustKeeper, Shelf, Sink, Table, write_bytes};
-use pl_syntax::Place;
 use std::alloc::{AllocError, Global};
 use std::sync::ledger::Ledger;
 
@@ -159,14 +158,19 @@ fn refusal_line(alloc: Global, refusal: Refusal<'_>) -> Result<String, AllocErro
 {
     match refusal {
         Refusal::Unbuilt => format!(in alloc; "unbuilt\n"),
-        Refusal::Syntax { name, place, fault } => syntax_line(alloc, name, place, fault),
+        Refusal::Syntax { name, place, fault } => {
+            syntax_line(alloc, name, place.line, place.col, fault.name())
+        }
         Refusal::Data { name, line, fault } => data_line(alloc, name, line, fault.name()),
         Refusal::Row {
             name,
             table,
             id,
             fault,
-        } => row_line(alloc, name, table, id, fault),
+        } => {
+            let mut buffer = Buffer::new();
+            row_line(alloc, name, table_name(table), buffer.format(id), fault.name())
+        }
         Refusal::NoSession { date } => format!(in alloc; "range: NotSession {date}\n"),
         Refusal::Backwards => format!(in alloc; "range: Backwards\n"),
         Refusal::TooEarly { reach } => format!(in alloc; "range: TooEarly {reach}\n"),
@@ -187,28 +191,26 @@ fn data_line(alloc: Global, name: &str, line: u32, fault: &str) -> Result<String
 fn syntax_line(
     alloc: Global,
     name: &str,
-    place: Place,
-    fault: SyntaxFault,
+    line: u32,
+    col: u32,
+    fault: &str,
 ) -> Result<String, AllocError>
-    ensures { IfOk result (λ text. string_bytes text ≡ stop_line (Stop.Judged (Refusal.Syntax name.entry place fault))) }
+    ensures { IfOk result (λ text. string_bytes text
+        ≡ name.now ++ codes ":" ++ decimal line ++ codes ":" ++ decimal col ++ codes ": syntax " ++ fault.now ++ 10 ∷ []) }
 {
-    let line = place.line;
-    let col = place.col;
-    let fault = fault.name();
     format!(in alloc; "{name}:{line}:{col}: syntax {fault}\n")
 }
 
 fn row_line(
     alloc: Global,
     name: &str,
-    table: Table,
-    id: i64,
-    fault: RowFault,
+    table: &str,
+    id: &str,
+    fault: &str,
 ) -> Result<String, AllocError>
-    ensures { IfOk result (λ text. string_bytes text ≡ stop_line (Stop.Judged (Refusal.Row name.entry table id fault))) }
+    ensures { IfOk result (λ text. string_bytes text
+        ≡ name.now ++ codes ":" ++ table.now ++ codes ":" ++ id.now ++ codes ": data " ++ fault.now ++ 10 ∷ []) }
 {
-    let table = table_name(table);
-    let fault = fault.name();
     format!(in alloc; "{name}:{table}:{id}: data {fault}\n")
 }
 

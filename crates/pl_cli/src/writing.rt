@@ -1,5 +1,5 @@
 // The table, each line of it written in one piece.
-ghost use Rattle.std.specs.Prelude.{◌≡◌, ◌≤◌, ◌<◌, ◌+◌, ◌++◌, pos, length, flat_map, All};
+ghost use Rattle.std.specs.Prelude.{◌≡◌, ◌≤◌, ◌<◌, ◌+◌, ◌*◌, ◌++◌, pos, length, flat_map, All};
 ghost use Rattle.pl_spec.specs.Parts.{sid_at};
 ghost use Rattle.pl_spec.specs.Table.{row, session_rows};
 ghost use Rattle.pl_spec.specs.Text.{row_line};
@@ -40,12 +40,12 @@ fn write_session<O: Sink, L: Ledger>(
     steps: &mut Steps<L>,
 ) -> Result<(), Failed>
     requires loaded { IsLoaded loaded.now }
-    requires session { session < length loaded.now.data.sessions }
+    requires session { session < length loaded.now.parts.sessions }
     ensures { Writes O.taken O.faults O.sound O.room out.old out.new
         (flat_map (row_line (loaded_world loaded.now) (loaded_pipeline loaded.now) Csv) (session_rows (loaded_world loaded.now) (loaded_pipeline loaded.now) (pos session))) result }
 {
-    let assets = &loaded.data.assets;
-    let day = loaded.data.sessions.day(session);
+    let assets = &loaded.parts.assets;
+    let day = loaded.parts.sessions.day(session);
     for col in 0..assets.len() {
         if assets.exists(col, day) {
             write_row(loaded, session, col, out, steps)?;
@@ -63,15 +63,15 @@ fn write_row<O: Sink, L: Ledger>(
     steps: &mut Steps<L>,
 ) -> Result<(), Failed>
     requires loaded { IsLoaded loaded.now }
-    requires session { session < length loaded.now.data.sessions }
-    requires col { col < length loaded.now.data.assets }
+    requires session { session < length loaded.now.parts.sessions }
+    requires col { col < length loaded.now.parts.assets }
     ensures { Writes O.taken O.faults O.sound O.room out.old out.new
         (row_line (loaded_world loaded.now) (loaded_pipeline loaded.now) Csv
-        (row (loaded_world loaded.now) (loaded_pipeline loaded.now) (pos session) (sid_at loaded.now.data.assets col))) result }
+        (row (loaded_world loaded.now) (loaded_pipeline loaded.now) (pos session) (sid_at loaded.now.parts.assets col))) result }
 {
     let mut line = Line::new();
-    put_date(&mut line, loaded.data.sessions.day(session));
-    put_sid(&mut line, loaded.data.assets.sid(col));
+    put_date(&mut line, loaded.parts.sessions.day(session));
+    put_sid(&mut line, loaded.parts.assets.sid(col));
     put_cells(&mut line, loaded, session, col, steps);
     line.put(b"\n");
     write_bytes(out, line.as_slice())
@@ -87,12 +87,12 @@ fn put_cells<L: Ledger>(
 )
     requires room { length line.old + 21 * length loaded.now.columns.items ≤ 2_047 }
     requires loaded { IsLoaded loaded.now }
-    requires session { session < length loaded.now.data.sessions }
-    requires col { col < length loaded.now.data.assets }
-    ensures text { line.new ≡ line.old ++ cell_fields (loaded_world loaded.now) loaded.now.columns.items (sid_at loaded.now.data.assets col) (pos session) }
+    requires session { session < length loaded.now.parts.sessions }
+    requires col { col < length loaded.now.parts.assets }
+    ensures text { line.new ≡ line.old ++ cell_fields (loaded_world loaded.now) loaded.now.columns.items (sid_at loaded.now.parts.assets col) (pos session) }
     ensures within { length line.new ≤ length line.old + 21 * length loaded.now.columns.items }
 {
-    let world = loaded.data.world();
+    let world = loaded.parts.world();
     for column in &loaded.columns {
         put_cell(line, plain_cell(&world, column.term, col, session, steps));
     }
