@@ -26,10 +26,10 @@ use Rattle.pl_model.specs.declared.cell.PlainTerm.TheVariants.{Latest, SimpleMov
 use Rattle.pl_model.specs.PlainTerms.{HasWindow}
 use Rattle.pl_cli.specs.declared.stop.Refusal.TheVariants as refusals
 use Rattle.pl_cli.specs.declared.plain_script.PlainColumn.{PlainColumn}
-use Rattle.pl_cli.specs.PlainScript.{Shows, IsColumn, plain_columns, pipeline_of}
+use Rattle.pl_cli.specs.PlainScript.{Shows, IsColumn, plain_columns}
 use Rattle.pl_cli.specs.Misspelled.{error_fault}
 use Rattle.pl_cli.specs.Step.{Step, first_fault, file, file_fault, rule, no_rule, bytes_in}
-use Rattle.pl_cli.specs.Work.{fault_in, fault_said, form_rule, statements_held, pipeline_held}
+use Rattle.pl_cli.specs.Work.{fault_in, fault_said, form_rule, statements_held, columns_held}
 use Rattle.pl_cli.proofs.PlainScripts.{scripts-read}
 use Rattle.pl_cli.specs.Ends.{IsStop, StageEnds, IsRisen, told_by, fault_of}
 
@@ -110,8 +110,8 @@ pub form-memory : {T : Type 0} {s k : Bool} (held : List Statement) → StageEnd
 form-memory held = record { passed = tt; stopped = tt }
 
 pub columns-held : (files : Files) (name : List ℕ) (statements : List Statement) (columns : List PlainColumn) → statements_held files name ≡ statements → plain_columns statements ≡ Some columns
-    → pipeline_held files name ≡ pipeline_of columns
-unfolding pipeline_held
+    → columns_held files name ≡ columns
+unfolding columns_held
 columns-held files name statements columns e h = rw (e, h) refl
 
 windows-in : (cs : List PlainColumn) (ss : List Statement) → AllZip IsColumn cs ss → All (λ c. HasWindow c.term) cs

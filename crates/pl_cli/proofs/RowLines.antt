@@ -1,7 +1,10 @@
 -- The line of a row.
 use Rattle.std.proofs.Common.{◌≡◌, ℕ, ◌+◌, ◌<◌, Bool, true, false, ◌&&◌, if◌then◌else◌, ℤ, pos, List, [], ◌∷◌, ◌++◌, length, take, get_or, map, flat_map, Some, refl, sym, ap, ◌∙◌, append_assoc, decimal}
 use Rattle.std.specs.List.{AllZip}
+use Rattle.std.specs.Prelude.{sum_by}
+use Rattle.std.proofs.Math.Nat.{zero-add}
 use Rattle.std.proofs.lemmas.Grind.{flat_map-append}
+use Rattle.std.proofs.lemmas.List.Sums.{sum_by-append}
 use Rattle.std.proofs.lemmas.List.{map-append, take_more}
 use Rattle.pl_spec.specs.declared.Format.TheVariants.{Csv}
 use Rattle.pl_spec.specs.Dates.{date_text}
@@ -13,7 +16,7 @@ use Rattle.pl_spec.specs.Table.{row}
 use Rattle.pl_spec.specs.Text.{row_line}
 use Rattle.pl_model.specs.declared.cell.PlainTerm.{PlainTerm}
 use Rattle.pl_model.specs.declared.cell.PlainTerm.TheVariants.{Latest, SimpleMovingAverage}
-use Rattle.pl_model.specs.PlainTerms.{term_of}
+use Rattle.pl_model.specs.PlainTerms.{term_of, steps_of}
 use Rattle.pl_cli.specs.declared.plain_script.PlainColumn.{PlainColumn}
 use Rattle.pl_cli.specs.PlainScript.{pipeline_of}
 use Rattle.pl_cli.specs.Rows.{behind_commas, cells_of, cell_fields}
@@ -65,3 +68,10 @@ cells-more w cs i c a d x h e v =
     ∙ ap (λ z. behind_commas (map cell_text z)) cells
     ∙ ap behind_commas (map-append cell_text (cells_of w (take i cs) a d) (x ∷ []))
     ∙ flat_map-append (λ (f : List ℕ). (44 ∷ []) ++ f) (map cell_text (cells_of w (take i cs) a d)) (cell_text x ∷ [])
+
+pub steps-more : (w : World) (cs : List PlainColumn) (i : ℕ) (c : PlainColumn) (a : ℕ) (d : ℤ) → i < length cs → c ≡ get_or cs i c
+    → sum_by (λ c. steps_of w c.term a d) (take (i + 1) cs) ≡ sum_by (λ c. steps_of w c.term a d) (take i cs) + steps_of w c.term a d
+steps-more w cs i c a d h e =
+    let next : take (i + 1) cs ≡ take i cs ++ c ∷ [] = take_more cs i c h ∙ ap (λ z. take i cs ++ z ∷ []) (sym e) in
+    ap (λ (z : List PlainColumn). sum_by (λ c. steps_of w c.term a d) z) next ∙ sum_by-append (λ (c : PlainColumn). steps_of w c.term a d) (take i cs) (c ∷ [])
+    ∙ ap (λ (n : ℕ). sum_by (λ c. steps_of w c.term a d) (take i cs) + n) (zero-add (steps_of w c.term a d))

@@ -9,6 +9,7 @@ use Rattle.pl_model.specs.PlainTerms.{HasWindow}
 use Rattle.pl_cli.specs.declared.load.Parts.{Parts}
 use Rattle.pl_cli.specs.declared.load.Loaded.{Loaded}
 use Rattle.pl_cli.specs.PlainScript.{pipeline_of}
+use Rattle.pl_cli.specs.Rows.{rows_cost}
 
 abbrev pub parts_world : Parts → World
 parts_world p = world_of p.sessions p.assets p.labels.rows p.labels.texts p.bars p.adjustments
@@ -21,6 +22,9 @@ loaded_pipeline l = pipeline_of l.columns.items
 
 abbrev pub loaded_text : Loaded → List ℕ
 loaded_text l = text (loaded_world l) (loaded_pipeline l) Csv (table (loaded_world l) (loaded_pipeline l) l.from l.to)
+
+abbrev pub loaded_cost : Loaded → ℕ
+loaded_cost l = rows_cost (loaded_world l) l.columns.items (table (loaded_world l) (loaded_pipeline l) l.from l.to)
 
 -- the parts were made for one another
 pub record AreMade (p : Parts) : Type 0 where

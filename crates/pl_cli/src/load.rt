@@ -2,10 +2,10 @@
 ghost use Rattle.std.specs.Prelude.{◌≡◌, ◌≤◌, ℕ, List, Option, Some, true, IsSome, IfOk, IfErr};
 ghost use Rattle.std.specs.Option.{ForSome};
 ghost use Rattle.pl_outside.specs.Counts.{Rose};
-ghost use Rattle.pl_cli.specs.Work.{ForTold, data_steps, run_steps, run_text, world_held};
+ghost use Rattle.pl_cli.specs.Work.{ForTold, data_steps, run_steps, run_text, run_cost, world_held};
 ghost use Rattle.pl_cli.specs.Ends.{StageEnds, IsRisen};
 ghost use Rattle.pl_cli.specs.Reading.{run_of};
-ghost use Rattle.pl_cli.specs.Loads.{parts_world, loaded_text, AreMade, IsLoaded};
+ghost use Rattle.pl_cli.specs.Loads.{parts_world, loaded_text, loaded_cost, AreMade, IsLoaded};
 
 use crate::files::{read_assets, read_bars, read_columns, read_labels, read_sessions};
 use crate::header::make_header;
@@ -72,6 +72,8 @@ pub fn load<'a, S: Shelf, K: AdjustKeeper>(
         StageEnds (S.sound shelf.old) (K.sound keeper.old) (run_steps files lists (run_of request.now)) result) }
     ensures text { ForTold (run_of request.now).options.adjustments (S.holds shelf.old) (K.lists keeper.old) (λ files lists.
         IfOk result (λ l. loaded_text l ≡ run_text files lists (run_of request.now))) }
+    ensures cost { ForTold (run_of request.now).options.adjustments (S.holds shelf.old) (K.lists keeper.old) (λ files lists.
+        IfOk result (λ l. loaded_cost l ≡ run_cost files lists (run_of request.now))) }
     ensures loaded { IfOk result IsLoaded }
     ensures risen { IfErr result (IsRisen (Rose (S.faults shelf.old) (S.faults shelf.new)) (Rose (K.faults keeper.old) (K.faults keeper.new))) }
 {

@@ -8,7 +8,7 @@ returns-in-Err-clause-ends g c = λ files lists told listed.
 
 pub returns-clause-ends : goal.returns-clause-ends
 returns-clause-ends g c = λ files lists told listed.
-    let w = writes-over (c.in-Ok.ensures.text files lists told listed) c.in-Err-write_table.ensures in
+    let w = writes-over (c.in-Ok.ensures.text files lists told listed) c.in-Err-write_table.ensures.writes in
     record {
       passed = tt;
       written = tt;

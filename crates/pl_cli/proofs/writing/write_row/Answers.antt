@@ -6,8 +6,8 @@ use Rattle.pl_cli.specs.Loads.{loaded_world}
 use Rattle.pl_cli.proofs.RowLines.{written}
 use Rattle.pl_cli.proofs.writing.write_row.Goals as goal
 
-pub returns : goal.returns
-returns g c =
+pub returns-clause-writes : goal.returns-clause-writes
+returns-clause-writes g c =
     let l = c.args.loaded.now in
     let fits : FitsSigned w32 c.day.result = search rules in
     let date = simp to_z-of_z at c.put_date.ensures.text in
