@@ -1,5 +1,5 @@
 -- The step of a file that was read, and the rows that it holds.
-use Rattle.std.proofs.Common.{◌≡◌, ◌≤◌, ◌<◌, true, IsSomeAnd, ℕ, List, [], ◌∷◌, Bool, false, nat_lt, length, Option, Some, None, option_map, unwrap_or, IfSome, Result, Ok, Err, refl, sym, ap, arith, ◌∙◌}
+use Rattle.std.proofs.Common.{◌≡◌, ◌≤◌, ◌<◌, true, IsSomeAnd, ℕ, List, [], ◌∷◌, Bool, false, nat_lt, length, All, Option, Some, None, option_map, unwrap_or, IfSome, Result, Ok, Err, refl, sym, ap, arith, ◌∙◌}
 use Rattle.std.specs.Option.{option_or}
 use Rattle.std.specs.Result.{result_unwrap_or}
 use Rattle.std.proofs.lemmas.Bool.Decides.{nat_tests}
@@ -7,11 +7,30 @@ use Rattle.pl_spec.specs.Reading as reading
 use Rattle.pl_outside.specs.Files.{Files}
 use Rattle.pl_cli.specs.declared.stop.Limit.{Limit}
 use Rattle.pl_cli.specs.declared.stop.Stop.{Stop}
-use Rattle.pl_cli.specs.declared.stop.Stop.TheVariants.{Judged, Missed, Unkept, Memory}
+use Rattle.pl_cli.specs.declared.stop.Stop.TheVariants as stops
+use Rattle.pl_cli.specs.declared.stop.Stop.TheVariants.{Judged, Missed, Unkept}
 use Rattle.pl_cli.specs.Fault.{Fault}
 use Rattle.pl_cli.specs.Fault.Fault.{Passed, Unread}
-use Rattle.pl_cli.specs.Step.{Step, first_fault, file, file_fault, no_rule, bytes_in}
-use Rattle.pl_cli.specs.Work.{fault_in}
+use Rattle.std.specs.List.{AllZip}
+use Rattle.std.proofs.lemmas.List.Elements.{All-nil, All-cons}
+use Rattle.pl_grammar.specs.Faults as syntax
+use Rattle.pl_grammar.specs.Tree.{Tree}
+use Rattle.pl_grammar.specs.Script.{Statement}
+use Rattle.pl_syntax.specs.declared.error.SyntaxError.{SyntaxError}
+use Rattle.pl_syntax.specs.declared.error.SyntaxError.TheVariants.{BadByte, Unexpected, TooDeep, NumberTooLarge, TooLong, LongStatement, Memory}
+use Rattle.pl_syntax.specs.Parsing.{IsCause}
+use Rattle.pl_syntax.specs.Said.{said}
+use Rattle.pl_syntax.proofs.TextsSaid.{fault-said}
+use Rattle.pl_model.specs.declared.cell.PlainTerm.{PlainTerm}
+use Rattle.pl_model.specs.declared.cell.PlainTerm.TheVariants.{Latest, SimpleMovingAverage}
+use Rattle.pl_model.specs.PlainTerms.{HasWindow}
+use Rattle.pl_cli.specs.declared.stop.Refusal.TheVariants as refusals
+use Rattle.pl_cli.specs.declared.plain_script.PlainColumn.{PlainColumn}
+use Rattle.pl_cli.specs.PlainScript.{Shows, IsColumn, plain_columns}
+use Rattle.pl_cli.specs.Misspelled.{error_fault}
+use Rattle.pl_cli.specs.Step.{Step, first_fault, file, file_fault, rule, no_rule, bytes_in}
+use Rattle.pl_cli.specs.Work.{fault_in, fault_said, form_rule, statements_held, columns_held}
+use Rattle.pl_cli.proofs.PlainScripts.{scripts-read}
 use Rattle.pl_cli.specs.Ends.{IsStop, StageEnds, IsRisen, told_by, fault_of}
 
 -- a file within its cap has the fault of its rule
@@ -44,7 +63,7 @@ file-stops files name bytes cap limit rule (Judged refusal) e h risen tells =
     record { passed = tt; stopped = fault-is name bytes cap limit rule (files name) e h ∙ or-some (rule bytes) (fault_of refusal) (tells (fault_of refusal) refl) }
 file-stops files name bytes cap limit rule (Missed missed) e h risen tells = absurd risen
 file-stops files name bytes cap limit rule (Unkept missed) e h risen tells = absurd risen
-file-stops files name bytes cap limit rule Memory e h risen tells = record { passed = tt; stopped = tt }
+file-stops files name bytes cap limit rule stops.Memory e h risen tells = record { passed = tt; stopped = tt }
 
 -- the fault of a reader is that of the reading
 pub reader-tells : {A R : Type 0} (says : ℕ → R → Fault) (read : Result A (reading.Fault R)) (o : Option (reading.Fault R)) (told : Option Fault)
@@ -55,7 +74,57 @@ reader-tells says read (Some g) told e h f t = rw h (sym e ∙ t)
 pub bytes-held : (files : Files) (name bytes : List ℕ) → files name ≡ Some bytes → bytes_in files name ≡ bytes
 bytes-held files name bytes e = rw e refl
 
--- the rows that a file holds are those that were read
+-- what a file holds is what was read
+pub value-held : {A F : Type 0} (reads : List ℕ → Result A F) (none : A) (files : Files) (name bytes : List ℕ) (x : A) → files name ≡ Some bytes → reads bytes ≡ Ok x
+    → result_unwrap_or (reads (bytes_in files name)) none ≡ x
+value-held reads none files name bytes x e h = rw (e, h) refl
+
 pub rows-held : {A F : Type 0} (reads : List ℕ → Result (List A) F) (files : Files) (name bytes : List ℕ) (rows : List A) → files name ≡ Some bytes → reads bytes ≡ Ok rows
     → result_unwrap_or (reads (bytes_in files name)) [] ≡ rows
-rows-held reads files name bytes rows e h = rw (e, h) refl
+rows-held reads files name bytes rows e h = value-held reads [] files name bytes rows e h
+
+-- ---- the pipeline file
+
+-- an error of the parser tells what the text says
+pub error-said : (name bytes : List ℕ) (e : SyntaxError) → IsCause bytes e → length bytes ≤ 262_144 → (f : Fault) → error_fault name e ≡ Some f → fault_said name (said bytes) ≡ Some f
+error-said name bytes (BadByte p) h few f t = rw (fault-said bytes syntax.BadByte p h) t
+error-said name bytes (Unexpected p) h few f t = rw (fault-said bytes syntax.Unexpected p h) t
+error-said name bytes (TooDeep p) h few f t = rw (fault-said bytes syntax.TooDeep p h) t
+error-said name bytes (NumberTooLarge p) h few f t = rw (fault-said bytes syntax.NumberTooLarge p h) t
+error-said name bytes (LongStatement p) h few f t = rw (fault-said bytes syntax.LongStatement p h) t
+error-said name bytes TooLong h few f t = absurd (omega arith)
+error-said name bytes Memory h few f t = absurd (let no : None ≡ Some f = t in cc)
+
+-- the form of a script
+pub form-passes : {T : Type 0} {s k : Bool} (held statements : List Statement) (columns : List PlainColumn) (x : T) → held ≡ statements → plain_columns statements ≡ Some columns
+    → StageEnds s k (rule (form_rule held) ∷ []) (Ok x)
+unfolding form_rule
+form-passes held statements columns x e h = record { passed = rw (e, h) refl; stopped = tt }
+
+pub form-stops : {T : Type 0} {s k : Bool} (held statements : List Statement) → held ≡ statements → plain_columns statements ≡ None
+    → StageEnds {T = T} s k (rule (form_rule held) ∷ []) (Err (Judged refusals.Unbuilt))
+unfolding form_rule
+form-stops held statements e h = record { passed = tt; stopped = rw (e, h) refl }
+
+pub form-memory : {T : Type 0} {s k : Bool} (held : List Statement) → StageEnds {T = T} s k (rule (form_rule held) ∷ []) (Err stops.Memory)
+form-memory held = record { passed = tt; stopped = tt }
+
+pub columns-held : (files : Files) (name : List ℕ) (statements : List Statement) (columns : List PlainColumn) → statements_held files name ≡ statements → plain_columns statements ≡ Some columns
+    → columns_held files name ≡ columns
+unfolding columns_held
+columns-held files name statements columns e h = rw (e, h) refl
+
+windows-in : (cs : List PlainColumn) (ss : List Statement) → AllZip IsColumn cs ss → All (λ c. HasWindow c.term) cs
+windows-in [] ss h = All-nil (λ c. HasWindow c.term)
+windows-in (c ∷ cs) [] h = absurd h
+windows-in (c ∷ cs) (s ∷ ss) h = All-cons (λ c. HasWindow c.term) c cs (of-term c.term s.tree h.0.shows) (windows-in cs ss h.1)
+  where
+    of-term : (t : PlainTerm) (tree : Tree) → Shows t tree → HasWindow t
+    of-term (Latest column) tree shows = record { some = omega arith; most = omega arith }
+    of-term (SimpleMovingAverage column size) tree shows = record { some = shows.0.0; most = shows.0.1 }
+
+pub columns-few : (columns : List PlainColumn) (statements : List Statement) → plain_columns statements ≡ Some columns → length columns ≤ 64
+columns-few columns statements h = ((scripts-read columns statements).0 h).few
+
+pub columns-windows : (columns : List PlainColumn) (statements : List Statement) → plain_columns statements ≡ Some columns → All (λ c. HasWindow c.term) columns
+columns-windows columns statements h = windows-in columns statements ((scripts-read columns statements).0 h).each

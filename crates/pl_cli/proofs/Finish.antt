@@ -1,5 +1,5 @@
 -- From the end of a command to the status and the line.
-use Rattle.std.proofs.Common.{◌≡◌, ◌⊎◌, inl, inr, ℕ, List, [], ◌∷◌, ◌++◌, Bool, true, arith, IsTrue, IsSome, Option, Some, None, Result, Ok, Err, OnOk, refl, ap, ◌∙◌, codes}
+use Rattle.std.proofs.Common.{◌≡◌, ◌⊎◌, inl, inr, ℕ, ℤ, List, [], ◌∷◌, ◌++◌, Bool, true, arith, IsTrue, IsSome, Option, Some, None, Result, Ok, Err, OnOk, refl, ap, ◌∙◌, codes}
 use Rattle.pl_outside.specs.Files.{Files}
 use Rattle.pl_outside.specs.Taken.{TakesAll, TakesPrefix}
 use Rattle.pl_cli.specs.declared.stop.Refusal.{Refusal}
@@ -8,13 +8,17 @@ use Rattle.pl_cli.specs.declared.stop.Stop.{Stop}
 use Rattle.pl_cli.specs.declared.stop.Stop.TheVariants.{Judged, Missed, Unkept, Memory}
 use Rattle.pl_cli.specs.declared.stop.End.{End}
 use Rattle.pl_cli.specs.declared.stop.End.TheVariants as ends
-use Rattle.pl_cli.specs.Request.{RunRequest}
+use Rattle.pl_spec.specs.declared.AssetRow.{AssetRow}
+use Rattle.pl_spec.specs.Table.{Pipeline}
+use Rattle.pl_outside.specs.Lists.{Lists}
+use Rattle.pl_cli.specs.Request.{Request, Run, Fmt, RunRequest, adjustments_of}
 use Rattle.pl_cli.specs.Fault.{Fault, line_of, judged_status, judged_line}
 use Rattle.pl_cli.specs.Fault.Fault.{Usage, Unread}
 use Rattle.pl_cli.specs.Step.{Source, Step, first_fault, ReachesRead}
 use Rattle.pl_cli.specs.Step.Source.{File, Store}
 use Rattle.pl_cli.specs.Range.{range_steps}
-use Rattle.pl_cli.specs.Work.{work}
+use Rattle.pl_cli.specs.Work.{assets_held, labels_steps, adjustments_steps, data_steps, run_steps, work}
+use Rattle.pl_cli.proofs.Steps.{stop-weaker}
 use Rattle.pl_cli.specs.Ends.{IsStop, CommandEnds, EndsJudged, EndsForMemory, Ends, fault_of, stop_status, end_status, end_line, is_stopped}
 
 -- what the last function makes of an end
@@ -54,9 +58,19 @@ complete-of shelf keeper steps old new roomy text (Err (ends.Stopped Memory)) re
 complete-of shelf keeper steps old new roomy text (Err ends.Unwritten) result Told h (inl p) s k r = absurd (h.ended.2 (r h.ended.0))
 complete-of shelf keeper steps old new roomy text ended result Told h (inr q) s k r = (codes "memory\n", inr (q.1, refl), q.2)
 
+-- a command that doesn't use a part speaks of a sound one
+pub command-weaker : {T : Type 0} (shelf keeper s k : Bool) (steps : List Step) (old new : Option (List ℕ)) (roomy : Type 0) (text : List ℕ) (ended : Result T End)
+    → (IsTrue shelf → IsTrue s) → (IsTrue keeper → IsTrue k) → CommandEnds s k steps old new roomy text ended → CommandEnds shelf keeper steps old new roomy text ended
+command-weaker shelf keeper s k steps old new roomy text (Ok x) a b h = record { passed = h.passed; written = h.written; ended = tt }
+command-weaker shelf keeper s k steps old new roomy text (Err ends.Usage) a b h = record { passed = tt; written = tt; ended = h.ended }
+command-weaker shelf keeper s k steps old new roomy text (Err (ends.Stopped stop)) a b h = record { passed = tt; written = tt; ended = stop-weaker shelf keeper s k steps stop a b h.ended }
+command-weaker shelf keeper s k steps old new roomy text (Err ends.Unwritten) a b h = record { passed = tt; written = tt; ended = h.ended }
+
 -- which ends have the statuses 0 and 9
 refusal-not : (refusal : Refusal) → (stop_status (Judged refusal) ≡ 0 → ⊥) × (stop_status (Judged refusal) ≡ 9 → ⊥)
 refusal-not refusals.Unbuilt = (λ e. omega arith, λ e. omega arith)
+refusal-not (refusals.Syntax name place fault) = (λ e. omega arith, λ e. omega arith)
+refusal-not (refusals.Row name table id fault) = (λ e. omega arith, λ e. omega arith)
 refusal-not (refusals.Data name line fault) = (λ e. omega arith, λ e. omega arith)
 refusal-not (refusals.NoSession date) = (λ e. omega arith, λ e. omega arith)
 refusal-not refusals.Backwards = (λ e. omega arith, λ e. omega arith)
@@ -84,20 +98,69 @@ nine-prefix shelf keeper steps old new roomy text (Err (ends.Stopped stop)) resu
 nine-prefix shelf keeper steps old new roomy text (Err ends.Unwritten) result Told h (inl p) z = h.ended.1
 nine-prefix shelf keeper steps old new roomy text ended result Told h (inr q) z = absurd (omega (arith, q.1))
 
--- no step reads the keeper
-pub store-never : (files : Files) (asked : Option RunRequest) (name : List ℕ) → ReachesRead (work files asked) (Store name) → ⊥
-unfolding work range_steps
-store-never files None name h = elim h [ inl p ↦ absurd (cc p) | inr a ↦ absurd a.1 ]
-store-never files (Some q) name h = elim h [
-  | inl p ↦ absurd (cc p)
+-- ---- where the keeper is read
+
+no-file : {A : Type 0} {n m : List ℕ} → Some (File n) ≡ Some (Store m) → A
+no-file h = absurd (cc)
+
+no-read : {A : Type 0} {m : List ℕ} → None ≡ Some (Store m) → A
+no-read h = absurd (cc)
+
+reaches-one : (ss ts : List Step) (source : Source) → ReachesRead (ss ++ ts) source → ReachesRead ss source ⊎ ReachesRead ts source
+reaches-one [] ts source h = inr h
+reaches-one (s ∷ ss) ts source h = elim h [
+  | inl p ↦ inl (inl p)
+  | inr q ↦ elim (reaches-one ss ts source q.1) [ inl a ↦ inl (inr (q.0, a)) | inr b ↦ inr b ]
+]
+
+of-labels : (assets : List AssetRow) (files : Files) (labels : Option (List ℕ)) (name : List ℕ) → ReachesRead (labels_steps assets files labels) (Store name) → ⊥
+of-labels assets files None name h = h
+of-labels assets files (Some n) name h = elim h [ inl p ↦ no-file p | inr q ↦ q.1 ]
+
+of-adjustments : (assets : List AssetRow) (lists : Lists) (adjustments : Option (List ℕ)) (name : List ℕ) → ReachesRead (adjustments_steps assets lists adjustments) (Store name) → IsSome adjustments
+of-adjustments assets lists None name h = absurd h
+of-adjustments assets lists (Some n) name h = refl
+
+of-range : (q : RunRequest) (p : Pipeline) (days : List ℤ) (name : List ℕ) → ReachesRead (range_steps q p days) (Store name) → ⊥
+unfolding range_steps
+of-range q p days name h = elim h [
+  | inl e ↦ no-read e
   | inr a ↦ elim a.1 [
-    | inl p ↦ absurd (cc p)
-    | inr b ↦ elim b.1 [
-      | inl p ↦ absurd (cc p)
-      | inr d ↦ elim d.1 [
-        | inl p ↦ absurd (cc p)
-        | inr e ↦ elim e.1 [ inl p ↦ absurd (cc p) | inr f ↦ elim f.1 [ inl p ↦ absurd (cc p) | inr g ↦ elim g.1 [ inl p ↦ absurd (cc p) | inr i ↦ elim i.1 [ inl p ↦ absurd (cc p) | inr j ↦ absurd j.1 ] ] ] ]
+    | inl e ↦ no-read e
+    | inr b ↦ elim b.1 [ inl e ↦ no-read e | inr d ↦ elim d.1 [ inl e ↦ no-read e | inr f ↦ f.1 ] ]
+  ]
+]
+
+of-data : (files : Files) (lists : Lists) (q : RunRequest) (name : List ℕ) → ReachesRead (data_steps files lists q) (Store name) → IsSome q.options.adjustments
+unfolding data_steps
+of-data files lists q name h =
+    let assets = assets_held files q.assets in
+    elim h [
+      | inl p ↦ no-file p
+      | inr a ↦ elim a.1 [
+        | inl p ↦ no-file p
+        | inr b ↦ elim (reaches-one (labels_steps assets files q.options.labels) _ (Store name) b.1) [
+          | inl l ↦ absurd (of-labels assets files q.options.labels name l)
+          | inr m ↦ elim m [ inl p ↦ no-file p | inr x ↦ of-adjustments assets lists q.options.adjustments name x.1 ]
+        ]
       ]
+    ]
+
+of-run : (files : Files) (lists : Lists) (q : RunRequest) (name : List ℕ) → ReachesRead (run_steps files lists q) (Store name) → IsSome q.options.adjustments
+of-run files lists q name h = elim h [
+  | inl p ↦ no-file p
+  | inr a ↦ elim a.1 [
+    | inl p ↦ no-read p
+    | inr b ↦ elim (reaches-one (data_steps files lists q) _ (Store name) b.1) [
+      | inl d ↦ of-data files lists q name d
+      | inr r ↦ absurd (of-range q _ _ name r)
     ]
   ]
 ]
+
+-- a step reads the keeper only where adjustments are asked for
+pub store-named : (files : Files) (lists : Lists) (asked : Option Request) (name : List ℕ) → ReachesRead (work files lists asked) (Store name) → IsSome (adjustments_of asked)
+unfolding work
+store-named files lists None name h = elim h [ inl p ↦ no-read p | inr a ↦ absurd a.1 ]
+store-named files lists (Some (Fmt n)) name h = elim h [ inl p ↦ no-file p | inr a ↦ absurd a.1 ]
+store-named files lists (Some (Run q)) name h = of-run files lists q name h

@@ -4,6 +4,7 @@ pub mod Finish
 pub mod PlainScripts
 pub mod PlainPipelines
 pub mod Ranges
-pub mod RowTexts
 pub mod SessionLines
 pub mod Steps
+pub mod TableSteps
+pub mod RowLines

@@ -1,60 +1,47 @@
 -- The faults of a range.
-use Rattle.std.proofs.Common.{◌≡◌, ℕ, zero, suc, ◌<◌, ◌≤◌, nat_lt, Bool, true, false, ℤ, pos, negsuc, List, Option, Some, None, refl, ap, ◌∙◌, arith}
+use Rattle.std.proofs.Common.{◌≡◌, ℕ, ◌<◌, ◌≤◌, ◌-◌, nat_lt, true, false, ℤ, pos, ◌-ℤ◌, to_z, of_z, w64, List, Option, Some, None, refl, ap, ◌∙◌, arith}
 use Rattle.std.specs.Int.RustNames.{int_lt}
-use Rattle.std.specs.Int.{int_min}
 use Rattle.std.proofs.lemmas.Int.{ints}
 use Rattle.std.proofs.lemmas.Bool.Decides.{nat_tests}
 use Rattle.pl_spec.specs.Window.{before}
-use Rattle.pl_spec.specs.Graph.{reach}
+use Rattle.pl_spec.specs.Table.{Pipeline}
+use Rattle.pl_cli.specs.declared.plain_script.PlainColumn.{PlainColumn}
+use Rattle.pl_cli.specs.PlainScript.{pipeline_of, greatest_window}
 use Rattle.pl_cli.specs.Request.{RunRequest}
 use Rattle.pl_cli.specs.Fault.Fault.{NoSession, Backwards, TooEarly}
 use Rattle.pl_cli.specs.Step.{first_fault}
 use Rattle.pl_cli.specs.Range.{session_of, reach_at, range_steps}
+use Rattle.pl_cli.proofs.PlainPipelines.{pipeline-reaches, in-bars, before-bars}
 
-reach-first : reach_at 0 ≡ negsuc 0
-unfolding reach
-reach-first = refl
+reach-is : (cs : List PlainColumn) (d : ℕ) → reach_at (pipeline_of cs) d ≡ before (pos d) (greatest_window cs)
+unfolding reach_at
+reach-is cs d = pipeline-reaches cs (pos d)
 
-reach-later : (d : ℕ) → reach_at (suc d) ≡ pos d
-unfolding reach
-reach-later d =
-    let one : before (pos (suc d)) 1 ≡ pos d = omega (arith, ints) in
-    let less : int_lt (pos d) (pos (suc d)) ≡ true = grind (arith, nat_tests) in
-    let more : int_lt (pos (suc d)) (pos d) ≡ false = grind (arith, nat_tests) in
-    let s = pos (suc d) in
-    let down : int_min s (pos d) ≡ pos d = rw less refl in
-    let up : int_min (pos d) s ≡ pos d = rw more refl in
-    ap (λ x. int_min (int_min (int_min (int_min (int_min s x) s) s) s) s) one
-    ∙ ap (λ x. int_min (int_min (int_min (int_min x s) s) s) s) down
-    ∙ ap (λ x. int_min (int_min (int_min x s) s) s) up
-    ∙ ap (λ x. int_min (int_min x s) s) up
-    ∙ ap (λ x. int_min x s) up
-    ∙ up
+pub back-by : (i n : ℕ) → i < n → n < 4294967296 → to_z w64 (of_z w64 (pos 0 -ℤ to_z w64 (n - i))) ≡ before (pos i) n
+back-by i n h few = omega (arith, ints)
 
-not-early : (d : ℕ) → (d ≡ 0 → ⊥) → int_lt (reach_at d) (pos 0) ≡ false
-not-early zero h = absurd (h refl)
-not-early (suc d) h = let low : int_lt (pos d) (pos 0) ≡ false = grind (arith, nat_tests) in ap (λ x. int_lt x (pos 0)) (reach-later d) ∙ low
-
-pub no-from : (q : RunRequest) (days : List ℤ) → session_of days q.from.day ≡ None → first_fault (range_steps q days) ≡ Some (NoSession q.from.text)
+pub no-from : (q : RunRequest) (p : Pipeline) (days : List ℤ) → session_of days q.from.day ≡ None → first_fault (range_steps q p days) ≡ Some (NoSession q.from.text)
 unfolding range_steps
-no-from q days f = rw f refl
+no-from q p days f = rw f refl
 
-pub no-to : (q : RunRequest) (days : List ℤ) (i : ℕ) → session_of days q.from.day ≡ Some i → session_of days q.to.day ≡ None → first_fault (range_steps q days) ≡ Some (NoSession q.to.text)
+pub no-to : (q : RunRequest) (p : Pipeline) (days : List ℤ) (i : ℕ) → session_of days q.from.day ≡ Some i → session_of days q.to.day ≡ None → first_fault (range_steps q p days) ≡ Some (NoSession q.to.text)
 unfolding range_steps
-no-to q days i f t = rw (f, t) refl
+no-to q p days i f t = rw (f, t) refl
 
-pub backwards : (q : RunRequest) (days : List ℤ) (i j : ℕ) → session_of days q.from.day ≡ Some i → session_of days q.to.day ≡ Some j → j < i → first_fault (range_steps q days) ≡ Some Backwards
+pub backwards : (q : RunRequest) (p : Pipeline) (days : List ℤ) (i j : ℕ) → session_of days q.from.day ≡ Some i → session_of days q.to.day ≡ Some j → j < i → first_fault (range_steps q p days) ≡ Some Backwards
 unfolding range_steps
-backwards q days i j f t h = let less : nat_lt j i ≡ true = grind (arith, nat_tests) in rw (f, t, less) refl
+backwards q p days i j f t h = let less : nat_lt j i ≡ true = grind (arith, nat_tests) in rw (f, t, less) refl
 
-pub too-early : (q : RunRequest) (days : List ℤ) (i j : ℕ) → session_of days q.from.day ≡ Some i → session_of days q.to.day ≡ Some j → i ≤ j → i ≡ 0
-    → first_fault (range_steps q days) ≡ Some (TooEarly (negsuc 0))
+pub too-early : (q : RunRequest) (cs : List PlainColumn) (days : List ℤ) (i j : ℕ) (reach : ℤ) → session_of days q.from.day ≡ Some i → session_of days q.to.day ≡ Some j → i ≤ j
+    → i < greatest_window cs → reach ≡ before (pos i) (greatest_window cs) → first_fault (range_steps q (pipeline_of cs) days) ≡ Some (TooEarly reach)
 unfolding range_steps
-too-early q days i j f t h z = let less : nat_lt j i ≡ false = grind (arith, nat_tests) in rw (f, t, less, z, reach-first) refl
-
-pub in-range : (q : RunRequest) (days : List ℤ) (i j : ℕ) → session_of days q.from.day ≡ Some i → session_of days q.to.day ≡ Some j → i ≤ j → (i ≡ 0 → ⊥)
-    → first_fault (range_steps q days) ≡ None
-unfolding range_steps
-in-range q days i j f t h z =
+too-early q cs days i j reach f t h early e =
     let less : nat_lt j i ≡ false = grind (arith, nat_tests) in
-    rw (f, t, less, not-early i z) refl
+    rw (f, t, less, reach-is cs i, before-bars i (greatest_window cs) early, e) refl
+
+pub in-range : (q : RunRequest) (cs : List PlainColumn) (days : List ℤ) (i j : ℕ) → session_of days q.from.day ≡ Some i → session_of days q.to.day ≡ Some j → i ≤ j
+    → greatest_window cs ≤ i → first_fault (range_steps q (pipeline_of cs) days) ≡ None
+unfolding range_steps
+in-range q cs days i j f t h late =
+    let less : nat_lt j i ≡ false = grind (arith, nat_tests) in
+    rw (f, t, less, reach-is cs i, in-bars i (greatest_window cs) late) refl

@@ -71,7 +71,7 @@ pub stage-fails : {T U : Type 0} {shelf keeper : Bool} {ss : List Step} {stop : 
 stage-fails h = record { passed = tt; stopped = h.stopped }
 
 -- the parts are sound where those of the stage are; a stage that doesn't use a part speaks of a sound one
-stop-weaker : (shelf keeper s k : Bool) (ss : List Step) (stop : Stop) → (IsTrue shelf → IsTrue s) → (IsTrue keeper → IsTrue k) → IsStop s k ss stop → IsStop shelf keeper ss stop
+pub stop-weaker : (shelf keeper s k : Bool) (ss : List Step) (stop : Stop) → (IsTrue shelf → IsTrue s) → (IsTrue keeper → IsTrue k) → IsStop s k ss stop → IsStop shelf keeper ss stop
 stop-weaker shelf keeper s k ss (Judged refusal) a b h = h
 stop-weaker shelf keeper s k ss (Missed name) a b h = (h.0, λ t. h.1 (a t))
 stop-weaker shelf keeper s k ss (Unkept name) a b h = (h.0, λ t. h.1 (b t))

@@ -6,15 +6,16 @@ use Rattle.pl_spec.specs.Parts.{world_of, AreFor}
 use Rattle.pl_spec.specs.Table.{Pipeline, table}
 use Rattle.pl_spec.specs.Text.{header, text}
 use Rattle.pl_model.specs.PlainTerms.{HasWindow}
-use Rattle.pl_cli.specs.declared.load.Data.{Data}
+use Rattle.pl_cli.specs.declared.load.Parts.{Parts}
 use Rattle.pl_cli.specs.declared.load.Loaded.{Loaded}
 use Rattle.pl_cli.specs.PlainScript.{pipeline_of}
+use Rattle.pl_cli.specs.Rows.{rows_cost}
 
-abbrev pub data_world : Data → World
-data_world d = world_of d.sessions d.assets d.labels.rows d.labels.texts d.bars d.adjustments
+abbrev pub parts_world : Parts → World
+parts_world p = world_of p.sessions p.assets p.labels.rows p.labels.texts p.bars p.adjustments
 
 abbrev pub loaded_world : Loaded → World
-loaded_world l = data_world l.data
+loaded_world l = parts_world l.parts
 
 abbrev pub loaded_pipeline : Loaded → Pipeline
 loaded_pipeline l = pipeline_of l.columns.items
@@ -22,15 +23,18 @@ loaded_pipeline l = pipeline_of l.columns.items
 abbrev pub loaded_text : Loaded → List ℕ
 loaded_text l = text (loaded_world l) (loaded_pipeline l) Csv (table (loaded_world l) (loaded_pipeline l) l.from l.to)
 
+abbrev pub loaded_cost : Loaded → ℕ
+loaded_cost l = rows_cost (loaded_world l) l.columns.items (table (loaded_world l) (loaded_pipeline l) l.from l.to)
+
 -- the parts were made for one another
-pub record IsMadeData (d : Data) : Type 0 where
-  pub made : AreFor d.sessions d.assets d.labels.rows d.bars d.adjustments
-  pub few : length d.sessions ≤ 16_000
+pub record AreMade (p : Parts) : Type 0 where
+  pub made : AreFor p.sessions p.assets p.labels.rows p.bars p.adjustments
+  pub few : length p.sessions ≤ 16_000
 
 -- The parts were made for one another, the range is within the sessions, and the header is that of the columns.
 pub record IsLoaded (l : Loaded) : Type 0 where
-  pub data : IsMadeData l.data
-  pub within : l.to < length l.data.sessions
+  pub parts : AreMade l.parts
+  pub within : l.to < length l.parts.sessions
   pub few : length l.columns.items ≤ 64
   pub windows : All (λ c. HasWindow c.term) l.columns.items
   pub header : l.header.items ≡ header (loaded_pipeline l) Csv

@@ -1,10 +1,18 @@
 -- The fields of a row of a plain pipeline.
-use Rattle.std.specs.Prelude.{ℕ, ℤ, List, ◌∷◌, [], ◌++◌, flat_map, map}
+use Rattle.std.specs.Prelude.{ℕ, ℤ, List, ◌∷◌, [], ◌++◌, flat_map, map, sum_by}
 use Rattle.pl_spec.specs.Decimals.{cell_text}
 use Rattle.pl_spec.specs.World.{World}
 use Rattle.pl_spec.specs.Value.{value, number_of}
-use Rattle.pl_model.specs.PlainTerms.{term_of}
+use Rattle.pl_spec.specs.Table.{Row}
+use Rattle.pl_model.specs.PlainTerms.{term_of, steps_of}
 use Rattle.pl_cli.specs.declared.plain_script.PlainColumn.{PlainColumn}
+
+-- how many steps the cells of a row take, and those of rows
+abbrev pub row_cost : World → List PlainColumn → Row → ℕ
+row_cost w columns r = sum_by (λ c. steps_of w c.term r.sid r.session) columns
+
+abbrev pub rows_cost : World → List PlainColumn → List Row → ℕ
+rows_cost w columns rows = sum_by (row_cost w columns) rows
 
 -- fields, each behind a comma
 abbrev pub behind_commas : List (List ℕ) → List ℕ

@@ -7,7 +7,7 @@ use Rattle.pl_spec.specs.declared.BarRow.{BarRow}
 use Rattle.pl_spec.specs.declared.Format.TheVariants.{Csv}
 use Rattle.pl_spec.specs.World.{World}
 use Rattle.pl_spec.specs.Parts.{ColumnAdjustment, world_of}
-use Rattle.pl_spec.specs.Table.{Pipeline, table}
+use Rattle.pl_spec.specs.Table.{Pipeline, Row, table}
 use Rattle.pl_spec.specs.Text.{text}
 use Rattle.pl_records.specs.Records.{csv_records}
 use Rattle.pl_calendar.specs.Days as calendar
@@ -33,9 +33,11 @@ use Rattle.pl_cli.specs.declared.stop.DataFault.TheVariants.{BadHeader, Empty, B
 use Rattle.pl_cli.specs.declared.stop.RowFault.TheVariants.{BadEffective, BadRatio}
 use Rattle.pl_cli.specs.declared.stop.Limit.TheVariants as limits
 use Rattle.pl_cli.specs.Request.{Request, Run, Fmt, RunRequest}
-use Rattle.pl_cli.specs.Fault.{Fault}
-use Rattle.pl_cli.specs.Fault.Fault.{Usage, Unbuilt, Syntax, Data, Row, Passed}
+use Rattle.pl_cli.specs.Fault.{Fault, Fault as of}
+use Rattle.pl_cli.specs.Fault.Fault.{Usage, Unbuilt, Syntax, Data, Passed}
+use Rattle.pl_cli.specs.declared.plain_script.PlainColumn.{PlainColumn}
 use Rattle.pl_cli.specs.PlainScript.{plain_columns, pipeline_of}
+use Rattle.pl_cli.specs.Rows.{rows_cost}
 use Rattle.pl_cli.specs.Step.{Step, file, rule, when, bytes_in}
 use Rattle.pl_cli.specs.Step.Source.{Store}
 use Rattle.pl_cli.specs.Range.{index_of, range_steps}
@@ -88,8 +90,8 @@ bars_fault name line bars.Duplicate = Data name line Duplicate
 
 abbrev pub rows_fault : List ℕ → rows.Fault → Fault
 rows_fault name rows.TooMany = Passed limits.Adjustments
-rows_fault name (rows.BadEffective table id) = Row name table id BadEffective
-rows_fault name (rows.BadRatio table id) = Row name table id BadRatio
+rows_fault name (rows.BadEffective table id) = of.Row name table id BadEffective
+rows_fault name (rows.BadRatio table id) = of.Row name table id BadRatio
 
 abbrev pub fault_in : {A R : Type 0} → (ℕ → R → Fault) → Result A (reading.Fault R) → Option Fault
 fault_in says (Ok x) = None
@@ -138,8 +140,8 @@ statements_said (Faulty kind place) = []
 unfoldable pub statements_held : Files → List ℕ → List Statement
 statements_held files name = statements_said (said (bytes_in files name))
 
-unfoldable pub pipeline_held : Files → List ℕ → Pipeline
-pipeline_held files name = pipeline_of (unwrap_or (plain_columns (statements_held files name)) [])
+unfoldable pub columns_held : Files → List ℕ → List PlainColumn
+columns_held files name = unwrap_or (plain_columns (statements_held files name)) []
 
 unfoldable pub days_held : Files → List ℕ → List ℤ
 days_held files name = result_unwrap_or (sessions_of (csv_records (bytes_in files name))) []
@@ -186,7 +188,7 @@ adjustments_steps assets lists None = []
 adjustments_steps assets lists (Some name) = record { reads = Some (Store name); fault = rows_rule assets lists name } ∷ []
 
 -- Each file is read whole and judged before the next one is begun, and the adjustments come last.
-abbrev pub data_steps : Files → Lists → RunRequest → List Step
+unfoldable pub data_steps : Files → Lists → RunRequest → List Step
 data_steps files lists q =
     let days = days_held files q.sessions in
     let assets = assets_held files q.assets in
@@ -198,7 +200,7 @@ data_steps files lists q =
 abbrev pub run_steps : Files → Lists → RunRequest → List Step
 run_steps files lists q =
     pipeline_steps files q.pipeline
-    ++ (data_steps files lists q ++ range_steps q (pipeline_held files q.pipeline) (days_held files q.sessions))
+    ++ (data_steps files lists q ++ range_steps q (pipeline_of (columns_held files q.pipeline)) (days_held files q.sessions))
 
 unfoldable pub work : Files → Lists → Option Request → List Step
 work files lists None = rule (Some Usage) ∷ []
@@ -215,17 +217,34 @@ world_held files lists q =
     let labels = labels_held assets files q.options.labels in
     world_of days assets labels.rows labels.texts (bars_held days assets files q.bars) (adjustments_held assets lists q.options.adjustments)
 
+-- the rows of the sessions that are asked for
+abbrev pub rows_asked : World → Pipeline → RunRequest → List Row
+rows_asked w p q = table w p (index_of w.days q.from.day) (index_of w.days q.to.day)
+
 abbrev pub run_text : Files → Lists → RunRequest → List ℕ
 run_text files lists q =
     let w = world_held files lists q in
-    let p = pipeline_held files q.pipeline in
-    text w p Csv (table w p (index_of w.days q.from.day) (index_of w.days q.to.day))
+    let p = pipeline_of (columns_held files q.pipeline) in
+    text w p Csv (rows_asked w p q)
 
 -- the table of a run, or the canonical text of a script
 unfoldable pub text_of : Files → Lists → Option Request → List ℕ
 text_of files lists None = []
 text_of files lists (Some (Run q)) = run_text files lists q
 text_of files lists (Some (Fmt name)) = script_text (statements_held files name)
+
+-- ---- the steps that the cells take: one each time that an adjustment changes a cell of a window
+
+abbrev pub run_cost : Files → Lists → RunRequest → ℕ
+run_cost files lists q =
+    let w = world_held files lists q in
+    let columns = columns_held files q.pipeline in
+    rows_cost w columns (rows_asked w (pipeline_of columns) q)
+
+unfoldable pub cost_of : Files → Lists → Option Request → ℕ
+cost_of files lists None = 0
+cost_of files lists (Some (Run q)) = run_cost files lists q
+cost_of files lists (Some (Fmt name)) = 0
 
 -- for the files and lists that the parts tell; the lists matter only where adjustments are asked for
 abbrev pub ForTold : Option (List ℕ) → Option Files → Option Lists → (Files → Lists → Type 0) → Type 0

@@ -1,9 +1,9 @@
 // The commands. Each ends as its steps say, and writes its text.
-ghost use Rattle.std.specs.Prelude.{◌≡◌, ◌≤◌, [], ◌∷◌, true, length, IsTrue, IfOk, IfErr};
+ghost use Rattle.std.specs.Prelude.{◌≡◌, ◌≤◌, ◌+◌, [], ◌∷◌, true, length, IsTrue, OnOk, IfOk, IfErr};
 ghost use Rattle.std.specs.Option.{ForSome};
 ghost use Rattle.pl_outside.specs.Counts.{Rose};
 ghost use Rattle.pl_syntax.specs.Canonical.{script_text};
-ghost use Rattle.pl_cli.specs.Work.{ForTold, run_steps, run_text, syntax_step, statements_held};
+ghost use Rattle.pl_cli.specs.Work.{ForTold, run_steps, run_text, run_cost, syntax_step, statements_held};
 ghost use Rattle.pl_cli.specs.Ends.{StageEnds, CommandEnds, IsCaused, IsRisen};
 ghost use Rattle.pl_cli.specs.Reading.{run_of};
 
@@ -33,6 +33,10 @@ pub fn run_command<'a, S: Shelf, K: AdjustKeeper, O: Sink, L: Ledger>(
         (IsTrue (O.sound out.old) × (length text ≤ O.room out.old)) text result) }
     ensures caused { IfErr result (IsCaused ⊥ (Rose (S.faults shelf.old) (S.faults shelf.new)) (Rose (K.faults keeper.old) (K.faults keeper.new))
         (Rose (O.faults out.old) (O.faults out.new)) ((O.taken out.new ≡ O.taken out.old) × (steps.new ≡ steps.old))) }
+    ensures cost { ForTold (run_of request.now).options.adjustments (S.holds shelf.old) (K.lists keeper.old) (λ files lists.
+        OnOk result (steps.new ≡ steps.old + run_cost files lists (run_of request.now))) }
+    ensures most { ForTold (run_of request.now).options.adjustments (S.holds shelf.old) (K.lists keeper.old) (λ files lists.
+        steps.new ≤ steps.old + run_cost files lists (run_of request.now)) }
 {
     match load(alloc, request, shelf, keeper) {
         Err(stop) => Err(End::Stopped(stop)),

@@ -7,9 +7,8 @@ ghost use Rattle.pl_assets.specs.Assets.{AreAssets};
 ghost use Rattle.pl_model.specs.PlainTerms.{HasWindow};
 ghost use Rattle.pl_syntax.specs.Statements.{statements_of};
 ghost use Rattle.pl_syntax.specs.Scripts.{statements_in};
-ghost use Rattle.pl_cli.specs.PlainScript.{pipeline_of};
 ghost use Rattle.pl_cli.specs.Step.{file, no_rule};
-ghost use Rattle.pl_cli.specs.Work.{syntax_step, pipeline_steps, sessions_step, assets_step, labels_steps, bars_step, statements_held, pipeline_held, days_held, assets_held, labels_held, bars_held};
+ghost use Rattle.pl_cli.specs.Work.{syntax_step, pipeline_steps, sessions_step, assets_step, labels_steps, bars_step, statements_held, columns_held, days_held, assets_held, labels_held, bars_held};
 ghost use Rattle.pl_cli.specs.Ends.{StageEnds, IsRisen};
 
 use crate::faults::{assets_stop, bars_stop, labels_stop, sessions_stop, syntax_stop};
@@ -83,7 +82,7 @@ pub fn read_columns<'a, S: Shelf>(
 ) -> Result<Vec<PlainColumn>, Stop<'a>>
     ensures ends { ForSome (S.holds shelf.old) (λ files.
         StageEnds (S.sound shelf.old) true (pipeline_steps files name.now) result) }
-    ensures exact { ForSome (S.holds shelf.old) (λ files. IfOk result (λ columns. pipeline_held files name.now ≡ pipeline_of columns.items)) }
+    ensures exact { ForSome (S.holds shelf.old) (λ files. IfOk result (λ columns. columns_held files name.now ≡ columns.items)) }
     ensures few { IfOk result (λ columns. length columns.items ≤ 64) }
     ensures windows { IfOk result (λ columns. All (λ c. HasWindow c.term) columns.items) }
     ensures risen { IfErr result (IsRisen (Rose (S.faults shelf.old) (S.faults shelf.new)) ⊥) }
@@ -151,9 +150,9 @@ pub fn read_labels<'a, S: Shelf>(
     assets: &Assets,
 ) -> Result<Labels, Stop<'a>>
     ensures ends { ForSome (S.holds shelf.old) (λ files.
-        StageEnds (S.sound shelf.old) true (labels_steps assets.now files (option_map (λ n. n.now) name)) result) }
+        StageEnds (S.sound shelf.old) true (labels_steps assets.now files (option_map (λ n. n.now) name.entry)) result) }
     ensures exact { ForSome (S.holds shelf.old) (λ files.
-        IfOk result (λ labels. labels_held assets.now files (option_map (λ n. n.now) name) ≡ labels)) }
+        IfOk result (λ labels. labels_held assets.now files (option_map (λ n. n.now) name.entry) ≡ labels)) }
     ensures cols { IfOk result (λ labels. All (λ r. r.col < length assets.now) labels.rows) }
     ensures risen { IfErr result (IsRisen (Rose (S.faults shelf.old) (S.faults shelf.new)) ⊥) }
     ensures later { S.faults shelf.old ≤ S.faults shelf.new }

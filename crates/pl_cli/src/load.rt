@@ -2,10 +2,10 @@
 ghost use Rattle.std.specs.Prelude.{◌≡◌, ◌≤◌, ℕ, List, Option, Some, true, IsSome, IfOk, IfErr};
 ghost use Rattle.std.specs.Option.{ForSome};
 ghost use Rattle.pl_outside.specs.Counts.{Rose};
-ghost use Rattle.pl_cli.specs.Work.{ForTold, data_steps, run_steps, run_text, world_held};
+ghost use Rattle.pl_cli.specs.Work.{ForTold, data_steps, run_steps, run_text, run_cost, world_held};
 ghost use Rattle.pl_cli.specs.Ends.{StageEnds, IsRisen};
 ghost use Rattle.pl_cli.specs.Reading.{run_of};
-ghost use Rattle.pl_cli.specs.Loads.{data_world, loaded_text, IsMadeData, IsLoaded};
+ghost use Rattle.pl_cli.specs.Loads.{parts_world, loaded_text, loaded_cost, AreMade, IsLoaded};
 
 use crate::files::{read_assets, read_bars, read_columns, read_labels, read_sessions};
 use crate::header::make_header;
@@ -22,9 +22,9 @@ use pl_model::World;
 use pl_outside::{AdjustKeeper, Shelf};
 use std::alloc::Global;
 
-/// The data of a run.
+/// The data of a run, part by part.
 #[derive(Drop)]
-pub struct Data {
+pub struct Parts {
     pub sessions: Sessions,
     pub assets: Assets,
     pub labels: Labels,
@@ -32,10 +32,7 @@ pub struct Data {
     pub adjustments: Adjustments,
 }
 
-impl Data {
-    ghost use Rattle.pl_model.specs.Worlds.{world_of};
-    ghost use Rattle.pl_cli.specs.Loads.{data_world};
-
+impl Parts {
     /// Lends the parts.
     pub fn world(&self) -> World<'_>
         ensures sessions { result.sessions.now ≡ self.now.sessions }
@@ -59,7 +56,7 @@ impl Data {
 pub struct Loaded {
     pub header: Vec<u8>,
     pub columns: Vec<PlainColumn>,
-    pub data: Data,
+    pub parts: Parts,
     pub from: usize,
     pub to: usize,
 }
@@ -75,34 +72,37 @@ pub fn load<'a, S: Shelf, K: AdjustKeeper>(
         StageEnds (S.sound shelf.old) (K.sound keeper.old) (run_steps files lists (run_of request.now)) result) }
     ensures text { ForTold (run_of request.now).options.adjustments (S.holds shelf.old) (K.lists keeper.old) (λ files lists.
         IfOk result (λ l. loaded_text l ≡ run_text files lists (run_of request.now))) }
+    ensures cost { ForTold (run_of request.now).options.adjustments (S.holds shelf.old) (K.lists keeper.old) (λ files lists.
+        IfOk result (λ l. loaded_cost l ≡ run_cost files lists (run_of request.now))) }
     ensures loaded { IfOk result IsLoaded }
     ensures risen { IfErr result (IsRisen (Rose (S.faults shelf.old) (S.faults shelf.new)) (Rose (K.faults keeper.old) (K.faults keeper.new))) }
 {
     let columns = read_columns(alloc, shelf, request.pipeline)?;
-    let data = read_data(alloc, request, shelf, keeper)?;
-    let range = judge_range(request, &columns, &data.sessions)?;
+    let parts = read_parts(alloc, request, shelf, keeper)?;
+    let range = judge_range(request, &columns, &parts.sessions)?;
     let header = make_header(alloc, &columns)?;
     Ok(Loaded {
         header,
         columns,
-        data,
+        parts,
         from: range.from,
         to: range.to,
     })
 }
 
 // The data of the run, each part judged before the next one is begun.
-fn read_data<'a, S: Shelf, K: AdjustKeeper>(
+#[tactic(auto, unfolding(crate::specs::Work::data_steps))]
+fn read_parts<'a, S: Shelf, K: AdjustKeeper>(
     alloc: Global,
     request: &RunRequest<'a>,
     shelf: &mut S,
     keeper: &mut K,
-) -> Result<Data, Stop<'a>>
+) -> Result<Parts, Stop<'a>>
     ensures ends { ForTold (run_of request.now).options.adjustments (S.holds shelf.old) (K.lists keeper.old) (λ files lists.
         StageEnds (S.sound shelf.old) (K.sound keeper.old) (data_steps files lists (run_of request.now)) result) }
     ensures world { ForTold (run_of request.now).options.adjustments (S.holds shelf.old) (K.lists keeper.old) (λ files lists.
-        IfOk result (λ data. data_world data ≡ world_held files lists (run_of request.now))) }
-    ensures made { IfOk result IsMadeData }
+        IfOk result (λ parts. parts_world parts ≡ world_held files lists (run_of request.now))) }
+    ensures made { IfOk result AreMade }
     ensures risen { IfErr result (IsRisen (Rose (S.faults shelf.old) (S.faults shelf.new)) (Rose (K.faults keeper.old) (K.faults keeper.new))) }
 {
     let sessions = read_sessions(alloc, shelf, request.sessions)?;
@@ -110,7 +110,7 @@ fn read_data<'a, S: Shelf, K: AdjustKeeper>(
     let labels = read_labels(alloc, shelf, request.options.labels, &assets)?;
     let bars = read_bars(alloc, shelf, request.bars, &sessions, &assets)?;
     let adjustments = read_adjustments(alloc, keeper, request.options.adjustments, &assets)?;
-    Ok(Data {
+    Ok(Parts {
         sessions,
         assets,
         labels,

@@ -58,7 +58,7 @@ fn greatest_window(columns: &[PlainColumn]) -> u32
 {
     let mut greatest = 0;
     for column in columns {
-        greatest = window_of(column.term).max(greatest);
+        greatest = greatest.max(window_of(column.term));
     }
     greatest
 }

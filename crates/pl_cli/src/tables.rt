@@ -30,10 +30,10 @@ pub fn read_adjustments<'a, K: AdjustKeeper>(
     name: Option<&'a str>,
     assets: &Assets,
 ) -> Result<Adjustments, Stop<'a>>
-    ensures ends { (lists : Lists) → (IsSome name → K.lists keeper.old ≡ Some lists)
-        → StageEnds true (K.sound keeper.old) (adjustments_steps assets.now lists (option_map (λ n. n.now) name)) result }
-    ensures exact { (lists : Lists) → (IsSome name → K.lists keeper.old ≡ Some lists)
-        → IfOk result (λ adjustments. adjustments_held assets.now lists (option_map (λ n. n.now) name) ≡ adjustments) }
+    ensures ends { (lists : Lists) → (IsSome (option_map (λ n. n.now) name.entry) → K.lists keeper.old ≡ Some lists)
+        → StageEnds true (K.sound keeper.old) (adjustments_steps assets.now lists (option_map (λ n. n.now) name.entry)) result }
+    ensures exact { (lists : Lists) → (IsSome (option_map (λ n. n.now) name.entry) → K.lists keeper.old ≡ Some lists)
+        → IfOk result (λ adjustments. adjustments_held assets.now lists (option_map (λ n. n.now) name.entry) ≡ adjustments) }
     ensures columns { IfOk result (AreOf assets.now) }
     ensures risen { IfErr result (IsRisen ⊥ (Rose (K.faults keeper.old) (K.faults keeper.new))) }
 {

@@ -1,20 +1,19 @@
 // The top call.
-ghost use Rattle.std.specs.Prelude.{◌≡◌, ◌≤◌, ◌⊎◌, ℕ, List, None, Err, true, map, string_bytes, length, IfOk, IfErr, IsTrue, IsSome, codes, decimal, [], ◌∷◌, ◌++◌};
-ghost use Rattle.std.specs.Fmt.{signed_decimal};
+ghost use Rattle.std.specs.Prelude.{◌≡◌, ◌≤◌, ◌+◌, ◌⊎◌, ℕ, List, None, Err, true, map, string_bytes, length, OnOk, IfOk, IfErr, IsTrue, IsSome, codes, decimal, [], ◌∷◌, ◌++◌};
 ghost use Rattle.pl_outside.specs.Counts.{Rose};
 ghost use Rattle.pl_outside.specs.Taken.{TakesAll, TakesPrefix};
 ghost use Rattle.pl_cli.specs.Request.{request, adjustments_of};
 ghost use Rattle.pl_cli.specs.Step.{first_fault};
-ghost use Rattle.pl_cli.specs.Work.{ForTold, work, text_of};
+ghost use Rattle.pl_cli.specs.Work.{ForTold, work, text_of, cost_of};
 ghost use Rattle.pl_cli.specs.Fault.{table_text};
 ghost use Rattle.pl_cli.specs.Ends.{Ends, EndsJudged, EndsForMemory, IsTold, CommandEnds, IsCaused, stop_line, end_status, end_line, is_stopped};
 
 use crate::commands::{fmt_command, run_command};
-use crate::stop::{End, Refusal, RowFault, Stop, SyntaxFault};
+use crate::stop::{End, Refusal, Stop};
 use crate::words::{Request, read_words};
+use itoa::Buffer;
 use pl_fixed::Steps;
 use pl_outside::{AdjustKeeper, Shelf, Sink, Table, write_bytes};
-use pl_syntax::Place;
 use std::alloc::{AllocError, Global};
 use std::sync::ledger::Ledger;
 
@@ -64,12 +63,20 @@ pub fn run_program<S: Shelf, K: AdjustKeeper, O: Sink, E: Sink, L: Ledger>(
     ensures store { result ≡ 8 → Rose (K.faults keeper.old) (K.faults keeper.new) }
     ensures write { result ≡ 9 → Rose (O.faults out.old) (O.faults out.new) }
 
-    // Out is as it was, but for status 9, which leaves a prefix of the text; and no step is counted before the first row.
+    // Out is as it was, but for status 9, which leaves a prefix of the text.
     ensures kept { ¬ (result ≡ 0) → ¬ (result ≡ 9) → O.taken out.new ≡ O.taken out.old }
     ensures prefix { let asked = request (map (λ s. string_bytes s) words.now) in
         result ≡ 9 → ForTold (adjustments_of asked) (S.holds shelf.old) (K.lists keeper.old) (λ files lists.
         TakesPrefix (O.taken out.old) (O.taken out.new) (text_of files lists asked)) }
-    ensures cost { ¬ (result ≡ 0) → ¬ (result ≡ 9) → steps.new ≡ steps.old }
+
+    // The steps are those of the cells that were written: all of them with status 0, at most these with 9, and else none.
+    ensures cost { let asked = request (map (λ s. string_bytes s) words.now) in
+        result ≡ 0 → ForTold (adjustments_of asked) (S.holds shelf.old) (K.lists keeper.old) (λ files lists.
+        steps.new ≡ steps.old + cost_of files lists asked) }
+    ensures most { let asked = request (map (λ s. string_bytes s) words.now) in
+        ForTold (adjustments_of asked) (S.holds shelf.old) (K.lists keeper.old) (λ files lists.
+        steps.new ≤ steps.old + cost_of files lists asked) }
+    ensures free { ¬ (result ≡ 0) → ¬ (result ≡ 9) → steps.new ≡ steps.old }
 
     // Over sound parts with room the status and its line are those of the first fault, or memory was wanted.
     ensures complete { let asked = request (map (λ s. string_bytes s) words.now) in
@@ -84,7 +91,7 @@ pub fn run_program<S: Shelf, K: AdjustKeeper, O: Sink, E: Sink, L: Ledger>(
 }
 
 // Does the work that the words ask for, up to what is told of it.
-#[tactic(auto, unfolding(crate::specs::Work::work, crate::specs::Work::text_of))]
+#[tactic(auto, unfolding(crate::specs::Work::work, crate::specs::Work::text_of, crate::specs::Work::cost_of))]
 fn answer<'a, S: Shelf, K: AdjustKeeper, O: Sink, L: Ledger>(
     alloc: Global,
     words: &'a [String],
@@ -101,6 +108,12 @@ fn answer<'a, S: Shelf, K: AdjustKeeper, O: Sink, L: Ledger>(
     ensures caused { IfErr result (IsCaused (request (map (λ s. string_bytes s) words.now) ≡ None)
         (Rose (S.faults shelf.old) (S.faults shelf.new)) (Rose (K.faults keeper.old) (K.faults keeper.new))
         (Rose (O.faults out.old) (O.faults out.new)) ((O.taken out.new ≡ O.taken out.old) × (steps.new ≡ steps.old))) }
+    ensures cost { let asked = request (map (λ s. string_bytes s) words.now) in
+        ForTold (adjustments_of asked) (S.holds shelf.old) (K.lists keeper.old) (λ files lists.
+        OnOk result (steps.new ≡ steps.old + cost_of files lists asked)) }
+    ensures most { let asked = request (map (λ s. string_bytes s) words.now) in
+        ForTold (adjustments_of asked) (S.holds shelf.old) (K.lists keeper.old) (λ files lists.
+        steps.new ≤ steps.old + cost_of files lists asked) }
 {
     match read_words(words) {
         None => Err(End::Usage),
@@ -159,14 +172,19 @@ fn refusal_line(alloc: Global, refusal: Refusal<'_>) -> Result<String, AllocErro
 {
     match refusal {
         Refusal::Unbuilt => format!(in alloc; "unbuilt\n"),
-        Refusal::Syntax { name, place, fault } => syntax_line(alloc, name, place, fault),
+        Refusal::Syntax { name, place, fault } => {
+            syntax_line(alloc, name, place.line, place.col, fault.name())
+        }
         Refusal::Data { name, line, fault } => data_line(alloc, name, line, fault.name()),
         Refusal::Row {
             name,
             table,
             id,
             fault,
-        } => row_line(alloc, name, table, id, fault),
+        } => {
+            let mut buffer = Buffer::new();
+            row_line(alloc, name, table_name(table), buffer.format(id), fault.name())
+        }
         Refusal::NoSession { date } => format!(in alloc; "range: NotSession {date}\n"),
         Refusal::Backwards => format!(in alloc; "range: Backwards\n"),
         Refusal::TooEarly { reach } => format!(in alloc; "range: TooEarly {reach}\n"),
@@ -187,28 +205,26 @@ fn data_line(alloc: Global, name: &str, line: u32, fault: &str) -> Result<String
 fn syntax_line(
     alloc: Global,
     name: &str,
-    place: Place,
-    fault: SyntaxFault,
+    line: u32,
+    col: u32,
+    fault: &str,
 ) -> Result<String, AllocError>
-    ensures { IfOk result (λ text. string_bytes text ≡ stop_line (Stop.Judged (Refusal.Syntax name.entry place fault))) }
+    ensures { IfOk result (λ text. string_bytes text
+        ≡ name.now ++ codes ":" ++ decimal line ++ codes ":" ++ decimal col ++ codes ": syntax " ++ fault.now ++ 10 ∷ []) }
 {
-    let line = place.line;
-    let col = place.col;
-    let fault = fault.name();
     format!(in alloc; "{name}:{line}:{col}: syntax {fault}\n")
 }
 
 fn row_line(
     alloc: Global,
     name: &str,
-    table: Table,
-    id: i64,
-    fault: RowFault,
+    table: &str,
+    id: &str,
+    fault: &str,
 ) -> Result<String, AllocError>
-    ensures { IfOk result (λ text. string_bytes text ≡ stop_line (Stop.Judged (Refusal.Row name.entry table id fault))) }
+    ensures { IfOk result (λ text. string_bytes text
+        ≡ name.now ++ codes ":" ++ table.now ++ codes ":" ++ id.now ++ codes ": data " ++ fault.now ++ 10 ∷ []) }
 {
-    let table = table_name(table);
-    let fault = fault.name();
     format!(in alloc; "{name}:{table}:{id}: data {fault}\n")
 }
 

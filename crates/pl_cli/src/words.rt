@@ -129,8 +129,8 @@ fn is_option(words: &[String], i: usize, name: &str) -> bool
 
 fn read_run_with<'a>(words: &'a [String], options: Options<'a>) -> Option<RunRequest<'a>>
     requires { 7 ≤ length words.now }
-    ensures { MatchOption result (run_with (map (λ s. string_bytes s) words.now) (options_of options) ≡ None)
-        (λ r. run_with (map (λ s. string_bytes s) words.now) (options_of options) ≡ Some (run_of r)) }
+    ensures { MatchOption result (run_with (map (λ s. string_bytes s) words.now) (options_of options.entry) ≡ None)
+        (λ r. run_with (map (λ s. string_bytes s) words.now) (options_of options.entry) ≡ Some (run_of r)) }
 {
     if !is_run_command(words) {
         return None;

@@ -1,9 +1,9 @@
-use Rattle.std.proofs.Common.{rules, ◌≡◌, ◌≤◌, ◌<◌, ◌+◌, ◌∙◌, sym, ap, refl, ℕ, List, length, drop, arith, FitsSigned, w32, Some}
+use Rattle.std.proofs.Common.{rules, ◌≡◌, ◌≤◌, ◌<◌, ◌∙◌, sym, ap, refl, ℕ, length, arith, FitsSigned, to_z, of_z, w32, Some}
 use Rattle.std.proofs.lemmas.Int.{to_z-of_z}
 use Rattle.std.proofs.lemmas.Result.{err_from_is_err_and}
-use Rattle.pl_outside.proofs.Pieces.{Writing, writing-start, writing-more, writing-end, writing-stop, writing-over, writes-over}
+use Rattle.pl_outside.proofs.Pieces.{writing-start, writing-more, writing-end, writing-stop, writing-over, writes-over}
 use Rattle.pl_cli.specs.Loads.{loaded_world, loaded_pipeline}
-use Rattle.pl_cli.proofs.SessionLines.{lines_of, lines-next, lines-none, lines-session}
+use Rattle.pl_cli.proofs.SessionLines.{lines-next, lines-none, lines-session, cost-next, cost-none, cost-session}
 use Rattle.pl_cli.proofs.writing.write_session.Goals as goal
 use Rattle.pl_cli.proofs.writing.write_session.Goals.{then-exists+in_ok-write_row, else-exists}
 
@@ -17,23 +17,34 @@ returns-in_err-write_row-clause-writes g c =
     let next = lines-next (loaded_world l) (loaded_pipeline l) c.args.session c.loop-col.col _ c.exists.result c.exists.ensures in
     let p = err_from_is_err_and c.from_residual.result c.from_residual.ensures.1 in
     rw (p.1, p.2)
-    (writes-over (lines-session (loaded_world l) l.names.items c.args.session _ (c.day-day.ensures.exact ∙ ap Some (sym (to_z-of_z w32 _ fits))))
+    (writes-over (lines-session (loaded_world l) l.columns.items c.args.session _ (c.day-day.ensures.exact ∙ ap Some (sym (to_z-of_z w32 _ fits))))
     (writing-stop _ _ (writing-over (next.0 c.if-exists.true) c.loop-col.invariant.writing) c.in_err-write_row.ensures.writes))
+
+pub returns-in_err-write_row-clause-most : goal.returns-in_err-write_row-clause-most
+returns-in_err-write_row-clause-most g c =
+    let l = c.args.loaded.now in
+    let fits : FitsSigned w32 c.day-day.result = search rules in
+    let next = (cost-next (loaded_world l) l.columns.items (loaded_pipeline l) c.args.session c.loop-col.col _ c.exists.result c.exists.ensures).0 c.if-exists.true in
+    let all = cost-session (loaded_world l) l.columns.items l.columns.items c.args.session _ (c.day-day.ensures.exact ∙ ap Some (sym (to_z-of_z w32 _ fits))) in
+    omega (arith, next, all, c.loop-col.invariant.cost, c.in_err-write_row.ensures.cost)
 
 pub loop-col-preserved : goal.loop-col-preserved
 loop-col-preserved g c =
     let l = c.args.loaded.now in
     let next = lines-next (loaded_world l) (loaded_pipeline l) c.args.session c.loop-col.col _ c.exists.result c.exists.ensures in
+    let cost = cost-next (loaded_world l) l.columns.items (loaded_pipeline l) c.args.session c.loop-col.col _ c.exists.result c.exists.ensures in
     elim c.if-exists.branch [
       | then-exists+in_ok-write_row w ↦
+          let more = cost.0 w.if-exists.true in
           record {
             writing = rw w.out-is (writing-more _ _ (writing-over (next.0 w.if-exists.true) c.loop-col.invariant.writing) w.in_ok-write_row.ensures.writes);
-            cost = w.steps-is ∙ w.in_ok-write_row.ensures.cost ∙ c.loop-col.invariant.cost;
+            cost = rw w.steps-is (omega (arith, more, c.loop-col.invariant.cost, w.in_ok-write_row.ensures.cost));
           }
       | else-exists w ↦
+          let same = cost.1 w.if-exists.false in
           record {
             writing = rw w.out-is (writing-over (next.1 w.if-exists.false) c.loop-col.invariant.writing);
-            cost = w.steps-is ∙ c.loop-col.invariant.cost;
+            cost = rw w.steps-is (omega (arith, same, c.loop-col.invariant.cost));
           }
     ]
 
@@ -41,6 +52,24 @@ pub returns-clause-writes : goal.returns-clause-writes
 returns-clause-writes g c =
     let l = c.args.loaded.now in
     let fits : FitsSigned w32 c.day-day.result = search rules in
-    let done : length l.assets ≤ c.loop-col.col = omega (arith, c.len-col-end.ensures.length, c.loop-col-test.false) in
-    writes-over (lines-session (loaded_world l) l.names.items c.args.session _ (c.day-day.ensures.exact ∙ ap Some (sym (to_z-of_z w32 _ fits))))
+    let done : length l.parts.assets ≤ c.loop-col.col = omega (arith, c.len-col-end.ensures.length, c.loop-col-test.false) in
+    writes-over (lines-session (loaded_world l) l.columns.items c.args.session _ (c.day-day.ensures.exact ∙ ap Some (sym (to_z-of_z w32 _ fits))))
     (writing-end (writing-over (lines-none (loaded_world l) (loaded_pipeline l) c.args.session c.loop-col.col _ done) c.loop-col.invariant.writing))
+
+pub returns-clause-cost : goal.returns-clause-cost
+returns-clause-cost g c =
+    let l = c.args.loaded.now in
+    let fits : FitsSigned w32 c.day-day.result = search rules in
+    let done : length l.parts.assets ≤ c.loop-col.col = omega (arith, c.len-col-end.ensures.length, c.loop-col-test.false) in
+    let none = cost-none (loaded_world l) l.columns.items (loaded_pipeline l) c.args.session c.loop-col.col (to_z w32 (of_z w32 c.day-day.result)) done in
+    let all = cost-session (loaded_world l) l.columns.items l.columns.items c.args.session (to_z w32 (of_z w32 c.day-day.result)) (c.day-day.ensures.exact ∙ ap Some (sym (to_z-of_z w32 _ fits))) in
+    omega (arith, none, all, c.loop-col.invariant.cost)
+
+pub returns-clause-most : goal.returns-clause-most
+returns-clause-most g c =
+    let l = c.args.loaded.now in
+    let fits : FitsSigned w32 c.day-day.result = search rules in
+    let done : length l.parts.assets ≤ c.loop-col.col = omega (arith, c.len-col-end.ensures.length, c.loop-col-test.false) in
+    let none = cost-none (loaded_world l) l.columns.items (loaded_pipeline l) c.args.session c.loop-col.col (to_z w32 (of_z w32 c.day-day.result)) done in
+    let all = cost-session (loaded_world l) l.columns.items l.columns.items c.args.session (to_z w32 (of_z w32 c.day-day.result)) (c.day-day.ensures.exact ∙ ap Some (sym (to_z-of_z w32 _ fits))) in
+    omega (arith, none, all, c.loop-col.invariant.cost)

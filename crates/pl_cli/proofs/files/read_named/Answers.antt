@@ -1,6 +1,6 @@
 use Rattle.std.proofs.Common.{refl, inl}
 use Rattle.pl_cli.proofs.FileSteps.{file-absent, file-too-long}
-use Rattle.pl_cli.proofs.stages.read_named.Goals as goal
+use Rattle.pl_cli.proofs.files.read_named.Goals as goal
 
 pub returns-in-Err-Failed-clause-ends : goal.returns-in-Err-Failed-clause-ends
 returns-in-Err-Failed-clause-ends g c = λ files told.
