@@ -1,14 +1,12 @@
 // The columns of a script of the plain form.
-ghost use Rattle.std.specs.Prelude.{◌≡◌, ◌≤◌, ◌↔◌, IsTrue, true, pos, None, Some, IfOk, MatchOption, length, option_map};
-ghost use Rattle.std.specs.Prelude.{bytes_eq};
+ghost use Rattle.std.specs.Prelude.{◌≡◌, pos, None, Some, IfOk, MatchOption, option_map, bytes_eq};
 ghost use Rattle.std.specs.List.{list_any};
 ghost use Rattle.pl_grammar.specs.Machine.{args_of};
 ghost use Rattle.pl_syntax.specs.Frames.{args_list};
 ghost use Rattle.pl_syntax.specs.Plain.{plain, args_tree};
 ghost use Rattle.pl_syntax.specs.Scripts.{statements_in};
 ghost use Rattle.pl_syntax.specs.Statements.{statement_of, statements_of};
-ghost use Rattle.pl_cli.specs.PlainScript.{bar_column, window_in, column_in, size_in, mean_in, plain_term, plain_column, names_of, PlainScriptsAreRead};
-ghost use Rattle.pl_cli.specs.PlainScript.{mean_over};
+ghost use Rattle.pl_cli.specs.PlainScript.{bar_column, window_in, column_in, size_in, mean_over, mean_in, plain_term, plain_column, names_of, PlainScriptsAreRead};
 ghost use Rattle.pl_cli.specs.PlainScript as spec;
 ghost use Rattle.pl_model.specs.declared.cell.PlainTerm.TheVariants.{Latest};
 
@@ -33,7 +31,7 @@ pub struct PlainColumn {
 
 /// The columns of a script of the plain form; `None` where the script has another form. The form is 1 to 64 columns with
 /// distinct names, each of which shows `C.latest` or `SimpleMovingAverage(C, W)`. C is `open`, `high`, `low`, `close` or
-/// `volume`, and W a whole number of sessions from 1 to 1,260.
+/// `volume`, and W a whole number of sessions from 1 to 1,260. It fails for want of memory alone.
 pub fn plain_columns(alloc: Global, script: &Script) -> Result<Option<Vec<PlainColumn>>, AllocError>
     ensures { IfOk result (λ read. MatchOption read
         (spec.plain_columns (statements_of (statements_in script.now)) ≡ None)
