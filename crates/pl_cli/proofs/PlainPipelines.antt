@@ -177,5 +177,5 @@ row-line-is w cs a d day xs is_day cells =
     let values = values-are w cs a (pos d) ∙ numbers-are w cs a (pos d) xs cells in
     let long : length xs ≡ length cs = AllZip-long (λ c x. value w [] (term_of c.term) a (pos d) ≡ Number x) cs xs cells in
     let fields : row_fields (pipeline_of cs) Csv (numbered 0 cs) (map (λ n. value_of w (pipeline_of cs) n.term a (pos d)) (numbered 0 cs)) ≡ map cell_text xs =
-        ap (row_fields (pipeline_of cs) Csv (numbered 0 cs)) values ∙ fields-from cs [] cs xs refl long in
+    ap (row_fields (pipeline_of cs) Csv (numbered 0 cs)) values ∙ fields-from cs [] cs xs refl long in
     rw (is_day, fields) refl

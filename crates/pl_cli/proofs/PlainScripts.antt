@@ -272,8 +272,8 @@ not-new xs i x cs c h e front shows old = not-plain (statements_of xs) (λ all p
     twice all plain =
         let back = filter_map plain_column (statements_of (drop (suc i) xs)) in
         let parts : all ≡ cs ++ c ∷ back =
-            sym (read-of all (statements_of xs) plain.each) ∙ columns-split plain_column xs i x h e
-            ∙ ap (λ o. filter_map plain_column (statements_of (take i xs)) ++ cons_option o back) shows ∙ ap (λ z. z ++ c ∷ back) (sym front) in
+        sym (read-of all (statements_of xs) plain.each) ∙ columns-split plain_column xs i x h e
+        ∙ ap (λ o. filter_map plain_column (statements_of (take i xs)) ++ cons_option o back) shows ∙ ap (λ z. z ++ c ∷ back) (sym front) in
         let names : names_of all ≡ names_of cs ++ c.name ∷ names_of back = ap names_of parts ∙ map-append (λ c. c.name) cs (c ∷ back) in
         let distinct : IsDistinct bytes_eq (names_of all) = IsDistinct-from_AllPairs bytes_eq-Decides (names_of all) plain.distinct in
         let new = new-behind c.name (names_of cs) (names_of back) (subst (IsDistinct bytes_eq) names distinct) in

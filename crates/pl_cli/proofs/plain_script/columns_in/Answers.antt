@@ -11,7 +11,7 @@ pub returns-then-is_empty : goal.returns-then-is_empty
 returns-then-is_empty c =
     not-some c.args.statements.now
     (λ low high. elim c.then-is_empty.branch [
-      then-is_empty-via-then-is_empty w ↦ grind (arith, nat_tests, c.is_empty.ensures)
+      | then-is_empty-via-then-is_empty w ↦ grind (arith, nat_tests, c.is_empty.ensures)
       | then-is_empty-via-else-is_empty+then-statements-gt-MOST_COLUMNS w ↦ omega arith
     ])
 
@@ -38,7 +38,7 @@ loop-statement-preserved c =
     let shown : PlainColumn = record { name = c.in-Some.shown.name.now; term = c.in-Some.shown.term } in
     let new : list_any (λ b. bytes_eq shown.name b.name) c.loop-statement.columns.items ≡ false = sym (rw c.deref.ensures.value at c.has_name.ensures) ∙ c.if-has_name.false in
     let items : c.push.new.self.items ≡ c.loop-statement.columns.items ++ shown ∷ [] =
-        c.in_ok-push.ensures.items ∙ ap (λ (n : List ℕ). c.loop-statement.columns.items ++ record { name = n; term = c.in-Some.shown.term } ∷ []) c.in_ok-name.ensures in
+    c.in_ok-push.ensures.items ∙ ap (λ (n : List ℕ). c.loop-statement.columns.items ++ record { name = n; term = c.in-Some.shown.term } ∷ []) c.in_ok-name.ensures in
     record {
       read = more-columns c.args.statements.now c.loop-statement.statement-index c.statement-item.result c.loop-statement.columns.items c.push.new.self.items shown c.loop-statement-test.true c.statement-item.is i.read c.in-Some.ensures items;
       long = ap length items ∙ length-append c.loop-statement.columns.items (shown ∷ []) ∙ ap (λ n. n + 1) i.long;
