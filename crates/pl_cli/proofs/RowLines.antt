@@ -63,7 +63,7 @@ pub cells-more : (w : World) (cs : List PlainColumn) (i : ℕ) (c : PlainColumn)
 cells-more w cs i c a d x h e v =
     let next : take (i + 1) cs ≡ take i cs ++ c ∷ [] = take_more cs i c h ∙ ap (λ z. take i cs ++ z ∷ []) (sym e) in
     let cells : cells_of w (take i cs ++ c ∷ []) a d ≡ cells_of w (take i cs) a d ++ x ∷ [] =
-        map-append (λ (c : PlainColumn). number_of (value w [] (term_of c.term) a d)) (take i cs) (c ∷ []) ∙ ap (λ z. cells_of w (take i cs) a d ++ z ∷ []) (ap number_of v) in
+    map-append (λ (c : PlainColumn). number_of (value w [] (term_of c.term) a d)) (take i cs) (c ∷ []) ∙ ap (λ z. cells_of w (take i cs) a d ++ z ∷ []) (ap number_of v) in
     ap (λ z. cell_fields w z a d) next
     ∙ ap (λ z. behind_commas (map cell_text z)) cells
     ∙ ap behind_commas (map-append cell_text (cells_of w (take i cs) a d) (x ∷ []))

@@ -12,10 +12,16 @@ mod line;
 mod load;
 mod names;
 mod plain_script;
+#[cfg(test)]
+mod plain_tests;
 mod range;
+#[cfg(test)]
+mod refusal_tests;
 mod rows;
 mod stop;
 mod tables;
+#[cfg(test)]
+mod test_runs;
 #[cfg(test)]
 mod tests;
 mod top;

@@ -1,4 +1,5 @@
-use crate::plain_script::{PlainTerm, plain_columns};
+use crate::plain_script::plain_columns;
+use pl_model::PlainTerm;
 use pl_spec::Column;
 use pl_syntax::parse;
 use std::test::Fail;

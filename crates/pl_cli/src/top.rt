@@ -183,7 +183,13 @@ fn refusal_line(alloc: Global, refusal: Refusal<'_>) -> Result<String, AllocErro
             fault,
         } => {
             let mut buffer = Buffer::new();
-            row_line(alloc, name, table_name(table), buffer.format(id), fault.name())
+            row_line(
+                alloc,
+                name,
+                table_name(table),
+                buffer.format(id),
+                fault.name(),
+            )
         }
         Refusal::NoSession { date } => format!(in alloc; "range: NotSession {date}\n"),
         Refusal::Backwards => format!(in alloc; "range: Backwards\n"),

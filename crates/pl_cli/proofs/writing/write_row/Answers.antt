@@ -13,5 +13,5 @@ returns-clause-writes g c =
     let date = simp to_z-of_z at c.put_date.ensures.text in
     let sid : sid_at l.parts.assets c.args.col ≡ c.sid.result = ap (λ (o : Option ℕ). unwrap_or o 0) c.sid.ensures in
     let line = written (loaded_world l) l.columns.items (sid_at l.parts.assets c.args.col) c.sid.result c.args.session c.day.result _ _ _ _ _
-        c.day.ensures.exact sid c.new-line.ensures date c.put_sid.ensures.text c.put_cells.ensures.text c.put.ensures in
+    c.day.ensures.exact sid c.new-line.ensures date c.put_sid.ensures.text c.put_cells.ensures.text c.put.ensures in
     writes-over (c.as_slice.ensures ∙ line) c.write_bytes.ensures.writes
