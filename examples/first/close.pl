@@ -1,2 +1,0 @@
-pipeline 1;
-column c = close.latest;
