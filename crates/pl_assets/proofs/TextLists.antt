@@ -76,5 +76,6 @@ field_behind f g fields more texts new field text same m e n none =
 pub field_at_code : {A : Type 0} (f : A → List ℕ) (g : List ℕ → List ℕ) (fields : List A) (texts : List (List ℕ)) (n : ℕ) (field : A) → map f fields ≡ map g texts → n < length texts
     → field ≡ get_or fields n field → f field ≡ g (get_or texts n [])
 field_at_code f g fields texts n field same h e =
-    let many : length fields ≡ length texts = (let l : length (map f fields) ≡ length (map g texts) = ap length same in rw (length-map, length-map) at l) in
+    let l : length (map f fields) ≡ length (map g texts) = ap length same in
+    let many : length fields ≡ length texts = omega (arith, length-map fields f, length-map texts g) in
     ap f e ∙ sym (get_or-map f fields n field (g []) (omega arith)) ∙ ap (λ l. get_or l n (g [])) same ∙ get_or-map g texts n [] (g []) h

@@ -61,7 +61,8 @@ impl Labels {
     pub fn read(alloc: Global, bytes: &[u8], assets: &Assets) -> Result<Labels, LabelsError>
         // The labels of the records, or the fault of the first faulty one. Only want of memory may
         // come beside.
-        ensures exact { Answers (λ l. l) fault_of result (labels_of assets.now (csv_records bytes.now)) }
+        ensures exact { Answers (λ l. l) fault_of result
+            (labels_of assets.now (csv_records bytes.now)) }
         ensures labels { IfOk result AreLabels }
         // Each stands in the column of an asset.
         ensures cols { IfOk result (λ l. All (λ r. r.col < length assets.now) l.rows) }
@@ -83,8 +84,8 @@ impl Labels {
     ) -> Result<(), Memory>
         requires asset { IsTrue (list_any (λ a. sid_of a == sid) assets.now) }
         requires row { MayFollow self.old.rows (label_row assets.now name.now sid start label.now) }
-        ensures row { OnOk result (self.new
-            ≡ table_of (self.old.rows ++ label_row assets.now name.now sid start label.now ∷ [])) }
+        ensures row { OnOk result (self.new ≡ table_of
+            (self.old.rows ++ label_row assets.now name.now sid start label.now ∷ [])) }
         // A text that is new and not empty stands behind the others.
         ensures texts { OnOk result (self.new.texts ≡ with_label self.old.texts label.now) }
         ensures kept { OnErr result (self.new ≡ self.old) }

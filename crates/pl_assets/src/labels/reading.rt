@@ -27,7 +27,8 @@ pub(crate) fn read_rows(
     bytes: &[u8],
     assets: &Assets,
 ) -> Result<LabelRows, LabelsError>
-    ensures exact { Answers shown_rows fault_of result (label_rows_in assets.now (csv_records bytes.now)) }
+    ensures exact { Answers shown_rows fault_of result
+        (label_rows_in assets.now (csv_records bytes.now)) }
     ensures numbered { IfOk result AreNumbered }
 {
     let mut records = Records::new(alloc, bytes);
@@ -43,7 +44,8 @@ fn rows_behind(
     records: &mut Records,
     assets: &Assets,
 ) -> Result<LabelRows, LabelsError>
-    ensures exact { Answers shown_rows fault_of result (rows_of 2 (says_label assets.now) records.old.left) }
+    ensures exact { Answers shown_rows fault_of result
+        (rows_of 2 (says_label assets.now) records.old.left) }
     ensures numbered { IfOk result AreNumbered }
 {
     let mut rows = LabelRows::new(alloc);
@@ -63,8 +65,8 @@ struct ColumnStart {
     day: i32,
 }
 
-// The start of the label of the record that was read last, behind the rows before it, whose keys are
-// given.
+// The start of the label of the record that was read last, behind the rows before it, whose keys
+// are given.
 #[tactic(auto, unfolding(crate::specs::Labels::says_label))]
 fn next_start(
     before: &LabelRows,
@@ -77,8 +79,9 @@ fn next_start(
     requires keys { AreKeys keys.now before.now.places.items }
     ensures room { OnOk result (length (shown_rows before.now) < 200_000) }
     ensures four { OnOk result (length row.now.fields ≡ 4) }
-    ensures exact { Answers (row_from row.now.fields) fault_of result (at_line
-        (2 + length (shown_rows before.now)) (says_label assets.now (shown_rows before.now) row.now.fields)) }
+    ensures exact { Answers (row_from row.now.fields) fault_of result
+        (at_line (2 + length (shown_rows before.now))
+        (says_label assets.now (shown_rows before.now) row.now.fields)) }
 {
     let line = before.places.len() as u32 + 2;
     if before.places.len() >= MOST_LABELS {

@@ -50,7 +50,8 @@ impl LabelRows {
         ensures numbered { AreNumbered self.new }
         ensures place { IfOk result (λ p. IsBehind self.old self.new p) }
         ensures row { OnOk result (shown_rows self.new
-            ≡ shown_rows self.old ++ record { name = name.now; col = col; start = start; text = text.now } ∷ []) }
+            ≡ shown_rows self.old
+            ++ record { name = name.now; col = col; start = start; text = text.now } ∷ []) }
         ensures kept { OnErr result (shown_rows self.new ≡ shown_rows self.old) }
         ensures texts_kept { OnErr result (self.new.texts ≡ self.old.texts) }
         ensures places_kept { OnErr result (self.new.places.items ≡ self.old.places.items) }
@@ -72,7 +73,8 @@ impl LabelRows {
         ensures numbered { OnOk result (AreNumbered self.new) }
         ensures place { IfOk result (λ p. IsBehind self.old self.new p) }
         ensures row { OnOk result (shown_rows self.new
-            ≡ shown_rows self.old ++ record { name = name.now; col = col; start = start; text = text.now } ∷ []) }
+            ≡ shown_rows self.old
+            ++ record { name = name.now; col = col; start = start; text = text.now } ∷ []) }
         ensures front { OnErr result (KeepsFront self.old self.new) }
     {
         let number = self.names.insert(name)? as u32;
