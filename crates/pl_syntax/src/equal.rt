@@ -7,6 +7,7 @@ ghost use Rattle.pl_syntax.specs.Statements.{statement_of, statements_of};
 ghost use Rattle.pl_syntax.specs.Scripts.{parsed, printed_text};
 ghost use Rattle.pl_syntax.specs.Spells.{SameScript};
 ghost use Rattle.std.specs.Str.{bytes_eq};
+ghost use Rattle.std.specs.Option.{option_map};
 ghost use Rattle.std.specs.Cmp.{on_per, on_equiv, partial_equiv_from_equiv};
 ghost use Rattle.std.specs.Cmp.Lexicographic.{nat_list_eq_equiv};
 
@@ -91,18 +92,22 @@ fn same_expr(a: &Expr, b: &Expr) -> bool
                 name: y,
                 args: ys,
             },
-        ) => {
-            same_words(x, y)
-                && same_expr(d, e)
-                && match xs {
-                    Some(xs) => match ys {
-                        Some(ys) => same_args(xs, ys),
-                        None => false,
-                    },
-                    None => ys.is_none(),
-                }
-        }
+        ) => same_words(x, y) && same_expr(d, e) && same_lists(xs, ys),
         _ => false,
+    }
+}
+
+/// Do both have no parentheses, or the same arguments?
+#[cycle(equal)]
+fn same_lists(a: &Option<ArgList>, b: &Option<ArgList>) -> bool
+    ensures { (result ≡ true) ↔ (option_map (λ l. bare_args (args_tree l)) a.now ≡ option_map (λ l. bare_args (args_tree l)) b.now) }
+{
+    match a {
+        Some(xs) => match b {
+            Some(ys) => same_args(xs, ys),
+            None => false,
+        },
+        None => b.is_none(),
     }
 }
 
