@@ -120,8 +120,8 @@ windows-in (c ∷ cs) [] h = absurd h
 windows-in (c ∷ cs) (s ∷ ss) h = All-cons (λ c. HasWindow c.term) c cs (of-term c.term s.tree h.0.shows) (windows-in cs ss h.1)
   where
     of-term : (t : PlainTerm) (tree : Tree) → Shows t tree → HasWindow t
-    of-term (Latest column) tree shows = record { some = omega arith; most = omega arith }
-    of-term (SimpleMovingAverage column size) tree shows = record { some = shows.0.0; most = shows.0.1 }
+    of-term (Latest _) tree shows = record { some = omega arith; most = omega arith }
+    of-term (SimpleMovingAverage _ _) tree shows = record { some = shows.0.0; most = shows.0.1 }
 
 pub columns-few : (columns : List PlainColumn) (statements : List Statement) → plain_columns statements ≡ Some columns → length columns ≤ 64
 columns-few columns statements h = ((scripts-read columns statements).0 h).few

@@ -60,6 +60,21 @@ returns-clause-ends g c = λ files lists told listed.
     (stage-goes_on (labels.ends files (assets.keeps ∙ sessions.keeps ∙ told)) (stage-goes_on (bars.ends files (labels.keeps ∙ assets.keeps ∙ sessions.keeps ∙ told))
     (stage-done (c.in_ok-adjustments.ensures.ends lists listed))))))
 
+pub returns-clause-world : goal.returns-clause-world
+returns-clause-world g c = λ files lists told listed.
+    let sessions = c.in_ok-sessions.ensures in
+    let assets = c.in_ok-assets.ensures in
+    let labels = c.in_ok-labels.ensures in
+    let bars = c.in_ok-bars.ensures in
+    rw (
+      sessions.exact files told,
+      assets.exact files (sessions.keeps ∙ told),
+      labels.exact files (assets.keeps ∙ sessions.keeps ∙ told),
+      bars.exact files (labels.keeps ∙ assets.keeps ∙ sessions.keeps ∙ told),
+      c.in_ok-adjustments.ensures.exact lists listed,
+    )
+    refl
+
 pub returns-clause-made : goal.returns-clause-made
 returns-clause-made g c =
     record {
