@@ -10,7 +10,7 @@ use std::marker::Brand;
 use std::sync::ledger::{Blank, Ledger};
 use std::test::Fail;
 
-pub const PIPELINE: &[u8] = b"pipeline 1;\ncolumn c = close.latest;\n";
+pub(crate) const PIPELINE: &[u8] = b"pipeline 1;\ncolumn c = close.latest;\n";
 
 const SESSIONS: &[u8] = b"2024-01-02\n2024-01-03\n2024-01-04\n2024-01-05\n2024-01-08\n2024-01-09\n";
 
@@ -23,19 +23,19 @@ const BARS: &[u8] = b"sid,session,open,high,low,close,volume\n\
     1,2024-01-04,51,51,51,51,10\n1,2024-01-05,52,52,52,52,10\n\
     1,2024-01-08,53,53,53,53,10\n1,2024-01-09,54,54,54,54,10\n";
 
-pub const TABLE: &[u8] = b"session,sid,c\n2024-01-03,1,100.000000\n2024-01-04,1,102.000000\n\
+pub(crate) const TABLE: &[u8] = b"session,sid,c\n2024-01-03,1,100.000000\n2024-01-04,1,102.000000\n\
     2024-01-05,1,51.000000\n2024-01-08,1,52.000000\n2024-01-09,1,53.000000\n";
 
 /// The first seconds of 2024-01-04 and of the Saturday after it, and the last of 2024-01-04.
-pub const FOURTH: i64 = 1_704_326_400;
+pub(crate) const FOURTH: i64 = 1_704_326_400;
 
-pub const SATURDAY: i64 = 1_704_499_200;
+pub(crate) const SATURDAY: i64 = 1_704_499_200;
 
-pub const END_OF_FOURTH: i64 = 1_704_412_799;
+pub(crate) const END_OF_FOURTH: i64 = 1_704_412_799;
 
 /// What a run left: its status, and what stands on `out` and `err`.
 #[derive(Drop)]
-pub struct Left {
+pub(crate) struct Left {
     pub status: u8,
     pub out: MemorySink,
     pub err: MemorySink,
@@ -43,21 +43,21 @@ pub struct Left {
 
 /// Rows of adjustments: at most two splits, a merger and a dividend.
 #[derive(Clone, Copy)]
-pub struct Rows {
+pub(crate) struct Rows {
     pub split: Option<RawAdjust>,
     pub second_split: Option<RawAdjust>,
     pub merger: Option<RawAdjust>,
     pub dividend: Option<RawAdjust>,
 }
 
-pub const NO_ROWS: Rows = Rows {
+pub(crate) const NO_ROWS: Rows = Rows {
     split: None,
     second_split: None,
     merger: None,
     dividend: None,
 };
 
-pub fn row(id: i64, effective: i64, num: i64, den: i64, sid: i64) -> Option<RawAdjust> {
+pub(crate) fn row(id: i64, effective: i64, num: i64, den: i64, sid: i64) -> Option<RawAdjust> {
     Some(RawAdjust {
         id,
         effective,
@@ -67,7 +67,7 @@ pub fn row(id: i64, effective: i64, num: i64, den: i64, sid: i64) -> Option<RawA
     })
 }
 
-pub fn split(id: i64, effective: i64, num: i64, den: i64) -> Rows {
+pub(crate) fn split(id: i64, effective: i64, num: i64, den: i64) -> Rows {
     Rows {
         split: row(id, effective, num, den, 1),
         ..NO_ROWS
@@ -89,7 +89,7 @@ fn table(
     }
 }
 
-pub fn keeper(alloc: Global, rows: Rows, failing: Vec<u64>) -> Result<MemoryKeeper, Fail> {
+pub(crate) fn keeper(alloc: Global, rows: Rows, failing: Vec<u64>) -> Result<MemoryKeeper, Fail> {
     let name = String::from_str(alloc, "adj.db")?;
     let splits = table(alloc, rows.split, rows.second_split)?;
     let mergers = table(alloc, rows.merger, None)?;
@@ -98,7 +98,7 @@ pub fn keeper(alloc: Global, rows: Rows, failing: Vec<u64>) -> Result<MemoryKeep
 }
 
 /// The words of a text, with a space between them.
-pub fn words_of(alloc: Global, text: &str) -> Result<Vec<String>, Fail> {
+pub(crate) fn words_of(alloc: Global, text: &str) -> Result<Vec<String>, Fail> {
     let mut words = Vec::new(alloc);
     for word in text.split(' ') {
         words.push(String::from_str(alloc, word)?)?;
@@ -107,13 +107,13 @@ pub fn words_of(alloc: Global, text: &str) -> Result<Vec<String>, Fail> {
 }
 
 /// The words of a run over the base files, and these.
-pub fn run_words(alloc: Global, further: &str) -> Result<Vec<String>, Fail> {
+pub(crate) fn run_words(alloc: Global, further: &str) -> Result<Vec<String>, Fail> {
     let text = format!(in alloc; "run p.pl sessions.csv assets.csv bars.csv {further}")?;
     words_of(alloc, &text)
 }
 
 /// The base files.
-pub fn base_shelf(alloc: Global, failing: Vec<u64>) -> Result<MemoryShelf, Fail> {
+pub(crate) fn base_shelf(alloc: Global, failing: Vec<u64>) -> Result<MemoryShelf, Fail> {
     let mut shelf = MemoryShelf::new(alloc, failing);
     for (name, bytes) in [
         ("p.pl", PIPELINE),
@@ -145,7 +145,7 @@ fn run<L: Ledger>(
 }
 
 /// The run over these parts and an `out` whose calls of these numbers fail.
-pub fn run_over(
+pub(crate) fn run_over(
     alloc: Global,
     words: &[String],
     mut shelf: MemoryShelf,
@@ -169,7 +169,7 @@ pub fn run_over(
 }
 
 /// Whether these words over the base files, with this one in the place of one of them, and these adjustments end so.
-pub fn is_answered(
+pub(crate) fn is_answered(
     alloc: Global,
     words: &[String],
     file: (&str, &[u8]),
