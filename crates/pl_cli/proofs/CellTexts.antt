@@ -1,9 +1,9 @@
 -- How long the text of a cell is.
-use Rattle.std.proofs.Common.{◌≡◌, ◌⊎◌, inl, inr, ℕ, zero, suc, ◌+◌, ◌*◌, ◌/◌, ◌%◌, ◌^◌, ◌<◌, ◌≤◌, Bool, true, false, ℤ, pos, List, [], ◌∷◌, ◌++◌, length, take, refl, ap, arith, length-append, length-take}
+use Rattle.std.proofs.Common.{◌≡◌, inl, inr, ℕ, zero, suc, ◌+◌, ◌/◌, ◌%◌, ◌^◌, ◌<◌, ◌≤◌, Bool, true, false, ℤ, pos, List, [], ◌∷◌, ◌++◌, length, take, refl, ap, arith, length-append, length-take}
 use Rattle.std.specs.Fmt.{decimal, sign_text}
 use Rattle.std.specs.Int.RustNames.{unsigned_abs, int_lt}
 use Rattle.std.proofs.lemmas.Fmt.{length-decimal-le}
-use Rattle.pl_spec.specs.Rounding.{MISSING, LIMIT, MILLION, IsCell, is_missing}
+use Rattle.pl_spec.specs.Rounding.{LIMIT, MILLION, IsCell, is_missing}
 use Rattle.pl_spec.specs.Dates.{digits}
 use Rattle.pl_spec.specs.Decimals.{units_text, cell_text}
 

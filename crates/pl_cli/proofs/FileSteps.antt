@@ -1,5 +1,5 @@
 -- The step of a file that was read, and the rows that it holds.
-use Rattle.std.proofs.Common.{◌≡◌, ◌≤◌, ◌<◌, true, IsSomeAnd, ℕ, List, [], ◌∷◌, Bool, false, nat_lt, length, All, Option, Some, None, option_map, unwrap_or, IfSome, Result, Ok, Err, refl, sym, ap, arith, ◌∙◌}
+use Rattle.std.proofs.Common.{◌≡◌, ◌≤◌, ◌<◌, true, IsSomeAnd, ℕ, List, [], ◌∷◌, Bool, false, nat_lt, length, All, Option, Some, None, option_map, IfSome, Result, Ok, Err, refl, sym, ap, arith, ◌∙◌}
 use Rattle.std.specs.Option.{option_or}
 use Rattle.std.specs.Result.{result_unwrap_or}
 use Rattle.std.proofs.lemmas.Bool.Decides.{nat_tests}
@@ -28,10 +28,10 @@ use Rattle.pl_cli.specs.declared.stop.Refusal.TheVariants as refusals
 use Rattle.pl_cli.specs.declared.plain_script.PlainColumn.{PlainColumn}
 use Rattle.pl_cli.specs.PlainScript.{Shows, IsColumn, plain_columns}
 use Rattle.pl_cli.specs.Misspelled.{error_fault}
-use Rattle.pl_cli.specs.Step.{Step, first_fault, file, file_fault, rule, no_rule, bytes_in}
+use Rattle.pl_cli.specs.Step.{file, file_fault, rule, bytes_in}
 use Rattle.pl_cli.specs.Work.{fault_in, fault_said, form_rule, statements_held, columns_held}
 use Rattle.pl_cli.proofs.PlainScripts.{scripts-read}
-use Rattle.pl_cli.specs.Ends.{IsStop, StageEnds, IsRisen, told_by, fault_of}
+use Rattle.pl_cli.specs.Ends.{StageEnds, IsRisen, told_by, fault_of}
 
 -- a file within its cap has the fault of its rule
 fault-is : (name bytes : List ℕ) (cap : ℕ) (limit : Limit) (rule : List ℕ → Option Fault) (o : Option (List ℕ)) → o ≡ Some bytes → length bytes ≤ cap

@@ -1,7 +1,7 @@
 -- From the end of a command to the status and the line.
-use Rattle.std.proofs.Common.{◌≡◌, ◌⊎◌, inl, inr, ℕ, ℤ, List, [], ◌∷◌, ◌++◌, Bool, true, arith, IsTrue, IsSome, Option, Some, None, Result, Ok, Err, OnOk, refl, ap, ◌∙◌, codes}
+use Rattle.std.proofs.Common.{◌≡◌, ◌⊎◌, inl, inr, ℕ, ℤ, List, [], ◌∷◌, ◌++◌, Bool, arith, IsTrue, IsSome, Option, Some, None, Result, Ok, Err, OnOk, refl, codes}
 use Rattle.pl_outside.specs.Files.{Files}
-use Rattle.pl_outside.specs.Taken.{TakesAll, TakesPrefix}
+use Rattle.pl_outside.specs.Taken.{TakesPrefix}
 use Rattle.pl_cli.specs.declared.stop.Refusal.{Refusal}
 use Rattle.pl_cli.specs.declared.stop.Refusal.TheVariants as refusals
 use Rattle.pl_cli.specs.declared.stop.Stop.{Stop}
@@ -19,7 +19,7 @@ use Rattle.pl_cli.specs.Step.Source.{File, Store}
 use Rattle.pl_cli.specs.Range.{range_steps}
 use Rattle.pl_cli.specs.Work.{assets_held, labels_steps, adjustments_steps, data_steps, run_steps, work}
 use Rattle.pl_cli.proofs.Steps.{stop-weaker}
-use Rattle.pl_cli.specs.Ends.{IsStop, CommandEnds, EndsJudged, EndsForMemory, Ends, fault_of, stop_status, end_status, end_line, is_stopped}
+use Rattle.pl_cli.specs.Ends.{CommandEnds, EndsJudged, EndsForMemory, Ends, fault_of, stop_status, end_status, end_line, is_stopped}
 
 -- what the last function makes of an end
 abbrev pub Finished : {T : Type 0} → Result T End → ℕ → (List ℕ → Type 0) → Type 0

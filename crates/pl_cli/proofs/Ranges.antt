@@ -1,6 +1,5 @@
 -- The faults of a range.
-use Rattle.std.proofs.Common.{◌≡◌, ℕ, ◌<◌, ◌≤◌, ◌-◌, nat_lt, true, false, ℤ, pos, ◌-ℤ◌, to_z, of_z, w64, List, Option, Some, None, refl, ap, ◌∙◌, arith}
-use Rattle.std.specs.Int.RustNames.{int_lt}
+use Rattle.std.proofs.Common.{◌≡◌, ℕ, ◌<◌, ◌≤◌, ◌-◌, nat_lt, true, false, ℤ, pos, ◌-ℤ◌, to_z, of_z, w64, List, Some, None, refl, arith}
 use Rattle.std.proofs.lemmas.Int.{ints}
 use Rattle.std.proofs.lemmas.Bool.Decides.{nat_tests}
 use Rattle.pl_spec.specs.Window.{before}

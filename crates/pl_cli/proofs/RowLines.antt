@@ -1,6 +1,5 @@
 -- The line of a row.
-use Rattle.std.proofs.Common.{◌≡◌, ℕ, ◌+◌, ◌<◌, Bool, true, false, ◌&&◌, if◌then◌else◌, ℤ, pos, List, [], ◌∷◌, ◌++◌, length, take, get_or, map, flat_map, Some, refl, sym, ap, ◌∙◌, append_assoc, decimal}
-use Rattle.std.specs.List.{AllZip}
+use Rattle.std.proofs.Common.{◌≡◌, ℕ, ◌+◌, ◌<◌, Bool, true, false, ◌&&◌, if◌then◌else◌, ℤ, pos, List, [], ◌∷◌, ◌++◌, length, take, get_or, map, Some, refl, sym, ap, ◌∙◌, append_assoc, decimal}
 use Rattle.std.specs.Prelude.{sum_by}
 use Rattle.std.proofs.Math.Nat.{zero-add}
 use Rattle.std.proofs.lemmas.Grind.{flat_map-append}
@@ -10,7 +9,7 @@ use Rattle.pl_spec.specs.declared.Format.TheVariants.{Csv}
 use Rattle.pl_spec.specs.Dates.{date_text}
 use Rattle.pl_spec.specs.Decimals.{cell_text}
 use Rattle.pl_spec.specs.World.{World, day_of, exists}
-use Rattle.pl_spec.specs.Value.{Value, value, step, number_of}
+use Rattle.pl_spec.specs.Value.{value, step, number_of}
 use Rattle.pl_spec.specs.Value.Value.{Number}
 use Rattle.pl_spec.specs.Table.{row}
 use Rattle.pl_spec.specs.Text.{row_line}

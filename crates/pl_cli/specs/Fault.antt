@@ -1,5 +1,5 @@
 -- The faults of the input, each with its status and its line.
-use Rattle.std.specs.Prelude.{ℕ, ℤ, pos, List, [], ◌∷◌, ◌++◌, Option, Some, None, codes, decimal}
+use Rattle.std.specs.Prelude.{ℕ, ℤ, List, [], ◌∷◌, ◌++◌, Option, Some, None, codes, decimal}
 use Rattle.std.specs.Fmt.{signed_decimal}
 use Rattle.pl_grammar.specs.declared.Place.{Place}
 use Rattle.pl_outside.specs.declared.keeper.Table.{Table}

@@ -15,7 +15,7 @@ use Rattle.pl_grammar.specs.Tree.{Tree, number, name, call, member, Args, no_arg
 use Rattle.pl_grammar.specs.Script.{Head, ColumnHead, Statement}
 use Rattle.pl_model.specs.declared.cell.PlainTerm.{PlainTerm}
 use Rattle.pl_model.specs.declared.cell.PlainTerm.TheVariants.{Latest, SimpleMovingAverage}
-use Rattle.pl_model.specs.PlainTerms.{kind_of, column_of, size_of, term_of}
+use Rattle.pl_model.specs.PlainTerms.{kind_of, column_of, size_of}
 use Rattle.pl_cli.specs.declared.plain_script.PlainColumn.{PlainColumn}
 
 -- ---- the form

@@ -1,5 +1,5 @@
 -- How the code's request reads.
-use Rattle.std.specs.Prelude.{ℕ, List, Option, option_map}
+use Rattle.std.specs.Prelude.{option_map}
 use Rattle.pl_cli.specs.Request as spec
 use Rattle.pl_cli.specs.declared.words.Request.{Request}
 use Rattle.pl_cli.specs.declared.words.Request.TheVariants.{Run, Fmt}

@@ -1,4 +1,4 @@
-use Rattle.std.proofs.Common.{◌≡◌, ◌+◌, ◌∙◌, ap, ℕ, List, length, arith}
+use Rattle.std.proofs.Common.{◌+◌, ◌∙◌, ap, ℕ, arith}
 use Rattle.pl_outside.proofs.Pieces.{writes-over}
 use Rattle.pl_cli.proofs.commands.run_command.Goals as goal
 

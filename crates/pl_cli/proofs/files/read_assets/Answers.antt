@@ -1,8 +1,8 @@
-use Rattle.std.proofs.Common.{◌≡◌, ◌∙◌, ap, sym, refl, ℕ, List, length, Ok}
+use Rattle.std.proofs.Common.{refl, ℕ, List}
 use Rattle.pl_records.specs.Records.{csv_records}
 use Rattle.pl_assets.specs.Assets.{assets_of}
 use Rattle.pl_assets.specs.Faults.{fault_of}
-use Rattle.pl_cli.specs.Work.{fault_in, assets_fault, assets_rule, assets_held}
+use Rattle.pl_cli.specs.Work.{assets_fault, assets_rule, assets_held}
 use Rattle.pl_cli.proofs.FileSteps.{file-passes, file-stops, reader-tells, rows-held}
 use Rattle.pl_cli.proofs.files.read_assets.Goals as goal
 

@@ -1,8 +1,8 @@
-use Rattle.std.proofs.Common.{◌≡◌, ◌∙◌, ap, sym, refl, ℕ, List, length, Ok}
+use Rattle.std.proofs.Common.{refl, ℕ, List}
 use Rattle.pl_records.specs.Records.{csv_records}
 use Rattle.pl_bars.specs.Bars.{bars_of}
 use Rattle.pl_bars.specs.Faults.{fault_of}
-use Rattle.pl_cli.specs.Work.{fault_in, bars_fault, bars_rule, bars_held}
+use Rattle.pl_cli.specs.Work.{bars_fault, bars_rule, bars_held}
 use Rattle.pl_cli.proofs.FileSteps.{file-passes, file-stops, reader-tells, rows-held}
 use Rattle.pl_cli.proofs.files.read_bars.Goals as goal
 

@@ -1,9 +1,6 @@
-use Rattle.std.proofs.Common.{◌≡◌, ◌∙◌, ap, sym, refl, ℕ, List, Some, None}
-use Rattle.std.proofs.lemmas.Result.{err_from_is_err_and}
 use Rattle.pl_syntax.specs.Scripts.{statements_in}
 use Rattle.pl_syntax.specs.Statements.{statements_of}
-use Rattle.pl_cli.specs.PlainScript.{plain_columns}
-use Rattle.pl_cli.proofs.Steps.{stage-stops, stage-goes_on}
+use Rattle.pl_cli.proofs.Steps.{stage-goes_on}
 use Rattle.pl_cli.proofs.FileSteps.{form-passes, form-stops, columns-held, columns-few, columns-windows}
 use Rattle.pl_cli.proofs.files.read_columns.Goals as goal
 

@@ -1,8 +1,8 @@
-use Rattle.std.proofs.Common.{◌≡◌, ◌∙◌, ap, sym, refl, ℕ, List, length, Ok}
+use Rattle.std.proofs.Common.{refl, ℕ, List}
 use Rattle.pl_records.specs.Records.{csv_records}
 use Rattle.pl_assets.specs.Labels.{labels_of, no_labels}
 use Rattle.pl_assets.specs.LabelFaults.{fault_of}
-use Rattle.pl_cli.specs.Work.{fault_in, labels_fault, labels_rule, labels_held}
+use Rattle.pl_cli.specs.Work.{labels_fault, labels_rule, labels_held}
 use Rattle.pl_cli.proofs.FileSteps.{file-passes, file-stops, reader-tells, value-held}
 use Rattle.pl_cli.proofs.files.read_named_labels.Goals as goal
 

@@ -1,4 +1,4 @@
-use Rattle.std.proofs.Common.{◌≡◌, ◌∙◌, ap, sym, refl, ℕ, List}
+use Rattle.std.proofs.Common.{◌≡◌, ◌∙◌, sym, refl}
 use Rattle.pl_syntax.specs.Said.{Spelled, said}
 use Rattle.pl_syntax.specs.Scripts.{parsed}
 use Rattle.pl_syntax.proofs.TextsSaid.{spells-said}

@@ -1,8 +1,8 @@
-use Rattle.std.proofs.Common.{◌≡◌, ◌∙◌, ap, sym, refl, ℕ, List, length, Ok}
+use Rattle.std.proofs.Common.{refl, ℕ, List}
 use Rattle.pl_records.specs.Records.{csv_records}
 use Rattle.pl_calendar.specs.Days.{sessions_of}
 use Rattle.pl_calendar.specs.Faults.{fault_of}
-use Rattle.pl_cli.specs.Work.{fault_in, sessions_fault, sessions_rule, days_held}
+use Rattle.pl_cli.specs.Work.{sessions_fault, sessions_rule, days_held}
 use Rattle.pl_cli.proofs.FileSteps.{file-passes, file-stops, reader-tells, rows-held}
 use Rattle.pl_cli.proofs.files.read_sessions.Goals as goal
 

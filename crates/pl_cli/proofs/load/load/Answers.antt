@@ -1,4 +1,4 @@
-use Rattle.std.proofs.Common.{◌≡◌, ◌∙◌, sym, ap, refl, ℕ, ℤ, List}
+use Rattle.std.proofs.Common.{◌∙◌, sym, ap}
 use Rattle.std.proofs.lemmas.Result.{err_from_is_err_and}
 use Rattle.pl_spec.specs.World.{World}
 use Rattle.pl_cli.proofs.Steps.{stage-stops, stage-goes_on, stage-done, stage-weaker, stays-sound, always}

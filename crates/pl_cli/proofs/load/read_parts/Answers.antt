@@ -1,4 +1,4 @@
-use Rattle.std.proofs.Common.{◌≡◌, ◌∙◌, sym, ap, refl, ℕ, ℤ, List, arith}
+use Rattle.std.proofs.Common.{◌∙◌, refl}
 use Rattle.std.proofs.lemmas.Result.{err_from_is_err_and}
 use Rattle.pl_cli.specs.Work.{data_steps}
 use Rattle.pl_cli.proofs.Steps.{stage-stops, stage-goes_on, stage-done, stage-weaker, stays-sound, always}

@@ -1,4 +1,4 @@
-use Rattle.std.proofs.Common.{◌≡◌, ◌<◌, ◌≤◌, ◌∙◌, sym, ap, refl, ℕ, ℤ, pos, Option, Some, None, unwrap_or, FitsSigned, w32, rules, arith}
+use Rattle.std.proofs.Common.{◌∙◌, sym, ap, pos, unwrap_or, FitsSigned, w32, rules, arith}
 use Rattle.std.proofs.lemmas.Int.{to_z-of_z}
 use Rattle.pl_spec.specs.Window.{before}
 use Rattle.pl_cli.specs.Reading.{run_of}

@@ -1,4 +1,4 @@
-use Rattle.std.proofs.Common.{rules, ◌≡◌, ◌≤◌, ◌++◌, ◌∷◌, [], ◌∙◌, ℕ, List, length, take, FitsSigned, w64, ap, arith, length-append}
+use Rattle.std.proofs.Common.{◌∷◌, [], length, take, FitsSigned, w64, ap, arith, length-append}
 use Rattle.std.proofs.lemmas.Int.{to_z-of_z}
 use Rattle.pl_cli.proofs.CellTexts.{length-cell_text}
 use Rattle.pl_cli.proofs.rows.put_cell.Goals as goal

@@ -1,4 +1,4 @@
-use Rattle.std.proofs.Common.{◌≡◌, ◌++◌, ◌∙◌, ap, List}
+use Rattle.std.proofs.Common.{◌++◌, ◌∙◌, ap, List}
 use Rattle.pl_spec.specs.declared.RawAdjust.{RawAdjust}
 use Rattle.pl_cli.proofs.tables.load_table.Goals as goal
 

@@ -1,6 +1,5 @@
-use Rattle.std.proofs.Common.{◌≡◌, ◌∙◌, sym, ap, refl, List, Ok}
+use Rattle.std.proofs.Common.{Ok}
 use Rattle.pl_adjust.specs.Faults.{fault_of}
-use Rattle.pl_cli.specs.Work.{adjustments_told}
 use Rattle.pl_cli.proofs.TableSteps.{told-rows, told-fault, rows-pass, rows-held, rows-stop}
 use Rattle.pl_cli.proofs.tables.read_named_adjustments.Goals as goal
 

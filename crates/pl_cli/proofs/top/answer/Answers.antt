@@ -1,4 +1,3 @@
-use Rattle.std.proofs.Common.{◌≡◌}
 use Rattle.pl_cli.specs.Work.{work, text_of, cost_of}
 use Rattle.pl_cli.proofs.Steps.{always}
 use Rattle.pl_cli.proofs.Finish.{command-weaker}

@@ -1,4 +1,4 @@
-use Rattle.std.proofs.Common.{◌≡◌, ◌∙◌, refl, List, ℕ}
+use Rattle.std.proofs.Common.{List, ℕ}
 use Rattle.pl_cli.specs.Ends.{IsTold}
 use Rattle.pl_cli.proofs.Finish.{ends-of, complete-of, zero-done, nine-prefix, store-named}
 use Rattle.pl_cli.proofs.top.run_program.Goals as goal

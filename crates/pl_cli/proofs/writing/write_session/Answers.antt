@@ -1,4 +1,4 @@
-use Rattle.std.proofs.Common.{rules, ◌≡◌, ◌≤◌, ◌<◌, ◌∙◌, sym, ap, refl, ℕ, length, arith, FitsSigned, to_z, of_z, w32, Some}
+use Rattle.std.proofs.Common.{rules, ◌≤◌, ◌∙◌, sym, ap, refl, length, arith, FitsSigned, to_z, of_z, w32, Some}
 use Rattle.std.proofs.lemmas.Int.{to_z-of_z}
 use Rattle.std.proofs.lemmas.Result.{err_from_is_err_and}
 use Rattle.pl_outside.proofs.Pieces.{writing-start, writing-more, writing-end, writing-stop, writing-over, writes-over}

@@ -1,7 +1,7 @@
-use Rattle.std.proofs.Common.{◌≡◌, ◌≤◌, ◌<◌, ◌+◌, ◌++◌, ◌∙◌, sym, ap, refl, ℕ, List, arith}
+use Rattle.std.proofs.Common.{◌<◌, ◌++◌, ◌∙◌, sym, ap, refl, ℕ, List, arith}
 use Rattle.std.proofs.lemmas.Result.{err_from_is_err_and}
-use Rattle.pl_outside.proofs.Pieces.{Writing, writing-start, writing-more, writing-end, writing-stop, writing-over}
-use Rattle.pl_cli.specs.Loads.{loaded_world, loaded_pipeline, loaded_text, loaded_cost}
+use Rattle.pl_outside.proofs.Pieces.{writing-start, writing-more, writing-end, writing-stop, writing-over}
+use Rattle.pl_cli.specs.Loads.{loaded_world, loaded_pipeline, loaded_text}
 use Rattle.pl_cli.proofs.SessionLines.{table_lines, table_lines-next, table_lines-none, table_cost-next, table_cost-none, text-is}
 use Rattle.pl_cli.proofs.writing.write_table.Goals as goal
 
