@@ -1,5 +1,5 @@
 -- The step of a file that was read, and the rows that it holds.
-use Rattle.std.proofs.Common.{◌≡◌, ◌≤◌, ◌<◌, true, IsSomeAnd, ℕ, List, [], ◌∷◌, Bool, false, nat_lt, length, All, Option, Some, None, option_map, IfSome, Result, Ok, Err, refl, sym, ap, arith, ◌∙◌}
+use Rattle.std.proofs.Common.{◌≡◌, ◌≤◌, ◌<◌, true, IsSomeAnd, ℕ, List, [], ◌∷◌, Bool, false, nat_lt, length, Option, Some, None, option_map, IfSome, Result, Ok, Err, refl, sym, ap, arith, ◌∙◌}
 use Rattle.std.specs.Option.{option_or}
 use Rattle.std.specs.Result.{result_unwrap_or}
 use Rattle.std.proofs.lemmas.Bool.Decides.{nat_tests}
@@ -11,22 +11,16 @@ use Rattle.pl_cli.specs.declared.stop.Stop.TheVariants as stops
 use Rattle.pl_cli.specs.declared.stop.Stop.TheVariants.{Judged, Missed, Unkept}
 use Rattle.pl_cli.specs.Fault.{Fault}
 use Rattle.pl_cli.specs.Fault.Fault.{Passed, Unread}
-use Rattle.std.specs.List.{AllZip}
-use Rattle.std.proofs.lemmas.List.Elements.{All-nil, All-cons}
 use Rattle.pl_grammar.specs.Faults as syntax
-use Rattle.pl_grammar.specs.Tree.{Tree}
 use Rattle.pl_grammar.specs.Script.{Statement}
 use Rattle.pl_syntax.specs.declared.error.SyntaxError.{SyntaxError}
 use Rattle.pl_syntax.specs.declared.error.SyntaxError.TheVariants.{BadByte, Unexpected, TooDeep, NumberTooLarge, TooLong, LongStatement, Memory}
 use Rattle.pl_syntax.specs.Parsing.{IsCause}
 use Rattle.pl_syntax.specs.Said.{said}
 use Rattle.pl_syntax.proofs.TextsSaid.{fault-said}
-use Rattle.pl_model.specs.declared.cell.PlainTerm.{PlainTerm}
-use Rattle.pl_model.specs.declared.cell.PlainTerm.TheVariants.{Latest, SimpleMovingAverage}
-use Rattle.pl_model.specs.PlainTerms.{HasWindow}
 use Rattle.pl_cli.specs.declared.stop.Refusal.TheVariants as refusals
 use Rattle.pl_cli.specs.declared.plain_script.PlainColumn.{PlainColumn}
-use Rattle.pl_cli.specs.PlainScript.{Shows, IsColumn, plain_columns}
+use Rattle.pl_cli.specs.PlainScript.{plain_columns}
 use Rattle.pl_cli.specs.Misspelled.{error_fault}
 use Rattle.pl_cli.specs.Step.{file, file_fault, rule, bytes_in}
 use Rattle.pl_cli.specs.Work.{fault_in, fault_said, form_rule, statements_held, columns_held}
@@ -114,17 +108,5 @@ pub columns-held : (files : Files) (name : List ℕ) (statements : List Statemen
 unfolding columns_held
 columns-held files name statements columns e h = rw (e, h) refl
 
-windows-in : (cs : List PlainColumn) (ss : List Statement) → AllZip IsColumn cs ss → All (λ c. HasWindow c.term) cs
-windows-in [] ss h = All-nil (λ c. HasWindow c.term)
-windows-in (c ∷ cs) [] h = absurd h
-windows-in (c ∷ cs) (s ∷ ss) h = All-cons (λ c. HasWindow c.term) c cs (of-term c.term s.tree h.0.shows) (windows-in cs ss h.1)
-  where
-    of-term : (t : PlainTerm) (tree : Tree) → Shows t tree → HasWindow t
-    of-term (Latest _) tree shows = record { some = omega arith; most = omega arith }
-    of-term (SimpleMovingAverage _ _) tree shows = record { some = shows.0.0; most = shows.0.1 }
-
 pub columns-few : (columns : List PlainColumn) (statements : List Statement) → plain_columns statements ≡ Some columns → length columns ≤ 64
 columns-few columns statements h = ((scripts-read columns statements).0 h).few
-
-pub columns-windows : (columns : List PlainColumn) (statements : List Statement) → plain_columns statements ≡ Some columns → All (λ c. HasWindow c.term) columns
-columns-windows columns statements h = windows-in columns statements ((scripts-read columns statements).0 h).each

@@ -1,11 +1,10 @@
 -- What was read, and the text that it gives.
-use Rattle.std.specs.Prelude.{◌≡◌, ℕ, ◌<◌, ◌≤◌, List, length, All}
+use Rattle.std.specs.Prelude.{◌≡◌, ℕ, ◌<◌, ◌≤◌, List, length}
 use Rattle.pl_spec.specs.declared.Format.TheVariants.{Csv}
 use Rattle.pl_spec.specs.World.{World}
 use Rattle.pl_spec.specs.Parts.{world_of, AreFor}
 use Rattle.pl_spec.specs.Table.{Pipeline, table}
 use Rattle.pl_spec.specs.Text.{header, text}
-use Rattle.pl_model.specs.PlainTerms.{HasWindow}
 use Rattle.pl_cli.specs.declared.load.Parts.{Parts}
 use Rattle.pl_cli.specs.declared.load.Loaded.{Loaded}
 use Rattle.pl_cli.specs.PlainScript.{pipeline_of}
@@ -36,5 +35,4 @@ pub record IsLoaded (l : Loaded) : Type 0 where
   pub parts : AreMade l.parts
   pub within : l.to < length l.parts.sessions
   pub few : length l.columns.items ≤ 64
-  pub windows : All (λ c. HasWindow c.term) l.columns.items
   pub header : l.header.items ≡ header (loaded_pipeline l) Csv

@@ -4,7 +4,6 @@ ghost use Rattle.std.specs.Option.{ForSome};
 ghost use Rattle.pl_outside.specs.Counts.{Rose};
 ghost use Rattle.pl_calendar.specs.Days.{AreDays};
 ghost use Rattle.pl_assets.specs.Assets.{AreAssets};
-ghost use Rattle.pl_model.specs.PlainTerms.{HasWindow};
 ghost use Rattle.pl_syntax.specs.Statements.{statements_of};
 ghost use Rattle.pl_syntax.specs.Scripts.{statements_in};
 ghost use Rattle.pl_cli.specs.Step.{file, no_rule};
@@ -84,7 +83,6 @@ pub fn read_columns<'a, S: Shelf>(
         StageEnds (S.sound shelf.old) true (pipeline_steps files name.now) result) }
     ensures exact { ForSome (S.holds shelf.old) (λ files. IfOk result (λ columns. columns_held files name.now ≡ columns.items)) }
     ensures few { IfOk result (λ columns. length columns.items ≤ 64) }
-    ensures windows { IfOk result (λ columns. All (λ c. HasWindow c.term) columns.items) }
     ensures risen { IfErr result (IsRisen (Rose (S.faults shelf.old) (S.faults shelf.new)) ⊥) }
     ensures later { S.faults shelf.old ≤ S.faults shelf.new }
     ensures keeps { S.holds shelf.new ≡ S.holds shelf.old }

@@ -1,5 +1,5 @@
 -- The terms that are computed without a graph, and the steps that they take.
-use Rattle.std.specs.Prelude.{ℕ, suc, ◌≤◌, if◌then◌else◌, ℤ, length, sum_by}
+use Rattle.std.specs.Prelude.{ℕ, suc, if◌then◌else◌, ℤ, length, sum_by}
 use Rattle.pl_spec.specs.declared.Column.{Column}
 use Rattle.pl_spec.specs.World.{World, exists}
 use Rattle.pl_spec.specs.Window.{before, downward, events}
@@ -30,11 +30,6 @@ size_of (SimpleMovingAverage c size) = size
 
 abbrev pub term_of : PlainTerm → Term
 term_of t = over_bars (kind_of t) (column_of t) (size_of t)
-
--- a window has from 1 to 1,260 sessions
-pub record HasWindow (t : PlainTerm) : Type 0 where
-  pub some : 1 ≤ size_of t
-  pub most : size_of t ≤ 1_260
 
 -- how many pairs there are of one of the size sessions before d and an adjustment that acts on the cell of its bar, as it is seen on d
 abbrev pub window_steps : World → Column → ℕ → ℕ → ℤ → ℕ

@@ -7,7 +7,7 @@ ghost use Rattle.pl_spec.specs.Formula.{mean, oldest};
 ghost use Rattle.pl_spec.specs.Value.{value};
 ghost use Rattle.pl_spec.specs.Value.Value.{Number};
 ghost use Rattle.pl_model.specs.Worlds.{world_of, IsMade};
-ghost use Rattle.pl_model.specs.PlainTerms.{HasWindow, steps_of, term_of, window_steps};
+ghost use Rattle.pl_model.specs.PlainTerms.{steps_of, term_of, window_steps};
 
 use crate::world::World;
 use pl_adjust::seen_now;
@@ -19,7 +19,7 @@ use std::sync::ledger::Ledger;
 pub enum PlainTerm {
     /// The column of the latest bar that is known: that of the session before.
     Latest(Column),
-    /// The mean of the column's present cells over so many sessions before, from 1 to 1,260 of them.
+    /// The mean of the column's present cells over so many sessions before.
     SimpleMovingAverage(Column, u32),
 }
 
@@ -35,7 +35,6 @@ pub fn plain_cell<L: Ledger>(
     steps: &mut Steps<L>,
 ) -> i64
     requires made { IsMade world.now }
-    requires window { HasWindow term }
     requires col { col < length world.now.assets.now }
     requires session { session < length world.now.sessions.now }
     ensures value { value (world_of world.now) [] (term_of term)
@@ -99,7 +98,6 @@ fn average<L: Ledger>(
     steps: &mut Steps<L>,
 ) -> i64
     requires made { IsMade world.now }
-    requires most { window ≤ 1_260 }
     requires col { col < length world.now.assets.now }
     requires session { session < length world.now.sessions.now }
     ensures value { result ≡ mean (bar_window (world_of world.now) column window

@@ -1,5 +1,4 @@
-ghost use Rattle.std.specs.Prelude.{◌≡◌, ◌<◌, IsTrue};
-ghost use Rattle.pl_model.specs.PlainTerms.{HasWindow};
+ghost use Rattle.std.specs.Prelude.{◌≡◌, ◌<◌};
 
 use crate::{PlainTerm, World, plain_cell};
 use pl_adjust::Adjustments;
@@ -48,15 +47,6 @@ fn half(effective: i64) -> RawAdjust {
     }
 }
 
-fn has_window(term: PlainTerm) -> bool
-    ensures { IsTrue result → HasWindow term }
-{
-    match term {
-        PlainTerm::Latest(_) => true,
-        PlainTerm::SimpleMovingAverage(_, window) => 1 <= window && window <= 1_260,
-    }
-}
-
 // The cell of the one asset.
 fn cell<L: Ledger>(
     alloc: Global,
@@ -75,7 +65,7 @@ fn cell<L: Ledger>(
     let assets = Assets::read(alloc, ASSETS)?;
     let bars = Bars::read(alloc, bars, &sessions, &assets)?;
     let adjustments = Adjustments::from_rows(alloc, &assets, splits, mergers, &[])?;
-    if session >= sessions.len() || assets.len() == 0 || !has_window(term) {
+    if session >= sessions.len() || assets.len() == 0 {
         return Ok(None);
     }
     let world = World {

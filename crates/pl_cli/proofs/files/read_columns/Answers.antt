@@ -1,7 +1,7 @@
 use Rattle.pl_syntax.specs.Scripts.{statements_in}
 use Rattle.pl_syntax.specs.Statements.{statements_of}
 use Rattle.pl_cli.proofs.Steps.{stage-goes_on}
-use Rattle.pl_cli.proofs.FileSteps.{form-passes, form-stops, columns-held, columns-few, columns-windows}
+use Rattle.pl_cli.proofs.FileSteps.{form-passes, form-stops, columns-held, columns-few}
 use Rattle.pl_cli.proofs.files.read_columns.Goals as goal
 
 pub returns-in-Ok-Some-clause-ends : goal.returns-in-Ok-Some-clause-ends
@@ -15,9 +15,6 @@ returns-in-Ok-Some-clause-exact g c = λ files told.
 
 pub returns-in-Ok-Some-clause-few : goal.returns-in-Ok-Some-clause-few
 returns-in-Ok-Some-clause-few g c = columns-few _ (statements_of (statements_in c.in_ok-script.script)) (rw c.in-Ok-Some.field-0-is at c.in-Ok-Some.ensures)
-
-pub returns-in-Ok-Some-clause-windows : goal.returns-in-Ok-Some-clause-windows
-returns-in-Ok-Some-clause-windows g c = columns-windows _ (statements_of (statements_in c.in_ok-script.script)) (rw c.in-Ok-Some.field-0-is at c.in-Ok-Some.ensures)
 
 pub returns-in-Ok-None-clause-ends : goal.returns-in-Ok-None-clause-ends
 returns-in-Ok-None-clause-ends g c = λ files told.

@@ -1,4 +1,4 @@
-use Rattle.std.proofs.Common.{rules, ◌≡◌, ◌-◌, ◌≤◌, ◌∙◌, w64, FitsSigned, arith}
+use Rattle.std.proofs.Common.{rules, ◌≡◌, ◌-◌, ◌<◌, ◌^◌, ◌∙◌, w64, FitsSigned, arith}
 use Rattle.std.proofs.lemmas.Int.{to_z-of_z}
 use Rattle.pl_spec.specs.Parts.{sid_at}
 use Rattle.pl_model.specs.Worlds.{world_of}
@@ -17,7 +17,7 @@ loop-bar_session-preserved g c =
     let first = c.args.session - c.args.window in
     let s = c.loop-bar_session.bar_session in
     let so_far = c.loop-bar_session.invariant in
-    let few : s - first ≤ 1_260 = omega (arith, c.requires.most, c.loop-bar_session-test.true) in
+    let few : s - first < 2 ^ 64 = omega (arith, c.ranges.session, c.loop-bar_session-test.true) in
     let steps = steps_more w a c.args.column d first s so_far.from in
     elim c.if-cell.branch [
       | then-cell v ↦
