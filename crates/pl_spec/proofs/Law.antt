@@ -1,5 +1,5 @@
 -- What came to be known later doesn't change a value.
-use Rattle.std.proofs.Common.{◌≡◌, ℕ, suc, ◌<◌, ◌≤◌, Bool, true, false, ◌&&◌, cond, ℤ, pos, negsuc, ◌<ℤ◌, ◌≤ℤ◌, List, [], ◌∷◌, length, map, get_or, Option, Some, None, refl, sym, ◌∙◌, ap, arith, inl, inr, filter, slice_get, AllPairs, ◌==◌, option_and_then, unwrap_or, option_map}
+use Rattle.std.proofs.Common.{◌≡◌, ℕ, suc, ◌<◌, ◌≤◌, Bool, true, false, ◌&&◌, cond, ℤ, pos, negsuc, ◌<ℤ◌, ◌≤ℤ◌, List, [], ◌∷◌, length, map, get_or, Option, Some, None, refl, sym, ◌∙◌, ap, arith, inl, inr, filter, filter_map, slice_get, AllPairs, ◌==◌, option_and_then, unwrap_or, option_map}
 use Rattle.std.proofs.Math.Path.{fun_ext}
 use Rattle.std.specs.List.{list_any}
 use Rattle.std.proofs.lemmas.Int.{ints}
@@ -9,7 +9,7 @@ use Rattle.pl_spec.specs.Rounding.{is_present}
 use Rattle.pl_spec.specs.World.{World, IsWorld, Event, events_of, LabelRow, day_of, bar_cell, living_sids, label_at, is_label_of, last_started, nonempty, lives_on}
 use Rattle.pl_spec.specs.declared.AssetRow.{AssetRow}
 use Rattle.pl_spec.specs.declared.Column.{Column}
-use Rattle.pl_spec.specs.Window.{acts_in, events_in, events_from, events, after_all, seen_cell, before, downward}
+use Rattle.pl_spec.specs.Window.{effect, is_between, effects_from, effects, after_all, seen_cell, before, downward}
 use Rattle.pl_spec.specs.Agree.{Agree, is_known, has_started}
 use Rattle.pl_spec.specs.Kind.{Kind, CrossKind}
 use Rattle.pl_spec.specs.Kind.Kind.{Constant, Label, StaticSids, Window, Point, LabelTest, Cross}
@@ -33,8 +33,8 @@ filter-filter p q h (x ∷ xs) = here (p x) (q x) refl refl (filter-filter p q h
 
 -- ---- tests
 
-event_known : (c : Column) (low high day : ℤ) → high ≤ℤ day → (e : Event) → acts_in c low high e ≡ true → is_known day e ≡ true
-event_known c low high day h e p = grind (arith, ints)
+event_known : (low high day : ℤ) → high ≤ℤ day → (e : Event) → is_between low high e ≡ true → is_known day e ≡ true
+event_known low high day h e p = grind (arith, ints)
 
 label_started : (name : List ℕ) (a : ℕ) (x day : ℤ) → x ≤ℤ day → (r : LabelRow) → is_label_of name a x r ≡ true → has_started day r ≡ true
 label_started name a x day h r p = grind (arith, ints)
@@ -152,18 +152,18 @@ module _ (w v : World) (d day : ℤ) (ok : IsWorld w) (ok' : IsWorld v) (agree :
       go (pos i) (negsuc j) h e f = cc
       go (negsuc i) d h e f = cc
 
-  events_same : (a : ℕ) (c : Column) (low high : ℤ) → high ≤ℤ day → events_in c low high (events_of w a) ≡ events_in c low high (events_of v a)
-  events_same a c low high h =
-      let part : (e : Event) → acts_in c low high e ≡ true → is_known day e ≡ true = event_known c low high day h in
-      sym (filter-filter (acts_in c low high) (is_known day) part (events_of w a))
-      ∙ ap (filter (acts_in c low high)) (agree.adjustments a)
-      ∙ filter-filter (acts_in c low high) (is_known day) part (events_of v a)
+  events_same : (a : ℕ) (low high : ℤ) → high ≤ℤ day → filter (is_between low high) (events_of w a) ≡ filter (is_between low high) (events_of v a)
+  events_same a low high h =
+      let part : (e : Event) → is_between low high e ≡ true → is_known day e ≡ true = event_known low high day h in
+      sym (filter-filter (is_between low high) (is_known day) part (events_of w a))
+      ∙ ap (filter (is_between low high)) (agree.adjustments a)
+      ∙ filter-filter (is_between low high) (is_known day) part (events_of v a)
 
-  between_same : (a : ℕ) (c : Column) (low high : Option ℤ) → ((x : ℤ) → high ≡ Some x → x ≤ℤ day) → events_from c low high (events_of w a) ≡ events_from c low high (events_of v a)
+  between_same : (a : ℕ) (c : Column) (low high : Option ℤ) → ((x : ℤ) → high ≡ Some x → x ≤ℤ day) → effects_from c low high (events_of w a) ≡ effects_from c low high (events_of v a)
   between_same a c None None h = refl
   between_same a c None (Some y) h = refl
   between_same a c (Some x) None h = refl
-  between_same a c (Some x) (Some y) h = events_same a c x y (h y refl)
+  between_same a c (Some x) (Some y) h = ap (filter_map (effect c x)) (events_same a x y (h y refl))
 
   seen_same : (a : ℕ) (c : Column) (s e : ℤ) → s <ℤ e → e ≤ℤ d → seen_cell w a c s e ≡ seen_cell v a c s e
   unfolding seen_cell
@@ -171,10 +171,10 @@ module _ (w v : World) (d day : ℤ) (ok : IsWorld w) (ok' : IsWorld v) (agree :
       let bars : bar_cell w a c s ≡ bar_cell v a c s = agree.bars a c s (omega (arith, ints)) in
       let day_s : day_of w s ≡ day_of v s = agree.days s (omega (arith, ints)) in
       let day_e : day_of w e ≡ day_of v e = agree.days e by_d in
-      let rows : events w a c s e ≡ events v a c s e =
+      let rows : effects w a c s e ≡ effects v a c s e =
       between_same a c (day_of w s) (day_of w e) (λ x at_e. day_before e x by_d at_e)
-      ∙ ap (λ o. events_from c o (day_of w e) (events_of v a)) day_s ∙ ap (λ o. events_from c (day_of v s) o (events_of v a)) day_e in
-      ap (λ x. after_all c x (events w a c s e)) bars ∙ ap (after_all c (bar_cell v a c s)) rows
+      ∙ ap (λ o. effects_from c o (day_of w e) (events_of v a)) day_s ∙ ap (λ o. effects_from c (day_of v s) o (events_of v a)) day_e in
+      ap (λ x. after_all x (effects w a c s e)) bars ∙ ap (after_all (bar_cell v a c s)) rows
 
   pub living_same : (s : ℤ) → s ≤ℤ d → living_sids w s ≡ living_sids v s
   living_same s h = rising_is_one (living_sids w s) (living_sids v s) (living_rise w ok (day_of w s)) (living_rise v ok' (day_of v s)) (λ a. agree.lifetimes a s h)

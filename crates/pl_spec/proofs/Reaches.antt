@@ -1,19 +1,19 @@
 -- No bar before a term's reach counts for its value.
-use Rattle.std.proofs.Common.{◌≡◌, ℕ, zero, suc, ◌<◌, ◌≤◌, Bool, ◌&&◌, cond, ℤ, ◌≤ℤ◌, List, [], ◌∷◌, map, refl, sym, ◌∙◌, ap, arith, inl, inr, filter, fold}
+use Rattle.std.proofs.Common.{◌≡◌, ℕ, zero, suc, ◌<◌, ◌≤◌, Bool, ◌&&◌, ℤ, ◌≤ℤ◌, List, [], ◌∷◌, map, refl, ap, arith, inl, inr}
 use Rattle.std.proofs.Math.Path.{fun_ext}
 use Rattle.std.specs.Int.{int_min}
 use Rattle.std.proofs.lemmas.Bool.{cases_lt}
 use Rattle.std.proofs.lemmas.Int.{ints}
 use Rattle.pl_spec.specs.declared.Column.{Column}
 use Rattle.pl_spec.specs.Rounding.{is_present}
-use Rattle.pl_spec.specs.World.{World, Bar, bar_cell, exists, living_sids}
-use Rattle.pl_spec.specs.Window.{events, after_all, seen_cell, before, downward}
+use Rattle.pl_spec.specs.World.{World, Bar}
+use Rattle.pl_spec.specs.Window.{effects, after_all, seen_cell, before, downward}
 use Rattle.pl_spec.specs.Kind.{Kind, CrossKind}
 use Rattle.pl_spec.specs.Kind.Kind.{Constant, Label, StaticSids, Window, Point, LabelTest, Cross}
 use Rattle.pl_spec.specs.Kind.CrossKind.{PeerCount}
 use Rattle.pl_spec.specs.Term.{Term}
 use Rattle.pl_spec.specs.Term.Term.{absent, column, node}
-use Rattle.pl_spec.specs.Value.{Meaning, Part, part_of, number_of, holds, now, window_of, passes, in_group, entry, counts_for, eligible, group_of, test_value, empty, step, value}
+use Rattle.pl_spec.specs.Value.{Meaning, part_of, number_of, holds, now, window_of, passes, in_group, entry, counts_for, eligible, group_of, test_value, step, value}
 use Rattle.pl_spec.specs.Graph.{least_of, part_reach, reach}
 use Rattle.pl_spec.specs.Reaching.{HasWindows, SameBarsFrom}
 
@@ -68,7 +68,7 @@ module _ (w : World) (bars : List Bar) (low : ℤ) (same : SameBarsFrom w (recor
 
   seen_same : (a : ℕ) (c : Column) (s d : ℤ) → low ≤ℤ s → seen_cell w a c s d ≡ seen_cell other a c s d
   unfolding seen_cell
-  seen_same a c s d h = ap (λ x. after_all c x (events w a c s d)) (same a c s h)
+  seen_same a c s d h = ap (λ x. after_all x (effects w a c s d)) (same a c s h)
 
   -- a term is worth the same wherever it reaches no farther back
   abbrev SameWithin : Term → Meaning → Meaning → Type 0

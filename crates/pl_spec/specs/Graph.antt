@@ -2,8 +2,7 @@
 use Rattle.std.specs.Prelude.{◌≡◌, ℕ, zero, suc, ◌+◌, Bool, true, ◌&&◌, ◌||◌, if◌then◌else◌, ◌==◌, nat_le, max, ℤ, List, [], ◌∷◌, ◌++◌, length, map, filter, filter_map, fold, Option, Some, None, option_to_list, slice_get, count_by}
 use Rattle.std.specs.List.{list_any}
 use Rattle.std.specs.Int.{int_min}
-use Rattle.pl_spec.specs.declared.Column.{Column}
-use Rattle.pl_spec.specs.declared.Column.TheVariants.{OpenPrice, High, Low, Close, Volume}
+use Rattle.pl_spec.specs.World.{column_number}
 use Rattle.pl_spec.specs.Window.{before, downward}
 use Rattle.pl_spec.specs.Term.{Term, Input, Node, Graph}
 use Rattle.pl_spec.specs.Term.Term.{absent, column, node}
@@ -67,13 +66,6 @@ is_live g outputs k t =
 -- the used terms that are still to be read when term k is computed, k among them
 abbrev pub live_terms : Graph → List ℕ → ℕ → List ℕ
 live_terms g outputs k = filter (is_live g outputs k) (used_terms g outputs)
-
-abbrev pub column_number : Column → ℕ
-column_number OpenPrice = 0
-column_number High = 1
-column_number Low = 2
-column_number Close = 3
-column_number Volume = 4
 
 abbrev pub input_column : Input → Option ℕ
 input_column (BarColumn c) = Some (column_number c)

@@ -6,7 +6,7 @@ use Rattle.pl_spec.specs.Order.{IsByDay, by_day}
 use Rattle.pl_spec.specs.Table.{Pipeline, table}
 use Rattle.pl_spec.specs.declared.Column.{Column}
 use Rattle.pl_spec.specs.World.{World, IsWorld, Adjustment, day_of, events_of, exists}
-use Rattle.pl_spec.specs.Window.{seen_cell, after_all, events_in, bar_window, raw_window}
+use Rattle.pl_spec.specs.Window.{seen_cell, after_all, effects_in, bar_window, raw_window}
 use Rattle.pl_spec.specs.Agree.{Agree}
 use Rattle.pl_spec.specs.Kind.{Kind}
 use Rattle.pl_spec.specs.Term.{Term, Graph, IsGraph, term_at}
@@ -27,7 +27,7 @@ RoundingIsExact = (a : ℤ) (b : ℕ) (q : ℤ) → 0 < b → IsNearest a b (div
 abbrev pub BufferSteps : Type 0
 BufferSteps = (w : World) → IsWorld w → (a : ℕ) (c : Column) (s d low mid high : ℤ)
     → day_of w s ≡ Some low → day_of w d ≡ Some mid → day_of w (d +ℤ pos 1) ≡ Some high → low ≤ℤ mid → mid ≤ℤ high
-    → seen_cell w a c s (d +ℤ pos 1) ≡ after_all c (seen_cell w a c s d) (events_in c mid high (events_of w a))
+    → seen_cell w a c s (d +ℤ pos 1) ≡ after_all (seen_cell w a c s d) (effects_in c low mid high (events_of w a))
 
 -- and no row of the table up to d
 abbrev pub TablesAgree : Type 0
@@ -41,6 +41,10 @@ TermsAreDistinct = (g : Graph) → IsGraph g → (j k : ℕ) → j < length g �
 -- the order of the adjustments is told by what it keeps
 abbrev pub OrderIsOne : Type 0
 OrderIsOne = (rows sorted : List Adjustment) → IsByDay rows (by_day rows) × (IsByDay rows sorted → sorted ≡ by_day rows)
+
+-- and adjustments that stand by day already may come first
+abbrev pub OrderIsKept : Type 0
+OrderIsKept = (rows more : List Adjustment) → by_day (by_day rows ++ more) ≡ by_day (rows ++ more)
 
 -- there is one greatest number whose square is at most v, and isqrt is it
 abbrev pub RootIsGreatest : Type 0

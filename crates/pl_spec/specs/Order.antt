@@ -8,6 +8,7 @@ use Rattle.pl_spec.specs.declared.RawAdjust.{RawAdjust}
 use Rattle.pl_spec.specs.declared.AdjustmentKind.{AdjustmentKind}
 use Rattle.pl_spec.specs.declared.AdjustmentKind.TheVariants.{Split, Merger, Dividend}
 use Rattle.pl_spec.specs.World.{Adjustment}
+use Rattle.pl_spec.specs.World.Change.{Scale}
 
 abbrev pub acts_at : ℤ → Adjustment → Bool
 acts_at day x = int_eq x.event.day day
@@ -35,7 +36,7 @@ abbrev pub adjustment_in : AdjustmentKind → RawAdjust → Adjustment
 adjustment_in kind r =
     record {
       sid = unsigned_abs r.sid;
-      event = record { kind = kind; day = day_of_time r.effective; ratio = record { num = unsigned_abs r.num; den = unsigned_abs r.den } };
+      event = record { kind = kind; day = day_of_time r.effective; change = Scale (record { num = unsigned_abs r.num; den = unsigned_abs r.den }) };
     }
 
 -- a row of an unknown sid is left out
@@ -49,3 +50,7 @@ of_table assets kind rows = map (adjustment_in kind) (filter (is_of assets) rows
 abbrev pub adjustments_of : List AssetRow → List RawAdjust → List RawAdjust → List RawAdjust → List Adjustment
 adjustments_of assets splits mergers dividends =
     by_day (of_table assets Split splits ++ of_table assets Merger mergers ++ of_table assets Dividend dividends)
+
+-- with revisions, which act behind the other adjustments of their day, each in the order of their file
+abbrev pub with_revisions : List Adjustment → List Adjustment → List Adjustment
+with_revisions adjustments revisions = by_day (adjustments ++ revisions)

@@ -1,51 +1,69 @@
 -- What is seen of a bar from a later session, and windows of bars.
-use Rattle.std.specs.Prelude.{ℕ, zero, suc, ◌+◌, Bool, true, false, ◌&&◌, ℤ, pos, ◌-ℤ◌, List, [], ◌∷◌, length, map, filter, fold, Option, Some, sum_by}
+use Rattle.std.specs.Prelude.{ℕ, zero, suc, ◌+◌, Bool, ◌&&◌, if◌then◌else◌, ◌==◌, ℤ, pos, ◌-ℤ◌, List, [], ◌∷◌, map, filter, filter_map, fold, Option, Some, None, option_map, sum_by}
 use Rattle.std.specs.List.{range_with_len}
 use Rattle.std.specs.Int.RustNames.{int_lt, int_le}
+use Rattle.std.specs.Ordering.{int_eq}
 use Rattle.pl_spec.specs.declared.Column.{Column}
 use Rattle.pl_spec.specs.declared.Column.TheVariants.{Volume}
 use Rattle.pl_spec.specs.declared.AdjustmentKind.{AdjustmentKind}
 use Rattle.pl_spec.specs.declared.AdjustmentKind.TheVariants.{Merger, Dividend}
 use Rattle.pl_spec.specs.Rounding.{Fraction, inverse, scaled}
-use Rattle.pl_spec.specs.World.{World, Event, events_of, day_of, bar_cell}
+use Rattle.pl_spec.specs.World.{World, Event, Change, column_number, events_of, day_of, bar_cell}
+use Rattle.pl_spec.specs.World.Change.{Overwrite}
 
+-- what an event does to a cell: it multiplies it by a ratio, or puts another in its place
+pub data Effect : Type 0 where
+  Scale : Fraction → Effect
+  Put : ℤ → Effect
+
+-- what an adjustment multiplies a cell of the column by: prices by its ratio, and the volume by the inverse of a split's;
 -- mergers and dividends leave the volume as it is
-abbrev pub acts_on : Column → AdjustmentKind → Bool
-acts_on Volume Merger = false
-acts_on Volume Dividend = false
-acts_on c k = true
+abbrev pub factor : Column → AdjustmentKind → Fraction → Option Fraction
+factor Volume Merger ratio = None
+factor Volume Dividend ratio = None
+factor Volume kind ratio = Some (inverse ratio)
+factor c kind ratio = Some ratio
 
--- what an event multiplies a cell of the column by: prices by its ratio, and the volume by the inverse
-abbrev pub factor : Column → Event → Fraction
-factor Volume e = inverse e.ratio
-factor c e = e.ratio
+abbrev pub same_column : Column → Column → Bool
+same_column c k = column_number c == column_number k
 
--- the cell after the event: it rounds once
-abbrev pub after : Column → ℤ → Event → ℤ
-after c x e = scaled (factor c e) x
+-- what a change does to the cell of column c in the bar of a day
+abbrev pub change_effect : Column → ℤ → AdjustmentKind → Change → Option Effect
+change_effect c bar kind (Change.Scale ratio) = option_map Scale (factor c kind ratio)
+change_effect c bar kind (Overwrite bar_day column value) = if int_eq bar_day bar && same_column column c then Some (Put value) else None
 
--- an event for column c that acts later than the day low and by the day high
-abbrev pub acts_in : Column → ℤ → ℤ → Event → Bool
-acts_in c low high e = acts_on c e.kind && int_lt low e.day && int_le e.day high
+-- and what an event does to it; some events do nothing
+abbrev pub effect : Column → ℤ → Event → Option Effect
+effect c bar e = change_effect c bar e.kind e.change
 
-abbrev pub events_in : Column → ℤ → ℤ → List Event → List Event
-events_in c low high es = filter (acts_in c low high) es
+-- the cell after the effect: a product is rounded once, and MISSING stays MISSING until it is overwritten
+abbrev pub changed : ℤ → Effect → ℤ
+changed x (Scale ratio) = scaled ratio x
+changed x (Put value) = value
 
-abbrev pub events_from : Column → Option ℤ → Option ℤ → List Event → List Event
-events_from c (Some low) (Some high) es = events_in c low high es
-events_from c low high es = []
+-- an event later than the day low and by the day high
+abbrev pub is_between : ℤ → ℤ → Event → Bool
+is_between low high e = int_lt low e.day && int_le e.day high
 
--- the events between bar session s and viewing session d
-abbrev pub events : World → ℕ → Column → ℤ → ℤ → List Event
-events w a c s d = events_from c (day_of w s) (day_of w d) (events_of w a)
+-- what the events later than the day low and by the day high do to the cell of column c in the bar of a day
+abbrev pub effects_in : Column → ℤ → ℤ → ℤ → List Event → List Effect
+effects_in c bar low high es = filter_map (effect c bar) (filter (is_between low high) es)
 
--- a cell changed by events, one after the other
-abbrev pub after_all : Column → ℤ → List Event → ℤ
-after_all c x es = fold (after c) x es
+abbrev pub effects_from : Column → Option ℤ → Option ℤ → List Event → List Effect
+effects_from c (Some bar) (Some day) es = effects_in c bar bar day es
+effects_from c bar day es = []
+
+-- what the events between bar session s and viewing session d do to the cell of column c in the bar
+abbrev pub effects : World → ℕ → Column → ℤ → ℤ → List Effect
+effects w a c s d = effects_from c (day_of w s) (day_of w d) (events_of w a)
+
+-- a cell changed by effects, one after the other
+abbrev pub after_all : ℤ → List Effect → ℤ
+after_all x fs = fold changed x fs
 
 -- the cell of the bar of session s, seen on session d
 unfoldable pub seen_cell : World → ℕ → Column → ℤ → ℤ → ℤ
-seen_cell w a c s d = after_all c (bar_cell w a c s) (events w a c s d)
+seen_cell w a c s d = after_all (bar_cell w a c s) (effects w a c s d)
 
 -- n sessions before d
 abbrev pub before : ℤ → ℕ → ℤ
@@ -64,7 +82,15 @@ bar_window w c size a d = map (λ n. seen_cell w a c (before d (suc n)) d) (down
 abbrev pub raw_window : World → Column → ℕ → ℕ → ℤ → List ℤ
 raw_window w c size a d = map (λ n. bar_cell w a c (before d (suc n))) (downward size)
 
--- how many pairs of an event and a bar session there are for the column, from session first on, seen on session first + rows
+-- each multiplication is a step; to overwrite is none
+abbrev pub step_of : Effect → ℕ
+step_of (Scale ratio) = 1
+step_of (Put value) = 0
+
+abbrev pub step_count : List Effect → ℕ
+step_count fs = sum_by step_of fs
+
+-- how many pairs of a ratio and a bar session there are for the column, from session first on, seen on session first + rows
 abbrev pub applied_steps : World → Column → ℕ → ℕ → List ℕ → ℕ
 applied_steps w c first rows sids =
-    sum_by (λ a. sum_by (λ s. length (events w a c (pos s) (pos (first + rows)))) (range_with_len first rows)) sids
+    sum_by (λ a. sum_by (λ s. step_count (effects w a c (pos s) (pos (first + rows)))) (range_with_len first rows)) sids

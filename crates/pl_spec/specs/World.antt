@@ -24,11 +24,17 @@ pub record Bar : Type 0 where
   pub close : ℤ
   pub volume : ℤ
 
--- an adjustment without its asset: from its day on, earlier bars are seen times its ratio
+-- what an adjustment changes: it scales the cells of earlier bars by a ratio, or overwrites one cell, that of a column in the bar
+-- of the session of a day
+pub data Change : Type 0 where
+  Scale : Fraction → Change
+  Overwrite : (bar_day : ℤ) (column : Column) (value : ℤ) → Change
+
+-- an adjustment without its asset: from its day on, earlier bars are seen with its change
 pub record Event : Type 0 where
   pub kind : AdjustmentKind
   pub day : ℤ
-  pub ratio : Fraction
+  pub change : Change
 
 pub record Adjustment : Type 0 where
   pub sid : ℕ
@@ -47,8 +53,9 @@ pub record World : Type 0 where
 abbrev pub events_of : World → ℕ → List Event
 events_of w a = map (λ x. x.event) (filter (λ x. x.sid == a) w.adjustments)
 
--- The days ascend, and so do the assets' sids. The adjustments of an asset stand by day; on one day splits come before mergers
--- and these before dividends, each in the order of their table (Order says so), but the laws need the order of days alone.
+-- The days ascend, and so do the assets' sids. The adjustments of an asset stand by day; on one day splits come before mergers,
+-- these before dividends and these before revisions, each in the order of their table or file (Order says so), but the laws need
+-- the order of days alone.
 pub record IsWorld (w : World) : Type 0 where
   pub days_ascend : AllPairs (λ a b. a <ℤ b) w.days
   pub sids_ascend : AllPairs (λ a b. a.sid < b.sid) w.assets
@@ -70,6 +77,13 @@ living_sids w d = unwrap_or (option_map (λ day. map (λ a. a.sid) (filter (live
 -- asset a exists on session d
 abbrev pub exists : World → ℕ → ℤ → Bool
 exists w a d = list_any (λ x. x == a) (living_sids w d)
+
+abbrev pub column_number : Column → ℕ
+column_number OpenPrice = 0
+column_number High = 1
+column_number Low = 2
+column_number Close = 3
+column_number Volume = 4
 
 abbrev pub cell_of : Column → Bar → ℤ
 cell_of OpenPrice b = b.open_price

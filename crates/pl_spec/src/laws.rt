@@ -1,4 +1,4 @@
-ghost use Rattle.pl_spec.specs.Laws.{ValuesAgree, RoundingIsExact, BufferSteps, TablesAgree, TermsAreDistinct, OrderIsOne, RootIsGreatest, UsedAreListed, RawWithoutEvents, WindowOfOne, OpenMasksChangeNothing, TablesConcatenate};
+ghost use Rattle.pl_spec.specs.Laws.{ValuesAgree, RoundingIsExact, BufferSteps, TablesAgree, TermsAreDistinct, OrderIsOne, OrderIsKept, RootIsGreatest, UsedAreListed, RawWithoutEvents, WindowOfOne, OpenMasksChangeNothing, TablesConcatenate};
 ghost use Rattle.pl_spec.specs.NodeValue.{NodesUnfold};
 ghost use Rattle.pl_spec.specs.Reaching.{ReachIsEnough};
 ghost use Rattle.pl_spec.specs.Lookups.{BarsAreFound, LabelsAreFound};
@@ -39,6 +39,11 @@ pub fn terms_are_distinct()
 /// The adjustments by day are one list.
 pub fn order_is_one()
     ensures { OrderIsOne }
+{}
+
+/// Adjustments may be brought into their order before others come behind them.
+pub fn order_is_kept()
+    ensures { OrderIsKept }
 {}
 
 /// The root is the one greatest number whose square fits.

@@ -24,6 +24,7 @@ pub enum AdjustmentKind {
     Split,
     Merger,
     Dividend,
+    Revision,
 }
 
 /// How two numbers are compared.

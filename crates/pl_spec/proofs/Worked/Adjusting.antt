@@ -1,14 +1,16 @@
 -- What is seen of bars after splits, mergers and dividends.
-use Rattle.std.specs.Prelude.{◌≡◌, ℕ, ℤ, pos, negsuc, refl, [], ◌∷◌, map, length}
+use Rattle.std.specs.Prelude.{◌≡◌, ℕ, ℤ, pos, negsuc, refl, List, [], ◌∷◌, map, length}
 use Rattle.pl_spec.specs.Rounding.{MISSING, scaled}
 use Rattle.pl_spec.specs.declared.Column.TheVariants.{Close, Volume}
-use Rattle.pl_spec.specs.World.{events_of}
-use Rattle.pl_spec.specs.Order.{day_of_time, adjustments_of}
-use Rattle.pl_spec.specs.Window.{events_in, bar_window, applied_steps}
+use Rattle.pl_spec.specs.declared.AdjustmentKind.TheVariants.{Revision}
+use Rattle.pl_spec.specs.World.{World, Change, Adjustment, events_of}
+use Rattle.pl_spec.specs.World.Change.{Scale, Overwrite}
+use Rattle.pl_spec.specs.Order.{day_of_time, adjustments_of, with_revisions}
+use Rattle.pl_spec.specs.Window.{effects_in, bar_window, applied_steps}
 use Rattle.pl_spec.specs.Kind.{WindowKind as kind}
 use Rattle.pl_spec.specs.Term.Term.{column}
 use Rattle.pl_spec.specs.Value.Value.{Number}
-use Rattle.pl_spec.proofs.Worked.Worlds.{opened, units, closed, closes, asset, alone, plain, split, outgrown, no_tables, splits_of, row_at, row_on, window, at_close, latest, by_session, on}
+use Rattle.pl_spec.proofs.Worked.Worlds.{opened, units, closed, closes, asset, alone, plain, split, gap, outgrown, no_tables, splits_of, row_at, row_on, window, at_close, latest, by_session, on}
 
 -- on 2024-01-03 and, from the split on, 2024-01-04
 close_is_seen_halved_after_split : by_session split (latest Close) (1 ∷ 2 ∷ []) ≡ Number (units 100) ∷ Number (units 51) ∷ []
@@ -80,10 +82,10 @@ windows_slide_over_the_split : map (λ d. bar_window split Close 2 1 (pos d)) (2
 unfolding opened
 windows_slide_over_the_split = refl
 
-events_act_once : map (λ high. length (events_in Close (pos 19725) (pos high) (events_of split 1))) (19725 ∷ 19726 ∷ 19731 ∷ []) ≡ 0 ∷ 1 ∷ 1 ∷ []
+events_act_once : map (λ high. length (effects_in Close (pos 19725) (pos 19725) (pos high) (events_of split 1))) (19725 ∷ 19726 ∷ 19731 ∷ []) ≡ 0 ∷ 1 ∷ 1 ∷ []
 events_act_once = refl
 
-events_do_not_act_again : events_in Close (pos 19726) (pos 19731) (events_of split 1) ≡ []
+events_do_not_act_again : effects_in Close (pos 19725) (pos 19726) (pos 19731) (events_of split 1) ≡ []
 events_do_not_act_again = refl
 
 -- ---- how often a cell is adjusted
@@ -101,9 +103,52 @@ later_bars_are_not_adjusted = refl
 -- ---- the order of the tables
 
 -- on 2024-01-05 the split before the dividend, though the dividend's time is earlier
-tables_are_laid_by_day : map {B = ℤ × ℕ} (λ x. (x.event.day, x.event.ratio.num)) (adjustments_of (asset 1 ∷ []) (row_at 1704412801 1 2 ∷ []) [] (row_at 1704412800 9 10 ∷ row_at 1704326400 8 10 ∷ []))
-    ≡ (pos 19726, 8) ∷ (pos 19727, 1) ∷ (pos 19727, 9) ∷ []
+tables_are_laid_by_day : map {B = ℤ × Change} (λ x. (x.event.day, x.event.change)) (adjustments_of (asset 1 ∷ []) (row_at 1704412801 1 2 ∷ []) [] (row_at 1704412800 9 10 ∷ row_at 1704326400 8 10 ∷ []))
+    ≡ (pos 19726, Scale (record { num = 8; den = 10 })) ∷ (pos 19727, Scale (record { num = 1; den = 2 })) ∷ (pos 19727, Scale (record { num = 9; den = 10 })) ∷ []
 tables_are_laid_by_day = refl
 
 unknown_sids_are_left_out : adjustments_of (asset 1 ∷ []) (record (row_on 19726 1 2) { sid = pos 9 } ∷ []) [] [] ≡ []
 unknown_sids_are_left_out = refl
+
+-- ---- revisions
+
+-- of the close of asset 1 on 2024-01-03, known on a day
+abbrev revised : ℤ → ℕ → Adjustment
+revised value known = record { sid = 1; event = record { kind = Revision; day = pos known; change = Overwrite (pos 19725) Close value } }
+
+-- as 104, known on 2024-01-05
+abbrev late_104 : List Adjustment
+late_104 = revised (units 104) 19727 ∷ []
+
+abbrev with : World → List Adjustment → World
+with w revisions = record w { adjustments = with_revisions w.adjustments revisions }
+
+-- on 2024-01-04 and 01-05
+a_revision_counts_from_its_day_on : by_session (with plain late_104) (at_close kind.SimpleMovingAverage 2) (2 ∷ 3 ∷ []) ≡ Number (units 101) ∷ Number (pos 77500000) ∷ []
+unfolding opened
+a_revision_counts_from_its_day_on = refl
+
+-- 104 and 25.5: what is known on the day of a split is in the units behind it
+a_split_of_its_day_leaves_a_revision :
+    on (with (alone closes (splits_of (row_on 19727 1 2 ∷ []))) late_104) 3 (at_close kind.SimpleMovingAverage 2 ∷ []) ≡ Number (pos 64750000) ∷ []
+unfolding opened
+a_split_of_its_day_leaves_a_revision = refl
+
+-- 52, 25.5 and 26
+a_later_split_changes_a_revision :
+    on (with (alone closes (splits_of (row_on 19730 1 2 ∷ []))) late_104) 4 (at_close kind.SimpleMovingAverage 3 ∷ []) ≡ Number (pos 34500000) ∷ []
+unfolding opened
+a_later_split_changes_a_revision = refl
+
+a_revision_may_take_a_cell_away : by_session (with plain (revised MISSING 19727 ∷ [])) (at_close kind.SimpleMovingAverage 2) (2 ∷ 3 ∷ []) ≡ Number (units 101) ∷ Number (units 51) ∷ []
+unfolding opened
+a_revision_may_take_a_cell_away = refl
+
+a_revision_may_name_a_bar_that_is_not_there :
+    on (with gap (revised (units 102) 19726 ∷ [])) 2 (latest Close ∷ latest Volume ∷ []) ≡ Number (units 102) ∷ Number MISSING ∷ []
+unfolding opened
+a_revision_may_name_a_bar_that_is_not_there = refl
+
+-- a revision is no step
+ratios_alone_are_steps : applied_steps (with split (revised (units 104) 19726 ∷ [])) Close 0 4 (1 ∷ []) ≡ 2
+ratios_alone_are_steps = refl
