@@ -1,67 +1,72 @@
 -- The cell seen, one adjustment after the other.
-use Rattle.std.proofs.Common.{◌≡◌, ℕ, ◌+◌, ◌<◌, ◌≤◌, Bool, true, false, cond, ℤ, ◌&&◌, List, [], ◌∷◌, map, length, drop, get_or, refl, sym, ◌∙◌, ap, arith}
+use Rattle.std.proofs.Common.{◌≡◌, ℕ, ◌+◌, ◌<◌, ◌≤◌, Bool, true, false, cond, ℤ, ◌&&◌, List, [], ◌∷◌, ◌++◌, map, length, drop, get_or, Option, Some, None, refl, sym, ◌∙◌, ap, arith}
+use Rattle.std.specs.Prelude.{filter_map, option_to_list}
 use Rattle.std.specs.Int.RustNames.{int_lt, int_le}
 use Rattle.std.specs.List.{filter}
 use Rattle.std.proofs.lemmas.List.{at_drop_more, at_drop_all}
+use Rattle.std.proofs.lemmas.List.Sums.{fold-append, sum_by-append}
 use Rattle.pl_spec.specs.declared.Column.{Column}
-use Rattle.pl_spec.specs.World.{Event}
-use Rattle.pl_spec.specs.Window.{acts_on, events_in, after, after_all}
+use Rattle.pl_spec.specs.Window.{Effect, effect, effects_in, changed, after_all, step_of, step_count}
 use Rattle.pl_adjust.specs.declared.adjust.Adjust.{Adjust}
 use Rattle.pl_adjust.specs.Events.{event_of}
 use Rattle.pl_adjust.proofs.Between.{is_between}
 
--- the events that act on a column
-abbrev pub acting : Column → List Adjust → List Event
-acting c xs = filter (λ e. acts_on c e.kind) (map event_of xs)
+-- what the adjustments do to the cell of a column in the bar of a day
+abbrev pub acting : Column → ℤ → List Adjust → List Effect
+acting c bar xs = filter_map (effect c bar) (map event_of xs)
 
-pub events-between : (c : Column) (low high : ℤ) (xs : List Adjust) → acting c (filter (is_between low high) xs) ≡ events_in c low high (map event_of xs)
-events-between c low high [] = refl
-events-between c low high (x ∷ xs) = here (int_lt low x.day) (int_le x.day high) (acts_on c x.kind) refl (events-between c low high xs)
+pub effects-between : (c : Column) (bar low high : ℤ) (xs : List Adjust) → acting c bar (filter (is_between low high) xs) ≡ effects_in c bar low high (map event_of xs)
+effects-between c bar low high xs = ap (filter_map (effect c bar)) (events xs)
   where
-    here : (l h a : Bool) → acts_on c x.kind ≡ a → acting c (filter (is_between low high) xs) ≡ events_in c low high (map event_of xs)
-        → acting c (cond (l && h) (x ∷ filter (is_between low high) xs) (filter (is_between low high) xs))
-        ≡ cond (a && l && h) (event_of x ∷ events_in c low high (map event_of xs)) (events_in c low high (map event_of xs))
-    here true true true acts rest = rw acts (ap (λ es. event_of x ∷ es) rest)
-    here true true false acts rest = rw acts rest
-    here true false true acts rest = rest
-    here true false false acts rest = rest
-    here false h true acts rest = rest
-    here false h false acts rest = rest
+    events : (xs : List Adjust) → map event_of (filter (is_between low high) xs) ≡ filter (λ e. int_lt low e.day && int_le e.day high) (map event_of xs)
+    events [] = refl
+    events (x ∷ xs) = here (is_between low high x) (events xs)
+      where
+        here : (b : Bool) → map event_of (filter (is_between low high) xs) ≡ filter (λ e. int_lt low e.day && int_le e.day high) (map event_of xs)
+            → map event_of (cond b (x ∷ filter (is_between low high) xs) (filter (is_between low high) xs))
+            ≡ cond b (event_of x ∷ filter (λ e. int_lt low e.day && int_le e.day high) (map event_of xs)) (filter (λ e. int_lt low e.day && int_le e.day high) (map event_of xs))
+        here true rest = ap (λ es. event_of x ∷ es) rest
+        here false rest = rest
 
-pub seen_more : (c : Column) (x : ℤ) (xs : List Adjust) (i : ℕ) (a : Adjust) → i < length xs → a ≡ get_or xs i a
-    → after_all c (cond (acts_on c a.kind) (after c x (event_of a)) x) (acting c (drop (i + 1) xs)) ≡ after_all c x (acting c (drop i xs))
-seen_more c x xs i a within item =
-    here (acts_on c a.kind) refl
-    ∙ ap (λ z. after_all c x (acting c (z ∷ drop (i + 1) xs))) item
-    ∙ sym (at_drop_more (λ l. after_all c x (acting c l)) xs i a within)
+-- the first one's effect, if it has one, and those of the others
+acting-first : (c : Column) (bar : ℤ) (x : Adjust) (xs : List Adjust) → acting c bar (x ∷ xs) ≡ option_to_list (effect c bar (event_of x)) ++ acting c bar xs
+acting-first c bar x xs = here (effect c bar (event_of x)) refl
   where
-    here : (b : Bool) → acts_on c a.kind ≡ b → after_all c (cond b (after c x (event_of a)) x) (acting c (drop (i + 1) xs)) ≡ after_all c x (acting c (a ∷ drop (i + 1) xs))
-    here true acts = rw acts refl
-    here false acts = rw acts refl
+    here : (o : Option Effect) → effect c bar (event_of x) ≡ o → acting c bar (x ∷ xs) ≡ option_to_list o ++ acting c bar xs
+    here None e = rw e refl
+    here (Some f) e = rw e refl
 
-pub count_more : (c : Column) (xs : List Adjust) (i : ℕ) (a : Adjust) → i < length xs → a ≡ get_or xs i a
-    → cond (acts_on c a.kind) 1 0 + length (acting c (drop (i + 1) xs)) ≡ length (acting c (drop i xs))
-count_more c xs i a within item =
-    here (acts_on c a.kind) refl
-    ∙ ap (λ z. length (acting c (z ∷ drop (i + 1) xs))) item
-    ∙ sym (at_drop_more (λ l. length (acting c l)) xs i a within)
-  where
-    here : (b : Bool) → acts_on c a.kind ≡ b → cond b 1 0 + length (acting c (drop (i + 1) xs)) ≡ length (acting c (a ∷ drop (i + 1) xs))
-    here true acts = rw acts (omega arith)
-    here false acts = rw acts (omega arith)
+acting-more : (c : Column) (bar : ℤ) (xs : List Adjust) (i : ℕ) (a : Adjust) → i < length xs → a ≡ get_or xs i a
+    → option_to_list (effect c bar (event_of a)) ++ acting c bar (drop (i + 1) xs) ≡ acting c bar (drop i xs)
+acting-more c bar xs i a within item =
+    sym (acting-first c bar a (drop (i + 1) xs))
+    ∙ ap (λ z. acting c bar (z ∷ drop (i + 1) xs)) item
+    ∙ sym (at_drop_more (acting c bar) xs i a within)
+
+pub seen_more : (c : Column) (bar x : ℤ) (xs : List Adjust) (i : ℕ) (a : Adjust) → i < length xs → a ≡ get_or xs i a
+    → after_all (after_all x (option_to_list (effect c bar (event_of a)))) (acting c bar (drop (i + 1) xs)) ≡ after_all x (acting c bar (drop i xs))
+seen_more c bar x xs i a within item =
+    sym (fold-append changed x (option_to_list (effect c bar (event_of a))) (acting c bar (drop (i + 1) xs)))
+    ∙ ap (after_all x) (acting-more c bar xs i a within item)
+
+pub count_more : (c : Column) (bar : ℤ) (xs : List Adjust) (i : ℕ) (a : Adjust) → i < length xs → a ≡ get_or xs i a
+    → step_count (option_to_list (effect c bar (event_of a))) + step_count (acting c bar (drop (i + 1) xs)) ≡ step_count (acting c bar (drop i xs))
+count_more c bar xs i a within item =
+    sym (sum_by-append step_of (option_to_list (effect c bar (event_of a))) (acting c bar (drop (i + 1) xs)))
+    ∙ ap step_count (acting-more c bar xs i a within item)
 
 -- none is left
-pub seen_all : (c : Column) (low high x y : ℤ) (list xs : List Adjust) (i : ℕ) → length xs ≤ i → xs ≡ filter (is_between low high) list
-    → after_all c y (acting c (drop i xs)) ≡ after_all c x (acting c xs) → y ≡ after_all c x (events_in c low high (map event_of list))
-seen_all c low high x y list xs i past is done =
-    sym (at_drop_all (λ l. after_all c y (acting c l)) xs i past)
+pub seen_all : (c : Column) (bar low high x y : ℤ) (list xs : List Adjust) (i : ℕ) → length xs ≤ i → xs ≡ filter (is_between low high) list
+    → after_all y (acting c bar (drop i xs)) ≡ after_all x (acting c bar xs) → y ≡ after_all x (effects_in c bar low high (map event_of list))
+seen_all c bar low high x y list xs i past is done =
+    sym (at_drop_all (λ l. after_all y (acting c bar l)) xs i past)
     ∙ done
-    ∙ ap (λ l. after_all c x (acting c l)) is
-    ∙ ap (after_all c x) (events-between c low high list)
+    ∙ ap (λ l. after_all x (acting c bar l)) is
+    ∙ ap (after_all x) (effects-between c bar low high list)
 
-pub count_all : (c : Column) (low high : ℤ) (now old : ℕ) (list xs : List Adjust) (i : ℕ) → length xs ≤ i → xs ≡ filter (is_between low high) list
-    → now + length (acting c (drop i xs)) ≡ old + length (acting c xs) → now ≡ old + length (events_in c low high (map event_of list))
-count_all c low high now old list xs i past is done =
-    let none : length (acting c (drop i xs)) ≡ 0 = at_drop_all (λ l. length (acting c l)) xs i past in
-    let all : length (acting c xs) ≡ length (events_in c low high (map event_of list)) = ap (λ l. length (acting c l)) is ∙ ap length (events-between c low high list) in
-    omega arith
+pub count_all : (c : Column) (bar low high : ℤ) (now old : ℕ) (list xs : List Adjust) (i : ℕ) → length xs ≤ i → xs ≡ filter (is_between low high) list
+    → now + step_count (acting c bar (drop i xs)) ≡ old + step_count (acting c bar xs) → now ≡ old + step_count (effects_in c bar low high (map event_of list))
+count_all c bar low high now old list xs i past is done =
+    let none : step_count (acting c bar (drop i xs)) ≡ 0 = at_drop_all (λ l. step_count (acting c bar l)) xs i past in
+    let all : step_count (acting c bar xs) ≡ step_count (effects_in c bar low high (map event_of list)) = ap (λ l. step_count (acting c bar l)) is ∙ ap step_count (effects-between c bar low high list) in
+    omega (arith, none, all, done)

@@ -11,6 +11,7 @@ use Rattle.std.proofs.lemmas.Int.{ints}
 use Rattle.std.proofs.lemmas.List.{length-drop, length-take, get_or-drop, get_or-take, take-map, drop-map}
 use Rattle.std.proofs.lemmas.List.Sorted.{ranks_by, sorted_far}
 use Rattle.pl_spec.specs.declared.AdjustmentKind.TheVariants.{Split}
+use Rattle.pl_spec.specs.World.Change.{Scale}
 use Rattle.pl_spec.specs.Parts.{ColumnAdjustment}
 use Rattle.pl_adjust.specs.declared.adjust.Adjust.{Adjust}
 use Rattle.pl_adjust.specs.Events.{event_of}
@@ -58,7 +59,7 @@ events-in_columns (c ∷ cs) (x ∷ xs) h = ap (λ l. event_of x ∷ l) (events-
 
 -- any adjustment of a column
 any_of : ℕ → ColumnAdjustment
-any_of col = record { col = col; event = record { kind = Split; day = pos 0; ratio = record { num = 1; den = 1 } } }
+any_of col = record { col = col; event = record { kind = Split; day = pos 0; change = Scale (record { num = 1; den = 1 }) } }
 
 module _ (cols : List ℕ) (xs : List Adjust) (kept : AreKept cols xs) where
   in_turn : (i j : ℕ) (d : ColumnAdjustment) → i ≤ j → j < length cols

@@ -25,9 +25,9 @@ place_of r = (r.col, r.adjust.day)
 abbrev pub pair_cmp : ℕ × ℤ → ℕ × ℤ → Ordering
 pair_cmp x y = ordering_then (nat_cmp x.0 y.0) (int_cmp x.1 y.1)
 
--- the row of an adjustment with its column
+-- a row of the same column and day
 abbrev to_row : ColumnAdjustment → Row
-to_row x = record { col = x.col; adjust = record { day = x.event.day; kind = x.event.kind; ratio = x.event.ratio } }
+to_row x = record { col = x.col; adjust = record { day = x.event.day; kind = x.event.kind; ratio = record { num = 1; den = 1 } } }
 
 pub by_place : (xs ys : List Row) → IsPermutation xs ys → IsSortedByKey place_of pair_cmp ys → IsStableByKey place_of pair_cmp xs ys → IsByPlace (map row_of xs) (map row_of ys)
 by_place xs ys same sorted stable = record {

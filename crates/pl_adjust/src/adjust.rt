@@ -1,5 +1,6 @@
-ghost use Rattle.std.specs.Prelude.{◌≡◌, true, false, IfSome, IfNone};
-ghost use Rattle.pl_spec.specs.Window.{acts_on, factor};
+ghost use Rattle.std.specs.Prelude.{◌≡◌, ℤ, Some, None, IfSome, IfNone};
+ghost use Rattle.pl_spec.specs.Window.{effect};
+ghost use Rattle.pl_spec.specs.Window.Effect.{Scale};
 ghost use Rattle.pl_adjust.specs.Events.{event_of};
 
 use pl_fixed::{Column, Ratio};
@@ -19,13 +20,14 @@ pub struct Adjust {
 /// That prices and splits are treated so is Zipline's rule; that mergers and dividends leave volume
 /// alone is our own.
 pub fn factor_for(adjust: &Adjust, column: Column) -> Option<Ratio>
-    ensures some { IfSome result (λ r. (acts_on column adjust.now.kind ≡ true)
-        × (r ≡ factor column (event_of adjust.now))) }
-    ensures none { IfNone result (acts_on column adjust.now.kind ≡ false) }
+    // This is what it does to the bar of any day.
+    ensures some { IfSome result (λ r. (bar : ℤ)
+        → effect column bar (event_of adjust.now) ≡ Some (Scale r)) }
+    ensures none { IfNone result ((bar : ℤ) → effect column bar (event_of adjust.now) ≡ None) }
 {
     match (column, adjust.kind) {
-        (Column::Volume, Kind::Split) => Some(adjust.ratio.inverse()),
         (Column::Volume, Kind::Merger | Kind::Dividend) => None,
+        (Column::Volume, _) => Some(adjust.ratio.inverse()),
         _ => Some(adjust.ratio),
     }
 }

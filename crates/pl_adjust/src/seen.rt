@@ -1,8 +1,8 @@
-ghost use Rattle.std.specs.Prelude.{◌≡◌, ◌+◌, ◌≤ℤ◌, ◌&&◌, if◌then◌else◌};
-ghost use Rattle.std.specs.Prelude.{AllPairs, filter, map, length};
+ghost use Rattle.std.specs.Prelude.{◌≡◌, ◌+◌, ◌≤ℤ◌, ◌&&◌, ℤ, option_to_list};
+ghost use Rattle.std.specs.Prelude.{AllPairs, filter, map};
 ghost use Rattle.std.specs.Int.RustNames.{int_lt, int_le};
 ghost use Rattle.pl_spec.specs.Rounding.{IsCell};
-ghost use Rattle.pl_spec.specs.Window.{acts_on, after, after_all, events_in};
+ghost use Rattle.pl_spec.specs.Window.{after_all, effect, effects_in, step_count};
 ghost use Rattle.pl_adjust.specs.Events.{event_of};
 
 use crate::adjust::{Adjust, factor_for};
@@ -23,10 +23,10 @@ pub fn seen_now<L: Ledger>(
     requires cell { IsCell cell }
     requires in_order { AllPairs (λ a b. a.day ≤ℤ b.day) list.now }
     ensures value { result
-        ≡ after_all column cell (events_in column bar_day day (map event_of list.now)) }
+        ≡ after_all cell (effects_in column bar_day bar_day day (map event_of list.now)) }
     ensures cell { IsCell result }
     ensures cost { steps.new
-        ≡ steps.old + length (events_in column bar_day day (map event_of list.now)) }
+        ≡ steps.old + step_count (effects_in column bar_day bar_day day (map event_of list.now)) }
 {
     let mut seen = cell;
     for adjust in between(list, bar_day, day) {
@@ -38,10 +38,11 @@ pub fn seen_now<L: Ledger>(
 // The cell after an adjustment, which may leave the column as it is.
 fn adjusted<L: Ledger>(cell: i64, adjust: &Adjust, column: Column, steps: &mut Steps<L>) -> i64
     requires { IsCell cell }
-    ensures value { result ≡ (if acts_on column adjust.now.kind
-        then after column cell (event_of adjust.now) else cell) }
+    ensures value { (bar : ℤ) → result
+        ≡ after_all cell (option_to_list (effect column bar (event_of adjust.now))) }
     ensures cell { IsCell result }
-    ensures cost { steps.new ≡ steps.old + (if acts_on column adjust.now.kind then 1 else 0) }
+    ensures cost { (bar : ℤ) → steps.new
+        ≡ steps.old + step_count (option_to_list (effect column bar (event_of adjust.now))) }
 {
     match factor_for(adjust, column) {
         Some(factor) => factor.apply(cell, steps),

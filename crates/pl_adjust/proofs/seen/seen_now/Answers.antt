@@ -1,4 +1,4 @@
-use Rattle.std.proofs.Common.{◌+◌, ◌∙◌, rules, arith, ap, drop, w32, w64, FitsSigned}
+use Rattle.std.proofs.Common.{◌+◌, ◌∙◌, to_z, of_z, rules, arith, ap, drop, w32, w64, FitsSigned}
 use Rattle.std.proofs.lemmas.Int.{to_z-of_z}
 use Rattle.pl_spec.specs.Window.{after_all}
 use Rattle.pl_adjust.proofs.Folds.{acting, seen_more, seen_all, count_more, count_all}
@@ -7,18 +7,22 @@ use Rattle.pl_adjust.proofs.seen.seen_now.Goals as goal
 pub loop-adjust-preserved : goal.loop-adjust-preserved
 loop-adjust-preserved g c =
     let column = c.args.column in
+    let bar = c.args.bar_day in
     let list = c.between-adjust-items.result.now in
     let i = c.loop-adjust.adjust-index in
     let adjust = c.adjust-item.result in
     let cell : FitsSigned w64 c.args.cell = c.ranges.cell in
+    let bar_day : FitsSigned w32 c.args.bar_day = c.ranges.bar_day in
+    let cast = to_z w32 (of_z w32 c.args.bar_day) in
     let result : FitsSigned w64 c.adjusted-seen.result = search rules in
     let before = simp to_z-of_z at c.loop-adjust.invariant.seen in
-    let step = ap (λ v. after_all column v (acting column (drop (i + 1) list))) c.adjusted-seen.ensures.value in
-    let more = count_more column list i adjust c.loop-adjust-test.true c.adjust-item.is in
+    let step = ap (λ v. after_all v (acting column bar (drop (i + 1) list))) (c.adjusted-seen.ensures.value bar) in
+    let cost = c.adjusted-seen.ensures.cost cast in
+    let more = count_more column cast list i adjust c.loop-adjust-test.true c.adjust-item.is in
     record {
-      seen = simp to_z-of_z (step ∙ seen_more column _ list i adjust c.loop-adjust-test.true c.adjust-item.is ∙ before);
+      seen = simp to_z-of_z (step ∙ seen_more column bar _ list i adjust c.loop-adjust-test.true c.adjust-item.is ∙ before);
       cell = simp to_z-of_z c.adjusted-seen.ensures.cell;
-      cost = omega (arith, more, c.adjusted-seen.ensures.cost, c.loop-adjust.invariant.cost);
+      cost = omega (arith, more, cost, c.loop-adjust.invariant.cost);
     }
 
 pub returns-clause-value : goal.returns-clause-value
@@ -27,7 +31,7 @@ returns-clause-value g c =
     let bar_day : FitsSigned w32 c.args.bar_day = c.ranges.bar_day in
     let day : FitsSigned w32 c.args.day = c.ranges.day in
     let between = simp to_z-of_z at c.between-adjust-items.ensures in
-    seen_all c.args.column c.args.bar_day c.args.day c.args.cell _ c.args.list.now _ c.loop-adjust.adjust-index c.loop-adjust-test.false between
+    seen_all c.args.column c.args.bar_day c.args.bar_day c.args.day c.args.cell _ c.args.list.now _ c.loop-adjust.adjust-index c.loop-adjust-test.false between
     (simp to_z-of_z at c.loop-adjust.invariant.seen)
 
 pub returns-clause-cost : goal.returns-clause-cost
@@ -35,4 +39,4 @@ returns-clause-cost g c =
     let bar_day : FitsSigned w32 c.args.bar_day = c.ranges.bar_day in
     let day : FitsSigned w32 c.args.day = c.ranges.day in
     let between = simp to_z-of_z at c.between-adjust-items.ensures in
-    count_all c.args.column c.args.bar_day c.args.day _ _ c.args.list.now _ c.loop-adjust.adjust-index c.loop-adjust-test.false between c.loop-adjust.invariant.cost
+    count_all c.args.column c.args.bar_day c.args.bar_day c.args.day _ c.args.steps.now c.args.list.now _ c.loop-adjust.adjust-index c.loop-adjust-test.false between (simp to_z-of_z at c.loop-adjust.invariant.cost)
