@@ -8,7 +8,7 @@ use Rattle.pl_spec.specs.declared.AssetRow.{AssetRow}
 use Rattle.pl_spec.specs.declared.Column.{Column}
 use Rattle.pl_spec.specs.Parts.{ColumnAdjustment, adjustment_of, sid_at}
 use Rattle.pl_spec.specs.World.{Event, events_of}
-use Rattle.pl_spec.specs.Window.{after_all, events, events_in, seen_cell}
+use Rattle.pl_spec.specs.Window.{after_all, effects, effects_in, seen_cell}
 use Rattle.pl_bars.specs.Bars.{cell_at}
 use Rattle.pl_bars.proofs.BarWorlds.{cells_raw}
 use Rattle.pl_adjust.specs.Columns.{events_at}
@@ -30,17 +30,17 @@ module _ (w : World) (made : IsMade w) (col : ℕ) (inside : col < length w.asse
       ∙ column_events w.sessions.now w.assets.now w.labels.now.rows w.labels.now.texts w.bars.now w.adjustments.now made.sids_ascend made.adjustments_in
       col (get_or w.assets.now col blank) (slice_get-get_or w.assets.now col blank inside)
 
-  pub events-at : (c : Column) (s d : ℕ) (low high : ℤ) → slice_get w.sessions.now s ≡ Some low → slice_get w.sessions.now d ≡ Some high
-      → events (world_of w) (sid_at w.assets.now col) c (pos s) (pos d) ≡ events_in c low high (events_at w.adjustments.now col)
-  events-at c s d low high at_s at_d = rw (at_s, at_d) (ap (events_in c low high) events_of-at)
+  pub effects-at : (c : Column) (s d : ℕ) (low high : ℤ) → slice_get w.sessions.now s ≡ Some low → slice_get w.sessions.now d ≡ Some high
+      → effects (world_of w) (sid_at w.assets.now col) c (pos s) (pos d) ≡ effects_in c low low high (events_at w.adjustments.now col)
+  effects-at c s d low high at_s at_d = rw (at_s, at_d) (ap (effects_in c low low high) events_of-at)
 
   -- its cell of one session as it is seen on another
   pub seen-at : (c : Column) (s d : ℕ) (low high : ℤ) → slice_get w.sessions.now s ≡ Some low → slice_get w.sessions.now d ≡ Some high
-      → seen_cell (world_of w) (sid_at w.assets.now col) c (pos s) (pos d) ≡ after_all c (cell_at w.bars.now col c s) (events_in c low high (events_at w.adjustments.now col))
+      → seen_cell (world_of w) (sid_at w.assets.now col) c (pos s) (pos d) ≡ after_all (cell_at w.bars.now col c s) (effects_in c low low high (events_at w.adjustments.now col))
   unfolding seen_cell
   seen-at c s d low high at_s at_d =
-      ap (after_all c _) (events-at c s d low high at_s at_d)
-      ∙ ap (λ x. after_all c x (events_in c low high (events_at w.adjustments.now col)))
+      ap (after_all _) (effects-at c s d low high at_s at_d)
+      ∙ ap (λ x. after_all x (effects_in c low low high (events_at w.adjustments.now col)))
       (sym (cells_raw w.sessions.now w.assets.now w.labels.now.rows w.labels.now.texts w.bars.now w.adjustments.now made.sids_ascend made.bars_in col c s inside))
 
 -- ---- the world is one

@@ -9,25 +9,25 @@ use Rattle.std.proofs.lemmas.List.Sums.{fold-append, sum_by-cons}
 use Rattle.pl_spec.specs.declared.Column.{Column}
 use Rattle.pl_spec.specs.Rounding.{LIMIT, MISSING, is_missing, is_present, quot}
 use Rattle.pl_spec.specs.World.{World, Event, day_of, events_of}
-use Rattle.pl_spec.specs.Window.{after_all, bar_window, before, downward, events, events_from, seen_cell}
+use Rattle.pl_spec.specs.Window.{after_all, bar_window, before, downward, effects, effects_from, seen_cell, step_count}
 use Rattle.pl_spec.specs.Formula.{count, mean, present_values, total}
 use Rattle.pl_spec.proofs.Windows.{bar_window-sessions, before-pos}
 use Rattle.pl_model.specs.PlainTerms.{window_steps}
 
-no_events : (c : Column) (high : Option ℤ) (es : List Event) → events_from c None high es ≡ []
-no_events c (Some high) es = refl
-no_events c None es = refl
+no_effects : (c : Column) (high : Option ℤ) (es : List Event) → effects_from c None high es ≡ []
+no_effects c (Some high) es = refl
+no_effects c None es = refl
 
 early-before : (d n : ℕ) → d ≤ n → before (pos d) (suc n) ≡ negsuc (n - d)
 early-before d n h = omega (arith, ints)
 
 -- before the first session there is nothing
-early-events : (w : World) (a : ℕ) (c : Column) (d n : ℕ) → d ≤ n → events w a c (before (pos d) (suc n)) (pos d) ≡ []
-early-events w a c d n h = rw (early-before d n h) (no_events c (day_of w (pos d)) (events_of w a))
+early-effects : (w : World) (a : ℕ) (c : Column) (d n : ℕ) → d ≤ n → effects w a c (before (pos d) (suc n)) (pos d) ≡ []
+early-effects w a c d n h = rw (early-before d n h) (no_effects c (day_of w (pos d)) (events_of w a))
 
 pub early-cell : (w : World) (a : ℕ) (c : Column) (d n : ℕ) → d ≤ n → seen_cell w a c (before (pos d) (suc n)) (pos d) ≡ MISSING
 unfolding seen_cell
-early-cell w a c d n h = rw (early-before d n h) (ap (after_all c MISSING) (no_events c (day_of w (pos d)) (events_of w a)))
+early-cell w a c d n h = rw (early-before d n h) (ap (after_all MISSING) (no_effects c (day_of w (pos d)) (events_of w a)))
 
 pushed : (xs : List ℤ) (x y : ℤ) → x ≡ y → is_missing x ≡ false → xs ++ cond (is_present y) (y ∷ []) [] ≡ xs ++ x ∷ []
 pushed xs x y is there = rw (← is, there) refl
@@ -41,7 +41,7 @@ module _ (w : World) (a : ℕ) (c : Column) (d : ℕ) where
   run first n = map (λ s. seen_cell w a c (pos s) (pos d)) (range_with_len first n)
 
   abbrev pub steps_at : ℤ → ℕ
-  steps_at s = length (events w a c s (pos d))
+  steps_at s = step_count (effects w a c s (pos d))
 
   abbrev pub run_steps : ℕ → ℕ → ℕ
   run_steps first n = sum_by steps_at (map pos (range_with_len first n))
@@ -71,7 +71,7 @@ module _ (w : World) (a : ℕ) (c : Column) (d : ℕ) where
       ∙ left_out (present_values (run first n)) x (seen_cell w a c (pos s) (pos d)) is gone
 
   abbrev ago : ℕ → ℕ
-  ago n = length (events w a c (before (pos d) (suc n)) (pos d))
+  ago n = step_count (effects w a c (before (pos d) (suc n)) (pos d))
 
   pub window-steps : (size : ℕ) → window_steps w c size a (pos d) ≡ run_steps (d - size) (d - (d - size))
   window-steps zero = let none : d - (d - 0) ≡ 0 = omega arith in rw none refl
@@ -88,7 +88,7 @@ module _ (w : World) (a : ℕ) (c : Column) (d : ℕ) where
         ∙ ap (run_steps (d - suc size)) (sym all)
     | inr past ↦
         let first : d - suc size ≡ d - size = omega arith in
-        let none : ago size ≡ 0 = ap length (early-events w a c d size past) in
+        let none : ago size ≡ 0 = ap step_count (early-effects w a c d size past) in
         sum_by-cons ago size (downward size)
         ∙ ap (λ n. n + sum_by ago (downward size)) none
         ∙ zero-add (sum_by ago (downward size))
@@ -96,7 +96,7 @@ module _ (w : World) (a : ℕ) (c : Column) (d : ℕ) where
         ∙ ap (λ f. run_steps f (d - f)) (sym first)
   ]
 
-  pub steps_more : (first s : ℕ) → first ≤ s → run_steps first ((s + 1) - first) ≡ run_steps first (s - first) + length (events w a c (pos s) (pos d))
+  pub steps_more : (first s : ℕ) → first ≤ s → run_steps first ((s + 1) - first) ≡ run_steps first (s - first) + step_count (effects w a c (pos s) (pos d))
   steps_more first s from =
       let at : first + (s - first) ≡ s = omega arith in
       let next : (s + 1) - first ≡ (s - first) + 1 = omega arith in

@@ -1,8 +1,8 @@
 -- The terms that are computed without a graph, and the steps that they take.
-use Rattle.std.specs.Prelude.{ℕ, suc, if◌then◌else◌, ℤ, length, sum_by}
+use Rattle.std.specs.Prelude.{ℕ, suc, if◌then◌else◌, ℤ, sum_by}
 use Rattle.pl_spec.specs.declared.Column.{Column}
 use Rattle.pl_spec.specs.World.{World, exists}
-use Rattle.pl_spec.specs.Window.{before, downward, events}
+use Rattle.pl_spec.specs.Window.{before, downward, effects, step_count}
 use Rattle.pl_spec.specs.Kind.{WindowKind}
 use Rattle.pl_spec.specs.Kind.Kind.{Window}
 use Rattle.pl_spec.specs.Kind.WindowKind.{Latest as LatestBar, SimpleMovingAverage as MeanOfBars}
@@ -31,9 +31,9 @@ size_of (SimpleMovingAverage c size) = size
 abbrev pub term_of : PlainTerm → Term
 term_of t = over_bars (kind_of t) (column_of t) (size_of t)
 
--- how many pairs there are of one of the size sessions before d and an adjustment that acts on the cell of its bar, as it is seen on d
+-- how many pairs there are of one of the size sessions before d and a ratio that acts on the cell of its bar, as it is seen on d
 abbrev pub window_steps : World → Column → ℕ → ℕ → ℤ → ℕ
-window_steps w c size a d = sum_by (λ n. length (events w a c (before d (suc n)) d)) (downward size)
+window_steps w c size a d = sum_by (λ n. step_count (effects w a c (before d (suc n)) d)) (downward size)
 
 -- none where the asset does not exist on the session
 unfoldable pub steps_of : World → PlainTerm → ℕ → ℤ → ℕ

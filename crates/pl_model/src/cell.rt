@@ -2,7 +2,7 @@ ghost use Rattle.std.specs.Prelude.{◌≡◌, ◌+◌, ◌<◌, ◌≤◌, [], 
 ghost use Rattle.pl_spec.specs.Rounding.{IsCell};
 ghost use Rattle.pl_spec.specs.Parts.{sid_at};
 ghost use Rattle.pl_spec.specs.World.{exists};
-ghost use Rattle.pl_spec.specs.Window.{bar_window, events, seen_cell};
+ghost use Rattle.pl_spec.specs.Window.{bar_window, effects, seen_cell, step_count};
 ghost use Rattle.pl_spec.specs.Formula.{mean, oldest};
 ghost use Rattle.pl_spec.specs.Value.{value};
 ghost use Rattle.pl_spec.specs.Value.Value.{Number};
@@ -134,7 +134,7 @@ fn seen_cell<L: Ledger>(
     ensures value { result ≡ seen_cell (world_of world.now)
         (sid_at world.now.assets.now col) column (pos bar_session) (pos session) }
     ensures cell { IsCell result }
-    ensures cost { steps.new ≡ steps.old + length (events (world_of world.now)
+    ensures cost { steps.new ≡ steps.old + step_count (effects (world_of world.now)
         (sid_at world.now.assets.now col) column (pos bar_session) (pos session)) }
 {
     let cell = world.bars.get(col, bar_session, column);
