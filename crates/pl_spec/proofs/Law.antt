@@ -12,8 +12,10 @@ use Rattle.pl_spec.specs.declared.Column.{Column}
 use Rattle.pl_spec.specs.Window.{effect, is_between, effects_from, effects, after_all, seen_cell, before, downward}
 use Rattle.pl_spec.specs.Agree.{Agree, is_known, has_started}
 use Rattle.pl_spec.specs.Kind.{Kind, CrossKind}
-use Rattle.pl_spec.specs.Kind.Kind.{Constant, Label, StaticSids, Window, Point, LabelTest, Cross}
+use Rattle.pl_spec.specs.Kind.Kind.{Constant, Label, StaticSids, Window, Point, LabelTest, Cross, Downsample}
 use Rattle.pl_spec.specs.Kind.CrossKind.{PeerCount}
+use Rattle.pl_spec.specs.Periods.{period_start}
+use Rattle.pl_spec.proofs.Starts.{start-same, start-within}
 use Rattle.pl_spec.specs.Term.{Term}
 use Rattle.pl_spec.specs.Term.Term.{absent, column, node}
 use Rattle.pl_spec.specs.Value.{Meaning, part_of, number_of, holds, now, window_of, passes, in_group, entry, counts_for, eligible, group_of, label_value, name_at, test_value, step, value}
@@ -261,6 +263,9 @@ module _ (w v : World) (d day : ℤ) (ok : IsWorld w) (ok' : IsWorld v) (agree :
   step_same names (LabelTest k) size x y z m p f f' g g' h h' q q' e e' hf hg hh hq he a s l = ap (test_value k) (now_same x f f' hf a s l)
   step_same names (Cross k) size x y z m p f f' g g' h h' q q' e e' hf hg hh hq he a s l =
       rw (group_same k x m p f f' q q' e e' hf hq he a s l, entry_same x f f' hf s l a) refl
+  step_same names (Downsample k) size x y z m p f f' g g' h h' q q' e e' hf hg hh hq he a s l =
+      ap (now (part_of x f) a) (start-same k w.days v.days s (λ i n. agree.days (pos i) (omega (arith, ints))))
+      ∙ now_same x f f' hf a (period_start k v.days s) (omega (arith, ints, start-within k v.days s))
 
   -- The law: values at sessions up to d are the same in both worlds.
   pub values_agree : (names : List (List ℕ)) (t : Term) → SameBy (value w names t) (value v names t)

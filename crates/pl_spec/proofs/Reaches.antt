@@ -9,12 +9,13 @@ use Rattle.pl_spec.specs.Rounding.{is_present}
 use Rattle.pl_spec.specs.World.{World, Bar}
 use Rattle.pl_spec.specs.Window.{effects, after_all, seen_cell, before, downward}
 use Rattle.pl_spec.specs.Kind.{Kind, CrossKind}
-use Rattle.pl_spec.specs.Kind.Kind.{Constant, Label, StaticSids, Window, Point, LabelTest, Cross}
+use Rattle.pl_spec.specs.Kind.Kind.{Constant, Label, StaticSids, Window, Point, LabelTest, Cross, Downsample}
 use Rattle.pl_spec.specs.Kind.CrossKind.{PeerCount}
 use Rattle.pl_spec.specs.Term.{Term}
 use Rattle.pl_spec.specs.Term.Term.{absent, column, node}
 use Rattle.pl_spec.specs.Value.{Meaning, part_of, number_of, holds, now, window_of, passes, in_group, entry, counts_for, eligible, group_of, test_value, step, value}
-use Rattle.pl_spec.specs.Graph.{least_of, part_reach, reach}
+use Rattle.pl_spec.specs.Graph.{least_of, part_reach, reads_at, reach}
+use Rattle.pl_spec.specs.Periods.{period_start}
 use Rattle.pl_spec.specs.Reaching.{HasWindows, SameBarsFrom}
 
 -- ---- the least of sessions
@@ -54,12 +55,12 @@ before-zero : (d : ℤ) → before d 0 ≡ d
 before-zero d = omega (arith, ints)
 
 -- a part that is read on the session itself reaches no farther than its window
-reach_now : (low : ℤ) (x : Term) (size : ℕ) (d : ℤ) → 1 ≤ size → low ≤ℤ d → low ≤ℤ part_reach x (reach x) size d → low ≤ℤ reach x d
+reach_now : (days : List ℤ) (low : ℤ) (x : Term) (size : ℕ) (d : ℤ) → 1 ≤ size → low ≤ℤ part_reach x (reach days x) size d → low ≤ℤ reach days x d
 unfolding reach
-reach_now low absent size d some here h = here
-reach_now low (column c) size d some here h = here
-reach_now low (node k n x y z m g) size d some here h =
-    let at_zero = at_downward low (λ i. reach (node k n x y z m g) (before d i)) size (below_least low d _ h).1 0 (omega arith) in
+reach_now days low absent size d some h = h
+reach_now days low (column c) size d some h = omega (arith, ints)
+reach_now days low (node k n x y z m g) size d some h =
+    let at_zero = at_downward low (λ i. reach days (node k n x y z m g) (before d i)) size (below_least low d _ h).1 0 (omega arith) in
     rw (before-zero d) at at_zero
 
 module _ (w : World) (bars : List Bar) (low : ℤ) (same : SameBarsFrom w (record w { bars = bars }) low) where
@@ -72,15 +73,15 @@ module _ (w : World) (bars : List Bar) (low : ℤ) (same : SameBarsFrom w (recor
 
   -- a term is worth the same wherever it reaches no farther back
   abbrev SameWithin : Term → Meaning → Meaning → Type 0
-  SameWithin t f g = (a : ℕ) (d : ℤ) → low ≤ℤ reach t d → f a d ≡ g a d
+  SameWithin t f g = (a : ℕ) (d : ℤ) → low ≤ℤ reach w.days t d → f a d ≡ g a d
 
-  window_same : (x : Term) (f g : Meaning) (size : ℕ) (d : ℤ) → SameWithin x f g → low ≤ℤ part_reach x (reach x) size d → (a : ℕ)
+  window_same : (x : Term) (f g : Meaning) (size : ℕ) (d : ℤ) → SameWithin x f g → low ≤ℤ part_reach x (reach w.days x) size d → (a : ℕ)
       → window_of w size (part_of x f) a d ≡ window_of other size (part_of x g) a d
   window_same absent f g size d e h a = refl
   window_same (column c) f g size d e h a = map-downward _ _ size (λ n l. seen_same a c (before d (suc n)) d (omega (arith, ints)))
   window_same (node k i x y z m p) f g size d e h a =
       map-downward _ _ size
-      (λ n l. ap number_of (e a (before d n) (at_downward low (λ s. reach (node k i x y z m p) (before d s)) size (below_least low d _ h).1 n l)))
+      (λ n l. ap number_of (e a (before d n) (at_downward low (λ s. reach w.days (node k i x y z m p) (before d s)) size (below_least low d _ h).1 n l)))
 
   module _ (d : ℤ) where
     abbrev SameNow : Meaning → Meaning → Type 0
@@ -124,32 +125,36 @@ module _ (w : World) (bars : List Bar) (low : ℤ) (same : SameBarsFrom w (recor
     peers_same PeerCount x m p f f' g g' e e' hf hg he a = eligible_same x m x f f' g g' f f' hf hg hf a
     peers_same k x m p f f' g g' e e' hf hg he a = eligible_same x m p f f' g g' e e' hf hg he a
 
-  step_same : (names : List (List ℕ)) (k : Kind) (size : ℕ) (x y z m p : Term) (f f' g g' h h' q q' e e' : Meaning) (d : ℤ) → 1 ≤ size → low ≤ℤ d
+  step_same : (names : List (List ℕ)) (k : Kind) (size : ℕ) (x y z m p : Term) (f f' g g' h h' q q' e e' : Meaning) (d : ℤ) → 1 ≤ size
       → SameWithin x f f' → SameWithin y g g' → SameWithin z h h' → SameWithin m q q' → SameWithin p e e'
-      → low ≤ℤ part_reach x (reach x) size d → low ≤ℤ part_reach y (reach y) size d → low ≤ℤ part_reach z (reach z) size d
-      → low ≤ℤ part_reach m (reach m) 1 d → low ≤ℤ part_reach p (reach p) 1 d → (a : ℕ)
+      → low ≤ℤ part_reach x (reach w.days x) size (reads_at w.days k d) → low ≤ℤ part_reach y (reach w.days y) size (reads_at w.days k d)
+      → low ≤ℤ part_reach z (reach w.days z) size (reads_at w.days k d)
+      → low ≤ℤ part_reach m (reach w.days m) 1 d → low ≤ℤ part_reach p (reach w.days p) 1 d → (a : ℕ)
       → step w names k size (part_of x f) (part_of y g) (part_of z h) (part_of m q) (part_of p e) a d
       ≡ step other names k size (part_of x f') (part_of y g') (part_of z h') (part_of m q') (part_of p e') a d
   unfolding step
-  step_same names (Constant cell) size x y z m p f f' g g' h h' q q' e e' d some late hf hg hh hq he rx ry rz rm rp a = refl
-  step_same names (Label n) size x y z m p f f' g g' h h' q q' e e' d some late hf hg hh hq he rx ry rz rm rp a = refl
-  step_same names (StaticSids sids) size x y z m p f f' g g' h h' q q' e e' d some late hf hg hh hq he rx ry rz rm rp a = refl
-  step_same names (Window k) size x y z m p f f' g g' h h' q q' e e' d some late hf hg hh hq he rx ry rz rm rp a =
+  step_same names (Constant cell) size x y z m p f f' g g' h h' q q' e e' d some hf hg hh hq he rx ry rz rm rp a = refl
+  step_same names (Label n) size x y z m p f f' g g' h h' q q' e e' d some hf hg hh hq he rx ry rz rm rp a = refl
+  step_same names (StaticSids sids) size x y z m p f f' g g' h h' q q' e e' d some hf hg hh hq he rx ry rz rm rp a = refl
+  step_same names (Window k) size x y z m p f f' g g' h h' q q' e e' d some hf hg hh hq he rx ry rz rm rp a =
       rw (window_same x f f' size d hf rx a, window_same y g g' size d hg ry a, window_same z h h' size d hh rz a) refl
-  step_same names (Point k) size x y z m p f f' g g' h h' q q' e e' d some late hf hg hh hq he rx ry rz rm rp a =
+  step_same names (Point k) size x y z m p f f' g g' h h' q q' e e' d some hf hg hh hq he rx ry rz rm rp a =
       rw (
-        number_same d x f f' (λ b. hf b d (reach_now low x size d some late rx)) a,
-        number_same d y g g' (λ b. hg b d (reach_now low y size d some late ry)) a,
-        number_same d z h h' (λ b. hh b d (reach_now low z size d some late rz)) a,
+        number_same d x f f' (λ b. hf b d (reach_now w.days low x size d some rx)) a,
+        number_same d y g g' (λ b. hg b d (reach_now w.days low y size d some ry)) a,
+        number_same d z h h' (λ b. hh b d (reach_now w.days low z size d some rz)) a,
       ) refl
-  step_same names (LabelTest k) size x y z m p f f' g g' h h' q q' e e' d some late hf hg hh hq he rx ry rz rm rp a =
-      ap (test_value k) (now_same d x f f' (λ b. hf b d (reach_now low x size d some late rx)) a)
-  step_same names (Cross k) size x y z m p f f' g g' h h' q q' e e' d some late hf hg hh hq he rx ry rz rm rp a =
-      let x_now : SameNow d f f' = λ b. hf b d (reach_now low x size d some late rx) in
+  step_same names (LabelTest k) size x y z m p f f' g g' h h' q q' e e' d some hf hg hh hq he rx ry rz rm rp a =
+      ap (test_value k) (now_same d x f f' (λ b. hf b d (reach_now w.days low x size d some rx)) a)
+  step_same names (Cross k) size x y z m p f f' g g' h h' q q' e e' d some hf hg hh hq he rx ry rz rm rp a =
+      let x_now : SameNow d f f' = λ b. hf b d (reach_now w.days low x size d some rx) in
       rw (
-        peers_same d k x m p f f' q q' e e' x_now (λ b. hq b d (reach_now low m 1 d (omega arith) late rm)) (λ b. he b d (reach_now low p 1 d (omega arith) late rp)) a,
+        peers_same d k x m p f f' q q' e e' x_now (λ b. hq b d (reach_now w.days low m 1 d (omega arith) rm)) (λ b. he b d (reach_now w.days low p 1 d (omega arith) rp)) a,
         number_same d x f f' x_now a,
       ) refl
+  step_same names (Downsample k) size x y z m p f f' g g' h h' q q' e e' d some hf hg hh hq he rx ry rz rm rp a =
+      let start : ℤ = period_start k w.days d in
+      now_same start x f f' (λ b. hf b start (reach_now w.days low x size start some rx)) a
 
   -- The law: a value stays where the bars from the term's reach on do.
   pub reach-enough : (names : List (List ℕ)) (t : Term) → HasWindows t → SameWithin t (value w names t) (value other names t)
@@ -157,7 +162,7 @@ module _ (w : World) (bars : List Bar) (low : ℤ) (same : SameBarsFrom w (recor
   reach-enough names absent ok a d h = refl
   reach-enough names (column c) ok a d h = refl
   reach-enough names (node k size x y z m p) ok a d h =
-      let parts = below_least low d (part_reach x (reach x) size d ∷ part_reach y (reach y) size d ∷ part_reach z (reach z) size d ∷ part_reach m (reach m) 1 d ∷ part_reach p (reach p) 1 d ∷ []) h in
+      let parts = below_least low d (part_reach x (reach w.days x) size (reads_at w.days k d) ∷ part_reach y (reach w.days y) size (reads_at w.days k d) ∷ part_reach z (reach w.days z) size (reads_at w.days k d) ∷ part_reach m (reach w.days m) 1 d ∷ part_reach p (reach w.days p) 1 d ∷ []) h in
       let rx = parts.1.0 in
       let ry = parts.1.1.0 in
       let rz = parts.1.1.1.0 in
@@ -169,6 +174,6 @@ module _ (w : World) (bars : List Bar) (low : ℤ) (same : SameBarsFrom w (recor
       let em : SameWithin m (value w names m) (value other names m) = reach-enough names m ok.4 in
       let ep : SameWithin p (value w names p) (value other names p) = reach-enough names p ok.5 in
       let same_mask : passes (part_of m (value w names m)) a d ≡ passes (part_of m (value other names m)) a d
-      = passes_same d m (value w names m) (value other names m) (λ b. em b d (reach_now low m 1 d (omega arith) parts.0 rm)) a in
-      let same_step = step_same names k size x y z m p _ _ _ _ _ _ _ _ _ _ d ok.0 parts.0 ex ey ez em ep rx ry rz rm rp a in
+      = passes_same d m (value w names m) (value other names m) (λ b. em b d (reach_now w.days low m 1 d (omega arith) rm)) a in
+      let same_step = step_same names k size x y z m p _ _ _ _ _ _ _ _ _ _ d ok.0 ex ey ez em ep rx ry rz rm rp a in
       rw (same_mask, same_step) refl

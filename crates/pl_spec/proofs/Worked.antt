@@ -8,3 +8,4 @@ pub mod Crossing
 pub mod Labels
 pub mod Tables
 pub mod Planning
+pub mod Periods

@@ -3,6 +3,9 @@ use Rattle.std.specs.Prelude.{◌≡◌, ℕ, zero, suc, ◌+◌, Bool, true, �
 use Rattle.std.specs.List.{list_any}
 use Rattle.std.specs.Int.{int_min}
 use Rattle.pl_spec.specs.World.{column_number}
+use Rattle.pl_spec.specs.Periods.{period_start}
+use Rattle.pl_spec.specs.Kind.{Kind}
+use Rattle.pl_spec.specs.Kind.Kind.{Downsample}
 use Rattle.pl_spec.specs.Window.{before, downward}
 use Rattle.pl_spec.specs.Term.{Term, Input, Node, Graph}
 use Rattle.pl_spec.specs.Term.Term.{absent, column, node}
@@ -18,11 +21,18 @@ part_reach absent f size d = d
 part_reach (column c) f size d = before d size
 part_reach (node k n x y z m g) f size d = least_of (map (λ i. f (before d i)) (downward size)) d
 
-unfoldable pub reach : Term → ℤ → ℤ
-reach absent d = d
-reach (column c) d = d
-reach (node k size x y z m g) d =
-    least_of (part_reach x (reach x) size d ∷ part_reach y (reach y) size d ∷ part_reach z (reach z) size d ∷ part_reach m (reach m) 1 d ∷ part_reach g (reach g) 1 d ∷ []) d
+-- the session up to which a term of the kind reads its inputs for session d; its mask and its group it reads on d itself
+abbrev pub reads_at : List ℤ → Kind → ℤ → ℤ
+reads_at days (Downsample f) d = period_start f days d
+reads_at days k d = d
+
+-- the reach of a term by the calendar
+unfoldable pub reach : List ℤ → Term → ℤ → ℤ
+reach days absent d = d
+reach days (column c) d = d
+reach days (node k size x y z m g) d =
+    let s = reads_at days k d in
+    least_of (part_reach x (reach days x) size s ∷ part_reach y (reach days y) size s ∷ part_reach z (reach days z) size s ∷ part_reach m (reach days m) 1 d ∷ part_reach g (reach days g) 1 d ∷ []) d
 
 -- ---- the graph by numbers
 

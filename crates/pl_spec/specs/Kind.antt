@@ -3,6 +3,7 @@ use Rattle.std.specs.Prelude.{ℕ, ℤ, List}
 use Rattle.pl_spec.specs.declared.Compare.{Compare}
 use Rattle.pl_spec.specs.declared.RankMethod.{RankMethod}
 use Rattle.pl_spec.specs.declared.RankOrder.{RankOrder}
+use Rattle.pl_spec.specs.declared.Frequency.{Frequency}
 
 pub data WindowKind : Type 0 where
   Latest SimpleMovingAverage LinearWeightedMovingAverage WindowSum WindowMax WindowMin WindowStd : WindowKind
@@ -45,3 +46,4 @@ pub data Kind : Type 0 where
   Point : PointKind → Kind
   LabelTest : LabelKind → Kind
   Cross : CrossKind → Kind
+  Downsample : Frequency → Kind

@@ -1,6 +1,7 @@
 -- What the contracts of the project cite. docs/DEFINITIONS.md explains each definition.
 pub mod Rounding
 pub mod Dates
+pub mod Periods
 pub mod Decimals
 pub mod World
 pub mod Lookups

@@ -20,5 +20,5 @@ SameBarsFrom w v low = (a : ℕ) (c : Column) (s : ℤ) → low ≤ℤ s → bar
 -- bars before a term's reach may be others, or none: its value stays
 abbrev pub ReachIsEnough : Type 0
 ReachIsEnough = (w : World) (bars : List Bar) (low : ℤ) → SameBarsFrom w (record w { bars = bars }) low
-    → (names : List (List ℕ)) (t : Term) → HasWindows t → (a : ℕ) (d : ℤ) → low ≤ℤ reach t d
+    → (names : List (List ℕ)) (t : Term) → HasWindows t → (a : ℕ) (d : ℤ) → low ≤ℤ reach w.days t d
     → value w names t a d ≡ value (record w { bars = bars }) names t a d

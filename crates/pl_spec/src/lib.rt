@@ -56,6 +56,16 @@ pub enum RankOrder {
     Descending,
 }
 
+/// At which sessions a downsampled term takes its input's value: the first of each year, quarter, month or week. Weeks
+/// begin on Monday, quarters with January, April, July and October.
+#[derive(Clone, Copy, Debug, PartialEq, Eq)]
+pub enum Frequency {
+    YearStart,
+    QuarterStart,
+    MonthStart,
+    WeekStart,
+}
+
 /// The form of a table's text.
 #[derive(Clone, Copy, Debug, PartialEq, Eq)]
 pub enum Format {

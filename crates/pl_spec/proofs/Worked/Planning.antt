@@ -5,7 +5,7 @@ use Rattle.pl_spec.specs.declared.Compare.TheVariants as compare
 use Rattle.pl_spec.specs.Kind.{Kind, WindowKind, PointKind}
 use Rattle.pl_spec.specs.Term.{Graph, term_at}
 use Rattle.pl_spec.specs.Graph.{reach, used_terms, live_terms, columns_at, bound}
-use Rattle.pl_spec.proofs.Worked.Worlds.{opened, units, at_close, of_bars, of_terms, latest_close}
+use Rattle.pl_spec.proofs.Worked.Worlds.{opened, plain, units, at_close, of_bars, of_terms, latest_close}
 
 -- ---- one column of one term
 
@@ -13,7 +13,7 @@ latest_close_and_its_column : bound latest_close.graph (0 ∷ []) ≡ 2
 latest_close_and_its_column = refl
 
 -- the first session would need one before it
-two_closes_reach_back_two_sessions : map (reach (at_close WindowKind.SimpleMovingAverage 2)) (pos 1 ∷ pos 2 ∷ []) ≡ negsuc 0 ∷ pos 0 ∷ []
+two_closes_reach_back_two_sessions : map (reach plain.days (at_close WindowKind.SimpleMovingAverage 2)) (pos 1 ∷ pos 2 ∷ []) ≡ negsuc 0 ∷ pos 0 ∷ []
 unfolding opened
 two_closes_reach_back_two_sessions = refl
 
@@ -23,7 +23,7 @@ of_returns : Graph
 of_returns = of_bars WindowKind.Returns (Close ∷ []) 2 ∷ record (of_terms (Kind.Window WindowKind.SimpleMovingAverage) (0 ∷ [])) { window = 2 } ∷ []
 
 -- on 2024-01-04 and 01-05
-a_window_over_a_window_reaches_further : map (reach (term_at of_returns 1)) (pos 2 ∷ pos 3 ∷ []) ≡ negsuc 0 ∷ pos 0 ∷ []
+a_window_over_a_window_reaches_further : map (reach plain.days (term_at of_returns 1)) (pos 2 ∷ pos 3 ∷ []) ≡ negsuc 0 ∷ pos 0 ∷ []
 unfolding of_returns opened
 a_window_over_a_window_reaches_further = refl
 
@@ -60,7 +60,7 @@ unfolding liquid outputs
 four_results_are_live_at_once = refl
 
 -- from 2024-01-05 on
-averages_of_three_reach_the_first_session : map (λ t. reach (term_at liquid t) (pos 3)) (3 ∷ 4 ∷ []) ≡ pos 0 ∷ pos 0 ∷ []
+averages_of_three_reach_the_first_session : map (λ t. reach plain.days (term_at liquid t) (pos 3)) (3 ∷ 4 ∷ []) ≡ pos 0 ∷ pos 0 ∷ []
 unfolding liquid opened
 averages_of_three_reach_the_first_session = refl
 

@@ -22,11 +22,12 @@ use Rattle.pl_spec.specs.Term.Term.{absent, column, node}
 use Rattle.pl_spec.specs.Value.{Value, value, step}
 use Rattle.pl_spec.specs.Table.{NamedColumn, Pipeline, table}
 use Rattle.pl_spec.specs.Graph.{reach}
+use Rattle.pl_spec.specs.Periods.{month_number, period_start}
 use Rattle.pl_spec.specs.Text.{text}
 
 -- a proof that unfolds this opens all that the examples compute with
 unfoldable pub opened : Unit {0}
-unfolding div_round to_cell quot add sub mul div neg scaled root_by isqrt seen_cell formula pointwise label_test cross step value reach decimal_digits digits date_text cell_text text
+unfolding div_round to_cell quot add sub mul div neg scaled root_by isqrt seen_cell formula pointwise label_test cross step value reach month_number period_start decimal_digits digits date_text cell_text text
 opened = tt
 
 -- ---- worlds
