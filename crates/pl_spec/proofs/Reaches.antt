@@ -27,7 +27,7 @@ AllFrom low (s ∷ ss) = (low ≤ℤ s) × AllFrom low ss
 below_min : (low x y : ℤ) → low ≤ℤ int_min x y → (low ≤ℤ x) × (low ≤ℤ y)
 below_min low x y h = (grind (arith, ints), grind (arith, ints))
 
-below_least : (low d : ℤ) (ss : List ℤ) → low ≤ℤ least_of ss d → (low ≤ℤ d) × AllFrom low ss
+pub below_least : (low d : ℤ) (ss : List ℤ) → low ≤ℤ least_of ss d → (low ≤ℤ d) × AllFrom low ss
 below_least low d [] h = (h, tt)
 below_least low d (s ∷ ss) h =
     let rest = below_least low (int_min d s) ss h in

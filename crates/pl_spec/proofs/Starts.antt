@@ -6,11 +6,11 @@ use Rattle.std.proofs.lemmas.Int.{ints}
 use Rattle.pl_spec.specs.declared.Frequency.{Frequency}
 use Rattle.pl_spec.specs.Periods.{period, same_period, first_session, period_start}
 
-eq_self : (x : ℤ) → int_eq x x ≡ true
+pub eq_self : (x : ℤ) → int_eq x x ≡ true
 eq_self x = grind (arith, ints)
 
 -- what passes at place d has its first place no later
-first_within : (p : ℤ → Bool) (xs : List ℤ) (d : ℕ) (x : ℤ) → slice_get xs d ≡ Some x → p x ≡ true → position_or_len p xs ≤ d
+pub first_within : (p : ℤ → Bool) (xs : List ℤ) (d : ℕ) (x : ℤ) → slice_get xs d ≡ Some x → p x ≡ true → position_or_len p xs ≤ d
 first_within p [] d x e t = cc
 first_within p (y ∷ ys) d x e t = here (p y) refl d e (λ i f. first_within p ys i x f t)
   where

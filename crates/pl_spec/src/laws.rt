@@ -1,6 +1,7 @@
 ghost use Rattle.pl_spec.specs.Laws.{ValuesAgree, RoundingIsExact, BufferSteps, TablesAgree, TermsAreDistinct, OrderIsOne, OrderIsKept, RootIsGreatest, UsedAreListed, RawWithoutEvents, WindowOfOne, OpenMasksChangeNothing, TablesConcatenate};
 ghost use Rattle.pl_spec.specs.NodeValue.{NodesUnfold};
 ghost use Rattle.pl_spec.specs.Reaching.{ReachIsEnough};
+ghost use Rattle.pl_spec.specs.Lows.{StartsAreFirst, ReachesRise, LowsCover};
 ghost use Rattle.pl_spec.specs.Lookups.{BarsAreFound, LabelsAreFound};
 ghost use Rattle.pl_spec.specs.DateLaws.{DatesAreRead};
 ghost use Rattle.pl_spec.specs.DateLaws.{DatesAreRead, DatesAreWritten, DaysHaveOneDate};
@@ -74,6 +75,21 @@ pub fn open_masks_change_nothing()
 /// No bar before a term's reach counts for its value.
 pub fn reach_is_enough()
     ensures { ReachIsEnough }
+{}
+
+/// A period starts with the first session of it, and later sessions are of no earlier period.
+pub fn starts_are_first()
+    ensures { StartsAreFirst }
+{}
+
+/// A term reaches no farther back for a later session.
+pub fn reaches_rise()
+    ensures { ReachesRise }
+{}
+
+/// What a computed session reads of a term is computed.
+pub fn lows_cover()
+    ensures { LowsCover }
 {}
 
 /// A range that is run in pieces gives the rows of the whole.
