@@ -23,7 +23,7 @@ use Rattle.pl_spec.specs.Value.{Meaning, part_of, number_of, holds, now, window_
 -- ---- lists
 
 -- what passes p passes q, so it doesn't matter whether q was tested first
-filter-filter : {X : Type 0} (p q : X → Bool) → ((x : X) → p x ≡ true → q x ≡ true) → (xs : List X) → filter p (filter q xs) ≡ filter p xs
+pub filter-filter : {X : Type 0} (p q : X → Bool) → ((x : X) → p x ≡ true → q x ≡ true) → (xs : List X) → filter p (filter q xs) ≡ filter p xs
 filter-filter p q h [] = refl
 filter-filter p q h (x ∷ xs) = here (p x) (q x) refl refl (filter-filter p q h xs)
   where

@@ -1,11 +1,9 @@
 -- How far back terms are computed.
-use Rattle.std.proofs.Common.{◌≡◌, ℕ, zero, suc, ◌≤◌, true, ℤ, pos, negsuc, ◌<ℤ◌, ◌≤ℤ◌, List, [], ◌∷◌, map, fold, get_or, AllPairs, Option, Some, None, option_map, unwrap_or, refl, sym, ◌∙◌, ap, arith, slice_get}
+use Rattle.std.proofs.Common.{◌≡◌, ℕ, zero, suc, ◌≤◌, ℤ, pos, ◌<ℤ◌, ◌≤ℤ◌, List, [], ◌∷◌, map, get_or, AllPairs, Some, refl, sym, arith, slice_get}
 use Rattle.std.specs.Int.{int_min}
-use Rattle.std.specs.Ordering.{int_eq}
 use Rattle.std.proofs.lemmas.Int.{ints}
-use Rattle.std.proofs.lemmas.List.Folds.{find_at}
 use Rattle.std.proofs.lemmas.List.Sums.{passes_at_first}
-use Rattle.std.proofs.lemmas.Option.{slice_get-get_or, get_or_from_slice_get, slice_get_within}
+use Rattle.std.proofs.lemmas.Option.{slice_get-get_or, slice_get_within}
 use Rattle.pl_spec.specs.declared.Frequency.{Frequency}
 use Rattle.pl_spec.specs.Periods.{period, same_period, first_session, period_start}
 use Rattle.pl_spec.specs.Kind.{Kind}

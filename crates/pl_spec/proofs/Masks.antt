@@ -1,7 +1,7 @@
 -- A mask that every existing asset passes changes no value.
-use Rattle.std.proofs.Common.{◌≡◌, ℕ, Bool, true, false, ◌&&◌, ◌==◌, cond, ℤ, List, [], ◌∷◌, map, filter, refl, sym, ◌∙◌, ap}
+use Rattle.std.proofs.Common.{◌≡◌, ℕ, Bool, true, false, ◌&&◌, ◌==◌, cond, ℤ, List, [], ◌∷◌, map, filter, refl, ap}
 use Rattle.std.specs.List.{list_any}
-use Rattle.std.proofs.lemmas.Bool.{eq-eqb, or_left, or_right, true≢false}
+use Rattle.std.proofs.lemmas.Bool.{eq-eqb, or_left, or_right}
 use Rattle.pl_spec.specs.Rounding.{is_present}
 use Rattle.pl_spec.specs.World.{World, exists, living_sids}
 use Rattle.pl_spec.specs.Kind.{Kind, CrossKind}
@@ -9,9 +9,9 @@ use Rattle.pl_spec.specs.Kind.Kind.{Constant, Label, StaticSids, Window, Point, 
 use Rattle.pl_spec.specs.Cross.{Entry, cross}
 use Rattle.pl_spec.specs.Term.{Term}
 use Rattle.pl_spec.specs.Term.Term.{absent, column, node}
-use Rattle.pl_spec.specs.Value.{Value, Meaning, Part, part_of, number_of, holds, now, passes, in_group, entry, counts_for, eligible, group_of, is_cross_filter, is_filter_over, is_filter_term, empty, step, value}
+use Rattle.pl_spec.specs.Value.{Part, part_of, number_of, holds, now, passes, in_group, entry, counts_for, eligible, group_of, is_cross_filter, is_filter_over, is_filter_term, empty, step, value}
 use Rattle.pl_spec.specs.Value.Value.{Number}
-use Rattle.pl_spec.specs.Value.Part.{Nothing, Bars, Values}
+use Rattle.pl_spec.specs.Value.Part.{Nothing}
 
 -- two tests that agree on what stands in a list leave the same of it
 filter-agree : (p q : ℕ → Bool) (xs : List ℕ) → ((b : ℕ) → list_any (λ x. x == b) xs ≡ true → p b ≡ q b) → filter p xs ≡ filter q xs

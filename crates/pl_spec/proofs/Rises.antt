@@ -1,7 +1,7 @@
 -- Later days are of later periods, later sessions of later starts, and a term reaches no farther back for a later session.
-use Rattle.std.proofs.Common.{◌≡◌, ℕ, zero, suc, ◌+◌, ◌-◌, ◌*◌, ◌/◌, ◌<◌, ◌≤◌, Bool, true, false, cond, ℤ, pos, negsuc, ◌<ℤ◌, ◌≤ℤ◌, ◌+ℤ◌, List, [], ◌∷◌, length, map, filter, fold, get_or, AllPairs, Option, Some, None, option_map, unwrap_or, refl, sym, ◌∙◌, ap, arith, inl, inr, slice_get}
-use Rattle.std.specs.List.{range_with_len, position_or_len}
-use Rattle.std.specs.Int.{int_div_euclid, int_min}
+use Rattle.std.proofs.Common.{◌≡◌, ℕ, zero, suc, ◌+◌, ◌-◌, ◌*◌, ◌/◌, ◌<◌, ◌≤◌, Bool, true, false, cond, ℤ, pos, negsuc, ◌<ℤ◌, ◌≤ℤ◌, ◌+ℤ◌, List, [], ◌∷◌, length, filter, get_or, AllPairs, Option, Some, None, option_map, unwrap_or, refl, sym, ◌∙◌, arith, inl, inr, slice_get}
+use Rattle.std.specs.List.{range_with_len}
+use Rattle.std.specs.Int.{int_div_euclid}
 use Rattle.std.specs.Int.RustNames.{int_le}
 use Rattle.std.specs.Ordering.{int_eq}
 use Rattle.std.proofs.lemmas.Bool.{cases_lt}
@@ -10,7 +10,7 @@ use Rattle.std.proofs.lemmas.List.Sums.{fails_before_first, passes_at_first}
 use Rattle.std.proofs.lemmas.Option.{get_or_from_slice_get, slice_get_within}
 use Rattle.pl_spec.specs.declared.Frequency.{Frequency}
 use Rattle.pl_spec.specs.declared.Frequency.TheVariants.{YearStart, QuarterStart, MonthStart, WeekStart}
-use Rattle.pl_spec.specs.Dates.{day_number, year_of, month_of}
+use Rattle.pl_spec.specs.Dates.{day_number}
 use Rattle.pl_spec.specs.Periods.{month_number, period, same_period, first_session, period_start}
 use Rattle.pl_spec.proofs.Starts.{eq_self, first_within, start-within}
 

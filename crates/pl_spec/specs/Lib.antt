@@ -21,6 +21,7 @@ pub mod Lows
 pub mod Text
 pub mod Parts
 pub mod Agree
+pub mod AsOf
 pub mod Names
 pub mod Reading
 pub mod Sorted

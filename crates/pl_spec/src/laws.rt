@@ -1,6 +1,7 @@
 ghost use Rattle.pl_spec.specs.Laws.{ValuesAgree, RoundingIsExact, BufferSteps, TablesAgree, TermsAreDistinct, OrderIsOne, OrderIsKept, RootIsGreatest, UsedAreListed, RawWithoutEvents, WindowOfOne, OpenMasksChangeNothing, TablesConcatenate};
 ghost use Rattle.pl_spec.specs.NodeValue.{NodesUnfold};
 ghost use Rattle.pl_spec.specs.Reaching.{ReachIsEnough};
+ghost use Rattle.pl_spec.specs.AsOf.{AsOfAgrees, TablesAsOf, PartsAsOf};
 ghost use Rattle.pl_spec.specs.Lows.{StartsAreFirst, ReachesRise, LowsCover};
 ghost use Rattle.pl_spec.specs.Lookups.{BarsAreFound, LabelsAreFound};
 ghost use Rattle.pl_spec.specs.DateLaws.{DatesAreRead};
@@ -30,6 +31,21 @@ pub fn nodes_unfold()
 /// What came to be known later changes no row.
 pub fn tables_agree()
     ensures { TablesAgree }
+{}
+
+/// The world as of a session agrees with the whole up to it.
+pub fn as_of_agrees()
+    ensures { AsOfAgrees }
+{}
+
+/// The world as of a session has the rows of the whole up to it.
+pub fn tables_as_of()
+    ensures { TablesAsOf }
+{}
+
+/// The parts that are known by a session make the world as of it.
+pub fn parts_as_of()
+    ensures { PartsAsOf }
 {}
 
 /// No two numbers of a graph have one tree.

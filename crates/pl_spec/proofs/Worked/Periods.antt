@@ -1,5 +1,5 @@
 -- Downsampled terms: the value of the first session of a week, a month, a quarter or a year.
-use Rattle.std.specs.Prelude.{◌≡◌, ℕ, ℤ, pos, negsuc, refl, List, [], ◌∷◌, map}
+use Rattle.std.specs.Prelude.{◌≡◌, ℤ, pos, negsuc, refl, List, [], ◌∷◌, map}
 use Rattle.pl_spec.specs.declared.Column.TheVariants.{Close}
 use Rattle.pl_spec.specs.declared.Frequency.{Frequency}
 use Rattle.pl_spec.specs.declared.Frequency.TheVariants.{YearStart, QuarterStart, MonthStart, WeekStart}
@@ -11,7 +11,7 @@ use Rattle.pl_spec.specs.Term.{Term}
 use Rattle.pl_spec.specs.Term.Term.{absent, node}
 use Rattle.pl_spec.specs.Value.Value.{Number}
 use Rattle.pl_spec.specs.Graph.{reach}
-use Rattle.pl_spec.proofs.Worked.Worlds.{opened, units, asset, world, no_tables, plain, latest, number, at_close, by_session}
+use Rattle.pl_spec.proofs.Worked.Worlds.{opened, units, asset, world, no_tables, plain, latest, number, by_session}
 
 abbrev downsampled : Frequency → Term → Term
 downsampled f x = node (Kind.Downsample f) 1 x absent absent absent absent
