@@ -20,7 +20,7 @@ use Rattle.pl_spec.specs.Reaching.{HasWindows, SameBarsFrom}
 
 -- ---- the least of sessions
 
-abbrev AllFrom : ℤ → List ℤ → Type 0
+abbrev pub AllFrom : ℤ → List ℤ → Type 0
 AllFrom low [] = Unit {0}
 AllFrom low (s ∷ ss) = (low ≤ℤ s) × AllFrom low ss
 
@@ -37,7 +37,7 @@ below_least low d (s ∷ ss) h =
 -- ---- windows
 
 -- what holds of each of the sessions of a window
-at_downward : (low : ℤ) (f : ℕ → ℤ) (size : ℕ) → AllFrom low (map f (downward size)) → (n : ℕ) → n < size → low ≤ℤ f n
+pub at_downward : (low : ℤ) (f : ℕ → ℤ) (size : ℕ) → AllFrom low (map f (downward size)) → (n : ℕ) → n < size → low ≤ℤ f n
 at_downward low f (suc size) h n l = elim (cases_lt n size) [
   | inl below ↦ at_downward low f size h.1 n below
   | inr last ↦ let same : size ≡ n = omega arith in rw same at h.0
@@ -51,7 +51,7 @@ map-downward p q (suc size) h =
     let rest : map p (downward size) ≡ map q (downward size) = map-downward p q size (λ n l. h n (omega arith)) in
     rw (front, rest) refl
 
-before-zero : (d : ℤ) → before d 0 ≡ d
+pub before-zero : (d : ℤ) → before d 0 ≡ d
 before-zero d = omega (arith, ints)
 
 -- a part that is read on the session itself reaches no farther than its window

@@ -1,12 +1,13 @@
 -- The laws of the definitions, each the contract of a function.
 use Rattle.std.specs.Prelude.{◌≡◌, true, ℕ, suc, ◌<◌, ◌≤◌, ◌++◌, ℤ, pos, ◌+ℤ◌, ◌≤ℤ◌, List, [], ◌∷◌, length, Some}
-use Rattle.pl_spec.specs.Rounding.{IsNearest, div_round, IsRoot, isqrt}
+use Rattle.pl_spec.specs.Rounding.{Fraction, IsNearest, div_round, IsRoot, isqrt}
 use Rattle.pl_spec.specs.Graph.{Used, contains, used_terms}
 use Rattle.pl_spec.specs.Order.{IsByDay, by_day}
 use Rattle.pl_spec.specs.Table.{Pipeline, table}
 use Rattle.pl_spec.specs.declared.Column.{Column}
-use Rattle.pl_spec.specs.World.{World, IsWorld, Adjustment, day_of, events_of, exists}
-use Rattle.pl_spec.specs.Window.{seen_cell, after_all, effects_in, bar_window, raw_window}
+use Rattle.pl_spec.specs.World.{World, IsWorld, Event, Change, Adjustment, day_of, events_of, exists}
+use Rattle.pl_spec.specs.World.Change.{Scale}
+use Rattle.pl_spec.specs.Window.{effect, step_count, seen_cell, after_all, effects_in, bar_window, raw_window}
 use Rattle.pl_spec.specs.Agree.{Agree}
 use Rattle.pl_spec.specs.Kind.{Kind}
 use Rattle.pl_spec.specs.Term.{Term, Graph, IsGraph, term_at}
@@ -28,6 +29,11 @@ abbrev pub BufferSteps : Type 0
 BufferSteps = (w : World) → IsWorld w → (a : ℕ) (c : Column) (s d low mid high : ℤ)
     → day_of w s ≡ Some low → day_of w d ≡ Some mid → day_of w (d +ℤ pos 1) ≡ Some high → low ≤ℤ mid → mid ≤ℤ high
     → seen_cell w a c s (d +ℤ pos 1) ≡ after_all (seen_cell w a c s d) (effects_in c low mid high (events_of w a))
+
+-- A ratio does the same to every bar, and the steps of one bar are those of any other.
+pub record BarsAreAlike : Type 0 where
+  pub ratios : (c : Column) (bar other : ℤ) (e : Event) (ratio : Fraction) → e.change ≡ Scale ratio → effect c bar e ≡ effect c other e
+  pub steps : (c : Column) (bar other low high : ℤ) (es : List Event) → step_count (effects_in c bar low high es) ≡ step_count (effects_in c other low high es)
 
 -- and no row of the table up to d
 abbrev pub TablesAgree : Type 0

@@ -1,38 +1,24 @@
 -- From which session on the terms of a graph are computed.
-use Rattle.std.specs.Prelude.{◌≡◌, ℕ, ◌-◌, true, ℤ, pos, ◌≤ℤ◌, ◌<ℤ◌, List, [], ◌∷◌, ◌++◌, filter_map, Option, Some, None, slice_get, AllPairs}
+use Rattle.std.specs.Prelude.{◌≡◌, ℕ, ◌-◌, ◌≤◌, true, ℤ, pos, ◌≤ℤ◌, ◌<ℤ◌, List, map, Some, slice_get, AllPairs}
+use Rattle.pl_spec.specs.declared.Column.{Column}
 use Rattle.pl_spec.specs.declared.Frequency.{Frequency}
 use Rattle.pl_spec.specs.Periods.{period, period_start}
 use Rattle.pl_spec.specs.Window.{before}
-use Rattle.pl_spec.specs.Term.{Term, Input, Node, Graph}
+use Rattle.pl_spec.specs.Term.{Term, Node, Graph, term_at, IsGraph}
 use Rattle.pl_spec.specs.Term.Input.{BarColumn, TermInput}
-use Rattle.pl_spec.specs.Graph.{contains, reads_at, reach}
+use Rattle.pl_spec.specs.Graph.{contains, least_of, reads_at, reach}
 
--- a term that is mentioned, and how many sessions more it is read over than the last
-abbrev pub Ask : Type 0
-Ask = ℕ × ℕ
-
-abbrev pub input_ask : ℕ → Input → Option Ask
-input_ask size (BarColumn c) = None
-input_ask size (TermInput k) = Some (k, size - 1)
-
-abbrev pub number_asks : Option ℕ → List Ask
-number_asks None = []
-number_asks (Some k) = (k, 0) ∷ []
-
--- inputs are read over the window, a mask and a group on one session
-abbrev pub asks : Node → List Ask
-asks n = filter_map (input_ask n.window) n.inputs ++ number_asks n.mask ++ number_asks n.group
-
--- the first session that a node reads of what it asks for so, for its own session s
-abbrev pub read_from : List ℤ → Node → ℕ → ℤ → ℤ
-read_from days n rows s = before (reads_at days n.kind s) rows
+-- Term t is read from session r on by a node for its own session s: an input over the window, a mask and a group on s alone.
+pub data Reads (days : List ℤ) (n : Node) (s : ℤ) : ℕ → ℤ → Type 0 where
+  input : {t : ℕ} (i : ℕ) → slice_get n.inputs i ≡ Some (TermInput t) → Reads days n s t (before (reads_at days n.kind s) (n.window - 1))
+  mask : {t : ℕ} → n.mask ≡ Some t → Reads days n s t s
+  group : {t : ℕ} → n.group ≡ Some t → Reads days n s t s
 
 -- Of term t session s is needed where the outputs are asked for from a session on: of an output that session, and of what a needed
--- term mentions the first session that is read of it.
+-- term reads the first session that it reads.
 pub data Needs (days : List ℤ) (g : Graph) (outputs : List ℕ) (from : ℤ) : ℕ → ℤ → Type 0 where
   output : {t : ℕ} → contains outputs t ≡ true → Needs days g outputs from t from
-  mentioned : {t : ℕ} (u : ℕ) (n : Node) (i rows : ℕ) (s : ℤ) → Needs days g outputs from u s → slice_get g u ≡ Some n → slice_get (asks n) i ≡ Some (t, rows)
-      → Needs days g outputs from t (read_from days n rows s)
+  read : {t : ℕ} {r : ℤ} (u : ℕ) (n : Node) (s : ℤ) → Needs days g outputs from u s → slice_get g u ≡ Some n → Reads days n s t r → Needs days g outputs from t r
 
 -- the session from which on term t is computed
 pub record IsLow (days : List ℤ) (g : Graph) (outputs : List ℕ) (from : ℤ) (t : ℕ) (low : ℤ) : Type 0 where
@@ -41,9 +27,25 @@ pub record IsLow (days : List ℤ) (g : Graph) (outputs : List ℕ) (from : ℤ)
 
 -- what a computed session reads of a term is computed
 abbrev pub LowsCover : Type 0
-LowsCover = (days : List ℤ) → AllPairs (λ a b. a <ℤ b) days → (g : Graph) (outputs : List ℕ) (from : ℤ) (u t : ℕ) (n : Node) (i rows : ℕ) (low_u low_t s : ℤ)
-    → IsLow days g outputs from u low_u → IsLow days g outputs from t low_t → slice_get g u ≡ Some n → slice_get (asks n) i ≡ Some (t, rows)
-    → low_u ≤ℤ s → low_t ≤ℤ read_from days n rows s
+LowsCover = (days : List ℤ) → AllPairs (λ a b. a <ℤ b) days → (g : Graph) (outputs : List ℕ) (from : ℤ) (u t : ℕ) (n : Node) (low_u low_t s r : ℤ)
+    → IsLow days g outputs from u low_u → IsLow days g outputs from t low_t → slice_get g u ≡ Some n → low_u ≤ℤ s → Reads days n s t r → low_t ≤ℤ r
+
+abbrev pub HasBar : Node → Type 0
+HasBar n = (i : ℕ) × (c : Column) × (slice_get n.inputs i ≡ Some (BarColumn c))
+
+-- the least reach of the outputs
+abbrev pub least_reach : List ℤ → Graph → List ℕ → ℤ → ℤ
+least_reach days g outputs d = least_of (map (λ t. reach days (term_at g t) d) outputs) d
+
+-- no needed session, and no bar that is read for one, lies before the least reach
+pub record ReachCovers (days : List ℤ) (g : Graph) (outputs : List ℕ) (from : ℤ) : Type 0 where
+  pub sessions : (t : ℕ) (s : ℤ) → Needs days g outputs from t s → least_reach days g outputs from ≤ℤ s
+  pub terms : (t : ℕ) (s : ℤ) → Needs days g outputs from t s → least_reach days g outputs from ≤ℤ reach days (term_at g t) s
+  pub bars : (t : ℕ) (n : Node) (s : ℤ) → Needs days g outputs from t s → slice_get g t ≡ Some n → HasBar n → least_reach days g outputs from ≤ℤ before (reads_at days n.kind s) n.window
+
+abbrev pub ReachesCover : Type 0
+ReachesCover = (days : List ℤ) (g : Graph) (outputs : List ℕ) (from : ℤ) → IsGraph g → ((k : ℕ) (n : Node) → slice_get g k ≡ Some n → 1 ≤ n.window)
+    → ReachCovers days g outputs from
 
 -- The first session of a period is of the period, no earlier session is, and for a later session it is no earlier.
 pub record StartsAreFirst : Type 0 where

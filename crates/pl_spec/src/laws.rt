@@ -1,8 +1,8 @@
-ghost use Rattle.pl_spec.specs.Laws.{ValuesAgree, RoundingIsExact, BufferSteps, TablesAgree, TermsAreDistinct, OrderIsOne, OrderIsKept, RootIsGreatest, UsedAreListed, RawWithoutEvents, WindowOfOne, OpenMasksChangeNothing, TablesConcatenate};
+ghost use Rattle.pl_spec.specs.Laws.{ValuesAgree, RoundingIsExact, BufferSteps, BarsAreAlike, TablesAgree, TermsAreDistinct, OrderIsOne, OrderIsKept, RootIsGreatest, UsedAreListed, RawWithoutEvents, WindowOfOne, OpenMasksChangeNothing, TablesConcatenate};
 ghost use Rattle.pl_spec.specs.NodeValue.{NodesUnfold};
 ghost use Rattle.pl_spec.specs.Reaching.{ReachIsEnough};
 ghost use Rattle.pl_spec.specs.AsOf.{AsOfAgrees, TablesAsOf, PartsAsOf};
-ghost use Rattle.pl_spec.specs.Lows.{StartsAreFirst, ReachesRise, LowsCover};
+ghost use Rattle.pl_spec.specs.Lows.{StartsAreFirst, ReachesRise, LowsCover, ReachesCover};
 ghost use Rattle.pl_spec.specs.Lookups.{BarsAreFound, LabelsAreFound};
 ghost use Rattle.pl_spec.specs.DateLaws.{DatesAreRead};
 ghost use Rattle.pl_spec.specs.DateLaws.{DatesAreRead, DatesAreWritten, DaysHaveOneDate};
@@ -21,6 +21,11 @@ pub fn values_agree()
 /// A buffered row follows the sessions by the new events alone.
 pub fn buffer_steps()
     ensures { BufferSteps }
+{}
+
+/// A ratio acts on all buffered rows alike, and all have the same steps.
+pub fn bars_are_alike()
+    ensures { BarsAreAlike }
 {}
 
 /// A numbered term is worth what its node gives over lower numbers.
@@ -106,6 +111,11 @@ pub fn reaches_rise()
 /// What a computed session reads of a term is computed.
 pub fn lows_cover()
     ensures { LowsCover }
+{}
+
+/// Neither a session nor a bar that is needed lies before the least reach.
+pub fn reaches_cover()
+    ensures { ReachesCover }
 {}
 
 /// A range that is run in pieces gives the rows of the whole.
