@@ -99,27 +99,27 @@ back d n =
     ∙ min-same d n
 
 -- a term reaches back its window
-pub reach-is : (t : PlainTerm) (d : ℤ) → reach (term_of t) d ≡ before d (size_of t)
+pub reach-is : (days : List ℤ) (t : PlainTerm) (d : ℤ) → reach days (term_of t) d ≡ before d (size_of t)
 unfolding reach
-reach-is (Latest c) d = back d 1
-reach-is (SimpleMovingAverage c size) d = back d size
+reach-is days (Latest c) d = back d 1
+reach-is days (SimpleMovingAverage c size) d = back d size
 
-least-from : (d : ℤ) (m : ℕ) (cs : List PlainColumn) → fold int_min (before d m) (map (λ c. reach (term_of c.term) d) cs) ≡ before d (fold max m (map (λ c. size_of c.term) cs))
-least-from d m [] = refl
-least-from d m (c ∷ cs) =
-    ap (λ r. fold int_min (int_min (before d m) r) (map (λ c. reach (term_of c.term) d) cs)) (reach-is c.term d)
-    ∙ ap (λ r. fold int_min r (map (λ c. reach (term_of c.term) d) cs)) (min-before d m (size_of c.term))
-    ∙ least-from d (max m (size_of c.term)) cs
+least-from : (days : List ℤ) (d : ℤ) (m : ℕ) (cs : List PlainColumn) → fold int_min (before d m) (map (λ c. reach days (term_of c.term) d) cs) ≡ before d (fold max m (map (λ c. size_of c.term) cs))
+least-from days d m [] = refl
+least-from days d m (c ∷ cs) =
+    ap (λ r. fold int_min (int_min (before d m) r) (map (λ c. reach days (term_of c.term) d) cs)) (reach-is days c.term d)
+    ∙ ap (λ r. fold int_min r (map (λ c. reach days (term_of c.term) d) cs)) (min-before d m (size_of c.term))
+    ∙ least-from days d (max m (size_of c.term)) cs
 
 -- and the columns reach back the greatest window
-pub reaches-are : (cs : List PlainColumn) (d : ℤ) → least_of (map (λ c. reach (term_of c.term) d) cs) d ≡ before d (greatest_window cs)
-reaches-are cs d =
+pub reaches-are : (days : List ℤ) (cs : List PlainColumn) (d : ℤ) → least_of (map (λ c. reach days (term_of c.term) d) cs) d ≡ before d (greatest_window cs)
+reaches-are days cs d =
     let none : d ≡ before d 0 = omega (arith, ints) in
-    ap (λ r. fold int_min r (map (λ c. reach (term_of c.term) d) cs)) none ∙ least-from d 0 cs
+    ap (λ r. fold int_min r (map (λ c. reach days (term_of c.term) d) cs)) none ∙ least-from days d 0 cs
 
 -- the same of the terms of the pipeline
-pub pipeline-reaches : (cs : List PlainColumn) (d : ℤ) → least_of (map (λ n. reach (term_at (graph_of cs) n.term) d) (numbered 0 cs)) d ≡ before d (greatest_window cs)
-pipeline-reaches cs d = ap (λ rs. least_of rs d) (from-terms (λ t. reach t d) cs [] cs refl) ∙ reaches-are cs d
+pub pipeline-reaches : (days : List ℤ) (cs : List PlainColumn) (d : ℤ) → least_of (map (λ n. reach days (term_at (graph_of cs) n.term) d) (numbered 0 cs)) d ≡ before d (greatest_window cs)
+pipeline-reaches days cs d = ap (λ rs. least_of rs d) (from-terms (λ t. reach days t d) cs [] cs refl) ∙ reaches-are days cs d
 
 -- so bars before the first session are asked for exactly on the sessions below the greatest window
 pub in-bars : (d size : ℕ) → size ≤ d → int_lt (before (pos d) size) (pos 0) ≡ false

@@ -12,9 +12,9 @@ use Rattle.pl_cli.specs.Step.{first_fault}
 use Rattle.pl_cli.specs.Range.{session_of, reach_at, range_steps}
 use Rattle.pl_cli.proofs.PlainPipelines.{pipeline-reaches, in-bars, before-bars}
 
-reach-is : (cs : List PlainColumn) (d : ℕ) → reach_at (pipeline_of cs) d ≡ before (pos d) (greatest_window cs)
+reach-is : (days : List ℤ) (cs : List PlainColumn) (d : ℕ) → reach_at days (pipeline_of cs) d ≡ before (pos d) (greatest_window cs)
 unfolding reach_at
-reach-is cs d = pipeline-reaches cs (pos d)
+reach-is days cs d = pipeline-reaches days cs (pos d)
 
 pub back-by : (i n : ℕ) → i < n → n < 4294967296 → to_z w64 (of_z w64 (pos 0 -ℤ to_z w64 (n - i))) ≡ before (pos i) n
 back-by i n h few = omega (arith, ints)
@@ -36,11 +36,11 @@ pub too-early : (q : RunRequest) (cs : List PlainColumn) (days : List ℤ) (i j 
 unfolding range_steps
 too-early q cs days i j reach f t h early e =
     let less : nat_lt j i ≡ false = grind (arith, nat_tests) in
-    rw (f, t, less, reach-is cs i, before-bars i (greatest_window cs) early, e) refl
+    rw (f, t, less, reach-is days cs i, before-bars i (greatest_window cs) early, e) refl
 
 pub in-range : (q : RunRequest) (cs : List PlainColumn) (days : List ℤ) (i j : ℕ) → session_of days q.from.day ≡ Some i → session_of days q.to.day ≡ Some j → i ≤ j
     → greatest_window cs ≤ i → first_fault (range_steps q (pipeline_of cs) days) ≡ None
 unfolding range_steps
 in-range q cs days i j f t h late =
     let less : nat_lt j i ≡ false = grind (arith, nat_tests) in
-    rw (f, t, less, reach-is cs i, in-bars i (greatest_window cs) late) refl
+    rw (f, t, less, reach-is days cs i, in-bars i (greatest_window cs) late) refl

@@ -16,8 +16,8 @@ abbrev pub index_of : List ℤ → ℤ → ℕ
 index_of days day = unwrap_or (session_of days day) 0
 
 -- the first session whose bars the columns show on session d
-unfoldable pub reach_at : Pipeline → ℕ → ℤ
-reach_at p d = least_of (map (λ c. reach (term_at p.graph c.term) (pos d)) p.columns) (pos d)
+unfoldable pub reach_at : List ℤ → Pipeline → ℕ → ℤ
+reach_at days p d = least_of (map (λ c. reach days (term_at p.graph c.term) (pos d)) p.columns) (pos d)
 
 -- Both dates are sessions, in their order, and no bar before the first session is asked for.
 unfoldable pub range_steps : RunRequest → Pipeline → List ℤ → List Step
@@ -25,5 +25,5 @@ range_steps q p days =
     rule (when (not (is_some (session_of days q.from.day))) (NoSession q.from.text))
     ∷ rule (when (not (is_some (session_of days q.to.day))) (NoSession q.to.text))
     ∷ rule (when (nat_lt (index_of days q.to.day) (index_of days q.from.day)) Backwards)
-    ∷ rule (when (int_lt (reach_at p (index_of days q.from.day)) (pos 0)) (TooEarly (reach_at p (index_of days q.from.day))))
+    ∷ rule (when (int_lt (reach_at days p (index_of days q.from.day)) (pos 0)) (TooEarly (reach_at days p (index_of days q.from.day))))
     ∷ []
