@@ -1,19 +1,19 @@
 -- The text of a table.
-use Rattle.std.specs.Prelude.{ℕ, ◌-◌, Bool, true, false, ◌||◌, if◌then◌else◌, ◌==◌, ℤ, pos, List, [], ◌∷◌, ◌++◌, length, map, flat_map, replicate, option_map, unwrap_or, slice_get, decimal, codes, zip}
+use Rattle.std.specs.Prelude.{ℕ, ◌-◌, Bool, true, false, ◌||◌, if◌then◌else◌, ◌==◌, ℤ, pos, List, [], ◌∷◌, ◌++◌, length, map, flat_map, replicate, unwrap_or, decimal, codes, zip}
 use Rattle.std.specs.List.{list_any, join_by}
 use Rattle.std.specs.Int.RustNames.{unsigned_abs}
 use Rattle.pl_spec.specs.declared.Format.{Format}
 use Rattle.pl_spec.specs.declared.Format.TheVariants.{Csv, Fixed}
-use Rattle.pl_spec.specs.Rounding.{MISSING, is_missing}
+use Rattle.pl_spec.specs.Rounding.{is_missing}
 use Rattle.pl_spec.specs.Dates.{date_text}
 use Rattle.pl_spec.specs.Decimals.{cell_text}
 use Rattle.pl_spec.specs.World.{World, day_of}
 use Rattle.pl_spec.specs.Kind.{Kind}
-use Rattle.pl_spec.specs.Kind.Kind.{Cross, Constant}
+use Rattle.pl_spec.specs.Kind.Kind.{Cross}
 use Rattle.pl_spec.specs.Kind.CrossKind.{Quantiles}
 use Rattle.pl_spec.specs.Formula.{is_true}
-use Rattle.pl_spec.specs.Term.{Graph}
-use Rattle.pl_spec.specs.Value.{Value, is_filter}
+use Rattle.pl_spec.specs.Term.{Graph, term_at}
+use Rattle.pl_spec.specs.Value.{Value, is_filter, sort_kind}
 use Rattle.pl_spec.specs.Value.Value.{Number, Text}
 use Rattle.pl_spec.specs.Table.{NamedColumn, Pipeline, Row}
 
@@ -51,8 +51,9 @@ abbrev pub field : Format → Kind → Value → List ℕ
 field format k (Number x) = number_text k x
 field format k (Text t) = label_text format t
 
+-- the kind as which term number t is written
 abbrev pub kind_at : Graph → ℕ → Kind
-kind_at g t = unwrap_or (option_map (λ n. n.kind) (slice_get g t)) (Constant MISSING)
+kind_at g t = sort_kind (term_at g t)
 
 -- spaces in front of a text, or behind it, up to a width; a longer text stays whole
 abbrev pub right_in : ℕ → List ℕ → List ℕ

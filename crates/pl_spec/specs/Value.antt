@@ -121,19 +121,19 @@ is_filter (LabelTest k) = true
 is_filter (Cross k) = is_cross_filter k
 is_filter k = false
 
--- a downsampled term is a filter where its input is one
-abbrev pub is_filter_over : Kind → Bool → Bool
-is_filter_over (Downsample f) input = input
-is_filter_over k input = is_filter k
+-- the kind whose sort a term has: that of its input where it is downsampled, else its own
+abbrev pub sort_over : Kind → Kind → Kind
+sort_over (Downsample f) input = input
+sort_over k input = k
 
-abbrev pub is_filter_term : Term → Bool
-is_filter_term absent = false
-is_filter_term (column c) = false
-is_filter_term (node k size x y z m g) = is_filter_over k (is_filter_term x)
+abbrev pub sort_kind : Term → Kind
+sort_kind absent = Constant MISSING
+sort_kind (column c) = Constant MISSING
+sort_kind (node k size x y z m g) = sort_over k (sort_kind x)
 
--- the empty value: false for a filter; no cell or no label for the others
-abbrev pub empty : Bool → Value
-empty filter = if filter then Number (pos 0) else Number MISSING
+-- false for a filter; no cell or no label for the others
+abbrev pub empty : Kind → Value
+empty k = if is_filter k then Number (pos 0) else Number MISSING
 
 abbrev pub label_value : Option (List ℕ) → Value
 label_value None = Number MISSING
@@ -159,7 +159,7 @@ step w names (Point k) size x y z mask group a d =
 step w names (LabelTest k) size x y z mask group a d = test_value k (now x a d)
 step w names (Cross k) size x y z mask group a d =
     let list = eligible w x mask (group_of k x group) a d in
-    if list_any (λ e. e.0 == a) list then Number (cross k list a (number_of (now x a d))) else empty (is_cross_filter k)
+    if list_any (λ e. e.0 == a) list then Number (cross k list a (number_of (now x a d))) else empty (Cross k)
 step w names (Downsample f) size x y z mask group a d = now x a (period_start f w.days d)
 
 unfoldable pub value : World → List (List ℕ) → Term → Meaning
@@ -169,4 +169,4 @@ value w names (node k size x y z m g) a d =
     let mask = part_of m (value w names m) in
     if exists w a d && passes mask a d
     then step w names k size (part_of x (value w names x)) (part_of y (value w names y)) (part_of z (value w names z)) mask (part_of g (value w names g)) a d
-    else empty (is_filter_term (node k size x y z m g))
+    else empty (sort_over k (sort_kind x))

@@ -1,17 +1,19 @@
 -- Downsampled terms: the value of the first session of a week, a month, a quarter or a year.
-use Rattle.std.specs.Prelude.{◌≡◌, ℤ, pos, negsuc, refl, List, [], ◌∷◌, map}
+use Rattle.std.specs.Prelude.{◌≡◌, ℤ, pos, negsuc, refl, List, [], ◌∷◌, map, codes}
 use Rattle.pl_spec.specs.declared.Column.TheVariants.{Close}
+use Rattle.pl_spec.specs.declared.Compare.TheVariants.{LessEqual}
 use Rattle.pl_spec.specs.declared.Frequency.{Frequency}
+use Rattle.pl_spec.specs.Table.{Pipeline}
 use Rattle.pl_spec.specs.declared.Frequency.TheVariants.{YearStart, QuarterStart, MonthStart, WeekStart}
 use Rattle.pl_spec.specs.Rounding.{MISSING}
 use Rattle.pl_spec.specs.Periods.{period, period_start}
 use Rattle.pl_spec.specs.World.{World}
-use Rattle.pl_spec.specs.Kind.{Kind, WindowKind as kind}
+use Rattle.pl_spec.specs.Kind.{Kind, PointKind, WindowKind as kind}
 use Rattle.pl_spec.specs.Term.{Term}
 use Rattle.pl_spec.specs.Term.Term.{absent, node}
 use Rattle.pl_spec.specs.Value.Value.{Number}
 use Rattle.pl_spec.specs.Graph.{reach}
-use Rattle.pl_spec.proofs.Worked.Worlds.{opened, units, asset, world, no_tables, plain, latest, number, by_session}
+use Rattle.pl_spec.proofs.Worked.Worlds.{opened, units, asset, world, no_tables, plain, latest, number, by_session, of_bars, of_terms, pipeline, named, csv, lines}
 
 abbrev downsampled : Frequency → Term → Term
 downsampled f x = node (Kind.Downsample f) 1 x absent absent absent absent
@@ -62,3 +64,15 @@ late = world (record (asset 1) { start = pos 19730 } ∷ []) [] [] [] no_tables
 an_asset_has_no_value_of_a_session_before_it : by_session late (downsampled WeekStart (number (units 1))) (4 ∷ 5 ∷ []) ≡ Number MISSING ∷ Number MISSING ∷ []
 unfolding opened
 an_asset_has_no_value_of_a_session_before_it = refl
+
+-- ---- as text
+
+-- on 2024-01-08 the latest close of 52 is at most 52, so the filter stays true
+abbrev weekly_filter : Pipeline
+weekly_filter =
+    pipeline (of_bars kind.Latest (Close ∷ []) 1 ∷ of_terms (Kind.Constant (units 52)) [] ∷ of_terms (Kind.Point (PointKind.Comparison LessEqual)) (0 ∷ 1 ∷ [])
+    ∷ of_terms (Kind.Downsample WeekStart) (2 ∷ []) ∷ []) (named (codes "f") 3 ∷ [])
+
+a_weekly_filter_is_written_as_a_filter : csv plain weekly_filter 4 5 ≡ lines (codes "session,sid,f" ∷ codes "2024-01-08,1,true" ∷ codes "2024-01-09,1,true" ∷ [])
+unfolding opened
+a_weekly_filter_is_written_as_a_filter = refl
