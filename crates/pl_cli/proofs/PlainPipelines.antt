@@ -55,7 +55,7 @@ pub value-at : (w : World) (cs : List PlainColumn) (k : ℕ) (c : PlainColumn) (
 value-at w cs k c a d e = ap (λ t. value w [] t a d) (term-at cs k c e)
 
 pub kind-at : (cs : List PlainColumn) (k : ℕ) (c : PlainColumn) → slice_get cs k ≡ Some c → kind_at (graph_of cs) k ≡ Window (kind_of c.term)
-kind-at cs k c e = rw (slice_get-map (λ c. node_of c.term) cs k, e) refl
+kind-at cs k c e = rw (term-at cs k c e) refl
 
 at-seam : (front : List PlainColumn) (c : PlainColumn) (cs : List PlainColumn) → slice_get (front ++ c ∷ cs) (length front) ≡ Some c
 at-seam [] c cs = refl
