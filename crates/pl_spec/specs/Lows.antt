@@ -1,10 +1,10 @@
 -- From which session on the terms of a graph are computed.
-use Rattle.std.specs.Prelude.{◌≡◌, ℕ, ◌-◌, ◌≤◌, true, ℤ, pos, ◌≤ℤ◌, ◌<ℤ◌, List, map, Some, slice_get, AllPairs}
+use Rattle.std.specs.Prelude.{◌≡◌, ℕ, ◌-◌, ◌<◌, ◌≤◌, true, ℤ, pos, ◌≤ℤ◌, ◌<ℤ◌, List, map, filter_map, length, Option, Some, None, slice_get, AllPairs}
 use Rattle.pl_spec.specs.declared.Column.{Column}
 use Rattle.pl_spec.specs.declared.Frequency.{Frequency}
 use Rattle.pl_spec.specs.Periods.{period, period_start}
 use Rattle.pl_spec.specs.Window.{before}
-use Rattle.pl_spec.specs.Term.{Term, Node, Graph, term_at, IsGraph}
+use Rattle.pl_spec.specs.Term.{Term, Input, Node, Graph, term_at, IsGraph}
 use Rattle.pl_spec.specs.Term.Input.{BarColumn, TermInput}
 use Rattle.pl_spec.specs.Graph.{contains, least_of, reads_at, reach}
 
@@ -46,6 +46,20 @@ pub record ReachCovers (days : List ℤ) (g : Graph) (outputs : List ℕ) (from 
 abbrev pub ReachesCover : Type 0
 ReachesCover = (days : List ℤ) (g : Graph) (outputs : List ℕ) (from : ℤ) → IsGraph g → ((k : ℕ) (n : Node) → slice_get g k ≡ Some n → 1 ≤ n.window)
     → ReachCovers days g outputs from
+
+abbrev pub bar_from : ℕ → ℤ → Input → Option ℤ
+bar_from size s (BarColumn c) = Some (before s size)
+bar_from size s (TermInput k) = None
+
+-- the first session that a node itself reads, of bars or of terms, for its own session s
+abbrev pub own_from : List ℤ → Node → ℤ → ℤ
+own_from days n s = least_of (filter_map (bar_from n.window (reads_at days n.kind s)) n.inputs) (reads_at days n.kind s)
+
+-- the reach of a needed session is what some needed node itself reads
+abbrev pub ReachesMeet : Type 0
+ReachesMeet = (days : List ℤ) → AllPairs (λ a b. a <ℤ b) days → (g : Graph) (outputs : List ℕ) (from : ℤ) → IsGraph g → ((k : ℕ) (n : Node) → slice_get g k ≡ Some n → 1 ≤ n.window)
+    → (t : ℕ) (s : ℤ) → t < length g → Needs days g outputs from t s
+    → (u : ℕ) × (n : Node) × (r : ℤ) × Needs days g outputs from u r × (slice_get g u ≡ Some n) × (own_from days n r ≡ reach days (term_at g t) s)
 
 -- The first session of a period is of the period, no earlier session is, and for a later session it is no earlier.
 pub record StartsAreFirst : Type 0 where

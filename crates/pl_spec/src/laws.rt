@@ -2,7 +2,7 @@ ghost use Rattle.pl_spec.specs.Laws.{ValuesAgree, RoundingIsExact, BufferSteps, 
 ghost use Rattle.pl_spec.specs.NodeValue.{NodesUnfold};
 ghost use Rattle.pl_spec.specs.Reaching.{ReachIsEnough};
 ghost use Rattle.pl_spec.specs.AsOf.{AsOfAgrees, TablesAsOf, PartsAsOf};
-ghost use Rattle.pl_spec.specs.Lows.{StartsAreFirst, ReachesRise, LowsCover, ReachesCover};
+ghost use Rattle.pl_spec.specs.Lows.{StartsAreFirst, ReachesRise, LowsCover, ReachesCover, ReachesMeet};
 ghost use Rattle.pl_spec.specs.Lookups.{BarsAreFound, LabelsAreFound};
 ghost use Rattle.pl_spec.specs.DateLaws.{DatesAreRead};
 ghost use Rattle.pl_spec.specs.DateLaws.{DatesAreRead, DatesAreWritten, DaysHaveOneDate};
@@ -116,6 +116,11 @@ pub fn lows_cover()
 /// Neither a session nor a bar that is needed lies before the least reach.
 pub fn reaches_cover()
     ensures { ReachesCover }
+{}
+
+/// A term reaches exactly as far as what some needed term reads itself.
+pub fn reaches_meet()
+    ensures { ReachesMeet }
 {}
 
 /// A range that is run in pieces gives the rows of the whole.
