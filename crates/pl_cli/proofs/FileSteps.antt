@@ -19,12 +19,12 @@ use Rattle.pl_syntax.specs.Parsing.{IsCause}
 use Rattle.pl_syntax.specs.Said.{said}
 use Rattle.pl_syntax.proofs.TextsSaid.{fault-said}
 use Rattle.pl_cli.specs.declared.stop.Refusal.TheVariants as refusals
-use Rattle.pl_cli.specs.declared.plain_script.PlainColumn.{PlainColumn}
-use Rattle.pl_cli.specs.PlainScript.{plain_columns}
+use Rattle.pl_plain.specs.declared.script.PlainColumn.{PlainColumn}
+use Rattle.pl_plain.specs.PlainScript.{plain_columns}
 use Rattle.pl_cli.specs.Misspelled.{error_fault}
 use Rattle.pl_cli.specs.Step.{file, file_fault, rule, bytes_in}
 use Rattle.pl_cli.specs.Work.{fault_in, fault_said, form_rule, statements_held, columns_held}
-use Rattle.pl_cli.proofs.PlainScripts.{scripts-read}
+use Rattle.pl_plain.proofs.PlainScripts.{scripts-read}
 use Rattle.pl_cli.specs.Ends.{StageEnds, IsRisen, told_by, fault_of}
 
 -- a file within its cap has the fault of its rule

@@ -4,13 +4,13 @@ use Rattle.std.proofs.lemmas.Int.{ints}
 use Rattle.std.proofs.lemmas.Bool.Decides.{nat_tests}
 use Rattle.pl_spec.specs.Window.{before}
 use Rattle.pl_spec.specs.Table.{Pipeline}
-use Rattle.pl_cli.specs.declared.plain_script.PlainColumn.{PlainColumn}
-use Rattle.pl_cli.specs.PlainScript.{pipeline_of, greatest_window}
+use Rattle.pl_plain.specs.declared.script.PlainColumn.{PlainColumn}
+use Rattle.pl_plain.specs.PlainScript.{pipeline_of, greatest_window}
 use Rattle.pl_cli.specs.Request.{RunRequest}
 use Rattle.pl_cli.specs.Fault.Fault.{NoSession, Backwards, TooEarly}
 use Rattle.pl_cli.specs.Step.{first_fault}
 use Rattle.pl_cli.specs.Range.{session_of, reach_at, range_steps}
-use Rattle.pl_cli.proofs.PlainPipelines.{pipeline-reaches, in-bars, before-bars}
+use Rattle.pl_plain.proofs.PlainPipelines.{pipeline-reaches, in-bars, before-bars}
 
 reach-is : (days : List ℤ) (cs : List PlainColumn) (d : ℕ) → reach_at days (pipeline_of cs) d ≡ before (pos d) (greatest_window cs)
 unfolding reach_at

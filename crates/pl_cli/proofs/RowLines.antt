@@ -16,10 +16,10 @@ use Rattle.pl_spec.specs.Text.{row_line}
 use Rattle.pl_model.specs.declared.cell.PlainTerm.{PlainTerm}
 use Rattle.pl_model.specs.declared.cell.PlainTerm.TheVariants.{Latest, SimpleMovingAverage}
 use Rattle.pl_model.specs.PlainTerms.{term_of, steps_of}
-use Rattle.pl_cli.specs.declared.plain_script.PlainColumn.{PlainColumn}
-use Rattle.pl_cli.specs.PlainScript.{pipeline_of}
-use Rattle.pl_cli.specs.Rows.{behind_commas, cells_of, cell_fields}
-use Rattle.pl_cli.proofs.PlainPipelines.{AreCells, row-line-is}
+use Rattle.pl_plain.specs.declared.script.PlainColumn.{PlainColumn}
+use Rattle.pl_plain.specs.PlainScript.{pipeline_of}
+use Rattle.pl_plain.specs.Rows.{behind_commas, cells_of, cell_fields}
+use Rattle.pl_plain.proofs.PlainPipelines.{AreCells, row-line-is}
 
 number-if : (b : Bool) (x y : ℤ) → (if b then Number x else Number y) ≡ Number (number_of (if b then Number x else Number y))
 number-if true x y = refl

@@ -11,9 +11,9 @@ use Rattle.pl_spec.specs.World.{World, day_of, lives_on}
 use Rattle.pl_spec.specs.Parts.{sid_at}
 use Rattle.pl_spec.specs.Table.{Pipeline, Row, row, session_rows, table, is_kept}
 use Rattle.pl_spec.specs.Text.{header, row_line, text}
-use Rattle.pl_cli.specs.declared.plain_script.PlainColumn.{PlainColumn}
-use Rattle.pl_cli.specs.PlainScript.{pipeline_of}
-use Rattle.pl_cli.specs.Rows.{row_cost, rows_cost}
+use Rattle.pl_plain.specs.declared.script.PlainColumn.{PlainColumn}
+use Rattle.pl_plain.specs.PlainScript.{pipeline_of}
+use Rattle.pl_plain.specs.Rows.{row_cost, rows_cost}
 
 -- the lines of the assets that live on a day
 abbrev pub lines_of : World → Pipeline → ℕ → ℤ → List AssetRow → List ℕ

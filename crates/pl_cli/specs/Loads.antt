@@ -7,8 +7,8 @@ use Rattle.pl_spec.specs.Table.{Pipeline, table}
 use Rattle.pl_spec.specs.Text.{header, text}
 use Rattle.pl_cli.specs.declared.load.Parts.{Parts}
 use Rattle.pl_cli.specs.declared.load.Loaded.{Loaded}
-use Rattle.pl_cli.specs.PlainScript.{pipeline_of}
-use Rattle.pl_cli.specs.Rows.{rows_cost}
+use Rattle.pl_plain.specs.PlainScript.{pipeline_of}
+use Rattle.pl_plain.specs.Rows.{rows_cost}
 
 abbrev pub parts_world : Parts → World
 parts_world p = world_of p.sessions p.assets p.labels.rows p.labels.texts p.bars p.adjustments

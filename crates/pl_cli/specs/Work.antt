@@ -35,9 +35,9 @@ use Rattle.pl_cli.specs.declared.stop.Limit.TheVariants as limits
 use Rattle.pl_cli.specs.Request.{Request, Run, Fmt, RunRequest}
 use Rattle.pl_cli.specs.Fault.{Fault, Fault as of}
 use Rattle.pl_cli.specs.Fault.Fault.{Usage, Unbuilt, Syntax, Data, Passed}
-use Rattle.pl_cli.specs.declared.plain_script.PlainColumn.{PlainColumn}
-use Rattle.pl_cli.specs.PlainScript.{plain_columns, pipeline_of}
-use Rattle.pl_cli.specs.Rows.{rows_cost}
+use Rattle.pl_plain.specs.declared.script.PlainColumn.{PlainColumn}
+use Rattle.pl_plain.specs.PlainScript.{plain_columns, pipeline_of}
+use Rattle.pl_plain.specs.Rows.{rows_cost}
 use Rattle.pl_cli.specs.Step.{Step, file, rule, when, bytes_in}
 use Rattle.pl_cli.specs.Step.Source.{Store}
 use Rattle.pl_cli.specs.Range.{index_of, range_steps}

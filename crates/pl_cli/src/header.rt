@@ -2,7 +2,7 @@
 ghost use Rattle.std.specs.Prelude.{◌≡◌, IfOk, IfErr};
 ghost use Rattle.pl_spec.specs.Text.{header};
 ghost use Rattle.pl_spec.specs.declared.Format.TheVariants.{Csv};
-ghost use Rattle.pl_cli.specs.PlainScript.{pipeline_of};
+ghost use Rattle.pl_plain.specs.PlainScript.{pipeline_of};
 
 use crate::plain_script::PlainColumn;
 use crate::stop::Stop;

@@ -1,7 +1,7 @@
 // The sessions that are asked for.
 ghost use Rattle.std.specs.Prelude.{◌≡◌, ◌≤◌, ◌<◌, true, length, IfOk, IfErr};
 ghost use Rattle.pl_model.specs.PlainTerms.{size_of};
-ghost use Rattle.pl_cli.specs.PlainScript.{pipeline_of, greatest_window};
+ghost use Rattle.pl_plain.specs.PlainScript.{pipeline_of, greatest_window};
 ghost use Rattle.pl_cli.specs.Range.{range_steps, index_of};
 ghost use Rattle.pl_cli.specs.Ends.{StageEnds, IsRisen};
 ghost use Rattle.pl_cli.specs.Reading.{run_of};

@@ -3,7 +3,7 @@ ghost use Rattle.std.specs.Prelude.{◌≡◌, ◌≤◌, ◌+◌, ◌++◌, ◌
 ghost use Rattle.pl_spec.specs.Rounding.{IsCell};
 ghost use Rattle.pl_spec.specs.Dates.{IsDay, date_text};
 ghost use Rattle.pl_spec.specs.Decimals.{cell_text};
-ghost use Rattle.pl_cli.specs.Rows.{behind_commas};
+ghost use Rattle.pl_plain.specs.Rows.{behind_commas};
 
 use crate::line::Line;
 use itoa::Buffer;

@@ -7,7 +7,7 @@ ghost use Rattle.pl_spec.specs.declared.Format.TheVariants.{Csv};
 ghost use Rattle.pl_outside.specs.Taken.{Writes};
 ghost use Rattle.pl_cli.specs.Loads.{loaded_text, loaded_cost, loaded_world, loaded_pipeline, IsLoaded};
 ghost use Rattle.pl_model.specs.PlainTerms.{steps_of};
-ghost use Rattle.pl_cli.specs.Rows.{cell_fields, row_cost, rows_cost};
+ghost use Rattle.pl_plain.specs.Rows.{cell_fields, row_cost, rows_cost};
 
 use crate::line::Line;
 use crate::load::Loaded;

@@ -3,6 +3,7 @@ pub mod Counts
 pub mod Files
 pub mod Lists
 pub mod Taken
+pub mod Left
 pub mod Reads
 pub mod Calls
 pub mod ShelfState

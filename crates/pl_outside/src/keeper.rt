@@ -55,6 +55,9 @@ pub trait AdjustKeeper {
     /// How many faults it has counted, up to the count's end.
     ghost faults: { Self → ℕ };
 
+    /// How many calls it has taken, up to the count's end.
+    ghost calls: { Self → ℕ };
+
     /// Whether it is sound.
     ghost sound: { Self → Bool };
 
@@ -71,6 +74,7 @@ pub trait AdjustKeeper {
         ensures failed { IsErrOf result KeepError.Failed → Rose (faults self.old) (faults self.new) }
         ensures later { faults self.old ≤ faults self.new }
         ensures never { IsTrue (sound self.old) → ¬ IsErrOf result KeepError.Failed × (faults self.new ≡ faults self.old) }
+        ensures counted { calls self.new ≡ count_plus (calls self.old) 1 }
         ensures keeps { lists self.new ≡ lists self.old }
         ensures stays { sound self.new ≡ sound self.old };
 
@@ -108,6 +112,9 @@ impl AdjustKeeper for NoKeeper {
     ghost lists = { λ _. None };
 
     ghost faults = { λ count. count };
+
+    // each of its calls is a fault
+    ghost calls = { λ count. count };
 
     ghost sound = { λ _. false };
 

@@ -81,6 +81,8 @@ impl AdjustKeeper for MemoryKeeper {
 
     ghost faults = { λ keeper. keeper.calls.faults };
 
+    ghost calls = { λ keeper. keeper.calls.made };
+
     ghost sound = { λ keeper. never_fails keeper.calls };
 
     fn load(

@@ -1,9 +1,9 @@
 use Rattle.std.proofs.Common.{◌≡◌, ◌++◌, ◌∷◌, [], ◌∙◌, ℕ, List, take, codes, sym, ap, arith}
 use Rattle.std.proofs.lemmas.Grind.{common_steps}
-use Rattle.pl_cli.specs.declared.plain_script.PlainColumn.{PlainColumn}
-use Rattle.pl_cli.specs.PlainScript.{names_of}
-use Rattle.pl_cli.specs.Rows.{behind_commas}
-use Rattle.pl_cli.proofs.PlainPipelines.{header-is}
+use Rattle.pl_plain.specs.declared.script.PlainColumn.{PlainColumn}
+use Rattle.pl_plain.specs.PlainScript.{names_of}
+use Rattle.pl_plain.specs.Rows.{behind_commas}
+use Rattle.pl_plain.proofs.PlainPipelines.{header-is}
 use Rattle.pl_cli.proofs.header.header_text.Goals as goal
 
 pub returns : goal.returns

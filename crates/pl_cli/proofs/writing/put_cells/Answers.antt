@@ -5,7 +5,7 @@ use Rattle.pl_spec.specs.Parts.{sid_at}
 use Rattle.pl_spec.specs.Decimals.{cell_text}
 use Rattle.pl_model.specs.PlainTerms.{steps_of}
 use Rattle.pl_cli.specs.Loads.{loaded_world}
-use Rattle.pl_cli.specs.Rows.{behind_commas, cell_fields}
+use Rattle.pl_plain.specs.Rows.{behind_commas, cell_fields}
 use Rattle.pl_cli.proofs.RowLines.{cells-more, steps-more}
 use Rattle.pl_cli.proofs.writing.put_cells.Goals as goal
 

@@ -3,7 +3,7 @@ use Rattle.std.specs.Prelude.{sum_by}
 use Rattle.pl_spec.specs.Parts.{sid_at}
 use Rattle.pl_model.specs.PlainTerms.{steps_of}
 use Rattle.pl_cli.specs.Loads.{loaded_world}
-use Rattle.pl_cli.specs.Rows.{cell_fields}
+use Rattle.pl_plain.specs.Rows.{cell_fields}
 use Rattle.pl_cli.proofs.writing.put_cells.Given as goal
 
 abbrev pub invariant-loop-column : goal.invariant-loop-column

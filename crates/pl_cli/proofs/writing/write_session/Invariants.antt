@@ -1,7 +1,7 @@
 use Rattle.std.proofs.Common.{◌≡◌, ◌+◌, drop}
 use Rattle.pl_outside.proofs.Pieces.{Writing}
 use Rattle.pl_cli.specs.Loads.{loaded_world, loaded_pipeline}
-use Rattle.pl_cli.specs.Rows.{rows_cost}
+use Rattle.pl_plain.specs.Rows.{rows_cost}
 use Rattle.pl_cli.proofs.SessionLines.{lines_of, rows_of}
 use Rattle.pl_cli.proofs.writing.write_session.Given as goal
 

@@ -2,7 +2,7 @@ use Rattle.std.proofs.Common.{◌≡◌, ◌+◌}
 use Rattle.pl_spec.specs.Table.{table}
 use Rattle.pl_outside.proofs.Pieces.{Writing}
 use Rattle.pl_cli.specs.Loads.{loaded_text, loaded_cost, loaded_world, loaded_pipeline}
-use Rattle.pl_cli.specs.Rows.{rows_cost}
+use Rattle.pl_plain.specs.Rows.{rows_cost}
 use Rattle.pl_cli.proofs.SessionLines.{table_lines}
 use Rattle.pl_cli.proofs.writing.write_table.Given as goal
 

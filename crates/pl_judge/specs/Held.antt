@@ -1,0 +1,86 @@
+-- What the contents are read as; nothing where a file isn't there or has a fault.
+use Rattle.std.specs.Prelude.{ℕ, ℤ, List, [], Option, Some, None, unwrap_or, option_and_then}
+use Rattle.std.specs.Result.{result_unwrap_or}
+use Rattle.std.specs.Prelude.{Result}
+use Rattle.pl_spec.specs.declared.AssetRow.{AssetRow}
+use Rattle.pl_spec.specs.declared.BarRow.{BarRow}
+use Rattle.pl_spec.specs.declared.RawAdjust.{RawAdjust}
+use Rattle.pl_spec.specs.World.{World}
+use Rattle.pl_spec.specs.Parts.{ColumnAdjustment, world_of}
+use Rattle.pl_records.specs.Records.{csv_records}
+use Rattle.pl_calendar.specs.Days.{sessions_of}
+use Rattle.pl_assets.specs.Assets.{assets_of}
+use Rattle.pl_assets.specs.Labels.{LabelTable, no_labels, labels_of}
+use Rattle.pl_bars.specs.Bars.{bars_of}
+use Rattle.pl_adjust.specs.Walk as rows
+use Rattle.pl_adjust.specs.Tables.{adjustments_in}
+use Rattle.pl_grammar.specs.Script.{Statement}
+use Rattle.pl_syntax.specs.Said.{Said, Spelled, Faulty, said}
+use Rattle.pl_outside.specs.declared.keeper.Table.{Table}
+use Rattle.pl_outside.specs.declared.keeper.Table.TheVariants.{Splits, Mergers, Dividends}
+use Rattle.pl_plain.specs.declared.script.PlainColumn.{PlainColumn}
+use Rattle.pl_plain.specs.PlainScript.{plain_columns}
+use Rattle.pl_words.specs.declared.request.InputFile.TheVariants.{Pipeline, Sessions, Assets, Labels, Bars}
+use Rattle.pl_words.specs.Request.{RunRequest}
+use Rattle.pl_judge.specs.Contents.{Contents}
+
+abbrev pub bytes_in : Option (List ℕ) → List ℕ
+bytes_in file = unwrap_or file []
+
+abbrev pub statements_said : Said → List Statement
+statements_said (Spelled script) = script.statements
+statements_said (Faulty kind place) = []
+
+unfoldable pub statements_in : Option (List ℕ) → List Statement
+statements_in file = statements_said (said (bytes_in file))
+
+unfoldable pub columns_in : Option (List ℕ) → List PlainColumn
+columns_in file = unwrap_or (plain_columns (statements_in file)) []
+
+unfoldable pub days_in : Option (List ℕ) → List ℤ
+days_in file = result_unwrap_or (sessions_of (csv_records (bytes_in file))) []
+
+unfoldable pub assets_in : Option (List ℕ) → List AssetRow
+assets_in file = result_unwrap_or (assets_of (csv_records (bytes_in file))) []
+
+unfoldable pub labels_in : List AssetRow → Option (List ℕ) → LabelTable
+labels_in assets file = result_unwrap_or (labels_of assets (csv_records (bytes_in file))) no_labels
+
+unfoldable pub bars_in : List ℤ → List AssetRow → Option (List ℕ) → List BarRow
+bars_in days assets file = result_unwrap_or (bars_of days assets (csv_records (bytes_in file))) []
+
+-- the adjustments of three tables, or the first fault of their rows
+abbrev pub adjustments_of_rows : List AssetRow → (Table → List RawAdjust) → Result (List ColumnAdjustment) rows.Fault
+adjustments_of_rows assets rows = adjustments_in assets (rows Splits) (rows Mergers) (rows Dividends)
+
+unfoldable pub adjustments_from : List AssetRow → (Table → List RawAdjust) → List ColumnAdjustment
+adjustments_from assets rows = result_unwrap_or (adjustments_of_rows assets rows) []
+
+-- ---- of a run's contents
+
+abbrev pub columns_held : Contents → List PlainColumn
+columns_held held = columns_in (held.file Pipeline)
+
+abbrev pub days_held : Contents → List ℤ
+days_held held = days_in (held.file Sessions)
+
+abbrev pub assets_held : Contents → List AssetRow
+assets_held held = assets_in (held.file Assets)
+
+-- none where no name is asked for
+abbrev pub labels_held : Contents → Option (List ℕ) → LabelTable
+labels_held held None = no_labels
+labels_held held (Some name) = labels_in (assets_held held) (held.file Labels)
+
+abbrev pub bars_held : Contents → List BarRow
+bars_held held = bars_in (days_held held) (assets_held held) (held.file Bars)
+
+abbrev pub adjustments_held : Contents → Option (List ℕ) → List ColumnAdjustment
+adjustments_held held None = []
+adjustments_held held (Some name) = adjustments_from (assets_held held) held.rows
+
+-- the world of a run
+abbrev pub world_held : Contents → RunRequest → World
+world_held held q =
+    let labels = labels_held held q.options.labels in
+    world_of (days_held held) (assets_held held) labels.rows labels.texts (bars_held held) (adjustments_held held q.options.adjustments)

@@ -1,0 +1,80 @@
+-- What the faults of a text, of records and of rows are to a command. Too many of them pass a limit.
+use Rattle.std.specs.Prelude.{ℕ, List, Option, Some, None, Result, Ok, Err}
+use Rattle.pl_spec.specs.Reading as reading
+use Rattle.pl_calendar.specs.Days as calendar
+use Rattle.pl_assets.specs.Assets as assets
+use Rattle.pl_assets.specs.Labels as labels
+use Rattle.pl_bars.specs.Bars as bars
+use Rattle.pl_adjust.specs.Walk as rows
+use Rattle.pl_grammar.specs.Faults as syntax
+use Rattle.pl_grammar.specs.declared.Place.{Place}
+use Rattle.pl_syntax.specs.declared.error.SyntaxError.{SyntaxError}
+use Rattle.pl_syntax.specs.declared.error.SyntaxError.TheVariants as errors
+use Rattle.pl_words.specs.declared.request.InputFile.TheVariants as files
+use Rattle.pl_judge.specs.declared.fault.SyntaxFault.{SyntaxFault}
+use Rattle.pl_judge.specs.declared.fault.SyntaxFault.TheVariants as misspelled
+use Rattle.pl_judge.specs.declared.fault.DataFault.TheVariants.{BadHeader, Empty, BadDate, NotAscending, BadField, StartAfterEnd, DuplicateSid, LabelTooLong, DuplicateStart, NotSession, UnknownSid, Negative, Duplicate}
+use Rattle.pl_judge.specs.declared.fault.RowFault.TheVariants.{BadEffective, BadRatio}
+use Rattle.pl_judge.specs.declared.fault.Limit.TheVariants as limits
+use Rattle.pl_judge.specs.declared.fault.Fault.{Fault}
+use Rattle.pl_judge.specs.declared.fault.Fault.TheVariants.{Syntax, Data, Row, Passed, Memory}
+
+abbrev pub syntax_fault : syntax.Kind → Place → Fault
+syntax_fault syntax.BadByte place = Syntax place misspelled.BadByte
+syntax_fault syntax.Unexpected place = Syntax place misspelled.Unexpected
+syntax_fault syntax.TooDeep place = Syntax place misspelled.TooDeep
+syntax_fault syntax.NumberTooLarge place = Syntax place misspelled.NumberTooLarge
+syntax_fault syntax.LongStatement place = Syntax place misspelled.LongStatement
+
+abbrev pub sessions_fault : ℕ → calendar.Rule → Fault
+sessions_fault line calendar.TooMany = Passed limits.Sessions
+sessions_fault line calendar.BadDate = Data files.Sessions line BadDate
+sessions_fault line calendar.NotAscending = Data files.Sessions line NotAscending
+sessions_fault line calendar.Empty = Data files.Sessions line Empty
+
+abbrev pub assets_fault : ℕ → assets.Rule → Fault
+assets_fault line assets.BadHeader = Data files.Assets line BadHeader
+assets_fault line assets.TooMany = Passed limits.Assets
+assets_fault line assets.BadField = Data files.Assets line BadField
+assets_fault line assets.StartAfterEnd = Data files.Assets line StartAfterEnd
+assets_fault line assets.DuplicateSid = Data files.Assets line DuplicateSid
+
+abbrev pub labels_fault : ℕ → labels.Rule → Fault
+labels_fault line labels.BadHeader = Data files.Labels line BadHeader
+labels_fault line labels.TooMany = Passed limits.Labels
+labels_fault line labels.BadField = Data files.Labels line BadField
+labels_fault line labels.LabelTooLong = Data files.Labels line LabelTooLong
+labels_fault line labels.UnknownSid = Data files.Labels line UnknownSid
+labels_fault line labels.DuplicateStart = Data files.Labels line DuplicateStart
+
+abbrev pub bars_fault : ℕ → bars.Rule → Fault
+bars_fault line bars.BadHeader = Data files.Bars line BadHeader
+bars_fault line bars.TooMany = Passed limits.Bars
+bars_fault line bars.BadField = Data files.Bars line BadField
+bars_fault line bars.NotSession = Data files.Bars line NotSession
+bars_fault line bars.UnknownSid = Data files.Bars line UnknownSid
+bars_fault line bars.Negative = Data files.Bars line Negative
+bars_fault line bars.Duplicate = Data files.Bars line Duplicate
+
+abbrev pub rows_fault : rows.Fault → Fault
+rows_fault rows.TooMany = Passed limits.Adjustments
+rows_fault (rows.BadEffective table id) = Row table id BadEffective
+rows_fault (rows.BadRatio table id) = Row table id BadRatio
+
+-- ---- what the errors of code tell: a fault of the input, or want of memory
+
+abbrev pub told : {F : Type 0} → (F → Fault) → Option F → Fault
+told says None = Memory
+told says (Some f) = says f
+
+abbrev pub told_at : {R : Type 0} → (ℕ → R → Fault) → Option (reading.Fault R) → Fault
+told_at says f = told (λ f. says f.line f.rule) f
+
+abbrev pub syntax_error : SyntaxError → Fault
+syntax_error (errors.BadByte place) = Syntax place misspelled.BadByte
+syntax_error (errors.Unexpected place) = Syntax place misspelled.Unexpected
+syntax_error (errors.TooDeep place) = Syntax place misspelled.TooDeep
+syntax_error (errors.NumberTooLarge place) = Syntax place misspelled.NumberTooLarge
+syntax_error (errors.LongStatement place) = Syntax place misspelled.LongStatement
+syntax_error errors.TooLong = Passed limits.Pipeline
+syntax_error errors.Memory = Memory

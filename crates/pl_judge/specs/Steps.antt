@@ -1,0 +1,32 @@
+-- The work as steps, each with what it reads and its fault, and the first fault.
+use Rattle.std.specs.Prelude.{◌≡◌, ◌⊎◌, Bool, if◌then◌else◌, List, [], ◌∷◌, Option, Some, None}
+use Rattle.std.specs.Option.{option_or}
+use Rattle.pl_outside.specs.declared.keeper.Table.{Table}
+use Rattle.pl_words.specs.declared.request.InputFile.{InputFile}
+use Rattle.pl_judge.specs.declared.fault.Fault.{Fault}
+
+-- what is read from outside: a file of the shelf, or a table of the keeper
+pub data Source : Type 0 where
+  Input : (file : InputFile) → Source
+  Load : (table : Table) → Source
+
+-- one step of the work: what it reads, if it reads something, and its fault, if it has one
+pub record Step : Type 0 where
+  pub reads : Option Source
+  pub fault : Option Fault
+
+abbrev pub first_fault : List Step → Option Fault
+first_fault [] = None
+first_fault (s ∷ ss) = option_or s.fault (first_fault ss)
+
+-- some step reads it, and no step before that one has a fault
+abbrev pub ReachesRead : List Step → Source → Type 0
+ReachesRead [] source = ⊥
+ReachesRead (s ∷ ss) source = (s.reads ≡ Some source) ⊎ ((s.fault ≡ None) × ReachesRead ss source)
+
+-- a step that judges what was read before
+abbrev pub rule : Option Fault → Step
+rule fault = record { reads = None; fault = fault }
+
+abbrev pub when : Bool → Fault → Option Fault
+when fails fault = if fails then Some fault else None

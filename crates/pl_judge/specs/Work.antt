@@ -1,0 +1,132 @@
+-- The work of a command in its order, over the contents of its files and tables.
+use Rattle.std.specs.Prelude.{ℕ, ℤ, List, [], ◌∷◌, ◌++◌, length, nat_lt, not, is_some, if◌then◌else◌, Option, Some, None, Result, Ok, Err}
+use Rattle.pl_spec.specs.Reading as reading
+use Rattle.pl_spec.specs.declared.AssetRow.{AssetRow}
+use Rattle.pl_spec.specs.declared.RawAdjust.{RawAdjust}
+use Rattle.pl_records.specs.Records.{csv_records}
+use Rattle.pl_calendar.specs.Days.{sessions_of}
+use Rattle.pl_assets.specs.Assets.{assets_of}
+use Rattle.pl_assets.specs.Labels.{labels_of}
+use Rattle.pl_bars.specs.Bars.{bars_of}
+use Rattle.pl_adjust.specs.Walk as rows
+use Rattle.pl_grammar.specs.Script.{Statement}
+use Rattle.pl_syntax.specs.Said.{Said, Spelled, Faulty, said}
+use Rattle.pl_outside.specs.declared.keeper.Table.{Table}
+use Rattle.pl_outside.specs.declared.keeper.Table.TheVariants.{Splits, Mergers, Dividends}
+use Rattle.pl_plain.specs.PlainScript.{plain_columns, pipeline_of}
+use Rattle.pl_words.specs.declared.request.InputFile.{InputFile}
+use Rattle.pl_words.specs.declared.request.InputFile.TheVariants.{Pipeline, Sessions, Assets, Labels, Bars}
+use Rattle.pl_words.specs.Request.{Request, Run, Fmt, RunRequest}
+use Rattle.pl_judge.specs.declared.limits.TheConstants.{PIPELINE_CAP, FILE_CAP}
+use Rattle.pl_judge.specs.declared.fault.Limit.{Limit}
+use Rattle.pl_judge.specs.declared.fault.Limit.TheVariants as limits
+use Rattle.pl_judge.specs.declared.fault.Fault.{Fault}
+use Rattle.pl_judge.specs.declared.fault.Fault.TheVariants.{Usage, Unbuilt, Passed, Unread}
+use Rattle.pl_judge.specs.Contents.{Contents}
+use Rattle.pl_judge.specs.Rules.{syntax_fault, sessions_fault, assets_fault, labels_fault, bars_fault, rows_fault}
+use Rattle.pl_judge.specs.Held.{statements_in, columns_held, days_held, assets_held, adjustments_of_rows}
+use Rattle.pl_judge.specs.Steps.{Step, rule, when}
+use Rattle.pl_judge.specs.Steps.Source.{Input, Load}
+use Rattle.pl_judge.specs.Range.{range_steps}
+
+-- ---- a file that is read whole and judged
+
+abbrev pub cap_of : InputFile → ℕ
+cap_of Pipeline = PIPELINE_CAP
+cap_of Sessions = FILE_CAP
+cap_of Assets = FILE_CAP
+cap_of Labels = FILE_CAP
+cap_of Bars = FILE_CAP
+
+abbrev pub limit_of : InputFile → Limit
+limit_of Pipeline = limits.Pipeline
+limit_of Sessions = limits.File
+limit_of Assets = limits.File
+limit_of Labels = limits.File
+limit_of Bars = limits.File
+
+-- It is there, it has no more bytes than its cap, and then its rule decides.
+abbrev pub file_fault : InputFile → (List ℕ → Option Fault) → Option (List ℕ) → Option Fault
+file_fault file rule None = Some (Unread file)
+file_fault file rule (Some bytes) = if nat_lt (cap_of file) (length bytes) then Some (Passed (limit_of file)) else rule bytes
+
+abbrev pub read_step : InputFile → (List ℕ → Option Fault) → Option (List ℕ) → Step
+read_step file rule bytes = record { reads = Some (Input file); fault = file_fault file rule bytes }
+
+-- ---- the rules of the bytes of files, of the statements of a script and of the rows of three tables
+
+abbrev pub fault_said : Said → Option Fault
+fault_said (Spelled script) = None
+fault_said (Faulty kind place) = Some (syntax_fault kind place)
+
+unfoldable pub syntax_rule : List ℕ → Option Fault
+syntax_rule bytes = fault_said (said bytes)
+
+unfoldable pub form_rule : List Statement → Option Fault
+form_rule statements = when (not (is_some (plain_columns statements))) Unbuilt
+
+abbrev pub fault_in : {A R : Type 0} → (ℕ → R → Fault) → Result A (reading.Fault R) → Option Fault
+fault_in says (Ok x) = None
+fault_in says (Err f) = Some (says f.line f.rule)
+
+unfoldable pub sessions_rule : List ℕ → Option Fault
+sessions_rule bytes = fault_in sessions_fault (sessions_of (csv_records bytes))
+
+unfoldable pub assets_rule : List ℕ → Option Fault
+assets_rule bytes = fault_in assets_fault (assets_of (csv_records bytes))
+
+unfoldable pub labels_rule : List AssetRow → List ℕ → Option Fault
+labels_rule assets bytes = fault_in labels_fault (labels_of assets (csv_records bytes))
+
+unfoldable pub bars_rule : List ℤ → List AssetRow → List ℕ → Option Fault
+bars_rule days assets bytes = fault_in bars_fault (bars_of days assets (csv_records bytes))
+
+abbrev pub fault_of_rows : {A : Type 0} → Result A rows.Fault → Option Fault
+fault_of_rows (Ok x) = None
+fault_of_rows (Err f) = Some (rows_fault f)
+
+unfoldable pub rows_rule : List AssetRow → (Table → List RawAdjust) → Option Fault
+rows_rule assets rows = fault_of_rows (adjustments_of_rows assets rows)
+
+-- ---- the work
+
+abbrev pub syntax_step : Option (List ℕ) → Step
+syntax_step file = read_step Pipeline syntax_rule file
+
+-- a pipeline file is read for a run: its syntax, and then its form
+abbrev pub pipeline_steps : Option (List ℕ) → List Step
+pipeline_steps file = syntax_step file ∷ rule (form_rule (statements_in file)) ∷ []
+
+-- a labels file is read where its name is asked for
+abbrev pub labels_steps : List AssetRow → Option (List ℕ) → Option (List ℕ) → List Step
+labels_steps assets None file = []
+labels_steps assets (Some name) file = read_step Labels (labels_rule assets) file ∷ []
+
+abbrev pub load_step : Table → Step
+load_step table = record { reads = Some (Load table); fault = None }
+
+-- where a name is asked for, the three tables are loaded, and then their rows are judged
+abbrev pub adjustments_steps : List AssetRow → Option (List ℕ) → (Table → List RawAdjust) → List Step
+adjustments_steps assets None rows = []
+adjustments_steps assets (Some name) rows =
+    load_step Splits ∷ load_step Mergers ∷ load_step Dividends ∷ rule (rows_rule assets rows) ∷ []
+
+-- Each file is read whole and judged before the next one is begun, and the adjustments come last.
+unfoldable pub data_steps : Contents → RunRequest → List Step
+data_steps held q =
+    let days = days_held held in
+    let assets = assets_held held in
+    read_step Sessions sessions_rule (held.file Sessions) ∷ read_step Assets assets_rule (held.file Assets)
+    ∷ (labels_steps assets q.options.labels (held.file Labels)
+    ++ (read_step Bars (bars_rule days assets) (held.file Bars) ∷ adjustments_steps assets q.options.adjustments held.rows))
+
+-- first the pipeline file, then the data, and then the range
+abbrev pub run_steps : Contents → RunRequest → List Step
+run_steps held q =
+    pipeline_steps (held.file Pipeline)
+    ++ (data_steps held q ++ range_steps q (pipeline_of (columns_held held)) (days_held held))
+
+unfoldable pub work : Contents → Option Request → List Step
+work held None = rule (Some Usage) ∷ []
+work held (Some (Run q)) = run_steps held q
+work held (Some (Fmt name)) = syntax_step (held.file Pipeline) ∷ []

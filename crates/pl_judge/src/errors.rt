@@ -1,0 +1,147 @@
+// What the errors of the readers are to a command.
+ghost use Rattle.std.specs.Prelude.{◌≡◌};
+ghost use Rattle.pl_judge.specs.Rules.{told_at, told, sessions_fault, assets_fault, labels_fault, bars_fault, rows_fault, syntax_error};
+
+use crate::{DataFault, Fault, Limit, RowFault, SyntaxFault};
+use pl_adjust::AdjustError;
+use pl_assets::{AssetsError, LabelsError};
+use pl_bars::BarsError;
+use pl_calendar::CalendarError;
+use pl_syntax::{Place, SyntaxError};
+use pl_words::InputFile;
+use std::alloc::AllocError;
+
+impl From<AllocError> for Fault {
+    ghost use Rattle.pl_judge.specs.declared.fault.Fault.TheVariants.{Memory};
+
+    ghost from_gives = { λ _ fault. fault ≡ Memory };
+
+    fn from(_refused: AllocError) -> Fault {
+        Fault::Memory
+    }
+}
+
+impl From<SyntaxError> for Fault {
+    ghost from_gives = { λ error fault. fault ≡ syntax_error error };
+
+    fn from(error: SyntaxError) -> Fault {
+        match error {
+            SyntaxError::BadByte(place) => misspelled(place, SyntaxFault::BadByte),
+            SyntaxError::Unexpected(place) => misspelled(place, SyntaxFault::Unexpected),
+            SyntaxError::TooDeep(place) => misspelled(place, SyntaxFault::TooDeep),
+            SyntaxError::NumberTooLarge(place) => misspelled(place, SyntaxFault::NumberTooLarge),
+            SyntaxError::LongStatement(place) => misspelled(place, SyntaxFault::LongStatement),
+            SyntaxError::TooLong => Fault::Passed(Limit::Pipeline),
+            SyntaxError::Memory => Fault::Memory,
+        }
+    }
+}
+
+impl From<CalendarError> for Fault {
+    ghost use Rattle.pl_calendar.specs.Faults as calendar;
+
+    ghost from_gives = { λ error fault. fault ≡ told_at sessions_fault (calendar.fault_of error) };
+
+    fn from(error: CalendarError) -> Fault {
+        let file = InputFile::Sessions;
+        match error {
+            CalendarError::BadDate { line } => faulty(file, line, DataFault::BadDate),
+            CalendarError::NotAscending { line } => faulty(file, line, DataFault::NotAscending),
+            CalendarError::Empty => faulty(file, 1, DataFault::Empty),
+            CalendarError::TooMany { .. } => Fault::Passed(Limit::Sessions),
+            CalendarError::Memory => Fault::Memory,
+        }
+    }
+}
+
+impl From<AssetsError> for Fault {
+    ghost use Rattle.pl_assets.specs.Faults as assets;
+
+    ghost from_gives = { λ error fault. fault ≡ told_at assets_fault (assets.fault_of error) };
+
+    fn from(error: AssetsError) -> Fault {
+        let file = InputFile::Assets;
+        match error {
+            AssetsError::BadHeader => faulty(file, 1, DataFault::BadHeader),
+            AssetsError::BadField { line } => faulty(file, line, DataFault::BadField),
+            AssetsError::StartAfterEnd { line } => faulty(file, line, DataFault::StartAfterEnd),
+            AssetsError::DuplicateSid { line } => faulty(file, line, DataFault::DuplicateSid),
+            AssetsError::TooMany { .. } => Fault::Passed(Limit::Assets),
+            AssetsError::Memory => Fault::Memory,
+        }
+    }
+}
+
+impl From<LabelsError> for Fault {
+    ghost use Rattle.pl_assets.specs.LabelFaults as labels;
+
+    ghost from_gives = { λ error fault. fault ≡ told_at labels_fault (labels.fault_of error) };
+
+    fn from(error: LabelsError) -> Fault {
+        let file = InputFile::Labels;
+        match error {
+            LabelsError::BadHeader => faulty(file, 1, DataFault::BadHeader),
+            LabelsError::BadField { line } => faulty(file, line, DataFault::BadField),
+            LabelsError::LabelTooLong { line } => faulty(file, line, DataFault::LabelTooLong),
+            LabelsError::UnknownSid { line } => faulty(file, line, DataFault::UnknownSid),
+            LabelsError::DuplicateStart { line } => faulty(file, line, DataFault::DuplicateStart),
+            LabelsError::TooMany { .. } => Fault::Passed(Limit::Labels),
+            LabelsError::Memory => Fault::Memory,
+        }
+    }
+}
+
+impl From<BarsError> for Fault {
+    ghost use Rattle.pl_bars.specs.Faults as bars;
+
+    ghost from_gives = { λ error fault. fault ≡ told_at bars_fault (bars.fault_of error) };
+
+    fn from(error: BarsError) -> Fault {
+        let file = InputFile::Bars;
+        match error {
+            BarsError::BadHeader => faulty(file, 1, DataFault::BadHeader),
+            BarsError::BadField { line } => faulty(file, line, DataFault::BadField),
+            BarsError::NotSession { line } => faulty(file, line, DataFault::NotSession),
+            BarsError::UnknownSid { line } => faulty(file, line, DataFault::UnknownSid),
+            BarsError::Negative { line } => faulty(file, line, DataFault::Negative),
+            BarsError::Duplicate { line } => faulty(file, line, DataFault::Duplicate),
+            BarsError::TooMany { .. } => Fault::Passed(Limit::Bars),
+            BarsError::Memory => Fault::Memory,
+        }
+    }
+}
+
+impl From<AdjustError> for Fault {
+    ghost use Rattle.pl_adjust.specs.Faults as rows;
+
+    ghost from_gives = { λ error fault. fault ≡ told rows_fault (rows.fault_of error) };
+
+    fn from(error: AdjustError) -> Fault {
+        match error {
+            AdjustError::BadEffective { table, id } => Fault::Row {
+                table,
+                id,
+                fault: RowFault::BadEffective,
+            },
+            AdjustError::BadRatio { table, id } => Fault::Row {
+                table,
+                id,
+                fault: RowFault::BadRatio,
+            },
+            AdjustError::TooMany => Fault::Passed(Limit::Adjustments),
+            AdjustError::Memory => Fault::Memory,
+        }
+    }
+}
+
+fn misspelled(place: Place, fault: SyntaxFault) -> Fault
+    ensures { result ≡ Fault.Syntax place fault }
+{
+    Fault::Syntax { place, fault }
+}
+
+fn faulty(file: InputFile, line: u32, fault: DataFault) -> Fault
+    ensures { result ≡ Fault.Data file line fault }
+{
+    Fault::Data { file, line, fault }
+}

@@ -1,0 +1,182 @@
+// Why a command ends without its whole text.
+ghost use Rattle.std.specs.Prelude.{◌≡◌};
+ghost use Rattle.pl_judge.specs.Faults.{status_of, syntax_text, data_text, row_text, limit_text};
+
+use pl_outside::Table;
+use pl_syntax::Place;
+use pl_words::{InputFile, RangeDate};
+
+/// The limit that a count passes.
+#[derive(Clone, Copy, Debug, PartialEq, Eq)]
+pub enum Limit {
+    /// The bytes of the pipeline file.
+    Pipeline,
+    /// The bytes of a data file.
+    File,
+    Sessions,
+    Assets,
+    Labels,
+    Bars,
+    Adjustments,
+}
+
+/// The fault of the syntax of a pipeline file.
+#[derive(Clone, Copy, Debug, PartialEq, Eq)]
+pub enum SyntaxFault {
+    BadByte,
+    Unexpected,
+    TooDeep,
+    NumberTooLarge,
+    LongStatement,
+}
+
+/// The rule that a record of a data file breaks.
+#[derive(Clone, Copy, Debug, PartialEq, Eq)]
+pub enum DataFault {
+    BadHeader,
+    Empty,
+    BadDate,
+    NotAscending,
+    BadField,
+    StartAfterEnd,
+    DuplicateSid,
+    LabelTooLong,
+    DuplicateStart,
+    NotSession,
+    UnknownSid,
+    Negative,
+    Duplicate,
+}
+
+/// The rule that a row of a table of adjustments breaks.
+#[derive(Clone, Copy, Debug, PartialEq, Eq)]
+pub enum RowFault {
+    BadEffective,
+    BadRatio,
+}
+
+/// Why a command ends without its whole text.
+#[derive(Clone, Copy, Debug, PartialEq, Eq)]
+pub enum Fault {
+    /// The words have none of the commands' forms.
+    Usage,
+    /// The pipeline file has this fault of syntax at this place.
+    Syntax { place: Place, fault: SyntaxFault },
+    /// The pipeline file has a form that is not computed yet.
+    Unbuilt,
+    /// The record of this number breaks a rule of its file.
+    Data {
+        file: InputFile,
+        line: u32,
+        fault: DataFault,
+    },
+    /// The row of this id breaks a rule of the tables of adjustments.
+    Row {
+        table: Table,
+        id: i64,
+        fault: RowFault,
+    },
+    /// No session has the date.
+    NotSession(RangeDate),
+    /// The first date is after the second.
+    Backwards,
+    /// The columns show bars of a session before the first one, at this number.
+    TooEarly { reach: i64 },
+    /// There is more than a limit allows.
+    Passed(Limit),
+    /// The file could not be read.
+    Unread(InputFile),
+    /// The rows of the table could not be loaded.
+    Unloaded(Table),
+    /// The text could not be written; a prefix of it was.
+    Unwritten,
+    /// Memory ran out.
+    Memory,
+}
+
+impl Fault {
+    /// The status with which the program ends.
+    pub fn status(self) -> u8
+        ensures { result ≡ status_of self }
+    {
+        match self {
+            Fault::Usage => 2,
+            Fault::Syntax { .. } => 3,
+            Fault::Data { .. } | Fault::Row { .. } => 4,
+            Fault::NotSession(_) | Fault::Backwards | Fault::TooEarly { .. } => 5,
+            Fault::Passed(_) => 6,
+            Fault::Unread(_) => 7,
+            Fault::Unloaded(_) => 8,
+            Fault::Unwritten => 9,
+            Fault::Memory => 10,
+            Fault::Unbuilt => 11,
+        }
+    }
+}
+
+impl SyntaxFault {
+    /// Its name in the line of the fault.
+    pub fn name(self) -> &'static str
+        ensures { result.now ≡ syntax_text self }
+    {
+        match self {
+            SyntaxFault::BadByte => "BadByte",
+            SyntaxFault::Unexpected => "Unexpected",
+            SyntaxFault::TooDeep => "TooDeep",
+            SyntaxFault::NumberTooLarge => "NumberTooLarge",
+            SyntaxFault::LongStatement => "LongStatement",
+        }
+    }
+}
+
+impl DataFault {
+    /// Its name in the line of the fault.
+    pub fn name(self) -> &'static str
+        ensures { result.now ≡ data_text self }
+    {
+        match self {
+            DataFault::BadHeader => "BadHeader",
+            DataFault::Empty => "Empty",
+            DataFault::BadDate => "BadDate",
+            DataFault::NotAscending => "NotAscending",
+            DataFault::BadField => "BadField",
+            DataFault::StartAfterEnd => "StartAfterEnd",
+            DataFault::DuplicateSid => "DuplicateSid",
+            DataFault::LabelTooLong => "LabelTooLong",
+            DataFault::DuplicateStart => "DuplicateStart",
+            DataFault::NotSession => "NotSession",
+            DataFault::UnknownSid => "UnknownSid",
+            DataFault::Negative => "Negative",
+            DataFault::Duplicate => "Duplicate",
+        }
+    }
+}
+
+impl RowFault {
+    /// Its name in the line of the fault.
+    pub fn name(self) -> &'static str
+        ensures { result.now ≡ row_text self }
+    {
+        match self {
+            RowFault::BadEffective => "BadEffective",
+            RowFault::BadRatio => "BadRatio",
+        }
+    }
+}
+
+impl Limit {
+    /// Its name in the line of the fault.
+    pub fn name(self) -> &'static str
+        ensures { result.now ≡ limit_text self }
+    {
+        match self {
+            Limit::Pipeline => "pipeline",
+            Limit::File => "file",
+            Limit::Sessions => "sessions",
+            Limit::Assets => "assets",
+            Limit::Labels => "labels",
+            Limit::Bars => "bars",
+            Limit::Adjustments => "adjustments",
+        }
+    }
+}

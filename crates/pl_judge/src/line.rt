@@ -1,0 +1,115 @@
+// The line that tells a fault.
+ghost use Rattle.std.specs.Prelude.{◌≡◌, [], ◌∷◌, ◌++◌, codes, decimal, option_map, flat_map};
+ghost use Rattle.std.specs.Fmt.{signed_decimal};
+ghost use Rattle.pl_outside.specs.Taken.{Writes};
+ghost use Rattle.pl_words.specs.Views.{request_of};
+ghost use Rattle.pl_judge.specs.Faults.{line_of, table_text};
+
+use crate::Fault;
+use itoa::Buffer;
+use pl_outside::{Failed, Sink, Table, write_bytes};
+use pl_syntax::Place;
+use pl_words::{InputFile, Request, adjustments_asked, date_asked, name_asked};
+
+/// Writes the line of a fault of what was asked for. It takes no memory.
+pub fn write_line<E: Sink>(
+    err: &mut E,
+    asked: Option<&Request<'_>>,
+    fault: Fault,
+) -> Result<(), Failed>
+    ensures { Writes E.taken E.faults E.sound E.room err.old err.new
+        (line_of (option_map (λ q. request_of q.now) asked.entry) fault) result }
+{
+    match fault {
+        Fault::Usage => write_bytes(err, b"usage\n"),
+        Fault::Unbuilt => write_bytes(err, b"unbuilt\n"),
+        Fault::Backwards => write_bytes(err, b"range: Backwards\n"),
+        Fault::Unwritten => write_bytes(err, b"write\n"),
+        Fault::Memory => write_bytes(err, b"memory\n"),
+        Fault::Passed(limit) => write_named(err, "limit: ", limit.name()),
+        Fault::Unread(file) => write_named(err, "read: ", name_asked(asked, file)),
+        Fault::Unloaded(_) => write_named(err, "store: ", adjustments_asked(asked)),
+        Fault::NotSession(date) => {
+            write_named(err, "range: NotSession ", date_asked(asked, date))
+        }
+        Fault::TooEarly { reach } => {
+            let mut buffer = Buffer::new();
+            write_named(err, "range: TooEarly ", buffer.format(reach))
+        }
+        Fault::Syntax { place, fault } => {
+            write_syntax(err, name_asked(asked, InputFile::Pipeline), place, fault.name())
+        }
+        Fault::Data { file, line, fault } => {
+            write_data(err, name_asked(asked, file), line, fault.name())
+        }
+        Fault::Row { table, id, fault } => {
+            write_row(err, adjustments_asked(asked), table_name(table), id, fault.name())
+        }
+    }
+}
+
+fn write_syntax<E: Sink>(
+    err: &mut E,
+    name: &str,
+    place: Place,
+    fault: &str,
+) -> Result<(), Failed>
+    ensures { Writes E.taken E.faults E.sound E.room err.old err.new
+        (name.now ++ codes ":" ++ decimal place.line ++ codes ":" ++ decimal place.col ++ codes ": syntax "
+        ++ fault.now ++ 10 ∷ []) result }
+{
+    let mut line = Buffer::new();
+    let mut col = Buffer::new();
+    let (line, col) = (line.format(place.line), col.format(place.col));
+    write_pieces(err, &[name, ":", line, ":", col, ": syntax ", fault, "\n"])
+}
+
+fn write_data<E: Sink>(err: &mut E, name: &str, line: u32, fault: &str) -> Result<(), Failed>
+    ensures { Writes E.taken E.faults E.sound E.room err.old err.new
+        (name.now ++ codes ":" ++ decimal line ++ codes ": data " ++ fault.now ++ 10 ∷ []) result }
+{
+    let mut buffer = Buffer::new();
+    write_pieces(err, &[name, ":", buffer.format(line), ": data ", fault, "\n"])
+}
+
+fn write_row<'a, E: Sink>(
+    err: &mut E,
+    name: &'a str,
+    table: &'a str,
+    id: i64,
+    fault: &'a str,
+) -> Result<(), Failed>
+    ensures { Writes E.taken E.faults E.sound E.room err.old err.new
+        (name.now ++ codes ":" ++ table.now ++ codes ":" ++ signed_decimal id ++ codes ": data " ++ fault.now ++ 10 ∷ [])
+        result }
+{
+    let mut buffer = Buffer::new();
+    write_pieces(err, &[name, ":", table, ":", buffer.format(id), ": data ", fault, "\n"])
+}
+
+// Writes a line of two parts.
+fn write_named<E: Sink>(err: &mut E, what: &str, name: &str) -> Result<(), Failed>
+    ensures { Writes E.taken E.faults E.sound E.room err.old err.new (what.now ++ name.now ++ 10 ∷ []) result }
+{
+    write_pieces(err, &[what, name, "\n"])
+}
+
+// Writes the pieces one after the other.
+fn write_pieces<E: Sink>(err: &mut E, pieces: &[&str]) -> Result<(), Failed>
+    ensures { Writes E.taken E.faults E.sound E.room err.old err.new (flat_map (λ p. p.now) pieces.now) result }
+{
+    for piece in pieces {
+        write_bytes(err, piece.as_bytes())?;
+    }
+    Ok(())
+}
+
+fn table_name(table: Table) -> &'static str
+    ensures { result.now ≡ table_text table }
+{
+    match table {
+        Table::Splits => "splits",
+        Table::Mergers => "mergers",
+        Table::Dividends => "dividends",
+    }
+}

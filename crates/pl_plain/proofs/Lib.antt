@@ -1,0 +1,2 @@
+pub mod PlainScripts
+pub mod PlainPipelines

@@ -1,0 +1,30 @@
+-- How the code's request reads.
+use Rattle.std.specs.Prelude.{option_map}
+use Rattle.pl_words.specs.Request as spec
+use Rattle.pl_words.specs.declared.request.Request.{Request}
+use Rattle.pl_words.specs.declared.request.Request.TheVariants.{Run, Fmt}
+use Rattle.pl_words.specs.declared.request.RunRequest.{RunRequest}
+use Rattle.pl_words.specs.declared.request.DateWord.{DateWord}
+use Rattle.pl_words.specs.declared.request.Options.{Options}
+
+abbrev pub dated_of : DateWord → spec.Dated
+dated_of d = record { text = d.text.now; day = d.day }
+
+abbrev pub options_of : Options → spec.Options
+options_of o = record { labels = option_map (λ n. n.now) o.labels; adjustments = option_map (λ n. n.now) o.adjustments }
+
+abbrev pub run_of : RunRequest → spec.RunRequest
+run_of r =
+    record {
+      pipeline = r.pipeline.now;
+      sessions = r.sessions.now;
+      assets = r.assets.now;
+      bars = r.bars.now;
+      from = dated_of r.from;
+      to = dated_of r.to;
+      options = options_of r.options;
+    }
+
+abbrev pub request_of : Request → spec.Request
+request_of (Run r) = spec.Run (run_of r)
+request_of (Fmt name) = spec.Fmt name.now
