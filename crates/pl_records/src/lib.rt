@@ -7,7 +7,7 @@
 
 ghost use Rattle.std.specs.Prelude.{◌≡◌, ◌<◌, [], map, drop, length, bytes_eq, IsTrue, IfOk, OnErr};
 ghost use lib.Pointwise.{pointwise};
-ghost use Rattle.pl_spec.specs.Reading.{field, has_header};
+ghost use Rattle.pl_records.specs.Reading.{field, has_header};
 ghost use Rattle.pl_records.specs.Records.{csv_records, GivesNext};
 
 use csv::{ByteRecord, Reader, ReaderBuilder};
