@@ -1,11 +1,10 @@
 -- A window of bars by session numbers.
-use Rattle.std.proofs.Common.{◌≡◌, ℕ, zero, suc, ◌+◌, ◌-◌, ◌≤◌, ℤ, pos, ◌≤ℤ◌, ◌+ℤ◌, ◌∷◌, map, Some, refl, ◌∙◌, ap, arith}
+use Rattle.std.proofs.Common.{◌≡◌, ℕ, zero, suc, ◌+◌, ◌-◌, ◌≤◌, ℤ, pos, ◌∷◌, map, refl, ◌∙◌, ap, arith}
 use Rattle.std.specs.List.{range_with_len}
 use Rattle.std.proofs.lemmas.Int.{ints}
-use Rattle.std.proofs.lemmas.List.Sums.{sum_by-append}
-use Rattle.pl_spec.specs.World.{World, IsWorld, day_of, events_of}
+use Rattle.pl_spec.specs.World.{World}
 use Rattle.pl_spec.specs.declared.Column.{Column}
-use Rattle.pl_spec.specs.Window.{effects_in, effects, step_of, step_count, seen_cell, before, downward, bar_window}
+use Rattle.pl_spec.specs.Window.{seen_cell, before, downward, bar_window}
 
 pub before-pos : (d n : ℕ) → n ≤ d → before (pos d) n ≡ pos (d - n)
 before-pos d n h = omega (arith, ints)
