@@ -11,7 +11,7 @@ use Rattle.pl_spec.specs.declared.AssetRow.{AssetRow}
 use Rattle.pl_spec.specs.World.{Adjustment}
 use Rattle.pl_spec.specs.Order.{acts_at, by_day}
 use Rattle.pl_spec.specs.Parts.{ColumnAdjustment}
-use Rattle.pl_spec.specs.Sorted.{insert_by, sorted_by}
+use Rattle.pl_records.specs.Sorted.{insert_by, sorted_by}
 use Rattle.pl_spec.proofs.ByDay.{by_day-is_by_day}
 use Rattle.pl_adjust.specs.Columns.{IsByPlace, by_column, in_column}
 use Rattle.pl_adjust.proofs.Kept.{in_front, front_order, not_in_front}

@@ -15,7 +15,7 @@ use Rattle.pl_spec.specs.declared.RawAdjust.{RawAdjust}
 use Rattle.pl_spec.specs.Order.{adjustment_in, adjustments_of, by_day, insert_by_day, is_of, of_table}
 use Rattle.pl_spec.specs.Parts.{ColumnAdjustment, ColumnLabel, adjustment_of, sid_at, world_of}
 use Rattle.pl_spec.specs.World.{Adjustment, events_of}
-use Rattle.pl_spec.proofs.Sorts.{sorted-permutes}
+use Rattle.pl_records.proofs.Sorts.{sorted-permutes}
 use Rattle.pl_adjust.specs.Columns.{by_column, col_in, events_at, in_column}
 use Rattle.pl_adjust.specs.Tables.{adjustments_in}
 use Rattle.pl_adjust.proofs.ByColumn.{filter-sorted_by}

@@ -7,7 +7,7 @@ use Rattle.std.specs.Ordering.{nat_cmp, int_cmp, ordering_then}
 use Rattle.pl_spec.specs.declared.AssetRow.{AssetRow}
 use Rattle.pl_spec.specs.World.{Adjustment, Event}
 use Rattle.pl_spec.specs.Parts.{ColumnAdjustment}
-use Rattle.pl_spec.specs.Sorted.{sorted_by}
+use Rattle.pl_records.specs.Sorted.{sorted_by}
 use Rattle.pl_adjust.specs.declared.adjust.Adjust.{Adjust}
 use Rattle.pl_adjust.specs.Events.{event_of}
 

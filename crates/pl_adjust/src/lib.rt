@@ -2,7 +2,7 @@
 #![tactic(auto)]
 
 ghost use Rattle.std.specs.Prelude.{◌≡◌, ◌≤ℤ◌, [], map, AllPairs, IfOk};
-ghost use Rattle.pl_spec.specs.Reading.{Answers};
+ghost use Rattle.pl_records.specs.Reading.{Answers};
 ghost use Rattle.pl_adjust.specs.Events.{event_of};
 ghost use Rattle.pl_adjust.specs.Columns.{events_at};
 ghost use Rattle.pl_adjust.specs.Faults.{fault_of};

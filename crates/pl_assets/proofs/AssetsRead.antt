@@ -6,13 +6,13 @@ use Rattle.std.proofs.lemmas.List.Elements.{All-append}
 use Rattle.std.proofs.lemmas.List.Sorted.{All-permutation}
 use Rattle.std.specs.Int.RustNames.{int_lt}
 use Rattle.std.specs.HashSet.{HashSet, contains}
-use Rattle.pl_spec.specs.Reading.{Record, Fault, field, ◌>>=◌}
-use Rattle.pl_spec.specs.Sorted.{sorted_by, HasOwnKeys}
+use Rattle.pl_records.specs.Reading.{Record, Fault, field, ◌>>=◌}
+use Rattle.pl_records.specs.Sorted.{sorted_by, HasOwnKeys}
 use Rattle.pl_spec.specs.Dates.{date_in}
 use Rattle.pl_spec.specs.Decimals.{sid_in}
 use Rattle.pl_spec.specs.declared.AssetRow.{AssetRow}
-use Rattle.pl_spec.proofs.Readings.{rows-keep, guard_ok, some_ok, under_ok}
-use Rattle.pl_spec.proofs.Sorts.{OwnKeys-none, OwnKeys-more, sorted-rises, sorted-permutes, length-sorted_by}
+use Rattle.pl_records.proofs.Readings.{rows-keep, guard_ok, some_ok, under_ok}
+use Rattle.pl_records.proofs.Sorts.{OwnKeys-none, OwnKeys-more, sorted-rises, sorted-permutes, length-sorted_by}
 use Rattle.pl_spec.proofs.SidsRead.{decimal-sid_in}
 use Rattle.pl_assets.specs.Assets.{Rule, asset_in, says_asset, rows_in, assets_of, AreAssets, sid_of, header}
 use Rattle.pl_assets.specs.Assets as rules

@@ -7,13 +7,13 @@ use Rattle.std.specs.Option.{ok_or}
 use Rattle.std.proofs.lemmas.Int.{ints}
 use Rattle.std.proofs.lemmas.Bool.Decides.{nat_tests}
 use Rattle.std.proofs.lemmas.List.Folds.{list_any_at, Any-from_list_any}
-use Rattle.pl_spec.specs.Reading.{Record, Fault, field, ◌>>=◌, rows_under, AreRowsUnder, BreaksFirst, Judges}
-use Rattle.pl_spec.specs.Sorted.{sorted_by}
+use Rattle.pl_records.specs.Reading.{Record, Fault, field, ◌>>=◌, rows_under, AreRowsUnder, BreaksFirst, Judges}
+use Rattle.pl_records.specs.Sorted.{sorted_by}
 use Rattle.pl_spec.specs.Dates.{date_in}
 use Rattle.pl_spec.specs.Decimals.{sid_in}
 use Rattle.pl_spec.specs.declared.AssetRow.{AssetRow}
-use Rattle.pl_spec.proofs.Readings.{Judges-from, passed-more, under-are, under-fault}
-use Rattle.pl_spec.proofs.Sorts.{sorted-are, sorted-fault}
+use Rattle.pl_records.proofs.Readings.{Judges-from, passed-more, under-are, under-fault}
+use Rattle.pl_records.proofs.Sorts.{sorted-are, sorted-fault}
 use Rattle.pl_spec.proofs.DatesRead.{date_in-IsDate, IsDate-date_in}
 use Rattle.pl_spec.proofs.SidsRead.{sid_in-decimal, decimal-sid_in}
 use Rattle.pl_assets.specs.Assets.{Rule, asset_in, says_asset, rows_in, assets_of, sid_of, header}

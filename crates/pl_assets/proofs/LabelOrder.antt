@@ -10,8 +10,8 @@ use Rattle.std.proofs.lemmas.List.{get_or_append_left, get_or_default}
 use Rattle.std.proofs.lemmas.List.Folds.{list_any_none}
 use Rattle.std.proofs.lemmas.List.Sorted.{All-permutation, Contains-permutation}
 use Rattle.std.proofs.lemmas.Option.{slice_get-get_or}
-use Rattle.pl_spec.specs.Sorted.{HasOwnKeys, sorted_by}
-use Rattle.pl_spec.proofs.Sorts.{OwnKeys-none, OwnKeys-more, sorted-rises, sorted-permutes}
+use Rattle.pl_records.specs.Sorted.{HasOwnKeys, sorted_by}
+use Rattle.pl_records.proofs.Sorts.{OwnKeys-none, OwnKeys-more, sorted-rises, sorted-permutes}
 use Rattle.pl_spec.proofs.Places.{rising_at}
 use Rattle.pl_assets.specs.LabelPlaces.{Ascend, HasStarted, IsLastStarted, IsOrder, IsPlace, KeyPoint, OwnKeys, key, key_at, key_of, numbers}
 use Rattle.pl_assets.specs.declared.labels.rows.Place.{Place}

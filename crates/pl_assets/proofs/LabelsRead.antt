@@ -7,11 +7,11 @@ use Rattle.std.proofs.lemmas.Bool.Decides.{nat_tests}
 use Rattle.std.proofs.lemmas.List.Quantifiers.{position-Some, all_pairs_push}
 use Rattle.std.proofs.lemmas.List.Elements.{All-append}
 use Rattle.std.proofs.lemmas.List.Folds.{list_any_at}
-use Rattle.pl_spec.specs.Reading.{Record, ◌>>=◌}
+use Rattle.pl_records.specs.Reading.{Record, ◌>>=◌}
 use Rattle.pl_spec.specs.Parts.{ColumnLabel}
 use Rattle.pl_spec.specs.World.{LabelRow}
 use Rattle.pl_spec.specs.declared.AssetRow.{AssetRow}
-use Rattle.pl_spec.proofs.Readings.{guard_ok, some_ok, rows-keep, under_ok}
+use Rattle.pl_records.proofs.Readings.{guard_ok, some_ok, rows-keep, under_ok}
 use Rattle.pl_assets.specs.Assets.{sid_of}
 use Rattle.pl_assets.specs.Labels.{Rule, header, label_in, is_from, is_printable, says_label, label_rows_in, labels_of, table_of, texts_of, LabelTable, IsLabelRow, AreLabels}
 use Rattle.pl_assets.specs.Labels as rules

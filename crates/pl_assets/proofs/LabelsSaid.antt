@@ -7,11 +7,11 @@ use Rattle.std.proofs.lemmas.Bool.Decides.{nat_tests}
 use Rattle.std.proofs.lemmas.List.Folds.{list_any_at, Any-from_list_any}
 use Rattle.std.proofs.lemmas.List.Quantifiers.{position-Some}
 use Rattle.std.proofs.lemmas.Option.{slice_get-get_or, slice_get_within}
-use Rattle.pl_spec.specs.Reading.{Record, Fault, ◌>>=◌, AreRowsUnder, BreaksFirst, Judges}
+use Rattle.pl_records.specs.Reading.{Record, Fault, ◌>>=◌, AreRowsUnder, BreaksFirst, Judges}
 use Rattle.pl_spec.specs.Parts.{ColumnLabel}
 use Rattle.pl_spec.specs.World.{LabelRow}
 use Rattle.pl_spec.specs.declared.AssetRow.{AssetRow}
-use Rattle.pl_spec.proofs.Readings.{Judges-from, passed-more, under-are, under-fault}
+use Rattle.pl_records.proofs.Readings.{Judges-from, passed-more, under-are, under-fault}
 use Rattle.pl_spec.proofs.Places.{nowhere}
 use Rattle.pl_assets.specs.Assets.{sid_of, AreAssets}
 use Rattle.pl_assets.specs.Labels.{Rule, LabelTable, header, label_in, is_from, says_label, label_rows_in, labels_of, table_of}

@@ -3,8 +3,8 @@ use Rattle.std.specs.Prelude.{ℕ, ◌==◌, ◌<◌, ◌≤◌, ◌^◌, nat_le
 use Rattle.std.specs.List.{list_any}
 use Rattle.std.specs.Int.RustNames.{int_lt}
 use Rattle.std.specs.Option.{ok_or}
-use Rattle.pl_spec.specs.Reading.{Record, Fault, field, ◌>>=◌, rows_under}
-use Rattle.pl_spec.specs.Sorted.{sorted_by}
+use Rattle.pl_records.specs.Reading.{Record, Fault, field, ◌>>=◌, rows_under}
+use Rattle.pl_records.specs.Sorted.{sorted_by}
 use Rattle.pl_spec.specs.Dates.{date_in}
 use Rattle.pl_spec.specs.Decimals.{sid_in}
 use Rattle.pl_spec.specs.declared.AssetRow.{AssetRow}

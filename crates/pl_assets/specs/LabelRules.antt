@@ -1,7 +1,7 @@
 -- The rules of a labels file in plain words.
 use Rattle.std.specs.Prelude.{◌≡◌, ℕ, ◌^◌, ◌<◌, ◌≤◌, IsTrue, List, length, Some, option_map, slice_get, All, Any}
 use Rattle.std.specs.Fmt.{decimal}
-use Rattle.pl_spec.specs.Reading.{Record, Fault, field, AreRowsUnder, BreaksFirst, IsFaultUnder}
+use Rattle.pl_records.specs.Reading.{Record, Fault, field, AreRowsUnder, BreaksFirst, IsFaultUnder}
 use Rattle.pl_spec.specs.Dates.{IsDate}
 use Rattle.pl_spec.specs.Names.{is_name}
 use Rattle.pl_spec.specs.Parts.{ColumnLabel}

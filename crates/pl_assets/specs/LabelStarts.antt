@@ -1,5 +1,5 @@
 -- The label of a record, by its sid and its day alone.
-use Rattle.pl_spec.specs.Reading.{Record, field}
+use Rattle.pl_records.specs.Reading.{Record, field}
 use Rattle.pl_spec.specs.Parts.{ColumnLabel}
 use Rattle.pl_spec.specs.World.{LabelRow}
 use Rattle.pl_assets.specs.declared.labels.reading.SidStart.{SidStart}

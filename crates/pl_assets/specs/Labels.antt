@@ -4,7 +4,7 @@ use Rattle.std.specs.Prelude.{◌≡◌, ℕ, ◌==◌, ◌<◌, ◌≤◌, ◌&
 use Rattle.std.specs.List.{list_any, list_all, position_or_len}
 use Rattle.std.specs.Option.{ok_or}
 use Rattle.std.specs.Ordering.{int_eq}
-use Rattle.pl_spec.specs.Reading.{Record, Fault, field, ◌>>=◌, rows_under}
+use Rattle.pl_records.specs.Reading.{Record, Fault, field, ◌>>=◌, rows_under}
 use Rattle.pl_spec.specs.Dates.{date_in}
 use Rattle.pl_spec.specs.Decimals.{sid_in}
 use Rattle.pl_spec.specs.Names.{is_name}

@@ -1,7 +1,7 @@
 -- The rules of an assets file in plain words.
 use Rattle.std.specs.Prelude.{◌≡◌, ◌≢◌, ℕ, ◌^◌, ◌<◌, ◌≤◌, ◌<ℤ◌, ◌≤ℤ◌, List, length, All, Any, AllPairs, IsPermutation}
 use Rattle.std.specs.Fmt.{decimal}
-use Rattle.pl_spec.specs.Reading.{Record, Fault, field, AreRowsUnder, BreaksFirst, IsFaultUnder}
+use Rattle.pl_records.specs.Reading.{Record, Fault, field, AreRowsUnder, BreaksFirst, IsFaultUnder}
 use Rattle.pl_spec.specs.Dates.{IsDate}
 use Rattle.pl_spec.specs.declared.AssetRow.{AssetRow}
 use Rattle.pl_assets.specs.Assets.{Rule, BadHeader, TooMany, BadField, StartAfterEnd, DuplicateSid, header}

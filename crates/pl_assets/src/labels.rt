@@ -1,7 +1,7 @@
 ghost use Rattle.std.specs.Prelude.{◌≡◌, ◌<◌, ◌≤◌, ◌++◌, ◌∷◌, ◌==◌, [], length, position, slice_index_or, bytes_eq, All, Contains, IfOk, IfSome, IsTrue, OnOk, OnErr, option_and_then};
 ghost use Rattle.std.specs.List.{list_any, position_or_len};
 ghost use Rattle.csv.specs.Writing.{default_writer, field_text};
-ghost use Rattle.pl_spec.specs.Reading.{Answers};
+ghost use Rattle.pl_records.specs.Reading.{Answers};
 ghost use Rattle.pl_records.specs.Records.{csv_records};
 ghost use Rattle.pl_assets.specs.Assets.{sid_of};
 ghost use Rattle.pl_assets.specs.Labels.{AreLabels, MayFollow, is_printable, label_on, label_row, labels_of, names_of, no_labels, table_of, with_label};

@@ -4,7 +4,7 @@
 
 ghost use Rattle.std.specs.Prelude.{◌≡◌, ◌↔◌, List, Ok, Err};
 ghost use Rattle.pl_spec.specs.declared.AssetRow.{AssetRow};
-ghost use Rattle.pl_spec.specs.Reading.{Record, Fault, BreaksFirst, Judges};
+ghost use Rattle.pl_records.specs.Reading.{Record, Fault, BreaksFirst, Judges};
 ghost use Rattle.pl_assets.specs.Assets.{Rule, AreAssets, assets_of, says_asset};
 ghost use Rattle.pl_assets.specs.Rules.{AreAssetsOf, Breaks, IsAsset, IsAssetsFault, order};
 ghost use Rattle.pl_assets.specs.Labels as labels;

@@ -3,7 +3,7 @@
 #![tactic(auto)]
 
 ghost use Rattle.std.specs.Prelude.{◌≡◌, ◌<◌, ◌≤◌, ◌^◌, ◌==◌, All, length, slice_get, position, Some, IfOk, IfSome, option_map};
-ghost use Rattle.pl_spec.specs.Reading.{Answers};
+ghost use Rattle.pl_records.specs.Reading.{Answers};
 ghost use Rattle.pl_spec.specs.World.{lives_on};
 ghost use Rattle.pl_records.specs.Records.{csv_records};
 ghost use Rattle.pl_assets.specs.Assets.{AreAssets, assets_of, sid_of};

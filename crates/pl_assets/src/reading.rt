@@ -1,6 +1,6 @@
 ghost use Rattle.std.specs.Prelude.{◌≡◌, ◌+◌, ◌<◌, ◌≤◌, [], ◌∷◌, ◌++◌, length, OnOk, IfOk};
-ghost use Rattle.pl_spec.specs.Reading.{Answers, at_line, rows_of};
-ghost use Rattle.pl_spec.specs.Sorted.{HasOwnKeys, sorted_by};
+ghost use Rattle.pl_records.specs.Reading.{Answers, at_line, rows_of};
+ghost use Rattle.pl_records.specs.Sorted.{HasOwnKeys, sorted_by};
 ghost use Rattle.pl_records.specs.Records.{csv_records};
 ghost use Rattle.pl_assets.specs.Assets.{asset_in, assets_of, rows_in, says_asset, sid_of};
 ghost use Rattle.pl_assets.specs.Faults.{fault_of};

@@ -8,12 +8,12 @@ use Rattle.std.proofs.lemmas.Bool.Decides.{nat_tests}
 use Rattle.std.proofs.lemmas.List.Quantifiers.{position-Some}
 use Rattle.std.proofs.lemmas.List.Elements.{All-append}
 use Rattle.std.proofs.lemmas.List.Sorted.{All-permutation}
-use Rattle.pl_spec.specs.Reading.{Record, Fault, ◌>>=◌}
-use Rattle.pl_spec.specs.Sorted.{sorted_by, HasOwnKeys}
+use Rattle.pl_records.specs.Reading.{Record, Fault, ◌>>=◌}
+use Rattle.pl_records.specs.Sorted.{sorted_by, HasOwnKeys}
 use Rattle.pl_spec.specs.declared.AssetRow.{AssetRow}
 use Rattle.pl_spec.specs.declared.BarRow.{BarRow}
-use Rattle.pl_spec.proofs.Readings.{guard_on, guard_err, some_on, none_err, guard_ok, some_ok, rows-keep, under_ok}
-use Rattle.pl_spec.proofs.Sorts.{OwnKeys-none, OwnKeys-more, sorted-rises, sorted-permutes, length-sorted_by}
+use Rattle.pl_records.proofs.Readings.{guard_on, guard_err, some_on, none_err, guard_ok, some_ok, rows-keep, under_ok}
+use Rattle.pl_records.proofs.Sorts.{OwnKeys-none, OwnKeys-more, sorted-rises, sorted-permutes, length-sorted_by}
 use Rattle.pl_assets.specs.Assets.{sid_of}
 use Rattle.pl_bars.specs.declared.fields.Fields.{Fields}
 use Rattle.pl_bars.specs.Bars.{Rule, header, fields_in, is_negative, is_at, says_bar, key_of, rows_in, bars_of, is_before, is_bar_cell, AreBars}

@@ -11,12 +11,12 @@ use Rattle.std.proofs.lemmas.List.Folds.{list_any_at, Any-from_list_any, list_an
 use Rattle.std.proofs.lemmas.List.Quantifiers.{position-Some}
 use Rattle.std.proofs.lemmas.List.Sorted.{All-permutation}
 use Rattle.std.proofs.lemmas.Option.{slice_get-get_or, slice_get_within}
-use Rattle.pl_spec.specs.Reading.{Record, Fault, ◌>>=◌, rows_under, AreRowsUnder, BreaksFirst, Judges}
-use Rattle.pl_spec.specs.Sorted.{sorted_by}
+use Rattle.pl_records.specs.Reading.{Record, Fault, ◌>>=◌, rows_under, AreRowsUnder, BreaksFirst, Judges}
+use Rattle.pl_records.specs.Sorted.{sorted_by}
 use Rattle.pl_spec.specs.declared.AssetRow.{AssetRow}
 use Rattle.pl_spec.specs.declared.BarRow.{BarRow}
-use Rattle.pl_spec.proofs.Readings.{Judges-from, passed-more, under-are, under-fault}
-use Rattle.pl_spec.proofs.Sorts.{sorted-are, sorted-fault}
+use Rattle.pl_records.proofs.Readings.{Judges-from, passed-more, under-are, under-fault}
+use Rattle.pl_records.proofs.Sorts.{sorted-are, sorted-fault}
 use Rattle.pl_spec.proofs.Places.{nowhere}
 use Rattle.pl_calendar.specs.Days.{AreDays}
 use Rattle.pl_assets.specs.Assets.{sid_of, AreAssets}

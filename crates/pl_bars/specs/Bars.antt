@@ -5,9 +5,9 @@ use Rattle.std.specs.Result.{result_ok}
 use Rattle.std.specs.Int.RustNames.{int_lt, int_le, unsigned_abs}
 use Rattle.std.specs.Ordering.{int_eq}
 use Rattle.std.specs.Option.{ok_or}
-use Rattle.pl_spec.specs.Reading.{Record, Fault, field, ◌>>=◌, rows_under}
+use Rattle.pl_records.specs.Reading.{Record, Fault, field, ◌>>=◌, rows_under}
 use Rattle.pl_spec.specs.Rounding.{MISSING, LIMIT, is_missing}
-use Rattle.pl_spec.specs.Sorted.{sorted_by}
+use Rattle.pl_records.specs.Sorted.{sorted_by}
 use Rattle.pl_spec.specs.Dates.{date_in}
 use Rattle.pl_spec.specs.Decimals.{sid_in}
 use Rattle.pl_spec.specs.declared.AssetRow.{AssetRow}

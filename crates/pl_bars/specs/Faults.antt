@@ -1,6 +1,6 @@
 -- The fault that an error tells; want of memory tells none.
 use Rattle.std.specs.Prelude.{Option, Some, None}
-use Rattle.pl_spec.specs.Reading.{Fault}
+use Rattle.pl_records.specs.Reading.{Fault}
 use Rattle.pl_bars.specs.Bars.{Rule}
 use Rattle.pl_bars.specs.Bars as rules
 use Rattle.pl_bars.specs.declared.error.BarsError.{BarsError}

@@ -1,7 +1,7 @@
 -- The rules of a bars file in plain words.
 use Rattle.std.specs.Prelude.{◌≡◌, ◌≢◌, ◌⊎◌, ℕ, ◌+◌, ◌^◌, ◌<◌, ◌≤◌, IsTrue, ℤ, pos, ◌<ℤ◌, List, [], length, Some, option_map, slice_get, All, Any, AllPairs, IsPermutation}
 use Rattle.std.specs.Fmt.{decimal}
-use Rattle.pl_spec.specs.Reading.{Record, Fault, field, AreRowsUnder, BreaksFirst, IsFaultUnder}
+use Rattle.pl_records.specs.Reading.{Record, Fault, field, AreRowsUnder, BreaksFirst, IsFaultUnder}
 use Rattle.pl_spec.specs.Rounding.{MISSING}
 use Rattle.pl_spec.specs.Dates.{IsDate}
 use Rattle.pl_spec.specs.Decimals.{Decimal, IsDecimal, IsReadAs}

@@ -5,7 +5,7 @@
 ghost use Rattle.std.specs.Prelude.{◌≡◌, ◌↔◌, ℤ, List, Ok, Err};
 ghost use Rattle.pl_spec.specs.declared.AssetRow.{AssetRow};
 ghost use Rattle.pl_spec.specs.declared.BarRow.{BarRow};
-ghost use Rattle.pl_spec.specs.Reading.{Record, Fault, BreaksFirst, Judges};
+ghost use Rattle.pl_records.specs.Reading.{Record, Fault, BreaksFirst, Judges};
 ghost use Rattle.pl_calendar.specs.Days.{AreDays};
 ghost use Rattle.pl_assets.specs.Assets.{AreAssets};
 ghost use Rattle.pl_bars.specs.Bars.{Rule, bars_of, says_bar};

@@ -1,6 +1,6 @@
 ghost use Rattle.std.specs.Prelude.{◌≡◌, ◌+◌, ◌*◌, ◌^◌, ◌<◌, ◌≤◌, [], ◌∷◌, ◌++◌, ◌==◌, length, min, count_by, vec_capacity, OnOk, IfOk};
-ghost use Rattle.pl_spec.specs.Reading.{Answers, at_line, rows_of};
-ghost use Rattle.pl_spec.specs.Sorted.{HasOwnKeys, sorted_by};
+ghost use Rattle.pl_records.specs.Reading.{Answers, at_line, rows_of};
+ghost use Rattle.pl_records.specs.Sorted.{HasOwnKeys, sorted_by};
 ghost use Rattle.pl_records.specs.Records.{csv_records};
 ghost use Rattle.pl_bars.specs.Bars.{bars_of, key_of, rows_in, says_bar};
 ghost use Rattle.pl_bars.specs.BarSet.{AreBarsIn};

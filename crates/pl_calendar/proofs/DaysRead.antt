@@ -1,5 +1,5 @@
 -- Days that are read ascend, and are no more than a calendar has.
-use Rattle.std.proofs.Common.{◌≡◌, ℕ, ◌+◌, ◌-◌, ◌<◌, ◌≤◌, ◌==◌, nat_le, Bool, true, false, if◌then◌else◌, ℤ, ◌<ℤ◌, List, [], ◌∷◌, ◌++◌, length, length-append, get_or, Option, Some, None, IfSome, option_map, unwrap_or, Result, Ok, Err, refl, sym, ◌∙◌, ap, arith, inl, inr}
+use Rattle.std.proofs.Common.{◌≡◌, ℕ, ◌-◌, ◌<◌, ◌≤◌, ◌==◌, nat_le, Bool, true, false, if◌then◌else◌, ℤ, ◌<ℤ◌, List, [], ◌∷◌, ◌++◌, length, length-append, get_or, Option, Some, None, IfSome, option_map, unwrap_or, Result, Ok, Err, refl, sym, ◌∙◌, ap, arith, inl, inr}
 use Rattle.std.specs.List.{All, AllPairs}
 use Rattle.std.specs.Int.RustNames.{int_lt}
 use Rattle.std.proofs.lemmas.Int.{ints}
@@ -8,12 +8,12 @@ use Rattle.std.proofs.lemmas.Bool.Decides.{nat_tests}
 use Rattle.std.proofs.lemmas.List.{get_or_append_left}
 use Rattle.std.proofs.lemmas.Option.{slice_get-get_or}
 use Rattle.std.proofs.Math.Seq.{get_or-append_seam}
-use Rattle.pl_spec.specs.Reading.{Record, Fault, field, rows_of, rows_behind}
+use Rattle.pl_records.specs.Reading.{Record, Fault, field, rows_of, rows_behind}
 use Rattle.pl_spec.specs.Dates.{IsDay, date_in}
 use Rattle.pl_spec.proofs.DatesRead.{IsDate-date_in}
 use Rattle.pl_spec.proofs.DatesWritten.{IsDay-IsDate}
 use Rattle.std.proofs.lemmas.List.Elements.{All-push}
-use Rattle.pl_spec.proofs.Readings.{rows-keep, rows-as_many, guard_ok, some_ok}
+use Rattle.pl_records.proofs.Readings.{rows-keep, rows-as_many, guard_ok, some_ok}
 use Rattle.pl_calendar.specs.Days.{Rule, day_in, last_of, is_later, says_day, sessions_of, AreDays}
 use Rattle.pl_calendar.specs.Days as days
 

@@ -4,9 +4,9 @@ use Rattle.std.specs.Int.RustNames.{int_lt}
 use Rattle.std.specs.Option.{ok_or}
 use Rattle.std.proofs.lemmas.Int.{ints}
 use Rattle.std.proofs.lemmas.Bool.Decides.{nat_tests}
-use Rattle.pl_spec.specs.Reading.{Record, Fault, field, ◌>>=◌, rows_of, AreRows, BreaksFirst, IsFirstFault, Judges}
+use Rattle.pl_records.specs.Reading.{Record, Fault, field, ◌>>=◌, rows_of, AreRows, BreaksFirst, IsFirstFault, Judges}
 use Rattle.pl_spec.specs.Dates.{date_in}
-use Rattle.pl_spec.proofs.Readings.{Judges-from, rows-are, fault-is}
+use Rattle.pl_records.proofs.Readings.{Judges-from, rows-are, fault-is}
 use Rattle.pl_spec.proofs.DatesRead.{date_in-IsDate, IsDate-date_in}
 use Rattle.pl_calendar.specs.Days.{Rule, day_in, last_of, is_later, says_day, sessions_of}
 use Rattle.pl_calendar.specs.Days as days

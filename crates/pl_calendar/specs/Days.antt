@@ -2,7 +2,7 @@
 use Rattle.std.specs.Prelude.{◌-◌, ◌==◌, ◌<◌, ◌≤◌, nat_le, Bool, true, if◌then◌else◌, ℤ, ◌<ℤ◌, List, [], ◌∷◌, length, slice_get, All, AllPairs, Option, None, option_map, unwrap_or, Result, Ok, Err}
 use Rattle.std.specs.Int.RustNames.{int_lt}
 use Rattle.std.specs.Option.{ok_or}
-use Rattle.pl_spec.specs.Reading.{Record, Fault, field, ◌>>=◌, rows_of}
+use Rattle.pl_records.specs.Reading.{Record, Fault, field, ◌>>=◌, rows_of}
 use Rattle.pl_spec.specs.Dates.{IsDay, date_in}
 
 -- in the order in which they are tested

@@ -1,6 +1,6 @@
 -- The rules of a sessions file in plain words.
 use Rattle.std.specs.Prelude.{◌≡◌, ◌⊎◌, ℕ, ◌<◌, ◌≤◌, ℤ, ◌<ℤ◌, ◌≤ℤ◌, List, [], length, Some}
-use Rattle.pl_spec.specs.Reading.{Record, Fault, field, BreaksFirst, IsFirstFault}
+use Rattle.pl_records.specs.Reading.{Record, Fault, field, BreaksFirst, IsFirstFault}
 use Rattle.pl_spec.specs.Dates.{IsDate}
 use Rattle.pl_calendar.specs.Days.{Rule, TooMany, BadDate, NotAscending, Empty, last_of}
 

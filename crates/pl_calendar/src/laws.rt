@@ -2,7 +2,7 @@
 //! the definitions that the reader's contract cites.
 
 ghost use Rattle.std.specs.Prelude.{◌≡◌, ◌<◌, ◌↔◌, ℤ, List, length, Ok, Err};
-ghost use Rattle.pl_spec.specs.Reading.{Record, Fault, AreRows, BreaksFirst, Judges};
+ghost use Rattle.pl_records.specs.Reading.{Record, Fault, AreRows, BreaksFirst, Judges};
 ghost use Rattle.pl_calendar.specs.Days.{Rule, says_day, sessions_of};
 ghost use Rattle.pl_calendar.specs.Rules.{IsSession, Breaks, order, IsSessionsFault};
 

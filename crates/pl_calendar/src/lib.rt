@@ -5,7 +5,7 @@ ghost use Rattle.std.specs.Prelude.{◌≡◌, ◌<◌, ◌≤◌, length, slice
 ghost use Rattle.std.specs.Int.RustNames.{int_le};
 ghost use Rattle.std.specs.Ordering.{int_eq};
 ghost use Rattle.pl_spec.specs.Dates.{IsDay};
-ghost use Rattle.pl_spec.specs.Reading.{Answers};
+ghost use Rattle.pl_records.specs.Reading.{Answers};
 ghost use Rattle.pl_records.specs.Records.{csv_records};
 ghost use Rattle.pl_calendar.specs.Days.{AreDays, sessions_of};
 ghost use Rattle.pl_calendar.specs.Faults.{fault_of};

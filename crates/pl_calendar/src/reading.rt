@@ -1,5 +1,5 @@
 ghost use Rattle.std.specs.Prelude.{◌≡◌, ◌+◌, ◌<◌, ◌≤◌, length, OnOk};
-ghost use Rattle.pl_spec.specs.Reading.{Answers, at_line, rows_of};
+ghost use Rattle.pl_records.specs.Reading.{Answers, at_line, rows_of};
 ghost use Rattle.pl_records.specs.Records.{csv_records};
 ghost use Rattle.pl_calendar.specs.Days.{day_in, is_later, says_day, sessions_of};
 ghost use Rattle.pl_calendar.specs.Faults.{fault_of};

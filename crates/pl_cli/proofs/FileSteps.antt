@@ -3,7 +3,7 @@ use Rattle.std.proofs.Common.{◌≡◌, ◌≤◌, ◌<◌, true, IsSomeAnd, �
 use Rattle.std.specs.Option.{option_or}
 use Rattle.std.specs.Result.{result_unwrap_or}
 use Rattle.std.proofs.lemmas.Bool.Decides.{nat_tests}
-use Rattle.pl_spec.specs.Reading as reading
+use Rattle.pl_records.specs.Reading as reading
 use Rattle.pl_outside.specs.Files.{Files}
 use Rattle.pl_cli.specs.declared.stop.Limit.{Limit}
 use Rattle.pl_cli.specs.declared.stop.Stop.{Stop}

@@ -1,7 +1,7 @@
 -- The work of a command in its order, and the text where no step has a fault.
 use Rattle.std.specs.Prelude.{◌≡◌, ℕ, ℤ, List, [], ◌∷◌, ◌++◌, not, is_some, IsSome, Option, Some, None, unwrap_or, Result, Ok, Err}
 use Rattle.std.specs.Result.{result_unwrap_or}
-use Rattle.pl_spec.specs.Reading as reading
+use Rattle.pl_records.specs.Reading as reading
 use Rattle.pl_spec.specs.declared.AssetRow.{AssetRow}
 use Rattle.pl_spec.specs.declared.BarRow.{BarRow}
 use Rattle.pl_spec.specs.declared.Format.TheVariants.{Csv}

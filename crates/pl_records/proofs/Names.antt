@@ -2,8 +2,8 @@
 use Rattle.std.proofs.Common.{◌≡◌, ℕ, zero, suc, ◌<◌, List, [], ◌∷◌, length, map, Bool, true, false, not, bytes_eq, refl, sym, ◌∙◌, ap, arith, get_or, Bor}
 use Rattle.std.proofs.lemmas.Slice.Eq.{bytes_eq-Decides}
 use lib.Pointwise.{pointwise}
-use Rattle.pl_spec.specs.Reading.{Record, field}
-use Rattle.pl_spec.proofs.Readings.{same_record-true, same_record-false}
+use Rattle.pl_records.specs.Reading.{Record, field}
+use Rattle.pl_records.proofs.Readings.{same_record-true, same_record-false}
 
 abbrev pub texts : List (Bor (List ℕ)) → Record
 texts ns = map (λ n. n.now) ns
@@ -37,6 +37,3 @@ agrees r ns i d text b e f t u =
 
 pub all_agree : (r : Record) (ns : List (Bor (List ℕ))) → length r ≡ length ns → ((k : ℕ) → k < length ns → field r k ≡ field (texts ns) k) → true ≡ pointwise bytes_eq r (texts ns)
 all_agree r ns n h = same_record-true r (texts ns) (n ∙ sym (named_length ns)) (λ k l. h k (omega (arith, named_length ns)))
-
-pub too_many : (r : Record) (ns : List (Bor (List ℕ))) → (length r ≡ length ns → ⊥) → false ≡ pointwise bytes_eq r (texts ns)
-too_many r ns h = same_record-false r (texts ns) (λ same. h (ap length same ∙ named_length ns))

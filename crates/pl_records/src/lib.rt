@@ -7,10 +7,10 @@
 
 ghost use Rattle.std.specs.Prelude.{◌≡◌, ◌<◌, [], map, drop, length, bytes_eq, IsTrue, IfOk, OnErr};
 ghost use lib.Pointwise.{pointwise};
-ghost use Rattle.pl_spec.specs.Reading.{field, has_header};
+ghost use Rattle.pl_records.specs.Reading.{field, has_header};
 ghost use Rattle.pl_records.specs.Records.{csv_records, GivesNext};
 
-use csv::{ByteRecord, Reader, ReaderBuilder};
+use csv::{ByteRecord, ErrorKind, Reader, ReaderBuilder};
 use std::alloc::{AllocError, Global};
 use std::marker::Model;
 
@@ -64,10 +64,16 @@ impl<'a> Records<'a> {
                 self.done = true;
                 Ok(false)
             }
-            // Over bytes in memory nothing else can fail.
-            Err(_) => {
+            Err(error) => {
                 self.done = true;
-                Err(AllocError)
+                match error.kind() {
+                    // Bytes in memory give no `Io`, but no clause of csv says so.
+                    ErrorKind::OutOfMemory | ErrorKind::Io(_) => Err(AllocError),
+                    // Records may have any number of fields, and any bytes.
+                    ErrorKind::UnequalLengths { .. } | ErrorKind::Utf8 { .. } => unreachable!(),
+                    // No record is read as a value, and none is written.
+                    ErrorKind::Serialize(_) | ErrorKind::Deserialize { .. } => unreachable!(),
+                }
             }
         }
     }

@@ -11,10 +11,10 @@ use Rattle.std.proofs.Math.Nat.{div-mul-le_self, lt-div-mul-add}
 use Rattle.pl_spec.specs.Formula.{truth}
 use Rattle.pl_spec.specs.Kind.CrossKind.{PercentileBetween}
 use Rattle.pl_spec.specs.Cross.{Entry, values, below, same, value_at, edge, bin_of, is_between, cross}
-use Rattle.pl_spec.specs.ListLaws.{edge_of}
+use Rattle.pl_spec.specs.CrossFacts.{edge_of}
 use Rattle.pl_spec.proofs.Bins.{length-range, times-le, bins-few}
 use Rattle.pl_spec.proofs.Counts.{count-cons, count-fewer}
-use Rattle.pl_spec.proofs.Sorts.{In, contains-in}
+use Rattle.pl_spec.proofs.Members.{In, contains-in}
 use Rattle.pl_spec.proofs.SortedValues.{at_most-below, value_at-counted, value_at-le}
 
 -- ---- edges

@@ -1,5 +1,5 @@
 -- What the look-ups of a world find.
-use Rattle.std.proofs.Common.{◌≡◌, ℕ, zero, suc, ◌<◌, Bool, true, false, ◌&&◌, ◌==◌, cond, ℤ, pos, ◌≤ℤ◌, List, [], ◌∷◌, length, get_or, filter, find, Option, Some, None, option_map, unwrap_or, option_and_then, bytes_eq, refl, sym, ◌∙◌, ap, arith, inl, inr}
+use Rattle.std.proofs.Common.{◌≡◌, ℕ, zero, suc, ◌<◌, Bool, true, false, ◌&&◌, ◌==◌, cond, ℤ, pos, ◌≤ℤ◌, List, [], ◌∷◌, length, get_or, filter, find, Option, Some, None, option_map, unwrap_or, option_and_then, refl, sym, ◌∙◌, ap, arith, inl, inr}
 use Rattle.std.specs.Prelude.{Contains, ◌⊎◌}
 use Rattle.std.specs.List.{list_all}
 use Rattle.std.specs.Int.RustNames.{int_le}
@@ -8,7 +8,7 @@ use Rattle.std.proofs.lemmas.Bool.{eq-eqb, eqb-true, and_parts, true≢false}
 use Rattle.std.proofs.lemmas.Slice.Eq.{bytes_eq-Decides}
 use Rattle.pl_spec.specs.declared.Column.{Column}
 use Rattle.pl_spec.specs.Rounding.{MISSING}
-use Rattle.pl_spec.specs.World.{World, Bar, LabelRow, day_of, cell_of, cell_in, bar_cell, last_started, nonempty, is_label_of, label_at}
+use Rattle.pl_spec.specs.World.{World, Bar, LabelRow, day_of, cell_of, bar_cell, last_started, nonempty, is_label_of, label_at}
 use Rattle.pl_spec.specs.Lookups.{BarsOnce, LabelsOnce, BarsAreFound, LabelsAreFound}
 
 -- ---- lists

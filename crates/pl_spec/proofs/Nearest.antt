@@ -106,7 +106,3 @@ nearest_is-div_round (negsuc n) b (negsuc m) h f =
     let e : 2 * ((suc n - suc m * b) + (suc m * b - suc n)) ≤ b = rw (abs-neg-neg n (suc m * b)) at f.near in
     let t : 2 * ((suc n - suc m * b) + (suc m * b - suc n)) ≡ b → suc n < suc m * b = rw (abs-neg-neg n (suc m * b)) at f.tie in
     ap (λ k. neg_ℤ (pos k)) (sym (one_half (suc n) b (suc m) h (half_of (suc n) b (suc m) h e t)))
-
--- so there is one nearest number
-pub nearest_is_one : (a : ℤ) (b : ℕ) (p q : ℤ) → 0 < b → IsNearest a b p → IsNearest a b q → p ≡ q
-nearest_is_one a b p q h f g = nearest_is-div_round a b p h f ∙ sym (nearest_is-div_round a b q h g)

@@ -10,9 +10,9 @@ use Rattle.pl_spec.specs.declared.RankMethod.TheVariants.{Ordinal, Min, Max, Den
 use Rattle.pl_spec.specs.declared.RankOrder.{RankOrder}
 use Rattle.pl_spec.specs.declared.RankOrder.TheVariants.{Ascending, Descending}
 use Rattle.pl_spec.specs.Cross.{Entry, values, precedes, preceding, same, earlier_same, distinct_values, rank}
-use Rattle.pl_spec.specs.ListLaws.{AreRanks, negated}
+use Rattle.pl_spec.specs.CrossFacts.{AreRanks, negated}
 use Rattle.pl_spec.proofs.Counts.{count-cons, count-fewer, count-agree, count-map, map-map}
-use Rattle.pl_spec.proofs.Sorts.{contains-in}
+use Rattle.pl_spec.proofs.Members.{contains-in}
 
 first_true : (b c : Bool) → (b && c) ≡ true → b ≡ true
 first_true true c t = refl

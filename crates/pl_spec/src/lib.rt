@@ -1,12 +1,9 @@
-//! What pipelines mean: the definitions on which every contract of the project rests, and their laws.
+//! What pipelines mean: the definitions on which every contract of the project rests.
 //!
 //! The definitions stand in `specs/`, and docs/DEFINITIONS.md explains each of them. The types here are those that
-//! both the definitions and the code speak of; the crates that they belong to export them. The functions in `laws`
-//! do nothing: the contract of each is a law of the definitions.
+//! both the definitions and the code speak of; the crates that they belong to export them. The laws of the definitions
+//! are the crate `pl_laws`.
 #![tactic(auto)]
-
-pub mod laws;
-pub mod list_laws;
 
 /// A column of daily bars. Prices are millionths of a unit of money, volumes millionths of a share.
 #[derive(Clone, Copy, Debug, PartialEq, Eq)]

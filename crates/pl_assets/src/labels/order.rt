@@ -1,5 +1,5 @@
 ghost use Rattle.std.specs.Prelude.{◌≡◌, ◌+◌, ◌^◌, ◌-◌, ◌<◌, ◌≤◌, length, pos, ◌+ℤ◌, vec_len, vec_capacity, IfOk};
-ghost use Rattle.pl_spec.specs.Sorted.{HasOwnKeys, sorted_by};
+ghost use Rattle.pl_records.specs.Sorted.{HasOwnKeys, sorted_by};
 ghost use Rattle.pl_assets.specs.LabelPlaces.{AreNumbered, Ascend, IsLastStarted, IsOrder, KeyPoint, OwnKeys, key, key_at, key_of, numbers};
 
 use crate::labels::rows::{LabelRows, Place};

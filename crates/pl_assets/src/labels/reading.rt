@@ -1,6 +1,6 @@
 ghost use Rattle.std.specs.Prelude.{◌≡◌, ◌+◌, ◌<◌, ◌≤◌, length, option_map, OnOk, OnSome, IfOk};
 ghost use Rattle.std.specs.List.{list_any};
-ghost use Rattle.pl_spec.specs.Reading.{Answers, at_line, field, rows_of};
+ghost use Rattle.pl_records.specs.Reading.{Answers, at_line, field, rows_of};
 ghost use Rattle.pl_records.specs.Records.{csv_records};
 ghost use Rattle.pl_assets.specs.Labels.{is_from, is_printable, label_in, label_rows_in, says_label};
 ghost use Rattle.pl_assets.specs.LabelFaults.{fault_of};

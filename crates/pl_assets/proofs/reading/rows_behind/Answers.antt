@@ -1,7 +1,7 @@
 use Rattle.std.proofs.Common.{◌≡◌, ◌<◌, length, arith, length-append, ◌∷◌, ◌++◌, []}
 use Rattle.std.proofs.lemmas.Result.{err_from_is_err_and}
-use Rattle.pl_spec.specs.Reading.{rows_of}
-use Rattle.pl_spec.proofs.Readings.{goes_on, stops, is_done}
+use Rattle.pl_records.specs.Reading.{rows_of}
+use Rattle.pl_records.proofs.Readings.{goes_on, stops, is_done}
 use Rattle.pl_assets.specs.Assets.{says_asset}
 use Rattle.pl_assets.specs.Faults.{fault_of}
 use Rattle.pl_assets.proofs.reading.rows_behind.Goals as goal

@@ -1,5 +1,5 @@
 use Rattle.std.proofs.Common.{◌≡◌, ◌≤◌, length}
-use Rattle.pl_spec.specs.Reading.{rows_of, rows_behind}
+use Rattle.pl_records.specs.Reading.{rows_of, rows_behind}
 use Rattle.pl_assets.specs.Assets.{says_asset}
 use Rattle.pl_assets.specs.Seen.{AreSids}
 use Rattle.pl_assets.proofs.reading.rows_behind.Given as goal

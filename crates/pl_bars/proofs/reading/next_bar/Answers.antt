@@ -1,6 +1,6 @@
 use Rattle.std.proofs.Common.{rules, ◌<◌, ◌∙◌, sym, arith, length, FitsSigned, w32}
 use Rattle.std.proofs.lemmas.Int.{to_z-of_z}
-use Rattle.pl_spec.proofs.Readings.{told}
+use Rattle.pl_records.proofs.Readings.{told}
 use Rattle.pl_bars.proofs.BarsRead.{no_session, no_asset, negative, duplicate}
 use Rattle.pl_bars.proofs.reading.next_bar.Goals as goal
 

@@ -1,5 +1,5 @@
 use Rattle.std.proofs.Common.{◌≡◌, ◌≤◌, length}
-use Rattle.pl_spec.specs.Reading.{rows_of, rows_behind}
+use Rattle.pl_records.specs.Reading.{rows_of, rows_behind}
 use Rattle.pl_bars.specs.Bars.{says_bar}
 use Rattle.pl_bars.specs.BarSet.{AreBarsIn}
 use Rattle.pl_bars.proofs.reading.rows_behind.Given as goal

@@ -1,6 +1,6 @@
 use Rattle.std.proofs.Common.{rules}
 use Rattle.std.proofs.lemmas.List.Sorted.{IsNonDecreasingBy-from_sort_by_key}
-use Rattle.pl_spec.proofs.Sorts.{sorted-is}
+use Rattle.pl_records.proofs.Sorts.{sorted-is}
 use Rattle.pl_bars.specs.Bars.{key_of}
 use Rattle.pl_bars.proofs.reading.sort_by_place.Goals as goal
 

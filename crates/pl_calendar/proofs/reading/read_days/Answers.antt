@@ -1,8 +1,8 @@
 use Rattle.std.proofs.lemmas.Int.{to_z-of_z}
 use Rattle.std.proofs.Common.{rules, FitsSigned, w32, ◌≡◌, ◌<◌, length, arith, length-append, ◌∷◌, ◌++◌, []}
 use Rattle.std.proofs.lemmas.Result.{err_from_is_err_and}
-use Rattle.pl_spec.specs.Reading.{rows_of}
-use Rattle.pl_spec.proofs.Readings.{goes_on, stops, is_done}
+use Rattle.pl_records.specs.Reading.{rows_of}
+use Rattle.pl_records.proofs.Readings.{goes_on, stops, is_done}
 use Rattle.pl_records.specs.Records.{csv_records}
 use Rattle.pl_calendar.specs.Days.{says_day}
 use Rattle.pl_calendar.specs.Faults.{fault_of}

@@ -1,5 +1,5 @@
 use Rattle.std.proofs.Common.{◌≡◌, ◌≤◌, length}
-use Rattle.pl_spec.specs.Reading.{rows_of, rows_behind}
+use Rattle.pl_records.specs.Reading.{rows_of, rows_behind}
 use Rattle.pl_records.specs.Records.{csv_records}
 use Rattle.pl_calendar.specs.Days.{says_day}
 use Rattle.pl_calendar.proofs.reading.read_days.Given as goal

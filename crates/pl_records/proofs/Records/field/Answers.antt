@@ -1,7 +1,7 @@
 use Rattle.std.proofs.Common.{◌≡◌, ◌∷◌, [], ℕ, List, sym, None, Some, zero, suc}
 use Rattle.csv.proofs.RecordFacts.{field-there}
 use Rattle.csv.specs.Records.{field_at, fields_of}
-use Rattle.pl_spec.specs.Reading.{Record, field}
+use Rattle.pl_records.specs.Reading.{Record, field}
 use Rattle.pl_records.proofs.Records.field.Goals as goal
 
 pub unreachable-requires : goal.unreachable-requires

@@ -1,5 +1,5 @@
 use Rattle.std.proofs.Common.{◌≡◌, ◌<◌, map, ℕ}
-use Rattle.pl_spec.specs.Reading.{field}
+use Rattle.pl_records.specs.Reading.{field}
 use Rattle.pl_records.proofs.Records.has_fields.Given as goal
 
 abbrev pub invariant-loop-i : goal.invariant-loop-i

@@ -1,8 +1,8 @@
 use Rattle.std.proofs.Common.{◌≡◌, ◌<◌, length, arith, rules, length-append, ◌∷◌, ◌++◌, [], FitsSigned, w32}
 use Rattle.std.proofs.lemmas.Int.{to_z-of_z}
 use Rattle.std.proofs.lemmas.Result.{err_from_is_err_and}
-use Rattle.pl_spec.specs.Reading.{rows_of}
-use Rattle.pl_spec.proofs.Readings.{goes_on, stops, is_done}
+use Rattle.pl_records.specs.Reading.{rows_of}
+use Rattle.pl_records.proofs.Readings.{goes_on, stops, is_done}
 use Rattle.pl_assets.specs.Labels.{says_label}
 use Rattle.pl_assets.specs.LabelFaults.{fault_of}
 use Rattle.pl_assets.specs.LabelPlaces.{shown_rows}

@@ -1,5 +1,5 @@
 use Rattle.std.proofs.Common.{◌≡◌, ◌≤◌, length}
-use Rattle.pl_spec.specs.Reading.{rows_of, rows_behind}
+use Rattle.pl_records.specs.Reading.{rows_of, rows_behind}
 use Rattle.pl_assets.specs.Labels.{says_label}
 use Rattle.pl_assets.specs.LabelPlaces.{AreKeys, AreNumbered, shown_rows}
 use Rattle.pl_assets.proofs.labels.reading.rows_behind.Given as goal

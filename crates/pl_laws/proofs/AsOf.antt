@@ -1,0 +1,150 @@
+-- The world as of a session agrees with the whole.
+use Rattle.std.proofs.Common.{◌≡◌, ℕ, zero, suc, ◌<◌, Bool, true, false, ◌&&◌, cond, ℤ, pos, negsuc, ◌<ℤ◌, ◌≤ℤ◌, List, [], ◌∷◌, length, map, filter, find, take, get_or, All, AllPairs, Some, option_map, unwrap_or, refl, sym, ◌∙◌, ap, arith, slice_get, ◌==◌, nat_lt, min}
+use Rattle.std.specs.Int.RustNames.{int_le}
+use Rattle.std.proofs.lemmas.Bool.Decides.{nat_tests}
+use Rattle.std.proofs.lemmas.Int.{ints}
+use Rattle.std.proofs.lemmas.List.{get_or-take, length-take}
+use Rattle.std.proofs.lemmas.List.Elements.{All-filter}
+use Rattle.std.proofs.lemmas.List.Kept.{AllPairs-filter}
+use Rattle.std.proofs.lemmas.Option.{slice_get_within}
+use Rattle.pl_spec.specs.declared.AssetRow.{AssetRow}
+use Rattle.pl_spec.specs.declared.BarRow.{BarRow}
+use Rattle.pl_spec.specs.declared.Column.{Column}
+use Rattle.pl_spec.specs.Rounding.{MISSING}
+use Rattle.pl_spec.specs.World.{World, IsWorld, Bar, LabelRow, Adjustment, events_of, day_of, bar_cell, cell_of, exists}
+use Rattle.pl_spec.specs.Agree.{Agree, is_known, has_started}
+use Rattle.pl_spec.specs.Parts.{ColumnLabel, ColumnAdjustment, bar_of, label_of, adjustment_of}
+use Rattle.pl_spec.specs.AsOf.{as_of, bars_before, adjustments_by}
+use Rattle.pl_laws.specs.AsOfLaws.{PartsOf}
+use Rattle.pl_laws.proofs.Law.{filter-filter}
+
+-- ---- lists
+
+-- what is sought passes the test, so it doesn't matter whether that was tested first
+find-filter : {X : Type 0} (p q : X → Bool) → ((x : X) → p x ≡ true → q x ≡ true) → (xs : List X) → find p (filter q xs) ≡ find p xs
+find-filter p q h [] = refl
+find-filter p q h (x ∷ xs) = here (p x) (q x) refl refl (find-filter p q h xs)
+  where
+    here : (b c : Bool) → p x ≡ b → q x ≡ c → find p (filter q xs) ≡ find p xs → find p (cond c (x ∷ filter q xs) (filter q xs)) ≡ find p (x ∷ xs)
+    here true true e f rest = rw e refl
+    here true false e f rest = let t : q x ≡ true = h x e in let bad : true ≡ false = sym t ∙ f in cc
+    here false true e f rest = rw e rest
+    here false false e f rest = rw e rest
+
+filter-map : {X Y : Type 0} (p : Y → Bool) (f : X → Y) (xs : List X) → filter p (map f xs) ≡ map f (filter (λ x. p (f x)) xs)
+filter-map p f [] = refl
+filter-map {X} {Y} p f (x ∷ xs) = here (p (f x)) (filter-map p f xs)
+  where
+    here : (b : Bool) → filter p (map f xs) ≡ map f (filter (λ x. p (f x)) xs) → cond b (f x ∷ filter p (map f xs)) (filter p (map f xs)) ≡ map f (cond b (x ∷ filter (λ x. p (f x)) xs) (filter (λ x. p (f x)) xs))
+    here true e = ap (λ l. f x ∷ l) e
+    here false e = e
+
+filter-swap : {X : Type 0} (p q : X → Bool) (xs : List X) → filter p (filter q xs) ≡ filter q (filter p xs)
+filter-swap p q [] = refl
+filter-swap p q (x ∷ xs) = here (p x) (q x) refl refl (filter-swap p q xs)
+  where
+    here : (b c : Bool) → p x ≡ b → q x ≡ c → filter p (filter q xs) ≡ filter q (filter p xs)
+        → filter p (cond c (x ∷ filter q xs) (filter q xs)) ≡ filter q (cond b (x ∷ filter p xs) (filter p xs))
+    here true true e f rest = rw (e, f) (ap (λ l. x ∷ l) rest)
+    here true false e f rest = rw f rest
+    here false true e f rest = rw e rest
+    here false false e f rest = rest
+
+all_pass : {X : Type 0} (p : X → Bool) (xs : List X) → All (λ x. p x ≡ true) (filter p xs)
+all_pass p [] = λ k d l. absurd (omega arith)
+all_pass {X} p (x ∷ xs) = here (p x) refl (all_pass p xs)
+  where
+    here : (b : Bool) → p x ≡ b → All (λ x. p x ≡ true) (filter p xs) → All (λ x. p x ≡ true) (cond b (x ∷ filter p xs) (filter p xs))
+    here true e rest = λ k d l. first k d l e rest
+      where
+        first : (k : ℕ) (d : X) → k < length (x ∷ filter p xs) → p x ≡ true → All (λ x. p x ≡ true) (filter p xs) → p (get_or (x ∷ filter p xs) k d) ≡ true
+        first zero d l e rest = e
+        first (suc k) d l e rest = rest k d (omega arith)
+    here false e rest = rest
+
+slice_get-take : {X : Type 0} (xs : List X) (n i : ℕ) → i < n → slice_get (take n xs) i ≡ slice_get xs i
+slice_get-take [] zero i h = absurd (omega arith)
+slice_get-take [] (suc n) i h = refl
+slice_get-take (x ∷ xs) zero i h = absurd (omega arith)
+slice_get-take (x ∷ xs) (suc n) zero h = refl
+slice_get-take (x ∷ xs) (suc n) (suc i) h = slice_get-take xs n i (omega arith)
+
+days_kept : (days : List ℤ) (n : ℕ) → AllPairs (λ a b. a <ℤ b) days → AllPairs (λ a b. a <ℤ b) (take n days)
+days_kept days n rise i j d h l =
+    let long : length (take n days) ≡ min n (length days) = length-take n days in
+    rw (get_or-take n days i d (omega arith), get_or-take n days j d (omega arith)) (rise i j d h (omega arith))
+
+-- ---- the world
+
+asked_before : (a s d : ℕ) → s < d → (b : Bar) → (b.sid == a && b.session == s) ≡ true → nat_lt b.session d ≡ true
+asked_before a s d h b e = grind (arith, nat_tests)
+
+module _ (w : World) (d : ℕ) (day : ℤ) where
+  events-by : (a : ℕ) → events_of (as_of w d day) a ≡ filter (is_known day) (events_of w a)
+  events-by a =
+      ap (map (λ (x : Adjustment). x.event)) (filter-swap (λ x. x.sid == a) (λ x. is_known day x.event) w.adjustments)
+      ∙ sym (filter-map (is_known day) (λ (x : Adjustment). x.event) (filter (λ x. x.sid == a) w.adjustments))
+
+  day_of-kept : (s : ℤ) → s ≤ℤ pos d → day_of (as_of w d day) s ≡ day_of w s
+  day_of-kept (pos s) h = slice_get-take w.days (suc d) s (omega (arith, ints))
+  day_of-kept (negsuc s) h = refl
+
+  bar_cell-kept : (a : ℕ) (c : Column) (s : ℤ) → s <ℤ pos d → bar_cell (as_of w d day) a c s ≡ bar_cell w a c s
+  bar_cell-kept a c (pos s) h =
+      ap (λ o. unwrap_or (option_map (cell_of c) o) MISSING)
+      (find-filter (λ b. b.sid == a && b.session == s) (λ b. nat_lt b.session d) (asked_before a s d (omega (arith, ints))) w.bars)
+  bar_cell-kept a c (negsuc s) h = refl
+
+  exists-kept : (a : ℕ) (s : ℤ) → s ≤ℤ pos d → exists (as_of w d day) a s ≡ exists w a s
+  exists-kept a s h = rw (day_of-kept s h) refl
+
+  pub is-world : IsWorld w → IsWorld (as_of w d day)
+  is-world ok = record {
+    days_ascend = days_kept w.days (suc d) ok.days_ascend;
+    sids_ascend = ok.sids_ascend;
+    events_in_order = λ a. rw (events-by a) (AllPairs-filter (λ e f. e.day ≤ℤ f.day) (is_known day) (events_of w a) (ok.events_in_order a));
+  }
+
+  pub agrees : slice_get w.days d ≡ Some day → Agree (as_of w d day) w (pos d) day
+  agrees at_d = record {
+    is_day = day_of-kept (pos d) (omega (arith, ints)) ∙ at_d;
+    days = day_of-kept;
+    bars = bar_cell-kept;
+    adjustments = λ a. ap (filter (is_known day)) (events-by a) ∙ filter-filter (is_known day) (is_known day) (λ e p. p) (events_of w a);
+    lifetimes = exists-kept;
+    labels = filter-filter (has_started day) (has_started day) (λ r p. p) w.labels;
+  }
+
+-- ---- the parts
+
+below : (m n : ℕ) → nat_lt m n ≡ true → m < n
+below m n e = grind (arith, nat_tests)
+
+module _ (days : List ℤ) (assets : List AssetRow) (labels : List ColumnLabel) (texts : List (List ℕ)) (bars : List BarRow) (adjustments : List ColumnAdjustment) (d : ℕ) (day : ℤ) where
+  abbrev Made : List LabelRow → List Bar → List Adjustment → World
+  Made ls bs xs = record { days = take (suc d) days; assets = assets; labels = ls; texts = texts; bars = bs; adjustments = xs }
+
+  pub parts-of : PartsOf days assets labels texts bars adjustments d day
+  parts-of = record {
+    world =
+        ap (λ ls. Made ls (map (bar_of assets) (bars_before d bars)) (map (adjustment_of assets) (adjustments_by day adjustments))) (sym (filter-map (has_started day) (label_of assets) labels))
+        ∙ ap (λ bs. Made (filter (has_started day) (map (label_of assets) labels)) bs (map (adjustment_of assets) (adjustments_by day adjustments)))
+        (sym (filter-map (λ b. nat_lt b.session d) (bar_of assets) bars))
+        ∙ ap (λ xs. Made (filter (has_started day) (map (label_of assets) labels)) (filter (λ b. nat_lt b.session d) (map (bar_of assets) bars)) xs)
+        (sym (filter-map (λ (x : Adjustment). is_known day x.event) (adjustment_of assets) adjustments));
+    parts = λ made at_d. record {
+      days_ascend = days_kept days (suc d) made.days_ascend;
+      sids_ascend = made.sids_ascend;
+      labels_in = All-filter (λ r. int_le r.start day) (λ r. r.col < length assets) labels made.labels_in;
+      bars_in = All-filter (λ b. nat_lt b.session d) (λ b. b.col < length assets) bars made.bars_in;
+      sessions_in = λ k e l.
+          let before_d : (get_or (bars_before d bars) k e).session < d = below _ d (all_pass (λ (b : BarRow). nat_lt b.session d) bars k e l) in
+          let long : length (take (suc d) days) ≡ min (suc d) (length days) = length-take (suc d) days in
+          let there : d < length days = slice_get_within days d day at_d in
+          omega (arith, before_d, long, there);
+      adjustments_in = All-filter (λ x. int_le x.event.day day) (λ x. x.col < length assets) adjustments made.adjustments_in;
+      events_in_order = λ col.
+          rw (filter-swap (λ x. x.col == col) (λ x. int_le x.event.day day) adjustments)
+          (AllPairs-filter (λ x y. x.event.day ≤ℤ y.event.day) (λ x. int_le x.event.day day) (filter (λ x. x.col == col) adjustments) (made.events_in_order col));
+    };
+  }

@@ -1,0 +1,280 @@
+-- What came to be known later doesn't change a value.
+use Rattle.std.proofs.Common.{◌≡◌, ℕ, suc, ◌<◌, ◌≤◌, Bool, true, false, ◌&&◌, cond, ℤ, pos, negsuc, ◌<ℤ◌, ◌≤ℤ◌, List, [], ◌∷◌, length, map, get_or, Option, Some, None, refl, sym, ◌∙◌, ap, arith, inl, inr, filter, filter_map, slice_get, AllPairs, ◌==◌, option_and_then, unwrap_or, option_map}
+use Rattle.std.proofs.Math.Path.{fun_ext}
+use Rattle.std.specs.List.{list_any}
+use Rattle.std.proofs.lemmas.Int.{ints}
+use Rattle.std.proofs.lemmas.Bool.{eqb-true, eq-eqb, ne_eqb, or_cases, or_left, true≢false, false_from_ne_true, cases_eq}
+use Rattle.std.proofs.lemmas.Option.{get_or_from_slice_get, slice_get_within}
+use Rattle.pl_spec.specs.Rounding.{is_present}
+use Rattle.pl_spec.specs.World.{World, IsWorld, Event, events_of, LabelRow, day_of, bar_cell, living_sids, label_at, is_label_of, last_started, nonempty, lives_on}
+use Rattle.pl_spec.specs.declared.AssetRow.{AssetRow}
+use Rattle.pl_spec.specs.declared.Column.{Column}
+use Rattle.pl_spec.specs.Window.{effect, is_between, effects_from, effects, after_all, seen_cell, before, downward}
+use Rattle.pl_spec.specs.Agree.{Agree, is_known, has_started}
+use Rattle.pl_spec.specs.Kind.{Kind, CrossKind}
+use Rattle.pl_spec.specs.Kind.Kind.{Constant, Label, StaticSids, Window, Point, LabelTest, Cross, Downsample}
+use Rattle.pl_spec.specs.Kind.CrossKind.{PeerCount}
+use Rattle.pl_spec.specs.Periods.{period_start}
+use Rattle.pl_laws.proofs.Starts.{start-same, start-within}
+use Rattle.pl_spec.specs.Term.{Term}
+use Rattle.pl_spec.specs.Term.Term.{absent, column, node}
+use Rattle.pl_spec.specs.Value.{Meaning, part_of, number_of, holds, now, window_of, passes, in_group, entry, counts_for, eligible, group_of, label_value, name_at, test_value, step, value}
+
+-- ---- lists
+
+-- what passes p passes q, so it doesn't matter whether q was tested first
+pub filter-filter : {X : Type 0} (p q : X → Bool) → ((x : X) → p x ≡ true → q x ≡ true) → (xs : List X) → filter p (filter q xs) ≡ filter p xs
+filter-filter p q h [] = refl
+filter-filter p q h (x ∷ xs) = here (p x) (q x) refl refl (filter-filter p q h xs)
+  where
+    here : (b c : Bool) → p x ≡ b → q x ≡ c → filter p (filter q xs) ≡ filter p xs → filter p (cond c (x ∷ filter q xs) (filter q xs)) ≡ cond b (x ∷ filter p xs) (filter p xs)
+    here true true e f rest = rw e (ap (λ l. x ∷ l) rest)
+    here true false e f rest = let t : q x ≡ true = h x e in cc
+    here false true e f rest = rw e rest
+    here false false e f rest = rest
+
+-- ---- tests
+
+event_known : (low high day : ℤ) → high ≤ℤ day → (e : Event) → is_between low high e ≡ true → is_known day e ≡ true
+event_known low high day h e p = grind (arith, ints)
+
+label_started : (name : List ℕ) (a : ℕ) (x day : ℤ) → x ≤ℤ day → (r : LabelRow) → is_label_of name a x r ≡ true → has_started day r ≡ true
+label_started name a x day h r p = grind (arith, ints)
+
+before_above : (s : ℤ) (n : ℕ) → before s (suc n) <ℤ s
+before_above s n = omega (arith, ints)
+
+before_below : (s : ℤ) (n : ℕ) (d : ℤ) → s ≤ℤ d → before s n ≤ℤ d
+before_below s n d h = omega (arith, ints)
+
+-- ---- ascending lists
+
+AllAbove : ℕ → List ℕ → Type 0
+AllAbove x [] = Unit {0}
+AllAbove x (y ∷ ys) = (x < y) × AllAbove x ys
+
+Rising : List ℕ → Type 0
+unfolding AllAbove
+Rising [] = Unit {0}
+Rising (x ∷ xs) = AllAbove x xs × Rising xs
+
+abbrev is_in : ℕ → List ℕ → Bool
+is_in a xs = list_any (λ x. x == a) xs
+
+-- what stands in a rising list after x is above x
+above : (x a : ℕ) (ys : List ℕ) → AllAbove x ys → is_in a ys ≡ true → x < a
+unfolding AllAbove
+above x a [] all e = absurd (true≢false (sym e))
+above x a (y ∷ ys) all e = elim (or_cases (y == a) (is_in a ys) e) [
+  | inl here ↦ let same : y ≡ a = eqb-true y a here in let y_above : x < y = all.0 in omega arith
+  | inr there ↦ above x a ys all.1 there
+]
+
+in_front : (x : ℕ) (xs : List ℕ) → is_in x (x ∷ xs) ≡ true
+in_front x xs = or_left (x == x) (is_in x xs) (eq-eqb x x refl)
+
+not_behind : (x : ℕ) (xs : List ℕ) → AllAbove x xs → is_in x xs ≡ false
+not_behind x xs all = false_from_ne_true (is_in x xs) (λ e. let bad : x < x = above x x xs all e in omega arith)
+
+same_front : (x y : ℕ) (xs ys : List ℕ) → AllAbove x xs → AllAbove y ys → ((a : ℕ) → is_in a (x ∷ xs) ≡ is_in a (y ∷ ys)) → x ≡ y
+same_front x y xs ys p q same = elim (or_cases (y == x) (is_in x ys) (sym (same x) ∙ in_front x xs)) [
+  | inl e ↦ sym (eqb-true y x e)
+  | inr e ↦ elim (or_cases (x == y) (is_in y xs) (same y ∙ in_front y ys)) [
+    | inl f ↦ eqb-true x y f
+    | inr f ↦ let a : y < x = above y x ys q e in let b : x < y = above x y xs p f in absurd (omega arith)
+  ]
+]
+
+-- a rising list is told by what is in it
+rising_is_one : (xs ys : List ℕ) → Rising xs → Rising ys → ((a : ℕ) → is_in a xs ≡ is_in a ys) → xs ≡ ys
+unfolding Rising
+rising_is_one [] [] p q same = refl
+rising_is_one [] (y ∷ ys) p q same = absurd (true≢false (sym (in_front y ys) ∙ sym (same y)))
+rising_is_one (x ∷ xs) [] p q same = absurd (true≢false (sym (in_front x xs) ∙ same x))
+rising_is_one (x ∷ xs) (y ∷ ys) p q same =
+    let front : x ≡ y = same_front x y xs ys p.0 q.0 same in
+    let rest : xs ≡ ys = rising_is_one xs ys p.1 q.1 (λ a. behind a front) in
+    ap (λ l. x ∷ l) rest ∙ ap (λ z. z ∷ ys) front
+  where
+    behind : (a : ℕ) → x ≡ y → is_in a xs ≡ is_in a ys
+    behind a front = elim (cases_eq x a) [
+      | inl e ↦
+          let in_xs : is_in a xs ≡ false = rw (← e) (not_behind x xs p.0) in
+          let in_ys : is_in a ys ≡ false = rw (← e, front) (not_behind y ys q.0) in in_xs ∙ sym in_ys
+      | inr n ↦
+          let n' : y ≡ a → ⊥ = (λ e. n (front ∙ e)) in
+          let s : is_in a (x ∷ xs) ≡ is_in a (y ∷ ys) = same a in
+          let f : (x == a) ≡ false = ne_eqb x a n in
+          let g : (y == a) ≡ false = ne_eqb y a n' in
+          rw (f, g) at s
+    ]
+
+sids_above : (p : AssetRow → Bool) (x : ℕ) (rows : List AssetRow) → ((k : ℕ) (d : AssetRow) → k < length rows → x < (get_or rows k d).sid) → AllAbove x (map (λ a. a.sid) (filter p rows))
+unfolding AllAbove
+sids_above p x [] h = tt
+sids_above p x (a ∷ rows) h = here (p a) (sids_above p x rows (λ k d l. h (suc k) d (omega arith)))
+  where
+    here : (b : Bool) → AllAbove x (map (λ a. a.sid) (filter p rows)) → AllAbove x (map (λ a. a.sid) (cond b (a ∷ filter p rows) (filter p rows)))
+    here true rest = (h 0 a (omega arith), rest)
+    here false rest = rest
+
+sids_rise : (p : AssetRow → Bool) (rows : List AssetRow) → AllPairs (λ a b. a.sid < b.sid) rows → Rising (map (λ a. a.sid) (filter p rows))
+unfolding Rising
+sids_rise p [] h = tt
+sids_rise p (a ∷ rows) h = here (p a) (sids_rise p rows (λ i j d l m. h (suc i) (suc j) d (omega arith) (omega arith)))
+  where
+    here : (b : Bool) → Rising (map (λ a. a.sid) (filter p rows)) → Rising (map (λ a. a.sid) (cond b (a ∷ filter p rows) (filter p rows)))
+    here true rest = (sids_above p a.sid rows (λ k d l. h 0 (suc k) d (omega arith) (omega arith)), rest)
+    here false rest = rest
+
+living_rise : (w : World) → IsWorld w → (o : Option ℤ) → Rising (unwrap_or (option_map (λ day. map (λ a. a.sid) (filter (lives_on day) w.assets)) o) [])
+unfolding Rising
+living_rise w ok None = tt
+living_rise w ok (Some day) = sids_rise (lives_on day) w.assets ok.sids_ascend
+
+-- ---- days and events
+
+days_rise : (xs : List ℤ) (i j : ℕ) (x y : ℤ) → AllPairs (λ a b. a <ℤ b) xs → i ≤ j → slice_get xs i ≡ Some x → slice_get xs j ≡ Some y → x ≤ℤ y
+days_rise xs i j x y rise h e f = elim (cases_eq i j) [
+  | inl same ↦ let s : Some x ≡ Some y = sym e ∙ ap (slice_get xs) same ∙ f in let t : x ≡ y = cc in omega (arith, ints)
+  | inr other ↦
+      let in_list : j < length xs = slice_get_within xs j y f in
+      let r : get_or xs i x <ℤ get_or xs j x = rise i j x (omega arith) in_list in
+      let a : get_or xs i x ≡ x = get_or_from_slice_get xs i x x e in
+      let b : get_or xs j x ≡ y = get_or_from_slice_get xs j y x f in omega (arith, ints)
+]
+
+module _ (w v : World) (d day : ℤ) (ok : IsWorld w) (ok' : IsWorld v) (agree : Agree w v d day) where
+  -- the day of an earlier session is no later
+  day_before : (s x : ℤ) → s ≤ℤ d → day_of w s ≡ Some x → x ≤ℤ day
+  day_before s x h e = go s d h e agree.is_day
+    where
+      go : (s d : ℤ) → s ≤ℤ d → day_of w s ≡ Some x → day_of w d ≡ Some day → x ≤ℤ day
+      go (pos i) (pos j) h e f = days_rise w.days i j x day ok.days_ascend (omega (arith, ints)) e f
+      go (pos i) (negsuc j) h e f = cc
+      go (negsuc i) d h e f = cc
+
+  events_same : (a : ℕ) (low high : ℤ) → high ≤ℤ day → filter (is_between low high) (events_of w a) ≡ filter (is_between low high) (events_of v a)
+  events_same a low high h =
+      let part : (e : Event) → is_between low high e ≡ true → is_known day e ≡ true = event_known low high day h in
+      sym (filter-filter (is_between low high) (is_known day) part (events_of w a))
+      ∙ ap (filter (is_between low high)) (agree.adjustments a)
+      ∙ filter-filter (is_between low high) (is_known day) part (events_of v a)
+
+  between_same : (a : ℕ) (c : Column) (low high : Option ℤ) → ((x : ℤ) → high ≡ Some x → x ≤ℤ day) → effects_from c low high (events_of w a) ≡ effects_from c low high (events_of v a)
+  between_same a c None None h = refl
+  between_same a c None (Some y) h = refl
+  between_same a c (Some x) None h = refl
+  between_same a c (Some x) (Some y) h = ap (filter_map (effect c x)) (events_same a x y (h y refl))
+
+  seen_same : (a : ℕ) (c : Column) (s e : ℤ) → s <ℤ e → e ≤ℤ d → seen_cell w a c s e ≡ seen_cell v a c s e
+  unfolding seen_cell
+  seen_same a c s e before_e by_d =
+      let bars : bar_cell w a c s ≡ bar_cell v a c s = agree.bars a c s (omega (arith, ints)) in
+      let day_s : day_of w s ≡ day_of v s = agree.days s (omega (arith, ints)) in
+      let day_e : day_of w e ≡ day_of v e = agree.days e by_d in
+      let rows : effects w a c s e ≡ effects v a c s e =
+      between_same a c (day_of w s) (day_of w e) (λ x at_e. day_before e x by_d at_e)
+      ∙ ap (λ o. effects_from c o (day_of w e) (events_of v a)) day_s ∙ ap (λ o. effects_from c (day_of v s) o (events_of v a)) day_e in
+      ap (λ x. after_all x (effects w a c s e)) bars ∙ ap (after_all (bar_cell v a c s)) rows
+
+  pub living_same : (s : ℤ) → s ≤ℤ d → living_sids w s ≡ living_sids v s
+  living_same s h = rising_is_one (living_sids w s) (living_sids v s) (living_rise w ok (day_of w s)) (living_rise v ok' (day_of v s)) (λ a. agree.lifetimes a s h)
+
+  rows_same : (name : List ℕ) (a : ℕ) (x : ℤ) → x ≤ℤ day → filter (is_label_of name a x) w.labels ≡ filter (is_label_of name a x) v.labels
+  rows_same name a x h =
+      let part : (r : LabelRow) → is_label_of name a x r ≡ true → has_started day r ≡ true = label_started name a x day h in
+      sym (filter-filter (is_label_of name a x) (has_started day) part w.labels)
+      ∙ ap (filter (is_label_of name a x)) agree.labels
+      ∙ filter-filter (is_label_of name a x) (has_started day) part v.labels
+
+  label_same : (name : List ℕ) (a : ℕ) (s : ℤ) → s ≤ℤ d → label_at w name a s ≡ label_at v name a s
+  label_same name a s h = on_day (day_of w s) (λ x e. day_before s x h e) ∙ ap (label_on v) (agree.days s h)
+    where
+      label_on : World → Option ℤ → Option (List ℕ)
+      label_on u o = option_and_then (λ x. option_and_then (λ r. nonempty r.text) (last_started (filter (is_label_of name a x) u.labels))) o
+
+      on_day : (o : Option ℤ) → ((x : ℤ) → o ≡ Some x → x ≤ℤ day) → label_on w o ≡ label_on v o
+      on_day None h = refl
+      on_day (Some x) h = ap (λ rows. option_and_then (λ r. nonempty r.text) (last_started rows)) (rows_same name a x (h x refl))
+
+  -- ---- values
+
+  -- equal by sid at every session up to d
+  abbrev SameBy : Meaning → Meaning → Type 0
+  SameBy f g = (a : ℕ) (s : ℤ) → s ≤ℤ d → f a s ≡ g a s
+
+  now_same : (t : Term) (f g : Meaning) → SameBy f g → SameBy (now (part_of t f)) (now (part_of t g))
+  now_same absent f g h a s l = refl
+  now_same (column c) f g h a s l = refl
+  now_same (node k size x y z m p) f g h a s l = h a s l
+
+  window_same : (t : Term) (f g : Meaning) (size : ℕ) → SameBy f g → (a : ℕ) (s : ℤ) → s ≤ℤ d → window_of w size (part_of t f) a s ≡ window_of v size (part_of t g) a s
+  window_same absent f g size h a s l = refl
+  window_same (column c) f g size h a s l = ap (λ e. map e (downward size)) (fun_ext (λ n. seen_same a c (before s (suc n)) s (before_above s n) l))
+  window_same (node k n x y z m p) f g size h a s l = ap (λ e. map e (downward size)) (fun_ext (λ n. ap number_of (h a (before s n) (before_below s n d l))))
+
+  passes_same : (t : Term) (f g : Meaning) → SameBy f g → (a : ℕ) (s : ℤ) → s ≤ℤ d → passes (part_of t f) a s ≡ passes (part_of t g) a s
+  passes_same absent f g h a s l = refl
+  passes_same (column c) f g h a s l = refl
+  passes_same (node k n x y z m p) f g h a s l = ap holds (h a s l)
+
+  in_group_same : (t : Term) (f g : Meaning) → SameBy f g → (a : ℕ) (s : ℤ) (b : ℕ) → s ≤ℤ d → in_group (part_of t f) a s b ≡ in_group (part_of t g) a s b
+  in_group_same absent f g h a s b l = refl
+  in_group_same (column c) f g h a s b l = refl
+  in_group_same (node k n x y z m p) f g h a s b l = rw (h a s l, h b s l) refl
+
+  entry_same : (t : Term) (f g : Meaning) → SameBy f g → (s : ℤ) → s ≤ℤ d → (b : ℕ) → number_of (now (part_of t f) b s) ≡ number_of (now (part_of t g) b s)
+  entry_same t f g h s l b = ap number_of (now_same t f g h b s l)
+
+  eligible_same : (x m p : Term) (f f' g g' e e' : Meaning) → SameBy f f' → SameBy g g' → SameBy e e' → (a : ℕ) (s : ℤ) → s ≤ℤ d
+      → eligible w (part_of x f) (part_of m g) (part_of p e) a s ≡ eligible v (part_of x f') (part_of m g') (part_of p e') a s
+  eligible_same x m p f f' g g' e e' hf hg he a s l =
+      let entries : entry (part_of x f) s ≡ entry (part_of x f') s
+      = fun_ext (λ b. same_entry b (entry_same x f f' hf s l b)) in
+      let tests : counts_for (part_of x f) (part_of m g) (part_of p e) a s ≡ counts_for (part_of x f') (part_of m g') (part_of p e') a s
+      = fun_ext (λ b. same_test (passes_same m g g' hg b s l) (entry_same x f f' hf s l b) (in_group_same p e e' he a s b l)) in
+      rw (entries, tests, living_same s l) refl
+    where
+      same_entry : (b : ℕ) {m n : ℤ} → m ≡ n → (let r : ℕ × ℤ = (b, m) in r) ≡ (b, n)
+      same_entry b h = ap (λ n. (b, n)) h
+
+      same_test : {p p' q q' : Bool} {m n : ℤ} → p ≡ p' → m ≡ n → q ≡ q' → (p && is_present m && q) ≡ (p' && is_present n && q')
+      same_test h i j = rw (h, i, j) refl
+
+  -- the group that counts for a kind is that of a term
+  group_same : (k : CrossKind) (x m p : Term) (f f' g g' e e' : Meaning) → SameBy f f' → SameBy g g' → SameBy e e' → (a : ℕ) (s : ℤ) → s ≤ℤ d
+      → eligible w (part_of x f) (part_of m g) (group_of k (part_of x f) (part_of p e)) a s ≡ eligible v (part_of x f') (part_of m g') (group_of k (part_of x f') (part_of p e')) a s
+  group_same PeerCount x m p f f' g g' e e' hf hg he a s l = eligible_same x m x f f' g g' f f' hf hg hf a s l
+  group_same k x m p f f' g g' e e' hf hg he a s l = eligible_same x m p f f' g g' e e' hf hg he a s l
+
+  step_same : (names : List (List ℕ)) (k : Kind) (size : ℕ) (x y z m p : Term) (f f' g g' h h' q q' e e' : Meaning)
+      → SameBy f f' → SameBy g g' → SameBy h h' → SameBy q q' → SameBy e e' → (a : ℕ) (s : ℤ) → s ≤ℤ d
+      → step w names k size (part_of x f) (part_of y g) (part_of z h) (part_of m q) (part_of p e) a s
+      ≡ step v names k size (part_of x f') (part_of y g') (part_of z h') (part_of m q') (part_of p e') a s
+  unfolding step
+  step_same names (Constant cell) size x y z m p f f' g g' h h' q q' e e' hf hg hh hq he a s l = refl
+  step_same names (Label n) size x y z m p f f' g g' h h' q q' e e' hf hg hh hq he a s l = ap label_value (label_same (name_at names n) a s l)
+  step_same names (StaticSids sids) size x y z m p f f' g g' h h' q q' e e' hf hg hh hq he a s l = refl
+  step_same names (Window k) size x y z m p f f' g g' h h' q q' e e' hf hg hh hq he a s l =
+      rw (window_same x f f' size hf a s l, window_same y g g' size hg a s l, window_same z h h' size hh a s l) refl
+  step_same names (Point k) size x y z m p f f' g g' h h' q q' e e' hf hg hh hq he a s l =
+      rw (entry_same x f f' hf s l a, entry_same y g g' hg s l a, entry_same z h h' hh s l a) refl
+  step_same names (LabelTest k) size x y z m p f f' g g' h h' q q' e e' hf hg hh hq he a s l = ap (test_value k) (now_same x f f' hf a s l)
+  step_same names (Cross k) size x y z m p f f' g g' h h' q q' e e' hf hg hh hq he a s l =
+      rw (group_same k x m p f f' q q' e e' hf hq he a s l, entry_same x f f' hf s l a) refl
+  step_same names (Downsample k) size x y z m p f f' g g' h h' q q' e e' hf hg hh hq he a s l =
+      ap (now (part_of x f) a) (start-same k w.days v.days s (λ i n. agree.days (pos i) (omega (arith, ints))))
+      ∙ now_same x f f' hf a (period_start k v.days s) (omega (arith, ints, start-within k v.days s))
+
+  -- The law: values at sessions up to d are the same in both worlds.
+  pub values_agree : (names : List (List ℕ)) (t : Term) → SameBy (value w names t) (value v names t)
+  unfolding value
+  values_agree names absent a s l = refl
+  values_agree names (column c) a s l = refl
+  values_agree names (node k size x y z m p) a s l =
+      let same_mask : passes (part_of m (value w names m)) a s ≡ passes (part_of m (value v names m)) a s = passes_same m (value w names m) (value v names m) (values_agree names m) a s l in
+      let same_step : step w names k size (part_of x (value w names x)) (part_of y (value w names y)) (part_of z (value w names z)) (part_of m (value w names m)) (part_of p (value w names p)) a s
+      ≡ step v names k size (part_of x (value v names x)) (part_of y (value v names y)) (part_of z (value v names z)) (part_of m (value v names m)) (part_of p (value v names p)) a s
+      = step_same names k size x y z m p _ _ _ _ _ _ _ _ _ _ (values_agree names x) (values_agree names y) (values_agree names z) (values_agree names m) (values_agree names p) a s l in
+      rw (agree.lifetimes a s l, same_mask, same_step) refl

@@ -1,0 +1,131 @@
+-- The formulas over windows.
+use Rattle.std.specs.Prelude.{◌≡◌, pos, negsuc, refl, [], ◌∷◌, map, neg_ℤ}
+use Rattle.pl_spec.specs.Rounding.{MISSING, LIMIT}
+use Rattle.pl_spec.specs.declared.Column.TheVariants.{High, Low, Close, Volume}
+use Rattle.pl_spec.specs.Kind.{WindowKind as kind}
+use Rattle.pl_spec.specs.Formula.{formula}
+use Rattle.pl_spec.specs.Term.Term.{column}
+use Rattle.pl_spec.specs.Value.Value.{Number}
+use Rattle.pl_laws.proofs.Worked.Worlds.{opened, units, bar, alone, plain, gap, no_tables, window, at_close, by_session, on}
+
+-- ---- on 2024-01-09, after closes of 100, 102, 51, 52 and 53
+
+later_closes_weigh_more : on plain 5 (at_close kind.LinearWeightedMovingAverage 5 ∷ []) ≡ Number (units 62) ∷ []
+unfolding opened
+later_closes_weigh_more = refl
+
+-- from 100 to 53
+change_over_the_window : on plain 5 (at_close kind.Returns 5 ∷ at_close kind.PercentChange 5 ∷ at_close kind.RateOfChangePercentage 5 ∷ []) ≡ Number (negsuc 469999) ∷ Number (negsuc 469999) ∷ Number (negsuc 46999999) ∷ []
+unfolding opened
+change_over_the_window = refl
+
+-- a gain of 4 and a loss of 51
+strength_is_the_gains_part : on plain 5 (at_close kind.RSI 5 ∷ []) ≡ Number (pos 7272727) ∷ []
+unfolding opened
+strength_is_the_gains_part = refl
+
+-- of 52 and 53
+deviation_and_its_bands : on plain 5 (at_close kind.WindowStd 2 ∷ at_close kind.BollingerMiddle 2 ∷ at_close (kind.BollingerUpper (units 2)) 2 ∷ at_close (kind.BollingerLower (units 2)) 2 ∷ [])
+    ≡ Number (pos 500000) ∷ Number (pos 52500000) ∷ Number (pos 53500000) ∷ Number (pos 51500000) ∷ []
+unfolding opened
+deviation_and_its_bands = refl
+
+weights_fade_by_half : on plain 5 (at_close (kind.ExponentialWeightedMovingAverage (pos 500000)) 2 ∷ []) ≡ Number (pos 52666667) ∷ []
+unfolding opened
+weights_fade_by_half = refl
+
+-- the greatest high is the second of five, the least low the third
+places_of_the_extremes : on plain 5 (window kind.AroonUp 5 (column High ∷ []) ∷ window kind.AroonDown 5 (column Low ∷ []) ∷ []) ≡ Number (units 25) ∷ Number (units 50) ∷ []
+unfolding opened
+places_of_the_extremes = refl
+
+-- 53 between 51 and 102
+close_within_the_range : on plain 5 (window kind.FastStochasticOscillator 5 (column Close ∷ column Low ∷ column High ∷ []) ∷ []) ≡ Number (pos 3921569) ∷ []
+unfolding opened
+close_within_the_range = refl
+
+range_with_the_close_before : on plain 5 (window kind.TrueRange 2 (column High ∷ column Low ∷ column Close ∷ []) ∷ []) ≡ Number (units 1) ∷ []
+unfolding opened
+range_with_the_close_before = refl
+
+dollar_volume_and_price_by_volume : on plain 5 (window kind.AverageDollarVolume 5 (column Close ∷ column Volume ∷ []) ∷ window kind.VWAP 5 (column Close ∷ column Volume ∷ []) ∷ []) ≡ Number (units 716) ∷ Number (pos 71600000) ∷ []
+unfolding opened
+dollar_volume_and_price_by_volume = refl
+
+sum_least_and_greatest : on plain 5 (at_close kind.WindowSum 5 ∷ at_close kind.WindowMin 5 ∷ at_close kind.WindowMax 5 ∷ at_close kind.SimpleMovingAverage 5 ∷ []) ≡ Number (units 358) ∷ Number (units 51) ∷ Number (units 102) ∷ Number (pos 71600000) ∷ []
+unfolding opened
+sum_least_and_greatest = refl
+
+-- ---- a window over a term
+
+returns_of_two_days : by_session plain (at_close kind.Returns 2) (4 ∷ 5 ∷ []) ≡ Number (pos 19608) ∷ Number (pos 19231) ∷ []
+unfolding opened
+returns_of_two_days = refl
+
+mean_of_returns : on plain 5 (window kind.SimpleMovingAverage 2 (at_close kind.Returns 2 ∷ []) ∷ []) ≡ Number (pos 19420) ∷ []
+unfolding opened
+mean_of_returns = refl
+
+-- ---- no bar on 2024-01-03
+
+mean_leaves_out_what_is_missing : on gap 3 (at_close kind.SimpleMovingAverage 3 ∷ []) ≡ Number (pos 75500000) ∷ []
+unfolding opened
+mean_leaves_out_what_is_missing = refl
+
+mean_of_nothing_is_missing : on gap 2 (at_close kind.SimpleMovingAverage 1 ∷ at_close kind.WindowSum 1 ∷ at_close kind.WindowMax 1 ∷ at_close kind.WindowStd 1 ∷ []) ≡ Number MISSING ∷ Number MISSING ∷ Number MISSING ∷ Number MISSING ∷ []
+unfolding opened
+mean_of_nothing_is_missing = refl
+
+-- the ends of the range of cells, and one that is missing
+extremes_of_what_is_present : formula kind.WindowMin (pos LIMIT ∷ MISSING ∷ neg_ℤ (pos LIMIT) ∷ []) [] [] ∷ formula kind.WindowMax (pos LIMIT ∷ MISSING ∷ neg_ℤ (pos LIMIT) ∷ []) [] [] ∷ [] ≡ neg_ℤ (pos LIMIT) ∷ pos LIMIT ∷ []
+unfolding opened
+extremes_of_what_is_present = refl
+
+some_sums_of_nothing_are_zero : on gap 2 (at_close kind.LinearWeightedMovingAverage 1 ∷ window kind.AverageDollarVolume 1 (column Close ∷ column Volume ∷ []) ∷ []) ≡ Number (pos 0) ∷ Number (pos 0) ∷ []
+unfolding opened
+some_sums_of_nothing_are_zero = refl
+
+faded_mean_wants_every_value : on gap 3 (at_close (kind.ExponentialWeightedMovingAverage (pos 500000)) 3 ∷ at_close kind.Returns 2 ∷ []) ≡ Number MISSING ∷ Number MISSING ∷ []
+unfolding opened
+faded_mean_wants_every_value = refl
+
+-- the previous close is missing
+range_of_what_is_present : formula kind.TrueRange (units 5 ∷ units 9 ∷ []) (units 4 ∷ units 6 ∷ []) (MISSING ∷ units 7 ∷ []) ≡ units 3
+unfolding opened
+range_of_what_is_present = refl
+
+-- from 4 up to 9, past the day's own range from 8 to 9
+range_over_a_gap_in_price : formula kind.TrueRange (units 5 ∷ units 9 ∷ []) (units 4 ∷ units 8 ∷ []) (units 4 ∷ units 9 ∷ []) ≡ units 5
+unfolding opened
+range_over_a_gap_in_price = refl
+
+no_volume_gives_no_price : on (alone (bar 1 0 (units 100) (pos 0) ∷ bar 1 1 (units 102) (pos 0) ∷ []) no_tables) 2 (window kind.VWAP 2 (column Close ∷ column Volume ∷ []) ∷ []) ≡ Number MISSING ∷ []
+unfolding opened
+no_volume_gives_no_price = refl
+
+-- weights of 1, 3 and a missing value of weight 4
+all_present_weights_divide : formula kind.WeightedAverageValue (units 10 ∷ units 20 ∷ MISSING ∷ []) (units 1 ∷ units 3 ∷ units 4 ∷ []) [] ≡ pos 8750000
+unfolding opened
+all_present_weights_divide = refl
+
+-- ---- gains alone, and neither gains nor losses
+
+strength_without_losses : formula kind.RSI (units 1 ∷ units 2 ∷ units 4 ∷ []) [] [] ∷ formula kind.RSI (units 3 ∷ units 3 ∷ []) [] [] ∷ [] ≡ units 100 ∷ MISSING ∷ []
+unfolding opened
+strength_without_losses = refl
+
+-- the first of equal extremes counts
+first_of_equal_extremes : formula kind.AroonUp (units 1 ∷ units 3 ∷ units 3 ∷ []) [] [] ∷ formula kind.AroonDown (units 1 ∷ units 3 ∷ units 1 ∷ []) [] [] ∷ [] ≡ units 50 ∷ pos 0 ∷ []
+unfolding opened
+first_of_equal_extremes = refl
+
+-- percent change is over the magnitude of the first value, returns over the value
+change_of_a_negative_value : formula kind.PercentChange (negsuc 3999999 ∷ units 2 ∷ []) [] [] ∷ formula kind.Returns (negsuc 3999999 ∷ units 2 ∷ []) [] [] ∷ [] ≡ pos 1500000 ∷ negsuc 1499999 ∷ []
+unfolding opened
+change_of_a_negative_value = refl
+
+-- ---- filters over windows
+
+some_all_and_many : map (λ k. formula k (pos 1 ∷ pos 0 ∷ pos 1 ∷ []) [] []) (kind.All ∷ kind.Any ∷ kind.AtLeastN 2 ∷ kind.AtLeastN 3 ∷ []) ≡ pos 0 ∷ pos 1 ∷ pos 1 ∷ pos 0 ∷ []
+unfolding opened
+some_all_and_many = refl

@@ -1,0 +1,9 @@
+use Rattle.std.proofs.Common.{pos}
+use Rattle.pl_spec.specs.AsOf.{as_of}
+use Rattle.pl_laws.proofs.AsOf.{is-world, agrees}
+use Rattle.pl_laws.proofs.TableLaw.{table_same}
+use Rattle.pl_laws.proofs.laws.tables_as_of.Goals as goal
+
+pub returns : goal.returns
+returns c w d day ok at_d p from to h =
+    table_same (as_of w d day) w (pos d) day (is-world w d day ok) ok (agrees w d day at_d) p from to h

@@ -1,0 +1,8 @@
+-- The laws, each the contract of a function.
+pub mod Laws
+pub mod Reaching
+pub mod AsOfLaws
+pub mod LowLaws
+pub mod ListLaws
+pub mod DateLaws
+pub mod SidLaws

@@ -1,0 +1,399 @@
+-- Rows that are read are those of the records, and the fault is the first.
+use Rattle.std.proofs.Common.{◌≡◌, ◌≢◌, Bool, true, false, bytes_eq, ℕ, zero, suc, ◌+◌, ◌<◌, ◌≤◌, ◌↔◌, List, [], ◌∷◌, ◌++◌, length, take, drop, Option, Some, None, IfSome, Result, Ok, Err, refl, sym, ◌∙◌, ap, subst, arith, append_assoc, length-append, inl, inr, add-one}
+use Rattle.std.specs.List.{slice_get}
+use Rattle.std.specs.Bool.{Decides, if◌then◌else◌}
+use Rattle.std.specs.Option.{ok_or}
+use Rattle.std.proofs.lemmas.Slice.Eq.{bytes_eq-Decides}
+use lib.Pointwise.{pointwise, pointwise_decides}
+use Rattle.std.proofs.lemmas.Bool.{cases_lt}
+use Rattle.std.proofs.lemmas.List.{take-append-le}
+use Rattle.std.proofs.lemmas.Option.{slice_get_within}
+use Rattle.std.proofs.Math.Seq.{take-append_seam}
+use Rattle.pl_records.specs.Reading.{rows_under, has_header, Record, field, Fault, ◌>>=◌, at_line, rows_behind, rows_of, AreRows, IsFirstFault, BreaksFirst, Judges, AreRowsUnder, IsFaultUnder}
+
+pub rows-stop : {Row R : Type 0} (first : ℕ) (says : List Row → Record → Result Row R) (before : List Row) (r : Record) (rs : List Record) (rule : R)
+    → says before r ≡ Err rule → rows_behind first says before (r ∷ rs) ≡ Err (record { rule = rule; line = first + length before })
+unfolding rows_behind
+rows-stop first says before r rs rule e = rw e refl
+
+-- what holds of no rows, and of each row behind rows of which it holds, holds of the rows that are read
+pub rows-keep : {Row R : Type 0} (P : List Row → Type 0) (first : ℕ) (says : List Row → Record → Result Row R)
+    → ((before : List Row) (r : Record) (row : Row) → P before → says before r ≡ Ok row → P (before ++ row ∷ []))
+    → (rs : List Record) (before rows : List Row) → P before → rows_behind first says before rs ≡ Ok rows → P rows
+unfolding rows_behind
+rows-keep P first says step [] before rows p e =
+    let same : before ≡ rows = cc in rw (← same) p
+rows-keep {Row} {R} P first says step (r ∷ rs) before rows p e =
+    here (says before r) refl (λ row q. rows-keep P first says step rs (before ++ row ∷ []) rows q) e
+  where
+    here : (x : Result Row R) → says before r ≡ x → ((row : Row) → P (before ++ row ∷ []) → rows_behind first says (before ++ row ∷ []) rs ≡ Ok rows → P rows)
+        → (at_line (first + length before) x >>= λ row. rows_behind first says (before ++ row ∷ []) rs) ≡ Ok rows → P rows
+    here (Ok row) was more e = more row (step before r row p was) e
+    here (Err rule) was more e = absurd (cc)
+
+-- ---- places in lists
+
+at_front : {A : Type 0} (xs ys : List A) (k : ℕ) → k < length xs → slice_get (xs ++ ys) k ≡ slice_get xs k
+at_front [] ys k h = absurd (omega arith)
+at_front (x ∷ xs) ys zero h = refl
+at_front (x ∷ xs) ys (suc k) h = at_front xs ys k (omega arith)
+
+at_seam : {A : Type 0} (xs : List A) (y : A) (ys : List A) → slice_get (xs ++ y ∷ ys) (length xs) ≡ Some y
+at_seam [] y ys = refl
+at_seam (x ∷ xs) y ys = at_seam xs y ys
+
+take_front : {A : Type 0} (xs ys : List A) (k : ℕ) → k ≤ length xs → take k (xs ++ ys) ≡ take k xs
+take_front xs ys k h = take-append-le k xs ys h
+
+take_one_more : {A : Type 0} (xs : List A) (k : ℕ) (x : A) → slice_get xs k ≡ Some x → take (suc k) xs ≡ take k xs ++ x ∷ []
+take_one_more [] k x e = absurd (cc)
+take_one_more (y ∷ ys) zero x e = let same : y ≡ x = cc in ap (λ z. z ∷ []) same
+take_one_more (y ∷ ys) (suc k) x e = ap (λ zs. y ∷ zs) (take_one_more ys k x e)
+
+take_all : {A : Type 0} (xs : List A) (n : ℕ) → length xs ≤ n → take n xs ≡ xs
+take_all [] zero h = refl
+take_all [] (suc n) h = refl
+take_all (x ∷ xs) zero h = absurd (omega arith)
+take_all (x ∷ xs) (suc n) h = ap (λ ys. x ∷ ys) (take_all xs n (omega arith))
+
+nothing_behind : {A : Type 0} (xs : List A) → xs ++ [] ≡ xs
+nothing_behind [] = refl
+nothing_behind (x ∷ xs) = ap (λ ys. x ∷ ys) (nothing_behind xs)
+
+-- ---- rows and their records
+
+-- the row that a judgement says, and the rule that it names
+abbrev pub Says : {Row R : Type 0} → (List Row → Record → Result Row R) → List Row → Record → Row → Type 0
+Says says before r row = says before r ≡ Ok row
+
+abbrev pub Names : {Row R : Type 0} → (List Row → Record → Result Row R) → List Row → Record → R → Type 0
+Names says before r rule = says before r ≡ Err rule
+
+AreRows-none : {Row R : Type 0} (says : List Row → Record → Result Row R) → AreRows (Says says) [] []
+AreRows-none says = record { as_many = refl; each = λ k r e. absurd (cc) }
+
+AreRows-more : {Row R : Type 0} (says : List Row → Record → Result Row R) (records : List Record) (rows : List Row) (r : Record) (row : Row)
+    → AreRows (Says says) records rows → says rows r ≡ Ok row → AreRows (Says says) (records ++ r ∷ []) (rows ++ row ∷ [])
+AreRows-more {Row} {R} says records rows r row h e =
+    record {
+      as_many = omega (arith, h.as_many, length-append rows (row ∷ []), length-append records (r ∷ []));
+      each = each;
+    }
+  where
+    each : (k : ℕ) (q : Record) → slice_get (records ++ r ∷ []) k ≡ Some q
+        → (z : Row) × (slice_get (rows ++ row ∷ []) k ≡ Some z) × (says (take k (rows ++ row ∷ [])) q ≡ Ok z)
+    each k q at = elim (cases_lt k (length records)) [
+      | inl lt ↦
+          let within : k < length rows = omega (arith, h.as_many) in
+          let old = h.each k q (sym (at_front records (r ∷ []) k lt) ∙ at) in
+          (old.0, at_front rows (row ∷ []) k within ∙ old.1, rw (take_front rows (row ∷ []) k (omega arith)) old.2)
+      | inr ge ↦
+          let all : k < length (records ++ r ∷ []) = slice_get_within (records ++ r ∷ []) k q at in
+          let last : k ≡ length records = omega (arith, length-append records (r ∷ [])) in
+          let last' : k ≡ length rows = omega (arith, h.as_many) in
+          let same : Some q ≡ Some r = sym at ∙ ap (slice_get (records ++ r ∷ [])) last ∙ at_seam records r [] in
+          let q_is : q ≡ r = cc in
+          (row, ap (slice_get (rows ++ row ∷ [])) last' ∙ at_seam rows row [], ap (λ n. says (take n (rows ++ row ∷ [])) q) last' ∙ ap (λ before. says before q) (take-append_seam rows (row ∷ [])) ∙ ap (says rows) q_is ∙ e)
+    ]
+
+-- what is read behind rows of the records that are done
+reads : {Row R : Type 0} (first : ℕ) (says : List Row → Record → Result Row R) (rest done : List Record) (before rows : List Row)
+    → AreRows (Says says) done before → rows_behind first says before rest ≡ Ok rows → AreRows (Says says) (done ++ rest) rows
+unfolding rows_behind
+reads first says [] done before rows h e =
+    let same : before ≡ rows = cc in rw (nothing_behind done, ← same) h
+reads {Row} {R} first says (r ∷ rs) done before rows h e =
+    here (says before r) refl (λ row. reads first says rs (done ++ r ∷ []) (before ++ row ∷ []) rows) e
+  where
+    here : (x : Result Row R) → says before r ≡ x
+        → ((row : Row) → AreRows (Says says) (done ++ r ∷ []) (before ++ row ∷ []) → rows_behind first says (before ++ row ∷ []) rs ≡ Ok rows → AreRows (Says says) ((done ++ r ∷ []) ++ rs) rows)
+        → (at_line (first + length before) x >>= λ row. rows_behind first says (before ++ row ∷ []) rs) ≡ Ok rows → AreRows (Says says) (done ++ r ∷ rs) rows
+    here (Ok row) was more e = rw append_assoc at (more row (AreRows-more says done before r row h was) e)
+    here (Err rule) was more e = absurd (cc)
+
+fails : {Row R : Type 0} (first : ℕ) (says : List Row → Record → Result Row R) (rest done : List Record) (before : List Row) (fault : Fault R)
+    → AreRows (Says says) done before → rows_behind first says before rest ≡ Err fault → IsFirstFault first (Says says) (Names says) (done ++ rest) fault
+unfolding rows_behind
+fails first says [] done before fault h e = absurd (cc)
+fails {Row} {R} first says (r ∷ rs) done before fault h e =
+    here (says before r) refl (λ row. fails first says rs (done ++ r ∷ []) (before ++ row ∷ []) fault) e
+  where
+    here : (x : Result Row R) → says before r ≡ x
+        → ((row : Row) → AreRows (Says says) (done ++ r ∷ []) (before ++ row ∷ []) → rows_behind first says (before ++ row ∷ []) rs ≡ Err fault → IsFirstFault first (Says says) (Names says) ((done ++ r ∷ []) ++ rs) fault)
+        → (at_line (first + length before) x >>= λ row. rows_behind first says (before ++ row ∷ []) rs) ≡ Err fault → IsFirstFault first (Says says) (Names says) (done ++ r ∷ rs) fault
+    here (Ok row) was more e = rw append_assoc at (more row (AreRows-more says done before r row h was) e)
+    here (Err rule) was more e =
+        let same : record { rule = rule; line = first + length before } ≡ fault = cc in
+        record {
+          front = done;
+          faulty = r;
+          back = rs;
+          rows = before;
+          parts = refl;
+          right = h;
+          breaks = was ∙ ap (λ (f : Fault R). Err f.rule) same;
+          numbered = sym (ap (λ (f : Fault R). f.line) same) ∙ ap (λ n. first + n) h.as_many;
+        }
+
+-- and back
+read_back : {Row R : Type 0} (first : ℕ) (says : List Row → Record → Result Row R) (rest done : List Record) (before rows : List Row)
+    → AreRows (Says says) (done ++ rest) rows → take (length done) rows ≡ before → rows_behind first says before rest ≡ Ok rows
+unfolding rows_behind
+read_back first says [] done before rows h e =
+    let n : length rows ≤ length done = omega (arith, h.as_many, ap length (nothing_behind done)) in
+    ap Ok (sym e ∙ take_all rows (length done) n)
+read_back {Row} {R} first says (r ∷ rs) done before rows h e =
+    let it = h.each (length done) r (at_seam done r rs) in
+    let was : says before r ≡ Ok it.0 = rw e at it.2 in
+    let next : take (length (done ++ r ∷ [])) rows ≡ before ++ it.0 ∷ [] = rw (length-append done (r ∷ []), add-one (length done)) (take_one_more rows (length done) it.0 it.1 ∙ ap (λ xs. xs ++ it.0 ∷ []) e) in
+    rw was (read_back first says rs (done ++ r ∷ []) (before ++ it.0 ∷ []) rows (rw append_assoc h) next)
+
+rows-append : {Row R : Type 0} (first : ℕ) (says : List Row → Record → Result Row R) (xs ys : List Record) (before rows : List Row)
+    → rows_behind first says before xs ≡ Ok rows → rows_behind first says before (xs ++ ys) ≡ rows_behind first says rows ys
+unfolding rows_behind
+rows-append first says [] ys before rows e = let same : before ≡ rows = cc in ap (λ b. rows_behind first says b ys) same
+rows-append {Row} {R} first says (r ∷ rs) ys before rows e =
+    here (says before r) (λ row. rows-append first says rs ys (before ++ row ∷ []) rows) e
+  where
+    here : (x : Result Row R)
+        → ((row : Row) → rows_behind first says (before ++ row ∷ []) rs ≡ Ok rows → rows_behind first says (before ++ row ∷ []) (rs ++ ys) ≡ rows_behind first says rows ys)
+        → (at_line (first + length before) x >>= λ row. rows_behind first says (before ++ row ∷ []) rs) ≡ Ok rows
+        → (at_line (first + length before) x >>= λ row. rows_behind first says (before ++ row ∷ []) (rs ++ ys)) ≡ rows_behind first says rows ys
+    here (Ok row) more e = more row e
+    here (Err rule) more e = absurd (cc)
+
+said_rows : {Row R : Type 0} (first : ℕ) (says : List Row → Record → Result Row R) (records : List Record) (rows : List Row)
+    → (rows_of first says records ≡ Ok rows) ↔ AreRows (Says says) records rows
+said_rows first says records rows =
+    (reads first says records [] [] rows (AreRows-none says), λ h. read_back first says records [] [] rows h refl)
+
+said_fault : {Row R : Type 0} (first : ℕ) (says : List Row → Record → Result Row R) (records : List Record) (fault : Fault R)
+    → (rows_of first says records ≡ Err fault) ↔ IsFirstFault first (Says says) (Names says) records fault
+said_fault {Row} {R} first says records fault = (fails first says records [] [] fault (AreRows-none says), back)
+  where
+    back : IsFirstFault first (Says says) (Names says) records fault → rows_of first says records ≡ Err fault
+    back h =
+        let read : rows_of first says h.front ≡ Ok h.rows = read_back first says h.front [] [] h.rows h.right refl in
+        let line : first + length h.rows ≡ fault.line = ap (λ n. first + n) h.right.as_many ∙ sym h.numbered in
+        rw h.parts (rows-append first says h.front (h.faulty ∷ h.back) [] h.rows read
+        ∙ rows-stop first says h.rows h.faulty h.back fault.rule h.breaks
+        ∙ ap (λ n. Err (record { rule = fault.rule; line = n })) line)
+
+-- ---- by what a row and a broken rule are
+
+AreRows-other : {Row : Type 0} (P Q : List Row → Record → Row → Type 0) → ((before : List Row) (r : Record) (row : Row) → P before r row → Q before r row)
+    → (records : List Record) (rows : List Row) → AreRows P records rows → AreRows Q records rows
+AreRows-other P Q f records rows h =
+    record {
+      as_many = h.as_many;
+      each = λ k r e. (let it = h.each k r e in (it.0, it.1, f (take k rows) r it.0 it.2));
+    }
+
+IsFirstFault-other : {Row R : Type 0} (first : ℕ) (P P' : List Row → Record → Row → Type 0) (Q Q' : List Row → Record → R → Type 0)
+    → ((before : List Row) (r : Record) (row : Row) → P before r row → P' before r row)
+    → ((before : List Row) (r : Record) (rule : R) → Q before r rule → Q' before r rule)
+    → (records : List Record) (fault : Fault R) → IsFirstFault first P Q records fault → IsFirstFault first P' Q' records fault
+IsFirstFault-other first P P' Q Q' f g records fault h =
+    record {
+      front = h.front;
+      faulty = h.faulty;
+      back = h.back;
+      rows = h.rows;
+      parts = h.parts;
+      right = AreRows-other P P' f h.front h.rows h.right;
+      breaks = g h.rows h.faulty fault.rule h.breaks;
+      numbered = h.numbered;
+    }
+
+-- the rows are read exactly where they are those of the records
+pub rows-are : {Row R : Type 0} (first : ℕ) (IsRow : List Row → Record → Row → Type 0) (Breaks : List Row → Record → R → Type 0) (says : List Row → Record → Result Row R)
+    → Judges IsRow Breaks says → (records : List Record) (rows : List Row) → (rows_of first says records ≡ Ok rows) ↔ AreRows IsRow records rows
+rows-are first IsRow Breaks says j records rows = (
+  λ e. AreRows-other (Says says) IsRow (λ before r row. (j.row before r row).0) records rows ((said_rows first says records rows).0 e),
+  λ h. (said_rows first says records rows).1 (AreRows-other IsRow (Says says) (λ before r row. (j.row before r row).1) records rows h),
+)
+
+-- and the fault is told exactly where it is the first
+pub fault-is : {Row R : Type 0} (first : ℕ) (IsRow : List Row → Record → Row → Type 0) (Breaks : List Row → Record → R → Type 0) (says : List Row → Record → Result Row R)
+    → Judges IsRow Breaks says → (records : List Record) (fault : Fault R) → (rows_of first says records ≡ Err fault) ↔ IsFirstFault first IsRow Breaks records fault
+fault-is first IsRow Breaks says j records fault = (
+  λ e. IsFirstFault-other first (Says says) IsRow (Names says) Breaks (λ before r row. (j.row before r row).0) (λ before r rule. (j.rule before r rule).0) records fault
+      ((said_fault first says records fault).0 e),
+  λ h. (said_fault first says records fault).1 (IsFirstFault-other first IsRow (Says says) Breaks (Names says) (λ before r row. (j.row before r row).1) (λ before r rule. (j.rule before r rule).1) records fault h),
+)
+
+-- no more rows than records
+pub rows-as_many : {Row R : Type 0} (first : ℕ) (says : List Row → Record → Result Row R) (records : List Record) (rows : List Row) → rows_of first says records ≡ Ok rows → length rows ≡ length records
+rows-as_many first says records rows e = let it = (said_rows first says records rows).0 e in it.as_many
+
+-- ---- records as lists of fields
+
+pub same_record : (r names : Record) → Decides (pointwise bytes_eq r names) (r ≡ names)
+same_record r names = pointwise_decides bytes_eq-Decides r names
+
+pub record_from_fields : (r names : Record) → length r ≡ length names → ((k : ℕ) → k < length names → field r k ≡ field names k) → r ≡ names
+record_from_fields [] [] n h = refl
+record_from_fields [] (x ∷ xs) n h = absurd (omega arith)
+record_from_fields (x ∷ xs) [] n h = absurd (omega arith)
+record_from_fields (x ∷ xs) (y ∷ ys) n h =
+    let first : x ≡ y = h 0 (omega arith) in
+    let rest : xs ≡ ys = record_from_fields xs ys (omega arith) (λ k l. h (suc k) (omega arith)) in cc
+
+pub same_record-true : (r names : Record) → length r ≡ length names → ((k : ℕ) → k < length names → field r k ≡ field names k) → true ≡ pointwise bytes_eq r names
+same_record-true r names n h = sym ((same_record r names).1 (record_from_fields r names n h))
+
+pub same_record-false : (r names : Record) → (r ≡ names → ⊥) → false ≡ pointwise bytes_eq r names
+same_record-false r names h = sym (not_true _ (λ e. h ((same_record r names).0 e)))
+  where
+    not_true : (b : Bool) → (b ≡ true → ⊥) → b ≡ false
+    not_true true f = absurd (f refl)
+    not_true false f = refl
+
+-- ---- for a loop that reads a record at a time: all is the reading of all records
+
+pub goes_on : {Row R : Type 0} (first : ℕ) (says : List Row → Record → Result Row R) (before : List Row) (left rs : List Record) (r : Record) (row : Row) (all : Result (List Row) (Fault R))
+    → left ≡ r ∷ rs → at_line (first + length before) (says before r) ≡ Ok row → rows_behind first says before left ≡ all → rows_behind first says (before ++ row ∷ []) rs ≡ all
+unfolding rows_behind
+goes_on {Row} {R} first says before left rs r row all e was so_far =
+    let one : rows_behind first says before (r ∷ rs) ≡ rows_behind first says (before ++ row ∷ []) rs = rw was refl in
+    sym one ∙ ap (rows_behind first says before) (sym e) ∙ so_far
+
+pub stops : {Row R : Type 0} (first : ℕ) (says : List Row → Record → Result Row R) (before : List Row) (left rs : List Record) (r : Record) (o : Option (Fault R)) (all : Result (List Row) (Fault R))
+    → left ≡ r ∷ rs → IfSome o (λ f. at_line (first + length before) (says before r) ≡ Err f) → rows_behind first says before left ≡ all → IfSome o (λ f. all ≡ Err f)
+unfolding rows_behind
+stops {Row} {R} first says before left rs r None all e was so_far = tt
+stops {Row} {R} first says before left rs r (Some f) all e was so_far =
+    let one : rows_behind first says before (r ∷ rs) ≡ Err f = rw was refl in
+    sym so_far ∙ ap (rows_behind first says before) e ∙ one
+
+pub is_done : {Row R : Type 0} (first : ℕ) (says : List Row → Record → Result Row R) (before : List Row) (left : List Record) (all : Result (List Row) (Fault R))
+    → left ≡ [] → rows_behind first says before left ≡ all → all ≡ Ok before
+unfolding rows_behind
+is_done first says before left all e so_far = sym so_far ∙ ap (rows_behind first says before) e
+
+-- ---- what is known of a record that says a row
+
+pub guard_ok : {A R : Type 0} (b : Bool) (rule : R) (y : Result A R) (x : A) → (if b then Err rule else y) ≡ Ok x → (b ≡ false) × (y ≡ Ok x)
+guard_ok true rule y x e = absurd (let bad : Err rule ≡ Ok x = e in cc)
+guard_ok false rule y x e = (refl, e)
+
+pub some_ok : {A B R : Type 0} (o : Option A) (rule : R) (f : A → Result B R) (x : B) → (ok_or o rule >>= f) ≡ Ok x → (a : A) × (o ≡ Some a) × (f a ≡ Ok x)
+some_ok None rule f x e = absurd (let bad : Err rule ≡ Ok x = e in cc)
+some_ok (Some a) rule f x e = (a, refl, e)
+
+pub under_ok : {Row R : Type 0} (names : Record) (bad : R) (says : List Row → Record → Result Row R) (records : List Record) (rows : List Row)
+    → rows_under names bad says records ≡ Ok rows → (has_header names records ≡ true) × (rows_of 2 says (drop 1 records) ≡ Ok rows)
+under_ok {Row} {R} names bad says records rows e = here (has_header names records) refl e
+  where
+    here : (b : Bool) → has_header names records ≡ b → (if b then rows_of 2 says (drop 1 records) else Err (record { rule = bad; line = 1 })) ≡ Ok rows
+        → (has_header names records ≡ true) × (rows_of 2 says (drop 1 records) ≡ Ok rows)
+    here true t e = (t, e)
+    here false t e = absurd (cc)
+
+-- ---- and of one that breaks a rule
+
+pub guard_on : {A R : Type 0} (b : Bool) (rule : R) (y : Result A R) → b ≡ false → (if b then Err rule else y) ≡ y
+guard_on b rule y e = rw e refl
+
+pub guard_err : {A R : Type 0} (b : Bool) (rule : R) (y : Result A R) → b ≡ true → (if b then Err rule else y) ≡ Err rule
+guard_err b rule y e = rw e refl
+
+pub some_on : {A B R : Type 0} (o : Option A) (rule : R) (f : A → Result B R) (a : A) → o ≡ Some a → (ok_or o rule >>= f) ≡ f a
+some_on o rule f a e = rw e refl
+
+pub none_err : {A B R : Type 0} (o : Option A) (rule : R) (f : A → Result B R) → o ≡ None → (ok_or o rule >>= f) ≡ Err rule
+none_err o rule f e = rw e refl
+
+pub told : {A R : Type 0} (x : Result A R) (rule : R) (n m : ℕ) → x ≡ Err rule → n ≡ m → at_line n x ≡ Err (record { rule = rule; line = m })
+told x rule n m e f = rw (e, f) refl
+
+-- ---- a judgement that names the first rule that is broken
+
+-- A row keeps every rule, a record has one row, and the place of a rule tells it: so it is enough that what the judgement
+-- says is right.
+pub Judges-from : {Row R : Type 0} (IsRow : List Row → Record → Row → Type 0) (Breaks : List Row → Record → R → Type 0) (says : List Row → Record → Result Row R) (order : R → ℕ) (rule_at : ℕ → R)
+    → ((q : R) → rule_at (order q) ≡ q)
+    → ((before : List Row) (r : Record) (row : Row) → says before r ≡ Ok row → IsRow before r row)
+    → ((before : List Row) (r : Record) (rule : R) → says before r ≡ Err rule → BreaksFirst order (Breaks before r) rule)
+    → ((before : List Row) (r : Record) (x y : Row) → IsRow before r x → IsRow before r y → x ≡ y)
+    → ((before : List Row) (r : Record) (row : Row) → IsRow before r row → (q : R) → Breaks before r q → ⊥)
+    → Judges IsRow (λ before r. BreaksFirst order (Breaks before r)) says
+Judges-from {Row} {R} IsRow Breaks says order rule_at at ok err one kept =
+    record {
+      row = λ before r row. (ok before r row, says_row before r row (says before r) refl);
+      rule = λ before r rule. (err before r rule, says_rule before r rule (says before r) refl);
+    }
+  where
+    says_row : (before : List Row) (r : Record) (row : Row) (x : Result Row R) → says before r ≡ x → IsRow before r row → x ≡ Ok row
+    says_row before r row (Ok y) e h = ap Ok (one before r y row (ok before r y e) h)
+    says_row before r row (Err q) e h = absurd (let b = err before r q e in kept before r row h q b.breaks)
+
+    says_rule : (before : List Row) (r : Record) (rule : R) (x : Result Row R) → says before r ≡ x → BreaksFirst order (Breaks before r) rule → x ≡ Err rule
+    says_rule before r rule (Ok y) e h = absurd (kept before r y (ok before r y e) rule h.breaks)
+    says_rule before r rule (Err q) e h = ap Err (same (err before r q e))
+      where
+        same : BreaksFirst order (Breaks before r) q → q ≡ rule
+        same b = elim (cases_lt (order q) (order rule)) [
+          | inl lt ↦ absurd (h.no_earlier q lt b.breaks)
+          | inr ge ↦ elim (cases_lt (order rule) (order q)) [
+            | inl lt ↦ absurd (b.no_earlier rule lt h.breaks)
+            | inr le ↦ (let level : order q ≡ order rule = omega arith in sym (at q) ∙ ap rule_at level ∙ at rule)
+          ]
+        ]
+
+-- one rule more is kept
+pub passed-more : {R : Type 0} (order : R → ℕ) (rule_at : ℕ → R) → ((q : R) → rule_at (order q) ≡ q) → (Breaks : R → Type 0) (n : ℕ)
+    → ((q : R) → order q < n → Breaks q → ⊥) → (Breaks (rule_at n) → ⊥) → (q : R) → order q < n + 1 → Breaks q → ⊥
+passed-more order rule_at at Breaks n passed here q l b = elim (cases_lt (order q) n) [
+  | inl lt ↦ passed q lt b
+  | inr ge ↦ (let same : order q ≡ n = omega arith in here (subst Breaks (sym (at q) ∙ ap rule_at same) b))
+]
+
+-- ---- rows under a header
+
+header-there : (names : Record) (records : List Record) → has_header names records ≡ true → records ≡ names ∷ drop 1 records
+header-there names [] e = absurd (let no : false ≡ true = e in cc)
+header-there names (r ∷ rs) e = ap (λ x. x ∷ rs) ((same_record r names).0 e)
+
+header-found : (names : Record) (records behind : List Record) → records ≡ names ∷ behind → has_header names records ≡ true
+header-found names records behind e = rw e ((same_record names names).1 refl)
+
+behind-header : (names : Record) (records behind : List Record) → records ≡ names ∷ behind → drop 1 records ≡ behind
+behind-header names records behind e = ap (drop 1) e
+
+pub under-are : {Row R : Type 0} (names : Record) (bad : R) (IsRow : List Row → Record → Row → Type 0) (Breaks : List Row → Record → R → Type 0) (says : List Row → Record → Result Row R)
+    → Judges IsRow Breaks says → (records : List Record) (rows : List Row) → (rows_under names bad says records ≡ Ok rows) ↔ AreRowsUnder names IsRow records rows
+under-are names bad IsRow Breaks says j records rows = (there, back)
+  where
+    there : rows_under names bad says records ≡ Ok rows → AreRowsUnder names IsRow records rows
+    there e =
+        let it = under_ok names bad says records rows e in
+        record { behind = drop 1 records; parts = header-there names records it.0; right = (rows-are 2 IsRow Breaks says j (drop 1 records) rows).0 it.1 }
+
+    back : AreRowsUnder names IsRow records rows → rows_under names bad says records ≡ Ok rows
+    back h =
+        rw (header-found names records h.behind h.parts)
+        (ap (rows_of 2 says) (behind-header names records h.behind h.parts) ∙ (rows-are 2 IsRow Breaks says j h.behind rows).1 h.right)
+
+pub under-fault : {Row R : Type 0} (names : Record) (bad : R) (IsRow : List Row → Record → Row → Type 0) (Breaks : List Row → Record → R → Type 0) (says : List Row → Record → Result Row R)
+    → Judges IsRow Breaks says → (records : List Record) (fault : Fault R) → (rows_under names bad says records ≡ Err fault) ↔ IsFaultUnder names bad IsRow Breaks records fault
+under-fault {Row} {R} names bad IsRow Breaks says j records fault = (there (has_header names records) refl, back)
+  where
+    there : (b : Bool) → has_header names records ≡ b → (if b then rows_of 2 says (drop 1 records) else Err (record { rule = bad; line = 1 })) ≡ Err fault
+        → IsFaultUnder names bad IsRow Breaks records fault
+    there true t e = inr (drop 1 records, header-there names records t, (fault-is 2 IsRow Breaks says j (drop 1 records) fault).0 e)
+    there false t e =
+        inl (
+          λ behind h. absurd (let yes : has_header names records ≡ true = header-found names records behind h in let bad : true ≡ false = sym yes ∙ t in cc),
+          (let told : Err (record { rule = bad; line = 1 }) ≡ Err fault = e in cc),
+        )
+
+    no_header : (b : Bool) → has_header names records ≡ b → ((behind : List Record) → records ≢ names ∷ behind) → has_header names records ≡ false
+    no_header true t none = absurd (none (drop 1 records) (header-there names records t))
+    no_header false t none = t
+
+    back : IsFaultUnder names bad IsRow Breaks records fault → rows_under names bad says records ≡ Err fault
+    back (inl h) = rw (no_header _ refl h.0, h.1) refl
+    back (inr h) =
+        rw (header-found names records h.0 h.1)
+        (ap (rows_of 2 says) (behind-header names records h.0 h.1) ∙ (fault-is 2 IsRow Breaks says j h.0 fault).1 h.2)

@@ -1,5 +1,0 @@
-use Rattle.pl_spec.proofs.AsOf.{is-world, agrees}
-use Rattle.pl_spec.proofs.laws.as_of_agrees.Goals as goal
-
-pub returns : goal.returns
-returns c w d day ok at_d = (is-world w d day ok, agrees w d day at_d)

@@ -1,5 +1,0 @@
-use Rattle.pl_spec.proofs.Steps.{bars-alike}
-use Rattle.pl_spec.proofs.laws.bars_are_alike.Goals as goal
-
-pub returns : goal.returns
-returns c = bars-alike

@@ -1,5 +1,0 @@
-use Rattle.pl_spec.proofs.Unfolds.{value_at-node}
-use Rattle.pl_spec.proofs.laws.nodes_unfold.Goals as goal
-
-pub returns : goal.returns
-returns c w names g k n ok e = value_at-node w names g ok k n e

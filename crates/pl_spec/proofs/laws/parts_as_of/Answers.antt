@@ -1,5 +1,0 @@
-use Rattle.pl_spec.proofs.AsOf.{parts-of}
-use Rattle.pl_spec.proofs.laws.parts_as_of.Goals as goal
-
-pub returns : goal.returns
-returns c days assets labels texts bars adjustments d day = parts-of days assets labels texts bars adjustments d day

@@ -1,5 +1,0 @@
-use Rattle.pl_spec.proofs.Lows.{reaches-meet}
-use Rattle.pl_spec.proofs.laws.reaches_meet.Goals as goal
-
-pub returns : goal.returns
-returns c days rise g outputs from ok wide t s inside needs = reaches-meet days rise g ok wide outputs from t s inside needs

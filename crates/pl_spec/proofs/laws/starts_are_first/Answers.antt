@@ -1,5 +1,0 @@
-use Rattle.pl_spec.proofs.Lows.{starts-first}
-use Rattle.pl_spec.proofs.laws.starts_are_first.Goals as goal
-
-pub returns : goal.returns
-returns c = starts-first

@@ -1,5 +1,0 @@
-use Rattle.pl_spec.proofs.TableLaw as law
-use Rattle.pl_spec.proofs.laws.tables_agree.Goals as goal
-
-pub returns : goal.returns
-returns c w v d day ok ok' agree p = law.table_same w v d day ok ok' agree p

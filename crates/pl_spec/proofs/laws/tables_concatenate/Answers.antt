@@ -1,5 +1,0 @@
-use Rattle.pl_spec.proofs.Chunks.{table-split}
-use Rattle.pl_spec.proofs.laws.tables_concatenate.Goals as goal
-
-pub returns : goal.returns
-returns c w p from mid to low high = table-split w p from mid to low high

@@ -1,5 +1,0 @@
-use Rattle.pl_spec.proofs.NoEvents.{window_of-one}
-use Rattle.pl_spec.proofs.laws.window_of_one.Goals as goal
-
-pub returns : goal.returns
-returns c w term a d = window_of-one w term a d

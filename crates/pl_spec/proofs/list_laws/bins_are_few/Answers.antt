@@ -1,5 +1,0 @@
-use Rattle.pl_spec.proofs.Bins.{bins-few}
-use Rattle.pl_spec.proofs.list_laws.bins_are_few.Goals as goal
-
-pub returns : goal.returns
-returns c = bins-few

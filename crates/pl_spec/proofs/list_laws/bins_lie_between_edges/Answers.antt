@@ -1,5 +1,0 @@
-use Rattle.pl_spec.proofs.Edges.{bins-between}
-use Rattle.pl_spec.proofs.list_laws.bins_lie_between_edges.Goals as goal
-
-pub returns : goal.returns
-returns c = bins-between

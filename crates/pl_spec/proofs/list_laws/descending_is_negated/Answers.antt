@@ -1,5 +1,0 @@
-use Rattle.pl_spec.proofs.Ranks.{descending-negated}
-use Rattle.pl_spec.proofs.list_laws.descending_is_negated.Goals as goal
-
-pub returns : goal.returns
-returns c = descending-negated

@@ -1,5 +1,0 @@
-use Rattle.pl_spec.proofs.Edges.{edges-ascend}
-use Rattle.pl_spec.proofs.list_laws.edges_ascend.Goals as goal
-
-pub returns : goal.returns
-returns c = edges-ascend

@@ -1,5 +1,0 @@
-use Rattle.pl_spec.proofs.Filters.{filters-count}
-use Rattle.pl_spec.proofs.list_laws.filters_count.Goals as goal
-
-pub returns : goal.returns
-returns c = filters-count

@@ -1,5 +1,0 @@
-use Rattle.pl_spec.proofs.Greatest.{greatest-least}
-use Rattle.pl_spec.proofs.list_laws.greatest_is_least.Goals as goal
-
-pub returns : goal.returns
-returns c = greatest-least

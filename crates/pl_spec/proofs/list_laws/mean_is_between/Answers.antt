@@ -1,5 +1,0 @@
-use Rattle.pl_spec.proofs.Means.{mean-between}
-use Rattle.pl_spec.proofs.list_laws.mean_is_between.Goals as goal
-
-pub returns : goal.returns
-returns c = mean-between

@@ -1,5 +1,0 @@
-use Rattle.pl_spec.proofs.OneSession.{one-itself}
-use Rattle.pl_spec.proofs.list_laws.one_is_itself.Goals as goal
-
-pub returns : goal.returns
-returns c = one-itself

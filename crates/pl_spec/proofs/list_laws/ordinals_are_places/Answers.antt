@@ -1,5 +1,0 @@
-use Rattle.pl_spec.proofs.Ordinals.{ordinals-places}
-use Rattle.pl_spec.proofs.list_laws.ordinals_are_places.Goals as goal
-
-pub returns : goal.returns
-returns c = ordinals-places

@@ -1,5 +1,0 @@
-use Rattle.pl_spec.proofs.SortedValues.{sorted-value_at}
-use Rattle.pl_spec.proofs.list_laws.values_are_sorted.Goals as goal
-
-pub returns : goal.returns
-returns c = sorted-value_at

@@ -1,5 +1,0 @@
-use Rattle.pl_spec.proofs.Edges.{whole-range}
-use Rattle.pl_spec.proofs.list_laws.whole_range_is_all.Goals as goal
-
-pub returns : goal.returns
-returns c = whole-range
