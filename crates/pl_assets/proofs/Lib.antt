@@ -1,3 +1,4 @@
+pub mod Columns
 pub mod AssetsRead
 pub mod AssetsSaid
 pub mod TextLists

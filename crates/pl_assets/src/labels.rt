@@ -97,6 +97,14 @@ impl Labels {
         Ok(())
     }
 
+    /// How many rows there are. No two of them have one name, column and start.
+    pub fn len(&self) -> usize
+        ensures length { result ≡ length self.now.rows }
+        ensures labels { AreLabels self.now }
+    {
+        self.rows.places.len()
+    }
+
     /// The number of a name, if a row has it.
     pub fn name_of(&self, name: &[u8]) -> Option<u32>
         ensures within { IfSome result (λ number. number < length (names_of self.now.rows)) }
