@@ -12,3 +12,4 @@ pub mod LabelTables
 pub mod LabelSearch
 pub mod LabelWorlds
 pub mod LabelsSaid
+pub mod CsvFields
