@@ -1,5 +1,5 @@
 -- The adjustments of three tables by column, or the first fault of their rows.
-use Rattle.std.specs.Prelude.{ℕ, ◌<◌, ◌≤ℤ◌, ◌==◌, List, ◌++◌, map, filter, length, All, AllPairs, Option, Some, None, Result, Ok, Err}
+use Rattle.std.specs.Prelude.{List, ◌++◌, map, Option, Some, None, Result, Ok, Err}
 use Rattle.pl_spec.specs.declared.AdjustmentKind.{AdjustmentKind}
 use Rattle.pl_spec.specs.declared.AdjustmentKind.TheVariants.{Split, Merger, Dividend}
 use Rattle.pl_spec.specs.declared.AssetRow.{AssetRow}
@@ -28,8 +28,3 @@ unfoldable pub adjustments_in : List AssetRow → List RawAdjust → List RawAdj
 adjustments_in assets splits mergers dividends =
     ok_unless (first_fault 0 (walk splits mergers dividends))
     (by_column (map (in_column assets) (adjustments_of assets splits mergers dividends)))
-
--- the adjustments are of these assets, and those of a column stand by day
-pub record AreOf (assets : List AssetRow) (xs : List ColumnAdjustment) : Type 0 where
-  pub in_columns : All (λ x. x.col < length assets) xs
-  pub in_order : (col : ℕ) → AllPairs (λ x y. x.event.day ≤ℤ y.event.day) (filter (λ x. x.col == col) xs)

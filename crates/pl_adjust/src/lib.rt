@@ -1,12 +1,12 @@
 //! Adjustments: what splits, mergers and dividends make of earlier bars, and when.
 #![tactic(auto)]
 
-ghost use Rattle.std.specs.Prelude.{◌≡◌, ◌≤ℤ◌, [], map, AllPairs, IfOk};
+ghost use Rattle.std.specs.Prelude.{◌≡◌, ◌<◌, ◌≤ℤ◌, [], length, map, All, AllPairs, IfOk};
 ghost use Rattle.pl_records.specs.Reading.{Answers};
 ghost use Rattle.pl_adjust.specs.Events.{event_of};
-ghost use Rattle.pl_adjust.specs.Columns.{events_at};
+ghost use Rattle.pl_adjust.specs.Columns.{StandByDay, events_at};
 ghost use Rattle.pl_adjust.specs.Faults.{fault_of};
-ghost use Rattle.pl_adjust.specs.Tables.{AreOf, adjustments_in};
+ghost use Rattle.pl_adjust.specs.Tables.{adjustments_in};
 
 mod adjust;
 mod columns;
@@ -70,13 +70,23 @@ impl Adjustments {
         // The adjustments of the rows, or their first fault. Only want of memory may come beside.
         ensures exact { Answers (λ a. a) fault_of result
             (adjustments_in assets.now splits.now mergers.now dividends.now) }
-        ensures columns { IfOk result (AreOf assets.now) }
+        ensures in_order { IfOk result StandByDay }
+        // Each is of the column of an asset.
+        ensures cols { IfOk result (All (λ x. x.col < length assets.now)) }
     {
         let rows = rows::rows_of(alloc, assets, splits, mergers, dividends)?;
         let sorted = columns::by_place(rows)?;
         let cols = columns::cols_of(alloc, &sorted)?;
         let adjusts = columns::adjusts_of(alloc, &sorted)?;
         Ok(Adjustments { cols, adjusts })
+    }
+
+    /// How many adjustments there are. Those of a column stand by day.
+    pub fn len(&self) -> usize
+        ensures length { result ≡ length self.now }
+        ensures in_order { StandByDay self.now }
+    {
+        self.cols.len()
     }
 
     /// The adjustments of a column in the order in which they act: by day, on one day splits before

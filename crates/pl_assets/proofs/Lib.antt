@@ -1,3 +1,4 @@
+pub mod Columns
 pub mod AssetsRead
 pub mod AssetsSaid
 pub mod TextLists
@@ -11,3 +12,4 @@ pub mod LabelTables
 pub mod LabelSearch
 pub mod LabelWorlds
 pub mod LabelsSaid
+pub mod CsvFields

@@ -1,6 +1,6 @@
 -- What the faults of a text, of records and of rows are to a command. Too many of them pass a limit.
 use Rattle.std.specs.Prelude.{ℕ, List, Option, Some, None, Result, Ok, Err}
-use Rattle.pl_spec.specs.Reading as reading
+use Rattle.pl_records.specs.Reading as reading
 use Rattle.pl_calendar.specs.Days as calendar
 use Rattle.pl_assets.specs.Assets as assets
 use Rattle.pl_assets.specs.Labels as labels

@@ -1,6 +1,6 @@
 -- The work of a command in its order, over the contents of its files and tables.
 use Rattle.std.specs.Prelude.{ℕ, ℤ, List, [], ◌∷◌, ◌++◌, length, nat_lt, not, is_some, if◌then◌else◌, Option, Some, None, Result, Ok, Err}
-use Rattle.pl_spec.specs.Reading as reading
+use Rattle.pl_records.specs.Reading as reading
 use Rattle.pl_spec.specs.declared.AssetRow.{AssetRow}
 use Rattle.pl_spec.specs.declared.RawAdjust.{RawAdjust}
 use Rattle.pl_records.specs.Records.{csv_records}

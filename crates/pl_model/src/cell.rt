@@ -6,6 +6,7 @@ ghost use Rattle.pl_spec.specs.Window.{bar_window, effects, seen_cell, step_coun
 ghost use Rattle.pl_spec.specs.Formula.{mean, oldest};
 ghost use Rattle.pl_spec.specs.Value.{value};
 ghost use Rattle.pl_spec.specs.Value.Value.{Number};
+ghost use Rattle.pl_assets.specs.Assets.{AreAssets};
 ghost use Rattle.pl_model.specs.Worlds.{world_of, IsMade};
 ghost use Rattle.pl_model.specs.PlainTerms.{steps_of, term_of, window_steps};
 
@@ -55,10 +56,11 @@ pub fn plain_cell<L: Ledger>(
 }
 
 fn exists(world: &World, col: usize, session: usize) -> bool
-    requires made { IsMade world.now }
     requires col { col < length world.now.assets.now }
     requires session { session < length world.now.sessions.now }
-    ensures { result ≡ exists (world_of world.now) (sid_at world.now.assets.now col) (pos session) }
+    ensures value { result ≡ exists (world_of world.now)
+        (sid_at world.now.assets.now col) (pos session) }
+    ensures assets { AreAssets world.now.assets.now }
 {
     let day = world.sessions.day(session);
     world.assets.exists(col, day)
@@ -73,6 +75,7 @@ fn latest<L: Ledger>(
     steps: &mut Steps<L>,
 ) -> i64
     requires made { IsMade world.now }
+    requires assets { AreAssets world.now.assets.now }
     requires col { col < length world.now.assets.now }
     requires session { session < length world.now.sessions.now }
     ensures value { result ≡ oldest (bar_window (world_of world.now) column 1
@@ -98,6 +101,7 @@ fn average<L: Ledger>(
     steps: &mut Steps<L>,
 ) -> i64
     requires made { IsMade world.now }
+    requires assets { AreAssets world.now.assets.now }
     requires col { col < length world.now.assets.now }
     requires session { session < length world.now.sessions.now }
     ensures value { result ≡ mean (bar_window (world_of world.now) column window
@@ -128,6 +132,7 @@ fn seen_cell<L: Ledger>(
     steps: &mut Steps<L>,
 ) -> i64
     requires made { IsMade world.now }
+    requires assets { AreAssets world.now.assets.now }
     requires col { col < length world.now.assets.now }
     requires bar_session { bar_session < session }
     requires session { session < length world.now.sessions.now }
