@@ -2,10 +2,10 @@
 use Rattle.std.proofs.Common.{◌≡◌, inl, inr, List, [], ◌∷◌, ◌++◌, Bool, true, IsTrue, Option, Some, None, Result, Ok, Err, refl, subst, ◌∙◌}
 use Rattle.std.specs.Option.{option_or}
 use Rattle.pl_judge.specs.declared.fault.Fault.{Fault}
-use Rattle.pl_judge.specs.declared.fault.Fault.TheVariants.{Unread, Unloaded, Unwritten, Memory}
+use Rattle.pl_judge.specs.declared.fault.Fault.TheVariants.{Unread, Unloaded, Memory}
 use Rattle.pl_judge.specs.Steps.{Source, Step, first_fault, ReachesRead}
 use Rattle.pl_judge.specs.Steps.Source.{Input, Load}
-use Rattle.pl_judge.specs.Stages.{IsStop, StageEnds}
+use Rattle.pl_judge.specs.Stages.{StopsOutside, IsStop, IsRisen, StageEnds}
 
 or-some : {A : Type 0} (o p : Option A) (x : A) → o ≡ Some x → option_or o p ≡ Some x
 or-some None p x h = absurd (cc)
@@ -39,19 +39,23 @@ reaches-behind (s ∷ ss) ts source h k =
     let p = or-none s.fault (first_fault ss) h in
     inr (p.0, reaches-behind ss ts source p.1 k)
 
+outside-front : (shelf keeper : Bool) (ss ts : List Step) (f : Fault) → StopsOutside shelf keeper ss f → StopsOutside shelf keeper (ss ++ ts) f
+outside-front shelf keeper ss ts (Unread file) h = (reaches-front ss ts (Input file) h.0, h.1)
+outside-front shelf keeper ss ts (Unloaded table) h = (reaches-front ss ts (Load table) h.0, h.1)
+outside-front shelf keeper ss ts Memory h = tt
+outside-front shelf keeper ss ts f h = absurd h
+
+outside-behind : (shelf keeper : Bool) (ss ts : List Step) (f : Fault) → first_fault ss ≡ None → StopsOutside shelf keeper ts f → StopsOutside shelf keeper (ss ++ ts) f
+outside-behind shelf keeper ss ts (Unread file) e h = (reaches-behind ss ts (Input file) e h.0, h.1)
+outside-behind shelf keeper ss ts (Unloaded table) e h = (reaches-behind ss ts (Load table) e h.0, h.1)
+outside-behind shelf keeper ss ts Memory e h = tt
+outside-behind shelf keeper ss ts f e h = absurd h
+
 stop-front : (shelf keeper : Bool) (ss ts : List Step) (f : Fault) → IsStop shelf keeper ss f → IsStop shelf keeper (ss ++ ts) f
-stop-front shelf keeper ss ts (Unread file) h = (reaches-front ss ts (Input file) h.0, λ t. first-some ss ts _ (h.1 t))
-stop-front shelf keeper ss ts (Unloaded table) h = (reaches-front ss ts (Load table) h.0, h.1)
-stop-front shelf keeper ss ts Unwritten h = h
-stop-front shelf keeper ss ts Memory h = tt
-stop-front shelf keeper ss ts f h = first-some ss ts _ h
+stop-front shelf keeper ss ts f h = elim h [ inl p ↦ inl (first-some ss ts f p) | inr q ↦ inr (outside-front shelf keeper ss ts f q) ]
 
 stop-behind : (shelf keeper : Bool) (ss ts : List Step) (f : Fault) → first_fault ss ≡ None → IsStop shelf keeper ts f → IsStop shelf keeper (ss ++ ts) f
-stop-behind shelf keeper ss ts (Unread file) e h = (reaches-behind ss ts (Input file) e h.0, λ t. rw (first-none ss ts e) (h.1 t))
-stop-behind shelf keeper ss ts (Unloaded table) e h = (reaches-behind ss ts (Load table) e h.0, h.1)
-stop-behind shelf keeper ss ts Unwritten e h = h
-stop-behind shelf keeper ss ts Memory e h = tt
-stop-behind shelf keeper ss ts f e h = rw (first-none ss ts e) h
+stop-behind shelf keeper ss ts f e h = elim h [ inl p ↦ inl (rw (first-none ss ts e) p) | inr q ↦ inr (outside-behind shelf keeper ss ts f e q) ]
 
 -- a stage that stops, stops the work
 pub stage-stops : {T U : Type 0} {shelf keeper : Bool} {ss : List Step} {stop : Fault} (ts : List Step)
@@ -72,12 +76,14 @@ pub stage-fails : {T U : Type 0} {shelf keeper : Bool} {ss : List Step} {stop : 
 stage-fails h = record { passed = tt; stopped = h.stopped }
 
 -- the parts are sound where those of the stage are; a stage that doesn't use a part speaks of a sound one
+outside-weaker : (shelf keeper s k : Bool) (ss : List Step) (f : Fault) → (IsTrue shelf → IsTrue s) → (IsTrue keeper → IsTrue k) → StopsOutside s k ss f → StopsOutside shelf keeper ss f
+outside-weaker shelf keeper s k ss (Unread file) a b h = (h.0, λ t. h.1 (a t))
+outside-weaker shelf keeper s k ss (Unloaded table) a b h = (h.0, λ t. h.1 (b t))
+outside-weaker shelf keeper s k ss Memory a b h = tt
+outside-weaker shelf keeper s k ss f a b h = absurd h
+
 pub stop-weaker : (shelf keeper s k : Bool) (ss : List Step) (f : Fault) → (IsTrue shelf → IsTrue s) → (IsTrue keeper → IsTrue k) → IsStop s k ss f → IsStop shelf keeper ss f
-stop-weaker shelf keeper s k ss (Unread file) a b h = (h.0, λ t. h.1 (a t))
-stop-weaker shelf keeper s k ss (Unloaded table) a b h = (h.0, λ t. h.1 (b t))
-stop-weaker shelf keeper s k ss Unwritten a b h = h
-stop-weaker shelf keeper s k ss Memory a b h = tt
-stop-weaker shelf keeper s k ss f a b h = h
+stop-weaker shelf keeper s k ss f a b h = elim h [ inl p ↦ inl p | inr q ↦ inr (outside-weaker shelf keeper s k ss f a b q) ]
 
 pub stage-weaker : {T U : Type 0} {shelf keeper s k : Bool} {ss : List Step} {stop : Fault} → (IsTrue shelf → IsTrue s) → (IsTrue keeper → IsTrue k)
     → StageEnds {T = T} s k ss (Err stop) → StageEnds {T = U} shelf keeper ss (Err stop)
@@ -91,3 +97,9 @@ always h = refl
 
 pub stage-over : {T : Type 0} {shelf keeper : Bool} {ss ts : List Step} {r : Result T Fault} → ss ≡ ts → StageEnds shelf keeper ss r → StageEnds shelf keeper ts r
 stage-over {shelf = shelf} {keeper = keeper} {r = r} e h = subst (λ xs. StageEnds shelf keeper xs r) e h
+
+-- a fault that is none of the outside has no cause to show there
+pub risen-inside : (shelf keeper : Type 0) (f : Fault) → IsRisen ⊥ ⊥ f → IsRisen shelf keeper f
+risen-inside shelf keeper (Unread file) h = absurd h
+risen-inside shelf keeper (Unloaded table) h = absurd h
+risen-inside shelf keeper f h = tt

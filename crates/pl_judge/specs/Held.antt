@@ -31,11 +31,11 @@ abbrev pub statements_said : Said → List Statement
 statements_said (Spelled script) = script.statements
 statements_said (Faulty kind place) = []
 
-unfoldable pub statements_in : Option (List ℕ) → List Statement
-statements_in file = statements_said (said (bytes_in file))
+unfoldable pub statements_read : Option (List ℕ) → List Statement
+statements_read file = statements_said (said (bytes_in file))
 
 unfoldable pub columns_in : Option (List ℕ) → List PlainColumn
-columns_in file = unwrap_or (plain_columns (statements_in file)) []
+columns_in file = unwrap_or (plain_columns (statements_read file)) []
 
 unfoldable pub days_in : Option (List ℕ) → List ℤ
 days_in file = result_unwrap_or (sessions_of (csv_records (bytes_in file))) []
@@ -56,6 +56,15 @@ adjustments_of_rows assets rows = adjustments_in assets (rows Splits) (rows Merg
 unfoldable pub adjustments_from : List AssetRow → (Table → List RawAdjust) → List ColumnAdjustment
 adjustments_from assets rows = result_unwrap_or (adjustments_of_rows assets rows) []
 
+-- none where no name is asked for
+abbrev pub labels_asked : List AssetRow → Option (List ℕ) → Option (List ℕ) → LabelTable
+labels_asked assets None file = no_labels
+labels_asked assets (Some name) file = labels_in assets file
+
+abbrev pub adjustments_asked : List AssetRow → Option (List ℕ) → (Table → List RawAdjust) → List ColumnAdjustment
+adjustments_asked assets None rows = []
+adjustments_asked assets (Some name) rows = adjustments_from assets rows
+
 -- ---- of a run's contents
 
 abbrev pub columns_held : Contents → List PlainColumn
@@ -67,20 +76,13 @@ days_held held = days_in (held.file Sessions)
 abbrev pub assets_held : Contents → List AssetRow
 assets_held held = assets_in (held.file Assets)
 
--- none where no name is asked for
-abbrev pub labels_held : Contents → Option (List ℕ) → LabelTable
-labels_held held None = no_labels
-labels_held held (Some name) = labels_in (assets_held held) (held.file Labels)
 
 abbrev pub bars_held : Contents → List BarRow
 bars_held held = bars_in (days_held held) (assets_held held) (held.file Bars)
 
-abbrev pub adjustments_held : Contents → Option (List ℕ) → List ColumnAdjustment
-adjustments_held held None = []
-adjustments_held held (Some name) = adjustments_from (assets_held held) held.rows
-
 -- the world of a run
 abbrev pub world_held : Contents → RunRequest → World
 world_held held q =
-    let labels = labels_held held q.options.labels in
-    world_of (days_held held) (assets_held held) labels.rows labels.texts (bars_held held) (adjustments_held held q.options.adjustments)
+    let assets = assets_held held in
+    let labels = labels_asked assets q.options.labels (held.file Labels) in
+    world_of (days_held held) assets labels.rows labels.texts (bars_held held) (adjustments_asked assets q.options.adjustments held.rows)

@@ -1,18 +1,21 @@
 -- How a stage of the work may end, in the words of the code.
-use Rattle.std.specs.Prelude.{◌≡◌, Bool, IsTrue, List, Some, None, Result, OnOk, IfErr, ⊤}
+use Rattle.std.specs.Prelude.{◌≡◌, ◌⊎◌, Bool, IsTrue, List, Some, None, Result, OnOk, IfErr, ⊤}
 use Rattle.pl_judge.specs.declared.fault.Fault.{Fault}
-use Rattle.pl_judge.specs.declared.fault.Fault.TheVariants.{Unread, Unloaded, Unwritten, Memory}
+use Rattle.pl_judge.specs.declared.fault.Fault.TheVariants.{Unread, Unloaded, Memory}
 use Rattle.pl_judge.specs.Steps.{Step, first_fault, ReachesRead}
 use Rattle.pl_judge.specs.Steps.Source.{Input, Load}
 
--- The steps may stop so: at their first fault; at a read that a step before the first fault makes, and over a sound shelf only
--- at a file that isn't there, over a sound keeper never; or for want of memory.
+-- What stops the steps from outside: a read that a step before the first fault makes fails, but not over a sound part; or memory
+-- is wanted.
+abbrev pub StopsOutside : Bool → Bool → List Step → Fault → Type 0
+StopsOutside shelf keeper steps (Unread file) = ReachesRead steps (Input file) × (IsTrue shelf → ⊥)
+StopsOutside shelf keeper steps (Unloaded table) = ReachesRead steps (Load table) × (IsTrue keeper → ⊥)
+StopsOutside shelf keeper steps Memory = ⊤
+StopsOutside shelf keeper steps fault = ⊥
+
+-- the steps stop at their first fault, or from outside
 abbrev pub IsStop : Bool → Bool → List Step → Fault → Type 0
-IsStop shelf keeper steps (Unread file) = ReachesRead steps (Input file) × (IsTrue shelf → first_fault steps ≡ Some (Unread file))
-IsStop shelf keeper steps (Unloaded table) = ReachesRead steps (Load table) × (IsTrue keeper → ⊥)
-IsStop shelf keeper steps Unwritten = ⊥
-IsStop shelf keeper steps Memory = ⊤
-IsStop shelf keeper steps fault = first_fault steps ≡ Some fault
+IsStop shelf keeper steps fault = (first_fault steps ≡ Some fault) ⊎ StopsOutside shelf keeper steps fault
 
 -- a stage has done its steps without a fault, or it stops
 pub record StageEnds {T : Type 0} (shelf keeper : Bool) (steps : List Step) (result : Result T Fault) : Type 0 where
@@ -24,3 +27,8 @@ abbrev pub IsRisen : Type 0 → Type 0 → Fault → Type 0
 IsRisen shelf keeper (Unread file) = shelf
 IsRisen shelf keeper (Unloaded table) = keeper
 IsRisen shelf keeper fault = ⊤
+
+-- the fault that an error tells, which is of the input or want of memory
+pub record Tells (fault told : Fault) : Type 0 where
+  pub is : fault ≡ told
+  pub inside : IsRisen ⊥ ⊥ fault

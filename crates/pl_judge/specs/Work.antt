@@ -24,7 +24,7 @@ use Rattle.pl_judge.specs.declared.fault.Fault.{Fault}
 use Rattle.pl_judge.specs.declared.fault.Fault.TheVariants.{Usage, Unbuilt, Passed, Unread}
 use Rattle.pl_judge.specs.Contents.{Contents}
 use Rattle.pl_judge.specs.Rules.{syntax_fault, sessions_fault, assets_fault, labels_fault, bars_fault, rows_fault}
-use Rattle.pl_judge.specs.Held.{statements_in, columns_held, days_held, assets_held, adjustments_of_rows}
+use Rattle.pl_judge.specs.Held.{statements_read, columns_held, days_held, assets_held, adjustments_of_rows}
 use Rattle.pl_judge.specs.Steps.{Step, rule, when}
 use Rattle.pl_judge.specs.Steps.Source.{Input, Load}
 use Rattle.pl_judge.specs.Range.{range_steps}
@@ -95,7 +95,7 @@ syntax_step file = read_step Pipeline syntax_rule file
 
 -- a pipeline file is read for a run: its syntax, and then its form
 abbrev pub pipeline_steps : Option (List ℕ) → List Step
-pipeline_steps file = syntax_step file ∷ rule (form_rule (statements_in file)) ∷ []
+pipeline_steps file = syntax_step file ∷ rule (form_rule (statements_read file)) ∷ []
 
 -- a labels file is read where its name is asked for
 abbrev pub labels_steps : List AssetRow → Option (List ℕ) → Option (List ℕ) → List Step

@@ -1,5 +1,6 @@
 // What the errors of the readers are to a command.
 ghost use Rattle.std.specs.Prelude.{◌≡◌};
+ghost use Rattle.pl_judge.specs.Stages.{Tells};
 ghost use Rattle.pl_judge.specs.Rules.{told_at, told, sessions_fault, assets_fault, labels_fault, bars_fault, rows_fault, syntax_error};
 
 use crate::{DataFault, Fault, Limit, RowFault, SyntaxFault};
@@ -22,7 +23,7 @@ impl From<AllocError> for Fault {
 }
 
 impl From<SyntaxError> for Fault {
-    ghost from_gives = { λ error fault. fault ≡ syntax_error error };
+    ghost from_gives = { λ error fault. Tells fault (syntax_error error) };
 
     fn from(error: SyntaxError) -> Fault {
         match error {
@@ -40,7 +41,7 @@ impl From<SyntaxError> for Fault {
 impl From<CalendarError> for Fault {
     ghost use Rattle.pl_calendar.specs.Faults as calendar;
 
-    ghost from_gives = { λ error fault. fault ≡ told_at sessions_fault (calendar.fault_of error) };
+    ghost from_gives = { λ error fault. Tells fault (told_at sessions_fault (calendar.fault_of error)) };
 
     fn from(error: CalendarError) -> Fault {
         let file = InputFile::Sessions;
@@ -57,7 +58,7 @@ impl From<CalendarError> for Fault {
 impl From<AssetsError> for Fault {
     ghost use Rattle.pl_assets.specs.Faults as assets;
 
-    ghost from_gives = { λ error fault. fault ≡ told_at assets_fault (assets.fault_of error) };
+    ghost from_gives = { λ error fault. Tells fault (told_at assets_fault (assets.fault_of error)) };
 
     fn from(error: AssetsError) -> Fault {
         let file = InputFile::Assets;
@@ -75,7 +76,7 @@ impl From<AssetsError> for Fault {
 impl From<LabelsError> for Fault {
     ghost use Rattle.pl_assets.specs.LabelFaults as labels;
 
-    ghost from_gives = { λ error fault. fault ≡ told_at labels_fault (labels.fault_of error) };
+    ghost from_gives = { λ error fault. Tells fault (told_at labels_fault (labels.fault_of error)) };
 
     fn from(error: LabelsError) -> Fault {
         let file = InputFile::Labels;
@@ -94,7 +95,7 @@ impl From<LabelsError> for Fault {
 impl From<BarsError> for Fault {
     ghost use Rattle.pl_bars.specs.Faults as bars;
 
-    ghost from_gives = { λ error fault. fault ≡ told_at bars_fault (bars.fault_of error) };
+    ghost from_gives = { λ error fault. Tells fault (told_at bars_fault (bars.fault_of error)) };
 
     fn from(error: BarsError) -> Fault {
         let file = InputFile::Bars;
@@ -114,7 +115,7 @@ impl From<BarsError> for Fault {
 impl From<AdjustError> for Fault {
     ghost use Rattle.pl_adjust.specs.Faults as rows;
 
-    ghost from_gives = { λ error fault. fault ≡ told rows_fault (rows.fault_of error) };
+    ghost from_gives = { λ error fault. Tells fault (told rows_fault (rows.fault_of error)) };
 
     fn from(error: AdjustError) -> Fault {
         match error {

@@ -3,9 +3,11 @@
 
 mod cell;
 pub mod laws;
+mod owned;
 #[cfg(test)]
 mod tests;
 mod world;
 
 pub use cell::{PlainTerm, plain_cell};
+pub use owned::OwnedWorld;
 pub use world::World;

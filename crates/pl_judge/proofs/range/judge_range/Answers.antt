@@ -1,4 +1,4 @@
-use Rattle.std.proofs.Common.{◌∙◌, sym, ap, pos, unwrap_or, FitsSigned, w32, rules, arith}
+use Rattle.std.proofs.Common.{inl, ◌∙◌, sym, ap, pos, unwrap_or, FitsSigned, w32, rules, arith}
 use Rattle.std.proofs.lemmas.Int.{to_z-of_z}
 use Rattle.pl_spec.specs.Window.{before}
 use Rattle.pl_words.specs.Views.{run_of}
@@ -9,7 +9,7 @@ pub returns-in_default-clause-ends : goal.returns-in_default-clause-ends
 returns-in_default-clause-ends c =
     let fits : FitsSigned w32 c.args.request.now.from.day = search rules in
     let from = simp to_z-of_z at c.in_default.ensures.exact in
-    record { passed = tt; stopped = no-from (run_of c.args.request.now) _ c.args.sessions.now (sym from) }
+    record { passed = tt; stopped = inl (no-from (run_of c.args.request.now) _ c.args.sessions.now (sym from)) }
 
 pub returns-in_default-index_of-clause-ends : goal.returns-in_default-index_of-clause-ends
 returns-in_default-index_of-clause-ends c =
@@ -17,7 +17,7 @@ returns-in_default-index_of-clause-ends c =
     let fits' : FitsSigned w32 c.args.request.now.to.day = search rules in
     let from = simp to_z-of_z at c.in-Some.ensures.exact in
     let to = simp to_z-of_z at c.in_default-index_of.ensures.exact in
-    record { passed = tt; stopped = no-to (run_of c.args.request.now) _ c.args.sessions.now _ (sym from) (sym to) }
+    record { passed = tt; stopped = inl (no-to (run_of c.args.request.now) _ c.args.sessions.now _ (sym from) (sym to)) }
 
 pub returns-then-to-from-clause-ends : goal.returns-then-to-from-clause-ends
 returns-then-to-from-clause-ends c =
@@ -25,7 +25,7 @@ returns-then-to-from-clause-ends c =
     let fits' : FitsSigned w32 c.args.request.now.to.day = search rules in
     let from = simp to_z-of_z at c.in-Some.ensures.exact in
     let to = simp to_z-of_z at c.in-Some-index_of.ensures.exact in
-    record { passed = tt; stopped = backwards (run_of c.args.request.now) _ c.args.sessions.now _ _ (sym from) (sym to) c.if-to-from.true }
+    record { passed = tt; stopped = inl (backwards (run_of c.args.request.now) _ c.args.sessions.now _ _ (sym from) (sym to) c.if-to-from.true) }
 
 pub returns-then-from-window-clause-ends : goal.returns-then-from-window-clause-ends
 returns-then-from-window-clause-ends c =
@@ -36,8 +36,8 @@ returns-then-from-window-clause-ends c =
     let window = c.greatest_window-window.ensures in
     record {
       passed = tt;
-      stopped = too-early (run_of c.args.request.now) c.args.columns.now c.args.sessions.now _ _ _ (sym from) (sym to) c.if-to-from.false
-          (omega (arith, window, c.if-from-window.true)) (back-by c.in-Some.from c.greatest_window-window.result c.if-from-window.true c.greatest_window-window.type_inv ∙ ap (before (pos c.in-Some.from)) window);
+      stopped = inl (too-early (run_of c.args.request.now) c.args.columns.now c.args.sessions.now _ _ _ (sym from) (sym to) c.if-to-from.false
+          (omega (arith, window, c.if-from-window.true)) (back-by c.in-Some.from c.greatest_window-window.result c.if-from-window.true c.greatest_window-window.type_inv ∙ ap (before (pos c.in-Some.from)) window));
     }
 
 pub returns-clause-ends : goal.returns-clause-ends

@@ -1,0 +1,171 @@
+-- The data of a run, part by part.
+use Rattle.std.proofs.Common.{◌≡◌, ℕ, ℤ, Bool, true, IsTrue, List, [], ◌∷◌, ◌++◌, Option, Some, None, Result, Ok, Err, refl, sym, ◌∙◌}
+use Rattle.std.specs.Option.{ForSome}
+use Rattle.pl_spec.specs.declared.AssetRow.{AssetRow}
+use Rattle.pl_spec.specs.declared.BarRow.{BarRow}
+use Rattle.pl_spec.specs.declared.RawAdjust.{RawAdjust}
+use Rattle.pl_spec.specs.Parts.{ColumnAdjustment}
+use Rattle.pl_assets.specs.Labels.{LabelTable}
+use Rattle.pl_outside.specs.Files.{Files}
+use Rattle.pl_outside.specs.Lists.{Lists}
+use Rattle.pl_outside.specs.declared.keeper.Table.{Table}
+use Rattle.pl_model.specs.declared.owned.OwnedWorld.{OwnedWorld}
+use Rattle.pl_words.specs.declared.request.InputFile.{InputFile}
+use Rattle.pl_words.specs.declared.request.InputFile.TheVariants.{Pipeline, Sessions, Assets, Labels, Bars}
+use Rattle.pl_words.specs.Request.{RunRequest, Run, name_asked}
+use Rattle.pl_judge.specs.declared.fault.Fault.{Fault}
+use Rattle.pl_judge.specs.Contents.{Contents, AreHeld}
+use Rattle.pl_judge.specs.Held.{days_in, assets_in, labels_asked, bars_in, adjustments_asked}
+use Rattle.pl_judge.specs.Work.{read_step, sessions_rule, assets_rule, labels_steps, bars_rule, adjustments_steps, data_steps}
+use Rattle.pl_judge.specs.Steps.{Step}
+use Rattle.pl_judge.specs.Stages.{StageEnds}
+use Rattle.pl_judge.proofs.Steps.{stage-stops, stage-goes_on, stage-done, stage-weaker, always}
+use Rattle.pl_load.specs.Reads.{IsRead, AreLoaded}
+use Rattle.pl_load.specs.Loads.{IsData}
+use Rattle.pl_load.proofs.FileReads.{held_under, held-told}
+use Rattle.pl_load.proofs.TableReads.{listed_under, listed-told}
+
+-- ---- what the stages say
+
+abbrev pub DaysRead : Option Files → Bool → RunRequest → Result (List ℤ) Fault → Type 0
+DaysRead tells sound q r = IsRead tells sound (Some q.sessions) (λ held. read_step Sessions sessions_rule held ∷ []) (λ held x. days_in held ≡ x) r
+
+abbrev pub AssetsRead : Option Files → Bool → RunRequest → Result (List AssetRow) Fault → Type 0
+AssetsRead tells sound q r = IsRead tells sound (Some q.assets) (λ held. read_step Assets assets_rule held ∷ []) (λ held x. assets_in held ≡ x) r
+
+abbrev pub LabelsRead : Option Files → Bool → RunRequest → List AssetRow → Result LabelTable Fault → Type 0
+LabelsRead tells sound q assets r =
+    IsRead tells sound q.options.labels (labels_steps assets q.options.labels) (λ held x. labels_asked assets q.options.labels held ≡ x) r
+
+abbrev pub BarsRead : Option Files → Bool → RunRequest → List ℤ → List AssetRow → Result (List BarRow) Fault → Type 0
+BarsRead tells sound q days assets r =
+    IsRead tells sound (Some q.bars) (λ held. read_step Bars (bars_rule days assets) held ∷ []) (λ held x. bars_in days assets held ≡ x) r
+
+abbrev pub AdjustmentsRead : Option Lists → Bool → RunRequest → List AssetRow → Result (List ColumnAdjustment) Fault → Type 0
+AdjustmentsRead lists sound q assets r =
+    AreLoaded lists sound q.options.adjustments (adjustments_steps assets q.options.adjustments)
+    (λ rows x. adjustments_asked assets q.options.adjustments rows ≡ x) r
+
+-- ---- the contents
+
+abbrev pub files_by : (pipeline sessions assets labels bars : Option (List ℕ)) → InputFile → Option (List ℕ)
+files_by pipeline sessions assets labels bars Pipeline = pipeline
+files_by pipeline sessions assets labels bars Sessions = sessions
+files_by pipeline sessions assets labels bars Assets = assets
+files_by pipeline sessions assets labels bars Labels = labels
+files_by pipeline sessions assets labels bars Bars = bars
+
+abbrev IsTold : Option Files → Option (List ℕ) → Option (List ℕ) → Type 0
+IsTold tells name file = ForSome name (λ n. ForSome tells (λ files. file ≡ files n))
+
+module _ (tells : Option Files) (lists : Option Lists) (sound keeper : Bool) (q : RunRequest) where
+
+  -- the pipeline file was read before, and matters nothing here
+  abbrev data_held : (sessions assets labels bars : Option (List ℕ)) → (Table → List RawAdjust) → Contents
+  data_held sessions assets labels bars rows = record { file = files_by (held_under tells (Some q.pipeline)) sessions assets labels bars; rows = rows }
+
+  abbrev AreTold : (Table → List RawAdjust) → Type 0
+  AreTold rows = (table : Table) → ForSome q.options.adjustments (λ n. ForSome lists (λ told. rows table ≡ told n table))
+
+  by-file : (sessions assets labels bars : Option (List ℕ))
+      → IsTold tells (Some q.sessions) sessions → IsTold tells (Some q.assets) assets → IsTold tells q.options.labels labels → IsTold tells (Some q.bars) bars
+      → (file : InputFile) → IsTold tells (name_asked (Some (Run q)) file) (files_by (held_under tells (Some q.pipeline)) sessions assets labels bars file)
+  by-file sessions assets labels bars s a l b Pipeline = held-told tells (Some q.pipeline)
+  by-file sessions assets labels bars s a l b Sessions = s
+  by-file sessions assets labels bars s a l b Assets = a
+  by-file sessions assets labels bars s a l b Labels = l
+  by-file sessions assets labels bars s a l b Bars = b
+
+  are-held : (sessions assets labels bars : Option (List ℕ)) (rows : Table → List RawAdjust)
+      → IsTold tells (Some q.sessions) sessions → IsTold tells (Some q.assets) assets → IsTold tells q.options.labels labels → IsTold tells (Some q.bars) bars
+      → AreTold rows → AreHeld tells lists (Some (Run q)) (data_held sessions assets labels bars rows)
+  are-held sessions assets labels bars rows s a l b r = record { files_held = by-file sessions assets labels bars s a l b; rows_held = r }
+
+  -- what was not reached is what the parts hold
+  abbrev assets_left : Option (List ℕ)
+  assets_left = held_under tells (Some q.assets)
+
+  abbrev labels_left : Option (List ℕ)
+  labels_left = held_under tells q.options.labels
+
+  abbrev bars_left : Option (List ℕ)
+  bars_left = held_under tells (Some q.bars)
+
+  abbrev rows_left : Table → List RawAdjust
+  rows_left = listed_under lists q.options.adjustments
+
+  -- ---- the stage at which the reading stops
+
+  pub no-sessions : (fault : Fault) → DaysRead tells sound q (Err fault) → IsData tells lists sound keeper q (Err fault)
+  unfolding data_steps
+  no-sessions fault h =
+      record {
+        held = data_held h.file assets_left labels_left bars_left rows_left;
+        are_held = are-held h.file assets_left labels_left bars_left rows_left h.is_told (held-told tells _) (held-told tells _) (held-told tells _) (listed-told lists _);
+        ends = stage-stops _ (stage-weaker {U = Unit {0}} (λ t. t) always h.ends);
+        days = tt;
+        world = tt;
+      }
+
+  pub no-assets : (days : List ℤ) (fault : Fault) → DaysRead tells sound q (Ok days) → AssetsRead tells sound q (Err fault) → IsData tells lists sound keeper q (Err fault)
+  unfolding data_steps
+  no-assets days fault s h =
+      record {
+        held = data_held s.file h.file labels_left bars_left rows_left;
+        are_held = are-held s.file h.file labels_left bars_left rows_left s.is_told h.is_told (held-told tells _) (held-told tells _) (listed-told lists _);
+        ends = stage-goes_on s.ends (stage-stops _ (stage-weaker {U = Unit {0}} (λ t. t) always h.ends));
+        days = tt;
+        world = tt;
+      }
+
+  pub no-labels : (days : List ℤ) (assets : List AssetRow) (fault : Fault) → DaysRead tells sound q (Ok days) → AssetsRead tells sound q (Ok assets)
+      → LabelsRead tells sound q assets (Err fault) → IsData tells lists sound keeper q (Err fault)
+  unfolding data_steps
+  no-labels days assets fault s a h =
+      record {
+        held = data_held s.file a.file h.file bars_left rows_left;
+        are_held = are-held s.file a.file h.file bars_left rows_left s.is_told a.is_told h.is_told (held-told tells _) (listed-told lists _);
+        ends = rw a.means (stage-goes_on s.ends (stage-goes_on a.ends (stage-stops _ (stage-weaker {U = Unit {0}} (λ t. t) always h.ends))));
+        days = tt;
+        world = tt;
+      }
+
+  pub no-bars : (days : List ℤ) (assets : List AssetRow) (labels : LabelTable) (fault : Fault) → DaysRead tells sound q (Ok days) → AssetsRead tells sound q (Ok assets)
+      → LabelsRead tells sound q assets (Ok labels) → BarsRead tells sound q days assets (Err fault) → IsData tells lists sound keeper q (Err fault)
+  unfolding data_steps
+  no-bars days assets labels fault s a l h =
+      record {
+        held = data_held s.file a.file l.file h.file rows_left;
+        are_held = are-held s.file a.file l.file h.file rows_left s.is_told a.is_told l.is_told h.is_told (listed-told lists _);
+        ends = rw (s.means, a.means) (stage-goes_on s.ends (stage-goes_on a.ends (stage-goes_on l.ends (stage-stops _ (stage-weaker {U = Unit {0}} (λ t. t) always h.ends)))));
+        days = tt;
+        world = tt;
+      }
+
+  pub no-adjustments : (days : List ℤ) (assets : List AssetRow) (labels : LabelTable) (bars : List BarRow) (fault : Fault) → DaysRead tells sound q (Ok days) → AssetsRead tells sound q (Ok assets)
+      → LabelsRead tells sound q assets (Ok labels) → BarsRead tells sound q days assets (Ok bars) → AdjustmentsRead lists keeper q assets (Err fault)
+      → IsData tells lists sound keeper q (Err fault)
+  unfolding data_steps
+  no-adjustments days assets labels bars fault s a l b h =
+      record {
+        held = data_held s.file a.file l.file b.file h.rows;
+        are_held = are-held s.file a.file l.file b.file h.rows s.is_told a.is_told l.is_told b.is_told h.are_told;
+        ends = rw (s.means, a.means) (stage-goes_on s.ends (stage-goes_on a.ends (stage-goes_on l.ends (stage-goes_on b.ends (stage-weaker always (λ t. t) h.ends)))));
+        days = tt;
+        world = tt;
+      }
+
+  -- ---- all was read
+
+  pub all-read : (w : OwnedWorld) → DaysRead tells sound q (Ok w.sessions) → AssetsRead tells sound q (Ok w.assets) → LabelsRead tells sound q w.assets (Ok w.labels)
+      → BarsRead tells sound q w.sessions w.assets (Ok w.bars) → AdjustmentsRead lists keeper q w.assets (Ok w.adjustments)
+      → IsData tells lists sound keeper q (Ok w)
+  unfolding data_steps
+  all-read w s a l b h =
+      record {
+        held = data_held s.file a.file l.file b.file h.rows;
+        are_held = are-held s.file a.file l.file b.file h.rows s.is_told a.is_told l.is_told b.is_told h.are_told;
+        ends = rw (s.means, a.means) (stage-goes_on s.ends (stage-goes_on a.ends (stage-goes_on l.ends (stage-goes_on b.ends (stage-done h.ends)))));
+        days = s.means;
+        world = rw (s.means, a.means, l.means, b.means, h.means) refl;
+      }

@@ -1,0 +1,162 @@
+-- The reading of a file.
+use Rattle.std.proofs.Common.{◌≡◌, ◌⊎◌, inl, inr, ℕ, ◌+◌, ◌≤◌, ◌<◌, Bool, true, false, IsTrue, nat_lt, List, [], ◌∷◌, length, Option, Some, None, IfSome, IsSomeAnd, Result, Ok, Err, Vec, refl, sym, ◌∙◌, arith, replicate}
+use Rattle.std.specs.declared.alloc.Global.{Global}
+use Rattle.std.specs.Prelude.{option_and_then}
+use Rattle.std.specs.Option.{ForSome, option_or}
+use Rattle.std.proofs.lemmas.Bool.Decides.{nat_tests}
+use Rattle.std.proofs.lemmas.List.{length-replicate}
+use Rattle.pl_records.specs.Reading as reading
+use Rattle.pl_outside.specs.Files.{Files}
+use Rattle.pl_words.specs.declared.request.InputFile.{InputFile}
+use Rattle.pl_judge.specs.declared.fault.Fault.{Fault}
+use Rattle.pl_judge.specs.declared.fault.Fault.TheVariants.{Unread, Unloaded, Passed, Memory}
+use Rattle.pl_judge.specs.Rules.{told_at}
+use Rattle.pl_judge.specs.Steps.{Step, first_fault}
+use Rattle.pl_judge.specs.Work.{cap_of, limit_of, read_step, file_fault, fault_in}
+use Rattle.pl_judge.specs.Stages.{IsStop, StopsOutside, StageEnds}
+use Rattle.pl_load.specs.Reads.{IsRead, no_rule}
+
+-- ---- a file of which nothing is known but what the shelf tells
+
+abbrev pub held_under : Option Files → Option (List ℕ) → Option (List ℕ)
+held_under tells name = option_and_then (λ files. option_and_then files name) tells
+
+pub held-told : (tells : Option Files) (name : Option (List ℕ)) → ForSome name (λ n. ForSome tells (λ files. held_under tells name ≡ files n))
+held-told tells name = λ n is files f. rw (is, f) refl
+
+-- memory may be wanted at any place
+pub wanting : {T : Type 0} (tells : Option Files) (sound : Bool) (name : Option (List ℕ)) (steps : Option (List ℕ) → List Step) (Means : Option (List ℕ) → T → Type 0)
+    → IsRead tells sound name steps Means (Err Memory)
+wanting tells sound name steps Means = record { file = held_under tells name; is_told = held-told tells name; ends = record { passed = tt; stopped = inr tt }; means = tt }
+
+-- the file isn't there, or a shelf that isn't sound failed
+held-none : (tells : Option Files) (name : List ℕ) → ForSome tells (λ files. files name ≡ None) → held_under tells (Some name) ≡ None
+held-none None name h = refl
+held-none (Some files) name h = h files refl
+
+stop-unread : (f : InputFile) (o : Option (List ℕ)) (sound : Bool) → (IsTrue sound → o ≡ None) → IsStop sound true (read_step f no_rule o ∷ []) (Unread f)
+stop-unread f None sound h = inl refl
+stop-unread f (Some bytes) sound h = inr (inl refl, λ s. absurd (let e = h s in cc))
+
+pub is-unread : {T : Type 0} (f : InputFile) (tells : Option Files) (sound : Bool) (name : List ℕ) (Means : Option (List ℕ) → T → Type 0)
+    → (IsTrue sound → ForSome tells (λ files. files name ≡ None))
+    → IsRead tells sound (Some name) (λ held. read_step f no_rule held ∷ []) Means (Err (Unread f))
+is-unread f tells sound name Means h =
+    record {
+      file = held_under tells (Some name);
+      is_told = held-told tells (Some name);
+      ends = record { passed = tt; stopped = stop-unread f (held_under tells (Some name)) sound (λ s. held-none tells name (h s)) };
+      means = tt;
+    }
+
+-- ---- a file that is too long
+
+abbrev long_under : Option Files → List ℕ → ℕ → Option (List ℕ)
+long_under None name cap = Some (replicate (cap + 1) 0)
+long_under (Some files) name cap = files name
+
+long-told : (tells : Option Files) (name : List ℕ) (cap : ℕ) → ForSome (Some name) (λ n. ForSome tells (λ files. long_under tells name cap ≡ files n))
+long-told None name cap = λ n is files f. absurd (cc)
+long-told (Some told) name cap = λ n is files f. let same : told ≡ files = cc in let name' : name ≡ n = cc in rw (same, name') refl
+
+long-is-one : (tells : Option Files) (name : List ℕ) (cap : ℕ) → cap < length {A = ℕ} (replicate (cap + 1) 0) → ForSome tells (λ files. IsSomeAnd (files name) (λ bytes. cap < length bytes))
+    → IsSomeAnd (long_under tells name cap) (λ bytes. cap < length bytes)
+long-is-one None name cap l h = l
+long-is-one (Some files) name cap l h = h files refl
+
+alone : (o : Option Fault) (f : Fault) → o ≡ Some f → option_or o None ≡ Some f
+alone o f e = rw e refl
+
+too-long : (f : InputFile) (o : Option (List ℕ)) → IsSomeAnd o (λ bytes. cap_of f < length bytes) → file_fault f no_rule o ≡ Some (Passed (limit_of f))
+too-long f None h = absurd h
+too-long f (Some bytes) h = let t : nat_lt (cap_of f) (length bytes) ≡ true = grind (arith, nat_tests) in rw t refl
+
+pub is-too-long : {T : Type 0} (f : InputFile) (tells : Option Files) (sound : Bool) (name : List ℕ) (Means : Option (List ℕ) → T → Type 0)
+    → ForSome tells (λ files. IsSomeAnd (files name) (λ bytes. cap_of f < length bytes))
+    → IsRead tells sound (Some name) (λ held. read_step f no_rule held ∷ []) Means (Err (Passed (limit_of f)))
+is-too-long f tells sound name Means h =
+    let long = long-is-one tells name (cap_of f) (omega (arith, length-replicate {A = ℕ} (cap_of f + 1) 0)) h in
+    record {
+      file = long_under tells name (cap_of f);
+      is_told = long-told tells name (cap_of f);
+      ends = record { passed = tt; stopped = inl (alone _ _ (too-long f (long_under tells name (cap_of f)) long)) };
+      means = tt;
+    }
+
+-- ---- what was read, and its rule
+
+none-alone : (o : Option Fault) → o ≡ None → option_or o None ≡ None
+none-alone o e = rw e refl
+
+ruled : (f : InputFile) (rule : List ℕ → Option Fault) (file : Option (List ℕ)) (bytes : List ℕ) → file ≡ Some bytes → length bytes ≤ cap_of f → file_fault f rule file ≡ rule bytes
+ruled f rule file bytes e h = let t : nat_lt (cap_of f) (length bytes) ≡ false = grind (arith, nat_tests) in rw (e, t) refl
+
+-- a file that was read, and that its rule passes
+pub read-passes : {T : Type 0} {tells : Option Files} {sound : Bool} {name : Option (List ℕ)} {bytes : Vec ℕ Global} (f : InputFile) (rule : List ℕ → Option Fault) (Means : Option (List ℕ) → T → Type 0) (x : T)
+    → IsRead tells sound name (λ held. read_step f no_rule held ∷ []) (λ held b. held ≡ Some b.items) (Ok bytes) → length bytes.items ≤ cap_of f
+    → rule bytes.items ≡ None → Means (Some bytes.items) x
+    → IsRead tells sound name (λ held. read_step f rule held ∷ []) Means (Ok x)
+read-passes {bytes = bytes} f rule Means x h few passes means =
+    record {
+      file = h.file;
+      is_told = h.is_told;
+      ends = record { passed = none-alone _ (ruled f rule h.file bytes.items h.means few ∙ passes); stopped = tt };
+      means = rw h.means means;
+    }
+
+-- ... or doesn't, or memory is wanted
+pub read-stops : {T : Type 0} {tells : Option Files} {sound : Bool} {name : Option (List ℕ)} {bytes : Vec ℕ Global} (f : InputFile) (rule : List ℕ → Option Fault) (Means : Option (List ℕ) → T → Type 0) (fault : Fault)
+    → IsRead tells sound name (λ held. read_step f no_rule held ∷ []) (λ held b. held ≡ Some b.items) (Ok bytes) → length bytes.items ≤ cap_of f
+    → (rule bytes.items ≡ Some fault) ⊎ (fault ≡ Memory)
+    → IsRead tells sound name (λ held. read_step f rule held ∷ []) Means (Err fault)
+read-stops {bytes = bytes} f rule Means fault h few stops =
+    record {
+      file = h.file;
+      is_told = h.is_told;
+      ends = record {
+        passed = tt;
+        stopped = elim stops [ inl q ↦ inl (alone _ _ (ruled f rule h.file bytes.items h.means few ∙ q)) | inr q ↦ rw q (inr tt) ];
+      };
+      means = tt;
+    }
+
+-- a file that was not read is of no rule
+other-rule : (f : InputFile) (rule : List ℕ → Option Fault) (bytes : List ℕ) (fault : Fault) (b : Bool) → nat_lt (cap_of f) (length bytes) ≡ b
+    → file_fault f no_rule (Some bytes) ≡ Some fault → file_fault f rule (Some bytes) ≡ Some fault
+other-rule f rule bytes fault true e h = let g = rw e at h in rw e g
+other-rule f rule bytes fault false e h = absurd (let g = rw e at h in cc)
+
+by_none : (o : Option Fault) (x : Fault) → option_or o None ≡ Some x → o ≡ Some x
+by_none None x e = e
+by_none (Some y) x e = e
+
+other-file : (f : InputFile) (rule : List ℕ → Option Fault) (file : Option (List ℕ)) (fault : Fault) → option_or (file_fault f no_rule file) None ≡ Some fault → option_or (file_fault f rule file) None ≡ Some fault
+other-file f rule None fault h = h
+other-file f rule (Some bytes) fault h = alone _ _ (other-rule f rule bytes fault (nat_lt (cap_of f) (length bytes)) refl (by_none _ _ h))
+
+outside : (f : InputFile) (rule : List ℕ → Option Fault) (sound : Bool) (file : Option (List ℕ)) (fault : Fault)
+    → StopsOutside sound true (read_step f no_rule file ∷ []) fault → StopsOutside sound true (read_step f rule file ∷ []) fault
+outside f rule sound file (Unread g) h = (elim h.0 [ inl p ↦ inl p | inr q ↦ absurd q.1 ], h.1)
+outside f rule sound file (Unloaded table) h = absurd (h.1 refl)
+outside f rule sound file Memory h = tt
+outside f rule sound file fault h = absurd h
+
+pub read-fails : {T : Type 0} {tells : Option Files} {sound : Bool} {name : Option (List ℕ)} (f : InputFile) (rule : List ℕ → Option Fault) (Means : Option (List ℕ) → T → Type 0) (fault : Fault)
+    → IsRead tells sound name (λ held. read_step f no_rule held ∷ []) (λ held (b : Vec ℕ Global). held ≡ Some b.items) (Err fault)
+    → IsRead tells sound name (λ held. read_step f rule held ∷ []) Means (Err fault)
+read-fails {sound = sound} f rule Means fault h =
+    record {
+      file = h.file;
+      is_told = h.is_told;
+      ends = record {
+        passed = tt;
+        stopped = elim h.ends.stopped [ inl p ↦ inl (other-file f rule h.file fault p) | inr q ↦ inr (outside f rule sound h.file fault q) ];
+      };
+      means = tt;
+    }
+
+-- the fault that an error of a reader tells
+pub reader-tells : {A R : Type 0} (says : ℕ → R → Fault) (read : Result A (reading.Fault R)) (o : Option (reading.Fault R)) (fault : Fault)
+    → fault ≡ told_at says o → IfSome o (λ f. read ≡ Err f) → (fault_in says read ≡ Some fault) ⊎ (fault ≡ Memory)
+reader-tells says read None fault e h = inr e
+reader-tells says read (Some f) fault e h = inl (rw (h, e) refl)

@@ -1,0 +1,5 @@
+pub mod FileReads
+pub mod ScriptReads
+pub mod TableReads
+pub mod DataReads
+pub mod RunReads

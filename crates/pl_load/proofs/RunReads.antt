@@ -1,0 +1,110 @@
+-- A run as a whole: the pipeline file, the data, and the range.
+use Rattle.std.proofs.Common.{◌≡◌, ℕ, ℤ, Bool, true, List, [], ◌∷◌, ◌++◌, Option, Some, Result, Ok, Err, refl, sym, ◌∙◌}
+use Rattle.std.specs.Option.{ForSome}
+use Rattle.pl_outside.specs.Files.{Files}
+use Rattle.pl_outside.specs.Lists.{Lists}
+use Rattle.pl_model.specs.declared.owned.OwnedWorld.{OwnedWorld}
+use Rattle.pl_plain.specs.declared.script.PlainColumn.{PlainColumn}
+use Rattle.pl_plain.specs.PlainScript.{pipeline_of}
+use Rattle.pl_words.specs.declared.request.InputFile.{InputFile}
+use Rattle.pl_words.specs.declared.request.InputFile.TheVariants.{Pipeline, Sessions, Assets, Labels, Bars}
+use Rattle.pl_words.specs.Request.{RunRequest, Run, name_asked}
+use Rattle.pl_judge.specs.declared.fault.Fault.{Fault}
+use Rattle.pl_judge.specs.Contents.{Contents, AreHeld}
+use Rattle.pl_judge.specs.Held.{columns_in}
+use Rattle.pl_judge.specs.Work.{pipeline_steps, data_steps}
+use Rattle.pl_judge.specs.Range.{range_steps, index_of}
+use Rattle.pl_judge.specs.Steps.{Step}
+use Rattle.pl_judge.specs.Stages.{StageEnds}
+use Rattle.pl_judge.proofs.Steps.{stage-stops, stage-goes_on, stage-done, stage-weaker, stage-over, always}
+use Rattle.pl_load.specs.declared.loading.Loaded.{Loaded}
+use Rattle.pl_load.specs.Reads.{IsRead}
+use Rattle.pl_load.specs.Loads.{IsData, IsLoad, owned_world}
+use Rattle.pl_load.proofs.FileReads.{held_under, held-told}
+use Rattle.pl_load.proofs.TableReads.{listed_under, listed-told}
+
+abbrev pub ColumnsRead : {T : Type 0} → Option Files → Bool → RunRequest → (T → List PlainColumn) → Result T Fault → Type 0
+ColumnsRead tells sound q items r = IsRead tells sound (Some q.pipeline) pipeline_steps (λ held columns. columns_in held ≡ items columns) r
+
+-- the same contents, but for the pipeline file
+abbrev file_with : Option (List ℕ) → (InputFile → Option (List ℕ)) → InputFile → Option (List ℕ)
+file_with pipeline file Pipeline = pipeline
+file_with pipeline file Sessions = file Sessions
+file_with pipeline file Assets = file Assets
+file_with pipeline file Labels = file Labels
+file_with pipeline file Bars = file Bars
+
+abbrev held_with : Option (List ℕ) → Contents → Contents
+held_with pipeline held = record { file = file_with pipeline held.file; rows = held.rows }
+
+same-steps : (pipeline : Option (List ℕ)) (held : Contents) (q : RunRequest) → data_steps held q ≡ data_steps (held_with pipeline held) q
+unfolding data_steps
+same-steps pipeline held q = refl
+
+module _ (tells : Option Files) (lists : Option Lists) (sound keeper : Bool) (q : RunRequest) where
+
+  by-file : (pipeline : Option (List ℕ)) (held : Contents) → ForSome (Some q.pipeline) (λ n. ForSome tells (λ told. pipeline ≡ told n)) → AreHeld tells lists (Some (Run q)) held
+      → (file : InputFile) → ForSome (name_asked (Some (Run q)) file) (λ name. ForSome tells (λ told. file_with pipeline held.file file ≡ told name))
+  by-file pipeline held p h Pipeline = p
+  by-file pipeline held p h Sessions = h.files_held Sessions
+  by-file pipeline held p h Assets = h.files_held Assets
+  by-file pipeline held p h Labels = h.files_held Labels
+  by-file pipeline held p h Bars = h.files_held Bars
+
+  are-held : (pipeline : Option (List ℕ)) (held : Contents) → ForSome (Some q.pipeline) (λ n. ForSome tells (λ told. pipeline ≡ told n)) → AreHeld tells lists (Some (Run q)) held
+      → AreHeld tells lists (Some (Run q)) (held_with pipeline held)
+  are-held pipeline held p h = record { files_held = by-file pipeline held p h; rows_held = h.rows_held }
+
+  -- what was not reached is what the parts hold
+  abbrev left : Contents
+  left = record { file = λ file. held_under tells (name_asked (Some (Run q)) file); rows = listed_under lists q.options.adjustments }
+
+  are-left : AreHeld tells lists (Some (Run q)) left
+  are-left = record { files_held = λ file. held-told tells (name_asked (Some (Run q)) file); rows_held = listed-told lists q.options.adjustments }
+
+  pub no-pipeline : {T : Type 0} (items : T → List PlainColumn) (fault : Fault) → ColumnsRead tells sound q items (Err fault) → IsLoad tells lists sound keeper q (Err fault)
+  no-pipeline items fault h =
+      record {
+        held = held_with h.file left;
+        are_held = are-held h.file left h.is_told are-left;
+        ends = stage-stops _ (stage-weaker {U = Unit {0}} (λ t. t) always h.ends);
+        loaded = tt;
+      }
+
+  pub no-data : {T : Type 0} (items : T → List PlainColumn) (columns : T) (fault : Fault) → ColumnsRead tells sound q items (Ok columns)
+      → IsData tells lists sound keeper q (Err fault) → IsLoad tells lists sound keeper q (Err fault)
+  no-data items columns fault h d =
+      record {
+        held = held_with h.file d.held;
+        are_held = are-held h.file d.held h.is_told d.are_held;
+        ends = stage-goes_on h.ends (stage-stops _ (stage-weaker {U = Unit {0}} (λ t. t) (λ t. t) (stage-over (same-steps h.file d.held q) d.ends)));
+        loaded = tt;
+      }
+
+  pub no-range : {T : Type 0} (items : T → List PlainColumn) (columns : T) (w : OwnedWorld) (fault : Fault) → ColumnsRead tells sound q items (Ok columns)
+      → IsData tells lists sound keeper q (Ok w) → StageEnds {T = Unit {0}} true true (range_steps q (pipeline_of (items columns)) w.sessions) (Err fault)
+      → IsLoad tells lists sound keeper q (Err fault)
+  no-range items columns w fault h d r =
+      record {
+        held = held_with h.file d.held;
+        are_held = are-held h.file d.held h.is_told d.are_held;
+        ends = rw (h.means, d.days) (stage-goes_on h.ends (stage-goes_on (stage-over (same-steps h.file d.held q) d.ends) (stage-weaker always always r)));
+        loaded = tt;
+      }
+
+  pub all-loaded : {T U : Type 0} (items : T → List PlainColumn) (columns : T) (l : Loaded) (x : U) → ColumnsRead tells sound q items (Ok columns)
+      → IsData tells lists sound keeper q (Ok l.world) → StageEnds {T = U} true true (range_steps q (pipeline_of (items columns)) l.world.sessions) (Ok x)
+      → items columns ≡ l.columns.items → l.range.from ≡ index_of l.world.sessions q.from.day → l.range.to ≡ index_of l.world.sessions q.to.day
+      → IsLoad tells lists sound keeper q (Ok l)
+  all-loaded items columns l x h d r same from to =
+      record {
+        held = held_with h.file d.held;
+        are_held = are-held h.file d.held h.is_told d.are_held;
+        ends = rw (h.means, d.days) (stage-goes_on h.ends (stage-goes_on (stage-over (same-steps h.file d.held q) d.ends) (stage-done r)));
+        loaded = record {
+          columns = h.means ∙ same;
+          world = d.world;
+          from = rw d.days (sym from);
+          to = rw d.days (sym to);
+        };
+      }

@@ -1,0 +1,85 @@
+-- The pipeline file that was read, and its form.
+use Rattle.std.proofs.Common.{◌≡◌, ◌⊎◌, inl, inr, ◌≤◌, ℕ, List, [], ◌∷◌, Bool, length, Option, Some, None, Result, Ok, Err, refl, ◌∙◌, arith}
+use Rattle.std.specs.Option.{option_or}
+use Rattle.pl_outside.specs.Files.{Files}
+use Rattle.pl_grammar.specs.Faults as syntax
+use Rattle.pl_grammar.specs.Script.{Statement}
+use Rattle.pl_syntax.specs.declared.error.SyntaxError.{SyntaxError}
+use Rattle.pl_syntax.specs.declared.error.SyntaxError.TheVariants as errors
+use Rattle.pl_syntax.specs.Parsing.{IsCause}
+use Rattle.pl_syntax.specs.Said.{said}
+use Rattle.pl_syntax.proofs.TextsSaid.{fault-said}
+use Rattle.pl_plain.specs.declared.script.PlainColumn.{PlainColumn}
+use Rattle.pl_plain.specs.PlainScript.{plain_columns}
+use Rattle.pl_plain.proofs.PlainScripts.{scripts-read}
+use Rattle.pl_judge.specs.declared.fault.Fault.{Fault}
+use Rattle.pl_judge.specs.declared.fault.Fault.TheVariants.{Unbuilt, Memory}
+use Rattle.pl_judge.specs.Rules.{syntax_error}
+use Rattle.pl_judge.specs.Held.{statements_read, columns_in}
+use Rattle.pl_judge.specs.Work.{fault_said, syntax_rule, form_rule, syntax_step, pipeline_steps}
+use Rattle.pl_judge.specs.Steps.{rule, first_fault}
+use Rattle.pl_judge.specs.Stages.{StageEnds}
+use Rattle.pl_judge.proofs.Steps.{stage-goes_on, stage-stops}
+use Rattle.pl_load.specs.Reads.{IsRead}
+
+-- an error of the parser tells what the text says
+pub error-tells : (bytes : List ℕ) (e : SyntaxError) (fault : Fault) → fault ≡ syntax_error e → IsCause bytes e → length bytes ≤ 262_144
+    → (syntax_rule bytes ≡ Some fault) ⊎ (fault ≡ Memory)
+unfolding syntax_rule
+error-tells bytes (errors.BadByte p) fault is h few = inl (rw (fault-said bytes syntax.BadByte p h, is) refl)
+error-tells bytes (errors.Unexpected p) fault is h few = inl (rw (fault-said bytes syntax.Unexpected p h, is) refl)
+error-tells bytes (errors.TooDeep p) fault is h few = inl (rw (fault-said bytes syntax.TooDeep p h, is) refl)
+error-tells bytes (errors.NumberTooLarge p) fault is h few = inl (rw (fault-said bytes syntax.NumberTooLarge p h, is) refl)
+error-tells bytes (errors.LongStatement p) fault is h few = inl (rw (fault-said bytes syntax.LongStatement p h, is) refl)
+error-tells bytes errors.TooLong fault is h few = absurd (omega arith)
+error-tells bytes errors.Memory fault is h few = inr is
+
+-- ---- the form of a script
+
+form-passes : {T : Type 0} {s k : Bool} (held statements : List Statement) (columns : List PlainColumn) (x : T) → held ≡ statements → plain_columns statements ≡ Some columns
+    → StageEnds s k (rule (form_rule held) ∷ []) (Ok x)
+unfolding form_rule
+form-passes held statements columns x e h = record { passed = rw (e, h) refl; stopped = tt }
+
+form-stops : {T : Type 0} {s k : Bool} (held statements : List Statement) → held ≡ statements → plain_columns statements ≡ None
+    → StageEnds {T = T} s k (rule (form_rule held) ∷ []) (Err Unbuilt)
+unfolding form_rule
+form-stops held statements e h = record { passed = tt; stopped = inl (rw (e, h) refl) }
+
+-- the statements of a file have columns
+columns-in : (file : Option (List ℕ)) (statements : List Statement) (columns : List PlainColumn) → statements_read file ≡ statements → plain_columns statements ≡ Some columns → columns_in file ≡ columns
+unfolding columns_in
+columns-in file statements columns e h = rw (e, h) refl
+
+pub columns-read : {S T : Type 0} {tells : Option Files} {sound : Bool} {name : Option (List ℕ)} {script : S} (said : S → List Statement) (Means : Option (List ℕ) → T → Type 0) (columns : List PlainColumn) (x : T)
+    → IsRead tells sound name (λ held. syntax_step held ∷ []) (λ held y. statements_read held ≡ said y) (Ok script) → plain_columns (said script) ≡ Some columns
+    → ((file : Option (List ℕ)) → columns_in file ≡ columns → Means file x)
+    → IsRead tells sound name pipeline_steps Means (Ok x)
+columns-read {script = script} said Means columns x h plain means =
+    record {
+      file = h.file;
+      is_told = h.is_told;
+      ends = stage-goes_on h.ends (form-passes (statements_read h.file) (said script) columns x h.means plain);
+      means = means h.file (columns-in h.file (said script) columns h.means plain);
+    }
+
+-- ... or have none
+pub no-columns : {S T : Type 0} {tells : Option Files} {sound : Bool} {name : Option (List ℕ)} {script : S} (said : S → List Statement) (Means : Option (List ℕ) → T → Type 0)
+    → IsRead tells sound name (λ held. syntax_step held ∷ []) (λ held y. statements_read held ≡ said y) (Ok script) → plain_columns (said script) ≡ None
+    → IsRead tells sound name pipeline_steps Means (Err Unbuilt)
+no-columns {script = script} said Means h plain =
+    record {
+      file = h.file;
+      is_told = h.is_told;
+      ends = stage-goes_on h.ends (form-stops (statements_read h.file) (said script) h.means plain);
+      means = tt;
+    }
+
+-- memory is wanted for the columns
+pub no-script : {S T : Type 0} {tells : Option Files} {sound : Bool} {name : Option (List ℕ)} {fault : Fault} (Said : Option (List ℕ) → S → Type 0) (Means : Option (List ℕ) → T → Type 0)
+    → IsRead {T = S} tells sound name (λ held. syntax_step held ∷ []) Said (Err fault)
+    → IsRead tells sound name pipeline_steps Means (Err fault)
+no-script Said Means h = record { file = h.file; is_told = h.is_told; ends = stage-stops _ h.ends; means = tt }
+
+pub columns-few : (columns : List PlainColumn) (statements : List Statement) → plain_columns statements ≡ Some columns → length columns ≤ 64
+columns-few columns statements h = ((scripts-read columns statements).0 h).few

@@ -1,0 +1,3 @@
+-- How the stages of loading end.
+pub mod Reads
+pub mod Loads

@@ -1,0 +1,51 @@
+-- What was loaded.
+use Rattle.std.specs.Prelude.{◌≡◌, ℕ, ◌<◌, ◌≤◌, Bool, List, length, Option, Some, Result, IfOk}
+use Rattle.pl_spec.specs.World.{World}
+use Rattle.pl_spec.specs.Parts.{world_of}
+use Rattle.pl_outside.specs.Files.{Files}
+use Rattle.pl_outside.specs.Lists.{Lists}
+use Rattle.pl_model.specs.declared.owned.OwnedWorld.{OwnedWorld}
+use Rattle.pl_model.specs.Worlds.{AreMadeFor}
+use Rattle.pl_words.specs.Request.{RunRequest, Run}
+use Rattle.pl_judge.specs.declared.fault.Fault.{Fault}
+use Rattle.pl_judge.specs.Contents.{Contents, AreHeld}
+use Rattle.pl_judge.specs.Held.{columns_held, days_held, world_held}
+use Rattle.pl_judge.specs.Work.{data_steps, run_steps}
+use Rattle.pl_judge.specs.Range.{index_of}
+use Rattle.pl_judge.specs.Stages.{StageEnds}
+use Rattle.pl_load.specs.declared.loading.Loaded.{Loaded}
+
+abbrev pub owned_world : OwnedWorld → World
+owned_world w = world_of w.sessions w.assets w.labels.rows w.labels.texts w.bars w.adjustments
+
+-- the parts were made for their own sessions and assets
+abbrev pub IsOwned : OwnedWorld → Type 0
+IsOwned w = AreMadeFor w.sessions w.assets w.labels.rows w.bars w.adjustments
+
+-- The parts are those of the contents, and the range is that of the two dates.
+pub record IsLoaded (held : Contents) (q : RunRequest) (l : Loaded) : Type 0 where
+  pub columns : columns_held held ≡ l.columns.items
+  pub world : world_held held q ≡ owned_world l.world
+  pub from : index_of (days_held held) q.from.day ≡ l.range.from
+  pub to : index_of (days_held held) q.to.day ≡ l.range.to
+
+-- what a writer of the rows asks
+pub record IsReady (l : Loaded) : Type 0 where
+  pub made : IsOwned l.world
+  pub within : l.range.to < length l.world.sessions
+  pub few : length l.columns.items ≤ 64
+
+-- The data of a run is read: it is that of contents which the parts hold where they tell, and the work over these ends so.
+pub record IsData (files : Option Files) (lists : Option Lists) (shelf keeper : Bool) (q : RunRequest) (result : Result OwnedWorld Fault) : Type 0 where
+  pub held : Contents
+  pub are_held : AreHeld files lists (Some (Run q)) held
+  pub ends : StageEnds shelf keeper (data_steps held q) result
+  pub days : IfOk result (λ w. days_held held ≡ w.sessions)
+  pub world : IfOk result (λ w. world_held held q ≡ owned_world w)
+
+-- A run is loaded in this way.
+pub record IsLoad (files : Option Files) (lists : Option Lists) (shelf keeper : Bool) (q : RunRequest) (result : Result Loaded Fault) : Type 0 where
+  pub held : Contents
+  pub are_held : AreHeld files lists (Some (Run q)) held
+  pub ends : StageEnds shelf keeper (run_steps held q) result
+  pub loaded : IfOk result (IsLoaded held q)

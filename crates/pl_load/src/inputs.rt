@@ -1,0 +1,137 @@
+// The files of the shelf. Each stage reads one file whole and judges it, and ends as its steps say.
+ghost use Rattle.std.specs.Prelude.{◌≡◌, ◌≤◌, ◌<◌, [], ◌∷◌, Some, length, All, IfOk, IfErr, option_map};
+ghost use Rattle.pl_outside.specs.Counts.{Rose};
+ghost use Rattle.pl_outside.specs.Left.{Leaves};
+ghost use Rattle.pl_syntax.specs.Statements.{statements_of};
+ghost use Rattle.pl_syntax.specs.Scripts.{statements_in};
+ghost use Rattle.pl_words.specs.declared.request.InputFile.TheVariants as files;
+ghost use Rattle.pl_judge.specs.Held.{statements_read, columns_in, days_in, assets_in, labels_asked, bars_in};
+ghost use Rattle.pl_judge.specs.Work.{cap_of, read_step, syntax_step, pipeline_steps, sessions_rule, assets_rule, labels_steps, bars_rule};
+ghost use Rattle.pl_judge.specs.Stages.{IsRisen};
+ghost use Rattle.pl_load.specs.Reads.{IsRead, no_rule};
+
+use pl_assets::{Assets, Labels};
+use pl_bars::Bars;
+use pl_calendar::Sessions;
+use pl_judge::{Fault, cap_of, limit_of};
+use pl_outside::{ReadError, Shelf, read_file};
+use pl_plain::{PlainColumn, plain_columns};
+use pl_syntax::{Script, parse};
+use pl_words::InputFile;
+use std::alloc::Global;
+
+// The whole bytes of a file.
+fn read_input<S: Shelf>(
+    alloc: Global,
+    shelf: &mut S,
+    name: &str,
+    file: InputFile,
+) -> Result<Vec<u8>, Fault>
+    ensures read { IsRead (S.holds shelf.old) (S.sound shelf.old) (Some name.now) (λ held. read_step file no_rule held ∷ [])
+        (λ held bytes. held ≡ Some bytes.items) result }
+    ensures within { IfOk result (λ bytes. length bytes.items ≤ cap_of file) }
+    ensures leaves { Leaves S.holds S.sound S.faults shelf.old shelf.new }
+    ensures risen { IfErr result (IsRisen (Rose (S.faults shelf.old) (S.faults shelf.new)) ⊥) }
+{
+    match read_file(alloc, shelf, name, cap_of(file)) {
+        Ok(bytes) => Ok(bytes),
+        Err(ReadError::Failed) => Err(Fault::Unread(file)),
+        Err(ReadError::TooLong) => Err(Fault::Passed(limit_of(file))),
+        Err(ReadError::Memory) => Err(Fault::Memory),
+    }
+}
+
+/// The script of the pipeline file of that name.
+pub fn read_script<S: Shelf>(alloc: Global, shelf: &mut S, name: &str) -> Result<Script, Fault>
+    ensures read { IsRead (S.holds shelf.old) (S.sound shelf.old) (Some name.now) (λ held. syntax_step held ∷ [])
+        (λ held script. statements_read held ≡ statements_of (statements_in script)) result }
+    ensures leaves { Leaves S.holds S.sound S.faults shelf.old shelf.new }
+    ensures risen { IfErr result (IsRisen (Rose (S.faults shelf.old) (S.faults shelf.new)) ⊥) }
+{
+    let bytes = read_input(alloc, shelf, name, InputFile::Pipeline)?;
+    Ok(parse(alloc, &bytes)?)
+}
+
+/// The columns of the pipeline file of that name.
+pub fn read_columns<S: Shelf>(
+    alloc: Global,
+    shelf: &mut S,
+    name: &str,
+) -> Result<Vec<PlainColumn>, Fault>
+    ensures read { IsRead (S.holds shelf.old) (S.sound shelf.old) (Some name.now) pipeline_steps
+        (λ held columns. columns_in held ≡ columns.items) result }
+    ensures few { IfOk result (λ columns. length columns.items ≤ 64) }
+    ensures leaves { Leaves S.holds S.sound S.faults shelf.old shelf.new }
+    ensures risen { IfErr result (IsRisen (Rose (S.faults shelf.old) (S.faults shelf.new)) ⊥) }
+{
+    let script = read_script(alloc, shelf, name)?;
+    match plain_columns(alloc, &script)? {
+        Some(columns) => Ok(columns),
+        None => Err(Fault::Unbuilt),
+    }
+}
+
+/// The sessions of the sessions file of that name.
+pub fn read_sessions<S: Shelf>(alloc: Global, shelf: &mut S, name: &str) -> Result<Sessions, Fault>
+    ensures read { IsRead (S.holds shelf.old) (S.sound shelf.old) (Some name.now)
+        (λ held. read_step files.Sessions sessions_rule held ∷ []) (λ held sessions. days_in held ≡ sessions) result }
+    ensures leaves { Leaves S.holds S.sound S.faults shelf.old shelf.new }
+    ensures risen { IfErr result (IsRisen (Rose (S.faults shelf.old) (S.faults shelf.new)) ⊥) }
+{
+    let bytes = read_input(alloc, shelf, name, InputFile::Sessions)?;
+    Ok(Sessions::read(alloc, &bytes)?)
+}
+
+/// The assets of the assets file of that name.
+pub fn read_assets<S: Shelf>(alloc: Global, shelf: &mut S, name: &str) -> Result<Assets, Fault>
+    ensures read { IsRead (S.holds shelf.old) (S.sound shelf.old) (Some name.now)
+        (λ held. read_step files.Assets assets_rule held ∷ []) (λ held assets. assets_in held ≡ assets) result }
+    ensures leaves { Leaves S.holds S.sound S.faults shelf.old shelf.new }
+    ensures risen { IfErr result (IsRisen (Rose (S.faults shelf.old) (S.faults shelf.new)) ⊥) }
+{
+    let bytes = read_input(alloc, shelf, name, InputFile::Assets)?;
+    Ok(Assets::read(alloc, &bytes)?)
+}
+
+/// The labels of the labels file of that name; none where no name is given.
+pub fn read_labels<S: Shelf>(
+    alloc: Global,
+    shelf: &mut S,
+    name: Option<&str>,
+    assets: &Assets,
+) -> Result<Labels, Fault>
+    ensures read { let asked = option_map (λ n. n.now) name.entry in
+        IsRead (S.holds shelf.old) (S.sound shelf.old) asked (labels_steps assets.now asked)
+        (λ held labels. labels_asked assets.now asked held ≡ labels) result }
+    ensures cols { IfOk result (λ labels. All (λ r. r.col < length assets.now) labels.rows) }
+    ensures leaves { Leaves S.holds S.sound S.faults shelf.old shelf.new }
+    ensures risen { IfErr result (IsRisen (Rose (S.faults shelf.old) (S.faults shelf.new)) ⊥) }
+{
+    match name {
+        None => Ok(Labels::none(alloc)),
+        Some(name) => {
+            let bytes = read_input(alloc, shelf, name, InputFile::Labels)?;
+            Ok(Labels::read(alloc, &bytes, assets)?)
+        }
+    }
+}
+
+/// The bars of the bars file of that name.
+pub fn read_bars<S: Shelf>(
+    alloc: Global,
+    shelf: &mut S,
+    name: &str,
+    sessions: &Sessions,
+    assets: &Assets,
+) -> Result<Bars, Fault>
+    ensures read { IsRead (S.holds shelf.old) (S.sound shelf.old) (Some name.now)
+        (λ held. read_step files.Bars (bars_rule sessions.now assets.now) held ∷ [])
+        (λ held bars. bars_in sessions.now assets.now held ≡ bars) result }
+    ensures cols { IfOk result (All (λ b. b.col < length assets.now)) }
+    ensures sessions { IfOk result (All (λ b. b.session < length sessions.now)) }
+    ensures leaves { Leaves S.holds S.sound S.faults shelf.old shelf.new }
+    ensures risen { IfErr result (IsRisen (Rose (S.faults shelf.old) (S.faults shelf.new)) ⊥) }
+{
+    let bytes = read_input(alloc, shelf, name, InputFile::Bars)?;
+    Ok(Bars::read(alloc, &bytes, sessions, assets)?)
+}

@@ -1,0 +1,9 @@
+//! From the files and tables of a run to its world: each is read whole and judged before the next one is begun.
+#![tactic(auto)]
+
+mod inputs;
+mod loading;
+mod tables;
+
+pub use inputs::read_script;
+pub use loading::{Loaded, load};

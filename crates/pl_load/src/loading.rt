@@ -1,0 +1,76 @@
+// What a run reads and judges before its first row.
+ghost use Rattle.std.specs.Prelude.{◌≡◌, None, IfOk, IfErr};
+ghost use Rattle.pl_outside.specs.Counts.{Rose};
+ghost use Rattle.pl_outside.specs.Left.{Leaves, IsUntouched};
+ghost use Rattle.pl_words.specs.Views.{run_of};
+ghost use Rattle.pl_judge.specs.Stages.{IsRisen};
+ghost use Rattle.pl_load.specs.Loads.{IsData, IsLoad, IsOwned, IsReady};
+
+use crate::inputs::{read_assets, read_bars, read_columns, read_labels, read_sessions};
+use crate::tables::read_adjustments;
+use pl_judge::{Fault, Range, judge_range};
+use pl_model::OwnedWorld;
+use pl_outside::{AdjustKeeper, Shelf};
+use pl_plain::PlainColumn;
+use pl_words::RunRequest;
+use std::alloc::Global;
+
+/// What was read and judged, and is left to write: the rows of the sessions of the range.
+#[derive(Drop)]
+pub struct Loaded {
+    pub columns: Vec<PlainColumn>,
+    pub world: OwnedWorld,
+    pub range: Range,
+}
+
+/// All that a run reads and judges, in the order of work.
+pub fn load<S: Shelf, K: AdjustKeeper>(
+    alloc: Global,
+    request: &RunRequest<'_>,
+    shelf: &mut S,
+    keeper: &mut K,
+) -> Result<Loaded, Fault>
+    ensures load { IsLoad (S.holds shelf.old) (K.lists keeper.old) (S.sound shelf.old) (K.sound keeper.old) (run_of request.now) result }
+    ensures ready { IfOk result IsReady }
+    ensures shelf { Leaves S.holds S.sound S.faults shelf.old shelf.new }
+    ensures keeper { Leaves K.lists K.sound K.faults keeper.old keeper.new }
+    ensures alone { (run_of request.now).options.adjustments ≡ None → IsUntouched K.faults K.calls keeper.old keeper.new }
+    ensures risen { IfErr result (IsRisen (Rose (S.faults shelf.old) (S.faults shelf.new)) (Rose (K.faults keeper.old) (K.faults keeper.new))) }
+{
+    let columns = read_columns(alloc, shelf, request.pipeline)?;
+    let world = read_world(alloc, request, shelf, keeper)?;
+    let range = judge_range(request, &columns, &world.sessions)?;
+    Ok(Loaded {
+        columns,
+        world,
+        range,
+    })
+}
+
+// The data of the run, each part judged before the next one is begun.
+fn read_world<S: Shelf, K: AdjustKeeper>(
+    alloc: Global,
+    request: &RunRequest<'_>,
+    shelf: &mut S,
+    keeper: &mut K,
+) -> Result<OwnedWorld, Fault>
+    ensures parts { IsData (S.holds shelf.old) (K.lists keeper.old) (S.sound shelf.old) (K.sound keeper.old) (run_of request.now) result }
+    ensures made { IfOk result IsOwned }
+    ensures shelf { Leaves S.holds S.sound S.faults shelf.old shelf.new }
+    ensures keeper { Leaves K.lists K.sound K.faults keeper.old keeper.new }
+    ensures alone { (run_of request.now).options.adjustments ≡ None → IsUntouched K.faults K.calls keeper.old keeper.new }
+    ensures risen { IfErr result (IsRisen (Rose (S.faults shelf.old) (S.faults shelf.new)) (Rose (K.faults keeper.old) (K.faults keeper.new))) }
+{
+    let sessions = read_sessions(alloc, shelf, request.sessions)?;
+    let assets = read_assets(alloc, shelf, request.assets)?;
+    let labels = read_labels(alloc, shelf, request.options.labels, &assets)?;
+    let bars = read_bars(alloc, shelf, request.bars, &sessions, &assets)?;
+    let adjustments = read_adjustments(alloc, keeper, request.options.adjustments, &assets)?;
+    Ok(OwnedWorld {
+        sessions,
+        assets,
+        labels,
+        bars,
+        adjustments,
+    })
+}

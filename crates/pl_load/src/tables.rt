@@ -1,0 +1,60 @@
+// The adjustments of the keeper.
+ghost use Rattle.std.specs.Prelude.{◌≡◌, ◌<◌, length, Some, All, IsNone, IfOk, IfErr, option_map};
+ghost use Rattle.std.specs.Option.{ForSome};
+ghost use Rattle.pl_outside.specs.Counts.{Rose};
+ghost use Rattle.pl_outside.specs.Left.{Leaves, IsUntouched};
+ghost use Rattle.pl_judge.specs.Held.{adjustments_asked};
+ghost use Rattle.pl_judge.specs.Work.{adjustments_steps};
+ghost use Rattle.pl_judge.specs.Stages.{IsRisen};
+ghost use Rattle.pl_load.specs.Reads.{AreLoaded, IsUnloaded};
+
+use pl_adjust::Adjustments;
+use pl_assets::Assets;
+use pl_judge::Fault;
+use pl_outside::{AdjustKeeper, KeepError, RawAdjust, Table};
+use std::alloc::Global;
+
+/// The adjustments of that name; none where no name is given, and then the keeper is left alone.
+pub fn read_adjustments<K: AdjustKeeper>(
+    alloc: Global,
+    keeper: &mut K,
+    name: Option<&str>,
+    assets: &Assets,
+) -> Result<Adjustments, Fault>
+    ensures read { let asked = option_map (λ n. n.now) name.entry in
+        AreLoaded (K.lists keeper.old) (K.sound keeper.old) asked (adjustments_steps assets.now asked)
+        (λ rows adjustments. adjustments_asked assets.now asked rows ≡ adjustments) result }
+    ensures cols { IfOk result (All (λ x. x.col < length assets.now)) }
+    ensures leaves { Leaves K.lists K.sound K.faults keeper.old keeper.new }
+    ensures alone { IsNone name.entry → IsUntouched K.faults K.calls keeper.old keeper.new }
+    ensures risen { IfErr result (IsRisen ⊥ (Rose (K.faults keeper.old) (K.faults keeper.new))) }
+{
+    match name {
+        None => Ok(Adjustments::none(alloc)),
+        Some(name) => {
+            let splits = load_table(alloc, keeper, name, Table::Splits)?;
+            let mergers = load_table(alloc, keeper, name, Table::Mergers)?;
+            let dividends = load_table(alloc, keeper, name, Table::Dividends)?;
+            Ok(Adjustments::from_rows(alloc, assets, &splits, &mergers, &dividends)?)
+        }
+    }
+}
+
+// The rows of one table.
+fn load_table<K: AdjustKeeper>(
+    alloc: Global,
+    keeper: &mut K,
+    name: &str,
+    table: Table,
+) -> Result<Vec<RawAdjust>, Fault>
+    ensures rows { ForSome (K.lists keeper.old) (λ lists. IfOk result (λ rows. rows.items ≡ lists name.now table)) }
+    ensures unloaded { IfErr result (IsUnloaded (K.sound keeper.old) (Rose (K.faults keeper.old) (K.faults keeper.new)) table) }
+    ensures leaves { Leaves K.lists K.sound K.faults keeper.old keeper.new }
+{
+    let mut rows = Vec::new(alloc);
+    match keeper.load(alloc, name, table, &mut rows) {
+        Ok(()) => Ok(rows),
+        Err(KeepError::Failed) => Err(Fault::Unloaded(table)),
+        Err(KeepError::Memory) => Err(Fault::Memory),
+    }
+}

@@ -1,0 +1,36 @@
+ghost use Rattle.std.specs.Prelude.{◌≡◌};
+
+use crate::world::World;
+use pl_adjust::Adjustments;
+use pl_assets::{Assets, Labels};
+use pl_bars::Bars;
+use pl_calendar::Sessions;
+
+/// The parts of a world, owned.
+#[derive(Drop)]
+pub struct OwnedWorld {
+    pub sessions: Sessions,
+    pub assets: Assets,
+    pub labels: Labels,
+    pub bars: Bars,
+    pub adjustments: Adjustments,
+}
+
+impl OwnedWorld {
+    /// Lends its parts.
+    pub fn world(&self) -> World<'_>
+        ensures sessions { result.sessions.now ≡ self.now.sessions }
+        ensures assets { result.assets.now ≡ self.now.assets }
+        ensures labels { result.labels.now ≡ self.now.labels }
+        ensures bars { result.bars.now ≡ self.now.bars }
+        ensures adjustments { result.adjustments.now ≡ self.now.adjustments }
+    {
+        World {
+            sessions: &self.sessions,
+            assets: &self.assets,
+            labels: &self.labels,
+            bars: &self.bars,
+            adjustments: &self.adjustments,
+        }
+    }
+}
