@@ -1,10 +1,3 @@
-pub mod CellTexts
-pub mod FileSteps
-pub mod Finish
-pub mod PlainScripts
-pub mod PlainPipelines
-pub mod Ranges
-pub mod SessionLines
-pub mod Steps
-pub mod TableSteps
-pub mod RowLines
+pub mod Keepers
+pub mod Ended
+pub mod Finished

@@ -1,13 +1,4 @@
--- What the contract of the program cites: what the words ask for, the work in its order with its faults, the text, and how
--- a run may end.
-pub mod Request
-pub mod Fault
-pub mod PlainScript
-pub mod Step
-pub mod Work
-pub mod Range
-pub mod Reading
-pub mod Loads
-pub mod Rows
-pub mod Ends
-pub mod Misspelled
+-- What a run of the program is. Texts and Runs are for every reader; Commands are words of the code's own contracts.
+pub mod Texts
+pub mod Runs
+pub mod Commands

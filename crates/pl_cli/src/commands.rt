@@ -1,87 +1,99 @@
-// The commands. Each ends as its steps say, and writes its text.
-ghost use Rattle.std.specs.Prelude.{◌≡◌, ◌≤◌, ◌+◌, [], ◌∷◌, true, length, IsTrue, OnOk, IfOk, IfErr};
-ghost use Rattle.std.specs.Option.{ForSome};
+// The commands. Each reads and judges what it is asked for, and writes its text.
+ghost use Rattle.std.specs.Prelude.{◌≡◌, ◌≤◌, ◌+◌, ℕ, Bool, Option, None, Some, OnOk, IfErr};
 ghost use Rattle.pl_outside.specs.Counts.{Rose};
-ghost use Rattle.pl_syntax.specs.Canonical.{script_text};
-ghost use Rattle.pl_cli.specs.Work.{ForTold, run_steps, run_text, run_cost, syntax_step, statements_held};
-ghost use Rattle.pl_cli.specs.Ends.{StageEnds, CommandEnds, IsCaused, IsRisen};
-ghost use Rattle.pl_cli.specs.Reading.{run_of};
+ghost use Rattle.pl_spec.specs.declared.Format.TheVariants.{Csv};
+ghost use Rattle.pl_spec.specs.Text.{header};
+ghost use Rattle.pl_outside.specs.Lists.{Lists};
+ghost use Rattle.pl_outside.specs.Taken.{Writes};
+ghost use Rattle.pl_outside.specs.Left.{Leaves, LeavesSink, IsUntouched};
+ghost use Rattle.pl_plain.specs.PlainScript.{pipeline_of};
+ghost use Rattle.pl_words.specs.Request.{Run, Fmt};
+ghost use Rattle.pl_words.specs.Views.{run_of};
+ghost use Rattle.pl_cli.specs.Runs.{observed};
+ghost use Rattle.pl_load.specs.Loads.{IsReady};
+ghost use Rattle.pl_cli.specs.Commands.{IsEnded, IsCaused, loaded_text, loaded_cost};
 
-use crate::files::read_script;
-use crate::load::load;
-use crate::stop::{End, Stop};
-use crate::words::RunRequest;
-use crate::writing::write_table;
 use pl_fixed::Steps;
+use pl_judge::Fault;
+use pl_load::{Loaded, load, read_script};
 use pl_outside::{AdjustKeeper, Shelf, Sink, write_bytes};
+use pl_runner::{TableText, make_header, write_table};
 use pl_syntax::print;
+use pl_words::RunRequest;
 use std::alloc::Global;
 use std::sync::ledger::Ledger;
 
 /// Reads and judges what the request names, and writes the table.
-pub fn run_command<'a, S: Shelf, K: AdjustKeeper, O: Sink, L: Ledger>(
+pub fn run_command<S: Shelf, K: AdjustKeeper, O: Sink, L: Ledger>(
     alloc: Global,
-    request: &RunRequest<'a>,
+    request: &RunRequest<'_>,
     shelf: &mut S,
     keeper: &mut K,
     out: &mut O,
     steps: &mut Steps<L>,
-) -> Result<(), End<'a>>
-    ensures ends { ForTold (run_of request.now).options.adjustments (S.holds shelf.old) (K.lists keeper.old) (λ files lists.
-        let text = run_text files lists (run_of request.now) in
-        CommandEnds (S.sound shelf.old) (K.sound keeper.old) (run_steps files lists (run_of request.now)) (O.taken out.old) (O.taken out.new)
-        (IsTrue (O.sound out.old) × (length text ≤ O.room out.old)) text result) }
-    ensures caused { IfErr result (IsCaused ⊥ (Rose (S.faults shelf.old) (S.faults shelf.new)) (Rose (K.faults keeper.old) (K.faults keeper.new))
-        (Rose (O.faults out.old) (O.faults out.new)) ((O.taken out.new ≡ O.taken out.old) × (steps.new ≡ steps.old))) }
-    ensures cost { ForTold (run_of request.now).options.adjustments (S.holds shelf.old) (K.lists keeper.old) (λ files lists.
-        OnOk result (steps.new ≡ steps.old + run_cost files lists (run_of request.now))) }
-    ensures most { ForTold (run_of request.now).options.adjustments (S.holds shelf.old) (K.lists keeper.old) (λ files lists.
-        steps.new ≤ steps.old + run_cost files lists (run_of request.now)) }
+) -> Result<(), Fault>
+    ensures ended { IsEnded (observed S.holds S.sound K.lists K.sound O.taken O.sound O.room shelf.old keeper.old out.old out.new
+        steps.old steps.new) (Some (Run (run_of request.now))) result }
+    ensures caused { IfErr result (IsCaused ⊥ (Rose (S.faults shelf.old) (S.faults shelf.new))
+        (Rose (K.faults keeper.old) (K.faults keeper.new)) (Rose (O.faults out.old) (O.faults out.new))
+        ((O.taken out.new ≡ O.taken out.old) × (O.room out.new ≡ O.room out.old) × (steps.new ≡ steps.old))) }
+    ensures shelf { Leaves S.holds S.sound S.faults shelf.old shelf.new }
+    ensures keeper { Leaves K.lists K.sound K.faults keeper.old keeper.new }
+    ensures alone { (run_of request.now).options.adjustments ≡ None → IsUntouched K.faults K.calls keeper.old keeper.new }
+    ensures out { LeavesSink O.sound O.faults out.old out.new }
 {
-    match load(alloc, request, shelf, keeper) {
-        Err(stop) => Err(End::Stopped(stop)),
-        Ok(loaded) => match write_table(&loaded, out, steps) {
-            Ok(()) => Ok(()),
-            Err(_) => Err(End::Unwritten),
-        },
+    let loaded = load(alloc, request, shelf, keeper)?;
+    let header = make_header(alloc, &loaded.columns)?;
+    write_loaded(&loaded, &header, out, steps)
+}
+
+// Writes the table of what was loaded, behind its header.
+fn write_loaded<O: Sink, L: Ledger>(
+    loaded: &Loaded,
+    first_line: &[u8],
+    out: &mut O,
+    steps: &mut Steps<L>,
+) -> Result<(), Fault>
+    requires ready { IsReady loaded.now }
+    requires headed { first_line.now ≡ header (pipeline_of loaded.now.columns.items) Csv }
+    ensures writes { Writes O.taken O.faults O.sound O.room out.old out.new (loaded_text loaded.now) result }
+    ensures unwritten { IfErr result (λ fault. fault ≡ Fault.Unwritten) }
+    ensures cost { OnOk result (steps.new ≡ steps.old + loaded_cost loaded.now) }
+    ensures most { steps.new ≤ steps.old + loaded_cost loaded.now }
+{
+    let table = TableText {
+        header: first_line,
+        world: loaded.world.world(),
+        columns: &loaded.columns,
+        from: loaded.range.from,
+        to: loaded.range.to,
+    };
+    match write_table(&table, out, steps) {
+        Ok(()) => Ok(()),
+        Err(_) => Err(Fault::Unwritten),
     }
 }
 
 /// Reads the pipeline file of that name, and writes its canonical text.
-pub fn fmt_command<'a, S: Shelf, O: Sink>(
+pub fn fmt_command<S: Shelf, O: Sink>(
     alloc: Global,
-    name: &'a str,
+    name: &str,
     shelf: &mut S,
     out: &mut O,
-) -> Result<(), End<'a>>
-    ensures ends { ForSome (S.holds shelf.old) (λ files. let text = script_text (statements_held files name.now) in
-        CommandEnds (S.sound shelf.old) true (syntax_step files name.now ∷ []) (O.taken out.old) (O.taken out.new)
-        (IsTrue (O.sound out.old) × (length text ≤ O.room out.old)) text result) }
+) -> Result<(), Fault>
+    // whatever a keeper tells, and however many steps were counted
+    ensures ended { (lists : Option Lists) (sound : Bool) (steps : ℕ) → IsEnded (observed S.holds S.sound (λ _. lists) (λ _. sound)
+        O.taken O.sound O.room shelf.old steps out.old out.new steps steps) (Some (Fmt name.now)) result }
     ensures caused { IfErr result (IsCaused ⊥ (Rose (S.faults shelf.old) (S.faults shelf.new)) ⊥
-        (Rose (O.faults out.old) (O.faults out.new)) (O.taken out.new ≡ O.taken out.old)) }
-{
-    match canonical_text(alloc, name, shelf) {
-        Err(stop) => Err(End::Stopped(stop)),
-        Ok(text) => match write_bytes(out, &text) {
-            Ok(()) => Ok(()),
-            Err(_) => Err(End::Unwritten),
-        },
-    }
-}
-
-fn canonical_text<'a, S: Shelf>(
-    alloc: Global,
-    name: &'a str,
-    shelf: &mut S,
-) -> Result<Vec<u8>, Stop<'a>>
-    ensures ends { ForSome (S.holds shelf.old) (λ files.
-        StageEnds (S.sound shelf.old) true (syntax_step files name.now ∷ []) result) }
-    ensures exact { ForSome (S.holds shelf.old) (λ files. IfOk result (λ text. text.items ≡ script_text (statements_held files name.now))) }
-    ensures risen { IfErr result (IsRisen (Rose (S.faults shelf.old) (S.faults shelf.new)) ⊥) }
+        (Rose (O.faults out.old) (O.faults out.new))
+        ((O.taken out.new ≡ O.taken out.old) × (O.room out.new ≡ O.room out.old))) }
+    ensures shelf { Leaves S.holds S.sound S.faults shelf.old shelf.new }
+    ensures out { LeavesSink O.sound O.faults out.old out.new }
 {
     let script = read_script(alloc, shelf, name)?;
-    match print(alloc, &script) {
-        Ok(text) => Ok(text),
-        Err(_) => Err(Stop::Memory),
+    let text = print(alloc, &script)?;
+    match write_bytes(out, &text) {
+        Ok(()) => Ok(()),
+        Err(_) => Err(Fault::Unwritten),
     }
 }

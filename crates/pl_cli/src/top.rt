@@ -1,20 +1,19 @@
 // The top call.
-ghost use Rattle.std.specs.Prelude.{◌≡◌, ◌≤◌, ◌+◌, ◌⊎◌, ℕ, List, None, Err, true, map, string_bytes, length, OnOk, IfOk, IfErr, IsTrue, IsSome, codes, decimal, [], ◌∷◌, ◌++◌};
+ghost use Rattle.std.specs.Prelude.{◌≡◌, ℕ, List, Some, None, map, option_map, string_bytes, IfErr};
 ghost use Rattle.pl_outside.specs.Counts.{Rose};
-ghost use Rattle.pl_outside.specs.Taken.{TakesAll, TakesPrefix};
-ghost use Rattle.pl_cli.specs.Request.{request, adjustments_of};
-ghost use Rattle.pl_cli.specs.Step.{first_fault};
-ghost use Rattle.pl_cli.specs.Work.{ForTold, work, text_of, cost_of};
-ghost use Rattle.pl_cli.specs.Fault.{table_text};
-ghost use Rattle.pl_cli.specs.Ends.{Ends, EndsJudged, EndsForMemory, IsTold, CommandEnds, IsCaused, stop_line, end_status, end_line, is_stopped};
+ghost use Rattle.pl_outside.specs.Left.{Leaves, LeavesSink, IsUntouched};
+ghost use Rattle.pl_words.specs.Request.{request, adjustments_of};
+ghost use Rattle.pl_words.specs.Views.{request_of};
+ghost use Rattle.pl_judge.specs.Faults.{judged_status, judged_line};
+ghost use Rattle.pl_cli.specs.Runs.{observed, IsRun, IsTold};
+ghost use Rattle.pl_cli.specs.Commands.{IsEnded, IsCaused, fault_of};
 
 use crate::commands::{fmt_command, run_command};
-use crate::stop::{End, Refusal, Stop};
-use crate::words::{Request, read_words};
-use itoa::Buffer;
 use pl_fixed::Steps;
-use pl_outside::{AdjustKeeper, Shelf, Sink, Table, write_bytes};
-use std::alloc::{AllocError, Global};
+use pl_judge::{Fault, write_line};
+use pl_outside::{AdjustKeeper, Shelf, Sink};
+use pl_words::{Request, read_words};
+use std::alloc::Global;
 use std::sync::ledger::Ledger;
 
 /// Runs the program on the words after its name:
@@ -36,7 +35,8 @@ use std::sync::ledger::Ledger;
 /// - 11: the pipeline file has a form that is not computed yet.
 ///
 /// Every status but 0 has its line on `err`. The first fault in the order of work decides: the words, the pipeline file, the
-/// sessions, the assets, the labels, the bars, the adjustments, the range.
+/// sessions, the assets, the labels, the bars, the adjustments, the range. The parts are handed back, so that a caller can run
+/// again.
 pub fn run_program<S: Shelf, K: AdjustKeeper, O: Sink, E: Sink, L: Ledger>(
     alloc: Global,
     words: &[String],
@@ -46,200 +46,76 @@ pub fn run_program<S: Shelf, K: AdjustKeeper, O: Sink, E: Sink, L: Ledger>(
     err: &mut E,
     steps: &mut Steps<L>,
 ) -> u8
-    // With status 0 the text stands on out, and nothing else.
-    ensures text { let asked = request (map (λ s. string_bytes s) words.now) in
-        result ≡ 0 → ForTold (adjustments_of asked) (S.holds shelf.old) (K.lists keeper.old) (λ files lists.
-        TakesAll (O.taken out.old) (O.taken out.new) (text_of files lists asked)) }
+    // Whatever the parts tell, there are contents of the files and tables over which the run ended as the definitions say.
+    ensures run { let asked = request (map (λ s. string_bytes s) words.now) in
+        (line : List ℕ) × IsRun (observed S.holds S.sound K.lists K.sound O.taken O.sound O.room shelf.old keeper.old out.old out.new
+        steps.old steps.new) asked result line × IsTold E.taken E.faults E.sound E.room err.old err.new line }
 
-    // The status and its line are those of the first fault; or a read, a load or a write failed; or memory was wanted.
-    ensures ends { let asked = request (map (λ s. string_bytes s) words.now) in
-        ForTold (adjustments_of asked) (S.holds shelf.old) (K.lists keeper.old) (λ files lists.
-        (line : List ℕ) × Ends (work files lists asked) result line × IsTold E.taken E.faults E.sound E.room err.old err.new line) }
-
-    // Whether the parts tell or not: the words decide of status 2, and the others have their cause.
+    // The words decide of status 2, and a part that failed has counted it.
     ensures usage { result ≡ 2 → request (map (λ s. string_bytes s) words.now) ≡ None }
     ensures refused { request (map (λ s. string_bytes s) words.now) ≡ None → result ≡ 2 }
     ensures read { result ≡ 7 → Rose (S.faults shelf.old) (S.faults shelf.new) }
     ensures store { result ≡ 8 → Rose (K.faults keeper.old) (K.faults keeper.new) }
     ensures write { result ≡ 9 → Rose (O.faults out.old) (O.faults out.new) }
 
-    // Out is as it was, but for status 9, which leaves a prefix of the text.
-    ensures kept { ¬ (result ≡ 0) → ¬ (result ≡ 9) → O.taken out.new ≡ O.taken out.old }
-    ensures prefix { let asked = request (map (λ s. string_bytes s) words.now) in
-        result ≡ 9 → ForTold (adjustments_of asked) (S.holds shelf.old) (K.lists keeper.old) (λ files lists.
-        TakesPrefix (O.taken out.old) (O.taken out.new) (text_of files lists asked)) }
+    // With another status than 0 and 9 `out` is as it was, and no step is counted.
+    ensures kept { ¬ (result ≡ 0) → ¬ (result ≡ 9)
+        → (O.taken out.new ≡ O.taken out.old) × (O.room out.new ≡ O.room out.old) × (steps.new ≡ steps.old) }
 
-    // The steps are those of the cells that were written: all of them with status 0, at most these with 9, and else none.
-    ensures cost { let asked = request (map (λ s. string_bytes s) words.now) in
-        result ≡ 0 → ForTold (adjustments_of asked) (S.holds shelf.old) (K.lists keeper.old) (λ files lists.
-        steps.new ≡ steps.old + cost_of files lists asked) }
-    ensures most { let asked = request (map (λ s. string_bytes s) words.now) in
-        ForTold (adjustments_of asked) (S.holds shelf.old) (K.lists keeper.old) (λ files lists.
-        steps.new ≤ steps.old + cost_of files lists asked) }
-    ensures free { ¬ (result ≡ 0) → ¬ (result ≡ 9) → steps.new ≡ steps.old }
-
-    // Over sound parts with room the status and its line are those of the first fault, or memory was wanted.
-    ensures complete { let asked = request (map (λ s. string_bytes s) words.now) in
-        ForTold (adjustments_of asked) (S.holds shelf.old) (K.lists keeper.old) (λ files lists.
-        IsTrue (S.sound shelf.old) → (IsSome (adjustments_of asked) → IsTrue (K.sound keeper.old)) → IsTrue (O.sound out.old)
-        → (first_fault (work files lists asked) ≡ None → length (text_of files lists asked) ≤ O.room out.old)
-        → (line : List ℕ) × (EndsJudged (work files lists asked) result line ⊎ EndsForMemory result line)
-        × IsTold E.taken E.faults E.sound E.room err.old err.new line) }
+    // A keeper is left alone where no adjustments are asked for, and all parts tell what they told.
+    ensures alone { adjustments_of (request (map (λ s. string_bytes s) words.now)) ≡ None
+        → IsUntouched K.faults K.calls keeper.old keeper.new }
+    ensures shelf { Leaves S.holds S.sound S.faults shelf.old shelf.new }
+    ensures keeper { Leaves K.lists K.sound K.faults keeper.old keeper.new }
+    ensures out { LeavesSink O.sound O.faults out.old out.new }
+    ensures err { LeavesSink E.sound E.faults err.old err.new }
 {
-    let ended = answer(alloc, words, shelf, keeper, out, steps);
-    finish(alloc, ended, err)
+    let asked = read_words(words);
+    let ended = answer(alloc, asked.as_ref(), shelf, keeper, out, steps);
+    finish(ended, asked.as_ref(), err)
 }
 
-// Does the work that the words ask for, up to what is told of it.
-#[tactic(auto, unfolding(crate::specs::Work::work, crate::specs::Work::text_of, crate::specs::Work::cost_of))]
-fn answer<'a, S: Shelf, K: AdjustKeeper, O: Sink, L: Ledger>(
+// Does the work that is asked for, up to what is told of it.
+fn answer<S: Shelf, K: AdjustKeeper, O: Sink, L: Ledger>(
     alloc: Global,
-    words: &'a [String],
+    asked: Option<&Request<'_>>,
     shelf: &mut S,
     keeper: &mut K,
     out: &mut O,
     steps: &mut Steps<L>,
-) -> Result<(), End<'a>>
-    ensures ends { let asked = request (map (λ s. string_bytes s) words.now) in
-        ForTold (adjustments_of asked) (S.holds shelf.old) (K.lists keeper.old) (λ files lists.
-        CommandEnds (S.sound shelf.old) (K.sound keeper.old) (work files lists asked) (O.taken out.old) (O.taken out.new)
-        (IsTrue (O.sound out.old) × (length (text_of files lists asked) ≤ O.room out.old)) (text_of files lists asked) result) }
-    ensures refused { request (map (λ s. string_bytes s) words.now) ≡ None → result ≡ Err End.Usage }
-    ensures caused { IfErr result (IsCaused (request (map (λ s. string_bytes s) words.now) ≡ None)
+) -> Result<(), Fault>
+    ensures ended { IsEnded (observed S.holds S.sound K.lists K.sound O.taken O.sound O.room shelf.old keeper.old out.old out.new
+        steps.old steps.new) (option_map (λ q. request_of q.now) asked.entry) result }
+    ensures refused { option_map (λ q. request_of q.now) asked.entry ≡ None → fault_of result ≡ Some Fault.Usage }
+    ensures caused { IfErr result (IsCaused (option_map (λ q. request_of q.now) asked.entry ≡ None)
         (Rose (S.faults shelf.old) (S.faults shelf.new)) (Rose (K.faults keeper.old) (K.faults keeper.new))
-        (Rose (O.faults out.old) (O.faults out.new)) ((O.taken out.new ≡ O.taken out.old) × (steps.new ≡ steps.old))) }
-    ensures cost { let asked = request (map (λ s. string_bytes s) words.now) in
-        ForTold (adjustments_of asked) (S.holds shelf.old) (K.lists keeper.old) (λ files lists.
-        OnOk result (steps.new ≡ steps.old + cost_of files lists asked)) }
-    ensures most { let asked = request (map (λ s. string_bytes s) words.now) in
-        ForTold (adjustments_of asked) (S.holds shelf.old) (K.lists keeper.old) (λ files lists.
-        steps.new ≤ steps.old + cost_of files lists asked) }
+        (Rose (O.faults out.old) (O.faults out.new))
+        ((O.taken out.new ≡ O.taken out.old) × (O.room out.new ≡ O.room out.old) × (steps.new ≡ steps.old))) }
+    ensures shelf { Leaves S.holds S.sound S.faults shelf.old shelf.new }
+    ensures keeper { Leaves K.lists K.sound K.faults keeper.old keeper.new }
+    ensures alone { adjustments_of (option_map (λ q. request_of q.now) asked.entry) ≡ None
+        → IsUntouched K.faults K.calls keeper.old keeper.new }
+    ensures out { LeavesSink O.sound O.faults out.old out.new }
 {
-    match read_words(words) {
-        None => Err(End::Usage),
-        Some(Request::Run(request)) => run_command(alloc, &request, shelf, keeper, out, steps),
+    match asked {
+        None => Err(Fault::Usage),
+        Some(Request::Run(request)) => run_command(alloc, request, shelf, keeper, out, steps),
         Some(Request::Fmt(name)) => fmt_command(alloc, name, shelf, out),
     }
 }
 
-// Tells how the work ended, and answers its status. Without memory for the line it is that which is told.
-fn finish<E: Sink>(alloc: Global, ended: Result<(), End<'_>>, err: &mut E) -> u8
-    ensures { ((result ≡ end_status ended.entry) × IsTold E.taken E.faults E.sound E.room err.old err.new (end_line ended.entry))
-        ⊎ (IsTrue (is_stopped ended.entry) × (result ≡ 10) × IsTold E.taken E.faults E.sound E.room err.old err.new (codes "memory\n")) }
+// Tells how the work ended, and answers its status. What becomes of the line changes nothing.
+fn finish<E: Sink>(ended: Result<(), Fault>, asked: Option<&Request<'_>>, err: &mut E) -> u8
+    ensures status { result ≡ judged_status (fault_of ended) }
+    ensures told { IsTold E.taken E.faults E.sound E.room err.old err.new
+        (judged_line (option_map (λ q. request_of q.now) asked.entry) (fault_of ended)) }
+    ensures err { LeavesSink E.sound E.faults err.old err.new }
 {
     match ended {
         Ok(()) => 0,
-        Err(End::Usage) => {
-            say(err, b"usage\n");
-            2
+        Err(fault) => {
+            let _ = write_line(err, asked, fault);
+            fault.status()
         }
-        Err(End::Unwritten) => {
-            say(err, b"write\n");
-            9
-        }
-        Err(End::Stopped(stop)) => match line_of(alloc, stop) {
-            Ok(line) => {
-                say(err, line.as_bytes());
-                stop.status()
-            }
-            Err(_) => {
-                say(err, b"memory\n");
-                10
-            }
-        },
-    }
-}
-
-fn say<E: Sink>(err: &mut E, line: &[u8])
-    ensures { IsTold E.taken E.faults E.sound E.room err.old err.new line.now }
-{
-    let _ = write_bytes(err, line);
-}
-
-fn line_of(alloc: Global, stop: Stop<'_>) -> Result<String, AllocError>
-    ensures { IfOk result (λ line. string_bytes line ≡ stop_line stop.entry) }
-{
-    match stop {
-        Stop::Judged(refusal) => refusal_line(alloc, refusal),
-        Stop::Missed(name) => format!(in alloc; "read: {name}\n"),
-        Stop::Unkept(name) => format!(in alloc; "store: {name}\n"),
-        Stop::Memory => format!(in alloc; "memory\n"),
-    }
-}
-
-fn refusal_line(alloc: Global, refusal: Refusal<'_>) -> Result<String, AllocError>
-    ensures { IfOk result (λ line. string_bytes line ≡ stop_line (Stop.Judged refusal.entry)) }
-{
-    match refusal {
-        Refusal::Unbuilt => format!(in alloc; "unbuilt\n"),
-        Refusal::Syntax { name, place, fault } => {
-            syntax_line(alloc, name, place.line, place.col, fault.name())
-        }
-        Refusal::Data { name, line, fault } => data_line(alloc, name, line, fault.name()),
-        Refusal::Row {
-            name,
-            table,
-            id,
-            fault,
-        } => {
-            let mut buffer = Buffer::new();
-            row_line(
-                alloc,
-                name,
-                table_name(table),
-                buffer.format(id),
-                fault.name(),
-            )
-        }
-        Refusal::NoSession { date } => format!(in alloc; "range: NotSession {date}\n"),
-        Refusal::Backwards => format!(in alloc; "range: Backwards\n"),
-        Refusal::TooEarly { reach } => format!(in alloc; "range: TooEarly {reach}\n"),
-        Refusal::Passed(limit) => {
-            let name = limit.name();
-            format!(in alloc; "limit: {name}\n")
-        }
-    }
-}
-
-fn data_line(alloc: Global, name: &str, line: u32, fault: &str) -> Result<String, AllocError>
-    ensures { IfOk result (λ text. string_bytes text
-        ≡ name.now ++ codes ":" ++ decimal line ++ codes ": data " ++ fault.now ++ 10 ∷ []) }
-{
-    format!(in alloc; "{name}:{line}: data {fault}\n")
-}
-
-fn syntax_line(
-    alloc: Global,
-    name: &str,
-    line: u32,
-    col: u32,
-    fault: &str,
-) -> Result<String, AllocError>
-    ensures { IfOk result (λ text. string_bytes text
-        ≡ name.now ++ codes ":" ++ decimal line ++ codes ":" ++ decimal col ++ codes ": syntax " ++ fault.now ++ 10 ∷ []) }
-{
-    format!(in alloc; "{name}:{line}:{col}: syntax {fault}\n")
-}
-
-fn row_line(
-    alloc: Global,
-    name: &str,
-    table: &str,
-    id: &str,
-    fault: &str,
-) -> Result<String, AllocError>
-    ensures { IfOk result (λ text. string_bytes text
-        ≡ name.now ++ codes ":" ++ table.now ++ codes ":" ++ id.now ++ codes ": data " ++ fault.now ++ 10 ∷ []) }
-{
-    format!(in alloc; "{name}:{table}:{id}: data {fault}\n")
-}
-
-fn table_name(table: Table) -> &'static str
-    ensures { result.now ≡ table_text table }
-{
-    match table {
-        Table::Splits => "splits",
-        Table::Mergers => "mergers",
-        Table::Dividends => "dividends",
     }
 }

@@ -2,7 +2,7 @@
 use Rattle.std.proofs.Common.{◌≡◌, inl, inr, List, [], ◌∷◌, ◌++◌, Bool, true, IsTrue, Option, Some, None, Result, Ok, Err, refl, subst, ◌∙◌}
 use Rattle.std.specs.Option.{option_or}
 use Rattle.pl_judge.specs.declared.fault.Fault.{Fault}
-use Rattle.pl_judge.specs.declared.fault.Fault.TheVariants.{Unread, Unloaded, Memory}
+use Rattle.pl_judge.specs.declared.fault.Fault.TheVariants.{Usage, Unread, Unloaded, Unwritten, Memory}
 use Rattle.pl_judge.specs.Steps.{Source, Step, first_fault, ReachesRead}
 use Rattle.pl_judge.specs.Steps.Source.{Input, Load}
 use Rattle.pl_judge.specs.Stages.{StopsOutside, IsStop, IsRisen, StageEnds}
@@ -100,6 +100,8 @@ stage-over {shelf = shelf} {keeper = keeper} {r = r} e h = subst (λ xs. StageEn
 
 -- a fault that is none of the outside has no cause to show there
 pub risen-inside : (shelf keeper : Type 0) (f : Fault) → IsRisen ⊥ ⊥ f → IsRisen shelf keeper f
+risen-inside shelf keeper Usage h = absurd h
 risen-inside shelf keeper (Unread file) h = absurd h
 risen-inside shelf keeper (Unloaded table) h = absurd h
+risen-inside shelf keeper Unwritten h = absurd h
 risen-inside shelf keeper f h = tt

@@ -1,7 +1,7 @@
 -- How a stage of the work may end, in the words of the code.
 use Rattle.std.specs.Prelude.{◌≡◌, ◌⊎◌, Bool, IsTrue, List, Some, None, Result, OnOk, IfErr, ⊤}
 use Rattle.pl_judge.specs.declared.fault.Fault.{Fault}
-use Rattle.pl_judge.specs.declared.fault.Fault.TheVariants.{Unread, Unloaded, Memory}
+use Rattle.pl_judge.specs.declared.fault.Fault.TheVariants.{Usage, Unread, Unloaded, Unwritten, Memory}
 use Rattle.pl_judge.specs.Steps.{Step, first_fault, ReachesRead}
 use Rattle.pl_judge.specs.Steps.Source.{Input, Load}
 
@@ -22,10 +22,12 @@ pub record StageEnds {T : Type 0} (shelf keeper : Bool) (steps : List Step) (res
   pub passed : OnOk result (first_fault steps ≡ None)
   pub stopped : IfErr result (IsStop shelf keeper steps)
 
--- a read fails only where the count of its object rose
+-- A stage has no fault of the words nor of what is written, and a read fails only where the count of its object rose.
 abbrev pub IsRisen : Type 0 → Type 0 → Fault → Type 0
+IsRisen shelf keeper Usage = ⊥
 IsRisen shelf keeper (Unread file) = shelf
 IsRisen shelf keeper (Unloaded table) = keeper
+IsRisen shelf keeper Unwritten = ⊥
 IsRisen shelf keeper fault = ⊤
 
 -- the fault that an error tells, which is of the input or want of memory

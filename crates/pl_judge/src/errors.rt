@@ -8,6 +8,7 @@ use pl_adjust::AdjustError;
 use pl_assets::{AssetsError, LabelsError};
 use pl_bars::BarsError;
 use pl_calendar::CalendarError;
+use pl_fixed::Memory;
 use pl_syntax::{Place, SyntaxError};
 use pl_words::InputFile;
 use std::alloc::AllocError;
@@ -18,6 +19,16 @@ impl From<AllocError> for Fault {
     ghost from_gives = { λ _ fault. fault ≡ Memory };
 
     fn from(_refused: AllocError) -> Fault {
+        Fault::Memory
+    }
+}
+
+impl From<Memory> for Fault {
+    ghost use Rattle.pl_judge.specs.declared.fault.Fault.TheVariants.{Memory};
+
+    ghost from_gives = { λ _ fault. fault ≡ Memory };
+
+    fn from(_refused: Memory) -> Fault {
         Fault::Memory
     }
 }

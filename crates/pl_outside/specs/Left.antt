@@ -11,3 +11,8 @@ pub record Leaves {S A : Type 0} (tells : S → Option A) (sound : S → Bool) (
 pub record IsUntouched {S : Type 0} (faults calls : S → ℕ) (old new : S) : Type 0 where
   pub no_fault : faults new ≡ faults old
   pub no_call : calls new ≡ calls old
+
+-- A sink is sound where it was, and its count of faults hasn't fallen.
+pub record LeavesSink {S : Type 0} (sound : S → Bool) (faults : S → ℕ) (old new : S) : Type 0 where
+  pub stays : sound new ≡ sound old
+  pub later : faults old ≤ faults new

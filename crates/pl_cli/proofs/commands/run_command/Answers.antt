@@ -1,30 +1,29 @@
-use Rattle.std.proofs.Common.{◌+◌, ◌∙◌, ap, ℕ, arith}
-use Rattle.pl_outside.proofs.Pieces.{writes-over}
+use Rattle.std.proofs.Common.{refl}
+use Rattle.std.proofs.lemmas.Result.{err_from_is_err_and}
+use Rattle.pl_words.specs.Views.{run_of}
+use Rattle.pl_cli.proofs.Ended.{load-stops, no-header, load-written, caused-written}
 use Rattle.pl_cli.proofs.commands.run_command.Goals as goal
 
-pub returns-in-Err-clause-ends : goal.returns-in-Err-clause-ends
-returns-in-Err-clause-ends g c = λ files lists told listed.
-    record { passed = tt; written = tt; ended = (c.in-Err.ensures.ends files lists told listed).stopped }
+pub returns-in_err-loaded-clause-ended : goal.returns-in_err-loaded-clause-ended
+returns-in_err-loaded-clause-ended g c =
+    let p = err_from_is_err_and c.from_residual.result c.from_residual.ensures.1 in
+    rw (p.1, p.2) (load-stops _ (run_of c.args.request.now) _ _ _ refl c.in_err-loaded.ensures.risen c.in_err-loaded.ensures.load)
 
-pub returns-clause-ends : goal.returns-clause-ends
-returns-clause-ends g c = λ files lists told listed.
-    let w = writes-over (c.in-Ok.ensures.text files lists told listed) c.in-Err-write_table.ensures.writes in
-    record {
-      passed = tt;
-      written = tt;
-      ended = ((c.in-Ok.ensures.ends files lists told listed).passed, w.prefix, λ r. absurd (cc (w.blameless r.0 r.1).0));
-    }
+pub returns-in_err-header-clause-ended : goal.returns-in_err-header-clause-ended
+returns-in_err-header-clause-ended g c =
+    let p = err_from_is_err_and c.from_residual-in_err-header.result c.from_residual-in_err-header.ensures.1 in
+    rw (p.1, p.2) (no-header _ (run_of c.args.request.now) _ refl c.in_ok-loaded.ensures.load)
 
-pub returns-in-Ok-write_table-clause-cost : goal.returns-in-Ok-write_table-clause-cost
-returns-in-Ok-write_table-clause-cost g c = λ files lists told listed.
-    c.in-Ok-write_table.ensures.cost ∙ ap (λ (n : ℕ). c.args.steps.now + n) (c.in-Ok.ensures.cost files lists told listed)
+pub returns-in_err-header-clause-caused : goal.returns-in_err-header-clause-caused
+returns-in_err-header-clause-caused g c =
+    let p = err_from_is_err_and c.from_residual-in_err-header.result c.from_residual-in_err-header.ensures.1 in
+    rw (p.1, p.2) (refl, refl, refl)
 
-pub returns-in-Ok-write_table-clause-most : goal.returns-in-Ok-write_table-clause-most
-returns-in-Ok-write_table-clause-most g c = λ files lists told listed.
-    let cost = c.in-Ok.ensures.cost files lists told listed in
-    omega (arith, c.in-Ok-write_table.ensures.most, cost)
+pub returns-clause-ended : goal.returns-clause-ended
+returns-clause-ended g c =
+    let w = c.write_loaded.ensures in
+    load-written g.O.Sink.taken g.O.Sink.faults g.O.Sink.sound g.O.Sink.room c.args.out.now c.write_loaded.new.out _ _ _ _ _ _ (run_of c.args.request.now) _ _
+    c.in_ok-loaded.ensures.load w.writes w.unwritten w.cost w.most
 
-pub returns-clause-most : goal.returns-clause-most
-returns-clause-most g c = λ files lists told listed.
-    let cost = c.in-Ok.ensures.cost files lists told listed in
-    omega (arith, c.in-Err-write_table.ensures.most, cost)
+pub returns-clause-caused : goal.returns-clause-caused
+returns-clause-caused g c = caused-written _ _ _ _ c.write_loaded.result c.write_loaded.ensures.unwritten c.write_loaded.ensures.writes.failed

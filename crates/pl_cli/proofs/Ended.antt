@@ -1,0 +1,193 @@
+-- How the commands end.
+use Rattle.std.proofs.Common.{◌≡◌, inl, inr, ℕ, ◌+◌, ◌≤◌, Bool, true, IsTrue, List, [], ◌∷◌, ◌++◌, length, Option, Some, None, Result, Ok, Err, OnOk, OnErr, IfErr, refl, sym, ◌∙◌, arith}
+use Rattle.std.specs.Option.{ForSome}
+use Rattle.pl_spec.specs.declared.Format.TheVariants.{Csv}
+use Rattle.pl_spec.specs.World.{World}
+use Rattle.pl_spec.specs.Table.{table}
+use Rattle.pl_spec.specs.Text.{text}
+use Rattle.pl_outside.specs.Files.{Files}
+use Rattle.pl_outside.specs.Lists.{Lists}
+use Rattle.pl_outside.specs.Taken.{Writes}
+use Rattle.pl_outside.specs.declared.keeper.Table.{Table}
+use Rattle.pl_outside.proofs.Pieces.{writes-over}
+use Rattle.pl_plain.specs.declared.script.PlainColumn.{PlainColumn}
+use Rattle.pl_plain.specs.PlainScript.{pipeline_of}
+use Rattle.pl_plain.specs.Rows.{rows_cost}
+use Rattle.pl_grammar.specs.Script.{Statement}
+use Rattle.pl_syntax.specs.Canonical.{script_text}
+use Rattle.pl_words.specs.declared.request.InputFile.{InputFile}
+use Rattle.pl_words.specs.declared.request.InputFile.TheVariants as files
+use Rattle.pl_words.specs.Request.{Request, Run, Fmt, RunRequest, name_asked, adjustments_of}
+use Rattle.pl_judge.specs.declared.fault.Fault.{Fault}
+use Rattle.pl_judge.specs.declared.fault.Fault.TheVariants.{Usage, Unwritten, Memory}
+use Rattle.pl_judge.specs.Contents.{Contents, AreHeld}
+use Rattle.pl_judge.specs.Held.{columns_held, days_held, statements_read, world_held}
+use Rattle.pl_judge.specs.Range.{index_of}
+use Rattle.pl_judge.specs.Steps.{first_fault}
+use Rattle.pl_judge.specs.Work.{syntax_step, work}
+use Rattle.pl_judge.specs.Stages.{IsStop, IsRisen, StageEnds}
+use Rattle.pl_judge.proofs.Steps.{stop-weaker, always}
+use Rattle.pl_load.specs.declared.loading.Loaded.{Loaded}
+use Rattle.pl_load.specs.Reads.{IsRead}
+use Rattle.pl_load.specs.Loads.{IsLoad, IsLoaded, owned_world}
+use Rattle.pl_cli.specs.Texts.{text_of, cost_of}
+use Rattle.pl_cli.specs.Runs.{Observed, HasRoom}
+use Rattle.pl_cli.specs.Commands.{IsEnd, IsDone, IsEnded, IsCaused, loaded_text, loaded_cost}
+
+-- what stops the work is no fault of writing
+end-of : (o : Observed) (held : Contents) (asked : Option Request) (s k : Type 0) (fault : Fault) → IsRisen s k fault
+    → IsStop o.shelf_sound o.keeper_sound (work held asked) fault → IsEnd o held asked fault
+end-of o held asked s k Unwritten risen h = absurd risen
+end-of o held asked s k fault risen h = h
+
+-- ---- a run
+
+pub load-stops : {T : Type 0} (o : Observed) (q : RunRequest) (s k : Type 0) (fault : Fault) → o.steps_now ≡ o.steps → IsRisen s k fault
+    → IsLoad o.files o.lists o.shelf_sound o.keeper_sound q (Err fault) → IsEnded {T = T} o (Some (Run q)) (Err fault)
+unfolding work
+load-stops o q s k fault same risen h =
+    record {
+      held = h.held;
+      are_held = h.are_held;
+      done = tt;
+      ended = end-of o h.held (Some (Run q)) s k fault risen h.ends.stopped;
+      most = omega (arith, same);
+    }
+
+pub no-header : {T : Type 0} (o : Observed) (q : RunRequest) (l : Loaded) → o.steps_now ≡ o.steps
+    → IsLoad o.files o.lists o.shelf_sound o.keeper_sound q (Ok l) → IsEnded {T = T} o (Some (Run q)) (Err Memory)
+no-header o q l same h = record { held = h.held; are_held = h.are_held; done = tt; ended = inr tt; most = omega (arith, same) }
+
+same-text : (v w : World) (cs ds : List PlainColumn) (a b from to : ℕ) → v ≡ w → cs ≡ ds → a ≡ from → b ≡ to
+    → text w (pipeline_of ds) Csv (table w (pipeline_of ds) from to) ≡ text v (pipeline_of cs) Csv (table v (pipeline_of cs) a b)
+same-text v w cs ds a b from to e c f t = rw (e, c, f, t) refl
+
+loaded-text : (held : Contents) (q : RunRequest) (l : Loaded) → IsLoaded held q l → loaded_text l ≡ text_of held (Some (Run q))
+unfolding text_of
+loaded-text held q l h = same-text (world_held held q) (owned_world l.world) (columns_held held) l.columns.items _ _ l.range.from l.range.to h.world h.columns h.from h.to
+
+same-cost : (v w : World) (cs ds : List PlainColumn) (a b from to : ℕ) → v ≡ w → cs ≡ ds → a ≡ from → b ≡ to
+    → rows_cost w ds (table w (pipeline_of ds) from to) ≡ rows_cost v cs (table v (pipeline_of cs) a b)
+same-cost v w cs ds a b from to e c f t = rw (e, c, f, t) refl
+
+loaded-cost : (held : Contents) (q : RunRequest) (l : Loaded) → IsLoaded held q l → loaded_cost l ≡ cost_of held (Some (Run q))
+unfolding cost_of
+loaded-cost held q l h = same-cost (world_held held q) (owned_world l.world) (columns_held held) l.columns.items _ _ l.range.from l.range.to h.world h.columns h.from h.to
+
+-- what is observed where a sink was written to
+abbrev pub seen : {O : Type 0} (taken : O → Option (List ℕ)) (sound : O → Bool) (room : O → ℕ) (old new : O) (files : Option Files) (lists : Option Lists) (shelf keeper : Bool) (before now : ℕ) → Observed
+seen taken sound room old new files lists shelf keeper before now =
+    record {
+      files = files;
+      lists = lists;
+      shelf_sound = shelf;
+      keeper_sound = keeper;
+      out_sound = sound old;
+      taken = taken old;
+      taken_now = taken new;
+      room = room old;
+      room_now = room new;
+      steps = before;
+      steps_now = now;
+    }
+
+-- the text is written, or after a prefix it isn't
+module _ {O : Type 0} (taken : O → Option (List ℕ)) (faults : O → ℕ) (sound : O → Bool) (room : O → ℕ) (old new : O)
+    (tells : Option Files) (lists : Option Lists) (shelf keeper : Bool) (before now : ℕ) where
+
+  ends-written : (held : Contents) (asked : Option Request) (r : Result (Unit {0}) Fault) → AreHeld tells lists asked held → first_fault (work held asked) ≡ None
+      → Writes taken faults sound room old new (text_of held asked) r → IfErr r (λ f. f ≡ Unwritten)
+      → OnOk r (now ≡ before + cost_of held asked) → now ≤ before + cost_of held asked
+      → IsEnded (seen taken sound room old new tells lists shelf keeper before now) asked r
+  ends-written held asked (Ok x) h passed w is cost most =
+      record {
+        held = held;
+        are_held = h;
+        done = record { passed = passed; text = w.all; room_left = w.room_left; cost = cost };
+        ended = tt;
+        most = most;
+      }
+  ends-written held asked (Err f) h passed w is cost most =
+      record {
+        held = held;
+        are_held = h;
+        done = tt;
+        ended = rw is (passed, w.prefix, λ r. absurd (cc (w.blameless r.0 r.1).0));
+        most = most;
+      }
+
+  pub load-written : (q : RunRequest) (l : Loaded) (r : Result (Unit {0}) Fault) → IsLoad tells lists shelf keeper q (Ok l)
+      → Writes taken faults sound room old new (loaded_text l) r → IfErr r (λ f. f ≡ Unwritten) → OnOk r (now ≡ before + loaded_cost l) → now ≤ before + loaded_cost l
+      → IsEnded (seen taken sound room old new tells lists shelf keeper before now) (Some (Run q)) r
+  unfolding work
+  load-written q l r h w is cost most =
+      ends-written h.held (Some (Run q)) r h.are_held h.ends.passed (writes-over (loaded-text h.held q l h.loaded) w) is
+      (rw (loaded-cost h.held q l h.loaded) at cost) (rw (loaded-cost h.held q l h.loaded) at most)
+
+  -- ---- fmt
+
+  -- it reads the pipeline file alone
+  abbrev fmt_held : Option (List ℕ) → Contents
+  fmt_held file = record { file = λ f. file; rows = λ t. [] }
+
+  fmt-files : (name : List ℕ) (file : Option (List ℕ)) → ForSome (Some name) (λ n. ForSome tells (λ told. file ≡ told n))
+      → (f : InputFile) → ForSome (name_asked (Some (Fmt name)) f) (λ n. ForSome tells (λ told. file ≡ told n))
+  fmt-files name file h files.Pipeline = h
+  fmt-files name file h files.Sessions = λ n is. absurd (cc)
+  fmt-files name file h files.Assets = λ n is. absurd (cc)
+  fmt-files name file h files.Labels = λ n is. absurd (cc)
+  fmt-files name file h files.Bars = λ n is. absurd (cc)
+
+  fmt-are-held : (name : List ℕ) (file : Option (List ℕ)) → ForSome (Some name) (λ n. ForSome tells (λ told. file ≡ told n)) → AreHeld tells lists (Some (Fmt name)) (fmt_held file)
+  fmt-are-held name file h = record { files_held = fmt-files name file h; rows_held = λ t n is. absurd (cc) }
+
+  pub script-stops : {S : Type 0} (name : List ℕ) (s k : Type 0) (fault : Fault) (Means : Option (List ℕ) → S → Type 0) → now ≡ before → IsRisen s k fault
+      → IsRead tells shelf (Some name) (λ held. syntax_step held ∷ []) Means (Err fault)
+      → IsEnded {T = Unit {0}} (seen taken sound room old new tells lists shelf keeper before now) (Some (Fmt name)) (Err fault)
+  unfolding work
+  script-stops name s k fault Means same risen h =
+      record {
+        held = fmt_held h.file;
+        are_held = fmt-are-held name h.file h.is_told;
+        done = tt;
+        ended = end-of (seen taken sound room old new tells lists shelf keeper before now) (fmt_held h.file) (Some (Fmt name)) s k fault risen
+            (stop-weaker shelf keeper shelf true (syntax_step h.file ∷ []) fault (λ t. t) always h.ends.stopped);
+        most = omega (arith, same);
+      }
+
+  pub no-text : {S : Type 0} (name : List ℕ) (script : S) (Means : Option (List ℕ) → S → Type 0) → now ≡ before
+      → IsRead tells shelf (Some name) (λ held. syntax_step held ∷ []) Means (Ok script)
+      → IsEnded {T = Unit {0}} (seen taken sound room old new tells lists shelf keeper before now) (Some (Fmt name)) (Err Memory)
+  no-text name script Means same h =
+      record { held = fmt_held h.file; are_held = fmt-are-held name h.file h.is_told; done = tt; ended = inr tt; most = omega (arith, same) }
+
+  no-step : (r : Result (Unit {0}) Fault) → now ≡ before → OnOk r (now ≡ before + 0)
+  no-step (Ok x) same = omega (arith, same)
+  no-step (Err f) same = tt
+
+  pub script-written : {S : Type 0} (name : List ℕ) (script : S) (said : S → List Statement) (bytes : List ℕ) (r : Result (Unit {0}) Fault) → now ≡ before
+      → IsRead tells shelf (Some name) (λ held. syntax_step held ∷ []) (λ held x. statements_read held ≡ said x) (Ok script)
+      → bytes ≡ script_text (said script) → Writes taken faults sound room old new bytes r → IfErr r (λ f. f ≡ Unwritten)
+      → IsEnded (seen taken sound room old new tells lists shelf keeper before now) (Some (Fmt name)) r
+  unfolding work text_of cost_of
+  script-written name script said bytes r same h text w is =
+      ends-written (fmt_held h.file) (Some (Fmt name)) r (fmt-are-held name h.file h.is_told) h.ends.passed
+      (writes-over (rw h.means text) w) is (no-step r same) (omega (arith, same))
+
+-- what was not written has its cause
+pub caused-written : (s k risen kept : Type 0) (r : Result (Unit {0}) Fault) → IfErr r (λ f. f ≡ Unwritten) → OnErr r risen → IfErr r (IsCaused ⊥ s k risen kept)
+caused-written s k risen kept (Ok x) is h = tt
+caused-written s k risen kept (Err f) is h = rw is h
+
+-- ---- no command
+
+pub no-command : {T : Type 0} (o : Observed) → o.steps_now ≡ o.steps → IsEnded {T = T} o None (Err Usage)
+unfolding work
+no-command o same =
+    record {
+      held = record { file = λ f. None; rows = λ t. [] };
+      are_held = record { files_held = λ f n is. absurd (cc); rows_held = λ t n is. absurd (cc) };
+      done = tt;
+      ended = inl refl;
+      most = omega (arith, same);
+    }

@@ -1,0 +1,130 @@
+-- From the end of a command to the status and the line of the program.
+use Rattle.std.proofs.Common.{◌≡◌, ◌⊎◌, inl, inr, ℕ, List, [], ◌∷◌, ◌++◌, length, Bool, arith, IsTrue, IsSome, Option, Some, None, Result, Ok, Err, refl, MatchOption, option_map, Bor}
+use Rattle.std.specs.Option.{option_copied}
+use Rattle.pl_words.specs.Request.{Request, adjustments_of}
+use Rattle.pl_words.specs.Views.{request_of}
+use Rattle.pl_words.specs.declared.request.Request.{Request as Code}
+use Rattle.pl_judge.specs.declared.fault.Fault.{Fault}
+use Rattle.pl_judge.specs.declared.fault.Fault.TheVariants as faults
+use Rattle.pl_judge.specs.declared.fault.Fault.TheVariants.{Unread, Unloaded, Unwritten, Memory}
+use Rattle.pl_judge.specs.Faults.{status_of, line_of, judged_status, judged_line}
+use Rattle.pl_judge.specs.Contents.{Contents}
+use Rattle.pl_judge.specs.Steps.{Step, first_fault}
+use Rattle.pl_judge.specs.Work.{work}
+use Rattle.pl_judge.specs.Ends.{Ends, EndsJudged, EndsForMemory}
+use Rattle.pl_judge.specs.Stages.{StopsOutside, IsStop}
+use Rattle.pl_cli.specs.Texts.{text_of}
+use Rattle.pl_cli.specs.Runs.{Observed, HasRoom, IsRun}
+use Rattle.pl_cli.specs.Commands.{IsEnd, IsEnded, fault_of}
+use Rattle.pl_cli.proofs.Keepers.{store-named}
+
+judged-is : (steps : List Step) (asked : Option Request) (o : Option Fault) → first_fault steps ≡ o → EndsJudged steps asked (judged_status o) (judged_line asked o)
+judged-is steps asked o e = rw e (refl, refl)
+
+-- ---- the ends
+
+outside-ends : (shelf keeper : Bool) (steps : List Step) (asked : Option Request) (f : Fault) → StopsOutside shelf keeper steps f → Ends steps asked (status_of f) (line_of asked f)
+outside-ends shelf keeper steps asked (Unread file) h = inr (inl (file, (refl, refl), h.0))
+outside-ends shelf keeper steps asked (Unloaded table) h = inr (inr (inl (table, (refl, refl), h.0)))
+outside-ends shelf keeper steps asked Memory h = inr (inr (inr (inr (refl, refl))))
+outside-ends shelf keeper steps asked f h = absurd h
+
+stop-ends : (shelf keeper : Bool) (steps : List Step) (asked : Option Request) (f : Fault) → IsStop shelf keeper steps f → Ends steps asked (status_of f) (line_of asked f)
+stop-ends shelf keeper steps asked f h = elim h [ inl p ↦ inl (judged-is steps asked (Some f) p) | inr q ↦ outside-ends shelf keeper steps asked f q ]
+
+end-ends : (o : Observed) (held : Contents) (asked : Option Request) (f : Fault) → IsEnd o held asked f → Ends (work held asked) asked (status_of f) (line_of asked f)
+end-ends o held asked Unwritten h = inr (inr (inr (inl ((refl, refl), h.0))))
+end-ends o held asked f h = stop-ends o.shelf_sound o.keeper_sound (work held asked) asked f h
+
+-- ---- over sound parts
+
+abbrev Complete : Contents → Option Request → Fault → Type 0
+Complete held asked f = EndsJudged (work held asked) asked (status_of f) (line_of asked f) ⊎ EndsForMemory asked (status_of f) (line_of asked f)
+
+outside-complete : (o : Observed) (held : Contents) (asked : Option Request) (f : Fault) → StopsOutside o.shelf_sound o.keeper_sound (work held asked) f
+    → IsTrue o.shelf_sound → (IsSome (adjustments_of asked) → IsTrue o.keeper_sound) → Complete held asked f
+outside-complete o held asked (Unread file) h s k = absurd (h.1 s)
+outside-complete o held asked (Unloaded table) h s k = absurd (h.1 (k (store-named held asked table h.0)))
+outside-complete o held asked Memory h s k = inr (refl, refl)
+outside-complete o held asked f h s k = absurd h
+
+stop-complete : (o : Observed) (held : Contents) (asked : Option Request) (f : Fault) → IsStop o.shelf_sound o.keeper_sound (work held asked) f
+    → IsTrue o.shelf_sound → (IsSome (adjustments_of asked) → IsTrue o.keeper_sound) → Complete held asked f
+stop-complete o held asked f h s k = elim h [ inl p ↦ inl (judged-is (work held asked) asked (Some f) p) | inr q ↦ outside-complete o held asked f q s k ]
+
+end-complete : (o : Observed) (held : Contents) (asked : Option Request) (f : Fault) → IsEnd o held asked f
+    → IsTrue o.shelf_sound → (IsSome (adjustments_of asked) → IsTrue o.keeper_sound)
+    → (first_fault (work held asked) ≡ None → HasRoom o (length (text_of held asked))) → Complete held asked f
+end-complete o held asked Unwritten h s k r = absurd (h.2 (r h.0))
+end-complete o held asked f h s k r = stop-complete o held asked f h s k
+
+-- ---- which faults have the statuses 0 and 9
+
+not-zero : (f : Fault) → status_of f ≡ 0 → ⊥
+not-zero faults.Usage e = omega arith
+not-zero (faults.Syntax place fault) e = omega arith
+not-zero faults.Unbuilt e = omega arith
+not-zero (faults.Data file line fault) e = omega arith
+not-zero (faults.Row table id fault) e = omega arith
+not-zero (faults.NotSession date) e = omega arith
+not-zero faults.Backwards e = omega arith
+not-zero (faults.TooEarly reach) e = omega arith
+not-zero (faults.Passed limit) e = omega arith
+not-zero (Unread file) e = omega arith
+not-zero (Unloaded table) e = omega arith
+not-zero Unwritten e = omega arith
+not-zero Memory e = omega arith
+
+nine-is : (f : Fault) → status_of f ≡ 9 → f ≡ Unwritten
+nine-is faults.Usage e = absurd (omega arith)
+nine-is (faults.Syntax place fault) e = absurd (omega arith)
+nine-is faults.Unbuilt e = absurd (omega arith)
+nine-is (faults.Data file line fault) e = absurd (omega arith)
+nine-is (faults.Row table id fault) e = absurd (omega arith)
+nine-is (faults.NotSession date) e = absurd (omega arith)
+nine-is faults.Backwards e = absurd (omega arith)
+nine-is (faults.TooEarly reach) e = absurd (omega arith)
+nine-is (faults.Passed limit) e = absurd (omega arith)
+nine-is (Unread file) e = absurd (omega arith)
+nine-is (Unloaded table) e = absurd (omega arith)
+nine-is Unwritten e = refl
+nine-is Memory e = absurd (omega arith)
+
+-- ---- the whole
+
+run-is : {T : Type 0} (o : Observed) (asked : Option Request) (r : Result T Fault) → IsEnded o asked r → IsRun o asked (judged_status (fault_of r)) (judged_line asked (fault_of r))
+run-is o asked (Ok x) h =
+    record {
+      held = h.held;
+      are_held = h.are_held;
+      ends = inl (judged-is (work h.held asked) asked None h.done.passed);
+      text = λ z. h.done.text;
+      prefix = λ z. absurd (let no : 0 ≡ 9 = z in omega arith);
+      room_left = λ z s. h.done.room_left s;
+      cost = λ z. h.done.cost;
+      most = h.most;
+      complete = λ s k r out. inl (judged-is (work h.held asked) asked None h.done.passed);
+    }
+run-is o asked (Err f) h =
+    record {
+      held = h.held;
+      are_held = h.are_held;
+      ends = end-ends o h.held asked f h.ended;
+      text = λ z. absurd (not-zero f z);
+      prefix = λ z. let e = rw (nine-is f z) at h.ended in e.1;
+      room_left = λ z s. absurd (not-zero f z);
+      cost = λ z. absurd (not-zero f z);
+      most = h.most;
+      complete = λ s k r out. end-complete o h.held asked f h.ended s k r;
+    }
+
+pub run-of : {T : Type 0} (o : Observed) (asked : Option Request) (r : Result T Fault) (status : ℕ) → status ≡ judged_status (fault_of r)
+    → IsEnded o asked r → IsRun o asked status (judged_line asked (fault_of r))
+run-of o asked r status e h = rw e (run-is o asked r h)
+
+-- ---- what is asked for
+
+pub asked-lent : (words : Option Request) (asked : Option Code) (lent : Option (Bor Code)) → MatchOption asked (words ≡ None) (λ r. words ≡ Some (request_of r))
+    → option_copied lent ≡ asked → words ≡ option_map (λ q. request_of q.now) lent
+asked-lent words asked None h e = let g = rw (← e) at h in g
+asked-lent words asked (Some r) h e = let g = rw (← e) at h in g

@@ -1,0 +1,78 @@
+-- The keeper is read only where adjustments are asked for.
+use Rattle.std.proofs.Common.{◌≡◌, ◌⊎◌, inl, inr, ℤ, ℕ, List, [], ◌∷◌, ◌++◌, IsSome, Option, Some, None, refl}
+use Rattle.pl_spec.specs.declared.AssetRow.{AssetRow}
+use Rattle.pl_spec.specs.declared.RawAdjust.{RawAdjust}
+use Rattle.pl_spec.specs.Table.{Pipeline}
+use Rattle.pl_outside.specs.declared.keeper.Table.{Table}
+use Rattle.pl_words.specs.declared.request.InputFile.{InputFile}
+use Rattle.pl_words.specs.declared.request.InputFile.TheVariants.{Labels as LabelsFile}
+use Rattle.pl_words.specs.Request.{Request, Run, Fmt, RunRequest, adjustments_of}
+use Rattle.pl_judge.specs.Contents.{Contents}
+use Rattle.pl_judge.specs.Held.{assets_held}
+use Rattle.pl_judge.specs.Steps.{Source, Step, ReachesRead}
+use Rattle.pl_judge.specs.Steps.Source.{Input, Load}
+use Rattle.pl_judge.specs.Range.{range_steps}
+use Rattle.pl_judge.specs.Work.{labels_steps, adjustments_steps, data_steps, run_steps, work}
+
+no-input : {A : Type 0} {file : InputFile} {table : Table} → Some (Input file) ≡ Some (Load table) → A
+no-input h = absurd (cc)
+
+no-read : {A : Type 0} {table : Table} → None ≡ Some (Load table) → A
+no-read h = absurd (cc)
+
+reaches-one : (ss ts : List Step) (source : Source) → ReachesRead (ss ++ ts) source → ReachesRead ss source ⊎ ReachesRead ts source
+reaches-one [] ts source h = inr h
+reaches-one (s ∷ ss) ts source h = elim h [
+  | inl p ↦ inl (inl p)
+  | inr q ↦ elim (reaches-one ss ts source q.1) [ inl a ↦ inl (inr (q.0, a)) | inr b ↦ inr b ]
+]
+
+of-labels : (assets : List AssetRow) (labels file : Option (List ℕ)) (table : Table) → ReachesRead (labels_steps assets labels file) (Load table) → ⊥
+of-labels assets None file table h = h
+of-labels assets (Some n) file table h = elim h [ inl p ↦ no-input p | inr q ↦ q.1 ]
+
+of-adjustments : (assets : List AssetRow) (adjustments : Option (List ℕ)) (rows : Table → List RawAdjust) (table : Table) → ReachesRead (adjustments_steps assets adjustments rows) (Load table) → IsSome adjustments
+of-adjustments assets None rows table h = absurd h
+of-adjustments assets (Some n) rows table h = refl
+
+of-range : (q : RunRequest) (p : Pipeline) (days : List ℤ) (table : Table) → ReachesRead (range_steps q p days) (Load table) → ⊥
+unfolding range_steps
+of-range q p days table h = elim h [
+  | inl e ↦ no-read e
+  | inr a ↦ elim a.1 [
+    | inl e ↦ no-read e
+    | inr b ↦ elim b.1 [ inl e ↦ no-read e | inr d ↦ elim d.1 [ inl e ↦ no-read e | inr f ↦ f.1 ] ]
+  ]
+]
+
+of-data : (held : Contents) (q : RunRequest) (table : Table) → ReachesRead (data_steps held q) (Load table) → IsSome q.options.adjustments
+unfolding data_steps
+of-data held q table h =
+    elim h [
+      | inl p ↦ no-input p
+      | inr a ↦ elim a.1 [
+        | inl p ↦ no-input p
+        | inr b ↦ elim (reaches-one (labels_steps (assets_held held) q.options.labels (held.file LabelsFile)) _ (Load table) b.1) [
+          | inl l ↦ absurd (of-labels (assets_held held) q.options.labels (held.file LabelsFile) table l)
+          | inr m ↦ elim m [ inl p ↦ no-input p | inr x ↦ of-adjustments (assets_held held) q.options.adjustments held.rows table x.1 ]
+        ]
+      ]
+    ]
+
+of-run : (held : Contents) (q : RunRequest) (table : Table) → ReachesRead (run_steps held q) (Load table) → IsSome q.options.adjustments
+of-run held q table h = elim h [
+  | inl p ↦ no-input p
+  | inr a ↦ elim a.1 [
+    | inl p ↦ no-read p
+    | inr b ↦ elim (reaches-one (data_steps held q) _ (Load table) b.1) [
+      | inl d ↦ of-data held q table d
+      | inr r ↦ absurd (of-range q _ _ table r)
+    ]
+  ]
+]
+
+pub store-named : (held : Contents) (asked : Option Request) (table : Table) → ReachesRead (work held asked) (Load table) → IsSome (adjustments_of asked)
+unfolding work
+store-named held None table h = elim h [ inl p ↦ no-read p | inr a ↦ absurd a.1 ]
+store-named held (Some (Fmt n)) table h = elim h [ inl p ↦ no-input p | inr a ↦ absurd a.1 ]
+store-named held (Some (Run q)) table h = of-run held q table h

@@ -1,7 +1,0 @@
-use Rattle.std.proofs.Common.{◌≡◌, ◌++◌, codes, take}
-use Rattle.pl_plain.specs.PlainScript.{names_of}
-use Rattle.pl_plain.specs.Rows.{behind_commas}
-use Rattle.pl_cli.proofs.header.header_text.Given as goal
-
-abbrev pub invariant-loop-column : goal.invariant-loop-column
-invariant-loop-column l = l.text.items ≡ codes "session,sid" ++ behind_commas (names_of (take l.column-index l.columns))

@@ -1,7 +1,0 @@
-use Rattle.std.proofs.Common.{◌++◌, ◌∙◌, ap, List}
-use Rattle.pl_spec.specs.declared.RawAdjust.{RawAdjust}
-use Rattle.pl_cli.proofs.tables.load_table.Goals as goal
-
-pub returns-in-Ok-clause-rows : goal.returns-in-Ok-clause-rows
-returns-in-Ok-clause-rows g c = λ lists told.
-    c.in-Ok.ensures.appended lists told ∙ ap (λ (rows : List RawAdjust). rows ++ lists c.args.name.now c.args.table) c.new-rows.ensures.items

@@ -1,0 +1,64 @@
+-- How a command ends, in the words of the code.
+use Rattle.std.specs.Prelude.{◌≡◌, ℕ, ◌+◌, ◌≤◌, List, length, IsTrue, Option, Some, None, Result, Ok, Err, OnOk, IfErr}
+use Rattle.pl_spec.specs.declared.Format.TheVariants.{Csv}
+use Rattle.pl_spec.specs.Table.{table}
+use Rattle.pl_spec.specs.Text.{text}
+use Rattle.pl_outside.specs.Taken.{TakesAll, TakesPrefix}
+use Rattle.pl_plain.specs.PlainScript.{pipeline_of}
+use Rattle.pl_plain.specs.Rows.{rows_cost}
+use Rattle.pl_words.specs.Request.{Request}
+use Rattle.pl_judge.specs.declared.fault.Fault.{Fault}
+use Rattle.pl_judge.specs.declared.fault.Fault.TheVariants.{Usage, Unread, Unloaded, Unwritten}
+use Rattle.pl_judge.specs.Contents.{Contents, AreHeld}
+use Rattle.pl_judge.specs.Steps.{first_fault}
+use Rattle.pl_judge.specs.Work.{work}
+use Rattle.pl_judge.specs.Stages.{IsStop}
+use Rattle.pl_load.specs.declared.loading.Loaded.{Loaded}
+use Rattle.pl_load.specs.Loads.{owned_world}
+use Rattle.pl_cli.specs.Texts.{text_of, cost_of}
+use Rattle.pl_cli.specs.Runs.{Observed, HasRoom}
+
+-- the table of what was loaded, and the steps of its cells
+abbrev pub loaded_text : Loaded → List ℕ
+loaded_text l =
+    let w = owned_world l.world in
+    let p = pipeline_of l.columns.items in
+    text w p Csv (table w p l.range.from l.range.to)
+
+abbrev pub loaded_cost : Loaded → ℕ
+loaded_cost l =
+    let w = owned_world l.world in
+    rows_cost w l.columns.items (table w (pipeline_of l.columns.items) l.range.from l.range.to)
+
+abbrev pub fault_of : {T : Type 0} → Result T Fault → Option Fault
+fault_of (Ok x) = None
+fault_of (Err fault) = Some fault
+
+-- the work stops, or after a prefix the text isn't written
+abbrev pub IsEnd : Observed → Contents → Option Request → Fault → Type 0
+IsEnd o held asked Unwritten =
+    (first_fault (work held asked) ≡ None) × TakesPrefix o.taken o.taken_now (text_of held asked) × (HasRoom o (length (text_of held asked)) → ⊥)
+IsEnd o held asked fault = IsStop o.shelf_sound o.keeper_sound (work held asked) fault
+
+-- there is no fault, and the text is written
+pub record IsDone (o : Observed) (held : Contents) (asked : Option Request) : Type 0 where
+  pub passed : first_fault (work held asked) ≡ None
+  pub text : TakesAll o.taken o.taken_now (text_of held asked)
+  pub room_left : IsTrue o.out_sound → o.room_now + length (text_of held asked) ≡ o.room
+  pub cost : o.steps_now ≡ o.steps + cost_of held asked
+
+-- a command over contents that the parts hold where they tell
+pub record IsEnded {T : Type 0} (o : Observed) (asked : Option Request) (result : Result T Fault) : Type 0 where
+  pub held : Contents
+  pub are_held : AreHeld o.files o.lists asked held
+  pub done : OnOk result (IsDone o held asked)
+  pub ended : IfErr result (IsEnd o held asked)
+  pub most : o.steps_now ≤ o.steps + cost_of held asked
+
+-- What holds of a fault, whether the parts tell or not: it has its cause, and what stops leaves the sink and the steps as they were.
+abbrev pub IsCaused : Type 0 → Type 0 → Type 0 → Type 0 → Type 0 → Fault → Type 0
+IsCaused usage shelf keeper out kept Usage = kept × usage
+IsCaused usage shelf keeper out kept (Unread file) = kept × shelf
+IsCaused usage shelf keeper out kept (Unloaded table) = kept × keeper
+IsCaused usage shelf keeper out kept Unwritten = out
+IsCaused usage shelf keeper out kept fault = kept

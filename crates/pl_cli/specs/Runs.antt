@@ -1,0 +1,70 @@
+-- What a run of the program did.
+use Rattle.std.specs.Prelude.{◌≡◌, ◌⊎◌, ℕ, ◌+◌, ◌≤◌, List, length, Bool, IsTrue, Option, None, IsSome}
+use Rattle.pl_outside.specs.Files.{Files}
+use Rattle.pl_outside.specs.Lists.{Lists}
+use Rattle.pl_outside.specs.Counts.{Rose}
+use Rattle.pl_outside.specs.Taken.{TakesAll, TakesPrefix}
+use Rattle.pl_words.specs.Request.{Request, adjustments_of}
+use Rattle.pl_judge.specs.Contents.{Contents, AreHeld}
+use Rattle.pl_judge.specs.Steps.{first_fault}
+use Rattle.pl_judge.specs.Work.{work}
+use Rattle.pl_judge.specs.Ends.{Ends, EndsJudged, EndsForMemory}
+use Rattle.pl_cli.specs.Texts.{text_of, cost_of}
+
+-- What the parts of the outside tell as a run begins, and what is told of `out` and of the steps as it ends.
+pub record Observed : Type 0 where
+  pub files : Option Files
+  pub lists : Option Lists
+  pub shelf_sound : Bool
+  pub keeper_sound : Bool
+  pub out_sound : Bool
+  pub taken : Option (List ℕ)
+  pub taken_now : Option (List ℕ)
+  pub room : ℕ
+  pub room_now : ℕ
+  pub steps : ℕ
+  pub steps_now : ℕ
+
+abbrev pub observed : {S K O : Type 0} (holds : S → Option Files) (shelf_sound : S → Bool) (lists : K → Option Lists) (keeper_sound : K → Bool)
+    (taken : O → Option (List ℕ)) (out_sound : O → Bool) (room : O → ℕ) (shelf : S) (keeper : K) (out out_now : O) (steps steps_now : ℕ) → Observed
+observed holds shelf_sound lists keeper_sound taken out_sound room shelf keeper out out_now steps steps_now =
+    record {
+      files = holds shelf;
+      lists = lists keeper;
+      shelf_sound = shelf_sound shelf;
+      keeper_sound = keeper_sound keeper;
+      out_sound = out_sound out;
+      taken = taken out;
+      taken_now = taken out_now;
+      room = room out;
+      room_now = room out_now;
+      steps = steps;
+      steps_now = steps_now;
+    }
+
+-- `out` is sound with room for a text of that length
+abbrev pub HasRoom : Observed → ℕ → Type 0
+HasRoom o n = IsTrue o.out_sound × (n ≤ o.room)
+
+-- Files and tables have these contents: those that the parts hold under the names of the words, wherever they tell. Over these the run
+-- has ended with a status and a line as the work says; with status 0 `out` took exactly the text, with status 9 a prefix of it.
+pub record IsRun (o : Observed) (asked : Option Request) (status : ℕ) (line : List ℕ) : Type 0 where
+  pub held : Contents
+  pub are_held : AreHeld o.files o.lists asked held
+  pub ends : Ends (work held asked) asked status line
+  pub text : status ≡ 0 → TakesAll o.taken o.taken_now (text_of held asked)
+  pub prefix : status ≡ 9 → TakesPrefix o.taken o.taken_now (text_of held asked)
+  -- the room that is left, where out is sound
+  pub room_left : status ≡ 0 → IsTrue o.out_sound → o.room_now + length (text_of held asked) ≡ o.room
+  -- all steps of the cells with status 0, and never more
+  pub cost : status ≡ 0 → o.steps_now ≡ o.steps + cost_of held asked
+  pub most : o.steps_now ≤ o.steps + cost_of held asked
+  -- over sound parts with room for the text the first fault decides, unless memory is wanted
+  pub complete : IsTrue o.shelf_sound → (IsSome (adjustments_of asked) → IsTrue o.keeper_sound)
+      → (first_fault (work held asked) ≡ None → HasRoom o (length (text_of held asked))) → IsTrue o.out_sound
+      → EndsJudged (work held asked) asked status line ⊎ EndsForMemory asked status line
+
+-- the line is told, where the sink tells, and counted no fault in this call or is sound with room
+pub record IsTold {S : Type 0} (taken : S → Option (List ℕ)) (faults : S → ℕ) (sound : S → Bool) (room : S → ℕ) (old new : S) (line : List ℕ) : Type 0 where
+  pub unless_risen : (Rose (faults old) (faults new) → ⊥) → TakesAll (taken old) (taken new) line
+  pub in_room : IsTrue (sound old) → length line ≤ room old → TakesAll (taken old) (taken new) line

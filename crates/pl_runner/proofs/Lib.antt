@@ -1,0 +1,3 @@
+pub mod CellTexts
+pub mod RowLines
+pub mod SessionLines

@@ -1,0 +1,2 @@
+-- What is written.
+pub mod Tables
