@@ -1,0 +1,102 @@
+-- A judgement by a table of rules names the first rule that is broken.
+use Rattle.std.proofs.Common.{◌≡◌, ◌↔◌, if◌then◌else◌, Bool, true, false, List, [], ◌∷◌, Option, Some, None, Result, Ok, Err, refl, sym, ◌∙◌, ap, inl, inr, ◌⊎◌}
+use Rattle.std.specs.Bool.{Decides}
+use Rattle.std.specs.Option.{ok_or}
+use Rattle.pl_records.specs.Reading.{Record, Judges}
+use Rattle.pl_records.specs.RuleTable.{first_broken, IsFirstBroken, KeepsAll, lacks, has}
+
+module _ {R : Type 0} (broken : R → Bool) (Breaks : R → Type 0) (tells : (q : R) → Decides (broken q) (Breaks q)) where
+  not_both : (b : Bool) → b ≡ true → b ≡ false → ⊥
+  not_both b t f = let bad : true ≡ false = sym t ∙ f in cc
+
+  kept : (q : R) → broken q ≡ false → ¬ Breaks q
+  kept q f b = not_both (broken q) ((tells q).1 b) f
+
+  kept-false : (q : R) → ¬ Breaks q → broken q ≡ false
+  kept-false q keeps = here (broken q) refl
+    where
+      here : (b : Bool) → broken q ≡ b → broken q ≡ false
+      here true t = absurd (keeps ((tells q).0 t))
+      here false t = t
+
+  pub all-kept : {A : Type 0} (rules : List R) (right : Result A R) → KeepsAll rules Breaks → first_broken rules broken right ≡ right
+  all-kept [] right k = refl
+  all-kept (q ∷ qs) right k = rw (kept-false q k.0) (all-kept qs right k.1)
+
+  pub first-found : {A : Type 0} (rules : List R) (right : Result A R) (rule : R) → IsFirstBroken rules Breaks rule → first_broken rules broken right ≡ Err rule
+  first-found [] right rule h = absurd h
+  first-found (q ∷ qs) right rule (inl h) = rw ((tells q).1 h.1) (ap Err h.0)
+  first-found (q ∷ qs) right rule (inr h) = rw (kept-false q h.0) (first-found qs right rule h.1)
+
+  pub judged : {A : Type 0} (rules : List R) (right said : Result A R) → first_broken rules broken right ≡ said
+      → (KeepsAll rules Breaks × (right ≡ said)) ⊎ ((rule : R) × (said ≡ Err rule) × IsFirstBroken rules Breaks rule)
+  judged [] right said e = inl (tt, e)
+  judged {A} (q ∷ qs) right said e = here (broken q) refl (λ f. judged qs right said f) e
+    where
+      here : (b : Bool) → broken q ≡ b
+          → (first_broken qs broken right ≡ said → (KeepsAll qs Breaks × (right ≡ said)) ⊎ ((rule : R) × (said ≡ Err rule) × IsFirstBroken qs Breaks rule))
+          → (if b then Err q else first_broken qs broken right) ≡ said
+          → (KeepsAll (q ∷ qs) Breaks × (right ≡ said)) ⊎ ((rule : R) × (said ≡ Err rule) × IsFirstBroken (q ∷ qs) Breaks rule)
+      here true t more e = inr (q, sym e, inl (refl, (tells q).0 t))
+      here false t more e = elim (more e) [
+        | inl h ↦ inl ((kept q t, h.0), h.1)
+        | inr h ↦ inr (h.0, h.1, inr (kept q t, h.2))
+      ]
+
+-- what a record is, told by a form that reads it
+module _ {Row : Type 0} (form : Record → Option Row) (IsRecord : Record → Row → Type 0) (tells : (r : Record) (row : Row) → (form r ≡ Some row) ↔ IsRecord r row) where
+  -- there is no such row
+  pub lacks-tells : (r : Record) → Decides (lacks (form r)) ((row : Row) → ¬ IsRecord r row)
+  lacks-tells r = here (form r) refl
+    where
+      here : (o : Option Row) → form r ≡ o → Decides (lacks o) ((row : Row) → ¬ IsRecord r row)
+      here None e = (λ t row h. absurd (let bad : None ≡ Some row = sym e ∙ (tells r row).1 h in cc), λ none. refl)
+      here (Some row) e = (λ t. absurd (let bad : false ≡ true = t in cc), λ none. absurd (none row ((tells r row).0 e)))
+
+  -- there is one that a test finds
+  pub has-tells : (test : Row → Bool) (P : Row → Type 0) → ((row : Row) → Decides (test row) (P row)) → (r : Record)
+      → Decides (has test (form r)) ((row : Row) × IsRecord r row × P row)
+  has-tells test P decides r = here (form r) refl
+    where
+      here : (o : Option Row) → form r ≡ o → Decides (has test o) ((row : Row) × IsRecord r row × P row)
+      here None e = (λ t. absurd (let bad : false ≡ true = t in cc), λ h. absurd (let bad : None ≡ Some h.0 = sym e ∙ (tells r h.0).1 h.1 in cc))
+      here (Some row) e = (
+        λ t. (row, (tells r row).0 e, (decides row).0 t),
+        λ h. (let one : Some h.0 ≡ Some row = sym ((tells r h.0).1 h.1) ∙ e in let same : h.0 ≡ row = cc in (decides row).1 (rw same at h.2)),
+      )
+
+  -- The judgement by the table says exactly the rows that break no rule, and of each other record exactly the first rule that it
+  -- breaks, where one of the rules is that there is such a row.
+  pub Judges-table : {R : Type 0} (rules : List R) (bad : R) (broken : List Row → Record → R → Bool) (Breaks : List Row → Record → R → Type 0)
+      → ((before : List Row) (r : Record) (q : R) → Decides (broken before r q) (Breaks before r q))
+      → ((before : List Row) (r : Record) → KeepsAll rules (Breaks before r) → ((row : Row) → ¬ IsRecord r row) → ⊥)
+      → Judges (λ before r row. IsRecord r row × KeepsAll rules (Breaks before r)) (λ before r. IsFirstBroken rules (Breaks before r))
+      (λ before r. first_broken rules (broken before r) (ok_or (form r) bad))
+  Judges-table {R} rules bad broken Breaks decides some =
+      record { row = λ before r row. (is_row before r row, row_is before r row); rule = λ before r rule. (is_rule before r rule, rule_is before r rule) }
+    where
+      is_row : (before : List Row) (r : Record) (row : Row) → first_broken rules (broken before r) (ok_or (form r) bad) ≡ Ok row → IsRecord r row × KeepsAll rules (Breaks before r)
+      is_row before r row e = elim (judged (broken before r) (Breaks before r) (decides before r) rules (ok_or (form r) bad) (Ok row) e) [
+        | inl h ↦ (there (form r) refl h.1, h.0)
+        | inr h ↦ absurd (let bad : Ok row ≡ Err h.0 = h.1 in cc)
+      ]
+        where
+          there : (o : Option Row) → form r ≡ o → ok_or o bad ≡ Ok row → IsRecord r row
+          there None e f = absurd (let other : Err bad ≡ Ok row = f in cc)
+          there (Some x) e f = let same : Ok x ≡ Ok row = f in (tells r row).0 (e ∙ ap (λ y. Some y) (let s : x ≡ row = cc in s))
+
+      row_is : (before : List Row) (r : Record) (row : Row) → IsRecord r row × KeepsAll rules (Breaks before r) → first_broken rules (broken before r) (ok_or (form r) bad) ≡ Ok row
+      row_is before r row h = all-kept (broken before r) (Breaks before r) (decides before r) rules (ok_or (form r) bad) h.1 ∙ ap (λ o. ok_or o bad) ((tells r row).1 h.0)
+
+      is_rule : (before : List Row) (r : Record) (rule : R) → first_broken rules (broken before r) (ok_or (form r) bad) ≡ Err rule → IsFirstBroken rules (Breaks before r) rule
+      is_rule before r rule e = elim (judged (broken before r) (Breaks before r) (decides before r) rules (ok_or (form r) bad) (Err rule) e) [
+        | inl h ↦ absurd (none (form r) refl h.1 h.0)
+        | inr h ↦ (let same : Err rule ≡ Err h.0 = h.1 in let s : rule ≡ h.0 = cc in rw s h.2)
+      ]
+        where
+          none : (o : Option Row) → form r ≡ o → ok_or o bad ≡ Err rule → KeepsAll rules (Breaks before r) → ⊥
+          none None e f k = some before r k ((lacks-tells r).0 (ap lacks e))
+          none (Some x) e f k = absurd (let bad : Ok x ≡ Err rule = f in cc)
+
+      rule_is : (before : List Row) (r : Record) (rule : R) → IsFirstBroken rules (Breaks before r) rule → first_broken rules (broken before r) (ok_or (form r) bad) ≡ Err rule
+      rule_is before r rule h = first-found (broken before r) (Breaks before r) (decides before r) rules (ok_or (form r) bad) rule h
