@@ -5,8 +5,9 @@
 ghost use Rattle.std.specs.Prelude.{◌≡◌, ◌↔◌, List, Ok, Err};
 ghost use Rattle.pl_spec.specs.declared.AssetRow.{AssetRow};
 ghost use Rattle.pl_records.specs.Reading.{Record, Fault, BreaksFirst, Judges};
-ghost use Rattle.pl_assets.specs.Assets.{Rule, AreAssets, assets_of, says_asset};
-ghost use Rattle.pl_assets.specs.Rules.{AreAssetsOf, Breaks, IsAsset, IsAssetsFault, order};
+ghost use Rattle.pl_records.specs.RuleTable.{IsFirstBroken};
+ghost use Rattle.pl_assets.specs.Assets.{Rule, AreAssets, assets_of, rules, says_asset};
+ghost use Rattle.pl_assets.specs.Rules.{AreAssetsOf, Breaks, IsAsset, IsAssetsFault};
 ghost use Rattle.pl_assets.specs.Labels as labels;
 ghost use Rattle.pl_assets.specs.LabelRules as label_rules;
 ghost use Rattle.pl_assets.specs.LabelWorlds.{LabelsAreThose};
@@ -16,7 +17,7 @@ ghost use Rattle.pl_assets.specs.LabelWorlds.{LabelsAreThose};
 /// missing, or where that record breaks that rule and no earlier one, and the records before it are
 /// assets.
 pub fn assets_in_plain_words()
-    ensures record { Judges IsAsset (λ before r. BreaksFirst order (Breaks before r)) says_asset }
+    ensures record { Judges IsAsset (λ before r. IsFirstBroken rules (Breaks before r)) says_asset }
     ensures assets { (records : List Record) (assets : List AssetRow) → (assets_of records ≡ Ok assets)
         ↔ AreAssetsOf records assets }
     ensures fault { (records : List Record) (fault : Fault Rule) → (assets_of records ≡ Err fault)

@@ -1,5 +1,6 @@
 -- A judgement by a table of rules names the first rule that is broken.
 use Rattle.std.proofs.Common.{◌≡◌, ◌↔◌, if◌then◌else◌, Bool, true, false, List, [], ◌∷◌, Option, Some, None, Result, Ok, Err, refl, sym, ◌∙◌, ap, inl, inr, ◌⊎◌}
+use Rattle.std.specs.Prelude.{⊤}
 use Rattle.std.specs.Bool.{Decides}
 use Rattle.std.specs.Option.{ok_or}
 use Rattle.pl_records.specs.Reading.{Record, Judges}
@@ -43,6 +44,24 @@ module _ {R : Type 0} (broken : R → Bool) (Breaks : R → Type 0) (tells : (q 
         | inr h ↦ inr (h.0, h.1, inr (kept q t, h.2))
       ]
 
+-- no test finds its rule broken
+abbrev pub NoneFound : {R : Type 0} → List R → (R → Bool) → Type 0
+NoneFound [] broken = ⊤
+NoneFound (q ∷ qs) broken = (broken q ≡ false) × NoneFound qs broken
+
+pub told_ok : {A R : Type 0} (rules : List R) (broken : R → Bool) (right : Result A R) (x : A) → first_broken rules broken right ≡ Ok x → NoneFound rules broken × (right ≡ Ok x)
+told_ok [] broken right x e = (tt, e)
+told_ok {A} {R} (q ∷ qs) broken right x e = here (broken q) refl (told_ok qs broken right x) e
+  where
+    here : (b : Bool) → broken q ≡ b → (first_broken qs broken right ≡ Ok x → NoneFound qs broken × (right ≡ Ok x))
+        → (if b then Err q else first_broken qs broken right) ≡ Ok x → NoneFound (q ∷ qs) broken × (right ≡ Ok x)
+    here true t more e = absurd (let bad : Err q ≡ Ok x = e in cc)
+    here false t more e = let it = more e in ((t, it.0), it.1)
+
+pub ok_or-Ok : {A R : Type 0} (o : Option A) (bad : R) (x : A) → ok_or o bad ≡ Ok x → o ≡ Some x
+ok_or-Ok None bad x e = absurd (let other : Err bad ≡ Ok x = e in cc)
+ok_or-Ok (Some y) bad x e = let same : Ok y ≡ Ok x = e in let s : y ≡ x = cc in ap (λ z. Some z) s
+
 -- what a record is, told by a form that reads it
 module _ {Row : Type 0} (form : Record → Option Row) (IsRecord : Record → Row → Type 0) (tells : (r : Record) (row : Row) → (form r ≡ Some row) ↔ IsRecord r row) where
   -- there is no such row
@@ -77,13 +96,9 @@ module _ {Row : Type 0} (form : Record → Option Row) (IsRecord : Record → Ro
     where
       is_row : (before : List Row) (r : Record) (row : Row) → first_broken rules (broken before r) (ok_or (form r) bad) ≡ Ok row → IsRecord r row × KeepsAll rules (Breaks before r)
       is_row before r row e = elim (judged (broken before r) (Breaks before r) (decides before r) rules (ok_or (form r) bad) (Ok row) e) [
-        | inl h ↦ (there (form r) refl h.1, h.0)
+        | inl h ↦ ((tells r row).0 (ok_or-Ok (form r) bad row h.1), h.0)
         | inr h ↦ absurd (let bad : Ok row ≡ Err h.0 = h.1 in cc)
       ]
-        where
-          there : (o : Option Row) → form r ≡ o → ok_or o bad ≡ Ok row → IsRecord r row
-          there None e f = absurd (let other : Err bad ≡ Ok row = f in cc)
-          there (Some x) e f = let same : Ok x ≡ Ok row = f in (tells r row).0 (e ∙ ap (λ y. Some y) (let s : x ≡ row = cc in s))
 
       row_is : (before : List Row) (r : Record) (row : Row) → IsRecord r row × KeepsAll rules (Breaks before r) → first_broken rules (broken before r) (ok_or (form r) bad) ≡ Ok row
       row_is before r row h = all-kept (broken before r) (Breaks before r) (decides before r) rules (ok_or (form r) bad) h.1 ∙ ap (λ o. ok_or o bad) ((tells r row).1 h.0)
