@@ -14,7 +14,7 @@ use Rattle.pl_spec.specs.Dates.{date_in}
 use Rattle.pl_spec.specs.Decimals.{sid_in}
 use Rattle.pl_spec.specs.declared.AssetRow.{AssetRow}
 use Rattle.pl_records.proofs.Readings.{under-are, under-fault}
-use Rattle.pl_records.proofs.RuleTables.{lacks-tells, has-tells, Judges-table}
+use Rattle.pl_records.proofs.RuleTables.{and_then_some, map_some, lacks-tells, has-tells, Judges-table}
 use Rattle.pl_records.proofs.Sorts.{sorted-are, sorted-fault}
 use Rattle.pl_spec.proofs.DatesRead.{date_in-IsDate, IsDate-date_in}
 use Rattle.pl_spec.proofs.SidsRead.{sid_in-decimal, decimal-sid_in}
@@ -24,15 +24,6 @@ use Rattle.pl_assets.specs.Rules.{IsAssetRecord, IsAsset, Breaks, AreAssetsOf, I
 use Rattle.pl_assets.proofs.AssetsRead.{OwnSids-read}
 
 -- ---- the fields
-
--- an option that came out of two
-and_then_some : {A B : Type 0} (o : Option A) (f : A → Option B) (y : B) → option_and_then f o ≡ Some y → (x : A) × (o ≡ Some x) × (f x ≡ Some y)
-and_then_some None f y e = absurd (let bad : None ≡ Some y = e in cc)
-and_then_some (Some x) f y e = (x, refl, e)
-
-map_some : {A B : Type 0} (o : Option A) (f : A → B) (y : B) → option_map f o ≡ Some y → (x : A) × (o ≡ Some x) × (f x ≡ y)
-map_some None f y e = absurd (let bad : None ≡ Some y = e in cc)
-map_some (Some x) f y e = (x, refl, (let same : Some (f x) ≡ Some y = e in cc))
 
 fields_said : Record → Option AssetRow
 fields_said r =

@@ -4,7 +4,7 @@
 
 ghost use Rattle.std.specs.Prelude.{◌≡◌, ◌↔◌, List, Ok, Err};
 ghost use Rattle.pl_spec.specs.declared.AssetRow.{AssetRow};
-ghost use Rattle.pl_records.specs.Reading.{Record, Fault, BreaksFirst, Judges};
+ghost use Rattle.pl_records.specs.Reading.{Record, Fault, Judges};
 ghost use Rattle.pl_records.specs.RuleTable.{IsFirstBroken};
 ghost use Rattle.pl_assets.specs.Assets.{Rule, AreAssets, assets_of, rules, says_asset};
 ghost use Rattle.pl_assets.specs.Rules.{AreAssetsOf, Breaks, IsAsset, IsAssetsFault};
@@ -31,7 +31,7 @@ pub fn assets_in_plain_words()
 pub fn labels_in_plain_words()
     ensures record { (assets : List AssetRow) → AreAssets assets
         → Judges (label_rules.IsLabel assets)
-        (λ before r. BreaksFirst label_rules.order (label_rules.Breaks assets before r))
+        (λ before r. IsFirstBroken labels.rules (label_rules.Breaks assets before r))
         (labels.says_label assets) }
     ensures labels { (assets : List AssetRow) → AreAssets assets → (records : List Record)
         (table : labels.LabelTable) → (labels.labels_of assets records ≡ Ok table)

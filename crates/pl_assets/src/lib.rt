@@ -26,6 +26,12 @@ use std::marker::Model;
 /// How many assets there may be.
 pub const MOST_ASSETS: usize = 8_000;
 
+/// How many rows of labels there may be.
+pub const MOST_LABELS: usize = 200_000;
+
+/// How many bytes a label may have.
+pub const LONGEST_LABEL: usize = 64;
+
 /// The assets by ascending sid, at most 8,000 of them.
 #[derive(Debug, Drop)]
 pub struct Assets {

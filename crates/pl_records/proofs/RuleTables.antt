@@ -1,5 +1,5 @@
 -- A judgement by a table of rules names the first rule that is broken.
-use Rattle.std.proofs.Common.{◌≡◌, ◌↔◌, if◌then◌else◌, Bool, true, false, List, [], ◌∷◌, Option, Some, None, Result, Ok, Err, refl, sym, ◌∙◌, ap, inl, inr, ◌⊎◌}
+use Rattle.std.proofs.Common.{◌≡◌, ◌↔◌, if◌then◌else◌, Bool, true, false, List, [], ◌∷◌, Option, Some, None, option_map, option_and_then, Result, Ok, Err, refl, sym, ◌∙◌, ap, inl, inr, ◌⊎◌}
 use Rattle.std.specs.Prelude.{⊤}
 use Rattle.std.specs.Bool.{Decides}
 use Rattle.std.specs.Option.{ok_or}
@@ -62,28 +62,40 @@ pub ok_or-Ok : {A R : Type 0} (o : Option A) (bad : R) (x : A) → ok_or o bad �
 ok_or-Ok None bad x e = absurd (let other : Err bad ≡ Ok x = e in cc)
 ok_or-Ok (Some y) bad x e = let same : Ok y ≡ Ok x = e in let s : y ≡ x = cc in ap (λ z. Some z) s
 
--- what a record is, told by a form that reads it
-module _ {Row : Type 0} (form : Record → Option Row) (IsRecord : Record → Row → Type 0) (tells : (r : Record) (row : Row) → (form r ≡ Some row) ↔ IsRecord r row) where
-  -- there is no such row
-  pub lacks-tells : (r : Record) → Decides (lacks (form r)) ((row : Row) → ¬ IsRecord r row)
-  lacks-tells r = here (form r) refl
+-- ---- what a form finds is what is there
+
+-- an option that came out of two
+pub and_then_some : {A B : Type 0} (o : Option A) (f : A → Option B) (y : B) → option_and_then f o ≡ Some y → (x : A) × (o ≡ Some x) × (f x ≡ Some y)
+and_then_some None f y e = absurd (let bad : None ≡ Some y = e in cc)
+and_then_some (Some x) f y e = (x, refl, e)
+
+pub map_some : {A B : Type 0} (o : Option A) (f : A → B) (y : B) → option_map f o ≡ Some y → (x : A) × (o ≡ Some x) × (f x ≡ y)
+map_some None f y e = absurd (let bad : None ≡ Some y = e in cc)
+map_some (Some x) f y e = (x, refl, (let same : Some (f x) ≡ Some y = e in cc))
+
+module _ {X Y : Type 0} (form : X → Option Y) (Is : X → Y → Type 0) (tells : (x : X) (y : Y) → (form x ≡ Some y) ↔ Is x y) where
+  -- there is none
+  pub lacks-tells : (x : X) → Decides (lacks (form x)) ((y : Y) → ¬ Is x y)
+  lacks-tells x = here (form x) refl
     where
-      here : (o : Option Row) → form r ≡ o → Decides (lacks o) ((row : Row) → ¬ IsRecord r row)
-      here None e = (λ t row h. absurd (let bad : None ≡ Some row = sym e ∙ (tells r row).1 h in cc), λ none. refl)
-      here (Some row) e = (λ t. absurd (let bad : false ≡ true = t in cc), λ none. absurd (none row ((tells r row).0 e)))
+      here : (o : Option Y) → form x ≡ o → Decides (lacks o) ((y : Y) → ¬ Is x y)
+      here None e = (λ t y h. absurd (let bad : None ≡ Some y = sym e ∙ (tells x y).1 h in cc), λ none. refl)
+      here (Some y) e = (λ t. absurd (let bad : false ≡ true = t in cc), λ none. absurd (none y ((tells x y).0 e)))
 
   -- there is one that a test finds
-  pub has-tells : (test : Row → Bool) (P : Row → Type 0) → ((row : Row) → Decides (test row) (P row)) → (r : Record)
-      → Decides (has test (form r)) ((row : Row) × IsRecord r row × P row)
-  has-tells test P decides r = here (form r) refl
+  pub has-tells : (test : Y → Bool) (P : Y → Type 0) → ((y : Y) → Decides (test y) (P y)) → (x : X) → Decides (has test (form x)) ((y : Y) × Is x y × P y)
+  has-tells test P decides x = here (form x) refl
     where
-      here : (o : Option Row) → form r ≡ o → Decides (has test o) ((row : Row) × IsRecord r row × P row)
-      here None e = (λ t. absurd (let bad : false ≡ true = t in cc), λ h. absurd (let bad : None ≡ Some h.0 = sym e ∙ (tells r h.0).1 h.1 in cc))
-      here (Some row) e = (
-        λ t. (row, (tells r row).0 e, (decides row).0 t),
-        λ h. (let one : Some h.0 ≡ Some row = sym ((tells r h.0).1 h.1) ∙ e in let same : h.0 ≡ row = cc in (decides row).1 (rw same at h.2)),
+      here : (o : Option Y) → form x ≡ o → Decides (has test o) ((y : Y) × Is x y × P y)
+      here None e = (λ t. absurd (let bad : false ≡ true = t in cc), λ h. absurd (let bad : None ≡ Some h.0 = sym e ∙ (tells x h.0).1 h.1 in cc))
+      here (Some y) e = (
+        λ t. (y, (tells x y).0 e, (decides y).0 t),
+        λ h. (let one : Some h.0 ≡ Some y = sym ((tells x h.0).1 h.1) ∙ e in let same : h.0 ≡ y = cc in (decides y).1 (rw same at h.2)),
       )
 
+-- ---- a judgement by a table
+
+module _ {Row : Type 0} (form : Record → Option Row) (IsRecord : Record → Row → Type 0) (tells : (r : Record) (row : Row) → (form r ≡ Some row) ↔ IsRecord r row) where
   -- The judgement by the table says exactly the rows that break no rule, and of each other record exactly the first rule that it
   -- breaks, where one of the rules is that there is such a row.
   pub Judges-table : {R : Type 0} (rules : List R) (bad : R) (broken : List Row → Record → R → Bool) (Breaks : List Row → Record → R → Type 0)
@@ -110,7 +122,7 @@ module _ {Row : Type 0} (form : Record → Option Row) (IsRecord : Record → Ro
       ]
         where
           none : (o : Option Row) → form r ≡ o → ok_or o bad ≡ Err rule → KeepsAll rules (Breaks before r) → ⊥
-          none None e f k = some before r k ((lacks-tells r).0 (ap lacks e))
+          none None e f k = some before r k ((lacks-tells form IsRecord tells r).0 (ap lacks e))
           none (Some x) e f k = absurd (let bad : Ok x ≡ Err rule = f in cc)
 
       rule_is : (before : List Row) (r : Record) (rule : R) → IsFirstBroken rules (Breaks before r) rule → first_broken rules (broken before r) (ok_or (form r) bad) ≡ Err rule
