@@ -104,36 +104,3 @@ AreAssets-read records assets e =
       few = rw (← it.2) (omega (arith, length-sorted_by sid_of it.0, few-read records it.0 it.1));
       small = rw (← it.2) (All-permutation (λ (a : AssetRow). a.sid < 2 ^ 32) it.0 (sorted_by sid_of it.0) (sorted-permutes sid_of it.0) (small-read records it.0 it.1));
     }
-
--- ---- the set of the sids that were read
-
-any-append : (p : AssetRow → Bool) (xs : List AssetRow) (y : AssetRow) → list_any p (xs ++ y ∷ []) ≡ (p y || list_any p xs)
-any-append p [] y = refl
-any-append p (x ∷ xs) y = ap (λ b. p x || b) (any-append p xs y) ∙ swapped (p x) (p y) (list_any p xs)
-  where
-    swapped : (a b c : Bool) → (a || (b || c)) ≡ (b || (a || c))
-    swapped true true c = refl
-    swapped true false c = refl
-    swapped false true c = refl
-    swapped false false c = refl
-
-pub AreSids-none : {S : Type 0} (sids : HashSet ℕ S) → ((sid : ℕ) → contains nat_eq sids sid ≡ false) → AreSids sids []
-AreSids-none sids none = record { each = none }
-
--- one more sid
-pub AreSids-more : {S : Type 0} (old new : HashSet ℕ S) (rows : List AssetRow) (a : AssetRow) → AreSids old rows
-    → ((sid : ℕ) → contains nat_eq new sid ≡ cond (nat_eq a.sid sid) true (contains nat_eq old sid)) → AreSids new (rows ++ a ∷ [])
-AreSids-more old new rows a h e =
-    record { each = λ sid. e sid ∙ either (nat_eq a.sid sid) (contains nat_eq old sid) ∙ ap (λ b. nat_eq a.sid sid || b) (h.each sid) ∙ sym (any-append (λ x. sid_of x == sid) rows a) }
-  where
-    either : (b c : Bool) → cond b true c ≡ (b || c)
-    either true c = refl
-    either false c = refl
-
--- a sid that the set took is new
-pub own_sid : {S : Type 0} (sids : HashSet ℕ S) (rows : List AssetRow) (sid : ℕ) (b : Bool) → AreSids sids rows → b ≡ not (contains nat_eq sids sid) → list_any (λ x. sid_of x == sid) rows ≡ not b
-own_sid sids rows sid b h e = sym (h.each sid) ∙ twice (contains nat_eq sids sid) ∙ ap not (sym e)
-  where
-    twice : (c : Bool) → c ≡ not (not c)
-    twice true = refl
-    twice false = refl

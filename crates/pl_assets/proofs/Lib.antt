@@ -11,3 +11,4 @@ pub mod LabelTables
 pub mod LabelSearch
 pub mod LabelWorlds
 pub mod LabelsSaid
+pub mod SidColumns

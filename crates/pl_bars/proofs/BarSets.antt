@@ -121,17 +121,3 @@ bit_in-with_bit words k j h = here (k == j) refl
         bit_in-other words k j h ne ∙ sym (or_false (bit_in words j))
 
 -- ---- the bars of rows
-
-pub no_bits : (words : List ℕ) → ((i : ℕ) → get_or words i 0 ≡ 0) → (k : ℕ) → bit_in words k ≡ false
-no_bits words zeros k = ap (λ x. bit_at x (k % 64) == 1) (zeros (k / 64)) ∙ ap (λ b. b == 1) (bit_at-zero (k % 64))
-
-pub AreBarsIn-more : (old new : BarSet) (rows : List BarRow) (b : BarRow) → AreBarsIn old rows → new.cols ≡ old.cols → new.sessions ≡ old.sessions
-    → ((c s : ℕ) → s < old.sessions → has_bar new c s ≡ (has_bar old c s || (b.col == c && b.session == s))) → AreBarsIn new (rows ++ b ∷ [])
-AreBarsIn-more old new rows b h e f more =
-    record {
-      each = λ c s k l.
-          let k' : c < old.cols = omega (arith, e) in
-          let l' : s < old.sessions = omega (arith, f) in
-          more c s l' ∙ ap (λ x. x || is_at c s b) (h.each c s k' l') ∙ ap (λ x. list_any (is_at c s) rows || x) (sym (or_false (is_at c s b)))
-          ∙ sym (list_any-append (is_at c s) rows (b ∷ []));
-    }

@@ -1,4 +1,6 @@
 ghost use Rattle.std.specs.Prelude.{◌≡◌, ℕ, ◌+◌, ◌*◌, ◌<◌, ◌≤◌, ◌==◌, ◌&&◌, ◌||◌, [], length, IfOk, vec_len};
+ghost use Rattle.pl_calendar.specs.declared.TheConstants.{MOST_SESSIONS};
+ghost use Rattle.pl_assets.specs.declared.TheConstants.{MOST_ASSETS};
 
 use std::alloc::{AllocError, Global};
 
@@ -8,8 +10,8 @@ pub(crate) struct BarSet {
     cols: usize,
     sessions: usize,
     words: Vec<u64>,
-    ghost few_cols: { cols ≤ 8_000 },
-    ghost few_sessions: { sessions ≤ 16_000 },
+    ghost few_cols: { cols ≤ MOST_ASSETS },
+    ghost few_sessions: { sessions ≤ MOST_SESSIONS },
     ghost room: { cols * sessions ≤ 64 * vec_len words },
 }
 
@@ -18,8 +20,8 @@ impl BarSet {
 
     /// No bars, of so many columns and sessions.
     pub(crate) fn new(alloc: Global, cols: usize, sessions: usize) -> Result<BarSet, AllocError>
-        requires cols { cols ≤ 8_000 }
-        requires sessions { sessions ≤ 16_000 }
+        requires cols { cols ≤ MOST_ASSETS }
+        requires sessions { sessions ≤ MOST_SESSIONS }
         ensures cols { IfOk result (λ set. set.cols ≡ cols) }
         ensures sessions { IfOk result (λ set. set.sessions ≡ sessions) }
         ensures none { IfOk result (λ set. AreBarsIn set []) }
