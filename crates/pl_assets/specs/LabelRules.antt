@@ -12,8 +12,8 @@ use Rattle.pl_assets.specs.Assets.{sid_of}
 use Rattle.pl_assets.specs.Labels.{Rule, BadHeader, TooMany, BadField, LabelTooLong, UnknownSid, DuplicateStart, LabelTable, rules, header, texts_of}
 use Rattle.pl_assets.specs.declared.TheConstants.{MOST_LABELS, LONGEST_LABEL}
 
--- the record is the name, the sid, without sign and zeros in front, the date of the start and the text of the label, which
--- has no bytes but the printable ones of ASCII
+-- the record is the name, the sid, without sign and zeros in front, the date of the start and the text of the
+-- label, which has no bytes but the printable ones of ASCII
 pub record IsLabelRecord (r : Record) (l : LabelRow) : Type 0 where
   pub four : length r ≡ 4
   pub name : field r 0 ≡ l.name

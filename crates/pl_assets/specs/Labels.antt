@@ -1,5 +1,5 @@
--- Labels by column, with the list of their texts: those of the records of a labels file, and the first rule that a record
--- breaks.
+-- Labels by column, with the list of their texts: those of the records of a labels file, and the first rule
+-- that a record breaks.
 use Rattle.std.specs.Prelude.{◌≡◌, ℕ, ◌==◌, ◌<◌, ◌≤◌, ◌&&◌, not, nat_le, nat_lt, Bool, false, if◌then◌else◌, IsTrue, ℤ, codes, List, [], ◌∷◌, ◌++◌, length, map, filter, position, bytes_eq, All, AllPairs, Option, None, option_map, option_and_then, Result, Ok}
 use Rattle.std.specs.List.{list_any, list_all, position_or_len}
 use Rattle.std.specs.Option.{ok_or}

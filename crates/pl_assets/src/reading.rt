@@ -6,8 +6,8 @@ ghost use Rattle.pl_assets.specs.Assets.{asset_in, assets_of, rows_in, says_asse
 ghost use Rattle.pl_assets.specs.Faults.{fault_of};
 ghost use Rattle.pl_assets.specs.Seen.{AreSids};
 
-use crate::error::AssetsError;
 use crate::MOST_ASSETS;
+use crate::error::AssetsError;
 use pl_fixed::{read_day, read_sid};
 use pl_records::Records;
 use pl_spec::AssetRow;

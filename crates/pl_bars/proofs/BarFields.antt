@@ -154,7 +154,6 @@ fields_in-IsBarRecord r f h =
 pub fields_form : (r : Record) (f : Fields) → (fields_in r ≡ Some f) ↔ IsBarRecord r f
 fields_form r f = (IsBarRecord-fields_in r f, fields_in-IsBarRecord r f)
 
-
 -- cells that are read, and not below 0
 pub fields-cells : (r : Record) (f : Fields) → fields_in r ≡ Some f → list_any is_negative f.cells ≡ false → All (λ v. IsTrue (is_bar_cell v)) f.cells
 fields-cells r f e t k d h =

@@ -144,8 +144,16 @@ bars_judged days assets ud ua =
   where
     some : (before : List BarRow) (r : Record) → KeepsAll rules.rules (Breaks days assets before r) → ((b : BarRow) → ¬ IsRowRecord days assets r b) → ⊥
     some before r kept none =
-        kept.1.0 (λ f w. kept.1.1.0 (f, w, λ session at. kept.1.1.1.0 (f, w, λ col has.
-        none (placed_at f session col) (record { fields = f; written = w; placed = record { day = at; sid = has }; cells = refl }))))
+        kept.1.0 (λ f w. kept.1.1.0 (
+          f,
+          w,
+          λ session at. kept.1.1.1.0 (
+            f,
+            w,
+            λ col has.
+                none (placed_at f session col) (record { fields = f; written = w; placed = record { day = at; sid = has }; cells = refl }),
+          ),
+        ))
 
 -- ---- and of a file
 

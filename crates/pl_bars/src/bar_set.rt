@@ -4,7 +4,7 @@ ghost use Rattle.pl_assets.specs.declared.TheConstants.{MOST_ASSETS};
 
 use std::alloc::{AllocError, Global};
 
-/// The columns and sessions that have a bar: a bit for each, column by column.
+// The columns and sessions that have a bar: a bit for each, column by column.
 #[derive(Drop)]
 pub(crate) struct BarSet {
     cols: usize,
@@ -18,7 +18,7 @@ pub(crate) struct BarSet {
 impl BarSet {
     ghost use Rattle.pl_bars.specs.BarSet.{has_bar, AreBarsIn};
 
-    /// No bars, of so many columns and sessions.
+    // No bars, of so many columns and sessions.
     pub(crate) fn new(alloc: Global, cols: usize, sessions: usize) -> Result<BarSet, AllocError>
         requires cols { cols ≤ MOST_ASSETS }
         requires sessions { sessions ≤ MOST_SESSIONS }
@@ -34,7 +34,7 @@ impl BarSet {
         })
     }
 
-    /// Whether there is a bar of the column on the session.
+    // Whether there is a bar of the column on the session.
     pub(crate) fn contains(&self, col: usize, session: usize) -> bool
         requires col { col < self.now.cols }
         requires session { session < self.now.sessions }
@@ -44,7 +44,7 @@ impl BarSet {
         (self.words[place / 64] >> (place % 64)) & 1 == 1
     }
 
-    /// From now on there is a bar of the column on the session.
+    // From now on there is a bar of the column on the session.
     pub(crate) fn insert(&mut self, col: usize, session: usize)
         requires col { col < self.old.cols }
         requires session { session < self.old.sessions }

@@ -41,7 +41,8 @@ ReachesMeet = (days : List ℤ) → AllPairs (λ a b. a <ℤ b) days → (g : Gr
     → (t : ℕ) (s : ℤ) → t < length g → Needs days g outputs from t s
     → (u : ℕ) × (n : Node) × (r : ℤ) × Needs days g outputs from u r × (slice_get g u ≡ Some n) × (own_from days n r ≡ reach days (term_at g t) s)
 
--- The first session of a period is of the period, no earlier session is, and for a later session it is no earlier.
+-- The first session of a period is of the period, no earlier session is, and for a later session it is no
+-- earlier.
 pub record StartsAreFirst : Type 0 where
   pub within : (f : Frequency) (days : List ℤ) (d : ℤ) → period_start f days d ≤ℤ d
   pub start : (f : Frequency) (days : List ℤ) (d : ℕ) (day : ℤ) → slice_get days d ≡ Some day

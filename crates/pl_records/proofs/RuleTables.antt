@@ -96,8 +96,8 @@ module _ {X Y : Type 0} (form : X → Option Y) (Is : X → Y → Type 0) (tells
 -- ---- a judgement by a table
 
 module _ {Row : Type 0} (form : Record → Option Row) (IsRecord : Record → Row → Type 0) (tells : (r : Record) (row : Row) → (form r ≡ Some row) ↔ IsRecord r row) where
-  -- The judgement by the table says exactly the rows that break no rule, and of each other record exactly the first rule that it
-  -- breaks, where one of the rules is that there is such a row.
+  -- The judgement by the table says exactly the rows that break no rule, and of each other record exactly the
+  -- first rule that it breaks, where one of the rules is that there is such a row.
   pub Judges-table : {R : Type 0} (rules : List R) (bad : R) (broken : List Row → Record → R → Bool) (Breaks : List Row → Record → R → Type 0)
       → ((before : List Row) (r : Record) (q : R) → Decides (broken before r q) (Breaks before r q))
       → ((before : List Row) (r : Record) → KeepsAll rules (Breaks before r) → ((row : Row) → ¬ IsRecord r row) → ⊥)

@@ -6,7 +6,7 @@ ghost use Rattle.pl_assets.specs.declared.TheConstants.{MOST_LABELS};
 use crate::labels::rows::{LabelRows, Place};
 use std::alloc::{AllocError, Global};
 
-/// A number that rises by the number of the name, then by column, and then by day.
+// A number that rises by the number of the name, then by column, and then by day.
 pub(crate) fn key(name: u32, col: usize, day: i32) -> u128
     ensures { result ≡ key name col day }
 {
@@ -37,7 +37,7 @@ fn key_at(places: &[Place], i: u32) -> u128
     }
 }
 
-/// The numbers of all rows, by the keys of the rows.
+// The numbers of all rows, by the keys of the rows.
 pub(crate) fn order_of(alloc: Global, places: &[Place]) -> Result<Vec<u32>, AllocError>
     requires few { length places.now ≤ MOST_LABELS }
     requires own { OwnKeys places.now }
@@ -76,7 +76,7 @@ fn sort_by_key(places: &[Place], order: &mut [u32])
     order.sort_unstable_by_key(|i| key_at(places, *i));
 }
 
-/// Puts the number of the last row, whose key no other has, into the order of the others.
+// Puts the number of the last row, whose key no other has, into the order of the others.
 pub(crate) fn insert_last(places: &[Place], order: &mut Vec<u32>)
     requires some { 0 < length places.now }
     requires few { length places.now ≤ MOST_LABELS }
@@ -102,7 +102,7 @@ fn point_of(places: &[Place], order: &[u32], key: u128) -> usize
     order.partition_point(|i| key_at(places, *i) <= key)
 }
 
-/// The row under the name that started last in the column by the day.
+// The row under the name that started last in the column by the day.
 pub(crate) fn last_started(
     rows: &LabelRows,
     order: &[u32],

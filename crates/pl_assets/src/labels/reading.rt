@@ -7,10 +7,10 @@ ghost use Rattle.pl_assets.specs.LabelFaults.{fault_of};
 ghost use Rattle.pl_assets.specs.LabelPlaces.{AreKeys, AreNumbered, shown_rows};
 ghost use Rattle.pl_assets.specs.LabelStarts.{label_from, row_from};
 
-use crate::{Assets, LONGEST_LABEL, MOST_LABELS};
 use crate::labels::error::LabelsError;
 use crate::labels::order::{key, key_of};
 use crate::labels::rows::LabelRows;
+use crate::{Assets, LONGEST_LABEL, MOST_LABELS};
 use pl_fixed::{is_name, read_day, read_sid};
 use pl_records::Records;
 use std::alloc::Global;
@@ -54,7 +54,7 @@ fn rows_behind(
     Ok(rows)
 }
 
-/// From when on a record gives a label, and to which column.
+// From when on a record gives a label, and to which column.
 #[derive(Clone, Copy)]
 struct ColumnStart {
     col: u32,
@@ -114,7 +114,7 @@ fn is_known(rows: &LabelRows, keys: &HashSet<u128>, name: &[u8], col: usize, day
     }
 }
 
-/// The sid and the day of a record.
+// The sid and the day of a record.
 #[derive(Clone, Copy)]
 struct SidStart {
     sid: u32,

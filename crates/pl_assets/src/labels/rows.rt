@@ -6,8 +6,8 @@ ghost use Rattle.pl_assets.specs.declared.TheConstants.{MOST_LABELS};
 use crate::labels::texts::{LabelTexts, Texts};
 use std::alloc::{AllocError, Global};
 
-/// A row of labels: the number of its name, its column, its first day and the code of its text,
-/// which an empty text lacks.
+// A row of labels: the number of its name, its column, its first day and the code of its text,
+// which an empty text lacks.
 #[derive(Clone, Copy, Debug)]
 pub(crate) struct Place {
     pub(crate) name: u32,
@@ -16,7 +16,7 @@ pub(crate) struct Place {
     pub(crate) code: Option<u32>,
 }
 
-/// Rows of labels, one behind the other, with their distinct names and texts.
+// Rows of labels, one behind the other, with their distinct names and texts.
 #[derive(Debug, Drop)]
 pub(crate) struct LabelRows {
     pub(crate) names: Texts,
@@ -25,7 +25,7 @@ pub(crate) struct LabelRows {
 }
 
 impl LabelRows {
-    /// No rows.
+    // No rows.
     pub(crate) fn new(alloc: Global) -> LabelRows
         ensures names { result.names ≡ [] }
         ensures texts { result.texts ≡ [] }
@@ -38,7 +38,7 @@ impl LabelRows {
         }
     }
 
-    /// One row behind the others. Where memory runs out, none is added.
+    // One row behind the others. Where memory runs out, none is added.
     pub(crate) fn push(
         &mut self,
         name: &[u8],
