@@ -1,5 +1,5 @@
 -- The printed form of a script: parentheses exactly where the levels ask for them, one statement a line.
-use Rattle.std.specs.Prelude.{ℕ, Bool, true, false, nat_le, List, [], ◌∷◌, ◌++◌, codes, Option, Some, None}
+use Rattle.std.specs.Prelude.{ℕ, Bool, true, false, nat_le, List, [], ◌∷◌, ◌++◌, codes, decimal, Option, Some, None}
 use Rattle.pl_grammar.specs.declared.PrefixSign.{PrefixSign}
 use Rattle.pl_grammar.specs.declared.PrefixSign.TheVariants.{Minus, Not}
 use Rattle.pl_grammar.specs.declared.BinarySign.{BinarySign}
@@ -83,6 +83,6 @@ unfoldable pub statements_text : List Statement → List ℕ
 statements_text [] = []
 statements_text (s ∷ ss) = statement_text s ++ statements_text ss
 
--- the canonical text of a script
-unfoldable pub script_text : List Statement → List ℕ
-script_text ss = codes "pipeline 1;\n" ++ statements_text ss
+-- the canonical text of a script: its version on the first line, and then its statements
+unfoldable pub script_text : ℕ → List Statement → List ℕ
+script_text version ss = codes "pipeline " ++ (decimal version ++ (codes ";\n" ++ statements_text ss))

@@ -13,7 +13,7 @@ pub data Said : Type 0 where
 
 -- behind a byte that is in no token stands no script
 abbrev pub said_by : Verdict → Tail → Said
-said_by (Good ss) (AtEnd p) = Spelled (record { statements = ss; end = p })
+said_by (Good ss) (AtEnd p) = Spelled (record { version = 1; statements = ss; end = p })
 said_by (Good ss) (AtBad p) = Faulty f.BadByte p
 said_by (Fault k p) tail = Faulty k p
 

@@ -189,8 +189,14 @@ fn same_statements(a: &[Statement], b: &[Statement]) -> bool
     rest.is_empty()
 }
 
-/// Scripts are equal where they say the same, wherever it stands in their files: their statements are the same but for
-/// places, and so their canonical texts are.
+fn same_scripts(a: &Script, b: &Script) -> bool
+    ensures { (result ≡ true) ↔ SameScript (parsed a.now) (parsed b.now) }
+{
+    a.version() == b.version() && same_statements(a.statements(), b.statements())
+}
+
+/// Scripts are equal where they say the same, wherever it stands in their files: their versions are the same, and so are
+/// their statements but for places; and so their canonical texts are.
 impl PartialEq for Script {
     ghost eq = { λ a b. bytes_eq (printed_text a) (printed_text b) };
 
@@ -200,7 +206,7 @@ impl PartialEq for Script {
         ensures same { (result ≡ true) ↔ SameScript (parsed self.now) (parsed other.now) }
         ensures text { result ≡ bytes_eq (printed_text self.now) (printed_text other.now) }
     {
-        same_statements(self.statements(), other.statements())
+        same_scripts(self, other)
     }
 }
 

@@ -9,6 +9,9 @@ use crate::tree::Expr;
 use pl_grammar::Place;
 use pl_tokens::Word;
 
+// The one version that there is.
+const VERSION: u32 = 1;
+
 /// A statement. Its place is that of its NAME, or of `screen`.
 #[derive(Drop, Debug)]
 pub enum Statement {
@@ -33,28 +36,36 @@ pub enum Statement {
 /// another.
 #[derive(Drop, Debug)]
 pub struct Script {
+    version: u32,
     statements: Vec<Statement>,
     end: Place,
+    ghost known: { version ≡ 1 },
     ghost sound: { IsTrue (are_sound is_written (statements_of statements.items)) },
 }
 
 impl Script {
-    ghost use Rattle.pl_syntax.specs.Scripts.{statements_in, end_in};
+    ghost use Rattle.pl_syntax.specs.Scripts.{version_in, statements_in, end_in};
 
-    /// The script of these statements, whose file ends at `end`.
+    /// The script of version 1 of these statements, whose file ends at `end`.
     pub(crate) fn new(statements: Vec<Statement>, end: Place) -> Script
         requires { IsTrue (are_sound is_written (statements_of statements.items)) }
+        ensures version { version_in result ≡ 1 }
         ensures statements { statements_in result ≡ statements.items }
         ensures end { end_in result ≡ end }
     {
-        Script { statements, end }
+        Script {
+            version: VERSION,
+            statements,
+            end,
+        }
     }
 
-    /// The version of the language that the file names, which is 1.
+    /// The version of the language that the file names. Only version 1 is accepted.
     pub fn version(&self) -> u32
-        ensures { result ≡ 1 }
+        ensures value { result ≡ version_in self.now }
+        ensures known { result ≡ 1 }
     {
-        1
+        self.version
     }
 
     /// Lends the statements, in the order of the file.

@@ -282,10 +282,8 @@ pub fn print(alloc: Global, script: &Script) -> Result<Vec<u8>, Memory>
     ensures text { IfOk result (λ v. v.items ≡ printed_text script.now) }
     ensures again { IfOk result (λ v. SpellsAgain v.items (parsed script.now)) }
 {
-    match text_of(alloc, script) {
-        Ok(text) => Ok(text),
-        Err(_) => Err(Memory),
-    }
+    let text = text_of(alloc, script)?;
+    Ok(text)
 }
 
 /// Whatever can be written is spelled by its canonical text, so each script is spelled by some bytes.
