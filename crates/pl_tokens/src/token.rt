@@ -58,12 +58,16 @@ fn word_at(alloc: Global, bytes: &[u8]) -> Result<Token, AllocError>
 
 /// A number of so many digits, and so many behind its point.
 fn number_at(bytes: &[u8]) -> Token
+    requires { (whole : ℕ) × (fraction : ℕ) × (rest : List ℕ)
+        × Front bytes.now rest (Form.Number whole fraction) }
     ensures { (whole fraction : ℕ) (rest : List ℕ) → Front bytes.now rest (Form.Number whole fraction)
         → token_of result ≡ token_in (Form.Number whole fraction) bytes.now }
 {
     match read_decimal(bytes) {
         Ok(value) => Token::Number(value),
-        Err(_) => Token::LargeNumber,
+        Err(DecimalFault::TooManyDigits | DecimalFault::TooLarge) => Token::LargeNumber,
+        Err(DecimalFault::Empty) => unreachable!(),
+        Err(DecimalFault::Shape) => unreachable!(),
     }
 }
 
