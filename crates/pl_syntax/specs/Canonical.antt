@@ -58,10 +58,13 @@ unfoldable mutual
   tree_text (text p t) = codes "\"" ++ (t ++ codes "\"")
   tree_text (name p n) = n
   tree_text (call p n ps) = n ++ in_parentheses (list_text true ps)
-  tree_text (prefix p s e) = prefix_text s ++ placed_text (nat_le (prefix_level s) (tree_level e)) (tree_text e)
-  tree_text (binary p o a b) = placed_text (nat_le (left_level o) (tree_level a)) (tree_text a) ++ (binary_text o ++ placed_text (nat_le (right_level o) (tree_level b)) (tree_text b))
+  tree_text (prefix p s e) = prefix_text s
+      ++ placed_text (nat_le (prefix_level s) (tree_level e)) (tree_text e)
+  tree_text (binary p o a b) = placed_text (nat_le (left_level o) (tree_level a)) (tree_text a)
+      ++ (binary_text o ++ placed_text (nat_le (right_level o) (tree_level b)) (tree_text b))
   tree_text (member p e n) = placed_text (nat_le 8 (tree_level e)) (tree_text e) ++ (codes "." ++ n)
-  tree_text (method p e n ps) = placed_text (nat_le 8 (tree_level e)) (tree_text e) ++ (codes "." ++ (n ++ in_parentheses (list_text true ps)))
+  tree_text (method p e n ps) = placed_text (nat_le 8 (tree_level e)) (tree_text e)
+      ++ (codes "." ++ (n ++ in_parentheses (list_text true ps)))
 
   pub list_text : Bool → Args → List ℕ
   list_text first no_args = []

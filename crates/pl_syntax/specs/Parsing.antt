@@ -1,5 +1,5 @@
 -- What the parser answers: of a token, of the end, and of the bytes.
-use Rattle.std.specs.Prelude.{ℕ, ◌≡◌, ◌<◌, cond, nat_le, List, length, Option, Some, None, Result, Ok, Err}
+use Rattle.std.specs.Prelude.{ℕ, ◌≡◌, ◌<◌, if◌then◌else◌, nat_le, List, length, Option, Some, None, Result, Ok, Err}
 use Rattle.pl_grammar.specs.declared.Place.{Place}
 use Rattle.pl_grammar.specs.Machine.{Stop, Stuck, Deep}
 use Rattle.pl_grammar.specs.Script as g
@@ -62,7 +62,10 @@ stepped (Err Stuck) = Err f.Unexpected
 stepped (Err Deep) = Err f.TooDeep
 
 abbrev pub token_step : ℕ → Lexeme → g.Stage → Result g.Stage Kind
-token_step n t s = cond (nat_le most_tokens n) (Err f.LongStatement) (cond (too_large t) (Err f.NumberTooLarge) (stepped (script_step most_depth t s)))
+token_step n t s =
+    if nat_le most_tokens n then Err f.LongStatement
+    else if too_large t then Err f.NumberTooLarge
+    else stepped (script_step most_depth t s)
 
 abbrev pub Steps : Result Progress SyntaxError → Result g.Stage Kind → ℕ → Place → Type 0
 Steps (Ok x) r n p = (r ≡ Ok (stage_of x.stage)) × (x.count ≡ n)

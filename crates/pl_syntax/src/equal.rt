@@ -1,4 +1,5 @@
-// Equality of scripts, places aside.
+//! Equality of scripts, places aside.
+
 ghost use Rattle.std.specs.Prelude.{◌≡◌, ◌↔◌, List, true, ℕ, Option};
 ghost use Rattle.pl_grammar.specs.Places.{bare, bare_args};
 ghost use Rattle.pl_grammar.specs.Whole.{bare_statement, bare_script};
@@ -34,7 +35,7 @@ fn same_signs(a: BinarySign, b: BinarySign) -> bool
     a == b
 }
 
-/// Do both arguments have no name, or the same?
+// Do both arguments have no name, or the same?
 fn same_names(a: &Option<Word>, b: &Option<Word>) -> bool
     ensures { (result ≡ true) ↔ (a.now ≡ b.now) }
 {
@@ -97,10 +98,11 @@ fn same_expr(a: &Expr, b: &Expr) -> bool
     }
 }
 
-/// Do both have no parentheses, or the same arguments?
+// Do both have no parentheses, or the same arguments?
 #[cycle(equal)]
 fn same_lists(a: &Option<ArgList>, b: &Option<ArgList>) -> bool
-    ensures { (result ≡ true) ↔ (option_map (λ l. bare_args (args_tree l)) a.now ≡ option_map (λ l. bare_args (args_tree l)) b.now) }
+    ensures { (result ≡ true) ↔ (option_map (λ l. bare_args (args_tree l)) a.now
+        ≡ option_map (λ l. bare_args (args_tree l)) b.now) }
 {
     match a {
         Some(xs) => match b {
@@ -113,7 +115,8 @@ fn same_lists(a: &Option<ArgList>, b: &Option<ArgList>) -> bool
 
 #[cycle(equal)]
 fn same_arg(a: &Arg, b: &Arg) -> bool
-    ensures { (result ≡ true) ↔ ((a.now.name ≡ b.now.name) × (bare (plain a.now.expr) ≡ bare (plain b.now.expr))) }
+    ensures { (result ≡ true) ↔ ((a.now.name ≡ b.now.name)
+        × (bare (plain a.now.expr) ≡ bare (plain b.now.expr))) }
 {
     same_names(&a.name, &b.name) && same_expr(&a.expr, &b.expr)
 }
@@ -170,7 +173,7 @@ fn same_statement(a: &Statement, b: &Statement) -> bool
     }
 }
 
-/// Are the statements the same, places aside?
+// Are the statements the same, places aside?
 fn same_statements(a: &[Statement], b: &[Statement]) -> bool
     ensures { (result ≡ true) ↔ (bare_script (statements_of a.now) ≡ bare_script (statements_of b.now)) }
 {
@@ -195,8 +198,8 @@ fn same_scripts(a: &Script, b: &Script) -> bool
     a.version() == b.version() && same_statements(a.statements(), b.statements())
 }
 
-/// Scripts are equal where they say the same, wherever it stands in their files: their versions are the same, and so are
-/// their statements but for places; and so their canonical texts are.
+/// Scripts are equal where they say the same, wherever it stands in their files: their versions are the
+/// same, and so are their statements but for places; and so their canonical texts are.
 impl PartialEq for Script {
     ghost eq = { λ a b. bytes_eq (printed_text a) (printed_text b) };
 

@@ -1,4 +1,5 @@
-// How far a script is read.
+//! How far a script is read.
+
 ghost use Rattle.std.specs.Prelude.{◌≡◌, ◌≤◌, ◌<◌};
 ghost use Rattle.pl_grammar.specs.Faults.{token_too_large, token_counted};
 ghost use Rattle.pl_tokens.specs.Code.{token_of};
@@ -20,7 +21,7 @@ pub(crate) fn is_too_large(token: &Token) -> bool
     matches!(token, Token::LargeNumber)
 }
 
-/// How many tokens of its statement have come with this one, 0 behind its `;`.
+// How many tokens of its statement have come with this one, 0 behind its `;`.
 pub(crate) fn count_with(token: &Token, count: usize) -> usize
     requires { count < 1024 }
     ensures value { result ≡ token_counted count (token_of token.now) }

@@ -1,4 +1,5 @@
-// A script, as it was read.
+//! A script, as it was read.
+
 ghost use Rattle.std.specs.Prelude.{◌≡◌, IsTrue};
 ghost use Rattle.pl_grammar.specs.Whole.{are_sound};
 ghost use Rattle.pl_tokens.specs.Sound.{is_written};
@@ -31,9 +32,9 @@ pub enum Statement {
     },
 }
 
-/// What a pipeline file says: its version, and its statements in order. Each can be written: its names, strings and
-/// numbers are those of tokens, its canonical text has at most 1,024 tokens, and opens at most 32 constructs inside one
-/// another.
+/// What a pipeline file says: its version, and its statements in order. Each can be written: its names,
+/// strings and numbers are those of tokens, its canonical text has at most 1,024 tokens, and opens at most
+/// 32 constructs inside one another.
 #[derive(Drop, Debug)]
 pub struct Script {
     version: u32,
@@ -46,7 +47,7 @@ pub struct Script {
 impl Script {
     ghost use Rattle.pl_syntax.specs.Scripts.{version_in, statements_in, end_in};
 
-    /// The script of version 1 of these statements, whose file ends at `end`.
+    // The script of version 1 of these statements, whose file ends at `end`.
     pub(crate) fn new(statements: Vec<Statement>, end: Place) -> Script
         requires { IsTrue (are_sound is_written (statements_of statements.items)) }
         ensures version { version_in result ≡ 1 }
@@ -92,7 +93,7 @@ pub(crate) enum Head {
     Screen { place: Place },
 }
 
-/// The statement with its expression.
+// The statement with its expression.
 pub(crate) fn stated(head: Head, expr: Expr) -> Statement
     ensures { statement_of result ≡ record { head = head_of head; tree = plain expr } }
 {

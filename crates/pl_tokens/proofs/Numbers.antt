@@ -49,9 +49,6 @@ is_decimal : (whole fraction xs : List ℕ) (n : ℕ) → take n xs ≡ whole �
 is_decimal whole fraction xs n e f h =
     subst (λ z. IsDecimal (record { negative = false; whole = z; fraction = drop (n + 1) xs }) xs) (sym e) (subst (λ z. IsDecimal (record { negative = false; whole = whole; fraction = z }) xs) (sym f) h)
 
-abbrev same_whole : (f g : Form) → ℕ → ℕ → Type 0
-same_whole f g a b = f ≡ g → a ≡ b
-
 number_whole : (a b n k : ℕ) → Number a b ≡ Number n k → a ≡ n
 number_whole a b n k h = cc
 
