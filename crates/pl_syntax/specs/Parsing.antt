@@ -12,13 +12,11 @@ use Rattle.pl_syntax.specs.Spells.{Parsed, FirstFault, SameScript}
 use Rattle.pl_syntax.specs.Statements.{statements_of}
 use Rattle.pl_syntax.specs.Scripts.{statements_in, end_in, parsed}
 use Rattle.pl_syntax.specs.Stages.{stage_of}
+use Rattle.pl_syntax.specs.declared.parser.TheConstants.{MOST_BYTES}
 use Rattle.pl_syntax.specs.declared.script.Script.{Script}
 use Rattle.pl_syntax.specs.declared.progress.Progress.{Progress}
 use Rattle.pl_syntax.specs.declared.error.SyntaxError.{SyntaxError}
 use Rattle.pl_syntax.specs.declared.error.SyntaxError.TheVariants.{BadByte, Unexpected, TooDeep, NumberTooLarge, TooLong, LongStatement, Memory}
-
-abbrev pub most_bytes : ℕ
-most_bytes = 262144
 
 abbrev pub error_of : Kind → Place → SyntaxError
 error_of f.BadByte p = BadByte p
@@ -34,7 +32,7 @@ IsCause bytes (Unexpected p) = FirstFault bytes f.Unexpected p
 IsCause bytes (TooDeep p) = FirstFault bytes f.TooDeep p
 IsCause bytes (NumberTooLarge p) = FirstFault bytes f.NumberTooLarge p
 IsCause bytes (LongStatement p) = FirstFault bytes f.LongStatement p
-IsCause bytes TooLong = most_bytes < length bytes
+IsCause bytes TooLong = MOST_BYTES < length bytes
 IsCause bytes Memory = Unit {0}
 
 -- the answer is this script, unless memory ran out

@@ -28,8 +28,10 @@ use std::alloc::Global;
 /// The most bytes of a file.
 pub const MOST_BYTES: usize = 262_144;
 
-const MOST_TOKENS: usize = 1024;
+// The most tokens of a statement.
+const MOST_TOKENS: usize = 1_024;
 
+// The most constructs inside one another.
 const MOST_DEPTH: usize = 32;
 
 // A token's step, or its fault.
@@ -78,7 +80,7 @@ fn finish(progress: Progress, end: Place) -> Result<Script, SyntaxError>
 
 // The script that the bytes spell, or their first fault.
 fn read_all(alloc: Global, bytes: &[u8]) -> Result<Script, SyntaxError>
-    requires { length bytes.now ≤ 262144 }
+    requires { length bytes.now ≤ MOST_BYTES }
     ensures { Outcome bytes.now result }
 {
     let mut text = Text {
