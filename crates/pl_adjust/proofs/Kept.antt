@@ -34,7 +34,7 @@ not_in_front a b p q h = here (nat_lt b a) (b == a) (int_lt q p) refl refl refl
     here false true true u v w = let bad : true ≡ false = rw (u, v, w) at h in absurd (cc)
     here false true false u v w = (grind (arith, nat_tests), λ same. grind (arith, ints))
 
-length-in_columns : (cols : List ℕ) (xs : List Adjust) → length xs ≡ length cols → length (in_columns cols xs) ≡ length cols
+pub length-in_columns : (cols : List ℕ) (xs : List Adjust) → length xs ≡ length cols → length (in_columns cols xs) ≡ length cols
 length-in_columns [] xs h = refl
 length-in_columns (c ∷ cs) [] h = absurd (omega arith)
 length-in_columns (c ∷ cs) (x ∷ xs) h = ap suc (length-in_columns cs xs (omega arith))

@@ -17,9 +17,9 @@ use Rattle.pl_spec.specs.Order.{adjustment_in, by_day, is_of, of_table}
 use Rattle.pl_spec.specs.Parts.{ColumnAdjustment}
 use Rattle.pl_adjust.specs.declared.adjust.Adjust.{Adjust}
 use Rattle.pl_adjust.specs.declared.columns.Row.{Row}
-use Rattle.pl_adjust.specs.Columns.{AreKept, IsByPlace, by_column, in_column, in_columns, place_cmp}
+use Rattle.pl_adjust.specs.Columns.{AreKept, IsByPlace, StandByDay, by_column, in_column, in_columns, place_cmp}
 use Rattle.pl_adjust.specs.Rows.{row_of}
-use Rattle.pl_adjust.specs.Tables.{AreOf, adjustments_in, ok_unless}
+use Rattle.pl_adjust.specs.Tables.{adjustments_in, ok_unless}
 use Rattle.pl_adjust.specs.Walk.{Fault, first_fault, walk}
 use Rattle.pl_adjust.proofs.Kept.{in_front, front_order, not_in_front}
 use Rattle.pl_adjust.proofs.ByColumn.{by_column_is}
@@ -39,6 +39,22 @@ kept_from before rows cols adjusts h e f = record {
   as_many = ap length f ∙ length-map rows (λ (r : Row). r.adjust) ∙ sym (length-map rows (λ (r : Row). r.col)) ∙ ap length (sym e);
   sorted = rw (view_is rows cols adjusts e f) h.sorted;
 }
+
+-- ---- those of a column stand by day
+
+abbrev InTurn : ColumnAdjustment → ColumnAdjustment → Type 0
+InTurn x y = x.col ≡ y.col → x.event.day ≤ℤ y.event.day
+
+in_turn : (ys : List ColumnAdjustment) → IsSorted place_cmp ys → AllPairs InTurn ys
+in_turn ys up i j d h l = (not_in_front _ _ _ _ (sorted_far in_front front_order ys up i j d (omega arith) l)).1
+
+pub by_day_each : (ys : List ColumnAdjustment) → IsSorted place_cmp ys → StandByDay ys
+by_day_each ys up col i j d h l =
+    let all = filter_passes (λ (x : ColumnAdjustment). x.col == col) ys in
+    AllPairs-filter InTurn (λ x. x.col == col) ys (in_turn ys up) i j d h l (one _ _ (all i d (omega arith)) (all j d l))
+  where
+    one : (a b : ℕ) → (a == col) ≡ true → (b == col) ≡ true → a ≡ b
+    one a b t u = grind (arith, nat_tests)
 
 -- ---- each column is one of an asset
 
@@ -76,28 +92,9 @@ module _ (assets : List AssetRow) where
       )
       (All-append HasAsset _ _ (All-append HasAsset _ _ (table_in Split splits) (table_in Merger mergers)) (table_in Dividend dividends))
 
-  -- ---- those of a column stand by day
-
-  abbrev InTurn : ColumnAdjustment → ColumnAdjustment → Type 0
-  InTurn x y = x.col ≡ y.col → x.event.day ≤ℤ y.event.day
-
-  in_turn : (ys : List ColumnAdjustment) → IsSorted place_cmp ys → AllPairs InTurn ys
-  in_turn ys up i j d h l = (not_in_front _ _ _ _ (sorted_far in_front front_order ys up i j d (omega arith) l)).1
-
-  in_order : (ys : List ColumnAdjustment) → IsSorted place_cmp ys → (col : ℕ) → AllPairs (λ x y. x.event.day ≤ℤ y.event.day) (filter (λ x. x.col == col) ys)
-  in_order ys up col i j d h l =
-      let all = filter_passes (λ (x : ColumnAdjustment). x.col == col) ys in
-      AllPairs-filter InTurn (λ x. x.col == col) ys (in_turn ys up) i j d h l (one _ _ (all i d (omega arith)) (all j d l))
-    where
-      one : (a b : ℕ) → (a == col) ≡ true → (b == col) ≡ true → a ≡ b
-      one a b t u = grind (arith, nat_tests)
-
-  pub are_of : (splits mergers dividends : List RawAdjust) (before ys : List ColumnAdjustment)
-      → before ≡ map (in_column assets) (of_table assets Split splits ++ of_table assets Merger mergers ++ of_table assets Dividend dividends) → IsByPlace before ys → AreOf assets ys
-  are_of splits mergers dividends before ys e h = record {
-    in_columns = All-permutation HasAsset before ys h.same (rw e (tables_in splits mergers dividends));
-    in_order = in_order ys h.sorted;
-  }
+  pub cols_known : (splits mergers dividends : List RawAdjust) (before ys : List ColumnAdjustment)
+      → before ≡ map (in_column assets) (of_table assets Split splits ++ of_table assets Merger mergers ++ of_table assets Dividend dividends) → IsByPlace before ys → All HasAsset ys
+  cols_known splits mergers dividends before ys e h = All-permutation HasAsset before ys h.same (rw e (tables_in splits mergers dividends))
 
   pub made : (splits mergers dividends : List RawAdjust) (before ys : List ColumnAdjustment) → first_fault 0 (walk splits mergers dividends) ≡ None
       → before ≡ map (in_column assets) (of_table assets Split splits ++ of_table assets Merger mergers ++ of_table assets Dividend dividends) → IsByPlace before ys

@@ -2,11 +2,12 @@
 use Rattle.std.proofs.Common.{◌≡◌, ℕ, suc, ◌+◌, ◌<◌, ◌==◌, ◌&&◌, not, nat_lt, Bool, true, false, cond, ℤ, pos, negsuc, List, [], ◌∷◌, ◌++◌, map, filter, length, get_or, All, AllPairs, slice_get, Some, option_map, unwrap_or, Ok, refl, sym, ◌∙◌, ap, arith, inl, inr, unsigned_abs}
 use Rattle.std.specs.Int.RustNames.{int_le}
 use Rattle.std.specs.Ordering.{int_eq}
-use Rattle.std.proofs.lemmas.Bool.{and_parts, cases_lt}
+use Rattle.std.proofs.lemmas.Bool.{and_parts}
 use Rattle.std.proofs.lemmas.Bool.Decides.{nat_tests}
 use Rattle.std.proofs.lemmas.List.Elements.{All-append, All-cons, All-map}
+use Rattle.std.proofs.lemmas.List.Folds.{list_any_none}
 use Rattle.std.proofs.lemmas.List.Sorted.{All-permutation}
-use Rattle.std.proofs.lemmas.Option.{slice_get-get_or, slice_get_within}
+use Rattle.std.proofs.lemmas.Option.{slice_get_within}
 use Rattle.pl_spec.specs.declared.AdjustmentKind.{AdjustmentKind}
 use Rattle.pl_spec.specs.declared.AdjustmentKind.TheVariants.{Split, Merger, Dividend}
 use Rattle.pl_spec.specs.declared.AssetRow.{AssetRow}
@@ -16,54 +17,17 @@ use Rattle.pl_spec.specs.Order.{adjustment_in, adjustments_of, by_day, insert_by
 use Rattle.pl_spec.specs.Parts.{ColumnAdjustment, ColumnLabel, adjustment_of, sid_at, world_of}
 use Rattle.pl_spec.specs.World.{Adjustment, events_of}
 use Rattle.pl_records.proofs.Sorts.{sorted-permutes}
+use Rattle.pl_assets.proofs.Columns.{one_col, same_col}
+use Rattle.pl_assets.proofs.Filters.{filter-map, filter-same}
 use Rattle.pl_adjust.specs.Columns.{by_column, col_in, events_at, in_column}
 use Rattle.pl_adjust.specs.Tables.{adjustments_in}
 use Rattle.pl_adjust.proofs.ByColumn.{filter-sorted_by}
 use Rattle.pl_adjust.proofs.FirstFaults.{made_is}
-use Rattle.pl_adjust.proofs.Known.{has_sid, list_any-none, same_sid}
+use Rattle.pl_adjust.proofs.Known.{has_sid, same_sid}
 use Rattle.pl_adjust.proofs.Made.{place_known}
-use Rattle.pl_adjust.proofs.RowOrder.{filter-map}
-
-filter-same : {X : Type 0} (p q : X → Bool) (xs : List X) → All (λ x. p x ≡ q x) xs → filter p xs ≡ filter q xs
-filter-same p q [] same = refl
-filter-same p q (x ∷ xs) same =
-    ap (λ b. cond b (x ∷ filter p xs) (filter p xs)) (same 0 x (omega arith))
-    ∙ ap (λ l. cond (q x) (x ∷ l) l) (filter-same p q xs (λ k d h. same (suc k) d (omega arith)))
 
 All-weaker : {X : Type 0} (P Q : X → Type 0) → ((x : X) → P x → Q x) → (xs : List X) → All P xs → All Q xs
 All-weaker P Q h xs all k d l = h (get_or xs k d) (all k d l)
-
--- ---- the sid of a column
-
-sid_at-get_or : (assets : List AssetRow) (k : ℕ) (d : AssetRow) → k < length assets → sid_at assets k ≡ (get_or assets k d).sid
-sid_at-get_or assets k d h = ap (λ o. unwrap_or (option_map (λ (a : AssetRow). a.sid) o) 0) (slice_get-get_or assets k d h)
-
-blank : AssetRow
-blank = record { sid = 0; start = pos 0; end = pos 0 }
-
-one_col : (assets : List AssetRow) → AllPairs (λ a b. a.sid < b.sid) assets → (j k : ℕ) → j < length assets → k < length assets → sid_at assets j ≡ sid_at assets k → j ≡ k
-one_col assets up j k j_in k_in e = elim (cases_lt j k) [
-  | inl l ↦
-      let below = up j k blank l k_in in
-      let first = sid_at-get_or assets j blank j_in in
-      let second = sid_at-get_or assets k blank k_in in absurd (omega arith)
-  | inr g ↦ elim (cases_lt k j) [
-    | inl l ↦
-        let below = up k j blank l j_in in
-        let first = sid_at-get_or assets j blank j_in in
-        let second = sid_at-get_or assets k blank k_in in absurd (omega arith)
-    | inr h ↦ omega arith
-  ]
-]
-
-col_test : (assets : List AssetRow) → AllPairs (λ a b. a.sid < b.sid) assets → (j k : ℕ) → j < length assets → k < length assets → (sid_at assets j == sid_at assets k) ≡ (j == k)
-col_test assets up j k j_in k_in = here (sid_at assets j == sid_at assets k) (j == k) refl refl
-  where
-    here : (b c : Bool) → (sid_at assets j == sid_at assets k) ≡ b → (j == k) ≡ c → b ≡ c
-    here true true t u = refl
-    here true false t u = let same : sid_at assets j ≡ sid_at assets k = grind (arith, nat_tests) in let it : j ≡ k = one_col assets up j k j_in k_in same in absurd (grind (arith, nat_tests))
-    here false true t u = let it : j ≡ k = grind (arith, nat_tests) in let same : sid_at assets j ≡ sid_at assets k = ap (sid_at assets) it in absurd (grind (arith, nat_tests))
-    here false false t u = refl
 
 -- ---- a world of parts
 
@@ -83,7 +47,7 @@ module _ (days : List ℤ) (assets : List AssetRow) (labels : List ColumnLabel) 
       let sid : a.sid ≡ sid_at assets col = sym (ap (λ o. unwrap_or (option_map (λ (b : AssetRow). b.sid) o) 0) e) in
       parts_events a.sid
       ∙ ap (map (λ (x : ColumnAdjustment). x.event)) (filter-same (λ x. sid_at assets x.col == a.sid) (λ x. x.col == col) xs
-      (λ k d h. rw sid (col_test assets up (get_or xs k d).col col (all k d h) col_in)))
+      (λ k d h. rw sid (same_col assets up (get_or xs k d).col col (all k d h) col_in)))
 
 -- ---- the sids of adjustments are those of assets
 
@@ -102,7 +66,7 @@ All-by_day P (x ∷ xs) all = All-insert_by_day P x (by_day xs) (all 0 x (omega 
 has_sid_abs : (assets : List AssetRow) (z : ℤ) → has_sid z assets ≡ true → has_sid (pos (unsigned_abs z)) assets ≡ true
 has_sid_abs assets (pos n) e = e
 has_sid_abs assets (negsuc n) e =
-    let none : has_sid (negsuc n) assets ≡ false = list_any-none (λ a. int_eq (pos a.sid) (negsuc n)) assets (λ k d h. refl) in
+    let none : has_sid (negsuc n) assets ≡ false = list_any_none (λ a. int_eq (pos a.sid) (negsuc n)) assets (λ k d h. refl) in
     let bad : true ≡ false = sym e ∙ none in absurd (cc)
 
 sid_of_col : (assets : List AssetRow) (s : ℕ) → has_sid (pos s) assets ≡ true → sid_at assets (col_in assets s) ≡ s

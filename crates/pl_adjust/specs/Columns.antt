@@ -1,5 +1,5 @@
 -- Adjustments with their columns.
-use Rattle.std.specs.Prelude.{◌≡◌, ℕ, ◌==◌, List, [], ◌∷◌, map, filter, length}
+use Rattle.std.specs.Prelude.{◌≡◌, ℕ, ◌==◌, ◌≤ℤ◌, List, [], ◌∷◌, map, filter, length, AllPairs}
 use Rattle.std.specs.List.{position_or_len}
 use Rattle.std.specs.List.Sorted.{IsPermutation, IsSorted, IsStable}
 use Rattle.std.specs.declared.cmp.Ordering.{Ordering}
@@ -31,6 +31,10 @@ in_columns (c ∷ cs) (x ∷ xs) = record { col = c; event = event_of x } ∷ in
 -- the events of a column
 abbrev pub events_at : List ColumnAdjustment → ℕ → List Event
 events_at xs col = map (λ x. x.event) (filter (λ x. x.col == col) xs)
+
+-- those of a column stand by day
+abbrev pub StandByDay : List ColumnAdjustment → Type 0
+StandByDay xs = (col : ℕ) → AllPairs (λ x y. x.event.day ≤ℤ y.event.day) (filter (λ x. x.col == col) xs)
 
 -- first by column, and then by day
 abbrev pub place_cmp : ColumnAdjustment → ColumnAdjustment → Ordering

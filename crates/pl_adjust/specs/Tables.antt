@@ -1,5 +1,5 @@
 -- The adjustments of three tables by column, or the first fault of their rows.
-use Rattle.std.specs.Prelude.{ℕ, ◌<◌, ◌≤ℤ◌, ◌==◌, List, ◌++◌, map, filter, length, All, AllPairs, Option, Some, None, Result, Ok, Err}
+use Rattle.std.specs.Prelude.{List, ◌++◌, map, Option, Some, None, Result, Ok, Err}
 use Rattle.pl_spec.specs.declared.AdjustmentKind.{AdjustmentKind}
 use Rattle.pl_spec.specs.declared.AdjustmentKind.TheVariants.{Split, Merger, Dividend}
 use Rattle.pl_spec.specs.declared.AssetRow.{AssetRow}
@@ -16,7 +16,8 @@ of_rows assets kind raw = map (in_column assets) (of_table assets kind raw)
 -- those of all three tables, as they stand there
 abbrev pub of_walk : List AssetRow → List RawAdjust → List RawAdjust → List RawAdjust → List ColumnAdjustment
 of_walk assets splits mergers dividends =
-    map (in_column assets) (of_table assets Split splits ++ of_table assets Merger mergers ++ of_table assets Dividend dividends)
+    map (in_column assets)
+    (of_table assets Split splits ++ of_table assets Merger mergers ++ of_table assets Dividend dividends)
 
 -- the value, unless there is a fault
 abbrev pub ok_unless : {A F : Type 0} → Option F → A → Result A F
@@ -24,12 +25,8 @@ ok_unless None x = Ok x
 ok_unless (Some f) x = Err f
 
 -- the adjustments of the tables in the order in which they act, column by column, or the first fault of a row
-unfoldable pub adjustments_in : List AssetRow → List RawAdjust → List RawAdjust → List RawAdjust → Result (List ColumnAdjustment) Fault
+unfoldable pub adjustments_in : List AssetRow → List RawAdjust → List RawAdjust → List RawAdjust
+    → Result (List ColumnAdjustment) Fault
 adjustments_in assets splits mergers dividends =
     ok_unless (first_fault 0 (walk splits mergers dividends))
     (by_column (map (in_column assets) (adjustments_of assets splits mergers dividends)))
-
--- the adjustments are of these assets, and those of a column stand by day
-pub record AreOf (assets : List AssetRow) (xs : List ColumnAdjustment) : Type 0 where
-  pub in_columns : All (λ x. x.col < length assets) xs
-  pub in_order : (col : ℕ) → AllPairs (λ x y. x.event.day ≤ℤ y.event.day) (filter (λ x. x.col == col) xs)

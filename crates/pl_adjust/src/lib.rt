@@ -1,12 +1,12 @@
 //! Adjustments: what splits, mergers and dividends make of earlier bars, and when.
 #![tactic(auto)]
 
-ghost use Rattle.std.specs.Prelude.{◌≡◌, ◌≤ℤ◌, [], map, AllPairs, IfOk};
+ghost use Rattle.std.specs.Prelude.{◌≡◌, ◌<◌, ◌≤ℤ◌, [], length, map, All, AllPairs, IfOk};
 ghost use Rattle.pl_records.specs.Reading.{Answers};
 ghost use Rattle.pl_adjust.specs.Events.{event_of};
-ghost use Rattle.pl_adjust.specs.Columns.{events_at};
+ghost use Rattle.pl_adjust.specs.Columns.{StandByDay, events_at};
 ghost use Rattle.pl_adjust.specs.Faults.{fault_of};
-ghost use Rattle.pl_adjust.specs.Tables.{AreOf, adjustments_in};
+ghost use Rattle.pl_adjust.specs.Tables.{adjustments_in};
 
 mod adjust;
 mod columns;
@@ -26,8 +26,11 @@ pub use seen::seen_now;
 use std::alloc::Global;
 use std::marker::Model;
 
-/// The adjustments of the assets, by column. A column is the place of an asset by ascending sid,
-/// from 0.
+/// How many rows the three tables may have together.
+pub const MOST_ROWS: usize = 1_000_000;
+
+/// The adjustments of the assets, by asset column, which is the place of an asset by ascending sid, from
+/// 0.
 #[derive(Debug, Drop)]
 pub struct Adjustments {
     cols: Vec<usize>,
@@ -70,7 +73,9 @@ impl Adjustments {
         // The adjustments of the rows, or their first fault. Only want of memory may come beside.
         ensures exact { Answers (λ a. a) fault_of result
             (adjustments_in assets.now splits.now mergers.now dividends.now) }
-        ensures columns { IfOk result (AreOf assets.now) }
+        ensures in_order { IfOk result StandByDay }
+        // Each is of the column of an asset.
+        ensures cols { IfOk result (All (λ x. x.col < length assets.now)) }
     {
         let rows = rows::rows_of(alloc, assets, splits, mergers, dividends)?;
         let sorted = columns::by_place(rows)?;
@@ -79,8 +84,16 @@ impl Adjustments {
         Ok(Adjustments { cols, adjusts })
     }
 
-    /// The adjustments of a column in the order in which they act: by day, on one day splits before
-    /// mergers and these before dividends, each in the order of its table.
+    /// How many adjustments there are. Those of an asset stand by day.
+    pub fn len(&self) -> usize
+        ensures length { result ≡ length self.now }
+        ensures in_order { StandByDay self.now }
+    {
+        self.cols.len()
+    }
+
+    /// The adjustments of the asset in a column in the order in which they act: by day, on one day
+    /// splits before mergers and these before dividends, each in the order of its table.
     pub fn of_col(&self, col: usize) -> &[Adjust]
         ensures events { map event_of result.now ≡ events_at self.now col }
         ensures in_order { AllPairs (λ a b. a.day ≤ℤ b.day) result.now }

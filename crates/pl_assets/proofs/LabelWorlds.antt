@@ -11,49 +11,10 @@ use Rattle.pl_spec.specs.Parts.{ColumnLabel, label_of, sid_at, world_of}
 use Rattle.pl_spec.specs.declared.AssetRow.{AssetRow}
 use Rattle.pl_assets.specs.Labels.{by_column, label_on}
 use Rattle.pl_assets.specs.LabelWorlds.{LabelsAreThose}
-
--- ---- a column and its sid
-
-blank : AssetRow
-blank = record { sid = 0; start = pos 0; end = pos 0 }
-
-sid_there : (assets : List AssetRow) (col : ℕ) → col < length assets → sid_at assets col ≡ (get_or assets col blank).sid
-sid_there assets col h = ap (λ o. unwrap_or (option_map (λ (a : AssetRow). a.sid) o) 0) (slice_get-get_or assets col blank h)
-
-one_sid : (assets : List AssetRow) → AllPairs (λ a b. a.sid < b.sid) assets → (c d : ℕ) → c < length assets → d < length assets → sid_at assets c ≡ sid_at assets d → c ≡ d
-one_sid assets up c d h l e =
-    let same : (get_or assets c blank).sid ≡ (get_or assets d blank).sid = sym (sid_there assets c h) ∙ e ∙ sid_there assets d l in
-    elim (cases_lt c d) [
-      | inl lt ↦ absurd (let below : (get_or assets c blank).sid < (get_or assets d blank).sid = up c d blank lt l in omega arith)
-      | inr ge ↦ elim (cases_lt d c) [
-        | inl lt ↦ absurd (let below : (get_or assets d blank).sid < (get_or assets c blank).sid = up d c blank lt h in omega arith)
-        | inr le ↦ omega arith
-      ]
-    ]
-
-same_test : (assets : List AssetRow) → AllPairs (λ a b. a.sid < b.sid) assets → (c d : ℕ) → c < length assets → d < length assets → (sid_at assets c == sid_at assets d) ≡ (c == d)
-same_test assets up c d h l = here (sid_at assets c == sid_at assets d) (c == d) refl refl
-  where
-    here : (a b : Bool) → (sid_at assets c == sid_at assets d) ≡ a → (c == d) ≡ b → a ≡ b
-    here true true t u = refl
-    here true false t u = let same : sid_at assets c ≡ sid_at assets d = grind (arith, nat_tests) in let it : c ≡ d = one_sid assets up c d h l same in absurd (grind (arith, nat_tests))
-    here false true t u = let it : c ≡ d = grind (arith, nat_tests) in let same : sid_at assets c ≡ sid_at assets d = ap (sid_at assets) it in absurd (grind (arith, nat_tests))
-    here false false t u = refl
+use Rattle.pl_assets.proofs.Columns.{same_col}
+use Rattle.pl_assets.proofs.Filters.{filter-map, filter-same}
 
 -- ---- look-ups in a list that is read through a function
-
-filter-mapped : {A B : Type 0} (p : B → Bool) (f : A → B) (xs : List A) → filter p (map f xs) ≡ map f (filter (λ x. p (f x)) xs)
-filter-mapped p f [] = refl
-filter-mapped {A} {B} p f (x ∷ xs) = ap (λ l. cond (p (f x)) (f x ∷ l) l) (filter-mapped p f xs) ∙ here (p (f x))
-  where
-    here : (b : Bool) → cond b (f x ∷ map f (filter (λ x. p (f x)) xs)) (map f (filter (λ x. p (f x)) xs)) ≡ map f (cond b (x ∷ filter (λ x. p (f x)) xs) (filter (λ x. p (f x)) xs))
-    here true = refl
-    here false = refl
-
-filter-same : {A : Type 0} (p q : A → Bool) (xs : List A) → All (λ x. p x ≡ q x) xs → filter p xs ≡ filter q xs
-filter-same p q [] same = refl
-filter-same p q (x ∷ xs) same =
-    ap (λ b. cond b (x ∷ filter p xs) (filter p xs)) (same 0 x (omega arith)) ∙ ap (λ l. cond (q x) (x ∷ l) l) (filter-same p q xs (λ k d h. same (suc k) d (omega arith)))
 
 find-mapped : {A B : Type 0} (p : B → Bool) (f : A → B) (xs : List A) → find p (map f xs) ≡ option_map f (find (λ x. p (f x)) xs)
 find-mapped p f [] = refl
@@ -89,7 +50,7 @@ text-mapped f same (Some r) = ap nonempty (same r)
 label-mapped : (f : ColumnLabel → LabelRow) → ((r : ColumnLabel) → (f r).start ≡ r.start) → ((r : ColumnLabel) → (f r).text ≡ r.text) → (test : LabelRow → Bool) (rows : List ColumnLabel)
     → option_and_then (λ r. nonempty r.text) (last_started (filter test (map f rows))) ≡ option_and_then (λ r. nonempty r.text) (last_row (filter (λ r. test (f r)) rows))
 label-mapped f starts texts test rows =
-    ap (λ l. option_and_then (λ r. nonempty r.text) (last_started l)) (filter-mapped test f rows)
+    ap (λ l. option_and_then (λ r. nonempty r.text) (last_started l)) (filter-map test f rows)
     ∙ ap (option_and_then (λ r. nonempty r.text)) (last-mapped f starts (filter (λ r. test (f r)) rows))
     ∙ text-mapped f texts (last_row (filter (λ r. test (f r)) rows))
 
@@ -99,7 +60,7 @@ unfolding label_on
 on_day assets rows up inside name col day h =
     label-mapped (label_of assets) (λ r. refl) (λ r. refl) (is_label_of name (sid_at assets col) day) rows
     ∙ ap (λ l. option_and_then (λ (r : ColumnLabel). nonempty r.text) (last_row l)) (filter-same _ _ rows (λ k d l.
-    ap (λ b. (bytes_eq (get_or rows k d).name name && b) && int_le (get_or rows k d).start day) (same_test assets up (get_or rows k d).col col (inside k d l) h)))
+    ap (λ b. (bytes_eq (get_or rows k d).name name && b) && int_le (get_or rows k d).start day) (same_col assets up (get_or rows k d).col col (inside k d l) h)))
     ∙ sym (label-mapped by_column (λ r. refl) (λ r. refl) (is_label_of name col day) rows)
 
 pub labels_those : LabelsAreThose

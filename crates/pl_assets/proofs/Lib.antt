@@ -1,3 +1,5 @@
+pub mod Filters
+pub mod Columns
 pub mod AssetsRead
 pub mod AssetsSaid
 pub mod TextLists
@@ -12,3 +14,4 @@ pub mod LabelSearch
 pub mod LabelWorlds
 pub mod LabelsSaid
 pub mod SidColumns
+pub mod CsvFields

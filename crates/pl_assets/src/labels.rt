@@ -1,7 +1,7 @@
 ghost use Rattle.std.specs.Prelude.{◌≡◌, ◌<◌, ◌≤◌, ◌++◌, ◌∷◌, ◌==◌, [], length, position, slice_index_or, bytes_eq, All, Contains, IfOk, IfSome, IsTrue, OnOk, OnErr, option_and_then};
 ghost use Rattle.std.specs.List.{list_any, position_or_len};
-ghost use Rattle.csv.specs.Writing.{default_writer, field_text};
 ghost use Rattle.pl_records.specs.Reading.{Answers};
+ghost use Rattle.pl_spec.specs.Text.{quote};
 ghost use Rattle.pl_records.specs.Records.{csv_records};
 ghost use Rattle.pl_assets.specs.Assets.{sid_of};
 ghost use Rattle.pl_assets.specs.Labels.{AreLabels, MayFollow, is_printable, label_on, label_row, labels_of, names_of, no_labels, table_of, with_label};
@@ -98,6 +98,14 @@ impl Labels {
         Ok(())
     }
 
+    /// How many rows there are. No two of them have one name, column and start.
+    pub fn len(&self) -> usize
+        ensures length { result ≡ length self.now.rows }
+        ensures labels { AreLabels self.now }
+    {
+        self.rows.places.len()
+    }
+
     /// The number of a name, if a row has it.
     pub fn name_of(&self, name: &[u8]) -> Option<u32>
         ensures within { IfSome result (λ number. number < length (names_of self.now.rows)) }
@@ -137,10 +145,11 @@ impl Labels {
         self.rows.texts.text(code as usize)
     }
 
-    /// The text of a code as a field of csv, with quotes where it needs them.
+    /// The text of a code as a field of csv: in quotes, each quote in it doubled, where it holds a
+    /// comma or a quote; a label holds no end of a line.
     pub fn csv_text(&self, code: u32) -> &[u8]
         requires { code < length self.now.texts }
-        ensures { result.now ≡ field_text default_writer (slice_index_or self.now.texts code []) }
+        ensures { result.now ≡ quote (slice_index_or self.now.texts code []) }
     {
         self.rows.texts.field(code as usize)
     }

@@ -1,11 +1,13 @@
-//! What an assets file and a labels file say, in plain words, and what the labels of a table are in
-//! a world. The functions do nothing: the contract of each is a law of the definitions that the
+//! What an assets file and a labels file say, in plain words, what the labels of a table are in a
+//! world, and what their fields are. The functions do nothing: the contract of each is a law of the definitions that the
 //! calls' contracts cite.
 
-ghost use Rattle.std.specs.Prelude.{◌≡◌, ◌↔◌, List, Ok, Err};
+ghost use Rattle.std.specs.Prelude.{◌≡◌, ◌↔◌, ℕ, List, Ok, Err};
+ghost use Rattle.csv.specs.Writing.{default_writer, field_text};
 ghost use Rattle.pl_spec.specs.declared.AssetRow.{AssetRow};
 ghost use Rattle.pl_records.specs.Reading.{Record, Fault, Judges};
 ghost use Rattle.pl_records.specs.RuleTable.{IsFirstBroken};
+ghost use Rattle.pl_spec.specs.Text.{quote};
 ghost use Rattle.pl_assets.specs.Assets.{Rule, AreAssets, assets_of, rules, says_asset};
 ghost use Rattle.pl_assets.specs.Rules.{AreAssetsOf, Breaks, IsAsset, IsAssetsFault};
 ghost use Rattle.pl_assets.specs.Labels as labels;
@@ -45,4 +47,9 @@ pub fn labels_in_plain_words()
 /// day.
 pub fn labels_are_those_of_the_world()
     ensures { LabelsAreThose }
+{}
+
+/// The field of a text is what the crate csv writes for it in a row of several fields.
+pub fn fields_are_those_of_csv()
+    ensures { (text : List ℕ) → quote text ≡ field_text default_writer text }
 {}

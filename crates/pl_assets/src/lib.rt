@@ -71,9 +71,10 @@ impl Assets {
         Assets { rows }
     }
 
-    /// How many assets there are. Their sids are numbers of 32 bits.
+    /// How many assets there are. Their sids ascend, and are numbers of 32 bits.
     pub fn len(&self) -> usize
         ensures length { result ≡ length self.now }
+        ensures assets { AreAssets self.now }
         ensures few { result ≤ MOST_ASSETS }
         ensures small { All (λ a. a.sid < 2 ^ 32) self.now }
     {
@@ -100,7 +101,8 @@ impl Assets {
     /// Whether the asset of a column exists on a day: later than its start, and up to its end.
     pub fn exists(&self, col: usize, day: i32) -> bool
         requires { col < length self.now }
-        ensures { option_map (lives_on day) (slice_get self.now col) ≡ Some result }
+        ensures exact { option_map (lives_on day) (slice_get self.now col) ≡ Some result }
+        ensures assets { AreAssets self.now }
     {
         search::lives(self.rows[col], day)
     }

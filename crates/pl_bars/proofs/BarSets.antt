@@ -19,13 +19,6 @@ same_number a b t = grind (arith, nat_tests)
 pub number_same : (a b : ℕ) → a ≡ b → (a == b) ≡ true
 number_same a b e = grind (arith, nat_tests)
 
-pub number_other : (a b : ℕ) → a ≢ b → (a == b) ≡ false
-number_other a b ne = here (a == b) refl
-  where
-    here : (t : Bool) → (a == b) ≡ t → t ≡ false
-    here true t = absurd (ne (same_number a b t))
-    here false t = refl
-
 -- inside a list the default doesn't matter
 pub same_default : {A : Type 0} (xs : List A) (n : ℕ) (x y : A) → n < length xs → get_or xs n x ≡ get_or xs n y
 same_default [] n x y h = absurd (omega arith)

@@ -11,34 +11,9 @@ use Rattle.pl_spec.specs.declared.AssetRow.{AssetRow}
 use Rattle.pl_spec.specs.declared.BarRow.{BarRow}
 use Rattle.pl_spec.specs.declared.Column.{Column}
 use Rattle.pl_spec.specs.declared.Column.TheVariants.{OpenPrice, High, Low, Close, Volume}
+use Rattle.pl_assets.proofs.Columns.{same_col}
 use Rattle.pl_bars.specs.Bars.{is_at, cell_of, cell_at}
 use Rattle.pl_bars.specs.Worlds.{CellsAreRaw}
-use Rattle.pl_bars.proofs.BarSets.{same_number, number_same, number_other}
-
-blank : AssetRow
-blank = record { sid = 0; start = pos 0; end = pos 0 }
-
-sid_there : (assets : List AssetRow) (col : ℕ) → col < length assets → sid_at assets col ≡ (get_or assets col blank).sid
-sid_there assets col h = ap (λ o. unwrap_or (option_map (λ (a : AssetRow). a.sid) o) 0) (slice_get-get_or assets col blank h)
-
--- columns have sids of their own
-one_sid : (assets : List AssetRow) → AllPairs (λ a b. a.sid < b.sid) assets → (c d : ℕ) → c < length assets → d < length assets → sid_at assets c ≡ sid_at assets d → c ≡ d
-one_sid assets up c d h l e =
-    let same : (get_or assets c blank).sid ≡ (get_or assets d blank).sid = sym (sid_there assets c h) ∙ e ∙ sid_there assets d l in
-    elim (cases_lt c d) [
-      | inl lt ↦ absurd (let below : (get_or assets c blank).sid < (get_or assets d blank).sid = up c d blank lt l in omega arith)
-      | inr ge ↦ elim (cases_lt d c) [
-        | inl lt ↦ absurd (let below : (get_or assets d blank).sid < (get_or assets c blank).sid = up d c blank lt h in omega arith)
-        | inr le ↦ omega arith
-      ]
-    ]
-
-same_col : (assets : List AssetRow) → AllPairs (λ a b. a.sid < b.sid) assets → (c d : ℕ) → c < length assets → d < length assets → (c == d) ≡ (sid_at assets c == sid_at assets d)
-same_col assets up c d h l = here (c == d) refl
-  where
-    here : (b : Bool) → (c == d) ≡ b → b ≡ (sid_at assets c == sid_at assets d)
-    here true t = sym (number_same _ _ (ap (sid_at assets) (same_number c d t)))
-    here false t = sym (number_other _ _ (λ e. absurd (let bad : true ≡ false = sym (number_same c d (one_sid assets up c d h l e)) ∙ t in cc)))
 
 same_cell : (assets : List AssetRow) (column : Column) (b : BarRow) → cell_of column b ≡ worlds.cell_of column (bar_of assets b)
 same_cell assets OpenPrice b = refl
@@ -55,7 +30,7 @@ cells assets up (b ∷ bars) inside col which session h =
     here (b.col == col && b.session == session) refl (cells assets up bars (λ k d l. inside (suc k) d (omega arith)) col which session h)
   where
     same_test : (b.col == col && b.session == session) ≡ (sid_at assets b.col == sid_at assets col && b.session == session)
-    same_test = ap (λ t. t && b.session == session) (same_col assets up b.col col (inside 0 b (omega arith)) h)
+    same_test = ap (λ t. t && b.session == session) (sym (same_col assets up b.col col (inside 0 b (omega arith)) h))
 
     here : (t : Bool) → (b.col == col && b.session == session) ≡ t
         → unwrap_or (option_map (cell_of which) (find (is_at col session) bars)) MISSING ≡ cell_in (map (bar_of assets) bars) (sid_at assets col) which session

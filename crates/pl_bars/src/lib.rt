@@ -80,6 +80,14 @@ impl Bars {
         Bars { rows }
     }
 
+    /// How many bars there are. They stand by ascending column and then session.
+    pub fn len(&self) -> usize
+        ensures length { result ≡ length self.now }
+        ensures bars { AreBars self.now }
+    {
+        self.rows.len()
+    }
+
     /// The cell of the bar of a column on a session, in millionths; `MISSING` where there is no
     /// bar.
     pub fn get(&self, col: usize, session: usize, column: Column) -> i64

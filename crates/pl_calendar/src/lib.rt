@@ -62,9 +62,10 @@ impl Sessions {
         Sessions { days }
     }
 
-    /// How many sessions there are.
+    /// How many sessions there are. Their days ascend.
     pub fn len(&self) -> usize
         ensures length { result ≡ length self.now }
+        ensures days { AreDays self.now }
         ensures some { 0 < result }
         ensures few { result ≤ MOST_SESSIONS }
     {

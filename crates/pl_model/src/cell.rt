@@ -1,3 +1,5 @@
+//! The value of a plain term, one cell at a time.
+
 ghost use Rattle.std.specs.Prelude.{◌≡◌, ◌+◌, ◌<◌, ◌≤◌, [], pos, length};
 ghost use Rattle.pl_spec.specs.Rounding.{IsCell};
 ghost use Rattle.pl_spec.specs.Parts.{sid_at};
@@ -6,6 +8,7 @@ ghost use Rattle.pl_spec.specs.Window.{bar_window, effects, seen_cell, step_coun
 ghost use Rattle.pl_spec.specs.Formula.{mean, oldest};
 ghost use Rattle.pl_spec.specs.Value.{value};
 ghost use Rattle.pl_spec.specs.Value.Value.{Number};
+ghost use Rattle.pl_assets.specs.Assets.{AreAssets};
 ghost use Rattle.pl_model.specs.Worlds.{world_of, IsMade};
 ghost use Rattle.pl_model.specs.PlainTerms.{steps_of, term_of, window_steps};
 
@@ -17,16 +20,17 @@ use std::sync::ledger::Ledger;
 /// A term that is computed without a graph of terms.
 #[derive(Clone, Copy, Debug, PartialEq, Eq)]
 pub enum PlainTerm {
-    /// The column of the latest bar that is known: that of the session before.
+    /// The bar column of the latest bar that is known: that of the session before.
     Latest(Column),
-    /// The mean of the column's present cells over so many sessions before.
+    /// The mean of the bar column's present cells over so many sessions before.
     SimpleMovingAverage(Column, u32),
 }
 
-/// The value of a term for the asset of a column on a session, in millionths; `MISSING` where the asset does not exist on
-/// the session, and where no bar of the window has a cell. Each cell is as it is seen on the session: changed by every
-/// adjustment that acts on the column later than the bar's day and by the session's. Each of these is one step, also where
-/// the cell is missing. A window may begin before the first session: no bars stand there. It takes no memory.
+/// The value of a term for the asset in column `col` on a session, in millionths; `MISSING` where the
+/// asset does not exist on the session, and where no bar of the window has a cell. Each cell is as it is
+/// seen on the session: changed by every adjustment that acts on the bar column later than the bar's day and
+/// by the session's. Each of these is one step, also where the cell is missing. A window may begin before
+/// the first session: no bars stand there. It takes no memory.
 pub fn plain_cell<L: Ledger>(
     world: &World,
     term: PlainTerm,
@@ -55,10 +59,11 @@ pub fn plain_cell<L: Ledger>(
 }
 
 fn exists(world: &World, col: usize, session: usize) -> bool
-    requires made { IsMade world.now }
     requires col { col < length world.now.assets.now }
     requires session { session < length world.now.sessions.now }
-    ensures { result ≡ exists (world_of world.now) (sid_at world.now.assets.now col) (pos session) }
+    ensures value { result ≡ exists (world_of world.now)
+        (sid_at world.now.assets.now col) (pos session) }
+    ensures assets { AreAssets world.now.assets.now }
 {
     let day = world.sessions.day(session);
     world.assets.exists(col, day)
@@ -73,6 +78,7 @@ fn latest<L: Ledger>(
     steps: &mut Steps<L>,
 ) -> i64
     requires made { IsMade world.now }
+    requires assets { AreAssets world.now.assets.now }
     requires col { col < length world.now.assets.now }
     requires session { session < length world.now.sessions.now }
     ensures value { result ≡ oldest (bar_window (world_of world.now) column 1
@@ -98,6 +104,7 @@ fn average<L: Ledger>(
     steps: &mut Steps<L>,
 ) -> i64
     requires made { IsMade world.now }
+    requires assets { AreAssets world.now.assets.now }
     requires col { col < length world.now.assets.now }
     requires session { session < length world.now.sessions.now }
     ensures value { result ≡ mean (bar_window (world_of world.now) column window
@@ -128,6 +135,7 @@ fn seen_cell<L: Ledger>(
     steps: &mut Steps<L>,
 ) -> i64
     requires made { IsMade world.now }
+    requires assets { AreAssets world.now.assets.now }
     requires col { col < length world.now.assets.now }
     requires bar_session { bar_session < session }
     requires session { session < length world.now.sessions.now }

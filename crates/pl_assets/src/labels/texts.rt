@@ -1,9 +1,8 @@
-ghost use Rattle.std.specs.Prelude.{◌≡◌, ◌<◌, [], length, take, position, slice_index_or, bytes_eq, IfOk, OnOk, OnErr};
-ghost use Rattle.std.specs.List.{position_or_len};
-ghost use Rattle.csv.specs.Writing.{default_writer, field_text};
+ghost use Rattle.std.specs.Prelude.{◌≡◌, ◌<◌, [], ◌∷◌, ◌++◌, flat_map, length, take, position, slice_index_or, bytes_eq, IfOk, OnOk, OnErr};
+ghost use Rattle.std.specs.List.{list_any, position_or_len};
+ghost use Rattle.pl_spec.specs.Text.{calls_for_quotes, quote, quoted_byte};
 ghost use Rattle.pl_assets.specs.Labels.{with_text};
 
-use csv::WriterBuilder;
 use indexmap::IndexSet;
 use std::alloc::{AllocError, Global};
 use std::marker::Model;
@@ -76,10 +75,8 @@ impl Texts {
         ensures number { IfOk result (λ n. n ≡ position_or_len (bytes_eq text.items) self.old) }
         ensures err { OnErr result (self.new ≡ self.old) }
     {
-        match self.set.insert_full(text) {
-            Ok((number, _)) => Ok(number),
-            Err(_) => Err(AllocError),
-        }
+        let (number, _) = self.set.insert_full(text)?;
+        Ok(number)
     }
 
     // Keeps the first `len` texts.
@@ -99,13 +96,13 @@ pub(crate) struct LabelTexts {
 
 impl Model for LabelTexts {
     ghost use Rattle.std.specs.Prelude.{◌≡◌, List, ℕ, map};
-    ghost use Rattle.csv.specs.Writing.{default_writer, field_text};
+    ghost use Rattle.pl_spec.specs.Text.{quote};
 
     ghost Value = { List (List ℕ) };
 
     ghost view = { λ t. t.texts };
 
-    ghost invariant = { λ t. map (λ v. v.items) t.fields.items ≡ map (field_text default_writer) t.texts };
+    ghost invariant = { λ t. map (λ v. v.items) t.fields.items ≡ map quote t.texts };
 }
 
 impl LabelTexts {
@@ -137,7 +134,7 @@ impl LabelTexts {
     // The text of a code as a field of csv.
     pub(crate) fn field(&self, code: usize) -> &[u8]
         requires { code < length self.now }
-        ensures { result.now ≡ field_text default_writer (slice_index_or self.now code []) }
+        ensures { result.now ≡ quote (slice_index_or self.now code []) }
     {
         self.fields[code].as_slice()
     }
@@ -171,16 +168,43 @@ impl LabelTexts {
     }
 }
 
-// The text as csv writes it in a row of several fields.
+// The text as a field of csv.
 fn csv_field(alloc: Global, text: &[u8]) -> Result<Vec<u8>, AllocError>
-    ensures { IfOk result (λ v. v.items ≡ field_text default_writer text.now) }
+    ensures { IfOk result (λ v. v.items ≡ quote text.now) }
 {
-    let mut writer = WriterBuilder::new().from_writer(Vec::new(alloc));
-    if writer.write_field(text).is_err() {
-        return Err(AllocError);
+    if needs_quotes(text) {
+        return quoted(alloc, text);
     }
-    match writer.into_inner() {
-        Ok(bytes) => Ok(bytes),
-        Err(_) => Err(AllocError),
+    let field = Vec::from_slice(alloc, text)?;
+    Ok(field)
+}
+
+// Whether the field stands in quotes.
+fn needs_quotes(text: &[u8]) -> bool
+    ensures { result ≡ list_any calls_for_quotes text.now }
+{
+    text.iter().any(|byte| calls_for_quotes(*byte))
+}
+
+// Whether a field with this byte does.
+fn calls_for_quotes(byte: u8) -> bool
+    ensures { result ≡ calls_for_quotes byte }
+{
+    byte == b',' || byte == b'"' || byte == b'\r' || byte == b'\n'
+}
+
+// The text in quotes, each quote in it doubled.
+fn quoted(alloc: Global, text: &[u8]) -> Result<Vec<u8>, AllocError>
+    ensures { IfOk result (λ v. v.items ≡ 34 ∷ flat_map quoted_byte text.now ++ 34 ∷ []) }
+{
+    let mut field = Vec::new(alloc);
+    field.push(b'"')?;
+    for byte in text {
+        if *byte == b'"' {
+            field.push(b'"')?;
+        }
+        field.push(*byte)?;
     }
+    field.push(b'"')?;
+    Ok(field)
 }

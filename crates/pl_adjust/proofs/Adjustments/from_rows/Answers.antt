@@ -1,7 +1,7 @@
 use Rattle.std.proofs.Common.{◌∙◌, ap, sym, Ok}
 use Rattle.std.proofs.lemmas.Result.{err_from_is_err_and}
 use Rattle.pl_adjust.specs.Faults.{fault_of}
-use Rattle.pl_adjust.proofs.Made.{are_of, kept_from, made, refused, view_is}
+use Rattle.pl_adjust.proofs.Made.{by_day_each, cols_known, kept_from, made, refused, view_is}
 use Rattle.pl_adjust.proofs.Adjustments.from_rows.Goals as goal
 
 pub returns-in_err-rows-clause-exact : goal.returns-in_err-rows-clause-exact
@@ -23,9 +23,16 @@ returns-clause-exact c =
     made c.args.assets.now c.args.splits.now c.args.mergers.now c.args.dividends.now _ _ c.in_ok-rows.ensures.fault c.in_ok-rows.ensures.rows c.in_ok-sorted.ensures
     ∙ ap Ok (sym view)
 
-pub returns-clause-columns : goal.returns-clause-columns
-returns-clause-columns c =
+pub returns-clause-in_order : goal.returns-clause-in_order
+returns-clause-in_order c =
     let cols = rw c.deref.ensures.value at c.in_ok-cols.ensures in
     let adjusts = rw c.deref-2.ensures.value at c.in_ok-adjusts.ensures in
     let view = view_is c.in_ok-sorted.sorted.items c.in_ok-cols.cols.items c.in_ok-adjusts.adjusts.items cols adjusts in
-    rw view (are_of c.args.assets.now c.args.splits.now c.args.mergers.now c.args.dividends.now _ _ c.in_ok-rows.ensures.rows c.in_ok-sorted.ensures)
+    rw view (by_day_each _ c.in_ok-sorted.ensures.sorted)
+
+pub returns-clause-cols : goal.returns-clause-cols
+returns-clause-cols c =
+    let cols = rw c.deref.ensures.value at c.in_ok-cols.ensures in
+    let adjusts = rw c.deref-2.ensures.value at c.in_ok-adjusts.ensures in
+    let view = view_is c.in_ok-sorted.sorted.items c.in_ok-cols.cols.items c.in_ok-adjusts.adjusts.items cols adjusts in
+    rw view (cols_known c.args.assets.now c.args.splits.now c.args.mergers.now c.args.dividends.now _ _ c.in_ok-rows.ensures.rows c.in_ok-sorted.ensures)

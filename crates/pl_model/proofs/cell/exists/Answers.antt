@@ -4,8 +4,8 @@ use Rattle.pl_model.specs.Worlds.{world_of}
 use Rattle.pl_model.proofs.Lifetimes.{exists-at}
 use Rattle.pl_model.proofs.cell.exists.Goals as goal
 
-pub returns : goal.returns
-returns c =
+pub returns-clause-value : goal.returns-clause-value
+returns-clause-value c =
     let day : FitsSigned w32 c.day-day.result = search rules in
-    let lives = simp to_z-of_z at c.exists.ensures in
-    sym (exists-at (world_of c.args.world.now) c.args.col c.args.session c.day-day.result c.exists.result c.requires.made.sids_ascend c.day-day.ensures.exact lives)
+    let lives = simp to_z-of_z at c.exists.ensures.exact in
+    sym (exists-at (world_of c.args.world.now) c.args.col c.args.session c.day-day.result c.exists.result c.exists.ensures.assets.ascend c.day-day.ensures.exact lives)

@@ -18,7 +18,7 @@ returns-clause-value g c =
     ∙ simp to_z-of_z at c.seen_now.ensures.value
     ∙ ap (λ es. after_all c.get-cell.result (effects_in column low low high es)) c.of_col.ensures.events
     ∙ ap (λ x. after_all x (effects_in column low low high (events_at c.args.world.now.adjustments.now c.args.col))) c.get-cell.ensures.value
-    ∙ sym (seen-at c.args.world.now c.requires.made c.args.col c.requires.col column c.args.bar_session c.args.session low high c.day-bar_day.ensures.exact c.day-day.ensures.exact)
+    ∙ sym (seen-at c.args.world.now c.requires.made c.requires.assets c.args.col c.requires.col column c.args.bar_session c.args.session low high c.day-bar_day.ensures.exact c.day-day.ensures.exact)
 
 pub returns-clause-cost : goal.returns-clause-cost
 returns-clause-cost g c =
@@ -31,4 +31,4 @@ returns-clause-cost g c =
     simp to_z-of_z at c.seen_now.ensures.cost
     ∙ ap (λ es. c.args.steps.now + step_count (effects_in column low low high es)) c.of_col.ensures.events
     ∙ ap (λ es. c.args.steps.now + step_count es)
-    (sym (effects-at c.args.world.now c.requires.made c.args.col c.requires.col column c.args.bar_session c.args.session low high c.day-bar_day.ensures.exact c.day-day.ensures.exact))
+    (sym (effects-at c.args.world.now c.requires.made c.requires.assets c.args.col c.requires.col column c.args.bar_session c.args.session low high c.day-bar_day.ensures.exact c.day-day.ensures.exact))

@@ -1,5 +1,5 @@
 use Rattle.std.proofs.Common.{sym, ◌∙◌}
-use Rattle.csv.specs.Writing.{default_writer, field_text}
+use Rattle.pl_spec.specs.Text.{quote}
 use Rattle.pl_assets.proofs.TextLists.{not_new, field_behind}
 use Rattle.pl_assets.proofs.labels.texts.LabelTexts.insert.Goals as goal
 
@@ -9,5 +9,5 @@ returns-in-Some-clause-texts c =
 
 pub invariant_of-self-in-Ok : goal.invariant_of-self-in-Ok
 invariant_of-self-in-Ok c =
-    field_behind (λ v. v.items) (field_text default_writer) c.self.inside.fields.items c.push.new.self.items c.self.inside.texts c.insert.new.self c.in_ok-field.field c.args.text.now
+    field_behind (λ v. v.items) quote c.self.inside.fields.items c.push.new.self.items c.self.inside.texts c.insert.new.self c.in_ok-field.field c.args.text.now
     c.self.invariant c.in_ok-push.ensures.items c.in_ok-field.ensures c.in-Ok.ensures.texts (sym c.number_of.ensures ∙ c.in_default.is)
