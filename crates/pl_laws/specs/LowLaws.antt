@@ -7,7 +7,16 @@ use Rattle.pl_spec.specs.Window.{before}
 use Rattle.pl_spec.specs.Term.{Term, Input, Node, Graph, term_at, IsGraph}
 use Rattle.pl_spec.specs.Term.Input.{BarColumn, TermInput}
 use Rattle.pl_spec.specs.Graph.{least_of, reads_at, reach}
+use Rattle.pl_spec.specs.World.{World, Bar}
+use Rattle.pl_spec.specs.Reaching.{HasWindows, SameBarsFrom}
+use Rattle.pl_spec.specs.Value.{value}
 use Rattle.pl_spec.specs.Lows.{Reads, Needs, IsLow, least_reach}
+
+-- bars before a term's reach may be others, or none: its value stays
+abbrev pub ReachIsEnough : Type 0
+ReachIsEnough = (w : World) (bars : List Bar) (low : ℤ) → SameBarsFrom w (record w { bars = bars }) low
+    → (names : List (List ℕ)) (t : Term) → HasWindows t → (a : ℕ) (d : ℤ) → low ≤ℤ reach w.days t d
+    → value w names t a d ≡ value (record w { bars = bars }) names t a d
 
 -- what a computed session reads of a term is computed
 abbrev pub LowsCover : Type 0
