@@ -1,12 +1,11 @@
 -- Assets that are read have sids of their own, and are no more than a file may have.
-use Rattle.std.proofs.Common.{◌≡◌, ℕ, zero, suc, ℤ, ◌==◌, ◌||◌, ◌<◌, ◌≤◌, ◌^◌, nat_eq, nat_le, not, cond, Bool, true, false, List, [], ◌∷◌, ◌++◌, length, All, Option, Some, None, option_map, option_and_then, if◌then◌else◌, Result, Ok, Err, refl, ap, sym, ◌∙◌, arith, length-append}
+use Rattle.std.proofs.Common.{◌≡◌, ℕ, zero, suc, ℤ, ◌==◌, ◌<◌, ◌≤◌, ◌^◌, nat_le, Bool, true, false, List, [], ◌∷◌, ◌++◌, length, All, Option, Some, None, option_map, option_and_then, if◌then◌else◌, Result, Ok, Err, refl, arith, length-append}
 use Rattle.std.proofs.lemmas.Bool.Decides.{nat_tests}
 use Rattle.std.specs.List.{list_any}
 use Rattle.std.specs.Option.{ok_or}
 use Rattle.std.proofs.lemmas.List.Elements.{All-append}
 use Rattle.std.proofs.lemmas.List.Sorted.{All-permutation}
 use Rattle.std.specs.Int.RustNames.{int_lt}
-use Rattle.std.specs.HashSet.{HashSet, contains}
 use Rattle.pl_records.specs.Reading.{Record, Fault, field, ◌>>=◌}
 use Rattle.pl_records.specs.Sorted.{sorted_by, HasOwnKeys}
 use Rattle.pl_spec.specs.Dates.{date_in}
@@ -19,7 +18,6 @@ use Rattle.pl_spec.proofs.SidsRead.{decimal-sid_in}
 use Rattle.pl_assets.specs.Assets.{Rule, breaks, asset_in, says_asset, rows_in, assets_of, AreAssets, sid_of, header}
 use Rattle.pl_assets.specs.Assets as rules
 use Rattle.pl_assets.specs.declared.TheConstants.{MOST_ASSETS}
-use Rattle.pl_assets.specs.Seen.{AreSids}
 
 -- what the tests were where a record says its asset
 pub record Says (before : List AssetRow) (r : Record) (a : AssetRow) : Type 0 where

@@ -1,5 +1,5 @@
 -- The keys of rows of labels tell their names, columns and days.
-use Rattle.std.proofs.Common.{◌≡◌, ℕ, suc, ◌<◌, ◌^◌, ◌==◌, ◌&&◌, ◌||◌, nat_eq, cond, Bool, true, false, ℤ, List, [], ◌∷◌, ◌++◌, length, map, get_or, All, Some, None, FitsSigned, w32, refl, sym, ap, ◌∙◌, arith}
+use Rattle.std.proofs.Common.{◌≡◌, ℕ, ◌<◌, ◌^◌, ◌==◌, ◌&&◌, ◌||◌, nat_eq, cond, Bool, true, false, ℤ, List, [], ◌∷◌, ◌++◌, length, map, get_or, Some, None, FitsSigned, w32, refl, sym, ap, ◌∙◌, arith}
 use Rattle.std.specs.List.{list_any, position}
 use Rattle.std.specs.HashSet.{HashSet, contains}
 use Rattle.std.specs.Str.{bytes_eq}

@@ -1,11 +1,8 @@
 -- The labels of a table in the world that is made of it.
-use Rattle.std.proofs.Common.{◌≡◌, ℕ, suc, ◌<◌, ◌==◌, ◌&&◌, Bool, true, false, cond, ℤ, pos, List, [], ◌∷◌, length, get_or, map, filter, find, All, Option, Some, None, option_map, option_and_then, unwrap_or, bytes_eq, refl, sym, ◌∙◌, ap, arith, inl, inr}
+use Rattle.std.proofs.Common.{◌≡◌, ℕ, ◌<◌, ◌&&◌, Bool, true, false, cond, ℤ, List, [], ◌∷◌, length, get_or, map, filter, find, All, Option, Some, None, option_map, option_and_then, bytes_eq, refl, sym, ◌∙◌, ap}
 use Rattle.std.specs.List.{AllPairs, list_all}
 use Rattle.std.specs.Int.RustNames.{int_le}
-use Rattle.std.proofs.lemmas.Bool.{cases_lt}
-use Rattle.std.proofs.lemmas.Bool.Decides.{nat_tests}
 use Rattle.std.proofs.lemmas.List.Folds.{list_all-map}
-use Rattle.std.proofs.lemmas.Option.{slice_get-get_or}
 use Rattle.pl_spec.specs.World.{LabelRow, day_of, is_label_of, last_started, nonempty}
 use Rattle.pl_spec.specs.Parts.{ColumnLabel, label_of, sid_at, world_of}
 use Rattle.pl_spec.specs.declared.AssetRow.{AssetRow}
