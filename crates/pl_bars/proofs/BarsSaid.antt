@@ -1,5 +1,5 @@
 -- What a record says of its bar, in plain words.
-use Rattle.std.proofs.Common.{◌≡◌, ◌≢◌, ℕ, zero, suc, ◌+◌, ◌^◌, ◌<◌, ◌≤◌, ◌↔◌, ◌==◌, nat_le, Bool, true, false, if◌then◌else◌, ℤ, ◌<ℤ◌, pos, List, length, get_or, Option, Some, None, option_map, option_and_then, position, All, Any, Result, Ok, Err, refl, sym, ◌∙◌, ap, arith, inl, inr}
+use Rattle.std.proofs.Common.{◌≡◌, ◌≢◌, ℕ, ◌^◌, ◌<◌, ◌↔◌, ◌==◌, Bool, true, false, ℤ, ◌<ℤ◌, List, get_or, Option, Some, None, option_map, option_and_then, position, All, Any, Ok, Err, refl, sym, ◌∙◌, ap, arith, inl, inr}
 use Rattle.std.specs.List.{list_any, slice_get, AllPairs}
 use Rattle.std.specs.List.Sorted.{IsPermutation}
 use Rattle.std.specs.Ordering.{int_eq}
@@ -7,7 +7,7 @@ use Rattle.std.specs.Bool.{Decides}
 use Rattle.std.proofs.lemmas.Int.{ints}
 use Rattle.std.proofs.lemmas.Bool.{cases_lt, and_parts}
 use Rattle.std.proofs.lemmas.Bool.Decides.{nat_tests}
-use Rattle.std.proofs.lemmas.List.Folds.{list_any_at, Any-from_list_any, list_any-from_Any}
+use Rattle.std.proofs.lemmas.List.Folds.{Any-from_list_any, list_any-from_Any}
 use Rattle.std.proofs.lemmas.List.Quantifiers.{position-Some}
 use Rattle.std.proofs.lemmas.List.Sorted.{All-permutation}
 use Rattle.std.proofs.lemmas.Option.{slice_get-get_or, slice_get_within}
@@ -26,7 +26,7 @@ use Rattle.pl_assets.specs.Assets.{sid_of, AreAssets}
 use Rattle.pl_bars.specs.declared.fields.Fields.{Fields}
 use Rattle.pl_bars.specs.Bars.{Rule, breaks, session_in, col_in, placed_at, bar_of, header, fields_in, is_negative, is_at, says_bar, key_of, rows_in, bars_of, is_before}
 use Rattle.pl_bars.specs.Bars as rules
-use Rattle.pl_bars.specs.Rules.{IsBarRecord, IsNegative, IsPlaced, IsRowRecord, IsBar, Breaks, AreBarsOf, IsBarsFault}
+use Rattle.pl_bars.specs.Rules.{IsBarRecord, IsNegative, IsRowRecord, IsBar, Breaks, AreBarsOf, IsBarsFault}
 use Rattle.pl_bars.proofs.BarSets.{same_number, number_same}
 use Rattle.pl_bars.proofs.BarFields.{fields_form, IsNegative-test, is_negative-test}
 use Rattle.pl_bars.proofs.BarsRead.{AreKept-read, ascend-from_keys, keys-from_ascend}

@@ -1,5 +1,5 @@
 -- The bars of the records of a bars file, the first rule that a record breaks, and the cells of bars.
-use Rattle.std.specs.Prelude.{ℕ, ◌+◌, ◌*◌, ◌^◌, ◌==◌, ◌≤◌, ◌&&◌, ◌||◌, not, nat_le, nat_lt, IsTrue, Bool, false, if◌then◌else◌, ℤ, pos, codes, List, [], ◌∷◌, length, All, AllPairs, Option, Some, None, option_map, option_and_then, unwrap_or, Result, Ok, Err, find, position, slice_index_or}
+use Rattle.std.specs.Prelude.{ℕ, ◌+◌, ◌*◌, ◌^◌, ◌==◌, ◌≤◌, ◌&&◌, ◌||◌, not, nat_le, nat_lt, IsTrue, Bool, false, if◌then◌else◌, ℤ, pos, codes, List, [], ◌∷◌, length, All, AllPairs, Option, Some, None, option_map, option_and_then, unwrap_or, Result, Ok, find, position, slice_index_or}
 use Rattle.std.specs.List.{list_any}
 use Rattle.std.specs.Result.{result_ok}
 use Rattle.std.specs.Int.RustNames.{int_lt, int_le, unsigned_abs}

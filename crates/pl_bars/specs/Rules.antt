@@ -1,5 +1,5 @@
 -- The rules of a bars file in plain words.
-use Rattle.std.specs.Prelude.{◌≡◌, ◌≢◌, ◌⊎◌, ℕ, ◌+◌, ◌^◌, ◌<◌, ◌≤◌, IsTrue, ℤ, pos, ◌<ℤ◌, List, [], length, Some, option_map, slice_get, All, Any, AllPairs, IsPermutation}
+use Rattle.std.specs.Prelude.{◌≡◌, ◌≢◌, ◌⊎◌, ℕ, ◌+◌, ◌^◌, ◌<◌, ◌≤◌, IsTrue, ℤ, pos, ◌<ℤ◌, List, [], length, Some, option_map, slice_get, Any, AllPairs, IsPermutation}
 use Rattle.std.specs.Fmt.{decimal}
 use Rattle.pl_records.specs.Reading.{Record, Fault, field, AreRowsUnder, IsFaultUnder}
 use Rattle.pl_records.specs.RuleTable.{IsFirstBroken, KeepsAll}
