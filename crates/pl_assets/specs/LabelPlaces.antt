@@ -1,5 +1,4 @@
--- Rows of labels as they are kept: numbers for their names, codes for their texts, and an order in which
--- they are found.
+-- Rows of labels as they are kept: numbers for their names, codes for their texts, and an order in which they are found.
 use Rattle.std.specs.Prelude.{◌≡◌, ◌≢◌, ℕ, zero, suc, ◌+◌, ◌*◌, ◌^◌, ◌==◌, ◌<◌, nat_eq, nat_le, true, false, ℤ, pos, ◌+ℤ◌, ◌≤ℤ◌, List, [], ◌∷◌, ◌++◌, length, map, take, slice_get, slice_index_or, All, AllPairs, Contains, Option, Some, None, IfSome, option_map, unwrap_or, FitsSigned}
 use Rattle.std.specs.Int.{w32}
 use Rattle.std.specs.Int.RustNames.{unsigned_abs}
@@ -18,13 +17,7 @@ text_in texts None = []
 text_in texts (Some code) = slice_index_or texts code []
 
 abbrev pub row_at : List (List ℕ) → List (List ℕ) → Place → ColumnLabel
-row_at names texts p =
-    record {
-      name = slice_index_or names p.name [];
-      col = p.col;
-      start = p.start;
-      text = text_in texts p.code;
-    }
+row_at names texts p = record { name = slice_index_or names p.name []; col = p.col; start = p.start; text = text_in texts p.code }
 
 abbrev pub shown_rows : LabelRows → List ColumnLabel
 shown_rows t = map (row_at t.names t.texts) t.places.items
@@ -95,9 +88,7 @@ pub record IsOrder (places : List Place) (n : ℕ) (order : List ℕ) : Type 0 w
 
 -- below n the rows in the order have no greater key, from n on all have
 abbrev pub KeyPoint : List Place → ℕ → List ℕ → ℕ → Type 0
-KeyPoint places k order n =
-    IsPartitionPoint (λ i. nat_le (key_at places i) k ≡ true)
-    (λ i. nat_le (key_at places i) k ≡ false) order n
+KeyPoint places k order n = IsPartitionPoint (λ i. nat_le (key_at places i) k ≡ true) (λ i. nat_le (key_at places i) k ≡ false) order n
 
 -- the row is of the name and the column, and has started by the day
 pub record HasStarted (name col : ℕ) (day : ℤ) (p : Place) : Type 0 where
@@ -109,8 +100,7 @@ pub record HasStarted (name col : ℕ) (day : ℤ) (p : Place) : Type 0 where
 abbrev pub IsLastStarted : List Place → ℕ → ℕ → ℤ → Option Place → Type 0
 IsLastStarted places name col day None = (q : Place) → Contains places q → ¬ HasStarted name col day q
 IsLastStarted places name col day (Some p) =
-    Contains places p × HasStarted name col day p
-    × ((q : Place) → Contains places q → HasStarted name col day q → q.start ≤ℤ p.start)
+    Contains places p × HasStarted name col day p × ((q : Place) → Contains places q → HasStarted name col day q → q.start ≤ℤ p.start)
 
 pub record IsTable (t : LabelRows) (order : List ℕ) : Type 0 where
   pub numbered : AreNumbered t
