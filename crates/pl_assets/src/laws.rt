@@ -1,6 +1,6 @@
 //! What an assets file and a labels file say, in plain words, what the labels of a table are in a
-//! world, and what their fields are. The functions do nothing: the contract of each is a law of the definitions that the
-//! calls' contracts cite.
+//! world, and what their fields are. The functions do nothing: the contract of each is a law of the
+//! definitions that the calls' contracts cite.
 
 ghost use Rattle.std.specs.Prelude.{◌≡◌, ◌↔◌, ℕ, List, Ok, Err};
 ghost use Rattle.csv.specs.Writing.{default_writer, field_text};
