@@ -13,10 +13,10 @@ use Rattle.pl_spec.specs.Order.{acts_at, by_day}
 use Rattle.pl_spec.specs.Parts.{ColumnAdjustment}
 use Rattle.pl_records.specs.Sorted.{insert_by, sorted_by}
 use Rattle.pl_spec.proofs.ByDay.{by_day-is_by_day}
+use Rattle.pl_assets.proofs.Filters.{filter-map}
 use Rattle.pl_adjust.specs.Columns.{IsByPlace, by_column, in_column}
 use Rattle.pl_adjust.proofs.Kept.{in_front, front_order, not_in_front}
 use Rattle.pl_adjust.proofs.OneOrder.{NoneBelow, Rises, none_below_lower, one_order, rises_from_sorted}
-use Rattle.pl_adjust.proofs.RowOrder.{filter-map}
 
 -- ---- what ties has one column and one day
 

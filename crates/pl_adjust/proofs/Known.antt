@@ -6,18 +6,11 @@ use Rattle.std.specs.Int.{FitsUnsignedBits}
 use Rattle.std.specs.Int.RustNames.{unsigned_abs}
 use Rattle.std.proofs.lemmas.Bool.Decides.{nat_tests}
 use Rattle.std.proofs.lemmas.Int.{ints}
-use Rattle.std.proofs.lemmas.List.Folds.{list_any_at}
+use Rattle.std.proofs.lemmas.List.Folds.{list_any_at, list_any_none}
 use Rattle.std.proofs.lemmas.List.Quantifiers.{position-Some}
 use Rattle.pl_spec.specs.declared.AssetRow.{AssetRow}
 use Rattle.pl_spec.proofs.Places.{nowhere}
-
-pub list_any-none : {A : Type 0} (p : A → Bool) (xs : List A) → ((k : ℕ) (d : A) → k < length xs → p (get_or xs k d) ≡ false) → list_any p xs ≡ false
-list_any-none p [] none = refl
-list_any-none p (x ∷ xs) none = let first : p x ≡ false = none 0 x (omega arith) in rw first (list_any-none p xs (λ k d h. none (suc k) d (omega arith)))
-
-pub list_any-same : {A : Type 0} (p q : A → Bool) → ((x : A) → p x ≡ q x) → (xs : List A) → list_any p xs ≡ list_any q xs
-list_any-same p q same [] = refl
-list_any-same p q same (x ∷ xs) = ap (λ b. b || list_any p xs) (same x) ∙ ap (λ b. q x || b) (list_any-same p q same xs)
+use Rattle.pl_assets.proofs.Filters.{any-same}
 
 -- an asset has the number as its sid
 abbrev pub has_sid : ℤ → List AssetRow → Bool
@@ -29,17 +22,17 @@ same_sid sid n = grind (arith, nat_tests, ints)
 pub known-found : (assets : List AssetRow) (sid i : ℕ) (d : AssetRow) → position (λ a. a.sid == sid) assets ≡ Some i → has_sid (pos sid) assets ≡ true
 known-found assets sid i d e =
     let at = position-Some (λ a. a.sid == sid) assets i d e in
-    list_any-same (λ a. int_eq (pos a.sid) (pos sid)) (λ a. a.sid == sid) (λ a. same_sid sid a.sid) assets
+    any-same (λ a. int_eq (pos a.sid) (pos sid)) (λ a. a.sid == sid) assets (λ k d h. same_sid sid (get_or assets k d).sid)
     ∙ list_any_at (λ a. a.sid == sid) assets i d at.0 at.1
 
 pub known-nowhere : (assets : List AssetRow) (sid : ℕ) → position (λ a. a.sid == sid) assets ≡ None → has_sid (pos sid) assets ≡ false
 known-nowhere assets sid e =
-    list_any-same (λ a. int_eq (pos a.sid) (pos sid)) (λ a. a.sid == sid) (λ a. same_sid sid a.sid) assets
-    ∙ list_any-none (λ a. a.sid == sid) assets (nowhere (λ a. a.sid == sid) assets e)
+    any-same (λ a. int_eq (pos a.sid) (pos sid)) (λ a. a.sid == sid) assets (λ k d h. same_sid sid (get_or assets k d).sid)
+    ∙ list_any_none (λ a. a.sid == sid) assets (nowhere (λ a. a.sid == sid) assets e)
 
 -- no asset has a sid of more than 32 bits, or below 0
 pub unknown : (assets : List AssetRow) (z : ℤ) → All (λ a. a.sid < 2 ^ 32) assets → ((n : ℕ) → z ≡ pos n → n < 2 ^ 32 → ⊥) → has_sid z assets ≡ false
-unknown assets z small out = list_any-none (λ a. int_eq (pos a.sid) z) assets (λ k d h. other (get_or assets k d).sid (int_eq (pos (get_or assets k d).sid) z) refl (small k d h))
+unknown assets z small out = list_any_none (λ a. int_eq (pos a.sid) z) assets (λ k d h. other (get_or assets k d).sid (int_eq (pos (get_or assets k d).sid) z) refl (small k d h))
   where
     other : (n : ℕ) (b : Bool) → int_eq (pos n) z ≡ b → n < 2 ^ 32 → int_eq (pos n) z ≡ false
     other n true e h = let same : z ≡ pos n = grind (arith, ints) in absurd (out n same h)

@@ -6,18 +6,11 @@ use Rattle.std.specs.Ordering.{nat_cmp, int_cmp, ordering_then}
 use Rattle.std.proofs.lemmas.List.{get_or-map, length-map}
 use Rattle.std.proofs.lemmas.List.Sorted.{IsPermutation-map}
 use Rattle.pl_spec.specs.Parts.{ColumnAdjustment}
+use Rattle.pl_assets.proofs.Filters.{filter-map}
 use Rattle.pl_adjust.specs.declared.columns.Row.{Row}
 use Rattle.pl_adjust.specs.Columns.{IsByPlace}
 use Rattle.pl_adjust.specs.Rows.{row_of}
 use Rattle.pl_adjust.proofs.Kept.{in_front}
-
-pub filter-map : {X Y : Type 0} (p : Y → Bool) (f : X → Y) (xs : List X) → filter p (map f xs) ≡ map f (filter (λ x. p (f x)) xs)
-filter-map p f [] = refl
-filter-map {X} {Y} p f (x ∷ xs) = here (p (f x)) (filter-map p f xs)
-  where
-    here : (b : Bool) → filter p (map f xs) ≡ map f (filter (λ x. p (f x)) xs) → cond b (f x ∷ filter p (map f xs)) (filter p (map f xs)) ≡ map f (cond b (x ∷ filter (λ x. p (f x)) xs) (filter (λ x. p (f x)) xs))
-    here true e = ap (λ l. f x ∷ l) e
-    here false e = e
 
 abbrev pub place_of : Row → ℕ × ℤ
 place_of r = (r.col, r.adjust.day)

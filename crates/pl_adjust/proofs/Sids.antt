@@ -5,6 +5,7 @@ use Rattle.std.specs.Ordering.{int_eq}
 use Rattle.std.proofs.lemmas.Bool.{and_parts}
 use Rattle.std.proofs.lemmas.Bool.Decides.{nat_tests}
 use Rattle.std.proofs.lemmas.List.Elements.{All-append, All-cons, All-map}
+use Rattle.std.proofs.lemmas.List.Folds.{list_any_none}
 use Rattle.std.proofs.lemmas.List.Sorted.{All-permutation}
 use Rattle.std.proofs.lemmas.Option.{slice_get_within}
 use Rattle.pl_spec.specs.declared.AdjustmentKind.{AdjustmentKind}
@@ -17,19 +18,13 @@ use Rattle.pl_spec.specs.Parts.{ColumnAdjustment, ColumnLabel, adjustment_of, si
 use Rattle.pl_spec.specs.World.{Adjustment, events_of}
 use Rattle.pl_records.proofs.Sorts.{sorted-permutes}
 use Rattle.pl_assets.proofs.Columns.{one_col, same_col}
+use Rattle.pl_assets.proofs.Filters.{filter-map, filter-same}
 use Rattle.pl_adjust.specs.Columns.{by_column, col_in, events_at, in_column}
 use Rattle.pl_adjust.specs.Tables.{adjustments_in}
 use Rattle.pl_adjust.proofs.ByColumn.{filter-sorted_by}
 use Rattle.pl_adjust.proofs.FirstFaults.{made_is}
-use Rattle.pl_adjust.proofs.Known.{has_sid, list_any-none, same_sid}
+use Rattle.pl_adjust.proofs.Known.{has_sid, same_sid}
 use Rattle.pl_adjust.proofs.Made.{place_known}
-use Rattle.pl_adjust.proofs.RowOrder.{filter-map}
-
-filter-same : {X : Type 0} (p q : X → Bool) (xs : List X) → All (λ x. p x ≡ q x) xs → filter p xs ≡ filter q xs
-filter-same p q [] same = refl
-filter-same p q (x ∷ xs) same =
-    ap (λ b. cond b (x ∷ filter p xs) (filter p xs)) (same 0 x (omega arith))
-    ∙ ap (λ l. cond (q x) (x ∷ l) l) (filter-same p q xs (λ k d h. same (suc k) d (omega arith)))
 
 All-weaker : {X : Type 0} (P Q : X → Type 0) → ((x : X) → P x → Q x) → (xs : List X) → All P xs → All Q xs
 All-weaker P Q h xs all k d l = h (get_or xs k d) (all k d l)
@@ -71,7 +66,7 @@ All-by_day P (x ∷ xs) all = All-insert_by_day P x (by_day xs) (all 0 x (omega 
 has_sid_abs : (assets : List AssetRow) (z : ℤ) → has_sid z assets ≡ true → has_sid (pos (unsigned_abs z)) assets ≡ true
 has_sid_abs assets (pos n) e = e
 has_sid_abs assets (negsuc n) e =
-    let none : has_sid (negsuc n) assets ≡ false = list_any-none (λ a. int_eq (pos a.sid) (negsuc n)) assets (λ k d h. refl) in
+    let none : has_sid (negsuc n) assets ≡ false = list_any_none (λ a. int_eq (pos a.sid) (negsuc n)) assets (λ k d h. refl) in
     let bad : true ≡ false = sym e ∙ none in absurd (cc)
 
 sid_of_col : (assets : List AssetRow) (s : ℕ) → has_sid (pos s) assets ≡ true → sid_at assets (col_in assets s) ≡ s

@@ -16,7 +16,8 @@ of_rows assets kind raw = map (in_column assets) (of_table assets kind raw)
 -- those of all three tables, as they stand there
 abbrev pub of_walk : List AssetRow → List RawAdjust → List RawAdjust → List RawAdjust → List ColumnAdjustment
 of_walk assets splits mergers dividends =
-    map (in_column assets) (of_table assets Split splits ++ of_table assets Merger mergers ++ of_table assets Dividend dividends)
+    map (in_column assets)
+    (of_table assets Split splits ++ of_table assets Merger mergers ++ of_table assets Dividend dividends)
 
 -- the value, unless there is a fault
 abbrev pub ok_unless : {A F : Type 0} → Option F → A → Result A F
@@ -24,7 +25,8 @@ ok_unless None x = Ok x
 ok_unless (Some f) x = Err f
 
 -- the adjustments of the tables in the order in which they act, column by column, or the first fault of a row
-unfoldable pub adjustments_in : List AssetRow → List RawAdjust → List RawAdjust → List RawAdjust → Result (List ColumnAdjustment) Fault
+unfoldable pub adjustments_in : List AssetRow → List RawAdjust → List RawAdjust → List RawAdjust
+    → Result (List ColumnAdjustment) Fault
 adjustments_in assets splits mergers dividends =
     ok_unless (first_fault 0 (walk splits mergers dividends))
     (by_column (map (in_column assets) (adjustments_of assets splits mergers dividends)))

@@ -1,3 +1,5 @@
+//! One adjustment, and what it multiplies a bar column by.
+
 ghost use Rattle.std.specs.Prelude.{◌≡◌, ℤ, Some, None, IfSome, IfNone};
 ghost use Rattle.pl_spec.specs.Window.{effect};
 ghost use Rattle.pl_spec.specs.Window.Effect.{Scale};
@@ -15,7 +17,7 @@ pub struct Adjust {
     pub ratio: Ratio,
 }
 
-/// What an adjustment multiplies the cells of a column by: prices by its ratio, and volumes by the
+/// What an adjustment multiplies the cells of a bar column by: prices by its ratio, and volumes by the
 /// inverse of a split's. `None` for a merger or a dividend on volume, which they leave as it is.
 /// That prices and splits are treated so is Zipline's rule; that mergers and dividends leave volume
 /// alone is our own.

@@ -1,3 +1,5 @@
+//! Adjustments by the columns of their assets.
+
 ghost use Rattle.std.specs.Prelude.{◌≡◌, ◌≤ℤ◌, map, AllPairs, IfOk};
 ghost use Rattle.pl_adjust.specs.Events.{event_of};
 ghost use Rattle.pl_adjust.specs.Columns.{AreKept, IsByPlace, events_at, in_columns};
@@ -13,7 +15,7 @@ pub(crate) struct Row {
     pub(crate) adjust: Adjust,
 }
 
-// The rows by column, those of a column by day, and those of a day as they stood.
+// The rows by asset column, those of an asset by day, and those of a day as they stood.
 pub(crate) fn by_place(mut rows: Vec<Row>) -> Result<Vec<Row>, AllocError>
     ensures { IfOk result (λ sorted. IsByPlace (map row_of rows.items) (map row_of sorted.items)) }
 {
@@ -21,7 +23,7 @@ pub(crate) fn by_place(mut rows: Vec<Row>) -> Result<Vec<Row>, AllocError>
     Ok(rows)
 }
 
-// The columns of the rows.
+// The asset columns of the rows.
 pub(crate) fn cols_of(alloc: Global, rows: &[Row]) -> Result<Vec<usize>, AllocError>
     ensures { IfOk result (λ cols. cols.items ≡ map (λ r. r.col) rows.now) }
 {
@@ -35,7 +37,7 @@ pub(crate) fn adjusts_of(alloc: Global, rows: &[Row]) -> Result<Vec<Adjust>, All
     rows.iter().map(|row| row.adjust).collect(alloc)
 }
 
-// The adjustments of a column.
+// The adjustments of the asset in a column.
 pub(crate) fn of_col<'a>(cols: &[usize], adjusts: &'a [Adjust], col: usize) -> &'a [Adjust]
     requires { AreKept cols.now adjusts.now }
     ensures events { map event_of result.now ≡ events_at (in_columns cols.now adjusts.now) col }

@@ -1,3 +1,5 @@
+//! Why rows are no adjustments.
+
 ghost use Rattle.std.specs.Prelude.{◌≡◌};
 ghost use Rattle.pl_adjust.specs.declared.error.AdjustError.TheVariants.{Memory};
 
@@ -13,7 +15,7 @@ pub enum AdjustError {
     BadEffective { table: Table, id: i64 },
     /// A part of the row's ratio is not from 1 to 10^9.
     BadRatio { table: Table, id: i64 },
-    /// The tables have more than 1,000,000 rows in all.
+    /// The tables have more than `MOST_ROWS` rows in all.
     TooMany,
     /// Memory ran out.
     Memory,

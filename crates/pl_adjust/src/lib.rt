@@ -26,8 +26,11 @@ pub use seen::seen_now;
 use std::alloc::Global;
 use std::marker::Model;
 
-/// The adjustments of the assets, by column. A column is the place of an asset by ascending sid,
-/// from 0.
+/// How many rows the three tables may have together.
+pub const MOST_ROWS: usize = 1_000_000;
+
+/// The adjustments of the assets, by asset column, which is the place of an asset by ascending sid, from
+/// 0.
 #[derive(Debug, Drop)]
 pub struct Adjustments {
     cols: Vec<usize>,
@@ -81,7 +84,7 @@ impl Adjustments {
         Ok(Adjustments { cols, adjusts })
     }
 
-    /// How many adjustments there are. Those of a column stand by day.
+    /// How many adjustments there are. Those of an asset stand by day.
     pub fn len(&self) -> usize
         ensures length { result ≡ length self.now }
         ensures in_order { StandByDay self.now }
@@ -89,8 +92,8 @@ impl Adjustments {
         self.cols.len()
     }
 
-    /// The adjustments of a column in the order in which they act: by day, on one day splits before
-    /// mergers and these before dividends, each in the order of its table.
+    /// The adjustments of the asset in a column in the order in which they act: by day, on one day
+    /// splits before mergers and these before dividends, each in the order of its table.
     pub fn of_col(&self, col: usize) -> &[Adjust]
         ensures events { map event_of result.now ≡ events_at self.now col }
         ensures in_order { AllPairs (λ a b. a.day ≤ℤ b.day) result.now }

@@ -1,3 +1,5 @@
+//! From the rows of three tables to adjustments with their columns.
+
 ghost use Rattle.std.specs.Prelude.{◌≡◌, ◌+◌, ◌<◌, ◌^◌, ◌++◌, true, false, map, length};
 ghost use Rattle.std.specs.Prelude.{IfSome, IfNone, IfOk, OnOk};
 ghost use Rattle.std.specs.Int.RustNames.{unsigned_abs};
@@ -10,6 +12,7 @@ ghost use Rattle.pl_adjust.specs.Tables.{of_rows, of_walk};
 ghost use Rattle.pl_adjust.specs.Walk.{fault_at, first_fault, in_table, is_effective, kind_of};
 ghost use Rattle.pl_adjust.specs.Walk.{walk};
 
+use crate::MOST_ROWS;
 use crate::adjust::Adjust;
 use crate::columns::Row;
 use crate::error::AdjustError;
@@ -18,9 +21,6 @@ use pl_fixed::Ratio;
 use pl_outside::Table;
 use pl_spec::{AdjustmentKind as Kind, RawAdjust};
 use std::alloc::Global;
-
-// The most rows of the three tables together.
-const MOST_ROWS: usize = 1_000_000;
 
 const SECONDS_A_DAY: i64 = 86_400;
 

@@ -1,3 +1,5 @@
+//! A cell as it is seen from a later day.
+
 ghost use Rattle.std.specs.Prelude.{◌≡◌, ◌+◌, ◌≤ℤ◌, ◌&&◌, ℤ, option_to_list};
 ghost use Rattle.std.specs.Prelude.{AllPairs, filter, map};
 ghost use Rattle.std.specs.Int.RustNames.{int_lt, int_le};
@@ -9,9 +11,9 @@ use crate::adjust::{Adjust, factor_for};
 use pl_fixed::{Column, Steps};
 use std::sync::ledger::Ledger;
 
-/// The cell of a bar of the day `bar_day` as it is seen on `day`: changed by each adjustment of the
-/// list that acts on the column later than the one day and by the other, one after the other,
-/// rounded each time. Each of these is one step.
+/// The cell of a bar column in a bar of the day `bar_day` as it is seen on `day`: changed by each
+/// adjustment of the list that acts on the bar column later than the one day and by the other, one
+/// after the other, rounded each time. Each of these is one step.
 pub fn seen_now<L: Ledger>(
     cell: i64,
     bar_day: i32,
@@ -35,7 +37,7 @@ pub fn seen_now<L: Ledger>(
     seen
 }
 
-// The cell after an adjustment, which may leave the column as it is.
+// The cell after an adjustment, which may leave the bar column as it is.
 fn adjusted<L: Ledger>(cell: i64, adjust: &Adjust, column: Column, steps: &mut Steps<L>) -> i64
     requires { IsCell cell }
     ensures value { (bar : ℤ) → result

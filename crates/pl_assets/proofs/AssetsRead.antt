@@ -1,26 +1,27 @@
 -- Assets that are read have sids of their own, and are no more than a file may have.
-use Rattle.std.proofs.Common.{◌≡◌, ℕ, zero, suc, ℤ, ◌==◌, ◌||◌, ◌<◌, ◌≤◌, ◌^◌, nat_eq, nat_le, not, cond, Bool, true, false, List, [], ◌∷◌, ◌++◌, length, All, Option, Some, None, option_map, option_and_then, if◌then◌else◌, Result, Ok, Err, refl, ap, sym, ◌∙◌, arith, length-append}
+use Rattle.std.proofs.Common.{◌≡◌, ℕ, zero, suc, ℤ, ◌==◌, ◌<◌, ◌≤◌, ◌^◌, nat_le, Bool, true, false, List, [], ◌∷◌, ◌++◌, length, All, Option, Some, None, option_map, option_and_then, if◌then◌else◌, Result, Ok, Err, refl, arith, length-append}
 use Rattle.std.proofs.lemmas.Bool.Decides.{nat_tests}
 use Rattle.std.specs.List.{list_any}
+use Rattle.std.specs.Option.{ok_or}
 use Rattle.std.proofs.lemmas.List.Elements.{All-append}
 use Rattle.std.proofs.lemmas.List.Sorted.{All-permutation}
 use Rattle.std.specs.Int.RustNames.{int_lt}
-use Rattle.std.specs.HashSet.{HashSet, contains}
 use Rattle.pl_records.specs.Reading.{Record, Fault, field, ◌>>=◌}
 use Rattle.pl_records.specs.Sorted.{sorted_by, HasOwnKeys}
 use Rattle.pl_spec.specs.Dates.{date_in}
 use Rattle.pl_spec.specs.Decimals.{sid_in}
 use Rattle.pl_spec.specs.declared.AssetRow.{AssetRow}
-use Rattle.pl_records.proofs.Readings.{rows-keep, guard_ok, some_ok, under_ok}
+use Rattle.pl_records.proofs.Readings.{rows-keep, under_ok}
+use Rattle.pl_records.proofs.RuleTables.{told_ok, ok_or-Ok}
 use Rattle.pl_records.proofs.Sorts.{OwnKeys-none, OwnKeys-more, sorted-rises, sorted-permutes, length-sorted_by}
 use Rattle.pl_spec.proofs.SidsRead.{decimal-sid_in}
-use Rattle.pl_assets.specs.Assets.{Rule, asset_in, says_asset, rows_in, assets_of, AreAssets, sid_of, header}
+use Rattle.pl_assets.specs.Assets.{Rule, breaks, asset_in, says_asset, rows_in, assets_of, AreAssets, sid_of, header}
 use Rattle.pl_assets.specs.Assets as rules
-use Rattle.pl_assets.specs.Seen.{AreSids}
+use Rattle.pl_assets.specs.declared.TheConstants.{MOST_ASSETS}
 
 -- what the tests were where a record says its asset
 pub record Says (before : List AssetRow) (r : Record) (a : AssetRow) : Type 0 where
-  pub few : nat_le 8000 (length before) ≡ false
+  pub few : nat_le MOST_ASSETS (length before) ≡ false
   pub fields : asset_in r ≡ Some a
   pub in_order : int_lt a.end a.start ≡ false
   pub own_sid : list_any (λ x. sid_of x == a.sid) before ≡ false
@@ -28,17 +29,9 @@ pub record Says (before : List AssetRow) (r : Record) (a : AssetRow) : Type 0 wh
 pub says_asset-ok : (before : List AssetRow) (r : Record) (a : AssetRow) → says_asset before r ≡ Ok a → Says before r a
 unfolding says_asset
 says_asset-ok before r a e =
-    let f = guard_ok _ _ _ _ e in
-    let g = some_ok _ _ _ _ f.1 in
-    let h = guard_ok _ _ _ _ g.2 in
-    let i = guard_ok _ _ _ _ h.1 in
-    let same : g.0 ≡ a = (let ok : Ok g.0 ≡ Ok a = i.1 in cc) in
-    record {
-      few = f.0;
-      fields = g.1 ∙ ap (λ x. Some x) same;
-      in_order = ap (λ (x : AssetRow). int_lt x.end x.start) (sym same) ∙ h.0;
-      own_sid = ap (λ (y : AssetRow). list_any (λ (x : AssetRow). sid_of x == y.sid) before) (sym same) ∙ i.0;
-    }
+    let k = told_ok rules.rules (breaks before r) (ok_or (asset_in r) rules.BadField) a e in
+    let at : asset_in r ≡ Some a = ok_or-Ok (asset_in r) rules.BadField a k.1 in
+    record { few = k.0.0; fields = at; in_order = rw at at k.0.1.1.0; own_sid = rw at at k.0.1.1.1.0 }
 
 pub OwnSids-read : (records : List Record) (rows : List AssetRow) → rows_in records ≡ Ok rows → HasOwnKeys sid_of rows
 unfolding rows_in
@@ -46,13 +39,13 @@ OwnSids-read records rows e =
     rows-keep (HasOwnKeys sid_of) 2 says_asset (λ before r a own s. OwnKeys-more sid_of before a own (says_asset-ok before r a s).own_sid) _ [] rows (OwnKeys-none sid_of)
     (under_ok header rules.BadHeader says_asset records rows e).1
 
-few_more : (before : List AssetRow) (a : AssetRow) → nat_le 8000 (length before) ≡ false → length (before ++ a ∷ []) ≤ 8000
-few_more before a n = let small : length before < 8000 = grind (arith, nat_tests) in omega (arith, length-append before (a ∷ []))
+few_more : (before : List AssetRow) (a : AssetRow) → nat_le MOST_ASSETS (length before) ≡ false → length (before ++ a ∷ []) ≤ MOST_ASSETS
+few_more before a n = let small : length before < MOST_ASSETS = grind (arith, nat_tests) in omega (arith, length-append before (a ∷ []))
 
-few-read : (records : List Record) (rows : List AssetRow) → rows_in records ≡ Ok rows → length rows ≤ 8000
+few-read : (records : List Record) (rows : List AssetRow) → rows_in records ≡ Ok rows → length rows ≤ MOST_ASSETS
 unfolding rows_in
 few-read records rows e =
-    rows-keep (λ rs. length rs ≤ 8000) 2 says_asset (λ before r a n s. few_more before a (says_asset-ok before r a s).few) _ [] rows (omega arith)
+    rows-keep (λ rs. length rs ≤ MOST_ASSETS) 2 says_asset (λ before r a n s. few_more before a (says_asset-ok before r a s).few) _ [] rows (omega arith)
     (under_ok header rules.BadHeader says_asset records rows e).1
 
 -- the sid of a record is one of 32 bits
@@ -109,36 +102,3 @@ AreAssets-read records assets e =
       few = rw (← it.2) (omega (arith, length-sorted_by sid_of it.0, few-read records it.0 it.1));
       small = rw (← it.2) (All-permutation (λ (a : AssetRow). a.sid < 2 ^ 32) it.0 (sorted_by sid_of it.0) (sorted-permutes sid_of it.0) (small-read records it.0 it.1));
     }
-
--- ---- the set of the sids that were read
-
-any-append : (p : AssetRow → Bool) (xs : List AssetRow) (y : AssetRow) → list_any p (xs ++ y ∷ []) ≡ (p y || list_any p xs)
-any-append p [] y = refl
-any-append p (x ∷ xs) y = ap (λ b. p x || b) (any-append p xs y) ∙ swapped (p x) (p y) (list_any p xs)
-  where
-    swapped : (a b c : Bool) → (a || (b || c)) ≡ (b || (a || c))
-    swapped true true c = refl
-    swapped true false c = refl
-    swapped false true c = refl
-    swapped false false c = refl
-
-pub AreSids-none : {S : Type 0} (sids : HashSet ℕ S) → ((sid : ℕ) → contains nat_eq sids sid ≡ false) → AreSids sids []
-AreSids-none sids none = record { each = none }
-
--- one more sid
-pub AreSids-more : {S : Type 0} (old new : HashSet ℕ S) (rows : List AssetRow) (a : AssetRow) → AreSids old rows
-    → ((sid : ℕ) → contains nat_eq new sid ≡ cond (nat_eq a.sid sid) true (contains nat_eq old sid)) → AreSids new (rows ++ a ∷ [])
-AreSids-more old new rows a h e =
-    record { each = λ sid. e sid ∙ either (nat_eq a.sid sid) (contains nat_eq old sid) ∙ ap (λ b. nat_eq a.sid sid || b) (h.each sid) ∙ sym (any-append (λ x. sid_of x == sid) rows a) }
-  where
-    either : (b c : Bool) → cond b true c ≡ (b || c)
-    either true c = refl
-    either false c = refl
-
--- a sid that the set took is new
-pub own_sid : {S : Type 0} (sids : HashSet ℕ S) (rows : List AssetRow) (sid : ℕ) (b : Bool) → AreSids sids rows → b ≡ not (contains nat_eq sids sid) → list_any (λ x. sid_of x == sid) rows ≡ not b
-own_sid sids rows sid b h e = sym (h.each sid) ∙ twice (contains nat_eq sids sid) ∙ ap not (sym e)
-  where
-    twice : (c : Bool) → c ≡ not (not c)
-    twice true = refl
-    twice false = refl

@@ -1,13 +1,10 @@
 -- The field of a text is that of csv.
-use Rattle.std.proofs.Common.{◌≡◌, ℕ, ◌==◌, ◌||◌, Bool, true, false, if◌then◌else◌, List, [], ◌∷◌, ◌++◌, refl, ◌∙◌, ap, arith}
+use Rattle.std.proofs.Common.{◌≡◌, ℕ, ◌==◌, ◌||◌, Bool, true, false, if◌then◌else◌, List, [], ◌∷◌, ◌++◌, get_or, refl, ◌∙◌, ap, arith}
 use Rattle.std.specs.List.{flat_map, list_any}
 use Rattle.std.proofs.lemmas.Bool.Decides.{nat_tests}
 use Rattle.csv.specs.Writing.{default_writer, escaped, field_text, needs_byte}
+use Rattle.pl_assets.proofs.Filters.{any-same}
 use Rattle.pl_spec.specs.Text.{calls_for_quotes, quote, quoted_byte}
-
-same_any : (p q : ℕ → Bool) → ((b : ℕ) → p b ≡ q b) → (text : List ℕ) → list_any p text ≡ list_any q text
-same_any p q same [] = refl
-same_any p q same (b ∷ text) = ap (λ t. t || list_any p text) (same b) ∙ ap (λ t. q b || t) (same_any p q same text)
 
 same_need : (b : ℕ) → calls_for_quotes b ≡ needs_byte default_writer b
 same_need b = here (b == 44) (b == 34) (b == 13) (b == 10)
@@ -30,5 +27,5 @@ same_bytes (b ∷ text) = here (b == 34) refl ∙ ap (λ l. if b == 34 then 34 �
 
 pub field_of_csv : (text : List ℕ) → quote text ≡ field_text default_writer text
 field_of_csv text =
-    ap (λ b. if b then 34 ∷ flat_map quoted_byte text ++ 34 ∷ [] else text) (same_any calls_for_quotes (needs_byte default_writer) same_need text)
+    ap (λ b. if b then 34 ∷ flat_map quoted_byte text ++ 34 ∷ [] else text) (any-same calls_for_quotes (needs_byte default_writer) text (λ k d h. same_need (get_or text k d)))
     ∙ ap (λ l. if list_any (needs_byte default_writer) text then 34 ∷ (l ++ 34 ∷ []) else text) (same_bytes text)

@@ -1,5 +1,5 @@
 -- The fields of a record of a label.
-use Rattle.std.proofs.Common.{◌≡◌, ℕ, zero, suc, ◌≤◌, ◌==◌, ◌&&◌, nat_le, Bool, true, false, if◌then◌else◌, ℤ, List, [], ◌∷◌, length, All, Option, Some, None, option_map, option_and_then, refl, sym, ◌∙◌, arith}
+use Rattle.std.proofs.Common.{◌≡◌, ◌↔◌, ℕ, zero, suc, ◌≤◌, ◌==◌, ◌&&◌, nat_le, Bool, true, false, if◌then◌else◌, ℤ, List, [], ◌∷◌, length, All, Option, Some, None, option_map, option_and_then, refl, arith}
 use Rattle.std.proofs.lemmas.Bool.{and_parts}
 use Rattle.std.proofs.lemmas.Bool.Decides.{nat_tests}
 use Rattle.pl_records.specs.Reading.{Record, field}
@@ -88,8 +88,5 @@ label_in-IsLabelRecord r l h =
     let n : is_name l.name ≡ true = h.right_name in
     rw (t, h.name, h.text, n, printable-bytes l.text h.printable, sid_in-decimal (field r 1) l.sid h.small h.sid, date_in-IsDate (field r 2) l.start h.start) refl
 
-pub no_record : (r : Record) → label_in r ≡ None → (l : LabelRow) → IsLabelRecord r l → ⊥
-no_record r e l h = let found : label_in r ≡ Some l = label_in-IsLabelRecord r l h in let bad : None ≡ Some l = sym e ∙ found in cc
-
-pub one_label : (r : Record) (x y : LabelRow) → IsLabelRecord r x → IsLabelRecord r y → x ≡ y
-one_label r x y h k = let same : Some x ≡ Some y = sym (label_in-IsLabelRecord r x h) ∙ label_in-IsLabelRecord r y k in cc
+pub label_form : (r : Record) (l : LabelRow) → (label_in r ≡ Some l) ↔ IsLabelRecord r l
+label_form r l = (IsLabelRecord-label_in r l, label_in-IsLabelRecord r l)

@@ -1,5 +1,5 @@
 -- The keys of rows of labels tell their names, columns and days.
-use Rattle.std.proofs.Common.{◌≡◌, ℕ, suc, ◌<◌, ◌^◌, ◌==◌, ◌&&◌, ◌||◌, nat_eq, cond, Bool, true, false, ℤ, List, [], ◌∷◌, ◌++◌, length, map, get_or, All, Some, None, FitsSigned, w32, refl, sym, ap, ◌∙◌, arith}
+use Rattle.std.proofs.Common.{◌≡◌, ℕ, ◌<◌, ◌^◌, ◌==◌, ◌&&◌, ◌||◌, nat_eq, cond, Bool, true, false, ℤ, List, [], ◌∷◌, ◌++◌, length, map, get_or, Some, None, FitsSigned, w32, refl, sym, ap, ◌∙◌, arith}
 use Rattle.std.specs.List.{list_any, position}
 use Rattle.std.specs.HashSet.{HashSet, contains}
 use Rattle.std.specs.Str.{bytes_eq}
@@ -15,13 +15,10 @@ use Rattle.pl_assets.specs.Labels.{is_from}
 use Rattle.pl_assets.specs.LabelPlaces.{AreKeys, AreNumbered, IsPlace, key, key_of, row_at, shown_rows}
 use Rattle.pl_assets.specs.declared.labels.rows.Place.{Place}
 use Rattle.pl_assets.specs.declared.labels.rows.LabelRows.{LabelRows}
+use Rattle.pl_assets.proofs.Filters.{any-same}
 use Rattle.pl_assets.proofs.TextLists.{any-map}
 use Rattle.pl_assets.proofs.FirstSeen.{Once, seen-once, one_place, same_text, equal_text}
 use Rattle.pl_assets.proofs.LabelOrder.{same_key}
-
-any-same : {A : Type 0} (p q : A → Bool) (xs : List A) → All (λ x. p x ≡ q x) xs → list_any p xs ≡ list_any q xs
-any-same p q [] all = refl
-any-same p q (x ∷ xs) all = ap (λ b. b || list_any p xs) (all 0 x (omega arith)) ∙ ap (λ b. q x || b) (any-same p q xs (λ k d h. all (suc k) d (omega arith)))
 
 both_false : (b c : Bool) → (b ≡ true → c ≡ true) → (c ≡ true → b ≡ true) → b ≡ c
 both_false true true f g = refl

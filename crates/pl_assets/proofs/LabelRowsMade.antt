@@ -118,20 +118,6 @@ few_names t h = let same : length t.names ≡ length (names_of (shown_rows t)) =
 pub few_texts : (t : LabelRows) → AreNumbered t → length t.texts ≤ length t.places.items
 few_texts t h = let same : length t.texts ≡ length (texts_of (shown_rows t)) = ap length h.texts in omega (arith, texts_count (shown_rows t), length-map t.places.items (row_at t.names t.texts))
 
--- ---- what is put back
-
-pub kept_rows : (old new : LabelRows) → new.names ≡ old.names → new.texts ≡ old.texts → new.places.items ≡ old.places.items → shown_rows new ≡ shown_rows old
-kept_rows old new n t e = rw (n, t, e) refl
-
-pub kept_numbers : (old new : LabelRows) → AreNumbered old → new.names ≡ old.names → new.texts ≡ old.texts → new.places.items ≡ old.places.items → AreNumbered new
-kept_numbers old new h n t e =
-    let rows : shown_rows new ≡ shown_rows old = kept_rows old new n t e in
-    record {
-      places = rw (n, t, e) h.places;
-      names = n ∙ h.names ∙ sym (ap names_of rows);
-      texts = t ∙ h.texts ∙ sym (ap texts_of rows);
-    }
-
 -- ---- where memory ran out
 
 pub front_kept : {X E : Type 0} (r : Result X E) (old new : LabelRows) (name text : List ℕ) → new.names ≡ with_text old.names name → new.texts ≡ with_label old.texts text

@@ -8,6 +8,7 @@ use Rattle.std.proofs.lemmas.List.{length-map, get_or-map, get_or_append_left, g
 use Rattle.std.proofs.lemmas.List.Elements.{All-filter, All-map}
 use Rattle.std.proofs.lemmas.List.Edits.{length-insert, get_or-insert_at, get_or-insert_below, get_or-insert_above}
 use Rattle.pl_spec.specs.Parts.{ColumnLabel}
+use Rattle.pl_assets.specs.declared.TheConstants.{MOST_LABELS, LONGEST_LABEL}
 use Rattle.pl_assets.specs.Labels.{AreLabels, IsLabelRow, LabelTable, MayFollow, is_from, is_printable, is_text, texts_of, with_label}
 use Rattle.pl_assets.specs.LabelPlaces.{AreNumbered, IsOrder, IsTable, KeyPoint, OwnKeys, key_at, key_of, row_at, shown_rows, table_in}
 use Rattle.pl_assets.specs.declared.labels.rows.Place.{Place}
@@ -154,7 +155,7 @@ no_table t order n x e o =
       found = rw o (order_none t.places.items e);
     }
 
-pub kept_table : (t : LabelRows) (order : List ℕ) → AreNumbered t → All IsLabelRow (shown_rows t) → Once (shown_rows t) → length (shown_rows t) ≤ 200_000 → IsOrder t.places.items (length t.places.items) order → IsTable t order
+pub kept_table : (t : LabelRows) (order : List ℕ) → AreNumbered t → All IsLabelRow (shown_rows t) → Once (shown_rows t) → length (shown_rows t) ≤ MOST_LABELS → IsOrder t.places.items (length t.places.items) order → IsTable t order
 kept_table t order numbered right once few sorted =
     record { numbered = numbered; labels = record { rows = right; once = once; few = few; texts = numbered.texts }; found = sorted }
 
@@ -163,7 +164,7 @@ labels_more old new r h numbered may e =
     record {
       rows = rw e (right-more (shown_rows old) r h.rows may.row);
       once = rw e (once-more (shown_rows old) r h.once may.own_start);
-      few = rw e (let room : length (shown_rows old) < 200_000 = may.room in omega (arith, length-append (shown_rows old) (r ∷ [])));
+      few = rw e (let room : length (shown_rows old) < MOST_LABELS = may.room in omega (arith, length-append (shown_rows old) (r ∷ [])));
       texts = numbered.texts;
     }
 
@@ -177,10 +178,10 @@ texts_behind old new r h g e = g.texts ∙ ap texts_of e ∙ texts_more (shown_r
 
 -- ---- the texts of labels
 
-pub right_texts : (t : LabelTable) → AreLabels t → All (λ x. IsTrue (is_printable x) × (length x ≤ 64)) t.texts
+pub right_texts : (t : LabelTable) → AreLabels t → All (λ x. IsTrue (is_printable x) × (length x ≤ LONGEST_LABEL)) t.texts
 right_texts t h =
     rw h.texts (seen-all IsText _ (All-filter is_text IsText (map (λ (r : ColumnLabel). r.text) t.rows) (All-map IsText (λ (r : ColumnLabel). r.text) t.rows
     (λ k d l. let row = h.rows k d l in (row.printable, row.short)))))
   where
     IsText : List ℕ → Type 0
-    IsText x = IsTrue (is_printable x) × (length x ≤ 64)
+    IsText x = IsTrue (is_printable x) × (length x ≤ LONGEST_LABEL)

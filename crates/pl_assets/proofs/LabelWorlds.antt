@@ -1,32 +1,17 @@
 -- The labels of a table in the world that is made of it.
-use Rattle.std.proofs.Common.{◌≡◌, ℕ, suc, ◌<◌, ◌==◌, ◌&&◌, Bool, true, false, cond, ℤ, pos, List, [], ◌∷◌, length, get_or, map, filter, find, All, Option, Some, None, option_map, option_and_then, unwrap_or, bytes_eq, refl, sym, ◌∙◌, ap, arith, inl, inr}
+use Rattle.std.proofs.Common.{◌≡◌, ℕ, ◌<◌, ◌&&◌, Bool, true, false, cond, ℤ, List, [], ◌∷◌, length, get_or, map, filter, find, All, Option, Some, None, option_map, option_and_then, bytes_eq, refl, sym, ◌∙◌, ap}
 use Rattle.std.specs.List.{AllPairs, list_all}
 use Rattle.std.specs.Int.RustNames.{int_le}
-use Rattle.std.proofs.lemmas.Bool.{cases_lt}
-use Rattle.std.proofs.lemmas.Bool.Decides.{nat_tests}
 use Rattle.std.proofs.lemmas.List.Folds.{list_all-map}
-use Rattle.std.proofs.lemmas.Option.{slice_get-get_or}
 use Rattle.pl_spec.specs.World.{LabelRow, day_of, is_label_of, last_started, nonempty}
 use Rattle.pl_spec.specs.Parts.{ColumnLabel, label_of, sid_at, world_of}
 use Rattle.pl_spec.specs.declared.AssetRow.{AssetRow}
 use Rattle.pl_assets.specs.Labels.{by_column, label_on}
 use Rattle.pl_assets.specs.LabelWorlds.{LabelsAreThose}
 use Rattle.pl_assets.proofs.Columns.{same_col}
+use Rattle.pl_assets.proofs.Filters.{filter-map, filter-same}
 
 -- ---- look-ups in a list that is read through a function
-
-filter-mapped : {A B : Type 0} (p : B → Bool) (f : A → B) (xs : List A) → filter p (map f xs) ≡ map f (filter (λ x. p (f x)) xs)
-filter-mapped p f [] = refl
-filter-mapped {A} {B} p f (x ∷ xs) = ap (λ l. cond (p (f x)) (f x ∷ l) l) (filter-mapped p f xs) ∙ here (p (f x))
-  where
-    here : (b : Bool) → cond b (f x ∷ map f (filter (λ x. p (f x)) xs)) (map f (filter (λ x. p (f x)) xs)) ≡ map f (cond b (x ∷ filter (λ x. p (f x)) xs) (filter (λ x. p (f x)) xs))
-    here true = refl
-    here false = refl
-
-filter-same : {A : Type 0} (p q : A → Bool) (xs : List A) → All (λ x. p x ≡ q x) xs → filter p xs ≡ filter q xs
-filter-same p q [] same = refl
-filter-same p q (x ∷ xs) same =
-    ap (λ b. cond b (x ∷ filter p xs) (filter p xs)) (same 0 x (omega arith)) ∙ ap (λ l. cond (q x) (x ∷ l) l) (filter-same p q xs (λ k d h. same (suc k) d (omega arith)))
 
 find-mapped : {A B : Type 0} (p : B → Bool) (f : A → B) (xs : List A) → find p (map f xs) ≡ option_map f (find (λ x. p (f x)) xs)
 find-mapped p f [] = refl
@@ -62,7 +47,7 @@ text-mapped f same (Some r) = ap nonempty (same r)
 label-mapped : (f : ColumnLabel → LabelRow) → ((r : ColumnLabel) → (f r).start ≡ r.start) → ((r : ColumnLabel) → (f r).text ≡ r.text) → (test : LabelRow → Bool) (rows : List ColumnLabel)
     → option_and_then (λ r. nonempty r.text) (last_started (filter test (map f rows))) ≡ option_and_then (λ r. nonempty r.text) (last_row (filter (λ r. test (f r)) rows))
 label-mapped f starts texts test rows =
-    ap (λ l. option_and_then (λ r. nonempty r.text) (last_started l)) (filter-mapped test f rows)
+    ap (λ l. option_and_then (λ r. nonempty r.text) (last_started l)) (filter-map test f rows)
     ∙ ap (option_and_then (λ r. nonempty r.text)) (last-mapped f starts (filter (λ r. test (f r)) rows))
     ∙ text-mapped f texts (last_row (filter (λ r. test (f r)) rows))
 

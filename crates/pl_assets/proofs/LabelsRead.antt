@@ -1,62 +1,53 @@
 -- Labels that are read: what each test tells, and what is kept of all rows.
-use Rattle.std.proofs.Common.{◌≡◌, ℕ, zero, suc, ◌==◌, ◌<◌, ◌≤◌, nat_le, nat_lt, Bool, true, false, List, [], ◌∷◌, ◌++◌, length, get_or, length-append, All, Some, Result, Ok, Err, refl, sym, subst, ap, ◌∙◌, pos, position, arith}
+use Rattle.std.proofs.Common.{◌≡◌, ℕ, zero, suc, ◌==◌, ◌<◌, ◌≤◌, nat_le, nat_lt, Bool, true, false, List, [], ◌∷◌, ◌++◌, length, get_or, length-append, All, Some, option_map, Ok, refl, sym, subst, ap, ◌∙◌, pos, position, arith}
 use Rattle.std.specs.List.{list_any, AllPairs}
 use Rattle.std.specs.Option.{ok_or}
-use Rattle.std.specs.Bool.{if◌then◌else◌}
 use Rattle.std.proofs.lemmas.Bool.Decides.{nat_tests}
 use Rattle.std.proofs.lemmas.List.Quantifiers.{position-Some, all_pairs_push}
 use Rattle.std.proofs.lemmas.List.Elements.{All-append}
 use Rattle.std.proofs.lemmas.List.Folds.{list_any_at}
-use Rattle.pl_records.specs.Reading.{Record, ◌>>=◌}
+use Rattle.pl_records.specs.Reading.{Record}
 use Rattle.pl_spec.specs.Parts.{ColumnLabel}
 use Rattle.pl_spec.specs.World.{LabelRow}
 use Rattle.pl_spec.specs.declared.AssetRow.{AssetRow}
-use Rattle.pl_records.proofs.Readings.{guard_ok, some_ok, rows-keep, under_ok}
+use Rattle.pl_records.proofs.Readings.{rows-keep, under_ok}
+use Rattle.pl_records.proofs.RuleTables.{and_then_some, map_some, told_ok, ok_or-Ok}
 use Rattle.pl_assets.specs.Assets.{sid_of}
-use Rattle.pl_assets.specs.Labels.{Rule, header, label_in, is_from, is_printable, says_label, label_rows_in, labels_of, table_of, texts_of, LabelTable, IsLabelRow, AreLabels}
+use Rattle.pl_assets.specs.Labels.{Rule, breaks, col_in, in_column, row_of, header, label_in, is_from, is_printable, says_label, label_rows_in, labels_of, table_of, texts_of, LabelTable, IsLabelRow, AreLabels}
 use Rattle.pl_assets.specs.Labels as rules
+use Rattle.pl_assets.specs.declared.TheConstants.{MOST_LABELS, LONGEST_LABEL}
 use Rattle.pl_assets.proofs.LabelFields.{IsLabelRecord-label_in, printable-bytes}
 use Rattle.pl_assets.proofs.LabelKeys.{from_parts, parts_from}
 
 -- ---- what the tests were where a record says its row
 
-abbrev pub row_in : LabelRow → ℕ → ColumnLabel
-row_in l col = record { name = l.name; col = col; start = l.start; text = l.text }
-
 pub record Says (assets : List AssetRow) (before : List ColumnLabel) (r : Record) (row : ColumnLabel) : Type 0 where
-  pub few : nat_le 200000 (length before) ≡ false
+  pub few : nat_le MOST_LABELS (length before) ≡ false
   pub label : LabelRow
   pub written : label_in r ≡ Some label
-  pub short : nat_lt 64 (length label.text) ≡ false
+  pub short : nat_lt LONGEST_LABEL (length label.text) ≡ false
   pub col : position (λ a. sid_of a == label.sid) assets ≡ Some row.col
   pub own : list_any (is_from label.name row.col label.start) before ≡ false
-  pub same : row_in label row.col ≡ row
-
-abbrev pub after_col : List ColumnLabel → LabelRow → ℕ → Result ColumnLabel Rule
-after_col before l col = if list_any (is_from l.name col l.start) before then Err rules.DuplicateStart else Ok (row_in l col)
-
-abbrev pub after_text : List AssetRow → List ColumnLabel → LabelRow → Result ColumnLabel Rule
-after_text assets before l = ok_or (position (λ a. sid_of a == l.sid) assets) rules.UnknownSid >>= λ col. after_col before l col
-
-abbrev pub after_fields : List AssetRow → List ColumnLabel → LabelRow → Result ColumnLabel Rule
-after_fields assets before l = if nat_lt 64 (length l.text) then Err rules.LabelTooLong else after_text assets before l
+  pub same : in_column label row.col ≡ row
 
 pub says_label-ok : (assets : List AssetRow) (before : List ColumnLabel) (r : Record) (row : ColumnLabel) → says_label assets before r ≡ Ok row → Says assets before r row
 unfolding says_label
 says_label-ok assets before r row e =
-    let f = guard_ok (nat_le 200000 (length before)) rules.TooMany (ok_or (label_in r) rules.BadField >>= λ l. after_fields assets before l) row e in
-    let g = some_ok (label_in r) rules.BadField (λ l. after_fields assets before l) row f.1 in
-    let h = guard_ok (nat_lt 64 (length g.0.text)) rules.LabelTooLong (after_text assets before g.0) row g.2 in
-    let i = some_ok (position (λ a. sid_of a == g.0.sid) assets) rules.UnknownSid (λ col. after_col before g.0 col) row h.1 in
-    let j = guard_ok (list_any (is_from g.0.name i.0 g.0.start) before) rules.DuplicateStart (Ok (row_in g.0 i.0)) row i.2 in
-    told g.0 i.0 f.0 g.1 h.0 i.1 j.0 j.1
-  where
-    told : (l : LabelRow) (col : ℕ) → nat_le 200000 (length before) ≡ false → label_in r ≡ Some l → nat_lt 64 (length l.text) ≡ false
-        → position (λ a. sid_of a == l.sid) assets ≡ Some col → list_any (is_from l.name col l.start) before ≡ false
-        → (let x : Result ColumnLabel Rule = Ok (row_in l col) in x) ≡ Ok row → Says assets before r row
-    told l col few w s c o e =
-        let same : row_in l col ≡ row = cc in
-        subst (Says assets before r) same record { few = few; label = l; written = w; short = s; col = c; own = o; same = refl }
+    let k = told_ok rules.rules (breaks assets before r) (ok_or (row_of assets r) rules.BadField) row e in
+    let at : row_of assets r ≡ Some row = ok_or-Ok (row_of assets r) rules.BadField row k.1 in
+    let l = and_then_some (label_in r) (λ l. option_map (in_column l) (col_in assets l)) row at in
+    let c = map_some (col_in assets l.0) (in_column l.0) row l.2 in
+    let in_col : c.0 ≡ row.col = ap (λ (x : ColumnLabel). x.col) c.2 in
+    let own : list_any (is_from row.name row.col row.start) before ≡ false = rw at at k.0.1.1.1.1.0 in
+    record {
+      few = k.0.0;
+      label = l.0;
+      written = l.1;
+      short = rw l.1 at k.0.1.1.0;
+      col = c.1 ∙ ap (λ x. Some x) in_col;
+      own = ap (λ (x : ColumnLabel). list_any (is_from x.name row.col x.start) before) c.2 ∙ own;
+      same = ap (in_column l.0) (sym in_col) ∙ c.2;
+    }
 
 -- ---- what is kept of all rows
 
@@ -64,7 +55,7 @@ says_label-ok assets before r row e =
 pub record AreRead (assets : List AssetRow) (rows : List ColumnLabel) : Type 0 where
   pub right : All IsLabelRow rows
   pub once : AllPairs (λ r q. is_from r.name r.col r.start q ≡ false) rows
-  pub few : length rows ≤ 200_000
+  pub few : length rows ≤ MOST_LABELS
   pub cols : All (λ r. r.col < length assets) rows
 
 one_row : (P : ColumnLabel → Type 0) (r : ColumnLabel) → P r → All P (r ∷ [])
@@ -99,8 +90,8 @@ read-more assets before r row h s =
     let ok = says_label-ok assets before r row s in
     let w = IsLabelRecord-label_in r ok.label ok.written in
     let at = position-Some (λ a. sid_of a == ok.label.sid) assets row.col blank ok.col in
-    let room : length before < 200000 = room_left (length before) ok.few in
-    let right : IsLabelRow (row_in ok.label row.col) = record { name = w.right_name; printable = printable-bytes ok.label.text w.printable; short = fits (length ok.label.text) ok.short } in
+    let room : length before < MOST_LABELS = room_left (length before) ok.few in
+    let right : IsLabelRow (in_column ok.label row.col) = record { name = w.right_name; printable = printable-bytes ok.label.text w.printable; short = fits (length ok.label.text) ok.short } in
     record {
       right = right-more before row h.right (subst IsLabelRow ok.same right);
       once = once-more before row h.once (ap (λ (x : ColumnLabel). list_any (is_from x.name row.col x.start) before) (sym ok.same) ∙ ok.own);
@@ -108,10 +99,10 @@ read-more assets before r row h s =
       cols = All-append (λ (x : ColumnLabel). x.col < length assets) before (row ∷ []) h.cols (one_row (λ x. x.col < length assets) row at.0);
     }
   where
-    room_left : (n : ℕ) → nat_le 200000 n ≡ false → n < 200000
+    room_left : (n : ℕ) → nat_le MOST_LABELS n ≡ false → n < MOST_LABELS
     room_left n t = grind (arith, nat_tests)
 
-    fits : (n : ℕ) → nat_lt 64 n ≡ false → n ≤ 64
+    fits : (n : ℕ) → nat_lt LONGEST_LABEL n ≡ false → n ≤ LONGEST_LABEL
     fits n t = grind (arith, nat_tests)
 
 read-none : (assets : List AssetRow) → AreRead assets []

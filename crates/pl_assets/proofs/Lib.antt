@@ -1,3 +1,4 @@
+pub mod Filters
 pub mod Columns
 pub mod AssetsRead
 pub mod AssetsSaid
@@ -12,4 +13,5 @@ pub mod LabelTables
 pub mod LabelSearch
 pub mod LabelWorlds
 pub mod LabelsSaid
+pub mod SidColumns
 pub mod CsvFields

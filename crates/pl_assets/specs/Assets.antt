@@ -1,15 +1,17 @@
 -- The assets of the records of an assets file, and the first rule that a record breaks.
-use Rattle.std.specs.Prelude.{ℕ, ◌==◌, ◌<◌, ◌≤◌, ◌^◌, nat_le, if◌then◌else◌, codes, List, [], ◌∷◌, length, All, AllPairs, Option, None, option_map, option_and_then, Result, Ok, Err}
+use Rattle.std.specs.Prelude.{ℕ, ◌==◌, ◌<◌, ◌≤◌, ◌^◌, nat_le, Bool, false, if◌then◌else◌, codes, List, [], ◌∷◌, length, All, AllPairs, Option, None, option_map, option_and_then, Result, Ok}
 use Rattle.std.specs.List.{list_any}
 use Rattle.std.specs.Int.RustNames.{int_lt}
 use Rattle.std.specs.Option.{ok_or}
 use Rattle.pl_records.specs.Reading.{Record, Fault, field, ◌>>=◌, rows_under}
+use Rattle.pl_records.specs.RuleTable.{first_broken, lacks, has}
 use Rattle.pl_records.specs.Sorted.{sorted_by}
 use Rattle.pl_spec.specs.Dates.{date_in}
 use Rattle.pl_spec.specs.Decimals.{sid_in}
 use Rattle.pl_spec.specs.declared.AssetRow.{AssetRow}
+use Rattle.pl_assets.specs.declared.TheConstants.{MOST_ASSETS}
 
--- in the order in which they are tested
+-- what may be wrong with a file
 pub data Rule : Type 0 where
   BadHeader TooMany BadField StartAfterEnd DuplicateSid : Rule
 
@@ -27,14 +29,20 @@ asset_in r =
 abbrev pub sid_of : AssetRow → ℕ
 sid_of a = a.sid
 
+-- the rules of a record behind the header, in the order in which they are tested, and their tests
+abbrev pub rules : List Rule
+rules = TooMany ∷ BadField ∷ StartAfterEnd ∷ DuplicateSid ∷ []
+
+abbrev pub breaks : List AssetRow → Record → Rule → Bool
+breaks before r BadHeader = false
+breaks before r TooMany = nat_le MOST_ASSETS (length before)
+breaks before r BadField = lacks (asset_in r)
+breaks before r StartAfterEnd = has (λ a. int_lt a.end a.start) (asset_in r)
+breaks before r DuplicateSid = has (λ a. list_any (λ x. sid_of x == a.sid) before) (asset_in r)
+
 -- the asset of a record behind the assets before it, or the first rule that it breaks
 unfoldable pub says_asset : List AssetRow → Record → Result AssetRow Rule
-says_asset before r =
-    if nat_le 8000 (length before) then Err TooMany
-    else ok_or (asset_in r) BadField >>= λ a.
-    if int_lt a.end a.start then Err StartAfterEnd
-    else if list_any (λ x. sid_of x == a.sid) before then Err DuplicateSid
-    else Ok a
+says_asset before r = first_broken rules (breaks before r) (ok_or (asset_in r) BadField)
 
 -- the assets of a file in its order, or its first fault
 unfoldable pub rows_in : List Record → Result (List AssetRow) (Fault Rule)
@@ -47,5 +55,5 @@ assets_of records = rows_in records >>= λ rows. Ok (sorted_by sid_of rows)
 -- assets as they are kept
 pub record AreAssets (rows : List AssetRow) : Type 0 where
   pub ascend : AllPairs (λ a b. a.sid < b.sid) rows
-  pub few : length rows ≤ 8_000
+  pub few : length rows ≤ MOST_ASSETS
   pub small : All (λ a. a.sid < 2 ^ 32) rows

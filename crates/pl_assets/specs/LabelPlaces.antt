@@ -1,4 +1,5 @@
--- Rows of labels as they are kept: numbers for their names, codes for their texts, and an order in which they are found.
+-- Rows of labels as they are kept: numbers for their names, codes for their texts, and an order in which they
+-- are found.
 use Rattle.std.specs.Prelude.{◌≡◌, ◌≢◌, ℕ, zero, suc, ◌+◌, ◌*◌, ◌^◌, ◌==◌, ◌<◌, nat_eq, nat_le, true, false, ℤ, pos, ◌+ℤ◌, ◌≤ℤ◌, List, [], ◌∷◌, ◌++◌, length, map, take, slice_get, slice_index_or, All, AllPairs, Contains, Option, Some, None, IfSome, option_map, unwrap_or, FitsSigned}
 use Rattle.std.specs.Int.{w32}
 use Rattle.std.specs.Int.RustNames.{unsigned_abs}

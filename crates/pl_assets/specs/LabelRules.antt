@@ -1,17 +1,19 @@
 -- The rules of a labels file in plain words.
 use Rattle.std.specs.Prelude.{◌≡◌, ℕ, ◌^◌, ◌<◌, ◌≤◌, IsTrue, List, length, Some, option_map, slice_get, All, Any}
 use Rattle.std.specs.Fmt.{decimal}
-use Rattle.pl_records.specs.Reading.{Record, Fault, field, AreRowsUnder, BreaksFirst, IsFaultUnder}
+use Rattle.pl_records.specs.Reading.{Record, Fault, field, AreRowsUnder, IsFaultUnder}
+use Rattle.pl_records.specs.RuleTable.{IsFirstBroken, KeepsAll}
 use Rattle.pl_spec.specs.Dates.{IsDate}
 use Rattle.pl_spec.specs.Names.{is_name}
 use Rattle.pl_spec.specs.Parts.{ColumnLabel}
 use Rattle.pl_spec.specs.World.{LabelRow}
 use Rattle.pl_spec.specs.declared.AssetRow.{AssetRow}
 use Rattle.pl_assets.specs.Assets.{sid_of}
-use Rattle.pl_assets.specs.Labels.{Rule, BadHeader, TooMany, BadField, LabelTooLong, UnknownSid, DuplicateStart, LabelTable, header, texts_of}
+use Rattle.pl_assets.specs.Labels.{Rule, BadHeader, TooMany, BadField, LabelTooLong, UnknownSid, DuplicateStart, LabelTable, rules, header, texts_of}
+use Rattle.pl_assets.specs.declared.TheConstants.{MOST_LABELS, LONGEST_LABEL}
 
--- the record is the name, the sid, without sign and zeros in front, the date of the start and the text of the label, which
--- has no bytes but the printable ones of ASCII
+-- the record is the name, the sid, without sign and zeros in front, the date of the start and the text of the
+-- label, which has no bytes but the printable ones of ASCII
 pub record IsLabelRecord (r : Record) (l : LabelRow) : Type 0 where
   pub four : length r ≡ 4
   pub name : field r 0 ≡ l.name
@@ -33,32 +35,29 @@ pub record IsInColumn (l : LabelRow) (col : ℕ) (row : ColumnLabel) : Type 0 wh
   pub start : row.start ≡ l.start
   pub text : row.text ≡ l.text
 
--- the record is the next row
-pub record IsLabel (assets : List AssetRow) (before : List ColumnLabel) (r : Record) (row : ColumnLabel) : Type 0 where
-  pub room : length before < 200_000
+-- the record is the label of the row, which is in the column of its asset
+pub record IsRowRecord (assets : List AssetRow) (r : Record) (row : ColumnLabel) : Type 0 where
   pub label : LabelRow
   pub written : IsLabelRecord r label
-  pub short : length label.text ≤ 64
   pub asset : HasSid assets row.col label.sid
   pub same : IsInColumn label row.col row
-  pub own_start : All (λ x. ¬ ((x.name ≡ row.name) × (x.col ≡ row.col) × (x.start ≡ row.start))) before
+
+-- the rows are labels of one name and one column, from one day on
+abbrev pub StartWith : ColumnLabel → ColumnLabel → Type 0
+StartWith row x = (x.name ≡ row.name) × (x.col ≡ row.col) × (x.start ≡ row.start)
 
 -- what it is to break each rule
 abbrev pub Breaks : List AssetRow → List ColumnLabel → Record → Rule → Type 0
 Breaks assets before r BadHeader = ⊥
-Breaks assets before r TooMany = 200_000 ≤ length before
+Breaks assets before r TooMany = MOST_LABELS ≤ length before
 Breaks assets before r BadField = (l : LabelRow) → ¬ IsLabelRecord r l
-Breaks assets before r LabelTooLong = (l : LabelRow) × IsLabelRecord r l × (64 < length l.text)
+Breaks assets before r LabelTooLong = (l : LabelRow) × IsLabelRecord r l × (LONGEST_LABEL < length l.text)
 Breaks assets before r UnknownSid = (l : LabelRow) × IsLabelRecord r l × ((col : ℕ) → ¬ HasSid assets col l.sid)
-Breaks assets before r DuplicateStart = (l : LabelRow) × IsLabelRecord r l × Any (λ x. (x.name ≡ l.name) × HasSid assets x.col l.sid × (x.start ≡ l.start)) before
+Breaks assets before r DuplicateStart = (row : ColumnLabel) × IsRowRecord assets r row × Any (StartWith row) before
 
-abbrev pub order : Rule → ℕ
-order BadHeader = 0
-order TooMany = 1
-order BadField = 2
-order LabelTooLong = 3
-order UnknownSid = 4
-order DuplicateStart = 5
+-- the record is the next row
+abbrev pub IsLabel : List AssetRow → List ColumnLabel → Record → ColumnLabel → Type 0
+IsLabel assets before r row = IsRowRecord assets r row × KeepsAll rules (Breaks assets before r)
 
 -- the rows of the records behind the header, and their texts
 pub record AreLabelsOf (assets : List AssetRow) (records : List Record) (table : LabelTable) : Type 0 where
@@ -68,4 +67,4 @@ pub record AreLabelsOf (assets : List AssetRow) (records : List Record) (table :
 -- no header, or the first faulty record
 abbrev pub IsLabelsFault : List AssetRow → List Record → Fault Rule → Type 0
 IsLabelsFault assets records fault =
-    IsFaultUnder header BadHeader (IsLabel assets) (λ before r. BreaksFirst order (Breaks assets before r)) records fault
+    IsFaultUnder header BadHeader (IsLabel assets) (λ before r. IsFirstBroken rules (Breaks assets before r)) records fault

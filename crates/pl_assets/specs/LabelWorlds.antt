@@ -8,7 +8,8 @@ use Rattle.pl_assets.specs.Labels.{label_on}
 
 -- where the sids ascend and the rows are in columns of assets
 abbrev pub LabelsAreThose : Type 0
-LabelsAreThose = (days : List ℤ) (assets : List AssetRow) (rows : List ColumnLabel) (texts : List (List ℕ)) (bars : List BarRow) (adjustments : List ColumnAdjustment)
+LabelsAreThose = (days : List ℤ) (assets : List AssetRow) (rows : List ColumnLabel) (texts : List (List ℕ))
+    (bars : List BarRow) (adjustments : List ColumnAdjustment)
     → AllPairs (λ a b. a.sid < b.sid) assets → All (λ r. r.col < length assets) rows
     → (name : List ℕ) (col : ℕ) (d : ℤ) → col < length assets
     → label_at (world_of days assets rows texts bars adjustments) name (sid_at assets col) d

@@ -1,10 +1,11 @@
--- Labels by column, with the list of their texts: those of the records of a labels file, and the first rule that a record
--- breaks.
-use Rattle.std.specs.Prelude.{◌≡◌, ℕ, ◌==◌, ◌<◌, ◌≤◌, ◌&&◌, not, nat_le, nat_lt, Bool, false, if◌then◌else◌, IsTrue, ℤ, codes, List, [], ◌∷◌, ◌++◌, length, map, filter, position, bytes_eq, All, AllPairs, Option, None, option_map, option_and_then, Result, Ok, Err}
+-- Labels by column, with the list of their texts: those of the records of a labels file, and the first rule
+-- that a record breaks.
+use Rattle.std.specs.Prelude.{◌≡◌, ℕ, ◌==◌, ◌<◌, ◌≤◌, ◌&&◌, not, nat_le, nat_lt, Bool, false, if◌then◌else◌, IsTrue, ℤ, codes, List, [], ◌∷◌, ◌++◌, length, map, filter, position, bytes_eq, All, AllPairs, Option, None, option_map, option_and_then, Result, Ok}
 use Rattle.std.specs.List.{list_any, list_all, position_or_len}
 use Rattle.std.specs.Option.{ok_or}
 use Rattle.std.specs.Ordering.{int_eq}
 use Rattle.pl_records.specs.Reading.{Record, Fault, field, ◌>>=◌, rows_under}
+use Rattle.pl_records.specs.RuleTable.{first_broken, lacks, has}
 use Rattle.pl_spec.specs.Dates.{date_in}
 use Rattle.pl_spec.specs.Decimals.{sid_in}
 use Rattle.pl_spec.specs.Names.{is_name}
@@ -12,6 +13,7 @@ use Rattle.pl_spec.specs.Parts.{ColumnLabel}
 use Rattle.pl_spec.specs.World.{LabelRow, last_started, nonempty, is_label_of}
 use Rattle.pl_spec.specs.declared.AssetRow.{AssetRow}
 use Rattle.pl_assets.specs.Assets.{sid_of}
+use Rattle.pl_assets.specs.declared.TheConstants.{MOST_LABELS, LONGEST_LABEL}
 
 -- the rows of labels, and the distinct texts in them: a text's place in that list, from 0, is its code
 pub record LabelTable : Type 0 where
@@ -63,7 +65,7 @@ label_on rows name col day =
 
 -- ---- the records of a file
 
--- in the order in which they are tested
+-- what may be wrong with a file
 pub data Rule : Type 0 where
   BadHeader TooMany BadField LabelTooLong UnknownSid DuplicateStart : Rule
 
@@ -86,15 +88,33 @@ label_in r =
 abbrev pub is_from : List ℕ → ℕ → ℤ → ColumnLabel → Bool
 is_from name col start r = bytes_eq r.name name && (r.col == col && int_eq r.start start)
 
+-- the column of the asset of a label
+abbrev pub col_in : List AssetRow → LabelRow → Option ℕ
+col_in assets l = position (λ a. sid_of a == l.sid) assets
+
+-- the label in a column
+abbrev pub in_column : LabelRow → ℕ → ColumnLabel
+in_column l col = record { name = l.name; col = col; start = l.start; text = l.text }
+
+-- the row of a record of a label of an asset
+abbrev pub row_of : List AssetRow → Record → Option ColumnLabel
+row_of assets r = option_and_then (λ l. option_map (in_column l) (col_in assets l)) (label_in r)
+
+-- the rules of a record behind the header, in the order in which they are tested, and their tests
+abbrev pub rules : List Rule
+rules = TooMany ∷ BadField ∷ LabelTooLong ∷ UnknownSid ∷ DuplicateStart ∷ []
+
+abbrev pub breaks : List AssetRow → List ColumnLabel → Record → Rule → Bool
+breaks assets before r BadHeader = false
+breaks assets before r TooMany = nat_le MOST_LABELS (length before)
+breaks assets before r BadField = lacks (label_in r)
+breaks assets before r LabelTooLong = has (λ l. nat_lt LONGEST_LABEL (length l.text)) (label_in r)
+breaks assets before r UnknownSid = has (λ l. lacks (col_in assets l)) (label_in r)
+breaks assets before r DuplicateStart = has (λ row. list_any (is_from row.name row.col row.start) before) (row_of assets r)
+
 -- the row of a record behind the rows before it, or the first rule that it breaks
 unfoldable pub says_label : List AssetRow → List ColumnLabel → Record → Result ColumnLabel Rule
-says_label assets before r =
-    if nat_le 200000 (length before) then Err TooMany
-    else ok_or (label_in r) BadField >>= λ l.
-    if nat_lt 64 (length l.text) then Err LabelTooLong
-    else ok_or (position (λ a. sid_of a == l.sid) assets) UnknownSid >>= λ col.
-    if list_any (is_from l.name col l.start) before then Err DuplicateStart
-    else Ok (record { name = l.name; col = col; start = l.start; text = l.text })
+says_label assets before r = first_broken rules (breaks assets before r) (ok_or (row_of assets r) BadField)
 
 -- the rows of a file in its order, or its first fault
 unfoldable pub label_rows_in : List AssetRow → List Record → Result (List ColumnLabel) (Fault Rule)
@@ -110,12 +130,12 @@ labels_of assets records = label_rows_in assets records >>= λ rows. Ok (table_o
 pub record IsLabelRow (r : ColumnLabel) : Type 0 where
   pub name : IsTrue (is_name r.name)
   pub printable : IsTrue (is_printable r.text)
-  pub short : length r.text ≤ 64
+  pub short : length r.text ≤ LONGEST_LABEL
 
 pub record AreLabels (t : LabelTable) : Type 0 where
   pub rows : All IsLabelRow t.rows
   pub once : AllPairs (λ r q. is_from r.name r.col r.start q ≡ false) t.rows
-  pub few : length t.rows ≤ 200_000
+  pub few : length t.rows ≤ MOST_LABELS
   pub texts : t.texts ≡ texts_of t.rows
 
 -- the row of a label of the asset that has the sid
@@ -126,4 +146,4 @@ label_row assets name sid start text = record { name = name; col = position_or_l
 pub record MayFollow (rows : List ColumnLabel) (r : ColumnLabel) : Type 0 where
   pub row : IsLabelRow r
   pub own_start : list_any (is_from r.name r.col r.start) rows ≡ false
-  pub room : length rows < 200_000
+  pub room : length rows < MOST_LABELS

@@ -1,10 +1,12 @@
 -- The rules of an assets file in plain words.
-use Rattle.std.specs.Prelude.{◌≡◌, ◌≢◌, ℕ, ◌^◌, ◌<◌, ◌≤◌, ◌<ℤ◌, ◌≤ℤ◌, List, length, All, Any, AllPairs, IsPermutation}
+use Rattle.std.specs.Prelude.{◌≡◌, ◌^◌, ◌<◌, ◌≤◌, ◌<ℤ◌, List, length, Any, AllPairs, IsPermutation}
 use Rattle.std.specs.Fmt.{decimal}
-use Rattle.pl_records.specs.Reading.{Record, Fault, field, AreRowsUnder, BreaksFirst, IsFaultUnder}
+use Rattle.pl_records.specs.Reading.{Record, Fault, field, AreRowsUnder, IsFaultUnder}
+use Rattle.pl_records.specs.RuleTable.{IsFirstBroken, KeepsAll}
 use Rattle.pl_spec.specs.Dates.{IsDate}
 use Rattle.pl_spec.specs.declared.AssetRow.{AssetRow}
-use Rattle.pl_assets.specs.Assets.{Rule, BadHeader, TooMany, BadField, StartAfterEnd, DuplicateSid, header}
+use Rattle.pl_assets.specs.Assets.{Rule, BadHeader, TooMany, BadField, StartAfterEnd, DuplicateSid, rules, header}
+use Rattle.pl_assets.specs.declared.TheConstants.{MOST_ASSETS}
 
 -- the record is the sid of the asset, without sign and zeros in front, and its two days
 pub record IsAssetRecord (r : Record) (a : AssetRow) : Type 0 where
@@ -14,27 +16,17 @@ pub record IsAssetRecord (r : Record) (a : AssetRow) : Type 0 where
   pub start : IsDate (field r 1) a.start
   pub end : IsDate (field r 2) a.end
 
--- the record is the next asset
-pub record IsAsset (before : List AssetRow) (r : Record) (a : AssetRow) : Type 0 where
-  pub room : length before < 8_000
-  pub written : IsAssetRecord r a
-  pub in_order : a.start ≤ℤ a.end
-  pub own_sid : All (λ b. b.sid ≢ a.sid) before
-
 -- what it is to break each rule
 abbrev pub Breaks : List AssetRow → Record → Rule → Type 0
 Breaks before r BadHeader = ⊥
-Breaks before r TooMany = 8_000 ≤ length before
+Breaks before r TooMany = MOST_ASSETS ≤ length before
 Breaks before r BadField = (a : AssetRow) → ¬ IsAssetRecord r a
 Breaks before r StartAfterEnd = (a : AssetRow) × IsAssetRecord r a × (a.end <ℤ a.start)
 Breaks before r DuplicateSid = (a : AssetRow) × IsAssetRecord r a × Any (λ b. b.sid ≡ a.sid) before
 
-abbrev pub order : Rule → ℕ
-order BadHeader = 0
-order TooMany = 1
-order BadField = 2
-order StartAfterEnd = 3
-order DuplicateSid = 4
+-- the record is the next asset
+abbrev pub IsAsset : List AssetRow → Record → AssetRow → Type 0
+IsAsset before r a = IsAssetRecord r a × KeepsAll rules (Breaks before r)
 
 -- the assets of the records behind the header, by ascending sid
 pub record AreAssetsOf (records : List Record) (assets : List AssetRow) : Type 0 where
@@ -45,4 +37,4 @@ pub record AreAssetsOf (records : List Record) (assets : List AssetRow) : Type 0
 
 -- no header, or the first faulty record
 abbrev pub IsAssetsFault : List Record → Fault Rule → Type 0
-IsAssetsFault records fault = IsFaultUnder header BadHeader IsAsset (λ before r. BreaksFirst order (Breaks before r)) records fault
+IsAssetsFault records fault = IsFaultUnder header BadHeader IsAsset (λ before r. IsFirstBroken rules (Breaks before r)) records fault

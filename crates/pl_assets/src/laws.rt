@@ -1,14 +1,15 @@
 //! What an assets file and a labels file say, in plain words, what the labels of a table are in a
-//! world, and what their fields are. The functions do nothing: the contract of each is a law of the definitions that the
-//! calls' contracts cite.
+//! world, and what their fields are. The functions do nothing: the contract of each is a law of the
+//! definitions that the calls' contracts cite.
 
 ghost use Rattle.std.specs.Prelude.{◌≡◌, ◌↔◌, ℕ, List, Ok, Err};
 ghost use Rattle.csv.specs.Writing.{default_writer, field_text};
 ghost use Rattle.pl_spec.specs.declared.AssetRow.{AssetRow};
-ghost use Rattle.pl_records.specs.Reading.{Record, Fault, BreaksFirst, Judges};
+ghost use Rattle.pl_records.specs.Reading.{Record, Fault, Judges};
+ghost use Rattle.pl_records.specs.RuleTable.{IsFirstBroken};
 ghost use Rattle.pl_spec.specs.Text.{quote};
-ghost use Rattle.pl_assets.specs.Assets.{Rule, AreAssets, assets_of, says_asset};
-ghost use Rattle.pl_assets.specs.Rules.{AreAssetsOf, Breaks, IsAsset, IsAssetsFault, order};
+ghost use Rattle.pl_assets.specs.Assets.{Rule, AreAssets, assets_of, rules, says_asset};
+ghost use Rattle.pl_assets.specs.Rules.{AreAssetsOf, Breaks, IsAsset, IsAssetsFault};
 ghost use Rattle.pl_assets.specs.Labels as labels;
 ghost use Rattle.pl_assets.specs.LabelRules as label_rules;
 ghost use Rattle.pl_assets.specs.LabelWorlds.{LabelsAreThose};
@@ -18,7 +19,7 @@ ghost use Rattle.pl_assets.specs.LabelWorlds.{LabelsAreThose};
 /// missing, or where that record breaks that rule and no earlier one, and the records before it are
 /// assets.
 pub fn assets_in_plain_words()
-    ensures record { Judges IsAsset (λ before r. BreaksFirst order (Breaks before r)) says_asset }
+    ensures record { Judges IsAsset (λ before r. IsFirstBroken rules (Breaks before r)) says_asset }
     ensures assets { (records : List Record) (assets : List AssetRow) → (assets_of records ≡ Ok assets)
         ↔ AreAssetsOf records assets }
     ensures fault { (records : List Record) (fault : Fault Rule) → (assets_of records ≡ Err fault)
@@ -32,7 +33,7 @@ pub fn assets_in_plain_words()
 pub fn labels_in_plain_words()
     ensures record { (assets : List AssetRow) → AreAssets assets
         → Judges (label_rules.IsLabel assets)
-        (λ before r. BreaksFirst label_rules.order (label_rules.Breaks assets before r))
+        (λ before r. IsFirstBroken labels.rules (label_rules.Breaks assets before r))
         (labels.says_label assets) }
     ensures labels { (assets : List AssetRow) → AreAssets assets → (records : List Record)
         (table : labels.LabelTable) → (labels.labels_of assets records ≡ Ok table)

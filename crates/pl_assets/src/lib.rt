@@ -23,6 +23,15 @@ pub use pl_spec::AssetRow;
 use std::alloc::Global;
 use std::marker::Model;
 
+/// How many assets there may be.
+pub const MOST_ASSETS: usize = 8_000;
+
+/// How many rows of labels there may be.
+pub const MOST_LABELS: usize = 200_000;
+
+/// How many bytes a label may have.
+pub const LONGEST_LABEL: usize = 64;
+
 /// The assets by ascending sid, at most 8,000 of them.
 #[derive(Debug, Drop)]
 pub struct Assets {
@@ -66,7 +75,7 @@ impl Assets {
     pub fn len(&self) -> usize
         ensures length { result ≡ length self.now }
         ensures assets { AreAssets self.now }
-        ensures few { result ≤ 8_000 }
+        ensures few { result ≤ MOST_ASSETS }
         ensures small { All (λ a. a.sid < 2 ^ 32) self.now }
     {
         self.rows.len()
@@ -83,7 +92,7 @@ impl Assets {
     /// The column of a sid, if an asset has it.
     pub fn col_of(&self, sid: u32) -> Option<usize>
         ensures within { IfSome result (λ i. i < length self.now) }
-        ensures few { IfSome result (λ i. i < 8_000) }
+        ensures few { IfSome result (λ i. i < MOST_ASSETS) }
         ensures exact { result ≡ position (λ a. sid_of a == sid) self.now }
     {
         search::col_of(&self.rows, sid)

@@ -6,14 +6,13 @@ ghost use Rattle.pl_assets.specs.Assets.{asset_in, assets_of, rows_in, says_asse
 ghost use Rattle.pl_assets.specs.Faults.{fault_of};
 ghost use Rattle.pl_assets.specs.Seen.{AreSids};
 
+use crate::MOST_ASSETS;
 use crate::error::AssetsError;
 use pl_fixed::{read_day, read_sid};
 use pl_records::Records;
 use pl_spec::AssetRow;
 use std::alloc::Global;
 use std::collections::HashSet;
-
-const MOST_ASSETS: usize = 8_000;
 
 // The assets of a file by ascending sid.
 #[tactic(auto, unfolding(crate::specs::Assets::assets_of))]
@@ -64,9 +63,9 @@ fn next_asset(
     sids: &mut HashSet<u32>,
     row: &Records,
 ) -> Result<AssetRow, AssetsError>
-    requires few { length before.now ≤ 8_000 }
+    requires few { length before.now ≤ MOST_ASSETS }
     requires sids { AreSids sids.old before.now }
-    ensures room { OnOk result (length before.now < 8_000) }
+    ensures room { OnOk result (length before.now < MOST_ASSETS) }
     ensures sids { IfOk result (λ a. AreSids sids.new (before.now ++ a ∷ [])) }
     ensures exact { Answers (λ a. a) fault_of result
         (at_line (2 + length before.now) (says_asset before.now row.now.fields)) }

@@ -1,5 +1,5 @@
 -- The fields of a record, in plain words.
-use Rattle.std.proofs.Common.{◌≡◌, ℕ, zero, suc, ◌+◌, ◌==◌, ◌≤◌, ◌&&◌, not, nat_le, IsTrue, Bool, true, false, List, [], ◌∷◌, length, get_or, All, Option, Some, None, option_map, option_and_then, Result, Ok, Err, refl, ap, subst, sym, ◌∙◌, ℤ, pos, ◌<ℤ◌, arith, inl, inr}
+use Rattle.std.proofs.Common.{◌≡◌, ◌↔◌, ℕ, zero, suc, ◌+◌, ◌==◌, ◌≤◌, ◌&&◌, not, nat_le, IsTrue, Bool, true, false, List, [], ◌∷◌, length, get_or, All, Option, Some, None, option_map, option_and_then, Result, Ok, Err, refl, ap, subst, sym, ◌∙◌, ℤ, pos, ◌<ℤ◌, arith, inl, inr}
 use Rattle.std.specs.List.{list_any, slice_get}
 use Rattle.std.specs.Result.{result_ok}
 use Rattle.std.specs.Int.RustNames.{int_lt, int_le, unsigned_abs}
@@ -9,6 +9,7 @@ use Rattle.std.proofs.lemmas.Bool.Decides.{nat_tests}
 use Rattle.std.proofs.lemmas.List.Folds.{list_any_at}
 use Rattle.std.proofs.lemmas.Option.{slice_get-get_or}
 use Rattle.pl_records.specs.Reading.{Record, field}
+use Rattle.pl_records.proofs.RuleTables.{and_then_some, map_some}
 use Rattle.pl_spec.specs.Rounding.{MISSING, LIMIT, is_missing}
 use Rattle.pl_spec.specs.Dates.{date_in}
 use Rattle.pl_spec.specs.Decimals.{sid_in}
@@ -71,14 +72,6 @@ IsCellText-bar_cell text v h t = here (is_missing v) refl
     here false m = rw (m, small-is v (at_least (int_lt v (pos 0)) refl m) (small m h)) refl
 
 -- ---- five cells
-
-and_then_some : {A B : Type 0} (o : Option A) (f : A → Option B) (y : B) → option_and_then f o ≡ Some y → (x : A) × (o ≡ Some x) × (f x ≡ Some y)
-and_then_some None f y e = absurd (let bad : None ≡ Some y = e in cc)
-and_then_some (Some x) f y e = (x, refl, e)
-
-map_some : {A B : Type 0} (o : Option A) (f : A → B) (y : B) → option_map f o ≡ Some y → (x : A) × (o ≡ Some x) × (f x ≡ y)
-map_some None f y e = absurd (let bad : None ≡ Some y = e in cc)
-map_some (Some x) f y e = (x, refl, (let same : Some (f x) ≡ Some y = e in cc))
 
 -- the cells are those of the texts from the third on
 pub record AreCellTexts (r : Record) (cells : List ℤ) : Type 0 where
@@ -158,11 +151,8 @@ fields_in-IsBarRecord r f h =
     let t : (length r == 7) ≡ true = grind (arith, nat_tests) in
     rw (t, sid_in-decimal (field r 0) f.sid h.small h.sid, date_in-IsDate (field r 1) f.day h.day, cells_in-AreCellTexts r f.cells h.five h.cells) refl
 
-pub no_record : (r : Record) → fields_in r ≡ None → (f : Fields) → IsBarRecord r f → ⊥
-no_record r e f h = let found : fields_in r ≡ Some f = fields_in-IsBarRecord r f h in let bad : None ≡ Some f = sym e ∙ found in cc
-
-pub one_record : (r : Record) (x y : Fields) → IsBarRecord r x → IsBarRecord r y → x ≡ y
-one_record r x y h k = let same : Some x ≡ Some y = sym (fields_in-IsBarRecord r x h) ∙ fields_in-IsBarRecord r y k in cc
+pub fields_form : (r : Record) (f : Fields) → (fields_in r ≡ Some f) ↔ IsBarRecord r f
+fields_form r f = (IsBarRecord-fields_in r f, fields_in-IsBarRecord r f)
 
 -- cells that are read, and not below 0
 pub fields-cells : (r : Record) (f : Fields) → fields_in r ≡ Some f → list_any is_negative f.cells ≡ false → All (λ v. IsTrue (is_bar_cell v)) f.cells

@@ -37,9 +37,6 @@ before_trans col session a b t u = grind (arith, nat_tests)
 behind_not_at : (col session : ℕ) (a b : BarRow) → is_before b.col b.session a ≡ true → is_before col session a ≡ false → is_at col session b ≡ false
 behind_not_at col session a b t u = grind (arith, nat_tests)
 
-behind_not_before : (col session : ℕ) (a b : BarRow) → is_before b.col b.session a ≡ true → is_before col session a ≡ false → is_before col session b ≡ false
-behind_not_before col session a b t u = grind (arith, nat_tests)
-
 -- ---- the next session's place
 
 next_before : (col session : ℕ) (b : BarRow) → is_before col session b ≡ true → is_before col (session + 1) b ≡ true

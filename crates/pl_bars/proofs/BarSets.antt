@@ -1,30 +1,18 @@
 -- A bit for each column and session.
-use Rattle.std.proofs.Common.{◌≡◌, ◌≢◌, ℕ, zero, suc, ◌+◌, ◌*◌, ◌/◌, ◌%◌, ◌^◌, ◌<◌, ◌==◌, ◌&&◌, ◌||◌, Bool, true, false, List, [], ◌∷◌, ◌++◌, length, get_or, bit_or, refl, sym, ◌∙◌, ap, arith, w64}
+use Rattle.std.proofs.Common.{◌≡◌, ◌≢◌, ℕ, zero, suc, ◌+◌, ◌*◌, ◌/◌, ◌%◌, ◌^◌, ◌<◌, ◌==◌, ◌&&◌, ◌||◌, Bool, true, false, List, [], ◌∷◌, length, get_or, bit_or, refl, sym, ◌∙◌, ap, arith, w64}
 use Rattle.std.specs.Int.{bit_at}
-use Rattle.std.specs.List.{list_any}
 use Rattle.std.proofs.Math.ListN.{set}
 use Rattle.std.proofs.lemmas.List.{get_or-set_same, get_or-set_other}
-use Rattle.std.proofs.lemmas.List.Folds.{list_any-append}
 use Rattle.std.proofs.lemmas.Nat.{div-mul-add}
-use Rattle.std.proofs.lemmas.Nat.Bits.{bit_at-zero, bit_at_set_same, bit_at_set_other}
+use Rattle.std.proofs.lemmas.Nat.Bits.{bit_at_set_same, bit_at_set_other}
 use Rattle.std.proofs.lemmas.Bool.Decides.{nat_tests}
-use Rattle.pl_spec.specs.declared.BarRow.{BarRow}
-use Rattle.pl_bars.specs.Bars.{is_at}
-use Rattle.pl_bars.specs.BarSet.{bit_in, has_bar, AreBarsIn}
-use Rattle.pl_bars.specs.declared.bar_set.BarSet.{BarSet}
+use Rattle.pl_bars.specs.BarSet.{bit_in}
 
 pub same_number : (a b : ℕ) → (a == b) ≡ true → a ≡ b
 same_number a b t = grind (arith, nat_tests)
 
 pub number_same : (a b : ℕ) → a ≡ b → (a == b) ≡ true
 number_same a b e = grind (arith, nat_tests)
-
-pub number_other : (a b : ℕ) → a ≢ b → (a == b) ≡ false
-number_other a b ne = here (a == b) refl
-  where
-    here : (t : Bool) → (a == b) ≡ t → t ≡ false
-    here true t = absurd (ne (same_number a b t))
-    here false t = refl
 
 -- inside a list the default doesn't matter
 pub same_default : {A : Type 0} (xs : List A) (n : ℕ) (x y : A) → n < length xs → get_or xs n x ≡ get_or xs n y
@@ -121,17 +109,3 @@ bit_in-with_bit words k j h = here (k == j) refl
         bit_in-other words k j h ne ∙ sym (or_false (bit_in words j))
 
 -- ---- the bars of rows
-
-pub no_bits : (words : List ℕ) → ((i : ℕ) → get_or words i 0 ≡ 0) → (k : ℕ) → bit_in words k ≡ false
-no_bits words zeros k = ap (λ x. bit_at x (k % 64) == 1) (zeros (k / 64)) ∙ ap (λ b. b == 1) (bit_at-zero (k % 64))
-
-pub AreBarsIn-more : (old new : BarSet) (rows : List BarRow) (b : BarRow) → AreBarsIn old rows → new.cols ≡ old.cols → new.sessions ≡ old.sessions
-    → ((c s : ℕ) → s < old.sessions → has_bar new c s ≡ (has_bar old c s || (b.col == c && b.session == s))) → AreBarsIn new (rows ++ b ∷ [])
-AreBarsIn-more old new rows b h e f more =
-    record {
-      each = λ c s k l.
-          let k' : c < old.cols = omega (arith, e) in
-          let l' : s < old.sessions = omega (arith, f) in
-          more c s l' ∙ ap (λ x. x || is_at c s b) (h.each c s k' l') ∙ ap (λ x. list_any (is_at c s) rows || x) (sym (or_false (is_at c s b)))
-          ∙ sym (list_any-append (is_at c s) rows (b ∷ []));
-    }

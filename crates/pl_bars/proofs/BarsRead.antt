@@ -1,9 +1,8 @@
 -- Bars that are read: what each test tells, and what is kept of all rows.
-use Rattle.std.proofs.Common.{◌≡◌, ℕ, zero, suc, ◌^◌, ◌==◌, ◌<◌, ◌≤◌, ◌||◌, nat_le, IsTrue, Bool, true, false, List, [], ◌∷◌, ◌++◌, length, get_or, length-append, All, Option, Some, None, Result, Ok, Err, refl, subst, ◌∙◌, ℤ, pos, position, arith}
+use Rattle.std.proofs.Common.{◌≡◌, ℕ, zero, suc, ◌^◌, ◌==◌, ◌<◌, ◌≤◌, ◌||◌, nat_le, IsTrue, Bool, true, false, List, [], ◌∷◌, ◌++◌, length, get_or, length-append, All, Option, Some, None, option_map, option_and_then, Result, Ok, Err, refl, sym, ap, ◌∙◌, ℤ, pos, position, arith}
 use Rattle.std.specs.List.{list_any, AllPairs}
 use Rattle.std.specs.Ordering.{int_eq}
 use Rattle.std.specs.Option.{ok_or}
-use Rattle.std.specs.Bool.{if◌then◌else◌}
 use Rattle.std.proofs.lemmas.Bool.Decides.{nat_tests}
 use Rattle.std.proofs.lemmas.List.Quantifiers.{position-Some}
 use Rattle.std.proofs.lemmas.List.Elements.{All-append}
@@ -12,16 +11,20 @@ use Rattle.pl_records.specs.Reading.{Record, Fault, ◌>>=◌}
 use Rattle.pl_records.specs.Sorted.{sorted_by, HasOwnKeys}
 use Rattle.pl_spec.specs.declared.AssetRow.{AssetRow}
 use Rattle.pl_spec.specs.declared.BarRow.{BarRow}
-use Rattle.pl_records.proofs.Readings.{guard_on, guard_err, some_on, none_err, guard_ok, some_ok, rows-keep, under_ok}
+use Rattle.pl_records.proofs.Readings.{guard_on, guard_err, rows-keep, under_ok}
+use Rattle.pl_records.specs.RuleTable.{first_broken, lacks, has}
+use Rattle.pl_records.proofs.RuleTables.{and_then_some, map_some, told_ok, ok_or-Ok}
 use Rattle.pl_records.proofs.Sorts.{OwnKeys-none, OwnKeys-more, sorted-rises, sorted-permutes, length-sorted_by}
 use Rattle.pl_assets.specs.Assets.{sid_of}
 use Rattle.pl_bars.specs.declared.fields.Fields.{Fields}
-use Rattle.pl_bars.specs.Bars.{Rule, header, fields_in, is_negative, is_at, says_bar, key_of, rows_in, bars_of, is_before, is_bar_cell, AreBars}
+use Rattle.pl_bars.specs.Bars.{Rule, breaks, session_in, col_in, placed_at, bar_of, header, fields_in, is_negative, is_at, says_bar, key_of, rows_in, bars_of, is_before, is_bar_cell, AreBars}
 use Rattle.pl_bars.specs.Bars as rules
+use Rattle.pl_bars.specs.declared.TheConstants.{MOST_BARS}
+use Rattle.pl_calendar.specs.declared.TheConstants.{MOST_SESSIONS}
 use Rattle.pl_bars.proofs.BarSets.{same_place}
 use Rattle.pl_bars.proofs.BarFields.{fields-cells}
 
-few : (n : ℕ) → n < 4000000 → nat_le 4000000 n ≡ false
+few : (n : ℕ) → n < MOST_BARS → nat_le MOST_BARS n ≡ false
 few n h = grind (arith, nat_tests)
 
 -- ---- the exits of a judgement
@@ -32,40 +35,47 @@ SessionIs days f o = position (λ d. int_eq d f.day) days ≡ o
 abbrev ColIs : List AssetRow → Fields → Option ℕ → Type 0
 ColIs assets f o = position (λ a. sid_of a == f.sid) assets ≡ o
 
-pub no_session : (days : List ℤ) (assets : List AssetRow) (before : List BarRow) (r : Record) (f : Fields) → length before < 4000000 → fields_in r ≡ Some f
-    → SessionIs days f None → says_bar days assets before r ≡ Err rules.NotSession
-unfolding says_bar
-no_session days assets before r f n e p = guard_on _ _ _ (few (length before) n) ∙ some_on _ _ _ f e ∙ none_err _ _ _ p
+module _ (days : List ℤ) (assets : List AssetRow) (before : List BarRow) (r : Record) (f : Fields) (n : length before < MOST_BARS) (e : fields_in r ≡ Some f) where
+  pub no_session : SessionIs days f None → says_bar days assets before r ≡ Err rules.NotSession
+  unfolding says_bar
+  no_session p =
+      guard_on _ _ _ (few (length before) n) ∙ guard_on _ _ _ (ap lacks e) ∙ guard_err _ _ _ (ap (has (λ f. lacks (session_in days f))) e ∙ ap lacks p)
 
-pub no_asset : (days : List ℤ) (assets : List AssetRow) (before : List BarRow) (r : Record) (f : Fields) (session : ℕ) → length before < 4000000 → fields_in r ≡ Some f
-    → SessionIs days f (Some session) → ColIs assets f None → says_bar days assets before r ≡ Err rules.UnknownSid
-unfolding says_bar
-no_asset days assets before r f session n e p q = guard_on _ _ _ (few (length before) n) ∙ some_on _ _ _ f e ∙ some_on _ _ _ session p ∙ none_err _ _ _ q
+  module _ (session : ℕ) (p : SessionIs days f (Some session)) where
+    -- the rules in front of that of the asset are kept
+    dated : says_bar days assets before r
+        ≡ first_broken (rules.UnknownSid ∷ rules.Negative ∷ rules.Duplicate ∷ []) (breaks days assets before r) (ok_or (bar_of days assets r) rules.BadField)
+    unfolding says_bar
+    dated =
+        guard_on _ _ _ (few (length before) n) ∙ guard_on _ _ _ (ap lacks e) ∙ guard_on _ _ _ (ap (has (λ f. lacks (session_in days f))) e ∙ ap lacks p)
 
-pub negative : (days : List ℤ) (assets : List AssetRow) (before : List BarRow) (r : Record) (f : Fields) (session col : ℕ) → length before < 4000000 → fields_in r ≡ Some f
-    → SessionIs days f (Some session) → ColIs assets f (Some col) → list_any is_negative f.cells ≡ true → says_bar days assets before r ≡ Err rules.Negative
-unfolding says_bar
-negative days assets before r f session col n e p q t =
-    guard_on _ _ _ (few (length before) n) ∙ some_on _ _ _ f e ∙ some_on _ _ _ session p ∙ some_on _ _ _ col q ∙ guard_err _ _ _ t
+    pub no_asset : ColIs assets f None → says_bar days assets before r ≡ Err rules.UnknownSid
+    no_asset q = dated ∙ guard_err _ _ _ (ap (has (λ f. lacks (col_in assets f))) e ∙ ap lacks q)
 
-pub duplicate : (days : List ℤ) (assets : List AssetRow) (before : List BarRow) (r : Record) (f : Fields) (session col : ℕ) → length before < 4000000 → fields_in r ≡ Some f
-    → SessionIs days f (Some session) → ColIs assets f (Some col) → list_any is_negative f.cells ≡ false → list_any (is_at col session) before ≡ true
-    → says_bar days assets before r ≡ Err rules.Duplicate
-unfolding says_bar
-duplicate days assets before r f session col n e p q t u =
-    guard_on _ _ _ (few (length before) n) ∙ some_on _ _ _ f e ∙ some_on _ _ _ session p ∙ some_on _ _ _ col q ∙ guard_on _ _ _ t ∙ guard_err _ _ _ u
+    module _ (col : ℕ) (q : ColIs assets f (Some col)) where
+      asset_on : has (λ f. lacks (col_in assets f)) (fields_in r) ≡ false
+      asset_on = ap (has (λ f. lacks (col_in assets f))) e ∙ ap lacks q
 
-pub bar : (days : List ℤ) (assets : List AssetRow) (before : List BarRow) (r : Record) (f : Fields) (session col : ℕ) → length before < 4000000 → fields_in r ≡ Some f
-    → SessionIs days f (Some session) → ColIs assets f (Some col) → list_any is_negative f.cells ≡ false → list_any (is_at col session) before ≡ false
-    → says_bar days assets before r ≡ Ok (record { col = col; session = session; cells = f.cells })
-unfolding says_bar
-bar days assets before r f session col n e p q t u =
-    guard_on _ _ _ (few (length before) n) ∙ some_on _ _ _ f e ∙ some_on _ _ _ session p ∙ some_on _ _ _ col q ∙ guard_on _ _ _ t ∙ guard_on _ _ _ u
+      there : bar_of days assets r ≡ Some (placed_at f session col)
+      there = rw (e, p, q) refl
+
+      pub negative : list_any is_negative f.cells ≡ true → says_bar days assets before r ≡ Err rules.Negative
+      negative t = dated ∙ guard_on _ _ _ asset_on ∙ guard_err _ _ _ (ap (has (λ f. list_any is_negative f.cells)) e ∙ t)
+
+      pub duplicate : list_any is_negative f.cells ≡ false → list_any (is_at col session) before ≡ true → says_bar days assets before r ≡ Err rules.Duplicate
+      duplicate t u =
+          dated ∙ guard_on _ _ _ asset_on ∙ guard_on _ _ _ (ap (has (λ f. list_any is_negative f.cells)) e ∙ t)
+          ∙ guard_err _ _ _ (ap (has (λ b. list_any (is_at b.col b.session) before)) there ∙ u)
+
+      pub bar : list_any is_negative f.cells ≡ false → list_any (is_at col session) before ≡ false → says_bar days assets before r ≡ Ok (placed_at f session col)
+      bar t u =
+          dated ∙ guard_on _ _ _ asset_on ∙ guard_on _ _ _ (ap (has (λ f. list_any is_negative f.cells)) e ∙ t)
+          ∙ guard_on _ _ _ (ap (has (λ b. list_any (is_at b.col b.session) before)) there ∙ u) ∙ ap (λ o. ok_or o rules.BadField) there
 
 -- ---- what the tests were where a record says its bar
 
 pub record Says (days : List ℤ) (assets : List AssetRow) (before : List BarRow) (r : Record) (b : BarRow) : Type 0 where
-  pub few : nat_le 4000000 (length before) ≡ false
+  pub few : nat_le MOST_BARS (length before) ≡ false
   pub fields : Fields
   pub written : fields_in r ≡ Some fields
   pub session : position (λ d. int_eq d fields.day) days ≡ Some b.session
@@ -74,37 +84,25 @@ pub record Says (days : List ℤ) (assets : List AssetRow) (before : List BarRow
   pub not_negative : list_any is_negative b.cells ≡ false
   pub own_place : list_any (is_at b.col b.session) before ≡ false
 
-abbrev pub after_col : List BarRow → Fields → ℕ → ℕ → Result BarRow Rule
-after_col before f session col =
-    if list_any is_negative f.cells then Err rules.Negative
-    else if list_any (is_at col session) before then Err rules.Duplicate
-    else Ok (record { col = col; session = session; cells = f.cells })
-
-abbrev pub after_session : List AssetRow → List BarRow → Fields → ℕ → Result BarRow Rule
-after_session assets before f session = ok_or (position (λ a. sid_of a == f.sid) assets) rules.UnknownSid >>= λ col. after_col before f session col
-
-abbrev pub after_fields : List ℤ → List AssetRow → List BarRow → Fields → Result BarRow Rule
-after_fields days assets before f = ok_or (position (λ d. int_eq d f.day) days) rules.NotSession >>= λ session. after_session assets before f session
-
 pub says_bar-ok : (days : List ℤ) (assets : List AssetRow) (before : List BarRow) (r : Record) (b : BarRow) → says_bar days assets before r ≡ Ok b → Says days assets before r b
 unfolding says_bar
 says_bar-ok days assets before r b e =
-    let f = guard_ok (nat_le 4000000 (length before)) rules.TooMany (ok_or (fields_in r) rules.BadField >>= λ f. after_fields days assets before f) b e in
-    let g = some_ok (fields_in r) rules.BadField (λ f. after_fields days assets before f) b f.1 in
-    let h = some_ok (position (λ d. int_eq d g.0.day) days) rules.NotSession (λ session. after_session assets before g.0 session) b g.2 in
-    let i = some_ok (position (λ a. sid_of a == g.0.sid) assets) rules.UnknownSid (λ col. after_col before g.0 h.0 col) b h.2 in
-    let j = guard_ok (list_any is_negative g.0.cells) rules.Negative (if list_any (is_at i.0 h.0) before then Err rules.Duplicate else Ok (record { col = i.0; session = h.0; cells = g.0.cells })) b i.2 in
-    let k = guard_ok (list_any (is_at i.0 h.0) before) rules.Duplicate (Ok (record { col = i.0; session = h.0; cells = g.0.cells })) b j.1 in
-    told g.0 h.0 i.0 f.0 g.1 h.1 i.1 j.0 k.0 k.1
-  where
-    told : (f : Fields) (session col : ℕ) → nat_le 4000000 (length before) ≡ false → fields_in r ≡ Some f
-        → position (λ d. int_eq d f.day) days ≡ Some session → position (λ a. sid_of a == f.sid) assets ≡ Some col
-        → list_any is_negative f.cells ≡ false → list_any (is_at col session) before ≡ false
-        → (let x : Result BarRow Rule = Ok (record { col = col; session = session; cells = f.cells }) in x) ≡ Ok b → Says days assets before r b
-    told f session col few w s c n o e =
-        let row : BarRow = record { col = col; session = session; cells = f.cells } in
-        let same : row ≡ b = cc in
-        subst (Says days assets before r) same record { few = few; fields = f; written = w; session = s; col = c; cells = refl; not_negative = n; own_place = o }
+    let k = told_ok rules.rules (breaks days assets before r) (ok_or (bar_of days assets r) rules.BadField) b e in
+    let at : bar_of days assets r ≡ Some b = ok_or-Ok (bar_of days assets r) rules.BadField b k.1 in
+    let f = and_then_some (fields_in r) (λ f. option_and_then (λ session. option_map (placed_at f session) (col_in assets f)) (session_in days f)) b at in
+    let s = and_then_some (session_in days f.0) (λ session. option_map (placed_at f.0 session) (col_in assets f.0)) b f.2 in
+    let c = map_some (col_in assets f.0) (placed_at f.0 s.0) b s.2 in
+    let not_negative : list_any is_negative f.0.cells ≡ false = rw f.1 at k.0.1.1.1.1.0 in
+    record {
+      few = k.0.0;
+      fields = f.0;
+      written = f.1;
+      session = s.1 ∙ ap (λ (x : BarRow). Some x.session) c.2;
+      col = c.1 ∙ ap (λ (x : BarRow). Some x.col) c.2;
+      cells = sym (ap (λ (x : BarRow). x.cells) c.2);
+      not_negative = sym (ap (λ (x : BarRow). list_any is_negative x.cells) c.2) ∙ not_negative;
+      own_place = rw at at k.0.1.1.1.1.1.0;
+    }
 
 -- ---- what is kept of all rows
 
@@ -122,19 +120,19 @@ other_keys (x ∷ xs) y s h e =
 pub record AreKept (rows : List BarRow) : Type 0 where
   pub own : HasOwnKeys key_of rows
   pub small : All (λ b. b.session < 2 ^ 32) rows
-  pub few : length rows ≤ 4_000_000
+  pub few : length rows ≤ MOST_BARS
   pub cells : All (λ b. All (λ v. IsTrue (is_bar_cell v)) b.cells) rows
 
 one_row : (P : BarRow → Type 0) (b : BarRow) → P b → All P (b ∷ [])
 one_row P b p zero d h = p
 one_row P b p (suc k) d h = absurd (omega arith)
 
-kept-more : (days : List ℤ) (assets : List AssetRow) → length days ≤ 16000 → (before : List BarRow) (r : Record) (b : BarRow) → AreKept before → says_bar days assets before r ≡ Ok b → AreKept (before ++ b ∷ [])
+kept-more : (days : List ℤ) (assets : List AssetRow) → length days ≤ MOST_SESSIONS → (before : List BarRow) (r : Record) (b : BarRow) → AreKept before → says_bar days assets before r ≡ Ok b → AreKept (before ++ b ∷ [])
 kept-more days assets n before r b h s =
     let ok = says_bar-ok days assets before r b s in
     let at = position-Some (λ d. int_eq d ok.fields.day) days b.session (pos 0) ok.session in
     let small : b.session < 2 ^ 32 = omega (arith, at.0) in
-    let room : length before < 4000000 = (let t = ok.few in grind (arith, nat_tests)) in
+    let room : length before < MOST_BARS = (let t = ok.few in grind (arith, nat_tests)) in
     record {
       own = OwnKeys-more key_of before b h.own (other_keys before b h.small small ok.own_place);
       small = All-append (λ (x : BarRow). x.session < 2 ^ 32) before (b ∷ []) h.small (one_row (λ x. x.session < 2 ^ 32) b small);
@@ -146,7 +144,7 @@ kept-more days assets n before r b h s =
 kept-none : AreKept []
 kept-none = record { own = OwnKeys-none key_of; small = λ k d h. absurd (omega arith); few = omega arith; cells = λ k d h. absurd (omega arith) }
 
-pub AreKept-read : (days : List ℤ) (assets : List AssetRow) (records : List Record) (rows : List BarRow) → length days ≤ 16000 → rows_in days assets records ≡ Ok rows → AreKept rows
+pub AreKept-read : (days : List ℤ) (assets : List AssetRow) (records : List Record) (rows : List BarRow) → length days ≤ MOST_SESSIONS → rows_in days assets records ≡ Ok rows → AreKept rows
 unfolding rows_in
 AreKept-read days assets records rows n e =
     rows-keep AreKept 2 (says_bar days assets) (kept-more days assets n) _ [] rows kept-none (under_ok header rules.BadHeader (says_bar days assets) records rows e).1
@@ -175,7 +173,7 @@ ascend-from_keys rows small up i j d h l = before_by_key (get_or rows i d) (get_
 pub keys-from_ascend : (rows : List BarRow) → All (λ b. b.session < 2 ^ 32) rows → AllPairs (λ a b. IsTrue (is_before b.col b.session a)) rows → AllPairs (λ a b. key_of a < key_of b) rows
 keys-from_ascend rows small up i j d h l = key_by_before (get_or rows i d) (get_or rows j d) (small i d (omega arith)) (small j d l) (up i j d h l)
 
-pub AreBars-read : (days : List ℤ) (assets : List AssetRow) (records : List Record) (bars : List BarRow) → length days ≤ 16000 → bars_of days assets records ≡ Ok bars → AreBars bars
+pub AreBars-read : (days : List ℤ) (assets : List AssetRow) (records : List Record) (bars : List BarRow) → length days ≤ MOST_SESSIONS → bars_of days assets records ≡ Ok bars → AreBars bars
 AreBars-read days assets records bars n e =
     let it = sorted_from days assets records bars e in
     let kept = AreKept-read days assets records it.0 n it.1 in

@@ -1,5 +1,5 @@
 -- The bars of the records of a bars file, the first rule that a record breaks, and the cells of bars.
-use Rattle.std.specs.Prelude.{ℕ, ◌+◌, ◌*◌, ◌^◌, ◌==◌, ◌≤◌, ◌&&◌, ◌||◌, not, nat_le, nat_lt, IsTrue, Bool, if◌then◌else◌, ℤ, pos, codes, List, [], ◌∷◌, length, All, AllPairs, Option, Some, None, option_map, option_and_then, unwrap_or, Result, Ok, Err, find, position, slice_index_or}
+use Rattle.std.specs.Prelude.{ℕ, ◌+◌, ◌*◌, ◌^◌, ◌==◌, ◌≤◌, ◌&&◌, ◌||◌, not, nat_le, nat_lt, IsTrue, Bool, false, if◌then◌else◌, ℤ, pos, codes, List, [], ◌∷◌, length, All, AllPairs, Option, Some, None, option_map, option_and_then, unwrap_or, Result, Ok, find, position, slice_index_or}
 use Rattle.std.specs.List.{list_any}
 use Rattle.std.specs.Result.{result_ok}
 use Rattle.std.specs.Int.RustNames.{int_lt, int_le, unsigned_abs}
@@ -7,6 +7,7 @@ use Rattle.std.specs.Ordering.{int_eq}
 use Rattle.std.specs.Option.{ok_or}
 use Rattle.pl_records.specs.Reading.{Record, Fault, field, ◌>>=◌, rows_under}
 use Rattle.pl_spec.specs.Rounding.{MISSING, LIMIT, is_missing}
+use Rattle.pl_records.specs.RuleTable.{first_broken, lacks, has}
 use Rattle.pl_records.specs.Sorted.{sorted_by}
 use Rattle.pl_spec.specs.Dates.{date_in}
 use Rattle.pl_spec.specs.Decimals.{sid_in}
@@ -17,8 +18,9 @@ use Rattle.pl_spec.specs.declared.Column.TheVariants.{OpenPrice, High, Low, Clos
 use Rattle.pl_fixed.specs.Reading.{read}
 use Rattle.pl_assets.specs.Assets.{sid_of}
 use Rattle.pl_bars.specs.declared.fields.Fields.{Fields}
+use Rattle.pl_bars.specs.declared.TheConstants.{MOST_BARS}
 
--- in the order in which they are tested
+-- what may be wrong with a file
 pub data Rule : Type 0 where
   BadHeader TooMany BadField NotSession UnknownSid Negative Duplicate : Rule
 
@@ -49,16 +51,37 @@ is_negative v = int_lt v (pos 0) && not (is_missing v)
 abbrev pub is_at : ℕ → ℕ → BarRow → Bool
 is_at col session b = b.col == col && b.session == session
 
+-- the session of the day, and the column of the asset
+abbrev pub session_in : List ℤ → Fields → Option ℕ
+session_in days f = position (λ d. int_eq d f.day) days
+
+abbrev pub col_in : List AssetRow → Fields → Option ℕ
+col_in assets f = position (λ a. sid_of a == f.sid) assets
+
+abbrev pub placed_at : Fields → ℕ → ℕ → BarRow
+placed_at f session col = record { col = col; session = session; cells = f.cells }
+
+-- the bar of a record of an asset on a session
+abbrev pub bar_of : List ℤ → List AssetRow → Record → Option BarRow
+bar_of days assets r =
+    option_and_then (λ f. option_and_then (λ session. option_map (placed_at f session) (col_in assets f)) (session_in days f)) (fields_in r)
+
+-- the rules of a record behind the header, in the order in which they are tested, and their tests
+abbrev pub rules : List Rule
+rules = TooMany ∷ BadField ∷ NotSession ∷ UnknownSid ∷ Negative ∷ Duplicate ∷ []
+
+abbrev pub breaks : List ℤ → List AssetRow → List BarRow → Record → Rule → Bool
+breaks days assets before r BadHeader = false
+breaks days assets before r TooMany = nat_le MOST_BARS (length before)
+breaks days assets before r BadField = lacks (fields_in r)
+breaks days assets before r NotSession = has (λ f. lacks (session_in days f)) (fields_in r)
+breaks days assets before r UnknownSid = has (λ f. lacks (col_in assets f)) (fields_in r)
+breaks days assets before r Negative = has (λ f. list_any is_negative f.cells) (fields_in r)
+breaks days assets before r Duplicate = has (λ b. list_any (is_at b.col b.session) before) (bar_of days assets r)
+
 -- the bar of a record behind the bars before it, or the first rule that it breaks
 unfoldable pub says_bar : List ℤ → List AssetRow → List BarRow → Record → Result BarRow Rule
-says_bar days assets before r =
-    if nat_le 4000000 (length before) then Err TooMany
-    else ok_or (fields_in r) BadField >>= λ f.
-    ok_or (position (λ d. int_eq d f.day) days) NotSession >>= λ session.
-    ok_or (position (λ a. sid_of a == f.sid) assets) UnknownSid >>= λ col.
-    if list_any is_negative f.cells then Err Negative
-    else if list_any (is_at col session) before then Err Duplicate
-    else Ok (record { col = col; session = session; cells = f.cells })
+says_bar days assets before r = first_broken rules (breaks days assets before r) (ok_or (bar_of days assets r) BadField)
 
 -- a number that rises by column, and then by session
 abbrev pub key_of : BarRow → ℕ
@@ -84,7 +107,7 @@ is_bar_cell v = is_missing v || (int_le (pos 0) v && nat_le (unsigned_abs v) LIM
 
 pub record AreBars (rows : List BarRow) : Type 0 where
   pub ascend : AllPairs (λ a b. IsTrue (is_before b.col b.session a)) rows
-  pub few : length rows ≤ 4_000_000
+  pub few : length rows ≤ MOST_BARS
   pub cells : All (λ b. All (λ v. IsTrue (is_bar_cell v)) b.cells) rows
 
 -- ---- their cells

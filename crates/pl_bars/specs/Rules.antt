@@ -1,7 +1,8 @@
 -- The rules of a bars file in plain words.
-use Rattle.std.specs.Prelude.{◌≡◌, ◌≢◌, ◌⊎◌, ℕ, ◌+◌, ◌^◌, ◌<◌, ◌≤◌, IsTrue, ℤ, pos, ◌<ℤ◌, List, [], length, Some, option_map, slice_get, All, Any, AllPairs, IsPermutation}
+use Rattle.std.specs.Prelude.{◌≡◌, ◌≢◌, ◌⊎◌, ℕ, ◌+◌, ◌^◌, ◌<◌, ◌≤◌, IsTrue, ℤ, pos, ◌<ℤ◌, List, [], length, Some, option_map, slice_get, Any, AllPairs, IsPermutation}
 use Rattle.std.specs.Fmt.{decimal}
-use Rattle.pl_records.specs.Reading.{Record, Fault, field, AreRowsUnder, BreaksFirst, IsFaultUnder}
+use Rattle.pl_records.specs.Reading.{Record, Fault, field, AreRowsUnder, IsFaultUnder}
+use Rattle.pl_records.specs.RuleTable.{IsFirstBroken, KeepsAll}
 use Rattle.pl_spec.specs.Rounding.{MISSING}
 use Rattle.pl_spec.specs.Dates.{IsDate}
 use Rattle.pl_spec.specs.Decimals.{Decimal, IsDecimal, IsReadAs}
@@ -9,7 +10,8 @@ use Rattle.pl_spec.specs.declared.AssetRow.{AssetRow}
 use Rattle.pl_spec.specs.declared.BarRow.{BarRow}
 use Rattle.pl_assets.specs.Assets.{sid_of}
 use Rattle.pl_bars.specs.declared.fields.Fields.{Fields}
-use Rattle.pl_bars.specs.Bars.{Rule, BadHeader, TooMany, BadField, NotSession, UnknownSid, Negative, Duplicate, header, is_before}
+use Rattle.pl_bars.specs.Bars.{Rule, BadHeader, TooMany, BadField, NotSession, UnknownSid, Negative, Duplicate, rules, header, is_before}
+use Rattle.pl_bars.specs.declared.TheConstants.{MOST_BARS}
 
 -- the text is empty and the cell missing, or it is a decimal that is read as the cell
 abbrev pub IsCellText : List ℕ → ℤ → Type 0
@@ -33,34 +35,26 @@ pub record IsPlaced (days : List ℤ) (assets : List AssetRow) (f : Fields) (col
   pub day : slice_get days session ≡ Some f.day
   pub sid : option_map sid_of (slice_get assets col) ≡ Some f.sid
 
--- the record is the next bar
-pub record IsBar (days : List ℤ) (assets : List AssetRow) (before : List BarRow) (r : Record) (b : BarRow) : Type 0 where
-  pub room : length before < 4_000_000
+-- the record is the bar, which is in the column of its asset on the session of its day
+pub record IsRowRecord (days : List ℤ) (assets : List AssetRow) (r : Record) (b : BarRow) : Type 0 where
   pub fields : Fields
   pub written : IsBarRecord r fields
   pub placed : IsPlaced days assets fields b.col b.session
   pub cells : b.cells ≡ fields.cells
-  pub not_negative : All (λ v. ¬ IsNegative v) b.cells
-  pub own_place : All (λ x. ¬ ((x.col ≡ b.col) × (x.session ≡ b.session))) before
 
 -- what it is to break each rule
 abbrev pub Breaks : List ℤ → List AssetRow → List BarRow → Record → Rule → Type 0
 Breaks days assets before r BadHeader = ⊥
-Breaks days assets before r TooMany = 4_000_000 ≤ length before
+Breaks days assets before r TooMany = MOST_BARS ≤ length before
 Breaks days assets before r BadField = (f : Fields) → ¬ IsBarRecord r f
-Breaks days assets before r NotSession = (f : Fields) × IsBarRecord r f × ((session : ℕ) → slice_get days session ≢ Some f.day)
-Breaks days assets before r UnknownSid = (f : Fields) × IsBarRecord r f × ((col : ℕ) → option_map sid_of (slice_get assets col) ≢ Some f.sid)
+Breaks days assets before r NotSession = (f : Fields) × IsBarRecord r f × ((session : ℕ) → ¬ (slice_get days session ≡ Some f.day))
+Breaks days assets before r UnknownSid = (f : Fields) × IsBarRecord r f × ((col : ℕ) → ¬ (option_map sid_of (slice_get assets col) ≡ Some f.sid))
 Breaks days assets before r Negative = (f : Fields) × IsBarRecord r f × Any IsNegative f.cells
-Breaks days assets before r Duplicate = (f : Fields) × IsBarRecord r f × Any (λ x. IsPlaced days assets f x.col x.session) before
+Breaks days assets before r Duplicate = (b : BarRow) × IsRowRecord days assets r b × Any (λ x. (x.col ≡ b.col) × (x.session ≡ b.session)) before
 
-abbrev pub order : Rule → ℕ
-order BadHeader = 0
-order TooMany = 1
-order BadField = 2
-order NotSession = 3
-order UnknownSid = 4
-order Negative = 5
-order Duplicate = 6
+-- the record is the next bar
+abbrev pub IsBar : List ℤ → List AssetRow → List BarRow → Record → BarRow → Type 0
+IsBar days assets before r b = IsRowRecord days assets r b × KeepsAll rules (Breaks days assets before r)
 
 -- the bars of the records behind the header, by column and session
 pub record AreBarsOf (days : List ℤ) (assets : List AssetRow) (records : List Record) (bars : List BarRow) : Type 0 where
@@ -72,4 +66,4 @@ pub record AreBarsOf (days : List ℤ) (assets : List AssetRow) (records : List 
 -- no header, or the first faulty record
 abbrev pub IsBarsFault : List ℤ → List AssetRow → List Record → Fault Rule → Type 0
 IsBarsFault days assets records fault =
-    IsFaultUnder header BadHeader (IsBar days assets) (λ before r. BreaksFirst order (Breaks days assets before r)) records fault
+    IsFaultUnder header BadHeader (IsBar days assets) (λ before r. IsFirstBroken rules (Breaks days assets before r)) records fault

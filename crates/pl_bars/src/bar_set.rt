@@ -1,25 +1,27 @@
 ghost use Rattle.std.specs.Prelude.{◌≡◌, ℕ, ◌+◌, ◌*◌, ◌<◌, ◌≤◌, ◌==◌, ◌&&◌, ◌||◌, [], length, IfOk, vec_len};
+ghost use Rattle.pl_calendar.specs.declared.TheConstants.{MOST_SESSIONS};
+ghost use Rattle.pl_assets.specs.declared.TheConstants.{MOST_ASSETS};
 
 use std::alloc::{AllocError, Global};
 
-/// The columns and sessions that have a bar: a bit for each, column by column.
+// The columns and sessions that have a bar: a bit for each, column by column.
 #[derive(Drop)]
 pub(crate) struct BarSet {
     cols: usize,
     sessions: usize,
     words: Vec<u64>,
-    ghost few_cols: { cols ≤ 8_000 },
-    ghost few_sessions: { sessions ≤ 16_000 },
+    ghost few_cols: { cols ≤ MOST_ASSETS },
+    ghost few_sessions: { sessions ≤ MOST_SESSIONS },
     ghost room: { cols * sessions ≤ 64 * vec_len words },
 }
 
 impl BarSet {
     ghost use Rattle.pl_bars.specs.BarSet.{has_bar, AreBarsIn};
 
-    /// No bars, of so many columns and sessions.
+    // No bars, of so many columns and sessions.
     pub(crate) fn new(alloc: Global, cols: usize, sessions: usize) -> Result<BarSet, AllocError>
-        requires cols { cols ≤ 8_000 }
-        requires sessions { sessions ≤ 16_000 }
+        requires cols { cols ≤ MOST_ASSETS }
+        requires sessions { sessions ≤ MOST_SESSIONS }
         ensures cols { IfOk result (λ set. set.cols ≡ cols) }
         ensures sessions { IfOk result (λ set. set.sessions ≡ sessions) }
         ensures none { IfOk result (λ set. AreBarsIn set []) }
@@ -32,7 +34,7 @@ impl BarSet {
         })
     }
 
-    /// Whether there is a bar of the column on the session.
+    // Whether there is a bar of the column on the session.
     pub(crate) fn contains(&self, col: usize, session: usize) -> bool
         requires col { col < self.now.cols }
         requires session { session < self.now.sessions }
@@ -42,7 +44,7 @@ impl BarSet {
         (self.words[place / 64] >> (place % 64)) & 1 == 1
     }
 
-    /// From now on there is a bar of the column on the session.
+    // From now on there is a bar of the column on the session.
     pub(crate) fn insert(&mut self, col: usize, session: usize)
         requires col { col < self.old.cols }
         requires session { session < self.old.sessions }

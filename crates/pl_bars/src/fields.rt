@@ -5,7 +5,7 @@ ghost use Rattle.pl_bars.specs.Bars.{cell_in, cells_in, fields_in, is_negative};
 use pl_fixed::{MISSING, read_day, read_decimal, read_sid};
 use pl_records::Records;
 
-/// What a record of a bar says: a sid, a day and the cells open, high, low, close and volume.
+// What a record of a bar says: a sid, a day and the cells open, high, low, close and volume.
 #[derive(Clone, Copy)]
 pub(crate) struct Fields {
     pub sid: u32,

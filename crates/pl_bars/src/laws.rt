@@ -5,11 +5,12 @@
 ghost use Rattle.std.specs.Prelude.{◌≡◌, ◌↔◌, ℤ, List, Ok, Err};
 ghost use Rattle.pl_spec.specs.declared.AssetRow.{AssetRow};
 ghost use Rattle.pl_spec.specs.declared.BarRow.{BarRow};
-ghost use Rattle.pl_records.specs.Reading.{Record, Fault, BreaksFirst, Judges};
+ghost use Rattle.pl_records.specs.Reading.{Record, Fault, Judges};
+ghost use Rattle.pl_records.specs.RuleTable.{IsFirstBroken};
 ghost use Rattle.pl_calendar.specs.Days.{AreDays};
 ghost use Rattle.pl_assets.specs.Assets.{AreAssets};
-ghost use Rattle.pl_bars.specs.Bars.{Rule, bars_of, says_bar};
-ghost use Rattle.pl_bars.specs.Rules.{AreBarsOf, Breaks, IsBar, IsBarsFault, order};
+ghost use Rattle.pl_bars.specs.Bars.{bars_of, Rule, rules, says_bar};
+ghost use Rattle.pl_bars.specs.Rules.{AreBarsOf, Breaks, IsBar, IsBarsFault};
 ghost use Rattle.pl_bars.specs.Worlds.{CellsAreRaw};
 
 /// A file is read as bars exactly where it has its header and each further record is the bar of an
@@ -18,7 +19,7 @@ ghost use Rattle.pl_bars.specs.Worlds.{CellsAreRaw};
 /// before it are bars.
 pub fn bars_in_plain_words()
     ensures record { (days : List ℤ) (assets : List AssetRow) → AreDays days → AreAssets assets
-        → Judges (IsBar days assets) (λ before r. BreaksFirst order (Breaks days assets before r))
+        → Judges (IsBar days assets) (λ before r. IsFirstBroken rules (Breaks days assets before r))
         (says_bar days assets) }
     ensures bars { (days : List ℤ) (assets : List AssetRow) → AreDays days → AreAssets assets
         → (records : List Record) (bars : List BarRow) → (bars_of days assets records ≡ Ok bars)

@@ -27,6 +27,9 @@ use pl_spec::Column;
 use std::alloc::Global;
 use std::marker::Model;
 
+/// How many bars there may be.
+pub const MOST_BARS: usize = 4_000_000;
+
 /// The bars, at most 4,000,000 of them, by ascending column and then session. Their cells are
 /// missing or at least 0.
 #[derive(Debug, Drop)]

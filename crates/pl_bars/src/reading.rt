@@ -5,7 +5,9 @@ ghost use Rattle.pl_records.specs.Records.{csv_records};
 ghost use Rattle.pl_bars.specs.Bars.{bars_of, key_of, rows_in, says_bar};
 ghost use Rattle.pl_bars.specs.BarSet.{AreBarsIn};
 ghost use Rattle.pl_bars.specs.Faults.{fault_of};
+ghost use Rattle.pl_calendar.specs.declared.TheConstants.{MOST_SESSIONS};
 
+use crate::MOST_BARS;
 use crate::bar_set::BarSet;
 use crate::error::BarsError;
 use crate::fields::{fields_of, has_negative};
@@ -14,8 +16,6 @@ use pl_calendar::Sessions;
 use pl_records::Records;
 use pl_spec::BarRow;
 use std::alloc::{AllocError, Global};
-
-const MOST_BARS: usize = 4_000_000;
 
 // The bars of a file by column and session.
 #[tactic(auto, unfolding(crate::specs::Bars::bars_of))]
@@ -27,7 +27,7 @@ pub(crate) fn read_bars(
 ) -> Result<Vec<BarRow>, BarsError>
     ensures exact { Answers (λ v. v.items) fault_of result
         (bars_of sessions.now assets.now (csv_records bytes.now)) }
-    ensures few { length sessions.now ≤ 16_000 }
+    ensures few { length sessions.now ≤ MOST_SESSIONS }
 {
     let _count = sessions.len();
     let mut rows = read_rows(alloc, bytes, sessions, assets)?;
@@ -73,7 +73,7 @@ fn read_rows(
 fn room_for(alloc: Global, bytes: &[u8]) -> Result<Vec<BarRow>, AllocError>
     ensures none { IfOk result (λ v. v.items ≡ []) }
     ensures room { IfOk result (λ v.
-        vec_capacity v ≡ min (count_by (λ byte. byte == 10) bytes.now) 4_000_000) }
+        vec_capacity v ≡ min (count_by (λ byte. byte == 10) bytes.now) MOST_BARS) }
 {
     let lines = bytes.iter().filter(|byte| **byte == b'\n').count();
     Vec::with_capacity(alloc, lines.min(MOST_BARS))
@@ -108,11 +108,11 @@ fn next_bar(
     sessions: &Sessions,
     assets: &Assets,
 ) -> Result<BarRow, BarsError>
-    requires few { length before.now ≤ 4_000_000 }
+    requires few { length before.now ≤ MOST_BARS }
     requires cols { seen.old.cols ≡ length assets.now }
     requires sessions { seen.old.sessions ≡ length sessions.now }
     requires seen { AreBarsIn seen.old before.now }
-    ensures room { OnOk result (length before.now < 4_000_000) }
+    ensures room { OnOk result (length before.now < MOST_BARS) }
     ensures cols { seen.new.cols ≡ length assets.now }
     ensures sessions { seen.new.sessions ≡ length sessions.now }
     ensures seen { IfOk result (λ b. AreBarsIn seen.new (before.now ++ b ∷ [])) }

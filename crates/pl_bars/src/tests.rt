@@ -39,11 +39,13 @@ fn reads_bars(rt: HostRuntime) -> Result<(), Fail> {
             assert_eq!(rt; bars.get(0, session, Column::Volume), 10_000_000);
             assert_eq!(rt; bars.get(1, session, Column::Close), MISSING);
         }
+        assert_eq!(rt; bars.len(), 6);
         assert_eq!(rt; bars.get(0, 6, Column::Close), MISSING);
         assert_eq!(rt; bars.get(usize::MAX, usize::MAX, Column::Close), MISSING);
     }
     let header = b"sid,session,open,high,low,close,volume\n";
     let none = Bars::read(rt.alloc(), header, &sessions, &assets)?;
+    assert_eq!(rt; none.len(), 0);
     assert_eq!(rt; none.get(0, 0, Column::Close), MISSING);
     Ok(())
 }

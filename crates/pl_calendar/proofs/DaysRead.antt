@@ -1,71 +1,57 @@
 -- Days that are read ascend, and are no more than a calendar has.
-use Rattle.std.proofs.Common.{◌≡◌, ℕ, ◌-◌, ◌<◌, ◌≤◌, ◌==◌, nat_le, Bool, true, false, if◌then◌else◌, ℤ, ◌<ℤ◌, List, [], ◌∷◌, ◌++◌, length, length-append, get_or, Option, Some, None, IfSome, option_map, unwrap_or, Result, Ok, Err, refl, sym, ◌∙◌, ap, arith, inl, inr}
+use Rattle.std.proofs.Common.{◌≡◌, ℕ, ◌-◌, ◌<◌, ◌≤◌, ◌↔◌, ℤ, ◌<ℤ◌, List, [], ◌∷◌, ◌++◌, length, length-append, get_or, Option, Some, None, IfSome, Ok, Err, refl, ap, arith, inl, inr}
 use Rattle.std.specs.List.{All, AllPairs}
-use Rattle.std.specs.Int.RustNames.{int_lt}
-use Rattle.std.proofs.lemmas.Int.{ints}
+use Rattle.std.proofs.lemmas.Int.{ints, by_lt_z}
 use Rattle.std.proofs.lemmas.Bool.{cases_lt}
-use Rattle.std.proofs.lemmas.Bool.Decides.{nat_tests}
 use Rattle.std.proofs.lemmas.List.{get_or_append_left}
 use Rattle.std.proofs.lemmas.Option.{slice_get-get_or}
 use Rattle.std.proofs.Math.Seq.{get_or-append_seam}
-use Rattle.pl_records.specs.Reading.{Record, Fault, field, rows_of, rows_behind}
-use Rattle.pl_spec.specs.Dates.{IsDay, date_in}
-use Rattle.pl_spec.proofs.DatesRead.{IsDate-date_in}
+use Rattle.pl_records.specs.Reading.{Record, Fault, field, rows_of, rows_behind, AreRows, IsFirstFault}
+use Rattle.pl_records.specs.RuleTable.{IsFirstBroken}
+use Rattle.pl_spec.specs.Dates.{IsDay}
 use Rattle.pl_spec.proofs.DatesWritten.{IsDay-IsDate}
 use Rattle.std.proofs.lemmas.List.Elements.{All-push}
-use Rattle.pl_records.proofs.Readings.{rows-keep, rows-as_many, guard_ok, some_ok}
-use Rattle.pl_calendar.specs.Days.{Rule, day_in, last_of, is_later, says_day, sessions_of, AreDays}
+use Rattle.pl_records.proofs.Readings.{rows-keep, rows-as_many, rows-are, fault-is}
+use Rattle.pl_calendar.specs.Days.{Rule, rules, day_in, last_of, is_later, says_day, sessions_of, AreDays}
 use Rattle.pl_calendar.specs.Days as days
-
--- what the tests were where a record says its day
-pub record Says (before : List ℤ) (r : Record) (day : ℤ) : Type 0 where
-  pub few : nat_le 16000 (length before) ≡ false
-  pub date : day_in r ≡ Some day
-  pub later : is_later before day ≡ true
-
-later_ok : (before : List ℤ) (d day : ℤ) (b : Bool) → is_later before d ≡ b → (let x : Result ℤ Rule = if b then Ok d else Err days.NotAscending in x) ≡ Ok day
-    → (d ≡ day) × (is_later before d ≡ true)
-later_ok before d day true t e = ((let same : Ok d ≡ Ok day = e in cc), t)
-later_ok before d day false t e = absurd (let bad : Err days.NotAscending ≡ Ok day = e in cc)
-
-pub says_day-ok : (before : List ℤ) (r : Record) (day : ℤ) → says_day before r ≡ Ok day → Says before r day
-unfolding says_day
-says_day-ok before r day e =
-    let f = guard_ok _ _ _ _ e in
-    let g = some_ok _ _ _ _ f.1 in
-    let h = later_ok before g.0 day (is_later before g.0) refl g.2 in
-    record { few = f.0; date = g.1 ∙ ap Some h.0; later = ap (is_later before) (sym h.0) ∙ h.1 }
+use Rattle.pl_calendar.specs.Rules.{IsSession, Breaks, IsSessionsFault}
+use Rattle.pl_calendar.specs.declared.TheConstants.{MOST_SESSIONS}
+use Rattle.pl_calendar.proofs.DaysSaid.{days_judged}
 
 -- ---- the days ascend
-
-later-last : (xs : List ℤ) (y d : ℤ) → 0 < length xs → is_later xs y ≡ true → get_or xs (length xs - 1) d <ℤ y
-later-last xs y d h t =
-    let at : last_of xs ≡ Some (get_or xs (length xs - 1) d) = slice_get-get_or xs (length xs - 1) d (omega arith) in
-    below _ (ap (λ o. unwrap_or (option_map (λ last. int_lt last y) o) true) (sym at) ∙ t)
-  where
-    below : (a : ℤ) → int_lt a y ≡ true → a <ℤ y
-    below a h = grind (arith, ints)
 
 -- days that ascend, and are few; there may be none
 pub record AreFront (xs : List ℤ) : Type 0 where
   pub dates : All IsDay xs
   pub ascend : AllPairs (λ a b. a <ℤ b) xs
-  pub few : length xs ≤ 16_000
+  pub few : length xs ≤ MOST_SESSIONS
 
 AreFront-none : AreFront []
 AreFront-none = record { dates = λ k d h. absurd (omega arith); ascend = λ i j d h l. absurd (omega arith); few = omega arith }
 
-AreFront-more : (xs : List ℤ) (y : ℤ) → IsDay y → AreFront xs → nat_le 16000 (length xs) ≡ false → is_later xs y ≡ true → AreFront (xs ++ y ∷ [])
-AreFront-more xs y dated up n t =
-    record { dates = All-push IsDay xs y up.dates dated; ascend = pairs; few = (let small : length xs < 16000 = grind (arith, nat_tests) in omega (arith, length-append xs (y ∷ []))) }
+AreFront-more : (xs : List ℤ) (r : Record) (y : ℤ) → AreFront xs → IsSession xs r y → AreFront (xs ++ y ∷ [])
+AreFront-more xs r y up h =
+    record {
+      dates = All-push IsDay xs y up.dates (IsDay-IsDate (field r 0) y h.0.1);
+      ascend = pairs;
+      few = (let small : length xs < MOST_SESSIONS = below (length xs) MOST_SESSIONS h.1.0 in omega (arith, length-append xs (y ∷ [])));
+    }
   where
+    below : (n m : ℕ) → ¬ (m ≤ n) → n < m
+    below n m not_most = elim (cases_lt n m) [ inl l ↦ l | inr g ↦ absurd (not_most (omega arith)) ]
+
+    later-last : (d : ℤ) → 0 < length xs → get_or xs (length xs - 1) d <ℤ y
+    later-last d some = by_lt_z (get_or xs (length xs - 1) d) y
+        (λ before. before)
+        (λ after. absurd (h.1.1.1.0 (y, h.0, (get_or xs (length xs - 1) d, slice_get-get_or xs (length xs - 1) d (omega arith), after))))
+
     both : (a b z : ℤ) → a <ℤ b → b <ℤ z → a <ℤ z
     both a b z f g = omega (arith, ints)
 
     under : (i : ℕ) (d : ℤ) → i < length xs → get_or xs i d <ℤ y
     under i d h = elim (cases_lt i (length xs - 1)) [
-      | inl l ↦ both _ _ _ (up.ascend i (length xs - 1) d l (omega arith)) (later-last xs y d (omega arith) t)
-      | inr g ↦ (let same : i ≡ length xs - 1 = omega arith in rw same (later-last xs y d (omega arith) t))
+      | inl l ↦ both _ _ _ (up.ascend i (length xs - 1) d l (omega arith)) (later-last d (omega arith))
+      | inr g ↦ (let same : i ≡ length xs - 1 = omega arith in rw same (later-last d (omega arith)))
     ]
 
     pairs : (i j : ℕ) (d : ℤ) → i < j → j < length (xs ++ y ∷ []) → get_or (xs ++ y ∷ []) i d <ℤ get_or (xs ++ y ∷ []) j d
@@ -77,18 +63,9 @@ AreFront-more xs y dated up n t =
           rw (a, same, get_or-append_seam xs y [] d) (under i d (omega arith)))
     ]
 
--- a record of one date is that of a day that dates have
-read_day-dated : (r : Record) (day : ℤ) → day_in r ≡ Some day → IsDay day
-read_day-dated r day e = here (length r == 1) e
-  where
-    here : (b : Bool) → (if b then date_in (field r 0) else None) ≡ Some day → IsDay day
-    here true f = IsDay-IsDate (field r 0) day (IsDate-date_in (field r 0) day f)
-    here false f = absurd (let bad : None ≡ Some day = f in cc)
-
 AreFront-read : (records : List Record) (ds : List ℤ) → rows_of 1 says_day records ≡ Ok ds → AreFront ds
 AreFront-read records ds e =
-    rows-keep AreFront 1 says_day (λ before r day up s. let ok = says_day-ok before r day s in AreFront-more before day (read_day-dated r day ok.date) up ok.few ok.later)
-    records [] ds AreFront-none e
+    rows-keep AreFront 1 says_day (λ before r day up said. AreFront-more before r day up ((days_judged.row before r day).0 said)) records [] ds AreFront-none e
 
 -- ---- a file with and without records
 
@@ -121,3 +98,27 @@ AreDays-read records ds e =
     let it = rows-sessions_of records ds e in
     let up = AreFront-read records ds it.0 in
     record { some = it.1; dates = up.dates; ascend = up.ascend; few = up.few }
+
+-- ---- a file in plain words
+
+pub sessions-are : (records : List Record) (ds : List ℤ) → (sessions_of records ≡ Ok ds) ↔ ((0 < length ds) × AreRows IsSession records ds)
+sessions-are records ds =
+    (λ e. (let it = rows-sessions_of records ds e in (it.1, (said records ds).0 it.0)), λ h. sessions_of-ok records ds ((said records ds).1 h.1) h.0)
+  where
+    said : (records : List Record) (ds : List ℤ) → (rows_of 1 says_day records ≡ Ok ds) ↔ AreRows IsSession records ds
+    said = rows-are 1 IsSession (λ before r. IsFirstBroken rules (Breaks before r)) says_day days_judged
+
+pub sessions-fault : (records : List Record) (f : Fault Rule) → (sessions_of records ≡ Err f) ↔ IsSessionsFault records f
+unfolding sessions_of
+sessions-fault records f = (there records, back)
+  where
+    told : (records : List Record) (f : Fault Rule) → (rows_of 1 says_day records ≡ Err f) ↔ IsFirstFault 1 IsSession (λ before r. IsFirstBroken rules (Breaks before r)) records f
+    told = fault-is 1 IsSession (λ before r. IsFirstBroken rules (Breaks before r)) says_day days_judged
+
+    there : (records : List Record) → sessions_of records ≡ Err f → IsSessionsFault records f
+    there [] e = inl (refl, (let same : Err (record { rule = days.Empty; line = 1 }) ≡ Err f = e in cc))
+    there (r ∷ rs) e = inr ((told (r ∷ rs) f).0 e)
+
+    back : IsSessionsFault records f → sessions_of records ≡ Err f
+    back (inl h) = rw (h.0, h.1) refl
+    back (inr h) = sessions_of-err records f ((told records f).1 h)

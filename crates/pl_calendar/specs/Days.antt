@@ -1,11 +1,13 @@
 -- The days of the records of a sessions file, and the first rule that a record breaks.
-use Rattle.std.specs.Prelude.{◌-◌, ◌==◌, ◌<◌, ◌≤◌, nat_le, Bool, true, if◌then◌else◌, ℤ, ◌<ℤ◌, List, [], ◌∷◌, length, slice_get, All, AllPairs, Option, None, option_map, unwrap_or, Result, Ok, Err}
+use Rattle.std.specs.Prelude.{◌-◌, ◌==◌, ◌<◌, ◌≤◌, nat_le, not, Bool, true, false, if◌then◌else◌, ℤ, ◌<ℤ◌, List, [], ◌∷◌, length, slice_get, All, AllPairs, Option, None, option_map, unwrap_or, Result, Err}
 use Rattle.std.specs.Int.RustNames.{int_lt}
 use Rattle.std.specs.Option.{ok_or}
-use Rattle.pl_records.specs.Reading.{Record, Fault, field, ◌>>=◌, rows_of}
+use Rattle.pl_records.specs.Reading.{Record, Fault, field, rows_of}
+use Rattle.pl_records.specs.RuleTable.{first_broken, lacks, has}
 use Rattle.pl_spec.specs.Dates.{IsDay, date_in}
+use Rattle.pl_calendar.specs.declared.TheConstants.{MOST_SESSIONS}
 
--- in the order in which they are tested
+-- what may be wrong with a file
 pub data Rule : Type 0 where
   TooMany BadDate NotAscending Empty : Rule
 
@@ -21,11 +23,19 @@ last_of days = slice_get days (length days - 1)
 abbrev pub is_later : List ℤ → ℤ → Bool
 is_later before day = unwrap_or (option_map (λ last. int_lt last day) (last_of before)) true
 
+-- the rules of a record, in the order in which they are tested, and their tests
+abbrev pub rules : List Rule
+rules = TooMany ∷ BadDate ∷ NotAscending ∷ []
+
+abbrev pub breaks : List ℤ → Record → Rule → Bool
+breaks before r TooMany = nat_le MOST_SESSIONS (length before)
+breaks before r BadDate = lacks (day_in r)
+breaks before r NotAscending = has (λ day. not (is_later before day)) (day_in r)
+breaks before r Empty = false
+
 -- the day of a record behind the days before it, or the first rule that it breaks
 unfoldable pub says_day : List ℤ → Record → Result ℤ Rule
-says_day before r =
-    if nat_le 16000 (length before) then Err TooMany
-    else ok_or (day_in r) BadDate >>= λ day. if is_later before day then Ok day else Err NotAscending
+says_day before r = first_broken rules (breaks before r) (ok_or (day_in r) BadDate)
 
 -- the days of a file, or its first fault
 unfoldable pub sessions_of : List Record → Result (List ℤ) (Fault Rule)
@@ -37,4 +47,4 @@ pub record AreDays (days : List ℤ) : Type 0 where
   pub some : 0 < length days
   pub dates : All IsDay days
   pub ascend : AllPairs (λ a b. a <ℤ b) days
-  pub few : length days ≤ 16_000
+  pub few : length days ≤ MOST_SESSIONS

@@ -21,6 +21,9 @@ pub use error::CalendarError;
 use std::alloc::Global;
 use std::marker::Model;
 
+/// How many sessions there may be.
+pub const MOST_SESSIONS: usize = 16_000;
+
 /// The days of the sessions, ascending: from 1 to 16,000 of them, each counted from 1970-01-01.
 #[derive(Debug, Drop)]
 pub struct Sessions {
@@ -64,7 +67,7 @@ impl Sessions {
         ensures length { result ≡ length self.now }
         ensures days { AreDays self.now }
         ensures some { 0 < result }
-        ensures few { result ≤ 16_000 }
+        ensures few { result ≤ MOST_SESSIONS }
     {
         self.days.len()
     }

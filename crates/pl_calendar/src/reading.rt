@@ -4,12 +4,11 @@ ghost use Rattle.pl_records.specs.Records.{csv_records};
 ghost use Rattle.pl_calendar.specs.Days.{day_in, is_later, says_day, sessions_of};
 ghost use Rattle.pl_calendar.specs.Faults.{fault_of};
 
+use crate::MOST_SESSIONS;
 use crate::error::CalendarError;
 use pl_fixed::read_day;
 use pl_records::Records;
 use std::alloc::Global;
-
-const MOST_SESSIONS: usize = 16_000;
 
 // The days of a file.
 pub(crate) fn read_sessions(alloc: Global, bytes: &[u8]) -> Result<Vec<i32>, CalendarError>
@@ -38,8 +37,8 @@ fn read_days(alloc: Global, bytes: &[u8]) -> Result<Vec<i32>, CalendarError>
 // The day of the record that was read last, behind the days before it.
 #[tactic(auto, unfolding(crate::specs::Days::says_day))]
 fn next_day(before: &[i32], row: &Records) -> Result<i32, CalendarError>
-    requires { length before.now ≤ 16_000 }
-    ensures room { OnOk result (length before.now < 16_000) }
+    requires { length before.now ≤ MOST_SESSIONS }
+    ensures room { OnOk result (length before.now < MOST_SESSIONS) }
     ensures exact { Answers (λ d. d) fault_of result
         (at_line (1 + length before.now) (says_day before.now row.now.fields)) }
 {

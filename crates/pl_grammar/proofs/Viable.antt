@@ -46,20 +46,11 @@ finished_derives most (Some e) fs us x r done =
     outermost_derives c.opens k.height k.tree x c.own us c.derives c.fits c.whole done
 finished_derives most None fs us x r done = absurd (no_tree done)
 
-ran : (r : Result State Stop) (s : State) (P : State → Type 0) → IfRun r P → r ≡ Ok s → P s
-ran r s P h e = subst (λ z. IfRun z P) e h
-
 pub nothing_read : (most : ℕ) → Has most Wanted [] []
 nothing_read most = has_wanted (opens_nothing refl refl)
 
-pub run_reads : (most : ℕ) (ts : List Lexeme) (s : State) → run most ts first ≡ Ok s → Has most s.mode s.frames ts
-run_reads most ts s h = ran (run most ts first) s (λ s. Has most s.mode s.frames ts) (run_has most ts first [] (nothing_read most)) h
-
 pub has_finish : (most : ℕ) (s : State) (ts : List Lexeme) (e : Tree) → Has most s.mode s.frames ts → finish s ≡ Some e → Derives most 1 ts e
 has_finish most s ts e h done = finished_derives most (operand s.mode) s.frames ts e (has_operand h) done
-
-pub finish_derives : (most : ℕ) (ts : List Lexeme) (s : State) (e : Tree) → run most ts first ≡ Ok s → finish s ≡ Some e → Derives most 1 ts e
-finish_derives most ts s e h done = finished_derives most (operand s.mode) s.frames ts e (has_operand (run_reads most ts s h)) done
 
 -- what closes the frames
 abbrev pub nowhere : Place
@@ -130,23 +121,11 @@ stopping e = Err e
 pub no_ok : {e : Stop} {s : State} → stopping e ≡ Ok s → ⊥
 no_ok h = cc
 
--- the machine runs over exactly the tokens that are viable
-
-pub ran_viable : (most : ℕ) (ts : List Lexeme) (s : State) → run most ts first ≡ Ok s → Viable most ts
-ran_viable most ts s h =
-    let c = can_end (run_reads most ts s h) in
-    let n = c.ends in
-    (c.rest, n.tree, finish_derives most (ts ++ c.rest) n.last n.tree (run_on most ts c.rest first s (Ok n.last) h n.goes) n.done)
+-- a run that goes on from an answer had that answer
 
 pub bound_ok : (f : State → Result State Stop) (r : Result State Stop) (s : State) → then_run f r ≡ Ok s → (x : State) × (r ≡ Ok x) × (f x ≡ Ok s)
 bound_ok f (Ok x) s h = (x, refl, h)
 bound_ok f (Err e) s h = absurd (no_ok h)
-
-pub viable_ran : (most : ℕ) (ts : List Lexeme) → Viable most ts → (s : State) × (run most ts first ≡ Ok s)
-viable_ran most ts v =
-    let f = derives_finish most (ts ++ v.0) v.1 v.2 in
-    let b = bound_ok (run most v.0) (run most ts first) f.0 (sym (run-append most ts v.0 first) ∙ f.1) in
-    (b.0, b.1)
 
 -- one text has one tree
 pub one_tree : (most : ℕ) (ts : List Lexeme) (a b : Tree) → Derives most 1 ts a → Derives most 1 ts b → a ≡ b

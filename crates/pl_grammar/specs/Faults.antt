@@ -1,5 +1,5 @@
 -- The first fault of a list of tokens, and the verdict that finds it.
-use Rattle.std.specs.Prelude.{ℕ, suc, ◌≡◌, ◌<◌, Bool, true, false, cond, nat_le, List, [], ◌∷◌, ◌++◌, Option, Some, None, Result, Ok, Err}
+use Rattle.std.specs.Prelude.{ℕ, suc, ◌≡◌, ◌<◌, Bool, true, false, if◌then◌else◌, nat_le, List, [], ◌∷◌, ◌++◌, Option, Some, None, Result, Ok, Err}
 use Rattle.pl_grammar.specs.declared.Place.{Place}
 use Rattle.pl_grammar.specs.Tree.{Token, LargeNumber, Lexeme, mark, Semicolon}
 use Rattle.pl_grammar.specs.Machine.{Stop, Stuck, Deep}
@@ -62,14 +62,18 @@ Never ts = (d : ℕ) → Viable d ts → ⊥
 pub data IsFault (front : List Lexeme) (t : Lexeme) : Kind → Type 0 where
   is_long : since 0 front ≡ most_tokens → IsFault front t LongStatement
   is_large : since 0 front < most_tokens → too_large t ≡ true → IsFault front t NumberTooLarge
-  is_unexpected : since 0 front < most_tokens → too_large t ≡ false → Never (front ++ (t ∷ [])) → IsFault front t Unexpected
-  is_deep : since 0 front < most_tokens → too_large t ≡ false → (d : ℕ) → Viable d (front ++ (t ∷ [])) → (Viable most_depth (front ++ (t ∷ [])) → ⊥) → IsFault front t TooDeep
+  is_unexpected : since 0 front < most_tokens → too_large t ≡ false → Never (front ++ (t ∷ []))
+      → IsFault front t Unexpected
+  is_deep : since 0 front < most_tokens → too_large t ≡ false → (d : ℕ) → Viable d (front ++ (t ∷ []))
+      → (Viable most_depth (front ++ (t ∷ [])) → ⊥) → IsFault front t TooDeep
 
 -- the first fault of the tokens and what is behind them
 pub data IsFirst : List Lexeme → Tail → Kind → Place → Type 0 where
   at_bad : {ts : List Lexeme} {p : Place} → IsFine ts → IsFirst ts (AtBad p) BadByte p
-  at_end : {ts : List Lexeme} {p : Place} → IsFine ts → ((d : ℕ) (ss : List Statement) → Script d ts ss → ⊥) → IsFirst ts (AtEnd p) Unexpected p
-  at_token : (front : List Lexeme) (t : Lexeme) (rest : List Lexeme) {tail : Tail} {k : Kind} → IsFine front → IsFault front t k → IsFirst (front ++ (t ∷ rest)) tail k (place_of t)
+  at_end : {ts : List Lexeme} {p : Place} → IsFine ts → ((d : ℕ) (ss : List Statement) → Script d ts ss → ⊥)
+      → IsFirst ts (AtEnd p) Unexpected p
+  at_token : (front : List Lexeme) (t : Lexeme) (rest : List Lexeme) {tail : Tail} {k : Kind} → IsFine front
+      → IsFault front t k → IsFirst (front ++ (t ∷ rest)) tail k (place_of t)
 
 -- the tokens spell the script
 pub record Spelled (ts : List Lexeme) (tail : Tail) (ss : List Statement) : Type 0 where
@@ -98,6 +102,6 @@ step_verdict p (Err Deep) k = Fault TooDeep p
 unfoldable pub verdict : ℕ → Stage → List Lexeme → Tail → Verdict
 verdict n s [] tail = end_verdict s tail
 verdict n s (t ∷ ts) tail =
-    cond (nat_le most_tokens n) (Fault LongStatement (place_of t))
-    (cond (too_large t) (Fault NumberTooLarge (place_of t))
-    (step_verdict (place_of t) (script_step most_depth t s) (λ s. verdict (counted n t) s ts tail)))
+    if nat_le most_tokens n then Fault LongStatement (place_of t)
+    else if too_large t then Fault NumberTooLarge (place_of t)
+    else step_verdict (place_of t) (script_step most_depth t s) (λ s. verdict (counted n t) s ts tail)

@@ -12,4 +12,5 @@ VerdictIsRight =
     × ((k : Kind) (p : Place) → (verdict 0 Opening ts tail ≡ Fault k p) ↔ IsFirst ts tail k p)
 
 abbrev pub OneScript : Type 0
-OneScript = (ts : List Lexeme) (tail : Tail) (a b : List Statement) → Spelled ts tail a → Spelled ts tail b → a ≡ b
+OneScript = (ts : List Lexeme) (tail : Tail) (a b : List Statement) → Spelled ts tail a → Spelled ts tail b
+    → a ≡ b

@@ -1,5 +1,5 @@
 -- The machine that reads an expression token by token, over a stack of what is open.
-use Rattle.std.specs.Prelude.{ℕ, suc, Bool, true, false, cond, nat_le, List, [], ◌∷◌, ◌++◌, Option, Some, None, Result, Ok, Err}
+use Rattle.std.specs.Prelude.{ℕ, suc, Bool, true, false, if◌then◌else◌, nat_le, List, [], ◌∷◌, ◌++◌, Option, Some, None, Result, Ok, Err}
 use Rattle.pl_grammar.specs.declared.Place.{Place}
 use Rattle.pl_grammar.specs.declared.PrefixSign.{PrefixSign}
 use Rattle.pl_grammar.specs.declared.BinarySign.{BinarySign}
@@ -121,7 +121,9 @@ join (Call c ps n) e = e
 -- ends the constructs of level m and above that the operand ends
 abbrev pub close : ℕ → ℕ → Tree → List Frame → Closed
 close m h e [] = record { height = h; tree = e; frames = [] }
-close m h e (f ∷ fs) = cond (ends m f) (close m (frame_level f) (join f e) fs) (record { height = h; tree = e; frames = f ∷ fs })
+close m h e (f ∷ fs) =
+    if ends m f then close m (frame_level f) (join f e) fs
+    else record { height = h; tree = e; frames = f ∷ fs }
 
 abbrev pub closed : ℕ → Tree → List Frame → Closed
 closed m e fs = close m 8 e fs
@@ -145,7 +147,8 @@ named_move q n (Given e) fs = None
 named_move q n (Dotted e) fs = Some (at (Membered q e n) fs)
 
 abbrev pub sign_move : Place → PrefixSign → Bool → List Frame → Option State
-sign_move p s true fs = cond (nat_le (asked fs) (prefix_level s)) (Some (at Wanted (Prefixed p s ∷ fs))) None
+sign_move p s true fs =
+    if nat_le (asked fs) (prefix_level s) then Some (at Wanted (Prefixed p s ∷ fs)) else None
 sign_move p s false fs = None
 
 abbrev pub minus_move : Place → BinarySign → Bool → List Frame → Option State
@@ -163,7 +166,8 @@ minus_move p Mul w fs = None
 minus_move p Div w fs = None
 
 abbrev pub behind : Place → BinarySign → Closed → Option State
-behind p o c = cond (nat_le (left_level o) c.height) (Some (at Wanted (Behind p o c.tree ∷ c.frames))) None
+behind p o c =
+    if nat_le (left_level o) c.height then Some (at Wanted (Behind p o c.tree ∷ c.frames)) else None
 
 abbrev pub operator_move : Place → BinarySign → Option Tree → Bool → List Frame → Option State
 operator_move p o (Some e) w fs = behind p o (closed (level o) e fs)
@@ -209,7 +213,8 @@ next_arg e [] = None
 next_arg e (Prefixed p s ∷ fs) = None
 next_arg e (Behind p o a ∷ fs) = None
 next_arg e (Group ∷ fs) = None
-next_arg e (Call c ps n ∷ fs) = Some (at ArgWanted (Call c (ps ++ (record { name = n; tree = e } ∷ [])) None ∷ fs))
+next_arg e (Call c ps n ∷ fs) =
+    Some (at ArgWanted (Call c (ps ++ (record { name = n; tree = e } ∷ [])) None ∷ fs))
 
 abbrev pub comma_move : Option Tree → List Frame → Option State
 comma_move (Some e) fs = let c = closed 0 e fs in next_arg c.tree c.frames
@@ -255,7 +260,7 @@ pub data Stop : Type 0 where
   Deep : Stop
 
 abbrev pub allowed : ℕ → Option State → Result State Stop
-allowed most (Some s) = cond (nat_le (depth s.frames) most) (Ok s) (Err Deep)
+allowed most (Some s) = if nat_le (depth s.frames) most then Ok s else Err Deep
 allowed most None = Err Stuck
 
 abbrev pub step : ℕ → Lexeme → State → Result State Stop

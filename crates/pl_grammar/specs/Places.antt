@@ -6,7 +6,8 @@ use Rattle.pl_grammar.specs.Printed.{nowhere}
 
 pub data SameTokens : List Lexeme → List Lexeme → Type 0 where
   same_none : SameTokens [] []
-  same_next : {p : Place} {t : Token} {ts us : List Lexeme} (q : Place) → SameTokens ts us → SameTokens (mark p t ∷ ts) (mark q t ∷ us)
+  same_next : {p : Place} {t : Token} {ts us : List Lexeme} (q : Place) → SameTokens ts us
+      → SameTokens (mark p t ∷ ts) (mark q t ∷ us)
 
 unfoldable mutual
   pub bare : Tree → Tree

@@ -36,9 +36,11 @@ unfoldable mutual
   tokens (name p n) = mark p (Name n) ∷ []
   tokens (call p n ps) = mark p (Name n) ∷ (here Open ∷ (args_tokens ps ++ (here Close ∷ [])))
   tokens (prefix p s e) = mark p (sign_token s) ∷ placed (nat_le (prefix_level s) (tree_level e)) (tokens e)
-  tokens (binary p o a b) = placed (nat_le (left_level o) (tree_level a)) (tokens a) ++ (mark p (Operator o) ∷ placed (nat_le (right_level o) (tree_level b)) (tokens b))
+  tokens (binary p o a b) = placed (nat_le (left_level o) (tree_level a)) (tokens a)
+      ++ (mark p (Operator o) ∷ placed (nat_le (right_level o) (tree_level b)) (tokens b))
   tokens (member p e n) = placed (nat_le 8 (tree_level e)) (tokens e) ++ (here Dot ∷ (mark p (Name n) ∷ []))
-  tokens (method p e n ps) = placed (nat_le 8 (tree_level e)) (tokens e) ++ (here Dot ∷ (mark p (Name n) ∷ (here Open ∷ (args_tokens ps ++ (here Close ∷ [])))))
+  tokens (method p e n ps) = placed (nat_le 8 (tree_level e)) (tokens e)
+      ++ (here Dot ∷ (mark p (Name n) ∷ (here Open ∷ (args_tokens ps ++ (here Close ∷ [])))))
 
   pub args_tokens : Args → List Lexeme
   args_tokens no_args = []
@@ -63,9 +65,11 @@ unfoldable mutual
   tree_depth (name p n) = 0
   tree_depth (call p n ps) = suc (args_depth ps)
   tree_depth (prefix p s e) = suc (placed_depth (nat_le (prefix_level s) (tree_level e)) (tree_depth e))
-  tree_depth (binary p o a b) = max (placed_depth (nat_le (left_level o) (tree_level a)) (tree_depth a)) (placed_depth (nat_le (right_level o) (tree_level b)) (tree_depth b))
+  tree_depth (binary p o a b) = max (placed_depth (nat_le (left_level o) (tree_level a)) (tree_depth a))
+      (placed_depth (nat_le (right_level o) (tree_level b)) (tree_depth b))
   tree_depth (member p e n) = placed_depth (nat_le 8 (tree_level e)) (tree_depth e)
-  tree_depth (method p e n ps) = max (placed_depth (nat_le 8 (tree_level e)) (tree_depth e)) (suc (args_depth ps))
+  tree_depth (method p e n ps) = max (placed_depth (nat_le 8 (tree_level e)) (tree_depth e))
+      (suc (args_depth ps))
 
   pub args_depth : Args → ℕ
   args_depth no_args = 0

@@ -1,5 +1,5 @@
 -- A script: its grammar, and the machine that reads it token by token.
-use Rattle.std.specs.Prelude.{ℕ, ℤ, pos, ◌≡◌, Bool, true, false, cond, nat_le, List, [], ◌∷◌, ◌++◌, Option, Some, None, Result, Ok, Err}
+use Rattle.std.specs.Prelude.{ℕ, ℤ, pos, ◌≡◌, Bool, true, false, if◌then◌else◌, nat_le, List, [], ◌∷◌, ◌++◌, Option, Some, None, Result, Ok, Err}
 use Rattle.std.specs.Ordering.{int_eq}
 use Rattle.pl_grammar.specs.declared.Place.{Place}
 use Rattle.pl_grammar.specs.Tree.{Token, Name, Number, Assign, Semicolon, PipelineWord, LetWord, ColumnWord, ScreenWord, Lexeme, mark, Tree}
@@ -17,13 +17,17 @@ pub record Statement : Type 0 where
   pub tree : Tree
 
 pub data HeadRead : List Lexeme → Head → Type 0 where
-  let_read : {a p c : Place} {n : List ℕ} → HeadRead (mark a LetWord ∷ (mark p (Name n) ∷ (mark c Assign ∷ []))) (LetHead p n)
-  column_read : {a p c : Place} {n : List ℕ} → HeadRead (mark a ColumnWord ∷ (mark p (Name n) ∷ (mark c Assign ∷ []))) (ColumnHead p n)
+  let_read : {a p c : Place} {n : List ℕ}
+      → HeadRead (mark a LetWord ∷ (mark p (Name n) ∷ (mark c Assign ∷ []))) (LetHead p n)
+  column_read : {a p c : Place} {n : List ℕ}
+      → HeadRead (mark a ColumnWord ∷ (mark p (Name n) ∷ (mark c Assign ∷ []))) (ColumnHead p n)
   screen_read : {p : Place} → HeadRead (mark p ScreenWord ∷ []) (ScreenHead p)
 
 pub data Statements : ℕ → List Lexeme → List Statement → Type 0 where
   no_statement : {d : ℕ} → Statements d [] []
-  statement : {d : ℕ} (p : Place) {hs ts us : List Lexeme} {h : Head} {e : Tree} {ss : List Statement} → HeadRead hs h → Derives d 1 ts e → Statements d us ss → Statements d (hs ++ (ts ++ (mark p Semicolon ∷ us))) (record { head = h; tree = e } ∷ ss)
+  statement : {d : ℕ} (p : Place) {hs ts us : List Lexeme} {h : Head} {e : Tree} {ss : List Statement}
+      → HeadRead hs h → Derives d 1 ts e → Statements d us ss
+      → Statements d (hs ++ (ts ++ (mark p Semicolon ∷ us))) (record { head = h; tree = e } ∷ ss)
 
 -- version 1, in millionths
 abbrev pub version : ℤ
@@ -31,7 +35,8 @@ version = pos 1000000
 
 -- the tokens derive the script with these statements
 pub data Script : ℕ → List Lexeme → List Statement → Type 0 where
-  script : {d : ℕ} {a b c : Place} {v : ℤ} {ts : List Lexeme} {ss : List Statement} → v ≡ version → Statements d ts ss → Script d (mark a PipelineWord ∷ (mark b (Number v) ∷ (mark c Semicolon ∷ ts))) ss
+  script : {d : ℕ} {a b c : Place} {v : ℤ} {ts : List Lexeme} {ss : List Statement} → v ≡ version
+      → Statements d ts ss → Script d (mark a PipelineWord ∷ (mark b (Number v) ∷ (mark c Semicolon ∷ ts))) ss
 
 -- some continuation of the tokens is a script that opens at most d constructs inside one another
 abbrev pub Viable : ℕ → List Lexeme → Type 0
@@ -104,7 +109,7 @@ stage_depth (Within ss h s) = depth s.frames
 stage_depth s = 0
 
 abbrev pub stage_allowed : ℕ → Option Stage → Result Stage Stop
-stage_allowed most (Some s) = cond (nat_le (stage_depth s) most) (Ok s) (Err Deep)
+stage_allowed most (Some s) = if nat_le (stage_depth s) most then Ok s else Err Deep
 stage_allowed most None = Err Stuck
 
 abbrev pub script_step : ℕ → Lexeme → Stage → Result Stage Stop

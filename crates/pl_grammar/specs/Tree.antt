@@ -6,8 +6,8 @@ use Rattle.pl_grammar.specs.declared.BinarySign.{BinarySign}
 use Rattle.pl_grammar.specs.declared.PrefixSign.TheVariants.{Minus, Not}
 use Rattle.pl_grammar.specs.declared.BinarySign.TheVariants.{Or, And, Less, LessEqual, Greater, GreaterEqual, Equal, NotEqual, Add, Sub, Mul, Div}
 
--- The tokens. `-` is Operator Sub wherever it stands; a number is in millionths, and LargeNumber is a literal past
--- the limits of literals.
+-- The tokens. `-` is Operator Sub wherever it stands; a number is in millionths, and LargeNumber is a
+-- literal past the limits of literals.
 pub data Token : Type 0 where
   Name : List ℕ → Token
   Number : ℤ → Token

@@ -1,4 +1,5 @@
--- The canonical tokens of whole scripts, what a script's tokens say of its parts, and scripts without their places.
+-- The canonical tokens of whole scripts, what a script's tokens say of its parts, and scripts without their
+-- places.
 use Rattle.std.specs.Prelude.{ℕ, suc, Bool, true, ◌&&◌, nat_le, List, [], ◌∷◌, ◌++◌, length, Option, Some, None, map}
 use Rattle.std.specs.List.{list_all}
 use Rattle.pl_grammar.specs.Tree.{Token, Name, Number, Text, Assign, Semicolon, PipelineWord, LetWord, ColumnWord, ScreenWord, Lexeme, mark, Tree, number, text, name, call, prefix, binary, member, method, Args, no_args, arg}
@@ -61,9 +62,14 @@ head_passes p (LetHead q n) = p (Name n)
 head_passes p (ColumnHead q n) = p (Name n)
 head_passes p (ScreenHead q) = true
 
--- A statement has a text: its parts pass the test, its tree isn't too deep, and its canonical tokens are not too many.
+-- A statement has a text: its parts pass the test, its tree isn't too deep, and its canonical tokens are
+-- not too many.
 abbrev pub is_sound : (Token → Bool) → Statement → Bool
-is_sound p s = head_passes p s.head && (tree_passes p s.tree && (nat_le (tree_depth s.tree) most_depth && nat_le (suc (length (head_tokens s.head ++ tokens s.tree))) most_tokens))
+is_sound p s =
+    head_passes p s.head
+    && (tree_passes p s.tree
+    && (nat_le (tree_depth s.tree) most_depth
+    && nat_le (suc (length (head_tokens s.head ++ tokens s.tree))) most_tokens))
 
 unfoldable pub are_sound : (Token → Bool) → List Statement → Bool
 are_sound p ss = list_all (is_sound p) ss

@@ -1,8 +1,5 @@
 pub mod Buffer
 pub mod TableLaw
-pub mod Distinct
-pub mod Unfolds
-pub mod Trees
 pub mod Law
 pub mod AsOf
 pub mod Worked
@@ -17,5 +14,4 @@ pub mod Reaches
 pub mod Chunks
 pub mod Ordinals
 pub mod Tops
-pub mod Filters
 pub mod OneSession

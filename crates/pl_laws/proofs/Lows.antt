@@ -22,8 +22,8 @@ use Rattle.pl_laws.specs.LowLaws.{bar_from, own_from, LowsCover, ReachCovers, St
 use Rattle.pl_laws.proofs.Starts.{eq_self, first_within, start-within}
 use Rattle.pl_laws.proofs.Rises.{is_eq, eq_is, start-rises}
 use Rattle.pl_laws.proofs.Reaches.{AllFrom, below_least, at_downward, before-zero}
-use Rattle.pl_laws.proofs.Trees.{term_at-node}
-use Rattle.pl_laws.proofs.Unfolds.{past}
+use Rattle.pl_spec.proofs.Trees.{term_at-node}
+use Rattle.pl_spec.proofs.Unfolds.{past}
 
 -- ---- the first session of a period
 

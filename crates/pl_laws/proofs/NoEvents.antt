@@ -1,4 +1,5 @@
--- A window over a bar column of an asset without events is the raw bars, and a window of one session is its value.
+-- A window over a bar column of an asset without events is the raw bars, and a window of one session is its
+-- value.
 use Rattle.std.proofs.Common.{◌≡◌, ℕ, suc, ℤ, [], ◌∷◌, map, Option, Some, None, refl, ◌∙◌, ap, arith}
 use Rattle.std.proofs.Math.Path.{fun_ext}
 use Rattle.std.proofs.lemmas.Int.{ints}

@@ -16,7 +16,7 @@ use Rattle.pl_spec.specs.Term.Term.{absent, column, node}
 use Rattle.pl_spec.specs.Value.{Meaning, part_of, number_of, holds, now, window_of, passes, in_group, entry, counts_for, eligible, group_of, test_value, step, value}
 use Rattle.pl_spec.specs.Graph.{least_of, part_reach, reads_at, reach}
 use Rattle.pl_spec.specs.Periods.{period_start}
-use Rattle.pl_laws.specs.Reaching.{HasWindows, SameBarsFrom}
+use Rattle.pl_spec.specs.Reaching.{HasWindows, SameBarsFrom}
 
 -- ---- the least of sessions
 

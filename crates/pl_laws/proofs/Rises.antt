@@ -1,4 +1,5 @@
--- Later days are of later periods, later sessions of later starts, and a term reaches no farther back for a later session.
+-- Later days are of later periods, later sessions of later starts, and a term reaches no farther back for a
+-- later session.
 use Rattle.std.proofs.Common.{◌≡◌, ℕ, zero, suc, ◌+◌, ◌-◌, ◌*◌, ◌/◌, ◌<◌, ◌≤◌, Bool, true, false, cond, ℤ, pos, negsuc, ◌<ℤ◌, ◌≤ℤ◌, ◌+ℤ◌, List, [], ◌∷◌, length, filter, get_or, AllPairs, Option, Some, None, option_map, unwrap_or, refl, sym, ◌∙◌, arith, inl, inr, slice_get}
 use Rattle.std.specs.List.{range_with_len}
 use Rattle.std.specs.Int.{int_div_euclid}

@@ -1,4 +1,5 @@
--- The first session of a period: it is no later than the sessions of the period, and later data doesn't change it.
+-- The first session of a period: it is no later than the sessions of the period, and later data doesn't
+-- change it.
 use Rattle.std.proofs.Common.{◌≡◌, ℕ, zero, suc, ◌+◌, ◌≤◌, Bool, true, false, cond, not, ℤ, pos, negsuc, ◌≤ℤ◌, List, [], ◌∷◌, Option, Some, None, option_map, unwrap_or, refl, sym, ◌∙◌, ap, arith, slice_get}
 use Rattle.std.specs.List.{position_or_len}
 use Rattle.std.specs.Ordering.{int_eq}

@@ -17,7 +17,8 @@ abbrev pub TablesAsOf : Type 0
 TablesAsOf = (w : World) (d : ℕ) (day : ℤ) → IsWorld w → slice_get w.days d ≡ Some day
     → (p : Pipeline) (from to : ℕ) → pos to ≤ℤ pos d → table (as_of w d day) p from to ≡ table w p from to
 
--- the parts that are known by a session are those of the world as of it, and are made for its sessions and assets
+-- the parts that are known by a session are those of the world as of it, and are made for its sessions and
+-- assets
 pub record PartsOf (days : List ℤ) (assets : List AssetRow) (labels : List ColumnLabel) (texts : List (List ℕ)) (bars : List BarRow) (adjustments : List ColumnAdjustment) (d : ℕ) (day : ℤ) : Type 0 where
   pub world : world_of (sessions_to d days) assets (labels_by day labels) texts (bars_before d bars) (adjustments_by day adjustments)
       ≡ as_of (world_of days assets labels texts bars adjustments) d day

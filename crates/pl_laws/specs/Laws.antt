@@ -25,7 +25,8 @@ ValuesAgree = (w v : World) (d day : ℤ) → IsWorld w → IsWorld v → Agree 
 abbrev pub RoundingIsExact : Type 0
 RoundingIsExact = (a : ℤ) (b : ℕ) (q : ℤ) → 0 < b → IsNearest a b (div_round a b) × (IsNearest a b q → q ≡ div_round a b)
 
--- the buffer's step: a row as it is seen on d becomes the row as it is seen on the next session by the events between the two days
+-- the buffer's step: a row as it is seen on d becomes the row as it is seen on the next session by the events
+-- between the two days
 abbrev pub BufferSteps : Type 0
 BufferSteps = (w : World) → IsWorld w → (a : ℕ) (c : Column) (s d low mid high : ℤ)
     → day_of w s ≡ Some low → day_of w d ≡ Some mid → day_of w (d +ℤ pos 1) ≡ Some high → low ≤ℤ mid → mid ≤ℤ high
@@ -77,12 +78,14 @@ OpenMasksChangeNothing = (w : World) (names : List (List ℕ)) (mask : Term)
     → (kind : Kind) (size : ℕ) (x y z group : Term) (a : ℕ) (d : ℤ)
     → value w names (node kind size x y z mask group) a d ≡ value w names (node kind size x y z absent group) a d
 
--- the tables of two pieces of a range, one behind the other, are the table of the range: a run may be cut anywhere
+-- the tables of two pieces of a range, one behind the other, are the table of the range: a run may be cut
+-- anywhere
 abbrev pub TablesConcatenate : Type 0
 TablesConcatenate = (w : World) (p : Pipeline) (from mid to : ℕ) → from ≤ suc mid → mid ≤ to
     → table w p from to ≡ table w p from mid ++ table w p (suc mid) to
 
--- the equation by which a program computes term after term: a numbered term is worth what its node gives over lower numbers
+-- the equation by which a program computes term after term: a numbered term is worth what its node gives over
+-- lower numbers
 abbrev pub NodesUnfold : Type 0
 NodesUnfold = (w : World) (names : List (List ℕ)) (g : Graph) (k : ℕ) (n : Node) → IsGraph g → slice_get g k ≡ Some n
     → (a : ℕ) (d : ℤ) → meaning_of w names g k a d ≡ node_value w names g n a d

@@ -1,6 +1,5 @@
 -- The laws, each the contract of a function.
 pub mod Laws
-pub mod Reaching
 pub mod AsOfLaws
 pub mod LowLaws
 pub mod ListLaws

@@ -7,7 +7,16 @@ use Rattle.pl_spec.specs.Window.{before}
 use Rattle.pl_spec.specs.Term.{Term, Input, Node, Graph, term_at, IsGraph}
 use Rattle.pl_spec.specs.Term.Input.{BarColumn, TermInput}
 use Rattle.pl_spec.specs.Graph.{least_of, reads_at, reach}
+use Rattle.pl_spec.specs.World.{World, Bar}
+use Rattle.pl_spec.specs.Reaching.{HasWindows, SameBarsFrom}
+use Rattle.pl_spec.specs.Value.{value}
 use Rattle.pl_spec.specs.Lows.{Reads, Needs, IsLow, least_reach}
+
+-- bars before a term's reach may be others, or none: its value stays
+abbrev pub ReachIsEnough : Type 0
+ReachIsEnough = (w : World) (bars : List Bar) (low : ℤ) → SameBarsFrom w (record w { bars = bars }) low
+    → (names : List (List ℕ)) (t : Term) → HasWindows t → (a : ℕ) (d : ℤ) → low ≤ℤ reach w.days t d
+    → value w names t a d ≡ value (record w { bars = bars }) names t a d
 
 -- what a computed session reads of a term is computed
 abbrev pub LowsCover : Type 0
@@ -41,7 +50,8 @@ ReachesMeet = (days : List ℤ) → AllPairs (λ a b. a <ℤ b) days → (g : Gr
     → (t : ℕ) (s : ℤ) → t < length g → Needs days g outputs from t s
     → (u : ℕ) × (n : Node) × (r : ℤ) × Needs days g outputs from u r × (slice_get g u ≡ Some n) × (own_from days n r ≡ reach days (term_at g t) s)
 
--- The first session of a period is of the period, no earlier session is, and for a later session it is no earlier.
+-- The first session of a period is of the period, no earlier session is, and for a later session it is no
+-- earlier.
 pub record StartsAreFirst : Type 0 where
   pub within : (f : Frequency) (days : List ℤ) (d : ℤ) → period_start f days d ≤ℤ d
   pub start : (f : Frequency) (days : List ℤ) (d : ℕ) (day : ℤ) → slice_get days d ≡ Some day

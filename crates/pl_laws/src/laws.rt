@@ -3,9 +3,8 @@ ghost use Rattle.pl_spec.specs.Lookups.{BarsAreFound, LabelsAreFound};
 ghost use Rattle.pl_laws.specs.Laws.{ValuesAgree, RoundingIsExact, BufferSteps, BarsAreAlike, TablesAgree, NodesUnfold};
 ghost use Rattle.pl_laws.specs.Laws.{TermsAreDistinct, OrderIsOne, OrderIsKept, RootIsGreatest, UsedAreListed};
 ghost use Rattle.pl_laws.specs.Laws.{RawWithoutEvents, WindowOfOne, OpenMasksChangeNothing, TablesConcatenate};
-ghost use Rattle.pl_laws.specs.Reaching.{ReachIsEnough};
 ghost use Rattle.pl_laws.specs.AsOfLaws.{AsOfAgrees, TablesAsOf, PartsAsOf};
-ghost use Rattle.pl_laws.specs.LowLaws.{StartsAreFirst, ReachesRise, LowsCover, ReachesCover, ReachesMeet};
+ghost use Rattle.pl_laws.specs.LowLaws.{StartsAreFirst, ReachesRise, ReachIsEnough, LowsCover, ReachesCover, ReachesMeet};
 ghost use Rattle.pl_laws.specs.DateLaws.{DatesAreRead, DatesAreWritten, DaysHaveOneDate};
 ghost use Rattle.pl_laws.specs.SidLaws.{SidsAreRead};
 

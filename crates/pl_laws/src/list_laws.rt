@@ -1,4 +1,5 @@
-//! The laws of cross-sections and of windows on lists. The functions do nothing: the contract of each is a law.
+//! The laws of cross-sections and of windows on lists. The functions do nothing: the contract of each is a
+//! law.
 ghost use Rattle.pl_laws.specs.ListLaws.{ValuesAreSorted, ValuesAreCounted, OrdinalsAreNumbers, OrdinalsArePlaces};
 ghost use Rattle.pl_laws.specs.ListLaws.{MeanIsBetween, BinsAreFew, EdgesAscend, BinsLieBetweenEdges, WholeRangeIsAll};
 ghost use Rattle.pl_laws.specs.ListLaws.{RanksAreBetween, DescendingIsNegated, TopsAreMany, FiltersCount};
@@ -14,7 +15,8 @@ pub fn values_are_counted()
     ensures { ValuesAreCounted }
 {}
 
-/// Assets in the order of their values, and of their sids where values are equal, have the ordinal ranks 1, 2 and so on.
+/// Assets in the order of their values, and of their sids where values are equal, have the ordinal ranks 1, 2
+/// and so on.
 pub fn ordinals_are_places()
     ensures { OrdinalsArePlaces }
 {}
@@ -49,7 +51,8 @@ pub fn whole_range_is_all()
     ensures { WholeRangeIsAll }
 {}
 
-/// The ordinal rank lies between the min and the max rank, the average in their middle, and the dense rank is no greater.
+/// The ordinal rank lies between the min and the max rank, the average in their middle, and the dense rank is
+/// no greater.
 pub fn ranks_are_between()
     ensures { RanksAreBetween }
 {}

@@ -19,6 +19,7 @@ abbrev pub kind_of : PlainTerm → WindowKind
 kind_of (Latest c) = LatestBar
 kind_of (SimpleMovingAverage c size) = MeanOfBars
 
+-- the bar column
 abbrev pub column_of : PlainTerm → Column
 column_of (Latest c) = c
 column_of (SimpleMovingAverage c size) = c
@@ -31,7 +32,8 @@ size_of (SimpleMovingAverage c size) = size
 abbrev pub term_of : PlainTerm → Term
 term_of t = over_bars (kind_of t) (column_of t) (size_of t)
 
--- how many pairs there are of one of the size sessions before d and a ratio that acts on the cell of its bar, as it is seen on d
+-- how many pairs there are of one of the size sessions before d and a ratio that acts on the cell of its
+-- bar, as it is seen on d
 abbrev pub window_steps : World → Column → ℕ → ℕ → ℤ → ℕ
 window_steps w c size a d = sum_by (λ n. step_count (effects w a c (before d (suc n)) d)) (downward size)
 

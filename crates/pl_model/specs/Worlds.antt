@@ -10,12 +10,14 @@ use Rattle.pl_spec.specs.Parts.{AreFor, ColumnAdjustment, ColumnLabel}
 use Rattle.pl_model.specs.declared.world.World.{World}
 
 abbrev pub world_of : World → spec.World
-world_of w = parts.world_of w.sessions.now w.assets.now w.labels.now.rows w.labels.now.texts w.bars.now w.adjustments.now
+world_of w =
+    parts.world_of w.sessions.now w.assets.now w.labels.now.rows w.labels.now.texts w.bars.now
+    w.adjustments.now
 
--- The parts were made for these sessions and assets: each bar is of one of the sessions, and each label row, bar and adjustment of
--- one of the assets.
-pub record AreMadeFor (days : List ℤ) (assets : List AssetRow) (labels : List ColumnLabel) (bars : List BarRow)
-    (adjustments : List ColumnAdjustment) : Type 0 where
+-- The parts were made for these sessions and assets: each bar is of one of the sessions, and each label row,
+-- bar and adjustment of one of the assets.
+pub record AreMadeFor (days : List ℤ) (assets : List AssetRow) (labels : List ColumnLabel)
+    (bars : List BarRow) (adjustments : List ColumnAdjustment) : Type 0 where
   pub labels_in : All (λ r. r.col < length assets) labels
   pub bars_in : All (λ b. b.col < length assets) bars
   pub sessions_in : All (λ b. b.session < length days) bars

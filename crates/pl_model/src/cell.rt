@@ -1,3 +1,5 @@
+//! The value of a plain term, one cell at a time.
+
 ghost use Rattle.std.specs.Prelude.{◌≡◌, ◌+◌, ◌<◌, ◌≤◌, [], pos, length};
 ghost use Rattle.pl_spec.specs.Rounding.{IsCell};
 ghost use Rattle.pl_spec.specs.Parts.{sid_at};
@@ -18,16 +20,17 @@ use std::sync::ledger::Ledger;
 /// A term that is computed without a graph of terms.
 #[derive(Clone, Copy, Debug, PartialEq, Eq)]
 pub enum PlainTerm {
-    /// The column of the latest bar that is known: that of the session before.
+    /// The bar column of the latest bar that is known: that of the session before.
     Latest(Column),
-    /// The mean of the column's present cells over so many sessions before.
+    /// The mean of the bar column's present cells over so many sessions before.
     SimpleMovingAverage(Column, u32),
 }
 
-/// The value of a term for the asset of a column on a session, in millionths; `MISSING` where the asset does not exist on
-/// the session, and where no bar of the window has a cell. Each cell is as it is seen on the session: changed by every
-/// adjustment that acts on the column later than the bar's day and by the session's. Each of these is one step, also where
-/// the cell is missing. A window may begin before the first session: no bars stand there. It takes no memory.
+/// The value of a term for the asset in column `col` on a session, in millionths; `MISSING` where the
+/// asset does not exist on the session, and where no bar of the window has a cell. Each cell is as it is
+/// seen on the session: changed by every adjustment that acts on the bar column later than the bar's day and
+/// by the session's. Each of these is one step, also where the cell is missing. A window may begin before
+/// the first session: no bars stand there. It takes no memory.
 pub fn plain_cell<L: Ledger>(
     world: &World,
     term: PlainTerm,

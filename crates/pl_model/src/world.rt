@@ -1,10 +1,13 @@
+//! The parts of a world, lent.
+
 use pl_adjust::Adjustments;
 use pl_assets::{Assets, Labels};
 use pl_bars::Bars;
 use pl_calendar::Sessions;
 
-/// The sessions, assets, labels, bars and adjustments of a world, each lent by its owner. A session is known by its place
-/// among the sessions, an asset by its column, which is its place among the assets; both are counted from 0.
+/// The sessions, assets, labels, bars and adjustments of a world, each lent by its owner. A session is known
+/// by its place among the sessions, an asset by its column, which is its place among the assets; both are
+/// counted from 0.
 #[derive(Clone, Copy)]
 pub struct World<'a> {
     pub sessions: &'a Sessions,

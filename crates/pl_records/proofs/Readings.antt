@@ -1,15 +1,14 @@
 -- Rows that are read are those of the records, and the fault is the first.
-use Rattle.std.proofs.Common.{◌≡◌, ◌≢◌, Bool, true, false, bytes_eq, ℕ, zero, suc, ◌+◌, ◌<◌, ◌≤◌, ◌↔◌, List, [], ◌∷◌, ◌++◌, length, take, drop, Option, Some, None, IfSome, Result, Ok, Err, refl, sym, ◌∙◌, ap, subst, arith, append_assoc, length-append, inl, inr, add-one}
+use Rattle.std.proofs.Common.{◌≡◌, ◌≢◌, Bool, true, false, bytes_eq, ℕ, zero, suc, ◌+◌, ◌<◌, ◌≤◌, ◌↔◌, List, [], ◌∷◌, ◌++◌, length, take, drop, Option, Some, None, IfSome, Result, Ok, Err, refl, sym, ◌∙◌, ap, arith, append_assoc, length-append, inl, inr, add-one}
 use Rattle.std.specs.List.{slice_get}
 use Rattle.std.specs.Bool.{Decides, if◌then◌else◌}
-use Rattle.std.specs.Option.{ok_or}
 use Rattle.std.proofs.lemmas.Slice.Eq.{bytes_eq-Decides}
 use lib.Pointwise.{pointwise, pointwise_decides}
 use Rattle.std.proofs.lemmas.Bool.{cases_lt}
 use Rattle.std.proofs.lemmas.List.{take-append-le}
 use Rattle.std.proofs.lemmas.Option.{slice_get_within}
 use Rattle.std.proofs.Math.Seq.{take-append_seam}
-use Rattle.pl_records.specs.Reading.{rows_under, has_header, Record, field, Fault, ◌>>=◌, at_line, rows_behind, rows_of, AreRows, IsFirstFault, BreaksFirst, Judges, AreRowsUnder, IsFaultUnder}
+use Rattle.pl_records.specs.Reading.{rows_under, has_header, Record, field, Fault, ◌>>=◌, at_line, rows_behind, rows_of, AreRows, IsFirstFault, Judges, AreRowsUnder, IsFaultUnder}
 
 pub rows-stop : {Row R : Type 0} (first : ℕ) (says : List Row → Record → Result Row R) (before : List Row) (r : Record) (rs : List Record) (rule : R)
     → says before r ≡ Err rule → rows_behind first says before (r ∷ rs) ≡ Err (record { rule = rule; line = first + length before })
@@ -271,15 +270,7 @@ pub is_done : {Row R : Type 0} (first : ℕ) (says : List Row → Record → Res
 unfolding rows_behind
 is_done first says before left all e so_far = sym so_far ∙ ap (rows_behind first says before) e
 
--- ---- what is known of a record that says a row
-
-pub guard_ok : {A R : Type 0} (b : Bool) (rule : R) (y : Result A R) (x : A) → (if b then Err rule else y) ≡ Ok x → (b ≡ false) × (y ≡ Ok x)
-guard_ok true rule y x e = absurd (let bad : Err rule ≡ Ok x = e in cc)
-guard_ok false rule y x e = (refl, e)
-
-pub some_ok : {A B R : Type 0} (o : Option A) (rule : R) (f : A → Result B R) (x : B) → (ok_or o rule >>= f) ≡ Ok x → (a : A) × (o ≡ Some a) × (f a ≡ Ok x)
-some_ok None rule f x e = absurd (let bad : Err rule ≡ Ok x = e in cc)
-some_ok (Some a) rule f x e = (a, refl, e)
+-- ---- what is known of rows that are read under a header
 
 pub under_ok : {Row R : Type 0} (names : Record) (bad : R) (says : List Row → Record → Result Row R) (records : List Record) (rows : List Row)
     → rows_under names bad says records ≡ Ok rows → (has_header names records ≡ true) × (rows_of 2 says (drop 1 records) ≡ Ok rows)
@@ -290,7 +281,7 @@ under_ok {Row} {R} names bad says records rows e = here (has_header names record
     here true t e = (t, e)
     here false t e = absurd (cc)
 
--- ---- and of one that breaks a rule
+-- ---- the exits of a judgement
 
 pub guard_on : {A R : Type 0} (b : Bool) (rule : R) (y : Result A R) → b ≡ false → (if b then Err rule else y) ≡ y
 guard_on b rule y e = rw e refl
@@ -298,56 +289,8 @@ guard_on b rule y e = rw e refl
 pub guard_err : {A R : Type 0} (b : Bool) (rule : R) (y : Result A R) → b ≡ true → (if b then Err rule else y) ≡ Err rule
 guard_err b rule y e = rw e refl
 
-pub some_on : {A B R : Type 0} (o : Option A) (rule : R) (f : A → Result B R) (a : A) → o ≡ Some a → (ok_or o rule >>= f) ≡ f a
-some_on o rule f a e = rw e refl
-
-pub none_err : {A B R : Type 0} (o : Option A) (rule : R) (f : A → Result B R) → o ≡ None → (ok_or o rule >>= f) ≡ Err rule
-none_err o rule f e = rw e refl
-
 pub told : {A R : Type 0} (x : Result A R) (rule : R) (n m : ℕ) → x ≡ Err rule → n ≡ m → at_line n x ≡ Err (record { rule = rule; line = m })
 told x rule n m e f = rw (e, f) refl
-
--- ---- a judgement that names the first rule that is broken
-
--- A row keeps every rule, a record has one row, and the place of a rule tells it: so it is enough that what the judgement
--- says is right.
-pub Judges-from : {Row R : Type 0} (IsRow : List Row → Record → Row → Type 0) (Breaks : List Row → Record → R → Type 0) (says : List Row → Record → Result Row R) (order : R → ℕ) (rule_at : ℕ → R)
-    → ((q : R) → rule_at (order q) ≡ q)
-    → ((before : List Row) (r : Record) (row : Row) → says before r ≡ Ok row → IsRow before r row)
-    → ((before : List Row) (r : Record) (rule : R) → says before r ≡ Err rule → BreaksFirst order (Breaks before r) rule)
-    → ((before : List Row) (r : Record) (x y : Row) → IsRow before r x → IsRow before r y → x ≡ y)
-    → ((before : List Row) (r : Record) (row : Row) → IsRow before r row → (q : R) → Breaks before r q → ⊥)
-    → Judges IsRow (λ before r. BreaksFirst order (Breaks before r)) says
-Judges-from {Row} {R} IsRow Breaks says order rule_at at ok err one kept =
-    record {
-      row = λ before r row. (ok before r row, says_row before r row (says before r) refl);
-      rule = λ before r rule. (err before r rule, says_rule before r rule (says before r) refl);
-    }
-  where
-    says_row : (before : List Row) (r : Record) (row : Row) (x : Result Row R) → says before r ≡ x → IsRow before r row → x ≡ Ok row
-    says_row before r row (Ok y) e h = ap Ok (one before r y row (ok before r y e) h)
-    says_row before r row (Err q) e h = absurd (let b = err before r q e in kept before r row h q b.breaks)
-
-    says_rule : (before : List Row) (r : Record) (rule : R) (x : Result Row R) → says before r ≡ x → BreaksFirst order (Breaks before r) rule → x ≡ Err rule
-    says_rule before r rule (Ok y) e h = absurd (kept before r y (ok before r y e) rule h.breaks)
-    says_rule before r rule (Err q) e h = ap Err (same (err before r q e))
-      where
-        same : BreaksFirst order (Breaks before r) q → q ≡ rule
-        same b = elim (cases_lt (order q) (order rule)) [
-          | inl lt ↦ absurd (h.no_earlier q lt b.breaks)
-          | inr ge ↦ elim (cases_lt (order rule) (order q)) [
-            | inl lt ↦ absurd (b.no_earlier rule lt h.breaks)
-            | inr le ↦ (let level : order q ≡ order rule = omega arith in sym (at q) ∙ ap rule_at level ∙ at rule)
-          ]
-        ]
-
--- one rule more is kept
-pub passed-more : {R : Type 0} (order : R → ℕ) (rule_at : ℕ → R) → ((q : R) → rule_at (order q) ≡ q) → (Breaks : R → Type 0) (n : ℕ)
-    → ((q : R) → order q < n → Breaks q → ⊥) → (Breaks (rule_at n) → ⊥) → (q : R) → order q < n + 1 → Breaks q → ⊥
-passed-more order rule_at at Breaks n passed here q l b = elim (cases_lt (order q) n) [
-  | inl lt ↦ passed q lt b
-  | inr ge ↦ (let same : order q ≡ n = omega arith in here (subst Breaks (sym (at q) ∙ ap rule_at same) b))
-]
 
 -- ---- rows under a header
 

@@ -11,8 +11,8 @@ is_known day e = int_le e.day day
 abbrev pub has_started : ℤ → LabelRow → Bool
 has_started day r = int_le r.start day
 
--- The worlds have the same sessions up to d, whose day is the given one, the same bars before d, the same lifetimes up to d,
--- and of each sid the same adjustments and label rows that are effective by that day.
+-- The worlds have the same sessions up to d, whose day is the given one, the same bars before d, the same
+-- lifetimes up to d, and of each sid the same adjustments and label rows that are effective by that day.
 pub record Agree (w v : World) (d day : ℤ) : Type 0 where
   pub is_day : day_of w d ≡ Some day
   pub days : (s : ℤ) → s ≤ℤ d → day_of w s ≡ day_of v s

@@ -22,8 +22,9 @@ adjustments_by day adjustments = filter (λ x. int_le x.event.day day) adjustmen
 
 -- ---- the world
 
--- The world as of session d, whose day is the given one: its sessions up to d, the bars of sessions before d, and the label rows and
--- adjustments that count by that day. All assets are kept, and all texts, so that each has its code.
+-- The world as of session d, whose day is the given one: its sessions up to d, the bars of sessions before d,
+-- and the label rows and adjustments that count by that day. All assets are kept, and all texts, so that each
+-- has its code.
 abbrev pub as_of : World → ℕ → ℤ → World
 as_of w d day =
     record {

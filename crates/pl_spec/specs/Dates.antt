@@ -54,7 +54,8 @@ date_in text = day_if (year_in text) (pair_in text 5) (pair_in text 8) text
 
 -- ---- the text of a day
 
--- the days of the years before y, from year 1 on: every fourth year is a leap year, but of the centuries only every fourth
+-- the days of the years before y, from year 1 on: every fourth year is a leap year, but of the centuries only
+-- every fourth
 abbrev pub days_before_year : ℕ → ℕ
 days_before_year y = 365 * (y - 1) + (y - 1) / 4 - (y - 1) / 100 + (y - 1) / 400
 

@@ -17,7 +17,8 @@ abbrev pub point_text : List ℕ → List ℕ
 point_text [] = []
 point_text (d ∷ ds) = 46 ∷ d ∷ ds
 
--- The bytes are the text of d: an optional minus, one digit or more, and optionally a point and one digit or more.
+-- The bytes are the text of d: an optional minus, one digit or more, and optionally a point and one digit or
+-- more.
 pub record IsDecimal (d : Decimal) (bytes : List ℕ) : Type 0 where
   pub whole : IsNumeral 10 d.whole
   pub fraction : AllDigits 10 d.fraction
@@ -51,6 +52,7 @@ units_text n = decimal (n / MILLION) ++ 46 ∷ digits 6 (n % MILLION)
 unfoldable pub cell_text : ℤ → List ℕ
 cell_text x = if is_missing x then [] else sign_text (int_lt x (pos 0)) ++ units_text (unsigned_abs x)
 
--- the sid that a text writes, without sign and zeros in front: the number in it is a sid, and that number's text is it
+-- the sid that a text writes, without sign and zeros in front: the number in it is a sid, and that number's
+-- text is it
 unfoldable pub sid_in : List ℕ → Option ℕ
 sid_in text = let n = digits_value 10 text in if nat_lt n (2 ^ 32) && bytes_eq text (decimal n) then Some n else None

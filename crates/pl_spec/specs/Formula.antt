@@ -1,4 +1,5 @@
--- The formulas over a window: each is a sum, a greatest or least, a count or a quotient over plain lists, oldest first.
+-- The formulas over a window: each is a sum, a greatest or least, a count or a quotient over plain lists,
+-- oldest first.
 use Rattle.std.specs.Prelude.{ℕ, zero, suc, ◌+◌, ◌-◌, ◌*◌, ◌/◌, Bool, ◌&&◌, if◌then◌else◌, ◌==◌, nat_le, ℤ, pos, ◌+ℤ◌, ◌-ℤ◌, ◌*ℤ◌, neg_ℤ, List, [], ◌∷◌, length, map, filter, fold, drop, unwrap_or, sum_by, count_by, get_or, position, zip}
 use Rattle.std.specs.List.{list_any, list_all, reduce, range_with_len}
 use Rattle.std.specs.Int.RustNames.{unsigned_abs, int_lt}

@@ -1,4 +1,5 @@
--- The terms that a pipeline uses, the sessions that they reach back to, and how many results are live at once.
+-- The terms that a pipeline uses, the sessions that they reach back to, and how many results are live at
+-- once.
 use Rattle.std.specs.Prelude.{◌≡◌, ℕ, zero, suc, ◌+◌, Bool, true, ◌&&◌, ◌||◌, if◌then◌else◌, ◌==◌, nat_le, max, ℤ, List, [], ◌∷◌, ◌++◌, length, map, filter, filter_map, fold, Option, Some, None, option_to_list, slice_get, count_by}
 use Rattle.std.specs.List.{list_any}
 use Rattle.std.specs.Int.{int_min}
@@ -21,7 +22,8 @@ part_reach absent f size d = d
 part_reach (column c) f size d = before d size
 part_reach (node k n x y z m g) f size d = least_of (map (λ i. f (before d i)) (downward size)) d
 
--- the session up to which a term of the kind reads its inputs for session d; its mask and its group it reads on d itself
+-- the session up to which a term of the kind reads its inputs for session d; its mask and its group it reads
+-- on d itself
 abbrev pub reads_at : List ℤ → Kind → ℤ → ℤ
 reads_at days (Downsample f) d = period_start f days d
 reads_at days k d = d

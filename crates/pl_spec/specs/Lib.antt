@@ -17,6 +17,7 @@ pub mod Value
 pub mod NodeValue
 pub mod Table
 pub mod Graph
+pub mod Reaching
 pub mod Lows
 pub mod Text
 pub mod Parts

@@ -1,4 +1,5 @@
--- Cells are whole numbers of millionths: how a quotient is rounded, which numbers are cells, and the sums, products and quotients of cells.
+-- Cells are whole numbers of millionths: how a quotient is rounded, which numbers are cells, and the sums,
+-- products and quotients of cells.
 use Rattle.std.specs.Prelude.{◌≡◌, ℕ, zero, suc, ◌+◌, ◌*◌, ◌/◌, ◌<◌, ◌≤◌, Bool, ◌||◌, not, if◌then◌else◌, nat_le, ◌⊎◌, ℤ, pos, negsuc, ◌+ℤ◌, ◌-ℤ◌, ◌*ℤ◌, neg_ℤ}
 use Rattle.std.specs.Int.RustNames.{unsigned_abs}
 use Rattle.std.specs.Ordering.{int_eq}

@@ -3,7 +3,8 @@ use Rattle.std.specs.Prelude.{◌≡◌, ℕ, ◌<◌, ◌≤◌, List, [], ◌�
 use Rattle.pl_spec.specs.declared.Column.{Column}
 use Rattle.pl_spec.specs.Kind.{Kind}
 
--- A term over its first, second and third input, its mask and its group. What stands in such a place is a bar column, a term or absent.
+-- A term over its first, second and third input, its mask and its group. What stands in such a place is a bar
+-- column, a term or absent.
 pub data Term : Type 0 where
   absent : Term
   column : Column → Term

@@ -1,4 +1,5 @@
--- The value of a term for an asset on a session, computed by itself from bars before the session and adjustments effective by then.
+-- The value of a term for an asset on a session, computed by itself from bars before the session and
+-- adjustments effective by then.
 use Rattle.std.specs.Prelude.{ℕ, Bool, true, false, ◌&&◌, if◌then◌else◌, ◌==◌, ℤ, pos, List, [], map, filter, Option, Some, None, unwrap_or, slice_get, bytes_eq}
 use Rattle.std.specs.List.{list_any}
 use Rattle.std.specs.Ordering.{int_eq}
@@ -18,7 +19,8 @@ use Rattle.pl_spec.specs.Cross.{Entry, cross}
 use Rattle.pl_spec.specs.Term.{Term}
 use Rattle.pl_spec.specs.Term.Term.{absent, column, node}
 
--- A cell, a truth value as 1 or 0, a numbered classifier's number, or a label's text. No label is the number MISSING.
+-- A cell, a truth value as 1 or 0, a numbered classifier's number, or a label's text. No label is the number
+-- MISSING.
 pub data Value : Type 0 where
   Number : ℤ → Value
   Text : List ℕ → Value

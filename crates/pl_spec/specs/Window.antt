@@ -16,8 +16,8 @@ pub data Effect : Type 0 where
   Scale : Fraction → Effect
   Put : ℤ → Effect
 
--- what an adjustment multiplies a cell of the column by: prices by its ratio, and the volume by the inverse of a split's;
--- mergers and dividends leave the volume as it is
+-- what an adjustment multiplies a cell of the column by: prices by its ratio, and the volume by the inverse
+-- of a split's; mergers and dividends leave the volume as it is
 abbrev pub factor : Column → AdjustmentKind → Fraction → Option Fraction
 factor Volume Merger ratio = None
 factor Volume Dividend ratio = None
@@ -90,7 +90,8 @@ step_of (Put value) = 0
 abbrev pub step_count : List Effect → ℕ
 step_count fs = sum_by step_of fs
 
--- how many pairs of a ratio and a bar session there are for the column, from session first on, seen on session first + rows
+-- how many pairs of a ratio and a bar session there are for the column, from session first on, seen on
+-- session first + rows
 abbrev pub applied_steps : World → Column → ℕ → ℕ → List ℕ → ℕ
 applied_steps w c first rows sids =
     sum_by (λ a. sum_by (λ s. step_count (effects w a c (pos s) (pos (first + rows)))) (range_with_len first rows)) sids

@@ -8,7 +8,8 @@ use Rattle.pl_spec.specs.declared.Column.{Column}
 use Rattle.pl_spec.specs.declared.Column.TheVariants.{OpenPrice, High, Low, Close, Volume}
 use Rattle.pl_spec.specs.Rounding.{MISSING, Fraction}
 
--- from the day start on the asset sid has the text as its label under the name; an empty text says that it has none
+-- from the day start on the asset sid has the text as its label under the name; an empty text says that it
+-- has none
 pub record LabelRow : Type 0 where
   pub name : List ℕ
   pub sid : ℕ
@@ -24,8 +25,8 @@ pub record Bar : Type 0 where
   pub close : ℤ
   pub volume : ℤ
 
--- what an adjustment changes: it scales the cells of earlier bars by a ratio, or overwrites one cell, that of a column in the bar
--- of the session of a day
+-- what an adjustment changes: it scales the cells of earlier bars by a ratio, or overwrites one cell, that of
+-- a column in the bar of the session of a day
 pub data Change : Type 0 where
   Scale : Fraction → Change
   Overwrite : (bar_day : ℤ) (column : Column) (value : ℤ) → Change
@@ -53,9 +54,9 @@ pub record World : Type 0 where
 abbrev pub events_of : World → ℕ → List Event
 events_of w a = map (λ x. x.event) (filter (λ x. x.sid == a) w.adjustments)
 
--- The days ascend, and so do the assets' sids. The adjustments of an asset stand by day; on one day splits come before mergers,
--- these before dividends and these before revisions, each in the order of their table or file (Order says so), but the laws need
--- the order of days alone.
+-- The days ascend, and so do the assets' sids. The adjustments of an asset stand by day; on one day splits
+-- come before mergers, these before dividends and these before revisions, each in the order of their table or
+-- file (Order says so), but the laws need the order of days alone.
 pub record IsWorld (w : World) : Type 0 where
   pub days_ascend : AllPairs (λ a b. a <ℤ b) w.days
   pub sids_ascend : AllPairs (λ a b. a.sid < b.sid) w.assets

@@ -1,8 +1,8 @@
 //! What pipelines mean: the definitions on which every contract of the project rests.
 //!
-//! The definitions stand in `specs/`, and docs/DEFINITIONS.md explains each of them. The types here are those that
-//! both the definitions and the code speak of; the crates that they belong to export them. The laws of the definitions
-//! are the crate `pl_laws`.
+//! The definitions stand in `specs/`, and docs/DEFINITIONS.md explains each of them. The types here are those
+//! that both the definitions and the code speak of; the crates that they belong to export them. The laws of
+//! the definitions are the crate `pl_laws`.
 #![tactic(auto)]
 
 /// A column of daily bars. Prices are millionths of a unit of money, volumes millionths of a share.
@@ -35,8 +35,9 @@ pub enum Compare {
     NotEqual,
 }
 
-/// Which rank equal values have: places of their own by ascending sid, the least or the greatest of their places, one
-/// place for each distinct value, or the average of their places. These are the methods of Zipline's `Factor.rank`.
+/// Which rank equal values have: places of their own by ascending sid, the least or the greatest of their
+/// places, one place for each distinct value, or the average of their places. These are the methods of
+/// Zipline's `Factor.rank`.
 #[derive(Clone, Copy, Debug, PartialEq, Eq)]
 pub enum RankMethod {
     Ordinal,
@@ -53,8 +54,8 @@ pub enum RankOrder {
     Descending,
 }
 
-/// At which sessions a downsampled term takes its input's value: the first of each year, quarter, month or week. Weeks
-/// begin on Monday, quarters with January, April, July and October.
+/// At which sessions a downsampled term takes its input's value: the first of each year, quarter, month or
+/// week. Weeks begin on Monday, quarters with January, April, July and October.
 #[derive(Clone, Copy, Debug, PartialEq, Eq)]
 pub enum Frequency {
     YearStart,
@@ -70,8 +71,8 @@ pub enum Format {
     Fixed,
 }
 
-/// An asset, which exists on each session whose day is later than `start` and at most `end`. Days are counted from
-/// 1970-01-01.
+/// An asset, which exists on each session whose day is later than `start` and at most `end`. Days are counted
+/// from 1970-01-01.
 #[derive(Clone, Copy, Debug, PartialEq, Eq)]
 pub struct AssetRow {
     pub sid: u32,
@@ -87,8 +88,8 @@ pub struct BarRow {
     pub cells: [i64; 5],
 }
 
-/// A row of a table of splits, mergers or dividends. `effective` is in seconds since 1970-01-01 UTC: from that day on
-/// earlier bars are seen times `num / den`.
+/// A row of a table of splits, mergers or dividends. `effective` is in seconds since 1970-01-01 UTC: from
+/// that day on earlier bars are seen times `num / den`.
 #[derive(Clone, Copy, Debug, PartialEq, Eq)]
 pub struct RawAdjust {
     pub id: i64,

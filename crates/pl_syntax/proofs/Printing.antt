@@ -1,5 +1,5 @@
 -- The canonical text of a script spells it again.
-use Rattle.std.proofs.Common.{◌≡◌, ℕ, true, List, Result, Ok, Err, ap, subst, sym, ◌∙◌}
+use Rattle.std.proofs.Common.{◌≡◌, ℕ, true, List, Result, Ok, Err, refl, ap, subst, sym, ◌∙◌}
 use Rattle.pl_grammar.specs.declared.Place.{Place}
 use Rattle.pl_grammar.specs.Script.{Statement}
 use Rattle.pl_grammar.specs.Whole.{are_sound, bare_script}
@@ -17,26 +17,32 @@ use Rattle.pl_syntax.specs.declared.error.SyntaxError.TheVariants.{Memory}
 use Rattle.pl_syntax.proofs.Shown.{script_shows}
 use Rattle.pl_syntax.proofs.Verdicts.{one_parsed, spelled_answers}
 
-pub spells_again : (ss : List Statement) (end : Place) → are_sound is_written ss ≡ true → SpellsAgain (script_text ss) (record { statements = ss; end = end })
+pub spells_again : (ss : List Statement) (end : Place) → are_sound is_written ss ≡ true → SpellsAgain (script_text 1 ss) (record { version = 1; statements = ss; end = end })
 spells_again ss end h =
     let r = (script_shows ss h).from start in
     let d = replaced_script (script_derives is_written ss h) r.tokens r.same in
-    let s : Parsed = record { statements = d.statements; end = r.end } in
-    let x : Spells (script_text ss) s = record { tokens = r.tokens; reads = r.reads; short = same_short r.same 0 (script_short is_written ss h); derives = d.derives } in
+    let s : Parsed = record { version = 1; statements = d.statements; end = r.end } in
+    let x : Spells (script_text 1 ss) s = record { tokens = r.tokens; reads = r.reads; short = same_short r.same 0 (script_short is_written ss h); derives = d.derives; version = refl } in
     record {
       script = s;
       spells = x;
-      same = d.same;
-      only = λ y z. ap (λ (w : Parsed). bare_script w.statements) (one_parsed (script_text ss) y s z x) ∙ d.same;
+      same = record { version = refl; statements = d.same };
+      only = λ y z. record { version = z.version; statements = ap (λ (w : Parsed). bare_script w.statements) (one_parsed (script_text 1 ss) y s z x) ∙ d.same };
     }
 
 same_answer : (r : Result Script SyntaxError) (x y : Parsed) → AnswersScript r x → SameScript x y → AnswersSame r y
-same_answer (Ok s) x y a h = ap (λ (w : Parsed). bare_script w.statements) a ∙ h
+same_answer (Ok s) x y a h = record { version = ap (λ (w : Parsed). w.version) a ∙ h.version; statements = ap (λ (w : Parsed). bare_script w.statements) a ∙ h.statements }
 same_answer (Err Memory) x y a h = tt
 same_answer (Err e) x y a h = a
+
+-- of a script, which is of version 1
+pub printed_again : (s : Script) → SpellsAgain (printed_text s) (parsed s)
+printed_again s =
+    let at : ℕ → Type 0 = λ n. SpellsAgain (script_text n (statements_of (statements_in s))) (record { version = n; statements = statements_of (statements_in s); end = end_in s }) in
+    subst at (sym s.known) (spells_again (statements_of (statements_in s)) (end_in s) s.sound)
 
 -- what is printed of a script is read as it
 pub printed_answers : (bytes : List ℕ) (r : Result Script SyntaxError) → Outcome bytes r → (s : Script) → bytes ≡ printed_text s → AnswersSame r (parsed s)
 printed_answers bytes r o s e =
-    let x = spells_again (statements_of (statements_in s)) (end_in s) s.sound in
+    let x = printed_again s in
     same_answer r x.script (parsed s) (spelled_answers bytes r o x.script (subst (λ z. Spells z x.script) (sym e) x.spells)) x.same

@@ -1,6 +1,6 @@
 -- Scripts are the same, places aside, exactly where their canonical texts are.
 use Rattle.std.proofs.Common.{◌≡◌, ℕ, Bool, true, false, List, [], ◌∷◌, ◌++◌, refl, sym, ap, ◌∙◌, subst}
-use Rattle.std.specs.Prelude.{nat_le, codes}
+use Rattle.std.specs.Prelude.{nat_le, codes, decimal}
 use Rattle.std.specs.Str.{bytes_eq}
 use Rattle.std.specs.Bool.{Decides}
 use Rattle.std.proofs.lemmas.Slice.Eq.{bytes_eq-Decides}
@@ -12,7 +12,10 @@ use Rattle.pl_grammar.specs.Script.{Head, LetHead, ColumnHead, ScreenHead, State
 use Rattle.pl_grammar.specs.Whole.{are_sound, bare_head, bare_script}
 use Rattle.pl_tokens.specs.Sound.{is_written}
 use Rattle.pl_syntax.specs.Canonical.{prefix_text, binary_text, placed_text, comma_text, name_text, in_parentheses, tree_text, list_text, head_text, statement_text, statements_text, script_text}
-use Rattle.pl_syntax.specs.Spells.{Spells}
+use Rattle.pl_syntax.specs.Scripts.{statements_in, end_in, parsed, printed_text}
+use Rattle.pl_syntax.specs.Spells.{SameScript, Spells}
+use Rattle.pl_syntax.specs.Statements.{statements_of}
+use Rattle.pl_syntax.specs.declared.script.Script.{Script}
 use Rattle.pl_syntax.proofs.Printing.{spells_again}
 
 bare_level : (e : Tree) → tree_level (bare e) ≡ tree_level e
@@ -59,17 +62,24 @@ bare_statements (s ∷ ss) =
     ∙ (ap (λ z. (head_text s.head ++ (z ++ codes ";\n")) ++ statements_text (bare_script ss)) (bare_text s.tree)
     ∙ ap (λ z. statement_text s ++ z) (bare_statements ss))
 
-same_text : (a b : List Statement) → bare_script a ≡ bare_script b → script_text a ≡ script_text b
+same_text : (n : ℕ) (a b : List Statement) → bare_script a ≡ bare_script b → script_text n a ≡ script_text n b
 unfolding script_text
-same_text a b h = ap (λ z. codes "pipeline 1;\n" ++ z) (sym (bare_statements a) ∙ (ap statements_text h ∙ bare_statements b))
+same_text n a b h = ap (λ z. codes "pipeline " ++ (decimal n ++ (codes ";\n" ++ z))) (sym (bare_statements a) ∙ (ap statements_text h ∙ bare_statements b))
 
-same_script : (a b : List Statement) (p : Place) → are_sound is_written a ≡ true → are_sound is_written b ≡ true → script_text a ≡ script_text b → bare_script a ≡ bare_script b
+same_script : (a b : List Statement) (p : Place) → are_sound is_written a ≡ true → are_sound is_written b ≡ true → script_text 1 a ≡ script_text 1 b → bare_script a ≡ bare_script b
 same_script a b p h k e =
     let x = spells_again a p h in
     let y = spells_again b p k in
-    sym x.same ∙ y.only x.script (subst (λ z. Spells z x.script) e x.spells)
+    sym x.same.statements ∙ (y.only x.script (subst (λ z. Spells z x.script) e x.spells)).statements
 
-pub text_decides : (a b : List Statement) (p : Place) → are_sound is_written a ≡ true → are_sound is_written b ≡ true → Decides (bytes_eq (script_text a) (script_text b)) (bare_script a ≡ bare_script b)
-text_decides a b p h k =
-    let t = bytes_eq-Decides (script_text a) (script_text b) in
-    (λ e. same_script a b p h k (t.0 e), λ e. t.1 (same_text a b e))
+-- the canonical texts of scripts, which are of version 1, are the same exactly where the scripts are
+pub text_decides : (a b : Script) → Decides (bytes_eq (printed_text a) (printed_text b)) (SameScript (parsed a) (parsed b))
+text_decides a b =
+    let t = bytes_eq-Decides (printed_text a) (printed_text b) in
+    let xs = statements_of (statements_in a) in
+    let ys = statements_of (statements_in b) in
+    let first : printed_text a ≡ script_text 1 xs = ap (λ n. script_text n xs) a.known in
+    let second : printed_text b ≡ script_text 1 ys = ap (λ n. script_text n ys) b.known in (
+      λ e. record { version = a.known ∙ sym b.known; statements = same_script xs ys (end_in a) a.sound b.sound (sym first ∙ t.0 e ∙ second) },
+      λ e. t.1 (first ∙ same_text 1 xs ys e.statements ∙ sym second),
+    )

@@ -27,6 +27,7 @@ use Rattle.pl_tokens.specs.Numerals.{number_text}
 use Rattle.pl_tokens.specs.Sound.{is_number, is_written}
 use Rattle.pl_tokens.proofs.Shows.{Shows, end_shows, pair_shows, word_shows, one_shows, blank_shows, sign_shows, name_shows, text_shows, number_shows}
 use Rattle.pl_syntax.specs.Canonical.{prefix_text, binary_text, placed_text, name_text, comma_text, in_parentheses, tree_text, list_text, head_text, statements_text, script_text}
+use Rattle.pl_syntax.proofs.Lines.{first_line}
 
 -- what may follow an operand: nothing that a name or a number before it would take
 abbrev Clear : List ℕ → Type 0
@@ -288,11 +289,14 @@ statements_show (s ∷ ss) h =
     (tree_shows s.tree x.tree (59 ∷ (10 ∷ rest)) (here t.Semicolon ∷ us) (clear_at 59 (10 ∷ rest) refl refl refl)
     (sign_shows 59 (10 ∷ rest) us _ refl (plain_sign (10 ∷ rest)) (blank_shows 10 rest us refl (statements_show ss a.1)))))
 
-pub script_shows : (ss : List Statement) → are_sound is_written ss ≡ true → Shows (script_text ss) (script_tokens ss)
-unfolding script_text script_tokens
-script_shows ss h =
+lines_show : (ss : List Statement) → are_sound is_written ss ≡ true → Shows (codes "pipeline 1;\n" ++ statements_text ss) (script_tokens ss)
+unfolding script_tokens
+lines_show ss h =
     let rest = statements_text ss in
     let us = statements_tokens ss in
     word_shows 112 (codes "ipeline") (32 ∷ (49 ∷ (59 ∷ (10 ∷ rest)))) _ _ t.PipelineWord refl refl (omega arith) refl refl
     (blank_shows 32 _ _ refl (one_shows (59 ∷ (10 ∷ rest)) (here t.Semicolon ∷ us) _ (clear_at 59 (10 ∷ rest) refl refl refl).1
     (sign_shows 59 (10 ∷ rest) us _ refl (plain_sign (10 ∷ rest)) (blank_shows 10 rest us refl (statements_show ss h)))))
+
+pub script_shows : (ss : List Statement) → are_sound is_written ss ≡ true → Shows (script_text 1 ss) (script_tokens ss)
+script_shows ss h = subst (λ z. Shows z (script_tokens ss)) (sym (first_line ss)) (lines_show ss h)

@@ -29,8 +29,8 @@ no_script h = cc
 -- a verdict that is right, and what is said by it
 spells_by : (bytes : List ℕ) (ts : List Lexeme) (tail : Tail) → Read start bytes ts tail → (v : Verdict) → Right v ts tail → (s : Parsed) → said_by v tail ≡ Spelled s → Spells bytes s
 spells_by bytes ts (AtEnd p) x (Good ss) r s h =
-    let e : record { statements = ss; end = p } ≡ s = same_script h in
-    subst (λ z. Spells bytes z) e (record { tokens = ts; reads = x; short = r.short; derives = r.derives })
+    let e : record { version = 1; statements = ss; end = p } ≡ s = same_script h in
+    subst (λ z. Spells bytes z) e (record { tokens = ts; reads = x; short = r.short; derives = r.derives; version = refl })
 spells_by bytes ts (AtBad p) x (Good ss) r s h = absurd (no_fault h)
 spells_by bytes ts tail x (Fault k p) r s h = absurd (no_fault h)
 
@@ -56,6 +56,7 @@ unfolding said
 spells-said bytes s x =
     let v : verdict 0 g.Opening x.tokens (AtEnd s.end) ≡ Good s.statements = spelled_only x.tokens (AtEnd s.end) s.statements (record { end = s.end; ended = refl; short = x.short; derives = x.derives }) in
     ap judged (whole_only bytes x.tokens (AtEnd s.end) x.reads) ∙ ap (λ z. said_by z (AtEnd s.end)) v
+    ∙ ap (λ n. Spelled (record { version = n; statements = s.statements; end = s.end })) (sym x.version)
 
 pub fault-said : (bytes : List ℕ) (k : Kind) (p : Place) → FirstFault bytes k p → said bytes ≡ Faulty k p
 unfolding said

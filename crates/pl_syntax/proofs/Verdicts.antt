@@ -58,7 +58,7 @@ gives_at bytes r o ts tail x =
 pub spelled : (bytes : List ℕ) (r : Result Script SyntaxError) → Outcome bytes r → IfOk r (λ s. Spells bytes (parsed s))
 spelled bytes (Ok s) o =
     let x : Spelled o.tokens o.tail (statements_of (statements_in s)) = subst (λ v. Right v o.tokens o.tail) o.gives.0 (right_of o.tokens o.tail) in
-    record { tokens = o.tokens; reads = subst (λ z. Read start bytes o.tokens z) o.gives.1 o.reads; short = x.short; derives = x.derives }
+    record { tokens = o.tokens; reads = subst (λ z. Read start bytes o.tokens z) o.gives.1 o.reads; short = x.short; derives = x.derives; version = s.known }
 spelled bytes (Err e) o = tt
 
 same_good : {a b : List g.Statement} → Good a ≡ Good b → a ≡ b
@@ -77,22 +77,26 @@ same_place : {k j : Kind} {p q : Place} → Fault k p ≡ Fault j q → p ≡ q
 same_place h = cc
 
 abbrev made : List g.Statement → Place → Parsed
-made ss p = record { statements = ss; end = p }
+made ss p = record { version = 1; statements = ss; end = p }
 
-answers_script : (r : Result Script SyntaxError) (x : Parsed) → Gives r (AtEnd x.end) (Good x.statements) → AnswersScript r x
-answers_script (Ok s) x h = ap₂ made (sym (same_good h.0)) (sym (same_end h.1))
-answers_script (Err (BadByte p)) x h = absurd (not_good h)
-answers_script (Err (Unexpected p)) x h = absurd (not_good h)
-answers_script (Err (TooDeep p)) x h = absurd (not_good h)
-answers_script (Err (NumberTooLarge p)) x h = absurd (not_good h)
-answers_script (Err (LongStatement p)) x h = absurd (not_good h)
-answers_script (Err TooLong) x h = absurd h
-answers_script (Err Memory) x h = tt
+-- only version 1 is spelled
+made_is : (x : Parsed) → x.version ≡ 1 → made x.statements x.end ≡ x
+made_is x v = ap (λ n. record { version = n; statements = x.statements; end = x.end }) (sym v)
+
+answers_script : (r : Result Script SyntaxError) (x : Parsed) → x.version ≡ 1 → Gives r (AtEnd x.end) (Good x.statements) → AnswersScript r x
+answers_script (Ok s) x v h = sym (made_is (parsed s) s.known) ∙ ap₂ made (sym (same_good h.0)) (sym (same_end h.1)) ∙ made_is x v
+answers_script (Err (BadByte p)) x v h = absurd (not_good h)
+answers_script (Err (Unexpected p)) x v h = absurd (not_good h)
+answers_script (Err (TooDeep p)) x v h = absurd (not_good h)
+answers_script (Err (NumberTooLarge p)) x v h = absurd (not_good h)
+answers_script (Err (LongStatement p)) x v h = absurd (not_good h)
+answers_script (Err TooLong) x v h = absurd h
+answers_script (Err Memory) x v h = tt
 
 pub spelled_answers : (bytes : List ℕ) (r : Result Script SyntaxError) → Outcome bytes r → (x : Parsed) → Spells bytes x → AnswersScript r x
 spelled_answers bytes r o x s =
     let v : verdict 0 g.Opening s.tokens (AtEnd x.end) ≡ Good x.statements = spelled_only s.tokens (AtEnd x.end) x.statements (record { end = x.end; ended = refl; short = s.short; derives = s.derives }) in
-    answers_script r x (subst (λ z. Gives r (AtEnd x.end) z) v (gives_at bytes r o s.tokens (AtEnd x.end) s.reads))
+    answers_script r x s.version (subst (λ z. Gives r (AtEnd x.end) z) v (gives_at bytes r o s.tokens (AtEnd x.end) s.reads))
 
 error_at : (e : Kind) (q : Place) (k : Kind) (p : Place) → Fault k p ≡ Fault e q → error_of e q ≡ error_of k p
 error_at e q k p h = sym (ap₂ error_of (same_kind h) (same_place h))
@@ -130,7 +134,7 @@ cause bytes (Err Memory) o = tt
 pub one_parsed : (bytes : List ℕ) (a b : Parsed) → Spells bytes a → Spells bytes b → a ≡ b
 one_parsed bytes a b x y =
     let same = one_way start bytes x.tokens y.tokens (AtEnd a.end) (AtEnd b.end) x.reads y.reads in
-    ap₂ made (one_script most_depth y.tokens a.statements b.statements (subst (λ z. g.Script most_depth z a.statements) same.0 x.derives) y.derives) (same_end same.1)
+    sym (made_is a x.version) ∙ ap₂ made (one_script most_depth y.tokens a.statements b.statements (subst (λ z. g.Script most_depth z a.statements) same.0 x.derives) y.derives) (same_end same.1) ∙ made_is b y.version
 
 -- the reader's turns
 

@@ -1,5 +1,5 @@
 -- The printed form of a script: parentheses exactly where the levels ask for them, one statement a line.
-use Rattle.std.specs.Prelude.{ℕ, Bool, true, false, nat_le, List, [], ◌∷◌, ◌++◌, codes, Option, Some, None}
+use Rattle.std.specs.Prelude.{ℕ, Bool, true, false, nat_le, List, [], ◌∷◌, ◌++◌, codes, decimal, Option, Some, None}
 use Rattle.pl_grammar.specs.declared.PrefixSign.{PrefixSign}
 use Rattle.pl_grammar.specs.declared.PrefixSign.TheVariants.{Minus, Not}
 use Rattle.pl_grammar.specs.declared.BinarySign.{BinarySign}
@@ -58,10 +58,13 @@ unfoldable mutual
   tree_text (text p t) = codes "\"" ++ (t ++ codes "\"")
   tree_text (name p n) = n
   tree_text (call p n ps) = n ++ in_parentheses (list_text true ps)
-  tree_text (prefix p s e) = prefix_text s ++ placed_text (nat_le (prefix_level s) (tree_level e)) (tree_text e)
-  tree_text (binary p o a b) = placed_text (nat_le (left_level o) (tree_level a)) (tree_text a) ++ (binary_text o ++ placed_text (nat_le (right_level o) (tree_level b)) (tree_text b))
+  tree_text (prefix p s e) = prefix_text s
+      ++ placed_text (nat_le (prefix_level s) (tree_level e)) (tree_text e)
+  tree_text (binary p o a b) = placed_text (nat_le (left_level o) (tree_level a)) (tree_text a)
+      ++ (binary_text o ++ placed_text (nat_le (right_level o) (tree_level b)) (tree_text b))
   tree_text (member p e n) = placed_text (nat_le 8 (tree_level e)) (tree_text e) ++ (codes "." ++ n)
-  tree_text (method p e n ps) = placed_text (nat_le 8 (tree_level e)) (tree_text e) ++ (codes "." ++ (n ++ in_parentheses (list_text true ps)))
+  tree_text (method p e n ps) = placed_text (nat_le 8 (tree_level e)) (tree_text e)
+      ++ (codes "." ++ (n ++ in_parentheses (list_text true ps)))
 
   pub list_text : Bool → Args → List ℕ
   list_text first no_args = []
@@ -83,6 +86,6 @@ unfoldable pub statements_text : List Statement → List ℕ
 statements_text [] = []
 statements_text (s ∷ ss) = statement_text s ++ statements_text ss
 
--- the canonical text of a script
-unfoldable pub script_text : List Statement → List ℕ
-script_text ss = codes "pipeline 1;\n" ++ statements_text ss
+-- the canonical text of a script: its version on the first line, and then its statements
+unfoldable pub script_text : ℕ → List Statement → List ℕ
+script_text version ss = codes "pipeline " ++ (decimal version ++ (codes ";\n" ++ statements_text ss))

@@ -8,4 +8,5 @@ use Rattle.pl_syntax.specs.Canonical.{script_text}
 use Rattle.pl_syntax.specs.Spells.{SpellsAgain}
 
 abbrev pub ScriptsAreSpelled : Type 0
-ScriptsAreSpelled = (ss : List Statement) (end : Place) → are_sound is_written ss ≡ true → SpellsAgain (script_text ss) (record { statements = ss; end = end })
+ScriptsAreSpelled = (ss : List Statement) (end : Place) → are_sound is_written ss ≡ true
+    → SpellsAgain (script_text 1 ss) (record { version = 1; statements = ss; end = end })

@@ -1,5 +1,5 @@
 -- What the parser answers: of a token, of the end, and of the bytes.
-use Rattle.std.specs.Prelude.{ℕ, ◌≡◌, ◌<◌, cond, nat_le, List, length, Option, Some, None, Result, Ok, Err}
+use Rattle.std.specs.Prelude.{ℕ, ◌≡◌, ◌<◌, if◌then◌else◌, nat_le, List, length, Option, Some, None, Result, Ok, Err}
 use Rattle.pl_grammar.specs.declared.Place.{Place}
 use Rattle.pl_grammar.specs.Machine.{Stop, Stuck, Deep}
 use Rattle.pl_grammar.specs.Script as g
@@ -12,13 +12,11 @@ use Rattle.pl_syntax.specs.Spells.{Parsed, FirstFault, SameScript}
 use Rattle.pl_syntax.specs.Statements.{statements_of}
 use Rattle.pl_syntax.specs.Scripts.{statements_in, end_in, parsed}
 use Rattle.pl_syntax.specs.Stages.{stage_of}
+use Rattle.pl_syntax.specs.declared.parser.TheConstants.{MOST_BYTES}
 use Rattle.pl_syntax.specs.declared.script.Script.{Script}
 use Rattle.pl_syntax.specs.declared.progress.Progress.{Progress}
 use Rattle.pl_syntax.specs.declared.error.SyntaxError.{SyntaxError}
 use Rattle.pl_syntax.specs.declared.error.SyntaxError.TheVariants.{BadByte, Unexpected, TooDeep, NumberTooLarge, TooLong, LongStatement, Memory}
-
-abbrev pub most_bytes : ℕ
-most_bytes = 262144
 
 abbrev pub error_of : Kind → Place → SyntaxError
 error_of f.BadByte p = BadByte p
@@ -34,7 +32,7 @@ IsCause bytes (Unexpected p) = FirstFault bytes f.Unexpected p
 IsCause bytes (TooDeep p) = FirstFault bytes f.TooDeep p
 IsCause bytes (NumberTooLarge p) = FirstFault bytes f.NumberTooLarge p
 IsCause bytes (LongStatement p) = FirstFault bytes f.LongStatement p
-IsCause bytes TooLong = most_bytes < length bytes
+IsCause bytes TooLong = MOST_BYTES < length bytes
 IsCause bytes Memory = Unit {0}
 
 -- the answer is this script, unless memory ran out
@@ -62,7 +60,10 @@ stepped (Err Stuck) = Err f.Unexpected
 stepped (Err Deep) = Err f.TooDeep
 
 abbrev pub token_step : ℕ → Lexeme → g.Stage → Result g.Stage Kind
-token_step n t s = cond (nat_le most_tokens n) (Err f.LongStatement) (cond (too_large t) (Err f.NumberTooLarge) (stepped (script_step most_depth t s)))
+token_step n t s =
+    if nat_le most_tokens n then Err f.LongStatement
+    else if too_large t then Err f.NumberTooLarge
+    else stepped (script_step most_depth t s)
 
 abbrev pub Steps : Result Progress SyntaxError → Result g.Stage Kind → ℕ → Place → Type 0
 Steps (Ok x) r n p = (r ≡ Ok (stage_of x.stage)) × (x.count ≡ n)

@@ -13,7 +13,7 @@ pub data Said : Type 0 where
 
 -- behind a byte that is in no token stands no script
 abbrev pub said_by : Verdict → Tail → Said
-said_by (Good ss) (AtEnd p) = Spelled (record { statements = ss; end = p })
+said_by (Good ss) (AtEnd p) = Spelled (record { version = 1; statements = ss; end = p })
 said_by (Good ss) (AtBad p) = Faulty f.BadByte p
 said_by (Fault k p) tail = Faulty k p
 
@@ -21,7 +21,8 @@ said_by (Fault k p) tail = Faulty k p
 unfoldable pub said : List ℕ → Said
 said bytes = let r = whole bytes in said_by (verdict 0 Opening r.0 r.1) r.1
 
--- That is the script which the bytes spell by the grammar's rules, or the first fault of the text; so each text has one of both.
+-- That is the script which the bytes spell by the grammar's rules, or the first fault of the text; so each
+-- text has one of both.
 abbrev pub TextsSay : Type 0
 TextsSay =
     (bytes : List ℕ) → ((s : Parsed) → (said bytes ≡ Spelled s) ↔ Spells bytes s)

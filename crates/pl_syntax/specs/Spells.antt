@@ -7,18 +7,21 @@ use Rattle.pl_grammar.specs.Whole.{bare_script}
 use Rattle.pl_grammar.specs.Faults.{Tail, AtEnd, Kind, IsShort, IsFirst, most_depth}
 use Rattle.pl_tokens.specs.Text.{start, Read}
 
--- the statements of a file, and where the file ends
+-- the version of the language that a file names, its statements, and where the file ends
 pub record Parsed : Type 0 where
+  pub version : ℕ
   pub statements : List Statement
   pub end : Place
 
--- The bytes are tokens, and the tokens derive the script by the grammar's rules, within the limits: 32 constructs inside
--- one another, 1,024 tokens of a statement, and no number past the limits of numbers.
+-- The bytes are tokens, and the tokens derive the script by the grammar's rules, which are those of version
+-- 1, within the limits: 32 constructs inside one another, 1,024 tokens of a statement, and no number past
+-- the limits of numbers.
 pub record Spells (bytes : List ℕ) (s : Parsed) : Type 0 where
   pub tokens : List Lexeme
   pub reads : Read start bytes tokens (AtEnd s.end)
   pub short : IsShort 0 tokens
   pub derives : Script most_depth tokens s.statements
+  pub version : s.version ≡ 1
 
 -- the first fault of the text is of this kind and at this place
 pub record FirstFault (bytes : List ℕ) (kind : Kind) (place : Place) : Type 0 where
@@ -28,8 +31,9 @@ pub record FirstFault (bytes : List ℕ) (kind : Kind) (place : Place) : Type 0 
   pub first : IsFirst tokens tail kind place
 
 -- the same script, places aside
-abbrev pub SameScript : Parsed → Parsed → Type 0
-SameScript a b = bare_script a.statements ≡ bare_script b.statements
+pub record SameScript (a b : Parsed) : Type 0 where
+  pub version : a.version ≡ b.version
+  pub statements : bare_script a.statements ≡ bare_script b.statements
 
 -- The bytes spell the script again: they spell a script that is the same but for its places, and no other.
 pub record SpellsAgain (bytes : List ℕ) (s : Parsed) : Type 0 where

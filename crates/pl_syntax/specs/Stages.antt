@@ -21,7 +21,8 @@ stage_of (Between ss) = g.Between (statements_of ss.items)
 stage_of (LetWanted ss) = g.LetWanted (statements_of ss.items)
 stage_of (ColumnWanted ss) = g.ColumnWanted (statements_of ss.items)
 stage_of (AssignWanted ss h) = g.AssignWanted (statements_of ss.items) (head_of h)
-stage_of (Within ss h mode stack) = g.Within (statements_of ss.items) (head_of h) (m.at (mode_of mode) (open_in stack))
+stage_of (Within ss h mode stack) = g.Within (statements_of ss.items) (head_of h)
+    (m.at (mode_of mode) (open_in stack))
 
 -- the move that a function made is the machine's, unless memory ran out
 abbrev pub StageMoves : Result Stage MoveError → Option g.Stage → Type 0

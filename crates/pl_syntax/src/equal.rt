@@ -1,4 +1,5 @@
-// Equality of scripts, places aside.
+//! Equality of scripts, places aside.
+
 ghost use Rattle.std.specs.Prelude.{◌≡◌, ◌↔◌, List, true, ℕ, Option};
 ghost use Rattle.pl_grammar.specs.Places.{bare, bare_args};
 ghost use Rattle.pl_grammar.specs.Whole.{bare_statement, bare_script};
@@ -34,7 +35,7 @@ fn same_signs(a: BinarySign, b: BinarySign) -> bool
     a == b
 }
 
-/// Do both arguments have no name, or the same?
+// Do both arguments have no name, or the same?
 fn same_names(a: &Option<Word>, b: &Option<Word>) -> bool
     ensures { (result ≡ true) ↔ (a.now ≡ b.now) }
 {
@@ -97,10 +98,11 @@ fn same_expr(a: &Expr, b: &Expr) -> bool
     }
 }
 
-/// Do both have no parentheses, or the same arguments?
+// Do both have no parentheses, or the same arguments?
 #[cycle(equal)]
 fn same_lists(a: &Option<ArgList>, b: &Option<ArgList>) -> bool
-    ensures { (result ≡ true) ↔ (option_map (λ l. bare_args (args_tree l)) a.now ≡ option_map (λ l. bare_args (args_tree l)) b.now) }
+    ensures { (result ≡ true) ↔ (option_map (λ l. bare_args (args_tree l)) a.now
+        ≡ option_map (λ l. bare_args (args_tree l)) b.now) }
 {
     match a {
         Some(xs) => match b {
@@ -113,7 +115,8 @@ fn same_lists(a: &Option<ArgList>, b: &Option<ArgList>) -> bool
 
 #[cycle(equal)]
 fn same_arg(a: &Arg, b: &Arg) -> bool
-    ensures { (result ≡ true) ↔ ((a.now.name ≡ b.now.name) × (bare (plain a.now.expr) ≡ bare (plain b.now.expr))) }
+    ensures { (result ≡ true) ↔ ((a.now.name ≡ b.now.name)
+        × (bare (plain a.now.expr) ≡ bare (plain b.now.expr))) }
 {
     same_names(&a.name, &b.name) && same_expr(&a.expr, &b.expr)
 }
@@ -170,7 +173,7 @@ fn same_statement(a: &Statement, b: &Statement) -> bool
     }
 }
 
-/// Are the statements the same, places aside?
+// Are the statements the same, places aside?
 fn same_statements(a: &[Statement], b: &[Statement]) -> bool
     ensures { (result ≡ true) ↔ (bare_script (statements_of a.now) ≡ bare_script (statements_of b.now)) }
 {
@@ -189,8 +192,14 @@ fn same_statements(a: &[Statement], b: &[Statement]) -> bool
     rest.is_empty()
 }
 
-/// Scripts are equal where they say the same, wherever it stands in their files: their statements are the same but for
-/// places, and so their canonical texts are.
+fn same_scripts(a: &Script, b: &Script) -> bool
+    ensures { (result ≡ true) ↔ SameScript (parsed a.now) (parsed b.now) }
+{
+    a.version() == b.version() && same_statements(a.statements(), b.statements())
+}
+
+/// Scripts are equal where they say the same, wherever it stands in their files: their versions are the
+/// same, and so are their statements but for places; and so their canonical texts are.
 impl PartialEq for Script {
     ghost eq = { λ a b. bytes_eq (printed_text a) (printed_text b) };
 
@@ -200,7 +209,7 @@ impl PartialEq for Script {
         ensures same { (result ≡ true) ↔ SameScript (parsed self.now) (parsed other.now) }
         ensures text { result ≡ bytes_eq (printed_text self.now) (printed_text other.now) }
     {
-        same_statements(self.statements(), other.statements())
+        same_scripts(self, other)
     }
 }
 

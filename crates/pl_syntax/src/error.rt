@@ -1,15 +1,16 @@
-// Why bytes are no script.
+//! Why bytes are no script.
+
 ghost use Rattle.std.specs.Prelude.{◌≡◌};
 
 use pl_grammar::Place;
 use std::alloc::AllocError;
 
-/// Why bytes are no script. `parse` answers the fault that is the first in the text; at one token the order is
-/// LongStatement, NumberTooLarge, Unexpected, TooDeep.
+/// Why bytes are no script. `parse` answers the fault that is the first in the text; at one token the order
+/// is LongStatement, NumberTooLarge, Unexpected, TooDeep.
 #[derive(Clone, Copy, Debug, Drop, PartialEq, Eq)]
 pub enum SyntaxError {
-    /// A byte begins or continues no token: a stray byte, `!` without `=`, a byte that a string can't hold, the end of
-    /// the file in a string, the 33rd byte of a name.
+    /// A byte begins or continues no token: a stray byte, `!` without `=`, a byte that a string can't hold,
+    /// the end of the file in a string, the 33rd byte of a name.
     BadByte(Place),
     /// The tokens up to this one begin no script. The end of the file counts as a token, at its place.
     Unexpected(Place),

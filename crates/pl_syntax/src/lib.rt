@@ -1,8 +1,8 @@
-//! Pipeline files: bytes are read as a script, and a script is written as its one canonical text. Scripts are equal where
-//! they are the same but for places.
+//! Pipeline files: bytes are read as a script, and a script is written as its one canonical text. Scripts
+//! are equal where they are the same but for places.
 //!
-//! docs/LANGUAGE.md gives the language. What the bytes spell, and which fault is the first, is defined in `specs/Spells`
-//! over the grammar of `pl_grammar` and the tokens of `pl_tokens`.
+//! docs/LANGUAGE.md gives the language. What the bytes spell, and which fault is the first, is defined in
+//! `specs/Spells` over the grammar of `pl_grammar` and the tokens of `pl_tokens`.
 #![tactic(auto)]
 
 mod equal;

@@ -1,4 +1,5 @@
-// The machine: what is open, and each token's move.
+//! The machine: what is open, and each token's move.
+
 ghost use Rattle.std.specs.Prelude.{◌≡◌, IfOk, IfErr};
 ghost use Rattle.pl_grammar.specs.Machine.{join, close, operand, is_wanted, literal, named_move, sign_move, operator_move, dot_move, callee, open_move, applied, shut, shut_empty, next_arg, name_arg, close_move, comma_move, assign_move, move};
 ghost use Rattle.pl_grammar.specs.Tree.{mark};
@@ -65,7 +66,7 @@ impl<T: Drop> From<AllocFailed<T>> for MoveError {
     }
 }
 
-/// The construct with its operand.
+// The construct with its operand.
 fn joined(alloc: Global, frame: Frame, expr: Expr) -> Result<Expr, AllocError>
     ensures { IfOk result (λ joined. plain joined ≡ join (frame_of frame) (plain expr)) }
 {
@@ -95,7 +96,7 @@ pub(crate) struct Ended {
     pub(crate) expr: Expr,
 }
 
-/// Ends the constructs of this level and above that the operand ends.
+// Ends the constructs of this level and above that the operand ends.
 pub(crate) fn end_constructs(
     alloc: Global,
     stack: &mut Stack,
@@ -119,14 +120,14 @@ pub(crate) fn end_constructs(
     Ok(Ended { height, expr })
 }
 
-/// Is an operand wanted?
+// Is an operand wanted?
 fn wants(mode: &Mode) -> bool
     ensures { result ≡ is_wanted (mode_of mode.now) }
 {
     matches!(mode, Mode::Wanted | Mode::ArgWanted)
 }
 
-/// The operand that was read.
+// The operand that was read.
 pub(crate) fn operand_of(mode: Mode) -> Option<Expr>
     ensures { shown result ≡ operand (mode_of mode) }
 {
@@ -156,9 +157,10 @@ pub(crate) fn operand_of(mode: Mode) -> Option<Expr>
     }
 }
 
-/// A literal.
+// A literal.
 fn at_literal(stack: &mut Stack, mode: Mode, expr: Expr) -> Result<Mode, MoveError>
-    ensures { Moves result (open_in stack.new) (literal (plain expr) (is_wanted (mode_of mode)) (open_in stack.old)) }
+    ensures { Moves result (open_in stack.new)
+        (literal (plain expr) (is_wanted (mode_of mode)) (open_in stack.old)) }
 {
     if wants(&mode) {
         Ok(Mode::Given { expr })
@@ -167,7 +169,7 @@ fn at_literal(stack: &mut Stack, mode: Mode, expr: Expr) -> Result<Mode, MoveErr
     }
 }
 
-/// A name.
+// A name.
 fn at_name(stack: &mut Stack, mode: Mode, place: Place, name: Word) -> Result<Mode, MoveError>
     ensures { Moves result (open_in stack.new) (named_move place name (mode_of mode) (open_in stack.old)) }
 {
@@ -183,7 +185,7 @@ fn at_name(stack: &mut Stack, mode: Mode, place: Place, name: Word) -> Result<Mo
     }
 }
 
-/// A prefix sign where an operand is wanted.
+// A prefix sign where an operand is wanted.
 fn at_sign(
     stack: &mut Stack,
     wanted: bool,
@@ -200,7 +202,7 @@ fn at_sign(
     }
 }
 
-/// A binary sign, or the sign `-` before an operand.
+// A binary sign, or the sign `-` before an operand.
 fn at_operator(
     alloc: Global,
     stack: &mut Stack,
@@ -208,7 +210,8 @@ fn at_operator(
     place: Place,
     sign: BinarySign,
 ) -> Result<Mode, MoveError>
-    ensures { Moves result (open_in stack.new) (operator_move place sign (operand (mode_of mode)) (is_wanted (mode_of mode)) (open_in stack.old)) }
+    ensures { Moves result (open_in stack.new)
+        (operator_move place sign (operand (mode_of mode)) (is_wanted (mode_of mode)) (open_in stack.old)) }
 {
     let wanted = wants(&mode);
     match operand_of(mode) {
@@ -229,7 +232,7 @@ fn at_operator(
     }
 }
 
-/// A dot.
+// A dot.
 fn at_dot(alloc: Global, stack: &mut Stack, mode: Mode) -> Result<Mode, MoveError>
     ensures { Moves result (open_in stack.new) (dot_move (operand (mode_of mode)) (open_in stack.old)) }
 {
@@ -241,7 +244,7 @@ fn at_dot(alloc: Global, stack: &mut Stack, mode: Mode) -> Result<Mode, MoveErro
     }
 }
 
-/// What a `(` may call here.
+// What a `(` may call here.
 fn callee_of_mode(mode: Mode) -> Option<Callee>
     ensures { shown_callee result ≡ callee (mode_of mode) }
 {
@@ -262,9 +265,10 @@ fn callee_of_mode(mode: Mode) -> Option<Callee>
     }
 }
 
-/// A `(`.
+// A `(`.
 fn at_open(alloc: Global, stack: &mut Stack, mode: Mode) -> Result<Mode, MoveError>
-    ensures { Moves result (open_in stack.new) (open_move (is_wanted (mode_of mode)) (callee (mode_of mode)) (open_in stack.old)) }
+    ensures { Moves result (open_in stack.new)
+        (open_move (is_wanted (mode_of mode)) (callee (mode_of mode)) (open_in stack.old)) }
 {
     if wants(&mode) {
         stack.push(Frame::Group)?;
@@ -283,7 +287,7 @@ fn at_open(alloc: Global, stack: &mut Stack, mode: Mode) -> Result<Mode, MoveErr
     }
 }
 
-/// The call of the callee with its arguments.
+// The call of the callee with its arguments.
 fn call_of(callee: Callee, args: Vec<Arg>) -> Expr
     ensures { plain result ≡ applied (callee_of callee) (args_list args.items) }
 {
@@ -310,7 +314,7 @@ fn call_of(callee: Callee, args: Vec<Arg>) -> Expr
     }
 }
 
-/// A `)` behind an operand that ended all but a parenthesis.
+// A `)` behind an operand that ended all but a parenthesis.
 fn shut_by(stack: &mut Stack, expr: Expr) -> Result<Mode, MoveError>
     ensures { Moves result (open_in stack.new) (shut (plain expr) (open_in stack.old)) }
 {
@@ -333,7 +337,7 @@ fn shut_by(stack: &mut Stack, expr: Expr) -> Result<Mode, MoveError>
     }
 }
 
-/// A `)` behind the `(` of a call.
+// A `)` behind the `(` of a call.
 fn shut_empty_by(stack: &mut Stack, mode: Mode) -> Result<Mode, MoveError>
     ensures { Moves result (open_in stack.new) (shut_empty (mode_of mode) (open_in stack.old)) }
 {
@@ -363,7 +367,7 @@ fn shut_empty_by(stack: &mut Stack, mode: Mode) -> Result<Mode, MoveError>
     }
 }
 
-/// A comma behind an operand that ended all but a parenthesis.
+// A comma behind an operand that ended all but a parenthesis.
 fn next_by(stack: &mut Stack, expr: Expr) -> Result<Mode, MoveError>
     ensures { Moves result (open_in stack.new) (next_arg (plain expr) (open_in stack.old)) }
 {
@@ -390,7 +394,7 @@ fn next_by(stack: &mut Stack, expr: Expr) -> Result<Mode, MoveError>
     }
 }
 
-/// An `=` behind the name of an argument.
+// An `=` behind the name of an argument.
 fn name_by(stack: &mut Stack, word: Word) -> Result<Mode, MoveError>
     ensures { Moves result (open_in stack.new) (name_arg word (open_in stack.old)) }
 {
@@ -416,9 +420,10 @@ fn name_by(stack: &mut Stack, word: Word) -> Result<Mode, MoveError>
     }
 }
 
-/// A `)`.
+// A `)`.
 fn at_close(alloc: Global, stack: &mut Stack, mode: Mode) -> Result<Mode, MoveError>
-    ensures { Moves result (open_in stack.new) (close_move (operand (mode_of mode)) (mode_of mode) (open_in stack.old)) }
+    ensures { Moves result (open_in stack.new)
+        (close_move (operand (mode_of mode)) (mode_of mode) (open_in stack.old)) }
 {
     match mode {
         Mode::ArgWanted => shut_empty_by(stack, Mode::ArgWanted),
@@ -432,7 +437,7 @@ fn at_close(alloc: Global, stack: &mut Stack, mode: Mode) -> Result<Mode, MoveEr
     }
 }
 
-/// A comma.
+// A comma.
 fn at_comma(alloc: Global, stack: &mut Stack, mode: Mode) -> Result<Mode, MoveError>
     ensures { Moves result (open_in stack.new) (comma_move (operand (mode_of mode)) (open_in stack.old)) }
 {
@@ -445,7 +450,7 @@ fn at_comma(alloc: Global, stack: &mut Stack, mode: Mode) -> Result<Mode, MoveEr
     }
 }
 
-/// An `=`.
+// An `=`.
 fn at_assign(stack: &mut Stack, mode: Mode) -> Result<Mode, MoveError>
     ensures { Moves result (open_in stack.new) (assign_move (mode_of mode) (open_in stack.old)) }
 {
@@ -455,7 +460,7 @@ fn at_assign(stack: &mut Stack, mode: Mode) -> Result<Mode, MoveError>
     }
 }
 
-/// A token's move.
+// A token's move.
 pub(crate) fn moved(
     alloc: Global,
     stack: &mut Stack,
@@ -463,7 +468,8 @@ pub(crate) fn moved(
     place: Place,
     token: Token,
 ) -> Result<Mode, MoveError>
-    ensures { Moves result (open_in stack.new) (move (mark place (token_of token)) (mode_of mode) (open_in stack.old)) }
+    ensures { Moves result (open_in stack.new)
+        (move (mark place (token_of token)) (mode_of mode) (open_in stack.old)) }
 {
     match token {
         Token::Name(name) => at_name(stack, mode, place, name),

@@ -1,4 +1,5 @@
-// From bytes to a script.
+//! From bytes to a script.
+
 ghost use Rattle.std.specs.Prelude.{◌≡◌, ◌≤◌, ◌<◌, ◌↔◌, Err, List, Some, true, length, IfOk, IfErr};
 ghost use Rattle.pl_grammar.specs.Tree.{mark};
 ghost use Rattle.pl_grammar.specs.Script.{script_finish};
@@ -27,11 +28,13 @@ use std::alloc::Global;
 /// The most bytes of a file.
 pub const MOST_BYTES: usize = 262_144;
 
-const MOST_TOKENS: usize = 1024;
+// The most tokens of a statement.
+const MOST_TOKENS: usize = 1_024;
 
+// The most constructs inside one another.
 const MOST_DEPTH: usize = 32;
 
-/// A token's step, or its fault.
+// A token's step, or its fault.
 fn step(
     alloc: Global,
     progress: Progress,
@@ -39,7 +42,8 @@ fn step(
     token: Token,
 ) -> Result<Progress, SyntaxError>
     ensures { let t = mark place (token_of token) in
-        Steps result (token_step progress.count t (stage_of progress.stage)) (counted progress.count t) place }
+        Steps result (token_step progress.count t (stage_of progress.stage))
+        (counted progress.count t) place }
 {
     if progress.count >= MOST_TOKENS {
         return Err(SyntaxError::LongStatement(place));
@@ -61,9 +65,10 @@ fn step(
     }
 }
 
-/// The end of the file.
+// The end of the file.
 fn finish(progress: Progress, end: Place) -> Result<Script, SyntaxError>
-    requires { (ss : List g.Statement) → script_finish (stage_of progress.stage) ≡ Some ss → are_sound is_written ss ≡ true }
+    requires { (ss : List g.Statement) → script_finish (stage_of progress.stage) ≡ Some ss
+        → are_sound is_written ss ≡ true }
     ensures { Ends result (script_finish (stage_of progress.stage)) end }
 {
     let stage = progress.stage;
@@ -73,9 +78,9 @@ fn finish(progress: Progress, end: Place) -> Result<Script, SyntaxError>
     }
 }
 
-/// The script that the bytes spell, or their first fault.
+// The script that the bytes spell, or their first fault.
 fn read_all(alloc: Global, bytes: &[u8]) -> Result<Script, SyntaxError>
-    requires { length bytes.now ≤ 262144 }
+    requires { length bytes.now ≤ MOST_BYTES }
     ensures { Outcome bytes.now result }
 {
     let mut text = Text {
@@ -99,15 +104,18 @@ fn read_all(alloc: Global, bytes: &[u8]) -> Result<Script, SyntaxError>
 pub fn parse(alloc: Global, bytes: &[u8]) -> Result<Script, SyntaxError>
     // What is read is spelled so, and what is spelled so is read.
     ensures found { IfOk result (λ script. Spells bytes.now (parsed script)) }
-    ensures only { (x : Parsed) → length bytes.now ≤ MOST_BYTES → Spells bytes.now x → AnswersScript result x }
+    ensures only { (x : Parsed) → length bytes.now ≤ MOST_BYTES → Spells bytes.now x
+        → AnswersScript result x }
 
     // The canonical text of a script is read as that script, places aside.
-    ensures printed { (script : s.Script) → length bytes.now ≤ MOST_BYTES → bytes.now ≡ printed_text script → AnswersSame result (parsed script) }
+    ensures printed { (script : s.Script) → length bytes.now ≤ MOST_BYTES → bytes.now ≡ printed_text script
+        → AnswersSame result (parsed script) }
 
     // Each fault comes where it is the first, and what is the first is answered.
     ensures too_long { (result ≡ Err SyntaxError.TooLong) ↔ (MOST_BYTES < length bytes.now) }
     ensures cause { IfErr result (IsCause bytes.now) }
-    ensures fault { (kind : Kind) (place : p.Place) → length bytes.now ≤ MOST_BYTES → FirstFault bytes.now kind place → AnswersFault result kind place }
+    ensures fault { (kind : Kind) (place : p.Place) → length bytes.now ≤ MOST_BYTES
+        → FirstFault bytes.now kind place → AnswersFault result kind place }
 {
     if bytes.len() > MOST_BYTES {
         return Err(SyntaxError::TooLong);

@@ -1,6 +1,7 @@
-// How far a script is read.
+//! How far a script is read.
+
 ghost use Rattle.std.specs.Prelude.{◌≡◌, ◌≤◌, ◌<◌};
-ghost use Rattle.pl_grammar.specs.Faults.{token_too_large, token_counted};
+ghost use Rattle.pl_grammar.specs.Faults.{most_tokens, token_too_large, token_counted};
 ghost use Rattle.pl_tokens.specs.Code.{token_of};
 
 use crate::stage::Stage;
@@ -11,7 +12,7 @@ use pl_tokens::Token;
 pub(crate) struct Progress {
     pub(crate) stage: Stage,
     pub(crate) count: usize,
-    ghost few: { count ≤ 1024 },
+    ghost few: { count ≤ most_tokens },
 }
 
 pub(crate) fn is_too_large(token: &Token) -> bool
@@ -20,11 +21,11 @@ pub(crate) fn is_too_large(token: &Token) -> bool
     matches!(token, Token::LargeNumber)
 }
 
-/// How many tokens of its statement have come with this one, 0 behind its `;`.
+// How many tokens of its statement have come with this one, 0 behind its `;`.
 pub(crate) fn count_with(token: &Token, count: usize) -> usize
-    requires { count < 1024 }
+    requires { count < most_tokens }
     ensures value { result ≡ token_counted count (token_of token.now) }
-    ensures few { result ≤ 1024 }
+    ensures few { result ≤ most_tokens }
 {
     match token {
         Token::Semicolon => 0,

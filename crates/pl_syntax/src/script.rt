@@ -1,4 +1,5 @@
-// A script, as it was read.
+//! A script, as it was read.
+
 ghost use Rattle.std.specs.Prelude.{◌≡◌, IsTrue};
 ghost use Rattle.pl_grammar.specs.Whole.{are_sound};
 ghost use Rattle.pl_tokens.specs.Sound.{is_written};
@@ -8,6 +9,9 @@ ghost use Rattle.pl_syntax.specs.Plain.{plain};
 use crate::tree::Expr;
 use pl_grammar::Place;
 use pl_tokens::Word;
+
+// The one version that there is.
+const VERSION: u32 = 1;
 
 /// A statement. Its place is that of its NAME, or of `screen`.
 #[derive(Drop, Debug)]
@@ -28,33 +32,41 @@ pub enum Statement {
     },
 }
 
-/// What a pipeline file says: its version, and its statements in order. Each can be written: its names, strings and
-/// numbers are those of tokens, its canonical text has at most 1,024 tokens, and opens at most 32 constructs inside one
-/// another.
+/// What a pipeline file says: its version, and its statements in order. Each can be written: its names,
+/// strings and numbers are those of tokens, its canonical text has at most 1,024 tokens, and opens at most
+/// 32 constructs inside one another.
 #[derive(Drop, Debug)]
 pub struct Script {
+    version: u32,
     statements: Vec<Statement>,
     end: Place,
+    ghost known: { version ≡ 1 },
     ghost sound: { IsTrue (are_sound is_written (statements_of statements.items)) },
 }
 
 impl Script {
-    ghost use Rattle.pl_syntax.specs.Scripts.{statements_in, end_in};
+    ghost use Rattle.pl_syntax.specs.Scripts.{version_in, statements_in, end_in};
 
-    /// The script of these statements, whose file ends at `end`.
+    // The script of version 1 of these statements, whose file ends at `end`.
     pub(crate) fn new(statements: Vec<Statement>, end: Place) -> Script
         requires { IsTrue (are_sound is_written (statements_of statements.items)) }
+        ensures version { version_in result ≡ 1 }
         ensures statements { statements_in result ≡ statements.items }
         ensures end { end_in result ≡ end }
     {
-        Script { statements, end }
+        Script {
+            version: VERSION,
+            statements,
+            end,
+        }
     }
 
-    /// The version of the language that the file names, which is 1.
+    /// The version of the language that the file names. Only version 1 is accepted.
     pub fn version(&self) -> u32
-        ensures { result ≡ 1 }
+        ensures value { result ≡ version_in self.now }
+        ensures known { result ≡ 1 }
     {
-        1
+        self.version
     }
 
     /// Lends the statements, in the order of the file.
@@ -81,7 +93,7 @@ pub(crate) enum Head {
     Screen { place: Place },
 }
 
-/// The statement with its expression.
+// The statement with its expression.
 pub(crate) fn stated(head: Head, expr: Expr) -> Statement
     ensures { statement_of result ≡ record { head = head_of head; tree = plain expr } }
 {

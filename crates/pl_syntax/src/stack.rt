@@ -1,4 +1,5 @@
-// What is open: a stack, the innermost on top.
+//! What is open: a stack, the innermost on top.
+
 ghost use Rattle.std.specs.Prelude.{◌≡◌, IfOk, OnOk, MatchOption, [], ◌∷◌};
 ghost use Rattle.pl_grammar.specs.Tree.{level, left_level, right_level, prefix_level};
 ghost use Rattle.pl_grammar.specs.Machine.{ends, frame_level, asked, depth};
@@ -43,7 +44,7 @@ pub(crate) enum Frame {
     },
 }
 
-/// The level of a binary sign.
+// The level of a binary sign.
 pub(crate) fn level_of(sign: BinarySign) -> u8
     ensures { result ≡ level sign }
 {
@@ -61,7 +62,7 @@ pub(crate) fn level_of(sign: BinarySign) -> u8
     }
 }
 
-/// The level that a binary sign asks of its left operand: its own, but that comparisons don't chain.
+// The level that a binary sign asks of its left operand: its own, but that comparisons don't chain.
 pub(crate) fn left_level_of(sign: BinarySign) -> u8
     ensures { result ≡ left_level sign }
 {
@@ -71,14 +72,14 @@ pub(crate) fn left_level_of(sign: BinarySign) -> u8
     }
 }
 
-/// The level that a binary sign asks of its right operand.
+// The level that a binary sign asks of its right operand.
 pub(crate) fn right_level_of(sign: BinarySign) -> u8
     ensures { result ≡ right_level sign }
 {
     level_of(sign) + 1
 }
 
-/// The level of a prefix sign.
+// The level of a prefix sign.
 pub(crate) fn prefix_level_of(sign: PrefixSign) -> u8
     ensures { result ≡ prefix_level sign }
 {
@@ -88,7 +89,7 @@ pub(crate) fn prefix_level_of(sign: PrefixSign) -> u8
     }
 }
 
-/// The level of a construct; 0 for what a parenthesis ends.
+// The level of a construct; 0 for what a parenthesis ends.
 pub(crate) fn frame_level_of(frame: &Frame) -> u8
     ensures { result ≡ frame_level (frame_of frame.now) }
 {
@@ -99,7 +100,7 @@ pub(crate) fn frame_level_of(frame: &Frame) -> u8
     }
 }
 
-/// Is the construct ended by a sign of this level behind its operand?
+// Is the construct ended by a sign of this level behind its operand?
 pub(crate) fn is_ended(frame: &Frame, level: u8) -> bool
     ensures { result ≡ ends level (frame_of frame.now) }
 {
@@ -110,7 +111,7 @@ pub(crate) fn is_ended(frame: &Frame, level: u8) -> bool
     }
 }
 
-/// The level that the place inside the construct asks.
+// The level that the place inside the construct asks.
 fn asked_in(frame: &Frame) -> u8
     ensures { result ≡ asked (frame_of frame.now ∷ []) }
 {
@@ -121,7 +122,7 @@ fn asked_in(frame: &Frame) -> u8
     }
 }
 
-/// Does the limit count the construct?
+// Does the limit count the construct?
 fn counts(frame: &Frame) -> usize
     ensures { result ≡ depth (frame_of frame.now ∷ []) }
 {
@@ -142,7 +143,7 @@ pub(crate) struct Stack {
 impl Stack {
     ghost use Rattle.pl_syntax.specs.Open.{open_in};
 
-    /// Nothing is open.
+    // Nothing is open.
     pub(crate) fn new(alloc: Global) -> Stack
         ensures { open_in result ≡ [] }
     {
@@ -152,7 +153,7 @@ impl Stack {
         }
     }
 
-    /// One more is open.
+    // One more is open.
     pub(crate) fn push(&mut self, frame: Frame) -> Result<(), AllocError>
         ensures { OnOk result (open_in self.new ≡ frame_of frame ∷ open_in self.old) }
     {
@@ -162,9 +163,10 @@ impl Stack {
         Ok(())
     }
 
-    /// The innermost is taken off.
+    // The innermost is taken off.
     pub(crate) fn pop(&mut self) -> Option<Frame>
-        ensures { MatchOption result ((open_in self.old ≡ []) × (open_in self.new ≡ [])) (λ frame. open_in self.old ≡ frame_of frame ∷ open_in self.new) }
+        ensures { MatchOption result ((open_in self.old ≡ []) × (open_in self.new ≡ []))
+            (λ frame. open_in self.old ≡ frame_of frame ∷ open_in self.new) }
     {
         match self.frames.pop() {
             Some(frame) => {
@@ -175,14 +177,14 @@ impl Stack {
         }
     }
 
-    /// How many of the constructs that the limit counts are open.
+    // How many of the constructs that the limit counts are open.
     pub(crate) fn depth(&self) -> usize
         ensures { result ≡ depth (open_in self.now) }
     {
         self.opened
     }
 
-    /// The level that the place inside the innermost asks.
+    // The level that the place inside the innermost asks.
     pub(crate) fn asked(&self) -> u8
         ensures { result ≡ asked (open_in self.now) }
     {

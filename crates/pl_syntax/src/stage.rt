@@ -1,4 +1,5 @@
-// The stages of a script round its expressions, and each token's move.
+//! The stages of a script round its expressions, and each token's move.
+
 ghost use Rattle.std.specs.Prelude.{◌≡◌, OnOk, ◌++◌, ◌∷◌, []};
 ghost use Rattle.pl_grammar.specs.Tree.{mark};
 ghost use Rattle.pl_grammar.specs.Machine.{finished, operand, move, at};
@@ -83,7 +84,7 @@ fn at_version_end(alloc: Global, token: Token) -> Result<Stage, MoveError>
     }
 }
 
-/// The first token of a statement.
+// The first token of a statement.
 fn at_statement(
     alloc: Global,
     statements: Vec<Statement>,
@@ -106,7 +107,8 @@ fn at_statement(
 }
 
 fn at_let_name(statements: Vec<Statement>, place: Place, token: Token) -> Result<Stage, MoveError>
-    ensures { StageMoves result (name_move (λ n. g.AssignWanted (statements_of statements.items) (LetHead place n)) (token_of token)) }
+    ensures { StageMoves result (name_move
+        (λ n. g.AssignWanted (statements_of statements.items) (LetHead place n)) (token_of token)) }
 {
     match token {
         Token::Name(name) => Ok(Stage::AssignWanted {
@@ -122,7 +124,8 @@ fn at_column_name(
     place: Place,
     token: Token,
 ) -> Result<Stage, MoveError>
-    ensures { StageMoves result (name_move (λ n. g.AssignWanted (statements_of statements.items) (ColumnHead place n)) (token_of token)) }
+    ensures { StageMoves result (name_move
+        (λ n. g.AssignWanted (statements_of statements.items) (ColumnHead place n)) (token_of token)) }
 {
     match token {
         Token::Name(name) => Ok(Stage::AssignWanted {
@@ -139,7 +142,8 @@ fn at_head_end(
     head: Head,
     token: Token,
 ) -> Result<Stage, MoveError>
-    ensures { StageMoves result (assign_head (statements_of statements.items) (head_of head) (token_of token)) }
+    ensures { StageMoves result (assign_head (statements_of statements.items) (head_of head)
+        (token_of token)) }
 {
     match token {
         Token::Assign => Ok(Stage::Within {
@@ -152,7 +156,7 @@ fn at_head_end(
     }
 }
 
-/// The expression that was read, where it may end here.
+// The expression that was read, where it may end here.
 fn finished_expr(alloc: Global, mode: Mode, stack: Stack) -> Result<Expr, MoveError>
     ensures { Finishes result (finished (operand (mode_of mode)) (open_in stack)) }
 {
@@ -169,15 +173,16 @@ fn finished_expr(alloc: Global, mode: Mode, stack: Stack) -> Result<Expr, MoveEr
     }
 }
 
-/// One more statement.
+// One more statement.
 fn add(statements: &mut Vec<Statement>, statement: Statement) -> Result<(), AllocError>
-    ensures { OnOk result (statements_of statements.new.items ≡ statements_of statements.old.items ++ (statement_of statement ∷ [])) }
+    ensures { OnOk result (statements_of statements.new.items ≡ statements_of statements.old.items
+        ++ (statement_of statement ∷ [])) }
 {
     statements.push(statement)?;
     Ok(())
 }
 
-/// The `;` of a statement.
+// The `;` of a statement.
 fn at_end(
     alloc: Global,
     statements: Vec<Statement>,
@@ -185,7 +190,8 @@ fn at_end(
     mode: Mode,
     stack: Stack,
 ) -> Result<Stage, MoveError>
-    ensures { StageMoves result (ended (statements_of statements.items) (head_of head) (finished (operand (mode_of mode)) (open_in stack)) (token_of Token.Semicolon)) }
+    ensures { StageMoves result (ended (statements_of statements.items) (head_of head)
+        (finished (operand (mode_of mode)) (open_in stack)) (token_of Token.Semicolon)) }
 {
     let mut statements = statements;
     let expr = finished_expr(alloc, mode, stack)?;
@@ -193,7 +199,7 @@ fn at_end(
     Ok(Stage::Between { statements })
 }
 
-/// A token within an expression.
+// A token within an expression.
 fn at_expression(
     alloc: Global,
     statements: Vec<Statement>,
@@ -203,7 +209,9 @@ fn at_expression(
     place: Place,
     token: Token,
 ) -> Result<Stage, MoveError>
-    ensures { StageMoves result (within_move (statements_of statements.items) (head_of head) (finished (operand (mode_of mode)) (open_in stack)) (token_of token) (move (mark place (token_of token)) (mode_of mode) (open_in stack))) }
+    ensures { StageMoves result (within_move (statements_of statements.items) (head_of head)
+        (finished (operand (mode_of mode)) (open_in stack)) (token_of token)
+        (move (mark place (token_of token)) (mode_of mode) (open_in stack))) }
 {
     match token {
         Token::Semicolon => at_end(alloc, statements, head, mode, stack),
@@ -220,7 +228,7 @@ fn at_expression(
     }
 }
 
-/// A token's move.
+// A token's move.
 #[tactic(auto, unfolding(pl_grammar::specs::Script::script_move))]
 pub(crate) fn stage_after(
     alloc: Global,
@@ -247,7 +255,7 @@ pub(crate) fn stage_after(
     }
 }
 
-/// How many of the constructs that the limit counts are open.
+// How many of the constructs that the limit counts are open.
 pub(crate) fn depth_in(stage: &Stage) -> usize
     ensures { result ≡ stage_depth (stage_of stage.now) }
 {

@@ -1,11 +1,13 @@
-// The nodes.
+//! The nodes.
+
 ghost use Rattle.std.specs.Prelude.{◌≡◌};
 ghost use Rattle.pl_syntax.specs.Rows.{args_of};
 
 use pl_grammar::{BinarySign, Place, PrefixSign};
 use pl_tokens::Word;
 
-/// An expression, at the place of its token: the operator; the NAME of a call or member; the literal or name itself.
+/// An expression, at the place of its token: the operator; the NAME of a call or member; the literal or
+/// name itself.
 #[cycle(tree)]
 #[derive(Drop, Debug)]
 pub struct Expr {

@@ -1,4 +1,5 @@
-// From a script to its canonical text.
+//! From a script to its canonical text.
+
 ghost use Rattle.std.specs.Prelude.{◌≡◌, ◌++◌, ◌-◌, ◌≤◌, length, reverse, codes, OnOk, IfOk};
 ghost use Rattle.std.specs.List.{take_while};
 ghost use Rattle.std.specs.Fmt.{decimal};
@@ -56,7 +57,7 @@ fn binary_bytes(sign: BinarySign) -> &'static [u8]
     }
 }
 
-/// The level of an expression, from 1 for `|` to 9 for what needs no parentheses anywhere.
+// The level of an expression, from 1 for `|` to 9 for what needs no parentheses anywhere.
 fn level_in(expr: &Expr) -> u8
     ensures { result ≡ tree_level (plain expr.now) }
 {
@@ -80,14 +81,14 @@ fn close_unless(fits: bool, out: &mut Vec<u8>) -> Result<(), AllocError>
     if fits { Ok(()) } else { put(out, b")") }
 }
 
-/// How many zeros stand at the end.
+// How many zeros stand at the end.
 fn zeros_behind(digits: &[u8]) -> usize
     ensures { result ≡ length (take_while is_zero (reverse digits.now)) }
 {
     digits.iter().rev().take_while(|d| **d == b'0').count()
 }
 
-/// A number in decimal, without zeros in front.
+// A number in decimal, without zeros in front.
 fn put_decimal(number: u64, out: &mut Vec<u8>) -> Result<(), AllocError>
     ensures { OnOk result (out.new.items ≡ out.old.items ++ decimal number) }
 {
@@ -99,7 +100,7 @@ fn put_decimal(number: u64, out: &mut Vec<u8>) -> Result<(), AllocError>
     }
 }
 
-/// The six digits of a number below a million.
+// The six digits of a number below a million.
 fn six_digits(number: u64) -> [u8; 6]
     ensures { result ≡ digits 6 number }
 {
@@ -118,7 +119,7 @@ fn six_digits(number: u64) -> [u8; 6]
     ]
 }
 
-/// A point and digits, or nothing where there are none.
+// A point and digits, or nothing where there are none.
 fn put_fraction(digits: &[u8], out: &mut Vec<u8>) -> Result<(), AllocError>
     ensures { OnOk result (out.new.items ≡ out.old.items ++ point_text digits.now) }
 {
@@ -131,14 +132,14 @@ fn put_fraction(digits: &[u8], out: &mut Vec<u8>) -> Result<(), AllocError>
     }
 }
 
-/// Digits without the zeros at their end.
+// Digits without the zeros at their end.
 fn trimmed_digits(digits: &[u8]) -> &[u8]
     ensures { result.now ≡ trimmed digits.now }
 {
     &digits[..digits.len() - zeros_behind(digits)]
 }
 
-/// A number of millionths.
+// A number of millionths.
 #[tactic(auto, unfolding(pl_tokens::specs::Numerals::number_text, pl_tokens::specs::Numerals::fraction_of))]
 fn put_number(value: i64, out: &mut Vec<u8>) -> Result<(), AllocError>
     ensures { OnOk result (out.new.items ≡ out.old.items ++ number_text value) }
@@ -149,7 +150,7 @@ fn put_number(value: i64, out: &mut Vec<u8>) -> Result<(), AllocError>
     put_fraction(trimmed_digits(&digits), out)
 }
 
-/// The name of an argument.
+// The name of an argument.
 fn put_name(name: &Option<Word>, out: &mut Vec<u8>) -> Result<(), AllocError>
     ensures { OnOk result (out.new.items ≡ out.old.items ++ name_text name.now) }
 {
@@ -227,14 +228,14 @@ fn put_args(list: &ArgList, out: &mut Vec<u8>) -> Result<(), AllocError>
     put(out, b")")
 }
 
-/// What stands before an argument that isn't the first.
+// What stands before an argument that isn't the first.
 fn separate(first: bool, out: &mut Vec<u8>) -> Result<(), AllocError>
     ensures { OnOk result (out.new.items ≡ out.old.items ++ comma_text first) }
 {
     if first { Ok(()) } else { put(out, b", ") }
 }
 
-/// How a statement begins.
+// How a statement begins.
 fn put_head(word: &[u8], name: &Word, out: &mut Vec<u8>) -> Result<(), AllocError>
     ensures { OnOk result (out.new.items ≡ out.old.items ++ (word.now ++ (name.now ++ codes " = "))) }
 {
@@ -243,7 +244,7 @@ fn put_head(word: &[u8], name: &Word, out: &mut Vec<u8>) -> Result<(), AllocErro
     put(out, b" = ")
 }
 
-/// A statement on its line.
+// A statement on its line.
 fn put_statement(statement: &Statement, out: &mut Vec<u8>) -> Result<(), AllocError>
     ensures { OnOk result (out.new.items ≡ out.old.items ++ statement_text (statement_of statement.now)) }
 {
@@ -264,7 +265,7 @@ fn put_statement(statement: &Statement, out: &mut Vec<u8>) -> Result<(), AllocEr
     put(out, b";\n")
 }
 
-/// The canonical text, in memory of its own.
+// The canonical text, in memory of its own.
 fn text_of(alloc: Global, script: &Script) -> Result<Vec<u8>, AllocError>
     ensures { IfOk result (λ v. v.items ≡ printed_text script.now) }
 {
@@ -276,16 +277,14 @@ fn text_of(alloc: Global, script: &Script) -> Result<Vec<u8>, AllocError>
     Ok(out)
 }
 
-/// The canonical text of a script, one statement a line: parentheses stand exactly where the levels ask for them. `parse`
-/// reads it as the same script, places aside, where it has at most 262,144 bytes.
+/// The canonical text of a script, one statement a line: parentheses stand exactly where the levels ask for
+/// them. `parse` reads it as the same script, places aside, where it has at most 262,144 bytes.
 pub fn print(alloc: Global, script: &Script) -> Result<Vec<u8>, Memory>
     ensures text { IfOk result (λ v. v.items ≡ printed_text script.now) }
     ensures again { IfOk result (λ v. SpellsAgain v.items (parsed script.now)) }
 {
-    match text_of(alloc, script) {
-        Ok(text) => Ok(text),
-        Err(_) => Err(Memory),
-    }
+    let text = text_of(alloc, script)?;
+    Ok(text)
 }
 
 /// Whatever can be written is spelled by its canonical text, so each script is spelled by some bytes.

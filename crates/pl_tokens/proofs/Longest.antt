@@ -55,12 +55,6 @@ drop_front xs ys = drop-append_seam xs ys
 byte_is : (b : ℕ) → (b == 46) ≡ true → b ≡ 46
 byte_is b k = grind (arith, nat_tests)
 
-fraction_at : (n : ℕ) (bs : List ℕ) → fraction_behind n (46 ∷ bs) ≡ Token (Number n (length (take_while is_digit bs)))
-fraction_at n bs = refl
-
-quote_is_no_word : starts_word 34 ≡ false
-quote_is_no_word = refl
-
 pairs_apart : (c : ℕ) → pairs c ≡ true → (starts_word c ≡ false) × (is_digit c ≡ false) × ((c == 34) ≡ false)
 pairs_apart c h = (grind (arith, nat_tests), grind (arith, nat_tests), grind (arith, nat_tests))
 

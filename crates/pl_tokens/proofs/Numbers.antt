@@ -1,5 +1,5 @@
 -- The text of a number is a decimal without a sign, and reading it gives its token.
-use Rattle.std.proofs.Common.{◌≡◌, ℕ, ℤ, suc, ◌+◌, ◌<◌, Bool, true, false, cond, ◌&&◌, ◌||◌, List, [], ◌∷◌, ◌++◌, length, take, drop, append-nil, Result, Ok, Err, refl, sym, ap, ◌∙◌, arith, subst}
+use Rattle.std.proofs.Common.{◌≡◌, ℕ, ℤ, suc, ◌+◌, ◌<◌, Bool, true, false, cond, ◌&&◌, ◌||◌, List, [], ◌∷◌, ◌++◌, length, take, drop, append-nil, Result, Ok, Err, refl, sym, ap, ◌∙◌, arith, subst, ◌⊎◌, inl, inr}
 use Rattle.std.specs.Prelude.{nat_lt}
 use Rattle.std.specs.List.{list_all}
 use Rattle.std.specs.Char.{digit_value}
@@ -48,9 +48,6 @@ behind (x ∷ xs) ys b = ap (λ n. drop n (x ∷ (xs ++ (b ∷ ys)))) (let e : s
 is_decimal : (whole fraction xs : List ℕ) (n : ℕ) → take n xs ≡ whole → drop (n + 1) xs ≡ fraction → IsDecimal (record { negative = false; whole = whole; fraction = fraction }) xs → IsDecimal (decimal_of n xs) xs
 is_decimal whole fraction xs n e f h =
     subst (λ z. IsDecimal (record { negative = false; whole = z; fraction = drop (n + 1) xs }) xs) (sym e) (subst (λ z. IsDecimal (record { negative = false; whole = whole; fraction = z }) xs) (sym f) h)
-
-abbrev same_whole : (f g : Form) → ℕ → ℕ → Type 0
-same_whole f g a b = f ≡ g → a ≡ b
 
 number_whole : (a b n k : ℕ) → Number a b ≡ Number n k → a ≡ n
 number_whole a b n k h = cc
@@ -102,3 +99,16 @@ judged_token d = by_tests (nat_lt 18 (length d.fraction)) (nat_lt LIMIT (unsigne
 
 pub literal_token : (xs rest : List ℕ) (n k : ℕ) → Front xs rest (Number n k) → read_token (read xs) ≡ decimal_token (decimal_of n xs)
 literal_token xs rest n k x = ap read_token (read-spelled (decimal_of n xs) xs (literal x n k refl)) ∙ judged_token (decimal_of n xs)
+
+-- so it has a digit and is a decimal
+pub judged_reads : (d : Decimal) (e : DecimalFault) → judged d ≡ Err e → (e ≡ TooManyDigits) ⊎ (e ≡ TooLarge)
+unfolding judged in_range
+judged_reads d e h = by_tests (nat_lt 18 (length d.fraction)) (nat_lt LIMIT (unsigned_abs (millionths d))) (millionths d) h
+  where
+    by_tests : (a b : Bool) (v : ℤ) → cond a (Err TooManyDigits) (cond b (Err TooLarge) (Ok v)) ≡ Err e → (e ≡ TooManyDigits) ⊎ (e ≡ TooLarge)
+    by_tests true b v k = inl (cc)
+    by_tests false true v k = inr (cc)
+    by_tests false false v k = absurd (cc)
+
+pub literal_fault : (xs rest : List ℕ) (n k : ℕ) (e : DecimalFault) → Front xs rest (Number n k) → read xs ≡ Err e → (e ≡ TooManyDigits) ⊎ (e ≡ TooLarge)
+literal_fault xs rest n k e x h = judged_reads (decimal_of n xs) e (sym (read-spelled (decimal_of n xs) xs (literal x n k refl)) ∙ h)

@@ -38,9 +38,6 @@ at_front n p [] some gap = absurd (omega arith)
 at_front n p (b ∷ bs) some gap =
     let k = neither (is_blank b) (b == 35) gap in cond_false (is_blank b) _ _ k.0 ∙ cond_false (b == 35) _ _ k.1
 
-blank_no_comment : (b : ℕ) → is_blank b ≡ true → (b == 35) ≡ false
-blank_no_comment b h = grind (arith, nat_tests)
-
 token_step : (n : ℕ) (p : Place) (xs bs : List ℕ) (f : Form) → Front xs bs f → reading (suc n) p (xs ++ bs) ≡ with_token p (token_in f xs) (reading n (after xs p) bs)
 token_step n p xs bs f x =
     let some = front_some x in

@@ -17,7 +17,7 @@ use Rattle.std.proofs.lemmas.Str.Parse.{digit_from_value}
 use Rattle.pl_spec.specs.Rounding.{LIMIT, MILLION, div_round}
 use Rattle.pl_spec.specs.Dates.{digits}
 use Rattle.pl_spec.specs.Decimals.{point_text}
-use Rattle.pl_fixed.proofs.DigitLemmas.{digits_value-append, length-digits, power_pos}
+use Rattle.pl_fixed.proofs.DigitLemmas.{AllDigits-digits, digits_value-append, digits_value-digits, length-digits, power_pos}
 use Rattle.pl_fixed.proofs.RoundingLemmas.{div_round-multiple}
 use Rattle.pl_grammar.specs.declared.Place.{Place}
 use Rattle.pl_grammar.specs.Tree as t
@@ -88,25 +88,6 @@ text_shows cs rest us p h k =
     (token_shows (34 ∷ (cs ++ (34 ∷ []))) rest _ us p (t.Text cs) (a_text cs h) (ap t.Text (ap (λ n. take n (cs ++ (34 ∷ []))) e ∙ take-append_seam cs (34 ∷ []))) k)
 
 -- numbers
-
-digit_of : (d : ℕ) → d < 10 → digit_value (48 + d) ≡ d
-digit_of d h = grind (arith, nat_tests)
-
-digit_below : (d : ℕ) → d < 10 → digit_value (48 + d) < 10
-digit_below d h = rw (digit_of d h) h
-
-digits_are_digits : (k n : ℕ) → AllDigits 10 (digits k n)
-unfolding digits
-digits_are_digits zero n = tt
-digits_are_digits (suc k) n = digits_push 10 (digits k (n / 10)) (48 + n % 10) (digits_are_digits k (n / 10)) (digit_below (n % 10) (mod_below n 10 (omega arith)))
-
-digits_value-digits : (k n : ℕ) → n < 10 ^ k → digits_value 10 (digits k n) ≡ n
-unfolding digits
-digits_value-digits zero n h = omega arith
-digits_value-digits (suc k) n h =
-    let low = mod_below n 10 (omega arith) in
-    let high : digits_value 10 (digits k (n / 10)) ≡ n / 10 = digits_value-digits k (n / 10) (div_below n 10 (10 ^ k) (omega arith) (rw (pow-suc 10 k) at h)) in
-    digits_value_push 10 (digits k (n / 10)) (48 + n % 10) ∙ rw (high, digit_of _ low) (div-add-mod' n 10)
 
 zero_value : (zs : List ℕ) → list_all is_zero zs ≡ true → digits_value_after 10 0 zs ≡ 0
 zero_value [] h = refl
@@ -214,7 +195,7 @@ number_shows (pos n) rest us p h s k =
     let size : length fs + length x.zeros ≡ 6 = sym (length-append fs x.zeros) ∙ (ap length (sym x.whole) ∙ length-digits 6 r) in
     let regrouped : decimal q ++ ds ≡ (decimal q ++ fs) ++ x.zeros = ap (λ z. decimal q ++ z) x.whole ∙ sym (append_assoc (decimal q) fs x.zeros) in
     let total : n ≡ digits_value 10 (decimal q ++ fs) * 10 ^ length x.zeros = sym value ∙ (ap (digits_value 10) regrouped ∙ (digits_value-append (decimal q ++ fs) x.zeros ∙ (ap (λ m. digits_value 10 (decimal q ++ fs) * 10 ^ length x.zeros + m) (zero_value x.zeros x.all) ∙ plus_zero (digits_value 10 (decimal q ++ fs) * 10 ^ length x.zeros)))) in
-    let digits_ok : AllDigits 10 fs = front_digits fs x.zeros (subst (λ z. AllDigits 10 z) x.whole (digits_are_digits 6 r)) in
+    let digits_ok : AllDigits 10 fs = front_digits fs x.zeros (subst (λ z. AllDigits 10 z) x.whole (AllDigits-digits 6 r)) in
     let f = number_front (decimal q) fs rest whole.0.0 whole.0.1 digits_ok s in
     token_shows (decimal q ++ point_text fs) rest f.form us p (t.Number (pos n)) f.front (f.token ∙ small_token (decimal q) fs n (omega (arith, size)) small (text_value n (digits_value 10 (decimal q ++ fs)) (length x.zeros) (length fs) total size)) k
   where

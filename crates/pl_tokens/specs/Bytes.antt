@@ -15,7 +15,9 @@ pairs b = may_pair b || (b == 33)
 
 -- the signs of one byte: & ( ) * + , - . / ; < = > | ~
 abbrev pub is_sign : ℕ → Bool
-is_sign b = (b == 38) || ((nat_le 40 b && nat_le b 47) || ((nat_le 59 b && nat_le b 62) || ((b == 124) || (b == 126))))
+is_sign b =
+    (b == 38) || ((nat_le 40 b && nat_le b 47)
+    || ((nat_le 59 b && nat_le b 62) || ((b == 124) || (b == 126))))
 
 -- a space, a tab, CR or LF
 abbrev pub is_blank : ℕ → Bool

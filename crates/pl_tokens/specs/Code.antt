@@ -33,8 +33,10 @@ pub record HasRoom (p : Place) (bs : List ℕ) : Type 0 where
   pub line : p.line + length bs < 2 ^ 32
   pub col : p.col + length bs < 2 ^ 32
 
--- From place p the text bs begins, after a gap, with the token t at place r, and goes on with rest at place q.
-pub record Begins (p : Place) (bs : List ℕ) (r : Place) (t : t.Token) (q : Place) (rest : List ℕ) : Type 0 where
+-- From place p the text bs begins, after a gap, with the token t at place r, and goes on with rest at
+-- place q.
+pub record Begins (p : Place) (bs : List ℕ) (r : Place) (t : t.Token) (q : Place)
+    (rest : List ℕ) : Type 0 where
   pub reads : (ts : List Lexeme) (tail : Tail) → Read q rest ts tail → Read p bs (mark r t ∷ ts) tail
   pub fewer : length rest < length bs
   pub room : HasRoom q rest

@@ -11,4 +11,5 @@ EachIsRead = (p : Place) (bs : List ℕ) → (ts : List Lexeme) × (tail : Tail)
 
 -- and no others
 abbrev pub OneReading : Type 0
-OneReading = (p : Place) (bs : List ℕ) (ts us : List Lexeme) (x y : Tail) → Read p bs ts x → Read p bs us y → (ts ≡ us) × (x ≡ y)
+OneReading = (p : Place) (bs : List ℕ) (ts us : List Lexeme) (x y : Tail) → Read p bs ts x → Read p bs us y
+    → (ts ≡ us) × (x ≡ y)

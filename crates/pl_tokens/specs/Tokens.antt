@@ -17,15 +17,22 @@ abbrev pub NoDecimals : List ℕ → Type 0
 NoDecimals [] = Unit {0}
 NoDecimals (b ∷ bs) = (is_digit b ≡ false) × (b ≡ 46 → Stops is_digit bs)
 
--- Front xs rest f: xs is the longest token at the front of xs ++ rest, and f is its form with its lengths: the bytes
--- of a word, the digits in front of a number's point and behind it, the bytes of a text with its quotes
+-- Front xs rest f: xs is the longest token at the front of xs ++ rest, and f is its form with its lengths:
+-- the bytes of a word, the digits in front of a number's point and behind it, the bytes of a text with its
+-- quotes
 pub data Front : List ℕ → List ℕ → Form → Type 0 where
-  a_word : (c : ℕ) (cs : List ℕ) {rest : List ℕ} → starts_word c ≡ true → list_all is_word_byte cs ≡ true → Stops is_word_byte rest → length cs < 32 → Front (c ∷ cs) rest (Word (suc (length cs)))
-  a_whole : (c : ℕ) (cs : List ℕ) {rest : List ℕ} → is_digit c ≡ true → list_all is_digit cs ≡ true → NoDecimals rest → Front (c ∷ cs) rest (Number (suc (length cs)) 0)
-  a_decimal : (c : ℕ) (cs : List ℕ) (f : ℕ) (fs : List ℕ) {rest : List ℕ} → is_digit c ≡ true → list_all is_digit cs ≡ true → is_digit f ≡ true → list_all is_digit fs ≡ true → Stops is_digit rest → Front (c ∷ (cs ++ (46 ∷ (f ∷ fs)))) rest (Number (suc (length cs)) (suc (length fs)))
-  a_text : (cs : List ℕ) {rest : List ℕ} → list_all is_text_byte cs ≡ true → Front (34 ∷ (cs ++ (34 ∷ []))) rest (Text (length cs + 2))
+  a_word : (c : ℕ) (cs : List ℕ) {rest : List ℕ} → starts_word c ≡ true → list_all is_word_byte cs ≡ true
+      → Stops is_word_byte rest → length cs < 32 → Front (c ∷ cs) rest (Word (suc (length cs)))
+  a_whole : (c : ℕ) (cs : List ℕ) {rest : List ℕ} → is_digit c ≡ true → list_all is_digit cs ≡ true
+      → NoDecimals rest → Front (c ∷ cs) rest (Number (suc (length cs)) 0)
+  a_decimal : (c : ℕ) (cs : List ℕ) (f : ℕ) (fs : List ℕ) {rest : List ℕ} → is_digit c ≡ true
+      → list_all is_digit cs ≡ true → is_digit f ≡ true → list_all is_digit fs ≡ true → Stops is_digit rest
+      → Front (c ∷ (cs ++ (46 ∷ (f ∷ fs)))) rest (Number (suc (length cs)) (suc (length fs)))
+  a_text : (cs : List ℕ) {rest : List ℕ} → list_all is_text_byte cs ≡ true
+      → Front (34 ∷ (cs ++ (34 ∷ []))) rest (Text (length cs + 2))
   a_pair : (c : ℕ) {rest : List ℕ} → pairs c ≡ true → Front (c ∷ (61 ∷ [])) rest (Two c)
-  a_sign : (c : ℕ) {rest : List ℕ} → is_sign c ≡ true → (may_pair c ≡ true → Stops (λ b. b == 61) rest) → Front (c ∷ []) rest (One c)
+  a_sign : (c : ℕ) {rest : List ℕ} → is_sign c ≡ true → (may_pair c ≡ true → Stops (λ b. b == 61) rest)
+      → Front (c ∷ []) rest (One c)
 
 -- a keyword, or a name
 abbrev pub word_token : List ℕ → Token
@@ -36,9 +43,11 @@ word_token w =
     else if bytes_eq w (codes "screen") then t.ScreenWord
     else t.Name w
 
--- a number in millionths, rounded once, unless it has more than 18 digits behind its point or passes the greatest cell
+-- a number in millionths, rounded once, unless it has more than 18 digits behind its point or passes the
+-- greatest cell
 abbrev pub decimal_token : Decimal → Token
-decimal_token d = if nat_lt 18 (length d.fraction) || nat_lt LIMIT (unsigned_abs (millionths d)) then t.LargeNumber else t.Number (millionths d)
+decimal_token d = if nat_lt 18 (length d.fraction) || nat_lt LIMIT (unsigned_abs (millionths d))
+    then t.LargeNumber else t.Number (millionths d)
 
 abbrev pub number_token : List ℕ → List ℕ → Token
 number_token whole fraction = decimal_token (record { negative = false; whole = whole; fraction = fraction })

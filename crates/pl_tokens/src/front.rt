@@ -1,4 +1,5 @@
-// What stands at the front of a text.
+//! What stands at the front of a text.
+
 ghost use Rattle.std.specs.Prelude.{◌≡◌, ◌+◌, ◌^◌, ◌<◌, ◌≤◌, length};
 ghost use Rattle.std.specs.List.{take_while};
 ghost use Rattle.pl_tokens.specs.Bytes.{is_text_byte, pairs, is_sign};
@@ -51,7 +52,7 @@ fn is_in_text(b: u8) -> bool
     b >= b' ' && b <= b'~' && b != b'"' && b != b'\\'
 }
 
-/// How many bytes of a word stand at the front.
+// How many bytes of a word stand at the front.
 fn word_length(bytes: &[u8]) -> usize
     ensures { result ≡ length (take_while is_word_byte bytes.now) }
 {
@@ -82,7 +83,7 @@ fn is_one_sign(b: u8) -> bool
     b == b'&' || (b >= b'(' && b <= b'/') || (b >= b';' && b <= b'>') || b == b'|' || b == b'~'
 }
 
-/// A word of so many bytes: at most 32 of them.
+// A word of so many bytes: at most 32 of them.
 fn word_of(length: usize) -> Found
     ensures { result ≡ word_front length }
 {
@@ -93,7 +94,7 @@ fn word_of(length: usize) -> Found
     }
 }
 
-/// A number of so many whole digits, by what stands behind them.
+// A number of so many whole digits, by what stands behind them.
 fn number_of(digits: usize, behind: &[u8]) -> Found
     ensures { result ≡ fraction_behind digits behind.now }
 {
@@ -103,7 +104,7 @@ fn number_of(digits: usize, behind: &[u8]) -> Found
     }
 }
 
-/// A text of so many bytes, its first quote included, by what stands behind them.
+// A text of so many bytes, its first quote included, by what stands behind them.
 fn text_of(length: usize, behind: &[u8]) -> Found
     requires { length ≤ 2 ^ 32 }
     ensures { result ≡ text_end length behind.now }
@@ -114,7 +115,7 @@ fn text_of(length: usize, behind: &[u8]) -> Found
     }
 }
 
-/// A sign, by the byte behind it.
+// A sign, by the byte behind it.
 fn sign_of(b: u8, behind: &[u8]) -> Found
     ensures { result ≡ sign_front b behind.now }
 {
@@ -130,7 +131,7 @@ fn sign_of(b: u8, behind: &[u8]) -> Found
     }
 }
 
-/// What stands at the front of a text that begins with no gap.
+// What stands at the front of a text that begins with no gap.
 #[tactic(auto, unfolding(crate::specs::Front::front))]
 pub(crate) fn front_of(bytes: &[u8]) -> Found
     requires { length bytes.now < 2 ^ 32 }

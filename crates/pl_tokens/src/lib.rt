@@ -1,8 +1,8 @@
 //! The tokens of a pipeline file: each with its place, read from the bytes one after another.
 //!
-//! `specs/Tokens` has the forms of tokens, taken longest first, and what each is to the grammar; `specs/Text` says what
-//! a whole text is: tokens with gaps round them, and behind them its end or the first byte that begins or continues no
-//! token.
+//! `specs/Tokens` has the forms of tokens, taken longest first, and what each is to the grammar;
+//! `specs/Text` says what a whole text is: tokens with gaps round them, and behind them its end or the
+//! first byte that begins or continues no token.
 #![tactic(auto)]
 
 ghost use Rattle.pl_tokens.specs.Laws.{EachIsRead, OneReading};

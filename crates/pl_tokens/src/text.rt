@@ -1,4 +1,5 @@
-// A text, read token by token.
+//! A text, read token by token.
+
 ghost use Rattle.std.specs.Prelude.{◌≡◌, ◌+◌, ◌-◌, ◌^◌, ◌<◌, ◌≤◌, ℕ, List, length, take, drop, IfOk};
 ghost use Rattle.std.specs.List.{take_while};
 ghost use Rattle.pl_grammar.specs.Tree.{Lexeme};
@@ -31,7 +32,7 @@ pub enum Next {
     Token(Place, Token),
 }
 
-/// The place behind a byte.
+// The place behind a byte.
 fn place_behind(place: Place, b: u8) -> Place
     requires line { place.line < 2 ^ 32 - 1 }
     requires col { place.col < 2 ^ 32 - 1 }
@@ -50,7 +51,7 @@ fn place_behind(place: Place, b: u8) -> Place
     }
 }
 
-/// The place behind these bytes.
+// The place behind these bytes.
 fn place_after(place: Place, bytes: &[u8]) -> Place
     requires { HasRoom place bytes.now }
     ensures { result ≡ after bytes.now place }
@@ -74,7 +75,7 @@ fn comment_length(bytes: &[u8]) -> usize
     bytes.iter().take_while(|b| **b != b'\n').count()
 }
 
-/// How many bytes of a gap stand in front: a blank, or a comment, or none.
+// How many bytes of a gap stand in front: a blank, or a comment, or none.
 fn gap_length(bytes: &[u8]) -> usize
     requires { length bytes.now < 2 ^ 32 }
     ensures { result ≡ gap_front bytes.now }
@@ -93,7 +94,7 @@ fn gap_length(bytes: &[u8]) -> usize
     }
 }
 
-/// How many bytes a form has.
+// How many bytes a form has.
 fn length_of(form: Form) -> usize
     requires { form_length form < 2 ^ 32 }
     ensures { result ≡ form_length form }
@@ -107,7 +108,7 @@ fn length_of(form: Form) -> usize
 }
 
 impl<'a> Text<'a> {
-    /// Goes on over so many bytes.
+    // Goes on over so many bytes.
     fn skip(&mut self, count: usize)
         requires room { HasRoom self.old.place self.old.bytes.now }
         requires within { count ≤ length self.old.bytes.now }
@@ -119,10 +120,11 @@ impl<'a> Text<'a> {
         self.bytes = &self.bytes[count..];
     }
 
-    /// Goes over the blanks and comments in front.
+    // Goes over the blanks and comments in front.
     fn skip_gap(&mut self)
         requires { HasRoom self.old.place self.old.bytes.now }
-        ensures reads { (ts : List Lexeme) (tail : Tail) → Read self.new.place self.new.bytes.now ts tail → Read self.old.place self.old.bytes.now ts tail }
+        ensures reads { (ts : List Lexeme) (tail : Tail) → Read self.new.place self.new.bytes.now ts tail
+            → Read self.old.place self.old.bytes.now ts tail }
         ensures tight { Stops begins_gap self.new.bytes.now }
         ensures fewer { length self.new.bytes.now ≤ length self.old.bytes.now }
         ensures room { HasRoom self.new.place self.new.bytes.now }
@@ -137,7 +139,8 @@ impl<'a> Text<'a> {
     /// What comes next, behind blanks and comments. After a token the text goes on behind it.
     pub fn next(&mut self, alloc: Global) -> Result<Next, AllocError>
         requires { HasRoom self.old.place self.old.bytes.now }
-        ensures { IfOk result (λ next. IsNext self.old.place self.old.bytes.now next self.new.place self.new.bytes.now) }
+        ensures { IfOk result
+            (λ next. IsNext self.old.place self.old.bytes.now next self.new.place self.new.bytes.now) }
     {
         self.skip_gap();
         let place = self.place;

@@ -1,4 +1,5 @@
-// The tokens.
+//! The tokens.
+
 ghost use Rattle.std.specs.Prelude.{◌≡◌, ◌+◌, ◌-◌, ◌<◌, ◌≤◌, List, ℕ, length, take, drop, IfOk};
 ghost use Rattle.pl_tokens.specs.Tokens.{Front, token_in, word_token, one_token, two_token};
 ghost use Rattle.pl_tokens.specs.Code.{token_of};
@@ -39,7 +40,7 @@ fn copied(alloc: Global, bytes: &[u8]) -> Result<Word, AllocError>
     Ok(Word::new(text))
 }
 
-/// A keyword, or a name.
+// A keyword, or a name.
 fn word_at(alloc: Global, bytes: &[u8]) -> Result<Token, AllocError>
     ensures { IfOk result (λ token. token_of token ≡ word_token bytes.now) }
 {
@@ -56,18 +57,22 @@ fn word_at(alloc: Global, bytes: &[u8]) -> Result<Token, AllocError>
     }
 }
 
-/// A number of so many digits, and so many behind its point.
+// A number of so many digits, and so many behind its point.
 fn number_at(bytes: &[u8]) -> Token
+    requires { (whole : ℕ) × (fraction : ℕ) × (rest : List ℕ)
+        × Front bytes.now rest (Form.Number whole fraction) }
     ensures { (whole fraction : ℕ) (rest : List ℕ) → Front bytes.now rest (Form.Number whole fraction)
         → token_of result ≡ token_in (Form.Number whole fraction) bytes.now }
 {
     match read_decimal(bytes) {
         Ok(value) => Token::Number(value),
-        Err(_) => Token::LargeNumber,
+        Err(DecimalFault::TooManyDigits | DecimalFault::TooLarge) => Token::LargeNumber,
+        Err(DecimalFault::Empty) => unreachable!(),
+        Err(DecimalFault::Shape) => unreachable!(),
     }
 }
 
-/// A sign of one byte.
+// A sign of one byte.
 fn one_sign(b: u8) -> Token
     ensures { token_of result ≡ one_token b }
 {
@@ -90,7 +95,7 @@ fn one_sign(b: u8) -> Token
     }
 }
 
-/// A sign of two bytes, by its first.
+// A sign of two bytes, by its first.
 fn two_sign(b: u8) -> Token
     ensures { token_of result ≡ two_token b }
 {
@@ -102,7 +107,7 @@ fn two_sign(b: u8) -> Token
     }
 }
 
-/// The token of this form, of its own bytes.
+// The token of this form, of its own bytes.
 pub(crate) fn token_from(alloc: Global, form: Form, bytes: &[u8]) -> Result<Token, AllocError>
     requires { (rest : List ℕ) × Front bytes.now rest form }
     ensures { IfOk result (λ token. token_of token ≡ token_in form bytes.now) }

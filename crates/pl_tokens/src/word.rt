@@ -1,4 +1,5 @@
-// The bytes of a name or a string.
+//! The bytes of a name or a string.
+
 ghost use Rattle.std.specs.Prelude.{◌≡◌};
 
 use std::marker::Model;

@@ -1,11 +1,12 @@
 ghost use Rattle.std.specs.Prelude.{◌≡◌, ◌+◌, ◌^◌, ◌-◌, ◌<◌, ◌≤◌, length, pos, ◌+ℤ◌, vec_len, vec_capacity, IfOk};
 ghost use Rattle.pl_records.specs.Sorted.{HasOwnKeys, sorted_by};
 ghost use Rattle.pl_assets.specs.LabelPlaces.{AreNumbered, Ascend, IsLastStarted, IsOrder, KeyPoint, OwnKeys, key, key_at, key_of, numbers};
+ghost use Rattle.pl_assets.specs.declared.TheConstants.{MOST_LABELS};
 
 use crate::labels::rows::{LabelRows, Place};
 use std::alloc::{AllocError, Global};
 
-/// A number that rises by the number of the name, then by column, and then by day.
+// A number that rises by the number of the name, then by column, and then by day.
 pub(crate) fn key(name: u32, col: usize, day: i32) -> u128
     ensures { result ≡ key name col day }
 {
@@ -36,9 +37,9 @@ fn key_at(places: &[Place], i: u32) -> u128
     }
 }
 
-/// The numbers of all rows, by the keys of the rows.
+// The numbers of all rows, by the keys of the rows.
 pub(crate) fn order_of(alloc: Global, places: &[Place]) -> Result<Vec<u32>, AllocError>
-    requires few { length places.now ≤ 200_000 }
+    requires few { length places.now ≤ MOST_LABELS }
     requires own { OwnKeys places.now }
     ensures { IfOk result (λ v. IsOrder places.now (length places.now) v.items) }
 {
@@ -46,7 +47,7 @@ pub(crate) fn order_of(alloc: Global, places: &[Place]) -> Result<Vec<u32>, Allo
 }
 
 fn sorted_numbers(alloc: Global, places: &[Place]) -> Result<Vec<u32>, AllocError>
-    requires few { length places.now ≤ 200_000 }
+    requires few { length places.now ≤ MOST_LABELS }
     requires own { OwnKeys places.now }
     ensures { IfOk result (λ v.
         v.items ≡ sorted_by (key_at places.now) (numbers (length places.now))) }
@@ -58,7 +59,7 @@ fn sorted_numbers(alloc: Global, places: &[Place]) -> Result<Vec<u32>, AllocErro
 
 #[tactic(auto, unfolding(crate::specs::LabelPlaces::numbers))]
 fn numbers_below(alloc: Global, n: usize) -> Result<Vec<u32>, AllocError>
-    requires { n ≤ 200_000 }
+    requires { n ≤ MOST_LABELS }
     ensures { IfOk result (λ v. v.items ≡ numbers n) }
 {
     let mut order = Vec::with_capacity(alloc, n)?;
@@ -75,10 +76,10 @@ fn sort_by_key(places: &[Place], order: &mut [u32])
     order.sort_unstable_by_key(|i| key_at(places, *i));
 }
 
-/// Puts the number of the last row, whose key no other has, into the order of the others.
+// Puts the number of the last row, whose key no other has, into the order of the others.
 pub(crate) fn insert_last(places: &[Place], order: &mut Vec<u32>)
     requires some { 0 < length places.now }
-    requires few { length places.now ≤ 200_000 }
+    requires few { length places.now ≤ MOST_LABELS }
     requires room { vec_len order.old < vec_capacity order.old }
     requires own { OwnKeys places.now }
     requires others { IsOrder places.now (length places.now - 1) order.old.items }
@@ -101,7 +102,7 @@ fn point_of(places: &[Place], order: &[u32], key: u128) -> usize
     order.partition_point(|i| key_at(places, *i) <= key)
 }
 
-/// The row under the name that started last in the column by the day.
+// The row under the name that started last in the column by the day.
 pub(crate) fn last_started(
     rows: &LabelRows,
     order: &[u32],

@@ -7,18 +7,14 @@ ghost use Rattle.pl_assets.specs.LabelFaults.{fault_of};
 ghost use Rattle.pl_assets.specs.LabelPlaces.{AreKeys, AreNumbered, shown_rows};
 ghost use Rattle.pl_assets.specs.LabelStarts.{label_from, row_from};
 
-use crate::Assets;
 use crate::labels::error::LabelsError;
 use crate::labels::order::{key, key_of};
 use crate::labels::rows::LabelRows;
+use crate::{Assets, LONGEST_LABEL, MOST_LABELS};
 use pl_fixed::{is_name, read_day, read_sid};
 use pl_records::Records;
 use std::alloc::Global;
 use std::collections::HashSet;
-
-const MOST_LABELS: usize = 200_000;
-
-const LONGEST_LABEL: usize = 64;
 
 // The labels of a file in its order.
 #[tactic(auto, unfolding(crate::specs::Labels::label_rows_in))]
@@ -58,7 +54,7 @@ fn rows_behind(
     Ok(rows)
 }
 
-/// From when on a record gives a label, and to which column.
+// From when on a record gives a label, and to which column.
 #[derive(Clone, Copy)]
 struct ColumnStart {
     col: u32,
@@ -75,9 +71,9 @@ fn next_start(
     assets: &Assets,
 ) -> Result<ColumnStart, LabelsError>
     requires numbered { AreNumbered before.now }
-    requires few { length (shown_rows before.now) ≤ 200_000 }
+    requires few { length (shown_rows before.now) ≤ MOST_LABELS }
     requires keys { AreKeys keys.now before.now.places.items }
-    ensures room { OnOk result (length (shown_rows before.now) < 200_000) }
+    ensures room { OnOk result (length (shown_rows before.now) < MOST_LABELS) }
     ensures four { OnOk result (length row.now.fields ≡ 4) }
     ensures exact { Answers (row_from row.now.fields) fault_of result
         (at_line (2 + length (shown_rows before.now))
@@ -108,7 +104,7 @@ fn next_start(
 // Whether a row has the name, the column and the day.
 fn is_known(rows: &LabelRows, keys: &HashSet<u128>, name: &[u8], col: usize, day: i32) -> bool
     requires numbered { AreNumbered rows.now }
-    requires few { length (shown_rows rows.now) ≤ 200_000 }
+    requires few { length (shown_rows rows.now) ≤ MOST_LABELS }
     requires keys { AreKeys keys.now rows.now.places.items }
     ensures { result ≡ list_any (is_from name.now col day) (shown_rows rows.now) }
 {
@@ -118,7 +114,7 @@ fn is_known(rows: &LabelRows, keys: &HashSet<u128>, name: &[u8], col: usize, day
     }
 }
 
-/// The sid and the day of a record.
+// The sid and the day of a record.
 #[derive(Clone, Copy)]
 struct SidStart {
     sid: u32,

@@ -1,12 +1,13 @@
 ghost use Rattle.std.specs.Prelude.{◌≡◌, ◌<◌, ◌≤◌, [], ◌∷◌, ◌++◌, length, IfOk, IfSome, OnOk, OnErr};
 ghost use Rattle.pl_assets.specs.Labels.{with_label};
 ghost use Rattle.pl_assets.specs.LabelPlaces.{AreNumbered, IsBehind, KeepsFront, shown_rows, text_in};
+ghost use Rattle.pl_assets.specs.declared.TheConstants.{MOST_LABELS};
 
 use crate::labels::texts::{LabelTexts, Texts};
 use std::alloc::{AllocError, Global};
 
-/// A row of labels: the number of its name, its column, its first day and the code of its text,
-/// which an empty text lacks.
+// A row of labels: the number of its name, its column, its first day and the code of its text,
+// which an empty text lacks.
 #[derive(Clone, Copy, Debug)]
 pub(crate) struct Place {
     pub(crate) name: u32,
@@ -15,7 +16,7 @@ pub(crate) struct Place {
     pub(crate) code: Option<u32>,
 }
 
-/// Rows of labels, one behind the other, with their distinct names and texts.
+// Rows of labels, one behind the other, with their distinct names and texts.
 #[derive(Debug, Drop)]
 pub(crate) struct LabelRows {
     pub(crate) names: Texts,
@@ -24,7 +25,7 @@ pub(crate) struct LabelRows {
 }
 
 impl LabelRows {
-    /// No rows.
+    // No rows.
     pub(crate) fn new(alloc: Global) -> LabelRows
         ensures names { result.names ≡ [] }
         ensures texts { result.texts ≡ [] }
@@ -37,7 +38,7 @@ impl LabelRows {
         }
     }
 
-    /// One row behind the others. Where memory runs out, none is added.
+    // One row behind the others. Where memory runs out, none is added.
     pub(crate) fn push(
         &mut self,
         name: &[u8],
@@ -46,7 +47,7 @@ impl LabelRows {
         text: &[u8],
     ) -> Result<Place, AllocError>
         requires numbered { AreNumbered self.old }
-        requires few { length self.old.places.items < 200_000 }
+        requires few { length self.old.places.items < MOST_LABELS }
         ensures numbered { AreNumbered self.new }
         ensures place { IfOk result (λ p. IsBehind self.old self.new p) }
         ensures row { OnOk result (shown_rows self.new
@@ -69,7 +70,7 @@ impl LabelRows {
     // The same, but where memory runs out, a name and a text may stay behind the others.
     fn put(&mut self, name: &[u8], col: u32, start: i32, text: &[u8]) -> Result<Place, AllocError>
         requires numbered { AreNumbered self.old }
-        requires few { length self.old.places.items < 200_000 }
+        requires few { length self.old.places.items < MOST_LABELS }
         ensures numbered { OnOk result (AreNumbered self.new) }
         ensures place { IfOk result (λ p. IsBehind self.old self.new p) }
         ensures row { OnOk result (shown_rows self.new
@@ -92,7 +93,7 @@ impl LabelRows {
 
 // The code of a text, which is added if it is new; an empty text has none.
 fn code_of(texts: &mut LabelTexts, text: &[u8]) -> Result<Option<u32>, AllocError>
-    requires { length texts.old < 200_000 }
+    requires { length texts.old < MOST_LABELS }
     ensures texts { OnOk result (texts.new ≡ with_label texts.old text.now) }
     ensures code { IfOk result (λ code. text_in texts.new code ≡ text.now) }
     ensures known { IfOk result (λ code. IfSome code (λ c. c < length texts.new)) }

@@ -10,6 +10,7 @@ const LABELS: &[u8] =
 fn tells_the_label_of_a_day(rt: HostRuntime) -> Result<(), Fail> {
     let assets = Assets::read(rt.alloc(), ASSETS)?;
     let labels = Labels::read(rt.alloc(), LABELS, &assets)?;
+    assert_eq!(rt; labels.len(), 5);
     // Sid 1 has column 0 and sid 7 column 1; 19724 is 2024-01-02.
     let table: &[(&[u8], usize, i32, Option<u32>)] = &[
         (b"sector", 0, i32::MIN, None),
@@ -55,8 +56,8 @@ fn lends_texts(rt: HostRuntime) -> Result<(), Fail> {
         };
         assert_eq!(rt; found, Some(*code));
         if let Some(found) = found {
-            assert!(rt; labels.text(found) == *text);
-            assert!(rt; labels.csv_text(found) == *field);
+            assert_eq!(rt; labels.text(found), *text);
+            assert_eq!(rt; labels.csv_text(found), *field);
         }
     }
     Ok(())
@@ -72,10 +73,11 @@ fn adds_labels(rt: HostRuntime) -> Result<(), Fail> {
     let assets = Assets::from_rows(vec![in rt.alloc(); asset]?);
     let mut labels = Labels::none(rt.alloc());
     assert_eq!(rt; labels.name_of(b"sector"), None);
-    assert!(rt; labels.add(&assets, b"sector", 7, 19727, b"").is_ok());
-    assert!(rt; labels.add(&assets, b"sector", 7, 19725, b"b").is_ok());
-    assert!(rt; labels.add(&assets, b"country", 7, 19725, b"a").is_ok());
-    assert!(rt; labels.add(&assets, b"country", 7, 19727, b"b").is_ok());
+    assert_eq!(rt; labels.add(&assets, b"sector", 7, 19727, b""), Ok(()));
+    assert_eq!(rt; labels.add(&assets, b"sector", 7, 19725, b"b"), Ok(()));
+    assert_eq!(rt; labels.add(&assets, b"country", 7, 19725, b"a"), Ok(()));
+    assert_eq!(rt; labels.add(&assets, b"country", 7, 19727, b"b"), Ok(()));
+    assert_eq!(rt; labels.len(), 4);
     let table: &[(&[u8], i32, Option<u32>)] = &[
         (b"sector", 19724, None),
         (b"sector", 19726, Some(0)),
@@ -138,7 +140,10 @@ fn names_the_first_fault(rt: HostRuntime) -> Result<(), Fail> {
         ),
     ];
     for (bytes, fault) in table.iter() {
-        assert!(rt; matches!(Labels::read(rt.alloc(), bytes, &assets), Err(e) if e == *fault));
+        assert_eq!(rt;
+            Labels::read(rt.alloc(), bytes, &assets).err(),
+            Some(*fault)
+        );
     }
     Ok(())
 }

@@ -7,7 +7,7 @@ use indexmap::IndexSet;
 use std::alloc::{AllocError, Global};
 use std::marker::Model;
 
-/// Distinct texts, numbered from 0 in the order in which they came.
+// Distinct texts, numbered from 0 in the order in which they came.
 #[derive(Debug, Drop)]
 pub(crate) struct Texts {
     set: IndexSet<Vec<u8>>,
@@ -22,7 +22,7 @@ impl Model for Texts {
 }
 
 impl Texts {
-    /// No texts.
+    // No texts.
     pub(crate) fn new(alloc: Global) -> Texts
         ensures { result ≡ [] }
     {
@@ -31,21 +31,21 @@ impl Texts {
         }
     }
 
-    /// How many texts there are.
+    // How many texts there are.
     pub(crate) fn len(&self) -> usize
         ensures { result ≡ length self.now }
     {
         self.set.len()
     }
 
-    /// The number of a text.
+    // The number of a text.
     pub(crate) fn number_of(&self, text: &[u8]) -> Option<usize>
         ensures { result ≡ position (bytes_eq text.now) self.now }
     {
         self.set.get_index_of(text)
     }
 
-    /// The text of a number.
+    // The text of a number.
     pub(crate) fn text(&self, number: usize) -> &[u8]
         requires { number < length self.now }
         ensures { result.now ≡ slice_index_or self.now number [] }
@@ -56,7 +56,7 @@ impl Texts {
         }
     }
 
-    /// The number of a text, which is added if it is new.
+    // The number of a text, which is added if it is new.
     pub(crate) fn insert(&mut self, text: &[u8]) -> Result<usize, AllocError>
         ensures texts { OnOk result (self.new ≡ with_text self.old text.now) }
         ensures number { IfOk result (λ n. n ≡ position_or_len (bytes_eq text.now) self.old) }
@@ -79,7 +79,7 @@ impl Texts {
         Ok(number)
     }
 
-    /// Keeps the first `len` texts.
+    // Keeps the first `len` texts.
     pub(crate) fn truncate(&mut self, len: usize)
         ensures { self.new ≡ take len self.old }
     {
@@ -87,7 +87,7 @@ impl Texts {
     }
 }
 
-/// Distinct texts of labels, each with the field that csv writes for it.
+// Distinct texts of labels, each with the field that csv writes for it.
 #[derive(Debug, Drop)]
 pub(crate) struct LabelTexts {
     texts: Texts,
@@ -106,7 +106,7 @@ impl Model for LabelTexts {
 }
 
 impl LabelTexts {
-    /// No texts.
+    // No texts.
     pub(crate) fn new(alloc: Global) -> LabelTexts
         ensures { result ≡ [] }
     {
@@ -116,14 +116,14 @@ impl LabelTexts {
         }
     }
 
-    /// How many texts there are.
+    // How many texts there are.
     pub(crate) fn len(&self) -> usize
         ensures { result ≡ length self.now }
     {
         self.texts.len()
     }
 
-    /// The text of a code.
+    // The text of a code.
     pub(crate) fn text(&self, code: usize) -> &[u8]
         requires { code < length self.now }
         ensures { result.now ≡ slice_index_or self.now code [] }
@@ -131,7 +131,7 @@ impl LabelTexts {
         self.texts.text(code)
     }
 
-    /// The text of a code as a field of csv.
+    // The text of a code as a field of csv.
     pub(crate) fn field(&self, code: usize) -> &[u8]
         requires { code < length self.now }
         ensures { result.now ≡ quote (slice_index_or self.now code []) }
@@ -139,7 +139,7 @@ impl LabelTexts {
         self.fields[code].as_slice()
     }
 
-    /// The code of a text, which is added if it is new.
+    // The code of a text, which is added if it is new.
     pub(crate) fn insert(&mut self, text: &[u8]) -> Result<usize, AllocError>
         ensures texts { OnOk result (self.new ≡ with_text self.old text.now) }
         ensures code { IfOk result (λ n. n ≡ position_or_len (bytes_eq text.now) self.old) }
@@ -159,7 +159,7 @@ impl LabelTexts {
         }
     }
 
-    /// Keeps the first `len` texts.
+    // Keeps the first `len` texts.
     pub(crate) fn truncate(&mut self, len: usize)
         ensures { self.new ≡ take len self.old }
     {

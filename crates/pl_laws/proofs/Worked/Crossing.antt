@@ -104,7 +104,8 @@ what_has_no_value_has_no_rank : by_asset three_bars [] (across (kind.Rank method
 unfolding opened
 what_has_no_value_has_no_rank = refl
 
--- asset 1 is the second of two until asset 2 leaves, and then the first of one: the sum of two ranks on 2024-01-08 and 01-09
+-- asset 1 is the second of two until asset 2 leaves, and then the first of one: the sum of two ranks on
+-- 2024-01-08 and 01-09
 ranks_are_among_those_that_exist : by_session leaving (window WindowKind.WindowSum 2 (across (kind.Rank method.Ordinal Ascending) (latest Close) absent ∷ [])) (4 ∷ 5 ∷ []) ≡ Number (units 3) ∷ Number (units 2) ∷ []
 unfolding opened
 ranks_are_among_those_that_exist = refl

@@ -151,7 +151,8 @@ without_labels_all_fields_are_empty : csv (grouped []) by_sector 1 1
 unfolding by_sector opened
 without_labels_all_fields_are_empty = refl
 
--- a label counts by its place among the texts, 0 or 1, and what is missing counts 0: -1500000, 0, 1500000, 0, 0 and 1
+-- a label counts by its place among the texts, 0 or 1, and what is missing counts 0: -1500000, 0, 1500000, 0,
+-- 0 and 1
 labels_count_by_their_place : cells (codes "tech" ∷ codes "Oil, Gas" ∷ []) (table (grouped sectors) by_sector 1 1) ≡ pos 1
 unfolding by_sector opened
 labels_count_by_their_place = refl

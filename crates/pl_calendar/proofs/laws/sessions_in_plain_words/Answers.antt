@@ -1,4 +1,5 @@
-use Rattle.pl_calendar.proofs.DaysSaid.{days_judged, sessions-are, sessions-fault}
+use Rattle.pl_calendar.proofs.DaysSaid.{days_judged}
+use Rattle.pl_calendar.proofs.DaysRead.{sessions-are, sessions-fault}
 use Rattle.pl_calendar.proofs.laws.sessions_in_plain_words.Goals as goal
 
 pub returns-clause-record : goal.returns-clause-record

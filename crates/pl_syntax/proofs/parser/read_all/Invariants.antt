@@ -1,6 +1,6 @@
 use Rattle.std.proofs.Common.{◌≤◌, List, length}
 use Rattle.pl_grammar.specs.Tree.{Lexeme}
-use Rattle.pl_grammar.specs.Faults.{Tail}
+use Rattle.pl_grammar.specs.Faults.{Tail, most_tokens}
 use Rattle.pl_tokens.specs.Text.{Read}
 use Rattle.pl_tokens.specs.Code.{HasRoom}
 use Rattle.pl_syntax.specs.Stages.{stage_of}
@@ -11,7 +11,7 @@ abbrev pub invariant-loop-progress : goal.invariant-loop-progress
 invariant-loop-progress l = record {
   goes : (ts : List Lexeme) (tail : Tail) → Read l.text.place l.text.bytes.now ts tail → Continues l.fn.bytes ts tail l.progress.1.0 (stage_of l.progress.0);
   room : HasRoom l.text.place l.text.bytes.now;
-  few : l.progress.1.0 ≤ 1024;
+  few : l.progress.1.0 ≤ most_tokens;
 }
 
 abbrev pub decreases-loop-progress : goal.decreases-loop-progress

@@ -1,3 +1,4 @@
+use Rattle.std.proofs.Common.{◌∙◌, ap, sym}
 use Rattle.pl_syntax.specs.Canonical.{script_text}
 use Rattle.pl_syntax.specs.Statements.{statements_of}
 use Rattle.pl_syntax.specs.Scripts.{statements_in}
@@ -9,8 +10,11 @@ loop-statement-init c = begun_lines c.statements-statement-items.result.now (sta
 
 pub loop-statement-preserved : goal.loop-statement-preserved
 loop-statement-preserved c =
-    more_lines c.statements-statement-items.result.now c.loop-statement.statement-index c.statement-item.result c.loop-statement.out.items c.put_statement.new.out.items (script_text (statements_of (statements_in c.args.script.now)))
+    more_lines c.statements-statement-items.result.now c.loop-statement.statement-index c.statement-item.result c.loop-statement.out.items c.put_statement.new.out.items (script_text 1 (statements_of (statements_in c.args.script.now)))
     c.loop-statement-test.true c.statement-item.is c.in_ok-put_statement.ensures c.loop-statement.invariant
 
 pub returns : goal.returns
-returns c = ended_lines c.statements-statement-items.result.now c.loop-statement.statement-index c.loop-statement.out.items (script_text (statements_of (statements_in c.args.script.now))) c.loop-statement-test.false c.loop-statement.invariant
+returns c =
+    let ss = statements_of (statements_in c.args.script.now) in
+    ended_lines c.statements-statement-items.result.now c.loop-statement.statement-index c.loop-statement.out.items (script_text 1 ss) c.loop-statement-test.false c.loop-statement.invariant
+    ∙ ap (λ n. script_text n ss) (sym c.args.script.now.known)

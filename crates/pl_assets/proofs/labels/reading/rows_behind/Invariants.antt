@@ -1,5 +1,6 @@
 use Rattle.std.proofs.Common.{◌≡◌, ◌≤◌, length}
 use Rattle.pl_records.specs.Reading.{rows_of, rows_behind}
+use Rattle.pl_assets.specs.declared.TheConstants.{MOST_LABELS}
 use Rattle.pl_assets.specs.Labels.{says_label}
 use Rattle.pl_assets.specs.LabelPlaces.{AreKeys, AreNumbered, shown_rows}
 use Rattle.pl_assets.proofs.labels.reading.rows_behind.Given as goal
@@ -7,7 +8,7 @@ use Rattle.pl_assets.proofs.labels.reading.rows_behind.Given as goal
 abbrev pub invariant-rows : goal.invariant-rows
 invariant-rows l = record {
   rest : rows_behind 2 (says_label l.assets) (shown_rows l.rows) l.records.left ≡ rows_of 2 (says_label l.assets) l.fn.records.left;
-  few : length (shown_rows l.rows) ≤ 200_000;
+  few : length (shown_rows l.rows) ≤ MOST_LABELS;
   numbered : AreNumbered l.rows;
   keys : AreKeys l.keys l.rows.places.items;
 }

@@ -6,8 +6,8 @@ use Rattle.pl_spec.specs.Kind.{Kind}
 use Rattle.pl_spec.specs.Term.{Term, Input, Node, Graph, input_tree, number_tree, tree_over, trees, term_at, MentionsBelow, IsGraph}
 use Rattle.pl_spec.specs.Term.Term.{absent, column, node}
 use Rattle.pl_spec.specs.Term.Input.{BarColumn, TermInput}
-use Rattle.pl_laws.proofs.Trees.{term_at-node}
-use Rattle.pl_laws.proofs.Unfolds.{past}
+use Rattle.pl_spec.proofs.Trees.{term_at-node}
+use Rattle.pl_spec.proofs.Unfolds.{past}
 
 -- lists of at most three elements are told by these
 three : {X : Type 0} (xs ys : List X) → length xs ≤ 3 → length ys ≤ 3 → slice_get xs 0 ≡ slice_get ys 0 → slice_get xs 1 ≡ slice_get ys 1 → slice_get xs 2 ≡ slice_get ys 2 → xs ≡ ys
