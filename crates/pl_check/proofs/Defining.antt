@@ -1,10 +1,9 @@
 -- What a map of names has at a name, and what one name more makes of it.
-use Rattle.std.proofs.Common.{◌≡◌, ℕ, Bool, true, false, cond, List, [], ◌∷◌, ◌++◌, map, Option, Some, None, option_map, bytes_eq, refl, sym, ap, ◌∙◌, Bor}
+use Rattle.std.proofs.Common.{◌≡◌, ℕ, Bool, true, false, cond, List, [], ◌∷◌, ◌++◌, map, Option, Some, None, option_map, bytes_eq, refl, ap, Bor}
 use Rattle.std.specs.Map.{lookup}
 use Rattle.indexmap.specs.IndexMap.{insert_entry}
 use Rattle.pl_check.specs.declared.value.Value as code
-use Rattle.pl_check.specs.Values.{Value}
-use Rattle.pl_check.specs.Typed.{Definition, defined}
+use Rattle.pl_check.specs.Typed.{defined}
 use Rattle.pl_check.specs.Seen.{value_of, definition_of}
 
 abbrev Entry : Type 0

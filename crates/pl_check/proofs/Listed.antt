@@ -1,11 +1,10 @@
 -- How long the lists of sids and of texts are.
-use Rattle.std.proofs.Common.{◌≡◌, ℕ, zero, suc, ◌+◌, ◌<◌, ◌≤◌, ◌==◌, nat_le, nat_lt, Bool, true, false, ◌&&◌, ◌||◌, cond, List, [], ◌∷◌, ◌++◌, length, map, filter, Option, Some, None, refl, sym, ap, subst, ◌∙◌, arith, bytes_eq, length-append, ◌⊎◌, inl, inr}
+use Rattle.std.proofs.Common.{◌≡◌, ℕ, suc, ◌<◌, ◌≤◌, ◌==◌, nat_le, nat_lt, Bool, true, false, ◌&&◌, ◌||◌, cond, List, [], ◌∷◌, ◌++◌, length, map, filter, Option, Some, None, refl, sym, ap, subst, ◌∙◌, arith, bytes_eq, length-append}
 use Rattle.std.specs.Prelude.{is_some}
-use Rattle.std.specs.List.{list_any}
 use Rattle.std.proofs.lemmas.Bool.{and_parts}
 use Rattle.std.proofs.lemmas.Bool.Decides.{nat_tests}
 use Rattle.std.proofs.lemmas.List.{length-map}
-use Rattle.pl_terms.specs.Sorts.{ascend, has_length}
+use Rattle.pl_terms.specs.Sorts.{has_length}
 use Rattle.pl_check.specs.declared.operation.Operation.{Operation}
 use Rattle.pl_check.specs.declared.operation.Operation.TheVariants as op
 use Rattle.pl_check.specs.declared.operation.Parameter.{Parameter}
@@ -201,12 +200,15 @@ values-fewer (b ∷ bs) p q d h = here (same_parameter b.parameter q) refl (sym 
   where
     rest : List Bound
     rest = filter (λ c. same_parameter c.parameter p) bs
+
     more : (a : Bool) → suc (length (values_given bs p)) ≤ length bs → suc (length (map (λ (c : Bound). c.value) (cond a (b ∷ rest) rest))) ≤ suc (length bs)
     more true k = omega arith
     more false k = omega arith
+
     none : (a : Bool) → a ≡ false → suc (length (map (λ (c : Bound). c.value) (cond a (b ∷ rest) rest))) ≤ suc (length bs)
     none true e = absurd (let no : true ≡ false = e in cc)
     none false e = let f = values-few bs p in omega arith
+
     here : (a : Bool) → same_parameter b.parameter q ≡ a → cond a true (is_given bs q) ≡ true → (is_given bs q ≡ true → suc (length (values_given bs p)) ≤ length bs)
         → suc (length (map (λ (c : Bound). c.value) (cond (same_parameter b.parameter p) (b ∷ rest) rest))) ≤ suc (length bs)
     here true e k f = none (same_parameter b.parameter p) (ap (λ x. same_parameter x p) (same-one b.parameter q e) ∙ d)

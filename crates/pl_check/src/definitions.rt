@@ -29,7 +29,11 @@ pub(crate) fn defined<'a>(definitions: &Definitions<'a>, name: &[u8]) -> Option<
 
 /// Defines a new name.
 #[tactic(auto, unfolding(crate::specs::Seen::definitions_of))]
-pub(crate) fn define<'a>(definitions: &mut Definitions<'a>, name: &'a [u8], value: Value<'a>) -> Result<(), CheckError>
+pub(crate) fn define<'a>(
+    definitions: &mut Definitions<'a>,
+    name: &'a [u8],
+    value: Value<'a>,
+) -> Result<(), CheckError>
     requires { spec.defined (definitions_of definitions.old) name.now ≡ None }
     ensures ok { OnOk result (definitions_of definitions.new ≡ definitions_of definitions.old ++ record { name = name.entry.now; value = value_of value.entry } ∷ []) }
     ensures err { OnErr result (result ≡ Err CheckError.Memory) }

@@ -1,5 +1,5 @@
 -- Windows within the terms of a checked pipeline are at least 1.
-use Rattle.std.proofs.Common.{◌≡◌, ℕ, zero, suc, ◌<◌, ◌≤◌, ◌==◌, nat_le, nat_lt, Bool, true, false, ◌&&◌, List, [], ◌∷◌, ◌++◌, length, Option, Some, None, slice_get, get_or, refl, sym, ap, subst, ◌∙◌, arith}
+use Rattle.std.proofs.Common.{◌≡◌, ℕ, zero, suc, ◌≤◌, ◌==◌, nat_le, true, List, [], ◌∷◌, ◌++◌, Option, Some, None, slice_get, refl, arith}
 use Rattle.std.proofs.lemmas.Bool.{and_parts}
 use Rattle.std.proofs.lemmas.Bool.Decides.{nat_tests}
 use Rattle.pl_spec.specs.Kind as kind
@@ -60,9 +60,14 @@ number-windowed ts None f = tt
 number-windowed ts (Some k) f = f k
 
 tree-windowed : (ts : List Term) (n : Node) → 1 ≤ n.window → Windowed ts → HasWindows (tree_over ts n)
-tree-windowed ts n h f =
-    (h, input-windowed ts (slice_get n.inputs 0) f, input-windowed ts (slice_get n.inputs 1) f, input-windowed ts (slice_get n.inputs 2) f,
-    number-windowed ts n.mask f, number-windowed ts n.group f)
+tree-windowed ts n h f = (
+  h,
+  input-windowed ts (slice_get n.inputs 0) f,
+  input-windowed ts (slice_get n.inputs 1) f,
+  input-windowed ts (slice_get n.inputs 2) f,
+  number-windowed ts n.mask f,
+  number-windowed ts n.group f,
+)
 
 after-windowed : (ts : List Term) (ns : Graph) → Windowed ts → ((k : ℕ) (n : Node) → slice_get ns k ≡ Some n → 1 ≤ n.window) → Windowed (trees_after ts ns)
 after-windowed ts [] f h = f

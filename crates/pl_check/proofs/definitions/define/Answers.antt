@@ -1,4 +1,4 @@
-use Rattle.std.proofs.Common.{◌≡◌, ap, map, ◌∙◌}
+use Rattle.std.proofs.Common.{ap, map, ◌∙◌}
 use Rattle.pl_check.specs.Seen.{definition_of, definitions_of}
 use Rattle.pl_check.proofs.Defining.{defined_behind}
 use Rattle.pl_check.proofs.definitions.define.Goals as goal

@@ -1,4 +1,4 @@
-use Rattle.std.proofs.Common.{◌≡◌, ap, option_map, ◌∙◌}
+use Rattle.std.proofs.Common.{ap, option_map, ◌∙◌}
 use Rattle.pl_check.specs.Seen.{value_of, definitions_of}
 use Rattle.pl_check.proofs.Defining.{looked_up}
 use Rattle.pl_check.proofs.definitions.defined.Goals as goal

@@ -1,10 +1,10 @@
-use Rattle.std.proofs.Common.{◌≡◌, ◌+◌, true, drop, refl, sym, ap, subst, ◌∙◌, ◌∷◌, arith, rules}
+use Rattle.std.proofs.Common.{◌+◌, drop, refl, sym, ap, subst, ◌∙◌, arith, rules}
 use Rattle.std.proofs.lemmas.List.{drop_all}
 use Rattle.pl_syntax.specs.Statements.{statement_of, statements_of}
 use Rattle.pl_grammar.specs.Whole.{are_sound}
 use Rattle.pl_tokens.specs.Sound.{is_written}
 use Rattle.pl_check.specs.Answers.{Fails}
-use Rattle.pl_check.specs.Judging.{judged_of, Judges}
+use Rattle.pl_check.specs.Judging.{judged_of}
 use Rattle.pl_check.specs.Typed.{statements_judged}
 use Rattle.pl_check.proofs.Stated.{statement-kept, tree-sound, next-statement, judged-next, failed-next}
 use Rattle.pl_check.proofs.statements.statements_judged.Goals as goal
@@ -27,8 +27,8 @@ returns-in_err-statement_judged c =
     let ss = statements_of (drop (c.loop-statement.statement-index + 1) c.args.statements.now) in
     let e = next-statement c.args.statements.now c.loop-statement.statement-index c.statement-item.result c.loop-statement-test.true c.statement-item.is in
     let f : Fails c.in_err-statement_judged.field-0.0 (statements_judged (judged_of c.args.judged.now) (statements_of c.args.statements.now)) =
-      subst (Fails c.in_err-statement_judged.field-0.0) (sym (ap (statements_judged j) e) ∙ c.loop-statement.invariant.0)
-      (failed-next j c.in_err-statement_judged.field-0.0 s ss c.in_err-statement_judged.ensures) in
+    subst (Fails c.in_err-statement_judged.field-0.0) (sym (ap (statements_judged j) e) ∙ c.loop-statement.invariant.0)
+    (failed-next j c.in_err-statement_judged.field-0.0 s ss c.in_err-statement_judged.ensures) in
     search (rules, f)
 
 pub loop-statement-preserved : goal.loop-statement-preserved
