@@ -35,7 +35,9 @@ pub(crate) fn define<'a>(
     value: Value<'a>,
 ) -> Result<(), CheckError>
     requires { spec.defined (definitions_of definitions.old) name.now ≡ None }
-    ensures ok { OnOk result (definitions_of definitions.new ≡ definitions_of definitions.old ++ record { name = name.entry.now; value = value_of value.entry } ∷ []) }
+    ensures ok { OnOk result (definitions_of definitions.new
+        ≡ definitions_of definitions.old
+        ++ record { name = name.entry.now; value = value_of value.entry } ∷ []) }
     ensures err { OnErr result (result ≡ Err CheckError.Memory) }
 {
     match definitions.insert(name, value) {
