@@ -2,7 +2,6 @@
 use Rattle.std.proofs.Common.{◌≡◌, ℕ, zero, suc, Bool, true, false, ◌&&◌, ◌||◌, not, cond, List, [], ◌∷◌, ◌++◌, map, Option, Some, None, option_map, slice_get, refl, sym, ap, subst, ◌∙◌, ◌⊎◌, inl, inr}
 use Rattle.std.specs.Prelude.{option_and_then}
 use Rattle.std.specs.List.{list_all, list_any, filter_map, cons_option}
-use Rattle.std.proofs.lemmas.Bool.{and_parts}
 use Rattle.pl_spec.specs.declared.Column.{Column}
 use Rattle.pl_spec.specs.Kind as kind
 use Rattle.pl_spec.specs.Kind.{Kind}
