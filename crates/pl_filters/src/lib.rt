@@ -1,0 +1,8 @@
+//! The filters over windows, and the tests of labels.
+#![tactic(auto)]
+
+mod labels;
+mod windows;
+
+pub use labels::label_test;
+pub use windows::window_filter;
