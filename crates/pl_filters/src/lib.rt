@@ -2,6 +2,8 @@
 #![tactic(auto)]
 
 mod labels;
+#[cfg(test)]
+mod tests;
 mod windows;
 
 pub use labels::label_test;

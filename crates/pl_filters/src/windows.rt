@@ -56,5 +56,9 @@ fn all_present(cells: &[i64]) -> i64
     ensures value { result ≡ formula window.AllPresent cells.now [] [] }
     ensures flag { IsFlag result }
 {
-    if sum_present(cells).1 == cells.len() { 1 } else { 0 }
+    if sum_present(cells).1 == cells.len() {
+        1
+    } else {
+        0
+    }
 }

@@ -3,9 +3,7 @@ use Rattle.std.proofs.Common.{◌≡◌, ◌<◌, ◌≤◌, ℕ, ℤ, pos, negs
 use Rattle.std.specs.List.{All}
 use Rattle.std.specs.Int.RustNames.{unsigned_abs, int_lt}
 use Rattle.std.specs.Int.{int_max, int_min}
-use Rattle.std.proofs.lemmas.Bool.{cases_lt}
 use Rattle.std.proofs.lemmas.Bool.Decides.{nat_tests}
-use Rattle.std.proofs.lemmas.List.{get_or_past}
 use Rattle.std.proofs.lemmas.List.Elements.{All-from_get_or}
 use Rattle.pl_spec.specs.Rounding.{IsCell, MISSING, LIMIT, to_cell, quot, of_both, add, sub, mul, div, neg, is_missing}
 use Rattle.pl_spec.specs.Formula.{truth}
@@ -16,7 +14,7 @@ use Rattle.pl_spec.specs.Pointwise.{pointwise}
 use Rattle.pl_spec.specs.Value.{is_filter, is_point_filter}
 use Rattle.pl_lanes.specs.Flags.{IsFlag}
 use Rattle.pl_lanes.proofs.Cells.{is_within}
-use Rattle.pl_pointwise.specs.Operands.{HasCells, IsOperation, AreOperands, AreOperandsOf, operation}
+use Rattle.pl_pointwise.specs.Operands.{HasCells, IsOperation, AreCells, AreOperands, AreOperandsOf, operation}
 
 -- either value has the property, so what a test chooses has it
 chosen-has : (P : ℤ → Type 0) (b : Bool) (x y : ℤ) → P x → P y → P (if b then x else y)
@@ -40,6 +38,22 @@ quot-cell a (negsuc b) = to_cell-cell _
 of_both-cell : (x y v : ℤ) → IsCell v → IsCell (of_both x y v)
 of_both-cell x y v h = chosen-has IsCell (is_missing x || is_missing y) MISSING v (inl refl) h
 
+add-cell : (x y : ℤ) → IsCell (add x y)
+unfolding add
+add-cell x y = of_both-cell x y _ (to_cell-cell _)
+
+sub-cell : (x y : ℤ) → IsCell (sub x y)
+unfolding sub
+sub-cell x y = of_both-cell x y _ (to_cell-cell _)
+
+mul-cell : (x y : ℤ) → IsCell (mul x y)
+unfolding mul
+mul-cell x y = of_both-cell x y _ (to_cell-cell _)
+
+div-cell : (x y : ℤ) → IsCell (div x y)
+unfolding div
+div-cell x y = of_both-cell x y _ (quot-cell _ _)
+
 neg_ℤ-within : (x : ℤ) → unsigned_abs (neg_ℤ x) ≡ unsigned_abs x
 neg_ℤ-within (pos zero) = refl
 neg_ℤ-within (pos (suc n)) = refl
@@ -53,33 +67,40 @@ truth-flag : (b : Bool) → IsFlag (truth b)
 truth-flag true = inr refl
 truth-flag false = inl refl
 
-pub flag-cell : (x : ℤ) → IsFlag x → IsCell x
+flag-cell : (x : ℤ) → IsFlag x → IsCell x
 flag-cell x (inl e) = inr (rw e (omega arith))
 flag-cell x (inr e) = inr (rw e (omega arith))
 
+at : (xs : List ℤ) (n i : ℕ) → AreCells n xs → i < n → IsCell (get_or xs i (pos 0))
+at xs n i h p = h.cells i (pos 0) (omega (arith, h.many))
+
 -- of cells, an operation gives a cell
-pub result-cell : (op : PointKind) (x y z : ℤ) → HasCells op → IsCell x → IsCell y → IsCell z → IsCell (pointwise op x y z)
-unfolding pointwise add sub mul div neg
-result-cell Add x y z h p q r = of_both-cell x y _ (to_cell-cell _)
-result-cell Sub x y z h p q r = of_both-cell x y _ (to_cell-cell _)
-result-cell Mul x y z h p q r = of_both-cell x y _ (to_cell-cell _)
-result-cell Div x y z h p q r = of_both-cell x y _ (quot-cell _ _)
-result-cell Neg x y z h p q r = tested-size (is_missing x) x _ refl (neg_ℤ-within x) p
-result-cell Abs x y z h p q r = tested-size (is_missing x) x _ refl refl p
-result-cell (Clip low high) x y z h p q r = chosen-has IsCell _ _ _ (inl refl) (chosen-has IsCell (int_lt (int_min high x) low) low _ h.0 (chosen-has IsCell (int_lt x high) x high p h.1))
-result-cell FillNa x y z h p q r = chosen-has IsCell _ y x q p
-result-cell IfElse x y z h p q r = chosen-has IsCell _ y z q r
-result-cell (Comparison t) x y z h p q r = flag-cell _ (truth-flag _)
-result-cell And x y z h p q r = flag-cell _ (truth-flag _)
-result-cell Or x y z h p q r = flag-cell _ (truth-flag _)
-result-cell Not x y z h p q r = flag-cell _ (truth-flag _)
-result-cell IsNull x y z h p q r = flag-cell _ (truth-flag _)
-result-cell NotNull x y z h p q r = flag-cell _ (truth-flag _)
-result-cell (NumberIs n) x y z h p q r = flag-cell _ (truth-flag _)
-result-cell (NumberIsNot n) x y z h p q r = flag-cell _ (truth-flag _)
+result-cell : (op : PointKind) (a b c : List ℤ) (n i : ℕ) → HasCells op → AreOperandsOf op a b c n → i < n
+    → IsCell (pointwise op (get_or a i (pos 0)) (get_or b i (pos 0)) (get_or c i (pos 0)))
+unfolding pointwise neg
+result-cell Add a b c n i h o p = add-cell _ _
+result-cell Sub a b c n i h o p = sub-cell _ _
+result-cell Mul a b c n i h o p = mul-cell _ _
+result-cell Div a b c n i h o p = div-cell _ _
+result-cell Neg a b c n i h o p = tested-size _ _ _ refl (neg_ℤ-within (get_or a i (pos 0))) (at a n i o p)
+result-cell Abs a b c n i h o p = tested-size _ _ _ refl refl (at a n i o p)
+result-cell (Clip low high) a b c n i h o p =
+    let x = get_or a i (pos 0) in
+    let lower = chosen-has IsCell (int_lt x high) x high (at a n i o p) h.1 in
+    chosen-has IsCell _ _ _ (inl refl) (chosen-has IsCell (int_lt (int_min high x) low) low _ h.0 lower)
+result-cell FillNa a b c n i h o p = chosen-has IsCell _ _ _ (at b n i o.1 p) (at a n i o.0 p)
+result-cell IfElse a b c n i h o p = chosen-has IsCell _ _ _ (at b n i o.1 p) (at c n i o.2 p)
+result-cell (Comparison t) a b c n i h o p = flag-cell _ (truth-flag _)
+result-cell And a b c n i h o p = flag-cell _ (truth-flag _)
+result-cell Or a b c n i h o p = flag-cell _ (truth-flag _)
+result-cell Not a b c n i h o p = flag-cell _ (truth-flag _)
+result-cell IsNull a b c n i h o p = flag-cell _ (truth-flag _)
+result-cell NotNull a b c n i h o p = flag-cell _ (truth-flag _)
+result-cell (NumberIs m) a b c n i h o p = flag-cell _ (truth-flag _)
+result-cell (NumberIsNot m) a b c n i h o p = flag-cell _ (truth-flag _)
 
 -- a filter gives 0 or 1
-pub result-flag : (op : PointKind) (x y z : ℤ) → IsTrue (is_point_filter op) → IsFlag (pointwise op x y z)
+result-flag : (op : PointKind) (x y z : ℤ) → IsTrue (is_point_filter op) → IsFlag (pointwise op x y z)
 unfolding pointwise
 result-flag Add x y z h = absurd (cc h)
 result-flag Sub x y z h = absurd (cc h)
@@ -99,45 +120,14 @@ result-flag NotNull x y z h = truth-flag _
 result-flag (NumberIs n) x y z h = truth-flag _
 result-flag (NumberIsNot n) x y z h = truth-flag _
 
--- ---- the operands are cells, also behind their ends
-
-are-cells : (xs : List ℤ) → All IsFlag xs → All IsCell xs
-are-cells xs h = λ k d i. flag-cell _ (h k d i)
-
-none-cells : (xs : List ℤ) → xs ≡ [] → All IsCell xs
-none-cells xs e = rw e (λ k d i. absurd (omega (arith, i)))
-
-place-cell : (xs : List ℤ) (i : ℕ) → All IsCell xs → IsCell (get_or xs i (pos 0))
-place-cell xs i h = elim (cases_lt i (length xs)) [ inl p ↦ h i (pos 0) p | inr p ↦ rw (get_or_past xs i (pos 0) p) (inr (omega arith)) ]
-
-operands-cells : (op : PointKind) (a b c : List ℤ) (n : ℕ) → AreOperandsOf op a b c n → All IsCell a × All IsCell b × All IsCell c
-operands-cells Add a b c n o = (o.0.cells, o.1.cells, none-cells c o.2)
-operands-cells Sub a b c n o = (o.0.cells, o.1.cells, none-cells c o.2)
-operands-cells Mul a b c n o = (o.0.cells, o.1.cells, none-cells c o.2)
-operands-cells Div a b c n o = (o.0.cells, o.1.cells, none-cells c o.2)
-operands-cells (Comparison t) a b c n o = (o.0.cells, o.1.cells, none-cells c o.2)
-operands-cells FillNa a b c n o = (o.0.cells, o.1.cells, none-cells c o.2)
-operands-cells And a b c n o = (are-cells a o.0.flags, are-cells b o.1.flags, none-cells c o.2)
-operands-cells Or a b c n o = (are-cells a o.0.flags, are-cells b o.1.flags, none-cells c o.2)
-operands-cells IfElse a b c n o = (are-cells a o.0.flags, o.1.cells, o.2.cells)
-operands-cells Not a b c n o = (are-cells a o.0.flags, none-cells b o.1, none-cells c o.2)
-operands-cells Neg a b c n o = (o.0.cells, none-cells b o.1, none-cells c o.2)
-operands-cells Abs a b c n o = (o.0.cells, none-cells b o.1, none-cells c o.2)
-operands-cells (Clip low high) a b c n o = (o.0.cells, none-cells b o.1, none-cells c o.2)
-operands-cells IsNull a b c n o = (o.0.cells, none-cells b o.1, none-cells c o.2)
-operands-cells NotNull a b c n o = (o.0.cells, none-cells b o.1, none-cells c o.2)
-operands-cells (NumberIs m) a b c n o = (o.0.cells, none-cells b o.1, none-cells c o.2)
-operands-cells (NumberIsNot m) a b c n o = (o.0.cells, none-cells b o.1, none-cells c o.2)
-
 -- ---- what is written
 
 pub written-cells : (k : Kind) (a b c out : List ℤ) (n : ℕ) → IsOperation k → AreOperands k a b c n → length out ≡ n
     → ((i : ℕ) → i < n → get_or out i (pos 0) ≡ operation k (get_or a i (pos 0)) (get_or b i (pos 0)) (get_or c i (pos 0)))
     → All IsCell out
 written-cells (Point op) a b c out n h o e values = All-from_get_or IsCell out (pos 0) (λ i p.
-    let cells = operands-cells op a b c n o in
     let lt : i < n = omega (arith, p, e) in
-    rw (values i lt) (result-cell op _ _ _ h (place-cell a i cells.0) (place-cell b i cells.1) (place-cell c i cells.2)))
+    rw (values i lt) (result-cell op a b c n i h o lt))
 written-cells k a b c out n h o e values = absurd h
 
 pub written-flags : (k : Kind) (a b c out : List ℤ) (n : ℕ) → IsOperation k → IsTrue (is_filter k) → length out ≡ n

@@ -1,5 +1,5 @@
--- What the operations ask of their parameters and operands.
-use Rattle.std.specs.Prelude.{◌≡◌, ℕ, ℤ, List, [], length, ⊤}
+-- Which kinds are operations on the values of one place, what each asks of its operands, and what it gives.
+use Rattle.std.specs.Prelude.{◌≡◌, ℕ, ℤ, List, length, ⊤}
 use Rattle.std.specs.List.{All}
 use Rattle.pl_spec.specs.Rounding.{IsCell, MISSING}
 use Rattle.pl_spec.specs.Kind.{Kind, PointKind}
@@ -15,39 +15,39 @@ abbrev pub HasCells : PointKind → Type 0
 HasCells (Clip low high) = IsCell low × IsCell high
 HasCells op = ⊤
 
--- one of the operations, with its parameters
+-- an operation, with its parameters in their range
 abbrev pub IsOperation : Kind → Type 0
 IsOperation (Point op) = HasCells op
 IsOperation k = ⊥
 
--- the operation of a kind on three values; MISSING for a kind that is none
+-- the operation of a kind on the values of a place; MISSING for a kind that is none
 abbrev pub operation : Kind → ℤ → ℤ → ℤ → ℤ
 operation (Point op) x y z = pointwise op x y z
 operation k x y z = MISSING
 
--- the n values of a factor or a classifier
+-- the values of a factor or a classifier at n places
 pub record AreCells (n : ℕ) (xs : List ℤ) : Type 0 where
   pub cells : All IsCell xs
   pub many : length xs ≡ n
 
--- the n values of a filter
+-- the values of a filter at n places
 pub record AreFlags (n : ℕ) (xs : List ℤ) : Type 0 where
   pub flags : All IsFlag xs
   pub many : length xs ≡ n
 
--- the operands of each operation, in order; what it does not use is empty
+-- the operands that an operation uses, in order
 abbrev pub AreOperandsOf : PointKind → List ℤ → List ℤ → List ℤ → ℕ → Type 0
-AreOperandsOf Add a b c n = AreCells n a × AreCells n b × (c ≡ [])
-AreOperandsOf Sub a b c n = AreCells n a × AreCells n b × (c ≡ [])
-AreOperandsOf Mul a b c n = AreCells n a × AreCells n b × (c ≡ [])
-AreOperandsOf Div a b c n = AreCells n a × AreCells n b × (c ≡ [])
-AreOperandsOf (Comparison t) a b c n = AreCells n a × AreCells n b × (c ≡ [])
-AreOperandsOf FillNa a b c n = AreCells n a × AreCells n b × (c ≡ [])
-AreOperandsOf And a b c n = AreFlags n a × AreFlags n b × (c ≡ [])
-AreOperandsOf Or a b c n = AreFlags n a × AreFlags n b × (c ≡ [])
+AreOperandsOf Add a b c n = AreCells n a × AreCells n b
+AreOperandsOf Sub a b c n = AreCells n a × AreCells n b
+AreOperandsOf Mul a b c n = AreCells n a × AreCells n b
+AreOperandsOf Div a b c n = AreCells n a × AreCells n b
+AreOperandsOf (Comparison t) a b c n = AreCells n a × AreCells n b
+AreOperandsOf FillNa a b c n = AreCells n a × AreCells n b
+AreOperandsOf And a b c n = AreFlags n a × AreFlags n b
+AreOperandsOf Or a b c n = AreFlags n a × AreFlags n b
 AreOperandsOf IfElse a b c n = AreFlags n a × AreCells n b × AreCells n c
-AreOperandsOf Not a b c n = AreFlags n a × (b ≡ []) × (c ≡ [])
-AreOperandsOf op a b c n = AreCells n a × (b ≡ []) × (c ≡ [])
+AreOperandsOf Not a b c n = AreFlags n a
+AreOperandsOf op a b c n = AreCells n a
 
 abbrev pub AreOperands : Kind → List ℤ → List ℤ → List ℤ → ℕ → Type 0
 AreOperands (Point op) a b c n = AreOperandsOf op a b c n

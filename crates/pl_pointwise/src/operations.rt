@@ -30,7 +30,11 @@ pub(crate) fn size(x: i64) -> i64
 pub(crate) fn clip(low: i64, high: i64, x: i64) -> i64
     ensures { result ≡ (if is_missing x then MISSING else int_max low (int_min high x)) }
 {
-    if x == MISSING { MISSING } else { low.max(high.min(x)) }
+    if x == MISSING {
+        MISSING
+    } else {
+        low.max(high.min(x))
+    }
 }
 
 // x, and y in its place where it is missing.
