@@ -6,8 +6,9 @@ ghost use Rattle.pl_filters.specs.Filters.{IsLabelTest, HasText, passes};
 
 use pl_terms::{LabelValue, TermKind, Text};
 
-/// Whether a label's text passes the test: it is the text of the kind, another one, begins or ends with it, or is one of a
-/// list. It asks for one of these kinds; a comparison with a number is no test of a text.
+/// Whether a label's text passes the test: it is the kind's text, is another, begins or ends with it, or is
+/// one of the kind's list, byte by byte, as Zipline's classifiers test theirs. It asks for one of these
+/// kinds; a comparison with a number is none. It takes no memory.
 #[tactic(auto, unfolding(pl_spec::specs::Pointwise::label_test, pl_terms::specs::Kinds::kind_of))]
 pub fn label_test(kind: &TermKind, text: &[u8]) -> bool
     requires { IsLabelTest (kind_of kind.now) }
@@ -34,6 +35,7 @@ fn text_of(label: &LabelValue) -> &[u8]
     }
 }
 
+// Whether the text is one of the list.
 fn is_among(text: &[u8], texts: &[Text]) -> bool
     ensures { result ≡ list_any (bytes_eq text.now) texts.now }
 {

@@ -11,8 +11,9 @@ ghost use Rattle.pl_filters.specs.Filters.{IsWindowFilter, AreValues, filtered};
 use pl_lanes::sum_present;
 use pl_terms::TermKind;
 
-/// Whether all values of a window are true, any is, at least n are, or all are present: 1 or 0. It asks for one of these
-/// kinds, and for a window of at most 1,260 values: 0 and 1 of a filter, and for `AllPresent` cells.
+/// Whether all values of a window are true, any is, at least n are, or all are present: 1 or 0, as Zipline's
+/// filters of these names. It asks for one of these kinds, and for a window of at most 1,260 values: 0 and 1
+/// of a filter, and for `AllPresent` cells. It takes no memory.
 #[tactic(auto, unfolding(pl_terms::specs::Kinds::kind_of))]
 pub fn window_filter(kind: &TermKind, a: &[i64]) -> i64
     requires kind { IsWindowFilter (kind_of kind.now) }
@@ -30,6 +31,7 @@ pub fn window_filter(kind: &TermKind, a: &[i64]) -> i64
     }
 }
 
+// Whether at least n values of a filter are true.
 #[tactic(auto, unfolding(pl_spec::specs::Formula::formula))]
 fn at_least(n: usize, flags: &[i64]) -> i64
     requires flags { All IsFlag flags.now }
@@ -49,6 +51,7 @@ fn true_count(flags: &[i64]) -> usize
     sum_present(flags).0 as usize
 }
 
+// Whether no cell is missing.
 #[tactic(auto, unfolding(pl_spec::specs::Formula::formula))]
 fn all_present(cells: &[i64]) -> i64
     requires cells { All IsCell cells.now }

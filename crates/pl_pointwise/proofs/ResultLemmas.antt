@@ -1,8 +1,8 @@
 -- What an operation gives is a cell, and 0 or 1 where it is a filter.
-use Rattle.std.proofs.Common.{◌≡◌, ◌<◌, ◌≤◌, ℕ, ℤ, pos, negsuc, zero, suc, Bool, true, false, not, ◌||◌, if◌then◌else◌, nat_le, neg_ℤ, List, [], length, get_or, IsTrue, inl, inr, arith, refl, subst, sym}
+use Rattle.std.proofs.Common.{◌≡◌, ◌<◌, ℕ, ℤ, pos, negsuc, zero, suc, Bool, true, false, ◌||◌, if◌then◌else◌, nat_le, neg_ℤ, List, length, get_or, IsTrue, inl, inr, arith, refl}
 use Rattle.std.specs.List.{All}
 use Rattle.std.specs.Int.RustNames.{unsigned_abs, int_lt}
-use Rattle.std.specs.Int.{int_max, int_min}
+use Rattle.std.specs.Int.{int_min}
 use Rattle.std.proofs.lemmas.Bool.Decides.{nat_tests}
 use Rattle.std.proofs.lemmas.List.Elements.{All-from_get_or}
 use Rattle.pl_spec.specs.Rounding.{IsCell, MISSING, LIMIT, to_cell, quot, of_both, add, sub, mul, div, neg, is_missing}

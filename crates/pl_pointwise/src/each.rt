@@ -9,7 +9,8 @@ pub(crate) fn at_each<F: Fn(i64) -> i64>(f: F, a: &[i64], out: &mut [i64])
     requires cells { All IsCell a.now }
     requires length { length a.now ≡ length out.old }
     ensures length { length out.new ≡ length out.old }
-    ensures values { (k : ℕ) → k < length out.old → F.post f (get_or a.now k (pos 0)) (get_or out.new k (pos 0)) }
+    ensures values { (k : ℕ) → k < length out.old →
+        F.post f (get_or a.now k (pos 0)) (get_or out.new k (pos 0)) }
 {
     for at in 0..out.len() {
         out[at] = f(a[at]);

@@ -7,12 +7,14 @@ ghost use Rattle.pl_spec.specs.Pointwise.{is_number};
 
 use pl_fixed::MISSING;
 
+// A truth value as a filter has it.
 fn truth(holds: bool) -> i64
     ensures { result ≡ truth holds }
 {
     if holds { 1 } else { 0 }
 }
 
+// Whether a filter is false.
 pub(crate) fn not(x: i64) -> i64
     ensures { result ≡ truth (not (is_true x)) }
 {
@@ -27,6 +29,7 @@ pub(crate) fn size(x: i64) -> i64
     if x == MISSING { MISSING } else { x.abs() }
 }
 
+// The nearest number from low to high, where x is there.
 pub(crate) fn clip(low: i64, high: i64, x: i64) -> i64
     ensures { result ≡ (if is_missing x then MISSING else int_max low (int_min high x)) }
 {
@@ -44,12 +47,14 @@ pub(crate) fn fill(x: i64, y: i64) -> i64
     if x == MISSING { y } else { x }
 }
 
+// Whether there is no value.
 pub(crate) fn missing(x: i64) -> i64
     ensures { result ≡ truth (is_missing x) }
 {
     truth(x == MISSING)
 }
 
+// Whether there is a value.
 pub(crate) fn present(x: i64) -> i64
     ensures { result ≡ truth (is_present x) }
 {
@@ -70,6 +75,7 @@ pub(crate) fn is_other_number(number: i64, x: i64) -> i64
     truth(x != MISSING && !same_number(number, x))
 }
 
+// Whether a whole number is this one, which is in millionths.
 fn same_number(number: i64, x: i64) -> bool
     ensures { result ≡ is_number number x }
 {

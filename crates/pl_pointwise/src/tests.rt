@@ -267,7 +267,8 @@ fn of_filters(rt: HostRuntime) {
     assert_eq!(rt; chosen(&F, &A, &B), Some(want));
 }
 
-// A close of 51 less 50 and less 60, between bounds; a missing close against itself; 1 / 0; a price of the limit, doubled.
+// A close of 51 less 50 and less 60, between bounds; a missing close against itself; 1 / 0; a price of the
+// limit, doubled.
 #[test]
 fn of_small_rows(rt: HostRuntime) {
     let close = [51 * UNIT, MISSING, LIM];

@@ -1,4 +1,4 @@
-use Rattle.std.proofs.Common.{◌<◌, ℕ, pos, length, get_or, ◌≡◌}
+use Rattle.std.proofs.Common.{◌<◌, ℕ, pos, get_or}
 use Rattle.pl_pointwise.proofs.each.at_each.Given as goal
 
 abbrev pub invariant-loop-at : goal.invariant-loop-at
