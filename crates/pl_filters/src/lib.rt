@@ -1,0 +1,10 @@
+//! The filters over windows, and the tests of labels.
+#![tactic(auto)]
+
+mod labels;
+#[cfg(test)]
+mod tests;
+mod windows;
+
+pub use labels::label_test;
+pub use windows::window_filter;

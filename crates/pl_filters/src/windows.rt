@@ -1,0 +1,67 @@
+//! The filters over a window: how many of its values are true, or present.
+ghost use Rattle.std.specs.Prelude.{◌≡◌, ◌≤◌, [], length};
+ghost use Rattle.std.specs.List.{All, count_by};
+ghost use Rattle.pl_spec.specs.Rounding.{IsCell};
+ghost use Rattle.pl_spec.specs.Formula.{is_true, formula};
+ghost use Rattle.pl_spec.specs.Kind.{WindowKind as window};
+ghost use Rattle.pl_terms.specs.Kinds.{kind_of};
+ghost use Rattle.pl_lanes.specs.Flags.{IsFlag};
+ghost use Rattle.pl_filters.specs.Filters.{IsWindowFilter, AreValues, filtered};
+
+use pl_lanes::sum_present;
+use pl_terms::TermKind;
+
+/// Whether all values of a window are true, any is, at least n are, or all are present: 1 or 0, as Zipline's
+/// filters of these names. It asks for one of these kinds, and for a window of at most 1,260 values: 0 and 1
+/// of a filter, and for `AllPresent` cells. It takes no memory.
+#[tactic(auto, unfolding(pl_terms::specs::Kinds::kind_of))]
+pub fn window_filter(kind: &TermKind, a: &[i64]) -> i64
+    requires kind { IsWindowFilter (kind_of kind.now) }
+    requires values { AreValues (kind_of kind.now) a.now }
+    requires few { length a.now ≤ 1260 }
+    ensures value { result ≡ filtered (kind_of kind.now) a.now }
+    ensures flag { IsFlag result }
+{
+    match kind {
+        TermKind::All => at_least(a.len(), a),
+        TermKind::Any => at_least(1, a),
+        TermKind::AtLeastN { n } => at_least(*n as usize, a),
+        TermKind::AllPresent => all_present(a),
+        _ => unreachable!(),
+    }
+}
+
+// Whether at least n values of a filter are true.
+#[tactic(auto, unfolding(pl_spec::specs::Formula::formula))]
+fn at_least(n: usize, flags: &[i64]) -> i64
+    requires flags { All IsFlag flags.now }
+    requires few { length flags.now ≤ 1260 }
+    ensures value { result ≡ formula (window.AtLeastN n) flags.now [] [] }
+    ensures flag { IsFlag result }
+{
+    if n <= true_count(flags) { 1 } else { 0 }
+}
+
+// How many values of a filter are true: their sum.
+fn true_count(flags: &[i64]) -> usize
+    requires flags { All IsFlag flags.now }
+    requires few { length flags.now ≤ 1260 }
+    ensures { result ≡ count_by is_true flags.now }
+{
+    sum_present(flags).0 as usize
+}
+
+// Whether no cell is missing.
+#[tactic(auto, unfolding(pl_spec::specs::Formula::formula))]
+fn all_present(cells: &[i64]) -> i64
+    requires cells { All IsCell cells.now }
+    requires few { length cells.now ≤ 1260 }
+    ensures value { result ≡ formula window.AllPresent cells.now [] [] }
+    ensures flag { IsFlag result }
+{
+    if sum_present(cells).1 == cells.len() {
+        1
+    } else {
+        0
+    }
+}

@@ -1,0 +1,139 @@
+-- What an operation gives is a cell, and 0 or 1 where it is a filter.
+use Rattle.std.proofs.Common.{◌≡◌, ◌<◌, ℕ, ℤ, pos, negsuc, zero, suc, Bool, true, false, ◌||◌, if◌then◌else◌, nat_le, neg_ℤ, List, length, get_or, IsTrue, inl, inr, arith, refl}
+use Rattle.std.specs.List.{All}
+use Rattle.std.specs.Int.RustNames.{unsigned_abs, int_lt}
+use Rattle.std.specs.Int.{int_min}
+use Rattle.std.proofs.lemmas.Bool.Decides.{nat_tests}
+use Rattle.std.proofs.lemmas.List.Elements.{All-from_get_or}
+use Rattle.pl_spec.specs.Rounding.{IsCell, MISSING, LIMIT, to_cell, quot, of_both, add, sub, mul, div, neg, is_missing}
+use Rattle.pl_spec.specs.Formula.{truth}
+use Rattle.pl_spec.specs.Kind.{Kind, PointKind}
+use Rattle.pl_spec.specs.Kind.Kind.{Point}
+use Rattle.pl_spec.specs.Kind.PointKind.{Add, Sub, Mul, Div, Neg, Comparison, And, Or, Not, Abs, Clip, FillNa, IsNull, NotNull, IfElse, NumberIs, NumberIsNot}
+use Rattle.pl_spec.specs.Pointwise.{pointwise}
+use Rattle.pl_spec.specs.Value.{is_filter, is_point_filter}
+use Rattle.pl_lanes.specs.Flags.{IsFlag}
+use Rattle.pl_lanes.proofs.Cells.{is_within}
+use Rattle.pl_pointwise.specs.Operands.{HasCells, IsOperation, AreCells, AreOperands, AreOperandsOf, operation}
+
+-- either value has the property, so what a test chooses has it
+chosen-has : (P : ℤ → Type 0) (b : Bool) (x y : ℤ) → P x → P y → P (if b then x else y)
+chosen-has P true x y p q = p
+chosen-has P false x y p q = q
+
+tested-cell : (b : Bool) (v : ℤ) → nat_le (unsigned_abs v) LIMIT ≡ b → IsCell (if b then v else MISSING)
+tested-cell true v e = inr (grind (arith, nat_tests))
+tested-cell false v e = inl refl
+
+to_cell-cell : (v : ℤ) → IsCell (to_cell v)
+unfolding to_cell
+to_cell-cell v = tested-cell (nat_le (unsigned_abs v) LIMIT) v refl
+
+quot-cell : (a b : ℤ) → IsCell (quot a b)
+unfolding quot
+quot-cell a (pos zero) = inl refl
+quot-cell a (pos (suc b)) = to_cell-cell _
+quot-cell a (negsuc b) = to_cell-cell _
+
+of_both-cell : (x y v : ℤ) → IsCell v → IsCell (of_both x y v)
+of_both-cell x y v h = chosen-has IsCell (is_missing x || is_missing y) MISSING v (inl refl) h
+
+add-cell : (x y : ℤ) → IsCell (add x y)
+unfolding add
+add-cell x y = of_both-cell x y _ (to_cell-cell _)
+
+sub-cell : (x y : ℤ) → IsCell (sub x y)
+unfolding sub
+sub-cell x y = of_both-cell x y _ (to_cell-cell _)
+
+mul-cell : (x y : ℤ) → IsCell (mul x y)
+unfolding mul
+mul-cell x y = of_both-cell x y _ (to_cell-cell _)
+
+div-cell : (x y : ℤ) → IsCell (div x y)
+unfolding div
+div-cell x y = of_both-cell x y _ (quot-cell _ _)
+
+neg_ℤ-within : (x : ℤ) → unsigned_abs (neg_ℤ x) ≡ unsigned_abs x
+neg_ℤ-within (pos zero) = refl
+neg_ℤ-within (pos (suc n)) = refl
+neg_ℤ-within (negsuc n) = refl
+
+tested-size : (b : Bool) (x v : ℤ) → is_missing x ≡ b → unsigned_abs v ≡ unsigned_abs x → IsCell x → IsCell (if b then MISSING else v)
+tested-size true x v e same h = inl refl
+tested-size false x v e same h = inr (omega (arith, same, is_within x h e))
+
+truth-flag : (b : Bool) → IsFlag (truth b)
+truth-flag true = inr refl
+truth-flag false = inl refl
+
+flag-cell : (x : ℤ) → IsFlag x → IsCell x
+flag-cell x (inl e) = inr (rw e (omega arith))
+flag-cell x (inr e) = inr (rw e (omega arith))
+
+at : (xs : List ℤ) (n i : ℕ) → AreCells n xs → i < n → IsCell (get_or xs i (pos 0))
+at xs n i h p = h.cells i (pos 0) (omega (arith, h.many))
+
+-- of cells, an operation gives a cell
+result-cell : (op : PointKind) (a b c : List ℤ) (n i : ℕ) → HasCells op → AreOperandsOf op a b c n → i < n
+    → IsCell (pointwise op (get_or a i (pos 0)) (get_or b i (pos 0)) (get_or c i (pos 0)))
+unfolding pointwise neg
+result-cell Add a b c n i h o p = add-cell _ _
+result-cell Sub a b c n i h o p = sub-cell _ _
+result-cell Mul a b c n i h o p = mul-cell _ _
+result-cell Div a b c n i h o p = div-cell _ _
+result-cell Neg a b c n i h o p = tested-size _ _ _ refl (neg_ℤ-within (get_or a i (pos 0))) (at a n i o p)
+result-cell Abs a b c n i h o p = tested-size _ _ _ refl refl (at a n i o p)
+result-cell (Clip low high) a b c n i h o p =
+    let x = get_or a i (pos 0) in
+    let lower = chosen-has IsCell (int_lt x high) x high (at a n i o p) h.1 in
+    chosen-has IsCell _ _ _ (inl refl) (chosen-has IsCell (int_lt (int_min high x) low) low _ h.0 lower)
+result-cell FillNa a b c n i h o p = chosen-has IsCell _ _ _ (at b n i o.1 p) (at a n i o.0 p)
+result-cell IfElse a b c n i h o p = chosen-has IsCell _ _ _ (at b n i o.1 p) (at c n i o.2 p)
+result-cell (Comparison t) a b c n i h o p = flag-cell _ (truth-flag _)
+result-cell And a b c n i h o p = flag-cell _ (truth-flag _)
+result-cell Or a b c n i h o p = flag-cell _ (truth-flag _)
+result-cell Not a b c n i h o p = flag-cell _ (truth-flag _)
+result-cell IsNull a b c n i h o p = flag-cell _ (truth-flag _)
+result-cell NotNull a b c n i h o p = flag-cell _ (truth-flag _)
+result-cell (NumberIs m) a b c n i h o p = flag-cell _ (truth-flag _)
+result-cell (NumberIsNot m) a b c n i h o p = flag-cell _ (truth-flag _)
+
+-- a filter gives 0 or 1
+result-flag : (op : PointKind) (x y z : ℤ) → IsTrue (is_point_filter op) → IsFlag (pointwise op x y z)
+unfolding pointwise
+result-flag Add x y z h = absurd (cc h)
+result-flag Sub x y z h = absurd (cc h)
+result-flag Mul x y z h = absurd (cc h)
+result-flag Div x y z h = absurd (cc h)
+result-flag Neg x y z h = absurd (cc h)
+result-flag Abs x y z h = absurd (cc h)
+result-flag (Clip low high) x y z h = absurd (cc h)
+result-flag FillNa x y z h = absurd (cc h)
+result-flag IfElse x y z h = absurd (cc h)
+result-flag (Comparison t) x y z h = truth-flag _
+result-flag And x y z h = truth-flag _
+result-flag Or x y z h = truth-flag _
+result-flag Not x y z h = truth-flag _
+result-flag IsNull x y z h = truth-flag _
+result-flag NotNull x y z h = truth-flag _
+result-flag (NumberIs n) x y z h = truth-flag _
+result-flag (NumberIsNot n) x y z h = truth-flag _
+
+-- ---- what is written
+
+pub written-cells : (k : Kind) (a b c out : List ℤ) (n : ℕ) → IsOperation k → AreOperands k a b c n → length out ≡ n
+    → ((i : ℕ) → i < n → get_or out i (pos 0) ≡ operation k (get_or a i (pos 0)) (get_or b i (pos 0)) (get_or c i (pos 0)))
+    → All IsCell out
+written-cells (Point op) a b c out n h o e values = All-from_get_or IsCell out (pos 0) (λ i p.
+    let lt : i < n = omega (arith, p, e) in
+    rw (values i lt) (result-cell op a b c n i h o lt))
+written-cells k a b c out n h o e values = absurd h
+
+pub written-flags : (k : Kind) (a b c out : List ℤ) (n : ℕ) → IsOperation k → IsTrue (is_filter k) → length out ≡ n
+    → ((i : ℕ) → i < n → get_or out i (pos 0) ≡ operation k (get_or a i (pos 0)) (get_or b i (pos 0)) (get_or c i (pos 0)))
+    → All IsFlag out
+written-flags (Point op) a b c out n h f e values = All-from_get_or IsFlag out (pos 0) (λ i p.
+    let lt : i < n = omega (arith, p, e) in
+    rw (values i lt) (result-flag op _ _ _ f))
+written-flags k a b c out n h f e values = absurd h
