@@ -20,7 +20,7 @@ use Rattle.pl_spec.specs.Table.{in_array}
 use Rattle.pl_spec.specs.Formula.{is_true}
 use Rattle.pl_spec.proofs.Unfolds.{value_at-node}
 use Rattle.pl_cross.specs.Listing.{labels_for, group_at}
-use Rattle.pl_cross.specs.Session.{sid_in, IsArray, IsNumbered, IsLabelled, IsGroupArray, HasNumbers, IsSession, empty_number, section_at}
+use Rattle.pl_cross.specs.Arrays.{sid_in, IsArray, IsNumbered, IsLabelled, IsGroupArray, HasNumbers, AreArrays, empty_number, section_at}
 use Rattle.pl_cross.proofs.Members.{not-own}
 use Rattle.pl_cross.proofs.Renaming.{map-twice, length-map, named, placed, cross-named}
 use Rattle.pl_cross.proofs.Codes.{present_code, same_numbers, same_labels}
@@ -167,7 +167,7 @@ told-numbers PeerCount x d h = inl refl
 
 -- ---- the lists of a session
 
-module _ (w : World) (k : CrossKind) (x mask group : Part) (d : ℤ) (sids : List ℕ) (vs keep : List ℤ) (labels : Option (List ℤ)) (s : IsSession w k x mask group d sids vs keep labels) where
+module _ (w : World) (k : CrossKind) (x mask group : Part) (d : ℤ) (sids : List ℕ) (vs keep : List ℤ) (labels : Option (List ℤ)) (s : AreArrays w k x mask group d sids vs keep labels) where
   abbrev numbers : ℕ → ℤ
   numbers j = number_of (now x (sid_in sids j) d)
 
@@ -253,7 +253,7 @@ empty-is k = here (is_cross_filter k)
     here true = refl
     here false = refl
 
-module _ (w : World) (names : List (List ℕ)) (k : CrossKind) (size : ℕ) (x y z mask group : Part) (d : ℤ) (sids : List ℕ) (vs keep : List ℤ) (labels : Option (List ℤ)) (s : IsSession w k x mask group d sids vs keep labels) where
+module _ (w : World) (names : List (List ℕ)) (k : CrossKind) (size : ℕ) (x y z mask group : Part) (d : ℤ) (sids : List ℕ) (vs keep : List ℤ) (labels : Option (List ℤ)) (s : AreArrays w k x mask group d sids vs keep labels) where
   abbrev sid : ℕ → ℕ
   sid i = sid_in sids i
 
@@ -286,7 +286,7 @@ module _ (w : World) (names : List (List ℕ)) (k : CrossKind) (size : ℕ) (x y
       here false e = empty-is k ∙ ap Number (sym (left-out i h e))
 
 pub term-value : (w : World) (names : List (List ℕ)) (k : CrossKind) (size : ℕ) (x y z mask group : Term) (d : ℤ) (sids : List ℕ) (vs keep : List ℤ) (labels : Option (List ℤ))
-    → IsSession w k (part_of x (value w names x)) (part_of mask (value w names mask)) (part_of group (value w names group)) d sids vs keep labels
+    → AreArrays w k (part_of x (value w names x)) (part_of mask (value w names mask)) (part_of group (value w names group)) d sids vs keep labels
     → (i : ℕ) → i < length sids → value w names (node (Cross k) size x y z mask group) (sid_in sids i) d ≡ Number (section_at k vs keep labels i)
 unfolding value
 term-value w names k size x y z mask group d sids vs keep labels s i h =
@@ -294,7 +294,7 @@ term-value w names k size x y z mask group d sids vs keep labels s i h =
 
 pub node-value : (w : World) (names : List (List ℕ)) (g : Graph) (t : ℕ) (n : Node) (k : CrossKind) (d : ℤ) (sids : List ℕ) (vs keep : List ℤ) (labels : Option (List ℤ))
     → IsGraph g → slice_get g t ≡ Some n → n.kind ≡ Cross k
-    → IsSession w k (input_part w names g (slice_get n.inputs 0)) (number_part w names g n.mask) (number_part w names g n.group) d sids vs keep labels
+    → AreArrays w k (input_part w names g (slice_get n.inputs 0)) (number_part w names g n.mask) (number_part w names g n.group) d sids vs keep labels
     → (i : ℕ) → i < length sids → meaning_of w names g t (sid_in sids i) d ≡ Number (section_at k vs keep labels i)
 node-value w names g t n k d sids vs keep labels ok e kind s i h =
     value_at-node w names g ok t n e (sid_in sids i) d

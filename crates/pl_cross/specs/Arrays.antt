@@ -45,7 +45,7 @@ HasNumbers PeerCount x d = Unit {0}
 HasNumbers k x d = IsNumbered x d
 
 -- The arrays of session d for a kind over its input, its mask and its group. The sids ascend, and each that exists on d is among them.
-pub record IsSession (w : World) (k : CrossKind) (x mask group : Part) (d : ℤ) (sids : List ℕ) (vs keep : List ℤ) (labels : Option (List ℤ)) : Type 0 where
+pub record AreArrays (w : World) (k : CrossKind) (x mask group : Part) (d : ℤ) (sids : List ℕ) (vs keep : List ℤ) (labels : Option (List ℤ)) : Type 0 where
   pub ascend : AllPairs (λ a b. a < b) sids
   pub all : living_sids w d ≡ filter (λ a. exists w a d) sids
   pub values : IsArray w x d sids vs
@@ -64,7 +64,7 @@ section_at k vs keep labels i = cross_at k (empty_number k) vs keep (labels_for 
 -- the cross-section over the arrays of a session is the term's value for each asset
 abbrev pub SectionsAreValues : Type 0
 SectionsAreValues = (w : World) (names : List (List ℕ)) (k : CrossKind) (size : ℕ) (x y z mask group : Term) (d : ℤ) (sids : List ℕ) (vs keep : List ℤ) (labels : Option (List ℤ))
-    → IsSession w k (part_of x (value w names x)) (part_of mask (value w names mask)) (part_of group (value w names group)) d sids vs keep labels
+    → AreArrays w k (part_of x (value w names x)) (part_of mask (value w names mask)) (part_of group (value w names group)) d sids vs keep labels
     → (i : ℕ) → i < length sids
     → value w names (node (Cross k) size x y z mask group) (sid_in sids i) d ≡ Number (section_at k vs keep labels i)
 
@@ -72,5 +72,5 @@ SectionsAreValues = (w : World) (names : List (List ℕ)) (k : CrossKind) (size 
 abbrev pub NodesAreSections : Type 0
 NodesAreSections = (w : World) (names : List (List ℕ)) (g : Graph) (t : ℕ) (n : Node) (k : CrossKind) (d : ℤ) (sids : List ℕ) (vs keep : List ℤ) (labels : Option (List ℤ))
     → IsGraph g → slice_get g t ≡ Some n → n.kind ≡ Cross k
-    → IsSession w k (input_part w names g (slice_get n.inputs 0)) (number_part w names g n.mask) (number_part w names g n.group) d sids vs keep labels
+    → AreArrays w k (input_part w names g (slice_get n.inputs 0)) (number_part w names g n.mask) (number_part w names g n.group) d sids vs keep labels
     → (i : ℕ) → i < length sids → meaning_of w names g t (sid_in sids i) d ≡ Number (section_at k vs keep labels i)
