@@ -20,7 +20,7 @@ use Rattle.pl_spec.specs.Table.{in_array}
 use Rattle.pl_spec.specs.Formula.{is_true}
 use Rattle.pl_spec.proofs.Unfolds.{value_at-node}
 use Rattle.pl_cross.specs.Listing.{labels_for, group_at}
-use Rattle.pl_cross.specs.Arrays.{sid_in, IsArray, IsNumbered, IsLabelled, IsGroupArray, HasNumbers, AreArrays, empty_number, section_at}
+use Rattle.pl_cross.specs.Arrays.{sid_in, IsArray, IsNumbered, IsLabelled, IsGroupArray, HasNumbers, Columns, AreArrays, AreNodeArrays, empty_number, section_at, section_in}
 use Rattle.pl_cross.proofs.Members.{not-own}
 use Rattle.pl_cross.proofs.Renaming.{map-twice, length-map, named, placed, cross-named}
 use Rattle.pl_cross.proofs.Codes.{present_code, same_numbers, same_labels}
@@ -167,7 +167,10 @@ told-numbers PeerCount x d h = inl refl
 
 -- ---- the lists of a session
 
-module _ (w : World) (k : CrossKind) (x mask group : Part) (d : ℤ) (sids : List ℕ) (vs keep : List ℤ) (labels : Option (List ℤ)) (s : AreArrays w k x mask group d sids vs keep labels) where
+abbrev pub columns : List ℕ → List ℤ → List ℤ → Option (List ℤ) → Columns
+columns sids vs keep labels = record { sids = sids; values = vs; keep = keep; labels = labels }
+
+module _ (w : World) (k : CrossKind) (x mask group : Part) (d : ℤ) (sids : List ℕ) (vs keep : List ℤ) (labels : Option (List ℤ)) (s : AreArrays w k x mask group d (columns sids vs keep labels)) where
   abbrev numbers : ℕ → ℤ
   numbers j = number_of (now x (sid_in sids j) d)
 
@@ -181,7 +184,7 @@ module _ (w : World) (k : CrossKind) (x mask group : Part) (d : ℤ) (sids : Lis
       → (exists w (sid_in sids j) d && counts_for x mask (group_of k x group) (sid_in sids i) d (sid_in sids j)) ≡ counts_at vs keep (labels_for k vs labels) i j
   counted i j h l =
       and-first (exists w (sid_in sids j) d) (passes mask (sid_in sids j) d) (is_present (number_of (now x (sid_in sids j) d))) (in_group (group_of k x group) (sid_in sids i) d (sid_in sids j))
-      ∙ ap (λ b. (b && is_present (number_of (now x (sid_in sids j) d))) && in_group (group_of k x group) (sid_in sids i) d (sid_in sids j)) (sym (s.kept j l))
+      ∙ ap (λ b. (b && is_present (number_of (now x (sid_in sids j) d))) && in_group (group_of k x group) (sid_in sids i) d (sid_in sids j)) (sym (s.keep j l))
       ∙ ap (λ b. (is_true (at keep j) && b) && in_group (group_of k x group) (sid_in sids i) d (sid_in sids j)) (present_code w.texts (now x (sid_in sids j) d) ∙ ap is_present (sym (s.values.each j l)))
       ∙ ap (λ b. (is_true (at keep j) && is_present (at vs j)) && b) (groups_told w (group_of k x group) d sids (labels_for k vs labels) s.groups i j h l)
 
@@ -253,7 +256,7 @@ empty-is k = here (is_cross_filter k)
     here true = refl
     here false = refl
 
-module _ (w : World) (names : List (List ℕ)) (k : CrossKind) (size : ℕ) (x y z mask group : Part) (d : ℤ) (sids : List ℕ) (vs keep : List ℤ) (labels : Option (List ℤ)) (s : AreArrays w k x mask group d sids vs keep labels) where
+module _ (w : World) (names : List (List ℕ)) (k : CrossKind) (size : ℕ) (x y z mask group : Part) (d : ℤ) (sids : List ℕ) (vs keep : List ℤ) (labels : Option (List ℤ)) (s : AreArrays w k x mask group d (columns sids vs keep labels)) where
   abbrev sid : ℕ → ℕ
   sid i = sid_in sids i
 
@@ -273,7 +276,7 @@ module _ (w : World) (names : List (List ℕ)) (k : CrossKind) (size : ℕ) (x y
 
   -- an asset that is not kept is not listed
   left-out : (i : ℕ) → i < length sids → (exists w (sid_in sids i) d && passes mask (sid_in sids i) d) ≡ false → section_at k vs keep labels i ≡ empty_number k
-  left-out i h out = not-own k (empty_number k) vs keep (labels_for k vs labels) i (ap (λ b. b && (is_present (at vs i) && is_present (group_at (labels_for k vs labels) i))) (s.kept i h ∙ out))
+  left-out i h out = not-own k (empty_number k) vs keep (labels_for k vs labels) i (ap (λ b. b && (is_present (at vs i) && is_present (group_at (labels_for k vs labels) i))) (s.keep i h ∙ out))
 
   pub part-value : (i : ℕ) → i < length sids
       → (if exists w (sid_in sids i) d && passes mask (sid_in sids i) d then step w names (Cross k) size x y z mask group (sid_in sids i) d else empty (Cross k))
@@ -285,20 +288,23 @@ module _ (w : World) (names : List (List ℕ)) (k : CrossKind) (size : ℕ) (x y
       here true e = kept-value i h
       here false e = empty-is k ∙ ap Number (sym (left-out i h e))
 
-pub term-value : (w : World) (names : List (List ℕ)) (k : CrossKind) (size : ℕ) (x y z mask group : Term) (d : ℤ) (sids : List ℕ) (vs keep : List ℤ) (labels : Option (List ℤ))
-    → AreArrays w k (part_of x (value w names x)) (part_of mask (value w names mask)) (part_of group (value w names group)) d sids vs keep labels
-    → (i : ℕ) → i < length sids → value w names (node (Cross k) size x y z mask group) (sid_in sids i) d ≡ Number (section_at k vs keep labels i)
+pub term-value : (w : World) (names : List (List ℕ)) (k : CrossKind) (size : ℕ) (x y z mask group : Term) (d : ℤ) (c : Columns)
+    → AreArrays w k (part_of x (value w names x)) (part_of mask (value w names mask)) (part_of group (value w names group)) d c
+    → (i : ℕ) → i < length c.sids → value w names (node (Cross k) size x y z mask group) (sid_in c.sids i) d ≡ Number (section_in k c i)
 unfolding value
-term-value w names k size x y z mask group d sids vs keep labels s i h =
-    part-value w names k size (part_of x (value w names x)) (part_of y (value w names y)) (part_of z (value w names z)) (part_of mask (value w names mask)) (part_of group (value w names group)) d sids vs keep labels s i h
+term-value w names k size x y z mask group d c s i h =
+    part-value w names k size (part_of x (value w names x)) (part_of y (value w names y)) (part_of z (value w names z)) (part_of mask (value w names mask)) (part_of group (value w names group))
+    d c.sids c.values c.keep c.labels s i h
 
-pub node-value : (w : World) (names : List (List ℕ)) (g : Graph) (t : ℕ) (n : Node) (k : CrossKind) (d : ℤ) (sids : List ℕ) (vs keep : List ℤ) (labels : Option (List ℤ))
-    → IsGraph g → slice_get g t ≡ Some n → n.kind ≡ Cross k
-    → AreArrays w k (input_part w names g (slice_get n.inputs 0)) (number_part w names g n.mask) (number_part w names g n.group) d sids vs keep labels
-    → (i : ℕ) → i < length sids → meaning_of w names g t (sid_in sids i) d ≡ Number (section_at k vs keep labels i)
-node-value w names g t n k d sids vs keep labels ok e kind s i h =
-    value_at-node w names g ok t n e (sid_in sids i) d
-    ∙ ap (λ q. if exists w (sid_in sids i) d && passes (number_part w names g n.mask) (sid_in sids i) d
-    then step w names q n.window (input_part w names g (slice_get n.inputs 0)) (input_part w names g (slice_get n.inputs 1)) (input_part w names g (slice_get n.inputs 2)) (number_part w names g n.mask) (number_part w names g n.group) (sid_in sids i) d
+pub node-value : (w : World) (names : List (List ℕ)) (g : Graph) (t : ℕ) (n : Node) (k : CrossKind) (d : ℤ) (c : Columns)
+    → IsGraph g → slice_get g t ≡ Some n → n.kind ≡ Cross k → AreNodeArrays w names g n k d c
+    → (i : ℕ) → i < length c.sids → meaning_of w names g t (sid_in c.sids i) d ≡ Number (section_in k c i)
+node-value w names g t n k d c ok e kind s i h =
+    let a : ℕ = sid_in c.sids i in
+    let mask : Part = number_part w names g n.mask in
+    value_at-node w names g ok t n e a d
+    ∙ ap (λ q. if exists w a d && passes mask a d
+    then step w names q n.window (input_part w names g (slice_get n.inputs 0)) (input_part w names g (slice_get n.inputs 1)) (input_part w names g (slice_get n.inputs 2)) mask (number_part w names g n.group) a d
     else empty (sort_over q (sort_kind (input_tree (trees g) (slice_get n.inputs 0))))) kind
-    ∙ part-value w names k n.window (input_part w names g (slice_get n.inputs 0)) (input_part w names g (slice_get n.inputs 1)) (input_part w names g (slice_get n.inputs 2)) (number_part w names g n.mask) (number_part w names g n.group) d sids vs keep labels s i h
+    ∙ part-value w names k n.window (input_part w names g (slice_get n.inputs 0)) (input_part w names g (slice_get n.inputs 1)) (input_part w names g (slice_get n.inputs 2)) mask (number_part w names g n.group)
+    d c.sids c.values c.keep c.labels s i h

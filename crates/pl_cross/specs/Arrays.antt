@@ -1,10 +1,10 @@
 -- The arrays of one session, and that the cross-section over them is the value of the term.
-use Rattle.std.specs.Prelude.{◌≡◌, ◌⊎◌, ℕ, ◌<◌, ◌&&◌, if◌then◌else◌, ℤ, pos, List, length, filter, get_or, Option, Some, None, slice_get, AllPairs, Contains}
+use Rattle.std.specs.Prelude.{◌≡◌, ◌≢◌, ◌⊎◌, ℕ, ◌<◌, ◌&&◌, if◌then◌else◌, ℤ, pos, List, [], length, filter, get_or, Option, Some, None, slice_get, AllPairs, Contains}
 use Rattle.pl_spec.specs.Rounding.{MISSING}
-use Rattle.pl_spec.specs.World.{World, exists, living_sids}
+use Rattle.pl_spec.specs.World.{World, LabelRow, exists, living_sids}
 use Rattle.pl_spec.specs.Kind.{CrossKind}
 use Rattle.pl_spec.specs.Kind.CrossKind.{PeerCount}
-use Rattle.pl_spec.specs.Kind.Kind.{Cross}
+use Rattle.pl_spec.specs.Kind.Kind.{Cross, Label}
 use Rattle.pl_spec.specs.Formula.{is_true}
 use Rattle.pl_spec.specs.Cross.{at, cross_at}
 use Rattle.pl_spec.specs.Term.{Term, Node, Graph, IsGraph}
@@ -44,14 +44,23 @@ abbrev pub HasNumbers : CrossKind → Part → ℤ → Type 0
 HasNumbers PeerCount x d = Unit {0}
 HasNumbers k x d = IsNumbered x d
 
--- The arrays of session d for a kind over its input, its mask and its group. The sids ascend, and each that exists on d is among them.
-pub record AreArrays (w : World) (k : CrossKind) (x mask group : Part) (d : ℤ) (sids : List ℕ) (vs keep : List ℤ) (labels : Option (List ℤ)) : Type 0 where
-  pub ascend : AllPairs (λ a b. a < b) sids
-  pub all : living_sids w d ≡ filter (λ a. exists w a d) sids
-  pub values : IsArray w x d sids vs
+-- The arrays of a session, asset by asset: the sids, the values of a kind's input, who is kept, and the labels where there are groups.
+pub record Columns : Type 0 where
+  pub sids : List ℕ
+  pub values : List ℤ
+  pub keep : List ℤ
+  pub labels : Option (List ℤ)
+
+-- The columns are those of session d for a kind over its input, its mask and its group. The sids ascend, and each that exists on
+-- d is among them.
+pub record AreArrays (w : World) (k : CrossKind) (x mask group : Part) (d : ℤ) (c : Columns) : Type 0 where
+  pub ascend : AllPairs (λ a b. a < b) c.sids
+  pub all : living_sids w d ≡ filter (λ a. exists w a d) c.sids
+  pub values : IsArray w x d c.sids c.values
   pub numbers : HasNumbers k x d
-  pub kept : (i : ℕ) → i < length sids → is_true (at keep i) ≡ (exists w (sid_in sids i) d && passes mask (sid_in sids i) d)
-  pub groups : IsGroupArray w (group_of k x group) d sids (labels_for k vs labels)
+  pub keep : (i : ℕ) → i < length c.sids
+      → is_true (at c.keep i) ≡ (exists w (sid_in c.sids i) d && passes mask (sid_in c.sids i) d)
+  pub groups : IsGroupArray w (group_of k x group) d c.sids (labels_for k c.values c.labels)
 
 -- the number in place of a value that is not there
 abbrev pub empty_number : CrossKind → ℤ
@@ -61,16 +70,32 @@ empty_number k = if is_cross_filter k then pos 0 else MISSING
 abbrev pub section_at : CrossKind → List ℤ → List ℤ → Option (List ℤ) → ℕ → ℤ
 section_at k vs keep labels i = cross_at k (empty_number k) vs keep (labels_for k vs labels) i
 
+abbrev pub section_in : CrossKind → Columns → ℕ → ℤ
+section_in k c i = section_at k c.values c.keep c.labels i
+
 -- the cross-section over the arrays of a session is the term's value for each asset
 abbrev pub SectionsAreValues : Type 0
-SectionsAreValues = (w : World) (names : List (List ℕ)) (k : CrossKind) (size : ℕ) (x y z mask group : Term) (d : ℤ) (sids : List ℕ) (vs keep : List ℤ) (labels : Option (List ℤ))
-    → AreArrays w k (part_of x (value w names x)) (part_of mask (value w names mask)) (part_of group (value w names group)) d sids vs keep labels
-    → (i : ℕ) → i < length sids
-    → value w names (node (Cross k) size x y z mask group) (sid_in sids i) d ≡ Number (section_at k vs keep labels i)
+SectionsAreValues = (w : World) (names : List (List ℕ)) (k : CrossKind) (size : ℕ) (x y z mask group : Term) (d : ℤ) (c : Columns)
+    → AreArrays w k (part_of x (value w names x)) (part_of mask (value w names mask)) (part_of group (value w names group)) d c
+    → (i : ℕ) → i < length c.sids
+    → value w names (node (Cross k) size x y z mask group) (sid_in c.sids i) d ≡ Number (section_in k c i)
+
+-- the input of a node, its mask and its group are in the arrays
+abbrev pub AreNodeArrays : World → List (List ℕ) → Graph → Node → CrossKind → ℤ → Columns → Type 0
+AreNodeArrays w names g n k d c =
+    AreArrays w k (input_part w names g (slice_get n.inputs 0)) (number_part w names g n.mask) (number_part w names g n.group) d c
 
 -- and that of a numbered term, over the numbers that its node mentions
 abbrev pub NodesAreSections : Type 0
-NodesAreSections = (w : World) (names : List (List ℕ)) (g : Graph) (t : ℕ) (n : Node) (k : CrossKind) (d : ℤ) (sids : List ℕ) (vs keep : List ℤ) (labels : Option (List ℤ))
-    → IsGraph g → slice_get g t ≡ Some n → n.kind ≡ Cross k
-    → AreArrays w k (input_part w names g (slice_get n.inputs 0)) (number_part w names g n.mask) (number_part w names g n.group) d sids vs keep labels
-    → (i : ℕ) → i < length sids → meaning_of w names g t (sid_in sids i) d ≡ Number (section_at k vs keep labels i)
+NodesAreSections = (w : World) (names : List (List ℕ)) (g : Graph) (t : ℕ) (n : Node) (k : CrossKind) (d : ℤ) (c : Columns)
+    → IsGraph g → slice_get g t ≡ Some n → n.kind ≡ Cross k → AreNodeArrays w names g n k d c
+    → (i : ℕ) → i < length c.sids → meaning_of w names g t (sid_in c.sids i) d ≡ Number (section_in k c i)
+
+-- all label texts have codes
+abbrev pub HasTexts : World → Type 0
+HasTexts w = (r : LabelRow) → Contains w.labels r → r.text ≢ [] → Contains w.texts r.text
+
+-- then a label gives labels of the world
+abbrev pub LabelsHaveCodes : Type 0
+LabelsHaveCodes = (w : World) (names : List (List ℕ)) (n size : ℕ) (x y z mask group : Term) (d : ℤ) → HasTexts w
+    → IsLabelled w (Values (value w names (node (Label n) size x y z mask group))) d
