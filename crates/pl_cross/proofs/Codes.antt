@@ -1,5 +1,5 @@
 -- Codes tell labels apart.
-use Rattle.std.proofs.Common.{◌≡◌, ◌⊎◌, ℕ, ◌<◌, ◌&&◌, Bool, true, false, not, ℤ, pos, List, [], length, get_or, Option, Some, None, unwrap_or, position, bytes_eq, refl, sym, ◌∙◌, ap, inl, inr, true≢false, Contains}
+use Rattle.std.proofs.Common.{◌≡◌, ◌⊎◌, ℕ, ◌&&◌, Bool, true, false, ℤ, pos, List, [], get_or, Option, Some, None, unwrap_or, position, bytes_eq, refl, sym, ◌∙◌, ap, inl, inr, true≢false, Contains}
 use Rattle.std.specs.Ordering.{int_eq}
 use Rattle.std.proofs.lemmas.Bool.Decides.{Decides-int_eq}
 use Rattle.std.proofs.lemmas.Slice.Eq.{bytes_eq-Decides}

@@ -1,5 +1,5 @@
 -- Places under other names that ascend as they do.
-use Rattle.std.proofs.Common.{◌≡◌, ℕ, suc, ◌+◌, ◌*◌, ◌&&◌, ℤ, pos, List, [], ◌∷◌, length, map, refl, sym, ◌∙◌, ap, nat_lt, nat_le}
+use Rattle.std.proofs.Common.{◌≡◌, ℕ, suc, ◌*◌, ◌&&◌, ℤ, pos, List, [], ◌∷◌, length, map, refl, sym, ◌∙◌, ap, nat_lt, nat_le}
 use Rattle.std.proofs.Math.Path.{fun_ext}
 use Rattle.std.specs.List.{count_by}
 use Rattle.std.specs.Ordering.{int_eq}

@@ -1,21 +1,21 @@
 -- A cross-section over the arrays of a session is the cross-section of the definitions.
-use Rattle.std.proofs.Common.{◌≡◌, ◌⊎◌, ℕ, zero, suc, ◌+◌, ◌-◌, ◌*◌, ◌<◌, ◌≤◌, Bool, true, false, ◌&&◌, ◌||◌, if◌then◌else◌, ℤ, pos, List, [], ◌∷◌, length, map, filter, get_or, Option, Some, None, refl, sym, ◌∙◌, ap, subst, arith, nat_lt, ◌==◌, slice_get, inl, inr, AllPairs}
+use Rattle.std.proofs.Common.{◌≡◌, ◌⊎◌, ℕ, zero, suc, ◌+◌, ◌-◌, ◌*◌, ◌<◌, ◌≤◌, Bool, true, false, ◌&&◌, if◌then◌else◌, ℤ, pos, List, [], ◌∷◌, length, map, filter, get_or, Option, Some, None, refl, sym, ◌∙◌, ap, arith, nat_lt, ◌==◌, slice_get, inl, inr, AllPairs}
 use Rattle.std.specs.List.{range_with_len, list_any}
 use Rattle.std.specs.Ordering.{int_eq}
 use Rattle.std.proofs.lemmas.Bool.{cases_lt, cases_eq}
 use Rattle.std.proofs.lemmas.Bool.Decides.{nat_tests}
 use Rattle.pl_spec.specs.Rounding.{MISSING, MILLION, is_present}
-use Rattle.pl_spec.specs.World.{World, exists, living_sids}
+use Rattle.pl_spec.specs.World.{World, exists}
 use Rattle.pl_spec.specs.Kind.{CrossKind}
 use Rattle.pl_spec.specs.Kind.CrossKind.{Rank, Demean, ZScore, Quantiles, Top, Bottom, PercentileBetween, PeerCount}
 use Rattle.pl_spec.specs.Kind.Kind.{Cross}
 use Rattle.pl_spec.specs.Cross.{Entry, cross, cross_at, entries_for, counts_at, same_group, at}
 use Rattle.pl_spec.specs.Term.{Term, Node, Graph, IsGraph, input_tree, trees}
 use Rattle.pl_spec.specs.Term.Term.{node}
-use Rattle.pl_spec.specs.Value.{Meaning, Part, Value, number_of, now, passes, in_group, is_same, entry, counts_for, eligible, group_of, is_cross_filter, empty, sort_over, sort_kind, step, value, part_of}
+use Rattle.pl_spec.specs.Value.{Part, Value, number_of, now, passes, in_group, is_same, entry, counts_for, eligible, group_of, is_cross_filter, empty, sort_over, sort_kind, step, value, part_of}
 use Rattle.pl_spec.specs.Value.Part.{Nothing, Bars, Values}
-use Rattle.pl_spec.specs.Value.Value.{Number, Text}
-use Rattle.pl_spec.specs.NodeValue.{meaning_of, input_part, number_part, node_value}
+use Rattle.pl_spec.specs.Value.Value.{Number}
+use Rattle.pl_spec.specs.NodeValue.{meaning_of, input_part, number_part}
 use Rattle.pl_spec.specs.Table.{in_array}
 use Rattle.pl_spec.specs.Formula.{is_true}
 use Rattle.pl_spec.proofs.Unfolds.{value_at-node}

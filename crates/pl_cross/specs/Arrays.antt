@@ -10,7 +10,7 @@ use Rattle.pl_spec.specs.Cross.{at, cross_at}
 use Rattle.pl_spec.specs.Term.{Term, Node, Graph, IsGraph}
 use Rattle.pl_spec.specs.Term.Term.{node}
 use Rattle.pl_spec.specs.Value.{Part, part_of, now, passes, group_of, is_cross_filter, value}
-use Rattle.pl_spec.specs.Value.Part.{Nothing, Bars, Values}
+use Rattle.pl_spec.specs.Value.Part.{Nothing, Values}
 use Rattle.pl_spec.specs.Value.Value.{Number, Text}
 use Rattle.pl_spec.specs.NodeValue.{meaning_of, input_part, number_part}
 use Rattle.pl_spec.specs.Table.{in_array}

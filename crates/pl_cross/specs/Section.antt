@@ -1,11 +1,12 @@
 -- The cross-sections of the code as kinds of the definitions.
-use Rattle.std.specs.Prelude.{◌≤◌, Bool, true, false, not, ℤ, neg_ℤ}
+use Rattle.std.specs.Prelude.{◌≡◌, ℕ, ◌≤◌, Bool, true, false, not, ℤ, neg_ℤ}
 use Rattle.pl_spec.specs.declared.RankOrder.{RankOrder}
 use Rattle.pl_spec.specs.declared.RankOrder.TheVariants.{Ascending, Descending}
 use Rattle.pl_spec.specs.Kind.{Kind, CrossKind}
 use Rattle.pl_spec.specs.Kind.Kind.{Cross}
 use Rattle.pl_spec.specs.Kind.CrossKind.{Rank, Demean, ZScore, Quantiles, Top, Bottom, PercentileBetween, PeerCount}
 use Rattle.pl_spec.specs.Value.{is_cross_filter}
+use Rattle.pl_terms.specs.Sorts.{has_parameters}
 use Rattle.pl_cross.specs.declared.section.Section.{Section}
 use Rattle.pl_cross.specs.declared.section.Section.TheVariants as code
 
@@ -42,6 +43,10 @@ IsRight k = Unit {0}
 abbrev pub HasParameters : Kind → Type 0
 HasParameters (Cross k) = IsRight k
 HasParameters k = Unit {0}
+
+-- the nodes of a checked pipeline have them, whatever their window and the number of label names
+abbrev pub AllowedParametersAreRight : Type 0
+AllowedParametersAreRight = (k : Kind) (w names : ℕ) → has_parameters k w names ≡ true → HasParameters k
 
 -- the order in which the kind ranks
 abbrev pub order_of : CrossKind → RankOrder
