@@ -1,0 +1,254 @@
+-- What may stand in a window.
+use Rattle.std.proofs.Common.{◌≡◌, ℕ, zero, suc, Bool, true, false, ◌&&◌, ◌||◌, not, cond, List, [], ◌∷◌, ◌++◌, map, Option, Some, None, option_map, slice_get, refl, sym, ap, subst, ◌∙◌, ◌⊎◌, inl, inr}
+use Rattle.std.specs.Prelude.{option_and_then}
+use Rattle.std.specs.List.{list_all, list_any, filter_map, cons_option}
+use Rattle.std.proofs.lemmas.Bool.{and_parts}
+use Rattle.pl_spec.specs.declared.Column.{Column}
+use Rattle.pl_spec.specs.Kind as kind
+use Rattle.pl_spec.specs.Kind.{Kind}
+use Rattle.pl_spec.specs.Term.{Graph, Node, Input, BarColumn, TermInput}
+use Rattle.pl_terms.specs.Sorts as sorts
+use Rattle.pl_terms.specs.Sorts.{Sort, sort_of, sort_at, is_windowed, is_safe_kind, is_safe_over, IsSafe, of_kind, of_inputs}
+use Rattle.pl_check.specs.declared.operation.Operation.{Operation}
+use Rattle.pl_check.specs.declared.operation.Operation.TheVariants as op
+use Rattle.pl_check.specs.declared.operation.Parameter.{Parameter}
+use Rattle.pl_check.specs.declared.operation.Parameter.TheVariants as parameter
+use Rattle.pl_check.specs.Parameters.{number_of, same_parameter}
+use Rattle.pl_check.specs.Values.{Value, Bars, Factor, Filter, Labels, Numbers, Number, Text, Bound, given, is_safe, is_filter, is_bars}
+use Rattle.pl_check.specs.Operations.{parameters}
+use Rattle.pl_check.specs.Rules.{each, takes, is_safe_for}
+use Rattle.pl_check.specs.Results.{kind_for, result_for, columns_of, gives_input, input_in, input_for, inputs_for, all_safe}
+use Rattle.pl_check.specs.Standing.{Stands, AllStand}
+use Rattle.pl_check.proofs.Lists.{all-has, test-given, stand-given}
+
+-- filters and classifiers may
+safe-sort : (k : Kind) (x : Sort) → sort_of k ≡ x → (x ≡ sorts.Factors → ⊥) → is_safe_kind k ≡ true
+unfolding sort_of is_safe_kind
+safe-sort (kind.Window kind.Latest) x e f = absurd (f (sym e))
+safe-sort (kind.Window k) x e f = window k e
+  where
+    window : (k : kind.WindowKind) → sort_of (kind.Window k) ≡ x → is_safe_kind (kind.Window k) ≡ true
+    window kind.Returns e = refl
+    window kind.PercentChange e = refl
+    window kind.RateOfChangePercentage e = refl
+    window kind.RSI e = refl
+    window kind.FastStochasticOscillator e = refl
+    window kind.AroonUp e = refl
+    window kind.AroonDown e = refl
+    window kind.All e = refl
+    window kind.Any e = refl
+    window (kind.AtLeastN n) e = refl
+    window kind.AllPresent e = refl
+    window k e = absurd (f (sym e))
+safe-sort (kind.Point kind.Add) x e f = absurd (f (sym e))
+safe-sort (kind.Point kind.Sub) x e f = absurd (f (sym e))
+safe-sort (kind.Point kind.Mul) x e f = absurd (f (sym e))
+safe-sort (kind.Point kind.Div) x e f = absurd (f (sym e))
+safe-sort (kind.Point kind.Neg) x e f = absurd (f (sym e))
+safe-sort (kind.Point kind.Abs) x e f = absurd (f (sym e))
+safe-sort (kind.Point (kind.Clip low high)) x e f = absurd (f (sym e))
+safe-sort (kind.Point kind.FillNa) x e f = absurd (f (sym e))
+safe-sort (kind.Point kind.IfElse) x e f = absurd (f (sym e))
+safe-sort (kind.Point k) x e f = refl
+safe-sort (kind.Cross kind.Demean) x e f = absurd (f (sym e))
+safe-sort (kind.Cross k) x e f = refl
+safe-sort (kind.Downsample d) x e f = absurd (f (sym e))
+safe-sort k x e f = refl
+
+node-in : (o : Option Node) (x : Sort) → option_map (λ n. sort_of n.kind) o ≡ Some x → (n : Node) × (o ≡ Some n) × (sort_of n.kind ≡ x)
+node-in None x h = absurd (let no : None ≡ Some x = h in cc)
+node-in (Some n) x h = (n, refl, (let e : Some (sort_of n.kind) ≡ Some x = h in cc))
+
+sort-safe : (g : Graph) (t : ℕ) (x : Sort) → (x ≡ sorts.Factors → ⊥) → sort_at g t ≡ Some x → IsSafe g t
+sort-safe g t x f h = let r = node-in (slice_get g t) x h in of_kind r.0 r.1 (safe-sort r.0.kind x r.2 f)
+
+-- a value that is safe, as an input
+pub value-safe : (g : Graph) (v : Value) (j : ℕ) → Stands g v → is_safe v ≡ true → input_in v ≡ Some (TermInput j) → IsSafe g j
+value-safe g (Factor t s) j f h e = subst (IsSafe g) (let q : Some (TermInput t) ≡ Some (TermInput j) = e in let z : t ≡ j = cc in z) (f.1 h)
+value-safe g (Filter t) j f h e = subst (IsSafe g) (let q : Some (TermInput t) ≡ Some (TermInput j) = e in let z : t ≡ j = cc in z) (sort-safe g t sorts.Filters (λ p. cc) f)
+value-safe g (Labels t) j f h e = subst (IsSafe g) (let q : Some (TermInput t) ≡ Some (TermInput j) = e in let z : t ≡ j = cc in z) (sort-safe g t sorts.Labels (λ p. cc) f)
+value-safe g (Numbers t) j f h e = subst (IsSafe g) (let q : Some (TermInput t) ≡ Some (TermInput j) = e in let z : t ≡ j = cc in z) (sort-safe g t sorts.Numbers (λ p. cc) f)
+value-safe g (Bars c) j f h e = absurd (let q : Some (BarColumn c) ≡ Some (TermInput j) = e in cc)
+value-safe g (Number n) j f h e = absurd (let q : None ≡ Some (TermInput j) = e in cc)
+value-safe g (Text t) j f h e = absurd (let q : None ≡ Some (TermInput j) = e in cc)
+
+-- it stays so in a graph that has all terms of the old one
+pub safe-kept : (g h : Graph) (k : ℕ) → ((k : ℕ) (n : Node) → slice_get g k ≡ Some n → slice_get h k ≡ Some n) → IsSafe g k → IsSafe h k
+safe-kept g h k f (of_kind n e s) = of_kind n (f k n e) s
+safe-kept g h k f (of_inputs n e s r) = of_inputs n (f k n e) s (λ i j q. safe-kept g h j f (r i j q))
+
+-- ---- the inputs of a node
+
+-- an input that is a term is what some parameter is given
+abbrev From : List Bound → List Parameter → ℕ → Type 0
+From bs ps j = (p : Parameter) × (v : Value) × (list_any (same_parameter p) ps ≡ true) × (gives_input p ≡ true) × (given bs p ≡ Some v) × (input_in v ≡ Some (TermInput j))
+
+same-self : (q : Parameter) → same_parameter q q ≡ true
+unfolding number_of
+same-self parameter.X = refl
+same-self q = refl
+
+or-one : (a : Bool) → (a || true) ≡ true
+or-one true = refl
+or-one false = refl
+
+later : (bs : List Bound) (q : Parameter) (ps : List Parameter) (j : ℕ) → From bs ps j → From bs (q ∷ ps) j
+later bs q ps j r = (r.0, r.1, ap (λ b. same_parameter r.0 q || b) r.2 ∙ or-one (same_parameter r.0 q), r.3, r.4, r.5)
+
+given-input : (a : Bool) (o : Option Value) (j : ℕ) → cond a (option_and_then input_in o) None ≡ Some (TermInput j) → (a ≡ true) × ((v : Value) × (o ≡ Some v) × (input_in v ≡ Some (TermInput j)))
+given-input true (Some v) j h = (refl, (v, refl, h))
+given-input true None j h = absurd (let no : None ≡ Some (TermInput j) = h in cc)
+given-input false o j h = absurd (let no : None ≡ Some (TermInput j) = h in cc)
+
+from-parameters : (bs : List Bound) (ps : List Parameter) (i j : ℕ) → slice_get (filter_map (input_for bs) ps) i ≡ Some (TermInput j) → From bs ps j
+from-parameters bs [] i j h = absurd (let no : None ≡ Some (TermInput j) = h in cc)
+from-parameters bs (q ∷ qs) i j h = here (input_for bs q) refl i h (λ k e. from-parameters bs qs k j e)
+  where
+    here : (o : Option Input) → input_for bs q ≡ o → (i : ℕ) → slice_get (cons_option o (filter_map (input_for bs) qs)) i ≡ Some (TermInput j)
+        → ((k : ℕ) → slice_get (filter_map (input_for bs) qs) k ≡ Some (TermInput j) → From bs qs j) → From bs (q ∷ qs) j
+    here None e i h f = later bs q qs j (f i h)
+    here (Some x) e zero h f =
+        let same : x ≡ TermInput j = (let s : Some x ≡ Some (TermInput j) = h in cc) in
+        let r = given-input (gives_input q) (given bs q) j (e ∙ ap Some same) in
+        (q, r.1.0, ap (λ b. b || list_any (same_parameter q) qs) (same-self q), r.0, r.1.1, r.1.2)
+    here (Some x) e (suc k) h f = later bs q qs j (f k h)
+
+behind-columns : (cs : List Column) (is : List Input) (i j : ℕ) → slice_get (map BarColumn cs ++ is) i ≡ Some (TermInput j) → (k : ℕ) × (slice_get is k ≡ Some (TermInput j))
+behind-columns [] is i j h = (i, h)
+behind-columns (c ∷ cs) is zero j h = absurd (let no : Some (BarColumn c) ≡ Some (TermInput j) = h in cc)
+behind-columns (c ∷ cs) is (suc i) j h = behind-columns cs is i j h
+
+from-inputs : (o : Operation) (bs : List Bound) (i j : ℕ) → slice_get (inputs_for o bs) i ≡ Some (TermInput j) → From bs (parameters o) j
+from-inputs o bs i j h =
+    let r = behind-columns (columns_of o) (filter_map (input_for bs) (parameters o)) i j h in
+    from-parameters bs (parameters o) r.0 j r.1
+
+-- where all that is given is safe, the inputs are
+pub inputs-safe : (g : Graph) (o : Operation) (bs : List Bound) → AllStand g bs → all_safe bs ≡ true → (i j : ℕ) → slice_get (inputs_for o bs) i ≡ Some (TermInput j) → IsSafe g j
+inputs-safe g o bs k h i j e = here (from-inputs o bs i j e)
+  where
+    here : From bs (parameters o) j → IsSafe g j
+    here (p, v, own, gives, is, input) = value-safe g v j (stand-given g bs p v k is) (test-given (λ q w. is_safe w) bs p v h is) input
+
+-- ---- windows
+
+-- what gives an input to a window
+unfoldable in_window : Parameter → Bool
+in_window parameter.BarColumn = true
+in_window parameter.X = true
+in_window parameter.Weights = true
+in_window parameter.WindowFilter = true
+in_window p = false
+
+window-parameters : (o : Operation) (bs : List Bound) (names : List (List ℕ)) → cond (is_windowed (kind_for o bs names)) (list_all (λ p. not (gives_input p) || in_window p) (parameters o)) true ≡ true
+unfolding kind_for parameters gives_input in_window
+window-parameters op.All bs names = refl
+window-parameters o bs names = refl
+
+not-or : (a b : Bool) → a ≡ true → (not a || b) ≡ true → b ≡ true
+not-or true b e h = h
+not-or false b e h = absurd (let no : false ≡ true = e in cc)
+
+bars-input : (v : Value) (j : ℕ) → is_bars v ≡ true → input_in v ≡ Some (TermInput j) → ⊥
+bars-input (Bars c) j h e = let no : Some (BarColumn c) ≡ Some (TermInput j) = e in cc
+bars-input (Factor t s) j h e = let no : false ≡ true = h in cc
+bars-input (Filter t) j h e = let no : false ≡ true = h in cc
+bars-input (Labels t) j h e = let no : false ≡ true = h in cc
+bars-input (Numbers t) j h e = let no : false ≡ true = h in cc
+bars-input (Number n) j h e = let no : false ≡ true = h in cc
+bars-input (Text t) j h e = let no : false ≡ true = h in cc
+
+filter-safe : (v : Value) → is_filter v ≡ true → is_safe v ≡ true
+filter-safe (Filter t) h = refl
+filter-safe (Bars c) h = refl
+filter-safe (Labels t) h = refl
+filter-safe (Numbers t) h = refl
+filter-safe (Number n) h = refl
+filter-safe (Text t) h = refl
+filter-safe (Factor t s) h = absurd (let no : false ≡ true = h in cc)
+
+place-safe : (g : Graph) (p : Parameter) (v : Value) (j : ℕ) → in_window p ≡ true → takes p v ≡ true → is_safe_for p v ≡ true → Stands g v → input_in v ≡ Some (TermInput j) → IsSafe g j
+unfolding in_window takes is_safe_for
+place-safe g parameter.BarColumn v j w t s k e = absurd (bars-input v j t e)
+place-safe g parameter.X v j w t s k e = value-safe g v j k s e
+place-safe g parameter.Weights v j w t s k e = value-safe g v j k s e
+place-safe g parameter.WindowFilter v j w t s k e = value-safe g v j k (filter-safe v t) e
+place-safe g p v j w t s k e = absurd (let no : false ≡ true = w in cc)
+
+pub windows-safe : (g : Graph) (o : Operation) (bs : List Bound) (names : List (List ℕ)) → AllStand g bs → each takes bs ≡ true → each is_safe_for bs ≡ true → is_windowed (kind_for o bs names) ≡ true
+    → (i j : ℕ) → slice_get (inputs_for o bs) i ≡ Some (TermInput j) → IsSafe g j
+windows-safe g o bs names k t s w i j e = here (from-inputs o bs i j e)
+  where
+    all : list_all (λ p. not (gives_input p) || in_window p) (parameters o) ≡ true
+    all = sym (ap (λ a. cond a (list_all (λ p. not (gives_input p) || in_window p) (parameters o)) true) w) ∙ window-parameters o bs names
+
+    here : From bs (parameters o) j → IsSafe g j
+    here (p, v, own, gives, is, input) =
+        place-safe g p v j (not-or (gives_input p) (in_window p) gives (all-has (λ q. not (gives_input q) || in_window q) (parameters o) p all own))
+        (test-given takes bs p v t is) (test-given is_safe_for bs p v s is) (stand-given g bs p v k is) input
+
+-- ---- what a node gives
+
+-- a factor that is called safe is so by its kind, or where all that is given is
+abbrev SafeResult : Kind → Bool → Value → Type 0
+SafeResult k a (Factor t s) = (not s || (is_safe_kind k || (is_safe_over k && a))) ≡ true
+SafeResult k a v = Unit {0}
+
+self-or : (a : Bool) → (not a || a) ≡ true
+self-or true = refl
+self-or false = refl
+
+result-called : (o : Operation) (bs : List Bound) (names : List (List ℕ)) (t : ℕ) → SafeResult (kind_for o bs names) (all_safe bs) (result_for o bs t)
+unfolding kind_for result_for is_safe_kind is_safe_over
+result-called op.Demean bs names t = self-or (all_safe bs)
+result-called op.Add bs names t = self-or (all_safe bs)
+result-called op.Sub bs names t = self-or (all_safe bs)
+result-called op.Mul bs names t = self-or (all_safe bs)
+result-called op.Div bs names t = self-or (all_safe bs)
+result-called op.Neg bs names t = self-or (all_safe bs)
+result-called op.Abs bs names t = self-or (all_safe bs)
+result-called op.Clip bs names t = self-or (all_safe bs)
+result-called op.FillNa bs names t = self-or (all_safe bs)
+result-called op.IfElse bs names t = self-or (all_safe bs)
+result-called op.Returns bs names t = refl
+result-called op.PercentChange bs names t = refl
+result-called op.RateOfChangePercentage bs names t = refl
+result-called op.RSI bs names t = refl
+result-called op.FastStochasticOscillator bs names t = refl
+result-called op.AroonUp bs names t = refl
+result-called op.AroonDown bs names t = refl
+result-called op.Rank bs names t = refl
+result-called op.ZScore bs names t = refl
+result-called op.PeerCount bs names t = refl
+result-called op.SimpleMovingAverage bs names t = refl
+result-called op.LinearWeightedMovingAverage bs names t = refl
+result-called op.WindowSum bs names t = refl
+result-called op.WindowMax bs names t = refl
+result-called op.WindowMin bs names t = refl
+result-called op.WindowStd bs names t = refl
+result-called op.BollingerMiddle bs names t = refl
+result-called op.BollingerLower bs names t = refl
+result-called op.BollingerUpper bs names t = refl
+result-called op.VWAP bs names t = refl
+result-called op.AverageDollarVolume bs names t = refl
+result-called op.WeightedAverageValue bs names t = refl
+result-called op.TrueRange bs names t = refl
+result-called op.ExponentialWeightedMovingAverage bs names t = refl
+result-called op.Latest bs names t = refl
+result-called o bs names t = tt
+
+called-cases : (s a b c : Bool) → s ≡ true → (not s || (a || (b && c))) ≡ true → (a ≡ true) ⊎ ((b ≡ true) × (c ≡ true))
+called-cases true true b c e h = inl refl
+called-cases true false true c e h = inr (refl, h)
+called-cases true false false c e h = absurd (let no : false ≡ true = h in cc)
+called-cases false a b c e h = absurd (let no : false ≡ true = e in cc)
+
+-- the term of a node that is called safe
+pub result-safe : (g : Graph) (o : Operation) (bs : List Bound) (names : List (List ℕ)) (t : ℕ) (n : Node) → slice_get g t ≡ Some n → n.kind ≡ kind_for o bs names → n.inputs ≡ inputs_for o bs → AllStand g bs
+    → (u : ℕ) (s : Bool) → result_for o bs t ≡ Factor u s → s ≡ true → IsSafe g t
+result-safe g o bs names t n at k is f u s e h =
+    elim (called-cases s (is_safe_kind (kind_for o bs names)) (is_safe_over (kind_for o bs names)) (all_safe bs) h
+    (subst (SafeResult (kind_for o bs names) (all_safe bs)) e (result-called o bs names t))) [
+      | inl x ↦ of_kind n at (ap is_safe_kind k ∙ x)
+      | inr x ↦ of_inputs n at (ap is_safe_over k ∙ x.0) (λ i j q. inputs-safe g o bs f x.1 i j (ap (λ ns. slice_get ns i) (sym is) ∙ q))
+    ]
