@@ -1,0 +1,310 @@
+-- A cross-section over the arrays of a session is the cross-section of the definitions.
+use Rattle.std.proofs.Common.{◌≡◌, ◌⊎◌, ℕ, zero, suc, ◌+◌, ◌-◌, ◌*◌, ◌<◌, ◌≤◌, Bool, true, false, ◌&&◌, if◌then◌else◌, ℤ, pos, List, [], ◌∷◌, length, map, filter, get_or, Option, Some, None, refl, sym, ◌∙◌, ap, arith, nat_lt, ◌==◌, slice_get, inl, inr, AllPairs}
+use Rattle.std.specs.List.{range_with_len, list_any}
+use Rattle.std.specs.Ordering.{int_eq}
+use Rattle.std.proofs.lemmas.Bool.{cases_lt, cases_eq}
+use Rattle.std.proofs.lemmas.Bool.Decides.{nat_tests}
+use Rattle.pl_spec.specs.Rounding.{MISSING, MILLION, is_present}
+use Rattle.pl_spec.specs.World.{World, exists}
+use Rattle.pl_spec.specs.Kind.{CrossKind}
+use Rattle.pl_spec.specs.Kind.CrossKind.{Rank, Demean, ZScore, Quantiles, Top, Bottom, PercentileBetween, PeerCount}
+use Rattle.pl_spec.specs.Kind.Kind.{Cross}
+use Rattle.pl_spec.specs.Cross.{Entry, cross, cross_at, entries_for, counts_at, same_group, at}
+use Rattle.pl_spec.specs.Term.{Term, Node, Graph, IsGraph, input_tree, trees}
+use Rattle.pl_spec.specs.Term.Term.{node}
+use Rattle.pl_spec.specs.Value.{Part, Value, number_of, now, passes, in_group, is_same, entry, counts_for, eligible, group_of, is_cross_filter, empty, sort_over, sort_kind, step, value, part_of}
+use Rattle.pl_spec.specs.Value.Part.{Nothing, Bars, Values}
+use Rattle.pl_spec.specs.Value.Value.{Number}
+use Rattle.pl_spec.specs.NodeValue.{meaning_of, input_part, number_part}
+use Rattle.pl_spec.specs.Table.{in_array}
+use Rattle.pl_spec.specs.Formula.{is_true}
+use Rattle.pl_spec.proofs.Unfolds.{value_at-node}
+use Rattle.pl_cross.specs.Listing.{labels_for, group_at}
+use Rattle.pl_cross.specs.Arrays.{sid_in, IsArray, IsNumbered, IsLabelled, IsGroupArray, HasNumbers, Columns, AreArrays, AreNodeArrays, empty_number, section_at, section_in}
+use Rattle.pl_cross.proofs.Members.{not-own}
+use Rattle.pl_cross.proofs.Renaming.{map-twice, length-map, named, placed, cross-named}
+use Rattle.pl_cross.proofs.Codes.{present_code, same_numbers, same_labels}
+
+-- ---- lists by their places
+
+filter-and : {X : Type 0} (p q : X → Bool) (xs : List X) → filter p (filter q xs) ≡ filter (λ x. q x && p x) xs
+filter-and p q [] = refl
+filter-and p q (x ∷ xs) = here (q x) refl (filter-and p q xs)
+  where
+    here : (b : Bool) → q x ≡ b → filter p (filter q xs) ≡ filter (λ x. q x && p x) xs → filter p (filter q (x ∷ xs)) ≡ filter (λ x. q x && p x) (x ∷ xs)
+    here true e ih = rw (e, ih) refl
+    here false e ih = rw (e, ih) refl
+
+filter-map : {X Y : Type 0} (p : Y → Bool) (f : X → Y) (xs : List X) → filter p (map f xs) ≡ map f (filter (λ x. p (f x)) xs)
+filter-map p f [] = refl
+filter-map p f (x ∷ xs) = here (p (f x)) refl (filter-map p f xs)
+  where
+    here : (b : Bool) → p (f x) ≡ b → filter p (map f xs) ≡ map f (filter (λ x. p (f x)) xs) → filter p (map f (x ∷ xs)) ≡ map f (filter (λ x. p (f x)) (x ∷ xs))
+    here true e ih = rw (e, ih) refl
+    here false e ih = rw (e, ih) refl
+
+-- what two filtered lists of places give is one where each place gives one
+map-filter-range : {X : Type 0} (f g : ℕ → X) (p q : ℕ → Bool) (low n : ℕ) → ((j : ℕ) → low ≤ j → j < low + n → (p j ≡ q j) × (f j ≡ g j))
+    → map f (filter p (range_with_len low n)) ≡ map g (filter q (range_with_len low n))
+map-filter-range f g p q low zero h = refl
+map-filter-range f g p q low (suc n) h =
+    let own = h low (omega arith) (omega arith) in
+    here (q low) refl own.0 own.1 (map-filter-range f g p q (low + 1) n (λ j l m. h j (omega arith) (omega arith)))
+  where
+    here : (b : Bool) → q low ≡ b → p low ≡ q low → f low ≡ g low → map f (filter p (range_with_len (low + 1) n)) ≡ map g (filter q (range_with_len (low + 1) n))
+        → map f (filter p (low ∷ range_with_len (low + 1) n)) ≡ map g (filter q (low ∷ range_with_len (low + 1) n))
+    here true e same_test same ih = rw (same_test ∙ e, e, same, ih) refl
+    here false e same_test same ih = rw (same_test ∙ e, e, ih) refl
+
+map-range : {X : Type 0} (f g : ℕ → X) (low n : ℕ) → ((j : ℕ) → low ≤ j → f j ≡ g j) → map f (range_with_len low n) ≡ map g (range_with_len low n)
+map-range f g low zero h = refl
+map-range f g low (suc n) h =
+    let own : f low ≡ g low = h low (omega arith) in
+    let rest : map f (range_with_len (low + 1) n) ≡ map g (range_with_len (low + 1) n) = map-range f g (low + 1) n (λ j l. h j (omega arith)) in
+    rw (own, rest) refl
+
+-- a list by its places
+places : (xs : List ℕ) (low : ℕ) → xs ≡ map (λ j. get_or xs (j - low) 0) (range_with_len low (length xs))
+places [] low = refl
+places (x ∷ xs) low =
+    let zero_at : low - low ≡ 0 = omega arith in
+    let own : get_or (x ∷ xs) (low - low) 0 ≡ x = ap (λ j. get_or (x ∷ xs) j 0) zero_at in
+    let rest : map (λ j. get_or (x ∷ xs) (j - low) 0) (range_with_len (low + 1) (length xs)) ≡ xs
+    = map-range (λ j. get_or (x ∷ xs) (j - low) 0) (λ j. get_or xs (j - (low + 1)) 0) (low + 1) (length xs)
+    (λ j l. let e : j - low ≡ suc (j - (low + 1)) = omega arith in ap (λ m. get_or (x ∷ xs) m 0) e)
+    ∙ sym (places xs (low + 1)) in
+    rw (own, rest) refl
+
+-- ---- the sids as one rising function of all places
+
+abbrev pub name_at : List ℕ → ℕ → ℕ
+name_at sids j = if nat_lt j (length sids) then get_or sids j 0 else get_or sids (length sids - 1) 0 + 1 + j
+
+name_low : (sids : List ℕ) (j : ℕ) → j < length sids → name_at sids j ≡ get_or sids j 0
+name_low sids j h = let t : nat_lt j (length sids) ≡ true = grind (arith, nat_tests) in rw t refl
+
+name_high : (sids : List ℕ) (j : ℕ) → length sids ≤ j → name_at sids j ≡ get_or sids (length sids - 1) 0 + 1 + j
+name_high sids j h = let t : nat_lt j (length sids) ≡ false = grind (arith, nat_tests) in rw t refl
+
+last_most : (sids : List ℕ) → AllPairs (λ a b. a < b) sids → (j : ℕ) → j < length sids → get_or sids j 0 ≤ get_or sids (length sids - 1) 0
+last_most sids up j h = elim (cases_eq j (length sids - 1)) [
+  | inl p ↦ (let e = ap (λ m. get_or sids m 0) p in omega arith)
+  | inr p ↦ (let l : get_or sids j 0 < get_or sids (length sids - 1) 0 = up j (length sids - 1) 0 (omega arith) (omega arith) in omega arith)
+]
+
+lt_true : (a b : ℕ) → a < b → nat_lt a b ≡ true
+lt_true a b h = grind (arith, nat_tests)
+
+lt_false : (a b : ℕ) → b ≤ a → nat_lt a b ≡ false
+lt_false a b h = grind (arith, nat_tests)
+
+names_up : (sids : List ℕ) → AllPairs (λ a b. a < b) sids → (i j : ℕ) → i < j → name_at sids i < name_at sids j
+names_up sids up i j h = elim (cases_lt j (length sids)) [
+  | inl p ↦ (let l : get_or sids i 0 < get_or sids j 0 = up i j 0 h p in let a = name_low sids i (omega arith) in let b = name_low sids j p in omega arith)
+  | inr p ↦ elim (cases_lt i (length sids)) [
+    | inl q ↦ (let l = last_most sids up i q in let a = name_low sids i q in let b = name_high sids j p in omega arith)
+    | inr q ↦ (let a = name_high sids i q in let b = name_high sids j p in omega arith)
+  ]
+]
+
+names_rise : (sids : List ℕ) → AllPairs (λ a b. a < b) sids → (i j : ℕ) → nat_lt (name_at sids i) (name_at sids j) ≡ nat_lt i j
+names_rise sids up i j = elim (cases_lt i j) [
+  | inl p ↦ lt_true (name_at sids i) (name_at sids j) (names_up sids up i j p) ∙ sym (lt_true i j p)
+  | inr p ↦ lt_false (name_at sids i) (name_at sids j) (no_more j i p) ∙ sym (lt_false i j p)
+]
+  where
+    no_more : (j i : ℕ) → j ≤ i → name_at sids j ≤ name_at sids i
+    no_more j i p = elim (cases_eq j i) [
+      | inl e ↦ (let s = ap (name_at sids) e in omega arith)
+      | inr ne ↦ (let l = names_up sids up j i (omega arith) in omega arith)
+    ]
+
+same_tests : (a b c d : ℕ) → nat_lt a b ≡ nat_lt c d → nat_lt b a ≡ nat_lt d c → (a == b) ≡ (c == d)
+same_tests a b c d h k = grind (arith, nat_tests)
+
+same_entry : {a b : ℕ} {x y : ℤ} → a ≡ b → x ≡ y → (let e : Entry = (a, x) in e) ≡ (b, y)
+same_entry e f = rw (e, f) refl
+
+-- ---- whether an asset counts
+
+told : (w : World) (p : Part) (d : ℤ) (sids : List ℕ) (labels : List ℤ) → IsArray w p d sids labels → IsNumbered p d ⊎ IsLabelled w p d → (i j : ℕ) → i < length sids → j < length sids
+    → (is_present (number_of (now p (sid_in sids i) d)) && is_same (now p (sid_in sids i) d) (now p (sid_in sids j) d)) ≡ (is_present (at labels i) && int_eq (at labels i) (at labels j))
+told w p d sids labels holds classes i j h l =
+    here classes ∙ sym (ap (λ x. is_present x && int_eq x (at labels j)) (holds.each i h) ∙ ap (λ y. is_present (in_array w.texts (now p (sid_in sids i) d)) && int_eq (in_array w.texts (now p (sid_in sids i) d)) y) (holds.each j l))
+  where
+    here : IsNumbered p d ⊎ IsLabelled w p d
+        → (is_present (number_of (now p (sid_in sids i) d)) && is_same (now p (sid_in sids i) d) (now p (sid_in sids j) d))
+        ≡ (is_present (in_array w.texts (now p (sid_in sids i) d)) && int_eq (in_array w.texts (now p (sid_in sids i) d)) (in_array w.texts (now p (sid_in sids j) d)))
+    here (inl n) = same_numbers w.texts (now p (sid_in sids i) d) (now p (sid_in sids j) d) (n (sid_in sids i)) (n (sid_in sids j))
+    here (inr t) = same_labels w.texts (now p (sid_in sids i) d) (now p (sid_in sids j) d) (t (sid_in sids i)) (t (sid_in sids j))
+
+-- the group's array tells the groups apart
+groups_told : (w : World) (p : Part) (d : ℤ) (sids : List ℕ) (labels : Option (List ℤ)) → IsGroupArray w p d sids labels → (i j : ℕ) → i < length sids → j < length sids
+    → in_group p (sid_in sids i) d (sid_in sids j) ≡ same_group labels i j
+groups_told w Nothing d sids labels h i j l m = ap (λ o. same_group o i j) (sym h)
+groups_told w (Bars c) d sids None h i j l m = absurd h
+groups_told w (Values f) d sids None h i j l m = absurd h
+groups_told w (Bars c) d sids (Some labels) h i j l m = told w (Bars c) d sids labels h.0 h.1 i j l m
+groups_told w (Values f) d sids (Some labels) h i j l m = told w (Values f) d sids labels h.0 h.1 i j l m
+
+and-first : (a b c d : Bool) → (a && ((b && c) && d)) ≡ (((a && b) && c) && d)
+and-first true b c d = refl
+and-first false b c d = refl
+
+both-numbers : (v : Value) (texts : List (List ℕ)) → (x : ℤ) × (v ≡ Number x) → number_of v ≡ in_array texts v
+both-numbers v texts n = rw n.1 refl
+
+-- the input's numbers, where the kind looks at them
+told-numbers : (k : CrossKind) (x : Part) (d : ℤ) → HasNumbers k x d → (k ≡ PeerCount) ⊎ IsNumbered x d
+told-numbers (Rank m o) x d h = inr h
+told-numbers Demean x d h = inr h
+told-numbers ZScore x d h = inr h
+told-numbers (Quantiles b) x d h = inr h
+told-numbers (Top n) x d h = inr h
+told-numbers (Bottom n) x d h = inr h
+told-numbers (PercentileBetween a b) x d h = inr h
+told-numbers PeerCount x d h = inl refl
+
+-- ---- the lists of a session
+
+abbrev pub columns : List ℕ → List ℤ → List ℤ → Option (List ℤ) → Columns
+columns sids vs keep labels = record { sids = sids; values = vs; keep = keep; labels = labels }
+
+module _ (w : World) (k : CrossKind) (x mask group : Part) (d : ℤ) (sids : List ℕ) (vs keep : List ℤ) (labels : Option (List ℤ)) (s : AreArrays w k x mask group d (columns sids vs keep labels)) where
+  abbrev numbers : ℕ → ℤ
+  numbers j = number_of (now x (sid_in sids j) d)
+
+  abbrev counting : ℕ → List ℕ
+  counting i = filter (counts_at vs keep (labels_for k vs labels) i) (range_with_len 0 (length vs))
+
+  abbrev own : ℕ → List Entry
+  own i = eligible w x mask (group_of k x group) (sid_in sids i) d
+
+  counted : (i j : ℕ) → i < length sids → j < length sids
+      → (exists w (sid_in sids j) d && counts_for x mask (group_of k x group) (sid_in sids i) d (sid_in sids j)) ≡ counts_at vs keep (labels_for k vs labels) i j
+  counted i j h l =
+      and-first (exists w (sid_in sids j) d) (passes mask (sid_in sids j) d) (is_present (number_of (now x (sid_in sids j) d))) (in_group (group_of k x group) (sid_in sids i) d (sid_in sids j))
+      ∙ ap (λ b. (b && is_present (number_of (now x (sid_in sids j) d))) && in_group (group_of k x group) (sid_in sids i) d (sid_in sids j)) (sym (s.keep j l))
+      ∙ ap (λ b. (is_true (at keep j) && b) && in_group (group_of k x group) (sid_in sids i) d (sid_in sids j)) (present_code w.texts (now x (sid_in sids j) d) ∙ ap is_present (sym (s.values.each j l)))
+      ∙ ap (λ b. (is_true (at keep j) && is_present (at vs j)) && b) (groups_told w (group_of k x group) d sids (labels_for k vs labels) s.groups i j h l)
+
+  listed : (i : ℕ) → i < length sids → eligible w x mask (group_of k x group) (sid_in sids i) d ≡ named (name_at sids) numbers (counting i)
+  listed i h =
+      let cf : ℕ → Bool = counts_for x mask (group_of k x group) (sid_in sids i) d in
+      let ex : ℕ → Bool = λ b. exists w b d in
+      let sid : ℕ → ℕ = λ j. get_or sids (j - 0) 0 in
+      let en : ℕ → Entry = entry x d in
+      ap (λ l. map en (filter cf l)) s.all
+      ∙ ap (map en) (filter-and cf ex sids)
+      ∙ ap (λ l. map en (filter (λ b. ex b && cf b) l)) (places sids 0)
+      ∙ ap (map en) (filter-map (λ b. ex b && cf b) sid (range_with_len 0 (length sids)))
+      ∙ map-twice en sid (filter (λ j. ex (sid j) && cf (sid j)) (range_with_len 0 (length sids)))
+      ∙ map-filter-range (λ j. en (sid j)) (λ j. (let e : Entry = (name_at sids j, numbers j) in e)) (λ j. ex (sid j) && cf (sid j)) (counts_at vs keep (labels_for k vs labels) i) 0 (length sids)
+      (λ j l m.
+      let j_is : j - 0 ≡ j = omega arith in
+      let within : j < length sids = omega arith in (
+        ap (λ n. ex (get_or sids n 0) && cf (get_or sids n 0)) j_is ∙ counted i j h within,
+        ap (λ n. en (get_or sids n 0)) j_is ∙ same_entry (sym (name_low sids j within)) refl,
+      ))
+      ∙ ap (λ n. map (λ j. (let e : Entry = (name_at sids j, numbers j) in e)) (filter (counts_at vs keep (labels_for k vs labels) i) (range_with_len 0 n))) (sym s.values.long)
+
+  -- the asset is in its own list exactly where its place is among those that count
+  any_same : (i : ℕ) (js : List ℕ) → list_any (λ (e : Entry). e.0 == name_at sids i) (map (λ j. (let e : Entry = (name_at sids j, numbers j) in e)) js) ≡ list_any (λ (e : Entry). e.0 == i) (map (λ j. (let e : Entry = (j, at vs j) in e)) js)
+  any_same i [] = refl
+  any_same i (j ∷ js) =
+      let here : (name_at sids j == name_at sids i) ≡ (j == i) = same_tests (name_at sids j) (name_at sids i) j i (names_rise sids s.ascend j i) (names_rise sids s.ascend i j) in
+      let rest = any_same i js in
+      rw (here, rest) refl
+
+  crossed : (i : ℕ) → i < length sids → (k ≡ PeerCount) ⊎ IsNumbered x d
+      → cross k (named (name_at sids) numbers (counting i)) (name_at sids i) (numbers i)
+      ≡ cross k (placed (at vs) (counting i)) i (at vs i)
+  unfolding cross
+  crossed i h (inl peers) =
+      ap (λ q. cross q (named (name_at sids) numbers (counting i)) (name_at sids i) (numbers i)) peers
+      ∙ ap (λ n. pos (n * MILLION)) (length-map (λ j. (let e : Entry = (name_at sids j, numbers j) in e)) (counting i) ∙ sym (length-map (λ j. (let e : Entry = (j, at vs j) in e)) (counting i)))
+      ∙ ap (λ q. cross q (placed (at vs) (counting i)) i (at vs i)) (sym peers)
+  crossed i h (inr numbered) =
+      ap (λ l. cross k l (name_at sids i) (numbers i)) same_values
+      ∙ ap (λ v. cross k (named (name_at sids) (at vs) (counting i)) (name_at sids i) v) (value_is i h)
+      ∙ cross-named (name_at sids) (names_rise sids s.ascend) (at vs) (counting i) k i (at vs i)
+    where
+      value_is : (j : ℕ) → j < length sids → numbers j ≡ at vs j
+      value_is j l = both-numbers (now x (sid_in sids j) d) w.texts (numbered (sid_in sids j)) ∙ sym (s.values.each j l)
+
+      same_values : named (name_at sids) numbers (counting i) ≡ named (name_at sids) (at vs) (counting i)
+      same_values =
+          map-filter-range (λ j. (let e : Entry = (name_at sids j, numbers j) in e)) (λ j. (let e : Entry = (name_at sids j, at vs j) in e)) (counts_at vs keep (labels_for k vs labels) i) (counts_at vs keep (labels_for k vs labels) i) 0 (length vs)
+          (λ j l m. (refl, same_entry refl (value_is j (omega (arith, s.values.long)))))
+
+  -- what the definitions give for the assets that exist and pass the mask
+  section_is : (i : ℕ) (none : ℤ) → i < length sids
+      → (if list_any (λ (e : Entry). e.0 == sid_in sids i) (own i) then cross k (own i) (sid_in sids i) (numbers i) else none) ≡ cross_at k none vs keep (labels_for k vs labels) i
+  section_is i none h =
+      let list : List Entry = named (name_at sids) numbers (counting i) in
+      ap (λ l. if list_any (λ (e : Entry). e.0 == sid_in sids i) l then cross k l (sid_in sids i) (numbers i) else none) (listed i h)
+      ∙ ap (λ a. if list_any (λ (e : Entry). e.0 == a) list then cross k list a (numbers i) else none) (sym (name_low sids i h))
+      ∙ ap (λ b. if b then cross k list (name_at sids i) (numbers i) else none) (any_same i (counting i))
+      ∙ ap (λ v. if list_any (λ (e : Entry). e.0 == i) (entries_for vs keep (labels_for k vs labels) i) then v else none) (crossed i h (told-numbers k x d s.numbers))
+
+-- ---- values of terms
+
+empty-is : (k : CrossKind) → empty (Cross k) ≡ Number (empty_number k)
+empty-is k = here (is_cross_filter k)
+  where
+    here : (b : Bool) → (if b then Number (pos 0) else Number MISSING) ≡ Number (if b then pos 0 else MISSING)
+    here true = refl
+    here false = refl
+
+module _ (w : World) (names : List (List ℕ)) (k : CrossKind) (size : ℕ) (x y z mask group : Part) (d : ℤ) (sids : List ℕ) (vs keep : List ℤ) (labels : Option (List ℤ)) (s : AreArrays w k x mask group d (columns sids vs keep labels)) where
+  abbrev sid : ℕ → ℕ
+  sid i = sid_in sids i
+
+  abbrev list : ℕ → List Entry
+  list i = eligible w x mask (group_of k x group) (sid_in sids i) d
+
+  kept-value : (i : ℕ) → i < length sids → step w names (Cross k) size x y z mask group (sid_in sids i) d ≡ Number (section_at k vs keep labels i)
+  unfolding step
+  kept-value i h =
+      ap (λ v. if list_any (λ (e : Entry). e.0 == sid i) (list i) then Number (cross k (list i) (sid i) (number_of (now x (sid i) d))) else v) (empty-is k)
+      ∙ inside (list_any (λ (e : Entry). e.0 == sid i) (list i)) (cross k (list i) (sid i) (number_of (now x (sid i) d))) (empty_number k)
+      ∙ ap Number (section_is w k x mask group d sids vs keep labels s i (empty_number k) h)
+    where
+      inside : (b : Bool) (u v : ℤ) → (if b then Number u else Number v) ≡ Number (if b then u else v)
+      inside true u v = refl
+      inside false u v = refl
+
+  -- an asset that is not kept is not listed
+  left-out : (i : ℕ) → i < length sids → (exists w (sid_in sids i) d && passes mask (sid_in sids i) d) ≡ false → section_at k vs keep labels i ≡ empty_number k
+  left-out i h out = not-own k (empty_number k) vs keep (labels_for k vs labels) i (ap (λ b. b && (is_present (at vs i) && is_present (group_at (labels_for k vs labels) i))) (s.keep i h ∙ out))
+
+  pub part-value : (i : ℕ) → i < length sids
+      → (if exists w (sid_in sids i) d && passes mask (sid_in sids i) d then step w names (Cross k) size x y z mask group (sid_in sids i) d else empty (Cross k))
+      ≡ Number (section_at k vs keep labels i)
+  part-value i h = here (exists w (sid_in sids i) d && passes mask (sid_in sids i) d) refl
+    where
+      here : (b : Bool) → (exists w (sid_in sids i) d && passes mask (sid_in sids i) d) ≡ b
+          → (if b then step w names (Cross k) size x y z mask group (sid_in sids i) d else empty (Cross k)) ≡ Number (section_at k vs keep labels i)
+      here true e = kept-value i h
+      here false e = empty-is k ∙ ap Number (sym (left-out i h e))
+
+pub term-value : (w : World) (names : List (List ℕ)) (k : CrossKind) (size : ℕ) (x y z mask group : Term) (d : ℤ) (c : Columns)
+    → AreArrays w k (part_of x (value w names x)) (part_of mask (value w names mask)) (part_of group (value w names group)) d c
+    → (i : ℕ) → i < length c.sids → value w names (node (Cross k) size x y z mask group) (sid_in c.sids i) d ≡ Number (section_in k c i)
+unfolding value
+term-value w names k size x y z mask group d c s i h =
+    part-value w names k size (part_of x (value w names x)) (part_of y (value w names y)) (part_of z (value w names z)) (part_of mask (value w names mask)) (part_of group (value w names group))
+    d c.sids c.values c.keep c.labels s i h
+
+pub node-value : (w : World) (names : List (List ℕ)) (g : Graph) (t : ℕ) (n : Node) (k : CrossKind) (d : ℤ) (c : Columns)
+    → IsGraph g → slice_get g t ≡ Some n → n.kind ≡ Cross k → AreNodeArrays w names g n k d c
+    → (i : ℕ) → i < length c.sids → meaning_of w names g t (sid_in c.sids i) d ≡ Number (section_in k c i)
+node-value w names g t n k d c ok e kind s i h =
+    let a : ℕ = sid_in c.sids i in
+    let mask : Part = number_part w names g n.mask in
+    value_at-node w names g ok t n e a d
+    ∙ ap (λ q. if exists w a d && passes mask a d
+    then step w names q n.window (input_part w names g (slice_get n.inputs 0)) (input_part w names g (slice_get n.inputs 1)) (input_part w names g (slice_get n.inputs 2)) mask (number_part w names g n.group) a d
+    else empty (sort_over q (sort_kind (input_tree (trees g) (slice_get n.inputs 0))))) kind
+    ∙ part-value w names k n.window (input_part w names g (slice_get n.inputs 0)) (input_part w names g (slice_get n.inputs 1)) (input_part w names g (slice_get n.inputs 2)) mask (number_part w names g n.group)
+    d c.sids c.values c.keep c.labels s i h
