@@ -1,4 +1,4 @@
-use crate::plain_script::plain_columns;
+use pl_plain::plain_columns;
 use pl_model::PlainTerm;
 use pl_spec::Column;
 use pl_syntax::parse;

@@ -2,7 +2,7 @@
 ghost use Rattle.std.specs.Prelude.{◌≡◌, ◌<◌, IfOk};
 ghost use Rattle.pl_outside.specs.Lists.{IsAscending};
 
-use crate::run_program;
+use pl_cli::run_program;
 use pl_fixed::Steps;
 use pl_outside::{MemoryKeeper, MemoryShelf, MemorySink, RawAdjust};
 use std::alloc::Global;

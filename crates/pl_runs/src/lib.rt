@@ -1,0 +1,11 @@
+//! Runs of the program over parts in memory: tests alone.
+#![tactic(auto)]
+
+#[cfg(test)]
+mod plain_tests;
+#[cfg(test)]
+mod refusal_tests;
+#[cfg(test)]
+mod test_runs;
+#[cfg(test)]
+mod tests;
