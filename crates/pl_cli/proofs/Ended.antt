@@ -94,7 +94,6 @@ seen taken sound room old new files lists shelf keeper before now =
 -- the text is written, or after a prefix it isn't
 module _ {O : Type 0} (taken : O → Option (List ℕ)) (faults : O → ℕ) (sound : O → Bool) (room : O → ℕ) (old new : O)
     (tells : Option Files) (lists : Option Lists) (shelf keeper : Bool) (before now : ℕ) where
-
   ends-written : (held : Contents) (asked : Option Request) (r : Result (Unit {0}) Fault) → AreHeld tells lists asked held → first_fault (work held asked) ≡ None
       → Writes taken faults sound room old new (text_of held asked) r → IfErr r (λ f. f ≡ Unwritten)
       → OnOk r (now ≡ before + cost_of held asked) → now ≤ before + cost_of held asked

@@ -7,7 +7,7 @@ use Rattle.pl_spec.specs.Term.{Term}
 use Rattle.pl_spec.specs.Term.Term.{node}
 use Rattle.pl_spec.specs.Value.{passes, part_of, name_at, label_value, step, value}
 use Rattle.pl_spec.specs.Value.Value.{Number}
-use Rattle.pl_spec.proofs.Sorts.{In, in-contains}
+use Rattle.pl_spec.proofs.Members.{In, in-contains}
 use Rattle.pl_cross.specs.Arrays.{HasTexts}
 use Rattle.pl_cross.proofs.Members.{in-filter}
 use Rattle.pl_cross.proofs.Codes.{IsCoded}

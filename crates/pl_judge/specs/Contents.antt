@@ -16,6 +16,6 @@ pub record Contents : Type 0 where
 -- They are what the parts hold under the names of the words, wherever the parts tell.
 pub record AreHeld (files : Option Files) (lists : Option Lists) (asked : Option Request) (held : Contents) : Type 0 where
   pub files_held : (file : InputFile)
-    → ForSome (name_asked asked file) (λ name. ForSome files (λ told. held.file file ≡ told name))
+      → ForSome (name_asked asked file) (λ name. ForSome files (λ told. held.file file ≡ told name))
   pub rows_held : (table : Table)
-    → ForSome (adjustments_of asked) (λ name. ForSome lists (λ told. held.rows table ≡ told name table))
+      → ForSome (adjustments_of asked) (λ name. ForSome lists (λ told. held.rows table ≡ told name table))

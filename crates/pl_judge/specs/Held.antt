@@ -76,7 +76,6 @@ days_held held = days_in (held.file Sessions)
 abbrev pub assets_held : Contents → List AssetRow
 assets_held held = assets_in (held.file Assets)
 
-
 abbrev pub bars_held : Contents → List BarRow
 bars_held held = bars_in (days_held held) (assets_held held) (held.file Bars)
 

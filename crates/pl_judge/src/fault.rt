@@ -61,7 +61,10 @@ pub enum Fault {
     /// The words have none of the commands' forms.
     Usage,
     /// The pipeline file has this fault of syntax at this place.
-    Syntax { place: Place, fault: SyntaxFault },
+    Syntax {
+        place: Place,
+        fault: SyntaxFault,
+    },
     /// The pipeline file has a form that is not computed yet.
     Unbuilt,
     /// The record of this number breaks a rule of its file.
@@ -81,7 +84,9 @@ pub enum Fault {
     /// The first date is after the second.
     Backwards,
     /// The columns show bars of a session before the first one, at this number.
-    TooEarly { reach: i64 },
+    TooEarly {
+        reach: i64,
+    },
     /// There is more than a limit allows.
     Passed(Limit),
     /// The file could not be read.

@@ -37,23 +37,29 @@ pub fn write_line<E: Sink>(
             write_named(err, "range: TooEarly ", buffer.format(reach))
         }
         Fault::Syntax { place, fault } => {
-            write_syntax(err, name_asked(asked, InputFile::Pipeline), place, fault.name())
+            write_syntax(
+                err,
+                name_asked(asked, InputFile::Pipeline),
+                place,
+                fault.name(),
+            )
         }
         Fault::Data { file, line, fault } => {
             write_data(err, name_asked(asked, file), line, fault.name())
         }
         Fault::Row { table, id, fault } => {
-            write_row(err, adjustments_asked(asked), table_name(table), id, fault.name())
+            write_row(
+                err,
+                adjustments_asked(asked),
+                table_name(table),
+                id,
+                fault.name(),
+            )
         }
     }
 }
 
-fn write_syntax<E: Sink>(
-    err: &mut E,
-    name: &str,
-    place: Place,
-    fault: &str,
-) -> Result<(), Failed>
+fn write_syntax<E: Sink>(err: &mut E, name: &str, place: Place, fault: &str) -> Result<(), Failed>
     ensures { Writes E.taken E.faults E.sound E.room err.old err.new
         (name.now ++ codes ":" ++ decimal place.line ++ codes ":" ++ decimal place.col ++ codes ": syntax "
         ++ fault.now ++ 10 ∷ []) result }
@@ -69,7 +75,10 @@ fn write_data<E: Sink>(err: &mut E, name: &str, line: u32, fault: &str) -> Resul
         (name.now ++ codes ":" ++ decimal line ++ codes ": data " ++ fault.now ++ 10 ∷ []) result }
 {
     let mut buffer = Buffer::new();
-    write_pieces(err, &[name, ":", buffer.format(line), ": data ", fault, "\n"])
+    write_pieces(
+        err,
+        &[name, ":", buffer.format(line), ": data ", fault, "\n"],
+    )
 }
 
 fn write_row<'a, E: Sink>(
@@ -84,7 +93,19 @@ fn write_row<'a, E: Sink>(
         result }
 {
     let mut buffer = Buffer::new();
-    write_pieces(err, &[name, ":", table, ":", buffer.format(id), ": data ", fault, "\n"])
+    write_pieces(
+        err,
+        &[
+            name,
+            ":",
+            table,
+            ":",
+            buffer.format(id),
+            ": data ",
+            fault,
+            "\n",
+        ],
+    )
 }
 
 // Writes a line of two parts.

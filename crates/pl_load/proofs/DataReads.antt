@@ -59,7 +59,6 @@ abbrev IsTold : Option Files → Option (List ℕ) → Option (List ℕ) → Typ
 IsTold tells name file = ForSome name (λ n. ForSome tells (λ files. file ≡ files n))
 
 module _ (tells : Option Files) (lists : Option Lists) (sound keeper : Bool) (q : RunRequest) where
-
   -- the pipeline file was read before, and matters nothing here
   abbrev data_held : (sessions assets labels bars : Option (List ℕ)) → (Table → List RawAdjust) → Contents
   data_held sessions assets labels bars rows = record { file = files_by (held_under tells (Some q.pipeline)) sessions assets labels bars; rows = rows }

@@ -42,7 +42,6 @@ unfolding data_steps
 same-steps pipeline held q = refl
 
 module _ (tells : Option Files) (lists : Option Lists) (sound keeper : Bool) (q : RunRequest) where
-
   by-file : (pipeline : Option (List ℕ)) (held : Contents) → ForSome (Some q.pipeline) (λ n. ForSome tells (λ told. pipeline ≡ told n)) → AreHeld tells lists (Some (Run q)) held
       → (file : InputFile) → ForSome (name_asked (Some (Run q)) file) (λ name. ForSome tells (λ told. file_with pipeline held.file file ≡ told name))
   by-file pipeline held p h Pipeline = p

@@ -116,6 +116,9 @@ fn put_cells<L: Ledger>(
     ensures cost { steps.new ≡ steps.old + sum_by (λ c. steps_of (world_of table.now.world) c.term (sid_at table.now.world.assets.now col) (pos session)) table.now.columns.now }
 {
     for column in table.columns {
-        put_cell(line, plain_cell(&table.world, column.term, col, session, steps));
+        put_cell(
+            line,
+            plain_cell(&table.world, column.term, col, session, steps),
+        );
     }
 }
