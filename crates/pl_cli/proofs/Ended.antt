@@ -166,7 +166,7 @@ module _ {O : Type 0} (taken : O → Option (List ℕ)) (faults : O → ℕ) (so
 
   pub script-written : {S : Type 0} (name : List ℕ) (script : S) (said : S → List Statement) (bytes : List ℕ) (r : Result (Unit {0}) Fault) → now ≡ before
       → IsRead tells shelf (Some name) (λ held. syntax_step held ∷ []) (λ held x. statements_read held ≡ said x) (Ok script)
-      → bytes ≡ script_text (said script) → Writes taken faults sound room old new bytes r → IfErr r (λ f. f ≡ Unwritten)
+      → bytes ≡ script_text 1 (said script) → Writes taken faults sound room old new bytes r → IfErr r (λ f. f ≡ Unwritten)
       → IsEnded (seen taken sound room old new tells lists shelf keeper before now) (Some (Fmt name)) r
   unfolding work text_of cost_of
   script-written name script said bytes r same h text w is =

@@ -28,7 +28,7 @@ run_text held q =
 unfoldable pub text_of : Contents → Option Request → List ℕ
 text_of held None = []
 text_of held (Some (Run q)) = run_text held q
-text_of held (Some (Fmt name)) = script_text (statements_read (held.file PipelineFile))
+text_of held (Some (Fmt name)) = script_text 1 (statements_read (held.file PipelineFile))
 
 -- the steps of the cells of a run: one each time that an adjustment changes a cell of a window
 abbrev pub run_cost : Contents → RunRequest → ℕ

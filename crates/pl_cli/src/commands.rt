@@ -91,6 +91,8 @@ pub fn fmt_command<S: Shelf, O: Sink>(
     ensures out { LeavesSink O.sound O.faults out.old out.new }
 {
     let script = read_script(alloc, shelf, name)?;
+    // a script that was read is of the one version of the language
+    let _version = script.version();
     let text = print(alloc, &script)?;
     match write_bytes(out, &text) {
         Ok(()) => Ok(()),

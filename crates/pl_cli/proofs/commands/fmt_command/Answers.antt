@@ -1,7 +1,7 @@
-use Rattle.std.proofs.Common.{refl}
+use Rattle.std.proofs.Common.{◌≡◌, ◌∙◌, sym, refl}
 use Rattle.std.proofs.lemmas.Result.{err_from_is_err_and}
 use Rattle.pl_syntax.specs.declared.script.Script.{Script}
-use Rattle.pl_syntax.specs.Scripts.{statements_in}
+use Rattle.pl_syntax.specs.Scripts.{statements_in, version_in}
 use Rattle.pl_syntax.specs.Statements.{statements_of}
 use Rattle.pl_cli.proofs.Ended.{script-stops, no-text, script-written}
 use Rattle.pl_cli.proofs.commands.fmt_command.Goals as goal
@@ -22,14 +22,18 @@ returns-in_err-text-clause-ended g c = λ lists sound steps.
 
 pub returns-in-Ok-clause-ended : goal.returns-in-Ok-clause-ended
 returns-in-Ok-clause-ended g c = λ lists sound steps.
+    let one : version_in c.in_ok-script.script ≡ 1 = sym c.version-version.ensures.value ∙ c.version-version.ensures.known in
+    let text = rw one at c.in_ok-text.ensures.text in
     let w = rw c.deref.ensures.value at c.in-Ok.ensures.writes in
     script-written g.O.Sink.taken g.O.Sink.faults g.O.Sink.sound g.O.Sink.room c.args.out.now c.write_bytes.new.out _ lists _ sound steps steps c.args.name.now _
-    (λ (s : Script). statements_of (statements_in s)) _ _ refl c.in_ok-script.ensures.read c.in_ok-text.ensures.text
+    (λ (s : Script). statements_of (statements_in s)) _ _ refl c.in_ok-script.ensures.read text
     (record { all = w.all; prefix = tt; failed = tt; later = w.later; stays = w.stays; room_left = w.room_left; blameless = w.blameless }) tt
 
 pub returns-clause-ended : goal.returns-clause-ended
 returns-clause-ended g c = λ lists sound steps.
+    let one : version_in c.in_ok-script.script ≡ 1 = sym c.version-version.ensures.value ∙ c.version-version.ensures.known in
+    let text = rw one at c.in_ok-text.ensures.text in
     let w = rw c.deref.ensures.value at c.in-Err.ensures.writes in
     script-written g.O.Sink.taken g.O.Sink.faults g.O.Sink.sound g.O.Sink.room c.args.out.now c.write_bytes.new.out _ lists _ sound steps steps c.args.name.now _
-    (λ (s : Script). statements_of (statements_in s)) _ _ refl c.in_ok-script.ensures.read c.in_ok-text.ensures.text
+    (λ (s : Script). statements_of (statements_in s)) _ _ refl c.in_ok-script.ensures.read text
     (record { all = tt; prefix = w.prefix; failed = w.failed; later = w.later; stays = w.stays; room_left = λ s. tt; blameless = λ s r. absurd (cc (w.blameless s r).0) }) refl
