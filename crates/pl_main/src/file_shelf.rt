@@ -11,7 +11,7 @@ use std::io::Read;
 pub struct FileShelf<'a> {
     rt: &'a HostRuntime,
     file: Option<File>,
-    faults: u64,
+    pub(crate) faults: u64,
 }
 
 impl<'a> FileShelf<'a> {

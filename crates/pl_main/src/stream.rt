@@ -1,15 +1,15 @@
 // Standard output and standard error.
-ghost use Rattle.std.specs.Prelude.{◌≡◌, None, false};
-ghost use Rattle.pl_outside.specs.Counts.{count_end, count_plus};
+ghost use Rattle.std.specs.Prelude.{◌≡◌, None, OnOk, false};
+ghost use Rattle.pl_outside.specs.Counts.{HasCause, count_end, count_plus};
 
 use pl_outside::{Failed, Sink};
-use std::io::{self, Write};
+use std::io::Write;
 
 /// A writer of the system as a sink. It tells nothing but its faults.
 #[derive(Drop)]
 pub struct Stream<W: Write + Drop> {
     to: W,
-    faults: u64,
+    pub(crate) faults: u64,
 }
 
 impl<W: Write + Drop> Stream<W> {
@@ -21,8 +21,14 @@ impl<W: Write + Drop> Stream<W> {
     }
 
     /// Writes what is gathered.
-    pub fn flush(&mut self) -> io::Result<()> {
-        self.to.flush()
+    pub fn flush(&mut self) -> Result<(), Failed>
+        ensures cause { HasCause self.old.faults self.new.faults result }
+        ensures quiet { OnOk result (self.new.faults ≡ self.old.faults) }
+    {
+        match self.to.flush() {
+            Ok(()) => Ok(()),
+            Err(_) => Err(self.failed()),
+        }
     }
 
     fn failed(&mut self) -> Failed

@@ -1,0 +1,97 @@
+// The adapters over files of the system: as it should be, and where the system refuses.
+use super::*;
+use pl_outside::{Failed, ReadError, Shelf, read_file};
+use std::alloc::AllocError;
+use std::fs::{self, File, OpenOptions};
+use std::test::Fail;
+
+/// The words as texts of their own.
+fn owned(rt: &HostRuntime, words: &[&str]) -> Result<Vec<String>, AllocError> {
+    let mut all = Vec::new(rt.alloc());
+    for word in words {
+        all.push(String::from_str(rt.alloc(), word)?)?;
+    }
+    Ok(all)
+}
+
+/// The device on which each write fails, since it is always full.
+fn full(rt: &HostRuntime) -> io::Result<File> {
+    OpenOptions::new().write(true).open(rt, "/dev/full")
+}
+
+#[test]
+fn reads_files(rt: HostRuntime) -> Result<(), Fail> {
+    fs::write(&rt, "ten", "0123456789")?;
+    let mut shelf = FileShelf::new(&rt);
+    shelf.begin("ten").or(Err("ten"))?;
+    let mut into = [0u8; 4];
+    for (count, left) in [(4, b"0123"), (4, b"4567"), (2, b"8967"), (0, b"8967")] {
+        assert_eq!(rt; shelf.next(&mut into), Ok(count));
+        assert_eq!(rt; into.as_slice(), left.as_slice());
+    }
+    let again = read_file(rt.alloc(), &mut shelf, "ten", 10).or(Err("again"))?;
+    assert_eq!(rt; again.as_slice(), b"0123456789".as_slice());
+    assert_eq!(rt; shelf.faults, 0);
+    Ok(())
+}
+
+#[test]
+fn counts_failed_reads(rt: HostRuntime) -> Result<(), Fail> {
+    fs::write(&rt, "one", "1")?;
+    let mut shelf = FileShelf::new(&rt);
+    let mut into = [7u8; 4];
+    shelf.begin("one").or(Err("one"))?;
+    // a file that isn't there, behind which no file is begun
+    assert_eq!(rt; shelf.begin("no-such-file"), Err(Failed));
+    assert_eq!(rt; shelf.faults, 1);
+    assert_eq!(rt; shelf.next(&mut into), Ok(0));
+    // a folder is opened as a file is, and then has no bytes to read
+    shelf.begin(".").or(Err("folder"))?;
+    assert_eq!(rt; shelf.next(&mut into), Err(Failed));
+    assert_eq!(rt; shelf.faults, 2);
+    assert_eq!(rt; into.as_slice(), [7, 7, 7, 7].as_slice());
+    for name in ["no-such-file", "."] {
+        let read = read_file(rt.alloc(), &mut shelf, name, 10);
+        assert_eq!(rt; read.err(), Some(ReadError::Failed), "{name}");
+    }
+    assert_eq!(rt; shelf.faults, 4);
+    Ok(())
+}
+
+#[test]
+fn counts_failed_writes(rt: HostRuntime) -> Result<(), Fail> {
+    let mut held = Stream::new(fs::create(&rt, "held")?);
+    assert_eq!(rt; write_bytes(&mut held, b"row"), Ok(()));
+    assert_eq!(rt; held.faults, 0);
+    assert_eq!(rt; fs::read_to_string(&rt, "held")?.as_str(), "row");
+    let mut direct = Stream::new(full(&rt)?);
+    assert_eq!(rt; write_bytes(&mut direct, b"row"), Err(Failed));
+    assert_eq!(rt; direct.faults, 1);
+    // what is gathered fails as late as it is written, which changes status 0 alone
+    for (status, left) in [(0, 9), (7, 7)] {
+        let mut gathered = Stream::new(BufWriter::with_capacity(rt.alloc(), 8, full(&rt)?)?);
+        assert_eq!(rt; write_bytes(&mut gathered, b"row"), Ok(()));
+        assert_eq!(rt; gathered.faults, 0);
+        assert_eq!(rt; flushed(&mut gathered, &mut direct, status), left);
+        assert_eq!(rt; gathered.faults, 1);
+    }
+    Ok(())
+}
+
+#[test]
+fn statuses_without_standard_error(rt: HostRuntime) -> Result<(), Fail> {
+    fs::write(&rt, "p.pl", "pipeline 1;\ncolumn c = close.latest;\n")?;
+    for (words, status) in [
+        (["fmt", "p.pl"], 9),
+        (["fmt", "no-such-file"], 7),
+        (["fmt", "."], 7),
+        (["format", "p.pl"], 2),
+    ] {
+        let words = owned(&rt, &words)?;
+        let (mut out, mut err) = (Stream::new(full(&rt)?), Stream::new(full(&rt)?));
+        let left = run::<Brand, _, _>(&rt, &words, &mut out, &mut err, Blank::new(1));
+        assert_eq!(rt; left, status);
+        assert_eq!(rt; err.faults, 1, "at {status}");
+    }
+    Ok(())
+}
