@@ -1,5 +1,5 @@
-use pl_plain::plain_columns;
 use pl_model::PlainTerm;
+use pl_plain::plain_columns;
 use pl_spec::Column;
 use pl_syntax::parse;
 use std::test::Fail;
