@@ -111,8 +111,8 @@ impl AdjustKeeper for RecordedKeeper {
     ghost lists_ascend = { Prim.search rules };
 }
 
-/// The pieces taken, each with a bar behind it. The call of one number fails, or none where that is 0. It tells nothing
-/// but its faults.
+/// The pieces taken, each with a bar behind it. The call of this number fails, or none where it is 0. It
+/// tells nothing but its faults.
 #[derive(Drop)]
 struct RecordedSink {
     pieces: Vec<u8>,

@@ -184,7 +184,8 @@ pub(crate) fn run_over(
     make_left(alloc, status, out.bytes(), err.bytes())
 }
 
-/// What a run of these words leaves over the base files, with this one in the place of one of them, and these rows.
+/// What a run of these words leaves over the base files, with this one in the place of one of them, and these
+/// rows.
 pub(crate) fn answer(
     alloc: Global,
     words: &[String],
