@@ -4,7 +4,8 @@
 //! are trusted: what a file holds and what a stream shows, no clause can say.
 #![tactic(auto)]
 
-ghost use Rattle.std.specs.Prelude.{◌≡◌, ◌<◌};
+ghost use Rattle.std.specs.Prelude.{◌≡◌, ◌<◌, ◌↔◌};
+ghost use Rattle.std.specs.IoError.{error_kind};
 ghost use Rattle.std.specs.Process.{exit_status};
 ghost use Rattle.pl_outside.specs.Counts.{Rose};
 
@@ -76,7 +77,9 @@ fn words(rt: &HostRuntime) -> Result<Vec<String>, WordsError> {
 }
 
 // The system's words fail by want of memory or by their bytes alone.
-fn why_no_words(error: &io::Error) -> WordsError {
+fn why_no_words(error: &io::Error) -> WordsError
+    ensures { result ≡ WordsError.Memory ↔ (error_kind error.now ≡ ErrorKind.OutOfMemory) }
+{
     match error.kind() {
         ErrorKind::OutOfMemory => WordsError::Memory,
         _ => WordsError::NotText,
