@@ -63,27 +63,27 @@ impl<T: Drop> From<AllocFailed<T>> for WordsError {
     }
 }
 
-// The system's words fail by want of memory or by their bytes alone.
-impl From<io::Error> for WordsError {
-    ghost use Rattle.pl_main.specs.declared.WordsError.TheVariants.{Memory};
-
-    ghost from_gives = { λ error e. e ≡ Memory ↔ (error_kind error ≡ ErrorKind.OutOfMemory) };
-
-    fn from(error: io::Error) -> WordsError {
-        match error.kind() {
-            ErrorKind::OutOfMemory => WordsError::Memory,
-            _ => WordsError::NotText,
-        }
-    }
-}
-
 /// The words after the program's name.
 fn words(rt: &HostRuntime) -> Result<Vec<String>, WordsError> {
+    let args = match env::args(rt) {
+        Ok(args) => args,
+        Err(error) => return Err(why_no_words(&error)),
+    };
     let mut words = Vec::new(rt.alloc());
-    for word in env::args(rt)?.skip(1) {
+    for word in args.skip(1) {
         words.push(word)?;
     }
     Ok(words)
+}
+
+// The system's words fail by want of memory or by their bytes alone.
+fn why_no_words(error: &io::Error) -> WordsError
+    ensures { result ≡ WordsError.Memory ↔ (error_kind error.now ≡ ErrorKind.OutOfMemory) }
+{
+    match error.kind() {
+        ErrorKind::OutOfMemory => WordsError::Memory,
+        _ => WordsError::NotText,
+    }
 }
 
 /// Tells why nothing was run. The status is the same where that can't be told.
