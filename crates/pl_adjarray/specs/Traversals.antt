@@ -16,10 +16,10 @@ abbrev pub advances : Traversal → ℕ
 advances t = if t.session == t.array.first then 0 else t.session + 1 - (t.array.first + t.window)
 
 -- the cells are as they are seen on session d, and the steps up to it were counted
-pub record IsSeen (b : Buffered) (cells : List ℤ) (d applied : ℕ) : Type 0 where
-  pub seen : AreSeen b cells d
-  pub cells : HasCells b cells
-  pub size : length cells ≡ b.rows * length b.cols
+pub record IsSeen (b : Buffered) (held : List ℤ) (d applied : ℕ) : Type 0 where
+  pub seen : AreSeen b held d
+  pub cells : HasCells b held
+  pub size : length held ≡ b.rows * length b.cols
   pub from : b.first ≤ d
   pub to : d ≤ b.first + b.rows
   pub tally : cut applied ≡ cut (applied_at b d)

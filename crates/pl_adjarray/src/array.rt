@@ -11,13 +11,13 @@ use std::marker::Model;
 /// One column of the bars of some assets on `rows` sessions from `first` on, and what adjusts it.
 #[derive(Drop)]
 pub struct AdjustedArray<'a> {
-    bars: &'a Bars,
-    adjustments: &'a Adjustments,
+    pub(crate) bars: &'a Bars,
+    pub(crate) adjustments: &'a Adjustments,
     pub(crate) sessions: &'a Sessions,
-    column: Column,
+    pub(crate) column: Column,
     pub(crate) first: usize,
     pub(crate) rows: usize,
-    cols: &'a [u32],
+    pub(crate) cols: &'a [u32],
 }
 
 impl<'a> Model for AdjustedArray<'a> {
