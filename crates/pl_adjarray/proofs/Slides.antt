@@ -1,5 +1,5 @@
 -- A buffer that goes to the next session: its rows, and a window of them.
-use Rattle.std.proofs.Common.{[], All, length-take, length-drop, ◌≡◌, ℕ, ◌+◌, ◌-◌, ◌*◌, ◌<◌, ◌≤◌, ℤ, pos, ◌+ℤ◌, ◌≤ℤ◌, List, length, get_or, take, drop, Some, slice_get, refl, sym, ◌∙◌, ap, arith, inl, inr, subst, sum_by}
+use Rattle.std.proofs.Common.{[], All, length-take, length-drop, ◌≡◌, ℕ, ◌+◌, ◌-◌, ◌*◌, ◌<◌, ◌≤◌, ℤ, pos, ◌+ℤ◌, ◌≤ℤ◌, List, length, get_or, take, drop, Some, slice_get, sym, ◌∙◌, ap, arith, inl, inr, subst, sum_by}
 use Rattle.std.proofs.lemmas.Int.{ints}
 use Rattle.std.proofs.lemmas.List.{get_or_default, get_or-take, get_or-drop}
 use Rattle.std.proofs.lemmas.Option.{get_or_from_slice_get, slice_get_within, slice_get-get_or}

@@ -3,7 +3,6 @@ use Rattle.std.proofs.lemmas.Int.{to_z-of_z}
 use Rattle.pl_spec.specs.Window.{effect, effects_in}
 use Rattle.pl_spec.specs.World.{events_of}
 use Rattle.pl_adjust.specs.Events.{effects_of}
-use Rattle.pl_adjust.specs.Columns.{events_at}
 use Rattle.pl_adjarray.specs.Buffered.{Buffered, HasCells, col_at, world_of}
 use Rattle.pl_adjarray.specs.Inside.{buffered_of}
 use Rattle.pl_adjarray.proofs.ColumnWorlds.{own_events}
