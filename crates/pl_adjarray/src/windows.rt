@@ -44,6 +44,8 @@ impl<'s> Windows<'s> {
         // The session is the first with a whole window plus the number of the earlier advances.
         ensures session { IsTrue result → self.new.session
             ≡ self.old.array.first + self.old.window + advances self.old }
+        ensures rises { IsTrue result → self.old.session < self.new.session }
+        ensures within { self.new.session ≤ self.old.array.first + self.old.array.rows }
         ensures goes { advances self.old + self.old.window ≤ self.old.array.rows → IsTrue result }
         ensures end { (result ≡ false)
             ↔ (self.old.session ≡ self.old.array.first + self.old.array.rows) }

@@ -37,8 +37,8 @@ loop-i-preserved g c =
     let es = λ (bar : ℤ). effects_of b.column bar c.events_between-events.result.now in
     let between = simp to_z-of_z at c.events_between-events.ensures in
     let own : (bar : ℤ) → es bar ≡ effects_in b.column bar c.args.from c.args.to (events_of (world_of b) (col_at b i)) = λ bar.
-        ap (filter_map (effect b.column bar)) between
-        ∙ ap (effects_in b.column bar c.args.from c.args.to) (sym (own_events b.days b.bars b.adjustments (col_at b i))) in
+    ap (filter_map (effect b.column bar)) between
+    ∙ ap (effects_in b.column bar c.args.from c.args.to) (sym (own_events b.days b.bars b.adjustments (col_at b i))) in
     let before : AreSlid c.args.array.now c.args.older c.args.from c.args.to i c.args.scratch.now c.loop-i.scratch c.args.steps.now c.loop-i.steps c.args.applied.now c.loop-i.applied = simp to_z-of_z at c.loop-i.invariant in
     let P : Buffered → Type 0 = λ b. AreSlid b c.args.older c.args.from c.args.to i c.args.scratch.now c.loop-i.scratch c.args.steps.now c.loop-i.steps c.args.applied.now c.loop-i.applied in
     let Q : Buffered → Type 0 = λ b. AreSlid b c.args.older c.args.from c.args.to (i + 1) c.args.scratch.now c.slide.new.cells c.args.steps.now c.slide.new.steps c.args.applied.now c.slide.new.applied in
