@@ -133,7 +133,7 @@ pub record IsDeepest (days : List ℤ) (p : Pipeline) (from to n : ℕ) : Type 0
   pub within : (from ≤ session) × (session ≤ to)
   pub is_low : IsLow days p.graph (outputs p) (pos session) term low
   pub is : pos session -ℤ low ≡ pos n
-  pub most : (t s : ℕ) (l : ℤ) → from ≤ s → s ≤ to → IsLow days p.graph (outputs p) (pos s) t l → pos s -ℤ l ≤ℤ pos n
+  pub most : (t s : ℕ) (l : ℤ) → from ≤ s → s ≤ to → IsLow days p.graph (outputs p) (pos s) t l → (pos s -ℤ l) ≤ℤ pos n
 
 -- the range begins before its reach, else a term is computed too many rows early; or for want of memory
 abbrev pub IsPlanFault : List ℤ → Pipeline → ℕ → ℕ → PlanError → Type 0
@@ -148,5 +148,7 @@ pub record KeepsLimits (plan : Planned) : Type 0 where
   pub order : plan.from ≤ plan.to
   pub early : pos 0 ≤ℤ plan.reach
   pub few : plan.bound ≤ 261
+  pub terms : length plan.uses ≤ 256
+  pub within : (t : ℕ) → is_used plan t ≡ true → t < length plan.slots
   pub rows : (t : ℕ) → is_used plan t ≡ true → ((use_at plan.uses t).extra ≤ plan.from) × ((use_at plan.uses t).extra ≤ most_rows)
   pub slots : (t : ℕ) → is_used plan t ≡ true → slot_of plan t < plan.bound

@@ -6,7 +6,7 @@ use Rattle.pl_planner.specs.declared.slots.TermSlots.{TermSlots}
 use Rattle.pl_planner.specs.Uses.{is_kept}
 
 abbrev pub no_slots : TermSlots
-no_slots = record { own = 0; columns = 0 ∷ 0 ∷ 0 ∷ [] }
+no_slots = record { own = 0; columns = [] }
 
 abbrev pub slots_at : List TermSlots → ℕ → TermSlots
 slots_at slots t = get_or slots t no_slots

@@ -1,13 +1,13 @@
 // How many arrays are held at once, and how far back bars are read.
 ghost use Rattle.std.specs.Prelude.{◌≡◌, ◌||◌, if◌then◌else◌, ◌+◌, ◌*◌, ◌<◌, ◌≤◌, count_by, filter_map, fold, length, map, max, option_to_list};
-ghost use Rattle.std.specs.List.{range_with_len};
+ghost use Rattle.std.specs.List.{list_any, range_with_len};
 ghost use Rattle.pl_spec.specs.World.{column_number};
 ghost use Rattle.pl_spec.specs.Graph.{bound, columns_at, contains, input_column};
 ghost use Rattle.pl_terms.specs.Checked.{pipeline_of};
 ghost use Rattle.pl_terms.specs.Nodes.{input_of, node_of};
 ghost use Rattle.pl_terms.specs.Uses.{outputs};
 ghost use Rattle.pl_planner.specs.Uses.{AreUses, is_kept, use_at};
-ghost use Rattle.pl_planner.specs.Columns.{bars_back, columns_in, held_at, most_back, most_extra, reads_back};
+ghost use Rattle.pl_planner.specs.Columns.{bars_back, is_bar, columns_in, held_at, most_back, most_extra, reads_back};
 
 use crate::pipeline::{count, node_at};
 use crate::uses::Use;
@@ -105,12 +105,22 @@ pub(crate) fn bound_of(checked: &Checked, uses: &[Use]) -> usize
     bound
 }
 
+fn reads_bars(inputs: &[Input]) -> bool
+    ensures { result ≡ list_any is_bar (map input_of inputs.now) }
+{
+    match inputs {
+        [] => false,
+        [Input::Column(_), ..] => true,
+        [Input::Term(_), rest @ ..] => reads_bars(rest),
+    }
+}
+
 // A window of bars ends on the session before the one that it is read for.
 #[tactic(auto, unfolding(pl_terms::specs::Nodes::node_of))]
 fn bars_back(node: &Node) -> usize
     ensures { result ≡ bars_back (node_of node.now) }
 {
-    if columns_of(node) > 0 {
+    if reads_bars(node.inputs.as_slice()) {
         node.window as usize
     } else {
         0

@@ -17,7 +17,9 @@ pub(crate) fn count(checked: &Checked) -> usize
 /// The node of a number.
 pub(crate) fn node_at(checked: &Checked, k: usize) -> &Node
     requires { k < length (pipeline_of checked.now).graph }
-    ensures { slice_get (pipeline_of checked.now).graph k ≡ Some (node_of result.now) }
+    ensures node { slice_get (pipeline_of checked.now).graph k ≡ Some (node_of result.now) }
+    ensures few { length (pipeline_of checked.now).graph ≤ 256 }
+    ensures checked { IsChecked (pipeline_of checked.now) }
 {
     let graph = checked.graph();
     let _count = graph.len();

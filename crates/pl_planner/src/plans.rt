@@ -3,7 +3,7 @@ ghost use Rattle.std.specs.Prelude.{◌≡◌, ◌-◌, ◌<◌, ◌≤◌, ◌�
 ghost use Rattle.pl_terms.specs.Nodes.{number_of};
 ghost use Rattle.pl_planner.specs.Plans as spec;
 
-use crate::slots::{TermSlots, slots_of};
+use crate::slots::TermSlots;
 use crate::uses::{Use, use_of};
 use pl_terms::TermId;
 use std::marker::Model;
@@ -59,6 +59,7 @@ impl Plan {
     }
 
     /// Is the term an output, or mentioned by a used term?
+    #[tactic(auto, unfolding(crate::specs::Plans::is_used))]
     pub fn is_used(&self, t: TermId) -> bool
         ensures { result ≡ spec.is_used self.now t.0 }
     {
@@ -85,6 +86,7 @@ impl Plan {
     }
 
     /// The session from which on a used term is computed for a session of the range and later ones.
+    #[tactic(auto, unfolding(crate::specs::Plans::is_used, crate::specs::Plans::low_at))]
     pub fn low_at(&self, t: TermId, session: usize) -> usize
         requires used { spec.is_used self.now t.0 ≡ true }
         requires from { self.now.from ≤ session }
@@ -113,6 +115,7 @@ impl Plan {
     }
 
     /// The last used term that mentions a used term; none for an output, which is kept to the end.
+    #[tactic(auto, unfolding(crate::specs::Plans::last_user))]
     pub fn last_user(&self, t: TermId) -> Option<TermId>
         requires { spec.is_used self.now t.0 ≡ true }
         ensures { option_map number_of result ≡ spec.last_user self.now t.0 }
@@ -126,21 +129,23 @@ impl Plan {
     }
 
     /// The slot of a used term: the lowest that no term with a lower number has which is live with it.
+    #[tactic(auto, unfolding(crate::specs::Plans::is_used, crate::specs::Plans::slot_of))]
     pub fn slot(&self, t: TermId) -> usize
         requires { spec.is_used self.now t.0 ≡ true }
         ensures value { result ≡ spec.slot_of self.now t.0 }
         ensures within { result < self.now.bound }
     {
-        slots_of(&self.slots, t.0 as usize).own
+        self.slots[t.0 as usize].own
     }
 
     /// The slot of the i-th distinct bar column among a used term's inputs while the term is computed: of
     /// those that no live term has the i-th.
+    #[tactic(auto, unfolding(crate::specs::Plans::is_used, crate::specs::Plans::column_slot))]
     pub fn column_slot(&self, t: TermId, i: usize) -> usize
         requires used { spec.is_used self.now t.0 ≡ true }
         requires within { i < 3 }
         ensures { result ≡ spec.column_slot self.now t.0 i }
     {
-        slots_of(&self.slots, t.0 as usize).columns[i]
+        self.slots[t.0 as usize].columns[i]
     }
 }

@@ -1,6 +1,6 @@
 // The slot of each term and of its bar columns: of those that are free the lowest.
 ghost use Rattle.std.specs.Prelude.{◌≡◌, ℕ, ◌+◌, ◌<◌, ◌≤◌, ◌^◌, IfOk, false, true, get_or, length, replicate, slice_set, sum_by};
-ghost use Rattle.pl_planner.specs.Slotting.{AreSlotted, IsSlotted, IsTaken, one, own_slot, slots_at};
+ghost use Rattle.pl_planner.specs.Slotting.{AreSlotted, IsSlotted, IsTaken, one, own_slot};
 
 use crate::columns::{either, is_kept};
 use crate::uses::Use;
@@ -11,18 +11,6 @@ use std::alloc::{AllocError, Global};
 pub(crate) struct TermSlots {
     pub(crate) own: usize,
     pub(crate) columns: [usize; 3],
-}
-
-const NO_SLOTS: TermSlots = TermSlots {
-    own: 0,
-    columns: [0, 0, 0],
-};
-
-/// The slots of a number.
-pub(crate) fn slots_of(slots: &[TermSlots], t: usize) -> TermSlots
-    ensures { result ≡ slots_at slots.now t }
-{
-    if t < slots.len() { slots[t] } else { NO_SLOTS }
 }
 
 // The slots of the terms below k that are still to be read.

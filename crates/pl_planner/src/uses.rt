@@ -126,6 +126,7 @@ fn mark_outputs(uses: &mut [Use], checked: &Checked, terms: usize)
     requires { length uses.old ≡ length (pipeline_of checked.now).graph }
     ensures { uses.new ≡ all_marked uses.old terms (outputs (pipeline_of checked.now)) }
 {
+    let _terms = count(checked);
     mark_columns(uses, checked, terms);
     if let Some(screen) = checked.screen() {
         mark(uses, screen, terms);
