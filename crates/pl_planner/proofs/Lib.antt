@@ -1,5 +1,6 @@
 pub mod Asking
 pub mod Counting
+pub mod Covers
 pub mod Gathers
 pub mod Live
 pub mod Lows

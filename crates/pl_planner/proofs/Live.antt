@@ -79,21 +79,21 @@ find_some f (x ∷ xs) h = elim (or_cases (f x) (list_any f xs) h) [
   | inr p ↦ (let r = find_some f xs p in record { it = r.it; in_list = or_right (x == r.it) (contains xs r.it) r.in_list; holds = r.holds })
 ]
 
-some_holds : (f : ℕ → Bool) (xs : List ℕ) (t : ℕ) → contains xs t ≡ true → f t ≡ true → list_any f xs ≡ true
+pub some_holds : (f : ℕ → Bool) (xs : List ℕ) (t : ℕ) → contains xs t ≡ true → f t ≡ true → list_any f xs ≡ true
 some_holds f [] t h e = absurd (true≢false (sym h))
 some_holds f (x ∷ xs) t h e = elim (or_cases (x == t) (contains xs t) h) [
   | inl p ↦ or_left (f x) (list_any f xs) (ap f (eqb-true x t p) ∙ e)
   | inr p ↦ or_right (f x) (list_any f xs) (some_holds f xs t p e)
 ]
 
-both : (a b : Bool) → (a && b) ≡ true → (a ≡ true) × (b ≡ true)
+pub both : (a b : Bool) → (a && b) ≡ true → (a ≡ true) × (b ≡ true)
 both true b h = (refl, h)
 both false b h = absurd (true≢false (sym h))
 
-and_true : (a b : Bool) → a ≡ true → b ≡ true → (a && b) ≡ true
+pub and_true : (a b : Bool) → a ≡ true → b ≡ true → (a && b) ≡ true
 and_true a b e f = rw (e, f) refl
 
-le_of : (a b : ℕ) → nat_le a b ≡ true → a ≤ b
+pub le_of : (a b : ℕ) → nat_le a b ≡ true → a ≤ b
 le_of a b h = grind (arith, nat_tests)
 
 le_not : (a b : ℕ) → nat_le a b ≡ false → a ≤ b → ⊥
@@ -126,7 +126,7 @@ module _ (g : Graph) (outputs : List ℕ) (uses : List Use) (ok : IsGraph g) (ar
       same t false e l = e ∙ no t (contains (used_terms g outputs) t) refl e
 
   -- what is live with term k is kept up to it
-  live_is : (k t : ℕ) → k < length g → (used t && is_live g outputs k t) ≡ (nat_le t k && is_kept uses k t)
+  pub live_is : (k t : ℕ) → k < length g → (used t && is_live g outputs k t) ≡ (nat_le t k && is_kept uses k t)
   live_is k t in_graph = here (used t) refl (nat_le t k) refl
     where
       kept : Used g outputs t → t ≤ k → (contains outputs t || list_any (λ u. nat_le k u && contains (mentions_at g u) t) (used_terms g outputs)) ≡ nat_le k (use_at uses t).last

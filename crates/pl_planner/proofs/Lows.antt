@@ -1,10 +1,9 @@
 -- Lows by the definitions, from the numbers of sessions that terms are read back; and the least reach.
-use Rattle.std.proofs.Common.{◌≡◌, ℕ, zero, suc, ◌+◌, ◌*◌, ◌-◌, ◌<◌, ◌≤◌, Bool, true, false, max, if◌then◌else◌, ℤ, pos, ◌-ℤ◌, ◌≤ℤ◌, ◌<ℤ◌, List, [], ◌∷◌, ◌++◌, length, map, fold, filter_map, AllPairs, Option, Some, None, refl, sym, ◌∙◌, ap, subst, arith, inl, inr, ◌⊎◌, slice_get, get_or, ◌==◌}
+use Rattle.std.proofs.Common.{◌≡◌, ℕ, zero, suc, ◌+◌, ◌-◌, ◌<◌, ◌≤◌, Bool, true, false, max, ℤ, pos, ◌-ℤ◌, ◌≤ℤ◌, ◌<ℤ◌, List, [], ◌∷◌, ◌++◌, length, map, filter_map, AllPairs, Option, Some, None, refl, sym, ◌∙◌, ap, subst, arith, inl, inr, slice_get, ◌==◌}
 use Rattle.std.specs.Int.{int_min}
-use Rattle.std.specs.List.{list_any, range_with_len}
+use Rattle.std.specs.List.{list_any}
 use Rattle.std.proofs.lemmas.Bool.{true≢false, cases_lt, or_cases, eqb-true, eq-eqb, or_left, or_right}
 use Rattle.std.proofs.lemmas.Int.{ints}
-use Rattle.std.proofs.lemmas.Option.{slice_get_within}
 use Rattle.pl_spec.specs.declared.Column.{Column}
 use Rattle.pl_spec.specs.Window.{before}
 use Rattle.pl_spec.specs.Term.{Input, Node, Graph, term_at}
@@ -20,7 +19,7 @@ use Rattle.pl_planner.specs.Uses.{use_at, AreUses}
 use Rattle.pl_planner.specs.Columns.{is_bar, bars_back, window_back, reads_back, most_back}
 use Rattle.pl_planner.proofs.Pipelines.{IsPipeline}
 use Rattle.pl_planner.proofs.Gathers.{mention_of_ask}
-use Rattle.pl_planner.proofs.Counting.{most_more}
+use Rattle.pl_planner.proofs.Counting.{most_in, most_more}
 use Rattle.pl_planner.proofs.Live.{used_within}
 
 -- ---- what a node asks for is what it reads
@@ -192,20 +191,11 @@ own-above days n s now =
 -- ---- the most that used terms read back
 
 module _ (g : Graph) (outs : List ℕ) (uses : List Use) (ok : IsPipeline g outs) (are : AreUses g outs uses) where
-  before-or-last : (t n : ℕ) → t < n + 1 → (t < n) ⊎ (t ≡ n)
-  before-or-last t n h = elim (cases_lt t n) [ inl p ↦ inl p | inr p ↦ inr (omega arith) ]
-
   most-next : (n : ℕ) → most_back g uses (suc n) ≡ max (most_back g uses n) (reads_back g uses n)
   most-next n = let e : suc n ≡ n + 1 = omega arith in ap (most_back g uses) e ∙ most_more (reads_back g uses) n
 
   most-at : (n t : ℕ) → t < n → reads_back g uses t ≤ most_back g uses n
-  most-at zero t h = absurd (omega arith)
-  most-at (suc n) t h =
-      let m = most-next n in
-      elim (before-or-last t n (omega arith)) [
-        | inl p ↦ (let ih = most-at n t p in omega arith)
-        | inr p ↦ (let is : reads_back g uses t ≡ reads_back g uses n = ap (reads_back g uses) p in omega arith)
-      ]
+  most-at n t h = most_in (reads_back g uses) n t h
 
   pub record MostAt (m : ℕ) : Type 0 where
     pub term : ℕ

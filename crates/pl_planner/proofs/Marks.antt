@@ -1,5 +1,5 @@
 -- The outputs, marked one after another.
-use Rattle.std.proofs.Common.{◌≡◌, ℕ, zero, suc, ◌+◌, ◌<◌, List, [], ◌∷◌, ◌++◌, length, map, take, fold, Option, Some, None, option_map, slice_get, true, refl, sym, ◌∙◌, ap, arith, length-set}
+use Rattle.std.proofs.Common.{◌≡◌, ℕ, zero, suc, ◌+◌, ◌<◌, List, [], ◌∷◌, ◌++◌, length, map, take, Some, option_map, slice_get, true, refl, sym, ◌∙◌, ap, arith, length-set}
 use Rattle.std.proofs.lemmas.List.Sums.{fold-append}
 use Rattle.pl_terms.specs.declared.checked.NamedColumn.{NamedColumn}
 use Rattle.pl_terms.specs.declared.node.TermId.{TermId}

@@ -1,10 +1,10 @@
 -- The pass from the last term to the first over the pipelines of the language.
-use Rattle.std.proofs.Common.{◌≡◌, ℕ, zero, suc, ◌+◌, ◌*◌, ◌-◌, ◌<◌, ◌≤◌, Bool, true, false, List, [], ◌∷◌, length, Some, refl, sym, ap, subst, arith, inl, inr, slice_get, ◌==◌, replicate, if◌then◌else◌}
+use Rattle.std.proofs.Common.{◌≡◌, ℕ, zero, suc, ◌*◌, ◌-◌, ◌<◌, ◌≤◌, Bool, true, false, List, [], ◌∷◌, length, Some, refl, sym, ap, subst, arith, inl, inr, slice_get, ◌==◌, replicate}
 use Rattle.std.specs.List.{list_any}
 use Rattle.std.proofs.lemmas.Bool.{true≢false, or_cases, eqb-true}
 use Rattle.std.proofs.lemmas.Option.{slice_get_within}
-use Rattle.pl_spec.specs.Term.{Node, Graph, MentionsBelow, IsGraph}
-use Rattle.pl_spec.specs.Graph.{contains, Used}
+use Rattle.pl_spec.specs.Term.{Node, Graph, MentionsBelow}
+use Rattle.pl_spec.specs.Graph.{contains}
 use Rattle.pl_planner.specs.declared.uses.Use.{Use}
 use Rattle.pl_planner.specs.Extra.{asks, asks_of, asks_at}
 use Rattle.pl_planner.specs.Columns.{is_bar, bars_back}
@@ -32,8 +32,8 @@ module _ (g : Graph) (outs : List ℕ) (ok : IsPipeline g outs) where
   pub pass_node : (k : ℕ) (n : Node) → slice_get g k ≡ Some n → (1 ≤ n.window) × (n.window ≤ 1260)
   pass_node k n e = ok.windows k n e
 
-  pub pass_room : (us : List Use) (j k : ℕ) → AreGathered g outs j us → (use_at us k).used ≡ true → (use_at us k).extra ≤ 1260 * 256
-  pass_room us j k h u = let n = needed_few g outs ok.graph outputs_below (λ j n e. (ok.windows j n e).1) k (use_at us k).extra (h.sound k u).0 in let f = ok.few in omega arith
+  pub pass_room : length g ≤ 256 → (us : List Use) (j k : ℕ) → AreGathered g outs j us → (use_at us k).used ≡ true → (use_at us k).extra ≤ 1260 * 256
+  pass_room few us j k h u = let n = needed_few g outs ok.graph outputs_below (λ j n e. (ok.windows j n e).1) k (use_at us k).extra (h.sound k u).0 in omega arith
 
   pub pass_step : (us vs : List Use) (k : ℕ) (n : Node) → AreGathered g outs k us → 0 < k → slice_get g (k - 1) ≡ Some n → (use_at us (k - 1)).used ≡ true
       → vs ≡ all_asked us (k - 1) (use_at us (k - 1)).extra (asks n) → AreGathered g outs (k - 1) vs
@@ -66,10 +66,9 @@ module _ (g : Graph) (outs : List ℕ) (ok : IsPipeline g outs) where
         group = λ t f. let l : t < k = low.group t f in omega arith;
       }
 
-  pub extra-few : (us : List Use) → AreUses g outs us → (t : ℕ) → (use_at us t).used ≡ true → (use_at us t).extra ≤ 1260 * 256
-  extra-few us are t u =
+  pub extra-few : length g ≤ 256 → (us : List Use) → AreUses g outs us → (t : ℕ) → (use_at us t).used ≡ true → (use_at us t).extra ≤ 1260 * 256
+  extra-few few us are t u =
       let n = needed_few g outs ok.graph outputs_below (λ j n e. (ok.windows j n e).1) t (use_at us t).extra (are.extra t ((are.used t).0 u)).back in
-      let f = ok.few in
       omega arith
 
   pub bars-few : (t : ℕ) (n : Node) → slice_get g t ≡ Some n → bars_back n ≤ 1260

@@ -1,6 +1,6 @@
 -- What a checked pipeline keeps that plans rest on.
-use Rattle.std.proofs.Common.{◌≡◌, ℕ, zero, suc, ◌+◌, ◌<◌, ◌≤◌, ◌==◌, nat_le, Bool, true, false, ℤ, List, [], ◌∷◌, ◌++◌, length, map, Option, Some, None, slice_get, option_to_list, refl, sym, ◌∙◌, ap, arith, inl, inr}
-use Rattle.std.proofs.lemmas.Bool.{and_parts, true≢false, or_cases, eqb-true, or_left, eq-eqb}
+use Rattle.std.proofs.Common.{◌≡◌, ℕ, zero, suc, ◌<◌, ◌≤◌, ◌==◌, nat_le, true, ℤ, List, [], ◌∷◌, ◌++◌, length, map, Option, Some, None, slice_get, option_to_list, refl, sym, ap, arith}
+use Rattle.std.proofs.lemmas.Bool.{and_parts, true≢false, eqb-true, or_left, eq-eqb}
 use Rattle.std.proofs.lemmas.Bool.Decides.{nat_tests}
 use Rattle.std.proofs.lemmas.Option.{slice_get_within}
 use Rattle.pl_spec.specs.Kind as kind
@@ -8,7 +8,7 @@ use Rattle.pl_spec.specs.Kind.{Kind, WindowKind}
 use Rattle.pl_spec.specs.Table.{Pipeline, NamedColumn}
 use Rattle.pl_spec.specs.Term.{Graph, Node, IsGraph}
 use Rattle.pl_spec.specs.Graph.{contains, reads_at}
-use Rattle.pl_terms.specs.Sorts.{has_window, window_fits, is_window_from, has_parameters, sort_at, IsAllowed, Filters, Sort}
+use Rattle.pl_terms.specs.Sorts.{has_window, window_fits, is_window_from, has_parameters, sort_at, Filters}
 use Rattle.pl_terms.specs.Checked.{IsChecked}
 use Rattle.pl_terms.specs.Uses.{outputs}
 use Rattle.pl_terms.specs.Nodes.{graph_of, node_of}
@@ -53,7 +53,6 @@ reads-now days k w names s e = refl
 
 pub record IsPipeline (g : Graph) (outs : List ℕ) : Type 0 where
   pub graph : IsGraph g
-  pub few : length g ≤ 256
   pub some_output : (o : ℕ) × (contains outs o ≡ true)
   pub outputs_in : (i o : ℕ) → slice_get outs i ≡ Some o → o < length g
   pub windows : (k : ℕ) (n : Node) → slice_get g k ≡ Some n → (1 ≤ n.window) × (n.window ≤ 1260)
@@ -78,10 +77,9 @@ first-output : (cs : List NamedColumn) (rest : List ℕ) → 1 ≤ length cs →
 first-output [] rest h = absurd (omega arith)
 first-output (c ∷ cs) rest h = (c.term, or_left (c.term == c.term) (contains (map (λ (d : NamedColumn). d.term) cs ++ rest) c.term) (eq-eqb c.term c.term refl))
 
-pub is-pipeline : (p : Pipeline) → length p.graph ≤ 256 → IsChecked p → IsPipeline p.graph (outputs p)
-is-pipeline p few c = record {
+pub is-pipeline : (p : Pipeline) → IsChecked p → IsPipeline p.graph (outputs p)
+is-pipeline p c = record {
   graph = c.graph;
-  few = few;
   some_output = first-output p.columns (option_to_list p.screen) c.some_column;
   outputs_in = columns-in p.graph p.columns p.screen c.columns (λ t e. sort-within p.graph t (c.screen t e));
   windows = λ k n e. kind-fits n.kind n.window (c.nodes k n e).window;

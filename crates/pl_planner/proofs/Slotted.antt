@@ -5,7 +5,7 @@ use Rattle.std.proofs.lemmas.Bool.{cases_lt, cases_eq, true≢false, or_cases}
 use Rattle.std.proofs.lemmas.List.Sums.{sum_by-set}
 use Rattle.pl_planner.specs.declared.uses.Use.{Use}
 use Rattle.pl_planner.specs.declared.slots.TermSlots.{TermSlots}
-use Rattle.pl_planner.specs.Uses.{use_at, is_kept}
+use Rattle.pl_planner.specs.Uses.{is_kept}
 use Rattle.pl_planner.specs.Slotting.{no_slots, slots_at, own_slot, kept_below, one, IsHad, IsLowest, IsSlotted, AreSlotted, Tells, IsTaken}
 use Rattle.pl_planner.proofs.Counting.{count_more}
 
@@ -89,10 +89,10 @@ module _ (uses : List Use) (slots : List TermSlots) (k t : ℕ) (taken : List Bo
     size = length-set taken (own_slot slots t) _ ∙ so_far.size;
     tells = record { yes = yes; no = no };
     few = (let s : sum_by one (set taken (own_slot slots t) told) + one (get_or taken (own_slot slots t) false) ≡ sum_by one taken + one told = sum_by-set one taken (own_slot slots t) told false here in
-      let c : count_by (is_kept uses k) (range_with_len 0 (t + 1)) ≡ count_by (is_kept uses k) (range_with_len 0 t) + one (is_kept uses k t) = count_more (is_kept uses k) t in
-      let f = so_far.few in
-      let o : one told ≤ one (get_or taken (own_slot slots t) false) + one (is_kept uses k t) = one_or (get_or taken (own_slot slots t) false) (is_kept uses k t) in
-      omega arith);
+        let c : count_by (is_kept uses k) (range_with_len 0 (t + 1)) ≡ count_by (is_kept uses k) (range_with_len 0 t) + one (is_kept uses k t) = count_more (is_kept uses k) t in
+        let f = so_far.few in
+        let o : one told ≤ one (get_or taken (own_slot slots t) false) + one (is_kept uses k t) = one_or (get_or taken (own_slot slots t) false) (is_kept uses k t) in
+        omega arith);
   }
 
 sum_from : (xs : List Bool) (n : ℕ) → fold (λ a x. a + one x) n xs ≡ n + fold (λ a x. a + one x) 0 xs
@@ -267,7 +267,7 @@ module _ (uses : List Use) (slots : List TermSlots) (new : TermSlots) where
     each = λ k h. elim (cases_lt k (length slots)) [
       | inl p ↦ subst (IsSlotted uses (slots ++ new ∷ []) k) (sym (at_front slots new k p)) (still_slotted k (slots_at slots k) (omega arith) (so_far.each k p))
       | inr p ↦ (let e : k ≡ length slots = (let l = long_more slots new in omega arith) in
-        subst (λ j. IsSlotted uses (slots ++ new ∷ []) j (slots_at (slots ++ new ∷ []) j)) (sym e) (subst (IsSlotted uses (slots ++ new ∷ []) (length slots)) (sym (at_end slots new)) (still_slotted (length slots) new (omega arith) is)))
+          subst (λ j. IsSlotted uses (slots ++ new ∷ []) j (slots_at (slots ++ new ∷ []) j)) (sym e) (subst (IsSlotted uses (slots ++ new ∷ []) (length slots)) (sym (at_end slots new)) (still_slotted (length slots) new (omega arith) is)))
     ];
     few = λ t. elim (cases_lt t (length slots)) [
       | inl p ↦ (let e : own_slot (slots ++ new ∷ []) t ≡ own_slot slots t = ap (λ (x : TermSlots). x.own) (at_front slots new t p) in let l = so_far.few t in omega arith)

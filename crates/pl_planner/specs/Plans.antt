@@ -99,7 +99,7 @@ pub record HasSlot (p : Pipeline) (plan : Planned) (k n slot : ℕ) : Type 0 whe
 
 -- one of the first i bar columns of term k has the slot
 abbrev pub HasColumn : Planned → ℕ → ℕ → ℕ → Type 0
-HasColumn plan k i slot = (j : ℕ) × ((j < i) × (column_slot plan k j ≡ slot))
+HasColumn plan k i slot = (j : ℕ) × (j < i) × (column_slot plan k j ≡ slot)
 
 -- A term has the lowest slot that no term before it has which is live with it, and its bar columns have the
 -- lowest ones that no live term has. So no two that are live together share one, and bound slots are enough.

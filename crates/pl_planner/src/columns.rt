@@ -3,7 +3,7 @@ ghost use Rattle.std.specs.Prelude.{◌≡◌, ◌||◌, if◌then◌else◌, �
 ghost use Rattle.std.specs.List.{list_any, range_with_len};
 ghost use Rattle.pl_spec.specs.World.{column_number};
 ghost use Rattle.pl_spec.specs.Graph.{bound, columns_at, contains, input_column};
-ghost use Rattle.pl_terms.specs.Checked.{pipeline_of};
+ghost use Rattle.pl_terms.specs.Checked.{IsChecked, pipeline_of};
 ghost use Rattle.pl_terms.specs.Nodes.{input_of, node_of};
 ghost use Rattle.pl_terms.specs.Uses.{outputs};
 ghost use Rattle.pl_planner.specs.Uses.{AreUses, is_kept, use_at};
@@ -97,6 +97,8 @@ pub(crate) fn bound_of(checked: &Checked, uses: &[Use]) -> usize
     requires { AreUses (pipeline_of checked.now).graph (outputs (pipeline_of checked.now)) uses.now }
     ensures value { result ≡ bound (pipeline_of checked.now).graph (outputs (pipeline_of checked.now)) }
     ensures few { result ≤ 261 }
+    ensures checked { IsChecked (pipeline_of checked.now) }
+    ensures terms { length (pipeline_of checked.now).graph ≤ 256 }
 {
     let mut bound = 0;
     for k in 0..count(checked) {
@@ -146,6 +148,7 @@ pub(crate) fn most_back(checked: &Checked, uses: &[Use]) -> usize
     requires { AreUses (pipeline_of checked.now).graph (outputs (pipeline_of checked.now)) uses.now }
     ensures value { result ≡ most_back (pipeline_of checked.now).graph uses.now (length (pipeline_of checked.now).graph) }
     ensures few { result ≤ 1260 * 257 }
+    ensures checked { IsChecked (pipeline_of checked.now) }
 {
     let mut most = 0;
     for t in 0..count(checked) {

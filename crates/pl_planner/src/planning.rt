@@ -1,7 +1,8 @@
 //! The plan of a run.
 ghost use Rattle.std.specs.Prelude.{◌≡◌, ◌<◌, ◌≤◌, pos, IfErr, IfOk, length};
 ghost use Rattle.pl_spec.specs.Lows.{least_reach};
-ghost use Rattle.pl_terms.specs.Checked.{pipeline_of};
+ghost use Rattle.pl_calendar.specs.Days.{AreDays};
+ghost use Rattle.pl_terms.specs.Checked.{IsChecked, pipeline_of};
 ghost use Rattle.pl_terms.specs.Uses.{outputs};
 ghost use Rattle.pl_planner.specs.Plans.{IsPlanFault, IsPlanOf};
 ghost use Rattle.pl_planner.specs.Uses.{AreUses};
@@ -21,8 +22,10 @@ const MOST_ROWS: usize = 4096;
 fn reach_of(checked: &Checked, sessions: &Sessions, uses: &[Use], from: usize) -> i64
     requires uses { AreUses (pipeline_of checked.now).graph (outputs (pipeline_of checked.now)) uses.now }
     requires within { from < length sessions.now }
-    ensures { result ≡ least_reach sessions.now (pipeline_of checked.now).graph
+    ensures value { result ≡ least_reach sessions.now (pipeline_of checked.now).graph
         (outputs (pipeline_of checked.now)) (pos from) }
+    ensures checked { IsChecked (pipeline_of checked.now) }
+    ensures days { AreDays sessions.now }
 {
     let _count = sessions.len();
     from as i64 - most_back(checked, uses) as i64

@@ -1,4 +1,4 @@
-use Rattle.std.proofs.Common.{rules, ◌∙◌, ap, max, ◌≡◌, ◌≤◌, length, sym, arith}
+use Rattle.std.proofs.Common.{rules, ◌∙◌, ap, max, ◌≡◌, sym, arith}
 use Rattle.pl_terms.specs.Checked.{pipeline_of}
 use Rattle.pl_planner.specs.Columns.{reads_back, most_back}
 use Rattle.pl_planner.proofs.Counting.{most_more}

@@ -1,4 +1,4 @@
-use Rattle.std.proofs.Common.{◌≡◌, ap, ◌∙◌, sym, length}
+use Rattle.std.proofs.Common.{ap, ◌∙◌, sym, length}
 use Rattle.pl_planner.proofs.Pipelines.{graph-long}
 use Rattle.pl_planner.proofs.pipeline.count.Goals as goal
 

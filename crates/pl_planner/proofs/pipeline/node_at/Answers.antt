@@ -1,4 +1,4 @@
-use Rattle.std.proofs.Common.{◌≡◌, ◌<◌, ◌≤◌, ap, ◌∙◌, sym, length, arith, subst, slice_get, Some, rules}
+use Rattle.std.proofs.Common.{◌≡◌, ◌<◌, ap, ◌∙◌, sym, length, arith, slice_get, rules}
 use Rattle.pl_planner.proofs.Pipelines.{graph-long, graph-at, graph-few}
 use Rattle.pl_planner.proofs.pipeline.node_at.Goals as goal
 

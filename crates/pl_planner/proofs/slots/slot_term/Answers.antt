@@ -1,5 +1,4 @@
-use Rattle.std.proofs.Common.{◌≡◌, ◌≤◌, ap, ◌∙◌, arith, sum_by, length, length-set, true}
-use Rattle.pl_planner.specs.Slotting.{one}
+use Rattle.std.proofs.Common.{◌≡◌, ap, ◌∙◌, arith, length, length-set, true}
 use Rattle.pl_planner.proofs.Slotted.{count_few, slotted}
 use Rattle.pl_planner.proofs.slots.slot_term.Goals as goal
 

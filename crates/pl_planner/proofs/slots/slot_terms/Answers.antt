@@ -1,5 +1,5 @@
-use Rattle.std.proofs.Common.{◌≡◌, ◌<◌, ◌+◌, ◌++◌, ◌∷◌, [], true, ◌∙◌, ap, sym, length, refl, arith, subst, rules}
-use Rattle.pl_planner.specs.Slotting.{AreSlotted, IsSlotted}
+use Rattle.std.proofs.Common.{◌≡◌, ◌<◌, ◌+◌, ◌++◌, ◌∷◌, [], sym, length, arith, subst, rules}
+use Rattle.pl_planner.specs.Slotting.{IsSlotted}
 use Rattle.pl_planner.proofs.Slotted.{more_slotted, long_more}
 use Rattle.pl_planner.proofs.slots.slot_terms.Goals as goal
 

@@ -1,5 +1,4 @@
-use Rattle.std.proofs.Common.{◌≡◌, ◌<◌, ◌∙◌, ap, sym, length, refl, arith, length-set, true, take}
-use Rattle.pl_terms.specs.Checked.{pipeline_of}
+use Rattle.std.proofs.Common.{◌∙◌, ap, sym, length, refl, arith, length-set, true}
 use Rattle.pl_planner.specs.Uses.{marked, all_marked}
 use Rattle.pl_planner.proofs.Marks.{no-columns, one-marked, column-within}
 use Rattle.pl_planner.proofs.uses.mark_columns.Goals as goal

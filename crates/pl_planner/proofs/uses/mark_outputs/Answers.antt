@@ -1,4 +1,4 @@
-use Rattle.std.proofs.Common.{◌≡◌, ◌<◌, ◌∙◌, ap, map, sym, length, refl, arith}
+use Rattle.std.proofs.Common.{◌≡◌, ◌∙◌, ap, map, sym, length, arith}
 use Rattle.pl_terms.specs.Checked.{columns_of}
 use Rattle.pl_planner.proofs.Marks.{screen-within, long-marked}
 use Rattle.pl_planner.proofs.uses.mark_outputs.Goals as goal
