@@ -43,7 +43,7 @@ module _ (g : Graph) where
       here true e ih = in_front (used_below g n (marks ++ mentions_at g n)) (n ∷ []) t (not_alone n t (λ p. omega arith)) ∙ ih (marks ++ mentions_at g n)
       here false e ih = in_front (used_below g n marks) [] t refl ∙ ih marks
 
-  filtered : (q : ℕ → Bool) (n : ℕ) (marks : List ℕ) → ((t : ℕ) → t < n → q t ≡ contains (used_below g n marks) t) → used_below g n marks ≡ filter q (range_with_len 0 n)
+  pub filtered : (q : ℕ → Bool) (n : ℕ) (marks : List ℕ) → ((t : ℕ) → t < n → q t ≡ contains (used_below g n marks) t) → used_below g n marks ≡ filter q (range_with_len 0 n)
   filtered q zero marks h = refl
   filtered q (suc n) marks h = here (contains marks n) refl h (λ m k. filtered q n m k)
     where
