@@ -1,10 +1,9 @@
 -- The lines of the terms below a number.
-use Rattle.std.proofs.Common.{◌≡◌, ℕ, ◌+◌, Bool, true, false, if◌then◌else◌, List, [], ◌∷◌, ◌++◌, length, filter, flat_map, Some, refl, sym, ◌∙◌, ap, slice_get}
+use Rattle.std.proofs.Common.{◌≡◌, ℕ, ◌+◌, Bool, true, false, List, [], ◌∷◌, ◌++◌, length, filter, flat_map, Some, refl, sym, ◌∙◌, ap, slice_get}
 use Rattle.std.specs.List.{range_with_len}
 use Rattle.std.proofs.lemmas.List.Elements.{filter-append}
 use Rattle.std.proofs.lemmas.Grind.{flat_map-append}
 use Rattle.pl_spec.specs.Term.{Node}
-use Rattle.pl_spec.specs.Graph.{used_terms}
 use Rattle.pl_spec.specs.Table.{Pipeline}
 use Rattle.pl_terms.specs.Uses.{outputs, is_used, uses}
 use Rattle.pl_planner.proofs.Counting.{range_from_zero}
