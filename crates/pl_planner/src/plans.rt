@@ -9,7 +9,7 @@ use pl_terms::TermId;
 use std::marker::Model;
 
 /// Why there is no plan.
-#[derive(Debug, Drop)]
+#[derive(Clone, Copy, Debug, PartialEq, Eq)]
 pub enum PlanError {
     /// The least session that a column or the screen reaches lies before the first one.
     TooEarly { reach: i64 },
