@@ -1,9 +1,8 @@
 //! The text of a plan.
 #![tactic(auto)]
 
+pub mod laws;
 mod names;
-#[cfg(test)]
-mod tests;
 mod text;
 
 pub use text::plan_text;

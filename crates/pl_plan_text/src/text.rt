@@ -1,5 +1,6 @@
 // A line for each used term, and one for the whole.
-ghost use Rattle.std.specs.Prelude.{◌≡◌, ℕ, ◌<◌, ◌≤◌, ◌++◌, ◌∷◌, [], IfOk, OnOk, codes, decimal, flat_map, length, map, option_map, pos};
+ghost use Rattle.std.specs.Prelude.{◌≡◌, ℕ, ◌<◌, ◌≤◌, ◌++◌, ◌∷◌, [], IfOk, OnOk, codes, decimal, flat_map, length, map, option_map};
+ghost use Rattle.std.specs.Fmt.{signed_decimal};
 ghost use Rattle.pl_terms.specs.Checked.{pipeline_of};
 ghost use Rattle.pl_terms.specs.Nodes.{input_of, node_of, number_of};
 ghost use Rattle.pl_terms.specs.Uses as pipeline;
@@ -30,7 +31,8 @@ fn put_number(out: &mut Vec<u8>, before: &str, number: u64) -> Result<(), AllocE
 }
 
 fn put_optional(out: &mut Vec<u8>, before: &str, term: Option<TermId>) -> Result<(), AllocError>
-    ensures { OnOk result (out.new.items ≡ out.old.items ++ before.now ++ number_text (option_map number_of term)) }
+    ensures { OnOk result (out.new.items ≡ out.old.items
+        ++ before.now ++ number_text (option_map number_of term)) }
 {
     match term {
         Some(t) => put_number(out, before, u64::from(t.0)),
@@ -51,7 +53,8 @@ fn put_input(out: &mut Vec<u8>, input: Input) -> Result<(), AllocError>
 }
 
 fn put_further(out: &mut Vec<u8>, inputs: &[Input]) -> Result<(), AllocError>
-    ensures { OnOk result (out.new.items ≡ out.old.items ++ flat_map behind_semicolon (map input_of inputs.now)) }
+    ensures { OnOk result (out.new.items ≡ out.old.items
+        ++ flat_map behind_semicolon (map input_of inputs.now)) }
 {
     match inputs {
         [] => Ok(()),
@@ -119,12 +122,20 @@ fn put_line(
     put_numbers(out, extra, uses)
 }
 
+fn put_reach(out: &mut Vec<u8>, reach: i64) -> Result<(), AllocError>
+    ensures { OnOk result (out.new.items ≡ out.old.items ++ codes "reach=" ++ signed_decimal reach) }
+{
+    let mut buffer = Buffer::new();
+    put(out, "reach=")?;
+    put(out, buffer.format(reach))
+}
+
 #[tactic(auto, unfolding(crate::specs::Text::last_line))]
-fn put_last(out: &mut Vec<u8>, reach: u64, bound: u64) -> Result<(), AllocError>
+fn put_last(out: &mut Vec<u8>, reach: i64, bound: usize) -> Result<(), AllocError>
     ensures { OnOk result (out.new.items ≡ out.old.items ++ last_line reach bound) }
 {
-    put_number(out, "reach=", reach)?;
-    put_number(out, " bound=", bound)?;
+    put_reach(out, reach)?;
+    put_number(out, " bound=", bound as u64)?;
     put(out, "\n")
 }
 
@@ -154,18 +165,18 @@ fn put_terms(out: &mut Vec<u8>, checked: &Checked, plan: &Plan) -> Result<(), Al
 }
 
 /// The text of a plan: for each used term in ascending number one line, as
-/// `4 SimpleMovingAverage inputs=close window=3 mask=2 group=- extra=0 uses=1`, with its number, its kind without
-/// the parameters, its inputs joined by `;` (a bar column by its name, a term by its number), its window, mask and
-/// group, its extra rows and how often it is used; then `reach=R bound=B`.
+/// `4 SimpleMovingAverage inputs=close window=3 mask=2 group=- extra=0 uses=1`, with its number, its kind
+/// without the parameters, its inputs joined by `;` (a bar column by its name, a term by its number), its
+/// window, mask and group, its extra rows and how often it is used; then `reach=R bound=B`.
 #[tactic(auto, unfolding(crate::specs::Text::plan_text))]
 pub fn plan_text(alloc: Global, checked: &Checked, plan: &Plan) -> Result<Vec<u8>, Memory>
     // The plan is one of this pipeline's.
     requires { (t : ℕ) → plans.is_used plan.now t ≡ pipeline.is_used (pipeline_of checked.now) t }
-    ensures { IfOk result (λ text. (reach : ℕ) → plan.now.reach ≡ pos reach
-        → text.items ≡ plan_text (pipeline_of checked.now) (plans.extra plan.now) reach plan.now.bound) }
+    ensures { IfOk result (λ text. text.items
+        ≡ plan_text (pipeline_of checked.now) (plans.extra plan.now) plan.now.reach plan.now.bound) }
 {
     let mut out = Vec::new(alloc);
     put_terms(&mut out, checked, plan)?;
-    put_last(&mut out, plan.reach() as u64, plan.bound() as u64)?;
+    put_last(&mut out, plan.reach(), plan.bound())?;
     Ok(out)
 }
