@@ -12,7 +12,8 @@ columns_in n = count_by (contains (filter_map input_column n.inputs)) (0 ∷ 1 �
 
 -- the results and bar columns that are held while a used term is computed
 abbrev pub held_at : Graph → List Use → ℕ → ℕ
-held_at g uses k = if (use_at uses k).used then count_by (is_kept uses k) (range_with_len 0 (k + 1)) + columns_at g k else 0
+held_at g uses k =
+    if (use_at uses k).used then count_by (is_kept uses k) (range_with_len 0 (k + 1)) + columns_at g k else 0
 
 abbrev pub is_bar : Input → Bool
 is_bar (BarColumn c) = true

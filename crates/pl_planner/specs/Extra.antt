@@ -35,7 +35,8 @@ asks_at g u = asks_of (slice_get g u)
 -- that term, and over its window.
 pub data IsBack (g : Graph) (outputs : List ℕ) : ℕ → ℕ → Type 0 where
   output : {t : ℕ} → contains outputs t ≡ true → IsBack g outputs t 0
-  mentioned : {t : ℕ} (u n i rows : ℕ) → IsBack g outputs u n → slice_get (asks_at g u) i ≡ Some (t, rows) → IsBack g outputs t (n + rows)
+  mentioned : {t : ℕ} (u n i rows : ℕ) → IsBack g outputs u n → slice_get (asks_at g u) i ≡ Some (t, rows)
+      → IsBack g outputs t (n + rows)
 
 -- the greatest of these numbers
 pub record IsExtra (g : Graph) (outputs : List ℕ) (t extra : ℕ) : Type 0 where

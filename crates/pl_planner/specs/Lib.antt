@@ -1,5 +1,6 @@
 pub mod Columns
 pub mod Extra
+pub mod Inside
 pub mod Laws
 pub mod Plans
 pub mod Slotting

@@ -41,7 +41,9 @@ extra plan t = plan.from - low plan t
 
 -- the last used term that mentions it; none where it is an output
 unfoldable pub last_user : Planned → ℕ → Option ℕ
-last_user plan t = if nat_lt (use_at plan.uses t).last (length plan.uses) then Some (use_at plan.uses t).last else None
+last_user plan t =
+    let last = (use_at plan.uses t).last in
+    if nat_lt last (length plan.uses) then Some last else None
 
 abbrev pub is_read_by : Option ℕ → ℕ → Bool
 is_read_by None k = true
@@ -74,7 +76,8 @@ pub record AreLows (days : List ℤ) (p : Pipeline) (plan : Planned) : Type 0 wh
   pub exact : (t s : ℕ) → IsAsked plan t s → IsLow days p.graph (outputs p) (pos s) t (pos (low_at plan t s))
   pub few : (t s : ℕ) → IsAsked plan t s → (low_at plan t s ≤ s) × (s - low_at plan t s ≤ most_rows)
   pub covered : (t s : ℕ) → IsAsked plan t s → plan.reach ≤ℤ pos (low_at plan t s)
-  pub bars : (t s : ℕ) (n : Node) → IsAsked plan t s → slice_get p.graph t ≡ Some n → HasBar n → plan.reach ≤ℤ before (pos (low_at plan t s)) n.window
+  pub bars : (t s : ℕ) (n : Node) → IsAsked plan t s → slice_get p.graph t ≡ Some n → HasBar n
+      → plan.reach ≤ℤ before (pos (low_at plan t s)) n.window
 
 pub record IsLastUser (g : Graph) (outputs : List ℕ) (t last : ℕ) : Type 0 where
   pub used : Used g outputs last
@@ -105,10 +108,13 @@ HasColumn plan k i slot = (j : ℕ) × (j < i) × (column_slot plan k j ≡ slot
 -- lowest ones that no live term has. So no two that are live together share one, and bound slots are enough.
 pub record AreSlots (p : Pipeline) (plan : Planned) : Type 0 where
   pub own : (k : ℕ) → is_used plan k ≡ true → IsLowest (HasSlot p plan k k) (slot_of plan k)
-  pub columns : (k i : ℕ) → is_used plan k ≡ true → i < 3 → IsLowest (λ s. HasSlot p plan k (k + 1) s ⊎ HasColumn plan k i s) (column_slot plan k i)
-  pub apart : (k t u : ℕ) → is_used plan k ≡ true → IsLive p k t → IsLive p k u → slot_of plan t ≡ slot_of plan u → t ≡ u
+  pub columns : (k i : ℕ) → is_used plan k ≡ true → i < 3
+      → IsLowest (λ s. HasSlot p plan k (k + 1) s ⊎ HasColumn plan k i s) (column_slot plan k i)
+  pub apart : (k t u : ℕ) → is_used plan k ≡ true → IsLive p k t → IsLive p k u
+      → slot_of plan t ≡ slot_of plan u → t ≡ u
   pub room : (k : ℕ) → is_used plan k ≡ true → slot_of plan k < plan.bound
-  pub columns_room : (k i : ℕ) → is_used plan k ≡ true → i < columns_at p.graph k → column_slot plan k i < plan.bound
+  pub columns_room : (k i : ℕ) → is_used plan k ≡ true → i < columns_at p.graph k
+      → column_slot plan k i < plan.bound
 
 -- what a plan says of a pipeline over the sessions of these days
 pub record IsPlanOf (days : List ℤ) (p : Pipeline) (plan : Planned) : Type 0 where
@@ -133,7 +139,8 @@ pub record IsDeepest (days : List ℤ) (p : Pipeline) (from to n : ℕ) : Type 0
   pub within : (from ≤ session) × (session ≤ to)
   pub is_low : IsLow days p.graph (outputs p) (pos session) term low
   pub is : pos session -ℤ low ≡ pos n
-  pub most : (t s : ℕ) (l : ℤ) → from ≤ s → s ≤ to → IsLow days p.graph (outputs p) (pos s) t l → (pos s -ℤ l) ≤ℤ pos n
+  pub most : (t s : ℕ) (l : ℤ) → from ≤ s → s ≤ to → IsLow days p.graph (outputs p) (pos s) t l
+      → (pos s -ℤ l) ≤ℤ pos n
 
 -- the range begins before its reach, else a term is computed too many rows early; or for want of memory
 abbrev pub IsPlanFault : List ℤ → Pipeline → ℕ → ℕ → PlanError → Type 0
@@ -150,5 +157,6 @@ pub record KeepsLimits (plan : Planned) : Type 0 where
   pub few : plan.bound ≤ 261
   pub terms : length plan.uses ≤ 256
   pub within : (t : ℕ) → is_used plan t ≡ true → t < length plan.slots
-  pub rows : (t : ℕ) → is_used plan t ≡ true → ((use_at plan.uses t).extra ≤ plan.from) × ((use_at plan.uses t).extra ≤ most_rows)
+  pub rows : (t : ℕ) → is_used plan t ≡ true
+      → ((use_at plan.uses t).extra ≤ plan.from) × ((use_at plan.uses t).extra ≤ most_rows)
   pub slots : (t : ℕ) → is_used plan t ≡ true → slot_of plan t < plan.bound

@@ -33,8 +33,8 @@ pub record IsLowest (IsTaken : ℕ → Type 0) (slot : ℕ) : Type 0 where
   pub free : IsTaken slot → ⊥
   pub lowest : (s : ℕ) → s < slot → IsTaken s
 
--- The lowest slot that no term below has which is kept up to term k, and then the next ones. There are no more
--- taken than such terms.
+-- The lowest slot that no term below has which is kept up to term k, and then the next ones. There are no
+-- more taken than such terms.
 pub record IsSlotted (uses : List Use) (slots : List TermSlots) (k : ℕ) (new : TermSlots) : Type 0 where
   pub own : IsLowest (IsHad uses slots k k) new.own
   pub first : IsLowest (λ s. IsHad uses slots k k s ⊎ (new.own ≡ s)) (get_or new.columns 0 0)

@@ -146,7 +146,8 @@ fn reads_back(checked: &Checked, uses: &[Use], t: usize) -> usize
 /// How many sessions before the first the used terms read, at most.
 pub(crate) fn most_back(checked: &Checked, uses: &[Use]) -> usize
     requires { AreUses (pipeline_of checked.now).graph (outputs (pipeline_of checked.now)) uses.now }
-    ensures value { result ≡ most_back (pipeline_of checked.now).graph uses.now (length (pipeline_of checked.now).graph) }
+    ensures value { result
+        ≡ most_back (pipeline_of checked.now).graph uses.now (length (pipeline_of checked.now).graph) }
     ensures few { result ≤ 1260 * 257 }
     ensures checked { IsChecked (pipeline_of checked.now) }
 {

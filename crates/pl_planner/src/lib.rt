@@ -1,5 +1,5 @@
-//! How a pipeline is run over a range of sessions: how far back each term is computed, how long its values are
-//! kept, and in which slot.
+//! How a pipeline is run over a range of sessions: how far back each term is computed, how long its values
+//! are kept, and in which slot.
 #![tactic(auto)]
 
 mod columns;

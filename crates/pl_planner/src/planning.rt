@@ -31,8 +31,7 @@ fn reach_of(checked: &Checked, sessions: &Sessions, uses: &[Use], from: usize) -
     from as i64 - most_back(checked, uses) as i64
 }
 
-/// The plan of a pipeline for the sessions from one to another. What is answered depends neither on their number nor
-/// on what the data hold.
+/// The plan of a pipeline for the sessions from one to another.
 pub fn plan(
     alloc: Global,
     checked: &Checked,

@@ -30,15 +30,15 @@ pub struct Plan {
 }
 
 impl Model for Plan {
-    ghost use Rattle.pl_planner.specs.Plans.{KeepsLimits, Planned};
+    ghost use Rattle.pl_planner.specs.Plans.{Planned};
 
     ghost Value = { Planned };
 
-    ghost view = { λ p.
-        record { from = p.from; to = p.to; reach = p.reach; bound = p.bound; uses = p.uses.items; slots = p.slots.items } };
+    ghost use Rattle.pl_planner.specs.Inside.{planned_of, KeepsLimitsInside};
 
-    ghost invariant = { λ p. KeepsLimits
-        (record { from = p.from; to = p.to; reach = p.reach; bound = p.bound; uses = p.uses.items; slots = p.slots.items }) };
+    ghost view = { planned_of };
+
+    ghost invariant = { KeepsLimitsInside };
 }
 
 impl Plan {

@@ -151,7 +151,8 @@ fn ask_down(uses: &mut [Use], checked: &Checked)
 
 /// The uses of all terms.
 pub(crate) fn gather(alloc: Global, checked: &Checked) -> Result<Vec<Use>, AllocError>
-    ensures { IfOk result (λ uses. AreUses (pipeline_of checked.now).graph (outputs (pipeline_of checked.now)) uses.items) }
+    ensures { IfOk result (λ uses.
+        AreUses (pipeline_of checked.now).graph (outputs (pipeline_of checked.now)) uses.items) }
 {
     let mut uses = vec![in alloc; UNUSED; count(checked)]?;
     ask_down(&mut uses, checked);
