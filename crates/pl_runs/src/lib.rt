@@ -4,6 +4,8 @@
 #[cfg(test)]
 mod plain_tests;
 #[cfg(test)]
+mod plan_tests;
+#[cfg(test)]
 mod recorded_tests;
 #[cfg(test)]
 mod refusal_tests;

@@ -183,7 +183,7 @@ fn refuses_words(rt: HostRuntime) -> Result<(), Fail> {
 }
 
 /// So many dates, one after the other.
-fn dates(alloc: Global, count: i32) -> Result<Vec<u8>, Fail> {
+pub(crate) fn dates(alloc: Global, count: i32) -> Result<Vec<u8>, Fail> {
     let mut text = Vec::new(alloc);
     for day in 0..count {
         let mut date = [0u8; 10];

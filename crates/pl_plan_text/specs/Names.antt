@@ -1,0 +1,97 @@
+-- The names under which the text of a plan has bar columns and kinds.
+use Rattle.std.specs.Prelude.{ℕ, List, codes}
+use Rattle.pl_spec.specs.declared.Column.{Column}
+use Rattle.pl_spec.specs.declared.Column.TheVariants.{OpenPrice, High, Low, Close, Volume}
+use Rattle.pl_spec.specs.declared.Compare.{Compare}
+use Rattle.pl_spec.specs.declared.Compare.TheVariants.{Less, LessEqual, Greater, GreaterEqual, Equal, NotEqual}
+use Rattle.pl_spec.specs.Kind as kind
+use Rattle.pl_spec.specs.Kind.{Kind, WindowKind, PointKind, LabelKind, CrossKind}
+
+abbrev pub column_name : Column → List ℕ
+column_name OpenPrice = codes "open"
+column_name High = codes "high"
+column_name Low = codes "low"
+column_name Close = codes "close"
+column_name Volume = codes "volume"
+
+abbrev pub window_name : WindowKind → List ℕ
+window_name kind.Latest = codes "Latest"
+window_name kind.SimpleMovingAverage = codes "SimpleMovingAverage"
+window_name kind.LinearWeightedMovingAverage = codes "LinearWeightedMovingAverage"
+window_name kind.WindowSum = codes "WindowSum"
+window_name kind.WindowMax = codes "WindowMax"
+window_name kind.WindowMin = codes "WindowMin"
+window_name kind.WindowStd = codes "WindowStd"
+window_name kind.BollingerMiddle = codes "BollingerMiddle"
+window_name (kind.BollingerLower k) = codes "BollingerLower"
+window_name (kind.BollingerUpper k) = codes "BollingerUpper"
+window_name kind.Returns = codes "Returns"
+window_name kind.PercentChange = codes "PercentChange"
+window_name kind.RateOfChangePercentage = codes "RateOfChangePercentage"
+window_name kind.RSI = codes "RSI"
+window_name kind.VWAP = codes "VWAP"
+window_name kind.AverageDollarVolume = codes "AverageDollarVolume"
+window_name kind.WeightedAverageValue = codes "WeightedAverageValue"
+window_name kind.FastStochasticOscillator = codes "FastStochasticOscillator"
+window_name kind.TrueRange = codes "TrueRange"
+window_name (kind.ExponentialWeightedMovingAverage decay) = codes "ExponentialWeightedMovingAverage"
+window_name kind.AroonUp = codes "AroonUp"
+window_name kind.AroonDown = codes "AroonDown"
+window_name kind.All = codes "All"
+window_name kind.Any = codes "Any"
+window_name (kind.AtLeastN n) = codes "AtLeastN"
+window_name kind.AllPresent = codes "AllPresent"
+
+abbrev pub compare_name : Compare → List ℕ
+compare_name Less = codes "Less"
+compare_name LessEqual = codes "LessEqual"
+compare_name Greater = codes "Greater"
+compare_name GreaterEqual = codes "GreaterEqual"
+compare_name Equal = codes "Equal"
+compare_name NotEqual = codes "NotEqual"
+
+abbrev pub point_name : PointKind → List ℕ
+point_name kind.Add = codes "Add"
+point_name kind.Sub = codes "Sub"
+point_name kind.Mul = codes "Mul"
+point_name kind.Div = codes "Div"
+point_name kind.Neg = codes "Neg"
+point_name kind.And = codes "And"
+point_name kind.Or = codes "Or"
+point_name kind.Not = codes "Not"
+point_name kind.Abs = codes "Abs"
+point_name (kind.Clip low high) = codes "Clip"
+point_name kind.FillNa = codes "FillNa"
+point_name kind.IsNull = codes "IsNull"
+point_name kind.NotNull = codes "NotNull"
+point_name kind.IfElse = codes "IfElse"
+point_name (kind.Comparison c) = compare_name c
+point_name (kind.NumberIs number) = codes "LabelIs"
+point_name (kind.NumberIsNot number) = codes "LabelIsNot"
+
+abbrev pub label_name : LabelKind → List ℕ
+label_name (kind.LabelIs text) = codes "LabelIs"
+label_name (kind.LabelIsNot text) = codes "LabelIsNot"
+label_name (kind.StartsWith text) = codes "StartsWith"
+label_name (kind.EndsWith text) = codes "EndsWith"
+label_name (kind.ElementOf texts) = codes "ElementOf"
+
+abbrev pub cross_name : CrossKind → List ℕ
+cross_name (kind.Rank method order) = codes "Rank"
+cross_name kind.Demean = codes "Demean"
+cross_name kind.ZScore = codes "ZScore"
+cross_name kind.PeerCount = codes "PeerCount"
+cross_name (kind.Quantiles bins) = codes "Quantiles"
+cross_name (kind.Top n) = codes "Top"
+cross_name (kind.Bottom n) = codes "Bottom"
+cross_name (kind.PercentileBetween low high) = codes "PercentileBetween"
+
+unfoldable pub kind_name : Kind → List ℕ
+kind_name (kind.Constant cell) = codes "Const"
+kind_name (kind.Label name) = codes "Label"
+kind_name (kind.StaticSids sids) = codes "StaticSids"
+kind_name (kind.Window k) = window_name k
+kind_name (kind.Point k) = point_name k
+kind_name (kind.LabelTest k) = label_name k
+kind_name (kind.Cross k) = cross_name k
+kind_name (kind.Downsample f) = codes "Downsample"

@@ -1,0 +1,7 @@
+pub mod Columns
+pub mod Extra
+pub mod Inside
+pub mod Laws
+pub mod Plans
+pub mod Slotting
+pub mod Uses
