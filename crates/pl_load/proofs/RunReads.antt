@@ -12,7 +12,7 @@ use Rattle.pl_words.specs.Request.{RunRequest, Run, name_asked}
 use Rattle.pl_judge.specs.declared.fault.Fault.{Fault}
 use Rattle.pl_judge.specs.Contents.{Contents, AreHeld}
 use Rattle.pl_judge.specs.Held.{columns_in}
-use Rattle.pl_judge.specs.Work.{pipeline_steps, data_steps}
+use Rattle.pl_judge.specs.Work.{plain_steps, data_steps}
 use Rattle.pl_judge.specs.Range.{range_steps, index_of}
 use Rattle.pl_judge.specs.Steps.{Step}
 use Rattle.pl_judge.specs.Stages.{StageEnds}
@@ -24,7 +24,7 @@ use Rattle.pl_load.proofs.FileReads.{held_under, held-told}
 use Rattle.pl_load.proofs.TableReads.{listed_under, listed-told}
 
 abbrev pub ColumnsRead : {T : Type 0} → Option Files → Bool → RunRequest → (T → List PlainColumn) → Result T Fault → Type 0
-ColumnsRead tells sound q items r = IsRead tells sound (Some q.pipeline) pipeline_steps (λ held columns. columns_in held ≡ items columns) r
+ColumnsRead tells sound q items r = IsRead tells sound (Some q.pipeline) plain_steps (λ held columns. columns_in held ≡ items columns) r
 
 -- the same contents, but for the pipeline file
 abbrev file_with : Option (List ℕ) → (InputFile → Option (List ℕ)) → InputFile → Option (List ℕ)
