@@ -84,6 +84,14 @@ pub plain-is : (p : Pipeline) (ts : List PlainTerm) → IsGraph p.graph → plai
 unfolding plain_terms
 plain-is p ts ok e = plain-by p ts p.screen ok refl e
 
+no-screen-by : (s : Option ℕ) (o : Option (List PlainTerm)) (ts : List PlainTerm) → (if is_some s then None else o) ≡ Some ts → s ≡ None
+no-screen-by (Some t) o ts e = absurd (cc)
+no-screen-by None o ts e = refl
+
+pub no-screen : (p : Pipeline) (ts : List PlainTerm) → plain_terms p ≡ Some ts → p.screen ≡ None
+unfolding plain_terms
+no-screen p ts e = no-screen-by p.screen (plain_columns p.graph p.columns) ts e
+
 -- whatever is made of the terms that columns show
 pub from-terms : {X : Type 0} (h : Term → X) (g : Graph) (cs : List NamedColumn) (ts : List PlainTerm) → AreShown g cs ts
     → map (λ c. h (term_at g c.term)) cs ≡ map (λ t. h (term_of t)) ts
