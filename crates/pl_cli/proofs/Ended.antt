@@ -10,8 +10,8 @@ use Rattle.pl_outside.specs.Lists.{Lists}
 use Rattle.pl_outside.specs.Taken.{Writes}
 use Rattle.pl_outside.specs.declared.keeper.Table.{Table}
 use Rattle.pl_outside.proofs.Pieces.{writes-over}
-use Rattle.pl_plain.specs.declared.script.PlainColumn.{PlainColumn}
-use Rattle.pl_plain.specs.PlainScript.{pipeline_of}
+use Rattle.pl_terms.specs.Checked.{pipeline_of}
+use Rattle.pl_model.specs.declared.cell.PlainTerm.{PlainTerm}
 use Rattle.pl_plain.specs.Rows.{rows_cost}
 use Rattle.pl_syntax.specs.Spells.{Parsed}
 use Rattle.pl_syntax.specs.Canonical.{script_text}
@@ -21,7 +21,7 @@ use Rattle.pl_words.specs.Request.{Request, Run, Fmt, Check, RunRequest, name_as
 use Rattle.pl_judge.specs.declared.fault.Fault.{Fault}
 use Rattle.pl_judge.specs.declared.fault.Fault.TheVariants.{Usage, Unwritten, Memory}
 use Rattle.pl_judge.specs.Contents.{Contents, AreHeld}
-use Rattle.pl_judge.specs.Held.{columns_held, days_held, script_in, pipeline_in, world_held}
+use Rattle.pl_judge.specs.Held.{script_in, pipeline_in, pipeline_held, terms_held, world_held}
 use Rattle.pl_judge.specs.Range.{index_of}
 use Rattle.pl_judge.specs.Steps.{Step, first_fault}
 use Rattle.pl_judge.specs.Work.{syntax_step, pipeline_steps, work}
@@ -58,21 +58,22 @@ pub no-header : {T : Type 0} (o : Observed) (q : RunRequest) (l : Loaded) → o.
     → IsLoad o.files o.lists o.shelf_sound o.keeper_sound q (Ok l) → IsEnded {T = T} o (Some (Run q)) (Err Memory)
 no-header o q l same h = record { held = h.held; are_held = h.are_held; done = tt; ended = inr tt; most = omega (arith, same) }
 
-same-text : (v w : World) (cs ds : List PlainColumn) (a b from to : ℕ) → v ≡ w → cs ≡ ds → a ≡ from → b ≡ to
-    → text w (pipeline_of ds) Csv (table w (pipeline_of ds) from to) ≡ text v (pipeline_of cs) Csv (table v (pipeline_of cs) a b)
-same-text v w cs ds a b from to e c f t = rw (e, c, f, t) refl
+same-text : (v w : World) (p r : Pipeline) (a b from to : ℕ) → v ≡ w → p ≡ r → a ≡ from → b ≡ to
+    → text w r Csv (table w r from to) ≡ text v p Csv (table v p a b)
+same-text v w p r a b from to e c f t = rw (e, c, f, t) refl
 
 loaded-text : (held : Contents) (q : RunRequest) (l : Loaded) → IsLoaded held q l → loaded_text l ≡ text_of held (Some (Run q))
 unfolding text_of
-loaded-text held q l h = same-text (world_held held q) (owned_world l.world) (columns_held held) l.columns.items _ _ l.range.from l.range.to h.world h.columns h.from h.to
+loaded-text held q l h = same-text (world_held held q) (owned_world l.world) (pipeline_held held) (pipeline_of l.checked) _ _ l.range.from l.range.to h.world h.pipeline h.from h.to
 
-same-cost : (v w : World) (cs ds : List PlainColumn) (a b from to : ℕ) → v ≡ w → cs ≡ ds → a ≡ from → b ≡ to
-    → rows_cost w ds (table w (pipeline_of ds) from to) ≡ rows_cost v cs (table v (pipeline_of cs) a b)
-same-cost v w cs ds a b from to e c f t = rw (e, c, f, t) refl
+same-cost : (v w : World) (ts us : List PlainTerm) (p r : Pipeline) (a b from to : ℕ) → v ≡ w → ts ≡ us → p ≡ r → a ≡ from → b ≡ to
+    → rows_cost w us (table w r from to) ≡ rows_cost v ts (table v p a b)
+same-cost v w ts us p r a b from to e s c f t = rw (e, s, c, f, t) refl
 
 loaded-cost : (held : Contents) (q : RunRequest) (l : Loaded) → IsLoaded held q l → loaded_cost l ≡ cost_of held (Some (Run q))
 unfolding cost_of
-loaded-cost held q l h = same-cost (world_held held q) (owned_world l.world) (columns_held held) l.columns.items _ _ l.range.from l.range.to h.world h.columns h.from h.to
+loaded-cost held q l h =
+    same-cost (world_held held q) (owned_world l.world) (terms_held held) l.terms.items (pipeline_held held) (pipeline_of l.checked) _ _ l.range.from l.range.to h.world h.terms h.pipeline h.from h.to
 
 -- a command over the pipeline file alone, with these steps, which asks for no adjustments and counts no steps
 pub record IsOfFile (asked : Request) (name : List ℕ) (steps : Option (List ℕ) → List Step) : Type 0 where

@@ -5,12 +5,11 @@ use Rattle.pl_spec.specs.World.{World}
 use Rattle.pl_spec.specs.Table.{Pipeline, Row, table}
 use Rattle.pl_spec.specs.Text.{text}
 use Rattle.pl_syntax.specs.Canonical.{script_text}
-use Rattle.pl_plain.specs.PlainScript.{pipeline_of}
 use Rattle.pl_plain.specs.Rows.{rows_cost}
 use Rattle.pl_words.specs.declared.request.InputFile.TheVariants.{Pipeline as PipelineFile}
 use Rattle.pl_words.specs.Request.{Request, Run, Fmt, Check, RunRequest}
 use Rattle.pl_judge.specs.Contents.{Contents}
-use Rattle.pl_judge.specs.Held.{columns_held, script_in, pipeline_in, world_held}
+use Rattle.pl_judge.specs.Held.{script_in, pipeline_in, pipeline_held, terms_held, world_held}
 use Rattle.pl_judge.specs.Range.{index_of}
 
 -- the rows of the sessions that are asked for
@@ -21,7 +20,7 @@ rows_asked w p q = table w p (index_of w.days q.from.day) (index_of w.days q.to.
 abbrev pub run_text : Contents → RunRequest → List ℕ
 run_text held q =
     let w = world_held held q in
-    let p = pipeline_of (columns_held held) in
+    let p = pipeline_held held in
     text w p Csv (rows_asked w p q)
 
 -- how many terms and columns a pipeline has
@@ -40,8 +39,7 @@ text_of held (Some (Check name)) = check_text (pipeline_in (held.file PipelineFi
 abbrev pub run_cost : Contents → RunRequest → ℕ
 run_cost held q =
     let w = world_held held q in
-    let columns = columns_held held in
-    rows_cost w columns (rows_asked w (pipeline_of columns) q)
+    rows_cost w (terms_held held) (rows_asked w (pipeline_held held) q)
 
 unfoldable pub cost_of : Contents → Option Request → ℕ
 cost_of held None = 0

@@ -6,12 +6,11 @@ ghost use Rattle.pl_spec.specs.Text.{header};
 ghost use Rattle.pl_outside.specs.Lists.{Lists};
 ghost use Rattle.pl_outside.specs.Taken.{Writes};
 ghost use Rattle.pl_outside.specs.Left.{Leaves, LeavesSink, IsUntouched};
-ghost use Rattle.pl_plain.specs.PlainScript.{pipeline_of};
 ghost use Rattle.pl_words.specs.Request.{Run, Fmt, Check};
 ghost use Rattle.pl_words.specs.Views.{run_of};
 ghost use Rattle.pl_cli.specs.Runs.{observed};
 ghost use Rattle.pl_load.specs.Loads.{IsReady};
-ghost use Rattle.pl_terms.specs.Checked.{pipeline_of as pipeline_checked};
+ghost use Rattle.pl_terms.specs.Checked.{pipeline_of};
 ghost use Rattle.pl_cli.specs.Texts.{check_text};
 ghost use Rattle.pl_cli.specs.Commands.{IsEnded, IsCaused, loaded_text, loaded_cost};
 
@@ -47,7 +46,7 @@ pub fn run_command<S: Shelf, K: AdjustKeeper, O: Sink, L: Ledger>(
     ensures out { LeavesSink O.sound O.faults out.old out.new }
 {
     let loaded = load(alloc, request, shelf, keeper)?;
-    let header = make_header(alloc, &loaded.columns)?;
+    let header = make_header(alloc, &loaded.checked)?;
     write_loaded(&loaded, &header, out, steps)
 }
 
@@ -59,7 +58,7 @@ fn write_loaded<O: Sink, L: Ledger>(
     steps: &mut Steps<L>,
 ) -> Result<(), Fault>
     requires ready { IsReady loaded.now }
-    requires headed { first_line.now ≡ header (pipeline_of loaded.now.columns.items) Csv }
+    requires headed { first_line.now ≡ header (pipeline_of loaded.now.checked) Csv }
     ensures writes { Writes O.taken O.faults O.sound O.room out.old out.new (loaded_text loaded.now) result }
     ensures unwritten { IfErr result (λ fault. fault ≡ Fault.Unwritten) }
     ensures cost { OnOk result (steps.new ≡ steps.old + loaded_cost loaded.now) }
@@ -68,7 +67,8 @@ fn write_loaded<O: Sink, L: Ledger>(
     let table = TableText {
         header: first_line,
         world: loaded.world.world(),
-        columns: &loaded.columns,
+        checked: &loaded.checked,
+        terms: &loaded.terms,
         from: loaded.range.from,
         to: loaded.range.to,
     };
@@ -129,7 +129,7 @@ pub fn check_command<S: Shelf, O: Sink>(
 
 // Writes how many terms and columns the pipeline has.
 fn write_counts<O: Sink>(checked: &Checked, out: &mut O) -> Result<(), Failed>
-    ensures { Writes O.taken O.faults O.sound O.room out.old out.new (check_text (pipeline_checked checked.now)) result }
+    ensures { Writes O.taken O.faults O.sound O.room out.old out.new (check_text (pipeline_of checked.now)) result }
 {
     let mut terms = Buffer::new();
     let mut columns = Buffer::new();

@@ -20,8 +20,8 @@ use Rattle.pl_syntax.specs.Said.{Said, Spelled, Faulty, said}
 use Rattle.pl_check.specs.Typed.{typed}
 use Rattle.pl_outside.specs.declared.keeper.Table.{Table}
 use Rattle.pl_outside.specs.declared.keeper.Table.TheVariants.{Splits, Mergers, Dividends}
-use Rattle.pl_plain.specs.declared.script.PlainColumn.{PlainColumn}
-use Rattle.pl_plain.specs.PlainScript.{plain_columns}
+use Rattle.pl_model.specs.declared.cell.PlainTerm.{PlainTerm}
+use Rattle.pl_plain.specs.PlainPipelines.{plain_terms}
 use Rattle.pl_words.specs.declared.request.InputFile.TheVariants.{Pipeline as PipelineFile, Sessions, Assets, Labels, Bars}
 use Rattle.pl_words.specs.Request.{RunRequest}
 use Rattle.pl_judge.specs.Contents.{Contents}
@@ -43,9 +43,6 @@ no_pipeline = record { graph = []; columns = []; screen = None; names = [] }
 -- the pipeline that its script means
 unfoldable pub pipeline_in : Option (List ℕ) → Pipeline
 pipeline_in file = result_unwrap_or (typed (script_in file)) no_pipeline
-
-unfoldable pub columns_in : Option (List ℕ) → List PlainColumn
-columns_in file = unwrap_or (plain_columns (script_in file).statements) []
 
 unfoldable pub days_in : Option (List ℕ) → List ℤ
 days_in file = result_unwrap_or (sessions_of (csv_records (bytes_in file))) []
@@ -77,8 +74,12 @@ adjustments_asked assets (Some name) rows = adjustments_from assets rows
 
 -- ---- of a run's contents
 
-abbrev pub columns_held : Contents → List PlainColumn
-columns_held held = columns_in (held.file PipelineFile)
+abbrev pub pipeline_held : Contents → Pipeline
+pipeline_held held = pipeline_in (held.file PipelineFile)
+
+-- what its columns show
+abbrev pub terms_held : Contents → List PlainTerm
+terms_held held = unwrap_or (plain_terms (pipeline_held held)) []
 
 abbrev pub days_held : Contents → List ℤ
 days_held held = days_in (held.file Sessions)

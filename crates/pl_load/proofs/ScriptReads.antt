@@ -1,9 +1,8 @@
--- The pipeline file that was read, its rules and its form.
+-- The pipeline file that was read, and its rules.
 use Rattle.std.proofs.Common.{◌≡◌, ◌⊎◌, inl, inr, ◌≤◌, ℕ, List, [], ◌∷◌, Bool, length, Option, Some, None, Result, Ok, Err, refl, ◌∙◌, arith}
 use Rattle.std.specs.Option.{option_or}
 use Rattle.pl_outside.specs.Files.{Files}
 use Rattle.pl_grammar.specs.Faults as syntax
-use Rattle.pl_grammar.specs.Script.{Statement}
 use Rattle.pl_syntax.specs.declared.error.SyntaxError.{SyntaxError}
 use Rattle.pl_syntax.specs.declared.error.SyntaxError.TheVariants as errors
 use Rattle.pl_syntax.specs.Parsing.{IsCause}
@@ -15,14 +14,11 @@ use Rattle.pl_check.specs.declared.fault.CheckError.{CheckError}
 use Rattle.pl_check.specs.declared.fault.CheckError.TheVariants as check_errors
 use Rattle.pl_check.specs.Answers.{Fails}
 use Rattle.pl_check.specs.Typed.{typed}
-use Rattle.pl_plain.specs.declared.script.PlainColumn.{PlainColumn}
-use Rattle.pl_plain.specs.PlainScript.{plain_columns}
-use Rattle.pl_plain.proofs.PlainScripts.{scripts-read}
 use Rattle.pl_judge.specs.declared.fault.Fault.{Fault}
-use Rattle.pl_judge.specs.declared.fault.Fault.TheVariants.{Unbuilt, Memory}
+use Rattle.pl_judge.specs.declared.fault.Fault.TheVariants.{Memory}
 use Rattle.pl_judge.specs.Rules.{syntax_error, check_error}
-use Rattle.pl_judge.specs.Held.{script_in, pipeline_in, columns_in}
-use Rattle.pl_judge.specs.Work.{fault_said, syntax_rule, script_rule, form_rule, syntax_step, pipeline_steps, plain_steps}
+use Rattle.pl_judge.specs.Held.{script_in, pipeline_in}
+use Rattle.pl_judge.specs.Work.{fault_said, syntax_rule, script_rule, syntax_step, pipeline_steps}
 use Rattle.pl_judge.specs.Steps.{rule, first_fault}
 use Rattle.pl_judge.specs.Stages.{StageEnds}
 use Rattle.pl_judge.proofs.Steps.{stage-goes_on, stage-stops}
@@ -82,52 +78,8 @@ no-pipeline {script = script} said Means e fault h fails is =
       means = tt;
     })
 
--- ---- the form of a script
-
-form-passes : {T : Type 0} {s k : Bool} (held script : Parsed) (columns : List PlainColumn) (x : T) → held ≡ script → plain_columns script.statements ≡ Some columns
-    → StageEnds s k (rule (form_rule held.statements) ∷ []) (Ok x)
-unfolding form_rule
-form-passes held script columns x e h = record { passed = rw (e, h) refl; stopped = tt }
-
-form-stops : {T : Type 0} {s k : Bool} (held script : Parsed) → held ≡ script → plain_columns script.statements ≡ None
-    → StageEnds {T = T} s k (rule (form_rule held.statements) ∷ []) (Err Unbuilt)
-unfolding form_rule
-form-stops held script e h = record { passed = tt; stopped = inl (rw (e, h) refl) }
-
--- the statements of a file have columns
-columns-in : (file : Option (List ℕ)) (script : Parsed) (columns : List PlainColumn) → script_in file ≡ script → plain_columns script.statements ≡ Some columns → columns_in file ≡ columns
-unfolding columns_in
-columns-in file script columns e h = rw (e, h) refl
-
-pub columns-read : {S T : Type 0} {tells : Option Files} {sound : Bool} {name : Option (List ℕ)} {script : S} (said : S → Parsed) (Means : Option (List ℕ) → T → Type 0) (columns : List PlainColumn) (x : T)
-    → IsRead tells sound name (λ held. syntax_step held ∷ []) (λ held y. script_in held ≡ said y) (Ok script) → plain_columns (said script).statements ≡ Some columns
-    → ((file : Option (List ℕ)) → columns_in file ≡ columns → Means file x)
-    → IsRead tells sound name plain_steps Means (Ok x)
-columns-read {script = script} said Means columns x h plain means =
-    record {
-      file = h.file;
-      is_told = h.is_told;
-      ends = stage-goes_on h.ends (form-passes (script_in h.file) (said script) columns x h.means plain);
-      means = means h.file (columns-in h.file (said script) columns h.means plain);
-    }
-
--- ... or have none
-pub no-columns : {S T : Type 0} {tells : Option Files} {sound : Bool} {name : Option (List ℕ)} {script : S} (said : S → Parsed) (Means : Option (List ℕ) → T → Type 0)
-    → IsRead tells sound name (λ held. syntax_step held ∷ []) (λ held y. script_in held ≡ said y) (Ok script) → plain_columns (said script).statements ≡ None
-    → IsRead tells sound name plain_steps Means (Err Unbuilt)
-no-columns {script = script} said Means h plain =
-    record {
-      file = h.file;
-      is_told = h.is_told;
-      ends = stage-goes_on h.ends (form-stops (script_in h.file) (said script) h.means plain);
-      means = tt;
-    }
-
--- memory is wanted for the columns
+-- the file was not read, or holds no script
 pub no-script : {S T : Type 0} {tells : Option Files} {sound : Bool} {name : Option (List ℕ)} {fault : Fault} (Said : Option (List ℕ) → S → Type 0) (Means : Option (List ℕ) → T → Type 0)
     → IsRead {T = S} tells sound name (λ held. syntax_step held ∷ []) Said (Err fault)
     → IsRead tells sound name plain_steps Means (Err fault)
 no-script Said Means h = record { file = h.file; is_told = h.is_told; ends = stage-stops _ h.ends; means = tt }
-
-pub columns-few : (columns : List PlainColumn) (statements : List Statement) → plain_columns statements ≡ Some columns → length columns ≤ 64
-columns-few columns statements h = ((scripts-read columns statements).0 h).few
