@@ -1,5 +1,5 @@
 -- How the commands end.
-use Rattle.std.proofs.Common.{◌≡◌, inl, inr, ℕ, ◌+◌, ◌≤◌, Bool, true, IsTrue, List, [], ◌∷◌, ◌++◌, length, Option, Some, None, Result, Ok, Err, OnOk, OnErr, IfErr, refl, sym, ◌∙◌, arith}
+use Rattle.std.proofs.Common.{◌≡◌, inl, inr, ℕ, ◌+◌, ◌≤◌, Bool, true, List, [], ◌∷◌, Option, Some, None, Result, Ok, Err, OnOk, OnErr, IfErr, refl, arith}
 use Rattle.std.specs.Option.{ForSome}
 use Rattle.pl_spec.specs.declared.Format.TheVariants.{Csv}
 use Rattle.pl_spec.specs.World.{World}
@@ -8,7 +8,6 @@ use Rattle.pl_spec.specs.Text.{text}
 use Rattle.pl_outside.specs.Files.{Files}
 use Rattle.pl_outside.specs.Lists.{Lists}
 use Rattle.pl_outside.specs.Taken.{Writes}
-use Rattle.pl_outside.specs.declared.keeper.Table.{Table}
 use Rattle.pl_outside.proofs.Pieces.{writes-over}
 use Rattle.pl_terms.specs.Checked.{pipeline_of}
 use Rattle.pl_model.specs.declared.cell.PlainTerm.{PlainTerm}
@@ -17,7 +16,7 @@ use Rattle.pl_syntax.specs.Spells.{Parsed}
 use Rattle.pl_syntax.specs.Canonical.{script_text}
 use Rattle.pl_words.specs.declared.request.InputFile.{InputFile}
 use Rattle.pl_words.specs.declared.request.InputFile.TheVariants as files
-use Rattle.pl_words.specs.Request.{Request, Run, Fmt, Check, RunRequest, name_asked, name_of, pipeline_name, adjustments_of}
+use Rattle.pl_words.specs.Request.{Request, Run, Fmt, Check, RunRequest, name_asked, pipeline_name, adjustments_of}
 use Rattle.pl_judge.specs.declared.fault.Fault.{Fault}
 use Rattle.pl_judge.specs.declared.fault.Fault.TheVariants.{Usage, Unwritten, Memory}
 use Rattle.pl_judge.specs.Contents.{Contents, AreHeld}
@@ -25,14 +24,14 @@ use Rattle.pl_judge.specs.Held.{script_in, pipeline_in, pipeline_held, terms_hel
 use Rattle.pl_judge.specs.Range.{index_of}
 use Rattle.pl_judge.specs.Steps.{Step, first_fault}
 use Rattle.pl_judge.specs.Work.{syntax_step, pipeline_steps, work}
-use Rattle.pl_judge.specs.Stages.{IsStop, IsRisen, StageEnds}
+use Rattle.pl_judge.specs.Stages.{IsStop, IsRisen}
 use Rattle.pl_judge.proofs.Steps.{stop-weaker, always}
 use Rattle.pl_load.specs.declared.loading.Loaded.{Loaded}
 use Rattle.pl_load.specs.Reads.{IsRead}
 use Rattle.pl_load.specs.Loads.{IsLoad, IsLoaded, owned_world}
 use Rattle.pl_cli.specs.Texts.{text_of, cost_of, check_text}
-use Rattle.pl_cli.specs.Runs.{Observed, HasRoom}
-use Rattle.pl_cli.specs.Commands.{IsEnd, IsDone, IsEnded, IsCaused, loaded_text, loaded_cost}
+use Rattle.pl_cli.specs.Runs.{Observed}
+use Rattle.pl_cli.specs.Commands.{IsEnd, IsEnded, IsCaused, loaded_text, loaded_cost}
 
 -- what stops the work is no fault of writing
 end-of : (o : Observed) (held : Contents) (asked : Option Request) (s k : Type 0) (fault : Fault) → IsRisen s k fault
@@ -77,18 +76,18 @@ loaded-cost held q l h =
 
 -- a command over the pipeline file alone, with these steps, which asks for no adjustments and counts no steps
 pub record IsOfFile (asked : Request) (name : List ℕ) (steps : Option (List ℕ) → List Step) : Type 0 where
-  pub files : (f : InputFile) → name_asked (Some asked) f ≡ pipeline_name name f
+  pub named : (f : InputFile) → name_asked (Some asked) f ≡ pipeline_name name f
   pub rows : adjustments_of (Some asked) ≡ None
   pub work : (held : Contents) → work held (Some asked) ≡ steps (held.file files.Pipeline)
   pub free : (held : Contents) → cost_of held (Some asked) ≡ 0
 
 pub fmt-is : (name : List ℕ) → IsOfFile (Fmt name) name (λ held. syntax_step held ∷ [])
 unfolding work cost_of
-fmt-is name = record { files = λ f. refl; rows = refl; work = λ held. refl; free = λ held. refl }
+fmt-is name = record { named = λ f. refl; rows = refl; work = λ held. refl; free = λ held. refl }
 
 pub check-is : (name : List ℕ) → IsOfFile (Check name) name pipeline_steps
 unfolding work cost_of
-check-is name = record { files = λ f. refl; rows = refl; work = λ held. refl; free = λ held. refl }
+check-is name = record { named = λ f. refl; rows = refl; work = λ held. refl; free = λ held. refl }
 
 -- their texts
 pub fmt-text : (name bytes : List ℕ) (script : Parsed) → bytes ≡ script_text 1 script.statements
@@ -166,7 +165,7 @@ module _ {O : Type 0} (taken : O → Option (List ℕ)) (faults : O → ℕ) (so
       → ForSome (Some name) (λ n. ForSome tells (λ told. file ≡ told n)) → AreHeld tells lists (Some asked) (pipeline_held file)
   are-held asked name steps file of h =
       record {
-        files_held = λ f. rw (of.files f) (pipeline-files name file h f);
+        files_held = λ f. rw (of.named f) (pipeline-files name file h f);
         rows_held = λ t n is. absurd (let none = of.rows in cc);
       }
 

@@ -1,5 +1,5 @@
 -- What the contents are read as; nothing where a file isn't there or has a fault.
-use Rattle.std.specs.Prelude.{ℕ, ℤ, List, [], Option, Some, None, unwrap_or, option_and_then}
+use Rattle.std.specs.Prelude.{ℕ, ℤ, List, [], Option, Some, None, unwrap_or}
 use Rattle.std.specs.Result.{result_unwrap_or}
 use Rattle.std.specs.Prelude.{Result}
 use Rattle.pl_spec.specs.declared.AssetRow.{AssetRow}

@@ -1,5 +1,5 @@
 -- What the faults of a text, of a script, of records and of rows are to a command. Too many of them pass a limit.
-use Rattle.std.specs.Prelude.{ℕ, List, Option, Some, None, Result, Ok, Err}
+use Rattle.std.specs.Prelude.{ℕ, Option, Some, None}
 use Rattle.pl_records.specs.Reading as reading
 use Rattle.pl_calendar.specs.Days as calendar
 use Rattle.pl_assets.specs.Assets as assets
@@ -15,7 +15,6 @@ use Rattle.pl_check.specs.declared.fault.CheckFault.TheVariants as checks
 use Rattle.pl_check.specs.declared.fault.CheckError.{CheckError}
 use Rattle.pl_check.specs.declared.fault.CheckError.TheVariants as check_errors
 use Rattle.pl_words.specs.declared.request.InputFile.TheVariants as files
-use Rattle.pl_judge.specs.declared.fault.SyntaxFault.{SyntaxFault}
 use Rattle.pl_judge.specs.declared.fault.SyntaxFault.TheVariants as misspelled
 use Rattle.pl_judge.specs.declared.fault.RuleFault.TheVariants as broken
 use Rattle.pl_judge.specs.declared.fault.DataFault.TheVariants.{BadHeader, Empty, BadDate, NotAscending, BadField, StartAfterEnd, DuplicateSid, LabelTooLong, DuplicateStart, NotSession, UnknownSid, Negative, Duplicate}

@@ -1,5 +1,5 @@
 -- The pipeline file that was read, and its rules.
-use Rattle.std.proofs.Common.{◌≡◌, ◌⊎◌, inl, inr, ◌≤◌, ℕ, List, [], ◌∷◌, Bool, length, Option, Some, None, Result, Ok, Err, refl, ◌∙◌, arith}
+use Rattle.std.proofs.Common.{◌≡◌, ◌⊎◌, inl, inr, ◌≤◌, ℕ, List, [], ◌∷◌, Bool, length, Option, Some, None, Ok, Err, refl, arith}
 use Rattle.std.specs.Option.{option_or}
 use Rattle.pl_outside.specs.Files.{Files}
 use Rattle.pl_grammar.specs.Faults as syntax

@@ -2,7 +2,7 @@ use Rattle.std.proofs.lemmas.Result.{err_from_is_err_and}
 use Rattle.pl_syntax.specs.declared.script.Script.{Script}
 use Rattle.pl_syntax.specs.Scripts.{parsed}
 use Rattle.pl_terms.specs.Checked.{Parts, pipeline_of}
-use Rattle.pl_load.proofs.ScriptReads.{pipeline-read, no-pipeline, no-script}
+use Rattle.pl_load.proofs.ScriptReads.{pipeline-read, no-pipeline}
 use Rattle.pl_load.proofs.inputs.read_checked.Goals as goal
 
 pub returns-in_err-check-clause-read : goal.returns-in_err-check-clause-read
