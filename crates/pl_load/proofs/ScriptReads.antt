@@ -81,5 +81,5 @@ no-pipeline {script = script} said Means e fault h fails is =
 -- the file was not read, or holds no script
 pub no-script : {S T : Type 0} {tells : Option Files} {sound : Bool} {name : Option (List ℕ)} {fault : Fault} (Said : Option (List ℕ) → S → Type 0) (Means : Option (List ℕ) → T → Type 0)
     → IsRead {T = S} tells sound name (λ held. syntax_step held ∷ []) Said (Err fault)
-    → IsRead tells sound name plain_steps Means (Err fault)
+    → IsRead tells sound name pipeline_steps Means (Err fault)
 no-script Said Means h = record { file = h.file; is_told = h.is_told; ends = stage-stops _ h.ends; means = tt }

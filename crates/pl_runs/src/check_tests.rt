@@ -1,5 +1,5 @@
-// What `check` writes and refuses.
-use crate::test_runs::{NO_ROWS, answer, make_left, words_of};
+// What `check` writes, and what it and `run` refuse.
+use crate::test_runs::{NO_ROWS, answer, make_left, run_words, words_of};
 use std::test::Fail;
 
 const USUAL: &[u8] = b"pipeline 1;\n\
@@ -27,7 +27,8 @@ fn counts_terms_and_columns(rt: HostRuntime) -> Result<(), Fail> {
 #[test]
 fn refuses_broken_rules(rt: HostRuntime) -> Result<(), Fail> {
     let alloc = rt.alloc();
-    let words = words_of(alloc, "check p.pl")?;
+    let check = words_of(alloc, "check p.pl")?;
+    let run = run_words(alloc, "2024-01-03 2024-01-09")?;
     for (statements, fault) in [
         ("column x = a < b < c;", "2:18: syntax Unexpected"),
         ("column x = (close.latest", "2:25: syntax Unexpected"),
@@ -54,12 +55,10 @@ fn refuses_broken_rules(rt: HostRuntime) -> Result<(), Fail> {
     ] {
         let file = format!(in alloc; "pipeline 1;\n{statements}")?;
         let line = format!(in alloc; "p.pl:{fault}\n")?;
-        let got = answer(alloc, &words, ("p.pl", file.as_bytes()), NO_ROWS)?;
-        assert_eq!(rt;
-            got,
-            make_left(alloc, 3, b"", line.as_bytes())?,
-            "{statements}"
-        );
+        for words in [&check, &run] {
+            let got = answer(alloc, words, ("p.pl", file.as_bytes()), NO_ROWS)?;
+            assert_eq!(rt; got, make_left(alloc, 3, b"", line.as_bytes())?, "{statements}");
+        }
     }
     Ok(())
 }
@@ -67,7 +66,8 @@ fn refuses_broken_rules(rt: HostRuntime) -> Result<(), Fail> {
 #[test]
 fn refuses_too_much(rt: HostRuntime) -> Result<(), Fail> {
     let alloc = rt.alloc();
-    let words = words_of(alloc, "check p.pl")?;
+    let check = words_of(alloc, "check p.pl")?;
+    let run = run_words(alloc, "2024-01-03 2024-01-09")?;
     let mut columns = String::from_str(alloc, "pipeline 1;\n")?;
     let mut terms = String::from_str(alloc, "pipeline 1;\n")?;
     for number in 0..65 {
@@ -81,8 +81,10 @@ fn refuses_too_much(rt: HostRuntime) -> Result<(), Fail> {
         (&columns, b"limit: columns\n".as_slice()),
         (&terms, b"limit: terms\n"),
     ] {
-        let got = answer(alloc, &words, ("p.pl", file.as_bytes()), NO_ROWS)?;
-        assert_eq!(rt; got, make_left(alloc, 6, b"", line)?);
+        for words in [&check, &run] {
+            let got = answer(alloc, words, ("p.pl", file.as_bytes()), NO_ROWS)?;
+            assert_eq!(rt; got, make_left(alloc, 6, b"", line)?);
+        }
     }
     Ok(())
 }

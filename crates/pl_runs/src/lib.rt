@@ -4,8 +4,6 @@
 #[cfg(test)]
 mod check_tests;
 #[cfg(test)]
-mod plain_tests;
-#[cfg(test)]
 mod recorded_tests;
 #[cfg(test)]
 mod refusal_tests;

@@ -8,7 +8,7 @@ use Rattle.pl_judge.proofs.range.judge_reach.Goals as goal
 pub returns-then-from-window-clause-ends : goal.returns-then-from-window-clause-ends
 returns-then-from-window-clause-ends c = λ days.
     let p = pipeline_of c.args.checked.now in
-    let plain = plain-is p c.args.terms.now c.graph-terms.ensures.checked.graph c.requires in
+    let plain = plain-is p c.args.terms.now c.graph-terms.ensures.checked.graph c.requires.plain in
     let window = c.greatest_window-window.ensures in
     record {
       passed = tt;
@@ -19,5 +19,5 @@ returns-then-from-window-clause-ends c = λ days.
 pub returns-clause-ends : goal.returns-clause-ends
 returns-clause-ends c = λ days.
     let p = pipeline_of c.args.checked.now in
-    let plain = plain-is p c.args.terms.now c.graph-terms.ensures.checked.graph c.requires in
+    let plain = plain-is p c.args.terms.now c.graph-terms.ensures.checked.graph c.requires.plain in
     record { passed = late-enough p c.args.terms.now days c.args.from plain (omega (arith, c.greatest_window-window.ensures, c.if-from-window.false)); stopped = tt }
