@@ -150,8 +150,8 @@ module _ {O : Type 0} (taken : O → Option (List ℕ)) (faults : O → ℕ) (so
 
   -- ---- commands over the pipeline file alone
 
-  abbrev pipeline_held : Option (List ℕ) → Contents
-  pipeline_held file = record { file = λ f. file; rows = λ t. [] }
+  abbrev file_held : Option (List ℕ) → Contents
+  file_held file = record { file = λ f. file; rows = λ t. [] }
 
   pipeline-files : (name : List ℕ) (file : Option (List ℕ)) → ForSome (Some name) (λ n. ForSome tells (λ told. file ≡ told n))
       → (f : InputFile) → ForSome (pipeline_name name f) (λ n. ForSome tells (λ told. file ≡ told n))
@@ -162,7 +162,7 @@ module _ {O : Type 0} (taken : O → Option (List ℕ)) (faults : O → ℕ) (so
   pipeline-files name file h files.Bars = λ n is. absurd (cc)
 
   are-held : (asked : Request) (name : List ℕ) (steps : Option (List ℕ) → List Step) (file : Option (List ℕ)) → IsOfFile asked name steps
-      → ForSome (Some name) (λ n. ForSome tells (λ told. file ≡ told n)) → AreHeld tells lists (Some asked) (pipeline_held file)
+      → ForSome (Some name) (λ n. ForSome tells (λ told. file ≡ told n)) → AreHeld tells lists (Some asked) (file_held file)
   are-held asked name steps file of h =
       record {
         files_held = λ f. rw (of.named f) (pipeline-files name file h f);
@@ -174,11 +174,11 @@ module _ {O : Type 0} (taken : O → Option (List ℕ)) (faults : O → ℕ) (so
       → IsEnded {T = Unit {0}} (seen taken sound room old new tells lists shelf keeper before now) (Some asked) (Err fault)
   file-stops asked name steps s k fault Means of same risen h =
       record {
-        held = pipeline_held h.file;
+        held = file_held h.file;
         are_held = are-held asked name steps h.file of h.is_told;
         done = tt;
-        ended = end-of (seen taken sound room old new tells lists shelf keeper before now) (pipeline_held h.file) (Some asked) s k fault risen
-            (rw (of.work (pipeline_held h.file)) (stop-weaker shelf keeper shelf true (steps h.file) fault (λ t. t) always h.ends.stopped));
+        ended = end-of (seen taken sound room old new tells lists shelf keeper before now) (file_held h.file) (Some asked) s k fault risen
+            (rw (of.work (file_held h.file)) (stop-weaker shelf keeper shelf true (steps h.file) fault (λ t. t) always h.ends.stopped));
         most = omega (arith, same);
       }
 
@@ -187,7 +187,7 @@ module _ {O : Type 0} (taken : O → Option (List ℕ)) (faults : O → ℕ) (so
       → IsOfFile asked name steps → now ≡ before → IsRead tells shelf (Some name) steps Means (Ok x)
       → IsEnded {T = Unit {0}} (seen taken sound room old new tells lists shelf keeper before now) (Some asked) (Err Memory)
   no-text asked name steps x Means of same h =
-      record { held = pipeline_held h.file; are_held = are-held asked name steps h.file of h.is_told; done = tt; ended = inr tt; most = omega (arith, same) }
+      record { held = file_held h.file; are_held = are-held asked name steps h.file of h.is_told; done = tt; ended = inr tt; most = omega (arith, same) }
 
   no-step : (r : Result (Unit {0}) Fault) (cost : ℕ) → now ≡ before → cost ≡ 0 → OnOk r (now ≡ before + cost)
   no-step (Ok x) cost same none = omega (arith, same, none)
@@ -195,13 +195,13 @@ module _ {O : Type 0} (taken : O → Option (List ℕ)) (faults : O → ℕ) (so
 
   pub file-written : {T : Type 0} (asked : Request) (name : List ℕ) (steps : Option (List ℕ) → List Step) (x : T) (Means : Option (List ℕ) → T → Type 0) (bytes : List ℕ)
       (r : Result (Unit {0}) Fault) → IsOfFile asked name steps → now ≡ before → IsRead tells shelf (Some name) steps Means (Ok x)
-      → ((file : Option (List ℕ)) → Means file x → bytes ≡ text_of (pipeline_held file) (Some asked))
+      → ((file : Option (List ℕ)) → Means file x → bytes ≡ text_of (file_held file) (Some asked))
       → Writes taken faults sound room old new bytes r → IfErr r (λ f. f ≡ Unwritten)
       → IsEnded (seen taken sound room old new tells lists shelf keeper before now) (Some asked) r
   file-written asked name steps x Means bytes r of same h text w is =
-      let none = of.free (pipeline_held h.file) in
-      ends-written (pipeline_held h.file) (Some asked) r (are-held asked name steps h.file of h.is_told) (rw (of.work (pipeline_held h.file)) h.ends.passed)
-      (writes-over (text h.file h.means) w) is (no-step r (cost_of (pipeline_held h.file) (Some asked)) same none) (omega (arith, same, none))
+      let none = of.free (file_held h.file) in
+      ends-written (file_held h.file) (Some asked) r (are-held asked name steps h.file of h.is_told) (rw (of.work (file_held h.file)) h.ends.passed)
+      (writes-over (text h.file h.means) w) is (no-step r (cost_of (file_held h.file) (Some asked)) same none) (omega (arith, same, none))
 
 -- what was not written has its cause
 pub caused-written : (s k risen kept : Type 0) (r : Result (Unit {0}) Fault) → IfErr r (λ f. f ≡ Unwritten) → OnErr r risen → IfErr r (IsCaused ⊥ s k risen kept)

@@ -57,7 +57,11 @@ fn refuses_broken_rules(rt: HostRuntime) -> Result<(), Fail> {
         let line = format!(in alloc; "p.pl:{fault}\n")?;
         for words in [&check, &run] {
             let got = answer(alloc, words, ("p.pl", file.as_bytes()), NO_ROWS)?;
-            assert_eq!(rt; got, make_left(alloc, 3, b"", line.as_bytes())?, "{statements}");
+            assert_eq!(rt;
+                got,
+                make_left(alloc, 3, b"", line.as_bytes())?,
+                "{statements}"
+            );
         }
     }
     Ok(())

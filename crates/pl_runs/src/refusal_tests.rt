@@ -110,7 +110,11 @@ fn refuses_pipelines(rt: HostRuntime) -> Result<(), Fail> {
     ] {
         let file = format!(in alloc; "pipeline 1;\n{statement}\n")?;
         let got = answer(alloc, &words, ("p.pl", file.as_bytes()), NO_ROWS)?;
-        assert_eq!(rt; got, make_left(alloc, 11, b"", b"unbuilt\n")?, "{statement}");
+        assert_eq!(rt;
+            got,
+            make_left(alloc, 11, b"", b"unbuilt\n")?,
+            "{statement}"
+        );
     }
     let long = vec![in alloc; b' '; 262_145]?;
     let line = b"limit: pipeline\n";
