@@ -26,7 +26,8 @@ run_text held q =
 -- how many terms and columns a pipeline has
 abbrev pub check_text : Pipeline → List ℕ
 check_text p =
-    codes "ok: " ++ decimal (length p.graph) ++ codes " terms, " ++ decimal (length p.columns) ++ codes " columns" ++ 10 ∷ []
+    codes "ok: " ++ decimal (length p.graph) ++ codes " terms, " ++ decimal (length p.columns)
+    ++ codes " columns" ++ 10 ∷ []
 
 -- the table of a run, the canonical text of a script, or the counts of a pipeline that keeps the rules
 unfoldable pub text_of : Contents → Option Request → List ℕ

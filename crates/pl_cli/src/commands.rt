@@ -112,8 +112,9 @@ pub fn check_command<S: Shelf, O: Sink>(
     out: &mut O,
 ) -> Result<(), Fault>
     // whatever a keeper tells, and however many steps were counted
-    ensures ended { (lists : Option Lists) (sound : Bool) (steps : ℕ) → IsEnded (observed S.holds S.sound (λ _. lists) (λ _. sound)
-        O.taken O.sound O.room shelf.old steps out.old out.new steps steps) (Some (Check name.now)) result }
+    ensures ended { (lists : Option Lists) (sound : Bool) (steps : ℕ)
+        → IsEnded (observed S.holds S.sound (λ _. lists) (λ _. sound) O.taken O.sound O.room shelf.old steps
+        out.old out.new steps steps) (Some (Check name.now)) result }
     ensures caused { IfErr result (IsCaused ⊥ (Rose (S.faults shelf.old) (S.faults shelf.new)) ⊥
         (Rose (O.faults out.old) (O.faults out.new))
         ((O.taken out.new ≡ O.taken out.old) × (O.room out.new ≡ O.room out.old))) }
@@ -129,7 +130,8 @@ pub fn check_command<S: Shelf, O: Sink>(
 
 // Writes how many terms and columns the pipeline has.
 fn write_counts<O: Sink>(checked: &Checked, out: &mut O) -> Result<(), Failed>
-    ensures { Writes O.taken O.faults O.sound O.room out.old out.new (check_text (pipeline_of checked.now)) result }
+    ensures { Writes O.taken O.faults O.sound O.room out.old out.new
+        (check_text (pipeline_of checked.now)) result }
 {
     let mut terms = Buffer::new();
     let mut columns = Buffer::new();

@@ -96,12 +96,14 @@ tables_name asked = unwrap_or (adjustments_of asked) []
 
 -- a place in the pipeline file
 abbrev pub place_text : Option Request → Place → List ℕ
-place_text asked place = file_name asked Pipeline ++ codes ":" ++ decimal place.line ++ codes ":" ++ decimal place.col
+place_text asked place =
+    file_name asked Pipeline ++ codes ":" ++ decimal place.line ++ codes ":" ++ decimal place.col
 
 -- without its line end
 abbrev pub message_of : Option Request → Fault → List ℕ
 message_of asked faults.Usage = codes "usage"
-message_of asked (faults.Syntax place fault) = place_text asked place ++ codes ": syntax " ++ syntax_text fault
+message_of asked (faults.Syntax place fault) =
+    place_text asked place ++ codes ": syntax " ++ syntax_text fault
 message_of asked (faults.Rule place fault) = place_text asked place ++ codes ": check " ++ rule_text fault
 message_of asked faults.Unbuilt = codes "unbuilt"
 message_of asked (faults.Data file line fault) =

@@ -1,4 +1,5 @@
--- What the faults of a text, of a script, of records and of rows are to a command. Too many of them pass a limit.
+-- What the faults of a text, of a script, of records and of rows are to a command. Too many of them pass a
+-- limit.
 use Rattle.std.specs.Prelude.{ℕ, Option, Some, None}
 use Rattle.pl_records.specs.Reading as reading
 use Rattle.pl_calendar.specs.Days as calendar

@@ -27,7 +27,8 @@ pub fn judge_dates(
     to: &DateWord<'_>,
     sessions: &Sessions,
 ) -> Result<Range, Fault>
-    ensures ends { StageEnds true true (dates_steps (dated_of from.now) (dated_of to.now) sessions.now) result }
+    ensures ends { StageEnds true true
+        (dates_steps (dated_of from.now) (dated_of to.now) sessions.now) result }
     ensures from { IfOk result (λ range. range.from ≡ index_of sessions.now from.now.day) }
     ensures to { IfOk result (λ range. range.to ≡ index_of sessions.now to.now.day) }
     ensures within { IfOk result (λ range. range.to < length sessions.now) }
@@ -46,11 +47,12 @@ pub fn judge_dates(
     Ok(Range { from, to })
 }
 
-/// On the session of this number the columns of a pipeline, which show these terms, show no bars of a session before the first one,
-/// whatever the days of the sessions are.
+/// On the session of this number the columns of a pipeline, which show these terms, show no bars of a session
+/// before the first one, whatever the days of the sessions are.
 pub fn judge_reach(checked: &Checked, terms: &[PlainTerm], from: usize) -> Result<(), Fault>
     requires plain { plain_terms (pipeline_of checked.now) ≡ Some terms.now }
-    ensures ends { (days : List ℤ) → StageEnds true true (reach_steps (pipeline_of checked.now) days from) result }
+    ensures ends { (days : List ℤ)
+        → StageEnds true true (reach_steps (pipeline_of checked.now) days from) result }
     ensures risen { IfErr result (IsRisen ⊥ ⊥) }
 {
     // what the terms mention stands before them

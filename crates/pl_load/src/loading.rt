@@ -15,8 +15,8 @@ use pl_terms::Checked;
 use pl_words::RunRequest;
 use std::alloc::Global;
 
-/// What was read and judged, and is left to write: the rows of a pipeline, whose columns show these terms, on the sessions of the
-/// range.
+/// What was read and judged, and is left to write: the rows of a pipeline, whose columns show these terms, on
+/// the sessions of the range.
 #[derive(Drop)]
 pub struct Loaded {
     pub checked: Checked,

@@ -1,5 +1,6 @@
--- The plain form of a pipeline, which is what a run computes for now: it has no screen, and each column shows the latest bar of a
--- bar column, or its mean over a window. Such a term mentions no other terms, so the columns' terms are all that are used.
+-- The plain form of a pipeline, which is what a run computes for now: it has no screen, and each column shows
+-- the latest bar of a bar column, or its mean over a window. Such a term mentions no other terms, so the
+-- columns' terms are all that are used.
 use Rattle.std.specs.Prelude.{ℕ, ◌==◌, max, ◌||◌, if◌then◌else◌, List, [], ◌∷◌, map, fold, Option, Some, None, is_some, option_map, option_and_then, slice_get}
 use Rattle.pl_spec.specs.declared.Column.{Column}
 use Rattle.pl_spec.specs.Kind.{Kind}
@@ -32,7 +33,8 @@ plain_at g t = option_and_then plain_node (slice_get g t)
 -- the terms of columns, where each is plain
 abbrev pub plain_columns : Graph → List NamedColumn → Option (List PlainTerm)
 plain_columns g [] = Some []
-plain_columns g (c ∷ cs) = option_and_then (λ t. option_map (λ ts. t ∷ ts) (plain_columns g cs)) (plain_at g c.term)
+plain_columns g (c ∷ cs) =
+    option_and_then (λ t. option_map (λ ts. t ∷ ts) (plain_columns g cs)) (plain_at g c.term)
 
 -- the terms of the columns of a plain pipeline
 unfoldable pub plain_terms : Pipeline → Option (List PlainTerm)

@@ -10,9 +10,9 @@ use pl_spec::Column;
 use pl_terms::{Checked, Input, Node, TermKind};
 use std::alloc::{AllocError, Global};
 
-/// The terms of the columns of a plain pipeline, column by column; `None` where the pipeline has another form: a screen, or a column
-/// whose term is neither the latest bar of a bar column nor its mean over a window, without a mask. It fails for want of memory
-/// alone.
+/// The terms of the columns of a plain pipeline, column by column; `None` where the pipeline has another form: a
+/// screen, or a column whose term is neither the latest bar of a bar column nor its mean over a window, without a
+/// mask. It fails for want of memory alone.
 pub fn plain_terms(alloc: Global, checked: &Checked) -> Result<Option<Vec<PlainTerm>>, AllocError>
     ensures read { IfOk result (λ read. MatchOption read
         (spec.plain_terms (pipeline_of checked.now) ≡ None)

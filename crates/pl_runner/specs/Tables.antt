@@ -19,8 +19,8 @@ table_text t = let w = world_of t.world in text w (shown t) Csv (table w (shown 
 abbrev pub table_cost : TableText → ℕ
 table_cost t = let w = world_of t.world in rows_cost w t.terms.now (table w (shown t) t.from t.to)
 
--- The parts were made for one another, the range is within the sessions, the terms are those of the pipeline's columns, and the header is
--- its header.
+-- The parts were made for one another, the range is within the sessions, the terms are those of the pipeline's
+-- columns, and the header is its header.
 pub record IsTable (t : TableText) : Type 0 where
   pub made : IsMade t.world
   pub within : t.to < length t.world.sessions.now

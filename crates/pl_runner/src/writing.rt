@@ -18,8 +18,8 @@ use pl_outside::{Failed, Sink, write_bytes};
 use pl_terms::Checked;
 use std::sync::ledger::Ledger;
 
-/// A table that is to be written: its header, and the rows of a pipeline's columns, which show these terms, on the sessions `from` to
-/// `to` of a world.
+/// A table that is to be written: its header, and the rows of a pipeline's columns, which show these terms, on
+/// the sessions `from` to `to` of a world.
 #[derive(Clone, Copy)]
 pub struct TableText<'a> {
     pub header: &'a [u8],

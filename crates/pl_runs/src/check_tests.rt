@@ -5,7 +5,8 @@ use std::test::Fail;
 const USUAL: &[u8] = b"pipeline 1;\n\
     let mean_10 = SimpleMovingAverage(close, 10);\nlet mean_30 = SimpleMovingAverage(close, 30);\n\
     let diff = (mean_10 - mean_30) / mean_30;\nlet liquid = AverageDollarVolume(30) > 10000000;\n\
-    column percent_difference = diff;\ncolumn latest = close.latest;\nscreen liquid & diff.top(100, mask=liquid);\n";
+    column percent_difference = diff;\ncolumn latest = close.latest;\n\
+    screen liquid & diff.top(100, mask=liquid);\n";
 
 #[test]
 fn counts_terms_and_columns(rt: HostRuntime) -> Result<(), Fail> {

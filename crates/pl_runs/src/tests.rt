@@ -25,7 +25,8 @@ fn writes_tables(rt: HostRuntime) -> Result<(), Fail> {
         // what no column uses is not computed; a window may have its name, and a term two columns
         (
             "p.pl",
-            b"pipeline 1; let unused = VWAP(2); let m = SimpleMovingAverage(close, window=2.0); column a = m; column b = m;",
+            b"pipeline 1; let unused = VWAP(2); let m = SimpleMovingAverage(close, window=2.0);\n\
+              column a = m; column b = m;",
             "2024-01-05 2024-01-05",
             b"session,sid,a,b\n2024-01-05,1,76.500000,76.500000\n",
         ),

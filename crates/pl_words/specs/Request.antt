@@ -89,7 +89,8 @@ run_request words = option_and_then (run_with words) (run_options words)
 
 -- this command and a name, and no other words
 abbrev pub is_of_file : List (List ℕ) → List ℕ → Bool
-is_of_file words command = length words == 2 && (bytes_eq (word words 0) command && is_plain_word (word words 1))
+is_of_file words command =
+    length words == 2 && (bytes_eq (word words 0) command && is_plain_word (word words 1))
 
 unfoldable pub request : List (List ℕ) → Option Request
 request words =
