@@ -6,13 +6,13 @@ use Rattle.pl_spec.specs.Table.{Pipeline}
 use Rattle.pl_outside.specs.declared.keeper.Table.{Table}
 use Rattle.pl_words.specs.declared.request.InputFile.{InputFile}
 use Rattle.pl_words.specs.declared.request.InputFile.TheVariants.{Labels as LabelsFile}
-use Rattle.pl_words.specs.Request.{Request, Run, Fmt, RunRequest, adjustments_of}
+use Rattle.pl_words.specs.Request.{Request, Run, Fmt, Check, RunRequest, Dated, adjustments_of}
 use Rattle.pl_judge.specs.Contents.{Contents}
-use Rattle.pl_judge.specs.Held.{assets_held}
+use Rattle.pl_judge.specs.Held.{assets_held, days_held, pipeline_held}
 use Rattle.pl_judge.specs.Steps.{Source, Step, ReachesRead}
 use Rattle.pl_judge.specs.Steps.Source.{Input, Load}
-use Rattle.pl_judge.specs.Range.{range_steps}
-use Rattle.pl_judge.specs.Work.{labels_steps, adjustments_steps, data_steps, run_steps, work}
+use Rattle.pl_judge.specs.Range.{index_of, dates_steps, reach_steps}
+use Rattle.pl_judge.specs.Work.{labels_steps, adjustments_steps, data_steps, range_steps, run_steps, work}
 
 no-input : {A : Type 0} {file : InputFile} {table : Table} → Some (Input file) ≡ Some (Load table) → A
 no-input h = absurd (cc)
@@ -35,15 +35,20 @@ of-adjustments : (assets : List AssetRow) (adjustments : Option (List ℕ)) (row
 of-adjustments assets None rows table h = absurd h
 of-adjustments assets (Some n) rows table h = refl
 
-of-range : (q : RunRequest) (p : Pipeline) (days : List ℤ) (table : Table) → ReachesRead (range_steps q p days) (Load table) → ⊥
-unfolding range_steps
-of-range q p days table h = elim h [
+of-dates : (from to : Dated) (days : List ℤ) (table : Table) → ReachesRead (dates_steps from to days) (Load table) → ⊥
+unfolding dates_steps
+of-dates from to days table h = elim h [
   | inl e ↦ no-read e
-  | inr a ↦ elim a.1 [
-    | inl e ↦ no-read e
-    | inr b ↦ elim b.1 [ inl e ↦ no-read e | inr d ↦ elim d.1 [ inl e ↦ no-read e | inr f ↦ f.1 ] ]
-  ]
+  | inr a ↦ elim a.1 [ inl e ↦ no-read e | inr b ↦ elim b.1 [ inl e ↦ no-read e | inr d ↦ d.1 ] ]
 ]
+
+of-reach : (p : Pipeline) (days : List ℤ) (from : ℕ) (table : Table) → ReachesRead (reach_steps p days from) (Load table) → ⊥
+unfolding reach_steps
+of-reach p days from table h = elim h [ inl e ↦ no-read e | inr a ↦ a.1 ]
+
+of-range : (p : Pipeline) (days : List ℤ) (from to : Dated) (table : Table) → ReachesRead (range_steps p days from to) (Load table) → ⊥
+of-range p days from to table h =
+    elim (reaches-one (dates_steps from to days) _ (Load table) h) [ inl a ↦ of-dates from to days table a | inr b ↦ of-reach p days (index_of days from.day) table b ]
 
 of-data : (held : Contents) (q : RunRequest) (table : Table) → ReachesRead (data_steps held q) (Load table) → IsSome q.options.adjustments
 unfolding data_steps
@@ -64,9 +69,12 @@ of-run held q table h = elim h [
   | inl p ↦ no-input p
   | inr a ↦ elim a.1 [
     | inl p ↦ no-read p
-    | inr b ↦ elim (reaches-one (data_steps held q) _ (Load table) b.1) [
-      | inl d ↦ of-data held q table d
-      | inr r ↦ absurd (of-range q _ _ table r)
+    | inr b ↦ elim b.1 [
+      | inl p ↦ no-read p
+      | inr d ↦ elim (reaches-one (data_steps held q) _ (Load table) d.1) [
+        | inl e ↦ of-data held q table e
+        | inr r ↦ absurd (of-range (pipeline_held held) (days_held held) q.from q.to table r)
+      ]
     ]
   ]
 ]
@@ -75,4 +83,5 @@ pub store-named : (held : Contents) (asked : Option Request) (table : Table) →
 unfolding work
 store-named held None table h = elim h [ inl p ↦ no-read p | inr a ↦ absurd a.1 ]
 store-named held (Some (Fmt n)) table h = elim h [ inl p ↦ no-input p | inr a ↦ absurd a.1 ]
+store-named held (Some (Check n)) table h = elim h [ inl p ↦ no-input p | inr a ↦ elim a.1 [ inl p ↦ no-read p | inr b ↦ absurd b.1 ] ]
 store-named held (Some (Run q)) table h = of-run held q table h

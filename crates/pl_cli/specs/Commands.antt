@@ -4,7 +4,7 @@ use Rattle.pl_spec.specs.declared.Format.TheVariants.{Csv}
 use Rattle.pl_spec.specs.Table.{table}
 use Rattle.pl_spec.specs.Text.{text}
 use Rattle.pl_outside.specs.Taken.{TakesAll, TakesPrefix}
-use Rattle.pl_plain.specs.PlainScript.{pipeline_of}
+use Rattle.pl_terms.specs.Checked.{pipeline_of}
 use Rattle.pl_plain.specs.Rows.{rows_cost}
 use Rattle.pl_words.specs.Request.{Request}
 use Rattle.pl_judge.specs.declared.fault.Fault.{Fault}
@@ -22,13 +22,13 @@ use Rattle.pl_cli.specs.Runs.{Observed, HasRoom}
 abbrev pub loaded_text : Loaded → List ℕ
 loaded_text l =
     let w = owned_world l.world in
-    let p = pipeline_of l.columns.items in
+    let p = pipeline_of l.checked in
     text w p Csv (table w p l.range.from l.range.to)
 
 abbrev pub loaded_cost : Loaded → ℕ
 loaded_cost l =
     let w = owned_world l.world in
-    rows_cost w l.columns.items (table w (pipeline_of l.columns.items) l.range.from l.range.to)
+    rows_cost w l.terms.items (table w (pipeline_of l.checked) l.range.from l.range.to)
 
 abbrev pub fault_of : {T : Type 0} → Result T Fault → Option Fault
 fault_of (Ok x) = None

@@ -4,44 +4,47 @@ use Rattle.std.proofs.lemmas.Int.{ints}
 use Rattle.std.proofs.lemmas.Bool.Decides.{nat_tests}
 use Rattle.pl_spec.specs.Window.{before}
 use Rattle.pl_spec.specs.Table.{Pipeline}
-use Rattle.pl_plain.specs.declared.script.PlainColumn.{PlainColumn}
-use Rattle.pl_plain.specs.PlainScript.{pipeline_of, greatest_window}
+use Rattle.pl_model.specs.declared.cell.PlainTerm.{PlainTerm}
+use Rattle.pl_plain.specs.PlainPipelines.{greatest_window}
 use Rattle.pl_words.specs.declared.request.RangeDate.TheVariants.{From, To}
-use Rattle.pl_words.specs.Request.{RunRequest}
+use Rattle.pl_words.specs.Request.{Dated}
 use Rattle.pl_judge.specs.declared.fault.Fault.TheVariants.{NotSession, Backwards, TooEarly}
 use Rattle.pl_judge.specs.Steps.{first_fault}
-use Rattle.pl_judge.specs.Range.{session_of, reach_at, range_steps}
-use Rattle.pl_plain.proofs.PlainPipelines.{pipeline-reaches, in-bars, before-bars}
+use Rattle.pl_judge.specs.Range.{session_of, reach_at, dates_steps, reach_steps}
+use Rattle.pl_plain.proofs.PlainPipelines.{IsPlain, pipeline-reaches, in-bars, before-bars}
 
-reach-is : (days : List ℤ) (cs : List PlainColumn) (d : ℕ) → reach_at days (pipeline_of cs) d ≡ before (pos d) (greatest_window cs)
+-- ---- the dates
+
+pub no-from : (from to : Dated) (days : List ℤ) → session_of days from.day ≡ None → first_fault (dates_steps from to days) ≡ Some (NotSession From)
+unfolding dates_steps
+no-from from to days f = rw f refl
+
+pub no-to : (from to : Dated) (days : List ℤ) (i : ℕ) → session_of days from.day ≡ Some i → session_of days to.day ≡ None → first_fault (dates_steps from to days) ≡ Some (NotSession To)
+unfolding dates_steps
+no-to from to days i f t = rw (f, t) refl
+
+pub backwards : (from to : Dated) (days : List ℤ) (i j : ℕ) → session_of days from.day ≡ Some i → session_of days to.day ≡ Some j → j < i → first_fault (dates_steps from to days) ≡ Some Backwards
+unfolding dates_steps
+backwards from to days i j f t h = let less : nat_lt j i ≡ true = grind (arith, nat_tests) in rw (f, t, less) refl
+
+pub in-order : (from to : Dated) (days : List ℤ) (i j : ℕ) → session_of days from.day ≡ Some i → session_of days to.day ≡ Some j → i ≤ j → first_fault (dates_steps from to days) ≡ None
+unfolding dates_steps
+in-order from to days i j f t h = let less : nat_lt j i ≡ false = grind (arith, nat_tests) in rw (f, t, less) refl
+
+-- ---- how far the columns reach back
+
+reach-is : (days : List ℤ) (p : Pipeline) (ts : List PlainTerm) (d : ℕ) → IsPlain p ts → reach_at days p d ≡ before (pos d) (greatest_window ts)
 unfolding reach_at
-reach-is days cs d = pipeline-reaches days cs (pos d)
+reach-is days p ts d h = pipeline-reaches days p ts (pos d) h
 
 pub back-by : (i n : ℕ) → i < n → n < 4294967296 → to_z w64 (of_z w64 (pos 0 -ℤ to_z w64 (n - i))) ≡ before (pos i) n
 back-by i n h few = omega (arith, ints)
 
-pub no-from : (q : RunRequest) (p : Pipeline) (days : List ℤ) → session_of days q.from.day ≡ None → first_fault (range_steps q p days) ≡ Some (NotSession From)
-unfolding range_steps
-no-from q p days f = rw f refl
+pub too-early : (p : Pipeline) (ts : List PlainTerm) (days : List ℤ) (i : ℕ) (reach : ℤ) → IsPlain p ts
+    → i < greatest_window ts → reach ≡ before (pos i) (greatest_window ts) → first_fault (reach_steps p days i) ≡ Some (TooEarly reach)
+unfolding reach_steps
+too-early p ts days i reach h early e = rw (reach-is days p ts i h, before-bars i (greatest_window ts) early, e) refl
 
-pub no-to : (q : RunRequest) (p : Pipeline) (days : List ℤ) (i : ℕ) → session_of days q.from.day ≡ Some i → session_of days q.to.day ≡ None → first_fault (range_steps q p days) ≡ Some (NotSession To)
-unfolding range_steps
-no-to q p days i f t = rw (f, t) refl
-
-pub backwards : (q : RunRequest) (p : Pipeline) (days : List ℤ) (i j : ℕ) → session_of days q.from.day ≡ Some i → session_of days q.to.day ≡ Some j → j < i → first_fault (range_steps q p days) ≡ Some Backwards
-unfolding range_steps
-backwards q p days i j f t h = let less : nat_lt j i ≡ true = grind (arith, nat_tests) in rw (f, t, less) refl
-
-pub too-early : (q : RunRequest) (cs : List PlainColumn) (days : List ℤ) (i j : ℕ) (reach : ℤ) → session_of days q.from.day ≡ Some i → session_of days q.to.day ≡ Some j → i ≤ j
-    → i < greatest_window cs → reach ≡ before (pos i) (greatest_window cs) → first_fault (range_steps q (pipeline_of cs) days) ≡ Some (TooEarly reach)
-unfolding range_steps
-too-early q cs days i j reach f t h early e =
-    let less : nat_lt j i ≡ false = grind (arith, nat_tests) in
-    rw (f, t, less, reach-is days cs i, before-bars i (greatest_window cs) early, e) refl
-
-pub in-range : (q : RunRequest) (cs : List PlainColumn) (days : List ℤ) (i j : ℕ) → session_of days q.from.day ≡ Some i → session_of days q.to.day ≡ Some j → i ≤ j
-    → greatest_window cs ≤ i → first_fault (range_steps q (pipeline_of cs) days) ≡ None
-unfolding range_steps
-in-range q cs days i j f t h late =
-    let less : nat_lt j i ≡ false = grind (arith, nat_tests) in
-    rw (f, t, less, reach-is days cs i, in-bars i (greatest_window cs) late) refl
+pub late-enough : (p : Pipeline) (ts : List PlainTerm) (days : List ℤ) (i : ℕ) → IsPlain p ts → greatest_window ts ≤ i → first_fault (reach_steps p days i) ≡ None
+unfolding reach_steps
+late-enough p ts days i h late = rw (reach-is days p ts i h, in-bars i (greatest_window ts) late) refl

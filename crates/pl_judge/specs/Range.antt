@@ -6,7 +6,7 @@ use Rattle.pl_spec.specs.Term.{term_at}
 use Rattle.pl_spec.specs.Graph.{least_of, reach}
 use Rattle.pl_spec.specs.Table.{Pipeline}
 use Rattle.pl_words.specs.declared.request.RangeDate.TheVariants.{From, To}
-use Rattle.pl_words.specs.Request.{RunRequest}
+use Rattle.pl_words.specs.Request.{Dated}
 use Rattle.pl_judge.specs.declared.fault.Fault.TheVariants.{NotSession, Backwards, TooEarly}
 use Rattle.pl_judge.specs.Steps.{Step, rule, when}
 
@@ -20,13 +20,14 @@ index_of days day = unwrap_or (session_of days day) 0
 unfoldable pub reach_at : List ℤ → Pipeline → ℕ → ℤ
 reach_at days p d = least_of (map (λ c. reach days (term_at p.graph c.term) (pos d)) p.columns) (pos d)
 
--- Both dates are sessions, in their order, and no bar before the first session is asked for.
-unfoldable pub range_steps : RunRequest → Pipeline → List ℤ → List Step
-range_steps q p days =
-    let from = index_of days q.from.day in
-    let to = index_of days q.to.day in
-    rule (when (not (is_some (session_of days q.from.day))) (NotSession From))
-    ∷ rule (when (not (is_some (session_of days q.to.day))) (NotSession To))
-    ∷ rule (when (nat_lt to from) Backwards)
-    ∷ rule (when (int_lt (reach_at days p from) (pos 0)) (TooEarly (reach_at days p from)))
+-- both dates are sessions, in their order
+unfoldable pub dates_steps : Dated → Dated → List ℤ → List Step
+dates_steps from to days =
+    rule (when (not (is_some (session_of days from.day))) (NotSession From))
+    ∷ rule (when (not (is_some (session_of days to.day))) (NotSession To))
+    ∷ rule (when (nat_lt (index_of days to.day) (index_of days from.day)) Backwards)
     ∷ []
+
+-- on session d the columns show no bars of a session before the first one
+unfoldable pub reach_steps : Pipeline → List ℤ → ℕ → List Step
+reach_steps p days d = rule (when (int_lt (reach_at days p d) (pos 0)) (TooEarly (reach_at days p d))) ∷ []

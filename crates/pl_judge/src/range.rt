@@ -1,16 +1,17 @@
 // The sessions that are asked for.
-ghost use Rattle.std.specs.Prelude.{◌≡◌, ◌≤◌, ◌<◌, true, length, IfOk, IfErr};
+ghost use Rattle.std.specs.Prelude.{◌≡◌, ◌≤◌, ◌<◌, ℤ, List, Some, true, length, IfOk, IfErr};
+ghost use Rattle.pl_terms.specs.Checked.{pipeline_of};
 ghost use Rattle.pl_model.specs.PlainTerms.{size_of};
-ghost use Rattle.pl_plain.specs.PlainScript.{pipeline_of, greatest_window};
-ghost use Rattle.pl_words.specs.Views.{run_of};
-ghost use Rattle.pl_judge.specs.Range.{range_steps, index_of};
+ghost use Rattle.pl_plain.specs.PlainPipelines.{plain_terms, greatest_window};
+ghost use Rattle.pl_words.specs.Views.{dated_of};
+ghost use Rattle.pl_judge.specs.Range.{dates_steps, reach_steps, index_of};
 ghost use Rattle.pl_judge.specs.Stages.{StageEnds, IsRisen};
 
 use crate::Fault;
 use pl_calendar::Sessions;
 use pl_model::PlainTerm;
-use pl_plain::PlainColumn;
-use pl_words::{RangeDate, RunRequest};
+use pl_terms::Checked;
+use pl_words::{DateWord, RangeDate};
 
 /// The sessions from which and to which rows are written.
 #[derive(Clone, Copy, Debug, PartialEq, Eq)]
@@ -19,44 +20,58 @@ pub struct Range {
     pub to: usize,
 }
 
-/// The range of the two dates: both are sessions, in their order, and the columns show no bars of a session before the first
-/// one.
-#[tactic(auto, unfolding(crate::specs::Range::range_steps))]
-pub fn judge_range(
-    request: &RunRequest<'_>,
-    columns: &[PlainColumn],
+/// The range of two dates: both are sessions, in their order.
+#[tactic(auto, unfolding(crate::specs::Range::dates_steps))]
+pub fn judge_dates(
+    from: &DateWord<'_>,
+    to: &DateWord<'_>,
     sessions: &Sessions,
 ) -> Result<Range, Fault>
-    ensures ends { StageEnds true true (range_steps (run_of request.now) (pipeline_of columns.now) sessions.now) result }
-    ensures from { IfOk result (λ range. range.from ≡ index_of sessions.now request.now.from.day) }
-    ensures to { IfOk result (λ range. range.to ≡ index_of sessions.now request.now.to.day) }
+    ensures ends { StageEnds true true
+        (dates_steps (dated_of from.now) (dated_of to.now) sessions.now) result }
+    ensures from { IfOk result (λ range. range.from ≡ index_of sessions.now from.now.day) }
+    ensures to { IfOk result (λ range. range.to ≡ index_of sessions.now to.now.day) }
     ensures within { IfOk result (λ range. range.to < length sessions.now) }
+    ensures order { IfOk result (λ range. range.from ≤ range.to) }
     ensures risen { IfErr result (IsRisen ⊥ ⊥) }
 {
-    let Some(from) = sessions.index_of(request.from.day) else {
+    let Some(from) = sessions.index_of(from.day) else {
         return Err(Fault::NotSession(RangeDate::From));
     };
-    let Some(to) = sessions.index_of(request.to.day) else {
+    let Some(to) = sessions.index_of(to.day) else {
         return Err(Fault::NotSession(RangeDate::To));
     };
     if to < from {
         return Err(Fault::Backwards);
     }
-    let window = greatest_window(columns) as usize;
+    Ok(Range { from, to })
+}
+
+/// On the session of this number the columns of a pipeline, which show these terms, show no bars of a session
+/// before the first one, whatever the days of the sessions are.
+pub fn judge_reach(checked: &Checked, terms: &[PlainTerm], from: usize) -> Result<(), Fault>
+    requires plain { plain_terms (pipeline_of checked.now) ≡ Some terms.now }
+    ensures ends { (days : List ℤ)
+        → StageEnds true true (reach_steps (pipeline_of checked.now) days from) result }
+    ensures risen { IfErr result (IsRisen ⊥ ⊥) }
+{
+    // what the terms mention stands before them
+    let _terms = checked.graph();
+    let window = greatest_window(terms) as usize;
     if from < window {
         let reach = -((window - from) as i64);
         return Err(Fault::TooEarly { reach });
     }
-    Ok(Range { from, to })
+    Ok(())
 }
 
-// The most sessions that a column looks back.
-fn greatest_window(columns: &[PlainColumn]) -> u32
-    ensures { result ≡ greatest_window columns.now }
+// The most sessions that a term looks back.
+fn greatest_window(terms: &[PlainTerm]) -> u32
+    ensures { result ≡ greatest_window terms.now }
 {
     let mut greatest = 0;
-    for column in columns {
-        greatest = greatest.max(window_of(column.term));
+    for term in terms {
+        greatest = greatest.max(window_of(*term));
     }
     greatest
 }

@@ -1,30 +1,30 @@
 -- A run as a whole: the pipeline file, the data, and the range.
-use Rattle.std.proofs.Common.{◌≡◌, ℕ, ℤ, Bool, true, List, [], ◌∷◌, ◌++◌, Option, Some, Result, Ok, Err, refl, sym, ◌∙◌}
+use Rattle.std.proofs.Common.{◌≡◌, ℕ, Bool, true, List, Option, Some, Result, Ok, Err, refl, sym, ◌∙◌}
 use Rattle.std.specs.Option.{ForSome}
 use Rattle.pl_outside.specs.Files.{Files}
 use Rattle.pl_outside.specs.Lists.{Lists}
 use Rattle.pl_model.specs.declared.owned.OwnedWorld.{OwnedWorld}
-use Rattle.pl_plain.specs.declared.script.PlainColumn.{PlainColumn}
-use Rattle.pl_plain.specs.PlainScript.{pipeline_of}
+use Rattle.pl_terms.specs.Checked.{Parts, pipeline_of}
+use Rattle.pl_plain.specs.PlainPipelines.{plain_terms}
 use Rattle.pl_words.specs.declared.request.InputFile.{InputFile}
 use Rattle.pl_words.specs.declared.request.InputFile.TheVariants.{Pipeline, Sessions, Assets, Labels, Bars}
 use Rattle.pl_words.specs.Request.{RunRequest, Run, name_asked}
 use Rattle.pl_judge.specs.declared.fault.Fault.{Fault}
 use Rattle.pl_judge.specs.Contents.{Contents, AreHeld}
-use Rattle.pl_judge.specs.Held.{columns_in}
-use Rattle.pl_judge.specs.Work.{pipeline_steps, data_steps}
-use Rattle.pl_judge.specs.Range.{range_steps, index_of}
+use Rattle.pl_judge.specs.Held.{pipeline_in}
+use Rattle.pl_judge.specs.Work.{pipeline_steps, built_steps, data_steps}
+use Rattle.pl_judge.specs.Range.{dates_steps, reach_steps, index_of}
 use Rattle.pl_judge.specs.Steps.{Step}
 use Rattle.pl_judge.specs.Stages.{StageEnds}
 use Rattle.pl_judge.proofs.Steps.{stage-stops, stage-goes_on, stage-done, stage-weaker, stage-over, always}
 use Rattle.pl_load.specs.declared.loading.Loaded.{Loaded}
 use Rattle.pl_load.specs.Reads.{IsRead}
-use Rattle.pl_load.specs.Loads.{IsData, IsLoad, owned_world}
+use Rattle.pl_load.specs.Loads.{IsData, IsLoad}
 use Rattle.pl_load.proofs.FileReads.{held_under, held-told}
 use Rattle.pl_load.proofs.TableReads.{listed_under, listed-told}
 
-abbrev pub ColumnsRead : {T : Type 0} → Option Files → Bool → RunRequest → (T → List PlainColumn) → Result T Fault → Type 0
-ColumnsRead tells sound q items r = IsRead tells sound (Some q.pipeline) pipeline_steps (λ held columns. columns_in held ≡ items columns) r
+abbrev pub PipelineRead : Option Files → Bool → RunRequest → Result Parts Fault → Type 0
+PipelineRead tells sound q r = IsRead tells sound (Some q.pipeline) pipeline_steps (λ held c. pipeline_in held ≡ pipeline_of c) r
 
 -- the same contents, but for the pipeline file
 abbrev file_with : Option (List ℕ) → (InputFile → Option (List ℕ)) → InputFile → Option (List ℕ)
@@ -61,8 +61,8 @@ module _ (tells : Option Files) (lists : Option Lists) (sound keeper : Bool) (q 
   are-left : AreHeld tells lists (Some (Run q)) left
   are-left = record { files_held = λ file. held-told tells (name_asked (Some (Run q)) file); rows_held = listed-told lists q.options.adjustments }
 
-  pub no-pipeline : {T : Type 0} (items : T → List PlainColumn) (fault : Fault) → ColumnsRead tells sound q items (Err fault) → IsLoad tells lists sound keeper q (Err fault)
-  no-pipeline items fault h =
+  pub no-pipeline : (fault : Fault) → PipelineRead tells sound q (Err fault) → IsLoad tells lists sound keeper q (Err fault)
+  no-pipeline fault h =
       record {
         held = held_with h.file left;
         are_held = are-held h.file left h.is_told are-left;
@@ -70,38 +70,67 @@ module _ (tells : Option Files) (lists : Option Lists) (sound keeper : Bool) (q 
         loaded = tt;
       }
 
-  pub no-data : {T : Type 0} (items : T → List PlainColumn) (columns : T) (fault : Fault) → ColumnsRead tells sound q items (Ok columns)
-      → IsData tells lists sound keeper q (Err fault) → IsLoad tells lists sound keeper q (Err fault)
-  no-data items columns fault h d =
+  pub not-built : {T : Type 0} (c : Parts) (fault : Fault) → PipelineRead tells sound q (Ok c)
+      → StageEnds {T = T} true true (built_steps (pipeline_of c)) (Err fault) → IsLoad tells lists sound keeper q (Err fault)
+  not-built c fault h b =
       record {
-        held = held_with h.file d.held;
-        are_held = are-held h.file d.held h.is_told d.are_held;
-        ends = stage-goes_on h.ends (stage-stops _ (stage-weaker {U = Unit {0}} (λ t. t) (λ t. t) (stage-over (same-steps h.file d.held q) d.ends)));
+        held = held_with h.file left;
+        are_held = are-held h.file left h.is_told are-left;
+        ends = rw h.means (stage-goes_on h.ends (stage-stops _ (stage-weaker {U = Unit {0}} always always b)));
         loaded = tt;
       }
 
-  pub no-range : {T : Type 0} (items : T → List PlainColumn) (columns : T) (w : OwnedWorld) (fault : Fault) → ColumnsRead tells sound q items (Ok columns)
-      → IsData tells lists sound keeper q (Ok w) → StageEnds {T = Unit {0}} true true (range_steps q (pipeline_of (items columns)) w.sessions) (Err fault)
-      → IsLoad tells lists sound keeper q (Err fault)
-  no-range items columns w fault h d r =
+  pub no-data : {T : Type 0} (c : Parts) (x : T) (fault : Fault) → PipelineRead tells sound q (Ok c)
+      → StageEnds true true (built_steps (pipeline_of c)) (Ok x) → IsData tells lists sound keeper q (Err fault) → IsLoad tells lists sound keeper q (Err fault)
+  no-data c x fault h b d =
       record {
         held = held_with h.file d.held;
         are_held = are-held h.file d.held h.is_told d.are_held;
-        ends = rw (h.means, d.days) (stage-goes_on h.ends (stage-goes_on (stage-over (same-steps h.file d.held q) d.ends) (stage-weaker always always r)));
+        ends = rw h.means
+            (stage-goes_on h.ends (stage-goes_on b (stage-stops _ (stage-weaker {U = Unit {0}} (λ t. t) (λ t. t) (stage-over (same-steps h.file d.held q) d.ends)))));
         loaded = tt;
       }
 
-  pub all-loaded : {T U : Type 0} (items : T → List PlainColumn) (columns : T) (l : Loaded) (x : U) → ColumnsRead tells sound q items (Ok columns)
-      → IsData tells lists sound keeper q (Ok l.world) → StageEnds {T = U} true true (range_steps q (pipeline_of (items columns)) l.world.sessions) (Ok x)
-      → items columns ≡ l.columns.items → l.range.from ≡ index_of l.world.sessions q.from.day → l.range.to ≡ index_of l.world.sessions q.to.day
+  pub no-dates : {T U : Type 0} (c : Parts) (x : T) (w : OwnedWorld) (fault : Fault) → PipelineRead tells sound q (Ok c)
+      → StageEnds true true (built_steps (pipeline_of c)) (Ok x) → IsData tells lists sound keeper q (Ok w)
+      → StageEnds {T = U} true true (dates_steps q.from q.to w.sessions) (Err fault) → IsLoad tells lists sound keeper q (Err fault)
+  no-dates c x w fault h b d r =
+      record {
+        held = held_with h.file d.held;
+        are_held = are-held h.file d.held h.is_told d.are_held;
+        ends = rw (h.means, d.days)
+            (stage-goes_on h.ends (stage-goes_on b (stage-goes_on (stage-over (same-steps h.file d.held q) d.ends) (stage-stops _ (stage-weaker {U = Unit {0}} always always r)))));
+        loaded = tt;
+      }
+
+  pub no-reach : {T U V : Type 0} (c : Parts) (x : T) (w : OwnedWorld) (y : U) (from : ℕ) (fault : Fault) → PipelineRead tells sound q (Ok c)
+      → StageEnds true true (built_steps (pipeline_of c)) (Ok x) → IsData tells lists sound keeper q (Ok w)
+      → StageEnds true true (dates_steps q.from q.to w.sessions) (Ok y) → from ≡ index_of w.sessions q.from.day
+      → StageEnds {T = V} true true (reach_steps (pipeline_of c) w.sessions from) (Err fault) → IsLoad tells lists sound keeper q (Err fault)
+  no-reach c x w y from fault h b d r at e =
+      record {
+        held = held_with h.file d.held;
+        are_held = are-held h.file d.held h.is_told d.are_held;
+        ends = rw (h.means, d.days, ← at)
+            (stage-goes_on h.ends (stage-goes_on b (stage-goes_on (stage-over (same-steps h.file d.held q) d.ends) (stage-goes_on r (stage-weaker always always e)))));
+        loaded = tt;
+      }
+
+  pub all-loaded : {T U V : Type 0} (l : Loaded) (x : T) (y : U) (z : V) → PipelineRead tells sound q (Ok l.checked)
+      → StageEnds true true (built_steps (pipeline_of l.checked)) (Ok x) → plain_terms (pipeline_of l.checked) ≡ Some l.terms.items
+      → IsData tells lists sound keeper q (Ok l.world) → StageEnds true true (dates_steps q.from q.to l.world.sessions) (Ok y)
+      → StageEnds true true (reach_steps (pipeline_of l.checked) l.world.sessions l.range.from) (Ok z)
+      → l.range.from ≡ index_of l.world.sessions q.from.day → l.range.to ≡ index_of l.world.sessions q.to.day
       → IsLoad tells lists sound keeper q (Ok l)
-  all-loaded items columns l x h d r same from to =
+  all-loaded l x y z h b terms d r e from to =
       record {
         held = held_with h.file d.held;
         are_held = are-held h.file d.held h.is_told d.are_held;
-        ends = rw (h.means, d.days) (stage-goes_on h.ends (stage-goes_on (stage-over (same-steps h.file d.held q) d.ends) (stage-done r)));
+        ends = rw (h.means, d.days, ← from)
+            (stage-goes_on h.ends (stage-goes_on b (stage-goes_on (stage-over (same-steps h.file d.held q) d.ends) (stage-goes_on r (stage-done e)))));
         loaded = record {
-          columns = h.means ∙ same;
+          pipeline = h.means;
+          terms = rw (h.means, terms) refl;
           world = d.world;
           from = rw d.days (sym from);
           to = rw d.days (sym to);

@@ -6,19 +6,21 @@ ghost use Rattle.pl_words.specs.Views.{run_of};
 ghost use Rattle.pl_judge.specs.Stages.{IsRisen};
 ghost use Rattle.pl_load.specs.Loads.{IsData, IsLoad, IsOwned, IsReady};
 
-use crate::inputs::{read_assets, read_bars, read_columns, read_labels, read_sessions};
+use crate::inputs::{read_assets, read_bars, read_checked, read_labels, read_sessions};
 use crate::tables::read_adjustments;
-use pl_judge::{Fault, Range, judge_range};
-use pl_model::OwnedWorld;
+use pl_judge::{Fault, Range, judge_built, judge_dates, judge_reach};
+use pl_model::{OwnedWorld, PlainTerm};
 use pl_outside::{AdjustKeeper, Shelf};
-use pl_plain::PlainColumn;
+use pl_terms::Checked;
 use pl_words::RunRequest;
 use std::alloc::Global;
 
-/// What was read and judged, and is left to write: the rows of the sessions of the range.
+/// What was read and judged, and is left to write: the rows of a pipeline, whose columns show these terms, on
+/// the sessions of the range.
 #[derive(Drop)]
 pub struct Loaded {
-    pub columns: Vec<PlainColumn>,
+    pub checked: Checked,
+    pub terms: Vec<PlainTerm>,
     pub world: OwnedWorld,
     pub range: Range,
 }
@@ -37,11 +39,14 @@ pub fn load<S: Shelf, K: AdjustKeeper>(
     ensures alone { (run_of request.now).options.adjustments ≡ None → IsUntouched K.faults K.calls keeper.old keeper.new }
     ensures risen { IfErr result (IsRisen (Rose (S.faults shelf.old) (S.faults shelf.new)) (Rose (K.faults keeper.old) (K.faults keeper.new))) }
 {
-    let columns = read_columns(alloc, shelf, request.pipeline)?;
+    let checked = read_checked(alloc, shelf, request.pipeline)?;
+    let terms = judge_built(alloc, &checked)?;
     let world = read_world(alloc, request, shelf, keeper)?;
-    let range = judge_range(request, &columns, &world.sessions)?;
+    let range = judge_dates(&request.from, &request.to, &world.sessions)?;
+    judge_reach(&checked, &terms, range.from)?;
     Ok(Loaded {
-        columns,
+        checked,
+        terms,
         world,
         range,
     })

@@ -1,2 +1,2 @@
-pub mod PlainScripts
 pub mod PlainPipelines
+pub mod Readings

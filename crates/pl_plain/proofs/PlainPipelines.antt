@@ -1,83 +1,105 @@
--- The pipeline of plain columns: its terms, how far they reach back, and the text of its rows.
-use Rattle.std.proofs.Common.{◌≡◌, ℕ, ◌+◌, ◌<◌, ◌≤◌, max, Bool, true, false, ℤ, pos, List, [], ◌∷◌, ◌++◌, length, map, fold, slice_get, get_or, Some, option_map, codes, refl, sym, ap, ◌∙◌, arith, append_assoc, append-nil, length-append, decimal}
+-- The terms of a plain pipeline, and how far they reach back.
+use Rattle.std.proofs.Common.{◌≡◌, ℕ, ◌+◌, ◌<◌, ◌≤◌, ◌==◌, ◌||◌, if◌then◌else◌, max, Bool, true, false, ℤ, pos, List, [], ◌∷◌, length, map, fold, slice_get, Option, Some, None, is_some, option_map, option_and_then, refl, ap, ◌∙◌, arith}
 use Rattle.std.specs.List.{AllZip}
 use Rattle.std.specs.Int.{int_min}
 use Rattle.std.specs.Int.RustNames.{int_lt}
 use Rattle.std.proofs.lemmas.Int.{ints, int_min_is}
 use Rattle.std.proofs.lemmas.Bool.Decides.{nat_tests}
-use Rattle.std.proofs.lemmas.Slice.Zip.{AllZip-long}
-use Rattle.std.proofs.lemmas.Option.{slice_get-map, get_or_from_slice_get}
-use Rattle.pl_spec.specs.declared.Format.TheVariants.{Csv}
-use Rattle.pl_spec.specs.Rounding.{is_missing}
-use Rattle.pl_spec.specs.Dates.{date_text}
-use Rattle.pl_spec.specs.Decimals.{cell_text}
-use Rattle.pl_spec.specs.World.{World, day_of}
+use Rattle.pl_spec.specs.declared.Column.{Column}
 use Rattle.pl_spec.specs.Window.{before}
+use Rattle.pl_spec.specs.Kind.{Kind}
 use Rattle.pl_spec.specs.Kind.Kind.{Window}
-use Rattle.pl_spec.specs.Term.{Term, tree_over, trees_after, term_at}
-use Rattle.pl_spec.specs.Term.Term.{absent}
+use Rattle.pl_spec.specs.Kind.WindowKind.{Latest as LatestBar, SimpleMovingAverage as MeanOfBars}
+use Rattle.pl_spec.specs.Term.{Term, Node, Graph, Input, IsGraph, tree_over, trees, term_at}
+use Rattle.pl_spec.specs.Term.Term.{absent, column, node}
+use Rattle.pl_spec.specs.Term.Input.{BarColumn}
 use Rattle.pl_spec.specs.Graph.{least_of, reach}
-use Rattle.pl_spec.specs.Value.{value}
-use Rattle.pl_spec.specs.Value.Value.{Number}
-use Rattle.pl_spec.specs.Table.{value_of, row}
-use Rattle.pl_spec.specs.Text.{number_text, kind_at, header, row_fields, row_line}
-use Rattle.pl_plain.specs.Rows.{behind_commas}
+use Rattle.pl_spec.specs.Table.{NamedColumn, Pipeline}
+use Rattle.pl_spec.proofs.Trees.{term_at-node}
 use Rattle.pl_model.specs.declared.cell.PlainTerm.{PlainTerm}
 use Rattle.pl_model.specs.declared.cell.PlainTerm.TheVariants.{Latest, SimpleMovingAverage}
-use Rattle.pl_plain.specs.declared.script.PlainColumn.{PlainColumn}
-use Rattle.pl_model.specs.PlainTerms.{kind_of, size_of, term_of}
-use Rattle.pl_plain.specs.PlainScript.{names_of, node_of, graph_of, numbered, pipeline_of, greatest_window}
+use Rattle.pl_model.specs.PlainTerms.{size_of, term_of}
+use Rattle.pl_plain.specs.PlainPipelines.{plain_kind, plain_over, plain_node, plain_at, plain_columns, plain_terms, greatest_window}
 
 -- ---- the terms
 
-tree-is : (ts : List Term) (t : PlainTerm) → tree_over ts (node_of t) ≡ term_of t
-tree-is ts (Latest c) = refl
-tree-is ts (SimpleMovingAverage c size) = refl
+abbrev over : Kind → Column → ℕ → Term
+over k c size = node k size (column c) absent absent absent absent
 
-abbrev terms_of : List PlainColumn → List Term
-terms_of cs = map (λ c. term_of c.term) cs
+latest-shown : (c : Column) (size : ℕ) (t : PlainTerm) (b : Bool) → (size == 1) ≡ b → (if b then Some (Latest c) else None) ≡ Some t → over (Window LatestBar) c size ≡ term_of t
+latest-shown c size t true one e =
+    let same : Latest c ≡ t = cc in
+    let size' : size ≡ 1 = grind (arith, nat_tests) in
+    rw (← same, size') refl
+latest-shown c size t false one e = absurd (cc)
 
-trees-behind : (ts : List Term) (cs : List PlainColumn) → trees_after ts (graph_of cs) ≡ ts ++ terms_of cs
-trees-behind ts [] = sym (append-nil ts)
-trees-behind ts (c ∷ cs) =
-    ap (λ t. trees_after (ts ++ t ∷ []) (graph_of cs)) (tree-is ts c.term)
-    ∙ trees-behind (ts ++ term_of c.term ∷ []) cs
-    ∙ append_assoc ts (term_of c.term ∷ []) (terms_of cs)
+kind-shown : (k : Kind) (c : Column) (size : ℕ) (t : PlainTerm) → plain_kind k c size ≡ Some t → over k c size ≡ term_of t
+kind-shown (Window LatestBar) c size t e = latest-shown c size t (size == 1) refl e
+kind-shown (Window MeanOfBars) c size t e = let same : SimpleMovingAverage c size ≡ t = cc in rw (← same) refl
+kind-shown k c size t e = absurd (cc)
 
--- term k of the pipeline is that of column k
-pub term-at : (cs : List PlainColumn) (k : ℕ) (c : PlainColumn) → slice_get cs k ≡ Some c → term_at (graph_of cs) k ≡ term_of c.term
-term-at cs k c e =
-    let there : slice_get (terms_of cs) k ≡ Some (term_of c.term) = slice_get-map (λ c. term_of c.term) cs k ∙ ap (option_map (λ (c : PlainColumn). term_of c.term)) e in
-    ap (λ ts. get_or ts k absent) (trees-behind [] cs) ∙ get_or_from_slice_get (terms_of cs) k (term_of c.term) absent there
+-- a plain node has one tree over whatever trees
+node-shown : (ts : List Term) (k : Kind) (inputs : List Input) (mask group : Option ℕ) (size : ℕ) (t : PlainTerm)
+    → (if is_some mask || is_some group then None else plain_over k inputs size) ≡ Some t
+    → tree_over ts (record { kind = k; inputs = inputs; mask = mask; group = group; window = size }) ≡ term_of t
+node-shown ts k inputs (Some m) group size t e = absurd (cc)
+node-shown ts k inputs None (Some g) size t e = absurd (cc)
+node-shown ts k (BarColumn c ∷ []) None None size t e = kind-shown k c size t e
+node-shown ts k inputs None None size t e = absurd (cc)
 
--- and so is its value
-pub value-at : (w : World) (cs : List PlainColumn) (k : ℕ) (c : PlainColumn) (a : ℕ) (d : ℤ) → slice_get cs k ≡ Some c → value_of w (pipeline_of cs) k a d ≡ value w [] (term_of c.term) a d
-value-at w cs k c a d e = ap (λ t. value w [] t a d) (term-at cs k c e)
+tree-shown : (ts : List Term) (n : Node) (t : PlainTerm) → plain_node n ≡ Some t → tree_over ts n ≡ term_of t
+unfolding plain_node
+tree-shown ts n t e = node-shown ts n.kind n.inputs n.mask n.group n.window t e
 
-pub kind-at : (cs : List PlainColumn) (k : ℕ) (c : PlainColumn) → slice_get cs k ≡ Some c → kind_at (graph_of cs) k ≡ Window (kind_of c.term)
-kind-at cs k c e = rw (term-at cs k c e) refl
+term-at : (g : Graph) (k : ℕ) (t : PlainTerm) (o : Option Node) → IsGraph g → slice_get g k ≡ o → option_and_then plain_node o ≡ Some t → term_at g k ≡ term_of t
+term-at g k t None ok at e = absurd (cc)
+term-at g k t (Some n) ok at e = term_at-node g k n ok at ∙ tree-shown (trees g) n t e
 
-at-seam : (front : List PlainColumn) (c : PlainColumn) (cs : List PlainColumn) → slice_get (front ++ c ∷ cs) (length front) ≡ Some c
-at-seam [] c cs = refl
-at-seam (f ∷ front) c cs = at-seam front c cs
+-- the terms that columns show
+abbrev pub AreShown : Graph → List NamedColumn → List PlainTerm → Type 0
+AreShown g cs ts = AllZip (λ c t. term_at g c.term ≡ term_of t) cs ts
 
-longer : (front : List PlainColumn) (c : PlainColumn) → length (front ++ c ∷ []) ≡ length front + 1
-longer front c = length-append front (c ∷ [])
+shown-more : (g : Graph) (c : NamedColumn) (cs : List NamedColumn) (ts : List PlainTerm) (o : Option PlainTerm) (r : Option (List PlainTerm))
+    → option_and_then (λ t. option_map (λ ts. t ∷ ts) r) o ≡ Some ts
+    → ((t : PlainTerm) → o ≡ Some t → term_at g c.term ≡ term_of t) → ((us : List PlainTerm) → r ≡ Some us → AreShown g cs us) → AreShown g (c ∷ cs) ts
+shown-more g c cs ts None r e first rest = absurd (cc)
+shown-more g c cs ts (Some t) None e first rest = absurd (cc)
+shown-more g c cs ts (Some t) (Some us) e first rest = let same : t ∷ us ≡ ts = cc in rw (← same) (first t refl, rest us refl)
+
+columns-shown : (g : Graph) (cs : List NamedColumn) (ts : List PlainTerm) → IsGraph g → plain_columns g cs ≡ Some ts → AreShown g cs ts
+columns-shown g [] ts ok e = let none : [] ≡ ts = cc in rw (← none) tt
+columns-shown g (c ∷ cs) ts ok e =
+    shown-more g c cs ts (plain_at g c.term) (plain_columns g cs) e (λ t at. term-at g c.term t (slice_get g c.term) ok refl at) (λ us r. columns-shown g cs us ok r)
+
+-- a pipeline without a screen that shows these terms
+pub record IsPlain (p : Pipeline) (ts : List PlainTerm) : Type 0 where
+  pub screen : p.screen ≡ None
+  pub shown : AreShown p.graph p.columns ts
+
+plain-by : (p : Pipeline) (ts : List PlainTerm) (s : Option ℕ) → IsGraph p.graph → p.screen ≡ s → (if is_some s then None else plain_columns p.graph p.columns) ≡ Some ts → IsPlain p ts
+plain-by p ts (Some t) ok s e = absurd (cc)
+plain-by p ts None ok s e = record { screen = s; shown = columns-shown p.graph p.columns ts ok e }
+
+pub plain-is : (p : Pipeline) (ts : List PlainTerm) → IsGraph p.graph → plain_terms p ≡ Some ts → IsPlain p ts
+unfolding plain_terms
+plain-is p ts ok e = plain-by p ts p.screen ok refl e
+
+no-screen-by : (s : Option ℕ) (o : Option (List PlainTerm)) (ts : List PlainTerm) → (if is_some s then None else o) ≡ Some ts → s ≡ None
+no-screen-by (Some t) o ts e = absurd (cc)
+no-screen-by None o ts e = refl
+
+pub no-screen : (p : Pipeline) (ts : List PlainTerm) → plain_terms p ≡ Some ts → p.screen ≡ None
+unfolding plain_terms
+no-screen p ts e = no-screen-by p.screen (plain_columns p.graph p.columns) ts e
 
 -- whatever is made of the terms that columns show
-from-terms : {X : Type 0} (h : Term → X) (all front cs : List PlainColumn) → all ≡ front ++ cs
-    → map (λ n. h (term_at (graph_of all) n.term)) (numbered (length front) cs) ≡ map (λ c. h (term_of c.term)) cs
-from-terms h all front [] e = refl
-from-terms h all front (c ∷ cs) e =
-    let here : term_at (graph_of all) (length front) ≡ term_of c.term = term-at all (length front) c (ap (λ z. slice_get z (length front)) e ∙ at-seam front c cs) in
-    let more = from-terms h all (front ++ c ∷ []) cs (e ∙ sym (append_assoc front (c ∷ []) cs)) in
-    let next = ap (λ k. map (λ n. h (term_at (graph_of all) n.term)) (numbered k cs)) (sym (longer front c)) ∙ more in
-    ap (λ t. h t ∷ map (λ n. h (term_at (graph_of all) n.term)) (numbered (length front + 1) cs)) here ∙ ap (λ z. h (term_of c.term) ∷ z) next
-
--- the values of a row
-pub values-are : (w : World) (cs : List PlainColumn) (a : ℕ) (d : ℤ)
-    → map (λ n. value_of w (pipeline_of cs) n.term a d) (numbered 0 cs) ≡ map (λ c. value w [] (term_of c.term) a d) cs
-values-are w cs a d = from-terms (λ t. value w [] t a d) cs [] cs refl
+pub from-terms : {X : Type 0} (h : Term → X) (g : Graph) (cs : List NamedColumn) (ts : List PlainTerm) → AreShown g cs ts
+    → map (λ c. h (term_at g c.term)) cs ≡ map (λ t. h (term_of t)) ts
+from-terms h g [] [] s = refl
+from-terms h g [] (t ∷ ts) s = absurd s
+from-terms h g (c ∷ cs) [] s = absurd s
+from-terms h g (c ∷ cs) (t ∷ ts) s =
+    ap (λ x. h x ∷ map (λ c. h (term_at g c.term)) cs) s.0 ∙ ap (λ z. h (term_of t) ∷ z) (from-terms h g cs ts s.1)
 
 -- ---- how far they reach back
 
@@ -99,27 +121,25 @@ back d n =
     ∙ min-same d n
 
 -- a term reaches back its window
-pub reach-is : (days : List ℤ) (t : PlainTerm) (d : ℤ) → reach days (term_of t) d ≡ before d (size_of t)
+reach-is : (days : List ℤ) (t : PlainTerm) (d : ℤ) → reach days (term_of t) d ≡ before d (size_of t)
 unfolding reach
 reach-is days (Latest c) d = back d 1
 reach-is days (SimpleMovingAverage c size) d = back d size
 
-least-from : (days : List ℤ) (d : ℤ) (m : ℕ) (cs : List PlainColumn) → fold int_min (before d m) (map (λ c. reach days (term_of c.term) d) cs) ≡ before d (fold max m (map (λ c. size_of c.term) cs))
+least-from : (days : List ℤ) (d : ℤ) (m : ℕ) (ts : List PlainTerm) → fold int_min (before d m) (map (λ t. reach days (term_of t) d) ts) ≡ before d (fold max m (map size_of ts))
 least-from days d m [] = refl
-least-from days d m (c ∷ cs) =
-    ap (λ r. fold int_min (int_min (before d m) r) (map (λ c. reach days (term_of c.term) d) cs)) (reach-is days c.term d)
-    ∙ ap (λ r. fold int_min r (map (λ c. reach days (term_of c.term) d) cs)) (min-before d m (size_of c.term))
-    ∙ least-from days d (max m (size_of c.term)) cs
+least-from days d m (t ∷ ts) =
+    ap (λ r. fold int_min (int_min (before d m) r) (map (λ t. reach days (term_of t) d) ts)) (reach-is days t d)
+    ∙ ap (λ r. fold int_min r (map (λ t. reach days (term_of t) d) ts)) (min-before d m (size_of t))
+    ∙ least-from days d (max m (size_of t)) ts
 
--- and the columns reach back the greatest window
-pub reaches-are : (days : List ℤ) (cs : List PlainColumn) (d : ℤ) → least_of (map (λ c. reach days (term_of c.term) d) cs) d ≡ before d (greatest_window cs)
-reaches-are days cs d =
+-- the columns of a plain pipeline reach back the greatest window
+pub pipeline-reaches : (days : List ℤ) (p : Pipeline) (ts : List PlainTerm) (d : ℤ) → IsPlain p ts
+    → least_of (map (λ c. reach days (term_at p.graph c.term) d) p.columns) d ≡ before d (greatest_window ts)
+pipeline-reaches days p ts d h =
     let none : d ≡ before d 0 = omega (arith, ints) in
-    ap (λ r. fold int_min r (map (λ c. reach days (term_of c.term) d) cs)) none ∙ least-from days d 0 cs
-
--- the same of the terms of the pipeline
-pub pipeline-reaches : (days : List ℤ) (cs : List PlainColumn) (d : ℤ) → least_of (map (λ n. reach days (term_at (graph_of cs) n.term) d) (numbered 0 cs)) d ≡ before d (greatest_window cs)
-pipeline-reaches days cs d = ap (λ rs. least_of rs d) (from-terms (λ t. reach days t d) cs [] cs refl) ∙ reaches-are days cs d
+    ap (λ rs. least_of rs d) (from-terms (λ t. reach days t d) p.graph p.columns ts h.shown)
+    ∙ ap (λ r. fold int_min r (map (λ t. reach days (term_of t) d) ts)) none ∙ least-from days d 0 ts
 
 -- so bars before the first session are asked for exactly on the sessions below the greatest window
 pub in-bars : (d size : ℕ) → size ≤ d → int_lt (before (pos d) size) (pos 0) ≡ false
@@ -127,55 +147,3 @@ in-bars d size h = grind (arith, ints, nat_tests)
 
 pub before-bars : (d size : ℕ) → d < size → int_lt (before (pos d) size) (pos 0) ≡ true
 before-bars d size h = grind (arith, ints, nat_tests)
-
--- ---- the text of the header and the rows
-
-names-numbered : (k : ℕ) (cs : List PlainColumn) → map (λ n. n.name) (numbered k cs) ≡ names_of cs
-names-numbered k [] = refl
-names-numbered k (c ∷ cs) = ap (λ z. c.name ∷ z) (names-numbered (k + 1) cs)
-
-pub header-is : (cs : List PlainColumn) → header (pipeline_of cs) Csv ≡ (codes "session,sid" ++ behind_commas (names_of cs)) ++ 10 ∷ []
-header-is cs = ap (λ xs. (codes "session,sid" ++ behind_commas xs) ++ 10 ∷ []) (names-numbered 0 cs)
-
--- a number's text is that of its cell
-number-text : (t : PlainTerm) (x : ℤ) → number_text (Window (kind_of t)) x ≡ cell_text x
-unfolding cell_text
-number-text t x = here t (is_missing x) refl
-  where
-    here : (t : PlainTerm) (b : Bool) → is_missing x ≡ b → number_text (Window (kind_of t)) x ≡ cell_text x
-    here t true e = rw e refl
-    here (Latest c) false e = rw e refl
-    here (SimpleMovingAverage c size) false e = rw e refl
-
--- the cells that columns show
-abbrev pub AreCells : World → List PlainColumn → ℕ → ℤ → List ℤ → Type 0
-AreCells w cs a d xs = AllZip (λ c x. value w [] (term_of c.term) a d ≡ Number x) cs xs
-
-numbers-are : (w : World) (cs : List PlainColumn) (a : ℕ) (d : ℤ) (xs : List ℤ) → AreCells w cs a d xs → map (λ c. value w [] (term_of c.term) a d) cs ≡ map Number xs
-numbers-are w [] a d [] h = refl
-numbers-are w [] a d (x ∷ xs) h = absurd h
-numbers-are w (c ∷ cs) a d [] h = absurd h
-numbers-are w (c ∷ cs) a d (x ∷ xs) h = rw (h.0) (ap (λ z. Number x ∷ z) (numbers-are w cs a d xs h.1))
-
-fields-from : (all front cs : List PlainColumn) (xs : List ℤ) → all ≡ front ++ cs → length xs ≡ length cs
-    → row_fields (pipeline_of all) Csv (numbered (length front) cs) (map Number xs) ≡ map cell_text xs
-fields-from all front [] [] e l = refl
-fields-from all front [] (x ∷ xs) e l = absurd (omega arith)
-fields-from all front (c ∷ cs) [] e l = absurd (omega arith)
-fields-from all front (c ∷ cs) (x ∷ xs) e l =
-    let kind = kind-at all (length front) c (ap (λ z. slice_get z (length front)) e ∙ at-seam front c cs) in
-    let more = fields-from all (front ++ c ∷ []) cs xs (e ∙ sym (append_assoc front (c ∷ []) cs)) (omega arith) in
-    let next = ap (λ k. row_fields (pipeline_of all) Csv (numbered k cs) (map Number xs)) (sym (longer front c)) ∙ more in
-    ap (λ k. number_text k x ∷ row_fields (pipeline_of all) Csv (numbered (length front + 1) cs) (map Number xs)) kind
-    ∙ ap (λ t. t ∷ row_fields (pipeline_of all) Csv (numbered (length front + 1) cs) (map Number xs)) (number-text c.term x)
-    ∙ ap (λ z. cell_text x ∷ z) next
-
--- the line of the row of an asset on a session
-pub row-line-is : (w : World) (cs : List PlainColumn) (a d : ℕ) (day : ℤ) (xs : List ℤ) → day_of w (pos d) ≡ Some day → AreCells w cs a (pos d) xs
-    → row_line w (pipeline_of cs) Csv (row w (pipeline_of cs) (pos d) a) ≡ (date_text day ++ behind_commas (decimal a ∷ map cell_text xs)) ++ 10 ∷ []
-row-line-is w cs a d day xs is_day cells =
-    let values = values-are w cs a (pos d) ∙ numbers-are w cs a (pos d) xs cells in
-    let long : length xs ≡ length cs = AllZip-long (λ c x. value w [] (term_of c.term) a (pos d) ≡ Number x) cs xs cells in
-    let fields : row_fields (pipeline_of cs) Csv (numbered 0 cs) (map (λ n. value_of w (pipeline_of cs) n.term a (pos d)) (numbered 0 cs)) ≡ map cell_text xs =
-    ap (row_fields (pipeline_of cs) Csv (numbered 0 cs)) values ∙ fields-from cs [] cs xs refl long in
-    rw (is_day, fields) refl

@@ -1,3 +1,3 @@
 -- What the contracts of the plain form cite.
-pub mod PlainScript
+pub mod PlainPipelines
 pub mod Rows

@@ -4,23 +4,23 @@ use Rattle.pl_spec.specs.Decimals.{cell_text}
 use Rattle.pl_spec.specs.World.{World}
 use Rattle.pl_spec.specs.Value.{value, number_of}
 use Rattle.pl_spec.specs.Table.{Row}
+use Rattle.pl_model.specs.declared.cell.PlainTerm.{PlainTerm}
 use Rattle.pl_model.specs.PlainTerms.{term_of, steps_of}
-use Rattle.pl_plain.specs.declared.script.PlainColumn.{PlainColumn}
 
 -- how many steps the cells of a row take, and those of rows
-abbrev pub row_cost : World → List PlainColumn → Row → ℕ
-row_cost w columns r = sum_by (λ c. steps_of w c.term r.sid r.session) columns
+abbrev pub row_cost : World → List PlainTerm → Row → ℕ
+row_cost w terms r = sum_by (λ t. steps_of w t r.sid r.session) terms
 
-abbrev pub rows_cost : World → List PlainColumn → List Row → ℕ
-rows_cost w columns rows = sum_by (row_cost w columns) rows
+abbrev pub rows_cost : World → List PlainTerm → List Row → ℕ
+rows_cost w terms rows = sum_by (row_cost w terms) rows
 
 -- fields, each behind a comma
 abbrev pub behind_commas : List (List ℕ) → List ℕ
 behind_commas fields = flat_map (λ f. (44 ∷ []) ++ f) fields
 
--- the cells of the columns for an asset on a session
-abbrev pub cells_of : World → List PlainColumn → ℕ → ℤ → List ℤ
-cells_of w columns a d = map (λ c. number_of (value w [] (term_of c.term) a d)) columns
+-- the cells of the terms for an asset on a session
+abbrev pub cells_of : World → List PlainTerm → ℕ → ℤ → List ℤ
+cells_of w terms a d = map (λ t. number_of (value w [] (term_of t) a d)) terms
 
-abbrev pub cell_fields : World → List PlainColumn → ℕ → ℤ → List ℕ
-cell_fields w columns a d = behind_commas (map cell_text (cells_of w columns a d))
+abbrev pub cell_fields : World → List PlainTerm → ℕ → ℤ → List ℕ
+cell_fields w terms a d = behind_commas (map cell_text (cells_of w terms a d))

@@ -1,9 +1,7 @@
-//! The columns of a script of the plain form, which is what a run computes for now: columns that show the latest bar of a bar
-//! column, or its mean over a window.
+//! The terms of a pipeline of the plain form, which is what a run computes for now: columns that show the latest
+//! bar of a bar column, or its mean over a window, and no screen.
 #![tactic(auto)]
 
-mod names;
-mod script;
+mod terms;
 
-pub use names::Name;
-pub use script::{PlainColumn, plain_columns, plain_scripts_are_read};
+pub use terms::plain_terms;

@@ -1,3 +1,4 @@
 pub mod CellTexts
+pub mod Headers
 pub mod RowLines
 pub mod SessionLines

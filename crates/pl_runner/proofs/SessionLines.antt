@@ -11,8 +11,7 @@ use Rattle.pl_spec.specs.World.{World, day_of, lives_on}
 use Rattle.pl_spec.specs.Parts.{sid_at}
 use Rattle.pl_spec.specs.Table.{Pipeline, Row, row, session_rows, table, is_kept}
 use Rattle.pl_spec.specs.Text.{header, row_line, text}
-use Rattle.pl_plain.specs.declared.script.PlainColumn.{PlainColumn}
-use Rattle.pl_plain.specs.PlainScript.{pipeline_of}
+use Rattle.pl_model.specs.declared.cell.PlainTerm.{PlainTerm}
 use Rattle.pl_plain.specs.Rows.{row_cost, rows_cost}
 
 -- the lines of the assets that live on a day
@@ -57,9 +56,9 @@ all-kept w p d [] = refl
 all-kept w p d (s ∷ ss) = ap (λ xs. s ∷ xs) (all-kept w p d ss)
 
 -- without a screen, the lines of a session are those of the assets that live on its day
-pub lines-session : (w : World) (cs : List PlainColumn) (d : ℕ) (day : ℤ) → day_of w (pos d) ≡ Some day
-    → lines_of w (pipeline_of cs) d day w.assets ≡ flat_map (row_line w (pipeline_of cs) Csv) (session_rows w (pipeline_of cs) (pos d))
-lines-session w cs d day e = rw (all-kept w (pipeline_of cs) (pos d) _, e) refl
+pub lines-session : (w : World) (p : Pipeline) (d : ℕ) (day : ℤ) → p.screen ≡ None → day_of w (pos d) ≡ Some day
+    → lines_of w p d day w.assets ≡ flat_map (row_line w p Csv) (session_rows w p (pos d))
+lines-session w p d day s e = rw (s, all-kept w p (pos d) _, e) refl
 
 -- ---- a table, one session after the other
 
@@ -87,41 +86,41 @@ rows_of w p d day assets = map (row w p (pos d)) (map (λ a. a.sid) (filter (liv
 sum-more : {X : Type 0} (f : X → ℕ) (x : X) (xs : List X) → sum_by f (x ∷ xs) ≡ f x + sum_by f xs
 sum-more f x xs = sum_by-append f (x ∷ []) xs ∙ ap (λ n. n + sum_by f xs) (zero-add (f x))
 
-cost-live : (w : World) (cs : List PlainColumn) (p : Pipeline) (d i : ℕ) (day : ℤ) (a : AssetRow) → slice_get w.assets i ≡ Some a → lives_on day a ≡ true
-    → rows_cost w cs (rows_of w p d day (drop i w.assets)) ≡ row_cost w cs (row w p (pos d) (sid_at w.assets i)) + rows_cost w cs (rows_of w p d day (drop (i + 1) w.assets))
-cost-live w cs p d i day a e lives =
-    rw (drop-at w.assets i a e, lives, sid-at w.assets i a e) (sum-more (row_cost w cs) (row w p (pos d) a.sid) (rows_of w p d day (drop (i + 1) w.assets)))
+cost-live : (w : World) (ts : List PlainTerm) (p : Pipeline) (d i : ℕ) (day : ℤ) (a : AssetRow) → slice_get w.assets i ≡ Some a → lives_on day a ≡ true
+    → rows_cost w ts (rows_of w p d day (drop i w.assets)) ≡ row_cost w ts (row w p (pos d) (sid_at w.assets i)) + rows_cost w ts (rows_of w p d day (drop (i + 1) w.assets))
+cost-live w ts p d i day a e lives =
+    rw (drop-at w.assets i a e, lives, sid-at w.assets i a e) (sum-more (row_cost w ts) (row w p (pos d) a.sid) (rows_of w p d day (drop (i + 1) w.assets)))
 
-cost-other : (w : World) (cs : List PlainColumn) (p : Pipeline) (d i : ℕ) (day : ℤ) (a : AssetRow) → slice_get w.assets i ≡ Some a → lives_on day a ≡ false
-    → rows_cost w cs (rows_of w p d day (drop i w.assets)) ≡ rows_cost w cs (rows_of w p d day (drop (i + 1) w.assets))
-cost-other w cs p d i day a e lives = rw (drop-at w.assets i a e, lives) refl
+cost-other : (w : World) (ts : List PlainTerm) (p : Pipeline) (d i : ℕ) (day : ℤ) (a : AssetRow) → slice_get w.assets i ≡ Some a → lives_on day a ≡ false
+    → rows_cost w ts (rows_of w p d day (drop i w.assets)) ≡ rows_cost w ts (rows_of w p d day (drop (i + 1) w.assets))
+cost-other w ts p d i day a e lives = rw (drop-at w.assets i a e, lives) refl
 
-pub cost-next : (w : World) (cs : List PlainColumn) (p : Pipeline) (d i : ℕ) (day : ℤ) (b : Bool) → option_map (lives_on day) (slice_get w.assets i) ≡ Some b
-    → (b ≡ true → rows_cost w cs (rows_of w p d day (drop i w.assets)) ≡ row_cost w cs (row w p (pos d) (sid_at w.assets i)) + rows_cost w cs (rows_of w p d day (drop (i + 1) w.assets)))
-    × (b ≡ false → rows_cost w cs (rows_of w p d day (drop i w.assets)) ≡ rows_cost w cs (rows_of w p d day (drop (i + 1) w.assets)))
-cost-next w cs p d i day b e = here (slice_get w.assets i) refl e
+pub cost-next : (w : World) (ts : List PlainTerm) (p : Pipeline) (d i : ℕ) (day : ℤ) (b : Bool) → option_map (lives_on day) (slice_get w.assets i) ≡ Some b
+    → (b ≡ true → rows_cost w ts (rows_of w p d day (drop i w.assets)) ≡ row_cost w ts (row w p (pos d) (sid_at w.assets i)) + rows_cost w ts (rows_of w p d day (drop (i + 1) w.assets)))
+    × (b ≡ false → rows_cost w ts (rows_of w p d day (drop i w.assets)) ≡ rows_cost w ts (rows_of w p d day (drop (i + 1) w.assets)))
+cost-next w ts p d i day b e = here (slice_get w.assets i) refl e
   where
     here : (o : Option AssetRow) → slice_get w.assets i ≡ o → option_map (lives_on day) o ≡ Some b
-        → (b ≡ true → rows_cost w cs (rows_of w p d day (drop i w.assets)) ≡ row_cost w cs (row w p (pos d) (sid_at w.assets i)) + rows_cost w cs (rows_of w p d day (drop (i + 1) w.assets)))
-        × (b ≡ false → rows_cost w cs (rows_of w p d day (drop i w.assets)) ≡ rows_cost w cs (rows_of w p d day (drop (i + 1) w.assets)))
+        → (b ≡ true → rows_cost w ts (rows_of w p d day (drop i w.assets)) ≡ row_cost w ts (row w p (pos d) (sid_at w.assets i)) + rows_cost w ts (rows_of w p d day (drop (i + 1) w.assets)))
+        × (b ≡ false → rows_cost w ts (rows_of w p d day (drop i w.assets)) ≡ rows_cost w ts (rows_of w p d day (drop (i + 1) w.assets)))
     here None at lives = absurd (let no : None ≡ Some b = lives in cc)
     here (Some a) at lives =
         let same : lives_on day a ≡ b = cc in
-        (λ t. cost-live w cs p d i day a at (same ∙ t), λ f. cost-other w cs p d i day a at (same ∙ f))
+        (λ t. cost-live w ts p d i day a at (same ∙ t), λ f. cost-other w ts p d i day a at (same ∙ f))
 
-pub cost-none : (w : World) (cs : List PlainColumn) (p : Pipeline) (d i : ℕ) (day : ℤ) → length w.assets ≤ i → rows_cost w cs (rows_of w p d day (drop i w.assets)) ≡ 0
-cost-none w cs p d i day h = let e : drop i w.assets ≡ [] = grind (arith, common_steps) in rw e refl
+pub cost-none : (w : World) (ts : List PlainTerm) (p : Pipeline) (d i : ℕ) (day : ℤ) → length w.assets ≤ i → rows_cost w ts (rows_of w p d day (drop i w.assets)) ≡ 0
+cost-none w ts p d i day h = let e : drop i w.assets ≡ [] = grind (arith, common_steps) in rw e refl
 
-pub cost-session : (w : World) (cs all : List PlainColumn) (d : ℕ) (day : ℤ) → day_of w (pos d) ≡ Some day
-    → rows_cost w cs (rows_of w (pipeline_of all) d day w.assets) ≡ rows_cost w cs (session_rows w (pipeline_of all) (pos d))
-cost-session w cs all d day e = rw (all-kept w (pipeline_of all) (pos d) _, e) refl
+pub cost-session : (w : World) (ts : List PlainTerm) (p : Pipeline) (d : ℕ) (day : ℤ) → p.screen ≡ None → day_of w (pos d) ≡ Some day
+    → rows_cost w ts (rows_of w p d day w.assets) ≡ rows_cost w ts (session_rows w p (pos d))
+cost-session w ts p d day s e = rw (s, all-kept w p (pos d) _, e) refl
 
-pub table_cost-next : (w : World) (cs : List PlainColumn) (p : Pipeline) (from to : ℕ) → from ≤ to
-    → rows_cost w cs (table w p from to) ≡ rows_cost w cs (session_rows w p (pos from)) + rows_cost w cs (table w p (from + 1) to)
-table_cost-next w cs p from to h = rw (table-next w p from to h) (sum_by-append (row_cost w cs) (session_rows w p (pos from)) (table w p (from + 1) to))
+pub table_cost-next : (w : World) (ts : List PlainTerm) (p : Pipeline) (from to : ℕ) → from ≤ to
+    → rows_cost w ts (table w p from to) ≡ rows_cost w ts (session_rows w p (pos from)) + rows_cost w ts (table w p (from + 1) to)
+table_cost-next w ts p from to h = rw (table-next w p from to h) (sum_by-append (row_cost w ts) (session_rows w p (pos from)) (table w p (from + 1) to))
 
-pub table_cost-none : (w : World) (cs : List PlainColumn) (p : Pipeline) (from to : ℕ) → to < from → rows_cost w cs (table w p from to) ≡ 0
-table_cost-none w cs p from to h = let e : suc to - from ≡ 0 = omega arith in rw e refl
+pub table_cost-none : (w : World) (ts : List PlainTerm) (p : Pipeline) (from to : ℕ) → to < from → rows_cost w ts (table w p from to) ≡ 0
+table_cost-none w ts p from to h = let e : suc to - from ≡ 0 = omega arith in rw e refl
 
 pub text-is : (w : World) (p : Pipeline) (from to : ℕ) → text w p Csv (table w p from to) ≡ header p Csv ++ table_lines w p from to
 unfolding text

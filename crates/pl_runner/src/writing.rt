@@ -13,17 +13,19 @@ ghost use Rattle.pl_runner.specs.Tables.{table_text, table_cost, shown, IsTable}
 use crate::line::Line;
 use crate::rows::{put_cell, put_date, put_sid};
 use pl_fixed::Steps;
-use pl_model::{World, plain_cell};
+use pl_model::{PlainTerm, World, plain_cell};
 use pl_outside::{Failed, Sink, write_bytes};
-use pl_plain::PlainColumn;
+use pl_terms::Checked;
 use std::sync::ledger::Ledger;
 
-/// A table that is to be written: its header, and the rows of the columns on the sessions `from` to `to` of a world.
+/// A table that is to be written: its header, and the rows of a pipeline's columns, which show these terms, on
+/// the sessions `from` to `to` of a world.
 #[derive(Clone, Copy)]
 pub struct TableText<'a> {
     pub header: &'a [u8],
     pub world: World<'a>,
-    pub columns: &'a [PlainColumn],
+    pub checked: &'a Checked,
+    pub terms: &'a [PlainTerm],
     pub from: usize,
     pub to: usize,
 }
@@ -60,9 +62,9 @@ fn write_session<O: Sink, L: Ledger>(
     ensures writes { Writes O.taken O.faults O.sound O.room out.old out.new
         (flat_map (row_line (world_of table.now.world) (shown table.now) Csv) (session_rows (world_of table.now.world) (shown table.now) (pos session))) result }
     ensures cost { OnOk result (steps.new ≡ steps.old
-        + rows_cost (world_of table.now.world) table.now.columns.now (session_rows (world_of table.now.world) (shown table.now) (pos session))) }
+        + rows_cost (world_of table.now.world) table.now.terms.now (session_rows (world_of table.now.world) (shown table.now) (pos session))) }
     ensures most { steps.new ≤ steps.old
-        + rows_cost (world_of table.now.world) table.now.columns.now (session_rows (world_of table.now.world) (shown table.now) (pos session)) }
+        + rows_cost (world_of table.now.world) table.now.terms.now (session_rows (world_of table.now.world) (shown table.now) (pos session)) }
 {
     let assets = table.world.assets;
     let day = table.world.sessions.day(session);
@@ -88,9 +90,11 @@ fn write_row<O: Sink, L: Ledger>(
     ensures writes { Writes O.taken O.faults O.sound O.room out.old out.new
         (row_line (world_of table.now.world) (shown table.now) Csv
         (row (world_of table.now.world) (shown table.now) (pos session) (sid_at table.now.world.assets.now col))) result }
-    ensures cost { steps.new ≡ steps.old + row_cost (world_of table.now.world) table.now.columns.now
+    ensures cost { steps.new ≡ steps.old + row_cost (world_of table.now.world) table.now.terms.now
         (row (world_of table.now.world) (shown table.now) (pos session) (sid_at table.now.world.assets.now col)) }
 {
+    // what the terms mention stands before them
+    let _terms = table.checked.graph();
     let mut line = Line::new();
     put_date(&mut line, table.world.sessions.day(session));
     put_sid(&mut line, table.world.assets.sid(col));
@@ -99,7 +103,7 @@ fn write_row<O: Sink, L: Ledger>(
     write_bytes(out, line.as_slice())
 }
 
-// Puts the cells of the columns, each behind a comma.
+// Puts the cells of the terms, each behind a comma.
 fn put_cells<L: Ledger>(
     line: &mut Line,
     table: &TableText<'_>,
@@ -107,18 +111,15 @@ fn put_cells<L: Ledger>(
     col: usize,
     steps: &mut Steps<L>,
 )
-    requires room { length line.old + 21 * length table.now.columns.now ≤ 2_047 }
+    requires room { length line.old + 21 * length table.now.terms.now ≤ 2_047 }
     requires table { IsTable table.now }
     requires session { session < length table.now.world.sessions.now }
     requires col { col < length table.now.world.assets.now }
-    ensures text { line.new ≡ line.old ++ cell_fields (world_of table.now.world) table.now.columns.now (sid_at table.now.world.assets.now col) (pos session) }
-    ensures within { length line.new ≤ length line.old + 21 * length table.now.columns.now }
-    ensures cost { steps.new ≡ steps.old + sum_by (λ c. steps_of (world_of table.now.world) c.term (sid_at table.now.world.assets.now col) (pos session)) table.now.columns.now }
+    ensures text { line.new ≡ line.old ++ cell_fields (world_of table.now.world) table.now.terms.now (sid_at table.now.world.assets.now col) (pos session) }
+    ensures within { length line.new ≤ length line.old + 21 * length table.now.terms.now }
+    ensures cost { steps.new ≡ steps.old + sum_by (λ t. steps_of (world_of table.now.world) t (sid_at table.now.world.assets.now col) (pos session)) table.now.terms.now }
 {
-    for column in table.columns {
-        put_cell(
-            line,
-            plain_cell(&table.world, column.term, col, session, steps),
-        );
+    for term in table.terms {
+        put_cell(line, plain_cell(&table.world, *term, col, session, steps));
     }
 }

@@ -2,7 +2,7 @@
 #![tactic(auto)]
 
 #[cfg(test)]
-mod plain_tests;
+mod check_tests;
 #[cfg(test)]
 mod plan_tests;
 #[cfg(test)]

@@ -418,8 +418,8 @@ fn runs_up_to_64_columns(rt: HostRuntime) -> Result<(), Fail> {
     let files = shelf_with(alloc, ("p.pl", pipeline.as_bytes()))?;
     let mut more = make_parts(alloc, files, NO_ROWS, 0, 0)?;
     let ended = run_parts(alloc, &words, &mut more);
-    let line = String::from_str(alloc, "unbuilt\n|")?;
-    assert_eq!(rt; (ended, more.err.text(alloc)?), (11, line));
+    let line = String::from_str(alloc, "limit: |columns|\n|")?;
+    assert_eq!(rt; (ended, more.err.text(alloc)?), (6, line));
     Ok(())
 }
 

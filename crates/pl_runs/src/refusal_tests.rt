@@ -101,14 +101,20 @@ fn refuses_pipelines(rt: HostRuntime) -> Result<(), Fail> {
         let got = answer(alloc, &fmt, ("p.pl", bytes), NO_ROWS)?;
         assert_eq!(rt; got, make_left(alloc, 3, b"", line)?);
     }
-    for bytes in [
-        b"pipeline 1;\n".as_slice(),
-        b"pipeline 1;\ncolumn c = close.latest;\ncolumn c = close.latest;\n",
-        b"pipeline 1;\ncolumn c = SimpleMovingAverage(close, 1261);\n",
-        b"pipeline 1;\ncolumn c = close.latest;\nscreen close.latest > 1000;\n",
+    // rules are judged before what is computed
+    for statement in [
+        "column c = VWAP(2);",
+        "column c = close.latest; column d = close.latest + 1;",
+        "column c = SimpleMovingAverage(close, 2, mask=close.latest > 1);",
+        "column c = close.latest; screen close.latest > 1000;",
     ] {
-        let got = answer(alloc, &words, ("p.pl", bytes), NO_ROWS)?;
-        assert_eq!(rt; got, make_left(alloc, 11, b"", b"unbuilt\n")?);
+        let file = format!(in alloc; "pipeline 1;\n{statement}\n")?;
+        let got = answer(alloc, &words, ("p.pl", file.as_bytes()), NO_ROWS)?;
+        assert_eq!(rt;
+            got,
+            make_left(alloc, 11, b"", b"unbuilt\n")?,
+            "{statement}"
+        );
     }
     let long = vec![in alloc; b' '; 262_145]?;
     let line = b"limit: pipeline\n";
@@ -161,7 +167,10 @@ fn refuses_words(rt: HostRuntime) -> Result<(), Fail> {
         "fmt p.pl p.pl",
         "fmt -p.pl",
         "run p.pl",
-        "check p.pl",
+        "check",
+        "check p.pl p.pl",
+        "check -p.pl",
+        "chec p.pl",
         "run p.pl sessions.csv assets.csv bars.csv 2024-01-03",
         "run p.pl sessions.csv assets.csv bars.csv 2024-01-32 2024-01-09",
         "run p.pl sessions.csv assets.csv bars.csv 2024-01-03 2024-1-9",

@@ -22,6 +22,14 @@ fn writes_tables(rt: HostRuntime) -> Result<(), Fail> {
             "2024-01-05 2024-01-05",
             b"session,sid,a,_b2\n2024-01-05,1,51.000000,10.000000\n",
         ),
+        // what no column uses is not computed; a window may have its name, and a term two columns
+        (
+            "p.pl",
+            b"pipeline 1; let unused = VWAP(2); let m = SimpleMovingAverage(close, window=2.0);\n\
+              column a = m; column b = m;",
+            "2024-01-05 2024-01-05",
+            b"session,sid,a,b\n2024-01-05,1,76.500000,76.500000\n",
+        ),
         // line ends of two bytes, quoted fields and records in another order
         (
             "bars.csv",

@@ -1,12 +1,11 @@
-use Rattle.std.proofs.Common.{refl}
 use Rattle.pl_cli.proofs.commands.write_loaded.Goals as goal
 
 pub returns-in-Ok-clause-writes : goal.returns-in-Ok-clause-writes
 returns-in-Ok-clause-writes g c =
-    let w = rw (c.deref.ensures.value, c.world.ensures.sessions, c.world.ensures.assets, c.world.ensures.labels, c.world.ensures.bars, c.world.ensures.adjustments) at c.in-Ok.ensures.writes in
+    let w = rw (c.world.ensures.sessions, c.world.ensures.assets, c.world.ensures.labels, c.world.ensures.bars, c.world.ensures.adjustments) at c.in-Ok.ensures.writes in
     record { all = w.all; prefix = tt; failed = tt; later = w.later; stays = w.stays; room_left = w.room_left; blameless = w.blameless }
 
 pub returns-in-Err-clause-writes : goal.returns-in-Err-clause-writes
 returns-in-Err-clause-writes g c =
-    let w = rw (c.deref.ensures.value, c.world.ensures.sessions, c.world.ensures.assets, c.world.ensures.labels, c.world.ensures.bars, c.world.ensures.adjustments) at c.in-Err.ensures.writes in
+    let w = rw (c.world.ensures.sessions, c.world.ensures.assets, c.world.ensures.labels, c.world.ensures.bars, c.world.ensures.adjustments) at c.in-Err.ensures.writes in
     record { all = tt; prefix = w.prefix; failed = w.failed; later = w.later; stays = w.stays; room_left = λ s. tt; blameless = λ s r. absurd (cc (w.blameless s r).0) }

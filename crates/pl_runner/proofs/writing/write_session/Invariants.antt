@@ -13,6 +13,6 @@ invariant-loop-col g l =
       writing : Writing out.taken out.faults out.sound out.room l.fn.out l.out
           (lines_of (world_of l.table.world) (shown l.table) l.session l.day l.table.world.assets.now)
           (lines_of (world_of l.table.world) (shown l.table) l.session l.day (drop l.col l.table.world.assets.now));
-      cost : l.steps + rows_cost (world_of l.table.world) l.table.columns.now (rows_of (world_of l.table.world) (shown l.table) l.session l.day (drop l.col l.table.world.assets.now))
-          ≡ l.fn.steps + rows_cost (world_of l.table.world) l.table.columns.now (rows_of (world_of l.table.world) (shown l.table) l.session l.day l.table.world.assets.now);
+      cost : l.steps + rows_cost (world_of l.table.world) l.table.terms.now (rows_of (world_of l.table.world) (shown l.table) l.session l.day (drop l.col l.table.world.assets.now))
+          ≡ l.fn.steps + rows_cost (world_of l.table.world) l.table.terms.now (rows_of (world_of l.table.world) (shown l.table) l.session l.day l.table.world.assets.now);
     }

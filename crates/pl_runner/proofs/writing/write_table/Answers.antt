@@ -39,13 +39,13 @@ returns-in_err-write_session-clause-writes g c =
 pub returns-in_err-write_session-clause-most : goal.returns-in_err-write_session-clause-most
 returns-in_err-write_session-clause-most g c =
     let l = c.args.table.now in
-    let next = table_cost-next (world_of l.world) l.columns.now (shown l) c.loop-session.session l.to (omega arith) in
+    let next = table_cost-next (world_of l.world) l.terms.now (shown l) c.loop-session.session l.to (omega arith) in
     omega (arith, next, c.loop-session.invariant.cost, c.in_err-write_session.ensures.most)
 
 pub loop-session-preserved : goal.loop-session-preserved
 loop-session-preserved g c =
     let l = c.args.table.now in
-    let next = table_cost-next (world_of l.world) l.columns.now (shown l) c.loop-session.session l.to (omega arith) in
+    let next = table_cost-next (world_of l.world) l.terms.now (shown l) c.loop-session.session l.to (omega arith) in
     record {
       writing = writing-more _ _ (writing-over (table_lines-next (world_of l.world) (shown l) c.loop-session.session l.to (omega arith)) c.loop-session.invariant.writing)
           c.in_ok-write_session.ensures.writes;
@@ -60,11 +60,11 @@ returns-clause-writes g c =
 pub returns-clause-cost : goal.returns-clause-cost
 returns-clause-cost g c =
     let l = c.args.table.now in
-    let none = table_cost-none (world_of l.world) l.columns.now (shown l) c.loop-session.session l.to (omega arith) in
+    let none = table_cost-none (world_of l.world) l.terms.now (shown l) c.loop-session.session l.to (omega arith) in
     omega (arith, none, c.loop-session.invariant.cost)
 
 pub returns-clause-most : goal.returns-clause-most
 returns-clause-most g c =
     let l = c.args.table.now in
-    let none = table_cost-none (world_of l.world) l.columns.now (shown l) c.loop-session.session l.to (omega arith) in
+    let none = table_cost-none (world_of l.world) l.terms.now (shown l) c.loop-session.session l.to (omega arith) in
     omega (arith, none, c.loop-session.invariant.cost)

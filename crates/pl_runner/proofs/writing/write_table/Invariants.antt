@@ -13,6 +13,6 @@ invariant-loop-session g l =
     record {
       writing : Writing out.taken out.faults out.sound out.room l.fn.out l.out (table_text l.table)
           (table_lines (world_of l.table.world) (shown l.table) l.session l.table.to);
-      cost : l.steps + rows_cost (world_of l.table.world) l.table.columns.now (table (world_of l.table.world) (shown l.table) l.session l.table.to)
+      cost : l.steps + rows_cost (world_of l.table.world) l.table.terms.now (table (world_of l.table.world) (shown l.table) l.session l.table.to)
           ≡ l.fn.steps + table_cost l.table;
     }
