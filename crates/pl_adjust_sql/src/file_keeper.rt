@@ -1,0 +1,124 @@
+// The keeper over database files of the disk.
+ghost use Rattle.std.specs.Prelude.{◌≡◌, None, OnErr, IfOk, IsTrue, false};
+ghost use Rattle.sqlite_disk.specs.Memory.{memory_bytes, memory_is_usable};
+ghost use Rattle.pl_outside.specs.Counts.{count_end, count_plus};
+
+use crate::read::{TableError, read_table, table_error};
+use pl_outside::{AdjustKeeper, KeepError, RawAdjust, Table};
+use sqlite::{Connection, FileStore, Files, Options};
+use sqlite_disk::{Disk, Memory};
+use std::alloc::Global;
+use std::fs;
+use std::io;
+
+/// Database files by their paths: each load opens the named file and reads its table. It tells nothing but its faults.
+#[derive(Drop)]
+pub struct FileKeeper<'a> {
+    rt: &'a HostRuntime,
+    faults: u64,
+}
+
+impl<'a> FileKeeper<'a> {
+    /// No fault was counted yet.
+    pub fn new(rt: &'a HostRuntime) -> FileKeeper<'a>
+        ensures { result.faults ≡ 0 }
+    {
+        FileKeeper { rt, faults: 0 }
+    }
+
+    fn fail(&mut self) -> KeepError
+        ensures { self.new.faults ≡ count_plus self.old.faults 1 }
+    {
+        self.faults = self.faults.saturating_add(1);
+        KeepError::Failed
+    }
+}
+
+impl AdjustKeeper for FileKeeper<'_> {
+    ghost lists = { λ _. None };
+
+    ghost faults = { λ keeper. keeper.faults };
+
+    // it counts no calls, so that their count stands at its end
+    ghost calls = { λ _. count_end };
+
+    ghost sound = { λ _. false };
+
+    fn load(
+        &mut self,
+        alloc: Global,
+        name: &str,
+        table: Table,
+        into: &mut Vec<RawAdjust>,
+    ) -> Result<(), KeepError> {
+        match read_named(self.rt, alloc, name, table, into) {
+            Ok(()) => Ok(()),
+            Err(TableError::Memory) => Err(KeepError::Memory),
+            Err(TableError::Refused) => Err(self.fail()),
+        }
+    }
+
+    ghost use Rattle.std.proofs.Common.{rules};
+
+    ghost sound_tells = { Prim.search rules };
+
+    ghost lists_ascend = { Prim.search rules };
+}
+
+// The database and the log beside it are read whole and opened in memory, so that no file is made or changed.
+fn read_named(
+    rt: &HostRuntime,
+    alloc: Global,
+    name: &str,
+    table: Table,
+    into: &mut Vec<RawAdjust>,
+) -> Result<(), TableError>
+    ensures { OnErr result (into.new.items ≡ into.old.items) }
+{
+    let mut connection = open_copy(rt, alloc, name)?;
+    read_table(alloc, &mut connection, table, into)
+}
+
+fn open_copy(rt: &HostRuntime, alloc: Global, name: &str) -> Result<Connection<FileStore<Memory>>, TableError> {
+    let bytes = fs::read(rt, name).map_err(read_error)?;
+    if bytes.is_empty() {
+        return Err(TableError::Refused);
+    }
+    let db = copy_of(alloc, bytes.as_slice())?;
+    let log = copy_of(alloc, log_bytes(rt, alloc, name)?.as_slice())?;
+    match Connection::open_files(alloc, Files { log, db }, Options::new(1)) {
+        Ok(connection) => Ok(connection),
+        Err((error, _)) => Err(table_error(error)),
+    }
+}
+
+// The bytes of the log beside the file, and none where there is no log.
+fn log_bytes(rt: &HostRuntime, alloc: Global, name: &str) -> Result<Vec<u8>, TableError> {
+    let Ok(path) = format!(in alloc; "{name}-wal") else {
+        return Err(TableError::Memory);
+    };
+    match fs::read(rt, path.as_str()) {
+        Ok(bytes) => Ok(bytes),
+        Err(error) => match error.kind() {
+            io::ErrorKind::NotFound => Ok(Vec::new(alloc)),
+            _ => Err(read_error(error)),
+        },
+    }
+}
+
+fn copy_of(alloc: Global, bytes: &[u8]) -> Result<Memory, TableError>
+    ensures { IfOk result (λ disk. IsTrue (memory_is_usable disk) × (memory_bytes disk ≡ bytes.now)) }
+{
+    let mut disk = Memory::new(alloc);
+    match disk.write_at(0, bytes) {
+        Ok(()) => Ok(disk),
+        Err(_) => Err(TableError::Memory),
+    }
+}
+
+fn read_error(error: io::Error) -> TableError {
+    match error.kind() {
+        io::ErrorKind::OutOfMemory => TableError::Memory,
+        _ => TableError::Refused,
+    }
+}
