@@ -2,8 +2,9 @@
 ghost use Rattle.std.specs.Prelude.{◌≡◌, ℕ, None, false};
 ghost use Rattle.pl_outside.specs.Counts.{count_end, count_plus};
 
-use crate::read::{TableError, read_table};
-use pl_outside::{AdjustKeeper, Failed, KeepError, RawAdjust, Table};
+use crate::read::read_table;
+use crate::refusal::TableError;
+use pl_outside::{AdjustKeeper, KeepError, RawAdjust, Table};
 use sqlite::{Alter, Connection};
 use std::alloc::Global;
 

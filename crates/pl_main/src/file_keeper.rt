@@ -1,33 +1,36 @@
-// The keeper over database files of the disk.
-ghost use Rattle.std.specs.Prelude.{◌≡◌, None, OnErr, IfOk, IsTrue, false};
+// The database files of the disk.
+ghost use Rattle.std.specs.Prelude.{◌≡◌, ◌↔◌, None, IfOk, IsTrue, OnErr, false};
+ghost use Rattle.std.specs.IoError.{error_kind};
 ghost use Rattle.sqlite_disk.specs.Memory.{memory_bytes, memory_is_usable};
 ghost use Rattle.pl_outside.specs.Counts.{count_end, count_plus};
 
-use crate::read::{TableError, read_table, table_error};
+use pl_adjust_sql::{TableError, read_table};
 use pl_outside::{AdjustKeeper, KeepError, RawAdjust, Table};
-use sqlite::{Connection, FileStore, Files, Options};
+use sqlite::{Connection, Error, ErrorCode, FileStore, Files, Options};
 use sqlite_disk::{Disk, Memory};
 use std::alloc::Global;
 use std::fs;
-use std::io;
+use std::io::{self, ErrorKind};
 
-/// Database files by their paths: each load opens the named file and reads its table. It tells nothing but its faults.
+/// Database files of SQLite by their paths: each load opens the named file and reads its table. It tells nothing but its
+/// faults.
 #[derive(Drop)]
 pub struct FileKeeper<'a> {
     rt: &'a HostRuntime,
-    faults: u64,
+    pub(crate) faults: u64,
 }
 
 impl<'a> FileKeeper<'a> {
-    /// No fault was counted yet.
+    /// No file is opened yet.
     pub fn new(rt: &'a HostRuntime) -> FileKeeper<'a>
         ensures { result.faults ≡ 0 }
     {
         FileKeeper { rt, faults: 0 }
     }
 
-    fn fail(&mut self) -> KeepError
-        ensures { self.new.faults ≡ count_plus self.old.faults 1 }
+    fn failed(&mut self) -> KeepError
+        ensures count { self.new.faults ≡ count_plus self.old.faults 1 }
+        ensures failed { result ≡ KeepError.Failed }
     {
         self.faults = self.faults.saturating_add(1);
         KeepError::Failed
@@ -37,7 +40,7 @@ impl<'a> FileKeeper<'a> {
 impl AdjustKeeper for FileKeeper<'_> {
     ghost lists = { λ _. None };
 
-    ghost faults = { λ keeper. keeper.faults };
+    ghost faults = { λ s. s.faults };
 
     // it counts no calls, so that their count stands at its end
     ghost calls = { λ _. count_end };
@@ -54,7 +57,7 @@ impl AdjustKeeper for FileKeeper<'_> {
         match read_named(self.rt, alloc, name, table, into) {
             Ok(()) => Ok(()),
             Err(TableError::Memory) => Err(KeepError::Memory),
-            Err(TableError::Refused) => Err(self.fail()),
+            Err(TableError::Refused) => Err(self.failed()),
         }
     }
 
@@ -65,7 +68,6 @@ impl AdjustKeeper for FileKeeper<'_> {
     ghost lists_ascend = { Prim.search rules };
 }
 
-// The database and the log beside it are read whole and opened in memory, so that no file is made or changed.
 fn read_named(
     rt: &HostRuntime,
     alloc: Global,
@@ -79,7 +81,13 @@ fn read_named(
     read_table(alloc, &mut connection, table, into)
 }
 
-fn open_copy(rt: &HostRuntime, alloc: Global, name: &str) -> Result<Connection<FileStore<Memory>>, TableError> {
+// The file and the log beside it are read whole and opened in memory: SQLite would make a file that isn't there, and would
+// write a log. An empty file is no database yet.
+fn open_copy(
+    rt: &HostRuntime,
+    alloc: Global,
+    name: &str,
+) -> Result<Connection<FileStore<Memory>>, TableError> {
     let bytes = fs::read(rt, name).map_err(read_error)?;
     if bytes.is_empty() {
         return Err(TableError::Refused);
@@ -88,11 +96,11 @@ fn open_copy(rt: &HostRuntime, alloc: Global, name: &str) -> Result<Connection<F
     let log = copy_of(alloc, log_bytes(rt, alloc, name)?.as_slice())?;
     match Connection::open_files(alloc, Files { log, db }, Options::new(1)) {
         Ok(connection) => Ok(connection),
-        Err((error, _)) => Err(table_error(error)),
+        Err((error, _)) => Err(open_error(&error)),
     }
 }
 
-// The bytes of the log beside the file, and none where there is no log.
+// The bytes of the write-ahead log beside a database file, and none where there is no log.
 fn log_bytes(rt: &HostRuntime, alloc: Global, name: &str) -> Result<Vec<u8>, TableError> {
     let Ok(path) = format!(in alloc; "{name}-wal") else {
         return Err(TableError::Memory);
@@ -100,7 +108,7 @@ fn log_bytes(rt: &HostRuntime, alloc: Global, name: &str) -> Result<Vec<u8>, Tab
     match fs::read(rt, path.as_str()) {
         Ok(bytes) => Ok(bytes),
         Err(error) => match error.kind() {
-            io::ErrorKind::NotFound => Ok(Vec::new(alloc)),
+            ErrorKind::NotFound => Ok(Vec::new(alloc)),
             _ => Err(read_error(error)),
         },
     }
@@ -116,9 +124,20 @@ fn copy_of(alloc: Global, bytes: &[u8]) -> Result<Memory, TableError>
     }
 }
 
-fn read_error(error: io::Error) -> TableError {
+fn read_error(error: io::Error) -> TableError
+    ensures { result ≡ TableError.Memory ↔ (error_kind error ≡ ErrorKind.OutOfMemory) }
+{
     match error.kind() {
-        io::ErrorKind::OutOfMemory => TableError::Memory,
+        ErrorKind::OutOfMemory => TableError::Memory,
+        _ => TableError::Refused,
+    }
+}
+
+fn open_error(error: &Error) -> TableError
+    ensures { result ≡ TableError.Memory ↔ (error.now ≡ Error.SqliteFailure ErrorCode.OutOfMemory) }
+{
+    match error {
+        Error::SqliteFailure(ErrorCode::OutOfMemory) => TableError::Memory,
         _ => TableError::Refused,
     }
 }
