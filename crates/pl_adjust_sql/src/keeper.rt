@@ -1,6 +1,12 @@
 // The keeper over one connection.
-ghost use Rattle.std.specs.Prelude.{◌≡◌, ℕ, None, false};
+ghost use Rattle.std.specs.Prelude.{◌≡◌, List, None, Err, OnOk, OnErr, length, string_bytes, false};
+ghost use Rattle.sqlite.specs.State.{HasCleanDisk};
+ghost use Rattle.sqlite.specs.Held.{state};
+ghost use Rattle.pl_outside.specs.declared.keeper.Table.{Table};
 ghost use Rattle.pl_outside.specs.Counts.{count_end, count_plus};
+ghost use Rattle.pl_adjust_sql.specs.Tables.{statement_of};
+ghost use Rattle.pl_adjust_sql.specs.Reads.{AppendsAnswer, AppendsRows, Begins, count_after};
+ghost use Rattle.pl_adjust_sql.specs.Refusals.{IsRefused};
 
 use crate::read::read_table;
 use crate::refusal::TableError;
@@ -8,18 +14,19 @@ use pl_outside::{AdjustKeeper, KeepError, RawAdjust, Table};
 use sqlite::{Alter, Connection};
 use std::alloc::Global;
 
-/// The tables of one connection, under one name. A load by another name, and each refusal of a statement but for want of
-/// memory, is a counted fault. It tells nothing: what its rows are, `read_table` says.
+/// The tables of one connection, under one name. A load by another name, and each refusal of a statement or a value, is a
+/// counted fault. It tells nothing of what it holds: what a load appends is what `read_table` does.
 #[derive(Drop)]
 pub struct SqlKeeper<S: Alter> {
     connection: Connection<S>,
     name: String,
-    faults: u64,
+    pub(crate) faults: u64,
 }
 
 impl<S: Alter> SqlKeeper<S> {
+    /// No fault is counted yet.
     pub fn new(connection: Connection<S>, name: String) -> SqlKeeper<S>
-        ensures { result.faults ≡ 0 }
+        ensures { result ≡ record { connection = connection; name = name; faults = 0 } }
     {
         SqlKeeper {
             connection,
@@ -28,8 +35,9 @@ impl<S: Alter> SqlKeeper<S> {
         }
     }
 
-    fn fail(&mut self) -> KeepError
-        ensures { self.new.faults ≡ count_plus self.old.faults 1 }
+    fn failed(&mut self) -> KeepError
+        ensures failed { result ≡ KeepError.Failed }
+        ensures count { self.new ≡ record self.old { faults = count_plus self.old.faults 1 } }
     {
         self.faults = self.faults.saturating_add(1);
         KeepError::Failed
@@ -52,14 +60,26 @@ impl<S: Alter> AdjustKeeper for SqlKeeper<S> {
         name: &str,
         table: Table,
         into: &mut Vec<RawAdjust>,
-    ) -> Result<(), KeepError> {
+    ) -> Result<(), KeepError>
+        ensures other { ¬ (string_bytes self.old.name ≡ name.now) → result ≡ Err KeepError.Failed }
+        ensures statement { HasCleanDisk (state S.Store self.new.connection)
+            → OnOk result (AppendsAnswer table (state S.Store self.old.connection) (state S.Store self.new.connection) into.old.items into.new.items) }
+        ensures rows { HasCleanDisk (state S.Store self.new.connection)
+            → (before : List Table) → Begins (state S.Store self.old.connection).now.schema before table
+            → OnOk result (AppendsRows ((state S.Store self.old.connection).now.trees (length before)) into.old.items into.new.items) }
+        ensures refused { HasCleanDisk (state S.Store self.new.connection) → string_bytes self.old.name ≡ name.now
+            → result ≡ Err KeepError.Failed → IsRefused (statement_of table) (state S.Store self.old.connection) (state S.Store self.new.connection) }
+        ensures same { OnErr result (into.new.items ≡ into.old.items) }
+        ensures count { self.new.faults ≡ count_after self.old.faults result }
+        ensures name { self.new.name ≡ self.old.name }
+    {
         if self.name.as_str() != name {
-            return Err(self.fail());
+            return Err(self.failed());
         }
         match read_table(alloc, &mut self.connection, table, into) {
             Ok(()) => Ok(()),
             Err(TableError::Memory) => Err(KeepError::Memory),
-            Err(TableError::Refused) => Err(self.fail()),
+            Err(TableError::Refused) => Err(self.failed()),
         }
     }
 
