@@ -1,5 +1,5 @@
 // The database files of the disk.
-ghost use Rattle.std.specs.Prelude.{◌≡◌, ◌↔◌, None, IfOk, IsTrue, OnErr, false};
+ghost use Rattle.std.specs.Prelude.{◌≡◌, ◌==◌, ◌↔◌, None, IfOk, IsTrue, OnErr, false, not, slice_index_or};
 ghost use Rattle.std.specs.IoError.{error_kind};
 ghost use Rattle.sqlite_disk.specs.Memory.{memory_bytes, memory_is_usable};
 ghost use Rattle.pl_outside.specs.Counts.{count_end, count_plus};
@@ -82,27 +82,42 @@ fn read_named(
 }
 
 // The file and the log beside it are read whole and opened in memory: SQLite would make a file that isn't there, and would
-// write a log. An empty file is no database yet.
+// write a log. An empty file is no database yet, and one whose transaction was cut off would first have to be mended.
 fn open_copy(
     rt: &HostRuntime,
     alloc: Global,
     name: &str,
 ) -> Result<Connection<FileStore<Memory>>, TableError> {
     let bytes = fs::read(rt, name).map_err(read_error)?;
-    if bytes.is_empty() {
+    if bytes.is_empty() || is_cut_off(bytes_beside(rt, alloc, name, "journal")?.as_slice()) {
         return Err(TableError::Refused);
     }
     let db = copy_of(alloc, bytes.as_slice())?;
-    let log = copy_of(alloc, log_bytes(rt, alloc, name)?.as_slice())?;
+    let log = copy_of(alloc, bytes_beside(rt, alloc, name, "wal")?.as_slice())?;
     match Connection::open_files(alloc, Files { log, db }, Options::new(1)) {
         Ok(connection) => Ok(connection),
         Err((error, _)) => Err(open_error(&error)),
     }
 }
 
-// The bytes of the write-ahead log beside a database file, and none where there is no log.
-fn log_bytes(rt: &HostRuntime, alloc: Global, name: &str) -> Result<Vec<u8>, TableError> {
-    let Ok(path) = format!(in alloc; "{name}-wal") else {
+// Whether this is a rollback journal that is to be played back: the first byte of another one is 0.
+fn is_cut_off(journal: &[u8]) -> bool
+    ensures { result ≡ not (slice_index_or journal.now 0 0 == 0) }
+{
+    match journal {
+        [] => false,
+        [first, ..] => *first != 0,
+    }
+}
+
+// The bytes of SQLite's file of that kind beside a database file, and none where there is no such file.
+fn bytes_beside(
+    rt: &HostRuntime,
+    alloc: Global,
+    name: &str,
+    kind: &str,
+) -> Result<Vec<u8>, TableError> {
+    let Ok(path) = format!(in alloc; "{name}-{kind}") else {
         return Err(TableError::Memory);
     };
     match fs::read(rt, path.as_str()) {
