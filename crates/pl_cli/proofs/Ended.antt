@@ -1,38 +1,36 @@
 -- How the commands end.
-use Rattle.std.proofs.Common.{◌≡◌, inl, inr, ℕ, ◌+◌, ◌≤◌, Bool, true, IsTrue, List, [], ◌∷◌, ◌++◌, length, Option, Some, None, Result, Ok, Err, OnOk, OnErr, IfErr, refl, sym, ◌∙◌, arith}
+use Rattle.std.proofs.Common.{◌≡◌, inl, inr, ℕ, ◌+◌, ◌≤◌, Bool, true, List, [], ◌∷◌, Option, Some, None, Result, Ok, Err, OnOk, OnErr, IfErr, refl, arith}
 use Rattle.std.specs.Option.{ForSome}
 use Rattle.pl_spec.specs.declared.Format.TheVariants.{Csv}
 use Rattle.pl_spec.specs.World.{World}
-use Rattle.pl_spec.specs.Table.{table}
+use Rattle.pl_spec.specs.Table.{Pipeline, table}
 use Rattle.pl_spec.specs.Text.{text}
 use Rattle.pl_outside.specs.Files.{Files}
 use Rattle.pl_outside.specs.Lists.{Lists}
 use Rattle.pl_outside.specs.Taken.{Writes}
-use Rattle.pl_outside.specs.declared.keeper.Table.{Table}
 use Rattle.pl_outside.proofs.Pieces.{writes-over}
 use Rattle.pl_plain.specs.declared.script.PlainColumn.{PlainColumn}
 use Rattle.pl_plain.specs.PlainScript.{pipeline_of}
 use Rattle.pl_plain.specs.Rows.{rows_cost}
-use Rattle.pl_grammar.specs.Script.{Statement}
+use Rattle.pl_syntax.specs.Spells.{Parsed}
 use Rattle.pl_syntax.specs.Canonical.{script_text}
 use Rattle.pl_words.specs.declared.request.InputFile.{InputFile}
 use Rattle.pl_words.specs.declared.request.InputFile.TheVariants as files
-use Rattle.pl_words.specs.Request.{Request, Run, Fmt, RunRequest, name_asked, adjustments_of}
+use Rattle.pl_words.specs.Request.{Request, Run, Fmt, Check, RunRequest, name_asked, pipeline_name, adjustments_of}
 use Rattle.pl_judge.specs.declared.fault.Fault.{Fault}
 use Rattle.pl_judge.specs.declared.fault.Fault.TheVariants.{Usage, Unwritten, Memory}
 use Rattle.pl_judge.specs.Contents.{Contents, AreHeld}
-use Rattle.pl_judge.specs.Held.{columns_held, days_held, statements_read, world_held}
-use Rattle.pl_judge.specs.Range.{index_of}
-use Rattle.pl_judge.specs.Steps.{first_fault}
-use Rattle.pl_judge.specs.Work.{syntax_step, work}
-use Rattle.pl_judge.specs.Stages.{IsStop, IsRisen, StageEnds}
+use Rattle.pl_judge.specs.Held.{columns_held, script_in, pipeline_in, world_held}
+use Rattle.pl_judge.specs.Steps.{Step, first_fault}
+use Rattle.pl_judge.specs.Work.{syntax_step, pipeline_steps, work}
+use Rattle.pl_judge.specs.Stages.{IsStop, IsRisen}
 use Rattle.pl_judge.proofs.Steps.{stop-weaker, always}
 use Rattle.pl_load.specs.declared.loading.Loaded.{Loaded}
 use Rattle.pl_load.specs.Reads.{IsRead}
 use Rattle.pl_load.specs.Loads.{IsLoad, IsLoaded, owned_world}
-use Rattle.pl_cli.specs.Texts.{text_of, cost_of}
-use Rattle.pl_cli.specs.Runs.{Observed, HasRoom}
-use Rattle.pl_cli.specs.Commands.{IsEnd, IsDone, IsEnded, IsCaused, loaded_text, loaded_cost}
+use Rattle.pl_cli.specs.Texts.{text_of, cost_of, check_text}
+use Rattle.pl_cli.specs.Runs.{Observed}
+use Rattle.pl_cli.specs.Commands.{IsEnd, IsEnded, IsCaused, loaded_text, loaded_cost}
 
 -- what stops the work is no fault of writing
 end-of : (o : Observed) (held : Contents) (asked : Option Request) (s k : Type 0) (fault : Fault) → IsRisen s k fault
@@ -73,6 +71,31 @@ same-cost v w cs ds a b from to e c f t = rw (e, c, f, t) refl
 loaded-cost : (held : Contents) (q : RunRequest) (l : Loaded) → IsLoaded held q l → loaded_cost l ≡ cost_of held (Some (Run q))
 unfolding cost_of
 loaded-cost held q l h = same-cost (world_held held q) (owned_world l.world) (columns_held held) l.columns.items _ _ l.range.from l.range.to h.world h.columns h.from h.to
+
+-- a command over the pipeline file alone, with these steps, which asks for no adjustments and counts no steps
+pub record IsOfFile (asked : Request) (name : List ℕ) (steps : Option (List ℕ) → List Step) : Type 0 where
+  pub named : (f : InputFile) → name_asked (Some asked) f ≡ pipeline_name name f
+  pub rows : adjustments_of (Some asked) ≡ None
+  pub work : (held : Contents) → work held (Some asked) ≡ steps (held.file files.Pipeline)
+  pub free : (held : Contents) → cost_of held (Some asked) ≡ 0
+
+pub fmt-is : (name : List ℕ) → IsOfFile (Fmt name) name (λ held. syntax_step held ∷ [])
+unfolding work cost_of
+fmt-is name = record { named = λ f. refl; rows = refl; work = λ held. refl; free = λ held. refl }
+
+pub check-is : (name : List ℕ) → IsOfFile (Check name) name pipeline_steps
+unfolding work cost_of
+check-is name = record { named = λ f. refl; rows = refl; work = λ held. refl; free = λ held. refl }
+
+-- their texts
+pub fmt-text : (name bytes : List ℕ) (script : Parsed) → bytes ≡ script_text 1 script.statements
+    → (held : Contents) → script_in (held.file files.Pipeline) ≡ script → bytes ≡ text_of held (Some (Fmt name))
+unfolding text_of
+fmt-text name bytes script e held h = rw (e, h) refl
+
+pub check-text : (name : List ℕ) (p : Pipeline) (held : Contents) → pipeline_in (held.file files.Pipeline) ≡ p → check_text p ≡ text_of held (Some (Check name))
+unfolding text_of
+check-text name p held h = rw h refl
 
 -- what is observed where a sink was written to
 abbrev pub seen : {O : Type 0} (taken : O → Option (List ℕ)) (sound : O → Bool) (room : O → ℕ) (old new : O) (files : Option Files) (lists : Option Lists) (shelf keeper : Bool) (before now : ℕ) → Observed
@@ -123,55 +146,60 @@ module _ {O : Type 0} (taken : O → Option (List ℕ)) (faults : O → ℕ) (so
       ends-written h.held (Some (Run q)) r h.are_held h.ends.passed (writes-over (loaded-text h.held q l h.loaded) w) is
       (rw (loaded-cost h.held q l h.loaded) at cost) (rw (loaded-cost h.held q l h.loaded) at most)
 
-  -- ---- fmt
+  -- ---- commands over the pipeline file alone
 
-  -- it reads the pipeline file alone
-  abbrev fmt_held : Option (List ℕ) → Contents
-  fmt_held file = record { file = λ f. file; rows = λ t. [] }
+  abbrev pipeline_held : Option (List ℕ) → Contents
+  pipeline_held file = record { file = λ f. file; rows = λ t. [] }
 
-  fmt-files : (name : List ℕ) (file : Option (List ℕ)) → ForSome (Some name) (λ n. ForSome tells (λ told. file ≡ told n))
-      → (f : InputFile) → ForSome (name_asked (Some (Fmt name)) f) (λ n. ForSome tells (λ told. file ≡ told n))
-  fmt-files name file h files.Pipeline = h
-  fmt-files name file h files.Sessions = λ n is. absurd (cc)
-  fmt-files name file h files.Assets = λ n is. absurd (cc)
-  fmt-files name file h files.Labels = λ n is. absurd (cc)
-  fmt-files name file h files.Bars = λ n is. absurd (cc)
+  pipeline-files : (name : List ℕ) (file : Option (List ℕ)) → ForSome (Some name) (λ n. ForSome tells (λ told. file ≡ told n))
+      → (f : InputFile) → ForSome (pipeline_name name f) (λ n. ForSome tells (λ told. file ≡ told n))
+  pipeline-files name file h files.Pipeline = h
+  pipeline-files name file h files.Sessions = λ n is. absurd (cc)
+  pipeline-files name file h files.Assets = λ n is. absurd (cc)
+  pipeline-files name file h files.Labels = λ n is. absurd (cc)
+  pipeline-files name file h files.Bars = λ n is. absurd (cc)
 
-  fmt-are-held : (name : List ℕ) (file : Option (List ℕ)) → ForSome (Some name) (λ n. ForSome tells (λ told. file ≡ told n)) → AreHeld tells lists (Some (Fmt name)) (fmt_held file)
-  fmt-are-held name file h = record { files_held = fmt-files name file h; rows_held = λ t n is. absurd (cc) }
-
-  pub script-stops : {S : Type 0} (name : List ℕ) (s k : Type 0) (fault : Fault) (Means : Option (List ℕ) → S → Type 0) → now ≡ before → IsRisen s k fault
-      → IsRead tells shelf (Some name) (λ held. syntax_step held ∷ []) Means (Err fault)
-      → IsEnded {T = Unit {0}} (seen taken sound room old new tells lists shelf keeper before now) (Some (Fmt name)) (Err fault)
-  unfolding work
-  script-stops name s k fault Means same risen h =
+  are-held : (asked : Request) (name : List ℕ) (steps : Option (List ℕ) → List Step) (file : Option (List ℕ)) → IsOfFile asked name steps
+      → ForSome (Some name) (λ n. ForSome tells (λ told. file ≡ told n)) → AreHeld tells lists (Some asked) (pipeline_held file)
+  are-held asked name steps file of h =
       record {
-        held = fmt_held h.file;
-        are_held = fmt-are-held name h.file h.is_told;
+        files_held = λ f. rw (of.named f) (pipeline-files name file h f);
+        rows_held = λ t n is. absurd (let none = of.rows in cc);
+      }
+
+  pub file-stops : {T : Type 0} (asked : Request) (name : List ℕ) (steps : Option (List ℕ) → List Step) (s k : Type 0) (fault : Fault) (Means : Option (List ℕ) → T → Type 0)
+      → IsOfFile asked name steps → now ≡ before → IsRisen s k fault → IsRead tells shelf (Some name) steps Means (Err fault)
+      → IsEnded {T = Unit {0}} (seen taken sound room old new tells lists shelf keeper before now) (Some asked) (Err fault)
+  file-stops asked name steps s k fault Means of same risen h =
+      record {
+        held = pipeline_held h.file;
+        are_held = are-held asked name steps h.file of h.is_told;
         done = tt;
-        ended = end-of (seen taken sound room old new tells lists shelf keeper before now) (fmt_held h.file) (Some (Fmt name)) s k fault risen
-            (stop-weaker shelf keeper shelf true (syntax_step h.file ∷ []) fault (λ t. t) always h.ends.stopped);
+        ended = end-of (seen taken sound room old new tells lists shelf keeper before now) (pipeline_held h.file) (Some asked) s k fault risen
+            (rw (of.work (pipeline_held h.file)) (stop-weaker shelf keeper shelf true (steps h.file) fault (λ t. t) always h.ends.stopped));
         most = omega (arith, same);
       }
 
-  pub no-text : {S : Type 0} (name : List ℕ) (script : S) (Means : Option (List ℕ) → S → Type 0) → now ≡ before
-      → IsRead tells shelf (Some name) (λ held. syntax_step held ∷ []) Means (Ok script)
-      → IsEnded {T = Unit {0}} (seen taken sound room old new tells lists shelf keeper before now) (Some (Fmt name)) (Err Memory)
-  no-text name script Means same h =
-      record { held = fmt_held h.file; are_held = fmt-are-held name h.file h.is_told; done = tt; ended = inr tt; most = omega (arith, same) }
+  -- memory is wanted for the text
+  pub no-text : {T : Type 0} (asked : Request) (name : List ℕ) (steps : Option (List ℕ) → List Step) (x : T) (Means : Option (List ℕ) → T → Type 0)
+      → IsOfFile asked name steps → now ≡ before → IsRead tells shelf (Some name) steps Means (Ok x)
+      → IsEnded {T = Unit {0}} (seen taken sound room old new tells lists shelf keeper before now) (Some asked) (Err Memory)
+  no-text asked name steps x Means of same h =
+      record { held = pipeline_held h.file; are_held = are-held asked name steps h.file of h.is_told; done = tt; ended = inr tt; most = omega (arith, same) }
 
-  no-step : (r : Result (Unit {0}) Fault) → now ≡ before → OnOk r (now ≡ before + 0)
-  no-step (Ok x) same = omega (arith, same)
-  no-step (Err f) same = tt
+  no-step : (r : Result (Unit {0}) Fault) (cost : ℕ) → now ≡ before → cost ≡ 0 → OnOk r (now ≡ before + cost)
+  no-step (Ok x) cost same none = omega (arith, same, none)
+  no-step (Err f) cost same none = tt
 
-  pub script-written : {S : Type 0} (name : List ℕ) (script : S) (said : S → List Statement) (bytes : List ℕ) (r : Result (Unit {0}) Fault) → now ≡ before
-      → IsRead tells shelf (Some name) (λ held. syntax_step held ∷ []) (λ held x. statements_read held ≡ said x) (Ok script)
-      → bytes ≡ script_text 1 (said script) → Writes taken faults sound room old new bytes r → IfErr r (λ f. f ≡ Unwritten)
-      → IsEnded (seen taken sound room old new tells lists shelf keeper before now) (Some (Fmt name)) r
-  unfolding work text_of cost_of
-  script-written name script said bytes r same h text w is =
-      ends-written (fmt_held h.file) (Some (Fmt name)) r (fmt-are-held name h.file h.is_told) h.ends.passed
-      (writes-over (rw h.means text) w) is (no-step r same) (omega (arith, same))
+  pub file-written : {T : Type 0} (asked : Request) (name : List ℕ) (steps : Option (List ℕ) → List Step) (x : T) (Means : Option (List ℕ) → T → Type 0) (bytes : List ℕ)
+      (r : Result (Unit {0}) Fault) → IsOfFile asked name steps → now ≡ before → IsRead tells shelf (Some name) steps Means (Ok x)
+      → ((file : Option (List ℕ)) → Means file x → bytes ≡ text_of (pipeline_held file) (Some asked))
+      → Writes taken faults sound room old new bytes r → IfErr r (λ f. f ≡ Unwritten)
+      → IsEnded (seen taken sound room old new tells lists shelf keeper before now) (Some asked) r
+  file-written asked name steps x Means bytes r of same h text w is =
+      let none = of.free (pipeline_held h.file) in
+      ends-written (pipeline_held h.file) (Some asked) r (are-held asked name steps h.file of h.is_told) (rw (of.work (pipeline_held h.file)) h.ends.passed)
+      (writes-over (text h.file h.means) w) is (no-step r (cost_of (pipeline_held h.file) (Some asked)) same none) (omega (arith, same, none))
 
 -- what was not written has its cause
 pub caused-written : (s k risen kept : Type 0) (r : Result (Unit {0}) Fault) → IfErr r (λ f. f ≡ Unwritten) → OnErr r risen → IfErr r (IsCaused ⊥ s k risen kept)

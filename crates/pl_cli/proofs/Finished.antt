@@ -1,5 +1,5 @@
 -- From the end of a command to the status and the line of the program.
-use Rattle.std.proofs.Common.{◌≡◌, ◌⊎◌, inl, inr, ℕ, List, [], ◌∷◌, ◌++◌, length, Bool, arith, IsTrue, IsSome, Option, Some, None, Result, Ok, Err, refl, MatchOption, option_map, Bor}
+use Rattle.std.proofs.Common.{◌≡◌, ◌⊎◌, inl, inr, ℕ, List, length, Bool, arith, IsTrue, IsSome, Option, Some, None, Result, Ok, Err, refl, MatchOption, option_map, Bor}
 use Rattle.std.specs.Option.{option_copied}
 use Rattle.pl_words.specs.Request.{Request, adjustments_of}
 use Rattle.pl_words.specs.Views.{request_of}
@@ -63,6 +63,7 @@ end-complete o held asked f h s k r = stop-complete o held asked f h s k
 not-zero : (f : Fault) → status_of f ≡ 0 → ⊥
 not-zero faults.Usage e = omega arith
 not-zero (faults.Syntax place fault) e = omega arith
+not-zero (faults.Rule place fault) e = omega arith
 not-zero faults.Unbuilt e = omega arith
 not-zero (faults.Data file line fault) e = omega arith
 not-zero (faults.Row table id fault) e = omega arith
@@ -78,6 +79,7 @@ not-zero Memory e = omega arith
 nine-is : (f : Fault) → status_of f ≡ 9 → f ≡ Unwritten
 nine-is faults.Usage e = absurd (omega arith)
 nine-is (faults.Syntax place fault) e = absurd (omega arith)
+nine-is (faults.Rule place fault) e = absurd (omega arith)
 nine-is faults.Unbuilt e = absurd (omega arith)
 nine-is (faults.Data file line fault) e = absurd (omega arith)
 nine-is (faults.Row table id fault) e = absurd (omega arith)

@@ -6,7 +6,7 @@ use Rattle.pl_spec.specs.Table.{Pipeline}
 use Rattle.pl_outside.specs.declared.keeper.Table.{Table}
 use Rattle.pl_words.specs.declared.request.InputFile.{InputFile}
 use Rattle.pl_words.specs.declared.request.InputFile.TheVariants.{Labels as LabelsFile}
-use Rattle.pl_words.specs.Request.{Request, Run, Fmt, RunRequest, adjustments_of}
+use Rattle.pl_words.specs.Request.{Request, Run, Fmt, Check, RunRequest, adjustments_of}
 use Rattle.pl_judge.specs.Contents.{Contents}
 use Rattle.pl_judge.specs.Held.{assets_held}
 use Rattle.pl_judge.specs.Steps.{Source, Step, ReachesRead}
@@ -75,4 +75,5 @@ pub store-named : (held : Contents) (asked : Option Request) (table : Table) →
 unfolding work
 store-named held None table h = elim h [ inl p ↦ no-read p | inr a ↦ absurd a.1 ]
 store-named held (Some (Fmt n)) table h = elim h [ inl p ↦ no-input p | inr a ↦ absurd a.1 ]
+store-named held (Some (Check n)) table h = elim h [ inl p ↦ no-input p | inr a ↦ elim a.1 [ inl p ↦ no-read p | inr b ↦ absurd b.1 ] ]
 store-named held (Some (Run q)) table h = of-run held q table h

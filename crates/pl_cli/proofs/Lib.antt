@@ -1,3 +1,4 @@
 pub mod Keepers
+pub mod Counts
 pub mod Ended
 pub mod Finished

@@ -7,18 +7,22 @@ ghost use Rattle.pl_outside.specs.Lists.{Lists};
 ghost use Rattle.pl_outside.specs.Taken.{Writes};
 ghost use Rattle.pl_outside.specs.Left.{Leaves, LeavesSink, IsUntouched};
 ghost use Rattle.pl_plain.specs.PlainScript.{pipeline_of};
-ghost use Rattle.pl_words.specs.Request.{Run, Fmt};
+ghost use Rattle.pl_words.specs.Request.{Run, Fmt, Check};
 ghost use Rattle.pl_words.specs.Views.{run_of};
 ghost use Rattle.pl_cli.specs.Runs.{observed};
 ghost use Rattle.pl_load.specs.Loads.{IsReady};
+ghost use Rattle.pl_terms.specs.Checked.{pipeline_of as pipeline_checked};
+ghost use Rattle.pl_cli.specs.Texts.{check_text};
 ghost use Rattle.pl_cli.specs.Commands.{IsEnded, IsCaused, loaded_text, loaded_cost};
 
+use itoa::Buffer;
 use pl_fixed::Steps;
-use pl_judge::Fault;
-use pl_load::{Loaded, load, read_script};
-use pl_outside::{AdjustKeeper, Shelf, Sink, write_bytes};
+use pl_judge::{Fault, write_pieces};
+use pl_load::{Loaded, load, read_checked, read_script};
+use pl_outside::{AdjustKeeper, Failed, Shelf, Sink, write_bytes};
 use pl_runner::{TableText, make_header, write_table};
 use pl_syntax::print;
+use pl_terms::Checked;
 use pl_words::RunRequest;
 use std::alloc::Global;
 use std::sync::ledger::Ledger;
@@ -98,4 +102,38 @@ pub fn fmt_command<S: Shelf, O: Sink>(
         Ok(()) => Ok(()),
         Err(_) => Err(Fault::Unwritten),
     }
+}
+
+/// Reads the pipeline file of that name, and writes how many terms and columns its pipeline has.
+pub fn check_command<S: Shelf, O: Sink>(
+    alloc: Global,
+    name: &str,
+    shelf: &mut S,
+    out: &mut O,
+) -> Result<(), Fault>
+    // whatever a keeper tells, and however many steps were counted
+    ensures ended { (lists : Option Lists) (sound : Bool) (steps : ℕ) → IsEnded (observed S.holds S.sound (λ _. lists) (λ _. sound)
+        O.taken O.sound O.room shelf.old steps out.old out.new steps steps) (Some (Check name.now)) result }
+    ensures caused { IfErr result (IsCaused ⊥ (Rose (S.faults shelf.old) (S.faults shelf.new)) ⊥
+        (Rose (O.faults out.old) (O.faults out.new))
+        ((O.taken out.new ≡ O.taken out.old) × (O.room out.new ≡ O.room out.old))) }
+    ensures shelf { Leaves S.holds S.sound S.faults shelf.old shelf.new }
+    ensures out { LeavesSink O.sound O.faults out.old out.new }
+{
+    let checked = read_checked(alloc, shelf, name)?;
+    match write_counts(&checked, out) {
+        Ok(()) => Ok(()),
+        Err(_) => Err(Fault::Unwritten),
+    }
+}
+
+// Writes how many terms and columns the pipeline has.
+fn write_counts<O: Sink>(checked: &Checked, out: &mut O) -> Result<(), Failed>
+    ensures { Writes O.taken O.faults O.sound O.room out.old out.new (check_text (pipeline_checked checked.now)) result }
+{
+    let mut terms = Buffer::new();
+    let mut columns = Buffer::new();
+    let terms = terms.format(checked.graph().len());
+    let columns = columns.format(checked.columns());
+    write_pieces(out, &["ok: ", terms, " terms, ", columns, " columns\n"])
 }

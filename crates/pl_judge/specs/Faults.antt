@@ -3,11 +3,14 @@ use Rattle.std.specs.Prelude.{ℕ, List, [], ◌∷◌, ◌++◌, Option, Some, 
 use Rattle.std.specs.Fmt.{signed_decimal}
 use Rattle.pl_outside.specs.declared.keeper.Table.{Table}
 use Rattle.pl_outside.specs.declared.keeper.Table.TheVariants.{Splits, Mergers, Dividends}
+use Rattle.pl_grammar.specs.declared.Place.{Place}
 use Rattle.pl_words.specs.declared.request.InputFile.{InputFile}
 use Rattle.pl_words.specs.declared.request.InputFile.TheVariants.{Pipeline}
 use Rattle.pl_words.specs.Request.{Request, name_asked, date_asked, adjustments_of}
 use Rattle.pl_judge.specs.declared.fault.SyntaxFault.{SyntaxFault}
 use Rattle.pl_judge.specs.declared.fault.SyntaxFault.TheVariants.{BadByte, Unexpected, TooDeep, NumberTooLarge, LongStatement}
+use Rattle.pl_judge.specs.declared.fault.RuleFault.{RuleFault}
+use Rattle.pl_judge.specs.declared.fault.RuleFault.TheVariants as rules
 use Rattle.pl_judge.specs.declared.fault.DataFault.{DataFault}
 use Rattle.pl_judge.specs.declared.fault.DataFault.TheVariants.{BadHeader, Empty, BadDate, NotAscending, BadField, StartAfterEnd, DuplicateSid, LabelTooLong, DuplicateStart, NotSession, UnknownSid, Negative, Duplicate}
 use Rattle.pl_judge.specs.declared.fault.RowFault.{RowFault}
@@ -23,6 +26,15 @@ syntax_text Unexpected = codes "Unexpected"
 syntax_text TooDeep = codes "TooDeep"
 syntax_text NumberTooLarge = codes "NumberTooLarge"
 syntax_text LongStatement = codes "LongStatement"
+
+abbrev pub rule_text : RuleFault → List ℕ
+rule_text rules.UnknownName = codes "UnknownName"
+rule_text rules.Redefined = codes "Redefined"
+rule_text rules.WrongKind = codes "WrongKind"
+rule_text rules.BadArgument = codes "BadArgument"
+rule_text rules.BadWindow = codes "BadWindow"
+rule_text rules.NotWindowSafe = codes "NotWindowSafe"
+rule_text rules.NoColumn = codes "NoColumn"
 
 abbrev pub data_text : DataFault → List ℕ
 data_text BadHeader = codes "BadHeader"
@@ -50,6 +62,8 @@ table_text Dividends = codes "dividends"
 
 abbrev pub limit_text : Limit → List ℕ
 limit_text limits.Pipeline = codes "pipeline"
+limit_text limits.Terms = codes "terms"
+limit_text limits.Columns = codes "columns"
 limit_text limits.File = codes "file"
 limit_text limits.Sessions = codes "sessions"
 limit_text limits.Assets = codes "assets"
@@ -60,6 +74,7 @@ limit_text limits.Adjustments = codes "adjustments"
 abbrev pub status_of : Fault → ℕ
 status_of faults.Usage = 2
 status_of (faults.Syntax place fault) = 3
+status_of (faults.Rule place fault) = 3
 status_of faults.Unbuilt = 11
 status_of (faults.Data file line fault) = 4
 status_of (faults.Row table id fault) = 4
@@ -79,12 +94,15 @@ file_name asked file = unwrap_or (name_asked asked file) []
 abbrev pub tables_name : Option Request → List ℕ
 tables_name asked = unwrap_or (adjustments_of asked) []
 
+-- a place in the pipeline file
+abbrev pub place_text : Option Request → Place → List ℕ
+place_text asked place = file_name asked Pipeline ++ codes ":" ++ decimal place.line ++ codes ":" ++ decimal place.col
+
 -- without its line end
 abbrev pub message_of : Option Request → Fault → List ℕ
 message_of asked faults.Usage = codes "usage"
-message_of asked (faults.Syntax place fault) =
-    file_name asked Pipeline ++ codes ":" ++ decimal place.line ++ codes ":" ++ decimal place.col ++ codes ": syntax "
-    ++ syntax_text fault
+message_of asked (faults.Syntax place fault) = place_text asked place ++ codes ": syntax " ++ syntax_text fault
+message_of asked (faults.Rule place fault) = place_text asked place ++ codes ": check " ++ rule_text fault
 message_of asked faults.Unbuilt = codes "unbuilt"
 message_of asked (faults.Data file line fault) =
     file_name asked file ++ codes ":" ++ decimal line ++ codes ": data " ++ data_text fault

@@ -1,11 +1,12 @@
 -- What the contents are read as; nothing where a file isn't there or has a fault.
-use Rattle.std.specs.Prelude.{ℕ, ℤ, List, [], Option, Some, None, unwrap_or, option_and_then}
+use Rattle.std.specs.Prelude.{ℕ, ℤ, List, [], Option, Some, None, unwrap_or}
 use Rattle.std.specs.Result.{result_unwrap_or}
 use Rattle.std.specs.Prelude.{Result}
 use Rattle.pl_spec.specs.declared.AssetRow.{AssetRow}
 use Rattle.pl_spec.specs.declared.BarRow.{BarRow}
 use Rattle.pl_spec.specs.declared.RawAdjust.{RawAdjust}
 use Rattle.pl_spec.specs.World.{World}
+use Rattle.pl_spec.specs.Table.{Pipeline}
 use Rattle.pl_spec.specs.Parts.{ColumnAdjustment, world_of}
 use Rattle.pl_records.specs.Records.{csv_records}
 use Rattle.pl_calendar.specs.Days.{sessions_of}
@@ -14,28 +15,37 @@ use Rattle.pl_assets.specs.Labels.{LabelTable, no_labels, labels_of}
 use Rattle.pl_bars.specs.Bars.{bars_of}
 use Rattle.pl_adjust.specs.Walk as rows
 use Rattle.pl_adjust.specs.Tables.{adjustments_in}
-use Rattle.pl_grammar.specs.Script.{Statement}
+use Rattle.pl_syntax.specs.Spells.{Parsed}
 use Rattle.pl_syntax.specs.Said.{Said, Spelled, Faulty, said}
+use Rattle.pl_check.specs.Typed.{typed}
 use Rattle.pl_outside.specs.declared.keeper.Table.{Table}
 use Rattle.pl_outside.specs.declared.keeper.Table.TheVariants.{Splits, Mergers, Dividends}
 use Rattle.pl_plain.specs.declared.script.PlainColumn.{PlainColumn}
 use Rattle.pl_plain.specs.PlainScript.{plain_columns}
-use Rattle.pl_words.specs.declared.request.InputFile.TheVariants.{Pipeline, Sessions, Assets, Labels, Bars}
+use Rattle.pl_words.specs.declared.request.InputFile.TheVariants.{Pipeline as PipelineFile, Sessions, Assets, Labels, Bars}
 use Rattle.pl_words.specs.Request.{RunRequest}
 use Rattle.pl_judge.specs.Contents.{Contents}
 
 abbrev pub bytes_in : Option (List ℕ) → List ℕ
 bytes_in file = unwrap_or file []
 
-abbrev pub statements_said : Said → List Statement
-statements_said (Spelled script) = script.statements
-statements_said (Faulty kind place) = []
+abbrev pub script_said : Said → Parsed
+script_said (Spelled script) = script
+script_said (Faulty kind place) = record { version = 1; statements = []; end = place }
 
-unfoldable pub statements_read : Option (List ℕ) → List Statement
-statements_read file = statements_said (said (bytes_in file))
+-- the script of a pipeline file
+unfoldable pub script_in : Option (List ℕ) → Parsed
+script_in file = script_said (said (bytes_in file))
+
+abbrev pub no_pipeline : Pipeline
+no_pipeline = record { graph = []; columns = []; screen = None; names = [] }
+
+-- the pipeline that its script means
+unfoldable pub pipeline_in : Option (List ℕ) → Pipeline
+pipeline_in file = result_unwrap_or (typed (script_in file)) no_pipeline
 
 unfoldable pub columns_in : Option (List ℕ) → List PlainColumn
-columns_in file = unwrap_or (plain_columns (statements_read file)) []
+columns_in file = unwrap_or (plain_columns (script_in file).statements) []
 
 unfoldable pub days_in : Option (List ℕ) → List ℤ
 days_in file = result_unwrap_or (sessions_of (csv_records (bytes_in file))) []
@@ -68,7 +78,7 @@ adjustments_asked assets (Some name) rows = adjustments_from assets rows
 -- ---- of a run's contents
 
 abbrev pub columns_held : Contents → List PlainColumn
-columns_held held = columns_in (held.file Pipeline)
+columns_held held = columns_in (held.file PipelineFile)
 
 abbrev pub days_held : Contents → List ℤ
 days_held held = days_in (held.file Sessions)

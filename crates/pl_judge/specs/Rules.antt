@@ -1,5 +1,5 @@
--- What the faults of a text, of records and of rows are to a command. Too many of them pass a limit.
-use Rattle.std.specs.Prelude.{ℕ, List, Option, Some, None, Result, Ok, Err}
+-- What the faults of a text, of a script, of records and of rows are to a command. Too many of them pass a limit.
+use Rattle.std.specs.Prelude.{ℕ, Option, Some, None}
 use Rattle.pl_records.specs.Reading as reading
 use Rattle.pl_calendar.specs.Days as calendar
 use Rattle.pl_assets.specs.Assets as assets
@@ -10,14 +10,18 @@ use Rattle.pl_grammar.specs.Faults as syntax
 use Rattle.pl_grammar.specs.declared.Place.{Place}
 use Rattle.pl_syntax.specs.declared.error.SyntaxError.{SyntaxError}
 use Rattle.pl_syntax.specs.declared.error.SyntaxError.TheVariants as errors
+use Rattle.pl_check.specs.declared.fault.CheckFault.{CheckFault}
+use Rattle.pl_check.specs.declared.fault.CheckFault.TheVariants as checks
+use Rattle.pl_check.specs.declared.fault.CheckError.{CheckError}
+use Rattle.pl_check.specs.declared.fault.CheckError.TheVariants as check_errors
 use Rattle.pl_words.specs.declared.request.InputFile.TheVariants as files
-use Rattle.pl_judge.specs.declared.fault.SyntaxFault.{SyntaxFault}
 use Rattle.pl_judge.specs.declared.fault.SyntaxFault.TheVariants as misspelled
+use Rattle.pl_judge.specs.declared.fault.RuleFault.TheVariants as broken
 use Rattle.pl_judge.specs.declared.fault.DataFault.TheVariants.{BadHeader, Empty, BadDate, NotAscending, BadField, StartAfterEnd, DuplicateSid, LabelTooLong, DuplicateStart, NotSession, UnknownSid, Negative, Duplicate}
 use Rattle.pl_judge.specs.declared.fault.RowFault.TheVariants.{BadEffective, BadRatio}
 use Rattle.pl_judge.specs.declared.fault.Limit.TheVariants as limits
 use Rattle.pl_judge.specs.declared.fault.Fault.{Fault}
-use Rattle.pl_judge.specs.declared.fault.Fault.TheVariants.{Syntax, Data, Row, Passed, Memory}
+use Rattle.pl_judge.specs.declared.fault.Fault.TheVariants.{Syntax, Rule, Data, Row, Passed, Memory}
 
 abbrev pub syntax_fault : syntax.Kind → Place → Fault
 syntax_fault syntax.BadByte place = Syntax place misspelled.BadByte
@@ -25,6 +29,17 @@ syntax_fault syntax.Unexpected place = Syntax place misspelled.Unexpected
 syntax_fault syntax.TooDeep place = Syntax place misspelled.TooDeep
 syntax_fault syntax.NumberTooLarge place = Syntax place misspelled.NumberTooLarge
 syntax_fault syntax.LongStatement place = Syntax place misspelled.LongStatement
+
+abbrev pub rule_fault : CheckFault → Place → Fault
+rule_fault checks.UnknownName place = Rule place broken.UnknownName
+rule_fault checks.Redefined place = Rule place broken.Redefined
+rule_fault checks.WrongKind place = Rule place broken.WrongKind
+rule_fault checks.BadArgument place = Rule place broken.BadArgument
+rule_fault checks.BadWindow place = Rule place broken.BadWindow
+rule_fault checks.NotWindowSafe place = Rule place broken.NotWindowSafe
+rule_fault checks.NoColumn place = Rule place broken.NoColumn
+rule_fault checks.TooManyColumns place = Passed limits.Columns
+rule_fault checks.TooManyTerms place = Passed limits.Terms
 
 abbrev pub sessions_fault : ℕ → calendar.Rule → Fault
 sessions_fault line calendar.TooMany = Passed limits.Sessions
@@ -78,3 +93,7 @@ syntax_error (errors.NumberTooLarge place) = Syntax place misspelled.NumberTooLa
 syntax_error (errors.LongStatement place) = Syntax place misspelled.LongStatement
 syntax_error errors.TooLong = Passed limits.Pipeline
 syntax_error errors.Memory = Memory
+
+abbrev pub check_error : CheckError → Fault
+check_error (check_errors.Fault fault place) = rule_fault fault place
+check_error check_errors.Memory = Memory

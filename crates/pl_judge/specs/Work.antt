@@ -10,21 +10,24 @@ use Rattle.pl_assets.specs.Labels.{labels_of}
 use Rattle.pl_bars.specs.Bars.{bars_of}
 use Rattle.pl_adjust.specs.Walk as rows
 use Rattle.pl_grammar.specs.Script.{Statement}
+use Rattle.pl_syntax.specs.Spells.{Parsed}
 use Rattle.pl_syntax.specs.Said.{Said, Spelled, Faulty, said}
+use Rattle.pl_check.specs.Faults.{Broken}
+use Rattle.pl_check.specs.Typed.{typed}
 use Rattle.pl_outside.specs.declared.keeper.Table.{Table}
 use Rattle.pl_outside.specs.declared.keeper.Table.TheVariants.{Splits, Mergers, Dividends}
 use Rattle.pl_plain.specs.PlainScript.{plain_columns, pipeline_of}
 use Rattle.pl_words.specs.declared.request.InputFile.{InputFile}
-use Rattle.pl_words.specs.declared.request.InputFile.TheVariants.{Pipeline, Sessions, Assets, Labels, Bars}
-use Rattle.pl_words.specs.Request.{Request, Run, Fmt, RunRequest}
+use Rattle.pl_words.specs.declared.request.InputFile.TheVariants.{Pipeline as PipelineFile, Sessions, Assets, Labels, Bars}
+use Rattle.pl_words.specs.Request.{Request, Run, Fmt, Check, RunRequest}
 use Rattle.pl_judge.specs.declared.limits.TheConstants.{PIPELINE_CAP, FILE_CAP}
 use Rattle.pl_judge.specs.declared.fault.Limit.{Limit}
 use Rattle.pl_judge.specs.declared.fault.Limit.TheVariants as limits
 use Rattle.pl_judge.specs.declared.fault.Fault.{Fault}
 use Rattle.pl_judge.specs.declared.fault.Fault.TheVariants.{Usage, Unbuilt, Passed, Unread}
 use Rattle.pl_judge.specs.Contents.{Contents}
-use Rattle.pl_judge.specs.Rules.{syntax_fault, sessions_fault, assets_fault, labels_fault, bars_fault, rows_fault}
-use Rattle.pl_judge.specs.Held.{statements_read, columns_held, days_held, assets_held, adjustments_of_rows}
+use Rattle.pl_judge.specs.Rules.{syntax_fault, rule_fault, sessions_fault, assets_fault, labels_fault, bars_fault, rows_fault}
+use Rattle.pl_judge.specs.Held.{script_in, columns_held, days_held, assets_held, adjustments_of_rows}
 use Rattle.pl_judge.specs.Steps.{Step, rule, when}
 use Rattle.pl_judge.specs.Steps.Source.{Input, Load}
 use Rattle.pl_judge.specs.Range.{range_steps}
@@ -32,14 +35,14 @@ use Rattle.pl_judge.specs.Range.{range_steps}
 -- ---- a file that is read whole and judged
 
 abbrev pub cap_of : InputFile → ℕ
-cap_of Pipeline = PIPELINE_CAP
+cap_of PipelineFile = PIPELINE_CAP
 cap_of Sessions = FILE_CAP
 cap_of Assets = FILE_CAP
 cap_of Labels = FILE_CAP
 cap_of Bars = FILE_CAP
 
 abbrev pub limit_of : InputFile → Limit
-limit_of Pipeline = limits.Pipeline
+limit_of PipelineFile = limits.Pipeline
 limit_of Sessions = limits.File
 limit_of Assets = limits.File
 limit_of Labels = limits.File
@@ -61,6 +64,13 @@ fault_said (Faulty kind place) = Some (syntax_fault kind place)
 
 unfoldable pub syntax_rule : List ℕ → Option Fault
 syntax_rule bytes = fault_said (said bytes)
+
+abbrev pub fault_typed : {A : Type 0} → Result A Broken → Option Fault
+fault_typed (Ok pipeline) = None
+fault_typed (Err b) = Some (rule_fault b.fault b.place)
+
+unfoldable pub script_rule : Parsed → Option Fault
+script_rule script = fault_typed (typed script)
 
 unfoldable pub form_rule : List Statement → Option Fault
 form_rule statements = when (not (is_some (plain_columns statements))) Unbuilt
@@ -91,11 +101,15 @@ rows_rule assets rows = fault_of_rows (adjustments_of_rows assets rows)
 -- ---- the work
 
 abbrev pub syntax_step : Option (List ℕ) → Step
-syntax_step file = read_step Pipeline syntax_rule file
+syntax_step file = read_step PipelineFile syntax_rule file
 
--- a pipeline file is read for a run: its syntax, and then its form
+-- a pipeline file is read: its syntax, and then the rules of its script
 abbrev pub pipeline_steps : Option (List ℕ) → List Step
-pipeline_steps file = syntax_step file ∷ rule (form_rule (statements_read file)) ∷ []
+pipeline_steps file = syntax_step file ∷ rule (script_rule (script_in file)) ∷ []
+
+-- ... for a run: its syntax, and then its form
+abbrev pub plain_steps : Option (List ℕ) → List Step
+plain_steps file = syntax_step file ∷ rule (form_rule (script_in file).statements) ∷ []
 
 -- a labels file is read where its name is asked for
 abbrev pub labels_steps : List AssetRow → Option (List ℕ) → Option (List ℕ) → List Step
@@ -123,10 +137,11 @@ data_steps held q =
 -- first the pipeline file, then the data, and then the range
 abbrev pub run_steps : Contents → RunRequest → List Step
 run_steps held q =
-    pipeline_steps (held.file Pipeline)
+    plain_steps (held.file PipelineFile)
     ++ (data_steps held q ++ range_steps q (pipeline_of (columns_held held)) (days_held held))
 
 unfoldable pub work : Contents → Option Request → List Step
 work held None = rule (Some Usage) ∷ []
 work held (Some (Run q)) = run_steps held q
-work held (Some (Fmt name)) = syntax_step (held.file Pipeline) ∷ []
+work held (Some (Fmt name)) = syntax_step (held.file PipelineFile) ∷ []
+work held (Some (Check name)) = pipeline_steps (held.file PipelineFile)

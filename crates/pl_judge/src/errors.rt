@@ -1,13 +1,14 @@
-// What the errors of the readers are to a command.
+// What the errors of the readers and of the checker are to a command.
 ghost use Rattle.std.specs.Prelude.{◌≡◌};
 ghost use Rattle.pl_judge.specs.Stages.{Tells};
-ghost use Rattle.pl_judge.specs.Rules.{told_at, told, sessions_fault, assets_fault, labels_fault, bars_fault, rows_fault, syntax_error};
+ghost use Rattle.pl_judge.specs.Rules.{told_at, told, sessions_fault, assets_fault, labels_fault, bars_fault, rows_fault, syntax_error, rule_fault, check_error};
 
-use crate::{DataFault, Fault, Limit, RowFault, SyntaxFault};
+use crate::{DataFault, Fault, Limit, RowFault, RuleFault, SyntaxFault};
 use pl_adjust::AdjustError;
 use pl_assets::{AssetsError, LabelsError};
 use pl_bars::BarsError;
 use pl_calendar::CalendarError;
+use pl_check::{CheckError, CheckFault};
 use pl_fixed::Memory;
 use pl_syntax::{Place, SyntaxError};
 use pl_words::InputFile;
@@ -45,6 +46,17 @@ impl From<SyntaxError> for Fault {
             SyntaxError::LongStatement(place) => misspelled(place, SyntaxFault::LongStatement),
             SyntaxError::TooLong => Fault::Passed(Limit::Pipeline),
             SyntaxError::Memory => Fault::Memory,
+        }
+    }
+}
+
+impl From<CheckError> for Fault {
+    ghost from_gives = { λ error fault. Tells fault (check_error error) };
+
+    fn from(error: CheckError) -> Fault {
+        match error {
+            CheckError::Fault { fault, place } => broken(place, fault),
+            CheckError::Memory => Fault::Memory,
         }
     }
 }
@@ -150,6 +162,29 @@ fn misspelled(place: Place, fault: SyntaxFault) -> Fault
     ensures { result ≡ Fault.Syntax place fault }
 {
     Fault::Syntax { place, fault }
+}
+
+// A rule that the script of a pipeline file breaks.
+fn broken(place: Place, fault: CheckFault) -> Fault
+    ensures { Tells result (rule_fault fault place) }
+{
+    match fault {
+        CheckFault::UnknownName => ruled(place, RuleFault::UnknownName),
+        CheckFault::Redefined => ruled(place, RuleFault::Redefined),
+        CheckFault::WrongKind => ruled(place, RuleFault::WrongKind),
+        CheckFault::BadArgument => ruled(place, RuleFault::BadArgument),
+        CheckFault::BadWindow => ruled(place, RuleFault::BadWindow),
+        CheckFault::NotWindowSafe => ruled(place, RuleFault::NotWindowSafe),
+        CheckFault::NoColumn => ruled(place, RuleFault::NoColumn),
+        CheckFault::TooManyColumns => Fault::Passed(Limit::Columns),
+        CheckFault::TooManyTerms => Fault::Passed(Limit::Terms),
+    }
+}
+
+fn ruled(place: Place, fault: RuleFault) -> Fault
+    ensures { result ≡ Fault.Rule place fault }
+{
+    Fault::Rule { place, fault }
 }
 
 fn faulty(file: InputFile, line: u32, fault: DataFault) -> Fault

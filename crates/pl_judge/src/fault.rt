@@ -1,6 +1,6 @@
 // Why a command ends without its whole text.
 ghost use Rattle.std.specs.Prelude.{◌≡◌};
-ghost use Rattle.pl_judge.specs.Faults.{status_of, syntax_text, data_text, row_text, limit_text};
+ghost use Rattle.pl_judge.specs.Faults.{status_of, syntax_text, rule_text, data_text, row_text, limit_text};
 
 use pl_outside::Table;
 use pl_syntax::Place;
@@ -11,6 +11,10 @@ use pl_words::{InputFile, RangeDate};
 pub enum Limit {
     /// The bytes of the pipeline file.
     Pipeline,
+    /// The terms of a pipeline.
+    Terms,
+    /// The columns of a pipeline.
+    Columns,
     /// The bytes of a data file.
     File,
     Sessions,
@@ -28,6 +32,18 @@ pub enum SyntaxFault {
     TooDeep,
     NumberTooLarge,
     LongStatement,
+}
+
+/// The rule that the script of a pipeline file breaks.
+#[derive(Clone, Copy, Debug, PartialEq, Eq)]
+pub enum RuleFault {
+    UnknownName,
+    Redefined,
+    WrongKind,
+    BadArgument,
+    BadWindow,
+    NotWindowSafe,
+    NoColumn,
 }
 
 /// The rule that a record of a data file breaks.
@@ -64,6 +80,11 @@ pub enum Fault {
     Syntax {
         place: Place,
         fault: SyntaxFault,
+    },
+    /// The script of the pipeline file breaks this rule at this place.
+    Rule {
+        place: Place,
+        fault: RuleFault,
     },
     /// The pipeline file has a form that is not computed yet.
     Unbuilt,
@@ -106,7 +127,7 @@ impl Fault {
     {
         match self {
             Fault::Usage => 2,
-            Fault::Syntax { .. } => 3,
+            Fault::Syntax { .. } | Fault::Rule { .. } => 3,
             Fault::Data { .. } | Fault::Row { .. } => 4,
             Fault::NotSession(_) | Fault::Backwards | Fault::TooEarly { .. } => 5,
             Fault::Passed(_) => 6,
@@ -130,6 +151,23 @@ impl SyntaxFault {
             SyntaxFault::TooDeep => "TooDeep",
             SyntaxFault::NumberTooLarge => "NumberTooLarge",
             SyntaxFault::LongStatement => "LongStatement",
+        }
+    }
+}
+
+impl RuleFault {
+    /// Its name in the line of the fault.
+    pub fn name(self) -> &'static str
+        ensures { result.now ≡ rule_text self }
+    {
+        match self {
+            RuleFault::UnknownName => "UnknownName",
+            RuleFault::Redefined => "Redefined",
+            RuleFault::WrongKind => "WrongKind",
+            RuleFault::BadArgument => "BadArgument",
+            RuleFault::BadWindow => "BadWindow",
+            RuleFault::NotWindowSafe => "NotWindowSafe",
+            RuleFault::NoColumn => "NoColumn",
         }
     }
 }
@@ -176,6 +214,8 @@ impl Limit {
     {
         match self {
             Limit::Pipeline => "pipeline",
+            Limit::Terms => "terms",
+            Limit::Columns => "columns",
             Limit::File => "file",
             Limit::Sessions => "sessions",
             Limit::Assets => "assets",

@@ -11,7 +11,7 @@ mod limits;
 mod line;
 mod range;
 
-pub use fault::{DataFault, Fault, Limit, RowFault, SyntaxFault};
+pub use fault::{DataFault, Fault, Limit, RowFault, RuleFault, SyntaxFault};
 pub use limits::{FILE_CAP, PIPELINE_CAP, cap_of, limit_of};
-pub use line::write_line;
+pub use line::{write_line, write_pieces};
 pub use range::{Range, judge_range};

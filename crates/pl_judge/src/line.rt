@@ -37,10 +37,20 @@ pub fn write_line<E: Sink>(
             write_named(err, "range: TooEarly ", buffer.format(reach))
         }
         Fault::Syntax { place, fault } => {
-            write_syntax(
+            write_placed(
                 err,
                 name_asked(asked, InputFile::Pipeline),
                 place,
+                ": syntax ",
+                fault.name(),
+            )
+        }
+        Fault::Rule { place, fault } => {
+            write_placed(
+                err,
+                name_asked(asked, InputFile::Pipeline),
+                place,
+                ": check ",
                 fault.name(),
             )
         }
@@ -59,15 +69,22 @@ pub fn write_line<E: Sink>(
     }
 }
 
-fn write_syntax<E: Sink>(err: &mut E, name: &str, place: Place, fault: &str) -> Result<(), Failed>
+// Writes the line of a fault at a place of a file.
+fn write_placed<'a, E: Sink>(
+    err: &mut E,
+    name: &'a str,
+    place: Place,
+    sort: &'a str,
+    fault: &'a str,
+) -> Result<(), Failed>
     ensures { Writes E.taken E.faults E.sound E.room err.old err.new
-        (name.now ++ codes ":" ++ decimal place.line ++ codes ":" ++ decimal place.col ++ codes ": syntax "
+        (name.now ++ codes ":" ++ decimal place.line ++ codes ":" ++ decimal place.col ++ sort.now
         ++ fault.now ++ 10 ∷ []) result }
 {
     let mut line = Buffer::new();
     let mut col = Buffer::new();
     let (line, col) = (line.format(place.line), col.format(place.col));
-    write_pieces(err, &[name, ":", line, ":", col, ": syntax ", fault, "\n"])
+    write_pieces(err, &[name, ":", line, ":", col, sort, fault, "\n"])
 }
 
 fn write_data<E: Sink>(err: &mut E, name: &str, line: u32, fault: &str) -> Result<(), Failed>
@@ -115,8 +132,8 @@ fn write_named<E: Sink>(err: &mut E, what: &str, name: &str) -> Result<(), Faile
     write_pieces(err, &[what, name, "\n"])
 }
 
-// Writes the pieces one after the other.
-fn write_pieces<E: Sink>(err: &mut E, pieces: &[&str]) -> Result<(), Failed>
+/// Writes the pieces one after the other. It takes no memory.
+pub fn write_pieces<E: Sink>(err: &mut E, pieces: &[&str]) -> Result<(), Failed>
     ensures { Writes E.taken E.faults E.sound E.room err.old err.new (flat_map (λ p. p.now) pieces.now) result }
 {
     for piece in pieces {

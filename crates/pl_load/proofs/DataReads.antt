@@ -1,5 +1,5 @@
 -- The data of a run, part by part.
-use Rattle.std.proofs.Common.{◌≡◌, ℕ, ℤ, Bool, true, IsTrue, List, [], ◌∷◌, ◌++◌, Option, Some, None, Result, Ok, Err, refl, sym, ◌∙◌}
+use Rattle.std.proofs.Common.{◌≡◌, ℕ, ℤ, Bool, List, [], ◌∷◌, Option, Some, Result, Ok, Err, refl}
 use Rattle.std.specs.Option.{ForSome}
 use Rattle.pl_spec.specs.declared.AssetRow.{AssetRow}
 use Rattle.pl_spec.specs.declared.BarRow.{BarRow}
@@ -17,8 +17,6 @@ use Rattle.pl_judge.specs.declared.fault.Fault.{Fault}
 use Rattle.pl_judge.specs.Contents.{Contents, AreHeld}
 use Rattle.pl_judge.specs.Held.{days_in, assets_in, labels_asked, bars_in, adjustments_asked}
 use Rattle.pl_judge.specs.Work.{read_step, sessions_rule, assets_rule, labels_steps, bars_rule, adjustments_steps, data_steps}
-use Rattle.pl_judge.specs.Steps.{Step}
-use Rattle.pl_judge.specs.Stages.{StageEnds}
 use Rattle.pl_judge.proofs.Steps.{stage-stops, stage-goes_on, stage-done, stage-weaker, always}
 use Rattle.pl_load.specs.Reads.{IsRead, AreLoaded}
 use Rattle.pl_load.specs.Loads.{IsData}

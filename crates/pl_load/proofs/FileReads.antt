@@ -1,5 +1,5 @@
 -- The reading of a file.
-use Rattle.std.proofs.Common.{◌≡◌, ◌⊎◌, inl, inr, ℕ, ◌+◌, ◌≤◌, ◌<◌, Bool, true, false, IsTrue, nat_lt, List, [], ◌∷◌, length, Option, Some, None, IfSome, IsSomeAnd, Result, Ok, Err, Vec, refl, sym, ◌∙◌, arith, replicate}
+use Rattle.std.proofs.Common.{◌≡◌, ◌⊎◌, inl, inr, ℕ, ◌+◌, ◌≤◌, ◌<◌, Bool, true, false, IsTrue, nat_lt, List, [], ◌∷◌, length, Option, Some, None, IfSome, IsSomeAnd, Result, Ok, Err, Vec, refl, ◌∙◌, arith, replicate}
 use Rattle.std.specs.declared.alloc.Global.{Global}
 use Rattle.std.specs.Prelude.{option_and_then}
 use Rattle.std.specs.Option.{ForSome, option_or}
@@ -11,9 +11,9 @@ use Rattle.pl_words.specs.declared.request.InputFile.{InputFile}
 use Rattle.pl_judge.specs.declared.fault.Fault.{Fault}
 use Rattle.pl_judge.specs.declared.fault.Fault.TheVariants.{Unread, Unloaded, Passed, Memory}
 use Rattle.pl_judge.specs.Rules.{told_at}
-use Rattle.pl_judge.specs.Steps.{Step, first_fault}
+use Rattle.pl_judge.specs.Steps.{Step}
 use Rattle.pl_judge.specs.Work.{cap_of, limit_of, read_step, file_fault, fault_in}
-use Rattle.pl_judge.specs.Stages.{IsStop, StopsOutside, StageEnds}
+use Rattle.pl_judge.specs.Stages.{IsStop, StopsOutside}
 use Rattle.pl_load.specs.Reads.{IsRead, no_rule}
 
 -- ---- a file of which nothing is known but what the shelf tells

@@ -1,5 +1,5 @@
 -- A run as a whole: the pipeline file, the data, and the range.
-use Rattle.std.proofs.Common.{◌≡◌, ℕ, ℤ, Bool, true, List, [], ◌∷◌, ◌++◌, Option, Some, Result, Ok, Err, refl, sym, ◌∙◌}
+use Rattle.std.proofs.Common.{◌≡◌, ℕ, Bool, true, List, Option, Some, Result, Ok, Err, refl, sym, ◌∙◌}
 use Rattle.std.specs.Option.{ForSome}
 use Rattle.pl_outside.specs.Files.{Files}
 use Rattle.pl_outside.specs.Lists.{Lists}
@@ -12,19 +12,18 @@ use Rattle.pl_words.specs.Request.{RunRequest, Run, name_asked}
 use Rattle.pl_judge.specs.declared.fault.Fault.{Fault}
 use Rattle.pl_judge.specs.Contents.{Contents, AreHeld}
 use Rattle.pl_judge.specs.Held.{columns_in}
-use Rattle.pl_judge.specs.Work.{pipeline_steps, data_steps}
+use Rattle.pl_judge.specs.Work.{plain_steps, data_steps}
 use Rattle.pl_judge.specs.Range.{range_steps, index_of}
-use Rattle.pl_judge.specs.Steps.{Step}
 use Rattle.pl_judge.specs.Stages.{StageEnds}
 use Rattle.pl_judge.proofs.Steps.{stage-stops, stage-goes_on, stage-done, stage-weaker, stage-over, always}
 use Rattle.pl_load.specs.declared.loading.Loaded.{Loaded}
 use Rattle.pl_load.specs.Reads.{IsRead}
-use Rattle.pl_load.specs.Loads.{IsData, IsLoad, owned_world}
+use Rattle.pl_load.specs.Loads.{IsData, IsLoad}
 use Rattle.pl_load.proofs.FileReads.{held_under, held-told}
 use Rattle.pl_load.proofs.TableReads.{listed_under, listed-told}
 
 abbrev pub ColumnsRead : {T : Type 0} → Option Files → Bool → RunRequest → (T → List PlainColumn) → Result T Fault → Type 0
-ColumnsRead tells sound q items r = IsRead tells sound (Some q.pipeline) pipeline_steps (λ held columns. columns_in held ≡ items columns) r
+ColumnsRead tells sound q items r = IsRead tells sound (Some q.pipeline) plain_steps (λ held columns. columns_in held ≡ items columns) r
 
 -- the same contents, but for the pipeline file
 abbrev file_with : Option (List ℕ) → (InputFile → Option (List ℕ)) → InputFile → Option (List ℕ)

@@ -1,23 +1,28 @@
--- The pipeline file that was read, and its form.
-use Rattle.std.proofs.Common.{◌≡◌, ◌⊎◌, inl, inr, ◌≤◌, ℕ, List, [], ◌∷◌, Bool, length, Option, Some, None, Result, Ok, Err, refl, ◌∙◌, arith}
-use Rattle.std.specs.Option.{option_or}
+-- The pipeline file that was read, its rules and its form.
+use Rattle.std.proofs.Common.{◌≡◌, ◌⊎◌, inl, inr, ◌≤◌, ℕ, List, [], ◌∷◌, Bool, length, Option, Some, None, Ok, Err, refl, arith}
 use Rattle.pl_outside.specs.Files.{Files}
 use Rattle.pl_grammar.specs.Faults as syntax
 use Rattle.pl_grammar.specs.Script.{Statement}
 use Rattle.pl_syntax.specs.declared.error.SyntaxError.{SyntaxError}
 use Rattle.pl_syntax.specs.declared.error.SyntaxError.TheVariants as errors
 use Rattle.pl_syntax.specs.Parsing.{IsCause}
+use Rattle.pl_syntax.specs.Spells.{Parsed}
 use Rattle.pl_syntax.specs.Said.{said}
 use Rattle.pl_syntax.proofs.TextsSaid.{fault-said}
+use Rattle.pl_spec.specs.Table.{Pipeline}
+use Rattle.pl_check.specs.declared.fault.CheckError.{CheckError}
+use Rattle.pl_check.specs.declared.fault.CheckError.TheVariants as check_errors
+use Rattle.pl_check.specs.Answers.{Fails}
+use Rattle.pl_check.specs.Typed.{typed}
 use Rattle.pl_plain.specs.declared.script.PlainColumn.{PlainColumn}
 use Rattle.pl_plain.specs.PlainScript.{plain_columns}
 use Rattle.pl_plain.proofs.PlainScripts.{scripts-read}
 use Rattle.pl_judge.specs.declared.fault.Fault.{Fault}
 use Rattle.pl_judge.specs.declared.fault.Fault.TheVariants.{Unbuilt, Memory}
-use Rattle.pl_judge.specs.Rules.{syntax_error}
-use Rattle.pl_judge.specs.Held.{statements_read, columns_in}
-use Rattle.pl_judge.specs.Work.{fault_said, syntax_rule, form_rule, syntax_step, pipeline_steps}
-use Rattle.pl_judge.specs.Steps.{rule, first_fault}
+use Rattle.pl_judge.specs.Rules.{syntax_error, check_error}
+use Rattle.pl_judge.specs.Held.{script_in, pipeline_in, columns_in}
+use Rattle.pl_judge.specs.Work.{syntax_rule, script_rule, form_rule, syntax_step, pipeline_steps, plain_steps}
+use Rattle.pl_judge.specs.Steps.{rule}
 use Rattle.pl_judge.specs.Stages.{StageEnds}
 use Rattle.pl_judge.proofs.Steps.{stage-goes_on, stage-stops}
 use Rattle.pl_load.specs.Reads.{IsRead}
@@ -34,51 +39,93 @@ error-tells bytes (errors.LongStatement p) fault is h few = inl (rw (fault-said 
 error-tells bytes errors.TooLong fault is h few = absurd (omega arith)
 error-tells bytes errors.Memory fault is h few = inr is
 
+-- ---- the rules of a script
+
+rules-pass : {T : Type 0} {s k : Bool} (held script : Parsed) (p : Pipeline) (x : T) → held ≡ script → typed script ≡ Ok p
+    → StageEnds s k (rule (script_rule held) ∷ []) (Ok x)
+unfolding script_rule
+rules-pass held script p x e h = record { passed = rw (e, h) refl; stopped = tt }
+
+-- an error of the checker tells what the script breaks
+check-stops : {T : Type 0} {s k : Bool} (held script : Parsed) (e : CheckError) → held ≡ script → Fails e (typed script)
+    → StageEnds {T = T} s k (rule (script_rule held) ∷ []) (Err (check_error e))
+unfolding script_rule
+check-stops held script (check_errors.Fault f p) e h = record { passed = tt; stopped = inl (rw (e, h) refl) }
+check-stops held script check_errors.Memory e h = record { passed = tt; stopped = inr tt }
+
+-- what the script of a file means
+pipeline-in : (file : Option (List ℕ)) (script : Parsed) (p : Pipeline) → script_in file ≡ script → typed script ≡ Ok p → pipeline_in file ≡ p
+unfolding pipeline_in
+pipeline-in file script p e h = rw (e, h) refl
+
+pub pipeline-read : {S T : Type 0} {tells : Option Files} {sound : Bool} {name : Option (List ℕ)} {script : S} (said : S → Parsed) (means : T → Pipeline) (x : T)
+    → IsRead tells sound name (λ held. syntax_step held ∷ []) (λ held y. script_in held ≡ said y) (Ok script) → typed (said script) ≡ Ok (means x)
+    → IsRead tells sound name pipeline_steps (λ held y. pipeline_in held ≡ means y) (Ok x)
+pipeline-read {script = script} said means x h e =
+    record {
+      file = h.file;
+      is_told = h.is_told;
+      ends = stage-goes_on h.ends (rules-pass (script_in h.file) (said script) (means x) x h.means e);
+      means = pipeline-in h.file (said script) (means x) h.means e;
+    }
+
+pub no-pipeline : {S T : Type 0} {tells : Option Files} {sound : Bool} {name : Option (List ℕ)} {script : S} (said : S → Parsed) (Means : Option (List ℕ) → T → Type 0) (e : CheckError) (fault : Fault)
+    → IsRead tells sound name (λ held. syntax_step held ∷ []) (λ held y. script_in held ≡ said y) (Ok script) → Fails e (typed (said script)) → fault ≡ check_error e
+    → IsRead tells sound name pipeline_steps Means (Err fault)
+no-pipeline {script = script} said Means e fault h fails is =
+    rw is
+    (record {
+      file = h.file;
+      is_told = h.is_told;
+      ends = stage-goes_on h.ends (check-stops (script_in h.file) (said script) e h.means fails);
+      means = tt;
+    })
+
 -- ---- the form of a script
 
-form-passes : {T : Type 0} {s k : Bool} (held statements : List Statement) (columns : List PlainColumn) (x : T) → held ≡ statements → plain_columns statements ≡ Some columns
-    → StageEnds s k (rule (form_rule held) ∷ []) (Ok x)
+form-passes : {T : Type 0} {s k : Bool} (held script : Parsed) (columns : List PlainColumn) (x : T) → held ≡ script → plain_columns script.statements ≡ Some columns
+    → StageEnds s k (rule (form_rule held.statements) ∷ []) (Ok x)
 unfolding form_rule
-form-passes held statements columns x e h = record { passed = rw (e, h) refl; stopped = tt }
+form-passes held script columns x e h = record { passed = rw (e, h) refl; stopped = tt }
 
-form-stops : {T : Type 0} {s k : Bool} (held statements : List Statement) → held ≡ statements → plain_columns statements ≡ None
-    → StageEnds {T = T} s k (rule (form_rule held) ∷ []) (Err Unbuilt)
+form-stops : {T : Type 0} {s k : Bool} (held script : Parsed) → held ≡ script → plain_columns script.statements ≡ None
+    → StageEnds {T = T} s k (rule (form_rule held.statements) ∷ []) (Err Unbuilt)
 unfolding form_rule
-form-stops held statements e h = record { passed = tt; stopped = inl (rw (e, h) refl) }
+form-stops held script e h = record { passed = tt; stopped = inl (rw (e, h) refl) }
 
 -- the statements of a file have columns
-columns-in : (file : Option (List ℕ)) (statements : List Statement) (columns : List PlainColumn) → statements_read file ≡ statements → plain_columns statements ≡ Some columns → columns_in file ≡ columns
+columns-in : (file : Option (List ℕ)) (script : Parsed) (columns : List PlainColumn) → script_in file ≡ script → plain_columns script.statements ≡ Some columns → columns_in file ≡ columns
 unfolding columns_in
-columns-in file statements columns e h = rw (e, h) refl
+columns-in file script columns e h = rw (e, h) refl
 
-pub columns-read : {S T : Type 0} {tells : Option Files} {sound : Bool} {name : Option (List ℕ)} {script : S} (said : S → List Statement) (Means : Option (List ℕ) → T → Type 0) (columns : List PlainColumn) (x : T)
-    → IsRead tells sound name (λ held. syntax_step held ∷ []) (λ held y. statements_read held ≡ said y) (Ok script) → plain_columns (said script) ≡ Some columns
+pub columns-read : {S T : Type 0} {tells : Option Files} {sound : Bool} {name : Option (List ℕ)} {script : S} (said : S → Parsed) (Means : Option (List ℕ) → T → Type 0) (columns : List PlainColumn) (x : T)
+    → IsRead tells sound name (λ held. syntax_step held ∷ []) (λ held y. script_in held ≡ said y) (Ok script) → plain_columns (said script).statements ≡ Some columns
     → ((file : Option (List ℕ)) → columns_in file ≡ columns → Means file x)
-    → IsRead tells sound name pipeline_steps Means (Ok x)
+    → IsRead tells sound name plain_steps Means (Ok x)
 columns-read {script = script} said Means columns x h plain means =
     record {
       file = h.file;
       is_told = h.is_told;
-      ends = stage-goes_on h.ends (form-passes (statements_read h.file) (said script) columns x h.means plain);
+      ends = stage-goes_on h.ends (form-passes (script_in h.file) (said script) columns x h.means plain);
       means = means h.file (columns-in h.file (said script) columns h.means plain);
     }
 
 -- ... or have none
-pub no-columns : {S T : Type 0} {tells : Option Files} {sound : Bool} {name : Option (List ℕ)} {script : S} (said : S → List Statement) (Means : Option (List ℕ) → T → Type 0)
-    → IsRead tells sound name (λ held. syntax_step held ∷ []) (λ held y. statements_read held ≡ said y) (Ok script) → plain_columns (said script) ≡ None
-    → IsRead tells sound name pipeline_steps Means (Err Unbuilt)
+pub no-columns : {S T : Type 0} {tells : Option Files} {sound : Bool} {name : Option (List ℕ)} {script : S} (said : S → Parsed) (Means : Option (List ℕ) → T → Type 0)
+    → IsRead tells sound name (λ held. syntax_step held ∷ []) (λ held y. script_in held ≡ said y) (Ok script) → plain_columns (said script).statements ≡ None
+    → IsRead tells sound name plain_steps Means (Err Unbuilt)
 no-columns {script = script} said Means h plain =
     record {
       file = h.file;
       is_told = h.is_told;
-      ends = stage-goes_on h.ends (form-stops (statements_read h.file) (said script) h.means plain);
+      ends = stage-goes_on h.ends (form-stops (script_in h.file) (said script) h.means plain);
       means = tt;
     }
 
 -- memory is wanted for the columns
 pub no-script : {S T : Type 0} {tells : Option Files} {sound : Bool} {name : Option (List ℕ)} {fault : Fault} (Said : Option (List ℕ) → S → Type 0) (Means : Option (List ℕ) → T → Type 0)
     → IsRead {T = S} tells sound name (λ held. syntax_step held ∷ []) Said (Err fault)
-    → IsRead tells sound name pipeline_steps Means (Err fault)
+    → IsRead tells sound name plain_steps Means (Err fault)
 no-script Said Means h = record { file = h.file; is_told = h.is_told; ends = stage-stops _ h.ends; means = tt }
 
 pub columns-few : (columns : List PlainColumn) (statements : List Statement) → plain_columns statements ≡ Some columns → length columns ≤ 64

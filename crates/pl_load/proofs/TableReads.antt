@@ -1,5 +1,5 @@
 -- The tables of adjustments that were loaded.
-use Rattle.std.proofs.Common.{◌≡◌, ◌⊎◌, inl, inr, ℕ, Bool, true, IsTrue, List, [], ◌∷◌, Option, Some, None, IfSome, Result, Ok, Err, refl, ◌∙◌}
+use Rattle.std.proofs.Common.{◌≡◌, ◌⊎◌, inl, inr, ℕ, Bool, true, List, [], Option, Some, None, IfSome, Ok, Err, refl, ◌∙◌}
 use Rattle.std.specs.Option.{ForSome, option_or}
 use Rattle.pl_spec.specs.declared.AssetRow.{AssetRow}
 use Rattle.pl_spec.specs.declared.RawAdjust.{RawAdjust}
@@ -15,8 +15,8 @@ use Rattle.pl_judge.specs.Rules.{told, rows_fault}
 use Rattle.pl_judge.specs.Held.{adjustments_asked, adjustments_from}
 use Rattle.pl_judge.specs.Steps.{ReachesRead}
 use Rattle.pl_judge.specs.Steps.Source.{Load}
-use Rattle.pl_judge.specs.Work.{adjustments_steps, fault_of_rows, rows_rule}
-use Rattle.pl_judge.specs.Stages.{StopsOutside, StageEnds}
+use Rattle.pl_judge.specs.Work.{adjustments_steps, rows_rule}
+use Rattle.pl_judge.specs.Stages.{StopsOutside}
 use Rattle.pl_load.specs.Reads.{AreLoaded, IsUnloaded}
 
 -- ---- rows of which nothing is known but what the keeper tells

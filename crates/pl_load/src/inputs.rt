@@ -2,21 +2,23 @@
 ghost use Rattle.std.specs.Prelude.{◌≡◌, ◌≤◌, ◌<◌, [], ◌∷◌, Some, length, All, IfOk, IfErr, option_map};
 ghost use Rattle.pl_outside.specs.Counts.{Rose};
 ghost use Rattle.pl_outside.specs.Left.{Leaves};
-ghost use Rattle.pl_syntax.specs.Statements.{statements_of};
-ghost use Rattle.pl_syntax.specs.Scripts.{statements_in};
+ghost use Rattle.pl_syntax.specs.Scripts.{parsed};
+ghost use Rattle.pl_terms.specs.Checked.{pipeline_of};
 ghost use Rattle.pl_words.specs.declared.request.InputFile.TheVariants as files;
-ghost use Rattle.pl_judge.specs.Held.{statements_read, columns_in, days_in, assets_in, labels_asked, bars_in};
-ghost use Rattle.pl_judge.specs.Work.{cap_of, read_step, syntax_step, pipeline_steps, sessions_rule, assets_rule, labels_steps, bars_rule};
+ghost use Rattle.pl_judge.specs.Held.{script_in, pipeline_in, columns_in, days_in, assets_in, labels_asked, bars_in};
+ghost use Rattle.pl_judge.specs.Work.{cap_of, read_step, syntax_step, pipeline_steps, plain_steps, sessions_rule, assets_rule, labels_steps, bars_rule};
 ghost use Rattle.pl_judge.specs.Stages.{IsRisen};
 ghost use Rattle.pl_load.specs.Reads.{IsRead, no_rule};
 
 use pl_assets::{Assets, Labels};
 use pl_bars::Bars;
 use pl_calendar::Sessions;
+use pl_check::check;
 use pl_judge::{Fault, cap_of, limit_of};
 use pl_outside::{ReadError, Shelf, read_file};
 use pl_plain::{PlainColumn, plain_columns};
 use pl_syntax::{Script, parse};
+use pl_terms::Checked;
 use pl_words::InputFile;
 use std::alloc::Global;
 
@@ -44,12 +46,23 @@ fn read_input<S: Shelf>(
 /// The script of the pipeline file of that name.
 pub fn read_script<S: Shelf>(alloc: Global, shelf: &mut S, name: &str) -> Result<Script, Fault>
     ensures read { IsRead (S.holds shelf.old) (S.sound shelf.old) (Some name.now) (λ held. syntax_step held ∷ [])
-        (λ held script. statements_read held ≡ statements_of (statements_in script)) result }
+        (λ held script. script_in held ≡ parsed script) result }
     ensures leaves { Leaves S.holds S.sound S.faults shelf.old shelf.new }
     ensures risen { IfErr result (IsRisen (Rose (S.faults shelf.old) (S.faults shelf.new)) ⊥) }
 {
     let bytes = read_input(alloc, shelf, name, InputFile::Pipeline)?;
     Ok(parse(alloc, &bytes)?)
+}
+
+/// The pipeline that the pipeline file of that name means.
+pub fn read_checked<S: Shelf>(alloc: Global, shelf: &mut S, name: &str) -> Result<Checked, Fault>
+    ensures read { IsRead (S.holds shelf.old) (S.sound shelf.old) (Some name.now) pipeline_steps
+        (λ held checked. pipeline_in held ≡ pipeline_of checked) result }
+    ensures leaves { Leaves S.holds S.sound S.faults shelf.old shelf.new }
+    ensures risen { IfErr result (IsRisen (Rose (S.faults shelf.old) (S.faults shelf.new)) ⊥) }
+{
+    let script = read_script(alloc, shelf, name)?;
+    Ok(check(alloc, &script)?)
 }
 
 /// The columns of the pipeline file of that name.
@@ -58,7 +71,7 @@ pub fn read_columns<S: Shelf>(
     shelf: &mut S,
     name: &str,
 ) -> Result<Vec<PlainColumn>, Fault>
-    ensures read { IsRead (S.holds shelf.old) (S.sound shelf.old) (Some name.now) pipeline_steps
+    ensures read { IsRead (S.holds shelf.old) (S.sound shelf.old) (Some name.now) plain_steps
         (λ held columns. columns_in held ≡ columns.items) result }
     ensures few { IfOk result (λ columns. length columns.items ≤ 64) }
     ensures leaves { Leaves S.holds S.sound S.faults shelf.old shelf.new }

@@ -5,5 +5,5 @@ mod inputs;
 mod loading;
 mod tables;
 
-pub use inputs::read_script;
+pub use inputs::{read_checked, read_script};
 pub use loading::{Loaded, load};

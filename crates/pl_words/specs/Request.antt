@@ -26,10 +26,11 @@ pub record RunRequest : Type 0 where
   pub to : Dated
   pub options : Options
 
--- the table of a pipeline, or the canonical text of a pipeline file
+-- the table of a pipeline, the canonical text of a pipeline file, or whether it keeps the rules
 pub data Request : Type 0 where
   Run : RunRequest → Request
   Fmt : (pipeline : List ℕ) → Request
+  Check : (pipeline : List ℕ) → Request
 
 -- not empty, and not of the form of an option
 abbrev pub is_plain_word : List ℕ → Bool
@@ -86,12 +87,15 @@ run_with words options =
 abbrev pub run_request : List (List ℕ) → Option RunRequest
 run_request words = option_and_then (run_with words) (run_options words)
 
--- the command and a name, and no other words
-abbrev pub is_fmt : List (List ℕ) → Bool
-is_fmt words = length words == 2 && (bytes_eq (word words 0) (codes "fmt") && is_plain_word (word words 1))
+-- this command and a name, and no other words
+abbrev pub is_of_file : List (List ℕ) → List ℕ → Bool
+is_of_file words command = length words == 2 && (bytes_eq (word words 0) command && is_plain_word (word words 1))
 
 unfoldable pub request : List (List ℕ) → Option Request
-request words = if is_fmt words then Some (Fmt (word words 1)) else option_map Run (run_request words)
+request words =
+    if is_of_file words (codes "fmt") then Some (Fmt (word words 1))
+    else if is_of_file words (codes "check") then Some (Check (word words 1))
+    else option_map Run (run_request words)
 
 -- the name of a file of a command, where the command has such a file
 abbrev pub run_name : RunRequest → InputFile → Option (List ℕ)
@@ -101,13 +105,18 @@ run_name q Assets = Some q.assets
 run_name q Labels = q.options.labels
 run_name q Bars = Some q.bars
 
+-- of a command over the pipeline file alone
+abbrev pub pipeline_name : List ℕ → InputFile → Option (List ℕ)
+pipeline_name name Pipeline = Some name
+pipeline_name name Sessions = None
+pipeline_name name Assets = None
+pipeline_name name Labels = None
+pipeline_name name Bars = None
+
 abbrev pub name_of : Request → InputFile → Option (List ℕ)
 name_of (Run q) file = run_name q file
-name_of (Fmt name) Pipeline = Some name
-name_of (Fmt name) Sessions = None
-name_of (Fmt name) Assets = None
-name_of (Fmt name) Labels = None
-name_of (Fmt name) Bars = None
+name_of (Fmt name) file = pipeline_name name file
+name_of (Check name) file = pipeline_name name file
 
 -- the texts of the two dates of a run
 abbrev pub run_date : RunRequest → RangeDate → List ℕ
@@ -124,10 +133,12 @@ name_asked (Some q) file = name_of q file
 abbrev pub date_asked : Option Request → RangeDate → List ℕ
 date_asked (Some (Run q)) date = run_date q date
 date_asked (Some (Fmt name)) date = []
+date_asked (Some (Check name)) date = []
 date_asked None date = []
 
 -- the name of the adjustments that are asked for
 abbrev pub adjustments_of : Option Request → Option (List ℕ)
 adjustments_of (Some (Run q)) = q.options.adjustments
 adjustments_of (Some (Fmt name)) = None
+adjustments_of (Some (Check name)) = None
 adjustments_of None = None

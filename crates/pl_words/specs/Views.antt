@@ -2,7 +2,7 @@
 use Rattle.std.specs.Prelude.{option_map}
 use Rattle.pl_words.specs.Request as spec
 use Rattle.pl_words.specs.declared.request.Request.{Request}
-use Rattle.pl_words.specs.declared.request.Request.TheVariants.{Run, Fmt}
+use Rattle.pl_words.specs.declared.request.Request.TheVariants.{Run, Fmt, Check}
 use Rattle.pl_words.specs.declared.request.RunRequest.{RunRequest}
 use Rattle.pl_words.specs.declared.request.DateWord.{DateWord}
 use Rattle.pl_words.specs.declared.request.Options.{Options}
@@ -28,3 +28,4 @@ run_of r =
 abbrev pub request_of : Request → spec.Request
 request_of (Run r) = spec.Run (run_of r)
 request_of (Fmt name) = spec.Fmt name.now
+request_of (Check name) = spec.Check name.now

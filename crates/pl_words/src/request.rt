@@ -1,6 +1,6 @@
 // What a command is asked for.
 ghost use Rattle.std.specs.Prelude.{◌≡◌, [], option_map, unwrap_or};
-ghost use Rattle.pl_words.specs.Request.{name_of, name_asked, date_asked, adjustments_of, run_name, run_date};
+ghost use Rattle.pl_words.specs.Request.{name_of, pipeline_name, name_asked, date_asked, adjustments_of, run_name, run_date};
 ghost use Rattle.pl_words.specs.Views.{request_of, run_of};
 
 /// A file that a command reads, by what it is to the command.
@@ -53,6 +53,8 @@ pub enum Request<'a> {
     Run(RunRequest<'a>),
     /// The canonical text of the pipeline file of that name.
     Fmt(&'a str),
+    /// Whether the pipeline file of that name keeps the rules of the language.
+    Check(&'a str),
 }
 
 impl<'a> Request<'a> {
@@ -62,9 +64,17 @@ impl<'a> Request<'a> {
     {
         match self {
             Request::Run(run) => run.name_of(file),
-            Request::Fmt(pipeline) if file == InputFile::Pipeline => Some(*pipeline),
-            Request::Fmt(_) => None,
+            Request::Fmt(name) | Request::Check(name) => pipeline_name(name, file),
         }
+    }
+}
+
+fn pipeline_name<'a>(name: &'a str, file: InputFile) -> Option<&'a str>
+    ensures { option_map (λ n. n.now) result ≡ pipeline_name name.now file }
+{
+    match file {
+        InputFile::Pipeline => Some(name),
+        InputFile::Sessions | InputFile::Assets | InputFile::Labels | InputFile::Bars => None,
     }
 }
 
@@ -84,7 +94,7 @@ pub fn date_asked<'a>(asked: Option<&Request<'a>>, date: RangeDate) -> &'a str
 {
     match asked {
         Some(Request::Run(run)) => run.date_text(date),
-        Some(Request::Fmt(_)) | None => "",
+        Some(Request::Fmt(_) | Request::Check(_)) | None => "",
     }
 }
 
@@ -94,7 +104,7 @@ pub fn adjustments_asked<'a>(asked: Option<&Request<'a>>) -> &'a str
 {
     match asked {
         Some(Request::Run(run)) => run.options.adjustments.unwrap_or(""),
-        Some(Request::Fmt(_)) | None => "",
+        Some(Request::Fmt(_) | Request::Check(_)) | None => "",
     }
 }
 

@@ -1,6 +1,6 @@
 // The words of a command.
 ghost use Rattle.std.specs.Prelude.{◌≡◌, ◌≤◌, ◌<◌, ◌+◌, ℕ, List, None, Some, map, string_bytes, length, IfSome, MatchOption};
-ghost use Rattle.pl_words.specs.Request.{request, is_fmt, is_run, is_option, one_option, two_options, run_options, run_with, run_request, is_plain_word, word, dated};
+ghost use Rattle.pl_words.specs.Request.{request, is_of_file, is_run, is_option, one_option, two_options, run_options, run_with, run_request, is_plain_word, word, dated};
 ghost use Rattle.pl_words.specs.Views.{request_of, run_of, options_of, dated_of};
 
 use crate::{DateWord, Options, Request, RunRequest};
@@ -12,17 +12,20 @@ pub fn read_words<'a>(words: &'a [String]) -> Option<Request<'a>>
     ensures { MatchOption result (request (map (λ s. string_bytes s) words.now) ≡ None)
         (λ r. request (map (λ s. string_bytes s) words.now) ≡ Some (request_of r)) }
 {
-    if is_fmt(words) {
+    if is_of_file(words, "fmt") {
         Some(Request::Fmt(word_at(words, 1)))
+    } else if is_of_file(words, "check") {
+        Some(Request::Check(word_at(words, 1)))
     } else {
         Some(Request::Run(read_run(words)?))
     }
 }
 
-fn is_fmt(words: &[String]) -> bool
-    ensures { result ≡ is_fmt (map (λ s. string_bytes s) words.now) }
+// Whether the words are this command and the name of a file.
+fn is_of_file(words: &[String], command: &str) -> bool
+    ensures { result ≡ is_of_file (map (λ s. string_bytes s) words.now) command.now }
 {
-    words.len() == 2 && word_at(words, 0) == "fmt" && is_plain_word(word_at(words, 1))
+    words.len() == 2 && word_at(words, 0) == command && is_plain_word(word_at(words, 1))
 }
 
 fn read_run<'a>(words: &'a [String]) -> Option<RunRequest<'a>>

@@ -1,23 +1,21 @@
 use Rattle.std.proofs.Common.{◌≡◌, ◌∙◌, sym, refl}
 use Rattle.std.proofs.lemmas.Result.{err_from_is_err_and}
-use Rattle.pl_syntax.specs.declared.script.Script.{Script}
-use Rattle.pl_syntax.specs.Scripts.{statements_in, version_in}
-use Rattle.pl_syntax.specs.Statements.{statements_of}
-use Rattle.pl_cli.proofs.Ended.{script-stops, no-text, script-written}
+use Rattle.pl_syntax.specs.Scripts.{parsed, version_in}
+use Rattle.pl_cli.proofs.Ended.{fmt-is, fmt-text, file-stops, no-text, file-written}
 use Rattle.pl_cli.proofs.commands.fmt_command.Goals as goal
 
 pub returns-in_err-script-clause-ended : goal.returns-in_err-script-clause-ended
 returns-in_err-script-clause-ended g c = λ lists sound steps.
     let p = err_from_is_err_and c.from_residual.result c.from_residual.ensures.1 in
     rw (p.1, p.2)
-    (script-stops g.O.Sink.taken g.O.Sink.faults g.O.Sink.sound g.O.Sink.room c.args.out.now c.args.out.now _ lists _ sound steps steps c.args.name.now _ _ _ _ refl
+    (file-stops g.O.Sink.taken g.O.Sink.faults g.O.Sink.sound g.O.Sink.room c.args.out.now c.args.out.now _ lists _ sound steps steps _ _ _ _ _ _ _ (fmt-is c.args.name.now) refl
     c.in_err-script.ensures.risen c.in_err-script.ensures.read)
 
 pub returns-in_err-text-clause-ended : goal.returns-in_err-text-clause-ended
 returns-in_err-text-clause-ended g c = λ lists sound steps.
     let p = err_from_is_err_and c.from_residual-in_err-text.result c.from_residual-in_err-text.ensures.1 in
     rw (p.1, p.2)
-    (no-text g.O.Sink.taken g.O.Sink.faults g.O.Sink.sound g.O.Sink.room c.args.out.now c.args.out.now _ lists _ sound steps steps c.args.name.now _ _ refl
+    (no-text g.O.Sink.taken g.O.Sink.faults g.O.Sink.sound g.O.Sink.room c.args.out.now c.args.out.now _ lists _ sound steps steps _ _ _ _ _ (fmt-is c.args.name.now) refl
     c.in_ok-script.ensures.read)
 
 pub returns-in-Ok-clause-ended : goal.returns-in-Ok-clause-ended
@@ -25,8 +23,8 @@ returns-in-Ok-clause-ended g c = λ lists sound steps.
     let one : version_in c.in_ok-script.script ≡ 1 = sym c.version-version.ensures.value ∙ c.version-version.ensures.known in
     let text = rw one at c.in_ok-text.ensures.text in
     let w = rw c.deref.ensures.value at c.in-Ok.ensures.writes in
-    script-written g.O.Sink.taken g.O.Sink.faults g.O.Sink.sound g.O.Sink.room c.args.out.now c.write_bytes.new.out _ lists _ sound steps steps c.args.name.now _
-    (λ (s : Script). statements_of (statements_in s)) _ _ refl c.in_ok-script.ensures.read text
+    file-written g.O.Sink.taken g.O.Sink.faults g.O.Sink.sound g.O.Sink.room c.args.out.now c.write_bytes.new.out _ lists _ sound steps steps _ _ _ _ _ _ _ (fmt-is c.args.name.now)
+    refl c.in_ok-script.ensures.read (λ file h. fmt-text c.args.name.now _ (parsed c.in_ok-script.script) text _ h)
     (record { all = w.all; prefix = tt; failed = tt; later = w.later; stays = w.stays; room_left = w.room_left; blameless = w.blameless }) tt
 
 pub returns-clause-ended : goal.returns-clause-ended
@@ -34,6 +32,6 @@ returns-clause-ended g c = λ lists sound steps.
     let one : version_in c.in_ok-script.script ≡ 1 = sym c.version-version.ensures.value ∙ c.version-version.ensures.known in
     let text = rw one at c.in_ok-text.ensures.text in
     let w = rw c.deref.ensures.value at c.in-Err.ensures.writes in
-    script-written g.O.Sink.taken g.O.Sink.faults g.O.Sink.sound g.O.Sink.room c.args.out.now c.write_bytes.new.out _ lists _ sound steps steps c.args.name.now _
-    (λ (s : Script). statements_of (statements_in s)) _ _ refl c.in_ok-script.ensures.read text
+    file-written g.O.Sink.taken g.O.Sink.faults g.O.Sink.sound g.O.Sink.room c.args.out.now c.write_bytes.new.out _ lists _ sound steps steps _ _ _ _ _ _ _ (fmt-is c.args.name.now)
+    refl c.in_ok-script.ensures.read (λ file h. fmt-text c.args.name.now _ (parsed c.in_ok-script.script) text _ h)
     (record { all = tt; prefix = w.prefix; failed = w.failed; later = w.later; stays = w.stays; room_left = λ s. tt; blameless = λ s r. absurd (cc (w.blameless s r).0) }) refl

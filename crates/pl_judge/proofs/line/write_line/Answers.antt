@@ -1,4 +1,4 @@
-use Rattle.std.proofs.Common.{append_assoc, FitsSigned, w64, rules}
+use Rattle.std.proofs.Common.{FitsSigned, w64, rules}
 use Rattle.std.proofs.lemmas.Int.{to_z-of_z}
 use Rattle.pl_judge.proofs.line.write_line.Goals as goal
 

@@ -1,4 +1,4 @@
-use Rattle.std.proofs.Common.{◌≡◌, ◌∙◌, ◌++◌, flat_map, ap, ℕ, ◌+◌, List, Bor, drop}
+use Rattle.std.proofs.Common.{flat_map, ℕ, List, Bor}
 use Rattle.std.proofs.lemmas.List.{at_drop_more}
 use Rattle.std.proofs.lemmas.Result.{err_from_is_err_and}
 use Rattle.pl_outside.proofs.Pieces.{writing-more, writing-stop, writing-over}

@@ -1,10 +1,10 @@
-use Rattle.std.proofs.Common.{◌≡◌, refl, ℕ, List}
+use Rattle.std.proofs.Common.{◌≡◌, refl}
 use Rattle.std.proofs.lemmas.Result.{err_from_is_err_and}
 use Rattle.pl_syntax.specs.Said.{Spelled, said}
 use Rattle.pl_syntax.specs.Scripts.{parsed}
 use Rattle.pl_syntax.proofs.TextsSaid.{spells-said}
 use Rattle.pl_words.specs.declared.request.InputFile.TheVariants as files
-use Rattle.pl_judge.specs.Held.{statements_read}
+use Rattle.pl_judge.specs.Held.{script_in}
 use Rattle.pl_judge.specs.Work.{syntax_rule}
 use Rattle.pl_load.proofs.FileReads.{read-passes, read-stops}
 use Rattle.pl_load.proofs.ScriptReads.{error-tells}
@@ -19,7 +19,7 @@ returns-in_err-parse-clause-read g c =
     (error-tells _ _ p.0 p.2.is cause c.in_ok-bytes.ensures.within))
 
 pub returns-clause-read : goal.returns-clause-read
-unfolding syntax_rule statements_read
+unfolding syntax_rule script_in
 returns-clause-read g c =
     let read : said c.in_ok-bytes.bytes.items ≡ Spelled (parsed c.in_ok-parse.field-0) = spells-said _ _ (rw c.deref.ensures.value at c.in_ok-parse.ensures.found) in
     read-passes files.Pipeline syntax_rule _ c.in_ok-parse.field-0 c.in_ok-bytes.ensures.read c.in_ok-bytes.ensures.within (rw read refl) (rw read refl)

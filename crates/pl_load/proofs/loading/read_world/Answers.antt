@@ -1,4 +1,4 @@
-use Rattle.std.proofs.Common.{◌∙◌, refl}
+use Rattle.std.proofs.Common.{◌∙◌}
 use Rattle.std.proofs.lemmas.Result.{err_from_is_err_and}
 use Rattle.pl_words.specs.Views.{run_of}
 use Rattle.pl_load.proofs.DataReads.{no-sessions, no-assets, no-labels, no-bars, no-adjustments, all-read}
