@@ -1,8 +1,8 @@
 -- Worked rows of what words ask for.
 use Rattle.std.proofs.Common.{◌≡◌, pos, refl, codes, List, [], ◌∷◌, ◌++◌, map, Option, Some, None}
 use Rattle.jiff_core.specs.Calendar.{days_from_civil, day_count, days_of_years, days_of_months}
-use Rattle.pl_spec.specs.Dates.{day_if, date_in}
-use Rattle.pl_spec.proofs.Worked.Worlds.{opened}
+use Rattle.std.specs.Fmt.{digits as decimal_digits}
+use Rattle.pl_spec.specs.Dates.{digits, date_text, day_if, date_in}
 use Rattle.pl_words.specs.Parts.{Word}
 use Rattle.pl_words.specs.Request.{request, counted, Request, Run, Fmt, Check}
 
@@ -24,11 +24,11 @@ asks labels adjustments = Some (Run (record {
 }))
 
 no_options : request (codes "run" ∷ (names ++ dates)) ≡ asks None None
-unfolding request counted date_in day_if days_from_civil day_count days_of_years days_of_months opened
+unfolding request counted date_in day_if days_from_civil day_count days_of_years days_of_months decimal_digits digits date_text
 no_options = refl
 
 mixed : request (codes "run" ∷ codes "--labels=-l" ∷ (names ++ codes "--adjustments" ∷ codes "a.db" ∷ codes "--" ∷ dates)) ≡ asks (Some (codes "-l")) (Some (codes "a.db"))
-unfolding request counted date_in day_if days_from_civil day_count days_of_years days_of_months opened
+unfolding request counted date_in day_if days_from_civil day_count days_of_years days_of_months decimal_digits digits date_text
 mixed = refl
 
 named_as_options : map request ((codes "fmt" ∷ codes "--" ∷ codes "--" ∷ []) ∷ (codes "check" ∷ codes "--" ∷ codes "-p" ∷ []) ∷ []) ≡ Some (Fmt (codes "--")) ∷ Some (Check (codes "-p")) ∷ []
@@ -59,5 +59,5 @@ refused_runs : map (λ (options : List Word). request (codes "run" ∷ (options 
   ∷ (codes "--chunk" ∷ codes "2" ∷ [])
   ∷ (codes "--stats" ∷ []) ∷ [])
     ≡ None ∷ None ∷ None ∷ None ∷ None ∷ None ∷ None ∷ None ∷ []
-unfolding request counted
+unfolding request counted date_in day_if digits
 refused_runs = refl
