@@ -20,4 +20,5 @@ Refuses sql old new = (e : Error) × (table_error e ≡ Refused) × FailsToQuery
 
 -- the statement is refused, or a row of its answer has a value that is no integer
 abbrev pub IsRefused : List ℕ → State → State → Type 0
-IsRefused sql old new = Refuses sql old new ⊎ ((answer : List Row) × Shown sql [] old new answer × Any (λ row. ¬ HasFiveIntegers row) answer)
+IsRefused sql old new =
+    Refuses sql old new ⊎ ((answer : List Row) × Shown sql [] old new answer × Any (λ row. ¬ HasFiveIntegers row) answer)

@@ -432,7 +432,7 @@ module _ (options : List OptionName) where
 
   no_defaults : (os : List OptionName) (rows : List Row) → defaults_fault rows (map built_option os) ≡ []
   unfolding defaults_fault
-  no_defaults [] rows = refl
+  no_defaults [] _ = refl
   no_defaults (o ∷ os) rows =
       ap (λ (k : Kinds). or_else k (defaults_fault (with_default rows (built_option o)) (map built_option os))) (or_true (has_row (text_of o) rows) [] _)
       ∙ no_defaults os (with_default rows (built_option o))
@@ -444,15 +444,15 @@ module _ (options : List OptionName) where
       ∙ no_defaults options (with_default rows built_names)
 
   same_rows : (os : List OptionName) (rows : List Row) → fold with_default rows (map built_option os) ≡ rows
-  same_rows [] rows = refl
+  same_rows [] _ = refl
   same_rows (o ∷ os) rows = ap (λ rs. fold with_default rs (map built_option os)) (either (has_row (text_of o) rows) rows) ∙ same_rows os rows
 
   same_finished : (h : Held) → finished R h ≡ (settled R h).rows
   same_finished h = ap (λ rs. fold with_default rs (map built_option options)) (either (has_row names_id (settled R h).rows) (settled R h).rows) ∙ same_rows options (settled R h).rows
 
   none_required : (os : List OptionName) (rows : List Row) → list_any (λ a. a.required && not (is_given a.id rows)) (map built_option os) ≡ false
-  none_required [] rows = refl
-  none_required (o ∷ os) rows = none_required os rows
+  none_required [] _ = refl
+  none_required (o ∷ os) given = none_required os given
 
   no_check : (rows : List Row) → check_fault s rows false ≡ []
   no_check rows = rw (none_required options rows) refl

@@ -28,6 +28,10 @@ pub data Part : Type 0 where
   Name : Word → Part
   Given : OptionName → Word → Part
 
+-- the parts of words, where they have parts
+abbrev pub Cut : Type 0
+Cut = Option (List Part)
+
 abbrev pub behind : ℕ → Word → Option Word
 behind b [] = None
 behind b (x ∷ xs) = if x == b then Some xs else None
@@ -49,37 +53,39 @@ option_name text = before_first is_equals text
 abbrev pub value_behind : Word → Option Word
 value_behind text = if list_any is_equals text then Some (after_first is_equals text) else None
 
-abbrev pub and_part : Part → Option (List Part) → Option (List Part)
+abbrev pub and_part : Part → Cut → Cut
 and_part part = option_map (λ parts. part ∷ parts)
 
 -- An option that wants a value takes the one behind its `=`, or else the next word; `--stats` has none.
-abbrev pub option_part : Bool → OptionName → Option Word → Option (List Part) → Option (List Part) → Option (List Part)
+abbrev pub option_part : Bool → OptionName → Option Word → Cut → Cut → Cut
 option_part true option (Some value) rest waiting = and_part (Given option value) rest
 option_part true option None rest waiting = waiting
 option_part false option (Some value) rest waiting = None
 option_part false option None rest waiting = and_part (Given option (codes "yes")) rest
 
-abbrev pub named_part : Option OptionName → Option Word → Option (List Part) → (OptionName → Option (List Part)) → Option (List Part)
+abbrev pub named_part : Option OptionName → Option Word → Cut → (OptionName → Cut) → Cut
 named_part None value rest waiting = None
 named_part (Some option) value rest waiting = option_part (has_value option) option value rest (waiting option)
 
 -- a word of which this stands behind its two hyphens: `--` itself, `--NAME` or `--NAME=VALUE`
-abbrev pub hyphens_part : List OptionName → Option Word → Option (List Part) → (OptionName → Option (List Part)) → List Word → Option (List Part)
+abbrev pub hyphens_part : List OptionName → Option Word → Cut → (OptionName → Cut) → List Word → Cut
 hyphens_part options None rest waiting words = None
 hyphens_part options (Some []) rest waiting words = Some (map Name words)
-hyphens_part options (Some (b ∷ bs)) rest waiting words = named_part (option_named options (option_name (b ∷ bs))) (value_behind (b ∷ bs)) rest waiting
+hyphens_part options (Some (b ∷ bs)) rest waiting words =
+    named_part (option_named options (option_name (b ∷ bs))) (value_behind (b ∷ bs)) rest waiting
 
-abbrev pub first_part : List OptionName → Word → Option (List Part) → (OptionName → Option (List Part)) → List Word → Option (List Part)
+abbrev pub first_part : List OptionName → Word → Cut → (OptionName → Cut) → List Word → Cut
 first_part options word rest waiting words =
-    if begins_with_hyphen word then hyphens_part options (behind_hyphens word) rest waiting words else and_part (Name word) rest
+    if begins_with_hyphen word then hyphens_part options (behind_hyphens word) rest waiting words
+    else and_part (Name word) rest
 
-abbrev pub value_part : OptionName → Word → Option (List Part) → Option (List Part)
+abbrev pub value_part : OptionName → Word → Cut → Cut
 value_part option word rest = if begins_with_hyphen word then None else and_part (Given option word) rest
 
 -- The parts of the words, for a command with these options. Where an option waits, the next word is its value, and may not
 -- begin with a hyphen. Else `--` makes names of all words behind it, a word that begins with `--` is an option, another one that
 -- begins with `-` is refused, and each other word is a name.
-abbrev pub parts : List OptionName → Option OptionName → List Word → Option (List Part)
+abbrev pub parts : List OptionName → Option OptionName → List Word → Cut
 parts options None [] = Some []
 parts options (Some option) [] = None
 parts options None (word ∷ words) = first_part options word (parts options None words) (λ option. parts options (Some option) words) words
@@ -103,7 +109,8 @@ names_of (Given option value ∷ ps) = names_of ps
 abbrev pub values_of : OptionName → List Part → List Word
 values_of option [] = []
 values_of option (Name word ∷ ps) = values_of option ps
-values_of option (Given other value ∷ ps) = if bytes_eq (text_of other) (text_of option) then value ∷ values_of option ps else values_of option ps
+values_of option (Given other value ∷ ps) =
+    if bytes_eq (text_of other) (text_of option) then value ∷ values_of option ps else values_of option ps
 
 -- neither empty nor a hyphen alone, which are refused everywhere
 abbrev pub is_text : Word → Bool

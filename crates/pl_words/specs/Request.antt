@@ -56,12 +56,21 @@ options_by values =
 
 abbrev pub run_over : List Word → Dated → Dated → Options → RunRequest
 run_over names from to options =
-    record { pipeline = name names 0; sessions = name names 1; assets = name names 2; bars = name names 3; from = from; to = to; options = options }
+    record {
+      pipeline = name names 0;
+      sessions = name names 1;
+      assets = name names 2;
+      bars = name names 3;
+      from = from;
+      to = to;
+      options = options;
+    }
 
 -- four names, two dates and the options
 abbrev pub run_in : List Word → Values → Option RunRequest
 run_in names values =
-    option_and_then (λ from. option_and_then (λ to. option_map (run_over names from to) (options_by values)) (dated (name names 5))) (dated (name names 4))
+    option_and_then (λ from. option_and_then (λ to. option_map (run_over names from to) (options_by values))
+    (dated (name names 5))) (dated (name names 4))
 
 -- what a command asks for by its names and its options' values
 abbrev pub request_in : CommandName → List Word → Values → Option Request

@@ -4,7 +4,7 @@ ghost use Rattle.clap.specs.Words.{FailsBy, app_of, fault_of, found_of, kind_of,
 ghost use Rattle.clap.specs.declared.error.kind.ErrorKind.TheVariants.{OutOfMemory};
 ghost use Rattle.pl_words.specs.Parts.{parts, is_short, has_short, has_value, text_of, one_value};
 ghost use Rattle.pl_words.specs.Commands.{options_of};
-ghost use Rattle.pl_words.specs.Apps.{app_for, bare_app, names_rule, option_rule, IsAnswered, values_at};
+ghost use Rattle.pl_words.specs.Apps.{app_for, bare_app, names_rule, option_rule, IsAnswered, values_at, values_in};
 
 use crate::commands::{CommandName, OptionName};
 use crate::text::{Refused, is_text};
@@ -37,8 +37,8 @@ pub(crate) fn cut<'a>(
 
 /// The values of an argument, in order.
 pub(crate) fn values<'m, 'a>(matches: &'m ArgMatches<'a>, id: &str) -> Option<&'m [&'a str]>
-    ensures { MatchOption result (values_at id.now (rows_of (found_of matches.now)) ≡ []) (λ values.
-        map (λ v. v.now) values.now ≡ values_at id.now (rows_of (found_of matches.now))) }
+    ensures { MatchOption result (values_at id.now (rows_of (found_of matches.now)) ≡ [])
+        (λ values. map (λ v. v.now) values.now ≡ values_at id.now (rows_of (found_of matches.now))) }
 {
     matches.get_raw(id)
 }
@@ -46,8 +46,8 @@ pub(crate) fn values<'m, 'a>(matches: &'m ArgMatches<'a>, id: &str) -> Option<&'
 /// The value of an option, if it has one; an `Err` where it is given twice, or with an empty value or a hyphen.
 pub(crate) fn value<'a>(matches: &ArgMatches<'a>, option: OptionName) -> Result<Option<&'a str>, Refused>
     ensures { MatchResult result
-        (λ v. one_value (values_at (text_of option) (rows_of (found_of matches.now))) ≡ Some (option_map (λ s. s.now) v))
-        (λ _. one_value (values_at (text_of option) (rows_of (found_of matches.now))) ≡ None) }
+        (λ v. one_value (values_in matches.now option) ≡ Some (option_map (λ s. s.now) v))
+        (λ _. one_value (values_in matches.now option) ≡ None) }
 {
     match values(matches, option.text()) {
         None => Ok(None),
@@ -55,9 +55,18 @@ pub(crate) fn value<'a>(matches: &ArgMatches<'a>, option: OptionName) -> Result<
     }
 }
 
-#[tactic(auto, using(crate::proofs::Reading::one_is, crate::proofs::Reading::one_bad, crate::proofs::Reading::many, crate::proofs::Reading::none_is))]
+#[tactic(
+    auto,
+    using(
+        crate::proofs::Reading::one_is,
+        crate::proofs::Reading::one_bad,
+        crate::proofs::Reading::many,
+        crate::proofs::Reading::none_is
+    )
+)]
 fn one<'a>(values: &[&'a str]) -> Result<Option<&'a str>, Refused>
-    ensures { MatchResult result (λ v. one_value (map (λ s. s.now) values.now) ≡ Some (option_map (λ s. s.now) v)) (λ _. one_value (map (λ s. s.now) values.now) ≡ None) }
+    ensures { MatchResult result (λ v. one_value (map (λ s. s.now) values.now) ≡ Some (option_map (λ s. s.now) v))
+        (λ _. one_value (map (λ s. s.now) values.now) ≡ None) }
 {
     if values.is_empty() {
         return Ok(None);
@@ -75,7 +84,8 @@ fn parse<'a>(
     words: &'a [String],
 ) -> Result<ArgMatches<'a>, Error>
     ensures fails { FailsBy (fault_of (app_for (options_of command)) (map (λ s. string_bytes s) words.entry.now)) result }
-    ensures matches { IfOk result (λ m. rows_of (found_of m) ≡ matches_of (app_for (options_of command)) (map (λ s. string_bytes s) words.entry.now)) }
+    ensures matches { IfOk result (λ m.
+        rows_of (found_of m) ≡ matches_of (app_for (options_of command)) (map (λ s. string_bytes s) words.entry.now)) }
 {
     let app = command_for(alloc, command.options())?;
     app.try_get_matches_from(words)

@@ -1,8 +1,6 @@
 // The options of a run, by the values that each was given.
 ghost use Rattle.std.specs.Prelude.{◌≡◌, None, Some, MatchOption};
-ghost use Rattle.clap.specs.Words.{found_of, rows_of};
-ghost use Rattle.pl_words.specs.Parts.{text_of};
-ghost use Rattle.pl_words.specs.Apps.{values_at};
+ghost use Rattle.pl_words.specs.Apps.{values_in};
 ghost use Rattle.pl_words.specs.Request.{dated, options_by};
 ghost use Rattle.pl_words.specs.Views.{dated_of, options_of};
 
@@ -13,8 +11,8 @@ use clap::ArgMatches;
 use pl_fixed::read_day;
 
 pub(crate) fn options<'a>(matches: &ArgMatches<'a>) -> Option<Options<'a>>
-    ensures { MatchOption result (options_by (λ o. values_at (text_of o) (rows_of (found_of matches.now))) ≡ None)
-        (λ s. options_by (λ o. values_at (text_of o) (rows_of (found_of matches.now))) ≡ Some (options_of s)) }
+    ensures { MatchOption result (options_by (values_in matches.now) ≡ None)
+        (λ s. options_by (values_in matches.now) ≡ Some (options_of s)) }
 {
     let Ok(labels) = value(matches, OptionName::Labels) else {
         return None;

@@ -1,10 +1,9 @@
 // The words, read as a request.
 ghost use Rattle.std.specs.Prelude.{◌≡◌, None, Some, IfOk, MatchOption, map, length, string_bytes};
 ghost use Rattle.std.specs.List.{list_all};
-ghost use Rattle.clap.specs.Words.{found_of, rows_of};
-ghost use Rattle.pl_words.specs.Parts.{text_of, is_text};
+ghost use Rattle.pl_words.specs.Parts.{is_text};
 ghost use Rattle.pl_words.specs.Commands.{places_of};
-ghost use Rattle.pl_words.specs.Apps.{names_id, values_at};
+ghost use Rattle.pl_words.specs.Apps.{names_in, values_in};
 ghost use Rattle.pl_words.specs.Request.{asked, counted, request, request_in, run_in};
 ghost use Rattle.pl_words.specs.Views.{request_of, run_of};
 
@@ -51,8 +50,8 @@ fn read_command<'a>(
 
 fn read_matches<'a>(command: CommandName, matches: &ArgMatches<'a>) -> Option<Request<'a>>
     ensures { MatchOption result
-        (counted command (values_at names_id (rows_of (found_of matches.now))) (λ o. values_at (text_of o) (rows_of (found_of matches.now))) ≡ None)
-        (λ r. counted command (values_at names_id (rows_of (found_of matches.now))) (λ o. values_at (text_of o) (rows_of (found_of matches.now)))
+        (counted command (names_in matches.now) (values_in matches.now) ≡ None)
+        (λ r. counted command (names_in matches.now) (values_in matches.now)
         ≡ Some (request_of r)) }
 {
     let names = values(matches, "names")?;
@@ -70,8 +69,8 @@ fn request_in<'a>(
 ) -> Option<Request<'a>>
     requires { length names.now ≡ places_of command }
     ensures { MatchOption result
-        (request_in command (map (λ v. v.now) names.now) (λ o. values_at (text_of o) (rows_of (found_of matches.now))) ≡ None)
-        (λ r. request_in command (map (λ v. v.now) names.now) (λ o. values_at (text_of o) (rows_of (found_of matches.now))) ≡ Some (request_of r)) }
+        (request_in command (map (λ v. v.now) names.now) (values_in matches.now) ≡ None)
+        (λ r. request_in command (map (λ v. v.now) names.now) (values_in matches.now) ≡ Some (request_of r)) }
 {
     match command {
         CommandName::Run => Some(Request::Run(run_in(names, matches)?)),
@@ -83,8 +82,8 @@ fn request_in<'a>(
 fn run_in<'a>(names: &[&'a str], matches: &ArgMatches<'a>) -> Option<RunRequest<'a>>
     requires { length names.now ≡ 6 }
     ensures { MatchOption result
-        (run_in (map (λ v. v.now) names.now) (λ o. values_at (text_of o) (rows_of (found_of matches.now))) ≡ None)
-        (λ r. run_in (map (λ v. v.now) names.now) (λ o. values_at (text_of o) (rows_of (found_of matches.now))) ≡ Some (run_of r)) }
+        (run_in (map (λ v. v.now) names.now) (values_in matches.now) ≡ None)
+        (λ r. run_in (map (λ v. v.now) names.now) (values_in matches.now) ≡ Some (run_of r)) }
 {
     let from = date_in(names[4])?;
     let to = date_in(names[5])?;
