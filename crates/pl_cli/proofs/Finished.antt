@@ -1,5 +1,5 @@
 -- From the end of a command to the status and the line of the program.
-use Rattle.std.proofs.Common.{◌≡◌, ◌⊎◌, inl, inr, ℕ, List, length, Bool, arith, IsTrue, IsSome, Option, Some, None, Result, Ok, Err, refl, MatchOption, option_map, Bor}
+use Rattle.std.proofs.Common.{◌≡◌, ◌⊎◌, inl, inr, ℕ, List, [], length, Bool, arith, IsTrue, IsSome, Option, Some, None, Result, Ok, Err, refl, MatchOption, option_map, Bor}
 use Rattle.std.specs.Option.{option_copied, ForSome}
 use Rattle.pl_outside.specs.Files.{Files}
 use Rattle.pl_outside.specs.Lists.{Lists}
@@ -137,23 +137,23 @@ asked-lent words asked (Some r) h e = let g = rw (← e) at h in g
 
 -- ---- where memory ran out before the words were read
 
-told-file : Option (List ℕ) → Option Files → Option (List ℕ)
+abbrev told-file : Option (List ℕ) → Option Files → Option (List ℕ)
 told-file None files = None
 told-file (Some name) None = None
 told-file (Some name) (Some told) = told name
 
-told-rows : Option (List ℕ) → Option Lists → Table → List RawAdjust
+abbrev told-rows : Option (List ℕ) → Option Lists → Table → List RawAdjust
 told-rows None lists table = []
 told-rows (Some name) None table = []
 told-rows (Some name) (Some told) table = told name table
 
 file-told : (name : Option (List ℕ)) (files : Option Files) → ForSome name (λ n. ForSome files (λ told. told-file name files ≡ told n))
-file-told None files n is = absurd (cc)
+file-told None files n is told has = absurd (cc)
 file-told (Some name) None n is told has = absurd (cc)
 file-told (Some name) (Some held) n is told has = cc
 
 rows-told : (name : Option (List ℕ)) (lists : Option Lists) (table : Table) → ForSome name (λ n. ForSome lists (λ told. told-rows name lists table ≡ told n table))
-rows-told None lists table n is = absurd (cc)
+rows-told None lists table n is told has = absurd (cc)
 rows-told (Some name) None table n is told has = absurd (cc)
 rows-told (Some name) (Some held) table n is told has = cc
 
