@@ -97,7 +97,8 @@ fn statuses_without_standard_error(rt: HostRuntime) -> Result<(), Fail> {
     Ok(())
 }
 
-const SPLITS: &str = "CREATE TABLE splits (id INTEGER PRIMARY KEY, effective_date INTEGER NOT NULL, \
+const SPLITS: &str =
+    "CREATE TABLE splits (id INTEGER PRIMARY KEY, effective_date INTEGER NOT NULL, \
     num INTEGER NOT NULL, den INTEGER NOT NULL, sid INTEGER NOT NULL) STRICT; \
     INSERT INTO splits VALUES (2, 1704326400, 1, 2, 1)";
 
@@ -111,7 +112,11 @@ fn make(rt: &HostRuntime, path: &str, script: &str) -> Result<(), sqlite::Error>
 #[test]
 fn reads_database_files(rt: HostRuntime) -> Result<(), Fail> {
     make(&rt, "closed.db", SPLITS)?;
-    make(&rt, "null.db", "CREATE TABLE splits (id, effective_date, num, den, sid); INSERT INTO splits VALUES (1, 2, NULL, 4, 5)")?;
+    make(
+        &rt,
+        "null.db",
+        "CREATE TABLE splits (id, effective_date, num, den, sid); INSERT INTO splits VALUES (1, 2, NULL, 4, 5)",
+    )?;
     fs::write(&rt, "text.db", "id,effective_date,num,den,sid\n")?;
     fs::write(&rt, "empty.db", "")?;
     make(&rt, "cut.db", SPLITS)?;
@@ -133,13 +138,28 @@ fn reads_database_files(rt: HostRuntime) -> Result<(), Fail> {
         ("no-such.db", Table::Splits, Err(KeepError::Failed), 6, 2),
         (".", Table::Splits, Err(KeepError::Failed), 7, 2),
     ] {
-        assert_eq!(rt; keeper.load(rt.alloc(), name, table, &mut rows), loaded, "{name}");
+        assert_eq!(rt;
+            keeper.load(rt.alloc(), name, table, &mut rows),
+            loaded,
+            "{name}"
+        );
         assert_eq!(rt; (keeper.faults, rows.len()), (faults, count), "{name}");
     }
-    let split = RawAdjust { id: 2, effective: 1_704_326_400, num: 1, den: 2, sid: 1 };
+    let split = RawAdjust {
+        id: 2,
+        effective: 1_704_326_400,
+        num: 1,
+        den: 2,
+        sid: 1,
+    };
     assert_eq!(rt; rows.as_slice(), [split, split].as_slice());
     // no file is made or changed
-    for name in ["no-such.db", "no-such.db-wal", "empty.db-wal", "text.db-wal"] {
+    for name in [
+        "no-such.db",
+        "no-such.db-wal",
+        "empty.db-wal",
+        "text.db-wal",
+    ] {
         assert!(rt; fs::read(&rt, name).is_err(), "{name}");
     }
     assert!(rt; fs::read(&rt, "empty.db")?.is_empty());

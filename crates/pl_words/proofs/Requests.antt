@@ -1,6 +1,6 @@
 -- From the parts to the request.
-use Rattle.std.proofs.Common.{◌≡◌, ◌∙◌, ℕ, Bool, true, false, cond, refl, sym, ap, ap₂, subst, List, [], ◌∷◌, map, length, Option, Some, None, Bor, ◌==◌}
-use Rattle.std.specs.Prelude.{if◌then◌else◌, option_and_then}
+use Rattle.std.proofs.Common.{◌≡◌, ◌∙◌, true, false, cond, refl, sym, ap, ap₂, List, [], map, length, Option, Some, None, Bor, ◌==◌}
+use Rattle.std.specs.Prelude.{option_and_then}
 use Rattle.std.specs.List.{list_all}
 use Rattle.std.proofs.lemmas.List.{length-map}
 use Rattle.clap.specs.Words.{Row, found_of, rows_of}
@@ -11,7 +11,7 @@ use Rattle.pl_words.specs.declared.commands.CommandName.TheVariants.{Run, Check,
 use Rattle.pl_words.specs.Commands.{places_of, options_of}
 use Rattle.pl_words.specs.Parts.{Word, Part, parts, text_of, names_of, values_of, is_text}
 use Rattle.pl_words.specs.Apps.{names_id, values_at, rows_from, IsAnswered}
-use Rattle.pl_words.specs.Request.{Request, Values, asked, counted, request_in}
+use Rattle.pl_words.specs.Request.{Values, asked, counted, request_in}
 use Rattle.pl_words.proofs.Values.{names_are, values_are}
 
 pub none_counted : (c : CommandName) (names : List Word) (values : Values) → names ≡ [] → counted c names values ≡ None

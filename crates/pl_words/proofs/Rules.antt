@@ -1,18 +1,16 @@
 -- What building makes of the arguments, and how they are found.
-use Rattle.std.proofs.Common.{◌≡◌, ◌∙◌, ℕ, zero, suc, ◌+◌, Bool, true, false, cond, not, ◌&&◌, ◌||◌, refl, sym, ap, ap₂, subst, List, [], ◌∷◌, ◌++◌, map, Option, Some, None, codes, option_map}
-use Rattle.std.specs.Prelude.{find, bytes_eq, if◌then◌else◌, is_some}
-use Rattle.std.specs.List.{list_all, list_any, count_by}
-use Rattle.clap.specs.Words.{App, Rule, Shape, built, is_simple, is_simple_and_free, new_rule}
-use Rattle.clap.specs.Walk.{arg_by_id, arg_by_long, is_early_multiple, Text}
-use Rattle.clap.specs.Simple.{filled, filled_from, with_index, is_in_order}
-use Rattle.clap.proofs.OnLiterals.{clap_on_literals}
+use Rattle.std.proofs.Common.{◌≡◌, ◌∙◌, ℕ, Bool, true, false, cond, ◌||◌, refl, ap, ap₂, List, [], ◌∷◌, map, Some, codes, option_map}
+use Rattle.std.specs.Prelude.{bytes_eq, if◌then◌else◌}
+use Rattle.clap.specs.Words.{Rule, Shape, built, new_rule}
+use Rattle.clap.specs.Walk.{arg_by_id, arg_by_long, Text}
+use Rattle.clap.specs.Simple.{filled, filled_from, with_index}
 use Rattle.clap.specs.declared.builder.action.ArgAction.TheVariants.{Append}
 use Rattle.clap.specs.declared.builder.range.ValueRange.{ValueRange}
 use Rattle.clap.specs.declared.builder.value_parser.ValueParser.TheVariants as vp
 use Rattle.pl_words.specs.declared.commands.OptionName.{OptionName}
 use Rattle.pl_words.specs.declared.commands.OptionName.TheVariants.{Labels, Adjustments, Chunk, Format, Stats}
 use Rattle.pl_words.specs.Parts.{text_of, has_value, option_named}
-use Rattle.pl_words.specs.Apps.{names_id, names_rule, option_rule, rules_for, app_for, app_with, bare_app, no_values}
+use Rattle.pl_words.specs.Apps.{names_id, option_rule, rules_for, app_for, bare_app, no_values}
 
 abbrev pub one_value : ValueRange
 one_value = record { start_inclusive = 1; end_inclusive = 1 }

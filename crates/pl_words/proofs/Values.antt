@@ -1,6 +1,6 @@
 -- The values of the rows are those of the parts.
-use Rattle.std.proofs.Common.{◌≡◌, ◌∙◌, ℕ, Bool, true, false, cond, true≢false, refl, sym, ap, subst, List, [], ◌∷◌, ◌++◌, append_assoc, append-nil, Option, Some, None, option_map, codes}
-use Rattle.std.specs.Prelude.{find, bytes_eq, unwrap_or}
+use Rattle.std.proofs.Common.{◌≡◌, ◌∙◌, Bool, true, false, cond, true≢false, refl, sym, ap, subst, List, [], ◌∷◌, ◌++◌, append_assoc, append-nil}
+use Rattle.std.specs.Prelude.{bytes_eq}
 use Rattle.std.proofs.lemmas.Slice.Eq.{bytes_eq-Decides}
 use Rattle.clap.specs.Words.{Row}
 use Rattle.clap.specs.Walk.{with_values, Text}
@@ -8,7 +8,7 @@ use Rattle.clap.specs.declared.builder.value_parser.Reading.TheVariants.{AsWritt
 use Rattle.clap.specs.declared.parser.matches.ValueSource.TheVariants.{CommandLine}
 use Rattle.pl_words.specs.declared.commands.OptionName.{OptionName}
 use Rattle.pl_words.specs.declared.commands.OptionName.TheVariants.{Labels, Adjustments, Chunk, Format, Stats}
-use Rattle.pl_words.specs.Parts.{Word, Part, Name, Given, text_of, names_of, values_of}
+use Rattle.pl_words.specs.Parts.{Part, Name, Given, text_of, names_of, values_of}
 use Rattle.pl_words.specs.Apps.{names_id, put, rows_from, values_at}
 
 abbrev more : Text → List Text → List Row → List Row

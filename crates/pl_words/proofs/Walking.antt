@@ -1,9 +1,8 @@
 -- clap's walk over the words gives the parts, and fails exactly where they have none.
-use Rattle.std.proofs.Common.{◌≡◌, ◌∙◌, ℕ, zero, suc, Bool, true, false, cond, not, ◌&&◌, ◌||◌, ◌==◌, true≢false, refl, sym, ap, ap₂, subst, List, [], ◌∷◌, ◌++◌, map, Option, Some, None, codes, option_map, nat_lt}
-use Rattle.std.specs.Prelude.{⊤, find, bytes_eq, if◌then◌else◌, is_some, fold, option_and_then}
-use Rattle.std.specs.Option.{option_map_or}
+use Rattle.std.proofs.Common.{◌≡◌, ◌∙◌, ℕ, Bool, true, false, cond, not, ◌&&◌, ◌||◌, ◌==◌, true≢false, refl, sym, ap, subst, List, [], ◌∷◌, map, Option, Some, None, codes, option_map}
+use Rattle.std.specs.Prelude.{⊤, bytes_eq, is_some, fold, option_and_then}
 use Rattle.std.proofs.lemmas.Slice.Eq.{bytes_eq-Decides}
-use Rattle.clap.specs.Words.{Rule, Row, Shape, App, fault_of, matches_of, built}
+use Rattle.clap.specs.Words.{Rule, Row, Shape, App, fault_of, matches_of}
 use Rattle.clap.specs.Faults.{default_fault, defaults_fault, check_fault, level_fault, built_fault}
 use Rattle.clap.specs.Takes.{is_given}
 use Rattle.clap.specs.Walk.{finished, with_default, nothing_held, has_row, walk, walk_from, is_empty}
@@ -14,8 +13,7 @@ use Rattle.clap.specs.Lexer.{strip_byte, long_of, long_of_rest, short_of}
 use Rattle.clap.specs.Walk.{subcommand_met, Held, Walk, Waiting, idle, option, positional, Step, value, next, trailing, walked, word_met, settled, reacted, pushed, used, takes_values, takes_several, is_pending, arg_by_id, arg_by_long, after_step, positional_held, option_met, flag_met}
 use Rattle.clap.specs.Faults.{walk_fault, turn_fault, settle_fault, use_fault, react_fault, word_fault, step_fault, long_fault}
 use Rattle.pl_words.specs.declared.commands.OptionName.{OptionName}
-use Rattle.pl_words.specs.declared.commands.OptionName.TheVariants.{Labels, Adjustments, Chunk, Format, Stats}
-use Rattle.pl_words.specs.Parts.{Word, Part, Name, Given, text_of, has_value, option_named, behind, begins_with_hyphen, behind_hyphens, option_name, value_behind, and_part, option_part, named_part, hyphens_part, first_part, parts, is_short, has_short}
+use Rattle.pl_words.specs.Parts.{Word, Part, Name, Given, text_of, has_value, option_named, behind, begins_with_hyphen, behind_hyphens, option_name, value_behind, and_part, option_part, named_part, hyphens_part, parts, is_short, has_short}
 use Rattle.pl_words.specs.Apps.{names_id, app_for, put, rows_from}
 use Rattle.pl_words.proofs.Rules.{built_names, built_option, built_rules, built_shape, built_is, find_long, find_id}
 

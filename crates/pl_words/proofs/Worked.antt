@@ -36,28 +36,28 @@ unfolding request counted
 named_as_options = refl
 
 refused : map request (
-  []
-  ∷ (codes "format" ∷ codes "p.pl" ∷ [])
-  ∷ (codes "fmt" ∷ [])
-  ∷ (codes "fmt" ∷ codes "p.pl" ∷ codes "q.pl" ∷ [])
-  ∷ (codes "fmt" ∷ [] ∷ [])
-  ∷ (codes "fmt" ∷ codes "--" ∷ codes "-" ∷ [])
-  ∷ (codes "fmt" ∷ codes "-p" ∷ [])
-  ∷ (codes "fmt" ∷ codes "--help" ∷ [])
-  ∷ (codes "fmt" ∷ codes "--labels" ∷ codes "l" ∷ codes "p.pl" ∷ []) ∷ [])
+    []
+    ∷ (codes "format" ∷ codes "p.pl" ∷ [])
+    ∷ (codes "fmt" ∷ [])
+    ∷ (codes "fmt" ∷ codes "p.pl" ∷ codes "q.pl" ∷ [])
+    ∷ (codes "fmt" ∷ [] ∷ [])
+    ∷ (codes "fmt" ∷ codes "--" ∷ codes "-" ∷ [])
+    ∷ (codes "fmt" ∷ codes "-p" ∷ [])
+    ∷ (codes "fmt" ∷ codes "--help" ∷ [])
+    ∷ (codes "fmt" ∷ codes "--labels" ∷ codes "l" ∷ codes "p.pl" ∷ []) ∷ [])
     ≡ None ∷ None ∷ None ∷ None ∷ None ∷ None ∷ None ∷ None ∷ None ∷ []
 unfolding request counted
 refused = refl
 
 refused_runs : map (λ (options : List Word). request (codes "run" ∷ (options ++ (names ++ dates)))) (
-  (codes "--labels" ∷ codes "a" ∷ codes "--labels" ∷ codes "a" ∷ [])
-  ∷ (codes "--labels" ∷ codes "--" ∷ codes "a" ∷ [])
-  ∷ (codes "--labels" ∷ codes "-a" ∷ [])
-  ∷ (codes "--labels=" ∷ [])
-  ∷ (codes "--labels=-" ∷ [])
-  ∷ (codes "--label" ∷ codes "a" ∷ [])
-  ∷ (codes "--chunk" ∷ codes "2" ∷ [])
-  ∷ (codes "--stats" ∷ []) ∷ [])
+    (codes "--labels" ∷ codes "a" ∷ codes "--labels" ∷ codes "a" ∷ [])
+    ∷ (codes "--labels" ∷ codes "--" ∷ codes "a" ∷ [])
+    ∷ (codes "--labels" ∷ codes "-a" ∷ [])
+    ∷ (codes "--labels=" ∷ [])
+    ∷ (codes "--labels=-" ∷ [])
+    ∷ (codes "--label" ∷ codes "a" ∷ [])
+    ∷ (codes "--chunk" ∷ codes "2" ∷ [])
+    ∷ (codes "--stats" ∷ []) ∷ [])
     ≡ None ∷ None ∷ None ∷ None ∷ None ∷ None ∷ None ∷ None ∷ []
 unfolding request counted date_in day_if digits
 refused_runs = refl

@@ -16,9 +16,9 @@ command_text Fmt = codes "fmt"
 
 -- how many names it takes
 abbrev pub places_of : CommandName → ℕ
-places_of Run = 6        -- PIPELINE SESSIONS ASSETS BARS FROM TO
-places_of Check = 1      -- PIPELINE
-places_of Fmt = 1        -- PIPELINE
+places_of Run = 6  -- PIPELINE SESSIONS ASSETS BARS FROM TO
+places_of Check = 1  -- PIPELINE
+places_of Fmt = 1  -- PIPELINE
 
 -- the options that it knows
 abbrev pub options_of : CommandName → List OptionName

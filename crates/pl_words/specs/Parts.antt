@@ -1,6 +1,6 @@
 -- How the words behind a command are cut into its names and its options.
-use Rattle.std.specs.Prelude.{ℕ, List, [], ◌∷◌, ◌++◌, Bool, true, false, not, ◌&&◌, ◌||◌, ◌==◌, if◌then◌else◌, Option, Some, None, option_map, option_and_then, is_some, length, map, find, bytes_eq, codes, nat_le}
-use Rattle.std.specs.List.{list_all, list_any, before_first, after_first}
+use Rattle.std.specs.Prelude.{ℕ, List, [], ◌∷◌, Bool, true, false, not, ◌&&◌, ◌==◌, if◌then◌else◌, Option, Some, None, option_map, option_and_then, is_some, map, find, bytes_eq, codes}
+use Rattle.std.specs.List.{list_any, before_first, after_first}
 use Rattle.pl_words.specs.declared.commands.OptionName.{OptionName}
 use Rattle.pl_words.specs.declared.commands.OptionName.TheVariants.{Labels, Adjustments, Chunk, Format, Stats}
 

@@ -44,7 +44,10 @@ pub(crate) fn values<'m, 'a>(matches: &'m ArgMatches<'a>, id: &str) -> Option<&'
 }
 
 /// The value of an option, if it has one; an `Err` where it is given twice, or with an empty value or a hyphen.
-pub(crate) fn value<'a>(matches: &ArgMatches<'a>, option: OptionName) -> Result<Option<&'a str>, Refused>
+pub(crate) fn value<'a>(
+    matches: &ArgMatches<'a>,
+    option: OptionName,
+) -> Result<Option<&'a str>, Refused>
     ensures { MatchResult result
         (λ v. one_value (values_in matches.now option) ≡ Some (option_map (λ s. s.now) v))
         (λ _. one_value (values_in matches.now option) ≡ None) }
@@ -55,15 +58,7 @@ pub(crate) fn value<'a>(matches: &ArgMatches<'a>, option: OptionName) -> Result<
     }
 }
 
-#[tactic(
-    auto,
-    using(
-        crate::proofs::Reading::one_is,
-        crate::proofs::Reading::one_bad,
-        crate::proofs::Reading::many,
-        crate::proofs::Reading::none_is
-    )
-)]
+#[tactic(auto, using(crate::proofs::Reading::one_is, crate::proofs::Reading::one_bad, crate::proofs::Reading::many, crate::proofs::Reading::none_is))]
 fn one<'a>(values: &[&'a str]) -> Result<Option<&'a str>, Refused>
     ensures { MatchResult result (λ v. one_value (map (λ s. s.now) values.now) ≡ Some (option_map (λ s. s.now) v))
         (λ _. one_value (map (λ s. s.now) values.now) ≡ None) }

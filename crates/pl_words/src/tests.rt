@@ -14,11 +14,73 @@ fn owned(rt: &HostRuntime, words: &[&str]) -> Result<Vec<String>, AllocError> {
 #[test]
 fn reads_runs(rt: HostRuntime) -> Result<(), Fail> {
     let table: [(&[&str], Option<&str>, Option<&str>); 5] = [
-        (&["run", "p", "s", "a", "b", "2024-01-03", "2024-01-04"], None, None),
-        (&["run", "p", "s", "a", "b", "2024-01-03", "2024-01-04", "--labels", "l"], Some("l"), None),
-        (&["run", "--adjustments=--", "p", "s", "a", "--labels", "l", "b", "2024-01-03", "2024-01-04"], Some("l"), Some("--")),
-        (&["run", "--labels=-l=", "--", "p", "s", "-a", "b", "2024-01-03", "2024-01-04"], Some("-l="), None),
-        (&["run", "p", "--adjustments", "d", "--", "s", "--", "b", "2024-01-03", "2024-01-04"], None, Some("d")),
+        (
+            &["run", "p", "s", "a", "b", "2024-01-03", "2024-01-04"],
+            None,
+            None,
+        ),
+        (
+            &[
+                "run",
+                "p",
+                "s",
+                "a",
+                "b",
+                "2024-01-03",
+                "2024-01-04",
+                "--labels",
+                "l",
+            ],
+            Some("l"),
+            None,
+        ),
+        (
+            &[
+                "run",
+                "--adjustments=--",
+                "p",
+                "s",
+                "a",
+                "--labels",
+                "l",
+                "b",
+                "2024-01-03",
+                "2024-01-04",
+            ],
+            Some("l"),
+            Some("--"),
+        ),
+        (
+            &[
+                "run",
+                "--labels=-l=",
+                "--",
+                "p",
+                "s",
+                "-a",
+                "b",
+                "2024-01-03",
+                "2024-01-04",
+            ],
+            Some("-l="),
+            None,
+        ),
+        (
+            &[
+                "run",
+                "p",
+                "--adjustments",
+                "d",
+                "--",
+                "s",
+                "--",
+                "b",
+                "2024-01-03",
+                "2024-01-04",
+            ],
+            None,
+            Some("d"),
+        ),
     ];
     for (words, labels, adjustments) in table {
         let words = owned(&rt, words)?;
@@ -26,7 +88,10 @@ fn reads_runs(rt: HostRuntime) -> Result<(), Fail> {
             Ok(Some(Request::Run(run))) => {
                 assert_eq!(rt; (run.pipeline, run.sessions, run.bars), ("p", "s", "b"));
                 assert_eq!(rt; (run.from.day, run.to.day), (19_725, 19_726));
-                assert_eq!(rt; (run.options.labels, run.options.adjustments), (labels, adjustments));
+                assert_eq!(rt;
+                    (run.options.labels, run.options.adjustments),
+                    (labels, adjustments)
+                );
             }
             _ => return Err("no run")?,
         }
