@@ -98,3 +98,115 @@ fn reads_runs(rt: HostRuntime) -> Result<(), Fail> {
     }
     Ok(())
 }
+
+#[test]
+fn refuses_words(rt: HostRuntime) -> Result<(), Fail> {
+    let table: [&[&str]; 16] = [
+        &["run", "p.pl"],
+        &[
+            "run",
+            "p",
+            "s",
+            "a",
+            "b",
+            "2024-01-03",
+            "2024-01-04",
+            "--chunk",
+            "0",
+        ],
+        &[
+            "run",
+            "p",
+            "s",
+            "a",
+            "b",
+            "2024-01-03",
+            "2024-01-04",
+            "--chunk",
+            "4097",
+        ],
+        &[
+            "run",
+            "p",
+            "s",
+            "a",
+            "b",
+            "2024-01-03",
+            "2024-01-04",
+            "--chunk",
+            "2",
+            "--chunk",
+            "2",
+        ],
+        &[
+            "run",
+            "p",
+            "s",
+            "a",
+            "b",
+            "2024-01-03",
+            "2024-01-04",
+            "--help",
+        ],
+        &[
+            "run",
+            "p",
+            "s",
+            "a",
+            "b",
+            "2024-01-03",
+            "2024-01-04",
+            "--labels=l",
+            "--labels",
+            "l",
+        ],
+        &[
+            "run",
+            "p",
+            "s",
+            "a",
+            "b",
+            "2024-01-03",
+            "2024-01-04",
+            "--labels",
+            "--",
+            "l",
+        ],
+        &[
+            "run",
+            "p",
+            "s",
+            "a",
+            "b",
+            "2024-01-03",
+            "2024-01-04",
+            "--labels=",
+        ],
+        &[
+            "run",
+            "p",
+            "s",
+            "a",
+            "b",
+            "2024-01-03",
+            "2024-01-04",
+            "--label",
+            "l",
+        ],
+        &[],
+        &["--", "fmt", "p"],
+        &["fmt", "p", "q"],
+        &["fmt", ""],
+        &["fmt", "--", "-"],
+        &["check", "-p"],
+        &["check", "--labels", "l", "p"],
+    ];
+    for words in table {
+        let words = owned(&rt, words)?;
+        match read_words(rt.alloc(), words.as_slice()) {
+            Ok(None) => {}
+            _ => return Err("read")?,
+        }
+    }
+    Ok(())
+}
