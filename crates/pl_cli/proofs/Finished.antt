@@ -1,7 +1,11 @@
 -- From the end of a command to the status and the line of the program.
-use Rattle.std.proofs.Common.{◌≡◌, ◌⊎◌, inl, inr, ℕ, List, length, Bool, arith, IsTrue, IsSome, Option, Some, None, Result, Ok, Err, refl, MatchOption, option_map, Bor}
-use Rattle.std.specs.Option.{option_copied}
-use Rattle.pl_words.specs.Request.{Request, adjustments_of}
+use Rattle.std.proofs.Common.{◌≡◌, ◌⊎◌, inl, inr, ℕ, List, [], length, Bool, arith, IsTrue, IsSome, Option, Some, None, Result, Ok, Err, refl, MatchOption, option_map, Bor}
+use Rattle.std.specs.Option.{option_copied, ForSome}
+use Rattle.pl_outside.specs.Files.{Files}
+use Rattle.pl_outside.specs.Lists.{Lists}
+use Rattle.pl_outside.specs.declared.keeper.Table.{Table}
+use Rattle.pl_spec.specs.declared.RawAdjust.{RawAdjust}
+use Rattle.pl_words.specs.Request.{Request, name_asked, adjustments_of}
 use Rattle.pl_words.specs.Views.{request_of}
 use Rattle.pl_words.specs.declared.request.Request.{Request as Code}
 use Rattle.pl_judge.specs.declared.fault.Fault.{Fault}
@@ -130,3 +134,35 @@ pub asked-lent : (words : Option Request) (asked : Option Code) (lent : Option (
     → option_copied lent ≡ asked → words ≡ option_map (λ q. request_of q.now) lent
 asked-lent words asked None h e = let g = rw (← e) at h in g
 asked-lent words asked (Some r) h e = let g = rw (← e) at h in g
+
+-- ---- where memory ran out before the words were read
+
+abbrev told-file : Option (List ℕ) → Option Files → Option (List ℕ)
+told-file None files = None
+told-file (Some name) None = None
+told-file (Some name) (Some told) = told name
+
+abbrev told-rows : Option (List ℕ) → Option Lists → Table → List RawAdjust
+told-rows None lists table = []
+told-rows (Some name) None table = []
+told-rows (Some name) (Some told) table = told name table
+
+file-told : (name : Option (List ℕ)) (files : Option Files) → ForSome name (λ n. ForSome files (λ told. told-file name files ≡ told n))
+file-told None files n is told has = absurd (cc)
+file-told (Some name) None n is told has = absurd (cc)
+file-told (Some name) (Some held) n is told has = cc
+
+rows-told : (name : Option (List ℕ)) (lists : Option Lists) (table : Table) → ForSome name (λ n. ForSome lists (λ told. told-rows name lists table ≡ told n table))
+rows-told None lists table n is told has = absurd (cc)
+rows-told (Some name) None table n is told has = absurd (cc)
+rows-told (Some name) (Some held) table n is told has = cc
+
+pub no-words : {T : Type 0} (o : Observed) (asked : Option Request) → o.steps_now ≡ o.steps → IsEnded {T = T} o asked (Err Memory)
+no-words o asked same =
+    record {
+      held = record { file = λ f. told-file (name_asked asked f) o.files; rows = λ t. told-rows (adjustments_of asked) o.lists t };
+      are_held = record { files_held = λ f. file-told (name_asked asked f) o.files; rows_held = λ t. rows-told (adjustments_of asked) o.lists t };
+      done = tt;
+      ended = inr tt;
+      most = omega (arith, same);
+    }

@@ -18,9 +18,9 @@ use std::sync::ledger::Ledger;
 
 /// Runs the program on the words after its name:
 ///
-/// - `run PIPELINE SESSIONS ASSETS BARS FROM TO`, with `--labels NAME` and then `--adjustments NAME` behind these words or
-///   without them, reads the files from the shelf and the adjustments from the keeper, and writes the table of the sessions
-///   FROM to TO to `out`;
+/// - `run PIPELINE SESSIONS ASSETS BARS FROM TO`, with the options `--labels NAME` and `--adjustments NAME` anywhere among these
+///   words, reads the files from the shelf and the adjustments from the keeper, and writes the table of the sessions FROM to TO
+///   to `out`;
 /// - `fmt PIPELINE` writes the canonical text of the pipeline file;
 /// - `check PIPELINE` writes how many terms and columns its pipeline has.
 ///
@@ -52,9 +52,9 @@ pub fn run_program<S: Shelf, K: AdjustKeeper, O: Sink, E: Sink, L: Ledger>(
         (line : List ℕ) × IsRun (observed S.holds S.sound K.lists K.sound O.taken O.sound O.room shelf.old keeper.old out.old out.new
         steps.old steps.new) asked result line × IsTold E.taken E.faults E.sound E.room err.old err.new line }
 
-    // The words decide of status 2, and a part that failed has counted it.
+    // The words decide of status 2, unless memory runs out as they are read, and a part that failed has counted it.
     ensures usage { result ≡ 2 → request (map (λ s. string_bytes s) words.now) ≡ None }
-    ensures refused { request (map (λ s. string_bytes s) words.now) ≡ None → result ≡ 2 }
+    ensures refused { request (map (λ s. string_bytes s) words.now) ≡ None → ¬ (result ≡ 10) → result ≡ 2 }
     ensures read { result ≡ 7 → Rose (S.faults shelf.old) (S.faults shelf.new) }
     ensures store { result ≡ 8 → Rose (K.faults keeper.old) (K.faults keeper.new) }
     ensures write { result ≡ 9 → Rose (O.faults out.old) (O.faults out.new) }
@@ -71,9 +71,13 @@ pub fn run_program<S: Shelf, K: AdjustKeeper, O: Sink, E: Sink, L: Ledger>(
     ensures out { LeavesSink O.sound O.faults out.old out.new }
     ensures err { LeavesSink E.sound E.faults err.old err.new }
 {
-    let asked = read_words(words);
-    let ended = answer(alloc, asked.as_ref(), shelf, keeper, out, steps);
-    finish(ended, asked.as_ref(), err)
+    match read_words(alloc, words) {
+        Ok(asked) => {
+            let ended = answer(alloc, asked.as_ref(), shelf, keeper, out, steps);
+            finish(ended, asked.as_ref(), err)
+        }
+        Err(_) => finish(Err(Fault::Memory), None, err),
+    }
 }
 
 // Does the work that is asked for, up to what is told of it.

@@ -9,15 +9,17 @@ ghost use Rattle.std.specs.IoError.{error_kind};
 ghost use Rattle.std.specs.Process.{exit_status};
 ghost use Rattle.pl_outside.specs.Counts.{Rose};
 
+mod file_keeper;
 mod file_shelf;
 mod stream;
 #[cfg(test)]
 mod tests;
 
+use file_keeper::FileKeeper;
 use file_shelf::FileShelf;
 use pl_cli::run_program;
 use pl_fixed::Steps;
-use pl_outside::{NoKeeper, Sink, write_bytes};
+use pl_outside::{Sink, write_bytes};
 use std::alloc::AllocFailed;
 use std::env;
 use std::io::{self, BufWriter, ErrorKind, Write};
@@ -121,7 +123,7 @@ fn run<L: Ledger, O: Sink, E: Sink>(
 {
     let mut steps = Steps::<L>::new(blank);
     let mut shelf = FileShelf::new(rt);
-    let mut keeper = NoKeeper::new();
+    let mut keeper = FileKeeper::new(rt);
     run_program(
         rt.alloc(),
         words,

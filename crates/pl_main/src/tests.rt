@@ -1,6 +1,7 @@
 // The adapters over files of the system: as it should be, and where the system refuses.
 use super::*;
-use pl_outside::{Failed, ReadError, Shelf, read_file};
+use pl_outside::{AdjustKeeper, Failed, KeepError, RawAdjust, ReadError, Shelf, Table, read_file};
+use sqlite::Connection;
 use std::alloc::AllocError;
 use std::fs::{self, File, OpenOptions};
 use std::test::Fail;
@@ -93,5 +94,75 @@ fn statuses_without_standard_error(rt: HostRuntime) -> Result<(), Fail> {
         assert_eq!(rt; left, status);
         assert_eq!(rt; err.faults, 1, "at {status}");
     }
+    Ok(())
+}
+
+const SPLITS: &str =
+    "CREATE TABLE splits (id INTEGER PRIMARY KEY, effective_date INTEGER NOT NULL, \
+    num INTEGER NOT NULL, den INTEGER NOT NULL, sid INTEGER NOT NULL) STRICT; \
+    INSERT INTO splits VALUES (2, 1704326400, 1, 2, 1)";
+
+/// Makes a database file.
+fn make(rt: &HostRuntime, path: &str, script: &str) -> Result<(), sqlite::Error> {
+    let mut connection = Connection::open(rt, path)?;
+    connection.execute_batch(script)?;
+    connection.close()
+}
+
+#[test]
+fn reads_database_files(rt: HostRuntime) -> Result<(), Fail> {
+    make(&rt, "closed.db", SPLITS)?;
+    make(
+        &rt,
+        "null.db",
+        "CREATE TABLE splits (id, effective_date, num, den, sid); INSERT INTO splits VALUES (1, 2, NULL, 4, 5)",
+    )?;
+    fs::write(&rt, "text.db", "id,effective_date,num,den,sid\n")?;
+    fs::write(&rt, "empty.db", "")?;
+    make(&rt, "cut.db", SPLITS)?;
+    fs::write(&rt, "cut.db-journal", [0xd9u8, 0xd5].as_slice())?;
+    // what is written to an open file stands in its log alone
+    let mut open = Connection::open(&rt, "open.db")?;
+    open.execute_batch(SPLITS)?;
+    let bytes = fs::read(&rt, "closed.db")?;
+    let mut keeper = FileKeeper::new(&rt);
+    let mut rows = Vec::new(rt.alloc());
+    for (name, table, loaded, faults, count) in [
+        ("closed.db", Table::Splits, Ok(()), 0, 1),
+        ("open.db", Table::Splits, Ok(()), 0, 2),
+        ("closed.db", Table::Mergers, Err(KeepError::Failed), 1, 2),
+        ("null.db", Table::Splits, Err(KeepError::Failed), 2, 2),
+        ("text.db", Table::Splits, Err(KeepError::Failed), 3, 2),
+        ("empty.db", Table::Splits, Err(KeepError::Failed), 4, 2),
+        ("cut.db", Table::Splits, Err(KeepError::Failed), 5, 2),
+        ("no-such.db", Table::Splits, Err(KeepError::Failed), 6, 2),
+        (".", Table::Splits, Err(KeepError::Failed), 7, 2),
+    ] {
+        assert_eq!(rt;
+            keeper.load(rt.alloc(), name, table, &mut rows),
+            loaded,
+            "{name}"
+        );
+        assert_eq!(rt; (keeper.faults, rows.len()), (faults, count), "{name}");
+    }
+    let split = RawAdjust {
+        id: 2,
+        effective: 1_704_326_400,
+        num: 1,
+        den: 2,
+        sid: 1,
+    };
+    assert_eq!(rt; rows.as_slice(), [split, split].as_slice());
+    // no file is made or changed
+    for name in [
+        "no-such.db",
+        "no-such.db-wal",
+        "empty.db-wal",
+        "text.db-wal",
+    ] {
+        assert!(rt; fs::read(&rt, name).is_err(), "{name}");
+    }
+    assert!(rt; fs::read(&rt, "empty.db")?.is_empty());
+    assert_eq!(rt; fs::read(&rt, "closed.db")?.as_slice(), bytes.as_slice());
     Ok(())
 }

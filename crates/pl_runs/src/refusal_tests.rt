@@ -182,7 +182,6 @@ fn refuses_words(rt: HostRuntime) -> Result<(), Fail> {
         "run p.pl sessions.csv assets.csv bars.csv 2024-01-03 2024-01-09 --labels -x",
         "run p.pl sessions.csv assets.csv bars.csv 2024-01-03 2024-01-09 --labels ",
         "run p.pl sessions.csv assets.csv bars.csv 2024-01-03 2024-01-09 --labels labels.csv --labels labels.csv",
-        "run p.pl sessions.csv assets.csv bars.csv 2024-01-03 2024-01-09 --adjustments adj.db --labels labels.csv",
     ] {
         let words = words_of(alloc, text)?;
         let got = answer(alloc, &words, ("p.pl", PIPELINE), NO_ROWS)?;

@@ -1,10 +1,17 @@
 -- What the words ask for.
-use Rattle.std.specs.Prelude.{ℕ, suc, ℤ, List, [], ◌∷◌, Bool, false, not, ◌&&◌, ◌==◌, if◌then◌else◌, Option, Some, None, option_map, option_and_then, length, unwrap_or, slice_get, bytes_eq, codes}
+use Rattle.std.specs.Prelude.{ℕ, ℤ, List, [], ◌∷◌, ◌==◌, if◌then◌else◌, Option, Some, None, option_map, option_and_then, length, slice_index_or}
+use Rattle.std.specs.List.{list_all}
 use Rattle.pl_spec.specs.Dates.{date_in}
 use Rattle.pl_words.specs.declared.request.RangeDate.{RangeDate}
 use Rattle.pl_words.specs.declared.request.RangeDate.TheVariants.{From, To}
 use Rattle.pl_words.specs.declared.request.InputFile.{InputFile}
 use Rattle.pl_words.specs.declared.request.InputFile.TheVariants.{Pipeline, Sessions, Assets, Labels, Bars}
+use Rattle.pl_words.specs.declared.commands.OptionName.{OptionName}
+use Rattle.pl_words.specs.declared.commands.OptionName.TheVariants as option
+use Rattle.pl_words.specs.declared.commands.CommandName.{CommandName}
+use Rattle.pl_words.specs.declared.commands.CommandName.TheVariants as command
+use Rattle.pl_words.specs.Commands.{command_named, places_of, options_of}
+use Rattle.pl_words.specs.Parts.{Word, parts, names_of, values_of, is_text, one_value}
 
 -- a date as it is written, and its day
 pub record Dated : Type 0 where
@@ -32,71 +39,60 @@ pub data Request : Type 0 where
   Fmt : (pipeline : List ℕ) → Request
   Check : (pipeline : List ℕ) → Request
 
--- not empty, and not of the form of an option
-abbrev pub is_plain_word : List ℕ → Bool
-is_plain_word [] = false
-is_plain_word (b ∷ bs) = not (b == 45)
-
-abbrev pub word : List (List ℕ) → ℕ → List ℕ
-word words i = unwrap_or (slice_get words i) []
-
-abbrev pub dated : List ℕ → Option Dated
+abbrev pub dated : Word → Option Dated
 dated text = option_map (λ day. record { text = text; day = day }) (date_in text)
 
--- an option of this name stands at i, and its value behind it
-abbrev pub is_option : List (List ℕ) → ℕ → List ℕ → Bool
-is_option words i name = bytes_eq (word words i) name && is_plain_word (word words (suc i))
+abbrev pub name : List Word → ℕ → Word
+name names i = slice_index_or names i []
 
-abbrev pub one_option : List (List ℕ) → Option Options
-one_option words =
-    if is_option words 7 (codes "--labels") then Some (record { labels = Some (word words 8); adjustments = None })
-    else if is_option words 7 (codes "--adjustments") then Some (record { labels = None; adjustments = Some (word words 8) })
+-- the values that each option was given
+abbrev pub Values : Type 0
+Values = OptionName → List Word
+
+abbrev pub options_by : Values → Option Options
+options_by values =
+    option_and_then (λ labels. option_map (λ adjustments. record { labels = labels; adjustments = adjustments })
+    (one_value (values option.Adjustments))) (one_value (values option.Labels))
+
+abbrev pub run_over : List Word → Dated → Dated → Options → RunRequest
+run_over names from to options =
+    record {
+      pipeline = name names 0;
+      sessions = name names 1;
+      assets = name names 2;
+      bars = name names 3;
+      from = from;
+      to = to;
+      options = options;
+    }
+
+-- four names, two dates and the options
+abbrev pub run_in : List Word → Values → Option RunRequest
+run_in names values =
+    option_and_then (λ from. option_and_then (λ to. option_map (run_over names from to) (options_by values))
+    (dated (name names 5))) (dated (name names 4))
+
+-- what a command asks for by its names and its options' values
+abbrev pub request_in : CommandName → List Word → Values → Option Request
+request_in command.Run names values = option_map Run (run_in names values)
+request_in command.Check names values = Some (Check (name names 0))
+request_in command.Fmt names values = Some (Fmt (name names 0))
+
+-- It takes exactly its number of names.
+unfoldable pub counted : CommandName → List Word → Values → Option Request
+counted command names values = if length names == places_of command then request_in command names values else None
+
+-- No word behind the command is empty or a hyphen alone.
+abbrev pub asked : CommandName → List Word → Option Request
+asked command words =
+    if list_all is_text words then
+    option_and_then (λ ps. counted command (names_of ps) (λ option. values_of option ps)) (parts (options_of command) None words)
     else None
 
-abbrev pub two_options : List (List ℕ) → Option Options
-two_options words =
-    if is_option words 7 (codes "--labels") && is_option words 9 (codes "--adjustments")
-    then Some (record { labels = Some (word words 8); adjustments = Some (word words 10) })
-    else None
-
--- behind the seven words of a run: nothing, `--labels NAME`, `--adjustments NAME`, or both in this order
-abbrev pub run_options : List (List ℕ) → Option Options
-run_options words =
-    if length words == 7 then Some (record { labels = None; adjustments = None })
-    else if length words == 9 then one_option words
-    else if length words == 11 then two_options words
-    else None
-
--- the command and four names
-abbrev pub is_run : List (List ℕ) → Bool
-is_run words =
-    bytes_eq (word words 0) (codes "run") && (is_plain_word (word words 1) && (is_plain_word (word words 2)
-    && (is_plain_word (word words 3) && is_plain_word (word words 4))))
-
-abbrev pub run_over : List (List ℕ) → Options → Dated → Dated → RunRequest
-run_over words options from to =
-    record { pipeline = word words 1; sessions = word words 2; assets = word words 3; bars = word words 4; from = from; to = to; options = options }
-
--- two dates behind the command and the names
-abbrev pub run_with : List (List ℕ) → Options → Option RunRequest
-run_with words options =
-    if is_run words then
-    option_and_then (λ from. option_map (run_over words options from) (dated (word words 6))) (dated (word words 5))
-    else None
-
-abbrev pub run_request : List (List ℕ) → Option RunRequest
-run_request words = option_and_then (run_with words) (run_options words)
-
--- this command and a name, and no other words
-abbrev pub is_of_file : List (List ℕ) → List ℕ → Bool
-is_of_file words command =
-    length words == 2 && (bytes_eq (word words 0) command && is_plain_word (word words 1))
-
-unfoldable pub request : List (List ℕ) → Option Request
-request words =
-    if is_of_file words (codes "fmt") then Some (Fmt (word words 1))
-    else if is_of_file words (codes "check") then Some (Check (word words 1))
-    else option_map Run (run_request words)
+-- the first word is the command
+unfoldable pub request : List Word → Option Request
+request [] = None
+request (first ∷ words) = option_and_then (λ command. asked command words) (command_named first)
 
 -- the name of a file of a command, where the command has such a file
 abbrev pub run_name : RunRequest → InputFile → Option (List ℕ)

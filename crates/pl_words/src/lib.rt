@@ -1,11 +1,21 @@
 //! What the words of a command ask for: the command, the names of its files, its dates and its options.
+//!
+//! The definition is a short one over lists of words (`specs/Request.antt`), with the commands and their options as data. clap
+//! cuts the words; our own code picks the command, judges words that begin with one hyphen, counts names and options, and
+//! reads values.
 #![tactic(auto)]
 
+mod commands;
+mod cut;
+mod options;
+mod read;
 mod request;
-mod words;
+#[cfg(test)]
+mod tests;
+mod text;
 
+pub use read::read_words;
 pub use request::{
     DateWord, InputFile, Options, RangeDate, Request, RunRequest, adjustments_asked, date_asked,
     name_asked,
 };
-pub use words::read_words;

@@ -1,0 +1,91 @@
+// The keeper over one connection.
+ghost use Rattle.std.specs.Prelude.{◌≡◌, List, None, Err, OnOk, OnErr, length, string_bytes, false};
+ghost use Rattle.sqlite.specs.State.{HasCleanDisk};
+ghost use Rattle.sqlite.specs.Held.{state};
+ghost use Rattle.pl_outside.specs.declared.keeper.Table.{Table};
+ghost use Rattle.pl_outside.specs.Counts.{count_end, count_plus};
+ghost use Rattle.pl_adjust_sql.specs.Tables.{statement_of};
+ghost use Rattle.pl_adjust_sql.specs.Reads.{AppendsAnswer, AppendsRows, Begins, count_after};
+ghost use Rattle.pl_adjust_sql.specs.Refusals.{IsRefused};
+
+use crate::read::read_table;
+use crate::refusal::TableError;
+use pl_outside::{AdjustKeeper, KeepError, RawAdjust, Table};
+use sqlite::{Alter, Connection};
+use std::alloc::Global;
+
+/// The tables of one connection, under one name. A load by another name, and each refusal of a statement or a value, is a
+/// counted fault. It tells nothing of what it holds: what a load appends is what `read_table` does.
+#[derive(Drop)]
+pub struct SqlKeeper<S: Alter> {
+    connection: Connection<S>,
+    name: String,
+    pub(crate) faults: u64,
+}
+
+impl<S: Alter> SqlKeeper<S> {
+    /// No fault is counted yet.
+    pub fn new(connection: Connection<S>, name: String) -> SqlKeeper<S>
+        ensures { result ≡ record { connection = connection; name = name; faults = 0 } }
+    {
+        SqlKeeper {
+            connection,
+            name,
+            faults: 0,
+        }
+    }
+
+    fn failed(&mut self) -> KeepError
+        ensures failed { result ≡ KeepError.Failed }
+        ensures count { self.new ≡ record self.old { faults = count_plus self.old.faults 1 } }
+    {
+        self.faults = self.faults.saturating_add(1);
+        KeepError::Failed
+    }
+}
+
+impl<S: Alter> AdjustKeeper for SqlKeeper<S> {
+    ghost lists = { λ _. None };
+
+    ghost faults = { λ keeper. keeper.faults };
+
+    // it counts no calls, so that their count stands at its end
+    ghost calls = { λ _. count_end };
+
+    ghost sound = { λ _. false };
+
+    fn load(
+        &mut self,
+        alloc: Global,
+        name: &str,
+        table: Table,
+        into: &mut Vec<RawAdjust>,
+    ) -> Result<(), KeepError>
+        ensures other { ¬ (string_bytes self.old.name ≡ name.now) → result ≡ Err KeepError.Failed }
+        ensures statement { HasCleanDisk (state S.Store self.new.connection)
+            → OnOk result (AppendsAnswer table (state S.Store self.old.connection) (state S.Store self.new.connection) into.old.items into.new.items) }
+        ensures rows { HasCleanDisk (state S.Store self.new.connection)
+            → (before : List Table) → Begins (state S.Store self.old.connection).now.schema before table
+            → OnOk result (AppendsRows ((state S.Store self.old.connection).now.trees (length before)) into.old.items into.new.items) }
+        ensures refused { HasCleanDisk (state S.Store self.new.connection) → string_bytes self.old.name ≡ name.now
+            → result ≡ Err KeepError.Failed → IsRefused (statement_of table) (state S.Store self.old.connection) (state S.Store self.new.connection) }
+        ensures same { OnErr result (into.new.items ≡ into.old.items) }
+        ensures count { self.new.faults ≡ count_after self.old.faults result }
+        ensures name { self.new.name ≡ self.old.name }
+    {
+        if self.name.as_str() != name {
+            return Err(self.failed());
+        }
+        match read_table(alloc, &mut self.connection, table, into) {
+            Ok(()) => Ok(()),
+            Err(TableError::Memory) => Err(KeepError::Memory),
+            Err(TableError::Refused) => Err(self.failed()),
+        }
+    }
+
+    ghost use Rattle.std.proofs.Common.{rules};
+
+    ghost sound_tells = { Prim.search rules };
+
+    ghost lists_ascend = { Prim.search rules };
+}

@@ -1,0 +1,158 @@
+// The database files of the disk.
+ghost use Rattle.std.specs.Prelude.{◌≡◌, ◌==◌, ◌↔◌, None, IfOk, IsTrue, OnErr, false, not, slice_index_or};
+ghost use Rattle.std.specs.IoError.{error_kind};
+ghost use Rattle.sqlite_disk.specs.Memory.{memory_bytes, memory_is_usable};
+ghost use Rattle.pl_outside.specs.Counts.{count_end, count_plus};
+
+use pl_adjust_sql::{TableError, read_table};
+use pl_outside::{AdjustKeeper, KeepError, RawAdjust, Table};
+use sqlite::{Connection, Error, ErrorCode, FileStore, Files, Options};
+use sqlite_disk::{Disk, Memory};
+use std::alloc::Global;
+use std::fs;
+use std::io::{self, ErrorKind};
+
+/// Database files of SQLite by their paths: each load opens the named file and reads its table. It tells nothing but its
+/// faults.
+#[derive(Drop)]
+pub struct FileKeeper<'a> {
+    rt: &'a HostRuntime,
+    pub(crate) faults: u64,
+}
+
+impl<'a> FileKeeper<'a> {
+    /// No file is opened yet.
+    pub fn new(rt: &'a HostRuntime) -> FileKeeper<'a>
+        ensures { result.faults ≡ 0 }
+    {
+        FileKeeper { rt, faults: 0 }
+    }
+
+    fn failed(&mut self) -> KeepError
+        ensures count { self.new.faults ≡ count_plus self.old.faults 1 }
+        ensures failed { result ≡ KeepError.Failed }
+    {
+        self.faults = self.faults.saturating_add(1);
+        KeepError::Failed
+    }
+}
+
+impl AdjustKeeper for FileKeeper<'_> {
+    ghost lists = { λ _. None };
+
+    ghost faults = { λ s. s.faults };
+
+    // it counts no calls, so that their count stands at its end
+    ghost calls = { λ _. count_end };
+
+    ghost sound = { λ _. false };
+
+    fn load(
+        &mut self,
+        alloc: Global,
+        name: &str,
+        table: Table,
+        into: &mut Vec<RawAdjust>,
+    ) -> Result<(), KeepError> {
+        match read_named(self.rt, alloc, name, table, into) {
+            Ok(()) => Ok(()),
+            Err(TableError::Memory) => Err(KeepError::Memory),
+            Err(TableError::Refused) => Err(self.failed()),
+        }
+    }
+
+    ghost use Rattle.std.proofs.Common.{rules};
+
+    ghost sound_tells = { Prim.search rules };
+
+    ghost lists_ascend = { Prim.search rules };
+}
+
+fn read_named(
+    rt: &HostRuntime,
+    alloc: Global,
+    name: &str,
+    table: Table,
+    into: &mut Vec<RawAdjust>,
+) -> Result<(), TableError>
+    ensures { OnErr result (into.new.items ≡ into.old.items) }
+{
+    let mut connection = open_copy(rt, alloc, name)?;
+    read_table(alloc, &mut connection, table, into)
+}
+
+// The file and the log beside it are read whole and opened in memory: SQLite would make a file that isn't there, and would
+// write a log. An empty file is no database yet, and one whose transaction was cut off would first have to be mended.
+fn open_copy(
+    rt: &HostRuntime,
+    alloc: Global,
+    name: &str,
+) -> Result<Connection<FileStore<Memory>>, TableError> {
+    let bytes = fs::read(rt, name).map_err(read_error)?;
+    if bytes.is_empty() || is_cut_off(bytes_beside(rt, alloc, name, "journal")?.as_slice()) {
+        return Err(TableError::Refused);
+    }
+    let db = copy_of(alloc, bytes.as_slice())?;
+    let log = copy_of(alloc, bytes_beside(rt, alloc, name, "wal")?.as_slice())?;
+    match Connection::open_files(alloc, Files { log, db }, Options::new(1)) {
+        Ok(connection) => Ok(connection),
+        Err((error, _)) => Err(open_error(&error)),
+    }
+}
+
+// Whether this is a rollback journal that is to be played back: the first byte of another one is 0.
+fn is_cut_off(journal: &[u8]) -> bool
+    ensures { result ≡ not (slice_index_or journal.now 0 0 == 0) }
+{
+    match journal {
+        [] => false,
+        [first, ..] => *first != 0,
+    }
+}
+
+// The bytes of SQLite's file of that kind beside a database file, and none where there is no such file.
+fn bytes_beside(
+    rt: &HostRuntime,
+    alloc: Global,
+    name: &str,
+    kind: &str,
+) -> Result<Vec<u8>, TableError> {
+    let Ok(path) = format!(in alloc; "{name}-{kind}") else {
+        return Err(TableError::Memory);
+    };
+    match fs::read(rt, path.as_str()) {
+        Ok(bytes) => Ok(bytes),
+        Err(error) => match error.kind() {
+            ErrorKind::NotFound => Ok(Vec::new(alloc)),
+            _ => Err(read_error(error)),
+        },
+    }
+}
+
+fn copy_of(alloc: Global, bytes: &[u8]) -> Result<Memory, TableError>
+    ensures { IfOk result (λ disk. IsTrue (memory_is_usable disk) × (memory_bytes disk ≡ bytes.now)) }
+{
+    let mut disk = Memory::new(alloc);
+    match disk.write_at(0, bytes) {
+        Ok(()) => Ok(disk),
+        Err(_) => Err(TableError::Memory),
+    }
+}
+
+fn read_error(error: io::Error) -> TableError
+    ensures { result ≡ TableError.Memory ↔ (error_kind error ≡ ErrorKind.OutOfMemory) }
+{
+    match error.kind() {
+        ErrorKind::OutOfMemory => TableError::Memory,
+        _ => TableError::Refused,
+    }
+}
+
+fn open_error(error: &Error) -> TableError
+    ensures { result ≡ TableError.Memory ↔ (error.now ≡ Error.SqliteFailure ErrorCode.OutOfMemory) }
+{
+    match error {
+        Error::SqliteFailure(ErrorCode::OutOfMemory) => TableError::Memory,
+        _ => TableError::Refused,
+    }
+}

@@ -1,0 +1,63 @@
+-- Worked rows of what words ask for.
+use Rattle.std.proofs.Common.{◌≡◌, pos, refl, codes, List, [], ◌∷◌, ◌++◌, map, Option, Some, None}
+use Rattle.jiff_core.specs.Calendar.{days_from_civil, day_count, days_of_years, days_of_months}
+use Rattle.std.specs.Fmt.{digits as decimal_digits}
+use Rattle.pl_spec.specs.Dates.{digits, date_text, day_if, date_in}
+use Rattle.pl_words.specs.Parts.{Word}
+use Rattle.pl_words.specs.Request.{request, counted, Request, Run, Fmt, Check}
+
+abbrev names : List Word
+names = codes "p.pl" ∷ codes "sessions.csv" ∷ codes "assets.csv" ∷ codes "bars.csv" ∷ []
+
+abbrev dates : List Word
+dates = codes "2024-01-03" ∷ codes "2024-01-04" ∷ []
+
+abbrev asks : Option Word → Option Word → Option Request
+asks labels adjustments = Some (Run (record {
+  pipeline = codes "p.pl";
+  sessions = codes "sessions.csv";
+  assets = codes "assets.csv";
+  bars = codes "bars.csv";
+  from = record { text = codes "2024-01-03"; day = pos 19725 };
+  to = record { text = codes "2024-01-04"; day = pos 19726 };
+  options = record { labels = labels; adjustments = adjustments };
+}))
+
+no_options : request (codes "run" ∷ (names ++ dates)) ≡ asks None None
+unfolding request counted date_in day_if days_from_civil day_count days_of_years days_of_months decimal_digits digits date_text
+no_options = refl
+
+mixed : request (codes "run" ∷ codes "--labels=-l" ∷ (names ++ codes "--adjustments" ∷ codes "a.db" ∷ codes "--" ∷ dates)) ≡ asks (Some (codes "-l")) (Some (codes "a.db"))
+unfolding request counted date_in day_if days_from_civil day_count days_of_years days_of_months decimal_digits digits date_text
+mixed = refl
+
+named_as_options : map request ((codes "fmt" ∷ codes "--" ∷ codes "--" ∷ []) ∷ (codes "check" ∷ codes "--" ∷ codes "-p" ∷ []) ∷ []) ≡ Some (Fmt (codes "--")) ∷ Some (Check (codes "-p")) ∷ []
+unfolding request counted
+named_as_options = refl
+
+refused : map request (
+    []
+    ∷ (codes "format" ∷ codes "p.pl" ∷ [])
+    ∷ (codes "fmt" ∷ [])
+    ∷ (codes "fmt" ∷ codes "p.pl" ∷ codes "q.pl" ∷ [])
+    ∷ (codes "fmt" ∷ [] ∷ [])
+    ∷ (codes "fmt" ∷ codes "--" ∷ codes "-" ∷ [])
+    ∷ (codes "fmt" ∷ codes "-p" ∷ [])
+    ∷ (codes "fmt" ∷ codes "--help" ∷ [])
+    ∷ (codes "fmt" ∷ codes "--labels" ∷ codes "l" ∷ codes "p.pl" ∷ []) ∷ [])
+    ≡ None ∷ None ∷ None ∷ None ∷ None ∷ None ∷ None ∷ None ∷ None ∷ []
+unfolding request counted
+refused = refl
+
+refused_runs : map (λ (options : List Word). request (codes "run" ∷ (options ++ (names ++ dates)))) (
+    (codes "--labels" ∷ codes "a" ∷ codes "--labels" ∷ codes "a" ∷ [])
+    ∷ (codes "--labels" ∷ codes "--" ∷ codes "a" ∷ [])
+    ∷ (codes "--labels" ∷ codes "-a" ∷ [])
+    ∷ (codes "--labels=" ∷ [])
+    ∷ (codes "--labels=-" ∷ [])
+    ∷ (codes "--label" ∷ codes "a" ∷ [])
+    ∷ (codes "--chunk" ∷ codes "2" ∷ [])
+    ∷ (codes "--stats" ∷ []) ∷ [])
+    ≡ None ∷ None ∷ None ∷ None ∷ None ∷ None ∷ None ∷ None ∷ []
+unfolding request counted date_in day_if digits
+refused_runs = refl

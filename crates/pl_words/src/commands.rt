@@ -1,0 +1,77 @@
+// The commands and their options, as data.
+ghost use Rattle.std.specs.Prelude.{◌≡◌};
+ghost use Rattle.pl_words.specs.Parts.{text_of, has_value};
+ghost use Rattle.pl_words.specs.Commands.{command_named, places_of, options_of};
+
+/// What the first word asks for.
+#[derive(Clone, Copy, Debug, PartialEq, Eq)]
+pub enum CommandName {
+    Run,
+    Check,
+    Fmt,
+}
+
+/// The options, of which a command knows some. Those that no command knows yet are refused everywhere.
+#[derive(Clone, Copy, Debug, PartialEq, Eq)]
+pub enum OptionName {
+    Labels,
+    Adjustments,
+    Chunk,
+    Format,
+    Stats,
+}
+
+pub(crate) fn command_named(word: &str) -> Option<CommandName>
+    ensures { result ≡ command_named word.now }
+{
+    match word {
+        "run" => Some(CommandName::Run),
+        "check" => Some(CommandName::Check),
+        "fmt" => Some(CommandName::Fmt),
+        _ => None,
+    }
+}
+
+impl CommandName {
+    /// How many names it takes.
+    pub(crate) fn places(self) -> usize
+        ensures { result ≡ places_of self }
+    {
+        match self {
+            CommandName::Run => 6,
+            CommandName::Check | CommandName::Fmt => 1,
+        }
+    }
+
+    /// The options that it knows.
+    pub(crate) fn options(self) -> &'static [OptionName]
+        ensures { result.now ≡ options_of self }
+    {
+        match self {
+            CommandName::Run => &[OptionName::Labels, OptionName::Adjustments],
+            CommandName::Check | CommandName::Fmt => &[],
+        }
+    }
+}
+
+impl OptionName {
+    /// What is written behind `--`.
+    pub(crate) fn text(self) -> &'static str
+        ensures { result.now ≡ text_of self }
+    {
+        match self {
+            OptionName::Labels => "labels",
+            OptionName::Adjustments => "adjustments",
+            OptionName::Chunk => "chunk",
+            OptionName::Format => "format",
+            OptionName::Stats => "stats",
+        }
+    }
+
+    /// Whether it has a value.
+    pub(crate) fn has_value(self) -> bool
+        ensures { result ≡ has_value self }
+    {
+        !matches!(self, OptionName::Stats)
+    }
+}

@@ -1,0 +1,34 @@
+// The options of a run, by the values that each was given.
+ghost use Rattle.std.specs.Prelude.{◌≡◌, None, Some, MatchOption};
+ghost use Rattle.pl_words.specs.Apps.{values_in};
+ghost use Rattle.pl_words.specs.Request.{dated, options_by};
+ghost use Rattle.pl_words.specs.Views.{dated_of, options_of};
+
+use crate::commands::OptionName;
+use crate::cut::value;
+use crate::request::{DateWord, Options};
+use clap::ArgMatches;
+use pl_fixed::read_day;
+
+pub(crate) fn options<'a>(matches: &ArgMatches<'a>) -> Option<Options<'a>>
+    ensures { MatchOption result (options_by (values_in matches.now) ≡ None)
+        (λ s. options_by (values_in matches.now) ≡ Some (options_of s)) }
+{
+    let Ok(labels) = value(matches, OptionName::Labels) else {
+        return None;
+    };
+    let Ok(adjustments) = value(matches, OptionName::Adjustments) else {
+        return None;
+    };
+    Some(Options {
+        labels,
+        adjustments,
+    })
+}
+
+pub(crate) fn date_in<'a>(text: &'a str) -> Option<DateWord<'a>>
+    ensures { MatchOption result (dated text.now ≡ None) (λ d. dated text.now ≡ Some (dated_of d)) }
+{
+    let day = read_day(text.as_bytes())?;
+    Some(DateWord { text, day })
+}

@@ -1,0 +1,109 @@
+// The words, read as a request.
+ghost use Rattle.std.specs.Prelude.{◌≡◌, None, Some, IfOk, MatchOption, map, length, string_bytes};
+ghost use Rattle.std.specs.List.{list_all};
+ghost use Rattle.pl_words.specs.Parts.{is_text};
+ghost use Rattle.pl_words.specs.Commands.{places_of};
+ghost use Rattle.pl_words.specs.Apps.{names_in, values_in};
+ghost use Rattle.pl_words.specs.Request.{asked, counted, request, request_in, run_in};
+ghost use Rattle.pl_words.specs.Views.{request_of, run_of};
+
+use crate::commands::{CommandName, command_named};
+use crate::cut::{cut, values};
+use crate::options::{date_in, options};
+use crate::request::{Request, RunRequest};
+use crate::text::is_text;
+use clap::ArgMatches;
+use pl_outside::Memory;
+use std::alloc::Global;
+
+/// What the words ask for; `None` where they have no command's form. The parser of the words takes memory.
+#[tactic(auto, unfolding(crate::specs::Request::request))]
+pub fn read_words<'a>(alloc: Global, words: &'a [String]) -> Result<Option<Request<'a>>, Memory>
+    ensures { IfOk result (λ o. MatchOption o (request (map (λ s. string_bytes s) words.now) ≡ None)
+        (λ r. request (map (λ s. string_bytes s) words.now) ≡ Some (request_of r))) }
+{
+    match words {
+        [] => Ok(None),
+        [first, rest @ ..] => match command_named(first.as_str()) {
+            None => Ok(None),
+            Some(command) => read_command(alloc, command, rest),
+        },
+    }
+}
+
+fn read_command<'a>(
+    alloc: Global,
+    command: CommandName,
+    words: &'a [String],
+) -> Result<Option<Request<'a>>, Memory>
+    ensures { IfOk result (λ o. MatchOption o (asked command (map (λ s. string_bytes s) words.now) ≡ None)
+        (λ r. asked command (map (λ s. string_bytes s) words.now) ≡ Some (request_of r))) }
+{
+    if !are_texts(words) {
+        return Ok(None);
+    }
+    match cut(alloc, command, words)? {
+        None => Ok(None),
+        Some(matches) => Ok(read_matches(command, &matches)),
+    }
+}
+
+fn read_matches<'a>(command: CommandName, matches: &ArgMatches<'a>) -> Option<Request<'a>>
+    ensures { MatchOption result
+        (counted command (names_in matches.now) (values_in matches.now) ≡ None)
+        (λ r. counted command (names_in matches.now) (values_in matches.now)
+        ≡ Some (request_of r)) }
+{
+    let names = values(matches, "names")?;
+    if names.len() == command.places() {
+        request_in(command, names, matches)
+    } else {
+        None
+    }
+}
+
+fn request_in<'a>(
+    command: CommandName,
+    names: &[&'a str],
+    matches: &ArgMatches<'a>,
+) -> Option<Request<'a>>
+    requires { length names.now ≡ places_of command }
+    ensures { MatchOption result
+        (request_in command (map (λ v. v.now) names.now) (values_in matches.now) ≡ None)
+        (λ r. request_in command (map (λ v. v.now) names.now) (values_in matches.now) ≡ Some (request_of r)) }
+{
+    match command {
+        CommandName::Run => Some(Request::Run(run_in(names, matches)?)),
+        CommandName::Check => Some(Request::Check(names[0])),
+        CommandName::Fmt => Some(Request::Fmt(names[0])),
+    }
+}
+
+fn run_in<'a>(names: &[&'a str], matches: &ArgMatches<'a>) -> Option<RunRequest<'a>>
+    requires { length names.now ≡ 6 }
+    ensures { MatchOption result
+        (run_in (map (λ v. v.now) names.now) (values_in matches.now) ≡ None)
+        (λ r. run_in (map (λ v. v.now) names.now) (values_in matches.now) ≡ Some (run_of r)) }
+{
+    let from = date_in(names[4])?;
+    let to = date_in(names[5])?;
+    let options = options(matches)?;
+    Some(RunRequest {
+        pipeline: names[0],
+        sessions: names[1],
+        assets: names[2],
+        bars: names[3],
+        from,
+        to,
+        options,
+    })
+}
+
+fn are_texts(words: &[String]) -> bool
+    ensures { result ≡ list_all is_text (map (λ s. string_bytes s) words.now) }
+{
+    match words {
+        [] => true,
+        [word, rest @ ..] => is_text(word.as_str()) && are_texts(rest),
+    }
+}
