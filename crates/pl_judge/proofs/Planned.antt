@@ -18,7 +18,7 @@ use Rattle.pl_terms.specs.Uses.{outputs, is_used}
 use Rattle.pl_planner.proofs.Pipelines.{IsPipeline, is-pipeline}
 use Rattle.pl_planner.proofs.Lows.{needs-back, back-used}
 use Rattle.pl_planner.specs.Plans.{Planned, IsPlanOf, IsDeepest, IsAsked, low_at, extra, most_rows}
-use Rattle.pl_judge.specs.Planning.{Need, sessions_of, needs, first_of, first_of_all, extra_of, is_too_deep}
+use Rattle.pl_judge.specs.Planning.{Need, sessions_of, needs, first_of, first_of_all, extra_of, HasRows, is_too_deep}
 use Rattle.pl_judge.proofs.Needed.{IsIn, IsSession, of-term, term-of, in-of-all, all-of-in, all-listed, listed-are}
 
 -- ---- the least of sessions
@@ -108,12 +108,12 @@ module _ (p : Pipeline) (checked : IsChecked p) where
       same : (n : ℕ) → n ≤ n
       same n = omega arith
 
-      pub extra-is : (t : ℕ) → is_used p t ≡ true → extra_of days p plan.from t ≡ extra plan t
+      pub has-rows : HasRows days p plan
       unfolding extra_of
-      extra-is t u =
+      has-rows t u =
           let a = asked t plan.from u (same plan.from) is.order in
           let first = first-is (pos plan.from) t (pos (low_at plan t plan.from)) (is.lows.exact t plan.from a) (let f = (is.lows.few t plan.from a).0 in omega (arith, ints)) in
-          ap (λ z. int_gap z (pos plan.from)) first
+          sym (ap (λ z. int_gap z (pos plan.from)) first)
 
       enough : (d : ℕ) → plan.from ≤ d → d ≤ plan.to → int_lt (pos most_rows) (pos d -ℤ first_of_all days p (pos d)) ≡ false
       enough d a b =

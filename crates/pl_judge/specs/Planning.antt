@@ -1,5 +1,5 @@
 -- How far back the terms of a pipeline are computed for the sessions of a range.
-use Rattle.std.specs.Prelude.{ℕ, zero, suc, ◌+◌, ◌-◌, ◌==◌, if◌then◌else◌, Bool, ℤ, pos, ◌-ℤ◌, List, [], ◌++◌, length, map, flat_map, filter_map, option_to_list, Option, Some, None, slice_get}
+use Rattle.std.specs.Prelude.{◌≡◌, ℕ, zero, suc, ◌+◌, ◌-◌, ◌==◌, if◌then◌else◌, Bool, true, ℤ, pos, ◌-ℤ◌, List, [], ◌++◌, length, map, flat_map, filter_map, option_to_list, Option, Some, None, slice_get}
 use Rattle.std.specs.List.{list_any, range_with_len}
 use Rattle.std.specs.Int.{int_gap}
 use Rattle.std.specs.Int.RustNames.{int_lt}
@@ -8,8 +8,8 @@ use Rattle.pl_spec.specs.Term.{Node, Graph}
 use Rattle.pl_spec.specs.Graph.{input_number, least_of, reads_at}
 use Rattle.pl_spec.specs.Lows.{least_reach}
 use Rattle.pl_spec.specs.Table.{Pipeline}
-use Rattle.pl_terms.specs.Uses.{outputs}
-use Rattle.pl_planner.specs.Plans.{most_rows}
+use Rattle.pl_terms.specs.Uses.{outputs, is_used}
+use Rattle.pl_planner.specs.Plans.{Planned, extra, most_rows}
 
 -- a session on which a term is needed
 pub record Need : Type 0 where
@@ -51,6 +51,10 @@ first_of_all days p d = least_of (map (λ n. n.session) (needs days p.graph (out
 -- the extra rows of term t for a range that begins with session from
 unfoldable pub extra_of : List ℤ → Pipeline → ℕ → ℕ → ℕ
 extra_of days p from t = int_gap (first_of days p t (pos from)) (pos from)
+
+-- a plan has these extra rows
+abbrev pub HasRows : List ℤ → Pipeline → Planned → Type 0
+HasRows days p plan = (t : ℕ) → is_used p t ≡ true → extra plan t ≡ extra_of days p plan.from t
 
 -- for a session of the range some term has too many extra rows
 unfoldable pub is_too_deep : List ℤ → Pipeline → ℕ → ℕ → Bool

@@ -3,6 +3,7 @@ ghost use Rattle.std.specs.Prelude.{◌≡◌, ◌≤◌, ◌<◌, true, length,
 ghost use Rattle.pl_terms.specs.Checked.{pipeline_of};
 ghost use Rattle.pl_planner.specs.Plans.{IsPlanOf};
 ghost use Rattle.pl_words.specs.Views.{dated_of};
+ghost use Rattle.pl_judge.specs.Planning.{HasRows};
 ghost use Rattle.pl_judge.specs.Range.{dates_steps, plan_steps, index_of};
 ghost use Rattle.pl_judge.specs.Stages.{StageEnds, IsRisen};
 
@@ -58,6 +59,7 @@ pub fn judge_plan(
     requires within { range.to < length sessions.now }
     ensures ends { StageEnds true true (plan_steps (pipeline_of checked.now) sessions.now range.from range.to) result }
     ensures plan { IfOk result (IsPlanOf sessions.now (pipeline_of checked.now)) }
+    ensures rows { IfOk result (HasRows sessions.now (pipeline_of checked.now)) }
     ensures from { IfOk result (λ plan. plan.from ≡ range.from) }
     ensures to { IfOk result (λ plan. plan.to ≡ range.to) }
     ensures risen { IfErr result (IsRisen ⊥ ⊥) }

@@ -12,6 +12,7 @@ use Rattle.pl_judge.specs.declared.fault.Fault.{Fault}
 use Rattle.pl_judge.specs.Contents.{Contents, AreHeld}
 use Rattle.pl_judge.specs.Held.{pipeline_in, days_in}
 use Rattle.pl_judge.specs.Work.{pipeline_steps, sessions_step}
+use Rattle.pl_judge.specs.Planning.{HasRows}
 use Rattle.pl_judge.specs.Range.{dates_steps, plan_steps, index_of}
 use Rattle.pl_judge.specs.Stages.{StageEnds}
 use Rattle.pl_judge.proofs.Steps.{stage-stops, stage-goes_on, stage-done, stage-weaker, always}
@@ -99,13 +100,14 @@ module _ (tells : Option Files) (sound : Bool) (q : PlanRequest) where
 
   pub all-planned : {T U : Type 0} (l : PlannedPipeline) (days : List ℤ) (x : T) (y : U) (from to : ℕ) → ScriptRead (Ok l.checked) → DaysRead (Ok days)
       → StageEnds true true (dates_steps q.from q.to days) (Ok x) → from ≡ index_of days q.from.day → to ≡ index_of days q.to.day
-      → StageEnds true true (plan_steps (pipeline_of l.checked) days from to) (Ok y) → IsPlanOf days (pipeline_of l.checked) l.plan → l.plan.from ≡ from
+      → StageEnds true true (plan_steps (pipeline_of l.checked) days from to) (Ok y) → IsPlanOf days (pipeline_of l.checked) l.plan
+      → HasRows days (pipeline_of l.checked) l.plan → l.plan.from ≡ from
       → IsPlanLoad tells sound q (Ok l)
-  all-planned l days x y from to h s r at until e plan is =
+  all-planned l days x y from to h s r at until e plan rows is =
       record {
         held = two h.file s.file;
         are_held = are-held h.file s.file h.is_told s.is_told;
         ends = rw (h.means, s.means, ← at, ← until)
             (stage-goes_on h.ends (stage-goes_on s.ends (stage-goes_on r (stage-done e))));
-        planned = record { pipeline = h.means; plan = rw s.means plan; from = rw (s.means, ← at, is) refl };
+        planned = record { pipeline = h.means; plan = rw s.means plan; rows = rw s.means rows; from = rw (s.means, ← at, is) refl };
       }

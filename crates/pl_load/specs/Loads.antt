@@ -14,6 +14,7 @@ use Rattle.pl_judge.specs.declared.fault.Fault.{Fault}
 use Rattle.pl_judge.specs.Contents.{Contents, AreHeld}
 use Rattle.pl_judge.specs.Held.{pipeline_held, terms_held, days_held, world_held}
 use Rattle.pl_judge.specs.Work.{data_steps, run_steps, planning_steps}
+use Rattle.pl_judge.specs.Planning.{HasRows}
 use Rattle.pl_judge.specs.Range.{index_of}
 use Rattle.pl_judge.specs.Stages.{StageEnds}
 use Rattle.pl_load.specs.declared.loading.Loaded.{Loaded}
@@ -61,6 +62,7 @@ pub record IsLoad (files : Option Files) (lists : Option Lists) (shelf keeper : 
 pub record IsPlanned (held : Contents) (q : PlanRequest) (l : PlannedPipeline) : Type 0 where
   pub pipeline : pipeline_held held ≡ pipeline_of l.checked
   pub plan : IsPlanOf (days_held held) (pipeline_of l.checked) l.plan
+  pub rows : HasRows (days_held held) (pipeline_of l.checked) l.plan
   pub from : index_of (days_held held) q.from.day ≡ l.plan.from
 
 -- A plan is loaded in this way; no tables are asked for.

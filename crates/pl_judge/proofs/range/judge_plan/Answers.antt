@@ -1,5 +1,6 @@
 use Rattle.std.proofs.lemmas.Result.{err_from_is_err_and}
 use Rattle.pl_terms.specs.Checked.{pipeline_of}
+use Rattle.pl_judge.proofs.Planned.{has-rows}
 use Rattle.pl_judge.proofs.Ranges.{has-plan, no-plan}
 use Rattle.pl_judge.proofs.range.judge_plan.Goals as goal
 
@@ -14,3 +15,7 @@ returns-clause-ends c =
     let plan = c.in_ok-plan.ensures in
     let has = has-plan c.args.sessions.now (pipeline_of c.args.checked.now) c.graph-terms.ensures.checked c.in_ok-plan.field-0 plan.plan in
     record { passed = rw (plan.from, plan.to) at has; stopped = tt }
+
+pub returns-clause-rows : goal.returns-clause-rows
+returns-clause-rows c =
+    has-rows (pipeline_of c.args.checked.now) c.graph-terms.ensures.checked c.args.sessions.now c.in_ok-plan.field-0 c.in_ok-plan.ensures.plan

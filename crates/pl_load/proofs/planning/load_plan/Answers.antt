@@ -48,4 +48,4 @@ returns-clause-load g c =
     let range = c.in_ok-range.ensures in
     let plan = c.in_ok-plan.ensures in
     let sessions = rw (checked.leaves.keeps, checked.leaves.stays) at c.in_ok-sessions.ensures.read in
-    all-planned _ _ (plan_of c.args.request.now) _ _ _ _ _ _ checked.read sessions range.ends range.from range.to plan.ends plan.plan plan.from
+    all-planned _ _ (plan_of c.args.request.now) _ _ _ _ _ _ checked.read sessions range.ends range.from range.to plan.ends plan.plan plan.rows plan.from
