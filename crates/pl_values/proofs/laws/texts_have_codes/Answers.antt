@@ -1,0 +1,4 @@
+use Rattle.pl_values.proofs.laws.texts_have_codes.Goals as goal
+
+pub returns : goal.returns
+returns c = ?
