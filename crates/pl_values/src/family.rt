@@ -92,6 +92,7 @@ pub fn empty_value(graph: &Graph, t: TermId) -> i64
     requires { t.0 < length graph.now }
     ensures { result ≡ number_of (empty (sort_kind (term_at (graph_of graph.now) t.0))) }
 {
+    let _terms = graph.len();
     empty_of(&graph.node(t).kind)
 }
 

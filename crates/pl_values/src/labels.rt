@@ -31,6 +31,7 @@ pub fn label_test_value(kind: &TermKind, labels: &Labels, code: i64) -> i64
     requires code { IsCode labels.now.texts code }
     ensures { result ≡ code_flag labels.now.texts (kind_of kind.now) code }
 {
+    let _rows = labels.len();
     if code == MISSING {
         0
     } else {
