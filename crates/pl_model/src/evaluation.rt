@@ -1,6 +1,6 @@
 //! The value of any term, one cell at a time.
 
-ghost use Rattle.std.specs.Prelude.{◌≡◌, ◌+◌, ◌∷◌, ◌<◌, ◌≤◌, [], All, IfOk, IfSome, OnOk, Some, length, option_map, pos, slice_get, map, get_or};
+ghost use Rattle.std.specs.Prelude.{◌≡◌, ◌+◌, ◌∷◌, ◌<◌, ◌≤◌, ◌≤ℤ◌, [], All, IfOk, IfSome, OnOk, Some, length, option_map, pos, slice_get, map, get_or};
 ghost use Rattle.pl_spec.specs.Formula.{is_true};
 ghost use Rattle.pl_spec.specs.Rounding.{IsCell};
 ghost use Rattle.pl_spec.specs.Graph.{reach};
@@ -124,6 +124,7 @@ fn given<L: Ledger>(
         Family::Window => window_cell(alloc, world, checked, t, col, session, steps),
         Family::Point => point_cell(alloc, world, checked, t, col, session, steps),
         Family::LabelTest => {
+            let _rows = world.labels.len();
             let input = input_at(node, 0);
             let code = input_cell(alloc, world, checked, input, col, session, steps)?;
             Ok(label_test_value(&node.kind, world.labels, code))
@@ -272,6 +273,7 @@ fn cells_up_to<L: Ledger>(
     ensures cost { OnOk result (steps.new ≡ steps.old + window_cost_in world.now checked.now size
         (Some (Input.Term u)) (sid_at world.now.assets.now col) session) }
 {
+    let _sessions = world.sessions.len();
     let mut cells = Vec::new(alloc);
     for earlier in session + 1 - size..session + 1 {
         cells.push(cell(alloc, world, checked, u, col, earlier, steps)?)?;

@@ -1,11 +1,13 @@
 //! What an evaluation reads besides the values of other terms.
 
-ghost use Rattle.std.specs.Prelude.{◌≡◌, ◌+◌, ◌<◌, ◌≤◌, [], ◌∷◌, All, IfOk, IfSome, OnOk, Some, length, option_map, pos, slice_get};
+ghost use Rattle.std.specs.Prelude.{◌≡◌, ◌+◌, ◌<◌, ◌≤◌, ◌&&◌, [], ◌∷◌, All, IfOk, IfSome, OnOk, Some, length, option_map, pos, slice_get};
+ghost use Rattle.pl_spec.specs.Cross.{at};
 ghost use Rattle.pl_spec.specs.Parts.{sid_at};
 ghost use Rattle.pl_spec.specs.Rounding.{IsCell};
 ghost use Rattle.pl_spec.specs.Value.{name_at};
 ghost use Rattle.pl_spec.specs.Window.{bar_window};
-ghost use Rattle.pl_spec.specs.World.{label_at};
+ghost use Rattle.pl_spec.specs.Formula.{is_true};
+ghost use Rattle.pl_spec.specs.World.{exists, label_at};
 ghost use Rattle.pl_terms.specs.Checked.{pipeline_of};
 ghost use Rattle.pl_cross.specs.Listing.{labels_in};
 ghost use Rattle.pl_cross.specs.Section.{is_section};
@@ -112,7 +114,23 @@ pub(crate) fn section_input(checked: &Checked, t: TermId) -> TermId
 {
     match input_at(checked.graph().node(t), 0) {
         Some(Input::Term(u)) => u,
-        _ => unreachable!(),
+        Some(Input::Column(_)) => unreachable!(),
+        None => unreachable!(),
+    }
+}
+
+// Whether the asset exists and passes the mask, whose row is given: 1 or 0.
+fn kept_flag(world: &World, col: usize, session: usize, mask: &Option<Vec<i64>>) -> i64
+    requires col { col < length world.now.assets.now }
+    requires session { session < length world.now.sessions.now }
+    requires mask { IfSome mask.now (λ v. col < length v.items) }
+    ensures { is_true result ≡ (exists (world_of world.now) (sid_at world.now.assets.now col) (pos session)
+        && spec.lets_pass_at (option_map (λ v. v.items) mask.now) col) }
+{
+    if exists(world, col, session) && lets_pass_at(mask, col) {
+        1
+    } else {
+        0
     }
 }
 
@@ -130,7 +148,7 @@ fn keep_row(
 {
     let mut keep = Vec::new(alloc);
     for col in 0..world.assets.len() {
-        keep.push(if exists(world, col, session) && lets_pass_at(mask, col) { 1 } else { 0 })?;
+        keep.push(kept_flag(world, col, session, mask))?;
     }
     Ok(keep)
 }
@@ -158,11 +176,21 @@ pub(crate) fn section_at(
 {
     let kind = &checked.graph().node(t).kind;
     let assets = world.assets.len();
+    let _rows = world.labels.len();
     let keep = keep_row(alloc, world, session, mask)?;
     let mut cross = Cross::reserve(alloc, assets)?;
     let mut out = vec![in alloc; 0; assets]?;
     section_values(kind, &mut cross, values, &keep, lent(groups), &mut out);
-    Ok(out[col])
+    Ok(cell_at(&out, col))
+}
+
+fn cell_at(row: &[i64], col: usize) -> i64
+    requires col { col < length row.now }
+    requires cells { All IsCell row.now }
+    ensures value { result ≡ at row.now col }
+    ensures cell { IsCell result }
+{
+    row[col]
 }
 
 fn lent(row: &Option<Vec<i64>>) -> Option<&[i64]>

@@ -69,6 +69,10 @@ windows-plain : (f : WindowKind) → list_all window_place (window_places f) ≡
 windows-plain Latest = refl
 windows-plain f = refl
 
+first-place : (f : WindowKind) → (q : Place) × (slice_get (window_places f) 0 ≡ Some q)
+first-place Latest = (_, refl)
+first-place f = (_, refl)
+
 takes-plain : (q : Place) (o : Option Sort) → (window_place q && takes_sort q o) ≡ true → plain_sort o ≡ true
 takes-plain Series (Some Factors) h = refl
 takes-plain Filter (Some Filters) h = refl
@@ -100,8 +104,15 @@ module _ (w : World) (p : Pipeline) (sids : List ℕ) (ok : IsChecked p) (k : �
   fit : all_fit p.graph (window_places f) n.inputs ≡ true
   fit = ap (λ ps. all_fit p.graph ps n.inputs) (sym (places-of n.kind f e)) ∙ (ok.nodes k n is).inputs
 
-  most : n.window ≤ 1260
+  pub most : n.window ≤ 1260
   most = window-most f n.window (window-of n.kind f n.window e (ok.nodes k n is).window)
+
+  -- there is a first window
+  pub first-input : (x : Input) × (slice_get n.inputs 0 ≡ Some x)
+  first-input =
+      let q = first-place f in
+      let x = has-input p.graph (window_places f) n.inputs 0 q.0 fit q.1 in
+      (x.0, x.1)
 
   -- a term in a window is worth numbers
   term-numbered : (j t : ℕ) → slice_get n.inputs j ≡ Some (TermInput t) → IsNumberedTerm w p ok t
