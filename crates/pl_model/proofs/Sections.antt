@@ -190,7 +190,7 @@ pub some-mapped : {A B : Type 0} (f : A → B) (P : B → Type 0) (o : Option A)
 some-mapped f P None h = tt
 some-mapped f P (Some a) h = h
 
--- what is read of a cross-section's row
-pub section-end : (f : CrossKind) (xs ks kd : List ℤ) (ls ld : Option (List ℤ)) (out od : List ℤ) (i : ℕ) (x v : ℤ) → x ≡ at od i → od ≡ out → at out i ≡ section_at f xs kd ld i → kd ≡ ks → ld ≡ ls
+-- what is read of a cross-section
+pub section-end : (f : CrossKind) (xs ks kd : List ℤ) (ls ld : Option (List ℤ)) (i : ℕ) (x v : ℤ) → x ≡ section_at f xs kd ld i → kd ≡ ks → ld ≡ ls
     → section_at f xs ks ls i ≡ v → x ≡ v
-section-end f xs ks kd ls ld out od i x v a b e g h l = a ∙ ap (λ r. at r i) b ∙ e ∙ ap (λ r. section_at f xs r ld i) g ∙ ap (λ r. section_at f xs ks r i) h ∙ l
+section-end f xs ks kd ls ld i x v e g h l = e ∙ ap (λ r. section_at f xs r ld i) g ∙ ap (λ r. section_at f xs ks r i) h ∙ l

@@ -1,7 +1,7 @@
 //! What an evaluation reads besides the values of other terms.
 
-ghost use Rattle.std.specs.Prelude.{◌≡◌, ◌+◌, ◌<◌, ◌≤◌, ◌&&◌, [], ◌∷◌, All, IfOk, IfSome, OnOk, Some, length, option_map, pos, slice_get};
-ghost use Rattle.pl_spec.specs.Cross.{at};
+ghost use Rattle.std.specs.Prelude.{◌≡◌, ◌+◌, ◌<◌, ◌≤◌, ◌&&◌, [], ◌∷◌, All, IfOk, IfSome, OnOk, Some, length, option_map, pos, slice_get, true};
+ghost use Rattle.pl_spec.specs.Kind.{Kind, CrossKind};
 ghost use Rattle.pl_spec.specs.Parts.{sid_at};
 ghost use Rattle.pl_spec.specs.Rounding.{IsCell};
 ghost use Rattle.pl_spec.specs.Value.{name_at};
@@ -9,8 +9,10 @@ ghost use Rattle.pl_spec.specs.Window.{bar_window};
 ghost use Rattle.pl_spec.specs.Formula.{is_true};
 ghost use Rattle.pl_spec.specs.World.{exists, label_at};
 ghost use Rattle.pl_terms.specs.Checked.{pipeline_of};
-ghost use Rattle.pl_cross.specs.Listing.{labels_in};
-ghost use Rattle.pl_cross.specs.Section.{is_section};
+ghost use Rattle.pl_terms.specs.Kinds.{kind_of};
+ghost use Rattle.pl_cross.specs.Arrays.{section_at};
+ghost use Rattle.pl_cross.specs.Listing.{Fits, labels_in};
+ghost use Rattle.pl_cross.specs.Section.{HasParameters, is_section};
 ghost use Rattle.pl_values.specs.Families.{label_code};
 ghost use Rattle.pl_assets.specs.Assets.{AreAssets};
 ghost use Rattle.pl_model.specs.Worlds.{world_of, IsMade};
@@ -22,7 +24,7 @@ use crate::cell::{exists, seen_cell};
 use crate::world::World;
 use pl_cross::Cross;
 use pl_fixed::{Column, Memory, Steps};
-use pl_terms::{Checked, Input, Node, TermId};
+use pl_terms::{Checked, Input, Node, TermId, TermKind};
 use pl_values::{label_value, section_values};
 use std::alloc::Global;
 use std::sync::ledger::Ledger;
@@ -180,17 +182,35 @@ pub(crate) fn section_at(
     let keep = keep_row(alloc, world, session, mask)?;
     let mut cross = Cross::reserve(alloc, assets)?;
     let mut out = vec![in alloc; 0; assets]?;
-    section_values(kind, &mut cross, values, &keep, lent(groups), &mut out);
-    Ok(cell_at(&out, col))
+    let groups = lent(groups);
+    Ok(section_value(kind, &mut cross, values, &keep, groups, &mut out, col))
 }
 
-fn cell_at(row: &[i64], col: usize) -> i64
-    requires col { col < length row.now }
-    requires cells { All IsCell row.now }
-    ensures value { result ≡ at row.now col }
+// The cross-section at a column; `out` is room for those at all.
+fn section_value(
+    kind: &TermKind,
+    cross: &mut Cross,
+    values: &[i64],
+    keep: &[i64],
+    groups: Option<&[i64]>,
+    out: &mut [i64],
+    col: usize,
+) -> i64
+    requires kind { is_section (kind_of kind.now) ≡ true }
+    requires parameters { HasParameters (kind_of kind.now) }
+    requires room { length values.now ≤ cross.old }
+    requires few { length values.now ≤ 8_000 }
+    requires cells { All IsCell values.now }
+    requires keep { length keep.now ≡ length values.now }
+    requires groups { Fits (length values.now) (labels_in groups) }
+    requires out { length out.old ≡ length values.now }
+    requires col { col < length values.now }
+    ensures value { (k : CrossKind) → kind_of kind.now ≡ Kind.Cross k
+        → result ≡ section_at k values.now keep.now (labels_in groups.entry) col }
     ensures cell { IsCell result }
 {
-    row[col]
+    section_values(kind, cross, values, keep, groups, out);
+    out[col]
 }
 
 fn lent(row: &Option<Vec<i64>>) -> Option<&[i64]>

@@ -23,21 +23,21 @@ keep_row-requires-clause-mask c =
     let fit = mask-fits w c.args.checked.now c.graph.ensures.checked c.len-assets.ensures.assets c.args.session c.args.t.0 n is (c.requires.kind n is) texts c.args.values.now _ _ c.requires.rows in
     some-mapped (λ v. v.items) (λ (m : List ℤ). length m ≡ length w.assets.now) c.args.mask.now fit
 
-pub section_values-requires-clause-parameters : goal.section_values-requires-clause-parameters
-section_values-requires-clause-parameters c =
+pub section_value-requires-clause-parameters : goal.section_value-requires-clause-parameters
+section_value-requires-clause-parameters c =
     let w = c.args.world.now in
     let n = c.node.result.now in
     let is : slice_get c.args.checked.now.graph c.args.t.0 ≡ Some n = ap (λ ns. slice_get ns c.args.t.0) (sym c.graph.ensures.value) ∙ c.node.ensures in
     let texts : HasTexts (world_of w) = texts-coded w.sessions.now w.assets.now w.labels.now w.bars.now w.adjustments.now c.len-rows.ensures.labels in
     right w c.args.checked.now c.graph.ensures.checked c.len-assets.ensures.assets c.args.session c.args.t.0 n is (c.requires.kind n is) texts
 
-pub section_values-requires-clause-groups : goal.section_values-requires-clause-groups
-section_values-requires-clause-groups c =
+pub section_value-requires-clause-groups : goal.section_value-requires-clause-groups
+section_value-requires-clause-groups c =
     let w = c.args.world.now in
     let n = c.node.result.now in
     let is : slice_get c.args.checked.now.graph c.args.t.0 ≡ Some n = ap (λ ns. slice_get ns c.args.t.0) (sym c.graph.ensures.value) ∙ c.node.ensures in
     let texts : HasTexts (world_of w) = texts-coded w.sessions.now w.assets.now w.labels.now w.bars.now w.adjustments.now c.len-rows.ensures.labels in
-    subst (Fits (length c.args.values.now)) (sym c.lent.ensures)
+    subst (Fits (length c.args.values.now)) (sym c.lent-groups.ensures)
     (groups-fit w c.args.checked.now c.graph.ensures.checked c.len-assets.ensures.assets c.args.session c.args.t.0 n is (c.requires.kind n is) texts c.args.values.now _ _ c.requires.rows)
 
 pub returns-clause-value : goal.returns-clause-value
@@ -46,14 +46,11 @@ returns-clause-value c =
     let n = c.node.result.now in
     let is : slice_get c.args.checked.now.graph c.args.t.0 ≡ Some n = ap (λ ns. slice_get ns c.args.t.0) (sym c.graph.ensures.value) ∙ c.node.ensures in
     let texts : HasTexts (world_of w) = texts-coded w.sessions.now w.assets.now w.labels.now w.bars.now w.adjustments.now c.len-rows.ensures.labels in
-    let fits : FitsSigned w64 c.cell_at.result = search rules in
+    let fits : FitsSigned w64 c.section_value.result = search rules in
     let f = section-is (kind_of n.kind) (c.requires.kind n is) in
     let ok = c.graph.ensures.checked in
     let assets = c.len-assets.ensures.assets in
-    let long = values-long w c.args.checked.now ok assets c.args.session c.args.t.0 n is (c.requires.kind n is) texts c.args.values.now _ _ c.requires.rows in
-    let inside : c.args.col < length c.args.values.now = omega (arith, c.requires.col, long) in
-    let each = c.section_values.ensures.each f.0 f.1 c.args.col inside in
     let given = section-given w c.args.checked.now ok assets c.args.session c.args.t.0 n is (c.requires.kind n is) texts c.args.values.now _ _ c.requires.rows c.in_ok-keep.keep.items c.in_ok-keep.ensures f.0 f.1 c.args.col c.requires.col in
     to_z-of_z w64 _ fits
-    ∙ section-end f.0 c.args.values.now c.in_ok-keep.keep.items c.deref.result.now (option_map (λ v. v.items) c.args.groups.now) (labels_in c.lent.result) c.section_values.new.out c.deref-2.result.now
-    c.args.col c.cell_at.result _ c.cell_at.ensures.value c.deref-2.ensures.value each c.deref.ensures.value c.lent.ensures given
+    ∙ section-end f.0 c.args.values.now c.in_ok-keep.keep.items c.deref.result.now (option_map (λ v. v.items) c.args.groups.now) (labels_in c.lent-groups.result)
+    c.args.col c.section_value.result _ (c.section_value.ensures.value f.0 f.1) c.deref.ensures.value c.lent-groups.ensures given
