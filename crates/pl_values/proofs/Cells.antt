@@ -5,14 +5,13 @@ use Rattle.pl_spec.specs.Formula.{is_true}
 use Rattle.pl_spec.specs.Term.{Node, input_tree, trees}
 use Rattle.pl_spec.specs.Value.{Value, number_of, passes, empty, sort_over, sort_kind, step}
 use Rattle.pl_spec.specs.Value.Value.{Number}
-use Rattle.pl_spec.specs.NodeValue.{node_value, input_part, number_part}
+use Rattle.pl_spec.specs.NodeValue.{input_part, number_part}
 use Rattle.pl_spec.specs.Table.{Pipeline, value_of, in_array}
 use Rattle.pl_spec.proofs.Trees.{term_at-node}
 use Rattle.pl_terms.specs.Checked.{IsChecked}
-use Rattle.pl_terms.specs.Sorts.{Sort, Place, Filters, Labels, sort_at, has_mask}
+use Rattle.pl_terms.specs.Sorts.{Place, Filters, Labels, sort_at, has_mask}
 use Rattle.pl_cross.specs.Arrays.{sid_in}
 use Rattle.pl_values.specs.Arrays.{cell_of, empty_cell, is_kept, chosen}
-use Rattle.pl_values.specs.Laws.{IsNode, IsGiven}
 use Rattle.pl_values.proofs.Typed.{optional-sort, filter-sort}
 use Rattle.pl_values.proofs.Numbers.{empty_is, numbered-sort, number_is, value-node, IsNumberedTerm}
 

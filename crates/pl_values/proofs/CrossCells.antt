@@ -1,18 +1,18 @@
 -- What a cross-section gives is a cell.
-use Rattle.std.proofs.Common.{◌≡◌, ◌⊎◌, ℕ, zero, suc, ◌+◌, ◌-◌, ◌*◌, ◌/◌, ◌<◌, ◌≤◌, ◌==◌, Bool, true, false, ◌&&◌, ◌||◌, if◌then◌else◌, nat_le, nat_lt, ℤ, pos, negsuc, ◌-ℤ◌, ◌*ℤ◌, List, [], ◌∷◌, length, map, filter, refl, sym, ◌∙◌, ap, arith, inl, inr, unsigned_abs, get_or, All}
-use Rattle.std.specs.List.{count_by, list_any, range_with_len}
+use Rattle.std.proofs.Common.{◌≡◌, ℕ, zero, suc, ◌+◌, ◌-◌, ◌*◌, ◌/◌, ◌≤◌, ◌==◌, Bool, true, false, ◌&&◌, ◌||◌, if◌then◌else◌, nat_le, nat_lt, ℤ, pos, negsuc, ◌-ℤ◌, List, [], ◌∷◌, length, filter, refl, ap, arith, inl, inr, unsigned_abs}
+use Rattle.std.specs.List.{list_any, range_with_len}
 use Rattle.std.specs.Ordering.{int_eq}
 use Rattle.std.proofs.lemmas.Bool.Decides.{nat_tests}
 use Rattle.std.proofs.lemmas.List.{length-map}
 use Rattle.std.proofs.lemmas.List.Sums.{count_by-le-length, length-filter}
-use Rattle.pl_spec.specs.Rounding.{MISSING, MILLION, LIMIT, IsCell, is_missing, to_cell, quot, of_both, sub}
+use Rattle.pl_spec.specs.Rounding.{MISSING, MILLION, LIMIT, IsCell, is_missing, to_cell, quot, sub}
 use Rattle.pl_spec.specs.Formula.{truth}
 use Rattle.pl_spec.specs.Kind.{CrossKind}
 use Rattle.pl_spec.specs.Kind.CrossKind.{Rank, Demean, ZScore, Quantiles, Top, Bottom, PercentileBetween, PeerCount}
 use Rattle.pl_spec.specs.declared.RankMethod.{RankMethod}
 use Rattle.pl_spec.specs.declared.RankMethod.TheVariants.{Ordinal, Min, Max, Dense, Average}
 use Rattle.pl_spec.specs.declared.RankOrder.{RankOrder}
-use Rattle.pl_spec.specs.Cross.{Entry, values, precedes, preceding, same, earlier_same, distinct_values, ordinal, rank, edge, bin_of, cross, cross_at, counts_at, entries_for, at}
+use Rattle.pl_spec.specs.Cross.{Entry, values, precedes, preceding, same, earlier_same, distinct_values, rank, bin_of, cross, counts_at, entries_for, at}
 use Rattle.pl_spec.specs.Value.{is_cross_filter}
 use Rattle.pl_cross.specs.Section.{IsRight}
 use Rattle.pl_cross.specs.Listing.{labels_for}

@@ -1,31 +1,31 @@
 -- Cross-sections.
-use Rattle.std.proofs.Common.{◌≡◌, ◌⊎◌, ℕ, ◌<◌, ◌≤◌, Bool, true, false, ◌&&◌, ℤ, pos, List, [], ◌∷◌, Option, Some, None, length, refl, sym, ◌∙◌, ap, arith, slice_get, get_or, subst, inl, inr}
+use Rattle.std.proofs.Common.{◌≡◌, ◌⊎◌, ℕ, ◌<◌, Bool, true, false, ◌&&◌, ℤ, pos, List, Option, Some, None, length, refl, sym, ◌∙◌, ap, arith, slice_get, subst, inl, inr}
 use Rattle.std.proofs.lemmas.List.{get_or_default}
 use Rattle.pl_spec.specs.Rounding.{MISSING}
 use Rattle.pl_spec.specs.World.{World, exists}
 use Rattle.pl_spec.specs.Kind.{Kind, CrossKind}
 use Rattle.pl_spec.specs.Kind.Kind.{Cross}
-use Rattle.pl_spec.specs.Kind.CrossKind.{Rank, Demean, ZScore, Quantiles, Top, Bottom, PercentileBetween, PeerCount}
+use Rattle.pl_spec.specs.Kind.CrossKind.{PeerCount}
 use Rattle.pl_spec.specs.Formula.{is_true}
 use Rattle.pl_spec.specs.Cross.{at}
 use Rattle.pl_spec.specs.Term.{Node, Input}
 use Rattle.pl_spec.specs.Term.Input.{BarColumn, TermInput}
-use Rattle.pl_spec.specs.Value.{Part, now, passes, group_of}
-use Rattle.pl_spec.specs.Value.Part.{Nothing, Bars, Values}
+use Rattle.pl_spec.specs.Value.{Part, passes, group_of}
+use Rattle.pl_spec.specs.Value.Part.{Values}
 use Rattle.pl_spec.specs.NodeValue.{meaning_of, input_part, number_part}
-use Rattle.pl_spec.specs.Table.{Pipeline, value_of, in_array}
+use Rattle.pl_spec.specs.Table.{Pipeline, in_array}
 use Rattle.pl_terms.specs.Checked.{IsChecked}
-use Rattle.pl_terms.specs.Sorts.{Sort, Factors, Filters, Labels, Numbers, Place, Factor, Classifier, sort_at, places, cross_places, fits, all_fit, takes_sort, takes_column, has_group, has_parameters}
+use Rattle.pl_terms.specs.Sorts.{Sort, Factors, Labels, Numbers, Place, Factor, Classifier, sort_at, places, cross_places, fits, all_fit, takes_sort, takes_column, has_group}
 use Rattle.pl_cross.specs.Section.{IsRight, HasParameters}
 use Rattle.pl_cross.specs.Listing.{labels_for}
-use Rattle.pl_cross.specs.Arrays.{sid_in, IsArray, IsNumbered, IsLabelled, IsGroupArray, HasNumbers, Columns, AreArrays, section_at, HasTexts}
+use Rattle.pl_cross.specs.Arrays.{sid_in, IsArray, IsNumbered, IsLabelled, IsGroupArray, HasNumbers, Columns, AreArrays, HasTexts}
 use Rattle.pl_cross.proofs.Sections.{node-value}
 use Rattle.pl_cross.proofs.Allowed.{allowed-right}
 use Rattle.pl_values.specs.Arrays.{cell_of, is_kept, Fills, IsKeep}
-use Rattle.pl_values.specs.Inputs.{IsInputRow, IsGroupRow, AreSectionRows}
-use Rattle.pl_values.specs.Laws.{IsNode, SectionCells}
+use Rattle.pl_values.specs.Inputs.{IsInputRow, IsGroupRow}
+use Rattle.pl_values.specs.Laws.{SectionCells}
 use Rattle.pl_values.proofs.Typed.{has-input, optional-sort}
-use Rattle.pl_values.proofs.Numbers.{numbered-sort, coded-sort, IsNumberedTerm}
+use Rattle.pl_values.proofs.Numbers.{numbered-sort, coded-sort}
 use Rattle.pl_values.proofs.Cells.{keeps-is}
 
 places-of : (k : Kind) (f : CrossKind) → k ≡ Cross f → places k ≡ cross_places f

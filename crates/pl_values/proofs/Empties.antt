@@ -1,5 +1,5 @@
 -- The empty cell of a term of the code's graph.
-use Rattle.std.proofs.Common.{◌≡◌, ℕ, zero, suc, List, [], ◌∷◌, map, Option, Some, None, slice_get, refl, sym, ◌∙◌, ap}
+use Rattle.std.proofs.Common.{◌≡◌, ℕ, zero, suc, List, [], ◌∷◌, map, Some, slice_get, refl, sym, ◌∙◌, ap}
 use Rattle.pl_spec.specs.Kind.{Kind}
 use Rattle.pl_spec.specs.Term.{IsGraph, term_at}
 use Rattle.pl_spec.specs.Value.{number_of, empty, sort_over, sort_kind}
@@ -7,7 +7,6 @@ use Rattle.pl_spec.proofs.Trees.{term_at-node}
 use Rattle.pl_terms.specs.declared.node.Node.{Node}
 use Rattle.pl_terms.specs.declared.kind.TermKind.{TermKind}
 use Rattle.pl_terms.specs.declared.kind.TermKind.TheVariants as kind
-use Rattle.pl_terms.specs.declared.kind.LabelValue.{LabelValue}
 use Rattle.pl_terms.specs.declared.kind.LabelValue.TheVariants as label
 use Rattle.pl_terms.specs.Kinds.{kind_of}
 use Rattle.pl_terms.specs.Nodes.{node_of, graph_of}

@@ -1,22 +1,21 @@
 -- A filter is worth 0 or 1.
-use Rattle.std.proofs.Common.{◌≡◌, ◌⊎◌, ℕ, Bool, true, false, if◌then◌else◌, ℤ, pos, List, [], Option, Some, None, refl, sym, ◌∙◌, ap, slice_get, ◌==◌, inl, inr, ◌&&◌}
+use Rattle.std.proofs.Common.{◌≡◌, ℕ, Bool, true, false, if◌then◌else◌, ℤ, pos, List, [], refl, ◌∙◌, slice_get, ◌==◌, inl, inr, ◌&&◌}
 use Rattle.std.specs.List.{list_any}
 use Rattle.pl_spec.specs.World.{World, exists}
 use Rattle.pl_spec.specs.Kind.{Kind, WindowKind, PointKind, LabelKind, CrossKind}
 use Rattle.pl_spec.specs.Kind.Kind.{Constant, Label, StaticSids, Window, Point, LabelTest, Cross, Downsample}
 use Rattle.pl_spec.specs.Kind.WindowKind.{All, Any, AtLeastN, AllPresent}
 use Rattle.pl_spec.specs.Kind.PointKind.{Add, Sub, Mul, Div, Neg, Comparison, And, Or, Not, Abs, Clip, FillNa, IsNull, NotNull, IfElse, NumberIs, NumberIsNot}
-use Rattle.pl_spec.specs.Kind.CrossKind.{Rank, Demean, ZScore, Quantiles, Top, Bottom, PercentileBetween, PeerCount}
+use Rattle.pl_spec.specs.Kind.CrossKind.{Quantiles, Top, Bottom, PercentileBetween}
 use Rattle.pl_spec.specs.Formula.{truth, formula}
 use Rattle.pl_spec.specs.Pointwise.{pointwise, label_test}
 use Rattle.pl_spec.specs.Cross.{cross}
-use Rattle.pl_spec.specs.Term.{Node, input_tree, trees}
+use Rattle.pl_spec.specs.Term.{input_tree, trees}
 use Rattle.pl_spec.specs.Value.{Value, Part, now, passes, eligible, group_of, test_value, empty, number_of, sort_over, sort_kind, step}
 use Rattle.pl_spec.specs.Value.Value.{Number, Text}
 use Rattle.pl_spec.specs.NodeValue.{node_value, input_part, number_part}
-use Rattle.pl_spec.specs.Table.{Pipeline, value_of, in_array}
-use Rattle.pl_terms.specs.Checked.{IsChecked}
-use Rattle.pl_terms.specs.Sorts.{Sort, Factors, Filters, Labels, Numbers, sort_of, sort_at, window_sort, point_sort, cross_sort, has_parameters}
+use Rattle.pl_spec.specs.Table.{value_of, in_array}
+use Rattle.pl_terms.specs.Sorts.{Factors, Filters, Labels, Numbers, sort_of, window_sort, point_sort, cross_sort}
 use Rattle.pl_lanes.specs.Flags.{IsFlag}
 use Rattle.pl_cross.specs.Arrays.{sid_in}
 use Rattle.pl_values.specs.Arrays.{cell_of}

@@ -1,5 +1,5 @@
 -- Formulas and filters over windows.
-use Rattle.std.proofs.Common.{◌≡◌, ◌⊎◌, ℕ, zero, suc, ◌+◌, ◌-◌, ◌<◌, ◌≤◌, ◌==◌, Bool, true, false, ◌&&◌, ℤ, pos, ◌≤ℤ◌, List, [], ◌∷◌, Option, Some, None, length, map, refl, sym, ◌∙◌, ap, arith, slice_get, get_or, nat_le, All, subst, inl, inr, IsTrue}
+use Rattle.std.proofs.Common.{◌≡◌, ℕ, zero, suc, ◌+◌, ◌-◌, ◌<◌, ◌≤◌, Bool, true, false, ◌&&◌, ℤ, pos, ◌≤ℤ◌, List, Option, Some, None, length, map, refl, sym, ◌∙◌, ap, arith, slice_get, get_or, nat_le, All, subst, inl, inr, IsTrue}
 use Rattle.std.specs.List.{list_all}
 use Rattle.std.specs.Int.RustNames.{int_lt}
 use Rattle.std.proofs.lemmas.Int.{ints}
@@ -7,28 +7,26 @@ use Rattle.std.proofs.lemmas.Bool.{and_parts}
 use Rattle.std.proofs.lemmas.Bool.Decides.{nat_tests}
 use Rattle.pl_spec.specs.Rounding.{MILLION, IsCell}
 use Rattle.pl_spec.specs.World.{World}
-use Rattle.pl_spec.specs.Window.{before, downward, bar_window, seen_cell}
+use Rattle.pl_spec.specs.Window.{before, downward, seen_cell}
 use Rattle.pl_spec.specs.Kind.{Kind, WindowKind}
 use Rattle.pl_spec.specs.Kind.Kind.{Window}
-use Rattle.pl_spec.specs.Kind.WindowKind.{Latest, SimpleMovingAverage, LinearWeightedMovingAverage, WindowSum, WindowMax, WindowMin, WindowStd, BollingerMiddle, BollingerLower, BollingerUpper, Returns, PercentChange, RateOfChangePercentage, RSI, VWAP, AverageDollarVolume, WeightedAverageValue, FastStochasticOscillator, TrueRange, ExponentialWeightedMovingAverage, AroonUp, AroonDown, All as AllTrue, Any, AtLeastN, AllPresent}
+use Rattle.pl_spec.specs.Kind.WindowKind.{Latest, BollingerLower, BollingerUpper, Returns, PercentChange, RateOfChangePercentage, RSI, VWAP, AverageDollarVolume, WeightedAverageValue, TrueRange, ExponentialWeightedMovingAverage, AroonUp, AroonDown, All as AllTrue, Any, AtLeastN, AllPresent}
 use Rattle.pl_spec.specs.Formula.{formula}
 use Rattle.pl_spec.specs.Term.{Node, Input}
 use Rattle.pl_spec.specs.Term.Input.{BarColumn, TermInput}
 use Rattle.pl_spec.specs.Value.{number_of, window_of, step}
-use Rattle.pl_spec.specs.Value.Value.{Number}
-use Rattle.pl_spec.specs.NodeValue.{meaning_of, input_part}
+use Rattle.pl_spec.specs.NodeValue.{input_part}
 use Rattle.pl_spec.specs.Table.{Pipeline, value_of}
 use Rattle.pl_spec.proofs.Windows.{before-pos}
 use Rattle.pl_terms.specs.Checked.{IsChecked}
 use Rattle.pl_terms.specs.Sorts.{Sort, Factors, Filters, Place, Own, Bar, Series, Filter, sort_at, places, window_places, window_fits, fits, all_fit, takes_sort, has_window, has_parameters, is_limited}
 use Rattle.pl_lanes.specs.Flags.{IsFlag}
-use Rattle.pl_factors.specs.Kinds.{IsFactorOf, takes_pairs}
-use Rattle.pl_filters.specs.Filters.{AreValues}
+use Rattle.pl_factors.specs.Kinds.{takes_pairs}
 use Rattle.pl_cross.specs.Arrays.{sid_in}
-use Rattle.pl_values.specs.Arrays.{cell_of, window_up_to}
+use Rattle.pl_values.specs.Arrays.{cell_of}
 use Rattle.pl_values.specs.Inputs.{input_window, AreWindows}
 use Rattle.pl_values.specs.Families.{IsWindowed, windowed, TakesWindows}
-use Rattle.pl_values.specs.Laws.{IsNode, WindowCells}
+use Rattle.pl_values.specs.Laws.{WindowCells}
 use Rattle.pl_values.proofs.Typed.{fit-at, has-input, filter-sort}
 use Rattle.pl_values.proofs.Numbers.{plain_sort, plain-number, IsNumberedTerm}
 use Rattle.pl_values.proofs.Cells.{gated, cell-number}

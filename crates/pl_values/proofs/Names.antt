@@ -1,5 +1,5 @@
 -- Labels under a name, and their codes.
-use Rattle.std.proofs.Common.{◌≡◌, ◌⊎◌, ℕ, ◌<◌, ◌≤◌, ◌^◌, Bool, true, false, ◌&&◌, ℤ, pos, List, [], ◌∷◌, Option, Some, None, length, map, filter, position, unwrap_or, option_and_then, bytes_eq, get_or, slice_index_or, refl, sym, ◌∙◌, ap, arith, subst, inl, inr, Contains, IfSome, true≢false}
+use Rattle.std.proofs.Common.{◌≡◌, ℕ, ◌≤◌, Bool, true, false, ℤ, pos, List, [], ◌∷◌, Option, Some, None, length, map, filter, position, unwrap_or, option_and_then, bytes_eq, get_or, slice_index_or, refl, sym, ◌∙◌, ap, arith, inl, inr, Contains, IfSome, true≢false}
 use Rattle.std.proofs.lemmas.Slice.Eq.{bytes_eq-Decides}
 use Rattle.std.proofs.lemmas.List.Quantifiers.{position-Some}
 use Rattle.pl_spec.specs.Rounding.{MISSING}
@@ -7,9 +7,9 @@ use Rattle.pl_spec.specs.World.{is_label_of}
 use Rattle.pl_spec.specs.Parts.{ColumnLabel}
 use Rattle.pl_spec.proofs.Members.{In, in-contains}
 use Rattle.pl_spec.proofs.Places.{nowhere}
-use Rattle.pl_assets.specs.Labels.{LabelTable, AreLabels, label_on, by_column, names_of, first_seen}
+use Rattle.pl_assets.specs.Labels.{LabelTable, AreLabels, label_on, by_column, names_of}
 use Rattle.pl_assets.proofs.FirstSeen.{texts_count}
-use Rattle.pl_values.specs.Families.{label_code, code_cell, IsCode}
+use Rattle.pl_values.specs.Families.{label_code, code_cell}
 use Rattle.pl_values.proofs.Texts.{map-in, seen-in}
 
 -- a name that no row has

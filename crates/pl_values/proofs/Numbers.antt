@@ -1,7 +1,6 @@
 -- Which terms are worth numbers, and which labels of the world.
-use Rattle.std.proofs.Common.{◌≡◌, ◌⊎◌, ℕ, Bool, true, false, ◌&&◌, if◌then◌else◌, ℤ, pos, List, Option, Some, None, refl, sym, ◌∙◌, ap, slice_get, ◌==◌, inl, inr}
+use Rattle.std.proofs.Common.{◌≡◌, ℕ, Bool, true, false, ◌&&◌, if◌then◌else◌, ℤ, pos, List, Option, Some, refl, sym, ◌∙◌, slice_get, ◌==◌}
 use Rattle.std.specs.List.{list_any}
-use Rattle.pl_spec.specs.Rounding.{MISSING, is_present}
 use Rattle.pl_spec.specs.World.{World, exists}
 use Rattle.pl_spec.specs.Kind.{Kind, WindowKind, PointKind, LabelKind, CrossKind}
 use Rattle.pl_spec.specs.Kind.WindowKind.{All, Any, AtLeastN, AllPresent}
@@ -10,8 +9,8 @@ use Rattle.pl_spec.specs.Kind.CrossKind.{Quantiles, Top, Bottom, PercentileBetwe
 use Rattle.pl_spec.specs.Kind.Kind.{Constant, Label, StaticSids, Window, Point, LabelTest, Cross, Downsample}
 use Rattle.pl_spec.specs.Formula.{truth}
 use Rattle.pl_spec.specs.Pointwise.{label_test}
-use Rattle.pl_spec.specs.Term.{Node, Input, Graph, input_tree, trees, term_at}
-use Rattle.pl_spec.specs.Value.{Value, Part, now, passes, eligible, group_of, test_value, empty, is_filter, number_of, sort_over, sort_kind, step, value}
+use Rattle.pl_spec.specs.Term.{Node, input_tree, trees}
+use Rattle.pl_spec.specs.Value.{Value, Part, now, passes, eligible, group_of, test_value, empty, is_filter, number_of, sort_over, sort_kind, step}
 use Rattle.pl_spec.specs.Value.Value.{Number, Text}
 use Rattle.pl_spec.specs.NodeValue.{node_value, input_part, number_part}
 use Rattle.pl_spec.specs.Table.{Pipeline, value_of, in_array}

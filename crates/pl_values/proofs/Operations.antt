@@ -1,33 +1,31 @@
 -- Operations on the values of one place.
-use Rattle.std.proofs.Common.{◌≡◌, ℕ, zero, suc, ◌+◌, ◌<◌, ◌≤◌, Bool, true, false, ◌&&◌, if◌then◌else◌, ℤ, pos, List, [], ◌∷◌, Option, Some, None, length, refl, sym, ◌∙◌, ap, arith, slice_get, get_or, nat_le, nat_lt, All, subst, inr, unsigned_abs}
+use Rattle.std.proofs.Common.{◌≡◌, ℕ, zero, suc, ◌<◌, ◌≤◌, Bool, true, false, ◌&&◌, if◌then◌else◌, ℤ, pos, List, [], ◌∷◌, Option, Some, None, length, refl, sym, ◌∙◌, ap, arith, slice_get, get_or, nat_lt, All, subst, inr, unsigned_abs}
 use Rattle.std.specs.Int.RustNames.{int_le}
 use Rattle.std.proofs.lemmas.Bool.Decides.{nat_tests}
 use Rattle.std.proofs.lemmas.Bool.{and_parts}
 use Rattle.std.specs.List.{list_all}
 use Rattle.std.proofs.lemmas.List.{get_or_default}
-use Rattle.pl_spec.specs.Rounding.{MISSING, LIMIT, IsCell, is_missing}
+use Rattle.pl_spec.specs.Rounding.{MISSING, LIMIT, IsCell}
 use Rattle.pl_spec.specs.World.{World}
 use Rattle.pl_spec.specs.Kind.{Kind, PointKind}
 use Rattle.pl_spec.specs.Kind.Kind.{Point}
 use Rattle.pl_spec.specs.Kind.PointKind.{Add, Sub, Mul, Div, Neg, Comparison, And, Or, Not, Abs, Clip, FillNa, IsNull, NotNull, IfElse, NumberIs, NumberIsNot}
-use Rattle.pl_spec.specs.Formula.{truth}
 use Rattle.pl_spec.specs.Pointwise.{pointwise}
-use Rattle.pl_spec.specs.Term.{Node, Input, Graph}
+use Rattle.pl_spec.specs.Term.{Node, Input}
 use Rattle.pl_spec.specs.Term.Input.{BarColumn, TermInput}
-use Rattle.pl_spec.specs.Value.{Value, Part, now, number_of, step}
+use Rattle.pl_spec.specs.Value.{Value, now, number_of, step}
 use Rattle.pl_spec.specs.Value.Value.{Number, Text}
 use Rattle.pl_spec.specs.NodeValue.{input_part}
 use Rattle.pl_spec.specs.Table.{Pipeline, value_of, in_array}
 use Rattle.pl_terms.specs.Checked.{IsChecked}
-use Rattle.pl_terms.specs.Sorts.{Sort, Factors, Filters, Labels, Numbers, Place, Factor, Filter, FactorOrClassifier, NumberedClassifier, sort_at, places, point_places, fits, all_fit, takes_sort, takes_column, has_parameters, is_limited}
+use Rattle.pl_terms.specs.Sorts.{Sort, Factors, Filters, Numbers, Place, Factor, Filter, FactorOrClassifier, NumberedClassifier, sort_at, places, point_places, fits, all_fit, takes_sort, takes_column, has_parameters, is_limited}
 use Rattle.pl_lanes.specs.Flags.{IsFlag}
 use Rattle.pl_pointwise.specs.Operands.{IsOperation, HasCells, AreOperands, AreOperandsOf, AreCells, AreFlags, operation}
 use Rattle.pl_cross.specs.Arrays.{sid_in}
-use Rattle.pl_cross.proofs.Codes.{present_code}
-use Rattle.pl_values.specs.Arrays.{cell_of, empty_cell, is_kept, chosen, Fills}
+use Rattle.pl_values.specs.Arrays.{cell_of, Fills}
 use Rattle.pl_values.specs.Inputs.{IsInputRow, AreRows}
-use Rattle.pl_values.specs.Laws.{IsNode, IsGiven, PointCells, PointOperands}
-use Rattle.pl_values.proofs.Typed.{fit-at, has-input, no-input, filter-sort}
+use Rattle.pl_values.specs.Laws.{PointCells, PointOperands}
+use Rattle.pl_values.proofs.Typed.{has-input, filter-sort}
 use Rattle.pl_values.proofs.Numbers.{plain_sort, plain-number}
 use Rattle.pl_values.proofs.Cells.{gated, cell-number}
 use Rattle.pl_values.proofs.Flags.{filter-cell}

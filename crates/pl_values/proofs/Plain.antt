@@ -1,29 +1,28 @@
 -- Constants, lists of sids, labels and tests of labels.
-use Rattle.std.proofs.Common.{◌≡◌, ◌⊎◌, ℕ, ◌<◌, ◌≤◌, Bool, true, false, ◌&&◌, if◌then◌else◌, ℤ, pos, List, [], Option, Some, None, length, refl, sym, ◌∙◌, ap, arith, slice_get, get_or, inl, inr, nat_le, nat_lt, position, unwrap_or, bytes_eq, Contains, unsigned_abs}
+use Rattle.std.proofs.Common.{◌≡◌, ℕ, ◌<◌, ◌≤◌, true, false, ℤ, pos, List, [], Option, Some, None, length, refl, sym, ◌∙◌, ap, arith, slice_get, get_or, inl, inr, nat_lt, position, unwrap_or, bytes_eq, Contains, unsigned_abs}
 use Rattle.std.proofs.Common.{true≢false}
 use Rattle.std.proofs.lemmas.Bool.Decides.{nat_tests}
 use Rattle.std.proofs.lemmas.Slice.Eq.{bytes_eq-Decides}
 use Rattle.std.proofs.lemmas.List.Quantifiers.{position-Some}
 use Rattle.pl_spec.proofs.Places.{nowhere}
-use Rattle.pl_spec.specs.Rounding.{MISSING, LIMIT, IsCell, is_missing}
-use Rattle.pl_spec.specs.World.{World, label_at}
+use Rattle.pl_spec.specs.Rounding.{LIMIT, IsCell}
+use Rattle.pl_spec.specs.World.{label_at}
 use Rattle.pl_spec.specs.Kind.{Kind, LabelKind}
-use Rattle.pl_spec.specs.Kind.Kind.{Constant, Label, StaticSids, Window, Point, LabelTest, Cross, Downsample}
+use Rattle.pl_spec.specs.Kind.Kind.{Constant, Label, LabelTest}
 use Rattle.pl_spec.specs.Formula.{truth}
 use Rattle.pl_spec.specs.Pointwise.{label_test}
 use Rattle.pl_spec.specs.Term.{Node, Input}
 use Rattle.pl_spec.specs.Term.Input.{BarColumn, TermInput}
-use Rattle.pl_spec.specs.Value.{Value, Part, name_at, label_value, test_value, step}
-use Rattle.pl_spec.specs.Value.Value.{Number, Text}
+use Rattle.pl_spec.specs.Value.{Value, name_at, test_value, step}
 use Rattle.pl_spec.specs.Table.{Pipeline, value_of, in_array}
 use Rattle.pl_terms.specs.Checked.{IsChecked}
-use Rattle.pl_terms.specs.Sorts.{Place, LabelClassifier, Labels, sort_at, places, fits, takes_sort, has_parameters, is_limited}
-use Rattle.pl_cross.specs.Arrays.{sid_in, HasTexts}
+use Rattle.pl_terms.specs.Sorts.{LabelClassifier, Labels, sort_at, places, fits, has_parameters, is_limited}
+use Rattle.pl_cross.specs.Arrays.{sid_in}
 use Rattle.pl_cross.proofs.Codes.{IsCoded}
-use Rattle.pl_values.specs.Arrays.{cell_of, empty_cell, is_kept, chosen}
+use Rattle.pl_values.specs.Arrays.{cell_of}
 use Rattle.pl_values.specs.Families.{sid_flag, label_code, IsCode, code_flag}
-use Rattle.pl_values.specs.Laws.{IsNode, IsGiven, UnkeptCells, ConstantCells, SidCells, LabelCells, LabelTestCells}
-use Rattle.pl_values.proofs.Typed.{fit-at, has-input, label-sort}
+use Rattle.pl_values.specs.Laws.{UnkeptCells, ConstantCells, SidCells, LabelCells, LabelTestCells}
+use Rattle.pl_values.proofs.Typed.{has-input, label-sort}
 use Rattle.pl_values.proofs.Numbers.{coded-sort}
 use Rattle.pl_values.proofs.Cells.{gated, ungated}
 

@@ -4,9 +4,8 @@ use Rattle.std.proofs.lemmas.Bool.Decides.{nat_tests}
 use Rattle.std.proofs.lemmas.Slice.Eq.{bytes_eq-Decides}
 use Rattle.pl_spec.specs.World.{LabelRow}
 use Rattle.pl_spec.specs.Parts.{ColumnLabel, label_of}
-use Rattle.pl_spec.specs.declared.AssetRow.{AssetRow}
 use Rattle.pl_spec.proofs.Members.{In, in-contains, contains-in}
-use Rattle.pl_assets.specs.Labels.{LabelTable, AreLabels, first_seen, is_text, texts_of}
+use Rattle.pl_assets.specs.Labels.{first_seen, is_text, texts_of}
 use Rattle.pl_values.specs.Laws.{TextsHaveCodes}
 
 in-map : {A B : Type 0} (f : A → B) (xs : List A) (y : B) → In y (map f xs) → (x : A) × In x xs × (y ≡ f x)

@@ -1,11 +1,8 @@
 -- What the nodes of a checked pipeline mention.
-use Rattle.std.proofs.Common.{◌≡◌, ℕ, zero, suc, Bool, true, false, ◌&&◌, List, [], ◌∷◌, Option, Some, None, refl, sym, ◌∙◌, ap, slice_get, option_map}
+use Rattle.std.proofs.Common.{◌≡◌, ℕ, zero, suc, Bool, true, false, List, [], ◌∷◌, Option, Some, None, refl, sym, ◌∙◌, ap, slice_get, option_map}
 use Rattle.std.proofs.lemmas.Bool.{and_parts}
-use Rattle.pl_spec.specs.Kind.{Kind}
-use Rattle.pl_spec.specs.Kind as kind
 use Rattle.pl_spec.specs.Term.{Graph, Node, Input}
-use Rattle.pl_spec.specs.Term.Input.{BarColumn, TermInput}
-use Rattle.pl_terms.specs.Sorts.{Sort, Factors, Filters, Labels, Numbers, sort_of, sort_at, Place, takes_sort, fits, all_fit, optional_fits, has_parameters}
+use Rattle.pl_terms.specs.Sorts.{Sort, Factors, Filters, Labels, Numbers, sort_of, sort_at, Place, takes_sort, fits, all_fit, optional_fits}
 
 -- each input is one that its place takes
 pub fit-at : (g : Graph) (ps : List Place) (is : List Input) (i : ℕ) (x : Input) → all_fit g ps is ≡ true → slice_get is i ≡ Some x

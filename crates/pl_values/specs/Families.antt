@@ -1,12 +1,12 @@
 -- The families of kinds, what each asks of its parameters and cells, and what it gives over cells.
-use Rattle.std.specs.Prelude.{◌≡◌, ℕ, ◌≤◌, ◌<◌, ◌==◌, Bool, true, false, ℤ, pos, List, [], length, get_or, All, Option, Some, None, if◌then◌else◌, IsTrue, ⊤, ◌⊎◌, unsigned_abs}
+use Rattle.std.specs.Prelude.{◌≡◌, ℕ, ◌≤◌, ◌<◌, ◌==◌, Bool, true, false, ℤ, pos, List, [], length, get_or, All, Option, Some, None, if◌then◌else◌, IsTrue, ◌⊎◌, unsigned_abs}
 use Rattle.std.specs.List.{list_any}
 use Rattle.pl_spec.specs.Rounding.{MISSING, IsCell, is_missing}
 use Rattle.pl_spec.specs.Kind as spec
 use Rattle.pl_spec.specs.Kind.{Kind, WindowKind, PointKind, LabelKind, CrossKind}
 use Rattle.pl_spec.specs.Formula.{truth, formula}
 use Rattle.pl_spec.specs.Pointwise.{label_test}
-use Rattle.pl_spec.specs.Value.{label_value, is_window_filter}
+use Rattle.pl_spec.specs.Value.{label_value}
 use Rattle.pl_spec.specs.Table.{in_array}
 use Rattle.pl_factors.specs.Kinds.{IsWindowFactor, takes_pairs}
 use Rattle.pl_filters.specs.Filters.{IsWindowFilter, AreValues}

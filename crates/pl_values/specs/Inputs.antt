@@ -1,9 +1,8 @@
 -- What the inputs, the mask and the group of a node are as cells, over the arrays of the terms that it mentions.
 use Rattle.std.specs.Prelude.{◌≡◌, ℕ, ◌<◌, List, [], ℤ, pos, length, All, AllPairs, Option, Some, None, slice_get}
-use Rattle.pl_spec.specs.Rounding.{MISSING, IsCell}
+use Rattle.pl_spec.specs.Rounding.{IsCell}
 use Rattle.pl_spec.specs.World.{World}
 use Rattle.pl_spec.specs.Window.{bar_window}
-use Rattle.pl_spec.specs.Kind.{CrossKind}
 use Rattle.pl_spec.specs.Term.{Input, Node}
 use Rattle.pl_spec.specs.Term.Input.{BarColumn, TermInput}
 use Rattle.pl_spec.specs.Table.{Pipeline}

@@ -1,10 +1,10 @@
 -- What the cells of a numbered term are over the cells of the terms that it mentions, family by family, in any checked pipeline.
-use Rattle.std.specs.Prelude.{◌≡◌, ℕ, ◌+◌, ◌<◌, ◌≤◌, false, ℤ, pos, List, length, All, Option, Some, slice_get, get_or}
+use Rattle.std.specs.Prelude.{◌≡◌, ℕ, ◌+◌, ◌<◌, ◌≤◌, false, ℤ, pos, List, length, Option, Some, slice_get, get_or}
 use Rattle.pl_spec.specs.Rounding.{IsCell}
 use Rattle.pl_spec.specs.World.{World, label_at}
 use Rattle.pl_spec.specs.Kind as spec
 use Rattle.pl_spec.specs.Kind.{WindowKind, PointKind, LabelKind, CrossKind}
-use Rattle.pl_spec.specs.Parts.{ColumnLabel, ColumnAdjustment, world_of}
+use Rattle.pl_spec.specs.Parts.{ColumnAdjustment, world_of}
 use Rattle.pl_spec.specs.Term.{Node}
 use Rattle.pl_spec.specs.Term.Input.{TermInput}
 use Rattle.pl_spec.specs.Table.{Pipeline}

@@ -1,4 +1,4 @@
-use Rattle.std.proofs.Common.{◌≡◌, ℕ, ◌<◌, ◌≤◌, true, false, ◌∙◌, ℤ, List, length, get_or, All, refl, sym, arith, subst, Option}
+use Rattle.std.proofs.Common.{◌≡◌, ℕ, ◌<◌, ◌≤◌, true, false, ◌∙◌, ℤ, List, length, All, refl, sym, arith, subst, Option}
 use Rattle.std.proofs.lemmas.List.{get_or_default}
 use Rattle.pl_spec.specs.Rounding.{MISSING, IsCell}
 use Rattle.pl_spec.specs.Cross.{at}
