@@ -134,6 +134,7 @@ section-cell w p sids k n i s own f values keep labels texts e rows =
       keep = kept w p sids ok k n is f e s keep rows.keep;
       groups = groups-of w p sids ok f x.0 s n.group values labels texts x.2 b (group-sort w p sids ok k n is f e) rows.groups;
     } in
-    let arrays = subst (λ (o : Option Input). AreArrays w f (input_part w p.names p.graph o) (number_part w p.names p.graph n.mask) (number_part w p.names p.graph n.group) (pos s) columns) (sym x.1) whole in
-    (right-of n.kind f e (allowed-right n.kind n.window (length p.names) (ok.nodes k n is).parameters),
-        λ h. ap (in_array w.texts) (node-value w p.names p.graph k n f (pos s) columns ok.graph is e arrays i h))
+    let arrays = subst (λ (o : Option Input). AreArrays w f (input_part w p.names p.graph o) (number_part w p.names p.graph n.mask) (number_part w p.names p.graph n.group) (pos s) columns) (sym x.1) whole in (
+      right-of n.kind f e (allowed-right n.kind n.window (length p.names) (ok.nodes k n is).parameters),
+      λ h. ap (in_array w.texts) (node-value w p.names p.graph k n f (pos s) columns ok.graph is e arrays i h),
+    )

@@ -193,8 +193,8 @@ takes-windows w p sids ok k n is f e i s early a b c g =
       second = g.second_cells;
       third = g.third_cells;
       few =
-        (let long : length a ≤ n.window = subst (λ l. length l ≤ n.window) (sym g.first) (window-long w p sids ok k n is f e i s early (slice_get n.inputs 0)) in
-         let m = most w p sids ok k n is f e in omega arith);
+          (let long : length a ≤ n.window = subst (λ l. length l ≤ n.window) (sym g.first) (window-long w p sids ok k n is f e i s early (slice_get n.inputs 0)) in
+          let m = most w p sids ok k n is f e in omega arith);
       paired = λ h. let q = paired-places f h in two-full w p sids ok k n is f e i s early a b q.0 q.1 q.2 q.3 g.first g.second;
     }
 
@@ -202,12 +202,13 @@ pub window-cell : WindowCells
 unfolding step
 window-cell w p sids k n i s own f a b c e early g =
     let ok = own.checked in
-    let is = own.node in
-    (subst (λ q. TakesWindows q a b c) (sym e) (takes-windows w p sids ok k n is f e i s early a b c g),
-        gated w p sids ok k n is i s (windowed n.kind a b c)
-        (rw e
-            (ap (λ x. formula f x (window_of w n.window (input_part w p.names p.graph (slice_get n.inputs 1)) (sid_in sids i) (pos s)) (window_of w n.window (input_part w p.names p.graph (slice_get n.inputs 2)) (sid_in sids i) (pos s)))
-                (window-same w p sids ok k n is f e i s early 0 (slice_get n.inputs 0) refl ∙ sym g.first)
-            ∙ ap (λ x. formula f a x (window_of w n.window (input_part w p.names p.graph (slice_get n.inputs 2)) (sid_in sids i) (pos s)))
-                (window-same w p sids ok k n is f e i s early 1 (slice_get n.inputs 1) refl ∙ sym g.second)
-            ∙ ap (λ x. formula f a b x) (window-same w p sids ok k n is f e i s early 2 (slice_get n.inputs 2) refl ∙ sym g.third))))
+    let is = own.node in (
+      subst (λ q. TakesWindows q a b c) (sym e) (takes-windows w p sids ok k n is f e i s early a b c g),
+      gated w p sids ok k n is i s (windowed n.kind a b c)
+          (rw e
+          (ap (λ x. formula f x (window_of w n.window (input_part w p.names p.graph (slice_get n.inputs 1)) (sid_in sids i) (pos s)) (window_of w n.window (input_part w p.names p.graph (slice_get n.inputs 2)) (sid_in sids i) (pos s)))
+          (window-same w p sids ok k n is f e i s early 0 (slice_get n.inputs 0) refl ∙ sym g.first)
+          ∙ ap (λ x. formula f a x (window_of w n.window (input_part w p.names p.graph (slice_get n.inputs 2)) (sid_in sids i) (pos s)))
+          (window-same w p sids ok k n is f e i s early 1 (slice_get n.inputs 1) refl ∙ sym g.second)
+          ∙ ap (λ x. formula f a b x) (window-same w p sids ok k n is f e i s early 2 (slice_get n.inputs 2) refl ∙ sym g.third))),
+    )

@@ -162,7 +162,7 @@ module _ (w : World) (p : Pipeline) (sids : List ℕ) (ok : IsChecked p) (k : �
             let numbered = plain-number w p ok x.0 (sort_at p.graph x.0) refl (takes-plain q.0 (sort_at p.graph x.0) (both-true _ _ plain x.2)) in
             let row_cell : get_or row i (pos 0) ≡ cell_of w p sids x.0 i s = (row-is j x.0 s size row x.1 r).each i inside in
             let value_cell : number_of (now (input_part w p.names p.graph (slice_get n.inputs j)) (sid_in sids i) (pos s)) ≡ cell_of w p sids x.0 i s =
-                ap (λ (o : Option Input). number_of (now (input_part w p.names p.graph o) (sid_in sids i) (pos s))) x.1 ∙ cell-number w p sids ok x.0 numbered i s in
+            ap (λ (o : Option Input). number_of (now (input_part w p.names p.graph o) (sid_in sids i) (pos s))) x.1 ∙ cell-number w p sids ok x.0 numbered i s in
             ap (used f j) (value_cell ∙ sym row_cell)
 
   -- ---- the cell
@@ -252,9 +252,10 @@ has-cells f w names h = tt
 
 pub point-operands : PointOperands
 point-operands w p sids k n i s own f size a b c e rows =
-    let parameters = subst (λ q. has_parameters q n.window (length p.names) ≡ true) e (own.checked.nodes k n own.node).parameters in
-    (subst IsOperation (sym e) (has-cells f n.window (length p.names) parameters),
-        subst (λ q. AreOperands q a b c size) (sym e) (operands-of w p sids own.checked k n own.node f e s size a b c rows))
+    let parameters = subst (λ q. has_parameters q n.window (length p.names) ≡ true) e (own.checked.nodes k n own.node).parameters in (
+      subst IsOperation (sym e) (has-cells f n.window (length p.names) parameters),
+      subst (λ q. AreOperands q a b c size) (sym e) (operands-of w p sids own.checked k n own.node f e s size a b c rows),
+    )
 
 pub point-cell : PointCells
 unfolding step

@@ -51,9 +51,10 @@ label-below k w names name e h = let l : nat_lt name names ≡ true = rw e at h 
 
 pub label-cell : LabelCells
 unfolding step
-label-cell w p sids k n i s own name e =
-    (label-below n.kind n.window _ name e (own.checked.nodes k n own.node).parameters,
-        gated w p sids own.checked k n own.node i s (label_code w.texts (label_at w (name_at p.names name) (sid_in sids i) (pos s))) (rw e refl))
+label-cell w p sids k n i s own name e = (
+  label-below n.kind n.window _ name e (own.checked.nodes k n own.node).parameters,
+  gated w p sids own.checked k n own.node i s (label_code w.texts (label_at w (name_at p.names name) (sid_in sids i) (pos s))) (rw e refl),
+)
 
 -- ---- tests of labels
 
@@ -95,7 +96,8 @@ unfolding cell_of step
 label-test-cell w p sids k n i s own f t texts e x =
     let input = label-input p own.checked k n own.node f e in
     let same : input.0 ≡ t = cc in
-    let coded : IsCoded w.texts (value_of w p t (sid_in sids i) (pos s)) = coded-sort w p own.checked t texts (ap (sort_at p.graph) (sym same) ∙ input.2) (sid_in sids i) (pos s) in
-    (coded-code w.texts (value_of w p t (sid_in sids i) (pos s)) coded,
-        gated w p sids own.checked k n own.node i s (code_flag w.texts n.kind (in_array w.texts (value_of w p t (sid_in sids i) (pos s))))
-        (rw (e, x) (coded-test w.texts f (value_of w p t (sid_in sids i) (pos s)) coded)))
+    let coded : IsCoded w.texts (value_of w p t (sid_in sids i) (pos s)) = coded-sort w p own.checked t texts (ap (sort_at p.graph) (sym same) ∙ input.2) (sid_in sids i) (pos s) in (
+      coded-code w.texts (value_of w p t (sid_in sids i) (pos s)) coded,
+      gated w p sids own.checked k n own.node i s (code_flag w.texts n.kind (in_array w.texts (value_of w p t (sid_in sids i) (pos s))))
+          (rw (e, x) (coded-test w.texts f (value_of w p t (sid_in sids i) (pos s)) coded)),
+    )

@@ -55,7 +55,8 @@ pub record Holds (f : ℕ → ℕ → ℤ) (assets low count : ℕ) (cells : Lis
   pub each : (i j : ℕ) → i < assets → j < count → get_or cells (i * count + j) (pos 0) ≡ f i (low + j)
   pub cell : (i j : ℕ) → i < assets → j < count → IsCell (f i (low + j))
 
--- Session j of the array is written: each asset's cell is f's and a cell indeed, and no other session's is changed.
+-- Session j of the array is written: each asset's cell is f's and a cell indeed, and no other session's is
+-- changed.
 pub record IsRow (f : ℕ → ℤ) (assets count j : ℕ) (old new : List ℤ) : Type 0 where
   pub size : length new ≡ length old
   pub written : (i : ℕ) → i < assets → get_or new (i * count + j) (pos 0) ≡ f i
