@@ -1,10 +1,10 @@
 -- What a term reads may be asked for where the term may.
-use Rattle.std.proofs.Common.{◌≡◌, ℕ, zero, suc, ◌+◌, ◌-◌, ◌<◌, ◌≤◌, ◌==◌, Bool, true, false, ℤ, pos, negsuc, ◌≤ℤ◌, ◌-ℤ◌, List, [], ◌∷◌, map, fold, length, Option, Some, None, option_map, slice_get, refl, sym, ◌∙◌, ap, subst, arith}
+use Rattle.std.proofs.Common.{◌≡◌, ℕ, zero, suc, ◌+◌, ◌-◌, ◌<◌, ◌≤◌, ◌==◌, Bool, true, false, ℤ, pos, ◌≤ℤ◌, List, [], ◌∷◌, map, length, Option, Some, None, option_map, slice_get, refl, sym, ◌∙◌, ap, subst, arith}
 use Rattle.std.specs.Int.{int_min}
 use Rattle.std.proofs.lemmas.Int.{ints, int_min_is}
 use Rattle.std.proofs.lemmas.Bool.Decides.{nat_tests}
 use Rattle.std.proofs.lemmas.List.{length-map}
-use Rattle.std.proofs.lemmas.Option.{slice_get-map, slice_get_within}
+use Rattle.std.proofs.lemmas.Option.{slice_get-map}
 use Rattle.pl_spec.specs.Window.{before, downward}
 use Rattle.pl_spec.specs.Kind as kinds
 use Rattle.pl_spec.specs.Kind.{Kind}
@@ -21,7 +21,6 @@ use Rattle.pl_terms.specs.declared.node.Input.TheVariants as input
 use Rattle.pl_terms.specs.declared.node.Node.{Node}
 use Rattle.pl_terms.specs.declared.kind.TermKind.{TermKind}
 use Rattle.pl_terms.specs.declared.kind.TermKind.TheVariants as kind
-use Rattle.pl_terms.specs.declared.kind.LabelValue.{LabelValue}
 use Rattle.pl_terms.specs.declared.kind.LabelValue.TheVariants as label
 use Rattle.pl_terms.specs.Kinds.{kind_of}
 use Rattle.pl_terms.specs.Nodes.{node_of, graph_of, input_of, number_of}
@@ -90,7 +89,7 @@ reaches-of days g t m d ok e r h =
     let tree = subst (λ x. pos 0 ≤ℤ reach days x d) (term_at-node g t m ok e) h in
     let all = least-low (reach_list days g m (reads_at days m.kind d) d) d tree in
     let at : (o : _) → pos 0 ≤ℤ part_reach (input_tree (trees g) o) (reach days (input_tree (trees g) o)) m.window (reads_at days m.kind d) → pos 0 ≤ℤ part_reach (input_tree (trees g) o) (reach days (input_tree (trees g) o)) m.window d
-        = λ o q. subst (λ s. pos 0 ≤ℤ part_reach (input_tree (trees g) o) (reach days (input_tree (trees g) o)) m.window s) r q in
+    = λ o q. subst (λ s. pos 0 ≤ℤ part_reach (input_tree (trees g) o) (reach days (input_tree (trees g) o)) m.window s) r q in
     record {
       own = all.0;
       first = at (slice_get m.inputs 0) all.1.0;
@@ -142,13 +141,15 @@ module _ (w : World) (c : Parts) (ok : IsChecked (pipeline_of c)) (t session : �
       let m = has-node (graph_of c.graph) u (omega (arith, h, long-graph c.graph)) in
       let all = least-low (map (λ i. reach w.sessions.now (term_at (graph_of c.graph) u) (before (pos session) i)) (downward size)) (pos session) (subst (λ x. pos 0 ≤ℤ x) (part-node (graph_of c.graph) u size m.0 (reach w.sessions.now (term_at (graph_of c.graph) u)) (pos session) ok.graph m.1) r) in
       let low : (n : ℕ) → n < size → pos 0 ≤ℤ reach w.sessions.now (term_at (graph_of c.graph) u) (before (pos session) n) = λ n l. below-low (λ i. reach w.sessions.now (term_at (graph_of c.graph) u) (before (pos session) i)) size n all.1 l in
-      let there : (n : ℕ) → n < size → n ≤ session = λ n l. early session n (own-low w.sessions.now (graph_of c.graph) u m.0 (before (pos session) n) ok.graph m.1 (low n l)) in
-      (some-size size there, λ n l. record {
-        made = asked.made;
-        term = h;
-        within = (let a = asked.within in omega arith);
-        reaches = subst (λ d. pos 0 ≤ℤ reach w.sessions.now (term_at (graph_of c.graph) u) d) (before-pos session n (there n l)) (low n l);
-      })
+      let there : (n : ℕ) → n < size → n ≤ session = λ n l. early session n (own-low w.sessions.now (graph_of c.graph) u m.0 (before (pos session) n) ok.graph m.1 (low n l)) in (
+        some-size size there,
+        λ n l. record {
+          made = asked.made;
+          term = h;
+          within = (let a = asked.within in omega arith);
+          reaches = subst (λ d. pos 0 ≤ℤ reach w.sessions.now (term_at (graph_of c.graph) u) d) (before-pos session n (there n l)) (low n l);
+        },
+      )
     where
       some-size : (k : ℕ) → ((n : ℕ) → n < k → n ≤ session) → k ≤ session + 1
       some-size zero f = omega arith

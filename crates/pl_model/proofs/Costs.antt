@@ -1,6 +1,5 @@
 -- The steps of an evaluation are those of what it reads.
-use Rattle.std.proofs.Common.{◌≡◌, ℕ, zero, suc, ◌+◌, ◌-◌, ◌<◌, ◌≤◌, Bool, true, false, ◌&&◌, cond, if◌then◌else◌, ℤ, pos, List, [], ◌∷◌, map, length, Option, Some, None, option_map, slice_get, sum_by, refl, sym, ◌∙◌, ap, subst, arith, add-zero}
-use Rattle.std.specs.List.{range_with_len}
+use Rattle.std.proofs.Common.{◌≡◌, ℕ, zero, suc, ◌+◌, ◌-◌, ◌<◌, true, false, ◌&&◌, if◌then◌else◌, ℤ, pos, List, [], ◌∷◌, length, Option, Some, None, option_map, slice_get, sum_by, refl, sym, ◌∙◌, ap, arith, add-zero}
 use Rattle.std.proofs.lemmas.List.Sums.{sum_by-cons}
 use Rattle.pl_spec.specs.declared.AssetRow.{AssetRow}
 use Rattle.pl_spec.specs.World.{World as SpecWorld, exists}
@@ -26,7 +25,7 @@ use Rattle.pl_values.proofs.Cells.{keeps-is}
 use Rattle.pl_values.proofs.Empties.{node-there}
 use Rattle.pl_model.specs.declared.world.World.{World}
 use Rattle.pl_model.specs.Worlds.{world_of}
-use Rattle.pl_model.specs.Evaluations.{Cost, cost, window_cost, session_cost, kind_cost, cost_in, input_cost_in, window_cost_in, row_cost_in, input_row_cost_in, optional_cost_in, given_cost_of, given_cost_in, as_input, IsAsked, IsAskedInput}
+use Rattle.pl_model.specs.Evaluations.{Cost, cost, window_cost, session_cost, kind_cost, cost_in, input_cost_in, window_cost_in, input_row_cost_in, optional_cost_in, given_cost_of, given_cost_in, as_input, IsAsked, IsAskedInput}
 use Rattle.pl_model.proofs.Asked.{inputs-at, has-node, long-graph, first-asked, second-asked, third-asked}
 
 -- ---- sums
@@ -159,8 +158,8 @@ module _ (w : World) (c : Parts) (ok : IsChecked (pipeline_of c)) (t s : ℕ) (a
       ap (λ x. tree_cost x a (pos s)) (term_at-node (graph_of c.graph) t (node_of n) ok.graph there)
       ∙ ap (λ k. k + (if exists (world_of w) a (pos s) && passes (part_of (number_tree (trees (graph_of c.graph)) (option_map number_of n.mask)) (value (world_of w) (pipeline_of c).names (number_tree (trees (graph_of c.graph)) (option_map number_of n.mask)))) a (pos s) then kind_costs (kind_of n.kind) else 0)) (mask-cost n.mask)
       ∙ ap (λ q. input_cost_in w c (as_input n.mask) a s + (if exists (world_of w) a (pos s) && passes q a (pos s) then kind_costs (kind_of n.kind) else 0))
-        (mask-part (world_of w) (pipeline_of c).names (graph_of c.graph) (option_map number_of n.mask) ok.graph
-            (λ k e. let l = (ok.graph.lower t (node_of n) there).mask k e in let r = asked.term in omega (arith, l, r, long-graph c.graph)))
+      (mask-part (world_of w) (pipeline_of c).names (graph_of c.graph) (option_map number_of n.mask) ok.graph
+      (λ k e. let l = (ok.graph.lower t (node_of n) there).mask k e in let r = asked.term in omega (arith, l, r, long-graph c.graph)))
       ∙ ap (λ b. input_cost_in w c (as_input n.mask) a s + (if b then kind_costs (kind_of n.kind) else 0)) (keeps-is (world_of w) (pipeline_of c) (a ∷ []) ok t (node_of n) there 0 s)
       ∙ ap (λ k. input_cost_in w c (as_input n.mask) a s + (if is_kept (world_of w) (pipeline_of c) (a ∷ []) (option_map number_of n.mask) 0 s then k else 0)) (kind-is (kind_of n.kind) ∙ sym given-is)
 

@@ -1,6 +1,6 @@
 -- What the calls of an evaluation give is the value of the term.
-use Rattle.std.proofs.Common.{◌≡◌, ℕ, zero, suc, ◌+◌, ◌-◌, ◌<◌, ◌≤◌, Bool, true, false, ◌&&◌, ℤ, pos, List, [], ◌∷◌, map, length, get_or, Option, Some, None, option_map, slice_get, All, IfSome, ◌⊎◌, inl, inr, Result, Ok, Err, OnOk, unwrap_or, refl, sym, ◌∙◌, ap, subst, arith}
-use Rattle.pl_spec.specs.Rounding.{MISSING, IsCell}
+use Rattle.std.proofs.Common.{◌≡◌, ℕ, ◌+◌, ◌<◌, ◌≤◌, Bool, true, false, ℤ, pos, List, [], ◌∷◌, length, get_or, Option, Some, None, option_map, slice_get, All, ◌⊎◌, inl, inr, Result, Ok, Err, OnOk, unwrap_or, refl, sym, ◌∙◌, ap, subst, arith}
+use Rattle.pl_spec.specs.Rounding.{IsCell}
 use Rattle.pl_spec.specs.World.{World as SpecWorld, exists}
 use Rattle.pl_spec.specs.Parts.{sid_at}
 use Rattle.pl_spec.specs.declared.AssetRow.{AssetRow}
@@ -11,7 +11,6 @@ use Rattle.pl_spec.specs.Term as spec
 use Rattle.pl_spec.specs.Term.{term_at}
 use Rattle.pl_spec.specs.Value.{number_of as number_in, empty, sort_kind, name_at}
 use Rattle.pl_spec.specs.World.{label_at}
-use Rattle.pl_spec.specs.Table.{Pipeline, in_array, value_of}
 use Rattle.pl_spec.proofs.Unfolds.{past}
 use Rattle.pl_terms.specs.declared.node.TermId.{TermId}
 use Rattle.pl_terms.specs.declared.node.Input.{Input}
@@ -20,11 +19,11 @@ use Rattle.pl_terms.specs.declared.node.Node.{Node}
 use Rattle.pl_terms.specs.Kinds.{kind_of}
 use Rattle.pl_terms.specs.Nodes.{node_of, graph_of, input_of, number_of}
 use Rattle.pl_terms.specs.Checked.{Parts, pipeline_of, IsChecked}
-use Rattle.pl_terms.specs.Sorts.{is_windowed, sort_at, Labels}
+use Rattle.pl_terms.specs.Sorts.{is_windowed}
 use Rattle.pl_pointwise.specs.Operands.{IsOperation, AreOperands, operation}
 use Rattle.pl_cross.specs.Section.{is_section}
 use Rattle.pl_cross.specs.Arrays.{HasTexts}
-use Rattle.pl_values.specs.Arrays.{cell_of, empty_cell, is_kept, chosen, Fills}
+use Rattle.pl_values.specs.Arrays.{cell_of, empty_cell, is_kept, chosen}
 use Rattle.pl_values.specs.Inputs.{input_window, AreWindows, IsInputRow, AreRows}
 use Rattle.pl_values.specs.Families.{windowed, TakesWindows, sid_flag, label_code, IsCode, code_flag, is_sids, is_point, is_label_test}
 use Rattle.pl_values.specs.Laws.{IsNode}
@@ -32,7 +31,7 @@ use Rattle.pl_values.proofs.Empties.{node-there}
 use Rattle.pl_values.proofs.Given.{unkept-cell, constant-cell, window-cell, point-cell, point-operands, sid-cell, label-cell, label-test-cell, label-input, section-input, window-input}
 use Rattle.pl_model.specs.declared.world.World.{World}
 use Rattle.pl_model.specs.Worlds.{world_of}
-use Rattle.pl_model.specs.Evaluations.{IsAsked, IsAskedInput, IsKept, HasKind, as_input, lets_pass, cell_in, input_cell_in, window_in}
+use Rattle.pl_model.specs.Evaluations.{IsAskedInput, IsKept, as_input, lets_pass, cell_in, input_cell_in, window_in}
 use Rattle.pl_model.proofs.Asked.{inputs-at}
 
 -- ---- families

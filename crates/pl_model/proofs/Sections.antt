@@ -1,35 +1,30 @@
 -- The rows of a session for all assets, and the cross-section over them.
-use Rattle.std.proofs.Common.{◌≡◌, ℕ, zero, suc, ◌+◌, ◌<◌, ◌≤◌, Bool, true, false, ◌&&◌, ℤ, pos, List, [], ◌∷◌, ◌++◌, map, filter, length, length-append, inl, inr, get_or, Option, Some, None, option_map, slice_get, unwrap_or, All, IfSome, refl, sym, ◌∙◌, ap, subst, arith}
+use Rattle.std.proofs.Common.{◌≡◌, ℕ, suc, ◌+◌, ◌<◌, Bool, true, false, ◌&&◌, ℤ, pos, List, [], ◌∷◌, ◌++◌, map, filter, length, length-append, inl, inr, get_or, Option, Some, None, option_map, slice_get, All, IfSome, refl, sym, ◌∙◌, ap, subst, arith}
 use Rattle.std.specs.List.{AllPairs}
 use Rattle.std.proofs.lemmas.Bool.{cases_lt}
 use Rattle.std.proofs.Math.ListN.{get_or-append}
 use Rattle.std.proofs.Math.Seq.{get_or-append_seam}
-use Rattle.std.proofs.lemmas.List.{get_or-map, length-map, get_or_default}
+use Rattle.std.proofs.lemmas.List.{get_or-map, length-map}
 use Rattle.std.proofs.lemmas.Option.{slice_get-get_or}
 use Rattle.pl_spec.specs.declared.AssetRow.{AssetRow}
 use Rattle.pl_spec.specs.Rounding.{IsCell}
 use Rattle.pl_spec.specs.Formula.{is_true}
 use Rattle.pl_spec.specs.Parts.{sid_at}
 use Rattle.pl_spec.specs.World.{World as SpecWorld, exists, day_of, lives_on}
-use Rattle.pl_spec.specs.Cross.{at}
 use Rattle.pl_spec.specs.Kind as kinds
 use Rattle.pl_spec.specs.Kind.{CrossKind}
-use Rattle.pl_spec.specs.Term.{term_at}
 use Rattle.pl_terms.specs.declared.node.TermId.{TermId}
-use Rattle.pl_terms.specs.declared.node.Input.{Input}
-use Rattle.pl_terms.specs.declared.node.Input.TheVariants as input
 use Rattle.pl_terms.specs.declared.node.Node.{Node}
 use Rattle.pl_terms.specs.Kinds.{kind_of}
 use Rattle.pl_terms.specs.Nodes.{node_of, graph_of, input_of, number_of}
 use Rattle.pl_terms.specs.Checked.{Parts, pipeline_of, IsChecked}
-use Rattle.pl_cross.specs.Section.{IsRight, HasParameters, is_section}
+use Rattle.pl_cross.specs.Section.{HasParameters, is_section}
 use Rattle.pl_cross.specs.Arrays.{sid_in, section_at, HasTexts}
 use Rattle.pl_cross.specs.Listing.{Fits}
 use Rattle.pl_cross.proofs.Allowed.{allowed-right}
 use Rattle.pl_assets.specs.Assets.{AreAssets}
-use Rattle.pl_values.specs.Arrays.{cell_of, is_kept, HasAll, Fills, IsKeep}
+use Rattle.pl_values.specs.Arrays.{cell_of, is_kept, HasAll, Fills}
 use Rattle.pl_values.specs.Inputs.{IsInputRow, IsGroupRow, AreSectionRows}
-use Rattle.pl_values.specs.Laws.{IsNode}
 use Rattle.pl_values.proofs.Empties.{node-there}
 use Rattle.pl_values.proofs.Given.{section-cell}
 use Rattle.pl_model.specs.declared.world.World.{World}
@@ -37,7 +32,6 @@ use Rattle.pl_model.specs.Worlds.{world_of}
 use Rattle.pl_model.specs.Evaluations.{cell_in, row_in, optional_row_in, lets_pass_at, IsKeepRow, AreRowsOf}
 use Rattle.pl_model.proofs.Lifetimes.{among-at, is_among}
 use Rattle.pl_model.proofs.Asked.{inputs-at}
-use Rattle.pl_model.proofs.Evaluated.{section-is}
 
 -- ---- the sids of all assets have those that exist
 
@@ -176,14 +170,16 @@ module _ (w : World) (c : Parts) (ok : IsChecked (pipeline_of c)) (assets : AreA
 pub keep-more : (kept : ℕ → Bool) (i : ℕ) (old new : List ℤ) (x : ℤ) → new ≡ old ++ x ∷ [] → length old ≡ i → ((j : ℕ) → j < i → is_true (get_or old j (pos 0)) ≡ kept j) → is_true x ≡ kept i
     → (length new ≡ i + 1) × ((j : ℕ) → j < i + 1 → is_true (get_or new j (pos 0)) ≡ kept j)
 keep-more kept i old new x e long each is =
-    let size : length new ≡ i + 1 = (let a = ap (λ (l : List ℤ). length l) e in let b = length-append old (x ∷ []) in omega (arith, a, b, long)) in
-    (size, λ j h. elim (cases_lt j i) [
-      | inl before ↦ ap (λ l. is_true (get_or l j (pos 0))) e ∙ ap is_true (get_or-append old (x ∷ []) (pos 0) j (omega (arith, before, long))) ∙ each j before
-      | inr past ↦
-          let at : j ≡ length old = omega (arith, past, h, long) in
-          let own : j ≡ i = omega (arith, past, h) in
-          ap (λ l. is_true (get_or l j (pos 0))) e ∙ ap (λ k. is_true (get_or (old ++ x ∷ []) k (pos 0))) at ∙ ap is_true (get_or-append_seam old x [] (pos 0)) ∙ is ∙ ap kept (sym own)
-    ])
+    let size : length new ≡ i + 1 = (let a = ap (λ (l : List ℤ). length l) e in let b = length-append old (x ∷ []) in omega (arith, a, b, long)) in (
+      size,
+      λ j h. elim (cases_lt j i) [
+        | inl before ↦ ap (λ l. is_true (get_or l j (pos 0))) e ∙ ap is_true (get_or-append old (x ∷ []) (pos 0) j (omega (arith, before, long))) ∙ each j before
+        | inr past ↦
+            let at : j ≡ length old = omega (arith, past, h, long) in
+            let own : j ≡ i = omega (arith, past, h) in
+            ap (λ l. is_true (get_or l j (pos 0))) e ∙ ap (λ k. is_true (get_or (old ++ x ∷ []) k (pos 0))) at ∙ ap is_true (get_or-append_seam old x [] (pos 0)) ∙ is ∙ ap kept (sym own)
+      ],
+    )
 
 -- what an option holds, read through a function
 pub some-mapped : {A B : Type 0} (f : A → B) (P : B → Type 0) (o : Option A) → IfSome (option_map f o) P → IfSome o (λ a. P (f a))

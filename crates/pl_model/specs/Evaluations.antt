@@ -1,6 +1,5 @@
 -- What a plain evaluation of a term asks for, what it gives, and the steps that it takes.
-use Rattle.std.specs.Prelude.{◌≡◌, ℕ, zero, suc, ◌+◌, ◌-◌, ◌*◌, ◌<◌, ◌≤◌, ◌&&◌, if◌then◌else◌, ℤ, pos, ◌≤ℤ◌, List, [], ◌∷◌, map, length, Option, Some, None, option_map, sum_by, slice_get, Bool, true, get_or, All, IfSome}
-use Rattle.pl_spec.specs.declared.Column.{Column}
+use Rattle.std.specs.Prelude.{◌≡◌, ℕ, suc, ◌+◌, ◌-◌, ◌<◌, ◌≤◌, ◌&&◌, if◌then◌else◌, ℤ, pos, ◌≤ℤ◌, List, [], ◌∷◌, map, length, Option, Some, None, option_map, sum_by, slice_get, Bool, true, get_or, All, IfSome}
 use Rattle.pl_spec.specs.Rounding.{MISSING, IsCell}
 use Rattle.pl_spec.specs.declared.AssetRow.{AssetRow}
 use Rattle.pl_spec.specs.Parts.{sid_at}
@@ -14,7 +13,7 @@ use Rattle.pl_spec.specs.Term.Term.{absent, column, node}
 use Rattle.pl_spec.specs.Formula.{is_true}
 use Rattle.pl_spec.specs.Graph.{reach}
 use Rattle.pl_spec.specs.Value.{passes, part_of, value}
-use Rattle.pl_spec.specs.Table.{Pipeline, value_of, in_array}
+use Rattle.pl_spec.specs.Table.{value_of, in_array}
 use Rattle.pl_terms.specs.declared.node.TermId.{TermId}
 use Rattle.pl_terms.specs.declared.node.Input.{Input}
 use Rattle.pl_terms.specs.declared.node.Input.TheVariants as input
@@ -100,9 +99,9 @@ cost w names (column c) a d = 0
 cost w names (node k size x y z m g) a d =
     cost w names m a d
     + (if exists w a d && passes (part_of m (value w names m)) a d
-       then kind_cost w k (window_cost w size x (cost w names x)) (window_cost w size y (cost w names y)) (window_cost w size z (cost w names z))
-       (cost w names x) (cost w names y) (cost w names z) (cost w names m) (cost w names g) a d
-       else 0)
+    then kind_cost w k (window_cost w size x (cost w names x)) (window_cost w size y (cost w names y)) (window_cost w size z (cost w names z))
+    (cost w names x) (cost w names y) (cost w names z) (cost w names m) (cost w names g) a d
+    else 0)
 
 -- the same of the term of a number
 abbrev pub cost_in : World → Parts → ℕ → ℕ → ℕ → ℕ

@@ -218,7 +218,9 @@ fn section_cell<L: Ledger>(
     let values = term_row(alloc, world, checked, input, session, steps)?;
     let mask = optional_row(alloc, world, checked, node.mask, session, steps)?;
     let groups = optional_row(alloc, world, checked, node.group, session, steps)?;
-    section_at(alloc, world, checked, t, col, session, &values, &mask, &groups)
+    section_at(
+        alloc, world, checked, t, col, session, &values, &mask, &groups,
+    )
 }
 
 // The window of an input, oldest first; none where there is no input.

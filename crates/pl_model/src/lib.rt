@@ -10,7 +10,7 @@ mod parts;
 mod tests;
 mod world;
 
-pub use evaluation::cell_now;
 pub use cell::{PlainTerm, plain_cell};
+pub use evaluation::cell_now;
 pub use owned::OwnedWorld;
 pub use world::World;

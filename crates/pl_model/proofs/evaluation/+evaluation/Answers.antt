@@ -1,28 +1,23 @@
-use Rattle.std.proofs.Common.{rules, ◌≡◌, ◌+◌, ◌-◌, ◌*◌, ◌<◌, ◌≤◌, ◌++◌, ◌∷◌, [], ◌∙◌, ℕ, Bool, true, false, List, All, Some, None, Option, OnOk, pos, length, slice_get, get_or, option_map, map, take, sum_by, sym, ap, subst, arith, add-zero, inl, inr, w64, FitsSigned}
+use Rattle.std.proofs.Common.{rules, ◌≡◌, ◌+◌, ◌-◌, ◌*◌, ◌<◌, ◌≤◌, ◌++◌, ◌∷◌, [], ◌∙◌, true, false, All, Some, pos, length, slice_get, sym, ap, subst, arith, add-zero, inl, inr, w64, FitsSigned}
 use Rattle.std.proofs.lemmas.Int.{to_z-of_z}
 use Rattle.pl_spec.specs.Rounding.{IsCell}
 use Rattle.pl_spec.specs.Parts.{sid_at}
 use Rattle.pl_spec.specs.World.{exists}
 use Rattle.pl_spec.specs.Term.{term_at}
-use Rattle.pl_spec.specs.Kind as kinds
-use Rattle.pl_terms.specs.declared.node.Node.{Node}
 use Rattle.pl_terms.specs.declared.node.Input.TheVariants as input
 use Rattle.pl_terms.specs.Kinds.{kind_of}
-use Rattle.pl_terms.specs.Nodes.{graph_of, number_of}
+use Rattle.pl_terms.specs.Nodes.{graph_of}
 use Rattle.pl_terms.specs.Checked.{pipeline_of}
-use Rattle.pl_terms.specs.Sorts.{is_windowed}
-use Rattle.pl_pointwise.specs.Operands.{IsOperation, AreOperands, operation}
-use Rattle.pl_cross.specs.Section.{is_section}
 use Rattle.pl_cross.specs.Arrays.{HasTexts}
-use Rattle.pl_values.specs.Families.{IsOf, IsCode, TakesWindows, windowed, is_point, is_label_test, is_sids, sid_flag}
+use Rattle.pl_values.specs.Families.{IsOf, IsCode, sid_flag}
 use Rattle.pl_values.specs.declared.family.Family.TheVariants as family
-use Rattle.pl_values.specs.Arrays.{is_kept, cell_of}
+use Rattle.pl_values.specs.Arrays.{cell_of}
 use Rattle.pl_spec.specs.Value.{number_of as number_in, empty, sort_kind}
 use Rattle.pl_values.proofs.Texts.{texts-coded}
 use Rattle.pl_model.specs.Worlds.{world_of}
-use Rattle.pl_model.specs.Evaluations.{IsAsked, IsAskedInput, IsAskedOption, IsKept, as_input, lets_pass, above, above_option, cell_in, input_cell_in, window_in, cost_in, given_cost_in, input_cost_in}
+use Rattle.pl_model.specs.Evaluations.{IsAsked, IsAskedInput, IsAskedOption, IsKept, as_input, lets_pass, above, above_option, cell_in, input_cell_in, window_in, cost_in, input_cost_in}
 use Rattle.pl_model.proofs.Asked.{first-asked, second-asked, third-asked, mask-asked, group-asked, mask-input-asked, input-below, mask-below, group-below, window-one}
-use Rattle.pl_model.proofs.Evaluated.{lacks-value, cell-barred, cell-kept, kept-mask, mask-passed, on-ok, sid-of, not-windowed, constant-given, sid-given, label-named, label-given, label-term, label-test-given, window-early, windows-given, point-given}
+use Rattle.pl_model.proofs.Evaluated.{lacks-value, cell-barred, cell-kept, kept-mask, mask-passed, on-ok, sid-of, not-windowed, constant-given, sid-given, label-named, label-given, label-test-given, window-early, windows-given, point-given}
 use Rattle.pl_model.proofs.Costs.{cost-lacks, cost-barred, cost-kept}
 use Rattle.pl_model.proofs.Windowing.{cells-more, steps-more, cells-all, steps-all, all-more, row-more, row-steps-more, row-all, row-steps-all}
 use Rattle.pl_model.proofs.Sections.{sid-there, blank}
@@ -77,7 +72,7 @@ cell-returns-then-not-lets_pass-clause-value g t c =
     let fx : FitsSigned w64 c.in_ok-passes.passes = search rules in
     let told = simp to_z-of_z at c.lets_pass.ensures in
     let passed : lets_pass (as_input n.mask) (input_cell_in w p (as_input n.mask) a s) ≡ false =
-        mask-passed w p n.mask c.as_input-mask.result c.in_ok-passes.passes false c.lets_pass.result a s c.as_input-mask.ensures c.in_ok-passes.ensures.value told c.if-not-lets_pass.true in
+    mask-passed w p n.mask c.as_input-mask.result c.in_ok-passes.passes false c.lets_pass.result a s c.as_input-mask.ensures c.in_ok-passes.ensures.value told c.if-not-lets_pass.true in
     let fits : FitsSigned w64 c.empty_value-then-not-lets_pass.result = search rules in
     to_z-of_z w64 _ fits ∙ c.empty_value-then-not-lets_pass.ensures
     ∙ ap (λ m. number_in (empty (sort_kind (term_at (graph_of m) t0)))) c.graph-graph.ensures.value
@@ -98,7 +93,7 @@ cell-returns-then-not-lets_pass-clause-cost g t c =
     let fx : FitsSigned w64 c.in_ok-passes.passes = search rules in
     let told = simp to_z-of_z at c.lets_pass.ensures in
     let passed : lets_pass (as_input n.mask) (input_cell_in w p (as_input n.mask) a s) ≡ false =
-        mask-passed w p n.mask c.as_input-mask.result c.in_ok-passes.passes false c.lets_pass.result a s c.as_input-mask.ensures c.in_ok-passes.ensures.value told c.if-not-lets_pass.true in
+    mask-passed w p n.mask c.as_input-mask.result c.in_ok-passes.passes false c.lets_pass.result a s c.as_input-mask.ensures c.in_ok-passes.ensures.value told c.if-not-lets_pass.true in
     let barred = kept-mask w p ok t0 n is a s n.mask false there passed in
     let whole = cost-barred w p ok t0 s asked n is a barred in
     let mask : input_cost_in w p c.as_input-mask.result a s ≡ input_cost_in w p (as_input n.mask) a s = ap (λ o. input_cost_in w p o a s) c.as_input-mask.ensures in
@@ -119,7 +114,7 @@ cell-given-requires g t c =
     let fx : FitsSigned w64 c.in_ok-passes.passes = search rules in
     let told = simp to_z-of_z at c.lets_pass.ensures in
     let passed : lets_pass (as_input n.mask) (input_cell_in w p (as_input n.mask) a s) ≡ true =
-        mask-passed w p n.mask c.as_input-mask.result c.in_ok-passes.passes true c.lets_pass.result a s c.as_input-mask.ensures c.in_ok-passes.ensures.value told c.if-not-lets_pass.false in
+    mask-passed w p n.mask c.as_input-mask.result c.in_ok-passes.passes true c.lets_pass.result a s c.as_input-mask.ensures c.in_ok-passes.ensures.value told c.if-not-lets_pass.false in
     let kept : IsKept w p t0 a s = cell-kept w p ok t0 n is a s there passed in
     let smaller : 16 * c.args.t.0 + 8 < 16 * c.args.t.0 + 9 = omega arith in
     search rules
@@ -139,7 +134,7 @@ cell-returns-clause-cost g t c =
     let fx : FitsSigned w64 c.in_ok-passes.passes = search rules in
     let told = simp to_z-of_z at c.lets_pass.ensures in
     let passed : lets_pass (as_input n.mask) (input_cell_in w p (as_input n.mask) a s) ≡ true =
-        mask-passed w p n.mask c.as_input-mask.result c.in_ok-passes.passes true c.lets_pass.result a s c.as_input-mask.ensures c.in_ok-passes.ensures.value told c.if-not-lets_pass.false in
+    mask-passed w p n.mask c.as_input-mask.result c.in_ok-passes.passes true c.lets_pass.result a s c.as_input-mask.ensures c.in_ok-passes.ensures.value told c.if-not-lets_pass.false in
     let kept = kept-mask w p ok t0 n is a s n.mask true there passed in
     let whole = cost-kept w p ok t0 s asked n is a kept in
     let mask : input_cost_in w p c.as_input-mask.result a s ≡ input_cost_in w p (as_input n.mask) a s = ap (λ o. input_cost_in w p o a s) c.as_input-mask.ensures in
@@ -235,7 +230,7 @@ given-input_cell-requires g t c =
     let kind : IsOf (kind_of n.kind) family.LabelTest = subst (IsOf (kind_of n.kind)) c.in-LabelTest.is c.family_of.ensures in
     let one = window-one w p ok t0 s asked n is (not-windowed (kind_of n.kind) (inl kind)) in
     let may : IsAskedInput w p c.input_at-input.result 1 s =
-        subst (λ o. IsAskedInput w p o 1 s) (sym c.input_at-input.ensures) (subst (λ k. IsAskedInput w p (slice_get n.inputs 0) k s) one (first-asked w p ok t0 s asked n is)) in
+    subst (λ o. IsAskedInput w p o 1 s) (sym c.input_at-input.ensures) (subst (λ k. IsAskedInput w p (slice_get n.inputs 0) k s) one (first-asked w p ok t0 s asked n is)) in
     let low = input-below w p ok t0 s asked n is 0 in
     let same : above c.input_at-input.result ≡ above (slice_get n.inputs 0) = ap above c.input_at-input.ensures in
     let smaller : 16 * above c.input_at-input.result < 16 * c.args.t.0 + 8 = omega (arith, low, same) in

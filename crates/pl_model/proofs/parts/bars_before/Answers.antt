@@ -1,6 +1,4 @@
-use Rattle.std.proofs.Common.{◌≡◌, ◌+◌, ◌-◌, ◌++◌, ◌∷◌, [], ◌≤◌, ◌∙◌, pos, map, ap, sym, arith, rules, w64, FitsSigned}
-use Rattle.std.specs.List.{range_with_len}
-use Rattle.std.proofs.lemmas.Int.{to_z-of_z}
+use Rattle.std.proofs.Common.{◌≡◌, ◌-◌, ◌++◌, ◌∷◌, [], ◌∙◌, pos, ap, sym, arith, rules, w64, FitsSigned}
 use Rattle.pl_spec.specs.Rounding.{IsCell}
 use Rattle.pl_spec.specs.Parts.{sid_at}
 use Rattle.pl_spec.specs.Window.{seen_cell}

@@ -1,17 +1,12 @@
-use Rattle.std.proofs.Common.{◌≡◌, ◌<◌, ◌≤◌, ℤ, List, Some, slice_get, ◌∙◌, sym, ap, arith, rules, w64, FitsSigned, length, get_or, option_map, subst, IfSome}
+use Rattle.std.proofs.Common.{◌≡◌, ℤ, List, Some, slice_get, ◌∙◌, sym, ap, rules, w64, FitsSigned, length, option_map, subst}
 use Rattle.std.proofs.lemmas.Int.{to_z-of_z}
-use Rattle.std.proofs.lemmas.List.{get_or_default}
-use Rattle.pl_spec.specs.Rounding.{MISSING}
-use Rattle.pl_spec.specs.Kind as kinds
-use Rattle.pl_spec.specs.Parts.{sid_at}
 use Rattle.pl_terms.specs.Kinds.{kind_of}
 use Rattle.pl_cross.specs.Listing.{labels_in, Fits}
 use Rattle.pl_cross.specs.Arrays.{HasTexts}
 use Rattle.pl_values.proofs.Texts.{texts-coded}
 use Rattle.pl_model.specs.Worlds.{world_of}
-use Rattle.pl_model.specs.Evaluations.{cell_in}
 use Rattle.pl_model.proofs.Evaluated.{section-is}
-use Rattle.pl_model.proofs.Sections.{right, section-given, values-long, groups-fit, mask-fits, some-mapped, section-end}
+use Rattle.pl_model.proofs.Sections.{right, section-given, groups-fit, mask-fits, some-mapped, section-end}
 use Rattle.pl_model.proofs.parts.section_at.Goals as goal
 
 pub keep_row-requires-clause-mask : goal.keep_row-requires-clause-mask

@@ -1,5 +1,4 @@
 use Rattle.std.proofs.Common.{◌≡◌, Some, slice_get, ◌∙◌, sym, ap}
-use Rattle.pl_terms.specs.declared.node.Node.{Node}
 use Rattle.pl_terms.specs.declared.node.Input.TheVariants as input
 use Rattle.pl_model.proofs.Evaluated.{section-term}
 use Rattle.pl_model.proofs.parts.section_input.Goals as goal
