@@ -50,11 +50,9 @@ cell-input_cell-requires g t c =
     let asked = c.requires.asked in
     let n = c.node.result.now in
     let is : slice_get p.graph t0 ≡ Some n = ap (λ ns. slice_get ns c.args.t.0) (sym c.graph-graph.ensures.value) ∙ c.node.ensures in
-    let a = sid_at c.args.world.now.assets.now c.args.col in
     let may : IsAskedInput w p c.as_input-mask.result 1 s = subst (λ o. IsAskedInput w p o 1 s) (sym c.as_input-mask.ensures) (mask-input-asked w p ok t0 s asked n is) in
-    let low = (mask-below w p ok t0 s asked n is).0 in
     let same : above c.as_input-mask.result ≡ above (as_input n.mask) = ap above c.as_input-mask.ensures in
-    let smaller : 16 * above c.as_input-mask.result < 16 * c.args.t.0 + 9 = omega (arith, low, same) in
+    let smaller : 16 * above c.as_input-mask.result < 16 * c.args.t.0 + 9 = omega (arith, (mask-below w p ok t0 s asked n is).0, same) in
     search rules
 
 pub cell-returns-then-not-lets_pass-clause-value : goal.cell-returns-then-not-lets_pass-clause-value
@@ -64,7 +62,6 @@ cell-returns-then-not-lets_pass-clause-value g t c =
     let t0 = c.args.t.0 in
     let s = c.args.session in
     let ok = c.graph-graph.ensures.checked in
-    let asked = c.requires.asked in
     let n = c.node.result.now in
     let is : slice_get p.graph t0 ≡ Some n = ap (λ ns. slice_get ns c.args.t.0) (sym c.graph-graph.ensures.value) ∙ c.node.ensures in
     let a = sid_at c.args.world.now.assets.now c.args.col in
@@ -106,7 +103,6 @@ cell-given-requires g t c =
     let t0 = c.args.t.0 in
     let s = c.args.session in
     let ok = c.graph-graph.ensures.checked in
-    let asked = c.requires.asked in
     let n = c.node.result.now in
     let is : slice_get p.graph t0 ≡ Some n = ap (λ ns. slice_get ns c.args.t.0) (sym c.graph-graph.ensures.value) ∙ c.node.ensures in
     let a = sid_at c.args.world.now.assets.now c.args.col in
@@ -148,7 +144,6 @@ given-label_cell-requires-clause-name g t c =
     let t0 = c.args.t.0 in
     let s = c.args.session in
     let ok = c.graph.ensures.checked in
-    let asked = c.requires.asked in
     let n = c.node-node.result.now in
     let is : slice_get p.graph t0 ≡ Some n = ap (λ ns. slice_get ns c.args.t.0) (sym c.graph.ensures.value) ∙ c.node-node.ensures in
     let a = sid_at c.args.world.now.assets.now c.args.col in
@@ -162,7 +157,6 @@ given-returns-in-Label-clause-value g t c =
     let t0 = c.args.t.0 in
     let s = c.args.session in
     let ok = c.graph.ensures.checked in
-    let asked = c.requires.asked in
     let n = c.node-node.result.now in
     let is : slice_get p.graph t0 ≡ Some n = ap (λ ns. slice_get ns c.args.t.0) (sym c.graph.ensures.value) ∙ c.node-node.ensures in
     let a = sid_at c.args.world.now.assets.now c.args.col in
@@ -177,7 +171,6 @@ given-returns-in-Constant-clause-value g t c =
     let t0 = c.args.t.0 in
     let s = c.args.session in
     let ok = c.graph.ensures.checked in
-    let asked = c.requires.asked in
     let n = c.node-node.result.now in
     let is : slice_get p.graph t0 ≡ Some n = ap (λ ns. slice_get ns c.args.t.0) (sym c.graph.ensures.value) ∙ c.node-node.ensures in
     let a = sid_at c.args.world.now.assets.now c.args.col in
@@ -192,7 +185,6 @@ given-returns-in-Constant-clause-cell g t c =
     let t0 = c.args.t.0 in
     let s = c.args.session in
     let ok = c.graph.ensures.checked in
-    let asked = c.requires.asked in
     let n = c.node-node.result.now in
     let is : slice_get p.graph t0 ≡ Some n = ap (λ ns. slice_get ns c.args.t.0) (sym c.graph.ensures.value) ∙ c.node-node.ensures in
     let a = sid_at c.args.world.now.assets.now c.args.col in
@@ -207,7 +199,6 @@ given-returns-in-Sids-clause-value g t c =
     let t0 = c.args.t.0 in
     let s = c.args.session in
     let ok = c.graph.ensures.checked in
-    let asked = c.requires.asked in
     let n = c.node-node.result.now in
     let is : slice_get p.graph t0 ≡ Some n = ap (λ ns. slice_get ns c.args.t.0) (sym c.graph.ensures.value) ∙ c.node-node.ensures in
     let a = sid_at c.args.world.now.assets.now c.args.col in
@@ -226,14 +217,12 @@ given-input_cell-requires g t c =
     let asked = c.requires.asked in
     let n = c.node-node.result.now in
     let is : slice_get p.graph t0 ≡ Some n = ap (λ ns. slice_get ns c.args.t.0) (sym c.graph.ensures.value) ∙ c.node-node.ensures in
-    let a = sid_at c.args.world.now.assets.now c.args.col in
     let kind : IsOf (kind_of n.kind) family.LabelTest = subst (IsOf (kind_of n.kind)) c.in-LabelTest.is c.family_of.ensures in
     let one = window-one w p ok t0 s asked n is (not-windowed (kind_of n.kind) (inl kind)) in
     let may : IsAskedInput w p c.input_at-input.result 1 s =
     subst (λ o. IsAskedInput w p o 1 s) (sym c.input_at-input.ensures) (subst (λ k. IsAskedInput w p (slice_get n.inputs 0) k s) one (first-asked w p ok t0 s asked n is)) in
-    let low = input-below w p ok t0 s asked n is 0 in
     let same : above c.input_at-input.result ≡ above (slice_get n.inputs 0) = ap above c.input_at-input.ensures in
-    let smaller : 16 * above c.input_at-input.result < 16 * c.args.t.0 + 8 = omega (arith, low, same) in
+    let smaller : 16 * above c.input_at-input.result < 16 * c.args.t.0 + 8 = omega (arith, input-below w p ok t0 s asked n is 0, same) in
     search rules
 
 pub given-label_test_value-requires-clause-code : goal.given-label_test_value-requires-clause-code
@@ -243,7 +232,6 @@ given-label_test_value-requires-clause-code g t c =
     let t0 = c.args.t.0 in
     let s = c.args.session in
     let ok = c.graph.ensures.checked in
-    let asked = c.requires.asked in
     let n = c.node-node.result.now in
     let is : slice_get p.graph t0 ≡ Some n = ap (λ ns. slice_get ns c.args.t.0) (sym c.graph.ensures.value) ∙ c.node-node.ensures in
     let a = sid_at c.args.world.now.assets.now c.args.col in
@@ -262,7 +250,6 @@ given-returns-in_ok-code-in-LabelTest-clause-value g t c =
     let t0 = c.args.t.0 in
     let s = c.args.session in
     let ok = c.graph.ensures.checked in
-    let asked = c.requires.asked in
     let n = c.node-node.result.now in
     let is : slice_get p.graph t0 ≡ Some n = ap (λ ns. slice_get ns c.args.t.0) (sym c.graph.ensures.value) ∙ c.node-node.ensures in
     let a = sid_at c.args.world.now.assets.now c.args.col in
@@ -285,11 +272,9 @@ window_cell-input_window-requires g t c =
     let asked = c.requires.asked in
     let n = c.node-node.result.now in
     let is : slice_get p.graph t0 ≡ Some n = ap (λ ns. slice_get ns c.args.t.0) (sym c.graph.ensures.value) ∙ c.node-node.ensures in
-    let a = sid_at c.args.world.now.assets.now c.args.col in
     let may : IsAskedInput w p c.input_at-first.result n.window s = subst (λ o. IsAskedInput w p o n.window s) (sym c.input_at-first.ensures) (first-asked w p ok t0 s asked n is) in
-    let low = input-below w p ok t0 s asked n is 0 in
     let same : above c.input_at-first.result ≡ above (slice_get n.inputs 0) = ap above c.input_at-first.ensures in
-    let smaller : 16 * above c.input_at-first.result < 16 * c.args.t.0 + 5 = omega (arith, low, same) in
+    let smaller : 16 * above c.input_at-first.result < 16 * c.args.t.0 + 5 = omega (arith, input-below w p ok t0 s asked n is 0, same) in
     let made = c.requires.asked.made in
     let within = c.requires.asked.within in
     search rules
@@ -304,11 +289,9 @@ window_cell-input_window-requires-2 g t c =
     let asked = c.requires.asked in
     let n = c.node-node.result.now in
     let is : slice_get p.graph t0 ≡ Some n = ap (λ ns. slice_get ns c.args.t.0) (sym c.graph.ensures.value) ∙ c.node-node.ensures in
-    let a = sid_at c.args.world.now.assets.now c.args.col in
     let may : IsAskedInput w p c.input_at-second.result n.window s = subst (λ o. IsAskedInput w p o n.window s) (sym c.input_at-second.ensures) (second-asked w p ok t0 s asked n is) in
-    let low = input-below w p ok t0 s asked n is 1 in
     let same : above c.input_at-second.result ≡ above (slice_get n.inputs 1) = ap above c.input_at-second.ensures in
-    let smaller : 16 * above c.input_at-second.result < 16 * c.args.t.0 + 5 = omega (arith, low, same) in
+    let smaller : 16 * above c.input_at-second.result < 16 * c.args.t.0 + 5 = omega (arith, input-below w p ok t0 s asked n is 1, same) in
     let made = c.requires.asked.made in
     let within = c.requires.asked.within in
     search rules
@@ -323,11 +306,9 @@ window_cell-input_window-requires-3 g t c =
     let asked = c.requires.asked in
     let n = c.node-node.result.now in
     let is : slice_get p.graph t0 ≡ Some n = ap (λ ns. slice_get ns c.args.t.0) (sym c.graph.ensures.value) ∙ c.node-node.ensures in
-    let a = sid_at c.args.world.now.assets.now c.args.col in
     let may : IsAskedInput w p c.input_at-third.result n.window s = subst (λ o. IsAskedInput w p o n.window s) (sym c.input_at-third.ensures) (third-asked w p ok t0 s asked n is) in
-    let low = input-below w p ok t0 s asked n is 2 in
     let same : above c.input_at-third.result ≡ above (slice_get n.inputs 2) = ap above c.input_at-third.ensures in
-    let smaller : 16 * above c.input_at-third.result < 16 * c.args.t.0 + 5 = omega (arith, low, same) in
+    let smaller : 16 * above c.input_at-third.result < 16 * c.args.t.0 + 5 = omega (arith, input-below w p ok t0 s asked n is 2, same) in
     let made = c.requires.asked.made in
     let within = c.requires.asked.within in
     search rules
@@ -342,14 +323,10 @@ point_cell-input_cell-requires g t c =
     let asked = c.requires.asked in
     let n = c.node-node.result.now in
     let is : slice_get p.graph t0 ≡ Some n = ap (λ ns. slice_get ns c.args.t.0) (sym c.graph.ensures.value) ∙ c.node-node.ensures in
-    let a = sid_at c.args.world.now.assets.now c.args.col in
     let one = window-one w p ok t0 s asked n is (not-windowed (kind_of n.kind) (inr (inl (c.requires.kind n is)))) in
     let may : IsAskedInput w p c.input_at-first.result 1 s = subst (λ o. IsAskedInput w p o 1 s) (sym c.input_at-first.ensures) (subst (λ k. IsAskedInput w p (slice_get n.inputs 0) k s) one (first-asked w p ok t0 s asked n is)) in
-    let low = input-below w p ok t0 s asked n is 0 in
     let same : above c.input_at-first.result ≡ above (slice_get n.inputs 0) = ap above c.input_at-first.ensures in
-    let smaller : 16 * above c.input_at-first.result < 16 * c.args.t.0 + 5 = omega (arith, low, same) in
-    let made = c.requires.asked.made in
-    let within = c.requires.asked.within in
+    let smaller : 16 * above c.input_at-first.result < 16 * c.args.t.0 + 5 = omega (arith, input-below w p ok t0 s asked n is 0, same) in
     search rules
 
 pub point_cell-input_cell-requires-2 : goal.point_cell-input_cell-requires-2
@@ -362,14 +339,10 @@ point_cell-input_cell-requires-2 g t c =
     let asked = c.requires.asked in
     let n = c.node-node.result.now in
     let is : slice_get p.graph t0 ≡ Some n = ap (λ ns. slice_get ns c.args.t.0) (sym c.graph.ensures.value) ∙ c.node-node.ensures in
-    let a = sid_at c.args.world.now.assets.now c.args.col in
     let one = window-one w p ok t0 s asked n is (not-windowed (kind_of n.kind) (inr (inl (c.requires.kind n is)))) in
     let may : IsAskedInput w p c.input_at-second.result 1 s = subst (λ o. IsAskedInput w p o 1 s) (sym c.input_at-second.ensures) (subst (λ k. IsAskedInput w p (slice_get n.inputs 1) k s) one (second-asked w p ok t0 s asked n is)) in
-    let low = input-below w p ok t0 s asked n is 1 in
     let same : above c.input_at-second.result ≡ above (slice_get n.inputs 1) = ap above c.input_at-second.ensures in
-    let smaller : 16 * above c.input_at-second.result < 16 * c.args.t.0 + 5 = omega (arith, low, same) in
-    let made = c.requires.asked.made in
-    let within = c.requires.asked.within in
+    let smaller : 16 * above c.input_at-second.result < 16 * c.args.t.0 + 5 = omega (arith, input-below w p ok t0 s asked n is 1, same) in
     search rules
 
 pub point_cell-input_cell-requires-3 : goal.point_cell-input_cell-requires-3
@@ -382,14 +355,10 @@ point_cell-input_cell-requires-3 g t c =
     let asked = c.requires.asked in
     let n = c.node-node.result.now in
     let is : slice_get p.graph t0 ≡ Some n = ap (λ ns. slice_get ns c.args.t.0) (sym c.graph.ensures.value) ∙ c.node-node.ensures in
-    let a = sid_at c.args.world.now.assets.now c.args.col in
     let one = window-one w p ok t0 s asked n is (not-windowed (kind_of n.kind) (inr (inl (c.requires.kind n is)))) in
     let may : IsAskedInput w p c.input_at-third.result 1 s = subst (λ o. IsAskedInput w p o 1 s) (sym c.input_at-third.ensures) (subst (λ k. IsAskedInput w p (slice_get n.inputs 2) k s) one (third-asked w p ok t0 s asked n is)) in
-    let low = input-below w p ok t0 s asked n is 2 in
     let same : above c.input_at-third.result ≡ above (slice_get n.inputs 2) = ap above c.input_at-third.ensures in
-    let smaller : 16 * above c.input_at-third.result < 16 * c.args.t.0 + 5 = omega (arith, low, same) in
-    let made = c.requires.asked.made in
-    let within = c.requires.asked.within in
+    let smaller : 16 * above c.input_at-third.result < 16 * c.args.t.0 + 5 = omega (arith, input-below w p ok t0 s asked n is 2, same) in
     search rules
 
 pub window_cell-window_value-requires : goal.window_cell-window_value-requires
@@ -442,7 +411,6 @@ point_cell-point_value-requires-clause-kind g t c =
     let t0 = c.args.t.0 in
     let s = c.args.session in
     let ok = c.graph.ensures.checked in
-    let asked = c.requires.asked in
     let n = c.node-node.result.now in
     let is : slice_get p.graph t0 ≡ Some n = ap (λ ns. slice_get ns c.args.t.0) (sym c.graph.ensures.value) ∙ c.node-node.ensures in
     let a = sid_at c.args.world.now.assets.now c.args.col in
@@ -462,7 +430,6 @@ point_cell-point_value-requires-clause-operands g t c =
     let t0 = c.args.t.0 in
     let s = c.args.session in
     let ok = c.graph.ensures.checked in
-    let asked = c.requires.asked in
     let n = c.node-node.result.now in
     let is : slice_get p.graph t0 ≡ Some n = ap (λ ns. slice_get ns c.args.t.0) (sym c.graph.ensures.value) ∙ c.node-node.ensures in
     let a = sid_at c.args.world.now.assets.now c.args.col in
@@ -482,7 +449,6 @@ point_cell-returns-clause-value g t c =
     let t0 = c.args.t.0 in
     let s = c.args.session in
     let ok = c.graph.ensures.checked in
-    let asked = c.requires.asked in
     let n = c.node-node.result.now in
     let is : slice_get p.graph t0 ≡ Some n = ap (λ ns. slice_get ns c.args.t.0) (sym c.graph.ensures.value) ∙ c.node-node.ensures in
     let a = sid_at c.args.world.now.assets.now c.args.col in
@@ -506,16 +472,14 @@ section_cell-term_row-requires g t c =
     let asked = c.requires.asked in
     let n = c.node-node.result.now in
     let is : slice_get p.graph t0 ≡ Some n = ap (λ ns. slice_get ns c.args.t.0) (sym c.graph.ensures.value) ∙ c.node-node.ensures in
-    let a = sid_at c.args.world.now.assets.now c.args.col in
     let one = window-one w p ok t0 s asked n is (not-windowed (kind_of n.kind) (inr (inr (c.requires.kind n is)))) in
     let u = c.section_input-input.result in
     let own : slice_get n.inputs 0 ≡ Some (input.Term u) = c.section_input-input.ensures n is in
     let first = subst (λ o. IsAskedInput w p o 1 s) own (subst (λ k. IsAskedInput w p (slice_get n.inputs 0) k s) one (first-asked w p ok t0 s asked n is)) in
     let now : s - 0 ≡ s = omega arith in
     let may : IsAsked w p u.0 s = subst (IsAsked w p u.0) now (first.1 0 (omega arith)) in
-    let low = input-below w p ok t0 s asked n is 0 in
     let same : above (slice_get n.inputs 0) ≡ above (Some (input.Term u)) = ap above own in
-    let smaller : 16 * u.0 + 10 < 16 * c.args.t.0 + 5 = omega (arith, low, same) in
+    let smaller : 16 * u.0 + 10 < 16 * c.args.t.0 + 5 = omega (arith, input-below w p ok t0 s asked n is 0, same) in
     search rules
 
 pub section_cell-optional_row-requires : goal.section_cell-optional_row-requires
@@ -528,10 +492,8 @@ section_cell-optional_row-requires g t c =
     let asked = c.requires.asked in
     let n = c.node-node.result.now in
     let is : slice_get p.graph t0 ≡ Some n = ap (λ ns. slice_get ns c.args.t.0) (sym c.graph.ensures.value) ∙ c.node-node.ensures in
-    let a = sid_at c.args.world.now.assets.now c.args.col in
     let may : IsAskedOption w p n.mask s = mask-asked w p ok t0 s asked n is in
-    let low = (mask-below w p ok t0 s asked n is).1 in
-    let smaller : 16 * above_option n.mask < 16 * c.args.t.0 + 5 = omega (arith, low) in
+    let smaller : 16 * above_option n.mask < 16 * c.args.t.0 + 5 = omega (arith, (mask-below w p ok t0 s asked n is).1) in
     search rules
 
 pub section_cell-optional_row-requires-2 : goal.section_cell-optional_row-requires-2
@@ -544,10 +506,8 @@ section_cell-optional_row-requires-2 g t c =
     let asked = c.requires.asked in
     let n = c.node-node.result.now in
     let is : slice_get p.graph t0 ≡ Some n = ap (λ ns. slice_get ns c.args.t.0) (sym c.graph.ensures.value) ∙ c.node-node.ensures in
-    let a = sid_at c.args.world.now.assets.now c.args.col in
     let may : IsAskedOption w p n.group s = group-asked w p ok t0 s asked n is in
-    let low = group-below w p ok t0 s asked n is in
-    let smaller : 16 * above_option n.group < 16 * c.args.t.0 + 5 = omega (arith, low) in
+    let smaller : 16 * above_option n.group < 16 * c.args.t.0 + 5 = omega (arith, group-below w p ok t0 s asked n is) in
     search rules
 
 pub cells_up_to-cell-requires : goal.cells_up_to-cell-requires
