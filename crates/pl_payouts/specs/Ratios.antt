@@ -1,5 +1,5 @@
 -- The row of a payout, or why it has none.
-use Rattle.std.specs.Prelude.{ℕ, zero, suc, ◌/◌, ◌%◌, ◌||◌, nat_lt, Bool, if◌then◌else◌, ℤ, pos, ◌-ℤ◌, ◌*ℤ◌, List, [], count_by, Option, Some, None, option_map, Result, Ok, Err}
+use Rattle.std.specs.Prelude.{ℕ, zero, suc, ◌/◌, ◌%◌, ◌||◌, nat_lt, Bool, if◌then◌else◌, ℤ, pos, ◌-ℤ◌, ◌*ℤ◌, List, [], length, filter, Option, Some, None, option_map, Result, Ok, Err}
 use Rattle.std.specs.Int.RustNames.{int_lt, int_le, unsigned_abs}
 use Rattle.std.specs.Ordering.{int_eq}
 use Rattle.pl_spec.specs.Rounding.{Fraction, is_missing}
@@ -22,7 +22,7 @@ last_of (suc n) = Some n
 
 -- the last of the sessions before the day
 unfoldable pub last_before : List ℤ → ℤ → Option ℕ
-last_before days ex = last_of (count_by (λ d. int_lt d ex) days)
+last_before days ex = last_of (length (filter (λ d. int_lt d ex) days))
 
 -- the raw close of an asset on a session
 abbrev pub raw_close : List ℤ → List AssetRow → List BarRow → ℕ → ℕ → ℤ

@@ -1,5 +1,5 @@
 -- The text of the rows of payouts.
-use Rattle.std.specs.Prelude.{ℕ, ◌+◌, ℤ, List, [], ◌∷◌, ◌++◌, flat_map, count_by, codes, decimal, Result, Ok, Err, is_ok}
+use Rattle.std.specs.Prelude.{ℕ, ◌+◌, ℤ, List, [], ◌∷◌, ◌++◌, length, filter, flat_map, codes, decimal, Result, Ok, Err, is_ok}
 use Rattle.std.specs.List.{join_by}
 use Rattle.std.specs.Fmt.{signed_decimal}
 use Rattle.pl_spec.specs.declared.AssetRow.{AssetRow}
@@ -43,7 +43,7 @@ abbrev pub lines_of : List ℤ → List AssetRow → List BarRow → List Payout
 lines_of days assets bars payouts = flat_map (λ p. payout_line p (ratio_in days assets bars p)) payouts
 
 abbrev pub kept_of : List ℤ → List AssetRow → List BarRow → List Payout → ℕ
-kept_of days assets bars payouts = count_by (λ p. is_ok (ratio_in days assets bars p)) payouts
+kept_of days assets bars payouts = length (filter (λ p. is_ok (ratio_in days assets bars p)) payouts)
 
 -- the header, and a line for each payout of a file
 unfoldable pub payouts_text : List ℤ → List AssetRow → List BarRow → List Dividend → List ℕ

@@ -5,7 +5,7 @@ ghost use Rattle.pl_payouts.specs.Payouts.{IsPayout};
 ghost use Rattle.pl_payouts.specs.Texts.{payout_line, reason_of};
 
 use crate::Payout;
-use crate::ratio::{SECONDS_A_DAY, Skip};
+use crate::ratio::{Skip, effective_of};
 use arrayvec::ArrayVec;
 use itoa::Buffer;
 use pl_spec::RawAdjust;
@@ -24,7 +24,7 @@ pub(crate) fn line_of(payout: &Payout, ratio: &Result<RawAdjust, Skip>) -> Line
     let mut line = Line::new();
     put_number(&mut line, payout.number as i64);
     put_number(&mut line, payout.sid as i64);
-    put_number(&mut line, payout.ex as i64 * SECONDS_A_DAY);
+    put_number(&mut line, effective_of(payout));
     match ratio {
         Ok(row) => {
             put_number(&mut line, row.num);

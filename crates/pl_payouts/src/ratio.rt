@@ -4,7 +4,7 @@ ghost use Rattle.pl_spec.specs.Rounding.{IsCell, Fraction};
 ghost use Rattle.pl_spec.specs.declared.RawAdjust.{RawAdjust};
 ghost use Rattle.pl_payouts.specs.declared.ratio.Skip.{Skip};
 ghost use Rattle.pl_payouts.specs.Payouts.{IsKnown, IsPayout};
-ghost use Rattle.pl_payouts.specs.Ratios.{close_before, last_before, lowest, ratio_in, ratio_over};
+ghost use Rattle.pl_payouts.specs.Ratios.{close_before, effective_of, last_before, lowest, ratio_in, ratio_over, row_unless_fine};
 ghost use Rattle.pl_payouts.specs.RatioRules.{ComesTo};
 
 use crate::Payout;
@@ -14,7 +14,7 @@ use pl_calendar::Sessions;
 use pl_fixed::MISSING;
 use pl_spec::{Column, RawAdjust};
 
-pub(crate) const SECONDS_A_DAY: i64 = 86_400;
+const SECONDS_A_DAY: i64 = 86_400;
 
 // The greatest part of a ratio of adjustments.
 const MOST_PART: u64 = 1_000_000_000;
@@ -50,11 +50,11 @@ pub fn ratio_of(
         → (result ≡ answer) ↔ ComesTo sessions.now assets.now bars.now payout.now answer }
 {
     let _sessions = sessions.len();
-    row_of(payout, sessions, assets, bars)
+    find_ratio(payout, sessions, assets, bars)
 }
 
 #[tactic(auto, unfolding(crate::specs::Ratios::ratio_in))]
-fn row_of(
+fn find_ratio(
     payout: &Payout,
     sessions: &Sessions,
     assets: &Assets,
@@ -111,17 +111,33 @@ fn ratio_over(payout: &Payout, close: i64) -> Result<RawAdjust, Skip>
     if close <= payout.amount {
         return Err(Skip::NotBelow);
     }
-    let parts = lowest((close - payout.amount) as u64, close as u64);
+    let rest = close - payout.amount;
+    row_of(payout, lowest(rest.unsigned_abs(), close.unsigned_abs()))
+}
+
+// The row of a payout with the ratio of these parts, unless one of them is too large.
+fn row_of(payout: &Payout, parts: Parts) -> Result<RawAdjust, Skip>
+    requires { IsPayout payout.now }
+    ensures { result ≡ row_unless_fine payout.now (record { num = parts.num; den = parts.den }) }
+{
     if parts.num > MOST_PART || parts.den > MOST_PART {
         return Err(Skip::TooFine);
     }
     Ok(RawAdjust {
         id: payout.number as i64,
-        effective: payout.ex as i64 * SECONDS_A_DAY,
+        effective: effective_of(payout),
         num: parts.num as i64,
         den: parts.den as i64,
         sid: payout.sid as i64,
     })
+}
+
+// The midnight of the ex day, in seconds since 1970-01-01.
+pub(crate) fn effective_of(payout: &Payout) -> i64
+    requires { IsPayout payout.now }
+    ensures { result ≡ effective_of payout.now }
+{
+    payout.ex as i64 * SECONDS_A_DAY
 }
 
 // The numerator and the denominator of a fraction.

@@ -1,6 +1,7 @@
 ghost use Rattle.std.specs.Prelude.{◌≡◌, ◌+◌, ◌<◌, ◌≤◌, length, OnOk};
 ghost use Rattle.pl_records.specs.Reading.{Answers, at_line, rows_of};
 ghost use Rattle.pl_records.specs.Records.{csv_records};
+ghost use Rattle.pl_assets.specs.Assets.{AreAssets};
 ghost use Rattle.pl_payouts.specs.Payouts.{amount_in, dividend_in, is_above_0, payouts_of, says_dividend};
 ghost use Rattle.pl_payouts.specs.Faults.{fault_of};
 
@@ -26,8 +27,10 @@ pub(crate) fn read_payouts(
     bytes: &[u8],
     assets: &Assets,
 ) -> Result<Vec<Dividend>, PayoutsError>
-    ensures { Answers (λ v. v.items) fault_of result (payouts_of assets.now (csv_records bytes.now)) }
+    ensures exact { Answers (λ v. v.items) fault_of result (payouts_of assets.now (csv_records bytes.now)) }
+    ensures assets { AreAssets assets.now }
 {
+    let _assets = assets.len();
     let mut records = Records::new(alloc, bytes);
     if !records.read_header(&[b"sid", b"ex", b"amount"])? {
         return Err(PayoutsError::BadHeader);
