@@ -1,7 +1,7 @@
 -- Greatest common divisors, and fractions in lowest terms.
 use Rattle.std.proofs.Common.{◌≡◌, ℕ, zero, suc, ◌+◌, ◌*◌, ◌/◌, ◌%◌, ◌<◌, ◌≤◌, refl, sym, ◌∙◌, ap, subst, arith}
 use Rattle.std.specs.Int.{IsGcd, ◌∣◌}
-use Rattle.std.proofs.Math.Nat.{mod-lt, mod-eq_of_lt, mul-add-mod_self_right, div-add-mod', mul-lt-mul_of_pos_left, mul_comm, mul_assoc, div-mul_cancel, div-eq_of_eq-mul_left, pos_of_dvd_of_pos, mul-dvd-mul_right, dvd_of_mul-dvd-mul_right, eq-one_of_dvd-one, one-dvd, dvd_refl, eq_of_mul-eq-mul_right, one-mul}
+use Rattle.std.proofs.Math.Nat.{mod-lt, mod-eq_of_lt, mul-add-mod_self_right, div-add-mod', mul-lt-mul_of_pos_left, mul_comm, div-mul_cancel, div-eq_of_eq-mul_left, pos_of_dvd_of_pos, mul-dvd-mul_right, dvd_of_mul-dvd-mul_right, eq-one_of_dvd-one, one-dvd, dvd_refl, eq_of_mul-eq-mul_right, one-mul}
 use Rattle.std.proofs.lemmas.Nat.Gcd.{IsGcd-from_zero, IsGcd-from_mod, same_from_IsGcd}
 use Rattle.pl_payouts.specs.Ratios.{gcd_by, gcd, lowest}
 

@@ -1,5 +1,5 @@
 -- The last session before a day.
-use Rattle.std.proofs.Common.{◌≡◌, ℕ, zero, suc, ◌<◌, ◌≤◌, Bool, true, false, ℤ, ◌<ℤ◌, ◌≤ℤ◌, List, [], ◌∷◌, length, filter, get_or, Option, Some, None, unwrap_or, option_map, position, refl, sym, ◌∙◌, ap, arith, inl, inr}
+use Rattle.std.proofs.Common.{◌≡◌, ℕ, zero, suc, ◌<◌, ◌≤◌, Bool, true, false, ℤ, ◌<ℤ◌, ◌≤ℤ◌, List, [], ◌∷◌, length, filter, get_or, Option, Some, None, unwrap_or, position, refl, sym, ◌∙◌, ap, arith, inl, inr}
 use Rattle.std.specs.List.{slice_get, AllPairs}
 use Rattle.std.specs.Int.RustNames.{int_lt, int_le}
 use Rattle.std.proofs.lemmas.Int.{ints}
@@ -47,9 +47,9 @@ parted days ex up (Some n) e =
       within = omega (arith, (position-Some (λ d. int_le ex d) days n ex e).0);
       front = λ k d h. before (get_or days k d) ex ((position-Some (λ d. int_le ex d) days n d e).2 k h);
       back = λ k d h l. elim (cases_lt n k) [
-          | inl lt ↦ later_not_before (get_or days n d) (get_or days k d) ex (up n k d lt l) (position-Some (λ d. int_le ex d) days n d e).1
-          | inr ge ↦ (let same : k ≡ n = omega arith in rw same (not_before (get_or days n d) ex (position-Some (λ d. int_le ex d) days n d e).1))
-        ];
+        | inl lt ↦ later_not_before (get_or days n d) (get_or days k d) ex (up n k d lt l) (position-Some (λ d. int_le ex d) days n d e).1
+        | inr ge ↦ (let same : k ≡ n = omega arith in rw same (not_before (get_or days n d) ex (position-Some (λ d. int_le ex d) days n d e).1))
+      ];
     }
 
 pub sessions-before : (days : List ℤ) (ex : ℤ) → AllPairs (λ a b. a <ℤ b) days → (o : Option ℕ) → position (λ d. int_le ex d) days ≡ o → length (filter (λ d. int_lt d ex) days) ≡ unwrap_or o (length days)

@@ -1,5 +1,5 @@
 -- What a payout comes to, in plain words.
-use Rattle.std.proofs.Common.{◌≡◌, ◌↔◌, ◌⊎◌, ℕ, zero, suc, ◌+◌, ◌*◌, ◌<◌, ◌≤◌, ◌||◌, nat_lt, Bool, true, false, if◌then◌else◌, ℤ, pos, negsuc, ◌<ℤ◌, ◌≤ℤ◌, ◌-ℤ◌, ◌*ℤ◌, List, Option, Some, None, option_map, Result, Ok, Err, refl, sym, ◌∙◌, ap, subst, arith, inl, inr}
+use Rattle.std.proofs.Common.{◌≡◌, ◌↔◌, ◌⊎◌, ℕ, zero, suc, ◌*◌, ◌<◌, ◌≤◌, ◌||◌, nat_lt, Bool, true, false, if◌then◌else◌, ℤ, pos, negsuc, ◌<ℤ◌, ◌≤ℤ◌, ◌-ℤ◌, ◌*ℤ◌, List, Option, Some, None, option_map, Result, Ok, Err, refl, sym, ◌∙◌, ap, subst, arith, inl, inr}
 use Rattle.std.specs.List.{AllPairs}
 use Rattle.std.specs.Int.RustNames.{int_le, unsigned_abs}
 use Rattle.std.specs.Int.{◌∣◌}
@@ -7,7 +7,6 @@ use Rattle.std.specs.Ordering.{int_eq}
 use Rattle.std.specs.Bool.{Decides}
 use Rattle.std.proofs.Math.Nat.{mul_comm, dvd-zero}
 use Rattle.std.proofs.lemmas.Int.{ints}
-use Rattle.std.proofs.lemmas.Bool.{cases_lt}
 use Rattle.std.proofs.lemmas.Bool.Decides.{nat_tests}
 use Rattle.pl_spec.specs.Rounding.{MISSING, Fraction, is_missing, div_round}
 use Rattle.pl_spec.specs.Dates.{IsDay}
@@ -15,13 +14,13 @@ use Rattle.pl_spec.specs.declared.AssetRow.{AssetRow}
 use Rattle.pl_spec.specs.declared.BarRow.{BarRow}
 use Rattle.pl_spec.specs.declared.RawAdjust.{RawAdjust}
 use Rattle.pl_fixed.proofs.RoundingLemmas.{div_round-multiple}
-use Rattle.pl_adjust.specs.Rules.{IsEffective, HasRatio}
+use Rattle.pl_adjust.specs.Rules.{IsEffective}
 use Rattle.pl_payouts.specs.declared.Payout.{Payout}
 use Rattle.pl_payouts.specs.declared.ratio.Skip.{Skip}
 use Rattle.pl_payouts.specs.declared.ratio.Skip.TheVariants.{NoSession, NoClose, NotBelow, TooFine}
 use Rattle.pl_payouts.specs.Payouts.{IsPayout}
-use Rattle.pl_payouts.specs.Ratios.{last_before, close_before, raw_close, lowest, is_too_fine, row_of, row_unless_fine, ratio_over, ratio_if, ratio_in}
-use Rattle.pl_payouts.specs.RatioRules.{IsLastBefore, IsCloseBefore, IsNoClose, IsAbove, IsLowest, IsRow, IsTooFine, Leaves, ComesTo}
+use Rattle.pl_payouts.specs.Ratios.{last_before, close_before, raw_close, lowest, is_too_fine, row_of, ratio_over, ratio_if, ratio_in}
+use Rattle.pl_payouts.specs.RatioRules.{IsNoClose, IsLowest, Leaves, ComesTo}
 use Rattle.pl_payouts.proofs.Divisors.{lowest-exact, lowest-coprime, lowest-num, lowest-den}
 use Rattle.pl_payouts.proofs.LastSessions.{last-is, last-none, last-one}
 

@@ -1,13 +1,13 @@
 -- Payouts that are read: what is kept of all rows, and what a file says, in plain words.
-use Rattle.std.proofs.Common.{◌≡◌, ◌↔◌, ℕ, zero, suc, ◌<◌, ◌≤◌, ◌==◌, nat_le, not, Bool, true, false, List, [], ◌∷◌, ◌++◌, length, length-append, All, Option, Some, None, position, Ok, Err, refl, ap, sym, ◌∙◌, ℤ, pos, ◌<ℤ◌, ◌≤ℤ◌, arith, inr}
+use Rattle.std.proofs.Common.{◌≡◌, ◌↔◌, ℕ, ◌<◌, ◌≤◌, ◌==◌, nat_le, not, true, false, List, [], ◌∷◌, ◌++◌, length, length-append, Option, Some, None, position, Ok, Err, refl, ℤ, pos, ◌<ℤ◌, ◌≤ℤ◌, arith, inr}
 use Rattle.std.specs.Int.RustNames.{int_lt}
 use Rattle.std.specs.Bool.{Decides}
 use Rattle.std.specs.Option.{ok_or}
 use Rattle.std.proofs.lemmas.Int.{ints}
 use Rattle.std.proofs.lemmas.Bool.Decides.{nat_tests}
 use Rattle.std.proofs.lemmas.List.Elements.{All-push}
-use Rattle.pl_records.specs.Reading.{Record, Fault, field, AreRowsUnder, Judges}
-use Rattle.pl_records.specs.RuleTable.{IsFirstBroken, lacks, has}
+use Rattle.pl_records.specs.Reading.{Record, Fault, field, Judges}
+use Rattle.pl_records.specs.RuleTable.{IsFirstBroken, lacks}
 use Rattle.pl_records.proofs.Readings.{rows-keep, under_ok, under-are, under-fault}
 use Rattle.pl_records.proofs.RuleTables.{told_ok, ok_or-Ok, lacks-tells, has-tells, Judges-table}
 use Rattle.pl_spec.specs.declared.AssetRow.{AssetRow}
@@ -83,8 +83,7 @@ kept-more : (assets : List AssetRow) → AreAssets assets → (before : List Div
 unfolding says_dividend
 kept-more assets up before r d h s =
     let k = told_ok rules.rules (breaks assets before r) (ok_or (dividend_in r) rules.BadField) d s in
-    let at : dividend_in r ≡ Some d = ok_or-Ok (dividend_in r) rules.BadField d k.1 in
-    (
+    let at : dividend_in r ≡ Some d = ok_or-Ok (dividend_in r) rules.BadField d k.1 in (
       record { few = few_more before d k.0.0; paid = All-push (λ (x : Dividend). IsPaid x.ex x.amount) before d h.0.paid (paid r d at (rw at at k.0.1.1.1.0)) },
       All-push (λ (x : Dividend). IsKnown assets x.sid) before d h.1 (known assets up d.sid (rw at at k.0.1.1.0)),
     )

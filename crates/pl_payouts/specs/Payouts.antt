@@ -1,5 +1,5 @@
 -- The payouts of the records of a payouts file, and the first rule that a record breaks.
-use Rattle.std.specs.Prelude.{◌≡◌, ℕ, ◌==◌, ◌≤◌, nat_le, not, Bool, false, if◌then◌else◌, ℤ, pos, ◌<ℤ◌, codes, List, [], ◌∷◌, length, All, Option, None, option_map, option_and_then, position, Result}
+use Rattle.std.specs.Prelude.{ℕ, ◌==◌, ◌≤◌, nat_le, not, Bool, false, if◌then◌else◌, ℤ, pos, ◌<ℤ◌, codes, List, [], ◌∷◌, length, All, Option, None, option_map, option_and_then, position, Result}
 use Rattle.std.specs.Result.{result_ok}
 use Rattle.std.specs.Int.RustNames.{int_lt}
 use Rattle.std.specs.Option.{ok_or}

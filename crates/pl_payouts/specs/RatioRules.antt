@@ -1,5 +1,5 @@
 -- What a payout comes to, in plain words.
-use Rattle.std.specs.Prelude.{◌≡◌, ◌⊎◌, ℕ, ◌<◌, ◌≤◌, ℤ, pos, ◌<ℤ◌, ◌≤ℤ◌, ◌-ℤ◌, ◌*ℤ◌, List, slice_get, Some, Result, Ok, Err}
+use Rattle.std.specs.Prelude.{◌≡◌, ◌⊎◌, ℕ, ◌<◌, ℤ, pos, ◌<ℤ◌, ◌≤ℤ◌, ◌-ℤ◌, ◌*ℤ◌, List, slice_get, Some, Result, Ok, Err}
 use Rattle.std.specs.Int.{◌∣◌}
 use Rattle.pl_spec.specs.Rounding.{MISSING, div_round}
 use Rattle.pl_spec.specs.declared.AssetRow.{AssetRow}
@@ -19,7 +19,8 @@ pub record IsLastBefore (days : List ℤ) (ex : ℤ) (session : ℕ) : Type 0 wh
   pub last : (t : ℕ) (later : ℤ) → session < t → slice_get days t ≡ Some later → ex ≤ℤ later
 
 -- the raw close on the last session before the ex day
-pub record IsCloseBefore (days : List ℤ) (assets : List AssetRow) (bars : List BarRow) (p : Payout) (close : ℤ) : Type 0 where
+pub record IsCloseBefore (days : List ℤ) (assets : List AssetRow) (bars : List BarRow)
+    (p : Payout) (close : ℤ) : Type 0 where
   pub session : ℕ
   pub last : IsLastBefore days p.ex session
   pub raw : raw_close days assets bars p.sid session ≡ close

@@ -57,7 +57,8 @@ abbrev pub effective_of : Payout → ℤ
 effective_of p = p.ex *ℤ pos 86400
 
 abbrev pub row_of : Payout → Fraction → RawAdjust
-row_of p f = record { id = pos p.number; effective = effective_of p; num = pos f.num; den = pos f.den; sid = pos p.sid }
+row_of p f =
+    record { id = pos p.number; effective = effective_of p; num = pos f.num; den = pos f.den; sid = pos p.sid }
 
 abbrev pub row_unless_fine : Payout → Fraction → Result RawAdjust Skip
 row_unless_fine p f = if is_too_fine f then Err TooFine else Ok (row_of p f)

@@ -28,7 +28,8 @@ abbrev pub Breaks : List AssetRow → List Dividend → Record → Rule → Type
 Breaks assets before r BadHeader = ⊥
 Breaks assets before r TooMany = MOST_PAYOUTS ≤ length before
 Breaks assets before r BadField = (d : Dividend) → ¬ IsDividendRecord r d
-Breaks assets before r UnknownSid = (d : Dividend) × IsDividendRecord r d × ((col : ℕ) → ¬ HasSid assets col d.sid)
+Breaks assets before r UnknownSid =
+    (d : Dividend) × IsDividendRecord r d × ((col : ℕ) → ¬ HasSid assets col d.sid)
 Breaks assets before r NotPositive = (d : Dividend) × IsDividendRecord r d × (d.amount ≤ℤ pos 0)
 
 -- the record is the next payout
@@ -42,4 +43,5 @@ ArePayoutsOf assets records rows = AreRowsUnder header (IsDividend assets) recor
 -- no header, or the first faulty record
 abbrev pub IsPayoutsFault : List AssetRow → List Record → Fault Rule → Type 0
 IsPayoutsFault assets records fault =
-    IsFaultUnder header BadHeader (IsDividend assets) (λ before r. IsFirstBroken rules (Breaks assets before r)) records fault
+    IsFaultUnder header BadHeader (IsDividend assets)
+    (λ before r. IsFirstBroken rules (Breaks assets before r)) records fault

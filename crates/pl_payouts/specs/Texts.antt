@@ -17,7 +17,8 @@ abbrev pub line : List (List ℕ) → List ℕ
 line fields = join_by (λ f. f) (44 ∷ []) fields ++ 10 ∷ []
 
 abbrev pub header_line : List ℕ
-header_line = line (codes "record" ∷ codes "sid" ∷ codes "effective_date" ∷ codes "num" ∷ codes "den" ∷ codes "reason" ∷ [])
+header_line =
+    line (codes "record" ∷ codes "sid" ∷ codes "effective_date" ∷ codes "num" ∷ codes "den" ∷ codes "reason" ∷ [])
 
 abbrev pub reason_of : Skip → List ℕ
 reason_of NoSession = codes "NoSession"
@@ -31,7 +32,8 @@ ratio_fields (Ok r) = signed_decimal r.num ∷ signed_decimal r.den ∷ [] ∷ [
 ratio_fields (Err skip) = [] ∷ [] ∷ reason_of skip ∷ []
 
 abbrev pub payout_line : Payout → Result RawAdjust Skip → List ℕ
-payout_line p ratio = line (decimal p.number ∷ decimal p.sid ∷ signed_decimal (effective_of p) ∷ ratio_fields ratio)
+payout_line p ratio =
+    line (decimal p.number ∷ decimal p.sid ∷ signed_decimal (effective_of p) ∷ ratio_fields ratio)
 
 -- the payouts with their numbers, which begin with n
 abbrev pub numbered_from : ℕ → List Dividend → List Payout

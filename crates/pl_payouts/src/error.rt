@@ -4,9 +4,9 @@ use pl_outside::Failed;
 use std::alloc::{AllocError, AllocFailed};
 use thiserror::Error;
 
-/// Why a file has no list of payouts. `line` is the number of the first faulty record, from 1, where the
-/// header is the first; blank lines are no records. Of the faults of a record the first decides, in the
-/// order `TooMany`, `BadField`, `UnknownSid`, `NotPositive`.
+/// Why a file has no list of payouts. `line` is the number of the first faulty record, from 1,
+/// where the header is the first; blank lines are no records. Of the faults of a record the first
+/// decides, in the order `TooMany`, `BadField`, `UnknownSid`, `NotPositive`.
 #[derive(Clone, Copy, Debug, Drop, Error, PartialEq, Eq)]
 pub enum PayoutsError {
     /// The first record is not `sid,ex,amount`, or there is none.

@@ -1,7 +1,8 @@
-//! Cash payouts as rows of the table of dividends. A payout of so much a share, to whom the share belonged
-//! before the ex day, takes that much off the price: earlier prices are seen times `(close - amount) / close`,
-//! where the close is that of the last session before the ex day. Zipline keeps this ratio as a rounded float;
-//! here it is exact, or the payout is skipped with the reason.
+//! Cash payouts as rows of the table of dividends. A payout of so much a share, to whom the share
+//! belonged before the ex day, takes that much off the price: earlier prices are seen times
+//! `(close - amount) / close`, where the close is that of the last session before the ex day.
+//! Zipline's writer of adjustments keeps this ratio as a float; here it is exact, or the payout is
+//! skipped with the reason.
 #![tactic(auto)]
 
 ghost use Rattle.std.specs.Prelude.{◌≡◌, ◌+◌, ◌<◌, ◌≤◌, length, slice_get, option_map, Some, IfOk};
@@ -30,9 +31,9 @@ pub use writing::write_payouts;
 /// How many payouts a file may have.
 pub const MOST_PAYOUTS: usize = 200_000;
 
-/// A cash payout of `amount` millionths of a unit of money a share of the asset `sid`. `ex` is the ex day,
-/// the first day on which the share is traded without it, counted from 1970-01-01. `number` is the payout's
-/// place in its file, from 1 and without the header.
+/// A cash payout of `amount` millionths of a unit of money a share of the asset `sid`. `ex` is the
+/// ex day, the first day on which the share is traded without it, counted from 1970-01-01. `number`
+/// is the payout's place in its file, from 1 and without the header.
 #[derive(Clone, Copy, Debug, PartialEq, Eq)]
 pub struct Payout {
     pub number: u32,
@@ -60,11 +61,11 @@ impl Model for Payouts {
 }
 
 impl Payouts {
-    /// The payouts of a file: the header `sid,ex,amount`, and in each further record the sid of an asset, a
-    /// date and a decimal above 0, in any order. A payout may stand there twice.
+    /// The payouts of a file: the header `sid,ex,amount`, and in each further record the sid of an
+    /// asset, a date and a decimal above 0, in any order. A payout may stand there twice.
     pub fn read(alloc: Global, bytes: &[u8], assets: &Assets) -> Result<Payouts, PayoutsError>
-        // The payouts of the records, or the fault of the first faulty one. Only want of memory may come
-        // beside.
+        // The payouts of the records, or the fault of the first faulty one. Only want of memory may
+        // come beside.
         ensures exact { Answers (λ p. p) fault_of result (payouts_of assets.now (csv_records bytes.now)) }
         ensures payouts { IfOk result ArePayouts }
         // Each is of an asset.

@@ -32,9 +32,10 @@ pub enum Skip {
     TooFine,
 }
 
-/// The row of a payout in the table of dividends, or why it has none. `effective` is the midnight of the ex
-/// day in seconds since 1970-01-01, `num / den` is `(close - amount) / close` in lowest terms, where the close
-/// is the raw one of the last session before the ex day, and `id` is the payout's number.
+/// The row of a payout in the table of dividends, or why it has none. `effective` is the midnight
+/// of the ex day in seconds since 1970-01-01, `num / den` is `(close - amount) / close` in lowest
+/// terms, where the close is the raw one of the last session before the ex day, and `id` is the
+/// payout's number.
 pub fn ratio_of(
     payout: &Payout,
     sessions: &Sessions,
@@ -72,12 +73,7 @@ fn find_ratio(
 }
 
 // The raw close of the asset on the last session before the ex day, if there is such a session.
-fn close_before(
-    payout: &Payout,
-    sessions: &Sessions,
-    assets: &Assets,
-    bars: &Bars,
-) -> Option<i64>
+fn close_before(payout: &Payout, sessions: &Sessions, assets: &Assets, bars: &Bars) -> Option<i64>
     requires known { IsKnown assets.now payout.now.sid }
     requires cols { All (λ b. b.col < length assets.now) bars.now }
     ensures exact { result ≡ close_before sessions.now assets.now bars.now payout.now }

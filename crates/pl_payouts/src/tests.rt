@@ -15,7 +15,8 @@ const BARS: &[u8] = b"sid,session,open,high,low,close,volume\n\
     1,2024-01-05,52,52,52,52,10\n1,2024-01-08,53,53,53,53,10\n1,2024-01-09,54,54,54,54,10\n\
     7,2024-01-02,0,0,0,0,0\n7,2024-01-03,2000,2000,2000,2000,1\n7,2024-01-09,3,3,3,3,1\n";
 
-const PAYOUTS: &[u8] = b"sid,ex,amount\n1,2024-01-03,2\n1,2024-01-06,52\n1,2024-01-02,1\n1,2024-01-04,0.000001\n\
+const PAYOUTS: &[u8] =
+    b"sid,ex,amount\n1,2024-01-03,2\n1,2024-01-06,52\n1,2024-01-02,1\n1,2024-01-04,0.000001\n\
     7,2024-01-04,0.000001\n7,2024-01-05,1\n7,2024-01-03,1\n7,2100-01-01,1\n1,1900-01-01,1\n1,2024-01-03,2\n";
 
 const ROWS: &[u8] = b"record,sid,effective_date,num,den,reason\n\
@@ -39,7 +40,10 @@ fn writes_rows(rt: HostRuntime) -> Result<(), Fail> {
     assert!(rt; cut.reserve(4_096).is_ok());
     let kept = write_payouts(rt.alloc(), &payouts, &sessions, &assets, &bars, &mut cut);
     assert!(rt; kept == Err(PayoutsOut::WriteFault));
-    assert!(rt; cut.bytes() == b"record,sid,effective_date,num,den,reason\n1,1,1704240000,49,50,\n".as_slice());
+    assert!(rt;
+        cut.bytes()
+            == b"record,sid,effective_date,num,den,reason\n1,1,1704240000,49,50,\n".as_slice()
+    );
     Ok(())
 }
 
@@ -81,9 +85,7 @@ fn names_the_first_fault(rt: HostRuntime) -> Result<(), Fail> {
         ),
     ];
     for (bytes, fault) in table.iter() {
-        assert!(rt;
-            matches!(Payouts::read(rt.alloc(), bytes, &assets), Err(e) if e == *fault)
-        );
+        assert!(rt; matches!(Payouts::read(rt.alloc(), bytes, &assets), Err(e) if e == *fault));
     }
     Ok(())
 }
@@ -114,8 +116,6 @@ fn reads_as_many_as_there_may_be(rt: HostRuntime) -> Result<(), Fail> {
     }
     bytes.extend_from_slice(b"x\n")?;
     let fault = PayoutsError::TooMany { line: 200_002 };
-    assert!(rt;
-        matches!(Payouts::read(rt.alloc(), &bytes, &assets), Err(e) if e == fault)
-    );
+    assert!(rt; matches!(Payouts::read(rt.alloc(), &bytes, &assets), Err(e) if e == fault));
     Ok(())
 }

@@ -1,4 +1,4 @@
-use Rattle.std.proofs.Common.{rules, ◌≡◌, ◌==◌, ◌∙◌, ℕ, ℤ, pos, ◌<◌, List, [], length, Option, Some, None, position, option_map, unwrap_or, sym, ap, refl, FitsSigned, w32, w64}
+use Rattle.std.proofs.Common.{rules, ◌≡◌, ◌==◌, ◌∙◌, ℕ, ◌<◌, List, [], length, Option, Some, None, position, option_map, unwrap_or, sym, ap, refl, FitsSigned, w32, w64}
 use Rattle.std.specs.List.{slice_get}
 use Rattle.std.proofs.lemmas.Option.{slice_get_within}
 use Rattle.std.proofs.lemmas.Int.{to_z-of_z}
@@ -9,7 +9,7 @@ use Rattle.pl_assets.specs.Assets.{sid_of}
 use Rattle.pl_assets.specs.LabelRules.{HasSid}
 use Rattle.pl_assets.proofs.SidColumns.{sid_form}
 use Rattle.pl_bars.proofs.BarWorlds.{cells_raw}
-use Rattle.pl_payouts.specs.Ratios.{close_before, last_before, raw_close}
+use Rattle.pl_payouts.specs.Ratios.{close_before, raw_close}
 use Rattle.pl_payouts.proofs.ratio.close_before.Goals as goal
 
 slice_within : (assets : List AssetRow) (col sid : ℕ) → HasSid assets col sid → col < length assets

@@ -1,6 +1,6 @@
-use Rattle.std.proofs.Common.{◌≡◌, ◌∙◌, ◌≤◌, ◌-◌, ℕ, suc, zero, Option, Some, None, unwrap_or, position, length, filter, sym, ap, refl, arith, FitsSigned, w32}
+use Rattle.std.proofs.Common.{◌≡◌, ◌∙◌, ◌≤◌, ◌-◌, ℕ, suc, zero, Option, Some, None, unwrap_or, length, filter, sym, ap, refl, arith, FitsSigned, w32}
 use Rattle.std.specs.Prelude.{SomeIff}
-use Rattle.std.specs.Int.RustNames.{int_le, int_lt}
+use Rattle.std.specs.Int.RustNames.{int_lt}
 use Rattle.std.proofs.lemmas.Int.{to_z-of_z}
 use Rattle.pl_payouts.specs.Ratios.{last_of, last_before}
 use Rattle.pl_payouts.proofs.LastSessions.{sessions-before}

@@ -7,7 +7,7 @@ use Rattle.pl_payouts.proofs.reading.rows_behind.Given as goal
 abbrev pub invariant-rows : goal.invariant-rows
 invariant-rows l = record {
   rest : rows_behind 2 (says_dividend l.assets) l.rows.items l.records.left ≡ rows_of 2 (says_dividend l.assets) l.fn.records.left;
-  few : length l.rows.items ≤ MOST_PAYOUTS
+  few : length l.rows.items ≤ MOST_PAYOUTS;
 }
 
 abbrev pub decreases-rows : goal.decreases-rows
