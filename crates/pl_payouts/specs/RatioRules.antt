@@ -60,7 +60,7 @@ pub record IsTooFine (p : Payout) (close : ℤ) : Type 0 where
   pub ratio : IsLowest p close num den
   pub fine : (1000000000 < num) ⊎ (1000000000 < den)
 
--- over a close
+-- what a payout comes to over a close: its row, or the first reason to skip it
 abbrev pub Leaves : Payout → ℤ → Result RawAdjust Skip → Type 0
 Leaves p close (Err NoSession) = ⊥
 Leaves p close (Err NoClose) = IsNoClose close
@@ -68,6 +68,7 @@ Leaves p close (Err NotBelow) = (¬ IsNoClose close) × (close ≤ℤ p.amount)
 Leaves p close (Err TooFine) = IsAbove p close × IsTooFine p close
 Leaves p close (Ok r) = IsAbove p close × IsRow p close r
 
+-- and over the sessions: no session is before the ex day, or there is one with this close
 abbrev pub ComesTo : List ℤ → List AssetRow → List BarRow → Payout → Result RawAdjust Skip → Type 0
 ComesTo days assets bars p answer =
     (((session : ℕ) → ¬ IsLastBefore days p.ex session) × (answer ≡ Err NoSession))
