@@ -1,5 +1,5 @@
 -- How the commands end.
-use Rattle.std.proofs.Common.{◌≡◌, inl, inr, ℕ, ◌+◌, ◌≤◌, Bool, true, List, [], ◌∷◌, Option, Some, None, Result, Ok, Err, OnOk, OnErr, IfErr, refl, arith}
+use Rattle.std.proofs.Common.{◌≡◌, inl, inr, ℕ, ◌+◌, ◌≤◌, Bool, true, List, [], ◌∷◌, Option, Some, None, Result, Ok, Err, OnOk, OnErr, IfErr, refl, ◌∙◌, arith}
 use Rattle.std.specs.Option.{ForSome}
 use Rattle.pl_spec.specs.declared.Format.TheVariants.{Csv}
 use Rattle.pl_spec.specs.World.{World}
@@ -16,22 +16,25 @@ use Rattle.pl_syntax.specs.Spells.{Parsed}
 use Rattle.pl_syntax.specs.Canonical.{script_text}
 use Rattle.pl_words.specs.declared.request.InputFile.{InputFile}
 use Rattle.pl_words.specs.declared.request.InputFile.TheVariants as files
-use Rattle.pl_words.specs.Request.{Request, Run, Fmt, Check, RunRequest, name_asked, pipeline_name, adjustments_of}
+use Rattle.pl_words.specs.Request.{Request, Run, Fmt, Check, Plan, RunRequest, PlanRequest, name_asked, pipeline_name, adjustments_of}
 use Rattle.pl_judge.specs.declared.fault.Fault.{Fault}
 use Rattle.pl_judge.specs.declared.fault.Fault.TheVariants.{Usage, Unwritten, Memory}
 use Rattle.pl_judge.specs.Contents.{Contents, AreHeld}
 use Rattle.pl_judge.specs.Held.{script_in, pipeline_in, pipeline_held, terms_held, world_held}
-use Rattle.pl_judge.specs.Range.{index_of}
 use Rattle.pl_judge.specs.Steps.{Step, first_fault}
-use Rattle.pl_judge.specs.Work.{syntax_step, pipeline_steps, work}
+use Rattle.pl_judge.specs.Work.{syntax_step, pipeline_steps, planning_steps, work}
 use Rattle.pl_judge.specs.Stages.{IsStop, IsRisen}
 use Rattle.pl_judge.proofs.Steps.{stop-weaker, always}
 use Rattle.pl_load.specs.declared.loading.Loaded.{Loaded}
 use Rattle.pl_load.specs.Reads.{IsRead}
-use Rattle.pl_load.specs.Loads.{IsLoad, IsLoaded, owned_world}
+use Rattle.pl_load.specs.declared.planning.PlannedPipeline.{PlannedPipeline}
+use Rattle.pl_planner.specs.Plans.{extra}
+use Rattle.pl_plan_text.specs.Text.{plan_text}
+use Rattle.pl_load.specs.Loads.{IsLoad, IsLoaded, IsPlanLoad, owned_world}
 use Rattle.pl_cli.specs.Texts.{text_of, cost_of, check_text}
 use Rattle.pl_cli.specs.Runs.{Observed}
 use Rattle.pl_cli.specs.Commands.{IsEnd, IsEnded, IsCaused, loaded_text, loaded_cost}
+use Rattle.pl_cli.proofs.PlanTexts.{plan-text}
 
 -- what stops the work is no fault of writing
 end-of : (o : Observed) (held : Contents) (asked : Option Request) (s k : Type 0) (fault : Fault) → IsRisen s k fault
@@ -148,6 +151,43 @@ module _ {O : Type 0} (taken : O → Option (List ℕ)) (faults : O → ℕ) (so
       ends-written h.held (Some (Run q)) r h.are_held h.ends.passed (writes-over (loaded-text h.held q l h.loaded) w) is
       (rw (loaded-cost h.held q l h.loaded) at cost) (rw (loaded-cost h.held q l h.loaded) at most)
 
+  no-step : (r : Result (Unit {0}) Fault) (cost : ℕ) → now ≡ before → cost ≡ 0 → OnOk r (now ≡ before + cost)
+  no-step (Ok x) cost same none = omega (arith, same, none)
+  no-step (Err f) cost same none = tt
+
+  -- ---- a plan
+
+  pub plan-stops : (q : PlanRequest) (s k : Type 0) (fault : Fault) → now ≡ before → IsRisen s k fault → IsPlanLoad tells shelf q (Err fault)
+      → IsEnded {T = Unit {0}} (seen taken sound room old new tells lists shelf keeper before now) (Some (Plan q)) (Err fault)
+  unfolding work
+  plan-stops q s k fault same risen h =
+      record {
+        held = h.held;
+        are_held = h.are_held lists;
+        done = tt;
+        ended = end-of (seen taken sound room old new tells lists shelf keeper before now) h.held (Some (Plan q)) s k fault risen
+            (stop-weaker shelf keeper shelf true (planning_steps h.held q) fault (λ t. t) always h.ends.stopped);
+        most = omega (arith, same);
+      }
+
+  pub no-plan-text : (q : PlanRequest) (l : PlannedPipeline) → now ≡ before → IsPlanLoad tells shelf q (Ok l)
+      → IsEnded {T = Unit {0}} (seen taken sound room old new tells lists shelf keeper before now) (Some (Plan q)) (Err Memory)
+  no-plan-text q l same h = record { held = h.held; are_held = h.are_held lists; done = tt; ended = inr tt; most = omega (arith, same) }
+
+  plan-free : (held : Contents) (q : PlanRequest) → cost_of held (Some (Plan q)) ≡ 0
+  unfolding cost_of
+  plan-free held q = refl
+
+  pub plan-written : (q : PlanRequest) (l : PlannedPipeline) (bytes : List ℕ) (r : Result (Unit {0}) Fault) → now ≡ before → IsPlanLoad tells shelf q (Ok l)
+      → bytes ≡ plan_text (pipeline_of l.checked) (extra l.plan) l.plan.reach l.plan.bound
+      → Writes taken faults sound room old new bytes r → IfErr r (λ f. f ≡ Unwritten)
+      → IsEnded (seen taken sound room old new tells lists shelf keeper before now) (Some (Plan q)) r
+  unfolding work
+  plan-written q l bytes r same h text w is =
+      let none = plan-free h.held q in
+      ends-written h.held (Some (Plan q)) r (h.are_held lists) h.ends.passed (writes-over (text ∙ plan-text h.held q l h.planned) w) is
+      (no-step r (cost_of h.held (Some (Plan q))) same none) (omega (arith, same, none))
+
   -- ---- commands over the pipeline file alone
 
   abbrev file_held : Option (List ℕ) → Contents
@@ -188,10 +228,6 @@ module _ {O : Type 0} (taken : O → Option (List ℕ)) (faults : O → ℕ) (so
       → IsEnded {T = Unit {0}} (seen taken sound room old new tells lists shelf keeper before now) (Some asked) (Err Memory)
   no-text asked name steps x Means of same h =
       record { held = file_held h.file; are_held = are-held asked name steps h.file of h.is_told; done = tt; ended = inr tt; most = omega (arith, same) }
-
-  no-step : (r : Result (Unit {0}) Fault) (cost : ℕ) → now ≡ before → cost ≡ 0 → OnOk r (now ≡ before + cost)
-  no-step (Ok x) cost same none = omega (arith, same, none)
-  no-step (Err f) cost same none = tt
 
   pub file-written : {T : Type 0} (asked : Request) (name : List ℕ) (steps : Option (List ℕ) → List Step) (x : T) (Means : Option (List ℕ) → T → Type 0) (bytes : List ℕ)
       (r : Result (Unit {0}) Fault) → IsOfFile asked name steps → now ≡ before → IsRead tells shelf (Some name) steps Means (Ok x)

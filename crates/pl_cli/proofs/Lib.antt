@@ -1,4 +1,5 @@
 pub mod Keepers
 pub mod Counts
+pub mod PlanTexts
 pub mod Ended
 pub mod Finished

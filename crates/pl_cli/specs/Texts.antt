@@ -1,15 +1,19 @@
 -- The text of a command over its contents, and the steps that it takes.
-use Rattle.std.specs.Prelude.{ℕ, List, [], ◌∷◌, ◌++◌, length, codes, decimal, Option, Some, None}
+use Rattle.std.specs.Prelude.{ℕ, ℤ, List, [], ◌∷◌, ◌++◌, length, codes, decimal, Option, Some, None}
 use Rattle.pl_spec.specs.declared.Format.TheVariants.{Csv}
 use Rattle.pl_spec.specs.World.{World}
 use Rattle.pl_spec.specs.Table.{Pipeline, Row, table}
 use Rattle.pl_spec.specs.Text.{text}
+use Rattle.pl_spec.specs.Graph.{bound}
+use Rattle.pl_terms.specs.Uses.{outputs}
+use Rattle.pl_plan_text.specs.Text.{plan_text}
 use Rattle.pl_syntax.specs.Canonical.{script_text}
 use Rattle.pl_plain.specs.Rows.{rows_cost}
 use Rattle.pl_words.specs.declared.request.InputFile.TheVariants.{Pipeline as PipelineFile}
-use Rattle.pl_words.specs.Request.{Request, Run, Fmt, Check, RunRequest}
+use Rattle.pl_words.specs.Request.{Request, Run, Fmt, Check, Plan, RunRequest}
 use Rattle.pl_judge.specs.Contents.{Contents}
-use Rattle.pl_judge.specs.Held.{script_in, pipeline_in, pipeline_held, terms_held, world_held}
+use Rattle.pl_judge.specs.Held.{script_in, pipeline_in, pipeline_held, days_held, terms_held, world_held}
+use Rattle.pl_judge.specs.Planning.{extra_of, reach_at}
 use Rattle.pl_judge.specs.Range.{index_of}
 
 -- the rows of the sessions that are asked for
@@ -29,12 +33,19 @@ check_text p =
     codes "ok: " ++ decimal (length p.graph) ++ codes " terms, " ++ decimal (length p.columns)
     ++ codes " columns" ++ 10 ∷ []
 
--- the table of a run, the canonical text of a script, or the counts of a pipeline that keeps the rules
+-- the plan of a pipeline for a range that begins with session from
+abbrev pub planned_text : List ℤ → Pipeline → ℕ → List ℕ
+planned_text days p from = plan_text p (extra_of days p from) (reach_at days p from) (bound p.graph (outputs p))
+
+-- the table of a run, the canonical text of a script, the counts of a pipeline that keeps the rules, or its plan
 unfoldable pub text_of : Contents → Option Request → List ℕ
 text_of held None = []
 text_of held (Some (Run q)) = run_text held q
 text_of held (Some (Fmt name)) = script_text 1 (script_in (held.file PipelineFile)).statements
 text_of held (Some (Check name)) = check_text (pipeline_in (held.file PipelineFile))
+text_of held (Some (Plan q)) =
+    let days = days_held held in
+    planned_text days (pipeline_held held) (index_of days q.from.day)
 
 -- the steps of the cells of a run: one each time that an adjustment changes a cell of a window
 abbrev pub run_cost : Contents → RunRequest → ℕ
@@ -47,3 +58,4 @@ cost_of held None = 0
 cost_of held (Some (Run q)) = run_cost held q
 cost_of held (Some (Fmt name)) = 0
 cost_of held (Some (Check name)) = 0
+cost_of held (Some (Plan q)) = 0

@@ -6,8 +6,8 @@ ghost use Rattle.pl_spec.specs.Text.{header};
 ghost use Rattle.pl_outside.specs.Lists.{Lists};
 ghost use Rattle.pl_outside.specs.Taken.{Writes};
 ghost use Rattle.pl_outside.specs.Left.{Leaves, LeavesSink, IsUntouched};
-ghost use Rattle.pl_words.specs.Request.{Run, Fmt, Check};
-ghost use Rattle.pl_words.specs.Views.{run_of};
+ghost use Rattle.pl_words.specs.Request.{Run, Fmt, Check, Plan};
+ghost use Rattle.pl_words.specs.Views.{run_of, plan_of};
 ghost use Rattle.pl_cli.specs.Runs.{observed};
 ghost use Rattle.pl_load.specs.Loads.{IsReady};
 ghost use Rattle.pl_terms.specs.Checked.{pipeline_of};
@@ -17,12 +17,13 @@ ghost use Rattle.pl_cli.specs.Commands.{IsEnded, IsCaused, loaded_text, loaded_c
 use itoa::Buffer;
 use pl_fixed::Steps;
 use pl_judge::{Fault, write_pieces};
-use pl_load::{Loaded, load, read_checked, read_script};
+use pl_load::{Loaded, load, load_plan, read_checked, read_script};
 use pl_outside::{AdjustKeeper, Failed, Shelf, Sink, write_bytes};
+use pl_plan_text::plan_text;
 use pl_runner::{TableText, make_header, write_table};
 use pl_syntax::print;
 use pl_terms::Checked;
-use pl_words::RunRequest;
+use pl_words::{PlanRequest, RunRequest};
 use std::alloc::Global;
 use std::sync::ledger::Ledger;
 
@@ -98,10 +99,7 @@ pub fn fmt_command<S: Shelf, O: Sink>(
     // a script that was read is of the one version of the language
     let _version = script.version();
     let text = print(alloc, &script)?;
-    match write_bytes(out, &text) {
-        Ok(()) => Ok(()),
-        Err(_) => Err(Fault::Unwritten),
-    }
+    write_text(out, &text)
 }
 
 /// Reads the pipeline file of that name, and writes how many terms and columns its pipeline has.
@@ -123,6 +121,38 @@ pub fn check_command<S: Shelf, O: Sink>(
 {
     let checked = read_checked(alloc, shelf, name)?;
     match write_counts(&checked, out) {
+        Ok(()) => Ok(()),
+        Err(_) => Err(Fault::Unwritten),
+    }
+}
+
+/// Reads the pipeline file and the sessions of these names, and writes the plan of the pipeline.
+pub fn plan_command<S: Shelf, O: Sink>(
+    alloc: Global,
+    request: &PlanRequest<'_>,
+    shelf: &mut S,
+    out: &mut O,
+) -> Result<(), Fault>
+    // whatever a keeper tells, and however many steps were counted
+    ensures ended { (lists : Option Lists) (sound : Bool) (steps : ℕ)
+        → IsEnded (observed S.holds S.sound (λ _. lists) (λ _. sound) O.taken O.sound O.room shelf.old steps
+        out.old out.new steps steps) (Some (Plan (plan_of request.now))) result }
+    ensures caused { IfErr result (IsCaused ⊥ (Rose (S.faults shelf.old) (S.faults shelf.new)) ⊥
+        (Rose (O.faults out.old) (O.faults out.new))
+        ((O.taken out.new ≡ O.taken out.old) × (O.room out.new ≡ O.room out.old))) }
+    ensures shelf { Leaves S.holds S.sound S.faults shelf.old shelf.new }
+    ensures out { LeavesSink O.sound O.faults out.old out.new }
+{
+    let planned = load_plan(alloc, request, shelf)?;
+    let text = plan_text(alloc, &planned.checked, &planned.plan)?;
+    write_text(out, &text)
+}
+
+fn write_text<O: Sink>(out: &mut O, text: &[u8]) -> Result<(), Fault>
+    ensures writes { Writes O.taken O.faults O.sound O.room out.old out.new text.now result }
+    ensures unwritten { IfErr result (λ fault. fault ≡ Fault.Unwritten) }
+{
+    match write_bytes(out, text) {
         Ok(()) => Ok(()),
         Err(_) => Err(Fault::Unwritten),
     }

@@ -8,7 +8,7 @@ ghost use Rattle.pl_judge.specs.Faults.{judged_status, judged_line};
 ghost use Rattle.pl_cli.specs.Runs.{observed, IsRun, IsTold};
 ghost use Rattle.pl_cli.specs.Commands.{IsEnded, IsCaused, fault_of};
 
-use crate::commands::{check_command, fmt_command, run_command};
+use crate::commands::{check_command, fmt_command, plan_command, run_command};
 use pl_fixed::Steps;
 use pl_judge::{Fault, write_line};
 use pl_outside::{AdjustKeeper, Shelf, Sink};
@@ -22,13 +22,15 @@ use std::sync::ledger::Ledger;
 ///   words, reads the files from the shelf and the adjustments from the keeper, and writes the table of the sessions FROM to TO
 ///   to `out`;
 /// - `fmt PIPELINE` writes the canonical text of the pipeline file;
-/// - `check PIPELINE` writes how many terms and columns its pipeline has.
+/// - `check PIPELINE` writes how many terms and columns its pipeline has;
+/// - `plan PIPELINE SESSIONS FROM TO` writes what is computed for these sessions: a line for each used term, and the least
+///   session whose bars are read.
 ///
 /// It answers the status:
 ///
 /// - 0: all was read, judged and written;
 /// - 2: the words are of none of these forms;
-/// - 3: the pipeline file is not in the language, by its syntax or, where it is checked, by its rules;
+/// - 3: the pipeline file is not in the language, by its syntax or, but for `fmt`, by its rules;
 /// - 4: a record of a data file or a row of the adjustments breaks a rule; 5: the range is not one of sessions with the bars
 ///   that the columns show; 6: a limit is passed;
 /// - 7: the shelf counted a fault; 8: the keeper did; 9: `out` did, and a prefix of the text stands on it;
@@ -107,6 +109,7 @@ fn answer<S: Shelf, K: AdjustKeeper, O: Sink, L: Ledger>(
         Some(Request::Run(request)) => run_command(alloc, request, shelf, keeper, out, steps),
         Some(Request::Fmt(name)) => fmt_command(alloc, name, shelf, out),
         Some(Request::Check(name)) => check_command(alloc, name, shelf, out),
+        Some(Request::Plan(request)) => plan_command(alloc, request, shelf, out),
     }
 }
 

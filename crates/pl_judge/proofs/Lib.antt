@@ -1,2 +1,4 @@
 pub mod Steps
+pub mod Needed
+pub mod Planned
 pub mod Ranges

@@ -1,17 +1,24 @@
 -- The faults of a range.
-use Rattle.std.proofs.Common.{◌≡◌, ℕ, ◌<◌, ◌≤◌, ◌-◌, nat_lt, true, false, ℤ, pos, ◌-ℤ◌, to_z, of_z, w64, List, Some, None, refl, arith}
+use Rattle.std.proofs.Common.{◌≡◌, inl, inr, ℕ, ◌<◌, ◌≤◌, nat_lt, true, false, ℤ, pos, ◌≤ℤ◌, ◌<ℤ◌, List, Some, None, refl, arith}
+use Rattle.std.specs.Int.RustNames.{int_lt}
 use Rattle.std.proofs.lemmas.Int.{ints}
 use Rattle.std.proofs.lemmas.Bool.Decides.{nat_tests}
-use Rattle.pl_spec.specs.Window.{before}
+use Rattle.pl_spec.specs.Lows.{least_reach}
 use Rattle.pl_spec.specs.Table.{Pipeline}
-use Rattle.pl_model.specs.declared.cell.PlainTerm.{PlainTerm}
-use Rattle.pl_plain.specs.PlainPipelines.{greatest_window}
+use Rattle.pl_terms.specs.Checked.{IsChecked}
+use Rattle.pl_terms.specs.Uses.{outputs}
+use Rattle.pl_planner.specs.declared.plans.PlanError.{PlanError}
+use Rattle.pl_planner.specs.declared.plans.PlanError.TheVariants as errors
+use Rattle.pl_planner.specs.Plans.{Planned, IsPlanOf, IsPlanFault}
 use Rattle.pl_words.specs.declared.request.RangeDate.TheVariants.{From, To}
 use Rattle.pl_words.specs.Request.{Dated}
-use Rattle.pl_judge.specs.declared.fault.Fault.TheVariants.{NotSession, Backwards, TooEarly}
+use Rattle.pl_judge.specs.declared.fault.Fault.TheVariants.{NotSession, Backwards}
+use Rattle.pl_judge.specs.Rules.{plan_error}
 use Rattle.pl_judge.specs.Steps.{first_fault}
-use Rattle.pl_judge.specs.Range.{session_of, reach_at, dates_steps, reach_steps}
-use Rattle.pl_plain.proofs.PlainPipelines.{IsPlain, pipeline-reaches, in-bars, before-bars}
+use Rattle.pl_judge.specs.Stages.{IsStop}
+use Rattle.pl_judge.specs.Planning.{reach_at}
+use Rattle.pl_judge.specs.Range.{session_of, dates_steps, plan_steps}
+use Rattle.pl_judge.proofs.Planned.{too-deep, not-deep}
 
 -- ---- the dates
 
@@ -31,20 +38,23 @@ pub in-order : (from to : Dated) (days : List ℤ) (i j : ℕ) → session_of da
 unfolding dates_steps
 in-order from to days i j f t h = let less : nat_lt j i ≡ false = grind (arith, nat_tests) in rw (f, t, less) refl
 
--- ---- how far the columns reach back
+-- ---- the plan
 
-reach-is : (days : List ℤ) (p : Pipeline) (ts : List PlainTerm) (d : ℕ) → IsPlain p ts → reach_at days p d ≡ before (pos d) (greatest_window ts)
-unfolding reach_at
-reach-is days p ts d h = pipeline-reaches days p ts (pos d) h
+late : (z : ℤ) → pos 0 ≤ℤ z → int_lt z (pos 0) ≡ false
+late z h = grind (arith, ints, nat_tests)
 
-pub back-by : (i n : ℕ) → i < n → n < 4294967296 → to_z w64 (of_z w64 (pos 0 -ℤ to_z w64 (n - i))) ≡ before (pos i) n
-back-by i n h few = omega (arith, ints)
+early : (z : ℤ) → z <ℤ pos 0 → int_lt z (pos 0) ≡ true
+early z h = grind (arith, ints, nat_tests)
 
-pub too-early : (p : Pipeline) (ts : List PlainTerm) (days : List ℤ) (i : ℕ) (reach : ℤ) → IsPlain p ts
-    → i < greatest_window ts → reach ≡ before (pos i) (greatest_window ts) → first_fault (reach_steps p days i) ≡ Some (TooEarly reach)
-unfolding reach_steps
-too-early p ts days i reach h early e = rw (reach-is days p ts i h, before-bars i (greatest_window ts) early, e) refl
+module _ (days : List ℤ) (p : Pipeline) (checked : IsChecked p) where
+  pub has-plan : (plan : Planned) → IsPlanOf days p plan → first_fault (plan_steps p days plan.from plan.to) ≡ None
+  unfolding plan_steps reach_at
+  has-plan plan is =
+      let l = rw is.least at is.early in
+      rw (late (least_reach days p.graph (outputs p) (pos plan.from)) l, not-deep p checked days plan is) refl
 
-pub late-enough : (p : Pipeline) (ts : List PlainTerm) (days : List ℤ) (i : ℕ) → IsPlain p ts → greatest_window ts ≤ i → first_fault (reach_steps p days i) ≡ None
-unfolding reach_steps
-late-enough p ts days i h late = rw (reach-is days p ts i h, in-bars i (greatest_window ts) late) refl
+  pub no-plan : (from to : ℕ) (error : PlanError) → IsPlanFault days p from to error → IsStop true true (plan_steps p days from to) (plan_error error)
+  unfolding plan_steps reach_at
+  no-plan from to (errors.TooEarly r) h = inl (let e = early (least_reach days p.graph (outputs p) (pos from)) (rw h.0 at h.1) in rw (e, h.0) refl)
+  no-plan from to (errors.TooDeep n) h = inl (rw (late (least_reach days p.graph (outputs p) (pos from)) h.0, too-deep p checked days from to n h.1 h.2) refl)
+  no-plan from to errors.Memory h = inr tt

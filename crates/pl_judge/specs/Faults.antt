@@ -70,6 +70,7 @@ limit_text limits.Assets = codes "assets"
 limit_text limits.Labels = codes "labels"
 limit_text limits.Bars = codes "bars"
 limit_text limits.Adjustments = codes "adjustments"
+limit_text limits.Extra = codes "extra"
 
 abbrev pub status_of : Fault → ℕ
 status_of faults.Usage = 2

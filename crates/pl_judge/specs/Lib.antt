@@ -1,10 +1,11 @@
--- What the input of a command is judged to be. Faults, Contents, Held, Work, Range and Ends are for every reader; Stages and Rules
+-- What the input of a command is judged to be. Faults, Contents, Held, Work, Planning, Range and Ends are for every reader; Stages and Rules
 -- are words of the code's own contracts.
 pub mod Faults
 pub mod Contents
 pub mod Rules
 pub mod Held
 pub mod Steps
+pub mod Planning
 pub mod Work
 pub mod Range
 pub mod Ends

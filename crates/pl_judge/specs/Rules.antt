@@ -13,6 +13,8 @@ use Rattle.pl_syntax.specs.declared.error.SyntaxError.{SyntaxError}
 use Rattle.pl_syntax.specs.declared.error.SyntaxError.TheVariants as errors
 use Rattle.pl_check.specs.declared.fault.CheckFault.{CheckFault}
 use Rattle.pl_check.specs.declared.fault.CheckFault.TheVariants as checks
+use Rattle.pl_planner.specs.declared.plans.PlanError.{PlanError}
+use Rattle.pl_planner.specs.declared.plans.PlanError.TheVariants as plan_errors
 use Rattle.pl_check.specs.declared.fault.CheckError.{CheckError}
 use Rattle.pl_check.specs.declared.fault.CheckError.TheVariants as check_errors
 use Rattle.pl_words.specs.declared.request.InputFile.TheVariants as files
@@ -22,7 +24,7 @@ use Rattle.pl_judge.specs.declared.fault.DataFault.TheVariants.{BadHeader, Empty
 use Rattle.pl_judge.specs.declared.fault.RowFault.TheVariants.{BadEffective, BadRatio}
 use Rattle.pl_judge.specs.declared.fault.Limit.TheVariants as limits
 use Rattle.pl_judge.specs.declared.fault.Fault.{Fault}
-use Rattle.pl_judge.specs.declared.fault.Fault.TheVariants.{Syntax, Rule, Data, Row, Passed, Memory}
+use Rattle.pl_judge.specs.declared.fault.Fault.TheVariants.{Syntax, Rule, Data, Row, TooEarly, Passed, Memory}
 
 abbrev pub syntax_fault : syntax.Kind → Place → Fault
 syntax_fault syntax.BadByte place = Syntax place misspelled.BadByte
@@ -98,3 +100,8 @@ syntax_error errors.Memory = Memory
 abbrev pub check_error : CheckError → Fault
 check_error (check_errors.Fault fault place) = rule_fault fault place
 check_error check_errors.Memory = Memory
+
+abbrev pub plan_error : PlanError → Fault
+plan_error (plan_errors.TooEarly reach) = TooEarly reach
+plan_error (plan_errors.TooDeep rows) = Passed limits.Extra
+plan_error plan_errors.Memory = Memory

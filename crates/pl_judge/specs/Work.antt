@@ -19,7 +19,7 @@ use Rattle.pl_outside.specs.declared.keeper.Table.TheVariants.{Splits, Mergers, 
 use Rattle.pl_plain.specs.PlainPipelines.{plain_terms}
 use Rattle.pl_words.specs.declared.request.InputFile.{InputFile}
 use Rattle.pl_words.specs.declared.request.InputFile.TheVariants.{Pipeline as PipelineFile, Sessions, Assets, Labels, Bars}
-use Rattle.pl_words.specs.Request.{Request, Run, Fmt, Check, RunRequest, Dated}
+use Rattle.pl_words.specs.Request.{Request, Run, Fmt, Check, Plan, RunRequest, PlanRequest}
 use Rattle.pl_judge.specs.declared.limits.TheConstants.{PIPELINE_CAP, FILE_CAP}
 use Rattle.pl_judge.specs.declared.fault.Limit.{Limit}
 use Rattle.pl_judge.specs.declared.fault.Limit.TheVariants as limits
@@ -30,7 +30,7 @@ use Rattle.pl_judge.specs.Rules.{syntax_fault, rule_fault, sessions_fault, asset
 use Rattle.pl_judge.specs.Held.{script_in, pipeline_held, days_held, assets_held, adjustments_of_rows}
 use Rattle.pl_judge.specs.Steps.{Step, rule, when}
 use Rattle.pl_judge.specs.Steps.Source.{Input, Load}
-use Rattle.pl_judge.specs.Range.{index_of, dates_steps, reach_steps}
+use Rattle.pl_judge.specs.Range.{range_steps}
 
 -- ---- a file that is read whole and judged
 
@@ -111,6 +111,9 @@ pipeline_steps file = syntax_step file ∷ rule (script_rule (script_in file)) �
 abbrev pub built_steps : Pipeline → List Step
 built_steps p = rule (built_rule p) ∷ []
 
+abbrev pub sessions_step : Option (List ℕ) → Step
+sessions_step file = read_step Sessions sessions_rule file
+
 -- a labels file is read where its name is asked for
 abbrev pub labels_steps : List AssetRow → Option (List ℕ) → Option (List ℕ) → List Step
 labels_steps assets None file = []
@@ -130,13 +133,9 @@ unfoldable pub data_steps : Contents → RunRequest → List Step
 data_steps held q =
     let days = days_held held in
     let assets = assets_held held in
-    read_step Sessions sessions_rule (held.file Sessions) ∷ read_step Assets assets_rule (held.file Assets)
+    sessions_step (held.file Sessions) ∷ read_step Assets assets_rule (held.file Assets)
     ∷ (labels_steps assets q.options.labels (held.file Labels)
     ++ (read_step Bars (bars_rule days assets) (held.file Bars) ∷ adjustments_steps assets q.options.adjustments held.rows))
-
--- the sessions from .. to, and what a pipeline shows on the first of them
-abbrev pub range_steps : Pipeline → List ℤ → Dated → Dated → List Step
-range_steps p days from to = dates_steps from to days ++ reach_steps p days (index_of days from.day)
 
 -- first the pipeline file, then the data, and then the range
 abbrev pub run_steps : Contents → RunRequest → List Step
@@ -145,8 +144,15 @@ run_steps held q =
     pipeline_steps (held.file PipelineFile)
     ++ (built_steps p ++ (data_steps held q ++ range_steps p (days_held held) q.from q.to))
 
+-- the pipeline file, the sessions, and the range
+abbrev pub planning_steps : Contents → PlanRequest → List Step
+planning_steps held q =
+    pipeline_steps (held.file PipelineFile)
+    ++ (sessions_step (held.file Sessions) ∷ range_steps (pipeline_held held) (days_held held) q.from q.to)
+
 unfoldable pub work : Contents → Option Request → List Step
 work held None = rule (Some Usage) ∷ []
 work held (Some (Run q)) = run_steps held q
 work held (Some (Fmt name)) = syntax_step (held.file PipelineFile) ∷ []
 work held (Some (Check name)) = pipeline_steps (held.file PipelineFile)
+work held (Some (Plan q)) = planning_steps held q

@@ -1,7 +1,7 @@
 // What the errors of the readers and of the checker are to a command.
 ghost use Rattle.std.specs.Prelude.{◌≡◌};
 ghost use Rattle.pl_judge.specs.Stages.{Tells};
-ghost use Rattle.pl_judge.specs.Rules.{told_at, told, sessions_fault, assets_fault, labels_fault, bars_fault, rows_fault, syntax_error, rule_fault, check_error};
+ghost use Rattle.pl_judge.specs.Rules.{told_at, told, sessions_fault, assets_fault, labels_fault, bars_fault, rows_fault, syntax_error, rule_fault, check_error, plan_error};
 
 use crate::{DataFault, Fault, Limit, RowFault, RuleFault, SyntaxFault};
 use pl_adjust::AdjustError;
@@ -10,6 +10,7 @@ use pl_bars::BarsError;
 use pl_calendar::CalendarError;
 use pl_check::{CheckError, CheckFault};
 use pl_fixed::Memory;
+use pl_planner::PlanError;
 use pl_syntax::{Place, SyntaxError};
 use pl_words::InputFile;
 use std::alloc::AllocError;
@@ -154,6 +155,18 @@ impl From<AdjustError> for Fault {
             },
             AdjustError::TooMany => Fault::Passed(Limit::Adjustments),
             AdjustError::Memory => Fault::Memory,
+        }
+    }
+}
+
+impl From<PlanError> for Fault {
+    ghost from_gives = { λ error fault. Tells fault (plan_error error) };
+
+    fn from(error: PlanError) -> Fault {
+        match error {
+            PlanError::TooEarly { reach } => Fault::TooEarly { reach },
+            PlanError::TooDeep { .. } => Fault::Passed(Limit::Extra),
+            PlanError::Memory => Fault::Memory,
         }
     }
 }

@@ -22,6 +22,8 @@ pub enum Limit {
     Labels,
     Bars,
     Adjustments,
+    /// The extra rows of a term.
+    Extra,
 }
 
 /// The fault of the syntax of a pipeline file.
@@ -104,7 +106,7 @@ pub enum Fault {
     NotSession(RangeDate),
     /// The first date is after the second.
     Backwards,
-    /// The columns show bars of a session before the first one, at this number.
+    /// The columns or the screen show bars of a session before the first one, at this number.
     TooEarly {
         reach: i64,
     },
@@ -222,6 +224,7 @@ impl Limit {
             Limit::Labels => "labels",
             Limit::Bars => "bars",
             Limit::Adjustments => "adjustments",
+            Limit::Extra => "extra",
         }
     }
 }

@@ -16,4 +16,4 @@ pub use built::judge_built;
 pub use fault::{DataFault, Fault, Limit, RowFault, RuleFault, SyntaxFault};
 pub use limits::{FILE_CAP, PIPELINE_CAP, cap_of, limit_of};
 pub use line::{write_line, write_pieces};
-pub use range::{Range, judge_dates, judge_reach};
+pub use range::{Range, judge_dates, judge_plan};

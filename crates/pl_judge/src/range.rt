@@ -1,17 +1,18 @@
 // The sessions that are asked for.
-ghost use Rattle.std.specs.Prelude.{◌≡◌, ◌≤◌, ◌<◌, ℤ, List, Some, true, length, IfOk, IfErr};
+ghost use Rattle.std.specs.Prelude.{◌≡◌, ◌≤◌, ◌<◌, true, length, IfOk, IfErr};
 ghost use Rattle.pl_terms.specs.Checked.{pipeline_of};
-ghost use Rattle.pl_model.specs.PlainTerms.{size_of};
-ghost use Rattle.pl_plain.specs.PlainPipelines.{plain_terms, greatest_window};
+ghost use Rattle.pl_planner.specs.Plans.{IsPlanOf};
 ghost use Rattle.pl_words.specs.Views.{dated_of};
-ghost use Rattle.pl_judge.specs.Range.{dates_steps, reach_steps, index_of};
+ghost use Rattle.pl_judge.specs.Planning.{HasRows};
+ghost use Rattle.pl_judge.specs.Range.{dates_steps, plan_steps, index_of};
 ghost use Rattle.pl_judge.specs.Stages.{StageEnds, IsRisen};
 
 use crate::Fault;
 use pl_calendar::Sessions;
-use pl_model::PlainTerm;
+use pl_planner::{Plan, plan};
 use pl_terms::Checked;
 use pl_words::{DateWord, RangeDate};
+use std::alloc::Global;
 
 /// The sessions from which and to which rows are written.
 #[derive(Clone, Copy, Debug, PartialEq, Eq)]
@@ -47,40 +48,23 @@ pub fn judge_dates(
     Ok(Range { from, to })
 }
 
-/// On the session of this number the columns of a pipeline, which show these terms, show no bars of a session
-/// before the first one, whatever the days of the sessions are.
-pub fn judge_reach(checked: &Checked, terms: &[PlainTerm], from: usize) -> Result<(), Fault>
-    requires plain { plain_terms (pipeline_of checked.now) ≡ Some terms.now }
-    ensures ends { (days : List ℤ)
-        → StageEnds true true (reach_steps (pipeline_of checked.now) days from) result }
+/// The plan of a pipeline over the sessions of a range.
+pub fn judge_plan(
+    alloc: Global,
+    checked: &Checked,
+    sessions: &Sessions,
+    range: Range,
+) -> Result<Plan, Fault>
+    requires order { range.from ≤ range.to }
+    requires within { range.to < length sessions.now }
+    ensures ends { StageEnds true true (plan_steps (pipeline_of checked.now) sessions.now range.from range.to) result }
+    ensures plan { IfOk result (IsPlanOf sessions.now (pipeline_of checked.now)) }
+    ensures rows { IfOk result (HasRows sessions.now (pipeline_of checked.now)) }
+    ensures from { IfOk result (λ plan. plan.from ≡ range.from) }
+    ensures to { IfOk result (λ plan. plan.to ≡ range.to) }
     ensures risen { IfErr result (IsRisen ⊥ ⊥) }
 {
     // what the terms mention stands before them
     let _terms = checked.graph();
-    let window = greatest_window(terms) as usize;
-    if from < window {
-        let reach = -((window - from) as i64);
-        return Err(Fault::TooEarly { reach });
-    }
-    Ok(())
-}
-
-// The most sessions that a term looks back.
-fn greatest_window(terms: &[PlainTerm]) -> u32
-    ensures { result ≡ greatest_window terms.now }
-{
-    let mut greatest = 0;
-    for term in terms {
-        greatest = greatest.max(window_of(*term));
-    }
-    greatest
-}
-
-fn window_of(term: PlainTerm) -> u32
-    ensures { result ≡ size_of term }
-{
-    match term {
-        PlainTerm::Latest(_) => 1,
-        PlainTerm::SimpleMovingAverage(_, window) => window,
-    }
+    Ok(plan(alloc, checked, sessions, range.from, range.to)?)
 }

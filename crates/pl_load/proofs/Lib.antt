@@ -3,3 +3,4 @@ pub mod ScriptReads
 pub mod TableReads
 pub mod DataReads
 pub mod RunReads
+pub mod PlanReads

@@ -1,5 +1,5 @@
 -- A run as a whole: the pipeline file, the data, and the range.
-use Rattle.std.proofs.Common.{◌≡◌, ℕ, Bool, true, List, Option, Some, Result, Ok, Err, refl, sym, ◌∙◌}
+use Rattle.std.proofs.Common.{◌≡◌, ℕ, Bool, true, List, Option, Some, Result, Ok, Err, refl, sym}
 use Rattle.std.specs.Option.{ForSome}
 use Rattle.pl_outside.specs.Files.{Files}
 use Rattle.pl_outside.specs.Lists.{Lists}
@@ -13,8 +13,7 @@ use Rattle.pl_judge.specs.declared.fault.Fault.{Fault}
 use Rattle.pl_judge.specs.Contents.{Contents, AreHeld}
 use Rattle.pl_judge.specs.Held.{pipeline_in}
 use Rattle.pl_judge.specs.Work.{pipeline_steps, built_steps, data_steps}
-use Rattle.pl_judge.specs.Range.{dates_steps, reach_steps, index_of}
-use Rattle.pl_judge.specs.Steps.{Step}
+use Rattle.pl_judge.specs.Range.{dates_steps, plan_steps, index_of}
 use Rattle.pl_judge.specs.Stages.{StageEnds}
 use Rattle.pl_judge.proofs.Steps.{stage-stops, stage-goes_on, stage-done, stage-weaker, stage-over, always}
 use Rattle.pl_load.specs.declared.loading.Loaded.{Loaded}
@@ -103,15 +102,15 @@ module _ (tells : Option Files) (lists : Option Lists) (sound keeper : Bool) (q 
         loaded = tt;
       }
 
-  pub no-reach : {T U V : Type 0} (c : Parts) (x : T) (w : OwnedWorld) (y : U) (from : ℕ) (fault : Fault) → PipelineRead tells sound q (Ok c)
+  pub no-plan : {T U V : Type 0} (c : Parts) (x : T) (w : OwnedWorld) (y : U) (from to : ℕ) (fault : Fault) → PipelineRead tells sound q (Ok c)
       → StageEnds true true (built_steps (pipeline_of c)) (Ok x) → IsData tells lists sound keeper q (Ok w)
-      → StageEnds true true (dates_steps q.from q.to w.sessions) (Ok y) → from ≡ index_of w.sessions q.from.day
-      → StageEnds {T = V} true true (reach_steps (pipeline_of c) w.sessions from) (Err fault) → IsLoad tells lists sound keeper q (Err fault)
-  no-reach c x w y from fault h b d r at e =
+      → StageEnds true true (dates_steps q.from q.to w.sessions) (Ok y) → from ≡ index_of w.sessions q.from.day → to ≡ index_of w.sessions q.to.day
+      → StageEnds {T = V} true true (plan_steps (pipeline_of c) w.sessions from to) (Err fault) → IsLoad tells lists sound keeper q (Err fault)
+  no-plan c x w y from to fault h b d r at until e =
       record {
         held = held_with h.file d.held;
         are_held = are-held h.file d.held h.is_told d.are_held;
-        ends = rw (h.means, d.days, ← at)
+        ends = rw (h.means, d.days, ← at, ← until)
             (stage-goes_on h.ends (stage-goes_on b (stage-goes_on (stage-over (same-steps h.file d.held q) d.ends) (stage-goes_on r (stage-weaker always always e)))));
         loaded = tt;
       }
@@ -119,14 +118,14 @@ module _ (tells : Option Files) (lists : Option Lists) (sound keeper : Bool) (q 
   pub all-loaded : {T U V : Type 0} (l : Loaded) (x : T) (y : U) (z : V) → PipelineRead tells sound q (Ok l.checked)
       → StageEnds true true (built_steps (pipeline_of l.checked)) (Ok x) → plain_terms (pipeline_of l.checked) ≡ Some l.terms.items
       → IsData tells lists sound keeper q (Ok l.world) → StageEnds true true (dates_steps q.from q.to l.world.sessions) (Ok y)
-      → StageEnds true true (reach_steps (pipeline_of l.checked) l.world.sessions l.range.from) (Ok z)
+      → StageEnds true true (plan_steps (pipeline_of l.checked) l.world.sessions l.range.from l.range.to) (Ok z)
       → l.range.from ≡ index_of l.world.sessions q.from.day → l.range.to ≡ index_of l.world.sessions q.to.day
       → IsLoad tells lists sound keeper q (Ok l)
   all-loaded l x y z h b terms d r e from to =
       record {
         held = held_with h.file d.held;
         are_held = are-held h.file d.held h.is_told d.are_held;
-        ends = rw (h.means, d.days, ← from)
+        ends = rw (h.means, d.days, ← from, ← to)
             (stage-goes_on h.ends (stage-goes_on b (stage-goes_on (stage-over (same-steps h.file d.held q) d.ends) (stage-goes_on r (stage-done e)))));
         loaded = record {
           pipeline = h.means;

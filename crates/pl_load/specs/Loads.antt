@@ -1,5 +1,5 @@
 -- What was loaded.
-use Rattle.std.specs.Prelude.{◌≡◌, ℕ, ◌<◌, ◌≤◌, Bool, List, length, Option, Some, Result, IfOk}
+use Rattle.std.specs.Prelude.{◌≡◌, ◌<◌, ◌≤◌, Bool, true, length, Option, Some, Result, IfOk}
 use Rattle.pl_terms.specs.Checked.{pipeline_of}
 use Rattle.pl_plain.specs.PlainPipelines.{plain_terms}
 use Rattle.pl_spec.specs.World.{World}
@@ -8,14 +8,17 @@ use Rattle.pl_outside.specs.Files.{Files}
 use Rattle.pl_outside.specs.Lists.{Lists}
 use Rattle.pl_model.specs.declared.owned.OwnedWorld.{OwnedWorld}
 use Rattle.pl_model.specs.Worlds.{AreMadeFor}
-use Rattle.pl_words.specs.Request.{RunRequest, Run}
+use Rattle.pl_planner.specs.Plans.{IsPlanOf}
+use Rattle.pl_words.specs.Request.{RunRequest, PlanRequest, Run, Plan}
 use Rattle.pl_judge.specs.declared.fault.Fault.{Fault}
 use Rattle.pl_judge.specs.Contents.{Contents, AreHeld}
 use Rattle.pl_judge.specs.Held.{pipeline_held, terms_held, days_held, world_held}
-use Rattle.pl_judge.specs.Work.{data_steps, run_steps}
+use Rattle.pl_judge.specs.Work.{data_steps, run_steps, planning_steps}
+use Rattle.pl_judge.specs.Planning.{HasRows}
 use Rattle.pl_judge.specs.Range.{index_of}
 use Rattle.pl_judge.specs.Stages.{StageEnds}
 use Rattle.pl_load.specs.declared.loading.Loaded.{Loaded}
+use Rattle.pl_load.specs.declared.planning.PlannedPipeline.{PlannedPipeline}
 
 abbrev pub owned_world : OwnedWorld → World
 owned_world w = world_of w.sessions w.assets w.labels.rows w.labels.texts w.bars w.adjustments
@@ -53,3 +56,18 @@ pub record IsLoad (files : Option Files) (lists : Option Lists) (shelf keeper : 
   pub are_held : AreHeld files lists (Some (Run q)) held
   pub ends : StageEnds shelf keeper (run_steps held q) result
   pub loaded : IfOk result (IsLoaded held q)
+
+-- The pipeline is that of the contents, and the plan is one of it over their sessions, for the range of the two
+-- dates.
+pub record IsPlanned (held : Contents) (q : PlanRequest) (l : PlannedPipeline) : Type 0 where
+  pub pipeline : pipeline_held held ≡ pipeline_of l.checked
+  pub plan : IsPlanOf (days_held held) (pipeline_of l.checked) l.plan
+  pub rows : HasRows (days_held held) (pipeline_of l.checked) l.plan
+  pub from : index_of (days_held held) q.from.day ≡ l.plan.from
+
+-- A plan is loaded in this way; no tables are asked for.
+pub record IsPlanLoad (files : Option Files) (shelf : Bool) (q : PlanRequest) (result : Result PlannedPipeline Fault) : Type 0 where
+  pub held : Contents
+  pub are_held : (lists : Option Lists) → AreHeld files lists (Some (Plan q)) held
+  pub ends : StageEnds shelf true (planning_steps held q) result
+  pub planned : IfOk result (IsPlanned held q)

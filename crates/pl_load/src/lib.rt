@@ -3,7 +3,9 @@
 
 mod inputs;
 mod loading;
+mod planning;
 mod tables;
 
 pub use inputs::{read_checked, read_script};
 pub use loading::{Loaded, load};
+pub use planning::{PlannedPipeline, load_plan};

@@ -8,7 +8,7 @@ ghost use Rattle.pl_load.specs.Loads.{IsData, IsLoad, IsOwned, IsReady};
 
 use crate::inputs::{read_assets, read_bars, read_checked, read_labels, read_sessions};
 use crate::tables::read_adjustments;
-use pl_judge::{Fault, Range, judge_built, judge_dates, judge_reach};
+use pl_judge::{Fault, Range, judge_built, judge_dates, judge_plan};
 use pl_model::{OwnedWorld, PlainTerm};
 use pl_outside::{AdjustKeeper, Shelf};
 use pl_terms::Checked;
@@ -43,7 +43,7 @@ pub fn load<S: Shelf, K: AdjustKeeper>(
     let terms = judge_built(alloc, &checked)?;
     let world = read_world(alloc, request, shelf, keeper)?;
     let range = judge_dates(&request.from, &request.to, &world.sessions)?;
-    judge_reach(&checked, &terms, range.from)?;
+    let _plan = judge_plan(alloc, &checked, &world.sessions, range)?;
     Ok(Loaded {
         checked,
         terms,

@@ -1,4 +1,4 @@
-// What `check` writes, and what it and `run` refuse.
+// What `check` writes, and what it, `run` and `plan` refuse.
 use crate::test_runs::{NO_ROWS, answer, make_left, run_words, words_of};
 use std::test::Fail;
 
@@ -30,6 +30,7 @@ fn refuses_broken_rules(rt: HostRuntime) -> Result<(), Fail> {
     let alloc = rt.alloc();
     let check = words_of(alloc, "check p.pl")?;
     let run = run_words(alloc, "2024-01-03 2024-01-09")?;
+    let plan = words_of(alloc, "plan p.pl sessions.csv 2024-01-03 2024-01-09")?;
     for (statements, fault) in [
         ("column x = a < b < c;", "2:18: syntax Unexpected"),
         ("column x = (close.latest", "2:25: syntax Unexpected"),
@@ -56,7 +57,7 @@ fn refuses_broken_rules(rt: HostRuntime) -> Result<(), Fail> {
     ] {
         let file = format!(in alloc; "pipeline 1;\n{statements}")?;
         let line = format!(in alloc; "p.pl:{fault}\n")?;
-        for words in [&check, &run] {
+        for words in [&check, &run, &plan] {
             let got = answer(alloc, words, ("p.pl", file.as_bytes()), NO_ROWS)?;
             assert_eq!(rt;
                 got,
@@ -73,6 +74,7 @@ fn refuses_too_much(rt: HostRuntime) -> Result<(), Fail> {
     let alloc = rt.alloc();
     let check = words_of(alloc, "check p.pl")?;
     let run = run_words(alloc, "2024-01-03 2024-01-09")?;
+    let plan = words_of(alloc, "plan p.pl sessions.csv 2024-01-03 2024-01-09")?;
     let mut columns = String::from_str(alloc, "pipeline 1;\n")?;
     let mut terms = String::from_str(alloc, "pipeline 1;\n")?;
     for number in 0..65 {
@@ -86,7 +88,7 @@ fn refuses_too_much(rt: HostRuntime) -> Result<(), Fail> {
         (&columns, b"limit: columns\n".as_slice()),
         (&terms, b"limit: terms\n"),
     ] {
-        for words in [&check, &run] {
+        for words in [&check, &run, &plan] {
             let got = answer(alloc, words, ("p.pl", file.as_bytes()), NO_ROWS)?;
             assert_eq!(rt; got, make_left(alloc, 6, b"", line)?);
         }

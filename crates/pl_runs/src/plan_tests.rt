@@ -1,9 +1,11 @@
 // Plans of whole scripts.
 use crate::refusal_tests::dates;
+use crate::test_runs::{
+    Left, NO_ROWS, answer, keeper, make_left, run_over, shelf_with, words_of,
+};
 use pl_calendar::Sessions;
 use pl_check::check;
-use pl_plan_text::plan_text;
-use pl_planner::{Plan, PlanError, plan};
+use pl_planner::{Plan, plan};
 use pl_syntax::parse;
 use pl_terms::{Checked, TermId};
 use std::alloc::Global;
@@ -15,28 +17,6 @@ fn checked_of(alloc: Global, statements: &str) -> Result<Checked, Fail> {
     Ok(check(alloc, &script)?)
 }
 
-// The text of the plan of so many sessions, or why there is none.
-fn answer_of(
-    alloc: Global,
-    statements: &str,
-    count: i32,
-    from: usize,
-    to: usize,
-) -> Result<Vec<u8>, Fail> {
-    let checked = checked_of(alloc, statements)?;
-    let sessions = Sessions::read(alloc, &dates(alloc, count)?)?;
-    if to < from || sessions.len() <= to {
-        return Ok(Vec::new(alloc));
-    }
-    let why = match plan(alloc, &checked, &sessions, from, to) {
-        Ok(plan) => return Ok(plan_text(alloc, &checked, &plan)?),
-        Err(PlanError::TooEarly { reach }) => format!(in alloc; "TooEarly {reach}")?,
-        Err(PlanError::TooDeep { rows }) => format!(in alloc; "TooDeep {rows}")?,
-        Err(PlanError::Memory) => format!(in alloc; "Memory")?,
-    };
-    Ok(why.into_bytes())
-}
-
 const AVERAGES: &str = "let big = AverageDollarVolume(2) > 1000;
     column a = SimpleMovingAverage(close, 3);
     column b = SimpleMovingAverage(close, 3);
@@ -44,15 +24,20 @@ const AVERAGES: &str = "let big = AverageDollarVolume(2) > 1000;
 
 const NESTED: &str = "column c = SimpleMovingAverage(Returns(close, 2), 2);";
 
+// What `plan` leaves for these statements and dates.
+fn answer_of(alloc: Global, statements: &str, dates: &str) -> Result<Left, Fail> {
+    let file = format!(in alloc; "pipeline 1;\n{statements}")?;
+    let words = words_of(alloc, &format!(in alloc; "plan p.pl sessions.csv {dates}")?)?;
+    answer(alloc, &words, ("p.pl", file.as_bytes()), NO_ROWS)
+}
+
 #[test]
 fn tells_plans(rt: HostRuntime) -> Result<(), Fail> {
     let alloc = rt.alloc();
-    for (statements, count, from, to, text) in [
+    for (statements, dates, text) in [
         (
             AVERAGES,
-            6,
-            3,
-            4,
+            "2024-01-05 2024-01-08",
             b"0 AverageDollarVolume inputs=close;volume window=2 mask=- group=- extra=0 uses=1\n\
             1 Const inputs=- window=1 mask=- group=- extra=0 uses=1\n\
             2 Greater inputs=0;1 window=1 mask=- group=- extra=0 uses=1\n\
@@ -63,9 +48,7 @@ fn tells_plans(rt: HostRuntime) -> Result<(), Fail> {
         ),
         (
             NESTED,
-            6,
-            3,
-            4,
+            "2024-01-05 2024-01-08",
             b"0 Returns inputs=close window=2 mask=- group=- extra=1 uses=1\n\
             1 SimpleMovingAverage inputs=0 window=2 mask=- group=- extra=0 uses=1\n\
             reach=0 bound=2\n",
@@ -73,40 +56,62 @@ fn tells_plans(rt: HostRuntime) -> Result<(), Fail> {
         // an unused term has no line
         (
             "let a = WindowSum(high, 5); column d = close.latest.demean(groupby=label(\"sector\"));",
-            6,
-            2,
-            2,
+            "2024-01-04 2024-01-04",
             b"1 Latest inputs=close window=1 mask=- group=- extra=0 uses=1\n\
             2 Label inputs=- window=1 mask=- group=- extra=0 uses=1\n\
             3 Demean inputs=1 window=1 mask=- group=2 extra=0 uses=1\n\
             reach=1 bound=3\n",
         ),
-        (NESTED, 6, 2, 4, b"TooEarly -1"),
+    ] {
+        let got = answer_of(alloc, statements, dates)?;
+        assert_eq!(rt; got, make_left(alloc, 0, text, b"")?);
+    }
+    Ok(())
+}
+
+#[test]
+fn refuses_plans(rt: HostRuntime) -> Result<(), Fail> {
+    let alloc = rt.alloc();
+    for (statements, dates, line) in [
+        (
+            NESTED,
+            "2024-01-04 2024-01-08",
+            b"range: TooEarly -1\n".as_slice(),
+        ),
         (
             "column m = SimpleMovingAverage(close, 2);",
-            6,
-            1,
-            2,
-            b"TooEarly -1",
+            "2024-01-03 2024-01-04",
+            b"range: TooEarly -1\n",
         ),
         (
             "column c = 1; screen SimpleMovingAverage(close, 3) > 1;",
-            6,
-            1,
-            2,
-            b"TooEarly -2",
+            "2024-01-03 2024-01-04",
+            b"range: TooEarly -2\n",
         ),
-        (
-            "column r = RSI(RSI(RSI(RSI(RSI(close, 2), 1260), 1260), 1260), 1260);",
-            5200,
-            5100,
-            5199,
-            b"TooDeep 5036",
-        ),
+        (NESTED, "2024-01-06 2024-01-07", b"range: NotSession 2024-01-06\n"),
+        (NESTED, "2024-01-05 2024-01-07", b"range: NotSession 2024-01-07\n"),
+        (NESTED, "2024-01-05 2024-01-04", b"range: Backwards\n"),
     ] {
-        let got = answer_of(alloc, statements, count, from, to)?;
-        assert_eq!(rt; got.as_slice(), text);
+        let got = answer_of(alloc, statements, dates)?;
+        assert_eq!(rt; got, make_left(alloc, 5, b"", line)?, "{statements} {dates}");
     }
+    Ok(())
+}
+
+// 5,200 sessions, of which the first of the range has the number 5,100.
+#[test]
+fn plans_few_rows(rt: HostRuntime) -> Result<(), Fail> {
+    let alloc = rt.alloc();
+    let deep = b"pipeline 1; column r = RSI(RSI(RSI(RSI(RSI(close, 2), 1260), 1260), 1260), 1260);";
+    let words = words_of(alloc, "plan p.pl sessions.csv 1983-12-19 1984-03-27")?;
+    let mut shelf = shelf_with(alloc, ("p.pl", deep))?;
+    shelf.put(
+        String::from_str(alloc, "sessions.csv")?,
+        dates(alloc, 5_200)?,
+    )?;
+    let keeper = keeper(alloc, NO_ROWS, Vec::new(alloc))?;
+    let got = run_over(alloc, &words, shelf, keeper, Vec::new(alloc))?;
+    assert_eq!(rt; got, make_left(alloc, 6, b"", b"limit: extra\n")?);
     Ok(())
 }
 

@@ -4,7 +4,7 @@ use Rattle.jiff_core.specs.Calendar.{days_from_civil, day_count, days_of_years, 
 use Rattle.std.specs.Fmt.{digits as decimal_digits}
 use Rattle.pl_spec.specs.Dates.{digits, date_text, day_if, date_in}
 use Rattle.pl_words.specs.Parts.{Word}
-use Rattle.pl_words.specs.Request.{request, counted, Request, Run, Fmt, Check}
+use Rattle.pl_words.specs.Request.{request, counted, Request, Run, Fmt, Check, Plan}
 
 abbrev names : List Word
 names = codes "p.pl" ∷ codes "sessions.csv" ∷ codes "assets.csv" ∷ codes "bars.csv" ∷ []
@@ -31,6 +31,15 @@ mixed : request (codes "run" ∷ codes "--labels=-l" ∷ (names ++ codes "--adju
 unfolding request counted date_in day_if days_from_civil day_count days_of_years days_of_months decimal_digits digits date_text
 mixed = refl
 
+planned : request (codes "plan" ∷ codes "p.pl" ∷ codes "sessions.csv" ∷ dates) ≡ Some (Plan (record {
+  pipeline = codes "p.pl";
+  sessions = codes "sessions.csv";
+  from = record { text = codes "2024-01-03"; day = pos 19725 };
+  to = record { text = codes "2024-01-04"; day = pos 19726 };
+}))
+unfolding request counted date_in day_if days_from_civil day_count days_of_years days_of_months decimal_digits digits date_text
+planned = refl
+
 named_as_options : map request ((codes "fmt" ∷ codes "--" ∷ codes "--" ∷ []) ∷ (codes "check" ∷ codes "--" ∷ codes "-p" ∷ []) ∷ []) ≡ Some (Fmt (codes "--")) ∷ Some (Check (codes "-p")) ∷ []
 unfolding request counted
 named_as_options = refl
@@ -39,13 +48,15 @@ refused : map request (
     []
     ∷ (codes "format" ∷ codes "p.pl" ∷ [])
     ∷ (codes "fmt" ∷ [])
+    ∷ (codes "plan" ∷ codes "p.pl" ∷ codes "s" ∷ [])
+    ∷ (codes "plan" ∷ codes "--labels" ∷ codes "l" ∷ codes "p.pl" ∷ codes "s" ∷ dates)
     ∷ (codes "fmt" ∷ codes "p.pl" ∷ codes "q.pl" ∷ [])
     ∷ (codes "fmt" ∷ [] ∷ [])
     ∷ (codes "fmt" ∷ codes "--" ∷ codes "-" ∷ [])
     ∷ (codes "fmt" ∷ codes "-p" ∷ [])
     ∷ (codes "fmt" ∷ codes "--help" ∷ [])
     ∷ (codes "fmt" ∷ codes "--labels" ∷ codes "l" ∷ codes "p.pl" ∷ []) ∷ [])
-    ≡ None ∷ None ∷ None ∷ None ∷ None ∷ None ∷ None ∷ None ∷ None ∷ []
+    ≡ None ∷ None ∷ None ∷ None ∷ None ∷ None ∷ None ∷ None ∷ None ∷ None ∷ None ∷ []
 unfolding request counted
 refused = refl
 

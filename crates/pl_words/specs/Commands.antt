@@ -3,28 +3,31 @@ use Rattle.std.specs.Prelude.{ℕ, List, [], ◌∷◌, Option, find, bytes_eq, 
 use Rattle.pl_words.specs.declared.commands.OptionName.{OptionName}
 use Rattle.pl_words.specs.declared.commands.OptionName.TheVariants.{Labels, Adjustments}
 use Rattle.pl_words.specs.declared.commands.CommandName.{CommandName}
-use Rattle.pl_words.specs.declared.commands.CommandName.TheVariants.{Run, Check, Fmt}
+use Rattle.pl_words.specs.declared.commands.CommandName.TheVariants.{Run, Check, Fmt, Plan}
 use Rattle.pl_words.specs.Parts.{Word}
 
 abbrev pub all_commands : List CommandName
-all_commands = Run ∷ Check ∷ Fmt ∷ []
+all_commands = Run ∷ Check ∷ Fmt ∷ Plan ∷ []
 
 abbrev pub command_text : CommandName → Word
 command_text Run = codes "run"
 command_text Check = codes "check"
 command_text Fmt = codes "fmt"
+command_text Plan = codes "plan"
 
 -- how many names it takes
 abbrev pub places_of : CommandName → ℕ
 places_of Run = 6  -- PIPELINE SESSIONS ASSETS BARS FROM TO
 places_of Check = 1  -- PIPELINE
 places_of Fmt = 1  -- PIPELINE
+places_of Plan = 4  -- PIPELINE SESSIONS FROM TO
 
 -- the options that it knows
 abbrev pub options_of : CommandName → List OptionName
 options_of Run = Labels ∷ Adjustments ∷ []
 options_of Check = []
 options_of Fmt = []
+options_of Plan = []
 
 abbrev pub command_named : Word → Option CommandName
 command_named word = find (λ c. bytes_eq word (command_text c)) all_commands

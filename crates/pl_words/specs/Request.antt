@@ -33,11 +33,19 @@ pub record RunRequest : Type 0 where
   pub to : Dated
   pub options : Options
 
--- the table of a pipeline, the canonical text of a pipeline file, or whether it keeps the rules
+-- the plan of a pipeline over the sessions of that name, from a date to a date
+pub record PlanRequest : Type 0 where
+  pub pipeline : List ℕ
+  pub sessions : List ℕ
+  pub from : Dated
+  pub to : Dated
+
+-- the table of a pipeline, the canonical text of a pipeline file, whether it keeps the rules, or a plan
 pub data Request : Type 0 where
   Run : RunRequest → Request
   Fmt : (pipeline : List ℕ) → Request
   Check : (pipeline : List ℕ) → Request
+  Plan : PlanRequest → Request
 
 abbrev pub dated : Word → Option Dated
 dated text = option_map (λ day. record { text = text; day = day }) (date_in text)
@@ -72,11 +80,20 @@ run_in names values =
     option_and_then (λ from. option_and_then (λ to. option_map (run_over names from to) (options_by values))
     (dated (name names 5))) (dated (name names 4))
 
+abbrev pub plan_over : List Word → Dated → Dated → PlanRequest
+plan_over names from to = record { pipeline = name names 0; sessions = name names 1; from = from; to = to }
+
+-- two names and two dates
+abbrev pub plan_in : List Word → Option PlanRequest
+plan_in names =
+    option_and_then (λ from. option_map (plan_over names from) (dated (name names 3))) (dated (name names 2))
+
 -- what a command asks for by its names and its options' values
 abbrev pub request_in : CommandName → List Word → Values → Option Request
 request_in command.Run names values = option_map Run (run_in names values)
 request_in command.Check names values = Some (Check (name names 0))
 request_in command.Fmt names values = Some (Fmt (name names 0))
+request_in command.Plan names values = option_map Plan (plan_in names)
 
 -- It takes exactly its number of names.
 unfoldable pub counted : CommandName → List Word → Values → Option Request
@@ -110,15 +127,23 @@ pipeline_name name Assets = None
 pipeline_name name Labels = None
 pipeline_name name Bars = None
 
+abbrev pub plan_name : PlanRequest → InputFile → Option (List ℕ)
+plan_name q Pipeline = Some q.pipeline
+plan_name q Sessions = Some q.sessions
+plan_name q Assets = None
+plan_name q Labels = None
+plan_name q Bars = None
+
 abbrev pub name_of : Request → InputFile → Option (List ℕ)
 name_of (Run q) file = run_name q file
 name_of (Fmt name) file = pipeline_name name file
 name_of (Check name) file = pipeline_name name file
+name_of (Plan q) file = plan_name q file
 
--- the texts of the two dates of a run
-abbrev pub run_date : RunRequest → RangeDate → List ℕ
-run_date q From = q.from.text
-run_date q To = q.to.text
+-- the texts of the two dates
+abbrev pub date_text : Dated → Dated → RangeDate → List ℕ
+date_text from to From = from.text
+date_text from to To = to.text
 
 -- ---- of the command that words ask for, where they ask for one
 
@@ -126,11 +151,12 @@ abbrev pub name_asked : Option Request → InputFile → Option (List ℕ)
 name_asked None file = None
 name_asked (Some q) file = name_of q file
 
--- the text of a date of the words; no other command than a run has one
+-- the text of a date of the words; other commands than a run and a plan have none
 abbrev pub date_asked : Option Request → RangeDate → List ℕ
-date_asked (Some (Run q)) date = run_date q date
+date_asked (Some (Run q)) date = date_text q.from q.to date
 date_asked (Some (Fmt name)) date = []
 date_asked (Some (Check name)) date = []
+date_asked (Some (Plan q)) date = date_text q.from q.to date
 date_asked None date = []
 
 -- the name of the adjustments that are asked for
@@ -138,4 +164,5 @@ abbrev pub adjustments_of : Option Request → Option (List ℕ)
 adjustments_of (Some (Run q)) = q.options.adjustments
 adjustments_of (Some (Fmt name)) = None
 adjustments_of (Some (Check name)) = None
+adjustments_of (Some (Plan q)) = None
 adjustments_of None = None

@@ -2,8 +2,9 @@
 use Rattle.std.specs.Prelude.{option_map}
 use Rattle.pl_words.specs.Request as spec
 use Rattle.pl_words.specs.declared.request.Request.{Request}
-use Rattle.pl_words.specs.declared.request.Request.TheVariants.{Run, Fmt, Check}
+use Rattle.pl_words.specs.declared.request.Request.TheVariants.{Run, Fmt, Check, Plan}
 use Rattle.pl_words.specs.declared.request.RunRequest.{RunRequest}
+use Rattle.pl_words.specs.declared.request.PlanRequest.{PlanRequest}
 use Rattle.pl_words.specs.declared.request.DateWord.{DateWord}
 use Rattle.pl_words.specs.declared.request.Options.{Options}
 
@@ -25,7 +26,11 @@ run_of r =
       options = options_of r.options;
     }
 
+abbrev pub plan_of : PlanRequest → spec.PlanRequest
+plan_of r = record { pipeline = r.pipeline.now; sessions = r.sessions.now; from = dated_of r.from; to = dated_of r.to }
+
 abbrev pub request_of : Request → spec.Request
 request_of (Run r) = spec.Run (run_of r)
 request_of (Fmt name) = spec.Fmt name.now
 request_of (Check name) = spec.Check name.now
+request_of (Plan r) = spec.Plan (plan_of r)

@@ -9,6 +9,7 @@ pub enum CommandName {
     Run,
     Check,
     Fmt,
+    Plan,
 }
 
 /// The options, of which a command knows some. Those that no command knows yet are refused everywhere.
@@ -28,6 +29,7 @@ pub(crate) fn command_named(word: &str) -> Option<CommandName>
         "run" => Some(CommandName::Run),
         "check" => Some(CommandName::Check),
         "fmt" => Some(CommandName::Fmt),
+        "plan" => Some(CommandName::Plan),
         _ => None,
     }
 }
@@ -39,6 +41,7 @@ impl CommandName {
     {
         match self {
             CommandName::Run => 6,
+            CommandName::Plan => 4,
             CommandName::Check | CommandName::Fmt => 1,
         }
     }
@@ -49,7 +52,7 @@ impl CommandName {
     {
         match self {
             CommandName::Run => &[OptionName::Labels, OptionName::Adjustments],
-            CommandName::Check | CommandName::Fmt => &[],
+            CommandName::Check | CommandName::Fmt | CommandName::Plan => &[],
         }
     }
 }

@@ -4,13 +4,13 @@ ghost use Rattle.std.specs.List.{list_all};
 ghost use Rattle.pl_words.specs.Parts.{is_text};
 ghost use Rattle.pl_words.specs.Commands.{places_of};
 ghost use Rattle.pl_words.specs.Apps.{names_in, values_in};
-ghost use Rattle.pl_words.specs.Request.{asked, counted, request, request_in, run_in};
-ghost use Rattle.pl_words.specs.Views.{request_of, run_of};
+ghost use Rattle.pl_words.specs.Request.{asked, counted, plan_in, request, request_in, run_in};
+ghost use Rattle.pl_words.specs.Views.{plan_of, request_of, run_of};
 
 use crate::commands::{CommandName, command_named};
 use crate::cut::{cut, values};
 use crate::options::{date_in, options};
-use crate::request::{Request, RunRequest};
+use crate::request::{PlanRequest, Request, RunRequest};
 use crate::text::is_text;
 use clap::ArgMatches;
 use pl_outside::Memory;
@@ -76,6 +76,7 @@ fn request_in<'a>(
         CommandName::Run => Some(Request::Run(run_in(names, matches)?)),
         CommandName::Check => Some(Request::Check(names[0])),
         CommandName::Fmt => Some(Request::Fmt(names[0])),
+        CommandName::Plan => Some(Request::Plan(plan_in(names)?)),
     }
 }
 
@@ -96,6 +97,21 @@ fn run_in<'a>(names: &[&'a str], matches: &ArgMatches<'a>) -> Option<RunRequest<
         from,
         to,
         options,
+    })
+}
+
+fn plan_in<'a>(names: &[&'a str]) -> Option<PlanRequest<'a>>
+    requires { length names.now ≡ 4 }
+    ensures { MatchOption result (plan_in (map (λ v. v.now) names.now) ≡ None)
+        (λ r. plan_in (map (λ v. v.now) names.now) ≡ Some (plan_of r)) }
+{
+    let from = date_in(names[2])?;
+    let to = date_in(names[3])?;
+    Some(PlanRequest {
+        pipeline: names[0],
+        sessions: names[1],
+        from,
+        to,
     })
 }
 

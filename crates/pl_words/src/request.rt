@@ -1,7 +1,7 @@
 // What a command is asked for.
 ghost use Rattle.std.specs.Prelude.{◌≡◌, [], option_map, unwrap_or};
-ghost use Rattle.pl_words.specs.Request.{name_of, pipeline_name, name_asked, date_asked, adjustments_of, run_name, run_date};
-ghost use Rattle.pl_words.specs.Views.{request_of, run_of};
+ghost use Rattle.pl_words.specs.Request.{name_of, pipeline_name, name_asked, date_asked, date_text, adjustments_of, plan_name, run_name};
+ghost use Rattle.pl_words.specs.Views.{dated_of, plan_of, request_of, run_of};
 
 /// A file that a command reads, by what it is to the command.
 #[derive(Clone, Copy, Debug, PartialEq, Eq)]
@@ -13,7 +13,7 @@ pub enum InputFile {
     Bars,
 }
 
-/// One of the two dates of a run.
+/// One of the two dates of a run or of a plan.
 #[derive(Clone, Copy, Debug, PartialEq, Eq)]
 pub enum RangeDate {
     From,
@@ -46,6 +46,15 @@ pub struct RunRequest<'a> {
     pub options: Options<'a>,
 }
 
+/// What a plan is asked for: the names of its two files, and two dates.
+#[derive(Clone, Copy)]
+pub struct PlanRequest<'a> {
+    pub pipeline: &'a str,
+    pub sessions: &'a str,
+    pub from: DateWord<'a>,
+    pub to: DateWord<'a>,
+}
+
 /// A command with what it is asked for.
 #[derive(Clone, Copy)]
 pub enum Request<'a> {
@@ -55,6 +64,8 @@ pub enum Request<'a> {
     Fmt(&'a str),
     /// Whether the pipeline file of that name keeps the rules of the language.
     Check(&'a str),
+    /// The plan of a pipeline.
+    Plan(PlanRequest<'a>),
 }
 
 impl<'a> Request<'a> {
@@ -65,6 +76,7 @@ impl<'a> Request<'a> {
         match self {
             Request::Run(run) => run.name_of(file),
             Request::Fmt(name) | Request::Check(name) => pipeline_name(name, file),
+            Request::Plan(plan) => plan.name_of(file),
         }
     }
 }
@@ -93,7 +105,8 @@ pub fn date_asked<'a>(asked: Option<&Request<'a>>, date: RangeDate) -> &'a str
     ensures { result.now ≡ date_asked (option_map (λ q. request_of q.now) asked.entry) date }
 {
     match asked {
-        Some(Request::Run(run)) => run.date_text(date),
+        Some(Request::Run(run)) => date_text(&run.from, &run.to, date),
+        Some(Request::Plan(plan)) => date_text(&plan.from, &plan.to, date),
         Some(Request::Fmt(_) | Request::Check(_)) | None => "",
     }
 }
@@ -104,7 +117,7 @@ pub fn adjustments_asked<'a>(asked: Option<&Request<'a>>) -> &'a str
 {
     match asked {
         Some(Request::Run(run)) => run.options.adjustments.unwrap_or(""),
-        Some(Request::Fmt(_) | Request::Check(_)) | None => "",
+        Some(Request::Fmt(_) | Request::Check(_) | Request::Plan(_)) | None => "",
     }
 }
 
@@ -120,13 +133,25 @@ impl<'a> RunRequest<'a> {
             InputFile::Bars => Some(self.bars),
         }
     }
+}
 
-    fn date_text(&self, date: RangeDate) -> &'a str
-        ensures { result.now ≡ run_date (run_of self.now) date }
+impl<'a> PlanRequest<'a> {
+    fn name_of(&self, file: InputFile) -> Option<&'a str>
+        ensures { option_map (λ n. n.now) result ≡ plan_name (plan_of self.now) file }
     {
-        match date {
-            RangeDate::From => self.from.text,
-            RangeDate::To => self.to.text,
+        match file {
+            InputFile::Pipeline => Some(self.pipeline),
+            InputFile::Sessions => Some(self.sessions),
+            InputFile::Assets | InputFile::Labels | InputFile::Bars => None,
         }
+    }
+}
+
+fn date_text<'a>(from: &DateWord<'a>, to: &DateWord<'a>, date: RangeDate) -> &'a str
+    ensures { result.now ≡ date_text (dated_of from.now) (dated_of to.now) date }
+{
+    match date {
+        RangeDate::From => from.text,
+        RangeDate::To => to.text,
     }
 }

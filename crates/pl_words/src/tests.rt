@@ -101,7 +101,7 @@ fn reads_runs(rt: HostRuntime) -> Result<(), Fail> {
 
 #[test]
 fn refuses_words(rt: HostRuntime) -> Result<(), Fail> {
-    let table: [&[&str]; 16] = [
+    let table: [&[&str]; 18] = [
         &["run", "p.pl"],
         &[
             "run",
@@ -200,6 +200,8 @@ fn refuses_words(rt: HostRuntime) -> Result<(), Fail> {
         &["fmt", "--", "-"],
         &["check", "-p"],
         &["check", "--labels", "l", "p"],
+        &["plan", "p", "s", "2024-01-03"],
+        &["plan", "p", "s", "2024-01-03", "2024-01-04", "--chunk=1"],
     ];
     for words in table {
         let words = owned(&rt, words)?;

@@ -1,8 +1,7 @@
-use Rattle.std.proofs.Common.{refl}
 use Rattle.std.proofs.lemmas.Result.{err_from_is_err_and}
 use Rattle.pl_words.specs.Views.{run_of}
 use Rattle.pl_judge.proofs.Steps.{risen-inside}
-use Rattle.pl_load.proofs.RunReads.{no-pipeline, not-built, no-data, no-dates, no-reach, all-loaded}
+use Rattle.pl_load.proofs.RunReads.{no-pipeline, not-built, no-data, no-dates, no-plan, all-loaded}
 use Rattle.pl_load.proofs.loading.load.Goals as goal
 
 pub returns-in_err-checked-clause-load : goal.returns-in_err-checked-clause-load
@@ -30,29 +29,29 @@ returns-in_err-range-clause-load g c =
     rw (p.1, p.2)
     (no-dates _ _ _ _ (run_of c.args.request.now) _ _ _ _ checked.read c.in_ok-terms.ensures.ends parts c.in_err-range.ensures.ends)
 
-pub returns-in_err-judge_reach-clause-load : goal.returns-in_err-judge_reach-clause-load
-returns-in_err-judge_reach-clause-load g c =
-    let p = err_from_is_err_and c.from_residual-in_err-judge_reach.result c.from_residual-in_err-judge_reach.ensures.1 in
+pub returns-in_err-_plan-clause-load : goal.returns-in_err-_plan-clause-load
+returns-in_err-_plan-clause-load g c =
+    let p = err_from_is_err_and c.from_residual-in_err-_plan.result c.from_residual-in_err-_plan.ensures.1 in
     let checked = c.in_ok-checked.ensures in
+    let range = c.in_ok-range.ensures in
     let parts = rw (checked.leaves.keeps, checked.leaves.stays) at c.in_ok-world.ensures.parts in
     rw (p.1, p.2)
-    (no-reach _ _ _ _ (run_of c.args.request.now) _ _ _ _ _ _ checked.read c.in_ok-terms.ensures.ends parts c.in_ok-range.ensures.ends c.in_ok-range.ensures.from
-    (c.in_err-judge_reach.ensures.ends c.in_ok-world.world.sessions))
+    (no-plan _ _ _ _ (run_of c.args.request.now) _ _ _ _ _ _ _ checked.read c.in_ok-terms.ensures.ends parts range.ends range.from range.to c.in_err-_plan.ensures.ends)
 
 pub returns-in_err-range-clause-risen : goal.returns-in_err-range-clause-risen
 returns-in_err-range-clause-risen g c =
     let p = err_from_is_err_and c.from_residual-in_err-range.result c.from_residual-in_err-range.ensures.1 in
     rw (p.1, p.2) (risen-inside _ _ _ c.in_err-range.ensures.risen)
 
-pub returns-in_err-judge_reach-clause-risen : goal.returns-in_err-judge_reach-clause-risen
-returns-in_err-judge_reach-clause-risen g c =
-    let p = err_from_is_err_and c.from_residual-in_err-judge_reach.result c.from_residual-in_err-judge_reach.ensures.1 in
-    rw (p.1, p.2) (risen-inside _ _ _ c.in_err-judge_reach.ensures.risen)
+pub returns-in_err-_plan-clause-risen : goal.returns-in_err-_plan-clause-risen
+returns-in_err-_plan-clause-risen g c =
+    let p = err_from_is_err_and c.from_residual-in_err-_plan.result c.from_residual-in_err-_plan.ensures.1 in
+    rw (p.1, p.2) (risen-inside _ _ _ c.in_err-_plan.ensures.risen)
 
 pub returns-clause-load : goal.returns-clause-load
 returns-clause-load g c =
     let checked = c.in_ok-checked.ensures in
     let range = c.in_ok-range.ensures in
     let parts = rw (checked.leaves.keeps, checked.leaves.stays) at c.in_ok-world.ensures.parts in
-    all-loaded _ _ _ _ (run_of c.args.request.now) _ _ _ _ checked.read c.in_ok-terms.ensures.ends c.in_ok-terms.ensures.terms parts range.ends (c.in_ok-judge_reach.ensures.ends _)
+    all-loaded _ _ _ _ (run_of c.args.request.now) _ _ _ _ checked.read c.in_ok-terms.ensures.ends c.in_ok-terms.ensures.terms parts range.ends c.in_ok-_plan.ensures.ends
     range.from range.to

@@ -1,0 +1,39 @@
+// What a plan reads and judges.
+ghost use Rattle.std.specs.Prelude.{IfErr};
+ghost use Rattle.pl_outside.specs.Counts.{Rose};
+ghost use Rattle.pl_outside.specs.Left.{Leaves};
+ghost use Rattle.pl_words.specs.Views.{plan_of};
+ghost use Rattle.pl_judge.specs.Stages.{IsRisen};
+ghost use Rattle.pl_load.specs.Loads.{IsPlanLoad};
+
+use crate::inputs::{read_checked, read_sessions};
+use pl_judge::{Fault, judge_dates, judge_plan};
+use pl_outside::Shelf;
+use pl_planner::Plan;
+use pl_terms::Checked;
+use pl_words::PlanRequest;
+use std::alloc::Global;
+
+/// A pipeline, and its plan over the sessions that are asked for.
+#[derive(Drop)]
+pub struct PlannedPipeline {
+    pub checked: Checked,
+    pub plan: Plan,
+}
+
+/// All that a plan reads and judges, in the order of work.
+pub fn load_plan<S: Shelf>(
+    alloc: Global,
+    request: &PlanRequest<'_>,
+    shelf: &mut S,
+) -> Result<PlannedPipeline, Fault>
+    ensures load { IsPlanLoad (S.holds shelf.old) (S.sound shelf.old) (plan_of request.now) result }
+    ensures shelf { Leaves S.holds S.sound S.faults shelf.old shelf.new }
+    ensures risen { IfErr result (IsRisen (Rose (S.faults shelf.old) (S.faults shelf.new)) ⊥) }
+{
+    let checked = read_checked(alloc, shelf, request.pipeline)?;
+    let sessions = read_sessions(alloc, shelf, request.sessions)?;
+    let range = judge_dates(&request.from, &request.to, &sessions)?;
+    let plan = judge_plan(alloc, &checked, &sessions, range)?;
+    Ok(PlannedPipeline { checked, plan })
+}
