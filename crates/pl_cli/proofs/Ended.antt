@@ -21,7 +21,6 @@ use Rattle.pl_judge.specs.declared.fault.Fault.{Fault}
 use Rattle.pl_judge.specs.declared.fault.Fault.TheVariants.{Usage, Unwritten, Memory}
 use Rattle.pl_judge.specs.Contents.{Contents, AreHeld}
 use Rattle.pl_judge.specs.Held.{script_in, pipeline_in, pipeline_held, terms_held, world_held}
-use Rattle.pl_judge.specs.Range.{index_of}
 use Rattle.pl_judge.specs.Steps.{Step, first_fault}
 use Rattle.pl_judge.specs.Work.{syntax_step, pipeline_steps, planning_steps, work}
 use Rattle.pl_judge.specs.Stages.{IsStop, IsRisen}

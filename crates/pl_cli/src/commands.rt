@@ -99,10 +99,7 @@ pub fn fmt_command<S: Shelf, O: Sink>(
     // a script that was read is of the one version of the language
     let _version = script.version();
     let text = print(alloc, &script)?;
-    match write_bytes(out, &text) {
-        Ok(()) => Ok(()),
-        Err(_) => Err(Fault::Unwritten),
-    }
+    write_text(out, &text)
 }
 
 /// Reads the pipeline file of that name, and writes how many terms and columns its pipeline has.
@@ -148,7 +145,14 @@ pub fn plan_command<S: Shelf, O: Sink>(
 {
     let planned = load_plan(alloc, request, shelf)?;
     let text = plan_text(alloc, &planned.checked, &planned.plan)?;
-    match write_bytes(out, &text) {
+    write_text(out, &text)
+}
+
+fn write_text<O: Sink>(out: &mut O, text: &[u8]) -> Result<(), Fault>
+    ensures writes { Writes O.taken O.faults O.sound O.room out.old out.new text.now result }
+    ensures unwritten { IfErr result (λ fault. fault ≡ Fault.Unwritten) }
+{
+    match write_bytes(out, text) {
         Ok(()) => Ok(()),
         Err(_) => Err(Fault::Unwritten),
     }

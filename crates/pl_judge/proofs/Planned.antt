@@ -17,7 +17,7 @@ use Rattle.pl_terms.specs.Checked.{IsChecked}
 use Rattle.pl_terms.specs.Uses.{outputs, is_used}
 use Rattle.pl_planner.proofs.Pipelines.{IsPipeline, is-pipeline}
 use Rattle.pl_planner.proofs.Lows.{needs-back, back-used}
-use Rattle.pl_planner.specs.Plans.{Planned, IsPlanOf, IsDeepest, IsAsked, low_at, extra, most_rows}
+use Rattle.pl_planner.specs.Plans.{Planned, IsPlanOf, IsDeepest, IsAsked, low_at, most_rows}
 use Rattle.pl_judge.specs.Planning.{Need, sessions_of, needs, first_of, first_of_all, extra_of, HasRows, is_too_deep}
 use Rattle.pl_judge.proofs.Needed.{IsIn, IsSession, of-term, term-of, in-of-all, all-of-in, all-listed, listed-are}
 

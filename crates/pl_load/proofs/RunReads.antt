@@ -1,5 +1,5 @@
 -- A run as a whole: the pipeline file, the data, and the range.
-use Rattle.std.proofs.Common.{◌≡◌, ℕ, Bool, true, List, Option, Some, Result, Ok, Err, refl, sym, ◌∙◌}
+use Rattle.std.proofs.Common.{◌≡◌, ℕ, Bool, true, List, Option, Some, Result, Ok, Err, refl, sym}
 use Rattle.std.specs.Option.{ForSome}
 use Rattle.pl_outside.specs.Files.{Files}
 use Rattle.pl_outside.specs.Lists.{Lists}
@@ -14,7 +14,6 @@ use Rattle.pl_judge.specs.Contents.{Contents, AreHeld}
 use Rattle.pl_judge.specs.Held.{pipeline_in}
 use Rattle.pl_judge.specs.Work.{pipeline_steps, built_steps, data_steps}
 use Rattle.pl_judge.specs.Range.{dates_steps, plan_steps, index_of}
-use Rattle.pl_judge.specs.Steps.{Step}
 use Rattle.pl_judge.specs.Stages.{StageEnds}
 use Rattle.pl_judge.proofs.Steps.{stage-stops, stage-goes_on, stage-done, stage-weaker, stage-over, always}
 use Rattle.pl_load.specs.declared.loading.Loaded.{Loaded}

@@ -1,6 +1,5 @@
 -- The pipeline file that was read, and its rules.
-use Rattle.std.proofs.Common.{◌≡◌, ◌⊎◌, inl, inr, ◌≤◌, ℕ, List, [], ◌∷◌, Bool, length, Option, Some, None, Ok, Err, refl, arith}
-use Rattle.std.specs.Option.{option_or}
+use Rattle.std.proofs.Common.{◌≡◌, ◌⊎◌, inl, inr, ◌≤◌, ℕ, List, [], ◌∷◌, Bool, length, Option, Some, Ok, Err, refl, arith}
 use Rattle.pl_outside.specs.Files.{Files}
 use Rattle.pl_grammar.specs.Faults as syntax
 use Rattle.pl_syntax.specs.declared.error.SyntaxError.{SyntaxError}
@@ -18,8 +17,8 @@ use Rattle.pl_judge.specs.declared.fault.Fault.{Fault}
 use Rattle.pl_judge.specs.declared.fault.Fault.TheVariants.{Memory}
 use Rattle.pl_judge.specs.Rules.{syntax_error, check_error}
 use Rattle.pl_judge.specs.Held.{script_in, pipeline_in}
-use Rattle.pl_judge.specs.Work.{fault_said, syntax_rule, script_rule, syntax_step, pipeline_steps}
-use Rattle.pl_judge.specs.Steps.{rule, first_fault}
+use Rattle.pl_judge.specs.Work.{syntax_rule, script_rule, syntax_step, pipeline_steps}
+use Rattle.pl_judge.specs.Steps.{rule}
 use Rattle.pl_judge.specs.Stages.{StageEnds}
 use Rattle.pl_judge.proofs.Steps.{stage-goes_on, stage-stops}
 use Rattle.pl_load.specs.Reads.{IsRead}

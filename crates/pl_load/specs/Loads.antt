@@ -1,5 +1,5 @@
 -- What was loaded.
-use Rattle.std.specs.Prelude.{◌≡◌, ℕ, ◌<◌, ◌≤◌, Bool, true, List, length, Option, Some, Result, IfOk}
+use Rattle.std.specs.Prelude.{◌≡◌, ◌<◌, ◌≤◌, Bool, true, length, Option, Some, Result, IfOk}
 use Rattle.pl_terms.specs.Checked.{pipeline_of}
 use Rattle.pl_plain.specs.PlainPipelines.{plain_terms}
 use Rattle.pl_spec.specs.World.{World}

@@ -1,5 +1,5 @@
 -- The world that lent parts are.
-use Rattle.std.specs.Prelude.{ℕ, ◌<◌, ℤ, List, length, All}
+use Rattle.std.specs.Prelude.{◌<◌, ℤ, List, length, All}
 use Rattle.pl_spec.specs.declared.AssetRow.{AssetRow}
 use Rattle.pl_spec.specs.declared.BarRow.{BarRow}
 use Rattle.pl_spec.specs.World as spec

@@ -58,7 +58,7 @@ pub fn plain_cell<L: Ledger>(
     }
 }
 
-fn exists(world: &World, col: usize, session: usize) -> bool
+pub(crate) fn exists(world: &World, col: usize, session: usize) -> bool
     requires col { col < length world.now.assets.now }
     requires session { session < length world.now.sessions.now }
     ensures value { result ≡ exists (world_of world.now)
@@ -126,7 +126,7 @@ fn average<L: Ledger>(
 }
 
 // The cell of the bar of an earlier session as it is seen on this one.
-fn seen_cell<L: Ledger>(
+pub(crate) fn seen_cell<L: Ledger>(
     world: &World,
     column: Column,
     col: usize,

@@ -2,12 +2,15 @@
 #![tactic(auto)]
 
 mod cell;
+mod evaluation;
 pub mod laws;
 mod owned;
+mod parts;
 #[cfg(test)]
 mod tests;
 mod world;
 
 pub use cell::{PlainTerm, plain_cell};
+pub use evaluation::cell_now;
 pub use owned::OwnedWorld;
 pub use world::World;

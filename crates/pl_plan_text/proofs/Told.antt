@@ -14,7 +14,7 @@ pub plans-told : PlansAreTold
 plans-told days p plan is = record {
   extra = extra plan;
   low = λ t used. (let asked : IsAsked plan t plan.from = (is.used t ∙ used, (same plan.from, is.order)) in
-    subst (IsLow days p.graph (outputs p) (pos plan.from) t) (back plan.from (low_at plan t plan.from) (is.lows.few t plan.from asked).0) (is.lows.exact t plan.from asked));
+      subst (IsLow days p.graph (outputs p) (pos plan.from) t) (back plan.from (low_at plan t plan.from) (is.lows.few t plan.from asked).0) (is.lows.exact t plan.from asked));
   is = ap (λ r. plan_text p (extra plan) r plan.bound) is.least ∙ ap (plan_text p (extra plan) (least_reach days p.graph (outputs p) (pos plan.from))) is.held;
 }
   where

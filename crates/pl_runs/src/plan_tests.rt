@@ -136,7 +136,13 @@ fn plan_of(alloc: Global, statements: &str) -> Result<Plan, Fail> {
 fn plans_slots(rt: HostRuntime) -> Result<(), Fail> {
     let alloc = rt.alloc();
     let averages = plan_of(alloc, AVERAGES)?;
-    for (t, slots) in [(0, (0, 1)), (1, (1, 2)), (2, (2, 3)), (3, (0, 1)), (4, (1, 3))] {
+    for (t, slots) in [
+        (0, (0, 1)),
+        (1, (1, 2)),
+        (2, (2, 3)),
+        (3, (0, 1)),
+        (4, (1, 3)),
+    ] {
         assert_eq!(rt; slots_of(&averages, t), Some(slots), "{t}");
     }
     // a chain of 256 terms

@@ -1,7 +1,7 @@
 use Rattle.std.proofs.Common.{refl}
 use Rattle.std.proofs.lemmas.Result.{err_from_is_err_and}
 use Rattle.pl_words.specs.Views.{plan_of}
-use Rattle.pl_cli.proofs.Ended.{plan-stops, no-plan-text, plan-written}
+use Rattle.pl_cli.proofs.Ended.{plan-stops, no-plan-text, plan-written, caused-written}
 use Rattle.pl_cli.proofs.commands.plan_command.Goals as goal
 
 pub returns-in_err-planned-clause-ended : goal.returns-in_err-planned-clause-ended
@@ -18,16 +18,11 @@ returns-in_err-text-clause-ended g c = λ lists sound steps.
     (no-plan-text g.O.Sink.taken g.O.Sink.faults g.O.Sink.sound g.O.Sink.room c.args.out.now c.args.out.now _ lists _ sound steps steps (plan_of c.args.request.now) _ refl
     c.in_ok-planned.ensures.load)
 
-pub returns-in-Ok-clause-ended : goal.returns-in-Ok-clause-ended
-returns-in-Ok-clause-ended g c = λ lists sound steps.
-    let w = rw c.deref.ensures.value at c.in-Ok.ensures.writes in
-    plan-written g.O.Sink.taken g.O.Sink.faults g.O.Sink.sound g.O.Sink.room c.args.out.now c.write_bytes.new.out _ lists _ sound steps steps (plan_of c.args.request.now) _ _ _ refl
-    c.in_ok-planned.ensures.load c.in_ok-text.ensures
-    (record { all = w.all; prefix = tt; failed = tt; later = w.later; stays = w.stays; room_left = w.room_left; blameless = w.blameless }) tt
-
 pub returns-clause-ended : goal.returns-clause-ended
 returns-clause-ended g c = λ lists sound steps.
-    let w = rw c.deref.ensures.value at c.in-Err.ensures.writes in
-    plan-written g.O.Sink.taken g.O.Sink.faults g.O.Sink.sound g.O.Sink.room c.args.out.now c.write_bytes.new.out _ lists _ sound steps steps (plan_of c.args.request.now) _ _ _ refl
-    c.in_ok-planned.ensures.load c.in_ok-text.ensures
-    (record { all = tt; prefix = w.prefix; failed = w.failed; later = w.later; stays = w.stays; room_left = λ s. tt; blameless = λ s r. absurd (cc (w.blameless s r).0) }) refl
+    let w = rw c.deref.ensures.value at c.write_text.ensures.writes in
+    plan-written g.O.Sink.taken g.O.Sink.faults g.O.Sink.sound g.O.Sink.room c.args.out.now c.write_text.new.out _ lists _ sound steps steps (plan_of c.args.request.now) _ _ _ refl
+    c.in_ok-planned.ensures.load c.in_ok-text.ensures w c.write_text.ensures.unwritten
+
+pub returns-clause-caused : goal.returns-clause-caused
+returns-clause-caused g c = caused-written _ _ _ _ c.write_text.result c.write_text.ensures.unwritten c.write_text.ensures.writes.failed

@@ -1,0 +1,593 @@
+use Rattle.std.proofs.Common.{rules, ◌≡◌, ◌+◌, ◌-◌, ◌*◌, ◌<◌, ◌≤◌, ◌++◌, ◌∷◌, [], ◌∙◌, true, false, All, Some, pos, length, slice_get, sym, ap, subst, arith, add-zero, inl, inr, w64, FitsSigned}
+use Rattle.std.proofs.lemmas.Int.{to_z-of_z}
+use Rattle.pl_spec.specs.Rounding.{IsCell}
+use Rattle.pl_spec.specs.Parts.{sid_at}
+use Rattle.pl_spec.specs.World.{exists}
+use Rattle.pl_spec.specs.Term.{term_at}
+use Rattle.pl_terms.specs.declared.node.Input.TheVariants as input
+use Rattle.pl_terms.specs.Kinds.{kind_of}
+use Rattle.pl_terms.specs.Nodes.{graph_of}
+use Rattle.pl_terms.specs.Checked.{pipeline_of}
+use Rattle.pl_cross.specs.Arrays.{HasTexts}
+use Rattle.pl_values.specs.Families.{IsOf, IsCode, sid_flag}
+use Rattle.pl_values.specs.declared.family.Family.TheVariants as family
+use Rattle.pl_values.specs.Arrays.{cell_of}
+use Rattle.pl_spec.specs.Value.{number_of as number_in, empty, sort_kind}
+use Rattle.pl_values.proofs.Texts.{texts-coded}
+use Rattle.pl_model.specs.Worlds.{world_of}
+use Rattle.pl_model.specs.Evaluations.{IsAsked, IsAskedInput, IsAskedOption, IsKept, as_input, lets_pass, above, above_option, cell_in, input_cell_in, window_in, cost_in, input_cost_in}
+use Rattle.pl_model.proofs.Asked.{first-asked, second-asked, third-asked, mask-asked, group-asked, mask-input-asked, input-below, mask-below, group-below, window-one}
+use Rattle.pl_model.proofs.Evaluated.{lacks-value, cell-barred, cell-kept, kept-mask, mask-passed, on-ok, sid-of, not-windowed, constant-given, sid-given, label-named, label-given, label-test-given, window-early, windows-given, point-given}
+use Rattle.pl_model.proofs.Costs.{cost-lacks, cost-barred, cost-kept}
+use Rattle.pl_model.proofs.Windowing.{cells-more, steps-more, cells-all, steps-all, all-more, row-more, row-steps-more, row-all, row-steps-all}
+use Rattle.pl_model.proofs.Sections.{sid-there, blank}
+use Rattle.pl_model.proofs.evaluation.+evaluation.Goals as goal
+
+pub cell-returns-then-not-exists-clause-value : goal.cell-returns-then-not-exists-clause-value
+cell-returns-then-not-exists-clause-value g t c =
+    let w = c.args.world.now in
+    let a = sid_at c.args.world.now.assets.now c.args.col in
+    let fits : FitsSigned w64 c.empty_value.result = search rules in
+    to_z-of_z w64 _ fits ∙ c.empty_value.ensures
+    ∙ lacks-value w c.args.checked.now c.graph-graph.ensures.checked c.args.t.0 c.args.session a c.graph-graph.result.now c.graph-graph.ensures.value c.requires.asked.term
+    (sym c.exists.ensures.value ∙ c.if-not-exists.true)
+
+pub cell-returns-then-not-exists-clause-cost : goal.cell-returns-then-not-exists-clause-cost
+cell-returns-then-not-exists-clause-cost g t c =
+    let w = c.args.world.now in
+    let p = c.args.checked.now in
+    let a = sid_at c.args.world.now.assets.now c.args.col in
+    let none = cost-lacks (world_of w) (pipeline_of p).names (term_at (graph_of p.graph) c.args.t.0) a (pos c.args.session) (sym c.exists.ensures.value ∙ c.if-not-exists.true) in
+    sym (ap (λ k. c.args.steps.now + k) none ∙ add-zero c.args.steps.now)
+
+pub cell-input_cell-requires : goal.cell-input_cell-requires
+cell-input_cell-requires g t c =
+    let w = c.args.world.now in
+    let p = c.args.checked.now in
+    let t0 = c.args.t.0 in
+    let s = c.args.session in
+    let ok = c.graph-graph.ensures.checked in
+    let asked = c.requires.asked in
+    let n = c.node.result.now in
+    let is : slice_get p.graph t0 ≡ Some n = ap (λ ns. slice_get ns c.args.t.0) (sym c.graph-graph.ensures.value) ∙ c.node.ensures in
+    let may : IsAskedInput w p c.as_input-mask.result 1 s = subst (λ o. IsAskedInput w p o 1 s) (sym c.as_input-mask.ensures) (mask-input-asked w p ok t0 s asked n is) in
+    let same : above c.as_input-mask.result ≡ above (as_input n.mask) = ap above c.as_input-mask.ensures in
+    let smaller : 16 * above c.as_input-mask.result < 16 * c.args.t.0 + 9 = omega (arith, (mask-below w p ok t0 s asked n is).0, same) in
+    search rules
+
+pub cell-returns-then-not-lets_pass-clause-value : goal.cell-returns-then-not-lets_pass-clause-value
+cell-returns-then-not-lets_pass-clause-value g t c =
+    let w = c.args.world.now in
+    let p = c.args.checked.now in
+    let t0 = c.args.t.0 in
+    let s = c.args.session in
+    let ok = c.graph-graph.ensures.checked in
+    let n = c.node.result.now in
+    let is : slice_get p.graph t0 ≡ Some n = ap (λ ns. slice_get ns c.args.t.0) (sym c.graph-graph.ensures.value) ∙ c.node.ensures in
+    let a = sid_at c.args.world.now.assets.now c.args.col in
+    let there : exists (world_of w) a (pos s) ≡ true = sym c.exists.ensures.value ∙ c.if-not-exists.false in
+    let fx : FitsSigned w64 c.in_ok-passes.passes = search rules in
+    let told = simp to_z-of_z at c.lets_pass.ensures in
+    let passed : lets_pass (as_input n.mask) (input_cell_in w p (as_input n.mask) a s) ≡ false =
+    mask-passed w p n.mask c.as_input-mask.result c.in_ok-passes.passes false c.lets_pass.result a s c.as_input-mask.ensures c.in_ok-passes.ensures.value told c.if-not-lets_pass.true in
+    let fits : FitsSigned w64 c.empty_value-then-not-lets_pass.result = search rules in
+    to_z-of_z w64 _ fits ∙ c.empty_value-then-not-lets_pass.ensures
+    ∙ ap (λ m. number_in (empty (sort_kind (term_at (graph_of m) t0)))) c.graph-graph.ensures.value
+    ∙ sym (cell-barred w p ok t0 n is a s there passed)
+
+pub cell-returns-then-not-lets_pass-clause-cost : goal.cell-returns-then-not-lets_pass-clause-cost
+cell-returns-then-not-lets_pass-clause-cost g t c =
+    let w = c.args.world.now in
+    let p = c.args.checked.now in
+    let t0 = c.args.t.0 in
+    let s = c.args.session in
+    let ok = c.graph-graph.ensures.checked in
+    let asked = c.requires.asked in
+    let n = c.node.result.now in
+    let is : slice_get p.graph t0 ≡ Some n = ap (λ ns. slice_get ns c.args.t.0) (sym c.graph-graph.ensures.value) ∙ c.node.ensures in
+    let a = sid_at c.args.world.now.assets.now c.args.col in
+    let there : exists (world_of w) a (pos s) ≡ true = sym c.exists.ensures.value ∙ c.if-not-exists.false in
+    let fx : FitsSigned w64 c.in_ok-passes.passes = search rules in
+    let told = simp to_z-of_z at c.lets_pass.ensures in
+    let passed : lets_pass (as_input n.mask) (input_cell_in w p (as_input n.mask) a s) ≡ false =
+    mask-passed w p n.mask c.as_input-mask.result c.in_ok-passes.passes false c.lets_pass.result a s c.as_input-mask.ensures c.in_ok-passes.ensures.value told c.if-not-lets_pass.true in
+    let barred = kept-mask w p ok t0 n is a s n.mask false there passed in
+    let whole = cost-barred w p ok t0 s asked n is a barred in
+    let mask : input_cost_in w p c.as_input-mask.result a s ≡ input_cost_in w p (as_input n.mask) a s = ap (λ o. input_cost_in w p o a s) c.as_input-mask.ensures in
+    c.in_ok-passes.ensures.cost ∙ ap (λ k. c.args.steps.now + k) (mask ∙ sym whole)
+
+pub cell-given-requires : goal.cell-given-requires
+cell-given-requires g t c =
+    let w = c.args.world.now in
+    let p = c.args.checked.now in
+    let t0 = c.args.t.0 in
+    let s = c.args.session in
+    let ok = c.graph-graph.ensures.checked in
+    let n = c.node.result.now in
+    let is : slice_get p.graph t0 ≡ Some n = ap (λ ns. slice_get ns c.args.t.0) (sym c.graph-graph.ensures.value) ∙ c.node.ensures in
+    let a = sid_at c.args.world.now.assets.now c.args.col in
+    let there : exists (world_of w) a (pos s) ≡ true = sym c.exists.ensures.value ∙ c.if-not-exists.false in
+    let fx : FitsSigned w64 c.in_ok-passes.passes = search rules in
+    let told = simp to_z-of_z at c.lets_pass.ensures in
+    let passed : lets_pass (as_input n.mask) (input_cell_in w p (as_input n.mask) a s) ≡ true =
+    mask-passed w p n.mask c.as_input-mask.result c.in_ok-passes.passes true c.lets_pass.result a s c.as_input-mask.ensures c.in_ok-passes.ensures.value told c.if-not-lets_pass.false in
+    let kept : IsKept w p t0 a s = cell-kept w p ok t0 n is a s there passed in
+    let smaller : 16 * c.args.t.0 + 8 < 16 * c.args.t.0 + 9 = omega arith in
+    search rules
+
+pub cell-returns-clause-cost : goal.cell-returns-clause-cost
+cell-returns-clause-cost g t c =
+    let w = c.args.world.now in
+    let p = c.args.checked.now in
+    let t0 = c.args.t.0 in
+    let s = c.args.session in
+    let ok = c.graph-graph.ensures.checked in
+    let asked = c.requires.asked in
+    let n = c.node.result.now in
+    let is : slice_get p.graph t0 ≡ Some n = ap (λ ns. slice_get ns c.args.t.0) (sym c.graph-graph.ensures.value) ∙ c.node.ensures in
+    let a = sid_at c.args.world.now.assets.now c.args.col in
+    let there : exists (world_of w) a (pos s) ≡ true = sym c.exists.ensures.value ∙ c.if-not-exists.false in
+    let fx : FitsSigned w64 c.in_ok-passes.passes = search rules in
+    let told = simp to_z-of_z at c.lets_pass.ensures in
+    let passed : lets_pass (as_input n.mask) (input_cell_in w p (as_input n.mask) a s) ≡ true =
+    mask-passed w p n.mask c.as_input-mask.result c.in_ok-passes.passes true c.lets_pass.result a s c.as_input-mask.ensures c.in_ok-passes.ensures.value told c.if-not-lets_pass.false in
+    let kept = kept-mask w p ok t0 n is a s n.mask true there passed in
+    let whole = cost-kept w p ok t0 s asked n is a kept in
+    let mask : input_cost_in w p c.as_input-mask.result a s ≡ input_cost_in w p (as_input n.mask) a s = ap (λ o. input_cost_in w p o a s) c.as_input-mask.ensures in
+    let first = c.in_ok-passes.ensures.cost in
+    on-ok c.given.result _ _ (λ later. omega (arith, whole, mask, first, later)) c.given.ensures.cost
+
+pub given-label_cell-requires-clause-name : goal.given-label_cell-requires-clause-name
+given-label_cell-requires-clause-name g t c =
+    let w = c.args.world.now in
+    let p = c.args.checked.now in
+    let t0 = c.args.t.0 in
+    let s = c.args.session in
+    let ok = c.graph.ensures.checked in
+    let n = c.node-node.result.now in
+    let is : slice_get p.graph t0 ≡ Some n = ap (λ ns. slice_get ns c.args.t.0) (sym c.graph.ensures.value) ∙ c.node-node.ensures in
+    let a = sid_at c.args.world.now.assets.now c.args.col in
+    let kind : IsOf (kind_of n.kind) (family.Label c.in-Label.name) = subst (IsOf (kind_of n.kind)) c.in-Label.is c.family_of.ensures in
+    label-named w p ok t0 n is a s c.requires.kept c.in-Label.name kind
+
+pub given-returns-in-Label-clause-value : goal.given-returns-in-Label-clause-value
+given-returns-in-Label-clause-value g t c =
+    let w = c.args.world.now in
+    let p = c.args.checked.now in
+    let t0 = c.args.t.0 in
+    let s = c.args.session in
+    let ok = c.graph.ensures.checked in
+    let n = c.node-node.result.now in
+    let is : slice_get p.graph t0 ≡ Some n = ap (λ ns. slice_get ns c.args.t.0) (sym c.graph.ensures.value) ∙ c.node-node.ensures in
+    let a = sid_at c.args.world.now.assets.now c.args.col in
+    let kind : IsOf (kind_of n.kind) (family.Label c.in-Label.name) = subst (IsOf (kind_of n.kind)) c.in-Label.is c.family_of.ensures in
+    let fits : FitsSigned w64 c.label_cell.result = search rules in
+    to_z-of_z w64 _ fits ∙ c.label_cell.ensures.value ∙ label-given w p ok t0 n is a s c.requires.kept c.in-Label.name kind
+
+pub given-returns-in-Constant-clause-value : goal.given-returns-in-Constant-clause-value
+given-returns-in-Constant-clause-value g t c =
+    let w = c.args.world.now in
+    let p = c.args.checked.now in
+    let t0 = c.args.t.0 in
+    let s = c.args.session in
+    let ok = c.graph.ensures.checked in
+    let n = c.node-node.result.now in
+    let is : slice_get p.graph t0 ≡ Some n = ap (λ ns. slice_get ns c.args.t.0) (sym c.graph.ensures.value) ∙ c.node-node.ensures in
+    let a = sid_at c.args.world.now.assets.now c.args.col in
+    let kind : IsOf (kind_of n.kind) (family.Constant c.in-Constant.value) = subst (IsOf (kind_of n.kind)) c.in-Constant.is c.family_of.ensures in
+    let fits : FitsSigned w64 c.in-Constant.value = search rules in
+    to_z-of_z w64 _ fits ∙ (constant-given w p ok t0 n is a s c.requires.kept c.in-Constant.value kind).1
+
+pub given-returns-in-Constant-clause-cell : goal.given-returns-in-Constant-clause-cell
+given-returns-in-Constant-clause-cell g t c =
+    let w = c.args.world.now in
+    let p = c.args.checked.now in
+    let t0 = c.args.t.0 in
+    let s = c.args.session in
+    let ok = c.graph.ensures.checked in
+    let n = c.node-node.result.now in
+    let is : slice_get p.graph t0 ≡ Some n = ap (λ ns. slice_get ns c.args.t.0) (sym c.graph.ensures.value) ∙ c.node-node.ensures in
+    let a = sid_at c.args.world.now.assets.now c.args.col in
+    let kind : IsOf (kind_of n.kind) (family.Constant c.in-Constant.value) = subst (IsOf (kind_of n.kind)) c.in-Constant.is c.family_of.ensures in
+    let fits : FitsSigned w64 c.in-Constant.value = search rules in
+    subst IsCell (sym (to_z-of_z w64 _ fits)) (constant-given w p ok t0 n is a s c.requires.kept c.in-Constant.value kind).0
+
+pub given-returns-in-Sids-clause-value : goal.given-returns-in-Sids-clause-value
+given-returns-in-Sids-clause-value g t c =
+    let w = c.args.world.now in
+    let p = c.args.checked.now in
+    let t0 = c.args.t.0 in
+    let s = c.args.session in
+    let ok = c.graph.ensures.checked in
+    let n = c.node-node.result.now in
+    let is : slice_get p.graph t0 ≡ Some n = ap (λ ns. slice_get ns c.args.t.0) (sym c.graph.ensures.value) ∙ c.node-node.ensures in
+    let a = sid_at c.args.world.now.assets.now c.args.col in
+    let kind : IsOf (kind_of n.kind) family.Sids = subst (IsOf (kind_of n.kind)) c.in-Sids.is c.family_of.ensures in
+    let fits : FitsSigned w64 c.sids_value.result = search rules in
+    let sid = sid-of w.assets.now c.args.col c.sid.result c.sid.ensures in
+    to_z-of_z w64 _ fits ∙ c.sids_value.ensures ∙ ap (sid_flag (kind_of n.kind)) sid ∙ sid-given w p ok t0 n is a s c.requires.kept kind
+
+pub given-input_cell-requires : goal.given-input_cell-requires
+given-input_cell-requires g t c =
+    let w = c.args.world.now in
+    let p = c.args.checked.now in
+    let t0 = c.args.t.0 in
+    let s = c.args.session in
+    let ok = c.graph.ensures.checked in
+    let asked = c.requires.asked in
+    let n = c.node-node.result.now in
+    let is : slice_get p.graph t0 ≡ Some n = ap (λ ns. slice_get ns c.args.t.0) (sym c.graph.ensures.value) ∙ c.node-node.ensures in
+    let kind : IsOf (kind_of n.kind) family.LabelTest = subst (IsOf (kind_of n.kind)) c.in-LabelTest.is c.family_of.ensures in
+    let one = window-one w p ok t0 s asked n is (not-windowed (kind_of n.kind) (inl kind)) in
+    let may : IsAskedInput w p c.input_at-input.result 1 s =
+    subst (λ o. IsAskedInput w p o 1 s) (sym c.input_at-input.ensures) (subst (λ k. IsAskedInput w p (slice_get n.inputs 0) k s) one (first-asked w p ok t0 s asked n is)) in
+    let same : above c.input_at-input.result ≡ above (slice_get n.inputs 0) = ap above c.input_at-input.ensures in
+    let smaller : 16 * above c.input_at-input.result < 16 * c.args.t.0 + 8 = omega (arith, input-below w p ok t0 s asked n is 0, same) in
+    search rules
+
+pub given-label_test_value-requires-clause-code : goal.given-label_test_value-requires-clause-code
+given-label_test_value-requires-clause-code g t c =
+    let w = c.args.world.now in
+    let p = c.args.checked.now in
+    let t0 = c.args.t.0 in
+    let s = c.args.session in
+    let ok = c.graph.ensures.checked in
+    let n = c.node-node.result.now in
+    let is : slice_get p.graph t0 ≡ Some n = ap (λ ns. slice_get ns c.args.t.0) (sym c.graph.ensures.value) ∙ c.node-node.ensures in
+    let a = sid_at c.args.world.now.assets.now c.args.col in
+    let kind : IsOf (kind_of n.kind) family.LabelTest = subst (IsOf (kind_of n.kind)) c.in-LabelTest.is c.family_of.ensures in
+    let fx : FitsSigned w64 c.in_ok-code-in-LabelTest.code = search rules in
+    let code = c.in_ok-code-in-LabelTest.code in
+    let texts : HasTexts (world_of w) = texts-coded w.sessions.now w.assets.now w.labels.now w.bars.now w.adjustments.now c.len-rows.ensures.labels in
+    let read : code ≡ input_cell_in w p (slice_get n.inputs 0) a s = c.in_ok-code-in-LabelTest.ensures.value ∙ ap (λ o. input_cell_in w p o a s) c.input_at-input.ensures in
+    let given = label-test-given w p ok t0 n is a s c.requires.kept texts kind code read in
+    subst (IsCode w.labels.now.texts) (sym (to_z-of_z w64 _ fx)) given.0
+
+pub given-returns-in_ok-code-in-LabelTest-clause-value : goal.given-returns-in_ok-code-in-LabelTest-clause-value
+given-returns-in_ok-code-in-LabelTest-clause-value g t c =
+    let w = c.args.world.now in
+    let p = c.args.checked.now in
+    let t0 = c.args.t.0 in
+    let s = c.args.session in
+    let ok = c.graph.ensures.checked in
+    let n = c.node-node.result.now in
+    let is : slice_get p.graph t0 ≡ Some n = ap (λ ns. slice_get ns c.args.t.0) (sym c.graph.ensures.value) ∙ c.node-node.ensures in
+    let a = sid_at c.args.world.now.assets.now c.args.col in
+    let kind : IsOf (kind_of n.kind) family.LabelTest = subst (IsOf (kind_of n.kind)) c.in-LabelTest.is c.family_of.ensures in
+    let fx : FitsSigned w64 c.in_ok-code-in-LabelTest.code = search rules in
+    let code = c.in_ok-code-in-LabelTest.code in
+    let texts : HasTexts (world_of w) = texts-coded w.sessions.now w.assets.now w.labels.now w.bars.now w.adjustments.now c.len-rows.ensures.labels in
+    let read : code ≡ input_cell_in w p (slice_get n.inputs 0) a s = c.in_ok-code-in-LabelTest.ensures.value ∙ ap (λ o. input_cell_in w p o a s) c.input_at-input.ensures in
+    let given = label-test-given w p ok t0 n is a s c.requires.kept texts kind code read in
+    let fits : FitsSigned w64 c.label_test_value.result = search rules in
+    to_z-of_z w64 _ fits ∙ simp to_z-of_z at c.label_test_value.ensures ∙ given.1
+
+pub window_cell-input_window-requires : goal.window_cell-input_window-requires
+window_cell-input_window-requires g t c =
+    let w = c.args.world.now in
+    let p = c.args.checked.now in
+    let t0 = c.args.t.0 in
+    let s = c.args.session in
+    let ok = c.graph.ensures.checked in
+    let asked = c.requires.asked in
+    let n = c.node-node.result.now in
+    let is : slice_get p.graph t0 ≡ Some n = ap (λ ns. slice_get ns c.args.t.0) (sym c.graph.ensures.value) ∙ c.node-node.ensures in
+    let may : IsAskedInput w p c.input_at-first.result n.window s = subst (λ o. IsAskedInput w p o n.window s) (sym c.input_at-first.ensures) (first-asked w p ok t0 s asked n is) in
+    let same : above c.input_at-first.result ≡ above (slice_get n.inputs 0) = ap above c.input_at-first.ensures in
+    let smaller : 16 * above c.input_at-first.result < 16 * c.args.t.0 + 5 = omega (arith, input-below w p ok t0 s asked n is 0, same) in
+    let made = c.requires.asked.made in
+    let within = c.requires.asked.within in
+    search rules
+
+pub window_cell-input_window-requires-2 : goal.window_cell-input_window-requires-2
+window_cell-input_window-requires-2 g t c =
+    let w = c.args.world.now in
+    let p = c.args.checked.now in
+    let t0 = c.args.t.0 in
+    let s = c.args.session in
+    let ok = c.graph.ensures.checked in
+    let asked = c.requires.asked in
+    let n = c.node-node.result.now in
+    let is : slice_get p.graph t0 ≡ Some n = ap (λ ns. slice_get ns c.args.t.0) (sym c.graph.ensures.value) ∙ c.node-node.ensures in
+    let may : IsAskedInput w p c.input_at-second.result n.window s = subst (λ o. IsAskedInput w p o n.window s) (sym c.input_at-second.ensures) (second-asked w p ok t0 s asked n is) in
+    let same : above c.input_at-second.result ≡ above (slice_get n.inputs 1) = ap above c.input_at-second.ensures in
+    let smaller : 16 * above c.input_at-second.result < 16 * c.args.t.0 + 5 = omega (arith, input-below w p ok t0 s asked n is 1, same) in
+    let made = c.requires.asked.made in
+    let within = c.requires.asked.within in
+    search rules
+
+pub window_cell-input_window-requires-3 : goal.window_cell-input_window-requires-3
+window_cell-input_window-requires-3 g t c =
+    let w = c.args.world.now in
+    let p = c.args.checked.now in
+    let t0 = c.args.t.0 in
+    let s = c.args.session in
+    let ok = c.graph.ensures.checked in
+    let asked = c.requires.asked in
+    let n = c.node-node.result.now in
+    let is : slice_get p.graph t0 ≡ Some n = ap (λ ns. slice_get ns c.args.t.0) (sym c.graph.ensures.value) ∙ c.node-node.ensures in
+    let may : IsAskedInput w p c.input_at-third.result n.window s = subst (λ o. IsAskedInput w p o n.window s) (sym c.input_at-third.ensures) (third-asked w p ok t0 s asked n is) in
+    let same : above c.input_at-third.result ≡ above (slice_get n.inputs 2) = ap above c.input_at-third.ensures in
+    let smaller : 16 * above c.input_at-third.result < 16 * c.args.t.0 + 5 = omega (arith, input-below w p ok t0 s asked n is 2, same) in
+    let made = c.requires.asked.made in
+    let within = c.requires.asked.within in
+    search rules
+
+pub point_cell-input_cell-requires : goal.point_cell-input_cell-requires
+point_cell-input_cell-requires g t c =
+    let w = c.args.world.now in
+    let p = c.args.checked.now in
+    let t0 = c.args.t.0 in
+    let s = c.args.session in
+    let ok = c.graph.ensures.checked in
+    let asked = c.requires.asked in
+    let n = c.node-node.result.now in
+    let is : slice_get p.graph t0 ≡ Some n = ap (λ ns. slice_get ns c.args.t.0) (sym c.graph.ensures.value) ∙ c.node-node.ensures in
+    let one = window-one w p ok t0 s asked n is (not-windowed (kind_of n.kind) (inr (inl (c.requires.kind n is)))) in
+    let may : IsAskedInput w p c.input_at-first.result 1 s = subst (λ o. IsAskedInput w p o 1 s) (sym c.input_at-first.ensures) (subst (λ k. IsAskedInput w p (slice_get n.inputs 0) k s) one (first-asked w p ok t0 s asked n is)) in
+    let same : above c.input_at-first.result ≡ above (slice_get n.inputs 0) = ap above c.input_at-first.ensures in
+    let smaller : 16 * above c.input_at-first.result < 16 * c.args.t.0 + 5 = omega (arith, input-below w p ok t0 s asked n is 0, same) in
+    search rules
+
+pub point_cell-input_cell-requires-2 : goal.point_cell-input_cell-requires-2
+point_cell-input_cell-requires-2 g t c =
+    let w = c.args.world.now in
+    let p = c.args.checked.now in
+    let t0 = c.args.t.0 in
+    let s = c.args.session in
+    let ok = c.graph.ensures.checked in
+    let asked = c.requires.asked in
+    let n = c.node-node.result.now in
+    let is : slice_get p.graph t0 ≡ Some n = ap (λ ns. slice_get ns c.args.t.0) (sym c.graph.ensures.value) ∙ c.node-node.ensures in
+    let one = window-one w p ok t0 s asked n is (not-windowed (kind_of n.kind) (inr (inl (c.requires.kind n is)))) in
+    let may : IsAskedInput w p c.input_at-second.result 1 s = subst (λ o. IsAskedInput w p o 1 s) (sym c.input_at-second.ensures) (subst (λ k. IsAskedInput w p (slice_get n.inputs 1) k s) one (second-asked w p ok t0 s asked n is)) in
+    let same : above c.input_at-second.result ≡ above (slice_get n.inputs 1) = ap above c.input_at-second.ensures in
+    let smaller : 16 * above c.input_at-second.result < 16 * c.args.t.0 + 5 = omega (arith, input-below w p ok t0 s asked n is 1, same) in
+    search rules
+
+pub point_cell-input_cell-requires-3 : goal.point_cell-input_cell-requires-3
+point_cell-input_cell-requires-3 g t c =
+    let w = c.args.world.now in
+    let p = c.args.checked.now in
+    let t0 = c.args.t.0 in
+    let s = c.args.session in
+    let ok = c.graph.ensures.checked in
+    let asked = c.requires.asked in
+    let n = c.node-node.result.now in
+    let is : slice_get p.graph t0 ≡ Some n = ap (λ ns. slice_get ns c.args.t.0) (sym c.graph.ensures.value) ∙ c.node-node.ensures in
+    let one = window-one w p ok t0 s asked n is (not-windowed (kind_of n.kind) (inr (inl (c.requires.kind n is)))) in
+    let may : IsAskedInput w p c.input_at-third.result 1 s = subst (λ o. IsAskedInput w p o 1 s) (sym c.input_at-third.ensures) (subst (λ k. IsAskedInput w p (slice_get n.inputs 2) k s) one (third-asked w p ok t0 s asked n is)) in
+    let same : above c.input_at-third.result ≡ above (slice_get n.inputs 2) = ap above c.input_at-third.ensures in
+    let smaller : 16 * above c.input_at-third.result < 16 * c.args.t.0 + 5 = omega (arith, input-below w p ok t0 s asked n is 2, same) in
+    search rules
+
+pub window_cell-window_value-requires : goal.window_cell-window_value-requires
+window_cell-window_value-requires g t c =
+    let w = c.args.world.now in
+    let p = c.args.checked.now in
+    let t0 = c.args.t.0 in
+    let s = c.args.session in
+    let ok = c.graph.ensures.checked in
+    let asked = c.requires.asked in
+    let n = c.node-node.result.now in
+    let is : slice_get p.graph t0 ≡ Some n = ap (λ ns. slice_get ns c.args.t.0) (sym c.graph.ensures.value) ∙ c.node-node.ensures in
+    let a = sid_at c.args.world.now.assets.now c.args.col in
+    let early = window-early p ok t0 n is w s (c.requires.kind n is) (first-asked w p ok t0 s asked n is) in
+    let x = c.deref.ensures.value ∙ c.in_ok-a.ensures.value ∙ ap (λ o. window_in w p n.window o a s) c.input_at-first.ensures in
+    let y = c.deref-2.ensures.value ∙ c.in_ok-b.ensures.value ∙ ap (λ o. window_in w p n.window o a s) c.input_at-second.ensures in
+    let z = c.deref-3.ensures.value ∙ c.in_ok-c.ensures.value ∙ ap (λ o. window_in w p n.window o a s) c.input_at-third.ensures in
+    let xs : All IsCell c.deref.result.now = subst (All IsCell) (sym c.deref.ensures.value) c.in_ok-a.ensures.cells in
+    let ys : All IsCell c.deref-2.result.now = subst (All IsCell) (sym c.deref-2.ensures.value) c.in_ok-b.ensures.cells in
+    let zs : All IsCell c.deref-3.result.now = subst (All IsCell) (sym c.deref-3.ensures.value) c.in_ok-c.ensures.cells in
+    let given = windows-given w p ok t0 n is a s c.requires.kept (c.requires.kind n is) early c.deref.result.now c.deref-2.result.now c.deref-3.result.now x y z xs ys zs in
+    given.0
+
+pub window_cell-returns-clause-value : goal.window_cell-returns-clause-value
+window_cell-returns-clause-value g t c =
+    let w = c.args.world.now in
+    let p = c.args.checked.now in
+    let t0 = c.args.t.0 in
+    let s = c.args.session in
+    let ok = c.graph.ensures.checked in
+    let asked = c.requires.asked in
+    let n = c.node-node.result.now in
+    let is : slice_get p.graph t0 ≡ Some n = ap (λ ns. slice_get ns c.args.t.0) (sym c.graph.ensures.value) ∙ c.node-node.ensures in
+    let a = sid_at c.args.world.now.assets.now c.args.col in
+    let early = window-early p ok t0 n is w s (c.requires.kind n is) (first-asked w p ok t0 s asked n is) in
+    let x = c.deref.ensures.value ∙ c.in_ok-a.ensures.value ∙ ap (λ o. window_in w p n.window o a s) c.input_at-first.ensures in
+    let y = c.deref-2.ensures.value ∙ c.in_ok-b.ensures.value ∙ ap (λ o. window_in w p n.window o a s) c.input_at-second.ensures in
+    let z = c.deref-3.ensures.value ∙ c.in_ok-c.ensures.value ∙ ap (λ o. window_in w p n.window o a s) c.input_at-third.ensures in
+    let xs : All IsCell c.deref.result.now = subst (All IsCell) (sym c.deref.ensures.value) c.in_ok-a.ensures.cells in
+    let ys : All IsCell c.deref-2.result.now = subst (All IsCell) (sym c.deref-2.ensures.value) c.in_ok-b.ensures.cells in
+    let zs : All IsCell c.deref-3.result.now = subst (All IsCell) (sym c.deref-3.ensures.value) c.in_ok-c.ensures.cells in
+    let given = windows-given w p ok t0 n is a s c.requires.kept (c.requires.kind n is) early c.deref.result.now c.deref-2.result.now c.deref-3.result.now x y z xs ys zs in
+    let fits : FitsSigned w64 c.window_value.result = search rules in
+    to_z-of_z w64 _ fits ∙ c.window_value.ensures.value ∙ given.1
+
+pub point_cell-point_value-requires-clause-kind : goal.point_cell-point_value-requires-clause-kind
+point_cell-point_value-requires-clause-kind g t c =
+    let w = c.args.world.now in
+    let p = c.args.checked.now in
+    let t0 = c.args.t.0 in
+    let s = c.args.session in
+    let ok = c.graph.ensures.checked in
+    let n = c.node-node.result.now in
+    let is : slice_get p.graph t0 ≡ Some n = ap (λ ns. slice_get ns c.args.t.0) (sym c.graph.ensures.value) ∙ c.node-node.ensures in
+    let a = sid_at c.args.world.now.assets.now c.args.col in
+    let fx : FitsSigned w64 c.in_ok-x.x = search rules in
+    let fy : FitsSigned w64 c.in_ok-y.y = search rules in
+    let fz : FitsSigned w64 c.in_ok-z.z = search rules in
+    let x = c.in_ok-x.ensures.value ∙ ap (λ o. input_cell_in w p o a s) c.input_at-first.ensures in
+    let y = c.in_ok-y.ensures.value ∙ ap (λ o. input_cell_in w p o a s) c.input_at-second.ensures in
+    let z = c.in_ok-z.ensures.value ∙ ap (λ o. input_cell_in w p o a s) c.input_at-third.ensures in
+    let given = point-given w p ok t0 n is a s c.requires.kept (c.requires.kind n is) c.in_ok-x.x c.in_ok-y.y c.in_ok-z.z x y z c.in_ok-x.ensures.cell c.in_ok-y.ensures.cell c.in_ok-z.ensures.cell in
+    given.0
+
+pub point_cell-point_value-requires-clause-operands : goal.point_cell-point_value-requires-clause-operands
+point_cell-point_value-requires-clause-operands g t c =
+    let w = c.args.world.now in
+    let p = c.args.checked.now in
+    let t0 = c.args.t.0 in
+    let s = c.args.session in
+    let ok = c.graph.ensures.checked in
+    let n = c.node-node.result.now in
+    let is : slice_get p.graph t0 ≡ Some n = ap (λ ns. slice_get ns c.args.t.0) (sym c.graph.ensures.value) ∙ c.node-node.ensures in
+    let a = sid_at c.args.world.now.assets.now c.args.col in
+    let fx : FitsSigned w64 c.in_ok-x.x = search rules in
+    let fy : FitsSigned w64 c.in_ok-y.y = search rules in
+    let fz : FitsSigned w64 c.in_ok-z.z = search rules in
+    let x = c.in_ok-x.ensures.value ∙ ap (λ o. input_cell_in w p o a s) c.input_at-first.ensures in
+    let y = c.in_ok-y.ensures.value ∙ ap (λ o. input_cell_in w p o a s) c.input_at-second.ensures in
+    let z = c.in_ok-z.ensures.value ∙ ap (λ o. input_cell_in w p o a s) c.input_at-third.ensures in
+    let given = point-given w p ok t0 n is a s c.requires.kept (c.requires.kind n is) c.in_ok-x.x c.in_ok-y.y c.in_ok-z.z x y z c.in_ok-x.ensures.cell c.in_ok-y.ensures.cell c.in_ok-z.ensures.cell in
+    rw (to_z-of_z w64 _ fx, to_z-of_z w64 _ fy, to_z-of_z w64 _ fz) given.1
+
+pub point_cell-returns-clause-value : goal.point_cell-returns-clause-value
+point_cell-returns-clause-value g t c =
+    let w = c.args.world.now in
+    let p = c.args.checked.now in
+    let t0 = c.args.t.0 in
+    let s = c.args.session in
+    let ok = c.graph.ensures.checked in
+    let n = c.node-node.result.now in
+    let is : slice_get p.graph t0 ≡ Some n = ap (λ ns. slice_get ns c.args.t.0) (sym c.graph.ensures.value) ∙ c.node-node.ensures in
+    let a = sid_at c.args.world.now.assets.now c.args.col in
+    let fx : FitsSigned w64 c.in_ok-x.x = search rules in
+    let fy : FitsSigned w64 c.in_ok-y.y = search rules in
+    let fz : FitsSigned w64 c.in_ok-z.z = search rules in
+    let x = c.in_ok-x.ensures.value ∙ ap (λ o. input_cell_in w p o a s) c.input_at-first.ensures in
+    let y = c.in_ok-y.ensures.value ∙ ap (λ o. input_cell_in w p o a s) c.input_at-second.ensures in
+    let z = c.in_ok-z.ensures.value ∙ ap (λ o. input_cell_in w p o a s) c.input_at-third.ensures in
+    let given = point-given w p ok t0 n is a s c.requires.kept (c.requires.kind n is) c.in_ok-x.x c.in_ok-y.y c.in_ok-z.z x y z c.in_ok-x.ensures.cell c.in_ok-y.ensures.cell c.in_ok-z.ensures.cell in
+    let fits : FitsSigned w64 c.point_value.result = search rules in
+    to_z-of_z w64 _ fits ∙ simp to_z-of_z at c.point_value.ensures.value ∙ given.2
+
+pub section_cell-term_row-requires : goal.section_cell-term_row-requires
+section_cell-term_row-requires g t c =
+    let w = c.args.world.now in
+    let p = c.args.checked.now in
+    let t0 = c.args.t.0 in
+    let s = c.args.session in
+    let ok = c.graph.ensures.checked in
+    let asked = c.requires.asked in
+    let n = c.node-node.result.now in
+    let is : slice_get p.graph t0 ≡ Some n = ap (λ ns. slice_get ns c.args.t.0) (sym c.graph.ensures.value) ∙ c.node-node.ensures in
+    let one = window-one w p ok t0 s asked n is (not-windowed (kind_of n.kind) (inr (inr (c.requires.kind n is)))) in
+    let u = c.section_input-input.result in
+    let own : slice_get n.inputs 0 ≡ Some (input.Term u) = c.section_input-input.ensures n is in
+    let first = subst (λ o. IsAskedInput w p o 1 s) own (subst (λ k. IsAskedInput w p (slice_get n.inputs 0) k s) one (first-asked w p ok t0 s asked n is)) in
+    let now : s - 0 ≡ s = omega arith in
+    let may : IsAsked w p u.0 s = subst (IsAsked w p u.0) now (first.1 0 (omega arith)) in
+    let same : above (slice_get n.inputs 0) ≡ above (Some (input.Term u)) = ap above own in
+    let smaller : 16 * u.0 + 10 < 16 * c.args.t.0 + 5 = omega (arith, input-below w p ok t0 s asked n is 0, same) in
+    search rules
+
+pub section_cell-optional_row-requires : goal.section_cell-optional_row-requires
+section_cell-optional_row-requires g t c =
+    let w = c.args.world.now in
+    let p = c.args.checked.now in
+    let t0 = c.args.t.0 in
+    let s = c.args.session in
+    let ok = c.graph.ensures.checked in
+    let asked = c.requires.asked in
+    let n = c.node-node.result.now in
+    let is : slice_get p.graph t0 ≡ Some n = ap (λ ns. slice_get ns c.args.t.0) (sym c.graph.ensures.value) ∙ c.node-node.ensures in
+    let may : IsAskedOption w p n.mask s = mask-asked w p ok t0 s asked n is in
+    let smaller : 16 * above_option n.mask < 16 * c.args.t.0 + 5 = omega (arith, (mask-below w p ok t0 s asked n is).1) in
+    search rules
+
+pub section_cell-optional_row-requires-2 : goal.section_cell-optional_row-requires-2
+section_cell-optional_row-requires-2 g t c =
+    let w = c.args.world.now in
+    let p = c.args.checked.now in
+    let t0 = c.args.t.0 in
+    let s = c.args.session in
+    let ok = c.graph.ensures.checked in
+    let asked = c.requires.asked in
+    let n = c.node-node.result.now in
+    let is : slice_get p.graph t0 ≡ Some n = ap (λ ns. slice_get ns c.args.t.0) (sym c.graph.ensures.value) ∙ c.node-node.ensures in
+    let may : IsAskedOption w p n.group s = group-asked w p ok t0 s asked n is in
+    let smaller : 16 * above_option n.group < 16 * c.args.t.0 + 5 = omega (arith, group-below w p ok t0 s asked n is) in
+    search rules
+
+pub cells_up_to-cell-requires : goal.cells_up_to-cell-requires
+cells_up_to-cell-requires g t c =
+    let w = c.args.world.now in
+    let p = c.args.checked.now in
+    let s = c.args.session in
+    let e = c.loop-earlier.earlier in
+    let size = c.requires.asked.0 in
+    let back : s - e < c.args.size = omega (arith, c.loop-earlier.invariant.from, c.loop-earlier-test.true, size) in
+    let at : s - (s - e) ≡ e = omega (arith, c.loop-earlier-test.true) in
+    let may : IsAsked w p c.args.u.0 e = subst (IsAsked w p c.args.u.0) at (c.requires.asked.1 (s - e) back) in
+    let smaller : 16 * c.args.u.0 + 9 < 16 * c.args.u.0 + 10 = omega arith in
+    search rules
+
+pub cells_up_to-loop-earlier-preserved : goal.cells_up_to-loop-earlier-preserved
+cells_up_to-loop-earlier-preserved g t c =
+    let w = c.args.world.now in
+    let p = c.args.checked.now in
+    let a = sid_at c.args.world.now.assets.now c.args.col in
+    let first = c.args.session + 1 - c.args.size in
+    let e = c.loop-earlier.earlier in
+    let so_far = c.loop-earlier.invariant in
+    let fits : FitsSigned w64 c.in_ok-cell.field-0 = search rules in
+    let pushed : c.push.new.self.items ≡ c.loop-earlier.cells.items ++ c.in_ok-cell.field-0 ∷ [] = search rules in
+    record {
+      from = omega (arith, so_far.from);
+      to = omega (arith, c.loop-earlier-test.true);
+      cells = cells-more (λ k. cell_in w p c.args.u.0 a k) (λ k. cost_in w p c.args.u.0 a k) first e so_far.from c.loop-earlier.cells.items c.push.new.self.items c.in_ok-cell.field-0 pushed so_far.cells c.in_ok-cell.ensures.value;
+      all = all-more IsCell c.loop-earlier.cells.items c.push.new.self.items c.in_ok-cell.field-0 pushed so_far.all c.in_ok-cell.ensures.cell;
+      cost = steps-more (λ k. cell_in w p c.args.u.0 a k) (λ k. cost_in w p c.args.u.0 a k) first e so_far.from c.args.steps.now c.loop-earlier.steps c.cell.new.steps so_far.cost c.in_ok-cell.ensures.cost;
+    }
+
+pub cells_up_to-returns-clause-value : goal.cells_up_to-returns-clause-value
+unfolding cell_of
+cells_up_to-returns-clause-value g t c =
+    let w = c.args.world.now in
+    let p = c.args.checked.now in
+    let a = sid_at c.args.world.now.assets.now c.args.col in
+    let size = c.requires.asked.0 in
+    let end : c.loop-earlier.earlier ≡ c.args.session + 1 = omega (arith, c.loop-earlier-test.false, c.loop-earlier.invariant.to) in
+    cells-all (λ k. cell_in w p c.args.u.0 a k) c.args.size c.args.session c.loop-earlier.earlier c.loop-earlier.cells.items size end c.loop-earlier.invariant.cells
+
+pub cells_up_to-returns-clause-cost : goal.cells_up_to-returns-clause-cost
+cells_up_to-returns-clause-cost g t c =
+    let w = c.args.world.now in
+    let p = c.args.checked.now in
+    let a = sid_at c.args.world.now.assets.now c.args.col in
+    let size = c.requires.asked.0 in
+    let end : c.loop-earlier.earlier ≡ c.args.session + 1 = omega (arith, c.loop-earlier-test.false, c.loop-earlier.invariant.to) in
+    steps-all (λ k. cost_in w p c.args.u.0 a k) c.args.size c.args.session c.loop-earlier.earlier c.args.steps.now c.loop-earlier.steps size end c.loop-earlier.invariant.cost
+
+pub term_row-loop-col-preserved : goal.term_row-loop-col-preserved
+term_row-loop-col-preserved g t c =
+    let w = c.args.world.now in
+    let p = c.args.checked.now in
+    let i = c.loop-col.col in
+    let inside : i < length w.assets.now = omega (arith, c.loop-col-test.true, c.len-col-end.ensures.length) in
+    let so_far = c.loop-col.invariant in
+    let fits : FitsSigned w64 c.in_ok-cell.field-0 = search rules in
+    let pushed : c.push.new.self.items ≡ c.loop-col.row.items ++ c.in_ok-cell.field-0 ∷ [] = search rules in
+    let sid = sid-there w.assets.now i inside in
+    record {
+      cells = row-more (λ b. cell_in w p c.args.u.0 b.sid c.args.session) (λ b. cost_in w p c.args.u.0 b.sid c.args.session) w.assets.now i blank inside c.loop-col.row.items c.push.new.self.items c.in_ok-cell.field-0
+          pushed so_far.cells (c.in_ok-cell.ensures.value ∙ ap (λ a. cell_in w p c.args.u.0 a c.args.session) sid);
+      all = all-more IsCell c.loop-col.row.items c.push.new.self.items c.in_ok-cell.field-0 pushed so_far.all c.in_ok-cell.ensures.cell;
+      cost = row-steps-more (λ b. cell_in w p c.args.u.0 b.sid c.args.session) (λ b. cost_in w p c.args.u.0 b.sid c.args.session) w.assets.now i blank inside c.args.steps.now c.loop-col.steps c.cell.new.steps so_far.cost
+          (c.in_ok-cell.ensures.cost ∙ ap (λ a. c.loop-col.steps + cost_in w p c.args.u.0 a c.args.session) sid);
+    }
+
+pub term_row-returns-clause-value : goal.term_row-returns-clause-value
+term_row-returns-clause-value g t c =
+    let w = c.args.world.now in
+    let p = c.args.checked.now in
+    let end : length w.assets.now ≤ c.loop-col.col = omega (arith, c.loop-col-test.false, c.len-col-end.ensures.length) in
+    row-all (λ b. cell_in w p c.args.u.0 b.sid c.args.session) w.assets.now c.loop-col.col c.loop-col.row.items end c.loop-col.invariant.cells
+
+pub term_row-returns-clause-cost : goal.term_row-returns-clause-cost
+term_row-returns-clause-cost g t c =
+    let w = c.args.world.now in
+    let p = c.args.checked.now in
+    let end : length w.assets.now ≤ c.loop-col.col = omega (arith, c.loop-col-test.false, c.len-col-end.ensures.length) in
+    row-steps-all (λ b. cost_in w p c.args.u.0 b.sid c.args.session) w.assets.now c.loop-col.col c.args.steps.now c.loop-col.steps end c.loop-col.invariant.cost

@@ -1,0 +1,233 @@
+//! What an evaluation reads besides the values of other terms.
+
+ghost use Rattle.std.specs.Prelude.{◌≡◌, ◌+◌, ◌<◌, ◌≤◌, ◌&&◌, [], ◌∷◌, All, IfOk, IfSome, OnOk, Some, length, option_map, pos, slice_get, true};
+ghost use Rattle.pl_spec.specs.Kind.{Kind, CrossKind};
+ghost use Rattle.pl_spec.specs.Parts.{sid_at};
+ghost use Rattle.pl_spec.specs.Rounding.{IsCell};
+ghost use Rattle.pl_spec.specs.Value.{name_at};
+ghost use Rattle.pl_spec.specs.Window.{bar_window};
+ghost use Rattle.pl_spec.specs.Formula.{is_true};
+ghost use Rattle.pl_spec.specs.World.{exists, label_at};
+ghost use Rattle.pl_terms.specs.Checked.{pipeline_of};
+ghost use Rattle.pl_terms.specs.Kinds.{kind_of};
+ghost use Rattle.pl_cross.specs.Arrays.{section_at};
+ghost use Rattle.pl_cross.specs.Listing.{Fits, labels_in};
+ghost use Rattle.pl_cross.specs.Section.{HasParameters, is_section};
+ghost use Rattle.pl_values.specs.Families.{label_code};
+ghost use Rattle.pl_assets.specs.Assets.{AreAssets};
+ghost use Rattle.pl_model.specs.Worlds.{world_of, IsMade};
+ghost use Rattle.pl_model.specs.PlainTerms.{window_steps};
+ghost use Rattle.pl_model.specs.Evaluations as spec;
+ghost use Rattle.pl_model.specs.Evaluations.{IsAsked, HasKind, cell_in, AreRowsOf, IsKeepRow};
+
+use crate::cell::{exists, seen_cell};
+use crate::world::World;
+use pl_cross::Cross;
+use pl_fixed::{Column, Memory, Steps};
+use pl_terms::{Checked, Input, Node, TermId, TermKind};
+use pl_values::{label_value, section_values};
+use std::alloc::Global;
+use std::sync::ledger::Ledger;
+
+/// The input of a node in a place, from 0.
+pub(crate) fn input_at(node: &Node, place: usize) -> Option<Input>
+    ensures { result ≡ slice_get node.now.inputs place }
+{
+    node.inputs.as_slice().get(place).copied()
+}
+
+/// A mask is read as an input is.
+pub(crate) fn as_input(mask: Option<TermId>) -> Option<Input>
+    ensures { result ≡ spec.as_input mask }
+{
+    match mask {
+        Some(t) => Some(Input::Term(t)),
+        None => None,
+    }
+}
+
+/// Whether a mask of this value lets the asset pass; without one it does.
+pub(crate) fn lets_pass(mask: Option<Input>, value: i64) -> bool
+    ensures { result ≡ spec.lets_pass mask value }
+{
+    match mask {
+        Some(_) => value == 1,
+        None => true,
+    }
+}
+
+/// The cells of a bar column on the sessions before one, as they are seen on it.
+pub(crate) fn bars_before<L: Ledger>(
+    alloc: Global,
+    world: &World,
+    column: Column,
+    size: usize,
+    col: usize,
+    session: usize,
+    steps: &mut Steps<L>,
+) -> Result<Vec<i64>, Memory>
+    requires made { IsMade world.now }
+    requires col { col < length world.now.assets.now }
+    requires session { session < length world.now.sessions.now }
+    requires size { size ≤ session }
+    ensures value { IfOk result (λ v. v.items ≡ bar_window (world_of world.now) column size
+        (sid_at world.now.assets.now col) (pos session)) }
+    ensures cells { IfOk result (λ v. All IsCell v.items) }
+    ensures cost { OnOk result (steps.new ≡ steps.old + window_steps (world_of world.now) column size
+        (sid_at world.now.assets.now col) (pos session)) }
+{
+    let _assets = world.assets.len();
+    let mut cells = Vec::new(alloc);
+    for bar_session in session - size..session {
+        cells.push(seen_cell(world, column, col, bar_session, session, steps))?;
+    }
+    Ok(cells)
+}
+
+/// The code of the asset's label under a name of the pipeline.
+pub(crate) fn label_cell(
+    world: &World,
+    checked: &Checked,
+    name: u32,
+    col: usize,
+    session: usize,
+) -> i64
+    requires made { IsMade world.now }
+    requires name { name < length checked.now.names }
+    requires col { col < length world.now.assets.now }
+    requires session { session < length world.now.sessions.now }
+    ensures value { result ≡ label_code (world_of world.now).texts
+        (label_at (world_of world.now) (name_at (pipeline_of checked.now).names name)
+        (sid_at world.now.assets.now col) (pos session)) }
+    ensures cell { IsCell result }
+{
+    let _assets = world.assets.len();
+    let day = world.sessions.day(session);
+    let text = checked.label_name(name);
+    label_value(world.labels, text, world.labels.name_of(text), col, day)
+}
+
+/// The input of a cross-section, which is a term.
+pub(crate) fn section_input(checked: &Checked, t: TermId) -> TermId
+    requires term { t.0 < length checked.now.graph }
+    requires kind { HasKind checked.now t.0 is_section }
+    ensures { (n : _) → slice_get checked.now.graph t.0 ≡ Some n
+        → slice_get n.inputs 0 ≡ Some (Input.Term result) }
+{
+    match input_at(checked.graph().node(t), 0) {
+        Some(Input::Term(u)) => u,
+        Some(Input::Column(_)) => unreachable!(),
+        None => unreachable!(),
+    }
+}
+
+// Whether the asset exists and passes the mask, whose row is given: 1 or 0.
+fn kept_flag(world: &World, col: usize, session: usize, mask: &Option<Vec<i64>>) -> i64
+    requires col { col < length world.now.assets.now }
+    requires session { session < length world.now.sessions.now }
+    requires mask { IfSome mask.now (λ v. col < length v.items) }
+    ensures { is_true result ≡ (exists (world_of world.now) (sid_at world.now.assets.now col) (pos session)
+        && spec.lets_pass_at (option_map (λ v. v.items) mask.now) col) }
+{
+    if exists(world, col, session) && lets_pass_at(mask, col) {
+        1
+    } else {
+        0
+    }
+}
+
+// Who exists and passes the mask, whose row is given.
+fn keep_row(
+    alloc: Global,
+    world: &World,
+    session: usize,
+    mask: &Option<Vec<i64>>,
+) -> Result<Vec<i64>, Memory>
+    requires session { session < length world.now.sessions.now }
+    requires mask { IfSome mask.now (λ v. length v.items ≡ length world.now.assets.now) }
+    ensures { IfOk result (λ v. IsKeepRow (world_of world.now) world.now.assets.now session
+        (option_map (λ m. m.items) mask.now) v.items) }
+{
+    let mut keep = Vec::new(alloc);
+    for col in 0..world.assets.len() {
+        keep.push(kept_flag(world, col, session, mask))?;
+    }
+    Ok(keep)
+}
+
+/// The cross-section's value at a column, over the rows of its input, its mask and its group.
+pub(crate) fn section_at(
+    alloc: Global,
+    world: &World,
+    checked: &Checked,
+    t: TermId,
+    col: usize,
+    session: usize,
+    values: &[i64],
+    mask: &Option<Vec<i64>>,
+    groups: &Option<Vec<i64>>,
+) -> Result<i64, Memory>
+    requires asked { IsAsked world.now checked.now t.0 session }
+    requires col { col < length world.now.assets.now }
+    requires kind { HasKind checked.now t.0 is_section }
+    requires rows { AreRowsOf world.now checked.now t.0 session values.now
+        (option_map (λ m. m.items) mask.now) (option_map (λ m. m.items) groups.now) }
+    ensures value { IfOk result (λ x. x ≡ cell_in world.now checked.now t.0
+        (sid_at world.now.assets.now col) session) }
+    ensures cell { IfOk result IsCell }
+{
+    let kind = &checked.graph().node(t).kind;
+    let assets = world.assets.len();
+    let _rows = world.labels.len();
+    let keep = keep_row(alloc, world, session, mask)?;
+    let mut cross = Cross::reserve(alloc, assets)?;
+    let mut out = vec![in alloc; 0; assets]?;
+    let groups = lent(groups);
+    Ok(section_value(kind, &mut cross, values, &keep, groups, &mut out, col))
+}
+
+// The cross-section at a column; `out` is room for those at all.
+fn section_value(
+    kind: &TermKind,
+    cross: &mut Cross,
+    values: &[i64],
+    keep: &[i64],
+    groups: Option<&[i64]>,
+    out: &mut [i64],
+    col: usize,
+) -> i64
+    requires kind { is_section (kind_of kind.now) ≡ true }
+    requires parameters { HasParameters (kind_of kind.now) }
+    requires room { length values.now ≤ cross.old }
+    requires few { length values.now ≤ 8_000 }
+    requires cells { All IsCell values.now }
+    requires keep { length keep.now ≡ length values.now }
+    requires groups { Fits (length values.now) (labels_in groups) }
+    requires out { length out.old ≡ length values.now }
+    requires col { col < length values.now }
+    ensures value { (k : CrossKind) → kind_of kind.now ≡ Kind.Cross k
+        → result ≡ section_at k values.now keep.now (labels_in groups.entry) col }
+    ensures cell { IsCell result }
+{
+    section_values(kind, cross, values, keep, groups, out);
+    out[col]
+}
+
+fn lent(row: &Option<Vec<i64>>) -> Option<&[i64]>
+    ensures { labels_in result ≡ option_map (λ v. v.items) row.now }
+{
+    match row {
+        Some(cells) => Some(cells.as_slice()),
+        None => None,
+    }
+}
+
+fn lets_pass_at(mask: &Option<Vec<i64>>, col: usize) -> bool
+    requires { IfSome mask.now (λ v. col < length v.items) }
+    ensures { result ≡ spec.lets_pass_at (option_map (λ v. v.items) mask.now) col }
+{
+    match mask {
+        Some(cells) => cells[col] == 1,
+        None => true,
+    }
+}

@@ -1,0 +1,14 @@
+use Rattle.std.proofs.Common.{◌≡◌, ◌≤◌, length}
+use Rattle.pl_records.specs.Reading.{rows_of, rows_behind}
+use Rattle.pl_payouts.specs.declared.TheConstants.{MOST_PAYOUTS}
+use Rattle.pl_payouts.specs.Payouts.{says_dividend}
+use Rattle.pl_payouts.proofs.reading.rows_behind.Given as goal
+
+abbrev pub invariant-rows : goal.invariant-rows
+invariant-rows l = record {
+  rest : rows_behind 2 (says_dividend l.assets) l.rows.items l.records.left ≡ rows_of 2 (says_dividend l.assets) l.fn.records.left;
+  few : length l.rows.items ≤ MOST_PAYOUTS;
+}
+
+abbrev pub decreases-rows : goal.decreases-rows
+decreases-rows l = length l.records.left

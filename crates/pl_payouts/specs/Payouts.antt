@@ -1,0 +1,88 @@
+-- The payouts of the records of a payouts file, and the first rule that a record breaks.
+use Rattle.std.specs.Prelude.{ℕ, ◌==◌, ◌≤◌, nat_le, not, Bool, false, if◌then◌else◌, ℤ, pos, ◌<ℤ◌, codes, List, [], ◌∷◌, length, All, Option, None, option_map, option_and_then, position, Result}
+use Rattle.std.specs.Result.{result_ok}
+use Rattle.std.specs.Int.RustNames.{int_lt}
+use Rattle.std.specs.Option.{ok_or}
+use Rattle.pl_records.specs.Reading.{Record, Fault, field, rows_under}
+use Rattle.pl_records.specs.RuleTable.{first_broken, lacks, has}
+use Rattle.pl_spec.specs.Rounding.{IsCell}
+use Rattle.pl_spec.specs.Dates.{IsDay, date_in}
+use Rattle.pl_spec.specs.Decimals.{sid_in}
+use Rattle.pl_spec.specs.declared.AssetRow.{AssetRow}
+use Rattle.pl_fixed.specs.Reading.{read}
+use Rattle.pl_assets.specs.Assets.{sid_of}
+use Rattle.pl_assets.specs.LabelRules.{HasSid}
+use Rattle.pl_payouts.specs.declared.Payout.{Payout}
+use Rattle.pl_payouts.specs.declared.reading.Dividend.{Dividend}
+use Rattle.pl_payouts.specs.declared.TheConstants.{MOST_PAYOUTS}
+
+-- what may be wrong with a file
+pub data Rule : Type 0 where
+  BadHeader TooMany BadField UnknownSid NotPositive : Rule
+
+abbrev pub header : Record
+header = codes "sid" ∷ codes "ex" ∷ codes "amount" ∷ []
+
+-- the cell of a field, which may not be empty
+abbrev pub amount_in : List ℕ → Option ℤ
+amount_in text = result_ok (read text)
+
+-- the sid, the ex day and the amount of a record of three fields
+unfoldable pub dividend_in : Record → Option Dividend
+dividend_in r =
+    if length r == 3 then
+    option_and_then (λ sid. option_and_then (λ ex. option_map (λ amount. record { sid = sid; ex = ex; amount = amount })
+    (amount_in (field r 2))) (date_in (field r 1))) (sid_in (field r 0))
+    else None
+
+abbrev pub is_above_0 : ℤ → Bool
+is_above_0 v = int_lt (pos 0) v
+
+-- the column of the asset
+abbrev pub col_in : List AssetRow → Dividend → Option ℕ
+col_in assets d = position (λ a. sid_of a == d.sid) assets
+
+-- the rules of a record behind the header, in the order in which they are tested, and their tests
+abbrev pub rules : List Rule
+rules = TooMany ∷ BadField ∷ UnknownSid ∷ NotPositive ∷ []
+
+abbrev pub breaks : List AssetRow → List Dividend → Record → Rule → Bool
+breaks assets before r BadHeader = false
+breaks assets before r TooMany = nat_le MOST_PAYOUTS (length before)
+breaks assets before r BadField = lacks (dividend_in r)
+breaks assets before r UnknownSid = has (λ d. lacks (col_in assets d)) (dividend_in r)
+breaks assets before r NotPositive = has (λ d. not (is_above_0 d.amount)) (dividend_in r)
+
+-- the payout of a record behind the payouts before it, or the first rule that it breaks
+unfoldable pub says_dividend : List AssetRow → List Dividend → Record → Result Dividend Rule
+says_dividend assets before r = first_broken rules (breaks assets before r) (ok_or (dividend_in r) BadField)
+
+-- the payouts of a file in its order, or its first fault
+unfoldable pub payouts_of : List AssetRow → List Record → Result (List Dividend) (Fault Rule)
+payouts_of assets records = rows_under header BadHeader (says_dividend assets) records
+
+-- ---- payouts as they are kept
+
+-- a dividend with its number
+abbrev pub numbered : ℕ → Dividend → Payout
+numbered n d = record { number = n; sid = d.sid; ex = d.ex; amount = d.amount }
+
+-- of the years 1900 to 2199, and of an amount above 0
+pub record IsPaid (ex amount : ℤ) : Type 0 where
+  pub date : IsDay ex
+  pub above : pos 0 <ℤ amount
+  pub cell : IsCell amount
+
+abbrev pub IsPayout : Payout → Type 0
+IsPayout p = IsPaid p.ex p.amount
+
+pub record ArePayouts (rows : List Dividend) : Type 0 where
+  pub few : length rows ≤ MOST_PAYOUTS
+  pub paid : All (λ d. IsPaid d.ex d.amount) rows
+
+-- an asset has the sid
+abbrev pub IsKnown : List AssetRow → ℕ → Type 0
+IsKnown assets sid = (col : ℕ) × HasSid assets col sid
+
+abbrev pub AreKnown : List AssetRow → List Dividend → Type 0
+AreKnown assets rows = All (λ d. IsKnown assets d.sid) rows

@@ -1,0 +1,26 @@
+//! What a payouts file says, in plain words. The function does nothing: its contract is the law of the
+//! definitions that the reader's contract cites.
+
+ghost use Rattle.std.specs.Prelude.{◌≡◌, ◌↔◌, List, Ok, Err};
+ghost use Rattle.pl_spec.specs.declared.AssetRow.{AssetRow};
+ghost use Rattle.pl_records.specs.Reading.{Record, Fault, Judges};
+ghost use Rattle.pl_records.specs.RuleTable.{IsFirstBroken};
+ghost use Rattle.pl_assets.specs.Assets.{AreAssets};
+ghost use Rattle.pl_payouts.specs.declared.reading.Dividend.{Dividend};
+ghost use Rattle.pl_payouts.specs.Payouts.{Rule, payouts_of, rules, says_dividend};
+ghost use Rattle.pl_payouts.specs.Rules.{ArePayoutsOf, Breaks, IsDividend, IsPayoutsFault};
+
+/// A file is read as payouts exactly where it has its header and each further record is a payout of an
+/// asset, above 0; they stand in the order of the file. It has a fault exactly where the header is missing,
+/// or where that record breaks that rule and no earlier one, and the records before it are payouts.
+pub fn payouts_in_plain_words()
+    ensures record { (assets : List AssetRow) → AreAssets assets
+        → Judges (IsDividend assets) (λ before r. IsFirstBroken rules (Breaks assets before r))
+        (says_dividend assets) }
+    ensures payouts { (assets : List AssetRow) → AreAssets assets → (records : List Record)
+        (rows : List Dividend) → (payouts_of assets records ≡ Ok rows)
+        ↔ ArePayoutsOf assets records rows }
+    ensures fault { (assets : List AssetRow) → AreAssets assets → (records : List Record)
+        (fault : Fault Rule) → (payouts_of assets records ≡ Err fault)
+        ↔ IsPayoutsFault assets records fault }
+{}
