@@ -1,8 +1,13 @@
 // What the engine computes, in chunks of every size.
+ghost use Rattle.pl_outside.specs.Counts.{count_end};
+ghost use Rattle.std.specs.Prelude.{None, false};
+
 use crate::test_runs::{
-    FOURTH, Left, NO_ROWS, Rows, SATURDAY, base_shelf, keeper, make_left, row, run_over, run_words,
-    split,
+    FOURTH, Left, NO_ROWS, Rows, SATURDAY, base_shelf, keeper, make_left, row, run_in_room,
+    run_over, run_words, split,
 };
+use pl_fixed::write_day;
+use pl_outside::{AdjustKeeper, KeepError, RawAdjust, Table};
 use std::alloc::Global;
 use std::test::Fail;
 
@@ -17,10 +22,11 @@ const FOUR: &str =
 /// The first second of 2024-01-03.
 const THIRD: i64 = 1_704_240_000;
 
-/// A run: the records of its assets and labels, where they are others than the base ones, of its bars, its
-/// adjustments, its statements and dates, and what it leaves.
+/// A run: the records of its sessions, assets and labels, where they are others than the base ones, of its
+/// bars, its adjustments, its statements and dates, and what it leaves.
 #[derive(Clone, Copy)]
 struct Case<'a> {
+    sessions: Option<&'a str>,
     assets: Option<&'a str>,
     labels: Option<&'a str>,
     bars: &'a str,
@@ -31,6 +37,7 @@ struct Case<'a> {
 }
 
 const BASE: Case<'static> = Case {
+    sessions: None,
     assets: None,
     labels: None,
     bars: BARS,
@@ -57,13 +64,22 @@ fn run_case(alloc: Global, case: &Case, chunk: &str) -> Result<Left, Fail> {
     let mut shelf = base_shelf(alloc, Vec::new(alloc))?;
     let mut files = vec![in alloc;
         ("p.pl", format!(in alloc; "pipeline 1;\n{statements}\n")?),
-        ("bars.csv", format!(in alloc; "sid,session,open,high,low,close,volume\n{bars}")?),
+        (
+            "bars.csv",
+            format!(in alloc; "sid,session,open,high,low,close,volume\n{bars}")?
+        ),
     ]?;
+    if let Some(sessions) = case.sessions {
+        files.push(("sessions.csv", String::from_str(alloc, sessions)?))?;
+    }
     if let Some(assets) = case.assets {
         files.push(("assets.csv", format!(in alloc; "sid,start,end\n{assets}")?))?;
     }
     if let Some(labels) = case.labels {
-        files.push(("labels.csv", format!(in alloc; "name,sid,start,label\n{labels}")?))?;
+        files.push((
+            "labels.csv",
+            format!(in alloc; "name,sid,start,label\n{labels}")?,
+        ))?;
     }
     for (name, text) in files.iter() {
         shelf.put(
@@ -87,9 +103,7 @@ fn first_wrong(alloc: Global, cases: &[Case]) -> Result<Option<String>, Fail> {
             let got = run_case(alloc, case, chunk)?;
             if got != want {
                 let statements = case.statements;
-                return Ok(Some(
-                    format!(in alloc; "{statements} in chunks of {chunk}: {got:?}")?,
-                ));
+                return Ok(Some(format!(in alloc; "{statements} in chunks of {chunk}: {got:?}")?));
             }
         }
     }
@@ -122,14 +136,20 @@ fn computes_windows(rt: HostRuntime) -> Result<(), Fail> {
         Case {
             rows: halved,
             dates: "2024-01-03 2024-01-04",
-            left: (0, "session,sid,c\n2024-01-03,1,100.000000\n2024-01-04,1,51.000000\n"),
+            left: (
+                0,
+                "session,sid,c\n2024-01-03,1,100.000000\n2024-01-04,1,51.000000\n",
+            ),
             ..BASE
         },
         Case {
             rows: halved,
             statements: two,
             dates: "2024-01-04 2024-01-05",
-            left: (0, "session,sid,m\n2024-01-04,1,50.500000\n2024-01-05,1,51.000000\n"),
+            left: (
+                0,
+                "session,sid,m\n2024-01-04,1,50.500000\n2024-01-05,1,51.000000\n",
+            ),
             ..BASE
         },
         Case {
@@ -185,7 +205,10 @@ fn computes_windows(rt: HostRuntime) -> Result<(), Fail> {
             bars: "",
             statements: "column one = 1;",
             dates: "2024-01-03 2024-01-08",
-            left: (0, "session,sid,one\n2024-01-04,3,1.000000\n2024-01-05,3,1.000000\n"),
+            left: (
+                0,
+                "session,sid,one\n2024-01-04,3,1.000000\n2024-01-05,3,1.000000\n",
+            ),
             ..BASE
         },
         Case {
@@ -273,9 +296,43 @@ fn computes_windows(rt: HostRuntime) -> Result<(), Fail> {
     Ok(())
 }
 
+/// A pipeline of the usual kind.
+const USUAL: &str = "let mean_10 = SimpleMovingAverage(close, 10);\n\
+    let mean_30 = SimpleMovingAverage(close, 30);\nlet diff = (mean_10 - mean_30) / mean_30;\n\
+    let liquid = AverageDollarVolume(30) > 10000000;\ncolumn percent_difference = diff;\n\
+    column latest = close.latest;\nscreen liquid & diff.top(100, mask=liquid);";
+
+/// So many sessions from 1970-01-01 on, and bars of three assets: one that costs 100, one that costs 130 from
+/// the 21st session on, and one of which nearly nothing is traded.
+fn usual_files(alloc: Global, count: i32) -> Result<(String, String), Fail> {
+    let mut sessions = String::new(alloc);
+    let mut bars = String::new(alloc);
+    for day in 0..count {
+        let date = date_of(alloc, day)?;
+        let second = if day < 20 { 100 } else { 130 };
+        sessions.push_str(&format!(in alloc; "{date}\n")?)?;
+        bars.push_str(&format!(in alloc; "1,{date},100,100,100,100,1000000\n")?)?;
+        bars.push_str(&format!(in alloc;
+            "2,{date},{second},{second},{second},{second},1000000\n"
+        )?)?;
+        bars.push_str(&format!(in alloc; "3,{date},100,100,100,100,1\n")?)?;
+    }
+    Ok((sessions, bars))
+}
+
+fn date_of(alloc: Global, day: i32) -> Result<String, Fail> {
+    let mut date = [0u8; 10];
+    if 0 <= day && day <= 84_005 {
+        write_day(day, &mut date);
+    }
+    Ok(String::from_utf8_lossy(alloc, &date)?)
+}
+
 #[test]
 fn computes_sections(rt: HostRuntime) -> Result<(), Fail> {
-    let sectors = "sector,1,2024-01-02,tech\nsector,2,2024-01-02,tech\nsector,3,2024-01-02,\"Oil, Gas\"\n";
+    let (sessions, bars) = usual_files(rt.alloc(), 32)?;
+    let sectors =
+        "sector,1,2024-01-02,tech\nsector,2,2024-01-02,tech\nsector,3,2024-01-02,\"Oil, Gas\"\n";
     let grouped = Case {
         assets: Some(FOUR),
         labels: Some(sectors),
@@ -332,7 +389,10 @@ fn computes_sections(rt: HostRuntime) -> Result<(), Fail> {
                 2,2024-01-04,10,10,10,10,10\n2,2024-01-05,10,10,10,10,10\n",
             statements: "column s = WindowSum(close.latest.rank(), 2);",
             dates: "2024-01-08 2024-01-09",
-            left: (0, "session,sid,s\n2024-01-08,1,3.000000\n2024-01-09,1,2.000000\n"),
+            left: (
+                0,
+                "session,sid,s\n2024-01-08,1,3.000000\n2024-01-09,1,2.000000\n",
+            ),
             ..BASE
         },
         // the closes are 1, 2, 3 and 4, the volumes 1, 1, 1 and 5
@@ -370,6 +430,24 @@ fn computes_sections(rt: HostRuntime) -> Result<(), Fail> {
             ),
             ..BASE
         },
+        // the averages are 130 and 110, and then 130 and 111
+        Case {
+            sessions: Some(&sessions),
+            assets: Some(
+                "1,1970-01-01,1970-02-01\n2,1970-01-01,1970-02-01\n3,1970-01-01,1970-02-01\n",
+            ),
+            labels: Some(""),
+            bars: &bars,
+            statements: USUAL,
+            dates: "1970-01-31 1970-02-01",
+            left: (
+                0,
+                "session,sid,percent_difference,latest\n1970-01-31,1,0.000000,100.000000\n\
+                1970-01-31,2,0.181818,130.000000\n1970-02-01,1,0.000000,100.000000\n\
+                1970-02-01,2,0.171171,130.000000\n",
+            ),
+            ..BASE
+        },
         grouped,
         Case {
             labels: Some(""),
@@ -382,5 +460,118 @@ fn computes_sections(rt: HostRuntime) -> Result<(), Fail> {
     ];
     let wrong = first_wrong(rt.alloc(), &cases)?;
     assert!(rt; wrong.is_none(), "{wrong:?}");
+    Ok(())
+}
+
+/// A split of each of four assets on each of 16,000 days but the first, 2/1 and 1/2 in turn. It tells nothing.
+#[derive(Drop)]
+struct DailySplits {
+    faults: u64,
+}
+
+/// The days from 1980-01-01 on.
+const FIRST: i32 = 3_652;
+
+const END: i32 = 19_652;
+
+impl AdjustKeeper for DailySplits {
+    ghost lists = { λ _. None };
+
+    ghost faults = { λ k. k.faults };
+
+    ghost calls = { λ _. count_end };
+
+    ghost sound = { λ _. false };
+
+    fn load(
+        &mut self,
+        _alloc: Global,
+        _name: &str,
+        table: Table,
+        into: &mut Vec<RawAdjust>,
+    ) -> Result<(), KeepError> {
+        if table != Table::Splits {
+            return Ok(());
+        }
+        for place in 0..63_996i64 {
+            let session = place / 4 + 1;
+            let odd = session % 2;
+            into.extend_from_slice(&[RawAdjust {
+                id: place,
+                effective: (session + i64::from(FIRST)) * 86_400,
+                num: 1 + odd,
+                den: 2 - odd,
+                sid: place % 4 + 1,
+            }])?;
+        }
+        Ok(())
+    }
+
+    ghost use Rattle.std.proofs.Common.{rules};
+
+    ghost sound_tells = { Prim.search rules };
+
+    ghost lists_ascend = { Prim.search rules };
+}
+
+/// The 16,000 sessions, and a bar of each of four assets on each of them.
+fn daily_files(alloc: Global) -> Result<(String, String), Fail> {
+    let mut sessions = String::new(alloc);
+    let mut bars = String::from_str(alloc, "sid,session,open,high,low,close,volume\n")?;
+    for day in FIRST..END {
+        let date = date_of(alloc, day)?;
+        sessions.push_str(&format!(in alloc; "{date}\n")?)?;
+        for sid in 1..5 {
+            bars.push_str(&format!(in alloc; "{sid},{date},1,1,1,1,10\n")?)?;
+        }
+    }
+    Ok((sessions, bars))
+}
+
+/// The sums of 1,260 closes: half of them are seen as 1, and half as 2 where the session's number is odd, and
+/// else as a half.
+fn daily_table(alloc: Global) -> Result<String, Fail> {
+    let mut text = String::from_str(alloc, "session,sid,c\n")?;
+    for day in FIRST + 1_260..END {
+        let date = date_of(alloc, day)?;
+        let sum = if day % 2 == 0 { "945" } else { "1890" };
+        for sid in 1..5 {
+            text.push_str(&format!(in alloc; "{date},{sid},{sum}.000000\n")?)?;
+        }
+    }
+    Ok(text)
+}
+
+#[test]
+fn slides_over_many_sessions(rt: HostRuntime) -> Result<(), Fail> {
+    let alloc = rt.alloc();
+    let (sessions, bars) = daily_files(alloc)?;
+    let table = daily_table(alloc)?;
+    let first = date_of(alloc, FIRST)?;
+    let from = date_of(alloc, FIRST + 1_260)?;
+    let to = date_of(alloc, END - 1)?;
+    let mut assets = String::from_str(alloc, "sid,start,end\n")?;
+    for sid in 1..5 {
+        assets.push_str(&format!(in alloc; "{sid},{first},{to}\n")?)?;
+    }
+    let mut shelf = base_shelf(alloc, Vec::new(alloc))?;
+    for (name, text) in [
+        ("p.pl", "pipeline 1;\ncolumn c = WindowSum(close, 1260);\n"),
+        ("sessions.csv", &sessions),
+        ("assets.csv", &assets),
+        ("bars.csv", &bars),
+    ] {
+        shelf.put(
+            String::from_str(alloc, name)?,
+            text.as_bytes().to_vec(alloc)?,
+        )?;
+    }
+    let words = run_words(
+        alloc,
+        &format!(in alloc; "{from} {to} --adjustments adj.db --chunk 4096")?,
+    )?;
+    let keeper = DailySplits { faults: 0 };
+    let got = run_in_room(alloc, &words, shelf, keeper, Vec::new(alloc), 2_000_000)?;
+    assert!(rt; got == make_left(alloc, 0, table.as_bytes(), b"")?);
     Ok(())
 }

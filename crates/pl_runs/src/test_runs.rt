@@ -83,7 +83,7 @@ pub(crate) fn split(id: i64, effective: i64, num: i64, den: i64) -> Rows {
 }
 
 /// A table of at most two rows, which stand by ascending id.
-fn table(
+pub(crate) fn table(
     alloc: Global,
     first: Option<RawAdjust>,
     second: Option<RawAdjust>,
@@ -164,13 +164,25 @@ pub(crate) fn run<S: Shelf, K: AdjustKeeper, O: Sink, E: Sink, L: Ledger>(
 pub(crate) fn run_over(
     alloc: Global,
     words: &[String],
-    mut shelf: MemoryShelf,
-    mut keeper: MemoryKeeper,
+    shelf: MemoryShelf,
+    keeper: MemoryKeeper,
     failing: Vec<u64>,
+) -> Result<Left, Fail> {
+    run_in_room(alloc, words, shelf, keeper, failing, 1_000)
+}
+
+/// The run over these parts and an `out` with room for so many bytes, whose calls of these numbers fail.
+pub(crate) fn run_in_room<K: AdjustKeeper + Drop>(
+    alloc: Global,
+    words: &[String],
+    mut shelf: MemoryShelf,
+    mut keeper: K,
+    failing: Vec<u64>,
+    room: usize,
 ) -> Result<Left, Fail> {
     let mut out = MemorySink::new(alloc, failing, 0);
     let mut err = MemorySink::new(alloc, Vec::new(alloc), 3);
-    out.reserve(1_000)?;
+    out.reserve(room)?;
     err.reserve(1_000)?;
     let status = run::<_, _, _, _, Brand>(
         alloc,
