@@ -14,7 +14,7 @@ use pl_fixed::{MISSING, Steps, is_cell, write_day, write_decimal};
 use pl_model::{World, cell_now};
 use pl_planner::plan;
 use pl_syntax::parse;
-use pl_terms::{Checked, TermId};
+use pl_terms::Checked;
 use std::alloc::Global;
 use std::marker::Brand;
 use std::sync::ledger::{Blank, Ledger};
@@ -99,20 +99,6 @@ const SECTIONS: &str = "let price = close.latest;\nlet sector = label(\"sector\"
     column l1 = sector;\ncolumn l2 = label(\"grade\");\ncolumn l3 = label(\"nothing\");\ncolumn b1 = bins;\n\
     column b2 = volume.latest.quantiles(2);\n";
 
-/// The value of a term for an asset on a session from which no window of the pipeline reaches back too far.
-fn slow_cell<L: Ledger>(
-    alloc: Global,
-    world: &World,
-    checked: &Checked,
-    t: TermId,
-    col: usize,
-    session: usize,
-    steps: &mut Steps<L>,
-) -> Result<i64, Fail> {
-    plan(alloc, checked, world.sessions, session, session)?;
-    Ok(cell_now(alloc, world, checked, t, col, session, steps)?)
-}
-
 /// The field of a cell, by the first letter of its column's name.
 fn field(alloc: Global, name: &[u8], cell: i64) -> Result<String, Fail> {
     match name {
@@ -136,7 +122,8 @@ fn field(alloc: Global, name: &[u8], cell: i64) -> Result<String, Fail> {
     }
 }
 
-/// The row of an asset on a session; nothing where it has none.
+/// The row of an asset on a session from which no window of the pipeline reaches back too far; nothing where it
+/// has none.
 fn slow_row<L: Ledger>(
     alloc: Global,
     world: &World,
@@ -144,14 +131,21 @@ fn slow_row<L: Ledger>(
     col: usize,
     session: usize,
     steps: &mut Steps<L>,
-) -> Result<String, Fail> {
+) -> Result<String, Fail>
+    requires made { IsMade world.now }
+    requires col { col < length world.now.assets.now }
+    requires session { session < length world.now.sessions.now }
+{
     let mut text = String::new(alloc);
+    let _reach = plan(alloc, checked, world.sessions, session, session)?.reach();
+    let _terms = checked.graph().len();
     let day = world.sessions.day(session);
     if !world.assets.exists(col, day) {
         return Ok(text);
     }
     if let Some(screen) = checked.screen() {
-        if slow_cell(alloc, world, checked, screen, col, session, steps)? != 1 {
+        let shown = cell_now(alloc, world, checked, screen, col, session, steps)?;
+        if shown != 1 {
             return Ok(text);
         }
     }
@@ -162,7 +156,7 @@ fn slow_row<L: Ledger>(
     text.push_str(&format!(in alloc; ",{sid}")?)?;
     for i in 0..checked.columns() {
         let t = checked.column_term(i);
-        let cell = slow_cell(alloc, world, checked, t, col, session, steps)?;
+        let cell = cell_now(alloc, world, checked, t, col, session, steps)?;
         text.push_str(",")?;
         text.push_str(&field(alloc, checked.column_name(i), cell)?)?;
     }

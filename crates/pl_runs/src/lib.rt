@@ -2,7 +2,11 @@
 #![tactic(auto)]
 
 #[cfg(test)]
+mod cells_tests;
+#[cfg(test)]
 mod check_tests;
+#[cfg(test)]
+mod engine_tests;
 #[cfg(test)]
 mod plan_tests;
 #[cfg(test)]
