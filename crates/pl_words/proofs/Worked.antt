@@ -1,7 +1,8 @@
 -- Worked rows of what words ask for.
-use Rattle.std.proofs.Common.{◌≡◌, pos, refl, codes, List, [], ◌∷◌, ◌++◌, map, Option, Some, None}
+use Rattle.std.proofs.Common.{◌≡◌, pos, refl, ℕ, codes, List, [], ◌∷◌, ◌++◌, map, Option, Some, None}
 use Rattle.jiff_core.specs.Calendar.{days_from_civil, day_count, days_of_years, days_of_months}
 use Rattle.std.specs.Fmt.{digits as decimal_digits}
+use Rattle.pl_spec.specs.Decimals.{sid_in}
 use Rattle.pl_spec.specs.Dates.{digits, date_text, day_if, date_in}
 use Rattle.pl_words.specs.Parts.{Word}
 use Rattle.pl_words.specs.Request.{request, counted, Request, Run, Fmt, Check, Plan}
@@ -12,22 +13,22 @@ names = codes "p.pl" ∷ codes "sessions.csv" ∷ codes "assets.csv" ∷ codes "
 abbrev dates : List Word
 dates = codes "2024-01-03" ∷ codes "2024-01-04" ∷ []
 
-abbrev asks : Option Word → Option Word → Option Request
-asks labels adjustments = Some (Run (record {
+abbrev asks : Option Word → Option Word → ℕ → Option Request
+asks labels adjustments chunk = Some (Run (record {
   pipeline = codes "p.pl";
   sessions = codes "sessions.csv";
   assets = codes "assets.csv";
   bars = codes "bars.csv";
   from = record { text = codes "2024-01-03"; day = pos 19725 };
   to = record { text = codes "2024-01-04"; day = pos 19726 };
-  options = record { labels = labels; adjustments = adjustments };
+  options = record { labels = labels; adjustments = adjustments; chunk = chunk };
 }))
 
-no_options : request (codes "run" ∷ (names ++ dates)) ≡ asks None None
+no_options : request (codes "run" ∷ (names ++ dates)) ≡ asks None None 126
 unfolding request counted date_in day_if days_from_civil day_count days_of_years days_of_months decimal_digits digits date_text
 no_options = refl
 
-mixed : request (codes "run" ∷ codes "--labels=-l" ∷ (names ++ codes "--adjustments" ∷ codes "a.db" ∷ codes "--" ∷ dates)) ≡ asks (Some (codes "-l")) (Some (codes "a.db"))
+mixed : request (codes "run" ∷ codes "--labels=-l" ∷ (names ++ codes "--adjustments" ∷ codes "a.db" ∷ codes "--" ∷ dates)) ≡ asks (Some (codes "-l")) (Some (codes "a.db")) 126
 unfolding request counted date_in day_if days_from_civil day_count days_of_years days_of_months decimal_digits digits date_text
 mixed = refl
 
@@ -39,6 +40,10 @@ planned : request (codes "plan" ∷ codes "p.pl" ∷ codes "sessions.csv" ∷ da
 }))
 unfolding request counted date_in day_if days_from_civil day_count days_of_years days_of_months decimal_digits digits date_text
 planned = refl
+
+chunked : request (codes "run" ∷ (names ++ codes "--chunk=4096" ∷ dates)) ≡ asks None None 4096
+unfolding request counted date_in sid_in day_if days_from_civil day_count days_of_years days_of_months decimal_digits digits date_text
+chunked = refl
 
 named_as_options : map request ((codes "fmt" ∷ codes "--" ∷ codes "--" ∷ []) ∷ (codes "check" ∷ codes "--" ∷ codes "-p" ∷ []) ∷ []) ≡ Some (Fmt (codes "--")) ∷ Some (Check (codes "-p")) ∷ []
 unfolding request counted
@@ -67,8 +72,11 @@ refused_runs : map (λ (options : List Word). request (codes "run" ∷ (options 
     ∷ (codes "--labels=" ∷ [])
     ∷ (codes "--labels=-" ∷ [])
     ∷ (codes "--label" ∷ codes "a" ∷ [])
-    ∷ (codes "--chunk" ∷ codes "2" ∷ [])
+    ∷ (codes "--chunk" ∷ codes "0" ∷ [])
+    ∷ (codes "--chunk" ∷ codes "4097" ∷ [])
+    ∷ (codes "--chunk" ∷ codes "07" ∷ [])
+    ∷ (codes "--chunk=+7" ∷ [])
     ∷ (codes "--stats" ∷ []) ∷ [])
-    ≡ None ∷ None ∷ None ∷ None ∷ None ∷ None ∷ None ∷ None ∷ []
-unfolding request counted date_in day_if digits
+    ≡ None ∷ None ∷ None ∷ None ∷ None ∷ None ∷ None ∷ None ∷ None ∷ None ∷ None ∷ []
+unfolding request counted date_in sid_in day_if digits decimal_digits
 refused_runs = refl

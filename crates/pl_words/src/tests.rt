@@ -13,11 +13,12 @@ fn owned(rt: &HostRuntime, words: &[&str]) -> Result<Vec<String>, AllocError> {
 
 #[test]
 fn reads_runs(rt: HostRuntime) -> Result<(), Fail> {
-    let table: [(&[&str], Option<&str>, Option<&str>); 5] = [
+    let table: [(&[&str], Option<&str>, Option<&str>, u32); 5] = [
         (
             &["run", "p", "s", "a", "b", "2024-01-03", "2024-01-04"],
             None,
             None,
+            126,
         ),
         (
             &[
@@ -33,6 +34,7 @@ fn reads_runs(rt: HostRuntime) -> Result<(), Fail> {
             ],
             Some("l"),
             None,
+            126,
         ),
         (
             &[
@@ -49,6 +51,7 @@ fn reads_runs(rt: HostRuntime) -> Result<(), Fail> {
             ],
             Some("l"),
             Some("--"),
+            126,
         ),
         (
             &[
@@ -64,6 +67,7 @@ fn reads_runs(rt: HostRuntime) -> Result<(), Fail> {
             ],
             Some("-l="),
             None,
+            126,
         ),
         (
             &[
@@ -71,6 +75,7 @@ fn reads_runs(rt: HostRuntime) -> Result<(), Fail> {
                 "p",
                 "--adjustments",
                 "d",
+                "--chunk=4096",
                 "--",
                 "s",
                 "--",
@@ -80,17 +85,18 @@ fn reads_runs(rt: HostRuntime) -> Result<(), Fail> {
             ],
             None,
             Some("d"),
+            4096,
         ),
     ];
-    for (words, labels, adjustments) in table {
+    for (words, labels, adjustments, chunk) in table {
         let words = owned(&rt, words)?;
         match read_words(rt.alloc(), words.as_slice()) {
             Ok(Some(Request::Run(run))) => {
                 assert_eq!(rt; (run.pipeline, run.sessions, run.bars), ("p", "s", "b"));
                 assert_eq!(rt; (run.from.day, run.to.day), (19_725, 19_726));
                 assert_eq!(rt;
-                    (run.options.labels, run.options.adjustments),
-                    (labels, adjustments)
+                    (run.options.labels, run.options.adjustments, run.options.chunk),
+                    (labels, adjustments, chunk)
                 );
             }
             _ => return Err("no run")?,
