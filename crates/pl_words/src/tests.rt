@@ -95,7 +95,11 @@ fn reads_runs(rt: HostRuntime) -> Result<(), Fail> {
                 assert_eq!(rt; (run.pipeline, run.sessions, run.bars), ("p", "s", "b"));
                 assert_eq!(rt; (run.from.day, run.to.day), (19_725, 19_726));
                 assert_eq!(rt;
-                    (run.options.labels, run.options.adjustments, run.options.chunk),
+                    (
+                        run.options.labels,
+                        run.options.adjustments,
+                        run.options.chunk
+                    ),
                     (labels, adjustments, chunk)
                 );
             }
