@@ -7,7 +7,8 @@ use Rattle.std.proofs.lemmas.Bool.Decides.{nat_tests}
 use Rattle.pl_workspace.specs.Slots.{Slots, Slot, Free, Begun, Live, slot_at, with_slot, live_count, in_use}
 use Rattle.std.proofs.lemmas.List.{get_or_default}
 use Rattle.std.proofs.lemmas.List.Sums.{sum_by-le}
-use Rattle.pl_exec.specs.Slotted.{AreLive, AreApart, IsHeld, kept, left, reads_to, ends_at}
+use Rattle.pl_exec.specs.Slotted.{AreLive, AreApart, IsHeld, kept, left, ends_at}
+use Rattle.pl_planner.specs.Plans.{is_read_by}
 use Rattle.pl_exec.proofs.Counts.{one, count_more, count_below, count_changed}
 use Rattle.pl_exec.proofs.Trips.{now_used, there, elsewhere, long, stay_count, in_second}
 
@@ -128,18 +129,18 @@ le_next k l ne = elim (cases_lt k l) [
 ]
 
 -- read up to k, and not last by it: read up to the next
-reads_on : (o : Option ℕ) (k : ℕ) → ends_at o k ≡ false → reads_to o k ≡ reads_to o (k + 1)
+reads_on : (o : Option ℕ) (k : ℕ) → ends_at o k ≡ false → is_read_by o k ≡ is_read_by o (k + 1)
 reads_on None k e = refl
 reads_on (Some l) k e = le_next k l (λ p. true≢false (sym (self l k (sym p)) ∙ e))
   where
     self : (a b : ℕ) → a ≡ b → (a == b) ≡ true
     self a b e = grind (arith, nat_tests)
 
-ends_on : (o : Option ℕ) (k : ℕ) → ends_at o k ≡ true → reads_to o (k + 1) ≡ false
+ends_on : (o : Option ℕ) (k : ℕ) → ends_at o k ≡ true → is_read_by o (k + 1) ≡ false
 ends_on None k e = absurd (true≢false (sym e))
 ends_on (Some l) k e = let p = eqb-true l k e in let f : nat_le (k + 1) l ≡ false = grind (arith, nat_tests) in f
 
-ends_now : (o : Option ℕ) (k : ℕ) → ends_at o k ≡ true → reads_to o k ≡ true
+ends_now : (o : Option ℕ) (k : ℕ) → ends_at o k ≡ true → is_read_by o k ≡ true
 ends_now None k e = absurd (true≢false (sym e))
 ends_now (Some l) k e = let p = eqb-true l k e in let f : nat_le k l ≡ true = grind (arith, nat_tests) in f
 
@@ -187,7 +188,7 @@ module _ (used : ℕ → Bool) (last : ℕ → Option ℕ) (k : ℕ) where
       here : (u : Bool) → used j ≡ u → (l : Bool) → ends_at (last j) k ≡ l → j ≡ t → left used last k t j ≡ left used last k (t + 1) j
       here false e l f p = rw e refl
       here true e true f p = absurd (never (ap used (sym p) ∙ e) (ap (λ m. ends_at (last m) k) (sym p) ∙ f))
-      here true e false f p = rw (e, f) (no_matter (reads_to (last j) k) (nat_lt j t) (nat_lt j (t + 1)))
+      here true e false f p = rw (e, f) (no_matter (is_read_by (last j) k) (nat_lt j t) (nat_lt j (t + 1)))
 
   -- behind an unused term the same terms are kept, since no used term is read last by it
   pub kept_skipped : ((t : ℕ) → used t ≡ true → ends_at (last t) k ≡ true → ⊥) → (j : ℕ) → kept used last k j ≡ kept used last (k + 1) j
@@ -204,5 +205,5 @@ module _ (used : ℕ → Bool) (last : ℕ → Option ℕ) (k : ℕ) where
     where
       here : (u : Bool) → used j ≡ u → (l : Bool) → ends_at (last j) k ≡ l → left used last k (k + 1) j ≡ kept used last (k + 1) j
       here false e l f = rw e refl
-      here true e true f = rw (e, lt_below j (k + 1) h, f, ends_on (last j) k f) (and_false (reads_to (last j) k))
-      here true e false f = rw (e, lt_below j (k + 1) h, f) (and_true (reads_to (last j) k) ∙ reads_on (last j) k f)
+      here true e true f = rw (e, lt_below j (k + 1) h, f, ends_on (last j) k f) (and_false (is_read_by (last j) k))
+      here true e false f = rw (e, lt_below j (k + 1) h, f) (and_true (is_read_by (last j) k) ∙ reads_on (last j) k f)

@@ -1,7 +1,8 @@
 -- Which terms are live in a workspace, each in its slot.
-use Rattle.std.specs.Prelude.{◌≡◌, ℕ, ◌<◌, Bool, true, false, ◌&&◌, not, nat_le, nat_lt, ◌==◌, ℤ, List, length, count_by, Option, Some, None}
+use Rattle.std.specs.Prelude.{◌≡◌, ℕ, ◌<◌, Bool, true, false, ◌&&◌, not, nat_lt, ◌==◌, ℤ, List, length, count_by, Option, Some, None}
 use Rattle.std.specs.List.{range_with_len}
 use Rattle.pl_workspace.specs.Slots.{Slots, Free, Live, slot_at, live_count}
+use Rattle.pl_planner.specs.Plans.{is_read_by}
 
 -- the slot holds an array of which the fact is true
 pub record IsHeld (fact : List ℤ → Type 0) (w : Slots) (s : ℕ) : Type 0 where
@@ -21,17 +22,13 @@ AreApart slot live n = (i j : ℕ) → i < n → j < n → live i ≡ true → l
 
 -- ---- by the last user of each term; an output has none
 
-abbrev pub reads_to : Option ℕ → ℕ → Bool
-reads_to None k = true
-reads_to (Some last) k = nat_le k last
-
 abbrev pub ends_at : Option ℕ → ℕ → Bool
 ends_at None k = false
 ends_at (Some last) k = last == k
 
 -- a used term that is still to be read when term k is computed, or is an output
 abbrev pub kept : (ℕ → Bool) → (ℕ → Option ℕ) → ℕ → ℕ → Bool
-kept used last k t = used t && reads_to (last t) k
+kept used last k t = used t && is_read_by (last t) k
 
 -- of these the ones that are left when those below n whose last user is k are released
 abbrev pub left : (ℕ → Bool) → (ℕ → Option ℕ) → ℕ → ℕ → ℕ → Bool
