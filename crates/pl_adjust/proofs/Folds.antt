@@ -8,14 +8,10 @@ use Rattle.std.proofs.lemmas.List.Sums.{fold-append, sum_by-append}
 use Rattle.pl_spec.specs.declared.Column.{Column}
 use Rattle.pl_spec.specs.Window.{Effect, effect, effects_in, changed, after_all, step_of, step_count}
 use Rattle.pl_adjust.specs.declared.adjust.Adjust.{Adjust}
-use Rattle.pl_adjust.specs.Events.{event_of}
+use Rattle.pl_adjust.specs.Events.{effects_of, event_of}
 use Rattle.pl_adjust.proofs.Between.{is_between}
 
--- what the adjustments do to the cell of a column in the bar of a day
-abbrev pub acting : Column → ℤ → List Adjust → List Effect
-acting c bar xs = filter_map (effect c bar) (map event_of xs)
-
-pub effects-between : (c : Column) (bar low high : ℤ) (xs : List Adjust) → acting c bar (filter (is_between low high) xs) ≡ effects_in c bar low high (map event_of xs)
+pub effects-between : (c : Column) (bar low high : ℤ) (xs : List Adjust) → effects_of c bar (filter (is_between low high) xs) ≡ effects_in c bar low high (map event_of xs)
 effects-between c bar low high xs = ap (filter_map (effect c bar)) (events xs)
   where
     events : (xs : List Adjust) → map event_of (filter (is_between low high) xs) ≡ filter (λ e. int_lt low e.day && int_le e.day high) (map event_of xs)
@@ -29,44 +25,44 @@ effects-between c bar low high xs = ap (filter_map (effect c bar)) (events xs)
         here false rest = rest
 
 -- the first one's effect, if it has one, and those of the others
-acting-first : (c : Column) (bar : ℤ) (x : Adjust) (xs : List Adjust) → acting c bar (x ∷ xs) ≡ option_to_list (effect c bar (event_of x)) ++ acting c bar xs
-acting-first c bar x xs = here (effect c bar (event_of x)) refl
+effects-first : (c : Column) (bar : ℤ) (x : Adjust) (xs : List Adjust) → effects_of c bar (x ∷ xs) ≡ option_to_list (effect c bar (event_of x)) ++ effects_of c bar xs
+effects-first c bar x xs = here (effect c bar (event_of x)) refl
   where
-    here : (o : Option Effect) → effect c bar (event_of x) ≡ o → acting c bar (x ∷ xs) ≡ option_to_list o ++ acting c bar xs
+    here : (o : Option Effect) → effect c bar (event_of x) ≡ o → effects_of c bar (x ∷ xs) ≡ option_to_list o ++ effects_of c bar xs
     here None e = rw e refl
     here (Some f) e = rw e refl
 
-acting-more : (c : Column) (bar : ℤ) (xs : List Adjust) (i : ℕ) (a : Adjust) → i < length xs → a ≡ get_or xs i a
-    → option_to_list (effect c bar (event_of a)) ++ acting c bar (drop (i + 1) xs) ≡ acting c bar (drop i xs)
-acting-more c bar xs i a within item =
-    sym (acting-first c bar a (drop (i + 1) xs))
-    ∙ ap (λ z. acting c bar (z ∷ drop (i + 1) xs)) item
-    ∙ sym (at_drop_more (acting c bar) xs i a within)
+effects-more : (c : Column) (bar : ℤ) (xs : List Adjust) (i : ℕ) (a : Adjust) → i < length xs → a ≡ get_or xs i a
+    → option_to_list (effect c bar (event_of a)) ++ effects_of c bar (drop (i + 1) xs) ≡ effects_of c bar (drop i xs)
+effects-more c bar xs i a within item =
+    sym (effects-first c bar a (drop (i + 1) xs))
+    ∙ ap (λ z. effects_of c bar (z ∷ drop (i + 1) xs)) item
+    ∙ sym (at_drop_more (effects_of c bar) xs i a within)
 
 pub seen_more : (c : Column) (bar x : ℤ) (xs : List Adjust) (i : ℕ) (a : Adjust) → i < length xs → a ≡ get_or xs i a
-    → after_all (after_all x (option_to_list (effect c bar (event_of a)))) (acting c bar (drop (i + 1) xs)) ≡ after_all x (acting c bar (drop i xs))
+    → after_all (after_all x (option_to_list (effect c bar (event_of a)))) (effects_of c bar (drop (i + 1) xs)) ≡ after_all x (effects_of c bar (drop i xs))
 seen_more c bar x xs i a within item =
-    sym (fold-append changed x (option_to_list (effect c bar (event_of a))) (acting c bar (drop (i + 1) xs)))
-    ∙ ap (after_all x) (acting-more c bar xs i a within item)
+    sym (fold-append changed x (option_to_list (effect c bar (event_of a))) (effects_of c bar (drop (i + 1) xs)))
+    ∙ ap (after_all x) (effects-more c bar xs i a within item)
 
 pub count_more : (c : Column) (bar : ℤ) (xs : List Adjust) (i : ℕ) (a : Adjust) → i < length xs → a ≡ get_or xs i a
-    → step_count (option_to_list (effect c bar (event_of a))) + step_count (acting c bar (drop (i + 1) xs)) ≡ step_count (acting c bar (drop i xs))
+    → step_count (option_to_list (effect c bar (event_of a))) + step_count (effects_of c bar (drop (i + 1) xs)) ≡ step_count (effects_of c bar (drop i xs))
 count_more c bar xs i a within item =
-    sym (sum_by-append step_of (option_to_list (effect c bar (event_of a))) (acting c bar (drop (i + 1) xs)))
-    ∙ ap step_count (acting-more c bar xs i a within item)
+    sym (sum_by-append step_of (option_to_list (effect c bar (event_of a))) (effects_of c bar (drop (i + 1) xs)))
+    ∙ ap step_count (effects-more c bar xs i a within item)
 
 -- none is left
 pub seen_all : (c : Column) (bar low high x y : ℤ) (list xs : List Adjust) (i : ℕ) → length xs ≤ i → xs ≡ filter (is_between low high) list
-    → after_all y (acting c bar (drop i xs)) ≡ after_all x (acting c bar xs) → y ≡ after_all x (effects_in c bar low high (map event_of list))
+    → after_all y (effects_of c bar (drop i xs)) ≡ after_all x (effects_of c bar xs) → y ≡ after_all x (effects_in c bar low high (map event_of list))
 seen_all c bar low high x y list xs i past is done =
-    sym (at_drop_all (λ l. after_all y (acting c bar l)) xs i past)
+    sym (at_drop_all (λ l. after_all y (effects_of c bar l)) xs i past)
     ∙ done
-    ∙ ap (λ l. after_all x (acting c bar l)) is
+    ∙ ap (λ l. after_all x (effects_of c bar l)) is
     ∙ ap (after_all x) (effects-between c bar low high list)
 
 pub count_all : (c : Column) (bar low high : ℤ) (now old : ℕ) (list xs : List Adjust) (i : ℕ) → length xs ≤ i → xs ≡ filter (is_between low high) list
-    → now + step_count (acting c bar (drop i xs)) ≡ old + step_count (acting c bar xs) → now ≡ old + step_count (effects_in c bar low high (map event_of list))
+    → now + step_count (effects_of c bar (drop i xs)) ≡ old + step_count (effects_of c bar xs) → now ≡ old + step_count (effects_in c bar low high (map event_of list))
 count_all c bar low high now old list xs i past is done =
-    let none : step_count (acting c bar (drop i xs)) ≡ 0 = at_drop_all (λ l. step_count (acting c bar l)) xs i past in
-    let all : step_count (acting c bar xs) ≡ step_count (effects_in c bar low high (map event_of list)) = ap (λ l. step_count (acting c bar l)) is ∙ ap step_count (effects-between c bar low high list) in
+    let none : step_count (effects_of c bar (drop i xs)) ≡ 0 = at_drop_all (λ l. step_count (effects_of c bar l)) xs i past in
+    let all : step_count (effects_of c bar xs) ≡ step_count (effects_in c bar low high (map event_of list)) = ap (λ l. step_count (effects_of c bar l)) is ∙ ap step_count (effects-between c bar low high list) in
     omega (arith, none, all, done)

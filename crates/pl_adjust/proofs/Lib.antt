@@ -1,5 +1,6 @@
 pub mod Runs
 pub mod Between
+pub mod Starts
 pub mod Folds
 pub mod OneOrder
 pub mod Kept

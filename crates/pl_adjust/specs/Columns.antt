@@ -1,7 +1,7 @@
 -- Adjustments with their columns.
-use Rattle.std.specs.Prelude.{◌≡◌, ℕ, ◌==◌, ◌≤ℤ◌, List, [], ◌∷◌, map, filter, length, AllPairs}
+use Rattle.std.specs.Prelude.{◌≡◌, ℕ, ◌<◌, ◌≤◌, nat_lt, nat_le, true, false, ◌==◌, ◌≤ℤ◌, List, [], ◌∷◌, map, filter, get_or, length, AllPairs}
 use Rattle.std.specs.List.{position_or_len}
-use Rattle.std.specs.List.Sorted.{IsPermutation, IsSorted, IsStable}
+use Rattle.std.specs.List.Sorted.{IsPartitionPoint, IsPermutation, IsSorted, IsStable}
 use Rattle.std.specs.declared.cmp.Ordering.{Ordering}
 use Rattle.std.specs.Ordering.{nat_cmp, int_cmp, ordering_then}
 use Rattle.pl_spec.specs.declared.AssetRow.{AssetRow}
@@ -50,3 +50,15 @@ pub record IsByPlace (xs ys : List ColumnAdjustment) : Type 0 where
 pub record AreKept (cols : List ℕ) (adjusts : List Adjust) : Type 0 where
   pub as_many : length adjusts ≡ length cols
   pub sorted : IsSorted place_cmp (in_columns cols adjusts)
+
+-- the place of the first of the ascending columns that is not below col
+abbrev pub IsStart : List ℕ → ℕ → ℕ → Type 0
+IsStart cols col n = (n ≤ length cols) × IsPartitionPoint (λ x. nat_lt x col ≡ true) (λ x. nat_lt x col ≡ false) cols n
+
+-- the place of the first one above col
+abbrev pub IsEnd : List ℕ → ℕ → ℕ → Type 0
+IsEnd cols col n = (n ≤ length cols) × IsPartitionPoint (λ x. nat_le x col ≡ true) (λ x. nat_le x col ≡ false) cols n
+
+-- the starts of the columns 0, 1 and so on
+abbrev pub AreStarts : List ℕ → List ℕ → Type 0
+AreStarts cols starts = (k : ℕ) → k < length starts → IsStart cols k (get_or starts k 0)

@@ -1,7 +1,8 @@
 //! Adjustments: what splits, mergers and dividends make of earlier bars, and when.
 #![tactic(auto)]
 
-ghost use Rattle.std.specs.Prelude.{◌≡◌, ◌<◌, ◌≤ℤ◌, [], length, map, All, AllPairs, IfOk};
+ghost use Rattle.std.specs.Prelude.{◌≡◌, ◌<◌, ◌≤ℤ◌, ◌&&◌, [], length, map, filter, All, AllPairs, IfOk};
+ghost use Rattle.std.specs.Int.RustNames.{int_lt, int_le};
 ghost use Rattle.pl_records.specs.Reading.{Answers};
 ghost use Rattle.pl_adjust.specs.Events.{event_of};
 ghost use Rattle.pl_adjust.specs.Columns.{StandByDay, events_at};
@@ -34,19 +35,21 @@ pub const MOST_ROWS: usize = 1_000_000;
 #[derive(Debug, Drop)]
 pub struct Adjustments {
     cols: Vec<usize>,
+    // Where the adjustments of the first columns begin, so that they need no search.
+    starts: Vec<usize>,
     adjusts: Vec<Adjust>,
 }
 
 impl Model for Adjustments {
     ghost use Rattle.std.specs.Prelude.{List};
     ghost use Rattle.pl_spec.specs.Parts.{ColumnAdjustment};
-    ghost use Rattle.pl_adjust.specs.Columns.{AreKept, in_columns};
+    ghost use Rattle.pl_adjust.specs.Columns.{AreKept, AreStarts, in_columns};
 
     ghost Value = { List ColumnAdjustment };
 
     ghost view = { λ a. in_columns a.cols.items a.adjusts.items };
 
-    ghost invariant = { λ a. AreKept a.cols.items a.adjusts.items };
+    ghost invariant = { λ a. AreKept a.cols.items a.adjusts.items × AreStarts a.cols.items a.starts.items };
 }
 
 impl Adjustments {
@@ -56,6 +59,7 @@ impl Adjustments {
     {
         Adjustments {
             cols: Vec::new(alloc),
+            starts: Vec::new(alloc),
             adjusts: Vec::new(alloc),
         }
     }
@@ -81,7 +85,12 @@ impl Adjustments {
         let sorted = columns::by_place(rows)?;
         let cols = columns::cols_of(alloc, &sorted)?;
         let adjusts = columns::adjusts_of(alloc, &sorted)?;
-        Ok(Adjustments { cols, adjusts })
+        let starts = columns::starts_of(alloc, &cols, assets.len())?;
+        Ok(Adjustments {
+            cols,
+            starts,
+            adjusts,
+        })
     }
 
     /// How many adjustments there are. Those of an asset stand by day.
@@ -98,6 +107,14 @@ impl Adjustments {
         ensures events { map event_of result.now ≡ events_at self.now col }
         ensures in_order { AllPairs (λ a b. a.day ≤ℤ b.day) result.now }
     {
-        columns::of_col(&self.cols, &self.adjusts, col)
+        columns::of_col(&self.cols, &self.starts, &self.adjusts, col)
+    }
+
+    /// Those of them whose days are later than `after` and at most `to`, in that order.
+    pub fn events_between(&self, col: usize, after: i32, to: i32) -> &[Adjust]
+        ensures { map event_of result.now
+            ≡ filter (λ e. int_lt after e.day && int_le e.day to) (events_at self.now col) }
+    {
+        seen::between(self.of_col(col), after, to)
     }
 }

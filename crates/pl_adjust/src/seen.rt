@@ -1,7 +1,7 @@
 //! A cell as it is seen from a later day.
 
 ghost use Rattle.std.specs.Prelude.{◌≡◌, ◌+◌, ◌≤ℤ◌, ◌&&◌, ℤ, option_to_list};
-ghost use Rattle.std.specs.Prelude.{AllPairs, filter, map};
+ghost use Rattle.std.specs.Prelude.{AllPairs, filter, length, map, take_while};
 ghost use Rattle.std.specs.Int.RustNames.{int_lt, int_le};
 ghost use Rattle.pl_spec.specs.Rounding.{IsCell};
 ghost use Rattle.pl_spec.specs.Window.{after_all, effect, effects_in, step_count};
@@ -53,11 +53,18 @@ fn adjusted<L: Ledger>(cell: i64, adjust: &Adjust, column: Column, steps: &mut S
 }
 
 // The adjustments later than one day and at most as late as another.
-fn between(list: &[Adjust], low: i32, high: i32) -> &[Adjust]
+pub(crate) fn between(list: &[Adjust], low: i32, high: i32) -> &[Adjust]
     requires { AllPairs (λ a b. a.day ≤ℤ b.day) list.now }
     ensures { result.now ≡ filter (λ a. int_lt low a.day && int_le a.day high) list.now }
 {
     let from = list.partition_point(|adjust| adjust.day <= low);
-    let to = list.partition_point(|adjust| adjust.day <= high);
-    if from < to { &list[from..to] } else { &[] }
+    let later = &list[from..];
+    &later[..count_by(later, high)]
+}
+
+// How many adjustments at the front act by the day. They are few, so they are not searched.
+fn count_by(list: &[Adjust], day: i32) -> usize
+    ensures { result ≡ length (take_while (λ a. int_le a.day day) list.now) }
+{
+    list.iter().take_while(|adjust| adjust.day <= day).count()
 }

@@ -255,3 +255,22 @@ fn names_the_first_fault(rt: HostRuntime) -> Result<(), Fail> {
     }
     Ok(())
 }
+
+#[test]
+fn lends_between_days(rt: HostRuntime) -> Result<(), Fail> {
+    let assets = assets(rt.alloc())?;
+    let splits = [row(1, FOURTH, 1, 2, 1)];
+    let list = Adjustments::from_rows(rt.alloc(), &assets, &splits, &[], &[])?;
+    let table: &[(usize, i32, i32, usize)] = &[
+        (0, 19725, 19726, 1),
+        (0, 19724, 19726, 1),
+        (0, 19726, 84005, 0),
+        (0, 19724, 19725, 0),
+        (1, 19725, 19726, 0),
+        (2, 19725, 19726, 0),
+    ];
+    for (col, after, to, want) in table.iter() {
+        assert_eq!(rt; list.events_between(*col, *after, *to).len(), *want);
+    }
+    Ok(())
+}

@@ -1,6 +1,7 @@
 use Rattle.std.proofs.Common.{◌∙◌, ap, sym, Ok}
 use Rattle.std.proofs.lemmas.Result.{err_from_is_err_and}
 use Rattle.pl_adjust.specs.Faults.{fault_of}
+use Rattle.pl_adjust.proofs.Kept.{cols_rise}
 use Rattle.pl_adjust.proofs.Made.{by_day_each, cols_known, kept_from, made, refused, view_is}
 use Rattle.pl_adjust.proofs.Adjustments.from_rows.Goals as goal
 
@@ -12,8 +13,16 @@ returns-in_err-rows-clause-exact c =
 pub invariant_of-result : goal.invariant_of-result
 invariant_of-result c =
     let cols = rw c.deref.ensures.value at c.in_ok-cols.ensures in
+    let adjusts = rw c.deref-2.ensures.value at c.in_ok-adjusts.ensures in (
+      kept_from _ c.in_ok-sorted.sorted.items c.in_ok-cols.cols.items c.in_ok-adjusts.adjusts.items c.in_ok-sorted.ensures cols adjusts,
+      rw c.deref-3.ensures.value at c.in_ok-starts.ensures,
+    )
+
+pub starts_of-requires : goal.starts_of-requires
+starts_of-requires c =
+    let cols = rw c.deref.ensures.value at c.in_ok-cols.ensures in
     let adjusts = rw c.deref-2.ensures.value at c.in_ok-adjusts.ensures in
-    kept_from _ c.in_ok-sorted.sorted.items c.in_ok-cols.cols.items c.in_ok-adjusts.adjusts.items c.in_ok-sorted.ensures cols adjusts
+    rw c.deref-3.ensures.value (cols_rise _ _ (kept_from _ c.in_ok-sorted.sorted.items c.in_ok-cols.cols.items c.in_ok-adjusts.adjusts.items c.in_ok-sorted.ensures cols adjusts))
 
 pub returns-clause-exact : goal.returns-clause-exact
 returns-clause-exact c =

@@ -1,7 +1,8 @@
 use Rattle.std.proofs.Common.{◌+◌, ◌∙◌, to_z, of_z, rules, arith, ap, drop, w32, w64, FitsSigned}
 use Rattle.std.proofs.lemmas.Int.{to_z-of_z}
 use Rattle.pl_spec.specs.Window.{after_all}
-use Rattle.pl_adjust.proofs.Folds.{acting, seen_more, seen_all, count_more, count_all}
+use Rattle.pl_adjust.specs.Events.{effects_of}
+use Rattle.pl_adjust.proofs.Folds.{seen_more, seen_all, count_more, count_all}
 use Rattle.pl_adjust.proofs.seen.seen_now.Goals as goal
 
 pub loop-adjust-preserved : goal.loop-adjust-preserved
@@ -16,7 +17,7 @@ loop-adjust-preserved g c =
     let cast = to_z w32 (of_z w32 c.args.bar_day) in
     let result : FitsSigned w64 c.adjusted-seen.result = search rules in
     let before = simp to_z-of_z at c.loop-adjust.invariant.seen in
-    let step = ap (λ v. after_all v (acting column bar (drop (i + 1) list))) (c.adjusted-seen.ensures.value bar) in
+    let step = ap (λ v. after_all v (effects_of column bar (drop (i + 1) list))) (c.adjusted-seen.ensures.value bar) in
     let cost = c.adjusted-seen.ensures.cost cast in
     let more = count_more column cast list i adjust c.loop-adjust-test.true c.adjust-item.is in
     record {

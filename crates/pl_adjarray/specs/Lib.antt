@@ -1,0 +1,5 @@
+-- What the contracts of this crate cite beside the definitions of pl_spec.
+pub mod Buffered
+pub mod Inside
+pub mod Traversals
+pub mod Worlds

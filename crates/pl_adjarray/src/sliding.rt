@@ -1,0 +1,165 @@
+ghost use Rattle.std.specs.Prelude.{◌≡◌, ℕ, ◌+◌, ◌*◌, ◌<◌, ◌≤◌, ℤ, length, option_to_list, sum_by};
+ghost use Rattle.pl_spec.specs.Rounding.{IsCell, scaled};
+ghost use Rattle.pl_spec.specs.Window.{after_all, effect, effects_in, step_count};
+ghost use Rattle.pl_spec.specs.World.{events_of};
+ghost use Rattle.pl_adjust.specs.Events.{effects_of, event_of};
+ghost use Rattle.pl_adjarray.specs.Buffered.{HasCells, applied_at, cell_at, col_at, cut, ratio_count, world_of};
+ghost use Rattle.pl_adjarray.specs.Traversals.{IsSeen};
+
+use crate::array::AdjustedArray;
+use pl_adjust::{Adjust, factor_for};
+use pl_fixed::{Column, Ratio, Steps};
+use std::sync::ledger::Ledger;
+
+// Brings a buffer from one session to a later one.
+pub(crate) fn follow<L: Ledger>(
+    array: &AdjustedArray<'_>,
+    scratch: &mut [i64],
+    from: usize,
+    to: usize,
+    steps: &mut Steps<L>,
+    applied: &mut u64,
+)
+    requires order { from ≤ to }
+    requires most { to ≤ array.now.first + array.now.rows }
+    requires seen { IsSeen array.now scratch.old from applied.old }
+    ensures seen { IsSeen array.now scratch.new to applied.new }
+    ensures cost { steps.new + applied_at array.now from ≡ steps.old + applied_at array.now to }
+{
+    for session in from..to {
+        step(array, scratch, session, steps, applied);
+    }
+}
+
+// Brings a buffer from a session to the next one.
+fn step<L: Ledger>(
+    array: &AdjustedArray<'_>,
+    scratch: &mut [i64],
+    session: usize,
+    steps: &mut Steps<L>,
+    applied: &mut u64,
+)
+    requires more { session < array.now.first + array.now.rows }
+    requires seen { IsSeen array.now scratch.old session applied.old }
+    ensures seen { IsSeen array.now scratch.new (session + 1) applied.new }
+    ensures cost { steps.new + applied_at array.now session
+        ≡ steps.old + applied_at array.now (session + 1) }
+{
+    let today = array.sessions.day(session);
+    let next_day = array.sessions.day(session + 1);
+    let older = session - array.first + 1;
+    slide_all(array, scratch, older, today, next_day, steps, applied);
+}
+
+// Brings the first `older` rows of each asset from one day to a later one. Ratios act on the bars of all
+// days alike.
+fn slide_all<L: Ledger>(
+    array: &AdjustedArray<'_>,
+    scratch: &mut [i64],
+    older: usize,
+    from: i32,
+    to: i32,
+    steps: &mut Steps<L>,
+    applied: &mut u64,
+)
+    requires room { length scratch.old ≡ array.now.rows * length array.now.cols }
+    requires older { older ≤ array.now.rows }
+    requires cells { HasCells array.now scratch.old }
+    ensures moved { (bar : ℤ) (i j : ℕ) → i < length array.now.cols → j < older
+        → cell_at scratch.new (i * array.now.rows + j)
+        ≡ after_all (cell_at scratch.old (i * array.now.rows + j))
+        (effects_in array.now.column bar from to
+        (events_of (world_of array.now) (col_at array.now i))) }
+    ensures kept { (i j : ℕ) → i < length array.now.cols → older ≤ j → j < array.now.rows
+        → cell_at scratch.new (i * array.now.rows + j)
+        ≡ cell_at scratch.old (i * array.now.rows + j) }
+    ensures cells { HasCells array.now scratch.new }
+    ensures cost { (bar : ℤ) → steps.new
+        ≡ steps.old + older * sum_by (ratio_count array.now bar from to) array.now.cols }
+    ensures tally { (bar : ℤ) → cut applied.new
+        ≡ cut (applied.old + older * sum_by (ratio_count array.now bar from to) array.now.cols) }
+{
+    let column = array.column;
+    for i in 0..array.cols.len() {
+        let events = array
+            .adjustments
+            .events_between(array.cols[i] as usize, from, to);
+        let at = i * array.rows;
+        slide(scratch, at, older, events, column, steps, applied);
+    }
+}
+
+// Changes the cells from a place on by each event that acts on the column, one after the other.
+fn slide<L: Ledger>(
+    cells: &mut [i64],
+    at: usize,
+    count: usize,
+    events: &[Adjust],
+    column: Column,
+    steps: &mut Steps<L>,
+    applied: &mut u64,
+)
+    requires room { at + count ≤ length cells.old }
+    requires cells { (j : ℕ) → j < count → IsCell (cell_at cells.old (at + j)) }
+    ensures moved { (bar : ℤ) (j : ℕ) → j < count → cell_at cells.new (at + j)
+        ≡ after_all (cell_at cells.old (at + j)) (effects_of column bar events.now) }
+    ensures before { (k : ℕ) → k < at → cell_at cells.new k ≡ cell_at cells.old k }
+    ensures behind { (k : ℕ) → at + count ≤ k → cell_at cells.new k ≡ cell_at cells.old k }
+    ensures cells { (j : ℕ) → j < count → IsCell (cell_at cells.new (at + j)) }
+    ensures cost { (bar : ℤ) → steps.new
+        ≡ steps.old + count * step_count (effects_of column bar events.now) }
+    ensures tally { (bar : ℤ) → cut applied.new
+        ≡ cut (applied.old + count * step_count (effects_of column bar events.now)) }
+{
+    for event in events {
+        change(cells, at, count, event, column, steps, applied);
+    }
+}
+
+// Changes the cells from a place on by an event, which may leave the column as it is.
+fn change<L: Ledger>(
+    cells: &mut [i64],
+    at: usize,
+    count: usize,
+    event: &Adjust,
+    column: Column,
+    steps: &mut Steps<L>,
+    applied: &mut u64,
+)
+    requires room { at + count ≤ length cells.old }
+    requires cells { (j : ℕ) → j < count → IsCell (cell_at cells.old (at + j)) }
+    ensures moved { (bar : ℤ) (j : ℕ) → j < count → cell_at cells.new (at + j)
+        ≡ after_all (cell_at cells.old (at + j))
+        (option_to_list (effect column bar (event_of event.now))) }
+    ensures before { (k : ℕ) → k < at → cell_at cells.new k ≡ cell_at cells.old k }
+    ensures behind { (k : ℕ) → at + count ≤ k → cell_at cells.new k ≡ cell_at cells.old k }
+    ensures cells { (j : ℕ) → j < count → IsCell (cell_at cells.new (at + j)) }
+    ensures cost { (bar : ℤ) → steps.new ≡ steps.old
+        + count * step_count (option_to_list (effect column bar (event_of event.now))) }
+    ensures tally { (bar : ℤ) → cut applied.new ≡ cut (applied.old
+        + count * step_count (option_to_list (effect column bar (event_of event.now)))) }
+{
+    match factor_for(event, column) {
+        Some(factor) => {
+            scale(cells, at, count, factor, steps);
+            *applied = applied.saturating_add(count as u64);
+        }
+        None => {}
+    }
+}
+
+// Multiplies the cells from a place on by a ratio. Each is one step.
+fn scale<L: Ledger>(cells: &mut [i64], at: usize, count: usize, factor: Ratio, steps: &mut Steps<L>)
+    requires room { at + count ≤ length cells.old }
+    requires cells { (j : ℕ) → j < count → IsCell (cell_at cells.old (at + j)) }
+    ensures scaled { (j : ℕ) → j < count
+        → cell_at cells.new (at + j) ≡ scaled factor (cell_at cells.old (at + j)) }
+    ensures before { (k : ℕ) → k < at → cell_at cells.new k ≡ cell_at cells.old k }
+    ensures behind { (k : ℕ) → at + count ≤ k → cell_at cells.new k ≡ cell_at cells.old k }
+    ensures cells { (j : ℕ) → j < count → IsCell (cell_at cells.new (at + j)) }
+    ensures cost { steps.new ≡ steps.old + count }
+{
+    for i in 0..count {
+        cells[at + i] = factor.apply(cells[at + i], steps);
+    }
+}

@@ -1,0 +1,10 @@
+pub mod Asking
+pub mod Counting
+pub mod Covers
+pub mod Gathers
+pub mod Live
+pub mod Lows
+pub mod Marks
+pub mod Passes
+pub mod Pipelines
+pub mod Slotted

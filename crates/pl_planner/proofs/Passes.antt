@@ -1,0 +1,79 @@
+-- The pass from the last term to the first over the pipelines of the language.
+use Rattle.std.proofs.Common.{◌≡◌, ℕ, zero, suc, ◌*◌, ◌-◌, ◌<◌, ◌≤◌, Bool, true, false, List, [], ◌∷◌, length, Some, refl, sym, ap, subst, arith, inl, inr, slice_get, ◌==◌, replicate}
+use Rattle.std.specs.List.{list_any}
+use Rattle.std.proofs.lemmas.Bool.{true≢false, or_cases, eqb-true}
+use Rattle.std.proofs.lemmas.Option.{slice_get_within}
+use Rattle.pl_spec.specs.Term.{Node, Graph, MentionsBelow}
+use Rattle.pl_spec.specs.Graph.{contains}
+use Rattle.pl_planner.specs.declared.uses.Use.{Use}
+use Rattle.pl_planner.specs.Extra.{asks, asks_of, asks_at}
+use Rattle.pl_planner.specs.Columns.{is_bar, bars_back}
+use Rattle.pl_planner.specs.Uses.{unused, use_at, all_asked, all_marked, AreUses}
+use Rattle.pl_planner.proofs.Pipelines.{IsPipeline}
+use Rattle.pl_planner.proofs.Gathers.{AreGathered, begun, step, unasked, gathered, needed_few}
+
+module _ (g : Graph) (outs : List ℕ) (ok : IsPipeline g outs) where
+  outputs_in : (i o : ℕ) → slice_get outs i ≡ Some o → o < length g
+  outputs_in = ok.outputs_in
+
+  outputs_below : (t : ℕ) → contains outs t ≡ true → t < length g
+  outputs_below t h = here outs outputs_in h
+    where
+      here : (os : List ℕ) → ((i o : ℕ) → slice_get os i ≡ Some o → o < length g) → contains os t ≡ true → t < length g
+      here [] in_graph h = absurd (true≢false (sym h))
+      here (o ∷ os) in_graph h = elim (or_cases (o == t) (contains os t) h) [
+        | inl p ↦ (let is : o ≡ t = eqb-true o t p in let l = in_graph 0 o refl in omega arith)
+        | inr p ↦ here os (λ i x e. in_graph (suc i) x e) p
+      ]
+
+  pub pass_begun : (us : List Use) (n : ℕ) → n ≡ length g → us ≡ all_marked (replicate (length g) unused) n outs → AreGathered g outs n us
+  pass_begun us n e f = rw (f, e) (begun g outs outputs_in)
+
+  pub pass_node : (k : ℕ) (n : Node) → slice_get g k ≡ Some n → (1 ≤ n.window) × (n.window ≤ 1260)
+  pass_node k n e = ok.windows k n e
+
+  pub pass_room : length g ≤ 256 → (us : List Use) (j k : ℕ) → AreGathered g outs j us → (use_at us k).used ≡ true → (use_at us k).extra ≤ 1260 * 256
+  pass_room few us j k h u = let n = needed_few g outs ok.graph outputs_below (λ j n e. (ok.windows j n e).1) k (use_at us k).extra (h.sound k u).0 in omega arith
+
+  pub pass_step : (us vs : List Use) (k : ℕ) (n : Node) → AreGathered g outs k us → 0 < k → slice_get g (k - 1) ≡ Some n → (use_at us (k - 1)).used ≡ true
+      → vs ≡ all_asked us (k - 1) (use_at us (k - 1)).extra (asks n) → AreGathered g outs (k - 1) vs
+  pass_step us vs zero n h l e u f = absurd (omega arith)
+  pass_step us vs (suc k) n h l e u f =
+      let less : suc k - 1 ≡ k = omega arith in
+      let at = rw less at e in
+      let used = rw less at u in
+      let is = rw less at f in
+      let list : asks_at g k ≡ asks n = ap asks_of at in
+      rw (less, is) (subst (λ l. AreGathered g outs k (all_asked us k (use_at us k).extra l)) list (step g outs ok.graph us k h used (slice_get_within g k n at)))
+
+  pub pass_skipped : (us : List Use) (k : ℕ) → AreGathered g outs k us → 0 < k → (use_at us (k - 1)).used ≡ false → AreGathered g outs (k - 1) us
+  pass_skipped us zero h l u = absurd (omega arith)
+  pass_skipped us (suc k) h l u =
+      let less : suc k - 1 ≡ k = omega arith in
+      rw less (unasked g outs ok.graph us k h (rw less at u))
+
+  pub pass_ended : (us : List Use) → AreGathered g outs 0 us → AreUses g outs us
+  pass_ended us h = gathered g outs ok.graph us h
+
+  pub pass_lower : (us : List Use) (j k : ℕ) (n : Node) → AreGathered g outs j us → slice_get g k ≡ Some n → MentionsBelow n (length us)
+  pass_lower us j k n h e =
+      let low : MentionsBelow n k = ok.graph.lower k n e in
+      let here : k < length g = slice_get_within g k n e in
+      let size = h.size in
+      record {
+        inputs = λ i t f. let l : t < k = low.inputs i t f in omega arith;
+        mask = λ t f. let l : t < k = low.mask t f in omega arith;
+        group = λ t f. let l : t < k = low.group t f in omega arith;
+      }
+
+  pub extra-few : length g ≤ 256 → (us : List Use) → AreUses g outs us → (t : ℕ) → (use_at us t).used ≡ true → (use_at us t).extra ≤ 1260 * 256
+  extra-few few us are t u =
+      let n = needed_few g outs ok.graph outputs_below (λ j n e. (ok.windows j n e).1) t (use_at us t).extra (are.extra t ((are.used t).0 u)).back in
+      omega arith
+
+  pub bars-few : (t : ℕ) (n : Node) → slice_get g t ≡ Some n → bars_back n ≤ 1260
+  bars-few t n e = here (list_any is_bar n.inputs) refl
+    where
+      here : (b : Bool) → list_any is_bar n.inputs ≡ b → bars_back n ≤ 1260
+      here true f = let w = (ok.windows t n e).1 in rw f w
+      here false f = rw f (omega arith)

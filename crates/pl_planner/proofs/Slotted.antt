@@ -1,0 +1,282 @@
+-- Slots that are taken, and the lowest free one.
+use Rattle.std.proofs.Common.{◌≡◌, ◌≢◌, ℕ, zero, suc, ◌+◌, ◌<◌, ◌≤◌, ◌⊎◌, Bool, true, false, ◌||◌, List, [], ◌∷◌, ◌++◌, length, get_or, set, replicate, sum_by, fold, refl, sym, ◌∙◌, ap, subst, arith, inl, inr, get_or-set_same, get_or-set_other, length-set}
+use Rattle.std.specs.List.{range_with_len, count_by}
+use Rattle.std.proofs.lemmas.Bool.{cases_lt, cases_eq, true≢false, or_cases}
+use Rattle.std.proofs.lemmas.List.Sums.{sum_by-set}
+use Rattle.pl_planner.specs.declared.uses.Use.{Use}
+use Rattle.pl_planner.specs.declared.slots.TermSlots.{TermSlots}
+use Rattle.pl_planner.specs.Uses.{is_kept}
+use Rattle.pl_planner.specs.Slotting.{no_slots, slots_at, own_slot, kept_below, one, IsHad, IsLowest, IsSlotted, AreSlotted, Tells, IsTaken}
+use Rattle.pl_planner.proofs.Counting.{count_more}
+
+none_in : (n : ℕ) → sum_by one (replicate n false) ≡ 0
+none_in zero = refl
+none_in (suc n) = none_in n
+
+long_replicate : (n : ℕ) → length (replicate n false) ≡ n
+long_replicate zero = refl
+long_replicate (suc n) = ap suc (long_replicate n)
+
+all_free : (n i : ℕ) → get_or (replicate n false) i false ≡ false
+all_free zero i = refl
+all_free (suc n) zero = refl
+all_free (suc n) (suc i) = all_free n i
+
+pub none_taken : (uses : List Use) (slots : List TermSlots) (k : ℕ) (taken : List Bool) → taken ≡ replicate 260 false → IsTaken uses slots k 0 taken
+none_taken uses slots k taken e = record {
+  size = ap length e ∙ long_replicate 260;
+  tells = record {
+    yes = λ s h. (let l = h.below in absurd (omega arith));
+    no = λ s h. absurd (true≢false (sym h ∙ ap (λ l. get_or l s false) e ∙ all_free 260 s));
+  };
+  few = (let z : sum_by one taken ≡ 0 = ap (sum_by one) e ∙ none_in 260 in omega arith);
+}
+
+one_or : (a b : Bool) → one (a || b) ≤ one a + one b
+one_or true b = omega arith
+one_or false true = omega arith
+one_or false false = omega arith
+
+or_true : (a b : Bool) → a ≡ true → (a || b) ≡ true
+or_true a b e = rw e refl
+
+true_or : (a b : Bool) → b ≡ true → (a || b) ≡ true
+true_or true b e = refl
+true_or false b e = e
+
+module _ (uses : List Use) (slots : List TermSlots) (k t : ℕ) (taken : List Bool) (so_far : IsTaken uses slots k t taken) (low : own_slot slots t ≤ 256) where
+  abbrev told : Bool
+  told = get_or taken (own_slot slots t) false || is_kept uses k t
+
+  here : own_slot slots t < length taken
+  here = let s = so_far.size in omega arith
+
+  yes : (s : ℕ) → IsHad uses slots k (t + 1) s → get_or (set taken (own_slot slots t) told) s false ≡ true
+  yes s h = elim (cases_eq s (own_slot slots t)) [
+    | inl e ↦ ap (λ r. get_or (set taken (own_slot slots t) told) r false) e ∙ get_or-set_same taken (own_slot slots t) told false here ∙ both e
+    | inr ne ↦ get_or-set_other taken (own_slot slots t) s told false ne ∙ so_far.tells.yes s (earlier ne)
+  ]
+    where
+      below : h.term < t + 1
+      below = h.below
+
+      both : s ≡ own_slot slots t → told ≡ true
+      both e = elim (cases_lt h.term t) [
+        | inl p ↦ or_true _ _ (so_far.tells.yes (own_slot slots t) (record { term = h.term; below = p; kept = h.kept; has = h.has ∙ e }))
+        | inr p ↦ (let i : h.term ≡ t = omega arith in true_or _ _ (ap (is_kept uses k) (sym i) ∙ h.kept))
+      ]
+
+      earlier : s ≢ own_slot slots t → IsHad uses slots k t s
+      earlier ne = elim (cases_lt h.term t) [
+        | inl p ↦ record { term = h.term; below = p; kept = h.kept; has = h.has }
+        | inr p ↦ absurd (let i : h.term ≡ t = omega arith in ne (sym (ap (own_slot slots) (sym i) ∙ h.has)))
+      ]
+
+  no : (s : ℕ) → get_or (set taken (own_slot slots t) told) s false ≡ true → IsHad uses slots k (t + 1) s
+  no s h = elim (cases_eq s (own_slot slots t)) [
+    | inl e ↦ elim (or_cases (get_or taken (own_slot slots t) false) (is_kept uses k t) (sym (get_or-set_same taken (own_slot slots t) told false here) ∙ ap (λ r. get_or (set taken (own_slot slots t) told) r false) (sym e) ∙ h)) [
+      | inl p ↦ wider (so_far.tells.no s (ap (λ r. get_or taken r false) e ∙ p))
+      | inr p ↦ record { term = t; below = omega arith; kept = p; has = sym e }
+    ]
+    | inr ne ↦ wider (so_far.tells.no s (sym (get_or-set_other taken (own_slot slots t) s told false ne) ∙ h))
+  ]
+    where
+      wider : IsHad uses slots k t s → IsHad uses slots k (t + 1) s
+      wider i = record { term = i.term; below = (let l = i.below in omega arith); kept = i.kept; has = i.has }
+
+  pub more_taken : IsTaken uses slots k (t + 1) (set taken (own_slot slots t) (get_or taken (own_slot slots t) false || is_kept uses k t))
+  more_taken = record {
+    size = length-set taken (own_slot slots t) _ ∙ so_far.size;
+    tells = record { yes = yes; no = no };
+    few = (let s : sum_by one (set taken (own_slot slots t) told) + one (get_or taken (own_slot slots t) false) ≡ sum_by one taken + one told = sum_by-set one taken (own_slot slots t) told false here in
+        let c : count_by (is_kept uses k) (range_with_len 0 (t + 1)) ≡ count_by (is_kept uses k) (range_with_len 0 t) + one (is_kept uses k t) = count_more (is_kept uses k) t in
+        let f = so_far.few in
+        let o : one told ≤ one (get_or taken (own_slot slots t) false) + one (is_kept uses k t) = one_or (get_or taken (own_slot slots t) false) (is_kept uses k t) in
+        omega arith);
+  }
+
+sum_from : (xs : List Bool) (n : ℕ) → fold (λ a x. a + one x) n xs ≡ n + fold (λ a x. a + one x) 0 xs
+sum_from [] n = omega arith
+sum_from (x ∷ xs) n =
+    let a : fold (λ a x. a + one x) (n + one x) xs ≡ n + one x + fold (λ a x. a + one x) 0 xs = sum_from xs (n + one x) in
+    let b : fold (λ a x. a + one x) (0 + one x) xs ≡ 0 + one x + fold (λ a x. a + one x) 0 xs = sum_from xs (0 + one x) in
+    a ∙ (let r : n + one x + fold (λ a x. a + one x) 0 xs ≡ n + fold (λ a x. a + one x) (0 + one x) xs = omega arith in r)
+
+-- with all below it taken, a slot is no greater than the number of those that are taken
+pub front_taken : (taken : List Bool) (s : ℕ) → ((i : ℕ) → i < s → get_or taken i false ≡ true) → s ≤ sum_by one taken
+front_taken taken zero h = omega arith
+front_taken [] (suc s) h = absurd (true≢false (sym (h 0 (omega arith))))
+front_taken (x ∷ xs) (suc s) h =
+    let ih = front_taken xs s (λ i l. h (suc i) (omega arith)) in
+    let o : one x ≡ 1 = ap one (h 0 (omega arith)) in
+    let c : sum_by one (x ∷ xs) ≡ 0 + one x + sum_by one xs = sum_from xs (0 + one x) in
+    omega arith
+
+-- a free slot is taken
+pub one_taken : (taken : List Bool) (s : ℕ) → s < length taken → get_or taken s false ≡ false → sum_by one (set taken s true) ≡ sum_by one taken + 1
+one_taken taken s h free =
+    let c : sum_by one (set taken s true) + one (get_or taken s false) ≡ sum_by one taken + 1 = sum_by-set one taken s true false h in
+    let z : one (get_or taken s false) ≡ 0 = ap one free in
+    omega arith
+
+pub count_few : (uses : List Use) (k n : ℕ) → count_by (is_kept uses k) (range_with_len 0 n) ≤ n
+count_few uses k zero = omega arith
+count_few uses k (suc n) =
+    let ih = count_few uses k n in
+    let e : suc n ≡ n + 1 = omega arith in
+    let c : count_by (is_kept uses k) (range_with_len 0 (suc n)) ≡ count_by (is_kept uses k) (range_with_len 0 n) + one (is_kept uses k n) = ap (λ m. count_by (is_kept uses k) (range_with_len 0 m)) e ∙ count_more (is_kept uses k) n in
+    let o = one_few (is_kept uses k n) in
+    omega arith
+  where
+    one_few : (b : Bool) → one b ≤ 1
+    one_few true = omega arith
+    one_few false = omega arith
+
+-- ---- one slot after another
+
+lowest : (T : ℕ → Type 0) (taken : List Bool) (slot : ℕ) → Tells T taken → ((i : ℕ) → i < slot → get_or taken i false ≡ true) → get_or taken slot false ≡ false → IsLowest T slot
+lowest T taken slot tells before free = record {
+  free = λ h. true≢false (sym (tells.yes slot h) ∙ free);
+  lowest = λ s l. tells.no s (before s l);
+}
+
+tells_more : (T : ℕ → Type 0) (taken : List Bool) (slot : ℕ) → Tells T taken → slot < length taken → Tells (λ s. T s ⊎ (slot ≡ s)) (set taken slot true)
+tells_more T taken slot tells inside = record {
+  yes = λ s h. elim h [
+    | inl t ↦ elim (cases_eq s slot) [
+      | inl e ↦ ap (λ r. get_or (set taken slot true) r false) e ∙ get_or-set_same taken slot true false inside
+      | inr ne ↦ get_or-set_other taken slot s true false ne ∙ tells.yes s t
+    ]
+    | inr e ↦ ap (λ r. get_or (set taken slot true) r false) (sym e) ∙ get_or-set_same taken slot true false inside
+  ];
+  no = λ s h. elim (cases_eq s slot) [
+    | inl e ↦ inr (sym e)
+    | inr ne ↦ inl (tells.no s (sym (get_or-set_other taken slot s true false ne) ∙ h))
+  ];
+}
+
+-- what a call that takes the lowest free slot answers
+pub record Takes (old new : List Bool) (slot : ℕ) : Type 0 where
+  pub before : (i : ℕ) → i < slot → get_or old i false ≡ true
+  pub free : get_or old slot false ≡ false
+  pub taken : new ≡ set old slot true
+  pub count : sum_by one new ≡ sum_by one old + 1
+
+module _ (uses : List Use) (slots : List TermSlots) (k : ℕ) (taken t1 t2 t3 t4 : List Bool) (own first second third : ℕ) (is : IsTaken uses slots k k taken)
+    (few : k < 256) (a : Takes taken t1 own) (b : Takes t1 t2 first) (c : Takes t2 t3 second) (d : Takes t3 t4 third) where
+  size1 : length t1 ≡ 260
+  size1 = ap length a.taken ∙ length-set taken own true ∙ is.size
+
+  size2 : length t2 ≡ 260
+  size2 = ap length b.taken ∙ length-set t1 first true ∙ size1
+
+  size3 : length t3 ≡ 260
+  size3 = ap length c.taken ∙ length-set t2 second true ∙ size2
+
+  low : own ≤ kept_below uses k
+  low = let f = front_taken taken own a.before in let n = is.few in omega arith
+
+  low1 : first ≤ kept_below uses k + 1
+  low1 = let f = front_taken t1 first b.before in let n = is.few in let s = a.count in omega arith
+
+  low2 : second ≤ kept_below uses k + 2
+  low2 = let f = front_taken t2 second c.before in let n = is.few in let s = a.count in let r = b.count in omega arith
+
+  low3 : third ≤ kept_below uses k + 3
+  low3 = let f = front_taken t3 third d.before in let n = is.few in let s = a.count in let r = b.count in let q = c.count in omega arith
+
+  tells1 : Tells (λ s. IsHad uses slots k k s ⊎ (own ≡ s)) t1
+  tells1 = subst (Tells (λ s. IsHad uses slots k k s ⊎ (own ≡ s))) (sym a.taken) (tells_more (IsHad uses slots k k) taken own is.tells (let l = low in let m = count_few uses k k in let z = is.size in omega arith))
+
+  tells2 : Tells (λ s. (IsHad uses slots k k s ⊎ (own ≡ s)) ⊎ (first ≡ s)) t2
+  tells2 = subst (Tells (λ s. (IsHad uses slots k k s ⊎ (own ≡ s)) ⊎ (first ≡ s))) (sym b.taken)
+      (tells_more (λ s. IsHad uses slots k k s ⊎ (own ≡ s)) t1 first tells1 (let l = low1 in let m = count_few uses k k in let z = size1 in omega arith))
+
+  tells3 : Tells (λ s. ((IsHad uses slots k k s ⊎ (own ≡ s)) ⊎ (first ≡ s)) ⊎ (second ≡ s)) t3
+  tells3 = subst (Tells (λ s. ((IsHad uses slots k k s ⊎ (own ≡ s)) ⊎ (first ≡ s)) ⊎ (second ≡ s))) (sym c.taken)
+      (tells_more (λ s. (IsHad uses slots k k s ⊎ (own ≡ s)) ⊎ (first ≡ s)) t2 second tells2 (let l = low2 in let m = count_few uses k k in let z = size2 in omega arith))
+
+  pub slotted : IsSlotted uses slots k (record { own = own; columns = first ∷ second ∷ third ∷ [] })
+  slotted = record {
+    own = lowest (IsHad uses slots k k) taken own is.tells a.before a.free;
+    first = lowest (λ s. IsHad uses slots k k s ⊎ (own ≡ s)) t1 first tells1 b.before b.free;
+    second = lowest (λ s. (IsHad uses slots k k s ⊎ (own ≡ s)) ⊎ (first ≡ s)) t2 second tells2 c.before c.free;
+    third = lowest (λ s. ((IsHad uses slots k k s ⊎ (own ≡ s)) ⊎ (first ≡ s)) ⊎ (second ≡ s)) t3 third tells3 d.before d.free;
+    below = low;
+    columns_below = below;
+  }
+    where
+      below : (i : ℕ) → i < 3 → get_or (first ∷ second ∷ third ∷ []) i 0 ≤ kept_below uses k + 1 + i
+      below zero h = let l = low1 in omega arith
+      below (suc zero) h = let l = low2 in omega arith
+      below (suc (suc zero)) h = let l = low3 in omega arith
+      below (suc (suc (suc i))) h = absurd (omega arith)
+
+-- ---- the slots of the terms before stay
+
+at_front : (slots : List TermSlots) (new : TermSlots) (t : ℕ) → t < length slots → slots_at (slots ++ new ∷ []) t ≡ slots_at slots t
+at_front [] new t h = absurd (omega arith)
+at_front (x ∷ xs) new zero h = refl
+at_front (x ∷ xs) new (suc t) h = at_front xs new t (omega arith)
+
+at_end : (slots : List TermSlots) (new : TermSlots) → slots_at (slots ++ new ∷ []) (length slots) ≡ new
+at_end [] new = refl
+at_end (x ∷ xs) new = at_end xs new
+
+past_end : (slots : List TermSlots) (t : ℕ) → length slots ≤ t → slots_at slots t ≡ no_slots
+past_end [] t h = refl
+past_end (x ∷ xs) zero h = absurd (omega arith)
+past_end (x ∷ xs) (suc t) h = past_end xs t (omega arith)
+
+pub long_more : (slots : List TermSlots) (new : TermSlots) → length (slots ++ new ∷ []) ≡ length slots + 1
+long_more [] new = refl
+long_more (x ∷ xs) new = let ih : length (xs ++ new ∷ []) ≡ length xs + 1 = long_more xs new in omega (arith, ih)
+
+module _ (uses : List Use) (slots : List TermSlots) (new : TermSlots) where
+  had : (k s : ℕ) → k ≤ length slots → IsHad uses slots k k s → IsHad uses (slots ++ new ∷ []) k k s
+  had k s h i = record { term = i.term; below = i.below; kept = i.kept; has = ap (λ (x : TermSlots). x.own) (at_front slots new i.term (let l = i.below in omega arith)) ∙ i.has }
+
+  had_back : (k s : ℕ) → k ≤ length slots → IsHad uses (slots ++ new ∷ []) k k s → IsHad uses slots k k s
+  had_back k s h i = record { term = i.term; below = i.below; kept = i.kept; has = sym (ap (λ (x : TermSlots). x.own) (at_front slots new i.term (let l = i.below in omega arith))) ∙ i.has }
+
+  same_lowest : (T S : ℕ → Type 0) → ((s : ℕ) → T s → S s) → ((s : ℕ) → S s → T s) → (slot : ℕ) → IsLowest T slot → IsLowest S slot
+  same_lowest T S f g slot l = record { free = λ h. l.free (g slot h); lowest = λ s h. f s (l.lowest s h) }
+
+  either_same : (T S : ℕ → Type 0) (n : ℕ) → ((s : ℕ) → T s → S s) → (s : ℕ) → T s ⊎ (n ≡ s) → S s ⊎ (n ≡ s)
+  either_same T S n f s (inl h) = inl (f s h)
+  either_same T S n f s (inr e) = inr e
+
+  still_slotted : (k : ℕ) (own : TermSlots) → k ≤ length slots → IsSlotted uses slots k own → IsSlotted uses (slots ++ new ∷ []) k own
+  still_slotted k own h is = record {
+    own = same_lowest (IsHad uses slots k k) (IsHad uses (slots ++ new ∷ []) k k) f g own.own is.own;
+    first = same_lowest _ _ (either_same _ _ own.own f) (either_same _ _ own.own g) _ is.first;
+    second = same_lowest _ _ (either_same _ _ _ (either_same _ _ own.own f)) (either_same _ _ _ (either_same _ _ own.own g)) _ is.second;
+    third = same_lowest _ _ (either_same _ _ _ (either_same _ _ _ (either_same _ _ own.own f))) (either_same _ _ _ (either_same _ _ _ (either_same _ _ own.own g))) _ is.third;
+    below = is.below;
+    columns_below = is.columns_below;
+  }
+    where
+      f : (s : ℕ) → IsHad uses slots k k s → IsHad uses (slots ++ new ∷ []) k k s
+      f s = had k s h
+
+      g : (s : ℕ) → IsHad uses (slots ++ new ∷ []) k k s → IsHad uses slots k k s
+      g s = had_back k s h
+
+  pub more_slotted : length slots < 256 → AreSlotted uses slots → IsSlotted uses slots (length slots) new → AreSlotted uses (slots ++ new ∷ [])
+  more_slotted few so_far is = record {
+    each = λ k h. elim (cases_lt k (length slots)) [
+      | inl p ↦ subst (IsSlotted uses (slots ++ new ∷ []) k) (sym (at_front slots new k p)) (still_slotted k (slots_at slots k) (omega arith) (so_far.each k p))
+      | inr p ↦ (let e : k ≡ length slots = (let l = long_more slots new in omega arith) in
+          subst (λ j. IsSlotted uses (slots ++ new ∷ []) j (slots_at (slots ++ new ∷ []) j)) (sym e) (subst (IsSlotted uses (slots ++ new ∷ []) (length slots)) (sym (at_end slots new)) (still_slotted (length slots) new (omega arith) is)))
+    ];
+    few = λ t. elim (cases_lt t (length slots)) [
+      | inl p ↦ (let e : own_slot (slots ++ new ∷ []) t ≡ own_slot slots t = ap (λ (x : TermSlots). x.own) (at_front slots new t p) in let l = so_far.few t in omega arith)
+      | inr p ↦ elim (cases_eq t (length slots)) [
+        | inl q ↦ (let e : own_slot (slots ++ new ∷ []) t ≡ new.own = ap (own_slot (slots ++ new ∷ [])) q ∙ ap (λ (x : TermSlots). x.own) (at_end slots new) in let l = is.below in let m = count_few uses (length slots) (length slots) in omega arith)
+        | inr q ↦ (let e : own_slot (slots ++ new ∷ []) t ≡ 0 = ap (λ (x : TermSlots). x.own) (past_end (slots ++ new ∷ []) t (let l = long_more slots new in omega arith)) in omega arith)
+      ]
+    ];
+  }
+
+pub none_slotted : (uses : List Use) → AreSlotted uses []
+none_slotted uses = record { each = λ k h. absurd (omega arith); few = λ t. omega arith }

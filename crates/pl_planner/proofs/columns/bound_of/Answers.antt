@@ -1,0 +1,33 @@
+use Rattle.std.proofs.Common.{rules, ◌∙◌, ap, max, fold, map, ◌≡◌, length, sym, arith}
+use Rattle.std.specs.List.{range_with_len}
+use Rattle.pl_terms.specs.Checked.{pipeline_of}
+use Rattle.pl_terms.specs.Uses.{outputs}
+use Rattle.pl_planner.specs.Columns.{held_at}
+use Rattle.pl_planner.proofs.Counting.{most_more}
+use Rattle.pl_planner.proofs.Live.{bound_is}
+use Rattle.pl_planner.proofs.columns.bound_of.Goals as goal
+
+pub loop-k-preserved : goal.loop-k-preserved
+loop-k-preserved c =
+    let m : c.max-bound.result ≡ max c.loop-k.bound c.held_at.result = search rules in
+    let f = c.held_at.ensures.few in
+    let l = c.loop-k.invariant.few in
+    record {
+      most = m ∙ ap (λ n. max n c.held_at.result) c.loop-k.invariant.most ∙ ap (max (fold max 0 (map (held_at (pipeline_of c.args.checked.now).graph c.args.uses.now) (range_with_len 0 c.loop-k.k)))) c.held_at.ensures.value
+          ∙ sym (most_more (held_at (pipeline_of c.args.checked.now).graph c.args.uses.now) c.loop-k.k);
+      few = omega arith;
+    }
+
+pub returns : goal.returns
+returns c =
+    let t = c.loop-k-test.false in
+    let a = c.loop-k.auto.k-end in
+    let n = c.count-k-end.ensures.count in
+    let end : c.loop-k.k ≡ length (pipeline_of c.args.checked.now).graph = omega arith in
+    record {
+      value = c.loop-k.invariant.most ∙ ap (λ n. fold max 0 (map (held_at (pipeline_of c.args.checked.now).graph c.args.uses.now) (range_with_len 0 n))) end
+          ∙ bound_is (pipeline_of c.args.checked.now).graph (outputs (pipeline_of c.args.checked.now)) c.args.uses.now c.count-k-end.ensures.checked.graph c.requires;
+      few = c.loop-k.invariant.few;
+      checked = c.count-k-end.ensures.checked;
+      terms = (let f = c.count-k-end.ensures.few in omega arith);
+    }

@@ -1,0 +1,14 @@
+use Rattle.std.proofs.Common.{◌≤◌, length}
+use Rattle.pl_terms.specs.Checked.{pipeline_of}
+use Rattle.pl_terms.specs.Uses.{outputs}
+use Rattle.pl_planner.proofs.Gathers.{AreGathered}
+use Rattle.pl_planner.proofs.uses.ask_down.Given as goal
+
+abbrev pub invariant-loop-k : goal.invariant-loop-k
+invariant-loop-k l = record {
+  gathered : AreGathered (pipeline_of l.checked).graph (outputs (pipeline_of l.checked)) l.k l.uses;
+  within : l.k ≤ length (pipeline_of l.checked).graph;
+}
+
+abbrev pub decreases-loop-k : goal.decreases-loop-k
+decreases-loop-k l = l.k

@@ -1,0 +1,20 @@
+-- What a plan is good for.
+use Rattle.std.specs.Prelude.{◌≡◌, ℕ, ◌<◌, true, ℤ, pos, ◌≤ℤ◌, ◌<ℤ◌, List, AllPairs, Some, slice_get}
+use Rattle.pl_spec.specs.Term.{Node}
+use Rattle.pl_spec.specs.Lows.{Reads}
+use Rattle.pl_spec.specs.Table.{Pipeline}
+use Rattle.pl_terms.specs.Checked.{IsChecked}
+use Rattle.pl_planner.specs.Plans.{Planned, IsAsked, IsPlanOf, is_used, low_at, IsLive}
+
+-- What a used term k reads of a term t, for a session that it is computed on: t is used, has a lower number, is live
+-- with k and is computed from that session on.
+pub record IsCovered (p : Pipeline) (plan : Planned) (k t c : ℕ) (r : ℤ) : Type 0 where
+  pub used : is_used plan t ≡ true
+  pub lower : t < k
+  pub live : IsLive p k t
+  pub computed : pos (low_at plan t c) ≤ℤ r
+
+abbrev pub ReadsAreCovered : Type 0
+ReadsAreCovered = (days : List ℤ) → AllPairs (λ a b. a <ℤ b) days → (p : Pipeline) → IsChecked p → (plan : Planned) → IsPlanOf days p plan
+    → (k t c : ℕ) (n : Node) (s r : ℤ) → IsAsked plan k c → slice_get p.graph k ≡ Some n → pos (low_at plan k c) ≤ℤ s → Reads days n s t r
+    → IsCovered p plan k t c r

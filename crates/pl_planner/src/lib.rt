@@ -1,0 +1,14 @@
+//! How a pipeline is run over a range of sessions: how far back each term is computed, how long its values are
+//! kept, and in which slot.
+#![tactic(auto)]
+
+mod columns;
+pub mod laws;
+mod pipeline;
+mod planning;
+mod plans;
+mod slots;
+mod uses;
+
+pub use planning::plan;
+pub use plans::{Plan, PlanError};

@@ -1,0 +1,73 @@
+//! The plan of a run.
+ghost use Rattle.std.specs.Prelude.{◌≡◌, ◌<◌, ◌≤◌, pos, IfErr, IfOk, length};
+ghost use Rattle.pl_spec.specs.Lows.{least_reach};
+ghost use Rattle.pl_calendar.specs.Days.{AreDays};
+ghost use Rattle.pl_terms.specs.Checked.{IsChecked, pipeline_of};
+ghost use Rattle.pl_terms.specs.Uses.{outputs};
+ghost use Rattle.pl_planner.specs.Plans.{IsPlanFault, IsPlanOf};
+ghost use Rattle.pl_planner.specs.Uses.{AreUses};
+
+use crate::columns::{bound_of, most_back, most_extra};
+use crate::plans::{Plan, PlanError};
+use crate::slots::slot_terms;
+use crate::uses::{Use, gather};
+use pl_calendar::Sessions;
+use pl_terms::Checked;
+use std::alloc::Global;
+
+/// The greatest number of extra rows.
+const MOST_ROWS: usize = 4096;
+
+// The least session that is reached for the first one.
+fn reach_of(checked: &Checked, sessions: &Sessions, uses: &[Use], from: usize) -> i64
+    requires uses { AreUses (pipeline_of checked.now).graph (outputs (pipeline_of checked.now)) uses.now }
+    requires within { from < length sessions.now }
+    ensures value { result ≡ least_reach sessions.now (pipeline_of checked.now).graph
+        (outputs (pipeline_of checked.now)) (pos from) }
+    ensures checked { IsChecked (pipeline_of checked.now) }
+    ensures days { AreDays sessions.now }
+{
+    let _count = sessions.len();
+    from as i64 - most_back(checked, uses) as i64
+}
+
+/// The plan of a pipeline for the sessions from one to another. What is answered depends neither on their number nor
+/// on what the data hold.
+pub fn plan(
+    alloc: Global,
+    checked: &Checked,
+    sessions: &Sessions,
+    from: usize,
+    to: usize,
+) -> Result<Plan, PlanError>
+    requires order { from ≤ to }
+    requires within { to < length sessions.now }
+    ensures from { IfOk result (λ p. p.from ≡ from) }
+    ensures to { IfOk result (λ p. p.to ≡ to) }
+    ensures plan { IfOk result (λ p. IsPlanOf sessions.now (pipeline_of checked.now) p) }
+    ensures fault { IfErr result (λ e. IsPlanFault sessions.now (pipeline_of checked.now) from to e) }
+{
+    let Ok(uses) = gather(alloc, checked) else {
+        return Err(PlanError::Memory);
+    };
+    let reach = reach_of(checked, sessions, &uses, from);
+    if reach < 0 {
+        return Err(PlanError::TooEarly { reach });
+    }
+    let rows = most_extra(&uses);
+    if rows > MOST_ROWS {
+        return Err(PlanError::TooDeep { rows: rows as u64 });
+    }
+    let bound = bound_of(checked, &uses);
+    let Ok(slots) = slot_terms(alloc, &uses) else {
+        return Err(PlanError::Memory);
+    };
+    Ok(Plan {
+        from,
+        to,
+        reach,
+        bound,
+        uses,
+        slots,
+    })
+}

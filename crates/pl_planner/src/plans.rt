@@ -1,0 +1,151 @@
+//! Plans, and what they say of each term.
+ghost use Rattle.std.specs.Prelude.{◌≡◌, ◌-◌, ◌<◌, ◌≤◌, ◌≤ℤ◌, pos, true, option_map};
+ghost use Rattle.pl_terms.specs.Nodes.{number_of};
+ghost use Rattle.pl_planner.specs.Plans as spec;
+
+use crate::slots::TermSlots;
+use crate::uses::{Use, use_of};
+use pl_terms::TermId;
+use std::marker::Model;
+
+/// Why there is no plan.
+#[derive(Debug, Drop)]
+pub enum PlanError {
+    /// The least session that a column or the screen reaches lies before the first one.
+    TooEarly { reach: i64 },
+    /// The greatest number of extra rows is more than 4,096.
+    TooDeep { rows: u64 },
+    Memory,
+}
+
+/// How a pipeline is run over the sessions from one to another.
+#[derive(Drop)]
+pub struct Plan {
+    pub(crate) from: usize,
+    pub(crate) to: usize,
+    pub(crate) reach: i64,
+    pub(crate) bound: usize,
+    pub(crate) uses: Vec<Use>,
+    pub(crate) slots: Vec<TermSlots>,
+}
+
+impl Model for Plan {
+    ghost use Rattle.pl_planner.specs.Plans.{KeepsLimits, Planned};
+
+    ghost Value = { Planned };
+
+    ghost view = { λ p.
+        record { from = p.from; to = p.to; reach = p.reach; bound = p.bound; uses = p.uses.items; slots = p.slots.items } };
+
+    ghost invariant = { λ p. KeepsLimits
+        (record { from = p.from; to = p.to; reach = p.reach; bound = p.bound; uses = p.uses.items; slots = p.slots.items }) };
+}
+
+impl Plan {
+    /// The first session of the range.
+    pub fn from(&self) -> usize
+        ensures value { result ≡ self.now.from }
+        ensures order { result ≤ self.now.to }
+    {
+        self.from
+    }
+
+    /// The last session of the range.
+    pub fn to(&self) -> usize
+        ensures value { result ≡ self.now.to }
+        ensures order { self.now.from ≤ result }
+    {
+        self.to
+    }
+
+    /// Is the term an output, or mentioned by a used term?
+    #[tactic(auto, unfolding(crate::specs::Plans::is_used))]
+    pub fn is_used(&self, t: TermId) -> bool
+        ensures { result ≡ spec.is_used self.now t.0 }
+    {
+        use_of(&self.uses, t.0 as usize).used
+    }
+
+    /// How many sessions before the range a used term is computed: at most 4,096.
+    pub fn extra(&self, t: TermId) -> usize
+        requires { spec.is_used self.now t.0 ≡ true }
+        ensures value { result ≡ spec.extra self.now t.0 }
+        ensures few { result ≤ 4096 }
+    {
+        self.from - self.low(t)
+    }
+
+    /// The session from which on a used term is computed.
+    pub fn low(&self, t: TermId) -> usize
+        requires { spec.is_used self.now t.0 ≡ true }
+        ensures value { result ≡ spec.low self.now t.0 }
+        ensures within { result ≤ self.now.from }
+        ensures few { self.now.from - result ≤ 4096 }
+    {
+        self.low_at(t, self.from)
+    }
+
+    /// The session from which on a used term is computed for a session of the range and later ones.
+    #[tactic(auto, unfolding(crate::specs::Plans::is_used, crate::specs::Plans::low_at))]
+    pub fn low_at(&self, t: TermId, session: usize) -> usize
+        requires used { spec.is_used self.now t.0 ≡ true }
+        requires from { self.now.from ≤ session }
+        requires to { session ≤ self.now.to }
+        ensures value { result ≡ spec.low_at self.now t.0 session }
+        ensures within { result ≤ session }
+        ensures few { session - result ≤ 4096 }
+    {
+        session - use_of(&self.uses, t.0 as usize).extra
+    }
+
+    /// The least session that a column or the screen reaches for the first session.
+    pub fn reach(&self) -> i64
+        ensures value { result ≡ self.now.reach }
+        ensures early { pos 0 ≤ℤ result }
+    {
+        self.reach
+    }
+
+    /// The greatest number of terms and bar columns that are live at once.
+    pub fn bound(&self) -> usize
+        ensures value { result ≡ self.now.bound }
+        ensures few { result ≤ 261 }
+    {
+        self.bound
+    }
+
+    /// The last used term that mentions a used term; none for an output, which is kept to the end.
+    #[tactic(auto, unfolding(crate::specs::Plans::last_user))]
+    pub fn last_user(&self, t: TermId) -> Option<TermId>
+        requires { spec.is_used self.now t.0 ≡ true }
+        ensures { option_map number_of result ≡ spec.last_user self.now t.0 }
+    {
+        let last = use_of(&self.uses, t.0 as usize).last;
+        if last < self.uses.len() {
+            Some(TermId(last as u8))
+        } else {
+            None
+        }
+    }
+
+    /// The slot of a used term: the lowest that no term with a lower number has which is live with it.
+    #[tactic(auto, unfolding(crate::specs::Plans::is_used, crate::specs::Plans::slot_of))]
+    pub fn slot(&self, t: TermId) -> usize
+        requires { spec.is_used self.now t.0 ≡ true }
+        ensures value { result ≡ spec.slot_of self.now t.0 }
+        ensures within { result < self.now.bound }
+    {
+        self.slots[t.0 as usize].own
+    }
+
+    /// The slot of the i-th distinct bar column among a used term's inputs while the term is computed: of
+    /// those that no live term has the i-th.
+    #[tactic(auto, unfolding(crate::specs::Plans::is_used, crate::specs::Plans::column_slot))]
+    pub fn column_slot(&self, t: TermId, i: usize) -> usize
+        requires used { spec.is_used self.now t.0 ≡ true }
+        requires within { i < 3 }
+        ensures { result ≡ spec.column_slot self.now t.0 i }
+    {
+        self.slots[t.0 as usize].columns[i]
+    }
+}

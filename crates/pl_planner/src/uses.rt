@@ -1,0 +1,159 @@
+// Which terms are used, how far back, and by which term last: told from the users down to their inputs.
+ghost use Rattle.std.specs.Prelude.{◌≡◌, ℕ, All, IfSome, option_map, option_to_list, replicate, ◌+◌, ◌<◌, ◌≤◌, ◌^◌, IfOk, length, map, slice_set, filter_map, fold, get_or};
+ghost use Rattle.pl_spec.specs.Term.{MentionsBelow};
+ghost use Rattle.pl_terms.specs.Checked.{columns_of, pipeline_of};
+ghost use Rattle.pl_terms.specs.Nodes.{input_of, node_of, number_of};
+ghost use Rattle.pl_terms.specs.Uses.{outputs};
+ghost use Rattle.pl_planner.specs.Extra.{IsBelow, asks, input_ask, number_asks};
+ghost use Rattle.pl_planner.specs.Uses.{AreUses, all_asked, all_marked, marked, raised, unused, use_at};
+
+use crate::pipeline::{count, node_at};
+use pl_terms::{Checked, Input, Node, TermId};
+use std::alloc::{AllocError, Global};
+
+/// What the used terms ask of a term.
+#[derive(Clone, Copy, Debug)]
+pub(crate) struct Use {
+    pub(crate) used: bool,
+    /// So many sessions before the first one.
+    pub(crate) extra: usize,
+    /// The last used term that mentions it, or the number of all terms where it is an output.
+    pub(crate) last: usize,
+}
+
+pub(crate) const UNUSED: Use = Use {
+    used: false,
+    extra: 0,
+    last: 0,
+};
+
+/// The use of a number.
+pub(crate) fn use_of(uses: &[Use], t: usize) -> Use
+    ensures { result ≡ use_at uses.now t }
+{
+    if t < uses.len() { uses[t] } else { UNUSED }
+}
+
+fn ask(uses: &mut [Use], term: TermId, by: usize, extra: usize)
+    requires within { number_of term < length uses.old }
+    ensures { uses.new ≡ slice_set uses.old (number_of term)
+        (raised (use_at uses.old (number_of term)) by extra) }
+{
+    let t = term.0 as usize;
+    let old = uses[t];
+    uses[t] = if old.used {
+        Use {
+            used: true,
+            extra: old.extra.max(extra),
+            last: old.last.max(by),
+        }
+    } else {
+        Use {
+            used: true,
+            extra,
+            last: by,
+        }
+    };
+}
+
+fn ask_input(uses: &mut [Use], input: Input, window: u32, by: usize, extra: usize)
+    requires window { 1 ≤ window }
+    requires room { extra + window < 2 ^ 63 }
+    requires lower { IsBelow (length uses.old) (input_of input) }
+    ensures { uses.new ≡ all_asked uses.old by extra (option_to_list (input_ask window (input_of input))) }
+{
+    if let Input::Term(term) = input {
+        ask(uses, term, by, extra + (window as usize - 1));
+    }
+}
+
+fn ask_inputs(uses: &mut [Use], node: &Node, by: usize, extra: usize)
+    requires window { 1 ≤ node.now.window }
+    requires room { extra + node.now.window < 2 ^ 63 }
+    requires lower { MentionsBelow (node_of node.now) (length uses.old) }
+    ensures { uses.new ≡ all_asked uses.old by extra
+        (filter_map (input_ask node.now.window) (map input_of node.now.inputs)) }
+{
+    for input in node.inputs.as_slice() {
+        ask_input(uses, *input, node.window, by, extra);
+    }
+}
+
+fn ask_number(uses: &mut [Use], number: Option<TermId>, by: usize, extra: usize)
+    requires lower { IfSome number (λ t. number_of t < length uses.old) }
+    ensures { uses.new ≡ all_asked uses.old by extra (number_asks (option_map number_of number)) }
+{
+    if let Some(term) = number {
+        ask(uses, term, by, extra);
+    }
+}
+
+#[tactic(auto, unfolding(pl_terms::specs::Nodes::node_of))]
+fn ask_all(uses: &mut [Use], node: &Node, by: usize, extra: usize)
+    requires window { 1 ≤ node.now.window }
+    requires room { extra + node.now.window < 2 ^ 63 }
+    requires lower { MentionsBelow (node_of node.now) (length uses.old) }
+    ensures { uses.new ≡ all_asked uses.old by extra (asks (node_of node.now)) }
+{
+    ask_inputs(uses, node, by, extra);
+    ask_number(uses, node.mask, by, extra);
+    ask_number(uses, node.group, by, extra);
+}
+
+fn mark(uses: &mut [Use], term: TermId, terms: usize)
+    requires within { number_of term < length uses.old }
+    ensures { uses.new ≡ marked terms uses.old (number_of term) }
+{
+    uses[term.0 as usize] = Use {
+        used: true,
+        extra: 0,
+        last: terms,
+    };
+}
+
+fn mark_columns(uses: &mut [Use], checked: &Checked, terms: usize)
+    requires { length uses.old ≡ length (pipeline_of checked.now).graph }
+    ensures { uses.new ≡ all_marked uses.old terms (map (λ c. c.term) (columns_of checked.now.columns)) }
+{
+    let _terms = count(checked);
+    for i in 0..checked.columns() {
+        mark(uses, checked.column_term(i), terms);
+    }
+}
+
+// The columns' terms and the screen are used on the first session, and to the end.
+fn mark_outputs(uses: &mut [Use], checked: &Checked, terms: usize)
+    requires { length uses.old ≡ length (pipeline_of checked.now).graph }
+    ensures { uses.new ≡ all_marked uses.old terms (outputs (pipeline_of checked.now)) }
+{
+    let _terms = count(checked);
+    mark_columns(uses, checked, terms);
+    if let Some(screen) = checked.screen() {
+        mark(uses, screen, terms);
+    }
+}
+
+// One pass from the last term to the first.
+fn ask_down(uses: &mut [Use], checked: &Checked)
+    requires { uses.old ≡ replicate (length (pipeline_of checked.now).graph) unused }
+    ensures { AreUses (pipeline_of checked.now).graph (outputs (pipeline_of checked.now)) uses.new }
+{
+    let mut k = count(checked);
+    mark_outputs(uses, checked, k);
+    while k > 0 {
+        k -= 1;
+        let own = uses[k];
+        if own.used {
+            ask_all(uses, node_at(checked, k), k, own.extra);
+        }
+    }
+}
+
+/// The uses of all terms.
+pub(crate) fn gather(alloc: Global, checked: &Checked) -> Result<Vec<Use>, AllocError>
+    ensures { IfOk result (λ uses. AreUses (pipeline_of checked.now).graph (outputs (pipeline_of checked.now)) uses.items) }
+{
+    let mut uses = vec![in alloc; UNUSED; count(checked)]?;
+    ask_down(&mut uses, checked);
+    Ok(uses)
+}
