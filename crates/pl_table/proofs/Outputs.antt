@@ -1,12 +1,11 @@
 -- Columns and screen are outputs, and outputs are used.
-use Rattle.std.proofs.Common.{◌≡◌, ℕ, zero, suc, ◌+◌, ◌<◌, ◌==◌, Bool, true, false, ℤ, pos, List, [], ◌∷◌, ◌++◌, length, map, take, get_or, append_assoc, Option, Some, None, slice_get, option_to_list, option_map, refl, sym, ap, ◌∙◌, arith}
+use Rattle.std.proofs.Common.{◌≡◌, ℕ, zero, suc, ◌+◌, ◌<◌, ◌==◌, true, false, ℤ, pos, List, [], ◌∷◌, ◌++◌, length, map, take, get_or, append_assoc, Option, Some, None, slice_get, option_to_list, option_map, refl, sym, ap, ◌∙◌, arith}
 use Rattle.std.specs.Prelude.{flat_map}
-use Rattle.std.specs.List.{list_any}
 use Rattle.std.proofs.lemmas.Grind.{flat_map-append}
 use Rattle.std.proofs.lemmas.Bool.{or_left, or_right, eqb-true, eq-eqb}
 use Rattle.std.proofs.lemmas.List.Folds.{Any-from_list_any, list_any-append}
 use Rattle.std.proofs.lemmas.Option.{slice_get-get_or, slice_get_within, get_or_from_slice_get}
-use Rattle.pl_spec.specs.Graph.{Used, contains, used_terms}
+use Rattle.pl_spec.specs.Graph.{contains}
 use Rattle.pl_spec.specs.Graph.Used.{output}
 use Rattle.std.proofs.lemmas.List.{get_or-map, take_more, append-nil}
 use Rattle.pl_spec.specs.declared.AssetRow.{AssetRow}

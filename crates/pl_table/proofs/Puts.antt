@@ -1,9 +1,9 @@
 -- The field of a column and its summand.
-use Rattle.std.proofs.Common.{◌≡◌, ℕ, ◌<◌, Bool, true, false, if◌then◌else◌, ℤ, pos, List, [], ◌∷◌, ◌++◌, length, Some, Option, option_map, slice_get, refl, sym, ap, ◌∙◌}
+use Rattle.std.proofs.Common.{◌≡◌, ℕ, if◌then◌else◌, ℤ, pos, List, ◌++◌, Some, sym, ap, ◌∙◌}
 use Rattle.pl_spec.specs.declared.Format.{Format}
-use Rattle.pl_spec.specs.Rounding.{MISSING, is_missing}
+use Rattle.pl_spec.specs.Rounding.{is_missing}
 use Rattle.pl_spec.specs.World.{World}
-use Rattle.pl_spec.specs.Table.{Pipeline, NamedColumn, value_of, in_array, summand}
+use Rattle.pl_spec.specs.Table.{Pipeline, NamedColumn, value_of, summand}
 use Rattle.pl_spec.specs.Text.{field, kind_at}
 use Rattle.pl_terms.specs.Checked.{IsChecked}
 use Rattle.pl_terms.specs.Sorts.{sort_at}
@@ -11,7 +11,7 @@ use Rattle.pl_cross.specs.Arrays.{HasTexts, sid_in}
 use Rattle.pl_values.specs.Arrays.{cell_of}
 use Rattle.pl_table.specs.declared.writing.Writing.{Writing}
 use Rattle.pl_table.specs.Fields.{field_part, cell_field, sort_written}
-use Rattle.pl_table.specs.Rows.{IsPut, value_part}
+use Rattle.pl_table.specs.Rows.{IsPut}
 use Rattle.pl_table.proofs.Outputs.{cell-is}
 use Rattle.pl_table.proofs.Sorted.{field-is}
 

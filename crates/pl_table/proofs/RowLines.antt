@@ -1,17 +1,15 @@
 -- The line of a row.
-use Rattle.std.proofs.Common.{◌≡◌, ℕ, ◌+◌, ◌<◌, ◌≤◌, ℤ, pos, List, [], ◌∷◌, ◌++◌, length, map, take, get_or, Some, Option, unwrap_or, decimal, refl, sym, ap, ◌∙◌, append_assoc, arith}
-use Rattle.std.specs.Prelude.{flat_map, zip, slice_get}
+use Rattle.std.proofs.Common.{◌≡◌, ℕ, ◌+◌, ◌<◌, ℤ, pos, List, [], ◌∷◌, ◌++◌, length, take, get_or, Some, Option, unwrap_or, decimal, refl, sym, ap, ◌∙◌}
+use Rattle.std.specs.Prelude.{flat_map, slice_get}
 use Rattle.std.proofs.lemmas.List.{take_more}
 use Rattle.std.proofs.lemmas.Grind.{flat_map-append}
 use Rattle.std.proofs.lemmas.List.{append-nil}
-use Rattle.std.proofs.lemmas.List.Folds.{flat_map-map}
 use Rattle.std.proofs.lemmas.Option.{get_or_from_slice_get}
 use Rattle.pl_spec.specs.declared.Format.{Format}
 use Rattle.pl_spec.specs.Dates.{date_text}
 use Rattle.pl_spec.specs.World.{World, day_of}
-use Rattle.pl_spec.specs.Value.{Value}
-use Rattle.pl_spec.specs.Table.{Pipeline, NamedColumn, value_of, row}
-use Rattle.pl_spec.specs.Text.{line, field, kind_at, row_fields, row_line}
+use Rattle.pl_spec.specs.Table.{Pipeline, NamedColumn, row}
+use Rattle.pl_spec.specs.Text.{line, row_fields, row_line}
 use Rattle.pl_table.specs.Fields.{date_part, sid_part, field_part}
 use Rattle.pl_table.specs.Rows.{row_values, value_part, value_fields}
 use Rattle.pl_table.proofs.Lines.{line-is}
@@ -35,7 +33,7 @@ pub put-together : (w : World) (p : Pipeline) (format : Format) (a s : ℕ) (day
     → l4 ≡ row_line w p format (row w p (pos s) a)
 put-together w p format a s day l0 l1 l2 l3 l4 is none date sid values end =
     let front : l2 ≡ date_part format (date_text day) ++ sid_part format (decimal a) =
-        sid ∙ ap (λ (t : List ℕ). t ++ sid_part format (decimal a)) (date ∙ ap (λ (t : List ℕ). t ++ date_part format (date_text day)) none) in
+    sid ∙ ap (λ (t : List ℕ). t ++ sid_part format (decimal a)) (date ∙ ap (λ (t : List ℕ). t ++ date_part format (date_text day)) none) in
     end ∙ ap (λ (t : List ℕ). t ++ 10 ∷ []) (values ∙ ap (λ (t : List ℕ). t ++ value_fields w p format a (pos s) p.columns) front)
     ∙ sym (row_line-is w p format a s day is)
 

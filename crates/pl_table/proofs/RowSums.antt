@@ -1,5 +1,5 @@
 -- Sums of cells, row by row.
-use Rattle.std.proofs.Common.{◌≡◌, ℕ, ◌+◌, ◌*◌, ◌<◌, ◌≤◌, Bool, true, false, if◌then◌else◌, ℤ, pos, ◌+ℤ◌, List, [], ◌∷◌, ◌++◌, length, map, take, get_or, Some, refl, sym, ap, ◌∙◌, arith, FitsSigned}
+use Rattle.std.proofs.Common.{◌≡◌, ℕ, ◌+◌, ◌*◌, ◌<◌, ◌≤◌, ℤ, pos, ◌+ℤ◌, List, [], ◌∷◌, ◌++◌, length, take, get_or, Some, ap, ◌∙◌, arith, FitsSigned}
 use Rattle.std.specs.Int.{w128}
 use Rattle.jiff_core.proofs.SignedLemmas.{unsigned_abs-parts}
 use Rattle.std.specs.Prelude.{fold, slice_get, unsigned_abs}
@@ -7,9 +7,8 @@ use Rattle.std.proofs.lemmas.Int.{ints}
 use Rattle.std.proofs.lemmas.List.{take_more, map-append}
 use Rattle.std.proofs.lemmas.List.Sums.{fold-append}
 use Rattle.std.proofs.lemmas.Option.{get_or_from_slice_get}
-use Rattle.pl_spec.specs.Rounding.{LIMIT, IsCell, is_missing}
+use Rattle.pl_spec.specs.Rounding.{LIMIT}
 use Rattle.pl_spec.specs.World.{World}
-use Rattle.pl_spec.specs.Value.{Value}
 use Rattle.pl_spec.specs.Table.{Pipeline, NamedColumn, Row, value_of, summand}
 use Rattle.pl_table.specs.Rows.{row_values}
 use Rattle.pl_table.specs.Sums.{values_sum, rows_sum}

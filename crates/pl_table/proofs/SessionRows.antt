@@ -1,7 +1,6 @@
 -- The rows of a session, place by place.
-use Rattle.std.proofs.Common.{◌≡◌, ℕ, zero, suc, ◌+◌, ◌-◌, ◌<◌, ◌≤◌, Bool, true, false, ◌&&◌, if◌then◌else◌, ℤ, pos, List, [], ◌∷◌, ◌++◌, length, map, drop, get_or, drop-cons, refl, sym, ◌∙◌, ap, arith, length-append}
-use Rattle.std.specs.Prelude.{filter, flat_map}
-use Rattle.std.specs.List.{range_with_len}
+use Rattle.std.proofs.Common.{◌≡◌, ℕ, suc, ◌+◌, ◌-◌, ◌*◌, ◌<◌, ◌≤◌, Bool, true, false, ◌&&◌, if◌then◌else◌, pos, List, [], ◌∷◌, ◌++◌, length, map, drop, get_or, drop-cons, refl, sym, ◌∙◌, ap, arith}
+use Rattle.std.specs.Prelude.{filter}
 use Rattle.std.proofs.lemmas.List.{drop_all}
 use Rattle.std.proofs.lemmas.Grind.{flat_map-append}
 use Rattle.pl_spec.specs.declared.Format.{Format}
@@ -65,3 +64,6 @@ sessions-next w p s to h = let e : to + 1 - s ≡ suc (to + 1 - (s + 1)) = omega
 
 pub sessions-end : (w : World) (p : Pipeline) (s to : ℕ) → to < s → rows_of_sessions w p s (to + 1 - s) ≡ []
 sessions-end w p s to h = let e : to + 1 - s ≡ 0 = omega arith in ap (rows_of_sessions w p s) e
+
+pub times-more : (n m : ℕ) → (n + 1) * m ≡ n * m + m
+times-more n m = omega arith

@@ -1,11 +1,10 @@
 -- What a term's sort says of its values and of how they are written.
-use Rattle.std.proofs.Common.{◌≡◌, ◌⊎◌, inl, inr, ℕ, zero, suc, ◌<◌, Bool, true, false, if◌then◌else◌, ℤ, pos, List, [], ◌∷◌, get_or, length, Option, Some, None, slice_get, option_map, unwrap_or, position, bytes_eq, Contains, decimal, refl, sym, ap, subst, ◌∙◌, true≢false}
+use Rattle.std.proofs.Common.{◌≡◌, inl, inr, ℕ, ◌<◌, Bool, true, false, if◌then◌else◌, ℤ, pos, List, [], get_or, length, Option, Some, None, slice_get, option_map, unwrap_or, position, bytes_eq, Contains, refl, sym, ap, subst, ◌∙◌, true≢false}
 use Rattle.std.proofs.lemmas.Slice.Eq.{bytes_eq-Decides}
 use Rattle.std.proofs.lemmas.List.Quantifiers.{position-Some}
 use Rattle.pl_spec.proofs.Places.{nowhere}
-use Rattle.std.specs.Prelude.{unsigned_abs}
 use Rattle.pl_spec.specs.declared.Format.{Format}
-use Rattle.pl_spec.specs.Rounding.{MISSING, is_missing}
+use Rattle.pl_spec.specs.Rounding.{is_missing}
 use Rattle.pl_spec.specs.Decimals.{cell_text}
 use Rattle.pl_spec.specs.Formula.{is_true}
 use Rattle.pl_spec.specs.World.{World}
@@ -14,13 +13,12 @@ use Rattle.pl_spec.specs.Kind.{Kind, WindowKind, PointKind, CrossKind}
 use Rattle.pl_spec.specs.Term.{Term, Graph, term_at}
 use Rattle.pl_spec.specs.Term as spec
 use Rattle.pl_spec.specs.Value.{Value, is_filter, is_window_filter, is_point_filter, is_cross_filter, sort_kind, sort_over, holds}
-use Rattle.pl_spec.specs.Value.Value.{Number, Text}
 use Rattle.pl_spec.specs.Table.{Pipeline, value_of, in_array, is_kept}
 use Rattle.pl_spec.specs.declared.Format.TheVariants.{Csv}
 use Rattle.pl_cross.specs.Arrays.{sid_in}
 use Rattle.pl_values.specs.Arrays.{cell_of}
 use Rattle.pl_table.proofs.Outputs.{cell-is}
-use Rattle.pl_spec.specs.Text.{field, kind_at, label_text, number_text, is_numbered, truth_text}
+use Rattle.pl_spec.specs.Text.{field, kind_at, label_text, number_text, is_numbered}
 use Rattle.pl_spec.proofs.Trees.{term_at-node}
 use Rattle.pl_terms.specs.declared.node.Node.{Node}
 use Rattle.pl_terms.specs.Kinds.{kind_of}

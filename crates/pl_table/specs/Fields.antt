@@ -1,5 +1,5 @@
 -- A line field by field, and the field of a value by its cell in an array.
-use Rattle.std.specs.Prelude.{ℕ, if◌then◌else◌, ℤ, pos, List, [], ◌∷◌, ◌++◌, decimal, slice_index_or, unsigned_abs}
+use Rattle.std.specs.Prelude.{ℕ, if◌then◌else◌, ℤ, List, [], ◌∷◌, decimal, slice_index_or, unsigned_abs}
 use Rattle.pl_spec.specs.declared.Format.{Format}
 use Rattle.pl_spec.specs.declared.Format.TheVariants.{Csv, Fixed}
 use Rattle.pl_spec.specs.Rounding.{is_missing}

@@ -1,5 +1,5 @@
 -- The rows of a session, and what stands in the line of one.
-use Rattle.std.specs.Prelude.{◌≡◌, ℕ, Bool, ◌&&◌, ℤ, pos, List, ◌++◌, map, flat_map, Some, slice_get}
+use Rattle.std.specs.Prelude.{◌≡◌, ℕ, Bool, ◌&&◌, ℤ, pos, List, ◌++◌, map, flat_map}
 use Rattle.pl_spec.specs.declared.Format.{Format}
 use Rattle.pl_spec.specs.World.{World, exists}
 use Rattle.pl_spec.specs.Value.{Value}

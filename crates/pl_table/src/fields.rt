@@ -66,7 +66,13 @@ fn put_text(line: &mut Line, format: Format, text: &[u8])
 }
 
 /// Puts the field of a cell.
-pub(crate) fn put_cell(line: &mut Line, format: Format, writing: Writing, cell: i64, labels: &Labels)
+pub(crate) fn put_cell(
+    line: &mut Line,
+    format: Format,
+    writing: Writing,
+    cell: i64,
+    labels: &Labels,
+)
     requires cell { IsCell cell }
     requires code { writing ≡ Writing.Label → IsCode labels.now.texts cell }
     requires room { length line.old + 131 ≤ 8_448 }
@@ -130,7 +136,11 @@ fn put_label(line: &mut Line, format: Format, labels: &Labels, code: i64)
     if code == MISSING {
         put_text(line, format, b"");
     } else {
-        put_text(line, format, label_text(labels, format, code.unsigned_abs() as u32));
+        put_text(
+            line,
+            format,
+            label_text(labels, format, code.unsigned_abs() as u32),
+        );
     }
 }
 

@@ -90,7 +90,10 @@ fn exists(outcome: &Outcome<'_>, place: usize, session: usize) -> bool
     ensures { result ≡ exists (world_in outcome.now) (sid_in (sids_in outcome.now) place) (pos session) }
 {
     let day = outcome.world.sessions.day(session);
-    outcome.world.assets.exists(outcome.cols[place] as usize, day)
+    outcome
+        .world
+        .assets
+        .exists(outcome.cols[place] as usize, day)
 }
 
 // Does the screen keep it, where there is one?
@@ -129,7 +132,11 @@ fn write_row<O: Sink>(
 {
     line.clear();
     put_date(line, format, outcome.world.sessions.day(session));
-    put_sid(line, format, outcome.world.assets.sid(outcome.cols[place] as usize));
+    put_sid(
+        line,
+        format,
+        outcome.world.assets.sid(outcome.cols[place] as usize),
+    );
     let sum = put_values(outcome, place, session, format, line);
     line.put(b"\n");
     totals.count_row(sum);
@@ -137,7 +144,13 @@ fn write_row<O: Sink>(
 }
 
 // Puts the fields of the columns, and gives the sum of their cells.
-fn put_values(outcome: &Outcome<'_>, place: usize, session: usize, format: Format, line: &mut Line) -> i128
+fn put_values(
+    outcome: &Outcome<'_>,
+    place: usize,
+    session: usize,
+    format: Format,
+    line: &mut Line,
+) -> i128
     requires outcome { IsOutcome outcome.now }
     requires place { place < length outcome.now.cols.now }
     requires session { IsWithin outcome.now session }
@@ -158,7 +171,14 @@ fn put_values(outcome: &Outcome<'_>, place: usize, session: usize, format: Forma
 }
 
 // Puts the field of one column, and gives its cell for the sum.
-fn put_value(outcome: &Outcome<'_>, column: usize, place: usize, session: usize, format: Format, line: &mut Line) -> i128
+fn put_value(
+    outcome: &Outcome<'_>,
+    column: usize,
+    place: usize,
+    session: usize,
+    format: Format,
+    line: &mut Line,
+) -> i128
     requires outcome { IsOutcome outcome.now }
     requires column { column < length (pipeline_in outcome.now).columns }
     requires place { place < length outcome.now.cols.now }

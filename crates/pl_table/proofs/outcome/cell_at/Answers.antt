@@ -1,5 +1,3 @@
-use Rattle.std.proofs.Common.{◌≡◌, ◌∙◌, ◌≤◌, ◌<◌, ◌+◌, arith}
-use Rattle.pl_terms.specs.Checked.{pipeline_of}
 use Rattle.pl_table.specs.Outcomes.{pipeline_in}
 use Rattle.pl_table.proofs.Outputs.{output-used}
 use Rattle.pl_table.proofs.outcome.cell_at.Goals as goal

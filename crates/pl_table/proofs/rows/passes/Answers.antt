@@ -1,4 +1,4 @@
-use Rattle.std.proofs.Common.{rules, ◌≡◌, ◌∙◌, ap, sym, FitsSigned, w64}
+use Rattle.std.proofs.Common.{rules, ◌∙◌, ap, sym, FitsSigned, w64}
 use Rattle.pl_terms.specs.Nodes.{number_of}
 use Rattle.pl_table.specs.Outcomes.{pipeline_in, sids_in, world_in}
 use Rattle.std.specs.Prelude.{option_map}

@@ -1,7 +1,7 @@
-use Rattle.std.proofs.Common.{rules, true, ◌≡◌, ◌<◌, ◌≤◌, ◌∙◌, ap, sym, subst, refl, ◌++◌, List, if◌then◌else◌, ℕ, ℤ, pos, length, arith, FitsSigned, w64, to_z, of_z, Some}
+use Rattle.std.proofs.Common.{rules, true, ◌≡◌, ◌∙◌, ap, sym, subst, ◌++◌, List, if◌then◌else◌, ℕ, ℤ, pos, length, arith, FitsSigned, w64, to_z, of_z, Some}
 use Rattle.std.specs.Prelude.{slice_get}
 use Rattle.std.specs.Int.{w128}
-use Rattle.std.proofs.lemmas.Int.{ints, to_z-of_z}
+use Rattle.std.proofs.lemmas.Int.{to_z-of_z}
 use Rattle.pl_spec.specs.Rounding.{is_missing}
 use Rattle.pl_terms.specs.declared.node.Node.{Node}
 use Rattle.pl_terms.specs.Nodes.{graph_of}

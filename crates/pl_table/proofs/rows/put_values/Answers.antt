@@ -1,14 +1,14 @@
-use Rattle.std.proofs.Common.{rules, ◌≡◌, ◌<◌, ◌≤◌, ◌+◌, ◌*◌, ◌++◌, ◌∙◌, ap, sym, subst, refl, ℕ, ℤ, pos, ◌+ℤ◌, List, length, take, arith, FitsSigned, to_z, of_z, append_assoc}
+use Rattle.std.proofs.Common.{rules, ◌≡◌, ◌<◌, ◌≤◌, ◌+◌, ◌*◌, ◌++◌, ◌∙◌, ap, sym, subst, ℤ, pos, ◌+ℤ◌, List, take, arith, FitsSigned, to_z, of_z}
 use Rattle.std.specs.Int.{w128}
 use Rattle.std.specs.Prelude.{unsigned_abs}
-use Rattle.std.proofs.lemmas.Int.{ints, to_z-of_z}
+use Rattle.std.proofs.lemmas.Int.{to_z-of_z}
 use Rattle.std.proofs.lemmas.List.{take_all}
 use Rattle.std.proofs.lemmas.Option.{slice_get_within}
 use Rattle.pl_spec.specs.Rounding.{LIMIT}
-use Rattle.pl_spec.specs.Table.{NamedColumn, summand, value_of}
+use Rattle.pl_spec.specs.Table.{NamedColumn}
 use Rattle.pl_cross.specs.Arrays.{sid_in}
 use Rattle.pl_table.specs.Outcomes.{pipeline_in, sids_in, world_in}
-use Rattle.pl_table.specs.Rows.{row_values, value_fields, value_part}
+use Rattle.pl_table.specs.Rows.{row_values, value_fields}
 use Rattle.pl_table.specs.Sums.{values_sum}
 use Rattle.pl_table.proofs.Outputs.{columns-long, has-column, parts-more}
 use Rattle.pl_table.proofs.RowLines.{fields-more}

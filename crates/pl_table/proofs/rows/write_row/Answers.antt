@@ -1,4 +1,4 @@
-use Rattle.std.proofs.Common.{rules, ◌≡◌, ◌∙◌, ap, sym, subst, ℕ, ℤ, List, Option, unwrap_or, get_or, pos, FitsSigned, w32, decimal, ◌++◌}
+use Rattle.std.proofs.Common.{rules, ◌≡◌, ◌∙◌, ap, sym, ℕ, Option, unwrap_or, get_or, FitsSigned, w32, decimal, ◌++◌}
 use Rattle.std.proofs.lemmas.Int.{to_z-of_z}
 use Rattle.pl_outside.proofs.Pieces.{writes-over}
 use Rattle.pl_spec.specs.Parts.{sid_at}

@@ -1,4 +1,4 @@
-use Rattle.std.proofs.Common.{◌≡◌, ◌<◌, ◌≤◌, ◌+◌, ◌-◌, ◌*◌, ◌^◌, ◌∙◌, sym, ap, refl, ℕ, ℤ, List, length, pos, arith, length-append}
+use Rattle.std.proofs.Common.{◌≡◌, ◌+◌, ◌-◌, ◌*◌, ◌∙◌, ap, refl, ℕ, length, pos, arith, length-append}
 use Rattle.std.proofs.lemmas.Int.{ints}
 use Rattle.std.proofs.lemmas.Nat.{mul-le}
 use Rattle.std.proofs.lemmas.Result.{err_from_is_err_and}
@@ -7,7 +7,7 @@ use Rattle.pl_spec.specs.Table.{session_rows}
 use Rattle.pl_table.specs.Outcomes.{lines, pipeline_in, rows_of_sessions, world_in}
 use Rattle.pl_table.specs.Sums.{rows_sum}
 use Rattle.pl_table.proofs.RowSums.{rows_sum-append}
-use Rattle.pl_table.proofs.SessionRows.{lines-append, sessions-next, sessions-end}
+use Rattle.pl_table.proofs.SessionRows.{lines-append, sessions-next, sessions-end, times-more}
 use Rattle.pl_table.proofs.rows.write_rows.Goals as goal
 
 pub loop-session-init : goal.loop-session-init
@@ -43,7 +43,8 @@ loop-session-preserved g c =
     let own = sessions-next w pl s o.to (omega arith) in
     let rest = rows_of_sessions w pl (s + 1) (o.to + 1 - (s + 1)) in
     let next = ap (lines w pl c.args.format) own ∙ lines-append w pl c.args.format (session_rows w pl (pos s)) rest in
-    let more : (s + 1 - o.from) * length o.cols.now ≡ (s - o.from) * length o.cols.now + length o.cols.now = ? in
+    let one : s + 1 - o.from ≡ s - o.from + 1 = omega (arith, c.loop-session.invariant.start) in
+    let more = ap (λ (n : ℕ). n * length o.cols.now) one ∙ times-more (s - o.from) (length o.cols.now) in
     record {
       start = omega (arith, c.loop-session.invariant.start);
       within = omega arith;

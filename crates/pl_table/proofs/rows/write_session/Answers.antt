@@ -1,10 +1,10 @@
-use Rattle.std.proofs.Common.{◌≡◌, ◌<◌, ◌≤◌, ◌+◌, ◌∙◌, sym, ap, refl, ℕ, ℤ, List, [], ◌∷◌, drop, length, pos, arith, get_or}
+use Rattle.std.proofs.Common.{◌<◌, ◌≤◌, ◌+◌, ◌∙◌, sym, ap, refl, drop, length, pos, arith, get_or}
 use Rattle.std.proofs.lemmas.Int.{ints}
 use Rattle.std.proofs.lemmas.List.{length-map}
 use Rattle.std.proofs.lemmas.Result.{err_from_is_err_and}
 use Rattle.pl_outside.proofs.Pieces.{writing-start, writing-more, writing-end, writing-stop, writing-over, writes-over}
 use Rattle.pl_spec.specs.Parts.{sid_at}
-use Rattle.pl_spec.specs.Table.{Row, row}
+use Rattle.pl_spec.specs.Table.{row}
 use Rattle.pl_table.specs.declared.totals.Totals.{Totals}
 use Rattle.pl_table.specs.Outcomes.{lines, pipeline_in, sids_in, world_in}
 use Rattle.pl_table.specs.Sums.{rows_sum}

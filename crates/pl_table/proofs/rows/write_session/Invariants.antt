@@ -1,4 +1,4 @@
-use Rattle.std.proofs.Common.{◌≡◌, ◌≤◌, ◌+◌, ◌+ℤ◌, drop, length, pos}
+use Rattle.std.proofs.Common.{◌≡◌, ◌≤◌, ◌+◌, ◌+ℤ◌, drop, length}
 use Rattle.pl_outside.proofs.Pieces.{Writing}
 use Rattle.pl_table.specs.Outcomes.{lines, pipeline_in, sids_in, world_in}
 use Rattle.pl_table.specs.Sums.{rows_sum}

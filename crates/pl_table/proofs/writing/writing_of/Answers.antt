@@ -1,5 +1,3 @@
-use Rattle.std.proofs.Common.{◌≡◌, ◌∙◌, ap, Some}
-use Rattle.pl_terms.specs.Nodes.{node_of}
 use Rattle.pl_table.proofs.Sorted.{sort-there}
 use Rattle.pl_table.proofs.writing.writing_of.Goals as goal
 
