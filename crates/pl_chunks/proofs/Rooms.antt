@@ -63,3 +63,8 @@ window-of ns k n m e f =
     let same : Some (node_of n) ≡ Some m = sym (graph-at ns k n e) ∙ f in
     let is : node_of n ≡ m = cc in
     sym (window-is n) ∙ ap (λ (x : Node). x.window) is
+
+pub room-at : (w : World) (p : Pipeline) (plan : Planned) (size i from to : ℕ) (chunk : Chunk) (len : ℕ) → from ≡ plan.from → to ≡ plan.to → chunk ≡ chunk_at from to size i → HasRoom w p plan chunk len
+    → HasRoom w p plan (chunk_at plan.from plan.to size i) len
+room-at w p plan size i from to chunk len e f is h =
+    subst (λ (x : Chunk). HasRoom w p plan x len) (is ∙ ap (λ (x : ℕ). chunk_at x to size i) e ∙ ap (λ (x : ℕ). chunk_at plan.from x size i) f) h
