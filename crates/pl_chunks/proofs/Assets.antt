@@ -82,31 +82,10 @@ filter-loose p q (x ∷ xs) h = here (p x) refl (q x) refl (filter-loose p q xs 
 abbrev pub living_columns : World → ℕ → ℕ → List ℕ
 living_columns w low to = filter (lives_within w low to) (range_with_len 0 (length w.assets))
 
-pub has-all : (w : World) (low to s : ℕ) → AllPairs (λ x y. x.sid < y.sid) w.assets → low ≤ s → s ≤ to → HasAll w (map (sid_at w.assets) (living_columns w low to)) s
-has-all w low to s up a b =
-    let ex = λ (sid : ℕ). exists w sid (pos s) in
-    let here = λ (col : ℕ). exists w (sid_at w.assets col) (pos s) in
-    all_there w s up
-    ∙ ap (filter ex) (sids-all w.assets)
-    ∙ filter-map ex (sid_at w.assets) (range_with_len 0 (length w.assets))
-    ∙ ap (map (sid_at w.assets)) (sym (filter-loose here (lives_within w low to) (range_with_len 0 (length w.assets)) (λ col e. lives-some w low to col s a b e)))
-    ∙ sym (filter-map ex (sid_at w.assets) (living_columns w low to))
-
 rising : (a n : ℕ) → AllPairs (λ x y. x < y) (range_with_len a n)
 rising a n i j d h l =
     let few : j < n = omega (arith, length-range_with_len a n) in
     omega (arith, get_or-range_with_len a n i d (omega arith), get_or-range_with_len a n j d few)
-
-pub columns-ascend : (w : World) (low to : ℕ) → AllPairs (λ a b. a < b) (living_columns w low to)
-columns-ascend w low to = AllPairs-filter (λ a b. a < b) (lives_within w low to) (range_with_len 0 (length w.assets)) (rising 0 (length w.assets))
-
-pub columns-within : (w : World) (low to : ℕ) → All (λ c. c < length w.assets) (living_columns w low to)
-columns-within w low to =
-    All-filter (lives_within w low to) (λ c. c < length w.assets) (range_with_len 0 (length w.assets))
-    (λ i d h. (let few : i < length w.assets = omega (arith, length-range_with_len 0 (length w.assets)) in omega (arith, get_or-range_with_len 0 (length w.assets) i d few)))
-
-pub columns-few : (w : World) (low to : ℕ) → length (living_columns w low to) ≤ length w.assets
-columns-few w low to = omega (arith, length-filter (lives_within w low to) (range_with_len 0 (length w.assets)), count_by-le-length (lives_within w low to) (range_with_len 0 (length w.assets)), length-range_with_len 0 (length w.assets))
 
 pub columns_of-few : (w : World) (p : Pipeline) (plan : Planned) (chunk : Chunk) → length (columns_of w p plan chunk) ≤ length w.assets
 unfolding columns_of
@@ -144,3 +123,36 @@ module _ (days : List ℤ) (w : World) (p : Pipeline) (plan : Planned) (chunk : 
   pub columns-are : columns_of w p plan chunk ≡ living_columns w low chunk.to
   unfolding columns_of
   columns-are = ap (λ (f : ℕ → Bool). filter f (range_with_len 0 (length w.assets))) (fun_ext met-is)
+
+-- ---- what the columns of a chunk keep
+
+module _ (days : List ℤ) (w : World) (p : Pipeline) (plan : Planned) (chunk : Chunk) (is : IsPlanOf days p plan) where
+  met-some : (col k s : ℕ) → is_used plan k ≡ true → low_at plan k chunk.from ≤ s → s ≤ chunk.to → exists w (sid_at w.assets col) (pos s) ≡ true → is_met w p plan chunk col ≡ true
+  met-some col k s used a b e =
+      let any = Any-from_list_any (λ (x : ℕ). x == k) (used_terms p.graph (outputs p)) (sym (is.used k) ∙ used) in
+      let own : any.1 ≡ k = eqb-true any.1 k any.4 in
+      let test = λ (t : ℕ). lives_within w (low_at plan t chunk.from) chunk.to col in
+      list_any_at test (used_terms p.graph (outputs p)) any.0 any.1 any.2 (ap test (any.3 ∙ own) ∙ lives-some w (low_at plan k chunk.from) chunk.to col s a b e)
+
+  -- they have each asset that exists on a session on which a used term is computed
+  pub columns-have : AllPairs (λ x y. x.sid < y.sid) w.assets → (k s : ℕ) → is_used plan k ≡ true → low_at plan k chunk.from ≤ s → s ≤ chunk.to
+      → HasAll w (map (sid_at w.assets) (columns_of w p plan chunk)) s
+  unfolding columns_of
+  columns-have up k s used a b =
+      let ex = λ (sid : ℕ). exists w sid (pos s) in
+      let here = λ (col : ℕ). exists w (sid_at w.assets col) (pos s) in
+      all_there w s up
+      ∙ ap (filter ex) (sids-all w.assets)
+      ∙ filter-map ex (sid_at w.assets) (range_with_len 0 (length w.assets))
+      ∙ ap (map (sid_at w.assets)) (sym (filter-loose here (is_met w p plan chunk) (range_with_len 0 (length w.assets)) (λ col e. met-some col k s used a b e)))
+      ∙ sym (filter-map ex (sid_at w.assets) (filter (is_met w p plan chunk) (range_with_len 0 (length w.assets))))
+
+pub columns_of-ascend : (w : World) (p : Pipeline) (plan : Planned) (chunk : Chunk) → AllPairs (λ a b. a < b) (columns_of w p plan chunk)
+unfolding columns_of
+columns_of-ascend w p plan chunk = AllPairs-filter (λ a b. a < b) (is_met w p plan chunk) (range_with_len 0 (length w.assets)) (rising 0 (length w.assets))
+
+pub columns_of-within : (w : World) (p : Pipeline) (plan : Planned) (chunk : Chunk) → All (λ c. c < length w.assets) (columns_of w p plan chunk)
+unfolding columns_of
+columns_of-within w p plan chunk =
+    All-filter (is_met w p plan chunk) (λ c. c < length w.assets) (range_with_len 0 (length w.assets))
+    (λ i d h. (let few : i < length w.assets = omega (arith, length-range_with_len 0 (length w.assets)) in omega (arith, get_or-range_with_len 0 (length w.assets) i d few)))

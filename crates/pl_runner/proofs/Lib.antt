@@ -1,3 +1,5 @@
 pub mod CellTexts
 pub mod RowLines
 pub mod SessionLines
+pub mod Released
+pub mod ChunkWork

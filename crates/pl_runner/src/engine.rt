@@ -42,6 +42,7 @@ impl Rows {
     }
 }
 
+#[derive(Clone, Copy, Debug, PartialEq, Eq)]
 pub struct ChunkReport {
     pub peak: usize,
     pub applied: u64,

@@ -1,7 +1,7 @@
 //! The slots of a chunk's outputs are given back.
 ghost use Rattle.std.specs.Prelude.{◌≡◌, ◌<◌, ℕ, length};
 ghost use Rattle.pl_spec.specs.Graph.{contains};
-ghost use Rattle.pl_terms.specs.Checked.{pipeline_of};
+ghost use Rattle.pl_terms.specs.Checked.{IsChecked, pipeline_of};
 ghost use Rattle.pl_terms.specs.Uses.{outputs};
 ghost use Rattle.pl_planner.specs.Plans.{IsPlanOf};
 ghost use Rattle.pl_workspace.specs.Slots.{Free, slot_at};
@@ -35,6 +35,7 @@ pub(crate) fn release_outputs(
 
 // A used term that no term reads last is an output.
 fn is_output(checked: &Checked, sessions: &Sessions, plan: &Plan, term: TermId) -> bool
+    requires checked { IsChecked (pipeline_of checked.now) }
     requires plan { IsPlanOf sessions.now (pipeline_of checked.now) plan.now }
     ensures { result ≡ contains (outputs (pipeline_of checked.now)) term.0 }
 {

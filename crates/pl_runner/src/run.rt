@@ -1,5 +1,5 @@
 //! The table of a plan's range, chunk by chunk.
-ghost use Rattle.std.specs.Prelude.{◌≡◌, ◌≤◌, ◌<◌, ◌+◌, ◌*◌, ◌^◌, ◌++◌, ◌⊎◌, pos, ◌+ℤ◌, length, max, IfOk, OnOk, IsErrOf};
+ghost use Rattle.std.specs.Prelude.{◌≡◌, ◌≤◌, ◌<◌, ◌+◌, ◌-◌, ◌*◌, ◌^◌, ◌++◌, ◌⊎◌, pos, ◌+ℤ◌, length, max, IfOk, OnOk, IsErrOf};
 ghost use Rattle.pl_spec.specs.Graph.{bound};
 ghost use Rattle.pl_spec.specs.Table.{table};
 ghost use Rattle.pl_spec.specs.Text.{text};
@@ -22,6 +22,7 @@ use crate::release::release_outputs;
 use pl_chunks::{Chunk, chunk_at, chunk_count, put_columns};
 use pl_fixed::{Memory, Steps};
 use pl_model::World;
+use pl_model::laws::parts_make_a_world;
 use pl_outside::{Failed, Sink, write_bytes};
 use pl_planner::Plan;
 use pl_spec::Format;
@@ -175,6 +176,11 @@ fn write_chunk<O: Sink, L: Ledger>(
     ensures applied { IfOk result (λ r. r.applied ≡ cut (steps_of_chunk (world_of world.now) (pipeline_of checked.now) plan.now chunk)) }
     ensures cost { steps.new ≡ steps.old + steps_of_chunk (world_of world.now) (pipeline_of checked.now) plan.now chunk }
 {
+    // what the parts of a world keep by themselves
+    parts_make_a_world(world);
+    let _labels = world.labels.len();
+    let _sessions = world.sessions.len();
+    let _checked = checked.graph();
     put_columns(world, checked, plan, chunk, &mut desk.cols);
     let report = execute_chunk(
         world,
