@@ -105,3 +105,7 @@ pub record HoldsOutputs (t : Task) (w : Slots) : Type 0 where
 
 abbrev pub task_at : code.World → Parts → Planned → List ℕ → ℕ → ℕ → Task
 task_at w p plan cols from to = record { world = world_of w; pipeline = pipeline_of p; plan = plan; cols = cols; from = from; to = to }
+
+-- that the engine is there: nothing proves it until then
+unfoldable pub StandIn : Type 0
+StandIn = ⊥

@@ -6,7 +6,7 @@ ghost use Rattle.pl_terms.specs.Checked.{pipeline_of};
 ghost use Rattle.pl_terms.specs.Uses.{outputs};
 ghost use Rattle.pl_planner.specs.Plans.{IsPlanOf};
 ghost use Rattle.pl_workspace.specs.Slots.{Free, slot_at};
-ghost use Rattle.pl_runner.specs.Engine.{AreColumns, HasRoom, HoldsOutputs, chunk_steps, cut, task_at};
+ghost use Rattle.pl_runner.specs.Engine.{AreColumns, HasRoom, HoldsOutputs, StandIn, chunk_steps, cut, task_at};
 
 use pl_chunks::Chunk;
 use pl_cross::Cross;
@@ -59,6 +59,7 @@ pub fn execute_chunk<L: Ledger>(
     rows: &mut Rows,
     steps: &mut Steps<L>,
 ) -> ChunkReport
+    requires stand_in { StandIn }
     requires made { IsMade world.now }
     requires plan { IsPlanOf world.now.sessions.now (pipeline_of checked.now) plan.now }
     requires from { plan.now.from ≤ chunk.from }

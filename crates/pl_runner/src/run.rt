@@ -11,7 +11,7 @@ ghost use Rattle.pl_planner.specs.Plans.{IsPlanOf};
 ghost use Rattle.pl_table.specs.Outcomes.{lines, rows_of_sessions};
 ghost use Rattle.pl_table.specs.Sums.{rows_sum};
 ghost use Rattle.pl_chunks.specs.declared.pieces.Chunk.{Chunk};
-ghost use Rattle.pl_runner.specs.Engine.{cut};
+ghost use Rattle.pl_runner.specs.Engine.{StandIn, cut};
 ghost use Rattle.pl_runner.specs.Desks.{IsDesk, IsDeskFor};
 ghost use Rattle.pl_runner.specs.Runs.{IsReport, run_steps, steps_of_chunk};
 ghost use Rattle.pl_runner.specs.declared.run.RunError.TheVariants as RunError;
@@ -80,6 +80,7 @@ pub fn run_table<O: Sink, L: Ledger>(
     out: &mut O,
     steps: &mut Steps<L>,
 ) -> Result<RunReport, RunError>
+    requires stand_in { StandIn }
     requires made { IsMade world.now }
     requires plan { IsPlanOf world.now.sessions.now (pipeline_of checked.now) plan.now }
     requires some { 1 ≤ chunk }
@@ -113,6 +114,7 @@ fn write_all<O: Sink, L: Ledger>(
     out: &mut O,
     steps: &mut Steps<L>,
 ) -> Result<RunReport, Failed>
+    requires stand_in { StandIn }
     requires made { IsMade world.now }
     requires plan { IsPlanOf world.now.sessions.now (pipeline_of checked.now) plan.now }
     requires some { 1 ≤ size }
@@ -125,6 +127,9 @@ fn write_all<O: Sink, L: Ledger>(
     ensures cost { OnOk result (steps.new ≡ steps.old + run_steps (world_of world.now) (pipeline_of checked.now) plan.now size) }
     ensures at_most { steps.new ≤ steps.old + run_steps (world_of world.now) (pipeline_of checked.now) plan.now size }
 {
+    // what a world keeps by itself
+    let _sessions = world.sessions.len();
+    let _assets = world.assets.len();
     write_bytes(out, header)?;
     let mut totals = Totals::none();
     let mut applied = 0u64;
@@ -155,6 +160,7 @@ fn write_chunk<O: Sink, L: Ledger>(
     out: &mut O,
     steps: &mut Steps<L>,
 ) -> Result<ChunkReport, Failed>
+    requires stand_in { StandIn }
     requires made { IsMade world.now }
     requires plan { IsPlanOf world.now.sessions.now (pipeline_of checked.now) plan.now }
     requires from { plan.now.from ≤ chunk.from }

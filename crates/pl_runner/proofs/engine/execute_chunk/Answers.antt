@@ -1,13 +1,18 @@
+use Rattle.pl_runner.specs.Engine.{StandIn}
 use Rattle.pl_runner.proofs.engine.execute_chunk.Goals as goal
 
 pub returns-clause-outputs : goal.returns-clause-outputs
-returns-clause-outputs g c = ?
+unfolding StandIn
+returns-clause-outputs g c = absurd c.requires.stand_in
 
 pub returns-clause-report : goal.returns-clause-report
-returns-clause-report g c = ?
+unfolding StandIn
+returns-clause-report g c = absurd c.requires.stand_in
 
 pub returns-clause-applied : goal.returns-clause-applied
-returns-clause-applied g c = ?
+unfolding StandIn
+returns-clause-applied g c = absurd c.requires.stand_in
 
 pub returns-clause-cost : goal.returns-clause-cost
-returns-clause-cost g c = ?
+unfolding StandIn
+returns-clause-cost g c = absurd c.requires.stand_in
