@@ -1,2 +1,6 @@
 -- What is written.
 pub mod Tables
+pub mod Engine
+pub mod Runs
+pub mod Releases
+pub mod Desks

@@ -1,0 +1,51 @@
+-- What is read of the arrays that are there.
+use Rattle.std.proofs.Common.{◌≡◌, ℕ, ◌+◌, ◌-◌, ◌*◌, ◌<◌, ◌≤◌, ◌&&◌, Bool, true, false, ℤ, pos, List, length, take, drop, get_or, set, Option, Some, None, refl, sym, ◌∙◌, ap, subst, arith, All, option_map}
+use Rattle.pl_spec.specs.Rounding.{IsCell}
+use Rattle.pl_spec.specs.World.{World, exists}
+use Rattle.pl_spec.specs.Table.{Pipeline}
+use Rattle.pl_spec.specs.Formula.{is_true}
+use Rattle.pl_cross.specs.Arrays.{sid_in}
+use Rattle.pl_values.specs.Arrays.{Holds, Fills, IsKeep, window_up_to, is_kept, cell_of}
+use Rattle.pl_workspace.specs.Slots.{Slots}
+use Rattle.pl_exec.specs.Tasks.{Task, assets_in, cell_in, count_in, low_in}
+use Rattle.pl_exec.specs.Jobs.{IsRead, Begins}
+use Rattle.pl_exec.proofs.Spans.{end_within, size_within, window_is, window_cells, one_begun, at_is, at_cell, at_within}
+
+pub read_less : (t : Task) (w : Slots) (s size u : ℕ) → IsRead t w s size u → IsRead t w s 1 u
+read_less t w s size u r = record { known = r.known; used = r.used; held = r.held; some = omega arith; early = (let e = r.early in let o = r.some in omega arith) }
+
+-- the array of term u, as the code has it
+module _ (t : Task) (u low count : ℕ) (cells : List ℤ) (holds : Holds (cell_in t u) (assets_in t) (low_in t u) (count_in t u) cells) (is_low : low ≡ low_in t u) (end : low + count ≡ t.to + 1) where
+  pub held : Holds (cell_in t u) (assets_in t) low count cells
+  held =
+      let e : count_in t u ≡ count = omega arith in
+      subst (λ n. Holds (cell_in t u) (assets_in t) low n cells) e (subst (λ l. Holds (cell_in t u) (assets_in t) l (count_in t u) cells) (sym is_low) holds)
+
+  module _ (s size w i : ℕ) (same : size ≡ w) (asset : i < assets_in t) (some : 1 ≤ w) (early : low_in t u + w ≤ s + 1) (late : s ≤ t.to) where
+    pub read_end : i * count + (s - low) + 1 ≤ length cells
+    read_end = end_within (cell_in t u) (assets_in t) low count cells held i s size asset (omega arith) (omega arith) (omega arith)
+
+    pub read_size : size ≤ i * count + (s - low) + 1
+    read_size = size_within (cell_in t u) (assets_in t) low count cells held i s size asset (omega arith) (omega arith) (omega arith)
+
+    pub read_window : take size (drop (i * count + (s - low) + 1 - size) cells) ≡ window_up_to (cell_in t u i) w s
+    read_window = window_is (cell_in t u) (assets_in t) low count cells held i s size asset (omega arith) (omega arith) (omega arith) ∙ ap (λ n. window_up_to (cell_in t u i) n s) same
+
+    pub read_cells : All IsCell (window_up_to (cell_in t u i) w s)
+    read_cells = window_cells (cell_in t u) (assets_in t) low count cells held i s w asset some (omega arith) (omega arith)
+
+  -- one cell more of a session's row
+  pub row_more : (s i at : ℕ) (row : List ℤ) → low ≤ s → s ≤ t.to → at ≡ s - low → i < assets_in t → Begins (λ k. cell_in t u k s) (assets_in t) i row
+      → Begins (λ k. cell_in t u k s) (assets_in t) (i + 1) (set row i (get_or cells (i * count + at) (pos 0)))
+  row_more s i at row early late is asset b =
+      let e = at_is (cell_in t u) (assets_in t) low count cells held i s at asset early (omega arith) is in
+      one_begun (λ k. cell_in t u k s) (assets_in t) i row _ b asset e (rw e (at_cell (cell_in t u) (assets_in t) low count cells held i s at asset early (omega arith) is))
+
+-- who exists and passes the mask
+pub kept_masked : (w : World) (p : Pipeline) (sids : List ℕ) (m n s : ℕ) (old new mask : List ℤ) → IsKeep (λ i. exists w (sid_in sids i) (pos s)) n old → Fills (λ i. cell_of w p sids m i s) n mask
+    → length new ≡ length old → ((i : ℕ) → i < length old → is_true (get_or new i (pos 0)) ≡ (is_true (get_or old i (pos 0)) && is_true (get_or mask i (pos 0))))
+    → IsKeep (λ i. is_kept w p sids (Some m) i s) n new
+kept_masked w p sids m n s old new mask k f long each = record {
+  long = long ∙ k.long;
+  each = λ i h. each i (let l = k.long in omega arith) ∙ ap (λ b. b && is_true (get_or mask i (pos 0))) (k.each i h) ∙ ap (λ x. exists w (sid_in sids i) (pos s) && is_true x) (f.each i h);
+}

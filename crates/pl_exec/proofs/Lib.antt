@@ -1,0 +1,6 @@
+pub mod Counts
+pub mod Held
+pub mod Living
+pub mod Places
+pub mod Spans
+pub mod Trips

@@ -1,0 +1,117 @@
+-- What the code has of a chunk's work, and what is there when a term is computed.
+use Rattle.std.specs.Prelude.{◌≡◌, ℕ, ◌+◌, ◌-◌, ◌<◌, ◌≤◌, ◌*◌, ◌^◌, Bool, true, false, if◌then◌else◌, ℤ, pos, ◌<ℤ◌, List, [], length, map, filter_map, take, get_or, Option, Some, None, slice_get, AllPairs, sum_by}
+use Rattle.pl_spec.specs.Rounding.{IsCell}
+use Rattle.pl_spec.specs.declared.Column.{Column}
+use Rattle.pl_spec.specs.World.{World, column_number}
+use Rattle.pl_spec.specs.Term as spec
+use Rattle.pl_spec.specs.Term.Input.{BarColumn, TermInput}
+use Rattle.pl_spec.specs.Graph.{contains, columns_at, input_column}
+use Rattle.pl_assets.specs.Labels.{AreLabels}
+use Rattle.pl_cross.specs.Arrays.{HasTexts}
+use Rattle.pl_terms.specs.Checked.{IsChecked, pipeline_of}
+use Rattle.pl_terms.specs.Nodes.{node_of}
+use Rattle.pl_model.specs.Worlds.{world_of, PartsMakeAWorld}
+use Rattle.pl_planner.specs.Plans.{IsPlanOf, is_used, slot_of, column_slot}
+use Rattle.pl_values.specs.Arrays.{HasAll, Fills, IsKeep, empty_cell, is_kept}
+use Rattle.pl_adjarray.specs.Buffered.{Buffered}
+use Rattle.pl_adjarray.specs.Traversals.{Traversal, advances}
+use Rattle.pl_workspace.specs.Slots.{Slots, Free, slot_at}
+use Rattle.pl_exec.specs.declared.job.Job.{Job}
+use Rattle.pl_exec.specs.declared.turn.Turn.{Turn}
+use Rattle.pl_exec.specs.Slotted.{IsHeld, AreApart}
+use Rattle.pl_exec.specs.Tasks.{Task, AreColumns, IsArray, assets_in, cell_in, count_in, first_row, graph_in, kept_in, low_in, row_count, sids_in}
+
+-- what holds of a task throughout
+pub record IsTask (t : Task) : Type 0 where
+  pub checked : IsChecked t.pipeline
+  pub plan : IsPlanOf t.world.days t.pipeline t.plan
+  pub from : t.plan.from ≤ t.from
+  pub order : t.from ≤ t.to
+  pub to : t.to ≤ t.plan.to
+  pub columns : AreColumns t
+  pub up : AllPairs (λ a b. a < b) (sids_in t)
+  pub days : AllPairs (λ a b. a <ℤ b) t.world.days
+  pub texts : HasTexts t.world
+
+abbrev pub task_of : Job → Task
+task_of j = record { world = world_of j.world; pipeline = pipeline_of j.checked.now; plan = j.plan.now; cols = j.cols.now; from = j.from; to = j.to }
+
+pub record IsJob (j : Job) : Type 0 where
+  pub made : PartsMakeAWorld j.world
+  pub labels : AreLabels j.world.labels.now
+  pub few : length j.cols.now ≤ 8000
+  pub fits : j.to < 2 ^ 63
+  pub task : IsTask (task_of j)
+
+-- ---- what is read
+
+-- the array of term u is there, and begins size - 1 sessions before session s or earlier
+pub record IsRead (t : Task) (w : Slots) (s size u : ℕ) : Type 0 where
+  pub known : u < length (graph_in t)
+  pub used : is_used t.plan u ≡ true
+  pub held : IsHeld (IsArray t u) w (slot_of t.plan u)
+  pub some : 1 ≤ size
+  pub early : low_in t u + size ≤ s + 1
+
+-- what the node mentions is there for session s and later ones
+pub record IsReady (t : Task) (w : Slots) (s : ℕ) (n : spec.Node) : Type 0 where
+  pub inputs : (i u : ℕ) → slice_get n.inputs i ≡ Some (TermInput u) → IsRead t w s n.window u
+  pub mask : (u : ℕ) → n.mask ≡ Some u → IsRead t w s 1 u
+  pub group : (u : ℕ) → n.group ≡ Some u → IsRead t w s 1 u
+
+-- all the sessions of term k
+pub record IsRun (t : Task) (w : Slots) (k : ℕ) : Type 0 where
+  pub known : k < length (graph_in t)
+  pub used : is_used t.plan k ≡ true
+  pub ready : (n : spec.Node) → slice_get (graph_in t) k ≡ Some n → IsReady t w (low_in t k) n
+
+-- ---- one term on one session
+
+abbrev pub task_at : Turn → Task
+task_at t = task_of t.job.now
+
+abbrev pub node_at : Turn → spec.Node
+node_at t = node_of t.node.now
+
+pub record IsTurn (t : Turn) : Type 0 where
+  pub job : IsJob t.job.now
+  pub node : slice_get (graph_in (task_at t)) t.term.0 ≡ Some (node_at t)
+  pub ready : IsReady (task_at t) t.workspace.now t.session (node_at t)
+  pub late : t.session ≤ t.job.now.to
+  pub all : HasAll (task_at t).world (sids_in (task_at t)) t.session
+  pub none : t.none ≡ empty_cell (task_at t).pipeline t.term.0
+
+-- who is kept
+abbrev pub IsKept : Turn → List ℤ → Type 0
+IsKept t row = IsKeep (λ i. is_kept (task_at t).world (task_at t).pipeline (sids_in (task_at t)) (node_at t).mask i t.session) (assets_in (task_at t)) row
+
+-- the cells of the term
+abbrev pub IsOut : Turn → List ℤ → Type 0
+IsOut t row = Fills (λ i. cell_in (task_at t) t.term.0 i t.session) (assets_in (task_at t)) row
+
+-- a row of n cells of which the first ones are written
+pub record Begins (f : ℕ → ℤ) (n done : ℕ) (row : List ℤ) : Type 0 where
+  pub long : length row ≡ n
+  pub each : (i : ℕ) → i < done → get_or row i (pos 0) ≡ f i
+  pub cell : (i : ℕ) → i < done → IsCell (f i)
+
+-- the array is written for the first sessions
+pub record IsWritten (f : ℕ → ℕ → ℤ) (assets low count done : ℕ) (old cells : List ℤ) : Type 0 where
+  pub size : length cells ≡ length old
+  pub each : (i t : ℕ) → i < assets → t < done → get_or cells (i * count + t) (pos 0) ≡ f i (low + t)
+  pub cell : (i t : ℕ) → i < assets → t < done → IsCell (f i (low + t))
+
+-- ---- bar columns
+
+-- the bar columns of the inputs before place p
+abbrev pub columns_before : spec.Node → ℕ → List ℕ
+columns_before n p = filter_map input_column (take p n.inputs)
+
+-- the input in place p where it is a bar column that no input before it is
+abbrev pub new_column : spec.Node → ℕ → Option Column
+new_column n p = new_among (columns_before n p) (slice_get n.inputs p)
+  where
+    new_among : List ℕ → Option spec.Input → Option Column
+    new_among ns None = None
+    new_among ns (Some (TermInput u)) = None
+    new_among ns (Some (BarColumn c)) = if contains ns (column_number c) then None else Some c

@@ -1,0 +1,111 @@
+-- STAND-IN for pl_exec's words until that crate is there.
+use Rattle.std.specs.Prelude.{◌≡◌, ℕ, suc, ◌+◌, ◌-◌, ◌*◌, ◌<◌, ◌≤◌, Bool, true, false, if◌then◌else◌, ℤ, pos, List, [], ◌∷◌, length, map, filter, filter_map, take, sum_by, count_by, Option, Some, None, slice_get, All, AllPairs, min, ◌^◌}
+use Rattle.std.specs.List.{range_with_len}
+use Rattle.pl_spec.specs.declared.Column.{Column}
+use Rattle.pl_spec.specs.declared.Column.TheVariants.{OpenPrice, High, Low, Close, Volume}
+use Rattle.pl_spec.specs.Parts.{sid_at}
+use Rattle.pl_spec.specs.World.{World, column_number}
+use Rattle.pl_spec.specs.Window.{applied_steps}
+use Rattle.pl_spec.specs.Term.{Graph, Node}
+use Rattle.pl_spec.specs.Graph.{contains, columns_at, input_column, used_terms}
+use Rattle.pl_spec.specs.Table.{Pipeline, array_of}
+use Rattle.pl_terms.specs.Uses.{outputs}
+use Rattle.pl_terms.specs.Checked.{Parts, pipeline_of}
+use Rattle.pl_model.specs.declared.world.World as code
+use Rattle.pl_model.specs.Worlds.{world_of}
+use Rattle.pl_planner.specs.Plans.{Planned, is_used, low_at, last_user, slot_of}
+use Rattle.pl_values.specs.Arrays.{cell_of, Holds, HasAll}
+use Rattle.pl_workspace.specs.Slots.{Slots, Free, Live, slot_at, live_count}
+
+pub record IsHeld (fact : List ℤ → Type 0) (w : Slots) (s : ℕ) : Type 0 where
+  pub cells : List ℤ
+  pub is : slot_at w s ≡ Live cells
+  pub holds : fact cells
+
+pub record AreLive (slot : ℕ → ℕ) (fact : ℕ → List ℤ → Type 0) (live : ℕ → Bool) (n : ℕ) (w : Slots) : Type 0 where
+  pub held : (t : ℕ) → t < n → live t ≡ true → IsHeld (fact t) w (slot t)
+  pub free : (s : ℕ) → s < length w.slots → ((t : ℕ) → t < n → live t ≡ true → slot t ≡ s → ⊥) → slot_at w s ≡ Free
+  pub count : live_count w.slots ≡ count_by live (range_with_len 0 n)
+
+pub record Task : Type 0 where
+  pub world : World
+  pub pipeline : Pipeline
+  pub plan : Planned
+  pub cols : List ℕ
+  pub from : ℕ
+  pub to : ℕ
+
+abbrev pub graph_in : Task → Graph
+graph_in t = t.pipeline.graph
+
+abbrev pub sids_in : Task → List ℕ
+sids_in t = map (sid_at t.world.assets) t.cols
+
+abbrev pub assets_in : Task → ℕ
+assets_in t = length t.cols
+
+abbrev pub cell_in : Task → ℕ → ℕ → ℕ → ℤ
+cell_in t k i s = cell_of t.world t.pipeline (sids_in t) k i s
+
+abbrev pub low_in : Task → ℕ → ℕ
+low_in t k = low_at t.plan k t.from
+
+abbrev pub count_in : Task → ℕ → ℕ
+count_in t k = t.to + 1 - low_in t k
+
+abbrev pub IsArray : Task → ℕ → List ℤ → Type 0
+IsArray t k cells = Holds (cell_in t k) (assets_in t) (low_in t k) (count_in t k) cells
+
+abbrev pub columns_of : Node → List Column
+columns_of n = filter (λ c. contains (filter_map input_column n.inputs) (column_number c)) (OpenPrice ∷ High ∷ Low ∷ Close ∷ Volume ∷ [])
+
+abbrev pub columns_of_term : Graph → ℕ → List Column
+columns_of_term g k = of_node (slice_get g k)
+  where
+    of_node : Option Node → List Column
+    of_node None = []
+    of_node (Some n) = columns_of n
+
+abbrev pub window_of_term : Graph → ℕ → ℕ
+window_of_term g k = of_node (slice_get g k)
+  where
+    of_node : Option Node → ℕ
+    of_node None = 0
+    of_node (Some n) = n.window
+
+abbrev pub first_row : Task → ℕ → ℕ
+first_row t k = low_in t k - window_of_term (graph_in t) k
+
+abbrev pub row_count : Task → ℕ → ℕ
+row_count t k = count_in t k - 1 + window_of_term (graph_in t) k
+
+unfoldable pub term_steps : Task → ℕ → ℕ
+term_steps t k = sum_by (λ c. applied_steps t.world c (first_row t k) (row_count t k) (sids_in t)) (columns_of_term (graph_in t) k)
+
+abbrev pub chunk_steps : Task → ℕ
+chunk_steps t = sum_by (term_steps t) (used_terms (graph_in t) (outputs t.pipeline))
+
+abbrev pub cut : ℕ → ℕ
+cut n = min n (2 ^ 64 - 1)
+
+pub record AreColumns (t : Task) : Type 0 where
+  pub within : All (λ c. c < length t.world.assets) t.cols
+  pub ascend : AllPairs (λ a b. a < b) t.cols
+  pub all : (k s : ℕ) → is_used t.plan k ≡ true → low_in t k ≤ s → s ≤ t.to → HasAll t.world (sids_in t) s
+
+pub record HasRoom (t : Task) (len : ℕ) : Type 0 where
+  pub terms : (k : ℕ) → is_used t.plan k ≡ true → assets_in t * count_in t k ≤ len
+  pub columns : (k : ℕ) → is_used t.plan k ≡ true → 0 < columns_at (graph_in t) k → assets_in t * row_count t k ≤ len
+
+pub record HoldsOutputs (t : Task) (w : Slots) : Type 0 where
+  pub arrays : (k : ℕ) → contains (outputs t.pipeline) k ≡ true → IsHeld (IsArray t k) w (slot_of t.plan k)
+  pub values : (k : ℕ) (cells : List ℤ) → contains (outputs t.pipeline) k ≡ true → slot_at w (slot_of t.plan k) ≡ Live cells
+      → take (assets_in t * count_in t k) cells ≡ array_of t.world t.pipeline (sids_in t) (low_in t k) t.to k
+  pub only : AreLive (slot_of t.plan) (IsArray t) (contains (outputs t.pipeline)) (length (graph_in t)) w
+
+abbrev pub task_at : code.World → Parts → Planned → List ℕ → ℕ → ℕ → Task
+task_at w p plan cols from to = record { world = world_of w; pipeline = pipeline_of p; plan = plan; cols = cols; from = from; to = to }
+
+-- that the engine is there: nothing proves it until then
+unfoldable pub StandIn : Type 0
+StandIn = ⊥

@@ -1,0 +1,126 @@
+-- What a cross-section gives is a cell.
+use Rattle.std.proofs.Common.{◌≡◌, ◌⊎◌, ℕ, zero, suc, ◌+◌, ◌-◌, ◌*◌, ◌/◌, ◌<◌, ◌≤◌, ◌==◌, Bool, true, false, ◌&&◌, ◌||◌, if◌then◌else◌, nat_le, nat_lt, ℤ, pos, negsuc, ◌-ℤ◌, ◌*ℤ◌, List, [], ◌∷◌, length, map, filter, refl, sym, ◌∙◌, ap, arith, inl, inr, unsigned_abs, get_or, All}
+use Rattle.std.specs.List.{count_by, list_any, range_with_len}
+use Rattle.std.specs.Ordering.{int_eq}
+use Rattle.std.proofs.lemmas.Bool.Decides.{nat_tests}
+use Rattle.std.proofs.lemmas.List.{length-map}
+use Rattle.std.proofs.lemmas.List.Sums.{count_by-le-length, length-filter}
+use Rattle.pl_spec.specs.Rounding.{MISSING, MILLION, LIMIT, IsCell, is_missing, to_cell, quot, of_both, sub}
+use Rattle.pl_spec.specs.Formula.{truth}
+use Rattle.pl_spec.specs.Kind.{CrossKind}
+use Rattle.pl_spec.specs.Kind.CrossKind.{Rank, Demean, ZScore, Quantiles, Top, Bottom, PercentileBetween, PeerCount}
+use Rattle.pl_spec.specs.declared.RankMethod.{RankMethod}
+use Rattle.pl_spec.specs.declared.RankMethod.TheVariants.{Ordinal, Min, Max, Dense, Average}
+use Rattle.pl_spec.specs.declared.RankOrder.{RankOrder}
+use Rattle.pl_spec.specs.Cross.{Entry, values, precedes, preceding, same, earlier_same, distinct_values, ordinal, rank, edge, bin_of, cross, cross_at, counts_at, entries_for, at}
+use Rattle.pl_spec.specs.Value.{is_cross_filter}
+use Rattle.pl_cross.specs.Section.{IsRight}
+use Rattle.pl_cross.specs.Listing.{labels_for}
+use Rattle.pl_cross.specs.Arrays.{section_at, empty_number}
+
+chosen-has : (P : ℤ → Type 0) (b : Bool) (x y : ℤ) → P x → P y → P (if b then x else y)
+chosen-has P true x y p q = p
+chosen-has P false x y p q = q
+
+tested-cell : (b : Bool) (v : ℤ) → nat_le (unsigned_abs v) LIMIT ≡ b → IsCell (if b then v else MISSING)
+tested-cell true v e = inr (grind (arith, nat_tests))
+tested-cell false v e = inl refl
+
+to_cell-cell : (v : ℤ) → IsCell (to_cell v)
+unfolding to_cell
+to_cell-cell v = tested-cell (nat_le (unsigned_abs v) LIMIT) v refl
+
+quot-cell : (a b : ℤ) → IsCell (quot a b)
+unfolding quot
+quot-cell a (pos zero) = inl refl
+quot-cell a (pos (suc b)) = to_cell-cell _
+quot-cell a (negsuc b) = to_cell-cell _
+
+sub-cell : (x y : ℤ) → IsCell (sub x y)
+unfolding sub
+sub-cell x y = chosen-has IsCell (is_missing x || is_missing y) MISSING (to_cell (x -ℤ y)) (inl refl) (to_cell-cell _)
+
+truth-cell : (b : Bool) → IsCell (truth b)
+truth-cell true = let l : 1 ≤ LIMIT = omega arith in inr l
+truth-cell false = let l : 0 ≤ LIMIT = omega arith in inr l
+
+small-cell : (n : ℕ) → n ≤ LIMIT → IsCell (pos n)
+small-cell n h = inr h
+
+distinct-few : (vs : List ℤ) → length (distinct_values vs) ≤ length vs
+distinct-few [] = omega arith
+distinct-few (v ∷ vs) = here (list_any (int_eq v) vs) (distinct-few vs)
+  where
+    here : (b : Bool) → length (distinct_values vs) ≤ length vs → length (if b then distinct_values vs else v ∷ distinct_values vs) ≤ suc (length vs)
+    here true h = omega arith
+    here false h = omega arith
+
+range-long : (low n : ℕ) → length (range_with_len low n) ≡ n
+range-long low zero = refl
+range-long low (suc n) = ap suc (range-long (low + 1) n)
+
+module _ (list : List Entry) (a : ℕ) (x : ℤ) (few : length list ≤ 8000) where
+  long : length (values list) ≡ length list
+  long = length-map list (λ (e : Entry). e.1)
+
+  before-few : (order : RankOrder) → preceding order x (values list) ≤ 8000
+  before-few order = let c = count_by-le-length (λ v. precedes order v x) (values list) in let l = long in omega arith
+
+  same-few : same x (values list) ≤ 8000
+  same-few = let c = count_by-le-length (int_eq x) (values list) in let l = long in omega arith
+
+  rank-cell : (m : RankMethod) (order : RankOrder) → IsCell (pos (rank m order list a x))
+  rank-cell Ordinal order =
+      let b = before-few order in
+      let c : earlier_same a x list ≤ length list = count_by-le-length (λ (e : Entry). int_eq x e.1 && nat_lt e.0 a) list in
+      let l : (preceding order x (values list) + earlier_same a x list + 1) * MILLION ≤ LIMIT = omega arith in
+      small-cell _ l
+  rank-cell Min order = let b = before-few order in let l : (preceding order x (values list) + 1) * MILLION ≤ LIMIT = omega arith in small-cell _ l
+  rank-cell Max order = let b = before-few order in let c = same-few in let l : (preceding order x (values list) + same x (values list)) * MILLION ≤ LIMIT = omega arith in small-cell _ l
+  rank-cell Dense order =
+      let b = count_by-le-length (λ v. precedes order v x) (distinct_values (values list)) in
+      let c = distinct-few (values list) in
+      let e = long in
+      let l : (preceding order x (distinct_values (values list)) + 1) * MILLION ≤ LIMIT = omega arith in
+      small-cell _ l
+  rank-cell Average order =
+      let b = before-few order in
+      let c = same-few in
+      let l : preceding order x (values list) * MILLION + (same x (values list) + 1) * MILLION / 2 ≤ LIMIT = omega arith in
+      small-cell _ l
+
+  bin-cell : (bins : ℕ) → bins ≤ 100 → IsCell (pos (bin_of bins (values list) x))
+  bin-cell bins h =
+      let c : bin_of bins (values list) x ≤ length (range_with_len 1 (bins - 1)) = count_by-le-length _ (range_with_len 1 (bins - 1)) in
+      let r = range-long 1 (bins - 1) in
+      let l : bin_of bins (values list) x ≤ LIMIT = omega arith in
+      small-cell _ l
+
+cross-cell : (k : CrossKind) (list : List Entry) (a : ℕ) (x : ℤ) → IsRight k → length list ≤ 8000 → IsCell (cross k list a x)
+unfolding cross
+cross-cell (Rank m order) list a x r few = rank-cell list a x few m order
+cross-cell Demean list a x r few = sub-cell _ _
+cross-cell ZScore list a x r few = quot-cell _ _
+cross-cell (Quantiles bins) list a x r few = bin-cell list a x few bins r.1
+cross-cell (Top n) list a x r few = truth-cell _
+cross-cell (Bottom n) list a x r few = truth-cell _
+cross-cell (PercentileBetween low high) list a x r few = truth-cell _
+cross-cell PeerCount list a x r few = let l : length list * MILLION ≤ LIMIT = omega arith in small-cell _ l
+
+empty-cell : (k : CrossKind) → IsCell (empty_number k)
+empty-cell k = let l : 0 ≤ LIMIT = omega arith in chosen-has IsCell (is_cross_filter k) (pos 0) MISSING (inr l) (inl refl)
+
+entries-few : (vs keep : List ℤ) (labels : _) (i : ℕ) → length (entries_for vs keep labels i) ≤ length vs
+entries-few vs keep labels i =
+    let m = length-map (filter (counts_at vs keep labels i) (range_with_len 0 (length vs))) (λ j. (let e : Entry = (j, at vs j) in e)) in
+    let f = length-filter (counts_at vs keep labels i) (range_with_len 0 (length vs)) in
+    let c = count_by-le-length (counts_at vs keep labels i) (range_with_len 0 (length vs)) in
+    let r = range-long 0 (length vs) in
+    omega (arith, m, f, c, r)
+
+pub section-is-cell : (k : CrossKind) (vs keep : List ℤ) (labels : _) (i : ℕ) → IsRight k → length vs ≤ 8000 → IsCell (section_at k vs keep labels i)
+section-is-cell k vs keep labels i r few =
+    let l = entries-few vs keep (labels_for k vs labels) i in
+    let m : length (entries_for vs keep (labels_for k vs labels) i) ≤ 8000 = omega arith in
+    chosen-has IsCell (list_any (λ (e : Entry). e.0 == i) (entries_for vs keep (labels_for k vs labels) i)) _ (empty_number k)
+    (cross-cell k (entries_for vs keep (labels_for k vs labels) i) i (at vs i) r m) (empty-cell k)

@@ -1,0 +1,138 @@
+-- A filter is worth 0 or 1.
+use Rattle.std.proofs.Common.{◌≡◌, ◌⊎◌, ℕ, Bool, true, false, if◌then◌else◌, ℤ, pos, List, [], Option, Some, None, refl, sym, ◌∙◌, ap, slice_get, ◌==◌, inl, inr, ◌&&◌}
+use Rattle.std.specs.List.{list_any}
+use Rattle.pl_spec.specs.World.{World, exists}
+use Rattle.pl_spec.specs.Kind.{Kind, WindowKind, PointKind, LabelKind, CrossKind}
+use Rattle.pl_spec.specs.Kind.Kind.{Constant, Label, StaticSids, Window, Point, LabelTest, Cross, Downsample}
+use Rattle.pl_spec.specs.Kind.WindowKind.{All, Any, AtLeastN, AllPresent}
+use Rattle.pl_spec.specs.Kind.PointKind.{Add, Sub, Mul, Div, Neg, Comparison, And, Or, Not, Abs, Clip, FillNa, IsNull, NotNull, IfElse, NumberIs, NumberIsNot}
+use Rattle.pl_spec.specs.Kind.CrossKind.{Rank, Demean, ZScore, Quantiles, Top, Bottom, PercentileBetween, PeerCount}
+use Rattle.pl_spec.specs.Formula.{truth, formula}
+use Rattle.pl_spec.specs.Pointwise.{pointwise, label_test}
+use Rattle.pl_spec.specs.Cross.{cross}
+use Rattle.pl_spec.specs.Term.{Node, input_tree, trees}
+use Rattle.pl_spec.specs.Value.{Value, Part, now, passes, eligible, group_of, test_value, empty, number_of, sort_over, sort_kind, step}
+use Rattle.pl_spec.specs.Value.Value.{Number, Text}
+use Rattle.pl_spec.specs.NodeValue.{node_value, input_part, number_part}
+use Rattle.pl_spec.specs.Table.{Pipeline, value_of, in_array}
+use Rattle.pl_terms.specs.Checked.{IsChecked}
+use Rattle.pl_terms.specs.Sorts.{Sort, Factors, Filters, Labels, Numbers, sort_of, sort_at, window_sort, point_sort, cross_sort, has_parameters}
+use Rattle.pl_lanes.specs.Flags.{IsFlag}
+use Rattle.pl_cross.specs.Arrays.{sid_in}
+use Rattle.pl_values.specs.Arrays.{cell_of}
+use Rattle.pl_values.specs.Laws.{FilterCells}
+use Rattle.pl_values.proofs.Typed.{sort-node}
+use Rattle.pl_values.proofs.Numbers.{value-node}
+
+abbrev IsTruth : Value → Type 0
+IsTruth v = (b : Bool) × (v ≡ Number (truth b))
+
+window_truth : (k : WindowKind) (a b c : List ℤ) → window_sort k ≡ Filters → IsTruth (Number (formula k a b c))
+unfolding formula
+window_truth All a b c e = (_, refl)
+window_truth Any a b c e = (_, refl)
+window_truth (AtLeastN n) a b c e = (_, refl)
+window_truth AllPresent a b c e = (_, refl)
+window_truth k a b c e = absurd (let bad : Factors ≡ Filters = e in cc)
+
+point_truth : (k : PointKind) (x y z : ℤ) → point_sort k ≡ Filters → IsTruth (Number (pointwise k x y z))
+unfolding pointwise
+point_truth Add x y z e = absurd (let bad : Factors ≡ Filters = e in cc)
+point_truth Sub x y z e = absurd (let bad : Factors ≡ Filters = e in cc)
+point_truth Mul x y z e = absurd (let bad : Factors ≡ Filters = e in cc)
+point_truth Div x y z e = absurd (let bad : Factors ≡ Filters = e in cc)
+point_truth Neg x y z e = absurd (let bad : Factors ≡ Filters = e in cc)
+point_truth Abs x y z e = absurd (let bad : Factors ≡ Filters = e in cc)
+point_truth (Clip low high) x y z e = absurd (let bad : Factors ≡ Filters = e in cc)
+point_truth FillNa x y z e = absurd (let bad : Factors ≡ Filters = e in cc)
+point_truth IfElse x y z e = absurd (let bad : Factors ≡ Filters = e in cc)
+point_truth (Comparison c) x y z e = (_, refl)
+point_truth And x y z e = (_, refl)
+point_truth Or x y z e = (_, refl)
+point_truth Not x y z e = (_, refl)
+point_truth IsNull x y z e = (_, refl)
+point_truth NotNull x y z e = (_, refl)
+point_truth (NumberIs n) x y z e = (_, refl)
+point_truth (NumberIsNot n) x y z e = (_, refl)
+
+either_truth : (b : Bool) (v u : Value) → IsTruth v → IsTruth u → IsTruth (if b then v else u)
+either_truth true v u h k = h
+either_truth false v u h k = k
+
+none_truth : (v : Value) → v ≡ Number (pos 0) → IsTruth v
+none_truth v e = (false, e)
+
+cross_truth : (k : CrossKind) (list : _) (a : ℕ) (x : ℤ) → cross_sort k ≡ Filters → IsTruth (Number (cross k list a x)) × IsTruth (empty (Cross k))
+unfolding cross
+cross_truth (Top n) list a x e = ((_, refl), (false, refl))
+cross_truth (Bottom n) list a x e = ((_, refl), (false, refl))
+cross_truth (PercentileBetween low high) list a x e = ((_, refl), (false, refl))
+cross_truth (Quantiles bins) list a x e = absurd (let bad : Numbers ≡ Filters = e in cc)
+cross_truth k list a x e = absurd (let bad : Factors ≡ Filters = e in cc)
+
+test_truth : (k : LabelKind) (v : Value) → IsTruth (test_value k v)
+test_truth k (Number x) = (false, refl)
+test_truth k (Text t) = (label_test k t, refl)
+
+step_truth : (w : World) (names : List (List ℕ)) (k : Kind) (size : ℕ) (x y z m g : Part) (a : ℕ) (d : ℤ) → sort_of k ≡ Filters → IsTruth (step w names k size x y z m g a d)
+unfolding step sort_of
+step_truth w names (Constant c) size x y z m g a d h = absurd (let bad : Factors ≡ Filters = h in cc)
+step_truth w names (Label n) size x y z m g a d h = absurd (let bad : Labels ≡ Filters = h in cc)
+step_truth w names (Downsample f) size x y z m g a d h = absurd (let bad : Factors ≡ Filters = h in cc)
+step_truth w names (StaticSids sids) size x y z m g a d h = (_, refl)
+step_truth w names (Window k) size x y z m g a d h = window_truth k _ _ _ h
+step_truth w names (Point k) size x y z m g a d h = point_truth k _ _ _ h
+step_truth w names (LabelTest k) size x y z m g a d h = test_truth k (now x a d)
+step_truth w names (Cross k) size x y z m g a d h =
+    let t = cross_truth k (eligible w x m (group_of k x g) a d) a (number_of (now x a d)) h in
+    either_truth (list_any (λ e. e.0 == a) (eligible w x m (group_of k x g) a d)) _ (empty (Cross k)) t.0 t.1
+
+window_empty : (k : WindowKind) → window_sort k ≡ Filters → IsTruth (empty (Window k))
+window_empty All e = (false, refl)
+window_empty Any e = (false, refl)
+window_empty (AtLeastN n) e = (false, refl)
+window_empty AllPresent e = (false, refl)
+window_empty k e = absurd (let bad : Factors ≡ Filters = e in cc)
+
+point_empty : (k : PointKind) → point_sort k ≡ Filters → IsTruth (empty (Point k))
+point_empty Add e = absurd (let bad : Factors ≡ Filters = e in cc)
+point_empty Sub e = absurd (let bad : Factors ≡ Filters = e in cc)
+point_empty Mul e = absurd (let bad : Factors ≡ Filters = e in cc)
+point_empty Div e = absurd (let bad : Factors ≡ Filters = e in cc)
+point_empty Neg e = absurd (let bad : Factors ≡ Filters = e in cc)
+point_empty Abs e = absurd (let bad : Factors ≡ Filters = e in cc)
+point_empty (Clip low high) e = absurd (let bad : Factors ≡ Filters = e in cc)
+point_empty FillNa e = absurd (let bad : Factors ≡ Filters = e in cc)
+point_empty IfElse e = absurd (let bad : Factors ≡ Filters = e in cc)
+point_empty k e = (false, refl)
+
+empty_truth : (k i : Kind) → sort_of k ≡ Filters → IsTruth (empty (sort_over k i))
+unfolding sort_of
+empty_truth (Constant c) i h = absurd (let bad : Factors ≡ Filters = h in cc)
+empty_truth (Label n) i h = absurd (let bad : Labels ≡ Filters = h in cc)
+empty_truth (Downsample f) i h = absurd (let bad : Factors ≡ Filters = h in cc)
+empty_truth (StaticSids sids) i h = (false, refl)
+empty_truth (Window k) i h = window_empty k h
+empty_truth (Point k) i h = point_empty k h
+empty_truth (LabelTest k) i h = (false, refl)
+empty_truth (Cross k) i h = (cross_truth k [] 0 (pos 0) h).1
+
+truth_flag : (b : Bool) → IsFlag (truth b)
+truth_flag true = inr refl
+truth_flag false = inl refl
+
+value_flag : (texts : List (List ℕ)) (v : Value) → IsTruth v → IsFlag (in_array texts v)
+value_flag texts v t = let e = t.1 in rw e (truth_flag t.0)
+
+pub filter-cell : FilterCells
+unfolding cell_of
+filter-cell w p sids t i s ok h =
+    let m = sort-node p.graph t Filters h in
+    let a = sid_in sids i in
+    let n = m.0 in
+    let whole : IsTruth (node_value w p.names p.graph n a (pos s)) = either_truth
+    (exists w a (pos s) && passes (number_part w p.names p.graph n.mask) a (pos s)) _ (empty (sort_over n.kind (sort_kind (input_tree (trees p.graph) (slice_get n.inputs 0)))))
+    (step_truth w p.names n.kind n.window (input_part w p.names p.graph (slice_get n.inputs 0)) (input_part w p.names p.graph (slice_get n.inputs 1)) (input_part w p.names p.graph (slice_get n.inputs 2))
+    (number_part w p.names p.graph n.mask) (number_part w p.names p.graph n.group) a (pos s) m.2)
+    (empty_truth n.kind (sort_kind (input_tree (trees p.graph) (slice_get n.inputs 0))) m.2) in
+    value_flag w.texts (value_of w p t a (pos s)) (whole.0, value-node w p ok t n m.1 a (pos s) ∙ whole.1)

@@ -1,0 +1,204 @@
+-- Formulas and filters over windows.
+use Rattle.std.proofs.Common.{◌≡◌, ◌⊎◌, ℕ, zero, suc, ◌+◌, ◌-◌, ◌<◌, ◌≤◌, ◌==◌, Bool, true, false, ◌&&◌, ℤ, pos, ◌≤ℤ◌, List, [], ◌∷◌, Option, Some, None, length, map, refl, sym, ◌∙◌, ap, arith, slice_get, get_or, nat_le, All, subst, inl, inr, IsTrue}
+use Rattle.std.specs.List.{list_all}
+use Rattle.std.specs.Int.RustNames.{int_lt}
+use Rattle.std.proofs.lemmas.Int.{ints}
+use Rattle.std.proofs.lemmas.Bool.{and_parts}
+use Rattle.std.proofs.lemmas.Bool.Decides.{nat_tests}
+use Rattle.pl_spec.specs.Rounding.{MILLION, IsCell}
+use Rattle.pl_spec.specs.World.{World}
+use Rattle.pl_spec.specs.Window.{before, downward, bar_window, seen_cell}
+use Rattle.pl_spec.specs.Kind.{Kind, WindowKind}
+use Rattle.pl_spec.specs.Kind.Kind.{Window}
+use Rattle.pl_spec.specs.Kind.WindowKind.{Latest, SimpleMovingAverage, LinearWeightedMovingAverage, WindowSum, WindowMax, WindowMin, WindowStd, BollingerMiddle, BollingerLower, BollingerUpper, Returns, PercentChange, RateOfChangePercentage, RSI, VWAP, AverageDollarVolume, WeightedAverageValue, FastStochasticOscillator, TrueRange, ExponentialWeightedMovingAverage, AroonUp, AroonDown, All as AllTrue, Any, AtLeastN, AllPresent}
+use Rattle.pl_spec.specs.Formula.{formula}
+use Rattle.pl_spec.specs.Term.{Node, Input}
+use Rattle.pl_spec.specs.Term.Input.{BarColumn, TermInput}
+use Rattle.pl_spec.specs.Value.{number_of, window_of, step}
+use Rattle.pl_spec.specs.Value.Value.{Number}
+use Rattle.pl_spec.specs.NodeValue.{meaning_of, input_part}
+use Rattle.pl_spec.specs.Table.{Pipeline, value_of}
+use Rattle.pl_spec.proofs.Windows.{before-pos}
+use Rattle.pl_terms.specs.Checked.{IsChecked}
+use Rattle.pl_terms.specs.Sorts.{Sort, Factors, Filters, Place, Own, Bar, Series, Filter, sort_at, places, window_places, window_fits, fits, all_fit, takes_sort, has_window, has_parameters, is_limited}
+use Rattle.pl_lanes.specs.Flags.{IsFlag}
+use Rattle.pl_factors.specs.Kinds.{IsFactorOf, takes_pairs}
+use Rattle.pl_filters.specs.Filters.{AreValues}
+use Rattle.pl_cross.specs.Arrays.{sid_in}
+use Rattle.pl_values.specs.Arrays.{cell_of, window_up_to}
+use Rattle.pl_values.specs.Inputs.{input_window, AreWindows}
+use Rattle.pl_values.specs.Families.{IsWindowed, windowed, TakesWindows}
+use Rattle.pl_values.specs.Laws.{IsNode, WindowCells}
+use Rattle.pl_values.proofs.Typed.{fit-at, has-input, filter-sort}
+use Rattle.pl_values.proofs.Numbers.{plain_sort, plain-number, IsNumberedTerm}
+use Rattle.pl_values.proofs.Cells.{gated, cell-number}
+use Rattle.pl_values.proofs.Flags.{filter-cell}
+use Rattle.pl_values.proofs.Operations.{all-at, both-true, limited-cell}
+
+-- ---- lists over the numbers below one, the greatest first
+
+map-below : {X : Type 0} (f g : ℕ → X) (size : ℕ) → ((n : ℕ) → n < size → f n ≡ g n) → map f (downward size) ≡ map g (downward size)
+map-below f g zero h = refl
+map-below f g (suc size) h =
+    let front : f size ≡ g size = h size (omega arith) in
+    let rest : map f (downward size) ≡ map g (downward size) = map-below f g size (λ n l. h n (omega arith)) in
+    rw (front, rest) refl
+
+length-below : {X : Type 0} (f : ℕ → X) (size : ℕ) → length (map f (downward size)) ≡ size
+length-below f zero = refl
+length-below f (suc size) = ap suc (length-below f size)
+
+all-below : (P : ℤ → Type 0) (f : ℕ → ℤ) (size : ℕ) → ((n : ℕ) → P (f n)) → All P (map f (downward size))
+all-below P f zero h = λ k d l. absurd (omega (arith, l))
+all-below P f (suc size) h = λ k d l. here k d l (all-below P f size h)
+  where
+    here : (k : ℕ) (d : ℤ) → k < length (map f (downward (suc size))) → All P (map f (downward size)) → P (get_or (map f (downward (suc size))) k d)
+    here zero d l rest = h size
+    here (suc k) d l rest = rest k d (omega (arith, l))
+
+-- ---- what stands at the places of a window
+
+abbrev window_place : Place → Bool
+window_place (Own c) = true
+window_place Bar = true
+window_place Series = true
+window_place Filter = true
+window_place q = false
+
+windows-plain : (f : WindowKind) → list_all window_place (window_places f) ≡ true
+windows-plain Latest = refl
+windows-plain f = refl
+
+takes-plain : (q : Place) (o : Option Sort) → (window_place q && takes_sort q o) ≡ true → plain_sort o ≡ true
+takes-plain Series (Some Factors) h = refl
+takes-plain Filter (Some Filters) h = refl
+takes-plain q o h = absurd (let bad : false ≡ true = h in cc)
+
+places-of : (k : Kind) (f : WindowKind) → k ≡ Window f → places k ≡ window_places f
+unfolding places
+places-of k f e = rw e refl
+
+window-of : (k : Kind) (f : WindowKind) (w : ℕ) → k ≡ Window f → has_window k w ≡ true → window_fits f w ≡ true
+unfolding has_window
+window-of k f w e h = rw e at h
+
+from-most : (least w : ℕ) → (nat_le least w && nat_le w 1260) ≡ true → w ≤ 1260
+from-most least w h = let m : nat_le w 1260 ≡ true = (and_parts (nat_le least w) (nat_le w 1260) h).1 in grind (arith, nat_tests)
+
+window-most : (f : WindowKind) (w : ℕ) → window_fits f w ≡ true → w ≤ 1260
+window-most Latest w h = let e : w ≡ 1 = grind (arith, nat_tests) in omega arith
+window-most TrueRange w h = let e : w ≡ 2 = grind (arith, nat_tests) in omega arith
+window-most Returns w h = from-most 2 w h
+window-most PercentChange w h = from-most 2 w h
+window-most RateOfChangePercentage w h = from-most 2 w h
+window-most RSI w h = from-most 2 w h
+window-most AroonUp w h = from-most 2 w h
+window-most AroonDown w h = from-most 2 w h
+window-most f w h = from-most 1 w h
+
+module _ (w : World) (p : Pipeline) (sids : List ℕ) (ok : IsChecked p) (k : ℕ) (n : Node) (is : slice_get p.graph k ≡ Some n) (f : WindowKind) (e : n.kind ≡ Window f) where
+  fit : all_fit p.graph (window_places f) n.inputs ≡ true
+  fit = ap (λ ps. all_fit p.graph ps n.inputs) (sym (places-of n.kind f e)) ∙ (ok.nodes k n is).inputs
+
+  most : n.window ≤ 1260
+  most = window-most f n.window (window-of n.kind f n.window e (ok.nodes k n is).window)
+
+  -- a term in a window is worth numbers
+  term-numbered : (j t : ℕ) → slice_get n.inputs j ≡ Some (TermInput t) → IsNumberedTerm w p ok t
+  term-numbered j t h =
+      let q = fit-at p.graph (window_places f) n.inputs j (TermInput t) fit h in
+      plain-number w p ok t (sort_at p.graph t) refl (takes-plain q.0 (sort_at p.graph t) (both-true (window_place q.0) _ (all-at window_place (window_places f) j q.0 (windows-plain f) q.1) q.2))
+
+  module _ (i s : ℕ) (early : n.window ≤ s + 1) where
+    window-same : (j : ℕ) (o : Option Input) → slice_get n.inputs j ≡ o → window_of w n.window (input_part w p.names p.graph o) (sid_in sids i) (pos s) ≡ input_window w p sids n.window o i s
+    window-same j None h = refl
+    window-same j (Some (BarColumn c)) h = refl
+    window-same j (Some (TermInput t)) h =
+        map-below (λ m. number_of (value_of w p t (sid_in sids i) (before (pos s) m))) (λ m. cell_of w p sids t i (s - m)) n.window
+        (λ m l. ap (λ d. number_of (value_of w p t (sid_in sids i) d)) (before-pos s m (omega arith)) ∙ cell-number w p sids ok t (term-numbered j t h) i (s - m))
+
+    window-long : (o : Option Input) → length (input_window w p sids n.window o i s) ≤ n.window
+    window-long None = omega arith
+    window-long (Some (BarColumn c)) = let l = length-below (λ m. seen_cell w (sid_in sids i) c (before (pos s) (suc m)) (pos s)) n.window in omega (arith, l)
+    window-long (Some (TermInput t)) = let l = length-below (λ m. cell_of w p sids t i (s - m)) n.window in omega (arith, l)
+
+    window-full : (x : Input) → length (input_window w p sids n.window (Some x) i s) ≡ n.window
+    window-full (BarColumn c) = length-below (λ m. seen_cell w (sid_in sids i) c (before (pos s) (suc m)) (pos s)) n.window
+    window-full (TermInput t) = length-below (λ m. cell_of w p sids t i (s - m)) n.window
+
+    -- the window of a filter
+    flags-in : (a : List ℤ) → slice_get (window_places f) 0 ≡ Some Filter → a ≡ input_window w p sids n.window (slice_get n.inputs 0) i s → All IsFlag a
+    flags-in a h g = let x = has-input p.graph (window_places f) n.inputs 0 Filter fit h in here x.0 x.1 x.2
+      where
+        here : (x : Input) → slice_get n.inputs 0 ≡ Some x → fits p.graph Filter x ≡ true → All IsFlag a
+        here (BarColumn c) u v = absurd (let bad : false ≡ true = v in cc)
+        here (TermInput t) u v = subst (All IsFlag) (sym (g ∙ ap (λ o. input_window w p sids n.window o i s) u))
+            (all-below IsFlag (λ m. cell_of w p sids t i (s - m)) n.window (λ m. filter-cell w p sids t i (s - m) ok (filter-sort (sort_at p.graph t) v)))
+
+    -- two windows are of one length
+    two-full : (a b : List ℤ) (q r : Place) → slice_get (window_places f) 0 ≡ Some q → slice_get (window_places f) 1 ≡ Some r
+        → a ≡ input_window w p sids n.window (slice_get n.inputs 0) i s → b ≡ input_window w p sids n.window (slice_get n.inputs 1) i s → length b ≡ length a
+    two-full a b q r h g u v =
+        let x = has-input p.graph (window_places f) n.inputs 0 q fit h in
+        let y = has-input p.graph (window_places f) n.inputs 1 r fit g in
+        ap length (v ∙ ap (λ o. input_window w p sids n.window o i s) y.1) ∙ window-full y.0
+        ∙ sym (ap length (u ∙ ap (λ o. input_window w p sids n.window o i s) x.1) ∙ window-full x.0)
+
+-- ---- what the calls ask for
+
+decay-range : (d : ℤ) → (int_lt (pos 0) d && int_lt d (pos MILLION)) ≡ true → (pos 0 ≤ℤ d) × (d ≤ℤ pos MILLION)
+decay-range d h =
+    let a = and_parts (int_lt (pos 0) d) (int_lt d (pos MILLION)) h in
+    let low : int_lt (pos 0) d ≡ true = a.0 in
+    let high : int_lt d (pos MILLION) ≡ true = a.1 in
+    (grind (arith, ints, nat_tests), grind (arith, ints, nat_tests))
+
+positive-cell : (x : ℤ) → (int_lt (pos 0) x && is_limited x) ≡ true → IsCell x
+positive-cell x h = limited-cell x (and_parts (int_lt (pos 0) x) (is_limited x) h).1
+
+takes-kind : (f : WindowKind) (w names : ℕ) (a : List ℤ) → has_parameters (Window f) w names ≡ true → (slice_get (window_places f) 0 ≡ Some Filter → All IsFlag a) → All IsCell a → IsWindowed (Window f) a
+unfolding has_parameters
+takes-kind AllTrue w names a h flags cells = inr (tt, flags refl)
+takes-kind Any w names a h flags cells = inr (tt, flags refl)
+takes-kind (AtLeastN n) w names a h flags cells = inr (tt, flags refl)
+takes-kind AllPresent w names a h flags cells = inr (tt, cells)
+takes-kind (BollingerLower k) w names a h flags cells = inl (positive-cell k h)
+takes-kind (BollingerUpper k) w names a h flags cells = inl (positive-cell k h)
+takes-kind (ExponentialWeightedMovingAverage d) w names a h flags cells = inl (decay-range d h)
+takes-kind f w names a h flags cells = inl tt
+
+-- the kinds that take pairs have two windows
+paired-places : (f : WindowKind) → IsTrue (takes_pairs (Window f)) → (q : Place) × (r : Place) × (slice_get (window_places f) 0 ≡ Some q) × (slice_get (window_places f) 1 ≡ Some r)
+paired-places VWAP h = (_, _, refl, refl)
+paired-places AverageDollarVolume h = (_, _, refl, refl)
+paired-places WeightedAverageValue h = (_, _, refl, refl)
+paired-places f h = absurd (let bad : false ≡ true = h in cc)
+
+pub takes-windows : (w : World) (p : Pipeline) (sids : List ℕ) (ok : IsChecked p) (k : ℕ) (n : Node) → slice_get p.graph k ≡ Some n → (f : WindowKind) → n.kind ≡ Window f
+    → (i s : ℕ) → n.window ≤ s + 1 → (a b c : List ℤ) → AreWindows w p sids n i s a b c → TakesWindows (Window f) a b c
+takes-windows w p sids ok k n is f e i s early a b c g =
+    let parameters = subst (λ q. has_parameters q n.window (length p.names) ≡ true) e (ok.nodes k n is).parameters in
+    record {
+      kind = takes-kind f n.window (length p.names) a parameters (λ h. flags-in w p sids ok k n is f e i s early a h g.first) g.first_cells;
+      first = g.first_cells;
+      second = g.second_cells;
+      third = g.third_cells;
+      few =
+        (let long : length a ≤ n.window = subst (λ l. length l ≤ n.window) (sym g.first) (window-long w p sids ok k n is f e i s early (slice_get n.inputs 0)) in
+         let m = most w p sids ok k n is f e in omega arith);
+      paired = λ h. let q = paired-places f h in two-full w p sids ok k n is f e i s early a b q.0 q.1 q.2 q.3 g.first g.second;
+    }
+
+pub window-cell : WindowCells
+unfolding step
+window-cell w p sids k n i s own f a b c e early g =
+    let ok = own.checked in
+    let is = own.node in
+    (subst (λ q. TakesWindows q a b c) (sym e) (takes-windows w p sids ok k n is f e i s early a b c g),
+        gated w p sids ok k n is i s (windowed n.kind a b c)
+        (rw e
+            (ap (λ x. formula f x (window_of w n.window (input_part w p.names p.graph (slice_get n.inputs 1)) (sid_in sids i) (pos s)) (window_of w n.window (input_part w p.names p.graph (slice_get n.inputs 2)) (sid_in sids i) (pos s)))
+                (window-same w p sids ok k n is f e i s early 0 (slice_get n.inputs 0) refl ∙ sym g.first)
+            ∙ ap (λ x. formula f a x (window_of w n.window (input_part w p.names p.graph (slice_get n.inputs 2)) (sid_in sids i) (pos s)))
+                (window-same w p sids ok k n is f e i s early 1 (slice_get n.inputs 1) refl ∙ sym g.second)
+            ∙ ap (λ x. formula f a b x) (window-same w p sids ok k n is f e i s early 2 (slice_get n.inputs 2) refl ∙ sym g.third))))

@@ -1,0 +1,7 @@
+-- The laws of the cells, by one name each.
+pub use Rattle.pl_values.proofs.Plain.{unkept-cell, constant-cell, sid-cell, label-cell, label-test-cell, label-input}
+pub use Rattle.pl_values.proofs.Operations.{point-cell, point-operands}
+pub use Rattle.pl_values.proofs.Formulas.{window-cell}
+pub use Rattle.pl_values.proofs.Crosses.{section-cell, section-input}
+pub use Rattle.pl_values.proofs.Flags.{filter-cell}
+pub use Rattle.pl_values.proofs.Texts.{texts-coded}

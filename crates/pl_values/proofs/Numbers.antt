@@ -1,0 +1,155 @@
+-- Which terms are worth numbers, and which labels of the world.
+use Rattle.std.proofs.Common.{◌≡◌, ◌⊎◌, ℕ, Bool, true, false, ◌&&◌, if◌then◌else◌, ℤ, pos, List, Option, Some, None, refl, sym, ◌∙◌, ap, slice_get, ◌==◌, inl, inr}
+use Rattle.std.specs.List.{list_any}
+use Rattle.pl_spec.specs.Rounding.{MISSING, is_present}
+use Rattle.pl_spec.specs.World.{World, exists}
+use Rattle.pl_spec.specs.Kind.{Kind, WindowKind, PointKind, LabelKind, CrossKind}
+use Rattle.pl_spec.specs.Kind.WindowKind.{All, Any, AtLeastN, AllPresent}
+use Rattle.pl_spec.specs.Kind.PointKind.{Add, Sub, Mul, Div, Neg, Abs, Clip, FillNa, IfElse}
+use Rattle.pl_spec.specs.Kind.CrossKind.{Quantiles, Top, Bottom, PercentileBetween}
+use Rattle.pl_spec.specs.Kind.Kind.{Constant, Label, StaticSids, Window, Point, LabelTest, Cross, Downsample}
+use Rattle.pl_spec.specs.Formula.{truth}
+use Rattle.pl_spec.specs.Pointwise.{label_test}
+use Rattle.pl_spec.specs.Term.{Node, Input, Graph, input_tree, trees, term_at}
+use Rattle.pl_spec.specs.Value.{Value, Part, now, passes, eligible, group_of, test_value, empty, is_filter, number_of, sort_over, sort_kind, step, value}
+use Rattle.pl_spec.specs.Value.Value.{Number, Text}
+use Rattle.pl_spec.specs.NodeValue.{node_value, input_part, number_part}
+use Rattle.pl_spec.specs.Table.{Pipeline, value_of, in_array}
+use Rattle.pl_spec.proofs.Unfolds.{value_at-node}
+use Rattle.pl_spec.proofs.Trees.{term_at-node}
+use Rattle.pl_terms.specs.Checked.{IsChecked}
+use Rattle.pl_terms.specs.Sorts.{Sort, Factors, Filters, Labels, Numbers, sort_of, sort_at, window_sort, point_sort, cross_sort, has_parameters}
+use Rattle.pl_cross.specs.Arrays.{HasTexts}
+use Rattle.pl_cross.proofs.LabelCodes.{labels-coded}
+use Rattle.pl_cross.proofs.Codes.{IsCoded}
+use Rattle.pl_values.proofs.Typed.{sort-node}
+
+abbrev pub IsNumber : Value → Type 0
+IsNumber v = (x : ℤ) × (v ≡ Number x)
+
+-- an empty value is a number
+pub empty_is : (k : Kind) → empty k ≡ Number (number_of (empty k))
+empty_is k = here (is_filter k) refl
+  where
+    here : (b : Bool) → is_filter k ≡ b → empty k ≡ Number (number_of (empty k))
+    here true e = rw e refl
+    here false e = rw e refl
+
+test_number : (k : LabelKind) (v : Value) → IsNumber (test_value k v)
+test_number k (Number x) = (pos 0, refl)
+test_number k (Text t) = (truth (label_test k t), refl)
+
+either_number : (b : Bool) (v u : Value) → IsNumber v → IsNumber u → IsNumber (if b then v else u)
+either_number true v u h k = h
+either_number false v u h k = k
+
+-- the kinds whose values are numbers; a downsampled term has those of its input
+abbrev pub gives_numbers : Kind → Bool
+gives_numbers (Label n) = false
+gives_numbers (Downsample f) = false
+gives_numbers k = true
+
+step_number : (w : World) (names : List (List ℕ)) (k : Kind) (size : ℕ) (x y z m g : Part) (a : ℕ) (d : ℤ) → gives_numbers k ≡ true → IsNumber (step w names k size x y z m g a d)
+unfolding step
+step_number w names (Constant c) size x y z m g a d h = (c, refl)
+step_number w names (Label n) size x y z m g a d h = absurd (let bad : false ≡ true = h in cc)
+step_number w names (Downsample f) size x y z m g a d h = absurd (let bad : false ≡ true = h in cc)
+step_number w names (StaticSids sids) size x y z m g a d h = (_, refl)
+step_number w names (Window k) size x y z m g a d h = (_, refl)
+step_number w names (Point k) size x y z m g a d h = (_, refl)
+step_number w names (LabelTest k) size x y z m g a d h = test_number k (now x a d)
+step_number w names (Cross k) size x y z m g a d h =
+    either_number (list_any (λ e. e.0 == a) (eligible w x m (group_of k x g) a d)) _ (empty (Cross k)) (_, refl) (number_of (empty (Cross k)), empty_is (Cross k))
+
+-- the kind of a term that isn't a label
+not_label : (k : Kind) (w names : ℕ) → has_parameters k w names ≡ true → (sort_of k ≡ Labels → ⊥) → gives_numbers k ≡ true
+unfolding has_parameters sort_of
+not_label (Label n) w names h f = absurd (f refl)
+not_label (Downsample f) w names h g = absurd (let bad : false ≡ true = h in cc)
+not_label (Constant c) w names h f = refl
+not_label (StaticSids sids) w names h f = refl
+not_label (Window k) w names h f = refl
+not_label (Point k) w names h f = refl
+not_label (LabelTest k) w names h f = refl
+not_label (Cross k) w names h f = refl
+
+window_not : (k : WindowKind) → window_sort k ≡ Labels → ⊥
+window_not All e = absurd (let bad : Filters ≡ Labels = e in cc)
+window_not Any e = absurd (let bad : Filters ≡ Labels = e in cc)
+window_not (AtLeastN n) e = absurd (let bad : Filters ≡ Labels = e in cc)
+window_not AllPresent e = absurd (let bad : Filters ≡ Labels = e in cc)
+window_not k e = absurd (let bad : Factors ≡ Labels = e in cc)
+
+point_not : (k : PointKind) → point_sort k ≡ Labels → ⊥
+point_not Add e = absurd (let bad : Factors ≡ Labels = e in cc)
+point_not Sub e = absurd (let bad : Factors ≡ Labels = e in cc)
+point_not Mul e = absurd (let bad : Factors ≡ Labels = e in cc)
+point_not Div e = absurd (let bad : Factors ≡ Labels = e in cc)
+point_not Neg e = absurd (let bad : Factors ≡ Labels = e in cc)
+point_not Abs e = absurd (let bad : Factors ≡ Labels = e in cc)
+point_not (Clip low high) e = absurd (let bad : Factors ≡ Labels = e in cc)
+point_not FillNa e = absurd (let bad : Factors ≡ Labels = e in cc)
+point_not IfElse e = absurd (let bad : Factors ≡ Labels = e in cc)
+point_not k e = absurd (let bad : Filters ≡ Labels = e in cc)
+
+cross_not : (k : CrossKind) → cross_sort k ≡ Labels → ⊥
+cross_not (Quantiles bins) e = absurd (let bad : Numbers ≡ Labels = e in cc)
+cross_not (Top n) e = absurd (let bad : Filters ≡ Labels = e in cc)
+cross_not (Bottom n) e = absurd (let bad : Filters ≡ Labels = e in cc)
+cross_not (PercentileBetween low high) e = absurd (let bad : Filters ≡ Labels = e in cc)
+cross_not k e = absurd (let bad : Factors ≡ Labels = e in cc)
+
+-- a term of labels is a label
+label_kind : (k : Kind) → sort_of k ≡ Labels → (l : ℕ) × (k ≡ Label l)
+unfolding sort_of
+label_kind (Label l) e = (l, refl)
+label_kind (Constant c) e = absurd (let bad : Factors ≡ Labels = e in cc)
+label_kind (StaticSids sids) e = absurd (let bad : Filters ≡ Labels = e in cc)
+label_kind (Window k) e = absurd (window_not k e)
+label_kind (Point k) e = absurd (point_not k e)
+label_kind (LabelTest k) e = absurd (let bad : Filters ≡ Labels = e in cc)
+label_kind (Cross k) e = absurd (cross_not k e)
+label_kind (Downsample f) e = absurd (let bad : Factors ≡ Labels = e in cc)
+
+-- a term of the sort is worth numbers
+abbrev pub plain_sort : Option Sort → Bool
+plain_sort (Some Factors) = true
+plain_sort (Some Filters) = true
+plain_sort (Some Numbers) = true
+plain_sort o = false
+
+module _ (w : World) (p : Pipeline) (ok : IsChecked p) where
+  abbrev pub IsNumberedTerm : ℕ → Type 0
+  IsNumberedTerm t = (a : ℕ) (d : ℤ) → IsNumber (value_of w p t a d)
+
+  pub value-node : (k : ℕ) (n : Node) → slice_get p.graph k ≡ Some n → (a : ℕ) (d : ℤ) → value_of w p k a d ≡ node_value w p.names p.graph n a d
+  value-node k n is a d = value_at-node w p.names p.graph ok.graph k n is a d
+
+  pub numbered : (t : ℕ) (m : Node) → slice_get p.graph t ≡ Some m → (sort_of m.kind ≡ Labels → ⊥) → IsNumberedTerm t
+  numbered t m is other a d =
+      let whole : IsNumber (node_value w p.names p.graph m a d) = either_number
+      (exists w a d && passes (number_part w p.names p.graph m.mask) a d) _ (empty (sort_over m.kind (sort_kind (input_tree (trees p.graph) (slice_get m.inputs 0)))))
+      (step_number w p.names m.kind m.window (input_part w p.names p.graph (slice_get m.inputs 0)) (input_part w p.names p.graph (slice_get m.inputs 1)) (input_part w p.names p.graph (slice_get m.inputs 2))
+      (number_part w p.names p.graph m.mask) (number_part w p.names p.graph m.group) a d (not_label m.kind m.window _ (ok.nodes t m is).parameters other))
+      (number_of (empty (sort_over m.kind (sort_kind (input_tree (trees p.graph) (slice_get m.inputs 0))))), empty_is (sort_over m.kind (sort_kind (input_tree (trees p.graph) (slice_get m.inputs 0))))) in
+      (whole.0, value-node t m is a d ∙ whole.1)
+
+  pub numbered-sort : (t : ℕ) (r : Sort) → sort_at p.graph t ≡ Some r → (r ≡ Labels → ⊥) → IsNumberedTerm t
+  numbered-sort t r e other = let m = sort-node p.graph t r e in numbered t m.0 m.1 (λ f. other (sym m.2 ∙ f))
+
+  pub plain-number : (t : ℕ) (o : Option Sort) → sort_at p.graph t ≡ o → plain_sort o ≡ true → IsNumberedTerm t
+  plain-number t (Some Factors) g h = numbered-sort t Factors g (λ e. let bad : Factors ≡ Labels = e in cc)
+  plain-number t (Some Filters) g h = numbered-sort t Filters g (λ e. let bad : Filters ≡ Labels = e in cc)
+  plain-number t (Some Numbers) g h = numbered-sort t Numbers g (λ e. let bad : Numbers ≡ Labels = e in cc)
+  plain-number t o g h = absurd (let bad : false ≡ true = h in cc)
+
+  -- of a numbered term the array holds the number
+  pub number_is : (t : ℕ) → IsNumberedTerm t → (a : ℕ) (d : ℤ) → number_of (value_of w p t a d) ≡ in_array w.texts (value_of w p t a d)
+  number_is t numbered a d = let e = (numbered a d).1 in rw e refl
+
+  pub coded-sort : (t : ℕ) → HasTexts w → sort_at p.graph t ≡ Some Labels → (a : ℕ) (d : ℤ) → IsCoded w.texts (value_of w p t a d)
+  coded-sort t texts e a d =
+      let m = sort-node p.graph t Labels e in
+      let l = label_kind m.0.kind m.2 in
+      let tree = term_at-node p.graph t m.0 ok.graph m.1 in
+      rw (tree, l.1) (labels-coded w texts p.names l.0 m.0.window _ _ _ _ _ a d)

@@ -1,0 +1,102 @@
+-- Constants, lists of sids, labels and tests of labels.
+use Rattle.std.proofs.Common.{◌≡◌, ◌⊎◌, ℕ, ◌<◌, ◌≤◌, Bool, true, false, ◌&&◌, if◌then◌else◌, ℤ, pos, List, [], Option, Some, None, length, refl, sym, ◌∙◌, ap, arith, slice_get, get_or, inl, inr, nat_le, nat_lt, position, unwrap_or, bytes_eq, Contains, unsigned_abs}
+use Rattle.std.proofs.Common.{true≢false}
+use Rattle.std.proofs.lemmas.Bool.Decides.{nat_tests}
+use Rattle.std.proofs.lemmas.Slice.Eq.{bytes_eq-Decides}
+use Rattle.std.proofs.lemmas.List.Quantifiers.{position-Some}
+use Rattle.pl_spec.proofs.Places.{nowhere}
+use Rattle.pl_spec.specs.Rounding.{MISSING, LIMIT, IsCell, is_missing}
+use Rattle.pl_spec.specs.World.{World, label_at}
+use Rattle.pl_spec.specs.Kind.{Kind, LabelKind}
+use Rattle.pl_spec.specs.Kind.Kind.{Constant, Label, StaticSids, Window, Point, LabelTest, Cross, Downsample}
+use Rattle.pl_spec.specs.Formula.{truth}
+use Rattle.pl_spec.specs.Pointwise.{label_test}
+use Rattle.pl_spec.specs.Term.{Node, Input}
+use Rattle.pl_spec.specs.Term.Input.{BarColumn, TermInput}
+use Rattle.pl_spec.specs.Value.{Value, Part, name_at, label_value, test_value, step}
+use Rattle.pl_spec.specs.Value.Value.{Number, Text}
+use Rattle.pl_spec.specs.Table.{Pipeline, value_of, in_array}
+use Rattle.pl_terms.specs.Checked.{IsChecked}
+use Rattle.pl_terms.specs.Sorts.{Place, LabelClassifier, Labels, sort_at, places, fits, takes_sort, has_parameters, is_limited}
+use Rattle.pl_cross.specs.Arrays.{sid_in, HasTexts}
+use Rattle.pl_cross.proofs.Codes.{IsCoded}
+use Rattle.pl_values.specs.Arrays.{cell_of, empty_cell, is_kept, chosen}
+use Rattle.pl_values.specs.Families.{sid_flag, label_code, IsCode, code_flag}
+use Rattle.pl_values.specs.Laws.{IsNode, IsGiven, UnkeptCells, ConstantCells, SidCells, LabelCells, LabelTestCells}
+use Rattle.pl_values.proofs.Typed.{fit-at, has-input, label-sort}
+use Rattle.pl_values.proofs.Numbers.{coded-sort}
+use Rattle.pl_values.proofs.Cells.{gated, ungated}
+
+pub unkept-cell : UnkeptCells
+unkept-cell w p sids k n i s own h = ungated w p sids own.checked k n own.node i s h
+
+limited-cell : (x : ℤ) → is_limited x ≡ true → IsCell x
+limited-cell x h = let l : unsigned_abs x ≤ LIMIT = grind (arith, nat_tests) in inr l
+
+constant-limited : (k : Kind) (w names : ℕ) (value : ℤ) → k ≡ Constant value → has_parameters k w names ≡ true → is_limited value ≡ true
+unfolding has_parameters
+constant-limited k w names value e h = rw e at h
+
+pub constant-cell : ConstantCells
+unfolding step
+constant-cell w p sids k n i s own value e =
+    (limited-cell value (constant-limited n.kind n.window _ value e (own.checked.nodes k n own.node).parameters), gated w p sids own.checked k n own.node i s value (rw e refl))
+
+pub sid-cell : SidCells
+unfolding step
+sid-cell w p sids k n i s own list e = gated w p sids own.checked k n own.node i s (sid_flag n.kind (sid_in sids i)) (rw e refl)
+
+label-below : (k : Kind) (w names name : ℕ) → k ≡ Label name → has_parameters k w names ≡ true → name < names
+unfolding has_parameters
+label-below k w names name e h = let l : nat_lt name names ≡ true = rw e at h in grind (arith, nat_tests)
+
+pub label-cell : LabelCells
+unfolding step
+label-cell w p sids k n i s own name e =
+    (label-below n.kind n.window _ name e (own.checked.nodes k n own.node).parameters,
+        gated w p sids own.checked k n own.node i s (label_code w.texts (label_at w (name_at p.names name) (sid_in sids i) (pos s))) (rw e refl))
+
+-- ---- tests of labels
+
+-- a text of the list has a code, behind which it stands
+abbrev HasPlace : List (List ℕ) → List ℕ → Option ℕ → Type 0
+HasPlace texts t o = (unwrap_or o 0 < length texts) × (get_or texts (unwrap_or o 0) [] ≡ t)
+
+placed : (texts : List (List ℕ)) (t : List ℕ) → Contains texts t → (o : Option ℕ) → position (bytes_eq t) texts ≡ o → HasPlace texts t o
+placed texts t own None e = absurd (true≢false (sym ((bytes_eq-Decides t (get_or texts own.0 t)).1 (sym own.2)) ∙ nowhere (bytes_eq t) texts e own.0 t own.1))
+placed texts t own (Some n) e = let it = position-Some (bytes_eq t) texts n [] e in (it.0, sym ((bytes_eq-Decides t (get_or texts n [])).0 it.1))
+
+has-place : (texts : List (List ℕ)) (t : List ℕ) → Contains texts t → HasPlace texts t (position (bytes_eq t) texts)
+has-place texts t own = placed texts t own (position (bytes_eq t) texts) refl
+
+coded-code : (texts : List (List ℕ)) (v : Value) → IsCoded texts v → IsCode texts (in_array texts v)
+coded-code texts v (inl e) = inl (ap (in_array texts) e)
+coded-code texts v (inr t) = inr (unwrap_or (position (bytes_eq t.0) texts) 0, ap (in_array texts) t.1, (has-place texts t.0 t.2).0)
+
+coded-test : (texts : List (List ℕ)) (k : LabelKind) (v : Value) → IsCoded texts v → in_array texts (test_value k v) ≡ code_flag texts (LabelTest k) (in_array texts v)
+coded-test texts k v (inl e) = rw e refl
+coded-test texts k v (inr t) = let e = t.1 in rw e (ap (λ u. truth (label_test k u)) (sym (has-place texts t.0 t.2).1))
+
+label-places : (k : Kind) (f : LabelKind) → k ≡ LabelTest f → slice_get (places k) 0 ≡ Some LabelClassifier
+unfolding places
+label-places k f e = rw e refl
+
+-- the input of a test is a term of labels
+pub label-input : (p : Pipeline) (ok : IsChecked p) (k : ℕ) (n : Node) → slice_get p.graph k ≡ Some n → (f : LabelKind) → n.kind ≡ LabelTest f
+    → (t : ℕ) × (slice_get n.inputs 0 ≡ Some (TermInput t)) × (sort_at p.graph t ≡ Some Labels)
+label-input p ok k n is f e =
+    let x = has-input p.graph (places n.kind) n.inputs 0 LabelClassifier (ok.nodes k n is).inputs (label-places n.kind f e) in here x.0 x.1 x.2
+  where
+    here : (x : Input) → slice_get n.inputs 0 ≡ Some x → fits p.graph LabelClassifier x ≡ true → (t : ℕ) × (slice_get n.inputs 0 ≡ Some (TermInput t)) × (sort_at p.graph t ≡ Some Labels)
+    here (TermInput t) h g = (t, h, label-sort (sort_at p.graph t) g)
+    here (BarColumn c) h g = absurd (let bad : false ≡ true = g in cc)
+
+pub label-test-cell : LabelTestCells
+unfolding cell_of step
+label-test-cell w p sids k n i s own f t texts e x =
+    let input = label-input p own.checked k n own.node f e in
+    let same : input.0 ≡ t = cc in
+    let coded : IsCoded w.texts (value_of w p t (sid_in sids i) (pos s)) = coded-sort w p own.checked t texts (ap (sort_at p.graph) (sym same) ∙ input.2) (sid_in sids i) (pos s) in
+    (coded-code w.texts (value_of w p t (sid_in sids i) (pos s)) coded,
+        gated w p sids own.checked k n own.node i s (code_flag w.texts n.kind (in_array w.texts (value_of w p t (sid_in sids i) (pos s))))
+        (rw (e, x) (coded-test w.texts f (value_of w p t (sid_in sids i) (pos s)) coded)))

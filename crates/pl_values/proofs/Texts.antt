@@ -1,0 +1,55 @@
+-- The texts of a table of labels.
+use Rattle.std.proofs.Common.{◌≡◌, ◌≢◌, ◌⊎◌, ℕ, Bool, true, false, not, ◌==◌, List, [], ◌∷◌, length, map, filter, refl, sym, ◌∙◌, ap, subst, inl, inr, bytes_eq, true≢false, Contains, arith}
+use Rattle.std.proofs.lemmas.Bool.Decides.{nat_tests}
+use Rattle.std.proofs.lemmas.Slice.Eq.{bytes_eq-Decides}
+use Rattle.pl_spec.specs.World.{LabelRow}
+use Rattle.pl_spec.specs.Parts.{ColumnLabel, label_of}
+use Rattle.pl_spec.specs.declared.AssetRow.{AssetRow}
+use Rattle.pl_spec.proofs.Members.{In, in-contains, contains-in}
+use Rattle.pl_assets.specs.Labels.{LabelTable, AreLabels, first_seen, is_text, texts_of}
+use Rattle.pl_values.specs.Laws.{TextsHaveCodes}
+
+in-map : {A B : Type 0} (f : A → B) (xs : List A) (y : B) → In y (map f xs) → (x : A) × In x xs × (y ≡ f x)
+in-map f [] y i = absurd i
+in-map f (x ∷ xs) y (inl e) = (x, inl refl, e)
+in-map f (x ∷ xs) y (inr i) = let r = in-map f xs y i in (r.0, inr r.1, r.2)
+
+pub map-in : {A B : Type 0} (f : A → B) (xs : List A) (x : A) → In x xs → In (f x) (map f xs)
+map-in f [] x i = absurd i
+map-in f (y ∷ xs) x (inl e) = inl (ap f e)
+map-in f (y ∷ xs) x (inr i) = inr (map-in f xs x i)
+
+filter-in : {A : Type 0} (p : A → Bool) (xs : List A) (x : A) → In x xs → p x ≡ true → In x (filter p xs)
+filter-in p [] x i h = absurd i
+filter-in {A} p (y ∷ ys) x i h = here (p y) refl i (λ j. filter-in p ys x j h)
+  where
+    here : (b : Bool) → p y ≡ b → In x (y ∷ ys) → (In x ys → In x (filter p ys)) → In x (filter p (y ∷ ys))
+    here true e (inl g) more = rw e (inl g)
+    here true e (inr j) more = rw e (inr (more j))
+    here false e (inl g) more = absurd (true≢false (sym h ∙ ap p g ∙ e))
+    here false e (inr j) more = rw e (more j)
+
+-- a text is among those that each stand once
+pub seen-in : (xs : List (List ℕ)) (x : List ℕ) → In x xs → In x (first_seen xs)
+unfolding first_seen
+seen-in [] x i = absurd i
+seen-in (y ∷ ys) x (inl e) = inl e
+seen-in (y ∷ ys) x (inr i) = here (bytes_eq y x) refl (seen-in ys x i)
+  where
+    here : (b : Bool) → bytes_eq y x ≡ b → In x (first_seen ys) → (x ≡ y) ⊎ In x (filter (λ z. not (bytes_eq y z)) (first_seen ys))
+    here true e j = inl (sym ((bytes_eq-Decides y x).0 e))
+    here false e j = inr (filter-in (λ z. not (bytes_eq y z)) (first_seen ys) x j (ap not e))
+
+text-there : (t : List ℕ) → t ≢ [] → is_text t ≡ true
+text-there [] h = absurd (h refl)
+text-there (b ∷ bs) h = let some : (length (b ∷ bs) == 0) ≡ false = grind (arith, nat_tests) in ap not some
+
+pub texts-coded : TextsHaveCodes
+texts-coded days assets t bars adjustments own r there full =
+    let made = in-map (label_of assets) t.rows r (contains-in (map (label_of assets) t.rows) r there) in
+    let same : r.text ≡ made.0.text = ap (λ (q : LabelRow). q.text) made.2 in
+    let texts : List (List ℕ) = map (λ q. q.text) t.rows in
+    let among = map-in (λ (q : ColumnLabel). q.text) t.rows made.0 made.1 in
+    let kept = filter-in is_text (map (λ (q : ColumnLabel). q.text) t.rows) made.0.text among (text-there made.0.text (λ e. full (same ∙ e))) in
+    let seen = seen-in (filter is_text (map (λ (q : ColumnLabel). q.text) t.rows)) made.0.text kept in
+    subst (λ l. Contains l r.text) (sym own.texts) (in-contains _ r.text (subst (λ x. In x (texts_of t.rows)) (sym same) seen))

@@ -1,0 +1,52 @@
+-- What the inputs, the mask and the group of a node are as cells, over the arrays of the terms that it mentions.
+use Rattle.std.specs.Prelude.{◌≡◌, ℕ, ◌<◌, List, [], ℤ, pos, length, All, AllPairs, Option, Some, None, slice_get}
+use Rattle.pl_spec.specs.Rounding.{MISSING, IsCell}
+use Rattle.pl_spec.specs.World.{World}
+use Rattle.pl_spec.specs.Window.{bar_window}
+use Rattle.pl_spec.specs.Kind.{CrossKind}
+use Rattle.pl_spec.specs.Term.{Input, Node}
+use Rattle.pl_spec.specs.Term.Input.{BarColumn, TermInput}
+use Rattle.pl_spec.specs.Table.{Pipeline}
+use Rattle.pl_cross.specs.Arrays.{sid_in}
+use Rattle.pl_values.specs.Arrays.{cell_of, is_kept, window_up_to, HasAll, Fills, IsKeep}
+
+-- the window of an input: of a bar column the bars before session s as they are seen on it, of a term its cells up to s
+abbrev pub input_window : World → Pipeline → List ℕ → ℕ → Option Input → ℕ → ℕ → List ℤ
+input_window w p sids size None i s = []
+input_window w p sids size (Some (BarColumn c)) i s = bar_window w c size (sid_in sids i) (pos s)
+input_window w p sids size (Some (TermInput t)) i s = window_up_to (cell_of w p sids t i) size s
+
+-- The windows of a node's inputs for the asset in place i, in order; what stands behind the last input is empty.
+pub record AreWindows (w : World) (p : Pipeline) (sids : List ℕ) (n : Node) (i s : ℕ) (a b c : List ℤ) : Type 0 where
+  pub first : a ≡ input_window w p sids n.window (slice_get n.inputs 0) i s
+  pub second : b ≡ input_window w p sids n.window (slice_get n.inputs 1) i s
+  pub third : c ≡ input_window w p sids n.window (slice_get n.inputs 2) i s
+  pub first_cells : All IsCell a
+  pub second_cells : All IsCell b
+  pub third_cells : All IsCell c
+
+-- the row of an input that is a term; any other row is of no matter
+abbrev pub IsInputRow : World → Pipeline → List ℕ → ℕ → Option Input → ℕ → List ℤ → Type 0
+IsInputRow w p sids n (Some (TermInput t)) s row = Fills (λ i. cell_of w p sids t i s) n row
+IsInputRow w p sids n o s row = Unit {0}
+
+-- the rows of a node's inputs on session s, in order
+pub record AreRows (w : World) (p : Pipeline) (sids : List ℕ) (n : Node) (s size : ℕ) (a b c : List ℤ) : Type 0 where
+  pub first : IsInputRow w p sids size (slice_get n.inputs 0) s a
+  pub second : IsInputRow w p sids size (slice_get n.inputs 1) s b
+  pub third : IsInputRow w p sids size (slice_get n.inputs 2) s c
+
+-- the row of a group, where there is one
+abbrev pub IsGroupRow : World → Pipeline → List ℕ → Option ℕ → ℕ → Option (List ℤ) → Type 0
+IsGroupRow w p sids None s labels = labels ≡ None
+IsGroupRow w p sids (Some t) s None = ⊥
+IsGroupRow w p sids (Some t) s (Some labels) = Fills (λ i. cell_of w p sids t i s) (length sids) labels
+
+-- The rows of a cross-section's node on session s: its input, who is kept, and the group. The sids ascend, and have every asset
+-- that exists on the session.
+pub record AreSectionRows (w : World) (p : Pipeline) (sids : List ℕ) (n : Node) (s : ℕ) (xs ks : List ℤ) (labels : Option (List ℤ)) : Type 0 where
+  pub ascend : AllPairs (λ a b. a < b) sids
+  pub all : HasAll w sids s
+  pub values : IsInputRow w p sids (length sids) (slice_get n.inputs 0) s xs
+  pub keep : IsKeep (λ i. is_kept w p sids n.mask i s) (length sids) ks
+  pub groups : IsGroupRow w p sids n.group s labels

@@ -1,0 +1,4 @@
+pub mod Arrays
+pub mod Inputs
+pub mod Families
+pub mod Laws

@@ -1,0 +1,26 @@
+//! Who is kept.
+ghost use Rattle.std.specs.Prelude.{◌≡◌, ℕ, ◌<◌, pos, get_or, length};
+ghost use Rattle.pl_spec.specs.Rounding.{IsCell};
+ghost use Rattle.pl_spec.specs.Formula.{truth};
+ghost use Rattle.pl_values.specs.Arrays.{kept_or};
+
+/// 1 for true, 0 for false.
+pub fn truth_of(holds: bool) -> i64
+    ensures { result ≡ truth holds }
+{
+    if holds { 1 } else { 0 }
+}
+
+/// Puts the empty value where the asset is not kept, and leaves the rest as it is.
+pub fn keep_values(keep: &[i64], none: i64, out: &mut [i64])
+    requires { length keep.now ≡ length out.old }
+    ensures length { length out.new ≡ length out.old }
+    ensures each { (i : ℕ) → i < length out.old → get_or out.new i (pos 0)
+        ≡ kept_or none keep.now (λ j. get_or out.old j (pos 0)) i }
+{
+    for i in 0..keep.len() {
+        if keep[i] != 1 {
+            out[i] = none;
+        }
+    }
+}
