@@ -1,4 +1,5 @@
 pub mod Counts
+pub mod Givens
 pub mod Held
 pub mod Living
 pub mod Places

@@ -81,7 +81,8 @@ fn label_test_row(turn: &Turn<'_>, codes: &mut [i64], keep: &[i64], out: &mut [i
     ensures { IsOut turn.now out.new }
 {
     input_row(turn, 0, codes);
-    let labels = turn.job.world.labels;
+    let job = turn.job;
+    let labels = job.world.labels;
     for i in 0..out.len() {
         let flag = label_test_value(kind_of(turn.node), labels, codes[i]);
         out[i] = pick(keep[i], flag, turn.none);

@@ -1,5 +1,8 @@
 //! The used terms of a pipeline over the sessions of one chunk.
 #![tactic(auto)]
 
+mod columns;
 mod job;
+mod kinds;
 mod turn;
+mod windows;

@@ -1,0 +1,93 @@
+//! The distinct bar columns among the inputs of a node.
+ghost use Rattle.std.specs.Prelude.{◌≡◌, ◌==◌, ◌≤◌, ℕ, length, filter_map, map, option_map, slice_get};
+ghost use Rattle.pl_spec.specs.World.{column_number};
+ghost use Rattle.pl_spec.specs.Graph.{contains, input_column};
+ghost use Rattle.pl_terms.specs.Nodes.{input_of, node_of};
+ghost use Rattle.pl_exec.specs.Jobs as spec;
+
+use crate::job::input_at;
+use pl_fixed::Column;
+use pl_terms::{Input, Node};
+
+fn column_number(column: Column) -> u8
+    ensures { result ≡ column_number column }
+{
+    match column {
+        Column::OpenPrice => 0,
+        Column::High => 1,
+        Column::Low => 2,
+        Column::Close => 3,
+        Column::Volume => 4,
+    }
+}
+
+fn is_column(input: Input, column: Column) -> bool
+    ensures { result ≡ spec.is_column (input_of input) column }
+{
+    match input {
+        Input::Column(other) => column_number(other) == column_number(column),
+        Input::Term(_) => false,
+    }
+}
+
+fn has_column(inputs: &[Input], column: Column) -> bool
+    ensures { result ≡ contains (filter_map input_column (map input_of inputs.now)) (column_number column) }
+{
+    match inputs {
+        [] => false,
+        [first, rest @ ..] => is_column(*first, column) || has_column(rest, column),
+    }
+}
+
+/// Is a bar column among the inputs before a place?
+#[tactic(auto, unfolding(pl_terms::specs::Nodes::node_of))]
+fn is_before(node: &Node, place: usize, column: Column) -> bool
+    ensures { result ≡ contains (spec.columns_before (node_of node.now) place) (column_number column) }
+{
+    let inputs = node.inputs.as_slice();
+    if place < inputs.len() {
+        has_column(&inputs[..place], column)
+    } else {
+        has_column(inputs, column)
+    }
+}
+
+/// The input in a place, where it is a bar column that no input before it is.
+pub(crate) fn new_column(node: &Node, place: usize) -> Option<Column>
+    ensures { result ≡ spec.new_column (node_of node.now) place }
+{
+    match input_at(node, place) {
+        Some(Input::Column(column)) => unless(is_before(node, place, column), column),
+        _ => None,
+    }
+}
+
+fn unless(is: bool, column: Column) -> Option<Column>
+    ensures { result ≡ spec.unless is column }
+{
+    if is { None } else { Some(column) }
+}
+
+fn place_among(inputs: &[Input], column: Column) -> usize
+    ensures value { result ≡ spec.place_among (map input_of inputs.now) column }
+    ensures within { result ≤ length inputs.now }
+{
+    match inputs {
+        [] => 0,
+        [first, rest @ ..] => {
+            if is_column(*first, column) {
+                0
+            } else {
+                place_among(rest, column) + 1
+            }
+        }
+    }
+}
+
+/// The first place of a bar column that is an input.
+#[tactic(auto, unfolding(pl_terms::specs::Nodes::node_of))]
+pub(crate) fn place_of(node: &Node, column: Column) -> usize
+    ensures { result ≡ spec.place_among (node_of node.now).inputs column }
+{
+    place_among(node.inputs.as_slice(), column)
+}
