@@ -8,11 +8,22 @@ use Rattle.pl_cross.specs.Arrays.{sid_in}
 use Rattle.pl_values.specs.Arrays.{Holds, Fills, IsKeep, window_up_to, is_kept, cell_of}
 use Rattle.pl_workspace.specs.Slots.{Slots}
 use Rattle.pl_exec.specs.Tasks.{Task, assets_in, cell_in, count_in, low_in}
-use Rattle.pl_exec.specs.Jobs.{IsRead, Begins}
+use Rattle.pl_exec.specs.Jobs.{IsRead, IsReady, Begins}
 use Rattle.pl_exec.proofs.Spans.{end_within, size_within, window_is, window_cells, one_begun, at_is, at_cell, at_within}
 
 pub read_less : (t : Task) (w : Slots) (s size u : ℕ) → IsRead t w s size u → IsRead t w s 1 u
 read_less t w s size u r = record { known = r.known; used = r.used; held = r.held; some = omega arith; early = (let e = r.early in let o = r.some in omega arith) }
+
+-- from a later session on
+pub later_ready : (t : Task) (w : Slots) (low s : ℕ) (n : _) → low ≤ s → IsReady t w low n → IsReady t w s n
+later_ready t w low s n h r = record {
+  inputs = λ i u e. later n.window u (r.inputs i u e);
+  mask = λ u e. later 1 u (r.mask u e);
+  group = λ u e. later 1 u (r.group u e);
+}
+  where
+    later : (size u : ℕ) → IsRead t w low size u → IsRead t w s size u
+    later size u x = record { known = x.known; used = x.used; held = x.held; some = x.some; early = (let y = x.early in omega arith) }
 
 -- the array of term u, as the code has it
 module _ (t : Task) (u low count : ℕ) (cells : List ℤ) (holds : Holds (cell_in t u) (assets_in t) (low_in t u) (count_in t u) cells) (is_low : low ≡ low_in t u) (end : low + count ≡ t.to + 1) where

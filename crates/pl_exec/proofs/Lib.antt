@@ -1,3 +1,4 @@
+pub mod Bars
 pub mod Counts
 pub mod Givens
 pub mod Held

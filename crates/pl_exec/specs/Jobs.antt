@@ -67,6 +67,7 @@ pub record IsRun (t : Task) (w : Slots) (k : ℕ) : Type 0 where
   pub known : k < length (graph_in t)
   pub used : is_used t.plan k ≡ true
   pub ready : (n : spec.Node) → slice_get (graph_in t) k ≡ Some n → IsReady t w (low_in t k) n
+  pub deep : (n : spec.Node) → slice_get (graph_in t) k ≡ Some n → n.window ≤ low_in t k + 1
 
 -- ---- one term on one session
 
@@ -81,6 +82,7 @@ pub record IsTurn (t : Turn) : Type 0 where
   pub node : slice_get (graph_in (task_at t)) t.term.0 ≡ Some (node_at t)
   pub ready : IsReady (task_at t) t.workspace.now t.session (node_at t)
   pub late : t.session ≤ t.job.now.to
+  pub deep : (node_at t).window ≤ t.session + 1
   pub all : HasAll (task_at t).world (sids_in (task_at t)) t.session
   pub none : t.none ≡ empty_cell (task_at t).pipeline t.term.0
 
@@ -181,10 +183,16 @@ counted b = applied_at b.first.array b.first.session + applied_at b.second.array
 abbrev pub GoesOn : Traversal → Type 0
 GoesOn v = advances v + v.window ≤ v.array.rows
 
+pub record HasBarsAt (j : Job) (k : ℕ) (n : spec.Node) (s : ℕ) (b : Bars) : Type 0 where
+  pub advances : ℕ
+  pub bars : AreBars j k n (suc advances) b
+  pub at : s ≡ low_in (task_of j) k + advances
+  pub deep : n.window ≤ low_in (task_of j) k
+
 -- the traversals stand on session s; there are none where no input is a bar column
 abbrev pub HasBars : Job → ℕ → spec.Node → ℕ → Option Bars → Type 0
 HasBars j k n s None = (p : ℕ) (c : Column) → slice_get n.inputs p ≡ Some (BarColumn c) → ⊥
-HasBars j k n s (Some b) = (m : ℕ) × AreBars j k n (suc m) b × (s ≡ low_in (task_of j) k + m)
+HasBars j k n s (Some b) = HasBarsAt j k n s b
 
 abbrev pub bars_now : Option (Bor Bars) → Option Bars
 bars_now None = None

@@ -5,7 +5,7 @@ ghost use Rattle.pl_spec.specs.Graph.{contains, input_column};
 ghost use Rattle.pl_terms.specs.Nodes.{input_of, node_of};
 ghost use Rattle.pl_exec.specs.Jobs as spec;
 
-use crate::job::input_at;
+use crate::job::{input_at, inputs_of};
 use pl_fixed::Column;
 use pl_terms::{Input, Node};
 
@@ -40,16 +40,11 @@ fn has_column(inputs: &[Input], column: Column) -> bool
 }
 
 /// Is a bar column among the inputs before a place?
-#[tactic(auto, unfolding(pl_terms::specs::Nodes::node_of))]
 fn is_before(node: &Node, place: usize, column: Column) -> bool
     ensures { result ≡ contains (spec.columns_before (node_of node.now) place) (column_number column) }
 {
-    let inputs = node.inputs.as_slice();
-    if place < inputs.len() {
-        has_column(&inputs[..place], column)
-    } else {
-        has_column(inputs, column)
-    }
+    let inputs = inputs_of(node);
+    has_column(&inputs[..place.min(inputs.len())], column)
 }
 
 /// The input in a place, where it is a bar column that no input before it is.
@@ -85,9 +80,8 @@ fn place_among(inputs: &[Input], column: Column) -> usize
 }
 
 /// The first place of a bar column that is an input.
-#[tactic(auto, unfolding(pl_terms::specs::Nodes::node_of))]
 pub(crate) fn place_of(node: &Node, column: Column) -> usize
     ensures { result ≡ spec.place_among (node_of node.now).inputs column }
 {
-    place_among(node.inputs.as_slice(), column)
+    place_among(inputs_of(node), column)
 }

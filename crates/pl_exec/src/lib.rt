@@ -2,6 +2,7 @@
 #![tactic(auto)]
 
 mod columns;
+mod fill;
 mod job;
 mod kinds;
 mod turn;

@@ -15,7 +15,7 @@ ghost use Rattle.pl_exec.specs.Jobs.{GoesOn, HasBars, IsKept, IsOut, IsTurn, adv
 
 use crate::columns::place_of;
 use crate::job::{input_at, kind_of};
-use crate::turn::{Turn, term_window};
+use crate::turn::{Turn, is_one, term_window};
 use pl_adjarray::Windows;
 use pl_fixed::{Column, Steps};
 use pl_terms::Input;
@@ -119,7 +119,7 @@ fn window_at<'t>(turn: &Turn<'t>, bars: Option<&'t Bars<'t>>, i: usize, keep: i6
     ensures value { result ≡ cell_in (task_at turn.now) turn.now.term.0 i turn.now.session }
     ensures cell { IsCell result }
 {
-    if keep != 1 {
+    if !is_one(keep) {
         return turn.none;
     }
     let first = window_in(turn, bars, 0, i);
