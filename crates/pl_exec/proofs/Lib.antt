@@ -1,8 +1,11 @@
 pub mod Bars
+pub mod NewColumns
 pub mod Counts
 pub mod Givens
 pub mod Held
+pub mod Listed
 pub mod Living
+pub mod Mentions
 pub mod Places
 pub mod Spans
 pub mod Trips

@@ -70,11 +70,8 @@ map-take f zero (x ∷ xs) = refl
 map-take f (suc p) (x ∷ xs) = ap (λ l. f x ∷ l) (map-take f p xs)
 
 pub take-min : {A : Type 0} (p : ℕ) (xs : List A) → take (min p (length xs)) xs ≡ take p xs
-take-min p [] = here p
-  where
-    here : (m : ℕ) → take (min m 0) [] ≡ take m []
-    here zero = refl
-    here (suc m) = refl
+take-min zero [] = refl
+take-min (suc p) [] = let e : min (suc p) 0 ≡ 0 = omega arith in ap (λ m. take m []) e
 take-min zero (x ∷ xs) = let e : min 0 (length (x ∷ xs)) ≡ 0 = omega arith in ap (λ m. take m (x ∷ xs)) e
 take-min (suc p) (x ∷ xs) = let e : min (suc p) (length (x ∷ xs)) ≡ suc (min p (length xs)) = omega arith in ap (λ m. take m (x ∷ xs)) e ∙ ap (λ l. x ∷ l) (take-min p xs)
 

@@ -11,6 +11,7 @@ use Rattle.pl_assets.specs.Labels.{AreLabels}
 use Rattle.pl_cross.specs.Arrays.{HasTexts}
 use Rattle.pl_terms.specs.Checked.{IsChecked, pipeline_of}
 use Rattle.pl_terms.specs.Nodes.{node_of}
+use Rattle.pl_terms.specs.Sorts.{is_windowed}
 use Rattle.pl_model.specs.Worlds.{world_of, PartsMakeAWorld}
 use Rattle.pl_planner.specs.Plans.{IsPlanOf, is_used, slot_of, column_slot}
 use Rattle.pl_values.specs.Arrays.{HasAll, Fills, IsKeep, empty_cell, is_kept}
@@ -216,3 +217,12 @@ AreFree t w k i = (m : ℕ) → i ≤ m → m < columns_at (graph_in t) k → (c
 -- a row for each session of the buffer and each asset, where the place has a new bar column
 abbrev pub HasRows : Task → ℕ → spec.Node → ℕ → List ℤ → Type 0
 HasRows t k n p cells = new_column n p ≢ None → assets_in t * row_count t k ≤ length cells
+
+-- a formula over bar columns, computed for all its sessions
+pub record IsColumnRun (j : Job) (w : Slots) (k : ℕ) (n : spec.Node) : Type 0 where
+  pub job : IsJob j
+  pub run : IsRun (task_of j) w k
+  pub node : slice_get (graph_in (task_of j)) k ≡ Some n
+  pub kind : is_windowed n.kind ≡ true
+  pub some : 1 ≤ n.window
+  pub deep : n.window ≤ low_in (task_of j) k

@@ -1,5 +1,5 @@
 //! The distinct bar columns among the inputs of a node.
-ghost use Rattle.std.specs.Prelude.{◌≡◌, ◌==◌, ◌≤◌, ℕ, length, filter_map, map, option_map, slice_get};
+ghost use Rattle.std.specs.Prelude.{◌≡◌, ◌==◌, ◌≤◌, ℕ, length, min, filter_map, map, option_map, slice_get};
 ghost use Rattle.pl_spec.specs.World.{column_number};
 ghost use Rattle.pl_spec.specs.Graph.{contains, input_column};
 ghost use Rattle.pl_terms.specs.Nodes.{input_of, node_of};
@@ -39,12 +39,18 @@ fn has_column(inputs: &[Input], column: Column) -> bool
     }
 }
 
+fn least(a: usize, b: usize) -> usize
+    ensures { result ≡ min a b }
+{
+    if a < b { a } else { b }
+}
+
 /// Is a bar column among the inputs before a place?
 fn is_before(node: &Node, place: usize, column: Column) -> bool
     ensures { result ≡ contains (spec.columns_before (node_of node.now) place) (column_number column) }
 {
     let inputs = inputs_of(node);
-    has_column(&inputs[..place.min(inputs.len())], column)
+    has_column(&inputs[..least(place, inputs.len())], column)
 }
 
 /// The input in a place, where it is a bar column that no input before it is.

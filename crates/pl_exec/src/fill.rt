@@ -8,9 +8,8 @@ ghost use Rattle.pl_values.specs.Arrays.{IsRow, empty_cell};
 ghost use Rattle.pl_planner.specs.Plans.{is_used};
 ghost use Rattle.std.specs.Prelude.{None};
 ghost use Rattle.pl_values.specs.Families.{IsOf};
-ghost use Rattle.pl_exec.specs.Tasks.{IsArray, assets_in, count_in, cut, graph_in, low_in, term_steps};
-ghost use Rattle.pl_exec.specs.Jobs.{HasBars, HasRows, IsJob, IsKept, IsOut, IsRun, IsTurn, buffer_at, new_column, node_at, task_at, task_of};
-ghost use Rattle.pl_exec.specs.Jobs as spec;
+ghost use Rattle.pl_exec.specs.Tasks.{IsArray, assets_in, count_in, cut, graph_in, low_in, row_count, term_steps};
+ghost use Rattle.pl_exec.specs.Jobs.{AreBars, HasBars, HasRows, IsColumnRun, IsJob, IsKept, IsOut, IsRun, IsTurn, buffer_at, counted, node_at, task_at, task_of};
 
 use crate::columns::new_column;
 use crate::job::{Job, kind_of, low_of, node_of, window_of};
@@ -44,37 +43,6 @@ fn put_row(row: &[i64], cells: &mut [i64], count: usize, session: usize)
     }
 }
 
-// Term `term` on a session.
-fn turn_at<'t>(
-    job: &'t Job<'t>,
-    term: TermId,
-    node: &'t Node,
-    session: usize,
-    workspace: &'t Workspace,
-    none: i64,
-) -> Turn<'t>
-    requires run { IsRun (task_of job.now) workspace.now term.0 }
-    requires job { IsJob job.now }
-    requires node { slice_get (graph_in (task_of job.now)) term.0 ≡ Some (node_of node.now) }
-    requires low { low_in (task_of job.now) term.0 ≤ session }
-    requires late { session ≤ job.now.to }
-    requires none { none ≡ empty_cell (task_of job.now).pipeline term.0 }
-    ensures turn { IsTurn result }
-    ensures job { result.job.now ≡ job.now }
-    ensures term { result.term.0 ≡ term.0 }
-    ensures node { result.node.now ≡ node.now }
-    ensures session { result.session ≡ session }
-{
-    Turn {
-        job,
-        term,
-        node,
-        session,
-        workspace,
-        none,
-    }
-}
-
 // The cells on a session of a term that reads no bar columns.
 fn plain_row(
     turn: &Turn<'_>,
@@ -98,6 +66,14 @@ fn plain_row(
 {
     keep_row(turn, first, keep);
     kind_row(turn, cross, first, second, third, keep, out);
+}
+
+// The empty value of a term.
+fn none_of(job: &Job<'_>, term: TermId) -> i64
+    requires { term.0 < length (graph_in (task_of job.now)) }
+    ensures { result ≡ empty_cell (task_of job.now).pipeline term.0 }
+{
+    empty_value(job.checked.graph(), term)
 }
 
 /// The array of a term that reads no bar columns, over rows of one session.
@@ -127,11 +103,18 @@ pub(crate) fn fill_plain<'x>(
     ensures cross { cross.new ≡ cross.old }
 {
     let node = node_of(job, term);
-    let none = empty_value(job.checked.graph(), term);
+    let none = none_of(job, term);
     let low = low_of(job, term);
     let count = job.to + 1 - low;
     for j in 0..count {
-        let turn = turn_at(job, term, node, low + j, workspace, none);
+        let turn = Turn {
+            job,
+            term,
+            node,
+            session: low + j,
+            workspace,
+            none,
+        };
         plain_row(&turn, cross, first, second, third, keep, out);
         put_row(out, own, count, j);
     }
@@ -191,4 +174,117 @@ fn bars_row<'t>(
 {
     keep_row(turn, first, keep);
     window_row(turn, Some(bars), keep, out);
+}
+
+/// What is counted while a term is computed.
+#[derive(Clone, Copy)]
+pub(crate) struct Filled {
+    /// The slots that are in use.
+    pub(crate) held: usize,
+    /// The steps of the traversals, or u64's greatest value where there are more.
+    pub(crate) applied: u64,
+}
+
+// How many cells the traversal of a place is given: those of its rows, none where it is no new column.
+fn cells_for(job: &Job<'_>, term: TermId, node: &Node, place: usize, rows: usize, cells: &[i64]) -> usize
+    requires rows { rows ≡ row_count (task_of job.now) term.0 }
+    requires has { HasRows (task_of job.now) term.0 (node_of node.now) place cells.now }
+    ensures value { result ≡ (buffer_at job.now term.0 (node_of node.now) place).rows
+        * length (buffer_at job.now term.0 (node_of node.now) place).cols }
+    ensures within { result ≤ length cells.now }
+{
+    match new_column(node, place) {
+        Some(_) => rows * job.cols.len(),
+        None => 0,
+    }
+}
+
+// The sessions of a term over bar columns, with traversals that begin.
+fn run_bars<'x, L: Ledger>(
+    job: &'x Job<'x>,
+    term: TermId,
+    node: &'x Node,
+    workspace: &'x Workspace,
+    own: &mut [i64],
+    bars: &mut Bars<'_>,
+    mask: &mut [i64],
+    keep: &mut [i64],
+    out: &mut [i64],
+    steps: &mut Steps<L>,
+)
+    requires run { IsColumnRun job.now workspace.now term.0 (node_of node.now) }
+    requires room { assets_in (task_of job.now) * count_in (task_of job.now) term.0 ≤ length own.old }
+    requires bars { AreBars job.now term.0 (node_of node.now) 0 bars.old }
+    requires none { counted bars.old ≡ 0 }
+    requires mask { length mask.old ≡ assets_in (task_of job.now) }
+    requires keep { length keep.old ≡ assets_in (task_of job.now) }
+    requires long { length out.old ≡ assets_in (task_of job.now) }
+    ensures array { IsArray (task_of job.now) term.0 own.new }
+    ensures cost { steps.new ≡ steps.old + counted bars.new }
+    ensures bars { AreBars job.now term.0 (node_of node.now) (count_in (task_of job.now) term.0) bars.new }
+{
+    let none = none_of(job, term);
+    let low = low_of(job, term);
+    let count = job.to + 1 - low;
+    for j in 0..count {
+        advance_all(bars, steps);
+        let turn = Turn {
+            job,
+            term,
+            node,
+            session: low + j,
+            workspace,
+            none,
+        };
+        bars_row(&turn, bars, mask, keep, out);
+        put_row(out, own, count, j);
+    }
+}
+
+/// The array of a term over bar columns, which are traversed in the cells that are given: for each place of
+/// an input those of a slot, where the place has a new column. Gives the steps of the traversals, or u64's
+/// greatest value where there are more.
+pub(crate) fn fill_bars<'x, L: Ledger>(
+    job: &'x Job<'x>,
+    term: TermId,
+    node: &'x Node,
+    workspace: &'x Workspace,
+    own: &mut [i64],
+    first: &mut [i64],
+    second: &mut [i64],
+    third: &mut [i64],
+    mask: &mut [i64],
+    keep: &mut [i64],
+    out: &mut [i64],
+    steps: &mut Steps<L>,
+) -> u64
+    requires run { IsColumnRun job.now workspace.now term.0 (node_of node.now) }
+    requires room { assets_in (task_of job.now) * count_in (task_of job.now) term.0 ≤ length own.old }
+    requires first { HasRows (task_of job.now) term.0 (node_of node.now) 0 first.old }
+    requires second { HasRows (task_of job.now) term.0 (node_of node.now) 1 second.old }
+    requires third { HasRows (task_of job.now) term.0 (node_of node.now) 2 third.old }
+    requires mask { length mask.old ≡ assets_in (task_of job.now) }
+    requires keep { length keep.old ≡ assets_in (task_of job.now) }
+    requires long { length out.old ≡ assets_in (task_of job.now) }
+    ensures array { IsArray (task_of job.now) term.0 own.new }
+    ensures cost { steps.new ≡ steps.old + term_steps (task_of job.now) term.0 }
+    ensures applied { result ≡ cut (term_steps (task_of job.now) term.0) }
+{
+    let rows = job.to - low_of(job, term) + window_of(node);
+    let first_array = column_array(job, term, node, 0);
+    let second_array = column_array(job, term, node, 1);
+    let third_array = column_array(job, term, node, 2);
+    let first_cells = cells_for(job, term, node, 0, rows, first);
+    let second_cells = cells_for(job, term, node, 1, rows, second);
+    let third_cells = cells_for(job, term, node, 2, rows, third);
+    let size = window_of(node);
+    let mut bars = Bars {
+        first: first_array.traverse(size, &mut first[..first_cells]),
+        second: second_array.traverse(size, &mut second[..second_cells]),
+        third: third_array.traverse(size, &mut third[..third_cells]),
+    };
+    run_bars(
+        job, term, node, workspace, own, &mut bars, mask, keep, out, steps,
+    );
+    applied(&bars)
 }
