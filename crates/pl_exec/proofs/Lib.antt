@@ -8,4 +8,5 @@ pub mod Living
 pub mod Mentions
 pub mod Places
 pub mod Spans
+pub mod Stands
 pub mod Trips

@@ -147,8 +147,13 @@ sum_filter f q [] = refl
 sum_filter f q (x ∷ xs) = here (q x) refl (sum_filter f q xs)
   where
     here : (b : Bool) → q x ≡ b → sum_by f (filter q xs) ≡ sum_by (λ y. if q y then f y else 0) xs → sum_by f (filter q (x ∷ xs)) ≡ sum_by (λ y. if q y then f y else 0) (x ∷ xs)
-    here true e ih = rw e (let a = sum_cons f x (filter q xs) in a ∙ ap (λ n. f x + n) ih ∙ ap (λ b. (if b then f x else 0) + sum_by (λ y. if q y then f y else 0) xs) (sym e) ∙ sym (sum_cons (λ y. if q y then f y else 0) x xs))
-    here false e ih = rw e (ih ∙ (let z : sum_by (λ y. if q y then f y else 0) xs ≡ 0 + sum_by (λ y. if q y then f y else 0) xs = omega arith in z) ∙ ap (λ b. (if b then f x else 0) + sum_by (λ y. if q y then f y else 0) xs) (sym e) ∙ sym (sum_cons (λ y. if q y then f y else 0) x xs))
+    here true e ih =
+        let s : filter q (x ∷ xs) ≡ x ∷ filter q xs = rw e refl in
+        ap (sum_by f) s ∙ sum_cons f x (filter q xs) ∙ ap (λ n. f x + n) ih ∙ ap (λ b. (if b then f x else 0) + sum_by (λ y. if q y then f y else 0) xs) (sym e) ∙ sym (sum_cons (λ y. if q y then f y else 0) x xs)
+    here false e ih =
+        let s : filter q (x ∷ xs) ≡ filter q xs = rw e refl in
+        ap (sum_by f) s ∙ ih ∙ (let z : sum_by (λ y. if q y then f y else 0) xs ≡ 0 + sum_by (λ y. if q y then f y else 0) xs = omega arith in z)
+        ∙ ap (λ b. (if b then f x else 0) + sum_by (λ y. if q y then f y else 0) xs) (sym e) ∙ sym (sum_cons (λ y. if q y then f y else 0) x xs)
 
 pub sum_more : (f : ℕ → ℕ) (n : ℕ) → sum_by f (range_with_len 0 (n + 1)) ≡ sum_by f (range_with_len 0 n) + f n
 sum_more f n = let e : n + 1 ≡ suc n = omega arith in ap (λ m. sum_by f (range_with_len 0 m)) e ∙ ap (sum_by f) (range_suc n) ∙ sum_append f (range_with_len 0 n) (n ∷ []) ∙ ap (λ m. sum_by f (range_with_len 0 n) + m) (let z : 0 + f n ≡ f n = omega arith in z)

@@ -12,7 +12,7 @@ use Rattle.pl_spec.specs.Graph.{contains, columns_at, input_column}
 use Rattle.pl_spec.specs.Term as spec
 use Rattle.pl_spec.specs.Term.Input.{BarColumn, TermInput}
 use Rattle.pl_exec.specs.Tasks.{columns_of}
-use Rattle.pl_exec.specs.Jobs.{columns_before, new_column, new_before, one_new, place_among, unless}
+use Rattle.pl_exec.specs.Jobs.{columns_before, new_column, one_new, place_among, unless}
 use Rattle.pl_exec.proofs.Listed.{sum_filter}
 use Rattle.pl_exec.proofs.Places.{IsFirst, first_place, new_first}
 

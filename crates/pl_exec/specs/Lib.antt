@@ -1,3 +1,4 @@
 pub mod Jobs
+pub mod RowsInside
 pub mod Slotted
 pub mod Tasks

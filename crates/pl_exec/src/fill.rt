@@ -176,15 +176,6 @@ fn bars_row<'t>(
     window_row(turn, Some(bars), keep, out);
 }
 
-/// What is counted while a term is computed.
-#[derive(Clone, Copy)]
-pub(crate) struct Filled {
-    /// The slots that are in use.
-    pub(crate) held: usize,
-    /// The steps of the traversals, or u64's greatest value where there are more.
-    pub(crate) applied: u64,
-}
-
 // How many cells the traversal of a place is given: those of its rows, none where it is no new column.
 fn cells_for(job: &Job<'_>, term: TermId, node: &Node, place: usize, rows: usize, cells: &[i64]) -> usize
     requires rows { rows ≡ row_count (task_of job.now) term.0 }

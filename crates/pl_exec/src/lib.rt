@@ -2,8 +2,12 @@
 #![tactic(auto)]
 
 mod columns;
+mod compute;
 mod fill;
 mod job;
 mod kinds;
+mod rows;
 mod turn;
 mod windows;
+
+pub use rows::Rows;

@@ -20,7 +20,15 @@ plain_row-requires-clause-bars c =
     no_bars (graph_in (task_of c.args.job.now)) c.args.term.0 (node_of c.node_of-node.result.now) c.node_of-node.ensures few c.requires.none
 
 pub loop-j-preserved : goal.loop-j-preserved
-loop-j-preserved c = ?
+loop-j-preserved c =
+    let row = c.plain_row.ensures.out in
+    let size : length c.plain_row.new.out ≡ assets_in (task_of c.args.job.now) = row.long in
+    let shift = ap (λ s. s + c.loop-j.j) c.low_of-low.ensures.value in
+    record {
+      written = more_written (cell_in (task_of c.args.job.now) c.args.term.0) (assets_in (task_of c.args.job.now)) c.low_of-low.result (c.args.job.now.to + 1 - c.low_of-low.result) c.loop-j.j c.args.own.now c.loop-j.own c.put_row.new.cells c.plain_row.new.out
+          c.loop-j.invariant.written c.loop-j-test.true row (subst (λ m. IsRow (λ i. get_or c.plain_row.new.out i (pos 0)) m (c.args.job.now.to + 1 - c.low_of-low.result) c.loop-j.j c.loop-j.own c.put_row.new.cells) size c.put_row.ensures);
+      cross = c.plain_row.ensures.cross ∙ c.loop-j.invariant.cross;
+    }
 
 pub returns-clause-array : goal.returns-clause-array
 returns-clause-array c =

@@ -1,0 +1,234 @@
+//! One term, with its bar columns in their slots while it is computed.
+ghost use Rattle.std.specs.Prelude.{◌≡◌, ◌+◌, ◌*◌, ◌<◌, ◌≤◌, ℕ, true, false, Some, length, max, slice_get};
+ghost use Rattle.pl_spec.specs.Graph.{columns_at};
+ghost use Rattle.pl_terms.specs.Nodes.{node_of};
+ghost use Rattle.pl_workspace.specs.Slots.{live_count};
+ghost use Rattle.pl_exec.specs.Tasks.{IsArray, assets_in, count_in, cut, graph_in, row_count, term_steps};
+ghost use Rattle.pl_exec.specs.Jobs.{AreFree, HasRows, IsColumnRun, IsJob, IsRun, new_first, new_second, new_third, task_of};
+
+use crate::columns::new_column;
+use crate::fill::{fill_bars, fill_plain};
+use crate::job::{Job, node_of};
+use crate::rows::Rows;
+use pl_cross::Cross;
+use pl_fixed::Steps;
+use pl_terms::{Node, TermId};
+use pl_workspace::Workspace;
+use std::sync::ledger::Ledger;
+
+/// What is counted while a term is computed.
+#[derive(Clone, Copy)]
+pub(crate) struct Filled {
+    /// The slots that are in use.
+    pub(crate) held: usize,
+    /// The steps of the traversals, or u64's greatest value where there are more.
+    pub(crate) applied: u64,
+}
+
+// The term, with all its bar columns in slots.
+fn fill_last<'x, L: Ledger>(
+    job: &'x Job<'x>,
+    term: TermId,
+    node: &'x Node,
+    workspace: &'x Workspace,
+    own: &mut [i64],
+    first: &mut [i64],
+    second: &mut [i64],
+    third: &mut [i64],
+    mask: &mut [i64],
+    keep: &mut [i64],
+    out: &mut [i64],
+    steps: &mut Steps<L>,
+) -> Filled
+    requires run { IsColumnRun job.now workspace.now term.0 (node_of node.now) }
+    requires room { assets_in (task_of job.now) * count_in (task_of job.now) term.0 ≤ length own.old }
+    requires first { HasRows (task_of job.now) term.0 (node_of node.now) 0 first.old }
+    requires second { HasRows (task_of job.now) term.0 (node_of node.now) 1 second.old }
+    requires third { HasRows (task_of job.now) term.0 (node_of node.now) 2 third.old }
+    requires mask { length mask.old ≡ assets_in (task_of job.now) }
+    requires keep { length keep.old ≡ assets_in (task_of job.now) }
+    requires long { length out.old ≡ assets_in (task_of job.now) }
+    ensures array { IsArray (task_of job.now) term.0 own.new }
+    ensures held { result.held ≡ live_count workspace.now.slots }
+    ensures cost { steps.new ≡ steps.old + term_steps (task_of job.now) term.0 }
+    ensures applied { result.applied ≡ cut (term_steps (task_of job.now) term.0) }
+{
+    let held = workspace.live();
+    let applied = fill_bars(
+        job, term, node, workspace, own, first, second, third, mask, keep, out, steps,
+    );
+    Filled { held, applied }
+}
+
+// The third input's bar column, where it is a new one, has a slot.
+fn third_column<'x, L: Ledger>(
+    job: &'x Job<'x>,
+    term: TermId,
+    node: &'x Node,
+    taken: usize,
+    workspace: &mut Workspace,
+    own: &mut [i64],
+    first: &mut [i64],
+    second: &mut [i64],
+    mask: &mut [i64],
+    keep: &mut [i64],
+    out: &mut [i64],
+    steps: &mut Steps<L>,
+) -> Filled
+    requires run { IsColumnRun job.now workspace.old term.0 (node_of node.now) }
+    requires taken { taken + new_third (node_of node.now) ≡ columns_at (graph_in (task_of job.now)) term.0 }
+    requires free { AreFree (task_of job.now) workspace.old term.0 taken }
+    requires counted { live_count workspace.old.slots ≤ workspace.old.peak }
+    requires columns { assets_in (task_of job.now) * row_count (task_of job.now) term.0 ≤ workspace.old.len }
+    requires room { assets_in (task_of job.now) * count_in (task_of job.now) term.0 ≤ length own.old }
+    requires first { HasRows (task_of job.now) term.0 (node_of node.now) 0 first.old }
+    requires second { HasRows (task_of job.now) term.0 (node_of node.now) 1 second.old }
+    requires mask { length mask.old ≡ assets_in (task_of job.now) }
+    requires keep { length keep.old ≡ assets_in (task_of job.now) }
+    requires long { length out.old ≡ assets_in (task_of job.now) }
+    ensures array { IsArray (task_of job.now) term.0 own.new }
+    ensures slots { workspace.new.slots ≡ workspace.old.slots }
+    ensures len { workspace.new.len ≡ workspace.old.len }
+    ensures peak { workspace.new.peak ≡ max workspace.old.peak (live_count workspace.old.slots + new_third (node_of node.now)) }
+    ensures held { result.held ≡ live_count workspace.old.slots + new_third (node_of node.now) }
+    ensures cost { steps.new ≡ steps.old + term_steps (task_of job.now) term.0 }
+    ensures applied { result.applied ≡ cut (term_steps (task_of job.now) term.0) }
+{
+    if new_column(node, 2).is_none() {
+        return fill_last(
+            job, term, node, workspace, own, first, second, &mut [], mask, keep, out, steps,
+        );
+    }
+    let slot = job.plan.column_slot(term, taken);
+    let mut column = workspace.begin(slot);
+    let filled = fill_last(
+        job,
+        term,
+        node,
+        workspace,
+        own,
+        first,
+        second,
+        column.cells_mut(),
+        mask,
+        keep,
+        out,
+        steps,
+    );
+    workspace.finish(slot, column);
+    workspace.release(slot);
+    filled
+}
+
+// The second input's bar column, where it is a new one, has a slot.
+fn second_column<'x, L: Ledger>(
+    job: &'x Job<'x>,
+    term: TermId,
+    node: &'x Node,
+    taken: usize,
+    workspace: &mut Workspace,
+    own: &mut [i64],
+    first: &mut [i64],
+    mask: &mut [i64],
+    keep: &mut [i64],
+    out: &mut [i64],
+    steps: &mut Steps<L>,
+) -> Filled
+    requires run { IsColumnRun job.now workspace.old term.0 (node_of node.now) }
+    requires taken { taken + new_second (node_of node.now) ≡ columns_at (graph_in (task_of job.now)) term.0 }
+    requires free { AreFree (task_of job.now) workspace.old term.0 taken }
+    requires counted { live_count workspace.old.slots ≤ workspace.old.peak }
+    requires columns { assets_in (task_of job.now) * row_count (task_of job.now) term.0 ≤ workspace.old.len }
+    requires room { assets_in (task_of job.now) * count_in (task_of job.now) term.0 ≤ length own.old }
+    requires first { HasRows (task_of job.now) term.0 (node_of node.now) 0 first.old }
+    requires mask { length mask.old ≡ assets_in (task_of job.now) }
+    requires keep { length keep.old ≡ assets_in (task_of job.now) }
+    requires long { length out.old ≡ assets_in (task_of job.now) }
+    ensures array { IsArray (task_of job.now) term.0 own.new }
+    ensures slots { workspace.new.slots ≡ workspace.old.slots }
+    ensures len { workspace.new.len ≡ workspace.old.len }
+    ensures peak { workspace.new.peak ≡ max workspace.old.peak (live_count workspace.old.slots + new_second (node_of node.now)) }
+    ensures held { result.held ≡ live_count workspace.old.slots + new_second (node_of node.now) }
+    ensures cost { steps.new ≡ steps.old + term_steps (task_of job.now) term.0 }
+    ensures applied { result.applied ≡ cut (term_steps (task_of job.now) term.0) }
+{
+    if new_column(node, 1).is_none() {
+        return third_column(
+            job, term, node, taken, workspace, own, first, &mut [], mask, keep, out, steps,
+        );
+    }
+    let slot = job.plan.column_slot(term, taken);
+    let mut column = workspace.begin(slot);
+    let filled = third_column(
+        job,
+        term,
+        node,
+        taken + 1,
+        workspace,
+        own,
+        first,
+        column.cells_mut(),
+        mask,
+        keep,
+        out,
+        steps,
+    );
+    workspace.finish(slot, column);
+    workspace.release(slot);
+    filled
+}
+
+// The first input's bar column, where it is a new one, has a slot.
+fn first_column<'x, L: Ledger>(
+    job: &'x Job<'x>,
+    term: TermId,
+    node: &'x Node,
+    taken: usize,
+    workspace: &mut Workspace,
+    own: &mut [i64],
+    mask: &mut [i64],
+    keep: &mut [i64],
+    out: &mut [i64],
+    steps: &mut Steps<L>,
+) -> Filled
+    requires run { IsColumnRun job.now workspace.old term.0 (node_of node.now) }
+    requires taken { taken + new_first (node_of node.now) ≡ columns_at (graph_in (task_of job.now)) term.0 }
+    requires free { AreFree (task_of job.now) workspace.old term.0 taken }
+    requires counted { live_count workspace.old.slots ≤ workspace.old.peak }
+    requires columns { assets_in (task_of job.now) * row_count (task_of job.now) term.0 ≤ workspace.old.len }
+    requires room { assets_in (task_of job.now) * count_in (task_of job.now) term.0 ≤ length own.old }
+    requires mask { length mask.old ≡ assets_in (task_of job.now) }
+    requires keep { length keep.old ≡ assets_in (task_of job.now) }
+    requires long { length out.old ≡ assets_in (task_of job.now) }
+    ensures array { IsArray (task_of job.now) term.0 own.new }
+    ensures slots { workspace.new.slots ≡ workspace.old.slots }
+    ensures len { workspace.new.len ≡ workspace.old.len }
+    ensures peak { workspace.new.peak ≡ max workspace.old.peak (live_count workspace.old.slots + new_first (node_of node.now)) }
+    ensures held { result.held ≡ live_count workspace.old.slots + new_first (node_of node.now) }
+    ensures cost { steps.new ≡ steps.old + term_steps (task_of job.now) term.0 }
+    ensures applied { result.applied ≡ cut (term_steps (task_of job.now) term.0) }
+{
+    if new_column(node, 0).is_none() {
+        return second_column(
+            job, term, node, taken, workspace, own, &mut [], mask, keep, out, steps,
+        );
+    }
+    let slot = job.plan.column_slot(term, taken);
+    let mut column = workspace.begin(slot);
+    let filled = second_column(
+        job,
+        term,
+        node,
+        taken + 1,
+        workspace,
+        own,
+        column.cells_mut(),
+        mask,
+        keep,
+        out,
+        steps,
+    );
+    workspace.finish(slot, column);
+    workspace.release(slot);
+    filled
+}
