@@ -3,6 +3,7 @@ pub mod NewColumns
 pub mod Counts
 pub mod Givens
 pub mod Held
+pub mod Levels
 pub mod Listed
 pub mod Living
 pub mod Mentions

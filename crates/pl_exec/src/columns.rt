@@ -1,5 +1,5 @@
 //! The distinct bar columns among the inputs of a node.
-ghost use Rattle.std.specs.Prelude.{◌≡◌, ◌==◌, ◌≤◌, ℕ, length, min, filter_map, map, option_map, slice_get};
+ghost use Rattle.std.specs.Prelude.{◌≡◌, ◌==◌, ◌≤◌, ◌+◌, ℕ, length, min, filter_map, map, option_map, slice_get};
 ghost use Rattle.pl_spec.specs.World.{column_number};
 ghost use Rattle.pl_spec.specs.Graph.{contains, input_column};
 ghost use Rattle.pl_terms.specs.Nodes.{input_of, node_of};
@@ -90,4 +90,32 @@ pub(crate) fn place_of(node: &Node, column: Column) -> usize
     ensures { result ≡ spec.place_among (node_of node.now).inputs column }
 {
     place_among(inputs_of(node), column)
+}
+
+/// How many places have a new bar column, of one.
+pub(crate) fn one_new(node: &Node, place: usize) -> usize
+    ensures value { result ≡ spec.one_new (spec.new_column (node_of node.now) place) }
+    ensures few { result ≤ 1 }
+{
+    match new_column(node, place) {
+        None => 0,
+        Some(_) => 1,
+    }
+}
+
+/// How many distinct bar columns there are among the inputs.
+pub(crate) fn column_count(node: &Node) -> usize
+    ensures { result ≡ spec.new_first (node_of node.now) }
+{
+    let first = one_new(node, 0);
+    let second = one_new(node, 1);
+    let third = one_new(node, 2);
+    add_three(first, second, third)
+}
+
+fn add_three(first: usize, second: usize, third: usize) -> usize
+    requires { first + (second + third) ≤ 3 }
+    ensures { result ≡ first + (second + third) }
+{
+    first + (second + third)
 }

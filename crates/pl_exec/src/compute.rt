@@ -6,7 +6,7 @@ ghost use Rattle.pl_workspace.specs.Slots.{live_count};
 ghost use Rattle.pl_exec.specs.Tasks.{IsArray, assets_in, count_in, cut, graph_in, row_count, term_steps};
 ghost use Rattle.pl_exec.specs.Jobs.{AreFree, HasRows, IsColumnRun, IsJob, IsRun, new_first, new_second, new_third, task_of};
 
-use crate::columns::new_column;
+use crate::columns::{column_count, one_new};
 use crate::fill::{fill_bars, fill_plain};
 use crate::job::{Job, node_of};
 use crate::rows::Rows;
@@ -94,7 +94,7 @@ fn third_column<'x, L: Ledger>(
     ensures cost { steps.new ≡ steps.old + term_steps (task_of job.now) term.0 }
     ensures applied { result.applied ≡ cut (term_steps (task_of job.now) term.0) }
 {
-    if new_column(node, 2).is_none() {
+    if one_new(node, 2) == 0 {
         return fill_last(
             job, term, node, workspace, own, first, second, &mut [], mask, keep, out, steps,
         );
@@ -152,7 +152,7 @@ fn second_column<'x, L: Ledger>(
     ensures cost { steps.new ≡ steps.old + term_steps (task_of job.now) term.0 }
     ensures applied { result.applied ≡ cut (term_steps (task_of job.now) term.0) }
 {
-    if new_column(node, 1).is_none() {
+    if one_new(node, 1) == 0 {
         return third_column(
             job, term, node, taken, workspace, own, first, &mut [], mask, keep, out, steps,
         );
@@ -208,7 +208,7 @@ fn first_column<'x, L: Ledger>(
     ensures cost { steps.new ≡ steps.old + term_steps (task_of job.now) term.0 }
     ensures applied { result.applied ≡ cut (term_steps (task_of job.now) term.0) }
 {
-    if new_column(node, 0).is_none() {
+    if one_new(node, 0) == 0 {
         return second_column(
             job, term, node, taken, workspace, own, &mut [], mask, keep, out, steps,
         );
@@ -231,4 +231,58 @@ fn first_column<'x, L: Ledger>(
     workspace.finish(slot, column);
     workspace.release(slot);
     filled
+}
+
+/// The array of a term, with its bar columns in their slots while it is computed.
+pub(crate) fn compute<'x, L: Ledger>(
+    job: &'x Job<'x>,
+    term: TermId,
+    workspace: &mut Workspace,
+    own: &mut [i64],
+    cross: &mut Cross,
+    rows: &mut Rows,
+    steps: &mut Steps<L>,
+) -> Filled
+    requires job { IsJob job.now }
+    requires run { IsRun (task_of job.now) workspace.old term.0 }
+    requires free { AreFree (task_of job.now) workspace.old term.0 0 }
+    requires counted { live_count workspace.old.slots ≤ workspace.old.peak }
+    requires columns { 0 < columns_at (graph_in (task_of job.now)) term.0
+        → assets_in (task_of job.now) * row_count (task_of job.now) term.0 ≤ workspace.old.len }
+    requires room { assets_in (task_of job.now) * count_in (task_of job.now) term.0 ≤ length own.old }
+    requires cross { assets_in (task_of job.now) ≤ cross.old }
+    requires rows { assets_in (task_of job.now) ≤ rows.old }
+    ensures array { IsArray (task_of job.now) term.0 own.new }
+    ensures slots { workspace.new.slots ≡ workspace.old.slots }
+    ensures len { workspace.new.len ≡ workspace.old.len }
+    ensures peak { workspace.new.peak ≡ max workspace.old.peak
+        (live_count workspace.old.slots + columns_at (graph_in (task_of job.now)) term.0) }
+    ensures held { result.held ≡ live_count workspace.old.slots + columns_at (graph_in (task_of job.now)) term.0 }
+    ensures cost { steps.new ≡ steps.old + term_steps (task_of job.now) term.0 }
+    ensures applied { result.applied ≡ cut (term_steps (task_of job.now) term.0) }
+    ensures cross { cross.new ≡ cross.old }
+    ensures rows { rows.new ≡ rows.old }
+{
+    let node = node_of(job, term);
+    let assets = job.cols.len();
+    let first = rows.first.as_mut_slice();
+    let second = rows.second.as_mut_slice();
+    let third = rows.third.as_mut_slice();
+    let keep = rows.keep.as_mut_slice();
+    let out = rows.results.as_mut_slice();
+    let first = &mut first[..assets];
+    let keep = &mut keep[..assets];
+    let out = &mut out[..assets];
+    if column_count(node) > 0 {
+        return first_column(
+            job, term, node, 0, workspace, own, first, keep, out, steps,
+        );
+    }
+    let held = workspace.live();
+    let second = &mut second[..assets];
+    let third = &mut third[..assets];
+    fill_plain(
+        job, term, workspace, own, cross, first, second, third, keep, out,
+    );
+    Filled { held, applied: 0 }
 }
