@@ -68,7 +68,7 @@ module _ (j : Job) (w : Slots) (k : ℕ) (n : spec.Node) (run : IsColumnRun j w 
 
 -- ---- only formulas over windows read bar columns
 
-no_column : Place → Bool
+abbrev no_column : Place → Bool
 no_column (Own c) = false
 no_column Bar = false
 no_column Series = false
@@ -81,6 +81,7 @@ no_takes Series c e f = true≢false (sym e)
 no_takes q c e f = true≢false (sym f)
 
 points_free : (f : PointKind) → list_all no_column (point_places f) ≡ true
+points_free kind.Neg = refl
 points_free f = refl
 
 crosses_free : (f : CrossKind) → list_all no_column (cross_places f) ≡ true

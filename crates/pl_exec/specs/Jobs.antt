@@ -45,6 +45,7 @@ pub record IsJob (j : Job) : Type 0 where
   pub labels : AreLabels j.world.labels.now
   pub few : length j.cols.now ≤ 8000
   pub fits : j.to < 2 ^ 63
+  pub terms : length (graph_in (task_of j)) ≤ 256
   pub task : IsTask (task_of j)
 
 -- ---- what is read

@@ -1,3 +1,4 @@
+pub mod Chunks
 pub mod Jobs
 pub mod RowsInside
 pub mod Slotted

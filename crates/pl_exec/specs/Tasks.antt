@@ -1,5 +1,5 @@
 -- The work of one chunk, and what the arrays of its terms hold.
-use Rattle.std.specs.Prelude.{◌≡◌, ℕ, suc, ◌+◌, ◌-◌, ◌*◌, ◌<◌, ◌≤◌, Bool, true, false, if◌then◌else◌, ℤ, pos, List, [], ◌∷◌, length, map, filter, filter_map, take, sum_by, Option, Some, None, slice_get, All, AllPairs, min, ◌^◌}
+use Rattle.std.specs.Prelude.{◌≡◌, ℕ, suc, ◌+◌, ◌-◌, ◌*◌, ◌<◌, ◌≤◌, Bool, true, false, if◌then◌else◌, ℤ, pos, List, [], ◌∷◌, length, map, filter, filter_map, take, sum_by, count_by, Option, Some, None, slice_get, All, AllPairs, min, ◌^◌}
 use Rattle.std.specs.List.{range_with_len}
 use Rattle.pl_spec.specs.declared.Column.{Column}
 use Rattle.pl_spec.specs.declared.Column.TheVariants.{OpenPrice, High, Low, Close, Volume}
@@ -87,6 +87,14 @@ term_steps t k = sum_by (λ c. applied_steps t.world c (first_row t k) (row_coun
 -- and of all used terms
 abbrev pub chunk_steps : Task → ℕ
 chunk_steps t = sum_by (term_steps t) (used_terms (graph_in t) (outputs t.pipeline))
+
+-- those of a number, none where the term is not used
+abbrev pub steps_in : Task → ℕ → ℕ
+steps_in t k = if is_used t.plan k then term_steps t k else 0
+
+-- the results and bar columns that are held while a used term is computed
+abbrev pub held_in : Task → ℕ → ℕ
+held_in t k = if is_used t.plan k then count_by (kept_in t k) (range_with_len 0 (k + 1)) + columns_at (graph_in t) k else 0
 
 -- the number, or the greatest that 64 bits hold
 abbrev pub cut : ℕ → ℕ

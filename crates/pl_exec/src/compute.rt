@@ -233,6 +233,75 @@ fn first_column<'x, L: Ledger>(
     filled
 }
 
+// The same over the rows of a session.
+fn compute_over<'x, L: Ledger>(
+    job: &'x Job<'x>,
+    term: TermId,
+    workspace: &mut Workspace,
+    own: &mut [i64],
+    cross: &mut Cross,
+    first: &mut [i64],
+    second: &mut [i64],
+    third: &mut [i64],
+    keep: &mut [i64],
+    out: &mut [i64],
+    steps: &mut Steps<L>,
+) -> Filled
+    requires job { IsJob job.now }
+    requires run { IsRun (task_of job.now) workspace.old term.0 }
+    requires free { AreFree (task_of job.now) workspace.old term.0 0 }
+    requires counted { live_count workspace.old.slots ≤ workspace.old.peak }
+    requires columns { 0 < columns_at (graph_in (task_of job.now)) term.0
+        → assets_in (task_of job.now) * row_count (task_of job.now) term.0 ≤ workspace.old.len }
+    requires room { assets_in (task_of job.now) * count_in (task_of job.now) term.0 ≤ length own.old }
+    requires cross { assets_in (task_of job.now) ≤ cross.old }
+    requires first { assets_in (task_of job.now) ≤ length first.old }
+    requires second { assets_in (task_of job.now) ≤ length second.old }
+    requires third { assets_in (task_of job.now) ≤ length third.old }
+    requires keep { assets_in (task_of job.now) ≤ length keep.old }
+    requires out { assets_in (task_of job.now) ≤ length out.old }
+    ensures array { IsArray (task_of job.now) term.0 own.new }
+    ensures slots { workspace.new.slots ≡ workspace.old.slots }
+    ensures len { workspace.new.len ≡ workspace.old.len }
+    ensures peak { workspace.new.peak ≡ max workspace.old.peak
+        (live_count workspace.old.slots + columns_at (graph_in (task_of job.now)) term.0) }
+    ensures held { result.held ≡ live_count workspace.old.slots + columns_at (graph_in (task_of job.now)) term.0 }
+    ensures cost { steps.new ≡ steps.old + term_steps (task_of job.now) term.0 }
+    ensures applied { result.applied ≡ cut (term_steps (task_of job.now) term.0) }
+    ensures cross { cross.new ≡ cross.old }
+{
+    let node = node_of(job, term);
+    let assets = job.cols.len();
+    if column_count(node) > 0 {
+        return first_column(
+            job,
+            term,
+            node,
+            0,
+            workspace,
+            own,
+            &mut first[..assets],
+            &mut keep[..assets],
+            &mut out[..assets],
+            steps,
+        );
+    }
+    let held = workspace.live();
+    fill_plain(
+        job,
+        term,
+        workspace,
+        own,
+        cross,
+        &mut first[..assets],
+        &mut second[..assets],
+        &mut third[..assets],
+        &mut keep[..assets],
+        &mut out[..assets],
+    );
+    Filled { held, applied: 0 }
+}
+
 /// The array of a term, with its bar columns in their slots while it is computed.
 pub(crate) fn compute<'x, L: Ledger>(
     job: &'x Job<'x>,
@@ -263,26 +332,12 @@ pub(crate) fn compute<'x, L: Ledger>(
     ensures cross { cross.new ≡ cross.old }
     ensures rows { rows.new ≡ rows.old }
 {
-    let node = node_of(job, term);
-    let assets = job.cols.len();
     let first = rows.first.as_mut_slice();
     let second = rows.second.as_mut_slice();
     let third = rows.third.as_mut_slice();
     let keep = rows.keep.as_mut_slice();
     let out = rows.results.as_mut_slice();
-    let first = &mut first[..assets];
-    let keep = &mut keep[..assets];
-    let out = &mut out[..assets];
-    if column_count(node) > 0 {
-        return first_column(
-            job, term, node, 0, workspace, own, first, keep, out, steps,
-        );
-    }
-    let held = workspace.live();
-    let second = &mut second[..assets];
-    let third = &mut third[..assets];
-    fill_plain(
-        job, term, workspace, own, cross, first, second, third, keep, out,
-    );
-    Filled { held, applied: 0 }
+    compute_over(
+        job, term, workspace, own, cross, first, second, third, keep, out, steps,
+    )
 }

@@ -1,6 +1,7 @@
 //! The used terms of a pipeline over the sessions of one chunk.
 #![tactic(auto)]
 
+mod chunk;
 mod columns;
 mod compute;
 mod fill;
@@ -10,4 +11,5 @@ mod rows;
 mod turn;
 mod windows;
 
+pub use chunk::{Chunk, ChunkReport, execute_chunk};
 pub use rows::Rows;
