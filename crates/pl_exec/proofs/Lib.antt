@@ -8,6 +8,7 @@ pub mod Listed
 pub mod Living
 pub mod Mentions
 pub mod Places
+pub mod Releases
 pub mod Spans
 pub mod Stands
 pub mod Trips

@@ -130,7 +130,7 @@ fn add_term<'x, L: Ledger>(
 {
     let slot = job.plan.slot(term);
     let mut own = workspace.begin(slot);
-    let filled = compute(job, term, workspace, own.cells_mut(), cross, rows, steps);
+    let filled = compute(job, term, workspace, &mut own, cross, rows, steps);
     workspace.finish(slot, own);
     filled
 }
@@ -205,10 +205,22 @@ fn run_terms<'x, L: Ledger>(
     let mut applied = 0u64;
     for k in 0..term_count(job) {
         let filled = run_term(job, k, workspace, cross, rows, steps);
-        peak = peak.max(filled.held);
-        applied = applied.saturating_add(filled.applied);
+        peak = greater(peak, filled.held);
+        applied = capped_sum(applied, filled.applied);
     }
     ChunkReport { peak, applied }
+}
+
+fn greater(a: usize, b: usize) -> usize
+    ensures { result ≡ max a b }
+{
+    if a < b { b } else { a }
+}
+
+fn capped_sum(a: u64, b: u64) -> u64
+    ensures { result ≡ cut (a + b) }
+{
+    a.saturating_add(b)
 }
 
 fn term_count(job: &Job<'_>) -> usize

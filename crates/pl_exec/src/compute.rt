@@ -13,7 +13,7 @@ use crate::rows::Rows;
 use pl_cross::Cross;
 use pl_fixed::Steps;
 use pl_terms::{Node, TermId};
-use pl_workspace::Workspace;
+use pl_workspace::{Buffer, Workspace};
 use std::sync::ledger::Ledger;
 
 /// What is counted while a term is computed.
@@ -307,7 +307,7 @@ pub(crate) fn compute<'x, L: Ledger>(
     job: &'x Job<'x>,
     term: TermId,
     workspace: &mut Workspace,
-    own: &mut [i64],
+    own: &mut Buffer,
     cross: &mut Cross,
     rows: &mut Rows,
     steps: &mut Steps<L>,
@@ -318,10 +318,11 @@ pub(crate) fn compute<'x, L: Ledger>(
     requires counted { live_count workspace.old.slots ≤ workspace.old.peak }
     requires columns { 0 < columns_at (graph_in (task_of job.now)) term.0
         → assets_in (task_of job.now) * row_count (task_of job.now) term.0 ≤ workspace.old.len }
-    requires room { assets_in (task_of job.now) * count_in (task_of job.now) term.0 ≤ length own.old }
+    requires room { assets_in (task_of job.now) * count_in (task_of job.now) term.0 ≤ length own.old.cells }
     requires cross { assets_in (task_of job.now) ≤ cross.old }
     requires rows { assets_in (task_of job.now) ≤ rows.old }
-    ensures array { IsArray (task_of job.now) term.0 own.new }
+    ensures own { (own.new.slot ≡ own.old.slot) × (length own.new.cells ≡ length own.old.cells) }
+    ensures array { IsArray (task_of job.now) term.0 own.new.cells }
     ensures slots { workspace.new.slots ≡ workspace.old.slots }
     ensures len { workspace.new.len ≡ workspace.old.len }
     ensures peak { workspace.new.peak ≡ max workspace.old.peak
@@ -338,6 +339,16 @@ pub(crate) fn compute<'x, L: Ledger>(
     let keep = rows.keep.as_mut_slice();
     let out = rows.results.as_mut_slice();
     compute_over(
-        job, term, workspace, own, cross, first, second, third, keep, out, steps,
+        job,
+        term,
+        workspace,
+        own.cells_mut(),
+        cross,
+        first,
+        second,
+        third,
+        keep,
+        out,
+        steps,
     )
 }
