@@ -9,6 +9,7 @@ pub mod Living
 pub mod Mentions
 pub mod Places
 pub mod Releases
+pub mod Sids
 pub mod Spans
 pub mod Stands
 pub mod Trips

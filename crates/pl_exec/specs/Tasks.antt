@@ -113,9 +113,7 @@ pub record HasRoom (t : Task) (len : ℕ) : Type 0 where
   pub terms : (k : ℕ) → is_used t.plan k ≡ true → assets_in t * count_in t k ≤ len
   pub columns : (k : ℕ) → is_used t.plan k ≡ true → 0 < columns_at (graph_in t) k → assets_in t * row_count t k ≤ len
 
--- The slot of each output begins with its values, asset by asset, session by session; every other slot is free.
+-- The slot of each output holds its values, asset by asset, on the sessions on which it is computed; every other slot is free.
 pub record HoldsOutputs (t : Task) (w : Slots) : Type 0 where
   pub arrays : (k : ℕ) → contains (outputs t.pipeline) k ≡ true → IsHeld (IsArray t k) w (slot_of t.plan k)
-  pub values : (k : ℕ) (cells : List ℤ) → contains (outputs t.pipeline) k ≡ true → slot_at w (slot_of t.plan k) ≡ Live cells
-      → take (assets_in t * count_in t k) cells ≡ array_of t.world t.pipeline (sids_in t) (low_in t k) t.to k
   pub only : AreLive (slot_of t.plan) (IsArray t) (contains (outputs t.pipeline)) (length (graph_in t)) w
