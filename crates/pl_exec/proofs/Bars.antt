@@ -1,27 +1,23 @@
 -- Windows of bars, by their traversals.
-use Rattle.std.proofs.Common.{◌≡◌, ℕ, zero, suc, ◌+◌, ◌-◌, ◌<◌, ◌≤◌, true, false, ℤ, pos, List, [], ◌∷◌, length, get_or, Option, Some, None, slice_get, refl, sym, ◌∙◌, ap, subst, arith, All}
+use Rattle.std.proofs.Common.{◌≡◌, ℕ, zero, suc, ◌+◌, ◌<◌, ◌≤◌, true, false, ℤ, pos, List, length, Some, slice_get, refl, sym, ◌∙◌, ap, subst, arith, All}
 use Rattle.pl_spec.specs.declared.Column.{Column}
 use Rattle.pl_spec.specs.Rounding.{IsCell}
-use Rattle.pl_spec.specs.World.{column_number}
 use Rattle.pl_spec.specs.Window.{bar_window}
-use Rattle.pl_spec.specs.Kind.{Kind, WindowKind}
-use Rattle.pl_spec.specs.Kind.Kind.{Window}
 use Rattle.pl_spec.specs.Term as spec
-use Rattle.pl_spec.specs.Formula.{is_true}
 use Rattle.pl_terms.specs.Sorts.{is_windowed}
 use Rattle.pl_cross.specs.Arrays.{sid_in}
 use Rattle.pl_adjarray.specs.Buffered.{Buffered}
 use Rattle.pl_adjarray.specs.Traversals.{Traversal}
 use Rattle.pl_adjarray.specs.Worlds.{IsWindow}
-use Rattle.pl_values.specs.Arrays.{cell_of, empty_cell, is_kept, chosen}
+use Rattle.pl_values.specs.Arrays.{empty_cell, is_kept, chosen}
 use Rattle.pl_values.specs.Families.{TakesWindows, windowed}
-use Rattle.pl_values.specs.Inputs.{AreWindows, input_window}
+use Rattle.pl_values.specs.Inputs.{input_window}
 use Rattle.pl_values.specs.Laws.{IsGiven}
 use Rattle.pl_values.proofs.Given.{window-cell, unkept-cell}
 use Rattle.pl_exec.specs.declared.turn.Turn.{Turn}
 use Rattle.pl_exec.specs.declared.windows.Bars.{Bars}
-use Rattle.pl_exec.specs.Tasks.{assets_in, cell_in, first_row, low_in, sids_in, window_of_term}
-use Rattle.pl_exec.specs.Jobs.{IsTurn, HasBarsAt, AreBars, buffered, buffer_at, new_column, node_at, place_among, place_in, task_at, traversal_at}
+use Rattle.pl_exec.specs.Tasks.{assets_in, cell_in, sids_in, window_of_term}
+use Rattle.pl_exec.specs.Jobs.{IsTurn, HasBarsAt, AreBars, buffered, buffer_at, node_at, place_among, place_in, task_at, traversal_at}
 use Rattle.pl_exec.proofs.Places.{IsFirst, first_place, new_first, sid_of_place}
 use Rattle.pl_exec.proofs.Givens.{node_is, window_kind}
 

@@ -1,13 +1,12 @@
 -- What the term of a turn is worth, family by family.
-use Rattle.std.proofs.Common.{◌≡◌, ℕ, zero, suc, ◌+◌, ◌<◌, ◌≤◌, Bool, true, false, ◌&&◌, if◌then◌else◌, ℤ, pos, List, [], ◌∷◌, length, map, get_or, set, Option, Some, None, option_map, slice_get, refl, sym, ◌∙◌, ap, subst, arith, All, AllPairs, inl, inr, unwrap_or}
+use Rattle.std.proofs.Common.{◌≡◌, ℕ, ◌+◌, ◌<◌, Bool, true, false, if◌then◌else◌, ℤ, pos, List, [], length, get_or, set, Option, Some, slice_get, refl, sym, ◌∙◌, ap, subst, arith, All, inl, inr, unwrap_or}
 use Rattle.std.specs.List.{list_any}
 use Rattle.std.specs.Option.{option_and_then}
 use Rattle.std.proofs.lemmas.Bool.{true≢false}
 use Rattle.std.proofs.lemmas.List.{length-map, get_or_default}
 use Rattle.pl_spec.specs.Rounding.{MISSING, IsCell, is_missing}
-use Rattle.pl_spec.specs.declared.AssetRow.{AssetRow}
 use Rattle.pl_spec.specs.Parts.{sid_at}
-use Rattle.pl_spec.specs.World.{World, label_at, day_of}
+use Rattle.pl_spec.specs.World.{World, label_at}
 use Rattle.pl_spec.specs.Kind.{Kind, WindowKind, PointKind, LabelKind, CrossKind}
 use Rattle.pl_spec.specs.Kind.Kind.{Constant, Label, StaticSids, Window, Point, LabelTest, Cross, Downsample}
 use Rattle.pl_spec.specs.Formula.{is_true, truth}
@@ -21,12 +20,12 @@ use Rattle.pl_spec.specs.Value.{number_of, empty, is_filter, sort_kind, name_at}
 use Rattle.pl_terms.specs.Sorts.{is_windowed}
 use Rattle.pl_cross.specs.Arrays.{sid_in, section_at}
 use Rattle.pl_cross.specs.Section.{is_section, HasParameters}
-use Rattle.pl_values.specs.Arrays.{cell_of, empty_cell, is_kept, chosen, Fills, IsKeep}
+use Rattle.pl_values.specs.Arrays.{cell_of, is_kept, chosen, Fills, IsKeep}
 use Rattle.pl_values.specs.Families.{is_sids, is_point, is_label_test, sid_flag, code_flag, label_code, IsCode}
 use Rattle.pl_values.specs.Laws.{IsNode, IsGiven}
-use Rattle.pl_values.proofs.Given.{constant-cell, sid-cell, label-cell, label-test-cell, label-input, point-cell, point-operands, section-cell, section-input, window-cell, unkept-cell}
+use Rattle.pl_values.proofs.Given.{constant-cell, sid-cell, label-cell, label-test-cell, label-input, point-cell, point-operands, section-cell, section-input}
 use Rattle.pl_values.proofs.Operations.{fills-all}
-use Rattle.pl_values.specs.Inputs.{IsInputRow, IsGroupRow, AreRows, AreSectionRows, AreWindows, input_window}
+use Rattle.pl_values.specs.Inputs.{IsInputRow, IsGroupRow, AreRows, AreSectionRows}
 use Rattle.pl_pointwise.specs.Operands.{IsOperation, AreOperands, operation}
 use Rattle.pl_assets.specs.Labels.{label_on}
 use Rattle.pl_assets.proofs.LabelWorlds.{labels_those}
@@ -35,7 +34,7 @@ use Rattle.pl_spec.specs.Cross.{at}
 use Rattle.pl_exec.specs.declared.turn.Turn.{Turn}
 use Rattle.pl_exec.specs.Tasks.{assets_in, cell_in, sids_in}
 use Rattle.pl_exec.specs.Jobs.{IsTurn, IsKept, IsOut, Begins, task_at, node_at}
-use Rattle.pl_exec.proofs.Spans.{one_begun, all_begun}
+use Rattle.pl_exec.proofs.Spans.{one_begun}
 
 pub sids_kind : (k : Kind) → is_sids k ≡ true → (own : List ℕ) × (k ≡ StaticSids own)
 sids_kind (StaticSids own) e = (own, refl)

@@ -1,5 +1,5 @@
 -- What is read of the arrays that are there.
-use Rattle.std.proofs.Common.{◌≡◌, ℕ, ◌+◌, ◌-◌, ◌*◌, ◌<◌, ◌≤◌, ◌&&◌, Bool, true, false, ℤ, pos, List, length, take, drop, get_or, set, Option, Some, None, refl, sym, ◌∙◌, ap, subst, arith, All, option_map, slice_get}
+use Rattle.std.proofs.Common.{◌≡◌, ℕ, ◌+◌, ◌-◌, ◌*◌, ◌<◌, ◌≤◌, ◌&&◌, ℤ, pos, List, length, take, drop, get_or, set, Some, sym, ◌∙◌, ap, subst, arith, All, slice_get}
 use Rattle.pl_spec.specs.Rounding.{IsCell}
 use Rattle.pl_spec.specs.World.{World, exists}
 use Rattle.pl_spec.specs.Table.{Pipeline}
@@ -10,7 +10,7 @@ use Rattle.pl_workspace.specs.Slots.{Slots}
 use Rattle.pl_exec.specs.Tasks.{Task, graph_in, assets_in, cell_in, count_in, low_in}
 use Rattle.pl_exec.specs.declared.turn.Turn.{Turn}
 use Rattle.pl_exec.specs.Jobs.{IsJob, IsRead, IsReady, IsRun, IsTurn, Begins, node_at, task_at}
-use Rattle.pl_exec.proofs.Spans.{end_within, size_within, window_is, window_cells, one_begun, at_is, at_cell, at_within}
+use Rattle.pl_exec.proofs.Spans.{end_within, size_within, window_is, window_cells, one_begun, at_is, at_cell}
 
 pub read_less : (t : Task) (w : Slots) (s size u : ℕ) → IsRead t w s size u → IsRead t w s 1 u
 read_less t w s size u r = record { known = r.known; used = r.used; held = r.held; some = omega arith; early = (let e = r.early in let o = r.some in omega arith) }

@@ -1,5 +1,5 @@
 -- The slot of one bar column, while the rest of a term is computed.
-use Rattle.std.proofs.Common.{◌≡◌, ◌≢◌, ℕ, zero, suc, ◌+◌, ◌<◌, ◌≤◌, Bool, true, false, max, List, [], ◌∷◌, length, get_or, sum_by, Option, Some, None, slice_get, refl, sym, ◌∙◌, ap, subst, arith, ◌⊎◌, inl, inr, ℤ, pos, ◌≤ℤ◌, not, ◌&&◌}
+use Rattle.std.proofs.Common.{◌≡◌, ℕ, zero, suc, ◌+◌, ◌<◌, ◌≤◌, Bool, true, false, max, List, [], ◌∷◌, length, sum_by, Option, Some, None, slice_get, refl, sym, ◌∙◌, ap, arith, ◌⊎◌, inl, inr, ℤ, ◌&&◌}
 use Rattle.std.specs.List.{list_all}
 use Rattle.std.proofs.lemmas.Int.{ints}
 use Rattle.std.proofs.lemmas.Bool.{true≢false}
@@ -9,18 +9,16 @@ use Rattle.pl_spec.specs.Kind as kind
 use Rattle.pl_spec.specs.Kind.{Kind, PointKind, CrossKind}
 use Rattle.pl_spec.specs.Term as spec
 use Rattle.pl_spec.specs.Term.Input.{BarColumn, TermInput}
-use Rattle.pl_spec.specs.Graph.{columns_at, contains, input_column}
+use Rattle.pl_spec.specs.Graph.{columns_at, contains}
 use Rattle.pl_spec.specs.Window.{applied_steps}
 use Rattle.pl_laws.specs.LowLaws.{HasBar}
-use Rattle.pl_terms.specs.Sorts.{Place, Own, Bar, Series, Factor, all_fit, fits, is_windowed, places, point_places, cross_places, takes_column}
-use Rattle.pl_terms.specs.Uses.{outputs}
-use Rattle.pl_values.proofs.Typed.{has-input}
+use Rattle.pl_terms.specs.Sorts.{Place, Own, Bar, Series, all_fit, fits, is_windowed, places, point_places, cross_places, takes_column}
 use Rattle.pl_values.proofs.Operations.{all-at}
 use Rattle.pl_planner.specs.Plans.{column_slot}
 use Rattle.pl_planner.proofs.Pipelines.{is-pipeline}
 use Rattle.pl_workspace.specs.Slots.{Slots, Free, Begun, Live, slot_at, with_slot, live_count}
 use Rattle.pl_exec.specs.declared.job.Job.{Job}
-use Rattle.pl_exec.specs.Tasks.{Task, columns_of, columns_of_term, first_row, graph_in, low_in, row_count, sids_in, term_steps}
+use Rattle.pl_exec.specs.Tasks.{columns_of, columns_of_term, first_row, graph_in, row_count, sids_in, term_steps}
 use Rattle.pl_exec.specs.Jobs.{AreFree, IsColumnRun, IsJob, IsRun, columns_before, new_column, new_first, one_new, task_of, unless}
 use Rattle.pl_exec.proofs.Mentions.{run_still, free_still, asked}
 use Rattle.pl_exec.proofs.NewColumns.{columns_few, columns_count, columns_sum, part}

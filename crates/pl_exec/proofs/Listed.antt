@@ -1,8 +1,7 @@
 -- The used terms as a choice among all numbers, what they hold at once, and their sums.
-use Rattle.std.proofs.Common.{◌≡◌, ◌≢◌, ℕ, zero, suc, ◌+◌, ◌-◌, ◌<◌, ◌≤◌, Bool, true, false, cond, ◌&&◌, ◌||◌, if◌then◌else◌, max, nat_le, List, [], ◌∷◌, ◌++◌, length, map, fold, filter, sum_by, Option, Some, None, slice_get, refl, sym, ◌∙◌, ap, arith, inl, inr, ◌==◌}
-use Rattle.std.specs.List.{range_with_len, count_by, list_any}
+use Rattle.std.proofs.Common.{◌≡◌, ◌≢◌, ℕ, zero, suc, ◌+◌, ◌-◌, ◌<◌, ◌≤◌, Bool, true, false, cond, ◌&&◌, ◌||◌, if◌then◌else◌, max, nat_le, List, [], ◌∷◌, ◌++◌, length, map, fold, filter, sum_by, Some, slice_get, refl, sym, ◌∙◌, ap, arith, inl, inr, ◌==◌}
+use Rattle.std.specs.List.{range_with_len, count_by}
 use Rattle.std.proofs.lemmas.Bool.{true≢false, or_cases, or_left, or_right, eq-eqb, eqb-true}
-use Rattle.std.proofs.lemmas.Bool.Decides.{nat_tests}
 use Rattle.std.proofs.lemmas.List.Elements.{filter-append}
 use Rattle.std.proofs.lemmas.List.Sums.{length-filter, fold-append}
 use Rattle.std.proofs.lemmas.List.Folds.{list_any-append}

@@ -1,28 +1,26 @@
 -- What a used term mentions is there while it is computed, and in which slots.
-use Rattle.std.proofs.Common.{◌≡◌, ◌≢◌, ℕ, zero, suc, ◌+◌, ◌-◌, ◌<◌, ◌≤◌, Bool, true, false, ◌&&◌, nat_le, nat_lt, ℤ, pos, ◌-ℤ◌, ◌≤ℤ◌, ◌<ℤ◌, List, [], ◌∷◌, length, get_or, Option, Some, None, slice_get, refl, sym, ◌∙◌, ap, subst, arith, ◌⊎◌, inl, inr, AllPairs}
-use Rattle.std.proofs.lemmas.Bool.{true≢false, cases_eq, cases_lt, eqb-true}
+use Rattle.std.proofs.Common.{◌≡◌, ℕ, ◌+◌, ◌-◌, ◌<◌, ◌≤◌, Bool, true, false, ◌&&◌, nat_le, ℤ, pos, ◌-ℤ◌, ◌≤ℤ◌, List, length, Option, Some, None, slice_get, refl, sym, ◌∙◌, ap, subst, arith, ◌⊎◌, inl, inr}
+use Rattle.std.proofs.lemmas.Bool.{true≢false, cases_lt, eqb-true}
 use Rattle.std.proofs.lemmas.Bool.Decides.{nat_tests}
 use Rattle.std.proofs.lemmas.Int.{ints}
-use Rattle.std.proofs.lemmas.Option.{slice_get_within}
-use Rattle.pl_spec.specs.declared.Column.{Column}
 use Rattle.pl_spec.specs.Window.{before}
 use Rattle.pl_spec.specs.Kind as kind
 use Rattle.pl_spec.specs.Kind.{Kind, WindowKind}
 use Rattle.pl_spec.specs.Term.{Graph, Node, Input}
 use Rattle.pl_spec.specs.Term.Input.{BarColumn, TermInput}
-use Rattle.pl_spec.specs.Graph.{Used, contains, columns_at, live_terms, mentions_at, reads_at, used_terms}
+use Rattle.pl_spec.specs.Graph.{Used, contains, columns_at}
 use Rattle.pl_spec.specs.Lows.{Reads}
 use Rattle.pl_laws.specs.LowLaws.{HasBar}
 use Rattle.pl_laws.proofs.Uses.{lower, used_terms-sound, used_terms-complete}
-use Rattle.pl_terms.specs.Sorts.{Place, all_fit, fits, has_window, is_windowed, places, window_places}
+use Rattle.pl_terms.specs.Sorts.{Place, has_window, places, window_places}
 use Rattle.pl_terms.specs.Uses.{outputs}
-use Rattle.pl_planner.specs.Plans.{IsAsked, IsLive, HasSlot, AreLastUsers, is_live, is_read_by, is_used, last_user, low_at, slot_of, column_slot}
+use Rattle.pl_planner.specs.Plans.{IsAsked, IsLive, AreLastUsers, is_read_by, is_used, last_user, low_at, slot_of, column_slot}
 use Rattle.pl_planner.specs.Laws.{IsCovered}
 use Rattle.pl_planner.proofs.Pipelines.{IsPipeline, is-pipeline}
 use Rattle.pl_planner.proofs.Covers.{reads-covered}
 use Rattle.pl_values.proofs.Typed.{has-input}
 use Rattle.pl_workspace.specs.Slots.{Slots, Free, Begun, slot_at, with_slot}
-use Rattle.pl_exec.specs.Slotted.{AreApart, AreLive, ends_at, kept}
+use Rattle.pl_exec.specs.Slotted.{AreApart, AreLive, ends_at}
 use Rattle.pl_exec.specs.Tasks.{Task, IsArray, graph_in, kept_in, low_in}
 use Rattle.pl_exec.specs.Jobs.{AreFree, IsRead, IsReady, IsRun, IsTask}
 use Rattle.pl_exec.proofs.Listed.{listed_below, used_within}

@@ -1,12 +1,12 @@
 -- What is released, and what is held with one term more.
-use Rattle.std.proofs.Common.{◌≡◌, ℕ, ◌+◌, ◌<◌, ◌≤◌, Bool, true, false, ◌&&◌, max, min, ◌^◌, List, length, map, fold, sum_by, ℤ, Option, Some, None, slice_get, refl, sym, ◌∙◌, ap, subst, arith, if◌then◌else◌}
+use Rattle.std.proofs.Common.{◌≡◌, ℕ, ◌+◌, ◌<◌, ◌≤◌, Bool, true, false, ◌&&◌, max, length, Option, Some, None, slice_get, refl, sym, ◌∙◌, ap, arith, if◌then◌else◌}
 use Rattle.std.specs.List.{range_with_len, count_by}
 use Rattle.std.proofs.lemmas.Bool.{true≢false}
 use Rattle.pl_spec.specs.Term as spec
 use Rattle.pl_spec.specs.Term.{IsGraph}
 use Rattle.pl_spec.specs.Graph.{columns_at}
 use Rattle.pl_planner.specs.Plans.{is_used, last_user, slot_of}
-use Rattle.pl_workspace.specs.Slots.{Slots, Free, Live, live_count, slot_at, with_slot}
+use Rattle.pl_workspace.specs.Slots.{Slots, Free, Live, live_count, with_slot}
 use Rattle.pl_workspace.proofs.Tables.{within}
 use Rattle.pl_exec.specs.Slotted.{AreLive, AreApart, ends_at, left}
 use Rattle.pl_exec.specs.Tasks.{Task, IsArray, graph_in, held_in, kept_in, cut}

@@ -1,10 +1,10 @@
 -- The columns of a chunk, and their sids.
-use Rattle.std.proofs.Common.{◌≡◌, ℕ, zero, suc, ◌+◌, ◌<◌, ◌≤◌, List, [], ◌∷◌, length, map, get_or, Option, Some, None, option_map, unwrap_or, slice_get, refl, sym, ◌∙◌, ap, subst, arith, All, AllPairs, sum_by, max, fold, Bool, true}
+use Rattle.std.proofs.Common.{◌≡◌, ℕ, zero, suc, ◌<◌, ◌≤◌, List, [], ◌∷◌, length, map, get_or, Some, slice_get, refl, sym, ◌∙◌, ap, arith, All, AllPairs, sum_by, max, fold}
 use Rattle.std.specs.List.{range_with_len}
 use Rattle.std.proofs.lemmas.List.{length-map, get_or_default}
 use Rattle.pl_spec.specs.declared.AssetRow.{AssetRow}
 use Rattle.pl_spec.specs.Parts.{sid_at}
-use Rattle.pl_spec.specs.Graph.{bound, used_terms}
+use Rattle.pl_spec.specs.Graph.{bound}
 use Rattle.pl_terms.specs.Uses.{outputs}
 use Rattle.pl_planner.specs.Plans.{is_used, last_user, is_read_by}
 use Rattle.pl_exec.specs.Tasks.{Task, chunk_steps, graph_in, held_in, steps_in, term_steps}

@@ -1,8 +1,7 @@
 -- Where the traversals of a term stand, and what they count.
-use Rattle.std.proofs.Common.{◌≡◌, ◌≢◌, ℕ, zero, suc, ◌+◌, ◌-◌, ◌*◌, ◌<◌, ◌≤◌, Bool, true, false, if◌then◌else◌, List, [], ◌∷◌, length, map, sum_by, min, ◌^◌, Option, Some, None, slice_get, refl, sym, ◌∙◌, ap, subst, arith, ◌==◌}
+use Rattle.std.proofs.Common.{◌≡◌, ℕ, zero, suc, ◌+◌, ◌-◌, ◌<◌, ◌≤◌, true, false, sum_by, Option, Some, None, refl, sym, ◌∙◌, ap, subst, arith, ◌==◌}
 use Rattle.std.proofs.lemmas.Bool.Decides.{nat_tests}
 use Rattle.pl_spec.specs.declared.Column.{Column}
-use Rattle.pl_spec.specs.Parts.{sid_at}
 use Rattle.pl_spec.specs.Window.{applied_steps}
 use Rattle.pl_spec.specs.Term as spec
 use Rattle.pl_spec.specs.Term.Input.{BarColumn, TermInput}
@@ -12,7 +11,7 @@ use Rattle.pl_adjarray.proofs.Worlds.{whole_counts}
 use Rattle.pl_exec.specs.declared.job.Job.{Job}
 use Rattle.pl_exec.specs.declared.windows.Bars.{Bars}
 use Rattle.pl_exec.specs.Tasks.{cut, first_row, row_count, count_in, graph_in, low_in, sids_in, term_steps, columns_of, columns_of_term, window_of_term}
-use Rattle.pl_exec.specs.Jobs.{AreBars, GoesOn, HasBarsAt, IsColumnRun, IsJob, advanced, buffer_at, buffer_for, buffered, counted, new_column, stand_at, task_of, traversal_at}
+use Rattle.pl_exec.specs.Jobs.{AreBars, GoesOn, HasBarsAt, IsColumnRun, advanced, buffer_at, buffer_for, buffered, counted, new_column, stand_at, task_of, traversal_at}
 use Rattle.pl_workspace.specs.Slots.{Slots}
 use Rattle.pl_exec.proofs.NewColumns.{part, columns_sum}
 

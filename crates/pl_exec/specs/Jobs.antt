@@ -1,9 +1,9 @@
 -- What the code has of a chunk's work, and what is there when a term is computed.
-use Rattle.std.specs.Prelude.{◌≡◌, ◌≢◌, ℕ, zero, suc, ◌+◌, ◌-◌, ◌<◌, ◌≤◌, ◌*◌, ◌^◌, Bool, true, false, if◌then◌else◌, ◌==◌, ℤ, pos, ◌<ℤ◌, List, [], ◌∷◌, length, map, filter_map, take, get_or, Option, Some, None, slice_get, AllPairs, sum_by}
+use Rattle.std.specs.Prelude.{◌≡◌, ◌≢◌, ℕ, zero, suc, ◌+◌, ◌<◌, ◌≤◌, ◌*◌, ◌^◌, Bool, true, false, if◌then◌else◌, ◌==◌, ℤ, pos, ◌<ℤ◌, List, [], ◌∷◌, length, filter_map, take, get_or, Option, Some, None, slice_get, AllPairs}
 use Rattle.pl_spec.specs.Rounding.{IsCell}
 use Rattle.pl_spec.specs.declared.Column.{Column}
 use Rattle.pl_spec.specs.declared.Column.TheVariants.{Close}
-use Rattle.pl_spec.specs.World.{World, column_number}
+use Rattle.pl_spec.specs.World.{column_number}
 use Rattle.pl_spec.specs.Term as spec
 use Rattle.pl_spec.specs.Term.Input.{BarColumn, TermInput}
 use Rattle.pl_spec.specs.Graph.{contains, columns_at, input_column}
@@ -22,8 +22,8 @@ use Rattle.std.specs.Borrow.{Bor}
 use Rattle.pl_exec.specs.declared.job.Job.{Job}
 use Rattle.pl_exec.specs.declared.turn.Turn.{Turn}
 use Rattle.pl_exec.specs.declared.windows.Bars.{Bars}
-use Rattle.pl_exec.specs.Slotted.{IsHeld, AreApart}
-use Rattle.pl_exec.specs.Tasks.{Task, AreColumns, IsArray, assets_in, cell_in, count_in, first_row, graph_in, kept_in, low_in, row_count, sids_in}
+use Rattle.pl_exec.specs.Slotted.{IsHeld}
+use Rattle.pl_exec.specs.Tasks.{Task, AreColumns, IsArray, assets_in, cell_in, first_row, graph_in, low_in, row_count, sids_in}
 
 -- what holds of a task throughout
 pub record IsTask (t : Task) : Type 0 where

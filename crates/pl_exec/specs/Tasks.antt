@@ -1,5 +1,5 @@
 -- The work of one chunk, and what the arrays of its terms hold.
-use Rattle.std.specs.Prelude.{◌≡◌, ℕ, suc, ◌+◌, ◌-◌, ◌*◌, ◌<◌, ◌≤◌, Bool, true, false, if◌then◌else◌, ℤ, pos, List, [], ◌∷◌, length, map, filter, filter_map, take, sum_by, count_by, Option, Some, None, slice_get, All, AllPairs, min, ◌^◌}
+use Rattle.std.specs.Prelude.{◌≡◌, ℕ, ◌+◌, ◌-◌, ◌*◌, ◌<◌, ◌≤◌, Bool, true, if◌then◌else◌, ℤ, List, [], ◌∷◌, length, map, filter, filter_map, sum_by, count_by, Option, Some, None, slice_get, All, AllPairs, min, ◌^◌}
 use Rattle.std.specs.List.{range_with_len}
 use Rattle.pl_spec.specs.declared.Column.{Column}
 use Rattle.pl_spec.specs.declared.Column.TheVariants.{OpenPrice, High, Low, Close, Volume}
@@ -7,13 +7,12 @@ use Rattle.pl_spec.specs.Parts.{sid_at}
 use Rattle.pl_spec.specs.World.{World, column_number}
 use Rattle.pl_spec.specs.Window.{applied_steps}
 use Rattle.pl_spec.specs.Term.{Graph, Node}
-use Rattle.pl_spec.specs.Term.Input.{BarColumn, TermInput}
 use Rattle.pl_spec.specs.Graph.{contains, columns_at, input_column, used_terms}
-use Rattle.pl_spec.specs.Table.{Pipeline, array_of}
+use Rattle.pl_spec.specs.Table.{Pipeline}
 use Rattle.pl_terms.specs.Uses.{outputs}
 use Rattle.pl_planner.specs.Plans.{Planned, is_used, low_at, last_user, slot_of}
 use Rattle.pl_values.specs.Arrays.{cell_of, Holds, HasAll}
-use Rattle.pl_workspace.specs.Slots.{Slots, Live, slot_at}
+use Rattle.pl_workspace.specs.Slots.{Slots}
 use Rattle.pl_exec.specs.Slotted.{IsHeld, AreLive, kept}
 
 -- the sessions from .. to of a planned pipeline, for the assets in some columns

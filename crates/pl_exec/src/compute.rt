@@ -96,7 +96,18 @@ fn third_column<'x, L: Ledger>(
 {
     if one_new(node, 2) == 0 {
         return fill_last(
-            job, term, node, workspace, own, first, second, &mut [], mask, keep, out, steps,
+            job,
+            term,
+            node,
+            workspace,
+            own,
+            first,
+            second,
+            &mut [],
+            mask,
+            keep,
+            out,
+            steps,
         );
     }
     let slot = job.plan.column_slot(term, taken);
@@ -154,7 +165,18 @@ fn second_column<'x, L: Ledger>(
 {
     if one_new(node, 1) == 0 {
         return third_column(
-            job, term, node, taken, workspace, own, first, &mut [], mask, keep, out, steps,
+            job,
+            term,
+            node,
+            taken,
+            workspace,
+            own,
+            first,
+            &mut [],
+            mask,
+            keep,
+            out,
+            steps,
         );
     }
     let slot = job.plan.column_slot(term, taken);
@@ -210,7 +232,17 @@ fn first_column<'x, L: Ledger>(
 {
     if one_new(node, 0) == 0 {
         return second_column(
-            job, term, node, taken, workspace, own, &mut [], mask, keep, out, steps,
+            job,
+            term,
+            node,
+            taken,
+            workspace,
+            own,
+            &mut [],
+            mask,
+            keep,
+            out,
+            steps,
         );
     }
     let slot = job.plan.column_slot(term, taken);

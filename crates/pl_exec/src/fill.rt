@@ -177,7 +177,14 @@ fn bars_row<'t>(
 }
 
 // How many cells the traversal of a place is given: those of its rows, none where it is no new column.
-fn cells_for(job: &Job<'_>, term: TermId, node: &Node, place: usize, rows: usize, cells: &[i64]) -> usize
+fn cells_for(
+    job: &Job<'_>,
+    term: TermId,
+    node: &Node,
+    place: usize,
+    rows: usize,
+    cells: &[i64],
+) -> usize
     requires rows { rows ≡ row_count (task_of job.now) term.0 }
     requires has { HasRows (task_of job.now) term.0 (node_of node.now) place cells.now }
     ensures value { result ≡ (buffer_at job.now term.0 (node_of node.now) place).rows

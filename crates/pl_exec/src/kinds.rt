@@ -15,7 +15,9 @@ use crate::turn::{Turn, input_row, pick, term_row};
 use crate::windows::window_row;
 use pl_cross::Cross;
 use pl_pointwise::pointwise;
-use pl_values::{Family, family_of, keep_values, label_test_value, label_value, section_values, sids_value};
+use pl_values::{
+    Family, family_of, keep_values, label_test_value, label_value, section_values, sids_value,
+};
 
 fn constant_row(turn: &Turn<'_>, value: i64, keep: &[i64], out: &mut [i64])
     requires turn { IsTurn turn.now }

@@ -77,7 +77,12 @@ fn windows_in<'b, 's>(bars: &'b Bars<'s>, place: usize) -> &'b Windows<'s>
 }
 
 // The bars of an asset on the sessions before this one.
-fn column_window<'t>(turn: &Turn<'t>, bars: Option<&'t Bars<'t>>, column: Column, i: usize) -> &'t [i64]
+fn column_window<'t>(
+    turn: &Turn<'t>,
+    bars: Option<&'t Bars<'t>>,
+    column: Column,
+    i: usize,
+) -> &'t [i64]
     requires turn { IsTurn turn.now }
     requires bars { HasBars turn.now.job.now turn.now.term.0 (node_at turn.now) turn.now.session (bars_now bars) }
     requires input { (place : ℕ) × (slice_get (node_at turn.now).inputs place ≡ Some (BarColumn column)) }
@@ -129,7 +134,12 @@ fn window_at<'t>(turn: &Turn<'t>, bars: Option<&'t Bars<'t>>, i: usize, keep: i6
 }
 
 /// A formula or a filter over windows.
-pub(crate) fn window_row<'t>(turn: &Turn<'t>, bars: Option<&'t Bars<'t>>, keep: &[i64], out: &mut [i64])
+pub(crate) fn window_row<'t>(
+    turn: &Turn<'t>,
+    bars: Option<&'t Bars<'t>>,
+    keep: &[i64],
+    out: &mut [i64],
+)
     requires turn { IsTurn turn.now }
     requires kind { is_windowed (node_at turn.now).kind ≡ true }
     requires bars { HasBars turn.now.job.now turn.now.term.0 (node_at turn.now) turn.now.session (bars_now bars) }

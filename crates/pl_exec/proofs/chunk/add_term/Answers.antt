@@ -1,10 +1,8 @@
-use Rattle.std.proofs.Common.{rules, ◌≡◌, ◌<◌, ◌≤◌, ◌+◌, ◌&&◌, ℕ, Bool, true, false, ap, ◌∙◌, sym, refl, arith, subst, max, fold, map, sum_by, length, not}
-use Rattle.std.specs.List.{range_with_len}
+use Rattle.std.proofs.Common.{ap, ◌∙◌, arith}
 use Rattle.pl_spec.specs.Graph.{columns_at}
-use Rattle.pl_planner.specs.Plans.{is_used, last_user, slot_of}
-use Rattle.pl_workspace.specs.Slots.{Slots, Free, Begun, Live, live_count, slot_at, with_slot}
-use Rattle.pl_exec.specs.Slotted.{AreLive, AreApart, ends_at, left}
-use Rattle.pl_exec.specs.Tasks.{IsArray, graph_in, held_in, kept_in, steps_in, term_steps, cut}
+use Rattle.pl_planner.specs.Plans.{slot_of}
+use Rattle.pl_workspace.specs.Slots.{Free, Begun, Live, slot_at, with_slot}
+use Rattle.pl_exec.specs.Tasks.{IsArray, graph_in, kept_in}
 use Rattle.pl_exec.specs.Jobs.{task_of}
 use Rattle.pl_exec.proofs.Mentions.{own_free, run_begun, columns_free, slot_within, own_kept, apart_at}
 use Rattle.pl_exec.proofs.Releases.{few_columns}

@@ -1,11 +1,10 @@
-use Rattle.std.proofs.Common.{rules, ◌≡◌, ◌<◌, ◌≤◌, ◌+◌, true, ap, ◌∙◌, sym, refl, arith, max, length}
+use Rattle.std.proofs.Common.{◌+◌, ap, ◌∙◌, arith, max, length}
 use Rattle.pl_spec.specs.Graph.{contains}
 use Rattle.pl_terms.specs.Uses.{outputs}
 use Rattle.pl_planner.specs.Plans.{slot_of}
 use Rattle.pl_values.proofs.Given.{texts-coded}
-use Rattle.pl_workspace.specs.Slots.{live_count}
 use Rattle.pl_exec.specs.Chunks.{task}
-use Rattle.pl_exec.specs.Tasks.{Task, IsArray, cut, graph_in, kept_in}
+use Rattle.pl_exec.specs.Tasks.{IsArray, cut, graph_in, kept_in}
 use Rattle.pl_exec.specs.Jobs.{IsTask}
 use Rattle.pl_exec.proofs.Living.{live_below, none_yet, none_counted}
 use Rattle.pl_exec.proofs.Mentions.{live_at_last, output_known}
@@ -21,16 +20,16 @@ run_terms-requires-clause-job g c = record {
   fits = omega (arith, c.requires.to, c.requires.plan.within, c.len-sessions.ensures.length, c.len-sessions.ensures.few);
   terms = (let l = graph_long c.args.checked.now.graph in let e = ap (λ g. length g) c.graph.ensures.value in omega (arith, l, e, c.len-terms.ensures.value, c.len-terms.ensures.few));
   task = (record {
-      checked = c.graph.ensures.checked;
-      plan = c.requires.plan;
-      from = c.requires.from;
-      order = c.requires.order;
-      to = c.requires.to;
-      columns = c.requires.cols;
-      up = sids_up c.args.world.now.assets.now c.parts_make_a_world.ensures.parts.sids_ascend c.args.cols.now c.requires.cols.ascend c.requires.cols.within;
-      days = c.parts_make_a_world.ensures.parts.days_ascend;
-      texts = texts-coded c.args.world.now.sessions.now c.args.world.now.assets.now c.args.world.now.labels.now c.args.world.now.bars.now c.args.world.now.adjustments.now c.len-labels.ensures.labels;
-    });
+    checked = c.graph.ensures.checked;
+    plan = c.requires.plan;
+    from = c.requires.from;
+    order = c.requires.order;
+    to = c.requires.to;
+    columns = c.requires.cols;
+    up = sids_up c.args.world.now.assets.now c.parts_make_a_world.ensures.parts.sids_ascend c.args.cols.now c.requires.cols.ascend c.requires.cols.within;
+    days = c.parts_make_a_world.ensures.parts.days_ascend;
+    texts = texts-coded c.args.world.now.sessions.now c.args.world.now.assets.now c.args.world.now.labels.now c.args.world.now.bars.now c.args.world.now.adjustments.now c.len-labels.ensures.labels;
+  });
 }
 
 pub run_terms-requires-clause-live : goal.run_terms-requires-clause-live
@@ -54,7 +53,7 @@ returns-clause-outputs g c =
       texts = texts-coded c.args.world.now.sessions.now c.args.world.now.assets.now c.args.world.now.labels.now c.args.world.now.bars.now c.args.world.now.adjustments.now c.len-labels.ensures.labels;
     }) in
     let only = live_below (slot_of c.args.plan.now) (IsArray (task c.args.world.now c.args.checked.now c.args.plan.now c.args.chunk.now c.args.cols.now)) (kept_in (task c.args.world.now c.args.checked.now c.args.plan.now c.args.chunk.now c.args.cols.now) (length (graph_in (task c.args.world.now c.args.checked.now c.args.plan.now c.args.chunk.now c.args.cols.now)))) (contains (outputs ((task c.args.world.now c.args.checked.now c.args.plan.now c.args.chunk.now c.args.cols.now)).pipeline)) (length (graph_in (task c.args.world.now c.args.checked.now c.args.plan.now c.args.chunk.now c.args.cols.now))) c.run_terms.new.workspace
-        (live_at_last (task c.args.world.now c.args.checked.now c.args.plan.now c.args.chunk.now c.args.cols.now) is) c.run_terms.ensures.live in
+    (live_at_last (task c.args.world.now c.args.checked.now c.args.plan.now c.args.chunk.now c.args.cols.now) is) c.run_terms.ensures.live in
     record {
       arrays = λ k e. only.held k (output_known (task c.args.world.now c.args.checked.now c.args.plan.now c.args.chunk.now c.args.cols.now) is k e) e;
       only = only;

@@ -1,10 +1,5 @@
-use Rattle.std.proofs.Common.{rules, ◌≡◌, ◌<◌, ◌≤◌, ◌+◌, ◌&&◌, ℕ, Bool, true, false, ap, ◌∙◌, sym, refl, arith, subst, max, fold, map, sum_by, length, not}
-use Rattle.std.specs.List.{range_with_len}
-use Rattle.pl_spec.specs.Graph.{columns_at}
-use Rattle.pl_planner.specs.Plans.{is_used, last_user, slot_of}
-use Rattle.pl_workspace.specs.Slots.{Slots, Free, Begun, Live, live_count, slot_at, with_slot}
-use Rattle.pl_exec.specs.Slotted.{AreLive, AreApart, ends_at, left}
-use Rattle.pl_exec.specs.Tasks.{IsArray, graph_in, held_in, kept_in, steps_in, term_steps, cut}
+use Rattle.std.proofs.Common.{ap, ◌∙◌, sym, arith, max}
+use Rattle.pl_exec.specs.Tasks.{held_in, steps_in}
 use Rattle.pl_exec.specs.Jobs.{task_of}
 use Rattle.pl_exec.proofs.Counts.{most_more}
 use Rattle.pl_exec.proofs.Listed.{sum_more}

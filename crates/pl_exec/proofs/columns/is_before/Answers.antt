@@ -1,4 +1,4 @@
-use Rattle.std.proofs.Common.{rules, ◌≡◌, ◌∙◌, ap, take, min, length, map, filter_map}
+use Rattle.std.proofs.Common.{◌∙◌, ap, take, map, filter_map}
 use Rattle.pl_spec.specs.World.{column_number}
 use Rattle.pl_spec.specs.Graph.{contains, input_column}
 use Rattle.pl_terms.specs.Nodes.{input_of}

@@ -1,9 +1,6 @@
-use Rattle.std.proofs.Common.{rules, ◌≡◌, ◌<◌, ◌≤◌, ◌+◌, ap, ◌∙◌, sym, refl, arith, subst, max}
-use Rattle.pl_spec.specs.Graph.{columns_at}
+use Rattle.std.proofs.Common.{ap, sym, arith}
 use Rattle.pl_terms.specs.Nodes.{node_of}
-use Rattle.pl_workspace.specs.Slots.{live_count}
-use Rattle.pl_exec.specs.Tasks.{cut, graph_in, term_steps}
-use Rattle.pl_exec.specs.Jobs.{new_first, task_of}
+use Rattle.pl_exec.specs.Tasks.{cut}
 use Rattle.pl_exec.proofs.Levels.{column_run, count_is, no_steps}
 use Rattle.pl_exec.proofs.compute.compute_over.Goals as goal
 

@@ -1,10 +1,8 @@
-use Rattle.std.proofs.Common.{rules, ◌≡◌, ◌<◌, ◌≤◌, ◌+◌, ap, ◌∙◌, sym, refl, arith, subst, max}
-use Rattle.pl_spec.specs.Graph.{columns_at}
+use Rattle.std.proofs.Common.{◌≡◌, refl, arith}
 use Rattle.pl_terms.specs.Nodes.{node_of}
-use Rattle.pl_workspace.specs.Slots.{Slots, live_count}
-use Rattle.pl_exec.specs.Jobs.{new_column, new_second, new_third, one_new, task_of}
+use Rattle.pl_exec.specs.Jobs.{new_column, one_new}
 use Rattle.pl_exec.proofs.NewColumns.{columns_few}
-use Rattle.pl_exec.proofs.Levels.{slot_free, run_next, free_next, live_next, counted_next, is_live, slots_back, peak_back, peak_still}
+use Rattle.pl_exec.proofs.Levels.{slot_free, run_next, live_next, is_live, slots_back, peak_back, peak_still}
 use Rattle.pl_exec.proofs.compute.third_column.Goals as goal
 
 pub column_slot-slot-requires-clause-within : goal.column_slot-slot-requires-clause-within

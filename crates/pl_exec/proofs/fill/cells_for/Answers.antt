@@ -1,4 +1,4 @@
-use Rattle.std.proofs.Common.{rules, ◌≡◌, ◌≢◌, ◌*◌, ◌≤◌, length, arith, ap, ◌∙◌, sym, Some, None, Fits, w64, subst}
+use Rattle.std.proofs.Common.{rules, ◌≡◌, ◌≢◌, ◌*◌, ◌≤◌, length, arith, ap, ◌∙◌, sym, Some, None}
 use Rattle.std.proofs.Math.Nat.{mul_comm}
 use Rattle.std.proofs.Common.{◌<◌, ◌^◌}
 use Rattle.pl_terms.specs.Nodes.{node_of}

@@ -1,8 +1,7 @@
-use Rattle.std.proofs.Common.{rules, ◌≡◌, ◌<◌, ◌≤◌, ◌+◌, ap, ◌∙◌, sym, arith, subst}
+use Rattle.std.proofs.Common.{◌≤◌, ◌+◌, ap, ◌∙◌, sym, arith, subst}
 use Rattle.pl_adjarray.specs.Buffered.{Buffered}
 use Rattle.pl_terms.specs.Nodes.{node_of}
 use Rattle.pl_exec.specs.Tasks.{cut}
-use Rattle.pl_exec.specs.Jobs.{task_of}
 use Rattle.pl_exec.proofs.Stands.{window_few, counted_is}
 use Rattle.pl_exec.proofs.fill.fill_bars.Goals as goal
 

@@ -1,8 +1,8 @@
-use Rattle.std.proofs.Common.{rules, ◌≡◌, ◌<◌, ◌≤◌, ◌+◌, ◌-◌, ◌*◌, length, ap, ◌∙◌, sym, arith, subst, get_or, pos, refl, w64, FitsSigned}
+use Rattle.std.proofs.Common.{rules, ◌≡◌, ◌≤◌, ◌+◌, ◌-◌, ◌*◌, length, ap, ◌∙◌, sym, arith, subst, get_or, pos, w64, FitsSigned}
 use Rattle.std.proofs.lemmas.Int.{to_z-of_z}
 use Rattle.pl_values.specs.Arrays.{Holds, IsRow}
 use Rattle.pl_terms.specs.Nodes.{node_of}
-use Rattle.pl_exec.specs.Tasks.{assets_in, cell_in, count_in, graph_in, low_in}
+use Rattle.pl_exec.specs.Tasks.{assets_in, cell_in, graph_in}
 use Rattle.pl_exec.specs.Jobs.{task_of}
 use Rattle.pl_exec.proofs.NewColumns.{no_bars}
 use Rattle.pl_exec.proofs.Held.{turn_is}

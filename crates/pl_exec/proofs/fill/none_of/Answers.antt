@@ -1,7 +1,4 @@
-use Rattle.std.proofs.Common.{rules, ◌≡◌, ◌<◌, length, ap, ◌∙◌, sym, arith}
-use Rattle.pl_spec.specs.Term.{term_at}
-use Rattle.pl_spec.specs.Value.{number_of, empty, sort_kind}
-use Rattle.pl_terms.specs.Nodes.{graph_of}
+use Rattle.std.proofs.Common.{◌≡◌, length, ap, arith}
 use Rattle.pl_exec.proofs.Places.{graph_long}
 use Rattle.pl_exec.proofs.fill.none_of.Goals as goal
 

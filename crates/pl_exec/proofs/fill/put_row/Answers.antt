@@ -1,6 +1,6 @@
-use Rattle.std.proofs.Common.{rules, refl, get_or, pos, w64, FitsSigned, length, ◌+◌, ◌*◌, ◌<◌, arith}
+use Rattle.std.proofs.Common.{rules, refl, get_or, pos, w64, FitsSigned, length}
 use Rattle.std.proofs.lemmas.Int.{to_z-of_z}
-use Rattle.pl_exec.proofs.Spans.{one_put, place_within, none_put, all_put}
+use Rattle.pl_exec.proofs.Spans.{one_put}
 use Rattle.pl_exec.proofs.fill.put_row.Goals as goal
 
 pub loop-i-preserved : goal.loop-i-preserved

@@ -1,4 +1,4 @@
-use Rattle.std.proofs.Common.{◌≡◌, ◌+◌, length}
+use Rattle.std.proofs.Common.{◌≡◌, ◌+◌}
 use Rattle.pl_terms.specs.Nodes.{node_of}
 use Rattle.pl_exec.specs.Tasks.{assets_in, cell_in}
 use Rattle.pl_exec.specs.Jobs.{AreBars, IsWritten, counted, task_of}

@@ -1,7 +1,7 @@
-use Rattle.std.proofs.Common.{rules, ◌≡◌, ◌<◌, ◌+◌, arith, length, w32, w64, FitsSigned, get_or, pos, ap, ◌∙◌, sym, subst, Some}
+use Rattle.std.proofs.Common.{rules, ◌<◌, arith, w64, FitsSigned, get_or, pos}
 use Rattle.std.proofs.lemmas.Int.{to_z-of_z}
-use Rattle.pl_exec.specs.Tasks.{assets_in, sids_in}
-use Rattle.pl_exec.specs.Jobs.{task_at, node_at}
+use Rattle.pl_exec.specs.Tasks.{assets_in}
+use Rattle.pl_exec.specs.Jobs.{task_at}
 use Rattle.pl_exec.proofs.Givens.{constant_given, out_more}
 use Rattle.pl_exec.proofs.kinds.constant_row.Goals as goal
 

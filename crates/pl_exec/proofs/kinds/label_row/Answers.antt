@@ -1,10 +1,8 @@
-use Rattle.std.proofs.Common.{rules, ◌≡◌, ◌<◌, ◌+◌, arith, length, w32, w64, FitsSigned, get_or, pos, ap, ◌∙◌, sym, subst, refl, Some, None, All, option_map, slice_get}
+use Rattle.std.proofs.Common.{rules, ◌<◌, arith, w32, w64, FitsSigned, get_or, pos, ap, ◌∙◌, sym, subst}
 use Rattle.std.proofs.lemmas.Int.{to_z-of_z}
 use Rattle.pl_spec.specs.Rounding.{IsCell}
-use Rattle.pl_terms.specs.Nodes.{number_of}
-use Rattle.pl_terms.specs.Kinds.{kind_of}
-use Rattle.pl_exec.specs.Tasks.{assets_in, sids_in}
-use Rattle.pl_exec.specs.Jobs.{task_at, node_at}
+use Rattle.pl_exec.specs.Tasks.{assets_in}
+use Rattle.pl_exec.specs.Jobs.{task_at}
 use Rattle.pl_values.specs.Families.{label_code}
 use Rattle.pl_exec.proofs.Spans.{all_begun}
 use Rattle.pl_exec.proofs.Givens.{label_given, label_here, out_more}

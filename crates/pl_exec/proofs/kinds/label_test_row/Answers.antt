@@ -1,11 +1,7 @@
-use Rattle.std.proofs.Common.{rules, ◌≡◌, ◌<◌, ◌+◌, arith, length, w32, w64, FitsSigned, get_or, pos, ap, ◌∙◌, sym, subst, refl, Some, None, All, option_map, slice_get}
+use Rattle.std.proofs.Common.{rules, ◌<◌, arith, w64, FitsSigned, get_or, pos, ap, ◌∙◌, sym, subst}
 use Rattle.std.proofs.lemmas.Int.{to_z-of_z}
-use Rattle.pl_spec.specs.Rounding.{IsCell}
-use Rattle.pl_terms.specs.Nodes.{number_of}
-use Rattle.pl_terms.specs.Kinds.{kind_of}
-use Rattle.pl_exec.specs.Tasks.{assets_in, sids_in}
+use Rattle.pl_exec.specs.Tasks.{assets_in}
 use Rattle.pl_exec.specs.Jobs.{task_at, node_at}
-use Rattle.pl_values.specs.Arrays.{cell_of}
 use Rattle.pl_values.specs.Families.{IsCode, code_flag}
 use Rattle.pl_exec.proofs.Givens.{label_test_given, label_test_input, input_fills, code_flag_cell, out_more}
 use Rattle.pl_exec.proofs.kinds.label_test_row.Goals as goal
@@ -33,6 +29,6 @@ loop-i-preserved c =
     let f = input_fills c.args.turn.now c.requires.turn 0 u.0 c.input_row.new.row u.1 c.input_row.ensures.row in
     let g = label_test_given c.args.turn.now c.requires.turn c.loop-i.i u.0 c.requires.kind u.1 in
     let same = value ∙ ap (λ q. code_flag c.args.turn.now.job.now.world.labels.now.texts q (get_or c.input_row.new.row c.loop-i.i (pos 0))) c.kind_of.ensures
-        ∙ ap (code_flag c.args.turn.now.job.now.world.labels.now.texts (node_at c.args.turn.now).kind) (f.each c.loop-i.i asset) in
+    ∙ ap (code_flag c.args.turn.now.job.now.world.labels.now.texts (node_at c.args.turn.now).kind) (f.each c.loop-i.i asset) in
     rw (to_z-of_z w64 _ r) (out_more c.args.turn.now c.requires.turn c.args.keep.now c.requires.keep c.loop-i.i asset _ c.pick.result g.1
     (code_flag_cell _ _ _ c.requires.kind) (rw (← same) picked) c.loop-i.out c.loop-i.invariant)

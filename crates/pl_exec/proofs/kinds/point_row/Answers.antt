@@ -1,7 +1,5 @@
-use Rattle.std.proofs.Common.{rules, ◌≡◌, ◌<◌, ◌+◌, arith, length, w32, w64, FitsSigned, get_or, pos, ap, ◌∙◌, sym, subst, refl, Some, None, All, option_map, slice_get}
+use Rattle.std.proofs.Common.{rules, ◌≡◌, arith, length, w64, FitsSigned, get_or, pos, ap, ◌∙◌, sym, subst}
 use Rattle.std.proofs.lemmas.Int.{to_z-of_z}
-use Rattle.pl_spec.specs.Rounding.{IsCell}
-use Rattle.pl_terms.specs.Nodes.{number_of}
 use Rattle.pl_terms.specs.Kinds.{kind_of}
 use Rattle.pl_exec.specs.Tasks.{assets_in, sids_in}
 use Rattle.pl_exec.specs.Jobs.{task_at, node_at}
@@ -28,7 +26,7 @@ returns c =
     let size : length c.pointwise.new.out ≡ assets_in (task_at c.args.turn.now) = c.pointwise.ensures.length ∙ c.requires.long in
     kept_out c.args.turn.now c.requires.turn c.args.keep.now c.pointwise.new.out c.keep_values.new.out c.requires.keep (c.keep_values.ensures.length ∙ size)
     (λ i h. subst (λ x. IsGiven (task_at c.args.turn.now).world (task_at c.args.turn.now).pipeline (sids_in (task_at c.args.turn.now)) c.args.turn.now.term.0 (node_at c.args.turn.now) i c.args.turn.now.session x)
-      (sym (c.pointwise.ensures.values i (omega (arith, h, c.requires.long)) ∙ ap (λ q. operation q (get_or c.input_row.new.row i (pos 0)) (get_or c.input_row-2.new.row i (pos 0)) (get_or c.input_row-3.new.row i (pos 0))) c.kind_of.ensures))
-      (point_given c.args.turn.now c.requires.turn c.input_row.new.row c.input_row-2.new.row c.input_row-3.new.row c.input_row.ensures.row c.input_row-2.ensures.row c.input_row-3.ensures.row c.requires.kind i h))
+    (sym (c.pointwise.ensures.values i (omega (arith, h, c.requires.long)) ∙ ap (λ q. operation q (get_or c.input_row.new.row i (pos 0)) (get_or c.input_row-2.new.row i (pos 0)) (get_or c.input_row-3.new.row i (pos 0))) c.kind_of.ensures))
+    (point_given c.args.turn.now c.requires.turn c.input_row.new.row c.input_row-2.new.row c.input_row-3.new.row c.input_row.ensures.row c.input_row-2.ensures.row c.input_row-3.ensures.row c.requires.kind i h))
     (λ i h. c.pointwise.ensures.cells i (pos 0) (omega (arith, h, size)))
     (λ i h. kept i (omega (arith, h, size)))

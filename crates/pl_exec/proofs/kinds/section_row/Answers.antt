@@ -1,12 +1,6 @@
-use Rattle.std.proofs.Common.{rules, ◌≡◌, ◌<◌, ◌+◌, arith, length, w32, w64, FitsSigned, get_or, pos, ap, ◌∙◌, sym, subst, refl, Some, None, All, option_map, slice_get}
-use Rattle.std.proofs.lemmas.Int.{to_z-of_z}
-use Rattle.pl_spec.specs.Rounding.{IsCell}
-use Rattle.pl_terms.specs.Nodes.{number_of}
-use Rattle.pl_terms.specs.Kinds.{kind_of}
-use Rattle.pl_exec.specs.Tasks.{assets_in, sids_in}
-use Rattle.pl_exec.specs.Jobs.{task_at, node_at}
+use Rattle.std.proofs.Common.{rules, ◌≡◌, arith, ◌∙◌, sym, subst, refl, Some, None}
+use Rattle.pl_exec.specs.Jobs.{node_at}
 use Rattle.pl_cross.specs.Section.{HasParameters}
-use Rattle.pl_spec.specs.Kind.Kind.{Cross}
 use Rattle.pl_exec.proofs.Givens.{section_right, section_out, section_cells, fills_sids}
 use Rattle.pl_exec.proofs.kinds.section_row.Goals as goal
 

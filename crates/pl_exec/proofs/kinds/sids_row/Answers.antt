@@ -1,11 +1,10 @@
-use Rattle.std.proofs.Common.{rules, ◌≡◌, ◌<◌, ◌+◌, arith, length, w32, w64, FitsSigned, get_or, pos, ap, ◌∙◌, sym, subst, Some}
+use Rattle.std.proofs.Common.{rules, ◌≡◌, ◌<◌, arith, w64, FitsSigned, get_or, pos, ap, ◌∙◌, sym}
 use Rattle.std.proofs.lemmas.Int.{to_z-of_z}
 use Rattle.pl_exec.specs.Tasks.{assets_in, sids_in}
 use Rattle.pl_exec.specs.Jobs.{task_at, node_at}
-use Rattle.pl_terms.specs.Kinds.{kind_of}
 use Rattle.pl_cross.specs.Arrays.{sid_in}
 use Rattle.pl_values.specs.Families.{sid_flag}
-use Rattle.pl_exec.proofs.Places.{sid_of_place, sid_told}
+use Rattle.pl_exec.proofs.Places.{sid_told}
 use Rattle.pl_exec.proofs.Givens.{sid_given, sid_flag_cell, out_more}
 use Rattle.pl_exec.proofs.kinds.sids_row.Goals as goal
 

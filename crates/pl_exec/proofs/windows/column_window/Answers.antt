@@ -1,16 +1,8 @@
-use Rattle.std.proofs.Common.{rules, ◌≡◌, ◌<◌, ◌+◌, true, false, arith, length, w32, w64, FitsSigned, get_or, pos, ap, ◌∙◌, sym, subst, refl, Some, None, All, option_map, slice_get}
-use Rattle.std.proofs.lemmas.Int.{to_z-of_z}
-use Rattle.pl_spec.specs.Rounding.{IsCell}
-use Rattle.pl_spec.specs.Term.Input.{BarColumn, TermInput}
-use Rattle.pl_terms.specs.Kinds.{kind_of}
-use Rattle.pl_values.specs.Arrays.{is_kept}
-use Rattle.pl_values.specs.Families.{TakesWindows, windowed}
-use Rattle.pl_exec.specs.declared.windows.Bars.{Bars}
-use Rattle.pl_exec.specs.Tasks.{assets_in, cell_in, sids_in}
-use Rattle.pl_exec.specs.Jobs.{HasBars, HasBarsAt, bars_now, node_at, place_in, task_at}
+use Rattle.std.proofs.Common.{◌<◌, length, ap, ◌∙◌, sym, subst}
+use Rattle.pl_exec.specs.Jobs.{HasBars, HasBarsAt, bars_now, node_at, place_in}
 use Rattle.pl_adjarray.specs.Traversals.{Traversal}
 use Rattle.pl_adjarray.specs.Worlds.{IsWindow}
-use Rattle.pl_exec.proofs.Bars.{column_begun, column_asset, column_is}
+use Rattle.pl_exec.proofs.Bars.{column_asset, column_is}
 use Rattle.pl_exec.proofs.windows.column_window.Goals as goal
 
 pub window-requires-clause-asset : goal.window-requires-clause-asset

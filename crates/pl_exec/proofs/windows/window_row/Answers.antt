@@ -1,4 +1,4 @@
-use Rattle.std.proofs.Common.{rules, ◌≡◌, ◌<◌, ◌+◌, arith, w64, FitsSigned, get_or, pos, ap, ◌∙◌, sym}
+use Rattle.std.proofs.Common.{rules, ◌<◌, arith, w64, FitsSigned}
 use Rattle.std.proofs.lemmas.Int.{to_z-of_z}
 use Rattle.pl_exec.specs.Tasks.{assets_in, cell_in}
 use Rattle.pl_exec.specs.Jobs.{task_at}
