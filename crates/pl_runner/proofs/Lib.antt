@@ -1,6 +1,2 @@
-pub mod CellTexts
-pub mod Headers
-pub mod RowLines
-pub mod SessionLines
 pub mod Released
 pub mod ChunkWork
