@@ -9,7 +9,7 @@ use Rattle.pl_words.specs.declared.commands.CommandName.{CommandName}
 use Rattle.pl_words.specs.declared.commands.CommandName.TheVariants as command
 use Rattle.pl_words.specs.Commands.{command_named, places_of, options_of}
 use Rattle.pl_words.specs.Parts.{Word, parts, names_of, values_of, is_text, one_value}
-use Rattle.pl_words.specs.Request.{Options, RunRequest, Request, Run, Plan, Values, name, dated, chunk_of, chunk_by, options_by, run_in, plan_in, request_in, counted, asked, request, IsChunk, HasChunk}
+use Rattle.pl_words.specs.Request.{Options, RunRequest, Request, Run, Plan, Values, name, dated, chunk_or, chunk_by, options_by, run_in, plan_in, request_in, counted, asked, request, IsChunk, HasChunk}
 
 then : {X Y : Type 0} (P : Y → Type 0) (f : X → Option Y) (o : Option X) → ((x : X) → IfSome (f x) P) → IfSome (option_and_then f o) P
 then P f None h = tt
@@ -30,7 +30,7 @@ number n = here (nat_le 1 n && nat_le n 4096) refl
         let high = r.1 in
         (grind (arith, nat_tests), grind (arith, nat_tests))
 
-value : (o : Option Word) → IfSome (chunk_of o) IsChunk
+value : (o : Option Word) → IfSome (chunk_or o) IsChunk
 value None = (omega arith, omega arith)
 value (Some text) = then IsChunk (λ n. cond (nat_le 1 n && nat_le n 4096) (Some n) None) (sid_in text) number
 
@@ -38,7 +38,7 @@ options : (values : Values) → IfSome (options_by values) (λ o. IsChunk o.chun
 options values =
     then (λ (o : Options). IsChunk o.chunk) _ (one_value (values option.Labels)) (λ labels.
     then (λ (o : Options). IsChunk o.chunk) _ (one_value (values option.Adjustments)) (λ adjustments.
-    mapped (λ (o : Options). IsChunk o.chunk) _ (chunk_by values) (then IsChunk chunk_of (one_value (values option.Chunk)) value)))
+    mapped (λ (o : Options). IsChunk o.chunk) _ (chunk_by values) (then IsChunk chunk_or (one_value (values option.Chunk)) value)))
 
 a-run : (names : List Word) (values : Values) → IfSome (run_in names values) (λ q. IsChunk q.options.chunk)
 a-run names values =

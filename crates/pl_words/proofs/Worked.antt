@@ -1,9 +1,9 @@
 -- Worked rows of what words ask for.
-use Rattle.std.proofs.Common.{◌≡◌, pos, refl, ℕ, codes, List, [], ◌∷◌, ◌++◌, map, Option, Some, None}
+use Rattle.std.proofs.Common.{◌≡◌, ℕ, pos, refl, codes, List, [], ◌∷◌, ◌++◌, map, Option, Some, None}
 use Rattle.jiff_core.specs.Calendar.{days_from_civil, day_count, days_of_years, days_of_months}
 use Rattle.std.specs.Fmt.{digits as decimal_digits}
-use Rattle.pl_spec.specs.Decimals.{sid_in}
 use Rattle.pl_spec.specs.Dates.{digits, date_text, day_if, date_in}
+use Rattle.pl_spec.specs.Decimals.{sid_in}
 use Rattle.pl_words.specs.Parts.{Word}
 use Rattle.pl_words.specs.Request.{request, counted, Request, Run, Fmt, Check, Plan}
 
@@ -32,6 +32,13 @@ mixed : request (codes "run" ∷ codes "--labels=-l" ∷ (names ++ codes "--adju
 unfolding request counted date_in day_if days_from_civil day_count days_of_years days_of_months decimal_digits digits date_text
 mixed = refl
 
+in_chunks : map (λ (options : List Word). request (codes "run" ∷ (options ++ (names ++ dates)))) (
+    (codes "--chunk=1" ∷ [])
+    ∷ (codes "--chunk" ∷ codes "4096" ∷ []) ∷ [])
+    ≡ asks None None 1 ∷ asks None None 4096 ∷ []
+unfolding request counted sid_in date_in day_if days_from_civil day_count days_of_years days_of_months decimal_digits digits date_text
+in_chunks = refl
+
 planned : request (codes "plan" ∷ codes "p.pl" ∷ codes "sessions.csv" ∷ dates) ≡ Some (Plan (record {
   pipeline = codes "p.pl";
   sessions = codes "sessions.csv";
@@ -40,10 +47,6 @@ planned : request (codes "plan" ∷ codes "p.pl" ∷ codes "sessions.csv" ∷ da
 }))
 unfolding request counted date_in day_if days_from_civil day_count days_of_years days_of_months decimal_digits digits date_text
 planned = refl
-
-chunked : request (codes "run" ∷ (names ++ codes "--chunk=4096" ∷ dates)) ≡ asks None None 4096
-unfolding request counted date_in sid_in day_if days_from_civil day_count days_of_years days_of_months decimal_digits digits date_text
-chunked = refl
 
 named_as_options : map request ((codes "fmt" ∷ codes "--" ∷ codes "--" ∷ []) ∷ (codes "check" ∷ codes "--" ∷ codes "-p" ∷ []) ∷ []) ≡ Some (Fmt (codes "--")) ∷ Some (Check (codes "-p")) ∷ []
 unfolding request counted
@@ -72,11 +75,13 @@ refused_runs : map (λ (options : List Word). request (codes "run" ∷ (options 
     ∷ (codes "--labels=" ∷ [])
     ∷ (codes "--labels=-" ∷ [])
     ∷ (codes "--label" ∷ codes "a" ∷ [])
+    ∷ (codes "--chunk" ∷ codes "2" ∷ codes "--chunk=2" ∷ [])
     ∷ (codes "--chunk" ∷ codes "0" ∷ [])
-    ∷ (codes "--chunk" ∷ codes "4097" ∷ [])
-    ∷ (codes "--chunk" ∷ codes "07" ∷ [])
-    ∷ (codes "--chunk=+7" ∷ [])
+    ∷ (codes "--chunk=4097" ∷ [])
+    ∷ (codes "--chunk=02" ∷ [])
+    ∷ (codes "--chunk=+2" ∷ [])
+    ∷ (codes "--chunk=" ∷ [])
     ∷ (codes "--stats" ∷ []) ∷ [])
-    ≡ None ∷ None ∷ None ∷ None ∷ None ∷ None ∷ None ∷ None ∷ None ∷ None ∷ None ∷ []
-unfolding request counted date_in sid_in day_if digits decimal_digits
+    ≡ None ∷ None ∷ None ∷ None ∷ None ∷ None ∷ None ∷ None ∷ None ∷ None ∷ None ∷ None ∷ None ∷ []
+unfolding request counted sid_in date_in day_if decimal_digits digits
 refused_runs = refl

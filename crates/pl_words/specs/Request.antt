@@ -19,7 +19,7 @@ pub record Dated : Type 0 where
   pub text : List ℕ
   pub day : ℤ
 
--- the options of a run: two names, and how many sessions are computed at once
+-- the names of labels and adjustments, and how many sessions a run computes at a time
 pub record Options : Type 0 where
   pub labels : Option (List ℕ)
   pub adjustments : Option (List ℕ)
@@ -63,19 +63,19 @@ Values = OptionName → List Word
 abbrev pub chunk_in : Word → Option ℕ
 chunk_in text = option_and_then (λ n. if nat_le 1 n && nat_le n 4096 then Some n else None) (sid_in text)
 
--- what is read of the value, or 126 where there is none
-abbrev pub chunk_of : Option Word → Option ℕ
-chunk_of None = Some 126
-chunk_of (Some text) = chunk_in text
+-- 126 where no chunk is given
+abbrev pub chunk_or : Option Word → Option ℕ
+chunk_or None = Some 126
+chunk_or (Some text) = chunk_in text
 
 abbrev pub chunk_by : Values → Option ℕ
-chunk_by values = option_and_then chunk_of (one_value (values option.Chunk))
+chunk_by values = option_and_then chunk_or (one_value (values option.Chunk))
 
 abbrev pub options_by : Values → Option Options
 options_by values =
     option_and_then (λ labels. option_and_then (λ adjustments.
-    option_map (λ chunk. record { labels = labels; adjustments = adjustments; chunk = chunk }) (chunk_by values))
-    (one_value (values option.Adjustments))) (one_value (values option.Labels))
+    option_map (λ chunk. record { labels = labels; adjustments = adjustments; chunk = chunk })
+    (chunk_by values)) (one_value (values option.Adjustments))) (one_value (values option.Labels))
 
 abbrev pub run_over : List Word → Dated → Dated → Options → RunRequest
 run_over names from to options =
@@ -126,7 +126,6 @@ unfoldable pub request : List Word → Option Request
 request [] = None
 request (first ∷ words) = option_and_then (λ command. asked command words) (command_named first)
 
--- from 1 to 4096
 abbrev pub IsChunk : ℕ → Type 0
 IsChunk n = (1 ≤ n) × (n ≤ 4096)
 

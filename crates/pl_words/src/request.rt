@@ -27,8 +27,8 @@ pub struct DateWord<'a> {
     pub day: i32,
 }
 
-/// The options of a run: the names of its labels and of its adjustments, and how many sessions are computed at
-/// once, from 1 to 4,096.
+/// The options of a run: the names of its labels and adjustments, and how many sessions it computes at a time, from 1
+/// to 4096.
 #[derive(Clone, Copy)]
 pub struct Options<'a> {
     pub labels: Option<&'a str>,

@@ -13,12 +13,27 @@ fn owned(rt: &HostRuntime, words: &[&str]) -> Result<Vec<String>, AllocError> {
 
 #[test]
 fn reads_runs(rt: HostRuntime) -> Result<(), Fail> {
-    let table: [(&[&str], Option<&str>, Option<&str>, u32); 5] = [
+    let table: [(&[&str], Option<&str>, Option<&str>, u32); 7] = [
         (
             &["run", "p", "s", "a", "b", "2024-01-03", "2024-01-04"],
             None,
             None,
             126,
+        ),
+        (
+            &[
+                "run",
+                "--chunk=2",
+                "p",
+                "s",
+                "a",
+                "b",
+                "2024-01-03",
+                "2024-01-04",
+            ],
+            None,
+            None,
+            2,
         ),
         (
             &[
@@ -31,10 +46,12 @@ fn reads_runs(rt: HostRuntime) -> Result<(), Fail> {
                 "2024-01-04",
                 "--labels",
                 "l",
+                "--chunk",
+                "4096",
             ],
             Some("l"),
             None,
-            126,
+            4_096,
         ),
         (
             &[
@@ -75,7 +92,6 @@ fn reads_runs(rt: HostRuntime) -> Result<(), Fail> {
                 "p",
                 "--adjustments",
                 "d",
-                "--chunk=4096",
                 "--",
                 "s",
                 "--",
@@ -85,7 +101,22 @@ fn reads_runs(rt: HostRuntime) -> Result<(), Fail> {
             ],
             None,
             Some("d"),
-            4096,
+            126,
+        ),
+        (
+            &[
+                "run",
+                "--",
+                "p",
+                "s",
+                "--chunk=1",
+                "b",
+                "2024-01-03",
+                "2024-01-04",
+            ],
+            None,
+            None,
+            126,
         ),
     ];
     for (words, labels, adjustments, chunk) in table {
@@ -111,7 +142,7 @@ fn reads_runs(rt: HostRuntime) -> Result<(), Fail> {
 
 #[test]
 fn refuses_words(rt: HostRuntime) -> Result<(), Fail> {
-    let table: [&[&str]; 18] = [
+    let table: [&[&str]; 20] = [
         &["run", "p.pl"],
         &[
             "run",
@@ -147,6 +178,26 @@ fn refuses_words(rt: HostRuntime) -> Result<(), Fail> {
             "2",
             "--chunk",
             "2",
+        ],
+        &[
+            "run",
+            "p",
+            "s",
+            "a",
+            "b",
+            "2024-01-03",
+            "2024-01-04",
+            "--chunk=02",
+        ],
+        &[
+            "run",
+            "p",
+            "s",
+            "a",
+            "b",
+            "2024-01-03",
+            "2024-01-04",
+            "--stats",
         ],
         &[
             "run",
