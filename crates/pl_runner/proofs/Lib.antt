@@ -3,3 +3,4 @@ pub mod RowLines
 pub mod SessionLines
 pub mod Released
 pub mod ChunkWork
+pub mod ChunkRows
