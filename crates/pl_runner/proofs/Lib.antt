@@ -1,2 +1,3 @@
 pub mod Released
 pub mod ChunkWork
+pub mod ChunkRows
