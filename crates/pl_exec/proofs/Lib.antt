@@ -1,3 +1,4 @@
+pub mod ArrayLists
 pub mod Bars
 pub mod NewColumns
 pub mod Counts

@@ -1,5 +1,5 @@
 -- The work of one chunk, and what the arrays of its terms hold.
-use Rattle.std.specs.Prelude.{◌≡◌, ℕ, ◌+◌, ◌-◌, ◌*◌, ◌<◌, ◌≤◌, Bool, true, if◌then◌else◌, ℤ, List, [], ◌∷◌, length, map, filter, filter_map, sum_by, count_by, Option, Some, None, slice_get, All, AllPairs, min, ◌^◌}
+use Rattle.std.specs.Prelude.{◌≡◌, ℕ, ◌+◌, ◌-◌, ◌*◌, ◌<◌, ◌≤◌, Bool, true, if◌then◌else◌, ℤ, List, [], ◌∷◌, length, map, filter, filter_map, take, sum_by, count_by, Option, Some, None, slice_get, All, AllPairs, min, ◌^◌}
 use Rattle.std.specs.List.{range_with_len}
 use Rattle.pl_spec.specs.declared.Column.{Column}
 use Rattle.pl_spec.specs.declared.Column.TheVariants.{OpenPrice, High, Low, Close, Volume}
@@ -8,7 +8,7 @@ use Rattle.pl_spec.specs.World.{World, column_number}
 use Rattle.pl_spec.specs.Window.{applied_steps}
 use Rattle.pl_spec.specs.Term.{Graph, Node}
 use Rattle.pl_spec.specs.Graph.{contains, columns_at, input_column, used_terms}
-use Rattle.pl_spec.specs.Table.{Pipeline}
+use Rattle.pl_spec.specs.Table.{Pipeline, array_of}
 use Rattle.pl_terms.specs.Uses.{outputs}
 use Rattle.pl_planner.specs.Plans.{Planned, is_used, low_at, last_user, slot_of}
 use Rattle.pl_values.specs.Arrays.{cell_of, Holds, HasAll}
@@ -112,7 +112,12 @@ pub record HasRoom (t : Task) (len : ℕ) : Type 0 where
   pub terms : (k : ℕ) → is_used t.plan k ≡ true → assets_in t * count_in t k ≤ len
   pub columns : (k : ℕ) → is_used t.plan k ≡ true → 0 < columns_at (graph_in t) k → assets_in t * row_count t k ≤ len
 
--- The slot of each output holds its values, asset by asset, on the sessions on which it is computed; every other slot is free.
+-- the cells begin with the values of term k, asset by asset, session by session
+abbrev pub HasValues : Task → ℕ → List ℤ → Type 0
+HasValues t k cells = take (assets_in t * count_in t k) cells ≡ array_of t.world t.pipeline (sids_in t) (low_in t k) t.to k
+
+-- The slot of each output begins with its values, asset by asset, on the sessions on which it is computed; every other slot is free.
 pub record HoldsOutputs (t : Task) (w : Slots) : Type 0 where
   pub arrays : (k : ℕ) → contains (outputs t.pipeline) k ≡ true → IsHeld (IsArray t k) w (slot_of t.plan k)
+  pub values : (k : ℕ) → contains (outputs t.pipeline) k ≡ true → IsHeld (HasValues t k) w (slot_of t.plan k)
   pub only : AreLive (slot_of t.plan) (IsArray t) (contains (outputs t.pipeline)) (length (graph_in t)) w

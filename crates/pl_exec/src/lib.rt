@@ -1,4 +1,5 @@
-//! The used terms of a pipeline over the sessions of one chunk.
+//! The used terms of a pipeline over the sessions of one chunk: each in its planned slot, from the bars and from
+//! the arrays of the terms that it mentions, which are released after their last user.
 #![tactic(auto)]
 
 mod chunk;
@@ -8,6 +9,8 @@ mod fill;
 mod job;
 mod kinds;
 mod rows;
+#[cfg(test)]
+mod tests;
 mod turn;
 mod windows;
 

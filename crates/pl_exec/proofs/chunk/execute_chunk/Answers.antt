@@ -6,6 +6,7 @@ use Rattle.pl_values.proofs.Given.{texts-coded}
 use Rattle.pl_exec.specs.Chunks.{task}
 use Rattle.pl_exec.specs.Tasks.{IsArray, cut, graph_in, kept_in}
 use Rattle.pl_exec.specs.Jobs.{IsTask}
+use Rattle.pl_exec.proofs.ArrayLists.{array_is}
 use Rattle.pl_exec.proofs.Living.{live_below, none_yet, none_counted}
 use Rattle.pl_exec.proofs.Mentions.{live_at_last, output_known}
 use Rattle.pl_exec.proofs.Places.{graph_long}
@@ -56,6 +57,7 @@ returns-clause-outputs g c =
     (live_at_last (task c.args.world.now c.args.checked.now c.args.plan.now c.args.chunk.now c.args.cols.now) is) c.run_terms.ensures.live in
     record {
       arrays = λ k e. only.held k (output_known (task c.args.world.now c.args.checked.now c.args.plan.now c.args.chunk.now c.args.cols.now) is k e) e;
+      values = λ k e. (let h = only.held k (output_known (task c.args.world.now c.args.checked.now c.args.plan.now c.args.chunk.now c.args.cols.now) is k e) e in record { cells = h.cells; is = h.is; holds = array_is _ k h.cells h.holds });
       only = only;
     }
 
