@@ -1,18 +1,42 @@
 -- What is read of the arrays that are there.
-use Rattle.std.proofs.Common.{◌≡◌, ℕ, ◌+◌, ◌-◌, ◌*◌, ◌<◌, ◌≤◌, ◌&&◌, Bool, true, false, ℤ, pos, List, length, take, drop, get_or, set, Option, Some, None, refl, sym, ◌∙◌, ap, subst, arith, All, option_map}
+use Rattle.std.proofs.Common.{◌≡◌, ℕ, ◌+◌, ◌-◌, ◌*◌, ◌<◌, ◌≤◌, ◌&&◌, ℤ, pos, List, length, take, drop, get_or, set, Some, sym, ◌∙◌, ap, subst, arith, All, slice_get}
 use Rattle.pl_spec.specs.Rounding.{IsCell}
 use Rattle.pl_spec.specs.World.{World, exists}
 use Rattle.pl_spec.specs.Table.{Pipeline}
 use Rattle.pl_spec.specs.Formula.{is_true}
 use Rattle.pl_cross.specs.Arrays.{sid_in}
-use Rattle.pl_values.specs.Arrays.{Holds, Fills, IsKeep, window_up_to, is_kept, cell_of}
+use Rattle.pl_values.specs.Arrays.{Holds, Fills, IsKeep, window_up_to, is_kept, cell_of, empty_cell}
 use Rattle.pl_workspace.specs.Slots.{Slots}
-use Rattle.pl_exec.specs.Tasks.{Task, assets_in, cell_in, count_in, low_in}
-use Rattle.pl_exec.specs.Jobs.{IsRead, Begins}
-use Rattle.pl_exec.proofs.Spans.{end_within, size_within, window_is, window_cells, one_begun, at_is, at_cell, at_within}
+use Rattle.pl_exec.specs.Tasks.{Task, graph_in, assets_in, cell_in, count_in, low_in}
+use Rattle.pl_exec.specs.declared.turn.Turn.{Turn}
+use Rattle.pl_exec.specs.Jobs.{IsJob, IsRead, IsReady, IsRun, IsTurn, Begins, node_at, task_at}
+use Rattle.pl_exec.proofs.Spans.{end_within, size_within, window_is, window_cells, one_begun, at_is, at_cell}
 
 pub read_less : (t : Task) (w : Slots) (s size u : ℕ) → IsRead t w s size u → IsRead t w s 1 u
 read_less t w s size u r = record { known = r.known; used = r.used; held = r.held; some = omega arith; early = (let e = r.early in let o = r.some in omega arith) }
+
+-- from a later session on
+pub later_ready : (t : Task) (w : Slots) (low s : ℕ) (n : _) → low ≤ s → IsReady t w low n → IsReady t w s n
+later_ready t w low s n h r = record {
+  inputs = λ i u e. later n.window u (r.inputs i u e);
+  mask = λ u e. later 1 u (r.mask u e);
+  group = λ u e. later 1 u (r.group u e);
+}
+  where
+    later : (size u : ℕ) → IsRead t w low size u → IsRead t w s size u
+    later size u x = record { known = x.known; used = x.used; held = x.held; some = x.some; early = (let y = x.early in omega arith) }
+
+pub turn_is : (t : Turn) → IsJob t.job.now → IsRun (task_at t) t.workspace.now t.term.0 → slice_get (graph_in (task_at t)) t.term.0 ≡ Some (node_at t) → low_in (task_at t) t.term.0 ≤ t.session → t.session ≤ t.job.now.to
+    → t.none ≡ empty_cell (task_at t).pipeline t.term.0 → IsTurn t
+turn_is t job run node low late none = record {
+  job = job;
+  node = node;
+  ready = later_ready (task_at t) t.workspace.now _ t.session (node_at t) low (run.ready (node_at t) node);
+  late = late;
+  deep = (let d = run.deep (node_at t) node in omega arith);
+  all = job.task.columns.all t.term.0 t.session run.used low late;
+  none = none;
+}
 
 -- the array of term u, as the code has it
 module _ (t : Task) (u low count : ℕ) (cells : List ℤ) (holds : Holds (cell_in t u) (assets_in t) (low_in t u) (count_in t u) cells) (is_low : low ≡ low_in t u) (end : low + count ≡ t.to + 1) where

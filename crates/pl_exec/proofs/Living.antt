@@ -1,13 +1,12 @@
 -- One live term more, and one that is released.
-use Rattle.std.proofs.Common.{◌≡◌, ◌≢◌, ℕ, zero, suc, ◌+◌, ◌<◌, ◌≤◌, Bool, true, false, ◌&&◌, not, nat_le, nat_lt, ◌==◌, max, List, length, get_or, set, refl, sym, ◌∙◌, ap, subst, arith, inl, inr, ℤ, Option, Some, None}
+use Rattle.std.proofs.Common.{◌≡◌, ◌≢◌, ℕ, ◌+◌, ◌<◌, ◌≤◌, Bool, true, false, ◌&&◌, not, nat_le, nat_lt, ◌==◌, max, List, length, get_or, refl, sym, ◌∙◌, ap, arith, inl, inr, ℤ, Option, Some, None}
 use Rattle.std.specs.List.{range_with_len, count_by}
-use Rattle.std.proofs.Math.Path.{fun_ext}
 use Rattle.std.proofs.lemmas.Bool.{cases_eq, cases_lt, true≢false, eqb-true}
 use Rattle.std.proofs.lemmas.Bool.Decides.{nat_tests}
 use Rattle.pl_workspace.specs.Slots.{Slots, Slot, Free, Begun, Live, slot_at, with_slot, live_count, in_use}
 use Rattle.std.proofs.lemmas.List.{get_or_default}
 use Rattle.std.proofs.lemmas.List.Sums.{sum_by-le}
-use Rattle.pl_exec.specs.Slotted.{AreLive, AreApart, IsHeld, kept, left, ends_at}
+use Rattle.pl_exec.specs.Slotted.{AreLive, AreApart, kept, left, ends_at}
 use Rattle.pl_planner.specs.Plans.{is_read_by}
 use Rattle.pl_exec.proofs.Counts.{one, count_more, count_below, count_changed}
 use Rattle.pl_exec.proofs.Trips.{now_used, there, elsewhere, long, stay_count, in_second}

@@ -1,5 +1,5 @@
 -- A slot that is begun, finished and released, and what is in use then.
-use Rattle.std.proofs.Common.{◌≡◌, ◌≢◌, ℕ, ◌+◌, ◌<◌, ◌≤◌, max, List, length, get_or, set, refl, sym, ◌∙◌, ap, arith, ℤ, get_or-set_same, get_or-set_other, length-set}
+use Rattle.std.proofs.Common.{◌≡◌, ◌≢◌, ℕ, ◌+◌, ◌<◌, ◌≤◌, max, List, length, get_or, set, sym, ◌∙◌, ap, arith, ℤ, get_or-set_same, get_or-set_other, length-set}
 use Rattle.std.proofs.lemmas.List.{set-set, set-get_or}
 use Rattle.pl_workspace.specs.Slots.{Slots, Slot, Free, Begun, Live, slot_at, with_slot, live_count, in_use}
 use Rattle.pl_workspace.proofs.Tables.{counted}

@@ -1,5 +1,5 @@
 -- The work of one chunk, and what the arrays of its terms hold.
-use Rattle.std.specs.Prelude.{◌≡◌, ℕ, suc, ◌+◌, ◌-◌, ◌*◌, ◌<◌, ◌≤◌, Bool, true, false, if◌then◌else◌, ℤ, pos, List, [], ◌∷◌, length, map, filter, filter_map, take, sum_by, Option, Some, None, slice_get, All, AllPairs, min, ◌^◌}
+use Rattle.std.specs.Prelude.{◌≡◌, ℕ, ◌+◌, ◌-◌, ◌*◌, ◌<◌, ◌≤◌, Bool, true, if◌then◌else◌, ℤ, List, [], ◌∷◌, length, map, filter, filter_map, take, sum_by, count_by, Option, Some, None, slice_get, All, AllPairs, min, ◌^◌}
 use Rattle.std.specs.List.{range_with_len}
 use Rattle.pl_spec.specs.declared.Column.{Column}
 use Rattle.pl_spec.specs.declared.Column.TheVariants.{OpenPrice, High, Low, Close, Volume}
@@ -7,13 +7,12 @@ use Rattle.pl_spec.specs.Parts.{sid_at}
 use Rattle.pl_spec.specs.World.{World, column_number}
 use Rattle.pl_spec.specs.Window.{applied_steps}
 use Rattle.pl_spec.specs.Term.{Graph, Node}
-use Rattle.pl_spec.specs.Term.Input.{BarColumn, TermInput}
 use Rattle.pl_spec.specs.Graph.{contains, columns_at, input_column, used_terms}
 use Rattle.pl_spec.specs.Table.{Pipeline, array_of}
 use Rattle.pl_terms.specs.Uses.{outputs}
 use Rattle.pl_planner.specs.Plans.{Planned, is_used, low_at, last_user, slot_of}
 use Rattle.pl_values.specs.Arrays.{cell_of, Holds, HasAll}
-use Rattle.pl_workspace.specs.Slots.{Slots, Live, slot_at}
+use Rattle.pl_workspace.specs.Slots.{Slots}
 use Rattle.pl_exec.specs.Slotted.{IsHeld, AreLive, kept}
 
 -- the sessions from .. to of a planned pipeline, for the assets in some columns
@@ -88,6 +87,14 @@ term_steps t k = sum_by (λ c. applied_steps t.world c (first_row t k) (row_coun
 abbrev pub chunk_steps : Task → ℕ
 chunk_steps t = sum_by (term_steps t) (used_terms (graph_in t) (outputs t.pipeline))
 
+-- those of a number, none where the term is not used
+abbrev pub steps_in : Task → ℕ → ℕ
+steps_in t k = if is_used t.plan k then term_steps t k else 0
+
+-- the results and bar columns that are held while a used term is computed
+abbrev pub held_in : Task → ℕ → ℕ
+held_in t k = if is_used t.plan k then count_by (kept_in t k) (range_with_len 0 (k + 1)) + columns_at (graph_in t) k else 0
+
 -- the number, or the greatest that 64 bits hold
 abbrev pub cut : ℕ → ℕ
 cut n = min n (2 ^ 64 - 1)
@@ -105,9 +112,12 @@ pub record HasRoom (t : Task) (len : ℕ) : Type 0 where
   pub terms : (k : ℕ) → is_used t.plan k ≡ true → assets_in t * count_in t k ≤ len
   pub columns : (k : ℕ) → is_used t.plan k ≡ true → 0 < columns_at (graph_in t) k → assets_in t * row_count t k ≤ len
 
--- The slot of each output begins with its values, asset by asset, session by session; every other slot is free.
+-- the cells begin with the values of term k, asset by asset, session by session
+abbrev pub HasValues : Task → ℕ → List ℤ → Type 0
+HasValues t k cells = take (assets_in t * count_in t k) cells ≡ array_of t.world t.pipeline (sids_in t) (low_in t k) t.to k
+
+-- The slot of each output begins with its values, asset by asset, on the sessions on which it is computed; every other slot is free.
 pub record HoldsOutputs (t : Task) (w : Slots) : Type 0 where
   pub arrays : (k : ℕ) → contains (outputs t.pipeline) k ≡ true → IsHeld (IsArray t k) w (slot_of t.plan k)
-  pub values : (k : ℕ) (cells : List ℤ) → contains (outputs t.pipeline) k ≡ true → slot_at w (slot_of t.plan k) ≡ Live cells
-      → take (assets_in t * count_in t k) cells ≡ array_of t.world t.pipeline (sids_in t) (low_in t k) t.to k
+  pub values : (k : ℕ) → contains (outputs t.pipeline) k ≡ true → IsHeld (HasValues t k) w (slot_of t.plan k)
   pub only : AreLive (slot_of t.plan) (IsArray t) (contains (outputs t.pipeline)) (length (graph_in t)) w

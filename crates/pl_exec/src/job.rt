@@ -1,5 +1,5 @@
 //! What a chunk is computed from.
-ghost use Rattle.std.specs.Prelude.{◌≡◌, ◌+◌, ◌-◌, ◌<◌, ◌≤◌, true, drop, length, option_map, slice_get, take, Some};
+ghost use Rattle.std.specs.Prelude.{◌≡◌, ◌+◌, ◌-◌, ◌<◌, ◌≤◌, true, drop, length, map, option_map, slice_get, take, Some};
 ghost use Rattle.pl_terms.specs.Kinds.{kind_of};
 ghost use Rattle.pl_terms.specs.Nodes.{input_of, node_of, number_of};
 ghost use Rattle.pl_planner.specs.Plans.{is_used, slot_of};
@@ -70,6 +70,15 @@ pub(crate) fn window_of(node: &Node) -> usize
     ensures { result ≡ (node_of node.now).window }
 {
     node.window as usize
+}
+
+/// Its inputs.
+#[tactic(auto, unfolding(pl_terms::specs::Nodes::node_of))]
+pub(crate) fn inputs_of(node: &Node) -> &[Input]
+    ensures value { map input_of result.now ≡ (node_of node.now).inputs }
+    ensures few { length result.now ≤ 3 }
+{
+    node.inputs.as_slice()
 }
 
 /// The input of a node in a place, if there is one.

@@ -7,25 +7,17 @@ ghost use Rattle.pl_terms.specs.Kinds.{kind_of};
 ghost use Rattle.pl_cross.specs.Section.{is_section};
 ghost use Rattle.pl_values.specs.Families.{IsOf, is_label_test, is_point, is_sids};
 ghost use Rattle.pl_exec.specs.Tasks.{assets_in};
-ghost use Rattle.pl_exec.specs.Jobs.{IsKept, IsOut, IsTurn, node_at, task_at};
+ghost use Rattle.std.specs.Prelude.{None};
+ghost use Rattle.pl_exec.specs.Jobs.{HasBars, IsKept, IsOut, IsTurn, node_at, task_at};
 
 use crate::job::{group_of, input_at, kind_of};
-use crate::turn::{Turn, input_row, keep_row, pick, term_row};
+use crate::turn::{Turn, input_row, pick, term_row};
 use crate::windows::window_row;
 use pl_cross::Cross;
 use pl_pointwise::pointwise;
-use pl_terms::Input;
-use pl_values::{Family, family_of, keep_values, label_test_value, label_value, section_values, sids_value};
-
-/// Rows of one session, asset by asset: the first, second and third input (or values, a group), who is kept,
-/// and the results.
-pub(crate) struct Desk<'a> {
-    pub(crate) first: &'a mut [i64],
-    pub(crate) second: &'a mut [i64],
-    pub(crate) third: &'a mut [i64],
-    pub(crate) keep: &'a mut [i64],
-    pub(crate) out: &'a mut [i64],
-}
+use pl_values::{
+    Family, family_of, keep_values, label_test_value, label_value, section_values, sids_value,
+};
 
 fn constant_row(turn: &Turn<'_>, value: i64, keep: &[i64], out: &mut [i64])
     requires turn { IsTurn turn.now }
@@ -81,7 +73,8 @@ fn label_test_row(turn: &Turn<'_>, codes: &mut [i64], keep: &[i64], out: &mut [i
     ensures { IsOut turn.now out.new }
 {
     input_row(turn, 0, codes);
-    let labels = turn.job.world.labels;
+    let job = turn.job;
+    let labels = job.world.labels;
     for i in 0..out.len() {
         let flag = label_test_value(kind_of(turn.node), labels, codes[i]);
         out[i] = pick(keep[i], flag, turn.none);
@@ -137,5 +130,37 @@ fn section_row(
             section_values(kind_of(turn.node), cross, values, keep, Some(groups), out);
         }
         None => section_values(kind_of(turn.node), cross, values, keep, None, out),
+    }
+}
+
+/// The cells of the term on the session; its inputs are no bar columns.
+pub(crate) fn kind_row(
+    turn: &Turn<'_>,
+    cross: &mut Cross,
+    first: &mut [i64],
+    second: &mut [i64],
+    third: &mut [i64],
+    keep: &[i64],
+    out: &mut [i64],
+)
+    requires turn { IsTurn turn.now }
+    requires cross { assets_in (task_at turn.now) ≤ cross.old }
+    requires first { length first.old ≡ assets_in (task_at turn.now) }
+    requires second { length second.old ≡ assets_in (task_at turn.now) }
+    requires third { length third.old ≡ assets_in (task_at turn.now) }
+    requires keep { IsKept turn.now keep.now }
+    requires long { length out.old ≡ assets_in (task_at turn.now) }
+    requires bars { HasBars turn.now.job.now turn.now.term.0 (node_at turn.now) turn.now.session None }
+    ensures out { IsOut turn.now out.new }
+    ensures cross { cross.new ≡ cross.old }
+{
+    match family_of(kind_of(turn.node)) {
+        Family::Constant(value) => constant_row(turn, value, keep, out),
+        Family::Label(name) => label_row(turn, name, keep, out),
+        Family::Sids => sids_row(turn, keep, out),
+        Family::Window => window_row(turn, None, keep, out),
+        Family::Point => point_row(turn, first, second, third, keep, out),
+        Family::LabelTest => label_test_row(turn, first, keep, out),
+        Family::Section => section_row(turn, cross, first, second, keep, out),
     }
 }

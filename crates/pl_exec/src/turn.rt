@@ -32,6 +32,13 @@ pub(crate) fn pick(keep: i64, cell: i64, none: i64) -> i64
     if keep == 1 { cell } else { none }
 }
 
+/// Is a cell 1?
+pub(crate) fn is_one(cell: i64) -> bool
+    ensures { result ≡ is_true cell }
+{
+    cell == 1
+}
+
 /// 1 for true, 0 for false.
 fn truth_of(holds: bool) -> i64
     ensures { result ≡ truth holds }

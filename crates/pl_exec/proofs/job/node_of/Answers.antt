@@ -1,4 +1,4 @@
-use Rattle.std.proofs.Common.{◌≡◌, ◌<◌, length, ap, ◌∙◌, sym, arith, Some, slice_get}
+use Rattle.std.proofs.Common.{◌≡◌, length, ap, ◌∙◌, sym, arith, slice_get}
 use Rattle.pl_exec.proofs.Places.{graph_at, graph_long}
 use Rattle.pl_exec.proofs.job.node_of.Goals as goal
 

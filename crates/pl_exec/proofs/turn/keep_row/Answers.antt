@@ -1,5 +1,4 @@
-use Rattle.std.proofs.Common.{rules, ◌≡◌, Some, None, option_map}
-use Rattle.pl_terms.specs.Nodes.{number_of}
+use Rattle.std.proofs.Common.{rules, ◌≡◌, Some, None}
 use Rattle.pl_exec.specs.Tasks.{sids_in, assets_in}
 use Rattle.pl_exec.specs.Jobs.{node_at, task_at}
 use Rattle.pl_exec.proofs.Held.{kept_masked}

@@ -1,4 +1,4 @@
-use Rattle.std.proofs.Common.{rules, ◌≡◌, ◌≢◌, ℕ, ◌<◌, ◌≤◌, ◌&&◌, get_or, pos, ap, ◌∙◌, sym, arith, length, w64, FitsSigned, inl, inr, get_or-set_same, get_or-set_other}
+use Rattle.std.proofs.Common.{rules, ◌<◌, ◌&&◌, get_or, pos, ap, ◌∙◌, arith, length, w64, FitsSigned, inl, inr, get_or-set_same, get_or-set_other}
 use Rattle.std.proofs.lemmas.Int.{to_z-of_z}
 use Rattle.std.proofs.lemmas.Bool.{cases_eq}
 use Rattle.pl_spec.specs.Formula.{is_true}

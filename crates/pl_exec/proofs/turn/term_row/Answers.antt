@@ -1,4 +1,4 @@
-use Rattle.std.proofs.Common.{rules, ◌≡◌, ◌<◌, ◌≤◌, ◌+◌, ◌-◌, ◌*◌, arith, length, refl, w64, FitsSigned, get_or, pos}
+use Rattle.std.proofs.Common.{rules, ◌+◌, ◌-◌, ◌*◌, arith, refl, w64, FitsSigned, get_or, pos}
 use Rattle.std.proofs.lemmas.Int.{to_z-of_z}
 use Rattle.pl_exec.specs.Jobs.{task_at}
 use Rattle.pl_exec.proofs.Held.{row_more}

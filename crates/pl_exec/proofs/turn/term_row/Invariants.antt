@@ -1,4 +1,3 @@
-use Rattle.std.proofs.Common.{◌≡◌, ℕ}
 use Rattle.pl_exec.specs.Tasks.{assets_in, cell_in}
 use Rattle.pl_exec.specs.Jobs.{Begins, task_at}
 use Rattle.pl_exec.proofs.turn.term_row.Given as goal

@@ -1,4 +1,4 @@
-use Rattle.std.proofs.Common.{◌≡◌, ◌<◌, ◌≤◌, ◌+◌, ◌-◌, ◌*◌, arith, All, subst, sym, ◌∙◌, length}
+use Rattle.std.proofs.Common.{arith, All, subst, sym, ◌∙◌}
 use Rattle.pl_spec.specs.Rounding.{IsCell}
 use Rattle.pl_exec.specs.Jobs.{task_at, node_at}
 use Rattle.pl_exec.proofs.Held.{read_end, read_size, read_window, read_cells}
