@@ -1,6 +1,5 @@
 -- What is written.
 pub mod Tables
-pub mod Engine
 pub mod Runs
 pub mod Releases
 pub mod Desks

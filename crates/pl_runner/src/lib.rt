@@ -2,7 +2,6 @@
 #![tactic(auto)]
 
 mod desk;
-mod engine;
 mod header;
 mod line;
 mod release;
@@ -10,7 +9,6 @@ mod rows;
 mod run;
 mod writing;
 
-pub use engine::{ChunkReport, Rows, execute_chunk};
 pub use header::make_header;
 pub use run::{RunError, RunReport, run_table};
 pub use writing::{TableText, write_table};
