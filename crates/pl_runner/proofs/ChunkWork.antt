@@ -20,7 +20,7 @@ use Rattle.pl_chunks.specs.Room as chunks
 use Rattle.pl_chunks.specs.Room.{rows_at}
 use Rattle.pl_chunks.proofs.Assets.{columns-have, columns_of-ascend, columns_of-within, columns_of-few}
 use Rattle.pl_chunks.proofs.Terms.{used-within, output-used}
-use Rattle.pl_runner.specs.Engine.{Task, AreColumns, HasRoom, assets_in, count_in, row_count, graph_in, low_in, window_of_term}
+use Rattle.pl_exec.specs.Tasks.{Task, AreColumns, HasRoom, assets_in, count_in, row_count, graph_in, low_in, window_of_term}
 
 -- the task of a chunk
 abbrev pub work : World → Pipeline → Planned → List ℕ → Chunk → Task

@@ -5,9 +5,9 @@ ghost use Rattle.pl_terms.specs.Checked.{pipeline_of};
 ghost use Rattle.pl_planner.specs.Plans.{IsPlanOf};
 ghost use Rattle.pl_runner.specs.Desks.{IsDesk};
 
-use crate::engine::Rows;
 use pl_chunks::longest_array;
 use pl_cross::Cross;
+use pl_exec::Rows;
 use pl_fixed::Memory;
 use pl_model::World;
 use pl_planner::Plan;

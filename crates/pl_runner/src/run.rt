@@ -11,15 +11,15 @@ ghost use Rattle.pl_planner.specs.Plans.{IsPlanOf};
 ghost use Rattle.pl_table.specs.Outcomes.{lines, rows_of_sessions};
 ghost use Rattle.pl_table.specs.Sums.{rows_sum};
 ghost use Rattle.pl_chunks.specs.declared.pieces.Chunk.{Chunk};
-ghost use Rattle.pl_runner.specs.Engine.{StandIn, cut};
+ghost use Rattle.pl_exec.specs.Tasks.{cut};
 ghost use Rattle.pl_runner.specs.Desks.{IsDesk, IsDeskFor};
 ghost use Rattle.pl_runner.specs.Runs.{IsReport, run_steps, steps_of_chunk};
 ghost use Rattle.pl_runner.specs.declared.run.RunError.TheVariants as RunError;
 
 use crate::desk::Desk;
-use crate::engine::{ChunkReport, execute_chunk};
 use crate::release::release_outputs;
 use pl_chunks::{Chunk, chunk_at, chunk_count, put_columns};
+use pl_exec::{Chunk as Sessions, ChunkReport, execute_chunk};
 use pl_fixed::{Memory, Steps};
 use pl_model::World;
 use pl_model::laws::parts_make_a_world;
@@ -80,7 +80,6 @@ pub fn run_table<O: Sink, L: Ledger>(
     out: &mut O,
     steps: &mut Steps<L>,
 ) -> Result<RunReport, RunError>
-    requires stand_in { StandIn }
     requires made { IsMade world.now }
     requires plan { IsPlanOf world.now.sessions.now (pipeline_of checked.now) plan.now }
     requires some { 1 ≤ chunk }
@@ -114,7 +113,6 @@ fn write_all<O: Sink, L: Ledger>(
     out: &mut O,
     steps: &mut Steps<L>,
 ) -> Result<RunReport, Failed>
-    requires stand_in { StandIn }
     requires made { IsMade world.now }
     requires plan { IsPlanOf world.now.sessions.now (pipeline_of checked.now) plan.now }
     requires some { 1 ≤ size }
@@ -160,7 +158,6 @@ fn write_chunk<O: Sink, L: Ledger>(
     out: &mut O,
     steps: &mut Steps<L>,
 ) -> Result<ChunkReport, Failed>
-    requires stand_in { StandIn }
     requires made { IsMade world.now }
     requires plan { IsPlanOf world.now.sessions.now (pipeline_of checked.now) plan.now }
     requires from { plan.now.from ≤ chunk.from }
@@ -192,7 +189,10 @@ fn write_chunk<O: Sink, L: Ledger>(
         world,
         checked,
         plan,
-        chunk,
+        &Sessions {
+            from: chunk.from,
+            to: chunk.to,
+        },
         &desk.cols,
         &mut desk.workspace,
         &mut desk.cross,

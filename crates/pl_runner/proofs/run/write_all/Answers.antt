@@ -12,7 +12,7 @@ use Rattle.pl_table.specs.Sums.{rows_sum}
 use Rattle.pl_table.proofs.RowSums.{rows_sum-append}
 use Rattle.pl_table.proofs.SessionRows.{lines-append}
 use Rattle.pl_chunks.specs.Chunks.{chunk_at, chunk_count}
-use Rattle.pl_runner.specs.Engine.{cut}
+use Rattle.pl_exec.specs.Tasks.{cut}
 use Rattle.pl_runner.specs.Runs.{run_steps, steps_of_chunk}
 use Rattle.pl_runner.proofs.ChunkRows.{start_of, start-within, rows-next, rows-end, rows-all, chunk-few, steps-next, steps-end, steps-all, times-more}
 use Rattle.pl_runner.proofs.run.write_all.Goals as goal

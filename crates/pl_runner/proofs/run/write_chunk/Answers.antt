@@ -4,12 +4,12 @@ use Rattle.pl_values.proofs.Texts.{texts-coded}
 use Rattle.pl_chunks.specs.Chunks.{columns_of}
 use Rattle.pl_model.specs.Worlds.{world_of}
 use Rattle.pl_terms.specs.Checked.{pipeline_of}
-use Rattle.pl_runner.specs.Engine.{HoldsOutputs, task_at}
+use Rattle.pl_exec.specs.Tasks.{HoldsOutputs}
 use Rattle.pl_runner.proofs.ChunkWork as work
 use Rattle.pl_runner.proofs.run.write_chunk.Goals as goal
 
-pub execute_chunk-report-requires-clause-columns : goal.execute_chunk-report-requires-clause-columns
-execute_chunk-report-requires-clause-columns g c =
+pub execute_chunk-report-requires-clause-cols : goal.execute_chunk-report-requires-clause-cols
+execute_chunk-report-requires-clause-cols g c =
     let w = world_of c.args.world.now in
     let p = pipeline_of c.args.checked.now in
     work.are-columns c.args.world.now.sessions.now w p c.args.plan.now c.args.chunk c.graph-checked.ensures.checked c.requires.plan c.requires.from c.requires.order c.requires.to c.deref.result.now (c.deref.ensures.value ∙ c.put_columns.ensures.cols) c.parts_make_a_world.ensures.world.sids_ascend
@@ -44,7 +44,7 @@ write_rows-requires-clause-outcome g c =
     let cols = work.are-columns c.args.world.now.sessions.now w p c.args.plan.now c.args.chunk c.graph-checked.ensures.checked c.requires.plan c.requires.from c.requires.order c.requires.to c.deref-2.result.now own up in
     let there = work.all-there c.args.world.now.sessions.now w p c.args.plan.now c.args.chunk c.graph-checked.ensures.checked c.requires.plan c.requires.from c.requires.order c.requires.to c.deref-2.result.now own up in
     let world = c.args.world.now in
-    let outputs = subst (λ cs. HoldsOutputs (task_at c.args.world.now c.args.checked.now c.args.plan.now cs c.args.chunk.from c.args.chunk.to) c.execute_chunk-report.new.workspace) same c.execute_chunk-report.ensures.outputs in
+    let outputs = subst (λ cs. HoldsOutputs (work.work w p c.args.plan.now cs c.args.chunk) c.execute_chunk-report.new.workspace) same c.execute_chunk-report.ensures.outputs in
     record {
       checked = c.graph-checked.ensures.checked;
       plan = c.requires.plan;
