@@ -65,7 +65,7 @@ loaded-text held q l h = same-text (world_held held q) (owned_world l.world) (pi
 
 loaded-steps : (held : Contents) (q : RunRequest) (l : Loaded) (P : ℕ → Type 0) → IsLoaded held q l → P (loaded_steps l q.options.chunk) → TakesSteps held (Some (Run q)) P
 loaded-steps held q l P h k =
-    (l.plan, record { plan = rw h.pipeline h.plan; from = sym h.from; to = sym h.to }, rw (h.world, h.pipeline) k)
+    (l.plan, record { is = rw h.pipeline h.plan; from = sym h.from; to = sym h.to }, rw (h.world, h.pipeline) k)
 
 -- a command over the pipeline file alone, with these steps, which asks for no adjustments and counts no steps
 pub record IsOfFile (asked : Request) (name : List ℕ) (steps : Option (List ℕ) → List Step) : Type 0 where
@@ -140,10 +140,6 @@ module _ {O : Type 0} (taken : O → Option (List ℕ)) (faults : O → ℕ) (so
   no-table : (q : RunRequest) (l : Loaded) → IsLoad tells lists shelf keeper q (Ok l)
       → IsEnded {T = Unit {0}} (seen taken sound room old new tells lists shelf keeper before now) (Some (Run q)) (Err Memory)
   no-table q l h = record { held = h.held; are_held = h.are_held; done = tt; ended = inr tt }
-
-  memory-or : (r : Result (Unit {0}) Fault) → IfErr r (λ f. (f ≡ Memory) ⊎ (f ≡ Unwritten)) → (IsErrOf r Memory → ⊥) → IfErr r (λ f. f ≡ Unwritten)
-  memory-or (Ok x) is no = tt
-  memory-or (Err f) is no = elim is [ inl m ↦ absurd (no (ap (λ e. Err e) m)) | inr u ↦ u ]
 
   pub load-written : (q : RunRequest) (l : Loaded) (r : Result (Unit {0}) Fault) → IsLoad tells lists shelf keeper q (Ok l)
       → IsErrOf r Memory ⊎ Writes taken faults sound room old new (loaded_text l) r → IfErr r (λ f. (f ≡ Memory) ⊎ (f ≡ Unwritten))

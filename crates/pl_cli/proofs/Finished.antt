@@ -133,9 +133,9 @@ pub asked-lent : (words : Option Request) (asked : Option Code) (lent : Option (
 asked-lent words asked None h e = let g = rw (← e) at h in g
 asked-lent words asked (Some r) h e = let g = rw (← e) at h in g
 
-pub chunk-lent : {words : Option Request} {asked : Option Code} {lent : Option (Bor Code)} → MatchOption asked (words ≡ None) (λ r. words ≡ Some (request_of r))
+pub chunk-lent : (words : Option Request) (asked : Option Code) (lent : Option (Bor Code)) → MatchOption asked (words ≡ None) (λ r. words ≡ Some (request_of r))
     → option_copied lent ≡ asked → IfSome words HasChunk → IfSome (option_map (λ q. request_of q.now) lent) HasChunk
-chunk-lent {words = words} {asked = asked} {lent = lent} h e fits = subst (λ o. IfSome o HasChunk) (asked-lent words asked lent h e) fits
+chunk-lent words asked lent h e fits = subst (λ o. IfSome o HasChunk) (asked-lent words asked lent h e) fits
 
 -- ---- where memory ran out before the words were read
 

@@ -1,7 +1,7 @@
 -- The text of a plan by the definitions.
-use Rattle.std.proofs.Common.{◌≡◌, ℕ, true, ℤ, List, [], ◌∷◌, ◌++◌, flat_map, slice_get, refl, ◌∙◌, sym, ap, ◌==◌}
+use Rattle.std.proofs.Common.{◌≡◌, ℕ, true, ℤ, List, [], ◌∷◌, ◌++◌, flat_map, slice_get, refl, ◌∙◌, ap, ◌==◌}
 use Rattle.std.proofs.lemmas.Bool.{or_left, or_right, eq-eqb}
-use Rattle.pl_spec.specs.Graph.{contains, used_terms, bound}
+use Rattle.pl_spec.specs.Graph.{contains, used_terms}
 use Rattle.pl_spec.specs.Table.{Pipeline}
 use Rattle.pl_terms.specs.Checked.{pipeline_of}
 use Rattle.pl_terms.specs.Uses.{outputs, is_used, uses}

@@ -50,7 +50,7 @@ text_of held (Some (Plan q)) =
 
 -- a plan of the pipeline over the sessions of a run, for its range
 pub record IsPlanFor (held : Contents) (q : RunRequest) (plan : Planned) : Type 0 where
-  pub plan : IsPlanOf (days_held held) (pipeline_held held) plan
+  pub is : IsPlanOf (days_held held) (pipeline_held held) plan
   pub from : plan.from ≡ index_of (days_held held) q.from.day
   pub to : plan.to ≡ index_of (days_held held) q.to.day
 

@@ -90,7 +90,7 @@ fn answer<S: Shelf, K: AdjustKeeper, O: Sink, L: Ledger>(
     out: &mut O,
     steps: &mut Steps<L>,
 ) -> Result<(), Fault>
-    requires chunk { IfSome (option_map (λ q. request_of q.now) asked.entry) HasChunk }
+    requires chunk { IfSome (option_map (λ q. request_of q.now) asked) HasChunk }
     ensures ended { IsEnded (observed S.holds S.sound K.lists K.sound O.taken O.sound O.room shelf.old keeper.old out.old out.new
         steps.old steps.new) (option_map (λ q. request_of q.now) asked.entry) result }
     ensures refused { option_map (λ q. request_of q.now) asked.entry ≡ None → fault_of result ≡ Some Fault.Usage }
