@@ -8,6 +8,7 @@ use Rattle.pl_spec.specs.Text.{text}
 use Rattle.pl_outside.specs.Files.{Files}
 use Rattle.pl_outside.specs.Lists.{Lists}
 use Rattle.pl_outside.specs.Counts.{Rose}
+use Rattle.pl_outside.specs.Left.{LeavesSink}
 use Rattle.pl_outside.specs.Taken.{Writes}
 use Rattle.pl_outside.proofs.Pieces.{writes-over}
 use Rattle.pl_terms.specs.Checked.{pipeline_of}
@@ -67,20 +68,27 @@ loaded-steps : (held : Contents) (q : RunRequest) (l : Loaded) (P : ℕ → Type
 loaded-steps held q l P h k =
     (l.plan, record { is = rw h.pipeline h.plan; from = sym h.from; to = sym h.to }, rw (h.world, h.pipeline) k)
 
+none : (before now : ℕ) → now ≡ before → now ≡ before + 0
+none before now same = omega (arith, same)
+
+no-more : (before now : ℕ) → now ≡ before → now ≤ before + 0
+no-more before now same = omega (arith, same)
+
 -- a command over the pipeline file alone, with these steps, which asks for no adjustments and counts no steps
 pub record IsOfFile (asked : Request) (name : List ℕ) (steps : Option (List ℕ) → List Step) : Type 0 where
   pub named : (f : InputFile) → name_asked (Some asked) f ≡ pipeline_name name f
   pub rows : adjustments_of (Some asked) ≡ None
   pub work : (held : Contents) → work held (Some asked) ≡ steps (held.file files.Pipeline)
-  pub free : (held : Contents) (P : ℕ → Type 0) → P 0 → TakesSteps held (Some asked) P
+  pub cost : (held : Contents) (before now : ℕ) → now ≡ before → TakesSteps held (Some asked) (λ n. now ≡ before + n)
+  pub most : (held : Contents) (before now : ℕ) → now ≡ before → TakesSteps held (Some asked) (λ n. now ≤ before + n)
 
 pub fmt-is : (name : List ℕ) → IsOfFile (Fmt name) name (λ held. syntax_step held ∷ [])
 unfolding work
-fmt-is name = record { named = λ f. refl; rows = refl; work = λ held. refl; free = λ held P z. z }
+fmt-is name = record { named = λ f. refl; rows = refl; work = λ held. refl; cost = λ held. none; most = λ held. no-more }
 
 pub check-is : (name : List ℕ) → IsOfFile (Check name) name pipeline_steps
 unfolding work
-check-is name = record { named = λ f. refl; rows = refl; work = λ held. refl; free = λ held P z. z }
+check-is name = record { named = λ f. refl; rows = refl; work = λ held. refl; cost = λ held. none; most = λ held. no-more }
 
 -- their texts
 pub fmt-text : (name bytes : List ℕ) (script : Parsed) → bytes ≡ script_text 1 script.statements
@@ -183,12 +191,6 @@ module _ {O : Type 0} (taken : O → Option (List ℕ)) (faults : O → ℕ) (so
       → IsEnded {T = Unit {0}} (seen taken sound room old new tells lists shelf keeper before now) (Some (Plan q)) (Err Memory)
   no-plan-text q l h = record { held = h.held; are_held = h.are_held lists; done = tt; ended = inr tt }
 
-  no-step : now ≡ before → now ≡ before + 0
-  no-step same = omega (arith, same)
-
-  no-more : now ≡ before → now ≤ before + 0
-  no-more same = omega (arith, same)
-
   when-ok : {A : Type 0} (r : Result (Unit {0}) Fault) → A → OnOk r A
   when-ok (Ok x) a = a
   when-ok (Err f) a = tt
@@ -200,7 +202,7 @@ module _ {O : Type 0} (taken : O → Option (List ℕ)) (faults : O → ℕ) (so
   unfolding work
   plan-written q l bytes r same h text w is =
       ends-written h.held (Some (Plan q)) r (h.are_held lists) h.ends.passed (writes-over (text ∙ plan-text h.held q l h.planned) w) is
-      (when-ok r (no-step same)) (no-more same)
+      (when-ok r (none before now same)) (no-more before now same)
 
   -- ---- commands over the pipeline file alone
 
@@ -250,7 +252,7 @@ module _ {O : Type 0} (taken : O → Option (List ℕ)) (faults : O → ℕ) (so
   file-written asked name steps x Means bytes r of same h text w is =
       ends-written (file_held h.file) (Some asked) r (are-held asked name steps h.file of h.is_told) (rw (of.work (file_held h.file)) h.ends.passed)
       (writes-over (text h.file h.means) w) is
-      (when-ok r (of.free (file_held h.file) (λ n. now ≡ before + n) (no-step same))) (of.free (file_held h.file) (λ n. now ≤ before + n) (no-more same))
+      (when-ok r (of.cost (file_held h.file) before now same)) (of.most (file_held h.file) before now same)
 
 -- what was not written has its cause
 pub caused-written : (s k risen kept : Type 0) (r : Result (Unit {0}) Fault) → IfErr r (λ f. f ≡ Unwritten) → OnErr r risen → IfErr r (IsCaused ⊥ s k risen kept)
@@ -268,6 +270,14 @@ caused-loaded s k risen kept (Ok x) is m w = tt
 caused-loaded s k risen kept (Err f) is m w = elim is [
   | inl e ↦ rw e (m (ap (λ z. Err z) e))
   | inr u ↦ rw u (elim w [ inl e ↦ absurd (let both = rw u at e in cc) | inr h ↦ h ])
+]
+
+-- either way the sink is left as a sink
+pub leaves-or : {S : Type 0} (taken : S → Option (List ℕ)) (faults : S → ℕ) (sound : S → Bool) (room : S → ℕ) (old new : S) (text : List ℕ) (A : Type 0) (r : Result (Unit {0}) Fault)
+    → IsErrOf r Memory ⊎ Writes taken faults sound room old new text r → (IsErrOf r Memory → (new ≡ old) × A) → LeavesSink sound faults old new
+leaves-or taken faults sound room old new text A r h same = elim h [
+  | inl m ↦ (let e = (same m).0 in record { stays = ap sound e; later = omega (arith, ap faults e) })
+  | inr w ↦ record { stays = w.stays; later = w.later }
 ]
 
 -- ---- no command

@@ -1,7 +1,7 @@
 use Rattle.std.proofs.Common.{refl, inl, inr}
 use Rattle.std.proofs.lemmas.Result.{err_from_is_err_and}
 use Rattle.pl_words.specs.Views.{run_of}
-use Rattle.pl_cli.proofs.Ended.{load-stops, load-written, caused-loaded, failed-or}
+use Rattle.pl_cli.proofs.Ended.{load-stops, load-written, caused-loaded, failed-or, leaves-or}
 use Rattle.pl_cli.proofs.commands.run_command.Goals as goal
 
 pub returns-in_err-loaded-clause-ended : goal.returns-in_err-loaded-clause-ended
@@ -20,3 +20,6 @@ returns-clause-caused g c =
     let w = c.write_loaded.ensures in
     caused-loaded _ _ _ _ c.write_loaded.result w.fault
     (λ m. let kept = w.memory m in (rw kept.0 refl, rw kept.0 refl, kept.1)) (failed-or _ _ _ _ _ _ _ _ w.writes)
+
+pub returns-clause-out : goal.returns-clause-out
+returns-clause-out g c = leaves-or _ _ _ _ _ _ _ _ _ c.write_loaded.ensures.writes c.write_loaded.ensures.memory
