@@ -1,10 +1,8 @@
-//! The text of a table: the header, and a line for each session and asset, each written in one piece.
+//! The table of a range of sessions, computed in chunks.
 #![tactic(auto)]
 
-mod header;
-mod line;
-mod rows;
-mod writing;
+mod desk;
+mod release;
+mod run;
 
-pub use header::make_header;
-pub use writing::{TableText, write_table};
+pub use run::{RunError, RunReport, run_table};

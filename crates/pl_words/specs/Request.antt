@@ -1,5 +1,5 @@
 -- What the words ask for.
-use Rattle.std.specs.Prelude.{ℕ, ℤ, List, [], ◌∷◌, ◌==◌, ◌&&◌, nat_le, if◌then◌else◌, Option, Some, None, option_map, option_and_then, length, slice_index_or}
+use Rattle.std.specs.Prelude.{ℕ, ◌≤◌, ⊤, ℤ, List, [], ◌∷◌, ◌==◌, ◌&&◌, nat_le, if◌then◌else◌, Option, Some, None, option_map, option_and_then, length, slice_index_or}
 use Rattle.std.specs.List.{list_all}
 use Rattle.pl_spec.specs.Dates.{date_in}
 use Rattle.pl_spec.specs.Decimals.{sid_in}
@@ -125,6 +125,13 @@ asked command words =
 unfoldable pub request : List Word → Option Request
 request [] = None
 request (first ∷ words) = option_and_then (λ command. asked command words) (command_named first)
+
+abbrev pub IsChunk : ℕ → Type 0
+IsChunk n = (1 ≤ n) × (n ≤ 4096)
+
+abbrev pub HasChunk : Request → Type 0
+HasChunk (Run q) = IsChunk q.options.chunk
+HasChunk request = ⊤
 
 -- the name of a file of a command, where the command has such a file
 abbrev pub run_name : RunRequest → InputFile → Option (List ℕ)
