@@ -276,6 +276,14 @@ fn computes_windows(rt: HostRuntime) -> Result<(), Fail> {
             ),
             ..BASE
         },
+        // the returns are 0.02 and, over the half of the split, 0
+        Case {
+            rows: halved,
+            statements: nested,
+            dates: "2024-01-05 2024-01-05",
+            left: (0, "session,sid,n\n2024-01-05,1,0.010000\n"),
+            ..BASE
+        },
         // 253 and 205 thirds; two days' dollar volumes have the means 765 and 515
         Case {
             statements: "let big = AverageDollarVolume(2) > 1000;\n\
