@@ -1,2 +1,5 @@
 -- What is written.
 pub mod Tables
+pub mod Runs
+pub mod Releases
+pub mod Desks

@@ -1,0 +1,4 @@
+pub mod Living
+pub mod Terms
+pub mod Assets
+pub mod Rooms

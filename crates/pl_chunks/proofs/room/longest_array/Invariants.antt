@@ -1,0 +1,13 @@
+use Rattle.std.proofs.Common.{ℕ, ◌≤◌, ◌<◌, length, vec_capacity}
+use Rattle.pl_model.specs.Worlds.{world_of}
+use Rattle.pl_terms.specs.Checked.{pipeline_of}
+use Rattle.pl_chunks.specs.Chunks.{chunk_at}
+use Rattle.pl_chunks.specs.Room.{HasRoom}
+use Rattle.pl_chunks.proofs.room.longest_array.Given as goal
+
+abbrev pub invariant-loop-i : goal.invariant-loop-i
+invariant-loop-i l =
+    record {
+      each : (i : ℕ) → i < l.i → HasRoom (world_of l.world) (pipeline_of l.checked) l.plan (chunk_at l.plan.from l.plan.to l.size i) l.longest;
+      room : length l.world.assets.now ≤ vec_capacity l.cols;
+    }

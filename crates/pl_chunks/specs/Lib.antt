@@ -1,0 +1,3 @@
+-- The chunks of a run.
+pub mod Chunks
+pub mod Room

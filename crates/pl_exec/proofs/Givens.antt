@@ -1,0 +1,251 @@
+-- What the term of a turn is worth, family by family.
+use Rattle.std.proofs.Common.{◌≡◌, ℕ, ◌+◌, ◌<◌, Bool, true, false, if◌then◌else◌, ℤ, pos, List, [], length, get_or, set, Option, Some, slice_get, refl, sym, ◌∙◌, ap, subst, arith, All, inl, inr, unwrap_or}
+use Rattle.std.specs.List.{list_any}
+use Rattle.std.specs.Option.{option_and_then}
+use Rattle.std.proofs.lemmas.Bool.{true≢false}
+use Rattle.std.proofs.lemmas.List.{length-map, get_or_default}
+use Rattle.pl_spec.specs.Rounding.{MISSING, IsCell, is_missing}
+use Rattle.pl_spec.specs.Parts.{sid_at}
+use Rattle.pl_spec.specs.World.{World, label_at}
+use Rattle.pl_spec.specs.Kind.{Kind, WindowKind, PointKind, LabelKind, CrossKind}
+use Rattle.pl_spec.specs.Kind.Kind.{Constant, Label, StaticSids, Window, Point, LabelTest, Cross, Downsample}
+use Rattle.pl_spec.specs.Formula.{is_true, truth}
+use Rattle.pl_spec.specs.Pointwise.{label_test}
+use Rattle.pl_spec.specs.Term as spec
+use Rattle.pl_spec.specs.Term.Input.{TermInput}
+use Rattle.pl_spec.specs.Table.{Pipeline}
+use Rattle.std.specs.Prelude.{unsigned_abs, ◌==◌}
+use Rattle.pl_spec.specs.Value.Value.{Number}
+use Rattle.pl_spec.specs.Value.{number_of, empty, is_filter, sort_kind, name_at}
+use Rattle.pl_terms.specs.Sorts.{is_windowed}
+use Rattle.pl_cross.specs.Arrays.{sid_in, section_at}
+use Rattle.pl_cross.specs.Section.{is_section, HasParameters}
+use Rattle.pl_values.specs.Arrays.{cell_of, is_kept, chosen, Fills, IsKeep}
+use Rattle.pl_values.specs.Families.{is_sids, is_point, is_label_test, sid_flag, code_flag, label_code, IsCode}
+use Rattle.pl_values.specs.Laws.{IsNode, IsGiven}
+use Rattle.pl_values.proofs.Given.{constant-cell, sid-cell, label-cell, label-test-cell, label-input, point-cell, point-operands, section-cell, section-input}
+use Rattle.pl_values.proofs.Operations.{fills-all}
+use Rattle.pl_values.specs.Inputs.{IsInputRow, IsGroupRow, AreRows, AreSectionRows}
+use Rattle.pl_pointwise.specs.Operands.{IsOperation, AreOperands, operation}
+use Rattle.pl_assets.specs.Labels.{label_on}
+use Rattle.pl_assets.proofs.LabelWorlds.{labels_those}
+use Rattle.pl_exec.proofs.Places.{sid_of_place}
+use Rattle.pl_spec.specs.Cross.{at}
+use Rattle.pl_exec.specs.declared.turn.Turn.{Turn}
+use Rattle.pl_exec.specs.Tasks.{assets_in, cell_in, sids_in}
+use Rattle.pl_exec.specs.Jobs.{IsTurn, IsKept, IsOut, Begins, task_at, node_at}
+use Rattle.pl_exec.proofs.Spans.{one_begun}
+
+pub sids_kind : (k : Kind) → is_sids k ≡ true → (own : List ℕ) × (k ≡ StaticSids own)
+sids_kind (StaticSids own) e = (own, refl)
+sids_kind (Constant x) e = absurd (true≢false (sym e))
+sids_kind (Label x) e = absurd (true≢false (sym e))
+sids_kind (Window x) e = absurd (true≢false (sym e))
+sids_kind (Point x) e = absurd (true≢false (sym e))
+sids_kind (LabelTest x) e = absurd (true≢false (sym e))
+sids_kind (Cross x) e = absurd (true≢false (sym e))
+sids_kind (Downsample x) e = absurd (true≢false (sym e))
+
+pub point_kind : (k : Kind) → is_point k ≡ true → (f : PointKind) × (k ≡ Point f)
+point_kind (Point f) e = (f, refl)
+point_kind (Constant x) e = absurd (true≢false (sym e))
+point_kind (Label x) e = absurd (true≢false (sym e))
+point_kind (StaticSids x) e = absurd (true≢false (sym e))
+point_kind (Window x) e = absurd (true≢false (sym e))
+point_kind (LabelTest x) e = absurd (true≢false (sym e))
+point_kind (Cross x) e = absurd (true≢false (sym e))
+point_kind (Downsample x) e = absurd (true≢false (sym e))
+
+pub label_test_kind : (k : Kind) → is_label_test k ≡ true → (f : LabelKind) × (k ≡ LabelTest f)
+label_test_kind (LabelTest f) e = (f, refl)
+label_test_kind (Constant x) e = absurd (true≢false (sym e))
+label_test_kind (Label x) e = absurd (true≢false (sym e))
+label_test_kind (StaticSids x) e = absurd (true≢false (sym e))
+label_test_kind (Window x) e = absurd (true≢false (sym e))
+label_test_kind (Point x) e = absurd (true≢false (sym e))
+label_test_kind (Cross x) e = absurd (true≢false (sym e))
+label_test_kind (Downsample x) e = absurd (true≢false (sym e))
+
+pub section_kind : (k : Kind) → is_section k ≡ true → (f : CrossKind) × (k ≡ Cross f)
+section_kind (Cross f) e = (f, refl)
+section_kind (Constant x) e = absurd (true≢false (sym e))
+section_kind (Label x) e = absurd (true≢false (sym e))
+section_kind (StaticSids x) e = absurd (true≢false (sym e))
+section_kind (Window x) e = absurd (true≢false (sym e))
+section_kind (Point x) e = absurd (true≢false (sym e))
+section_kind (LabelTest x) e = absurd (true≢false (sym e))
+section_kind (Downsample x) e = absurd (true≢false (sym e))
+
+pub window_kind : (k : Kind) → is_windowed k ≡ true → (f : WindowKind) × (k ≡ Window f)
+window_kind (Window f) e = (f, refl)
+window_kind (Constant x) e = absurd (true≢false (sym e))
+window_kind (Label x) e = absurd (true≢false (sym e))
+window_kind (StaticSids x) e = absurd (true≢false (sym e))
+window_kind (Point x) e = absurd (true≢false (sym e))
+window_kind (LabelTest x) e = absurd (true≢false (sym e))
+window_kind (Cross x) e = absurd (true≢false (sym e))
+window_kind (Downsample x) e = absurd (true≢false (sym e))
+
+-- ---- cells
+
+pub zero_cell : IsCell (pos 0)
+zero_cell = inr (omega arith)
+
+pub truth_cell : (b : Bool) → IsCell (truth b)
+truth_cell true = inr (omega arith)
+truth_cell false = inr (omega arith)
+
+pub sid_flag_cell : (k : Kind) (a : ℕ) → is_sids k ≡ true → IsCell (sid_flag k a)
+sid_flag_cell k a e = let s = sids_kind k e in subst (λ x. IsCell (sid_flag x a)) (sym s.1) (truth_cell (list_any (λ b. b == a) s.0))
+
+pub code_flag_cell : (texts : List (List ℕ)) (k : Kind) (x : ℤ) → is_label_test k ≡ true → IsCell (code_flag texts k x)
+code_flag_cell texts k x e = let s = label_test_kind k e in subst (λ y. IsCell (code_flag texts y x)) (sym s.1) (here (is_missing x))
+  where
+    here : (b : Bool) → IsCell (if b then pos 0 else truth (label_test (label_test_kind k e).0 (get_or texts (unsigned_abs x) [])))
+    here true = zero_cell
+    here false = truth_cell _
+
+pub empty_is_cell : (k : Kind) → IsCell (number_of (empty k))
+empty_is_cell k = here (is_filter k)
+  where
+    here : (b : Bool) → IsCell (number_of (if b then Number (pos 0) else Number MISSING))
+    here true = zero_cell
+    here false = inl refl
+
+chosen_cell : (b : Bool) (x none : ℤ) → IsCell x → IsCell none → IsCell (chosen b x none)
+chosen_cell true x none h k = h
+chosen_cell false x none h k = k
+
+-- ---- the rows of a turn
+
+module _ (t : Turn) (is : IsTurn t) where
+  abbrev w : World
+  w = (task_at t).world
+
+  abbrev p : Pipeline
+  p = (task_at t).pipeline
+
+  abbrev sids : List ℕ
+  sids = sids_in (task_at t)
+
+  abbrev n : spec.Node
+  n = node_at t
+
+  pub node_is : IsNode p t.term.0 n
+  node_is = record { checked = is.job.task.checked; node = is.node }
+
+  pub none_cell : IsCell t.none
+  none_cell = subst IsCell (sym is.none) (empty_is_cell (sort_kind (spec.term_at p.graph t.term.0)))
+
+  pub sids_long : length sids ≡ assets_in (task_at t)
+  sids_long = length-map (task_at t).cols (sid_at w.assets)
+
+  module _ (keep : List ℤ) (kept : IsKept t keep) (i : ℕ) (asset : i < assets_in (task_at t)) (x y : ℤ) (given : IsGiven w p sids t.term.0 n i t.session x) (cell : IsCell x)
+      (picked : y ≡ chosen (is_true (get_or keep i (pos 0))) x t.none) where
+    pub out_is : y ≡ cell_in (task_at t) t.term.0 i t.session
+    out_is = picked ∙ ap (λ b. chosen b x t.none) (kept.each i asset) ∙ ap (chosen (is_kept w p sids n.mask i t.session) x) is.none ∙ sym given
+
+    pub out_cell : IsCell y
+    out_cell = subst IsCell (sym picked) (chosen_cell (is_true (get_or keep i (pos 0))) x t.none cell none_cell)
+
+    -- one cell more of the row
+    pub out_more : (out : List ℤ) → Begins (λ k. cell_in (task_at t) t.term.0 k t.session) (assets_in (task_at t)) i out
+        → Begins (λ k. cell_in (task_at t) t.term.0 k t.session) (assets_in (task_at t)) (i + 1) (set out i y)
+    out_more out b = one_begun (λ k. cell_in (task_at t) t.term.0 k t.session) (assets_in (task_at t)) i out y b asset out_is out_cell
+
+  pub constant_given : (value : ℤ) (i : ℕ) → n.kind ≡ Constant value → IsCell value × IsGiven w p sids t.term.0 n i t.session value
+  constant_given value i e = constant-cell w p sids t.term.0 n i t.session node_is value e
+
+  pub sid_given : (i : ℕ) → is_sids n.kind ≡ true → IsGiven w p sids t.term.0 n i t.session (sid_flag n.kind (sid_in sids i))
+  sid_given i e = let s = sids_kind n.kind e in sid-cell w p sids t.term.0 n i t.session node_is s.0 s.1
+
+  pub label_given : (name i : ℕ) → n.kind ≡ Label name → (name < length p.names) × IsGiven w p sids t.term.0 n i t.session (label_code w.texts (label_at w (name_at p.names name) (sid_in sids i) (pos t.session)))
+  label_given name i e = label-cell w p sids t.term.0 n i t.session node_is name e
+
+  pub label_test_given : (i u : ℕ) → is_label_test n.kind ≡ true → slice_get n.inputs 0 ≡ Some (TermInput u)
+      → IsCode w.texts (cell_of w p sids u i t.session) × IsGiven w p sids t.term.0 n i t.session (code_flag w.texts n.kind (cell_of w p sids u i t.session))
+  label_test_given i u e input = let s = label_test_kind n.kind e in label-test-cell w p sids t.term.0 n i t.session node_is s.0 u is.job.task.texts s.1 input
+
+  pub label_test_input : is_label_test n.kind ≡ true → (u : ℕ) × (slice_get n.inputs 0 ≡ Some (TermInput u))
+  label_test_input e = let s = label_test_kind n.kind e in let x = label-input p is.job.task.checked t.term.0 n is.node s.0 s.1 in (x.0, x.1)
+
+  -- the label of a place is that of its column
+  pub label_here : (i number : ℕ) (name : List ℕ) (day : ℤ) → i < assets_in (task_at t) → slice_get p.names number ≡ Some name → slice_get w.days t.session ≡ Some day
+      → label_at w (name_at p.names number) (sid_in sids i) (pos t.session) ≡ label_on t.job.now.world.labels.now.rows name (get_or t.job.now.cols.now i 0) day
+  label_here i number name day asset named dated =
+      let parts = is.job.made.parts in
+      ap (λ nm. label_at w nm (sid_in sids i) (pos t.session)) (ap (λ o. unwrap_or o []) named)
+      ∙ ap (λ a. label_at w name a (pos t.session)) (sid_of_place t.job.now.world.assets.now t.job.now.cols.now i asset)
+      ∙ labels_those t.job.now.world.sessions.now t.job.now.world.assets.now t.job.now.world.labels.now.rows t.job.now.world.labels.now.texts t.job.now.world.bars.now t.job.now.world.adjustments.now
+      parts.sids_ascend parts.labels_in name (get_or t.job.now.cols.now i 0) (pos t.session) (is.job.task.columns.within i 0 asset)
+      ∙ ap (option_and_then (label_on t.job.now.world.labels.now.rows name (get_or t.job.now.cols.now i 0))) dated
+
+  -- ---- rows of inputs
+
+  pub fills_sids : (f : ℕ → ℤ) (row : List ℤ) → Fills f (assets_in (task_at t)) row → Fills f (length sids) row
+  fills_sids f row b = subst (λ m. Fills f m row) (sym sids_long) b
+
+  pub input_fills : (place u : ℕ) (row : List ℤ) → slice_get n.inputs place ≡ Some (TermInput u) → IsInputRow w p sids (assets_in (task_at t)) (slice_get n.inputs place) t.session row
+      → Fills (λ i. cell_of w p sids u i t.session) (assets_in (task_at t)) row
+  input_fills place u row e r = subst (λ o. IsInputRow w p sids (assets_in (task_at t)) o t.session row) e r
+
+  module _ (a b c : List ℤ) (ra : IsInputRow w p sids (assets_in (task_at t)) (slice_get n.inputs 0) t.session a) (rb : IsInputRow w p sids (assets_in (task_at t)) (slice_get n.inputs 1) t.session b)
+      (rc : IsInputRow w p sids (assets_in (task_at t)) (slice_get n.inputs 2) t.session c) (e : is_point n.kind ≡ true) where
+    rows : AreRows w p sids n t.session (assets_in (task_at t)) a b c
+    rows = record { first = ra; second = rb; third = rc }
+
+    pub point_asks : IsOperation n.kind × AreOperands n.kind a b c (assets_in (task_at t))
+    point_asks = let s = point_kind n.kind e in point-operands w p sids t.term.0 n 0 t.session node_is s.0 (assets_in (task_at t)) a b c s.1 rows
+
+    pub point_given : (i : ℕ) → i < assets_in (task_at t) → IsGiven w p sids t.term.0 n i t.session (operation n.kind (get_or a i (pos 0)) (get_or b i (pos 0)) (get_or c i (pos 0)))
+    point_given i h = let s = point_kind n.kind e in point-cell w p sids t.term.0 n i t.session node_is s.0 (assets_in (task_at t)) a b c s.1 rows h
+
+  -- what is computed for all assets, and then put away where they are not kept
+  pub kept_out : (keep made out : List ℤ) → IsKept t keep → length out ≡ assets_in (task_at t) → ((i : ℕ) → i < assets_in (task_at t) → IsGiven w p sids t.term.0 n i t.session (get_or made i (pos 0)))
+      → ((i : ℕ) → i < assets_in (task_at t) → IsCell (get_or made i (pos 0))) → ((i : ℕ) → i < assets_in (task_at t) → get_or out i (pos 0) ≡ chosen (is_true (get_or keep i (pos 0))) (get_or made i (pos 0)) t.none)
+      → IsOut t out
+  kept_out keep made out kept size given cells picked = record {
+    long = size;
+    each = λ i h. out_is keep kept i h (get_or made i (pos 0)) (get_or out i (pos 0)) (given i h) (cells i h) (picked i h);
+    cell = λ i h. subst IsCell (out_is keep kept i h (get_or made i (pos 0)) (get_or out i (pos 0)) (given i h) (cells i h) (picked i h)) (out_cell keep kept i h (get_or made i (pos 0)) (get_or out i (pos 0)) (given i h) (cells i h) (picked i h));
+  }
+
+  -- ---- cross-sections
+
+  module _ (values keep : List ℤ) (labels : Option (List ℤ)) (rv : IsInputRow w p sids (assets_in (task_at t)) (slice_get n.inputs 0) t.session values) (kept : IsKept t keep)
+      (grouped : IsGroupRow w p sids n.group t.session labels) (e : is_section n.kind ≡ true) where
+    section_is : (f : CrossKind) × (n.kind ≡ Cross f)
+    section_is = section_kind n.kind e
+
+    section_rows : AreSectionRows w p sids n t.session values keep labels
+    section_rows = record {
+      ascend = is.job.task.up;
+      all = is.all;
+      values = subst (λ m. IsInputRow w p sids m (slice_get n.inputs 0) t.session values) (sym sids_long) rv;
+      keep = subst (λ m. IsKeep (λ i. is_kept w p sids n.mask i t.session) m keep) (sym sids_long) kept;
+      groups = grouped;
+    }
+
+    pub section_right : HasParameters n.kind
+    section_right = let s = section_is in let r = section-cell w p sids t.term.0 n 0 t.session node_is s.0 values keep labels is.job.task.texts s.1 section_rows in subst HasParameters (sym s.1) r.0
+
+    pub section_out : (out : List ℤ) → length out ≡ assets_in (task_at t) → ((f : CrossKind) → n.kind ≡ Cross f → (i : ℕ) → i < assets_in (task_at t) → at out i ≡ section_at f values keep labels i) → All IsCell out → IsOut t out
+    section_out out size each cells = record {
+      long = size;
+      each = λ i h. is_cell i h;
+      cell = λ i h. subst IsCell (is_cell i h) (cells i (pos 0) (omega arith));
+    }
+      where
+        is_cell : (i : ℕ) → i < assets_in (task_at t) → get_or out i (pos 0) ≡ cell_in (task_at t) t.term.0 i t.session
+        is_cell i h =
+            let s = section_is in
+            let r = section-cell w p sids t.term.0 n i t.session node_is s.0 values keep labels is.job.task.texts s.1 section_rows in
+            let l = sids_long in
+            get_or_default out i (pos 0) MISSING (omega arith) ∙ each s.0 s.1 i h ∙ sym (r.1 (omega arith))
+
+  pub section_cells : (values : List ℤ) → IsInputRow w p sids (assets_in (task_at t)) (slice_get n.inputs 0) t.session values → is_section n.kind ≡ true → All IsCell values
+  section_cells values rv e =
+      let s = section_kind n.kind e in
+      let x = section-input w p sids is.job.task.checked t.term.0 n is.node s.0 s.1 in
+      let f = input_fills 0 x.0 values x.1 rv in
+      fills-all IsCell (λ i. cell_of w p sids x.0 i t.session) (assets_in (task_at t)) values f f.cell

@@ -1,0 +1,75 @@
+-- What is read of the arrays that are there.
+use Rattle.std.proofs.Common.{◌≡◌, ℕ, ◌+◌, ◌-◌, ◌*◌, ◌<◌, ◌≤◌, ◌&&◌, ℤ, pos, List, length, take, drop, get_or, set, Some, sym, ◌∙◌, ap, subst, arith, All, slice_get}
+use Rattle.pl_spec.specs.Rounding.{IsCell}
+use Rattle.pl_spec.specs.World.{World, exists}
+use Rattle.pl_spec.specs.Table.{Pipeline}
+use Rattle.pl_spec.specs.Formula.{is_true}
+use Rattle.pl_cross.specs.Arrays.{sid_in}
+use Rattle.pl_values.specs.Arrays.{Holds, Fills, IsKeep, window_up_to, is_kept, cell_of, empty_cell}
+use Rattle.pl_workspace.specs.Slots.{Slots}
+use Rattle.pl_exec.specs.Tasks.{Task, graph_in, assets_in, cell_in, count_in, low_in}
+use Rattle.pl_exec.specs.declared.turn.Turn.{Turn}
+use Rattle.pl_exec.specs.Jobs.{IsJob, IsRead, IsReady, IsRun, IsTurn, Begins, node_at, task_at}
+use Rattle.pl_exec.proofs.Spans.{end_within, size_within, window_is, window_cells, one_begun, at_is, at_cell}
+
+pub read_less : (t : Task) (w : Slots) (s size u : ℕ) → IsRead t w s size u → IsRead t w s 1 u
+read_less t w s size u r = record { known = r.known; used = r.used; held = r.held; some = omega arith; early = (let e = r.early in let o = r.some in omega arith) }
+
+-- from a later session on
+pub later_ready : (t : Task) (w : Slots) (low s : ℕ) (n : _) → low ≤ s → IsReady t w low n → IsReady t w s n
+later_ready t w low s n h r = record {
+  inputs = λ i u e. later n.window u (r.inputs i u e);
+  mask = λ u e. later 1 u (r.mask u e);
+  group = λ u e. later 1 u (r.group u e);
+}
+  where
+    later : (size u : ℕ) → IsRead t w low size u → IsRead t w s size u
+    later size u x = record { known = x.known; used = x.used; held = x.held; some = x.some; early = (let y = x.early in omega arith) }
+
+pub turn_is : (t : Turn) → IsJob t.job.now → IsRun (task_at t) t.workspace.now t.term.0 → slice_get (graph_in (task_at t)) t.term.0 ≡ Some (node_at t) → low_in (task_at t) t.term.0 ≤ t.session → t.session ≤ t.job.now.to
+    → t.none ≡ empty_cell (task_at t).pipeline t.term.0 → IsTurn t
+turn_is t job run node low late none = record {
+  job = job;
+  node = node;
+  ready = later_ready (task_at t) t.workspace.now _ t.session (node_at t) low (run.ready (node_at t) node);
+  late = late;
+  deep = (let d = run.deep (node_at t) node in omega arith);
+  all = job.task.columns.all t.term.0 t.session run.used low late;
+  none = none;
+}
+
+-- the array of term u, as the code has it
+module _ (t : Task) (u low count : ℕ) (cells : List ℤ) (holds : Holds (cell_in t u) (assets_in t) (low_in t u) (count_in t u) cells) (is_low : low ≡ low_in t u) (end : low + count ≡ t.to + 1) where
+  pub held : Holds (cell_in t u) (assets_in t) low count cells
+  held =
+      let e : count_in t u ≡ count = omega arith in
+      subst (λ n. Holds (cell_in t u) (assets_in t) low n cells) e (subst (λ l. Holds (cell_in t u) (assets_in t) l (count_in t u) cells) (sym is_low) holds)
+
+  module _ (s size w i : ℕ) (same : size ≡ w) (asset : i < assets_in t) (some : 1 ≤ w) (early : low_in t u + w ≤ s + 1) (late : s ≤ t.to) where
+    pub read_end : i * count + (s - low) + 1 ≤ length cells
+    read_end = end_within (cell_in t u) (assets_in t) low count cells held i s size asset (omega arith) (omega arith) (omega arith)
+
+    pub read_size : size ≤ i * count + (s - low) + 1
+    read_size = size_within (cell_in t u) (assets_in t) low count cells held i s size asset (omega arith) (omega arith) (omega arith)
+
+    pub read_window : take size (drop (i * count + (s - low) + 1 - size) cells) ≡ window_up_to (cell_in t u i) w s
+    read_window = window_is (cell_in t u) (assets_in t) low count cells held i s size asset (omega arith) (omega arith) (omega arith) ∙ ap (λ n. window_up_to (cell_in t u i) n s) same
+
+    pub read_cells : All IsCell (window_up_to (cell_in t u i) w s)
+    read_cells = window_cells (cell_in t u) (assets_in t) low count cells held i s w asset some (omega arith) (omega arith)
+
+  -- one cell more of a session's row
+  pub row_more : (s i at : ℕ) (row : List ℤ) → low ≤ s → s ≤ t.to → at ≡ s - low → i < assets_in t → Begins (λ k. cell_in t u k s) (assets_in t) i row
+      → Begins (λ k. cell_in t u k s) (assets_in t) (i + 1) (set row i (get_or cells (i * count + at) (pos 0)))
+  row_more s i at row early late is asset b =
+      let e = at_is (cell_in t u) (assets_in t) low count cells held i s at asset early (omega arith) is in
+      one_begun (λ k. cell_in t u k s) (assets_in t) i row _ b asset e (rw e (at_cell (cell_in t u) (assets_in t) low count cells held i s at asset early (omega arith) is))
+
+-- who exists and passes the mask
+pub kept_masked : (w : World) (p : Pipeline) (sids : List ℕ) (m n s : ℕ) (old new mask : List ℤ) → IsKeep (λ i. exists w (sid_in sids i) (pos s)) n old → Fills (λ i. cell_of w p sids m i s) n mask
+    → length new ≡ length old → ((i : ℕ) → i < length old → is_true (get_or new i (pos 0)) ≡ (is_true (get_or old i (pos 0)) && is_true (get_or mask i (pos 0))))
+    → IsKeep (λ i. is_kept w p sids (Some m) i s) n new
+kept_masked w p sids m n s old new mask k f long each = record {
+  long = long ∙ k.long;
+  each = λ i h. each i (let l = k.long in omega arith) ∙ ap (λ b. b && is_true (get_or mask i (pos 0))) (k.each i h) ∙ ap (λ x. exists w (sid_in sids i) (pos s) && is_true x) (f.each i h);
+}

@@ -1,0 +1,16 @@
+pub mod ArrayLists
+pub mod Bars
+pub mod NewColumns
+pub mod Counts
+pub mod Givens
+pub mod Held
+pub mod Levels
+pub mod Listed
+pub mod Living
+pub mod Mentions
+pub mod Places
+pub mod Releases
+pub mod Sids
+pub mod Spans
+pub mod Stands
+pub mod Trips

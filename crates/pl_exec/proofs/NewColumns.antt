@@ -1,0 +1,172 @@
+-- The distinct bar columns of a node, place by place.
+use Rattle.std.proofs.Common.{◌≡◌, ◌≢◌, ℕ, zero, suc, ◌+◌, ◌≤◌, Bool, true, false, ◌||◌, if◌then◌else◌, List, [], ◌∷◌, ◌++◌, length, take, get_or, filter_map, sum_by, Option, Some, None, slice_get, refl, sym, ◌∙◌, ap, arith, inl, inr, ◌==◌}
+use Rattle.std.proofs.lemmas.Bool.{true≢false, or_cases, or_left, or_right, eq-eqb, eqb-true}
+use Rattle.std.proofs.lemmas.List.{take_more, take_all, append-nil}
+use Rattle.std.proofs.lemmas.List.Elements.{filter_map-append}
+use Rattle.std.proofs.lemmas.List.Folds.{list_any-append}
+use Rattle.std.proofs.lemmas.Option.{slice_get_within}
+use Rattle.pl_spec.specs.declared.Column.{Column}
+use Rattle.pl_spec.specs.declared.Column.TheVariants.{OpenPrice, High, Low, Close, Volume}
+use Rattle.pl_spec.specs.World.{column_number}
+use Rattle.pl_spec.specs.Graph.{contains, columns_at, input_column}
+use Rattle.pl_spec.specs.Term as spec
+use Rattle.pl_spec.specs.Term.Input.{BarColumn, TermInput}
+use Rattle.pl_exec.specs.Tasks.{columns_of}
+use Rattle.pl_exec.specs.Jobs.{columns_before, new_column, one_new, place_among, unless}
+use Rattle.pl_exec.proofs.Listed.{sum_filter}
+use Rattle.pl_exec.proofs.Places.{IsFirst, first_place, new_first}
+
+or_false : (b : Bool) → (b || false) ≡ b
+or_false true = refl
+or_false false = refl
+
+in_front : (ns : List ℕ) (k j : ℕ) → j ≢ k → contains (ns ++ k ∷ []) j ≡ contains ns j
+in_front ns k j ne = list_any-append (λ x. x == j) ns (k ∷ []) ∙ ap (λ b. contains ns j || b) (here (contains (k ∷ []) j) refl) ∙ or_false (contains ns j)
+  where
+    here : (b : Bool) → contains (k ∷ []) j ≡ b → contains (k ∷ []) j ≡ false
+    here true e = elim (or_cases (k == j) false e) [ inl p ↦ absurd (ne (sym (eqb-true k j p))) | inr p ↦ absurd (true≢false (sym p)) ]
+    here false e = e
+
+in_back : (ns : List ℕ) (k : ℕ) → contains (ns ++ k ∷ []) k ≡ true
+in_back ns k = list_any-append (λ x. x == k) ns (k ∷ []) ∙ or_right (contains ns k) (contains (k ∷ []) k) (or_left (k == k) false (eq-eqb k k refl))
+
+-- a sum over the columns whose numbers are listed
+abbrev five : List Column
+five = OpenPrice ∷ High ∷ Low ∷ Close ∷ Volume ∷ []
+
+abbrev total_of : (Column → ℕ) → List ℕ → ℕ
+total_of f ns = sum_by (λ c. if contains ns (column_number c) then f c else 0) five
+
+one_more : (f : Column → ℕ) (ns : List ℕ) (d : Column) → total_of f (ns ++ column_number d ∷ []) ≡ total_of f ns + (if contains ns (column_number d) then 0 else f d)
+one_more f ns OpenPrice =
+    let e0 : contains (ns ++ 0 ∷ []) 0 ≡ true = in_back ns 0 in
+    let e1 : contains (ns ++ 0 ∷ []) 1 ≡ contains ns 1 = in_front ns 0 1 (λ p. omega arith) in
+    let e2 : contains (ns ++ 0 ∷ []) 2 ≡ contains ns 2 = in_front ns 0 2 (λ p. omega arith) in
+    let e3 : contains (ns ++ 0 ∷ []) 3 ≡ contains ns 3 = in_front ns 0 3 (λ p. omega arith) in
+    let e4 : contains (ns ++ 0 ∷ []) 4 ≡ contains ns 4 = in_front ns 0 4 (λ p. omega arith) in
+    rw (e0, e1, e2, e3, e4) (here (contains ns 0))
+  where
+    here : (b : Bool) → 0 + (if true then f OpenPrice else 0) + (if contains ns 1 then f High else 0) + (if contains ns 2 then f Low else 0) + (if contains ns 3 then f Close else 0) + (if contains ns 4 then f Volume else 0) ≡ 0 + (if b then f OpenPrice else 0) + (if contains ns 1 then f High else 0) + (if contains ns 2 then f Low else 0) + (if contains ns 3 then f Close else 0) + (if contains ns 4 then f Volume else 0) + (if b then 0 else f OpenPrice)
+    here true = omega arith
+    here false = omega arith
+one_more f ns High =
+    let e0 : contains (ns ++ 1 ∷ []) 0 ≡ contains ns 0 = in_front ns 1 0 (λ p. omega arith) in
+    let e1 : contains (ns ++ 1 ∷ []) 1 ≡ true = in_back ns 1 in
+    let e2 : contains (ns ++ 1 ∷ []) 2 ≡ contains ns 2 = in_front ns 1 2 (λ p. omega arith) in
+    let e3 : contains (ns ++ 1 ∷ []) 3 ≡ contains ns 3 = in_front ns 1 3 (λ p. omega arith) in
+    let e4 : contains (ns ++ 1 ∷ []) 4 ≡ contains ns 4 = in_front ns 1 4 (λ p. omega arith) in
+    rw (e0, e1, e2, e3, e4) (here (contains ns 1))
+  where
+    here : (b : Bool) → 0 + (if contains ns 0 then f OpenPrice else 0) + (if true then f High else 0) + (if contains ns 2 then f Low else 0) + (if contains ns 3 then f Close else 0) + (if contains ns 4 then f Volume else 0) ≡ 0 + (if contains ns 0 then f OpenPrice else 0) + (if b then f High else 0) + (if contains ns 2 then f Low else 0) + (if contains ns 3 then f Close else 0) + (if contains ns 4 then f Volume else 0) + (if b then 0 else f High)
+    here true = omega arith
+    here false = omega arith
+one_more f ns Low =
+    let e0 : contains (ns ++ 2 ∷ []) 0 ≡ contains ns 0 = in_front ns 2 0 (λ p. omega arith) in
+    let e1 : contains (ns ++ 2 ∷ []) 1 ≡ contains ns 1 = in_front ns 2 1 (λ p. omega arith) in
+    let e2 : contains (ns ++ 2 ∷ []) 2 ≡ true = in_back ns 2 in
+    let e3 : contains (ns ++ 2 ∷ []) 3 ≡ contains ns 3 = in_front ns 2 3 (λ p. omega arith) in
+    let e4 : contains (ns ++ 2 ∷ []) 4 ≡ contains ns 4 = in_front ns 2 4 (λ p. omega arith) in
+    rw (e0, e1, e2, e3, e4) (here (contains ns 2))
+  where
+    here : (b : Bool) → 0 + (if contains ns 0 then f OpenPrice else 0) + (if contains ns 1 then f High else 0) + (if true then f Low else 0) + (if contains ns 3 then f Close else 0) + (if contains ns 4 then f Volume else 0) ≡ 0 + (if contains ns 0 then f OpenPrice else 0) + (if contains ns 1 then f High else 0) + (if b then f Low else 0) + (if contains ns 3 then f Close else 0) + (if contains ns 4 then f Volume else 0) + (if b then 0 else f Low)
+    here true = omega arith
+    here false = omega arith
+one_more f ns Close =
+    let e0 : contains (ns ++ 3 ∷ []) 0 ≡ contains ns 0 = in_front ns 3 0 (λ p. omega arith) in
+    let e1 : contains (ns ++ 3 ∷ []) 1 ≡ contains ns 1 = in_front ns 3 1 (λ p. omega arith) in
+    let e2 : contains (ns ++ 3 ∷ []) 2 ≡ contains ns 2 = in_front ns 3 2 (λ p. omega arith) in
+    let e3 : contains (ns ++ 3 ∷ []) 3 ≡ true = in_back ns 3 in
+    let e4 : contains (ns ++ 3 ∷ []) 4 ≡ contains ns 4 = in_front ns 3 4 (λ p. omega arith) in
+    rw (e0, e1, e2, e3, e4) (here (contains ns 3))
+  where
+    here : (b : Bool) → 0 + (if contains ns 0 then f OpenPrice else 0) + (if contains ns 1 then f High else 0) + (if contains ns 2 then f Low else 0) + (if true then f Close else 0) + (if contains ns 4 then f Volume else 0) ≡ 0 + (if contains ns 0 then f OpenPrice else 0) + (if contains ns 1 then f High else 0) + (if contains ns 2 then f Low else 0) + (if b then f Close else 0) + (if contains ns 4 then f Volume else 0) + (if b then 0 else f Close)
+    here true = omega arith
+    here false = omega arith
+one_more f ns Volume =
+    let e0 : contains (ns ++ 4 ∷ []) 0 ≡ contains ns 0 = in_front ns 4 0 (λ p. omega arith) in
+    let e1 : contains (ns ++ 4 ∷ []) 1 ≡ contains ns 1 = in_front ns 4 1 (λ p. omega arith) in
+    let e2 : contains (ns ++ 4 ∷ []) 2 ≡ contains ns 2 = in_front ns 4 2 (λ p. omega arith) in
+    let e3 : contains (ns ++ 4 ∷ []) 3 ≡ contains ns 3 = in_front ns 4 3 (λ p. omega arith) in
+    let e4 : contains (ns ++ 4 ∷ []) 4 ≡ true = in_back ns 4 in
+    rw (e0, e1, e2, e3, e4) (here (contains ns 4))
+  where
+    here : (b : Bool) → 0 + (if contains ns 0 then f OpenPrice else 0) + (if contains ns 1 then f High else 0) + (if contains ns 2 then f Low else 0) + (if contains ns 3 then f Close else 0) + (if true then f Volume else 0) ≡ 0 + (if contains ns 0 then f OpenPrice else 0) + (if contains ns 1 then f High else 0) + (if contains ns 2 then f Low else 0) + (if contains ns 3 then f Close else 0) + (if b then f Volume else 0) + (if b then 0 else f Volume)
+    here true = omega arith
+    here false = omega arith
+
+abbrev pub part : (Column → ℕ) → Option Column → ℕ
+part f None = 0
+part f (Some c) = f c
+
+module _ (n : spec.Node) (f : Column → ℕ) where
+  next_part : (p : ℕ) → total_of f (columns_before n (p + 1)) ≡ total_of f (columns_before n p) + part f (new_column n p)
+  next_part p = here (slice_get n.inputs p) refl
+    where
+      grown : (x : spec.Input) → slice_get n.inputs p ≡ Some x → columns_before n (p + 1) ≡ columns_before n p ++ filter_map input_column (x ∷ [])
+      grown x e =
+          let w = slice_get_within n.inputs p x e in
+          let g : get_or n.inputs p x ≡ x = at n.inputs p x e in
+          ap (filter_map input_column) (take_more n.inputs p x w ∙ ap (λ y. take p n.inputs ++ y ∷ []) g) ∙ filter_map-append input_column (take p n.inputs) (x ∷ [])
+        where
+          at : (xs : List spec.Input) (i : ℕ) (x : spec.Input) → slice_get xs i ≡ Some x → get_or xs i x ≡ x
+          at [] i x e = refl
+          at (y ∷ ys) zero x e = cc
+          at (y ∷ ys) (suc i) x e = at ys i x e
+
+      here : (o : Option spec.Input) → slice_get n.inputs p ≡ o → total_of f (columns_before n (p + 1)) ≡ total_of f (columns_before n p) + part f (new_column n p)
+      here None e = let s : take (p + 1) n.inputs ≡ take p n.inputs = past n.inputs p e in rw (s, e) (omega arith)
+        where
+          past : (xs : List spec.Input) (i : ℕ) → slice_get xs i ≡ None → take (i + 1) xs ≡ take i xs
+          past [] zero e = refl
+          past [] (suc i) e = let s : suc i + 1 ≡ suc (i + 1) = omega arith in ap (λ m. take m []) s
+          past (x ∷ xs) zero e = absurd (let c : Some x ≡ None = e in cc)
+          past (x ∷ xs) (suc i) e = let s : suc i + 1 ≡ suc (i + 1) = omega arith in ap (λ m. take m (x ∷ xs)) s ∙ ap (λ l. x ∷ l) (past xs i e)
+      here (Some (TermInput u)) e =
+          let s = grown (TermInput u) e ∙ append-nil (columns_before n p) in
+          rw e (ap (total_of f) s ∙ (let z : total_of f (columns_before n p) ≡ total_of f (columns_before n p) + 0 = omega arith in z))
+      here (Some (BarColumn c)) e =
+          let s = grown (BarColumn c) e in
+          rw e (ap (total_of f) s ∙ one_more f (columns_before n p) c ∙ ap (λ m. total_of f (columns_before n p) + m) (both (contains (columns_before n p) (column_number c))))
+        where
+          both : (b : Bool) → (if b then 0 else f c) ≡ part f (unless b c)
+          both true = refl
+          both false = refl
+
+  pub columns_sum : length n.inputs ≤ 3 → sum_by f (columns_of n) ≡ part f (new_column n 0) + part f (new_column n 1) + part f (new_column n 2)
+  columns_sum few =
+      let s : take 3 n.inputs ≡ n.inputs = take_all 3 n.inputs few in
+      let a = next_part 0 in
+      let b = next_part 1 in
+      let c = next_part 2 in
+      let whole : total_of f (filter_map input_column n.inputs) ≡ total_of f (columns_before n 3) = ap (λ l. total_of f (filter_map input_column l)) (sym s) in
+      let none : total_of f (columns_before n 0) ≡ 0 = refl in
+      sum_filter f (λ c. contains (filter_map input_column n.inputs) (column_number c)) five ∙ omega (arith, a, b, c, whole, none)
+
+one_part : (o : Option Column) → part (λ c. 1) o ≡ one_new o
+one_part None = refl
+one_part (Some c) = refl
+
+one_few : (o : Option Column) → one_new o ≤ 1
+one_few None = omega arith
+one_few (Some c) = omega arith
+
+module _ (g : spec.Graph) (k : ℕ) (n : spec.Node) (node : slice_get g k ≡ Some n) (few : length n.inputs ≤ 3) where
+  pub columns_count : columns_at g k ≡ one_new (new_column n 0) + one_new (new_column n 1) + one_new (new_column n 2)
+  columns_count =
+      let s = columns_sum n (λ c. 1) few in
+      let t : columns_at g k ≡ sum_by (λ c. 1) (columns_of n) = rw node (sym (sum_filter (λ c. 1) (λ c. contains (filter_map input_column n.inputs) (column_number c)) five)) in
+      let a = one_part (new_column n 0) in let b = one_part (new_column n 1) in let c = one_part (new_column n 2) in
+      t ∙ omega (arith, s, a, b, c)
+
+  pub columns_few : columns_at g k ≤ 3
+  columns_few = let c = columns_count in let a = one_few (new_column n 0) in let b = one_few (new_column n 1) in let d = one_few (new_column n 2) in omega arith
+
+  -- a node without columns has no input that is one
+  pub no_bars : columns_at g k ≡ 0 → (p : ℕ) (c : Column) → slice_get n.inputs p ≡ Some (BarColumn c) → ⊥
+  no_bars none p c e = here (place_among n.inputs c) (first_place n.inputs c p e)
+    where
+      here : (q : ℕ) → IsFirst n.inputs c q → ⊥
+      here zero f = let o : one_new (new_column n 0) ≡ 1 = ap one_new (new_first n c 0 f) in let s = columns_count in omega arith
+      here (suc zero) f = let o : one_new (new_column n 1) ≡ 1 = ap one_new (new_first n c 1 f) in let s = columns_count in omega arith
+      here (suc (suc zero)) f = let o : one_new (new_column n 2) ≡ 1 = ap one_new (new_first n c 2 f) in let s = columns_count in omega arith
+      here (suc (suc (suc q))) f = let w = f.within in omega arith

@@ -1,0 +1,26 @@
+use Rattle.std.proofs.Common.{ap, ◌∙◌, sym, arith, max}
+use Rattle.pl_exec.specs.Tasks.{held_in, steps_in}
+use Rattle.pl_exec.specs.Jobs.{task_of}
+use Rattle.pl_exec.proofs.Counts.{most_more}
+use Rattle.pl_exec.proofs.Listed.{sum_more}
+use Rattle.pl_exec.proofs.Releases.{cut_more, most_three}
+use Rattle.pl_exec.proofs.chunk.run_terms.Goals as goal
+
+pub loop-k-preserved : goal.loop-k-preserved
+loop-k-preserved g c =
+    let m = most_more (held_in (task_of c.args.job.now)) c.loop-k.k in
+    let s = sum_more (steps_in (task_of c.args.job.now)) c.loop-k.k in
+    let i = c.loop-k.invariant in
+    let r = c.run_term-filled.ensures in
+    record {
+      live = c.run_term-filled.ensures.live;
+      most = most_three _ _ _ _ _ c.loop-k.invariant.most c.run_term-filled.ensures.peak ∙ ap (max c.args.workspace.now.peak) (sym m);
+      held = omega (arith, c.greater-peak.ensures, c.loop-k.invariant.held, c.run_term-filled.ensures.held, m);
+      cost = omega (arith, c.loop-k.invariant.cost, c.run_term-filled.ensures.cost, s);
+      applied = cut_more _ _ _ _ _ _ c.loop-k.invariant.applied c.run_term-filled.ensures.applied s c.capped_sum-applied.ensures;
+      counted = c.run_term-filled.ensures.counted;
+      len = c.run_term-filled.ensures.len ∙ c.loop-k.invariant.len;
+      size = c.run_term-filled.ensures.slots ∙ c.loop-k.invariant.size;
+      cross = c.run_term-filled.ensures.cross ∙ c.loop-k.invariant.cross;
+      rows = c.run_term-filled.ensures.rows ∙ c.loop-k.invariant.rows;
+    }

@@ -1,0 +1,234 @@
+-- What the code has of a chunk's work, and what is there when a term is computed.
+use Rattle.std.specs.Prelude.{◌≡◌, ◌≢◌, ℕ, zero, suc, ◌+◌, ◌<◌, ◌≤◌, ◌*◌, ◌^◌, Bool, true, false, if◌then◌else◌, ◌==◌, ℤ, pos, ◌<ℤ◌, List, [], ◌∷◌, length, filter_map, take, get_or, Option, Some, None, slice_get, AllPairs}
+use Rattle.pl_spec.specs.Rounding.{IsCell}
+use Rattle.pl_spec.specs.declared.Column.{Column}
+use Rattle.pl_spec.specs.declared.Column.TheVariants.{Close}
+use Rattle.pl_spec.specs.World.{column_number}
+use Rattle.pl_spec.specs.Term as spec
+use Rattle.pl_spec.specs.Term.Input.{BarColumn, TermInput}
+use Rattle.pl_spec.specs.Graph.{contains, columns_at, input_column}
+use Rattle.pl_assets.specs.Labels.{AreLabels}
+use Rattle.pl_cross.specs.Arrays.{HasTexts}
+use Rattle.pl_terms.specs.Checked.{IsChecked, pipeline_of}
+use Rattle.pl_terms.specs.Nodes.{node_of}
+use Rattle.pl_terms.specs.Sorts.{is_windowed}
+use Rattle.pl_model.specs.Worlds.{world_of, PartsMakeAWorld}
+use Rattle.pl_planner.specs.Plans.{IsPlanOf, is_used, slot_of, column_slot}
+use Rattle.pl_values.specs.Arrays.{HasAll, Fills, IsKeep, empty_cell, is_kept}
+use Rattle.pl_adjarray.specs.Buffered.{Buffered, applied_at}
+use Rattle.pl_adjarray.specs.Traversals.{Traversal, advances}
+use Rattle.pl_workspace.specs.Slots.{Slots, Free, slot_at}
+use Rattle.std.specs.Borrow.{Bor}
+use Rattle.pl_exec.specs.declared.job.Job.{Job}
+use Rattle.pl_exec.specs.declared.turn.Turn.{Turn}
+use Rattle.pl_exec.specs.declared.windows.Bars.{Bars}
+use Rattle.pl_exec.specs.Slotted.{IsHeld}
+use Rattle.pl_exec.specs.Tasks.{Task, AreColumns, IsArray, assets_in, cell_in, first_row, graph_in, low_in, row_count, sids_in}
+
+-- what holds of a task throughout
+pub record IsTask (t : Task) : Type 0 where
+  pub checked : IsChecked t.pipeline
+  pub plan : IsPlanOf t.world.days t.pipeline t.plan
+  pub from : t.plan.from ≤ t.from
+  pub order : t.from ≤ t.to
+  pub to : t.to ≤ t.plan.to
+  pub columns : AreColumns t
+  pub up : AllPairs (λ a b. a < b) (sids_in t)
+  pub days : AllPairs (λ a b. a <ℤ b) t.world.days
+  pub texts : HasTexts t.world
+
+abbrev pub task_of : Job → Task
+task_of j = record { world = world_of j.world; pipeline = pipeline_of j.checked.now; plan = j.plan.now; cols = j.cols.now; from = j.from; to = j.to }
+
+pub record IsJob (j : Job) : Type 0 where
+  pub made : PartsMakeAWorld j.world
+  pub labels : AreLabels j.world.labels.now
+  pub few : length j.cols.now ≤ 8000
+  pub fits : j.to < 2 ^ 63
+  pub terms : length (graph_in (task_of j)) ≤ 256
+  pub task : IsTask (task_of j)
+
+-- ---- what is read
+
+-- the array of term u is there, and begins size - 1 sessions before session s or earlier
+pub record IsRead (t : Task) (w : Slots) (s size u : ℕ) : Type 0 where
+  pub known : u < length (graph_in t)
+  pub used : is_used t.plan u ≡ true
+  pub held : IsHeld (IsArray t u) w (slot_of t.plan u)
+  pub some : 1 ≤ size
+  pub early : low_in t u + size ≤ s + 1
+
+-- what the node mentions is there for session s and later ones
+pub record IsReady (t : Task) (w : Slots) (s : ℕ) (n : spec.Node) : Type 0 where
+  pub inputs : (i u : ℕ) → slice_get n.inputs i ≡ Some (TermInput u) → IsRead t w s n.window u
+  pub mask : (u : ℕ) → n.mask ≡ Some u → IsRead t w s 1 u
+  pub group : (u : ℕ) → n.group ≡ Some u → IsRead t w s 1 u
+
+-- all the sessions of term k
+pub record IsRun (t : Task) (w : Slots) (k : ℕ) : Type 0 where
+  pub known : k < length (graph_in t)
+  pub used : is_used t.plan k ≡ true
+  pub ready : (n : spec.Node) → slice_get (graph_in t) k ≡ Some n → IsReady t w (low_in t k) n
+  pub deep : (n : spec.Node) → slice_get (graph_in t) k ≡ Some n → n.window ≤ low_in t k + 1
+
+-- ---- one term on one session
+
+abbrev pub task_at : Turn → Task
+task_at t = task_of t.job.now
+
+abbrev pub node_at : Turn → spec.Node
+node_at t = node_of t.node.now
+
+pub record IsTurn (t : Turn) : Type 0 where
+  pub job : IsJob t.job.now
+  pub node : slice_get (graph_in (task_at t)) t.term.0 ≡ Some (node_at t)
+  pub ready : IsReady (task_at t) t.workspace.now t.session (node_at t)
+  pub late : t.session ≤ t.job.now.to
+  pub deep : (node_at t).window ≤ t.session + 1
+  pub all : HasAll (task_at t).world (sids_in (task_at t)) t.session
+  pub none : t.none ≡ empty_cell (task_at t).pipeline t.term.0
+
+-- who is kept
+abbrev pub IsKept : Turn → List ℤ → Type 0
+IsKept t row = IsKeep (λ i. is_kept (task_at t).world (task_at t).pipeline (sids_in (task_at t)) (node_at t).mask i t.session) (assets_in (task_at t)) row
+
+-- the cells of the term
+abbrev pub IsOut : Turn → List ℤ → Type 0
+IsOut t row = Fills (λ i. cell_in (task_at t) t.term.0 i t.session) (assets_in (task_at t)) row
+
+-- a row of n cells of which the first ones are written
+pub record Begins (f : ℕ → ℤ) (n done : ℕ) (row : List ℤ) : Type 0 where
+  pub long : length row ≡ n
+  pub each : (i : ℕ) → i < done → get_or row i (pos 0) ≡ f i
+  pub cell : (i : ℕ) → i < done → IsCell (f i)
+
+-- the array is written for the first sessions
+pub record IsWritten (f : ℕ → ℕ → ℤ) (assets low count done : ℕ) (old cells : List ℤ) : Type 0 where
+  pub size : length cells ≡ length old
+  pub each : (i t : ℕ) → i < assets → t < done → get_or cells (i * count + t) (pos 0) ≡ f i (low + t)
+  pub cell : (i t : ℕ) → i < assets → t < done → IsCell (f i (low + t))
+
+-- ---- bar columns
+
+abbrev pub unless : Bool → Column → Option Column
+unless b c = if b then None else Some c
+
+abbrev pub is_column : spec.Input → Column → Bool
+is_column (BarColumn d) c = column_number d == column_number c
+is_column (TermInput u) c = false
+
+-- the first place of an input that is the bar column
+abbrev pub place_among : List spec.Input → Column → ℕ
+place_among [] c = 0
+place_among (i ∷ is) c = if is_column i c then 0 else place_among is c + 1
+
+-- the bar columns of the inputs before place p
+abbrev pub columns_before : spec.Node → ℕ → List ℕ
+columns_before n p = filter_map input_column (take p n.inputs)
+
+-- the input in place p where it is a bar column that no input before it is
+abbrev pub new_column : spec.Node → ℕ → Option Column
+new_column n p = new_among (columns_before n p) (slice_get n.inputs p)
+  where
+    new_among : List ℕ → Option spec.Input → Option Column
+    new_among ns None = None
+    new_among ns (Some (TermInput u)) = None
+    new_among ns (Some (BarColumn c)) = unless (contains ns (column_number c)) c
+
+-- the rows of a bar column of term k, for the assets in some columns
+abbrev pub buffered : Job → ℕ → Column → List ℕ → Buffered
+buffered j k c cols =
+    record {
+      days = j.world.sessions.now;
+      bars = j.world.bars.now;
+      adjustments = j.world.adjustments.now;
+      column = c;
+      first = first_row (task_of j) k;
+      rows = row_count (task_of j) k;
+      cols = cols;
+    }
+
+-- the buffer for the input in place p: where that is no new bar column, it is one for no asset
+abbrev pub buffer_for : Job → ℕ → Option Column → Buffered
+buffer_for j k None = buffered j k Close []
+buffer_for j k (Some c) = buffered j k c j.cols.now
+
+abbrev pub buffer_at : Job → ℕ → spec.Node → ℕ → Buffered
+buffer_at j k n p = buffer_for j k (new_column n p)
+
+-- where a traversal stands after so many advances
+abbrev pub stand_at : Buffered → ℕ → ℕ → ℕ
+stand_at b size zero = b.first
+stand_at b size (suc n) = b.first + size + n
+
+abbrev pub traversal_at : Job → ℕ → spec.Node → ℕ → ℕ → Traversal
+traversal_at j k n p m = record { array = buffer_at j k n p; window = n.window; session = stand_at (buffer_at j k n p) n.window m }
+
+-- the traversals of the places after so many advances
+pub record AreBars (j : Job) (k : ℕ) (n : spec.Node) (m : ℕ) (b : Bars) : Type 0 where
+  pub first : b.first ≡ traversal_at j k n 0 m
+  pub second : b.second ≡ traversal_at j k n 1 m
+  pub third : b.third ≡ traversal_at j k n 2 m
+
+abbrev pub place_in : Bars → ℕ → Traversal
+place_in b zero = b.first
+place_in b (suc zero) = b.second
+place_in b (suc (suc p)) = b.third
+
+-- where a traversal stands after one advance more
+abbrev pub advanced : Traversal → Traversal
+advanced v = record { array = v.array; window = v.window; session = v.array.first + v.window + advances v }
+
+abbrev pub counted : Bars → ℕ
+counted b = applied_at b.first.array b.first.session + applied_at b.second.array b.second.session + applied_at b.third.array b.third.session
+
+abbrev pub GoesOn : Traversal → Type 0
+GoesOn v = advances v + v.window ≤ v.array.rows
+
+pub record HasBarsAt (j : Job) (k : ℕ) (n : spec.Node) (s : ℕ) (b : Bars) : Type 0 where
+  pub advances : ℕ
+  pub bars : AreBars j k n (suc advances) b
+  pub at : s ≡ low_in (task_of j) k + advances
+  pub deep : n.window ≤ low_in (task_of j) k
+
+-- the traversals stand on session s; there are none where no input is a bar column
+abbrev pub HasBars : Job → ℕ → spec.Node → ℕ → Option Bars → Type 0
+HasBars j k n s None = (p : ℕ) (c : Column) → slice_get n.inputs p ≡ Some (BarColumn c) → ⊥
+HasBars j k n s (Some b) = HasBarsAt j k n s b
+
+abbrev pub bars_now : Option (Bor Bars) → Option Bars
+bars_now None = None
+bars_now (Some b) = Some b.now
+
+-- ---- the slots of bar columns
+
+abbrev pub one_new : Option Column → ℕ
+one_new None = 0
+one_new (Some c) = 1
+
+-- how many new bar columns there are from the third, the second and the first place on
+abbrev pub new_third : spec.Node → ℕ
+new_third n = one_new (new_column n 2)
+
+abbrev pub new_second : spec.Node → ℕ
+new_second n = one_new (new_column n 1) + new_third n
+
+abbrev pub new_first : spec.Node → ℕ
+new_first n = one_new (new_column n 0) + new_second n
+
+-- the slots of the bar columns from the i-th on are free
+abbrev pub AreFree : Task → Slots → ℕ → ℕ → Type 0
+AreFree t w k i = (m : ℕ) → i ≤ m → m < columns_at (graph_in t) k → (column_slot t.plan k m < length w.slots) × (slot_at w (column_slot t.plan k m) ≡ Free)
+
+-- a row for each session of the buffer and each asset, where the place has a new bar column
+abbrev pub HasRows : Task → ℕ → spec.Node → ℕ → List ℤ → Type 0
+HasRows t k n p cells = new_column n p ≢ None → assets_in t * row_count t k ≤ length cells
+
+-- a formula over bar columns, computed for all its sessions
+pub record IsColumnRun (j : Job) (w : Slots) (k : ℕ) (n : spec.Node) : Type 0 where
+  pub job : IsJob j
+  pub run : IsRun (task_of j) w k
+  pub node : slice_get (graph_in (task_of j)) k ≡ Some n
+  pub kind : is_windowed n.kind ≡ true
+  pub some : 1 ≤ n.window
+  pub deep : n.window ≤ low_in (task_of j) k

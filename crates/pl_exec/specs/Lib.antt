@@ -1,0 +1,5 @@
+pub mod Chunks
+pub mod Jobs
+pub mod RowsInside
+pub mod Slotted
+pub mod Tasks

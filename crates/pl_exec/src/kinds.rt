@@ -1,0 +1,166 @@
+//! The cells of one term on one session, family by family of kinds.
+ghost use Rattle.std.specs.Prelude.{◌≡◌, ◌+◌, ◌<◌, ◌≤◌, ℕ, true, All, Some, length, option_map, pos, get_or, slice_get};
+ghost use Rattle.pl_spec.specs.Rounding.{IsCell};
+ghost use Rattle.pl_spec.specs.Kind.{Kind};
+ghost use Rattle.pl_spec.specs.Kind.Kind.{Constant, Label};
+ghost use Rattle.pl_terms.specs.Kinds.{kind_of};
+ghost use Rattle.pl_cross.specs.Section.{is_section};
+ghost use Rattle.pl_values.specs.Families.{IsOf, is_label_test, is_point, is_sids};
+ghost use Rattle.pl_exec.specs.Tasks.{assets_in};
+ghost use Rattle.std.specs.Prelude.{None};
+ghost use Rattle.pl_exec.specs.Jobs.{HasBars, IsKept, IsOut, IsTurn, node_at, task_at};
+
+use crate::job::{group_of, input_at, kind_of};
+use crate::turn::{Turn, input_row, pick, term_row};
+use crate::windows::window_row;
+use pl_cross::Cross;
+use pl_pointwise::pointwise;
+use pl_values::{
+    Family, family_of, keep_values, label_test_value, label_value, section_values, sids_value,
+};
+
+fn constant_row(turn: &Turn<'_>, value: i64, keep: &[i64], out: &mut [i64])
+    requires turn { IsTurn turn.now }
+    requires kind { (node_at turn.now).kind ≡ Constant value }
+    requires keep { IsKept turn.now keep.now }
+    requires long { length out.old ≡ assets_in (task_at turn.now) }
+    ensures { IsOut turn.now out.new }
+{
+    for i in 0..out.len() {
+        out[i] = pick(keep[i], value, turn.none);
+    }
+}
+
+fn sids_row(turn: &Turn<'_>, keep: &[i64], out: &mut [i64])
+    requires turn { IsTurn turn.now }
+    requires kind { is_sids (node_at turn.now).kind ≡ true }
+    requires keep { IsKept turn.now keep.now }
+    requires long { length out.old ≡ assets_in (task_at turn.now) }
+    ensures { IsOut turn.now out.new }
+{
+    let job = turn.job;
+    for i in 0..out.len() {
+        let sid = job.world.assets.sid(job.cols[i] as usize);
+        out[i] = pick(keep[i], sids_value(kind_of(turn.node), sid), turn.none);
+    }
+}
+
+// Labels by their codes; `name` is the number of the label's name.
+fn label_row(turn: &Turn<'_>, name: u32, keep: &[i64], out: &mut [i64])
+    requires turn { IsTurn turn.now }
+    requires kind { (node_at turn.now).kind ≡ Label name }
+    requires keep { IsKept turn.now keep.now }
+    requires long { length out.old ≡ assets_in (task_at turn.now) }
+    ensures { IsOut turn.now out.new }
+{
+    let job = turn.job;
+    let labels = job.world.labels;
+    let day = job.world.sessions.day(turn.session);
+    let name = job.checked.label_name(name);
+    let number = labels.name_of(name);
+    for i in 0..out.len() {
+        let code = label_value(labels, name, number, job.cols[i] as usize, day);
+        out[i] = pick(keep[i], code, turn.none);
+    }
+}
+
+fn label_test_row(turn: &Turn<'_>, codes: &mut [i64], keep: &[i64], out: &mut [i64])
+    requires turn { IsTurn turn.now }
+    requires kind { is_label_test (node_at turn.now).kind ≡ true }
+    requires codes { length codes.old ≡ assets_in (task_at turn.now) }
+    requires keep { IsKept turn.now keep.now }
+    requires long { length out.old ≡ assets_in (task_at turn.now) }
+    ensures { IsOut turn.now out.new }
+{
+    input_row(turn, 0, codes);
+    let job = turn.job;
+    let labels = job.world.labels;
+    for i in 0..out.len() {
+        let flag = label_test_value(kind_of(turn.node), labels, codes[i]);
+        out[i] = pick(keep[i], flag, turn.none);
+    }
+}
+
+fn point_row(
+    turn: &Turn<'_>,
+    first: &mut [i64],
+    second: &mut [i64],
+    third: &mut [i64],
+    keep: &[i64],
+    out: &mut [i64],
+)
+    requires turn { IsTurn turn.now }
+    requires kind { is_point (node_at turn.now).kind ≡ true }
+    requires first { length first.old ≡ assets_in (task_at turn.now) }
+    requires second { length second.old ≡ assets_in (task_at turn.now) }
+    requires third { length third.old ≡ assets_in (task_at turn.now) }
+    requires keep { IsKept turn.now keep.now }
+    requires long { length out.old ≡ assets_in (task_at turn.now) }
+    ensures { IsOut turn.now out.new }
+{
+    input_row(turn, 0, first);
+    input_row(turn, 1, second);
+    input_row(turn, 2, third);
+    pointwise(kind_of(turn.node), first, second, third, out);
+    keep_values(keep, turn.none, out);
+}
+
+fn section_row(
+    turn: &Turn<'_>,
+    cross: &mut Cross,
+    values: &mut [i64],
+    groups: &mut [i64],
+    keep: &[i64],
+    out: &mut [i64],
+)
+    requires turn { IsTurn turn.now }
+    requires kind { is_section (node_at turn.now).kind ≡ true }
+    requires cross { assets_in (task_at turn.now) ≤ cross.old }
+    requires values { length values.old ≡ assets_in (task_at turn.now) }
+    requires groups { length groups.old ≡ assets_in (task_at turn.now) }
+    requires keep { IsKept turn.now keep.now }
+    requires long { length out.old ≡ assets_in (task_at turn.now) }
+    ensures out { IsOut turn.now out.new }
+    ensures cross { cross.new ≡ cross.old }
+{
+    input_row(turn, 0, values);
+    match group_of(turn.node) {
+        Some(group) => {
+            term_row(turn, group, groups);
+            section_values(kind_of(turn.node), cross, values, keep, Some(groups), out);
+        }
+        None => section_values(kind_of(turn.node), cross, values, keep, None, out),
+    }
+}
+
+/// The cells of the term on the session; its inputs are no bar columns.
+pub(crate) fn kind_row(
+    turn: &Turn<'_>,
+    cross: &mut Cross,
+    first: &mut [i64],
+    second: &mut [i64],
+    third: &mut [i64],
+    keep: &[i64],
+    out: &mut [i64],
+)
+    requires turn { IsTurn turn.now }
+    requires cross { assets_in (task_at turn.now) ≤ cross.old }
+    requires first { length first.old ≡ assets_in (task_at turn.now) }
+    requires second { length second.old ≡ assets_in (task_at turn.now) }
+    requires third { length third.old ≡ assets_in (task_at turn.now) }
+    requires keep { IsKept turn.now keep.now }
+    requires long { length out.old ≡ assets_in (task_at turn.now) }
+    requires bars { HasBars turn.now.job.now turn.now.term.0 (node_at turn.now) turn.now.session None }
+    ensures out { IsOut turn.now out.new }
+    ensures cross { cross.new ≡ cross.old }
+{
+    match family_of(kind_of(turn.node)) {
+        Family::Constant(value) => constant_row(turn, value, keep, out),
+        Family::Label(name) => label_row(turn, name, keep, out),
+        Family::Sids => sids_row(turn, keep, out),
+        Family::Window => window_row(turn, None, keep, out),
+        Family::Point => point_row(turn, first, second, third, keep, out),
+        Family::LabelTest => label_test_row(turn, first, keep, out),
+        Family::Section => section_row(turn, cross, first, second, keep, out),
+    }
+}

@@ -1,0 +1,18 @@
+//! The used terms of a pipeline over the sessions of one chunk: each in its planned slot, from the bars and from
+//! the arrays of the terms that it mentions, which are released after their last user.
+#![tactic(auto)]
+
+mod chunk;
+mod columns;
+mod compute;
+mod fill;
+mod job;
+mod kinds;
+mod rows;
+#[cfg(test)]
+mod tests;
+mod turn;
+mod windows;
+
+pub use chunk::{Chunk, ChunkReport, execute_chunk};
+pub use rows::Rows;

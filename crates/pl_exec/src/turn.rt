@@ -1,0 +1,135 @@
+//! One term on one session: what it reads there, and for whom it is computed.
+ghost use Rattle.std.specs.Prelude.{◌≡◌, ◌+◌, ◌<◌, ◌≤◌, ◌&&◌, ℕ, All, Some, length, option_map, pos, get_or, slice_get};
+ghost use Rattle.pl_spec.specs.Rounding.{IsCell};
+ghost use Rattle.pl_spec.specs.Formula.{is_true, truth};
+ghost use Rattle.pl_spec.specs.World.{exists};
+ghost use Rattle.pl_terms.specs.Nodes.{input_of};
+ghost use Rattle.pl_cross.specs.Arrays.{sid_in};
+ghost use Rattle.pl_values.specs.Arrays.{Fills, IsKeep, chosen, window_up_to};
+ghost use Rattle.pl_values.specs.Inputs.{IsInputRow};
+ghost use Rattle.pl_exec.specs.Tasks.{assets_in, cell_in, sids_in};
+ghost use Rattle.pl_exec.specs.Jobs.{IsKept, IsRead, IsTurn, node_at, task_at};
+
+use crate::job::{Job, array_of, cells_before, input_at, mask_of, window_of};
+use pl_terms::{Input, Node, TermId};
+use pl_workspace::Workspace;
+
+/// Term `term`, which is `node`, on a session; `none` is its empty value.
+#[derive(Clone, Copy)]
+pub(crate) struct Turn<'t> {
+    pub(crate) job: &'t Job<'t>,
+    pub(crate) term: TermId,
+    pub(crate) node: &'t Node,
+    pub(crate) session: usize,
+    pub(crate) workspace: &'t Workspace,
+    pub(crate) none: i64,
+}
+
+/// A term's cell where an asset is kept, and else the empty value.
+pub(crate) fn pick(keep: i64, cell: i64, none: i64) -> i64
+    ensures { result ≡ chosen (is_true keep) cell none }
+{
+    if keep == 1 { cell } else { none }
+}
+
+/// Is a cell 1?
+pub(crate) fn is_one(cell: i64) -> bool
+    ensures { result ≡ is_true cell }
+{
+    cell == 1
+}
+
+/// 1 for true, 0 for false.
+fn truth_of(holds: bool) -> i64
+    ensures { result ≡ truth holds }
+{
+    if holds { 1 } else { 0 }
+}
+
+// Does the asset in a place exist on the session?
+fn exists(turn: &Turn<'_>, i: usize) -> bool
+    requires turn { IsTurn turn.now }
+    requires asset { i < assets_in (task_at turn.now) }
+    ensures { result ≡ exists (task_at turn.now).world (sid_in (sids_in (task_at turn.now)) i) (pos turn.now.session) }
+{
+    let job = turn.job;
+    let day = job.world.sessions.day(turn.session);
+    job.world.assets.exists(job.cols[i] as usize, day)
+}
+
+// Who exists on the session.
+fn existing_row(turn: &Turn<'_>, keep: &mut [i64])
+    requires turn { IsTurn turn.now }
+    requires long { length keep.old ≡ assets_in (task_at turn.now) }
+    ensures { IsKeep (λ i. exists (task_at turn.now).world (sid_in (sids_in (task_at turn.now)) i) (pos turn.now.session)) (assets_in (task_at turn.now)) keep.new }
+{
+    for i in 0..keep.len() {
+        keep[i] = truth_of(exists(turn, i));
+    }
+}
+
+// Who passes a mask too.
+fn masked_row(mask: &[i64], keep: &mut [i64])
+    requires { length mask.now ≡ length keep.old }
+    ensures length { length keep.new ≡ length keep.old }
+    ensures each { (i : ℕ) → i < length keep.old → is_true (get_or keep.new i (pos 0)) ≡ (is_true (get_or keep.old i (pos 0)) && is_true (get_or mask.now i (pos 0))) }
+{
+    for i in 0..keep.len() {
+        keep[i] = pick(mask[i], keep[i], 0);
+    }
+}
+
+/// The cells of a term that is read on the session.
+pub(crate) fn term_row(turn: &Turn<'_>, term: TermId, row: &mut [i64])
+    requires turn { IsTurn turn.now }
+    requires read { IsRead (task_at turn.now) turn.now.workspace.now turn.now.session 1 term.0 }
+    requires long { length row.old ≡ assets_in (task_at turn.now) }
+    ensures { Fills (λ i. cell_in (task_at turn.now) term.0 i turn.now.session) (assets_in (task_at turn.now)) row.new }
+{
+    let array = array_of(turn.job, turn.workspace, term);
+    let at = turn.session - array.low;
+    for i in 0..row.len() {
+        row[i] = array.cells[i * array.count + at];
+    }
+}
+
+/// Who is kept: who exists on the session and passes the term's mask. The row `mask` is for the mask's cells.
+pub(crate) fn keep_row(turn: &Turn<'_>, mask: &mut [i64], keep: &mut [i64])
+    requires turn { IsTurn turn.now }
+    requires mask { length mask.old ≡ assets_in (task_at turn.now) }
+    requires long { length keep.old ≡ assets_in (task_at turn.now) }
+    ensures mask { length mask.new ≡ length mask.old }
+    ensures keep { IsKept turn.now keep.new }
+{
+    existing_row(turn, keep);
+    if let Some(term) = mask_of(turn.node) {
+        term_row(turn, term, mask);
+        masked_row(mask, keep);
+    }
+}
+
+/// The cells of an input that is a term; any other input leaves the row.
+pub(crate) fn input_row(turn: &Turn<'_>, place: usize, row: &mut [i64])
+    requires turn { IsTurn turn.now }
+    requires long { length row.old ≡ assets_in (task_at turn.now) }
+    ensures long { length row.new ≡ length row.old }
+    ensures row { IsInputRow (task_at turn.now).world (task_at turn.now).pipeline (sids_in (task_at turn.now))
+        (assets_in (task_at turn.now)) (slice_get (node_at turn.now).inputs place) turn.now.session row.new }
+{
+    if let Some(Input::Term(term)) = input_at(turn.node, place) {
+        term_row(turn, term, row);
+    }
+}
+
+/// The cells of a term over the sessions up to this one, as many as the window has.
+pub(crate) fn term_window<'t>(turn: &Turn<'t>, term: TermId, i: usize) -> &'t [i64]
+    requires turn { IsTurn turn.now }
+    requires read { IsRead (task_at turn.now) turn.now.workspace.now turn.now.session (node_at turn.now).window term.0 }
+    requires asset { i < assets_in (task_at turn.now) }
+    ensures value { result.now ≡ window_up_to (cell_in (task_at turn.now) term.0 i) (node_at turn.now).window turn.now.session }
+    ensures cells { All IsCell result.now }
+{
+    let array = array_of(turn.job, turn.workspace, term);
+    let end = i * array.count + (turn.session - array.low) + 1;
+    cells_before(array.cells, end, window_of(turn.node))
+}

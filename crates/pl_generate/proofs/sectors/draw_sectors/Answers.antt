@@ -1,0 +1,40 @@
+use Rattle.std.proofs.Common.{◌≡◌, ◌∙◌, ap, sym, arith, ℕ, FitsSigned, w32, rules}
+use Rattle.std.proofs.lemmas.Int.{to_z-of_z}
+use Rattle.pl_assets.specs.Labels.{table_of}
+use Rattle.pl_generate.specs.Draws.{next_state, number_at}
+use Rattle.pl_generate.specs.StatedWorld.{sector}
+use Rattle.pl_generate.proofs.Assets.{has-sid}
+use Rattle.pl_generate.proofs.Grids.{map-more}
+use Rattle.pl_generate.proofs.Sequences.{behind-none, behind-next}
+use Rattle.pl_generate.proofs.SectorRows.{none-yet, sectors-all, sector-row, sector-follows}
+use Rattle.pl_generate.proofs.sectors.draw_sectors.Goals as goal
+
+pub loop-col-init : goal.loop-col-init
+loop-col-init c = record { labels = c.none-labels.ensures ∙ none-yet; draws = sym (behind-none c.args.draws.now) }
+
+pub add-requires-clause-asset : goal.add-requires-clause-asset
+add-requires-clause-asset c = rw c.requires.assets (has-sid c.loop-col.col (omega arith))
+
+pub add-requires-clause-row : goal.add-requires-clause-row
+add-requires-clause-row c =
+    let fits : FitsSigned w32 c.args.start = search rules in
+    let state = c.draw.ensures.state ∙ ap next_state c.loop-col.invariant.draws ∙ sym (behind-next c.args.draws.now c.loop-col.col) in
+    let digit = c.draw.ensures.number ∙ ap (λ (s : ℕ). number_at s 10) state in
+    let row = sector-row c.args.draws.now c.loop-col.col c.draw.result _ (omega arith) (to_z-of_z w32 _ fits ∙ c.requires.start) digit in
+    rw (c.loop-col.invariant.labels, c.requires.assets, row) (sector-follows c.args.draws.now c.loop-col.col (omega arith))
+
+pub loop-col-preserved : goal.loop-col-preserved
+loop-col-preserved c =
+    let fits : FitsSigned w32 c.args.start = search rules in
+    let state = c.draw.ensures.state ∙ ap next_state c.loop-col.invariant.draws ∙ sym (behind-next c.args.draws.now c.loop-col.col) in
+    let digit = c.draw.ensures.number ∙ ap (λ (s : ℕ). number_at s 10) state in
+    let row = sector-row c.args.draws.now c.loop-col.col c.draw.result _ (omega arith) (to_z-of_z w32 _ fits ∙ c.requires.start) digit in
+    record {
+      labels = c.in_ok-add.ensures.row ∙ ap table_of (rw (c.loop-col.invariant.labels, c.requires.assets, row) (sym (map-more (sector c.args.draws.now) c.loop-col.col)));
+      draws = state;
+    }
+
+pub returns-clause-labels : goal.returns-clause-labels
+returns-clause-labels c =
+    let all : c.loop-col.col ≡ 400 = omega arith in
+    rw (c.loop-col.invariant.labels, all) (ap table_of (sectors-all c.args.draws.now))

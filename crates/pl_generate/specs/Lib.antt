@@ -1,0 +1,3 @@
+-- The stated world.
+pub mod Draws
+pub mod StatedWorld

@@ -1,0 +1,52 @@
+//! The stated world: a large world that anyone can make anew from a number, for measures of a run.
+//!
+//! It has 400 assets over 600 weekdays from 2020-01-01 on, a sector for each asset, a bar for each asset and session,
+//! and 300 adjustments. All that varies is drawn by a linear congruential generator whose state begins with the
+//! number. The world is this project's own, and no market's.
+#![tactic(auto)]
+
+ghost use Rattle.std.specs.Prelude.{◌≡◌, IfOk};
+ghost use Rattle.pl_model.specs.Worlds.{AreMadeFor};
+ghost use Rattle.pl_generate.specs.StatedWorld.{IsStated, owned_world, stated_world};
+
+mod adjusts;
+mod bars;
+mod draws;
+mod sectors;
+mod sessions;
+#[cfg(test)]
+mod tests;
+
+use draws::Draws;
+use pl_fixed::Memory;
+use pl_model::OwnedWorld;
+use std::alloc::Global;
+
+/// How many assets there are; their sids are 1, 2 and so on.
+pub const ASSETS: u32 = 400;
+
+/// How many sessions there are.
+pub const SESSIONS: u32 = 600;
+
+/// The stated world of a number.
+pub fn make_world(alloc: Global, number: u32) -> Result<OwnedWorld, Memory>
+    ensures stated { IfOk result (IsStated number) }
+    ensures world { IfOk result (λ w. owned_world w ≡ stated_world number) }
+    // Its parts were made for its own sessions and assets.
+    ensures made { IfOk result (λ w.
+        AreMadeFor w.sessions w.assets w.labels.rows w.bars w.adjustments) }
+{
+    let sessions = sessions::make_sessions(alloc)?;
+    let assets = sessions::make_assets(alloc, &sessions)?;
+    let mut draws = Draws::new(number);
+    let labels = sectors::draw_sectors(alloc, &assets, sessions.day(0), &mut draws)?;
+    let bars = bars::draw_bars(alloc, &mut draws)?;
+    let adjustments = adjusts::draw_adjustments(alloc, &sessions, &assets, &mut draws)?;
+    Ok(OwnedWorld {
+        sessions,
+        assets,
+        labels,
+        bars,
+        adjustments,
+    })
+}

@@ -1,0 +1,75 @@
+use Rattle.std.proofs.Common.{◌≡◌, ◌+◌, ◌-◌, length, sym, ◌∙◌, subst, arith}
+use Rattle.std.proofs.lemmas.Nat.{mul-le}
+use Rattle.pl_values.proofs.Texts.{texts-coded}
+use Rattle.pl_chunks.specs.Chunks.{columns_of}
+use Rattle.pl_model.specs.Worlds.{world_of}
+use Rattle.pl_terms.specs.Checked.{pipeline_of}
+use Rattle.pl_exec.specs.Tasks.{HoldsOutputs}
+use Rattle.pl_runner.proofs.ChunkWork as work
+use Rattle.pl_runner.proofs.run.write_chunk.Goals as goal
+
+pub execute_chunk-report-requires-clause-cols : goal.execute_chunk-report-requires-clause-cols
+execute_chunk-report-requires-clause-cols g c =
+    let w = world_of c.args.world.now in
+    let p = pipeline_of c.args.checked.now in
+    work.are-columns c.args.world.now.sessions.now w p c.args.plan.now c.args.chunk c.graph-checked.ensures.checked c.requires.plan c.requires.from c.requires.order c.requires.to c.deref.result.now (c.deref.ensures.value ∙ c.put_columns.ensures.cols) c.parts_make_a_world.ensures.world.sids_ascend
+
+pub execute_chunk-report-requires-clause-cross : goal.execute_chunk-report-requires-clause-cross
+execute_chunk-report-requires-clause-cross g c =
+    let w = world_of c.args.world.now in
+    let p = pipeline_of c.args.checked.now in
+    let few = work.few-columns c.args.world.now.sessions.now w p c.args.plan.now c.args.chunk c.graph-checked.ensures.checked c.requires.plan c.requires.from c.requires.order c.requires.to c.deref.result.now (c.deref.ensures.value ∙ c.put_columns.ensures.cols) in
+    omega (arith, few, c.requires.desk.cross)
+
+pub execute_chunk-report-requires-clause-rows : goal.execute_chunk-report-requires-clause-rows
+execute_chunk-report-requires-clause-rows g c =
+    let w = world_of c.args.world.now in
+    let p = pipeline_of c.args.checked.now in
+    let few = work.few-columns c.args.world.now.sessions.now w p c.args.plan.now c.args.chunk c.graph-checked.ensures.checked c.requires.plan c.requires.from c.requires.order c.requires.to c.deref.result.now (c.deref.ensures.value ∙ c.put_columns.ensures.cols) in
+    omega (arith, few, c.requires.desk.rows)
+
+pub execute_chunk-report-requires-clause-room : goal.execute_chunk-report-requires-clause-room
+execute_chunk-report-requires-clause-room g c =
+    let w = world_of c.args.world.now in
+    let p = pipeline_of c.args.checked.now in
+    work.has-room c.args.world.now.sessions.now w p c.args.plan.now c.args.chunk c.graph-checked.ensures.checked c.requires.plan c.requires.from c.requires.order c.requires.to c.deref.result.now (c.deref.ensures.value ∙ c.put_columns.ensures.cols) c.args.desk.now.workspace.len c.requires.desk.room
+
+pub write_rows-requires-clause-outcome : goal.write_rows-requires-clause-outcome
+write_rows-requires-clause-outcome g c =
+    let w = world_of c.args.world.now in
+    let p = pipeline_of c.args.checked.now in
+    let own : c.deref-2.result.now ≡ columns_of w p c.args.plan.now c.args.chunk = c.deref-2.ensures.value ∙ c.put_columns.ensures.cols in
+    let same : c.deref.result.now ≡ c.deref-2.result.now = c.deref.ensures.value ∙ sym c.deref-2.ensures.value in
+    let up = c.parts_make_a_world.ensures.world.sids_ascend in
+    let cols = work.are-columns c.args.world.now.sessions.now w p c.args.plan.now c.args.chunk c.graph-checked.ensures.checked c.requires.plan c.requires.from c.requires.order c.requires.to c.deref-2.result.now own up in
+    let there = work.all-there c.args.world.now.sessions.now w p c.args.plan.now c.args.chunk c.graph-checked.ensures.checked c.requires.plan c.requires.from c.requires.order c.requires.to c.deref-2.result.now own up in
+    let world = c.args.world.now in
+    let outputs = subst (λ cs. HoldsOutputs (work.work w p c.args.plan.now cs c.args.chunk) c.execute_chunk-report.new.workspace) same c.execute_chunk-report.ensures.outputs in
+    record {
+      checked = c.graph-checked.ensures.checked;
+      plan = c.requires.plan;
+      from = c.requires.from;
+      order = c.requires.order;
+      to = c.requires.to;
+      fits = omega (arith, c.requires.to, c.requires.plan.within, c.len-sessions.ensures.length, c.len-sessions.ensures.few);
+      cols = cols.within;
+      all = there;
+      texts = texts-coded world.sessions.now world.assets.now world.labels.now world.bars.now world.adjustments.now c.len-labels.ensures.labels;
+      arrays = λ t out. let a = outputs.arrays t out in record { cells = a.cells; live = a.is; holds = a.holds };
+    }
+
+pub write_rows-requires-clause-few : goal.write_rows-requires-clause-few
+write_rows-requires-clause-few g c =
+    let w = world_of c.args.world.now in
+    let p = pipeline_of c.args.checked.now in
+    let few = work.few-columns c.args.world.now.sessions.now w p c.args.plan.now c.args.chunk c.graph-checked.ensures.checked c.requires.plan c.requires.from c.requires.order c.requires.to c.deref-2.result.now (c.deref-2.ensures.value ∙ c.put_columns.ensures.cols) in
+    let m = mul-le (c.args.chunk.to + 1 - c.args.chunk.from) (length c.deref-2.result.now) (c.args.chunk.to + 1 - c.args.chunk.from) (length c.args.world.now.assets.now) (omega arith) few in
+    omega (arith, m, c.requires.few)
+
+pub returns-clause-few : goal.returns-clause-few
+returns-clause-few g c =
+    let w = world_of c.args.world.now in
+    let p = pipeline_of c.args.checked.now in
+    let few = work.few-columns c.args.world.now.sessions.now w p c.args.plan.now c.args.chunk c.graph-checked.ensures.checked c.requires.plan c.requires.from c.requires.order c.requires.to c.deref-2.result.now (c.deref-2.ensures.value ∙ c.put_columns.ensures.cols) in
+    let m = mul-le (c.args.chunk.to + 1 - c.args.chunk.from) (length c.deref-2.result.now) (c.args.chunk.to + 1 - c.args.chunk.from) (length c.args.world.now.assets.now) (omega arith) few in
+    omega (arith, m, c.in_ok-write_rows.ensures.few)

@@ -1,0 +1,226 @@
+//! The table of a plan's range, chunk by chunk.
+ghost use Rattle.std.specs.Prelude.{◌≡◌, ◌≤◌, ◌<◌, ◌+◌, ◌-◌, ◌*◌, ◌^◌, ◌++◌, ◌⊎◌, pos, ◌+ℤ◌, length, max, IfOk, OnOk, IsErrOf};
+ghost use Rattle.pl_spec.specs.Graph.{bound};
+ghost use Rattle.pl_spec.specs.Table.{table};
+ghost use Rattle.pl_spec.specs.Text.{text};
+ghost use Rattle.pl_outside.specs.Taken.{Writes};
+ghost use Rattle.pl_model.specs.Worlds.{IsMade, world_of};
+ghost use Rattle.pl_terms.specs.Checked.{pipeline_of};
+ghost use Rattle.pl_terms.specs.Uses.{outputs};
+ghost use Rattle.pl_planner.specs.Plans.{IsPlanOf};
+ghost use Rattle.pl_table.specs.Outcomes.{lines, rows_of_sessions};
+ghost use Rattle.pl_table.specs.Sums.{rows_sum};
+ghost use Rattle.pl_chunks.specs.declared.pieces.Chunk.{Chunk};
+ghost use Rattle.pl_exec.specs.Tasks.{cut};
+ghost use Rattle.pl_runner.specs.Desks.{IsDesk, IsDeskFor};
+ghost use Rattle.pl_runner.specs.Runs.{IsReport, run_steps, steps_of_chunk};
+ghost use Rattle.pl_runner.specs.declared.run.RunError.TheVariants as RunError;
+
+use crate::desk::Desk;
+use crate::release::release_outputs;
+use pl_chunks::{Chunk, chunk_at, chunk_count, put_columns};
+use pl_exec::{Chunk as Sessions, ChunkReport, execute_chunk};
+use pl_fixed::{Memory, Steps};
+use pl_model::World;
+use pl_model::laws::parts_make_a_world;
+use pl_outside::{Failed, Sink, write_bytes};
+use pl_planner::Plan;
+use pl_spec::Format;
+use pl_table::{Outcome, Totals, make_header, write_rows};
+use pl_terms::Checked;
+use std::alloc::{AllocError, Global};
+use std::sync::ledger::Ledger;
+
+/// What a run did: how many rows it wrote, the sum of their cells modulo 2^64, in which missing ones count 0, the greatest number
+/// of arrays that were held at once, and how many adjustments were applied to buffered bars.
+#[derive(Clone, Copy, Debug, PartialEq, Eq)]
+pub struct RunReport {
+    pub rows: u64,
+    pub cells: u64,
+    pub peak: usize,
+    pub applied: u64,
+}
+
+/// Why a run ended early: the sink counted a fault, or no memory was found, which comes only before the first byte.
+#[derive(Clone, Copy, Debug, PartialEq, Eq)]
+pub enum RunError {
+    WriteFault,
+    Memory,
+}
+
+impl From<AllocError> for RunError {
+    ghost use Rattle.pl_runner.specs.declared.run.RunError.TheVariants.{Memory};
+
+    ghost from_gives = { λ _ e. e ≡ Memory };
+
+    fn from(_refused: AllocError) -> RunError {
+        RunError::Memory
+    }
+}
+
+impl From<Memory> for RunError {
+    ghost use Rattle.pl_runner.specs.declared.run.RunError.TheVariants.{Memory};
+
+    ghost from_gives = { λ _ e. e ≡ Memory };
+
+    fn from(_refused: Memory) -> RunError {
+        RunError::Memory
+    }
+}
+
+/// Writes the table of a plan's range, the header and each row in one piece. The sessions are computed in chunks of `chunk`,
+/// the last one perhaps shorter; all memory is taken before the first byte.
+pub fn run_table<O: Sink, L: Ledger>(
+    alloc: Global,
+    world: &World<'_>,
+    checked: &Checked,
+    plan: &Plan,
+    chunk: usize,
+    format: Format,
+    out: &mut O,
+    steps: &mut Steps<L>,
+) -> Result<RunReport, RunError>
+    requires made { IsMade world.now }
+    requires plan { IsPlanOf world.now.sessions.now (pipeline_of checked.now) plan.now }
+    requires some { 1 ≤ chunk }
+    requires most { chunk ≤ 4096 }
+    // Where memory is wanted nothing was written; else the text of the table is.
+    ensures writes { IsErrOf result RunError.Memory ⊎ Writes O.taken O.faults O.sound O.room out.old out.new
+        (text (world_of world.now) (pipeline_of checked.now) format
+        (table (world_of world.now) (pipeline_of checked.now) plan.now.from plan.now.to)) result }
+    ensures memory { IsErrOf result RunError.Memory → (out.new ≡ out.old) × (steps.new ≡ steps.old) }
+    ensures report { IfOk result (IsReport (world_of world.now) (pipeline_of checked.now) plan.now chunk) }
+    ensures cost { OnOk result (steps.new ≡ steps.old + run_steps (world_of world.now) (pipeline_of checked.now) plan.now chunk) }
+    ensures at_most { steps.new ≤ steps.old + run_steps (world_of world.now) (pipeline_of checked.now) plan.now chunk }
+{
+    let header = make_header(alloc, checked, format)?;
+    let mut desk = Desk::reserve(alloc, world, checked, plan, chunk)?;
+    match write_all(
+        world, checked, plan, chunk, format, &header, &mut desk, out, steps,
+    ) {
+        Ok(report) => Ok(report),
+        Err(_) => Err(RunError::WriteFault),
+    }
+}
+
+// Writes the header and the rows of all chunks.
+fn write_all<O: Sink, L: Ledger>(
+    world: &World<'_>,
+    checked: &Checked,
+    plan: &Plan,
+    size: usize,
+    format: Format,
+    header: &[u8],
+    desk: &mut Desk,
+    out: &mut O,
+    steps: &mut Steps<L>,
+) -> Result<RunReport, Failed>
+    requires made { IsMade world.now }
+    requires plan { IsPlanOf world.now.sessions.now (pipeline_of checked.now) plan.now }
+    requires some { 1 ≤ size }
+    requires few { size ≤ 4096 }
+    requires desk { IsDesk (world_of world.now) (pipeline_of checked.now) plan.now size desk.old }
+    ensures writes { Writes O.taken O.faults O.sound O.room out.old out.new
+        (header.now ++ lines (world_of world.now) (pipeline_of checked.now) format
+        (table (world_of world.now) (pipeline_of checked.now) plan.now.from plan.now.to)) result }
+    ensures report { IfOk result (IsReport (world_of world.now) (pipeline_of checked.now) plan.now size) }
+    ensures cost { OnOk result (steps.new ≡ steps.old + run_steps (world_of world.now) (pipeline_of checked.now) plan.now size) }
+    ensures at_most { steps.new ≤ steps.old + run_steps (world_of world.now) (pipeline_of checked.now) plan.now size }
+{
+    // what a world keeps by itself
+    let _sessions = world.sessions.len();
+    let _assets = world.assets.len();
+    write_bytes(out, header)?;
+    let mut totals = Totals::none();
+    let mut applied = 0u64;
+    let mut peak = 0;
+    for i in 0..chunk_count(plan.from(), plan.to(), size) {
+        let chunk = chunk_at(plan.from(), plan.to(), size, i);
+        let report = write_chunk(
+            world,
+            checked,
+            plan,
+            chunk,
+            format,
+            desk,
+            &mut totals,
+            out,
+            steps,
+        )?;
+        applied = applied.saturating_add(report.applied);
+        peak = report.peak;
+    }
+    Ok(RunReport {
+        rows: totals.rows(),
+        cells: totals.cells(),
+        peak,
+        applied,
+    })
+}
+
+// Computes a chunk, writes its rows and gives its slots back.
+fn write_chunk<O: Sink, L: Ledger>(
+    world: &World<'_>,
+    checked: &Checked,
+    plan: &Plan,
+    chunk: Chunk,
+    format: Format,
+    desk: &mut Desk,
+    totals: &mut Totals,
+    out: &mut O,
+    steps: &mut Steps<L>,
+) -> Result<ChunkReport, Failed>
+    requires made { IsMade world.now }
+    requires plan { IsPlanOf world.now.sessions.now (pipeline_of checked.now) plan.now }
+    requires from { plan.now.from ≤ chunk.from }
+    requires order { chunk.from ≤ chunk.to }
+    requires to { chunk.to ≤ plan.now.to }
+    requires desk { IsDeskFor (world_of world.now) (pipeline_of checked.now) plan.now chunk desk.old }
+    requires few { totals.old.rows + (chunk.to + 1 - chunk.from) * length world.now.assets.now < 2 ^ 63 }
+    ensures writes { Writes O.taken O.faults O.sound O.room out.old out.new
+        (lines (world_of world.now) (pipeline_of checked.now) format
+        (rows_of_sessions (world_of world.now) (pipeline_of checked.now) chunk.from (chunk.to + 1 - chunk.from))) result }
+    ensures rows { OnOk result (totals.new.rows ≡ totals.old.rows
+        + length (rows_of_sessions (world_of world.now) (pipeline_of checked.now) chunk.from (chunk.to + 1 - chunk.from))) }
+    ensures sum { OnOk result (totals.new.sum ≡ totals.old.sum
+        +ℤ rows_sum (world_of world.now).texts (rows_of_sessions (world_of world.now) (pipeline_of checked.now) chunk.from (chunk.to + 1 - chunk.from))) }
+    ensures few { OnOk result (totals.new.rows ≤ totals.old.rows + (chunk.to + 1 - chunk.from) * length world.now.assets.now) }
+    ensures desk { OnOk result ((other : Chunk) → IsDeskFor (world_of world.now) (pipeline_of checked.now) plan.now other desk.old
+        → IsDeskFor (world_of world.now) (pipeline_of checked.now) plan.now other desk.new) }
+    ensures peak { IfOk result (λ r. r.peak ≡ bound (pipeline_of checked.now).graph (outputs (pipeline_of checked.now))) }
+    ensures applied { IfOk result (λ r. r.applied ≡ cut (steps_of_chunk (world_of world.now) (pipeline_of checked.now) plan.now chunk)) }
+    ensures cost { steps.new ≡ steps.old + steps_of_chunk (world_of world.now) (pipeline_of checked.now) plan.now chunk }
+{
+    // what the parts of a world keep by themselves
+    parts_make_a_world(world);
+    let _labels = world.labels.len();
+    let _sessions = world.sessions.len();
+    let _checked = checked.graph();
+    put_columns(world, checked, plan, chunk, &mut desk.cols);
+    let report = execute_chunk(
+        world,
+        checked,
+        plan,
+        &Sessions {
+            from: chunk.from,
+            to: chunk.to,
+        },
+        &desk.cols,
+        &mut desk.workspace,
+        &mut desk.cross,
+        &mut desk.rows,
+        steps,
+    );
+    let outcome = Outcome {
+        world: *world,
+        checked,
+        plan,
+        cols: &desk.cols,
+        from: chunk.from,
+        to: chunk.to,
+        workspace: &desk.workspace,
+    };
+    write_rows(&outcome, format, &mut desk.line, totals, out)?;
+    release_outputs(checked, world.sessions, plan, &mut desk.workspace);
+    Ok(report)
+}

@@ -1,0 +1,26 @@
+-- A line is its parts, one behind the other.
+use Rattle.std.proofs.Common.{◌≡◌, ℕ, List, [], ◌∷◌, ◌++◌, map, codes, sym, ap, ◌∙◌, append_assoc}
+use Rattle.std.specs.Prelude.{flat_map}
+use Rattle.std.proofs.lemmas.List.Folds.{flat_map-map}
+use Rattle.pl_spec.specs.declared.Format.{Format}
+use Rattle.pl_spec.specs.declared.Format.TheVariants.{Csv, Fixed}
+use Rattle.pl_spec.specs.Table.{Pipeline, NamedColumn}
+use Rattle.pl_spec.specs.Text.{line, header, left_in, right_in}
+use Rattle.pl_table.specs.Fields.{date_part, sid_part, field_part}
+
+-- a text, a field behind it, further fields and the end
+behind : (a b c e : List ℕ) → (a ++ (b ++ c)) ++ e ≡ (a ++ b) ++ c ++ e
+behind a b c e = ap (λ (t : List ℕ). t ++ e) (sym (append_assoc a b c))
+
+pub line-is : (format : Format) (date sid : List ℕ) (fields : List (List ℕ))
+    → line format date sid fields ≡ (date_part format date ++ sid_part format sid) ++ flat_map (field_part format) fields ++ 10 ∷ []
+line-is Csv date sid fields = behind date (44 ∷ sid) (flat_map (λ f. 44 ∷ f) fields) (10 ∷ [])
+line-is Fixed date sid fields =
+    behind (left_in 10 date) (32 ∷ right_in 10 sid) (flat_map (λ f. 32 ∷ f) (map (right_in 20) fields)) (10 ∷ [])
+    ∙ ap (λ (t : List ℕ). (left_in 10 date ++ 32 ∷ right_in 10 sid) ++ t ++ 10 ∷ []) (flat_map-map (λ (f : List ℕ). 32 ∷ f) (right_in 20) fields)
+
+pub header-is : (p : Pipeline) (format : Format)
+    → header p format ≡ (date_part format (codes "session") ++ sid_part format (codes "sid")) ++ flat_map (λ c. field_part format c.name) p.columns ++ 10 ∷ []
+header-is p format =
+    line-is format (codes "session") (codes "sid") (map (λ (c : NamedColumn). c.name) p.columns)
+    ∙ ap (λ (t : List ℕ). (date_part format (codes "session") ++ sid_part format (codes "sid")) ++ t ++ 10 ∷ []) (flat_map-map (field_part format) (λ (c : NamedColumn). c.name) p.columns)

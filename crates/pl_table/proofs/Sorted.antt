@@ -1,0 +1,211 @@
+-- What a term's sort says of its values and of how they are written.
+use Rattle.std.proofs.Common.{◌≡◌, inl, inr, ℕ, ◌<◌, Bool, true, false, if◌then◌else◌, ℤ, pos, List, [], get_or, length, Option, Some, None, slice_get, option_map, unwrap_or, position, bytes_eq, Contains, refl, sym, ap, subst, ◌∙◌, true≢false}
+use Rattle.std.proofs.lemmas.Slice.Eq.{bytes_eq-Decides}
+use Rattle.std.proofs.lemmas.List.Quantifiers.{position-Some}
+use Rattle.pl_spec.proofs.Places.{nowhere}
+use Rattle.pl_spec.specs.declared.Format.{Format}
+use Rattle.pl_spec.specs.Rounding.{is_missing}
+use Rattle.pl_spec.specs.Decimals.{cell_text}
+use Rattle.pl_spec.specs.Formula.{is_true}
+use Rattle.pl_spec.specs.World.{World}
+use Rattle.pl_spec.specs.Kind as kind
+use Rattle.pl_spec.specs.Kind.{Kind, WindowKind, PointKind, CrossKind}
+use Rattle.pl_spec.specs.Term.{Term, Graph, term_at}
+use Rattle.pl_spec.specs.Term as spec
+use Rattle.pl_spec.specs.Value.{Value, is_filter, is_window_filter, is_point_filter, is_cross_filter, sort_kind, sort_over, holds}
+use Rattle.pl_spec.specs.Table.{Pipeline, value_of, in_array, is_kept}
+use Rattle.pl_spec.specs.declared.Format.TheVariants.{Csv}
+use Rattle.pl_cross.specs.Arrays.{sid_in}
+use Rattle.pl_values.specs.Arrays.{cell_of}
+use Rattle.pl_table.proofs.Outputs.{cell-is}
+use Rattle.pl_spec.specs.Text.{field, kind_at, label_text, number_text, is_numbered}
+use Rattle.pl_spec.proofs.Trees.{term_at-node}
+use Rattle.pl_terms.specs.declared.node.Node.{Node}
+use Rattle.pl_terms.specs.Kinds.{kind_of}
+use Rattle.pl_terms.specs.Nodes.{node_of, graph_of}
+use Rattle.pl_terms.specs.Checked.{IsChecked}
+use Rattle.pl_terms.specs.Sorts.{Sort, Factors, Filters, Labels, Numbers, sort_at, sort_of, window_sort, point_sort, cross_sort, has_parameters}
+use Rattle.pl_cross.specs.Arrays.{HasTexts}
+use Rattle.pl_cross.proofs.Codes.{IsCoded}
+use Rattle.pl_values.specs.Families.{IsCode}
+use Rattle.pl_values.proofs.Empties.{node-there}
+use Rattle.pl_values.proofs.Numbers.{numbered-sort, coded-sort}
+use Rattle.pl_values.proofs.Typed.{sort-node}
+use Rattle.pl_table.specs.declared.writing.Writing.{Writing}
+use Rattle.pl_table.specs.declared.writing.Writing.TheVariants.{Cell, Truth, Whole, Label}
+use Rattle.pl_table.specs.Fields.{cell_field, sort_written}
+
+pub sort-there : (nodes : List Node) (t : ℕ) (n : Node) (r : Sort) → slice_get nodes t ≡ Some n → sort_of (kind_of n.kind) ≡ r → sort_at (graph_of nodes) t ≡ Some r
+unfolding node_of
+sort-there nodes t n r e s = ap (option_map (λ m. sort_of m.kind)) (node-there nodes t n e) ∙ ap Some s
+
+-- ---- kinds by their sorts
+
+abbrev is_filters : Sort → Bool
+is_filters Filters = true
+is_filters r = false
+
+abbrev is_numbers : Sort → Bool
+is_numbers Numbers = true
+is_numbers r = false
+
+window-filters : (k : WindowKind) → is_window_filter k ≡ is_filters (window_sort k)
+window-filters kind.All = refl
+window-filters kind.Any = refl
+window-filters (kind.AtLeastN n) = refl
+window-filters kind.AllPresent = refl
+window-filters k = refl
+
+window-numbers : (k : WindowKind) → false ≡ is_numbers (window_sort k)
+window-numbers kind.All = refl
+window-numbers kind.Any = refl
+window-numbers (kind.AtLeastN n) = refl
+window-numbers kind.AllPresent = refl
+window-numbers k = refl
+
+point-filters : (k : PointKind) → is_point_filter k ≡ is_filters (point_sort k)
+point-filters kind.Add = refl
+point-filters kind.Sub = refl
+point-filters kind.Mul = refl
+point-filters kind.Div = refl
+point-filters kind.Neg = refl
+point-filters kind.Abs = refl
+point-filters (kind.Clip low high) = refl
+point-filters kind.FillNa = refl
+point-filters kind.IfElse = refl
+point-filters k = refl
+
+point-numbers : (k : PointKind) → false ≡ is_numbers (point_sort k)
+point-numbers kind.Add = refl
+point-numbers kind.Sub = refl
+point-numbers kind.Mul = refl
+point-numbers kind.Div = refl
+point-numbers kind.Neg = refl
+point-numbers kind.Abs = refl
+point-numbers (kind.Clip low high) = refl
+point-numbers kind.FillNa = refl
+point-numbers kind.IfElse = refl
+point-numbers k = refl
+
+cross-filters : (k : CrossKind) → is_cross_filter k ≡ is_filters (cross_sort k)
+cross-filters (kind.Quantiles bins) = refl
+cross-filters (kind.Top n) = refl
+cross-filters (kind.Bottom n) = refl
+cross-filters (kind.PercentileBetween low high) = refl
+cross-filters k = refl
+
+cross-numbers : (k : CrossKind) → is_numbered (kind.Cross k) ≡ is_numbers (cross_sort k)
+cross-numbers (kind.Quantiles bins) = refl
+cross-numbers (kind.Top n) = refl
+cross-numbers (kind.Bottom n) = refl
+cross-numbers (kind.PercentileBetween low high) = refl
+cross-numbers k = refl
+
+filters-are : (k : Kind) → is_filter k ≡ is_filters (sort_of k)
+unfolding sort_of
+filters-are (kind.Constant c) = refl
+filters-are (kind.Label n) = refl
+filters-are (kind.StaticSids s) = refl
+filters-are (kind.Window k) = window-filters k
+filters-are (kind.Point k) = point-filters k
+filters-are (kind.LabelTest k) = refl
+filters-are (kind.Cross k) = cross-filters k
+filters-are (kind.Downsample f) = refl
+
+numbers-are : (k : Kind) → is_numbered k ≡ is_numbers (sort_of k)
+unfolding sort_of
+numbers-are (kind.Constant c) = refl
+numbers-are (kind.Label n) = refl
+numbers-are (kind.StaticSids s) = refl
+numbers-are (kind.Window k) = window-numbers k
+numbers-are (kind.Point k) = point-numbers k
+numbers-are (kind.LabelTest k) = refl
+numbers-are (kind.Cross k) = cross-numbers k
+numbers-are (kind.Downsample f) = refl
+
+-- a checked pipeline has no downsampled term, so that each is written as its own kind
+own-kind : (k i : Kind) (w names : ℕ) → has_parameters k w names ≡ true → sort_over k i ≡ k
+unfolding has_parameters
+own-kind (kind.Downsample f) i w names e = absurd (let bad : false ≡ true = e in cc)
+own-kind (kind.Constant c) i w names e = refl
+own-kind (kind.Label n) i w names e = refl
+own-kind (kind.StaticSids s) i w names e = refl
+own-kind (kind.Window k) i w names e = refl
+own-kind (kind.Point k) i w names e = refl
+own-kind (kind.LabelTest k) i w names e = refl
+own-kind (kind.Cross k) i w names e = refl
+
+kind-there : (p : Pipeline) → IsChecked p → (t : ℕ) (n : spec.Node) → slice_get p.graph t ≡ Some n → kind_at p.graph t ≡ n.kind
+kind-there p ok t n e =
+    ap sort_kind (term_at-node p.graph t n ok.graph e) ∙ own-kind n.kind _ n.window (length p.names) (ok.nodes t n e).parameters
+
+-- ---- fields
+
+missing-text : (x : ℤ) (b : Bool) → is_missing x ≡ b → (if is_missing x then [] else cell_text x) ≡ cell_text x
+unfolding cell_text
+missing-text x true e = rw e refl
+missing-text x false e = rw e refl
+
+number-field : (format : Format) (texts : List (List ℕ)) (k : Kind) (r : Writing) (x : ℤ) → sort_of k ≡ sort_written r → (sort_written r ≡ Labels → ⊥)
+    → number_text k x ≡ cell_field format texts r x
+number-field format texts k Cell x s other =
+    let f = filters-are k ∙ ap is_filters s in let n = numbers-are k ∙ ap is_numbers s in rw (f, n) (missing-text x (is_missing x) refl)
+number-field format texts k Truth x s other = let f = filters-are k ∙ ap is_filters s in rw f refl
+number-field format texts k Whole x s other =
+    let f = filters-are k ∙ ap is_filters s in let n = numbers-are k ∙ ap is_numbers s in rw (f, n) refl
+number-field format texts k Label x s other = absurd (other refl)
+
+-- behind a text's code stands the text
+abbrev HasPlace : List (List ℕ) → List ℕ → Option ℕ → Type 0
+HasPlace texts t o = (unwrap_or o 0 < length texts) × (get_or texts (unwrap_or o 0) [] ≡ t)
+
+placed : (texts : List (List ℕ)) (t : List ℕ) → Contains texts t → (o : Option ℕ) → position (bytes_eq t) texts ≡ o → HasPlace texts t o
+placed texts t own None e = absurd (true≢false (sym ((bytes_eq-Decides t (get_or texts own.0 t)).1 (sym own.2)) ∙ nowhere (bytes_eq t) texts e own.0 t own.1))
+placed texts t own (Some n) e = let it = position-Some (bytes_eq t) texts n [] e in (it.0, sym ((bytes_eq-Decides t (get_or texts n [])).0 it.1))
+
+coded-field : (format : Format) (texts : List (List ℕ)) (k : Kind) (v : Value) → IsCoded texts v → field format k v ≡ cell_field format texts Label (in_array texts v)
+coded-field format texts k v (inl e) = rw e refl
+coded-field format texts k v (inr t) = rw t.1 (ap (label_text format) (sym (placed texts t.0 t.2 (position (bytes_eq t.0) texts) refl).1))
+
+code-of : (texts : List (List ℕ)) (v : Value) → IsCoded texts v → IsCode texts (in_array texts v)
+code-of texts v (inl e) = inl (ap (in_array texts) e)
+code-of texts v (inr t) = inr (unwrap_or (position (bytes_eq t.0) texts) 0, ap (in_array texts) t.1, (placed texts t.0 t.2 (position (bytes_eq t.0) texts) refl).0)
+
+module _ (w : World) (p : Pipeline) (ok : IsChecked p) (texts : HasTexts w) (t a : ℕ) (d : ℤ) (format : Format) where
+  numbered-field : (r : Writing) → sort_at p.graph t ≡ Some (sort_written r) → (sort_written r ≡ Labels → ⊥)
+      → field format (kind_at p.graph t) (value_of w p t a d) ≡ cell_field format w.texts r (in_array w.texts (value_of w p t a d))
+  numbered-field r s other =
+      let v = numbered-sort w p ok t (sort_written r) s other a d in
+      let m = sort-node p.graph t (sort_written r) s in
+      ap (λ (k : Kind). field format k (value_of w p t a d)) (kind-there p ok t m.0 m.1)
+      ∙ ap (field format m.0.kind) v.1 ∙ number-field format w.texts m.0.kind r v.0 m.2 other
+      ∙ ap (λ (u : Value). cell_field format w.texts r (in_array w.texts u)) (sym v.1)
+
+  -- the field of a value is that of its cell
+  pub field-is : (r : Writing) → sort_at p.graph t ≡ Some (sort_written r) → field format (kind_at p.graph t) (value_of w p t a d) ≡ cell_field format w.texts r (in_array w.texts (value_of w p t a d))
+  field-is Label s = coded-field format w.texts (kind_at p.graph t) (value_of w p t a d) (coded-sort w p ok t texts s a d)
+  field-is Cell s = numbered-field Cell s (λ e. let bad : Factors ≡ Labels = e in cc)
+  field-is Truth s = numbered-field Truth s (λ e. let bad : Filters ≡ Labels = e in cc)
+  field-is Whole s = numbered-field Whole s (λ e. let bad : Numbers ≡ Labels = e in cc)
+
+  pub code-is : sort_at p.graph t ≡ Some Labels → IsCode w.texts (in_array w.texts (value_of w p t a d))
+  code-is s = code-of w.texts (value_of w p t a d) (coded-sort w p ok t texts s a d)
+
+  -- a screen keeps where its array has 1
+  pub holds-is : sort_at p.graph t ≡ Some Filters → holds (value_of w p t a d) ≡ is_true (in_array w.texts (value_of w p t a d))
+  holds-is s =
+      let v = numbered-sort w p ok t Filters s (λ e. let bad : Filters ≡ Labels = e in cc) a d in
+      ap holds v.1 ∙ ap (λ (u : Value). is_true (in_array w.texts u)) (sym v.1)
+
+pub passes-is : (w : World) (p : Pipeline) → IsChecked p → HasTexts w → (sids : List ℕ) (t i s : ℕ) (x : ℤ) → p.screen ≡ Some t → x ≡ cell_of w p sids t i s
+    → is_true x ≡ is_kept w p p.screen (pos s) (sid_in sids i)
+passes-is w p ok texts sids t i s x screen e =
+    ap is_true (e ∙ cell-is w p sids t i s)
+    ∙ sym (holds-is w p ok texts t (sid_in sids i) (pos s) Csv (ok.screen t screen))
+    ∙ ap (λ (o : Option ℕ). is_kept w p o (pos s) (sid_in sids i)) (sym screen)
+
+-- the code of a label's cell
+pub code-of-cell : (w : World) (p : Pipeline) → IsChecked p → HasTexts w → (sids : List ℕ) (t i s : ℕ) (r : Writing) (x : ℤ) → sort_at p.graph t ≡ Some (sort_written r) → r ≡ Label → x ≡ cell_of w p sids t i s
+    → IsCode w.texts x
+code-of-cell w p ok texts sids t i s r x sort label e =
+    subst (IsCode w.texts) (sym (e ∙ cell-is w p sids t i s)) (code-is w p ok texts t (sid_in sids i) (pos s) Csv (sort ∙ ap (λ (q : Writing). Some (sort_written q)) label))

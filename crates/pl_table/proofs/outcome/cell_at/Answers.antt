@@ -1,0 +1,11 @@
+use Rattle.pl_table.specs.Outcomes.{pipeline_in}
+use Rattle.pl_table.proofs.Outputs.{output-used}
+use Rattle.pl_table.proofs.outcome.cell_at.Goals as goal
+
+pub low_at-low-requires-clause-used : goal.low_at-low-requires-clause-used
+low_at-low-requires-clause-used c =
+    let o = c.args.outcome.now in output-used o.world.sessions.now (pipeline_in o) o.plan.now c.requires.outcome.checked c.requires.outcome.plan c.args.term.0 c.requires.output
+
+pub slot-requires : goal.slot-requires
+slot-requires c =
+    let o = c.args.outcome.now in output-used o.world.sessions.now (pipeline_in o) o.plan.now c.requires.outcome.checked c.requires.outcome.plan c.args.term.0 c.requires.output

@@ -1,0 +1,18 @@
+use Rattle.std.proofs.Common.{◌≡◌, ◌≤◌, ◌+◌, ◌-◌, ◌*◌, ◌+ℤ◌, length}
+use Rattle.pl_outside.proofs.Pieces.{Writing}
+use Rattle.pl_table.specs.Outcomes.{lines, pipeline_in, rows_of_sessions, world_in}
+use Rattle.pl_table.specs.Sums.{rows_sum}
+use Rattle.pl_table.proofs.rows.write_rows.Given as goal
+
+abbrev pub invariant-loop-session : goal.invariant-loop-session
+invariant-loop-session g l =
+    let out = g.O.Sink in let w = world_in l.outcome in let p = pipeline_in l.outcome in let to = l.outcome.to in let from = l.outcome.from in
+    record {
+      start : from ≤ l.session;
+      within : l.session ≤ to + 1;
+      writing : Writing out.taken out.faults out.sound out.room l.fn.out l.out (lines w p l.format (rows_of_sessions w p from (to + 1 - from)))
+          (lines w p l.format (rows_of_sessions w p l.session (to + 1 - l.session)));
+      rows : l.totals.rows + length (rows_of_sessions w p l.session (to + 1 - l.session)) ≡ l.fn.totals.rows + length (rows_of_sessions w p from (to + 1 - from));
+      sum : l.totals.sum +ℤ rows_sum w.texts (rows_of_sessions w p l.session (to + 1 - l.session)) ≡ l.fn.totals.sum +ℤ rows_sum w.texts (rows_of_sessions w p from (to + 1 - from));
+      few : l.totals.rows ≤ l.fn.totals.rows + (l.session - from) * length l.outcome.cols.now;
+    }

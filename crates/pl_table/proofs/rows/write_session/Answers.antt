@@ -1,0 +1,82 @@
+use Rattle.std.proofs.Common.{◌<◌, ◌≤◌, ◌+◌, ◌∙◌, sym, ap, refl, drop, length, pos, arith, get_or}
+use Rattle.std.proofs.lemmas.Int.{ints}
+use Rattle.std.proofs.lemmas.List.{length-map}
+use Rattle.std.proofs.lemmas.Result.{err_from_is_err_and}
+use Rattle.pl_outside.proofs.Pieces.{writing-start, writing-more, writing-end, writing-stop, writing-over, writes-over}
+use Rattle.pl_spec.specs.Parts.{sid_at}
+use Rattle.pl_spec.specs.Table.{row}
+use Rattle.pl_table.specs.declared.totals.Totals.{Totals}
+use Rattle.pl_table.specs.Outcomes.{lines, pipeline_in, sids_in, world_in}
+use Rattle.pl_table.specs.Sums.{rows_sum}
+use Rattle.pl_table.proofs.RowSums.{rows_sum-cons}
+use Rattle.pl_table.proofs.SessionRows.{rows_of, rows_of_session, rows_with, rows_without, rows_end}
+use Rattle.pl_table.proofs.rows.write_session.Goals as goal
+use Rattle.pl_table.proofs.rows.write_session.Goals.{then-has_row+in_ok-write_row, else-has_row}
+
+pub loop-place-init : goal.loop-place-init
+loop-place-init g c =
+    record {
+      writing = writing-start g.O.Sink.taken g.O.Sink.faults g.O.Sink.sound g.O.Sink.room c.args.out.now _;
+      rows = refl;
+      sum = refl;
+      few = omega arith;
+    }
+
+pub returns-in_err-write_row-clause-writes : goal.returns-in_err-write_row-clause-writes
+returns-in_err-write_row-clause-writes g c =
+    let o = c.args.outcome.now in let w = world_in o in let pl = pipeline_in o in
+    let inside : c.loop-place.place < length (sids_in o) = omega (arith, length-map o.cols.now (sid_at o.world.assets.now)) in
+    let next = rows_with w pl c.args.session (sids_in o) c.loop-place.place inside (sym c.has_row.ensures ∙ c.if-has_row.true) in
+    let p = err_from_is_err_and c.from_residual.result c.from_residual.ensures.1 in
+    rw (p.1, p.2)
+    (writes-over (ap (lines w pl c.args.format) (rows_of_session w pl (sids_in o) c.args.session (c.requires.outcome.all c.args.session c.requires.session.from c.requires.session.to)))
+    (writing-stop _ _ (writing-over (ap (lines w pl c.args.format) next) c.loop-place.invariant.writing) c.in_err-write_row.ensures.writes))
+
+pub loop-place-preserved : goal.loop-place-preserved
+loop-place-preserved g c =
+    let o = c.args.outcome.now in let w = world_in o in let pl = pipeline_in o in let i = c.loop-place.place in
+    let inside : i < length (sids_in o) = omega (arith, length-map o.cols.now (sid_at o.world.assets.now)) in
+    elim c.if-has_row.branch [
+      | then-has_row+in_ok-write_row b ↦
+          let next = rows_with w pl c.args.session (sids_in o) i inside (sym c.has_row.ensures ∙ b.if-has_row.true) in
+          let rest = rows_of w pl c.args.session (drop (i + 1) (sids_in o)) in
+          let count = ap (λ (t : Totals). t.rows) b.totals-is in
+          let total = ap (λ (t : Totals). t.sum) b.totals-is in
+          record {
+            writing = rw b.out-is (writing-more _ _ (writing-over (ap (lines w pl c.args.format) next) c.loop-place.invariant.writing) b.in_ok-write_row.ensures.writes);
+            rows = omega (arith, count, ap length next, c.loop-place.invariant.rows, b.in_ok-write_row.ensures.rows);
+            sum = omega (arith, ints, total, ap (rows_sum w.texts) next, rows_sum-cons w.texts (row w pl (pos c.args.session) (get_or (sids_in o) i 0)) rest, c.loop-place.invariant.sum, b.in_ok-write_row.ensures.sum);
+            few = omega (arith, count, c.loop-place.invariant.few, b.in_ok-write_row.ensures.rows);
+          }
+      | else-has_row b ↦
+          let next = rows_without w pl c.args.session (sids_in o) i inside (sym c.has_row.ensures ∙ b.if-has_row.false) in
+          let count = ap (λ (t : Totals). t.rows) b.totals-is in
+          let total = ap (λ (t : Totals). t.sum) b.totals-is in
+          record {
+            writing = rw b.out-is (writing-over (ap (lines w pl c.args.format) next) c.loop-place.invariant.writing);
+            rows = omega (arith, count, ap length next, c.loop-place.invariant.rows);
+            sum = omega (arith, ints, total, ap (rows_sum w.texts) next, c.loop-place.invariant.sum);
+            few = omega (arith, count, c.loop-place.invariant.few);
+          }
+    ]
+
+pub returns-clause-writes : goal.returns-clause-writes
+returns-clause-writes g c =
+    let o = c.args.outcome.now in let w = world_in o in let pl = pipeline_in o in
+    let done : length (sids_in o) ≤ c.loop-place.place = omega (arith, length-map o.cols.now (sid_at o.world.assets.now)) in
+    writes-over (ap (lines w pl c.args.format) (rows_of_session w pl (sids_in o) c.args.session (c.requires.outcome.all c.args.session c.requires.session.from c.requires.session.to)))
+    (writing-end (writing-over (ap (lines w pl c.args.format) (rows_end w pl c.args.session (sids_in o) c.loop-place.place done)) c.loop-place.invariant.writing))
+
+pub returns-clause-rows : goal.returns-clause-rows
+returns-clause-rows g c =
+    let o = c.args.outcome.now in let w = world_in o in let pl = pipeline_in o in
+    let done : length (sids_in o) ≤ c.loop-place.place = omega (arith, length-map o.cols.now (sid_at o.world.assets.now)) in
+    let all = rows_of_session w pl (sids_in o) c.args.session (c.requires.outcome.all c.args.session c.requires.session.from c.requires.session.to) in
+    omega (arith, ap length all, ap length (rows_end w pl c.args.session (sids_in o) c.loop-place.place done), c.loop-place.invariant.rows)
+
+pub returns-clause-sum : goal.returns-clause-sum
+returns-clause-sum g c =
+    let o = c.args.outcome.now in let w = world_in o in let pl = pipeline_in o in
+    let done : length (sids_in o) ≤ c.loop-place.place = omega (arith, length-map o.cols.now (sid_at o.world.assets.now)) in
+    let all = rows_of_session w pl (sids_in o) c.args.session (c.requires.outcome.all c.args.session c.requires.session.from c.requires.session.to) in
+    omega (arith, ints, ap (rows_sum w.texts) all, ap (rows_sum w.texts) (rows_end w pl c.args.session (sids_in o) c.loop-place.place done), c.loop-place.invariant.sum)

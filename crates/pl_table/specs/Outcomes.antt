@@ -1,0 +1,58 @@
+-- What stands in a workspace when some sessions of a planned pipeline are computed.
+use Rattle.std.specs.Prelude.{◌≡◌, ℕ, ◌+◌, ◌-◌, ◌^◌, ◌<◌, ◌≤◌, true, ℤ, List, length, map, flat_map, pos, All}
+use Rattle.std.specs.List.{range_with_len}
+use Rattle.pl_spec.specs.declared.Format.{Format}
+use Rattle.pl_spec.specs.Parts.{sid_at}
+use Rattle.pl_spec.specs.World.{World}
+use Rattle.pl_spec.specs.Graph.{contains}
+use Rattle.pl_spec.specs.Table.{Pipeline, Row, session_rows}
+use Rattle.pl_spec.specs.Text.{row_line}
+use Rattle.pl_cross.specs.Arrays.{HasTexts}
+use Rattle.pl_model.specs.Worlds.{world_of}
+use Rattle.pl_terms.specs.Checked.{IsChecked, pipeline_of}
+use Rattle.pl_terms.specs.Uses.{outputs}
+use Rattle.pl_planner.specs.Plans.{IsPlanOf, low_at, slot_of}
+use Rattle.pl_values.specs.Arrays.{cell_of, HasAll, Holds}
+use Rattle.pl_workspace.specs.Slots.{Live, slot_at}
+use Rattle.pl_table.specs.declared.outcome.Outcome.{Outcome}
+
+abbrev pub world_in : Outcome → World
+world_in o = world_of o.world
+
+abbrev pub pipeline_in : Outcome → Pipeline
+pipeline_in o = pipeline_of o.checked.now
+
+abbrev pub sids_in : Outcome → List ℕ
+sids_in o = map (sid_at o.world.assets.now) o.cols.now
+
+-- the slot of term t holds its values on the sessions up to the last one, for each asset
+pub record HasArray (o : Outcome) (t : ℕ) : Type 0 where
+  pub cells : List ℤ
+  pub live : slot_at o.workspace.now (slot_of o.plan.now t) ≡ Live cells
+  pub holds : Holds (cell_of (world_in o) (pipeline_in o) (sids_in o) t) (length o.cols.now) (low_at o.plan.now t o.from) (o.to + 1 - low_at o.plan.now t o.from) cells
+
+-- The sessions are of the plan's range, all assets that exist on them are there, and each output has its array.
+pub record IsOutcome (o : Outcome) : Type 0 where
+  pub checked : IsChecked (pipeline_in o)
+  pub plan : IsPlanOf o.world.sessions.now (pipeline_in o) o.plan.now
+  pub from : o.plan.now.from ≤ o.from
+  pub order : o.from ≤ o.to
+  pub to : o.to ≤ o.plan.now.to
+  pub fits : o.to < 2 ^ 63
+  pub cols : All (λ c. c < length o.world.assets.now) o.cols.now
+  pub all : (s : ℕ) → o.from ≤ s → s ≤ o.to → HasAll (world_in o) (sids_in o) s
+  pub texts : HasTexts (world_in o)
+  pub arrays : (t : ℕ) → contains (outputs (pipeline_in o)) t ≡ true → HasArray o t
+
+-- one of its sessions
+pub record IsWithin (o : Outcome) (session : ℕ) : Type 0 where
+  pub from : o.from ≤ session
+  pub to : session ≤ o.to
+
+-- the lines of rows
+abbrev pub lines : World → Pipeline → Format → List Row → List ℕ
+lines w p format rows = flat_map (row_line w p format) rows
+
+-- the rows of n sessions from one on
+abbrev pub rows_of_sessions : World → Pipeline → ℕ → ℕ → List Row
+rows_of_sessions w p from n = flat_map (λ d. session_rows w p (pos d)) (range_with_len from n)

@@ -1,0 +1,158 @@
+//! The fields of a line.
+ghost use Rattle.std.specs.Prelude.{◌≡◌, ◌≤◌, ◌<◌, ◌+◌, ◌++◌, [], length, decimal, slice_index_or};
+ghost use Rattle.pl_spec.specs.Rounding.{IsCell};
+ghost use Rattle.pl_spec.specs.Dates.{IsDay, date_text};
+ghost use Rattle.pl_spec.specs.Text.{label_text};
+ghost use Rattle.pl_values.specs.Families.{IsCode};
+ghost use Rattle.pl_table.specs.Fields.{cell_field, date_part, field_part, sid_part};
+ghost use Rattle.pl_table.specs.declared.writing.Writing.TheVariants as Writing;
+
+use crate::line::Line;
+use crate::writing::Writing;
+use itoa::Buffer;
+use pl_assets::Labels;
+use pl_fixed::{MISSING, write_day, write_decimal};
+use pl_spec::Format;
+
+/// Puts the date of a day at the front.
+pub(crate) fn put_date(line: &mut Line, format: Format, day: i32)
+    requires date { IsDay day }
+    requires room { length line.old + 10 ≤ 8_448 }
+    ensures text { line.new ≡ line.old ++ date_part format (date_text day) }
+    ensures within { length line.new ≤ length line.old + 10 }
+{
+    let mut date = [0u8; 10];
+    write_day(day, &mut date);
+    // a date fills the ten places that the fixed form has for it
+    match format {
+        Format::Csv => line.put(&date),
+        Format::Fixed => line.put(&date),
+    }
+}
+
+/// Puts a sid behind the date.
+pub(crate) fn put_sid(line: &mut Line, format: Format, sid: u32)
+    requires { length line.old + 11 ≤ 8_448 }
+    ensures text { line.new ≡ line.old ++ sid_part format (decimal sid) }
+    ensures within { length line.new ≤ length line.old + 11 }
+{
+    let mut buffer = Buffer::new();
+    let text = buffer.format(sid).as_bytes();
+    match format {
+        Format::Csv => line.put(b","),
+        Format::Fixed => {
+            line.put(b" ");
+            line.put_spaces(10usize.saturating_sub(text.len()));
+        }
+    }
+    line.put(text);
+}
+
+// Puts the text of a further field.
+fn put_text(line: &mut Line, format: Format, text: &[u8])
+    requires short { length text.now ≤ 130 }
+    requires room { length line.old + 131 ≤ 8_448 }
+    ensures text { line.new ≡ line.old ++ field_part format text.now }
+    ensures within { length line.new ≤ length line.old + 131 }
+{
+    match format {
+        Format::Csv => line.put(b","),
+        Format::Fixed => {
+            line.put(b" ");
+            line.put_spaces(20usize.saturating_sub(text.len()));
+        }
+    }
+    line.put(text);
+}
+
+/// Puts the field of a cell.
+pub(crate) fn put_cell(
+    line: &mut Line,
+    format: Format,
+    writing: Writing,
+    cell: i64,
+    labels: &Labels,
+)
+    requires cell { IsCell cell }
+    requires code { writing ≡ Writing.Label → IsCode labels.now.texts cell }
+    requires room { length line.old + 131 ≤ 8_448 }
+    ensures text { line.new ≡ line.old ++ field_part format (cell_field format labels.now.texts writing cell) }
+    ensures within { length line.new ≤ length line.old + 131 }
+{
+    match writing {
+        Writing::Cell => put_number(line, format, labels, cell),
+        Writing::Truth => put_truth(line, format, labels, cell),
+        Writing::Whole => put_whole(line, format, labels, cell),
+        Writing::Label => put_label(line, format, labels, cell),
+    }
+}
+
+fn put_number(line: &mut Line, format: Format, labels: &Labels, cell: i64)
+    requires cell { IsCell cell }
+    requires room { length line.old + 131 ≤ 8_448 }
+    ensures text { line.new ≡ line.old ++ field_part format (cell_field format labels.now.texts Writing.Cell cell) }
+    ensures within { length line.new ≤ length line.old + 131 }
+{
+    let mut text = [0u8; 32];
+    let len = write_decimal(cell, &mut text);
+    put_text(line, format, &text[..len]);
+}
+
+fn put_truth(line: &mut Line, format: Format, labels: &Labels, cell: i64)
+    requires room { length line.old + 131 ≤ 8_448 }
+    ensures text { line.new ≡ line.old ++ field_part format (cell_field format labels.now.texts Writing.Truth cell) }
+    ensures within { length line.new ≤ length line.old + 131 }
+{
+    if cell == MISSING {
+        put_text(line, format, b"");
+    } else if cell == 1 {
+        put_text(line, format, b"true");
+    } else {
+        put_text(line, format, b"false");
+    }
+}
+
+fn put_whole(line: &mut Line, format: Format, labels: &Labels, cell: i64)
+    requires room { length line.old + 131 ≤ 8_448 }
+    ensures text { line.new ≡ line.old ++ field_part format (cell_field format labels.now.texts Writing.Whole cell) }
+    ensures within { length line.new ≤ length line.old + 131 }
+{
+    if cell == MISSING {
+        put_text(line, format, b"");
+    } else {
+        let mut buffer = Buffer::new();
+        put_text(line, format, buffer.format(cell.unsigned_abs()).as_bytes());
+    }
+}
+
+fn put_label(line: &mut Line, format: Format, labels: &Labels, code: i64)
+    requires code { IsCode labels.now.texts code }
+    requires room { length line.old + 131 ≤ 8_448 }
+    ensures text { line.new ≡ line.old ++ field_part format (cell_field format labels.now.texts Writing.Label code) }
+    ensures within { length line.new ≤ length line.old + 131 }
+{
+    // there are few labels, so that codes are numbers of 32 bits
+    let _rows = labels.len();
+    if code == MISSING {
+        put_text(line, format, b"");
+    } else {
+        put_text(
+            line,
+            format,
+            label_text(labels, format, code.unsigned_abs() as u32),
+        );
+    }
+}
+
+// A label in quotes has at most twice its bytes and two more.
+fn label_text<'a>(labels: &'a Labels, format: Format, code: u32) -> &'a [u8]
+    requires { code < length labels.now.texts }
+    ensures text { result.now ≡ label_text format (slice_index_or labels.now.texts code []) }
+    ensures short { length result.now ≤ 130 }
+{
+    let text = labels.text(code);
+    match format {
+        Format::Csv => labels.csv_text(code),
+        Format::Fixed => text,
+    }
+}

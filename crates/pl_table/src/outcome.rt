@@ -1,0 +1,41 @@
+//! The values of some sessions, in a workspace.
+ghost use Rattle.std.specs.Prelude.{◌≡◌, ◌<◌, true, length};
+ghost use Rattle.pl_spec.specs.Rounding.{IsCell};
+ghost use Rattle.pl_spec.specs.Graph.{contains};
+ghost use Rattle.pl_terms.specs.Uses.{outputs};
+ghost use Rattle.pl_values.specs.Arrays.{cell_of};
+ghost use Rattle.pl_table.specs.Outcomes.{IsOutcome, IsWithin, pipeline_in, sids_in, world_in};
+
+use pl_model::World;
+use pl_planner::Plan;
+use pl_terms::{Checked, TermId};
+use pl_workspace::Workspace;
+
+/// The sessions from one to another of a planned pipeline, computed for the assets in some columns: each output's values stand
+/// in its slot of the workspace.
+#[derive(Clone, Copy)]
+pub struct Outcome<'a> {
+    pub world: World<'a>,
+    pub checked: &'a Checked,
+    pub plan: &'a Plan,
+    pub cols: &'a [u32],
+    pub from: usize,
+    pub to: usize,
+    pub workspace: &'a Workspace,
+}
+
+/// The cell of an output for the asset in a place on a session.
+pub(crate) fn cell_at(outcome: &Outcome<'_>, term: TermId, place: usize, session: usize) -> i64
+    requires outcome { IsOutcome outcome.now }
+    requires output { contains (outputs (pipeline_in outcome.now)) term.0 ≡ true }
+    requires place { place < length outcome.now.cols.now }
+    requires session { IsWithin outcome.now session }
+    ensures value { result ≡ cell_of (world_in outcome.now) (pipeline_in outcome.now)
+        (sids_in outcome.now) term.0 place session }
+    ensures cell { IsCell result }
+{
+    let low = outcome.plan.low_at(term, outcome.from);
+    let count = outcome.to + 1 - low;
+    let cells = outcome.workspace.array(outcome.plan.slot(term));
+    cells[place * count + (session - low)]
+}

@@ -1,0 +1,72 @@
+//! How the values of a term are written.
+ghost use Rattle.std.specs.Prelude.{◌≡◌, ◌<◌, Some, length, slice_get};
+ghost use Rattle.pl_terms.specs.Kinds.{is_kind, is_not_kind, kind_of};
+ghost use Rattle.pl_terms.specs.Nodes.{graph_of};
+ghost use Rattle.pl_terms.specs.Sorts.{sort_at, sort_of};
+ghost use Rattle.pl_table.specs.Fields.{sort_written};
+
+use pl_terms::{Graph, LabelValue, TermId, TermKind};
+
+/// The form of a value: the cell of a factor, the truth of a filter, the whole number of a numbered classifier, or the text of
+/// a label.
+#[derive(Clone, Copy, Debug, PartialEq, Eq)]
+pub enum Writing {
+    Cell,
+    Truth,
+    Whole,
+    Label,
+}
+
+/// How the values of a term are written.
+pub(crate) fn writing_of(graph: &Graph, term: TermId) -> Writing
+    requires { term.0 < length graph.now }
+    ensures { sort_at (graph_of graph.now) term.0 ≡ Some (sort_written result) }
+{
+    writing_of_kind(&graph.node(term).kind)
+}
+
+#[tactic(auto, unfolding(pl_terms::specs::Kinds::kind_of, pl_terms::specs::Sorts::sort_of))]
+fn writing_of_kind(kind: &TermKind) -> Writing
+    ensures { sort_of (kind_of kind.now) ≡ sort_written result }
+{
+    match kind {
+        TermKind::Label { .. } => Writing::Label,
+        TermKind::Quantiles { .. } => Writing::Whole,
+        TermKind::StaticSids { .. }
+        | TermKind::All
+        | TermKind::Any
+        | TermKind::AtLeastN { .. }
+        | TermKind::AllPresent
+        | TermKind::And
+        | TermKind::Or
+        | TermKind::Not
+        | TermKind::IsNull
+        | TermKind::NotNull
+        | TermKind::Less
+        | TermKind::LessEqual
+        | TermKind::Greater
+        | TermKind::GreaterEqual
+        | TermKind::Equal
+        | TermKind::NotEqual
+        | TermKind::Top { .. }
+        | TermKind::Bottom { .. }
+        | TermKind::PercentileBetween { .. }
+        | TermKind::StartsWith { .. }
+        | TermKind::EndsWith { .. }
+        | TermKind::ElementOf { .. } => Writing::Truth,
+        TermKind::LabelIs { label } | TermKind::LabelIsNot { label } => writing_of_test(label),
+        _ => Writing::Cell,
+    }
+}
+
+// Tests of texts and of numbers are filters both.
+#[tactic(auto, unfolding(pl_terms::specs::Sorts::sort_of))]
+fn writing_of_test(label: &LabelValue) -> Writing
+    ensures is { sort_of (is_kind label.now) ≡ sort_written result }
+    ensures is_not { sort_of (is_not_kind label.now) ≡ sort_written result }
+{
+    match label {
+        LabelValue::Text(_) => Writing::Truth,
+        LabelValue::Number(_) => Writing::Truth,
+    }
+}
