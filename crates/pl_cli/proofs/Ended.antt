@@ -1,5 +1,5 @@
 -- How the commands end.
-use Rattle.std.proofs.Common.{◌≡◌, inl, inr, ℕ, ◌+◌, ◌≤◌, Bool, true, List, [], ◌∷◌, Option, Some, None, Result, Ok, Err, OnOk, OnErr, IfErr, refl, ◌∙◌, arith}
+use Rattle.std.proofs.Common.{◌≡◌, inl, inr, ℕ, ◌+◌, ◌≤◌, Bool, true, List, [], ◌∷◌, Option, Some, None, Result, Ok, Err, OnOk, OnErr, IfErr, IsErrOf, ◌⊎◌, refl, sym, ap, ◌∙◌, arith}
 use Rattle.std.specs.Option.{ForSome}
 use Rattle.pl_spec.specs.declared.Format.TheVariants.{Csv}
 use Rattle.pl_spec.specs.World.{World}
@@ -7,11 +7,11 @@ use Rattle.pl_spec.specs.Table.{Pipeline, table}
 use Rattle.pl_spec.specs.Text.{text}
 use Rattle.pl_outside.specs.Files.{Files}
 use Rattle.pl_outside.specs.Lists.{Lists}
+use Rattle.pl_outside.specs.Counts.{Rose}
+use Rattle.pl_outside.specs.Left.{LeavesSink}
 use Rattle.pl_outside.specs.Taken.{Writes}
 use Rattle.pl_outside.proofs.Pieces.{writes-over}
 use Rattle.pl_terms.specs.Checked.{pipeline_of}
-use Rattle.pl_model.specs.declared.cell.PlainTerm.{PlainTerm}
-use Rattle.pl_plain.specs.Rows.{rows_cost}
 use Rattle.pl_syntax.specs.Spells.{Parsed}
 use Rattle.pl_syntax.specs.Canonical.{script_text}
 use Rattle.pl_words.specs.declared.request.InputFile.{InputFile}
@@ -20,7 +20,8 @@ use Rattle.pl_words.specs.Request.{Request, Run, Fmt, Check, Plan, RunRequest, P
 use Rattle.pl_judge.specs.declared.fault.Fault.{Fault}
 use Rattle.pl_judge.specs.declared.fault.Fault.TheVariants.{Usage, Unwritten, Memory}
 use Rattle.pl_judge.specs.Contents.{Contents, AreHeld}
-use Rattle.pl_judge.specs.Held.{script_in, pipeline_in, pipeline_held, terms_held, world_held}
+use Rattle.pl_judge.specs.Held.{script_in, pipeline_in, pipeline_held, world_held}
+use Rattle.pl_judge.specs.Range.{index_of}
 use Rattle.pl_judge.specs.Steps.{Step, first_fault}
 use Rattle.pl_judge.specs.Work.{syntax_step, pipeline_steps, planning_steps, work}
 use Rattle.pl_judge.specs.Stages.{IsStop, IsRisen}
@@ -31,9 +32,9 @@ use Rattle.pl_load.specs.declared.planning.PlannedPipeline.{PlannedPipeline}
 use Rattle.pl_planner.specs.Plans.{extra}
 use Rattle.pl_plan_text.specs.Text.{plan_text}
 use Rattle.pl_load.specs.Loads.{IsLoad, IsLoaded, IsPlanLoad, owned_world}
-use Rattle.pl_cli.specs.Texts.{text_of, cost_of, check_text}
+use Rattle.pl_cli.specs.Texts.{text_of, check_text, TakesSteps}
 use Rattle.pl_cli.specs.Runs.{Observed}
-use Rattle.pl_cli.specs.Commands.{IsEnd, IsEnded, IsCaused, loaded_text, loaded_cost}
+use Rattle.pl_cli.specs.Commands.{IsEnd, IsEnded, IsCaused, loaded_text, loaded_steps}
 use Rattle.pl_cli.proofs.PlanTexts.{plan-text}
 
 -- what stops the work is no fault of writing
@@ -44,21 +45,16 @@ end-of o held asked s k fault risen h = h
 
 -- ---- a run
 
-pub load-stops : {T : Type 0} (o : Observed) (q : RunRequest) (s k : Type 0) (fault : Fault) → o.steps_now ≡ o.steps → IsRisen s k fault
+pub load-stops : {T : Type 0} (o : Observed) (q : RunRequest) (s k : Type 0) (fault : Fault) → IsRisen s k fault
     → IsLoad o.files o.lists o.shelf_sound o.keeper_sound q (Err fault) → IsEnded {T = T} o (Some (Run q)) (Err fault)
 unfolding work
-load-stops o q s k fault same risen h =
+load-stops o q s k fault risen h =
     record {
       held = h.held;
       are_held = h.are_held;
       done = tt;
       ended = end-of o h.held (Some (Run q)) s k fault risen h.ends.stopped;
-      most = omega (arith, same);
     }
-
-pub no-header : {T : Type 0} (o : Observed) (q : RunRequest) (l : Loaded) → o.steps_now ≡ o.steps
-    → IsLoad o.files o.lists o.shelf_sound o.keeper_sound q (Ok l) → IsEnded {T = T} o (Some (Run q)) (Err Memory)
-no-header o q l same h = record { held = h.held; are_held = h.are_held; done = tt; ended = inr tt; most = omega (arith, same) }
 
 same-text : (v w : World) (p r : Pipeline) (a b from to : ℕ) → v ≡ w → p ≡ r → a ≡ from → b ≡ to
     → text w r Csv (table w r from to) ≡ text v p Csv (table v p a b)
@@ -66,31 +62,33 @@ same-text v w p r a b from to e c f t = rw (e, c, f, t) refl
 
 loaded-text : (held : Contents) (q : RunRequest) (l : Loaded) → IsLoaded held q l → loaded_text l ≡ text_of held (Some (Run q))
 unfolding text_of
-loaded-text held q l h = same-text (world_held held q) (owned_world l.world) (pipeline_held held) (pipeline_of l.checked) _ _ l.range.from l.range.to h.world h.pipeline h.from h.to
+loaded-text held q l h = same-text (world_held held q) (owned_world l.world) (pipeline_held held) (pipeline_of l.checked) _ _ l.plan.from l.plan.to h.world h.pipeline h.from h.to
 
-same-cost : (v w : World) (ts us : List PlainTerm) (p r : Pipeline) (a b from to : ℕ) → v ≡ w → ts ≡ us → p ≡ r → a ≡ from → b ≡ to
-    → rows_cost w us (table w r from to) ≡ rows_cost v ts (table v p a b)
-same-cost v w ts us p r a b from to e s c f t = rw (e, s, c, f, t) refl
+loaded-steps : (held : Contents) (q : RunRequest) (l : Loaded) (P : ℕ → Type 0) → IsLoaded held q l → P (loaded_steps l q.options.chunk) → TakesSteps held (Some (Run q)) P
+loaded-steps held q l P h k =
+    (l.plan, record { is = rw h.pipeline h.plan; from = sym h.from; to = sym h.to }, rw (h.world, h.pipeline) k)
 
-loaded-cost : (held : Contents) (q : RunRequest) (l : Loaded) → IsLoaded held q l → loaded_cost l ≡ cost_of held (Some (Run q))
-unfolding cost_of
-loaded-cost held q l h =
-    same-cost (world_held held q) (owned_world l.world) (terms_held held) l.terms.items (pipeline_held held) (pipeline_of l.checked) _ _ l.range.from l.range.to h.world h.terms h.pipeline h.from h.to
+none : (before now : ℕ) → now ≡ before → now ≡ before + 0
+none before now same = omega (arith, same)
+
+no-more : (before now : ℕ) → now ≡ before → now ≤ before + 0
+no-more before now same = omega (arith, same)
 
 -- a command over the pipeline file alone, with these steps, which asks for no adjustments and counts no steps
 pub record IsOfFile (asked : Request) (name : List ℕ) (steps : Option (List ℕ) → List Step) : Type 0 where
   pub named : (f : InputFile) → name_asked (Some asked) f ≡ pipeline_name name f
   pub rows : adjustments_of (Some asked) ≡ None
   pub work : (held : Contents) → work held (Some asked) ≡ steps (held.file files.Pipeline)
-  pub free : (held : Contents) → cost_of held (Some asked) ≡ 0
+  pub cost : (held : Contents) (before now : ℕ) → now ≡ before → TakesSteps held (Some asked) (λ n. now ≡ before + n)
+  pub most : (held : Contents) (before now : ℕ) → now ≡ before → TakesSteps held (Some asked) (λ n. now ≤ before + n)
 
 pub fmt-is : (name : List ℕ) → IsOfFile (Fmt name) name (λ held. syntax_step held ∷ [])
-unfolding work cost_of
-fmt-is name = record { named = λ f. refl; rows = refl; work = λ held. refl; free = λ held. refl }
+unfolding work
+fmt-is name = record { named = λ f. refl; rows = refl; work = λ held. refl; cost = λ held. none; most = λ held. no-more }
 
 pub check-is : (name : List ℕ) → IsOfFile (Check name) name pipeline_steps
-unfolding work cost_of
-check-is name = record { named = λ f. refl; rows = refl; work = λ held. refl; free = λ held. refl }
+unfolding work
+check-is name = record { named = λ f. refl; rows = refl; work = λ held. refl; cost = λ held. none; most = λ held. no-more }
 
 -- their texts
 pub fmt-text : (name bytes : List ℕ) (script : Parsed) → bytes ≡ script_text 1 script.statements
@@ -124,7 +122,7 @@ module _ {O : Type 0} (taken : O → Option (List ℕ)) (faults : O → ℕ) (so
     (tells : Option Files) (lists : Option Lists) (shelf keeper : Bool) (before now : ℕ) where
   ends-written : (held : Contents) (asked : Option Request) (r : Result (Unit {0}) Fault) → AreHeld tells lists asked held → first_fault (work held asked) ≡ None
       → Writes taken faults sound room old new (text_of held asked) r → IfErr r (λ f. f ≡ Unwritten)
-      → OnOk r (now ≡ before + cost_of held asked) → now ≤ before + cost_of held asked
+      → OnOk r (TakesSteps held asked (λ n. now ≡ before + n)) → TakesSteps held asked (λ n. now ≤ before + n)
       → IsEnded (seen taken sound room old new tells lists shelf keeper before now) asked r
   ends-written held asked (Ok x) h passed w is cost most =
       record {
@@ -132,51 +130,70 @@ module _ {O : Type 0} (taken : O → Option (List ℕ)) (faults : O → ℕ) (so
         are_held = h;
         done = record { passed = passed; text = w.all; room_left = w.room_left; cost = cost };
         ended = tt;
-        most = most;
       }
   ends-written held asked (Err f) h passed w is cost most =
       record {
         held = held;
         are_held = h;
         done = tt;
-        ended = rw is (passed, w.prefix, λ r. absurd (cc (w.blameless r.0 r.1).0));
-        most = most;
+        ended = rw is (passed, w.prefix, (λ r. absurd (cc (w.blameless r.0 r.1).0)), most);
       }
 
+  ok-steps : (q : RunRequest) (held : Contents) (l : Loaded) (r : Result (Unit {0}) Fault) → IsLoaded held q l → OnOk r (now ≡ before + loaded_steps l q.options.chunk)
+      → OnOk r (TakesSteps held (Some (Run q)) (λ n. now ≡ before + n))
+  ok-steps q held l (Ok x) h cost = loaded-steps held q l (λ n. now ≡ before + n) h cost
+  ok-steps q held l (Err f) h cost = tt
+
+  -- where memory is wanted for the table
+  no-table : (q : RunRequest) (l : Loaded) → IsLoad tells lists shelf keeper q (Ok l)
+      → IsEnded {T = Unit {0}} (seen taken sound room old new tells lists shelf keeper before now) (Some (Run q)) (Err Memory)
+  no-table q l h = record { held = h.held; are_held = h.are_held; done = tt; ended = inr tt }
+
   pub load-written : (q : RunRequest) (l : Loaded) (r : Result (Unit {0}) Fault) → IsLoad tells lists shelf keeper q (Ok l)
-      → Writes taken faults sound room old new (loaded_text l) r → IfErr r (λ f. f ≡ Unwritten) → OnOk r (now ≡ before + loaded_cost l) → now ≤ before + loaded_cost l
+      → IsErrOf r Memory ⊎ Writes taken faults sound room old new (loaded_text l) r → IfErr r (λ f. (f ≡ Memory) ⊎ (f ≡ Unwritten))
+      → OnOk r (now ≡ before + loaded_steps l q.options.chunk) → now ≤ before + loaded_steps l q.options.chunk
       → IsEnded (seen taken sound room old new tells lists shelf keeper before now) (Some (Run q)) r
   unfolding work
-  load-written q l r h w is cost most =
-      ends-written h.held (Some (Run q)) r h.are_held h.ends.passed (writes-over (loaded-text h.held q l h.loaded) w) is
-      (rw (loaded-cost h.held q l h.loaded) at cost) (rw (loaded-cost h.held q l h.loaded) at most)
+  load-written q l r h w is cost most = elim w [
+    | inl m ↦ wanting r m
+    | inr t ↦ written r t is cost
+  ]
+    where
+      wanting : (r : Result (Unit {0}) Fault) → IsErrOf r Memory → IsEnded (seen taken sound room old new tells lists shelf keeper before now) (Some (Run q)) r
+      wanting r m = rw m (no-table q l h)
 
-  no-step : (r : Result (Unit {0}) Fault) (cost : ℕ) → now ≡ before → cost ≡ 0 → OnOk r (now ≡ before + cost)
-  no-step (Ok x) cost same none = omega (arith, same, none)
-  no-step (Err f) cost same none = tt
+      written : (r : Result (Unit {0}) Fault) → Writes taken faults sound room old new (loaded_text l) r → IfErr r (λ f. (f ≡ Memory) ⊎ (f ≡ Unwritten))
+          → OnOk r (now ≡ before + loaded_steps l q.options.chunk) → IsEnded (seen taken sound room old new tells lists shelf keeper before now) (Some (Run q)) r
+      written (Ok x) t is cost =
+          ends-written h.held (Some (Run q)) (Ok x) h.are_held h.ends.passed (writes-over (loaded-text h.held q l h.loaded) t) tt
+          (ok-steps q h.held l (Ok x) h.loaded cost) (loaded-steps h.held q l (λ n. now ≤ before + n) h.loaded most)
+      written (Err f) t is cost = elim is [
+        | inl m ↦ rw m (no-table q l h)
+        | inr u ↦ ends-written h.held (Some (Run q)) (Err f) h.are_held h.ends.passed (writes-over (loaded-text h.held q l h.loaded) t) u
+          tt (loaded-steps h.held q l (λ n. now ≤ before + n) h.loaded most)
+      ]
 
   -- ---- a plan
 
-  pub plan-stops : (q : PlanRequest) (s k : Type 0) (fault : Fault) → now ≡ before → IsRisen s k fault → IsPlanLoad tells shelf q (Err fault)
+  pub plan-stops : (q : PlanRequest) (s k : Type 0) (fault : Fault) → IsRisen s k fault → IsPlanLoad tells shelf q (Err fault)
       → IsEnded {T = Unit {0}} (seen taken sound room old new tells lists shelf keeper before now) (Some (Plan q)) (Err fault)
   unfolding work
-  plan-stops q s k fault same risen h =
+  plan-stops q s k fault risen h =
       record {
         held = h.held;
         are_held = h.are_held lists;
         done = tt;
         ended = end-of (seen taken sound room old new tells lists shelf keeper before now) h.held (Some (Plan q)) s k fault risen
             (stop-weaker shelf keeper shelf true (planning_steps h.held q) fault (λ t. t) always h.ends.stopped);
-        most = omega (arith, same);
       }
 
-  pub no-plan-text : (q : PlanRequest) (l : PlannedPipeline) → now ≡ before → IsPlanLoad tells shelf q (Ok l)
+  pub no-plan-text : (q : PlanRequest) (l : PlannedPipeline) → IsPlanLoad tells shelf q (Ok l)
       → IsEnded {T = Unit {0}} (seen taken sound room old new tells lists shelf keeper before now) (Some (Plan q)) (Err Memory)
-  no-plan-text q l same h = record { held = h.held; are_held = h.are_held lists; done = tt; ended = inr tt; most = omega (arith, same) }
+  no-plan-text q l h = record { held = h.held; are_held = h.are_held lists; done = tt; ended = inr tt }
 
-  plan-free : (held : Contents) (q : PlanRequest) → cost_of held (Some (Plan q)) ≡ 0
-  unfolding cost_of
-  plan-free held q = refl
+  when-ok : {A : Type 0} (r : Result (Unit {0}) Fault) → A → OnOk r A
+  when-ok (Ok x) a = a
+  when-ok (Err f) a = tt
 
   pub plan-written : (q : PlanRequest) (l : PlannedPipeline) (bytes : List ℕ) (r : Result (Unit {0}) Fault) → now ≡ before → IsPlanLoad tells shelf q (Ok l)
       → bytes ≡ plan_text (pipeline_of l.checked) (extra l.plan) l.plan.reach l.plan.bound
@@ -184,9 +201,8 @@ module _ {O : Type 0} (taken : O → Option (List ℕ)) (faults : O → ℕ) (so
       → IsEnded (seen taken sound room old new tells lists shelf keeper before now) (Some (Plan q)) r
   unfolding work
   plan-written q l bytes r same h text w is =
-      let none = plan-free h.held q in
       ends-written h.held (Some (Plan q)) r (h.are_held lists) h.ends.passed (writes-over (text ∙ plan-text h.held q l h.planned) w) is
-      (no-step r (cost_of h.held (Some (Plan q))) same none) (omega (arith, same, none))
+      (when-ok r (none before now same)) (no-more before now same)
 
   -- ---- commands over the pipeline file alone
 
@@ -210,24 +226,23 @@ module _ {O : Type 0} (taken : O → Option (List ℕ)) (faults : O → ℕ) (so
       }
 
   pub file-stops : {T : Type 0} (asked : Request) (name : List ℕ) (steps : Option (List ℕ) → List Step) (s k : Type 0) (fault : Fault) (Means : Option (List ℕ) → T → Type 0)
-      → IsOfFile asked name steps → now ≡ before → IsRisen s k fault → IsRead tells shelf (Some name) steps Means (Err fault)
+      → IsOfFile asked name steps → IsRisen s k fault → IsRead tells shelf (Some name) steps Means (Err fault)
       → IsEnded {T = Unit {0}} (seen taken sound room old new tells lists shelf keeper before now) (Some asked) (Err fault)
-  file-stops asked name steps s k fault Means of same risen h =
+  file-stops asked name steps s k fault Means of risen h =
       record {
         held = file_held h.file;
         are_held = are-held asked name steps h.file of h.is_told;
         done = tt;
         ended = end-of (seen taken sound room old new tells lists shelf keeper before now) (file_held h.file) (Some asked) s k fault risen
             (rw (of.work (file_held h.file)) (stop-weaker shelf keeper shelf true (steps h.file) fault (λ t. t) always h.ends.stopped));
-        most = omega (arith, same);
       }
 
   -- memory is wanted for the text
   pub no-text : {T : Type 0} (asked : Request) (name : List ℕ) (steps : Option (List ℕ) → List Step) (x : T) (Means : Option (List ℕ) → T → Type 0)
-      → IsOfFile asked name steps → now ≡ before → IsRead tells shelf (Some name) steps Means (Ok x)
+      → IsOfFile asked name steps → IsRead tells shelf (Some name) steps Means (Ok x)
       → IsEnded {T = Unit {0}} (seen taken sound room old new tells lists shelf keeper before now) (Some asked) (Err Memory)
-  no-text asked name steps x Means of same h =
-      record { held = file_held h.file; are_held = are-held asked name steps h.file of h.is_told; done = tt; ended = inr tt; most = omega (arith, same) }
+  no-text asked name steps x Means of h =
+      record { held = file_held h.file; are_held = are-held asked name steps h.file of h.is_told; done = tt; ended = inr tt }
 
   pub file-written : {T : Type 0} (asked : Request) (name : List ℕ) (steps : Option (List ℕ) → List Step) (x : T) (Means : Option (List ℕ) → T → Type 0) (bytes : List ℕ)
       (r : Result (Unit {0}) Fault) → IsOfFile asked name steps → now ≡ before → IsRead tells shelf (Some name) steps Means (Ok x)
@@ -235,24 +250,44 @@ module _ {O : Type 0} (taken : O → Option (List ℕ)) (faults : O → ℕ) (so
       → Writes taken faults sound room old new bytes r → IfErr r (λ f. f ≡ Unwritten)
       → IsEnded (seen taken sound room old new tells lists shelf keeper before now) (Some asked) r
   file-written asked name steps x Means bytes r of same h text w is =
-      let none = of.free (file_held h.file) in
       ends-written (file_held h.file) (Some asked) r (are-held asked name steps h.file of h.is_told) (rw (of.work (file_held h.file)) h.ends.passed)
-      (writes-over (text h.file h.means) w) is (no-step r (cost_of (file_held h.file) (Some asked)) same none) (omega (arith, same, none))
+      (writes-over (text h.file h.means) w) is
+      (when-ok r (of.cost (file_held h.file) before now same)) (of.most (file_held h.file) before now same)
 
 -- what was not written has its cause
 pub caused-written : (s k risen kept : Type 0) (r : Result (Unit {0}) Fault) → IfErr r (λ f. f ≡ Unwritten) → OnErr r risen → IfErr r (IsCaused ⊥ s k risen kept)
 caused-written s k risen kept (Ok x) is h = tt
 caused-written s k risen kept (Err f) is h = rw is h
 
+pub failed-or : {S : Type 0} (taken : S → Option (List ℕ)) (faults : S → ℕ) (sound : S → Bool) (room : S → ℕ) (old new : S) (text : List ℕ) (r : Result (Unit {0}) Fault)
+    → IsErrOf r Memory ⊎ Writes taken faults sound room old new text r → IsErrOf r Memory ⊎ OnErr r (Rose (faults old) (faults new))
+failed-or taken faults sound room old new text r h = elim h [ inl m ↦ inl m | inr w ↦ inr w.failed ]
+
+-- ... or memory was wanted before it
+pub caused-loaded : (s k risen kept : Type 0) (r : Result (Unit {0}) Fault) → IfErr r (λ f. (f ≡ Memory) ⊎ (f ≡ Unwritten)) → (IsErrOf r Memory → kept)
+    → IsErrOf r Memory ⊎ OnErr r risen → IfErr r (IsCaused ⊥ s k risen kept)
+caused-loaded s k risen kept (Ok x) is m w = tt
+caused-loaded s k risen kept (Err f) is m w = elim is [
+  | inl e ↦ rw e (m (ap (λ z. Err z) e))
+  | inr u ↦ rw u (elim w [ inl e ↦ absurd (let both = rw u at e in cc) | inr h ↦ h ])
+]
+
+-- either way the sink is left as a sink
+pub leaves-or : {S : Type 0} (taken : S → Option (List ℕ)) (faults : S → ℕ) (sound : S → Bool) (room : S → ℕ) (old new : S) (text : List ℕ) (A : Type 0) (r : Result (Unit {0}) Fault)
+    → IsErrOf r Memory ⊎ Writes taken faults sound room old new text r → (IsErrOf r Memory → (new ≡ old) × A) → LeavesSink sound faults old new
+leaves-or taken faults sound room old new text A r h same = elim h [
+  | inl m ↦ (let e = (same m).0 in record { stays = ap sound e; later = omega (arith, ap faults e) })
+  | inr w ↦ record { stays = w.stays; later = w.later }
+]
+
 -- ---- no command
 
-pub no-command : {T : Type 0} (o : Observed) → o.steps_now ≡ o.steps → IsEnded {T = T} o None (Err Usage)
+pub no-command : {T : Type 0} (o : Observed) → IsEnded {T = T} o None (Err Usage)
 unfolding work
-no-command o same =
+no-command o =
     record {
       held = record { file = λ f. None; rows = λ t. [] };
       are_held = record { files_held = λ f n is. absurd (cc); rows_held = λ t n is. absurd (cc) };
       done = tt;
       ended = inl refl;
-      most = omega (arith, same);
     }

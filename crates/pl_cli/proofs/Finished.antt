@@ -1,11 +1,11 @@
 -- From the end of a command to the status and the line of the program.
-use Rattle.std.proofs.Common.{◌≡◌, ◌⊎◌, inl, inr, ℕ, List, [], length, Bool, arith, IsTrue, IsSome, Option, Some, None, Result, Ok, Err, refl, MatchOption, option_map, Bor}
+use Rattle.std.proofs.Common.{◌≡◌, ◌⊎◌, inl, inr, ℕ, List, [], length, Bool, arith, IsTrue, IsSome, Option, Some, None, Result, Ok, Err, refl, subst, MatchOption, IfSome, option_map, Bor}
 use Rattle.std.specs.Option.{option_copied, ForSome}
 use Rattle.pl_outside.specs.Files.{Files}
 use Rattle.pl_outside.specs.Lists.{Lists}
 use Rattle.pl_outside.specs.declared.keeper.Table.{Table}
 use Rattle.pl_spec.specs.declared.RawAdjust.{RawAdjust}
-use Rattle.pl_words.specs.Request.{Request, name_asked, adjustments_of}
+use Rattle.pl_words.specs.Request.{Request, HasChunk, name_asked, adjustments_of}
 use Rattle.pl_words.specs.Views.{request_of}
 use Rattle.pl_words.specs.declared.request.Request.{Request as Code}
 use Rattle.pl_judge.specs.declared.fault.Fault.{Fault}
@@ -68,7 +68,6 @@ not-zero : (f : Fault) → status_of f ≡ 0 → ⊥
 not-zero faults.Usage e = omega arith
 not-zero (faults.Syntax place fault) e = omega arith
 not-zero (faults.Rule place fault) e = omega arith
-not-zero faults.Unbuilt e = omega arith
 not-zero (faults.Data file line fault) e = omega arith
 not-zero (faults.Row table id fault) e = omega arith
 not-zero (faults.NotSession date) e = omega arith
@@ -84,7 +83,6 @@ nine-is : (f : Fault) → status_of f ≡ 9 → f ≡ Unwritten
 nine-is faults.Usage e = absurd (omega arith)
 nine-is (faults.Syntax place fault) e = absurd (omega arith)
 nine-is (faults.Rule place fault) e = absurd (omega arith)
-nine-is faults.Unbuilt e = absurd (omega arith)
 nine-is (faults.Data file line fault) e = absurd (omega arith)
 nine-is (faults.Row table id fault) e = absurd (omega arith)
 nine-is (faults.NotSession date) e = absurd (omega arith)
@@ -108,7 +106,7 @@ run-is o asked (Ok x) h =
       prefix = λ z. absurd (let no : 0 ≡ 9 = z in omega arith);
       room_left = λ z s. h.done.room_left s;
       cost = λ z. h.done.cost;
-      most = h.most;
+      most = λ z. absurd (let no : 0 ≡ 9 = z in omega arith);
       complete = λ s k r out. inl (judged-is (work h.held asked) asked None h.done.passed);
     }
 run-is o asked (Err f) h =
@@ -120,7 +118,7 @@ run-is o asked (Err f) h =
       prefix = λ z. let e = rw (nine-is f z) at h.ended in e.1;
       room_left = λ z s. absurd (not-zero f z);
       cost = λ z. absurd (not-zero f z);
-      most = h.most;
+      most = λ z. (let e = rw (nine-is f z) at h.ended in e.3);
       complete = λ s k r out. end-complete o h.held asked f h.ended s k r;
     }
 
@@ -134,6 +132,10 @@ pub asked-lent : (words : Option Request) (asked : Option Code) (lent : Option (
     → option_copied lent ≡ asked → words ≡ option_map (λ q. request_of q.now) lent
 asked-lent words asked None h e = let g = rw (← e) at h in g
 asked-lent words asked (Some r) h e = let g = rw (← e) at h in g
+
+pub chunk-lent : (words : Option Request) (asked : Option Code) (lent : Option (Bor Code)) → MatchOption asked (words ≡ None) (λ r. words ≡ Some (request_of r))
+    → option_copied lent ≡ asked → IfSome words HasChunk → IfSome (option_map (λ q. request_of q.now) lent) HasChunk
+chunk-lent words asked lent h e fits = subst (λ o. IfSome o HasChunk) (asked-lent words asked lent h e) fits
 
 -- ---- where memory ran out before the words were read
 
@@ -157,12 +159,11 @@ rows-told None lists table n is told has = absurd (cc)
 rows-told (Some name) None table n is told has = absurd (cc)
 rows-told (Some name) (Some held) table n is told has = cc
 
-pub no-words : {T : Type 0} (o : Observed) (asked : Option Request) → o.steps_now ≡ o.steps → IsEnded {T = T} o asked (Err Memory)
-no-words o asked same =
+pub no-words : {T : Type 0} (o : Observed) (asked : Option Request) → IsEnded {T = T} o asked (Err Memory)
+no-words o asked =
     record {
       held = record { file = λ f. told-file (name_asked asked f) o.files; rows = λ t. told-rows (adjustments_of asked) o.lists t };
       are_held = record { files_held = λ f. file-told (name_asked asked f) o.files; rows_held = λ t. rows-told (adjustments_of asked) o.lists t };
       done = tt;
       ended = inr tt;
-      most = omega (arith, same);
     }

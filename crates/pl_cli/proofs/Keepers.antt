@@ -69,12 +69,9 @@ of-run held q table h = elim h [
   | inl p ↦ no-input p
   | inr a ↦ elim a.1 [
     | inl p ↦ no-read p
-    | inr b ↦ elim b.1 [
-      | inl p ↦ no-read p
-      | inr d ↦ elim (reaches-one (data_steps held q) _ (Load table) d.1) [
-        | inl e ↦ of-data held q table e
-        | inr r ↦ absurd (of-range (pipeline_held held) (days_held held) q.from q.to table r)
-      ]
+    | inr b ↦ elim (reaches-one (data_steps held q) _ (Load table) b.1) [
+      | inl e ↦ of-data held q table e
+      | inr r ↦ absurd (of-range (pipeline_held held) (days_held held) q.from q.to table r)
     ]
   ]
 ]

@@ -5,7 +5,6 @@ use Rattle.pl_spec.specs.Table.{table}
 use Rattle.pl_spec.specs.Text.{text}
 use Rattle.pl_outside.specs.Taken.{TakesAll, TakesPrefix}
 use Rattle.pl_terms.specs.Checked.{pipeline_of}
-use Rattle.pl_plain.specs.Rows.{rows_cost}
 use Rattle.pl_words.specs.Request.{Request}
 use Rattle.pl_judge.specs.declared.fault.Fault.{Fault}
 use Rattle.pl_judge.specs.declared.fault.Fault.TheVariants.{Usage, Unread, Unloaded, Unwritten}
@@ -15,20 +14,19 @@ use Rattle.pl_judge.specs.Work.{work}
 use Rattle.pl_judge.specs.Stages.{IsStop}
 use Rattle.pl_load.specs.declared.loading.Loaded.{Loaded}
 use Rattle.pl_load.specs.Loads.{owned_world}
-use Rattle.pl_cli.specs.Texts.{text_of, cost_of}
+use Rattle.pl_runner.specs.Runs.{run_steps}
+use Rattle.pl_cli.specs.Texts.{text_of, TakesSteps}
 use Rattle.pl_cli.specs.Runs.{Observed, HasRoom}
 
--- the table of what was loaded, and the steps of its cells
+-- the table of what was loaded, and its steps in chunks of so many sessions
 abbrev pub loaded_text : Loaded → List ℕ
 loaded_text l =
     let w = owned_world l.world in
     let p = pipeline_of l.checked in
-    text w p Csv (table w p l.range.from l.range.to)
+    text w p Csv (table w p l.plan.from l.plan.to)
 
-abbrev pub loaded_cost : Loaded → ℕ
-loaded_cost l =
-    let w = owned_world l.world in
-    rows_cost w l.terms.items (table w (pipeline_of l.checked) l.range.from l.range.to)
+abbrev pub loaded_steps : Loaded → ℕ → ℕ
+loaded_steps l chunk = run_steps (owned_world l.world) (pipeline_of l.checked) l.plan chunk
 
 abbrev pub fault_of : {T : Type 0} → Result T Fault → Option Fault
 fault_of (Ok x) = None
@@ -37,7 +35,8 @@ fault_of (Err fault) = Some fault
 -- the work stops, or after a prefix the text isn't written
 abbrev pub IsEnd : Observed → Contents → Option Request → Fault → Type 0
 IsEnd o held asked Unwritten =
-    (first_fault (work held asked) ≡ None) × TakesPrefix o.taken o.taken_now (text_of held asked) × (HasRoom o (length (text_of held asked)) → ⊥)
+    (first_fault (work held asked) ≡ None) × TakesPrefix o.taken o.taken_now (text_of held asked)
+    × (HasRoom o (length (text_of held asked)) → ⊥) × TakesSteps held asked (λ n. o.steps_now ≤ o.steps + n)
 IsEnd o held asked fault = IsStop o.shelf_sound o.keeper_sound (work held asked) fault
 
 -- there is no fault, and the text is written
@@ -45,7 +44,7 @@ pub record IsDone (o : Observed) (held : Contents) (asked : Option Request) : Ty
   pub passed : first_fault (work held asked) ≡ None
   pub text : TakesAll o.taken o.taken_now (text_of held asked)
   pub room_left : IsTrue o.out_sound → o.room_now + length (text_of held asked) ≡ o.room
-  pub cost : o.steps_now ≡ o.steps + cost_of held asked
+  pub cost : TakesSteps held asked (λ n. o.steps_now ≡ o.steps + n)
 
 -- a command over contents that the parts hold where they tell
 pub record IsEnded {T : Type 0} (o : Observed) (asked : Option Request) (result : Result T Fault) : Type 0 where
@@ -53,7 +52,6 @@ pub record IsEnded {T : Type 0} (o : Observed) (asked : Option Request) (result 
   pub are_held : AreHeld o.files o.lists asked held
   pub done : OnOk result (IsDone o held asked)
   pub ended : IfErr result (IsEnd o held asked)
-  pub most : o.steps_now ≤ o.steps + cost_of held asked
 
 -- What holds of a fault, whether the parts tell or not: it has its cause, and what stops leaves the sink and the steps as they were.
 abbrev pub IsCaused : Type 0 → Type 0 → Type 0 → Type 0 → Type 0 → Fault → Type 0

@@ -9,7 +9,7 @@ use Rattle.pl_judge.specs.Contents.{Contents, AreHeld}
 use Rattle.pl_judge.specs.Steps.{first_fault}
 use Rattle.pl_judge.specs.Work.{work}
 use Rattle.pl_judge.specs.Ends.{Ends, EndsJudged, EndsForMemory}
-use Rattle.pl_cli.specs.Texts.{text_of, cost_of}
+use Rattle.pl_cli.specs.Texts.{text_of, TakesSteps}
 
 -- What the parts of the outside tell as a run begins, and what is told of `out` and of the steps as it ends.
 pub record Observed : Type 0 where
@@ -56,9 +56,9 @@ pub record IsRun (o : Observed) (asked : Option Request) (status : ℕ) (line : 
   pub prefix : status ≡ 9 → TakesPrefix o.taken o.taken_now (text_of held asked)
   -- the room that is left, where out is sound
   pub room_left : status ≡ 0 → IsTrue o.out_sound → o.room_now + length (text_of held asked) ≡ o.room
-  -- all steps of the cells with status 0, and never more
-  pub cost : status ≡ 0 → o.steps_now ≡ o.steps + cost_of held asked
-  pub most : o.steps_now ≤ o.steps + cost_of held asked
+  -- all its steps with status 0, and no more of them with status 9
+  pub cost : status ≡ 0 → TakesSteps held asked (λ n. o.steps_now ≡ o.steps + n)
+  pub most : status ≡ 9 → TakesSteps held asked (λ n. o.steps_now ≤ o.steps + n)
   -- over sound parts with room for the text the first fault decides, unless memory is wanted
   pub complete : IsTrue o.shelf_sound → (IsSome (adjustments_of asked) → IsTrue o.keeper_sound)
       → (first_fault (work held asked) ≡ None → HasRoom o (length (text_of held asked))) → IsTrue o.out_sound

@@ -1,5 +1,5 @@
 -- The text of a command over its contents, and the steps that it takes.
-use Rattle.std.specs.Prelude.{ℕ, ℤ, List, [], ◌∷◌, ◌++◌, length, codes, decimal, Option, Some, None}
+use Rattle.std.specs.Prelude.{◌≡◌, ℕ, ℤ, List, [], ◌∷◌, ◌++◌, length, codes, decimal, Option, Some, None}
 use Rattle.pl_spec.specs.declared.Format.TheVariants.{Csv}
 use Rattle.pl_spec.specs.World.{World}
 use Rattle.pl_spec.specs.Table.{Pipeline, Row, table}
@@ -8,11 +8,12 @@ use Rattle.pl_spec.specs.Graph.{bound}
 use Rattle.pl_terms.specs.Uses.{outputs}
 use Rattle.pl_plan_text.specs.Text.{plan_text}
 use Rattle.pl_syntax.specs.Canonical.{script_text}
-use Rattle.pl_plain.specs.Rows.{rows_cost}
+use Rattle.pl_planner.specs.Plans.{Planned, IsPlanOf}
+use Rattle.pl_runner.specs.Runs.{run_steps}
 use Rattle.pl_words.specs.declared.request.InputFile.TheVariants.{Pipeline as PipelineFile}
 use Rattle.pl_words.specs.Request.{Request, Run, Fmt, Check, Plan, RunRequest}
 use Rattle.pl_judge.specs.Contents.{Contents}
-use Rattle.pl_judge.specs.Held.{script_in, pipeline_in, pipeline_held, days_held, terms_held, world_held}
+use Rattle.pl_judge.specs.Held.{script_in, pipeline_in, pipeline_held, days_held, world_held}
 use Rattle.pl_judge.specs.Planning.{extra_of, reach_at}
 use Rattle.pl_judge.specs.Range.{index_of}
 
@@ -47,15 +48,15 @@ text_of held (Some (Plan q)) =
     let days = days_held held in
     planned_text days (pipeline_held held) (index_of days q.from.day)
 
--- the steps of the cells of a run: one each time that an adjustment changes a cell of a window
-abbrev pub run_cost : Contents → RunRequest → ℕ
-run_cost held q =
-    let w = world_held held q in
-    rows_cost w (terms_held held) (rows_asked w (pipeline_held held) q)
+-- a plan of the pipeline over the sessions of a run, for its range
+pub record IsPlanFor (held : Contents) (q : RunRequest) (plan : Planned) : Type 0 where
+  pub is : IsPlanOf (days_held held) (pipeline_held held) plan
+  pub from : plan.from ≡ index_of (days_held held) q.from.day
+  pub to : plan.to ≡ index_of (days_held held) q.to.day
 
-unfoldable pub cost_of : Contents → Option Request → ℕ
-cost_of held None = 0
-cost_of held (Some (Run q)) = run_cost held q
-cost_of held (Some (Fmt name)) = 0
-cost_of held (Some (Check name)) = 0
-cost_of held (Some (Plan q)) = 0
+-- The steps of a run, as its plan has them: the sum over the chunks of its sessions, the used terms and the bar columns of
+-- each, of how often an adjustment acts on a bar as the window goes from session to session. No other command takes steps.
+abbrev pub TakesSteps : Contents → Option Request → (ℕ → Type 0) → Type 0
+TakesSteps held (Some (Run q)) P =
+    (plan : Planned) × IsPlanFor held q plan × P (run_steps (world_held held q) (pipeline_held held) plan q.options.chunk)
+TakesSteps held asked P = P 0

@@ -1,18 +1,16 @@
 // The commands. Each reads and judges what it is asked for, and writes its text.
-ghost use Rattle.std.specs.Prelude.{◌≡◌, ◌≤◌, ◌+◌, ℕ, Bool, Option, None, Some, OnOk, IfErr};
+ghost use Rattle.std.specs.Prelude.{◌≡◌, ◌≤◌, ◌+◌, ◌⊎◌, ℕ, Bool, Option, None, Some, OnOk, IfErr, IsErrOf};
 ghost use Rattle.pl_outside.specs.Counts.{Rose};
-ghost use Rattle.pl_spec.specs.declared.Format.TheVariants.{Csv};
-ghost use Rattle.pl_spec.specs.Text.{header};
 ghost use Rattle.pl_outside.specs.Lists.{Lists};
 ghost use Rattle.pl_outside.specs.Taken.{Writes};
 ghost use Rattle.pl_outside.specs.Left.{Leaves, LeavesSink, IsUntouched};
-ghost use Rattle.pl_words.specs.Request.{Run, Fmt, Check, Plan};
+ghost use Rattle.pl_words.specs.Request.{Run, Fmt, Check, Plan, IsChunk};
 ghost use Rattle.pl_words.specs.Views.{run_of, plan_of};
 ghost use Rattle.pl_cli.specs.Runs.{observed};
 ghost use Rattle.pl_load.specs.Loads.{IsReady};
 ghost use Rattle.pl_terms.specs.Checked.{pipeline_of};
 ghost use Rattle.pl_cli.specs.Texts.{check_text};
-ghost use Rattle.pl_cli.specs.Commands.{IsEnded, IsCaused, loaded_text, loaded_cost};
+ghost use Rattle.pl_cli.specs.Commands.{IsEnded, IsCaused, loaded_text, loaded_steps};
 
 use itoa::Buffer;
 use pl_fixed::Steps;
@@ -20,7 +18,8 @@ use pl_judge::{Fault, write_pieces};
 use pl_load::{Loaded, load, load_plan, read_checked, read_script};
 use pl_outside::{AdjustKeeper, Failed, Shelf, Sink, write_bytes};
 use pl_plan_text::plan_text;
-use pl_runner::{TableText, make_header, write_table};
+use pl_runner::{RunError, run_table};
+use pl_spec::Format;
 use pl_syntax::print;
 use pl_terms::Checked;
 use pl_words::{PlanRequest, RunRequest};
@@ -36,6 +35,7 @@ pub fn run_command<S: Shelf, K: AdjustKeeper, O: Sink, L: Ledger>(
     out: &mut O,
     steps: &mut Steps<L>,
 ) -> Result<(), Fault>
+    requires chunk { IsChunk (run_of request.now).options.chunk }
     ensures ended { IsEnded (observed S.holds S.sound K.lists K.sound O.taken O.sound O.room shelf.old keeper.old out.old out.new
         steps.old steps.new) (Some (Run (run_of request.now))) result }
     ensures caused { IfErr result (IsCaused ⊥ (Rose (S.faults shelf.old) (S.faults shelf.new))
@@ -47,35 +47,30 @@ pub fn run_command<S: Shelf, K: AdjustKeeper, O: Sink, L: Ledger>(
     ensures out { LeavesSink O.sound O.faults out.old out.new }
 {
     let loaded = load(alloc, request, shelf, keeper)?;
-    let header = make_header(alloc, &loaded.checked)?;
-    write_loaded(&loaded, &header, out, steps)
+    write_loaded(alloc, &loaded, request.options.chunk as usize, out, steps)
 }
 
-// Writes the table of what was loaded, behind its header.
+// Writes the table of what was loaded, computed in chunks of so many sessions.
 fn write_loaded<O: Sink, L: Ledger>(
+    alloc: Global,
     loaded: &Loaded,
-    first_line: &[u8],
+    chunk: usize,
     out: &mut O,
     steps: &mut Steps<L>,
 ) -> Result<(), Fault>
     requires ready { IsReady loaded.now }
-    requires headed { first_line.now ≡ header (pipeline_of loaded.now.checked) Csv }
-    ensures writes { Writes O.taken O.faults O.sound O.room out.old out.new (loaded_text loaded.now) result }
-    ensures unwritten { IfErr result (λ fault. fault ≡ Fault.Unwritten) }
-    ensures cost { OnOk result (steps.new ≡ steps.old + loaded_cost loaded.now) }
-    ensures most { steps.new ≤ steps.old + loaded_cost loaded.now }
+    requires chunk { IsChunk chunk }
+    ensures writes { IsErrOf result Fault.Memory ⊎ Writes O.taken O.faults O.sound O.room out.old out.new (loaded_text loaded.now) result }
+    ensures fault { IfErr result (λ fault. (fault ≡ Fault.Memory) ⊎ (fault ≡ Fault.Unwritten)) }
+    ensures memory { IsErrOf result Fault.Memory → (out.new ≡ out.old) × (steps.new ≡ steps.old) }
+    ensures cost { OnOk result (steps.new ≡ steps.old + loaded_steps loaded.now chunk) }
+    ensures most { steps.new ≤ steps.old + loaded_steps loaded.now chunk }
 {
-    let table = TableText {
-        header: first_line,
-        world: loaded.world.world(),
-        checked: &loaded.checked,
-        terms: &loaded.terms,
-        from: loaded.range.from,
-        to: loaded.range.to,
-    };
-    match write_table(&table, out, steps) {
-        Ok(()) => Ok(()),
-        Err(_) => Err(Fault::Unwritten),
+    let world = loaded.world.world();
+    match run_table(alloc, &world, &loaded.checked, &loaded.plan, chunk, Format::Csv, out, steps) {
+        Ok(_) => Ok(()),
+        Err(RunError::Memory) => Err(Fault::Memory),
+        Err(RunError::WriteFault) => Err(Fault::Unwritten),
     }
 }
 

@@ -1,8 +1,8 @@
 // The top call.
-ghost use Rattle.std.specs.Prelude.{◌≡◌, ℕ, List, Some, None, map, option_map, string_bytes, IfErr};
+ghost use Rattle.std.specs.Prelude.{◌≡◌, ℕ, List, Some, None, map, option_map, string_bytes, IfErr, IfSome};
 ghost use Rattle.pl_outside.specs.Counts.{Rose};
 ghost use Rattle.pl_outside.specs.Left.{Leaves, LeavesSink, IsUntouched};
-ghost use Rattle.pl_words.specs.Request.{request, adjustments_of};
+ghost use Rattle.pl_words.specs.Request.{HasChunk, request, adjustments_of};
 ghost use Rattle.pl_words.specs.Views.{request_of};
 ghost use Rattle.pl_judge.specs.Faults.{judged_status, judged_line};
 ghost use Rattle.pl_cli.specs.Runs.{observed, IsRun, IsTold};
@@ -18,9 +18,9 @@ use std::sync::ledger::Ledger;
 
 /// Runs the program on the words after its name:
 ///
-/// - `run PIPELINE SESSIONS ASSETS BARS FROM TO`, with the options `--labels NAME` and `--adjustments NAME` anywhere among these
-///   words, reads the files from the shelf and the adjustments from the keeper, and writes the table of the sessions FROM to TO
-///   to `out`;
+/// - `run PIPELINE SESSIONS ASSETS BARS FROM TO`, with the options `--labels NAME`, `--adjustments NAME` and `--chunk N` anywhere
+///   among these words, reads the files from the shelf and the adjustments from the keeper, and writes the table of the
+///   sessions FROM to TO to `out`, computed N sessions at a time, 126 where N is not told;
 /// - `fmt PIPELINE` writes the canonical text of the pipeline file;
 /// - `check PIPELINE` writes how many terms and columns its pipeline has;
 /// - `plan PIPELINE SESSIONS FROM TO` writes what is computed for these sessions: a line for each used term, and the least
@@ -34,8 +34,7 @@ use std::sync::ledger::Ledger;
 /// - 4: a record of a data file or a row of the adjustments breaks a rule; 5: the range is not one of sessions with the bars
 ///   that the columns show; 6: a limit is passed;
 /// - 7: the shelf counted a fault; 8: the keeper did; 9: `out` did, and a prefix of the text stands on it;
-/// - 10: memory ran out before the first byte;
-/// - 11: the pipeline file has a form that is not computed yet.
+/// - 10: memory ran out before the first byte.
 ///
 /// Every status but 0 has its line on `err`. The first fault in the order of work decides: the words, the pipeline file, the
 /// sessions, the assets, the labels, the bars, the adjustments, the range. The parts are handed back, so that a caller can run
@@ -91,6 +90,7 @@ fn answer<S: Shelf, K: AdjustKeeper, O: Sink, L: Ledger>(
     out: &mut O,
     steps: &mut Steps<L>,
 ) -> Result<(), Fault>
+    requires chunk { IfSome (option_map (λ q. request_of q.now) asked) HasChunk }
     ensures ended { IsEnded (observed S.holds S.sound K.lists K.sound O.taken O.sound O.room shelf.old keeper.old out.old out.new
         steps.old steps.new) (option_map (λ q. request_of q.now) asked.entry) result }
     ensures refused { option_map (λ q. request_of q.now) asked.entry ≡ None → fault_of result ≡ Some Fault.Usage }

@@ -76,7 +76,6 @@ abbrev pub status_of : Fault → ℕ
 status_of faults.Usage = 2
 status_of (faults.Syntax place fault) = 3
 status_of (faults.Rule place fault) = 3
-status_of faults.Unbuilt = 11
 status_of (faults.Data file line fault) = 4
 status_of (faults.Row table id fault) = 4
 status_of (faults.NotSession date) = 5
@@ -106,7 +105,6 @@ message_of asked faults.Usage = codes "usage"
 message_of asked (faults.Syntax place fault) =
     place_text asked place ++ codes ": syntax " ++ syntax_text fault
 message_of asked (faults.Rule place fault) = place_text asked place ++ codes ": check " ++ rule_text fault
-message_of asked faults.Unbuilt = codes "unbuilt"
 message_of asked (faults.Data file line fault) =
     file_name asked file ++ codes ":" ++ decimal line ++ codes ": data " ++ data_text fault
 message_of asked (faults.Row table id fault) =

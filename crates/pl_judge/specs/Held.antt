@@ -20,8 +20,6 @@ use Rattle.pl_syntax.specs.Said.{Said, Spelled, Faulty, said}
 use Rattle.pl_check.specs.Typed.{typed}
 use Rattle.pl_outside.specs.declared.keeper.Table.{Table}
 use Rattle.pl_outside.specs.declared.keeper.Table.TheVariants.{Splits, Mergers, Dividends}
-use Rattle.pl_model.specs.declared.cell.PlainTerm.{PlainTerm}
-use Rattle.pl_plain.specs.PlainPipelines.{plain_terms}
 use Rattle.pl_words.specs.declared.request.InputFile.TheVariants.{Pipeline as PipelineFile, Sessions, Assets, Labels, Bars}
 use Rattle.pl_words.specs.Request.{RunRequest}
 use Rattle.pl_judge.specs.Contents.{Contents}
@@ -76,10 +74,6 @@ adjustments_asked assets (Some name) rows = adjustments_from assets rows
 
 abbrev pub pipeline_held : Contents → Pipeline
 pipeline_held held = pipeline_in (held.file PipelineFile)
-
--- what its columns show
-abbrev pub terms_held : Contents → List PlainTerm
-terms_held held = unwrap_or (plain_terms (pipeline_held held)) []
 
 abbrev pub days_held : Contents → List ℤ
 days_held held = days_in (held.file Sessions)

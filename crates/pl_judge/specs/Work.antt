@@ -1,5 +1,5 @@
 -- The work of a command in its order, over the contents of its files and tables.
-use Rattle.std.specs.Prelude.{ℕ, ℤ, List, [], ◌∷◌, ◌++◌, length, nat_lt, not, is_some, if◌then◌else◌, Option, Some, None, Result, Ok, Err}
+use Rattle.std.specs.Prelude.{ℕ, ℤ, List, [], ◌∷◌, ◌++◌, length, nat_lt, if◌then◌else◌, Option, Some, None, Result, Ok, Err}
 use Rattle.pl_records.specs.Reading as reading
 use Rattle.pl_spec.specs.declared.AssetRow.{AssetRow}
 use Rattle.pl_spec.specs.declared.RawAdjust.{RawAdjust}
@@ -9,14 +9,12 @@ use Rattle.pl_assets.specs.Assets.{assets_of}
 use Rattle.pl_assets.specs.Labels.{labels_of}
 use Rattle.pl_bars.specs.Bars.{bars_of}
 use Rattle.pl_adjust.specs.Walk as rows
-use Rattle.pl_spec.specs.Table.{Pipeline}
 use Rattle.pl_syntax.specs.Spells.{Parsed}
 use Rattle.pl_syntax.specs.Said.{Said, Spelled, Faulty, said}
 use Rattle.pl_check.specs.Faults.{Broken}
 use Rattle.pl_check.specs.Typed.{typed}
 use Rattle.pl_outside.specs.declared.keeper.Table.{Table}
 use Rattle.pl_outside.specs.declared.keeper.Table.TheVariants.{Splits, Mergers, Dividends}
-use Rattle.pl_plain.specs.PlainPipelines.{plain_terms}
 use Rattle.pl_words.specs.declared.request.InputFile.{InputFile}
 use Rattle.pl_words.specs.declared.request.InputFile.TheVariants.{Pipeline as PipelineFile, Sessions, Assets, Labels, Bars}
 use Rattle.pl_words.specs.Request.{Request, Run, Fmt, Check, Plan, RunRequest, PlanRequest}
@@ -24,11 +22,11 @@ use Rattle.pl_judge.specs.declared.limits.TheConstants.{PIPELINE_CAP, FILE_CAP}
 use Rattle.pl_judge.specs.declared.fault.Limit.{Limit}
 use Rattle.pl_judge.specs.declared.fault.Limit.TheVariants as limits
 use Rattle.pl_judge.specs.declared.fault.Fault.{Fault}
-use Rattle.pl_judge.specs.declared.fault.Fault.TheVariants.{Usage, Unbuilt, Passed, Unread}
+use Rattle.pl_judge.specs.declared.fault.Fault.TheVariants.{Usage, Passed, Unread}
 use Rattle.pl_judge.specs.Contents.{Contents}
 use Rattle.pl_judge.specs.Rules.{syntax_fault, rule_fault, sessions_fault, assets_fault, labels_fault, bars_fault, rows_fault}
 use Rattle.pl_judge.specs.Held.{script_in, pipeline_held, days_held, assets_held, adjustments_of_rows}
-use Rattle.pl_judge.specs.Steps.{Step, rule, when}
+use Rattle.pl_judge.specs.Steps.{Step, rule}
 use Rattle.pl_judge.specs.Steps.Source.{Input, Load}
 use Rattle.pl_judge.specs.Range.{range_steps}
 
@@ -72,10 +70,6 @@ fault_typed (Err b) = Some (rule_fault b.fault b.place)
 unfoldable pub script_rule : Parsed → Option Fault
 script_rule script = fault_typed (typed script)
 
--- the terms of the columns are of the form that is computed by now
-unfoldable pub built_rule : Pipeline → Option Fault
-built_rule p = when (not (is_some (plain_terms p))) Unbuilt
-
 abbrev pub fault_in : {A R : Type 0} → (ℕ → R → Fault) → Result A (reading.Fault R) → Option Fault
 fault_in says (Ok x) = None
 fault_in says (Err f) = Some (says f.line f.rule)
@@ -108,9 +102,6 @@ syntax_step file = read_step PipelineFile syntax_rule file
 abbrev pub pipeline_steps : Option (List ℕ) → List Step
 pipeline_steps file = syntax_step file ∷ rule (script_rule (script_in file)) ∷ []
 
-abbrev pub built_steps : Pipeline → List Step
-built_steps p = rule (built_rule p) ∷ []
-
 abbrev pub sessions_step : Option (List ℕ) → Step
 sessions_step file = read_step Sessions sessions_rule file
 
@@ -140,9 +131,8 @@ data_steps held q =
 -- first the pipeline file, then the data, and then the range
 abbrev pub run_steps : Contents → RunRequest → List Step
 run_steps held q =
-    let p = pipeline_held held in
     pipeline_steps (held.file PipelineFile)
-    ++ (built_steps p ++ (data_steps held q ++ range_steps p (days_held held) q.from q.to))
+    ++ (data_steps held q ++ range_steps (pipeline_held held) (days_held held) q.from q.to)
 
 -- the pipeline file, the sessions, and the range
 abbrev pub planning_steps : Contents → PlanRequest → List Step

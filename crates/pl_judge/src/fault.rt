@@ -88,8 +88,6 @@ pub enum Fault {
         place: Place,
         fault: RuleFault,
     },
-    /// The pipeline file has a form that is not computed yet.
-    Unbuilt,
     /// The record of this number breaks a rule of its file.
     Data {
         file: InputFile,
@@ -137,7 +135,6 @@ impl Fault {
             Fault::Unloaded(_) => 8,
             Fault::Unwritten => 9,
             Fault::Memory => 10,
-            Fault::Unbuilt => 11,
         }
     }
 }

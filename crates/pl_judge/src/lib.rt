@@ -5,14 +5,12 @@
 //! and tables hold), `Held` (what that is read as), `Work` (the steps and the first fault), `Range` and `Ends`.
 #![tactic(auto)]
 
-mod built;
 mod errors;
 mod fault;
 mod limits;
 mod line;
 mod range;
 
-pub use built::judge_built;
 pub use fault::{DataFault, Fault, Limit, RowFault, RuleFault, SyntaxFault};
 pub use limits::{FILE_CAP, PIPELINE_CAP, cap_of, limit_of};
 pub use line::{write_line, write_pieces};

@@ -22,7 +22,6 @@ pub fn write_line<E: Sink>(
 {
     match fault {
         Fault::Usage => write_bytes(err, b"usage\n"),
-        Fault::Unbuilt => write_bytes(err, b"unbuilt\n"),
         Fault::Backwards => write_bytes(err, b"range: Backwards\n"),
         Fault::Unwritten => write_bytes(err, b"write\n"),
         Fault::Memory => write_bytes(err, b"memory\n"),

@@ -5,14 +5,14 @@ use Rattle.pl_outside.specs.Files.{Files}
 use Rattle.pl_outside.specs.Lists.{Lists}
 use Rattle.pl_model.specs.declared.owned.OwnedWorld.{OwnedWorld}
 use Rattle.pl_terms.specs.Checked.{Parts, pipeline_of}
-use Rattle.pl_plain.specs.PlainPipelines.{plain_terms}
 use Rattle.pl_words.specs.declared.request.InputFile.{InputFile}
 use Rattle.pl_words.specs.declared.request.InputFile.TheVariants.{Pipeline, Sessions, Assets, Labels, Bars}
+use Rattle.pl_planner.specs.Plans.{IsPlanOf}
 use Rattle.pl_words.specs.Request.{RunRequest, Run, name_asked}
 use Rattle.pl_judge.specs.declared.fault.Fault.{Fault}
 use Rattle.pl_judge.specs.Contents.{Contents, AreHeld}
 use Rattle.pl_judge.specs.Held.{pipeline_in}
-use Rattle.pl_judge.specs.Work.{pipeline_steps, built_steps, data_steps}
+use Rattle.pl_judge.specs.Work.{pipeline_steps, data_steps}
 use Rattle.pl_judge.specs.Range.{dates_steps, plan_steps, index_of}
 use Rattle.pl_judge.specs.Stages.{StageEnds}
 use Rattle.pl_judge.proofs.Steps.{stage-stops, stage-goes_on, stage-done, stage-weaker, stage-over, always}
@@ -69,69 +69,56 @@ module _ (tells : Option Files) (lists : Option Lists) (sound keeper : Bool) (q 
         loaded = tt;
       }
 
-  pub not-built : {T : Type 0} (c : Parts) (fault : Fault) → PipelineRead tells sound q (Ok c)
-      → StageEnds {T = T} true true (built_steps (pipeline_of c)) (Err fault) → IsLoad tells lists sound keeper q (Err fault)
-  not-built c fault h b =
-      record {
-        held = held_with h.file left;
-        are_held = are-held h.file left h.is_told are-left;
-        ends = rw h.means (stage-goes_on h.ends (stage-stops _ (stage-weaker {U = Unit {0}} always always b)));
-        loaded = tt;
-      }
-
-  pub no-data : {T : Type 0} (c : Parts) (x : T) (fault : Fault) → PipelineRead tells sound q (Ok c)
-      → StageEnds true true (built_steps (pipeline_of c)) (Ok x) → IsData tells lists sound keeper q (Err fault) → IsLoad tells lists sound keeper q (Err fault)
-  no-data c x fault h b d =
+  pub no-data : (c : Parts) (fault : Fault) → PipelineRead tells sound q (Ok c) → IsData tells lists sound keeper q (Err fault) → IsLoad tells lists sound keeper q (Err fault)
+  no-data c fault h d =
       record {
         held = held_with h.file d.held;
         are_held = are-held h.file d.held h.is_told d.are_held;
         ends = rw h.means
-            (stage-goes_on h.ends (stage-goes_on b (stage-stops _ (stage-weaker {U = Unit {0}} (λ t. t) (λ t. t) (stage-over (same-steps h.file d.held q) d.ends)))));
+            (stage-goes_on h.ends (stage-stops _ (stage-weaker {U = Unit {0}} (λ t. t) (λ t. t) (stage-over (same-steps h.file d.held q) d.ends))));
         loaded = tt;
       }
 
-  pub no-dates : {T U : Type 0} (c : Parts) (x : T) (w : OwnedWorld) (fault : Fault) → PipelineRead tells sound q (Ok c)
-      → StageEnds true true (built_steps (pipeline_of c)) (Ok x) → IsData tells lists sound keeper q (Ok w)
-      → StageEnds {T = U} true true (dates_steps q.from q.to w.sessions) (Err fault) → IsLoad tells lists sound keeper q (Err fault)
-  no-dates c x w fault h b d r =
+  pub no-dates : {T : Type 0} (c : Parts) (w : OwnedWorld) (fault : Fault) → PipelineRead tells sound q (Ok c) → IsData tells lists sound keeper q (Ok w)
+      → StageEnds {T = T} true true (dates_steps q.from q.to w.sessions) (Err fault) → IsLoad tells lists sound keeper q (Err fault)
+  no-dates c w fault h d r =
       record {
         held = held_with h.file d.held;
         are_held = are-held h.file d.held h.is_told d.are_held;
         ends = rw (h.means, d.days)
-            (stage-goes_on h.ends (stage-goes_on b (stage-goes_on (stage-over (same-steps h.file d.held q) d.ends) (stage-stops _ (stage-weaker {U = Unit {0}} always always r)))));
+            (stage-goes_on h.ends (stage-goes_on (stage-over (same-steps h.file d.held q) d.ends) (stage-stops _ (stage-weaker {U = Unit {0}} always always r))));
         loaded = tt;
       }
 
-  pub no-plan : {T U V : Type 0} (c : Parts) (x : T) (w : OwnedWorld) (y : U) (from to : ℕ) (fault : Fault) → PipelineRead tells sound q (Ok c)
-      → StageEnds true true (built_steps (pipeline_of c)) (Ok x) → IsData tells lists sound keeper q (Ok w)
-      → StageEnds true true (dates_steps q.from q.to w.sessions) (Ok y) → from ≡ index_of w.sessions q.from.day → to ≡ index_of w.sessions q.to.day
-      → StageEnds {T = V} true true (plan_steps (pipeline_of c) w.sessions from to) (Err fault) → IsLoad tells lists sound keeper q (Err fault)
-  no-plan c x w y from to fault h b d r at until e =
+  pub no-plan : {T U : Type 0} (c : Parts) (w : OwnedWorld) (x : T) (from to : ℕ) (fault : Fault) → PipelineRead tells sound q (Ok c)
+      → IsData tells lists sound keeper q (Ok w)
+      → StageEnds true true (dates_steps q.from q.to w.sessions) (Ok x) → from ≡ index_of w.sessions q.from.day → to ≡ index_of w.sessions q.to.day
+      → StageEnds {T = U} true true (plan_steps (pipeline_of c) w.sessions from to) (Err fault) → IsLoad tells lists sound keeper q (Err fault)
+  no-plan c w x from to fault h d r at until e =
       record {
         held = held_with h.file d.held;
         are_held = are-held h.file d.held h.is_told d.are_held;
         ends = rw (h.means, d.days, ← at, ← until)
-            (stage-goes_on h.ends (stage-goes_on b (stage-goes_on (stage-over (same-steps h.file d.held q) d.ends) (stage-goes_on r (stage-weaker always always e)))));
+            (stage-goes_on h.ends (stage-goes_on (stage-over (same-steps h.file d.held q) d.ends) (stage-goes_on r (stage-weaker always always e))));
         loaded = tt;
       }
 
-  pub all-loaded : {T U V : Type 0} (l : Loaded) (x : T) (y : U) (z : V) → PipelineRead tells sound q (Ok l.checked)
-      → StageEnds true true (built_steps (pipeline_of l.checked)) (Ok x) → plain_terms (pipeline_of l.checked) ≡ Some l.terms.items
-      → IsData tells lists sound keeper q (Ok l.world) → StageEnds true true (dates_steps q.from q.to l.world.sessions) (Ok y)
-      → StageEnds true true (plan_steps (pipeline_of l.checked) l.world.sessions l.range.from l.range.to) (Ok z)
-      → l.range.from ≡ index_of l.world.sessions q.from.day → l.range.to ≡ index_of l.world.sessions q.to.day
+  pub all-loaded : {T U : Type 0} (l : Loaded) (x : T) (y : U) (from to : ℕ) → PipelineRead tells sound q (Ok l.checked) → IsData tells lists sound keeper q (Ok l.world)
+      → StageEnds true true (dates_steps q.from q.to l.world.sessions) (Ok x) → from ≡ index_of l.world.sessions q.from.day → to ≡ index_of l.world.sessions q.to.day
+      → StageEnds true true (plan_steps (pipeline_of l.checked) l.world.sessions from to) (Ok y)
+      → IsPlanOf l.world.sessions (pipeline_of l.checked) l.plan → l.plan.from ≡ from → l.plan.to ≡ to
       → IsLoad tells lists sound keeper q (Ok l)
-  all-loaded l x y z h b terms d r e from to =
+  all-loaded l x y from to h d r at until e plan first last =
       record {
         held = held_with h.file d.held;
         are_held = are-held h.file d.held h.is_told d.are_held;
-        ends = rw (h.means, d.days, ← from, ← to)
-            (stage-goes_on h.ends (stage-goes_on b (stage-goes_on (stage-over (same-steps h.file d.held q) d.ends) (stage-goes_on r (stage-done e)))));
+        ends = rw (h.means, d.days, ← at, ← until)
+            (stage-goes_on h.ends (stage-goes_on (stage-over (same-steps h.file d.held q) d.ends) (stage-goes_on r (stage-done e))));
         loaded = record {
           pipeline = h.means;
-          terms = rw (h.means, terms) refl;
           world = d.world;
-          from = rw d.days (sym from);
-          to = rw d.days (sym to);
+          plan = rw d.days plan;
+          from = rw (d.days, ← at, first) refl;
+          to = rw (d.days, ← until, last) refl;
         };
       }

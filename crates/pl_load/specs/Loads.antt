@@ -1,7 +1,6 @@
 -- What was loaded.
 use Rattle.std.specs.Prelude.{◌≡◌, ◌<◌, ◌≤◌, Bool, true, length, Option, Some, Result, IfOk}
 use Rattle.pl_terms.specs.Checked.{pipeline_of}
-use Rattle.pl_plain.specs.PlainPipelines.{plain_terms}
 use Rattle.pl_spec.specs.World.{World}
 use Rattle.pl_spec.specs.Parts.{world_of}
 use Rattle.pl_outside.specs.Files.{Files}
@@ -12,7 +11,7 @@ use Rattle.pl_planner.specs.Plans.{IsPlanOf}
 use Rattle.pl_words.specs.Request.{RunRequest, PlanRequest, Run, Plan}
 use Rattle.pl_judge.specs.declared.fault.Fault.{Fault}
 use Rattle.pl_judge.specs.Contents.{Contents, AreHeld}
-use Rattle.pl_judge.specs.Held.{pipeline_held, terms_held, days_held, world_held}
+use Rattle.pl_judge.specs.Held.{pipeline_held, days_held, world_held}
 use Rattle.pl_judge.specs.Work.{data_steps, run_steps, planning_steps}
 use Rattle.pl_judge.specs.Planning.{HasRows}
 use Rattle.pl_judge.specs.Range.{index_of}
@@ -27,20 +26,19 @@ owned_world w = world_of w.sessions w.assets w.labels.rows w.labels.texts w.bars
 abbrev pub IsOwned : OwnedWorld → Type 0
 IsOwned w = AreMadeFor w.sessions w.assets w.labels.rows w.bars w.adjustments
 
--- The parts are those of the contents, and the range is that of the two dates.
+-- The parts are those of the contents, and the plan is one of the pipeline over their sessions, for the range of the two
+-- dates.
 pub record IsLoaded (held : Contents) (q : RunRequest) (l : Loaded) : Type 0 where
   pub pipeline : pipeline_held held ≡ pipeline_of l.checked
-  pub terms : terms_held held ≡ l.terms.items
   pub world : world_held held q ≡ owned_world l.world
-  pub from : index_of (days_held held) q.from.day ≡ l.range.from
-  pub to : index_of (days_held held) q.to.day ≡ l.range.to
+  pub plan : IsPlanOf (days_held held) (pipeline_of l.checked) l.plan
+  pub from : index_of (days_held held) q.from.day ≡ l.plan.from
+  pub to : index_of (days_held held) q.to.day ≡ l.plan.to
 
 -- what a writer of the rows asks
 pub record IsReady (l : Loaded) : Type 0 where
   pub made : IsOwned l.world
-  pub within : l.range.to < length l.world.sessions
-  pub plain : plain_terms (pipeline_of l.checked) ≡ Some l.terms.items
-  pub few : length l.terms.items ≤ 64
+  pub plan : IsPlanOf l.world.sessions (pipeline_of l.checked) l.plan
 
 -- The data of a run is read: it is that of contents which the parts hold where they tell, and the work over these ends so.
 pub record IsData (files : Option Files) (lists : Option Lists) (shelf keeper : Bool) (q : RunRequest) (result : Result OwnedWorld Fault) : Type 0 where

@@ -8,21 +8,20 @@ ghost use Rattle.pl_load.specs.Loads.{IsData, IsLoad, IsOwned, IsReady};
 
 use crate::inputs::{read_assets, read_bars, read_checked, read_labels, read_sessions};
 use crate::tables::read_adjustments;
-use pl_judge::{Fault, Range, judge_built, judge_dates, judge_plan};
-use pl_model::{OwnedWorld, PlainTerm};
+use pl_judge::{Fault, judge_dates, judge_plan};
+use pl_model::OwnedWorld;
 use pl_outside::{AdjustKeeper, Shelf};
+use pl_planner::Plan;
 use pl_terms::Checked;
 use pl_words::RunRequest;
 use std::alloc::Global;
 
-/// What was read and judged, and is left to write: the rows of a pipeline, whose columns show these terms, on
-/// the sessions of the range.
+/// What was read and judged, and is left to write: the table of a pipeline over its world, by a plan.
 #[derive(Drop)]
 pub struct Loaded {
     pub checked: Checked,
-    pub terms: Vec<PlainTerm>,
     pub world: OwnedWorld,
-    pub range: Range,
+    pub plan: Plan,
 }
 
 /// All that a run reads and judges, in the order of work.
@@ -40,15 +39,13 @@ pub fn load<S: Shelf, K: AdjustKeeper>(
     ensures risen { IfErr result (IsRisen (Rose (S.faults shelf.old) (S.faults shelf.new)) (Rose (K.faults keeper.old) (K.faults keeper.new))) }
 {
     let checked = read_checked(alloc, shelf, request.pipeline)?;
-    let terms = judge_built(alloc, &checked)?;
     let world = read_world(alloc, request, shelf, keeper)?;
     let range = judge_dates(&request.from, &request.to, &world.sessions)?;
-    let _plan = judge_plan(alloc, &checked, &world.sessions, range)?;
+    let plan = judge_plan(alloc, &checked, &world.sessions, range)?;
     Ok(Loaded {
         checked,
-        terms,
         world,
-        range,
+        plan,
     })
 }
 

@@ -4,6 +4,8 @@
 #[cfg(test)]
 mod check_tests;
 #[cfg(test)]
+mod engine_tests;
+#[cfg(test)]
 mod plan_tests;
 #[cfg(test)]
 mod recorded_tests;

@@ -101,21 +101,6 @@ fn refuses_pipelines(rt: HostRuntime) -> Result<(), Fail> {
         let got = answer(alloc, &fmt, ("p.pl", bytes), NO_ROWS)?;
         assert_eq!(rt; got, make_left(alloc, 3, b"", line)?);
     }
-    // rules are judged before what is computed
-    for statement in [
-        "column c = VWAP(2);",
-        "column c = close.latest; column d = close.latest + 1;",
-        "column c = SimpleMovingAverage(close, 2, mask=close.latest > 1);",
-        "column c = close.latest; screen close.latest > 1000;",
-    ] {
-        let file = format!(in alloc; "pipeline 1;\n{statement}\n")?;
-        let got = answer(alloc, &words, ("p.pl", file.as_bytes()), NO_ROWS)?;
-        assert_eq!(rt;
-            got,
-            make_left(alloc, 11, b"", b"unbuilt\n")?,
-            "{statement}"
-        );
-    }
     let long = vec![in alloc; b' '; 262_145]?;
     let line = b"limit: pipeline\n";
     let got = answer(alloc, &words, ("p.pl", &long), NO_ROWS)?;
@@ -181,7 +166,9 @@ fn refuses_words(rt: HostRuntime) -> Result<(), Fail> {
         "run p.pl -s assets.csv bars.csv 2024-01-03 2024-01-09",
         "run p.pl sessions.csv assets.csv  2024-01-03 2024-01-09",
         "run p.pl sessions.csv assets.csv bars.csv 2024-01-03 2024-01-09 --help",
-        "run p.pl sessions.csv assets.csv bars.csv 2024-01-03 2024-01-09 --chunk 2",
+        "run p.pl sessions.csv assets.csv bars.csv 2024-01-03 2024-01-09 --chunk 0",
+        "run p.pl sessions.csv assets.csv bars.csv 2024-01-03 2024-01-09 --chunk 4097",
+        "run p.pl sessions.csv assets.csv bars.csv 2024-01-03 2024-01-09 --chunk 2 --chunk 2",
         "run p.pl sessions.csv assets.csv bars.csv 2024-01-03 2024-01-09 --labels -x",
         "run p.pl sessions.csv assets.csv bars.csv 2024-01-03 2024-01-09 --labels ",
         "run p.pl sessions.csv assets.csv bars.csv 2024-01-03 2024-01-09 --labels labels.csv --labels labels.csv",

@@ -10,6 +10,7 @@ fn writes_tables(rt: HostRuntime) -> Result<(), Fail> {
     let alloc = rt.alloc();
     for (name, bytes, further, text) in [
         ("p.pl", PIPELINE, "2024-01-03 2024-01-09", TABLE),
+        ("p.pl", PIPELINE, "2024-01-03 2024-01-09 --chunk=2", TABLE),
         (
             "p.pl",
             b"# spaces and comments stand between tokens\npipeline 1 ;column c = close . latest;",

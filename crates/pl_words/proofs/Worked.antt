@@ -1,8 +1,9 @@
 -- Worked rows of what words ask for.
-use Rattle.std.proofs.Common.{◌≡◌, pos, refl, codes, List, [], ◌∷◌, ◌++◌, map, Option, Some, None}
+use Rattle.std.proofs.Common.{◌≡◌, ℕ, pos, refl, codes, List, [], ◌∷◌, ◌++◌, map, Option, Some, None}
 use Rattle.jiff_core.specs.Calendar.{days_from_civil, day_count, days_of_years, days_of_months}
 use Rattle.std.specs.Fmt.{digits as decimal_digits}
 use Rattle.pl_spec.specs.Dates.{digits, date_text, day_if, date_in}
+use Rattle.pl_spec.specs.Decimals.{sid_in}
 use Rattle.pl_words.specs.Parts.{Word}
 use Rattle.pl_words.specs.Request.{request, counted, Request, Run, Fmt, Check, Plan}
 
@@ -12,24 +13,31 @@ names = codes "p.pl" ∷ codes "sessions.csv" ∷ codes "assets.csv" ∷ codes "
 abbrev dates : List Word
 dates = codes "2024-01-03" ∷ codes "2024-01-04" ∷ []
 
-abbrev asks : Option Word → Option Word → Option Request
-asks labels adjustments = Some (Run (record {
+abbrev asks : Option Word → Option Word → ℕ → Option Request
+asks labels adjustments chunk = Some (Run (record {
   pipeline = codes "p.pl";
   sessions = codes "sessions.csv";
   assets = codes "assets.csv";
   bars = codes "bars.csv";
   from = record { text = codes "2024-01-03"; day = pos 19725 };
   to = record { text = codes "2024-01-04"; day = pos 19726 };
-  options = record { labels = labels; adjustments = adjustments };
+  options = record { labels = labels; adjustments = adjustments; chunk = chunk };
 }))
 
-no_options : request (codes "run" ∷ (names ++ dates)) ≡ asks None None
+no_options : request (codes "run" ∷ (names ++ dates)) ≡ asks None None 126
 unfolding request counted date_in day_if days_from_civil day_count days_of_years days_of_months decimal_digits digits date_text
 no_options = refl
 
-mixed : request (codes "run" ∷ codes "--labels=-l" ∷ (names ++ codes "--adjustments" ∷ codes "a.db" ∷ codes "--" ∷ dates)) ≡ asks (Some (codes "-l")) (Some (codes "a.db"))
+mixed : request (codes "run" ∷ codes "--labels=-l" ∷ (names ++ codes "--adjustments" ∷ codes "a.db" ∷ codes "--" ∷ dates)) ≡ asks (Some (codes "-l")) (Some (codes "a.db")) 126
 unfolding request counted date_in day_if days_from_civil day_count days_of_years days_of_months decimal_digits digits date_text
 mixed = refl
+
+in_chunks : map (λ (options : List Word). request (codes "run" ∷ (options ++ (names ++ dates)))) (
+    (codes "--chunk=1" ∷ [])
+    ∷ (codes "--chunk" ∷ codes "4096" ∷ []) ∷ [])
+    ≡ asks None None 1 ∷ asks None None 4096 ∷ []
+unfolding request counted sid_in date_in day_if days_from_civil day_count days_of_years days_of_months decimal_digits digits date_text
+in_chunks = refl
 
 planned : request (codes "plan" ∷ codes "p.pl" ∷ codes "sessions.csv" ∷ dates) ≡ Some (Plan (record {
   pipeline = codes "p.pl";
@@ -67,8 +75,13 @@ refused_runs : map (λ (options : List Word). request (codes "run" ∷ (options 
     ∷ (codes "--labels=" ∷ [])
     ∷ (codes "--labels=-" ∷ [])
     ∷ (codes "--label" ∷ codes "a" ∷ [])
-    ∷ (codes "--chunk" ∷ codes "2" ∷ [])
+    ∷ (codes "--chunk" ∷ codes "2" ∷ codes "--chunk=2" ∷ [])
+    ∷ (codes "--chunk" ∷ codes "0" ∷ [])
+    ∷ (codes "--chunk=4097" ∷ [])
+    ∷ (codes "--chunk=02" ∷ [])
+    ∷ (codes "--chunk=+2" ∷ [])
+    ∷ (codes "--chunk=" ∷ [])
     ∷ (codes "--stats" ∷ []) ∷ [])
-    ≡ None ∷ None ∷ None ∷ None ∷ None ∷ None ∷ None ∷ None ∷ []
-unfolding request counted date_in day_if digits
+    ≡ None ∷ None ∷ None ∷ None ∷ None ∷ None ∷ None ∷ None ∷ None ∷ None ∷ None ∷ None ∷ None ∷ []
+unfolding request counted sid_in date_in day_if decimal_digits digits
 refused_runs = refl

@@ -1,7 +1,7 @@
 -- The commands, as data.
 use Rattle.std.specs.Prelude.{ℕ, List, [], ◌∷◌, Option, find, bytes_eq, codes}
 use Rattle.pl_words.specs.declared.commands.OptionName.{OptionName}
-use Rattle.pl_words.specs.declared.commands.OptionName.TheVariants.{Labels, Adjustments}
+use Rattle.pl_words.specs.declared.commands.OptionName.TheVariants.{Labels, Adjustments, Chunk}
 use Rattle.pl_words.specs.declared.commands.CommandName.{CommandName}
 use Rattle.pl_words.specs.declared.commands.CommandName.TheVariants.{Run, Check, Fmt, Plan}
 use Rattle.pl_words.specs.Parts.{Word}
@@ -24,7 +24,7 @@ places_of Plan = 4  -- PIPELINE SESSIONS FROM TO
 
 -- the options that it knows
 abbrev pub options_of : CommandName → List OptionName
-options_of Run = Labels ∷ Adjustments ∷ []
+options_of Run = Labels ∷ Adjustments ∷ Chunk ∷ []
 options_of Check = []
 options_of Fmt = []
 options_of Plan = []

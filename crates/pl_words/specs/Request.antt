@@ -1,7 +1,8 @@
 -- What the words ask for.
-use Rattle.std.specs.Prelude.{ℕ, ℤ, List, [], ◌∷◌, ◌==◌, if◌then◌else◌, Option, Some, None, option_map, option_and_then, length, slice_index_or}
+use Rattle.std.specs.Prelude.{ℕ, ◌≤◌, ⊤, ℤ, List, [], ◌∷◌, ◌==◌, ◌&&◌, nat_le, if◌then◌else◌, Option, Some, None, option_map, option_and_then, length, slice_index_or}
 use Rattle.std.specs.List.{list_all}
 use Rattle.pl_spec.specs.Dates.{date_in}
+use Rattle.pl_spec.specs.Decimals.{sid_in}
 use Rattle.pl_words.specs.declared.request.RangeDate.{RangeDate}
 use Rattle.pl_words.specs.declared.request.RangeDate.TheVariants.{From, To}
 use Rattle.pl_words.specs.declared.request.InputFile.{InputFile}
@@ -18,10 +19,11 @@ pub record Dated : Type 0 where
   pub text : List ℕ
   pub day : ℤ
 
--- the names behind the options of a run
+-- the names of labels and adjustments, and how many sessions a run computes at a time
 pub record Options : Type 0 where
   pub labels : Option (List ℕ)
   pub adjustments : Option (List ℕ)
+  pub chunk : ℕ
 
 -- a pipeline over the files of these names, from a date to a date
 pub record RunRequest : Type 0 where
@@ -57,10 +59,23 @@ name names i = slice_index_or names i []
 abbrev pub Values : Type 0
 Values = OptionName → List Word
 
+-- from 1 to 4096, in digits without sign or zeros in front
+abbrev pub chunk_in : Word → Option ℕ
+chunk_in text = option_and_then (λ n. if nat_le 1 n && nat_le n 4096 then Some n else None) (sid_in text)
+
+-- 126 where no chunk is given
+abbrev pub chunk_or : Option Word → Option ℕ
+chunk_or None = Some 126
+chunk_or (Some text) = chunk_in text
+
+abbrev pub chunk_by : Values → Option ℕ
+chunk_by values = option_and_then chunk_or (one_value (values option.Chunk))
+
 abbrev pub options_by : Values → Option Options
 options_by values =
-    option_and_then (λ labels. option_map (λ adjustments. record { labels = labels; adjustments = adjustments })
-    (one_value (values option.Adjustments))) (one_value (values option.Labels))
+    option_and_then (λ labels. option_and_then (λ adjustments.
+    option_map (λ chunk. record { labels = labels; adjustments = adjustments; chunk = chunk })
+    (chunk_by values)) (one_value (values option.Adjustments))) (one_value (values option.Labels))
 
 abbrev pub run_over : List Word → Dated → Dated → Options → RunRequest
 run_over names from to options =
@@ -110,6 +125,13 @@ asked command words =
 unfoldable pub request : List Word → Option Request
 request [] = None
 request (first ∷ words) = option_and_then (λ command. asked command words) (command_named first)
+
+abbrev pub IsChunk : ℕ → Type 0
+IsChunk n = (1 ≤ n) × (n ≤ 4096)
+
+abbrev pub HasChunk : Request → Type 0
+HasChunk (Run q) = IsChunk q.options.chunk
+HasChunk request = ⊤
 
 -- the name of a file of a command, where the command has such a file
 abbrev pub run_name : RunRequest → InputFile → Option (List ℕ)

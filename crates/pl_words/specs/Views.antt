@@ -12,7 +12,8 @@ abbrev pub dated_of : DateWord → spec.Dated
 dated_of d = record { text = d.text.now; day = d.day }
 
 abbrev pub options_of : Options → spec.Options
-options_of o = record { labels = option_map (λ n. n.now) o.labels; adjustments = option_map (λ n. n.now) o.adjustments }
+options_of o =
+    record { labels = option_map (λ n. n.now) o.labels; adjustments = option_map (λ n. n.now) o.adjustments; chunk = o.chunk }
 
 abbrev pub run_of : RunRequest → spec.RunRequest
 run_of r =

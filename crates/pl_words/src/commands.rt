@@ -51,7 +51,11 @@ impl CommandName {
         ensures { result.now ≡ options_of self }
     {
         match self {
-            CommandName::Run => &[OptionName::Labels, OptionName::Adjustments],
+            CommandName::Run => &[
+                OptionName::Labels,
+                OptionName::Adjustments,
+                OptionName::Chunk,
+            ],
             CommandName::Check | CommandName::Fmt | CommandName::Plan => &[],
         }
     }

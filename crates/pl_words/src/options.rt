@@ -1,14 +1,14 @@
 // The options of a run, by the values that each was given.
 ghost use Rattle.std.specs.Prelude.{◌≡◌, None, Some, MatchOption};
 ghost use Rattle.pl_words.specs.Apps.{values_in};
-ghost use Rattle.pl_words.specs.Request.{dated, options_by};
+ghost use Rattle.pl_words.specs.Request.{dated, chunk_in, chunk_by, options_by};
 ghost use Rattle.pl_words.specs.Views.{dated_of, options_of};
 
 use crate::commands::OptionName;
 use crate::cut::value;
 use crate::request::{DateWord, Options};
 use clap::ArgMatches;
-use pl_fixed::read_day;
+use pl_fixed::{read_day, read_sid};
 
 pub(crate) fn options<'a>(matches: &ArgMatches<'a>) -> Option<Options<'a>>
     ensures { MatchOption result (options_by (values_in matches.now) ≡ None)
@@ -20,10 +20,37 @@ pub(crate) fn options<'a>(matches: &ArgMatches<'a>) -> Option<Options<'a>>
     let Ok(adjustments) = value(matches, OptionName::Adjustments) else {
         return None;
     };
+    let chunk = chunk(matches)?;
     Some(Options {
         labels,
         adjustments,
+        chunk,
     })
+}
+
+// How many sessions a run computes at a time where the words don't say.
+const USUAL_CHUNK: u32 = 126;
+
+fn chunk(matches: &ArgMatches<'_>) -> Option<u32>
+    ensures { result ≡ chunk_by (values_in matches.now) }
+{
+    match value(matches, OptionName::Chunk) {
+        Err(_) => None,
+        Ok(None) => Some(USUAL_CHUNK),
+        Ok(Some(text)) => chunk_in(text),
+    }
+}
+
+fn chunk_in(text: &str) -> Option<u32>
+    ensures { result ≡ chunk_in text.now }
+{
+    // The bytes of a sid are those of any number of 32 bits without sign or zeros in front.
+    let number = read_sid(text.as_bytes())?;
+    if 1 <= number && number <= 4096 {
+        Some(number)
+    } else {
+        None
+    }
 }
 
 pub(crate) fn date_in<'a>(text: &'a str) -> Option<DateWord<'a>>

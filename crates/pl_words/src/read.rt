@@ -1,10 +1,10 @@
 // The words, read as a request.
-ghost use Rattle.std.specs.Prelude.{◌≡◌, None, Some, IfOk, MatchOption, map, length, string_bytes};
+ghost use Rattle.std.specs.Prelude.{◌≡◌, None, Some, IfOk, IfSome, MatchOption, map, length, string_bytes};
 ghost use Rattle.std.specs.List.{list_all};
 ghost use Rattle.pl_words.specs.Parts.{is_text};
 ghost use Rattle.pl_words.specs.Commands.{places_of};
 ghost use Rattle.pl_words.specs.Apps.{names_in, values_in};
-ghost use Rattle.pl_words.specs.Request.{asked, counted, plan_in, request, request_in, run_in};
+ghost use Rattle.pl_words.specs.Request.{HasChunk, asked, counted, plan_in, request, request_in, run_in};
 ghost use Rattle.pl_words.specs.Views.{plan_of, request_of, run_of};
 
 use crate::commands::{CommandName, command_named};
@@ -19,8 +19,9 @@ use std::alloc::Global;
 /// What the words ask for; `None` where they have no command's form. The parser of the words takes memory.
 #[tactic(auto, unfolding(crate::specs::Request::request))]
 pub fn read_words<'a>(alloc: Global, words: &'a [String]) -> Result<Option<Request<'a>>, Memory>
-    ensures { IfOk result (λ o. MatchOption o (request (map (λ s. string_bytes s) words.now) ≡ None)
+    ensures asked { IfOk result (λ o. MatchOption o (request (map (λ s. string_bytes s) words.now) ≡ None)
         (λ r. request (map (λ s. string_bytes s) words.now) ≡ Some (request_of r))) }
+    ensures chunk { IfSome (request (map (λ s. string_bytes s) words.now)) HasChunk }
 {
     match words {
         [] => Ok(None),

@@ -27,11 +27,13 @@ pub struct DateWord<'a> {
     pub day: i32,
 }
 
-/// The names behind the options of a run.
+/// The options of a run: the names of its labels and adjustments, and how many sessions it computes at a time, from 1
+/// to 4096.
 #[derive(Clone, Copy)]
 pub struct Options<'a> {
     pub labels: Option<&'a str>,
     pub adjustments: Option<&'a str>,
+    pub chunk: u32,
 }
 
 /// What a run is asked for: the names of its files and adjustments, and two dates.

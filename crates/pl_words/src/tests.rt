@@ -13,11 +13,27 @@ fn owned(rt: &HostRuntime, words: &[&str]) -> Result<Vec<String>, AllocError> {
 
 #[test]
 fn reads_runs(rt: HostRuntime) -> Result<(), Fail> {
-    let table: [(&[&str], Option<&str>, Option<&str>); 5] = [
+    let table: [(&[&str], Option<&str>, Option<&str>, u32); 7] = [
         (
             &["run", "p", "s", "a", "b", "2024-01-03", "2024-01-04"],
             None,
             None,
+            126,
+        ),
+        (
+            &[
+                "run",
+                "--chunk=2",
+                "p",
+                "s",
+                "a",
+                "b",
+                "2024-01-03",
+                "2024-01-04",
+            ],
+            None,
+            None,
+            2,
         ),
         (
             &[
@@ -30,9 +46,12 @@ fn reads_runs(rt: HostRuntime) -> Result<(), Fail> {
                 "2024-01-04",
                 "--labels",
                 "l",
+                "--chunk",
+                "4096",
             ],
             Some("l"),
             None,
+            4_096,
         ),
         (
             &[
@@ -49,6 +68,7 @@ fn reads_runs(rt: HostRuntime) -> Result<(), Fail> {
             ],
             Some("l"),
             Some("--"),
+            126,
         ),
         (
             &[
@@ -64,6 +84,7 @@ fn reads_runs(rt: HostRuntime) -> Result<(), Fail> {
             ],
             Some("-l="),
             None,
+            126,
         ),
         (
             &[
@@ -80,17 +101,37 @@ fn reads_runs(rt: HostRuntime) -> Result<(), Fail> {
             ],
             None,
             Some("d"),
+            126,
+        ),
+        (
+            &[
+                "run",
+                "--",
+                "p",
+                "s",
+                "--chunk=1",
+                "b",
+                "2024-01-03",
+                "2024-01-04",
+            ],
+            None,
+            None,
+            126,
         ),
     ];
-    for (words, labels, adjustments) in table {
+    for (words, labels, adjustments, chunk) in table {
         let words = owned(&rt, words)?;
         match read_words(rt.alloc(), words.as_slice()) {
             Ok(Some(Request::Run(run))) => {
                 assert_eq!(rt; (run.pipeline, run.sessions, run.bars), ("p", "s", "b"));
                 assert_eq!(rt; (run.from.day, run.to.day), (19_725, 19_726));
                 assert_eq!(rt;
-                    (run.options.labels, run.options.adjustments),
-                    (labels, adjustments)
+                    (
+                        run.options.labels,
+                        run.options.adjustments,
+                        run.options.chunk
+                    ),
+                    (labels, adjustments, chunk)
                 );
             }
             _ => return Err("no run")?,
@@ -101,7 +142,7 @@ fn reads_runs(rt: HostRuntime) -> Result<(), Fail> {
 
 #[test]
 fn refuses_words(rt: HostRuntime) -> Result<(), Fail> {
-    let table: [&[&str]; 18] = [
+    let table: [&[&str]; 20] = [
         &["run", "p.pl"],
         &[
             "run",
@@ -137,6 +178,26 @@ fn refuses_words(rt: HostRuntime) -> Result<(), Fail> {
             "2",
             "--chunk",
             "2",
+        ],
+        &[
+            "run",
+            "p",
+            "s",
+            "a",
+            "b",
+            "2024-01-03",
+            "2024-01-04",
+            "--chunk=02",
+        ],
+        &[
+            "run",
+            "p",
+            "s",
+            "a",
+            "b",
+            "2024-01-03",
+            "2024-01-04",
+            "--stats",
         ],
         &[
             "run",

@@ -8,7 +8,7 @@ pub returns-in_err-checked-clause-ended : goal.returns-in_err-checked-clause-end
 returns-in_err-checked-clause-ended g c = λ lists sound steps.
     let p = err_from_is_err_and c.from_residual.result c.from_residual.ensures.1 in
     rw (p.1, p.2)
-    (file-stops g.O.Sink.taken g.O.Sink.faults g.O.Sink.sound g.O.Sink.room c.args.out.now c.args.out.now _ lists _ sound steps steps _ _ _ _ _ _ _ (check-is c.args.name.now) refl
+    (file-stops g.O.Sink.taken g.O.Sink.faults g.O.Sink.sound g.O.Sink.room c.args.out.now c.args.out.now _ lists _ sound steps steps _ _ _ _ _ _ _ (check-is c.args.name.now)
     c.in_err-checked.ensures.risen c.in_err-checked.ensures.read)
 
 pub returns-in-Ok-clause-ended : goal.returns-in-Ok-clause-ended

@@ -8,14 +8,14 @@ pub returns-in_err-script-clause-ended : goal.returns-in_err-script-clause-ended
 returns-in_err-script-clause-ended g c = λ lists sound steps.
     let p = err_from_is_err_and c.from_residual.result c.from_residual.ensures.1 in
     rw (p.1, p.2)
-    (file-stops g.O.Sink.taken g.O.Sink.faults g.O.Sink.sound g.O.Sink.room c.args.out.now c.args.out.now _ lists _ sound steps steps _ _ _ _ _ _ _ (fmt-is c.args.name.now) refl
+    (file-stops g.O.Sink.taken g.O.Sink.faults g.O.Sink.sound g.O.Sink.room c.args.out.now c.args.out.now _ lists _ sound steps steps _ _ _ _ _ _ _ (fmt-is c.args.name.now)
     c.in_err-script.ensures.risen c.in_err-script.ensures.read)
 
 pub returns-in_err-text-clause-ended : goal.returns-in_err-text-clause-ended
 returns-in_err-text-clause-ended g c = λ lists sound steps.
     let p = err_from_is_err_and c.from_residual-in_err-text.result c.from_residual-in_err-text.ensures.1 in
     rw (p.1, p.2)
-    (no-text g.O.Sink.taken g.O.Sink.faults g.O.Sink.sound g.O.Sink.room c.args.out.now c.args.out.now _ lists _ sound steps steps _ _ _ _ _ (fmt-is c.args.name.now) refl
+    (no-text g.O.Sink.taken g.O.Sink.faults g.O.Sink.sound g.O.Sink.room c.args.out.now c.args.out.now _ lists _ sound steps steps _ _ _ _ _ (fmt-is c.args.name.now)
     c.in_ok-script.ensures.read)
 
 pub returns-clause-ended : goal.returns-clause-ended

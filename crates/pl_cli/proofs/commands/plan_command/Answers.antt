@@ -8,14 +8,14 @@ pub returns-in_err-planned-clause-ended : goal.returns-in_err-planned-clause-end
 returns-in_err-planned-clause-ended g c = λ lists sound steps.
     let p = err_from_is_err_and c.from_residual.result c.from_residual.ensures.1 in
     rw (p.1, p.2)
-    (plan-stops g.O.Sink.taken g.O.Sink.faults g.O.Sink.sound g.O.Sink.room c.args.out.now c.args.out.now _ lists _ sound steps steps (plan_of c.args.request.now) _ _ _ refl
+    (plan-stops g.O.Sink.taken g.O.Sink.faults g.O.Sink.sound g.O.Sink.room c.args.out.now c.args.out.now _ lists _ sound steps steps (plan_of c.args.request.now) _ _ _
     c.in_err-planned.ensures.risen c.in_err-planned.ensures.load)
 
 pub returns-in_err-text-clause-ended : goal.returns-in_err-text-clause-ended
 returns-in_err-text-clause-ended g c = λ lists sound steps.
     let p = err_from_is_err_and c.from_residual-in_err-text.result c.from_residual-in_err-text.ensures.1 in
     rw (p.1, p.2)
-    (no-plan-text g.O.Sink.taken g.O.Sink.faults g.O.Sink.sound g.O.Sink.room c.args.out.now c.args.out.now _ lists _ sound steps steps (plan_of c.args.request.now) _ refl
+    (no-plan-text g.O.Sink.taken g.O.Sink.faults g.O.Sink.sound g.O.Sink.room c.args.out.now c.args.out.now _ lists _ sound steps steps (plan_of c.args.request.now) _
     c.in_ok-planned.ensures.load)
 
 pub returns-clause-ended : goal.returns-clause-ended

@@ -1,7 +1,7 @@
 use Rattle.std.proofs.lemmas.Result.{err_from_is_err_and}
 use Rattle.pl_words.specs.Views.{run_of}
 use Rattle.pl_judge.proofs.Steps.{risen-inside}
-use Rattle.pl_load.proofs.RunReads.{no-pipeline, not-built, no-data, no-dates, no-plan, all-loaded}
+use Rattle.pl_load.proofs.RunReads.{no-pipeline, no-data, no-dates, no-plan, all-loaded}
 use Rattle.pl_load.proofs.loading.load.Goals as goal
 
 pub returns-in_err-checked-clause-load : goal.returns-in_err-checked-clause-load
@@ -9,17 +9,12 @@ returns-in_err-checked-clause-load g c =
     let p = err_from_is_err_and c.from_residual.result c.from_residual.ensures.1 in
     rw (p.1, p.2) (no-pipeline _ _ _ _ (run_of c.args.request.now) _ c.in_err-checked.ensures.read)
 
-pub returns-in_err-terms-clause-load : goal.returns-in_err-terms-clause-load
-returns-in_err-terms-clause-load g c =
-    let p = err_from_is_err_and c.from_residual-in_err-terms.result c.from_residual-in_err-terms.ensures.1 in
-    rw (p.1, p.2) (not-built _ _ _ _ (run_of c.args.request.now) _ _ c.in_ok-checked.ensures.read c.in_err-terms.ensures.ends)
-
 pub returns-in_err-world-clause-load : goal.returns-in_err-world-clause-load
 returns-in_err-world-clause-load g c =
     let p = err_from_is_err_and c.from_residual-in_err-world.result c.from_residual-in_err-world.ensures.1 in
     let checked = c.in_ok-checked.ensures in
     let parts = rw (checked.leaves.keeps, checked.leaves.stays) at c.in_err-world.ensures.parts in
-    rw (p.1, p.2) (no-data _ _ _ _ (run_of c.args.request.now) _ _ _ checked.read c.in_ok-terms.ensures.ends parts)
+    rw (p.1, p.2) (no-data _ _ _ _ (run_of c.args.request.now) _ _ checked.read parts)
 
 pub returns-in_err-range-clause-load : goal.returns-in_err-range-clause-load
 returns-in_err-range-clause-load g c =
@@ -27,31 +22,31 @@ returns-in_err-range-clause-load g c =
     let checked = c.in_ok-checked.ensures in
     let parts = rw (checked.leaves.keeps, checked.leaves.stays) at c.in_ok-world.ensures.parts in
     rw (p.1, p.2)
-    (no-dates _ _ _ _ (run_of c.args.request.now) _ _ _ _ checked.read c.in_ok-terms.ensures.ends parts c.in_err-range.ensures.ends)
+    (no-dates _ _ _ _ (run_of c.args.request.now) _ _ _ checked.read parts c.in_err-range.ensures.ends)
 
-pub returns-in_err-_plan-clause-load : goal.returns-in_err-_plan-clause-load
-returns-in_err-_plan-clause-load g c =
-    let p = err_from_is_err_and c.from_residual-in_err-_plan.result c.from_residual-in_err-_plan.ensures.1 in
+pub returns-in_err-plan-clause-load : goal.returns-in_err-plan-clause-load
+returns-in_err-plan-clause-load g c =
+    let p = err_from_is_err_and c.from_residual-in_err-plan.result c.from_residual-in_err-plan.ensures.1 in
     let checked = c.in_ok-checked.ensures in
     let range = c.in_ok-range.ensures in
     let parts = rw (checked.leaves.keeps, checked.leaves.stays) at c.in_ok-world.ensures.parts in
     rw (p.1, p.2)
-    (no-plan _ _ _ _ (run_of c.args.request.now) _ _ _ _ _ _ _ checked.read c.in_ok-terms.ensures.ends parts range.ends range.from range.to c.in_err-_plan.ensures.ends)
+    (no-plan _ _ _ _ (run_of c.args.request.now) _ _ _ _ _ _ checked.read parts range.ends range.from range.to c.in_err-plan.ensures.ends)
 
 pub returns-in_err-range-clause-risen : goal.returns-in_err-range-clause-risen
 returns-in_err-range-clause-risen g c =
     let p = err_from_is_err_and c.from_residual-in_err-range.result c.from_residual-in_err-range.ensures.1 in
     rw (p.1, p.2) (risen-inside _ _ _ c.in_err-range.ensures.risen)
 
-pub returns-in_err-_plan-clause-risen : goal.returns-in_err-_plan-clause-risen
-returns-in_err-_plan-clause-risen g c =
-    let p = err_from_is_err_and c.from_residual-in_err-_plan.result c.from_residual-in_err-_plan.ensures.1 in
-    rw (p.1, p.2) (risen-inside _ _ _ c.in_err-_plan.ensures.risen)
+pub returns-in_err-plan-clause-risen : goal.returns-in_err-plan-clause-risen
+returns-in_err-plan-clause-risen g c =
+    let p = err_from_is_err_and c.from_residual-in_err-plan.result c.from_residual-in_err-plan.ensures.1 in
+    rw (p.1, p.2) (risen-inside _ _ _ c.in_err-plan.ensures.risen)
 
 pub returns-clause-load : goal.returns-clause-load
 returns-clause-load g c =
     let checked = c.in_ok-checked.ensures in
     let range = c.in_ok-range.ensures in
     let parts = rw (checked.leaves.keeps, checked.leaves.stays) at c.in_ok-world.ensures.parts in
-    all-loaded _ _ _ _ (run_of c.args.request.now) _ _ _ _ checked.read c.in_ok-terms.ensures.ends c.in_ok-terms.ensures.terms parts range.ends c.in_ok-_plan.ensures.ends
-    range.from range.to
+    let plan = c.in_ok-plan.ensures in
+    all-loaded _ _ _ _ (run_of c.args.request.now) _ _ _ _ _ checked.read parts range.ends range.from range.to plan.ends plan.plan plan.from plan.to

@@ -1,2 +1,0 @@
-pub mod PlainPipelines
-pub mod Readings

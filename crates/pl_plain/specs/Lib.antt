@@ -1,3 +1,0 @@
--- What the contracts of the plain form cite.
-pub mod PlainPipelines
-pub mod Rows

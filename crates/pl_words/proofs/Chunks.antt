@@ -1,0 +1,77 @@
+-- What words ask for has a chunk from 1 to 4096.
+use Rattle.std.proofs.Common.{◌≡◌, ℕ, Bool, true, false, ◌&&◌, ◌==◌, nat_le, cond, List, [], ◌∷◌, length, Option, Some, None, IfSome, option_map, option_and_then, refl, arith}
+use Rattle.std.specs.List.{list_all}
+use Rattle.std.proofs.lemmas.Bool.{and_parts}
+use Rattle.std.proofs.lemmas.Bool.Decides.{nat_tests}
+use Rattle.pl_spec.specs.Decimals.{sid_in}
+use Rattle.pl_words.specs.declared.commands.OptionName.TheVariants as option
+use Rattle.pl_words.specs.declared.commands.CommandName.{CommandName}
+use Rattle.pl_words.specs.declared.commands.CommandName.TheVariants as command
+use Rattle.pl_words.specs.Commands.{command_named, places_of, options_of}
+use Rattle.pl_words.specs.Parts.{Word, parts, names_of, values_of, is_text, one_value}
+use Rattle.pl_words.specs.Request.{Options, RunRequest, Request, Run, Plan, Values, name, dated, chunk_or, chunk_by, options_by, run_in, plan_in, request_in, counted, asked, request, IsChunk, HasChunk}
+
+then : {X Y : Type 0} (P : Y → Type 0) (f : X → Option Y) (o : Option X) → ((x : X) → IfSome (f x) P) → IfSome (option_and_then f o) P
+then P f None h = tt
+then P f (Some x) h = h x
+
+mapped : {X Y : Type 0} (P : Y → Type 0) (f : X → Y) (o : Option X) → IfSome o (λ x. P (f x)) → IfSome (option_map f o) P
+mapped P f None h = tt
+mapped P f (Some x) h = h
+
+number : (n : ℕ) → IfSome (cond (nat_le 1 n && nat_le n 4096) (Some n) None) IsChunk
+number n = here (nat_le 1 n && nat_le n 4096) refl
+  where
+    here : (b : Bool) → (nat_le 1 n && nat_le n 4096) ≡ b → IfSome (cond b (Some n) None) IsChunk
+    here false e = tt
+    here true e =
+        let r = and_parts (nat_le 1 n) (nat_le n 4096) e in
+        let low = r.0 in
+        let high = r.1 in
+        (grind (arith, nat_tests), grind (arith, nat_tests))
+
+value : (o : Option Word) → IfSome (chunk_or o) IsChunk
+value None = (omega arith, omega arith)
+value (Some text) = then IsChunk (λ n. cond (nat_le 1 n && nat_le n 4096) (Some n) None) (sid_in text) number
+
+options : (values : Values) → IfSome (options_by values) (λ o. IsChunk o.chunk)
+options values =
+    then (λ (o : Options). IsChunk o.chunk) _ (one_value (values option.Labels)) (λ labels.
+    then (λ (o : Options). IsChunk o.chunk) _ (one_value (values option.Adjustments)) (λ adjustments.
+    mapped (λ (o : Options). IsChunk o.chunk) _ (chunk_by values) (then IsChunk chunk_or (one_value (values option.Chunk)) value)))
+
+a-run : (names : List Word) (values : Values) → IfSome (run_in names values) (λ q. IsChunk q.options.chunk)
+a-run names values =
+    then (λ (q : RunRequest). IsChunk q.options.chunk) _ (dated (name names 4)) (λ from.
+    then (λ (q : RunRequest). IsChunk q.options.chunk) _ (dated (name names 5)) (λ to.
+    mapped (λ (q : RunRequest). IsChunk q.options.chunk) _ (options_by values) (options values)))
+
+any : {X : Type 0} (f : X → Request) (o : Option X) → ((x : X) → HasChunk (f x)) → IfSome (option_map f o) HasChunk
+any f None h = tt
+any f (Some x) h = h x
+
+of-command : (c : CommandName) (names : List Word) (values : Values) → IfSome (request_in c names values) HasChunk
+of-command command.Run names values = mapped HasChunk Run (run_in names values) (a-run names values)
+of-command command.Check names values = tt
+of-command command.Fmt names values = tt
+of-command command.Plan names values = any Plan (plan_in names) (λ q. tt)
+
+in-number : (c : CommandName) (names : List Word) (values : Values) → IfSome (counted c names values) HasChunk
+unfolding counted
+in-number c names values = here (length names == places_of c)
+  where
+    here : (b : Bool) → IfSome (cond b (request_in c names values) None) HasChunk
+    here false = tt
+    here true = of-command c names values
+
+in-texts : (c : CommandName) (words : List Word) → IfSome (asked c words) HasChunk
+in-texts c words = here (list_all is_text words)
+  where
+    here : (b : Bool) → IfSome (cond b (option_and_then (λ ps. counted c (names_of ps) (λ option. values_of option ps)) (parts (options_of c) None words)) None) HasChunk
+    here false = tt
+    here true = then HasChunk _ (parts (options_of c) None words) (λ ps. in-number c (names_of ps) (λ option. values_of option ps))
+
+pub chunks-fit : (words : List Word) → IfSome (request words) HasChunk
+unfolding request
+chunks-fit [] = tt
+chunks-fit (first ∷ words) = then HasChunk (λ c. asked c words) (command_named first) (λ c. in-texts c words)
