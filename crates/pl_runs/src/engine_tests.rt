@@ -36,9 +36,7 @@ const CHUNKS: [u32; 5] = [1, 2, 3, 126, 4096];
 // What the run of a case leaves, computed in chunks of so many sessions.
 fn left_by(alloc: Global, case: &Case<'_>, chunk: u32) -> Result<Left, Fail> {
     let dates = case.dates;
-    let further = format!(in alloc;
-        "{dates} --adjustments adj.db --chunk={chunk}"
-    )?;
+    let further = format!(in alloc; "{dates} --adjustments adj.db --chunk={chunk}")?;
     let words = run_words(alloc, &further)?;
     let mut shelf = base_shelf(alloc, Vec::new(alloc))?;
     let statements = case.statements;
