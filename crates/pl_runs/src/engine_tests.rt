@@ -1,6 +1,7 @@
 // Tables of every kind of term, computed in chunks of several sizes.
 use crate::test_runs::{
-    FOURTH, NO_ROWS, Rows, SATURDAY, base_shelf, keeper, make_left, row, run_over, run_words, split,
+    FOURTH, Left, NO_ROWS, Rows, SATURDAY, base_shelf, keeper, make_left, row, run_over, run_words,
+    split,
 };
 use std::alloc::Global;
 use std::test::Fail;
@@ -8,8 +9,8 @@ use std::test::Fail;
 /// The first second of 2024-01-03.
 const THIRD: i64 = 1_704_240_000;
 
-/// The further lines of a pipeline, what stands in the place of base files where it is not empty, rows of adjustments, two dates,
-/// and the table.
+/// The further lines of a pipeline, what stands in the place of base files where it is not empty, rows of adjustments, two
+/// dates with options, and the table.
 #[derive(Clone, Copy)]
 struct Case<'a> {
     statements: &'a str,
@@ -29,32 +30,31 @@ const BASE: Case<'static> = Case {
     text: "",
 };
 
-// The table of a case is the same for all sizes of chunks.
-fn is_written(rt: &HostRuntime, case: &Case<'_>) -> Result<(), Fail> {
-    let alloc = rt.alloc();
-    for chunk in [1, 2, 3, 126, 4096] {
-        let dates = case.dates;
-        let further = format!(in alloc;
-            "{dates} --labels labels.csv --adjustments adj.db --chunk={chunk}"
-        )?;
-        let words = run_words(alloc, &further)?;
-        let mut shelf = base_shelf(alloc, Vec::new(alloc))?;
-        let statements = case.statements;
-        let pipeline = format!(in alloc; "pipeline 1;\n{statements}")?;
-        for (name, text) in [
-            ("p.pl", pipeline.as_str()),
-            ("assets.csv", case.assets),
-            ("bars.csv", case.bars),
-        ] {
-            if !text.is_empty() {
-                shelf.put(String::from_str(alloc, name)?, text.as_bytes().to_vec(alloc)?)?;
-            }
+/// The table is the same for all of these.
+const CHUNKS: [u32; 5] = [1, 2, 3, 126, 4096];
+
+// What the run of a case leaves, computed in chunks of so many sessions.
+fn left_by(alloc: Global, case: &Case<'_>, chunk: u32) -> Result<Left, Fail> {
+    let dates = case.dates;
+    let further = format!(in alloc; "{dates} --adjustments adj.db --chunk={chunk}")?;
+    let words = run_words(alloc, &further)?;
+    let mut shelf = base_shelf(alloc, Vec::new(alloc))?;
+    let statements = case.statements;
+    let pipeline = format!(in alloc; "pipeline 1;\n{statements}")?;
+    for (name, text) in [
+        ("p.pl", pipeline.as_str()),
+        ("assets.csv", case.assets),
+        ("bars.csv", case.bars),
+    ] {
+        if !text.is_empty() {
+            shelf.put(
+                String::from_str(alloc, name)?,
+                text.as_bytes().to_vec(alloc)?,
+            )?;
         }
-        let keeper = keeper(alloc, case.rows, Vec::new(alloc))?;
-        let got = run_over(alloc, &words, shelf, keeper, Vec::new(alloc))?;
-        assert_eq!(rt; got, make_left(alloc, 0, case.text.as_bytes(), b"")?, "{statements} {chunk}");
     }
-    Ok(())
+    let keeper = keeper(alloc, case.rows, Vec::new(alloc))?;
+    run_over(alloc, &words, shelf, keeper, Vec::new(alloc))
 }
 
 const FOUR_ASSETS: &str = "sid,start,end\n1,2024-01-01,2024-01-09\n2,2024-01-01,2024-01-09\n\
@@ -114,7 +114,11 @@ fn sees_bars_through_windows(rt: HostRuntime) -> Result<(), Fail> {
             ..BASE
         },
     ] {
-        is_written(&rt, &case)?;
+        for chunk in CHUNKS {
+            let got = left_by(rt.alloc(), &case, chunk)?;
+            let table = make_left(rt.alloc(), 0, case.text.as_bytes(), b"")?;
+            assert_eq!(rt; got, table, "{chunk}");
+        }
     }
     Ok(())
 }
@@ -156,7 +160,7 @@ fn sees_sessions_across_assets(rt: HostRuntime) -> Result<(), Fail> {
             statements: "let sector = label(\"sector\"); column d = close.latest.demean(groupby=sector); column s = sector;",
             assets: FOUR_ASSETS,
             bars: "sid,session,open,high,low,close,volume\n1,2024-01-02,10,10,10,10,10\n",
-            dates: "2024-01-03 2024-01-03",
+            dates: "2024-01-03 2024-01-03 --labels labels.csv",
             text: "session,sid,d,s\n2024-01-03,1,0.000000,tech\n2024-01-03,2,,\n2024-01-03,3,,\n2024-01-03,4,,\n",
             ..BASE
         },
@@ -173,7 +177,11 @@ fn sees_sessions_across_assets(rt: HostRuntime) -> Result<(), Fail> {
             ..BASE
         },
     ] {
-        is_written(&rt, &case)?;
+        for chunk in CHUNKS {
+            let got = left_by(rt.alloc(), &case, chunk)?;
+            let table = make_left(rt.alloc(), 0, case.text.as_bytes(), b"")?;
+            assert_eq!(rt; got, table, "{chunk}");
+        }
     }
     Ok(())
 }

@@ -1,8 +1,6 @@
 // Plans of whole scripts.
 use crate::refusal_tests::dates;
-use crate::test_runs::{
-    Left, NO_ROWS, answer, keeper, make_left, run_over, shelf_with, words_of,
-};
+use crate::test_runs::{Left, NO_ROWS, answer, keeper, make_left, run_over, shelf_with, words_of};
 use pl_calendar::Sessions;
 use pl_check::check;
 use pl_planner::{Plan, plan};
@@ -88,12 +86,24 @@ fn refuses_plans(rt: HostRuntime) -> Result<(), Fail> {
             "2024-01-03 2024-01-04",
             b"range: TooEarly -2\n",
         ),
-        (NESTED, "2024-01-06 2024-01-07", b"range: NotSession 2024-01-06\n"),
-        (NESTED, "2024-01-05 2024-01-07", b"range: NotSession 2024-01-07\n"),
+        (
+            NESTED,
+            "2024-01-06 2024-01-07",
+            b"range: NotSession 2024-01-06\n",
+        ),
+        (
+            NESTED,
+            "2024-01-05 2024-01-07",
+            b"range: NotSession 2024-01-07\n",
+        ),
         (NESTED, "2024-01-05 2024-01-04", b"range: Backwards\n"),
     ] {
         let got = answer_of(alloc, statements, dates)?;
-        assert_eq!(rt; got, make_left(alloc, 5, b"", line)?, "{statements} {dates}");
+        assert_eq!(rt;
+            got,
+            make_left(alloc, 5, b"", line)?,
+            "{statements} {dates}"
+        );
     }
     Ok(())
 }
