@@ -116,9 +116,9 @@ module _ (days : List ℤ) (w : World) (p : Pipeline) (plan : Planned) (chunk : 
       here false e =
           list_any_none test (used_terms p.graph (outputs p))
           (λ i d h.
-              let k = get_or (used_terms p.graph (outputs p)) i d in
-              let used : is_used plan k ≡ true = is.used k ∙ list_any_at (λ (x : ℕ). x == k) (used_terms p.graph (outputs p)) i d h (eq-eqb k k refl) in
-              later w low (low_at plan k chunk.from) chunk.to col (least.least k used) e)
+          let k = get_or (used_terms p.graph (outputs p)) i d in
+          let used : is_used plan k ≡ true = is.used k ∙ list_any_at (λ (x : ℕ). x == k) (used_terms p.graph (outputs p)) i d h (eq-eqb k k refl) in
+          later w low (low_at plan k chunk.from) chunk.to col (least.least k used) e)
 
   pub columns-are : columns_of w p plan chunk ≡ living_columns w low chunk.to
   unfolding columns_of

@@ -24,8 +24,8 @@ unfolding lives_within
 lives-none w low to col none =
     list_any_none (λ (x : ℕ). exists w (sid_at w.assets col) (pos x)) (range_with_len low (to + 1 - low))
     (λ i d h.
-        let few : i < to + 1 - low = omega (arith, length-range_with_len low (to + 1 - low)) in
-        ap (λ (x : ℕ). exists w (sid_at w.assets col) (pos x)) (get_or-range_with_len low (to + 1 - low) i d few) ∙ none (low + i) (omega arith) (omega arith))
+    let few : i < to + 1 - low = omega (arith, length-range_with_len low (to + 1 - low)) in
+    ap (λ (x : ℕ). exists w (sid_at w.assets col) (pos x)) (get_or-range_with_len low (to + 1 - low) i d few) ∙ none (low + i) (omega arith) (omega arith))
 
 range-snoc : (a n : ℕ) → range_with_len a (suc n) ≡ range_with_len a n ++ (a + n) ∷ []
 range-snoc a zero = let e : a ≡ a + 0 = omega arith in ap (λ (k : ℕ). k ∷ []) e

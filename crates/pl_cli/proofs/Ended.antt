@@ -21,7 +21,6 @@ use Rattle.pl_judge.specs.declared.fault.Fault.{Fault}
 use Rattle.pl_judge.specs.declared.fault.Fault.TheVariants.{Usage, Unwritten, Memory}
 use Rattle.pl_judge.specs.Contents.{Contents, AreHeld}
 use Rattle.pl_judge.specs.Held.{script_in, pipeline_in, pipeline_held, world_held}
-use Rattle.pl_judge.specs.Range.{index_of}
 use Rattle.pl_judge.specs.Steps.{Step, first_fault}
 use Rattle.pl_judge.specs.Work.{syntax_step, pipeline_steps, planning_steps, work}
 use Rattle.pl_judge.specs.Stages.{IsStop, IsRisen}
@@ -170,7 +169,7 @@ module _ {O : Type 0} (taken : O → Option (List ℕ)) (faults : O → ℕ) (so
       written (Err f) t is cost = elim is [
         | inl m ↦ rw m (no-table q l h)
         | inr u ↦ ends-written h.held (Some (Run q)) (Err f) h.are_held h.ends.passed (writes-over (loaded-text h.held q l h.loaded) t) u
-          tt (loaded-steps h.held q l (λ n. now ≤ before + n) h.loaded most)
+            tt (loaded-steps h.held q l (λ n. now ≤ before + n) h.loaded most)
       ]
 
   -- ---- a plan

@@ -67,7 +67,16 @@ fn write_loaded<O: Sink, L: Ledger>(
     ensures most { steps.new ≤ steps.old + loaded_steps loaded.now chunk }
 {
     let world = loaded.world.world();
-    match run_table(alloc, &world, &loaded.checked, &loaded.plan, chunk, Format::Csv, out, steps) {
+    match run_table(
+        alloc,
+        &world,
+        &loaded.checked,
+        &loaded.plan,
+        chunk,
+        Format::Csv,
+        out,
+        steps,
+    ) {
         Ok(_) => Ok(()),
         Err(RunError::Memory) => Err(Fault::Memory),
         Err(RunError::WriteFault) => Err(Fault::Unwritten),

@@ -138,7 +138,7 @@ module _ (days : List ℤ) (n : Node) (s : ℤ) where
   in-read t r h = elim (in-either t r (all_on start inputs) (all_on s (both n.mask n.group)) h) [
     | inl p ↦ (let a = all-on t r start inputs p in let i = in-number n.inputs t a.0 in subst (Reads days n s t) a.1 (Reads.input i.0 i.1))
     | inr q ↦ (let a = all-on t r s (both n.mask n.group) q in
-      elim (in-both n.mask n.group t a.0) [ inl m ↦ subst (Reads days n s t) a.1 (Reads.mask m) | inr g ↦ subst (Reads days n s t) a.1 (Reads.group g) ])
+        elim (in-both n.mask n.group t a.0) [ inl m ↦ subst (Reads days n s t) a.1 (Reads.mask m) | inr g ↦ subst (Reads days n s t) a.1 (Reads.group g) ])
   ]
 
 read-lower : (days : List ℤ) (n : Node) (s : ℤ) (u t : ℕ) (r : ℤ) → MentionsBelow n u → Reads days n s t r → t < u

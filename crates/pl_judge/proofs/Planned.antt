@@ -97,7 +97,7 @@ module _ (p : Pipeline) (checked : IsChecked p) where
         here : int_lt (pos most_rows) (pos is.session -ℤ first_of_all days p (pos is.session)) ≡ true
         here =
             let below = least-below (map (λ n. n.session) (list (pos is.session))) (pos is.session) is.low
-                (all-of-in is.term is.low (list (pos is.session)) (to-list (pos is.session) is.term is.low is.is_low.needed)) in
+            (all-of-in is.term is.low (list (pos is.session)) (to-list (pos is.session) is.term is.low is.is_low.needed)) in
             let e = is.is in
             grind (arith, ints, nat_tests)
 
@@ -118,7 +118,7 @@ module _ (p : Pipeline) (checked : IsChecked p) where
       enough : (d : ℕ) → plan.from ≤ d → d ≤ plan.to → int_lt (pos most_rows) (pos d -ℤ first_of_all days p (pos d)) ≡ false
       enough d a b =
           let low : (pos d -ℤ pos most_rows) ≤ℤ first_of_all days p (pos d) =
-              least-above (pos d -ℤ pos most_rows) (pos d) (map (λ n. n.session) (list (pos d))) (omega (arith, ints)) each in
+          least-above (pos d -ℤ pos most_rows) (pos d) (map (λ n. n.session) (list (pos d))) (omega (arith, ints)) each in
           grind (arith, ints, nat_tests)
         where
           each : (s : ℤ) → IsSession s (map (λ n. n.session) (list (pos d))) → (pos d -ℤ pos most_rows) ≤ℤ s

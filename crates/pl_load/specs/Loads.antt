@@ -1,5 +1,5 @@
 -- What was loaded.
-use Rattle.std.specs.Prelude.{◌≡◌, ◌<◌, ◌≤◌, Bool, true, length, Option, Some, Result, IfOk}
+use Rattle.std.specs.Prelude.{◌≡◌, Bool, true, Option, Some, Result, IfOk}
 use Rattle.pl_terms.specs.Checked.{pipeline_of}
 use Rattle.pl_spec.specs.World.{World}
 use Rattle.pl_spec.specs.Parts.{world_of}

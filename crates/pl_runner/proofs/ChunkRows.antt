@@ -1,5 +1,5 @@
 -- The chunks of a run, one behind the other.
-use Rattle.std.proofs.Common.{◌≡◌, ◌≢◌, ℕ, zero, suc, ◌+◌, ◌-◌, ◌*◌, ◌/◌, ◌≤◌, ◌<◌, ◌++◌, pos, List, [], ◌∷◌, length, map, sum_by, min, refl, sym, ap, ◌∙◌, append-nil, arith}
+use Rattle.std.proofs.Common.{◌≡◌, ◌≢◌, ℕ, zero, suc, ◌+◌, ◌-◌, ◌*◌, ◌/◌, ◌≤◌, ◌<◌, ◌++◌, pos, List, [], map, sum_by, min, refl, ap, ◌∙◌, arith}
 use Rattle.std.specs.List.{range_with_len}
 use Rattle.std.proofs.lemmas.Grind.{flat_map-append}
 use Rattle.std.proofs.lemmas.List.Sums.{sum_by-cons}
@@ -10,7 +10,7 @@ use Rattle.pl_spec.specs.Table.{Pipeline, Row, session_rows, table}
 use Rattle.pl_planner.specs.Plans.{Planned}
 use Rattle.pl_table.specs.Outcomes.{rows_of_sessions}
 use Rattle.pl_chunks.specs.declared.pieces.Chunk.{Chunk}
-use Rattle.pl_chunks.specs.Chunks.{chunk_at, chunk_count, chunks_of}
+use Rattle.pl_chunks.specs.Chunks.{chunk_at, chunk_count}
 use Rattle.pl_runner.specs.Runs.{run_steps, steps_of_chunk}
 
 pub times-more : (n m : ℕ) → (n + 1) * m ≡ n * m + m
@@ -98,7 +98,7 @@ steps-next w p plan size i h chunk is =
     let count : chunk_count plan.from plan.to size - i ≡ suc (chunk_count plan.from plan.to size - (i + 1)) = omega arith in
     let rest = range_with_len (i + 1) (chunk_count plan.from plan.to size - (i + 1)) in
     rw is (ap (λ (n : ℕ). sum_by (steps_of_chunk w p plan) (map (chunk_at plan.from plan.to size) (range_with_len i n))) count
-        ∙ sum_by-cons (steps_of_chunk w p plan) (chunk_at plan.from plan.to size i) (map (chunk_at plan.from plan.to size) rest))
+    ∙ sum_by-cons (steps_of_chunk w p plan) (chunk_at plan.from plan.to size i) (map (chunk_at plan.from plan.to size) rest))
 
 pub steps-end : (w : World) (p : Pipeline) (plan : Planned) (size i : ℕ) → chunk_count plan.from plan.to size ≤ i → steps_from w p plan size i ≡ 0
 steps-end w p plan size i h =

@@ -1,5 +1,5 @@
 -- A chunk can be computed, and its outputs can be written.
-use Rattle.std.proofs.Common.{◌≡◌, ℕ, ◌+◌, ◌-◌, ◌*◌, ◌^◌, ◌<◌, ◌≤◌, true, ℤ, pos, List, [], None, length, map, Some, slice_get, get_or, refl, sym, ap, subst, ◌∙◌, arith}
+use Rattle.std.proofs.Common.{◌≡◌, ℕ, ◌+◌, ◌-◌, ◌<◌, ◌≤◌, true, ℤ, pos, List, [], None, length, map, Some, slice_get, get_or, refl, sym, ap, subst, arith}
 use Rattle.std.specs.List.{All, AllPairs}
 use Rattle.std.proofs.lemmas.Nat.{mul-le}
 use Rattle.std.proofs.lemmas.Option.{slice_get-get_or}
@@ -7,11 +7,9 @@ use Rattle.pl_spec.specs.Kind.Kind.{Constant}
 use Rattle.pl_spec.specs.Parts.{sid_at}
 use Rattle.pl_spec.specs.World.{World}
 use Rattle.pl_spec.specs.Term.{Node}
-use Rattle.pl_spec.specs.Graph.{contains, columns_at}
 use Rattle.pl_spec.specs.Table.{Pipeline}
 use Rattle.pl_terms.specs.Checked.{IsChecked}
-use Rattle.pl_terms.specs.Uses.{outputs}
-use Rattle.pl_planner.specs.Plans.{Planned, IsPlanOf, is_used, low_at, slot_of}
+use Rattle.pl_planner.specs.Plans.{Planned, IsPlanOf, is_used, low_at}
 use Rattle.pl_planner.proofs.Pipelines.{is-pipeline}
 use Rattle.pl_values.specs.Arrays.{HasAll}
 use Rattle.pl_chunks.specs.declared.pieces.Chunk.{Chunk}
@@ -20,7 +18,7 @@ use Rattle.pl_chunks.specs.Room as chunks
 use Rattle.pl_chunks.specs.Room.{rows_at}
 use Rattle.pl_chunks.proofs.Assets.{columns-have, columns_of-ascend, columns_of-within, columns_of-few}
 use Rattle.pl_chunks.proofs.Terms.{used-within, output-used}
-use Rattle.pl_exec.specs.Tasks.{Task, AreColumns, HasRoom, assets_in, count_in, row_count, graph_in, low_in, window_of_term}
+use Rattle.pl_exec.specs.Tasks.{Task, AreColumns, HasRoom, window_of_term}
 
 -- the task of a chunk
 abbrev pub work : World → Pipeline → Planned → List ℕ → Chunk → Task

@@ -1,6 +1,5 @@
 -- The steps and the report of a run.
-use Rattle.std.specs.Prelude.{◌≡◌, ℕ, ◌+◌, ◌<◌, ◌≤◌, ◌^◌, ℤ, pos, List, length, map, sum_by, min}
-use Rattle.std.specs.List.{range_with_len}
+use Rattle.std.specs.Prelude.{◌≡◌, ℕ, pos, length, sum_by}
 use Rattle.pl_spec.specs.World.{World}
 use Rattle.pl_spec.specs.Graph.{bound}
 use Rattle.pl_spec.specs.Table.{Pipeline, table, cells}

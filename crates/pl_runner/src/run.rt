@@ -95,7 +95,9 @@ pub fn run_table<O: Sink, L: Ledger>(
 {
     let header = make_header(alloc, checked, format)?;
     let mut desk = Desk::reserve(alloc, world, checked, plan, chunk)?;
-    match write_all(world, checked, plan, chunk, format, &header, &mut desk, out, steps) {
+    match write_all(
+        world, checked, plan, chunk, format, &header, &mut desk, out, steps,
+    ) {
         Ok(report) => Ok(report),
         Err(_) => Err(RunError::WriteFault),
     }
@@ -134,7 +136,17 @@ fn write_all<O: Sink, L: Ledger>(
     let mut peak = 0;
     for i in 0..chunk_count(plan.from(), plan.to(), size) {
         let chunk = chunk_at(plan.from(), plan.to(), size, i);
-        let report = write_chunk(world, checked, plan, chunk, format, desk, &mut totals, out, steps)?;
+        let report = write_chunk(
+            world,
+            checked,
+            plan,
+            chunk,
+            format,
+            desk,
+            &mut totals,
+            out,
+            steps,
+        )?;
         applied = applied.saturating_add(report.applied);
         peak = report.peak;
     }

@@ -1,4 +1,4 @@
-use Rattle.std.proofs.Common.{Err, refl}
+use Rattle.std.proofs.Common.{Err}
 use Rattle.pl_judge.specs.declared.fault.Fault.TheVariants.{Memory}
 use Rattle.pl_cli.proofs.Finished.{asked-lent, run-of, no-words}
 use Rattle.pl_cli.proofs.top.run_program.Goals as goal

@@ -1,4 +1,4 @@
-use Rattle.std.proofs.Common.{◌≡◌, ◌∙◌, sym}
+use Rattle.std.proofs.Common.{◌∙◌, sym}
 use Rattle.pl_terms.specs.Checked.{pipeline_of}
 use Rattle.pl_runner.proofs.Released.{not-output}
 use Rattle.pl_runner.proofs.release.is_output.Goals as goal

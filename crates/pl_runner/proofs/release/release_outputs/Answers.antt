@@ -1,4 +1,4 @@
-use Rattle.std.proofs.Common.{subst, ◌+◌, ◌≡◌, ◌<◌, ◌≤◌, ◌∙◌, sym, ap, length, ℕ, arith}
+use Rattle.std.proofs.Common.{subst, ◌+◌, ◌≤◌, ◌∙◌, sym, ap, length, ℕ, arith}
 use Rattle.pl_terms.specs.Checked.{pipeline_of}
 use Rattle.pl_planner.proofs.Pipelines.{graph-long}
 use Rattle.pl_workspace.specs.Slots.{Slots, Free, IsLive, slot_at, with_slot}

@@ -1,4 +1,4 @@
-use Rattle.std.proofs.Common.{◌≡◌, ◌≤◌, ◌<◌, ◌+◌, ◌-◌, ◌*◌, ◌++◌, ◌∙◌, ℕ, ℤ, List, length, pos, sym, ap, refl, arith, length-append}
+use Rattle.std.proofs.Common.{◌≡◌, ◌≤◌, ◌<◌, ◌+◌, ◌-◌, ◌*◌, ◌++◌, ◌∙◌, ℕ, ℤ, length, pos, sym, ap, arith, length-append}
 use Rattle.std.specs.Int.{int_rem_euclid}
 use Rattle.std.proofs.lemmas.Int.{ints}
 use Rattle.std.proofs.lemmas.Nat.{mul-le}
@@ -14,7 +14,7 @@ use Rattle.pl_table.proofs.SessionRows.{lines-append}
 use Rattle.pl_chunks.specs.Chunks.{chunk_at, chunk_count}
 use Rattle.pl_exec.specs.Tasks.{cut}
 use Rattle.pl_runner.specs.Runs.{run_steps, steps_of_chunk}
-use Rattle.pl_runner.proofs.ChunkRows.{start_of, start-within, rows-next, rows-end, rows-all, chunk-few, steps-next, steps-end, steps-all, times-more}
+use Rattle.pl_runner.proofs.ChunkRows.{start_of, rows-next, rows-end, rows-all, chunk-few, steps-next, steps-end, steps-all, times-more}
 use Rattle.pl_runner.proofs.run.write_all.Goals as goal
 
 pub loop-i-init : goal.loop-i-init
@@ -49,7 +49,7 @@ returns-in_err-report-clause-writes g c =
     let s = start_of plan.from c.args.size (i + 1) in
     let rest = rows_of_sessions w p s (plan.to + 1 - s) in
     let next = ap (lines w p c.args.format) (rows-next w p plan.from plan.to c.args.size i c.requires.plan.order c.requires.some before chunk is)
-            ∙ lines-append w p c.args.format (rows_of_sessions w p chunk.from (chunk.to + 1 - chunk.from)) rest in
+    ∙ lines-append w p c.args.format (rows_of_sessions w p chunk.from (chunk.to + 1 - chunk.from)) rest in
     let q = err_from_is_err_and c.from_residual-in_err-report.result c.from_residual-in_err-report.ensures.1 in
     rw (q.1, q.2) (writing-stop _ _ (writing-over next c.loop-i.invariant.writing) c.in_err-report.ensures.writes)
 
