@@ -2,8 +2,6 @@
 #![tactic(auto)]
 
 #[cfg(test)]
-mod cells_tests;
-#[cfg(test)]
 mod check_tests;
 #[cfg(test)]
 mod engine_tests;
