@@ -1,0 +1,4 @@
+pub mod Each
+pub mod TextsRead
+pub mod TextsSaid
+pub mod Printing
