@@ -66,7 +66,7 @@ date_plain day h =
     let spelled : date_text day ≡ date_spelling date.year date.month date.date = date.spelled in
     rw spelled (spelling_plain date.year date.month date.date)
 
-small : (x : ℤ) → IsCell x → is_missing x ≡ false → unsigned_abs x ≤ LIMIT
+pub small : (x : ℤ) → IsCell x → is_missing x ≡ false → unsigned_abs x ≤ LIMIT
 small x (inl e) h = let yes : is_missing x ≡ true = (Decides-int_eq x MISSING).1 e in absurd (true≢false (sym yes ∙ h))
 small x (inr l) h = l
 
@@ -156,7 +156,7 @@ signed_back x l =
     let same : bytes_eq (signed_decimal x) (signed_decimal x) ≡ true = (bytes_eq-Decides (signed_decimal x) (signed_decimal x)).1 refl in
     rw (signed_value x l, within, same) refl
 
-number_back : (x : ℤ) → IsCell x → number_of_text (number_text x) ≡ Some x
+pub number_back : (x : ℤ) → IsCell x → number_of_text (number_text x) ≡ Some x
 number_back x h = here (is_missing x) refl
   where
     here : (b : Bool) → is_missing x ≡ b → number_of_text (number_text x) ≡ Some x

@@ -22,7 +22,7 @@ use Rattle.pl_lines.specs.Texts.{column_name, number_text, fields_of, body_of, i
 
 -- ---- pieces put together again
 
-some_piece : (b : ℕ) (xs : List ℕ) → 1 ≤ length (pieces b xs)
+pub some_piece : (b : ℕ) (xs : List ℕ) → 1 ≤ length (pieces b xs)
 some_piece b [] = omega arith
 some_piece b (x ∷ xs) = step (x == b) (pieces b xs)
   where
@@ -86,7 +86,7 @@ present_if_small x l = elim (cases_Bool (is_missing x)) [
   | inr n ↦ n
 ]
 
-number_said : (text : List ℕ) (x : ℤ) → number_of_text text ≡ Some x → (text ≡ number_text x) × IsCell x
+pub number_said : (text : List ℕ) (x : ℤ) → number_of_text text ≡ Some x → (text ≡ number_text x) × IsCell x
 unfolding number_of_text
 number_said text x h = first (nat_le (unsigned_abs (signed_digits_value 10 text)) LIMIT && bytes_eq text (signed_decimal (signed_digits_value 10 text))) refl h
   where

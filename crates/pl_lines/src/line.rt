@@ -1,7 +1,7 @@
-ghost use Rattle.std.specs.Prelude.{◌≡◌, ◌<◌, All, Some, length, slice_get};
+ghost use Rattle.std.specs.Prelude.{◌≡◌, ◌<◌, All, Some, length, map, slice_get};
 ghost use Rattle.pl_spec.specs.Rounding.{IsCell};
 ghost use Rattle.pl_lines.specs.Listed.{line_of};
-ghost use Rattle.pl_lines.specs.Texts.{IsWritable};
+ghost use Rattle.pl_lines.specs.Texts.{IsWritable, AreWritable};
 
 use pl_spec::Column;
 use std::marker::Model;
@@ -75,12 +75,22 @@ impl Model for Derivation {
 }
 
 impl Derivation {
+    // The derivation of these lines.
+    pub(crate) fn of(lines: Vec<Line>) -> Derivation
+        requires { AreWritable (map line_of lines.items) }
+        ensures { result ≡ map line_of lines.items }
+    {
+        Derivation { lines }
+    }
+
+    /// How many lines there are.
     pub fn len(&self) -> usize
         ensures { result ≡ length self.now }
     {
         self.lines.len()
     }
 
+    /// Lends a line, counted from 0.
     pub fn line(&self, i: usize) -> &Line
         requires { i < length self.now }
         ensures line { slice_get self.now i ≡ Some (line_of result.now) }

@@ -6,7 +6,7 @@ ghost use Rattle.pl_lines.specs.Lines.Line.{SeenLine, ValueLine};
 
 use crate::line::{CellList, Derivation, Line};
 use itoa::Buffer;
-use pl_fixed::write_day;
+use pl_fixed::{Memory, write_day};
 use pl_spec::Column;
 use std::alloc::{AllocError, Global};
 
@@ -128,7 +128,7 @@ fn put_line(bytes: &mut Vec<u8>, line: &Line) -> Result<(), AllocError>
 }
 
 /// The text of the lines, which reads back as them.
-pub fn print_lines(alloc: Global, derivation: &Derivation) -> Result<Vec<u8>, AllocError>
+pub fn print_lines(alloc: Global, derivation: &Derivation) -> Result<Vec<u8>, Memory>
     ensures { IfOk result (λ bytes. bytes.items ≡ text_of derivation.now) }
 {
     let mut bytes = Vec::new(alloc);
