@@ -1,0 +1,7 @@
+pub mod Each
+pub mod TextsRead
+pub mod TextsSaid
+pub mod Printing
+pub mod Numbers
+pub mod Cuts
+pub mod Listing

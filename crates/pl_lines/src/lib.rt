@@ -1,0 +1,12 @@
+//! The lines of derivations, and their text: it is printed, and it is read.
+#![tactic(auto)]
+
+pub mod laws;
+mod line;
+mod number;
+mod print;
+mod read;
+
+pub use line::{CellList, Derivation, Line};
+pub use print::print_lines;
+pub use read::{LinesError, MOST_LINES};

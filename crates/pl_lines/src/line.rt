@@ -1,0 +1,101 @@
+ghost use Rattle.std.specs.Prelude.{◌≡◌, ◌<◌, All, Some, length, map, slice_get};
+ghost use Rattle.pl_spec.specs.Rounding.{IsCell};
+ghost use Rattle.pl_lines.specs.Listed.{line_of};
+ghost use Rattle.pl_lines.specs.Texts.{IsWritable, AreWritable};
+
+use pl_spec::Column;
+use std::marker::Model;
+
+/// The cells of a bar, as it stands and after each event in turn.
+#[derive(Debug, Drop)]
+pub struct CellList {
+    cells: Vec<i64>,
+}
+
+impl Model for CellList {
+    ghost use Rattle.std.specs.Prelude.{ℤ, List};
+
+    ghost Value = { List ℤ };
+
+    ghost view = { λ c. c.cells.items };
+}
+
+impl CellList {
+    /// The list of these cells.
+    pub fn new(cells: Vec<i64>) -> CellList
+        requires { All IsCell cells.items }
+        ensures { result ≡ cells.items }
+    {
+        CellList { cells }
+    }
+
+    /// Lends the cells.
+    pub fn as_slice(&self) -> &[i64]
+        ensures { result.now ≡ self.now }
+    {
+        &self.cells
+    }
+}
+
+/// What is said of one fact: a bar as it is seen from a later day, or the value of a term.
+#[derive(Debug, Drop)]
+pub enum Line {
+    Seen {
+        column: Column,
+        sid: u32,
+        bar_day: i32,
+        day: i32,
+        cells: CellList,
+    },
+    Value {
+        term: u32,
+        sid: u32,
+        day: i32,
+        value: i64,
+    },
+}
+
+/// A list of lines.
+#[derive(Debug, Drop)]
+pub struct Derivation {
+    lines: Vec<Line>,
+}
+
+impl Model for Derivation {
+    ghost use Rattle.std.specs.Prelude.{List, map};
+    ghost use Rattle.pl_lines.specs.Lines as spec;
+    ghost use Rattle.pl_lines.specs.Listed.{line_of};
+    ghost use Rattle.pl_lines.specs.Texts.{AreWritable};
+
+    ghost Value = { List spec.Line };
+
+    ghost view = { λ d. map line_of d.lines.items };
+
+    ghost invariant = { λ d. AreWritable (map line_of d.lines.items) };
+}
+
+impl Derivation {
+    // The derivation of these lines.
+    pub(crate) fn of(lines: Vec<Line>) -> Derivation
+        requires { AreWritable (map line_of lines.items) }
+        ensures { result ≡ map line_of lines.items }
+    {
+        Derivation { lines }
+    }
+
+    /// How many lines there are.
+    pub fn len(&self) -> usize
+        ensures { result ≡ length self.now }
+    {
+        self.lines.len()
+    }
+
+    /// Lends a line, counted from 0.
+    pub fn line(&self, i: usize) -> &Line
+        requires { i < length self.now }
+        ensures line { slice_get self.now i ≡ Some (line_of result.now) }
+        ensures writable { IsWritable (line_of result.now) }
+    {
+        &self.lines[i]
+    }
+}
