@@ -17,7 +17,8 @@ use Rattle.pl_spec.specs.Value.Part.{Nothing, Bars, Values}
 use Rattle.pl_spec.specs.Table.{Pipeline, value_of, in_array}
 use Rattle.pl_spec.specs.Text.{kind_at}
 
--- the bar of session s of asset a as it is seen on session d, or the value of term number t for asset a on session d
+-- the bar of session s of asset a as it is seen on session d, or the value of term number t for asset a on
+-- session d
 pub data Fact : Type 0 where
   Seen : (column : Column) (a : ℕ) (s d : ℤ) → Fact
   Worth : (t a : ℕ) (d : ℤ) → Fact

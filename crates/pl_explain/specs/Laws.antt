@@ -36,8 +36,8 @@ tells_world w p (SeenLine c' a' bar day cells) (Seen c a s d) = pointwise int_eq
 tells_world w p (ValueLine t a day v) f = int_eq v (number_in w p f)
 tells_world w p l f = false
 
--- Behind right lines a line is right where its fact fits, each premise stands in these, and it tells what the world has:
--- what the first lines tell of the premises need not be kept.
+-- Behind right lines a line is right where its fact fits, each premise stands in these, and it tells what the
+-- world has: what the first lines tell of the premises need not be kept.
 abbrev pub RightIsTrue : Type 0
 RightIsTrue = (w : World) (p : Pipeline) → HasTexts w → IsGraph p.graph → (lines : List Line) → first_wrong w p lines ≡ None
     → (l : Line) (f : Fact) → fact_of w l ≡ Some f
@@ -48,7 +48,8 @@ abbrev pub RepeatsAreRight : Type 0
 RepeatsAreRight = (w : World) (p : Pipeline) → HasTexts w → IsGraph p.graph → (lines : List Line) → first_wrong w p lines ≡ None
     → (l : Line) (f : Fact) → fact_of w l ≡ Some f → is_told w lines f ≡ true → is_right w p lines l ≡ tells_world w p l f
 
--- the value of the cell can be explained: its term is used, its asset and session are known, and it reaches no farther than the bars
+-- the value of the cell can be explained: its term is used, its asset and session are known, and it reaches to
+-- no session below 0
 pub record IsAsked (w : World) (p : Pipeline) (t a d : ℕ) : Type 0 where
   pub used : is_used p t ≡ true
   pub known : has_sid w a ≡ true

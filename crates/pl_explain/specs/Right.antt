@@ -51,7 +51,8 @@ reading_of w lines f = unwrap_or (told w lines f) MISSING
 abbrev pub has_sid : World → ℕ → Bool
 has_sid w a = list_any (λ x. x.sid == a) w.assets
 
--- of a fact that may stand in a derivation the sid is known, the bar is of an earlier session, the term is used
+-- of a fact that may stand in a derivation the sid is known, the bar is of an earlier session, the term is
+-- used
 abbrev pub is_fitting : World → Pipeline → Fact → Bool
 is_fitting w p (Seen c a s d) = has_sid w a && int_lt s d
 is_fitting w p (Worth t a d) = has_sid w a && is_used p t
@@ -71,7 +72,8 @@ tells_step w p r (SeenLine c' a' bar day cells) (Seen c a s d) = pointwise int_e
 tells_step w p r (ValueLine t a day v) f = int_eq v (single_step w p r f)
 tells_step w p r l f = false
 
--- A line is right behind others where its fact fits, each premise stands in these and it tells what the step over their numbers gives.
+-- A line is right behind others where its fact fits, each premise stands in these and it tells what the step
+-- over their numbers gives.
 abbrev pub is_right_about : World → Pipeline → List Line → Line → Option Fact → Bool
 is_right_about w p lines l None = false
 is_right_about w p lines l (Some f) =

@@ -17,8 +17,8 @@ abbrev pub IsOnce : List Fact → Type 0
 IsOnce [] = Unit {0}
 IsOnce (f ∷ fs) = (is_in fs f ≡ false) × IsOnce fs
 
--- A walk that comes to a fact: where it is finished already nothing more, else its premises in order are finished, and then it.
--- Bars are one level deep, and a term one more than those of lower numbers.
+-- A walk that comes to a fact: where it is finished already nothing more, else its premises in order are
+-- finished, and then it. Bars are one level deep, and a term one more than those of lower numbers.
 abbrev pub finish : World → Pipeline → ℕ → List Fact → Fact → List Fact
 finish w p zero done f = done
 finish w p (suc depth) done f =

@@ -2,8 +2,8 @@
 use Rattle.std.specs.Prelude.{ℕ, ℤ, List}
 use Rattle.pl_spec.specs.declared.Column.{Column}
 
--- What is said of one fact: the cells of a bar as it is seen on a later day, or the value of a term, by its number, for an
--- asset on a day. The cells are the bar's, and that after each change in turn.
+-- What is said of one fact: the cells of a bar as it is seen on a later day, or the value of a term, by its
+-- number, for an asset on a day. The cells are the bar's, and that after each change in turn.
 pub data Line : Type 0 where
   SeenLine : (column : Column) (sid : ℕ) (bar_day day : ℤ) (cells : List ℤ) → Line
   ValueLine : (term sid : ℕ) (day : ℤ) (value : ℤ) → Line

@@ -59,7 +59,8 @@ fn put_number(bytes: &mut Vec<u8>, number: i64) -> Result<(), AllocError>
 }
 
 fn put_numbers(bytes: &mut Vec<u8>, numbers: &[i64]) -> Result<(), AllocError>
-    ensures { IfOk result (λ _. bytes.new.items ≡ bytes.old.items ++ flat_map (λ x. (32 ∷ []) ++ number_text x) numbers.now) }
+    ensures { IfOk result (λ _. bytes.new.items
+        ≡ bytes.old.items ++ flat_map (λ x. (32 ∷ []) ++ number_text x) numbers.now) }
 {
     for number in numbers {
         put_number(bytes, *number)?;
@@ -77,7 +78,8 @@ fn put_seen(
 ) -> Result<(), AllocError>
     requires bar_day { IsDay bar_day }
     requires day { IsDay day }
-    ensures { IfOk result (λ _. bytes.new.items ≡ bytes.old.items ++ (body_of (SeenLine column sid bar_day day cells.now) ++ 10 ∷ [])) }
+    ensures { IfOk result (λ _. bytes.new.items
+        ≡ bytes.old.items ++ (body_of (SeenLine column sid bar_day day cells.now) ++ 10 ∷ [])) }
 {
     bytes.extend_from_slice(b"seen")?;
     put_field(bytes, name_of(column))?;
@@ -96,7 +98,8 @@ fn put_value(
     value: i64,
 ) -> Result<(), AllocError>
     requires { IsDay day }
-    ensures { IfOk result (λ _. bytes.new.items ≡ bytes.old.items ++ (body_of (ValueLine term sid day value) ++ 10 ∷ [])) }
+    ensures { IfOk result (λ _. bytes.new.items
+        ≡ bytes.old.items ++ (body_of (ValueLine term sid day value) ++ 10 ∷ [])) }
 {
     bytes.extend_from_slice(b"value")?;
     put_whole(bytes, term)?;
@@ -108,7 +111,8 @@ fn put_value(
 
 fn put_line(bytes: &mut Vec<u8>, line: &Line) -> Result<(), AllocError>
     requires { IsWritable (line_of line.now) }
-    ensures { IfOk result (λ _. bytes.new.items ≡ bytes.old.items ++ (body_of (line_of line.now) ++ 10 ∷ [])) }
+    ensures { IfOk result (λ _. bytes.new.items
+        ≡ bytes.old.items ++ (body_of (line_of line.now) ++ 10 ∷ [])) }
 {
     match line {
         Line::Seen {

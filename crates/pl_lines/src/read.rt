@@ -164,8 +164,8 @@ fn add_line(lines: &mut Vec<Line>, line: Line) -> Result<(), AllocError>
     Ok(())
 }
 
-/// Reads the text of a derivation: its lines, or its first fault. An empty text is a bad line, and so is a last
-/// line without its line feed.
+/// Reads the text of a derivation: its lines, or its first fault. An empty text is a bad line, and so is a
+/// last line without its line feed.
 pub fn read_lines(alloc: Global, bytes: &[u8]) -> Result<Derivation, LinesError>
     ensures lines { IfOk result (λ lines. lines_in bytes.now ≡ Ok lines) }
     ensures fault { IfErr result (λ e. IsLinesFault bytes.now e) }
