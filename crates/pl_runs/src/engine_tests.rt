@@ -1,13 +1,9 @@
 // What the engine computes, in chunks of every size.
-ghost use Rattle.pl_outside.specs.Counts.{count_end};
-ghost use Rattle.std.specs.Prelude.{None, false};
-
 use crate::test_runs::{
-    FOURTH, Left, NO_ROWS, Rows, SATURDAY, base_shelf, keeper, make_left, row, run_in_room,
-    run_over, run_words, split,
+    FOURTH, Left, NO_ROWS, Rows, SATURDAY, base_shelf, keeper, make_left, row, run_over, run_words,
+    split,
 };
 use pl_fixed::write_day;
-use pl_outside::{AdjustKeeper, KeepError, RawAdjust, Table};
 use std::alloc::Global;
 use std::test::Fail;
 
@@ -338,7 +334,6 @@ fn date_of(alloc: Global, day: i32) -> Result<String, Fail> {
 
 #[test]
 fn computes_sections(rt: HostRuntime) -> Result<(), Fail> {
-    let (sessions, bars) = usual_files(rt.alloc(), 32)?;
     let sectors =
         "sector,1,2024-01-02,tech\nsector,2,2024-01-02,tech\nsector,3,2024-01-02,\"Oil, Gas\"\n";
     let grouped = Case {
@@ -438,24 +433,6 @@ fn computes_sections(rt: HostRuntime) -> Result<(), Fail> {
             ),
             ..BASE
         },
-        // the averages are 130 and 110, and then 130 and 111
-        Case {
-            sessions: Some(&sessions),
-            assets: Some(
-                "1,1970-01-01,1970-02-01\n2,1970-01-01,1970-02-01\n3,1970-01-01,1970-02-01\n",
-            ),
-            labels: Some(""),
-            bars: &bars,
-            statements: USUAL,
-            dates: "1970-01-31 1970-02-01",
-            left: (
-                0,
-                "session,sid,percent_difference,latest\n1970-01-31,1,0.000000,100.000000\n\
-                1970-01-31,2,0.181818,130.000000\n1970-02-01,1,0.000000,100.000000\n\
-                1970-02-01,2,0.171171,130.000000\n",
-            ),
-            ..BASE
-        },
         grouped,
         Case {
             labels: Some(""),
@@ -471,115 +448,26 @@ fn computes_sections(rt: HostRuntime) -> Result<(), Fail> {
     Ok(())
 }
 
-/// A split of each of four assets on each of 16,000 days but the first, 2/1 and 1/2 in turn. It tells nothing.
-#[derive(Drop)]
-struct DailySplits {
-    faults: u64,
-}
-
-/// The days from 1980-01-01 on.
-const FIRST: i32 = 3_652;
-
-const END: i32 = 19_652;
-
-impl AdjustKeeper for DailySplits {
-    ghost lists = { λ _. None };
-
-    ghost faults = { λ k. k.faults };
-
-    ghost calls = { λ _. count_end };
-
-    ghost sound = { λ _. false };
-
-    fn load(
-        &mut self,
-        _alloc: Global,
-        _name: &str,
-        table: Table,
-        into: &mut Vec<RawAdjust>,
-    ) -> Result<(), KeepError> {
-        if table != Table::Splits {
-            return Ok(());
-        }
-        for place in 0..63_996i64 {
-            let session = place / 4 + 1;
-            let odd = session % 2;
-            into.extend_from_slice(&[RawAdjust {
-                id: place,
-                effective: (session + i64::from(FIRST)) * 86_400,
-                num: 1 + odd,
-                den: 2 - odd,
-                sid: place % 4 + 1,
-            }])?;
-        }
-        Ok(())
-    }
-
-    ghost use Rattle.std.proofs.Common.{rules};
-
-    ghost sound_tells = { Prim.search rules };
-
-    ghost lists_ascend = { Prim.search rules };
-}
-
-/// The 16,000 sessions, and a bar of each of four assets on each of them.
-fn daily_files(alloc: Global) -> Result<(String, String), Fail> {
-    let mut sessions = String::new(alloc);
-    let mut bars = String::from_str(alloc, "sid,session,open,high,low,close,volume\n")?;
-    for day in FIRST..END {
-        let date = date_of(alloc, day)?;
-        sessions.push_str(&format!(in alloc; "{date}\n")?)?;
-        for sid in 1..5 {
-            bars.push_str(&format!(in alloc; "{sid},{date},1,1,1,1,10\n")?)?;
-        }
-    }
-    Ok((sessions, bars))
-}
-
-/// The sums of 1,260 closes: half of them are seen as 1, and half as 2 where the session's number is odd, and
-/// else as a half.
-fn daily_table(alloc: Global) -> Result<String, Fail> {
-    let mut text = String::from_str(alloc, "session,sid,c\n")?;
-    for day in FIRST + 1_260..END {
-        let date = date_of(alloc, day)?;
-        let sum = if day % 2 == 0 { "945" } else { "1890" };
-        for sid in 1..5 {
-            text.push_str(&format!(in alloc; "{date},{sid},{sum}.000000\n")?)?;
-        }
-    }
-    Ok(text)
-}
-
 #[test]
-fn slides_over_many_sessions(rt: HostRuntime) -> Result<(), Fail> {
-    let alloc = rt.alloc();
-    let (sessions, bars) = daily_files(alloc)?;
-    let table = daily_table(alloc)?;
-    let first = date_of(alloc, FIRST)?;
-    let from = date_of(alloc, FIRST + 1_260)?;
-    let to = date_of(alloc, END - 1)?;
-    let mut assets = String::from_str(alloc, "sid,start,end\n")?;
-    for sid in 1..5 {
-        assets.push_str(&format!(in alloc; "{sid},{first},{to}\n")?)?;
-    }
-    let mut shelf = base_shelf(alloc, Vec::new(alloc))?;
-    for (name, text) in [
-        ("p.pl", "pipeline 1;\ncolumn c = WindowSum(close, 1260);\n"),
-        ("sessions.csv", &sessions),
-        ("assets.csv", &assets),
-        ("bars.csv", &bars),
-    ] {
-        shelf.put(
-            String::from_str(alloc, name)?,
-            text.as_bytes().to_vec(alloc)?,
-        )?;
-    }
-    let words = run_words(
-        alloc,
-        &format!(in alloc; "{from} {to} --adjustments adj.db --chunk 4096")?,
-    )?;
-    let keeper = DailySplits { faults: 0 };
-    let got = run_in_room(alloc, &words, shelf, keeper, Vec::new(alloc), 2_000_000)?;
-    assert!(rt; got == make_left(alloc, 0, table.as_bytes(), b"")?);
+fn computes_a_pipeline_of_the_usual_kind(rt: HostRuntime) -> Result<(), Fail> {
+    let (sessions, bars) = usual_files(rt.alloc(), 32)?;
+    // the averages are 130 and 110, and then 130 and 111
+    let case = Case {
+        sessions: Some(&sessions),
+        assets: Some("1,1970-01-01,1970-02-01\n2,1970-01-01,1970-02-01\n3,1970-01-01,1970-02-01\n"),
+        labels: Some(""),
+        bars: &bars,
+        rows: NO_ROWS,
+        statements: USUAL,
+        dates: "1970-01-31 1970-02-01",
+        left: (
+            0,
+            "session,sid,percent_difference,latest\n1970-01-31,1,0.000000,100.000000\n\
+            1970-01-31,2,0.181818,130.000000\n1970-02-01,1,0.000000,100.000000\n\
+            1970-02-01,2,0.171171,130.000000\n",
+        ),
+    };
+    let wrong = first_wrong(rt.alloc(), &[case])?;
+    assert!(rt; wrong.is_none(), "{wrong:?}");
     Ok(())
 }
