@@ -301,16 +301,24 @@ fn computes_windows(rt: HostRuntime) -> Result<(), Fail> {
 }
 
 /// A pipeline of the usual kind.
-const USUAL: &str = "let mean_10 = SimpleMovingAverage(close, 10);\n\
+const USUAL: &str = "pipeline 1;\nlet mean_10 = SimpleMovingAverage(close, 10);\n\
     let mean_30 = SimpleMovingAverage(close, 30);\nlet diff = (mean_10 - mean_30) / mean_30;\n\
     let liquid = AverageDollarVolume(30) > 10000000;\ncolumn percent_difference = diff;\n\
-    column latest = close.latest;\nscreen liquid & diff.top(100, mask=liquid);";
+    column latest = close.latest;\nscreen liquid & diff.top(100, mask=liquid);\n";
+
+const USUAL_ASSETS: &str = "sid,start,end\n1,1970-01-01,1970-02-01\n2,1970-01-01,1970-02-01\n\
+    3,1970-01-01,1970-02-01\n";
+
+/// The averages are 130 and 110, and then 130 and 111.
+const USUAL_TABLE: &[u8] = b"session,sid,percent_difference,latest\n\
+    1970-01-31,1,0.000000,100.000000\n1970-01-31,2,0.181818,130.000000\n\
+    1970-02-01,1,0.000000,100.000000\n1970-02-01,2,0.171171,130.000000\n";
 
 /// So many sessions from 1970-01-01 on, and bars of three assets: one that costs 100, one that costs 130 from
 /// the 21st session on, and one of which nearly nothing is traded.
 fn usual_files(alloc: Global, count: i32) -> Result<(String, String), Fail> {
     let mut sessions = String::new(alloc);
-    let mut bars = String::new(alloc);
+    let mut bars = String::from_str(alloc, "sid,session,open,high,low,close,volume\n")?;
     for day in 0..count {
         let date = date_of(alloc, day)?;
         let second = if day < 20 { 100 } else { 130 };
@@ -448,26 +456,35 @@ fn computes_sections(rt: HostRuntime) -> Result<(), Fail> {
     Ok(())
 }
 
+/// What the pipeline of the usual kind leaves, where so many sessions are computed at a time.
+fn run_usual(alloc: Global, sessions: &str, bars: &str, chunk: &str) -> Result<Left, Fail> {
+    let mut shelf = base_shelf(alloc, Vec::new(alloc))?;
+    for (name, text) in [
+        ("p.pl", USUAL),
+        ("sessions.csv", sessions),
+        ("assets.csv", USUAL_ASSETS),
+        ("bars.csv", bars),
+    ] {
+        shelf.put(
+            String::from_str(alloc, name)?,
+            text.as_bytes().to_vec(alloc)?,
+        )?;
+    }
+    let words = run_words(
+        alloc,
+        &format!(in alloc; "1970-01-31 1970-02-01 --chunk {chunk}")?,
+    )?;
+    let keeper = keeper(alloc, NO_ROWS, Vec::new(alloc))?;
+    run_over(alloc, &words, shelf, keeper, Vec::new(alloc))
+}
+
 #[test]
 fn computes_a_pipeline_of_the_usual_kind(rt: HostRuntime) -> Result<(), Fail> {
     let (sessions, bars) = usual_files(rt.alloc(), 32)?;
-    // the averages are 130 and 110, and then 130 and 111
-    let case = Case {
-        sessions: Some(&sessions),
-        assets: Some("1,1970-01-01,1970-02-01\n2,1970-01-01,1970-02-01\n3,1970-01-01,1970-02-01\n"),
-        labels: Some(""),
-        bars: &bars,
-        rows: NO_ROWS,
-        statements: USUAL,
-        dates: "1970-01-31 1970-02-01",
-        left: (
-            0,
-            "session,sid,percent_difference,latest\n1970-01-31,1,0.000000,100.000000\n\
-            1970-01-31,2,0.181818,130.000000\n1970-02-01,1,0.000000,100.000000\n\
-            1970-02-01,2,0.171171,130.000000\n",
-        ),
-    };
-    let wrong = first_wrong(rt.alloc(), &[case])?;
-    assert!(rt; wrong.is_none(), "{wrong:?}");
+    for chunk in CHUNKS {
+        let got = run_usual(rt.alloc(), &sessions, &bars, chunk)?;
+        let want = make_left(rt.alloc(), 0, USUAL_TABLE, b"")?;
+        assert!(rt; got == want, "{got:?}");
+    }
     Ok(())
 }
