@@ -301,12 +301,12 @@ fn computes_windows(rt: HostRuntime) -> Result<(), Fail> {
 }
 
 /// A pipeline of the usual kind.
-const USUAL: &str = "pipeline 1;\nlet mean_10 = SimpleMovingAverage(close, 10);\n\
+const USUAL: &[u8] = b"pipeline 1;\nlet mean_10 = SimpleMovingAverage(close, 10);\n\
     let mean_30 = SimpleMovingAverage(close, 30);\nlet diff = (mean_10 - mean_30) / mean_30;\n\
     let liquid = AverageDollarVolume(30) > 10000000;\ncolumn percent_difference = diff;\n\
     column latest = close.latest;\nscreen liquid & diff.top(100, mask=liquid);\n";
 
-const USUAL_ASSETS: &str = "sid,start,end\n1,1970-01-01,1970-02-01\n2,1970-01-01,1970-02-01\n\
+const USUAL_ASSETS: &[u8] = b"sid,start,end\n1,1970-01-01,1970-02-01\n2,1970-01-01,1970-02-01\n\
     3,1970-01-01,1970-02-01\n";
 
 /// The averages are 130 and 110, and then 130 and 111.
@@ -457,18 +457,15 @@ fn computes_sections(rt: HostRuntime) -> Result<(), Fail> {
 }
 
 /// What the pipeline of the usual kind leaves, where so many sessions are computed at a time.
-fn run_usual(alloc: Global, sessions: &str, bars: &str, chunk: &str) -> Result<Left, Fail> {
+fn run_usual(alloc: Global, sessions: &[u8], bars: &[u8], chunk: &str) -> Result<Left, Fail> {
     let mut shelf = base_shelf(alloc, Vec::new(alloc))?;
-    for (name, text) in [
+    for (name, bytes) in [
         ("p.pl", USUAL),
         ("sessions.csv", sessions),
         ("assets.csv", USUAL_ASSETS),
         ("bars.csv", bars),
     ] {
-        shelf.put(
-            String::from_str(alloc, name)?,
-            text.as_bytes().to_vec(alloc)?,
-        )?;
+        shelf.put(String::from_str(alloc, name)?, bytes.to_vec(alloc)?)?;
     }
     let words = run_words(
         alloc,
@@ -482,7 +479,7 @@ fn run_usual(alloc: Global, sessions: &str, bars: &str, chunk: &str) -> Result<L
 fn computes_a_pipeline_of_the_usual_kind(rt: HostRuntime) -> Result<(), Fail> {
     let (sessions, bars) = usual_files(rt.alloc(), 32)?;
     for chunk in CHUNKS {
-        let got = run_usual(rt.alloc(), &sessions, &bars, chunk)?;
+        let got = run_usual(rt.alloc(), sessions.as_bytes(), bars.as_bytes(), chunk)?;
         let want = make_left(rt.alloc(), 0, USUAL_TABLE, b"")?;
         assert!(rt; got == want, "{got:?}");
     }
