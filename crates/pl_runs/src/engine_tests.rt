@@ -459,14 +459,16 @@ fn computes_sections(rt: HostRuntime) -> Result<(), Fail> {
 /// What the pipeline of the usual kind leaves, where so many sessions are computed at a time.
 fn run_usual(alloc: Global, sessions: &[u8], bars: &[u8], chunk: &str) -> Result<Left, Fail> {
     let mut shelf = base_shelf(alloc, Vec::new(alloc))?;
-    for (name, bytes) in [
-        ("p.pl", USUAL),
-        ("sessions.csv", sessions),
-        ("assets.csv", USUAL_ASSETS),
-        ("bars.csv", bars),
-    ] {
-        shelf.put(String::from_str(alloc, name)?, bytes.to_vec(alloc)?)?;
-    }
+    shelf.put(String::from_str(alloc, "p.pl")?, USUAL.to_vec(alloc)?)?;
+    shelf.put(
+        String::from_str(alloc, "sessions.csv")?,
+        sessions.to_vec(alloc)?,
+    )?;
+    shelf.put(
+        String::from_str(alloc, "assets.csv")?,
+        USUAL_ASSETS.to_vec(alloc)?,
+    )?;
+    shelf.put(String::from_str(alloc, "bars.csv")?, bars.to_vec(alloc)?)?;
     let words = run_words(
         alloc,
         &format!(in alloc; "1970-01-31 1970-02-01 --chunk {chunk}")?,
