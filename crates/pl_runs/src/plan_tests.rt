@@ -157,8 +157,8 @@ fn plans_slots(rt: HostRuntime) -> Result<(), Fail> {
     }
     // a chain of 256 terms
     let mut chain = format!(in alloc; "let a0 = close.latest;")?;
-    for k in 1..256 {
-        let before = k - 1;
+    for before in 0..255 {
+        let k = before + 1;
         chain.push_str(&format!(in alloc; "let a{k} = a{before}.abs();")?)?;
     }
     chain.push_str("column c = a255;")?;
@@ -174,8 +174,8 @@ fn plans_slots(rt: HostRuntime) -> Result<(), Fail> {
         fan.push_str(&format!(in alloc; "let a{k} = WindowSum(close, {window});")?)?;
     }
     fan.push_str("let s0 = a0;")?;
-    for k in 1..128 {
-        let before = k - 1;
+    for before in 0..127 {
+        let k = before + 1;
         fan.push_str(&format!(in alloc; "let s{k} = s{before} + a{k};")?)?;
     }
     fan.push_str("column c = s127;")?;
