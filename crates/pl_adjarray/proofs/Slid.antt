@@ -1,5 +1,5 @@
 -- A buffer whose first assets were brought to a later day.
-use Rattle.std.proofs.Common.{◌≡◌, ℕ, ◌+◌, ◌*◌, ◌<◌, ◌≤◌, ℤ, List, length, get_or, take, sum_by, subst, refl, sym, ◌∙◌, ap, arith, inl, inr}
+use Rattle.std.proofs.Common.{◌≡◌, ℕ, ◌+◌, ◌*◌, ◌<◌, ◌≤◌, ℤ, List, length, get_or, take, sum_by, subst, slice_get, Some, refl, sym, ◌∙◌, ap, arith, inl, inr}
 use Rattle.std.proofs.lemmas.Bool.{cases_lt}
 use Rattle.std.proofs.lemmas.List.Sums.{sum_by_more}
 use Rattle.pl_spec.specs.World.{events_of}
@@ -8,9 +8,9 @@ use Rattle.pl_adjarray.specs.Buffered.{Buffered, HasCells, cut, cell_at, col_at,
 use Rattle.pl_spec.specs.Rounding.{IsCell}
 use Rattle.pl_adjarray.proofs.Places.{row_before, row_behind}
 
--- the first n assets are at the later day, whatever the day of a bar
+-- the first n assets are at the later day
 pub record AreSlid (b : Buffered) (shown : ℕ) (from to : ℤ) (n : ℕ) (old new : List ℤ) (steps_old steps applied_old applied : ℕ) : Type 0 where
-  pub moved : (bar : ℤ) (i j : ℕ) → i < n → j < shown → cell_at new (i * b.rows + j) ≡ after_all (cell_at old (i * b.rows + j)) (effects_in b.column bar from to (events_of (world_of b) (col_at b i)))
+  pub moved : (bar : ℤ) (i j : ℕ) → i < n → j < shown → slice_get b.days (b.first + j) ≡ Some bar → cell_at new (i * b.rows + j) ≡ after_all (cell_at old (i * b.rows + j)) (effects_in b.column bar from to (events_of (world_of b) (col_at b i)))
   pub kept : (i j : ℕ) → i < n → shown ≤ j → j < b.rows → cell_at new (i * b.rows + j) ≡ cell_at old (i * b.rows + j)
   pub rest : (k : ℕ) → n * b.rows ≤ k → cell_at new k ≡ cell_at old k
   pub cells : HasCells b new
@@ -26,7 +26,7 @@ add_cost x y z k s t m e f g = rw e (omega arith)
 -- nothing is slid yet
 pub slid_none : (b : Buffered) (shown : ℕ) (from to : ℤ) (cells : List ℤ) (steps applied : ℕ) → HasCells b cells → AreSlid b shown from to 0 cells cells steps steps applied applied
 slid_none b shown from to cells steps applied has_cells = record {
-  moved = λ bar i j h k. absurd (omega arith);
+  moved = λ bar i j h k day. absurd (omega arith);
   kept = λ i j h k m. absurd (omega arith);
   rest = λ k h. refl;
   cells = has_cells;
@@ -34,9 +34,9 @@ slid_none b shown from to cells steps applied has_cells = record {
   tally = λ bar. ap cut (omega arith);
 }
 
--- the rows of asset n were changed by the effects es on a bar of any day, and no other rows
+-- the rows of asset n were changed by the effects es on the bars of their days, and no other rows
 pub record IsOneSlid (b : Buffered) (shown n : ℕ) (mid new : List ℤ) (es : ℤ → List Effect) : Type 0 where
-  pub moved : (bar : ℤ) (j : ℕ) → j < shown → cell_at new (n * b.rows + j) ≡ after_all (cell_at mid (n * b.rows + j)) (es bar)
+  pub moved : (bar : ℤ) (j : ℕ) → j < shown → slice_get b.days (b.first + j) ≡ Some bar → cell_at new (n * b.rows + j) ≡ after_all (cell_at mid (n * b.rows + j)) (es bar)
   pub before : (k : ℕ) → k < n * b.rows → cell_at new k ≡ cell_at mid k
   pub behind : (k : ℕ) → n * b.rows + shown ≤ k → cell_at new k ≡ cell_at mid k
   pub cells : (j : ℕ) → j < shown → IsCell (cell_at new (n * b.rows + j))
@@ -63,10 +63,10 @@ module _ (b : Buffered) (shown n : ℕ) (mid new : List ℤ) (es : ℤ → List 
   slid_more from to old s0 s1 s2 t0 t1 t2 in_cols own so_far cost tally =
       let more : (bar : ℤ) → sum_by (ratio_count b bar from to) (take (n + 1) b.cols) ≡ sum_by (ratio_count b bar from to) (take n b.cols) + ratio_count b bar from to (get_or b.cols n 0) = λ bar. sum_by_more (ratio_count b bar from to) b.cols n 0 in_cols in
       record {
-        moved = λ bar i j h k. elim (cases_lt i n) [
-          | inl p ↦ one.before (i * b.rows + j) (row_before i j n b.rows p (omega arith)) ∙ so_far.moved bar i j p k
+        moved = λ bar i j h k day. elim (cases_lt i n) [
+          | inl p ↦ one.before (i * b.rows + j) (row_before i j n b.rows p (omega arith)) ∙ so_far.moved bar i j p k day
           | inr p ↦ (let same : i ≡ n = omega arith in
-              rw same (one.moved bar j k
+              rw same (one.moved bar j k day
               ∙ ap (λ x. after_all x (es bar)) (so_far.rest (n * b.rows + j) (omega arith))
               ∙ ap (after_all (cell_at old (n * b.rows + j))) (own bar)))
         ];

@@ -87,7 +87,7 @@ module _ (b : Buffered) (ready : IsReady b) where
 
   module _ (d : ℕ) (from to : ℤ) (low : b.first ≤ d) (high : d < b.first + b.rows) (at_d : slice_get b.days d ≡ Some from) (at_next : slice_get b.days (d + 1) ≡ Some to) where
     pub next_seen : (old new : List ℤ) → AreSeen b old d
-        → ((bar : ℤ) (i j : ℕ) → i < length b.cols → j < d - b.first + 1 → cell_at new (i * b.rows + j)
+        → ((bar : ℤ) (i j : ℕ) → i < length b.cols → j < d - b.first + 1 → slice_get b.days (b.first + j) ≡ Some bar → cell_at new (i * b.rows + j)
         ≡ after_all (cell_at old (i * b.rows + j)) (effects_in b.column bar from to (events_of (world_of b) (get_or b.cols i 0))))
         → ((i j : ℕ) → i < length b.cols → d - b.first + 1 ≤ j → j < b.rows → cell_at new (i * b.rows + j) ≡ cell_at old (i * b.rows + j))
         → AreSeen b new (d + 1)
@@ -95,7 +95,7 @@ module _ (b : Buffered) (ready : IsReady b) where
         let range = ready.range in
         let a = get_or b.cols i 0 in
         elim (cases_lt j (d - b.first + 1)) [
-          | inl p ↦ (moved (get_or b.days (b.first + j) (pos 0)) i j h p
+          | inl p ↦ (moved (get_or b.days (b.first + j) (pos 0)) i j h p (has_day (world_of b) (b.first + j) (omega arith))
               ∙ ap (λ x. after_all x (effects_in b.column (get_or b.days (b.first + j) (pos 0)) from to (events_of (world_of b) a))) (seen i j h k)
               ∙ moved_is_seen (world_of b) ready.world a b.column (b.first + j) d from to (omega arith) at_d at_next)
           | inr p ↦ (kept i j h p k ∙ seen i j h k

@@ -3,3 +3,4 @@ pub mod Buffered
 pub mod Inside
 pub mod Traversals
 pub mod Worlds
+pub mod Factors

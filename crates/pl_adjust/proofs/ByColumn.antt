@@ -1,6 +1,7 @@
 -- The rows by column and day are the adjustments of the tables column by column.
 use Rattle.std.proofs.Common.{◌≡◌, ℕ, suc, ◌<◌, ◌≤◌, ◌==◌, nat_lt, nat_le, Bool, true, false, cond, not, ℤ, ◌≤ℤ◌, List, [], ◌∷◌, map, filter, length, get_or, AllPairs, refl, sym, ◌∙◌, ap, arith}
-use Rattle.std.specs.List.Sorted.{ties}
+use Rattle.std.specs.List.Sorted.{IsPermutation, ties}
+use Rattle.std.proofs.lemmas.List.Sorted.{IsPermutation-append_comm, IsPermutation-append_left, IsPermutation-append_right, IsPermutation-refl, IsPermutation-trans}
 use Rattle.std.specs.Int.RustNames.{int_lt}
 use Rattle.std.specs.declared.cmp.Ordering.TheVariants.{Less, Equal, Greater}
 use Rattle.std.specs.Ordering.{is_lt, nat_cmp, int_cmp, int_eq, ordering_then}
@@ -14,7 +15,7 @@ use Rattle.pl_spec.specs.Parts.{ColumnAdjustment}
 use Rattle.pl_records.specs.Sorted.{insert_by, sorted_by}
 use Rattle.pl_spec.proofs.ByDay.{by_day-is_by_day}
 use Rattle.pl_assets.proofs.Filters.{filter-map}
-use Rattle.pl_adjust.specs.Columns.{IsByPlace, by_column, in_column}
+use Rattle.pl_adjust.specs.Columns.{IsByPlace, by_column, by_place, in_column, insert_at_place}
 use Rattle.pl_adjust.proofs.Kept.{in_front, front_order, not_in_front}
 use Rattle.pl_adjust.proofs.OneOrder.{NoneBelow, Rises, none_below_lower, one_order, rises_from_sorted}
 
@@ -29,7 +30,7 @@ one_place a b p q e f =
     let high : q ≤ℤ p = h.1 (sym col) in
     (col, omega (arith, ints))
 
-tied : (z x : ColumnAdjustment) → ties in_front z x ≡ true → (z.col ≡ x.col) × (z.event.day ≡ x.event.day)
+pub tied : (z x : ColumnAdjustment) → ties in_front z x ≡ true → (z.col ≡ x.col) × (z.event.day ≡ x.event.day)
 tied z x t =
     let both = and_parts (not (in_front z x)) (not (in_front x z)) t in
     one_place z.col x.col z.event.day x.event.day (not-true (in_front x z) both.1) (not-true (in_front z x) both.0)
@@ -145,7 +146,7 @@ module _ (assets : List AssetRow) where
   days_rise_from [] h = tt
   days_rise_from (x ∷ xs) h = (later_from x.event.day xs (λ k d l. h 0 (suc k) d (omega arith) (omega arith)), days_rise_from xs (λ i j d l m. h (suc i) (suc j) d (omega arith) (omega arith)))
 
-  by_day-ties : (z : ColumnAdjustment) (ws : List Adjustment) → filter (ties in_front z) (map (in_column assets) (by_day ws)) ≡ filter (ties in_front z) (map (in_column assets) ws)
+  pub by_day-ties : (z : ColumnAdjustment) (ws : List Adjustment) → filter (ties in_front z) (map (in_column assets) (by_day ws)) ≡ filter (ties in_front z) (map (in_column assets) ws)
   by_day-ties z ws =
       filter-map (ties in_front z) (in_column assets) (by_day ws)
       ∙ ap (map (in_column assets)) (sym (filter-filter kept (acts_at z.event.day) on_day (by_day ws)) ∙ ap (filter kept) ((by_day-is_by_day ws).same z.event.day) ∙ filter-filter kept (acts_at z.event.day) on_day ws)
@@ -160,9 +161,89 @@ module _ (assets : List AssetRow) where
           same_day : (p q : ℤ) → p ≡ q → int_eq p q ≡ true
           same_day p q e = grind (arith, ints)
 
+  pub rises-columns : (ws : List Adjustment) → Rises in_front front_order (by_column (map (in_column assets) (by_day ws)))
+  rises-columns ws = rises-sorted (map (in_column assets) (by_day ws)) (days_rise_from (by_day ws) (by_day-is_by_day ws).rising)
+
   -- rows by place are the rows by day, column by column
   pub by_column_is : (ws : List Adjustment) (ys : List ColumnAdjustment) → IsByPlace (map (in_column assets) ws) ys → ys ≡ by_column (map (in_column assets) (by_day ws))
   by_column_is ws ys h =
       one_order in_front front_order ys (by_column (map (in_column assets) (by_day ws))) (rises_from_sorted in_front front_order ys h.sorted)
       (rises-sorted (map (in_column assets) (by_day ws)) (days_rise_from (by_day ws) (by_day-is_by_day ws).rising))
       (λ z. h.stable z ∙ sym (by_day-ties z ws) ∙ sym (filter-sorted_by col_of (ties in_front z) (λ x y e f. sym (tied z x e).0 ∙ (tied z y f).0) (map (in_column assets) (by_day ws))))
+
+-- ---- rows by place, computed
+
+-- none that ties with z is in front of another
+apart : (z x y : ColumnAdjustment) → ties in_front z x ≡ true → ties in_front z y ≡ true → in_front y x ≡ false
+apart z x y e f =
+    let p = tied z x e in
+    let q = tied z y f in
+    let col : x.col ≤ y.col = omega (arith, sym p.0 ∙ q.0) in
+    let day : x.event.day ≤ℤ y.event.day = (let same : x.event.day ≡ y.event.day = sym p.1 ∙ q.1 in omega (arith, ints)) in
+    stays_behind x.col y.col x.event.day y.event.day col day
+
+place-ties : (z x : ColumnAdjustment) (ys : List ColumnAdjustment) → filter (ties in_front z) (insert_at_place x ys) ≡ filter (ties in_front z) (x ∷ ys)
+place-ties z x [] = refl
+place-ties z x (y ∷ ys) = here (in_front y x) refl (place-ties z x ys)
+  where
+    t : ColumnAdjustment → Bool
+    t = ties in_front z
+
+    here : (b : Bool) → in_front y x ≡ b → filter t (insert_at_place x ys) ≡ filter t (x ∷ ys) → filter t (cond b (y ∷ insert_at_place x ys) (x ∷ y ∷ ys)) ≡ filter t (x ∷ y ∷ ys)
+    here false e rest = refl
+    here true e rest = swap (t x) (t y) refl refl rest
+      where
+        swap : (b c : Bool) → t x ≡ b → t y ≡ c → filter t (insert_at_place x ys) ≡ filter t (x ∷ ys)
+            → cond c (y ∷ filter t (insert_at_place x ys)) (filter t (insert_at_place x ys)) ≡ cond b (x ∷ cond c (y ∷ filter t ys) (filter t ys)) (cond c (y ∷ filter t ys) (filter t ys))
+        swap true true p q rest = let bad : true ≡ false = sym e ∙ apart z x y p q in absurd (cc)
+        swap true false p q rest = rw p at rest
+        swap false true p q rest = ap (λ l. y ∷ l) (rw p at rest)
+        swap false false p q rest = rw p at rest
+
+pub by_place-ties : (z : ColumnAdjustment) (xs : List ColumnAdjustment) → filter (ties in_front z) (by_place xs) ≡ filter (ties in_front z) xs
+unfolding by_place
+by_place-ties z [] = refl
+by_place-ties z (x ∷ xs) = place-ties z x (by_place xs) ∙ ap (λ l. cond (ties in_front z x) (x ∷ l) l) (by_place-ties z xs)
+
+rises-place : (x : ColumnAdjustment) (ys : List ColumnAdjustment) → Rises in_front front_order ys → Rises in_front front_order (insert_at_place x ys)
+rises-place x [] r = (tt, tt)
+rises-place x (y ∷ ys) r = here (in_front y x) refl (rises-place x ys r.1)
+  where
+    not_below : (zs : List ColumnAdjustment) → NoneBelow in_front front_order y zs → in_front x y ≡ false → NoneBelow in_front front_order y (insert_at_place x zs)
+    not_below [] n e = (e, tt)
+    not_below (z ∷ zs) n e = place (in_front z x) (not_below zs n.1 e)
+      where
+        place : (b : Bool) → NoneBelow in_front front_order y (insert_at_place x zs) → NoneBelow in_front front_order y (cond b (z ∷ insert_at_place x zs) (x ∷ z ∷ zs))
+        place true rest = (n.0, rest)
+        place false rest = (e, n)
+
+    here : (b : Bool) → in_front y x ≡ b → Rises in_front front_order (insert_at_place x ys) → Rises in_front front_order (cond b (y ∷ insert_at_place x ys) (x ∷ y ∷ ys))
+    here true t rest = (not_below ys r.0 (front_order.one_way y x t), rest)
+    here false t rest = ((t, none_below_lower in_front front_order x y ys t r.0), r)
+
+pub rises-by_place : (xs : List ColumnAdjustment) → Rises in_front front_order (by_place xs)
+unfolding by_place
+rises-by_place [] = tt
+rises-by_place (x ∷ xs) = rises-place x (by_place xs) (rises-by_place xs)
+
+-- the order has one answer
+pub by_place_is : (xs ys : List ColumnAdjustment) → IsByPlace xs ys → ys ≡ by_place xs
+by_place_is xs ys h =
+    one_order in_front front_order ys (by_place xs) (rises_from_sorted in_front front_order ys h.sorted) (rises-by_place xs) (λ z. h.stable z ∙ sym (by_place-ties z xs))
+
+-- nothing is lost by it
+place-permutes : (x : ColumnAdjustment) (ys : List ColumnAdjustment) → IsPermutation (x ∷ ys) (insert_at_place x ys)
+place-permutes x [] = IsPermutation-refl (x ∷ [])
+place-permutes x (y ∷ ys) = here (in_front y x) (place-permutes x ys)
+  where
+    here : (b : Bool) → IsPermutation (x ∷ ys) (insert_at_place x ys) → IsPermutation (x ∷ y ∷ ys) (cond b (y ∷ insert_at_place x ys) (x ∷ y ∷ ys))
+    here true rest =
+        IsPermutation-trans (x ∷ y ∷ ys) (y ∷ x ∷ ys) (y ∷ insert_at_place x ys) (IsPermutation-append_left ys (x ∷ y ∷ []) (y ∷ x ∷ []) (IsPermutation-append_comm (x ∷ []) (y ∷ [])))
+        (IsPermutation-append_right (y ∷ []) (x ∷ ys) (insert_at_place x ys) rest)
+    here false rest = IsPermutation-refl (x ∷ y ∷ ys)
+
+pub by_place-permutes : (xs : List ColumnAdjustment) → IsPermutation xs (by_place xs)
+unfolding by_place
+by_place-permutes [] = IsPermutation-refl []
+by_place-permutes (x ∷ xs) =
+    IsPermutation-trans (x ∷ xs) (x ∷ by_place xs) (insert_at_place x (by_place xs)) (IsPermutation-append_right (x ∷ []) xs (by_place xs) (by_place-permutes xs)) (place-permutes x (by_place xs))

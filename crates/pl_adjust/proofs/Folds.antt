@@ -1,14 +1,15 @@
 -- The cell seen, one adjustment after the other.
-use Rattle.std.proofs.Common.{◌≡◌, ℕ, ◌+◌, ◌<◌, ◌≤◌, Bool, true, false, cond, ℤ, ◌&&◌, List, [], ◌∷◌, ◌++◌, map, length, drop, get_or, Option, Some, None, refl, sym, ◌∙◌, ap, arith}
+use Rattle.std.proofs.Common.{◌≡◌, ℕ, ◌+◌, ◌<◌, ◌≤◌, Bool, true, false, cond, ℤ, ◌&&◌, List, [], ◌∷◌, ◌++◌, map, length, drop, get_or, Option, Some, None, All, refl, sym, subst, ◌∙◌, ap, arith}
 use Rattle.std.specs.Prelude.{filter_map, option_to_list}
 use Rattle.std.specs.Int.RustNames.{int_lt, int_le}
 use Rattle.std.specs.List.{filter}
-use Rattle.std.proofs.lemmas.List.{at_drop_more, at_drop_all}
+use Rattle.std.proofs.lemmas.List.{at_drop_more, at_drop_all, get_or-map, get_or_default, length-map}
+use Rattle.std.proofs.lemmas.List.Elements.{All-filter}
 use Rattle.std.proofs.lemmas.List.Sums.{fold-append, sum_by-append}
 use Rattle.pl_spec.specs.declared.Column.{Column}
 use Rattle.pl_spec.specs.Window.{Effect, effect, effects_in, changed, after_all, step_of, step_count}
 use Rattle.pl_adjust.specs.declared.adjust.Adjust.{Adjust}
-use Rattle.pl_adjust.specs.Events.{effects_of, event_of}
+use Rattle.pl_adjust.specs.Events.{PutCells, PutsCell, effects_of, event_of}
 use Rattle.pl_adjust.proofs.Between.{is_between}
 
 pub effects-between : (c : Column) (bar low high : ℤ) (xs : List Adjust) → effects_of c bar (filter (is_between low high) xs) ≡ effects_in c bar low high (map event_of xs)
@@ -50,6 +51,23 @@ pub count_more : (c : Column) (bar : ℤ) (xs : List Adjust) (i : ℕ) (a : Adju
 count_more c bar xs i a within item =
     sym (sum_by-append step_of (option_to_list (effect c bar (event_of a))) (effects_of c bar (drop (i + 1) xs)))
     ∙ ap step_count (effects-more c bar xs i a within item)
+
+-- those between two days are of the list, and so is what they put
+pub put_at : (xs : List Adjust) (i : ℕ) (a : Adjust) → PutCells (map event_of xs) → i < length xs → a ≡ get_or xs i a → PutsCell (event_of a)
+put_at xs i a all within item =
+    let long : length (map event_of xs) ≡ length xs = length-map xs event_of in
+    let there : get_or (map event_of xs) i (event_of a) ≡ event_of (get_or xs i a) = get_or-map event_of xs i a (event_of a) within in
+    subst PutsCell (there ∙ ap event_of (sym item)) (all i (event_of a) (omega arith))
+
+pub put_kept : (low high : ℤ) (list xs : List Adjust) (i : ℕ) (a : Adjust) → PutCells (map event_of list) → xs ≡ filter (is_between low high) list
+    → i < length xs → a ≡ get_or xs i a → PutsCell (event_of a)
+put_kept low high list xs i a all is within item =
+    let each : All (λ a. PutsCell (event_of a)) list = λ k d h. put_at list k (get_or list k d) all h (same k d h) in
+    let kept : All (λ a. PutsCell (event_of a)) xs = rw is (All-filter (is_between low high) (λ a. PutsCell (event_of a)) list each) in
+    subst (λ (x : Adjust). PutsCell (event_of x)) (sym item) (kept i a within)
+  where
+    same : (k : ℕ) (d : Adjust) → k < length list → get_or list k d ≡ get_or list k (get_or list k d)
+    same k d h = get_or_default list k d (get_or list k d) h
 
 -- none is left
 pub seen_all : (c : Column) (bar low high x y : ℤ) (list xs : List Adjust) (i : ℕ) → length xs ≤ i → xs ≡ filter (is_between low high) list

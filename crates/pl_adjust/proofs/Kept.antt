@@ -1,5 +1,5 @@
 -- Adjustments by column.
-use Rattle.std.proofs.Common.{◌≡◌, ℕ, zero, suc, ◌+◌, ◌-◌, ◌<◌, ◌≤◌, ◌==◌, nat_lt, nat_le, min, Bool, true, false, ℤ, pos, ◌≤ℤ◌, List, [], ◌∷◌, map, filter, length, get_or, take, drop, AllPairs, refl, sym, ◌∙◌, ap, arith, inl, inr}
+use Rattle.std.proofs.Common.{◌≡◌, ℕ, zero, suc, ◌+◌, ◌-◌, ◌<◌, ◌≤◌, ◌==◌, nat_lt, nat_le, min, Bool, true, false, ℤ, pos, ◌≤ℤ◌, List, [], ◌∷◌, map, filter, length, get_or, take, drop, All, AllPairs, refl, sym, ◌∙◌, ap, arith, inl, inr}
 use Rattle.std.specs.Cmp.{IsStrictWeakOrder}
 use Rattle.std.specs.Int.RustNames.{int_lt}
 use Rattle.std.specs.List.Sorted.{IsNonDecreasing, IsPartitionPoint}
@@ -9,12 +9,13 @@ use Rattle.std.proofs.lemmas.Bool.Decides.{nat_tests}
 use Rattle.std.proofs.lemmas.Cmp.{nat_cmp_total, int_cmp_total, on_total, then_total}
 use Rattle.std.proofs.lemmas.Int.{ints}
 use Rattle.std.proofs.lemmas.List.{length-drop, length-take, get_or-drop, get_or-take, take-map, drop-map}
+use Rattle.std.proofs.lemmas.List.Elements.{All-filter, All-map}
 use Rattle.std.proofs.lemmas.List.Sorted.{ranks_by, sorted_far}
 use Rattle.pl_spec.specs.declared.AdjustmentKind.TheVariants.{Split}
 use Rattle.pl_spec.specs.World.Change.{Scale}
 use Rattle.pl_spec.specs.Parts.{ColumnAdjustment}
 use Rattle.pl_adjust.specs.declared.adjust.Adjust.{Adjust}
-use Rattle.pl_adjust.specs.Events.{event_of}
+use Rattle.pl_adjust.specs.Events.{PutCells, PutsCell, event_of}
 use Rattle.pl_adjust.specs.Columns.{AreKept, events_at, in_columns, place_cmp}
 use Rattle.pl_adjust.proofs.Runs.{filter-run}
 
@@ -56,6 +57,11 @@ events-in_columns [] [] h = refl
 events-in_columns [] (x ∷ xs) h = absurd (omega arith)
 events-in_columns (c ∷ cs) [] h = absurd (omega arith)
 events-in_columns (c ∷ cs) (x ∷ xs) h = ap (λ l. event_of x ∷ l) (events-in_columns cs xs (omega arith))
+
+-- what overwrites a cell is one, in each column
+pub cells_at : (xs : List ColumnAdjustment) (col : ℕ) → All (λ x. PutsCell x.event) xs → PutCells (events_at xs col)
+cells_at xs col all =
+    All-map PutsCell (λ (x : ColumnAdjustment). x.event) (filter (λ x. x.col == col) xs) (All-filter (λ x. x.col == col) (λ (x : ColumnAdjustment). PutsCell x.event) xs all)
 
 -- any adjustment of a column
 any_of : ℕ → ColumnAdjustment

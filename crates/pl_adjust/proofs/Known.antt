@@ -1,5 +1,5 @@
 -- Which sids are those of assets.
-use Rattle.std.proofs.Common.{◌≡◌, ℕ, suc, ◌<◌, ◌^◌, ◌==◌, ◌||◌, nat_lt, Bool, true, false, ℤ, pos, negsuc, List, [], ◌∷◌, length, get_or, All, Option, Some, None, IfSome, IfNone, refl, sym, ◌∙◌, ap, arith}
+use Rattle.std.proofs.Common.{◌≡◌, ℕ, ◌<◌, ◌^◌, ◌==◌, nat_lt, Bool, true, false, ℤ, pos, negsuc, List, length, get_or, All, Option, Some, None, IfSome, IfNone, refl, sym, ◌∙◌, ap, arith}
 use Rattle.std.specs.List.{list_any, position, position_or_len}
 use Rattle.std.specs.Ordering.{int_eq}
 use Rattle.std.specs.Int.{FitsUnsignedBits}

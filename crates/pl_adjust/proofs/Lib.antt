@@ -11,3 +11,5 @@ pub mod ByColumn
 pub mod Made
 pub mod FirstFaults
 pub mod Sids
+pub mod RevisedColumns
+pub mod ByDays

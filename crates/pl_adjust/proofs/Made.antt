@@ -17,6 +17,7 @@ use Rattle.pl_spec.specs.Order.{adjustment_in, by_day, is_of, of_table}
 use Rattle.pl_spec.specs.Parts.{ColumnAdjustment}
 use Rattle.pl_adjust.specs.declared.adjust.Adjust.{Adjust}
 use Rattle.pl_adjust.specs.declared.columns.Row.{Row}
+use Rattle.pl_adjust.specs.Events.{PutsCell}
 use Rattle.pl_adjust.specs.Columns.{AreKept, IsByPlace, StandByDay, by_column, in_column, in_columns, place_cmp}
 use Rattle.pl_adjust.specs.Rows.{row_of}
 use Rattle.pl_adjust.specs.Tables.{adjustments_in, ok_unless}
@@ -33,11 +34,15 @@ in_columns-rows (r ∷ rs) = ap (λ l. row_of r ∷ l) (in_columns-rows rs)
 pub view_is : (rows : List Row) (cols : List ℕ) (adjusts : List Adjust) → cols ≡ map (λ r. r.col) rows → adjusts ≡ map (λ r. r.adjust) rows → in_columns cols adjusts ≡ map row_of rows
 view_is rows cols adjusts e f = ap (λ l. in_columns l adjusts) e ∙ ap (in_columns (map (λ (r : Row). r.col) rows)) f ∙ in_columns-rows rows
 
-pub kept_from : (before : List ColumnAdjustment) (rows : List Row) (cols : List ℕ) (adjusts : List Adjust) → IsByPlace before (map row_of rows)
+abbrev pub Puts : ColumnAdjustment → Type 0
+Puts x = PutsCell x.event
+
+pub kept_from : (before : List ColumnAdjustment) (rows : List Row) (cols : List ℕ) (adjusts : List Adjust) → All Puts before → IsByPlace before (map row_of rows)
     → cols ≡ map (λ r. r.col) rows → adjusts ≡ map (λ r. r.adjust) rows → AreKept cols adjusts
-kept_from before rows cols adjusts h e f = record {
+kept_from before rows cols adjusts puts h e f = record {
   as_many = ap length f ∙ length-map rows (λ (r : Row). r.adjust) ∙ sym (length-map rows (λ (r : Row). r.col)) ∙ ap length (sym e);
   sorted = rw (view_is rows cols adjusts e f) h.sorted;
+  puts = rw (view_is rows cols adjusts e f) (All-permutation Puts before (map row_of rows) h.same puts);
 }
 
 -- ---- those of a column stand by day
@@ -91,6 +96,24 @@ module _ (assets : List AssetRow) where
         map-append (in_column assets) (of_table assets Split splits) (of_table assets Merger mergers),
       )
       (All-append HasAsset _ _ (All-append HasAsset _ _ (table_in Split splits) (table_in Merger mergers)) (table_in Dividend dividends))
+
+  -- ratios overwrite no cell
+  table_puts : (kind : AdjustmentKind) (raw : List RawAdjust) → All Puts (map (in_column assets) (of_table assets kind raw))
+  table_puts kind raw = rows_put (filter (is_of assets) raw)
+    where
+      rows_put : (rs : List RawAdjust) → All Puts (map (in_column assets) (map (adjustment_in kind) rs))
+      rows_put [] = λ k d h. absurd (omega arith)
+      rows_put (r ∷ rs) = All-cons Puts (in_column assets (adjustment_in kind r)) (map (in_column assets) (map (adjustment_in kind) rs)) tt (rows_put rs)
+
+  pub tables_put : (splits mergers dividends : List RawAdjust) (before : List ColumnAdjustment)
+      → before ≡ map (in_column assets) (of_table assets Split splits ++ of_table assets Merger mergers ++ of_table assets Dividend dividends) → All Puts before
+  tables_put splits mergers dividends before e =
+      rw (
+        e,
+        map-append (in_column assets) (of_table assets Split splits ++ of_table assets Merger mergers) (of_table assets Dividend dividends),
+        map-append (in_column assets) (of_table assets Split splits) (of_table assets Merger mergers),
+      )
+      (All-append Puts _ _ (All-append Puts _ _ (table_puts Split splits) (table_puts Merger mergers)) (table_puts Dividend dividends))
 
   pub cols_known : (splits mergers dividends : List RawAdjust) (before ys : List ColumnAdjustment)
       → before ≡ map (in_column assets) (of_table assets Split splits ++ of_table assets Merger mergers ++ of_table assets Dividend dividends) → IsByPlace before ys → All HasAsset ys

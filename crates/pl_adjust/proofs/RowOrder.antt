@@ -1,5 +1,5 @@
 -- Rows by place, as the definitions know them.
-use Rattle.std.proofs.Common.{◌≡◌, ℕ, ◌+◌, Bool, true, false, ℤ, List, [], ◌∷◌, map, filter, cond, length, get_or, refl, sym, ◌∙◌, ap, arith}
+use Rattle.std.proofs.Common.{◌≡◌, ℕ, ◌+◌, ℤ, List, map, length, get_or, sym, ◌∙◌, ap, arith}
 use Rattle.std.specs.List.Sorted.{IsPermutation, IsSortedByKey, IsStableByKey, ties}
 use Rattle.std.specs.declared.cmp.Ordering.{Ordering}
 use Rattle.std.specs.Ordering.{nat_cmp, int_cmp, ordering_then}
@@ -7,6 +7,7 @@ use Rattle.std.proofs.lemmas.List.{get_or-map, length-map}
 use Rattle.std.proofs.lemmas.List.Sorted.{IsPermutation-map}
 use Rattle.pl_spec.specs.Parts.{ColumnAdjustment}
 use Rattle.pl_assets.proofs.Filters.{filter-map}
+use Rattle.pl_adjust.specs.declared.adjust.Change.TheVariants.{Scale}
 use Rattle.pl_adjust.specs.declared.columns.Row.{Row}
 use Rattle.pl_adjust.specs.Columns.{IsByPlace}
 use Rattle.pl_adjust.specs.Rows.{row_of}
@@ -20,7 +21,7 @@ pair_cmp x y = ordering_then (nat_cmp x.0 y.0) (int_cmp x.1 y.1)
 
 -- a row of the same column and day
 abbrev to_row : ColumnAdjustment → Row
-to_row x = record { col = x.col; adjust = record { day = x.event.day; kind = x.event.kind; ratio = record { num = 1; den = 1 } } }
+to_row x = record { col = x.col; adjust = record { day = x.event.day; kind = x.event.kind; change = Scale (record { num = 1; den = 1 }) } }
 
 pub by_place : (xs ys : List Row) → IsPermutation xs ys → IsSortedByKey place_of pair_cmp ys → IsStableByKey place_of pair_cmp xs ys → IsByPlace (map row_of xs) (map row_of ys)
 by_place xs ys same sorted stable = record {

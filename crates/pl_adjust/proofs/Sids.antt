@@ -1,5 +1,5 @@
 -- Adjustments by column are those by sid.
-use Rattle.std.proofs.Common.{◌≡◌, ℕ, suc, ◌+◌, ◌<◌, ◌==◌, ◌&&◌, not, nat_lt, Bool, true, false, cond, ℤ, pos, negsuc, List, [], ◌∷◌, ◌++◌, map, filter, length, get_or, All, AllPairs, slice_get, Some, option_map, unwrap_or, Ok, refl, sym, ◌∙◌, ap, arith, inl, inr, unsigned_abs}
+use Rattle.std.proofs.Common.{◌≡◌, ℕ, suc, ◌+◌, ◌<◌, ◌==◌, ◌&&◌, not, nat_lt, Bool, true, false, cond, ℤ, pos, negsuc, List, [], ◌∷◌, ◌++◌, map, filter, length, get_or, All, AllPairs, slice_get, Some, option_map, unwrap_or, Ok, refl, sym, ◌∙◌, ap, arith, unsigned_abs}
 use Rattle.std.specs.Int.RustNames.{int_le}
 use Rattle.std.specs.Ordering.{int_eq}
 use Rattle.std.proofs.lemmas.Bool.{and_parts}
@@ -36,7 +36,7 @@ events-adjustment_of assets [] = refl
 events-adjustment_of assets (x ∷ xs) = ap (λ l. x.event ∷ l) (events-adjustment_of assets xs)
 
 module _ (days : List ℤ) (assets : List AssetRow) (labels : List ColumnLabel) (texts : List (List ℕ)) (bars : List BarRow) (xs : List ColumnAdjustment) (up : AllPairs (λ a b. a.sid < b.sid) assets) where
-  parts_events : (sid : ℕ) → events_of (world_of days assets labels texts bars xs) sid ≡ map (λ x. x.event) (filter (λ x. sid_at assets x.col == sid) xs)
+  pub parts_events : (sid : ℕ) → events_of (world_of days assets labels texts bars xs) sid ≡ map (λ x. x.event) (filter (λ x. sid_at assets x.col == sid) xs)
   parts_events sid =
       ap (map (λ (x : Adjustment). x.event)) (filter-map (λ (x : Adjustment). x.sid == sid) (adjustment_of assets) xs)
       ∙ events-adjustment_of assets (filter (λ x. sid_at assets x.col == sid) xs)
@@ -59,7 +59,7 @@ All-insert_by_day P x (y ∷ ys) h all = here (int_le x.event.day y.event.day) (
     here true rest = All-cons P x (y ∷ ys) h all
     here false rest = All-cons P y (insert_by_day x ys) (all 0 y (omega arith)) rest
 
-All-by_day : (P : Adjustment → Type 0) (xs : List Adjustment) → All P xs → All P (by_day xs)
+pub All-by_day : (P : Adjustment → Type 0) (xs : List Adjustment) → All P xs → All P (by_day xs)
 All-by_day P [] all = all
 All-by_day P (x ∷ xs) all = All-insert_by_day P x (by_day xs) (all 0 x (omega arith)) (All-by_day P xs (λ k d l. all (suc k) d (omega arith)))
 
@@ -82,7 +82,7 @@ sid_of_col (a ∷ assets) s e = here (a.sid == s) refl (sid_of_col assets s)
         rw next (more rest)
 
 module _ (assets : List AssetRow) where
-  abbrev Known : Adjustment → Type 0
+  abbrev pub Known : Adjustment → Type 0
   Known z = has_sid (pos z.sid) assets ≡ true
 
   table_known : (kind : AdjustmentKind) (raw : List RawAdjust) → All Known (of_table assets kind raw)
@@ -93,7 +93,7 @@ module _ (assets : List AssetRow) where
       here true e rest = All-cons Known (adjustment_in kind r) (of_table assets kind rs) (has_sid_abs assets r.sid e) rest
       here false e rest = rest
 
-  tables_known : (splits mergers dividends : List RawAdjust) → All Known (adjustments_of assets splits mergers dividends)
+  pub tables_known : (splits mergers dividends : List RawAdjust) → All Known (adjustments_of assets splits mergers dividends)
   tables_known splits mergers dividends =
       All-by_day Known (of_table assets Split splits ++ of_table assets Merger mergers ++ of_table assets Dividend dividends)
       (All-append Known _ _ (All-append Known _ _ (table_known Split splits) (table_known Merger mergers)) (table_known Dividend dividends))
@@ -138,7 +138,7 @@ module _ (assets : List AssetRow) where
   events-in_column [] = refl
   events-in_column (z ∷ zs) = ap (λ l. z.event ∷ l) (events-in_column zs)
 
-  by_sid : AllPairs (λ a b. a.sid < b.sid) assets → (zs : List Adjustment) → All Known zs → (sid : ℕ)
+  pub by_sid : AllPairs (λ a b. a.sid < b.sid) assets → (zs : List Adjustment) → All Known zs → (sid : ℕ)
       → map (λ x. x.event) (filter (λ x. sid_at assets x.col == sid) (by_column (map (in_column assets) zs))) ≡ map (λ x. x.event) (filter (λ x. x.sid == sid) zs)
   by_sid up zs all sid =
       let columns = map (in_column assets) zs in

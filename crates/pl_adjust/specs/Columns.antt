@@ -1,15 +1,15 @@
 -- Adjustments with their columns.
-use Rattle.std.specs.Prelude.{◌≡◌, ℕ, ◌<◌, ◌≤◌, nat_lt, nat_le, true, false, ◌==◌, ◌≤ℤ◌, List, [], ◌∷◌, map, filter, get_or, length, AllPairs}
+use Rattle.std.specs.Prelude.{◌≡◌, ℕ, ◌<◌, ◌≤◌, nat_lt, nat_le, true, false, if◌then◌else◌, ◌==◌, ◌≤ℤ◌, List, [], ◌∷◌, map, filter, get_or, length, All, AllPairs}
 use Rattle.std.specs.List.{position_or_len}
 use Rattle.std.specs.List.Sorted.{IsPartitionPoint, IsPermutation, IsSorted, IsStable}
 use Rattle.std.specs.declared.cmp.Ordering.{Ordering}
-use Rattle.std.specs.Ordering.{nat_cmp, int_cmp, ordering_then}
+use Rattle.std.specs.Ordering.{is_lt, nat_cmp, int_cmp, ordering_then}
 use Rattle.pl_spec.specs.declared.AssetRow.{AssetRow}
 use Rattle.pl_spec.specs.World.{Adjustment, Event}
 use Rattle.pl_spec.specs.Parts.{ColumnAdjustment}
 use Rattle.pl_records.specs.Sorted.{sorted_by}
 use Rattle.pl_adjust.specs.declared.adjust.Adjust.{Adjust}
-use Rattle.pl_adjust.specs.Events.{event_of}
+use Rattle.pl_adjust.specs.Events.{PutsCell, event_of}
 
 -- the column of a sid: the place of its asset
 abbrev pub col_in : List AssetRow → ℕ → ℕ
@@ -46,10 +46,21 @@ pub record IsByPlace (xs ys : List ColumnAdjustment) : Type 0 where
   pub sorted : IsSorted place_cmp ys
   pub stable : IsStable place_cmp xs ys
 
+-- x behind those that stand in front of it
+abbrev pub insert_at_place : ColumnAdjustment → List ColumnAdjustment → List ColumnAdjustment
+insert_at_place x [] = x ∷ []
+insert_at_place x (y ∷ ys) = if is_lt (place_cmp y x) then y ∷ insert_at_place x ys else x ∷ y ∷ ys
+
+-- and that order of them
+unfoldable pub by_place : List ColumnAdjustment → List ColumnAdjustment
+by_place [] = []
+by_place (x ∷ xs) = insert_at_place x (by_place xs)
+
 -- columns and adjustments as they are kept
 pub record AreKept (cols : List ℕ) (adjusts : List Adjust) : Type 0 where
   pub as_many : length adjusts ≡ length cols
   pub sorted : IsSorted place_cmp (in_columns cols adjusts)
+  pub puts : All (λ x. PutsCell x.event) (in_columns cols adjusts)
 
 -- the place of the first of the ascending columns that is not below col
 abbrev pub IsStart : List ℕ → ℕ → ℕ → Type 0

@@ -2,6 +2,7 @@
 pub mod Events
 pub mod Columns
 pub mod Rows
+pub mod Revised
 pub mod Walk
 pub mod Faults
 pub mod Tables

@@ -2,7 +2,7 @@
 
 ghost use Rattle.std.specs.Prelude.{◌≡◌, ◌≤ℤ◌, map, AllPairs, IfOk};
 ghost use Rattle.std.specs.List.Sorted.{IsNonDecreasing};
-ghost use Rattle.pl_adjust.specs.Events.{event_of};
+ghost use Rattle.pl_adjust.specs.Events.{PutCells, event_of};
 ghost use Rattle.pl_adjust.specs.Columns.{AreKept, AreStarts, IsByPlace, IsEnd, IsStart, events_at, in_columns};
 ghost use Rattle.pl_adjust.specs.Rows.{row_of};
 
@@ -108,6 +108,7 @@ pub(crate) fn of_col<'a>(
     requires starts { AreStarts cols.now starts.now }
     ensures events { map event_of result.now ≡ events_at (in_columns cols.now adjusts.now) col }
     ensures in_order { AllPairs (λ a b. a.day ≤ℤ b.day) result.now }
+    ensures cells { PutCells (map event_of result.now) }
 {
     let from = start_of(cols, starts, col);
     let to = end_of(cols, starts, col);

@@ -6,10 +6,12 @@ ghost use Rattle.std.specs.Prelude.{List, filter, length, map, slice_get};
 ghost use Rattle.pl_spec.specs.declared.AssetRow.{AssetRow};
 ghost use Rattle.pl_spec.specs.declared.BarRow.{BarRow};
 ghost use Rattle.pl_spec.specs.declared.RawAdjust.{RawAdjust};
-ghost use Rattle.pl_spec.specs.Order.{adjustments_of};
+ghost use Rattle.pl_spec.specs.Order.{adjustments_of, with_revisions};
 ghost use Rattle.pl_spec.specs.Parts.{ColumnAdjustment, ColumnLabel, world_of};
 ghost use Rattle.pl_spec.specs.World.{events_of};
+ghost use Rattle.pl_revisions.specs.declared.Revision.{Revision};
 ghost use Rattle.pl_adjust.specs.Columns.{events_at};
+ghost use Rattle.pl_adjust.specs.Revised.{AreKnown, revised, revised_by};
 ghost use Rattle.pl_adjust.specs.Rules.{AreRight, IsFirstFault};
 ghost use Rattle.pl_adjust.specs.Tables.{adjustments_in};
 ghost use Rattle.pl_adjust.specs.Walk.{Fault, walk};
@@ -46,4 +48,19 @@ pub fn tables_are_kept()
         → (sid : ℕ) → events_of (world_of days assets labels texts bars xs) sid
         ≡ map (λ x. x.event)
         (filter (λ x. x.sid == sid) (adjustments_of assets splits mergers dividends)) }
+{}
+
+/// With the revisions of assets beside them, each sid has the adjustments of the tables' rows with that sid
+/// and its revisions in the order in which they act, and no others.
+pub fn revisions_are_kept()
+    ensures { (days : List ℤ) (assets : List AssetRow) (labels : List ColumnLabel)
+        (texts : List (List ℕ)) (bars : List BarRow)
+        (splits mergers dividends : List RawAdjust) (xs : List ColumnAdjustment)
+        (revisions : List Revision)
+        → AllPairs (λ a b. a.sid < b.sid) assets
+        → adjustments_in assets splits mergers dividends ≡ Ok xs → AreKnown assets revisions
+        → (sid : ℕ)
+        → events_of (world_of days assets labels texts bars (revised_by assets xs revisions)) sid
+        ≡ map (λ x. x.event) (filter (λ x. x.sid == sid)
+        (with_revisions (adjustments_of assets splits mergers dividends) (map revised revisions))) }
 {}

@@ -13,7 +13,7 @@ ghost use Rattle.pl_adjust.specs.Walk.{fault_at, first_fault, in_table, is_effec
 ghost use Rattle.pl_adjust.specs.Walk.{walk};
 
 use crate::MOST_ROWS;
-use crate::adjust::Adjust;
+use crate::adjust::{Adjust, Change};
 use crate::columns::Row;
 use crate::error::AdjustError;
 use pl_assets::Assets;
@@ -95,7 +95,7 @@ fn adjust_of(table: Table, row: &RawAdjust, before: usize) -> Result<Adjust, Adj
     Ok(Adjust {
         day,
         kind: kind_of(table),
-        ratio,
+        change: Change::Scale(ratio),
     })
 }
 

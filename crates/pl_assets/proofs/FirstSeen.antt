@@ -1,6 +1,7 @@
 -- Texts in the order in which they first stand in a list.
-use Rattle.std.proofs.Common.{◌≡◌, ℕ, suc, ◌+◌, ◌<◌, ◌≤◌, ◌||◌, not, Bool, true, false, cond, if◌then◌else◌, List, [], ◌∷◌, ◌++◌, length, map, filter, get_or, All, AllPairs, Option, Some, None, refl, sym, ap, ◌∙◌, arith, inl, inr, length-append}
-use Rattle.std.proofs.lemmas.List.{length-map, map-append, append-nil, get_or_append_left}
+use Rattle.std.proofs.Common.{◌≡◌, ℕ, suc, ◌+◌, ◌<◌, ◌≤◌, ◌||◌, not, Bool, true, false, cond, if◌then◌else◌, List, [], ◌∷◌, ◌++◌, length, take, map, filter, get_or, All, AllPairs, Option, Some, None, refl, sym, ap, ◌∙◌, arith, inl, inr, length-append}
+use Rattle.std.proofs.lemmas.List.{length-map, length-take, map-append, append-nil, get_or_append_left, get_or_default, get_or-take, take_more}
+use Rattle.std.proofs.lemmas.List.Folds.{list_any_none}
 use Rattle.std.proofs.Math.Seq.{get_or-append_seam}
 use Rattle.std.proofs.lemmas.List.Elements.{filter-append, All-cons, All-filter}
 use Rattle.std.proofs.lemmas.List.Kept.{AllPairs-cons, AllPairs-filter}
@@ -123,6 +124,19 @@ place_of_text xs i once h = is_at (bytes_eq (get_or xs i [])) xs i [] h (equal_t
     other_text k l false t = t
     other_text k l true t = absurd (let same : i ≡ k = one_place xs i k once h (omega arith) (same_text _ _ t) in omega arith)
 
+-- texts that stand once, one after the other
+pub front_more : (xs : List (List ℕ)) (i : ℕ) → Once xs → i < length xs → with_text (take i xs) (get_or xs i []) ≡ take (i + 1) xs
+front_more xs i once h = rw none (sym (take_more xs i [] h))
+  where
+    other_text : (k : ℕ) (d : List ℕ) → k < i → (b : Bool) → bytes_eq (get_or xs i []) (get_or (take i xs) k d) ≡ b → bytes_eq (get_or xs i []) (get_or (take i xs) k d) ≡ false
+    other_text k d l false t = t
+    other_text k d l true t =
+        let there : get_or (take i xs) k d ≡ get_or xs k [] = get_or-take i xs k d l ∙ get_or_default xs k d [] (omega arith) in
+        absurd (let same : i ≡ k = one_place xs i k once h (omega arith) (same_text _ _ t ∙ there) in omega arith)
+
+    none : list_any (bytes_eq (get_or xs i [])) (take i xs) ≡ false
+    none = list_any_none (bytes_eq (get_or xs i [])) (take i xs) (λ k d l. other_text k d (omega (arith, length-take i xs)) _ refl)
+
 -- ---- a text more among texts
 
 pub text_stays : (xs : List (List ℕ)) (x : List ℕ) (k : ℕ) → k < length xs → get_or (with_text xs x) k [] ≡ get_or xs k []
@@ -170,23 +184,15 @@ texts_more rows r =
     here true t = rw t (seen-more (filter is_text texts) r.text)
     here false t = rw t (ap first_seen (append-nil (filter is_text texts)))
 
+pub texts_next : (old new : List (List ℕ)) (rows more : List ColumnLabel) (r : ColumnLabel) → old ≡ texts_of rows → more ≡ rows ++ r ∷ [] → new ≡ with_label old r.text → new ≡ texts_of more
+texts_next old new rows more r o m n = n ∙ ap (λ l. with_label l r.text) o ∙ sym (ap texts_of m ∙ texts_more rows r)
+
+pub no_texts : texts_of [] ≡ []
+unfolding first_seen
+no_texts = refl
+
 pub names_count : (rows : List ColumnLabel) → length (names_of rows) ≤ length rows
 names_count rows = omega (arith, seen-count (map (λ (r : ColumnLabel). r.name) rows), length-map rows (λ (r : ColumnLabel). r.name))
-
-pub texts_count : (rows : List ColumnLabel) → length (texts_of rows) ≤ length rows
-texts_count rows =
-    omega (arith, seen-count (filter is_text (map (λ (r : ColumnLabel). r.text) rows)), length-filter is_text (map (λ (r : ColumnLabel). r.text) rows), count_by-le-length is_text (map (λ (r : ColumnLabel). r.text) rows), length-map rows (λ (r : ColumnLabel). r.text))
-
-pub texts_are_texts : (rows : List ColumnLabel) → All (λ t. is_text t ≡ true) (texts_of rows)
-texts_are_texts rows = seen-all (λ t. is_text t ≡ true) _ (pass (map (λ (r : ColumnLabel). r.text) rows))
-  where
-    pass : (xs : List (List ℕ)) → All (λ t. is_text t ≡ true) (filter is_text xs)
-    pass [] = All-nil (λ t. is_text t ≡ true)
-    pass (x ∷ xs) = here (is_text x) refl (pass xs)
-      where
-        here : (b : Bool) → is_text x ≡ b → All (λ t. is_text t ≡ true) (filter is_text xs) → All (λ t. is_text t ≡ true) (cond (is_text x) (x ∷ filter is_text xs) (filter is_text xs))
-        here true t more = rw t (All-cons (λ t. is_text t ≡ true) x (filter is_text xs) t more)
-        here false t more = rw t more
 
 pub place_count : (xs : List (List ℕ)) (x : List ℕ) → position_or_len (bytes_eq x) xs ≤ length xs
 place_count [] x = omega arith

@@ -2,16 +2,17 @@
 use Rattle.std.proofs.Common.{◌≡◌, ℕ, zero, suc, ◌<◌, ◌≤◌, ◌^◌, Bool, true, false, if◌then◌else◌, List, [], ◌∷◌, ◌++◌, length, take, map, get_or, All, Option, Some, None, IfSome, Result, Ok, Err, OnErr, FitsSigned, w32, refl, sym, ap, ◌∙◌, arith}
 use Rattle.std.proofs.lemmas.List.{length-map, map-append, take_all}
 use Rattle.std.proofs.lemmas.List.Elements.{All-append}
-use Rattle.std.specs.List.{position_or_len}
+use Rattle.std.proofs.lemmas.List.Folds.{list_any_at}
+use Rattle.std.proofs.lemmas.List.Quantifiers.{all_pairs_push}
+use Rattle.std.specs.List.{list_any, position_or_len}
 use Rattle.std.specs.Str.{bytes_eq}
 use Rattle.pl_spec.specs.Parts.{ColumnLabel}
-use Rattle.pl_assets.specs.Labels.{first_seen, is_text, names_of, texts_of}
-use Rattle.pl_assets.specs.Labels.{with_text, with_label}
+use Rattle.pl_assets.specs.Labels.{AreTexts, first_seen, is_text, names_of, with_text, with_label}
 use Rattle.pl_assets.specs.LabelPlaces.{AreNumbered, IsPlace, KeepsFront, shown_rows, row_at, text_in}
 use Rattle.pl_assets.specs.declared.labels.rows.Place.{Place}
 use Rattle.pl_assets.specs.declared.labels.rows.LabelRows.{LabelRows}
 use Rattle.pl_assets.proofs.TextLists.{front-with_text}
-use Rattle.pl_assets.proofs.FirstSeen.{names_more, texts_more, names_count, texts_count, text_stays, more_texts, text_placed}
+use Rattle.pl_assets.proofs.FirstSeen.{names_more, names_count, text_stays, more_texts, text_placed, same_text, equal_text}
 
 -- ---- texts of labels
 
@@ -35,6 +36,37 @@ front-with_label texts text = here (is_text text)
     here : (b : Bool) → take (length texts) (if b then with_text texts text else texts) ≡ texts
     here true = front-with_text texts text
     here false = take_all (length texts) texts (omega arith)
+
+-- texts that have codes, with one more
+texts_more_codes : (texts : List (List ℕ)) (text : List ℕ) → AreTexts texts → length (with_label texts text) ≤ 2 ^ 32 → AreTexts (with_label texts text)
+texts_more_codes texts text h few = here (is_text text) refl few
+  where
+    behind : list_any (bytes_eq text) texts ≡ false → All (λ x. bytes_eq x text ≡ false) texts
+    behind none k d l = other (bytes_eq (get_or texts k d) text) refl
+      where
+        other : (b : Bool) → bytes_eq (get_or texts k d) text ≡ b → bytes_eq (get_or texts k d) text ≡ false
+        other false t = t
+        other true t =
+            let same : bytes_eq text (get_or texts k d) ≡ true = ap (bytes_eq text) (same_text (get_or texts k d) text t) ∙ equal_text text in
+            let there : list_any (bytes_eq text) texts ≡ true = list_any_at (bytes_eq text) texts k d l same in
+            absurd (let bad : true ≡ false = sym there ∙ none in cc)
+
+    added : (c : Bool) → list_any (bytes_eq text) texts ≡ c → is_text text ≡ true → length (if c then texts else texts ++ text ∷ []) ≤ 2 ^ 32 → AreTexts (if c then texts else texts ++ text ∷ [])
+    added true u t few = h
+    added false u t few =
+        record {
+          once = all_pairs_push (λ x y. bytes_eq x y ≡ false) texts text h.once (behind u);
+          full = All-append (λ x. is_text x ≡ true) texts (text ∷ []) h.full (alone t);
+          few = few;
+        }
+      where
+        alone : is_text text ≡ true → All (λ x. is_text x ≡ true) (text ∷ [])
+        alone t zero d l = t
+        alone t (suc k) d l = absurd (omega arith)
+
+    here : (b : Bool) → is_text text ≡ b → length (if b then with_text texts text else texts) ≤ 2 ^ 32 → AreTexts (if b then with_text texts text else texts)
+    here true t few = added (list_any (bytes_eq text) texts) refl t few
+    here false t few = h
 
 -- ---- the rows that are there
 
@@ -96,13 +128,13 @@ rows_more old new name text p h n t e next =
     ∙ ap (λ r. shown_rows old ++ r ∷ []) (next_row old.names old.texts name text p next))
 
 pub numbered_more : (old new : LabelRows) (name text : List ℕ) (p : Place) → AreNumbered old → new.names ≡ with_text old.names name → new.texts ≡ with_label old.texts text
-    → new.places.items ≡ old.places.items ++ p ∷ [] → IsNext old.names old.texts name text p → AreNumbered new
-numbered_more old new name text p h n t e next =
+    → new.places.items ≡ old.places.items ++ p ∷ [] → IsNext old.names old.texts name text p → length new.texts ≤ 2 ^ 32 → AreNumbered new
+numbered_more old new name text p h n t e next few =
     let rows : shown_rows new ≡ shown_rows old ++ row_of name text p ∷ [] = rows_more old new name text p h n t e next in
     record {
       places = rw (n, t, e) (All-append (IsPlace (with_text old.names name) (with_label old.texts text)) old.places.items (p ∷ []) (places_kept old.names old.texts name text old.places.items h.places) (alone next));
       names = n ∙ ap (λ l. with_text l name) h.names ∙ sym (ap names_of rows ∙ names_more (shown_rows old) (row_of name text p));
-      texts = t ∙ ap (λ l. with_label l text) h.texts ∙ sym (ap texts_of rows ∙ texts_more (shown_rows old) (row_of name text p));
+      texts = rw t (texts_more_codes old.texts text h.texts (rw t at few));
     }
   where
     alone : IsNext old.names old.texts name text p → All (IsPlace (with_text old.names name) (with_label old.texts text)) (p ∷ [])
@@ -114,9 +146,6 @@ numbered_more old new name text p h n t e next =
 
 pub few_names : (t : LabelRows) → AreNumbered t → length t.names ≤ length t.places.items
 few_names t h = let same : length t.names ≡ length (names_of (shown_rows t)) = ap length h.names in omega (arith, names_count (shown_rows t), length-map t.places.items (row_at t.names t.texts))
-
-pub few_texts : (t : LabelRows) → AreNumbered t → length t.texts ≤ length t.places.items
-few_texts t h = let same : length t.texts ≡ length (texts_of (shown_rows t)) = ap length h.texts in omega (arith, texts_count (shown_rows t), length-map t.places.items (row_at t.names t.texts))
 
 -- ---- where memory ran out
 
@@ -135,11 +164,18 @@ front_kept (Err f) old new name text n t e =
 pub no_rows : (t : LabelRows) → t.places.items ≡ [] → shown_rows t ≡ []
 no_rows t e = ap (map (row_at t.names t.texts)) e
 
-pub no_numbers : (t : LabelRows) → t.names ≡ [] → t.texts ≡ [] → t.places.items ≡ [] → AreNumbered t
+no_codes : AreTexts []
+no_codes = record { once = λ i j d h l. absurd (omega arith); full = λ k d h. absurd (omega arith); few = omega arith }
+
+-- there may be texts already
+pub no_places : (t : LabelRows) → t.names ≡ [] → AreTexts t.texts → t.places.items ≡ [] → AreNumbered t
 unfolding first_seen
-no_numbers t n x e =
+no_places t n x e =
     record {
       places = rw e (λ k d h. absurd (omega arith));
       names = n ∙ sym (ap names_of (no_rows t e));
-      texts = x ∙ sym (ap texts_of (no_rows t e));
+      texts = x;
     }
+
+pub no_numbers : (t : LabelRows) → t.names ≡ [] → t.texts ≡ [] → t.places.items ≡ [] → AreNumbered t
+no_numbers t n x e = no_places t n (rw x no_codes) e

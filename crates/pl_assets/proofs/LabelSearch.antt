@@ -8,6 +8,7 @@ use Rattle.std.proofs.lemmas.Int.{ints}
 use Rattle.std.proofs.lemmas.Bool.{and_parts, cases_lt, true≢false}
 use Rattle.std.proofs.lemmas.Bool.Decides.{nat_tests}
 use Rattle.std.proofs.lemmas.List.{length-map, get_or-map, get_or_default}
+use Rattle.std.proofs.lemmas.List.Elements.{All-map}
 use Rattle.pl_spec.specs.Parts.{ColumnLabel}
 use Rattle.pl_spec.specs.World.{World, LabelRow, is_label_of, label_at, nonempty}
 use Rattle.pl_spec.specs.Lookups.{LabelsOnce}
@@ -16,7 +17,7 @@ use Rattle.pl_assets.specs.Labels.{by_column, is_from, is_text, label_on, names_
 use Rattle.pl_assets.specs.LabelPlaces.{AreNumbered, HasStarted, IsLastStarted, IsPlace, row_at, shown_rows, text_in}
 use Rattle.pl_assets.specs.declared.labels.rows.Place.{Place}
 use Rattle.pl_assets.specs.declared.labels.rows.LabelRows.{LabelRows}
-use Rattle.pl_assets.proofs.FirstSeen.{Once, seen-once, one_place, place_of_text, same_text, equal_text, texts_are_texts}
+use Rattle.pl_assets.proofs.FirstSeen.{one_place, place_of_text, same_text, equal_text}
 use Rattle.pl_assets.proofs.LabelKeys.{once_named, parts_from}
 
 -- ---- elements of lists that are read through a function
@@ -33,6 +34,21 @@ mapped_contains f xs y d h =
     own [] k d l = absurd (omega arith)
     own (x ∷ xs) zero d l = refl
     own (x ∷ xs) (suc k) d l = own xs k d (omega arith)
+
+-- ---- texts
+
+pub full_text : (x : List ℕ) → is_text x ≡ true → nonempty x ≡ Some x
+full_text [] e = absurd (let bad : false ≡ true = e in true≢false (sym bad))
+full_text (b ∷ bs) e = refl
+
+-- the text of a place has a code
+pub text_coded : (t : LabelRows) → AreNumbered t → (o : Option ℕ) → IfSome o (λ c. c < length t.texts) → IfSome (nonempty (text_in t.texts o)) (Contains t.texts)
+text_coded t numbered None h = tt
+text_coded t numbered (Some c) h = rw (full_text (get_or t.texts c []) (numbered.texts.full c [] h)) (c, h, get_or_default t.texts c (get_or t.texts c []) [] h)
+
+pub rows_coded : (t : LabelRows) → AreNumbered t → All (λ r. IfSome (nonempty r.text) (Contains t.texts)) (shown_rows t)
+rows_coded t numbered =
+    All-map (λ (r : ColumnLabel). IfSome (nonempty r.text) (Contains t.texts)) (row_at t.names t.texts) t.places.items (λ k d l. text_coded t numbered (get_or t.places.items k d).code (numbered.places k d l).code)
 
 -- ---- a world of labels alone
 
@@ -146,22 +162,11 @@ module _ (t : LabelRows) (numbered : AreNumbered t) (number col : ℕ) (day : �
 
   -- its code
   text_there : (c : ℕ) → c < length t.texts → nonempty (get_or t.texts c []) ≡ Some (get_or t.texts c [])
-  text_there c h = is_some (get_or t.texts c []) (let all : All (λ x. is_text x ≡ true) t.texts = rw numbered.texts (texts_are_texts (shown_rows t)) in all c [] h)
-    where
-      is_some : (x : List ℕ) → is_text x ≡ true → nonempty x ≡ Some x
-      is_some [] e = absurd (let bad : false ≡ true = e in true≢false (sym bad))
-      is_some (b ∷ bs) e = refl
-
-  once_texts : Once t.texts
-  once_texts = rw numbered.texts (seen-once _)
+  text_there c h = full_text (get_or t.texts c []) (numbered.texts.full c [] h)
 
   code_of_text : (o : Option ℕ) → IfSome o (λ c. c < length t.texts) → o ≡ option_and_then (λ text. position (bytes_eq text) t.texts) (nonempty (text_in t.texts o))
   code_of_text None h = refl
-  code_of_text (Some c) h = rw (text_there c h) (sym (place_of_text t.texts c once_texts h))
-
-  text_known : (o : Option ℕ) → IfSome o (λ c. c < length t.texts) → IfSome (nonempty (text_in t.texts o)) (Contains t.texts)
-  text_known None h = tt
-  text_known (Some c) h = rw (text_there c h) (c, h, get_or_default t.texts c (get_or t.texts c []) [] h)
+  code_of_text (Some c) h = rw (text_there c h) (sym (place_of_text t.texts c numbered.texts.once h))
 
   pub found_code : AllPairs (λ r q. is_from r.name r.col r.start q ≡ false) (shown_rows t) → (p : Place) → IsLastStarted t.places.items number col day (Some p)
       → p.code ≡ option_and_then (λ text. position (bytes_eq text) t.texts) (label_on (shown_rows t) (get_or (names_of (shown_rows t)) number []) col day)
@@ -175,7 +180,7 @@ module _ (t : LabelRows) (numbered : AreNumbered t) (number col : ℕ) (day : �
   unfolding rows name
   found_known once p h =
       let names : get_or (names_of (shown_rows t)) number [] ≡ get_or t.names number [] = ap (λ l. get_or l number []) (sym numbered.names) in
-      rw (names, label_found once p h) (text_known p.code (here_now p h.0).code)
+      rw (names, label_found once p h) (text_coded t numbered p.code (here_now p h.0).code)
 
   pub no_label : IsLastStarted t.places.items number col day None → label_on (shown_rows t) (get_or (names_of (shown_rows t)) number []) col day ≡ None
   unfolding rows name

@@ -1,15 +1,16 @@
 -- Tables of labels: their order, with one row more, and of a file.
-use Rattle.std.proofs.Common.{◌≡◌, ◌≢◌, ℕ, ◌+◌, ◌-◌, ◌<◌, ◌≤◌, ◌^◌, nat_le, IsTrue, true, false, List, [], ◌∷◌, ◌++◌, length, length-append, map, get_or, All, AllPairs, None, sym, ap, ◌∙◌, arith, inl, inr, pos}
+use Rattle.std.proofs.Common.{◌≡◌, ◌≢◌, ℕ, zero, suc, ◌+◌, ◌-◌, ◌<◌, ◌≤◌, ◌^◌, nat_le, Bool, true, false, if◌then◌else◌, List, [], ◌∷◌, ◌++◌, length, length-append, map, get_or, All, AllPairs, None, sym, ap, ◌∙◌, arith, inl, inr, pos}
 use Rattle.std.specs.Prelude.{Contains}
-use Rattle.std.specs.List.{insert}
+use Rattle.std.specs.List.{insert, list_any}
+use Rattle.std.specs.Str.{bytes_eq}
 use Rattle.std.proofs.lemmas.Bool.{cases_lt, true≢false}
 use Rattle.std.proofs.lemmas.Bool.Decides.{nat_tests}
 use Rattle.std.proofs.lemmas.List.{length-map, get_or-map, get_or_append_left, get_or_default}
-use Rattle.std.proofs.lemmas.List.Elements.{All-filter, All-map}
+use Rattle.std.proofs.lemmas.List.Elements.{All-append, All-filter, All-map}
 use Rattle.std.proofs.lemmas.List.Edits.{length-insert, get_or-insert_at, get_or-insert_below, get_or-insert_above}
 use Rattle.pl_spec.specs.Parts.{ColumnLabel}
-use Rattle.pl_assets.specs.declared.TheConstants.{MOST_LABELS, LONGEST_LABEL}
-use Rattle.pl_assets.specs.Labels.{AreLabels, IsLabelRow, LabelTable, MayFollow, is_from, is_printable, is_text, texts_of, with_label}
+use Rattle.pl_assets.specs.declared.TheConstants.{MOST_LABELS}
+use Rattle.pl_assets.specs.Labels.{AreLabels, IsLabelRow, IsLabelText, LabelTable, MayFollow, is_from, is_text, no_labels, table_of, texts_of, with_label}
 use Rattle.pl_assets.specs.LabelPlaces.{AreNumbered, IsOrder, IsTable, KeyPoint, OwnKeys, key_at, key_of, row_at, shown_rows, table_in}
 use Rattle.pl_assets.specs.declared.labels.rows.Place.{Place}
 use Rattle.pl_assets.specs.declared.labels.rows.LabelRows.{LabelRows}
@@ -17,6 +18,7 @@ use Rattle.pl_assets.proofs.FirstSeen.{texts_more, seen-all}
 use Rattle.pl_assets.proofs.LabelKeys.{parts_from}
 use Rattle.pl_assets.proofs.LabelOrder.{key_there, same_key}
 use Rattle.pl_assets.proofs.LabelRowsMade.{no_numbers, no_rows}
+use Rattle.pl_assets.proofs.LabelSearch.{rows_coded}
 use Rattle.pl_assets.proofs.LabelsRead.{once-more, right-more}
 
 blank : Place
@@ -145,43 +147,57 @@ order_kept places p order sorted =
 order_none : (places : List Place) → places ≡ [] → IsOrder places (length places) []
 order_none places e = rw e record { ascend = λ i j d h l. absurd (omega arith); within = λ k d h. absurd (omega arith); all = λ i h. absurd (omega arith) }
 
+right_text_more : (texts : List (List ℕ)) (text : List ℕ) → All IsLabelText texts → IsLabelText text → All IsLabelText (with_label texts text)
+right_text_more texts text h one = here (is_text text) (list_any (bytes_eq text) texts)
+  where
+    alone : All IsLabelText (text ∷ [])
+    alone zero d l = one
+    alone (suc k) d l = absurd (omega arith)
+
+    here : (b c : Bool) → All IsLabelText (if b then (if c then texts else texts ++ text ∷ []) else texts)
+    here true true = h
+    here true false = All-append IsLabelText texts (text ∷ []) h alone
+    here false c = h
+
+no_labels_right : AreLabels no_labels
+no_labels_right = record {
+  rows = λ k d h. absurd (omega arith);
+  once = λ i j d h l. absurd (omega arith);
+  few = omega arith;
+  texts = record { once = λ i j d h l. absurd (omega arith); full = λ k d h. absurd (omega arith); few = omega arith };
+  right = λ k d h. absurd (omega arith);
+  coded = λ k d h. absurd (omega arith);
+}
+
 pub no_table : (t : LabelRows) (order : List ℕ) → t.names ≡ [] → t.texts ≡ [] → t.places.items ≡ [] → order ≡ [] → IsTable t order
 no_table t order n x e o =
-    let numbered = no_numbers t n x e in
-    let none : shown_rows t ≡ [] = no_rows t e in
     record {
-      numbered = numbered;
-      labels = record { rows = rw none (λ k d h. absurd (omega arith)); once = rw none (λ i j d h l. absurd (omega arith)); few = rw none (omega arith); texts = numbered.texts };
+      numbered = no_numbers t n x e;
+      labels = rw (no_rows t e, x) no_labels_right;
       found = rw o (order_none t.places.items e);
     }
 
-pub kept_table : (t : LabelRows) (order : List ℕ) → AreNumbered t → All IsLabelRow (shown_rows t) → Once (shown_rows t) → length (shown_rows t) ≤ MOST_LABELS → IsOrder t.places.items (length t.places.items) order → IsTable t order
-kept_table t order numbered right once few sorted =
-    record { numbered = numbered; labels = record { rows = right; once = once; few = few; texts = numbered.texts }; found = sorted }
+pub kept_labels : (t : LabelRows) → AreNumbered t → All IsLabelRow (shown_rows t) → Once (shown_rows t) → length (shown_rows t) ≤ MOST_LABELS → All IsLabelText t.texts → AreLabels (table_in t)
+kept_labels t numbered rows once few right = record { rows = rows; once = once; few = few; texts = numbered.texts; right = right; coded = rows_coded t numbered }
 
-pub labels_more : (old new : LabelRows) (r : ColumnLabel) → AreLabels (table_in old) → AreNumbered new → MayFollow (shown_rows old) r → shown_rows new ≡ shown_rows old ++ r ∷ [] → AreLabels (table_in new)
-labels_more old new r h numbered may e =
-    record {
-      rows = rw e (right-more (shown_rows old) r h.rows may.row);
-      once = rw e (once-more (shown_rows old) r h.once may.own_start);
-      few = rw e (let room : length (shown_rows old) < MOST_LABELS = may.room in omega (arith, length-append (shown_rows old) (r ∷ [])));
-      texts = numbered.texts;
-    }
+pub labels_more : (old new : LabelRows) (r : ColumnLabel) → AreLabels (table_in old) → AreNumbered new → MayFollow (shown_rows old) r → shown_rows new ≡ shown_rows old ++ r ∷ [] → new.texts ≡ with_label old.texts r.text
+    → AreLabels (table_in new)
+labels_more old new r h numbered may e t =
+    kept_labels new numbered (rw e (right-more (shown_rows old) r h.rows may.row)) (rw e (once-more (shown_rows old) r h.once may.own_start))
+    (rw e (let room : length (shown_rows old) < MOST_LABELS = may.room in omega (arith, length-append (shown_rows old) (r ∷ []))))
+    (rw t (right_text_more old.texts r.text h.right (record { printable = may.row.printable; short = may.row.short })))
 
 pub order_before : (places new : List Place) (p : Place) (order kept : List ℕ) → new ≡ places ++ p ∷ [] → kept ≡ order → IsOrder places (length places) order → IsOrder new (length new - 1) kept
 order_before places new p order kept e o sorted =
     let count : length (places ++ p ∷ []) - 1 ≡ length places = omega (arith, length-append places (p ∷ [])) in
     rw (e, o, count) (order_kept places p order sorted)
 
-pub texts_behind : (old new : LabelRows) (r : ColumnLabel) → AreNumbered old → AreNumbered new → shown_rows new ≡ shown_rows old ++ r ∷ [] → new.texts ≡ with_label old.texts r.text
-texts_behind old new r h g e = g.texts ∙ ap texts_of e ∙ texts_more (shown_rows old) r ∙ ap (λ l. with_label l r.text) (sym h.texts)
+-- ---- tables of rows and their texts
 
--- ---- the texts of labels
+pub table_more : (rows : List ColumnLabel) (r : ColumnLabel) (t : LabelTable) → t.rows ≡ rows ++ r ∷ [] → t.texts ≡ with_label (texts_of rows) r.text → t ≡ table_of (rows ++ r ∷ [])
+table_more rows r t e f = ap (λ l. record { rows = l; texts = t.texts }) e ∙ ap (λ l. record { rows = rows ++ r ∷ []; texts = l }) (f ∙ sym (texts_more rows r))
 
-pub right_texts : (t : LabelTable) → AreLabels t → All (λ x. IsTrue (is_printable x) × (length x ≤ LONGEST_LABEL)) t.texts
-right_texts t h =
-    rw h.texts (seen-all IsText _ (All-filter is_text IsText (map (λ (r : ColumnLabel). r.text) t.rows) (All-map IsText (λ (r : ColumnLabel). r.text) t.rows
-    (λ k d l. let row = h.rows k d l in (row.printable, row.short)))))
-  where
-    IsText : List ℕ → Type 0
-    IsText x = IsTrue (is_printable x) × (length x ≤ LONGEST_LABEL)
+pub right_texts : (rows : List ColumnLabel) → All IsLabelRow rows → All IsLabelText (texts_of rows)
+right_texts rows h =
+    seen-all IsLabelText _ (All-filter is_text IsLabelText (map (λ (r : ColumnLabel). r.text) rows) (All-map IsLabelText (λ (r : ColumnLabel). r.text) rows
+    (λ k d l. let row = h k d l in record { printable = row.printable; short = row.short })))

@@ -15,3 +15,4 @@ pub mod LabelWorlds
 pub mod LabelsSaid
 pub mod SidColumns
 pub mod CsvFields
+pub mod LabelCuts

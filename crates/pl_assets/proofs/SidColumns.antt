@@ -38,7 +38,7 @@ asset_of assets col sid h = here (slice_get assets col) refl h
     here None s t = absurd (let bad : None ≡ Some sid = t in cc)
     here (Some a) s t = (a, s, some_sid a sid t)
 
-no_col_found : (assets : List AssetRow) (sid : ℕ) → position (λ a. sid_of a == sid) assets ≡ None → (col : ℕ) → HasSid assets col sid → ⊥
+pub no_col_found : (assets : List AssetRow) (sid : ℕ) → position (λ a. sid_of a == sid) assets ≡ None → (col : ℕ) → HasSid assets col sid → ⊥
 no_col_found assets sid e col h =
     let it = asset_of assets col sid h in
     let test : (sid_of it.0 == sid) ≡ false = ap (λ a. sid_of a == sid) (sym (there assets col it.0 it.1)) ∙ nowhere (λ a. sid_of a == sid) assets e col it.0 (slice_get_within assets col it.0 it.1) in

@@ -7,7 +7,7 @@ use Rattle.std.specs.List.{list_any}
 use Rattle.std.specs.List.Sorted.{IsPartitionPoint}
 use Rattle.std.specs.HashSet.{HashSet, contains}
 use Rattle.pl_spec.specs.Parts.{ColumnLabel}
-use Rattle.pl_assets.specs.Labels.{LabelTable, AreLabels, names_of, texts_of}
+use Rattle.pl_assets.specs.Labels.{LabelTable, AreLabels, AreTexts, names_of}
 use Rattle.pl_assets.specs.declared.labels.rows.Place.{Place}
 use Rattle.pl_assets.specs.declared.labels.rows.LabelRows.{LabelRows}
 
@@ -33,11 +33,11 @@ pub record IsPlace (names texts : List (List ℕ)) (p : Place) : Type 0 where
   pub col : p.col < 2 ^ 32
   pub day : FitsSigned w32 p.start
 
--- the names and the texts are those of the rows, in the order in which they first stand there
+-- the names are those of the rows, in the order in which they first stand there, and the texts have codes
 pub record AreNumbered (t : LabelRows) : Type 0 where
   pub places : All (IsPlace t.names t.texts) t.places.items
   pub names : t.names ≡ names_of (shown_rows t)
-  pub texts : t.texts ≡ texts_of (shown_rows t)
+  pub texts : AreTexts t.texts
 
 -- the place was put behind the others
 abbrev pub IsBehind : LabelRows → LabelRows → Place → Type 0

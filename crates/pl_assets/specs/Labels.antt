@@ -1,6 +1,6 @@
 -- Labels by column, with the list of their texts: those of the records of a labels file, and the first rule
 -- that a record breaks.
-use Rattle.std.specs.Prelude.{◌≡◌, ℕ, ◌==◌, ◌<◌, ◌≤◌, ◌&&◌, not, nat_le, nat_lt, Bool, false, if◌then◌else◌, IsTrue, ℤ, codes, List, [], ◌∷◌, ◌++◌, length, map, filter, position, bytes_eq, All, AllPairs, Option, None, option_map, option_and_then, Result, Ok}
+use Rattle.std.specs.Prelude.{◌≡◌, ℕ, ◌==◌, ◌<◌, ◌≤◌, ◌^◌, ◌&&◌, not, nat_le, nat_lt, Bool, true, false, if◌then◌else◌, IsTrue, ℤ, codes, List, [], ◌∷◌, ◌++◌, length, map, filter, position, bytes_eq, All, AllPairs, Contains, Option, None, IfSome, option_map, option_and_then, Result, Ok}
 use Rattle.std.specs.List.{list_any, list_all, position_or_len}
 use Rattle.std.specs.Option.{ok_or}
 use Rattle.std.specs.Ordering.{int_eq}
@@ -132,11 +132,26 @@ pub record IsLabelRow (r : ColumnLabel) : Type 0 where
   pub printable : IsTrue (is_printable r.text)
   pub short : length r.text ≤ LONGEST_LABEL
 
+-- texts that have codes: each once, none of them empty, and no more than there are codes of 32 bits
+pub record AreTexts (texts : List (List ℕ)) : Type 0 where
+  pub once : AllPairs (λ x y. bytes_eq x y ≡ false) texts
+  pub full : All (λ x. is_text x ≡ true) texts
+  pub few : length texts ≤ 2 ^ 32
+
+-- a text that a label may have
+pub record IsLabelText (text : List ℕ) : Type 0 where
+  pub printable : IsTrue (is_printable text)
+  pub short : length text ≤ LONGEST_LABEL
+
+-- Each text of a row that is not empty has a code. Other texts may have codes too: where rows are left out, the
+-- others keep the codes that they had.
 pub record AreLabels (t : LabelTable) : Type 0 where
   pub rows : All IsLabelRow t.rows
   pub once : AllPairs (λ r q. is_from r.name r.col r.start q ≡ false) t.rows
   pub few : length t.rows ≤ MOST_LABELS
-  pub texts : t.texts ≡ texts_of t.rows
+  pub texts : AreTexts t.texts
+  pub right : All IsLabelText t.texts
+  pub coded : All (λ r. IfSome (nonempty r.text) (Contains t.texts)) t.rows
 
 -- the row of a label of the asset that has the sid
 abbrev pub label_row : List AssetRow → List ℕ → ℕ → ℤ → List ℕ → ColumnLabel

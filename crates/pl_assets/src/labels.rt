@@ -1,10 +1,11 @@
 ghost use Rattle.std.specs.Prelude.{◌≡◌, ◌<◌, ◌≤◌, ◌++◌, ◌∷◌, ◌==◌, [], length, position, slice_index_or, bytes_eq, All, Contains, IfOk, IfSome, IsTrue, OnOk, OnErr, option_and_then};
 ghost use Rattle.std.specs.List.{list_any, position_or_len};
 ghost use Rattle.pl_records.specs.Reading.{Answers};
+ghost use Rattle.pl_spec.specs.AsOf.{labels_by};
 ghost use Rattle.pl_spec.specs.Text.{quote};
 ghost use Rattle.pl_records.specs.Records.{csv_records};
 ghost use Rattle.pl_assets.specs.Assets.{sid_of};
-ghost use Rattle.pl_assets.specs.Labels.{AreLabels, MayFollow, is_printable, label_on, label_row, labels_of, names_of, no_labels, table_of, with_label};
+ghost use Rattle.pl_assets.specs.Labels.{AreLabels, MayFollow, is_printable, label_on, label_row, labels_of, names_of, no_labels, with_label};
 ghost use Rattle.pl_assets.specs.LabelFaults.{fault_of};
 ghost use Rattle.pl_assets.specs.declared.TheConstants.{LONGEST_LABEL};
 
@@ -74,7 +75,7 @@ impl Labels {
     }
 
     /// Puts one row behind the others: from the day on the asset of the sid has the label under the
-    /// name. Where memory runs out, the labels stay as they were.
+    /// name. Where memory or the codes of 32 bits run out, the labels stay as they were.
     pub fn add(
         &mut self,
         assets: &Assets,
@@ -85,8 +86,8 @@ impl Labels {
     ) -> Result<(), Memory>
         requires asset { IsTrue (list_any (λ a. sid_of a == sid) assets.now) }
         requires row { MayFollow self.old.rows (label_row assets.now name.now sid start label.now) }
-        ensures row { OnOk result (self.new ≡ table_of
-            (self.old.rows ++ label_row assets.now name.now sid start label.now ∷ [])) }
+        ensures row { OnOk result (self.new.rows
+            ≡ self.old.rows ++ label_row assets.now name.now sid start label.now ∷ []) }
         // A text that is new and not empty stands behind the others.
         ensures texts { OnOk result (self.new.texts ≡ with_label self.old.texts label.now) }
         ensures kept { OnErr result (self.new ≡ self.old) }
@@ -96,6 +97,16 @@ impl Labels {
         self.rows.push(name, col, start, label)?;
         order::insert_last(&self.rows.places, &mut self.order);
         Ok(())
+    }
+
+    /// The rows that start by the day. All texts stay, so that each keeps its code.
+    pub fn cut(&self, alloc: Global, day: i32) -> Result<Labels, Memory>
+        ensures rows { IfOk result (λ l. l.rows ≡ labels_by day self.now.rows) }
+        ensures texts { IfOk result (λ l. l.texts ≡ self.now.texts) }
+    {
+        let rows = self.rows.cut(alloc, day)?;
+        let order = order::order_of(alloc, &rows.places)?;
+        Ok(Labels { rows, order })
     }
 
     /// How many rows there are. No two of them have one name, column and start.

@@ -19,6 +19,7 @@ mod tests;
 
 pub use error::AssetsError;
 pub use labels::{Labels, LabelsError};
+use pl_fixed::Memory;
 pub use pl_spec::AssetRow;
 use std::alloc::Global;
 use std::marker::Model;
@@ -69,6 +70,14 @@ impl Assets {
         ensures { result ≡ rows.items }
     {
         Assets { rows }
+    }
+
+    /// The same assets once more.
+    pub fn copy(&self, alloc: Global) -> Result<Assets, Memory>
+        ensures { IfOk result (λ a. a ≡ self.now) }
+    {
+        let rows = Vec::from_slice(alloc, &self.rows)?;
+        Ok(Assets { rows })
     }
 
     /// How many assets there are. Their sids ascend, and are numbers of 32 bits.

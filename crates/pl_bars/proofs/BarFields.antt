@@ -28,7 +28,7 @@ use Rattle.pl_bars.specs.Rules.{IsCellText, IsBarRecord, IsNegative}
 not_empty : (c : ℕ) (cs : List ℕ) → (length (c ∷ cs) == 0) ≡ false
 not_empty c cs = grind (arith, nat_tests)
 
-IsCellText-cell_in : (text : List ℕ) (v : ℤ) → cell_in text ≡ Some v → IsCellText text v
+pub IsCellText-cell_in : (text : List ℕ) (v : ℤ) → cell_in text ≡ Some v → IsCellText text v
 unfolding cell_in
 IsCellText-cell_in [] v e = inl (refl, (let same : Some MISSING ≡ Some v = e in cc))
 IsCellText-cell_in (c ∷ cs) v e = inr ((read-value (c ∷ cs) v).0 (here (read (c ∷ cs)) (rw (not_empty c cs) at e)))
@@ -37,7 +37,7 @@ IsCellText-cell_in (c ∷ cs) v e = inr ((read-value (c ∷ cs) v).0 (here (read
     here (Ok w) e = let same : Some w ≡ Some v = e in ap Ok (let it : w ≡ v = cc in it)
     here (Err f) e = absurd (let bad : None ≡ Some v = e in cc)
 
-cell_in-IsCellText : (text : List ℕ) (v : ℤ) → IsCellText text v → cell_in text ≡ Some v
+pub cell_in-IsCellText : (text : List ℕ) (v : ℤ) → IsCellText text v → cell_in text ≡ Some v
 unfolding cell_in
 cell_in-IsCellText [] v (inl h) = ap Some (sym h.1)
 cell_in-IsCellText [] v (inr h) =
@@ -56,7 +56,7 @@ small-is v t h =
     let b : nat_le (unsigned_abs v) LIMIT ≡ true = grind (arith, nat_tests) in rw (a, b) refl
 
 -- a text's cell that is not below 0
-IsCellText-bar_cell : (text : List ℕ) (v : ℤ) → IsCellText text v → is_negative v ≡ false → IsTrue (is_bar_cell v)
+pub IsCellText-bar_cell : (text : List ℕ) (v : ℤ) → IsCellText text v → is_negative v ≡ false → IsTrue (is_bar_cell v)
 IsCellText-bar_cell text v h t = here (is_missing v) refl
   where
     at_least : (b : Bool) → int_lt v (pos 0) ≡ b → is_missing v ≡ false → int_lt v (pos 0) ≡ false

@@ -154,7 +154,7 @@ pub cell_none : (rows : List BarRow) (col session : ℕ) (column : Column) → N
 unfolding cell_at
 cell_none rows col session column e = sym (ap (λ o. unwrap_or (option_map (cell_of column) o) MISSING) (find-none (is_at col session) rows (sym e)))
 
-IsCell-bar_cell : (v : ℤ) → is_bar_cell v ≡ true → IsCell v
+pub IsCell-bar_cell : (v : ℤ) → is_bar_cell v ≡ true → IsCell v
 IsCell-bar_cell v t = here (is_missing v) refl
   where
     value : is_missing v ≡ true → v ≡ MISSING

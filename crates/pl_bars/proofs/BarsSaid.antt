@@ -72,12 +72,15 @@ one_session days up s t day e f = elim (cases_lt s t) [
         let lt : get_or days i day <ℤ get_or days j day = up.ascend i j day h (slice_get_within days j day q) in
         rw (there days i day p, there days j day q) at lt
 
-session_form : (days : List ℤ) → AreDays days → (f : Fields) (session : ℕ) → (session_in days f ≡ Some session) ↔ (slice_get days session ≡ Some f.day)
-session_form days up f session = (session_found days f.day session, back (session_in days f) refl)
+pub day_form : (days : List ℤ) → AreDays days → (day : ℤ) (session : ℕ) → (position (λ d. int_eq d day) days ≡ Some session) ↔ (slice_get days session ≡ Some day)
+day_form days up day session = (session_found days day session, back (position (λ d. int_eq d day) days) refl)
   where
-    back : (o : Option ℕ) → session_in days f ≡ o → slice_get days session ≡ Some f.day → o ≡ Some session
-    back None e h = absurd (no_session_found days f.day e session h)
-    back (Some s) e h = ap (λ x. Some x) (one_session days up s session f.day (session_found days f.day s e) h)
+    back : (o : Option ℕ) → position (λ d. int_eq d day) days ≡ o → slice_get days session ≡ Some day → o ≡ Some session
+    back None e h = absurd (no_session_found days day e session h)
+    back (Some s) e h = ap (λ x. Some x) (one_session days up s session day (session_found days day s e) h)
+
+session_form : (days : List ℤ) → AreDays days → (f : Fields) (session : ℕ) → (session_in days f ≡ Some session) ↔ (slice_get days session ≡ Some f.day)
+session_form days up f session = day_form days up f.day session
 
 -- ---- the tests of cells, and of the bars before
 

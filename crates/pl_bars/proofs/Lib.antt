@@ -5,3 +5,6 @@ pub mod BarsSaid
 pub mod BarSearch
 pub mod BarFilling
 pub mod BarWorlds
+pub mod ColumnTexts
+pub mod BarsCut
+pub mod FirstPlaces

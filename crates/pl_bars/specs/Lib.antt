@@ -1,4 +1,5 @@
 pub mod Bars
+pub mod ColumnNames
 pub mod BarPoint
 pub mod BarSet
 pub mod Rules

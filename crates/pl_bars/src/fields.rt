@@ -1,8 +1,9 @@
 ghost use Rattle.std.specs.Prelude.{◌≡◌, length};
 ghost use Rattle.std.specs.List.{list_any};
 ghost use Rattle.pl_bars.specs.Bars.{cell_in, cells_in, fields_in, is_negative};
+ghost use Rattle.pl_bars.specs.ColumnNames.{column_in};
 
-use pl_fixed::{MISSING, read_day, read_decimal, read_sid};
+use pl_fixed::{Column, MISSING, read_day, read_decimal, read_sid};
 use pl_records::Records;
 
 // What a record of a bar says: a sid, a day and the cells open, high, low, close and volume.
@@ -31,22 +32,44 @@ fn cells_of(row: &Records) -> Option<[i64; 5]>
     requires { length row.now.fields ≡ 7 }
     ensures { result ≡ cells_in row.now.fields }
 {
-    let open = cell_of(row.field(2))?;
-    let high = cell_of(row.field(3))?;
-    let low = cell_of(row.field(4))?;
-    let close = cell_of(row.field(5))?;
-    let volume = cell_of(row.field(6))?;
+    let open = read_cell(row.field(2))?;
+    let high = read_cell(row.field(3))?;
+    let low = read_cell(row.field(4))?;
+    let close = read_cell(row.field(5))?;
+    let volume = read_cell(row.field(6))?;
     Some([open, high, low, close, volume])
 }
 
+/// The cell of a field, in millionths: `MISSING` where the text is empty, else the decimal. `None` where it
+/// is neither.
 #[tactic(auto, unfolding(crate::specs::Bars::cell_in))]
-fn cell_of(text: &[u8]) -> Option<i64>
+pub fn read_cell(text: &[u8]) -> Option<i64>
     ensures { result ≡ cell_in text.now }
 {
     if text.is_empty() {
         return Some(MISSING);
     }
     read_decimal(text).ok()
+}
+
+/// The bar column of a name: `open`, `high`, `low`, `close` or `volume`.
+#[tactic(auto, unfolding(crate::specs::ColumnNames::column_in))]
+pub fn read_column(text: &[u8]) -> Option<Column>
+    ensures { result ≡ column_in text.now }
+{
+    if text == b"open".as_slice() {
+        Some(Column::OpenPrice)
+    } else if text == b"high".as_slice() {
+        Some(Column::High)
+    } else if text == b"low".as_slice() {
+        Some(Column::Low)
+    } else if text == b"close".as_slice() {
+        Some(Column::Close)
+    } else if text == b"volume".as_slice() {
+        Some(Column::Volume)
+    } else {
+        None
+    }
 }
 
 // Whether one of the cells is below 0.
@@ -56,7 +79,8 @@ pub(crate) fn has_negative(cells: &[i64]) -> bool
     cells.iter().any(|cell| is_below_0(*cell))
 }
 
-fn is_below_0(cell: i64) -> bool
+/// Whether a cell is below 0. `MISSING` is not.
+pub fn is_below_0(cell: i64) -> bool
     ensures { result ≡ is_negative cell }
 {
     cell < 0 && cell != MISSING

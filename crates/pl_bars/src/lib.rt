@@ -4,24 +4,29 @@
 
 ghost use Rattle.std.specs.Prelude.{◌≡◌, ℕ, ◌+◌, ◌*◌, ◌^◌, ◌<◌, ◌≤◌, length, pos, slice_index, slice_index_or, IfOk, All};
 ghost use Rattle.pl_records.specs.Reading.{Answers};
+ghost use Rattle.pl_spec.specs.AsOf.{bars_before};
 ghost use Rattle.pl_spec.specs.Rounding.{IsCell};
 ghost use Rattle.pl_records.specs.Records.{csv_records};
 ghost use Rattle.pl_bars.specs.Bars.{AreBars, bars_of, cell_at};
 ghost use Rattle.pl_bars.specs.Faults.{fault_of};
 
 mod bar_set;
+mod cut;
 mod error;
 mod fields;
 mod filling;
 pub mod laws;
+mod places;
 mod reading;
 mod search;
 #[cfg(test)]
 mod tests;
 
 pub use error::BarsError;
+pub use fields::{is_below_0, read_cell, read_column};
 use pl_assets::Assets;
 use pl_calendar::Sessions;
+use pl_fixed::Memory;
 pub use pl_spec::BarRow;
 use pl_spec::Column;
 use std::alloc::Global;
@@ -78,6 +83,14 @@ impl Bars {
         ensures { result ≡ rows.items }
     {
         Bars { rows }
+    }
+
+    /// The bars of the sessions below `sessions`.
+    pub fn cut(&self, alloc: Global, sessions: usize) -> Result<Bars, Memory>
+        ensures { IfOk result (λ b. b ≡ bars_before sessions self.now) }
+    {
+        let rows = cut::rows_before(alloc, &self.rows, sessions)?;
+        Ok(Bars { rows })
     }
 
     /// How many bars there are. They stand by ascending column and then session.

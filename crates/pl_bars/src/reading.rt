@@ -11,6 +11,7 @@ use crate::MOST_BARS;
 use crate::bar_set::BarSet;
 use crate::error::BarsError;
 use crate::fields::{fields_of, has_negative};
+use crate::places::{col_of, session_of};
 use pl_assets::Assets;
 use pl_calendar::Sessions;
 use pl_records::Records;
@@ -126,10 +127,10 @@ fn next_bar(
     let Some(fields) = fields_of(row) else {
         return Err(BarsError::BadField { line });
     };
-    let Some(session) = sessions.index_of(fields.day) else {
+    let Some(session) = session_of(before, sessions, fields.day) else {
         return Err(BarsError::NotSession { line });
     };
-    let Some(col) = assets.col_of(fields.sid) else {
+    let Some(col) = col_of(before, assets, fields.sid) else {
         return Err(BarsError::UnknownSid { line });
     };
     if has_negative(&fields.cells) {

@@ -31,7 +31,7 @@ found_none day xs n h g point =
     let e : position_or_len (λ d. int_le day d) xs ≡ n = first_place day xs n h point in
     let t : nat_lt n (length xs) ≡ false = grind (arith, nat_tests) in rw (e, t) refl
 
-not_later : (xs : List ℤ) → AreDays xs → (i j : ℕ) (d : ℤ) → i ≤ j → j < length xs → get_or xs i d ≤ℤ get_or xs j d
+pub not_later : (xs : List ℤ) → AreDays xs → (i j : ℕ) (d : ℤ) → i ≤ j → j < length xs → get_or xs i d ≤ℤ get_or xs j d
 not_later xs up i j d h l = elim (cases_lt i j) [
   | inl p ↦ before _ _ (up.ascend i j d p l)
   | inr p ↦ let same : i ≡ j = omega arith in equal _ _ (ap (λ k. get_or xs k d) same)

@@ -1,3 +1,4 @@
 pub mod DaysRead
 pub mod DaysSaid
 pub mod DaySearch
+pub mod PeriodSearch

@@ -1,10 +1,11 @@
 //! The sessions of the calendar: their days, which ascend. A session is known by its place, from 0.
 #![tactic(auto)]
 
-ghost use Rattle.std.specs.Prelude.{◌≡◌, ◌<◌, ◌≤◌, length, slice_get, position, Some, IfOk, IfSome};
+ghost use Rattle.std.specs.Prelude.{◌≡◌, ◌<◌, ◌≤◌, pos, length, slice_get, take, position, Some, IfOk, IfSome};
 ghost use Rattle.std.specs.Int.RustNames.{int_le};
 ghost use Rattle.std.specs.Ordering.{int_eq};
 ghost use Rattle.pl_spec.specs.Dates.{IsDay};
+ghost use Rattle.pl_spec.specs.Periods.{period_start};
 ghost use Rattle.pl_records.specs.Reading.{Answers};
 ghost use Rattle.pl_records.specs.Records.{csv_records};
 ghost use Rattle.pl_calendar.specs.Days.{AreDays, sessions_of};
@@ -12,12 +13,14 @@ ghost use Rattle.pl_calendar.specs.Faults.{fault_of};
 
 mod error;
 pub mod laws;
+mod periods;
 mod reading;
 mod search;
 #[cfg(test)]
 mod tests;
 
 pub use error::CalendarError;
+use pl_fixed::{Frequency, Memory};
 use std::alloc::Global;
 use std::marker::Model;
 
@@ -62,6 +65,16 @@ impl Sessions {
         Sessions { days }
     }
 
+    /// The first `len` sessions.
+    pub fn cut(&self, alloc: Global, len: usize) -> Result<Sessions, Memory>
+        requires some { 0 < len }
+        requires within { len ≤ length self.now }
+        ensures { IfOk result (λ s. s ≡ take len self.now) }
+    {
+        let days = Vec::from_slice(alloc, &self.days[..len])?;
+        Ok(Sessions { days })
+    }
+
     /// How many sessions there are. Their days ascend.
     pub fn len(&self) -> usize
         ensures length { result ≡ length self.now }
@@ -77,6 +90,7 @@ impl Sessions {
         requires { i < length self.now }
         ensures exact { slice_get self.now i ≡ Some result }
         ensures date { IsDay result }
+        ensures few { length self.now ≤ MOST_SESSIONS }
     {
         self.days[i]
     }
@@ -95,5 +109,15 @@ impl Sessions {
         ensures exact { result ≡ position (λ d. int_le day d) self.now }
     {
         search::first_at_or_after(&self.days, day)
+    }
+
+    /// The first session of the year, quarter, month or week that the day of session i is of. Weeks begin on
+    /// Monday. A calendar that begins inside a period starts it there.
+    pub fn period_start(&self, frequency: Frequency, i: usize) -> usize
+        requires { i < length self.now }
+        ensures within { result ≤ i }
+        ensures exact { pos result ≡ period_start frequency self.now (pos i) }
+    {
+        periods::period_start(&self.days, frequency, i)
     }
 }

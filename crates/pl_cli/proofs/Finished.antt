@@ -19,7 +19,8 @@ use Rattle.pl_judge.specs.Ends.{Ends, EndsJudged, EndsForMemory}
 use Rattle.pl_judge.specs.Stages.{StopsOutside, IsStop}
 use Rattle.pl_cli.specs.Texts.{text_of}
 use Rattle.pl_cli.specs.Runs.{Observed, HasRoom, IsRun}
-use Rattle.pl_cli.specs.Commands.{IsEnd, IsEnded, fault_of}
+use Rattle.pl_cli.specs.declared.commands.Stats.{Stats}
+use Rattle.pl_cli.specs.Commands.{IsEnd, IsEnded, fault_of, numbers_told}
 use Rattle.pl_cli.proofs.Keepers.{store-named}
 
 judged-is : (steps : List Step) (asked : Option Request) (o : Option Fault) → first_fault steps ≡ o → EndsJudged steps asked (judged_status o) (judged_line asked o)
@@ -96,7 +97,8 @@ nine-is Memory e = absurd (omega arith)
 
 -- ---- the whole
 
-run-is : {T : Type 0} (o : Observed) (asked : Option Request) (r : Result T Fault) → IsEnded o asked r → IsRun o asked (judged_status (fault_of r)) (judged_line asked (fault_of r))
+run-is : (o : Observed) (asked : Option Request) (r : Result (Option Stats) Fault) → IsEnded o asked r
+    → IsRun o asked (judged_status (fault_of r)) (judged_line asked (fault_of r)) (numbers_told r)
 run-is o asked (Ok x) h =
     record {
       held = h.held;
@@ -107,6 +109,8 @@ run-is o asked (Ok x) h =
       room_left = λ z s. h.done.room_left s;
       cost = λ z. h.done.cost;
       most = λ z. absurd (let no : 0 ≡ 9 = z in omega arith);
+      told = λ z. h.told;
+      quiet = λ n. absurd (n refl);
       complete = λ s k r out. inl (judged-is (work h.held asked) asked None h.done.passed);
     }
 run-is o asked (Err f) h =
@@ -119,11 +123,13 @@ run-is o asked (Err f) h =
       room_left = λ z s. absurd (not-zero f z);
       cost = λ z. absurd (not-zero f z);
       most = λ z. (let e = rw (nine-is f z) at h.ended in e.3);
+      told = λ z. absurd (not-zero f z);
+      quiet = λ n. refl;
       complete = λ s k r out. end-complete o h.held asked f h.ended s k r;
     }
 
-pub run-of : {T : Type 0} (o : Observed) (asked : Option Request) (r : Result T Fault) (status : ℕ) → status ≡ judged_status (fault_of r)
-    → IsEnded o asked r → IsRun o asked status (judged_line asked (fault_of r))
+pub run-of : (o : Observed) (asked : Option Request) (r : Result (Option Stats) Fault) (status : ℕ) → status ≡ judged_status (fault_of r)
+    → IsEnded o asked r → IsRun o asked status (judged_line asked (fault_of r)) (numbers_told r)
 run-of o asked r status e h = rw e (run-is o asked r h)
 
 -- ---- what is asked for
@@ -159,11 +165,12 @@ rows-told None lists table n is told has = absurd (cc)
 rows-told (Some name) None table n is told has = absurd (cc)
 rows-told (Some name) (Some held) table n is told has = cc
 
-pub no-words : {T : Type 0} (o : Observed) (asked : Option Request) → IsEnded {T = T} o asked (Err Memory)
+pub no-words : (o : Observed) (asked : Option Request) → IsEnded o asked (Err Memory)
 no-words o asked =
     record {
       held = record { file = λ f. told-file (name_asked asked f) o.files; rows = λ t. told-rows (adjustments_of asked) o.lists t };
       are_held = record { files_held = λ f. file-told (name_asked asked f) o.files; rows_held = λ t. rows-told (adjustments_of asked) o.lists t };
       done = tt;
+      told = tt;
       ended = inr tt;
     }

@@ -6,13 +6,13 @@ use Rattle.pl_spec.specs.Table.{Pipeline}
 use Rattle.pl_outside.specs.declared.keeper.Table.{Table}
 use Rattle.pl_words.specs.declared.request.InputFile.{InputFile}
 use Rattle.pl_words.specs.declared.request.InputFile.TheVariants.{Labels as LabelsFile}
-use Rattle.pl_words.specs.Request.{Request, Run, Fmt, Check, Plan, RunRequest, PlanRequest, Dated, adjustments_of}
+use Rattle.pl_words.specs.Request.{Request, Run, Fmt, Check, Plan, Bench, Payouts, RunRequest, PlanRequest, Dated, adjustments_of}
 use Rattle.pl_judge.specs.Contents.{Contents}
 use Rattle.pl_judge.specs.Held.{assets_held, days_held, pipeline_held}
 use Rattle.pl_judge.specs.Steps.{Source, Step, ReachesRead}
 use Rattle.pl_judge.specs.Steps.Source.{Input, Load}
 use Rattle.pl_judge.specs.Range.{index_of, dates_steps, plan_steps, range_steps}
-use Rattle.pl_judge.specs.Work.{labels_steps, adjustments_steps, data_steps, planning_steps, run_steps, work}
+use Rattle.pl_judge.specs.Work.{labels_steps, adjustments_steps, data_steps, planning_steps, payouts_steps, run_steps, work}
 
 no-input : {A : Type 0} {file : InputFile} {table : Table} → Some (Input file) ≡ Some (Load table) → A
 no-input h = absurd (cc)
@@ -35,20 +35,23 @@ of-adjustments : (assets : List AssetRow) (adjustments : Option (List ℕ)) (row
 of-adjustments assets None rows table h = absurd h
 of-adjustments assets (Some n) rows table h = refl
 
-of-dates : (from to : Dated) (days : List ℤ) (table : Table) → ReachesRead (dates_steps from to days) (Load table) → ⊥
+of-dates : (from to : Dated) (as_of : Option Dated) (days : List ℤ) (table : Table) → ReachesRead (dates_steps from to as_of days) (Load table) → ⊥
 unfolding dates_steps
-of-dates from to days table h = elim h [
+of-dates from to as_of days table h = elim h [
   | inl e ↦ no-read e
-  | inr a ↦ elim a.1 [ inl e ↦ no-read e | inr b ↦ elim b.1 [ inl e ↦ no-read e | inr d ↦ d.1 ] ]
+  | inr a ↦ elim a.1 [
+    | inl e ↦ no-read e
+    | inr b ↦ elim b.1 [ inl e ↦ no-read e | inr c ↦ elim c.1 [ inl e ↦ no-read e | inr d ↦ d.1 ] ]
+  ]
 ]
 
 of-plan : (p : Pipeline) (days : List ℤ) (from to : ℕ) (table : Table) → ReachesRead (plan_steps p days from to) (Load table) → ⊥
 unfolding plan_steps
 of-plan p days from to table h = elim h [ inl e ↦ no-read e | inr a ↦ elim a.1 [ inl e ↦ no-read e | inr b ↦ b.1 ] ]
 
-of-range : (p : Pipeline) (days : List ℤ) (from to : Dated) (table : Table) → ReachesRead (range_steps p days from to) (Load table) → ⊥
-of-range p days from to table h =
-    elim (reaches-one (dates_steps from to days) _ (Load table) h) [ inl a ↦ of-dates from to days table a | inr b ↦ of-plan p days (index_of days from.day) (index_of days to.day) table b ]
+of-range : (p : Pipeline) (days : List ℤ) (from to : Dated) (as_of : Option Dated) (table : Table) → ReachesRead (range_steps p days from to as_of) (Load table) → ⊥
+of-range p days from to as_of table h =
+    elim (reaches-one (dates_steps from to as_of days) _ (Load table) h) [ inl a ↦ of-dates from to as_of days table a | inr b ↦ of-plan p days (index_of days from.day) (index_of days to.day) table b ]
 
 of-data : (held : Contents) (q : RunRequest) (table : Table) → ReachesRead (data_steps held q) (Load table) → IsSome q.options.adjustments
 unfolding data_steps
@@ -71,7 +74,7 @@ of-run held q table h = elim h [
     | inl p ↦ no-read p
     | inr b ↦ elim (reaches-one (data_steps held q) _ (Load table) b.1) [
       | inl e ↦ of-data held q table e
-      | inr r ↦ absurd (of-range (pipeline_held held) (days_held held) q.from q.to table r)
+      | inr r ↦ absurd (of-range (pipeline_held held) (days_held held) q.from q.to q.options.as_of table r)
     ]
   ]
 ]
@@ -81,7 +84,16 @@ of-planning held q table h = elim h [
   | inl p ↦ no-input p
   | inr a ↦ elim a.1 [
     | inl p ↦ no-read p
-    | inr b ↦ elim b.1 [ inl p ↦ no-input p | inr r ↦ of-range (pipeline_held held) (days_held held) q.from q.to table r.1 ]
+    | inr b ↦ elim b.1 [ inl p ↦ no-input p | inr r ↦ of-range (pipeline_held held) (days_held held) q.from q.to None table r.1 ]
+  ]
+]
+
+of-payouts : (held : Contents) (table : Table) → ReachesRead (payouts_steps held) (Load table) → ⊥
+of-payouts held table h = elim h [
+  | inl p ↦ no-input p
+  | inr a ↦ elim a.1 [
+    | inl p ↦ no-input p
+    | inr b ↦ elim b.1 [ inl p ↦ no-input p | inr c ↦ elim c.1 [ inl p ↦ no-input p | inr d ↦ d.1 ] ]
   ]
 ]
 
@@ -91,4 +103,6 @@ store-named held None table h = elim h [ inl p ↦ no-read p | inr a ↦ absurd 
 store-named held (Some (Fmt n)) table h = elim h [ inl p ↦ no-input p | inr a ↦ absurd a.1 ]
 store-named held (Some (Check n)) table h = elim h [ inl p ↦ no-input p | inr a ↦ elim a.1 [ inl p ↦ no-read p | inr b ↦ absurd b.1 ] ]
 store-named held (Some (Plan q)) table h = absurd (of-planning held q table h)
+store-named held (Some (Bench q)) table h = absurd h
+store-named held (Some (Payouts q)) table h = absurd (of-payouts held table h)
 store-named held (Some (Run q)) table h = of-run held q table h

@@ -3,3 +3,5 @@ pub mod Counts
 pub mod PlanTexts
 pub mod Ended
 pub mod Finished
+pub mod Stats
+pub mod Further

@@ -1,6 +1,6 @@
 -- How a command ends, in the words of the code.
-use Rattle.std.specs.Prelude.{◌≡◌, ℕ, ◌+◌, ◌≤◌, List, length, IsTrue, Option, Some, None, Result, Ok, Err, OnOk, IfErr}
-use Rattle.pl_spec.specs.declared.Format.TheVariants.{Csv}
+use Rattle.std.specs.Prelude.{◌≡◌, ℕ, ◌+◌, ◌≤◌, List, [], length, Bool, if◌then◌else◌, IsTrue, Option, Some, None, Result, Ok, Err, OnOk, IfOk, IfErr}
+use Rattle.pl_spec.specs.declared.Format.{Format}
 use Rattle.pl_spec.specs.Table.{table}
 use Rattle.pl_spec.specs.Text.{text}
 use Rattle.pl_outside.specs.Taken.{TakesAll, TakesPrefix}
@@ -8,25 +8,42 @@ use Rattle.pl_terms.specs.Checked.{pipeline_of}
 use Rattle.pl_words.specs.Request.{Request}
 use Rattle.pl_judge.specs.declared.fault.Fault.{Fault}
 use Rattle.pl_judge.specs.declared.fault.Fault.TheVariants.{Usage, Unread, Unloaded, Unwritten}
+use Rattle.pl_judge.specs.Numbers.{stats_line}
 use Rattle.pl_judge.specs.Contents.{Contents, AreHeld}
 use Rattle.pl_judge.specs.Steps.{first_fault}
 use Rattle.pl_judge.specs.Work.{work}
 use Rattle.pl_judge.specs.Stages.{IsStop}
 use Rattle.pl_load.specs.declared.loading.Loaded.{Loaded}
-use Rattle.pl_load.specs.Loads.{owned_world}
+use Rattle.pl_model.specs.Worlds.{owned_world}
 use Rattle.pl_runner.specs.Runs.{run_steps}
-use Rattle.pl_cli.specs.Texts.{text_of, TakesSteps}
+use Rattle.pl_cli.specs.declared.commands.Stats.{Stats}
+use Rattle.pl_cli.specs.Texts.{text_of, table_stats, TakesSteps, TellsNumbers}
 use Rattle.pl_cli.specs.Runs.{Observed, HasRoom}
 
--- the table of what was loaded, and its steps in chunks of so many sessions
-abbrev pub loaded_text : Loaded → List ℕ
-loaded_text l =
+-- the table of what was loaded, its steps in chunks of so many sessions, and the line of its numbers where it is asked for
+abbrev pub loaded_text : Loaded → Format → List ℕ
+loaded_text l format =
     let w = owned_world l.world in
     let p = pipeline_of l.checked in
-    text w p Csv (table w p l.plan.from l.plan.to)
+    text w p format (table w p l.plan.from l.plan.to)
 
 abbrev pub loaded_steps : Loaded → ℕ → ℕ
 loaded_steps l chunk = run_steps (owned_world l.world) (pipeline_of l.checked) l.plan chunk
+
+abbrev pub loaded_stats : Bool → Loaded → ℕ → List ℕ
+loaded_stats asked l chunk =
+    let w = owned_world l.world in
+    let p = pipeline_of l.checked in
+    if asked then table_stats w p (table w p l.plan.from l.plan.to) (loaded_steps l chunk) else []
+
+-- the line of the numbers that a command gives
+abbrev pub stats_told : Option Stats → List ℕ
+stats_told None = []
+stats_told (Some s) = stats_line s.numbers.rows s.numbers.cells s.numbers.peak s.numbers.bound s.applied
+
+abbrev pub numbers_told : Result (Option Stats) Fault → List ℕ
+numbers_told (Ok stats) = stats_told stats
+numbers_told (Err fault) = []
 
 abbrev pub fault_of : {T : Type 0} → Result T Fault → Option Fault
 fault_of (Ok x) = None
@@ -47,10 +64,11 @@ pub record IsDone (o : Observed) (held : Contents) (asked : Option Request) : Ty
   pub cost : TakesSteps held asked (λ n. o.steps_now ≡ o.steps + n)
 
 -- a command over contents that the parts hold where they tell
-pub record IsEnded {T : Type 0} (o : Observed) (asked : Option Request) (result : Result T Fault) : Type 0 where
+pub record IsEnded (o : Observed) (asked : Option Request) (result : Result (Option Stats) Fault) : Type 0 where
   pub held : Contents
   pub are_held : AreHeld o.files o.lists asked held
   pub done : OnOk result (IsDone o held asked)
+  pub told : IfOk result (λ stats. TellsNumbers held asked (stats_told stats))
   pub ended : IfErr result (IsEnd o held asked)
 
 -- What holds of a fault, whether the parts tell or not: it has its cause, and what stops leaves the sink and the steps as they were.

@@ -1,5 +1,5 @@
 -- What a run of the program did.
-use Rattle.std.specs.Prelude.{◌≡◌, ◌⊎◌, ℕ, ◌+◌, ◌≤◌, List, length, Bool, IsTrue, Option, None, IsSome}
+use Rattle.std.specs.Prelude.{◌≡◌, ◌⊎◌, ℕ, ◌+◌, ◌≤◌, List, [], length, Bool, IsTrue, Option, None, IsSome}
 use Rattle.pl_outside.specs.Files.{Files}
 use Rattle.pl_outside.specs.Lists.{Lists}
 use Rattle.pl_outside.specs.Counts.{Rose}
@@ -9,7 +9,7 @@ use Rattle.pl_judge.specs.Contents.{Contents, AreHeld}
 use Rattle.pl_judge.specs.Steps.{first_fault}
 use Rattle.pl_judge.specs.Work.{work}
 use Rattle.pl_judge.specs.Ends.{Ends, EndsJudged, EndsForMemory}
-use Rattle.pl_cli.specs.Texts.{text_of, TakesSteps}
+use Rattle.pl_cli.specs.Texts.{text_of, TakesSteps, TellsNumbers}
 
 -- What the parts of the outside tell as a run begins, and what is told of `out` and of the steps as it ends.
 pub record Observed : Type 0 where
@@ -47,13 +47,16 @@ abbrev pub HasRoom : Observed → ℕ → Type 0
 HasRoom o n = IsTrue o.out_sound × (n ≤ o.room)
 
 -- Files and tables have these contents: those that the parts hold under the names of the words, wherever they tell. Over these the run
--- has ended with a status and a line as the work says; with status 0 `out` took exactly the text, with status 9 a prefix of it.
-pub record IsRun (o : Observed) (asked : Option Request) (status : ℕ) (line : List ℕ) : Type 0 where
+-- has ended with a status and the line of a fault as the work says; with status 0 `out` took exactly the text, with status 9 a prefix
+-- of it. With status 0 the numbers that are asked for are told, and else none.
+pub record IsRun (o : Observed) (asked : Option Request) (status : ℕ) (line numbers : List ℕ) : Type 0 where
   pub held : Contents
   pub are_held : AreHeld o.files o.lists asked held
   pub ends : Ends (work held asked) asked status line
   pub text : status ≡ 0 → TakesAll o.taken o.taken_now (text_of held asked)
   pub prefix : status ≡ 9 → TakesPrefix o.taken o.taken_now (text_of held asked)
+  pub told : status ≡ 0 → TellsNumbers held asked numbers
+  pub quiet : ¬ (status ≡ 0) → numbers ≡ []
   -- the room that is left, where out is sound
   pub room_left : status ≡ 0 → IsTrue o.out_sound → o.room_now + length (text_of held asked) ≡ o.room
   -- all its steps with status 0, and no more of them with status 9

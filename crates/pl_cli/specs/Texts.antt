@@ -1,19 +1,24 @@
 -- The text of a command over its contents, and the steps that it takes.
-use Rattle.std.specs.Prelude.{◌≡◌, ℕ, ℤ, List, [], ◌∷◌, ◌++◌, length, codes, decimal, Option, Some, None}
-use Rattle.pl_spec.specs.declared.Format.TheVariants.{Csv}
+use Rattle.std.specs.Prelude.{◌≡◌, ℕ, ℤ, List, [], ◌∷◌, ◌++◌, length, codes, decimal, if◌then◌else◌, Option, Some, None}
+use Rattle.std.specs.Int.RustNames.{unsigned_abs}
 use Rattle.pl_spec.specs.World.{World}
-use Rattle.pl_spec.specs.Table.{Pipeline, Row, table}
+use Rattle.pl_spec.specs.Table.{Pipeline, Row, table, cells}
 use Rattle.pl_spec.specs.Text.{text}
 use Rattle.pl_spec.specs.Graph.{bound}
 use Rattle.pl_terms.specs.Uses.{outputs}
 use Rattle.pl_plan_text.specs.Text.{plan_text}
 use Rattle.pl_syntax.specs.Canonical.{script_text}
 use Rattle.pl_planner.specs.Plans.{Planned, IsPlanOf}
+use Rattle.pl_exec.specs.Tasks.{cut}
+use Rattle.pl_bench.specs.Numbers.{TakesSteps as TakesBenchSteps, bench_line}
+use Rattle.pl_payouts.specs.Texts.{payouts_text}
 use Rattle.pl_runner.specs.Runs.{run_steps}
 use Rattle.pl_words.specs.declared.request.InputFile.TheVariants.{Pipeline as PipelineFile}
-use Rattle.pl_words.specs.Request.{Request, Run, Fmt, Check, Plan, RunRequest}
+use Rattle.pl_words.specs.Request.{Request, Run, Fmt, Check, Plan, Bench, Payouts, RunRequest}
 use Rattle.pl_judge.specs.Contents.{Contents}
-use Rattle.pl_judge.specs.Held.{script_in, pipeline_in, pipeline_held, days_held, world_held}
+use Rattle.pl_judge.specs.Held.{script_in, pipeline_in, pipeline_held, days_held, assets_held, bars_held, payouts_held, world_held}
+use Rattle.pl_judge.specs.Known.{world_known}
+use Rattle.pl_judge.specs.Numbers.{stats_line}
 use Rattle.pl_judge.specs.Planning.{extra_of, reach_at}
 use Rattle.pl_judge.specs.Range.{index_of}
 
@@ -26,7 +31,7 @@ abbrev pub run_text : Contents → RunRequest → List ℕ
 run_text held q =
     let w = world_held held q in
     let p = pipeline_held held in
-    text w p Csv (rows_asked w p q)
+    text w p q.options.format (rows_asked w p q)
 
 -- how many terms and columns a pipeline has
 abbrev pub check_text : Pipeline → List ℕ
@@ -38,15 +43,18 @@ check_text p =
 abbrev pub planned_text : List ℤ → Pipeline → ℕ → List ℕ
 planned_text days p from = plan_text p (extra_of days p from) (reach_at days p from) (bound p.graph (outputs p))
 
--- the table of a run, the canonical text of a script, the counts of a pipeline that keeps the rules, or its plan
+-- the table of a run, the canonical text of a script, the counts of a pipeline that keeps the rules, its plan, the numbers of a run
+-- over a stated world, or the rows of payouts
 unfoldable pub text_of : Contents → Option Request → List ℕ
 text_of held None = []
 text_of held (Some (Run q)) = run_text held q
-text_of held (Some (Fmt name)) = script_text 1 (script_in (held.file PipelineFile)).statements
+text_of held (Some (Fmt name)) = let script = script_in (held.file PipelineFile) in script_text script.version script.statements
 text_of held (Some (Check name)) = check_text (pipeline_in (held.file PipelineFile))
 text_of held (Some (Plan q)) =
     let days = days_held held in
     planned_text days (pipeline_held held) (index_of days q.from.day)
+text_of held (Some (Bench q)) = bench_line q.number
+text_of held (Some (Payouts q)) = payouts_text (days_held held) (assets_held held) (bars_held held) (payouts_held held)
 
 -- a plan of the pipeline over the sessions of a run, for its range
 pub record IsPlanFor (held : Contents) (q : RunRequest) (plan : Planned) : Type 0 where
@@ -54,9 +62,33 @@ pub record IsPlanFor (held : Contents) (q : RunRequest) (plan : Planned) : Type 
   pub from : plan.from ≡ index_of (days_held held) q.from.day
   pub to : plan.to ≡ index_of (days_held held) q.to.day
 
--- The steps of a run, as its plan has them: the sum over the chunks of its sessions, the used terms and the bar columns of
--- each, of how often an adjustment acts on a bar as the window goes from session to session. No other command takes steps.
+-- The steps of a run, as its plan has them over the world that is known by its date: the sum over the chunks of its sessions,
+-- the used terms and the bar columns of each, of how often an adjustment acts on a bar as the window goes from session to
+-- session. A run over a stated world takes those of its own plan, and no other command takes steps.
 abbrev pub TakesSteps : Contents → Option Request → (ℕ → Type 0) → Type 0
 TakesSteps held (Some (Run q)) P =
-    (plan : Planned) × IsPlanFor held q plan × P (run_steps (world_held held q) (pipeline_held held) plan q.options.chunk)
+    (plan : Planned) × IsPlanFor held q plan × P (run_steps (world_known held q) (pipeline_held held) plan q.options.chunk)
+TakesSteps held (Some (Bench q)) P = TakesBenchSteps q.number q.chunk P
 TakesSteps held asked P = P 0
+
+-- The line of the numbers of a table: how many rows it has, the sum of their cells modulo 2 ^ 64, how many arrays are held at once,
+-- which is as many as may be, and its steps, as far as 64 bits count.
+abbrev pub numbers_of : List (List ℕ) → Pipeline → List Row → ℕ → List ℕ
+numbers_of texts p rows steps =
+    let most = bound p.graph (outputs p) in
+    stats_line (length rows) (unsigned_abs (cells texts rows)) most most (cut steps)
+
+abbrev pub table_stats : World → Pipeline → List Row → ℕ → List ℕ
+table_stats w p rows steps = numbers_of w.texts p rows steps
+
+-- of a run, where it is asked for
+abbrev pub run_stats : Contents → RunRequest → ℕ → List ℕ
+run_stats held q steps =
+    let w = world_held held q in
+    let p = pipeline_held held in
+    if q.options.stats then table_stats w p (rows_asked w p q) steps else []
+
+-- With its text a run tells the line of its numbers where it is asked for; nothing else tells numbers.
+abbrev pub TellsNumbers : Contents → Option Request → List ℕ → Type 0
+TellsNumbers held (Some (Run q)) told = TakesSteps held (Some (Run q)) (λ n. told ≡ run_stats held q n)
+TellsNumbers held asked told = told ≡ []

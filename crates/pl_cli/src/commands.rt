@@ -1,32 +1,39 @@
 // The commands. Each reads and judges what it is asked for, and writes its text.
-ghost use Rattle.std.specs.Prelude.{◌≡◌, ◌≤◌, ◌+◌, ◌⊎◌, ℕ, Bool, Option, None, Some, OnOk, IfErr, IsErrOf};
+ghost use Rattle.std.specs.Prelude.{◌≡◌, ◌≤◌, ◌+◌, ◌⊎◌, ℕ, Bool, if◌then◌else◌, [], Option, None, Some, OnOk, IfOk, IfErr, IsErrOf};
 ghost use Rattle.pl_outside.specs.Counts.{Rose};
 ghost use Rattle.pl_outside.specs.Lists.{Lists};
 ghost use Rattle.pl_outside.specs.Taken.{Writes};
 ghost use Rattle.pl_outside.specs.Left.{Leaves, LeavesSink, IsUntouched};
 ghost use Rattle.pl_words.specs.Request.{Run, Fmt, Check, Plan, IsChunk};
 ghost use Rattle.pl_words.specs.Views.{run_of, plan_of};
+ghost use Rattle.pl_judge.specs.Numbers.{stats_line};
 ghost use Rattle.pl_cli.specs.Runs.{observed};
 ghost use Rattle.pl_load.specs.Loads.{IsReady};
 ghost use Rattle.pl_terms.specs.Checked.{pipeline_of};
 ghost use Rattle.pl_cli.specs.Texts.{check_text};
-ghost use Rattle.pl_cli.specs.Commands.{IsEnded, IsCaused, loaded_text, loaded_steps};
+ghost use Rattle.pl_cli.specs.Commands.{IsEnded, IsCaused, loaded_text, loaded_steps, loaded_stats, stats_told};
 
 use itoa::Buffer;
 use pl_fixed::Steps;
-use pl_judge::{Fault, write_pieces};
+use pl_judge::{Fault, Numbers, write_pieces};
 use pl_load::{Loaded, load, load_plan, read_checked, read_script};
 use pl_outside::{AdjustKeeper, Failed, Shelf, Sink, write_bytes};
 use pl_plan_text::plan_text;
-use pl_runner::{RunError, run_table};
-use pl_spec::Format;
+use pl_runner::{RunError, RunReport, run_table};
 use pl_syntax::print;
 use pl_terms::Checked;
-use pl_words::{PlanRequest, RunRequest};
+use pl_words::{Options, PlanRequest, RunRequest};
 use std::alloc::Global;
 use std::sync::ledger::Ledger;
 
-/// Reads and judges what the request names, and writes the table.
+/// What a run tells of itself where it is asked to: its numbers, and how often an adjustment was applied to a buffered bar.
+#[derive(Clone, Copy, Debug, PartialEq, Eq)]
+pub struct Stats {
+    pub numbers: Numbers,
+    pub applied: u64,
+}
+
+/// Reads and judges what the request names, and writes the table. It gives the numbers of the run where they are asked for.
 pub fn run_command<S: Shelf, K: AdjustKeeper, O: Sink, L: Ledger>(
     alloc: Global,
     request: &RunRequest<'_>,
@@ -34,7 +41,7 @@ pub fn run_command<S: Shelf, K: AdjustKeeper, O: Sink, L: Ledger>(
     keeper: &mut K,
     out: &mut O,
     steps: &mut Steps<L>,
-) -> Result<(), Fault>
+) -> Result<Option<Stats>, Fault>
     requires chunk { IsChunk (run_of request.now).options.chunk }
     ensures ended { IsEnded (observed S.holds S.sound K.lists K.sound O.taken O.sound O.room shelf.old keeper.old out.old out.new
         steps.old steps.new) (Some (Run (run_of request.now))) result }
@@ -47,24 +54,26 @@ pub fn run_command<S: Shelf, K: AdjustKeeper, O: Sink, L: Ledger>(
     ensures out { LeavesSink O.sound O.faults out.old out.new }
 {
     let loaded = load(alloc, request, shelf, keeper)?;
-    write_loaded(alloc, &loaded, request.options.chunk as usize, out, steps)
+    write_loaded(alloc, &loaded, &request.options, out, steps)
 }
 
-// Writes the table of what was loaded, computed in chunks of so many sessions.
+// Writes the table of what was loaded, in the chunks and in the form that the options say.
 fn write_loaded<O: Sink, L: Ledger>(
     alloc: Global,
     loaded: &Loaded,
-    chunk: usize,
+    options: &Options<'_>,
     out: &mut O,
     steps: &mut Steps<L>,
-) -> Result<(), Fault>
+) -> Result<Option<Stats>, Fault>
     requires ready { IsReady loaded.now }
-    requires chunk { IsChunk chunk }
-    ensures writes { IsErrOf result Fault.Memory ⊎ Writes O.taken O.faults O.sound O.room out.old out.new (loaded_text loaded.now) result }
+    requires chunk { IsChunk options.now.chunk }
+    ensures writes { IsErrOf result Fault.Memory
+        ⊎ Writes O.taken O.faults O.sound O.room out.old out.new (loaded_text loaded.now options.now.format) result }
+    ensures stats { IfOk result (λ stats. stats_told stats ≡ loaded_stats options.now.stats loaded.now options.now.chunk) }
     ensures fault { IfErr result (λ fault. (fault ≡ Fault.Memory) ⊎ (fault ≡ Fault.Unwritten)) }
     ensures memory { IsErrOf result Fault.Memory → (out.new ≡ out.old) × (steps.new ≡ steps.old) }
-    ensures cost { OnOk result (steps.new ≡ steps.old + loaded_steps loaded.now chunk) }
-    ensures most { steps.new ≤ steps.old + loaded_steps loaded.now chunk }
+    ensures cost { OnOk result (steps.new ≡ steps.old + loaded_steps loaded.now options.now.chunk) }
+    ensures most { steps.new ≤ steps.old + loaded_steps loaded.now options.now.chunk }
 {
     let world = loaded.world.world();
     match run_table(
@@ -72,15 +81,35 @@ fn write_loaded<O: Sink, L: Ledger>(
         &world,
         &loaded.checked,
         &loaded.plan,
-        chunk,
-        Format::Csv,
+        options.chunk as usize,
+        options.format,
         out,
         steps,
     ) {
-        Ok(_) => Ok(()),
+        Ok(report) => Ok(stats_of(options.stats, &report, loaded.plan.bound())),
         Err(RunError::Memory) => Err(Fault::Memory),
         Err(RunError::WriteFault) => Err(Fault::Unwritten),
     }
+}
+
+// The numbers of a run, where they are asked for.
+fn stats_of(asked: bool, report: &RunReport, bound: usize) -> Option<Stats>
+    ensures { stats_told result
+        ≡ (if asked then stats_line report.now.rows report.now.cells report.now.peak bound report.now.applied else []) }
+{
+    if !asked {
+        return None;
+    }
+    let numbers = Numbers {
+        rows: report.rows,
+        cells: report.cells,
+        peak: report.peak,
+        bound,
+    };
+    Some(Stats {
+        numbers,
+        applied: report.applied,
+    })
 }
 
 /// Reads the pipeline file of that name, and writes its canonical text.
@@ -89,7 +118,7 @@ pub fn fmt_command<S: Shelf, O: Sink>(
     name: &str,
     shelf: &mut S,
     out: &mut O,
-) -> Result<(), Fault>
+) -> Result<Option<Stats>, Fault>
     // whatever a keeper tells, and however many steps were counted
     ensures ended { (lists : Option Lists) (sound : Bool) (steps : ℕ) → IsEnded (observed S.holds S.sound (λ _. lists) (λ _. sound)
         O.taken O.sound O.room shelf.old steps out.old out.new steps steps) (Some (Fmt name.now)) result }
@@ -100,8 +129,6 @@ pub fn fmt_command<S: Shelf, O: Sink>(
     ensures out { LeavesSink O.sound O.faults out.old out.new }
 {
     let script = read_script(alloc, shelf, name)?;
-    // a script that was read is of the one version of the language
-    let _version = script.version();
     let text = print(alloc, &script)?;
     write_text(out, &text)
 }
@@ -112,7 +139,7 @@ pub fn check_command<S: Shelf, O: Sink>(
     name: &str,
     shelf: &mut S,
     out: &mut O,
-) -> Result<(), Fault>
+) -> Result<Option<Stats>, Fault>
     // whatever a keeper tells, and however many steps were counted
     ensures ended { (lists : Option Lists) (sound : Bool) (steps : ℕ)
         → IsEnded (observed S.holds S.sound (λ _. lists) (λ _. sound) O.taken O.sound O.room shelf.old steps
@@ -125,7 +152,7 @@ pub fn check_command<S: Shelf, O: Sink>(
 {
     let checked = read_checked(alloc, shelf, name)?;
     match write_counts(&checked, out) {
-        Ok(()) => Ok(()),
+        Ok(()) => Ok(None),
         Err(_) => Err(Fault::Unwritten),
     }
 }
@@ -136,7 +163,7 @@ pub fn plan_command<S: Shelf, O: Sink>(
     request: &PlanRequest<'_>,
     shelf: &mut S,
     out: &mut O,
-) -> Result<(), Fault>
+) -> Result<Option<Stats>, Fault>
     // whatever a keeper tells, and however many steps were counted
     ensures ended { (lists : Option Lists) (sound : Bool) (steps : ℕ)
         → IsEnded (observed S.holds S.sound (λ _. lists) (λ _. sound) O.taken O.sound O.room shelf.old steps
@@ -152,12 +179,14 @@ pub fn plan_command<S: Shelf, O: Sink>(
     write_text(out, &text)
 }
 
-fn write_text<O: Sink>(out: &mut O, text: &[u8]) -> Result<(), Fault>
+// Writes a text of which no numbers are told.
+fn write_text<O: Sink>(out: &mut O, text: &[u8]) -> Result<Option<Stats>, Fault>
     ensures writes { Writes O.taken O.faults O.sound O.room out.old out.new text.now result }
+    ensures quiet { IfOk result (λ stats. stats ≡ None) }
     ensures unwritten { IfErr result (λ fault. fault ≡ Fault.Unwritten) }
 {
     match write_bytes(out, text) {
-        Ok(()) => Ok(()),
+        Ok(()) => Ok(None),
         Err(_) => Err(Fault::Unwritten),
     }
 }

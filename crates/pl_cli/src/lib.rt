@@ -4,6 +4,8 @@
 #![tactic(auto)]
 
 mod commands;
+mod payouts;
+mod stated;
 mod top;
 
 pub use top::run_program;

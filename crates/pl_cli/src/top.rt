@@ -1,16 +1,18 @@
 // The top call.
-ghost use Rattle.std.specs.Prelude.{◌≡◌, ℕ, List, Some, None, map, option_map, string_bytes, IfErr, IfSome};
+ghost use Rattle.std.specs.Prelude.{◌≡◌, ◌++◌, ℕ, List, Some, None, map, option_map, string_bytes, IfErr, IfSome};
 ghost use Rattle.pl_outside.specs.Counts.{Rose};
 ghost use Rattle.pl_outside.specs.Left.{Leaves, LeavesSink, IsUntouched};
 ghost use Rattle.pl_words.specs.Request.{HasChunk, request, adjustments_of};
 ghost use Rattle.pl_words.specs.Views.{request_of};
 ghost use Rattle.pl_judge.specs.Faults.{judged_status, judged_line};
 ghost use Rattle.pl_cli.specs.Runs.{observed, IsRun, IsTold};
-ghost use Rattle.pl_cli.specs.Commands.{IsEnded, IsCaused, fault_of};
+ghost use Rattle.pl_cli.specs.Commands.{IsEnded, IsCaused, fault_of, numbers_told};
 
-use crate::commands::{check_command, fmt_command, plan_command, run_command};
+use crate::commands::{Stats, check_command, fmt_command, plan_command, run_command};
+use crate::payouts::payouts_command;
+use crate::stated::bench_command;
 use pl_fixed::Steps;
-use pl_judge::{Fault, write_line};
+use pl_judge::{Fault, write_line, write_stats};
 use pl_outside::{AdjustKeeper, Shelf, Sink};
 use pl_words::{Request, read_words};
 use std::alloc::Global;
@@ -18,13 +20,18 @@ use std::sync::ledger::Ledger;
 
 /// Runs the program on the words after its name:
 ///
-/// - `run PIPELINE SESSIONS ASSETS BARS FROM TO`, with the options `--labels NAME`, `--adjustments NAME` and `--chunk N` anywhere
-///   among these words, reads the files from the shelf and the adjustments from the keeper, and writes the table of the
-///   sessions FROM to TO to `out`, computed N sessions at a time, 126 where N is not told;
+/// - `run PIPELINE SESSIONS ASSETS BARS FROM TO`, with the options `--labels NAME`, `--adjustments NAME`, `--chunk N`,
+///   `--format csv`, `--format fixed` and `--stats` anywhere among these words, reads the files from the shelf and the
+///   adjustments from the keeper, and writes the table of the sessions FROM to TO to `out`, computed N sessions at a time, 126
+///   where N is not told; with `--stats` it tells its numbers on `err`;
 /// - `fmt PIPELINE` writes the canonical text of the pipeline file;
 /// - `check PIPELINE` writes how many terms and columns its pipeline has;
 /// - `plan PIPELINE SESSIONS FROM TO` writes what is computed for these sessions: a line for each used term, and the least
-///   session whose bars are read.
+///   session whose bars are read;
+/// - `payouts SESSIONS ASSETS BARS PAYOUTS` writes the rows of the payouts file for the table of dividends, or why a payout has
+///   none;
+/// - `bench NUMBER`, with the option `--chunk N`, runs a pipeline of the program's own over the stated world of the number, and
+///   writes the numbers of that run.
 ///
 /// It answers the status:
 ///
@@ -36,9 +43,9 @@ use std::sync::ledger::Ledger;
 /// - 7: the shelf counted a fault; 8: the keeper did; 9: `out` did, and a prefix of the text stands on it;
 /// - 10: memory ran out before the first byte.
 ///
-/// Every status but 0 has its line on `err`. The first fault in the order of work decides: the words, the pipeline file, the
-/// sessions, the assets, the labels, the bars, the adjustments, the range. The parts are handed back, so that a caller can run
-/// again.
+/// Every status but 0 has its line on `err`; status 0 has none but the numbers that are asked for. The first fault in the
+/// order of work decides: the words, the pipeline file, the sessions, the assets, the labels, the bars, the payouts, the
+/// adjustments, the range. The parts are handed back, so that a caller can run again.
 pub fn run_program<S: Shelf, K: AdjustKeeper, O: Sink, E: Sink, L: Ledger>(
     alloc: Global,
     words: &[String],
@@ -50,8 +57,9 @@ pub fn run_program<S: Shelf, K: AdjustKeeper, O: Sink, E: Sink, L: Ledger>(
 ) -> u8
     // Whatever the parts tell, there are contents of the files and tables over which the run ended as the definitions say.
     ensures run { let asked = request (map (λ s. string_bytes s) words.now) in
-        (line : List ℕ) × IsRun (observed S.holds S.sound K.lists K.sound O.taken O.sound O.room shelf.old keeper.old out.old out.new
-        steps.old steps.new) asked result line × IsTold E.taken E.faults E.sound E.room err.old err.new line }
+        (line : List ℕ) × (numbers : List ℕ) × IsRun (observed S.holds S.sound K.lists K.sound O.taken O.sound O.room
+        shelf.old keeper.old out.old out.new steps.old steps.new) asked result line numbers
+        × IsTold E.taken E.faults E.sound E.room err.old err.new (line ++ numbers) }
 
     // The words decide of status 2, unless memory runs out as they are read, and a part that failed has counted it.
     ensures usage { result ≡ 2 → request (map (λ s. string_bytes s) words.now) ≡ None }
@@ -89,7 +97,7 @@ fn answer<S: Shelf, K: AdjustKeeper, O: Sink, L: Ledger>(
     keeper: &mut K,
     out: &mut O,
     steps: &mut Steps<L>,
-) -> Result<(), Fault>
+) -> Result<Option<Stats>, Fault>
     requires chunk { IfSome (option_map (λ q. request_of q.now) asked) HasChunk }
     ensures ended { IsEnded (observed S.holds S.sound K.lists K.sound O.taken O.sound O.room shelf.old keeper.old out.old out.new
         steps.old steps.new) (option_map (λ q. request_of q.now) asked.entry) result }
@@ -110,18 +118,28 @@ fn answer<S: Shelf, K: AdjustKeeper, O: Sink, L: Ledger>(
         Some(Request::Fmt(name)) => fmt_command(alloc, name, shelf, out),
         Some(Request::Check(name)) => check_command(alloc, name, shelf, out),
         Some(Request::Plan(request)) => plan_command(alloc, request, shelf, out),
+        Some(Request::Bench(request)) => bench_command(alloc, request, out, steps),
+        Some(Request::Payouts(request)) => payouts_command(alloc, request, shelf, out),
     }
 }
 
 // Tells how the work ended, and answers its status. What becomes of the line changes nothing.
-fn finish<E: Sink>(ended: Result<(), Fault>, asked: Option<&Request<'_>>, err: &mut E) -> u8
+fn finish<E: Sink>(
+    ended: Result<Option<Stats>, Fault>,
+    asked: Option<&Request<'_>>,
+    err: &mut E,
+) -> u8
     ensures status { result ≡ judged_status (fault_of ended) }
     ensures told { IsTold E.taken E.faults E.sound E.room err.old err.new
-        (judged_line (option_map (λ q. request_of q.now) asked.entry) (fault_of ended)) }
+        (judged_line (option_map (λ q. request_of q.now) asked.entry) (fault_of ended) ++ numbers_told ended) }
     ensures err { LeavesSink E.sound E.faults err.old err.new }
 {
     match ended {
-        Ok(()) => 0,
+        Ok(None) => 0,
+        Ok(Some(stats)) => {
+            let _ = write_stats(err, stats.numbers, stats.applied);
+            0
+        }
         Err(fault) => {
             let _ = write_line(err, asked, fault);
             fault.status()

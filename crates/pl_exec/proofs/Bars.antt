@@ -1,5 +1,5 @@
 -- Windows of bars, by their traversals.
-use Rattle.std.proofs.Common.{◌≡◌, ℕ, zero, suc, ◌+◌, ◌<◌, ◌≤◌, true, false, ℤ, pos, List, length, Some, slice_get, refl, sym, ◌∙◌, ap, subst, arith, All}
+use Rattle.std.proofs.Common.{◌≡◌, ℕ, zero, suc, ◌+◌, ◌<◌, ◌≤◌, true, false, ℤ, pos, List, [], length, Option, None, Some, slice_get, refl, sym, ◌∙◌, ap, subst, arith, All}
 use Rattle.pl_spec.specs.declared.Column.{Column}
 use Rattle.pl_spec.specs.Rounding.{IsCell}
 use Rattle.pl_spec.specs.Window.{bar_window}
@@ -9,15 +9,19 @@ use Rattle.pl_cross.specs.Arrays.{sid_in}
 use Rattle.pl_adjarray.specs.Buffered.{Buffered}
 use Rattle.pl_adjarray.specs.Traversals.{Traversal}
 use Rattle.pl_adjarray.specs.Worlds.{IsWindow}
-use Rattle.pl_values.specs.Arrays.{empty_cell, is_kept, chosen}
+use Rattle.std.specs.Borrow.{Bor}
+use Rattle.pl_values.specs.Arrays.{empty_cell, is_kept, chosen, window_up_to}
 use Rattle.pl_values.specs.Families.{TakesWindows, windowed}
 use Rattle.pl_values.specs.Inputs.{input_window}
 use Rattle.pl_values.specs.Laws.{IsGiven}
 use Rattle.pl_values.proofs.Given.{window-cell, unkept-cell}
 use Rattle.pl_exec.specs.declared.turn.Turn.{Turn}
 use Rattle.pl_exec.specs.declared.windows.Bars.{Bars}
+use Rattle.pl_exec.specs.declared.job.Array.{Array}
+use Rattle.pl_exec.specs.declared.windows.Source.{Source}
+use Rattle.pl_exec.specs.declared.windows.Source.TheVariants.{InNone, InColumn, InTerm}
 use Rattle.pl_exec.specs.Tasks.{assets_in, cell_in, sids_in, window_of_term}
-use Rattle.pl_exec.specs.Jobs.{IsTurn, HasBarsAt, AreBars, buffered, buffer_at, node_at, place_among, place_in, task_at, traversal_at}
+use Rattle.pl_exec.specs.Jobs.{IsColumnLent, IsLent, IsTermLent, IsTurn, HasBarsAt, AreBars, buffered, buffer_at, node_at, place_among, place_in, task_at, traversal_at}
 use Rattle.pl_exec.proofs.Places.{IsFirst, first_place, new_first, sid_of_place}
 use Rattle.pl_exec.proofs.Givens.{node_is, window_kind}
 
@@ -57,18 +61,57 @@ module _ (t : Turn) (is : IsTurn t) (b : Bars) (has : HasBarsAt t.job.now t.term
       ∙ ap (λ (r : Buffered). record { array = r; window = (node_at t).window; session = r.first + (node_at t).window + has.advances }) rows_are
       ∙ ap (λ s. record { array = rows; window = (node_at t).window; session = s }) session_is
 
-  pub column_begun : (place_in b q).array.first + (place_in b q).window ≤ (place_in b q).session
-  column_begun = subst (λ (v : Traversal). v.array.first + v.window ≤ v.session) (sym column_at) (let s = session_is in omega arith)
+  pub column_lent : IsColumnLent t c (place_in b q)
+  column_lent = record {
+    is = column_at;
+    begun = subst (λ (v : Traversal). v.array.first + v.window ≤ v.session) (sym column_at) (let s = session_is in omega arith);
+  }
 
-  pub column_asset : (i : ℕ) → i < assets_in (task_at t) → i < length (place_in b q).array.cols
-  column_asset i h = subst (λ (v : Traversal). i < length v.array.cols) (sym column_at) h
+-- the windows of a bar column's traversal
+module _ (t : Turn) (is : IsTurn t) (c : Column) (v : Traversal) (lent : IsColumnLent t c v) (i : ℕ) (asset : i < assets_in (task_at t)) where
+  pub lent_asset : i < length v.array.cols
+  lent_asset = subst (λ (x : Traversal). i < length x.array.cols) (sym lent.is) asset
 
-  pub column_is : (i : ℕ) (cells : List ℤ) → i < assets_in (task_at t) → IsWindow (place_in b q).array (place_in b q).window i (place_in b q).session cells
+  pub lent_is : (cells : List ℤ) → IsWindow v.array v.window i v.session cells
       → cells ≡ bar_window (task_at t).world c (node_at t).window (sid_in (sids_in (task_at t)) i) (pos t.session)
-  column_is i cells h w =
-      let own = subst (λ (v : Traversal). IsWindow v.array v.window i v.session cells) column_at w in
-      own t.job.now.world.assets.now t.job.now.world.labels.now.rows t.job.now.world.labels.now.texts is.job.made.parts (is.job.task.columns.within i 0 h)
-      ∙ ap (λ a. bar_window (task_at t).world c (node_at t).window a (pos t.session)) (sym (sid_of_place t.job.now.world.assets.now t.job.now.cols.now i h))
+  lent_is cells w =
+      let own = subst (λ (x : Traversal). IsWindow x.array x.window i x.session cells) lent.is w in
+      own t.job.now.world.assets.now t.job.now.world.labels.now.rows t.job.now.world.labels.now.texts is.job.made.parts (is.job.task.columns.within i 0 asset)
+      ∙ ap (λ a. bar_window (task_at t).world c (node_at t).window a (pos t.session)) (sym (sid_of_place t.job.now.world.assets.now t.job.now.cols.now i asset))
+
+-- ---- windows, by where they lie
+
+-- lent for some input: its window
+abbrev pub IsLentWindow : Turn → Source → ℕ → List ℤ → Type 0
+IsLentWindow t s i cells = (o : Option spec.Input) → IsLent t o s
+    → cells ≡ input_window (task_at t).world (task_at t).pipeline (sids_in (task_at t)) (node_at t).window o i t.session
+
+module _ (t : Turn) (i : ℕ) (cells : List ℤ) where
+  pub none_window : cells ≡ [] → IsLentWindow t InNone i cells
+  none_window e None lent = e
+  none_window e (Some (spec.BarColumn c)) lent = absurd lent
+  none_window e (Some (spec.TermInput u)) lent = absurd lent
+
+  pub column_window : (v : Bor Traversal) → IsTurn t → i < assets_in (task_at t) → IsWindow v.now.array v.now.window i v.now.session cells → IsLentWindow t (InColumn v) i cells
+  column_window v is asset w None lent = absurd lent
+  column_window v is asset w (Some (spec.BarColumn c)) lent = lent_is t is c v.now lent i asset cells w
+  column_window v is asset w (Some (spec.TermInput u)) lent = absurd lent
+
+  pub term_window : (a : Array) → ((u : ℕ) → IsTermLent t u a → cells ≡ window_up_to (cell_in (task_at t) u i) (node_at t).window t.session) → IsLentWindow t (InTerm a) i cells
+  term_window a is None lent = absurd lent
+  term_window a is (Some (spec.BarColumn c)) lent = absurd lent
+  term_window a is (Some (spec.TermInput u)) lent = is u lent
+
+-- the input whose windows lie in a traversal or in an array
+pub column_of : (t : Turn) (v : Bor Traversal) (o : Option spec.Input) → IsLent t o (InColumn v) → (c : Column) × IsColumnLent t c v.now
+column_of t v None lent = absurd lent
+column_of t v (Some (spec.BarColumn c)) lent = (c, lent)
+column_of t v (Some (spec.TermInput u)) lent = absurd lent
+
+pub term_of : (t : Turn) (a : Array) (o : Option spec.Input) → IsLent t o (InTerm a) → (u : ℕ) × IsTermLent t u a
+term_of t a None lent = absurd lent
+term_of t a (Some (spec.BarColumn c)) lent = absurd lent
+term_of t a (Some (spec.TermInput u)) lent = (u, lent)
 
 -- ---- what is given over windows
 

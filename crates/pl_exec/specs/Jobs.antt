@@ -22,6 +22,10 @@ use Rattle.std.specs.Borrow.{Bor}
 use Rattle.pl_exec.specs.declared.job.Job.{Job}
 use Rattle.pl_exec.specs.declared.turn.Turn.{Turn}
 use Rattle.pl_exec.specs.declared.windows.Bars.{Bars}
+use Rattle.pl_exec.specs.declared.job.Array.{Array}
+use Rattle.pl_exec.specs.declared.windows.Source.{Source}
+use Rattle.pl_exec.specs.declared.windows.Source.TheVariants.{InNone, InColumn, InTerm}
+use Rattle.pl_exec.specs.declared.windows.Sources.{Sources}
 use Rattle.pl_exec.specs.Slotted.{IsHeld}
 use Rattle.pl_exec.specs.Tasks.{Task, AreColumns, IsArray, assets_in, cell_in, first_row, graph_in, low_in, row_count, sids_in}
 
@@ -199,6 +203,36 @@ HasBars j k n s (Some b) = HasBarsAt j k n s b
 abbrev pub bars_now : Option (Bor Bars) → Option Bars
 bars_now None = None
 bars_now (Some b) = Some b.now
+
+-- ---- where the windows of an input lie
+
+-- the traversal of a bar column that is an input, where it stands on the session
+abbrev pub column_traversal : Turn → Column → Traversal
+column_traversal t c = record { array = buffered t.job.now t.term.0 c t.job.now.cols.now; window = (node_at t).window; session = t.session }
+
+-- in the traversal of its bar column
+pub record IsColumnLent (t : Turn) (c : Column) (v : Traversal) : Type 0 where
+  pub is : v ≡ column_traversal t c
+  pub begun : v.array.first + v.window ≤ v.session
+
+-- in the array of its term
+pub record IsTermLent (t : Turn) (u : ℕ) (a : Array) : Type 0 where
+  pub read : IsRead (task_at t) t.workspace.now t.session (node_at t).window u
+  pub holds : IsArray (task_at t) u a.cells.now
+  pub low : a.low ≡ low_in (task_at t) u
+  pub end : a.low + a.count ≡ t.job.now.to + 1
+
+abbrev pub IsLent : Turn → Option spec.Input → Source → Type 0
+IsLent t None InNone = Unit {0}
+IsLent t (Some (BarColumn c)) (InColumn v) = IsColumnLent t c v.now
+IsLent t (Some (TermInput u)) (InTerm a) = IsTermLent t u a
+IsLent t o s = ⊥
+
+-- those of the three places
+pub record AreLent (t : Turn) (s : Sources) : Type 0 where
+  pub first : IsLent t (slice_get (node_at t).inputs 0) s.first
+  pub second : IsLent t (slice_get (node_at t).inputs 1) s.second
+  pub third : IsLent t (slice_get (node_at t).inputs 2) s.third
 
 -- ---- the slots of bar columns
 

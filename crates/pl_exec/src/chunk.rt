@@ -66,10 +66,13 @@ fn release_one(job: &Job<'_>, t: usize, k: usize, workspace: &mut Workspace)
     requires job { IsJob job.now }
     requires term { k < length (graph_in (task_of job.now)) }
     requires low { t < k + 1 }
-    requires live { AreLive (slot_of job.now.plan.now) (IsArray (task_of job.now)) (left (is_used job.now.plan.now) (last_user job.now.plan.now) k (t)) (k + 1) workspace.old }
-    requires apart { AreApart (slot_of job.now.plan.now) (left (is_used job.now.plan.now) (last_user job.now.plan.now) k 0) (k + 1) }
+    requires live { AreLive (slot_of job.now.plan.now) (IsArray (task_of job.now))
+        (left (is_used job.now.plan.now) (last_user job.now.plan.now) k (t)) (k + 1) workspace.old }
+    requires apart { AreApart (slot_of job.now.plan.now)
+        (left (is_used job.now.plan.now) (last_user job.now.plan.now) k 0) (k + 1) }
     requires counted { live_count workspace.old.slots ≤ workspace.old.peak }
-    ensures live { AreLive (slot_of job.now.plan.now) (IsArray (task_of job.now)) (left (is_used job.now.plan.now) (last_user job.now.plan.now) k (t + 1)) (k + 1) workspace.new }
+    ensures live { AreLive (slot_of job.now.plan.now) (IsArray (task_of job.now))
+        (left (is_used job.now.plan.now) (last_user job.now.plan.now) k (t + 1)) (k + 1) workspace.new }
     ensures len { workspace.new.len ≡ workspace.old.len }
     ensures slots { length workspace.new.slots ≡ length workspace.old.slots }
     ensures peak { workspace.new.peak ≡ workspace.old.peak }
@@ -86,10 +89,13 @@ fn release_one(job: &Job<'_>, t: usize, k: usize, workspace: &mut Workspace)
 fn release_ended(job: &Job<'_>, k: usize, workspace: &mut Workspace)
     requires job { IsJob job.now }
     requires term { k < length (graph_in (task_of job.now)) }
-    requires live { AreLive (slot_of job.now.plan.now) (IsArray (task_of job.now)) (left (is_used job.now.plan.now) (last_user job.now.plan.now) k (0)) (k + 1) workspace.old }
-    requires apart { AreApart (slot_of job.now.plan.now) (left (is_used job.now.plan.now) (last_user job.now.plan.now) k 0) (k + 1) }
+    requires live { AreLive (slot_of job.now.plan.now) (IsArray (task_of job.now))
+        (left (is_used job.now.plan.now) (last_user job.now.plan.now) k (0)) (k + 1) workspace.old }
+    requires apart { AreApart (slot_of job.now.plan.now)
+        (left (is_used job.now.plan.now) (last_user job.now.plan.now) k 0) (k + 1) }
     requires counted { live_count workspace.old.slots ≤ workspace.old.peak }
-    ensures live { AreLive (slot_of job.now.plan.now) (IsArray (task_of job.now)) (left (is_used job.now.plan.now) (last_user job.now.plan.now) k (k + 1)) (k + 1) workspace.new }
+    ensures live { AreLive (slot_of job.now.plan.now) (IsArray (task_of job.now))
+        (left (is_used job.now.plan.now) (last_user job.now.plan.now) k (k + 1)) (k + 1) workspace.new }
     ensures len { workspace.new.len ≡ workspace.old.len }
     ensures slots { length workspace.new.slots ≡ length workspace.old.slots }
     ensures peak { workspace.new.peak ≡ workspace.old.peak }
@@ -111,16 +117,19 @@ fn add_term<'x, L: Ledger>(
 ) -> Filled
     requires job { IsJob job.now }
     requires used { is_used job.now.plan.now term.0 ≡ true }
-    requires live { AreLive (slot_of job.now.plan.now) (IsArray (task_of job.now)) (kept_in (task_of job.now) (term.0)) (term.0) workspace.old }
+    requires live { AreLive (slot_of job.now.plan.now) (IsArray (task_of job.now))
+        (kept_in (task_of job.now) (term.0)) (term.0) workspace.old }
     requires counted { live_count workspace.old.slots ≤ workspace.old.peak }
     requires slots { job.now.plan.now.bound ≤ length workspace.old.slots }
     requires room { HasRoom (task_of job.now) workspace.old.len }
     requires cross { assets_in (task_of job.now) ≤ cross.old }
     requires rows { assets_in (task_of job.now) ≤ rows.old }
-    ensures live { AreLive (slot_of job.now.plan.now) (IsArray (task_of job.now)) (kept_in (task_of job.now) (term.0)) (term.0 + 1) workspace.new }
+    ensures live { AreLive (slot_of job.now.plan.now) (IsArray (task_of job.now))
+        (kept_in (task_of job.now) (term.0)) (term.0 + 1) workspace.new }
     ensures peak { workspace.new.peak ≡ max workspace.old.peak
         (live_count workspace.old.slots + 1 + columns_at (graph_in (task_of job.now)) term.0) }
-    ensures held { result.held ≡ live_count workspace.old.slots + 1 + columns_at (graph_in (task_of job.now)) term.0 }
+    ensures held { result.held ≡ live_count workspace.old.slots + 1
+        + columns_at (graph_in (task_of job.now)) term.0 }
     ensures cost { steps.new ≡ steps.old + term_steps (task_of job.now) term.0 }
     ensures applied { result.applied ≡ cut (term_steps (task_of job.now) term.0) }
     ensures len { workspace.new.len ≡ workspace.old.len }
@@ -146,13 +155,15 @@ fn run_term<'x, L: Ledger>(
 ) -> Filled
     requires job { IsJob job.now }
     requires term { k < length (graph_in (task_of job.now)) }
-    requires live { AreLive (slot_of job.now.plan.now) (IsArray (task_of job.now)) (kept_in (task_of job.now) (k)) (k) workspace.old }
+    requires live { AreLive (slot_of job.now.plan.now) (IsArray (task_of job.now))
+        (kept_in (task_of job.now) (k)) (k) workspace.old }
     requires counted { live_count workspace.old.slots ≤ workspace.old.peak }
     requires slots { job.now.plan.now.bound ≤ length workspace.old.slots }
     requires room { HasRoom (task_of job.now) workspace.old.len }
     requires cross { assets_in (task_of job.now) ≤ cross.old }
     requires rows { assets_in (task_of job.now) ≤ rows.old }
-    ensures live { AreLive (slot_of job.now.plan.now) (IsArray (task_of job.now)) (kept_in (task_of job.now) (k + 1)) (k + 1) workspace.new }
+    ensures live { AreLive (slot_of job.now.plan.now) (IsArray (task_of job.now))
+        (kept_in (task_of job.now) (k + 1)) (k + 1) workspace.new }
     ensures counted { live_count workspace.new.slots ≤ workspace.new.peak }
     ensures peak { workspace.new.peak ≡ max workspace.old.peak (held_in (task_of job.now) k) }
     ensures held { result.held ≡ held_in (task_of job.now) k }
@@ -184,18 +195,25 @@ fn run_terms<'x, L: Ledger>(
     steps: &mut Steps<L>,
 ) -> ChunkReport
     requires job { IsJob job.now }
-    requires live { AreLive (slot_of job.now.plan.now) (IsArray (task_of job.now)) (kept_in (task_of job.now) (0)) (0) workspace.old }
+    requires live { AreLive (slot_of job.now.plan.now) (IsArray (task_of job.now))
+        (kept_in (task_of job.now) (0)) (0) workspace.old }
     requires counted { live_count workspace.old.slots ≤ workspace.old.peak }
     requires slots { job.now.plan.now.bound ≤ length workspace.old.slots }
     requires room { HasRoom (task_of job.now) workspace.old.len }
     requires cross { assets_in (task_of job.now) ≤ cross.old }
     requires rows { assets_in (task_of job.now) ≤ rows.old }
-    ensures live { AreLive (slot_of job.now.plan.now) (IsArray (task_of job.now)) (kept_in (task_of job.now) (length (graph_in (task_of job.now)))) (length (graph_in (task_of job.now))) workspace.new }
+    ensures live { AreLive (slot_of job.now.plan.now) (IsArray (task_of job.now))
+        (kept_in (task_of job.now) (length (graph_in (task_of job.now))))
+        (length (graph_in (task_of job.now))) workspace.new }
     ensures peak { workspace.new.peak ≡ max workspace.old.peak
-        (fold max 0 (map (held_in (task_of job.now)) (range_with_len 0 (length (graph_in (task_of job.now)))))) }
-    ensures held { result.peak ≡ fold max 0 (map (held_in (task_of job.now)) (range_with_len 0 (length (graph_in (task_of job.now))))) }
-    ensures cost { steps.new ≡ steps.old + sum_by (steps_in (task_of job.now)) (range_with_len 0 (length (graph_in (task_of job.now)))) }
-    ensures applied { result.applied ≡ cut (sum_by (steps_in (task_of job.now)) (range_with_len 0 (length (graph_in (task_of job.now))))) }
+        (fold max 0 (map (held_in (task_of job.now))
+        (range_with_len 0 (length (graph_in (task_of job.now)))))) }
+    ensures held { result.peak ≡ fold max 0 (map (held_in (task_of job.now))
+        (range_with_len 0 (length (graph_in (task_of job.now))))) }
+    ensures cost { steps.new ≡ steps.old + sum_by (steps_in (task_of job.now))
+        (range_with_len 0 (length (graph_in (task_of job.now)))) }
+    ensures applied { result.applied ≡ cut (sum_by (steps_in (task_of job.now))
+        (range_with_len 0 (length (graph_in (task_of job.now))))) }
     ensures len { workspace.new.len ≡ workspace.old.len }
     ensures slots { length workspace.new.slots ≡ length workspace.old.slots }
     ensures cross { cross.new ≡ cross.old }
@@ -259,8 +277,10 @@ pub fn execute_chunk<L: Ledger>(
     ensures workspace { workspace.new.peak ≡ max workspace.old.peak
         (bound (pipeline_of checked.now).graph (outputs (pipeline_of checked.now))) }
     ensures peak { result.peak ≡ bound (pipeline_of checked.now).graph (outputs (pipeline_of checked.now)) }
-    ensures applied { result.applied ≡ cut (chunk_steps (task world.now checked.now plan.now chunk.now cols.now)) }
-    ensures cost { steps.new ≡ steps.old + chunk_steps (task world.now checked.now plan.now chunk.now cols.now) }
+    ensures applied { result.applied ≡ cut (chunk_steps
+        (task world.now checked.now plan.now chunk.now cols.now)) }
+    ensures cost { steps.new ≡ steps.old + chunk_steps
+        (task world.now checked.now plan.now chunk.now cols.now) }
     ensures len { workspace.new.len ≡ workspace.old.len }
     ensures slots { length workspace.new.slots ≡ length workspace.old.slots }
     ensures cross { cross.new ≡ cross.old }

@@ -1,5 +1,5 @@
 //! The distinct bar columns among the inputs of a node.
-ghost use Rattle.std.specs.Prelude.{◌≡◌, ◌==◌, ◌≤◌, ◌+◌, ℕ, length, min, filter_map, map, option_map, slice_get};
+ghost use Rattle.std.specs.Prelude.{◌≡◌, ◌≤◌, length, filter_map, map, option_map, slice_get};
 ghost use Rattle.pl_spec.specs.World.{column_number};
 ghost use Rattle.pl_spec.specs.Graph.{contains, input_column};
 ghost use Rattle.pl_terms.specs.Nodes.{input_of, node_of};
@@ -39,18 +39,13 @@ fn has_column(inputs: &[Input], column: Column) -> bool
     }
 }
 
-fn least(a: usize, b: usize) -> usize
-    ensures { result ≡ min a b }
-{
-    if a < b { a } else { b }
-}
-
 /// Is a bar column among the inputs before a place?
 fn is_before(node: &Node, place: usize, column: Column) -> bool
     ensures { result ≡ contains (spec.columns_before (node_of node.now) place) (column_number column) }
 {
     let inputs = inputs_of(node);
-    has_column(&inputs[..least(place, inputs.len())], column)
+    let end = place.min(inputs.len());
+    has_column(&inputs[..end], column)
 }
 
 /// The input in a place, where it is a bar column that no input before it is.
@@ -107,15 +102,5 @@ pub(crate) fn one_new(node: &Node, place: usize) -> usize
 pub(crate) fn column_count(node: &Node) -> usize
     ensures { result ≡ spec.new_first (node_of node.now) }
 {
-    let first = one_new(node, 0);
-    let second = one_new(node, 1);
-    let third = one_new(node, 2);
-    add_three(first, second, third)
-}
-
-fn add_three(first: usize, second: usize, third: usize) -> usize
-    requires { first + (second + third) ≤ 3 }
-    ensures { result ≡ first + (second + third) }
-{
-    first + (second + third)
+    one_new(node, 0) + (one_new(node, 1) + one_new(node, 2))
 }

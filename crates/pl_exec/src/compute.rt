@@ -89,7 +89,8 @@ fn third_column<'x, L: Ledger>(
     ensures array { IsArray (task_of job.now) term.0 own.new }
     ensures slots { workspace.new.slots ≡ workspace.old.slots }
     ensures len { workspace.new.len ≡ workspace.old.len }
-    ensures peak { workspace.new.peak ≡ max workspace.old.peak (live_count workspace.old.slots + new_third (node_of node.now)) }
+    ensures peak { workspace.new.peak ≡ max workspace.old.peak
+        (live_count workspace.old.slots + new_third (node_of node.now)) }
     ensures held { result.held ≡ live_count workspace.old.slots + new_third (node_of node.now) }
     ensures cost { steps.new ≡ steps.old + term_steps (task_of job.now) term.0 }
     ensures applied { result.applied ≡ cut (term_steps (task_of job.now) term.0) }
@@ -158,7 +159,8 @@ fn second_column<'x, L: Ledger>(
     ensures array { IsArray (task_of job.now) term.0 own.new }
     ensures slots { workspace.new.slots ≡ workspace.old.slots }
     ensures len { workspace.new.len ≡ workspace.old.len }
-    ensures peak { workspace.new.peak ≡ max workspace.old.peak (live_count workspace.old.slots + new_second (node_of node.now)) }
+    ensures peak { workspace.new.peak ≡ max workspace.old.peak
+        (live_count workspace.old.slots + new_second (node_of node.now)) }
     ensures held { result.held ≡ live_count workspace.old.slots + new_second (node_of node.now) }
     ensures cost { steps.new ≡ steps.old + term_steps (task_of job.now) term.0 }
     ensures applied { result.applied ≡ cut (term_steps (task_of job.now) term.0) }
@@ -225,7 +227,8 @@ fn first_column<'x, L: Ledger>(
     ensures array { IsArray (task_of job.now) term.0 own.new }
     ensures slots { workspace.new.slots ≡ workspace.old.slots }
     ensures len { workspace.new.len ≡ workspace.old.len }
-    ensures peak { workspace.new.peak ≡ max workspace.old.peak (live_count workspace.old.slots + new_first (node_of node.now)) }
+    ensures peak { workspace.new.peak ≡ max workspace.old.peak
+        (live_count workspace.old.slots + new_first (node_of node.now)) }
     ensures held { result.held ≡ live_count workspace.old.slots + new_first (node_of node.now) }
     ensures cost { steps.new ≡ steps.old + term_steps (task_of job.now) term.0 }
     ensures applied { result.applied ≡ cut (term_steps (task_of job.now) term.0) }
@@ -297,7 +300,8 @@ fn compute_over<'x, L: Ledger>(
     ensures len { workspace.new.len ≡ workspace.old.len }
     ensures peak { workspace.new.peak ≡ max workspace.old.peak
         (live_count workspace.old.slots + columns_at (graph_in (task_of job.now)) term.0) }
-    ensures held { result.held ≡ live_count workspace.old.slots + columns_at (graph_in (task_of job.now)) term.0 }
+    ensures held { result.held ≡ live_count workspace.old.slots
+        + columns_at (graph_in (task_of job.now)) term.0 }
     ensures cost { steps.new ≡ steps.old + term_steps (task_of job.now) term.0 }
     ensures applied { result.applied ≡ cut (term_steps (task_of job.now) term.0) }
     ensures cross { cross.new ≡ cross.old }
@@ -359,7 +363,8 @@ pub(crate) fn compute<'x, L: Ledger>(
     ensures len { workspace.new.len ≡ workspace.old.len }
     ensures peak { workspace.new.peak ≡ max workspace.old.peak
         (live_count workspace.old.slots + columns_at (graph_in (task_of job.now)) term.0) }
-    ensures held { result.held ≡ live_count workspace.old.slots + columns_at (graph_in (task_of job.now)) term.0 }
+    ensures held { result.held ≡ live_count workspace.old.slots
+        + columns_at (graph_in (task_of job.now)) term.0 }
     ensures cost { steps.new ≡ steps.old + term_steps (task_of job.now) term.0 }
     ensures applied { result.applied ≡ cut (term_steps (task_of job.now) term.0) }
     ensures cross { cross.new ≡ cross.old }

@@ -169,7 +169,8 @@ fn bars_row<'t>(
     requires first { length first.old ≡ assets_in (task_at turn.now) }
     requires keep { length keep.old ≡ assets_in (task_at turn.now) }
     requires long { length out.old ≡ assets_in (task_at turn.now) }
-    requires bars { HasBars turn.now.job.now turn.now.term.0 (node_at turn.now) turn.now.session (Some bars.now) }
+    requires bars { HasBars turn.now.job.now turn.now.term.0 (node_at turn.now) turn.now.session
+        (Some bars.now) }
     ensures { IsOut turn.now out.new }
 {
     keep_row(turn, first, keep);

@@ -8,9 +8,9 @@ ghost use Rattle.pl_cross.specs.Arrays.{sid_in};
 ghost use Rattle.pl_values.specs.Arrays.{Fills, IsKeep, chosen, window_up_to};
 ghost use Rattle.pl_values.specs.Inputs.{IsInputRow};
 ghost use Rattle.pl_exec.specs.Tasks.{assets_in, cell_in, sids_in};
-ghost use Rattle.pl_exec.specs.Jobs.{IsKept, IsRead, IsTurn, node_at, task_at};
+ghost use Rattle.pl_exec.specs.Jobs.{IsKept, IsRead, IsTermLent, IsTurn, node_at, task_at};
 
-use crate::job::{Job, array_of, cells_before, input_at, mask_of, window_of};
+use crate::job::{Array, Job, array_of, cells_before, input_at, mask_of, window_of};
 use pl_terms::{Input, Node, TermId};
 use pl_workspace::Workspace;
 
@@ -46,14 +46,15 @@ fn truth_of(holds: bool) -> i64
     if holds { 1 } else { 0 }
 }
 
-// Does the asset in a place exist on the session?
-fn exists(turn: &Turn<'_>, i: usize) -> bool
+// Does the asset in a place exist on the session of the day?
+fn exists(turn: &Turn<'_>, day: i32, i: usize) -> bool
     requires turn { IsTurn turn.now }
+    requires day { slice_get (task_at turn.now).world.days turn.now.session ≡ Some day }
     requires asset { i < assets_in (task_at turn.now) }
-    ensures { result ≡ exists (task_at turn.now).world (sid_in (sids_in (task_at turn.now)) i) (pos turn.now.session) }
+    ensures { result ≡ exists (task_at turn.now).world (sid_in (sids_in (task_at turn.now)) i)
+        (pos turn.now.session) }
 {
     let job = turn.job;
-    let day = job.world.sessions.day(turn.session);
     job.world.assets.exists(job.cols[i] as usize, day)
 }
 
@@ -61,10 +62,13 @@ fn exists(turn: &Turn<'_>, i: usize) -> bool
 fn existing_row(turn: &Turn<'_>, keep: &mut [i64])
     requires turn { IsTurn turn.now }
     requires long { length keep.old ≡ assets_in (task_at turn.now) }
-    ensures { IsKeep (λ i. exists (task_at turn.now).world (sid_in (sids_in (task_at turn.now)) i) (pos turn.now.session)) (assets_in (task_at turn.now)) keep.new }
+    ensures { IsKeep (λ i. exists (task_at turn.now).world (sid_in (sids_in (task_at turn.now)) i)
+        (pos turn.now.session)) (assets_in (task_at turn.now)) keep.new }
 {
+    let job = turn.job;
+    let day = job.world.sessions.day(turn.session);
     for i in 0..keep.len() {
-        keep[i] = truth_of(exists(turn, i));
+        keep[i] = truth_of(exists(turn, day, i));
     }
 }
 
@@ -72,7 +76,8 @@ fn existing_row(turn: &Turn<'_>, keep: &mut [i64])
 fn masked_row(mask: &[i64], keep: &mut [i64])
     requires { length mask.now ≡ length keep.old }
     ensures length { length keep.new ≡ length keep.old }
-    ensures each { (i : ℕ) → i < length keep.old → is_true (get_or keep.new i (pos 0)) ≡ (is_true (get_or keep.old i (pos 0)) && is_true (get_or mask.now i (pos 0))) }
+    ensures each { (i : ℕ) → i < length keep.old → is_true (get_or keep.new i (pos 0))
+        ≡ (is_true (get_or keep.old i (pos 0)) && is_true (get_or mask.now i (pos 0))) }
 {
     for i in 0..keep.len() {
         keep[i] = pick(mask[i], keep[i], 0);
@@ -84,7 +89,8 @@ pub(crate) fn term_row(turn: &Turn<'_>, term: TermId, row: &mut [i64])
     requires turn { IsTurn turn.now }
     requires read { IsRead (task_at turn.now) turn.now.workspace.now turn.now.session 1 term.0 }
     requires long { length row.old ≡ assets_in (task_at turn.now) }
-    ensures { Fills (λ i. cell_in (task_at turn.now) term.0 i turn.now.session) (assets_in (task_at turn.now)) row.new }
+    ensures { Fills (λ i. cell_in (task_at turn.now) term.0 i turn.now.session) (assets_in (task_at turn.now))
+        row.new }
 {
     let array = array_of(turn.job, turn.workspace, term);
     let at = turn.session - array.low;
@@ -122,14 +128,15 @@ pub(crate) fn input_row(turn: &Turn<'_>, place: usize, row: &mut [i64])
 }
 
 /// The cells of a term over the sessions up to this one, as many as the window has.
-pub(crate) fn term_window<'t>(turn: &Turn<'t>, term: TermId, i: usize) -> &'t [i64]
+pub(crate) fn term_window<'t>(turn: &Turn<'_>, array: &Array<'t>, i: usize) -> &'t [i64]
     requires turn { IsTurn turn.now }
-    requires read { IsRead (task_at turn.now) turn.now.workspace.now turn.now.session (node_at turn.now).window term.0 }
+    requires lent { (u : ℕ) × IsTermLent turn.now u array.now }
     requires asset { i < assets_in (task_at turn.now) }
-    ensures value { result.now ≡ window_up_to (cell_in (task_at turn.now) term.0 i) (node_at turn.now).window turn.now.session }
+    ensures value { (u : ℕ) → IsTermLent turn.now u array.now
+        → result.now ≡ window_up_to (cell_in (task_at turn.now) u i) (node_at turn.now).window
+        turn.now.session }
     ensures cells { All IsCell result.now }
 {
-    let array = array_of(turn.job, turn.workspace, term);
     let end = i * array.count + (turn.session - array.low) + 1;
     cells_before(array.cells, end, window_of(turn.node))
 }

@@ -1,4 +1,7 @@
-//! Why a cell has its value: the facts that it rests on, and what it is to check a list of them.
+//! Why a cell has its value: the lines of derivations with their text, and the least session that a value needs.
 #![tactic(auto)]
 
-pub mod laws;
+mod reach;
+
+pub use pl_lines::{CellList, Derivation, Line, LinesError, print_lines, read_lines};
+pub use reach::reach_at;

@@ -1,15 +1,18 @@
 -- The years of days, and the ten bytes of a date.
-use Rattle.std.proofs.Common.{◌≡◌, ℕ, List, length, get_or, ◌+◌, ◌*◌, ◌/◌, ◌%◌, ◌<◌, pos, neg_ℤ, ◌≤ℤ◌, refl, arith}
+use Rattle.std.proofs.Common.{◌≡◌, ℕ, List, length, get_or, ◌+◌, ◌-◌, ◌*◌, ◌/◌, ◌%◌, ◌<◌, ◌≤◌, pos, neg_ℤ, ◌≤ℤ◌, unsigned_abs, refl, ◌∙◌, ap, arith}
 use Rattle.std.proofs.lemmas.Int.{ints, by_lt_z}
 use Rattle.std.proofs.lemmas.Slice.Eq.{text_from_reads}
 use Rattle.jiff_core.specs.declared.civil.date.Date.{Date}
-use Rattle.jiff_core.specs.Calendar.{day_count, IsCivilDate}
+use Rattle.jiff_core.specs.Calendar.{day_count, days_from_civil, IsCivilDate}
 use Rattle.jiff_core.specs.Date.{epoch_day}
 use Rattle.jiff_core.proofs.CalendarLemmas.{days_from_civil-day_count, day_count-lt_year}
 use Rattle.jiff_core.proofs.DateLemmas.{civil}
 use Rattle.jiff_core.proofs.MarchLemmas.{day_count-early, day_count-late}
-use Rattle.pl_spec.specs.Dates.{date_spelling}
+use Rattle.jiff_core.proofs.SignedLemmas.{unsigned_abs-parts}
+use Rattle.pl_spec.specs.Dates.{date_spelling, month_of}
+use Rattle.pl_spec.specs.Periods.{month_number}
 use Rattle.pl_spec.proofs.DatesRead.{date_spelling-bytes}
+use Rattle.pl_spec.proofs.DatesWritten.{year_of-civil, month_of-civil}
 use Rattle.pl_fixed.specs.Pairs.{IsPairAt}
 
 day_count-first : day_count (pos 1900) 1 1 ≡ 4_346_386
@@ -38,6 +41,20 @@ year_late d h =
     let more = day_count-lt_year (pos 2199) 12 31 d.year d.month d.day last_civil d.day_in.0 after in
     absurd (omega (arith, ints, day_count-last)))
     (λ before. before)
+
+months_of : (y m d : ℕ) → 1900 ≤ y → y ≤ 2199 → IsCivilDate (pos y) m d → month_number (days_from_civil (pos y) m d) ≡ 12 * y + (m - 1)
+unfolding month_number
+months_of y m d early late is =
+    let day = days_from_civil (pos y) m d in
+    ap (λ x. 12 * x + (month_of x day - 1)) (year_of-civil y m d early late is) ∙ ap (λ x. 12 * y + (x - 1)) (month_of-civil y m d early late is)
+
+-- the month of a day is that of its date
+pub month_number-date : (d : Date) → pos 1900 ≤ℤ d.year → d.year ≤ℤ pos 2199 → month_number (epoch_day d) ≡ 12 * unsigned_abs d.year + (d.month - 1)
+month_number-date d early late =
+    let y : ℕ = unsigned_abs d.year in
+    let e : d.year ≡ pos y = omega (arith, ints, unsigned_abs-parts d.year) in
+    let is : IsCivilDate (pos y) d.month d.day = rw e at (civil d) in
+    ap (λ year. month_number (days_from_civil year d.month d.day)) e ∙ months_of y d.month d.day (omega (arith, ints)) (omega (arith, ints)) is
 
 -- ten bytes that hold the digits of a date and its dashes are its spelling
 pub date_spelling-pairs : (bytes : List ℕ) (century rest m d : ℕ) → length bytes ≡ 10 → get_or bytes 4 0 ≡ 45 → get_or bytes 7 0 ≡ 45

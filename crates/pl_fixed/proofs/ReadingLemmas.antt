@@ -1,5 +1,5 @@
 -- Decimal texts: what is spelled is read, and what is read is spelled so.
-use Rattle.std.proofs.Common.{◌≡◌, ◌≢◌, ◌⊎◌, ◌↔◌, inl, inr, ℕ, zero, suc, ◌+◌, ◌*◌, ◌^◌, ◌<◌, ◌≤◌, Bool, true, false, ◌&&◌, cond, ◌==◌, List, [], ◌∷◌, ◌++◌, length, take, drop, ℤ, unsigned_abs, Result, Ok, Err, refl, sym, ap, ◌∙◌, arith, nat_lt, min}
+use Rattle.std.proofs.Common.{◌≡◌, ◌≢◌, ◌⊎◌, ◌↔◌, inl, inr, ℕ, zero, suc, ◌+◌, ◌*◌, ◌^◌, ◌<◌, ◌≤◌, Bool, true, false, ◌&&◌, cond, ◌==◌, List, [], ◌∷◌, ◌++◌, length, take, drop, ℤ, pos, neg_ℤ, unsigned_abs, Result, Ok, Err, refl, sym, ap, ◌∙◌, arith, nat_lt, min}
 use Rattle.std.specs.List.{prefix_len}
 use Rattle.std.specs.Char.{is_ascii_digit, digit_value}
 use Rattle.std.specs.Fmt.{sign_text}
@@ -14,6 +14,7 @@ use Rattle.std.proofs.lemmas.List.Folds.{length-prefix_len}
 use Rattle.std.proofs.lemmas.List.Sums.{take_while-cons}
 use Rattle.std.proofs.lemmas.Str.Parse.{digit_from_value}
 use Rattle.pl_spec.specs.Rounding.{LIMIT, MILLION, div_round}
+use Rattle.pl_fixed.proofs.RoundingLemmas.{div_round-multiple, div_round-multiple_neg}
 use Rattle.pl_spec.specs.Decimals.{Decimal, IsDecimal, IsTooLong, IsTooLarge, IsReadAs, millionths, point_text, signed}
 use Rattle.pl_fixed.specs.declared.decimal.DecimalFault.{DecimalFault}
 use Rattle.pl_fixed.specs.declared.decimal.DecimalFault.TheVariants.{Empty, Shape, TooManyDigits, TooLarge}
@@ -274,3 +275,15 @@ in_range-capped d units part scale short digits u p s =
           let same : (units * scale + part) * MILLION ≡ all * MILLION = rw (whole, fraction, s, value) in
           rw (same, s)
     ]
+
+-- ---- what nothing is rounded of
+
+same_millionths : (u q r p : ℕ) → r * p ≡ MILLION → (u * p + q) * MILLION ≡ (u * MILLION + q * r) * p
+same_millionths u q r p e =
+    let some : q * (r * p) ≡ q * MILLION = ap (λ n. q * n) e in
+    grind (arith, some)
+
+pub exact_millionths : (negative : Bool) (u q p r : ℕ) → 0 < p → r * p ≡ MILLION
+    → signed negative (u * MILLION + q * r) ≡ div_round (signed negative ((u * p + q) * MILLION)) p
+exact_millionths false u q p r h e = sym (ap (λ n. div_round (pos n) p) (same_millionths u q r p e) ∙ div_round-multiple (u * MILLION + q * r) p h)
+exact_millionths true u q p r h e = sym (ap (λ n. div_round (neg_ℤ (pos n)) p) (same_millionths u q r p e) ∙ div_round-multiple_neg (u * MILLION + q * r) p h)

@@ -1,6 +1,7 @@
 ghost use Rattle.std.specs.Prelude.{◌≡◌, ◌<◌, ◌+◌, ◌/◌, ◌%◌, ℕ, ℤ, pos, ◌≤ℤ◌, IfSome, length};
 ghost use Rattle.jiff.specs.Words.{epoch_day};
 ghost use Rattle.pl_spec.specs.Dates.{IsDate, IsDay, date_spelling, date_in, date_text};
+ghost use Rattle.pl_spec.specs.Periods.{month_number};
 ghost use Rattle.pl_fixed.specs.Pairs.{IsPairAt};
 
 use jiff::civil::Date;
@@ -104,6 +105,17 @@ fn put_date(day: i32, out: &mut [u8; 10])
         tens(date.day),
         ones(date.day),
     ];
+}
+
+/// The number of the month that a day from 1900-01-01 to 2199-12-31 is of: twelve for each year, and in a year
+/// 0 for January.
+pub fn month_number(day: i32) -> u32
+    requires { IsDay day }
+    ensures value { result ≡ month_number day }
+    ensures few { result < 26_400 }
+{
+    let date = date_of(day);
+    12 * u32::from(date.year as u16) + u32::from(date.month) - 1
 }
 
 fn date_of(day: i32) -> civil::Date

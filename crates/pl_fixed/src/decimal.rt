@@ -92,7 +92,7 @@ fn judge(negative: bool, whole: &[u8], fraction: &[u8]) -> Result<i64, DecimalFa
         negative,
         value_up_to(MOST_UNITS, whole),
         value_up_to(MOST_VALUE, fraction),
-        power_of_ten(fraction.len()),
+        fraction.len(),
     ))
 }
 
@@ -116,8 +116,51 @@ fn power_of_ten(exponent: usize) -> u64
     10u64.pow(exponent as u32)
 }
 
+// The millionths of `units` and `part` of 10^`digits` parts of a unit, rounded once. Of at most six digits nothing
+// is rounded, and nothing divided.
+fn millionths(negative: bool, units: u64, part: u64, digits: usize) -> i128
+    requires units { units ≤ MOST_UNITS }
+    requires part { part ≤ MOST_VALUE }
+    requires digits { digits ≤ 18 }
+    ensures { result ≡ div_round (signed negative ((units * 10 ^ digits + part) * MILLION)) (10 ^ digits) }
+{
+    if digits <= 6 {
+        whole_millionths(negative, units, part, millionths_of_digit(digits))
+    } else {
+        rounded(negative, units, part, power_of_ten(digits))
+    }
+}
+
+// How many millionths the last of so many digits behind the point stands for.
+fn millionths_of_digit(digits: usize) -> u64
+    requires { digits ≤ 6 }
+    ensures value { result * 10 ^ digits ≡ MILLION }
+    ensures bound { result ≤ MILLION }
+{
+    match digits {
+        0 => 1_000_000,
+        1 => 100_000,
+        2 => 10_000,
+        3 => 1_000,
+        4 => 100,
+        5 => 10,
+        _ => 1,
+    }
+}
+
+// The millionths of `units` and of `part` parts of so many millionths each.
+fn whole_millionths(negative: bool, units: u64, part: u64, each: u64) -> i128
+    requires units { units ≤ MOST_UNITS }
+    requires part { part ≤ MOST_VALUE }
+    requires each { each ≤ MILLION }
+    ensures { result ≡ signed negative (units * MILLION + part * each) }
+{
+    let magnitude = units as i128 * 1_000_000 + part as i128 * each as i128;
+    if negative { -magnitude } else { magnitude }
+}
+
 // The millionths of `units` and `part` of `scale` parts of a unit, rounded once.
-fn millionths(negative: bool, units: u64, part: u64, scale: u64) -> i128
+fn rounded(negative: bool, units: u64, part: u64, scale: u64) -> i128
     requires units { units ≤ MOST_UNITS }
     requires part { part ≤ MOST_VALUE }
     requires positive { 0 < scale }

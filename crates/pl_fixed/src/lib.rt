@@ -16,11 +16,11 @@ mod steps;
 mod tests;
 
 pub use cell::{LIM, MISSING, add, div, is_cell, mul, neg, quot, sub, to_cell};
-pub use day::{read_day, write_day};
+pub use day::{month_number, read_day, write_day};
 pub use decimal::{DecimalFault, read_decimal, write_decimal};
 pub use memory::Memory;
 pub use name::is_name;
-pub use pl_spec::Column;
+pub use pl_spec::{Column, Frequency};
 pub use ratio::Ratio;
 pub use rounding::{div_round, isqrt};
 pub use sid::read_sid;

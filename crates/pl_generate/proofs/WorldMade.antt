@@ -2,9 +2,9 @@
 use Rattle.std.proofs.Common.{◌≡◌, ℕ, ◌<◌, length, refl}
 use Rattle.std.specs.Prelude.{All}
 use Rattle.pl_model.specs.declared.owned.OwnedWorld.{OwnedWorld}
-use Rattle.pl_model.specs.Worlds.{AreMadeFor}
+use Rattle.pl_model.specs.Worlds.{owned_world, IsOwned}
 use Rattle.pl_generate.specs.Draws.{behind}
-use Rattle.pl_generate.specs.StatedWorld.{IsStated, owned_world, stated_world}
+use Rattle.pl_generate.specs.StatedWorld.{IsStated, stated_world}
 use Rattle.pl_generate.proofs.Assets.{length-assets}
 use Rattle.pl_generate.proofs.Days.{length-stated_days}
 use Rattle.pl_generate.proofs.SectorRows.{labels-in}
@@ -15,7 +15,7 @@ unfolding stated_world
 world-is number w is = rw (is.sessions, is.assets, is.labels, is.bars, is.adjustments) refl
 
 pub made-for : (number : ℕ) (w : OwnedWorld) → IsStated number w → All (λ x. x.col < length w.assets) w.adjustments
-    → AreMadeFor w.sessions w.assets w.labels.rows w.bars w.adjustments
+    → IsOwned w
 made-for number w is cols =
     let many : length w.assets ≡ 400 = rw is.assets length-assets in
     let long : length w.sessions ≡ 600 = rw is.sessions length-stated_days in

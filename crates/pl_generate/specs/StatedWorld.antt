@@ -147,6 +147,3 @@ pub record IsStated (number : ℕ) (w : OwnedWorld) : Type 0 where
   pub labels : w.labels ≡ stated_labels number
   pub bars : w.bars ≡ stated_bars number
   pub adjustments : w.adjustments ≡ stated_adjustments number
-
-abbrev pub owned_world : OwnedWorld → World
-owned_world w = world_of w.sessions w.assets w.labels.rows w.labels.texts w.bars w.adjustments

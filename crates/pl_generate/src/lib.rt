@@ -6,8 +6,8 @@
 #![tactic(auto)]
 
 ghost use Rattle.std.specs.Prelude.{◌≡◌, IfOk};
-ghost use Rattle.pl_model.specs.Worlds.{AreMadeFor};
-ghost use Rattle.pl_generate.specs.StatedWorld.{IsStated, owned_world, stated_world};
+ghost use Rattle.pl_model.specs.Worlds.{owned_world, IsOwned};
+ghost use Rattle.pl_generate.specs.StatedWorld.{IsStated, stated_world};
 
 mod adjusts;
 mod bars;
@@ -33,8 +33,7 @@ pub fn make_world(alloc: Global, number: u32) -> Result<OwnedWorld, Memory>
     ensures stated { IfOk result (IsStated number) }
     ensures world { IfOk result (λ w. owned_world w ≡ stated_world number) }
     // Its parts were made for its own sessions and assets.
-    ensures made { IfOk result (λ w.
-        AreMadeFor w.sessions w.assets w.labels.rows w.bars w.adjustments) }
+    ensures made { IfOk result IsOwned }
 {
     let sessions = sessions::make_sessions(alloc)?;
     let assets = sessions::make_assets(alloc, &sessions)?;

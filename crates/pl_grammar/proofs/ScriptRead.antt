@@ -1,14 +1,14 @@
 -- Scripts: what the grammar derives the machine reads, what it reads the grammar derives, and it goes on
 -- exactly while some continuation is a script.
-use Rattle.std.proofs.Common.{◌≡◌, ℕ, ℤ, ◌≤◌, Bool, true, false, cond, leb, List, [], ◌∷◌, ◌++◌, Option, Some, None, Result, Ok, Err, refl, sym, ap, subst, ◌∙◌, arith, append_assoc, append-nil}
+use Rattle.std.proofs.Common.{◌≡◌, ℕ, zero, suc, ℤ, pos, ◌≤◌, ◌==◌, Bool, true, false, cond, leb, List, [], ◌∷◌, ◌++◌, Option, Some, None, Result, Ok, Err, refl, sym, ap, subst, ◌∙◌, arith, append_assoc, append-nil}
 use Rattle.std.proofs.lemmas.Bool.{le-leb, leb-true}
-use Rattle.std.proofs.lemmas.Bool.Decides.{Decides-int_eq}
+use Rattle.std.proofs.lemmas.Bool.Decides.{nat_tests}
 use Rattle.std.specs.Ordering.{int_eq}
 use Rattle.pl_grammar.specs.declared.Place.{Place}
 use Rattle.pl_grammar.specs.Tree.{Token, Name, Number, Assign, Semicolon, PipelineWord, LetWord, ColumnWord, ScreenWord, Lexeme, mark, Tree}
 use Rattle.pl_grammar.specs.Grammar.{Derives}
 use Rattle.pl_grammar.specs.Machine.{State, Stop, Deep, first, move, depth, step, run, allowed, finish}
-use Rattle.pl_grammar.specs.Script.{Head, LetHead, ColumnHead, ScreenHead, Statement, HeadRead, let_read, column_read, screen_read, Statements, no_statement, statement, version, Script, script, Viable, Stage, Opening, VersionWanted, VersionGiven, Between, LetWanted, ColumnWanted, AssignWanted, Within, if_version, opening_move, version_move, given_move, between_move, name_move, assign_head, ended, within_move, script_move, stage_depth, stage_allowed, script_step, script_then, script_run, script_finish}
+use Rattle.pl_grammar.specs.Script.{Head, LetHead, ColumnHead, ScreenHead, Statement, HeadRead, let_read, column_read, screen_read, Statements, no_statement, statement, version_of, is_known, is_version, version_or, version_told, Script, script, Viable, Stage, Opening, VersionWanted, VersionGiven, Between, LetWanted, ColumnWanted, AssignWanted, Within, if_version, opening_move, version_move, given_move, between_move, name_move, assign_head, ended, within_move, script_move, stage_depth, stage_allowed, script_step, script_then, script_run, script_finish}
 use Rattle.pl_grammar.proofs.Levels.{cond_true}
 use Rattle.pl_grammar.proofs.Sound.{Has, move_keeps, Keeps}
 use Rattle.pl_grammar.proofs.Viable.{some_name, derives_finish, CanEnd, can_end, has_finish, nowhere, nothing_read, same_state, bound_ok, no_ok}
@@ -107,15 +107,9 @@ statements_read {d = d} (statement p {hs = hs} {ts = ts} {us = us} {h = h} {e = 
     (script_next d (mark p Semicolon) us (Within ps h f.0) (Between (ps ++ (one ∷ []))) _ (ends_statement ps h p f.0 e f.2) (omega arith)
     (statements_read rest (ps ++ (one ∷ [])) ∙ ap (λ y. Ok (Between y)) (append_assoc ps (one ∷ []) ss))))
 
-int_eq_of : (a b : ℤ) → a ≡ b → int_eq a b ≡ true
-int_eq_of a b h = (Decides-int_eq a b).1 h
-
-of_int_eq : (a b : ℤ) → int_eq a b ≡ true → a ≡ b
-of_int_eq a b h = (Decides-int_eq a b).0 h
-
-version_goes : (p : Place) (v : ℤ) → v ≡ version → script_move (mark p (Number v)) VersionWanted ≡ Some VersionGiven
+version_goes : (p : Place) (v : ℤ) → is_version v ≡ true → script_move (mark p (Number v)) VersionWanted ≡ Some VersionGiven
 unfolding script_move
-version_goes p v h = ap if_version (int_eq_of v version h)
+version_goes p v h = ap if_version h
 
 -- what the grammar derives, the machine reads
 pub script_reads : {d : ℕ} {ts : List Lexeme} {ss : List Statement} → Script d ts ss → script_run d ts Opening ≡ Ok (Between ss)
@@ -125,15 +119,24 @@ script_reads {d = d} (script {a = a} {b = b} {c = c} {v = v} {ts = ts} {ss = ss}
     (script_next d (mark b (Number v)) _ VersionWanted VersionGiven _ (version_goes b v h) (omega arith)
     (script_next d (mark c Semicolon) ts VersionGiven (Between []) _ refl (omega arith) (statements_read rest [])))
 
+-- the version that a script tells is one of the language
+pub script_known : {d : ℕ} {ts : List Lexeme} {ss : List Statement} → Script d ts ss → is_known (version_told ts) ≡ true
+unfolding version_told
+script_known (script {v = v} h rest) = kept (version_of v) _ h
+  where
+    kept : (n m : ℕ) → is_known n ≡ true → is_known (version_or n m) ≡ true
+    kept zero m h = absurd (let bad : false ≡ true = h in cc)
+    kept (suc n) m h = let some : (suc n == 0) ≡ false = grind (arith, nat_tests) in rw some h
+
 -- the tokens that the machine has read
 
 data Started : List Lexeme → Type 0 where
-  started : {a b c : Place} {v : ℤ} → v ≡ version → Started (mark a PipelineWord ∷ (mark b (Number v) ∷ (mark c Semicolon ∷ [])))
+  started : {a b c : Place} {v : ℤ} → is_version v ≡ true → Started (mark a PipelineWord ∷ (mark b (Number v) ∷ (mark c Semicolon ∷ [])))
 
 data HasStage (most : ℕ) : Stage → List Lexeme → Type 0 where
   has_nothing : {us : List Lexeme} → us ≡ [] → HasStage most Opening us
   has_pipeline : {a : Place} {us : List Lexeme} → us ≡ mark a PipelineWord ∷ [] → HasStage most VersionWanted us
-  has_version : {a b : Place} {v : ℤ} {us : List Lexeme} → v ≡ version → us ≡ mark a PipelineWord ∷ (mark b (Number v) ∷ []) → HasStage most VersionGiven us
+  has_version : {a b : Place} {v : ℤ} {us : List Lexeme} → is_version v ≡ true → us ≡ mark a PipelineWord ∷ (mark b (Number v) ∷ []) → HasStage most VersionGiven us
   has_statements : {bs ts us : List Lexeme} {ss : List Statement} → Started bs → Statements most ts ss → us ≡ bs ++ ts → HasStage most (Between ss) us
   has_let : (a : Place) {bs ts us : List Lexeme} {ss : List Statement} → Started bs → Statements most ts ss → us ≡ bs ++ (ts ++ (mark a LetWord ∷ [])) → HasStage most (LetWanted ss) us
   has_column : (a : Place) {bs ts us : List Lexeme} {ss : List Statement} → Started bs → Statements most ts ss → us ≡ bs ++ (ts ++ (mark a ColumnWord ∷ [])) → HasStage most (ColumnWanted ss) us
@@ -162,14 +165,14 @@ opening_keeps most us p PipelineWord q = λ room. has_pipeline (ap (λ z. z ++ (
 opening_keeps most us p t q = tt
 
 version_keeps : (most : ℕ) (us : List Lexeme) (a p : Place) (t : Token) → us ≡ mark a PipelineWord ∷ [] → StageKeeps most (version_move t) (us ++ (mark p t ∷ []))
-version_keeps most us a p (Number v) q = by_test (int_eq v version) (of_int_eq v version)
+version_keeps most us a p (Number v) q = by_test (is_version v) (λ h. h)
   where
-    by_test : (b : Bool) → (b ≡ true → v ≡ version) → StageKeeps most (if_version b) (us ++ (mark p (Number v) ∷ []))
+    by_test : (b : Bool) → (b ≡ true → is_version v ≡ true) → StageKeeps most (if_version b) (us ++ (mark p (Number v) ∷ []))
     by_test true h = λ room. has_version (h refl) (ap (λ z. z ++ (mark p (Number v) ∷ [])) q)
     by_test false h = tt
 version_keeps most us a p t q = tt
 
-given_keeps : (most : ℕ) (us : List Lexeme) (a b p : Place) (v : ℤ) (t : Token) → v ≡ version → us ≡ mark a PipelineWord ∷ (mark b (Number v) ∷ []) → StageKeeps most (given_move t) (us ++ (mark p t ∷ []))
+given_keeps : (most : ℕ) (us : List Lexeme) (a b p : Place) (v : ℤ) (t : Token) → is_version v ≡ true → us ≡ mark a PipelineWord ∷ (mark b (Number v) ∷ []) → StageKeeps most (given_move t) (us ++ (mark p t ∷ []))
 given_keeps most us a b p v Semicolon h q = λ room. has_statements (started {a = a} {b = b} {c = p} h) no_statement (ap (λ z. z ++ (mark p Semicolon ∷ [])) q)
 given_keeps most us a b p v t h q = tt
 
@@ -294,7 +297,7 @@ unfolding script_move
 given_ends most = stage_joined most (mark nowhere Semicolon) VersionGiven (Between []) refl (omega arith) (between_ends most [])
 
 version_ends : (most : ℕ) → StageEnds most VersionWanted
-version_ends most = stage_joined most (mark nowhere (Number version)) VersionWanted VersionGiven (version_goes nowhere version refl) (omega arith) (given_ends most)
+version_ends most = stage_joined most (mark nowhere (Number (pos 1000000))) VersionWanted VersionGiven (version_goes nowhere (pos 1000000) refl) (omega arith) (given_ends most)
 
 stage_ends : {most : ℕ} {us : List Lexeme} {s : Stage} → HasStage most s us → StageEnds most s
 unfolding script_move

@@ -1,12 +1,13 @@
 -- Whole scripts: what is read has a canonical text within the limits, and that text derives it.
-use Rattle.std.proofs.Common.{◌≡◌, ℕ, suc, ◌+◌, ◌≤◌, Bool, true, false, ◌&&◌, leb, List, [], ◌∷◌, ◌++◌, length, refl, sym, ap, ap₂, subst, ◌∙◌, arith, length-append}
+use Rattle.std.proofs.Common.{◌≡◌, ℕ, zero, suc, ◌+◌, ◌≤◌, ◌==◌, Bool, true, false, ◌&&◌, leb, List, [], ◌∷◌, ◌++◌, length, refl, sym, ap, ap₂, subst, ◌∙◌, arith, length-append}
 use Rattle.std.proofs.lemmas.Bool.{le-leb, leb-true}
+use Rattle.std.proofs.lemmas.Bool.Decides.{nat_tests}
 use Rattle.pl_grammar.specs.Tree.{Token, Name, Number, LargeNumber, Assign, Semicolon, PipelineWord, LetWord, ColumnWord, Lexeme, mark, Tree}
-use Rattle.pl_grammar.specs.Script.{Head, LetHead, ColumnHead, ScreenHead, Statement, HeadRead, let_read, column_read, screen_read, Statements, no_statement, statement, Script, script}
+use Rattle.pl_grammar.specs.Script.{Head, LetHead, ColumnHead, ScreenHead, Statement, HeadRead, let_read, column_read, screen_read, Statements, no_statement, statement, version_of, is_known, token_version, version_or, version_told, Script, script}
 use Rattle.pl_grammar.specs.Faults.{most_depth, most_tokens, token_counted, token_too_large, IsShort}
 use Rattle.pl_grammar.specs.Printed.{nowhere, here, tree_level, tokens, tree_depth}
 use Rattle.pl_grammar.specs.Places.{SameTokens, same_none, same_next}
-use Rattle.pl_grammar.specs.Whole.{head_tokens, statements_tokens, script_tokens, bare_head, bare_script, tokens_pass, tree_passes, head_passes, is_sound, are_sound}
+use Rattle.pl_grammar.specs.Whole.{head_tokens, statements_tokens, version_number, script_tokens, bare_head, bare_script, tokens_pass, tree_passes, head_passes, is_sound, are_sound}
 use Rattle.pl_grammar.proofs.Sound.{weaken}
 use Rattle.pl_grammar.proofs.Reprint.{level_least}
 use Rattle.pl_grammar.proofs.Canonical.{canonical, shallow, least_place}
@@ -108,9 +109,27 @@ statements_derive p (s ∷ ss) h =
     let x = parts p s a.0 in
     statement nowhere (head_is_read s.head) (weaken (canonical s.tree most_depth x.depth) 1 (level_least s.tree)) (statements_derive p ss a.1)
 
-pub script_derives : (p : Token → Bool) (ss : List Statement) → are_sound p ss ≡ true → Script most_depth (script_tokens ss) ss
+-- a version's number tells it
+pub number_told : (n : ℕ) → is_known n ≡ true → version_of (version_number n) ≡ n
+number_told zero h = absurd (let bad : false ≡ true = h in cc)
+number_told (suc zero) h = refl
+number_told (suc (suc zero)) h = refl
+number_told (suc (suc (suc n))) h =
+    let one : (suc (suc (suc n)) == 1) ≡ false = grind (arith, nat_tests) in
+    let two : (suc (suc (suc n)) == 2) ≡ false = grind (arith, nat_tests) in
+    absurd (let bad : false ≡ true = rw (one, two) at h in cc)
+
+pub script_derives : (p : Token → Bool) (n : ℕ) (ss : List Statement) → is_known n ≡ true → are_sound p ss ≡ true → Script most_depth (script_tokens n ss) ss
 unfolding script_tokens
-script_derives p ss h = script refl (statements_derive p ss h)
+script_derives p n ss k h = script (ap is_known (number_told n k) ∙ k) (statements_derive p ss h)
+
+pub script_told : (n : ℕ) (ss : List Statement) → is_known n ≡ true → version_told (script_tokens n ss) ≡ n
+unfolding script_tokens version_told
+script_told n ss k = ap (λ m. version_or m (version_told (here Semicolon ∷ statements_tokens ss))) (number_told n k) ∙ kept n k _
+  where
+    kept : (n : ℕ) → is_known n ≡ true → (m : ℕ) → version_or n m ≡ n
+    kept zero k m = absurd (let bad : false ≡ true = k in cc)
+    kept (suc n) k m = let some : (suc n == 0) ≡ false = grind (arith, nat_tests) in rw some refl
 
 statements_short : (p : Token → Bool) (ss : List Statement) → are_sound p ss ≡ true → IsShort 0 (statements_tokens ss)
 unfolding statements_tokens are_sound IsShort
@@ -125,11 +144,16 @@ statements_short p (s ∷ ss) h =
     short_join 0 hs (xs ++ (here Semicolon ∷ statements_tokens ss)) (head_inner (head_is_read s.head)) (omega (arith, few))
     (short_join (0 + length hs) xs (here Semicolon ∷ statements_tokens ss) (inner (canonical s.tree most_depth x.depth)) (omega (arith, few)) (omega (arith, few), refl, statements_short p ss a.1))
 
-pub script_short : (p : Token → Bool) (ss : List Statement) → are_sound p ss ≡ true → IsShort 0 (script_tokens ss)
+pub script_short : (p : Token → Bool) (n : ℕ) (ss : List Statement) → are_sound p ss ≡ true → IsShort 0 (script_tokens n ss)
 unfolding script_tokens IsShort
-script_short p ss h = (omega arith, refl, (omega arith, refl, (omega arith, refl, statements_short p ss h)))
+script_short p n ss h = (omega arith, refl, (omega arith, refl, (omega arith, refl, statements_short p ss h)))
 
 -- the same tokens at other places
+
+pub same_told : {ts us : List Lexeme} → SameTokens ts us → version_told us ≡ version_told ts
+unfolding version_told
+same_told same_none = refl
+same_told (same_next {t = t} q s) = ap (version_or (token_version t)) (same_told s)
 
 pub same_short : {ts us : List Lexeme} → SameTokens ts us → (n : ℕ) → IsShort n ts → IsShort n us
 unfolding IsShort

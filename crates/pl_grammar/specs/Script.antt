@@ -1,5 +1,5 @@
 -- A script: its grammar, and the machine that reads it token by token.
-use Rattle.std.specs.Prelude.{ℕ, ℤ, pos, ◌≡◌, Bool, true, false, if◌then◌else◌, nat_le, List, [], ◌∷◌, ◌++◌, Option, Some, None, Result, Ok, Err}
+use Rattle.std.specs.Prelude.{ℕ, ℤ, pos, ◌≡◌, Bool, true, false, ◌||◌, ◌==◌, if◌then◌else◌, nat_le, List, [], ◌∷◌, ◌++◌, Option, Some, None, Result, Ok, Err}
 use Rattle.std.specs.Ordering.{int_eq}
 use Rattle.pl_grammar.specs.declared.Place.{Place}
 use Rattle.pl_grammar.specs.Tree.{Token, Name, Number, Assign, Semicolon, PipelineWord, LetWord, ColumnWord, ScreenWord, Lexeme, mark, Tree}
@@ -29,13 +29,31 @@ pub data Statements : ℕ → List Lexeme → List Statement → Type 0 where
       → HeadRead hs h → Derives d 1 ts e → Statements d us ss
       → Statements d (hs ++ (ts ++ (mark p Semicolon ∷ us))) (record { head = h; tree = e } ∷ ss)
 
--- version 1, in millionths
-abbrev pub version : ℤ
-version = pos 1000000
+-- the version of the language that a number tells, in millionths: 1 or 2, and 0 for no version
+abbrev pub version_of : ℤ → ℕ
+version_of v = if int_eq v (pos 1000000) then 1 else if int_eq v (pos 2000000) then 2 else 0
+
+abbrev pub is_known : ℕ → Bool
+is_known n = (n == 1) || (n == 2)
+
+abbrev pub is_version : ℤ → Bool
+is_version v = is_known (version_of v)
+
+abbrev pub token_version : Token → ℕ
+token_version (Number v) = version_of v
+token_version t = 0
+
+abbrev pub version_or : ℕ → ℕ → ℕ
+version_or n m = if n == 0 then m else n
+
+-- the version that the first of some tokens tells which tells one; a script's first number is its version
+unfoldable pub version_told : List Lexeme → ℕ
+version_told [] = 0
+version_told (mark p t ∷ ts) = version_or (token_version t) (version_told ts)
 
 -- the tokens derive the script with these statements
 pub data Script : ℕ → List Lexeme → List Statement → Type 0 where
-  script : {d : ℕ} {a b c : Place} {v : ℤ} {ts : List Lexeme} {ss : List Statement} → v ≡ version
+  script : {d : ℕ} {a b c : Place} {v : ℤ} {ts : List Lexeme} {ss : List Statement} → is_version v ≡ true
       → Statements d ts ss → Script d (mark a PipelineWord ∷ (mark b (Number v) ∷ (mark c Semicolon ∷ ts))) ss
 
 -- some continuation of the tokens is a script that opens at most d constructs inside one another
@@ -63,7 +81,7 @@ opening_move PipelineWord = Some VersionWanted
 opening_move t = None
 
 abbrev pub version_move : Token → Option Stage
-version_move (Number v) = if_version (int_eq v version)
+version_move (Number v) = if_version (is_version v)
 version_move t = None
 
 abbrev pub given_move : Token → Option Stage

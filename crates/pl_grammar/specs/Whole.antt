@@ -1,11 +1,11 @@
 -- The canonical tokens of whole scripts, what a script's tokens say of its parts, and scripts without their
 -- places.
-use Rattle.std.specs.Prelude.{ℕ, suc, Bool, true, ◌&&◌, nat_le, List, [], ◌∷◌, ◌++◌, length, Option, Some, None, map}
+use Rattle.std.specs.Prelude.{ℕ, suc, ◌*◌, ℤ, pos, Bool, true, ◌&&◌, nat_le, List, [], ◌∷◌, ◌++◌, length, Option, Some, None, map}
 use Rattle.std.specs.List.{list_all}
 use Rattle.pl_grammar.specs.Tree.{Token, Name, Number, Text, Assign, Semicolon, PipelineWord, LetWord, ColumnWord, ScreenWord, Lexeme, mark, Tree, number, text, name, call, prefix, binary, member, method, Args, no_args, arg}
 use Rattle.pl_grammar.specs.Printed.{nowhere, here, tokens, tree_depth}
 use Rattle.pl_grammar.specs.Places.{bare}
-use Rattle.pl_grammar.specs.Script.{Head, LetHead, ColumnHead, ScreenHead, Statement, version}
+use Rattle.pl_grammar.specs.Script.{Head, LetHead, ColumnHead, ScreenHead, Statement}
 use Rattle.pl_grammar.specs.Faults.{most_depth, most_tokens}
 
 abbrev pub head_tokens : Head → List Lexeme
@@ -17,9 +17,13 @@ unfoldable pub statements_tokens : List Statement → List Lexeme
 statements_tokens [] = []
 statements_tokens (s ∷ ss) = head_tokens s.head ++ (tokens s.tree ++ (here Semicolon ∷ statements_tokens ss))
 
+-- a version as a number, in millionths
+abbrev pub version_number : ℕ → ℤ
+version_number n = pos (n * 1000000)
+
 -- the canonical tokens of a script
-unfoldable pub script_tokens : List Statement → List Lexeme
-script_tokens ss = here PipelineWord ∷ (here (Number version) ∷ (here Semicolon ∷ statements_tokens ss))
+unfoldable pub script_tokens : ℕ → List Statement → List Lexeme
+script_tokens n ss = here PipelineWord ∷ (here (Number (version_number n)) ∷ (here Semicolon ∷ statements_tokens ss))
 
 -- scripts without their places
 abbrev pub bare_head : Head → Head

@@ -2,3 +2,4 @@ pub mod Steps
 pub mod Needed
 pub mod Planned
 pub mod Ranges
+pub mod Pieces

@@ -16,7 +16,7 @@ use Rattle.pl_laws.proofs.Uses.{lower, used_terms-complete}
 use Rattle.pl_terms.specs.Checked.{IsChecked}
 use Rattle.pl_terms.specs.Uses.{outputs, is_used}
 use Rattle.pl_planner.proofs.Pipelines.{IsPipeline, is-pipeline}
-use Rattle.pl_planner.proofs.Lows.{needs-back, back-used}
+use Rattle.pl_planner.proofs.Covers.{needs-used}
 use Rattle.pl_planner.specs.Plans.{Planned, IsPlanOf, IsDeepest, IsAsked, low_at, most_rows}
 use Rattle.pl_judge.specs.Planning.{Need, sessions_of, needs, first_of, first_of_all, extra_of, HasRows, is_too_deep}
 use Rattle.pl_judge.proofs.Needed.{IsIn, IsSession, of-term, term-of, in-of-all, all-of-in, all-listed, listed-are}
@@ -67,7 +67,7 @@ module _ (p : Pipeline) (checked : IsChecked p) where
   used-listed t h = used_terms-complete p.graph outs ok.graph t (used-within t h) h
 
   needed-used : (days : List ℤ) (d : ℤ) (t : ℕ) (s : ℤ) → Needs days p.graph outs d t s → is_used p t ≡ true
-  needed-used days d t s h = let b = needs-back days p.graph outs ok d t s h in used-listed t (back-used days p.graph outs ok t b.rows b.back)
+  needed-used days d t s h = used-listed t (needs-used days p.graph outs d t s h)
 
   module _ (days : List ℤ) where
     abbrev list : ℤ → List Need

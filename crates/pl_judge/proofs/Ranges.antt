@@ -1,8 +1,11 @@
 -- The faults of a range.
-use Rattle.std.proofs.Common.{◌≡◌, inl, inr, ℕ, ◌<◌, ◌≤◌, nat_lt, true, false, ℤ, pos, ◌≤ℤ◌, ◌<ℤ◌, List, Some, None, refl, arith}
+use Rattle.std.proofs.Common.{◌≡◌, inl, inr, ℕ, true, false, Option, get_or, ℤ, pos, ◌≤ℤ◌, ◌<ℤ◌, List, Some, None, refl, ◌∙◌, ap, arith}
 use Rattle.std.specs.Int.RustNames.{int_lt}
 use Rattle.std.proofs.lemmas.Int.{ints}
+use Rattle.std.specs.Ordering.{int_eq}
 use Rattle.std.proofs.lemmas.Bool.Decides.{nat_tests}
+use Rattle.std.proofs.lemmas.List.Quantifiers.{position-Some}
+use Rattle.std.proofs.lemmas.Option.{slice_get-get_or}
 use Rattle.pl_spec.specs.Lows.{least_reach}
 use Rattle.pl_spec.specs.Table.{Pipeline}
 use Rattle.pl_terms.specs.Checked.{IsChecked}
@@ -10,33 +13,57 @@ use Rattle.pl_terms.specs.Uses.{outputs}
 use Rattle.pl_planner.specs.declared.plans.PlanError.{PlanError}
 use Rattle.pl_planner.specs.declared.plans.PlanError.TheVariants as errors
 use Rattle.pl_planner.specs.Plans.{Planned, IsPlanOf, IsPlanFault}
-use Rattle.pl_words.specs.declared.request.RangeDate.TheVariants.{From, To}
+use Rattle.pl_words.specs.declared.request.RangeDate.TheVariants.{From, To, AsOf}
 use Rattle.pl_words.specs.Request.{Dated}
 use Rattle.pl_judge.specs.declared.fault.Fault.TheVariants.{NotSession, Backwards}
 use Rattle.pl_judge.specs.Rules.{plan_error}
 use Rattle.pl_judge.specs.Steps.{first_fault}
 use Rattle.pl_judge.specs.Stages.{IsStop}
 use Rattle.pl_judge.specs.Planning.{reach_at}
-use Rattle.pl_judge.specs.Range.{session_of, dates_steps, plan_steps}
+use Rattle.pl_judge.specs.Range.{IsDateOf, session_of, index_asked, is_unknown, are_backwards, dates_steps, plan_steps}
 use Rattle.pl_judge.proofs.Planned.{too-deep, not-deep}
 
 -- ---- the dates
 
-pub no-from : (from to : Dated) (days : List ℤ) → session_of days from.day ≡ None → first_fault (dates_steps from to days) ≡ Some (NotSession From)
-unfolding dates_steps
-no-from from to days f = rw f refl
+module _ (from to : Dated) (as_of : Option Dated) (days : List ℤ) where
+  pub no-from : session_of days from.day ≡ None → first_fault (dates_steps from to as_of days) ≡ Some (NotSession From)
+  unfolding dates_steps
+  no-from f = rw f refl
 
-pub no-to : (from to : Dated) (days : List ℤ) (i : ℕ) → session_of days from.day ≡ Some i → session_of days to.day ≡ None → first_fault (dates_steps from to days) ≡ Some (NotSession To)
-unfolding dates_steps
-no-to from to days i f t = rw (f, t) refl
+  pub no-to : (i : ℕ) → session_of days from.day ≡ Some i → session_of days to.day ≡ None → first_fault (dates_steps from to as_of days) ≡ Some (NotSession To)
+  unfolding dates_steps
+  no-to i f t = rw (f, t) refl
 
-pub backwards : (from to : Dated) (days : List ℤ) (i j : ℕ) → session_of days from.day ≡ Some i → session_of days to.day ≡ Some j → j < i → first_fault (dates_steps from to days) ≡ Some Backwards
-unfolding dates_steps
-backwards from to days i j f t h = let less : nat_lt j i ≡ true = grind (arith, nat_tests) in rw (f, t, less) refl
+  pub no-known : (i j : ℕ) → session_of days from.day ≡ Some i → session_of days to.day ≡ Some j → is_unknown days as_of ≡ true → first_fault (dates_steps from to as_of days) ≡ Some (NotSession AsOf)
+  unfolding dates_steps
+  no-known i j f t u = rw (f, t, u) refl
 
-pub in-order : (from to : Dated) (days : List ℤ) (i j : ℕ) → session_of days from.day ≡ Some i → session_of days to.day ≡ Some j → i ≤ j → first_fault (dates_steps from to days) ≡ None
-unfolding dates_steps
-in-order from to days i j f t h = let less : nat_lt j i ≡ false = grind (arith, nat_tests) in rw (f, t, less) refl
+  pub backwards : (i j : ℕ) (k : Option ℕ) → session_of days from.day ≡ Some i → session_of days to.day ≡ Some j → is_unknown days as_of ≡ false → k ≡ index_asked days as_of
+      → are_backwards i j k ≡ true → first_fault (dates_steps from to as_of days) ≡ Some Backwards
+  unfolding dates_steps
+  backwards i j k f t u e b = let back = rw e at b in rw (f, t, u, back) refl
+
+  pub in-order : (i j : ℕ) (k : Option ℕ) → session_of days from.day ≡ Some i → session_of days to.day ≡ Some j → is_unknown days as_of ≡ false → k ≡ index_asked days as_of
+      → are_backwards i j k ≡ false → first_fault (dates_steps from to as_of days) ≡ None
+  unfolding dates_steps
+  in-order i j k f t u e b = let on = rw e at b in rw (f, t, u, on) refl
+
+-- ---- the date as of which a run is
+
+module _ (date : Option Dated) (d : Dated) (days : List ℤ) (is : date ≡ Some d) where
+  pub known-is : (k : ℕ) → session_of days d.day ≡ Some k → (is_unknown days date ≡ false) × (Some k ≡ index_asked days date)
+  known-is k f = rw (is, f) (refl, refl)
+
+  pub unknown-is : session_of days d.day ≡ None → is_unknown days date ≡ true
+  unknown-is f = rw (is, f) refl
+
+  pub date-of : (k : ℕ) → session_of days d.day ≡ Some k → IsDateOf days (Some k) date
+  date-of k f =
+      let at = position-Some (λ x. int_eq x d.day) days k d.day f in
+      rw is (slice_get-get_or days k d.day at.0 ∙ ap Some (same (get_or days k d.day) at.1))
+    where
+      same : (x : ℤ) → int_eq x d.day ≡ true → x ≡ d.day
+      same x t = grind (arith, ints)
 
 -- ---- the plan
 

@@ -13,6 +13,8 @@ use Rattle.pl_calendar.specs.Days.{sessions_of}
 use Rattle.pl_assets.specs.Assets.{assets_of}
 use Rattle.pl_assets.specs.Labels.{LabelTable, no_labels, labels_of}
 use Rattle.pl_bars.specs.Bars.{bars_of}
+use Rattle.pl_payouts.specs.declared.reading.Dividend.{Dividend}
+use Rattle.pl_payouts.specs.Payouts.{payouts_of}
 use Rattle.pl_adjust.specs.Walk as rows
 use Rattle.pl_adjust.specs.Tables.{adjustments_in}
 use Rattle.pl_syntax.specs.Spells.{Parsed}
@@ -20,7 +22,7 @@ use Rattle.pl_syntax.specs.Said.{Said, Spelled, Faulty, said}
 use Rattle.pl_check.specs.Typed.{typed}
 use Rattle.pl_outside.specs.declared.keeper.Table.{Table}
 use Rattle.pl_outside.specs.declared.keeper.Table.TheVariants.{Splits, Mergers, Dividends}
-use Rattle.pl_words.specs.declared.request.InputFile.TheVariants.{Pipeline as PipelineFile, Sessions, Assets, Labels, Bars}
+use Rattle.pl_words.specs.declared.request.InputFile.TheVariants.{Pipeline as PipelineFile, Sessions, Assets, Labels, Bars, Payouts}
 use Rattle.pl_words.specs.Request.{RunRequest}
 use Rattle.pl_judge.specs.Contents.{Contents}
 
@@ -54,6 +56,9 @@ labels_in assets file = result_unwrap_or (labels_of assets (csv_records (bytes_i
 unfoldable pub bars_in : List ℤ → List AssetRow → Option (List ℕ) → List BarRow
 bars_in days assets file = result_unwrap_or (bars_of days assets (csv_records (bytes_in file))) []
 
+unfoldable pub payouts_in : List AssetRow → Option (List ℕ) → List Dividend
+payouts_in assets file = result_unwrap_or (payouts_of assets (csv_records (bytes_in file))) []
+
 -- the adjustments of three tables, or the first fault of their rows
 abbrev pub adjustments_of_rows : List AssetRow → (Table → List RawAdjust) → Result (List ColumnAdjustment) rows.Fault
 adjustments_of_rows assets rows = adjustments_in assets (rows Splits) (rows Mergers) (rows Dividends)
@@ -70,7 +75,7 @@ abbrev pub adjustments_asked : List AssetRow → Option (List ℕ) → (Table �
 adjustments_asked assets None rows = []
 adjustments_asked assets (Some name) rows = adjustments_from assets rows
 
--- ---- of a run's contents
+-- ---- of the contents of a command
 
 abbrev pub pipeline_held : Contents → Pipeline
 pipeline_held held = pipeline_in (held.file PipelineFile)
@@ -83,6 +88,9 @@ assets_held held = assets_in (held.file Assets)
 
 abbrev pub bars_held : Contents → List BarRow
 bars_held held = bars_in (days_held held) (assets_held held) (held.file Bars)
+
+abbrev pub payouts_held : Contents → List Dividend
+payouts_held held = payouts_in (assets_held held) (held.file Payouts)
 
 -- the world of a run
 abbrev pub world_held : Contents → RunRequest → World

@@ -1,4 +1,4 @@
--- What the input of a command is judged to be. Faults, Contents, Held, Work, Planning, Range and Ends are for every reader; Stages and Rules
+-- What the input of a command is judged to be. Faults, Contents, Held, Work, Planning, Range, Ends and Numbers are for every reader; Stages and Rules
 -- are words of the code's own contracts.
 pub mod Faults
 pub mod Contents
@@ -9,4 +9,6 @@ pub mod Planning
 pub mod Work
 pub mod Range
 pub mod Ends
+pub mod Numbers
 pub mod Stages
+pub mod Known

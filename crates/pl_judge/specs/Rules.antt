@@ -7,6 +7,7 @@ use Rattle.pl_assets.specs.Assets as assets
 use Rattle.pl_assets.specs.Labels as labels
 use Rattle.pl_bars.specs.Bars as bars
 use Rattle.pl_adjust.specs.Walk as rows
+use Rattle.pl_payouts.specs.Payouts as payouts
 use Rattle.pl_grammar.specs.Faults as syntax
 use Rattle.pl_grammar.specs.declared.Place.{Place}
 use Rattle.pl_syntax.specs.declared.error.SyntaxError.{SyntaxError}
@@ -20,7 +21,7 @@ use Rattle.pl_check.specs.declared.fault.CheckError.TheVariants as check_errors
 use Rattle.pl_words.specs.declared.request.InputFile.TheVariants as files
 use Rattle.pl_judge.specs.declared.fault.SyntaxFault.TheVariants as misspelled
 use Rattle.pl_judge.specs.declared.fault.RuleFault.TheVariants as broken
-use Rattle.pl_judge.specs.declared.fault.DataFault.TheVariants.{BadHeader, Empty, BadDate, NotAscending, BadField, StartAfterEnd, DuplicateSid, LabelTooLong, DuplicateStart, NotSession, UnknownSid, Negative, Duplicate}
+use Rattle.pl_judge.specs.declared.fault.DataFault.TheVariants.{BadHeader, Empty, BadDate, NotAscending, BadField, StartAfterEnd, DuplicateSid, LabelTooLong, DuplicateStart, NotSession, UnknownSid, Negative, NotPositive, Duplicate}
 use Rattle.pl_judge.specs.declared.fault.RowFault.TheVariants.{BadEffective, BadRatio}
 use Rattle.pl_judge.specs.declared.fault.Limit.TheVariants as limits
 use Rattle.pl_judge.specs.declared.fault.Fault.{Fault}
@@ -73,6 +74,13 @@ bars_fault line bars.NotSession = Data files.Bars line NotSession
 bars_fault line bars.UnknownSid = Data files.Bars line UnknownSid
 bars_fault line bars.Negative = Data files.Bars line Negative
 bars_fault line bars.Duplicate = Data files.Bars line Duplicate
+
+abbrev pub payouts_fault : ℕ → payouts.Rule → Fault
+payouts_fault line payouts.BadHeader = Data files.Payouts line BadHeader
+payouts_fault line payouts.TooMany = Passed limits.Payouts
+payouts_fault line payouts.BadField = Data files.Payouts line BadField
+payouts_fault line payouts.UnknownSid = Data files.Payouts line UnknownSid
+payouts_fault line payouts.NotPositive = Data files.Payouts line NotPositive
 
 abbrev pub rows_fault : rows.Fault → Fault
 rows_fault rows.TooMany = Passed limits.Adjustments

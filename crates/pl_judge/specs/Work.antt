@@ -8,6 +8,7 @@ use Rattle.pl_calendar.specs.Days.{sessions_of}
 use Rattle.pl_assets.specs.Assets.{assets_of}
 use Rattle.pl_assets.specs.Labels.{labels_of}
 use Rattle.pl_bars.specs.Bars.{bars_of}
+use Rattle.pl_payouts.specs.Payouts.{payouts_of}
 use Rattle.pl_adjust.specs.Walk as rows
 use Rattle.pl_syntax.specs.Spells.{Parsed}
 use Rattle.pl_syntax.specs.Said.{Said, Spelled, Faulty, said}
@@ -16,15 +17,15 @@ use Rattle.pl_check.specs.Typed.{typed}
 use Rattle.pl_outside.specs.declared.keeper.Table.{Table}
 use Rattle.pl_outside.specs.declared.keeper.Table.TheVariants.{Splits, Mergers, Dividends}
 use Rattle.pl_words.specs.declared.request.InputFile.{InputFile}
-use Rattle.pl_words.specs.declared.request.InputFile.TheVariants.{Pipeline as PipelineFile, Sessions, Assets, Labels, Bars}
-use Rattle.pl_words.specs.Request.{Request, Run, Fmt, Check, Plan, RunRequest, PlanRequest}
+use Rattle.pl_words.specs.declared.request.InputFile.TheVariants.{Pipeline as PipelineFile, Sessions, Assets, Labels, Bars, Payouts as PayoutsFile}
+use Rattle.pl_words.specs.Request.{Request, Run, Fmt, Check, Plan, Bench, Payouts, RunRequest, PlanRequest}
 use Rattle.pl_judge.specs.declared.limits.TheConstants.{PIPELINE_CAP, FILE_CAP}
 use Rattle.pl_judge.specs.declared.fault.Limit.{Limit}
 use Rattle.pl_judge.specs.declared.fault.Limit.TheVariants as limits
 use Rattle.pl_judge.specs.declared.fault.Fault.{Fault}
 use Rattle.pl_judge.specs.declared.fault.Fault.TheVariants.{Usage, Passed, Unread}
 use Rattle.pl_judge.specs.Contents.{Contents}
-use Rattle.pl_judge.specs.Rules.{syntax_fault, rule_fault, sessions_fault, assets_fault, labels_fault, bars_fault, rows_fault}
+use Rattle.pl_judge.specs.Rules.{syntax_fault, rule_fault, sessions_fault, assets_fault, labels_fault, bars_fault, payouts_fault, rows_fault}
 use Rattle.pl_judge.specs.Held.{script_in, pipeline_held, days_held, assets_held, adjustments_of_rows}
 use Rattle.pl_judge.specs.Steps.{Step, rule}
 use Rattle.pl_judge.specs.Steps.Source.{Input, Load}
@@ -38,6 +39,7 @@ cap_of Sessions = FILE_CAP
 cap_of Assets = FILE_CAP
 cap_of Labels = FILE_CAP
 cap_of Bars = FILE_CAP
+cap_of PayoutsFile = FILE_CAP
 
 abbrev pub limit_of : InputFile → Limit
 limit_of PipelineFile = limits.Pipeline
@@ -45,6 +47,7 @@ limit_of Sessions = limits.File
 limit_of Assets = limits.File
 limit_of Labels = limits.File
 limit_of Bars = limits.File
+limit_of PayoutsFile = limits.File
 
 -- It is there, it has no more bytes than its cap, and then its rule decides.
 abbrev pub file_fault : InputFile → (List ℕ → Option Fault) → Option (List ℕ) → Option Fault
@@ -85,6 +88,9 @@ labels_rule assets bytes = fault_in labels_fault (labels_of assets (csv_records 
 
 unfoldable pub bars_rule : List ℤ → List AssetRow → List ℕ → Option Fault
 bars_rule days assets bytes = fault_in bars_fault (bars_of days assets (csv_records bytes))
+
+unfoldable pub payouts_rule : List AssetRow → List ℕ → Option Fault
+payouts_rule assets bytes = fault_in payouts_fault (payouts_of assets (csv_records bytes))
 
 abbrev pub fault_of_rows : {A : Type 0} → Result A rows.Fault → Option Fault
 fault_of_rows (Ok x) = None
@@ -132,17 +138,29 @@ data_steps held q =
 abbrev pub run_steps : Contents → RunRequest → List Step
 run_steps held q =
     pipeline_steps (held.file PipelineFile)
-    ++ (data_steps held q ++ range_steps (pipeline_held held) (days_held held) q.from q.to)
+    ++ (data_steps held q ++ range_steps (pipeline_held held) (days_held held) q.from q.to q.options.as_of)
 
 -- the pipeline file, the sessions, and the range
 abbrev pub planning_steps : Contents → PlanRequest → List Step
 planning_steps held q =
     pipeline_steps (held.file PipelineFile)
-    ++ (sessions_step (held.file Sessions) ∷ range_steps (pipeline_held held) (days_held held) q.from q.to)
+    ++ (sessions_step (held.file Sessions) ∷ range_steps (pipeline_held held) (days_held held) q.from q.to None)
 
+-- the sessions, the assets, the bars, and then the payouts
+abbrev pub payouts_steps : Contents → List Step
+payouts_steps held =
+    let days = days_held held in
+    let assets = assets_held held in
+    sessions_step (held.file Sessions) ∷ read_step Assets assets_rule (held.file Assets)
+    ∷ read_step Bars (bars_rule days assets) (held.file Bars)
+    ∷ read_step PayoutsFile (payouts_rule assets) (held.file PayoutsFile) ∷ []
+
+-- A stated world is read from nowhere.
 unfoldable pub work : Contents → Option Request → List Step
 work held None = rule (Some Usage) ∷ []
 work held (Some (Run q)) = run_steps held q
 work held (Some (Fmt name)) = syntax_step (held.file PipelineFile) ∷ []
 work held (Some (Check name)) = pipeline_steps (held.file PipelineFile)
 work held (Some (Plan q)) = planning_steps held q
+work held (Some (Bench q)) = []
+work held (Some (Payouts q)) = payouts_steps held

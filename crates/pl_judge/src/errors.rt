@@ -1,7 +1,7 @@
 // What the errors of the readers and of the checker are to a command.
 ghost use Rattle.std.specs.Prelude.{◌≡◌};
 ghost use Rattle.pl_judge.specs.Stages.{Tells};
-ghost use Rattle.pl_judge.specs.Rules.{told_at, told, sessions_fault, assets_fault, labels_fault, bars_fault, rows_fault, syntax_error, rule_fault, check_error, plan_error};
+ghost use Rattle.pl_judge.specs.Rules.{told_at, told, sessions_fault, assets_fault, labels_fault, bars_fault, payouts_fault, rows_fault, syntax_error, rule_fault, check_error, plan_error};
 
 use crate::{DataFault, Fault, Limit, RowFault, RuleFault, SyntaxFault};
 use pl_adjust::AdjustError;
@@ -10,6 +10,7 @@ use pl_bars::BarsError;
 use pl_calendar::CalendarError;
 use pl_check::{CheckError, CheckFault};
 use pl_fixed::Memory;
+use pl_payouts::PayoutsError;
 use pl_planner::PlanError;
 use pl_syntax::{Place, SyntaxError};
 use pl_words::InputFile;
@@ -132,6 +133,24 @@ impl From<BarsError> for Fault {
             BarsError::Duplicate { line } => faulty(file, line, DataFault::Duplicate),
             BarsError::TooMany { .. } => Fault::Passed(Limit::Bars),
             BarsError::Memory => Fault::Memory,
+        }
+    }
+}
+
+impl From<PayoutsError> for Fault {
+    ghost use Rattle.pl_payouts.specs.Faults as payouts;
+
+    ghost from_gives = { λ error fault. Tells fault (told_at payouts_fault (payouts.fault_of error)) };
+
+    fn from(error: PayoutsError) -> Fault {
+        let file = InputFile::Payouts;
+        match error {
+            PayoutsError::BadHeader => faulty(file, 1, DataFault::BadHeader),
+            PayoutsError::BadField { line } => faulty(file, line, DataFault::BadField),
+            PayoutsError::UnknownSid { line } => faulty(file, line, DataFault::UnknownSid),
+            PayoutsError::NotPositive { line } => faulty(file, line, DataFault::NotPositive),
+            PayoutsError::TooMany { .. } => Fault::Passed(Limit::Payouts),
+            PayoutsError::Memory => Fault::Memory,
         }
     }
 }

@@ -22,6 +22,7 @@ pub enum Limit {
     Labels,
     Bars,
     Adjustments,
+    Payouts,
     /// The extra rows of a term.
     Extra,
 }
@@ -63,6 +64,7 @@ pub enum DataFault {
     NotSession,
     UnknownSid,
     Negative,
+    NotPositive,
     Duplicate,
 }
 
@@ -189,6 +191,7 @@ impl DataFault {
             DataFault::NotSession => "NotSession",
             DataFault::UnknownSid => "UnknownSid",
             DataFault::Negative => "Negative",
+            DataFault::NotPositive => "NotPositive",
             DataFault::Duplicate => "Duplicate",
         }
     }
@@ -221,6 +224,7 @@ impl Limit {
             Limit::Labels => "labels",
             Limit::Bars => "bars",
             Limit::Adjustments => "adjustments",
+            Limit::Payouts => "payouts",
             Limit::Extra => "extra",
         }
     }

@@ -18,7 +18,11 @@ pub fn cap_of(file: InputFile) -> usize
 {
     match file {
         InputFile::Pipeline => PIPELINE_CAP,
-        InputFile::Sessions | InputFile::Assets | InputFile::Labels | InputFile::Bars => FILE_CAP,
+        InputFile::Sessions
+        | InputFile::Assets
+        | InputFile::Labels
+        | InputFile::Bars
+        | InputFile::Payouts => FILE_CAP,
     }
 }
 
@@ -28,8 +32,10 @@ pub fn limit_of(file: InputFile) -> Limit
 {
     match file {
         InputFile::Pipeline => Limit::Pipeline,
-        InputFile::Sessions | InputFile::Assets | InputFile::Labels | InputFile::Bars => {
-            Limit::File
-        }
+        InputFile::Sessions
+        | InputFile::Assets
+        | InputFile::Labels
+        | InputFile::Bars
+        | InputFile::Payouts => Limit::File,
     }
 }

@@ -1,10 +1,12 @@
 // The sessions that are asked for.
-ghost use Rattle.std.specs.Prelude.{◌≡◌, ◌≤◌, ◌<◌, true, length, IfOk, IfErr};
+ghost use Rattle.std.specs.Prelude.{◌≡◌, ◌≤◌, ◌<◌, true, false, length, IfOk, IfErr, IfSome, MatchResult, option_map};
 ghost use Rattle.pl_terms.specs.Checked.{pipeline_of};
 ghost use Rattle.pl_planner.specs.Plans.{IsPlanOf};
 ghost use Rattle.pl_words.specs.Views.{dated_of};
 ghost use Rattle.pl_judge.specs.Planning.{HasRows};
-ghost use Rattle.pl_judge.specs.Range.{dates_steps, plan_steps, index_of};
+ghost use Rattle.pl_judge.specs.declared.fault.Fault.TheVariants.{NotSession};
+ghost use Rattle.pl_words.specs.declared.request.RangeDate.TheVariants.{AsOf};
+ghost use Rattle.pl_judge.specs.Range.{IsDateOf, are_backwards, dates_steps, index_asked, index_of, is_unknown, plan_steps};
 ghost use Rattle.pl_judge.specs.Stages.{StageEnds, IsRisen};
 
 use crate::Fault;
@@ -14,26 +16,36 @@ use pl_terms::Checked;
 use pl_words::{DateWord, RangeDate};
 use std::alloc::Global;
 
-/// The sessions from which and to which rows are written.
+/// The sessions from which and to which rows are written, and the one as of which they are, where one is asked
+/// for.
 #[derive(Clone, Copy, Debug, PartialEq, Eq)]
 pub struct Range {
     pub from: usize,
     pub to: usize,
+    pub as_of: Option<usize>,
 }
 
-/// The range of two dates: both are sessions, in their order.
+/// The range of two dates and of the one as of which rows are asked for: they are sessions, in their order.
 #[tactic(auto, unfolding(crate::specs::Range::dates_steps))]
 pub fn judge_dates(
     from: &DateWord<'_>,
     to: &DateWord<'_>,
+    as_of: Option<DateWord<'_>>,
     sessions: &Sessions,
 ) -> Result<Range, Fault>
     ensures ends { StageEnds true true
-        (dates_steps (dated_of from.now) (dated_of to.now) sessions.now) result }
+        (dates_steps (dated_of from.now) (dated_of to.now) (option_map dated_of as_of.entry) sessions.now) result }
     ensures from { IfOk result (λ range. range.from ≡ index_of sessions.now from.now.day) }
     ensures to { IfOk result (λ range. range.to ≡ index_of sessions.now to.now.day) }
     ensures within { IfOk result (λ range. range.to < length sessions.now) }
     ensures order { IfOk result (λ range. range.from ≤ range.to) }
+    ensures as_of { IfOk result (λ range.
+        range.as_of ≡ index_asked sessions.now (option_map dated_of as_of.entry)) }
+    ensures date { IfOk result (λ range.
+        IsDateOf sessions.now range.as_of (option_map dated_of as_of.entry)) }
+    ensures known { IfOk result (λ range. IfSome range.as_of (λ known. range.to ≤ known)) }
+    ensures known_within { IfOk result (λ range.
+        IfSome range.as_of (λ known. known < length sessions.now)) }
     ensures risen { IfErr result (IsRisen ⊥ ⊥) }
 {
     let Some(from) = sessions.index_of(from.day) else {
@@ -42,10 +54,40 @@ pub fn judge_dates(
     let Some(to) = sessions.index_of(to.day) else {
         return Err(Fault::NotSession(RangeDate::To));
     };
-    if to < from {
+    let as_of = session_asked(as_of, sessions)?;
+    if are_backwards(from, to, as_of) {
         return Err(Fault::Backwards);
     }
-    Ok(Range { from, to })
+    Ok(Range { from, to, as_of })
+}
+
+// The session as of which rows are asked for.
+fn session_asked(date: Option<DateWord<'_>>, sessions: &Sessions) -> Result<Option<usize>, Fault>
+    ensures session { MatchResult result
+        (λ k. (is_unknown sessions.now (option_map dated_of date.entry) ≡ false)
+        × (k ≡ index_asked sessions.now (option_map dated_of date.entry)))
+        (λ fault. (is_unknown sessions.now (option_map dated_of date.entry) ≡ true)
+        × (fault ≡ NotSession AsOf)) }
+    ensures date { IfOk result (λ k. IsDateOf sessions.now k (option_map dated_of date.entry)) }
+    ensures within { IfOk result (λ k. IfSome k (λ known. known < length sessions.now)) }
+{
+    match date {
+        None => Ok(None),
+        Some(date) => match sessions.index_of(date.day) {
+            Some(session) => Ok(Some(session)),
+            None => Err(Fault::NotSession(RangeDate::AsOf)),
+        },
+    }
+}
+
+// Whether the sessions stand against their order.
+fn are_backwards(from: usize, to: usize, as_of: Option<usize>) -> bool
+    ensures { result ≡ are_backwards from to as_of }
+{
+    match as_of {
+        Some(known) => to < from || known < to,
+        None => to < from,
+    }
 }
 
 /// The plan of a pipeline over the sessions of a range.

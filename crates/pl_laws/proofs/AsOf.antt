@@ -62,7 +62,7 @@ all_pass {X} p (x ∷ xs) = here (p x) refl (all_pass p xs)
         first (suc k) d l e rest = rest k d (omega arith)
     here false e rest = rest
 
-slice_get-take : {X : Type 0} (xs : List X) (n i : ℕ) → i < n → slice_get (take n xs) i ≡ slice_get xs i
+pub slice_get-take : {X : Type 0} (xs : List X) (n i : ℕ) → i < n → slice_get (take n xs) i ≡ slice_get xs i
 slice_get-take [] zero i h = absurd (omega arith)
 slice_get-take [] (suc n) i h = refl
 slice_get-take (x ∷ xs) zero i h = absurd (omega arith)

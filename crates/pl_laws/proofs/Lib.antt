@@ -15,3 +15,5 @@ pub mod Chunks
 pub mod Ordinals
 pub mod Tops
 pub mod OneSession
+pub mod Calendars
+pub mod Texts

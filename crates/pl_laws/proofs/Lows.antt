@@ -130,7 +130,7 @@ reaches-rise = record { within = reach-within; rises = reach-rises }
 -- ---- what is computed
 
 -- for a later session of the node no earlier one is read
-reads-rise : (days : List ℤ) → AllPairs (λ a b. a <ℤ b) days → (n : Node) (s e : ℤ) (t : ℕ) (r : ℤ) → s ≤ℤ e → Reads days n e t r → (q : ℤ) × Reads days n s t q × (q ≤ℤ r)
+pub reads-rise : (days : List ℤ) → AllPairs (λ a b. a <ℤ b) days → (n : Node) (s e : ℤ) (t : ℕ) (r : ℤ) → s ≤ℤ e → Reads days n e t r → (q : ℤ) × Reads days n s t q × (q ≤ℤ r)
 reads-rise days rise n s e t r h (Reads.input i at) =
     let up : reads_at days n.kind s ≤ℤ reads_at days n.kind e = reads_at-rises days rise n.kind s e h in
     (before (reads_at days n.kind s) (n.window - 1), Reads.input i at, omega (arith, ints, up))
@@ -299,7 +299,7 @@ part_within absent f size s low h = h
 part_within (column c) f size s low h = omega (arith, ints)
 part_within (node k n x y z m g) f size s low h = (below_least low s (map (λ i. f (before s i)) (downward size)) h).0
 
-reads_at-within : (days : List ℤ) (k : Kind) (d : ℤ) → reads_at days k d ≤ℤ d
+pub reads_at-within : (days : List ℤ) (k : Kind) (d : ℤ) → reads_at days k d ≤ℤ d
 reads_at-within days (Constant cell) d = itself d
 reads_at-within days (Label n) d = itself d
 reads_at-within days (StaticSids sids) d = itself d

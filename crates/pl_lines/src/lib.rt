@@ -7,6 +7,6 @@ mod number;
 mod print;
 mod read;
 
-pub use line::{CellList, Derivation, Line};
+pub use line::{CellList, Derivation, Line, MOST_LINES};
 pub use print::print_lines;
-pub use read::{LinesError, MOST_LINES};
+pub use read::{LinesError, read_lines};

@@ -1,7 +1,7 @@
-ghost use Rattle.std.specs.Prelude.{◌≡◌, ◌<◌, All, Some, length, map, slice_get};
+ghost use Rattle.std.specs.Prelude.{◌≡◌, ◌<◌, ◌≤◌, All, Some, length, map, slice_get};
 ghost use Rattle.pl_spec.specs.Rounding.{IsCell};
 ghost use Rattle.pl_lines.specs.Listed.{line_of};
-ghost use Rattle.pl_lines.specs.Texts.{IsWritable, AreWritable};
+ghost use Rattle.pl_lines.specs.Texts.{IsWritable, AreWritable, MOST_LINES};
 
 use pl_spec::Column;
 use std::marker::Model;
@@ -55,29 +55,33 @@ pub enum Line {
     },
 }
 
-/// A list of lines.
+/// The most lines of a derivation.
+pub const MOST_LINES: usize = 100_000;
+
+/// A list of at most 100,000 lines.
 #[derive(Debug, Drop)]
 pub struct Derivation {
     lines: Vec<Line>,
 }
 
 impl Model for Derivation {
-    ghost use Rattle.std.specs.Prelude.{List, map};
+    ghost use Rattle.std.specs.Prelude.{◌≤◌, List, length, map};
     ghost use Rattle.pl_lines.specs.Lines as spec;
     ghost use Rattle.pl_lines.specs.Listed.{line_of};
-    ghost use Rattle.pl_lines.specs.Texts.{AreWritable};
+    ghost use Rattle.pl_lines.specs.Texts.{AreWritable, MOST_LINES};
 
     ghost Value = { List spec.Line };
 
     ghost view = { λ d. map line_of d.lines.items };
 
-    ghost invariant = { λ d. AreWritable (map line_of d.lines.items) };
+    ghost invariant = { λ d. AreWritable (map line_of d.lines.items) × (length d.lines.items ≤ MOST_LINES) };
 }
 
 impl Derivation {
-    // The derivation of these lines.
-    pub(crate) fn of(lines: Vec<Line>) -> Derivation
-        requires { AreWritable (map line_of lines.items) }
+    /// The derivation of these lines, whose numbers and days have texts.
+    pub fn of(lines: Vec<Line>) -> Derivation
+        requires writable { AreWritable (map line_of lines.items) }
+        requires few { length lines.items ≤ MOST_LINES }
         ensures { result ≡ map line_of lines.items }
     {
         Derivation { lines }
@@ -85,7 +89,8 @@ impl Derivation {
 
     /// How many lines there are.
     pub fn len(&self) -> usize
-        ensures { result ≡ length self.now }
+        ensures length { result ≡ length self.now }
+        ensures few { result ≤ MOST_LINES }
     {
         self.lines.len()
     }

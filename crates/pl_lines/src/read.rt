@@ -5,14 +5,11 @@ ghost use Rattle.pl_lines.specs.Texts.{pieces, column_in, numbers_in, seen_line,
 ghost use Rattle.pl_lines.specs.Listed.{line_of};
 ghost use Rattle.pl_lines.specs.Reading.{behind, bar_line, IsLinesFault};
 
-use crate::line::{CellList, Derivation, Line};
+use crate::line::{CellList, Derivation, Line, MOST_LINES};
 use crate::number::read_number;
 use pl_fixed::{read_day, read_sid};
 use pl_spec::Column;
 use std::alloc::{AllocError, Global};
-
-/// The most lines of a derivation.
-pub const MOST_LINES: usize = 100_000;
 
 /// Why a text is no derivation: its first line, counted from 1, that is none of a derivation's; the first one
 /// past the limit; or want of memory.

@@ -1,5 +1,5 @@
 -- The data of a run, part by part.
-use Rattle.std.proofs.Common.{◌≡◌, ℕ, ℤ, Bool, List, [], ◌∷◌, Option, Some, Result, Ok, Err, refl}
+use Rattle.std.proofs.Common.{◌≡◌, ℕ, ℤ, Bool, List, [], ◌∷◌, Option, Some, None, Result, Ok, Err, refl}
 use Rattle.std.specs.Option.{ForSome}
 use Rattle.pl_spec.specs.declared.AssetRow.{AssetRow}
 use Rattle.pl_spec.specs.declared.BarRow.{BarRow}
@@ -11,7 +11,7 @@ use Rattle.pl_outside.specs.Lists.{Lists}
 use Rattle.pl_outside.specs.declared.keeper.Table.{Table}
 use Rattle.pl_model.specs.declared.owned.OwnedWorld.{OwnedWorld}
 use Rattle.pl_words.specs.declared.request.InputFile.{InputFile}
-use Rattle.pl_words.specs.declared.request.InputFile.TheVariants.{Pipeline, Sessions, Assets, Labels, Bars}
+use Rattle.pl_words.specs.declared.request.InputFile.TheVariants.{Pipeline, Sessions, Assets, Labels, Bars, Payouts}
 use Rattle.pl_words.specs.Request.{RunRequest, Run, name_asked}
 use Rattle.pl_judge.specs.declared.fault.Fault.{Fault}
 use Rattle.pl_judge.specs.Contents.{Contents, AreHeld}
@@ -52,6 +52,7 @@ files_by pipeline sessions assets labels bars Sessions = sessions
 files_by pipeline sessions assets labels bars Assets = assets
 files_by pipeline sessions assets labels bars Labels = labels
 files_by pipeline sessions assets labels bars Bars = bars
+files_by pipeline sessions assets labels bars Payouts = None
 
 abbrev IsTold : Option Files → Option (List ℕ) → Option (List ℕ) → Type 0
 IsTold tells name file = ForSome name (λ n. ForSome tells (λ files. file ≡ files n))
@@ -72,6 +73,7 @@ module _ (tells : Option Files) (lists : Option Lists) (sound keeper : Bool) (q 
   by-file sessions assets labels bars s a l b Assets = a
   by-file sessions assets labels bars s a l b Labels = l
   by-file sessions assets labels bars s a l b Bars = b
+  by-file sessions assets labels bars s a l b Payouts = λ n is. absurd (cc)
 
   are-held : (sessions assets labels bars : Option (List ℕ)) (rows : Table → List RawAdjust)
       → IsTold tells (Some q.sessions) sessions → IsTold tells (Some q.assets) assets → IsTold tells q.options.labels labels → IsTold tells (Some q.bars) bars

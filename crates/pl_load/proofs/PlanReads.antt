@@ -6,7 +6,7 @@ use Rattle.pl_outside.specs.Lists.{Lists}
 use Rattle.pl_terms.specs.Checked.{Parts, pipeline_of}
 use Rattle.pl_planner.specs.Plans.{IsPlanOf}
 use Rattle.pl_words.specs.declared.request.InputFile.{InputFile}
-use Rattle.pl_words.specs.declared.request.InputFile.TheVariants.{Pipeline, Sessions, Assets, Labels, Bars}
+use Rattle.pl_words.specs.declared.request.InputFile.TheVariants.{Pipeline, Sessions, Assets, Labels, Bars, Payouts}
 use Rattle.pl_words.specs.Request.{PlanRequest, Plan, name_asked}
 use Rattle.pl_judge.specs.declared.fault.Fault.{Fault}
 use Rattle.pl_judge.specs.Contents.{Contents, AreHeld}
@@ -37,6 +37,7 @@ module _ (tells : Option Files) (sound : Bool) (q : PlanRequest) where
   files pipeline sessions Assets = None
   files pipeline sessions Labels = None
   files pipeline sessions Bars = None
+  files pipeline sessions Payouts = None
 
   abbrev two : Option (List ℕ) → Option (List ℕ) → Contents
   two pipeline sessions = record { file = files pipeline sessions; rows = λ t. [] }
@@ -48,6 +49,7 @@ module _ (tells : Option Files) (sound : Bool) (q : PlanRequest) where
   by-file pipeline sessions p s Assets = λ n is. absurd (cc)
   by-file pipeline sessions p s Labels = λ n is. absurd (cc)
   by-file pipeline sessions p s Bars = λ n is. absurd (cc)
+  by-file pipeline sessions p s Payouts = λ n is. absurd (cc)
 
   are-held : (pipeline sessions : Option (List ℕ)) → IsTold q.pipeline pipeline → IsTold q.sessions sessions
       → (lists : Option Lists) → AreHeld tells lists (Some (Plan q)) (two pipeline sessions)
@@ -76,7 +78,7 @@ module _ (tells : Option Files) (sound : Bool) (q : PlanRequest) where
       }
 
   pub no-range : {T : Type 0} (c : Parts) (days : List ℤ) (fault : Fault) → ScriptRead (Ok c) → DaysRead (Ok days)
-      → StageEnds {T = T} true true (dates_steps q.from q.to days) (Err fault) → IsPlanLoad tells sound q (Err fault)
+      → StageEnds {T = T} true true (dates_steps q.from q.to None days) (Err fault) → IsPlanLoad tells sound q (Err fault)
   no-range c days fault h s r =
       record {
         held = two h.file s.file;
@@ -87,7 +89,7 @@ module _ (tells : Option Files) (sound : Bool) (q : PlanRequest) where
       }
 
   pub no-plan : {T U : Type 0} (c : Parts) (days : List ℤ) (x : T) (from to : ℕ) (fault : Fault) → ScriptRead (Ok c) → DaysRead (Ok days)
-      → StageEnds true true (dates_steps q.from q.to days) (Ok x) → from ≡ index_of days q.from.day → to ≡ index_of days q.to.day
+      → StageEnds true true (dates_steps q.from q.to None days) (Ok x) → from ≡ index_of days q.from.day → to ≡ index_of days q.to.day
       → StageEnds {T = U} true true (plan_steps (pipeline_of c) days from to) (Err fault) → IsPlanLoad tells sound q (Err fault)
   no-plan c days x from to fault h s r at until e =
       record {
@@ -99,7 +101,7 @@ module _ (tells : Option Files) (sound : Bool) (q : PlanRequest) where
       }
 
   pub all-planned : {T U : Type 0} (l : PlannedPipeline) (days : List ℤ) (x : T) (y : U) (from to : ℕ) → ScriptRead (Ok l.checked) → DaysRead (Ok days)
-      → StageEnds true true (dates_steps q.from q.to days) (Ok x) → from ≡ index_of days q.from.day → to ≡ index_of days q.to.day
+      → StageEnds true true (dates_steps q.from q.to None days) (Ok x) → from ≡ index_of days q.from.day → to ≡ index_of days q.to.day
       → StageEnds true true (plan_steps (pipeline_of l.checked) days from to) (Ok y) → IsPlanOf days (pipeline_of l.checked) l.plan
       → HasRows days (pipeline_of l.checked) l.plan → l.plan.from ≡ from
       → IsPlanLoad tells sound q (Ok l)

@@ -1,25 +1,27 @@
 -- A run as a whole: the pipeline file, the data, and the range.
-use Rattle.std.proofs.Common.{◌≡◌, ℕ, Bool, true, List, Option, Some, Result, Ok, Err, refl}
+use Rattle.std.proofs.Common.{◌≡◌, inr, ℕ, ◌≤◌, Bool, true, List, Option, Some, IfSome, Result, Ok, Err, refl}
 use Rattle.std.specs.Option.{ForSome}
 use Rattle.pl_outside.specs.Files.{Files}
 use Rattle.pl_outside.specs.Lists.{Lists}
 use Rattle.pl_model.specs.declared.owned.OwnedWorld.{OwnedWorld}
 use Rattle.pl_terms.specs.Checked.{Parts, pipeline_of}
 use Rattle.pl_words.specs.declared.request.InputFile.{InputFile}
-use Rattle.pl_words.specs.declared.request.InputFile.TheVariants.{Pipeline, Sessions, Assets, Labels, Bars}
+use Rattle.pl_words.specs.declared.request.InputFile.TheVariants.{Pipeline, Sessions, Assets, Labels, Bars, Payouts}
 use Rattle.pl_planner.specs.Plans.{IsPlanOf}
 use Rattle.pl_words.specs.Request.{RunRequest, Run, name_asked}
 use Rattle.pl_judge.specs.declared.fault.Fault.{Fault}
+use Rattle.pl_judge.specs.declared.fault.Fault.TheVariants.{Memory}
 use Rattle.pl_judge.specs.Contents.{Contents, AreHeld}
-use Rattle.pl_judge.specs.Held.{pipeline_in}
+use Rattle.pl_judge.specs.Held.{pipeline_in, days_held, world_held}
 use Rattle.pl_judge.specs.Work.{pipeline_steps, data_steps}
-use Rattle.pl_judge.specs.Range.{dates_steps, plan_steps, index_of}
+use Rattle.pl_judge.specs.Range.{IsDateOf, dates_steps, plan_steps, index_asked, index_of}
 use Rattle.pl_judge.specs.Stages.{StageEnds}
 use Rattle.pl_judge.proofs.Steps.{stage-stops, stage-goes_on, stage-done, stage-weaker, stage-over, always}
 use Rattle.pl_load.specs.declared.loading.Loaded.{Loaded}
 use Rattle.pl_load.specs.Reads.{IsRead}
-use Rattle.pl_load.specs.Loads.{IsData, IsLoad}
+use Rattle.pl_load.specs.Loads.{IsData, IsKnown, IsLoad}
 use Rattle.pl_load.proofs.FileReads.{held_under, held-told}
+use Rattle.pl_load.proofs.KnownWorlds.{world-known, shown-same}
 use Rattle.pl_load.proofs.TableReads.{listed_under, listed-told}
 
 abbrev pub PipelineRead : Option Files → Bool → RunRequest → Result Parts Fault → Type 0
@@ -32,6 +34,7 @@ file_with pipeline file Sessions = file Sessions
 file_with pipeline file Assets = file Assets
 file_with pipeline file Labels = file Labels
 file_with pipeline file Bars = file Bars
+file_with pipeline file Payouts = file Payouts
 
 abbrev held_with : Option (List ℕ) → Contents → Contents
 held_with pipeline held = record { file = file_with pipeline held.file; rows = held.rows }
@@ -48,6 +51,7 @@ module _ (tells : Option Files) (lists : Option Lists) (sound keeper : Bool) (q 
   by-file pipeline held p h Assets = h.files_held Assets
   by-file pipeline held p h Labels = h.files_held Labels
   by-file pipeline held p h Bars = h.files_held Bars
+  by-file pipeline held p h Payouts = h.files_held Payouts
 
   are-held : (pipeline : Option (List ℕ)) (held : Contents) → ForSome (Some q.pipeline) (λ n. ForSome tells (λ told. pipeline ≡ told n)) → AreHeld tells lists (Some (Run q)) held
       → AreHeld tells lists (Some (Run q)) (held_with pipeline held)
@@ -80,7 +84,7 @@ module _ (tells : Option Files) (lists : Option Lists) (sound keeper : Bool) (q 
       }
 
   pub no-dates : {T : Type 0} (c : Parts) (w : OwnedWorld) (fault : Fault) → PipelineRead tells sound q (Ok c) → IsData tells lists sound keeper q (Ok w)
-      → StageEnds {T = T} true true (dates_steps q.from q.to w.sessions) (Err fault) → IsLoad tells lists sound keeper q (Err fault)
+      → StageEnds {T = T} true true (dates_steps q.from q.to q.options.as_of w.sessions) (Err fault) → IsLoad tells lists sound keeper q (Err fault)
   no-dates c w fault h d r =
       record {
         held = held_with h.file d.held;
@@ -92,7 +96,7 @@ module _ (tells : Option Files) (lists : Option Lists) (sound keeper : Bool) (q 
 
   pub no-plan : {T U : Type 0} (c : Parts) (w : OwnedWorld) (x : T) (from to : ℕ) (fault : Fault) → PipelineRead tells sound q (Ok c)
       → IsData tells lists sound keeper q (Ok w)
-      → StageEnds true true (dates_steps q.from q.to w.sessions) (Ok x) → from ≡ index_of w.sessions q.from.day → to ≡ index_of w.sessions q.to.day
+      → StageEnds true true (dates_steps q.from q.to q.options.as_of w.sessions) (Ok x) → from ≡ index_of w.sessions q.from.day → to ≡ index_of w.sessions q.to.day
       → StageEnds {T = U} true true (plan_steps (pipeline_of c) w.sessions from to) (Err fault) → IsLoad tells lists sound keeper q (Err fault)
   no-plan c w x from to fault h d r at until e =
       record {
@@ -103,12 +107,22 @@ module _ (tells : Option Files) (lists : Option Lists) (sound keeper : Bool) (q 
         loaded = tt;
       }
 
-  pub all-loaded : {T U : Type 0} (l : Loaded) (x : T) (y : U) (from to : ℕ) → PipelineRead tells sound q (Ok l.checked) → IsData tells lists sound keeper q (Ok l.world)
-      → StageEnds true true (dates_steps q.from q.to l.world.sessions) (Ok x) → from ≡ index_of l.world.sessions q.from.day → to ≡ index_of l.world.sessions q.to.day
-      → StageEnds true true (plan_steps (pipeline_of l.checked) l.world.sessions from to) (Ok y)
-      → IsPlanOf l.world.sessions (pipeline_of l.checked) l.plan → l.plan.from ≡ from → l.plan.to ≡ to
+  pub no-room : (c : Parts) (w : OwnedWorld) → PipelineRead tells sound q (Ok c) → IsData tells lists sound keeper q (Ok w) → IsLoad tells lists sound keeper q (Err Memory)
+  no-room c w h d =
+      record {
+        held = held_with h.file d.held;
+        are_held = are-held h.file d.held h.is_told d.are_held;
+        ends = record { passed = tt; stopped = inr tt };
+        loaded = tt;
+      }
+
+  pub all-loaded : {T U : Type 0} (l : Loaded) (w : OwnedWorld) (x : T) (y : U) (from to : ℕ) (session : Option ℕ) → PipelineRead tells sound q (Ok l.checked) → IsData tells lists sound keeper q (Ok w)
+      → StageEnds true true (dates_steps q.from q.to q.options.as_of w.sessions) (Ok x) → from ≡ index_of w.sessions q.from.day → to ≡ index_of w.sessions q.to.day
+      → session ≡ index_asked w.sessions q.options.as_of → IsDateOf w.sessions session q.options.as_of → IfSome session (λ d. to ≤ d)
+      → StageEnds true true (plan_steps (pipeline_of l.checked) w.sessions from to) (Ok y)
+      → IsPlanOf w.sessions (pipeline_of l.checked) l.plan → l.plan.from ≡ from → l.plan.to ≡ to → IsKnown w session l.world
       → IsLoad tells lists sound keeper q (Ok l)
-  all-loaded l x y from to h d r at until e plan first last =
+  all-loaded l w x y from to session h d r at until k date last e plan first end known =
       record {
         held = held_with h.file d.held;
         are_held = are-held h.file d.held h.is_told d.are_held;
@@ -116,9 +130,10 @@ module _ (tells : Option Files) (lists : Option Lists) (sound keeper : Bool) (q 
             (stage-goes_on h.ends (stage-goes_on (stage-over (same-steps h.file d.held q) d.ends) (stage-goes_on r (stage-done e))));
         loaded = record {
           pipeline = h.means;
-          world = d.world;
+          world = world-known q.options.as_of (days_held d.held) (world_held d.held q) w l.world session d.days d.world k date known;
+          same = rw d.world (shown-same w l.world session (pipeline_of l.checked) l.plan.from l.plan.to (rw end last) known);
           plan = rw d.days plan;
           from = rw (d.days, ← at, first) refl;
-          to = rw (d.days, ← until, last) refl;
+          to = rw (d.days, ← until, end) refl;
         };
       }

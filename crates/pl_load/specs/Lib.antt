@@ -1,3 +1,4 @@
 -- How the stages of loading end.
 pub mod Reads
 pub mod Loads
+pub mod PaidOut

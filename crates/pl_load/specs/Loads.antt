@@ -1,17 +1,19 @@
 -- What was loaded.
-use Rattle.std.specs.Prelude.{◌≡◌, Bool, true, Option, Some, Result, IfOk}
+use Rattle.std.specs.Prelude.{◌≡◌, ℕ, ℤ, pos, ◌≤ℤ◌, Bool, true, Option, Some, None, Result, IfOk, slice_get}
+use Rattle.pl_spec.specs.AsOf.{as_of}
+use Rattle.pl_spec.specs.Table.{Pipeline}
 use Rattle.pl_terms.specs.Checked.{pipeline_of}
-use Rattle.pl_spec.specs.World.{World}
-use Rattle.pl_spec.specs.Parts.{world_of}
 use Rattle.pl_outside.specs.Files.{Files}
 use Rattle.pl_outside.specs.Lists.{Lists}
 use Rattle.pl_model.specs.declared.owned.OwnedWorld.{OwnedWorld}
-use Rattle.pl_model.specs.Worlds.{AreMadeFor}
+use Rattle.pl_model.specs.Known.{ShowsSame}
+use Rattle.pl_model.specs.Worlds.{owned_world, IsOwned}
 use Rattle.pl_planner.specs.Plans.{IsPlanOf}
 use Rattle.pl_words.specs.Request.{RunRequest, PlanRequest, Run, Plan}
 use Rattle.pl_judge.specs.declared.fault.Fault.{Fault}
 use Rattle.pl_judge.specs.Contents.{Contents, AreHeld}
 use Rattle.pl_judge.specs.Held.{pipeline_held, days_held, world_held}
+use Rattle.pl_judge.specs.Known.{world_known}
 use Rattle.pl_judge.specs.Work.{data_steps, run_steps, planning_steps}
 use Rattle.pl_judge.specs.Planning.{HasRows}
 use Rattle.pl_judge.specs.Range.{index_of}
@@ -19,18 +21,24 @@ use Rattle.pl_judge.specs.Stages.{StageEnds}
 use Rattle.pl_load.specs.declared.loading.Loaded.{Loaded}
 use Rattle.pl_load.specs.declared.planning.PlannedPipeline.{PlannedPipeline}
 
-abbrev pub owned_world : OwnedWorld → World
-owned_world w = world_of w.sessions w.assets w.labels.rows w.labels.texts w.bars w.adjustments
+-- The world is what is known of the other by session d, up to which it shows what the other does; without a session it is the
+-- other itself.
+pub record IsKnownBy (w : OwnedWorld) (d : ℕ) (v : OwnedWorld) : Type 0 where
+  pub day : ℤ
+  pub is_day : slice_get w.sessions d ≡ Some day
+  pub world : owned_world v ≡ as_of (owned_world w) d day
+  pub same : (p : Pipeline) (from to : ℕ) → pos to ≤ℤ pos d → ShowsSame (owned_world v) (owned_world w) p from to
 
--- the parts were made for their own sessions and assets
-abbrev pub IsOwned : OwnedWorld → Type 0
-IsOwned w = AreMadeFor w.sessions w.assets w.labels.rows w.bars w.adjustments
+abbrev pub IsKnown : OwnedWorld → Option ℕ → OwnedWorld → Type 0
+IsKnown w None v = v ≡ w
+IsKnown w (Some d) v = IsKnownBy w d v
 
--- The parts are those of the contents, and the plan is one of the pipeline over their sessions, for the range of the two
--- dates.
+-- The parts are those of the contents, as far as they are known by the date as of which the run is, and the plan is one of the
+-- pipeline over the sessions, for the range of the two dates. The rows of the range are those of the whole world.
 pub record IsLoaded (held : Contents) (q : RunRequest) (l : Loaded) : Type 0 where
   pub pipeline : pipeline_held held ≡ pipeline_of l.checked
-  pub world : world_held held q ≡ owned_world l.world
+  pub world : world_known held q ≡ owned_world l.world
+  pub same : ShowsSame (owned_world l.world) (world_held held q) (pipeline_of l.checked) l.plan.from l.plan.to
   pub plan : IsPlanOf (days_held held) (pipeline_of l.checked) l.plan
   pub from : index_of (days_held held) q.from.day ≡ l.plan.from
   pub to : index_of (days_held held) q.to.day ≡ l.plan.to

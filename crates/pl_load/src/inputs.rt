@@ -2,11 +2,12 @@
 ghost use Rattle.std.specs.Prelude.{◌≡◌, ◌≤◌, ◌<◌, [], ◌∷◌, Some, length, All, IfOk, IfErr, option_map};
 ghost use Rattle.pl_outside.specs.Counts.{Rose};
 ghost use Rattle.pl_outside.specs.Left.{Leaves};
+ghost use Rattle.pl_payouts.specs.Payouts.{AreKnown};
 ghost use Rattle.pl_syntax.specs.Scripts.{parsed};
 ghost use Rattle.pl_terms.specs.Checked.{pipeline_of};
 ghost use Rattle.pl_words.specs.declared.request.InputFile.TheVariants as files;
-ghost use Rattle.pl_judge.specs.Held.{script_in, pipeline_in, days_in, assets_in, labels_asked, bars_in};
-ghost use Rattle.pl_judge.specs.Work.{cap_of, read_step, syntax_step, pipeline_steps, sessions_rule, assets_rule, labels_steps, bars_rule};
+ghost use Rattle.pl_judge.specs.Held.{script_in, pipeline_in, days_in, assets_in, labels_asked, bars_in, payouts_in};
+ghost use Rattle.pl_judge.specs.Work.{cap_of, read_step, syntax_step, pipeline_steps, sessions_rule, assets_rule, labels_steps, bars_rule, payouts_rule};
 ghost use Rattle.pl_judge.specs.Stages.{IsRisen};
 ghost use Rattle.pl_load.specs.Reads.{IsRead, no_rule};
 
@@ -16,6 +17,7 @@ use pl_calendar::Sessions;
 use pl_check::check;
 use pl_judge::{Fault, cap_of, limit_of};
 use pl_outside::{ReadError, Shelf, read_file};
+use pl_payouts::Payouts;
 use pl_syntax::{Script, parse};
 use pl_terms::Checked;
 use pl_words::InputFile;
@@ -127,4 +129,22 @@ pub fn read_bars<S: Shelf>(
 {
     let bytes = read_input(alloc, shelf, name, InputFile::Bars)?;
     Ok(Bars::read(alloc, &bytes, sessions, assets)?)
+}
+
+/// The payouts of the payouts file of that name.
+pub fn read_payouts<S: Shelf>(
+    alloc: Global,
+    shelf: &mut S,
+    name: &str,
+    assets: &Assets,
+) -> Result<Payouts, Fault>
+    ensures read { IsRead (S.holds shelf.old) (S.sound shelf.old) (Some name.now)
+        (λ held. read_step files.Payouts (payouts_rule assets.now) held ∷ [])
+        (λ held payouts. payouts_in assets.now held ≡ payouts) result }
+    ensures known { IfOk result (AreKnown assets.now) }
+    ensures leaves { Leaves S.holds S.sound S.faults shelf.old shelf.new }
+    ensures risen { IfErr result (IsRisen (Rose (S.faults shelf.old) (S.faults shelf.new)) ⊥) }
+{
+    let bytes = read_input(alloc, shelf, name, InputFile::Payouts)?;
+    Ok(Payouts::read(alloc, &bytes, assets)?)
 }

@@ -1,11 +1,13 @@
-//! From the files and tables of a run to its world: each is read whole and judged before the next one is begun.
+//! From the files and tables of a command to what it works on: each is read whole and judged before the next one is begun.
 #![tactic(auto)]
 
 mod inputs;
 mod loading;
+mod payouts;
 mod planning;
 mod tables;
 
 pub use inputs::{read_checked, read_script};
 pub use loading::{Loaded, load};
+pub use payouts::{LoadedPayouts, load_payouts};
 pub use planning::{PlannedPipeline, load_plan};

@@ -1,15 +1,17 @@
 // What a run reads and judges before its first row.
-ghost use Rattle.std.specs.Prelude.{◌≡◌, None, IfOk, IfErr};
+ghost use Rattle.std.specs.Prelude.{◌≡◌, ◌<◌, length, None, IfOk, IfErr, IfSome};
 ghost use Rattle.pl_outside.specs.Counts.{Rose};
 ghost use Rattle.pl_outside.specs.Left.{Leaves, IsUntouched};
 ghost use Rattle.pl_words.specs.Views.{run_of};
 ghost use Rattle.pl_judge.specs.Stages.{IsRisen};
-ghost use Rattle.pl_load.specs.Loads.{IsData, IsLoad, IsOwned, IsReady};
+ghost use Rattle.pl_model.specs.Worlds.{IsOwned};
+ghost use Rattle.pl_judge.specs.declared.fault.Fault.TheVariants.{Memory};
+ghost use Rattle.pl_load.specs.Loads.{IsData, IsKnown, IsLoad, IsReady};
 
 use crate::inputs::{read_assets, read_bars, read_checked, read_labels, read_sessions};
 use crate::tables::read_adjustments;
 use pl_judge::{Fault, judge_dates, judge_plan};
-use pl_model::OwnedWorld;
+use pl_model::{OwnedWorld, asof_world};
 use pl_outside::{AdjustKeeper, Shelf};
 use pl_planner::Plan;
 use pl_terms::Checked;
@@ -40,13 +42,37 @@ pub fn load<S: Shelf, K: AdjustKeeper>(
 {
     let checked = read_checked(alloc, shelf, request.pipeline)?;
     let world = read_world(alloc, request, shelf, keeper)?;
-    let range = judge_dates(&request.from, &request.to, &world.sessions)?;
+    let range = judge_dates(
+        &request.from,
+        &request.to,
+        request.options.as_of,
+        &world.sessions,
+    )?;
     let plan = judge_plan(alloc, &checked, &world.sessions, range)?;
+    let known = known_world(alloc, world, range.as_of)?;
     Ok(Loaded {
         checked,
-        world,
+        world: known,
         plan,
     })
+}
+
+// What is known of a world by a session; the world itself where none is asked for.
+fn known_world(
+    alloc: Global,
+    world: OwnedWorld,
+    session: Option<usize>,
+) -> Result<OwnedWorld, Fault>
+    requires made { IsOwned world }
+    requires within { IfSome session (λ d. d < length world.sessions) }
+    ensures known { IfOk result (IsKnown world session) }
+    ensures made { IfOk result IsOwned }
+    ensures memory { IfErr result (λ fault. fault ≡ Memory) }
+{
+    match session {
+        None => Ok(world),
+        Some(session) => Ok(asof_world(alloc, &world.world(), session)?),
+    }
 }
 
 // The data of the run, each part judged before the next one is begun.

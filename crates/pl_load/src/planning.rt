@@ -33,7 +33,7 @@ pub fn load_plan<S: Shelf>(
 {
     let checked = read_checked(alloc, shelf, request.pipeline)?;
     let sessions = read_sessions(alloc, shelf, request.sessions)?;
-    let range = judge_dates(&request.from, &request.to, &sessions)?;
+    let range = judge_dates(&request.from, &request.to, None, &sessions)?;
     let plan = judge_plan(alloc, &checked, &sessions, range)?;
     Ok(PlannedPipeline { checked, plan })
 }

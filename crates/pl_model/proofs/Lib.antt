@@ -1,10 +1,9 @@
 pub mod Lifetimes
 pub mod Made
 pub mod Runs
-pub mod Bits
-pub mod Plain
 pub mod Asked
 pub mod Evaluated
 pub mod Costs
 pub mod Sections
 pub mod Windowing
+pub mod Known

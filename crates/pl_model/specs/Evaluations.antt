@@ -25,7 +25,7 @@ use Rattle.pl_values.specs.Arrays.{IsKeep, is_kept}
 use Rattle.pl_values.specs.Inputs.{input_window}
 use Rattle.pl_model.specs.declared.world.World.{World}
 use Rattle.pl_model.specs.Worlds.{world_of, IsMade}
-use Rattle.pl_model.specs.PlainTerms.{window_steps}
+use Rattle.pl_model.specs.WindowSteps.{window_steps}
 
 -- ---- what is asked
 

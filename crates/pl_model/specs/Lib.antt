@@ -1,3 +1,5 @@
 pub mod Evaluations
-pub mod PlainTerms
+pub mod Known
+pub mod Laws
+pub mod WindowSteps
 pub mod Worlds

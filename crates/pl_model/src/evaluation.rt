@@ -17,7 +17,7 @@ ghost use Rattle.pl_terms.specs.Nodes.{graph_of, number_of};
 ghost use Rattle.pl_assets.specs.Assets.{AreAssets};
 ghost use Rattle.pl_values.specs.Arrays.{IsKeep, is_kept};
 ghost use Rattle.pl_model.specs.Worlds.{world_of, IsMade};
-ghost use Rattle.pl_model.specs.PlainTerms.{window_steps};
+ghost use Rattle.pl_model.specs.WindowSteps.{window_steps};
 ghost use Rattle.pl_model.specs.Evaluations.{IsAsked, IsAskedInput, IsAskedOption, IsKept, HasKind, cell_in, input_cell_in, window_in, row_in, optional_row_in, given_cost_in, cost_in, input_cost_in, window_cost_in, row_cost_in, optional_cost_in};
 
 use crate::cell::exists;

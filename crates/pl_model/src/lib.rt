@@ -1,16 +1,15 @@
 //! The data of a pipeline as one world, and the value of a term in it, computed plainly, one cell at a time.
 #![tactic(auto)]
 
+mod asof;
 mod cell;
 mod evaluation;
 pub mod laws;
 mod owned;
 mod parts;
-#[cfg(test)]
-mod tests;
 mod world;
 
-pub use cell::{PlainTerm, plain_cell};
+pub use asof::asof_world;
 pub use evaluation::cell_now;
 pub use owned::OwnedWorld;
 pub use world::World;

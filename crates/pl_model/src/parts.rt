@@ -16,7 +16,7 @@ ghost use Rattle.pl_cross.specs.Section.{HasParameters, is_section};
 ghost use Rattle.pl_values.specs.Families.{label_code};
 ghost use Rattle.pl_assets.specs.Assets.{AreAssets};
 ghost use Rattle.pl_model.specs.Worlds.{world_of, IsMade};
-ghost use Rattle.pl_model.specs.PlainTerms.{window_steps};
+ghost use Rattle.pl_model.specs.WindowSteps.{window_steps};
 ghost use Rattle.pl_model.specs.Evaluations as spec;
 ghost use Rattle.pl_model.specs.Evaluations.{IsAsked, HasKind, cell_in, AreRowsOf, IsKeepRow};
 

@@ -1,16 +1,16 @@
 -- What one term asks of those that it mentions.
-use Rattle.std.proofs.Common.{◌≡◌, ◌≢◌, ℕ, zero, suc, ◌+◌, ◌<◌, ◌≤◌, Bool, true, false, max, List, [], ◌∷◌, length, map, take, Option, Some, None, refl, ◌∙◌, arith, inl, inr, slice_get, get_or, filter_map, option_to_list, length-set, get_or-set_same, get_or-set_other}
+use Rattle.std.proofs.Common.{◌≡◌, ◌≢◌, ℕ, zero, suc, ◌+◌, ◌<◌, ◌≤◌, Bool, true, false, max, ℤ, List, [], ◌∷◌, ◌++◌, length, map, take, Option, Some, None, option_map, refl, sym, ◌∙◌, ap, arith, inl, inr, slice_get, get_or, filter_map, option_to_list, length-set, get_or-set_same, get_or-set_other}
 use Rattle.std.proofs.lemmas.Bool.{cases_lt, cases_eq}
 use Rattle.std.proofs.lemmas.List.{take_more, map-append}
 use Rattle.std.proofs.lemmas.List.Elements.{filter_map-append}
 use Rattle.std.proofs.lemmas.List.Sums.{fold-append}
 use Rattle.pl_spec.specs.Term.{Input, MentionsBelow}
 use Rattle.pl_spec.specs.Term.Input.{BarColumn, TermInput}
-use Rattle.pl_terms.specs.Nodes.{input_of, node_of}
+use Rattle.pl_terms.specs.Nodes.{input_of, node_of, number_of}
 use Rattle.pl_terms.specs.declared.node.Input as code
 use Rattle.pl_terms.specs.declared.node.Node as code_node
 use Rattle.pl_planner.specs.declared.uses.Use.{Use}
-use Rattle.pl_planner.specs.Extra.{Ask, IsBelow, input_ask}
+use Rattle.pl_planner.specs.Extra.{Ask, IsBelow, back_from, input_ask, number_asks, asks}
 use Rattle.pl_planner.specs.Uses.{unused, use_at, raised, asked, all_asked}
 
 one_more : {X Y : Type 0} (f : X → Option Y) (x : X) → filter_map f (x ∷ []) ≡ option_to_list (f x)
@@ -20,10 +20,10 @@ one_more f x = here (f x) refl
     here None e = rw e refl
     here (Some y) e = rw e refl
 
-pub more_asked : (us : List Use) (by extra w : ℕ) (items : List code.Input) (i : ℕ) (d : code.Input) → i < length items
-    → all_asked (all_asked us by extra (filter_map (input_ask w) (map input_of (take i items)))) by extra (option_to_list (input_ask w (input_of (get_or items i d))))
-    ≡ all_asked us by extra (filter_map (input_ask w) (map input_of (take (i + 1) items)))
-more_asked us by extra w items i d h =
+pub more_asked : (us : List Use) (by back w : ℕ) (items : List code.Input) (i : ℕ) (d : code.Input) → i < length items
+    → all_asked (all_asked us by (filter_map (input_ask back w) (map input_of (take i items)))) by (option_to_list (input_ask back w (input_of (get_or items i d))))
+    ≡ all_asked us by (filter_map (input_ask back w) (map input_of (take (i + 1) items)))
+more_asked us by back w items i d h =
     rw (take_more items i d h, map-append, filter_map-append, fold-append, one_more) refl
 
 pub below_at : (n : code_node.Node) (b i : ℕ) (d : code.Input) → MentionsBelow (node_of n) b → i < length n.inputs → IsBelow b (input_of (get_or n.inputs i d))
@@ -38,6 +38,21 @@ below_at n b i d low h = here (input_of (get_or n.inputs i d)) (at n.inputs i h)
     here : (x : Input) → slice_get (map input_of n.inputs) i ≡ Some x → IsBelow b x
     here (BarColumn c) e = tt
     here (TermInput k) e = low.inputs i k e
+
+-- a node's inputs, mask and group are asked one after the other
+pub node_asked : (days : List ℤ) (s : ℕ) (n : code_node.Node) (by extra back : ℕ) (us inputs mask group : List Use) → back ≡ back_from days s (node_of n).kind extra
+    → inputs ≡ all_asked us by (filter_map (input_ask back n.window) (map input_of n.inputs))
+    → mask ≡ all_asked inputs by (number_asks extra (option_map number_of n.mask))
+    → group ≡ all_asked mask by (number_asks extra (option_map number_of n.group))
+    → group ≡ all_asked us by (asks days s (node_of n) extra)
+unfolding node_of
+node_asked days s n by extra back us inputs mask group e a b c =
+    let xs : List Ask = filter_map (input_ask (back_from days s (node_of n).kind extra) n.window) (map input_of n.inputs) in
+    let ys : List Ask = number_asks extra (option_map number_of n.mask) in
+    let zs : List Ask = number_asks extra (option_map number_of n.group) in
+    let first : inputs ≡ all_asked us by xs = a ∙ ap (λ m. all_asked us by (filter_map (input_ask m n.window) (map input_of n.inputs))) e in
+    let second : mask ≡ all_asked us by (xs ++ ys) = b ∙ ap (λ us. all_asked us by ys) first ∙ sym (fold-append (asked by) us xs ys) in
+    c ∙ ap (λ us. all_asked us by zs) second ∙ sym (fold-append (asked by) us (xs ++ ys) zs)
 
 -- ---- uses only grow
 
@@ -89,26 +104,26 @@ raised_either E L u by extra old new reader = here u.used refl
     here true e = rw e (both (old e))
     here false e = rw e (new, reader)
 
-module _ (by extra : ℕ) where
-  at_same : (us : List Use) (a : Ask) → a.0 < length us → use_at (asked by extra us a) a.0 ≡ raised (use_at us a.0) by (extra + a.1)
-  at_same us a h = get_or-set_same us a.0 (raised (use_at us a.0) by (extra + a.1)) unused h
+module _ (by : ℕ) where
+  at_same : (us : List Use) (a : Ask) → a.0 < length us → use_at (asked by us a) a.0 ≡ raised (use_at us a.0) by a.1
+  at_same us a h = get_or-set_same us a.0 (raised (use_at us a.0) by a.1) unused h
 
-  at_other : (us : List Use) (a : Ask) (j : ℕ) → j ≢ a.0 → use_at (asked by extra us a) j ≡ use_at us j
-  at_other us a j ne = get_or-set_other us a.0 j (raised (use_at us a.0) by (extra + a.1)) unused ne
+  at_other : (us : List Use) (a : Ask) (j : ℕ) → j ≢ a.0 → use_at (asked by us a) j ≡ use_at us j
+  at_other us a j ne = get_or-set_other us a.0 j (raised (use_at us a.0) by a.1) unused ne
 
-  one_grows : (us : List Use) (a : Ask) → a.0 < length us → Grows us (asked by extra us a)
+  one_grows : (us : List Use) (a : Ask) → a.0 < length us → Grows us (asked by us a)
   one_grows us a h = record {
-    size = length-set us a.0 (raised (use_at us a.0) by (extra + a.1));
+    size = length-set us a.0 (raised (use_at us a.0) by a.1);
     used = λ t e. elim (cases_eq t a.0) [
-      | inl p ↦ rw (p, at_same us a h) (raised_used (use_at us a.0) by (extra + a.1))
+      | inl p ↦ rw (p, at_same us a h) (raised_used (use_at us a.0) by a.1)
       | inr p ↦ rw (at_other us a t p) e
     ];
     extra = λ t e. elim (cases_eq t a.0) [
-      | inl p ↦ rw (p, at_same us a h) (raised_more (use_at us a.0) by (extra + a.1) (rw p at e)).0
+      | inl p ↦ rw (p, at_same us a h) (raised_more (use_at us a.0) by a.1 (rw p at e)).0
       | inr p ↦ rw (at_other us a t p) (omega arith)
     ];
     last = λ t e. elim (cases_eq t a.0) [
-      | inl p ↦ rw (p, at_same us a h) (raised_more (use_at us a.0) by (extra + a.1) (rw p at e)).1
+      | inl p ↦ rw (p, at_same us a h) (raised_more (use_at us a.0) by a.1 (rw p at e)).1
       | inr p ↦ rw (at_other us a t p) (omega arith)
     ];
   }
@@ -117,50 +132,50 @@ module _ (by extra : ℕ) where
   abbrev pub AreBelow : ℕ → List Ask → Type 0
   AreBelow b list = (i : ℕ) (a : Ask) → slice_get list i ≡ Some a → a.0 < b
 
-  pub all_grow : (list : List Ask) (us : List Use) → AreBelow (length us) list → Grows us (all_asked us by extra list)
+  pub all_grow : (list : List Ask) (us : List Use) → AreBelow (length us) list → Grows us (all_asked us by list)
   all_grow [] us low = same us
   all_grow (a ∷ list) us low =
-      let first : Grows us (asked by extra us a) = one_grows us a (low 0 a refl) in
-      then us (asked by extra us a) _ first (all_grow list (asked by extra us a) (λ i b e. let l : b.0 < length us = low (suc i) b e in let z = first.size in omega arith))
+      let first : Grows us (asked by us a) = one_grows us a (low 0 a refl) in
+      then us (asked by us a) _ first (all_grow list (asked by us a) (λ i b e. let l : b.0 < length us = low (suc i) b e in let z = first.size in omega arith))
 
   -- what is asked is given
   pub all_given : (list : List Ask) (us : List Use) → AreBelow (length us) list → (i : ℕ) (a : Ask) → slice_get list i ≡ Some a
-      → ((use_at (all_asked us by extra list) a.0).used ≡ true) × (extra + a.1 ≤ (use_at (all_asked us by extra list) a.0).extra) × (by ≤ (use_at (all_asked us by extra list) a.0).last)
+      → ((use_at (all_asked us by list) a.0).used ≡ true) × (a.1 ≤ (use_at (all_asked us by list) a.0).extra) × (by ≤ (use_at (all_asked us by list) a.0).last)
   all_given [] us low i a e = cc
   all_given (b ∷ list) us low zero a e =
       let is : b ≡ a = cc in
       let h : a.0 < length us = low 0 a e in
-      let first : Grows us (asked by extra us b) = one_grows us b (low 0 b refl) in
-      let rest : Grows (asked by extra us b) (all_asked (asked by extra us b) by extra list) = all_grow list (asked by extra us b) (λ j c f. let l : c.0 < length us = low (suc j) c f in let z = first.size in omega arith) in
-      let at : use_at (asked by extra us b) a.0 ≡ raised (use_at us a.0) by (extra + a.1) = rw is (at_same us a h) in
-      let used : (use_at (asked by extra us b) a.0).used ≡ true = rw at (raised_used (use_at us a.0) by (extra + a.1)) in
-      let least : (extra + a.1 ≤ (use_at (asked by extra us b) a.0).extra) × (by ≤ (use_at (asked by extra us b) a.0).last) = rw at (raised_least (use_at us a.0) by (extra + a.1)) in
+      let first : Grows us (asked by us b) = one_grows us b (low 0 b refl) in
+      let rest : Grows (asked by us b) (all_asked (asked by us b) by list) = all_grow list (asked by us b) (λ j c f. let l : c.0 < length us = low (suc j) c f in let z = first.size in omega arith) in
+      let at : use_at (asked by us b) a.0 ≡ raised (use_at us a.0) by a.1 = rw is (at_same us a h) in
+      let used : (use_at (asked by us b) a.0).used ≡ true = rw at (raised_used (use_at us a.0) by a.1) in
+      let least : (a.1 ≤ (use_at (asked by us b) a.0).extra) × (by ≤ (use_at (asked by us b) a.0).last) = rw at (raised_least (use_at us a.0) by a.1) in
       let e1 = rest.extra a.0 used in
       let e2 = rest.last a.0 used in
       let l1 = least.0 in
       let l2 = least.1 in
       (rest.used a.0 used, omega arith, omega arith)
   all_given (b ∷ list) us low (suc i) a e =
-      let first : Grows us (asked by extra us b) = one_grows us b (low 0 b refl) in
-      all_given list (asked by extra us b) (λ j c f. let l : c.0 < length us = low (suc j) c f in let z = first.size in omega arith) i a e
+      let first : Grows us (asked by us b) = one_grows us b (low 0 b refl) in
+      all_given list (asked by us b) (λ j c f. let l : c.0 < length us = low (suc j) c f in let z = first.size in omega arith) i a e
 
   -- and nothing else is
   pub all_sound : (E L : ℕ → ℕ → Type 0) (list : List Ask) (us : List Use) → AreBelow (length us) list
-      → ((i : ℕ) (a : Ask) → slice_get list i ≡ Some a → E a.0 (extra + a.1) × L a.0 by)
+      → ((i : ℕ) (a : Ask) → slice_get list i ≡ Some a → E a.0 a.1 × L a.0 by)
       → ((t : ℕ) → (use_at us t).used ≡ true → E t (use_at us t).extra × L t (use_at us t).last)
-      → (t : ℕ) → (use_at (all_asked us by extra list) t).used ≡ true → E t (use_at (all_asked us by extra list) t).extra × L t (use_at (all_asked us by extra list) t).last
+      → (t : ℕ) → (use_at (all_asked us by list) t).used ≡ true → E t (use_at (all_asked us by list) t).extra × L t (use_at (all_asked us by list) t).last
   all_sound E L [] us low new old t h = old t h
   all_sound E L (a ∷ list) us low new old t h =
-      let first : Grows us (asked by extra us a) = one_grows us a (low 0 a refl) in
-      all_sound E L list (asked by extra us a) (λ j c f. let l : c.0 < length us = low (suc j) c f in let z = first.size in omega arith) (λ i b e. new (suc i) b e)
+      let first : Grows us (asked by us a) = one_grows us a (low 0 a refl) in
+      all_sound E L list (asked by us a) (λ j c f. let l : c.0 < length us = low (suc j) c f in let z = first.size in omega arith) (λ i b e. new (suc i) b e)
       (λ s k. elim (cases_eq s a.0) [
-        | inl p ↦ rw (p, at_same us a (low 0 a refl)) (raised_either (E a.0) (L a.0) (use_at us a.0) by (extra + a.1) (old a.0) (new 0 a refl).0 (new 0 a refl).1)
+        | inl p ↦ rw (p, at_same us a (low 0 a refl)) (raised_either (E a.0) (L a.0) (use_at us a.0) by a.1 (old a.0) (new 0 a refl).0 (new 0 a refl).1)
         | inr p ↦ rw (at_other us a s p) (old s (rw (at_other us a s p) at k))
       ])
       t h
 
   -- what isn't asked is as it was
-  pub all_else : (list : List Ask) (us : List Use) (b j : ℕ) → AreBelow b list → b ≤ j → use_at (all_asked us by extra list) j ≡ use_at us j
+  pub all_else : (list : List Ask) (us : List Use) (b j : ℕ) → AreBelow b list → b ≤ j → use_at (all_asked us by list) j ≡ use_at us j
   all_else [] us b j low h = refl
   all_else (a ∷ list) us b j low h =
-      all_else list (asked by extra us a) b j (λ i c e. low (suc i) c e) h ∙ at_other us a j (λ p. let l = low 0 a refl in omega arith)
+      all_else list (asked by us a) b j (λ i c e. low (suc i) c e) h ∙ at_other us a j (λ p. let l = low 0 a refl in omega arith)

@@ -1,5 +1,5 @@
 -- What a plan says is what the definitions say.
-use Rattle.std.proofs.Common.{◌≡◌, ℕ, zero, suc, ◌+◌, ◌-◌, ◌<◌, ◌≤◌, Bool, true, false, ◌&&◌, max, nat_le, nat_lt, if◌then◌else◌, ℤ, pos, ◌-ℤ◌, ◌≤ℤ◌, ◌<ℤ◌, List, [], ◌∷◌, length, map, fold, filter, AllPairs, Option, Some, None, refl, sym, ◌∙◌, ap, subst, arith, inl, inr, ◌⊎◌, slice_get, get_or, ◌==◌}
+use Rattle.std.proofs.Common.{◌≡◌, ℕ, zero, suc, ◌+◌, ◌-◌, ◌*◌, ◌<◌, ◌≤◌, Bool, true, false, ◌&&◌, max, nat_le, nat_lt, if◌then◌else◌, ℤ, pos, negsuc, ◌-ℤ◌, ◌≤ℤ◌, ◌<ℤ◌, List, [], ◌∷◌, length, map, fold, filter, AllPairs, Option, Some, None, refl, sym, ◌∙◌, ap, subst, arith, inl, inr, ◌⊎◌, slice_get, get_or, ◌==◌}
 use Rattle.std.specs.List.{list_any, range_with_len, count_by}
 use Rattle.std.proofs.lemmas.Bool.{true≢false, cases_lt, or_right, eqb-true}
 use Rattle.std.proofs.lemmas.Bool.Decides.{nat_tests}
@@ -7,18 +7,21 @@ use Rattle.std.proofs.lemmas.Int.{ints}
 use Rattle.std.proofs.lemmas.Option.{slice_get_within}
 use Rattle.pl_spec.specs.Table.{Pipeline}
 use Rattle.pl_spec.specs.Term.{Node, Graph}
-use Rattle.pl_spec.specs.Graph.{contains, mentions_at, Used, used_terms, is_live, live_terms, columns_at, bound}
-use Rattle.pl_spec.specs.Lows.{Reads, IsLow, least_reach}
-use Rattle.pl_laws.proofs.Lows.{lows-cover}
+use Rattle.pl_spec.specs.Graph.{reads_at, contains, mentions_at, Used, used_terms, is_live, live_terms, columns_at, bound}
+use Rattle.pl_spec.specs.Lows.{Reads, Needs, IsLow, least_reach}
+use Rattle.pl_spec.specs.Window.{before}
+use Rattle.pl_laws.specs.LowLaws.{HasBar, ReachCovers}
+use Rattle.pl_laws.proofs.Lows.{lows-cover, reach-covers, reads_at-within}
 use Rattle.pl_laws.proofs.Uses.{lower, used_terms-sound, used_terms-complete}
 use Rattle.pl_terms.specs.Checked.{IsChecked}
 use Rattle.pl_terms.specs.Uses as pipeline
 use Rattle.pl_terms.specs.Uses.{outputs}
 use Rattle.pl_planner.specs.declared.uses.Use.{Use}
 use Rattle.pl_planner.specs.declared.slots.TermSlots.{TermSlots}
-use Rattle.pl_planner.specs.Extra.{IsBack, IsExtra, asks_at, asks}
+use Rattle.pl_planner.specs.Extra.{IsBack, IsExtra, asks_of}
 use Rattle.pl_planner.specs.Uses.{use_at, is_kept, IsLast, AreUses}
-use Rattle.pl_planner.specs.Columns.{held_at, window_back, bars_back, most_back, most_extra}
+use Rattle.pl_planner.specs.Columns.{held_at}
+use Rattle.pl_planner.specs.Rows.{extra_at, IsRow, AreRows, most_extra}
 use Rattle.pl_planner.specs.Slotting.{slots_at, own_slot, kept_below, one, IsHad, IsLowest, IsSlotted, AreSlotted}
 use Rattle.pl_planner.specs.Plans as plans
 use Rattle.pl_planner.specs.Plans.{Planned, is_used, low_at, last_user, is_read_by, slot_of, column_slot, IsAsked, AreLows, IsLastUser, AreLastUsers, IsLive, HasSlot, HasColumn, AreSlots, IsPlanOf, IsDeepest, KeepsLimits}
@@ -27,7 +30,8 @@ use Rattle.pl_planner.proofs.Pipelines.{IsPipeline, is-pipeline}
 use Rattle.pl_planner.proofs.Gathers.{mention_of_ask}
 use Rattle.pl_planner.proofs.Counting.{count_more, most_in, columns-few}
 use Rattle.pl_planner.proofs.Live.{some_holds, and_true, both, le_of, used_within, live_is, bound_is}
-use Rattle.pl_planner.proofs.Lows.{Asked, asked-of, Back, needs-back, low-is, back-used, bars-back-is, used-back, least-is}
+use Rattle.pl_planner.proofs.Lows.{Asked, asked-of, Back, needs-back, low-is, back-used, needs-rise}
+use Rattle.pl_planner.proofs.Tables.{ReachedAt, most-at, most-in, extra-used, extra-some}
 
 -- ---- lists of chosen terms
 
@@ -50,16 +54,25 @@ live-intro p k t a b = contains-filter (is_live p.graph (outputs p) k) (used_ter
 
 -- ---- what a used term reads is computed, and live
 
-reads-mention : (days : List ℤ) (g : Graph) (k : ℕ) (n : Node) (s r : ℤ) (t : ℕ) (outs : List ℕ) → IsPipeline g outs → slice_get g k ≡ Some n → Reads days n s t r → contains (mentions_at g k) t ≡ true
-reads-mention days g k n s r t outs ok e reads =
-    let a : Asked days n s (ok.now days k n s e) t r = asked-of days n s (ok.now days k n s e) t r reads in
-    let list : asks_at g k ≡ asks n = ap Rattle.pl_planner.specs.Extra.asks_of e in
-    mention_of_ask g k a.found.0 (t, a.rows) (ap (λ l. slice_get l a.found.0) list ∙ a.found.1)
+module _ (days : List ℤ) (g : Graph) (k : ℕ) (n : Node) (e : slice_get g k ≡ Some n) where
+  reads-before : (s m t : ℕ) (r : ℤ) → Reads days n (pos s -ℤ pos m) t r → contains (mentions_at g k) t ≡ true
+  reads-before s m t r reads =
+      let a : Asked days s n m t r = asked-of days s n m t r reads in
+      mention_of_ask days s g k m a.found.0 (t, a.back) (ap (λ o. slice_get (asks_of days s o m) a.found.0) e ∙ a.found.1)
+
+  reads-mention : (s r : ℤ) (t : ℕ) → Reads days n s t r → contains (mentions_at g k) t ≡ true
+  reads-mention (pos s) r t reads = reads-before s 0 t r (let z : pos s ≡ pos s -ℤ pos 0 = omega (arith, ints) in subst (λ d. Reads days n d t r) z reads)
+  reads-mention (negsuc s) r t reads = reads-before 0 (suc s) t r (let z : negsuc s ≡ pos 0 -ℤ pos (suc s) = omega (arith, ints) in subst (λ d. Reads days n d t r) z reads)
+
+-- what is needed is used
+pub needs-used : (days : List ℤ) (g : Graph) (outs : List ℕ) (d : ℤ) (t : ℕ) (s : ℤ) → Needs days g outs d t s → Used g outs t
+needs-used days g outs d t s (Needs.output h) = Used.output h
+needs-used days g outs d t s (Needs.read u n q needs at reads) = Used.mentioned u (needs-used days g outs d u q needs) (reads-mention days g u n at q s t reads)
 
 pub reads-covered : ReadsAreCovered
 reads-covered days rise p checked plan is k t c n s r asked e low reads =
     let ok : IsPipeline p.graph (outputs p) = is-pipeline p checked in
-    let mention : contains (mentions_at p.graph k) t ≡ true = reads-mention days p.graph k n s r t (outputs p) ok e reads in
+    let mention : contains (mentions_at p.graph k) t ≡ true = reads-mention days p.graph k n e s r t reads in
     let listed : contains (used_terms p.graph (outputs p)) k ≡ true = sym (is.used k) ∙ asked.0 in
     let used_k : Used p.graph (outputs p) k = used_terms-sound p.graph (outputs p) ok.graph k listed in
     let used_t : Used p.graph (outputs p) t = Used.mentioned k used_k mention in
@@ -78,46 +91,52 @@ reads-covered days rise p checked plan is k t c n s r asked e low reads =
       computed = lows-cover days rise p.graph (outputs p) (pos c) k t n (pos (low_at plan k c)) (pos (low_at plan t c)) s r (is.lows.exact k c asked) (is.lows.exact t c (used, asked.1)) e low reads;
     }
 
--- ---- the greatest number of extra sessions
+-- ---- the extra sessions of a range
 
-most-least : (xs : List ℕ) (a : ℕ) → a ≤ fold max a xs
-most-least [] a = omega arith
-most-least (x ∷ xs) a = let h = most-least xs (max a x) in omega arith
+module _ (days : List ℤ) (p : Pipeline) (checked : IsChecked p) (from to : ℕ) (order : from ≤ to) (extras : List ℕ) (rows : AreRows days p.graph (outputs p) from (to + 1 - from) extras) where
+  abbrev own_extra : ℕ → ℕ → ℕ
+  own_extra s t = extra_at extras (length p.graph) (s - from) t
 
-weight : Use → ℕ
-weight u = if u.used then u.extra else 0
+  row : (s : ℕ) → from ≤ s → s ≤ to → IsRow days p.graph (outputs p) s (extra_at extras (length p.graph) (s - from))
+  row s a b = let same : from + (s - from) ≡ s = omega arith in subst (λ z. IsRow days p.graph (outputs p) z (extra_at extras (length p.graph) (s - from))) same (rows.rows (s - from) (omega arith))
 
-most-each : (us : List Use) (a i : ℕ) → i < length us → weight (use_at us i) ≤ fold max a (map weight us)
-most-each [] a i h = absurd (omega arith)
-most-each (u ∷ us) a zero h = let l = most-least (map weight us) (max a (weight u)) in omega arith
-most-each (u ∷ us) a (suc i) h = most-each us (max a (weight u)) i (omega arith)
+  is-extra : (t s : ℕ) → Used p.graph (outputs p) t → from ≤ s → s ≤ to → IsExtra days s p.graph (outputs p) t (own_extra s t)
+  is-extra t s u a b =
+      let r = row s a b in
+      let within : t < length p.graph = used_within p.graph (outputs p) (is-pipeline p checked).graph r.are t u in
+      let same : own_extra s t ≡ (use_at r.uses t).extra = r.is t within ∙ extra-used (use_at r.uses t) ((r.are.used t).1 u) in
+      subst (IsExtra days s p.graph (outputs p) t) (sym same) (r.have t u)
 
-record Reached (us : List Use) (n : ℕ) : Type 0 where
-  place : ℕ
-  is : weight (use_at us place) ≡ n
+  own-most : (t s : ℕ) → t < length p.graph → from ≤ s → s ≤ to → own_extra s t ≤ most_extra extras
+  own-most t s within a b = most-in extras (to + 1 - from) (length p.graph) (s - from) t rows.size (omega arith) within
 
-most-reached : (us : List Use) (a : ℕ) → a < fold max a (map weight us) → Reached us (fold max a (map weight us))
-most-reached [] a h = absurd (omega arith)
-most-reached (u ∷ us) a h = elim (cases_lt (max a (weight u)) (fold max (max a (weight u)) (map weight us))) [
-  | inl p ↦ (let r = most-reached us (max a (weight u)) p in record { place = suc r.place; is = r.is })
-  | inr p ↦ (let l = most-least (map weight us) (max a (weight u)) in record { place = 0; is = omega arith })
-]
+  back-most : (t s n : ℕ) → from ≤ s → s ≤ to → IsBack days s p.graph (outputs p) t n → n ≤ most_extra extras
+  back-most t s n a b back =
+      let u : Used p.graph (outputs p) t = back-used days s p.graph (outputs p) t n back in
+      let within : t < length p.graph = used_within p.graph (outputs p) (is-pipeline p checked).graph (row s a b).are t u in
+      let l : n ≤ own_extra s t = (is-extra t s u a b).most n back in
+      let m = own-most t s within a b in
+      omega arith
 
-extra-weight : (u : Use) → u.used ≡ true → weight u ≡ u.extra
-unfolding weight
-extra-weight u e = rw e refl
-
-most-is : (us : List Use) → most_extra us ≡ fold max 0 (map weight us)
-unfolding weight
-most-is us = refl
-
-weight-used : (u : Use) (n : ℕ) → 0 < n → weight u ≡ n → (u.used ≡ true) × (u.extra ≡ n)
-unfolding weight
-weight-used u n h e = here u.used refl
-  where
-    here : (b : Bool) → u.used ≡ b → (u.used ≡ true) × (u.extra ≡ n)
-    here true f = (f, rw f at e)
-    here false f = let z : 0 ≡ n = rw f at e in absurd (omega arith)
+  pub deepest : 0 < most_extra extras → IsDeepest days p from to (most_extra extras)
+  deepest some =
+      let m : ReachedAt extras (to + 1 - from) (length p.graph) (most_extra extras) = most-at extras (to + 1 - from) (length p.graph) rows.size some in
+      let inside = m.in_rows in
+      let r = rows.rows m.row m.in_rows in
+      let w : ((use_at r.uses m.term).used ≡ true) × ((use_at r.uses m.term).extra ≡ most_extra extras) = extra-some (use_at r.uses m.term) (most_extra extras) some (sym (r.is m.term m.in_terms) ∙ m.is) in
+      let used : Used p.graph (outputs p) m.term = (r.are.used m.term).0 w.0 in
+      record {
+        term = m.term;
+        session = from + m.row;
+        low = pos (from + m.row) -ℤ pos (use_at r.uses m.term).extra;
+        within = (omega arith, omega arith);
+        is_low = low-is days (from + m.row) p.graph (outputs p) m.term (use_at r.uses m.term).extra (r.have m.term used);
+        is = (let e = w.1 in omega (arith, ints));
+        most = λ t s l a b low. (let n : Back days s p.graph (outputs p) t l = needs-back days s p.graph (outputs p) t l low.needed in
+            let m = back-most t s n.back a b n.is_back in
+            let e = n.is in
+            omega (arith, ints));
+      }
 
 module _ (days : List ℤ) (rise : AllPairs (λ a b. a <ℤ b) days) (p : Pipeline) (checked : IsChecked p) (uses : List Use) (are : AreUses p.graph (outputs p) uses) where
   abbrev g : Graph
@@ -129,78 +148,77 @@ module _ (days : List ℤ) (rise : AllPairs (λ a b. a <ℤ b) days) (p : Pipeli
   ok : IsPipeline p.graph (outputs p)
   ok = is-pipeline p checked
 
-  abbrev extra_of : ℕ → ℕ
-  extra_of t = (use_at uses t).extra
-
   used-in : (t : ℕ) → (use_at uses t).used ≡ true → t < length uses
   used-in t h = let w = used_within g outs ok.graph are t ((are.used t).0 h) in let s = are.size in omega arith
 
-  extra-most : (t : ℕ) → (use_at uses t).used ≡ true → extra_of t ≤ most_extra uses
-  extra-most t h =
-      let m = most-each uses 0 t (used-in t h) in
-      let w = extra-weight (use_at uses t) h in
-      let is = most-is uses in
-      omega arith
-
-  back-most : (t n : ℕ) → IsBack g outs t n → n ≤ most_extra uses
-  back-most t n b =
-      let u : Used g outs t = back-used days g outs ok t n b in
-      let l : n ≤ extra_of t = (are.extra t u).most n b in
-      let m = extra-most t ((are.used t).1 u) in
-      omega arith
-
-  pub deepest : (from to : ℕ) → from ≤ to → 0 < most_extra uses → IsDeepest days p from to (most_extra uses)
-  deepest from to order some =
-      let is = most-is uses in
-      let r : Reached uses (fold max 0 (map weight uses)) = most-reached uses 0 (omega arith) in
-      let w : ((use_at uses r.place).used ≡ true) × (extra_of r.place ≡ most_extra uses) = weight-used (use_at uses r.place) (most_extra uses) some (r.is ∙ sym is) in
-      let used : Used g outs r.place = (are.used r.place).0 w.0 in
-      record {
-        term = r.place;
-        session = from;
-        low = pos from -ℤ pos (extra_of r.place);
-        within = (omega arith, order);
-        is_low = low-is days g outs ok r.place (extra_of r.place) (are.extra r.place used) (pos from);
-        is = (let e = w.1 in omega (arith, ints));
-        most = λ t s l a b low. (let n : Back days g outs ok (pos s) t l = needs-back days g outs ok (pos s) t l low.needed in
-            let m = back-most t n.rows n.back in
-            let e = n.is in
-            omega (arith, ints));
-      }
-
   module _ (slots : List TermSlots) (slotted : AreSlotted uses slots) (long : length slots ≡ length uses) (from to : ℕ) (order : from ≤ to) (within : to < length days)
-      (reach : ℤ) (held : ℕ) (least : reach ≡ least_reach days p.graph (outputs p) (pos from)) (early : pos 0 ≤ℤ reach) (held_is : held ≡ bound p.graph (outputs p)) (shallow : most_extra uses ≤ 4096) where
+      (extras : List ℕ) (rows : AreRows days p.graph (outputs p) from (to + 1 - from) extras)
+      (reach : ℤ) (held : ℕ) (least : reach ≡ least_reach days p.graph (outputs p) (pos from)) (early : pos 0 ≤ℤ reach) (held_is : held ≡ bound p.graph (outputs p)) (shallow : most_extra extras ≤ 4096) where
     abbrev plan : Planned
-    plan = record { from = from; to = to; reach = reach; bound = held; uses = uses; slots = slots }
+    plan = record { from = from; to = to; reach = reach; bound = held; uses = uses; extras = extras; slots = slots }
 
-    abbrev most : ℕ
-    most = most_back g uses (length g)
+    abbrev extra_of : ℕ → ℕ → ℕ
+    extra_of s t = extra_at extras (length g) (s - from) t
 
-    reach-is : reach ≡ pos from -ℤ pos most
-    reach-is = least ∙ least-is days rise g outs uses ok are (pos from)
-
-    extra-back : (t : ℕ) → (use_at uses t).used ≡ true → extra_of t + window_back (slice_get g t) ≤ most
-    extra-back t h = used-back g outs uses ok are t ((are.used t).0 h)
-
-    most-early : most ≤ from
-    most-early = let r = reach-is in let e = early in omega (arith, ints)
+    covers : ReachCovers days g outs (pos from)
+    covers = reach-covers days g ok.graph (λ k n e. (ok.windows k n e).0) outs (pos from)
 
     -- ---- lows
 
-    difference : (s e : ℕ) → e ≤ s → pos s -ℤ pos e ≡ pos (s - e)
-    difference s e h = omega (arith, ints)
+    -- for a session of the range, what is known of it for the first one
+    first-need : (t s : ℕ) (r : ℤ) → from ≤ s → Needs days g outs (pos s) t r → (q : ℤ) × Needs days g outs (pos from) t q × (q ≤ℤ r)
+    first-need t s r a needs = needs-rise days rise g outs (pos from) (pos s) (omega (arith, ints)) t r needs
+
+    module _ (t s : ℕ) (used : (use_at uses t).used ≡ true) (after : from ≤ s) (until : s ≤ to) where
+      its_extra : IsExtra days s g outs t (extra_of s t)
+      its_extra = is-extra days p checked from to order extras rows t s ((are.used t).0 used) after until
+
+      its_low : IsLow days g outs (pos s) t (pos s -ℤ pos (extra_of s t))
+      its_low = low-is days s g outs t (extra_of s t) its_extra
+
+      pub reached : reach ≤ℤ (pos s -ℤ pos (extra_of s t))
+      reached =
+          let f = first-need t s (pos s -ℤ pos (extra_of s t)) after its_low.needed in
+          let l : least_reach days g outs (pos from) ≤ℤ f.0 = covers.sessions t f.0 f.1 in
+          let m = f.2 in
+          omega (arith, ints, least)
+
+      pub within-session : extra_of s t ≤ s
+      within-session = let r = reached in let e = early in omega (arith, ints)
+
+      pub is-few : extra_of s t ≤ 4096
+      is-few = let m = own-most days p checked from to order extras rows t s (let w = used-in t used in let z = are.size in omega arith) after until in omega arith
+
+      pub is-low-at : low_at plan t s ≡ s - extra_of s t
+      unfolding low_at
+      is-low-at = ap (λ n. s - extra_at extras n (s - from) t) are.size
+
+      pub low-exact : IsLow days g outs (pos s) t (pos (low_at plan t s))
+      low-exact =
+          let w = within-session in
+          let e : pos s -ℤ pos (extra_of s t) ≡ pos (s - extra_of s t) = omega (arith, ints) in
+          subst (IsLow days g outs (pos s) t) (e ∙ ap pos (sym is-low-at)) its_low
+
+      pub low-reached : reach ≤ℤ pos (low_at plan t s)
+      low-reached = let w = within-session in let r = reached in let e = is-low-at in omega (arith, ints)
+
+      pub bars-reached : (n : Node) → slice_get g t ≡ Some n → HasBar n → reach ≤ℤ before (pos (low_at plan t s)) n.window
+      bars-reached n e h =
+          let f = first-need t s (pos s -ℤ pos (extra_of s t)) after its_low.needed in
+          let l : least_reach days g outs (pos from) ≤ℤ before (reads_at days n.kind f.0) n.window = covers.bars t n f.0 f.1 e h in
+          let r : reads_at days n.kind f.0 ≤ℤ f.0 = reads_at-within days n.kind f.0 in
+          let m = f.2 in
+          let w = within-session in
+          let is = is-low-at in
+          omega (arith, ints, least)
 
     lows : AreLows days p plan
-    unfolding is_used low_at
+    unfolding is_used
     lows = record {
-      exact = λ t s a. (let b = extra-back t a.0 in let m = most-early in let f = a.1.0 in
-          subst (IsLow days g outs (pos s) t) (difference s (extra_of t) (omega arith)) (low-is days g outs ok t (extra_of t) (are.extra t ((are.used t).0 a.0)) (pos s)));
-      few = λ t s a. (let b = extra-back t a.0 in let m = most-early in let f = a.1.0 in let x = extra-most t a.0 in (omega arith, omega arith));
-      covered = λ t s a. (let b = extra-back t a.0 in let m = most-early in let f = a.1.0 in let r = reach-is in
-          let d = difference s (extra_of t) (omega arith) in omega (arith, ints));
-      bars = λ t s n a e h. (let b : extra_of t + bars_back n ≤ most = subst (λ o. extra_of t + window_back o ≤ most) e (extra-back t a.0) in
-          let w = bars-back-is n h in let m = most-early in let f = a.1.0 in let r = reach-is in
-          let d = difference s (extra_of t) (omega arith) in omega (arith, ints));
+      exact = λ t s a. low-exact t s a.0 a.1.0 a.1.1;
+      few = λ t s a. (let w = within-session t s a.0 a.1.0 a.1.1 in let f = is-few t s a.0 a.1.0 a.1.1 in let e = is-low-at t s a.0 a.1.0 a.1.1 in (omega arith, omega arith));
+      covered = λ t s a. low-reached t s a.0 a.1.0 a.1.1;
+      bars = λ t s n a e h. bars-reached t s a.0 a.1.0 a.1.1 n e h;
     }
 
     -- ---- used, last users, liveness
@@ -479,6 +497,13 @@ module _ (days : List ℤ) (rise : AllPairs (λ a b. a <ℤ b) days) (p : Pipeli
       few = most_held;
       terms = (let s = are.size in omega arith);
       within = λ t h. (let w = used-in t (used-of t h) in omega arith);
-      rows = λ t h. (let b = extra-back t (used-of t h) in let m = most-early in let x = extra-most t (used-of t h) in (omega arith, omega arith));
+      size = rows.size ∙ ap (λ n. (to + 1 - from) * n) (sym are.size);
+      rows = λ t s a.
+          let used = used-of t a.0 in
+          let size : extra_at extras (length uses) (s - from) t ≡ extra_of s t = ap (λ n. extra_at extras n (s - from) t) are.size in
+          let w = within-session t s used a.1.0 a.1.1 in
+          let f = is-few t s used a.1.0 a.1.1 in
+          (omega arith, omega arith);
+      among = λ t h. used-in t (used-of t h);
       slots = λ t h. own-room t (used-of t h);
     }

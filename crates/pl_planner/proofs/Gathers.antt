@@ -1,32 +1,36 @@
 -- The uses gathered from the last term down are the uses of the definitions.
-use Rattle.std.proofs.Common.{◌≡◌, ◌≢◌, ℕ, zero, suc, ◌+◌, ◌*◌, ◌-◌, ◌<◌, ◌≤◌, Bool, true, false, List, [], ◌∷◌, ◌++◌, length, map, Option, Some, None, refl, sym, ◌∙◌, ap, arith, inl, inr, ◌⊎◌, slice_get, filter_map, option_to_list, ◌==◌, replicate, length-set, get_or-set_same, get_or-set_other}
+use Rattle.std.proofs.Common.{◌≡◌, ◌≢◌, ℕ, zero, suc, ◌+◌, ◌*◌, ◌-◌, ◌<◌, ◌≤◌, Bool, true, false, max, ℤ, pos, negsuc, ◌-ℤ◌, ◌≤ℤ◌, ◌<ℤ◌, unsigned_abs, List, [], ◌∷◌, ◌++◌, length, map, AllPairs, Option, Some, None, refl, sym, ◌∙◌, ap, subst, arith, inl, inr, ◌⊎◌, slice_get, filter_map, option_to_list, ◌==◌, replicate, length-set, get_or-set_same, get_or-set_other}
 use Rattle.std.proofs.lemmas.Bool.{cases_lt, cases_eq, true≢false, or_cases, or_left, or_right, eqb-true, eq-eqb}
+use Rattle.std.proofs.lemmas.Int.{ints}
 use Rattle.std.proofs.lemmas.List.{map-append, length-replicate}
 use Rattle.std.proofs.lemmas.Option.{slice_get_within, slice_get_past}
 use Rattle.pl_spec.specs.Term.{Input, Node, Graph, IsGraph}
 use Rattle.pl_spec.specs.Term.Input.{BarColumn, TermInput}
-use Rattle.pl_spec.specs.Graph.{input_number, mentions, contains, mentions_at, Used}
+use Rattle.pl_spec.specs.Kind.{Kind}
+use Rattle.pl_spec.specs.Graph.{reads_at, input_number, mentions, contains, mentions_at, Used}
 use Rattle.pl_spec.specs.Graph.Used.{output, mentioned}
 use Rattle.pl_laws.proofs.Uses.{lower}
+use Rattle.pl_laws.proofs.Lows.{reads_at-rises, reads_at-within}
+use Rattle.pl_planner.proofs.Moved.{early-still, late-still}
 use Rattle.pl_planner.specs.declared.uses.Use.{Use}
 use Rattle.pl_planner.specs.Extra as extra
-use Rattle.pl_planner.specs.Extra.{Ask, input_ask, number_asks, asks, asks_of, asks_at, IsBack, IsExtra}
-use Rattle.pl_planner.specs.Uses.{unused, use_at, all_asked, marked, all_marked, AreUses}
+use Rattle.pl_planner.specs.Extra.{Ask, back_from, input_ask, number_asks, asks, asks_of, asks_at, IsBack, IsExtra}
+use Rattle.pl_planner.specs.Uses.{unused, use_at, all_asked, marked, all_marked, AreUses, HaveExtras}
 use Rattle.pl_planner.proofs.Asking.{Grows, all_grow, all_given, all_sound, all_else}
 
 -- ---- what a node asks of is what it mentions
 
-input_asks : (w : ℕ) (is : List Input) → map (λ (a : Ask). a.0) (filter_map (input_ask w) is) ≡ filter_map input_number is
-input_asks w [] = refl
-input_asks w (BarColumn c ∷ is) = input_asks w is
-input_asks w (TermInput k ∷ is) = ap (λ l. k ∷ l) (input_asks w is)
+input_asks : (back w : ℕ) (is : List Input) → map (λ (a : Ask). a.0) (filter_map (input_ask back w) is) ≡ filter_map input_number is
+input_asks back w [] = refl
+input_asks back w (BarColumn c ∷ is) = input_asks back w is
+input_asks back w (TermInput k ∷ is) = ap (λ l. k ∷ l) (input_asks back w is)
 
-asks_of_number : (o : Option ℕ) → map (λ (a : Ask). a.0) (number_asks o) ≡ option_to_list o
-asks_of_number None = refl
-asks_of_number (Some k) = refl
+asks_of_number : (m : ℕ) (o : Option ℕ) → map (λ (a : Ask). a.0) (number_asks m o) ≡ option_to_list o
+asks_of_number m None = refl
+asks_of_number m (Some k) = refl
 
-asks_mention : (n : Node) → map (λ (a : Ask). a.0) (asks n) ≡ mentions n
-asks_mention n = rw (map-append, map-append, input_asks n.window n.inputs, asks_of_number n.mask, asks_of_number n.group) refl
+asks_mention : (days : List ℤ) (s : ℕ) (n : Node) (m : ℕ) → map (λ (a : Ask). a.0) (asks days s n m) ≡ mentions n
+asks_mention days s n m = rw (map-append, map-append, input_asks (back_from days s n.kind m) n.window n.inputs, asks_of_number m n.mask, asks_of_number m n.group) refl
 
 in_list : (list : List Ask) (i : ℕ) (a : Ask) → slice_get list i ≡ Some a → contains (map (λ (b : Ask). b.0) list) a.0 ≡ true
 in_list [] i a e = cc
@@ -35,8 +39,8 @@ in_list (b ∷ list) (suc i) a e = or_right (b.0 == a.0) (contains (map (λ (c :
 
 pub record AskedFor (list : List Ask) (t : ℕ) : Type 0 where
   pub place : ℕ
-  pub rows : ℕ
-  pub is : slice_get list place ≡ Some (t, rows)
+  pub back : ℕ
+  pub is : slice_get list place ≡ Some (t, back)
 
 found : (x y r : ℕ) → x ≡ y → (let o : Option Ask = Some (x, r) in o) ≡ Some (y, r)
 found x y r e = rw e refl
@@ -44,84 +48,167 @@ found x y r e = rw e refl
 find_ask : (list : List Ask) (t : ℕ) → contains (map (λ (b : Ask). b.0) list) t ≡ true → AskedFor list t
 find_ask [] t h = absurd (true≢false (sym h))
 find_ask (b ∷ list) t h = elim (or_cases (b.0 == t) (contains (map (λ (c : Ask). c.0) list) t) h) [
-  | inl p ↦ record { place = 0; rows = b.1; is = found b.0 t b.1 (eqb-true b.0 t p) }
-  | inr p ↦ (let f = find_ask list t p in record { place = suc f.place; rows = f.rows; is = f.is })
+  | inl p ↦ record { place = 0; back = b.1; is = found b.0 t b.1 (eqb-true b.0 t p) }
+  | inr p ↦ (let f = find_ask list t p in record { place = suc f.place; back = f.back; is = f.is })
 ]
 
-module _ (g : Graph) where
-  pub mention_of_ask : (u i : ℕ) (a : Ask) → slice_get (asks_at g u) i ≡ Some a → contains (mentions_at g u) a.0 ≡ true
-  mention_of_ask u i a e = here (slice_get g u) refl
+module _ (days : List ℤ) (s : ℕ) (g : Graph) where
+  pub mention_of_ask : (u m i : ℕ) (a : Ask) → slice_get (asks_at days s g u m) i ≡ Some a → contains (mentions_at g u) a.0 ≡ true
+  mention_of_ask u m i a e = here (slice_get g u) refl
     where
       here : (o : Option Node) → slice_get g u ≡ o → contains (mentions_at g u) a.0 ≡ true
       here None f = let none = rw f at e in cc
-      here (Some n) f = let some = rw f at e in rw f (ap (λ l. contains l a.0) (sym (asks_mention n)) ∙ in_list (asks n) i a some)
+      here (Some n) f = let some = rw f at e in rw f (ap (λ l. contains l a.0) (sym (asks_mention days s n m)) ∙ in_list (asks days s n m) i a some)
 
-  pub ask_of_mention : (u t : ℕ) → contains (mentions_at g u) t ≡ true → AskedFor (asks_at g u) t
-  ask_of_mention u t h = here (slice_get g u) refl
+  pub ask_of_mention : (u m t : ℕ) → contains (mentions_at g u) t ≡ true → AskedFor (asks_at days s g u m) t
+  ask_of_mention u m t h = here (slice_get g u) refl
     where
-      here : (o : Option Node) → slice_get g u ≡ o → AskedFor (asks_at g u) t
+      here : (o : Option Node) → slice_get g u ≡ o → AskedFor (asks_at days s g u m) t
       here None f = let none = rw f at h in absurd (true≢false (sym none))
-      here (Some n) f = let some = rw f at h in rw f (find_ask (asks n) t (ap (λ l. contains l t) (asks_mention n) ∙ some))
+      here (Some n) f = let some = rw f at h in rw f (find_ask (asks days s n m) t (ap (λ l. contains l t) (asks_mention days s n m) ∙ some))
 
-module _ (g : Graph) (outputs : List ℕ) where
+module _ (days : List ℤ) (s : ℕ) (g : Graph) (outputs : List ℕ) where
   -- before the terms below n are asked
   pub record AreGathered (n : ℕ) (us : List Use) : Type 0 where
     pub size : length us ≡ length g
-    pub sound : (t : ℕ) → (use_at us t).used ≡ true → IsBack g outputs t (use_at us t).extra
+    pub sound : (t : ℕ) → (use_at us t).used ≡ true → IsBack days s g outputs t (use_at us t).extra
         × (((contains outputs t ≡ true) × ((use_at us t).last ≡ length g)) ⊎ (Used g outputs (use_at us t).last × (contains (mentions_at g (use_at us t).last) t ≡ true)))
     pub outs : (t : ℕ) → contains outputs t ≡ true → ((use_at us t).used ≡ true) × ((use_at us t).last ≡ length g)
-    pub given : (u i t rows : ℕ) → n ≤ u → (use_at us u).used ≡ true → slice_get (asks_at g u) i ≡ Some (t, rows)
-        → ((use_at us t).used ≡ true) × ((use_at us u).extra + rows ≤ (use_at us t).extra) × (u ≤ (use_at us t).last)
+    pub given : (u i t back : ℕ) → n ≤ u → (use_at us u).used ≡ true → slice_get (asks_at days s g u (use_at us u).extra) i ≡ Some (t, back)
+        → ((use_at us t).used ≡ true) × (back ≤ (use_at us t).extra) × (u ≤ (use_at us t).last)
 
-module _ (g : Graph) (outputs : List ℕ) (ok : IsGraph g) where
-  pub ask_lower : (u i : ℕ) (a : Ask) → slice_get (asks_at g u) i ≡ Some a → a.0 < u
-  ask_lower u i a e = lower g outputs ok u a.0 (mention_of_ask g u i a e)
+-- ---- a term that is computed earlier asks for earlier sessions
 
-  module _ (us : List Use) (k : ℕ) (so_far : AreGathered g outputs (suc k) us) where
+back-is : (days : List ℤ) (s : ℕ) (k : Kind) (n : ℕ) → pos (back_from days s k n) ≡ pos s -ℤ reads_at days k (pos s -ℤ pos n)
+back-is days s k n =
+    let l : reads_at days k (pos s -ℤ pos n) ≤ℤ (pos s -ℤ pos n) = reads_at-within days k (pos s -ℤ pos n) in
+    whole (pos s -ℤ reads_at days k (pos s -ℤ pos n)) (omega (arith, ints, l))
+  where
+    whole : (z : ℤ) → pos 0 ≤ℤ z → pos (unsigned_abs z) ≡ z
+    whole (pos z) h = refl
+    whole (negsuc z) h = absurd (omega (arith, ints))
+
+pub back-of : (days : List ℤ) (s : ℕ) (k : Kind) (n : ℕ) → reads_at days k (pos s -ℤ pos n) ≡ pos s -ℤ pos (back_from days s k n)
+back-of days s k n = let e = back-is days s k n in omega (arith, ints)
+
+-- and no session of the calendar, and none before it, is moved before the calendar
+pub back-few : (days : List ℤ) (s : ℕ) (k : Kind) (n : ℕ) → back_from days s k n ≤ max n s
+back-few days s k n = elim (cases_lt s n) [
+  | inl p ↦ (let e : reads_at days k (pos s -ℤ pos n) ≡ pos s -ℤ pos n = early-still days k (pos s -ℤ pos n) (omega (arith, ints)) in let b = back-is days s k n in omega (arith, ints))
+  | inr p ↦ (let l : pos 0 ≤ℤ reads_at days k (pos s -ℤ pos n) = late-still days k (pos s -ℤ pos n) (omega (arith, ints)) in let b = back-is days s k n in omega (arith, ints))
+]
+
+module _ (days : List ℤ) (rise : AllPairs (λ a b. a <ℤ b) days) (s : ℕ) where
+  pub back-rises : (k : Kind) (m n : ℕ) → m ≤ n → back_from days s k m ≤ back_from days s k n
+  back-rises k m n h =
+      let l : reads_at days k (pos s -ℤ pos n) ≤ℤ reads_at days k (pos s -ℤ pos m) = reads_at-rises days rise k (pos s -ℤ pos n) (pos s -ℤ pos m) (omega (arith, ints)) in
+      let a = back-is days s k m in
+      let b = back-is days s k n in
+      omega (arith, ints)
+
+  -- the asks of one node, one against another
+  record Later (xs : List Ask) (t back i : ℕ) : Type 0 where
+    last : ℕ
+    is : slice_get xs i ≡ Some (t, last)
+    most : back ≤ last
+
+  Rise : List Ask → List Ask → Type 0
+  Rise [] [] = Unit {0}
+  Rise [] (y ∷ ys) = ⊥
+  Rise (x ∷ xs) [] = ⊥
+  Rise (x ∷ xs) (y ∷ ys) = ((x.0 ≡ y.0) × (x.1 ≤ y.1)) × Rise xs ys
+
+  rise-append : (xs ys us vs : List Ask) → Rise xs ys → Rise us vs → Rise (xs ++ us) (ys ++ vs)
+  unfolding Rise
+  rise-append [] [] us vs h k = k
+  rise-append [] (y ∷ ys) us vs h k = absurd h
+  rise-append (x ∷ xs) [] us vs h k = absurd h
+  rise-append (x ∷ xs) (y ∷ ys) us vs h k = (h.0, rise-append xs ys us vs h.1 k)
+
+  rise-inputs : (b c w : ℕ) → b ≤ c → (is : List Input) → Rise (filter_map (input_ask b w) is) (filter_map (input_ask c w) is)
+  unfolding Rise
+  rise-inputs b c w h [] = tt
+  rise-inputs b c w h (BarColumn x ∷ is) = rise-inputs b c w h is
+  rise-inputs b c w h (TermInput k ∷ is) = ((refl, omega arith), rise-inputs b c w h is)
+
+  rise-number : (m n : ℕ) → m ≤ n → (o : Option ℕ) → Rise (number_asks m o) (number_asks n o)
+  unfolding Rise
+  rise-number m n h None = tt
+  rise-number m n h (Some k) = ((refl, h), tt)
+
+  rise-at : (xs ys : List Ask) → Rise xs ys → (i t back : ℕ) → slice_get xs i ≡ Some (t, back) → Later ys t back i
+  unfolding Rise
+  rise-at [] [] h i t back e = cc
+  rise-at [] (y ∷ ys) h i t back e = absurd h
+  rise-at (x ∷ xs) [] h i t back e = absurd h
+  rise-at (x ∷ xs) (y ∷ ys) h zero t back e =
+      let is : x ≡ (let a : Ask = (t, back) in a) = cc in
+      let a : x.0 ≡ t = ap (λ (z : Ask). z.0) is in
+      let b : x.1 ≡ back = ap (λ (z : Ask). z.1) is in
+      let l = h.0.1 in
+      record { last = y.1; is = ap (λ z. Some (let v : Ask = (z, y.1) in v)) (sym h.0.0 ∙ a); most = omega arith }
+  rise-at (x ∷ xs) (y ∷ ys) h (suc i) t back e = let r = rise-at xs ys h.1 i t back e in record { last = r.last; is = r.is; most = r.most }
+
+  asks-rise : (g : Graph) (u m n : ℕ) → m ≤ n → (i t back : ℕ) → slice_get (asks_at days s g u m) i ≡ Some (t, back) → Later (asks_at days s g u n) t back i
+  asks-rise g u m n h i t back e = here (slice_get g u) refl
+    where
+      here : (o : Option Node) → slice_get g u ≡ o → Later (asks_at days s g u n) t back i
+      here None f = let none = rw f at e in cc
+      here (Some node) f =
+          let some = rw f at e in
+          rw f (rise-at (asks days s node m) (asks days s node n)
+          (rise-append _ _ _ _ (rise-append _ _ _ _ (rise-inputs _ _ node.window (back-rises node.kind m n h) node.inputs) (rise-number m n h node.mask)) (rise-number m n h node.group))
+          i t back some)
+
+module _ (days : List ℤ) (rise : AllPairs (λ a b. a <ℤ b) days) (s : ℕ) (g : Graph) (outputs : List ℕ) (ok : IsGraph g) where
+  pub ask_lower : (u m i : ℕ) (a : Ask) → slice_get (asks_at days s g u m) i ≡ Some a → a.0 < u
+  ask_lower u m i a e = lower g outputs ok u a.0 (mention_of_ask days s g u m i a e)
+
+  module _ (us : List Use) (k : ℕ) (so_far : AreGathered days s g outputs (suc k) us) where
     -- an unused term asks nothing
-    pub unasked : (use_at us k).used ≡ false → AreGathered g outputs k us
+    pub unasked : (use_at us k).used ≡ false → AreGathered days s g outputs k us
     unasked e = record {
       size = so_far.size;
       sound = so_far.sound;
       outs = so_far.outs;
-      given = λ u i t rows l used at. elim (cases_eq u k) [
+      given = λ u i t back l used at. elim (cases_eq u k) [
         | inl p ↦ absurd (true≢false (sym used ∙ ap (λ n. (use_at us n).used) p ∙ e))
-        | inr p ↦ so_far.given u i t rows (omega arith) used at
+        | inr p ↦ so_far.given u i t back (omega arith) used at
       ];
     }
 
     module _ (used : (use_at us k).used ≡ true) (within : k < length g) where
       abbrev list : List Ask
-      list = asks_at g k
+      list = asks_at days s g k (use_at us k).extra
 
       abbrev after : List Use
-      after = all_asked us k (use_at us k).extra list
+      after = all_asked us k list
 
       low : (i : ℕ) (a : Ask) → slice_get list i ≡ Some a → a.0 < k
-      low i a e = ask_lower k i a e
+      low i a e = ask_lower k (use_at us k).extra i a e
 
       low_in : (i : ℕ) (a : Ask) → slice_get list i ≡ Some a → a.0 < length us
       low_in i a e = let l = low i a e in let z = so_far.size in omega arith
 
       grown : Grows us after
-      grown = all_grow k (use_at us k).extra list us low_in
+      grown = all_grow k list us low_in
 
       else : (j : ℕ) → k ≤ j → use_at after j ≡ use_at us j
-      else j h = all_else k (use_at us k).extra list us k j low h
+      else j h = all_else k list us k j low h
 
       of_used : (t : ℕ) → (use_at us t).used ≡ true → Used g outputs t
       of_used t h = needed t (use_at us t).extra (so_far.sound t h).0
         where
-          needed : (t n : ℕ) → IsBack g outputs t n → Used g outputs t
+          needed : (t n : ℕ) → IsBack days s g outputs t n → Used g outputs t
           needed t n (extra.output h) = output h
-          needed t n (extra.mentioned u m i rows h e) = mentioned u (needed u m h) (mention_of_ask g u i (t, rows) e)
+          needed t n (extra.mentioned u m i back h e) = mentioned u (needed u m h) (mention_of_ask days s g u m i (t, back) e)
 
       abbrev Reader : ℕ → ℕ → Type 0
       Reader t l = ((contains outputs t ≡ true) × (l ≡ length g)) ⊎ (Used g outputs l × (contains (mentions_at g l) t ≡ true))
 
-      still : (t : ℕ) → (use_at after t).used ≡ true → IsBack g outputs t (use_at after t).extra × Reader t (use_at after t).last
-      still t h = all_sound k (use_at us k).extra (λ t n. IsBack g outputs t n) Reader list us low_in
-          (λ i a e. (extra.mentioned k (use_at us k).extra i a.1 (so_far.sound k used).0 e, inr (of_used k used, mention_of_ask g k i a e)))
+      still : (t : ℕ) → (use_at after t).used ≡ true → IsBack days s g outputs t (use_at after t).extra × Reader t (use_at after t).last
+      still t h = all_sound k (λ t n. IsBack days s g outputs t n) Reader list us low_in
+          (λ i a e. (extra.mentioned k (use_at us k).extra i a.1 (so_far.sound k used).0 e, inr (of_used k used, mention_of_ask days s g k (use_at us k).extra i a e)))
           (λ t h. so_far.sound t h) t h
 
       reader_most : (t l : ℕ) → Reader t l → l ≤ length g
@@ -135,7 +222,7 @@ module _ (g : Graph) (outputs : List ℕ) (ok : IsGraph g) where
           past None f p c = let none = rw f at c in true≢false (sym none)
           past (Some n) f p c = let w = slice_get_within g l n f in omega arith
 
-      pub step : AreGathered g outputs k after
+      pub step : AreGathered days s g outputs k after
       step = record {
         size = grown.size ∙ so_far.size;
         sound = still;
@@ -146,56 +233,61 @@ module _ (g : Graph) (outputs : List ℕ) (ok : IsGraph g) where
             let is = o.1 in
             let most = reader_most t (use_at after t).last (still t u).1 in
             (u, omega arith);
-        given = λ u i t rows l h at. elim (cases_eq u k) [
-          | inl p ↦ (
-              let list_at : slice_get list i ≡ Some (t, rows) = rw p at at in
-              let g3 = all_given k (use_at us k).extra list us low_in i (t, rows) list_at in
-              let e : (use_at after u).extra ≡ (use_at us k).extra = ap (λ (x : Use). x.extra) (else u l) ∙ ap (λ n. (use_at us n).extra) p in
-              let g1 = g3.1 in
-              let g2 = g3.2 in
-              (g3.0, omega arith, omega arith))
-          | inr p ↦ (
-              let before : (use_at us u).used ≡ true = ap (λ (x : Use). x.used) (sym (else u l)) ∙ h in
-              let g3 = so_far.given u i t rows (omega arith) before at in
-              let e : (use_at after u).extra ≡ (use_at us u).extra = ap (λ (x : Use). x.extra) (else u l) in
-              let g1 = g3.1 in
-              let g2 = g3.2 in
-              let m1 = grown.extra t g3.0 in
-              let m2 = grown.last t g3.0 in
-              (grown.used t g3.0, omega arith, omega arith))
-        ];
+        given = λ u i t back l h at.
+            let same : use_at after u ≡ use_at us u = else u l in
+            let before : (use_at us u).used ≡ true = ap (λ (x : Use). x.used) (sym same) ∙ h in
+            let asked : slice_get (asks_at days s g u (use_at us u).extra) i ≡ Some (t, back) = ap (λ (x : Use). slice_get (asks_at days s g u x.extra) i) (sym same) ∙ at in
+            elim (cases_eq u k) [
+              | inl p ↦ (
+                  let list_at : slice_get list i ≡ Some (t, back) = subst (λ v. slice_get (asks_at days s g v (use_at us v).extra) i ≡ Some (t, back)) p asked in
+                  let g3 = all_given k list us low_in i (t, back) list_at in
+                  let g1 = g3.1 in
+                  let g2 = g3.2 in
+                  (g3.0, omega arith, omega arith))
+              | inr p ↦ (
+                  let g3 = so_far.given u i t back (omega arith) before asked in
+                  let g1 = g3.1 in
+                  let g2 = g3.2 in
+                  let m1 = grown.extra t g3.0 in
+                  let m2 = grown.last t g3.0 in
+                  (grown.used t g3.0, omega arith, omega arith))
+            ];
       }
 
-  module _ (us : List Use) (all : AreGathered g outputs 0 us) where
+  module _ (us : List Use) (all : AreGathered days s g outputs 0 us) where
     used_of : (t : ℕ) → Used g outputs t → (use_at us t).used ≡ true
     used_of t (output h) = (all.outs t h).0
-    used_of t (mentioned u h m) = let a = ask_of_mention g u t m in (all.given u a.place t a.rows (omega arith) (used_of u h) a.is).0
+    used_of t (mentioned u h m) = let a = ask_of_mention days s g u (use_at us u).extra t m in (all.given u a.place t a.back (omega arith) (used_of u h) a.is).0
 
-    needed_used : (t n : ℕ) → IsBack g outputs t n → Used g outputs t
+    needed_used : (t n : ℕ) → IsBack days s g outputs t n → Used g outputs t
     needed_used t n (extra.output h) = output h
-    needed_used t n (extra.mentioned u m i rows h e) = mentioned u (needed_used u m h) (mention_of_ask g u i (t, rows) e)
+    needed_used t n (extra.mentioned u m i back h e) = mentioned u (needed_used u m h) (mention_of_ask days s g u m i (t, back) e)
 
-    most_needed : (t n : ℕ) → IsBack g outputs t n → n ≤ (use_at us t).extra
+    most_needed : (t n : ℕ) → IsBack days s g outputs t n → n ≤ (use_at us t).extra
     most_needed t n (extra.output h) = omega arith
-    most_needed t n (extra.mentioned u m i rows h e) =
+    most_needed t n (extra.mentioned u m i back h e) =
         let ih = most_needed u m h in
-        let gv = (all.given u i t rows (omega arith) (used_of u (needed_used u m h)) e).1 in
+        let last = asks-rise days rise s g u m (use_at us u).extra ih i t back e in
+        let gv = (all.given u i t last.last (omega arith) (used_of u (needed_used u m h)) last.is).1 in
+        let l = last.most in
         omega arith
 
     pub gathered : AreUses g outputs us
     gathered = record {
       size = all.size;
       used = λ t. (λ h. needed_used t (use_at us t).extra (all.sound t h).0, λ h. used_of t h);
-      extra = λ t h. record { back = (all.sound t (used_of t h)).0; most = λ n m. most_needed t n m };
       last = λ t h. record {
         output = λ o. (all.outs t o).1;
         reader = λ o. elim (all.sound t (used_of t h)).1 [
           | inl p ↦ absurd (true≢false (sym p.0 ∙ o))
           | inr p ↦ p
         ];
-        most = λ u v m. let a = ask_of_mention g u t m in (all.given u a.place t a.rows (omega arith) (used_of u v) a.is).2;
+        most = λ u v m. let a = ask_of_mention days s g u (use_at us u).extra t m in (all.given u a.place t a.back (omega arith) (used_of u v) a.is).2;
       };
     }
+
+    pub extras : HaveExtras days s g outputs us
+    extras = λ t h. record { back = (all.sound t (used_of t h)).0; most = λ n m. most_needed t n m }
 
 -- ---- the outputs are marked first
 
@@ -236,9 +328,9 @@ all_unused (suc n) (suc t) = all_unused n t
 after_all_terms : (g : Graph) (u t : ℕ) → length g ≤ u → contains (mentions_at g u) t ≡ true → ⊥
 after_all_terms g u t h c = let e : slice_get g u ≡ None = slice_get_past g u h in let none = rw e at c in true≢false (sym none)
 
-pub begun : (g : Graph) (outputs : List ℕ) → ((i o : ℕ) → slice_get outputs i ≡ Some o → o < length g)
-    → AreGathered g outputs (length g) (all_marked (replicate (length g) unused) (length g) outputs)
-begun g outputs within =
+pub begun : (days : List ℤ) (s : ℕ) (g : Graph) (outputs : List ℕ) → ((i o : ℕ) → slice_get outputs i ≡ Some o → o < length g)
+    → AreGathered days s g outputs (length g) (all_marked (replicate (length g) unused) (length g) outputs)
+begun days s g outputs within =
     let long : length (replicate (length g) unused) ≡ length g = length-replicate (length g) unused in
     let low : (i o : ℕ) → slice_get outputs i ≡ Some o → o < length (replicate (length g) unused) = λ i o e. let l = within i o e in omega arith in
     let us : List Use = replicate (length g) unused in
@@ -246,12 +338,12 @@ begun g outputs within =
       size = (marked_at (length g) outputs us 0 low).2 ∙ long;
       sound = λ t h. here t (contains outputs t) refl low h;
       outs = λ t h. rw ((marked_at (length g) outputs us t low).0 h) (refl, refl);
-      given = λ u i t rows l h e. absurd (after_all_terms g u t l (mention_of_ask g u i (t, rows) e));
+      given = λ u i t back l h e. absurd (after_all_terms g u t l (mention_of_ask days s g u _ i (t, back) e));
     }
   where
     here : (t : ℕ) (b : Bool) → contains outputs t ≡ b → ((i o : ℕ) → slice_get outputs i ≡ Some o → o < length (replicate (length g) unused))
         → (use_at (all_marked (replicate (length g) unused) (length g) outputs) t).used ≡ true
-        → IsBack g outputs t (use_at (all_marked (replicate (length g) unused) (length g) outputs) t).extra
+        → IsBack days s g outputs t (use_at (all_marked (replicate (length g) unused) (length g) outputs) t).extra
         × (((contains outputs t ≡ true) × ((use_at (all_marked (replicate (length g) unused) (length g) outputs) t).last ≡ length g)) ⊎ (Used g outputs (use_at (all_marked (replicate (length g) unused) (length g) outputs) t).last × (contains (mentions_at g (use_at (all_marked (replicate (length g) unused) (length g) outputs) t).last) t ≡ true)))
     here t true e lo h = rw ((marked_at (length g) outputs (replicate (length g) unused) t lo).0 e) (extra.output e, inl (e, refl))
     here t false e lo h =
@@ -268,34 +360,37 @@ short-append b [] ys h k i a e = k i a e
 short-append b (x ∷ xs) ys h k zero a e = h 0 a e
 short-append b (x ∷ xs) ys h k (suc i) a e = short-append b xs ys (λ j c f. h (suc j) c f) k i a e
 
-short_inputs : (w : ℕ) (is : List Input) → Short w (filter_map (input_ask w) is)
-short_inputs w [] i a e = cc
-short_inputs w (BarColumn c ∷ is) i a e = short_inputs w is i a e
-short_inputs w (TermInput k ∷ is) zero a e = let is : (let x : Ask = (k, w - 1) in x) ≡ a = cc in let r : w - 1 ≡ a.1 = ap (λ (x : Ask). x.1) is in omega arith
-short_inputs w (TermInput k ∷ is) (suc i) a e = short_inputs w is i a e
+short_inputs : (back w b : ℕ) → back + w ≤ b → (is : List Input) → Short b (filter_map (input_ask back w) is)
+short_inputs back w b h [] i a e = cc
+short_inputs back w b h (BarColumn c ∷ is) i a e = short_inputs back w b h is i a e
+short_inputs back w b h (TermInput k ∷ is) zero a e = let is : (let x : Ask = (k, back + (w - 1)) in x) ≡ a = cc in let r : back + (w - 1) ≡ a.1 = ap (λ (x : Ask). x.1) is in omega arith
+short_inputs back w b h (TermInput k ∷ is) (suc i) a e = short_inputs back w b h is i a e
 
-short_number : (w : ℕ) (o : Option ℕ) → Short w (number_asks o)
-short_number w None i a e = cc
-short_number w (Some k) zero a e = let is : (let x : Ask = (k, 0) in x) ≡ a = cc in let r : 0 ≡ a.1 = ap (λ (x : Ask). x.1) is in omega arith
-short_number w (Some k) (suc i) a e = cc
+short_number : (m b : ℕ) → m ≤ b → (o : Option ℕ) → Short b (number_asks m o)
+short_number m b h None i a e = cc
+short_number m b h (Some k) zero a e = let is : (let x : Ask = (k, m) in x) ≡ a = cc in let r : m ≡ a.1 = ap (λ (x : Ask). x.1) is in omega arith
+short_number m b h (Some k) (suc i) a e = cc
 
-ask_short : (g : Graph) (b : ℕ) → ((k : ℕ) (n : Node) → slice_get g k ≡ Some n → n.window ≤ b) → (u i : ℕ) (a : Ask) → slice_get (asks_at g u) i ≡ Some a → a.1 ≤ b
-ask_short g b short u i a e = here (slice_get g u) refl
+ask_short : (days : List ℤ) (s : ℕ) (g : Graph) (b : ℕ) → ((k : ℕ) (n : Node) → slice_get g k ≡ Some n → n.window ≤ b) → (u m i : ℕ) (a : Ask) → slice_get (asks_at days s g u m) i ≡ Some a → a.1 ≤ max m s + b
+ask_short days s g b short u m i a e = here (slice_get g u) refl
   where
-    here : (o : Option Node) → slice_get g u ≡ o → a.1 ≤ b
+    here : (o : Option Node) → slice_get g u ≡ o → a.1 ≤ max m s + b
     here None f = let none = rw f at e in cc
     here (Some n) f =
         let some = rw f at e in
         let w : n.window ≤ b = short u n f in
-        let r : a.1 ≤ n.window = short-append n.window (filter_map (input_ask n.window) n.inputs ++ number_asks n.mask) (number_asks n.group)
-        (short-append n.window (filter_map (input_ask n.window) n.inputs) (number_asks n.mask) (short_inputs n.window n.inputs) (short_number n.window n.mask)) (short_number n.window n.group) i a some in
-        omega arith
+        let few = back-few days s n.kind m in
+        short-append (max m s + b) (filter_map (input_ask (back_from days s n.kind m) n.window) n.inputs ++ number_asks m n.mask) (number_asks m n.group)
+        (short-append (max m s + b) (filter_map (input_ask (back_from days s n.kind m) n.window) n.inputs) (number_asks m n.mask)
+        (short_inputs (back_from days s n.kind m) n.window (max m s + b) (omega arith) n.inputs) (short_number m (max m s + b) (omega arith) n.mask)) (short_number m (max m s + b) (omega arith) n.group) i a some
 
-pub needed_few : (g : Graph) (outputs : List ℕ) (ok : IsGraph g) → ((t : ℕ) → contains outputs t ≡ true → t < length g) → ((k : ℕ) (n : Node) → slice_get g k ≡ Some n → n.window ≤ 1260)
-    → (t n : ℕ) → IsBack g outputs t n → n + 1260 * t ≤ 1260 * length g
-needed_few g outputs ok within short t n (extra.output h) = let l = within t h in omega arith
-needed_few g outputs ok within short t n (extra.mentioned u m i rows h e) =
-    let ih = needed_few g outputs ok within short u m h in
-    let l : t < u = ask_lower g outputs ok u i (t, rows) e in
-    let r : rows ≤ 1260 = ask_short g 1260 short u i (t, rows) e in
-    omega arith
+pub needed_few : (days : List ℤ) (rise : AllPairs (λ a b. a <ℤ b) days) (s : ℕ) (g : Graph) (outputs : List ℕ) (ok : IsGraph g) → ((t : ℕ) → contains outputs t ≡ true → t < length g) → ((k : ℕ) (n : Node) → slice_get g k ≡ Some n → n.window ≤ 1260)
+    → (t n : ℕ) → IsBack days s g outputs t n → (n + 1260 * t ≤ s + 1260 * length g) × (t < length g)
+needed_few days rise s g outputs ok within short t n (extra.output h) = let l = within t h in (omega arith, l)
+needed_few days rise s g outputs ok within short t n (extra.mentioned u m i back h e) =
+    let ih = needed_few days rise s g outputs ok within short u m h in
+    let sum = ih.0 in
+    let inside = ih.1 in
+    let l : t < u = ask_lower days rise s g outputs ok u m i (t, back) e in
+    let r : back ≤ max m s + 1260 = ask_short days s g 1260 short u m i (t, back) e in
+    (omega arith, omega arith)

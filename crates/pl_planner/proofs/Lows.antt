@@ -12,13 +12,13 @@ use Rattle.pl_spec.specs.Graph.{contains, reads_at, reach, least_of, Used}
 use Rattle.pl_spec.specs.Lows.{Reads, Needs, IsLow, least_reach}
 use Rattle.pl_laws.specs.LowLaws.{HasBar, ReachCovers, bar_from, own_from}
 use Rattle.pl_laws.proofs.Reaches.{AllFrom, below_least}
-use Rattle.pl_laws.proofs.Lows.{reach-covers, reaches-meet}
+use Rattle.pl_laws.proofs.Lows.{reach-covers, reaches-meet, reads-rise}
 use Rattle.pl_planner.specs.declared.uses.Use.{Use}
-use Rattle.pl_planner.specs.Extra.{Ask, input_ask, number_asks, asks, asks_of, asks_at, IsBack, IsExtra}
-use Rattle.pl_planner.specs.Uses.{use_at, AreUses}
-use Rattle.pl_planner.specs.Columns.{is_bar, bars_back, window_back, reads_back, most_back}
+use Rattle.pl_planner.specs.Extra.{Ask, back_from, input_ask, number_asks, asks, asks_of, asks_at, IsBack, IsExtra}
+use Rattle.pl_planner.specs.Uses.{use_at, AreUses, HaveExtras}
+use Rattle.pl_planner.specs.Columns.{is_bar, bars_back, node_back, reads_back, most_back}
 use Rattle.pl_planner.proofs.Pipelines.{IsPipeline}
-use Rattle.pl_planner.proofs.Gathers.{mention_of_ask}
+use Rattle.pl_planner.proofs.Gathers.{mention_of_ask, back-of, back-rises}
 use Rattle.pl_planner.proofs.Counting.{most_in, most_more}
 use Rattle.pl_planner.proofs.Live.{used_within}
 
@@ -32,31 +32,34 @@ each-append P [] ys h k i a e = k i a e
 each-append P (x ∷ xs) ys h k zero a e = h 0 a e
 each-append P (x ∷ xs) ys h k (suc i) a e = each-append P xs ys (λ j b f. h (suc j) b f) k i a e
 
-each-input : (P : Ask → Type 0) (w : ℕ) (is : List Input) → ((i t : ℕ) → slice_get is i ≡ Some (TermInput t) → P (t, w - 1)) → Each P (filter_map (input_ask w) is)
-each-input P w [] h i a e = cc
-each-input P w (BarColumn c ∷ is) h i a e = each-input P w is (λ j t f. h (suc j) t f) i a e
-each-input P w (TermInput t ∷ is) h zero a e = let is : (let x : Ask = (t, w - 1) in x) ≡ a = cc in subst P is (h 0 t refl)
-each-input P w (TermInput t ∷ is) h (suc i) a e = each-input P w is (λ j u f. h (suc j) u f) i a e
+each-input : (P : Ask → Type 0) (back w : ℕ) (is : List Input) → ((i t : ℕ) → slice_get is i ≡ Some (TermInput t) → P (t, back + (w - 1))) → Each P (filter_map (input_ask back w) is)
+each-input P back w [] h i a e = cc
+each-input P back w (BarColumn c ∷ is) h i a e = each-input P back w is (λ j t f. h (suc j) t f) i a e
+each-input P back w (TermInput t ∷ is) h zero a e = let is : (let x : Ask = (t, back + (w - 1)) in x) ≡ a = cc in subst P is (h 0 t refl)
+each-input P back w (TermInput t ∷ is) h (suc i) a e = each-input P back w is (λ j u f. h (suc j) u f) i a e
 
-each-number : (P : Ask → Type 0) (o : Option ℕ) → ((t : ℕ) → o ≡ Some t → P (t, 0)) → Each P (number_asks o)
-each-number P None h i a e = cc
-each-number P (Some t) h zero a e = let is : (let x : Ask = (t, 0) in x) ≡ a = cc in subst P is (h t refl)
-each-number P (Some t) h (suc i) a e = cc
+each-number : (P : Ask → Type 0) (m : ℕ) (o : Option ℕ) → ((t : ℕ) → o ≡ Some t → P (t, m)) → Each P (number_asks m o)
+each-number P m None h i a e = cc
+each-number P m (Some t) h zero a e = let is : (let x : Ask = (t, m) in x) ≡ a = cc in subst P is (h t refl)
+each-number P m (Some t) h (suc i) a e = cc
 
-module _ (days : List ℤ) (n : Node) (s : ℤ) (now : reads_at days n.kind s ≡ s) where
+-- the first session of an input that is read
+read-before : (days : List ℤ) (s : ℕ) (n : Node) (m : ℕ) → before (reads_at days n.kind (pos s -ℤ pos m)) (n.window - 1) ≡ pos s -ℤ pos (back_from days s n.kind m + (n.window - 1))
+read-before days s n m = let e = back-of days s n.kind m in omega (arith, ints)
+
+module _ (days : List ℤ) (s : ℕ) (n : Node) (m : ℕ) where
   Read : Ask → Type 0
-  Read a = Reads days n s a.0 (s -ℤ pos a.1)
+  Read a = Reads days n (pos s -ℤ pos m) a.0 (pos s -ℤ pos a.1)
 
-  ask-reads : Each Read (asks n)
+  ask-reads : Each Read (asks days s n m)
   unfolding Read
   ask-reads =
-      each-append Read (filter_map (input_ask n.window) n.inputs ++ number_asks n.mask) (number_asks n.group)
-      (each-append Read (filter_map (input_ask n.window) n.inputs) (number_asks n.mask)
-      (each-input Read n.window n.inputs (λ i t e. subst (Reads days n s t) (ap (λ z. before z (n.window - 1)) now) (Reads.input i e)))
-      (each-number Read n.mask (λ t e. (let z : s ≡ s -ℤ pos 0 = omega (arith, ints) in subst (Reads days n s t) z (Reads.mask e)))))
-      (each-number Read n.group (λ t e. (let z : s ≡ s -ℤ pos 0 = omega (arith, ints) in subst (Reads days n s t) z (Reads.group e))))
+      each-append Read (filter_map (input_ask (back_from days s n.kind m) n.window) n.inputs ++ number_asks m n.mask) (number_asks m n.group)
+      (each-append Read (filter_map (input_ask (back_from days s n.kind m) n.window) n.inputs) (number_asks m n.mask)
+      (each-input Read (back_from days s n.kind m) n.window n.inputs (λ i t e. subst (Reads days n (pos s -ℤ pos m) t) (read-before days s n m) (Reads.input i e)))
+      (each-number Read m n.mask (λ t e. Reads.mask e))) (each-number Read m n.group (λ t e. Reads.group e))
 
-  pub read-of : (i : ℕ) (a : Ask) → slice_get (asks n) i ≡ Some a → Reads days n s a.0 (s -ℤ pos a.1)
+  pub read-of : (i : ℕ) (a : Ask) → slice_get (asks days s n m) i ≡ Some a → Reads days n (pos s -ℤ pos m) a.0 (pos s -ℤ pos a.1)
   unfolding Read
   read-of i a e = ask-reads i a e
 
@@ -77,83 +80,88 @@ behind : (xs ys : List Ask) (a : Ask) → Found ys a → Found (xs ++ ys) a
 behind [] ys a f = f
 behind (x ∷ xs) ys a f = let r = behind xs ys a f in (suc r.0, r.1)
 
-input-found : (w : ℕ) (is : List Input) (i t : ℕ) → slice_get is i ≡ Some (TermInput t) → Found (filter_map (input_ask w) is) (t, w - 1)
-input-found w [] i t e = cc
-input-found w (BarColumn c ∷ is) zero t e = cc
-input-found w (BarColumn c ∷ is) (suc i) t e = input-found w is i t e
-input-found w (TermInput k ∷ is) zero t e = let same : k ≡ t = cc in (0, ap (λ j. Some (let x : Ask = (j, w - 1) in x)) same)
-input-found w (TermInput k ∷ is) (suc i) t e = let r = input-found w is i t e in (suc r.0, r.1)
+input-found : (back w : ℕ) (is : List Input) (i t : ℕ) → slice_get is i ≡ Some (TermInput t) → Found (filter_map (input_ask back w) is) (t, back + (w - 1))
+input-found back w [] i t e = cc
+input-found back w (BarColumn c ∷ is) zero t e = cc
+input-found back w (BarColumn c ∷ is) (suc i) t e = input-found back w is i t e
+input-found back w (TermInput k ∷ is) zero t e = let same : k ≡ t = cc in (0, ap (λ j. Some (let x : Ask = (j, back + (w - 1)) in x)) same)
+input-found back w (TermInput k ∷ is) (suc i) t e = let r = input-found back w is i t e in (suc r.0, r.1)
 
-number-found : (o : Option ℕ) (t : ℕ) → o ≡ Some t → Found (number_asks o) (t, 0)
-number-found o t e = rw e (0, refl)
+number-found : (m : ℕ) (o : Option ℕ) (t : ℕ) → o ≡ Some t → Found (number_asks m o) (t, m)
+number-found m o t e = rw e (0, refl)
 
-module _ (days : List ℤ) (n : Node) (s : ℤ) (now : reads_at days n.kind s ≡ s) where
-  -- over so many sessions
+module _ (days : List ℤ) (s : ℕ) (n : Node) (m : ℕ) where
+  -- so many sessions before s
   pub record Asked (t : ℕ) (r : ℤ) : Type 0 where
-    pub rows : ℕ
-    pub found : Found (asks n) (t, rows)
-    pub is : r ≡ s -ℤ pos rows
+    pub back : ℕ
+    pub found : Found (asks days s n m) (t, back)
+    pub is : r ≡ pos s -ℤ pos back
 
-  pub asked-of : (t : ℕ) (r : ℤ) → Reads days n s t r → Asked t r
+  pub asked-of : (t : ℕ) (r : ℤ) → Reads days n (pos s -ℤ pos m) t r → Asked t r
   asked-of t r (Reads.input i e) = record {
-    rows = n.window - 1;
-    found = in-front (filter_map (input_ask n.window) n.inputs ++ number_asks n.mask) (number_asks n.group) (t, n.window - 1)
-        (in-front (filter_map (input_ask n.window) n.inputs) (number_asks n.mask) (t, n.window - 1) (input-found n.window n.inputs i t e));
-    is = ap (λ z. before z (n.window - 1)) now;
+    back = back_from days s n.kind m + (n.window - 1);
+    found = in-front (filter_map (input_ask (back_from days s n.kind m) n.window) n.inputs ++ number_asks m n.mask) (number_asks m n.group) (t, back_from days s n.kind m + (n.window - 1))
+        (in-front (filter_map (input_ask (back_from days s n.kind m) n.window) n.inputs) (number_asks m n.mask) (t, back_from days s n.kind m + (n.window - 1)) (input-found (back_from days s n.kind m) n.window n.inputs i t e));
+    is = read-before days s n m;
   }
   asked-of t r (Reads.mask e) = record {
-    rows = 0;
-    found = in-front (filter_map (input_ask n.window) n.inputs ++ number_asks n.mask) (number_asks n.group) (t, 0)
-        (behind (filter_map (input_ask n.window) n.inputs) (number_asks n.mask) (t, 0) (number-found n.mask t e));
-    is = omega (arith, ints);
+    back = m;
+    found = in-front (filter_map (input_ask (back_from days s n.kind m) n.window) n.inputs ++ number_asks m n.mask) (number_asks m n.group) (t, m)
+        (behind (filter_map (input_ask (back_from days s n.kind m) n.window) n.inputs) (number_asks m n.mask) (t, m) (number-found m n.mask t e));
+    is = refl;
   }
   asked-of t r (Reads.group e) = record {
-    rows = 0;
-    found = behind (filter_map (input_ask n.window) n.inputs ++ number_asks n.mask) (number_asks n.group) (t, 0) (number-found n.group t e);
-    is = omega (arith, ints);
+    back = m;
+    found = behind (filter_map (input_ask (back_from days s n.kind m) n.window) n.inputs ++ number_asks m n.mask) (number_asks m n.group) (t, m) (number-found m n.group t e);
+    is = refl;
   }
 
 -- ---- lows
 
-module _ (days : List ℤ) (g : Graph) (outs : List ℕ) (ok : IsPipeline g outs) where
-  pub back-needs : (d : ℤ) (t n : ℕ) → IsBack g outs t n → Needs days g outs d t (d -ℤ pos n)
-  back-needs d t n (IsBack.output h) = let z : d ≡ d -ℤ pos 0 = omega (arith, ints) in subst (Needs days g outs d t) z (Needs.output h)
-  back-needs d t n (IsBack.mentioned u m i rows h e) = here (slice_get g u) refl (back-needs d u m h)
+module _ (days : List ℤ) (s : ℕ) (g : Graph) (outs : List ℕ) where
+  pub back-needs : (t n : ℕ) → IsBack days s g outs t n → Needs days g outs (pos s) t (pos s -ℤ pos n)
+  back-needs t n (IsBack.output h) = let z : pos s ≡ pos s -ℤ pos 0 = omega (arith, ints) in subst (Needs days g outs (pos s) t) z (Needs.output h)
+  back-needs t n (IsBack.mentioned u m i back h e) = here (slice_get g u) refl (back-needs u m h)
     where
-      here : (o : Option Node) → slice_get g u ≡ o → Needs days g outs d u (d -ℤ pos m) → Needs days g outs d t (d -ℤ pos (m + rows))
+      here : (o : Option Node) → slice_get g u ≡ o → Needs days g outs (pos s) u (pos s -ℤ pos m) → Needs days g outs (pos s) t (pos s -ℤ pos back)
       here None f ih = let none = rw f at e in cc
-      here (Some node) f ih =
-          let z : (d -ℤ pos m) -ℤ pos rows ≡ d -ℤ pos (m + rows) = omega (arith, ints) in
-          subst (Needs days g outs d t) z (Needs.read u node (d -ℤ pos m) ih f (read-of days node (d -ℤ pos m) (ok.now days u node (d -ℤ pos m) f) i (t, rows) (rw f at e)))
+      here (Some node) f ih = Needs.read u node (pos s -ℤ pos m) ih f (read-of days s node m i (t, back) (rw f at e))
 
-  pub record Back (d : ℤ) (t : ℕ) (s : ℤ) : Type 0 where
-    pub rows : ℕ
-    pub back : IsBack g outs t rows
-    pub is : s ≡ d -ℤ pos rows
+  pub record Back (t : ℕ) (r : ℤ) : Type 0 where
+    pub back : ℕ
+    pub is_back : IsBack days s g outs t back
+    pub is : r ≡ pos s -ℤ pos back
 
-  pub needs-back : (d : ℤ) (t : ℕ) (s : ℤ) → Needs days g outs d t s → Back d t s
-  needs-back d t s (Needs.output h) = record { rows = 0; back = IsBack.output h; is = omega (arith, ints) }
-  needs-back d t s (Needs.read u node r h f reads) =
-      let ih : Back d u r = needs-back d u r h in
-      let a : Asked days node r (ok.now days u node r f) t s = asked-of days node r (ok.now days u node r f) t s reads in
-      let list : asks_at g u ≡ asks node = ap asks_of f in
-      let e = ih.is in
-      let q = a.is in
+  pub needs-back : (t : ℕ) (r : ℤ) → Needs days g outs (pos s) t r → Back t r
+  needs-back t r (Needs.output h) = record { back = 0; is_back = IsBack.output h; is = omega (arith, ints) }
+  needs-back t r (Needs.read u node q h f reads) =
+      let ih : Back u q = needs-back u q h in
+      let a : Asked days s node ih.back t r = asked-of days s node ih.back t r (subst (λ z. Reads days node z t r) ih.is reads) in
+      let list : asks_at days s g u ih.back ≡ asks days s node ih.back = ap (λ o. asks_of days s o ih.back) f in
       record {
-        rows = ih.rows + a.rows;
-        back = IsBack.mentioned u ih.rows a.found.0 a.rows ih.back (ap (λ l. slice_get l a.found.0) list ∙ a.found.1);
-        is = omega (arith, ints);
+        back = a.back;
+        is_back = IsBack.mentioned u ih.back a.found.0 a.back ih.is_back (ap (λ l. slice_get l a.found.0) list ∙ a.found.1);
+        is = a.is;
       }
 
-  pub low-is : (t n : ℕ) → IsExtra g outs t n → (d : ℤ) → IsLow days g outs d t (d -ℤ pos n)
-  low-is t n is d = record {
-    needed = back-needs d t n is.back;
-    least = λ s h. (let b = needs-back d t s h in let m = is.most b.rows b.back in let e = b.is in omega (arith, ints));
+  pub low-is : (t n : ℕ) → IsExtra days s g outs t n → IsLow days g outs (pos s) t (pos s -ℤ pos n)
+  low-is t n is = record {
+    needed = back-needs t n is.back;
+    least = λ r h. (let b = needs-back t r h in let m = is.most b.back b.is_back in let e = b.is in omega (arith, ints));
   }
 
-  pub back-used : (t n : ℕ) → IsBack g outs t n → Used g outs t
+  pub back-used : (t n : ℕ) → IsBack days s g outs t n → Used g outs t
   back-used t n (IsBack.output h) = Used.output h
-  back-used t n (IsBack.mentioned u m i rows h e) = Used.mentioned u (back-used u m h) (mention_of_ask g u i (t, rows) e)
+  back-used t n (IsBack.mentioned u m i back h e) = Used.mentioned u (back-used u m h) (mention_of_ask days s g u m i (t, back) e)
+
+-- for a later session nothing earlier is needed
+pub needs-rise : (days : List ℤ) → AllPairs (λ a b. a <ℤ b) days → (g : Graph) (outs : List ℕ) (d e : ℤ) → d ≤ℤ e → (t : ℕ) (r : ℤ) → Needs days g outs e t r
+    → (q : ℤ) × Needs days g outs d t q × (q ≤ℤ r)
+needs-rise days rise g outs d e h t r (Needs.output o) = (d, Needs.output o, h)
+needs-rise days rise g outs d e h t r (Needs.read u n s needs at reads) =
+    let before_u = needs-rise days rise g outs d e h u s needs in
+    let first = reads-rise days rise n before_u.0 s t r before_u.2 reads in
+    (first.0, Needs.read u n before_u.0 before_u.1 at first.1, first.2)
 
 -- ---- how far back bars are read
 
@@ -183,45 +191,48 @@ bars-above low s w [] h = tt
 bars-above low s w (BarColumn c ∷ is) h = (h refl, bars-above low s w is (λ e. h refl))
 bars-above low s w (TermInput k ∷ is) h = bars-above low s w is h
 
-own-above : (days : List ℤ) (n : Node) (s : ℤ) → reads_at days n.kind s ≡ s → (s -ℤ pos (bars_back n)) ≤ℤ own_from days n s
-own-above days n s now =
-    rw now (least-above (s -ℤ pos (bars_back n)) s (filter_map (bar_from n.window s) n.inputs) (omega (arith, ints))
-    (bars-above (s -ℤ pos (bars_back n)) s n.window n.inputs (λ e. rw e (omega (arith, ints)))))
+own-above : (days : List ℤ) (s : ℕ) (n : Node) (m : ℕ) → (pos s -ℤ pos (back_from days s n.kind m + bars_back n)) ≤ℤ own_from days n (pos s -ℤ pos m)
+own-above days s n m =
+    let e = back-of days s n.kind m in
+    let low : ℤ = pos s -ℤ pos (back_from days s n.kind m + bars_back n) in
+    let start : ℤ = reads_at days n.kind (pos s -ℤ pos m) in
+    least-above low start (filter_map (bar_from n.window start) n.inputs) (omega (arith, ints))
+    (bars-above low start n.window n.inputs (λ f. let w : bars_back n ≡ n.window = rw f refl in omega (arith, ints)))
 
 -- ---- the most that used terms read back
 
-module _ (g : Graph) (outs : List ℕ) (uses : List Use) (ok : IsPipeline g outs) (are : AreUses g outs uses) where
-  most-next : (n : ℕ) → most_back g uses (suc n) ≡ max (most_back g uses n) (reads_back g uses n)
-  most-next n = let e : suc n ≡ n + 1 = omega arith in ap (most_back g uses) e ∙ most_more (reads_back g uses) n
+module _ (days : List ℤ) (s : ℕ) (g : Graph) (outs : List ℕ) (uses : List Use) (ok : IsPipeline g outs) (are : AreUses g outs uses) where
+  most-next : (n : ℕ) → most_back days s g uses (suc n) ≡ max (most_back days s g uses n) (reads_back days s g uses n)
+  most-next n = let e : suc n ≡ n + 1 = omega arith in ap (most_back days s g uses) e ∙ most_more (reads_back days s g uses) n
 
-  most-at : (n t : ℕ) → t < n → reads_back g uses t ≤ most_back g uses n
-  most-at n t h = most_in (reads_back g uses) n t h
+  most-at : (n t : ℕ) → t < n → reads_back days s g uses t ≤ most_back days s g uses n
+  most-at n t h = most_in (reads_back days s g uses) n t h
 
   pub record MostAt (m : ℕ) : Type 0 where
     pub term : ℕ
-    pub is : reads_back g uses term ≡ m
+    pub is : reads_back days s g uses term ≡ m
 
-  most-met : (n : ℕ) → 0 < most_back g uses n → MostAt (most_back g uses n)
+  most-met : (n : ℕ) → 0 < most_back days s g uses n → MostAt (most_back days s g uses n)
   most-met zero h = absurd (omega arith)
   most-met (suc n) h =
       let m = most-next n in
-      elim (cases_lt (reads_back g uses n) (most_back g uses n)) [
-        | inl p ↦ (let is : most_back g uses (suc n) ≡ most_back g uses n = omega arith in let r = most-met n (omega arith) in record { term = r.term; is = r.is ∙ sym is })
-        | inr p ↦ record { term = n; is = (let is : most_back g uses (suc n) ≡ reads_back g uses n = omega arith in sym is) }
+      elim (cases_lt (reads_back days s g uses n) (most_back days s g uses n)) [
+        | inl p ↦ (let is : most_back days s g uses (suc n) ≡ most_back days s g uses n = omega arith in let r = most-met n (omega arith) in record { term = r.term; is = r.is ∙ sym is })
+        | inr p ↦ record { term = n; is = (let is : most_back days s g uses (suc n) ≡ reads_back days s g uses n = omega arith in sym is) }
       ]
 
   -- a used term reads no farther back
-  pub used-back : (t : ℕ) → Used g outs t → (use_at uses t).extra + window_back (slice_get g t) ≤ most_back g uses (length g)
+  pub used-back : (t : ℕ) → Used g outs t → node_back days s (slice_get g t) (use_at uses t).extra ≤ most_back days s g uses (length g)
   used-back t u =
       let within : t < length g = used_within g outs ok.graph are t u in
-      let m : reads_back g uses t ≤ most_back g uses (length g) = most-at (length g) t within in
+      let m : reads_back days s g uses t ≤ most_back days s g uses (length g) = most-at (length g) t within in
       let yes : (use_at uses t).used ≡ true = (are.used t).1 u in
-      let is : reads_back g uses t ≡ (use_at uses t).extra + window_back (slice_get g t) = rw yes refl in
+      let is : reads_back days s g uses t ≡ node_back days s (slice_get g t) (use_at uses t).extra = rw yes refl in
       omega arith
 
-module _ (days : List ℤ) (rise : AllPairs (λ a b. a <ℤ b) days) (g : Graph) (outs : List ℕ) (uses : List Use) (ok : IsPipeline g outs) (are : AreUses g outs uses) (d : ℤ) where
+module _ (days : List ℤ) (rise : AllPairs (λ a b. a <ℤ b) days) (g : Graph) (outs : List ℕ) (uses : List Use) (ok : IsPipeline g outs) (are : AreUses g outs uses) (s : ℕ) (have : HaveExtras days s g outs uses) where
   abbrev most : ℕ
-  most = most_back g uses (length g)
+  most = most_back days s g uses (length g)
 
   wide : (k : ℕ) (n : Node) → slice_get g k ≡ Some n → 1 ≤ n.window
   wide k n e = (ok.windows k n e).0
@@ -234,69 +245,83 @@ module _ (days : List ℤ) (rise : AllPairs (λ a b. a <ℤ b) days) (g : Graph)
   ]
 
   -- what an output reaches lies no farther back
-  reach-above : (t : ℕ) → contains outs t ≡ true → (d -ℤ pos most) ≤ℤ reach days (term_at g t) d
+  reach-above : (t : ℕ) → contains outs t ≡ true → (pos s -ℤ pos most) ≤ℤ reach days (term_at g t) (pos s)
   reach-above t h =
-      let met = reaches-meet days rise g ok.graph wide outs d t d (output-within outs t h ok.outputs_in) (Needs.output h) in
+      let met = reaches-meet days rise g ok.graph wide outs (pos s) t (pos s) (output-within outs t h ok.outputs_in) (Needs.output h) in
       above met.0 met.1 met.2 met.3 met.4 met.5
     where
-      above : (u : ℕ) (n : Node) (r : ℤ) → Needs days g outs d u r → slice_get g u ≡ Some n → own_from days n r ≡ reach days (term_at g t) d → (d -ℤ pos most) ≤ℤ reach days (term_at g t) d
+      above : (u : ℕ) (n : Node) (r : ℤ) → Needs days g outs (pos s) u r → slice_get g u ≡ Some n → own_from days n r ≡ reach days (term_at g t) (pos s) → (pos s -ℤ pos most) ≤ℤ reach days (term_at g t) (pos s)
       above u n r needs e is =
-          let b : Back days g outs ok d u r = needs-back days g outs ok d u r needs in
-          let used : Used g outs u = back-used days g outs ok u b.rows b.back in
-          let m : b.rows ≤ (use_at uses u).extra = (are.extra u used).most b.rows b.back in
-          let w : (use_at uses u).extra + bars_back n ≤ most = subst (λ o. (use_at uses u).extra + window_back o ≤ most) e (used-back g outs uses ok are u used) in
-          let own : (r -ℤ pos (bars_back n)) ≤ℤ own_from days n r = own-above days n r (ok.now days u n r e) in
-          let f : r ≡ d -ℤ pos b.rows = b.is in
-          let low : (d -ℤ pos most) ≤ℤ own_from days n r = omega (arith, ints) in
-          subst (λ z. (d -ℤ pos most) ≤ℤ z) is low
+          let b : Back days s g outs u r = needs-back days s g outs u r needs in
+          let used : Used g outs u = back-used days s g outs u b.back b.is_back in
+          let m : b.back ≤ (use_at uses u).extra = (have u used).most b.back b.is_back in
+          let up : back_from days s n.kind b.back ≤ back_from days s n.kind (use_at uses u).extra = back-rises days rise s n.kind b.back (use_at uses u).extra m in
+          let w : back_from days s n.kind (use_at uses u).extra + bars_back n ≤ most = subst (λ o. node_back days s o (use_at uses u).extra ≤ most) e (used-back days s g outs uses ok are u used) in
+          let own : (pos s -ℤ pos (back_from days s n.kind b.back + bars_back n)) ≤ℤ own_from days n (pos s -ℤ pos b.back) = own-above days s n b.back in
+          let low : (pos s -ℤ pos most) ≤ℤ own_from days n (pos s -ℤ pos b.back) = omega (arith, ints) in
+          subst (λ z. (pos s -ℤ pos most) ≤ℤ z) (ap (own_from days n) (sym b.is) ∙ is) low
 
-  all-above : (os : List ℕ) → ((t : ℕ) → contains os t ≡ true → (d -ℤ pos most) ≤ℤ reach days (term_at g t) d) → AllFrom (d -ℤ pos most) (map (λ t. reach days (term_at g t) d) os)
+  all-above : (os : List ℕ) → ((t : ℕ) → contains os t ≡ true → (pos s -ℤ pos most) ≤ℤ reach days (term_at g t) (pos s)) → AllFrom (pos s -ℤ pos most) (map (λ t. reach days (term_at g t) (pos s)) os)
   all-above [] h = tt
   all-above (o ∷ os) h = (h o (or_left (o == o) (contains os o) (eq-eqb o o refl)), all-above os (λ t e. h t (or_right (o == t) (contains os t) e)))
 
-  least-high : (d -ℤ pos most) ≤ℤ least_reach days g outs d
-  least-high = least-above (d -ℤ pos most) d (map (λ t. reach days (term_at g t) d) outs) (omega (arith, ints)) (all-above outs reach-above)
+  least-high : (pos s -ℤ pos most) ≤ℤ least_reach days g outs (pos s)
+  least-high = least-above (pos s -ℤ pos most) (pos s) (map (λ t. reach days (term_at g t) (pos s)) outs) (omega (arith, ints)) (all-above outs reach-above)
 
   itself : (z : ℤ) → z ≤ℤ z
   itself z = omega (arith, ints)
 
-  least-low : least_reach days g outs d ≤ℤ (d -ℤ pos most)
+  covers : ReachCovers days g outs (pos s)
+  covers = reach-covers days g ok.graph wide outs (pos s)
+
+  abbrev least : ℤ
+  least = least_reach days g outs (pos s)
+
+  -- what a needed term reads of bars, or up to what it reads, is reached
+  read-low : (t : ℕ) (n : Node) (m : ℕ) → slice_get g t ≡ Some n → Needs days g outs (pos s) t (pos s -ℤ pos m) → least ≤ℤ (pos s -ℤ pos (back_from days s n.kind m + bars_back n))
+  read-low t n m e needs = bars (list_any is_bar n.inputs) refl
+    where
+      up_to : least ≤ℤ (pos s -ℤ pos (back_from days s n.kind m))
+      up_to = elim (ok.reads t n e) [
+        | inl now ↦ (let low : least ≤ℤ (pos s -ℤ pos m) = covers.sessions t (pos s -ℤ pos m) needs in subst (λ z. least ≤ℤ z) (sym (now days (pos s -ℤ pos m)) ∙ back-of days s n.kind m) low)
+        | inr term ↦ (
+            let low : least ≤ℤ before (reads_at days n.kind (pos s -ℤ pos m)) (n.window - 1) = covers.sessions term.0 _ (Needs.read t n (pos s -ℤ pos m) needs e (Reads.input 0 term.1)) in
+            let is = read-before days s n m in
+            omega (arith, ints))
+      ]
+
+      bars : (b : Bool) → list_any is_bar n.inputs ≡ b → least ≤ℤ (pos s -ℤ pos (back_from days s n.kind m + bars_back n))
+      bars true f =
+          let low : least ≤ℤ before (reads_at days n.kind (pos s -ℤ pos m)) n.window = covers.bars t n (pos s -ℤ pos m) needs e (has-bar n.inputs f) in
+          let is = back-of days s n.kind m in
+          rw f (omega (arith, ints))
+      bars false f = let low = up_to in rw f (omega (arith, ints))
+
+  least-low : least ≤ℤ (pos s -ℤ pos most)
   least-low = elim (cases_lt 0 most) [
-    | inl p ↦ (let r : MostAt g outs uses ok are most = most-met g outs uses ok are (length g) p in here r.term (use_at uses r.term).used refl r.is p)
-    | inr p ↦ (let b = (below_least (least_reach days g outs d) d (map (λ t. reach days (term_at g t) d) outs) (itself (least_reach days g outs d))).0 in omega (arith, ints))
+    | inl p ↦ (let r : MostAt days s g outs uses ok are most = most-met days s g outs uses ok are (length g) p in here r.term (use_at uses r.term).used refl r.is p)
+    | inr p ↦ (let b = (below_least least (pos s) (map (λ t. reach days (term_at g t) (pos s)) outs) (itself least)).0 in omega (arith, ints))
   ]
     where
-      covers : ReachCovers days g outs d
-      covers = reach-covers days g ok.graph wide outs d
-
-      read : (t : ℕ) (n : Node) → slice_get g t ≡ Some n → Needs days g outs d t (d -ℤ pos (use_at uses t).extra) → least_reach days g outs d ≤ℤ ((d -ℤ pos (use_at uses t).extra) -ℤ pos (bars_back n))
-      read t n e needs = bars (list_any is_bar n.inputs) refl
-        where
-          bars : (b : Bool) → list_any is_bar n.inputs ≡ b → least_reach days g outs d ≤ℤ ((d -ℤ pos (use_at uses t).extra) -ℤ pos (bars_back n))
-          bars true f =
-              let low : least_reach days g outs d ≤ℤ before (reads_at days n.kind (d -ℤ pos (use_at uses t).extra)) n.window = covers.bars t n (d -ℤ pos (use_at uses t).extra) needs e (has-bar n.inputs f) in
-              rw f (subst (λ z. least_reach days g outs d ≤ℤ before z n.window) (ok.now days t n (d -ℤ pos (use_at uses t).extra) e) low)
-          bars false f = let low : least_reach days g outs d ≤ℤ (d -ℤ pos (use_at uses t).extra) = covers.sessions t (d -ℤ pos (use_at uses t).extra) needs in rw f (omega (arith, ints))
-
-      here : (t : ℕ) (b : Bool) → (use_at uses t).used ≡ b → reads_back g uses t ≡ most → 0 < most → least_reach days g outs d ≤ℤ (d -ℤ pos most)
+      here : (t : ℕ) (b : Bool) → (use_at uses t).used ≡ b → reads_back days s g uses t ≡ most → 0 < most → least ≤ℤ (pos s -ℤ pos most)
       here t false e is p = let z : 0 ≡ most = rw e at is in absurd (omega arith)
       here t true e is p = node (slice_get g t) refl (rw e at is)
         where
           used : Used g outs t
           used = (are.used t).0 e
 
-          needs : Needs days g outs d t (d -ℤ pos (use_at uses t).extra)
-          needs = back-needs days g outs ok d t (use_at uses t).extra (are.extra t used).back
+          needs : Needs days g outs (pos s) t (pos s -ℤ pos (use_at uses t).extra)
+          needs = back-needs days s g outs t (use_at uses t).extra (have t used).back
 
-          node : (o : Option Node) → slice_get g t ≡ o → (use_at uses t).extra + window_back (slice_get g t) ≡ most → least_reach days g outs d ≤ℤ (d -ℤ pos most)
-          node None f s =
-              let z : (use_at uses t).extra + 0 ≡ most = rw f at s in
-              let low : least_reach days g outs d ≤ℤ (d -ℤ pos (use_at uses t).extra) = covers.sessions t (d -ℤ pos (use_at uses t).extra) needs in
+          node : (o : Option Node) → slice_get g t ≡ o → node_back days s (slice_get g t) (use_at uses t).extra ≡ most → least ≤ℤ (pos s -ℤ pos most)
+          node None f z =
+              let is : (use_at uses t).extra ≡ most = rw f at z in
+              let low : least ≤ℤ (pos s -ℤ pos (use_at uses t).extra) = covers.sessions t (pos s -ℤ pos (use_at uses t).extra) needs in
               omega (arith, ints)
-          node (Some n) f s =
-              let z : (use_at uses t).extra + bars_back n ≡ most = rw f at s in
-              let low = read t n f needs in
+          node (Some n) f z =
+              let is : back_from days s n.kind (use_at uses t).extra + bars_back n ≡ most = rw f at z in
+              let low = read-low t n (use_at uses t).extra f needs in
               omega (arith, ints)
 
-  pub least-is : least_reach days g outs d ≡ d -ℤ pos most
+  pub least-is : least_reach days g outs (pos s) ≡ pos s -ℤ pos most
   least-is = let a = least-low in let b = least-high in omega (arith, ints)

@@ -1,18 +1,19 @@
 -- The pass from the last term to the first over the pipelines of the language.
-use Rattle.std.proofs.Common.{◌≡◌, ℕ, zero, suc, ◌*◌, ◌-◌, ◌<◌, ◌≤◌, Bool, true, false, List, [], ◌∷◌, length, Some, refl, sym, ap, subst, arith, inl, inr, slice_get, ◌==◌, replicate}
+use Rattle.std.proofs.Common.{◌≡◌, ℕ, zero, suc, ◌+◌, ◌*◌, ◌-◌, ◌<◌, ◌≤◌, Bool, true, false, max, ℤ, ◌<ℤ◌, AllPairs, List, [], ◌∷◌, length, Some, refl, sym, ap, subst, arith, inl, inr, slice_get, ◌==◌, replicate}
 use Rattle.std.specs.List.{list_any}
 use Rattle.std.proofs.lemmas.Bool.{true≢false, or_cases, eqb-true}
 use Rattle.std.proofs.lemmas.Option.{slice_get_within}
 use Rattle.pl_spec.specs.Term.{Node, Graph, MentionsBelow}
 use Rattle.pl_spec.specs.Graph.{contains}
+use Rattle.pl_spec.specs.Kind.{Kind}
 use Rattle.pl_planner.specs.declared.uses.Use.{Use}
-use Rattle.pl_planner.specs.Extra.{asks, asks_of, asks_at}
+use Rattle.pl_planner.specs.Extra.{asks, asks_of, asks_at, back_from, IsBack}
 use Rattle.pl_planner.specs.Columns.{is_bar, bars_back}
-use Rattle.pl_planner.specs.Uses.{unused, use_at, all_asked, all_marked, AreUses}
+use Rattle.pl_planner.specs.Uses.{unused, use_at, all_asked, all_marked, AreUses, HaveExtras}
 use Rattle.pl_planner.proofs.Pipelines.{IsPipeline}
-use Rattle.pl_planner.proofs.Gathers.{AreGathered, begun, step, unasked, gathered, needed_few}
+use Rattle.pl_planner.proofs.Gathers.{AreGathered, begun, step, unasked, gathered, extras, needed_few, back-few}
 
-module _ (g : Graph) (outs : List ℕ) (ok : IsPipeline g outs) where
+module _ (days : List ℤ) (rise : AllPairs (λ a b. a <ℤ b) days) (s : ℕ) (g : Graph) (outs : List ℕ) (ok : IsPipeline g outs) where
   outputs_in : (i o : ℕ) → slice_get outs i ≡ Some o → o < length g
   outputs_in = ok.outputs_in
 
@@ -26,36 +27,43 @@ module _ (g : Graph) (outs : List ℕ) (ok : IsPipeline g outs) where
         | inr p ↦ here os (λ i x e. in_graph (suc i) x e) p
       ]
 
-  pub pass_begun : (us : List Use) (n : ℕ) → n ≡ length g → us ≡ all_marked (replicate (length g) unused) n outs → AreGathered g outs n us
-  pass_begun us n e f = rw (f, e) (begun g outs outputs_in)
+  pub pass_begun : (us : List Use) (n : ℕ) → n ≡ length g → us ≡ all_marked (replicate (length g) unused) n outs → AreGathered days s g outs n us
+  pass_begun us n e f = rw (f, e) (begun days s g outs outputs_in)
 
   pub pass_node : (k : ℕ) (n : Node) → slice_get g k ≡ Some n → (1 ≤ n.window) × (n.window ≤ 1260)
   pass_node k n e = ok.windows k n e
 
-  pub pass_room : length g ≤ 256 → (us : List Use) (j k : ℕ) → AreGathered g outs j us → (use_at us k).used ≡ true → (use_at us k).extra ≤ 1260 * 256
-  pass_room few us j k h u = let n = needed_few g outs ok.graph outputs_below (λ j n e. (ok.windows j n e).1) k (use_at us k).extra (h.sound k u).0 in omega arith
+  -- no term is computed so many sessions early
+  few-back : length g ≤ 256 → (t n : ℕ) → IsBack days s g outs t n → n ≤ s + 1260 * 256
+  few-back few t n b = let l = (needed_few days rise s g outs ok.graph outputs_below (λ j n e. (ok.windows j n e).1) t n b).0 in omega arith
 
-  pub pass_step : (us vs : List Use) (k : ℕ) (n : Node) → AreGathered g outs k us → 0 < k → slice_get g (k - 1) ≡ Some n → (use_at us (k - 1)).used ≡ true
-      → vs ≡ all_asked us (k - 1) (use_at us (k - 1)).extra (asks n) → AreGathered g outs (k - 1) vs
+  back-short : (k : Kind) (n : ℕ) → n ≤ s + 1260 * 256 → back_from days s k n ≤ s + 1260 * 256
+  back-short k n h = let l = back-few days s k n in omega arith
+
+  pub pass_room : length g ≤ 256 → (us : List Use) (j k : ℕ) (kind : Kind) → AreGathered days s g outs j us → (use_at us k).used ≡ true → back_from days s kind (use_at us k).extra ≤ s + 1260 * 256
+  pass_room few us j k kind h u = back-short kind (use_at us k).extra (few-back few k (use_at us k).extra (h.sound k u).0)
+
+  pub pass_step : (us vs : List Use) (k : ℕ) (n : Node) → AreGathered days s g outs k us → 0 < k → slice_get g (k - 1) ≡ Some n → (use_at us (k - 1)).used ≡ true
+      → vs ≡ all_asked us (k - 1) (asks days s n (use_at us (k - 1)).extra) → AreGathered days s g outs (k - 1) vs
   pass_step us vs zero n h l e u f = absurd (omega arith)
   pass_step us vs (suc k) n h l e u f =
       let less : suc k - 1 ≡ k = omega arith in
       let at = rw less at e in
       let used = rw less at u in
       let is = rw less at f in
-      let list : asks_at g k ≡ asks n = ap asks_of at in
-      rw (less, is) (subst (λ l. AreGathered g outs k (all_asked us k (use_at us k).extra l)) list (step g outs ok.graph us k h used (slice_get_within g k n at)))
+      let list : asks_at days s g k (use_at us k).extra ≡ asks days s n (use_at us k).extra = ap (λ o. asks_of days s o (use_at us k).extra) at in
+      rw (less, is) (subst (λ l. AreGathered days s g outs k (all_asked us k l)) list (step days rise s g outs ok.graph us k h used (slice_get_within g k n at)))
 
-  pub pass_skipped : (us : List Use) (k : ℕ) → AreGathered g outs k us → 0 < k → (use_at us (k - 1)).used ≡ false → AreGathered g outs (k - 1) us
+  pub pass_skipped : (us : List Use) (k : ℕ) → AreGathered days s g outs k us → 0 < k → (use_at us (k - 1)).used ≡ false → AreGathered days s g outs (k - 1) us
   pass_skipped us zero h l u = absurd (omega arith)
   pass_skipped us (suc k) h l u =
       let less : suc k - 1 ≡ k = omega arith in
-      rw less (unasked g outs ok.graph us k h (rw less at u))
+      rw less (unasked days rise s g outs ok.graph us k h (rw less at u))
 
-  pub pass_ended : (us : List Use) → AreGathered g outs 0 us → AreUses g outs us
-  pass_ended us h = gathered g outs ok.graph us h
+  pub pass_ended : (us : List Use) → AreGathered days s g outs 0 us → AreUses g outs us × HaveExtras days s g outs us
+  pass_ended us h = (gathered days rise s g outs ok.graph us h, extras days rise s g outs ok.graph us h)
 
-  pub pass_lower : (us : List Use) (j k : ℕ) (n : Node) → AreGathered g outs j us → slice_get g k ≡ Some n → MentionsBelow n (length us)
+  pub pass_lower : (us : List Use) (j k : ℕ) (n : Node) → AreGathered days s g outs j us → slice_get g k ≡ Some n → MentionsBelow n (length us)
   pass_lower us j k n h e =
       let low : MentionsBelow n k = ok.graph.lower k n e in
       let here : k < length g = slice_get_within g k n e in
@@ -66,10 +74,9 @@ module _ (g : Graph) (outs : List ℕ) (ok : IsPipeline g outs) where
         group = λ t f. let l : t < k = low.group t f in omega arith;
       }
 
-  pub extra-few : length g ≤ 256 → (us : List Use) → AreUses g outs us → (t : ℕ) → (use_at us t).used ≡ true → (use_at us t).extra ≤ 1260 * 256
-  extra-few few us are t u =
-      let n = needed_few g outs ok.graph outputs_below (λ j n e. (ok.windows j n e).1) t (use_at us t).extra (are.extra t ((are.used t).0 u)).back in
-      omega arith
+  pub extra-few : length g ≤ 256 → (us : List Use) → AreUses g outs us → HaveExtras days s g outs us → (t : ℕ) (kind : Kind) → (use_at us t).used ≡ true
+      → back_from days s kind (use_at us t).extra ≤ s + 1260 * 256
+  extra-few few us are have t kind u = back-short kind (use_at us t).extra (few-back few t (use_at us t).extra (have t ((are.used t).0 u)).back)
 
   pub bars-few : (t : ℕ) (n : Node) → slice_get g t ≡ Some n → bars_back n ≤ 1260
   bars-few t n e = here (list_any is_bar n.inputs) refl

@@ -1,5 +1,6 @@
 -- What a checked pipeline keeps that plans rest on.
-use Rattle.std.proofs.Common.{◌≡◌, ℕ, zero, suc, ◌<◌, ◌≤◌, ◌==◌, nat_le, true, ℤ, List, [], ◌∷◌, ◌++◌, length, map, Option, Some, None, slice_get, option_to_list, refl, sym, ap, arith}
+use Rattle.std.proofs.Common.{◌≡◌, ℕ, zero, suc, ◌<◌, ◌≤◌, ◌==◌, nat_le, true, ℤ, pos, ◌-ℤ◌, unsigned_abs, List, [], ◌∷◌, ◌++◌, length, map, Option, Some, None, slice_get, option_to_list, refl, sym, ◌∙◌, ap, arith, ◌⊎◌, inl}
+use Rattle.std.proofs.lemmas.Int.{ints}
 use Rattle.std.proofs.lemmas.Bool.{and_parts, true≢false, eqb-true, or_left, eq-eqb}
 use Rattle.std.proofs.lemmas.Bool.Decides.{nat_tests}
 use Rattle.std.proofs.lemmas.Option.{slice_get_within}
@@ -7,12 +8,19 @@ use Rattle.pl_spec.specs.Kind as kind
 use Rattle.pl_spec.specs.Kind.{Kind, WindowKind}
 use Rattle.pl_spec.specs.Table.{Pipeline, NamedColumn}
 use Rattle.pl_spec.specs.Term.{Graph, Node, IsGraph}
+use Rattle.pl_spec.specs.Term.Input.{TermInput}
 use Rattle.pl_spec.specs.Graph.{contains, reads_at}
 use Rattle.pl_terms.specs.Sorts.{has_window, window_fits, is_window_from, has_parameters, sort_at, Filters}
 use Rattle.pl_terms.specs.Checked.{IsChecked}
 use Rattle.pl_terms.specs.Uses.{outputs}
 use Rattle.pl_terms.specs.Nodes.{graph_of, node_of}
+use Rattle.pl_terms.specs.Kinds.{kind_of, is_kind, is_not_kind}
+use Rattle.pl_terms.specs.declared.kind.TermKind.{TermKind}
+use Rattle.pl_terms.specs.declared.kind.TermKind.TheVariants as kinds
+use Rattle.pl_terms.specs.declared.kind.LabelValue.{LabelValue}
+use Rattle.pl_terms.specs.declared.kind.LabelValue.TheVariants as labels
 use Rattle.pl_terms.specs.declared.node.Node as code
+use Rattle.pl_planner.specs.Extra.{back_from}
 
 abbrev Fits : ℕ → Type 0
 Fits w = (1 ≤ w) × (w ≤ 1260)
@@ -45,17 +53,22 @@ unfolding has_window
 kind-fits (kind.Window k) w e = window-fits k w e
 kind-fits k w e = exactly 1 w (omega arith) (omega arith) e
 
+-- a node reads its inputs on the session itself, or it reads a term
+abbrev pub ReadsTerms : Node → Type 0
+ReadsTerms n = ((days : List ℤ) (s : ℤ) → reads_at days n.kind s ≡ s) ⊎ ((t : ℕ) × (slice_get n.inputs 0 ≡ Some (TermInput t)))
+
 -- no kind that the language has reads its inputs by the calendar
-reads-now : (days : List ℤ) (k : Kind) (w names : ℕ) (s : ℤ) → has_parameters k w names ≡ true → reads_at days k s ≡ s
+reads-now : (k : Kind) (w names : ℕ) → has_parameters k w names ≡ true → (days : List ℤ) (s : ℤ) → reads_at days k s ≡ s
 unfolding has_parameters
-reads-now days (kind.Downsample f) w names s e = absurd (true≢false (sym e))
-reads-now days k w names s e = refl
+reads-now (kind.Downsample f) w names e days s = absurd (true≢false (sym e))
+reads-now k w names e days s = refl
 
 pub record IsPipeline (g : Graph) (outs : List ℕ) : Type 0 where
   pub graph : IsGraph g
   pub some_output : (o : ℕ) × (contains outs o ≡ true)
   pub outputs_in : (i o : ℕ) → slice_get outs i ≡ Some o → o < length g
   pub windows : (k : ℕ) (n : Node) → slice_get g k ≡ Some n → (1 ≤ n.window) × (n.window ≤ 1260)
+  pub reads : (k : ℕ) (n : Node) → slice_get g k ≡ Some n → ReadsTerms n
   pub now : (days : List ℤ) (k : ℕ) (n : Node) (s : ℤ) → slice_get g k ≡ Some n → reads_at days n.kind s ≡ s
 
 columns-in : (g : Graph) (cs : List NamedColumn) (screen : Option ℕ) → ((i : ℕ) (c : NamedColumn) → slice_get cs i ≡ Some c → c.term < length g)
@@ -83,7 +96,8 @@ is-pipeline p c = record {
   some_output = first-output p.columns (option_to_list p.screen) c.some_column;
   outputs_in = columns-in p.graph p.columns p.screen c.columns (λ t e. sort-within p.graph t (c.screen t e));
   windows = λ k n e. kind-fits n.kind n.window (c.nodes k n e).window;
-  now = λ days k n s e. reads-now days n.kind n.window (length p.names) s (c.nodes k n e).parameters;
+  reads = λ k n e. inl (reads-now n.kind n.window (length p.names) (c.nodes k n e).parameters);
+  now = λ days k n s e. reads-now n.kind n.window (length p.names) (c.nodes k n e).parameters days s;
 }
 
 -- ---- the nodes of the code
@@ -111,3 +125,24 @@ window-is n = refl
 
 pub graph-few : (ns : List code.Node) → length ns ≤ 256 → length (graph_of ns) ≤ 256
 graph-few ns h = let e = graph-long ns in omega arith
+
+-- the kinds of the code read their inputs on the session itself
+reads-own : (days : List ℤ) (k : TermKind) (d : ℤ) → reads_at days (kind_of k) d ≡ d
+unfolding kind_of
+reads-own days (kinds.LabelIs l) d = of_text l
+  where
+    of_text : (l : LabelValue) → reads_at days (is_kind l) d ≡ d
+    of_text (labels.Text t) = refl
+    of_text (labels.Number n) = refl
+reads-own days (kinds.LabelIsNot l) d = of_text l
+  where
+    of_text : (l : LabelValue) → reads_at days (is_not_kind l) d ≡ d
+    of_text (labels.Text t) = refl
+    of_text (labels.Number n) = refl
+reads-own days k d = refl
+
+pub back-own : (days : List ℤ) (s : ℕ) (n : code.Node) (m : ℕ) → m ≡ back_from days s (node_of n).kind m
+unfolding node_of
+back-own days s n m =
+    let e : pos s -ℤ (pos s -ℤ pos m) ≡ pos m = omega (arith, ints) in
+    sym (ap (λ z. unsigned_abs (pos s -ℤ z)) (reads-own days n.kind (pos s -ℤ pos m)) ∙ ap unsigned_abs e)

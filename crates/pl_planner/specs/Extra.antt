@@ -1,44 +1,50 @@
--- How far back terms are computed, while no term reads its inputs by the calendar.
-use Rattle.std.specs.Prelude.{◌≡◌, ℕ, ◌<◌, ◌+◌, ◌-◌, ◌≤◌, true, List, [], ◌∷◌, ◌++◌, filter_map, Option, Some, None, slice_get}
+-- How far back terms are computed for a session, in sessions before it.
+use Rattle.std.specs.Prelude.{◌≡◌, ℕ, ◌<◌, ◌+◌, ◌-◌, ◌≤◌, true, ℤ, pos, ◌-ℤ◌, unsigned_abs, List, [], ◌∷◌, ◌++◌, filter_map, Option, Some, None, slice_get}
+use Rattle.pl_spec.specs.Kind.{Kind}
 use Rattle.pl_spec.specs.Term.{Input, Node, Graph}
 use Rattle.pl_spec.specs.Term.Input.{BarColumn, TermInput}
-use Rattle.pl_spec.specs.Graph.{contains}
+use Rattle.pl_spec.specs.Graph.{contains, reads_at}
 
--- a term that is mentioned, and over how many sessions before the session it is read
+-- a term that is mentioned, and the first session of it that is read
 abbrev pub Ask : Type 0
 Ask = ℕ × ℕ
 
-abbrev pub input_ask : ℕ → Input → Option Ask
-input_ask size (BarColumn c) = None
-input_ask size (TermInput k) = Some (k, size - 1)
+-- where a term of the kind is computed n sessions before session s, it reads its inputs up to this one
+abbrev pub back_from : List ℤ → ℕ → Kind → ℕ → ℕ
+back_from days s k n = unsigned_abs (pos s -ℤ reads_at days k (pos s -ℤ pos n))
 
-abbrev pub number_asks : Option ℕ → List Ask
-number_asks None = []
-number_asks (Some k) = (k, 0) ∷ []
+abbrev pub input_ask : ℕ → ℕ → Input → Option Ask
+input_ask back size (BarColumn c) = None
+input_ask back size (TermInput k) = Some (k, back + (size - 1))
+
+abbrev pub number_asks : ℕ → Option ℕ → List Ask
+number_asks n None = []
+number_asks n (Some k) = (k, n) ∷ []
 
 -- inputs are read over the window, a mask and a group on the session itself
-abbrev pub asks : Node → List Ask
-asks n = filter_map (input_ask n.window) n.inputs ++ number_asks n.mask ++ number_asks n.group
+abbrev pub asks : List ℤ → ℕ → Node → ℕ → List Ask
+asks days s node n =
+    filter_map (input_ask (back_from days s node.kind n) node.window) node.inputs ++ number_asks n node.mask ++ number_asks n node.group
 
 abbrev pub IsBelow : ℕ → Input → Type 0
 IsBelow b (BarColumn c) = Unit {0}
 IsBelow b (TermInput k) = k < b
 
-abbrev pub asks_of : Option Node → List Ask
-asks_of None = []
-asks_of (Some n) = asks n
+abbrev pub asks_of : List ℤ → ℕ → Option Node → ℕ → List Ask
+asks_of days s None n = []
+asks_of days s (Some node) n = asks days s node n
 
-abbrev pub asks_at : Graph → ℕ → List Ask
-asks_at g u = asks_of (slice_get g u)
+abbrev pub asks_at : List ℤ → ℕ → Graph → ℕ → ℕ → List Ask
+asks_at days s g u n = asks_of days s (slice_get g u) n
 
--- Term t is read n sessions before the first: an output not at all, and what such a term mentions as far as
--- that term, and over its window.
-pub data IsBack (g : Graph) (outputs : List ℕ) : ℕ → ℕ → Type 0 where
-  output : {t : ℕ} → contains outputs t ≡ true → IsBack g outputs t 0
-  mentioned : {t : ℕ} (u n i rows : ℕ) → IsBack g outputs u n → slice_get (asks_at g u) i ≡ Some (t, rows)
-      → IsBack g outputs t (n + rows)
+-- Term t is read n sessions before session s: an output not at all, and what such a term mentions as far as
+-- that term reads it.
+pub data IsBack (days : List ℤ) (s : ℕ) (g : Graph) (outputs : List ℕ) : ℕ → ℕ → Type 0 where
+  output : {t : ℕ} → contains outputs t ≡ true → IsBack days s g outputs t 0
+  mentioned : {t : ℕ} (u n i back : ℕ) → IsBack days s g outputs u n → slice_get (asks_at days s g u n) i ≡ Some (t, back)
+      → IsBack days s g outputs t back
 
 -- the greatest of these numbers
-pub record IsExtra (g : Graph) (outputs : List ℕ) (t extra : ℕ) : Type 0 where
-  pub back : IsBack g outputs t extra
-  pub most : (n : ℕ) → IsBack g outputs t n → n ≤ extra
+pub record IsExtra (days : List ℤ) (s : ℕ) (g : Graph) (outputs : List ℕ) (t extra : ℕ) : Type 0 where
+  pub back : IsBack days s g outputs t extra
+  pub most : (n : ℕ) → IsBack days s g outputs t n → n ≤ extra

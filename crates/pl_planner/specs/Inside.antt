@@ -3,7 +3,7 @@ use Rattle.pl_planner.specs.declared.plans.Plan.TheInside.{Inside}
 use Rattle.pl_planner.specs.Plans.{Planned, KeepsLimits}
 
 abbrev pub planned_of : Inside → Planned
-planned_of p = record { from = p.from; to = p.to; reach = p.reach; bound = p.bound; uses = p.uses.items; slots = p.slots.items }
+planned_of p = record { from = p.from; to = p.to; reach = p.reach; bound = p.bound; uses = p.uses.items; extras = p.extras.items; slots = p.slots.items }
 
 abbrev pub KeepsLimitsInside : Inside → Type 0
 KeepsLimitsInside p = KeepsLimits (planned_of p)

@@ -3,5 +3,6 @@ pub mod Extra
 pub mod Inside
 pub mod Laws
 pub mod Plans
+pub mod Rows
 pub mod Slotting
 pub mod Uses

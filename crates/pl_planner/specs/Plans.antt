@@ -1,5 +1,5 @@
 -- The plan of a run, and why there is none.
-use Rattle.std.specs.Prelude.{◌≡◌, ℕ, ◌<◌, ◌≤◌, ◌+◌, ◌-◌, ◌⊎◌, Bool, true, false, ◌&&◌, if◌then◌else◌, nat_le, nat_lt, ℤ, pos, ◌-ℤ◌, ◌<ℤ◌, ◌≤ℤ◌, List, length, get_or, slice_get, Option, Some, None}
+use Rattle.std.specs.Prelude.{◌≡◌, ℕ, ◌<◌, ◌≤◌, ◌+◌, ◌-◌, ◌*◌, ◌⊎◌, Bool, true, false, ◌&&◌, if◌then◌else◌, nat_le, nat_lt, ℤ, pos, ◌-ℤ◌, ◌<ℤ◌, ◌≤ℤ◌, List, length, get_or, slice_get, Option, Some, None}
 use Rattle.pl_spec.specs.Window.{before}
 use Rattle.pl_spec.specs.Term.{Graph, Node}
 use Rattle.pl_spec.specs.Graph.{Used, contains, mentions_at, live_terms, columns_at, bound}
@@ -12,16 +12,19 @@ use Rattle.pl_planner.specs.declared.uses.Use.{Use}
 use Rattle.pl_planner.specs.declared.slots.TermSlots.{TermSlots}
 use Rattle.pl_planner.specs.declared.plans.PlanError.{PlanError}
 use Rattle.pl_planner.specs.declared.plans.PlanError.TheVariants.{TooEarly, TooDeep, Memory}
+use Rattle.pl_planner.specs.Rows.{extra_at}
 use Rattle.pl_planner.specs.Uses.{use_at}
 use Rattle.pl_planner.specs.Slotting.{IsLowest, slots_at}
 
--- the range, its least reach, the greatest number of arrays at once, and what is known of each term by number
+-- the range, its least reach, the greatest number of arrays at once, what is known of each term by number, and
+-- how many sessions before each session of the range the terms are computed for it
 pub record Planned : Type 0 where
   pub from : ℕ
   pub to : ℕ
   pub reach : ℤ
   pub bound : ℕ
   pub uses : List Use
+  pub extras : List ℕ
   pub slots : List TermSlots
 
 -- ---- what a plan says of term t
@@ -29,9 +32,9 @@ pub record Planned : Type 0 where
 unfoldable pub is_used : Planned → ℕ → Bool
 is_used plan t = (use_at plan.uses t).used
 
--- the session from which on it is computed for session s and later ones
+-- the session from which on it is computed for session s of the range and later ones
 unfoldable pub low_at : Planned → ℕ → ℕ → ℕ
-low_at plan t s = s - (use_at plan.uses t).extra
+low_at plan t s = s - extra_at plan.extras (length plan.uses) (s - plan.from) t
 
 abbrev pub low : Planned → ℕ → ℕ
 low plan t = low_at plan t plan.from
@@ -157,6 +160,8 @@ pub record KeepsLimits (plan : Planned) : Type 0 where
   pub few : plan.bound ≤ 261
   pub terms : length plan.uses ≤ 256
   pub within : (t : ℕ) → is_used plan t ≡ true → t < length plan.slots
-  pub rows : (t : ℕ) → is_used plan t ≡ true
-      → ((use_at plan.uses t).extra ≤ plan.from) × ((use_at plan.uses t).extra ≤ most_rows)
+  pub size : length plan.extras ≡ (plan.to + 1 - plan.from) * length plan.uses
+  pub rows : (t s : ℕ) → IsAsked plan t s → (extra_at plan.extras (length plan.uses) (s - plan.from) t ≤ s)
+      × (extra_at plan.extras (length plan.uses) (s - plan.from) t ≤ most_rows)
+  pub among : (t : ℕ) → is_used plan t ≡ true → t < length plan.uses
   pub slots : (t : ℕ) → is_used plan t ≡ true → slot_of plan t < plan.bound

@@ -6,11 +6,12 @@ ghost use Rattle.pl_spec.specs.Graph.{bound, columns_at, contains, input_column}
 ghost use Rattle.pl_terms.specs.Checked.{IsChecked, pipeline_of};
 ghost use Rattle.pl_terms.specs.Nodes.{input_of, node_of};
 ghost use Rattle.pl_terms.specs.Uses.{outputs};
-ghost use Rattle.pl_planner.specs.Uses.{AreUses, is_kept, use_at};
-ghost use Rattle.pl_planner.specs.Columns.{bars_back, is_bar, columns_in, held_at, most_back, most_extra, reads_back};
+ghost use Rattle.pl_planner.specs.Uses.{AreUses, HaveExtras, is_kept, use_at};
+ghost use Rattle.pl_planner.specs.Columns.{bars_back, is_bar, columns_in, held_at, most_back, reads_back};
 
 use crate::pipeline::{count, node_at};
-use crate::uses::Use;
+use crate::uses::{Use, back_from};
+use pl_calendar::Sessions;
 use pl_spec::Column;
 use pl_terms::{Checked, Input, Node};
 
@@ -129,42 +130,50 @@ fn bars_back(node: &Node) -> usize
     }
 }
 
-// How many sessions before the first a used term reads.
-fn reads_back(checked: &Checked, uses: &[Use], t: usize) -> usize
+// How many sessions before the session a used term reads.
+fn reads_back(
+    checked: &Checked,
+    sessions: &Sessions,
+    uses: &[Use],
+    session: usize,
+    t: usize,
+) -> usize
     requires uses { AreUses (pipeline_of checked.now).graph (outputs (pipeline_of checked.now)) uses.now }
+    requires extras { HaveExtras sessions.now session (pipeline_of checked.now).graph
+        (outputs (pipeline_of checked.now)) uses.now }
+    requires session { session < length sessions.now }
     requires within { t < length uses.now }
-    ensures value { result ≡ reads_back (pipeline_of checked.now).graph uses.now t }
-    ensures few { result ≤ 1260 * 257 }
+    ensures value { result ≡ reads_back sessions.now session (pipeline_of checked.now).graph uses.now t }
+    ensures few { result ≤ session + 1260 * 257 }
 {
+    let _count = sessions.len();
     if uses[t].used {
-        uses[t].extra + bars_back(node_at(checked, t))
+        let node = node_at(checked, t);
+        back_from(sessions, node, session, uses[t].extra) + bars_back(node)
     } else {
         0
     }
 }
 
-/// How many sessions before the first the used terms read, at most.
-pub(crate) fn most_back(checked: &Checked, uses: &[Use]) -> usize
-    requires { AreUses (pipeline_of checked.now).graph (outputs (pipeline_of checked.now)) uses.now }
-    ensures value { result
-        ≡ most_back (pipeline_of checked.now).graph uses.now (length (pipeline_of checked.now).graph) }
-    ensures few { result ≤ 1260 * 257 }
+/// How many sessions before the session the used terms read, at most.
+pub(crate) fn most_back(
+    checked: &Checked,
+    sessions: &Sessions,
+    uses: &[Use],
+    session: usize,
+) -> usize
+    requires uses { AreUses (pipeline_of checked.now).graph (outputs (pipeline_of checked.now)) uses.now }
+    requires extras { HaveExtras sessions.now session (pipeline_of checked.now).graph
+        (outputs (pipeline_of checked.now)) uses.now }
+    requires within { session < length sessions.now }
+    ensures value { result ≡ most_back sessions.now session (pipeline_of checked.now).graph uses.now
+        (length (pipeline_of checked.now).graph) }
+    ensures few { result ≤ session + 1260 * 257 }
     ensures checked { IsChecked (pipeline_of checked.now) }
 {
     let mut most = 0;
     for t in 0..count(checked) {
-        most = most.max(reads_back(checked, uses, t));
-    }
-    most
-}
-
-/// The greatest number of extra sessions.
-pub(crate) fn most_extra(uses: &[Use]) -> usize
-    ensures { result ≡ most_extra uses.now }
-{
-    let mut most = 0;
-    for own in uses {
-        most = most.max(if own.used { own.extra } else { 0 });
+        most = most.max(reads_back(checked, sessions, uses, session, t));
     }
     most
 }

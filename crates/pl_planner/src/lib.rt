@@ -7,6 +7,7 @@ pub mod laws;
 mod pipeline;
 mod planning;
 mod plans;
+mod rows;
 mod slots;
 mod uses;
 

@@ -5,10 +5,11 @@ ghost use Rattle.pl_calendar.specs.Days.{AreDays};
 ghost use Rattle.pl_terms.specs.Checked.{IsChecked, pipeline_of};
 ghost use Rattle.pl_terms.specs.Uses.{outputs};
 ghost use Rattle.pl_planner.specs.Plans.{IsPlanFault, IsPlanOf};
-ghost use Rattle.pl_planner.specs.Uses.{AreUses};
+ghost use Rattle.pl_planner.specs.Uses.{AreUses, HaveExtras};
 
-use crate::columns::{bound_of, most_back, most_extra};
+use crate::columns::{bound_of, most_back};
 use crate::plans::{Plan, PlanError};
+use crate::rows::{gather_rows, most_extra};
 use crate::slots::slot_terms;
 use crate::uses::{Use, gather};
 use pl_calendar::Sessions;
@@ -21,6 +22,8 @@ const MOST_ROWS: usize = 4096;
 // The least session that is reached for the first one.
 fn reach_of(checked: &Checked, sessions: &Sessions, uses: &[Use], from: usize) -> i64
     requires uses { AreUses (pipeline_of checked.now).graph (outputs (pipeline_of checked.now)) uses.now }
+    requires extras { HaveExtras sessions.now from (pipeline_of checked.now).graph
+        (outputs (pipeline_of checked.now)) uses.now }
     requires within { from < length sessions.now }
     ensures value { result ≡ least_reach sessions.now (pipeline_of checked.now).graph
         (outputs (pipeline_of checked.now)) (pos from) }
@@ -28,7 +31,7 @@ fn reach_of(checked: &Checked, sessions: &Sessions, uses: &[Use], from: usize) -
     ensures days { AreDays sessions.now }
 {
     let _count = sessions.len();
-    from as i64 - most_back(checked, uses) as i64
+    from as i64 - most_back(checked, sessions, uses, from) as i64
 }
 
 /// The plan of a pipeline for the sessions from one to another.
@@ -46,14 +49,17 @@ pub fn plan(
     ensures plan { IfOk result (λ p. IsPlanOf sessions.now (pipeline_of checked.now) p) }
     ensures fault { IfErr result (λ e. IsPlanFault sessions.now (pipeline_of checked.now) from to e) }
 {
-    let Ok(uses) = gather(alloc, checked) else {
+    let Ok(uses) = gather(alloc, checked, sessions, from) else {
         return Err(PlanError::Memory);
     };
     let reach = reach_of(checked, sessions, &uses, from);
     if reach < 0 {
         return Err(PlanError::TooEarly { reach });
     }
-    let rows = most_extra(&uses);
+    let Ok(extras) = gather_rows(alloc, checked, sessions, from, to) else {
+        return Err(PlanError::Memory);
+    };
+    let rows = most_extra(&extras);
     if rows > MOST_ROWS {
         return Err(PlanError::TooDeep { rows: rows as u64 });
     }
@@ -67,6 +73,7 @@ pub fn plan(
         reach,
         bound,
         uses,
+        extras,
         slots,
     })
 }

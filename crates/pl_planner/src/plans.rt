@@ -26,6 +26,7 @@ pub struct Plan {
     pub(crate) reach: i64,
     pub(crate) bound: usize,
     pub(crate) uses: Vec<Use>,
+    pub(crate) extras: Vec<usize>,
     pub(crate) slots: Vec<TermSlots>,
 }
 
@@ -95,7 +96,7 @@ impl Plan {
         ensures within { result ≤ session }
         ensures few { session - result ≤ 4096 }
     {
-        session - use_of(&self.uses, t.0 as usize).extra
+        session - self.extras[(session - self.from) * self.uses.len() + t.0 as usize]
     }
 
     /// The least session that a column or the screen reaches for the first session.

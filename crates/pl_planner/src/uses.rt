@@ -4,10 +4,11 @@ ghost use Rattle.pl_spec.specs.Term.{MentionsBelow};
 ghost use Rattle.pl_terms.specs.Checked.{columns_of, pipeline_of};
 ghost use Rattle.pl_terms.specs.Nodes.{input_of, node_of, number_of};
 ghost use Rattle.pl_terms.specs.Uses.{outputs};
-ghost use Rattle.pl_planner.specs.Extra.{IsBelow, asks, input_ask, number_asks};
-ghost use Rattle.pl_planner.specs.Uses.{AreUses, all_asked, all_marked, marked, raised, unused, use_at};
+ghost use Rattle.pl_planner.specs.Extra.{IsBelow, asks, back_from, input_ask, number_asks};
+ghost use Rattle.pl_planner.specs.Uses.{AreUses, HaveExtras, all_asked, all_marked, marked, raised, unused, use_at};
 
 use crate::pipeline::{count, node_at};
+use pl_calendar::Sessions;
 use pl_terms::{Checked, Input, Node, TermId};
 use std::alloc::{AllocError, Global};
 
@@ -15,7 +16,7 @@ use std::alloc::{AllocError, Global};
 #[derive(Clone, Copy, Debug)]
 pub(crate) struct Use {
     pub(crate) used: bool,
-    /// So many sessions before the first one.
+    /// So many sessions before the session.
     pub(crate) extra: usize,
     /// The last used term that mentions it, or the number of all terms where it is an output.
     pub(crate) last: usize,
@@ -56,32 +57,43 @@ fn ask(uses: &mut [Use], term: TermId, by: usize, extra: usize)
     };
 }
 
-fn ask_input(uses: &mut [Use], input: Input, window: u32, by: usize, extra: usize)
+/// How many sessions before a session a node reads its inputs, up to which its windows go, where it is
+/// computed `extra` sessions before that session.
+#[tactic(auto, unfolding(pl_terms::specs::Nodes::node_of))]
+pub(crate) fn back_from(sessions: &Sessions, node: &Node, session: usize, extra: usize) -> usize
+    requires { session < length sessions.now }
+    ensures { result ≡ back_from sessions.now session (node_of node.now).kind extra }
+{
+    let _count = sessions.len();
+    extra
+}
+
+fn ask_input(uses: &mut [Use], input: Input, window: u32, by: usize, back: usize)
     requires window { 1 ≤ window }
-    requires room { extra + window < 2 ^ 63 }
+    requires room { back + window < 2 ^ 63 }
     requires lower { IsBelow (length uses.old) (input_of input) }
-    ensures { uses.new ≡ all_asked uses.old by extra (option_to_list (input_ask window (input_of input))) }
+    ensures { uses.new ≡ all_asked uses.old by (option_to_list (input_ask back window (input_of input))) }
 {
     if let Input::Term(term) = input {
-        ask(uses, term, by, extra + (window as usize - 1));
+        ask(uses, term, by, back + (window as usize - 1));
     }
 }
 
-fn ask_inputs(uses: &mut [Use], node: &Node, by: usize, extra: usize)
+fn ask_inputs(uses: &mut [Use], node: &Node, by: usize, back: usize)
     requires window { 1 ≤ node.now.window }
-    requires room { extra + node.now.window < 2 ^ 63 }
+    requires room { back + node.now.window < 2 ^ 63 }
     requires lower { MentionsBelow (node_of node.now) (length uses.old) }
-    ensures { uses.new ≡ all_asked uses.old by extra
-        (filter_map (input_ask node.now.window) (map input_of node.now.inputs)) }
+    ensures { uses.new ≡ all_asked uses.old by
+        (filter_map (input_ask back node.now.window) (map input_of node.now.inputs)) }
 {
     for input in node.inputs.as_slice() {
-        ask_input(uses, *input, node.window, by, extra);
+        ask_input(uses, *input, node.window, by, back);
     }
 }
 
 fn ask_number(uses: &mut [Use], number: Option<TermId>, by: usize, extra: usize)
     requires lower { IfSome number (λ t. number_of t < length uses.old) }
-    ensures { uses.new ≡ all_asked uses.old by extra (number_asks (option_map number_of number)) }
+    ensures { uses.new ≡ all_asked uses.old by (number_asks extra (option_map number_of number)) }
 {
     if let Some(term) = number {
         ask(uses, term, by, extra);
@@ -89,13 +101,21 @@ fn ask_number(uses: &mut [Use], number: Option<TermId>, by: usize, extra: usize)
 }
 
 #[tactic(auto, unfolding(pl_terms::specs::Nodes::node_of))]
-fn ask_all(uses: &mut [Use], node: &Node, by: usize, extra: usize)
+fn ask_all(
+    uses: &mut [Use],
+    node: &Node,
+    sessions: &Sessions,
+    session: usize,
+    by: usize,
+    extra: usize,
+)
+    requires within { session < length sessions.now }
     requires window { 1 ≤ node.now.window }
-    requires room { extra + node.now.window < 2 ^ 63 }
+    requires room { back_from sessions.now session (node_of node.now).kind extra + node.now.window < 2 ^ 63 }
     requires lower { MentionsBelow (node_of node.now) (length uses.old) }
-    ensures { uses.new ≡ all_asked uses.old by extra (asks (node_of node.now)) }
+    ensures { uses.new ≡ all_asked uses.old by (asks sessions.now session (node_of node.now) extra) }
 {
-    ask_inputs(uses, node, by, extra);
+    ask_inputs(uses, node, by, back_from(sessions, node, session, extra));
     ask_number(uses, node.mask, by, extra);
     ask_number(uses, node.group, by, extra);
 }
@@ -134,27 +154,40 @@ fn mark_outputs(uses: &mut [Use], checked: &Checked, terms: usize)
 }
 
 // One pass from the last term to the first.
-fn ask_down(uses: &mut [Use], checked: &Checked)
-    requires { uses.old ≡ replicate (length (pipeline_of checked.now).graph) unused }
-    ensures { AreUses (pipeline_of checked.now).graph (outputs (pipeline_of checked.now)) uses.new }
+fn ask_down(uses: &mut [Use], checked: &Checked, sessions: &Sessions, session: usize)
+    requires unused { uses.old ≡ replicate (length (pipeline_of checked.now).graph) unused }
+    requires within { session < length sessions.now }
+    ensures uses { AreUses (pipeline_of checked.now).graph (outputs (pipeline_of checked.now)) uses.new }
+    ensures extras { HaveExtras sessions.now session (pipeline_of checked.now).graph
+        (outputs (pipeline_of checked.now)) uses.new }
 {
+    let _count = sessions.len();
     let mut k = count(checked);
     mark_outputs(uses, checked, k);
     while k > 0 {
         k -= 1;
         let own = uses[k];
         if own.used {
-            ask_all(uses, node_at(checked, k), k, own.extra);
+            let node = node_at(checked, k);
+            ask_all(uses, node, sessions, session, k, own.extra);
         }
     }
 }
 
-/// The uses of all terms.
-pub(crate) fn gather(alloc: Global, checked: &Checked) -> Result<Vec<Use>, AllocError>
-    ensures { IfOk result (λ uses.
+/// The uses of all terms, and the extra sessions of the used ones for a session.
+pub(crate) fn gather(
+    alloc: Global,
+    checked: &Checked,
+    sessions: &Sessions,
+    session: usize,
+) -> Result<Vec<Use>, AllocError>
+    requires { session < length sessions.now }
+    ensures uses { IfOk result (λ uses.
         AreUses (pipeline_of checked.now).graph (outputs (pipeline_of checked.now)) uses.items) }
+    ensures extras { IfOk result (λ uses. HaveExtras sessions.now session (pipeline_of checked.now).graph
+        (outputs (pipeline_of checked.now)) uses.items) }
 {
     let mut uses = vec![in alloc; UNUSED; count(checked)]?;
-    ask_down(&mut uses, checked);
+    ask_down(&mut uses, checked, sessions, session);
     Ok(uses)
 }

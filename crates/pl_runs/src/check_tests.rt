@@ -18,6 +18,7 @@ fn counts_terms_and_columns(rt: HostRuntime) -> Result<(), Fail> {
             b"pipeline 1; column a = 1; column b = 1.0;",
             b"ok: 1 terms, 2 columns\n",
         ),
+        (b"pipeline 2; column a = 1;", b"ok: 1 terms, 1 columns\n"),
     ] {
         let got = answer(alloc, &words, ("p.pl", bytes), NO_ROWS)?;
         assert_eq!(rt; got, make_left(alloc, 0, text, b"")?);
@@ -47,6 +48,10 @@ fn refuses_broken_rules(rt: HostRuntime) -> Result<(), Fail> {
             "2:12: check NotWindowSafe",
         ),
         ("column x = foo;", "2:12: check UnknownName"),
+        (
+            "column c = close.latest.downsample(\"week_start\");",
+            "2:25: check UnknownName",
+        ),
         ("column a = close.latest();", "2:18: check BadArgument"),
         ("column a = close.rank();", "2:18: check WrongKind"),
         (

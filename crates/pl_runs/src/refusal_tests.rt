@@ -87,6 +87,7 @@ fn refuses_pipelines(rt: HostRuntime) -> Result<(), Fail> {
     let fmt = words_of(alloc, "fmt p.pl")?;
     for (bytes, line) in [
         (b"".as_slice(), b"p.pl:1:1: syntax Unexpected\n".as_slice()),
+        (b"pipeline 3;", b"p.pl:1:10: syntax Unexpected\n"),
         (
             b"pipeline 1;\ncolumn x = a < b < c;",
             b"p.pl:2:18: syntax Unexpected\n",

@@ -202,6 +202,10 @@ fn writes_canonical_texts(rt: HostRuntime) -> Result<(), Fail> {
             b"pipeline 1;\ncolumn x = -a.rank() - (b - 1.5);\n",
         ),
         (b"pipeline 1;", b"pipeline 1;\n"),
+        (
+            b"pipeline 2.0; column  c=(1) ;",
+            b"pipeline 2;\ncolumn c = 1;\n",
+        ),
     ] {
         let got = answer(alloc, &words, ("p.pl", bytes), NO_ROWS)?;
         assert_eq!(rt; got, make_left(alloc, 0, text, b"")?);

@@ -113,14 +113,14 @@ module _ (y m d : ℕ) (early : 1900 ≤ y) (late : y ≤ 2199) (civil : IsCivil
   after_year : day_count (pos y) 1 1 ≤ day_count (pos y) m d
   after_year = omega (arith, month_first y 1 m civil.1.0, after_month)
 
-  year_of-civil : year_of (days_from_civil (pos y) m d) ≡ y
+  pub year_of-civil : year_of (days_from_civil (pos y) m d) ≡ y
   year_of-civil =
       let n = counted (λ x. int_le (day_number x 1 1) (days_from_civil (pos y) m d)) 1901 299 (y - 1900) (omega arith)
       (λ x l h. begun x 1 y m d (omega arith) (omega (arith, year_first x y (omega arith), after_year)))
       (λ x l h. not_begun x 1 y m d (omega arith) (day_count-lt_year (pos y) m d (pos x) 1 1 civil (omega arith) (omega (arith, ints)))) in
       omega (arith, n)
 
-  month_of-civil : month_of y (days_from_civil (pos y) m d) ≡ m
+  pub month_of-civil : month_of y (days_from_civil (pos y) m d) ≡ m
   month_of-civil =
       let n = counted (λ x. int_le (day_number y x 1) (days_from_civil (pos y) m d)) 2 11 (m - 1) (omega (arith, civil.1.1))
       (λ x l h. begun y x y m d (omega arith) (omega (arith, month_first y x m (omega (arith, civil.1.0)), after_month)))

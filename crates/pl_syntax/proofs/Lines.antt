@@ -1,10 +1,12 @@
 -- The text of statements, one after another.
-use Rattle.std.proofs.Common.{◌≡◌, ℕ, zero, suc, ◌+◌, ◌<◌, ◌≤◌, List, [], ◌∷◌, ◌++◌, length, drop, get_or, refl, sym, ap, ◌∙◌, arith, append_assoc, append-nil, drop-cons}
+use Rattle.std.proofs.Common.{◌≡◌, ℕ, zero, suc, ◌+◌, ◌<◌, ◌≤◌, ◌==◌, true, false, List, [], ◌∷◌, ◌++◌, length, drop, get_or, refl, sym, ap, ◌∙◌, arith, append_assoc, append-nil, drop-cons}
 use Rattle.std.specs.Prelude.{codes}
 use Rattle.std.proofs.lemmas.Fmt.{decimal_digit}
+use Rattle.std.proofs.lemmas.Bool.Decides.{nat_tests}
 use Rattle.pl_grammar.specs.Script as g
+use Rattle.pl_grammar.specs.Script.{is_known}
 use Rattle.pl_syntax.specs.Statements.{statement_of, statements_of}
-use Rattle.pl_syntax.specs.Canonical.{statement_text, statements_text, script_text}
+use Rattle.pl_syntax.specs.Canonical.{statement_text, statements_text, version_text, script_text}
 use Rattle.pl_syntax.specs.declared.script.Statement.{Statement}
 
 abbrev pub lines_text : List Statement → List ℕ
@@ -18,13 +20,20 @@ no_line : lines_text [] ≡ []
 unfolding statements_text
 no_line = refl
 
--- the first line is that of version 1
-pub first_line : (ss : List g.Statement) → script_text 1 ss ≡ codes "pipeline 1;\n" ++ statements_text ss
-unfolding script_text
-first_line ss = ap (λ ds. codes "pipeline " ++ (ds ++ (codes ";\n" ++ statements_text ss))) (decimal_digit 1 (omega arith))
+-- the first line of each version
+pub first_line : (n : ℕ) → is_known n ≡ true → (ds : List ℕ) → (n ≡ 1 → ds ≡ codes "pipeline 1;\n") → (n ≡ 2 → ds ≡ codes "pipeline 2;\n") → ds ≡ version_text n
+unfolding version_text
+first_line zero h ds one two = absurd (let bad : false ≡ true = h in cc)
+first_line (suc zero) h ds one two = one refl ∙ sym (ap (λ ds. codes "pipeline " ++ (ds ++ codes ";\n")) (decimal_digit 1 (omega arith)))
+first_line (suc (suc zero)) h ds one two = two refl ∙ sym (ap (λ ds. codes "pipeline " ++ (ds ++ codes ";\n")) (decimal_digit 2 (omega arith)))
+first_line (suc (suc (suc n))) h ds one two =
+    let first : (suc (suc (suc n)) == 1) ≡ false = grind (arith, nat_tests) in
+    let second : (suc (suc (suc n)) == 2) ≡ false = grind (arith, nat_tests) in
+    absurd (let bad : false ≡ true = rw (first, second) at h in cc)
 
-pub begun_lines : (xs ys : List Statement) (made out : List ℕ) → xs ≡ ys → made ≡ [] → out ≡ made ++ codes "pipeline 1;\n" → out ++ lines_text xs ≡ script_text 1 (statements_of ys)
-begun_lines xs ys made out e m k = ap (λ z. z ++ lines_text xs) (k ∙ ap (λ z. z ++ codes "pipeline 1;\n") m) ∙ ap (λ z. codes "pipeline 1;\n" ++ lines_text z) e ∙ sym (first_line (statements_of ys))
+pub begun_lines : (n : ℕ) (xs ys : List Statement) (made out line : List ℕ) → xs ≡ ys → made ≡ [] → out ≡ made ++ line → line ≡ version_text n → out ++ lines_text xs ≡ script_text n (statements_of ys)
+unfolding script_text
+begun_lines n xs ys made out line e m k l = ap (λ z. z ++ lines_text xs) (k ∙ ap (λ z. z ++ line) m ∙ l) ∙ ap (λ z. version_text n ++ lines_text z) e
 
 pub more_lines : (xs : List Statement) (i : ℕ) (x : Statement) (before after all : List ℕ) → i < length xs → x ≡ get_or xs i x → after ≡ before ++ statement_text (statement_of x) → before ++ lines_text (drop i xs) ≡ all → after ++ lines_text (drop (i + 1) xs) ≡ all
 more_lines xs i x before after all h e t k =

@@ -1,15 +1,15 @@
 -- The canonical text of a script spells it again.
 use Rattle.std.proofs.Common.{◌≡◌, ℕ, true, List, Result, Ok, Err, refl, ap, subst, sym, ◌∙◌}
 use Rattle.pl_grammar.specs.declared.Place.{Place}
-use Rattle.pl_grammar.specs.Script.{Statement}
+use Rattle.pl_grammar.specs.Script.{Statement, is_known, version_told}
 use Rattle.pl_grammar.specs.Whole.{are_sound, bare_script}
-use Rattle.pl_grammar.proofs.Scripts.{script_derives, script_short, same_short, replaced_script}
+use Rattle.pl_grammar.proofs.Scripts.{script_derives, script_told, script_short, same_told, same_short, replaced_script}
 use Rattle.pl_tokens.specs.Sound.{is_written}
 use Rattle.pl_tokens.specs.Text.{start}
 use Rattle.pl_syntax.specs.Canonical.{script_text}
 use Rattle.pl_syntax.specs.Spells.{Parsed, Spells, SameScript, SpellsAgain}
 use Rattle.pl_syntax.specs.Statements.{statements_of}
-use Rattle.pl_syntax.specs.Scripts.{statements_in, end_in, parsed, printed_text}
+use Rattle.pl_syntax.specs.Scripts.{version_in, statements_in, end_in, parsed, printed_text}
 use Rattle.pl_syntax.specs.Parsing.{AnswersScript, AnswersSame, Outcome}
 use Rattle.pl_syntax.specs.declared.script.Script.{Script}
 use Rattle.pl_syntax.specs.declared.error.SyntaxError.{SyntaxError}
@@ -17,17 +17,21 @@ use Rattle.pl_syntax.specs.declared.error.SyntaxError.TheVariants.{Memory}
 use Rattle.pl_syntax.proofs.Shown.{script_shows}
 use Rattle.pl_syntax.proofs.Verdicts.{one_parsed, spelled_answers}
 
-pub spells_again : (ss : List Statement) (end : Place) → are_sound is_written ss ≡ true → SpellsAgain (script_text 1 ss) (record { version = 1; statements = ss; end = end })
-spells_again ss end h =
-    let r = (script_shows ss h).from start in
-    let d = replaced_script (script_derives is_written ss h) r.tokens r.same in
-    let s : Parsed = record { version = 1; statements = d.statements; end = r.end } in
-    let x : Spells (script_text 1 ss) s = record { tokens = r.tokens; reads = r.reads; short = same_short r.same 0 (script_short is_written ss h); derives = d.derives; version = refl } in
+pub spells_again : (n : ℕ) (ss : List Statement) (end : Place) → is_known n ≡ true → are_sound is_written ss ≡ true
+    → SpellsAgain (script_text n ss) (record { version = n; statements = ss; end = end })
+spells_again n ss end k h =
+    let r = (script_shows n ss k h).from start in
+    let d = replaced_script (script_derives is_written n ss k h) r.tokens r.same in
+    let s : Parsed = record { version = n; statements = d.statements; end = r.end } in
+    let told : version_told r.tokens ≡ n = same_told r.same ∙ script_told n ss k in
+    let x : Spells (script_text n ss) s = record { tokens = r.tokens; reads = r.reads; short = same_short r.same 0 (script_short is_written n ss h); derives = d.derives; version = sym told } in
     record {
       script = s;
       spells = x;
       same = record { version = refl; statements = d.same };
-      only = λ y z. record { version = z.version; statements = ap (λ (w : Parsed). bare_script w.statements) (one_parsed (script_text 1 ss) y s z x) ∙ d.same };
+      only = λ y z.
+          let e : y ≡ s = one_parsed (script_text n ss) y s z x in
+          record { version = ap (λ (w : Parsed). w.version) e; statements = ap (λ (w : Parsed). bare_script w.statements) e ∙ d.same };
     }
 
 same_answer : (r : Result Script SyntaxError) (x y : Parsed) → AnswersScript r x → SameScript x y → AnswersSame r y
@@ -35,11 +39,8 @@ same_answer (Ok s) x y a h = record { version = ap (λ (w : Parsed). w.version) 
 same_answer (Err Memory) x y a h = tt
 same_answer (Err e) x y a h = a
 
--- of a script, which is of version 1
 pub printed_again : (s : Script) → SpellsAgain (printed_text s) (parsed s)
-printed_again s =
-    let at : ℕ → Type 0 = λ n. SpellsAgain (script_text n (statements_of (statements_in s))) (record { version = n; statements = statements_of (statements_in s); end = end_in s }) in
-    subst at (sym s.known) (spells_again (statements_of (statements_in s)) (end_in s) s.sound)
+printed_again s = spells_again (version_in s) (statements_of (statements_in s)) (end_in s) s.known s.sound
 
 -- what is printed of a script is read as it
 pub printed_answers : (bytes : List ℕ) (r : Result Script SyntaxError) → Outcome bytes r → (s : Script) → bytes ≡ printed_text s → AnswersSame r (parsed s)

@@ -11,12 +11,12 @@ use Rattle.pl_grammar.specs.Places.{bare, bare_args}
 use Rattle.pl_grammar.specs.Script.{Head, LetHead, ColumnHead, ScreenHead, Statement}
 use Rattle.pl_grammar.specs.Whole.{are_sound, bare_head, bare_script}
 use Rattle.pl_tokens.specs.Sound.{is_written}
-use Rattle.pl_syntax.specs.Canonical.{prefix_text, binary_text, placed_text, comma_text, name_text, in_parentheses, tree_text, list_text, head_text, statement_text, statements_text, script_text}
-use Rattle.pl_syntax.specs.Scripts.{statements_in, end_in, parsed, printed_text}
+use Rattle.pl_syntax.specs.Canonical.{prefix_text, binary_text, placed_text, comma_text, name_text, in_parentheses, tree_text, list_text, head_text, statement_text, statements_text, version_text, script_text}
+use Rattle.pl_syntax.specs.Scripts.{version_in, statements_in, parsed, printed_text}
 use Rattle.pl_syntax.specs.Spells.{SameScript, Spells}
 use Rattle.pl_syntax.specs.Statements.{statements_of}
 use Rattle.pl_syntax.specs.declared.script.Script.{Script}
-use Rattle.pl_syntax.proofs.Printing.{spells_again}
+use Rattle.pl_syntax.proofs.Printing.{printed_again}
 
 bare_level : (e : Tree) → tree_level (bare e) ≡ tree_level e
 unfolding bare
@@ -64,22 +64,21 @@ bare_statements (s ∷ ss) =
 
 same_text : (n : ℕ) (a b : List Statement) → bare_script a ≡ bare_script b → script_text n a ≡ script_text n b
 unfolding script_text
-same_text n a b h = ap (λ z. codes "pipeline " ++ (decimal n ++ (codes ";\n" ++ z))) (sym (bare_statements a) ∙ (ap statements_text h ∙ bare_statements b))
+same_text n a b h = ap (λ z. version_text n ++ z) (sym (bare_statements a) ∙ (ap statements_text h ∙ bare_statements b))
 
-same_script : (a b : List Statement) (p : Place) → are_sound is_written a ≡ true → are_sound is_written b ≡ true → script_text 1 a ≡ script_text 1 b → bare_script a ≡ bare_script b
-same_script a b p h k e =
-    let x = spells_again a p h in
-    let y = spells_again b p k in
-    sym x.same.statements ∙ (y.only x.script (subst (λ z. Spells z x.script) e x.spells)).statements
+same_script : (a b : Script) → printed_text a ≡ printed_text b → SameScript (parsed a) (parsed b)
+same_script a b e =
+    let x = printed_again a in
+    let y = printed_again b in
+    let z = y.only x.script (subst (λ z. Spells z x.script) e x.spells) in
+    record { version = sym x.same.version ∙ z.version; statements = sym x.same.statements ∙ z.statements }
 
--- the canonical texts of scripts, which are of version 1, are the same exactly where the scripts are
+-- the canonical texts of scripts are the same exactly where the scripts are
 pub text_decides : (a b : Script) → Decides (bytes_eq (printed_text a) (printed_text b)) (SameScript (parsed a) (parsed b))
 text_decides a b =
     let t = bytes_eq-Decides (printed_text a) (printed_text b) in
     let xs = statements_of (statements_in a) in
-    let ys = statements_of (statements_in b) in
-    let first : printed_text a ≡ script_text 1 xs = ap (λ n. script_text n xs) a.known in
-    let second : printed_text b ≡ script_text 1 ys = ap (λ n. script_text n ys) b.known in (
-      λ e. record { version = a.known ∙ sym b.known; statements = same_script xs ys (end_in a) a.sound b.sound (sym first ∙ t.0 e ∙ second) },
-      λ e. t.1 (first ∙ same_text 1 xs ys e.statements ∙ sym second),
+    let ys = statements_of (statements_in b) in (
+      λ e. same_script a b (t.0 e),
+      λ e. t.1 (same_text (version_in a) xs ys e.statements ∙ ap (λ n. script_text n ys) e.version),
     )

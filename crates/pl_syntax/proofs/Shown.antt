@@ -1,11 +1,11 @@
 -- The canonical text of a script is read as its canonical tokens.
-use Rattle.std.proofs.Common.{◌≡◌, ℕ, ℤ, pos, negsuc, ◌<◌, ◌≤◌, Bool, true, false, cond, leb, List, [], ◌∷◌, ◌++◌, length, Option, Some, None, refl, sym, ap, ◌∙◌, arith, subst, append_assoc, append-nil}
+use Rattle.std.proofs.Common.{◌≡◌, ℕ, zero, suc, ℤ, pos, negsuc, ◌<◌, ◌≤◌, Bool, true, false, cond, leb, List, [], ◌∷◌, ◌++◌, length, Option, Some, None, refl, sym, ap, ◌∙◌, arith, subst, append_assoc, append-nil}
 use Rattle.std.specs.Prelude.{codes, ◌==◌, nat_le, ◌/◌}
 use Rattle.std.specs.Fmt.{decimal}
 use Rattle.std.specs.Str.Parse.{AllDigits}
 use Rattle.std.specs.Char.{digit_value}
 use Rattle.std.proofs.lemmas.Bool.Decides.{nat_tests}
-use Rattle.std.proofs.lemmas.Fmt.{decimal_is_IsNumeral}
+use Rattle.std.proofs.lemmas.Fmt.{decimal_digit, decimal_is_IsNumeral}
 use Rattle.std.proofs.lemmas.Str.Parse.{digit_from_value}
 use Rattle.pl_spec.specs.Rounding.{LIMIT, MILLION}
 use Rattle.pl_grammar.specs.declared.Place.{Place}
@@ -16,8 +16,8 @@ use Rattle.pl_grammar.specs.declared.BinarySign.TheVariants.{Or, And, Less, Less
 use Rattle.pl_grammar.specs.Tree as t
 use Rattle.pl_grammar.specs.Tree.{Lexeme, mark, Tree, number, text, name, call, prefix, binary, member, method, Args, no_args, arg, sign_token, prefix_level, left_level, right_level}
 use Rattle.pl_grammar.specs.Printed.{here, tree_level, placed, name_tokens, tokens, args_tokens, more_tokens}
-use Rattle.pl_grammar.specs.Script.{Head, LetHead, ColumnHead, ScreenHead, Statement}
-use Rattle.pl_grammar.specs.Whole.{tree_passes, args_pass, name_passes, head_passes, head_tokens, statements_tokens, script_tokens, is_sound, are_sound}
+use Rattle.pl_grammar.specs.Script.{Head, LetHead, ColumnHead, ScreenHead, Statement, is_known}
+use Rattle.pl_grammar.specs.Whole.{version_number, tree_passes, args_pass, name_passes, head_passes, head_tokens, statements_tokens, script_tokens, is_sound, are_sound}
 use Rattle.pl_grammar.proofs.Fewest.{both}
 use Rattle.pl_grammar.proofs.Scripts.{parts}
 use Rattle.pl_tokens.specs.Bytes.{Stops}
@@ -25,9 +25,8 @@ use Rattle.pl_spec.specs.Names.{is_digit, starts_word, is_word_byte, is_name}
 use Rattle.pl_tokens.specs.Tokens.{NoDecimals}
 use Rattle.pl_tokens.specs.Numerals.{number_text}
 use Rattle.pl_tokens.specs.Sound.{is_number, is_written}
-use Rattle.pl_tokens.proofs.Shows.{Shows, end_shows, pair_shows, word_shows, one_shows, blank_shows, sign_shows, name_shows, text_shows, number_shows}
-use Rattle.pl_syntax.specs.Canonical.{prefix_text, binary_text, placed_text, name_text, comma_text, in_parentheses, tree_text, list_text, head_text, statements_text, script_text}
-use Rattle.pl_syntax.proofs.Lines.{first_line}
+use Rattle.pl_tokens.proofs.Shows.{Shows, end_shows, pair_shows, word_shows, one_shows, two_shows, blank_shows, sign_shows, name_shows, text_shows, number_shows}
+use Rattle.pl_syntax.specs.Canonical.{prefix_text, binary_text, placed_text, name_text, comma_text, in_parentheses, tree_text, list_text, head_text, statements_text, version_text, script_text}
 
 -- what may follow an operand: nothing that a name or a number before it would take
 abbrev Clear : List ℕ → Type 0
@@ -289,14 +288,24 @@ statements_show (s ∷ ss) h =
     (tree_shows s.tree x.tree (59 ∷ (10 ∷ rest)) (here t.Semicolon ∷ us) (clear_at 59 (10 ∷ rest) refl refl refl)
     (sign_shows 59 (10 ∷ rest) us _ refl (plain_sign (10 ∷ rest)) (blank_shows 10 rest us refl (statements_show ss a.1)))))
 
-lines_show : (ss : List Statement) → are_sound is_written ss ≡ true → Shows (codes "pipeline 1;\n" ++ statements_text ss) (script_tokens ss)
-unfolding script_tokens
-lines_show ss h =
+number_line : (n : ℕ) → is_known n ≡ true → (rest : List ℕ) (us : List Lexeme) (p : Place) → NoDecimals rest → Shows rest us → Shows (decimal n ++ rest) (mark p (t.Number (version_number n)) ∷ us)
+number_line zero h rest us p s k = absurd (let bad : false ≡ true = h in cc)
+number_line (suc zero) h rest us p s k =
+    subst (λ z. Shows (z ++ rest) (mark p (t.Number (pos 1000000)) ∷ us)) (sym (decimal_digit 1 (omega arith))) (one_shows rest us p s k)
+number_line (suc (suc zero)) h rest us p s k =
+    subst (λ z. Shows (z ++ rest) (mark p (t.Number (pos 2000000)) ∷ us)) (sym (decimal_digit 2 (omega arith))) (two_shows rest us p s k)
+number_line (suc (suc (suc n))) h rest us p s k =
+    let first : (suc (suc (suc n)) == 1) ≡ false = grind (arith, nat_tests) in
+    let second : (suc (suc (suc n)) == 2) ≡ false = grind (arith, nat_tests) in
+    absurd (let bad : false ≡ true = rw (first, second) at h in cc)
+
+pub script_shows : (n : ℕ) (ss : List Statement) → is_known n ≡ true → are_sound is_written ss ≡ true → Shows (script_text n ss) (script_tokens n ss)
+unfolding script_tokens script_text version_text
+script_shows n ss known h =
     let rest = statements_text ss in
     let us = statements_tokens ss in
-    word_shows 112 (codes "ipeline") (32 ∷ (49 ∷ (59 ∷ (10 ∷ rest)))) _ _ t.PipelineWord refl refl (omega arith) refl refl
-    (blank_shows 32 _ _ refl (one_shows (59 ∷ (10 ∷ rest)) (here t.Semicolon ∷ us) _ (clear_at 59 (10 ∷ rest) refl refl refl).1
-    (sign_shows 59 (10 ∷ rest) us _ refl (plain_sign (10 ∷ rest)) (blank_shows 10 rest us refl (statements_show ss h)))))
-
-pub script_shows : (ss : List Statement) → are_sound is_written ss ≡ true → Shows (script_text 1 ss) (script_tokens ss)
-script_shows ss h = subst (λ z. Shows z (script_tokens ss)) (sym (first_line ss)) (lines_show ss h)
+    regroup ((codes "pipeline " ++ (decimal n ++ codes ";\n")) ++ rest) (codes "pipeline" ++ (32 ∷ (decimal n ++ (59 ∷ (10 ∷ rest))))) _ _
+    (append_assoc (codes "pipeline ") (decimal n ++ codes ";\n") rest ∙ ap (λ z. codes "pipeline " ++ z) (append_assoc (decimal n) (codes ";\n") rest)) refl
+    (word_shows 112 (codes "ipeline") (32 ∷ (decimal n ++ (59 ∷ (10 ∷ rest)))) _ _ t.PipelineWord refl refl (omega arith) refl refl
+    (blank_shows 32 _ _ refl (number_line n known (59 ∷ (10 ∷ rest)) (here t.Semicolon ∷ us) _ (clear_at 59 (10 ∷ rest) refl refl refl).1
+    (sign_shows 59 (10 ∷ rest) us _ refl (plain_sign (10 ∷ rest)) (blank_shows 10 rest us refl (statements_show ss h))))))

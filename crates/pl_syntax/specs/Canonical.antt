@@ -86,6 +86,9 @@ unfoldable pub statements_text : List Statement → List ℕ
 statements_text [] = []
 statements_text (s ∷ ss) = statement_text s ++ statements_text ss
 
+unfoldable pub version_text : ℕ → List ℕ
+version_text version = codes "pipeline " ++ (decimal version ++ codes ";\n")
+
 -- the canonical text of a script: its version on the first line, and then its statements
 unfoldable pub script_text : ℕ → List Statement → List ℕ
-script_text version ss = codes "pipeline " ++ (decimal version ++ (codes ";\n" ++ statements_text ss))
+script_text version ss = version_text version ++ statements_text ss

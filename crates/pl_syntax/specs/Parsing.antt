@@ -3,14 +3,14 @@ use Rattle.std.specs.Prelude.{ℕ, ◌≡◌, ◌<◌, if◌then◌else◌, nat_
 use Rattle.pl_grammar.specs.declared.Place.{Place}
 use Rattle.pl_grammar.specs.Machine.{Stop, Stuck, Deep}
 use Rattle.pl_grammar.specs.Script as g
-use Rattle.pl_grammar.specs.Script.{Statement, script_step}
+use Rattle.pl_grammar.specs.Script.{Statement, script_step, version_told}
 use Rattle.pl_grammar.specs.Tree.{Lexeme}
 use Rattle.pl_grammar.specs.Faults as f
 use Rattle.pl_grammar.specs.Faults.{Kind, Tail, AtEnd, Verdict, Good, Fault, too_large, most_tokens, most_depth, verdict}
 use Rattle.pl_tokens.specs.Text.{start, Read}
 use Rattle.pl_syntax.specs.Spells.{Parsed, FirstFault, SameScript}
 use Rattle.pl_syntax.specs.Statements.{statements_of}
-use Rattle.pl_syntax.specs.Scripts.{statements_in, end_in, parsed}
+use Rattle.pl_syntax.specs.Scripts.{version_in, statements_in, end_in, parsed}
 use Rattle.pl_syntax.specs.Stages.{stage_of}
 use Rattle.pl_syntax.specs.declared.parser.TheConstants.{MOST_BYTES}
 use Rattle.pl_syntax.specs.declared.script.Script.{Script}
@@ -53,6 +53,11 @@ AnswersFault (Ok s) k p = ⊥
 AnswersFault (Err Memory) k p = Unit {0}
 AnswersFault (Err e) k p = e ≡ error_of k p
 
+-- the answer's script is of this version
+abbrev pub HasVersion : Result Script SyntaxError → ℕ → Type 0
+HasVersion (Ok s) n = version_in s ≡ n
+HasVersion (Err e) n = Unit {0}
+
 -- a step of the reader over a token that is the next after n tokens of its statement
 abbrev pub stepped : Result g.Stage Stop → Result g.Stage Kind
 stepped (Ok s) = Ok s
@@ -65,15 +70,15 @@ token_step n t s =
     else if too_large t then Err f.NumberTooLarge
     else stepped (script_step most_depth t s)
 
-abbrev pub Steps : Result Progress SyntaxError → Result g.Stage Kind → ℕ → Place → Type 0
-Steps (Ok x) r n p = (r ≡ Ok (stage_of x.stage)) × (x.count ≡ n)
-Steps (Err (Unexpected q)) r n p = (r ≡ Err f.Unexpected) × (q ≡ p)
-Steps (Err (TooDeep q)) r n p = (r ≡ Err f.TooDeep) × (q ≡ p)
-Steps (Err (NumberTooLarge q)) r n p = (r ≡ Err f.NumberTooLarge) × (q ≡ p)
-Steps (Err (LongStatement q)) r n p = (r ≡ Err f.LongStatement) × (q ≡ p)
-Steps (Err (BadByte q)) r n p = ⊥
-Steps (Err TooLong) r n p = ⊥
-Steps (Err Memory) r n p = Unit {0}
+abbrev pub Steps : Result Progress SyntaxError → Result g.Stage Kind → ℕ → ℕ → Place → Type 0
+Steps (Ok x) r n v p = (r ≡ Ok (stage_of x.stage)) × (x.count ≡ n) × (x.version ≡ v)
+Steps (Err (Unexpected q)) r n v p = (r ≡ Err f.Unexpected) × (q ≡ p)
+Steps (Err (TooDeep q)) r n v p = (r ≡ Err f.TooDeep) × (q ≡ p)
+Steps (Err (NumberTooLarge q)) r n v p = (r ≡ Err f.NumberTooLarge) × (q ≡ p)
+Steps (Err (LongStatement q)) r n v p = (r ≡ Err f.LongStatement) × (q ≡ p)
+Steps (Err (BadByte q)) r n v p = ⊥
+Steps (Err TooLong) r n v p = ⊥
+Steps (Err Memory) r n v p = Unit {0}
 
 -- what the end of the file answers, where it is at p
 abbrev pub Ends : Result Script SyntaxError → Option (List Statement) → Place → Type 0
@@ -97,3 +102,4 @@ pub record Outcome (bytes : List ℕ) (result : Result Script SyntaxError) : Typ
   pub tail : Tail
   pub reads : Read start bytes tokens tail
   pub gives : Gives result tail (verdict 0 g.Opening tokens tail)
+  pub version : HasVersion result (version_told tokens)

@@ -2,7 +2,7 @@
 use Rattle.std.specs.Prelude.{ℕ, ◌≡◌, List}
 use Rattle.pl_grammar.specs.declared.Place.{Place}
 use Rattle.pl_grammar.specs.Tree.{Lexeme}
-use Rattle.pl_grammar.specs.Script.{Statement, Script}
+use Rattle.pl_grammar.specs.Script.{Statement, Script, version_told}
 use Rattle.pl_grammar.specs.Whole.{bare_script}
 use Rattle.pl_grammar.specs.Faults.{Tail, AtEnd, Kind, IsShort, IsFirst, most_depth}
 use Rattle.pl_tokens.specs.Text.{start, Read}
@@ -13,15 +13,15 @@ pub record Parsed : Type 0 where
   pub statements : List Statement
   pub end : Place
 
--- The bytes are tokens, and the tokens derive the script by the grammar's rules, which are those of version
--- 1, within the limits: 32 constructs inside one another, 1,024 tokens of a statement, and no number past
--- the limits of numbers.
+-- The bytes are tokens, and the tokens derive the script by the grammar's rules, which are those of both
+-- versions, within the limits: 32 constructs inside one another, 1,024 tokens of a statement, and no number
+-- past the limits of numbers. The tokens tell the version.
 pub record Spells (bytes : List ℕ) (s : Parsed) : Type 0 where
   pub tokens : List Lexeme
   pub reads : Read start bytes tokens (AtEnd s.end)
   pub short : IsShort 0 tokens
   pub derives : Script most_depth tokens s.statements
-  pub version : s.version ≡ 1
+  pub version : s.version ≡ version_told tokens
 
 -- the first fault of the text is of this kind and at this place
 pub record FirstFault (bytes : List ℕ) (kind : Kind) (place : Place) : Type 0 where

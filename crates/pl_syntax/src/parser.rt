@@ -2,7 +2,7 @@
 
 ghost use Rattle.std.specs.Prelude.{◌≡◌, ◌≤◌, ◌<◌, ◌↔◌, Err, List, Some, true, length, IfOk, IfErr};
 ghost use Rattle.pl_grammar.specs.Tree.{mark};
-ghost use Rattle.pl_grammar.specs.Script.{script_finish};
+ghost use Rattle.pl_grammar.specs.Script.{is_known, script_finish, token_version, version_or};
 ghost use Rattle.pl_grammar.specs.Script as g;
 ghost use Rattle.pl_grammar.specs.Whole.{are_sound};
 ghost use Rattle.pl_tokens.specs.Sound.{is_written};
@@ -12,7 +12,7 @@ ghost use Rattle.pl_syntax.specs.Spells.{Parsed, Spells, FirstFault, OneScriptSp
 ghost use Rattle.pl_syntax.specs.Said.{TextsSay};
 ghost use Rattle.pl_syntax.specs.Scripts.{parsed, printed_text};
 ghost use Rattle.pl_syntax.specs.Stages.{stage_of};
-ghost use Rattle.pl_syntax.specs.Parsing.{token_step, Steps, Ends, Outcome, IsCause, AnswersFault, AnswersScript, AnswersSame};
+ghost use Rattle.pl_syntax.specs.Parsing.{token_step, Steps, Ends, HasVersion, Outcome, IsCause, AnswersFault, AnswersScript, AnswersSame};
 ghost use Rattle.pl_grammar.specs.declared.Place as p;
 ghost use Rattle.pl_syntax.specs.declared.script.Script as s;
 
@@ -20,7 +20,7 @@ use crate::error::SyntaxError;
 use crate::machine::MoveError;
 use crate::progress::{Progress, count_with, is_too_large};
 use crate::script::Script;
-use crate::stage::{Stage, depth_in, stage_after};
+use crate::stage::{Stage, depth_in, stage_after, version_with};
 use pl_grammar::Place;
 use pl_tokens::{Next, Text, Token};
 use std::alloc::Global;
@@ -43,7 +43,7 @@ fn step(
 ) -> Result<Progress, SyntaxError>
     ensures { let t = mark place (token_of token) in
         Steps result (token_step progress.count t (stage_of progress.stage))
-        (counted progress.count t) place }
+        (counted progress.count t) (version_or progress.version (token_version (token_of token))) place }
 {
     if progress.count >= MOST_TOKENS {
         return Err(SyntaxError::LongStatement(place));
@@ -52,10 +52,15 @@ fn step(
         return Err(SyntaxError::NumberTooLarge(place));
     }
     let count = count_with(&token, progress.count);
+    let version = version_with(&token, progress.version);
     match stage_after(alloc, progress.stage, place, token) {
         Ok(stage) => {
             if depth_in(&stage) <= MOST_DEPTH {
-                Ok(Progress { stage, count })
+                Ok(Progress {
+                    stage,
+                    count,
+                    version,
+                })
             } else {
                 Err(SyntaxError::TooDeep(place))
             }
@@ -67,13 +72,17 @@ fn step(
 
 // The end of the file.
 fn finish(progress: Progress, end: Place) -> Result<Script, SyntaxError>
-    requires { (ss : List g.Statement) → script_finish (stage_of progress.stage) ≡ Some ss
+    requires known { (ss : List g.Statement) → script_finish (stage_of progress.stage) ≡ Some ss
+        → is_known progress.version ≡ true }
+    requires sound { (ss : List g.Statement) → script_finish (stage_of progress.stage) ≡ Some ss
         → are_sound is_written ss ≡ true }
-    ensures { Ends result (script_finish (stage_of progress.stage)) end }
+    ensures ends { Ends result (script_finish (stage_of progress.stage)) end }
+    ensures version { HasVersion result progress.version }
 {
+    let version = progress.version;
     let stage = progress.stage;
     match stage {
-        Stage::Between { statements } => Ok(Script::new(statements, end)),
+        Stage::Between { statements } => Ok(Script::new(version, statements, end)),
         _ => Err(SyntaxError::Unexpected(end)),
     }
 }
@@ -90,6 +99,7 @@ fn read_all(alloc: Global, bytes: &[u8]) -> Result<Script, SyntaxError>
     let mut progress = Progress {
         stage: Stage::Opening,
         count: 0,
+        version: 0,
     };
     loop {
         match text.next(alloc)? {

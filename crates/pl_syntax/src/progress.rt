@@ -7,11 +7,12 @@ ghost use Rattle.pl_tokens.specs.Code.{token_of};
 use crate::stage::Stage;
 use pl_tokens::Token;
 
-// Where the reader stands, and how many tokens of its statement have come.
+// Where the reader stands, how many tokens of its statement have come, and which version was told, 0 for none.
 #[derive(Drop)]
 pub(crate) struct Progress {
     pub(crate) stage: Stage,
     pub(crate) count: usize,
+    pub(crate) version: u32,
     ghost few: { count ≤ most_tokens },
 }
 

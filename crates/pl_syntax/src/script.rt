@@ -1,6 +1,7 @@
 //! A script, as it was read.
 
-ghost use Rattle.std.specs.Prelude.{◌≡◌, IsTrue};
+ghost use Rattle.std.specs.Prelude.{◌≡◌, true, IsTrue};
+ghost use Rattle.pl_grammar.specs.Script.{is_known};
 ghost use Rattle.pl_grammar.specs.Whole.{are_sound};
 ghost use Rattle.pl_tokens.specs.Sound.{is_written};
 ghost use Rattle.pl_syntax.specs.Statements.{statement_of, statements_of, head_of};
@@ -9,9 +10,6 @@ ghost use Rattle.pl_syntax.specs.Plain.{plain};
 use crate::tree::Expr;
 use pl_grammar::Place;
 use pl_tokens::Word;
-
-// The one version that there is.
-const VERSION: u32 = 1;
 
 /// A statement. Its place is that of its NAME, or of `screen`.
 #[derive(Drop, Debug)]
@@ -40,31 +38,32 @@ pub struct Script {
     version: u32,
     statements: Vec<Statement>,
     end: Place,
-    ghost known: { version ≡ 1 },
+    ghost known: { is_known version ≡ true },
     ghost sound: { IsTrue (are_sound is_written (statements_of statements.items)) },
 }
 
 impl Script {
     ghost use Rattle.pl_syntax.specs.Scripts.{version_in, statements_in, end_in};
 
-    // The script of version 1 of these statements, whose file ends at `end`.
-    pub(crate) fn new(statements: Vec<Statement>, end: Place) -> Script
-        requires { IsTrue (are_sound is_written (statements_of statements.items)) }
-        ensures version { version_in result ≡ 1 }
+    // The script of the version with these statements, whose file ends at `end`.
+    pub(crate) fn new(version: u32, statements: Vec<Statement>, end: Place) -> Script
+        requires known { is_known version ≡ true }
+        requires sound { IsTrue (are_sound is_written (statements_of statements.items)) }
+        ensures version { version_in result ≡ version }
         ensures statements { statements_in result ≡ statements.items }
         ensures end { end_in result ≡ end }
     {
         Script {
-            version: VERSION,
+            version,
             statements,
             end,
         }
     }
 
-    /// The version of the language that the file names. Only version 1 is accepted.
+    /// The version of the language that the file names: 1 or 2.
     pub fn version(&self) -> u32
         ensures value { result ≡ version_in self.now }
-        ensures known { result ≡ 1 }
+        ensures known { is_known result ≡ true }
     {
         self.version
     }

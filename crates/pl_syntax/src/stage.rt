@@ -3,7 +3,7 @@
 ghost use Rattle.std.specs.Prelude.{◌≡◌, OnOk, ◌++◌, ◌∷◌, []};
 ghost use Rattle.pl_grammar.specs.Tree.{mark};
 ghost use Rattle.pl_grammar.specs.Machine.{finished, operand, move, at};
-ghost use Rattle.pl_grammar.specs.Script.{opening_move, version_move, given_move, between_move, name_move, assign_head, ended, within_move, script_move, stage_depth, LetHead, ColumnHead};
+ghost use Rattle.pl_grammar.specs.Script.{token_version, version_of, version_or, opening_move, version_move, given_move, between_move, name_move, assign_head, ended, within_move, script_move, stage_depth, LetHead, ColumnHead};
 ghost use Rattle.pl_grammar.specs.Script as g;
 ghost use Rattle.pl_tokens.specs.Code.{token_of};
 ghost use Rattle.pl_syntax.specs.Frames.{mode_of};
@@ -46,8 +46,33 @@ pub(crate) enum Stage {
     },
 }
 
-// The version in millionths.
-const VERSION: i64 = 1_000_000;
+// The versions in millionths.
+const FIRST: i64 = 1_000_000;
+
+const SECOND: i64 = 2_000_000;
+
+// The version that a number tells; 0 for none.
+fn version_of(value: i64) -> u32
+    ensures { result ≡ version_of value }
+{
+    if value == FIRST {
+        1
+    } else if value == SECOND {
+        2
+    } else {
+        0
+    }
+}
+
+// The version that was told before, or else that of the token.
+pub(crate) fn version_with(token: &Token, version: u32) -> u32
+    ensures { result ≡ version_or version (token_version (token_of token.now)) }
+{
+    match token {
+        Token::Number(value) if version == 0 => version_of(*value),
+        _ => version,
+    }
+}
 
 fn at_opening(token: Token) -> Result<Stage, MoveError>
     ensures { StageMoves result (opening_move (token_of token)) }
@@ -63,7 +88,7 @@ fn at_version(token: Token) -> Result<Stage, MoveError>
 {
     match token {
         Token::Number(value) => {
-            if value == VERSION {
+            if version_of(value) != 0 {
                 Ok(Stage::VersionGiven)
             } else {
                 Err(MoveError::Unexpected)

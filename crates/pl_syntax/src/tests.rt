@@ -86,7 +86,9 @@ fn reads_the_first_line(rt: HostRuntime) -> Result<(), Fail> {
         (b"pipeline 1.0 ; # the end".as_slice(), None),
         (b"", Some(SyntaxError::Unexpected(at(1, 1)))),
         (b"#", Some(SyntaxError::Unexpected(at(1, 2)))),
-        (b"pipeline 2;", Some(SyntaxError::Unexpected(at(1, 10)))),
+        (b"pipeline 2;", None),
+        (b"pipeline 3;", Some(SyntaxError::Unexpected(at(1, 10)))),
+        (b"pipeline 1.5;", Some(SyntaxError::Unexpected(at(1, 10)))),
         (b"pipeline 1\r\n", Some(SyntaxError::Unexpected(at(2, 1)))),
         (b"screen a;", Some(SyntaxError::Unexpected(at(1, 1)))),
     ] {
@@ -228,6 +230,28 @@ fn compares_scripts(rt: HostRuntime) -> Result<(), Fail> {
         (b"screen a;", b"screen a; screen a;", false),
     ] {
         assert_eq!(rt; script_of(&rt, text)? == script_of(&rt, other)?, want);
+    }
+    Ok(())
+}
+
+#[test]
+fn keeps_the_version(rt: HostRuntime) -> Result<(), Fail> {
+    let alloc = rt.alloc();
+    for (text, version, want) in [
+        (
+            b"pipeline 1.0; screen (a);".as_slice(),
+            1,
+            b"pipeline 1;\nscreen a;\n".as_slice(),
+        ),
+        (b"pipeline 2 ;screen a;", 2, b"pipeline 2;\nscreen a;\n"),
+    ] {
+        let script = parse(alloc, text)?;
+        assert_eq!(rt; script.version(), version);
+        assert_eq!(rt; print(alloc, &script)?.as_slice(), want);
+        assert_eq!(rt;
+            parse(alloc, b"pipeline 2; screen a;")? == script,
+            version == 2
+        );
     }
     Ok(())
 }

@@ -1,13 +1,14 @@
 //! From a script to its canonical text.
 
-ghost use Rattle.std.specs.Prelude.{◌≡◌, ◌++◌, ◌-◌, ◌≤◌, length, reverse, codes, OnOk, IfOk};
+ghost use Rattle.std.specs.Prelude.{◌≡◌, ◌++◌, ◌-◌, ◌≤◌, length, reverse, codes, true, OnOk, IfOk};
 ghost use Rattle.std.specs.List.{take_while};
 ghost use Rattle.std.specs.Fmt.{decimal};
 ghost use Rattle.pl_spec.specs.Dates.{digits};
 ghost use Rattle.pl_spec.specs.Decimals.{point_text};
 ghost use Rattle.pl_grammar.specs.Printed.{tree_level};
+ghost use Rattle.pl_grammar.specs.Script.{is_known};
 ghost use Rattle.pl_tokens.specs.Numerals.{is_zero, trimmed, number_text};
-ghost use Rattle.pl_syntax.specs.Canonical.{comma_text, prefix_text, binary_text, open_text, close_text, name_text, tree_text, args_text, head_text, statement_text};
+ghost use Rattle.pl_syntax.specs.Canonical.{comma_text, prefix_text, binary_text, open_text, close_text, name_text, tree_text, args_text, head_text, statement_text, version_text};
 ghost use Rattle.pl_syntax.specs.Plain.{plain, args_tree};
 ghost use Rattle.pl_syntax.specs.Statements.{statement_of};
 ghost use Rattle.pl_syntax.specs.Scripts.{parsed, printed_text};
@@ -265,12 +266,24 @@ fn put_statement(statement: &Statement, out: &mut Vec<u8>) -> Result<(), AllocEr
     put(out, b";\n")
 }
 
+// The first line of a version's scripts.
+fn version_line(version: u32) -> &'static [u8]
+    requires { is_known version ≡ true }
+    ensures { result.now ≡ version_text version }
+{
+    if version == 1 {
+        b"pipeline 1;\n"
+    } else {
+        b"pipeline 2;\n"
+    }
+}
+
 // The canonical text, in memory of its own.
 fn text_of(alloc: Global, script: &Script) -> Result<Vec<u8>, AllocError>
     ensures { IfOk result (λ v. v.items ≡ printed_text script.now) }
 {
     let mut out = Vec::new(alloc);
-    put(&mut out, b"pipeline 1;\n")?;
+    put(&mut out, version_line(script.version()))?;
     for statement in script.statements() {
         put_statement(statement, &mut out)?;
     }

@@ -210,7 +210,11 @@ pair_shows c rest us p h k = token_shows (c ∷ (61 ∷ [])) rest _ us p (two_to
 pub word_shows : (c : ℕ) (cs rest : List ℕ) (us : List Lexeme) (p : Place) (x : Token) → starts_word c ≡ true → list_all is_word_byte cs ≡ true → length cs < 32 → Stops is_word_byte rest → word_token (c ∷ cs) ≡ x → Shows rest us → Shows ((c ∷ cs) ++ rest) (mark p x ∷ us)
 word_shows c cs rest us p x h all few s e k = token_shows (c ∷ cs) rest _ us p x (a_word c cs h all s few) e k
 
--- the version
+-- the versions
 pub one_shows : (rest : List ℕ) (us : List Lexeme) (p : Place) → NoDecimals rest → Shows rest us → Shows (49 ∷ rest) (mark p (t.Number (pos 1000000)) ∷ us)
 unfolding div_round
 one_shows rest us p s k = token_shows (49 ∷ []) rest (Number 1 0) us p (t.Number (pos 1000000)) (a_whole 49 [] refl refl s) refl k
+
+pub two_shows : (rest : List ℕ) (us : List Lexeme) (p : Place) → NoDecimals rest → Shows rest us → Shows (50 ∷ rest) (mark p (t.Number (pos 2000000)) ∷ us)
+unfolding div_round
+two_shows rest us p s k = token_shows (50 ∷ []) rest (Number 1 0) us p (t.Number (pos 2000000)) (a_whole 50 [] refl refl s) refl k

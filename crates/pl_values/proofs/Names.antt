@@ -1,5 +1,5 @@
 -- Labels under a name, and their codes.
-use Rattle.std.proofs.Common.{◌≡◌, ℕ, ◌≤◌, Bool, true, false, ℤ, pos, List, [], ◌∷◌, Option, Some, None, length, map, filter, position, unwrap_or, option_and_then, bytes_eq, get_or, slice_index_or, refl, sym, ◌∙◌, ap, arith, inl, inr, Contains, IfSome, true≢false}
+use Rattle.std.proofs.Common.{◌≡◌, ℕ, Bool, true, false, ℤ, pos, List, [], ◌∷◌, Option, Some, None, map, filter, position, unwrap_or, option_and_then, bytes_eq, get_or, slice_index_or, refl, sym, ◌∙◌, ap, inl, inr, Contains, IfSome, true≢false}
 use Rattle.std.proofs.lemmas.Slice.Eq.{bytes_eq-Decides}
 use Rattle.std.proofs.lemmas.List.Quantifiers.{position-Some}
 use Rattle.pl_spec.specs.Rounding.{MISSING}
@@ -7,8 +7,7 @@ use Rattle.pl_spec.specs.World.{is_label_of}
 use Rattle.pl_spec.specs.Parts.{ColumnLabel}
 use Rattle.pl_spec.proofs.Members.{In, in-contains}
 use Rattle.pl_spec.proofs.Places.{nowhere}
-use Rattle.pl_assets.specs.Labels.{LabelTable, AreLabels, label_on, by_column, names_of}
-use Rattle.pl_assets.proofs.FirstSeen.{texts_count}
+use Rattle.pl_assets.specs.Labels.{label_on, by_column, names_of}
 use Rattle.pl_values.specs.Families.{label_code, code_cell}
 use Rattle.pl_values.proofs.Texts.{map-in, seen-in}
 
@@ -48,10 +47,6 @@ code-is texts (Some t) h = here (position (bytes_eq t) texts) refl
     here : (o : Option ℕ) → position (bytes_eq t) texts ≡ o → code_cell (position (bytes_eq t) texts) ≡ pos (unwrap_or (position (bytes_eq t) texts) 0)
     here (Some n) e = rw e refl
     here None e = absurd (true≢false (sym ((bytes_eq-Decides t (get_or texts h.0 t)).1 (sym h.2)) ∙ nowhere (bytes_eq t) texts e h.0 t h.1))
-
--- codes are small
-pub few-codes : (t : LabelTable) → AreLabels t → length t.texts ≤ 200000
-few-codes t own = let a = texts_count t.rows in let b = ap (λ (l : List (List ℕ)). length l) own.texts in let f = own.few in omega arith
 
 -- the code that was found under the name's number is that of the label under the name
 pub code-given : (rows : List ColumnLabel) (texts : List (List ℕ)) (name : List ℕ) (number col : ℕ) (day : ℤ) (code : Option ℕ) → position (bytes_eq name) (names_of rows) ≡ Some number

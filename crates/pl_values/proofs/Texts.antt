@@ -1,11 +1,10 @@
 -- The texts of a table of labels.
-use Rattle.std.proofs.Common.{◌≡◌, ◌≢◌, ◌⊎◌, ℕ, Bool, true, false, not, ◌==◌, List, [], ◌∷◌, length, map, filter, refl, sym, ◌∙◌, ap, subst, inl, inr, bytes_eq, true≢false, Contains, arith}
-use Rattle.std.proofs.lemmas.Bool.Decides.{nat_tests}
+use Rattle.std.proofs.Common.{◌≡◌, ◌≢◌, ◌⊎◌, ℕ, Bool, true, false, not, List, [], ◌∷◌, map, filter, IfSome, refl, sym, ◌∙◌, ap, subst, inl, inr, bytes_eq, true≢false, Contains}
 use Rattle.std.proofs.lemmas.Slice.Eq.{bytes_eq-Decides}
-use Rattle.pl_spec.specs.World.{LabelRow}
+use Rattle.pl_spec.specs.World.{LabelRow, nonempty}
 use Rattle.pl_spec.specs.Parts.{ColumnLabel, label_of}
 use Rattle.pl_spec.proofs.Members.{In, in-contains, contains-in}
-use Rattle.pl_assets.specs.Labels.{first_seen, is_text, texts_of}
+use Rattle.pl_assets.specs.Labels.{first_seen}
 use Rattle.pl_values.specs.Laws.{TextsHaveCodes}
 
 in-map : {A B : Type 0} (f : A → B) (xs : List A) (y : B) → In y (map f xs) → (x : A) × In x xs × (y ≡ f x)
@@ -39,16 +38,14 @@ seen-in (y ∷ ys) x (inr i) = here (bytes_eq y x) refl (seen-in ys x i)
     here true e j = inl (sym ((bytes_eq-Decides y x).0 e))
     here false e j = inr (filter-in (λ z. not (bytes_eq y z)) (first_seen ys) x j (ap not e))
 
-text-there : (t : List ℕ) → t ≢ [] → is_text t ≡ true
-text-there [] h = absurd (h refl)
-text-there (b ∷ bs) h = let some : (length (b ∷ bs) == 0) ≡ false = grind (arith, nat_tests) in ap not some
+text-there : (texts : List (List ℕ)) (x : List ℕ) → x ≢ [] → IfSome (nonempty x) (Contains texts) → Contains texts x
+text-there texts [] h k = absurd (h refl)
+text-there texts (b ∷ bs) h k = k
 
 pub texts-coded : TextsHaveCodes
 texts-coded days assets t bars adjustments own r there full =
     let made = in-map (label_of assets) t.rows r (contains-in (map (label_of assets) t.rows) r there) in
     let same : r.text ≡ made.0.text = ap (λ (q : LabelRow). q.text) made.2 in
-    let texts : List (List ℕ) = map (λ q. q.text) t.rows in
-    let among = map-in (λ (q : ColumnLabel). q.text) t.rows made.0 made.1 in
-    let kept = filter-in is_text (map (λ (q : ColumnLabel). q.text) t.rows) made.0.text among (text-there made.0.text (λ e. full (same ∙ e))) in
-    let seen = seen-in (filter is_text (map (λ (q : ColumnLabel). q.text) t.rows)) made.0.text kept in
-    subst (λ l. Contains l r.text) (sym own.texts) (in-contains _ r.text (subst (λ x. In x (texts_of t.rows)) (sym same) seen))
+    let at = in-contains t.rows made.0 made.1 in
+    let known : IfSome (nonempty made.0.text) (Contains t.texts) = subst (λ (q : ColumnLabel). IfSome (nonempty q.text) (Contains t.texts)) at.2 (own.coded at.0 made.0 at.1) in
+    subst (Contains t.texts) (sym same) (text-there t.texts made.0.text (λ e. full (same ∙ e)) known)

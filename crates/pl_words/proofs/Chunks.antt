@@ -9,7 +9,7 @@ use Rattle.pl_words.specs.declared.commands.CommandName.{CommandName}
 use Rattle.pl_words.specs.declared.commands.CommandName.TheVariants as command
 use Rattle.pl_words.specs.Commands.{command_named, places_of, options_of}
 use Rattle.pl_words.specs.Parts.{Word, parts, names_of, values_of, is_text, one_value}
-use Rattle.pl_words.specs.Request.{Options, RunRequest, Request, Run, Plan, Values, name, dated, chunk_or, chunk_by, options_by, run_in, plan_in, request_in, counted, asked, request, IsChunk, HasChunk}
+use Rattle.pl_words.specs.Request.{Options, RunRequest, BenchRequest, Request, Run, Plan, Bench, Values, name, dated, chunk_or, chunk_by, format_by, stats_by, as_of_by, options_by, run_in, plan_in, bench_in, request_in, counted, asked, request, IsChunk, HasChunk}
 
 then : {X Y : Type 0} (P : Y → Type 0) (f : X → Option Y) (o : Option X) → ((x : X) → IfSome (f x) P) → IfSome (option_and_then f o) P
 then P f None h = tt
@@ -34,17 +34,34 @@ value : (o : Option Word) → IfSome (chunk_or o) IsChunk
 value None = (omega arith, omega arith)
 value (Some text) = then IsChunk (λ n. cond (nat_le 1 n && nat_le n 4096) (Some n) None) (sid_in text) number
 
+of-chunk : (values : Values) → IfSome (chunk_by values) IsChunk
+of-chunk values = then IsChunk chunk_or (one_value (values option.Chunk)) value
+
+with-chunk : {X Y : Type 0} {Q : X → Type 0} (P : Y → Type 0) (f : X → Option Y) (o : Option X) → IfSome o Q → ((x : X) → Q x → IfSome (f x) P) → IfSome (option_and_then f o) P
+with-chunk P f None q h = tt
+with-chunk P f (Some x) q h = h x q
+
+any-of : {X Y : Type 0} (P : Y → Type 0) (f : X → Y) (o : Option X) → ((x : X) → P (f x)) → IfSome (option_map f o) P
+any-of P f None h = tt
+any-of P f (Some x) h = h x
+
 options : (values : Values) → IfSome (options_by values) (λ o. IsChunk o.chunk)
 options values =
     then (λ (o : Options). IsChunk o.chunk) _ (one_value (values option.Labels)) (λ labels.
     then (λ (o : Options). IsChunk o.chunk) _ (one_value (values option.Adjustments)) (λ adjustments.
-    mapped (λ (o : Options). IsChunk o.chunk) _ (chunk_by values) (then IsChunk chunk_or (one_value (values option.Chunk)) value)))
+    with-chunk (λ (o : Options). IsChunk o.chunk) (λ chunk. option_and_then (λ format. option_and_then (λ stats. option_map (λ as_of. record { labels = labels; adjustments = adjustments; chunk = chunk; format = format; stats = stats; as_of = as_of }) (as_of_by values)) (stats_by values)) (format_by values)) (chunk_by values)
+    (of-chunk values) (λ n h. then (λ (o : Options). IsChunk o.chunk) _ (format_by values) (λ format. then (λ (o : Options). IsChunk o.chunk) _ (stats_by values) (λ stats. any-of (λ (o : Options). IsChunk o.chunk) _ (as_of_by values) (λ as_of. h))))))
 
 a-run : (names : List Word) (values : Values) → IfSome (run_in names values) (λ q. IsChunk q.options.chunk)
 a-run names values =
     then (λ (q : RunRequest). IsChunk q.options.chunk) _ (dated (name names 4)) (λ from.
     then (λ (q : RunRequest). IsChunk q.options.chunk) _ (dated (name names 5)) (λ to.
     mapped (λ (q : RunRequest). IsChunk q.options.chunk) _ (options_by values) (options values)))
+
+a-bench : (names : List Word) (values : Values) → IfSome (bench_in names values) (λ q. IsChunk q.chunk)
+a-bench names values =
+    then (λ (q : BenchRequest). IsChunk q.chunk) _ (sid_in (name names 0)) (λ number.
+    mapped (λ (q : BenchRequest). IsChunk q.chunk) _ (chunk_by values) (of-chunk values))
 
 any : {X : Type 0} (f : X → Request) (o : Option X) → ((x : X) → HasChunk (f x)) → IfSome (option_map f o) HasChunk
 any f None h = tt
@@ -55,6 +72,8 @@ of-command command.Run names values = mapped HasChunk Run (run_in names values) 
 of-command command.Check names values = tt
 of-command command.Fmt names values = tt
 of-command command.Plan names values = any Plan (plan_in names) (λ q. tt)
+of-command command.Bench names values = mapped HasChunk Bench (bench_in names values) (a-bench names values)
+of-command command.Payouts names values = tt
 
 in-number : (c : CommandName) (names : List Word) (values : Values) → IfSome (counted c names values) HasChunk
 unfolding counted

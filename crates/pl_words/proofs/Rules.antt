@@ -8,7 +8,7 @@ use Rattle.clap.specs.declared.builder.action.ArgAction.TheVariants.{Append}
 use Rattle.clap.specs.declared.builder.range.ValueRange.{ValueRange}
 use Rattle.clap.specs.declared.builder.value_parser.ValueParser.TheVariants as vp
 use Rattle.pl_words.specs.declared.commands.OptionName.{OptionName}
-use Rattle.pl_words.specs.declared.commands.OptionName.TheVariants.{Labels, Adjustments, Chunk, Format, Stats}
+use Rattle.pl_words.specs.declared.commands.OptionName.TheVariants.{Labels, Adjustments, Chunk, Format, Stats, AsOf}
 use Rattle.pl_words.specs.Parts.{text_of, has_value, option_named}
 use Rattle.pl_words.specs.Apps.{names_id, option_rule, rules_for, app_for, bare_app, no_values}
 
@@ -36,6 +36,7 @@ option_is i Adjustments = refl
 option_is i Chunk = refl
 option_is i Format = refl
 option_is i Stats = refl
+option_is i AsOf = refl
 
 options_are : (i : ℕ) (options : List OptionName) → filled_from i (map option_rule options) ≡ map built_option options
 options_are i [] = refl
@@ -71,6 +72,7 @@ find_id options o p found = apart o ∙ among options ∙ ap (option_map built_o
     apart Chunk = refl
     apart Format = refl
     apart Stats = refl
+    apart AsOf = refl
 
     among : (os : List OptionName) → arg_by_id (map built_option os) (text_of o) ≡ option_map built_option (option_named os (text_of o))
     among [] = refl

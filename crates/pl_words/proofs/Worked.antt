@@ -1,11 +1,13 @@
 -- Worked rows of what words ask for.
-use Rattle.std.proofs.Common.{◌≡◌, ℕ, pos, refl, codes, List, [], ◌∷◌, ◌++◌, map, Option, Some, None}
+use Rattle.std.proofs.Common.{◌≡◌, ℕ, Bool, true, false, pos, refl, codes, List, [], ◌∷◌, ◌++◌, map, Option, Some, None}
 use Rattle.jiff_core.specs.Calendar.{days_from_civil, day_count, days_of_years, days_of_months}
 use Rattle.std.specs.Fmt.{digits as decimal_digits}
 use Rattle.pl_spec.specs.Dates.{digits, date_text, day_if, date_in}
 use Rattle.pl_spec.specs.Decimals.{sid_in}
 use Rattle.pl_words.specs.Parts.{Word}
-use Rattle.pl_words.specs.Request.{request, counted, Request, Run, Fmt, Check, Plan}
+use Rattle.pl_spec.specs.declared.Format.{Format}
+use Rattle.pl_spec.specs.declared.Format.TheVariants.{Csv, Fixed}
+use Rattle.pl_words.specs.Request.{request, counted, Request, Run, Fmt, Check, Plan, Bench, Payouts}
 
 abbrev names : List Word
 names = codes "p.pl" ∷ codes "sessions.csv" ∷ codes "assets.csv" ∷ codes "bars.csv" ∷ []
@@ -13,31 +15,33 @@ names = codes "p.pl" ∷ codes "sessions.csv" ∷ codes "assets.csv" ∷ codes "
 abbrev dates : List Word
 dates = codes "2024-01-03" ∷ codes "2024-01-04" ∷ []
 
-abbrev asks : Option Word → Option Word → ℕ → Option Request
-asks labels adjustments chunk = Some (Run (record {
+abbrev asks : Option Word → Option Word → ℕ → Format → Bool → Option Request
+asks labels adjustments chunk format stats = Some (Run (record {
   pipeline = codes "p.pl";
   sessions = codes "sessions.csv";
   assets = codes "assets.csv";
   bars = codes "bars.csv";
   from = record { text = codes "2024-01-03"; day = pos 19725 };
   to = record { text = codes "2024-01-04"; day = pos 19726 };
-  options = record { labels = labels; adjustments = adjustments; chunk = chunk };
+  options = record { labels = labels; adjustments = adjustments; chunk = chunk; format = format; stats = stats; as_of = None };
 }))
 
-no_options : request (codes "run" ∷ (names ++ dates)) ≡ asks None None 126
+no_options : request (codes "run" ∷ (names ++ dates)) ≡ asks None None 126 Csv false
 unfolding request counted date_in day_if days_from_civil day_count days_of_years days_of_months decimal_digits digits date_text
 no_options = refl
 
-mixed : request (codes "run" ∷ codes "--labels=-l" ∷ (names ++ codes "--adjustments" ∷ codes "a.db" ∷ codes "--" ∷ dates)) ≡ asks (Some (codes "-l")) (Some (codes "a.db")) 126
+mixed : request (codes "run" ∷ codes "--labels=-l" ∷ (names ++ codes "--adjustments" ∷ codes "a.db" ∷ codes "--" ∷ dates)) ≡ asks (Some (codes "-l")) (Some (codes "a.db")) 126 Csv false
 unfolding request counted date_in day_if days_from_civil day_count days_of_years days_of_months decimal_digits digits date_text
 mixed = refl
 
-in_chunks : map (λ (options : List Word). request (codes "run" ∷ (options ++ (names ++ dates)))) (
+with_options : map (λ (options : List Word). request (codes "run" ∷ (options ++ (names ++ dates)))) (
     (codes "--chunk=1" ∷ [])
-    ∷ (codes "--chunk" ∷ codes "4096" ∷ []) ∷ [])
-    ≡ asks None None 1 ∷ asks None None 4096 ∷ []
+    ∷ (codes "--chunk" ∷ codes "4096" ∷ [])
+    ∷ (codes "--stats" ∷ codes "--format=fixed" ∷ [])
+    ∷ (codes "--format" ∷ codes "csv" ∷ []) ∷ [])
+    ≡ asks None None 1 Csv false ∷ asks None None 4096 Csv false ∷ asks None None 126 Fixed true ∷ asks None None 126 Csv false ∷ []
 unfolding request counted sid_in date_in day_if days_from_civil day_count days_of_years days_of_months decimal_digits digits date_text
-in_chunks = refl
+with_options = refl
 
 planned : request (codes "plan" ∷ codes "p.pl" ∷ codes "sessions.csv" ∷ dates) ≡ Some (Plan (record {
   pipeline = codes "p.pl";
@@ -47,6 +51,22 @@ planned : request (codes "plan" ∷ codes "p.pl" ∷ codes "sessions.csv" ∷ da
 }))
 unfolding request counted date_in day_if days_from_civil day_count days_of_years days_of_months decimal_digits digits date_text
 planned = refl
+
+counted_worlds : map (λ (words : List Word). request (codes "bench" ∷ words)) (
+    (codes "7" ∷ [])
+    ∷ (codes "--chunk=1" ∷ codes "0" ∷ [])
+    ∷ (codes "007" ∷ [])
+    ∷ (codes "+7" ∷ [])
+    ∷ (codes "4294967296" ∷ [])
+    ∷ (codes "7" ∷ codes "--stats" ∷ []) ∷ [])
+    ≡ Some (Bench (record { number = 7; chunk = 126 })) ∷ Some (Bench (record { number = 0; chunk = 1 })) ∷ None ∷ None ∷ None ∷ None ∷ []
+unfolding request counted sid_in decimal_digits digits
+counted_worlds = refl
+
+of_payouts : map (λ (words : List Word). request (codes "payouts" ∷ words)) ((codes "s" ∷ codes "a" ∷ codes "b" ∷ codes "p" ∷ []) ∷ (codes "s" ∷ codes "a" ∷ codes "b" ∷ []) ∷ [])
+    ≡ Some (Payouts (record { sessions = codes "s"; assets = codes "a"; bars = codes "b"; payouts = codes "p" })) ∷ None ∷ []
+unfolding request counted
+of_payouts = refl
 
 named_as_options : map request ((codes "fmt" ∷ codes "--" ∷ codes "--" ∷ []) ∷ (codes "check" ∷ codes "--" ∷ codes "-p" ∷ []) ∷ []) ≡ Some (Fmt (codes "--")) ∷ Some (Check (codes "-p")) ∷ []
 unfolding request counted
@@ -81,7 +101,10 @@ refused_runs : map (λ (options : List Word). request (codes "run" ∷ (options 
     ∷ (codes "--chunk=02" ∷ [])
     ∷ (codes "--chunk=+2" ∷ [])
     ∷ (codes "--chunk=" ∷ [])
-    ∷ (codes "--stats" ∷ []) ∷ [])
-    ≡ None ∷ None ∷ None ∷ None ∷ None ∷ None ∷ None ∷ None ∷ None ∷ None ∷ None ∷ None ∷ None ∷ []
+    ∷ (codes "--stats=yes" ∷ [])
+    ∷ (codes "--stats" ∷ codes "--stats" ∷ [])
+    ∷ (codes "--format" ∷ codes "Csv" ∷ [])
+    ∷ (codes "--format=csv" ∷ codes "--format" ∷ codes "fixed" ∷ []) ∷ [])
+    ≡ None ∷ None ∷ None ∷ None ∷ None ∷ None ∷ None ∷ None ∷ None ∷ None ∷ None ∷ None ∷ None ∷ None ∷ None ∷ None ∷ []
 unfolding request counted sid_in date_in day_if decimal_digits digits
 refused_runs = refl

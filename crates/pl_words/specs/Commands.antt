@@ -1,19 +1,21 @@
 -- The commands, as data.
 use Rattle.std.specs.Prelude.{ℕ, List, [], ◌∷◌, Option, find, bytes_eq, codes}
 use Rattle.pl_words.specs.declared.commands.OptionName.{OptionName}
-use Rattle.pl_words.specs.declared.commands.OptionName.TheVariants.{Labels, Adjustments, Chunk}
+use Rattle.pl_words.specs.declared.commands.OptionName.TheVariants.{Labels, Adjustments, Chunk, Format, Stats, AsOf}
 use Rattle.pl_words.specs.declared.commands.CommandName.{CommandName}
-use Rattle.pl_words.specs.declared.commands.CommandName.TheVariants.{Run, Check, Fmt, Plan}
+use Rattle.pl_words.specs.declared.commands.CommandName.TheVariants.{Run, Check, Fmt, Plan, Bench, Payouts}
 use Rattle.pl_words.specs.Parts.{Word}
 
 abbrev pub all_commands : List CommandName
-all_commands = Run ∷ Check ∷ Fmt ∷ Plan ∷ []
+all_commands = Run ∷ Check ∷ Fmt ∷ Plan ∷ Bench ∷ Payouts ∷ []
 
 abbrev pub command_text : CommandName → Word
 command_text Run = codes "run"
 command_text Check = codes "check"
 command_text Fmt = codes "fmt"
 command_text Plan = codes "plan"
+command_text Bench = codes "bench"
+command_text Payouts = codes "payouts"
 
 -- how many names it takes
 abbrev pub places_of : CommandName → ℕ
@@ -21,13 +23,17 @@ places_of Run = 6  -- PIPELINE SESSIONS ASSETS BARS FROM TO
 places_of Check = 1  -- PIPELINE
 places_of Fmt = 1  -- PIPELINE
 places_of Plan = 4  -- PIPELINE SESSIONS FROM TO
+places_of Bench = 1  -- NUMBER
+places_of Payouts = 4  -- SESSIONS ASSETS BARS PAYOUTS
 
 -- the options that it knows
 abbrev pub options_of : CommandName → List OptionName
-options_of Run = Labels ∷ Adjustments ∷ Chunk ∷ []
+options_of Run = Labels ∷ Adjustments ∷ Chunk ∷ Format ∷ Stats ∷ AsOf ∷ []
 options_of Check = []
 options_of Fmt = []
 options_of Plan = []
+options_of Bench = Chunk ∷ []
+options_of Payouts = []
 
 abbrev pub command_named : Word → Option CommandName
 command_named word = find (λ c. bytes_eq word (command_text c)) all_commands

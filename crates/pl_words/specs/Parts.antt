@@ -2,7 +2,7 @@
 use Rattle.std.specs.Prelude.{ℕ, List, [], ◌∷◌, Bool, true, false, not, ◌&&◌, ◌==◌, if◌then◌else◌, Option, Some, None, option_map, option_and_then, is_some, map, find, bytes_eq, codes}
 use Rattle.std.specs.List.{list_any, before_first, after_first}
 use Rattle.pl_words.specs.declared.commands.OptionName.{OptionName}
-use Rattle.pl_words.specs.declared.commands.OptionName.TheVariants.{Labels, Adjustments, Chunk, Format, Stats}
+use Rattle.pl_words.specs.declared.commands.OptionName.TheVariants.{Labels, Adjustments, Chunk, Format, Stats, AsOf}
 
 abbrev pub Word : Type 0
 Word = List ℕ
@@ -14,6 +14,7 @@ text_of Adjustments = codes "adjustments"
 text_of Chunk = codes "chunk"
 text_of Format = codes "format"
 text_of Stats = codes "stats"
+text_of AsOf = codes "asof"
 
 -- `--stats` alone has no value
 abbrev pub has_value : OptionName → Bool

@@ -1,12 +1,14 @@
 -- What the words ask for.
-use Rattle.std.specs.Prelude.{ℕ, ◌≤◌, ⊤, ℤ, List, [], ◌∷◌, ◌==◌, ◌&&◌, nat_le, if◌then◌else◌, Option, Some, None, option_map, option_and_then, length, slice_index_or}
+use Rattle.std.specs.Prelude.{ℕ, ◌≤◌, ⊤, ℤ, List, [], ◌∷◌, Bool, ◌==◌, ◌&&◌, nat_le, if◌then◌else◌, Option, Some, None, option_map, option_and_then, is_some, length, slice_index_or, unwrap_or, bytes_eq, codes}
 use Rattle.std.specs.List.{list_all}
 use Rattle.pl_spec.specs.Dates.{date_in}
 use Rattle.pl_spec.specs.Decimals.{sid_in}
+use Rattle.pl_spec.specs.declared.Format as form
+use Rattle.pl_spec.specs.declared.Format.TheVariants.{Csv, Fixed}
 use Rattle.pl_words.specs.declared.request.RangeDate.{RangeDate}
-use Rattle.pl_words.specs.declared.request.RangeDate.TheVariants.{From, To}
+use Rattle.pl_words.specs.declared.request.RangeDate.TheVariants.{From, To, AsOf}
 use Rattle.pl_words.specs.declared.request.InputFile.{InputFile}
-use Rattle.pl_words.specs.declared.request.InputFile.TheVariants.{Pipeline, Sessions, Assets, Labels, Bars}
+use Rattle.pl_words.specs.declared.request.InputFile.TheVariants as file
 use Rattle.pl_words.specs.declared.commands.OptionName.{OptionName}
 use Rattle.pl_words.specs.declared.commands.OptionName.TheVariants as option
 use Rattle.pl_words.specs.declared.commands.CommandName.{CommandName}
@@ -19,11 +21,15 @@ pub record Dated : Type 0 where
   pub text : List ℕ
   pub day : ℤ
 
--- the names of labels and adjustments, and how many sessions a run computes at a time
+-- the names of labels and adjustments, how many sessions a run computes at a time, the form of its table, whether its numbers
+-- are told, and the date as of which it is
 pub record Options : Type 0 where
   pub labels : Option (List ℕ)
   pub adjustments : Option (List ℕ)
   pub chunk : ℕ
+  pub format : form.Format
+  pub stats : Bool
+  pub as_of : Option Dated
 
 -- a pipeline over the files of these names, from a date to a date
 pub record RunRequest : Type 0 where
@@ -42,12 +48,27 @@ pub record PlanRequest : Type 0 where
   pub from : Dated
   pub to : Dated
 
--- the table of a pipeline, the canonical text of a pipeline file, whether it keeps the rules, or a plan
+-- the stated pipeline over the stated world of that number, so many sessions at a time
+pub record BenchRequest : Type 0 where
+  pub number : ℕ
+  pub chunk : ℕ
+
+-- the payouts of the file of that name, over the sessions, assets and bars of the others
+pub record PayoutsRequest : Type 0 where
+  pub sessions : List ℕ
+  pub assets : List ℕ
+  pub bars : List ℕ
+  pub payouts : List ℕ
+
+-- the table of a pipeline, the canonical text of a pipeline file, whether it keeps the rules, a plan, the numbers of a run over
+-- a stated world, or the ratios of payouts
 pub data Request : Type 0 where
   Run : RunRequest → Request
   Fmt : (pipeline : List ℕ) → Request
   Check : (pipeline : List ℕ) → Request
   Plan : PlanRequest → Request
+  Bench : BenchRequest → Request
+  Payouts : PayoutsRequest → Request
 
 abbrev pub dated : Word → Option Dated
 dated text = option_map (λ day. record { text = text; day = day }) (date_in text)
@@ -71,11 +92,37 @@ chunk_or (Some text) = chunk_in text
 abbrev pub chunk_by : Values → Option ℕ
 chunk_by values = option_and_then chunk_or (one_value (values option.Chunk))
 
+abbrev pub format_in : Word → Option form.Format
+format_in text =
+    if bytes_eq text (codes "csv") then Some Csv else (if bytes_eq text (codes "fixed") then Some Fixed else None)
+
+-- csv where no format is given
+abbrev pub format_or : Option Word → Option form.Format
+format_or None = Some Csv
+format_or (Some text) = format_in text
+
+abbrev pub format_by : Values → Option form.Format
+format_by values = option_and_then format_or (one_value (values option.Format))
+
+-- whether the option is given
+abbrev pub stats_by : Values → Option Bool
+stats_by values = option_map (λ value. is_some value) (one_value (values option.Stats))
+
+-- none where no such date is given
+abbrev pub as_of_or : Option Word → Option (Option Dated)
+as_of_or None = Some None
+as_of_or (Some text) = option_map Some (dated text)
+
+abbrev pub as_of_by : Values → Option (Option Dated)
+as_of_by values = option_and_then as_of_or (one_value (values option.AsOf))
+
 abbrev pub options_by : Values → Option Options
 options_by values =
-    option_and_then (λ labels. option_and_then (λ adjustments.
-    option_map (λ chunk. record { labels = labels; adjustments = adjustments; chunk = chunk })
-    (chunk_by values)) (one_value (values option.Adjustments))) (one_value (values option.Labels))
+    option_and_then (λ labels. option_and_then (λ adjustments. option_and_then (λ chunk. option_and_then (λ format.
+    option_and_then (λ stats. option_map (λ as_of.
+    record { labels = labels; adjustments = adjustments; chunk = chunk; format = format; stats = stats; as_of = as_of })
+    (as_of_by values)) (stats_by values)) (format_by values)) (chunk_by values)) (one_value (values option.Adjustments)))
+    (one_value (values option.Labels))
 
 abbrev pub run_over : List Word → Dated → Dated → Options → RunRequest
 run_over names from to options =
@@ -103,12 +150,25 @@ abbrev pub plan_in : List Word → Option PlanRequest
 plan_in names =
     option_and_then (λ from. option_map (plan_over names from) (dated (name names 3))) (dated (name names 2))
 
+-- a number from 0 to 4294967295, in digits without sign or zeros in front
+abbrev pub bench_in : List Word → Values → Option BenchRequest
+bench_in names values =
+    option_and_then (λ number. option_map (λ chunk. record { number = number; chunk = chunk }) (chunk_by values))
+    (sid_in (name names 0))
+
+-- four names
+abbrev pub payouts_over : List Word → PayoutsRequest
+payouts_over names =
+    record { sessions = name names 0; assets = name names 1; bars = name names 2; payouts = name names 3 }
+
 -- what a command asks for by its names and its options' values
 abbrev pub request_in : CommandName → List Word → Values → Option Request
 request_in command.Run names values = option_map Run (run_in names values)
 request_in command.Check names values = Some (Check (name names 0))
 request_in command.Fmt names values = Some (Fmt (name names 0))
 request_in command.Plan names values = option_map Plan (plan_in names)
+request_in command.Bench names values = option_map Bench (bench_in names values)
+request_in command.Payouts names values = Some (Payouts (payouts_over names))
 
 -- It takes exactly its number of names.
 unfoldable pub counted : CommandName → List Word → Values → Option Request
@@ -131,41 +191,56 @@ IsChunk n = (1 ≤ n) × (n ≤ 4096)
 
 abbrev pub HasChunk : Request → Type 0
 HasChunk (Run q) = IsChunk q.options.chunk
+HasChunk (Bench q) = IsChunk q.chunk
 HasChunk request = ⊤
 
 -- the name of a file of a command, where the command has such a file
 abbrev pub run_name : RunRequest → InputFile → Option (List ℕ)
-run_name q Pipeline = Some q.pipeline
-run_name q Sessions = Some q.sessions
-run_name q Assets = Some q.assets
-run_name q Labels = q.options.labels
-run_name q Bars = Some q.bars
+run_name q file.Pipeline = Some q.pipeline
+run_name q file.Sessions = Some q.sessions
+run_name q file.Assets = Some q.assets
+run_name q file.Labels = q.options.labels
+run_name q file.Bars = Some q.bars
+run_name q file.Payouts = None
 
 -- of a command over the pipeline file alone
 abbrev pub pipeline_name : List ℕ → InputFile → Option (List ℕ)
-pipeline_name name Pipeline = Some name
-pipeline_name name Sessions = None
-pipeline_name name Assets = None
-pipeline_name name Labels = None
-pipeline_name name Bars = None
+pipeline_name name file.Pipeline = Some name
+pipeline_name name file.Sessions = None
+pipeline_name name file.Assets = None
+pipeline_name name file.Labels = None
+pipeline_name name file.Bars = None
+pipeline_name name file.Payouts = None
 
 abbrev pub plan_name : PlanRequest → InputFile → Option (List ℕ)
-plan_name q Pipeline = Some q.pipeline
-plan_name q Sessions = Some q.sessions
-plan_name q Assets = None
-plan_name q Labels = None
-plan_name q Bars = None
+plan_name q file.Pipeline = Some q.pipeline
+plan_name q file.Sessions = Some q.sessions
+plan_name q file.Assets = None
+plan_name q file.Labels = None
+plan_name q file.Bars = None
+plan_name q file.Payouts = None
+
+abbrev pub payouts_name : PayoutsRequest → InputFile → Option (List ℕ)
+payouts_name q file.Pipeline = None
+payouts_name q file.Sessions = Some q.sessions
+payouts_name q file.Assets = Some q.assets
+payouts_name q file.Labels = None
+payouts_name q file.Bars = Some q.bars
+payouts_name q file.Payouts = Some q.payouts
 
 abbrev pub name_of : Request → InputFile → Option (List ℕ)
 name_of (Run q) file = run_name q file
 name_of (Fmt name) file = pipeline_name name file
 name_of (Check name) file = pipeline_name name file
 name_of (Plan q) file = plan_name q file
+name_of (Bench q) file = None
+name_of (Payouts q) file = payouts_name q file
 
--- the texts of the two dates
-abbrev pub date_text : Dated → Dated → RangeDate → List ℕ
-date_text from to From = from.text
-date_text from to To = to.text
+-- the texts of the two dates, and of the one as of which a run is
+abbrev pub date_text : Dated → Dated → Option Dated → RangeDate → List ℕ
+date_text from to as_of From = from.text
+date_text from to as_of To = to.text
+date_text from to as_of AsOf = unwrap_or (option_map (λ d. d.text) as_of) []
 
 -- ---- of the command that words ask for, where they ask for one
 
@@ -175,10 +250,12 @@ name_asked (Some q) file = name_of q file
 
 -- the text of a date of the words; other commands than a run and a plan have none
 abbrev pub date_asked : Option Request → RangeDate → List ℕ
-date_asked (Some (Run q)) date = date_text q.from q.to date
+date_asked (Some (Run q)) date = date_text q.from q.to q.options.as_of date
 date_asked (Some (Fmt name)) date = []
 date_asked (Some (Check name)) date = []
-date_asked (Some (Plan q)) date = date_text q.from q.to date
+date_asked (Some (Plan q)) date = date_text q.from q.to None date
+date_asked (Some (Bench q)) date = []
+date_asked (Some (Payouts q)) date = []
 date_asked None date = []
 
 -- the name of the adjustments that are asked for
@@ -187,4 +264,6 @@ adjustments_of (Some (Run q)) = q.options.adjustments
 adjustments_of (Some (Fmt name)) = None
 adjustments_of (Some (Check name)) = None
 adjustments_of (Some (Plan q)) = None
+adjustments_of (Some (Bench q)) = None
+adjustments_of (Some (Payouts q)) = None
 adjustments_of None = None

@@ -2,9 +2,11 @@
 use Rattle.std.specs.Prelude.{option_map}
 use Rattle.pl_words.specs.Request as spec
 use Rattle.pl_words.specs.declared.request.Request.{Request}
-use Rattle.pl_words.specs.declared.request.Request.TheVariants.{Run, Fmt, Check, Plan}
+use Rattle.pl_words.specs.declared.request.Request.TheVariants.{Run, Fmt, Check, Plan, Bench, Payouts}
 use Rattle.pl_words.specs.declared.request.RunRequest.{RunRequest}
 use Rattle.pl_words.specs.declared.request.PlanRequest.{PlanRequest}
+use Rattle.pl_words.specs.declared.request.BenchRequest.{BenchRequest}
+use Rattle.pl_words.specs.declared.request.PayoutsRequest.{PayoutsRequest}
 use Rattle.pl_words.specs.declared.request.DateWord.{DateWord}
 use Rattle.pl_words.specs.declared.request.Options.{Options}
 
@@ -13,7 +15,14 @@ dated_of d = record { text = d.text.now; day = d.day }
 
 abbrev pub options_of : Options → spec.Options
 options_of o =
-    record { labels = option_map (λ n. n.now) o.labels; adjustments = option_map (λ n. n.now) o.adjustments; chunk = o.chunk }
+    record {
+      labels = option_map (λ n. n.now) o.labels;
+      adjustments = option_map (λ n. n.now) o.adjustments;
+      chunk = o.chunk;
+      format = o.format;
+      stats = o.stats;
+      as_of = option_map dated_of o.as_of;
+    }
 
 abbrev pub run_of : RunRequest → spec.RunRequest
 run_of r =
@@ -30,8 +39,16 @@ run_of r =
 abbrev pub plan_of : PlanRequest → spec.PlanRequest
 plan_of r = record { pipeline = r.pipeline.now; sessions = r.sessions.now; from = dated_of r.from; to = dated_of r.to }
 
+abbrev pub bench_of : BenchRequest → spec.BenchRequest
+bench_of r = record { number = r.number; chunk = r.chunk }
+
+abbrev pub payouts_of : PayoutsRequest → spec.PayoutsRequest
+payouts_of r = record { sessions = r.sessions.now; assets = r.assets.now; bars = r.bars.now; payouts = r.payouts.now }
+
 abbrev pub request_of : Request → spec.Request
 request_of (Run r) = spec.Run (run_of r)
 request_of (Fmt name) = spec.Fmt name.now
 request_of (Check name) = spec.Check name.now
 request_of (Plan r) = spec.Plan (plan_of r)
+request_of (Bench r) = spec.Bench (bench_of r)
+request_of (Payouts r) = spec.Payouts (payouts_of r)

@@ -10,9 +10,11 @@ pub enum CommandName {
     Check,
     Fmt,
     Plan,
+    Bench,
+    Payouts,
 }
 
-/// The options, of which a command knows some. Those that no command knows yet are refused everywhere.
+/// The options, of which a command knows some.
 #[derive(Clone, Copy, Debug, PartialEq, Eq)]
 pub enum OptionName {
     Labels,
@@ -20,6 +22,7 @@ pub enum OptionName {
     Chunk,
     Format,
     Stats,
+    AsOf,
 }
 
 pub(crate) fn command_named(word: &str) -> Option<CommandName>
@@ -30,6 +33,8 @@ pub(crate) fn command_named(word: &str) -> Option<CommandName>
         "check" => Some(CommandName::Check),
         "fmt" => Some(CommandName::Fmt),
         "plan" => Some(CommandName::Plan),
+        "bench" => Some(CommandName::Bench),
+        "payouts" => Some(CommandName::Payouts),
         _ => None,
     }
 }
@@ -41,8 +46,8 @@ impl CommandName {
     {
         match self {
             CommandName::Run => 6,
-            CommandName::Plan => 4,
-            CommandName::Check | CommandName::Fmt => 1,
+            CommandName::Plan | CommandName::Payouts => 4,
+            CommandName::Check | CommandName::Fmt | CommandName::Bench => 1,
         }
     }
 
@@ -55,8 +60,12 @@ impl CommandName {
                 OptionName::Labels,
                 OptionName::Adjustments,
                 OptionName::Chunk,
+                OptionName::Format,
+                OptionName::Stats,
+                OptionName::AsOf,
             ],
-            CommandName::Check | CommandName::Fmt | CommandName::Plan => &[],
+            CommandName::Bench => &[OptionName::Chunk],
+            CommandName::Check | CommandName::Fmt | CommandName::Plan | CommandName::Payouts => &[],
         }
     }
 }
@@ -72,6 +81,7 @@ impl OptionName {
             OptionName::Chunk => "chunk",
             OptionName::Format => "format",
             OptionName::Stats => "stats",
+            OptionName::AsOf => "asof",
         }
     }
 

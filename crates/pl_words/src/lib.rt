@@ -16,6 +16,6 @@ mod text;
 
 pub use read::read_words;
 pub use request::{
-    DateWord, InputFile, Options, PlanRequest, RangeDate, Request, RunRequest, adjustments_asked,
-    date_asked, name_asked,
+    BenchRequest, DateWord, InputFile, Options, PayoutsRequest, PlanRequest, RangeDate, Request,
+    RunRequest, adjustments_asked, date_asked, name_asked,
 };

@@ -1,7 +1,7 @@
 // The options of a run, by the values that each was given.
-ghost use Rattle.std.specs.Prelude.{◌≡◌, None, Some, MatchOption};
+ghost use Rattle.std.specs.Prelude.{◌≡◌, None, Some, MatchOption, option_map};
 ghost use Rattle.pl_words.specs.Apps.{values_in};
-ghost use Rattle.pl_words.specs.Request.{dated, chunk_in, chunk_by, options_by};
+ghost use Rattle.pl_words.specs.Request.{as_of_by, dated, chunk_in, chunk_by, format_in, format_by, stats_by, options_by};
 ghost use Rattle.pl_words.specs.Views.{dated_of, options_of};
 
 use crate::commands::OptionName;
@@ -9,6 +9,7 @@ use crate::cut::value;
 use crate::request::{DateWord, Options};
 use clap::ArgMatches;
 use pl_fixed::{read_day, read_sid};
+use pl_spec::Format;
 
 pub(crate) fn options<'a>(matches: &ArgMatches<'a>) -> Option<Options<'a>>
     ensures { MatchOption result (options_by (values_in matches.now) ≡ None)
@@ -21,23 +22,69 @@ pub(crate) fn options<'a>(matches: &ArgMatches<'a>) -> Option<Options<'a>>
         return None;
     };
     let chunk = chunk(matches)?;
+    let format = format(matches)?;
+    let stats = stats(matches)?;
+    let as_of = as_of(matches)?;
     Some(Options {
         labels,
         adjustments,
         chunk,
+        format,
+        stats,
+        as_of,
     })
 }
 
-// How many sessions a run computes at a time where the words don't say.
+// How many sessions are computed at a time where the words don't say.
 const USUAL_CHUNK: u32 = 126;
 
-fn chunk(matches: &ArgMatches<'_>) -> Option<u32>
+pub(crate) fn chunk(matches: &ArgMatches<'_>) -> Option<u32>
     ensures { result ≡ chunk_by (values_in matches.now) }
 {
     match value(matches, OptionName::Chunk) {
         Err(_) => None,
         Ok(None) => Some(USUAL_CHUNK),
         Ok(Some(text)) => chunk_in(text),
+    }
+}
+
+fn format(matches: &ArgMatches<'_>) -> Option<Format>
+    ensures { result ≡ format_by (values_in matches.now) }
+{
+    match value(matches, OptionName::Format) {
+        Err(_) => None,
+        Ok(None) => Some(Format::Csv),
+        Ok(Some(text)) => format_in(text),
+    }
+}
+
+fn stats(matches: &ArgMatches<'_>) -> Option<bool>
+    ensures { result ≡ stats_by (values_in matches.now) }
+{
+    match value(matches, OptionName::Stats) {
+        Err(_) => None,
+        Ok(value) => Some(value.is_some()),
+    }
+}
+
+fn as_of<'a>(matches: &ArgMatches<'a>) -> Option<Option<DateWord<'a>>>
+    ensures { MatchOption result (as_of_by (values_in matches.now) ≡ None)
+        (λ d. as_of_by (values_in matches.now) ≡ Some (option_map dated_of d)) }
+{
+    match value(matches, OptionName::AsOf) {
+        Err(_) => None,
+        Ok(None) => Some(None),
+        Ok(Some(text)) => Some(Some(date_in(text)?)),
+    }
+}
+
+fn format_in(text: &str) -> Option<Format>
+    ensures { result ≡ format_in text.now }
+{
+    match text {
+        "csv" => Some(Format::Csv),
+        "fixed" => Some(Format::Fixed),
+        _ => None,
     }
 }
 

@@ -4,15 +4,16 @@ ghost use Rattle.std.specs.List.{list_all};
 ghost use Rattle.pl_words.specs.Parts.{is_text};
 ghost use Rattle.pl_words.specs.Commands.{places_of};
 ghost use Rattle.pl_words.specs.Apps.{names_in, values_in};
-ghost use Rattle.pl_words.specs.Request.{HasChunk, asked, counted, plan_in, request, request_in, run_in};
-ghost use Rattle.pl_words.specs.Views.{plan_of, request_of, run_of};
+ghost use Rattle.pl_words.specs.Request.{HasChunk, asked, bench_in, counted, payouts_over, plan_in, request, request_in, run_in};
+ghost use Rattle.pl_words.specs.Views.{bench_of, payouts_of, plan_of, request_of, run_of};
 
 use crate::commands::{CommandName, command_named};
 use crate::cut::{cut, values};
-use crate::options::{date_in, options};
-use crate::request::{PlanRequest, Request, RunRequest};
+use crate::options::{chunk, date_in, options};
+use crate::request::{BenchRequest, PayoutsRequest, PlanRequest, Request, RunRequest};
 use crate::text::is_text;
 use clap::ArgMatches;
+use pl_fixed::read_sid;
 use pl_outside::Memory;
 use std::alloc::Global;
 
@@ -78,6 +79,8 @@ fn request_in<'a>(
         CommandName::Check => Some(Request::Check(names[0])),
         CommandName::Fmt => Some(Request::Fmt(names[0])),
         CommandName::Plan => Some(Request::Plan(plan_in(names)?)),
+        CommandName::Bench => Some(Request::Bench(bench_in(names, matches)?)),
+        CommandName::Payouts => Some(Request::Payouts(payouts_over(names))),
     }
 }
 
@@ -114,6 +117,30 @@ fn plan_in<'a>(names: &[&'a str]) -> Option<PlanRequest<'a>>
         from,
         to,
     })
+}
+
+fn bench_in(names: &[&str], matches: &ArgMatches<'_>) -> Option<BenchRequest>
+    requires { length names.now ≡ 1 }
+    ensures { MatchOption result
+        (bench_in (map (λ v. v.now) names.now) (values_in matches.now) ≡ None)
+        (λ r. bench_in (map (λ v. v.now) names.now) (values_in matches.now) ≡ Some (bench_of r)) }
+{
+    // The bytes of a sid are those of any number of 32 bits without sign or zeros in front.
+    let number = read_sid(names[0].as_bytes())?;
+    let chunk = chunk(matches)?;
+    Some(BenchRequest { number, chunk })
+}
+
+fn payouts_over<'a>(names: &[&'a str]) -> PayoutsRequest<'a>
+    requires { length names.now ≡ 4 }
+    ensures { payouts_of result ≡ payouts_over (map (λ v. v.now) names.now) }
+{
+    PayoutsRequest {
+        sessions: names[0],
+        assets: names[1],
+        bars: names[2],
+        payouts: names[3],
+    }
 }
 
 fn are_texts(words: &[String]) -> bool

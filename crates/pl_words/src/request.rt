@@ -1,7 +1,9 @@
 // What a command is asked for.
 ghost use Rattle.std.specs.Prelude.{◌≡◌, [], option_map, unwrap_or};
-ghost use Rattle.pl_words.specs.Request.{name_of, pipeline_name, name_asked, date_asked, date_text, adjustments_of, plan_name, run_name};
-ghost use Rattle.pl_words.specs.Views.{dated_of, plan_of, request_of, run_of};
+ghost use Rattle.pl_words.specs.Request.{name_of, pipeline_name, name_asked, date_asked, date_text, adjustments_of, payouts_name, plan_name, run_name};
+ghost use Rattle.pl_words.specs.Views.{dated_of, payouts_of, plan_of, request_of, run_of};
+
+use pl_spec::Format;
 
 /// A file that a command reads, by what it is to the command.
 #[derive(Clone, Copy, Debug, PartialEq, Eq)]
@@ -11,13 +13,15 @@ pub enum InputFile {
     Assets,
     Labels,
     Bars,
+    Payouts,
 }
 
-/// One of the two dates of a run or of a plan.
+/// One of the two dates of a run or of a plan, or the date as of which a run is.
 #[derive(Clone, Copy, Debug, PartialEq, Eq)]
 pub enum RangeDate {
     From,
     To,
+    AsOf,
 }
 
 /// A date as it is written, and its day, counted from 1970-01-01.
@@ -27,13 +31,16 @@ pub struct DateWord<'a> {
     pub day: i32,
 }
 
-/// The options of a run: the names of its labels and adjustments, and how many sessions it computes at a time, from 1
-/// to 4096.
+/// The options of a run: the names of its labels and adjustments, how many sessions it computes at a time, from 1 to
+/// 4096, the form of its table, whether its numbers are told, and the date as of which it is.
 #[derive(Clone, Copy)]
 pub struct Options<'a> {
     pub labels: Option<&'a str>,
     pub adjustments: Option<&'a str>,
     pub chunk: u32,
+    pub format: Format,
+    pub stats: bool,
+    pub as_of: Option<DateWord<'a>>,
 }
 
 /// What a run is asked for: the names of its files and adjustments, and two dates.
@@ -57,6 +64,23 @@ pub struct PlanRequest<'a> {
     pub to: DateWord<'a>,
 }
 
+/// What a run of the stated pipeline over the stated world of that number is asked for, computed so many sessions at a
+/// time, from 1 to 4096.
+#[derive(Clone, Copy)]
+pub struct BenchRequest {
+    pub number: u32,
+    pub chunk: u32,
+}
+
+/// The names of the files whose payouts are turned into ratios.
+#[derive(Clone, Copy)]
+pub struct PayoutsRequest<'a> {
+    pub sessions: &'a str,
+    pub assets: &'a str,
+    pub bars: &'a str,
+    pub payouts: &'a str,
+}
+
 /// A command with what it is asked for.
 #[derive(Clone, Copy)]
 pub enum Request<'a> {
@@ -68,6 +92,10 @@ pub enum Request<'a> {
     Check(&'a str),
     /// The plan of a pipeline.
     Plan(PlanRequest<'a>),
+    /// The numbers of a run over a stated world.
+    Bench(BenchRequest),
+    /// The ratios of payouts.
+    Payouts(PayoutsRequest<'a>),
 }
 
 impl<'a> Request<'a> {
@@ -79,6 +107,8 @@ impl<'a> Request<'a> {
             Request::Run(run) => run.name_of(file),
             Request::Fmt(name) | Request::Check(name) => pipeline_name(name, file),
             Request::Plan(plan) => plan.name_of(file),
+            Request::Bench(_) => None,
+            Request::Payouts(payouts) => payouts.name_of(file),
         }
     }
 }
@@ -88,7 +118,11 @@ fn pipeline_name<'a>(name: &'a str, file: InputFile) -> Option<&'a str>
 {
     match file {
         InputFile::Pipeline => Some(name),
-        InputFile::Sessions | InputFile::Assets | InputFile::Labels | InputFile::Bars => None,
+        InputFile::Sessions
+        | InputFile::Assets
+        | InputFile::Labels
+        | InputFile::Bars
+        | InputFile::Payouts => None,
     }
 }
 
@@ -107,9 +141,10 @@ pub fn date_asked<'a>(asked: Option<&Request<'a>>, date: RangeDate) -> &'a str
     ensures { result.now ≡ date_asked (option_map (λ q. request_of q.now) asked.entry) date }
 {
     match asked {
-        Some(Request::Run(run)) => date_text(&run.from, &run.to, date),
-        Some(Request::Plan(plan)) => date_text(&plan.from, &plan.to, date),
-        Some(Request::Fmt(_) | Request::Check(_)) | None => "",
+        Some(Request::Run(run)) => date_text(&run.from, &run.to, run.options.as_of, date),
+        Some(Request::Plan(plan)) => date_text(&plan.from, &plan.to, None, date),
+        Some(Request::Fmt(_) | Request::Check(_) | Request::Bench(_) | Request::Payouts(_))
+        | None => "",
     }
 }
 
@@ -119,7 +154,14 @@ pub fn adjustments_asked<'a>(asked: Option<&Request<'a>>) -> &'a str
 {
     match asked {
         Some(Request::Run(run)) => run.options.adjustments.unwrap_or(""),
-        Some(Request::Fmt(_) | Request::Check(_) | Request::Plan(_)) | None => "",
+        Some(
+            Request::Fmt(_)
+            | Request::Check(_)
+            | Request::Plan(_)
+            | Request::Bench(_)
+            | Request::Payouts(_),
+        )
+        | None => "",
     }
 }
 
@@ -133,6 +175,7 @@ impl<'a> RunRequest<'a> {
             InputFile::Assets => Some(self.assets),
             InputFile::Labels => self.options.labels,
             InputFile::Bars => Some(self.bars),
+            InputFile::Payouts => None,
         }
     }
 }
@@ -144,16 +187,37 @@ impl<'a> PlanRequest<'a> {
         match file {
             InputFile::Pipeline => Some(self.pipeline),
             InputFile::Sessions => Some(self.sessions),
-            InputFile::Assets | InputFile::Labels | InputFile::Bars => None,
+            InputFile::Assets | InputFile::Labels | InputFile::Bars | InputFile::Payouts => None,
         }
     }
 }
 
-fn date_text<'a>(from: &DateWord<'a>, to: &DateWord<'a>, date: RangeDate) -> &'a str
-    ensures { result.now ≡ date_text (dated_of from.now) (dated_of to.now) date }
+impl<'a> PayoutsRequest<'a> {
+    fn name_of(&self, file: InputFile) -> Option<&'a str>
+        ensures { option_map (λ n. n.now) result ≡ payouts_name (payouts_of self.now) file }
+    {
+        match file {
+            InputFile::Sessions => Some(self.sessions),
+            InputFile::Assets => Some(self.assets),
+            InputFile::Bars => Some(self.bars),
+            InputFile::Payouts => Some(self.payouts),
+            InputFile::Pipeline | InputFile::Labels => None,
+        }
+    }
+}
+
+fn date_text<'a>(
+    from: &DateWord<'a>,
+    to: &DateWord<'a>,
+    as_of: Option<DateWord<'a>>,
+    date: RangeDate,
+) -> &'a str
+    ensures { result.now ≡ date_text (dated_of from.now) (dated_of to.now) (option_map dated_of as_of.entry) date }
 {
-    match date {
-        RangeDate::From => from.text,
-        RangeDate::To => to.text,
+    match (date, as_of) {
+        (RangeDate::From, _) => from.text,
+        (RangeDate::To, _) => to.text,
+        (RangeDate::AsOf, Some(as_of)) => as_of.text,
+        (RangeDate::AsOf, None) => "",
     }
 }

@@ -2,7 +2,7 @@ ghost use Rattle.std.specs.Prelude.{◌≡◌, ◌+◌, ◌<◌, ◌≤◌, leng
 ghost use Rattle.std.specs.List.{list_any};
 ghost use Rattle.pl_records.specs.Reading.{Answers, at_line, field, rows_of};
 ghost use Rattle.pl_records.specs.Records.{csv_records};
-ghost use Rattle.pl_assets.specs.Labels.{is_from, is_printable, label_in, label_rows_in, says_label};
+ghost use Rattle.pl_assets.specs.Labels.{is_from, is_printable, label_in, label_rows_in, says_label, texts_of};
 ghost use Rattle.pl_assets.specs.LabelFaults.{fault_of};
 ghost use Rattle.pl_assets.specs.LabelPlaces.{AreKeys, AreNumbered, shown_rows};
 ghost use Rattle.pl_assets.specs.LabelStarts.{label_from, row_from};
@@ -26,6 +26,7 @@ pub(crate) fn read_rows(
     ensures exact { Answers shown_rows fault_of result
         (label_rows_in assets.now (csv_records bytes.now)) }
     ensures numbered { IfOk result AreNumbered }
+    ensures texts { IfOk result (λ t. t.texts ≡ texts_of (shown_rows t)) }
 {
     let mut records = Records::new(alloc, bytes);
     if !records.read_header(&[b"name", b"sid", b"start", b"label"])? {
@@ -43,6 +44,7 @@ fn rows_behind(
     ensures exact { Answers shown_rows fault_of result
         (rows_of 2 (says_label assets.now) records.old.left) }
     ensures numbered { IfOk result AreNumbered }
+    ensures texts { IfOk result (λ t. t.texts ≡ texts_of (shown_rows t)) }
 {
     let mut rows = LabelRows::new(alloc);
     let mut keys = HashSet::new(alloc);

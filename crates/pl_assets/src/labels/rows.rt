@@ -1,6 +1,8 @@
-ghost use Rattle.std.specs.Prelude.{◌≡◌, ◌<◌, ◌≤◌, [], ◌∷◌, ◌++◌, length, IfOk, IfSome, OnOk, OnErr};
+ghost use Rattle.std.specs.Prelude.{◌≡◌, ◌+◌, ◌<◌, ◌≤◌, ◌^◌, not, [], ◌∷◌, ◌++◌, length, IfOk, IfSome, OnOk, OnErr};
+ghost use Rattle.std.specs.Int.RustNames.{int_le};
+ghost use Rattle.pl_spec.specs.AsOf.{labels_by};
 ghost use Rattle.pl_assets.specs.Labels.{with_label};
-ghost use Rattle.pl_assets.specs.LabelPlaces.{AreNumbered, IsBehind, KeepsFront, shown_rows, text_in};
+ghost use Rattle.pl_assets.specs.LabelPlaces.{AreNumbered, IsBehind, IsPlace, KeepsFront, row_at, shown_rows, text_in};
 ghost use Rattle.pl_assets.specs.declared.TheConstants.{MOST_LABELS};
 
 use crate::labels::texts::{LabelTexts, Texts};
@@ -38,6 +40,57 @@ impl LabelRows {
         }
     }
 
+    // The rows that start by the day, with all texts.
+    pub(crate) fn cut(&self, alloc: Global, day: i32) -> Result<LabelRows, AllocError>
+        requires numbered { AreNumbered self.now }
+        requires few { length self.now.places.items ≤ MOST_LABELS }
+        ensures numbered { IfOk result AreNumbered }
+        ensures rows { IfOk result (λ t. shown_rows t ≡ labels_by day (shown_rows self.now)) }
+        ensures texts { IfOk result (λ t. t.texts ≡ self.now.texts) }
+    {
+        let mut rows = LabelRows {
+            names: Texts::new(alloc),
+            texts: self.texts.copy(alloc)?,
+            places: Vec::new(alloc),
+        };
+        for place in &self.places {
+            rows.take(self, place, day)?;
+        }
+        Ok(rows)
+    }
+
+    // A row of others, whose texts these rows have, behind these, if it starts by the day.
+    fn take(&mut self, from: &LabelRows, place: &Place, day: i32) -> Result<(), AllocError>
+        requires numbered { AreNumbered self.old }
+        requires few { length self.old.places.items < MOST_LABELS }
+        requires place { IsPlace from.now.names from.now.texts place.now }
+        requires texts { self.old.texts ≡ from.now.texts }
+        ensures numbered { OnOk result (AreNumbered self.new) }
+        ensures rows { OnOk result (shown_rows self.new ≡ shown_rows self.old
+            ++ labels_by day (row_at from.now.names from.now.texts place.now ∷ [])) }
+        ensures texts { OnOk result (self.new.texts ≡ from.now.texts) }
+        ensures few { OnOk result
+            (length self.new.places.items ≤ length self.old.places.items + 1) }
+    {
+        if starts_later(place, day) {
+            return Ok(());
+        }
+        let name = from.names.text(place.name as usize);
+        self.push(name, place.col, place.start, from.text_of(place))?;
+        Ok(())
+    }
+
+    // The text of a row.
+    fn text_of(&self, place: &Place) -> &[u8]
+        requires { IsPlace self.now.names self.now.texts place.now }
+        ensures { result.now ≡ text_in self.now.texts place.now.code }
+    {
+        match place.code {
+            Some(code) => self.texts.text(code as usize),
+            None => &[],
+        }
+    }
+
     // One row behind the others. Where memory runs out, none is added.
     pub(crate) fn push(
         &mut self,
@@ -53,6 +106,7 @@ impl LabelRows {
         ensures row { OnOk result (shown_rows self.new
             ≡ shown_rows self.old
             ++ record { name = name.now; col = col; start = start; text = text.now } ∷ []) }
+        ensures texts { OnOk result (self.new.texts ≡ with_label self.old.texts text.now) }
         ensures kept { OnErr result (shown_rows self.new ≡ shown_rows self.old) }
         ensures texts_kept { OnErr result (self.new.texts ≡ self.old.texts) }
         ensures places_kept { OnErr result (self.new.places.items ≡ self.old.places.items) }
@@ -76,6 +130,7 @@ impl LabelRows {
         ensures row { OnOk result (shown_rows self.new
             ≡ shown_rows self.old
             ++ record { name = name.now; col = col; start = start; text = text.now } ∷ []) }
+        ensures texts { OnOk result (self.new.texts ≡ with_label self.old.texts text.now) }
         ensures front { OnErr result (KeepsFront self.old self.new) }
     {
         let number = self.names.insert(name)? as u32;
@@ -91,12 +146,19 @@ impl LabelRows {
     }
 }
 
+fn starts_later(place: &Place, day: i32) -> bool
+    ensures { result ≡ not (int_le place.now.start day) }
+{
+    place.start > day
+}
+
 // The code of a text, which is added if it is new; an empty text has none.
 fn code_of(texts: &mut LabelTexts, text: &[u8]) -> Result<Option<u32>, AllocError>
-    requires { length texts.old < MOST_LABELS }
+    requires { length texts.old ≤ 2 ^ 32 }
     ensures texts { OnOk result (texts.new ≡ with_label texts.old text.now) }
     ensures code { IfOk result (λ code. text_in texts.new code ≡ text.now) }
     ensures known { IfOk result (λ code. IfSome code (λ c. c < length texts.new)) }
+    ensures few { length texts.new ≤ 2 ^ 32 }
     ensures err { OnErr result (texts.new ≡ texts.old) }
 {
     if text.is_empty() {

@@ -1,7 +1,7 @@
-ghost use Rattle.std.specs.Prelude.{◌≡◌, ◌<◌, [], ◌∷◌, ◌++◌, flat_map, length, take, position, slice_index_or, bytes_eq, IfOk, OnOk, OnErr};
+ghost use Rattle.std.specs.Prelude.{◌≡◌, ◌<◌, ◌≤◌, ◌^◌, [], ◌∷◌, ◌++◌, flat_map, length, take, position, slice_index_or, bytes_eq, IfOk, OnOk, OnErr};
 ghost use Rattle.std.specs.List.{list_any, position_or_len};
 ghost use Rattle.pl_spec.specs.Text.{calls_for_quotes, quote, quoted_byte};
-ghost use Rattle.pl_assets.specs.Labels.{with_text};
+ghost use Rattle.pl_assets.specs.Labels.{AreTexts, with_text};
 
 use indexmap::IndexSet;
 use std::alloc::{AllocError, Global};
@@ -139,14 +139,31 @@ impl LabelTexts {
         self.fields[code].as_slice()
     }
 
-    // The code of a text, which is added if it is new.
+    // The same texts with their codes once more.
+    pub(crate) fn copy(&self, alloc: Global) -> Result<LabelTexts, AllocError>
+        requires { AreTexts self.now }
+        ensures { IfOk result (λ t. t ≡ self.now) }
+    {
+        let mut texts = LabelTexts::new(alloc);
+        for code in 0..self.len() {
+            texts.insert(self.text(code))?;
+        }
+        Ok(texts)
+    }
+
+    // The code of a text, which is added if it is new and a code is left.
     pub(crate) fn insert(&mut self, text: &[u8]) -> Result<usize, AllocError>
+        requires { length self.old ≤ 2 ^ 32 }
         ensures texts { OnOk result (self.new ≡ with_text self.old text.now) }
         ensures code { IfOk result (λ n. n ≡ position_or_len (bytes_eq text.now) self.old) }
+        ensures few { length self.new ≤ 2 ^ 32 }
         ensures err { OnErr result (self.new ≡ self.old) }
     {
         if let Some(code) = self.texts.number_of(text) {
             return Ok(code);
+        }
+        if self.texts.len() > u32::MAX as usize {
+            return Err(AllocError);
         }
         let field = csv_field(*self.fields.allocator(), text)?;
         self.fields.push(field)?;

@@ -26,6 +26,7 @@ slide-requires g c =
     record {
       room = omega (arith, room, few, size, c.requires.room);
       cells = λ j h. has c.loop-i.i j c.loop-i-test.true (omega arith);
+      puts = c.events_between-events.ensures.cells;
     }
 
 pub loop-i-preserved : goal.loop-i-preserved
@@ -35,7 +36,7 @@ loop-i-preserved g c =
     let b = buffered_of c.array.inside in
     let i = c.loop-i.i in
     let es = λ (bar : ℤ). effects_of b.column bar c.events_between-events.result.now in
-    let between = simp to_z-of_z at c.events_between-events.ensures in
+    let between = simp to_z-of_z at c.events_between-events.ensures.events in
     let own : (bar : ℤ) → es bar ≡ effects_in b.column bar c.args.from c.args.to (events_of (world_of b) (col_at b i)) = λ bar.
     ap (filter_map (effect b.column bar)) between
     ∙ ap (effects_in b.column bar c.args.from c.args.to) (sym (own_events b.days b.bars b.adjustments (col_at b i))) in
@@ -62,7 +63,7 @@ returns g c =
     let whole : take c.loop-i.i c.args.array.now.cols ≡ c.args.array.now.cols = take_all c.loop-i.i c.args.array.now.cols end in
     let all : AreSlid c.args.array.now c.args.older c.args.from c.args.to c.loop-i.i c.args.scratch.now c.loop-i.scratch c.args.steps.now c.loop-i.steps c.args.applied.now c.loop-i.applied = simp to_z-of_z at c.loop-i.invariant in
     record {
-      moved = λ bar i j h k. all.moved bar i j (omega arith) k;
+      moved = λ bar i j h k day. all.moved bar i j (omega arith) k day;
       kept = λ i j h k m. all.kept i j (omega arith) k m;
       cells = all.cells;
       cost = λ bar. rw whole at (all.cost bar);

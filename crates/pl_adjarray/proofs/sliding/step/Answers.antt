@@ -28,7 +28,7 @@ returns-clause-seen g c =
     record {
       seen = next_seen b ready d c.day-today.result c.day-next_day.result held.from c.requires.more at_d at_next
           c.args.scratch.now c.slide_all.new.scratch held.seen
-          (λ bar i j h k. moved bar i j h (rw older k)) (λ i j h k m. c.slide_all.ensures.kept i j h (rw older k) m);
+          (λ bar i j h k day. moved bar i j h (rw older k) day) (λ i j h k m. c.slide_all.ensures.kept i j h (rw older k) m);
       cells = c.slide_all.ensures.cells;
       size = long ∙ held.size;
       from = omega arith;

@@ -10,3 +10,6 @@ returns-clause-length c =
 
 pub returns-clause-in_order : goal.returns-clause-in_order
 returns-clause-in_order c = rw (← c.self.view_is) (by_day_each _ c.self.invariant.0.sorted)
+
+pub returns-clause-cells : goal.returns-clause-cells
+returns-clause-cells c = rw (← c.self.view_is) c.self.invariant.0.puts

@@ -1,6 +1,6 @@
-use Rattle.std.proofs.Common.{◌≡◌, ◌∙◌, sym, refl}
+use Rattle.std.proofs.Common.{refl}
 use Rattle.std.proofs.lemmas.Result.{err_from_is_err_and}
-use Rattle.pl_syntax.specs.Scripts.{parsed, version_in}
+use Rattle.pl_syntax.specs.Scripts.{parsed}
 use Rattle.pl_cli.proofs.Ended.{fmt-is, fmt-text, file-stops, no-text, file-written, caused-written}
 use Rattle.pl_cli.proofs.commands.fmt_command.Goals as goal
 
@@ -20,11 +20,9 @@ returns-in_err-text-clause-ended g c = λ lists sound steps.
 
 pub returns-clause-ended : goal.returns-clause-ended
 returns-clause-ended g c = λ lists sound steps.
-    let one : version_in c.in_ok-script.script ≡ 1 = sym c.version-version.ensures.value ∙ c.version-version.ensures.known in
-    let text = rw one at c.in_ok-text.ensures.text in
     let w = rw c.deref.ensures.value at c.write_text.ensures.writes in
     file-written g.O.Sink.taken g.O.Sink.faults g.O.Sink.sound g.O.Sink.room c.args.out.now c.write_text.new.out _ lists _ sound steps steps _ _ _ _ _ _ _ (fmt-is c.args.name.now)
-    refl c.in_ok-script.ensures.read (λ file h. fmt-text c.args.name.now _ (parsed c.in_ok-script.script) text _ h) w c.write_text.ensures.unwritten
+    refl c.in_ok-script.ensures.read (λ file h. fmt-text c.args.name.now _ (parsed c.in_ok-script.script) c.in_ok-text.ensures.text _ h) w c.write_text.ensures.unwritten c.write_text.ensures.quiet
 
 pub returns-clause-caused : goal.returns-clause-caused
 returns-clause-caused g c = caused-written _ _ _ _ c.write_text.result c.write_text.ensures.unwritten c.write_text.ensures.writes.failed

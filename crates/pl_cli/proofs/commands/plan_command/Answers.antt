@@ -22,7 +22,7 @@ pub returns-clause-ended : goal.returns-clause-ended
 returns-clause-ended g c = λ lists sound steps.
     let w = rw c.deref.ensures.value at c.write_text.ensures.writes in
     plan-written g.O.Sink.taken g.O.Sink.faults g.O.Sink.sound g.O.Sink.room c.args.out.now c.write_text.new.out _ lists _ sound steps steps (plan_of c.args.request.now) _ _ _ refl
-    c.in_ok-planned.ensures.load c.in_ok-text.ensures w c.write_text.ensures.unwritten
+    c.in_ok-planned.ensures.load c.in_ok-text.ensures w c.write_text.ensures.unwritten c.write_text.ensures.quiet
 
 pub returns-clause-caused : goal.returns-clause-caused
 returns-clause-caused g c = caused-written _ _ _ _ c.write_text.result c.write_text.ensures.unwritten c.write_text.ensures.writes.failed

@@ -13,7 +13,7 @@ pub returns-clause-ended : goal.returns-clause-ended
 returns-clause-ended g c =
     let w = c.write_loaded.ensures in
     load-written g.O.Sink.taken g.O.Sink.faults g.O.Sink.sound g.O.Sink.room c.args.out.now c.write_loaded.new.out _ _ _ _ _ _ (run_of c.args.request.now) _ _
-    c.in_ok-loaded.ensures.load w.writes w.fault w.cost w.most
+    c.in_ok-loaded.ensures.load w.writes w.fault w.cost w.most w.stats
 
 pub returns-clause-caused : goal.returns-clause-caused
 returns-clause-caused g c =

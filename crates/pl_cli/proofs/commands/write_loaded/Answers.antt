@@ -1,4 +1,5 @@
-use Rattle.std.proofs.Common.{inl, inr}
+use Rattle.std.proofs.Common.{◌∙◌, inl, inr}
+use Rattle.pl_cli.proofs.Stats.{stats-are}
 use Rattle.pl_cli.proofs.commands.write_loaded.Goals as goal
 
 pub returns-in-Ok-clause-writes : goal.returns-in-Ok-clause-writes
@@ -8,3 +9,8 @@ returns-in-Ok-clause-writes g c =
       | inl m ↦ absurd (cc)
       | inr w ↦ inr (record { all = w.all; prefix = tt; failed = tt; later = w.later; stays = w.stays; room_left = w.room_left; blameless = w.blameless })
     ]
+
+pub returns-in-Ok-clause-stats : goal.returns-in-Ok-clause-stats
+returns-in-Ok-clause-stats g c =
+    let report = rw (c.world-world.ensures.sessions, c.world-world.ensures.assets, c.world-world.ensures.labels, c.world-world.ensures.bars, c.world-world.ensures.adjustments) at c.in-Ok.ensures.report in
+    c.stats_of.ensures ∙ stats-are c.args.options.now.stats _ _ _ _ _ _ report c.requires.ready.plan c.bound.ensures.value

@@ -1,4 +1,4 @@
-use Rattle.std.proofs.Common.{rules, w32, FitsSigned, sym, ap, ◌∙◌, pos, get_or}
+use Rattle.std.proofs.Common.{w32, FitsSigned, sym, ap, ◌∙◌, pos, get_or}
 use Rattle.std.proofs.lemmas.Int.{to_z-of_z}
 use Rattle.pl_spec.specs.World.{exists}
 use Rattle.pl_model.specs.Worlds.{world_of}
@@ -8,8 +8,8 @@ use Rattle.pl_exec.proofs.turn.exists.Goals as goal
 
 pub returns : goal.returns
 returns c =
-    let day : FitsSigned w32 c.day-day.result = search rules in
+    let day : FitsSigned w32 c.args.day = c.ranges.day in
     let lives = simp to_z-of_z at c.exists.ensures.exact in
     let j = c.args.turn.now.job.now in
     sym (ap (λ a. exists (world_of c.args.turn.now.job.now.world) a (pos c.args.turn.now.session)) (sid_of_place c.args.turn.now.job.now.world.assets.now c.args.turn.now.job.now.cols.now c.args.i c.requires.asset)
-    ∙ exists-at (world_of c.args.turn.now.job.now.world) (get_or c.args.turn.now.job.now.cols.now c.args.i 0) c.args.turn.now.session c.day-day.result c.exists.result c.exists.ensures.assets.ascend c.day-day.ensures.exact lives)
+    ∙ exists-at (world_of c.args.turn.now.job.now.world) (get_or c.args.turn.now.job.now.cols.now c.args.i 0) c.args.turn.now.session c.args.day c.exists.result c.exists.ensures.assets.ascend c.requires.day lives)

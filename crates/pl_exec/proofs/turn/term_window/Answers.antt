@@ -5,27 +5,26 @@ use Rattle.pl_exec.proofs.Held.{read_end, read_size, read_window, read_cells}
 use Rattle.pl_exec.proofs.turn.term_window.Goals as goal
 
 pub overflow_sub-end : goal.overflow_sub-end
-overflow_sub-end c = omega (arith, c.requires.read.early, c.requires.read.some, c.array_of-array.ensures.low)
+overflow_sub-end c = let l = c.requires.lent.1 in omega (arith, l.read.early, l.read.some, l.low)
 
 pub cells_before-requires-clause-end : goal.cells_before-requires-clause-end
 cells_before-requires-clause-end c =
-    let a = c.array_of-array in let r = c.requires.read in
-    read_end (task_at c.args.turn.now) c.args.term.0 a.result.low a.result.count a.result.cells.now a.ensures.holds a.ensures.low a.ensures.end c.args.turn.now.session c.window_of.result (node_at c.args.turn.now).window c.args.i c.window_of.ensures c.requires.asset r.some r.early c.requires.turn.late
+    let l = c.requires.lent.1 in
+    read_end (task_at c.args.turn.now) c.requires.lent.0 c.args.array.now.low c.args.array.now.count c.args.array.now.cells.now l.holds l.low l.end c.args.turn.now.session c.window_of.result (node_at c.args.turn.now).window c.args.i c.window_of.ensures c.requires.asset l.read.some l.read.early c.requires.turn.late
 
 pub cells_before-requires-clause-size : goal.cells_before-requires-clause-size
 cells_before-requires-clause-size c =
-    let a = c.array_of-array in let r = c.requires.read in
-    read_size (task_at c.args.turn.now) c.args.term.0 a.result.low a.result.count a.result.cells.now a.ensures.holds a.ensures.low a.ensures.end c.args.turn.now.session c.window_of.result (node_at c.args.turn.now).window c.args.i c.window_of.ensures c.requires.asset r.some r.early c.requires.turn.late
+    let l = c.requires.lent.1 in
+    read_size (task_at c.args.turn.now) c.requires.lent.0 c.args.array.now.low c.args.array.now.count c.args.array.now.cells.now l.holds l.low l.end c.args.turn.now.session c.window_of.result (node_at c.args.turn.now).window c.args.i c.window_of.ensures c.requires.asset l.read.some l.read.early c.requires.turn.late
 
 pub returns-clause-value : goal.returns-clause-value
-returns-clause-value c =
-    let a = c.array_of-array in let r = c.requires.read in
+returns-clause-value c u l =
     c.cells_before.ensures
-    ∙ read_window (task_at c.args.turn.now) c.args.term.0 a.result.low a.result.count a.result.cells.now a.ensures.holds a.ensures.low a.ensures.end c.args.turn.now.session c.window_of.result (node_at c.args.turn.now).window c.args.i c.window_of.ensures c.requires.asset r.some r.early c.requires.turn.late
+    ∙ read_window (task_at c.args.turn.now) u c.args.array.now.low c.args.array.now.count c.args.array.now.cells.now l.holds l.low l.end c.args.turn.now.session c.window_of.result (node_at c.args.turn.now).window c.args.i c.window_of.ensures c.requires.asset l.read.some l.read.early c.requires.turn.late
 
 pub returns-clause-cells : goal.returns-clause-cells
 returns-clause-cells c =
-    let a = c.array_of-array in let r = c.requires.read in
+    let l = c.requires.lent.1 in
     subst (All IsCell) (sym (c.cells_before.ensures
-    ∙ read_window (task_at c.args.turn.now) c.args.term.0 a.result.low a.result.count a.result.cells.now a.ensures.holds a.ensures.low a.ensures.end c.args.turn.now.session c.window_of.result (node_at c.args.turn.now).window c.args.i c.window_of.ensures c.requires.asset r.some r.early c.requires.turn.late))
-    (read_cells (task_at c.args.turn.now) c.args.term.0 a.result.low a.result.count a.result.cells.now a.ensures.holds a.ensures.low a.ensures.end c.args.turn.now.session c.window_of.result (node_at c.args.turn.now).window c.args.i c.window_of.ensures c.requires.asset r.some r.early c.requires.turn.late)
+    ∙ read_window (task_at c.args.turn.now) c.requires.lent.0 c.args.array.now.low c.args.array.now.count c.args.array.now.cells.now l.holds l.low l.end c.args.turn.now.session c.window_of.result (node_at c.args.turn.now).window c.args.i c.window_of.ensures c.requires.asset l.read.some l.read.early c.requires.turn.late))
+    (read_cells (task_at c.args.turn.now) c.requires.lent.0 c.args.array.now.low c.args.array.now.count c.args.array.now.cells.now l.holds l.low l.end c.args.turn.now.session c.window_of.result (node_at c.args.turn.now).window c.args.i c.window_of.ensures c.requires.asset l.read.some l.read.early c.requires.turn.late)

@@ -1,4 +1,4 @@
-use Rattle.std.proofs.Common.{rules, ◌∙◌, sym, ap, FitsSigned}
+use Rattle.std.proofs.Common.{rules, ◌∙◌, sym, ap, refl, FitsSigned}
 use Rattle.std.specs.Int.{w128}
 use Rattle.std.proofs.lemmas.Int.{to_z-of_z}
 use Rattle.pl_spec.specs.Decimals.{Decimal}
@@ -12,5 +12,5 @@ returns c =
     let fits : FitsSigned w128 c.millionths.result = search rules in
     c.in_range.ensures
     ∙ ap in_range (to_z-of_z w128 _ fits ∙ c.millionths.ensures)
-    ∙ in_range-capped d _ _ _ c.if-fraction-gt18.false c.requires.fraction_digits c.value_up_to.ensures c.value_up_to-2.ensures c.power_of_ten.ensures.value
+    ∙ in_range-capped d _ _ _ c.if-fraction-gt18.false c.requires.fraction_digits c.value_up_to.ensures c.value_up_to-2.ensures refl
     ∙ sym (judged-short d c.if-fraction-gt18.false)

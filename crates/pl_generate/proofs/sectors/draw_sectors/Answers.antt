@@ -1,6 +1,9 @@
-use Rattle.std.proofs.Common.{◌≡◌, ◌∙◌, ap, sym, arith, ℕ, FitsSigned, w32, rules}
+use Rattle.std.proofs.Common.{◌≡◌, ◌∙◌, ap, sym, arith, ℕ, map, FitsSigned, w32, rules}
+use Rattle.std.specs.List.{range_with_len}
 use Rattle.std.proofs.lemmas.Int.{to_z-of_z}
-use Rattle.pl_assets.specs.Labels.{table_of}
+use Rattle.pl_spec.specs.Parts.{ColumnLabel}
+use Rattle.pl_assets.specs.Labels.{table_of, texts_of, with_label}
+use Rattle.pl_assets.proofs.LabelTables.{table_more}
 use Rattle.pl_generate.specs.Draws.{next_state, number_at}
 use Rattle.pl_generate.specs.StatedWorld.{sector}
 use Rattle.pl_generate.proofs.Assets.{has-sid}
@@ -29,8 +32,12 @@ loop-col-preserved c =
     let state = c.draw.ensures.state ∙ ap next_state c.loop-col.invariant.draws ∙ sym (behind-next c.args.draws.now c.loop-col.col) in
     let digit = c.draw.ensures.number ∙ ap (λ (s : ℕ). number_at s 10) state in
     let row = sector-row c.args.draws.now c.loop-col.col c.draw.result _ (omega arith) (to_z-of_z w32 _ fits ∙ c.requires.start) digit in
+    let before = map (sector c.args.draws.now) (range_with_len 0 c.loop-col.col) in
+    let rows = rw (c.loop-col.invariant.labels, c.requires.assets, row) at c.in_ok-add.ensures.row in
+    let texts = rw c.loop-col.invariant.labels at c.in_ok-add.ensures.texts in
     record {
-      labels = c.in_ok-add.ensures.row ∙ ap table_of (rw (c.loop-col.invariant.labels, c.requires.assets, row) (sym (map-more (sector c.args.draws.now) c.loop-col.col)));
+      labels = table_more before (sector c.args.draws.now c.loop-col.col) _ rows (texts ∙ ap (with_label (texts_of before)) (ap (λ (r : ColumnLabel). r.text) row))
+          ∙ ap table_of (sym (map-more (sector c.args.draws.now) c.loop-col.col));
       draws = state;
     }
 

@@ -1,7 +1,8 @@
 use Rattle.std.proofs.lemmas.Result.{err_from_is_err_and}
 use Rattle.pl_words.specs.Views.{run_of}
 use Rattle.pl_judge.proofs.Steps.{risen-inside}
-use Rattle.pl_load.proofs.RunReads.{no-pipeline, no-data, no-dates, no-plan, all-loaded}
+use Rattle.pl_load.proofs.RunReads.{no-pipeline, no-data, no-dates, no-plan, no-room, all-loaded}
+use Rattle.pl_load.proofs.KnownWorlds.{plan-known}
 use Rattle.pl_load.proofs.loading.load.Goals as goal
 
 pub returns-in_err-checked-clause-load : goal.returns-in_err-checked-clause-load
@@ -43,10 +44,31 @@ returns-in_err-plan-clause-risen g c =
     let p = err_from_is_err_and c.from_residual-in_err-plan.result c.from_residual-in_err-plan.ensures.1 in
     rw (p.1, p.2) (risen-inside _ _ _ c.in_err-plan.ensures.risen)
 
+pub returns-in_err-known-clause-load : goal.returns-in_err-known-clause-load
+returns-in_err-known-clause-load g c =
+    let p = err_from_is_err_and c.from_residual-in_err-known.result c.from_residual-in_err-known.ensures.1 in
+    let checked = c.in_ok-checked.ensures in
+    let parts = rw (checked.leaves.keeps, checked.leaves.stays) at c.in_ok-world.ensures.parts in
+    rw (p.1, p.2, c.in_err-known.ensures.memory) (no-room _ _ _ _ (run_of c.args.request.now) _ _ checked.read parts)
+
+pub returns-in_err-known-clause-risen : goal.returns-in_err-known-clause-risen
+returns-in_err-known-clause-risen g c =
+    let p = err_from_is_err_and c.from_residual-in_err-known.result c.from_residual-in_err-known.ensures.1 in
+    rw (p.1, p.2, c.in_err-known.ensures.memory) tt
+
 pub returns-clause-load : goal.returns-clause-load
 returns-clause-load g c =
     let checked = c.in_ok-checked.ensures in
     let range = c.in_ok-range.ensures in
     let parts = rw (checked.leaves.keeps, checked.leaves.stays) at c.in_ok-world.ensures.parts in
     let plan = c.in_ok-plan.ensures in
-    all-loaded _ _ _ _ (run_of c.args.request.now) _ _ _ _ _ checked.read parts range.ends range.from range.to plan.ends plan.plan plan.from plan.to
+    all-loaded _ _ _ _ (run_of c.args.request.now) _ _ _ _ _ _ _ checked.read parts range.ends range.from range.to range.as_of range.date range.known plan.ends plan.plan plan.from plan.to
+    c.in_ok-known.ensures.known
+
+pub returns-clause-ready : goal.returns-clause-ready
+returns-clause-ready g c =
+    let plan = c.in_ok-plan.ensures in
+    record {
+      made = c.in_ok-known.ensures.made;
+      plan = plan-known _ _ _ _ _ (rw plan.to c.in_ok-range.ensures.known) c.in_ok-known.ensures.known plan.plan;
+    }

@@ -10,7 +10,7 @@ loop-t-preserved c =
     let f = c.reads_back.ensures.few in
     let l = c.loop-t.invariant.few in
     record {
-      most = m ∙ ap (λ n. max n c.reads_back.result) c.loop-t.invariant.most ∙ ap (max (most_back (pipeline_of c.args.checked.now).graph c.args.uses.now c.loop-t.t)) c.reads_back.ensures.value
-          ∙ sym (most_more (reads_back (pipeline_of c.args.checked.now).graph c.args.uses.now) c.loop-t.t);
+      most = m ∙ ap (λ n. max n c.reads_back.result) c.loop-t.invariant.most ∙ ap (max (most_back c.args.sessions.now c.args.session (pipeline_of c.args.checked.now).graph c.args.uses.now c.loop-t.t)) c.reads_back.ensures.value
+          ∙ sym (most_more (reads_back c.args.sessions.now c.args.session (pipeline_of c.args.checked.now).graph c.args.uses.now) c.loop-t.t);
       few = omega arith;
     }

@@ -1,4 +1,4 @@
-use Rattle.std.proofs.Common.{rules, arith, ◌≡◌, ◌≤◌, ◌<◌, ◌*◌, ◌-ℤ◌, pos, sym, ◌∙◌, ap, to_z, w64, FitsSigned}
+use Rattle.std.proofs.Common.{rules, arith, ◌≡◌, ◌≤◌, ◌<◌, ◌+◌, ◌*◌, ◌-ℤ◌, pos, sym, ◌∙◌, ap, to_z, w64, FitsSigned}
 use Rattle.std.proofs.lemmas.Int.{to_z-of_z, to_z_pos}
 use Rattle.pl_terms.specs.Checked.{pipeline_of}
 use Rattle.pl_terms.specs.Uses.{outputs}
@@ -9,8 +9,8 @@ use Rattle.pl_planner.proofs.planning.reach_of.Goals as goal
 pub returns-clause-value : goal.returns-clause-value
 returns-clause-value c =
     let ok = is-pipeline (pipeline_of c.args.checked.now) c.most_back.ensures.checked in
-    let r = least-is c.args.sessions.now c.len-count.ensures.days.ascend (pipeline_of c.args.checked.now).graph (outputs (pipeline_of c.args.checked.now)) c.args.uses.now ok c.requires.uses (pos c.args.from) in
-    let few : c.most_back.result ≤ 1260 * 257 = c.most_back.ensures.few in
+    let r = least-is c.args.sessions.now c.len-count.ensures.days.ascend (pipeline_of c.args.checked.now).graph (outputs (pipeline_of c.args.checked.now)) c.args.uses.now ok c.requires.uses c.args.from c.requires.extras in
+    let few : c.most_back.result ≤ c.args.from + 1260 * 257 = c.most_back.ensures.few in
     let long = c.len-count.ensures.length in
     let most = c.len-count.ensures.few in
     let in_days = c.requires.within in

@@ -6,7 +6,7 @@ use Rattle.pl_planner.proofs.uses.ask_down.Given as goal
 
 abbrev pub invariant-loop-k : goal.invariant-loop-k
 invariant-loop-k l = record {
-  gathered : AreGathered (pipeline_of l.checked).graph (outputs (pipeline_of l.checked)) l.k l.uses;
+  gathered : AreGathered l.sessions l.session (pipeline_of l.checked).graph (outputs (pipeline_of l.checked)) l.k l.uses;
   within : l.k ≤ length (pipeline_of l.checked).graph;
 }
 

@@ -15,7 +15,7 @@ ask_input-requires-clause-lower c =
 pub loop-input-preserved : goal.loop-input-preserved
 loop-input-preserved c = record {
   uses = c.ask_input.ensures
-      ∙ ap (λ us. all_asked us c.args.by c.args.extra (option_to_list (input_ask c.args.node.now.window (input_of (get_or c.as_slice-input-items.result.now c.loop-input.input-index (inputs.Column OpenPrice)))))) c.loop-input.invariant.uses
-      ∙ more_asked c.args.uses.now c.args.by c.args.extra c.args.node.now.window c.as_slice-input-items.result.now c.loop-input.input-index (inputs.Column OpenPrice) c.loop-input-test.true;
+      ∙ ap (λ us. all_asked us c.args.by (option_to_list (input_ask c.args.back c.args.node.now.window (input_of (get_or c.as_slice-input-items.result.now c.loop-input.input-index (inputs.Column OpenPrice)))))) c.loop-input.invariant.uses
+      ∙ more_asked c.args.uses.now c.args.by c.args.back c.args.node.now.window c.as_slice-input-items.result.now c.loop-input.input-index (inputs.Column OpenPrice) c.loop-input-test.true;
   size = search rules;
 }

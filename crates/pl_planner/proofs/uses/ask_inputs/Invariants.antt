@@ -6,6 +6,6 @@ use Rattle.pl_planner.proofs.uses.ask_inputs.Given as goal
 
 abbrev pub invariant-loop-input : goal.invariant-loop-input
 invariant-loop-input l = record {
-  uses : l.uses ≡ all_asked l.fn.uses l.by l.extra (filter_map (input_ask l.node.window) (map input_of (take l.input-index l.input-items)));
+  uses : l.uses ≡ all_asked l.fn.uses l.by (filter_map (input_ask l.back l.node.window) (map input_of (take l.input-index l.input-items)));
   size : length l.uses ≡ length l.fn.uses;
 }

@@ -9,7 +9,7 @@ use Rattle.pl_syntax.proofs.parser.read_all.Given as goal
 
 abbrev pub invariant-loop-progress : goal.invariant-loop-progress
 invariant-loop-progress l = record {
-  goes : (ts : List Lexeme) (tail : Tail) → Read l.text.place l.text.bytes.now ts tail → Continues l.fn.bytes ts tail l.progress.1.0 (stage_of l.progress.0);
+  goes : (ts : List Lexeme) (tail : Tail) → Read l.text.place l.text.bytes.now ts tail → Continues l.fn.bytes ts tail l.progress.1.0 l.progress.1.1.0 (stage_of l.progress.0);
   room : HasRoom l.text.place l.text.bytes.now;
   few : l.progress.1.0 ≤ most_tokens;
 }

@@ -1,10 +1,9 @@
 use Rattle.std.proofs.Common.{arith}
 use Rattle.std.proofs.lemmas.Int.{ints, to_z-of_z}
-use Rattle.pl_values.proofs.Names.{few-codes}
 use Rattle.pl_values.proofs.labels.label_test_value.Goals as goal
 
 pub overflow_cast-code : goal.overflow_cast-code
 overflow_cast-code c =
-    let few = few-codes c.args.labels.now c.len-rows.ensures.labels in
+    let few = c.len-rows.ensures.labels.texts.few in
     let code = c.requires.code in
     grind (arith, ints, to_z-of_z, few, code)

@@ -2,7 +2,7 @@ use Rattle.std.proofs.Common.{◌≡◌, ◌∙◌, ◌∷◌, ◌++◌, [], ap,
 use Rattle.std.proofs.lemmas.Int.{to_z-of_z}
 use Rattle.pl_assets.specs.Labels.{LabelTable, MayFollow, label_row, with_label}
 use Rattle.pl_assets.specs.LabelPlaces.{shown_rows}
-use Rattle.pl_assets.proofs.LabelTables.{own_keys, order_before, labels_more, texts_behind}
+use Rattle.pl_assets.proofs.LabelTables.{own_keys, order_before, labels_more}
 use Rattle.pl_assets.proofs.labels.Labels.add.Goals as goal
 
 pub insert_last-requires-clause-own : goal.insert_last-requires-clause-own
@@ -11,7 +11,7 @@ insert_last-requires-clause-own c =
     let row = label_row c.args.assets.now c.args.name.now c.args.sid c.args.start c.args.label.now in
     let may : MayFollow (shown_rows old) row = rw (← c.self.view_is) at c.requires.row in
     let shown : shown_rows c.push.new.self ≡ shown_rows old ++ row ∷ [] = rw (c.column_of-col.ensures, to_z-of_z w32 c.args.start c.ranges.start) at c.in_ok-push.ensures.row in
-    rw c.deref.ensures.value (own_keys c.push.new.self c.in_ok-push.ensures.numbered (labels_more old c.push.new.self row c.self.invariant.labels c.in_ok-push.ensures.numbered may shown).once)
+    rw c.deref.ensures.value (own_keys c.push.new.self c.in_ok-push.ensures.numbered (labels_more old c.push.new.self row c.self.invariant.labels c.in_ok-push.ensures.numbered may shown c.in_ok-push.ensures.texts).once)
 
 pub insert_last-requires-clause-others : goal.insert_last-requires-clause-others
 insert_last-requires-clause-others c =
@@ -25,11 +25,9 @@ invariant_of-self-2 c =
     let shown : shown_rows c.push.new.self ≡ shown_rows old ++ row ∷ [] = rw (c.column_of-col.ensures, to_z-of_z w32 c.args.start c.ranges.start) at c.in_ok-push.ensures.row in
     record {
       numbered = c.in_ok-push.ensures.numbered;
-      labels = labels_more old c.push.new.self row c.self.invariant.labels c.in_ok-push.ensures.numbered may shown;
+      labels = labels_more old c.push.new.self row c.self.invariant.labels c.in_ok-push.ensures.numbered may shown c.in_ok-push.ensures.texts;
       found = rw c.deref.ensures.value at c.insert_last.ensures;
     }
 
 pub returns-clause-texts : goal.returns-clause-texts
-returns-clause-texts c =
-    texts_behind c.self.inside.rows c.push.new.self _ c.self.invariant.numbered c.in_ok-push.ensures.numbered c.in_ok-push.ensures.row
-    ∙ ap (λ (t : LabelTable). with_label t.texts c.args.label.now) c.self.view_is
+returns-clause-texts c = c.in_ok-push.ensures.texts ∙ ap (λ (t : LabelTable). with_label t.texts c.args.label.now) c.self.view_is

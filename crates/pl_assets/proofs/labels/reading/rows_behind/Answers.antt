@@ -1,15 +1,16 @@
-use Rattle.std.proofs.Common.{◌≡◌, ◌<◌, length, arith, rules, length-append, ◌∷◌, ◌++◌, [], FitsSigned, w32}
+use Rattle.std.proofs.Common.{◌≡◌, ◌∙◌, ap, sym, ◌<◌, length, arith, rules, length-append, ◌∷◌, ◌++◌, [], FitsSigned, w32}
 use Rattle.std.proofs.lemmas.Int.{to_z-of_z}
 use Rattle.std.proofs.lemmas.Result.{err_from_is_err_and}
 use Rattle.pl_records.specs.Reading.{rows_of}
 use Rattle.pl_records.proofs.Readings.{goes_on, stops, is_done}
 use Rattle.pl_assets.specs.declared.TheConstants.{MOST_LABELS}
-use Rattle.pl_assets.specs.Labels.{says_label}
+use Rattle.pl_assets.specs.Labels.{says_label, texts_of}
 use Rattle.pl_assets.specs.LabelFaults.{fault_of}
 use Rattle.pl_assets.specs.LabelPlaces.{shown_rows}
 use Rattle.pl_assets.specs.LabelStarts.{row_from}
 use Rattle.pl_assets.proofs.LabelKeys.{AreKeys-more, AreKeys-none}
 use Rattle.pl_assets.proofs.LabelRowsMade.{no_rows, no_numbers}
+use Rattle.pl_assets.proofs.FirstSeen.{no_texts, texts_next}
 use Rattle.pl_assets.proofs.labels.reading.rows_behind.Goals as goal
 
 pub rows-init : goal.rows-init
@@ -19,6 +20,7 @@ rows-init c =
       rest = rw none search rules;
       few = rw none (omega arith);
       numbered = no_numbers c.new-rows.result c.new-rows.ensures.names c.new-rows.ensures.texts c.new-rows.ensures.places;
+      texts = c.new-rows.ensures.texts ∙ sym (ap texts_of none ∙ no_texts);
       keys = AreKeys-none c.new-keys.result c.new-rows.result.places.items c.new-rows.ensures.places (search rules);
     }
 
@@ -39,6 +41,8 @@ rows-preserved c =
       rest = rw row (goes_on 2 (says_label c.args.assets.now) (shown_rows c.rows.rows) c.rows.records.left c.next.new.self.left c.next.new.self.fields (row_from c.next.new.self.fields c.in_ok-start.start) _ more.ok c.in_ok-start.ensures.exact c.rows.invariant.rest);
       few = rw row (omega (arith, length-append (shown_rows c.rows.rows) (row_from c.next.new.self.fields c.in_ok-start.start ∷ [])));
       numbered = c.in_ok-place.ensures.numbered;
+      texts = texts_next c.rows.rows.texts c.push.new.self.texts (shown_rows c.rows.rows) (shown_rows c.push.new.self) (row_from c.next.new.self.fields c.in_ok-start.start)
+          c.rows.invariant.texts row (rw c.field-in-rows.ensures at c.in_ok-place.ensures.texts);
       keys = rw c.in_ok-place.ensures.place (AreKeys-more c.rows.keys c.insert.new.self c.rows.rows.places.items c.in_ok-place.place c.key_of.result c.key_of.ensures c.rows.invariant.keys c.in_ok-insert.ensures.updates.0);
     }
 

@@ -2,7 +2,7 @@ use Rattle.std.proofs.Common.{◌<◌, ◌^◌, ◌∙◌, ◌++◌, ◌∷◌, 
 use Rattle.std.proofs.lemmas.Int.{to_z-of_z}
 use Rattle.pl_assets.specs.LabelPlaces.{shown_rows}
 use Rattle.pl_assets.proofs.FirstSeen.{place_count}
-use Rattle.pl_assets.proofs.LabelRowsMade.{rows_more, numbered_more, few_names, few_texts, front_kept}
+use Rattle.pl_assets.proofs.LabelRowsMade.{rows_more, numbered_more, few_names, front_kept}
 use Rattle.pl_assets.proofs.labels.rows.LabelRows.put.Goals as goal
 
 pub overflow_cast-number : goal.overflow_cast-number
@@ -11,7 +11,7 @@ overflow_cast-number c =
     search rules
 
 pub code_of-requires : goal.code_of-requires
-code_of-requires c = omega (arith, few_texts c.args.self.now c.requires.numbered, c.requires.few)
+code_of-requires c = c.requires.numbered.texts.few
 
 pub returns-in_err-push-clause-front : goal.returns-in_err-push-clause-front
 returns-in_err-push-clause-front c =
@@ -27,7 +27,7 @@ returns-clause-numbered c =
       known = rw c.in_ok-code.ensures.texts at c.in_ok-code.ensures.known;
       col = search rules;
       day = search rules;
-    }
+    } c.in_ok-code.ensures.few
 
 pub returns-clause-row : goal.returns-clause-row
 returns-clause-row c =

@@ -1,0 +1,128 @@
+-- Adjustments with revisions behind them.
+use Rattle.std.proofs.Common.{◌≡◌, ℕ, zero, suc, ◌+◌, ◌<◌, ◌==◌, Bool, true, false, ℤ, pos, List, [], ◌∷◌, ◌++◌, map, filter, length, get_or, drop, All, AllPairs, slice_get, Option, Some, None, IfSome, option_map, Ok, Err, refl, sym, ◌∙◌, ap, arith, add-one, drop-cons}
+use Rattle.std.specs.Ordering.{int_eq}
+use Rattle.std.specs.List.Sorted.{ties}
+use Rattle.std.proofs.lemmas.Int.{ints}
+use Rattle.std.proofs.lemmas.List.{at_drop_more, map-append}
+use Rattle.std.proofs.lemmas.List.Elements.{All-append, All-map, filter-append}
+use Rattle.std.proofs.lemmas.List.Folds.{list_any_at}
+use Rattle.std.proofs.lemmas.List.Sorted.{All-permutation}
+use Rattle.std.proofs.lemmas.Option.{slice_get_within, get_or_from_slice_get}
+use Rattle.pl_spec.specs.declared.AssetRow.{AssetRow}
+use Rattle.pl_spec.specs.declared.BarRow.{BarRow}
+use Rattle.pl_spec.specs.declared.RawAdjust.{RawAdjust}
+use Rattle.pl_spec.specs.Order.{adjustments_of, by_day, with_revisions}
+use Rattle.pl_spec.specs.Parts.{ColumnAdjustment, ColumnLabel, sid_at, world_of}
+use Rattle.pl_spec.specs.World.{Adjustment, events_of}
+use Rattle.pl_records.specs.Reading.{Record, Fault}
+use Rattle.pl_assets.specs.Assets.{sid_of}
+use Rattle.pl_assets.specs.LabelRules.{HasSid}
+use Rattle.pl_bars.proofs.BarSearch.{IsCell-bar_cell}
+use Rattle.pl_revisions.specs.declared.Revision.{Revision}
+use Rattle.pl_revisions.specs.Revisions.{AreRevisions, Rule, revisions_of}
+use Rattle.pl_adjust.specs.declared.adjust.Adjust.{Adjust}
+use Rattle.pl_adjust.specs.Columns.{by_column, by_place, in_column, in_columns}
+use Rattle.pl_adjust.specs.Events.{PutsCell, event_of}
+use Rattle.pl_adjust.specs.Revised.{AreKnown, IsKnown, revised, revised_by, revised_columns, revised_in}
+use Rattle.pl_adjust.specs.Tables.{adjustments_in}
+use Rattle.pl_adjust.proofs.ByColumn.{by_day-ties, by_place-permutes, by_place-ties, filter-sorted_by, rises-by_place, rises-columns, tied}
+use Rattle.pl_adjust.proofs.FirstFaults.{made_is}
+use Rattle.pl_adjust.proofs.Kept.{in_front, front_order}
+use Rattle.pl_adjust.proofs.OneOrder.{one_order}
+use Rattle.pl_adjust.proofs.Known.{has_sid}
+use Rattle.pl_adjust.proofs.Made.{Puts, place_known}
+use Rattle.pl_adjust.proofs.Sids.{All-by_day, Known, by_sid, parts_events, tables_known}
+
+-- ---- what is kept of revisions
+
+known_has : (assets : List AssetRow) (sid : ℕ) → IsKnown assets sid → has_sid (pos sid) assets ≡ true
+known_has assets sid h = here (slice_get assets h.0) refl h.1
+  where
+    test : (n : ℕ) → n ≡ sid → int_eq (pos n) (pos sid) ≡ true
+    test n e = grind (arith, ints)
+
+    here : (o : Option AssetRow) → slice_get assets h.0 ≡ o → option_map sid_of o ≡ Some sid → has_sid (pos sid) assets ≡ true
+    here None e s = absurd (let bad : None ≡ Some sid = s in cc)
+    here (Some a) e s =
+        let same : Some (sid_of a) ≡ Some sid = s in
+        let is : sid_of a ≡ sid = cc in
+        let there : get_or assets h.0 a ≡ a = get_or_from_slice_get assets h.0 a a e in
+        list_any_at (λ x. int_eq (pos x.sid) (pos sid)) assets h.0 a (slice_get_within assets h.0 a e) (test _ (ap sid_of there ∙ is))
+
+module _ (assets : List AssetRow) (rows : List Revision) where
+  pub revised_known : AreKnown assets rows → All (Known assets) (map revised rows)
+  revised_known all = All-map (Known assets) revised rows (λ k d h. known_has assets (get_or rows k d).sid (all k d h))
+
+  pub revised_cols : AreKnown assets rows → All (λ x. x.col < length assets) (revised_columns assets rows)
+  revised_cols all =
+      All-map (λ (x : ColumnAdjustment). x.col < length assets) (in_column assets) (map revised rows)
+      (λ k d h. place_known (pos (get_or (map revised rows) k d).sid) assets (revised_known all k d h))
+
+  pub known_from : (days : List ℤ) → AreRevisions days assets rows → AreKnown assets rows
+  known_from days h k d l = (h.each k d l).asset
+
+  pub revised_puts : (days : List ℤ) → AreRevisions days assets rows → All Puts (revised_columns assets rows)
+  revised_puts days h =
+      All-map Puts (in_column assets) (map revised rows)
+      (All-map (λ (z : Adjustment). PutsCell z.event) revised rows (λ k d l. IsCell-bar_cell (get_or rows k d).value (h.each k d l).cell))
+
+pub cols_with : (assets : List AssetRow) (old rows : List ColumnAdjustment) → All (λ x. x.col < length assets) rows
+    → All (λ x. x.col < length assets) old → All (λ x. x.col < length assets) (by_place (old ++ rows))
+cols_with assets old rows more all =
+    All-permutation (λ (x : ColumnAdjustment). x.col < length assets) (old ++ rows) (by_place (old ++ rows)) (by_place-permutes (old ++ rows))
+    (All-append (λ (x : ColumnAdjustment). x.col < length assets) old rows all more)
+
+-- ---- rows that are made, one after the other
+
+pub in_columns-more : (cols : List ℕ) (xs : List Adjust) (i c : ℕ) (a : Adjust) → length xs ≡ length cols → i < length cols → c ≡ get_or cols i c → a ≡ get_or xs i a
+    → in_columns (drop i cols) (drop i xs) ≡ (record { col = c; event = event_of a }) ∷ in_columns (drop (i + 1) cols) (drop (i + 1) xs)
+in_columns-more cols xs i c a long within col adjust =
+    let first : drop i cols ≡ c ∷ drop (i + 1) cols = rw add-one (drop-cons cols i c within ∙ ap (λ x. x ∷ drop (suc i) cols) (sym col)) in
+    let second : drop i xs ≡ a ∷ drop (i + 1) xs = rw add-one (drop-cons xs i a (omega arith) ∙ ap (λ x. x ∷ drop (suc i) xs) (sym adjust)) in
+    rw (first, second) refl
+
+-- ---- the order in which they act
+
+one_key : (z x y : ColumnAdjustment) → ties in_front z x ≡ true → ties in_front z y ≡ true → x.col ≡ y.col
+one_key z x y e f = sym (tied z x e).0 ∙ (tied z y f).0
+
+pub revised_is : (assets : List AssetRow) (first more : List Adjustment)
+    → by_place (by_column (map (in_column assets) first) ++ map (in_column assets) more) ≡ by_column (map (in_column assets) (by_day (first ++ more)))
+revised_is assets first more =
+    one_order in_front front_order _ _ (rises-by_place (by_column (map (in_column assets) first) ++ map (in_column assets) more)) (rises-columns assets (first ++ more))
+    (λ z.
+    by_place-ties z (by_column (map (in_column assets) first) ++ map (in_column assets) more)
+    ∙ filter-append (ties in_front z) (by_column (map (in_column assets) first)) (map (in_column assets) more)
+    ∙ ap (λ l. l ++ filter (ties in_front z) (map (in_column assets) more)) (filter-sorted_by (λ (x : ColumnAdjustment). x.col) (ties in_front z) (one_key z) (map (in_column assets) first))
+    ∙ sym (filter-append (ties in_front z) (map (in_column assets) first) (map (in_column assets) more))
+    ∙ ap (filter (ties in_front z)) (sym (map-append (in_column assets) first more))
+    ∙ sym (by_day-ties assets z (first ++ more))
+    ∙ sym (filter-sorted_by (λ (x : ColumnAdjustment). x.col) (ties in_front z) (one_key z) (map (in_column assets) (by_day (first ++ more)))))
+
+pub revised_events : (days : List ℤ) (assets : List AssetRow) (labels : List ColumnLabel) (texts : List (List ℕ)) (bars : List BarRow) (splits mergers dividends : List RawAdjust) (xs : List ColumnAdjustment)
+    (revisions : List Revision)
+    → AllPairs (λ a b. a.sid < b.sid) assets → adjustments_in assets splits mergers dividends ≡ Ok xs → AreKnown assets revisions → (sid : ℕ)
+    → events_of (world_of days assets labels texts bars (revised_by assets xs revisions)) sid
+    ≡ map (λ x. x.event) (filter (λ x. x.sid == sid) (with_revisions (adjustments_of assets splits mergers dividends) (map revised revisions)))
+revised_events days assets labels texts bars splits mergers dividends xs revisions up e known sid =
+    let first = adjustments_of assets splits mergers dividends in
+    let more = map revised revisions in
+    let made : xs ≡ by_column (map (in_column assets) first) = made_is assets splits mergers dividends xs e in
+    let is : revised_by assets xs revisions ≡ by_column (map (in_column assets) (by_day (first ++ more))) = ap (λ l. revised_by assets l revisions) made ∙ revised_is assets first more in
+    let all : All (Known assets) (by_day (first ++ more)) = All-by_day (Known assets) (first ++ more) (All-append (Known assets) first more (tables_known assets splits mergers dividends) (revised_known assets revisions known)) in
+    parts_events days assets labels texts bars (revised_by assets xs revisions) up sid
+    ∙ ap (λ l. map (λ (x : ColumnAdjustment). x.event) (filter (λ x. sid_at assets x.col == sid) l)) is
+    ∙ by_sid assets up (by_day (first ++ more)) all sid
+
+-- ---- the call
+
+pub added : (days : List ℤ) (assets : List AssetRow) (old new : List ColumnAdjustment) (records : List Record) (rows : List Revision) → revisions_of days assets records ≡ Ok rows
+    → new ≡ revised_by assets old rows → revised_in days assets old records ≡ Ok new
+unfolding revised_in
+added days assets old new records rows e f = rw (e, f) refl
+
+pub refused_by : (days : List ℤ) (assets : List AssetRow) (old : List ColumnAdjustment) (records : List Record) (o : Option (Fault Rule)) → IfSome o (λ f. revisions_of days assets records ≡ Err f)
+    → IfSome o (λ f. revised_in days assets old records ≡ Err f)
+unfolding revised_in
+refused_by days assets old records None h = tt
+refused_by days assets old records (Some f) h = rw h refl

@@ -1,0 +1,7 @@
+use Rattle.std.proofs.Common.{ap, sym, ◌∙◌, Some, arith}
+use Rattle.pl_bars.proofs.FirstPlaces.{sid_first}
+use Rattle.pl_bars.proofs.places.col_of.Goals as goal
+
+pub returns-then-sid-clause-exact : goal.returns-then-sid-clause-exact
+returns-then-sid-clause-exact c =
+    sym (sid_first c.args.assets.now c.args.sid _ c.len.ensures.assets.ascend (omega (arith, c.if-col-len.true, c.len.ensures.length)) (c.sid.ensures ∙ ap Some c.if-sid.true))

@@ -1,0 +1,4 @@
+pub mod Texts
+pub mod Means
+pub mod Ranges
+pub mod Lines

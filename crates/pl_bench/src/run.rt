@@ -1,0 +1,77 @@
+//! The run, and the line that tells its numbers.
+ghost use Rattle.std.specs.Prelude.{◌≡◌, ◌≤◌, ◌+◌, ◌⊎◌, IfOk, OnOk, OnErr, IsErrOf};
+ghost use Rattle.pl_outside.specs.Taken.{Writes};
+ghost use Rattle.pl_bench.specs.Numbers.{AreNumbers, TakesSteps, bench_line};
+
+use crate::pipeline::{make_pipeline, make_plan};
+use pl_fixed::{Memory, Steps};
+use pl_generate::make_world;
+use pl_judge::{Numbers, write_numbers};
+use pl_outside::{NullSink, Sink};
+use pl_runner::{RunError, run_table};
+use pl_spec::Format;
+use std::alloc::Global;
+use std::sync::ledger::Ledger;
+
+/// Runs the pipeline over the stated world of the number, `chunk` sessions at a time, and writes the numbers of that run, as
+/// `rows=R cells=C peak=P bound=B` and a line end.
+pub fn bench<O: Sink, L: Ledger>(
+    alloc: Global,
+    number: u32,
+    chunk: usize,
+    out: &mut O,
+    steps: &mut Steps<L>,
+) -> Result<(), RunError>
+    requires some { 1 ≤ chunk }
+    requires most { chunk ≤ 4096 }
+    // Where memory is wanted nothing was written, and no step is counted.
+    ensures writes { IsErrOf result RunError.Memory ⊎ Writes O.taken O.faults O.sound O.room out.old out.new (bench_line number) result }
+    ensures memory { IsErrOf result RunError.Memory → (out.new ≡ out.old) × (steps.new ≡ steps.old) }
+    ensures cost { IsErrOf result RunError.Memory ⊎ TakesSteps number chunk (λ n. steps.new ≡ steps.old + n) }
+{
+    let numbers = run(alloc, number, chunk, steps)?;
+    match write_numbers(out, numbers) {
+        Ok(()) => Ok(()),
+        Err(_) => Err(RunError::WriteFault),
+    }
+}
+
+// Runs the pipeline; its table is let go.
+fn run<L: Ledger>(
+    alloc: Global,
+    number: u32,
+    chunk: usize,
+    steps: &mut Steps<L>,
+) -> Result<Numbers, Memory>
+    requires some { 1 ≤ chunk }
+    requires most { chunk ≤ 4096 }
+    ensures numbers { IfOk result (AreNumbers number) }
+    ensures cost { OnOk result (TakesSteps number chunk (λ n. steps.new ≡ steps.old + n)) }
+    ensures memory { OnErr result (steps.new ≡ steps.old) }
+{
+    let checked = make_pipeline(alloc)?;
+    let stated = make_world(alloc, number)?;
+    let world = stated.world();
+    let plan = make_plan(alloc, &checked, world.sessions)?;
+    let mut sink = NullSink;
+    match run_table(
+        alloc,
+        &world,
+        &checked,
+        &plan,
+        chunk,
+        Format::Csv,
+        &mut sink,
+        steps,
+    ) {
+        Ok(report) => Ok(Numbers {
+            rows: report.rows,
+            cells: report.cells,
+            peak: report.peak,
+            bound: plan.bound(),
+        }),
+        Err(RunError::Memory) => Err(Memory),
+        // this sink never fails
+        Err(RunError::WriteFault) => unreachable!(),
+    }
+}

@@ -1,0 +1,66 @@
+// The rows of payouts.
+ghost use Rattle.std.specs.Prelude.{◌≡◌, ℕ, Bool, None, Option, Some, IfOk, IfErr};
+ghost use Rattle.pl_outside.specs.Counts.{Rose};
+ghost use Rattle.pl_outside.specs.Lists.{Lists};
+ghost use Rattle.pl_outside.specs.Taken.{Writes};
+ghost use Rattle.pl_outside.specs.Left.{Leaves, LeavesSink};
+ghost use Rattle.pl_words.specs.Request.{Payouts};
+ghost use Rattle.pl_words.specs.Views.{payouts_of};
+ghost use Rattle.pl_payouts.specs.Texts.{payouts_text};
+ghost use Rattle.pl_load.specs.PaidOut.{IsPayable};
+ghost use Rattle.pl_cli.specs.Runs.{observed};
+ghost use Rattle.pl_cli.specs.Commands.{IsEnded, IsCaused};
+
+use crate::commands::Stats;
+use pl_judge::Fault;
+use pl_load::{LoadedPayouts, load_payouts};
+use pl_outside::{Shelf, Sink};
+use pl_payouts::write_payouts;
+use pl_words::PayoutsRequest;
+use std::alloc::Global;
+
+/// Reads the sessions, the assets, the bars and the payouts of these names, and writes the rows of the payouts.
+pub fn payouts_command<S: Shelf, O: Sink>(
+    alloc: Global,
+    request: &PayoutsRequest<'_>,
+    shelf: &mut S,
+    out: &mut O,
+) -> Result<Option<Stats>, Fault>
+    // whatever a keeper tells, and however many steps were counted
+    ensures ended { (lists : Option Lists) (sound : Bool) (steps : ℕ)
+        → IsEnded (observed S.holds S.sound (λ _. lists) (λ _. sound) O.taken O.sound O.room shelf.old steps
+        out.old out.new steps steps) (Some (Payouts (payouts_of request.now))) result }
+    ensures caused { IfErr result (IsCaused ⊥ (Rose (S.faults shelf.old) (S.faults shelf.new)) ⊥
+        (Rose (O.faults out.old) (O.faults out.new))
+        ((O.taken out.new ≡ O.taken out.old) × (O.room out.new ≡ O.room out.old))) }
+    ensures shelf { Leaves S.holds S.sound S.faults shelf.old shelf.new }
+    ensures out { LeavesSink O.sound O.faults out.old out.new }
+{
+    let loaded = load_payouts(alloc, request, shelf)?;
+    write_loaded_payouts(alloc, &loaded, out)
+}
+
+fn write_loaded_payouts<O: Sink>(
+    alloc: Global,
+    loaded: &LoadedPayouts,
+    out: &mut O,
+) -> Result<Option<Stats>, Fault>
+    requires { IsPayable loaded.now }
+    ensures writes { Writes O.taken O.faults O.sound O.room out.old out.new
+        (payouts_text loaded.now.sessions loaded.now.assets loaded.now.bars loaded.now.payouts) result }
+    ensures unwritten { IfErr result (λ fault. fault ≡ Fault.Unwritten) }
+    ensures quiet { IfOk result (λ stats. stats ≡ None) }
+{
+    match write_payouts(
+        alloc,
+        &loaded.payouts,
+        &loaded.sessions,
+        &loaded.assets,
+        &loaded.bars,
+        out,
+    ) {
+        Ok(_) => Ok(None),
+        // it takes no memory
+        Err(_) => Err(Fault::Unwritten),
+    }
+}

@@ -1,0 +1,41 @@
+-- How far back terms are read for the value of one, by number.
+use Rattle.std.specs.Prelude.{ℕ, ◌+◌, ◌-◌, Bool, true, false, if◌then◌else◌, max, List, [], ◌∷◌, ◌++◌, fold, filter_map, get_or, slice_set, Option, Some, None}
+use Rattle.std.specs.List.{list_any}
+use Rattle.pl_spec.specs.Term.{Input, Node}
+use Rattle.pl_spec.specs.Term.Input.{BarColumn, TermInput}
+
+-- a term and so many sessions before the one that is asked for
+abbrev pub Ask : Type 0
+Ask = ℕ × ℕ
+
+abbrev pub input_ask : ℕ → ℕ → Input → Option Ask
+input_ask depth size (BarColumn c) = None
+input_ask depth size (TermInput k) = Some (k, depth + (size - 1))
+
+abbrev pub number_asks : ℕ → Option ℕ → List Ask
+number_asks depth None = []
+number_asks depth (Some k) = (k, depth) ∷ []
+
+-- what a node reads for a session so many before
+abbrev pub asks : ℕ → Node → List Ask
+asks depth n = number_asks depth n.mask ++ number_asks depth n.group ++ filter_map (input_ask depth n.window) n.inputs
+
+abbrev pub is_bar : Input → Bool
+is_bar (BarColumn c) = true
+is_bar (TermInput k) = false
+
+-- where its own bars begin
+abbrev pub own_depth : ℕ → Node → ℕ
+own_depth depth n = if list_any is_bar n.inputs then depth + n.window else depth
+
+-- ---- by number, how far back each term is read, where it is read
+
+abbrev pub deeper : Option ℕ → ℕ → ℕ
+deeper None b = b
+deeper (Some c) b = max c b
+
+abbrev pub asked : List (Option ℕ) → Ask → List (Option ℕ)
+asked depths a = slice_set depths a.0 (Some (deeper (get_or depths a.0 None) a.1))
+
+abbrev pub all_asked : List (Option ℕ) → List Ask → List (Option ℕ)
+all_asked depths list = fold asked depths list

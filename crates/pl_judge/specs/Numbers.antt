@@ -1,0 +1,15 @@
+-- The line that tells the numbers of a run.
+use Rattle.std.specs.Prelude.{ℕ, List, [], ◌∷◌, ◌++◌, codes, decimal}
+
+-- how many rows there are, the sum of their cells, how many arrays are held at once, and how many may be
+abbrev pub numbers_text : ℕ → ℕ → ℕ → ℕ → List ℕ
+numbers_text rows sum peak most =
+    codes "rows=" ++ decimal rows ++ codes " cells=" ++ decimal sum ++ codes " peak=" ++ decimal peak
+    ++ codes " bound=" ++ decimal most
+
+abbrev pub numbers_line : ℕ → ℕ → ℕ → ℕ → List ℕ
+numbers_line rows sum peak most = numbers_text rows sum peak most ++ 10 ∷ []
+
+-- and how often an adjustment was applied to a bar
+abbrev pub stats_line : ℕ → ℕ → ℕ → ℕ → ℕ → List ℕ
+stats_line rows sum peak most applied = numbers_text rows sum peak most ++ codes " applied=" ++ decimal applied ++ 10 ∷ []

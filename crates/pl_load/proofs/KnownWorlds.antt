@@ -1,0 +1,54 @@
+-- What is known of a world by a session.
+use Rattle.std.proofs.Common.{◌≡◌, ℕ, zero, suc, ◌<◌, ◌≤◌, ℤ, pos, ◌≤ℤ◌, List, [], ◌∷◌, length, take, Option, Some, None, IfSome, option_map, unwrap_or, slice_get, refl, sym, ◌∙◌, ap, arith}
+use Rattle.std.proofs.lemmas.Int.{ints}
+use Rattle.std.proofs.lemmas.List.{length-take}
+use Rattle.pl_spec.specs.AsOf.{as_of}
+use Rattle.pl_spec.specs.Table.{Pipeline}
+use Rattle.pl_spec.specs.World.{World}
+use Rattle.pl_laws.proofs.AsOf.{slice_get-take}
+use Rattle.pl_laws.proofs.Calendars.{SameDays}
+use Rattle.pl_model.specs.Known.{ShowsSame}
+use Rattle.pl_model.specs.Known as model
+use Rattle.pl_model.specs.Worlds.{owned_world, world_of}
+use Rattle.pl_model.specs.declared.owned.OwnedWorld.{OwnedWorld}
+use Rattle.pl_model.specs.declared.world.World as lent
+use Rattle.pl_planner.specs.Plans.{Planned, IsPlanOf}
+use Rattle.pl_planner.proofs.Calendars.{plan-same}
+use Rattle.pl_words.specs.Request.{Dated}
+use Rattle.pl_judge.specs.Range.{IsDateOf, index_asked, index_of}
+use Rattle.pl_load.specs.Loads.{IsKnown, IsKnownBy}
+
+-- the world as of a date, of contents that are those of the parts
+pub world-known : (date : Option Dated) (days : List ℤ) (held : World) (w v : OwnedWorld) (session : Option ℕ) → days ≡ w.sessions → held ≡ owned_world w
+    → session ≡ index_asked w.sessions date → IsDateOf w.sessions session date → IsKnown w session v
+    → unwrap_or (option_map (λ d. as_of held (index_of days d.day) d.day) date) held ≡ owned_world v
+world-known None days held w v None e f k at known = f ∙ sym (ap owned_world known)
+world-known None days held w v (Some s) e f k at known = absurd at
+world-known (Some d) days held w v None e f k at known = absurd at
+world-known (Some d) days held w v (Some s) e f k at known =
+    let place : s ≡ index_of w.sessions d.day = cc in
+    let both : Some known.day ≡ Some d.day = sym known.is_day ∙ at in
+    let day : known.day ≡ d.day = cc in
+    rw (e, f) (sym (known.world ∙ ap (λ n. as_of (owned_world w) n known.day) place ∙ ap (as_of (owned_world w) (index_of w.sessions d.day)) day))
+
+pub shown-same : (w v : OwnedWorld) (session : Option ℕ) (p : Pipeline) (from to : ℕ) → IfSome session (λ d. to ≤ d) → IsKnown w session v → ShowsSame (owned_world v) (owned_world w) p from to
+shown-same w v None p from to last known = rw known record { rows = refl; written = λ format. refl; codes = refl }
+shown-same w v (Some d) p from to last known = known.same p from to (omega (arith, ints))
+
+pub plan-known : (w v : OwnedWorld) (session : Option ℕ) (p : Pipeline) (plan : Planned) → IfSome session (λ d. plan.to ≤ d) → IsKnown w session v → IsPlanOf w.sessions p plan → IsPlanOf v.sessions p plan
+plan-known w v None p plan last known is = rw known is
+plan-known w v (Some d) p plan last known is =
+    let days : v.sessions ≡ take (suc d) w.sessions = ap (λ (x : World). x.days) known.world in
+    let within : plan.to < length (take (suc d) w.sessions) = (let inside = is.within in omega (arith, length-take (suc d) w.sessions)) in
+    let same : SameDays w.sessions (take (suc d) w.sessions) (pos d) = λ i l. sym (slice_get-take w.sessions (suc d) i (omega (arith, ints))) in
+    rw days (plan-same w.sessions (take (suc d) w.sessions) d p plan same last within is)
+
+-- what is known of lent parts, of those that own them
+pub of-lent : (w : OwnedWorld) (l : lent.World) (d : ℕ) (v : OwnedWorld) → l.sessions.now ≡ w.sessions → world_of l ≡ owned_world w → model.IsKnown l d v → model.ShowsSameUpTo l d v → IsKnownBy w d v
+of-lent w l d v days same known shows =
+    record {
+      day = known.day;
+      is_day = ap (λ xs. slice_get xs d) (sym days) ∙ known.is_day;
+      world = known.world ∙ ap (λ x. as_of x d known.day) same;
+      same = λ p from to h. rw (← same) (shows p from to h);
+    }

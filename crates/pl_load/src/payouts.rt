@@ -1,0 +1,49 @@
+// What payouts read and judge.
+ghost use Rattle.std.specs.Prelude.{IfOk, IfErr};
+ghost use Rattle.pl_outside.specs.Counts.{Rose};
+ghost use Rattle.pl_outside.specs.Left.{Leaves};
+ghost use Rattle.pl_words.specs.Views.{payouts_of};
+ghost use Rattle.pl_judge.specs.Stages.{IsRisen};
+ghost use Rattle.pl_load.specs.PaidOut.{IsPayoutsLoad, IsPayable};
+
+use crate::inputs::{read_assets, read_bars, read_payouts, read_sessions};
+use pl_assets::Assets;
+use pl_bars::Bars;
+use pl_calendar::Sessions;
+use pl_judge::Fault;
+use pl_outside::Shelf;
+use pl_payouts::Payouts;
+use pl_words::PayoutsRequest;
+use std::alloc::Global;
+
+/// Payouts, and the sessions, assets and bars by which they are turned into ratios.
+#[derive(Drop)]
+pub struct LoadedPayouts {
+    pub sessions: Sessions,
+    pub assets: Assets,
+    pub bars: Bars,
+    pub payouts: Payouts,
+}
+
+/// All that payouts read and judge, in the order of work.
+pub fn load_payouts<S: Shelf>(
+    alloc: Global,
+    request: &PayoutsRequest<'_>,
+    shelf: &mut S,
+) -> Result<LoadedPayouts, Fault>
+    ensures load { IsPayoutsLoad (S.holds shelf.old) (S.sound shelf.old) (payouts_of request.now) result }
+    ensures payable { IfOk result IsPayable }
+    ensures shelf { Leaves S.holds S.sound S.faults shelf.old shelf.new }
+    ensures risen { IfErr result (IsRisen (Rose (S.faults shelf.old) (S.faults shelf.new)) ⊥) }
+{
+    let sessions = read_sessions(alloc, shelf, request.sessions)?;
+    let assets = read_assets(alloc, shelf, request.assets)?;
+    let bars = read_bars(alloc, shelf, request.bars, &sessions, &assets)?;
+    let payouts = read_payouts(alloc, shelf, request.payouts, &assets)?;
+    Ok(LoadedPayouts {
+        sessions,
+        assets,
+        bars,
+        payouts,
+    })
+}

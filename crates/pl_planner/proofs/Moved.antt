@@ -1,0 +1,42 @@
+-- Sessions that are read by the calendar stay in it, or before it.
+use Rattle.std.proofs.Common.{◌≡◌, ℕ, ℤ, pos, negsuc, ◌<ℤ◌, ◌≤ℤ◌, List, Option, Some, None, option_map, unwrap_or, refl, arith, slice_get}
+use Rattle.std.proofs.lemmas.Int.{ints}
+use Rattle.pl_spec.specs.declared.Frequency.{Frequency}
+use Rattle.pl_spec.specs.Periods.{first_session, period_start}
+use Rattle.pl_spec.specs.Kind.{Kind}
+use Rattle.pl_spec.specs.Kind.Kind.{Constant, Label, StaticSids, Window, Point, LabelTest, Cross, Downsample}
+use Rattle.pl_spec.specs.Graph.{reads_at}
+
+start-in : (f : Frequency) (days : List ℤ) (d : ℤ) → pos 0 ≤ℤ d → pos 0 ≤ℤ period_start f days d
+unfolding period_start
+start-in f days (negsuc d) h = absurd (omega (arith, ints))
+start-in f days (pos d) h = here (slice_get days d)
+  where
+    here : (o : Option ℤ) → pos 0 ≤ℤ unwrap_or (option_map (λ day. pos (first_session f days day)) o) (pos d)
+    here None = omega (arith, ints)
+    here (Some day) = omega (arith, ints)
+
+start-before : (f : Frequency) (days : List ℤ) (d : ℤ) → d <ℤ pos 0 → period_start f days d ≡ d
+unfolding period_start
+start-before f days (negsuc d) h = refl
+start-before f days (pos d) h = absurd (omega (arith, ints))
+
+pub late-still : (days : List ℤ) (k : Kind) (d : ℤ) → pos 0 ≤ℤ d → pos 0 ≤ℤ reads_at days k d
+late-still days (Constant cell) d h = h
+late-still days (Label n) d h = h
+late-still days (StaticSids sids) d h = h
+late-still days (Window k) d h = h
+late-still days (Point k) d h = h
+late-still days (LabelTest k) d h = h
+late-still days (Cross k) d h = h
+late-still days (Downsample f) d h = start-in f days d h
+
+pub early-still : (days : List ℤ) (k : Kind) (d : ℤ) → d <ℤ pos 0 → reads_at days k d ≡ d
+early-still days (Constant cell) d h = refl
+early-still days (Label n) d h = refl
+early-still days (StaticSids sids) d h = refl
+early-still days (Window k) d h = refl
+early-still days (Point k) d h = refl
+early-still days (LabelTest k) d h = refl
+early-still days (Cross k) d h = refl
+early-still days (Downsample f) d h = start-before f days d h

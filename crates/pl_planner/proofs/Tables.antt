@@ -1,0 +1,132 @@
+-- The extra sessions of a range, row by row.
+use Rattle.std.proofs.Common.{◌≡◌, ℕ, zero, suc, ◌+◌, ◌-◌, ◌*◌, ◌/◌, ◌%◌, ◌<◌, ◌≤◌, true, false, Bool, max, ℤ, List, [], ◌∷◌, ◌++◌, length, map, fold, get_or, refl, sym, ◌∙◌, ap, subst, arith, inl, inr, length-append}
+use Rattle.std.proofs.lemmas.Bool.{cases_lt}
+use Rattle.std.proofs.lemmas.Nat.{mul-le, div-add-mod'}
+use Rattle.std.proofs.lemmas.List.{get_or_append_left, get_or-append-add}
+use Rattle.pl_spec.specs.Term.{Graph}
+use Rattle.pl_planner.specs.declared.uses.Use.{Use}
+use Rattle.pl_planner.specs.Uses.{use_at, AreUses, HaveExtras}
+use Rattle.pl_planner.specs.Rows.{extra_in, extra_at, IsRow, AreRows, most_extra}
+
+-- ---- places
+
+pub place-within : (i c t n : ℕ) → i < c → t < n → i * n + t < c * n
+place-within i c t n h l =
+    let whole : (i + 1) * n ≤ c * n = mul-le (i + 1) n c n (omega arith) (omega arith) in
+    let more : (i + 1) * n ≡ i * n + n = omega arith in
+    omega arith
+
+row-long : (us : List Use) → length (map extra_in us) ≡ length us
+row-long [] = refl
+row-long (u ∷ us) = ap suc (row-long us)
+
+row-at : (us : List Use) (t : ℕ) → t < length us → get_or (map extra_in us) t 0 ≡ extra_in (use_at us t)
+row-at [] t h = absurd (omega arith)
+row-at (u ∷ us) zero h = refl
+row-at (u ∷ us) (suc t) h = row-at us t (omega arith)
+
+module _ (days : List ℤ) (g : Graph) (outs : List ℕ) (from : ℕ) where
+  pub no-rows : AreRows days g outs from 0 []
+  no-rows = record { size = (let z : 0 ≡ 0 * length g = omega arith in z); rows = λ i h. absurd (omega arith) }
+
+  -- one session more
+  pub rows-more : (n : ℕ) (extras after : List ℕ) (uses : List Use) → AreRows days g outs from n extras → AreUses g outs uses → HaveExtras days (from + n) g outs uses
+      → after ≡ extras ++ map extra_in uses → AreRows days g outs from (n + 1) after
+  rows-more n extras after uses rows are have e =
+      let long : length (map extra_in uses) ≡ length g = row-long uses ∙ are.size in
+      let more : (n + 1) * length g ≡ n * length g + length g = omega arith in
+      record {
+        size = ap length e ∙ length-append extras (map extra_in uses) ∙ (let a = rows.size in omega arith);
+        rows = λ i h. elim (cases_lt i n) [
+          | inl p ↦ (let r = rows.rows i p in record {
+            uses = r.uses;
+            are = r.are;
+            have = r.have;
+            is = λ t l. (let inside = place-within i n t (length g) p l in let a = rows.size in
+                ap (λ xs. get_or xs (i * length g + t) 0) e ∙ get_or_append_left extras (map extra_in uses) 0 (i * length g + t) (omega arith) ∙ r.is t l);
+          })
+          | inr p ↦ (let same : i ≡ n = omega arith in record {
+            uses = uses;
+            are = are;
+            have = subst (λ k. HaveExtras days (from + k) g outs uses) (sym same) have;
+            is = λ t l. (let a = rows.size in
+                ap (λ xs. get_or xs (i * length g + t) 0) e ∙ ap (λ k. get_or (extras ++ map extra_in uses) (k * length g + t) 0) same
+                ∙ ap (λ k. get_or (extras ++ map extra_in uses) (k + t) 0) (sym a) ∙ get_or-append-add extras (map extra_in uses) t 0 ∙ row-at uses t (let z = are.size in omega arith));
+          })
+        ];
+      }
+
+  pub next-row : (session : ℕ) (extras after : List ℕ) (uses lent : List Use) → from ≤ session → AreRows days g outs from (session - from) extras
+      → AreUses g outs uses → HaveExtras days session g outs uses → after ≡ extras ++ map extra_in lent → lent ≡ uses → AreRows days g outs from (session + 1 - from) after
+  next-row session extras after uses lent l rows are have e same =
+      let here : session ≡ from + (session - from) = omega arith in
+      let more : (session - from) + 1 ≡ session + 1 - from = omega arith in
+      subst (λ n. AreRows days g outs from n after) more
+      (rows-more (session - from) extras after uses rows are (subst (λ d. HaveExtras days d g outs uses) here have) (e ∙ ap (λ us. extras ++ map extra_in us) same))
+
+-- ---- the greatest number
+
+most-least : (xs : List ℕ) (a : ℕ) → a ≤ fold max a xs
+most-least [] a = omega arith
+most-least (x ∷ xs) a = let h = most-least xs (max a x) in omega arith
+
+most-each : (xs : List ℕ) (a i : ℕ) → i < length xs → get_or xs i 0 ≤ fold max a xs
+most-each [] a i h = absurd (omega arith)
+most-each (x ∷ xs) a zero h = let l = most-least xs (max a x) in omega arith
+most-each (x ∷ xs) a (suc i) h = most-each xs (max a x) i (omega arith)
+
+record Reached (xs : List ℕ) (n : ℕ) : Type 0 where
+  place : ℕ
+  within : place < length xs
+  is : get_or xs place 0 ≡ n
+
+most-reached : (xs : List ℕ) (a : ℕ) → a < fold max a xs → Reached xs (fold max a xs)
+most-reached [] a h = absurd (omega arith)
+most-reached (x ∷ xs) a h = elim (cases_lt (max a x) (fold max (max a x) xs)) [
+  | inl p ↦ (let r = most-reached xs (max a x) p in record { place = suc r.place; within = (let w = r.within in omega arith); is = r.is })
+  | inr p ↦ (let l = most-least xs (max a x) in record { place = 0; within = omega arith; is = omega arith })
+]
+
+-- it stands in a row, for a term
+pub record ReachedAt (extras : List ℕ) (count terms n : ℕ) : Type 0 where
+  pub row : ℕ
+  pub term : ℕ
+  pub in_rows : row < count
+  pub in_terms : term < terms
+  pub is : extra_at extras terms row term ≡ n
+
+pub most-at : (extras : List ℕ) (count terms : ℕ) → length extras ≡ count * terms → 0 < most_extra extras → ReachedAt extras count terms (most_extra extras)
+most-at extras count terms size h =
+    let r : Reached extras (most_extra extras) = most-reached extras 0 h in
+    let p = r.within in
+    let d : r.place / terms * terms + r.place % terms ≡ r.place = div-add-mod' r.place terms in
+    found terms size r.place (omega arith) r.is
+  where
+    found : (terms : ℕ) → length extras ≡ count * terms → (p : ℕ) → p < count * terms → get_or extras p 0 ≡ most_extra extras → ReachedAt extras count terms (most_extra extras)
+    found zero size p l e = let z : count * zero ≡ 0 = omega arith in absurd (omega arith)
+    found (suc terms) size p l e =
+        let d : p / suc terms * suc terms + p % suc terms ≡ p = div-add-mod' p (suc terms) in
+        record {
+          row = p / suc terms;
+          term = p % suc terms;
+          in_rows = elim (cases_lt (p / suc terms) count) [
+            | inl q ↦ q
+            | inr q ↦ (let m : count * suc terms ≤ p / suc terms * suc terms = mul-le count (suc terms) (p / suc terms) (suc terms) q (omega arith) in absurd (omega arith))
+          ];
+          in_terms = omega arith;
+          is = ap (λ k. get_or extras k 0) d ∙ e;
+        }
+
+pub most-in : (extras : List ℕ) (count terms i t : ℕ) → length extras ≡ count * terms → i < count → t < terms → extra_at extras terms i t ≤ most_extra extras
+most-in extras count terms i t size h l = most-each extras 0 (i * terms + t) (let w = place-within i count t terms h l in omega arith)
+
+-- a used term's number
+pub extra-used : (u : Use) → u.used ≡ true → extra_in u ≡ u.extra
+extra-used u e = rw e refl
+
+pub extra-some : (u : Use) (n : ℕ) → 0 < n → extra_in u ≡ n → (u.used ≡ true) × (u.extra ≡ n)
+extra-some u n h e = here u.used refl
+  where
+    here : (b : Bool) → u.used ≡ b → (u.used ≡ true) × (u.extra ≡ n)
+    here true f = (f, rw f at e)
+    here false f = let z : 0 ≡ n = rw f at e in absurd (omega arith)

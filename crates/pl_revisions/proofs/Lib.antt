@@ -1,0 +1,3 @@
+pub mod RevisionFields
+pub mod RevisionKeys
+pub mod RevisionsRead

@@ -1,0 +1,27 @@
+# Completions for bash: source this file, or put it into /etc/bash_completion.d.
+_tohmeril() {
+    local word=${COMP_WORDS[COMP_CWORD]} before=${COMP_WORDS[COMP_CWORD - 1]} command=${COMP_WORDS[1]-}
+    COMPREPLY=()
+    if [ "$COMP_CWORD" -eq 1 ]; then
+        mapfile -t COMPREPLY < <(compgen -W "run plan check fmt payouts bench" -- "$word")
+        return
+    fi
+    case $before in
+        --format)
+            mapfile -t COMPREPLY < <(compgen -W "csv fixed" -- "$word")
+            return
+            ;;
+        --chunk | --asof) return ;;
+    esac
+    if [[ $word == -* ]]; then
+        local options=
+        case $command in
+            run) options="--labels --adjustments --chunk --format --stats --asof" ;;
+            bench) options="--chunk" ;;
+        esac
+        mapfile -t COMPREPLY < <(compgen -W "$options" -- "$word")
+        return
+    fi
+    mapfile -t COMPREPLY < <(compgen -f -- "$word")
+}
+complete -o filenames -F _tohmeril tohmeril ./tohmeril
