@@ -1,5 +1,5 @@
 -- A filter is worth 0 or 1.
-use Rattle.std.proofs.Common.{◌≡◌, ℕ, Bool, true, false, if◌then◌else◌, ℤ, pos, List, [], refl, ◌∙◌, slice_get, ◌==◌, inl, inr, ◌&&◌}
+use Rattle.std.proofs.Common.{◌≡◌, ℕ, Bool, true, false, if◌then◌else◌, ℤ, pos, List, [], Some, refl, ◌∙◌, slice_get, ◌==◌, inl, inr, ◌&&◌}
 use Rattle.std.specs.List.{list_any}
 use Rattle.pl_spec.specs.World.{World, exists}
 use Rattle.pl_spec.specs.Kind.{Kind, WindowKind, PointKind, LabelKind, CrossKind}
@@ -14,8 +14,9 @@ use Rattle.pl_spec.specs.Term.{input_tree, trees}
 use Rattle.pl_spec.specs.Value.{Value, Part, now, passes, eligible, group_of, test_value, empty, number_of, sort_over, sort_kind, step}
 use Rattle.pl_spec.specs.Value.Value.{Number, Text}
 use Rattle.pl_spec.specs.NodeValue.{node_value, input_part, number_part}
-use Rattle.pl_spec.specs.Table.{value_of, in_array}
-use Rattle.pl_terms.specs.Sorts.{Factors, Filters, Labels, Numbers, sort_of, window_sort, point_sort, cross_sort}
+use Rattle.pl_spec.specs.Table.{Pipeline, value_of, in_array}
+use Rattle.pl_terms.specs.Checked.{IsChecked}
+use Rattle.pl_terms.specs.Sorts.{Factors, Filters, Labels, Numbers, sort_of, sort_at, window_sort, point_sort, cross_sort}
 use Rattle.pl_lanes.specs.Flags.{IsFlag}
 use Rattle.pl_cross.specs.Arrays.{sid_in}
 use Rattle.pl_values.specs.Arrays.{cell_of}
@@ -123,15 +124,18 @@ truth_flag false = inl refl
 value_flag : (texts : List (List ℕ)) (v : Value) → IsTruth v → IsFlag (in_array texts v)
 value_flag texts v t = let e = t.1 in rw e (truth_flag t.0)
 
+-- a filter is worth a flag, on any session
+pub filter-flag : (w : World) (p : Pipeline) (t a : ℕ) (d : ℤ) → IsChecked p → sort_at p.graph t ≡ Some Filters → IsFlag (in_array w.texts (value_of w p t a d))
+filter-flag w p t a d ok h =
+    let m = sort-node p.graph t Filters h in
+    let n = m.0 in
+    let whole : IsTruth (node_value w p.names p.graph n a d) = either_truth
+    (exists w a d && passes (number_part w p.names p.graph n.mask) a d) _ (empty (sort_over n.kind (sort_kind (input_tree (trees p.graph) (slice_get n.inputs 0)))))
+    (step_truth w p.names n.kind n.window (input_part w p.names p.graph (slice_get n.inputs 0)) (input_part w p.names p.graph (slice_get n.inputs 1)) (input_part w p.names p.graph (slice_get n.inputs 2))
+    (number_part w p.names p.graph n.mask) (number_part w p.names p.graph n.group) a d m.2)
+    (empty_truth n.kind (sort_kind (input_tree (trees p.graph) (slice_get n.inputs 0))) m.2) in
+    value_flag w.texts (value_of w p t a d) (whole.0, value-node w p ok t n m.1 a d ∙ whole.1)
+
 pub filter-cell : FilterCells
 unfolding cell_of
-filter-cell w p sids t i s ok h =
-    let m = sort-node p.graph t Filters h in
-    let a = sid_in sids i in
-    let n = m.0 in
-    let whole : IsTruth (node_value w p.names p.graph n a (pos s)) = either_truth
-    (exists w a (pos s) && passes (number_part w p.names p.graph n.mask) a (pos s)) _ (empty (sort_over n.kind (sort_kind (input_tree (trees p.graph) (slice_get n.inputs 0)))))
-    (step_truth w p.names n.kind n.window (input_part w p.names p.graph (slice_get n.inputs 0)) (input_part w p.names p.graph (slice_get n.inputs 1)) (input_part w p.names p.graph (slice_get n.inputs 2))
-    (number_part w p.names p.graph n.mask) (number_part w p.names p.graph n.group) a (pos s) m.2)
-    (empty_truth n.kind (sort_kind (input_tree (trees p.graph) (slice_get n.inputs 0))) m.2) in
-    value_flag w.texts (value_of w p t a (pos s)) (whole.0, value-node w p ok t n m.1 a (pos s) ∙ whole.1)
+filter-cell w p sids t i s ok h = filter-flag w p t (sid_in sids i) (pos s) ok h
