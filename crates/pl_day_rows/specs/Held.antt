@@ -1,5 +1,6 @@
 -- What is held of a term stands for the days that were fed.
-use Rattle.std.specs.Prelude.{◌≡◌, ℕ, ◌<◌, ℤ, pos, List, [], ◌∷◌, length, map, get_or}
+use Rattle.std.specs.Prelude.{◌≡◌, ℕ, ◌<◌, ℤ, pos, List, [], ◌∷◌, length, map, get_or, All}
+use Rattle.pl_spec.specs.Rounding.{IsCell}
 use Rattle.pl_spec.specs.Table.{Pipeline}
 use Rattle.pl_spec.specs.Window.{before, downward}
 use Rattle.pl_values.specs.Arrays.{empty_cell}
@@ -9,9 +10,10 @@ use Rattle.pl_day_rows.specs.declared.turn.TermCells.{TermCells}
 use Rattle.pl_day_rows.specs.Rows.{sids_of}
 use Rattle.pl_day_rows.specs.Turns.{cell_on}
 
--- the row is full, and so are the rings where there are some
+-- the row is full of cells, and so are the rings where there are some
 pub record AreTermCells (assets : ℕ) (t : TermCells) : Type 0 where
   pub row : length t.row.items ≡ assets
+  pub cells : All IsCell t.row.items
   pub rings : 0 < t.rings.capacity → AreRings assets t.rings.capacity t.rings.rings.items
 
 -- the row has the term's cells on the last day, and the rings those of the last sessions up to it; without a day

@@ -8,7 +8,8 @@ ghost use Rattle.pl_cross.specs.Listing.{labels_in};
 ghost use Rattle.pl_values.specs.Arrays.{empty_cell};
 ghost use Rattle.pl_values.specs.Families.{is_label_test, is_point, is_sids};
 ghost use Rattle.pl_day_rows.specs.Rows.{input_row};
-ghost use Rattle.pl_day_rows.specs.Turns.{IsAlways, IsKept, IsTurn, Moment, assets_at, node_at, number_row, pipeline_at};
+ghost use Rattle.pl_day_rows.specs.Turns.{IsAlways, IsKept, IsTurn, Moment, assets_at, node_at};
+ghost use Rattle.pl_day_rows.specs.Turns.{number_row, pipeline_at};
 
 use crate::leaves::{constant_row, label_row, label_test_row, point_row, sids_row};
 use crate::node::{group_of, input_at, kind_of};

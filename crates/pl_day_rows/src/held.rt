@@ -8,8 +8,8 @@ use pl_fixed::Memory;
 use pl_rings::{Rings, push_row};
 use std::alloc::Global;
 
-/// What is held of a term before the first day, whose empty value is `none`. The capacity is that of its rings,
-/// 0 where no window is over it.
+/// What is held of a term before the first day, whose empty value is `none`. The capacity is that of its
+/// rings, 0 where no window is over it.
 pub fn begin_term(
     alloc: Global,
     assets: usize,

@@ -145,8 +145,8 @@ pub(crate) fn point_row(
     requires operands { AreOperands (kind_of kind.now) first.now second.now third.now (length out.old) }
     requires none { IsCell none }
     requires long { length out.old ≡ length keep.now }
-    ensures { Shows (λ i. operation (kind_of kind.now) (get_or first.now i (pos 0)) (get_or second.now i (pos 0))
-        (get_or third.now i (pos 0))) none keep.now out.new }
+    ensures { Shows (λ i. operation (kind_of kind.now) (get_or first.now i (pos 0))
+        (get_or second.now i (pos 0)) (get_or third.now i (pos 0))) none keep.now out.new }
 {
     pointwise(kind, first, second, third, out);
     keep_values(keep, none, out);

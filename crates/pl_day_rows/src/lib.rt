@@ -1,6 +1,6 @@
 //! The values of a term on a day, one for each asset, over the rings of bar columns and what is held of the
-//! terms that it mentions. No world is lent: what is given holds in every world and on every session for which
-//! rings and rows stand.
+//! terms that it mentions. No world is lent: what is given holds in every world and on every session for
+//! which rings and rows stand.
 #![tactic(auto)]
 
 mod families;

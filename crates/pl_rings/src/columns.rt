@@ -26,8 +26,8 @@ pub struct BarRings {
     pub row: Vec<i64>,
 }
 
-// What a day makes of the rings of a column. The days are those of the sessions of the rings' cells, and the row
-// is for the day's bars.
+// What a day makes of the rings of a column. The days are those of the sessions of the rings' cells, and the
+// row is for the day's bars.
 fn advance_rings<L: Ledger>(
     rings: &mut [HeapCircularBuffer<i64>],
     days: &[i32],

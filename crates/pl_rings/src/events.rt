@@ -95,8 +95,8 @@ fn take_event<L: Ledger>(
     change_cells(ring.make_contiguous(), days, fed, event, column, steps);
 }
 
-/// What a day's events make of the rings of a column, in their order. The days are those of the sessions of the
-/// rings' cells, of which the last ones were fed.
+/// What a day's events make of the rings of a column, in their order. The days are those of the sessions of
+/// the rings' cells, of which the last ones were fed.
 pub(crate) fn take_events<L: Ledger>(
     rings: &mut [HeapCircularBuffer<i64>],
     days: &[i32],

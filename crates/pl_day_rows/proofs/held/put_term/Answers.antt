@@ -1,4 +1,5 @@
-use Rattle.std.proofs.Common.{◌≡◌, ◌<◌, ◌++◌, length, take, drop, get_or, pos, ap, sym, refl, ◌∙◌, arith, subst, List}
+use Rattle.std.proofs.Common.{◌≡◌, ◌<◌, ◌++◌, length, take, drop, get_or, pos, ap, sym, refl, ◌∙◌, arith, subst, List, All}
+use Rattle.pl_spec.specs.Rounding.{IsCell}
 use Rattle.pl_rings.specs.Changes.{Ring, AreRings, pushed, ring_at}
 use Rattle.pl_rings.proofs.Advances.{vec_back, rings_pushed}
 use Rattle.pl_day_rows.specs.declared.turn.TermCells.{TermCells}
@@ -26,6 +27,7 @@ returns-then-cells-gt0-clause-cells c =
     subst (AreRings (length c.args.row.now) old.rings.capacity) (sym c.deref_mut-then-cells-gt0.ensures.value) (c.requires.cells.rings c.if-cells-gt0.true) in
     record {
       row = ap length is;
+      cells = subst (All IsCell) (sym is) c.requires.row;
       rings = λ some. subst (AreRings (length c.args.row.now) old.rings.capacity) (sym back)
           (rings_pushed old.rings.capacity c.deref_mut-then-cells-gt0.result.now c.push_row.new.rings c.args.row.now c.push_row.ensures.count lent refl c.requires.row c.push_row.ensures.each);
     }
