@@ -16,8 +16,6 @@ mod check_tests;
 #[cfg(test)]
 mod cross_tests;
 #[cfg(test)]
-mod exec_tests;
-#[cfg(test)]
 mod factors_tests;
 #[cfg(test)]
 mod filters_tests;
