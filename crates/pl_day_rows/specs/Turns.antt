@@ -1,5 +1,5 @@
 -- One term on a day, in a world in which the day is a session.
-use Rattle.std.specs.Prelude.{◌≡◌, ℕ, ◌<◌, ◌≤◌, Bool, true, ℤ, pos, List, [], ◌∷◌, length, map, Option, Some, None, slice_get, option_map, AllPairs}
+use Rattle.std.specs.Prelude.{◌≡◌, ℕ, ◌<◌, ◌≤◌, Bool, true, ℤ, pos, List, [], ◌∷◌, length, map, Option, Some, None, slice_get, AllPairs}
 use Rattle.pl_spec.specs.Term as spec
 use Rattle.pl_spec.specs.Term.Input.{BarColumn, TermInput}
 use Rattle.pl_spec.specs.declared.Column.{Column}
@@ -18,7 +18,7 @@ use Rattle.pl_rings.specs.Changes.{AreRings, ring_at}
 use Rattle.pl_rings.specs.Columns.{rings_of}
 use Rattle.pl_day_rows.specs.declared.turn.TermCells.{TermCells}
 use Rattle.pl_day_rows.specs.declared.turn.Turn.{Turn}
-use Rattle.pl_day_rows.specs.Rows.{capacity_of, is_kept_by, lives_at, rings_in, ring_window, row_of, sids_of}
+use Rattle.pl_day_rows.specs.Rows.{capacity_of, is_kept_by, lives_at, rings_in, row_of, sids_of}
 
 -- a session of a world
 pub record Moment : Type 0 where
