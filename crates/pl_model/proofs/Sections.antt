@@ -47,7 +47,7 @@ kept_ones p q (x ∷ xs) h = here (p x) refl (kept_ones p q xs (λ i a e. h (suc
     here true e ih = let f : q x.sid ≡ true = h 0 x refl ∙ e in rw (e, f, ih) refl
     here false e ih = let f : q x.sid ≡ false = h 0 x refl ∙ e in rw (e, f, ih) refl
 
-all_there : (w : SpecWorld) (s : ℕ) → AllPairs (λ x y. x.sid < y.sid) w.assets → HasAll w (map (λ a. a.sid) w.assets) s
+pub all_there : (w : SpecWorld) (s : ℕ) → AllPairs (λ x y. x.sid < y.sid) w.assets → HasAll w (map (λ a. a.sid) w.assets) s
 all_there w s up = here (day_of w (pos s)) refl
   where
     here : (o : Option ℤ) → day_of w (pos s) ≡ o → HasAll w (map (λ a. a.sid) w.assets) s
