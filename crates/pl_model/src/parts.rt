@@ -82,13 +82,7 @@ pub(crate) fn bars_before<L: Ledger>(
 }
 
 /// The code of the asset's label under a name of the pipeline.
-pub fn label_cell(
-    world: &World,
-    checked: &Checked,
-    name: u32,
-    col: usize,
-    session: usize,
-) -> i64
+pub fn label_cell(world: &World, checked: &Checked, name: u32, col: usize, session: usize) -> i64
     requires made { IsMade world.now }
     requires name { name < length checked.now.names }
     requires col { col < length world.now.assets.now }

@@ -1,11 +1,11 @@
 -- What a cross-section rests on: its mask, its group and its input, each for all assets that exist.
-use Rattle.std.proofs.Common.{◌≡◌, ℕ, zero, suc, ◌+◌, ◌<◌, Bool, true, false, ◌&&◌, if◌then◌else◌, cond, ℤ, pos, List, [], ◌∷◌, ◌++◌, map, flat_map, filter, length, Option, Some, None, option_map, slice_get, refl, sym, ◌∙◌, ap, subst, arith, inl, inr, append-nil}
+use Rattle.std.proofs.Common.{◌≡◌, ℕ, zero, suc, ◌+◌, ◌<◌, Bool, true, false, ◌&&◌, if◌then◌else◌, cond, ℤ, List, [], ◌∷◌, ◌++◌, map, flat_map, filter, length, Some, None, slice_get, refl, sym, ◌∙◌, ap, arith, inl, inr}
 use Rattle.std.specs.List.{list_all}
 use Rattle.std.proofs.lemmas.Bool.{cases_lt}
 use Rattle.std.proofs.lemmas.List.Folds.{list_all-append}
 use Rattle.pl_spec.specs.declared.AssetRow.{AssetRow}
 use Rattle.pl_spec.specs.Parts.{sid_at}
-use Rattle.pl_spec.specs.World.{World, exists, living_sids}
+use Rattle.pl_spec.specs.World.{World, exists}
 use Rattle.pl_spec.specs.Term.{Node}
 use Rattle.pl_spec.specs.Term.Input.{TermInput}
 use Rattle.pl_facts.specs.Facts.{Fact, number_facts, facts_now, over_inputs, entry_facts}

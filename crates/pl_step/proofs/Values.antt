@@ -1,5 +1,5 @@
 -- The premises of a value, and what its kind reads.
-use Rattle.std.proofs.Common.{◌≡◌, ℕ, ◌+◌, ◌<◌, ◌≤◌, Bool, true, false, ◌&&◌, if◌then◌else◌, ℤ, pos, List, [], ◌∷◌, ◌++◌, map, flat_map, length, Option, Some, None, option_map, unwrap_or, slice_get, refl, sym, ◌∙◌, ap, subst, arith, append-nil, IfSome}
+use Rattle.std.proofs.Common.{◌≡◌, ℕ, ◌+◌, ◌<◌, ◌≤◌, Bool, true, false, ◌&&◌, ℤ, pos, List, [], ◌∷◌, ◌++◌, map, flat_map, length, Option, Some, None, option_map, unwrap_or, slice_get, refl, sym, ◌∙◌, ap, subst, arith, append-nil, IfSome}
 use Rattle.std.proofs.lemmas.Option.{slice_get_within}
 use Rattle.pl_spec.specs.World.{World as SpecWorld, exists, living_sids}
 use Rattle.pl_spec.specs.Kind as kinds
@@ -7,7 +7,7 @@ use Rattle.pl_spec.specs.Kind.{Kind}
 use Rattle.pl_spec.specs.Term as spec
 use Rattle.pl_spec.specs.Value.{passes, holds}
 use Rattle.pl_spec.specs.NodeValue.{number_part}
-use Rattle.pl_spec.specs.Table.{Pipeline, value_of}
+use Rattle.pl_spec.specs.Table.{Pipeline}
 use Rattle.pl_spec.specs.Term.{IsGraph}
 use Rattle.pl_terms.specs.declared.node.TermId.{TermId}
 use Rattle.pl_terms.specs.declared.node.Input.{Input}
@@ -31,7 +31,6 @@ use Rattle.pl_facts.specs.Facts.Fact.{Worth}
 use Rattle.pl_facts.proofs.Codes.{from_code}
 use Rattle.pl_model.specs.declared.world.World.{World}
 use Rattle.pl_model.specs.Worlds.{world_of}
-use Rattle.pl_model.specs.Evaluations.{IsKept, as_input, lets_pass, input_cell_in}
 use Rattle.pl_model.proofs.Asked.{inputs-at}
 use Rattle.pl_model.proofs.Evaluated.{kept-mask, windowed-is, point-is, label-test-is, section-is, sids-is}
 use Rattle.pl_step.specs.Given.{mask_passes, facts_read, IsEarly}

@@ -6,7 +6,6 @@ use Rattle.pl_spec.specs.World as spec
 use Rattle.pl_spec.specs.World.{living_sids, exists}
 use Rattle.pl_spec.specs.Window.{Effect, changed}
 use Rattle.pl_spec.specs.Table.{Pipeline}
-use Rattle.pl_spec.specs.Value.{passes}
 use Rattle.pl_terms.specs.declared.node.Input.{Input}
 use Rattle.pl_terms.specs.declared.node.TermId.{TermId}
 use Rattle.pl_terms.specs.declared.node.Node.{Node}

@@ -111,7 +111,9 @@ pub(crate) fn window_told(
 {
     match input {
         None => Ok(Some(Vec::new(alloc))),
-        Some(Input::Column(column)) => bars_told(alloc, world, checked, told, column, size, col, session),
+        Some(Input::Column(column)) => bars_told(
+            alloc, world, checked, told, column, size, col, session,
+        ),
         Some(Input::Term(u)) => cells_told(alloc, world, checked, told, u, size, col, session),
     }
 }
@@ -143,7 +145,12 @@ fn bars_told(
     let sid = world.assets.sid(col);
     let mut cells = Vec::new(alloc);
     for bar in session - size..session {
-        match told.number(Fact::Seen { column, sid, bar: bar as u32, session: session as u32 }) {
+        match told.number(Fact::Seen {
+            column,
+            sid,
+            bar: bar as u32,
+            session: session as u32,
+        }) {
             None => return Ok(None),
             Some(cell) => cells.push(cell)?,
         }

@@ -1,8 +1,8 @@
 -- One fact more that is told, and one row more that is kept.
-use Rattle.std.proofs.Common.{◌≡◌, ℕ, ◌+◌, ◌*◌, Bool, true, false, ◌&&◌, if◌then◌else◌, cond, ℤ, List, Option, Some, None, option_map, refl, sym, ◌∙◌, ap, nat_eq, ◌==◌, Vec, Global}
+use Rattle.std.proofs.Common.{◌≡◌, ℕ, ◌+◌, ◌*◌, Bool, true, false, ◌&&◌, if◌then◌else◌, cond, ℤ, Option, Some, None, option_map, refl, sym, ◌∙◌, ap, nat_eq, ◌==◌, Vec, Global}
 use Rattle.std.specs.Option.{option_and_then}
 use Rattle.std.specs.HashMap.{get}
-use Rattle.std.proofs.lemmas.Bool.{true≢false, eqb-true, eq-eqb, and_parts, and_from, cases_Bool}
+use Rattle.std.proofs.lemmas.Bool.{true≢false, eqb-true, eq-eqb, and_parts, and_from}
 use Rattle.pl_facts.specs.Facts.{Fact, same_fact}
 use Rattle.pl_facts.proofs.Truths.{same_is, is_same}
 use Rattle.pl_told.specs.declared.told.Told.{Told}

@@ -1,5 +1,5 @@
 -- The facts of the code by the definitions, and a number for each fact.
-use Rattle.std.specs.Prelude.{ℕ, ◌+◌, ◌*◌, nat_lt, Bool, ◌&&◌, if◌then◌else◌, ℤ, pos, Option, Some, None}
+use Rattle.std.specs.Prelude.{ℕ, ◌+◌, ◌*◌, nat_lt, Bool, ◌&&◌, if◌then◌else◌, pos, Option, Some, None}
 use Rattle.pl_spec.specs.World.{column_number}
 use Rattle.pl_facts.specs.Facts as spec
 use Rattle.pl_told.specs.declared.fact.Fact.{Fact}

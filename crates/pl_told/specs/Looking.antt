@@ -1,5 +1,5 @@
 -- What is told of facts, and the rows that are kept.
-use Rattle.std.specs.Prelude.{ℕ, ◌+◌, ◌*◌, ◌&&◌, if◌then◌else◌, ℤ, List, Option, Some, None, option_map, option_and_then, nat_eq}
+use Rattle.std.specs.Prelude.{ℕ, ◌+◌, ◌*◌, if◌then◌else◌, ℤ, List, Option, Some, None, option_map, option_and_then, nat_eq}
 use Rattle.std.specs.HashMap.{get}
 use Rattle.pl_facts.specs.Facts.{Fact}
 use Rattle.pl_told.specs.declared.told.Told.{Told}

@@ -1,4 +1,4 @@
-use Rattle.std.proofs.Common.{◌≡◌, ℤ, pos, List, Some, All, slice_get, get_or, ◌∙◌, sym, ap, rules, length, option_map, subst, arith}
+use Rattle.std.proofs.Common.{◌≡◌, ℤ, List, Some, All, slice_get, ◌∙◌, sym, ap, length, option_map, subst, arith}
 use Rattle.std.proofs.lemmas.Grind.{common_steps}
 use Rattle.pl_spec.specs.Rounding.{IsCell, MISSING}
 use Rattle.pl_spec.specs.Cross.{at}

@@ -1,9 +1,9 @@
-use Rattle.std.proofs.Common.{◌≡◌, ◌+◌, ◌∙◌, sym, ap, refl, drop, rules, w32, w64, FitsSigned}
+use Rattle.std.proofs.Common.{◌+◌, refl, drop, rules, w32, w64, FitsSigned}
 use Rattle.std.proofs.lemmas.Int.{to_z-of_z}
 use Rattle.pl_spec.specs.Window.{effect}
 use Rattle.pl_adjust.proofs.Folds.{put_at}
 use Rattle.pl_adjust.specs.Events.{effects_of, event_of}
-use Rattle.pl_step.proofs.Growing.{IsGrown, grown-by, grown-all, left-from, left-end}
+use Rattle.pl_step.proofs.Growing.{grown-by, grown-all, left-from, left-end}
 use Rattle.pl_step.proofs.bars.after_each.Goals as goal
 
 pub push_changed-requires-clause-put : goal.push_changed-requires-clause-put

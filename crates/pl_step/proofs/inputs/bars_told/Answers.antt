@@ -1,19 +1,16 @@
-use Rattle.std.proofs.Common.{◌≡◌, ◌+◌, ◌-◌, ◌<◌, ◌≤◌, ◌++◌, ◌∷◌, [], ◌∙◌, true, false, None, Some, pos, map, All, ap, sym, refl, subst, arith, rules, w64, FitsSigned}
+use Rattle.std.proofs.Common.{◌≡◌, ◌-◌, ◌≤◌, ◌++◌, ◌∷◌, [], ◌∙◌, None, Some, pos, map, ap, sym, refl, arith, rules, w64, FitsSigned}
 use Rattle.std.specs.List.{range_with_len}
-use Rattle.std.proofs.lemmas.Int.{to_z-of_z}
 use Rattle.pl_spec.specs.Rounding.{IsCell}
 use Rattle.pl_spec.specs.Parts.{sid_at}
 use Rattle.pl_spec.specs.Window.{seen_cell, bar_window}
 use Rattle.pl_spec.specs.Term.Input.{BarColumn}
 use Rattle.pl_spec.proofs.Windows.{bar_window-sessions}
-use Rattle.pl_terms.specs.Checked.{pipeline_of}
 use Rattle.pl_facts.specs.Facts.{window_facts}
 use Rattle.pl_facts.specs.Facts.Fact.{Seen}
 use Rattle.pl_told.specs.Looking.{look}
 use Rattle.pl_model.specs.Worlds.{world_of}
 use Rattle.pl_model.proofs.Evaluated.{sid-of}
 use Rattle.pl_model.proofs.Windowing.{cells-more, all-more}
-use Rattle.pl_step.specs.Given.{has}
 use Rattle.pl_step.proofs.Given.{refused, accepted, has-none, has-some}
 use Rattle.pl_step.proofs.Facts.{bars-run, bars-early, run-told, run-lacks, run-more}
 use Rattle.pl_step.proofs.inputs.bars_told.Goals as goal

@@ -1,6 +1,4 @@
-use Rattle.std.proofs.Common.{◌≡◌, ◌+◌, ◌-◌, ◌<◌, ◌≤◌, ◌++◌, ◌∷◌, [], ◌∙◌, true, false, None, Some, pos, map, All, ap, sym, refl, subst, arith, rules, w64, FitsSigned}
-use Rattle.std.specs.List.{range_with_len}
-use Rattle.std.proofs.lemmas.Int.{to_z-of_z}
+use Rattle.std.proofs.Common.{◌≡◌, ◌+◌, ◌-◌, ◌≤◌, ◌++◌, ◌∷◌, [], None, Some, pos, refl, arith, rules, w64, FitsSigned}
 use Rattle.pl_spec.specs.Rounding.{IsCell}
 use Rattle.pl_spec.specs.Parts.{sid_at}
 use Rattle.pl_spec.specs.Term.Input.{TermInput}
@@ -10,7 +8,6 @@ use Rattle.pl_facts.specs.Facts.Fact.{Worth}
 use Rattle.pl_model.specs.Evaluations.{cell_in, window_in}
 use Rattle.pl_model.proofs.Windowing.{cells-more, cells-all, all-more}
 use Rattle.pl_values.specs.Arrays.{cell_of}
-use Rattle.pl_step.specs.Given.{has}
 use Rattle.pl_step.proofs.Given.{refused, accepted, one-told, one-lacks}
 use Rattle.pl_step.proofs.Facts.{terms-run, terms-early, run-told, run-lacks, run-more}
 use Rattle.pl_step.proofs.inputs.cells_told.Goals as goal

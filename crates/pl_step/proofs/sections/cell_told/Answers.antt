@@ -1,4 +1,4 @@
-use Rattle.std.proofs.Common.{pos, ap, sym, ◌∙◌, ◌≡◌, false, rules, w64, FitsSigned}
+use Rattle.std.proofs.Common.{pos, sym, ◌∙◌, ◌≡◌, false, rules, w64, FitsSigned}
 use Rattle.std.proofs.lemmas.Int.{to_z-of_z}
 use Rattle.pl_spec.specs.Parts.{sid_at}
 use Rattle.pl_spec.specs.World.{exists}

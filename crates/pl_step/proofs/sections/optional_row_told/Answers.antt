@@ -1,4 +1,4 @@
-use Rattle.std.proofs.Common.{◌≡◌, ◌∙◌, None, Some, pos, map, option_map, ap, sym, refl, [], flat_map}
+use Rattle.std.proofs.Common.{◌∙◌, None, Some, pos, map, option_map, ap, sym, refl, [], flat_map}
 use Rattle.pl_spec.specs.World.{living_sids}
 use Rattle.pl_facts.specs.Facts.{number_facts}
 use Rattle.pl_facts.specs.Facts.Fact.{Worth}

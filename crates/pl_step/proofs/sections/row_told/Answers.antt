@@ -1,9 +1,7 @@
-use Rattle.std.proofs.Common.{◌≡◌, ◌+◌, ◌<◌, ◌≤◌, ◌++◌, ◌∷◌, [], ◌∙◌, ℕ, true, false, None, Some, pos, map, length, All, ap, sym, refl, arith, rules, w64, FitsSigned}
-use Rattle.std.proofs.lemmas.Int.{to_z-of_z}
+use Rattle.std.proofs.Common.{◌≡◌, ◌<◌, ◌≤◌, ◌++◌, ◌∷◌, [], ◌∙◌, ℕ, None, Some, pos, map, length, ap, refl, arith, rules, w64, FitsSigned}
 use Rattle.pl_spec.specs.Rounding.{IsCell}
 use Rattle.pl_spec.specs.Parts.{sid_at}
 use Rattle.pl_spec.specs.World.{exists, living_sids}
-use Rattle.pl_facts.specs.Facts.{Fact}
 use Rattle.pl_facts.specs.Facts.Fact.{Worth}
 use Rattle.pl_model.specs.Worlds.{world_of}
 use Rattle.pl_model.specs.Evaluations.{cell_in, row_in}

@@ -1,4 +1,4 @@
-use Rattle.std.proofs.Common.{◌≡◌, ◌∙◌, None, Some, true, false, pos, map, option_map, ap, sym, refl, subst, flat_map, slice_get, rules}
+use Rattle.std.proofs.Common.{◌≡◌, ◌∙◌, Some, true, false, pos, map, option_map, ap, sym, flat_map, slice_get}
 use Rattle.pl_spec.specs.World.{living_sids}
 use Rattle.pl_facts.specs.Facts.{number_facts, entry_facts}
 use Rattle.pl_facts.specs.Facts.Fact.{Worth}

@@ -1,12 +1,8 @@
-use Rattle.std.proofs.Common.{◌≡◌, ◌++◌, true, false, None, Some, pos, option_map, slice_get, ap, sym, refl, subst, ◌∙◌, rules, w64, FitsSigned}
+use Rattle.std.proofs.Common.{◌≡◌, None, Some, pos, option_map, slice_get, ap, sym, refl, ◌∙◌, rules, w64, FitsSigned}
 use Rattle.std.proofs.lemmas.Int.{to_z-of_z}
 use Rattle.pl_spec.specs.Parts.{sid_at}
-use Rattle.pl_terms.specs.Kinds.{kind_of}
 use Rattle.pl_terms.specs.Nodes.{input_of}
-use Rattle.pl_cross.specs.Arrays.{HasTexts}
 use Rattle.pl_facts.specs.Facts.{facts_now}
-use Rattle.pl_values.proofs.Texts.{texts-coded}
-use Rattle.pl_model.specs.Worlds.{world_of}
 use Rattle.pl_model.specs.Evaluations.{cell_in, input_cell_in}
 use Rattle.pl_step.specs.Given.{facts_read, has_all}
 use Rattle.pl_step.proofs.Given.{given-some, given-none, refused, accepted, three-told, first-lacks, second-lacks, third-lacks}

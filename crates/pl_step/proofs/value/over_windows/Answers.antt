@@ -1,4 +1,4 @@
-use Rattle.std.proofs.Common.{◌≡◌, true, false, None, Some, pos, All, option_map, slice_get, ap, sym, refl, subst, ◌∙◌, rules, w64, FitsSigned}
+use Rattle.std.proofs.Common.{◌≡◌, None, Some, pos, All, option_map, slice_get, ap, sym, refl, subst, ◌∙◌, rules, w64, FitsSigned}
 use Rattle.std.proofs.lemmas.Int.{to_z-of_z}
 use Rattle.pl_spec.specs.Rounding.{IsCell}
 use Rattle.pl_spec.specs.Parts.{sid_at}

@@ -1,4 +1,4 @@
-use Rattle.std.proofs.Common.{◌≡◌, ◌++◌, [], true, false, None, Some, pos, option_map, slice_get, ap, sym, refl, ◌∙◌, rules, w64, FitsSigned}
+use Rattle.std.proofs.Common.{◌≡◌, [], true, false, None, Some, pos, option_map, slice_get, ap, sym, refl, ◌∙◌, rules, w64, FitsSigned}
 use Rattle.std.proofs.lemmas.Int.{to_z-of_z}
 use Rattle.std.proofs.lemmas.Result.{IfOk-weaker}
 use Rattle.pl_spec.specs.Parts.{sid_at}
