@@ -1,7 +1,7 @@
 //! The kinds whose sorts terms have.
-ghost use Rattle.std.specs.Prelude.{◌≡◌, ◌<◌, length, IfSome, IfNone, option_map};
+ghost use Rattle.std.specs.Prelude.{◌≡◌, ◌<◌, false, length, IfSome, IfNone, option_map};
 ghost use Rattle.pl_spec.specs.Rounding.{MISSING};
-ghost use Rattle.pl_spec.specs.Kind.Kind.{Constant};
+ghost use Rattle.pl_spec.specs.Kind.Kind.{Constant, Downsample};
 ghost use Rattle.pl_spec.specs.Text.{kind_at};
 ghost use Rattle.pl_terms.specs.Kinds.{kind_of};
 ghost use Rattle.pl_terms.specs.Nodes.{node_of, graph_of, number_of};
@@ -10,6 +10,19 @@ ghost use Rattle.pl_terms.specs.Sorts as spec;
 use crate::graph::Graph;
 use crate::kind::TermKind;
 use crate::node::{Input, Node, TermId};
+use pl_spec::Frequency;
+
+/// The frequency of a downsampled term's kind.
+#[tactic(auto, unfolding(crate::specs::Kinds::kind_of))]
+pub fn frequency_of(kind: &TermKind) -> Option<Frequency>
+    ensures some { IfSome result (λ f. kind_of kind.now ≡ Downsample f) }
+    ensures none { IfNone result (spec.is_downsampled (kind_of kind.now) ≡ false) }
+{
+    match kind {
+        TermKind::Downsample { frequency } => Some(*frequency),
+        _ => None,
+    }
+}
 
 #[tactic(auto, unfolding(crate::specs::Kinds::kind_of))]
 fn is_downsampled(kind: &TermKind) -> bool
