@@ -148,13 +148,13 @@ module _ (w : World) (c : Parts) (ok : IsChecked (pipeline_of c)) (t session : �
   later-asked u size r up all = (
     (let a = all.0 in omega arith),
     λ n l. let a = all.1 n l in
-    record {
-      made = asked.made;
-      term = a.term;
-      within = (let b = asked.within in omega arith);
-      days = asked.days;
-      reaches = (let low = a.reaches in let rise = reach-rises w.sessions.now asked.days (term_at (graph_of c.graph) u) (pos (r - n)) (pos (session - n)) (omega (arith, ints)) in omega (arith, ints));
-    },
+        record {
+          made = asked.made;
+          term = a.term;
+          within = (let b = asked.within in omega arith);
+          days = asked.days;
+          reaches = (let low = a.reaches in let rise = reach-rises w.sessions.now asked.days (term_at (graph_of c.graph) u) (pos (r - n)) (pos (session - n)) (omega (arith, ints)) in omega (arith, ints));
+        },
   )
 
   module _ (n : Node) (is : slice_get c.graph t ≡ Some n) where

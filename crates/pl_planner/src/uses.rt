@@ -61,12 +61,7 @@ fn ask(uses: &mut [Use], term: TermId, by: usize, extra: usize)
 
 // The same for a downsampled term, which reads the first session of the period; before the calendar there
 // are no periods.
-fn back_to_start(
-    sessions: &Sessions,
-    frequency: Frequency,
-    session: usize,
-    extra: usize,
-) -> usize
+fn back_to_start(sessions: &Sessions, frequency: Frequency, session: usize, extra: usize) -> usize
     requires { session < length sessions.now }
     ensures { result ≡ back_from sessions.now session (Downsample frequency) extra }
 {

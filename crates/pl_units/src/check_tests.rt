@@ -506,7 +506,10 @@ fn downsamples_in_version_2(rt: HostRuntime) -> Result<(), Fail> {
             None,
         ),
         (b"label(\"s\").downsample(\"week_start\") == \"a\"", None),
-        (b"1.downsample(\"week_start\").downsample(\"year_start\")", None),
+        (
+            b"1.downsample(\"week_start\").downsample(\"year_start\")",
+            None,
+        ),
         (
             b"WindowSum(RSI(close, 2).downsample(\"week_start\"), 2)",
             None,
