@@ -90,7 +90,8 @@ pub(crate) fn cells_on(turn: &Turn<'_>, term: TermId, session: usize, row: &mut 
     requires read { IsRead (task_at turn.now) turn.now.workspace.now session 1 term.0 }
     requires late { session ≤ turn.now.job.now.to }
     requires long { length row.old ≡ assets_in (task_at turn.now) }
-    ensures { Fills (λ i. cell_in (task_at turn.now) term.0 i session) (assets_in (task_at turn.now)) row.new }
+    ensures { Fills (λ i. cell_in (task_at turn.now) term.0 i session) (assets_in (task_at turn.now))
+        row.new }
 {
     let array = array_of(turn.job, turn.workspace, term);
     let at = session - array.low;

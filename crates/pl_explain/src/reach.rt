@@ -83,8 +83,8 @@ fn depth_of(depths: &[Option<usize>], k: usize) -> Option<usize>
     if k < depths.len() { depths[k] } else { None }
 }
 
-// Marks what a node reads for a session `depth` before, its inputs up to one `back` before, and gives how many
-// before its own bars begin.
+// Marks what a node reads for a session `depth` before, its inputs up to one `back` before, and gives how
+// many before its own bars begin.
 #[tactic(auto, unfolding(pl_terms::specs::Nodes::node_of))]
 fn read_node(depths: &mut [Option<usize>], node: &Node, back: usize, depth: usize) -> usize
     requires window { 1 ≤ node.now.window }
