@@ -2,6 +2,8 @@
 use Rattle.std.proofs.Common.{◌≡◌, ℕ, ◌+◌, ◌<◌, ◌≤◌, Bool, true, false, ◌&&◌, ℤ, pos, List, [], ◌∷◌, ◌++◌, map, flat_map, length, Option, Some, None, option_map, unwrap_or, slice_get, refl, sym, ◌∙◌, ap, subst, arith, append-nil, IfSome}
 use Rattle.std.proofs.lemmas.Option.{slice_get_within}
 use Rattle.pl_spec.specs.World.{World as SpecWorld, exists, living_sids}
+use Rattle.pl_spec.specs.declared.Frequency.{Frequency}
+use Rattle.pl_spec.specs.Periods.{period_start}
 use Rattle.pl_spec.specs.Kind as kinds
 use Rattle.pl_spec.specs.Kind.{Kind}
 use Rattle.pl_spec.specs.Term as spec
@@ -131,6 +133,17 @@ module _ (w : World) (c : Parts) (ok : IsChecked (pipeline_of c)) (t : ℕ) (n :
         let third : slice_get (places (kind_of n.kind)) 2 ≡ None = rw f.1 refl in
         read-kind (kinds.LabelTest f.0) f.1 ∙ over-read (facts_now a (pos s))
         ∙ rw (alone 1 second, alone 2 third) (append-nil _ ∙ append-nil _)
+
+    -- the input on the first session of the period
+    pub read-period : (f : Frequency) (start : ℕ) → kind_of n.kind ≡ kinds.Downsample f → pos start ≡ period_start f w.sessions.now (pos s)
+        → facts_read w c t a s ≡ facts_now a (pos start) (option_map input_of (slice_get n.inputs 0))
+    unfolding places
+    read-period f start e h =
+        let second : slice_get (places (kind_of n.kind)) 1 ≡ None = rw e refl in
+        let third : slice_get (places (kind_of n.kind)) 2 ≡ None = rw e refl in
+        read-kind (kinds.Downsample f) e ∙ over-read (facts_now a (period_start f w.sessions.now (pos s)))
+        ∙ rw (alone 1 second, alone 2 third) (append-nil _ ∙ append-nil _)
+        ∙ ap (λ z. facts_now a z (option_map input_of (slice_get n.inputs 0))) (sym h)
 
     pub read-section : is_section (kind_of n.kind) ≡ true → facts_read w c t a s ≡ flat_map (entry_facts (node_of n) (pos s)) (living_sids (world_of w) (pos s))
     read-section e = let f = section-is (kind_of n.kind) e in read-kind (kinds.Cross f.0) f.1

@@ -1,6 +1,8 @@
 //! The value of a term for an asset on a session.
-ghost use Rattle.std.specs.Prelude.{◌≡◌, ◌<◌, IfOk, IfSome, OnOk, length, pos};
+ghost use Rattle.std.specs.Prelude.{◌≡◌, ◌<◌, IfOk, IfSome, OnOk, length, pos, Some, slice_get};
+ghost use Rattle.pl_spec.specs.Kind.{Kind};
 ghost use Rattle.pl_spec.specs.Rounding.{IsCell};
+ghost use Rattle.pl_terms.specs.Kinds.{kind_of};
 ghost use Rattle.pl_spec.specs.Parts.{sid_at};
 ghost use Rattle.pl_terms.specs.Checked.{pipeline_of};
 ghost use Rattle.pl_terms.specs.Sorts.{is_windowed};
@@ -13,7 +15,7 @@ ghost use Rattle.pl_step.specs.Given.{facts_read, given, KeepsRows, TellsTruth};
 
 use crate::inputs::{input_told, mask_told, window_told};
 use crate::sections::section_told;
-use pl_fixed::Memory;
+use pl_fixed::{Frequency, Memory};
 use pl_model::{World, exists, input_at, label_cell};
 use pl_terms::{Checked, TermId};
 use pl_told::{Rows, Told};
@@ -93,6 +95,9 @@ fn kept_told(
         Family::Point => Ok(over_operands(world, checked, told, t, col, session)),
         Family::LabelTest => Ok(over_label(world, checked, told, t, col, session)),
         Family::Section => section_told(alloc, world, checked, told, rows, t, col, session),
+        Family::Downsample(frequency) => {
+            Ok(over_period(world, checked, told, t, frequency, col, session))
+        }
     }
 }
 
@@ -189,4 +194,31 @@ fn over_label(
     let first = input_at(node, 0);
     let code = input_told(world, checked, told, first, col, session)?;
     Some(label_test_value(&node.kind, world.labels, code))
+}
+
+// The input on the first session of the period.
+fn over_period(
+    world: &World,
+    checked: &Checked,
+    told: &Told,
+    t: TermId,
+    frequency: Frequency,
+    col: usize,
+    session: usize,
+) -> Option<i64>
+    requires truth { TellsTruth (world_of world.now) (pipeline_of checked.now) told.now }
+    requires term { t.0 < length checked.now.graph }
+    requires kind { (n : _) → slice_get checked.now.graph t.0 ≡ Some n
+        → kind_of n.kind ≡ Kind.Downsample frequency }
+    requires kept { IsKept world.now checked.now t.0 (sid_at world.now.assets.now col) session }
+    requires col { col < length world.now.assets.now }
+    requires session { session < length world.now.sessions.now }
+    ensures value { result ≡ given told.now
+        (facts_read world.now checked.now t.0 (sid_at world.now.assets.now col) session)
+        (cell_in world.now checked.now t.0 (sid_at world.now.assets.now col) session) }
+    ensures cell { IfSome result IsCell }
+{
+    let node = checked.graph().node(t);
+    let start = world.sessions.period_start(frequency, session);
+    input_told(world, checked, told, input_at(node, 0), col, start)
 }
