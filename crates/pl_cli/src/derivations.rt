@@ -78,9 +78,17 @@ fn write_verdict<O: Sink>(wrong: Option<u32>, out: &mut O) -> Result<Option<Stat
     ensures quiet { IfOk result (λ stats. stats ≡ None) }
     ensures unwritten { IfErr result (λ fault. fault ≡ Fault.Unwritten) }
 {
-    let Some(line) = wrong else {
-        return write_text(out, b"yes\n");
-    };
+    match wrong {
+        None => write_text(out, b"yes\n"),
+        Some(line) => tell_wrong(line, out),
+    }
+}
+
+fn tell_wrong<O: Sink>(line: u32, out: &mut O) -> Result<Option<Stats>, Fault>
+    ensures writes { Writes O.taken O.faults O.sound O.room out.old out.new (verdict_text (Some line)) result }
+    ensures quiet { IfOk result (λ stats. stats ≡ None) }
+    ensures unwritten { IfErr result (λ fault. fault ≡ Fault.Unwritten) }
+{
     match write_wrong(line, out) {
         Ok(()) => Ok(None),
         Err(_) => Err(Fault::Unwritten),

@@ -1,4 +1,4 @@
-use Rattle.pl_cli.proofs.derivations.write_verdict.Goals as goal
+use Rattle.pl_cli.proofs.derivations.tell_wrong.Goals as goal
 
 pub returns-in-Ok-clause-writes : goal.returns-in-Ok-clause-writes
 returns-in-Ok-clause-writes g c =
