@@ -22,8 +22,6 @@ pub mod laws;
 mod revised;
 mod rows;
 mod seen;
-#[cfg(test)]
-mod tests;
 
 pub use adjust::{Adjust, Change, Effect, effect_for, ratio_for};
 use columns::Row;

@@ -13,8 +13,6 @@ mod error;
 mod order;
 mod reading;
 mod rows;
-#[cfg(test)]
-mod tests;
 mod texts;
 
 use crate::Assets;

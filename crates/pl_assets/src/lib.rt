@@ -14,8 +14,6 @@ mod labels;
 pub mod laws;
 mod reading;
 mod search;
-#[cfg(test)]
-mod tests;
 
 pub use error::AssetsError;
 pub use labels::{Labels, LabelsError};

@@ -19,8 +19,6 @@ pub mod laws;
 mod places;
 mod reading;
 mod search;
-#[cfg(test)]
-mod tests;
 
 pub use error::BarsError;
 pub use fields::{is_below_0, read_cell, read_column};

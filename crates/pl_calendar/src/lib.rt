@@ -16,8 +16,6 @@ pub mod laws;
 mod periods;
 mod reading;
 mod search;
-#[cfg(test)]
-mod tests;
 
 pub use error::CalendarError;
 use pl_fixed::{Frequency, Memory};

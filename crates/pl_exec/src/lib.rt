@@ -9,8 +9,6 @@ mod fill;
 mod job;
 mod kinds;
 mod rows;
-#[cfg(test)]
-mod tests;
 mod turn;
 mod windows;
 

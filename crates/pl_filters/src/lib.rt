@@ -2,8 +2,6 @@
 #![tactic(auto)]
 
 mod labels;
-#[cfg(test)]
-mod tests;
 mod windows;
 
 pub use labels::label_test;

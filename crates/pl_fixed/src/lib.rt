@@ -12,8 +12,6 @@ mod ratio;
 mod rounding;
 mod sid;
 mod steps;
-#[cfg(test)]
-mod tests;
 
 pub use cell::{LIM, MISSING, add, div, is_cell, mul, neg, quot, sub, to_cell};
 pub use day::{month_number, read_day, write_day};

@@ -11,7 +11,7 @@ const STEP: u64 = 1_442_695_040_888_963_407;
 
 /// A sequence of draws: a linear congruential generator of 64 bits, seen as its state.
 #[derive(Drop)]
-pub(crate) struct Draws {
+pub struct Draws {
     state: u64,
 }
 
@@ -24,7 +24,8 @@ impl Model for Draws {
 }
 
 impl Draws {
-    pub(crate) fn new(number: u32) -> Draws
+    /// The sequence of this number, none drawn yet.
+    pub fn new(number: u32) -> Draws
         ensures { result ≡ number }
     {
         Draws {
@@ -34,7 +35,7 @@ impl Draws {
 
     /// The next number below `below`, from the upper bits of the state.
     #[tactic(auto, unfolding(crate::specs::Draws::next_state, crate::specs::Draws::number_at))]
-    pub(crate) fn draw(&mut self, below: u32) -> u32
+    pub fn draw(&mut self, below: u32) -> u32
         requires { 0 < below }
         ensures state { self.new ≡ next_state self.old }
         ensures number { result ≡ number_at self.new below }

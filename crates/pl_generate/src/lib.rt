@@ -14,10 +14,8 @@ mod bars;
 mod draws;
 mod sectors;
 mod sessions;
-#[cfg(test)]
-mod tests;
 
-use draws::Draws;
+pub use draws::Draws;
 use pl_fixed::Memory;
 use pl_model::OwnedWorld;
 use std::alloc::Global;

@@ -16,8 +16,6 @@ pub mod laws;
 mod line;
 mod ratio;
 mod reading;
-#[cfg(test)]
-mod tests;
 mod writing;
 
 pub use error::{PayoutsError, PayoutsOut};

@@ -12,8 +12,6 @@ mod fields;
 pub mod laws;
 mod reading;
 mod rows;
-#[cfg(test)]
-mod tests;
 
 pub use error::RevisionsError;
 use pl_assets::Assets;

@@ -13,8 +13,6 @@ mod progress;
 mod script;
 mod stack;
 mod stage;
-#[cfg(test)]
-mod tests;
 mod tree;
 mod writer;
 

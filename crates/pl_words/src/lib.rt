@@ -10,8 +10,6 @@ mod cut;
 mod options;
 mod read;
 mod request;
-#[cfg(test)]
-mod tests;
 mod text;
 
 pub use read::read_words;

@@ -11,8 +11,6 @@ use std::alloc::Global;
 use std::marker::Model;
 use std::mem;
 
-#[cfg(test)]
-mod tests;
 
 /// Want of memory, of `reserve` alone.
 #[derive(Clone, Copy, Debug, PartialEq, Eq)]

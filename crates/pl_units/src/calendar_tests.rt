@@ -1,0 +1,105 @@
+use pl_calendar::{CalendarError, Sessions};
+use pl_fixed::Frequency;
+use std::test::*;
+
+// 2024-01-02 to 2024-01-05, a weekend, 2024-01-08 and 2024-01-09.
+const WEEK: &[u8] = b"2024-01-02\n2024-01-03\n2024-01-04\n2024-01-05\n2024-01-08\n2024-01-09\n";
+
+const DAYS: [i32; 6] = [19724, 19725, 19726, 19727, 19730, 19731];
+
+#[test]
+fn reads_sessions(rt: HostRuntime) -> Result<(), Fail> {
+    let files: &[&[u8]] = &[
+        WEEK,
+        b"2024-01-02\r\n2024-01-03\r\n2024-01-04\r\n2024-01-05\r\n2024-01-08\r\n2024-01-09\r\n",
+        b"\xef\xbb\xbf\n2024-01-02\n\n\"2024-01-03\"\n2024-01-04\n2024-01-05\n2024-01-08\n2024-01-09",
+    ];
+    for bytes in files.iter() {
+        let sessions = Sessions::read(rt.alloc(), bytes)?;
+        assert_eq!(rt; sessions.len(), DAYS.len());
+        for (i, day) in DAYS.iter().enumerate() {
+            assert_eq!(rt; sessions.index_of(*day), Some(i));
+            if i < sessions.len() {
+                assert_eq!(rt; sessions.day(i), *day);
+            }
+        }
+    }
+    Ok(())
+}
+
+#[test]
+fn finds_sessions(rt: HostRuntime) -> Result<(), Fail> {
+    let sessions = Sessions::from_days(vec![in rt.alloc(); 19724, 19727, 19730]?);
+    let table = [
+        (i32::MIN, None, Some(0)),
+        (19723, None, Some(0)),
+        (19724, Some(0), Some(0)),
+        (19725, None, Some(1)),
+        (19728, None, Some(2)),
+        (19730, Some(2), Some(2)),
+        (19731, None, None),
+    ];
+    for (day, at, from) in table.iter() {
+        assert_eq!(rt; sessions.index_of(*day), *at);
+        assert_eq!(rt; sessions.first_at_or_after(*day), *from);
+    }
+    Ok(())
+}
+
+// 2023-12-29, a Friday; 2024-01-02, 01-05, 01-08 and 01-09; 02-01, 02-04, which is a Sunday, and 02-05; 04-01
+// and 04-02.
+const SPARSE: [i32; 10] = [
+    19720, 19724, 19727, 19730, 19731, 19754, 19757, 19758, 19814, 19815,
+];
+
+#[test]
+fn finds_where_periods_start(rt: HostRuntime) -> Result<(), Fail> {
+    let mut days = Vec::new(rt.alloc());
+    days.extend_from_slice(&SPARSE)?;
+    let sessions = Sessions::from_days(days);
+    let table = [
+        (Frequency::YearStart, [0, 1, 1, 1, 1, 1, 1, 1, 1, 1]),
+        (Frequency::QuarterStart, [0, 1, 1, 1, 1, 1, 1, 1, 8, 8]),
+        (Frequency::MonthStart, [0, 1, 1, 1, 1, 5, 5, 5, 8, 8]),
+        (Frequency::WeekStart, [0, 1, 1, 3, 3, 5, 5, 7, 8, 8]),
+    ];
+    for (frequency, starts) in table.iter() {
+        for (i, start) in starts.iter().enumerate() {
+            if i < sessions.len() {
+                assert_eq!(rt; sessions.period_start(*frequency, i), *start);
+            }
+        }
+    }
+    Ok(())
+}
+
+#[test]
+fn names_the_first_fault(rt: HostRuntime) -> Result<(), Fail> {
+    let table: &[(&[u8], CalendarError)] = &[
+        (b"", CalendarError::Empty),
+        (b"\xef\xbb\xbf", CalendarError::Empty),
+        (b"\n\r\n", CalendarError::Empty),
+        (b"\"\"\n", CalendarError::BadDate { line: 1 }),
+        (
+            b"2024-01-02\n\n2024-02-30\n2024-01-01\n",
+            CalendarError::BadDate { line: 2 },
+        ),
+        (b"2024-01-02,\n", CalendarError::BadDate { line: 1 }),
+        (
+            b"2024-01-02\n 2024-01-03\n",
+            CalendarError::BadDate { line: 2 },
+        ),
+        (
+            b"2024-01-02\n2024-01-03\n2024-01-03\n",
+            CalendarError::NotAscending { line: 3 },
+        ),
+        (
+            b"2024-01-03\n2024-01-02\n2200-01-01\n",
+            CalendarError::NotAscending { line: 2 },
+        ),
+    ];
+    for (bytes, fault) in table.iter() {
+        assert!(rt; matches!(Sessions::read(rt.alloc(), bytes), Err(e) if e == *fault));
+    }
+    Ok(())
+}
