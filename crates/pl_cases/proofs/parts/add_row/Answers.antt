@@ -1,0 +1,2 @@
+use Goals as goal
+use Rattle.pl_cases.proofs.Ascending.{ascends}
