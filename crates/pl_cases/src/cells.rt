@@ -28,12 +28,7 @@ pub fn cells_differ(alloc: Global, case: &Case, words: &[String], table: &[u8]) 
     }
 }
 
-fn run_differs(
-    alloc: Global,
-    case: &Case,
-    request: &RunRequest<'_>,
-    table: &[u8],
-) -> Result<bool> {
+fn run_differs(alloc: Global, case: &Case, request: &RunRequest<'_>, table: &[u8]) -> Result<bool> {
     let labels = labels_of(alloc, case, request.options.labels)?;
     match loaded_of(alloc, case, request)? {
         Some(loaded) => table_differs::<Brand>(alloc, &loaded, &labels, table, Blank::new(1)),
@@ -54,7 +49,10 @@ fn loaded_of(alloc: Global, case: &Case, request: &RunRequest<'_>) -> Result<Opt
     };
     let mut shelf = shelf_of(alloc, case, 0)?;
     let mut keeper = keeper_of(alloc, case, 0)?;
-    Ok(load(alloc, &whole, &mut shelf, &mut keeper).ok())
+    match load(alloc, &whole, &mut shelf, &mut keeper) {
+        Ok(loaded) => Ok(Some(loaded)),
+        Err(_) => Ok(None),
+    }
 }
 
 // The texts of a labels file by their codes: in the order in which they stand there first, as they are written there.
@@ -88,7 +86,15 @@ fn table_differs<L: Ledger>(
     let table = String::from_utf8_lossy(alloc, table)?;
     let mut rest = table.split_once('\n').context("no header")?.1;
     for session in loaded.plan.from()..=loaded.plan.to() {
-        match behind_session(alloc, &world, &loaded.checked, labels, session, rest, &mut steps)? {
+        match behind_session(
+            alloc,
+            &world,
+            &loaded.checked,
+            labels,
+            session,
+            rest,
+            &mut steps,
+        )? {
             Some(further) => rest = further,
             None => return Ok(true),
         }

@@ -34,7 +34,11 @@ pub fn behind_field<'a>(
         Err(_) => None,
     };
     let with_label = label.and_then(|label| behind(rest, label));
-    Ok(behind(rest, &number).or(behind(rest, &whole)).or(with_label))
+    Ok(
+        behind(rest, &number)
+            .or(behind(rest, &whole))
+            .or(with_label),
+    )
 }
 
 // What stands behind a whole field.

@@ -171,12 +171,7 @@ fn judge_again(alloc: Global, case: &Case, words: &[String]) -> Result<Option<St
 }
 
 // What differs, where something does.
-fn compare(
-    alloc: Global,
-    words: &[String],
-    wanted: &Left,
-    left: &Left,
-) -> Result<Option<String>> {
+fn compare(alloc: Global, words: &[String], wanted: &Left, left: &Left) -> Result<Option<String>> {
     if left == wanted {
         Ok(None)
     } else {

@@ -73,13 +73,7 @@ fn add_to_text(case: &mut Case, written: &str) -> Result<()> {
     add_line(&mut text.bytes, written)
 }
 
-fn state_number(
-    alloc: Global,
-    case: &mut Case,
-    line: &str,
-    first: &str,
-    rest: &str,
-) -> Result<()> {
+fn state_number(alloc: Global, case: &mut Case, line: &str, first: &str, rest: &str) -> Result<()> {
     match first {
         "file" | "failing" | "out" => case.begin_text(alloc, line)?,
         "chunks" => case.set_chunks(words_of(alloc, rest)?),

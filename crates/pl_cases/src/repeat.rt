@@ -38,7 +38,10 @@ fn filled(alloc: Global, line: &str, number: i64) -> Result<String> {
 fn add_named(alloc: Global, text: &mut String, named: &str, number: i64) -> Result<()> {
     let (is_date, added) = match named.strip_prefix('n') {
         Some(added) => (false, added),
-        None => (true, named.strip_prefix('d').context("no name of a number")?),
+        None => (
+            true,
+            named.strip_prefix('d').context("no name of a number")?,
+        ),
     };
     let added = if added.is_empty() {
         0
