@@ -16,7 +16,7 @@ use Rattle.pl_syntax.specs.Spells.{Parsed}
 use Rattle.pl_syntax.specs.Canonical.{script_text}
 use Rattle.pl_words.specs.declared.request.InputFile.{InputFile}
 use Rattle.pl_words.specs.declared.request.InputFile.TheVariants as files
-use Rattle.pl_words.specs.Request.{Request, Run, Fmt, Check, Plan, RunRequest, PlanRequest, name_asked, pipeline_name, adjustments_of}
+use Rattle.pl_words.specs.Request.{Request, Run, Fmt, Check, Plan, RunRequest, PlanRequest, run_world, name_asked, pipeline_name, adjustments_of}
 use Rattle.pl_judge.specs.declared.fault.Fault.{Fault}
 use Rattle.pl_judge.specs.declared.fault.Fault.TheVariants.{Usage, Unwritten, Memory}
 use Rattle.pl_judge.specs.Contents.{Contents, AreHeld}
@@ -67,7 +67,7 @@ same-text format v w p r a b from to h c f t = rw (c, f, t) (h.written format)
 
 loaded-text : (held : Contents) (q : RunRequest) (l : Loaded) → IsLoaded held q l → loaded_text l q.options.format ≡ text_of held (Some (Run q))
 unfolding text_of
-loaded-text held q l h = same-text q.options.format (owned_world l.world) (world_held held q) (pipeline_held held) (pipeline_of l.checked) _ _ l.plan.from l.plan.to h.same h.pipeline h.from h.to
+loaded-text held q l h = same-text q.options.format (owned_world l.world) (world_held held (run_world q)) (pipeline_held held) (pipeline_of l.checked) _ _ l.plan.from l.plan.to h.same h.pipeline h.from h.to
 
 loaded-steps : (held : Contents) (q : RunRequest) (l : Loaded) (P : ℕ → Type 0) → IsLoaded held q l → P (loaded_steps l q.options.chunk) → TakesSteps held (Some (Run q)) P
 loaded-steps held q l P h k =
@@ -89,7 +89,7 @@ loaded-numbers : (held : Contents) (q : RunRequest) (l : Loaded) (line : List �
 loaded-numbers held q l line h e = (
   l.plan,
   record { is = rw h.pipeline h.plan; from = sym h.from; to = sym h.to },
-  e ∙ same-numbers q.options.stats (loaded_steps l q.options.chunk) (owned_world l.world) (world_held held q) (pipeline_held held) (pipeline_of l.checked) _ _ l.plan.from l.plan.to h.same h.pipeline h.from h.to
+  e ∙ same-numbers q.options.stats (loaded_steps l q.options.chunk) (owned_world l.world) (world_held held (run_world q)) (pipeline_held held) (pipeline_of l.checked) _ _ l.plan.from l.plan.to h.same h.pipeline h.from h.to
       ∙ ap (λ n. run_stats held q n) (same-steps (world_known held q) (owned_world l.world) (pipeline_held held) (pipeline_of l.checked) l.plan q.options.chunk h.world h.pipeline),
 )
 
@@ -256,6 +256,7 @@ module _ {O : Type 0} (taken : O → Option (List ℕ)) (faults : O → ℕ) (so
   pipeline-files name file h files.Bars = λ n is. absurd (cc)
   pipeline-files name file h files.Revisions = λ n is. absurd (cc)
   pipeline-files name file h files.Payouts = λ n is. absurd (cc)
+  pipeline-files name file h files.Derivation = λ n is. absurd (cc)
 
   are-held : (asked : Request) (name : List ℕ) (steps : Option (List ℕ) → List Step) (file : Option (List ℕ)) → IsOfFile asked name steps
       → ForSome (Some name) (λ n. ForSome tells (λ told. file ≡ told n)) → AreHeld tells lists (Some asked) (file_held file)

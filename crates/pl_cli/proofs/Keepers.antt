@@ -6,13 +6,13 @@ use Rattle.pl_spec.specs.Table.{Pipeline}
 use Rattle.pl_outside.specs.declared.keeper.Table.{Table}
 use Rattle.pl_words.specs.declared.request.InputFile.{InputFile}
 use Rattle.pl_words.specs.declared.request.InputFile.TheVariants.{Labels as LabelsFile, Revisions as RevisionsFile}
-use Rattle.pl_words.specs.Request.{Request, Run, Fmt, Check, Plan, Bench, Payouts, RunRequest, PlanRequest, Dated, adjustments_of}
+use Rattle.pl_words.specs.Request.{Request, Run, Fmt, Check, Plan, Bench, Payouts, Verify, RunRequest, PlanRequest, VerifyRequest, WorldNames, Dated, run_world, adjustments_of}
 use Rattle.pl_judge.specs.Contents.{Contents}
 use Rattle.pl_judge.specs.Held.{assets_held, days_held, pipeline_held}
 use Rattle.pl_judge.specs.Steps.{Source, Step, ReachesRead}
 use Rattle.pl_judge.specs.Steps.Source.{Input, Load}
 use Rattle.pl_judge.specs.Range.{index_of, dates_steps, plan_steps, range_steps}
-use Rattle.pl_judge.specs.Work.{labels_steps, adjustments_steps, revisions_steps, data_steps, planning_steps, payouts_steps, run_steps, work}
+use Rattle.pl_judge.specs.Work.{labels_steps, adjustments_steps, revisions_steps, data_steps, planning_steps, payouts_steps, run_steps, verify_steps, work}
 
 no-input : {A : Type 0} {file : InputFile} {table : Table} → Some (Input file) ≡ Some (Load table) → A
 no-input h = absurd (cc)
@@ -57,20 +57,20 @@ of-range : (p : Pipeline) (days : List ℤ) (from to : Dated) (as_of : Option Da
 of-range p days from to as_of table h =
     elim (reaches-one (dates_steps from to as_of days) _ (Load table) h) [ inl a ↦ of-dates from to as_of days table a | inr b ↦ of-plan p days (index_of days from.day) (index_of days to.day) table b ]
 
-of-data : (held : Contents) (q : RunRequest) (table : Table) → ReachesRead (data_steps held q) (Load table) → IsSome q.options.adjustments
+of-data : (held : Contents) (q : WorldNames) (table : Table) → ReachesRead (data_steps held q) (Load table) → IsSome q.adjustments
 unfolding data_steps
 of-data held q table h =
     elim h [
       | inl p ↦ no-input p
       | inr a ↦ elim a.1 [
         | inl p ↦ no-input p
-        | inr b ↦ elim (reaches-one (labels_steps (assets_held held) q.options.labels (held.file LabelsFile)) _ (Load table) b.1) [
-          | inl l ↦ absurd (of-labels (assets_held held) q.options.labels (held.file LabelsFile) table l)
+        | inr b ↦ elim (reaches-one (labels_steps (assets_held held) q.labels (held.file LabelsFile)) _ (Load table) b.1) [
+          | inl l ↦ absurd (of-labels (assets_held held) q.labels (held.file LabelsFile) table l)
           | inr m ↦ elim m [
             | inl p ↦ no-input p
-            | inr x ↦ elim (reaches-one (adjustments_steps (assets_held held) q.options.adjustments held.rows) _ (Load table) x.1) [
-              | inl r ↦ of-adjustments (assets_held held) q.options.adjustments held.rows table r
-              | inr r ↦ absurd (of-revisions (days_held held) (assets_held held) q.options.revisions (held.file RevisionsFile) table r)
+            | inr x ↦ elim (reaches-one (adjustments_steps (assets_held held) q.adjustments held.rows) _ (Load table) x.1) [
+              | inl r ↦ of-adjustments (assets_held held) q.adjustments held.rows table r
+              | inr r ↦ absurd (of-revisions (days_held held) (assets_held held) q.revisions (held.file RevisionsFile) table r)
             ]
           ]
         ]
@@ -82,9 +82,21 @@ of-run held q table h = elim h [
   | inl p ↦ no-input p
   | inr a ↦ elim a.1 [
     | inl p ↦ no-read p
-    | inr b ↦ elim (reaches-one (data_steps held q) _ (Load table) b.1) [
-      | inl e ↦ of-data held q table e
+    | inr b ↦ elim (reaches-one (data_steps held (run_world q)) _ (Load table) b.1) [
+      | inl e ↦ of-data held (run_world q) table e
       | inr r ↦ absurd (of-range (pipeline_held held) (days_held held) q.from q.to q.options.as_of table r)
+    ]
+  ]
+]
+
+of-verify : (held : Contents) (q : VerifyRequest) (table : Table) → ReachesRead (verify_steps held q) (Load table) → IsSome q.world.adjustments
+of-verify held q table h = elim h [
+  | inl p ↦ no-input p
+  | inr a ↦ elim a.1 [
+    | inl p ↦ no-read p
+    | inr b ↦ elim (reaches-one (data_steps held q.world) _ (Load table) b.1) [
+      | inl e ↦ of-data held q.world table e
+      | inr d ↦ elim d [ inl p ↦ no-input p | inr e ↦ absurd e.1 ]
     ]
   ]
 ]
@@ -115,4 +127,5 @@ store-named held (Some (Check n)) table h = elim h [ inl p ↦ no-input p | inr 
 store-named held (Some (Plan q)) table h = absurd (of-planning held q table h)
 store-named held (Some (Bench q)) table h = absurd h
 store-named held (Some (Payouts q)) table h = absurd (of-payouts held table h)
+store-named held (Some (Verify q)) table h = of-verify held q table h
 store-named held (Some (Run q)) table h = of-run held q table h

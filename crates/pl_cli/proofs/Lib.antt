@@ -5,3 +5,4 @@ pub mod Ended
 pub mod Finished
 pub mod Stats
 pub mod Further
+pub mod Verified

@@ -12,11 +12,12 @@ use Rattle.pl_planner.specs.Plans.{Planned, IsPlanOf}
 use Rattle.pl_exec.specs.Tasks.{cut}
 use Rattle.pl_bench.specs.Numbers.{TakesSteps as TakesBenchSteps, bench_line}
 use Rattle.pl_payouts.specs.Texts.{payouts_text}
+use Rattle.pl_facts.specs.Right.{first_wrong}
 use Rattle.pl_runner.specs.Runs.{run_steps}
 use Rattle.pl_words.specs.declared.request.InputFile.TheVariants.{Pipeline as PipelineFile}
-use Rattle.pl_words.specs.Request.{Request, Run, Fmt, Check, Plan, Bench, Payouts, RunRequest}
+use Rattle.pl_words.specs.Request.{Request, Run, Fmt, Check, Plan, Bench, Payouts, Verify, RunRequest, run_world}
 use Rattle.pl_judge.specs.Contents.{Contents}
-use Rattle.pl_judge.specs.Held.{script_in, pipeline_in, pipeline_held, days_held, assets_held, bars_held, payouts_held, world_held}
+use Rattle.pl_judge.specs.Held.{script_in, pipeline_in, pipeline_held, days_held, assets_held, bars_held, payouts_held, derivation_held, world_held}
 use Rattle.pl_judge.specs.Known.{world_known}
 use Rattle.pl_judge.specs.Numbers.{stats_line}
 use Rattle.pl_judge.specs.Planning.{extra_of, reach_at}
@@ -29,7 +30,7 @@ rows_asked w p q = table w p (index_of w.days q.from.day) (index_of w.days q.to.
 -- the table of a run
 abbrev pub run_text : Contents → RunRequest → List ℕ
 run_text held q =
-    let w = world_held held q in
+    let w = world_held held (run_world q) in
     let p = pipeline_held held in
     text w p q.options.format (rows_asked w p q)
 
@@ -43,8 +44,13 @@ check_text p =
 abbrev pub planned_text : List ℤ → Pipeline → ℕ → List ℕ
 planned_text days p from = plan_text p (extra_of days p from) (reach_at days p from) (bound p.graph (outputs p))
 
+-- whether all lines of a derivation are right, or the number of the first that is not
+abbrev pub verdict_text : Option ℕ → List ℕ
+verdict_text None = codes "yes" ++ 10 ∷ []
+verdict_text (Some n) = codes "no " ++ decimal n ++ 10 ∷ []
+
 -- the table of a run, the canonical text of a script, the counts of a pipeline that keeps the rules, its plan, the numbers of a run
--- over a stated world, or the rows of payouts
+-- over a stated world, the rows of payouts, or the verdict on a derivation
 unfoldable pub text_of : Contents → Option Request → List ℕ
 text_of held None = []
 text_of held (Some (Run q)) = run_text held q
@@ -55,6 +61,7 @@ text_of held (Some (Plan q)) =
     planned_text days (pipeline_held held) (index_of days q.from.day)
 text_of held (Some (Bench q)) = bench_line q.number
 text_of held (Some (Payouts q)) = payouts_text (days_held held) (assets_held held) (bars_held held) (payouts_held held)
+text_of held (Some (Verify q)) = verdict_text (first_wrong (world_held held q.world) (pipeline_held held) (derivation_held held))
 
 -- a plan of the pipeline over the sessions of a run, for its range
 pub record IsPlanFor (held : Contents) (q : RunRequest) (plan : Planned) : Type 0 where
@@ -84,7 +91,7 @@ table_stats w p rows steps = numbers_of w.texts p rows steps
 -- of a run, where it is asked for
 abbrev pub run_stats : Contents → RunRequest → ℕ → List ℕ
 run_stats held q steps =
-    let w = world_held held q in
+    let w = world_held held (run_world q) in
     let p = pipeline_held held in
     if q.options.stats then table_stats w p (rows_asked w p q) steps else []
 

@@ -180,7 +180,7 @@ pub fn plan_command<S: Shelf, O: Sink>(
 }
 
 // Writes a text of which no numbers are told.
-fn write_text<O: Sink>(out: &mut O, text: &[u8]) -> Result<Option<Stats>, Fault>
+pub(crate) fn write_text<O: Sink>(out: &mut O, text: &[u8]) -> Result<Option<Stats>, Fault>
     ensures writes { Writes O.taken O.faults O.sound O.room out.old out.new text.now result }
     ensures quiet { IfOk result (λ stats. stats ≡ None) }
     ensures unwritten { IfErr result (λ fault. fault ≡ Fault.Unwritten) }

@@ -4,6 +4,7 @@
 #![tactic(auto)]
 
 mod commands;
+mod derivations;
 mod payouts;
 mod stated;
 mod top;

@@ -9,6 +9,7 @@ ghost use Rattle.pl_cli.specs.Runs.{observed, IsRun, IsTold};
 ghost use Rattle.pl_cli.specs.Commands.{IsEnded, IsCaused, fault_of, numbers_told};
 
 use crate::commands::{Stats, check_command, fmt_command, plan_command, run_command};
+use crate::derivations::verify_command;
 use crate::payouts::payouts_command;
 use crate::stated::bench_command;
 use pl_fixed::Steps;
@@ -30,6 +31,8 @@ use std::sync::ledger::Ledger;
 ///   session whose bars are read;
 /// - `payouts SESSIONS ASSETS BARS PAYOUTS` writes the rows of the payouts file for the table of dividends, or why a payout has
 ///   none;
+/// - `verify PIPELINE SESSIONS ASSETS BARS DERIVATION`, with the options `--labels NAME`, `--adjustments NAME` and
+///   `--revisions NAME`, writes whether all lines of a derivation are right, or the number of the first that is not;
 /// - `bench NUMBER`, with the option `--chunk N`, runs a pipeline of the program's own over the stated world of the number, and
 ///   writes the numbers of that run.
 ///
@@ -45,7 +48,7 @@ use std::sync::ledger::Ledger;
 ///
 /// Every status but 0 has its line on `err`; status 0 has none but the numbers that are asked for. The first fault in the
 /// order of work decides: the words, the pipeline file, the sessions, the assets, the labels, the bars, the payouts, the
-/// adjustments, the range. The parts are handed back, so that a caller can run again.
+/// adjustments, the revisions, the range, the derivation. The parts are handed back, so that a caller can run again.
 pub fn run_program<S: Shelf, K: AdjustKeeper, O: Sink, E: Sink, L: Ledger>(
     alloc: Global,
     words: &[String],
@@ -120,6 +123,7 @@ fn answer<S: Shelf, K: AdjustKeeper, O: Sink, L: Ledger>(
         Some(Request::Plan(request)) => plan_command(alloc, request, shelf, out),
         Some(Request::Bench(request)) => bench_command(alloc, request, out, steps),
         Some(Request::Payouts(request)) => payouts_command(alloc, request, shelf, out),
+        Some(Request::Verify(request)) => verify_command(alloc, request, shelf, keeper, out),
     }
 }
 

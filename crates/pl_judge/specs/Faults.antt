@@ -12,7 +12,7 @@ use Rattle.pl_judge.specs.declared.fault.SyntaxFault.TheVariants.{BadByte, Unexp
 use Rattle.pl_judge.specs.declared.fault.RuleFault.{RuleFault}
 use Rattle.pl_judge.specs.declared.fault.RuleFault.TheVariants as rules
 use Rattle.pl_judge.specs.declared.fault.DataFault.{DataFault}
-use Rattle.pl_judge.specs.declared.fault.DataFault.TheVariants.{BadHeader, Empty, BadDate, NotAscending, BadField, StartAfterEnd, DuplicateSid, LabelTooLong, DuplicateStart, NotSession, UnknownSid, Negative, NotPositive, TooSoon, Duplicate}
+use Rattle.pl_judge.specs.declared.fault.DataFault.TheVariants.{BadHeader, Empty, BadDate, NotAscending, BadField, StartAfterEnd, DuplicateSid, LabelTooLong, DuplicateStart, NotSession, UnknownSid, Negative, NotPositive, TooSoon, Duplicate, BadLine}
 use Rattle.pl_judge.specs.declared.fault.RowFault.{RowFault}
 use Rattle.pl_judge.specs.declared.fault.RowFault.TheVariants.{BadEffective, BadRatio}
 use Rattle.pl_judge.specs.declared.fault.Limit.{Limit}
@@ -52,6 +52,7 @@ data_text Negative = codes "Negative"
 data_text NotPositive = codes "NotPositive"
 data_text TooSoon = codes "TooSoon"
 data_text Duplicate = codes "Duplicate"
+data_text BadLine = codes "BadLine"
 
 abbrev pub row_text : RowFault → List ℕ
 row_text BadEffective = codes "BadEffective"
@@ -74,6 +75,7 @@ limit_text limits.Bars = codes "bars"
 limit_text limits.Adjustments = codes "adjustments"
 limit_text limits.Revisions = codes "revisions"
 limit_text limits.Payouts = codes "payouts"
+limit_text limits.Derivation = codes "derivation"
 limit_text limits.Extra = codes "extra"
 
 abbrev pub status_of : Fault → ℕ

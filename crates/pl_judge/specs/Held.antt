@@ -20,13 +20,15 @@ use Rattle.pl_adjust.specs.Tables.{adjustments_in}
 use Rattle.pl_adjust.specs.Revised.{revised_by}
 use Rattle.pl_revisions.specs.declared.Revision.{Revision}
 use Rattle.pl_revisions.specs.Revisions.{revisions_of}
+use Rattle.pl_lines.specs.Lines.{Line}
+use Rattle.pl_lines.specs.Texts.{lines_in}
 use Rattle.pl_syntax.specs.Spells.{Parsed}
 use Rattle.pl_syntax.specs.Said.{Said, Spelled, Faulty, said}
 use Rattle.pl_check.specs.Typed.{typed}
 use Rattle.pl_outside.specs.declared.keeper.Table.{Table}
 use Rattle.pl_outside.specs.declared.keeper.Table.TheVariants.{Splits, Mergers, Dividends}
-use Rattle.pl_words.specs.declared.request.InputFile.TheVariants.{Pipeline as PipelineFile, Sessions, Assets, Labels, Bars, Revisions, Payouts}
-use Rattle.pl_words.specs.Request.{RunRequest}
+use Rattle.pl_words.specs.declared.request.InputFile.TheVariants.{Pipeline as PipelineFile, Sessions, Assets, Labels, Bars, Revisions, Payouts, Derivation}
+use Rattle.pl_words.specs.Request.{WorldNames}
 use Rattle.pl_judge.specs.Contents.{Contents}
 
 abbrev pub bytes_in : Option (List ℕ) → List ℕ
@@ -64,6 +66,10 @@ revisions_in days assets file = result_unwrap_or (revisions_of days assets (csv_
 
 unfoldable pub payouts_in : List AssetRow → Option (List ℕ) → List Dividend
 payouts_in assets file = result_unwrap_or (payouts_of assets (csv_records (bytes_in file))) []
+
+-- the lines of a derivation
+unfoldable pub derivation_in : Option (List ℕ) → List Line
+derivation_in file = result_unwrap_or (lines_in (bytes_in file)) []
 
 -- the adjustments of three tables, or the first fault of their rows
 abbrev pub adjustments_of_rows : List AssetRow → (Table → List RawAdjust) → Result (List ColumnAdjustment) rows.Fault
@@ -104,16 +110,19 @@ bars_held held = bars_in (days_held held) (assets_held held) (held.file Bars)
 abbrev pub payouts_held : Contents → List Dividend
 payouts_held held = payouts_in (assets_held held) (held.file Payouts)
 
+abbrev pub derivation_held : Contents → List Line
+derivation_held held = derivation_in (held.file Derivation)
+
 -- the adjustments of the three tables, and the revisions
-abbrev pub adjustments_held : Contents → RunRequest → List ColumnAdjustment
+abbrev pub adjustments_held : Contents → WorldNames → List ColumnAdjustment
 adjustments_held held q =
     let assets = assets_held held in
-    let adjustments = adjustments_asked assets q.options.adjustments held.rows in
-    revised_asked (days_held held) assets adjustments q.options.revisions (held.file Revisions)
+    let adjustments = adjustments_asked assets q.adjustments held.rows in
+    revised_asked (days_held held) assets adjustments q.revisions (held.file Revisions)
 
--- the world of a run
-abbrev pub world_held : Contents → RunRequest → World
+-- the world of these names
+abbrev pub world_held : Contents → WorldNames → World
 world_held held q =
     let assets = assets_held held in
-    let labels = labels_asked assets q.options.labels (held.file Labels) in
+    let labels = labels_asked assets q.labels (held.file Labels) in
     world_of (days_held held) assets labels.rows labels.texts (bars_held held) (adjustments_held held q)

@@ -9,6 +9,10 @@ use Rattle.pl_bars.specs.Bars as bars
 use Rattle.pl_adjust.specs.Walk as rows
 use Rattle.pl_revisions.specs.Revisions as revisions
 use Rattle.pl_payouts.specs.Payouts as payouts
+use Rattle.pl_lines.specs.Texts.{Broken}
+use Rattle.pl_lines.specs.Texts.Broken.{BadLine as UnreadLine, TooMany as ManyLines}
+use Rattle.pl_lines.specs.declared.read.LinesError.{LinesError}
+use Rattle.pl_lines.specs.declared.read.LinesError.TheVariants as lines_errors
 use Rattle.pl_grammar.specs.Faults as syntax
 use Rattle.pl_grammar.specs.declared.Place.{Place}
 use Rattle.pl_syntax.specs.declared.error.SyntaxError.{SyntaxError}
@@ -22,7 +26,7 @@ use Rattle.pl_check.specs.declared.fault.CheckError.TheVariants as check_errors
 use Rattle.pl_words.specs.declared.request.InputFile.TheVariants as files
 use Rattle.pl_judge.specs.declared.fault.SyntaxFault.TheVariants as misspelled
 use Rattle.pl_judge.specs.declared.fault.RuleFault.TheVariants as broken
-use Rattle.pl_judge.specs.declared.fault.DataFault.TheVariants.{BadHeader, Empty, BadDate, NotAscending, BadField, StartAfterEnd, DuplicateSid, LabelTooLong, DuplicateStart, NotSession, UnknownSid, Negative, NotPositive, TooSoon, Duplicate}
+use Rattle.pl_judge.specs.declared.fault.DataFault.TheVariants.{BadHeader, Empty, BadDate, NotAscending, BadField, StartAfterEnd, DuplicateSid, LabelTooLong, DuplicateStart, NotSession, UnknownSid, Negative, NotPositive, TooSoon, Duplicate, BadLine}
 use Rattle.pl_judge.specs.declared.fault.RowFault.TheVariants.{BadEffective, BadRatio}
 use Rattle.pl_judge.specs.declared.fault.Limit.TheVariants as limits
 use Rattle.pl_judge.specs.declared.fault.Fault.{Fault}
@@ -93,6 +97,10 @@ payouts_fault line payouts.BadField = Data files.Payouts line BadField
 payouts_fault line payouts.UnknownSid = Data files.Payouts line UnknownSid
 payouts_fault line payouts.NotPositive = Data files.Payouts line NotPositive
 
+abbrev pub lines_fault : Broken → Fault
+lines_fault (UnreadLine line) = Data files.Derivation line BadLine
+lines_fault (ManyLines line) = Passed limits.Derivation
+
 abbrev pub rows_fault : rows.Fault → Fault
 rows_fault rows.TooMany = Passed limits.Adjustments
 rows_fault (rows.BadEffective table id) = Row table id BadEffective
@@ -124,3 +132,8 @@ abbrev pub plan_error : PlanError → Fault
 plan_error (plan_errors.TooEarly reach) = TooEarly reach
 plan_error (plan_errors.TooDeep rows) = Passed limits.Extra
 plan_error plan_errors.Memory = Memory
+
+abbrev pub lines_error : LinesError → Fault
+lines_error (lines_errors.BadLine line) = Data files.Derivation line BadLine
+lines_error (lines_errors.TooMany line) = Passed limits.Derivation
+lines_error lines_errors.Memory = Memory

@@ -11,6 +11,8 @@ use Rattle.pl_bars.specs.Bars.{bars_of}
 use Rattle.pl_payouts.specs.Payouts.{payouts_of}
 use Rattle.pl_adjust.specs.Walk as rows
 use Rattle.pl_revisions.specs.Revisions.{revisions_of}
+use Rattle.pl_lines.specs.Lines.{Line}
+use Rattle.pl_lines.specs.Texts.{Broken as BrokenLines, lines_in}
 use Rattle.pl_syntax.specs.Spells.{Parsed}
 use Rattle.pl_syntax.specs.Said.{Said, Spelled, Faulty, said}
 use Rattle.pl_check.specs.Faults.{Broken}
@@ -18,15 +20,15 @@ use Rattle.pl_check.specs.Typed.{typed}
 use Rattle.pl_outside.specs.declared.keeper.Table.{Table}
 use Rattle.pl_outside.specs.declared.keeper.Table.TheVariants.{Splits, Mergers, Dividends}
 use Rattle.pl_words.specs.declared.request.InputFile.{InputFile}
-use Rattle.pl_words.specs.declared.request.InputFile.TheVariants.{Pipeline as PipelineFile, Sessions, Assets, Labels, Bars, Revisions, Payouts as PayoutsFile}
-use Rattle.pl_words.specs.Request.{Request, Run, Fmt, Check, Plan, Bench, Payouts, RunRequest, PlanRequest}
+use Rattle.pl_words.specs.declared.request.InputFile.TheVariants.{Pipeline as PipelineFile, Sessions, Assets, Labels, Bars, Revisions, Payouts as PayoutsFile, Derivation}
+use Rattle.pl_words.specs.Request.{Request, Run, Fmt, Check, Plan, Bench, Payouts, Verify, RunRequest, PlanRequest, VerifyRequest, WorldNames, run_world}
 use Rattle.pl_judge.specs.declared.limits.TheConstants.{PIPELINE_CAP, FILE_CAP}
 use Rattle.pl_judge.specs.declared.fault.Limit.{Limit}
 use Rattle.pl_judge.specs.declared.fault.Limit.TheVariants as limits
 use Rattle.pl_judge.specs.declared.fault.Fault.{Fault}
 use Rattle.pl_judge.specs.declared.fault.Fault.TheVariants.{Usage, Passed, Unread}
 use Rattle.pl_judge.specs.Contents.{Contents}
-use Rattle.pl_judge.specs.Rules.{syntax_fault, rule_fault, sessions_fault, assets_fault, labels_fault, bars_fault, revisions_fault, payouts_fault, rows_fault}
+use Rattle.pl_judge.specs.Rules.{syntax_fault, rule_fault, sessions_fault, assets_fault, labels_fault, bars_fault, revisions_fault, payouts_fault, lines_fault, rows_fault}
 use Rattle.pl_judge.specs.Held.{script_in, pipeline_held, days_held, assets_held, adjustments_of_rows}
 use Rattle.pl_judge.specs.Steps.{Step, rule}
 use Rattle.pl_judge.specs.Steps.Source.{Input, Load}
@@ -42,6 +44,7 @@ cap_of Labels = FILE_CAP
 cap_of Bars = FILE_CAP
 cap_of Revisions = FILE_CAP
 cap_of PayoutsFile = FILE_CAP
+cap_of Derivation = FILE_CAP
 
 abbrev pub limit_of : InputFile → Limit
 limit_of PipelineFile = limits.Pipeline
@@ -51,6 +54,7 @@ limit_of Labels = limits.File
 limit_of Bars = limits.File
 limit_of Revisions = limits.File
 limit_of PayoutsFile = limits.File
+limit_of Derivation = limits.File
 
 -- It is there, it has no more bytes than its cap, and then its rule decides.
 abbrev pub file_fault : InputFile → (List ℕ → Option Fault) → Option (List ℕ) → Option Fault
@@ -98,6 +102,13 @@ revisions_rule days assets bytes = fault_in revisions_fault (revisions_of days a
 unfoldable pub payouts_rule : List AssetRow → List ℕ → Option Fault
 payouts_rule assets bytes = fault_in payouts_fault (payouts_of assets (csv_records bytes))
 
+abbrev pub fault_of_lines : Result (List Line) BrokenLines → Option Fault
+fault_of_lines (Ok lines) = None
+fault_of_lines (Err f) = Some (lines_fault f)
+
+unfoldable pub lines_rule : List ℕ → Option Fault
+lines_rule bytes = fault_of_lines (lines_in bytes)
+
 abbrev pub fault_of_rows : {A : Type 0} → Result A rows.Fault → Option Fault
 fault_of_rows (Ok x) = None
 fault_of_rows (Err f) = Some (rows_fault f)
@@ -137,21 +148,29 @@ revisions_steps days assets None file = []
 revisions_steps days assets (Some name) file = read_step Revisions (revisions_rule days assets) file ∷ []
 
 -- Each file is read whole and judged before the next one is begun; the tables come behind the bars, and the revisions last.
-unfoldable pub data_steps : Contents → RunRequest → List Step
+unfoldable pub data_steps : Contents → WorldNames → List Step
 data_steps held q =
     let days = days_held held in
     let assets = assets_held held in
     sessions_step (held.file Sessions) ∷ read_step Assets assets_rule (held.file Assets)
-    ∷ (labels_steps assets q.options.labels (held.file Labels)
+    ∷ (labels_steps assets q.labels (held.file Labels)
     ++ (read_step Bars (bars_rule days assets) (held.file Bars)
-    ∷ (adjustments_steps assets q.options.adjustments held.rows
-    ++ revisions_steps days assets q.options.revisions (held.file Revisions))))
+    ∷ (adjustments_steps assets q.adjustments held.rows
+    ++ revisions_steps days assets q.revisions (held.file Revisions))))
 
 -- first the pipeline file, then the data, and then the range
 abbrev pub run_steps : Contents → RunRequest → List Step
 run_steps held q =
     pipeline_steps (held.file PipelineFile)
-    ++ (data_steps held q ++ range_steps (pipeline_held held) (days_held held) q.from q.to q.options.as_of)
+    ++ (data_steps held (run_world q) ++ range_steps (pipeline_held held) (days_held held) q.from q.to q.options.as_of)
+
+abbrev pub derivation_step : Option (List ℕ) → Step
+derivation_step file = read_step Derivation lines_rule file
+
+-- the pipeline file, the data, and then the derivation
+abbrev pub verify_steps : Contents → VerifyRequest → List Step
+verify_steps held q =
+    pipeline_steps (held.file PipelineFile) ++ (data_steps held q.world ++ derivation_step (held.file Derivation) ∷ [])
 
 -- the pipeline file, the sessions, and the range
 abbrev pub planning_steps : Contents → PlanRequest → List Step
@@ -177,3 +196,4 @@ work held (Some (Check name)) = pipeline_steps (held.file PipelineFile)
 work held (Some (Plan q)) = planning_steps held q
 work held (Some (Bench q)) = []
 work held (Some (Payouts q)) = payouts_steps held
+work held (Some (Verify q)) = verify_steps held q

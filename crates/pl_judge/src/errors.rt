@@ -1,7 +1,7 @@
 // What the errors of the readers and of the checker are to a command.
 ghost use Rattle.std.specs.Prelude.{◌≡◌};
 ghost use Rattle.pl_judge.specs.Stages.{Tells};
-ghost use Rattle.pl_judge.specs.Rules.{told_at, told, sessions_fault, assets_fault, labels_fault, bars_fault, revisions_fault, payouts_fault, rows_fault, syntax_error, rule_fault, check_error, plan_error};
+ghost use Rattle.pl_judge.specs.Rules.{told_at, told, sessions_fault, assets_fault, labels_fault, bars_fault, revisions_fault, payouts_fault, rows_fault, syntax_error, rule_fault, check_error, plan_error, lines_error};
 
 use crate::{DataFault, Fault, Limit, RowFault, RuleFault, SyntaxFault};
 use pl_adjust::{AdjustError, RevisionsError};
@@ -10,6 +10,7 @@ use pl_bars::BarsError;
 use pl_calendar::CalendarError;
 use pl_check::{CheckError, CheckFault};
 use pl_fixed::Memory;
+use pl_lines::LinesError;
 use pl_payouts::PayoutsError;
 use pl_planner::PlanError;
 use pl_syntax::{Place, SyntaxError};
@@ -172,6 +173,20 @@ impl From<PayoutsError> for Fault {
             PayoutsError::NotPositive { line } => faulty(file, line, DataFault::NotPositive),
             PayoutsError::TooMany { .. } => Fault::Passed(Limit::Payouts),
             PayoutsError::Memory => Fault::Memory,
+        }
+    }
+}
+
+impl From<LinesError> for Fault {
+    ghost from_gives = { λ error fault. Tells fault (lines_error error) };
+
+    fn from(error: LinesError) -> Fault {
+        match error {
+            LinesError::BadLine { line } => {
+                faulty(InputFile::Derivation, line, DataFault::BadLine)
+            }
+            LinesError::TooMany { .. } => Fault::Passed(Limit::Derivation),
+            LinesError::Memory => Fault::Memory,
         }
     }
 }

@@ -24,6 +24,8 @@ pub enum Limit {
     Adjustments,
     Revisions,
     Payouts,
+    /// The lines of a derivation.
+    Derivation,
     /// The extra rows of a term.
     Extra,
 }
@@ -68,6 +70,7 @@ pub enum DataFault {
     NotPositive,
     TooSoon,
     Duplicate,
+    BadLine,
 }
 
 /// The rule that a row of a table of adjustments breaks.
@@ -196,6 +199,7 @@ impl DataFault {
             DataFault::NotPositive => "NotPositive",
             DataFault::TooSoon => "TooSoon",
             DataFault::Duplicate => "Duplicate",
+            DataFault::BadLine => "BadLine",
         }
     }
 }
@@ -229,6 +233,7 @@ impl Limit {
             Limit::Adjustments => "adjustments",
             Limit::Revisions => "revisions",
             Limit::Payouts => "payouts",
+            Limit::Derivation => "derivation",
             Limit::Extra => "extra",
         }
     }

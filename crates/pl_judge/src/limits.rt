@@ -23,7 +23,8 @@ pub fn cap_of(file: InputFile) -> usize
         | InputFile::Labels
         | InputFile::Bars
         | InputFile::Revisions
-        | InputFile::Payouts => FILE_CAP,
+        | InputFile::Payouts
+        | InputFile::Derivation => FILE_CAP,
     }
 }
 
@@ -38,6 +39,7 @@ pub fn limit_of(file: InputFile) -> Limit
         | InputFile::Labels
         | InputFile::Bars
         | InputFile::Revisions
-        | InputFile::Payouts => Limit::File,
+        | InputFile::Payouts
+        | InputFile::Derivation => Limit::File,
     }
 }

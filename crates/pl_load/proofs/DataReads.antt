@@ -1,4 +1,4 @@
--- The data of a run, part by part.
+-- The data of a world, part by part.
 use Rattle.std.proofs.Common.{◌≡◌, ℕ, ℤ, Bool, List, [], ◌∷◌, Option, Some, None, Result, Ok, Err, refl}
 use Rattle.std.specs.Option.{ForSome}
 use Rattle.pl_spec.specs.declared.AssetRow.{AssetRow}
@@ -11,82 +11,83 @@ use Rattle.pl_outside.specs.Lists.{Lists}
 use Rattle.pl_outside.specs.declared.keeper.Table.{Table}
 use Rattle.pl_model.specs.declared.owned.OwnedWorld.{OwnedWorld}
 use Rattle.pl_words.specs.declared.request.InputFile.{InputFile}
-use Rattle.pl_words.specs.declared.request.InputFile.TheVariants.{Pipeline, Sessions, Assets, Labels, Bars, Revisions, Payouts}
-use Rattle.pl_words.specs.Request.{RunRequest, Run, name_asked}
+use Rattle.pl_words.specs.declared.request.InputFile.TheVariants.{Pipeline, Sessions, Assets, Labels, Bars, Revisions, Payouts, Derivation}
+use Rattle.pl_words.specs.Request.{WorldNames, world_name}
 use Rattle.pl_judge.specs.declared.fault.Fault.{Fault}
-use Rattle.pl_judge.specs.Contents.{Contents, AreHeld}
+use Rattle.pl_judge.specs.Contents.{Contents}
 use Rattle.pl_judge.specs.Held.{days_in, assets_in, labels_asked, bars_in, adjustments_asked, revised_asked}
 use Rattle.pl_judge.specs.Work.{read_step, sessions_rule, assets_rule, labels_steps, bars_rule, adjustments_steps, revisions_steps, data_steps}
 use Rattle.pl_judge.proofs.Steps.{stage-stops, stage-goes_on, stage-done, stage-weaker, always}
 use Rattle.pl_load.specs.Reads.{IsRead, AreLoaded}
-use Rattle.pl_load.specs.Loads.{IsData}
+use Rattle.pl_load.specs.Loads.{AreDataHeld, IsData}
 use Rattle.pl_load.proofs.FileReads.{held_under, held-told}
 use Rattle.pl_load.proofs.TableReads.{listed_under, listed-told}
 
 -- ---- what the stages say
 
-abbrev pub DaysRead : Option Files → Bool → RunRequest → Result (List ℤ) Fault → Type 0
+abbrev pub DaysRead : Option Files → Bool → WorldNames → Result (List ℤ) Fault → Type 0
 DaysRead tells sound q r = IsRead tells sound (Some q.sessions) (λ held. read_step Sessions sessions_rule held ∷ []) (λ held x. days_in held ≡ x) r
 
-abbrev pub AssetsRead : Option Files → Bool → RunRequest → Result (List AssetRow) Fault → Type 0
+abbrev pub AssetsRead : Option Files → Bool → WorldNames → Result (List AssetRow) Fault → Type 0
 AssetsRead tells sound q r = IsRead tells sound (Some q.assets) (λ held. read_step Assets assets_rule held ∷ []) (λ held x. assets_in held ≡ x) r
 
-abbrev pub LabelsRead : Option Files → Bool → RunRequest → List AssetRow → Result LabelTable Fault → Type 0
+abbrev pub LabelsRead : Option Files → Bool → WorldNames → List AssetRow → Result LabelTable Fault → Type 0
 LabelsRead tells sound q assets r =
-    IsRead tells sound q.options.labels (labels_steps assets q.options.labels) (λ held x. labels_asked assets q.options.labels held ≡ x) r
+    IsRead tells sound q.labels (labels_steps assets q.labels) (λ held x. labels_asked assets q.labels held ≡ x) r
 
-abbrev pub BarsRead : Option Files → Bool → RunRequest → List ℤ → List AssetRow → Result (List BarRow) Fault → Type 0
+abbrev pub BarsRead : Option Files → Bool → WorldNames → List ℤ → List AssetRow → Result (List BarRow) Fault → Type 0
 BarsRead tells sound q days assets r =
     IsRead tells sound (Some q.bars) (λ held. read_step Bars (bars_rule days assets) held ∷ []) (λ held x. bars_in days assets held ≡ x) r
 
-abbrev pub AdjustmentsRead : Option Lists → Bool → RunRequest → List AssetRow → Result (List ColumnAdjustment) Fault → Type 0
+abbrev pub AdjustmentsRead : Option Lists → Bool → WorldNames → List AssetRow → Result (List ColumnAdjustment) Fault → Type 0
 AdjustmentsRead lists sound q assets r =
-    AreLoaded lists sound q.options.adjustments (adjustments_steps assets q.options.adjustments)
-    (λ rows x. adjustments_asked assets q.options.adjustments rows ≡ x) r
+    AreLoaded lists sound q.adjustments (adjustments_steps assets q.adjustments)
+    (λ rows x. adjustments_asked assets q.adjustments rows ≡ x) r
 
-abbrev pub RevisionsRead : Option Files → Bool → RunRequest → List ℤ → List AssetRow → List ColumnAdjustment → Result (List ColumnAdjustment) Fault → Type 0
+abbrev pub RevisionsRead : Option Files → Bool → WorldNames → List ℤ → List AssetRow → List ColumnAdjustment → Result (List ColumnAdjustment) Fault → Type 0
 RevisionsRead tells sound q days assets adjustments r =
-    IsRead tells sound q.options.revisions (revisions_steps days assets q.options.revisions)
-    (λ held x. revised_asked days assets adjustments q.options.revisions held ≡ x) r
+    IsRead tells sound q.revisions (revisions_steps days assets q.revisions)
+    (λ held x. revised_asked days assets adjustments q.revisions held ≡ x) r
 
 -- ---- the contents
 
-abbrev pub files_by : (pipeline sessions assets labels bars revisions : Option (List ℕ)) → InputFile → Option (List ℕ)
-files_by pipeline sessions assets labels bars revisions Pipeline = pipeline
-files_by pipeline sessions assets labels bars revisions Sessions = sessions
-files_by pipeline sessions assets labels bars revisions Assets = assets
-files_by pipeline sessions assets labels bars revisions Labels = labels
-files_by pipeline sessions assets labels bars revisions Bars = bars
-files_by pipeline sessions assets labels bars revisions Revisions = revisions
-files_by pipeline sessions assets labels bars revisions Payouts = None
+abbrev pub files_by : (sessions assets labels bars revisions : Option (List ℕ)) → InputFile → Option (List ℕ)
+files_by sessions assets labels bars revisions Pipeline = None
+files_by sessions assets labels bars revisions Sessions = sessions
+files_by sessions assets labels bars revisions Assets = assets
+files_by sessions assets labels bars revisions Labels = labels
+files_by sessions assets labels bars revisions Bars = bars
+files_by sessions assets labels bars revisions Revisions = revisions
+files_by sessions assets labels bars revisions Payouts = None
+files_by sessions assets labels bars revisions Derivation = None
 
 abbrev IsTold : Option Files → Option (List ℕ) → Option (List ℕ) → Type 0
 IsTold tells name file = ForSome name (λ n. ForSome tells (λ files. file ≡ files n))
 
-module _ (tells : Option Files) (lists : Option Lists) (sound keeper : Bool) (q : RunRequest) where
-  -- the pipeline file was read before, and matters nothing here
+module _ (tells : Option Files) (lists : Option Lists) (sound keeper : Bool) (q : WorldNames) where
   abbrev data_held : (sessions assets labels bars revisions : Option (List ℕ)) → (Table → List RawAdjust) → Contents
-  data_held sessions assets labels bars revisions rows = record { file = files_by (held_under tells (Some q.pipeline)) sessions assets labels bars revisions; rows = rows }
+  data_held sessions assets labels bars revisions rows = record { file = files_by sessions assets labels bars revisions; rows = rows }
 
   abbrev AreTold : (Table → List RawAdjust) → Type 0
-  AreTold rows = (table : Table) → ForSome q.options.adjustments (λ n. ForSome lists (λ told. rows table ≡ told n table))
+  AreTold rows = (table : Table) → ForSome q.adjustments (λ n. ForSome lists (λ told. rows table ≡ told n table))
 
   by-file : (sessions assets labels bars revisions : Option (List ℕ))
-      → IsTold tells (Some q.sessions) sessions → IsTold tells (Some q.assets) assets → IsTold tells q.options.labels labels → IsTold tells (Some q.bars) bars
-      → IsTold tells q.options.revisions revisions
-      → (file : InputFile) → IsTold tells (name_asked (Some (Run q)) file) (files_by (held_under tells (Some q.pipeline)) sessions assets labels bars revisions file)
-  by-file sessions assets labels bars revisions s a l b v Pipeline = held-told tells (Some q.pipeline)
+      → IsTold tells (Some q.sessions) sessions → IsTold tells (Some q.assets) assets → IsTold tells q.labels labels → IsTold tells (Some q.bars) bars
+      → IsTold tells q.revisions revisions
+      → (file : InputFile) → IsTold tells (world_name q file) (files_by sessions assets labels bars revisions file)
+  by-file sessions assets labels bars revisions s a l b v Pipeline = λ n is. absurd (cc)
   by-file sessions assets labels bars revisions s a l b v Sessions = s
   by-file sessions assets labels bars revisions s a l b v Assets = a
   by-file sessions assets labels bars revisions s a l b v Labels = l
   by-file sessions assets labels bars revisions s a l b v Bars = b
   by-file sessions assets labels bars revisions s a l b v Revisions = v
   by-file sessions assets labels bars revisions s a l b v Payouts = λ n is. absurd (cc)
+  by-file sessions assets labels bars revisions s a l b v Derivation = λ n is. absurd (cc)
 
   are-held : (sessions assets labels bars revisions : Option (List ℕ)) (rows : Table → List RawAdjust)
-      → IsTold tells (Some q.sessions) sessions → IsTold tells (Some q.assets) assets → IsTold tells q.options.labels labels → IsTold tells (Some q.bars) bars
-      → IsTold tells q.options.revisions revisions
-      → AreTold rows → AreHeld tells lists (Some (Run q)) (data_held sessions assets labels bars revisions rows)
+      → IsTold tells (Some q.sessions) sessions → IsTold tells (Some q.assets) assets → IsTold tells q.labels labels → IsTold tells (Some q.bars) bars
+      → IsTold tells q.revisions revisions
+      → AreTold rows → AreDataHeld tells lists q (data_held sessions assets labels bars revisions rows)
   are-held sessions assets labels bars revisions rows s a l b v r = record { files_held = by-file sessions assets labels bars revisions s a l b v; rows_held = r }
 
   -- what was not reached is what the parts hold
@@ -94,16 +95,16 @@ module _ (tells : Option Files) (lists : Option Lists) (sound keeper : Bool) (q 
   assets_left = held_under tells (Some q.assets)
 
   abbrev labels_left : Option (List ℕ)
-  labels_left = held_under tells q.options.labels
+  labels_left = held_under tells q.labels
 
   abbrev bars_left : Option (List ℕ)
   bars_left = held_under tells (Some q.bars)
 
   abbrev revisions_left : Option (List ℕ)
-  revisions_left = held_under tells q.options.revisions
+  revisions_left = held_under tells q.revisions
 
   abbrev rows_left : Table → List RawAdjust
-  rows_left = listed_under lists q.options.adjustments
+  rows_left = listed_under lists q.adjustments
 
   -- ---- the stage at which the reading stops
 

@@ -7,3 +7,4 @@ pub mod DataReads
 pub mod RunReads
 pub mod PlanReads
 pub mod PayoutReads
+pub mod DerivationReads

@@ -47,6 +47,7 @@ module _ (tells : Option Files) (sound : Bool) (q : PayoutsRequest) where
   files sessions assets bars payouts file.Bars = bars
   files sessions assets bars payouts file.Revisions = None
   files sessions assets bars payouts file.Payouts = payouts
+  files sessions assets bars payouts file.Derivation = None
 
   abbrev four : (sessions assets bars payouts : Option (List ℕ)) → Contents
   four sessions assets bars payouts = record { file = files sessions assets bars payouts; rows = λ t. [] }
@@ -60,6 +61,7 @@ module _ (tells : Option Files) (sound : Bool) (q : PayoutsRequest) where
   by-file sessions assets bars payouts s a b p file.Bars = b
   by-file sessions assets bars payouts s a b p file.Revisions = λ n is. absurd (cc)
   by-file sessions assets bars payouts s a b p file.Payouts = p
+  by-file sessions assets bars payouts s a b p file.Derivation = λ n is. absurd (cc)
 
   are-held : (sessions assets bars payouts : Option (List ℕ)) → IsTold q.sessions sessions → IsTold q.assets assets → IsTold q.bars bars → IsTold q.payouts payouts
       → (lists : Option Lists) → AreHeld tells lists (Some (Payouts q)) (four sessions assets bars payouts)

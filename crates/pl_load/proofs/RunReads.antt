@@ -6,9 +6,9 @@ use Rattle.pl_outside.specs.Lists.{Lists}
 use Rattle.pl_model.specs.declared.owned.OwnedWorld.{OwnedWorld}
 use Rattle.pl_terms.specs.Checked.{Parts, pipeline_of}
 use Rattle.pl_words.specs.declared.request.InputFile.{InputFile}
-use Rattle.pl_words.specs.declared.request.InputFile.TheVariants.{Pipeline, Sessions, Assets, Labels, Bars, Revisions, Payouts}
+use Rattle.pl_words.specs.declared.request.InputFile.TheVariants.{Pipeline, Sessions, Assets, Labels, Bars, Revisions, Payouts, Derivation}
 use Rattle.pl_planner.specs.Plans.{IsPlanOf}
-use Rattle.pl_words.specs.Request.{RunRequest, Run, name_asked}
+use Rattle.pl_words.specs.Request.{RunRequest, WorldNames, Run, run_world, world_name, name_asked}
 use Rattle.pl_judge.specs.declared.fault.Fault.{Fault}
 use Rattle.pl_judge.specs.declared.fault.Fault.TheVariants.{Memory}
 use Rattle.pl_judge.specs.Contents.{Contents, AreHeld}
@@ -19,7 +19,7 @@ use Rattle.pl_judge.specs.Stages.{StageEnds}
 use Rattle.pl_judge.proofs.Steps.{stage-stops, stage-goes_on, stage-done, stage-weaker, stage-over, always}
 use Rattle.pl_load.specs.declared.loading.Loaded.{Loaded}
 use Rattle.pl_load.specs.Reads.{IsRead}
-use Rattle.pl_load.specs.Loads.{IsData, IsKnown, IsLoad}
+use Rattle.pl_load.specs.Loads.{AreDataHeld, IsData, IsKnown, IsLoad}
 use Rattle.pl_load.proofs.FileReads.{held_under, held-told}
 use Rattle.pl_load.proofs.KnownWorlds.{world-known, shown-same}
 use Rattle.pl_load.proofs.TableReads.{listed_under, listed-told}
@@ -36,16 +36,17 @@ file_with pipeline file Labels = file Labels
 file_with pipeline file Bars = file Bars
 file_with pipeline file Revisions = file Revisions
 file_with pipeline file Payouts = file Payouts
+file_with pipeline file Derivation = file Derivation
 
 abbrev held_with : Option (List ℕ) → Contents → Contents
 held_with pipeline held = record { file = file_with pipeline held.file; rows = held.rows }
 
-same-steps : (pipeline : Option (List ℕ)) (held : Contents) (q : RunRequest) → data_steps held q ≡ data_steps (held_with pipeline held) q
+same-steps : (pipeline : Option (List ℕ)) (held : Contents) (q : WorldNames) → data_steps held q ≡ data_steps (held_with pipeline held) q
 unfolding data_steps
 same-steps pipeline held q = refl
 
 module _ (tells : Option Files) (lists : Option Lists) (sound keeper : Bool) (q : RunRequest) where
-  by-file : (pipeline : Option (List ℕ)) (held : Contents) → ForSome (Some q.pipeline) (λ n. ForSome tells (λ told. pipeline ≡ told n)) → AreHeld tells lists (Some (Run q)) held
+  by-file : (pipeline : Option (List ℕ)) (held : Contents) → ForSome (Some q.pipeline) (λ n. ForSome tells (λ told. pipeline ≡ told n)) → AreDataHeld tells lists (run_world q) held
       → (file : InputFile) → ForSome (name_asked (Some (Run q)) file) (λ name. ForSome tells (λ told. file_with pipeline held.file file ≡ told name))
   by-file pipeline held p h Pipeline = p
   by-file pipeline held p h Sessions = h.files_held Sessions
@@ -54,17 +55,18 @@ module _ (tells : Option Files) (lists : Option Lists) (sound keeper : Bool) (q 
   by-file pipeline held p h Bars = h.files_held Bars
   by-file pipeline held p h Revisions = h.files_held Revisions
   by-file pipeline held p h Payouts = h.files_held Payouts
+  by-file pipeline held p h Derivation = h.files_held Derivation
 
-  are-held : (pipeline : Option (List ℕ)) (held : Contents) → ForSome (Some q.pipeline) (λ n. ForSome tells (λ told. pipeline ≡ told n)) → AreHeld tells lists (Some (Run q)) held
+  are-held : (pipeline : Option (List ℕ)) (held : Contents) → ForSome (Some q.pipeline) (λ n. ForSome tells (λ told. pipeline ≡ told n)) → AreDataHeld tells lists (run_world q) held
       → AreHeld tells lists (Some (Run q)) (held_with pipeline held)
   are-held pipeline held p h = record { files_held = by-file pipeline held p h; rows_held = h.rows_held }
 
   -- what was not reached is what the parts hold
   abbrev left : Contents
-  left = record { file = λ file. held_under tells (name_asked (Some (Run q)) file); rows = listed_under lists q.options.adjustments }
+  left = record { file = λ file. held_under tells (world_name (run_world q) file); rows = listed_under lists q.options.adjustments }
 
-  are-left : AreHeld tells lists (Some (Run q)) left
-  are-left = record { files_held = λ file. held-told tells (name_asked (Some (Run q)) file); rows_held = listed-told lists q.options.adjustments }
+  are-left : AreDataHeld tells lists (run_world q) left
+  are-left = record { files_held = λ file. held-told tells (world_name (run_world q) file); rows_held = listed-told lists q.options.adjustments }
 
   pub no-pipeline : (fault : Fault) → PipelineRead tells sound q (Err fault) → IsLoad tells lists sound keeper q (Err fault)
   no-pipeline fault h =
@@ -75,29 +77,29 @@ module _ (tells : Option Files) (lists : Option Lists) (sound keeper : Bool) (q 
         loaded = tt;
       }
 
-  pub no-data : (c : Parts) (fault : Fault) → PipelineRead tells sound q (Ok c) → IsData tells lists sound keeper q (Err fault) → IsLoad tells lists sound keeper q (Err fault)
+  pub no-data : (c : Parts) (fault : Fault) → PipelineRead tells sound q (Ok c) → IsData tells lists sound keeper (run_world q) (Err fault) → IsLoad tells lists sound keeper q (Err fault)
   no-data c fault h d =
       record {
         held = held_with h.file d.held;
         are_held = are-held h.file d.held h.is_told d.are_held;
         ends = rw h.means
-            (stage-goes_on h.ends (stage-stops _ (stage-weaker {U = Unit {0}} (λ t. t) (λ t. t) (stage-over (same-steps h.file d.held q) d.ends))));
+            (stage-goes_on h.ends (stage-stops _ (stage-weaker {U = Unit {0}} (λ t. t) (λ t. t) (stage-over (same-steps h.file d.held (run_world q)) d.ends))));
         loaded = tt;
       }
 
-  pub no-dates : {T : Type 0} (c : Parts) (w : OwnedWorld) (fault : Fault) → PipelineRead tells sound q (Ok c) → IsData tells lists sound keeper q (Ok w)
+  pub no-dates : {T : Type 0} (c : Parts) (w : OwnedWorld) (fault : Fault) → PipelineRead tells sound q (Ok c) → IsData tells lists sound keeper (run_world q) (Ok w)
       → StageEnds {T = T} true true (dates_steps q.from q.to q.options.as_of w.sessions) (Err fault) → IsLoad tells lists sound keeper q (Err fault)
   no-dates c w fault h d r =
       record {
         held = held_with h.file d.held;
         are_held = are-held h.file d.held h.is_told d.are_held;
         ends = rw (h.means, d.days)
-            (stage-goes_on h.ends (stage-goes_on (stage-over (same-steps h.file d.held q) d.ends) (stage-stops _ (stage-weaker {U = Unit {0}} always always r))));
+            (stage-goes_on h.ends (stage-goes_on (stage-over (same-steps h.file d.held (run_world q)) d.ends) (stage-stops _ (stage-weaker {U = Unit {0}} always always r))));
         loaded = tt;
       }
 
   pub no-plan : {T U : Type 0} (c : Parts) (w : OwnedWorld) (x : T) (from to : ℕ) (fault : Fault) → PipelineRead tells sound q (Ok c)
-      → IsData tells lists sound keeper q (Ok w)
+      → IsData tells lists sound keeper (run_world q) (Ok w)
       → StageEnds true true (dates_steps q.from q.to q.options.as_of w.sessions) (Ok x) → from ≡ index_of w.sessions q.from.day → to ≡ index_of w.sessions q.to.day
       → StageEnds {T = U} true true (plan_steps (pipeline_of c) w.sessions from to) (Err fault) → IsLoad tells lists sound keeper q (Err fault)
   no-plan c w x from to fault h d r at until e =
@@ -105,11 +107,11 @@ module _ (tells : Option Files) (lists : Option Lists) (sound keeper : Bool) (q 
         held = held_with h.file d.held;
         are_held = are-held h.file d.held h.is_told d.are_held;
         ends = rw (h.means, d.days, ← at, ← until)
-            (stage-goes_on h.ends (stage-goes_on (stage-over (same-steps h.file d.held q) d.ends) (stage-goes_on r (stage-weaker always always e))));
+            (stage-goes_on h.ends (stage-goes_on (stage-over (same-steps h.file d.held (run_world q)) d.ends) (stage-goes_on r (stage-weaker always always e))));
         loaded = tt;
       }
 
-  pub no-room : (c : Parts) (w : OwnedWorld) → PipelineRead tells sound q (Ok c) → IsData tells lists sound keeper q (Ok w) → IsLoad tells lists sound keeper q (Err Memory)
+  pub no-room : (c : Parts) (w : OwnedWorld) → PipelineRead tells sound q (Ok c) → IsData tells lists sound keeper (run_world q) (Ok w) → IsLoad tells lists sound keeper q (Err Memory)
   no-room c w h d =
       record {
         held = held_with h.file d.held;
@@ -118,7 +120,7 @@ module _ (tells : Option Files) (lists : Option Lists) (sound keeper : Bool) (q 
         loaded = tt;
       }
 
-  pub all-loaded : {T U : Type 0} (l : Loaded) (w : OwnedWorld) (x : T) (y : U) (from to : ℕ) (session : Option ℕ) → PipelineRead tells sound q (Ok l.checked) → IsData tells lists sound keeper q (Ok w)
+  pub all-loaded : {T U : Type 0} (l : Loaded) (w : OwnedWorld) (x : T) (y : U) (from to : ℕ) (session : Option ℕ) → PipelineRead tells sound q (Ok l.checked) → IsData tells lists sound keeper (run_world q) (Ok w)
       → StageEnds true true (dates_steps q.from q.to q.options.as_of w.sessions) (Ok x) → from ≡ index_of w.sessions q.from.day → to ≡ index_of w.sessions q.to.day
       → session ≡ index_asked w.sessions q.options.as_of → IsDateOf w.sessions session q.options.as_of → IfSome session (λ d. to ≤ d)
       → StageEnds true true (plan_steps (pipeline_of l.checked) w.sessions from to) (Ok y)
@@ -129,10 +131,10 @@ module _ (tells : Option Files) (lists : Option Lists) (sound keeper : Bool) (q 
         held = held_with h.file d.held;
         are_held = are-held h.file d.held h.is_told d.are_held;
         ends = rw (h.means, d.days, ← at, ← until)
-            (stage-goes_on h.ends (stage-goes_on (stage-over (same-steps h.file d.held q) d.ends) (stage-goes_on r (stage-done e))));
+            (stage-goes_on h.ends (stage-goes_on (stage-over (same-steps h.file d.held (run_world q)) d.ends) (stage-goes_on r (stage-done e))));
         loaded = record {
           pipeline = h.means;
-          world = world-known q.options.as_of (days_held d.held) (world_held d.held q) w l.world session d.days d.world k date known;
+          world = world-known q.options.as_of (days_held d.held) (world_held d.held (run_world q)) w l.world session d.days d.world k date known;
           same = rw d.world (shown-same w l.world session (pipeline_of l.checked) l.plan.from l.plan.to (rw end last) known);
           plan = rw d.days plan;
           from = rw (d.days, ← at, first) refl;

@@ -2,3 +2,4 @@
 pub mod Reads
 pub mod Loads
 pub mod PaidOut
+pub mod Derived

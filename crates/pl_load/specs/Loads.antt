@@ -1,15 +1,18 @@
 -- What was loaded.
-use Rattle.std.specs.Prelude.{◌≡◌, ℕ, ℤ, pos, ◌≤ℤ◌, Bool, true, Option, Some, None, Result, IfOk, slice_get}
+use Rattle.std.specs.Prelude.{◌≡◌, ℕ, ℤ, List, pos, ◌≤ℤ◌, Bool, true, Option, Some, None, Result, IfOk, slice_get}
 use Rattle.pl_spec.specs.AsOf.{as_of}
 use Rattle.pl_spec.specs.Table.{Pipeline}
 use Rattle.pl_terms.specs.Checked.{pipeline_of}
+use Rattle.std.specs.Option.{ForSome}
 use Rattle.pl_outside.specs.Files.{Files}
 use Rattle.pl_outside.specs.Lists.{Lists}
+use Rattle.pl_outside.specs.declared.keeper.Table.{Table}
 use Rattle.pl_model.specs.declared.owned.OwnedWorld.{OwnedWorld}
 use Rattle.pl_model.specs.Known.{ShowsSame}
 use Rattle.pl_model.specs.Worlds.{owned_world, IsOwned}
 use Rattle.pl_planner.specs.Plans.{IsPlanOf}
-use Rattle.pl_words.specs.Request.{RunRequest, PlanRequest, Run, Plan}
+use Rattle.pl_words.specs.declared.request.InputFile.{InputFile}
+use Rattle.pl_words.specs.Request.{RunRequest, PlanRequest, WorldNames, Run, Plan, run_world, world_name}
 use Rattle.pl_judge.specs.declared.fault.Fault.{Fault}
 use Rattle.pl_judge.specs.Contents.{Contents, AreHeld}
 use Rattle.pl_judge.specs.Held.{pipeline_held, days_held, world_held}
@@ -38,7 +41,7 @@ IsKnown w (Some d) v = IsKnownBy w d v
 pub record IsLoaded (held : Contents) (q : RunRequest) (l : Loaded) : Type 0 where
   pub pipeline : pipeline_held held ≡ pipeline_of l.checked
   pub world : world_known held q ≡ owned_world l.world
-  pub same : ShowsSame (owned_world l.world) (world_held held q) (pipeline_of l.checked) l.plan.from l.plan.to
+  pub same : ShowsSame (owned_world l.world) (world_held held (run_world q)) (pipeline_of l.checked) l.plan.from l.plan.to
   pub plan : IsPlanOf (days_held held) (pipeline_of l.checked) l.plan
   pub from : index_of (days_held held) q.from.day ≡ l.plan.from
   pub to : index_of (days_held held) q.to.day ≡ l.plan.to
@@ -48,10 +51,15 @@ pub record IsReady (l : Loaded) : Type 0 where
   pub made : IsOwned l.world
   pub plan : IsPlanOf l.world.sessions (pipeline_of l.checked) l.plan
 
--- The data of a run is read: it is that of contents which the parts hold where they tell, and the work over these ends so.
-pub record IsData (files : Option Files) (lists : Option Lists) (shelf keeper : Bool) (q : RunRequest) (result : Result OwnedWorld Fault) : Type 0 where
+-- The contents are what the parts hold under the names of a world, wherever they tell.
+pub record AreDataHeld (files : Option Files) (lists : Option Lists) (q : WorldNames) (held : Contents) : Type 0 where
+  pub files_held : (file : InputFile) → ForSome (world_name q file) (λ name. ForSome files (λ told. held.file file ≡ told name))
+  pub rows_held : (table : Table) → ForSome q.adjustments (λ name. ForSome lists (λ told. held.rows table ≡ told name table))
+
+-- The data of a world is read: it is that of contents which the parts hold where they tell, and the work over these ends so.
+pub record IsData (files : Option Files) (lists : Option Lists) (shelf keeper : Bool) (q : WorldNames) (result : Result OwnedWorld Fault) : Type 0 where
   pub held : Contents
-  pub are_held : AreHeld files lists (Some (Run q)) held
+  pub are_held : AreDataHeld files lists q held
   pub ends : StageEnds shelf keeper (data_steps held q) result
   pub days : IfOk result (λ w. days_held held ≡ w.sessions)
   pub world : IfOk result (λ w. world_held held q ≡ owned_world w)

@@ -6,8 +6,8 @@ ghost use Rattle.pl_payouts.specs.Payouts.{AreKnown};
 ghost use Rattle.pl_syntax.specs.Scripts.{parsed};
 ghost use Rattle.pl_terms.specs.Checked.{pipeline_of};
 ghost use Rattle.pl_words.specs.declared.request.InputFile.TheVariants as files;
-ghost use Rattle.pl_judge.specs.Held.{script_in, pipeline_in, days_in, assets_in, labels_asked, bars_in, revised_asked, payouts_in};
-ghost use Rattle.pl_judge.specs.Work.{cap_of, read_step, syntax_step, pipeline_steps, sessions_rule, assets_rule, labels_steps, bars_rule, revisions_steps, payouts_rule};
+ghost use Rattle.pl_judge.specs.Held.{script_in, pipeline_in, days_in, assets_in, labels_asked, bars_in, revised_asked, payouts_in, derivation_in};
+ghost use Rattle.pl_judge.specs.Work.{cap_of, read_step, syntax_step, pipeline_steps, sessions_rule, assets_rule, labels_steps, bars_rule, revisions_steps, payouts_rule, derivation_step};
 ghost use Rattle.pl_judge.specs.Stages.{IsRisen};
 ghost use Rattle.pl_load.specs.Reads.{IsRead, no_rule};
 
@@ -17,6 +17,7 @@ use pl_bars::Bars;
 use pl_calendar::Sessions;
 use pl_check::check;
 use pl_judge::{Fault, cap_of, limit_of};
+use pl_lines::{Derivation, read_lines};
 use pl_outside::{ReadError, Shelf, read_file};
 use pl_payouts::Payouts;
 use pl_syntax::{Script, parse};
@@ -175,4 +176,19 @@ pub fn read_payouts<S: Shelf>(
 {
     let bytes = read_input(alloc, shelf, name, InputFile::Payouts)?;
     Ok(Payouts::read(alloc, &bytes, assets)?)
+}
+
+/// The lines of the derivation of that name.
+pub fn read_derivation<S: Shelf>(
+    alloc: Global,
+    shelf: &mut S,
+    name: &str,
+) -> Result<Derivation, Fault>
+    ensures read { IsRead (S.holds shelf.old) (S.sound shelf.old) (Some name.now) (λ held. derivation_step held ∷ [])
+        (λ held lines. derivation_in held ≡ lines) result }
+    ensures leaves { Leaves S.holds S.sound S.faults shelf.old shelf.new }
+    ensures risen { IfErr result (IsRisen (Rose (S.faults shelf.old) (S.faults shelf.new)) ⊥) }
+{
+    let bytes = read_input(alloc, shelf, name, InputFile::Derivation)?;
+    Ok(read_lines(alloc, &bytes)?)
 }

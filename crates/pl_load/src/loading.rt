@@ -2,7 +2,7 @@
 ghost use Rattle.std.specs.Prelude.{◌≡◌, ◌<◌, length, None, IfOk, IfErr, IfSome};
 ghost use Rattle.pl_outside.specs.Counts.{Rose};
 ghost use Rattle.pl_outside.specs.Left.{Leaves, IsUntouched};
-ghost use Rattle.pl_words.specs.Views.{run_of};
+ghost use Rattle.pl_words.specs.Views.{run_of, world_names_of};
 ghost use Rattle.pl_judge.specs.Stages.{IsRisen};
 ghost use Rattle.pl_model.specs.Worlds.{IsOwned};
 ghost use Rattle.pl_judge.specs.declared.fault.Fault.TheVariants.{Memory};
@@ -17,7 +17,7 @@ use pl_model::{OwnedWorld, asof_world};
 use pl_outside::{AdjustKeeper, Shelf};
 use pl_planner::Plan;
 use pl_terms::Checked;
-use pl_words::RunRequest;
+use pl_words::{RunRequest, WorldNames};
 use std::alloc::Global;
 
 /// What was read and judged, and is left to write: the table of a pipeline over its world, by a plan.
@@ -43,7 +43,7 @@ pub fn load<S: Shelf, K: AdjustKeeper>(
     ensures risen { IfErr result (IsRisen (Rose (S.faults shelf.old) (S.faults shelf.new)) (Rose (K.faults keeper.old) (K.faults keeper.new))) }
 {
     let checked = read_checked(alloc, shelf, request.pipeline)?;
-    let world = read_world(alloc, request, shelf, keeper)?;
+    let world = read_world(alloc, &request.world_names(), shelf, keeper)?;
     let range = judge_dates(
         &request.from,
         &request.to,
@@ -77,29 +77,29 @@ fn known_world(
     }
 }
 
-// The data of the run, each part judged before the next one is begun.
-fn read_world<S: Shelf, K: AdjustKeeper>(
+/// The world of these names, each part judged before the next one is begun.
+pub(crate) fn read_world<S: Shelf, K: AdjustKeeper>(
     alloc: Global,
-    request: &RunRequest<'_>,
+    names: &WorldNames<'_>,
     shelf: &mut S,
     keeper: &mut K,
 ) -> Result<OwnedWorld, Fault>
-    ensures parts { IsData (S.holds shelf.old) (K.lists keeper.old) (S.sound shelf.old) (K.sound keeper.old) (run_of request.now) result }
+    ensures parts { IsData (S.holds shelf.old) (K.lists keeper.old) (S.sound shelf.old) (K.sound keeper.old) (world_names_of names.now) result }
     ensures made { IfOk result IsOwned }
     ensures shelf { Leaves S.holds S.sound S.faults shelf.old shelf.new }
     ensures keeper { Leaves K.lists K.sound K.faults keeper.old keeper.new }
-    ensures alone { (run_of request.now).options.adjustments ≡ None → IsUntouched K.faults K.calls keeper.old keeper.new }
+    ensures alone { (world_names_of names.now).adjustments ≡ None → IsUntouched K.faults K.calls keeper.old keeper.new }
     ensures risen { IfErr result (IsRisen (Rose (S.faults shelf.old) (S.faults shelf.new)) (Rose (K.faults keeper.old) (K.faults keeper.new))) }
 {
-    let sessions = read_sessions(alloc, shelf, request.sessions)?;
-    let assets = read_assets(alloc, shelf, request.assets)?;
-    let labels = read_labels(alloc, shelf, request.options.labels, &assets)?;
-    let bars = read_bars(alloc, shelf, request.bars, &sessions, &assets)?;
-    let adjustments = read_adjustments(alloc, keeper, request.options.adjustments, &assets)?;
+    let sessions = read_sessions(alloc, shelf, names.sessions)?;
+    let assets = read_assets(alloc, shelf, names.assets)?;
+    let labels = read_labels(alloc, shelf, names.labels, &assets)?;
+    let bars = read_bars(alloc, shelf, names.bars, &sessions, &assets)?;
+    let adjustments = read_adjustments(alloc, keeper, names.adjustments, &assets)?;
     let revised = read_revisions(
         alloc,
         shelf,
-        request.options.revisions,
+        names.revisions,
         &sessions,
         &assets,
         adjustments,

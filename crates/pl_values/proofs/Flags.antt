@@ -16,7 +16,7 @@ use Rattle.pl_spec.specs.Value.Value.{Number, Text}
 use Rattle.pl_spec.specs.NodeValue.{node_value, input_part, number_part}
 use Rattle.pl_spec.specs.Table.{Pipeline, value_of, in_array}
 use Rattle.pl_terms.specs.Checked.{IsChecked}
-use Rattle.pl_terms.specs.Sorts.{Factors, Filters, Labels, Numbers, sort_of, window_sort, point_sort, cross_sort}
+use Rattle.pl_terms.specs.Sorts.{Factors, Filters, Labels, Numbers, sort_of, sort_at, window_sort, point_sort, cross_sort}
 use Rattle.pl_lanes.specs.Flags.{IsFlag}
 use Rattle.pl_cross.specs.Arrays.{sid_in}
 use Rattle.pl_values.specs.Arrays.{cell_of}
@@ -138,8 +138,11 @@ node_truth w p ok t n is s a d =
     (over_truth n.kind (sort_kind (input_tree (trees p.graph) (slice_get n.inputs 0))) s) in
     (whole.0, value-node w p ok t n is a d ∙ whole.1)
 
+-- a filter is worth a flag, on any session
+pub filter-flag : (w : World) (p : Pipeline) (t a : ℕ) (d : ℤ) → IsChecked p → sort_at p.graph t ≡ Some Filters → IsFlag (in_array w.texts (value_of w p t a d))
+filter-flag w p t a d ok h =
+    value_flag w.texts (value_of w p t a d) (values-of-sort w p ok IsTruth Filters (λ k n is own q. node_truth w p ok k n is q) (λ k q. empty_truth k q) t h a d)
+
 pub filter-cell : FilterCells
 unfolding cell_of
-filter-cell w p sids t i s ok h =
-    let a = sid_in sids i in
-    value_flag w.texts (value_of w p t a (pos s)) (values-of-sort w p ok IsTruth Filters (λ k n is own q. node_truth w p ok k n is q) (λ k q. empty_truth k q) t h a (pos s))
+filter-cell w p sids t i s ok h = filter-flag w p t (sid_in sids i) (pos s) ok h

@@ -42,11 +42,11 @@ map-below f g (suc size) h =
     let rest : map f (downward size) ≡ map g (downward size) = map-below f g size (λ n l. h n (omega arith)) in
     rw (front, rest) refl
 
-length-below : {X : Type 0} (f : ℕ → X) (size : ℕ) → length (map f (downward size)) ≡ size
+pub length-below : {X : Type 0} (f : ℕ → X) (size : ℕ) → length (map f (downward size)) ≡ size
 length-below f zero = refl
 length-below f (suc size) = ap suc (length-below f size)
 
-all-below : (P : ℤ → Type 0) (f : ℕ → ℤ) (size : ℕ) → ((n : ℕ) → P (f n)) → All P (map f (downward size))
+pub all-below : (P : ℤ → Type 0) (f : ℕ → ℤ) (size : ℕ) → ((n : ℕ) → P (f n)) → All P (map f (downward size))
 all-below P f zero h = λ k d l. absurd (omega (arith, l))
 all-below P f (suc size) h = λ k d l. here k d l (all-below P f size h)
   where
@@ -56,14 +56,14 @@ all-below P f (suc size) h = λ k d l. here k d l (all-below P f size h)
 
 -- ---- what stands at the places of a window
 
-abbrev window_place : Place → Bool
+abbrev pub window_place : Place → Bool
 window_place (Own c) = true
 window_place Bar = true
 window_place Series = true
 window_place Filter = true
 window_place q = false
 
-windows-plain : (f : WindowKind) → list_all window_place (window_places f) ≡ true
+pub windows-plain : (f : WindowKind) → list_all window_place (window_places f) ≡ true
 windows-plain Latest = refl
 windows-plain f = refl
 
@@ -71,7 +71,7 @@ first-place : (f : WindowKind) → (q : Place) × (slice_get (window_places f) 0
 first-place Latest = (_, refl)
 first-place f = (_, refl)
 
-takes-plain : (q : Place) (o : Option Sort) → (window_place q && takes_sort q o) ≡ true → plain_sort o ≡ true
+pub takes-plain : (q : Place) (o : Option Sort) → (window_place q && takes_sort q o) ≡ true → plain_sort o ≡ true
 takes-plain Series (Some Factors) h = refl
 takes-plain Filter (Some Filters) h = refl
 takes-plain q o h = absurd (let bad : false ≡ true = h in cc)
@@ -99,7 +99,7 @@ window-most AroonDown w h = from-most 2 w h
 window-most f w h = from-most 1 w h
 
 module _ (w : World) (p : Pipeline) (sids : List ℕ) (ok : IsChecked p) (k : ℕ) (n : Node) (is : slice_get p.graph k ≡ Some n) (f : WindowKind) (e : n.kind ≡ Window f) where
-  fit : all_fit p.graph (window_places f) n.inputs ≡ true
+  pub fit : all_fit p.graph (window_places f) n.inputs ≡ true
   fit = ap (λ ps. all_fit p.graph ps n.inputs) (sym (places-of n.kind f e)) ∙ (ok.nodes k n is).inputs
 
   pub most : n.window ≤ 1260
@@ -113,7 +113,7 @@ module _ (w : World) (p : Pipeline) (sids : List ℕ) (ok : IsChecked p) (k : �
       (x.0, x.1)
 
   -- a term in a window is worth numbers
-  term-numbered : (j t : ℕ) → slice_get n.inputs j ≡ Some (TermInput t) → IsNumberedTerm w p ok t
+  pub term-numbered : (j t : ℕ) → slice_get n.inputs j ≡ Some (TermInput t) → IsNumberedTerm w p ok t
   term-numbered j t h =
       let q = fit-at p.graph (window_places f) n.inputs j (TermInput t) fit h in
       plain-number w p ok t (sort_at p.graph t) refl (takes-plain q.0 (sort_at p.graph t) (both-true (window_place q.0) _ (all-at window_place (window_places f) j q.0 (windows-plain f) q.1) q.2))
@@ -165,7 +165,7 @@ decay-range d h =
 positive-cell : (x : ℤ) → (int_lt (pos 0) x && is_limited x) ≡ true → IsCell x
 positive-cell x h = limited-cell x (and_parts (int_lt (pos 0) x) (is_limited x) h).1
 
-takes-kind : (f : WindowKind) (w names : ℕ) (a : List ℤ) → has_parameters (Window f) w names ≡ true → (slice_get (window_places f) 0 ≡ Some Filter → All IsFlag a) → All IsCell a → IsWindowed (Window f) a
+pub takes-kind : (f : WindowKind) (w names : ℕ) (a : List ℤ) → has_parameters (Window f) w names ≡ true → (slice_get (window_places f) 0 ≡ Some Filter → All IsFlag a) → All IsCell a → IsWindowed (Window f) a
 unfolding has_parameters
 takes-kind AllTrue w names a h flags cells = inr (tt, flags refl)
 takes-kind Any w names a h flags cells = inr (tt, flags refl)
@@ -177,7 +177,7 @@ takes-kind (ExponentialWeightedMovingAverage d) w names a h flags cells = inl (d
 takes-kind f w names a h flags cells = inl tt
 
 -- the kinds that take pairs have two windows
-paired-places : (f : WindowKind) → IsTrue (takes_pairs (Window f)) → (q : Place) × (r : Place) × (slice_get (window_places f) 0 ≡ Some q) × (slice_get (window_places f) 1 ≡ Some r)
+pub paired-places : (f : WindowKind) → IsTrue (takes_pairs (Window f)) → (q : Place) × (r : Place) × (slice_get (window_places f) 0 ≡ Some q) × (slice_get (window_places f) 1 ≡ Some r)
 paired-places VWAP h = (_, _, refl, refl)
 paired-places AverageDollarVolume h = (_, _, refl, refl)
 paired-places WeightedAverageValue h = (_, _, refl, refl)

@@ -7,7 +7,7 @@ use Rattle.pl_spec.specs.Decimals.{sid_in}
 use Rattle.pl_words.specs.Parts.{Word}
 use Rattle.pl_spec.specs.declared.Format.{Format}
 use Rattle.pl_spec.specs.declared.Format.TheVariants.{Csv, Fixed}
-use Rattle.pl_words.specs.Request.{request, counted, Request, Run, Fmt, Check, Plan, Bench, Payouts}
+use Rattle.pl_words.specs.Request.{request, counted, WorldNames, Request, Run, Fmt, Check, Plan, Bench, Payouts, Verify}
 
 abbrev names : List Word
 names = codes "p.pl" ∷ codes "sessions.csv" ∷ codes "assets.csv" ∷ codes "bars.csv" ∷ []
@@ -25,6 +25,16 @@ asks labels adjustments revisions chunk format stats = Some (Run (record {
   to = record { text = codes "2024-01-04"; day = pos 19726 };
   options = record { labels = labels; adjustments = adjustments; revisions = revisions; chunk = chunk; format = format; stats = stats; as_of = None };
 }))
+
+abbrev over : Option Word → Option Word → Option Word → WorldNames
+over labels adjustments revisions = record {
+  sessions = codes "sessions.csv";
+  assets = codes "assets.csv";
+  bars = codes "bars.csv";
+  labels = labels;
+  adjustments = adjustments;
+  revisions = revisions;
+}
 
 no_options : request (codes "run" ∷ (names ++ dates)) ≡ asks None None None 126 Csv false
 unfolding request counted date_in day_if days_from_civil day_count days_of_years days_of_months decimal_digits digits date_text
@@ -67,6 +77,18 @@ of_payouts : map (λ (words : List Word). request (codes "payouts" ∷ words)) (
     ≡ Some (Payouts (record { sessions = codes "s"; assets = codes "a"; bars = codes "b"; payouts = codes "p" })) ∷ None ∷ []
 unfolding request counted
 of_payouts = refl
+
+of_derivations : map (λ (words : List Word). request (codes "verify" ∷ words)) (
+    (names ++ codes "why.txt" ∷ [])
+    ∷ (codes "--labels=l" ∷ codes "--revisions=r" ∷ (names ++ codes "why.txt" ∷ codes "--adjustments" ∷ codes "a.db" ∷ []))
+    ∷ names
+    ∷ (codes "--chunk=1" ∷ (names ++ codes "why.txt" ∷ []))
+    ∷ (names ++ codes "why.txt" ∷ codes "--labels=l" ∷ codes "--labels=l" ∷ []) ∷ [])
+    ≡ Some (Verify (record { pipeline = codes "p.pl"; world = over None None None; derivation = codes "why.txt" }))
+    ∷ Some (Verify (record { pipeline = codes "p.pl"; world = over (Some (codes "l")) (Some (codes "a.db")) (Some (codes "r")); derivation = codes "why.txt" }))
+    ∷ None ∷ None ∷ None ∷ []
+unfolding request counted
+of_derivations = refl
 
 named_as_options : map request ((codes "fmt" ∷ codes "--" ∷ codes "--" ∷ []) ∷ (codes "check" ∷ codes "--" ∷ codes "-p" ∷ []) ∷ []) ≡ Some (Fmt (codes "--")) ∷ Some (Check (codes "-p")) ∷ []
 unfolding request counted

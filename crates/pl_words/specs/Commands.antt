@@ -3,11 +3,11 @@ use Rattle.std.specs.Prelude.{ℕ, List, [], ◌∷◌, Option, find, bytes_eq, 
 use Rattle.pl_words.specs.declared.commands.OptionName.{OptionName}
 use Rattle.pl_words.specs.declared.commands.OptionName.TheVariants.{Labels, Adjustments, Revisions, Chunk, Format, Stats, AsOf}
 use Rattle.pl_words.specs.declared.commands.CommandName.{CommandName}
-use Rattle.pl_words.specs.declared.commands.CommandName.TheVariants.{Run, Check, Fmt, Plan, Bench, Payouts}
+use Rattle.pl_words.specs.declared.commands.CommandName.TheVariants.{Run, Check, Fmt, Plan, Bench, Payouts, Verify}
 use Rattle.pl_words.specs.Parts.{Word}
 
 abbrev pub all_commands : List CommandName
-all_commands = Run ∷ Check ∷ Fmt ∷ Plan ∷ Bench ∷ Payouts ∷ []
+all_commands = Run ∷ Check ∷ Fmt ∷ Plan ∷ Bench ∷ Payouts ∷ Verify ∷ []
 
 abbrev pub command_text : CommandName → Word
 command_text Run = codes "run"
@@ -16,6 +16,7 @@ command_text Fmt = codes "fmt"
 command_text Plan = codes "plan"
 command_text Bench = codes "bench"
 command_text Payouts = codes "payouts"
+command_text Verify = codes "verify"
 
 -- how many names it takes
 abbrev pub places_of : CommandName → ℕ
@@ -25,6 +26,7 @@ places_of Fmt = 1  -- PIPELINE
 places_of Plan = 4  -- PIPELINE SESSIONS FROM TO
 places_of Bench = 1  -- NUMBER
 places_of Payouts = 4  -- SESSIONS ASSETS BARS PAYOUTS
+places_of Verify = 5  -- PIPELINE SESSIONS ASSETS BARS DERIVATION
 
 -- the options that it knows
 abbrev pub options_of : CommandName → List OptionName
@@ -34,6 +36,7 @@ options_of Fmt = []
 options_of Plan = []
 options_of Bench = Chunk ∷ []
 options_of Payouts = []
+options_of Verify = Labels ∷ Adjustments ∷ Revisions ∷ []
 
 abbrev pub command_named : Word → Option CommandName
 command_named word = find (λ c. bytes_eq word (command_text c)) all_commands

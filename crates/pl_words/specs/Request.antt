@@ -42,6 +42,21 @@ pub record RunRequest : Type 0 where
   pub to : Dated
   pub options : Options
 
+-- the names of the files of a world, and those of its labels, adjustments and revisions where it has some
+pub record WorldNames : Type 0 where
+  pub sessions : List ℕ
+  pub assets : List ℕ
+  pub bars : List ℕ
+  pub labels : Option (List ℕ)
+  pub adjustments : Option (List ℕ)
+  pub revisions : Option (List ℕ)
+
+-- the lines of the derivation of that name, of a pipeline over a world
+pub record VerifyRequest : Type 0 where
+  pub pipeline : List ℕ
+  pub world : WorldNames
+  pub derivation : List ℕ
+
 -- the plan of a pipeline over the sessions of that name, from a date to a date
 pub record PlanRequest : Type 0 where
   pub pipeline : List ℕ
@@ -62,7 +77,7 @@ pub record PayoutsRequest : Type 0 where
   pub payouts : List ℕ
 
 -- the table of a pipeline, the canonical text of a pipeline file, whether it keeps the rules, a plan, the numbers of a run over
--- a stated world, or the ratios of payouts
+-- a stated world, the ratios of payouts, or whether a derivation is right
 pub data Request : Type 0 where
   Run : RunRequest → Request
   Fmt : (pipeline : List ℕ) → Request
@@ -70,6 +85,7 @@ pub data Request : Type 0 where
   Plan : PlanRequest → Request
   Bench : BenchRequest → Request
   Payouts : PayoutsRequest → Request
+  Verify : VerifyRequest → Request
 
 abbrev pub dated : Word → Option Dated
 dated text = option_map (λ day. record { text = text; day = day }) (date_in text)
@@ -170,6 +186,29 @@ abbrev pub payouts_over : List Word → PayoutsRequest
 payouts_over names =
     record { sessions = name names 0; assets = name names 1; bars = name names 2; payouts = name names 3 }
 
+abbrev pub world_over : List Word → Option Word → Option Word → Option Word → WorldNames
+world_over names labels adjustments revisions =
+    record {
+      sessions = name names 1;
+      assets = name names 2;
+      bars = name names 3;
+      labels = labels;
+      adjustments = adjustments;
+      revisions = revisions;
+    }
+
+-- three names behind that of the pipeline, and three options
+abbrev pub world_in : List Word → Values → Option WorldNames
+world_in names values =
+    option_and_then (λ labels. option_and_then (λ adjustments.
+    option_map (λ revisions. world_over names labels adjustments revisions)
+    (one_value (values option.Revisions))) (one_value (values option.Adjustments))) (one_value (values option.Labels))
+
+-- five names and the options
+abbrev pub verify_in : List Word → Values → Option VerifyRequest
+verify_in names values =
+    option_map (λ world. record { pipeline = name names 0; world = world; derivation = name names 4 }) (world_in names values)
+
 -- what a command asks for by its names and its options' values
 abbrev pub request_in : CommandName → List Word → Values → Option Request
 request_in command.Run names values = option_map Run (run_in names values)
@@ -178,6 +217,7 @@ request_in command.Fmt names values = Some (Fmt (name names 0))
 request_in command.Plan names values = option_map Plan (plan_in names)
 request_in command.Bench names values = option_map Bench (bench_in names values)
 request_in command.Payouts names values = Some (Payouts (payouts_over names))
+request_in command.Verify names values = option_map Verify (verify_in names values)
 
 -- It takes exactly its number of names.
 unfoldable pub counted : CommandName → List Word → Values → Option Request
@@ -203,6 +243,18 @@ HasChunk (Run q) = IsChunk q.options.chunk
 HasChunk (Bench q) = IsChunk q.chunk
 HasChunk request = ⊤
 
+-- the names of the world of a run
+abbrev pub run_world : RunRequest → WorldNames
+run_world q =
+    record {
+      sessions = q.sessions;
+      assets = q.assets;
+      bars = q.bars;
+      labels = q.options.labels;
+      adjustments = q.options.adjustments;
+      revisions = q.options.revisions;
+    }
+
 -- the name of a file of a command, where the command has such a file
 abbrev pub run_name : RunRequest → InputFile → Option (List ℕ)
 run_name q file.Pipeline = Some q.pipeline
@@ -212,6 +264,7 @@ run_name q file.Labels = q.options.labels
 run_name q file.Bars = Some q.bars
 run_name q file.Revisions = q.options.revisions
 run_name q file.Payouts = None
+run_name q file.Derivation = None
 
 -- of a command over the pipeline file alone
 abbrev pub pipeline_name : List ℕ → InputFile → Option (List ℕ)
@@ -222,6 +275,7 @@ pipeline_name name file.Labels = None
 pipeline_name name file.Bars = None
 pipeline_name name file.Revisions = None
 pipeline_name name file.Payouts = None
+pipeline_name name file.Derivation = None
 
 abbrev pub plan_name : PlanRequest → InputFile → Option (List ℕ)
 plan_name q file.Pipeline = Some q.pipeline
@@ -231,6 +285,7 @@ plan_name q file.Labels = None
 plan_name q file.Bars = None
 plan_name q file.Revisions = None
 plan_name q file.Payouts = None
+plan_name q file.Derivation = None
 
 abbrev pub payouts_name : PayoutsRequest → InputFile → Option (List ℕ)
 payouts_name q file.Pipeline = None
@@ -240,6 +295,28 @@ payouts_name q file.Labels = None
 payouts_name q file.Bars = Some q.bars
 payouts_name q file.Revisions = None
 payouts_name q file.Payouts = Some q.payouts
+payouts_name q file.Derivation = None
+
+-- of the files of a world
+abbrev pub world_name : WorldNames → InputFile → Option (List ℕ)
+world_name q file.Pipeline = None
+world_name q file.Sessions = Some q.sessions
+world_name q file.Assets = Some q.assets
+world_name q file.Labels = q.labels
+world_name q file.Bars = Some q.bars
+world_name q file.Revisions = q.revisions
+world_name q file.Payouts = None
+world_name q file.Derivation = None
+
+abbrev pub verify_name : VerifyRequest → InputFile → Option (List ℕ)
+verify_name q file.Pipeline = Some q.pipeline
+verify_name q file.Sessions = Some q.world.sessions
+verify_name q file.Assets = Some q.world.assets
+verify_name q file.Labels = q.world.labels
+verify_name q file.Bars = Some q.world.bars
+verify_name q file.Revisions = q.world.revisions
+verify_name q file.Payouts = None
+verify_name q file.Derivation = Some q.derivation
 
 abbrev pub name_of : Request → InputFile → Option (List ℕ)
 name_of (Run q) file = run_name q file
@@ -248,6 +325,7 @@ name_of (Check name) file = pipeline_name name file
 name_of (Plan q) file = plan_name q file
 name_of (Bench q) file = None
 name_of (Payouts q) file = payouts_name q file
+name_of (Verify q) file = verify_name q file
 
 -- the texts of the two dates, and of the one as of which a run is
 abbrev pub date_text : Dated → Dated → Option Dated → RangeDate → List ℕ
@@ -269,6 +347,7 @@ date_asked (Some (Check name)) date = []
 date_asked (Some (Plan q)) date = date_text q.from q.to None date
 date_asked (Some (Bench q)) date = []
 date_asked (Some (Payouts q)) date = []
+date_asked (Some (Verify q)) date = []
 date_asked None date = []
 
 -- the name of the adjustments that are asked for
@@ -279,4 +358,5 @@ adjustments_of (Some (Check name)) = None
 adjustments_of (Some (Plan q)) = None
 adjustments_of (Some (Bench q)) = None
 adjustments_of (Some (Payouts q)) = None
+adjustments_of (Some (Verify q)) = q.world.adjustments
 adjustments_of None = None

@@ -2,11 +2,13 @@
 use Rattle.std.specs.Prelude.{option_map}
 use Rattle.pl_words.specs.Request as spec
 use Rattle.pl_words.specs.declared.request.Request.{Request}
-use Rattle.pl_words.specs.declared.request.Request.TheVariants.{Run, Fmt, Check, Plan, Bench, Payouts}
+use Rattle.pl_words.specs.declared.request.Request.TheVariants.{Run, Fmt, Check, Plan, Bench, Payouts, Verify}
 use Rattle.pl_words.specs.declared.request.RunRequest.{RunRequest}
 use Rattle.pl_words.specs.declared.request.PlanRequest.{PlanRequest}
 use Rattle.pl_words.specs.declared.request.BenchRequest.{BenchRequest}
 use Rattle.pl_words.specs.declared.request.PayoutsRequest.{PayoutsRequest}
+use Rattle.pl_words.specs.declared.request.WorldNames.{WorldNames}
+use Rattle.pl_words.specs.declared.request.VerifyRequest.{VerifyRequest}
 use Rattle.pl_words.specs.declared.request.DateWord.{DateWord}
 use Rattle.pl_words.specs.declared.request.Options.{Options}
 
@@ -46,6 +48,20 @@ bench_of r = record { number = r.number; chunk = r.chunk }
 abbrev pub payouts_of : PayoutsRequest → spec.PayoutsRequest
 payouts_of r = record { sessions = r.sessions.now; assets = r.assets.now; bars = r.bars.now; payouts = r.payouts.now }
 
+abbrev pub world_names_of : WorldNames → spec.WorldNames
+world_names_of r =
+    record {
+      sessions = r.sessions.now;
+      assets = r.assets.now;
+      bars = r.bars.now;
+      labels = option_map (λ n. n.now) r.labels;
+      adjustments = option_map (λ n. n.now) r.adjustments;
+      revisions = option_map (λ n. n.now) r.revisions;
+    }
+
+abbrev pub verify_of : VerifyRequest → spec.VerifyRequest
+verify_of r = record { pipeline = r.pipeline.now; world = world_names_of r.world; derivation = r.derivation.now }
+
 abbrev pub request_of : Request → spec.Request
 request_of (Run r) = spec.Run (run_of r)
 request_of (Fmt name) = spec.Fmt name.now
@@ -53,3 +69,4 @@ request_of (Check name) = spec.Check name.now
 request_of (Plan r) = spec.Plan (plan_of r)
 request_of (Bench r) = spec.Bench (bench_of r)
 request_of (Payouts r) = spec.Payouts (payouts_of r)
+request_of (Verify r) = spec.Verify (verify_of r)

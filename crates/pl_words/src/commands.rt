@@ -12,6 +12,7 @@ pub enum CommandName {
     Plan,
     Bench,
     Payouts,
+    Verify,
 }
 
 /// The options, of which a command knows some.
@@ -36,6 +37,7 @@ pub(crate) fn command_named(word: &str) -> Option<CommandName>
         "plan" => Some(CommandName::Plan),
         "bench" => Some(CommandName::Bench),
         "payouts" => Some(CommandName::Payouts),
+        "verify" => Some(CommandName::Verify),
         _ => None,
     }
 }
@@ -47,6 +49,7 @@ impl CommandName {
     {
         match self {
             CommandName::Run => 6,
+            CommandName::Verify => 5,
             CommandName::Plan | CommandName::Payouts => 4,
             CommandName::Check | CommandName::Fmt | CommandName::Bench => 1,
         }
@@ -65,6 +68,11 @@ impl CommandName {
                 OptionName::Format,
                 OptionName::Stats,
                 OptionName::AsOf,
+            ],
+            CommandName::Verify => &[
+                OptionName::Labels,
+                OptionName::Adjustments,
+                OptionName::Revisions,
             ],
             CommandName::Bench => &[OptionName::Chunk],
             CommandName::Check | CommandName::Fmt | CommandName::Plan | CommandName::Payouts => &[],

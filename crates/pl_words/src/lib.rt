@@ -15,5 +15,5 @@ mod text;
 pub use read::read_words;
 pub use request::{
     BenchRequest, DateWord, InputFile, Options, PayoutsRequest, PlanRequest, RangeDate, Request,
-    RunRequest, adjustments_asked, date_asked, name_asked,
+    RunRequest, VerifyRequest, WorldNames, adjustments_asked, date_asked, name_asked,
 };

@@ -1,12 +1,12 @@
 // The options of a run, by the values that each was given.
-ghost use Rattle.std.specs.Prelude.{◌≡◌, None, Some, MatchOption, option_map};
+ghost use Rattle.std.specs.Prelude.{◌≡◌, ◌≤◌, None, Some, MatchOption, length, map, option_map};
 ghost use Rattle.pl_words.specs.Apps.{values_in};
-ghost use Rattle.pl_words.specs.Request.{as_of_by, dated, chunk_in, chunk_by, format_in, format_by, stats_by, options_by};
-ghost use Rattle.pl_words.specs.Views.{dated_of, options_of};
+ghost use Rattle.pl_words.specs.Request.{as_of_by, dated, chunk_in, chunk_by, format_in, format_by, stats_by, options_by, world_in};
+ghost use Rattle.pl_words.specs.Views.{dated_of, options_of, world_names_of};
 
 use crate::commands::OptionName;
 use crate::cut::value;
-use crate::request::{DateWord, Options};
+use crate::request::{DateWord, Options, WorldNames};
 use clap::ArgMatches;
 use pl_fixed::{read_day, read_sid};
 use pl_spec::Format;
@@ -36,6 +36,29 @@ pub(crate) fn options<'a>(matches: &ArgMatches<'a>) -> Option<Options<'a>>
         format,
         stats,
         as_of,
+    })
+}
+
+/// The names of a world: three of the names, and the values of three options.
+pub(crate) fn world_in<'a>(
+    names: &[&'a str],
+    matches: &ArgMatches<'a>,
+) -> Option<WorldNames<'a>>
+    requires { 4 ≤ length names.now }
+    ensures { MatchOption result
+        (world_in (map (λ v. v.now) names.now) (values_in matches.now) ≡ None)
+        (λ r. world_in (map (λ v. v.now) names.now) (values_in matches.now) ≡ Some (world_names_of r)) }
+{
+    let labels = value(matches, OptionName::Labels).ok()?;
+    let adjustments = value(matches, OptionName::Adjustments).ok()?;
+    let revisions = value(matches, OptionName::Revisions).ok()?;
+    Some(WorldNames {
+        sessions: names[1],
+        assets: names[2],
+        bars: names[3],
+        labels,
+        adjustments,
+        revisions,
     })
 }
 

@@ -4,13 +4,15 @@ ghost use Rattle.std.specs.List.{list_all};
 ghost use Rattle.pl_words.specs.Parts.{is_text};
 ghost use Rattle.pl_words.specs.Commands.{places_of};
 ghost use Rattle.pl_words.specs.Apps.{names_in, values_in};
-ghost use Rattle.pl_words.specs.Request.{HasChunk, asked, bench_in, counted, payouts_over, plan_in, request, request_in, run_in};
-ghost use Rattle.pl_words.specs.Views.{bench_of, payouts_of, plan_of, request_of, run_of};
+ghost use Rattle.pl_words.specs.Request.{HasChunk, asked, bench_in, counted, payouts_over, plan_in, request, request_in, run_in, verify_in};
+ghost use Rattle.pl_words.specs.Views.{bench_of, payouts_of, plan_of, request_of, run_of, verify_of};
 
 use crate::commands::{CommandName, command_named};
 use crate::cut::{cut, values};
-use crate::options::{chunk, date_in, options};
-use crate::request::{BenchRequest, PayoutsRequest, PlanRequest, Request, RunRequest};
+use crate::options::{chunk, date_in, options, world_in};
+use crate::request::{
+    BenchRequest, PayoutsRequest, PlanRequest, Request, RunRequest, VerifyRequest,
+};
 use crate::text::is_text;
 use clap::ArgMatches;
 use pl_fixed::read_sid;
@@ -81,6 +83,7 @@ fn request_in<'a>(
         CommandName::Plan => Some(Request::Plan(plan_in(names)?)),
         CommandName::Bench => Some(Request::Bench(bench_in(names, matches)?)),
         CommandName::Payouts => Some(Request::Payouts(payouts_over(names))),
+        CommandName::Verify => Some(Request::Verify(verify_in(names, matches)?)),
     }
 }
 
@@ -141,6 +144,20 @@ fn payouts_over<'a>(names: &[&'a str]) -> PayoutsRequest<'a>
         bars: names[2],
         payouts: names[3],
     }
+}
+
+fn verify_in<'a>(names: &[&'a str], matches: &ArgMatches<'a>) -> Option<VerifyRequest<'a>>
+    requires { length names.now ≡ 5 }
+    ensures { MatchOption result
+        (verify_in (map (λ v. v.now) names.now) (values_in matches.now) ≡ None)
+        (λ r. verify_in (map (λ v. v.now) names.now) (values_in matches.now) ≡ Some (verify_of r)) }
+{
+    let world = world_in(names, matches)?;
+    Some(VerifyRequest {
+        pipeline: names[0],
+        world,
+        derivation: names[4],
+    })
 }
 
 fn are_texts(words: &[String]) -> bool

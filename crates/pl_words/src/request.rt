@@ -1,7 +1,7 @@
 // What a command is asked for.
 ghost use Rattle.std.specs.Prelude.{◌≡◌, [], option_map, unwrap_or};
-ghost use Rattle.pl_words.specs.Request.{name_of, pipeline_name, name_asked, date_asked, date_text, adjustments_of, payouts_name, plan_name, run_name};
-ghost use Rattle.pl_words.specs.Views.{dated_of, payouts_of, plan_of, request_of, run_of};
+ghost use Rattle.pl_words.specs.Request.{name_of, pipeline_name, name_asked, date_asked, date_text, adjustments_of, payouts_name, plan_name, run_name, run_world, verify_name};
+ghost use Rattle.pl_words.specs.Views.{dated_of, payouts_of, plan_of, request_of, run_of, verify_of, world_names_of};
 
 use pl_spec::Format;
 
@@ -15,6 +15,7 @@ pub enum InputFile {
     Bars,
     Revisions,
     Payouts,
+    Derivation,
 }
 
 /// One of the two dates of a run or of a plan, or the date as of which a run is.
@@ -83,6 +84,25 @@ pub struct PayoutsRequest<'a> {
     pub payouts: &'a str,
 }
 
+/// The names of the files of a world, and those of its labels, adjustments and revisions where it has some.
+#[derive(Clone, Copy)]
+pub struct WorldNames<'a> {
+    pub sessions: &'a str,
+    pub assets: &'a str,
+    pub bars: &'a str,
+    pub labels: Option<&'a str>,
+    pub adjustments: Option<&'a str>,
+    pub revisions: Option<&'a str>,
+}
+
+/// The names of a derivation, and of the pipeline and the world of which it tells.
+#[derive(Clone, Copy)]
+pub struct VerifyRequest<'a> {
+    pub pipeline: &'a str,
+    pub world: WorldNames<'a>,
+    pub derivation: &'a str,
+}
+
 /// A command with what it is asked for.
 #[derive(Clone, Copy)]
 pub enum Request<'a> {
@@ -98,6 +118,8 @@ pub enum Request<'a> {
     Bench(BenchRequest),
     /// The ratios of payouts.
     Payouts(PayoutsRequest<'a>),
+    /// Whether the lines of a derivation are right.
+    Verify(VerifyRequest<'a>),
 }
 
 impl<'a> Request<'a> {
@@ -111,6 +133,7 @@ impl<'a> Request<'a> {
             Request::Plan(plan) => plan.name_of(file),
             Request::Bench(_) => None,
             Request::Payouts(payouts) => payouts.name_of(file),
+            Request::Verify(verify) => verify.name_of(file),
         }
     }
 }
@@ -125,7 +148,8 @@ fn pipeline_name<'a>(name: &'a str, file: InputFile) -> Option<&'a str>
         | InputFile::Labels
         | InputFile::Bars
         | InputFile::Revisions
-        | InputFile::Payouts => None,
+        | InputFile::Payouts
+        | InputFile::Derivation => None,
     }
 }
 
@@ -146,7 +170,13 @@ pub fn date_asked<'a>(asked: Option<&Request<'a>>, date: RangeDate) -> &'a str
     match asked {
         Some(Request::Run(run)) => date_text(&run.from, &run.to, run.options.as_of, date),
         Some(Request::Plan(plan)) => date_text(&plan.from, &plan.to, None, date),
-        Some(Request::Fmt(_) | Request::Check(_) | Request::Bench(_) | Request::Payouts(_))
+        Some(
+            Request::Fmt(_)
+            | Request::Check(_)
+            | Request::Bench(_)
+            | Request::Payouts(_)
+            | Request::Verify(_),
+        )
         | None => "",
     }
 }
@@ -157,6 +187,7 @@ pub fn adjustments_asked<'a>(asked: Option<&Request<'a>>) -> &'a str
 {
     match asked {
         Some(Request::Run(run)) => run.options.adjustments.unwrap_or(""),
+        Some(Request::Verify(verify)) => verify.world.adjustments.unwrap_or(""),
         Some(
             Request::Fmt(_)
             | Request::Check(_)
@@ -169,6 +200,20 @@ pub fn adjustments_asked<'a>(asked: Option<&Request<'a>>) -> &'a str
 }
 
 impl<'a> RunRequest<'a> {
+    /// The names of its world.
+    pub fn world_names(&self) -> WorldNames<'a>
+        ensures { world_names_of result ≡ run_world (run_of self.now) }
+    {
+        WorldNames {
+            sessions: self.sessions,
+            assets: self.assets,
+            bars: self.bars,
+            labels: self.options.labels,
+            adjustments: self.options.adjustments,
+            revisions: self.options.revisions,
+        }
+    }
+
     fn name_of(&self, file: InputFile) -> Option<&'a str>
         ensures { option_map (λ n. n.now) result ≡ run_name (run_of self.now) file }
     {
@@ -179,7 +224,7 @@ impl<'a> RunRequest<'a> {
             InputFile::Labels => self.options.labels,
             InputFile::Bars => Some(self.bars),
             InputFile::Revisions => self.options.revisions,
-            InputFile::Payouts => None,
+            InputFile::Payouts | InputFile::Derivation => None,
         }
     }
 }
@@ -195,7 +240,25 @@ impl<'a> PlanRequest<'a> {
             | InputFile::Labels
             | InputFile::Bars
             | InputFile::Revisions
-            | InputFile::Payouts => None,
+            | InputFile::Payouts
+            | InputFile::Derivation => None,
+        }
+    }
+}
+
+impl<'a> VerifyRequest<'a> {
+    fn name_of(&self, file: InputFile) -> Option<&'a str>
+        ensures { option_map (λ n. n.now) result ≡ verify_name (verify_of self.now) file }
+    {
+        match file {
+            InputFile::Pipeline => Some(self.pipeline),
+            InputFile::Sessions => Some(self.world.sessions),
+            InputFile::Assets => Some(self.world.assets),
+            InputFile::Labels => self.world.labels,
+            InputFile::Bars => Some(self.world.bars),
+            InputFile::Revisions => self.world.revisions,
+            InputFile::Payouts => None,
+            InputFile::Derivation => Some(self.derivation),
         }
     }
 }
@@ -209,7 +272,10 @@ impl<'a> PayoutsRequest<'a> {
             InputFile::Assets => Some(self.assets),
             InputFile::Bars => Some(self.bars),
             InputFile::Payouts => Some(self.payouts),
-            InputFile::Pipeline | InputFile::Labels | InputFile::Revisions => None,
+            InputFile::Pipeline
+            | InputFile::Labels
+            | InputFile::Revisions
+            | InputFile::Derivation => None,
         }
     }
 }

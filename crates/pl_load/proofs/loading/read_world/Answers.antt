@@ -1,20 +1,20 @@
 use Rattle.std.proofs.Common.{◌∙◌}
 use Rattle.std.proofs.lemmas.Result.{err_from_is_err_and}
-use Rattle.pl_words.specs.Views.{run_of}
+use Rattle.pl_words.specs.Views.{world_names_of}
 use Rattle.pl_load.proofs.DataReads.{no-sessions, no-assets, no-labels, no-bars, no-adjustments, no-revisions, all-read}
 use Rattle.pl_load.proofs.loading.read_world.Goals as goal
 
 pub returns-in_err-sessions-clause-parts : goal.returns-in_err-sessions-clause-parts
 returns-in_err-sessions-clause-parts g c =
     let p = err_from_is_err_and c.from_residual.result c.from_residual.ensures.1 in
-    rw (p.1, p.2) (no-sessions _ _ _ _ (run_of c.args.request.now) _ c.in_err-sessions.ensures.read)
+    rw (p.1, p.2) (no-sessions _ _ _ _ (world_names_of c.args.names.now) _ c.in_err-sessions.ensures.read)
 
 pub returns-in_err-assets-clause-parts : goal.returns-in_err-assets-clause-parts
 returns-in_err-assets-clause-parts g c =
     let p = err_from_is_err_and c.from_residual-in_err-assets.result c.from_residual-in_err-assets.ensures.1 in
     let s = c.in_ok-sessions.ensures in
     let a = rw (s.leaves.keeps, s.leaves.stays) at c.in_err-assets.ensures.read in
-    rw (p.1, p.2) (no-assets _ _ _ _ (run_of c.args.request.now) _ _ s.read a)
+    rw (p.1, p.2) (no-assets _ _ _ _ (world_names_of c.args.names.now) _ _ s.read a)
 
 pub returns-in_err-labels-clause-parts : goal.returns-in_err-labels-clause-parts
 returns-in_err-labels-clause-parts g c =
@@ -25,7 +25,7 @@ returns-in_err-labels-clause-parts g c =
     let stays = a.leaves.stays ∙ s.leaves.stays in
     let assets = rw (s.leaves.keeps, s.leaves.stays) at a.read in
     let labels = rw (keeps, stays) at c.in_err-labels.ensures.read in
-    rw (p.1, p.2) (no-labels _ _ _ _ (run_of c.args.request.now) _ _ _ s.read assets labels)
+    rw (p.1, p.2) (no-labels _ _ _ _ (world_names_of c.args.names.now) _ _ _ s.read assets labels)
 
 pub returns-in_err-bars-clause-parts : goal.returns-in_err-bars-clause-parts
 returns-in_err-bars-clause-parts g c =
@@ -38,7 +38,7 @@ returns-in_err-bars-clause-parts g c =
     let assets = rw (s.leaves.keeps, s.leaves.stays) at a.read in
     let labels = rw (keeps, stays) at l.read in
     let bars = rw (l.leaves.keeps ∙ keeps, l.leaves.stays ∙ stays) at c.in_err-bars.ensures.read in
-    rw (p.1, p.2) (no-bars _ _ _ _ (run_of c.args.request.now) _ _ _ _ s.read assets labels bars)
+    rw (p.1, p.2) (no-bars _ _ _ _ (world_names_of c.args.names.now) _ _ _ _ s.read assets labels bars)
 
 pub returns-in_err-adjustments-clause-parts : goal.returns-in_err-adjustments-clause-parts
 returns-in_err-adjustments-clause-parts g c =
@@ -51,7 +51,7 @@ returns-in_err-adjustments-clause-parts g c =
     let assets = rw (s.leaves.keeps, s.leaves.stays) at a.read in
     let labels = rw (keeps, stays) at l.read in
     let bars = rw (l.leaves.keeps ∙ keeps, l.leaves.stays ∙ stays) at c.in_ok-bars.ensures.read in
-    rw (p.1, p.2) (no-adjustments _ _ _ _ (run_of c.args.request.now) _ _ _ _ _ s.read assets labels bars c.in_err-adjustments.ensures.read)
+    rw (p.1, p.2) (no-adjustments _ _ _ _ (world_names_of c.args.names.now) _ _ _ _ _ s.read assets labels bars c.in_err-adjustments.ensures.read)
 
 pub returns-in_err-revised-clause-parts : goal.returns-in_err-revised-clause-parts
 returns-in_err-revised-clause-parts g c =
@@ -66,7 +66,7 @@ returns-in_err-revised-clause-parts g c =
     let labels = rw (keeps, stays) at l.read in
     let bars = rw (l.leaves.keeps ∙ keeps, l.leaves.stays ∙ stays) at b.read in
     let revised = rw (b.leaves.keeps ∙ l.leaves.keeps ∙ keeps, b.leaves.stays ∙ l.leaves.stays ∙ stays) at c.in_err-revised.ensures.read in
-    rw (p.1, p.2) (no-revisions _ _ _ _ (run_of c.args.request.now) _ _ _ _ _ _ s.read assets labels bars c.in_ok-adjustments.ensures.read revised)
+    rw (p.1, p.2) (no-revisions _ _ _ _ (world_names_of c.args.names.now) _ _ _ _ _ _ s.read assets labels bars c.in_ok-adjustments.ensures.read revised)
 
 pub returns-clause-parts : goal.returns-clause-parts
 returns-clause-parts g c =
@@ -80,4 +80,4 @@ returns-clause-parts g c =
     let labels = rw (keeps, stays) at l.read in
     let bars = rw (l.leaves.keeps ∙ keeps, l.leaves.stays ∙ stays) at b.read in
     let revised = rw (b.leaves.keeps ∙ l.leaves.keeps ∙ keeps, b.leaves.stays ∙ l.leaves.stays ∙ stays) at c.in_ok-revised.ensures.read in
-    all-read _ _ _ _ (run_of c.args.request.now) _ _ s.read assets labels bars c.in_ok-adjustments.ensures.read revised
+    all-read _ _ _ _ (world_names_of c.args.names.now) _ _ s.read assets labels bars c.in_ok-adjustments.ensures.read revised

@@ -1,0 +1,86 @@
+//! The row of a term.
+ghost use Rattle.std.specs.Prelude.{◌≡◌, ◌≤◌, length};
+ghost use Rattle.pl_values.specs.Arrays.{empty_cell};
+ghost use Rattle.pl_day_rows.specs.Turns.{IsAlways, IsKept, IsTurn, Moment, assets_at, node_at, pipeline_at};
+
+use crate::families::{
+    constant, downsampled, label, label_test, number_row, point, section, sids, window,
+};
+use crate::leaves::keep_row;
+use crate::node::{kind_of, mask_of};
+use crate::turn::Turn;
+use pl_cross::Cross;
+use pl_values::{Family, empty_value, family_of};
+
+// The row of a term, for the assets that are kept.
+fn kind_row(
+    turn: &Turn<'_>,
+    cross: &mut Cross,
+    first: &mut [i64],
+    second: &mut [i64],
+    third: &mut [i64],
+    none: i64,
+    keep: &[i64],
+    out: &mut [i64],
+)
+    requires turn { (v : Moment) × IsTurn turn.now v }
+    requires cross { assets_at turn.now ≤ cross.old }
+    requires first { (node_at turn.now).window ≤ length first.old }
+    requires second { (node_at turn.now).window ≤ length second.old }
+    requires third { (node_at turn.now).window ≤ length third.old }
+    requires none { none ≡ empty_cell (pipeline_at turn.now) turn.now.term.0 }
+    requires keep { IsKept turn.now keep.now }
+    requires long { length out.old ≡ assets_at turn.now }
+    ensures out { IsAlways turn.now out.new }
+    ensures cross { cross.new ≡ cross.old }
+    ensures first { length first.new ≡ length first.old }
+    ensures second { length second.new ≡ length second.old }
+    ensures third { length third.new ≡ length third.old }
+{
+    match family_of(kind_of(turn.node)) {
+        Family::Constant(value) => constant(turn, value, none, keep, out),
+        Family::Label(name) => label(turn, name, none, keep, out),
+        Family::Sids => sids(turn, none, keep, out),
+        Family::Window => window(turn, first, second, third, none, keep, out),
+        Family::Point => point(turn, none, keep, out),
+        Family::LabelTest => label_test(turn, none, keep, out),
+        Family::Section => section(turn, cross, keep, out),
+        Family::Downsample(_) => downsampled(turn, none, keep, out),
+    }
+}
+
+/// The row of a term on its day: its cells as arrays hold them, in every world in which the day is a session
+/// whose bars and terms the rings and rows hold. `keep` is for who is kept, three slices are for windows, and
+/// `cross` is for cross-sections. It takes no memory.
+pub fn fill_row(
+    turn: &Turn<'_>,
+    cross: &mut Cross,
+    first: &mut [i64],
+    second: &mut [i64],
+    third: &mut [i64],
+    keep: &mut [i64],
+    out: &mut [i64],
+)
+    requires turn { (v : Moment) × IsTurn turn.now v }
+    requires cross { assets_at turn.now ≤ cross.old }
+    requires first { (node_at turn.now).window ≤ length first.old }
+    requires second { (node_at turn.now).window ≤ length second.old }
+    requires third { (node_at turn.now).window ≤ length third.old }
+    requires keep { length keep.old ≡ assets_at turn.now }
+    requires long { length out.old ≡ assets_at turn.now }
+    ensures out { IsAlways turn.now out.new }
+    ensures keep { length keep.new ≡ length keep.old }
+    ensures cross { cross.new ≡ cross.old }
+    ensures first { length first.new ≡ length first.old }
+    ensures second { length second.new ≡ length second.old }
+    ensures third { length third.new ≡ length third.old }
+{
+    let none = empty_value(turn.checked.graph(), turn.term);
+    keep_row(
+        turn.assets,
+        turn.day,
+        number_row(turn, mask_of(turn.node)),
+        keep,
+    );
+    kind_row(turn, cross, first, second, third, none, keep, out);
+}

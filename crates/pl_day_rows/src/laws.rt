@@ -1,0 +1,7 @@
+//! Laws of days and sessions. The functions do nothing: the contract of each is a law.
+ghost use Rattle.pl_day_rows.specs.Turns.{FedDaysAreSessions};
+
+/// The last of days that were fed is a session of their world.
+pub fn fed_days_are_sessions()
+    ensures { FedDaysAreSessions }
+{}

@@ -1,0 +1,17 @@
+//! The values of a term on a day, one for each asset, over the rings of bar columns and what is held of the
+//! terms that it mentions. No world is lent: what is given holds in every world and on every session for
+//! which rings and rows stand.
+#![tactic(auto)]
+
+mod families;
+mod fill;
+mod held;
+pub mod laws;
+mod leaves;
+mod node;
+mod turn;
+mod windows;
+
+pub use fill::fill_row;
+pub use held::{begin_term, put_term};
+pub use turn::{TermCells, Turn};

@@ -1,0 +1,141 @@
+//! Formulas and filters over the windows of a node's inputs, which are the ends of rings.
+ghost use Rattle.std.specs.Prelude.{◌≡◌, ◌≤◌, ◌<◌, ℕ, true, length, map, option_map, slice_get, All, IfSome};
+ghost use Rattle.circular_buffer.specs.Buffer.{keep_last};
+ghost use Rattle.pl_spec.specs.Rounding.{IsCell};
+ghost use Rattle.pl_spec.specs.Formula.{is_true};
+ghost use Rattle.pl_terms.specs.Nodes.{input_of};
+ghost use Rattle.pl_terms.specs.Sorts.{is_windowed};
+ghost use Rattle.pl_values.specs.Arrays.{chosen};
+ghost use Rattle.pl_values.specs.Families.{TakesWindows, windowed};
+ghost use Rattle.pl_day_rows.specs.Rows.{Shows, ring_window};
+ghost use Rattle.pl_day_rows.specs.Turns.{IsKept, IsTurn, Moment, assets_at, node_at};
+ghost use Rattle.pl_day_rows.specs.Windows.{windowed_by, window_size};
+
+use crate::leaves::is_one;
+use crate::node::{input_at, kind_of, window_of};
+use crate::turn::Turn;
+use pl_rings::copy_window;
+use pl_terms::Input;
+use pl_values::window_value;
+
+// The window of the input in a place, for an asset; it has the length of the slice.
+fn read_window(turn: &Turn<'_>, place: usize, i: usize, window: &mut [i64])
+    requires turn { (v : Moment) × IsTurn turn.now v }
+    requires kind { is_windowed (node_at turn.now).kind ≡ true }
+    requires asset { i < assets_at turn.now }
+    requires size { length window.old ≡ window_size (node_at turn.now) place }
+    ensures { window.new ≡ ring_window turn.now.bars.now turn.now.terms.now (node_at turn.now).window
+        (slice_get (node_at turn.now).inputs place) i }
+{
+    match input_at(turn.node, place) {
+        Some(Input::Term(term)) => {
+            copy_window(&turn.terms[term.0 as usize].rings.rings[i], window);
+        }
+        Some(Input::Column(column)) => copy_window(&turn.bars.of(column).rings[i], window),
+        None => {}
+    }
+}
+
+// How long the window of the input in a place is.
+fn size_of(turn: &Turn<'_>, place: usize) -> usize
+    ensures { result ≡ window_size (node_at turn.now) place }
+{
+    match input_at(turn.node, place) {
+        Some(_) => window_of(turn.node),
+        None => 0,
+    }
+}
+
+// The term's cell for an asset. The slices are for its windows.
+fn window_cell(
+    turn: &Turn<'_>,
+    i: usize,
+    keep: i64,
+    none: i64,
+    first: &mut [i64],
+    second: &mut [i64],
+    third: &mut [i64],
+) -> i64
+    requires turn { (v : Moment) × IsTurn turn.now v }
+    requires kind { is_windowed (node_at turn.now).kind ≡ true }
+    requires asset { i < assets_at turn.now }
+    requires none { IsCell none }
+    requires first { length first.old ≡ window_size (node_at turn.now) 0 }
+    requires second { length second.old ≡ window_size (node_at turn.now) 1 }
+    requires third { length third.old ≡ window_size (node_at turn.now) 2 }
+    ensures value { result ≡ chosen (is_true keep) (windowed_by turn.now i) none }
+    ensures cell { IsCell result }
+    ensures first { length first.new ≡ length first.old }
+    ensures second { length second.new ≡ length second.old }
+    ensures third { length third.new ≡ length third.old }
+{
+    if !is_one(keep) {
+        return none;
+    }
+    read_window(turn, 0, i, first);
+    read_window(turn, 1, i, second);
+    read_window(turn, 2, i, third);
+    window_value(kind_of(turn.node), first, second, third)
+}
+
+// The term's cells, in slices of the windows' lengths.
+fn window_cells(
+    turn: &Turn<'_>,
+    first: &mut [i64],
+    second: &mut [i64],
+    third: &mut [i64],
+    none: i64,
+    keep: &[i64],
+    out: &mut [i64],
+)
+    requires turn { (v : Moment) × IsTurn turn.now v }
+    requires kind { is_windowed (node_at turn.now).kind ≡ true }
+    requires none { IsCell none }
+    requires first { length first.old ≡ window_size (node_at turn.now) 0 }
+    requires second { length second.old ≡ window_size (node_at turn.now) 1 }
+    requires third { length third.old ≡ window_size (node_at turn.now) 2 }
+    requires keep { length keep.now ≡ assets_at turn.now }
+    requires long { length out.old ≡ length keep.now }
+    ensures { Shows (windowed_by turn.now) none keep.now out.new }
+{
+    for i in 0..out.len() {
+        out[i] = window_cell(turn, i, keep[i], none, first, second, third);
+    }
+}
+
+/// A formula or a filter over windows. The slices have room for its windows.
+pub(crate) fn window_row(
+    turn: &Turn<'_>,
+    first: &mut [i64],
+    second: &mut [i64],
+    third: &mut [i64],
+    none: i64,
+    keep: &[i64],
+    out: &mut [i64],
+)
+    requires turn { (v : Moment) × IsTurn turn.now v }
+    requires kind { is_windowed (node_at turn.now).kind ≡ true }
+    requires none { IsCell none }
+    requires first { (node_at turn.now).window ≤ length first.old }
+    requires second { (node_at turn.now).window ≤ length second.old }
+    requires third { (node_at turn.now).window ≤ length third.old }
+    requires keep { length keep.now ≡ assets_at turn.now }
+    requires long { length out.old ≡ length keep.now }
+    ensures shows { Shows (windowed_by turn.now) none keep.now out.new }
+    ensures first { length first.new ≡ length first.old }
+    ensures second { length second.new ≡ length second.old }
+    ensures third { length third.new ≡ length third.old }
+{
+    let first_size = size_of(turn, 0);
+    let second_size = size_of(turn, 1);
+    let third_size = size_of(turn, 2);
+    window_cells(
+        turn,
+        &mut first[..first_size],
+        &mut second[..second_size],
+        &mut third[..third_size],
+        none,
+        keep,
+        out,
+    );
+}

@@ -1,0 +1,51 @@
+// What the check of a derivation reads and judges.
+ghost use Rattle.std.specs.Prelude.{◌≡◌, None, IfOk, IfErr};
+ghost use Rattle.pl_outside.specs.Counts.{Rose};
+ghost use Rattle.pl_outside.specs.Left.{Leaves, IsUntouched};
+ghost use Rattle.pl_words.specs.Views.{verify_of};
+ghost use Rattle.pl_judge.specs.Stages.{IsRisen};
+ghost use Rattle.pl_model.specs.Worlds.{IsOwned};
+ghost use Rattle.pl_load.specs.Derived.{IsDerivationLoad};
+
+use crate::inputs::{read_checked, read_derivation};
+use crate::loading::read_world;
+use pl_judge::Fault;
+use pl_lines::Derivation;
+use pl_model::OwnedWorld;
+use pl_outside::{AdjustKeeper, Shelf};
+use pl_terms::Checked;
+use pl_words::VerifyRequest;
+use std::alloc::Global;
+
+/// The lines of a derivation, and the pipeline and the world of which they tell.
+#[derive(Drop)]
+pub struct LoadedDerivation {
+    pub checked: Checked,
+    pub world: OwnedWorld,
+    pub derivation: Derivation,
+}
+
+/// All that the check of a derivation reads and judges, in the order of work: the pipeline, the world, and the lines.
+pub fn load_derivation<S: Shelf, K: AdjustKeeper>(
+    alloc: Global,
+    request: &VerifyRequest<'_>,
+    shelf: &mut S,
+    keeper: &mut K,
+) -> Result<LoadedDerivation, Fault>
+    ensures load { IsDerivationLoad (S.holds shelf.old) (K.lists keeper.old) (S.sound shelf.old) (K.sound keeper.old)
+        (verify_of request.now) result }
+    ensures made { IfOk result (λ l. IsOwned l.world) }
+    ensures shelf { Leaves S.holds S.sound S.faults shelf.old shelf.new }
+    ensures keeper { Leaves K.lists K.sound K.faults keeper.old keeper.new }
+    ensures alone { (verify_of request.now).world.adjustments ≡ None → IsUntouched K.faults K.calls keeper.old keeper.new }
+    ensures risen { IfErr result (IsRisen (Rose (S.faults shelf.old) (S.faults shelf.new)) (Rose (K.faults keeper.old) (K.faults keeper.new))) }
+{
+    let checked = read_checked(alloc, shelf, request.pipeline)?;
+    let world = read_world(alloc, &request.world, shelf, keeper)?;
+    let derivation = read_derivation(alloc, shelf, request.derivation)?;
+    Ok(LoadedDerivation {
+        checked,
+        world,
+        derivation,
+    })
+}

@@ -1,0 +1,70 @@
+//! Rings of cells: one for each asset.
+ghost use Rattle.std.specs.Prelude.{◌≡◌, ℕ, ◌<◌, ◌≤◌, pos, length, get_or, replicate, IfOk};
+ghost use Rattle.circular_buffer.specs.Buffer.{buffer, keep_last};
+ghost use Rattle.pl_spec.specs.Rounding.{IsCell};
+ghost use Rattle.pl_rings.specs.Changes.{AreRings, pushed, ring_at};
+
+use circular_buffer::HeapCircularBuffer;
+use pl_fixed::Memory;
+use std::alloc::Global;
+
+/// Rings of one capacity, one for each asset by column; each is full.
+#[derive(Drop)]
+pub struct Rings {
+    pub capacity: usize,
+    pub rings: Vec<HeapCircularBuffer<i64>>,
+}
+
+// A ring that is full of one cell.
+fn full_ring(alloc: Global, capacity: usize, cell: i64) -> Result<HeapCircularBuffer<i64>, Memory>
+    ensures { IfOk result (λ b. b ≡ buffer (replicate capacity cell) capacity) }
+{
+    let mut ring = HeapCircularBuffer::with_capacity(alloc, capacity)?;
+    for _ in 0..capacity {
+        ring.push_back(cell);
+    }
+    Ok(ring)
+}
+
+impl Rings {
+    /// Rings that are full of one cell.
+    pub fn new(alloc: Global, assets: usize, capacity: usize, cell: i64) -> Result<Rings, Memory>
+        requires { IsCell cell }
+        ensures capacity { IfOk result (λ r. r.capacity ≡ capacity) }
+        ensures items { IfOk result (λ r. r.rings.items
+            ≡ replicate assets (buffer (replicate capacity cell) capacity)) }
+        ensures rings { IfOk result (λ r. AreRings assets capacity r.rings.items) }
+    {
+        let mut rings = Vec::new(alloc);
+        for _ in 0..assets {
+            let ring = full_ring(alloc, capacity, cell)?;
+            rings.push(ring)?;
+        }
+        Ok(Rings { capacity, rings })
+    }
+}
+
+/// Puts a cell behind each ring; the oldest one leaves it.
+pub fn push_row(rings: &mut [HeapCircularBuffer<i64>], row: &[i64])
+    requires { length row.now ≡ length rings.old }
+    ensures count { length rings.new ≡ length rings.old }
+    ensures each { (i : ℕ) → i < length rings.old
+        → ring_at rings.new i ≡ pushed (get_or row.now i (pos 0)) (ring_at rings.old i) }
+{
+    for i in 0..rings.len() {
+        rings[i].push_back(row[i]);
+    }
+}
+
+/// The last cells of a ring, oldest first.
+pub fn copy_window(ring: &HeapCircularBuffer<i64>, window: &mut [i64])
+    requires { length window.old ≤ length ring.now.items }
+    ensures { window.new ≡ keep_last (length window.old) ring.now.items }
+{
+    let from = ring.len() - window.len();
+    for j in 0..window.len() {
+        if let Some(cell) = ring.get(from + j) {
+            window[j] = *cell;
+        }
+    }
+}
