@@ -1,17 +1,9 @@
-//! Runs of the program over parts in memory: tests alone.
+//! Runs of the program over parts in memory, and plans: tests alone, of what cases in texts can't state.
 #![tactic(auto)]
 
-#[cfg(test)]
-mod check_tests;
-#[cfg(test)]
-mod engine_tests;
 #[cfg(test)]
 mod plan_tests;
 #[cfg(test)]
 mod recorded_tests;
 #[cfg(test)]
-mod refusal_tests;
-#[cfg(test)]
 mod test_runs;
-#[cfg(test)]
-mod tests;

@@ -1,8 +1,7 @@
-// Plans of whole scripts.
-use crate::refusal_tests::dates;
-use crate::test_runs::{Left, NO_ROWS, answer, keeper, make_left, run_over, shelf_with, words_of};
+// The slots of whole scripts.
 use pl_calendar::Sessions;
 use pl_check::check;
+use pl_fixed::write_day;
 use pl_planner::{Plan, plan};
 use pl_syntax::parse;
 use pl_terms::{Checked, TermId};
@@ -15,115 +14,24 @@ fn checked_of(alloc: Global, statements: &str) -> Result<Checked, Fail> {
     Ok(check(alloc, &script)?)
 }
 
+/// So many dates, one after the other.
+fn dates(alloc: Global, count: i32) -> Result<Vec<u8>, Fail> {
+    let mut text = Vec::new(alloc);
+    for day in 0..count {
+        let mut date = [0u8; 10];
+        if 0 <= day && day <= 84_005 {
+            write_day(day, &mut date);
+        }
+        text.extend_from_slice(&date)?;
+        text.push(b'\n')?;
+    }
+    Ok(text)
+}
+
 const AVERAGES: &str = "let big = AverageDollarVolume(2) > 1000;
     column a = SimpleMovingAverage(close, 3);
     column b = SimpleMovingAverage(close, 3);
     column c = SimpleMovingAverage(close, 3, mask=big);";
-
-const NESTED: &str = "column c = SimpleMovingAverage(Returns(close, 2), 2);";
-
-// What `plan` leaves for these statements and dates.
-fn answer_of(alloc: Global, statements: &str, dates: &str) -> Result<Left, Fail> {
-    let file = format!(in alloc; "pipeline 1;\n{statements}")?;
-    let words = words_of(alloc, &format!(in alloc; "plan p.pl sessions.csv {dates}")?)?;
-    answer(alloc, &words, ("p.pl", file.as_bytes()), NO_ROWS)
-}
-
-#[test]
-fn tells_plans(rt: HostRuntime) -> Result<(), Fail> {
-    let alloc = rt.alloc();
-    for (statements, dates, text) in [
-        (
-            AVERAGES,
-            "2024-01-05 2024-01-08",
-            b"0 AverageDollarVolume inputs=close;volume window=2 mask=- group=- extra=0 uses=1\n\
-            1 Const inputs=- window=1 mask=- group=- extra=0 uses=1\n\
-            2 Greater inputs=0;1 window=1 mask=- group=- extra=0 uses=1\n\
-            3 SimpleMovingAverage inputs=close window=3 mask=- group=- extra=0 uses=2\n\
-            4 SimpleMovingAverage inputs=close window=3 mask=2 group=- extra=0 uses=1\n\
-            reach=0 bound=4\n"
-                .as_slice(),
-        ),
-        (
-            NESTED,
-            "2024-01-05 2024-01-08",
-            b"0 Returns inputs=close window=2 mask=- group=- extra=1 uses=1\n\
-            1 SimpleMovingAverage inputs=0 window=2 mask=- group=- extra=0 uses=1\n\
-            reach=0 bound=2\n",
-        ),
-        // an unused term has no line
-        (
-            "let a = WindowSum(high, 5); column d = close.latest.demean(groupby=label(\"sector\"));",
-            "2024-01-04 2024-01-04",
-            b"1 Latest inputs=close window=1 mask=- group=- extra=0 uses=1\n\
-            2 Label inputs=- window=1 mask=- group=- extra=0 uses=1\n\
-            3 Demean inputs=1 window=1 mask=- group=2 extra=0 uses=1\n\
-            reach=1 bound=3\n",
-        ),
-    ] {
-        let got = answer_of(alloc, statements, dates)?;
-        assert_eq!(rt; got, make_left(alloc, 0, text, b"")?);
-    }
-    Ok(())
-}
-
-#[test]
-fn refuses_plans(rt: HostRuntime) -> Result<(), Fail> {
-    let alloc = rt.alloc();
-    for (statements, dates, line) in [
-        (
-            NESTED,
-            "2024-01-04 2024-01-08",
-            b"range: TooEarly -1\n".as_slice(),
-        ),
-        (
-            "column m = SimpleMovingAverage(close, 2);",
-            "2024-01-03 2024-01-04",
-            b"range: TooEarly -1\n",
-        ),
-        (
-            "column c = 1; screen SimpleMovingAverage(close, 3) > 1;",
-            "2024-01-03 2024-01-04",
-            b"range: TooEarly -2\n",
-        ),
-        (
-            NESTED,
-            "2024-01-06 2024-01-07",
-            b"range: NotSession 2024-01-06\n",
-        ),
-        (
-            NESTED,
-            "2024-01-05 2024-01-07",
-            b"range: NotSession 2024-01-07\n",
-        ),
-        (NESTED, "2024-01-05 2024-01-04", b"range: Backwards\n"),
-    ] {
-        let got = answer_of(alloc, statements, dates)?;
-        assert_eq!(rt;
-            got,
-            make_left(alloc, 5, b"", line)?,
-            "{statements} {dates}"
-        );
-    }
-    Ok(())
-}
-
-// 5,200 sessions, of which the first of the range has the number 5,100.
-#[test]
-fn plans_few_rows(rt: HostRuntime) -> Result<(), Fail> {
-    let alloc = rt.alloc();
-    let deep = b"pipeline 1; column r = RSI(RSI(RSI(RSI(RSI(close, 2), 1260), 1260), 1260), 1260);";
-    let words = words_of(alloc, "plan p.pl sessions.csv 1983-12-19 1984-03-27")?;
-    let mut shelf = shelf_with(alloc, ("p.pl", deep))?;
-    shelf.put(
-        String::from_str(alloc, "sessions.csv")?,
-        dates(alloc, 5_200)?,
-    )?;
-    let keeper = keeper(alloc, NO_ROWS, Vec::new(alloc))?;
-    let got = run_over(alloc, &words, shelf, keeper, Vec::new(alloc))?;
-    assert_eq!(rt; got, make_left(alloc, 6, b"", b"limit: extra\n")?);
-    Ok(())
-}
 
 // The slot of a term, and that of its first bar column, where it is used.
 fn slots_of(plan: &Plan, t: u8) -> Option<(usize, usize)> {

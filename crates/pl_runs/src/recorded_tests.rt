@@ -1,9 +1,9 @@
-// Which calls a run makes of its parts, and what is left where one of them fails.
+// Which calls a run makes of its parts, and a second run over the same parts.
 ghost use Rattle.std.specs.Prelude.{◌≡◌, None, [], false};
 ghost use Rattle.pl_outside.specs.Counts.{count_end, count_plus};
 
 use crate::test_runs::{
-    FOURTH, NO_ROWS, PIPELINE, Rows, base_shelf, keeper, run, run_words, shelf_with, split,
+    PIPELINE, base_shelf, run, run_words, shelf_with, split_keeper,
 };
 use pl_outside::{
     AdjustKeeper, Failed, KeepError, MemoryKeeper, MemoryShelf, RawAdjust, Shelf, Sink, Table,
@@ -111,22 +111,17 @@ impl AdjustKeeper for RecordedKeeper {
     ghost lists_ascend = { Prim.search rules };
 }
 
-/// The pieces taken, each with a bar behind it. The call of this number fails, or none where it is 0. It
-/// tells nothing but its faults.
+/// The pieces taken, each with a bar behind it. It tells nothing but its faults.
 #[derive(Drop)]
 struct RecordedSink {
     pieces: Vec<u8>,
-    calls: u64,
-    failing: u64,
     faults: u64,
 }
 
 impl RecordedSink {
-    fn new(alloc: Global, failing: u64) -> RecordedSink {
+    fn new(alloc: Global) -> RecordedSink {
         RecordedSink {
             pieces: Vec::new(alloc),
-            calls: 0,
-            failing,
             faults: 0,
         }
     }
@@ -148,8 +143,7 @@ impl Sink for RecordedSink {
     ghost room = { λ _. 0 };
 
     fn write(&mut self, bytes: &[u8]) -> Result<usize, Failed> {
-        self.calls = self.calls.saturating_add(1);
-        if self.calls == self.failing || add_piece(&mut self.pieces, bytes).is_err() {
+        if add_piece(&mut self.pieces, bytes).is_err() {
             self.faults = self.faults.saturating_add(1);
             return Err(Failed);
         }
@@ -174,14 +168,8 @@ struct Parts {
     err: RecordedSink,
 }
 
-/// Parts over these files and rows, whose call of `out` and call of `err` of these numbers fail.
-fn make_parts(
-    alloc: Global,
-    files: MemoryShelf,
-    rows: Rows,
-    out: u64,
-    err: u64,
-) -> Result<Parts, Fail> {
+/// Parts over these files and a split.
+fn make_parts(alloc: Global, files: MemoryShelf) -> Result<Parts, Fail> {
     Ok(Parts {
         shelf: RecordedShelf {
             files,
@@ -189,12 +177,12 @@ fn make_parts(
             faults: 0,
         },
         keeper: RecordedKeeper {
-            rows: keeper(alloc, rows, Vec::new(alloc))?,
+            rows: split_keeper(alloc)?,
             loaded: String::new(alloc),
             faults: 0,
         },
-        out: RecordedSink::new(alloc, out),
-        err: RecordedSink::new(alloc, err),
+        out: RecordedSink::new(alloc),
+        err: RecordedSink::new(alloc),
     })
 }
 
@@ -312,114 +300,12 @@ fn calls_in_order(rt: HostRuntime) -> Result<(), Fail> {
     ] {
         let words = run_words(alloc, further)?;
         let files = shelf_with(alloc, (name, bytes))?;
-        let mut parts = make_parts(alloc, files, split(1, FOURTH, 1, 2), 0, 0)?;
+        let mut parts = make_parts(alloc, files)?;
         let ended = run_parts(alloc, &words, &mut parts);
         let got = recorded(alloc, ended, &parts)?;
         let want = make_record(alloc, status, begun, loaded, out)?;
         assert_eq!(rt; got, want, "{name} {further}");
     }
-    Ok(())
-}
-
-#[test]
-fn keeps_its_answer_where_its_line_fails(rt: HostRuntime) -> Result<(), Fail> {
-    let alloc = rt.alloc();
-    let bars = b"sid,session,open,high,low,close,volume\n1,2024-01-07,1,1,1,1,1\n".as_slice();
-    for (name, bytes, further, failing, status, out, line) in [
-        (
-            "bars.csv",
-            bars,
-            "2024-01-03 2024-01-04",
-            0,
-            4,
-            "",
-            "bars.csv|:|2|: data |NotSession|\n|",
-        ),
-        (
-            "p.pl",
-            PIPELINE,
-            "2024-01-02 2024-01-04",
-            0,
-            5,
-            "",
-            "range: TooEarly |-1|\n|",
-        ),
-        (
-            "p.pl",
-            PIPELINE,
-            "2024-01-03 2024-01-04",
-            2,
-            9,
-            "session,sid,c\n|",
-            "write\n|",
-        ),
-    ] {
-        let words = run_words(alloc, further)?;
-        for call in 0..8 {
-            let files = shelf_with(alloc, (name, bytes))?;
-            let mut parts = make_parts(alloc, files, NO_ROWS, failing, call)?;
-            let ended = run_parts(alloc, &words, &mut parts);
-            let got = (ended, parts.out.text(alloc)?);
-            let want = (status, String::from_str(alloc, out)?);
-            assert_eq!(rt; got, want, "{name} {further} {call}");
-            let told = parts.err.text(alloc)?;
-            assert!(rt; line.starts_with(told.as_str()), "{told} {call}");
-            assert_eq!(rt;
-                told.as_str() == line,
-                parts.err.faults == 0,
-                "{told} {call}"
-            );
-        }
-    }
-    Ok(())
-}
-
-#[test]
-fn stops_at_the_first_failing_write(rt: HostRuntime) -> Result<(), Fail> {
-    let alloc = rt.alloc();
-    let words = run_words(alloc, "2024-01-03 2024-01-05")?;
-    let row = "session,sid,c\n|2024-01-03,1,100.000000\n|";
-    let rows =
-        "session,sid,c\n|2024-01-03,1,100.000000\n|2024-01-04,1,102.000000\n|2024-01-05,1,51.000000\n|";
-    for (failing, status, out, calls) in [
-        (1, 9, "", 1),
-        (2, 9, "session,sid,c\n|", 2),
-        (3, 9, row, 3),
-        (5, 0, rows, 4),
-    ] {
-        let files = base_shelf(alloc, Vec::new(alloc))?;
-        let mut parts = make_parts(alloc, files, NO_ROWS, failing, 0)?;
-        let ended = run_parts(alloc, &words, &mut parts);
-        let got = (ended, parts.out.calls, parts.out.text(alloc)?);
-        let want = (status, calls, String::from_str(alloc, out)?);
-        assert_eq!(rt; got, want, "{failing}");
-    }
-    Ok(())
-}
-
-#[test]
-fn runs_up_to_64_columns(rt: HostRuntime) -> Result<(), Fail> {
-    let alloc = rt.alloc();
-    let words = run_words(alloc, "2024-01-04 2024-01-04")?;
-    let mut pipeline = String::from_str(alloc, "pipeline 1;\n")?;
-    let mut header = String::from_str(alloc, "session,sid")?;
-    let mut row = String::from_str(alloc, "2024-01-04,1")?;
-    for number in 0..64 {
-        pipeline.push_str(&format!(in alloc; "column c{number} = close.latest;\n")?)?;
-        header.push_str(&format!(in alloc; ",c{number}")?)?;
-        row.push_str(",102.000000")?;
-    }
-    let table = format!(in alloc; "{header}\n|{row}\n|")?;
-    let files = shelf_with(alloc, ("p.pl", pipeline.as_bytes()))?;
-    let mut most = make_parts(alloc, files, NO_ROWS, 0, 0)?;
-    let ended = run_parts(alloc, &words, &mut most);
-    assert_eq!(rt; (ended, most.out.text(alloc)?), (0, table));
-    pipeline.push_str("column c64 = close.latest;\n")?;
-    let files = shelf_with(alloc, ("p.pl", pipeline.as_bytes()))?;
-    let mut more = make_parts(alloc, files, NO_ROWS, 0, 0)?;
-    let ended = run_parts(alloc, &words, &mut more);
-    let line = String::from_str(alloc, "limit: |columns|\n|")?;
-    assert_eq!(rt; (ended, more.err.text(alloc)?), (6, line));
     Ok(())
 }
 
@@ -430,8 +316,7 @@ fn runs_again_over_the_same_parts(rt: HostRuntime) -> Result<(), Fail> {
         alloc,
         "2024-01-03 2024-01-04 --labels labels.csv --adjustments adj.db",
     )?;
-    let rows = split(1, FOURTH, 1, 2);
-    let mut whole = make_parts(alloc, base_shelf(alloc, Vec::new(alloc))?, rows, 0, 0)?;
+    let mut whole = make_parts(alloc, base_shelf(alloc, Vec::new(alloc))?)?;
     for (begun, loaded, out) in [
         (ALL_FILES, ALL_TABLES, PIECES),
         (
@@ -446,7 +331,7 @@ fn runs_again_over_the_same_parts(rt: HostRuntime) -> Result<(), Fail> {
     }
     // the fourth call of the shelf begins the sessions, and fails once
     let files = base_shelf(alloc, vec![in alloc; 4u64]?)?;
-    let mut failing = make_parts(alloc, files, rows, 0, 0)?;
+    let mut failing = make_parts(alloc, files)?;
     for (status, out) in [(7, ""), (0, PIECES)] {
         let ended = run_parts(alloc, &words, &mut failing);
         let got = (ended, failing.out.text(alloc)?);

@@ -1,0 +1,222 @@
+// The table of a run against its cells, each computed by itself.
+ghost use Rattle.std.specs.Prelude.{◌≡◌, ◌<◌, length, IfOk, IfSome};
+ghost use Rattle.pl_spec.specs.Dates.{IsDay};
+ghost use Rattle.pl_model.specs.Worlds.{IsMade};
+ghost use Rattle.pl_load.specs.Loads.{IsReady};
+
+use crate::case::Case;
+use crate::fields::{Field, behind_field};
+use crate::parts::{keeper_of, shelf_of};
+use anyhow::{Context, Result, bail};
+use pl_explain::reach_at;
+use pl_fixed::{Steps, write_day};
+use pl_load::{Loaded, load};
+use pl_model::{World, cell_now};
+use pl_terms::{Checked, TermId};
+use pl_values::empty_value;
+use pl_words::{Options, Request, RunRequest, read_words};
+use std::alloc::Global;
+use std::marker::Brand;
+use std::sync::ledger::{Blank, Ledger};
+
+/// Whether the table of a run differs from its cells in the whole world. Other commands have none.
+pub fn cells_differ(alloc: Global, case: &Case, words: &[String], table: &[u8]) -> Result<bool> {
+    match read_words(alloc, words) {
+        Ok(Some(Request::Run(request))) => run_differs(alloc, case, &request, table),
+        Ok(_) => Ok(false),
+        Err(_) => bail!("memory"),
+    }
+}
+
+fn run_differs(alloc: Global, case: &Case, request: &RunRequest<'_>, table: &[u8]) -> Result<bool> {
+    let labels = labels_of(alloc, case, request.options.labels)?;
+    match loaded_of(alloc, case, request)? {
+        Some(loaded) => table_differs::<Brand>(alloc, &loaded, &labels, table, Blank::new(1)),
+        None => Ok(case.status() == 0),
+    }
+}
+
+// What a run reads, up to all sessions; none where it is refused.
+fn loaded_of(alloc: Global, case: &Case, request: &RunRequest<'_>) -> Result<Option<Loaded>>
+    ensures { IfOk result (λ loaded. IfSome loaded IsReady) }
+{
+    let whole = RunRequest {
+        options: Options {
+            as_of: None,
+            ..request.options
+        },
+        ..*request
+    };
+    let mut shelf = shelf_of(alloc, case, 0)?;
+    let mut keeper = keeper_of(alloc, case, 0)?;
+    match load(alloc, &whole, &mut shelf, &mut keeper) {
+        Ok(loaded) => Ok(Some(loaded)),
+        Err(_) => Ok(None),
+    }
+}
+
+// The texts of a labels file by their codes: in the order in which they stand there first, as they are written there.
+fn labels_of(alloc: Global, case: &Case, name: Option<&str>) -> Result<Vec<String>> {
+    let mut labels: Vec<String> = Vec::new(alloc);
+    let title = format!(in alloc; "file {}", name.unwrap_or(""))?;
+    let file = String::from_utf8_lossy(alloc, case.text(&title))?;
+    for line in file.lines().skip(1) {
+        let text = line.splitn(4, ',').nth(3).unwrap_or("");
+        if !text.is_empty() && !labels.iter().any(|label| label.as_str() == text) {
+            labels.push(String::from_str(alloc, text)?)?;
+        }
+    }
+    Ok(labels)
+}
+
+fn table_differs<L: Ledger>(
+    alloc: Global,
+    loaded: &Loaded,
+    labels: &[String],
+    table: &[u8],
+    blank: Blank,
+) -> Result<bool>
+    requires ready { IsReady loaded.now }
+    requires name { blank.name ≡ L.name }
+    requires parts { blank.parts ≡ L.parts }
+    requires some { 0 < L.parts }
+{
+    let mut steps = Steps::<L>::new(blank);
+    let world = loaded.world.world();
+    let table = String::from_utf8_lossy(alloc, table)?;
+    let mut rest = table.split_once('\n').context("no header")?.1;
+    for session in loaded.plan.from()..=loaded.plan.to() {
+        match behind_session(
+            alloc,
+            &world,
+            &loaded.checked,
+            labels,
+            session,
+            rest,
+            &mut steps,
+        )? {
+            Some(further) => rest = further,
+            None => return Ok(true),
+        }
+    }
+    Ok(!rest.is_empty())
+}
+
+// What stands behind the rows of a session; none where another row stands there.
+fn behind_session<'a, L: Ledger>(
+    alloc: Global,
+    world: &World,
+    checked: &Checked,
+    labels: &[String],
+    session: usize,
+    mut rest: &'a str,
+    steps: &mut Steps<L>,
+) -> Result<Option<&'a str>>
+    requires made { IsMade world.now }
+{
+    if session >= world.sessions.len() {
+        return Ok(None);
+    }
+    for col in 0..world.assets.len() {
+        if is_shown(alloc, world, checked, col, session, steps)? {
+            match behind_row(alloc, world, checked, labels, col, session, rest, steps)? {
+                Some(further) => rest = further,
+                None => return Ok(None),
+            }
+        }
+    }
+    Ok(Some(rest))
+}
+
+// Whether an asset has a row: it exists, and the screen keeps it.
+fn is_shown<L: Ledger>(
+    alloc: Global,
+    world: &World,
+    checked: &Checked,
+    col: usize,
+    session: usize,
+    steps: &mut Steps<L>,
+) -> Result<bool>
+    requires made { IsMade world.now }
+    requires col { col < length world.now.assets.now }
+    requires session { session < length world.now.sessions.now }
+{
+    if !world.assets.exists(col, world.sessions.day(session)) {
+        return Ok(false);
+    }
+    match checked.screen() {
+        Some(screen) => {
+            let shown = cell_of(alloc, world, checked, screen, col, session, steps)?;
+            Ok(shown.cell == 1)
+        }
+        None => Ok(true),
+    }
+}
+
+// What stands behind the row of an asset on a session; none where another row stands there.
+fn behind_row<'a, L: Ledger>(
+    alloc: Global,
+    world: &World,
+    checked: &Checked,
+    labels: &[String],
+    col: usize,
+    session: usize,
+    rest: &'a str,
+    steps: &mut Steps<L>,
+) -> Result<Option<&'a str>>
+    requires made { IsMade world.now }
+    requires col { col < length world.now.assets.now }
+    requires session { session < length world.now.sessions.now }
+{
+    let front = front_of(alloc, world.sessions.day(session), world.assets.sid(col))?;
+    let Some(mut rest) = rest.strip_prefix(front.as_str()) else {
+        return Ok(None);
+    };
+    for column in 0..checked.columns() {
+        let t = checked.column_term(column);
+        let field = cell_of(alloc, world, checked, t, col, session, steps)?;
+        match behind_field(alloc, labels, field, rest)? {
+            Some(further) => rest = further,
+            None => return Ok(None),
+        }
+    }
+    Ok(rest.strip_prefix('\n'))
+}
+
+// The date and the sid in front of a row.
+fn front_of(alloc: Global, day: i32, sid: u32) -> Result<String>
+    requires { IsDay day }
+{
+    let mut date = [0u8; 10];
+    write_day(day, &mut date);
+    let date = String::from_utf8_lossy(alloc, &date)?;
+    Ok(format!(in alloc; "{date},{sid}")?)
+}
+
+// The value of a term for an asset on a session.
+fn cell_of<L: Ledger>(
+    alloc: Global,
+    world: &World,
+    checked: &Checked,
+    t: TermId,
+    col: usize,
+    session: usize,
+    steps: &mut Steps<L>,
+) -> Result<Field>
+    requires made { IsMade world.now }
+    requires col { col < length world.now.assets.now }
+    requires session { session < length world.now.sessions.now }
+{
+    anyhow::ensure!((t.0 as usize) < checked.graph().len(), "no term");
+    let reach = reach_at(alloc, checked, world.sessions, t, session)
+        .ok()
+        .context("memory")?;
+    anyhow::ensure!(reach >= 0, "a cell without its bars");
+    let cell = cell_now(alloc, world, checked, t, col, session, steps)
+        .ok()
+        .context("memory")?;
+    Ok(Field {
+        cell,
+        is_truth: empty_value(checked.graph(), t) == 0,
+    })
+}
