@@ -16,7 +16,7 @@ _tohmeril() {
     if [[ $word == -* ]]; then
         local options=
         case $command in
-            run) options="--labels --adjustments --chunk --format --stats --asof" ;;
+            run) options="--labels --adjustments --revisions --chunk --format --stats --asof" ;;
             bench) options="--chunk" ;;
         esac
         mapfile -t COMPREPLY < <(compgen -W "$options" -- "$word")

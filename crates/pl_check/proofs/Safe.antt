@@ -20,53 +20,12 @@ use Rattle.pl_check.specs.Results.{kind_for, result_for, columns_of, gives_input
 use Rattle.pl_check.specs.Standing.{Stands, AllStand}
 use Rattle.pl_check.proofs.Lists.{all-has, test-given, stand-given}
 
--- filters and classifiers may
-safe-sort : (k : Kind) (x : Sort) → sort_of k ≡ x → (x ≡ sorts.Factors → ⊥) → is_safe_kind k ≡ true
-unfolding sort_of is_safe_kind
-safe-sort (kind.Window kind.Latest) x e f = absurd (f (sym e))
-safe-sort (kind.Window k) x e f = window k e
-  where
-    window : (k : kind.WindowKind) → sort_of (kind.Window k) ≡ x → is_safe_kind (kind.Window k) ≡ true
-    window kind.Returns e = refl
-    window kind.PercentChange e = refl
-    window kind.RateOfChangePercentage e = refl
-    window kind.RSI e = refl
-    window kind.FastStochasticOscillator e = refl
-    window kind.AroonUp e = refl
-    window kind.AroonDown e = refl
-    window kind.All e = refl
-    window kind.Any e = refl
-    window (kind.AtLeastN n) e = refl
-    window kind.AllPresent e = refl
-    window k e = absurd (f (sym e))
-safe-sort (kind.Point kind.Add) x e f = absurd (f (sym e))
-safe-sort (kind.Point kind.Sub) x e f = absurd (f (sym e))
-safe-sort (kind.Point kind.Mul) x e f = absurd (f (sym e))
-safe-sort (kind.Point kind.Div) x e f = absurd (f (sym e))
-safe-sort (kind.Point kind.Neg) x e f = absurd (f (sym e))
-safe-sort (kind.Point kind.Abs) x e f = absurd (f (sym e))
-safe-sort (kind.Point (kind.Clip low high)) x e f = absurd (f (sym e))
-safe-sort (kind.Point kind.FillNa) x e f = absurd (f (sym e))
-safe-sort (kind.Point kind.IfElse) x e f = absurd (f (sym e))
-safe-sort (kind.Point k) x e f = refl
-safe-sort (kind.Cross kind.Demean) x e f = absurd (f (sym e))
-safe-sort (kind.Cross k) x e f = refl
-safe-sort (kind.Downsample d) x e f = absurd (f (sym e))
-safe-sort k x e f = refl
-
-node-in : (o : Option Node) (x : Sort) → option_map (λ n. sort_of n.kind) o ≡ Some x → (n : Node) × (o ≡ Some n) × (sort_of n.kind ≡ x)
-node-in None x h = absurd (let no : None ≡ Some x = h in cc)
-node-in (Some n) x h = (n, refl, (let e : Some (sort_of n.kind) ≡ Some x = h in cc))
-
-sort-safe : (g : Graph) (t : ℕ) (x : Sort) → (x ≡ sorts.Factors → ⊥) → sort_at g t ≡ Some x → IsSafe g t
-sort-safe g t x f h = let r = node-in (slice_get g t) x h in of_kind r.0 r.1 (safe-sort r.0.kind x r.2 f)
-
 -- a value that is safe, as an input
 pub value-safe : (g : Graph) (v : Value) (j : ℕ) → Stands g v → is_safe v ≡ true → input_in v ≡ Some (TermInput j) → IsSafe g j
 value-safe g (Factor t s) j f h e = subst (IsSafe g) (let q : Some (TermInput t) ≡ Some (TermInput j) = e in let z : t ≡ j = cc in z) (f.1 h)
-value-safe g (Filter t) j f h e = subst (IsSafe g) (let q : Some (TermInput t) ≡ Some (TermInput j) = e in let z : t ≡ j = cc in z) (sort-safe g t sorts.Filters (λ p. cc) f)
-value-safe g (Labels t) j f h e = subst (IsSafe g) (let q : Some (TermInput t) ≡ Some (TermInput j) = e in let z : t ≡ j = cc in z) (sort-safe g t sorts.Labels (λ p. cc) f)
-value-safe g (Numbers t) j f h e = subst (IsSafe g) (let q : Some (TermInput t) ≡ Some (TermInput j) = e in let z : t ≡ j = cc in z) (sort-safe g t sorts.Numbers (λ p. cc) f)
+value-safe g (Filter t) j f h e = subst (IsSafe g) (let q : Some (TermInput t) ≡ Some (TermInput j) = e in let z : t ≡ j = cc in z) f.1
+value-safe g (Labels t) j f h e = subst (IsSafe g) (let q : Some (TermInput t) ≡ Some (TermInput j) = e in let z : t ≡ j = cc in z) f.1
+value-safe g (Numbers t) j f h e = subst (IsSafe g) (let q : Some (TermInput t) ≡ Some (TermInput j) = e in let z : t ≡ j = cc in z) f.1
 value-safe g (Bars c) j f h e = absurd (let q : Some (BarColumn c) ≡ Some (TermInput j) = e in cc)
 value-safe g (Number n) j f h e = absurd (let q : None ≡ Some (TermInput j) = e in cc)
 value-safe g (Text t) j f h e = absurd (let q : None ≡ Some (TermInput j) = e in cc)
@@ -188,53 +147,65 @@ windows-safe g o bs names k t s w i j e = here (from-inputs o bs i j e)
 
 -- ---- what a node gives
 
--- a factor that is called safe is so by its kind, or where all that is given is
+-- what is called safe is so by its kind, or where all that is given is
+abbrev pub called_safe : Value → Bool
+called_safe (Factor t s) = s
+called_safe (Filter t) = true
+called_safe (Labels t) = true
+called_safe (Numbers t) = true
+called_safe v = false
+
 abbrev SafeResult : Kind → Bool → Value → Type 0
-SafeResult k a (Factor t s) = (not s || (is_safe_kind k || (is_safe_over k && a))) ≡ true
-SafeResult k a v = Unit {0}
+SafeResult k a v = (not (called_safe v) || (is_safe_kind k || (is_safe_over k && a))) ≡ true
+
+-- the operation that gives what it is given
+abbrev pub is_like : Operation → Bool
+is_like op.Downsample = true
+is_like o = false
 
 self-or : (a : Bool) → (not a || a) ≡ true
 self-or true = refl
 self-or false = refl
 
-result-called : (o : Operation) (bs : List Bound) (names : List (List ℕ)) (t : ℕ) → SafeResult (kind_for o bs names) (all_safe bs) (result_for o bs t)
+result-called : (o : Operation) (bs : List Bound) (names : List (List ℕ)) (t : ℕ) → is_like o ≡ false → SafeResult (kind_for o bs names) (all_safe bs) (result_for o bs t)
 unfolding kind_for result_for is_safe_kind is_safe_over
-result-called op.Demean bs names t = self-or (all_safe bs)
-result-called op.Add bs names t = self-or (all_safe bs)
-result-called op.Sub bs names t = self-or (all_safe bs)
-result-called op.Mul bs names t = self-or (all_safe bs)
-result-called op.Div bs names t = self-or (all_safe bs)
-result-called op.Neg bs names t = self-or (all_safe bs)
-result-called op.Abs bs names t = self-or (all_safe bs)
-result-called op.Clip bs names t = self-or (all_safe bs)
-result-called op.FillNa bs names t = self-or (all_safe bs)
-result-called op.IfElse bs names t = self-or (all_safe bs)
-result-called op.Returns bs names t = refl
-result-called op.PercentChange bs names t = refl
-result-called op.RateOfChangePercentage bs names t = refl
-result-called op.RSI bs names t = refl
-result-called op.FastStochasticOscillator bs names t = refl
-result-called op.AroonUp bs names t = refl
-result-called op.AroonDown bs names t = refl
-result-called op.Rank bs names t = refl
-result-called op.ZScore bs names t = refl
-result-called op.PeerCount bs names t = refl
-result-called op.SimpleMovingAverage bs names t = refl
-result-called op.LinearWeightedMovingAverage bs names t = refl
-result-called op.WindowSum bs names t = refl
-result-called op.WindowMax bs names t = refl
-result-called op.WindowMin bs names t = refl
-result-called op.WindowStd bs names t = refl
-result-called op.BollingerMiddle bs names t = refl
-result-called op.BollingerLower bs names t = refl
-result-called op.BollingerUpper bs names t = refl
-result-called op.VWAP bs names t = refl
-result-called op.AverageDollarVolume bs names t = refl
-result-called op.WeightedAverageValue bs names t = refl
-result-called op.TrueRange bs names t = refl
-result-called op.ExponentialWeightedMovingAverage bs names t = refl
-result-called op.Latest bs names t = refl
-result-called o bs names t = tt
+result-called op.Demean bs names t h = self-or (all_safe bs)
+result-called op.Add bs names t h = self-or (all_safe bs)
+result-called op.Sub bs names t h = self-or (all_safe bs)
+result-called op.Mul bs names t h = self-or (all_safe bs)
+result-called op.Div bs names t h = self-or (all_safe bs)
+result-called op.Neg bs names t h = self-or (all_safe bs)
+result-called op.Abs bs names t h = self-or (all_safe bs)
+result-called op.Clip bs names t h = self-or (all_safe bs)
+result-called op.FillNa bs names t h = self-or (all_safe bs)
+result-called op.IfElse bs names t h = self-or (all_safe bs)
+result-called op.Returns bs names t h = refl
+result-called op.PercentChange bs names t h = refl
+result-called op.RateOfChangePercentage bs names t h = refl
+result-called op.RSI bs names t h = refl
+result-called op.FastStochasticOscillator bs names t h = refl
+result-called op.AroonUp bs names t h = refl
+result-called op.AroonDown bs names t h = refl
+result-called op.Rank bs names t h = refl
+result-called op.ZScore bs names t h = refl
+result-called op.PeerCount bs names t h = refl
+result-called op.SimpleMovingAverage bs names t h = refl
+result-called op.LinearWeightedMovingAverage bs names t h = refl
+result-called op.WindowSum bs names t h = refl
+result-called op.WindowMax bs names t h = refl
+result-called op.WindowMin bs names t h = refl
+result-called op.WindowStd bs names t h = refl
+result-called op.BollingerMiddle bs names t h = refl
+result-called op.BollingerLower bs names t h = refl
+result-called op.BollingerUpper bs names t h = refl
+result-called op.VWAP bs names t h = refl
+result-called op.AverageDollarVolume bs names t h = refl
+result-called op.WeightedAverageValue bs names t h = refl
+result-called op.TrueRange bs names t h = refl
+result-called op.ExponentialWeightedMovingAverage bs names t h = refl
+result-called op.Latest bs names t h = refl
+result-called op.Downsample bs names t h = absurd (let no : true ≡ false = h in cc)
+result-called o bs names t h = refl
 
 called-cases : (s a b c : Bool) → s ≡ true → (not s || (a || (b && c))) ≡ true → (a ≡ true) ⊎ ((b ≡ true) × (c ≡ true))
 called-cases true true b c e h = inl refl
@@ -243,11 +214,11 @@ called-cases true false false c e h = absurd (let no : false ≡ true = h in cc)
 called-cases false a b c e h = absurd (let no : false ≡ true = e in cc)
 
 -- the term of a node that is called safe
-pub result-safe : (g : Graph) (o : Operation) (bs : List Bound) (names : List (List ℕ)) (t : ℕ) (n : Node) → slice_get g t ≡ Some n → n.kind ≡ kind_for o bs names → n.inputs ≡ inputs_for o bs → AllStand g bs
-    → (u : ℕ) (s : Bool) → result_for o bs t ≡ Factor u s → s ≡ true → IsSafe g t
-result-safe g o bs names t n at k is f u s e h =
-    elim (called-cases s (is_safe_kind (kind_for o bs names)) (is_safe_over (kind_for o bs names)) (all_safe bs) h
-    (subst (SafeResult (kind_for o bs names) (all_safe bs)) e (result-called o bs names t))) [
+pub result-safe : (g : Graph) (o : Operation) (bs : List Bound) (names : List (List ℕ)) (t : ℕ) (n : Node) → is_like o ≡ false → slice_get g t ≡ Some n → n.kind ≡ kind_for o bs names → n.inputs ≡ inputs_for o bs → AllStand g bs
+    → (v : Value) → result_for o bs t ≡ v → called_safe v ≡ true → IsSafe g t
+result-safe g o bs names t n own at k is f v e h =
+    elim (called-cases (called_safe v) (is_safe_kind (kind_for o bs names)) (is_safe_over (kind_for o bs names)) (all_safe bs) h
+    (subst (SafeResult (kind_for o bs names) (all_safe bs)) e (result-called o bs names t own))) [
       | inl x ↦ of_kind n at (ap is_safe_kind k ∙ x)
       | inr x ↦ of_inputs n at (ap is_safe_over k ∙ x.0) (λ i j q. inputs-safe g o bs f x.1 i j (ap (λ ns. slice_get ns i) (sym is) ∙ q))
     ]

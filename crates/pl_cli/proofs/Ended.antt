@@ -254,6 +254,7 @@ module _ {O : Type 0} (taken : O → Option (List ℕ)) (faults : O → ℕ) (so
   pipeline-files name file h files.Assets = λ n is. absurd (cc)
   pipeline-files name file h files.Labels = λ n is. absurd (cc)
   pipeline-files name file h files.Bars = λ n is. absurd (cc)
+  pipeline-files name file h files.Revisions = λ n is. absurd (cc)
   pipeline-files name file h files.Payouts = λ n is. absurd (cc)
 
   are-held : (asked : Request) (name : List ℕ) (steps : Option (List ℕ) → List Step) (file : Option (List ℕ)) → IsOfFile asked name steps

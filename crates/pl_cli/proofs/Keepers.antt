@@ -5,14 +5,14 @@ use Rattle.pl_spec.specs.declared.RawAdjust.{RawAdjust}
 use Rattle.pl_spec.specs.Table.{Pipeline}
 use Rattle.pl_outside.specs.declared.keeper.Table.{Table}
 use Rattle.pl_words.specs.declared.request.InputFile.{InputFile}
-use Rattle.pl_words.specs.declared.request.InputFile.TheVariants.{Labels as LabelsFile}
+use Rattle.pl_words.specs.declared.request.InputFile.TheVariants.{Labels as LabelsFile, Revisions as RevisionsFile}
 use Rattle.pl_words.specs.Request.{Request, Run, Fmt, Check, Plan, Bench, Payouts, RunRequest, PlanRequest, Dated, adjustments_of}
 use Rattle.pl_judge.specs.Contents.{Contents}
 use Rattle.pl_judge.specs.Held.{assets_held, days_held, pipeline_held}
 use Rattle.pl_judge.specs.Steps.{Source, Step, ReachesRead}
 use Rattle.pl_judge.specs.Steps.Source.{Input, Load}
 use Rattle.pl_judge.specs.Range.{index_of, dates_steps, plan_steps, range_steps}
-use Rattle.pl_judge.specs.Work.{labels_steps, adjustments_steps, data_steps, planning_steps, payouts_steps, run_steps, work}
+use Rattle.pl_judge.specs.Work.{labels_steps, adjustments_steps, revisions_steps, data_steps, planning_steps, payouts_steps, run_steps, work}
 
 no-input : {A : Type 0} {file : InputFile} {table : Table} → Some (Input file) ≡ Some (Load table) → A
 no-input h = absurd (cc)
@@ -34,6 +34,10 @@ of-labels assets (Some n) file table h = elim h [ inl p ↦ no-input p | inr q �
 of-adjustments : (assets : List AssetRow) (adjustments : Option (List ℕ)) (rows : Table → List RawAdjust) (table : Table) → ReachesRead (adjustments_steps assets adjustments rows) (Load table) → IsSome adjustments
 of-adjustments assets None rows table h = absurd h
 of-adjustments assets (Some n) rows table h = refl
+
+of-revisions : (days : List ℤ) (assets : List AssetRow) (revisions file : Option (List ℕ)) (table : Table) → ReachesRead (revisions_steps days assets revisions file) (Load table) → ⊥
+of-revisions days assets None file table h = h
+of-revisions days assets (Some n) file table h = elim h [ inl p ↦ no-input p | inr q ↦ q.1 ]
 
 of-dates : (from to : Dated) (as_of : Option Dated) (days : List ℤ) (table : Table) → ReachesRead (dates_steps from to as_of days) (Load table) → ⊥
 unfolding dates_steps
@@ -62,7 +66,13 @@ of-data held q table h =
         | inl p ↦ no-input p
         | inr b ↦ elim (reaches-one (labels_steps (assets_held held) q.options.labels (held.file LabelsFile)) _ (Load table) b.1) [
           | inl l ↦ absurd (of-labels (assets_held held) q.options.labels (held.file LabelsFile) table l)
-          | inr m ↦ elim m [ inl p ↦ no-input p | inr x ↦ of-adjustments (assets_held held) q.options.adjustments held.rows table x.1 ]
+          | inr m ↦ elim m [
+            | inl p ↦ no-input p
+            | inr x ↦ elim (reaches-one (adjustments_steps (assets_held held) q.options.adjustments held.rows) _ (Load table) x.1) [
+              | inl r ↦ of-adjustments (assets_held held) q.options.adjustments held.rows table r
+              | inr r ↦ absurd (of-revisions (days_held held) (assets_held held) q.options.revisions (held.file RevisionsFile) table r)
+            ]
+          ]
         ]
       ]
     ]

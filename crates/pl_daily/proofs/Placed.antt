@@ -1,6 +1,7 @@
 -- A used term on its day has what it reads.
-use Rattle.std.proofs.Common.{◌≡◌, ℕ, zero, suc, ◌+◌, ◌<◌, ◌≤◌, true, ℤ, pos, List, [], ◌∷◌, length, map, get_or, Option, Some, None, option_map, unwrap_or, slice_get, refl, sym, ◌∙◌, ap, arith, subst, All}
-use Rattle.std.proofs.lemmas.List.{get_or-map}
+use Rattle.std.proofs.Common.{◌≡◌, ℕ, zero, suc, ◌+◌, ◌<◌, ◌≤◌, true, ℤ, pos, ◌-ℤ◌, List, [], ◌∷◌, length, map, get_or, Option, Some, None, option_map, unwrap_or, slice_get, refl, sym, ◌∙◌, ap, arith, subst, All}
+use Rattle.std.proofs.lemmas.Int.{ints}
+use Rattle.std.proofs.lemmas.List.{get_or_default}
 use Rattle.std.proofs.lemmas.Option.{slice_get-get_or, slice_get_within}
 use Rattle.circular_buffer.specs.Buffer.{buffer}
 use Rattle.pl_spec.specs.declared.AssetRow.{AssetRow}
@@ -20,7 +21,9 @@ use Rattle.pl_cross.specs.Arrays.{sid_in}
 use Rattle.pl_terms.specs.Checked.{IsChecked}
 use Rattle.pl_terms.specs.Uses.{is_used, outputs}
 use Rattle.pl_terms.specs.Sorts.{is_windowed}
-use Rattle.pl_planner.proofs.Covers.{reads-mention}
+use Rattle.pl_planner.specs.Extra.{asks_of}
+use Rattle.pl_planner.proofs.Gathers.{mention_of_ask}
+use Rattle.pl_planner.proofs.Lows.{Asked, asked-of}
 use Rattle.pl_planner.proofs.Pipelines.{is-pipeline}
 use Rattle.pl_values.specs.Arrays.{cell_of, Fills}
 use Rattle.pl_rings.specs.Days.{Start, FedDay, fed}
@@ -32,7 +35,7 @@ use Rattle.pl_day_rows.specs.Rows.{capacity_of, rings_in, row_of, sids_of}
 use Rattle.pl_day_rows.specs.Turns.{Moment, IsTurn, IsDayIn, HoldsRow, HoldsRings, HoldsBars, assets_at, node_at, pipeline_at, sids_at, cell_on, day_window_of}
 use Rattle.pl_day_rows.specs.Held.{AreTermCells, HoldsTerm}
 use Rattle.pl_day_rows.proofs.Sessions.{fed_days_are_sessions}
-use Rattle.pl_daily.specs.Terms.{start_of, TermsHold, IsPlaced, AreTerms, IsTermRow}
+use Rattle.pl_daily.specs.Terms.{start_of, TermsHold, IsPlaced, AreTerms, IsTermRow, IsStartRow}
 
 some_at : {X : Type 0} (xs : List X) (i : ℕ) → i < length xs → (x : X) × (slice_get xs i ≡ Some x)
 some_at [] i h = absurd (omega (arith, h))
@@ -51,7 +54,8 @@ sid_is (a ∷ rest) (suc i) h = sid_is rest i (omega (arith, h))
 module _ (t : Turn) (next : FedDay) (days : List FedDay)
     (placed : IsPlaced (start_of t.assets.now t.labels.now) t.day (pipeline_at t) t.bars.now t.terms.now t.term.0 next days)
     (are : AreTerms (assets_at t) (pipeline_at t) t.bars.now t.terms.now) (checked : IsChecked (pipeline_at t)) (used : is_used (pipeline_at t) t.term.0 ≡ true)
-    (node : slice_get (pipeline_at t).graph t.term.0 ≡ Some (node_at t)) (few : assets_at t ≤ 8000) (labels : AreLabels t.labels.now) where
+    (node : slice_get (pipeline_at t).graph t.term.0 ≡ Some (node_at t)) (few : assets_at t ≤ 8000) (labels : AreLabels t.labels.now)
+    (starts : IsStartRow (start_of t.assets.now t.labels.now) (pipeline_at t) t.term.0 next days t.start.now) where
   abbrev p : Pipeline
   p = pipeline_at t
 
@@ -70,7 +74,10 @@ module _ (t : Turn) (next : FedDay) (days : List FedDay)
   -- what the node mentions is used, and lower
   read_used : (u : ℕ) (r : ℤ) → Reads [] n (pos 0) u r → (u < t.term.0) × (u < length t.terms.now) × (is_used p u ≡ true)
   read_used u r reads =
-      let mention = reads-mention [] p.graph t.term.0 n node (pos 0) r u reads in
+      let here : pos 0 ≡ pos 0 -ℤ pos 0 = omega (arith, ints) in
+      let ask : Asked [] 0 n 0 u r = asked-of [] 0 n 0 u r (subst (λ d. Reads [] n d u r) here reads) in
+      let mention : contains (mentions_at p.graph t.term.0) u ≡ true =
+      mention_of_ask [] 0 p.graph t.term.0 0 ask.found.0 (u, ask.back) (ap (λ o. slice_get (asks_of [] 0 o 0) ask.found.0) node ∙ ask.found.1) in
       let below : u < t.term.0 = lower p.graph (outputs p) checked.graph t.term.0 u mention in
       let inside : t.term.0 < length p.graph = slice_get_within p.graph t.term.0 n node in
       let known : u < length p.graph = omega (arith, below, inside) in
@@ -130,7 +137,11 @@ module _ (t : Turn) (next : FedDay) (days : List FedDay)
     group = λ u e. row_held u (read_used u _ (Reads.group e));
     rings = λ kind place u e. rings_held place u kind e (read_used u _ (Reads.input place e));
     bars = bars_held;
+    start = λ f u e h. let x = starts n f u node e h in record { first = x.first; is = x.is; fills = x.fills };
   }
 
   pub row_is : (row : List ℤ) → Fills (λ i. cell_of w p (sids_at t) t.term.0 i (length days)) (assets_at t) row → IsTermRow g p t.term.0 next days row
   row_is row f = record { each = λ i l. f.each i (let long = f.long in omega (arith, l, long)) ∙ cell_is w p (sids_at t) t.term.0 i (length days) }
+
+  pub cells_are : (row : List ℤ) → Fills (λ i. cell_of w p (sids_at t) t.term.0 i (length days)) (assets_at t) row → All IsCell row
+  cells_are row f = λ i d l. let inside : i < assets_at t = (let long = f.long in omega (arith, l, long)) in subst IsCell (sym (get_or_default row i d (pos 0) l ∙ f.each i inside)) (f.cell i inside)

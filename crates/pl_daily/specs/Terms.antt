@@ -1,14 +1,18 @@
 -- All terms from day to day.
-use Rattle.std.specs.Prelude.{◌≡◌, ℕ, ◌<◌, ◌≤◌, true, ℤ, pos, List, [], ◌∷◌, length, Some, slice_get, get_or, All}
+use Rattle.std.specs.Prelude.{◌≡◌, ℕ, ◌<◌, ◌≤◌, true, false, ℤ, pos, List, [], ◌∷◌, length, Some, slice_get, get_or, All}
 use Rattle.pl_spec.specs.declared.AssetRow.{AssetRow}
 use Rattle.pl_spec.specs.declared.Column.{Column}
+use Rattle.pl_spec.specs.declared.Frequency.{Frequency}
+use Rattle.pl_spec.specs.Kind.Kind.{Downsample}
+use Rattle.pl_spec.specs.Periods.{period_start}
 use Rattle.pl_spec.specs.Rounding.{IsCell}
 use Rattle.pl_spec.specs.Table.{Pipeline}
 use Rattle.pl_spec.specs.Term.{Node}
 use Rattle.pl_spec.specs.Term.Input.{BarColumn, TermInput}
 use Rattle.pl_assets.specs.Labels.{LabelTable}
 use Rattle.pl_terms.specs.Uses.{is_used}
-use Rattle.pl_terms.specs.Sorts.{is_windowed}
+use Rattle.pl_terms.specs.Sorts.{is_downsampled, is_windowed}
+use Rattle.pl_values.specs.Arrays.{cell_of, Fills}
 use Rattle.pl_rings.specs.Days.{Start, FedDay, fed, IsStart, AreFed}
 use Rattle.pl_rings.specs.declared.columns.BarRings.{BarRings}
 use Rattle.pl_rings.specs.Columns.{AreBarRings, HoldColumns, rings_of}
@@ -52,3 +56,18 @@ pub record IsTermRow (g : Start) (p : Pipeline) (k : ℕ) (next : FedDay) (days 
 -- over every list of days for which the old terms are placed, the new ones are, up to k
 abbrev pub TermsFollow : Start → ℤ → Pipeline → BarRings → List TermCells → ℕ → List TermCells → Type 0
 TermsFollow g day p rings old k new = (next : FedDay) (days : List FedDay) → IsPlaced g day p rings old 0 next days → IsPlaced g day p rings new k next days
+
+-- the row is that of term u on the first session of the period of the last day
+pub record StandsFor (g : Start) (p : Pipeline) (f : Frequency) (u : ℕ) (next : FedDay) (days : List FedDay) (row : List ℤ) : Type 0 where
+  pub first : ℕ
+  pub is : pos first ≡ period_start f (fed g (next ∷ days)).days (pos (length days))
+  pub fills : Fills (λ i. cell_of (fed g (next ∷ days)) p (sids_of g.assets) u i first) (length g.assets) row
+
+-- the row is such a one of the input of term k, where that is downsampled
+abbrev pub IsStartRow : Start → Pipeline → ℕ → FedDay → List FedDay → List ℤ → Type 0
+IsStartRow g p k next days row = (n : Node) (f : Frequency) (u : ℕ) → slice_get p.graph k ≡ Some n → n.kind ≡ Downsample f
+    → slice_get n.inputs 0 ≡ Some (TermInput u) → StandsFor g p f u next days row
+
+-- no used term is downsampled
+abbrev pub ArePlain : Pipeline → Type 0
+ArePlain p = (k : ℕ) (n : Node) → is_used p k ≡ true → slice_get p.graph k ≡ Some n → is_downsampled n.kind ≡ false

@@ -4,7 +4,7 @@ ghost use Rattle.pl_spec.specs.Rounding.{IsCell};
 ghost use Rattle.pl_terms.specs.Checked.{pipeline_of};
 ghost use Rattle.pl_terms.specs.Uses.{is_used};
 ghost use Rattle.pl_rings.specs.Days.{FedDay};
-ghost use Rattle.pl_daily.specs.Terms.{AreTerms, IsPlaced, IsTermRow, TermsFollow, start_of};
+ghost use Rattle.pl_daily.specs.Terms.{ArePlain, AreTerms, IsPlaced, IsStartRow, IsTermRow, TermsFollow, start_of};
 
 use pl_assets::{Assets, Labels};
 use pl_cross::Cross;
@@ -27,6 +27,7 @@ fn term_row(
     lent: &Lent<'_>,
     terms: &[TermCells],
     term: TermId,
+    start: &[i64],
     cross: &mut Cross,
     first: &mut [i64],
     second: &mut [i64],
@@ -39,6 +40,11 @@ fn term_row(
         lent.now.bars.now terms.now term.0 next days }
     requires terms { AreTerms (length lent.now.assets.now) (pipeline_of lent.now.checked.now)
         lent.now.bars.now terms.now }
+    requires start { (next : FedDay) (days : List FedDay) → IsPlaced
+        (start_of lent.now.assets.now lent.now.labels.now) lent.now.day (pipeline_of lent.now.checked.now)
+        lent.now.bars.now terms.now term.0 next days → IsStartRow
+        (start_of lent.now.assets.now lent.now.labels.now) (pipeline_of lent.now.checked.now) term.0 next days
+        start.now }
     requires used { is_used (pipeline_of lent.now.checked.now) term.0 ≡ true }
     requires known { term.0 < length lent.now.checked.now.graph }
     requires cross { length lent.now.assets.now ≤ cross.old }
@@ -71,6 +77,7 @@ fn term_row(
         terms,
         term,
         node: graph.node(term),
+        start,
         day: lent.day,
     };
     fill_row(&turn, cross, first, second, third, keep, out);
@@ -92,6 +99,7 @@ pub fn advance_terms(
         lent.now.bars.now terms.old 0 next days }
     requires terms { AreTerms (length lent.now.assets.now) (pipeline_of lent.now.checked.now)
         lent.now.bars.now terms.old }
+    requires plain { ArePlain (pipeline_of lent.now.checked.now) }
     requires cross { length lent.now.assets.now ≤ cross.old }
     requires first { 1260 ≤ length first.old }
     requires second { 1260 ≤ length second.old }
@@ -108,7 +116,7 @@ pub fn advance_terms(
     for k in 0..graph.len() {
         let term = TermId(k as u8);
         if lent.checked.is_used(term) {
-            term_row(lent, terms, term, cross, first, second, third, keep, out);
+            term_row(lent, terms, term, &[], cross, first, second, third, keep, out);
             put_term(&mut terms[k], out);
         }
     }

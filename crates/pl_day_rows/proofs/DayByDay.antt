@@ -1,25 +1,25 @@
 -- What is held of a term, from day to day.
-use Rattle.std.proofs.Common.{◌≡◌, ℕ, zero, suc, ◌<◌, ◌≤◌, ◌++◌, ℤ, pos, negsuc, List, [], ◌∷◌, length, map, get_or, replicate, refl, sym, ◌∙◌, ap, arith}
+use Rattle.std.proofs.Common.{◌≡◌, ℕ, suc, ◌<◌, ◌++◌, ℤ, pos, negsuc, List, [], ◌∷◌, length, map, get_or, replicate, refl, sym, ◌∙◌, ap, arith}
 use Rattle.std.proofs.lemmas.Int.{ints}
 use Rattle.std.proofs.lemmas.List.{get_or-replicate}
 use Rattle.circular_buffer.specs.Buffer.{buffer, keep_last}
 use Rattle.pl_spec.specs.Table.{Pipeline, value_of, in_array}
 use Rattle.pl_spec.specs.Term.{Term, term_at}
 use Rattle.pl_spec.specs.Term.Term.{absent, column, node}
-use Rattle.pl_spec.specs.Value.{empty, number_of, sort_kind}
+use Rattle.pl_spec.specs.Value.{empty, sort_kind}
 use Rattle.pl_spec.specs.Window.{before, downward}
 use Rattle.pl_spec.specs.World.{World}
 use Rattle.pl_cross.specs.Arrays.{sid_in}
 use Rattle.pl_values.specs.Arrays.{empty_cell}
 use Rattle.pl_values.proofs.Numbers.{empty_is}
 use Rattle.pl_rings.specs.Days.{Start, FedDay, fed, last_session, IsStart, AreFed}
-use Rattle.pl_rings.specs.Changes.{Ring, AreRings, pushed, ring_at}
+use Rattle.pl_rings.specs.Changes.{Ring, pushed, ring_at}
 use Rattle.pl_rings.proofs.Moves.{slides, constant, below_none, below_first}
 use Rattle.pl_rings.proofs.Values.{nobody, value_below, values_stay}
 use Rattle.pl_day_rows.specs.declared.turn.TermCells.{TermCells}
 use Rattle.pl_day_rows.specs.Rows.{sids_of}
 use Rattle.pl_day_rows.specs.Turns.{cell_on}
-use Rattle.pl_day_rows.specs.Held.{AreTermCells, HoldsTerm, FollowTerm, BeginsTerm}
+use Rattle.pl_day_rows.specs.Held.{AreTermCells, FollowTerm, BeginsTerm}
 
 -- one session back from the next day is the last one
 steps_back : (days : List FedDay) (m : ℕ) → before (pos (length days)) (suc m) ≡ before (last_session days) m

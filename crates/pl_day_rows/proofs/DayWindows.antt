@@ -1,23 +1,23 @@
 -- Formulas and filters over windows that may reach below session 0.
-use Rattle.std.proofs.Common.{◌≡◌, ℕ, suc, ◌+◌, ◌<◌, ◌≤◌, Bool, true, false, ◌&&◌, ℤ, pos, List, [], ◌∷◌, Option, Some, None, length, map, refl, sym, ◌∙◌, ap, arith, slice_get, get_or, All, subst, IsTrue}
+use Rattle.std.proofs.Common.{◌≡◌, ℕ, suc, ◌≤◌, true, false, ℤ, pos, List, Option, Some, None, length, map, refl, sym, ◌∙◌, ap, arith, slice_get, All, subst}
 use Rattle.std.proofs.Math.Path.{fun_ext}
 use Rattle.pl_spec.specs.Rounding.{IsCell}
 use Rattle.pl_spec.specs.World.{World}
 use Rattle.pl_spec.specs.Window.{before, downward, seen_cell}
-use Rattle.pl_spec.specs.Kind.{Kind, WindowKind}
+use Rattle.pl_spec.specs.Kind.{WindowKind}
 use Rattle.pl_spec.specs.Kind.Kind.{Window}
 use Rattle.pl_spec.specs.Formula.{formula}
 use Rattle.pl_spec.specs.Term.{Node, Input}
 use Rattle.pl_spec.specs.Term.Input.{BarColumn, TermInput}
-use Rattle.pl_spec.specs.Value.{number_of, window_of, step}
+use Rattle.pl_spec.specs.Value.{window_of, step}
 use Rattle.pl_spec.specs.NodeValue.{input_part}
-use Rattle.pl_spec.specs.Table.{Pipeline, value_of}
+use Rattle.pl_spec.specs.Table.{Pipeline}
 use Rattle.pl_terms.specs.Checked.{IsChecked}
 use Rattle.pl_terms.specs.Sorts.{Place, Filter, sort_at, window_places, fits, has_parameters}
 use Rattle.pl_lanes.specs.Flags.{IsFlag}
 use Rattle.pl_cross.specs.Arrays.{sid_in}
 use Rattle.pl_values.specs.Families.{windowed, TakesWindows}
-use Rattle.pl_values.specs.Laws.{IsGiven, IsNode}
+use Rattle.pl_values.specs.Laws.{IsGiven}
 use Rattle.pl_values.proofs.Typed.{has-input, filter-sort}
 use Rattle.pl_values.proofs.Numbers.{number_is}
 use Rattle.pl_values.proofs.Cells.{gated}

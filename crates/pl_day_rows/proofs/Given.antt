@@ -1,24 +1,24 @@
 -- What the term of a turn is worth, family by family.
-use Rattle.std.proofs.Common.{◌≡◌, ℕ, suc, ◌+◌, ◌-◌, ◌<◌, ◌≤◌, Bool, true, false, ◌&&◌, ℤ, pos, List, [], length, map, drop, get_or, Option, Some, None, slice_get, refl, sym, ◌∙◌, ap, subst, arith, All, unwrap_or, option_map, IfSome}
+use Rattle.std.proofs.Common.{◌≡◌, ℕ, suc, ◌+◌, ◌-◌, ◌<◌, ◌≤◌, true, ◌&&◌, ℤ, pos, List, [], length, drop, get_or, Option, Some, None, slice_get, refl, sym, ◌∙◌, ap, subst, arith, All, unwrap_or, option_map, IfSome}
 use Rattle.std.proofs.lemmas.List.{length-map, get_or_default, length-drop, get_or-drop}
 use Rattle.circular_buffer.specs.Buffer.{buffer, keep_last}
 use Rattle.pl_spec.specs.declared.AssetRow.{AssetRow}
-use Rattle.pl_spec.specs.declared.Column.{Column}
 use Rattle.pl_spec.specs.Rounding.{IsCell, MISSING}
 use Rattle.pl_spec.specs.World.{World, label_at}
-use Rattle.pl_spec.specs.Kind.{Kind, WindowKind, PointKind, LabelKind, CrossKind}
-use Rattle.pl_spec.specs.Kind.Kind.{Constant, Label, Window, Cross}
+use Rattle.pl_spec.specs.Kind.{CrossKind}
+use Rattle.pl_spec.specs.Kind.Kind.{Constant, Label, Cross, Downsample}
+use Rattle.pl_spec.specs.declared.Frequency.{Frequency}
 use Rattle.pl_spec.specs.Formula.{is_true}
 use Rattle.pl_spec.specs.Cross.{at}
 use Rattle.pl_spec.specs.Term as spec
 use Rattle.pl_spec.specs.Term.Input.{BarColumn, TermInput}
 use Rattle.pl_spec.specs.Table.{Pipeline}
-use Rattle.pl_spec.specs.Value.{sort_kind, name_at}
-use Rattle.pl_spec.specs.Window.{before, downward, seen_cell}
+use Rattle.pl_spec.specs.Value.{sort_kind}
+use Rattle.pl_spec.specs.Window.{before, seen_cell}
 use Rattle.pl_terms.specs.declared.node.TermId.{TermId}
 use Rattle.pl_terms.specs.Nodes.{number_of, graph_of}
 use Rattle.pl_terms.specs.declared.node.Node.{Node}
-use Rattle.pl_terms.specs.Sorts.{is_windowed}
+use Rattle.pl_terms.specs.Sorts.{is_downsampled, is_windowed}
 use Rattle.pl_cross.specs.Listing.{Fits, labels_in}
 use Rattle.std.specs.Borrow.{Bor}
 use Rattle.std.proofs.lemmas.Option.{slice_get_within, slice_get-get_or}
@@ -26,21 +26,21 @@ use Rattle.pl_cross.specs.Arrays.{sid_in, section_at}
 use Rattle.pl_cross.specs.Section.{is_section, HasParameters}
 use Rattle.pl_assets.specs.Labels.{label_on}
 use Rattle.pl_pointwise.specs.Operands.{IsOperation, AreOperands, operation}
-use Rattle.pl_values.specs.Arrays.{cell_of, empty_cell, is_kept, chosen, kept_or, Fills, IsKeep}
-use Rattle.pl_values.specs.Families.{is_sids, is_point, is_label_test, sid_flag, code_flag, label_code, IsCode, windowed, TakesWindows}
+use Rattle.pl_values.specs.Arrays.{cell_of, empty_cell, is_kept, chosen, Fills, IsKeep}
+use Rattle.pl_values.specs.Families.{is_sids, is_point, is_label_test, sid_flag, code_flag, label_code, IsCode, TakesWindows}
 use Rattle.pl_values.specs.Laws.{IsNode, IsGiven}
 use Rattle.pl_values.specs.Inputs.{IsInputRow, IsGroupRow, AreRows, AreSectionRows}
-use Rattle.pl_values.proofs.Given.{constant-cell, sid-cell, label-cell, label-test-cell, label-input, point-cell, point-operands, section-cell, section-input}
+use Rattle.pl_values.proofs.Given.{constant-cell, sid-cell, label-cell, label-test-cell, label-input, point-cell, point-operands, section-cell, section-input, downsampled-cell, downsampled-input}
 use Rattle.pl_values.proofs.Operations.{fills-all}
 use Rattle.pl_rings.proofs.Moves.{ends}
-use Rattle.pl_rings.specs.Changes.{Ring, AreRings, ring_at}
+use Rattle.pl_rings.specs.Changes.{Ring, ring_at}
 use Rattle.pl_rings.specs.Columns.{rings_of}
 use Rattle.pl_day_rows.specs.declared.turn.Turn.{Turn}
 use Rattle.pl_day_rows.specs.declared.turn.TermCells.{TermCells}
-use Rattle.pl_day_rows.specs.Rows.{Shows, is_kept_by, lives_at, row_of, rings_in, capacity_of, input_row, ring_window, sids_of}
-use Rattle.pl_day_rows.specs.Turns.{Moment, IsTurn, IsKept, IsOut, HoldsRow, assets_at, sids_at, node_at, pipeline_at, keeps, number_row, cell_on, day_window_of}
+use Rattle.pl_day_rows.specs.Rows.{Shows, is_kept_by, row_of, rings_in, capacity_of, input_row, ring_window}
+use Rattle.pl_day_rows.specs.Turns.{Moment, IsTurn, IsKept, IsOut, HoldsStart, assets_at, sids_at, node_at, pipeline_at, keeps, number_row, cell_on, day_window_of}
 use Rattle.pl_day_rows.specs.Windows.{window_at, windowed_by}
-use Rattle.pl_day_rows.proofs.KindFamilies.{sids_kind, point_kind, label_test_kind, section_kind, window_kind, empty_is_cell}
+use Rattle.pl_day_rows.proofs.KindFamilies.{sids_kind, point_kind, label_test_kind, section_kind, window_kind, downsampled_kind, empty_is_cell}
 use Rattle.pl_day_rows.proofs.DayWindows.{AreDayWindows, takes-day-windows, day-window-cell}
 
 All-drop : (P : ℤ → Type 0) (k : ℕ) (xs : List ℤ) → All P xs → All P (drop k xs)
@@ -123,6 +123,24 @@ module _ (t : Turn) (v : Moment) (is : IsTurn t v) where
 
   pub label_known : (number : ℕ) → n.kind ≡ Label number → number < length p.names
   label_known number e = (label-cell w p sids t.term.0 n 0 s node_is number e).0
+
+  -- a downsampled term has the cells that its input had on the first session of the period
+  start_held : is_downsampled n.kind ≡ true → (f : Frequency) × (n.kind ≡ Downsample f) × (u : ℕ) × (slice_get n.inputs 0 ≡ Some (TermInput u)) × HoldsStart t v f u
+  start_held e =
+      let k = downsampled_kind n.kind e in
+      let x = downsampled-input p is.checked t.term.0 n is.node k.0 k.1 in
+      (k.0, k.1, x.0, x.1, is.start k.0 x.0 k.1 x.1)
+
+  pub start_long : is_downsampled n.kind ≡ true → length t.start.now ≡ assets_at t
+  start_long e = let x = start_held e in x.4.fills.long
+
+  pub start_cell : (i : ℕ) → is_downsampled n.kind ≡ true → i < assets_at t → IsCell (get_or t.start.now i (pos 0))
+  start_cell i e h = let x = start_held e in subst IsCell (sym (x.4.fills.each i h)) (x.4.fills.cell i h)
+
+  pub start_given : (i : ℕ) → is_downsampled n.kind ≡ true → i < assets_at t → IsGiven w p sids t.term.0 n i s (get_or t.start.now i (pos 0))
+  start_given i e h =
+      let x = start_held e in
+      subst (IsGiven w p sids t.term.0 n i s) (sym (x.4.fills.each i h)) (downsampled-cell w p sids t.term.0 n i s node_is x.0 x.2 x.4.first x.1 x.3 x.4.is)
 
   -- ---- rows of inputs
 

@@ -6,11 +6,12 @@ use Rattle.std.proofs.lemmas.Bool.{true≢false}
 use Rattle.pl_spec.specs.Rounding.{MISSING, IsCell, is_missing}
 use Rattle.pl_spec.specs.Kind.{Kind, WindowKind, PointKind, LabelKind, CrossKind}
 use Rattle.pl_spec.specs.Kind.Kind.{Constant, Label, StaticSids, Window, Point, LabelTest, Cross, Downsample}
+use Rattle.pl_spec.specs.declared.Frequency.{Frequency}
 use Rattle.pl_spec.specs.Formula.{truth}
 use Rattle.pl_spec.specs.Pointwise.{label_test}
 use Rattle.pl_spec.specs.Value.{number_of, empty, is_filter}
 use Rattle.pl_spec.specs.Value.Value.{Number}
-use Rattle.pl_terms.specs.Sorts.{is_windowed}
+use Rattle.pl_terms.specs.Sorts.{is_downsampled, is_windowed}
 use Rattle.pl_cross.specs.Section.{is_section}
 use Rattle.pl_values.specs.Families.{is_sids, is_point, is_label_test, sid_flag, code_flag}
 
@@ -63,6 +64,16 @@ window_kind (Point x) e = absurd (true≢false (sym e))
 window_kind (LabelTest x) e = absurd (true≢false (sym e))
 window_kind (Cross x) e = absurd (true≢false (sym e))
 window_kind (Downsample x) e = absurd (true≢false (sym e))
+
+pub downsampled_kind : (k : Kind) → is_downsampled k ≡ true → (f : Frequency) × (k ≡ Downsample f)
+downsampled_kind (Downsample f) e = (f, refl)
+downsampled_kind (Constant x) e = absurd (true≢false (sym e))
+downsampled_kind (Label x) e = absurd (true≢false (sym e))
+downsampled_kind (StaticSids x) e = absurd (true≢false (sym e))
+downsampled_kind (Window x) e = absurd (true≢false (sym e))
+downsampled_kind (Point x) e = absurd (true≢false (sym e))
+downsampled_kind (LabelTest x) e = absurd (true≢false (sym e))
+downsampled_kind (Cross x) e = absurd (true≢false (sym e))
 
 -- ---- cells
 

@@ -1,5 +1,5 @@
 -- The last of days that were fed is a session of their world.
-use Rattle.std.proofs.Common.{◌≡◌, ℕ, zero, suc, ◌<◌, ◌==◌, Bool, true, false, cond, ℤ, pos, List, [], ◌∷◌, length, map, filter, get_or, Option, Some, None, option_map, unwrap_or, slice_get, refl, sym, ◌∙◌, ap, arith, AllPairs, All, subst}
+use Rattle.std.proofs.Common.{◌≡◌, ℕ, suc, ◌<◌, ◌==◌, Bool, true, false, cond, pos, List, [], ◌∷◌, length, map, filter, get_or, Some, option_map, unwrap_or, refl, sym, ◌∙◌, ap, arith, AllPairs}
 use Rattle.std.specs.Option.{option_and_then}
 use Rattle.std.specs.List.{list_any}
 use Rattle.std.proofs.Math.Path.{fun_ext}
@@ -7,8 +7,7 @@ use Rattle.std.proofs.lemmas.Int.{ints}
 use Rattle.std.proofs.lemmas.List.{get_or-map, length-map}
 use Rattle.std.proofs.lemmas.Option.{slice_get-get_or}
 use Rattle.pl_spec.specs.declared.AssetRow.{AssetRow}
-use Rattle.pl_spec.specs.declared.BarRow.{BarRow}
-use Rattle.pl_spec.specs.Parts.{sid_at, world_of}
+use Rattle.pl_spec.specs.Parts.{sid_at}
 use Rattle.pl_spec.specs.Window.{before}
 use Rattle.pl_spec.specs.World.{World, day_of, exists, label_at, living_sids, lives_on}
 use Rattle.pl_assets.specs.Labels.{LabelTable, AreLabels, label_on}
@@ -19,7 +18,7 @@ use Rattle.pl_values.proofs.Texts.{texts-coded}
 use Rattle.pl_rings.specs.Days.{Start, FedDay, fed, days_of, bars_of, adjustments_of, IsStart, AreFed}
 use Rattle.pl_rings.proofs.Moves.{days_are_fed}
 use Rattle.pl_day_rows.specs.Rows.{lives_at, sids_of}
-use Rattle.pl_day_rows.specs.Turns.{FedDaysAreSessions, IsDayIn, Moment}
+use Rattle.pl_day_rows.specs.Turns.{FedDaysAreSessions}
 use Rattle.pl_day_rows.proofs.Lifetimes.{among-at, is_among}
 
 abbrev blank : AssetRow

@@ -1,15 +1,15 @@
 -- Rows that are written place after place.
-use Rattle.std.proofs.Common.{◌≡◌, ℕ, zero, suc, ◌+◌, ◌<◌, ℤ, pos, List, [], ◌∷◌, length, get_or, set, refl, sym, ◌∙◌, ap, arith, inl, inr, get_or-set_same, get_or-set_other, length-set, Bool, true, false, ◌&&◌, Option, Some, None, option_map, unwrap_or, slice_get, subst, IfSome}
+use Rattle.std.proofs.Common.{◌≡◌, ℕ, zero, suc, ◌+◌, ◌<◌, ℤ, pos, List, [], ◌∷◌, length, get_or, set, refl, sym, ◌∙◌, ap, arith, inl, inr, get_or-set_same, get_or-set_other, length-set, Bool, true, false, Option, Some, None, option_map, unwrap_or, slice_get, subst, IfSome}
 use Rattle.std.specs.Borrow.{Bor}
 use Rattle.std.proofs.lemmas.Bool.{cases_eq}
 use Rattle.pl_spec.specs.declared.AssetRow.{AssetRow}
-use Rattle.pl_spec.specs.Rounding.{MISSING, IsCell}
+use Rattle.pl_spec.specs.Rounding.{IsCell}
 use Rattle.pl_spec.specs.Formula.{is_true, truth}
 use Rattle.pl_spec.specs.World.{lives_on}
 use Rattle.pl_assets.specs.Assets.{sid_of}
 use Rattle.pl_cross.specs.Arrays.{sid_in}
 use Rattle.pl_values.specs.Arrays.{chosen, kept_or}
-use Rattle.pl_day_rows.specs.Rows.{Shows, is_kept_by, lives_at, sids_of}
+use Rattle.pl_day_rows.specs.Rows.{Shows, lives_at, sids_of}
 
 -- the first ones are written
 pub record Begins (f : ℕ → ℤ) (none : ℤ) (keep : List ℤ) (done : ℕ) (row : List ℤ) : Type 0 where

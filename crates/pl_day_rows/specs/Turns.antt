@@ -1,6 +1,9 @@
 -- One term on a day, in a world in which the day is a session.
-use Rattle.std.specs.Prelude.{◌≡◌, ℕ, ◌<◌, ◌≤◌, Bool, true, ℤ, pos, List, [], ◌∷◌, length, map, Option, Some, None, slice_get, option_map, AllPairs}
+use Rattle.std.specs.Prelude.{◌≡◌, ℕ, ◌<◌, ◌≤◌, Bool, true, ℤ, pos, List, [], ◌∷◌, length, map, Option, Some, None, slice_get, AllPairs}
 use Rattle.pl_spec.specs.Term as spec
+use Rattle.pl_spec.specs.declared.Frequency.{Frequency}
+use Rattle.pl_spec.specs.Kind.Kind.{Downsample}
+use Rattle.pl_spec.specs.Periods.{period_start}
 use Rattle.pl_spec.specs.Term.Input.{BarColumn, TermInput}
 use Rattle.pl_spec.specs.declared.Column.{Column}
 use Rattle.pl_spec.specs.Table.{Pipeline, value_of, in_array}
@@ -18,7 +21,7 @@ use Rattle.pl_rings.specs.Changes.{AreRings, ring_at}
 use Rattle.pl_rings.specs.Columns.{rings_of}
 use Rattle.pl_day_rows.specs.declared.turn.TermCells.{TermCells}
 use Rattle.pl_day_rows.specs.declared.turn.Turn.{Turn}
-use Rattle.pl_day_rows.specs.Rows.{capacity_of, is_kept_by, lives_at, rings_in, ring_window, row_of, sids_of}
+use Rattle.pl_day_rows.specs.Rows.{capacity_of, is_kept_by, lives_at, rings_in, row_of, sids_of}
 
 -- a session of a world
 pub record Moment : Type 0 where
@@ -78,6 +81,12 @@ pub record HoldsBars (t : Turn) (v : Moment) (c : Column) : Type 0 where
   pub each : (i : ℕ) → i < assets_at t → (ring_at (rings_of t.bars.now c).rings.items i).items
       ≡ bar_window v.world c (rings_of t.bars.now c).capacity (sid_in (sids_at t) i) (pos v.session)
 
+-- the given row is that of term u on the first session of the day's period
+pub record HoldsStart (t : Turn) (v : Moment) (f : Frequency) (u : ℕ) : Type 0 where
+  pub first : ℕ
+  pub is : pos first ≡ period_start f v.world.days (pos v.session)
+  pub fills : Fills (λ i. cell_of v.world (pipeline_at t) (sids_at t) u i first) (assets_at t) t.start.now
+
 -- The day is the session in the world, whose assets and labels are the given ones; each label text has a code.
 pub record IsDayIn (assets : List AssetRow) (table : LabelTable) (day : ℤ) (v : Moment) : Type 0 where
   pub up : AllPairs (λ a b. a < b) (sids_of assets)
@@ -98,6 +107,7 @@ pub record IsTurn (t : Turn) (v : Moment) : Type 0 where
   pub group : (u : ℕ) → (node_at t).group ≡ Some u → HoldsRow t v u
   pub rings : is_windowed (node_at t).kind ≡ true → (place u : ℕ) → slice_get (node_at t).inputs place ≡ Some (TermInput u) → HoldsRings t v u
   pub bars : (place : ℕ) (c : Column) → slice_get (node_at t).inputs place ≡ Some (BarColumn c) → HoldsBars t v c
+  pub start : (f : Frequency) (u : ℕ) → (node_at t).kind ≡ Downsample f → slice_get (node_at t).inputs 0 ≡ Some (TermInput u) → HoldsStart t v f u
 
 -- a row has the term's cells on the session
 abbrev pub IsOut : Turn → Moment → List ℤ → Type 0

@@ -2,7 +2,7 @@
 ghost use Rattle.std.specs.Prelude.{◌≡◌, ◌≤◌, ◌<◌, ℕ, true, length, slice_get, option_map, IfSome};
 ghost use Rattle.pl_spec.specs.Kind.Kind.{Constant, Label};
 ghost use Rattle.pl_terms.specs.Nodes.{input_of, number_of};
-ghost use Rattle.pl_terms.specs.Sorts.{is_windowed};
+ghost use Rattle.pl_terms.specs.Sorts.{is_downsampled, is_windowed};
 ghost use Rattle.pl_cross.specs.Section.{is_section};
 ghost use Rattle.pl_cross.specs.Listing.{labels_in};
 ghost use Rattle.pl_values.specs.Arrays.{empty_cell};
@@ -11,7 +11,7 @@ ghost use Rattle.pl_day_rows.specs.Rows.{input_row};
 ghost use Rattle.pl_day_rows.specs.Turns.{IsAlways, IsKept, IsTurn, Moment, assets_at, node_at};
 ghost use Rattle.pl_day_rows.specs.Turns.{number_row, pipeline_at};
 
-use crate::leaves::{constant_row, label_row, label_test_row, point_row, sids_row};
+use crate::leaves::{constant_row, held_row, label_row, label_test_row, point_row, sids_row};
 use crate::node::{group_of, input_at, kind_of};
 use crate::turn::Turn;
 use crate::windows::window_row;
@@ -151,4 +151,16 @@ pub(crate) fn section(turn: &Turn<'_>, cross: &mut Cross, keep: &[i64], out: &mu
     let values = row_at(turn, 0);
     let groups = number_row(turn, group_of(turn.node));
     section_values(kind_of(turn.node), cross, values, keep, groups, out);
+}
+
+// The input's cells on the first session of the period.
+pub(crate) fn downsampled(turn: &Turn<'_>, none: i64, keep: &[i64], out: &mut [i64])
+    requires turn { (v : Moment) × IsTurn turn.now v }
+    requires kind { is_downsampled (node_at turn.now).kind ≡ true }
+    requires none { none ≡ empty_cell (pipeline_at turn.now) turn.now.term.0 }
+    requires keep { IsKept turn.now keep.now }
+    requires long { length out.old ≡ assets_at turn.now }
+    ensures { IsAlways turn.now out.new }
+{
+    held_row(turn.start, none, keep, out);
 }

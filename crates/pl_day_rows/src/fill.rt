@@ -3,7 +3,9 @@ ghost use Rattle.std.specs.Prelude.{◌≡◌, ◌≤◌, length};
 ghost use Rattle.pl_values.specs.Arrays.{empty_cell};
 ghost use Rattle.pl_day_rows.specs.Turns.{IsAlways, IsKept, IsTurn, Moment, assets_at, node_at, pipeline_at};
 
-use crate::families::{constant, label, label_test, number_row, point, section, sids, window};
+use crate::families::{
+    constant, downsampled, label, label_test, number_row, point, section, sids, window,
+};
 use crate::leaves::keep_row;
 use crate::node::{kind_of, mask_of};
 use crate::turn::Turn;
@@ -43,6 +45,7 @@ fn kind_row(
         Family::Point => point(turn, none, keep, out),
         Family::LabelTest => label_test(turn, none, keep, out),
         Family::Section => section(turn, cross, keep, out),
+        Family::Downsample(_) => downsampled(turn, none, keep, out),
     }
 }
 

@@ -74,6 +74,19 @@ pub(crate) fn constant_row(value: i64, none: i64, keep: &[i64], out: &mut [i64])
     }
 }
 
+/// Cells that are held.
+pub(crate) fn held_row(cells: &[i64], none: i64, keep: &[i64], out: &mut [i64])
+    requires cells { (i : ℕ) → i < length keep.now → IsCell (get_or cells.now i (pos 0)) }
+    requires none { IsCell none }
+    requires many { length cells.now ≡ length keep.now }
+    requires long { length out.old ≡ length keep.now }
+    ensures { Shows (λ i. get_or cells.now i (pos 0)) none keep.now out.new }
+{
+    for i in 0..out.len() {
+        out[i] = pick(keep[i], cells[i], none);
+    }
+}
+
 /// Whether the sids are in the kind's list.
 pub(crate) fn sids_row(kind: &TermKind, assets: &Assets, none: i64, keep: &[i64], out: &mut [i64])
     requires kind { is_sids (kind_of kind.now) ≡ true }

@@ -12,6 +12,8 @@ pub struct TermCells {
 }
 
 /// Term `term` of a pipeline, which is `node`, on a day; the terms that it mentions have that day's cells.
+/// `start` has the cells of the input of a downsampled term on the first session of the day's period; other
+/// terms do not read it.
 #[derive(Clone, Copy)]
 pub struct Turn<'t> {
     pub checked: &'t Checked,
@@ -21,5 +23,6 @@ pub struct Turn<'t> {
     pub terms: &'t [TermCells],
     pub term: TermId,
     pub node: &'t Node,
+    pub start: &'t [i64],
     pub day: i32,
 }

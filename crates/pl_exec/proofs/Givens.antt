@@ -17,13 +17,17 @@ use Rattle.pl_spec.specs.Table.{Pipeline}
 use Rattle.std.specs.Prelude.{unsigned_abs, ◌==◌}
 use Rattle.pl_spec.specs.Value.Value.{Number}
 use Rattle.pl_spec.specs.Value.{number_of, empty, is_filter, sort_kind, name_at}
-use Rattle.pl_terms.specs.Sorts.{is_windowed}
+use Rattle.std.proofs.lemmas.Int.{ints}
+use Rattle.pl_spec.specs.declared.Frequency.{Frequency}
+use Rattle.pl_spec.specs.Periods.{period_start}
+use Rattle.pl_values.proofs.Downsampled.{over}
+use Rattle.pl_terms.specs.Sorts.{is_windowed, is_downsampled}
 use Rattle.pl_cross.specs.Arrays.{sid_in, section_at}
 use Rattle.pl_cross.specs.Section.{is_section, HasParameters}
 use Rattle.pl_values.specs.Arrays.{cell_of, is_kept, chosen, Fills, IsKeep}
 use Rattle.pl_values.specs.Families.{is_sids, is_point, is_label_test, sid_flag, code_flag, label_code, IsCode}
 use Rattle.pl_values.specs.Laws.{IsNode, IsGiven}
-use Rattle.pl_values.proofs.Given.{constant-cell, sid-cell, label-cell, label-test-cell, label-input, point-cell, point-operands, section-cell, section-input}
+use Rattle.pl_values.proofs.Given.{constant-cell, sid-cell, label-cell, label-test-cell, label-input, downsampled-cell, point-cell, point-operands, section-cell, section-input}
 use Rattle.pl_values.proofs.Operations.{fills-all}
 use Rattle.pl_values.specs.Inputs.{IsInputRow, IsGroupRow, AreRows, AreSectionRows}
 use Rattle.pl_pointwise.specs.Operands.{IsOperation, AreOperands, operation}
@@ -33,7 +37,7 @@ use Rattle.pl_exec.proofs.Places.{sid_of_place}
 use Rattle.pl_spec.specs.Cross.{at}
 use Rattle.pl_exec.specs.declared.turn.Turn.{Turn}
 use Rattle.pl_exec.specs.Tasks.{assets_in, cell_in, sids_in}
-use Rattle.pl_exec.specs.Jobs.{IsTurn, IsKept, IsOut, Begins, task_at, node_at}
+use Rattle.pl_exec.specs.Jobs.{IsRead, IsTurn, IsKept, IsOut, Begins, task_at, node_at}
 use Rattle.pl_exec.proofs.Spans.{one_begun}
 
 pub sids_kind : (k : Kind) → is_sids k ≡ true → (own : List ℕ) × (k ≡ StaticSids own)
@@ -165,6 +169,19 @@ module _ (t : Turn) (is : IsTurn t) where
   pub label_test_given : (i u : ℕ) → is_label_test n.kind ≡ true → slice_get n.inputs 0 ≡ Some (TermInput u)
       → IsCode w.texts (cell_of w p sids u i t.session) × IsGiven w p sids t.term.0 n i t.session (code_flag w.texts n.kind (cell_of w p sids u i t.session))
   label_test_given i u e input = let s = label_test_kind n.kind e in label-test-cell w p sids t.term.0 n i t.session node_is s.0 u is.job.task.texts s.1 input
+
+  -- the input of a downsampled term, and its cells of the first session of the period
+  pub start_input : is_downsampled n.kind ≡ true → (u : ℕ) × (slice_get n.inputs 0 ≡ Some (TermInput u))
+  start_input e = let o = over p is.job.task.checked t.term.0 n is.node e in (o.input, o.first)
+
+  pub start_given : (f : Frequency) (i u r : ℕ) → n.kind ≡ Downsample f → slice_get n.inputs 0 ≡ Some (TermInput u) → pos r ≡ period_start f w.days (pos t.session) → IsGiven w p sids t.term.0 n i t.session (cell_of w p sids u i r)
+  start_given f i u r e input h = downsampled-cell w p sids t.term.0 n i t.session node_is f u r e input h
+
+  pub start_read : (f : Frequency) (u r : ℕ) → n.kind ≡ Downsample f → slice_get n.inputs 0 ≡ Some (TermInput u) → pos r ≡ period_start f w.days (pos t.session) → IsRead (task_at t) t.workspace.now r 1 u
+  start_read f u r e input h =
+      let x = is.ready.inputs 0 u input in
+      let a = is.ready.start f u e input in
+      record { known = x.known; used = x.used; held = x.held; some = omega arith; early = omega (arith, ints, a, h) }
 
   pub label_test_input : is_label_test n.kind ≡ true → (u : ℕ) × (slice_get n.inputs 0 ≡ Some (TermInput u))
   label_test_input e = let s = label_test_kind n.kind e in let x = label-input p is.job.task.checked t.term.0 n is.node s.0 s.1 in (x.0, x.1)

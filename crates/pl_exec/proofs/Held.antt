@@ -1,5 +1,8 @@
 -- What is read of the arrays that are there.
 use Rattle.std.proofs.Common.{◌≡◌, ℕ, ◌+◌, ◌-◌, ◌*◌, ◌<◌, ◌≤◌, ◌&&◌, ℤ, pos, List, length, take, drop, get_or, set, Some, sym, ◌∙◌, ap, subst, arith, All, slice_get}
+use Rattle.std.proofs.Common.{AllPairs, ◌<ℤ◌}
+use Rattle.std.proofs.lemmas.Int.{ints}
+use Rattle.pl_laws.proofs.Rises.{start-rises}
 use Rattle.pl_spec.specs.Rounding.{IsCell}
 use Rattle.pl_spec.specs.World.{World, exists}
 use Rattle.pl_spec.specs.Table.{Pipeline}
@@ -16,11 +19,12 @@ pub read_less : (t : Task) (w : Slots) (s size u : ℕ) → IsRead t w s size u 
 read_less t w s size u r = record { known = r.known; used = r.used; held = r.held; some = omega arith; early = (let e = r.early in let o = r.some in omega arith) }
 
 -- from a later session on
-pub later_ready : (t : Task) (w : Slots) (low s : ℕ) (n : _) → low ≤ s → IsReady t w low n → IsReady t w s n
-later_ready t w low s n h r = record {
+pub later_ready : (t : Task) (w : Slots) (low s : ℕ) (n : _) → AllPairs (λ a b. a <ℤ b) t.world.days → low ≤ s → IsReady t w low n → IsReady t w s n
+later_ready t w low s n up h r = record {
   inputs = λ i u e. later n.window u (r.inputs i u e);
   mask = λ u e. later 1 u (r.mask u e);
   group = λ u e. later 1 u (r.group u e);
+  start = λ f u k e. let a = r.start f u k e in let b = start-rises f t.world.days up (pos low) (pos s) (omega (arith, ints)) in omega (arith, ints);
 }
   where
     later : (size u : ℕ) → IsRead t w low size u → IsRead t w s size u
@@ -31,7 +35,7 @@ pub turn_is : (t : Turn) → IsJob t.job.now → IsRun (task_at t) t.workspace.n
 turn_is t job run node low late none = record {
   job = job;
   node = node;
-  ready = later_ready (task_at t) t.workspace.now _ t.session (node_at t) low (run.ready (node_at t) node);
+  ready = later_ready (task_at t) t.workspace.now _ t.session (node_at t) job.task.days low (run.ready (node_at t) node);
   late = late;
   deep = (let d = run.deep (node_at t) node in omega arith);
   all = job.task.columns.all t.term.0 t.session run.used low late;

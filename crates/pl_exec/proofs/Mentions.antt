@@ -8,7 +8,11 @@ use Rattle.pl_spec.specs.Kind as kind
 use Rattle.pl_spec.specs.Kind.{Kind, WindowKind}
 use Rattle.pl_spec.specs.Term.{Graph, Node, Input}
 use Rattle.pl_spec.specs.Term.Input.{BarColumn, TermInput}
-use Rattle.pl_spec.specs.Graph.{Used, contains, columns_at}
+use Rattle.pl_spec.specs.declared.Frequency.{Frequency}
+use Rattle.pl_spec.specs.Periods.{period_start}
+use Rattle.pl_spec.specs.Kind.Kind.{Downsample}
+use Rattle.pl_spec.specs.Graph.{Used, contains, columns_at, reads_at}
+use Rattle.pl_laws.proofs.Lows.{reads_at-within}
 use Rattle.pl_spec.specs.Lows.{Reads}
 use Rattle.pl_laws.specs.LowLaws.{HasBar}
 use Rattle.pl_laws.proofs.Uses.{lower, used_terms-sound, used_terms-complete}
@@ -148,7 +152,7 @@ module _ (t : Task) (is : IsTask t) where
     covered : (u : ℕ) (r : ℤ) → Reads t.world.days n (pos low) u r → IsCovered t.pipeline t.plan k u t.from r
     covered u r x = reads-covered t.world.days is.days t.pipeline is.checked t.plan is.plan k u t.from n (pos low) r (asked k used) node (omega (arith, ints)) x
 
-    read : (u size : ℕ) (r : ℤ) → 1 ≤ size → r ≡ pos low -ℤ pos (size - 1) → Reads t.world.days n (pos low) u r → IsRead t w low size u
+    read : (u size : ℕ) (r : ℤ) → 1 ≤ size → r ≤ℤ (pos low -ℤ pos (size - 1)) → Reads t.world.days n (pos low) u r → IsRead t w low size u
     read u size r some e x =
         let c = covered u r x in
         let l = live_kept k u (used_known k used) c.live in
@@ -162,16 +166,27 @@ module _ (t : Task) (is : IsTask t) where
         }
 
     input_read : (i u : ℕ) → slice_get n.inputs i ≡ Some (TermInput u) → IsRead t w low n.window u
-    input_read i u e = read u n.window _ window_some (ap (λ s. before s (n.window - 1)) (pipe.now t.world.days k n (pos low) node)) (Reads.input i e)
+    input_read i u e =
+        let l : reads_at t.world.days n.kind (pos low) ≤ℤ pos low = reads_at-within t.world.days n.kind (pos low) in
+        let near : before (reads_at t.world.days n.kind (pos low)) (n.window - 1) ≤ℤ (pos low -ℤ pos (n.window - 1)) = omega (arith, ints, l) in
+        read u n.window (before (reads_at t.world.days n.kind (pos low)) (n.window - 1)) window_some near (Reads.input i e)
 
     now_read : (u : ℕ) → Reads t.world.days n (pos low) u (pos low) → IsRead t w low 1 u
     now_read u x = read u 1 (pos low) (omega arith) (omega (arith, ints)) x
+
+    start_read : (f : Frequency) (u : ℕ) → n.kind ≡ Downsample f → slice_get n.inputs 0 ≡ Some (TermInput u) → pos (low_in t u) ≤ℤ period_start f t.world.days (pos low)
+    start_read f u e i =
+        let r : ℤ = before (reads_at t.world.days n.kind (pos low)) (n.window - 1) in
+        let early : pos (low_at t.plan u t.from) ≤ℤ before (reads_at t.world.days n.kind (pos low)) (n.window - 1) = (covered u r (Reads.input 0 i)).computed in
+        let at : reads_at t.world.days n.kind (pos low) ≡ period_start f t.world.days (pos low) = ap (λ q. reads_at t.world.days q (pos low)) e in
+        omega (arith, ints)
 
     pub ready_before : IsReady t w low n
     ready_before = record {
       inputs = input_read;
       mask = λ u e. now_read u (Reads.mask e);
       group = λ u e. now_read u (Reads.group e);
+      start = start_read;
     }
 
     pub bars_deep : HasBar n → n.window ≤ low
@@ -208,7 +223,7 @@ module _ (t : Task) (is : IsTask t) where
     own_free = live.free (slot_of t.plan k) slot_within (λ u h l e. let i : u ≡ k = apart_at k used u k (omega arith) (omega arith) l (own_kept k used) e in omega arith)
 
     still_ready : (v : Slots) (s low : ℕ) (n : Node) → slot_at w s ≡ Free → v ≡ with_slot w s Begun → IsReady t w low n → IsReady t v low n
-    still_ready v s low n free e r = record { inputs = λ i u x. again n.window u (r.inputs i u x); mask = λ u x. again 1 u (r.mask u x); group = λ u x. again 1 u (r.group u x) }
+    still_ready v s low n free e r = record { inputs = λ i u x. again n.window u (r.inputs i u x); mask = λ u x. again 1 u (r.mask u x); group = λ u x. again 1 u (r.group u x); start = r.start }
       where
         again : (size u : ℕ) → IsRead t w low size u → IsRead t v low size u
         again size u x = record { known = x.known; used = x.used; held = still_held w v (slot_of t.plan u) s x.held free e; some = x.some; early = x.early }
@@ -233,7 +248,7 @@ module _ (t : Task) (is : IsTask t) where
       once size first u x = record { known = x.known; used = x.used; held = still_held w v (slot_of t.plan u) s x.held free e; some = x.some; early = x.early }
 
       again : (n : Node) → IsReady t w (low_in t k) n → IsReady t v (low_in t k) n
-      again n x = record { inputs = λ i u y. once n.window _ u (x.inputs i u y); mask = λ u y. once 1 _ u (x.mask u y); group = λ u y. once 1 _ u (x.group u y) }
+      again n x = record { inputs = λ i u y. once n.window _ u (x.inputs i u y); mask = λ u y. once 1 _ u (x.mask u y); group = λ u y. once 1 _ u (x.group u y); start = x.start }
 
   pub free_still : (w v : Slots) (k i : ℕ) → is_used t.plan k ≡ true → columns_at g k ≤ 3 → i < columns_at g k → AreFree t w k i → v ≡ with_slot w (column_slot t.plan k i) Begun → AreFree t v k (i + 1)
   free_still w v k i used few h free e m from below =

@@ -1,8 +1,11 @@
 -- What the code has of a chunk's work, and what is there when a term is computed.
-use Rattle.std.specs.Prelude.{◌≡◌, ◌≢◌, ℕ, zero, suc, ◌+◌, ◌<◌, ◌≤◌, ◌*◌, ◌^◌, Bool, true, false, if◌then◌else◌, ◌==◌, ℤ, pos, ◌<ℤ◌, List, [], ◌∷◌, length, filter_map, take, get_or, Option, Some, None, slice_get, AllPairs}
+use Rattle.std.specs.Prelude.{◌≡◌, ◌≢◌, ℕ, zero, suc, ◌+◌, ◌<◌, ◌≤◌, ◌*◌, ◌^◌, Bool, true, false, if◌then◌else◌, ◌==◌, ℤ, pos, ◌<ℤ◌, ◌≤ℤ◌, List, [], ◌∷◌, length, filter_map, take, get_or, Option, Some, None, slice_get, AllPairs}
 use Rattle.pl_spec.specs.Rounding.{IsCell}
 use Rattle.pl_spec.specs.declared.Column.{Column}
 use Rattle.pl_spec.specs.declared.Column.TheVariants.{Close}
+use Rattle.pl_spec.specs.declared.Frequency.{Frequency}
+use Rattle.pl_spec.specs.Periods.{period_start}
+use Rattle.pl_spec.specs.Kind.Kind.{Downsample}
 use Rattle.pl_spec.specs.World.{column_number}
 use Rattle.pl_spec.specs.Term as spec
 use Rattle.pl_spec.specs.Term.Input.{BarColumn, TermInput}
@@ -62,11 +65,12 @@ pub record IsRead (t : Task) (w : Slots) (s size u : ℕ) : Type 0 where
   pub some : 1 ≤ size
   pub early : low_in t u + size ≤ s + 1
 
--- what the node mentions is there for session s and later ones
+-- what the node mentions is there for session s and later ones; where it is downsampled, from the first session of the period on
 pub record IsReady (t : Task) (w : Slots) (s : ℕ) (n : spec.Node) : Type 0 where
   pub inputs : (i u : ℕ) → slice_get n.inputs i ≡ Some (TermInput u) → IsRead t w s n.window u
   pub mask : (u : ℕ) → n.mask ≡ Some u → IsRead t w s 1 u
   pub group : (u : ℕ) → n.group ≡ Some u → IsRead t w s 1 u
+  pub start : (f : Frequency) (u : ℕ) → n.kind ≡ Downsample f → slice_get n.inputs 0 ≡ Some (TermInput u) → pos (low_in t u) ≤ℤ period_start f t.world.days (pos s)
 
 -- all the sessions of term k
 pub record IsRun (t : Task) (w : Slots) (k : ℕ) : Type 0 where

@@ -2,7 +2,9 @@
 ghost use Rattle.std.specs.Prelude.{◌≡◌, ◌+◌, ◌<◌, ◌≤◌, ℕ, true, All, Some, length, option_map, pos, get_or, slice_get};
 ghost use Rattle.pl_spec.specs.Rounding.{IsCell};
 ghost use Rattle.pl_spec.specs.Kind.{Kind};
-ghost use Rattle.pl_spec.specs.Kind.Kind.{Constant, Label};
+ghost use Rattle.pl_spec.specs.Kind.Kind.{Constant, Downsample, Label};
+ghost use Rattle.pl_spec.specs.Term.Input.{TermInput};
+ghost use Rattle.pl_terms.specs.Sorts.{is_downsampled};
 ghost use Rattle.pl_terms.specs.Kinds.{kind_of};
 ghost use Rattle.pl_cross.specs.Section.{is_section};
 ghost use Rattle.pl_values.specs.Families.{IsOf, is_label_test, is_point, is_sids};
@@ -11,10 +13,12 @@ ghost use Rattle.std.specs.Prelude.{None};
 ghost use Rattle.pl_exec.specs.Jobs.{HasBars, IsKept, IsOut, IsTurn, node_at, task_at};
 
 use crate::job::{group_of, input_at, kind_of};
-use crate::turn::{Turn, input_row, pick, term_row};
+use crate::turn::{Turn, cells_on, input_row, pick, term_row};
 use crate::windows::window_row;
 use pl_cross::Cross;
+use pl_fixed::Frequency;
 use pl_pointwise::pointwise;
+use pl_terms::{Input, TermId};
 use pl_values::{
     Family, family_of, keep_values, label_test_value, label_value, section_values, sids_value,
 };
@@ -133,6 +137,42 @@ fn section_row(
     }
 }
 
+// The input of a downsampled term.
+fn downsampled_input(turn: &Turn<'_>) -> TermId
+    requires turn { IsTurn turn.now }
+    requires kind { is_downsampled (node_at turn.now).kind ≡ true }
+    ensures { slice_get (node_at turn.now).inputs 0 ≡ Some (TermInput result.0) }
+{
+    match input_at(turn.node, 0) {
+        Some(Input::Term(term)) => term,
+        Some(Input::Column(_)) => unreachable!(),
+        None => unreachable!(),
+    }
+}
+
+// The cells that the input has on the first session of the period.
+fn downsampled_row(
+    turn: &Turn<'_>,
+    frequency: Frequency,
+    cells: &mut [i64],
+    keep: &[i64],
+    out: &mut [i64],
+)
+    requires turn { IsTurn turn.now }
+    requires kind { (node_at turn.now).kind ≡ Downsample frequency }
+    requires cells { length cells.old ≡ assets_in (task_at turn.now) }
+    requires keep { IsKept turn.now keep.now }
+    requires long { length out.old ≡ assets_in (task_at turn.now) }
+    ensures { IsOut turn.now out.new }
+{
+    let job = turn.job;
+    let start = job.world.sessions.period_start(frequency, turn.session);
+    cells_on(turn, downsampled_input(turn), start, cells);
+    for i in 0..out.len() {
+        out[i] = pick(keep[i], cells[i], turn.none);
+    }
+}
+
 /// The cells of the term on the session; its inputs are no bar columns.
 pub(crate) fn kind_row(
     turn: &Turn<'_>,
@@ -162,5 +202,6 @@ pub(crate) fn kind_row(
         Family::Point => point_row(turn, first, second, third, keep, out),
         Family::LabelTest => label_test_row(turn, first, keep, out),
         Family::Section => section_row(turn, cross, first, second, keep, out),
+        Family::Downsample(frequency) => downsampled_row(turn, frequency, first, keep, out),
     }
 }

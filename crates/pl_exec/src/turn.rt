@@ -84,6 +84,22 @@ fn masked_row(mask: &[i64], keep: &mut [i64])
     }
 }
 
+/// The cells of a term on a session that its array has.
+pub(crate) fn cells_on(turn: &Turn<'_>, term: TermId, session: usize, row: &mut [i64])
+    requires turn { IsTurn turn.now }
+    requires read { IsRead (task_at turn.now) turn.now.workspace.now session 1 term.0 }
+    requires late { session ≤ turn.now.job.now.to }
+    requires long { length row.old ≡ assets_in (task_at turn.now) }
+    ensures { Fills (λ i. cell_in (task_at turn.now) term.0 i session) (assets_in (task_at turn.now))
+        row.new }
+{
+    let array = array_of(turn.job, turn.workspace, term);
+    let at = session - array.low;
+    for i in 0..row.len() {
+        row[i] = array.cells[i * array.count + at];
+    }
+}
+
 /// The cells of a term that is read on the session.
 pub(crate) fn term_row(turn: &Turn<'_>, term: TermId, row: &mut [i64])
     requires turn { IsTurn turn.now }
@@ -92,11 +108,7 @@ pub(crate) fn term_row(turn: &Turn<'_>, term: TermId, row: &mut [i64])
     ensures { Fills (λ i. cell_in (task_at turn.now) term.0 i turn.now.session) (assets_in (task_at turn.now))
         row.new }
 {
-    let array = array_of(turn.job, turn.workspace, term);
-    let at = turn.session - array.low;
-    for i in 0..row.len() {
-        row[i] = array.cells[i * array.count + at];
-    }
+    cells_on(turn, term, turn.session, row);
 }
 
 /// Who is kept: who exists on the session and passes the term's mask. The row `mask` is for the mask's cells.

@@ -16,7 +16,8 @@ use Rattle.pl_spec.specs.Graph.{least_of, part_reach, reads_at, reach}
 use Rattle.pl_spec.proofs.Trees.{term_at-node}
 use Rattle.pl_spec.proofs.Unfolds.{past}
 use Rattle.pl_laws.proofs.Reaches.{AllFrom, below_least, at_downward}
-use Rattle.pl_laws.proofs.Lows.{reaches-rise}
+use Rattle.pl_laws.proofs.Lows.{reaches-rise, reads_at-within}
+use Rattle.pl_planner.proofs.Pipelines.{ReadsTerms}
 use Rattle.pl_lines.proofs.Each.{Each, each_at, each_both, each_more}
 use Rattle.pl_terms.specs.Nodes.{input_of}
 use Rattle.pl_terms.specs.declared.node.Input as code
@@ -134,11 +135,11 @@ module _ (P : Ask → Type 0) where
   each-number b None h = tt
   each-number b (Some u) h = (h u refl, tt)
 
-  pub each-asks : (b : ℕ) (n : Node) → ((i u : ℕ) → slice_get n.inputs i ≡ Some (TermInput u) → P (u, b + (n.window - 1))) → ((u : ℕ) → n.mask ≡ Some u → P (u, b))
-      → ((u : ℕ) → n.group ≡ Some u → P (u, b)) → Each P (asks b n)
-  each-asks b n x m g =
-      each_both P (number_asks b n.mask ++ number_asks b n.group) (filter_map (input_ask b n.window) n.inputs)
-      (each_both P (number_asks b n.mask) (number_asks b n.group) (each-number b n.mask m) (each-number b n.group g)) (each-inputs b n.window n.inputs x)
+  pub each-asks : (c b : ℕ) (n : Node) → ((i u : ℕ) → slice_get n.inputs i ≡ Some (TermInput u) → P (u, c + (n.window - 1))) → ((u : ℕ) → n.mask ≡ Some u → P (u, b))
+      → ((u : ℕ) → n.group ≡ Some u → P (u, b)) → Each P (asks c b n)
+  each-asks c b n x m g =
+      each_both P (number_asks b n.mask ++ number_asks b n.group) (filter_map (input_ask c n.window) n.inputs)
+      (each_both P (number_asks b n.mask) (number_asks b n.group) (each-number b n.mask m) (each-number b n.group g)) (each-inputs c n.window n.inputs x)
 
 in-front : (xs ys : List Ask) (j x : ℕ) → Found xs j x → Found (xs ++ ys) j x
 in-front xs ys j x f = (f.0, front xs f.0 f.1)
@@ -166,8 +167,8 @@ bar-found (TermInput u ∷ is) zero c e = cc
 bar-found (BarColumn d ∷ is) (suc i) c e = refl
 bar-found (TermInput u ∷ is) (suc i) c e = bar-found is i c e
 
-own-bars : (b : ℕ) (n : Node) → list_any is_bar n.inputs ≡ true → own_depth b n ≡ b + n.window
-own-bars b n e = rw e refl
+own-bars : (c b : ℕ) (n : Node) → list_any is_bar n.inputs ≡ true → own_depth c b n ≡ c + n.window
+own-bars c b n e = rw e refl
 
 bar-there : (is : List Input) → list_any is_bar is ≡ true → (i : ℕ) × (c : Column) × (slice_get is i ≡ Some (BarColumn c))
 bar-there [] e = absurd (let bad : false ≡ true = e in cc)
@@ -178,6 +179,11 @@ none-there : (n j : ℕ) → get_or (replicate n (let o : Option ℕ = None in o
 none-there zero j = refl
 none-there (suc n) zero = refl
 none-there (suc n) (suc j) = none-there n j
+
+past-end : (ds : Depths) (k : ℕ) → length ds ≤ k → get_or ds k None ≡ None
+past-end [] k h = refl
+past-end (o ∷ ds) zero h = absurd (omega arith)
+past-end (o ∷ ds) (suc k) h = past-end ds k (omega arith)
 
 -- ---- the least of some sessions is one of them
 
@@ -223,11 +229,11 @@ pub record Covers (days : List ℤ) (g : Graph) (t d : ℕ) (ds : Depths) (k dee
   pub own : reach days (term_at g t) (pos d) ≤ℤ before (pos d) deepest
   pub marked : (j b : ℕ) → get_or ds j None ≡ Some b → reach days (term_at g t) (pos d) ≤ℤ reach days (term_at g j) (before (pos d) b)
   pub met : Meets days g t d ds k deepest
-  pub room : (j b : ℕ) → get_or ds j None ≡ Some b → b + 1260 * j ≤ 1260 * t
-  pub room_own : deepest ≤ 1260 * t + 1260
+  pub room : (j b : ℕ) → get_or ds j None ≡ Some b → b + 1260 * j ≤ d + 1260 * t
+  pub room_own : deepest ≤ d + 1260 * t + 1260
 
 module _ (days : List ℤ) (up : AllPairs (λ a b. a <ℤ b) days) (g : Graph) (ok : IsGraph g)
-    (sizes : (k : ℕ) (n : Node) → slice_get g k ≡ Some n → (1 ≤ n.window) × (n.window ≤ 1260)) (now : (k : ℕ) (n : Node) (s : ℤ) → slice_get g k ≡ Some n → reads_at days n.kind s ≡ s) where
+    (sizes : (k : ℕ) (n : Node) → slice_get g k ≡ Some n → (1 ≤ n.window) × (n.window ≤ 1260)) (reads : (k : ℕ) (n : Node) → slice_get g k ≡ Some n → ReadsTerms n) where
   abbrev pub R : ℕ → ℤ → ℤ
   R k s = reach days (term_at g k) s
 
@@ -251,29 +257,32 @@ module _ (days : List ℤ) (up : AllPairs (λ a b. a <ℤ b) days) (g : Graph) (
     abbrev parts : ℤ → ℤ → List ℤ
     parts z s = input_reach (slice_get n.inputs 0) z ∷ input_reach (slice_get n.inputs 1) z ∷ input_reach (slice_get n.inputs 2) z ∷ number_reach n.mask s ∷ number_reach n.group s ∷ []
 
-    whole : (s : ℤ) → R k s ≡ least_of (parts s s) s
+    -- the session on which the inputs are read
+    abbrev pub on : ℤ → ℤ
+    on s = reads_at days n.kind s
+
+    whole : (s : ℤ) → R k s ≡ least_of (parts (on s) s) s
     unfolding reach
-    whole s = ap (λ t. reach days t s) (term_at-node g k n ok at) ∙ ap (λ z. least_of (parts z s) s) (now k n s at)
+    whole s = ap (λ t. reach days t s) (term_at-node g k n ok at)
 
     below : (u : ℕ) → u < k → u < length g
     below u l = let m : k < length g = slice_get_within g k n at in omega arith
 
     -- ---- no part lies lower
 
-    froms : (s : ℤ) → (R k s ≤ℤ s) × AllFrom (R k s) (parts s s)
-    froms s = below_least (R k s) s (parts s s) (less-same (R k s) (R k s) (least_of (parts s s) s) (itself (R k s)) (whole s))
+    froms : (s : ℤ) → (R k s ≤ℤ s) × AllFrom (R k s) (parts (on s) s)
+    froms s = below_least (R k s) s (parts (on s) s) (less-same (R k s) (R k s) (least_of (parts (on s) s) s) (itself (R k s)) (whole s))
 
-    term-from : (u size : ℕ) (s : ℤ) → 1 ≤ size → u < k → R k s ≤ℤ part_reach (term_at g u) (R u) size s → R k s ≤ℤ R u (before s (size - 1))
-    term-from u size s some l h =
-        at_downward (R k s) (λ i. R u (before s i)) size
-        (below_least (R k s) s (map (λ i. R u (before s i)) (downward size)) (less-same _ _ _ h (node-part u size s (below u l)))).1 (size - 1) (omega arith)
+    term-from : (u size : ℕ) (s z : ℤ) → 1 ≤ size → u < k → R k s ≤ℤ part_reach (term_at g u) (R u) size z → R k s ≤ℤ R u (before z (size - 1))
+    term-from u size s z some l h =
+        at_downward (R k s) (λ i. R u (before z i)) size
+        (below_least (R k s) z (map (λ i. R u (before z i)) (downward size)) (less-same _ _ _ h (node-part u size z (below u l)))).1 (size - 1) (omega arith)
 
-    input-from : (s : ℤ) (i : ℕ) (o : Option Input) → slice_get n.inputs i ≡ o → R k s ≤ℤ input_reach (slice_get n.inputs i) s
-    input-from s zero o e = (froms s).1.0
-    input-from s (suc zero) o e = (froms s).1.1.0
-    input-from s (suc (suc zero)) o e = (froms s).1.1.1.0
-    input-from s (suc (suc (suc i))) None e = rw e (froms s).0
-    input-from s (suc (suc (suc i))) (Some x) e =
+    input-from : (s : ℤ) (i : ℕ) (x : Input) → slice_get n.inputs i ≡ Some x → R k s ≤ℤ input_reach (slice_get n.inputs i) (on s)
+    input-from s zero x e = (froms s).1.0
+    input-from s (suc zero) x e = (froms s).1.1.0
+    input-from s (suc (suc zero)) x e = (froms s).1.1.1.0
+    input-from s (suc (suc (suc i))) x e =
         let within : suc (suc (suc i)) < length n.inputs = slice_get_within n.inputs (suc (suc (suc i))) x e in
         let few : length n.inputs ≤ 3 = ok.few k n at in
         absurd (omega arith)
@@ -281,42 +290,48 @@ module _ (days : List ℤ) (up : AllPairs (λ a b. a <ℤ b) days) (g : Graph) (
     -- ---- and one of them is it
 
     abbrev Reached : ℤ → Type 0
-    Reached s = (R k s ≡ s) ⊎ ((i : ℕ) × (c : Column) × (slice_get n.inputs i ≡ Some (BarColumn c)) × (R k s ≡ before s n.window))
-        ⊎ ((i u : ℕ) × (slice_get n.inputs i ≡ Some (TermInput u)) × (R u (before s (n.window - 1)) ≤ℤ R k s))
+    Reached s = (R k s ≡ s) ⊎ ((i : ℕ) × (c : Column) × (slice_get n.inputs i ≡ Some (BarColumn c)) × (R k s ≡ before (on s) n.window))
+        ⊎ ((i u : ℕ) × (slice_get n.inputs i ≡ Some (TermInput u)) × (R u (before (on s) (n.window - 1)) ≤ℤ R k s))
         ⊎ ((u : ℕ) × ((n.mask ≡ Some u) ⊎ (n.group ≡ Some u)) × (R u s ≤ℤ R k s))
 
-    term-attained : (u size : ℕ) (s : ℤ) → 1 ≤ size → u < k → R k s ≡ part_reach (term_at g u) (R u) size s → (R k s ≡ s) ⊎ (R u (before s (size - 1)) ≤ℤ R k s)
-    term-attained u size s some l e = elim (least-attained (map (λ i. R u (before s i)) (downward size)) s) [
-      | inl own ↦ inl (e ∙ node-part u size s (below u l) ∙ own)
+    -- no term reaches later than it is read
+    within : (u size : ℕ) (z : ℤ) → R u (before z (size - 1)) ≤ℤ z
+    within u size z = let r = reaches-rise.within days (term_at g u) (before z (size - 1)) in omega (arith, ints, r)
+
+    term-attained : (u size : ℕ) (s z : ℤ) → 1 ≤ size → u < k → R k s ≡ part_reach (term_at g u) (R u) size z → R u (before z (size - 1)) ≤ℤ R k s
+    term-attained u size s z some l e = elim (least-attained (map (λ i. R u (before z i)) (downward size)) z) [
+      | inl own ↦ less-same _ _ _ (within u size z) (sym (e ∙ node-part u size z (below u l) ∙ own))
       | inr r ↦
-          (let m = downward-attained (λ i. R u (before s i)) size r.0 r.1 r.2 in
-          let is : R k s ≡ R u (before s m.0) = e ∙ node-part u size s (below u l) ∙ r.3 ∙ m.2 in
+          (let m = downward-attained (λ i. R u (before z i)) size r.0 r.1 r.2 in
+          let is : R k s ≡ R u (before z m.0) = e ∙ node-part u size z (below u l) ∙ r.3 ∙ m.2 in
           let lower : m.0 < size = m.1 in
-          inr (less-same _ _ _ (rises u (before s (size - 1)) (before s m.0) (before-falls s m.0 (size - 1) (omega arith))) (sym is)))
+          less-same _ _ _ (rises u (before z (size - 1)) (before z m.0) (before-falls z m.0 (size - 1) (omega arith))) (sym is))
     ]
 
-    input-attained : (s : ℤ) (i : ℕ) (o : Option Input) → slice_get n.inputs i ≡ o → R k s ≡ input_reach o s → Reached s
-    input-attained s i None e f = inl f
+    input-attained : (s : ℤ) (i : ℕ) (o : Option Input) → slice_get n.inputs i ≡ o → R k s ≡ input_reach o (on s) → Reached s
+    input-attained s i None e f = elim (reads k n at) [
+      | inl now ↦ inl (f ∙ now days s)
+      | inr r ↦ inr (inr (inl (0, r.0, r.1, less-same _ _ _ (within r.0 n.window (on s)) (sym f))))
+    ]
     input-attained s i (Some (BarColumn c)) e f = inr (inl (i, c, e, f))
-    input-attained s i (Some (TermInput u)) e f =
-        elim (term-attained u n.window s (sizes k n at).0 ((ok.lower k n at).inputs i u e) f) [ inl own ↦ inl own | inr r ↦ inr (inr (inl (i, u, e, r))) ]
+    input-attained s i (Some (TermInput u)) e f = inr (inr (inl (i, u, e, term-attained u n.window s (on s) (sizes k n at).0 ((ok.lower k n at).inputs i u e) f)))
 
     number-attained : (s : ℤ) (o : Option ℕ) → ((u : ℕ) → o ≡ Some u → (u < k) × ((n.mask ≡ Some u) ⊎ (n.group ≡ Some u))) → R k s ≡ number_reach o s → Reached s
     number-attained s None h f = inl f
     number-attained s (Some u) h f =
         let l = h u refl in
-        elim (term-attained u 1 s (omega arith) l.0 f) [ inl own ↦ inl own | inr r ↦ inr (inr (inr (u, l.1, subst (λ z. R u z ≤ℤ R k s) (before-none s) r))) ]
+        inr (inr (inr (u, l.1, subst (λ z. R u z ≤ℤ R k s) (before-none s) (term-attained u 1 s s (omega arith) l.0 f))))
 
     reached : (s : ℤ) → Reached s
-    reached s = elim (least-attained (parts s s) s) [
+    reached s = elim (least-attained (parts (on s) s) s) [
       | inl e ↦ inl (whole s ∙ e)
       | inr r ↦ here r.0 r.1 r.2 (whole s ∙ r.3)
     ]
       where
-        here : (i : ℕ) (x : ℤ) → slice_get (parts s s) i ≡ Some x → R k s ≡ x → Reached s
-        here zero x e f = let same : input_reach (slice_get n.inputs 0) s ≡ x = cc in input-attained s 0 (slice_get n.inputs 0) refl (f ∙ sym same)
-        here (suc zero) x e f = let same : input_reach (slice_get n.inputs 1) s ≡ x = cc in input-attained s 1 (slice_get n.inputs 1) refl (f ∙ sym same)
-        here (suc (suc zero)) x e f = let same : input_reach (slice_get n.inputs 2) s ≡ x = cc in input-attained s 2 (slice_get n.inputs 2) refl (f ∙ sym same)
+        here : (i : ℕ) (x : ℤ) → slice_get (parts (on s) s) i ≡ Some x → R k s ≡ x → Reached s
+        here zero x e f = let same : input_reach (slice_get n.inputs 0) (on s) ≡ x = cc in input-attained s 0 (slice_get n.inputs 0) refl (f ∙ sym same)
+        here (suc zero) x e f = let same : input_reach (slice_get n.inputs 1) (on s) ≡ x = cc in input-attained s 1 (slice_get n.inputs 1) refl (f ∙ sym same)
+        here (suc (suc zero)) x e f = let same : input_reach (slice_get n.inputs 2) (on s) ≡ x = cc in input-attained s 2 (slice_get n.inputs 2) refl (f ∙ sym same)
         here (suc (suc (suc zero))) x e f =
             let same : number_reach n.mask s ≡ x = cc in
             number-attained s n.mask (λ u m. ((ok.lower k n at).mask u m, inl m)) (f ∙ sym same)
@@ -327,72 +342,76 @@ module _ (days : List ℤ) (up : AllPairs (λ a b. a <ℤ b) days) (g : Graph) (
 
     -- ---- by what is asked
 
-    module _ (d : ℤ) (b : ℕ) where
-      abbrev Low : Ask → Type 0
-      Low a = (a.0 < k) × (a.1 ≤ b + (n.window - 1)) × (R k (before d b) ≤ℤ R a.0 (before d a.1))
+    module _ (d : ℤ) (b c : ℕ) (moved : reads_at days n.kind (before d b) ≡ before d c) where
+      later : b ≤ c
+      later = let l = reads_at-within days n.kind (before d b) in omega (arith, ints, l, moved)
 
-      asks-low : Each Low (asks b n)
+      abbrev Low : Ask → Type 0
+      Low a = (a.0 < k) × (a.1 ≤ c + (n.window - 1)) × (R k (before d b) ≤ℤ R a.0 (before d a.1))
+
+      asks-low : Each Low (asks c b n)
       asks-low =
-          each-asks Low b n
+          each-asks Low c b n
           (λ i u e.
           let l : u < k = (ok.lower k n at).inputs i u e in
-          let h : R k (before d b) ≤ℤ input_reach (Some (TermInput u)) (before d b) = subst (λ o. R k (before d b) ≤ℤ input_reach o (before d b)) e (input-from (before d b) i (Some (TermInput u)) e) in
-          (l, omega arith, subst (λ z. R k (before d b) ≤ℤ R u z) (before-more d b (n.window - 1)) (term-from u n.window (before d b) (sizes k n at).0 l h)))
+          let h : R k (before d b) ≤ℤ input_reach (Some (TermInput u)) (on (before d b)) = subst (λ o. R k (before d b) ≤ℤ input_reach o (on (before d b))) e (input-from (before d b) i (TermInput u) e) in
+          let low = term-from u n.window (before d b) (on (before d b)) (sizes k n at).0 l h in
+          (l, omega arith, subst (λ z. R k (before d b) ≤ℤ R u z) (ap (λ z. before z (n.window - 1)) moved ∙ before-more d c (n.window - 1)) low))
           (λ u e.
           let l : u < k = (ok.lower k n at).mask u e in
           let h : R k (before d b) ≤ℤ number_reach (Some u) (before d b) = subst (λ o. R k (before d b) ≤ℤ number_reach o (before d b)) e (froms (before d b)).1.1.1.1.0 in
-          (l, omega arith, subst (λ z. R k (before d b) ≤ℤ R u z) (before-none (before d b)) (term-from u 1 (before d b) (omega arith) l h)))
+          (l, omega (arith, later), subst (λ z. R k (before d b) ≤ℤ R u z) (before-none (before d b)) (term-from u 1 (before d b) (before d b) (omega arith) l h)))
           (λ u e.
           let l : u < k = (ok.lower k n at).group u e in
           let h : R k (before d b) ≤ℤ number_reach (Some u) (before d b) = subst (λ o. R k (before d b) ≤ℤ number_reach o (before d b)) e (froms (before d b)).1.1.1.1.1.0 in
-          (l, omega arith, subst (λ z. R k (before d b) ≤ℤ R u z) (before-none (before d b)) (term-from u 1 (before d b) (omega arith) l h)))
+          (l, omega (arith, later), subst (λ z. R k (before d b) ≤ℤ R u z) (before-none (before d b)) (term-from u 1 (before d b) (before d b) (omega arith) l h)))
 
-      own-low : R k (before d b) ≤ℤ before d (own_depth b n)
+      own-low : R k (before d b) ≤ℤ before d (own_depth c b n)
       own-low = here (list_any is_bar n.inputs) refl
         where
-          here : (t : Bool) → list_any is_bar n.inputs ≡ t → R k (before d b) ≤ℤ before d (own_depth b n)
+          here : (t : Bool) → list_any is_bar n.inputs ≡ t → R k (before d b) ≤ℤ before d (own_depth c b n)
           here false e = rw e (froms (before d b)).0
           here true e =
               let r = bar-there n.inputs e in
-              let h : R k (before d b) ≤ℤ before (before d b) n.window = subst (λ o. R k (before d b) ≤ℤ input_reach o (before d b)) r.2 (input-from (before d b) r.0 (Some (BarColumn r.1)) r.2) in
-              rw e (less-same _ _ _ h (before-more d b n.window))
+              let h : R k (before d b) ≤ℤ before (on (before d b)) n.window = subst (λ o. R k (before d b) ≤ℤ input_reach o (on (before d b))) r.2 (input-from (before d b) r.0 (BarColumn r.1) r.2) in
+              rw e (less-same _ _ _ h (ap (λ z. before z n.window) moved ∙ before-more d c n.window))
 
       abbrev Attains : Type 0
-      Attains = (before d (own_depth b n) ≤ℤ R k (before d b)) ⊎ ((u c : ℕ) × Found (asks b n) u c × (R u (before d c) ≤ℤ R k (before d b)))
+      Attains = (before d (own_depth c b n) ≤ℤ R k (before d b)) ⊎ ((u x : ℕ) × Found (asks c b n) u x × (R u (before d x) ≤ℤ R k (before d b)))
 
-      found-input : (i u : ℕ) → slice_get n.inputs i ≡ Some (TermInput u) → Found (asks b n) u (b + (n.window - 1))
+      found-input : (i u : ℕ) → slice_get n.inputs i ≡ Some (TermInput u) → Found (asks c b n) u (c + (n.window - 1))
       found-input i u e =
-          behind (number_asks b n.mask ++ number_asks b n.group) (filter_map (input_ask b n.window) n.inputs) u (b + (n.window - 1)) (input-found b n.window n.inputs i u e)
+          behind (number_asks b n.mask ++ number_asks b n.group) (filter_map (input_ask c n.window) n.inputs) u (c + (n.window - 1)) (input-found c n.window n.inputs i u e)
 
-      found-number : (u : ℕ) → (n.mask ≡ Some u) ⊎ (n.group ≡ Some u) → Found (asks b n) u b
+      found-number : (u : ℕ) → (n.mask ≡ Some u) ⊎ (n.group ≡ Some u) → Found (asks c b n) u b
       found-number u h =
-          in-front (number_asks b n.mask ++ number_asks b n.group) (filter_map (input_ask b n.window) n.inputs) u b (elim h [
+          in-front (number_asks b n.mask ++ number_asks b n.group) (filter_map (input_ask c n.window) n.inputs) u b (elim h [
             | inl e ↦ in-front (number_asks b n.mask) (number_asks b n.group) u b (rw e (0, refl))
             | inr e ↦ behind (number_asks b n.mask) (number_asks b n.group) u b (rw e (0, refl))
           ])
 
-      own-more : b ≤ own_depth b n
+      own-more : b ≤ own_depth c b n
       own-more = here (list_any is_bar n.inputs) refl
         where
-          here : (t : Bool) → list_any is_bar n.inputs ≡ t → b ≤ own_depth b n
-          here true e = rw e (omega arith)
+          here : (t : Bool) → list_any is_bar n.inputs ≡ t → b ≤ own_depth c b n
+          here true e = rw e (omega (arith, later))
           here false e = rw e (omega arith)
 
-      pub own-few : own_depth b n ≤ b + 1260
+      pub own-few : own_depth c b n ≤ c + 1260
       own-few = here (list_any is_bar n.inputs) refl
         where
-          here : (t : Bool) → list_any is_bar n.inputs ≡ t → own_depth b n ≤ b + 1260
+          here : (t : Bool) → list_any is_bar n.inputs ≡ t → own_depth c b n ≤ c + 1260
           here true e = let few : n.window ≤ 1260 = (sizes k n at).1 in rw e (omega arith)
-          here false e = rw e (omega arith)
+          here false e = rw e (omega (arith, later))
 
       attains : Attains
       attains = elim (reached (before d b)) [
-        | inl e ↦ inl (less-same _ _ _ (before-falls d b (own_depth b n) own-more) (sym e))
+        | inl e ↦ inl (less-same _ _ _ (before-falls d b (own_depth c b n) own-more) (sym e))
         | inr (inl r) ↦
-            (let e : own_depth b n ≡ b + n.window = own-bars b n (bar-found n.inputs r.0 r.1 r.2) in
-            let same : before d (own_depth b n) ≡ R k (before d b) = ap (before d) e ∙ sym (before-more d b n.window) ∙ sym r.3 in
-            inl (less-same _ _ _ (itself (before d (own_depth b n))) same))
-        | inr (inr (inl r)) ↦ inr (r.1, b + (n.window - 1), found-input r.0 r.1 r.2, subst (λ z. R r.1 z ≤ℤ R k (before d b)) (before-more d b (n.window - 1)) r.3)
+            (let e : own_depth c b n ≡ c + n.window = own-bars c b n (bar-found n.inputs r.0 r.1 r.2) in
+            let same : before d (own_depth c b n) ≡ R k (before d b) = ap (before d) e ∙ sym (ap (λ z. before z n.window) moved ∙ before-more d c n.window) ∙ sym r.3 in
+            inl (less-same _ _ _ (itself (before d (own_depth c b n))) same))
+        | inr (inr (inl r)) ↦ inr (r.1, c + (n.window - 1), found-input r.0 r.1 r.2, subst (λ z. R r.1 z ≤ℤ R k (before d b)) (ap (λ z. before z (n.window - 1)) moved ∙ before-more d c (n.window - 1)) r.3)
         | inr (inr (inr r)) ↦ inr (r.0, b, found-number r.0 r.1, r.2)
       ]
 
@@ -439,58 +458,65 @@ module _ (days : List ℤ) (up : AllPairs (λ a b. a <ℤ b) days) (g : Graph) (
       | inr l ↦ (let e : max m n ≡ m = omega arith in rw e h)
     ]
 
-    pub stepped : (ds new : Depths) (k deepest more b : ℕ) (n : Node) → Covers days g t d ds (k + 1) deepest → slice_get g k ≡ Some n → get_or ds k None ≡ Some b → new ≡ all_asked ds (asks b n)
-        → more ≡ max deepest (own_depth b n) → Covers days g t d new k more
-    stepped ds new k deepest more b n h at is made grown = record {
-      long = ap (λ (l : Depths). length l) made ∙ long-asked (asks b n) ds ∙ h.long;
-      own = less-same _ _ _ (max-own (R t (pos d)) deepest (own_depth b n) h.own (through (before (pos d) (own_depth b n)) (own-low k n at (pos d) b))) (ap (before (pos d)) (sym grown));
-      marked = λ j x e. elim (came-all (asks b n) ds inside j x (sym (ap (λ (l : Depths). get_or l j None) made) ∙ e)) [
+    pub stepped : (ds new : Depths) (k deepest more b c : ℕ) (n : Node) → reads_at days n.kind (before (pos d) b) ≡ before (pos d) c → c ≤ max b d → Covers days g t d ds (k + 1) deepest → slice_get g k ≡ Some n → get_or ds k None ≡ Some b → new ≡ all_asked ds (asks c b n)
+        → more ≡ max deepest (own_depth c b n) → Covers days g t d new k more
+    stepped ds new k deepest more b c n moved near h at is made grown = record {
+      long = ap (λ (l : Depths). length l) made ∙ long-asked (asks c b n) ds ∙ h.long;
+      own = less-same _ _ _ (max-own (R t (pos d)) deepest (own_depth c b n) h.own (through (before (pos d) (own_depth c b n)) (own-low k n at (pos d) b c moved))) (ap (before (pos d)) (sym grown));
+      marked = λ j x e. elim (came-all (asks c b n) ds inside j x (sym (ap (λ (l : Depths). get_or l j None) made) ∙ e)) [
         | inl old ↦ h.marked j x old
         | inr f ↦ through (R j (before (pos d) x)) (asked-is j x f).2
       ];
       met = meets h.met;
-      room = λ j x e. elim (came-all (asks b n) ds inside j x (sym (ap (λ (l : Depths). get_or l j None) made) ∙ e)) [
+      room = λ j x e. elim (came-all (asks c b n) ds inside j x (sym (ap (λ (l : Depths). get_or l j None) made) ∙ e)) [
         | inl old ↦ h.room j x old
-        | inr f ↦ (let a = asked-is j x f in let lower : j < k = a.0 in let few : x ≤ b + (n.window - 1) = a.1 in let size : n.window ≤ 1260 = (sizes k n at).1 in omega (arith, lower, few, size, room-b))
+        | inr f ↦ (let a = asked-is j x f in let lower : j < k = a.0 in let few : x ≤ c + (n.window - 1) = a.1 in let size : n.window ≤ 1260 = (sizes k n at).1 in omega (arith, lower, few, size, room-b, near, low-k))
       ];
-      room_own = (let few : own_depth b n ≤ b + 1260 = own-few k n at (pos d) b in let old : deepest ≤ 1260 * t + 1260 = h.room_own in omega (arith, few, old, room-b, grown));
+      room_own = (let few : own_depth c b n ≤ c + 1260 = own-few k n at (pos d) b c moved in let old : deepest ≤ d + 1260 * t + 1260 = h.room_own in omega (arith, few, old, room-b, grown, near, low-k));
     }
       where
-        room-b : b + 1260 * k ≤ 1260 * t
+        room-b : b + 1260 * k ≤ d + 1260 * t
         room-b = h.room k b is
 
-        asked-is : (j x : ℕ) → Found (asks b n) j x → (j < k) × (x ≤ b + (n.window - 1)) × (R k (before (pos d) b) ≤ℤ R j (before (pos d) x))
-        asked-is j x f = each_at (Low k n at (pos d) b) (asks b n) f.0 (let a : Ask = (j, x) in a) (asks-low k n at (pos d) b) f.1
+        -- what is read has a place among those up to t
+        low-k : k ≤ t
+        low-k = elim (cases_lt t k) [
+          | inr l ↦ l
+          | inl l ↦ absurd (let none : get_or ds k None ≡ None = past-end ds k (let s : length ds ≡ t + 1 = h.long in omega arith) in let bad : None ≡ Some b = sym none ∙ is in cc)
+        ]
+
+        asked-is : (j x : ℕ) → Found (asks c b n) j x → (j < k) × (x ≤ c + (n.window - 1)) × (R k (before (pos d) b) ≤ℤ R j (before (pos d) x))
+        asked-is j x f = each_at (Low k n at (pos d) b c moved) (asks c b n) f.0 (let a : Ask = (j, x) in a) (asks-low k n at (pos d) b c moved) f.1
 
         through : (x : ℤ) → R k (before (pos d) b) ≤ℤ x → R t (pos d) ≤ℤ x
         through x l = let m = h.marked k b is in omega (arith, ints, m, l)
 
-        inside : Each (λ (a : Ask). a.0 < length ds) (asks b n)
-        inside = each_more (Low k n at (pos d) b) (λ (a : Ask). a.0 < length ds) (asks b n) (λ a low. (let l : a.0 < k = low.0 in let s : length ds ≡ t + 1 = h.long in omega (arith, l, s, room-b))) (asks-low k n at (pos d) b)
+        inside : Each (λ (a : Ask). a.0 < length ds) (asks c b n)
+        inside = each_more (Low k n at (pos d) b c moved) (λ (a : Ask). a.0 < length ds) (asks c b n) (λ a low. (let l : a.0 < k = low.0 in let s : length ds ≡ t + 1 = h.long in omega (arith, l, s, low-k))) (asks-low k n at (pos d) b c moved)
 
-        known : (j x : ℕ) → AtLeast (all_asked ds (asks b n)) j x → j < k → R j (before (pos d) x) ≤ℤ R t (pos d) → Met new k more
+        known : (j x : ℕ) → AtLeast (all_asked ds (asks c b n)) j x → j < k → R j (before (pos d) x) ≤ℤ R t (pos d) → Met new k more
         known j x y l low =
             let deep : x ≤ y.0 = y.1 in
             let down : R j (before (pos d) y.0) ≤ℤ R j (before (pos d) x) = rises j (before (pos d) y.0) (before (pos d) x) (before-falls (pos d) x y.0 deep) in
             inr (j, y.0, l, ap (λ (l : Depths). get_or l j None) made ∙ y.2, omega (arith, ints, down, low))
 
         from-k : (x : ℕ) → x ≡ b → R k (before (pos d) x) ≤ℤ R t (pos d) → Met new k more
-        from-k x e low = elim (attains k n at (pos d) b) [
+        from-k x e low = elim (attains k n at (pos d) b c moved) [
           | inl own ↦
-              (let deep : own_depth b n ≤ more = omega (arith, grown) in
-              let falls = before-falls (pos d) (own_depth b n) more deep in
+              (let deep : own_depth c b n ≤ more = omega (arith, grown) in
+              let falls = before-falls (pos d) (own_depth c b n) more deep in
               let low-b : R k (before (pos d) b) ≤ℤ R t (pos d) = subst (λ y. R k (before (pos d) y) ≤ℤ R t (pos d)) e low in
               inl (omega (arith, ints, falls, own, low-b)))
           | inr r ↦
               (let low-b : R k (before (pos d) b) ≤ℤ R t (pos d) = subst (λ y. R k (before (pos d) y) ≤ℤ R t (pos d)) e low in
               let own : R r.0 (before (pos d) r.1) ≤ℤ R k (before (pos d) b) = r.3 in
-              known r.0 r.1 (told-all (asks b n) ds inside r.2.0 (let a : Ask = (r.0, r.1) in a) r.2.1) (asked-is r.0 r.1 r.2).0 (omega (arith, ints, own, low-b)))
+              known r.0 r.1 (told-all (asks c b n) ds inside r.2.0 (let a : Ask = (r.0, r.1) in a) r.2.1) (asked-is r.0 r.1 r.2).0 (omega (arith, ints, own, low-b)))
         ]
 
         meets : Met ds (k + 1) deepest → Met new k more
         meets (inl l) = (let falls = before-falls (pos d) deepest more (omega (arith, grown)) in inl (omega (arith, ints, falls, l)))
         meets (inr r) = elim (cases_lt r.0 k) [
-          | inl below ↦ known r.0 r.1 (kept-all (asks b n) ds inside r.0 r.1 r.3) below r.4
+          | inl below ↦ known r.0 r.1 (kept-all (asks c b n) ds inside r.0 r.1 r.3) below r.4
           | inr above ↦
               (let last : r.0 ≡ k = (let l : r.0 < k + 1 = r.2 in omega arith) in
               let same : Some r.1 ≡ Some b = sym r.3 ∙ ap (λ j. get_or ds j None) last ∙ is in

@@ -1,1 +1,5 @@
 mod Depths
+mod Passing
+mod Judging
+mod Used
+mod Lines

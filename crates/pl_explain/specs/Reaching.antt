@@ -16,17 +16,17 @@ abbrev pub number_asks : ℕ → Option ℕ → List Ask
 number_asks depth None = []
 number_asks depth (Some k) = (k, depth) ∷ []
 
--- what a node reads for a session so many before
-abbrev pub asks : ℕ → Node → List Ask
-asks depth n = number_asks depth n.mask ++ number_asks depth n.group ++ filter_map (input_ask depth n.window) n.inputs
+-- what a node reads for a session so many before, its inputs up to one that may be earlier
+abbrev pub asks : ℕ → ℕ → Node → List Ask
+asks back depth n = number_asks depth n.mask ++ number_asks depth n.group ++ filter_map (input_ask back n.window) n.inputs
 
 abbrev pub is_bar : Input → Bool
 is_bar (BarColumn c) = true
 is_bar (TermInput k) = false
 
 -- where its own bars begin
-abbrev pub own_depth : ℕ → Node → ℕ
-own_depth depth n = if list_any is_bar n.inputs then depth + n.window else depth
+abbrev pub own_depth : ℕ → ℕ → Node → ℕ
+own_depth back depth n = if list_any is_bar n.inputs then back + n.window else depth
 
 -- ---- by number, how far back each term is read, where it is read
 

@@ -10,6 +10,7 @@ ghost use Rattle.pl_explain.specs.Reaching.{all_asked, asks, deeper, input_ask, 
 
 use pl_calendar::Sessions;
 use pl_fixed::Memory;
+use pl_planner::back_from;
 use pl_terms::{Checked, Input, Node, TermId};
 use std::alloc::Global;
 
@@ -61,7 +62,8 @@ fn deepest_read(
             None => (),
             Some(depth) => {
                 let node = graph.node(TermId(k as u8));
-                deepest = deepest.max(read_node(depths, node, depth));
+                let back = back_from(sessions, node, session, depth);
+                deepest = deepest.max(read_node(depths, node, back, depth));
             }
         }
     }
@@ -81,20 +83,21 @@ fn depth_of(depths: &[Option<usize>], k: usize) -> Option<usize>
     if k < depths.len() { depths[k] } else { None }
 }
 
-// Marks what a node reads for a session so many before, and gives how many before its own bars begin.
+// Marks what a node reads for a session `depth` before, its inputs up to one `back` before, and gives how
+// many before its own bars begin.
 #[tactic(auto, unfolding(pl_terms::specs::Nodes::node_of))]
-fn read_node(depths: &mut [Option<usize>], node: &Node, depth: usize) -> usize
+fn read_node(depths: &mut [Option<usize>], node: &Node, back: usize, depth: usize) -> usize
     requires window { 1 ≤ node.now.window }
-    requires room { depth + node.now.window < 2 ^ 63 }
+    requires room { back + node.now.window < 2 ^ 63 }
     requires lower { MentionsBelow (node_of node.now) (length depths.old) }
-    ensures asked { depths.new ≡ all_asked depths.old (asks depth (node_of node.now)) }
-    ensures own { result ≡ own_depth depth (node_of node.now) }
+    ensures asked { depths.new ≡ all_asked depths.old (asks back depth (node_of node.now)) }
+    ensures own { result ≡ own_depth back depth (node_of node.now) }
 {
     read_term(depths, node.mask, depth);
     read_term(depths, node.group, depth);
-    read_inputs(depths, node, depth);
+    read_inputs(depths, node, back);
     if reads_bars(node.inputs.as_slice()) {
-        depth + node.window as usize
+        back + node.window as usize
     } else {
         depth
     }

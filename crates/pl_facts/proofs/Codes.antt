@@ -123,7 +123,7 @@ no_term g t e = elim (cases_lt t (length g)) [
 
 module _ (w : World) (p : Pipeline) (known : HasTexts w) (ok : IsGraph p.graph) where
   -- what a term's number stands for is its value
-  from_code : (t a : ℕ) (d : ℤ) → term_read w p (number_in w p) t a d ≡ value_of w p t a d
+  pub from_code : (t a : ℕ) (d : ℤ) → term_read w p (number_in w p) t a d ≡ value_of w p t a d
   from_code t a d = kept w known p.names (term_at p.graph t) a d
 
   term_is : (t : ℕ) → term_read w p (number_in w p) t ≡ meaning_of w p.names p.graph t

@@ -12,7 +12,7 @@ use Rattle.pl_judge.specs.declared.fault.SyntaxFault.TheVariants.{BadByte, Unexp
 use Rattle.pl_judge.specs.declared.fault.RuleFault.{RuleFault}
 use Rattle.pl_judge.specs.declared.fault.RuleFault.TheVariants as rules
 use Rattle.pl_judge.specs.declared.fault.DataFault.{DataFault}
-use Rattle.pl_judge.specs.declared.fault.DataFault.TheVariants.{BadHeader, Empty, BadDate, NotAscending, BadField, StartAfterEnd, DuplicateSid, LabelTooLong, DuplicateStart, NotSession, UnknownSid, Negative, NotPositive, Duplicate}
+use Rattle.pl_judge.specs.declared.fault.DataFault.TheVariants.{BadHeader, Empty, BadDate, NotAscending, BadField, StartAfterEnd, DuplicateSid, LabelTooLong, DuplicateStart, NotSession, UnknownSid, Negative, NotPositive, TooSoon, Duplicate}
 use Rattle.pl_judge.specs.declared.fault.RowFault.{RowFault}
 use Rattle.pl_judge.specs.declared.fault.RowFault.TheVariants.{BadEffective, BadRatio}
 use Rattle.pl_judge.specs.declared.fault.Limit.{Limit}
@@ -50,6 +50,7 @@ data_text NotSession = codes "NotSession"
 data_text UnknownSid = codes "UnknownSid"
 data_text Negative = codes "Negative"
 data_text NotPositive = codes "NotPositive"
+data_text TooSoon = codes "TooSoon"
 data_text Duplicate = codes "Duplicate"
 
 abbrev pub row_text : RowFault → List ℕ
@@ -71,6 +72,7 @@ limit_text limits.Assets = codes "assets"
 limit_text limits.Labels = codes "labels"
 limit_text limits.Bars = codes "bars"
 limit_text limits.Adjustments = codes "adjustments"
+limit_text limits.Revisions = codes "revisions"
 limit_text limits.Payouts = codes "payouts"
 limit_text limits.Extra = codes "extra"
 

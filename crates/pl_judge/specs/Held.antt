@@ -17,12 +17,15 @@ use Rattle.pl_payouts.specs.declared.reading.Dividend.{Dividend}
 use Rattle.pl_payouts.specs.Payouts.{payouts_of}
 use Rattle.pl_adjust.specs.Walk as rows
 use Rattle.pl_adjust.specs.Tables.{adjustments_in}
+use Rattle.pl_adjust.specs.Revised.{revised_by}
+use Rattle.pl_revisions.specs.declared.Revision.{Revision}
+use Rattle.pl_revisions.specs.Revisions.{revisions_of}
 use Rattle.pl_syntax.specs.Spells.{Parsed}
 use Rattle.pl_syntax.specs.Said.{Said, Spelled, Faulty, said}
 use Rattle.pl_check.specs.Typed.{typed}
 use Rattle.pl_outside.specs.declared.keeper.Table.{Table}
 use Rattle.pl_outside.specs.declared.keeper.Table.TheVariants.{Splits, Mergers, Dividends}
-use Rattle.pl_words.specs.declared.request.InputFile.TheVariants.{Pipeline as PipelineFile, Sessions, Assets, Labels, Bars, Payouts}
+use Rattle.pl_words.specs.declared.request.InputFile.TheVariants.{Pipeline as PipelineFile, Sessions, Assets, Labels, Bars, Revisions, Payouts}
 use Rattle.pl_words.specs.Request.{RunRequest}
 use Rattle.pl_judge.specs.Contents.{Contents}
 
@@ -56,6 +59,9 @@ labels_in assets file = result_unwrap_or (labels_of assets (csv_records (bytes_i
 unfoldable pub bars_in : List ℤ → List AssetRow → Option (List ℕ) → List BarRow
 bars_in days assets file = result_unwrap_or (bars_of days assets (csv_records (bytes_in file))) []
 
+unfoldable pub revisions_in : List ℤ → List AssetRow → Option (List ℕ) → List Revision
+revisions_in days assets file = result_unwrap_or (revisions_of days assets (csv_records (bytes_in file))) []
+
 unfoldable pub payouts_in : List AssetRow → Option (List ℕ) → List Dividend
 payouts_in assets file = result_unwrap_or (payouts_of assets (csv_records (bytes_in file))) []
 
@@ -75,6 +81,12 @@ abbrev pub adjustments_asked : List AssetRow → Option (List ℕ) → (Table �
 adjustments_asked assets None rows = []
 adjustments_asked assets (Some name) rows = adjustments_from assets rows
 
+-- the adjustments, and among them the revisions of a file where its name is asked for
+abbrev pub revised_asked : List ℤ → List AssetRow → List ColumnAdjustment → Option (List ℕ) → Option (List ℕ)
+    → List ColumnAdjustment
+revised_asked days assets adjustments None file = adjustments
+revised_asked days assets adjustments (Some name) file = revised_by assets adjustments (revisions_in days assets file)
+
 -- ---- of the contents of a command
 
 abbrev pub pipeline_held : Contents → Pipeline
@@ -92,9 +104,16 @@ bars_held held = bars_in (days_held held) (assets_held held) (held.file Bars)
 abbrev pub payouts_held : Contents → List Dividend
 payouts_held held = payouts_in (assets_held held) (held.file Payouts)
 
+-- the adjustments of the three tables, and the revisions
+abbrev pub adjustments_held : Contents → RunRequest → List ColumnAdjustment
+adjustments_held held q =
+    let assets = assets_held held in
+    let adjustments = adjustments_asked assets q.options.adjustments held.rows in
+    revised_asked (days_held held) assets adjustments q.options.revisions (held.file Revisions)
+
 -- the world of a run
 abbrev pub world_held : Contents → RunRequest → World
 world_held held q =
     let assets = assets_held held in
     let labels = labels_asked assets q.options.labels (held.file Labels) in
-    world_of (days_held held) assets labels.rows labels.texts (bars_held held) (adjustments_asked assets q.options.adjustments held.rows)
+    world_of (days_held held) assets labels.rows labels.texts (bars_held held) (adjustments_held held q)

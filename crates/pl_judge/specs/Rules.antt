@@ -7,6 +7,7 @@ use Rattle.pl_assets.specs.Assets as assets
 use Rattle.pl_assets.specs.Labels as labels
 use Rattle.pl_bars.specs.Bars as bars
 use Rattle.pl_adjust.specs.Walk as rows
+use Rattle.pl_revisions.specs.Revisions as revisions
 use Rattle.pl_payouts.specs.Payouts as payouts
 use Rattle.pl_grammar.specs.Faults as syntax
 use Rattle.pl_grammar.specs.declared.Place.{Place}
@@ -21,7 +22,7 @@ use Rattle.pl_check.specs.declared.fault.CheckError.TheVariants as check_errors
 use Rattle.pl_words.specs.declared.request.InputFile.TheVariants as files
 use Rattle.pl_judge.specs.declared.fault.SyntaxFault.TheVariants as misspelled
 use Rattle.pl_judge.specs.declared.fault.RuleFault.TheVariants as broken
-use Rattle.pl_judge.specs.declared.fault.DataFault.TheVariants.{BadHeader, Empty, BadDate, NotAscending, BadField, StartAfterEnd, DuplicateSid, LabelTooLong, DuplicateStart, NotSession, UnknownSid, Negative, NotPositive, Duplicate}
+use Rattle.pl_judge.specs.declared.fault.DataFault.TheVariants.{BadHeader, Empty, BadDate, NotAscending, BadField, StartAfterEnd, DuplicateSid, LabelTooLong, DuplicateStart, NotSession, UnknownSid, Negative, NotPositive, TooSoon, Duplicate}
 use Rattle.pl_judge.specs.declared.fault.RowFault.TheVariants.{BadEffective, BadRatio}
 use Rattle.pl_judge.specs.declared.fault.Limit.TheVariants as limits
 use Rattle.pl_judge.specs.declared.fault.Fault.{Fault}
@@ -74,6 +75,16 @@ bars_fault line bars.NotSession = Data files.Bars line NotSession
 bars_fault line bars.UnknownSid = Data files.Bars line UnknownSid
 bars_fault line bars.Negative = Data files.Bars line Negative
 bars_fault line bars.Duplicate = Data files.Bars line Duplicate
+
+abbrev pub revisions_fault : ℕ → revisions.Rule → Fault
+revisions_fault line revisions.BadHeader = Data files.Revisions line BadHeader
+revisions_fault line revisions.TooMany = Passed limits.Revisions
+revisions_fault line revisions.BadField = Data files.Revisions line BadField
+revisions_fault line revisions.NotSession = Data files.Revisions line NotSession
+revisions_fault line revisions.UnknownSid = Data files.Revisions line UnknownSid
+revisions_fault line revisions.Negative = Data files.Revisions line Negative
+revisions_fault line revisions.TooSoon = Data files.Revisions line TooSoon
+revisions_fault line revisions.Duplicate = Data files.Revisions line Duplicate
 
 abbrev pub payouts_fault : ℕ → payouts.Rule → Fault
 payouts_fault line payouts.BadHeader = Data files.Payouts line BadHeader

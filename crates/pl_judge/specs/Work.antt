@@ -10,6 +10,7 @@ use Rattle.pl_assets.specs.Labels.{labels_of}
 use Rattle.pl_bars.specs.Bars.{bars_of}
 use Rattle.pl_payouts.specs.Payouts.{payouts_of}
 use Rattle.pl_adjust.specs.Walk as rows
+use Rattle.pl_revisions.specs.Revisions.{revisions_of}
 use Rattle.pl_syntax.specs.Spells.{Parsed}
 use Rattle.pl_syntax.specs.Said.{Said, Spelled, Faulty, said}
 use Rattle.pl_check.specs.Faults.{Broken}
@@ -17,7 +18,7 @@ use Rattle.pl_check.specs.Typed.{typed}
 use Rattle.pl_outside.specs.declared.keeper.Table.{Table}
 use Rattle.pl_outside.specs.declared.keeper.Table.TheVariants.{Splits, Mergers, Dividends}
 use Rattle.pl_words.specs.declared.request.InputFile.{InputFile}
-use Rattle.pl_words.specs.declared.request.InputFile.TheVariants.{Pipeline as PipelineFile, Sessions, Assets, Labels, Bars, Payouts as PayoutsFile}
+use Rattle.pl_words.specs.declared.request.InputFile.TheVariants.{Pipeline as PipelineFile, Sessions, Assets, Labels, Bars, Revisions, Payouts as PayoutsFile}
 use Rattle.pl_words.specs.Request.{Request, Run, Fmt, Check, Plan, Bench, Payouts, RunRequest, PlanRequest}
 use Rattle.pl_judge.specs.declared.limits.TheConstants.{PIPELINE_CAP, FILE_CAP}
 use Rattle.pl_judge.specs.declared.fault.Limit.{Limit}
@@ -25,7 +26,7 @@ use Rattle.pl_judge.specs.declared.fault.Limit.TheVariants as limits
 use Rattle.pl_judge.specs.declared.fault.Fault.{Fault}
 use Rattle.pl_judge.specs.declared.fault.Fault.TheVariants.{Usage, Passed, Unread}
 use Rattle.pl_judge.specs.Contents.{Contents}
-use Rattle.pl_judge.specs.Rules.{syntax_fault, rule_fault, sessions_fault, assets_fault, labels_fault, bars_fault, payouts_fault, rows_fault}
+use Rattle.pl_judge.specs.Rules.{syntax_fault, rule_fault, sessions_fault, assets_fault, labels_fault, bars_fault, revisions_fault, payouts_fault, rows_fault}
 use Rattle.pl_judge.specs.Held.{script_in, pipeline_held, days_held, assets_held, adjustments_of_rows}
 use Rattle.pl_judge.specs.Steps.{Step, rule}
 use Rattle.pl_judge.specs.Steps.Source.{Input, Load}
@@ -39,6 +40,7 @@ cap_of Sessions = FILE_CAP
 cap_of Assets = FILE_CAP
 cap_of Labels = FILE_CAP
 cap_of Bars = FILE_CAP
+cap_of Revisions = FILE_CAP
 cap_of PayoutsFile = FILE_CAP
 
 abbrev pub limit_of : InputFile → Limit
@@ -47,6 +49,7 @@ limit_of Sessions = limits.File
 limit_of Assets = limits.File
 limit_of Labels = limits.File
 limit_of Bars = limits.File
+limit_of Revisions = limits.File
 limit_of PayoutsFile = limits.File
 
 -- It is there, it has no more bytes than its cap, and then its rule decides.
@@ -89,6 +92,9 @@ labels_rule assets bytes = fault_in labels_fault (labels_of assets (csv_records 
 unfoldable pub bars_rule : List ℤ → List AssetRow → List ℕ → Option Fault
 bars_rule days assets bytes = fault_in bars_fault (bars_of days assets (csv_records bytes))
 
+unfoldable pub revisions_rule : List ℤ → List AssetRow → List ℕ → Option Fault
+revisions_rule days assets bytes = fault_in revisions_fault (revisions_of days assets (csv_records bytes))
+
 unfoldable pub payouts_rule : List AssetRow → List ℕ → Option Fault
 payouts_rule assets bytes = fault_in payouts_fault (payouts_of assets (csv_records bytes))
 
@@ -125,14 +131,21 @@ adjustments_steps assets None rows = []
 adjustments_steps assets (Some name) rows =
     load_step Splits ∷ load_step Mergers ∷ load_step Dividends ∷ rule (rows_rule assets rows) ∷ []
 
--- Each file is read whole and judged before the next one is begun, and the adjustments come last.
+-- a revisions file is read where its name is asked for
+abbrev pub revisions_steps : List ℤ → List AssetRow → Option (List ℕ) → Option (List ℕ) → List Step
+revisions_steps days assets None file = []
+revisions_steps days assets (Some name) file = read_step Revisions (revisions_rule days assets) file ∷ []
+
+-- Each file is read whole and judged before the next one is begun; the tables come behind the bars, and the revisions last.
 unfoldable pub data_steps : Contents → RunRequest → List Step
 data_steps held q =
     let days = days_held held in
     let assets = assets_held held in
     sessions_step (held.file Sessions) ∷ read_step Assets assets_rule (held.file Assets)
     ∷ (labels_steps assets q.options.labels (held.file Labels)
-    ++ (read_step Bars (bars_rule days assets) (held.file Bars) ∷ adjustments_steps assets q.options.adjustments held.rows))
+    ++ (read_step Bars (bars_rule days assets) (held.file Bars)
+    ∷ (adjustments_steps assets q.options.adjustments held.rows
+    ++ revisions_steps days assets q.options.revisions (held.file Revisions))))
 
 -- first the pipeline file, then the data, and then the range
 abbrev pub run_steps : Contents → RunRequest → List Step

@@ -1,10 +1,10 @@
 // What the errors of the readers and of the checker are to a command.
 ghost use Rattle.std.specs.Prelude.{◌≡◌};
 ghost use Rattle.pl_judge.specs.Stages.{Tells};
-ghost use Rattle.pl_judge.specs.Rules.{told_at, told, sessions_fault, assets_fault, labels_fault, bars_fault, payouts_fault, rows_fault, syntax_error, rule_fault, check_error, plan_error};
+ghost use Rattle.pl_judge.specs.Rules.{told_at, told, sessions_fault, assets_fault, labels_fault, bars_fault, revisions_fault, payouts_fault, rows_fault, syntax_error, rule_fault, check_error, plan_error};
 
 use crate::{DataFault, Fault, Limit, RowFault, RuleFault, SyntaxFault};
-use pl_adjust::AdjustError;
+use pl_adjust::{AdjustError, RevisionsError};
 use pl_assets::{AssetsError, LabelsError};
 use pl_bars::BarsError;
 use pl_calendar::CalendarError;
@@ -133,6 +133,27 @@ impl From<BarsError> for Fault {
             BarsError::Duplicate { line } => faulty(file, line, DataFault::Duplicate),
             BarsError::TooMany { .. } => Fault::Passed(Limit::Bars),
             BarsError::Memory => Fault::Memory,
+        }
+    }
+}
+
+impl From<RevisionsError> for Fault {
+    ghost use Rattle.pl_revisions.specs.Faults as revisions;
+
+    ghost from_gives = { λ error fault. Tells fault (told_at revisions_fault (revisions.fault_of error)) };
+
+    fn from(error: RevisionsError) -> Fault {
+        let file = InputFile::Revisions;
+        match error {
+            RevisionsError::BadHeader => faulty(file, 1, DataFault::BadHeader),
+            RevisionsError::BadField { line } => faulty(file, line, DataFault::BadField),
+            RevisionsError::NotSession { line } => faulty(file, line, DataFault::NotSession),
+            RevisionsError::UnknownSid { line } => faulty(file, line, DataFault::UnknownSid),
+            RevisionsError::Negative { line } => faulty(file, line, DataFault::Negative),
+            RevisionsError::TooSoon { line } => faulty(file, line, DataFault::TooSoon),
+            RevisionsError::Duplicate { line } => faulty(file, line, DataFault::Duplicate),
+            RevisionsError::TooMany { .. } => Fault::Passed(Limit::Revisions),
+            RevisionsError::Memory => Fault::Memory,
         }
     }
 }

@@ -22,6 +22,7 @@ pub enum Limit {
     Labels,
     Bars,
     Adjustments,
+    Revisions,
     Payouts,
     /// The extra rows of a term.
     Extra,
@@ -65,6 +66,7 @@ pub enum DataFault {
     UnknownSid,
     Negative,
     NotPositive,
+    TooSoon,
     Duplicate,
 }
 
@@ -192,6 +194,7 @@ impl DataFault {
             DataFault::UnknownSid => "UnknownSid",
             DataFault::Negative => "Negative",
             DataFault::NotPositive => "NotPositive",
+            DataFault::TooSoon => "TooSoon",
             DataFault::Duplicate => "Duplicate",
         }
     }
@@ -224,6 +227,7 @@ impl Limit {
             Limit::Labels => "labels",
             Limit::Bars => "bars",
             Limit::Adjustments => "adjustments",
+            Limit::Revisions => "revisions",
             Limit::Payouts => "payouts",
             Limit::Extra => "extra",
         }

@@ -22,6 +22,7 @@ pub fn cap_of(file: InputFile) -> usize
         | InputFile::Assets
         | InputFile::Labels
         | InputFile::Bars
+        | InputFile::Revisions
         | InputFile::Payouts => FILE_CAP,
     }
 }
@@ -36,6 +37,7 @@ pub fn limit_of(file: InputFile) -> Limit
         | InputFile::Assets
         | InputFile::Labels
         | InputFile::Bars
+        | InputFile::Revisions
         | InputFile::Payouts => Limit::File,
     }
 }

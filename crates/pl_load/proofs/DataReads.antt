@@ -11,12 +11,12 @@ use Rattle.pl_outside.specs.Lists.{Lists}
 use Rattle.pl_outside.specs.declared.keeper.Table.{Table}
 use Rattle.pl_model.specs.declared.owned.OwnedWorld.{OwnedWorld}
 use Rattle.pl_words.specs.declared.request.InputFile.{InputFile}
-use Rattle.pl_words.specs.declared.request.InputFile.TheVariants.{Pipeline, Sessions, Assets, Labels, Bars, Payouts}
+use Rattle.pl_words.specs.declared.request.InputFile.TheVariants.{Pipeline, Sessions, Assets, Labels, Bars, Revisions, Payouts}
 use Rattle.pl_words.specs.Request.{RunRequest, Run, name_asked}
 use Rattle.pl_judge.specs.declared.fault.Fault.{Fault}
 use Rattle.pl_judge.specs.Contents.{Contents, AreHeld}
-use Rattle.pl_judge.specs.Held.{days_in, assets_in, labels_asked, bars_in, adjustments_asked}
-use Rattle.pl_judge.specs.Work.{read_step, sessions_rule, assets_rule, labels_steps, bars_rule, adjustments_steps, data_steps}
+use Rattle.pl_judge.specs.Held.{days_in, assets_in, labels_asked, bars_in, adjustments_asked, revised_asked}
+use Rattle.pl_judge.specs.Work.{read_step, sessions_rule, assets_rule, labels_steps, bars_rule, adjustments_steps, revisions_steps, data_steps}
 use Rattle.pl_judge.proofs.Steps.{stage-stops, stage-goes_on, stage-done, stage-weaker, always}
 use Rattle.pl_load.specs.Reads.{IsRead, AreLoaded}
 use Rattle.pl_load.specs.Loads.{IsData}
@@ -44,41 +44,50 @@ AdjustmentsRead lists sound q assets r =
     AreLoaded lists sound q.options.adjustments (adjustments_steps assets q.options.adjustments)
     (λ rows x. adjustments_asked assets q.options.adjustments rows ≡ x) r
 
+abbrev pub RevisionsRead : Option Files → Bool → RunRequest → List ℤ → List AssetRow → List ColumnAdjustment → Result (List ColumnAdjustment) Fault → Type 0
+RevisionsRead tells sound q days assets adjustments r =
+    IsRead tells sound q.options.revisions (revisions_steps days assets q.options.revisions)
+    (λ held x. revised_asked days assets adjustments q.options.revisions held ≡ x) r
+
 -- ---- the contents
 
-abbrev pub files_by : (pipeline sessions assets labels bars : Option (List ℕ)) → InputFile → Option (List ℕ)
-files_by pipeline sessions assets labels bars Pipeline = pipeline
-files_by pipeline sessions assets labels bars Sessions = sessions
-files_by pipeline sessions assets labels bars Assets = assets
-files_by pipeline sessions assets labels bars Labels = labels
-files_by pipeline sessions assets labels bars Bars = bars
-files_by pipeline sessions assets labels bars Payouts = None
+abbrev pub files_by : (pipeline sessions assets labels bars revisions : Option (List ℕ)) → InputFile → Option (List ℕ)
+files_by pipeline sessions assets labels bars revisions Pipeline = pipeline
+files_by pipeline sessions assets labels bars revisions Sessions = sessions
+files_by pipeline sessions assets labels bars revisions Assets = assets
+files_by pipeline sessions assets labels bars revisions Labels = labels
+files_by pipeline sessions assets labels bars revisions Bars = bars
+files_by pipeline sessions assets labels bars revisions Revisions = revisions
+files_by pipeline sessions assets labels bars revisions Payouts = None
 
 abbrev IsTold : Option Files → Option (List ℕ) → Option (List ℕ) → Type 0
 IsTold tells name file = ForSome name (λ n. ForSome tells (λ files. file ≡ files n))
 
 module _ (tells : Option Files) (lists : Option Lists) (sound keeper : Bool) (q : RunRequest) where
   -- the pipeline file was read before, and matters nothing here
-  abbrev data_held : (sessions assets labels bars : Option (List ℕ)) → (Table → List RawAdjust) → Contents
-  data_held sessions assets labels bars rows = record { file = files_by (held_under tells (Some q.pipeline)) sessions assets labels bars; rows = rows }
+  abbrev data_held : (sessions assets labels bars revisions : Option (List ℕ)) → (Table → List RawAdjust) → Contents
+  data_held sessions assets labels bars revisions rows = record { file = files_by (held_under tells (Some q.pipeline)) sessions assets labels bars revisions; rows = rows }
 
   abbrev AreTold : (Table → List RawAdjust) → Type 0
   AreTold rows = (table : Table) → ForSome q.options.adjustments (λ n. ForSome lists (λ told. rows table ≡ told n table))
 
-  by-file : (sessions assets labels bars : Option (List ℕ))
+  by-file : (sessions assets labels bars revisions : Option (List ℕ))
       → IsTold tells (Some q.sessions) sessions → IsTold tells (Some q.assets) assets → IsTold tells q.options.labels labels → IsTold tells (Some q.bars) bars
-      → (file : InputFile) → IsTold tells (name_asked (Some (Run q)) file) (files_by (held_under tells (Some q.pipeline)) sessions assets labels bars file)
-  by-file sessions assets labels bars s a l b Pipeline = held-told tells (Some q.pipeline)
-  by-file sessions assets labels bars s a l b Sessions = s
-  by-file sessions assets labels bars s a l b Assets = a
-  by-file sessions assets labels bars s a l b Labels = l
-  by-file sessions assets labels bars s a l b Bars = b
-  by-file sessions assets labels bars s a l b Payouts = λ n is. absurd (cc)
+      → IsTold tells q.options.revisions revisions
+      → (file : InputFile) → IsTold tells (name_asked (Some (Run q)) file) (files_by (held_under tells (Some q.pipeline)) sessions assets labels bars revisions file)
+  by-file sessions assets labels bars revisions s a l b v Pipeline = held-told tells (Some q.pipeline)
+  by-file sessions assets labels bars revisions s a l b v Sessions = s
+  by-file sessions assets labels bars revisions s a l b v Assets = a
+  by-file sessions assets labels bars revisions s a l b v Labels = l
+  by-file sessions assets labels bars revisions s a l b v Bars = b
+  by-file sessions assets labels bars revisions s a l b v Revisions = v
+  by-file sessions assets labels bars revisions s a l b v Payouts = λ n is. absurd (cc)
 
-  are-held : (sessions assets labels bars : Option (List ℕ)) (rows : Table → List RawAdjust)
+  are-held : (sessions assets labels bars revisions : Option (List ℕ)) (rows : Table → List RawAdjust)
       → IsTold tells (Some q.sessions) sessions → IsTold tells (Some q.assets) assets → IsTold tells q.options.labels labels → IsTold tells (Some q.bars) bars
-      → AreTold rows → AreHeld tells lists (Some (Run q)) (data_held sessions assets labels bars rows)
-  are-held sessions assets labels bars rows s a l b r = record { files_held = by-file sessions assets labels bars s a l b; rows_held = r }
+      → IsTold tells q.options.revisions revisions
+      → AreTold rows → AreHeld tells lists (Some (Run q)) (data_held sessions assets labels bars revisions rows)
+  are-held sessions assets labels bars revisions rows s a l b v r = record { files_held = by-file sessions assets labels bars revisions s a l b v; rows_held = r }
 
   -- what was not reached is what the parts hold
   abbrev assets_left : Option (List ℕ)
@@ -90,6 +99,9 @@ module _ (tells : Option Files) (lists : Option Lists) (sound keeper : Bool) (q 
   abbrev bars_left : Option (List ℕ)
   bars_left = held_under tells (Some q.bars)
 
+  abbrev revisions_left : Option (List ℕ)
+  revisions_left = held_under tells q.options.revisions
+
   abbrev rows_left : Table → List RawAdjust
   rows_left = listed_under lists q.options.adjustments
 
@@ -99,8 +111,8 @@ module _ (tells : Option Files) (lists : Option Lists) (sound keeper : Bool) (q 
   unfolding data_steps
   no-sessions fault h =
       record {
-        held = data_held h.file assets_left labels_left bars_left rows_left;
-        are_held = are-held h.file assets_left labels_left bars_left rows_left h.is_told (held-told tells _) (held-told tells _) (held-told tells _) (listed-told lists _);
+        held = data_held h.file assets_left labels_left bars_left revisions_left rows_left;
+        are_held = are-held h.file assets_left labels_left bars_left revisions_left rows_left h.is_told (held-told tells _) (held-told tells _) (held-told tells _) (held-told tells _) (listed-told lists _);
         ends = stage-stops _ (stage-weaker {U = Unit {0}} (λ t. t) always h.ends);
         days = tt;
         world = tt;
@@ -110,8 +122,8 @@ module _ (tells : Option Files) (lists : Option Lists) (sound keeper : Bool) (q 
   unfolding data_steps
   no-assets days fault s h =
       record {
-        held = data_held s.file h.file labels_left bars_left rows_left;
-        are_held = are-held s.file h.file labels_left bars_left rows_left s.is_told h.is_told (held-told tells _) (held-told tells _) (listed-told lists _);
+        held = data_held s.file h.file labels_left bars_left revisions_left rows_left;
+        are_held = are-held s.file h.file labels_left bars_left revisions_left rows_left s.is_told h.is_told (held-told tells _) (held-told tells _) (held-told tells _) (listed-told lists _);
         ends = stage-goes_on s.ends (stage-stops _ (stage-weaker {U = Unit {0}} (λ t. t) always h.ends));
         days = tt;
         world = tt;
@@ -122,8 +134,8 @@ module _ (tells : Option Files) (lists : Option Lists) (sound keeper : Bool) (q 
   unfolding data_steps
   no-labels days assets fault s a h =
       record {
-        held = data_held s.file a.file h.file bars_left rows_left;
-        are_held = are-held s.file a.file h.file bars_left rows_left s.is_told a.is_told h.is_told (held-told tells _) (listed-told lists _);
+        held = data_held s.file a.file h.file bars_left revisions_left rows_left;
+        are_held = are-held s.file a.file h.file bars_left revisions_left rows_left s.is_told a.is_told h.is_told (held-told tells _) (held-told tells _) (listed-told lists _);
         ends = rw a.means (stage-goes_on s.ends (stage-goes_on a.ends (stage-stops _ (stage-weaker {U = Unit {0}} (λ t. t) always h.ends))));
         days = tt;
         world = tt;
@@ -134,8 +146,8 @@ module _ (tells : Option Files) (lists : Option Lists) (sound keeper : Bool) (q 
   unfolding data_steps
   no-bars days assets labels fault s a l h =
       record {
-        held = data_held s.file a.file l.file h.file rows_left;
-        are_held = are-held s.file a.file l.file h.file rows_left s.is_told a.is_told l.is_told h.is_told (listed-told lists _);
+        held = data_held s.file a.file l.file h.file revisions_left rows_left;
+        are_held = are-held s.file a.file l.file h.file revisions_left rows_left s.is_told a.is_told l.is_told h.is_told (held-told tells _) (listed-told lists _);
         ends = rw (s.means, a.means) (stage-goes_on s.ends (stage-goes_on a.ends (stage-goes_on l.ends (stage-stops _ (stage-weaker {U = Unit {0}} (λ t. t) always h.ends)))));
         days = tt;
         world = tt;
@@ -147,24 +159,40 @@ module _ (tells : Option Files) (lists : Option Lists) (sound keeper : Bool) (q 
   unfolding data_steps
   no-adjustments days assets labels bars fault s a l b h =
       record {
-        held = data_held s.file a.file l.file b.file h.rows;
-        are_held = are-held s.file a.file l.file b.file h.rows s.is_told a.is_told l.is_told b.is_told h.are_told;
-        ends = rw (s.means, a.means) (stage-goes_on s.ends (stage-goes_on a.ends (stage-goes_on l.ends (stage-goes_on b.ends (stage-weaker always (λ t. t) h.ends)))));
+        held = data_held s.file a.file l.file b.file revisions_left h.rows;
+        are_held = are-held s.file a.file l.file b.file revisions_left h.rows s.is_told a.is_told l.is_told b.is_told (held-told tells _) h.are_told;
+        ends = rw (s.means, a.means) (stage-goes_on s.ends (stage-goes_on a.ends (stage-goes_on l.ends (stage-goes_on b.ends (stage-stops _ (stage-weaker {U = Unit {0}} always (λ t. t) h.ends))))));
+        days = tt;
+        world = tt;
+      }
+
+  pub no-revisions : (days : List ℤ) (assets : List AssetRow) (labels : LabelTable) (bars : List BarRow) (adjustments : List ColumnAdjustment) (fault : Fault)
+      → DaysRead tells sound q (Ok days) → AssetsRead tells sound q (Ok assets) → LabelsRead tells sound q assets (Ok labels) → BarsRead tells sound q days assets (Ok bars)
+      → AdjustmentsRead lists keeper q assets (Ok adjustments) → RevisionsRead tells sound q days assets adjustments (Err fault)
+      → IsData tells lists sound keeper q (Err fault)
+  unfolding data_steps
+  no-revisions days assets labels bars adjustments fault s a l b j h =
+      record {
+        held = data_held s.file a.file l.file b.file h.file j.rows;
+        are_held = are-held s.file a.file l.file b.file h.file j.rows s.is_told a.is_told l.is_told b.is_told h.is_told j.are_told;
+        ends = rw (s.means, a.means)
+            (stage-goes_on s.ends (stage-goes_on a.ends (stage-goes_on l.ends (stage-goes_on b.ends (stage-goes_on j.ends (stage-weaker (λ t. t) always h.ends))))));
         days = tt;
         world = tt;
       }
 
   -- ---- all was read
 
-  pub all-read : (w : OwnedWorld) → DaysRead tells sound q (Ok w.sessions) → AssetsRead tells sound q (Ok w.assets) → LabelsRead tells sound q w.assets (Ok w.labels)
-      → BarsRead tells sound q w.sessions w.assets (Ok w.bars) → AdjustmentsRead lists keeper q w.assets (Ok w.adjustments)
-      → IsData tells lists sound keeper q (Ok w)
+  pub all-read : (w : OwnedWorld) (adjustments : List ColumnAdjustment) → DaysRead tells sound q (Ok w.sessions) → AssetsRead tells sound q (Ok w.assets)
+      → LabelsRead tells sound q w.assets (Ok w.labels) → BarsRead tells sound q w.sessions w.assets (Ok w.bars) → AdjustmentsRead lists keeper q w.assets (Ok adjustments)
+      → RevisionsRead tells sound q w.sessions w.assets adjustments (Ok w.adjustments) → IsData tells lists sound keeper q (Ok w)
   unfolding data_steps
-  all-read w s a l b h =
+  all-read w adjustments s a l b j h =
       record {
-        held = data_held s.file a.file l.file b.file h.rows;
-        are_held = are-held s.file a.file l.file b.file h.rows s.is_told a.is_told l.is_told b.is_told h.are_told;
-        ends = rw (s.means, a.means) (stage-goes_on s.ends (stage-goes_on a.ends (stage-goes_on l.ends (stage-goes_on b.ends (stage-done h.ends)))));
+        held = data_held s.file a.file l.file b.file h.file j.rows;
+        are_held = are-held s.file a.file l.file b.file h.file j.rows s.is_told a.is_told l.is_told b.is_told h.is_told j.are_told;
+        ends = rw (s.means, a.means)
+            (stage-goes_on s.ends (stage-goes_on a.ends (stage-goes_on l.ends (stage-goes_on b.ends (stage-goes_on j.ends (stage-done h.ends))))));
         days = s.means;
-        world = rw (s.means, a.means, l.means, b.means, h.means) refl;
+        world = rw (s.means, a.means, l.means, b.means, j.means, h.means) refl;
       }

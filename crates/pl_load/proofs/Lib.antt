@@ -2,6 +2,7 @@ pub mod KnownWorlds
 pub mod FileReads
 pub mod ScriptReads
 pub mod TableReads
+pub mod RevisionReads
 pub mod DataReads
 pub mod RunReads
 pub mod PlanReads

@@ -45,6 +45,7 @@ module _ (tells : Option Files) (sound : Bool) (q : PayoutsRequest) where
   files sessions assets bars payouts file.Assets = assets
   files sessions assets bars payouts file.Labels = None
   files sessions assets bars payouts file.Bars = bars
+  files sessions assets bars payouts file.Revisions = None
   files sessions assets bars payouts file.Payouts = payouts
 
   abbrev four : (sessions assets bars payouts : Option (List ℕ)) → Contents
@@ -57,6 +58,7 @@ module _ (tells : Option Files) (sound : Bool) (q : PayoutsRequest) where
   by-file sessions assets bars payouts s a b p file.Assets = a
   by-file sessions assets bars payouts s a b p file.Labels = λ n is. absurd (cc)
   by-file sessions assets bars payouts s a b p file.Bars = b
+  by-file sessions assets bars payouts s a b p file.Revisions = λ n is. absurd (cc)
   by-file sessions assets bars payouts s a b p file.Payouts = p
 
   are-held : (sessions assets bars payouts : Option (List ℕ)) → IsTold q.sessions sessions → IsTold q.assets assets → IsTold q.bars bars → IsTold q.payouts payouts

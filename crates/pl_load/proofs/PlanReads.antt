@@ -6,7 +6,7 @@ use Rattle.pl_outside.specs.Lists.{Lists}
 use Rattle.pl_terms.specs.Checked.{Parts, pipeline_of}
 use Rattle.pl_planner.specs.Plans.{IsPlanOf}
 use Rattle.pl_words.specs.declared.request.InputFile.{InputFile}
-use Rattle.pl_words.specs.declared.request.InputFile.TheVariants.{Pipeline, Sessions, Assets, Labels, Bars, Payouts}
+use Rattle.pl_words.specs.declared.request.InputFile.TheVariants.{Pipeline, Sessions, Assets, Labels, Bars, Revisions, Payouts}
 use Rattle.pl_words.specs.Request.{PlanRequest, Plan, name_asked}
 use Rattle.pl_judge.specs.declared.fault.Fault.{Fault}
 use Rattle.pl_judge.specs.Contents.{Contents, AreHeld}
@@ -37,6 +37,7 @@ module _ (tells : Option Files) (sound : Bool) (q : PlanRequest) where
   files pipeline sessions Assets = None
   files pipeline sessions Labels = None
   files pipeline sessions Bars = None
+  files pipeline sessions Revisions = None
   files pipeline sessions Payouts = None
 
   abbrev two : Option (List ℕ) → Option (List ℕ) → Contents
@@ -49,6 +50,7 @@ module _ (tells : Option Files) (sound : Bool) (q : PlanRequest) where
   by-file pipeline sessions p s Assets = λ n is. absurd (cc)
   by-file pipeline sessions p s Labels = λ n is. absurd (cc)
   by-file pipeline sessions p s Bars = λ n is. absurd (cc)
+  by-file pipeline sessions p s Revisions = λ n is. absurd (cc)
   by-file pipeline sessions p s Payouts = λ n is. absurd (cc)
 
   are-held : (pipeline sessions : Option (List ℕ)) → IsTold q.pipeline pipeline → IsTold q.sessions sessions

@@ -6,7 +6,7 @@ use Rattle.pl_outside.specs.Lists.{Lists}
 use Rattle.pl_model.specs.declared.owned.OwnedWorld.{OwnedWorld}
 use Rattle.pl_terms.specs.Checked.{Parts, pipeline_of}
 use Rattle.pl_words.specs.declared.request.InputFile.{InputFile}
-use Rattle.pl_words.specs.declared.request.InputFile.TheVariants.{Pipeline, Sessions, Assets, Labels, Bars, Payouts}
+use Rattle.pl_words.specs.declared.request.InputFile.TheVariants.{Pipeline, Sessions, Assets, Labels, Bars, Revisions, Payouts}
 use Rattle.pl_planner.specs.Plans.{IsPlanOf}
 use Rattle.pl_words.specs.Request.{RunRequest, Run, name_asked}
 use Rattle.pl_judge.specs.declared.fault.Fault.{Fault}
@@ -34,6 +34,7 @@ file_with pipeline file Sessions = file Sessions
 file_with pipeline file Assets = file Assets
 file_with pipeline file Labels = file Labels
 file_with pipeline file Bars = file Bars
+file_with pipeline file Revisions = file Revisions
 file_with pipeline file Payouts = file Payouts
 
 abbrev held_with : Option (List ℕ) → Contents → Contents
@@ -51,6 +52,7 @@ module _ (tells : Option Files) (lists : Option Lists) (sound keeper : Bool) (q 
   by-file pipeline held p h Assets = h.files_held Assets
   by-file pipeline held p h Labels = h.files_held Labels
   by-file pipeline held p h Bars = h.files_held Bars
+  by-file pipeline held p h Revisions = h.files_held Revisions
   by-file pipeline held p h Payouts = h.files_held Payouts
 
   are-held : (pipeline : Option (List ℕ)) (held : Contents) → ForSome (Some q.pipeline) (λ n. ForSome tells (λ told. pipeline ≡ told n)) → AreHeld tells lists (Some (Run q)) held

@@ -6,11 +6,12 @@ ghost use Rattle.pl_payouts.specs.Payouts.{AreKnown};
 ghost use Rattle.pl_syntax.specs.Scripts.{parsed};
 ghost use Rattle.pl_terms.specs.Checked.{pipeline_of};
 ghost use Rattle.pl_words.specs.declared.request.InputFile.TheVariants as files;
-ghost use Rattle.pl_judge.specs.Held.{script_in, pipeline_in, days_in, assets_in, labels_asked, bars_in, payouts_in};
-ghost use Rattle.pl_judge.specs.Work.{cap_of, read_step, syntax_step, pipeline_steps, sessions_rule, assets_rule, labels_steps, bars_rule, payouts_rule};
+ghost use Rattle.pl_judge.specs.Held.{script_in, pipeline_in, days_in, assets_in, labels_asked, bars_in, revised_asked, payouts_in};
+ghost use Rattle.pl_judge.specs.Work.{cap_of, read_step, syntax_step, pipeline_steps, sessions_rule, assets_rule, labels_steps, bars_rule, revisions_steps, payouts_rule};
 ghost use Rattle.pl_judge.specs.Stages.{IsRisen};
 ghost use Rattle.pl_load.specs.Reads.{IsRead, no_rule};
 
+use pl_adjust::Adjustments;
 use pl_assets::{Assets, Labels};
 use pl_bars::Bars;
 use pl_calendar::Sessions;
@@ -129,6 +130,33 @@ pub fn read_bars<S: Shelf>(
 {
     let bytes = read_input(alloc, shelf, name, InputFile::Bars)?;
     Ok(Bars::read(alloc, &bytes, sessions, assets)?)
+}
+
+/// The adjustments with the revisions of the revisions file of that name; as they are where no name is given.
+pub fn read_revisions<S: Shelf>(
+    alloc: Global,
+    shelf: &mut S,
+    name: Option<&str>,
+    sessions: &Sessions,
+    assets: &Assets,
+    mut adjustments: Adjustments,
+) -> Result<Adjustments, Fault>
+    ensures read { let asked = option_map (λ n. n.now) name.entry in
+        IsRead (S.holds shelf.old) (S.sound shelf.old) asked (revisions_steps sessions.now assets.now asked)
+        (λ held revised. revised_asked sessions.now assets.now adjustments asked held ≡ revised) result }
+    ensures cols { All (λ x. x.col < length assets.now) adjustments
+        → IfOk result (All (λ x. x.col < length assets.now)) }
+    ensures leaves { Leaves S.holds S.sound S.faults shelf.old shelf.new }
+    ensures risen { IfErr result (IsRisen (Rose (S.faults shelf.old) (S.faults shelf.new)) ⊥) }
+{
+    match name {
+        None => Ok(adjustments),
+        Some(name) => {
+            let bytes = read_input(alloc, shelf, name, InputFile::Revisions)?;
+            adjustments.add_revisions(&bytes, sessions, assets)?;
+            Ok(adjustments)
+        }
+    }
 }
 
 /// The payouts of the payouts file of that name.

@@ -8,7 +8,9 @@ ghost use Rattle.pl_model.specs.Worlds.{IsOwned};
 ghost use Rattle.pl_judge.specs.declared.fault.Fault.TheVariants.{Memory};
 ghost use Rattle.pl_load.specs.Loads.{IsData, IsKnown, IsLoad, IsReady};
 
-use crate::inputs::{read_assets, read_bars, read_checked, read_labels, read_sessions};
+use crate::inputs::{
+    read_assets, read_bars, read_checked, read_labels, read_revisions, read_sessions,
+};
 use crate::tables::read_adjustments;
 use pl_judge::{Fault, judge_dates, judge_plan};
 use pl_model::{OwnedWorld, asof_world};
@@ -94,11 +96,19 @@ fn read_world<S: Shelf, K: AdjustKeeper>(
     let labels = read_labels(alloc, shelf, request.options.labels, &assets)?;
     let bars = read_bars(alloc, shelf, request.bars, &sessions, &assets)?;
     let adjustments = read_adjustments(alloc, keeper, request.options.adjustments, &assets)?;
+    let revised = read_revisions(
+        alloc,
+        shelf,
+        request.options.revisions,
+        &sessions,
+        &assets,
+        adjustments,
+    )?;
     Ok(OwnedWorld {
         sessions,
         assets,
         labels,
         bars,
-        adjustments,
+        adjustments: revised,
     })
 }

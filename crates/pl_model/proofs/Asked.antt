@@ -1,5 +1,5 @@
 -- What a term reads may be asked for where the term may.
-use Rattle.std.proofs.Common.{◌≡◌, ℕ, zero, suc, ◌+◌, ◌-◌, ◌<◌, ◌≤◌, ◌==◌, Bool, true, false, ℤ, pos, ◌≤ℤ◌, List, [], ◌∷◌, map, length, Option, Some, None, option_map, slice_get, refl, sym, ◌∙◌, ap, subst, arith}
+use Rattle.std.proofs.Common.{◌≡◌, ℕ, zero, suc, ◌+◌, ◌-◌, ◌<◌, ◌≤◌, ◌==◌, Bool, true, false, ℤ, pos, negsuc, ◌≤ℤ◌, List, [], ◌∷◌, map, length, Option, Some, None, option_map, slice_get, refl, sym, ◌∙◌, ap, subst, arith}
 use Rattle.std.specs.Int.{int_min}
 use Rattle.std.proofs.lemmas.Int.{ints, int_min_is}
 use Rattle.std.proofs.lemmas.Bool.Decides.{nat_tests}
@@ -19,9 +19,9 @@ use Rattle.pl_terms.specs.declared.node.TermId.{TermId}
 use Rattle.pl_terms.specs.declared.node.Input.{Input}
 use Rattle.pl_terms.specs.declared.node.Input.TheVariants as input
 use Rattle.pl_terms.specs.declared.node.Node.{Node}
-use Rattle.pl_terms.specs.declared.kind.TermKind.{TermKind}
-use Rattle.pl_terms.specs.declared.kind.TermKind.TheVariants as kind
-use Rattle.pl_terms.specs.declared.kind.LabelValue.TheVariants as label
+use Rattle.pl_spec.specs.declared.Frequency.{Frequency}
+use Rattle.pl_spec.specs.Periods.{period_start}
+use Rattle.pl_laws.proofs.Lows.{reach-rises, reads_at-within}
 use Rattle.pl_terms.specs.Kinds.{kind_of}
 use Rattle.pl_terms.specs.Nodes.{node_of, graph_of, input_of, number_of}
 use Rattle.pl_terms.specs.Checked.{Parts, pipeline_of, IsChecked}
@@ -56,21 +56,12 @@ below-low f (suc size) m h l = here (m == size) refl (λ k. below-low f size m h
 early : (s n : ℕ) → pos 0 ≤ℤ before (pos s) n → n ≤ s
 early s n h = omega (arith, ints, h)
 
--- a kind of the code reads its inputs on the session itself
-reads-own : (k : TermKind) (days : List ℤ) (d : ℤ) → reads_at days (kind_of k) d ≡ d
-unfolding kind_of
-reads-own (kind.LabelIs (label.Text t)) days d = refl
-reads-own (kind.LabelIs (label.Number n)) days d = refl
-reads-own (kind.LabelIsNot (label.Text t)) days d = refl
-reads-own (kind.LabelIsNot (label.Number n)) days d = refl
-reads-own k days d = refl
-
--- a node reaches back as far as what stands in its places
-record Reaches (days : List ℤ) (g : Graph) (m : spec.Node) (d : ℤ) : Type 0 where
+-- a node reaches back as far as what stands in its places, whose inputs are read on session s
+record Reaches (days : List ℤ) (g : Graph) (m : spec.Node) (s d : ℤ) : Type 0 where
   own : pos 0 ≤ℤ d
-  first : pos 0 ≤ℤ part_reach (input_tree (trees g) (slice_get m.inputs 0)) (reach days (input_tree (trees g) (slice_get m.inputs 0))) m.window d
-  second : pos 0 ≤ℤ part_reach (input_tree (trees g) (slice_get m.inputs 1)) (reach days (input_tree (trees g) (slice_get m.inputs 1))) m.window d
-  third : pos 0 ≤ℤ part_reach (input_tree (trees g) (slice_get m.inputs 2)) (reach days (input_tree (trees g) (slice_get m.inputs 2))) m.window d
+  first : pos 0 ≤ℤ part_reach (input_tree (trees g) (slice_get m.inputs 0)) (reach days (input_tree (trees g) (slice_get m.inputs 0))) m.window s
+  second : pos 0 ≤ℤ part_reach (input_tree (trees g) (slice_get m.inputs 1)) (reach days (input_tree (trees g) (slice_get m.inputs 1))) m.window s
+  third : pos 0 ≤ℤ part_reach (input_tree (trees g) (slice_get m.inputs 2)) (reach days (input_tree (trees g) (slice_get m.inputs 2))) m.window s
   mask : pos 0 ≤ℤ part_reach (number_tree (trees g) m.mask) (reach days (number_tree (trees g) m.mask)) 1 d
   group : pos 0 ≤ℤ part_reach (number_tree (trees g) m.group) (reach days (number_tree (trees g) m.group)) 1 d
 
@@ -83,21 +74,12 @@ reach_list days g m s d =
     ∷ part_reach (number_tree (trees g) m.group) (reach days (number_tree (trees g) m.group)) 1 d
     ∷ []
 
-reaches-of : (days : List ℤ) (g : Graph) (t : ℕ) (m : spec.Node) (d : ℤ) → IsGraph g → slice_get g t ≡ Some m → reads_at days m.kind d ≡ d → pos 0 ≤ℤ reach days (term_at g t) d → Reaches days g m d
+reaches-of : (days : List ℤ) (g : Graph) (t : ℕ) (m : spec.Node) (d : ℤ) → IsGraph g → slice_get g t ≡ Some m → pos 0 ≤ℤ reach days (term_at g t) d → Reaches days g m (reads_at days m.kind d) d
 unfolding reach
-reaches-of days g t m d ok e r h =
+reaches-of days g t m d ok e h =
     let tree = subst (λ x. pos 0 ≤ℤ reach days x d) (term_at-node g t m ok e) h in
     let all = least-low (reach_list days g m (reads_at days m.kind d) d) d tree in
-    let at : (o : _) → pos 0 ≤ℤ part_reach (input_tree (trees g) o) (reach days (input_tree (trees g) o)) m.window (reads_at days m.kind d) → pos 0 ≤ℤ part_reach (input_tree (trees g) o) (reach days (input_tree (trees g) o)) m.window d
-    = λ o q. subst (λ s. pos 0 ≤ℤ part_reach (input_tree (trees g) o) (reach days (input_tree (trees g) o)) m.window s) r q in
-    record {
-      own = all.0;
-      first = at (slice_get m.inputs 0) all.1.0;
-      second = at (slice_get m.inputs 1) all.1.1.0;
-      third = at (slice_get m.inputs 2) all.1.1.1.0;
-      mask = all.1.1.1.1.0;
-      group = all.1.1.1.1.1.0;
-    }
+    record { own = all.0; first = all.1.0; second = all.1.1.0; third = all.1.1.1.0; mask = all.1.1.1.1.0; group = all.1.1.1.1.1.0 }
 
 -- a term of the graph is a node
 pub has-node : (g : Graph) (u : ℕ) → u < length g → (m : spec.Node) × (slice_get g u ≡ Some m)
@@ -135,65 +117,116 @@ one-of (kinds.Downsample f) size e h = grind (arith, nat_tests)
 
 module _ (w : World) (c : Parts) (ok : IsChecked (pipeline_of c)) (t session : ℕ) (asked : IsAsked w c t session) where
   -- a term over the size sessions up to one
-  term-asked : (u size : ℕ) → u < length c.graph → pos 0 ≤ℤ part_reach (term_at (graph_of c.graph) u) (reach w.sessions.now (term_at (graph_of c.graph) u)) size (pos session)
-      → (size ≤ session + 1) × ((n : ℕ) → n < size → IsAsked w c u (session - n))
-  term-asked u size h r =
+  AskedUp : ℕ → ℕ → ℕ → Type 0
+  AskedUp u size r = (size ≤ r + 1) × ((n : ℕ) → n < size → IsAsked w c u (r - n))
+
+  term-asked : (u size r : ℕ) → r ≤ session → u < length c.graph → pos 0 ≤ℤ part_reach (term_at (graph_of c.graph) u) (reach w.sessions.now (term_at (graph_of c.graph) u)) size (pos r) → AskedUp u size r
+  unfolding AskedUp
+  term-asked u size r up h low =
       let m = has-node (graph_of c.graph) u (omega (arith, h, long-graph c.graph)) in
-      let all = least-low (map (λ i. reach w.sessions.now (term_at (graph_of c.graph) u) (before (pos session) i)) (downward size)) (pos session) (subst (λ x. pos 0 ≤ℤ x) (part-node (graph_of c.graph) u size m.0 (reach w.sessions.now (term_at (graph_of c.graph) u)) (pos session) ok.graph m.1) r) in
-      let low : (n : ℕ) → n < size → pos 0 ≤ℤ reach w.sessions.now (term_at (graph_of c.graph) u) (before (pos session) n) = λ n l. below-low (λ i. reach w.sessions.now (term_at (graph_of c.graph) u) (before (pos session) i)) size n all.1 l in
-      let there : (n : ℕ) → n < size → n ≤ session = λ n l. early session n (own-low w.sessions.now (graph_of c.graph) u m.0 (before (pos session) n) ok.graph m.1 (low n l)) in (
+      let f = reach w.sessions.now (term_at (graph_of c.graph) u) in
+      let all = least-low (map (λ i. f (before (pos r) i)) (downward size)) (pos r) (subst (λ x. pos 0 ≤ℤ x) (part-node (graph_of c.graph) u size m.0 f (pos r) ok.graph m.1) low) in
+      let each : (n : ℕ) → n < size → pos 0 ≤ℤ f (before (pos r) n) = λ n l. below-low (λ i. f (before (pos r) i)) size n all.1 l in
+      let there : (n : ℕ) → n < size → n ≤ r = λ n l. early r n (own-low w.sessions.now (graph_of c.graph) u m.0 (before (pos r) n) ok.graph m.1 (each n l)) in (
         some-size size there,
         λ n l. record {
           made = asked.made;
           term = h;
           within = (let a = asked.within in omega arith);
-          reaches = subst (λ d. pos 0 ≤ℤ reach w.sessions.now (term_at (graph_of c.graph) u) d) (before-pos session n (there n l)) (low n l);
+          days = asked.days;
+          reaches = subst (λ d. pos 0 ≤ℤ reach w.sessions.now (term_at (graph_of c.graph) u) d) (before-pos r n (there n l)) (each n l);
         },
       )
     where
-      some-size : (k : ℕ) → ((n : ℕ) → n < k → n ≤ session) → k ≤ session + 1
+      some-size : (k : ℕ) → ((n : ℕ) → n < k → n ≤ r) → k ≤ r + 1
       some-size zero f = omega arith
-      some-size (suc k) f = let l : k ≤ session = f k (omega arith) in omega arith
+      some-size (suc k) f = let l : k ≤ r = f k (omega arith) in omega arith
+
+  -- and so over those up to a later one
+  later-asked : (u size r : ℕ) → r ≤ session → AskedUp u size r → AskedUp u size session
+  unfolding AskedUp
+  later-asked u size r up all = (
+    (let a = all.0 in omega arith),
+    λ n l. let a = all.1 n l in
+        record {
+          made = asked.made;
+          term = a.term;
+          within = (let b = asked.within in omega arith);
+          days = asked.days;
+          reaches = (let low = a.reaches in let rise = reach-rises w.sessions.now asked.days (term_at (graph_of c.graph) u) (pos (r - n)) (pos (session - n)) (omega (arith, ints)) in omega (arith, ints));
+        },
+  )
 
   module _ (n : Node) (is : slice_get c.graph t ≡ Some n) where
     there : slice_get (graph_of c.graph) t ≡ Some (node_of n)
     there = node-there c.graph t n is
 
-    reaches : Reaches w.sessions.now (graph_of c.graph) (node_of n) (pos session)
-    unfolding node_of
-    reaches = reaches-of w.sessions.now (graph_of c.graph) t (node_of n) (pos session) ok.graph there (reads-own n.kind w.sessions.now (pos session)) asked.reaches
+    abbrev read_on : ℤ
+    read_on = reads_at w.sessions.now (node_of n).kind (pos session)
 
-    input-asked : (j : ℕ) (o : Option Input) → slice_get n.inputs j ≡ o
-        → pos 0 ≤ℤ part_reach (input_tree (trees (graph_of c.graph)) (slice_get (node_of n).inputs j)) (reach w.sessions.now (input_tree (trees (graph_of c.graph)) (slice_get (node_of n).inputs j))) n.window (pos session)
-        → IsAskedInput w c o n.window session
-    input-asked j None e r = tt
-    input-asked j (Some (input.Column k)) e r =
-        let q = subst (λ o. pos 0 ≤ℤ part_reach (input_tree (trees (graph_of c.graph)) o) (reach w.sessions.now (input_tree (trees (graph_of c.graph)) o)) n.window (pos session)) (inputs-at n j ∙ ap (option_map input_of) e) r in
-        early session n.window q
-    input-asked j (Some (input.Term u)) e r =
-        let own = inputs-at n j ∙ ap (option_map input_of) e in
-        let q = subst (λ o. pos 0 ≤ℤ part_reach (input_tree (trees (graph_of c.graph)) o) (reach w.sessions.now (input_tree (trees (graph_of c.graph)) o)) n.window (pos session)) own r in
-        let l = (ok.graph.lower t (node_of n) there).inputs j u.0 own in
-        term-asked u.0 n.window (let a = asked.term in omega arith) q
+    reaches : Reaches w.sessions.now (graph_of c.graph) (node_of n) read_on (pos session)
+    reaches = reaches-of w.sessions.now (graph_of c.graph) t (node_of n) (pos session) ok.graph there asked.reaches
+
+    abbrev InputLow : ℕ → ℤ → Type 0
+    InputLow j s = pos 0 ≤ℤ part_reach (input_tree (trees (graph_of c.graph)) (slice_get (node_of n).inputs j)) (reach w.sessions.now (input_tree (trees (graph_of c.graph)) (slice_get (node_of n).inputs j))) n.window s
+
+    at-input : (j : ℕ) (o : Option Input) (s : ℤ) → slice_get n.inputs j ≡ o → InputLow j s
+        → pos 0 ≤ℤ part_reach (input_tree (trees (graph_of c.graph)) (option_map input_of o)) (reach w.sessions.now (input_tree (trees (graph_of c.graph)) (option_map input_of o))) n.window s
+    at-input j o s e low = subst (λ o. pos 0 ≤ℤ part_reach (input_tree (trees (graph_of c.graph)) o) (reach w.sessions.now (input_tree (trees (graph_of c.graph)) o)) n.window s) (inputs-at n j ∙ ap (option_map input_of) e) low
+
+    term-below : (j : ℕ) (u : TermId) → slice_get n.inputs j ≡ Some (input.Term u) → u.0 < length c.graph
+    term-below j u e = let l = (ok.graph.lower t (node_of n) there).inputs j u.0 (inputs-at n j ∙ ap (option_map input_of) e) in let a = asked.term in omega arith
+
+    -- an input on an earlier session
+    input-asked-on : (j : ℕ) (o : Option Input) (r : ℕ) → slice_get n.inputs j ≡ o → r ≤ session → InputLow j (pos r) → IsAskedInput w c o n.window r
+    unfolding AskedUp
+    input-asked-on j None r e up low = tt
+    input-asked-on j (Some (input.Column k)) r e up low = early r n.window (at-input j (Some (input.Column k)) (pos r) e low)
+    input-asked-on j (Some (input.Term u)) r e up low = term-asked u.0 n.window r up (term-below j u e) (at-input j (Some (input.Term u)) (pos r) e low)
+
+    -- of a term no session before the first is asked for
+    term-late : (j : ℕ) (u : TermId) (s : ℤ) → slice_get n.inputs j ≡ Some (input.Term u) → InputLow j s → pos 0 ≤ℤ s
+    term-late j u s e low =
+        let m = has-node (graph_of c.graph) u.0 (omega (arith, term-below j u e, long-graph c.graph)) in
+        let f = reach w.sessions.now (term_at (graph_of c.graph) u.0) in
+        (least-low (map (λ i. f (before s i)) (downward n.window)) s (subst (λ x. pos 0 ≤ℤ x) (part-node (graph_of c.graph) u.0 n.window m.0 f s ok.graph m.1) (at-input j (Some (input.Term u)) s e low))).0
+
+    input-asked : (j : ℕ) (o : Option Input) (s : ℤ) → slice_get n.inputs j ≡ o → s ≤ℤ pos session → InputLow j s → IsAskedInput w c o n.window session
+    unfolding AskedUp
+    input-asked j None s e up low = tt
+    input-asked j (Some (input.Column k)) s e up low = let q = at-input j (Some (input.Column k)) s e low in omega (arith, ints)
+    input-asked j (Some (input.Term u)) (pos r) e up low =
+        let l : r ≤ session = omega (arith, ints) in
+        later-asked u.0 n.window r l (term-asked u.0 n.window r l (term-below j u e) (at-input j (Some (input.Term u)) (pos r) e low))
+    input-asked j (Some (input.Term u)) (negsuc r) e up low = absurd (let q = term-late j u (negsuc r) e low in omega (arith, ints))
+
+    read-early : read_on ≤ℤ pos session
+    read-early = reads_at-within w.sessions.now (node_of n).kind (pos session)
 
     -- each input may be asked for over its window
     pub first-asked : IsAskedInput w c (slice_get n.inputs 0) n.window session
     unfolding node_of
-    first-asked = input-asked 0 (slice_get n.inputs 0) refl reaches.first
+    first-asked = input-asked 0 (slice_get n.inputs 0) read_on refl read-early reaches.first
 
     pub second-asked : IsAskedInput w c (slice_get n.inputs 1) n.window session
     unfolding node_of
-    second-asked = input-asked 1 (slice_get n.inputs 1) refl reaches.second
+    second-asked = input-asked 1 (slice_get n.inputs 1) read_on refl read-early reaches.second
 
     pub third-asked : IsAskedInput w c (slice_get n.inputs 2) n.window session
     unfolding node_of
-    third-asked = input-asked 2 (slice_get n.inputs 2) refl reaches.third
+    third-asked = input-asked 2 (slice_get n.inputs 2) read_on refl read-early reaches.third
+
+    -- and that of a downsampled term on the first session of the period
+    pub start-asked : (f : Frequency) (r : ℕ) → kind_of n.kind ≡ kinds.Downsample f → r ≤ session → pos r ≡ period_start f w.sessions.now (pos session) → IsAskedInput w c (slice_get n.inputs 0) n.window r
+    unfolding node_of
+    start-asked f r e up h = input-asked-on 0 (slice_get n.inputs 0) r refl up (subst (InputLow 0) (ap (λ k. reads_at w.sessions.now k (pos session)) e ∙ sym h) reaches.first)
 
     -- and so may the mask and the group on the session
     option-asked : (o : Option TermId) → ((u : TermId) → o ≡ Some u → u.0 < t) → pos 0 ≤ℤ part_reach (number_tree (trees (graph_of c.graph)) (option_map number_of o)) (reach w.sessions.now (number_tree (trees (graph_of c.graph)) (option_map number_of o))) 1 (pos session)
         → IsAskedOption w c o session
+    unfolding AskedUp
     option-asked None low r = tt
-    option-asked (Some u) low r = let l = low u refl in let e : session - 0 ≡ session = omega arith in subst (λ i. IsAsked w c u.0 i) e ((term-asked u.0 1 (let a = asked.term in omega arith) r).1 0 (omega arith))
+    option-asked (Some u) low r = let l = low u refl in let e : session - 0 ≡ session = omega arith in subst (λ i. IsAsked w c u.0 i) e ((term-asked u.0 1 session (omega arith) (let a = asked.term in omega arith) r).1 0 (omega arith))
 
     low-mask : (u : TermId) → n.mask ≡ Some u → u.0 < t
     unfolding node_of

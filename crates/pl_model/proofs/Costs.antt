@@ -2,8 +2,10 @@
 use Rattle.std.proofs.Common.{◌≡◌, ℕ, zero, suc, ◌+◌, ◌-◌, ◌<◌, true, false, ◌&&◌, if◌then◌else◌, ℤ, pos, List, [], ◌∷◌, length, Option, Some, None, option_map, slice_get, sum_by, refl, sym, ◌∙◌, ap, arith, add-zero}
 use Rattle.std.proofs.lemmas.List.Sums.{sum_by-cons}
 use Rattle.pl_spec.specs.declared.AssetRow.{AssetRow}
+use Rattle.pl_spec.specs.declared.Frequency.{Frequency}
 use Rattle.pl_spec.specs.World.{World as SpecWorld, exists}
 use Rattle.pl_spec.specs.Window.{before, downward}
+use Rattle.pl_spec.specs.Periods.{period_start}
 use Rattle.pl_spec.specs.Kind as kinds
 use Rattle.pl_spec.specs.Kind.{Kind}
 use Rattle.pl_spec.specs.Term as spec
@@ -25,7 +27,7 @@ use Rattle.pl_values.proofs.Cells.{keeps-is}
 use Rattle.pl_values.proofs.Empties.{node-there}
 use Rattle.pl_model.specs.declared.world.World.{World}
 use Rattle.pl_model.specs.Worlds.{world_of}
-use Rattle.pl_model.specs.Evaluations.{Cost, cost, window_cost, session_cost, kind_cost, cost_in, input_cost_in, window_cost_in, input_row_cost_in, optional_cost_in, given_cost_of, given_cost_in, as_input, IsAsked, IsAskedInput}
+use Rattle.pl_model.specs.Evaluations.{Cost, cost, window_cost, session_cost, kind_cost, cost_in, input_cost_in, input_cost_at, window_cost_in, input_row_cost_in, optional_cost_in, given_cost_of, given_cost_in, as_input, IsAsked, IsAskedInput}
 use Rattle.pl_model.proofs.Asked.{inputs-at, has-node, long-graph, first-asked, second-asked, third-asked}
 
 -- ---- sums
@@ -77,6 +79,13 @@ module _ (w : World) (c : Parts) (ok : IsChecked (pipeline_of c)) (t s : ℕ) (a
   input-cost None = refl
   input-cost (Some (input.Column k)) = refl
   input-cost (Some (input.Term u)) = refl
+
+  -- on any session
+  input-cost-at : (o : Option Input) (d : ℤ) → tree_cost (input_tree (trees (graph_of c.graph)) (option_map input_of o)) a d ≡ input_cost_at w c o a d
+  unfolding cost
+  input-cost-at None d = refl
+  input-cost-at (Some (input.Column k)) d = refl
+  input-cost-at (Some (input.Term u)) d = refl
 
   -- over a window
   window-cost : (size : ℕ) (o : Option Input) → ((u : TermId) → o ≡ Some (input.Term u) → u.0 < length (graph_of c.graph)) → IsAskedInput w c o size s
@@ -147,7 +156,7 @@ module _ (w : World) (c : Parts) (ok : IsChecked (pipeline_of c)) (t s : ℕ) (a
   kind-is (kinds.Constant f) = refl
   kind-is (kinds.Label f) = refl
   kind-is (kinds.StaticSids f) = refl
-  kind-is (kinds.Downsample f) = refl
+  kind-is (kinds.Downsample f) = ap (λ o. tree_cost (input_tree (trees (graph_of c.graph)) o) a (period_start f w.sessions.now (pos s))) (inputs-at n 0) ∙ input-cost-at (slice_get n.inputs 0) (period_start f w.sessions.now (pos s))
 
   given-is : given_cost_in w c t a s ≡ given_cost_of w c (kind_of n.kind) n a s
   given-is = rw is refl
@@ -168,3 +177,13 @@ module _ (w : World) (c : Parts) (ok : IsChecked (pipeline_of c)) (t s : ℕ) (a
 
   pub cost-kept : is_kept (world_of w) (pipeline_of c) (a ∷ []) (option_map number_of n.mask) 0 s ≡ true → cost_in w c t a s ≡ input_cost_in w c (as_input n.mask) a s + given_cost_in w c t a s
   cost-kept e = cost-node ∙ ap (λ b. input_cost_in w c (as_input n.mask) a s + (if b then given_cost_in w c t a s else 0)) e
+
+-- a downsampled term takes what its input takes on the first session of the period
+pub start-cost : (w : World) (c : Parts) (t s r a : ℕ) (n : Node) (f : Frequency) → slice_get c.graph t ≡ Some n → kind_of n.kind ≡ kinds.Downsample f → pos r ≡ period_start f w.sessions.now (pos s)
+    → given_cost_in w c t a s ≡ input_cost_in w c (slice_get n.inputs 0) a r
+start-cost w c t s r a n f is e h = rw (is, e) (here (slice_get n.inputs 0))
+  where
+    here : (o : Option Input) → input_cost_at w c o a (period_start f w.sessions.now (pos s)) ≡ input_cost_in w c o a r
+    here None = refl
+    here (Some (input.Column k)) = refl
+    here (Some (input.Term u)) = ap (λ d. input_cost_at w c (Some (input.Term u)) a d) (sym h)

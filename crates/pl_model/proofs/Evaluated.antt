@@ -5,6 +5,8 @@ use Rattle.pl_spec.specs.World.{World as SpecWorld, exists}
 use Rattle.pl_spec.specs.Parts.{sid_at}
 use Rattle.pl_spec.specs.declared.AssetRow.{AssetRow}
 use Rattle.pl_assets.specs.Assets.{sid_of}
+use Rattle.pl_spec.specs.declared.Frequency.{Frequency}
+use Rattle.pl_spec.specs.Periods.{period_start}
 use Rattle.pl_spec.specs.Kind as kinds
 use Rattle.pl_spec.specs.Kind.{Kind, WindowKind, PointKind, LabelKind, CrossKind}
 use Rattle.pl_spec.specs.Term as spec
@@ -28,7 +30,7 @@ use Rattle.pl_values.specs.Inputs.{input_window, AreWindows, IsInputRow, AreRows
 use Rattle.pl_values.specs.Families.{windowed, TakesWindows, sid_flag, label_code, IsCode, code_flag, is_sids, is_point, is_label_test}
 use Rattle.pl_values.specs.Laws.{IsNode}
 use Rattle.pl_values.proofs.Empties.{node-there}
-use Rattle.pl_values.proofs.Given.{unkept-cell, constant-cell, window-cell, point-cell, point-operands, sid-cell, label-cell, label-test-cell, label-input, section-input, window-input}
+use Rattle.pl_values.proofs.Given.{unkept-cell, constant-cell, window-cell, point-cell, point-operands, sid-cell, label-cell, label-test-cell, label-input, section-input, window-input, downsampled-cell, downsampled-input}
 use Rattle.pl_model.specs.declared.world.World.{World}
 use Rattle.pl_model.specs.Worlds.{world_of}
 use Rattle.pl_model.specs.Evaluations.{IsAskedInput, IsKept, as_input, lets_pass, cell_in, input_cell_in, window_in}
@@ -154,6 +156,9 @@ not-windowed (kinds.LabelTest f) e = refl
 not-windowed (kinds.Cross f) e = refl
 not-windowed (kinds.Downsample f) e = refl
 
+pub downsampled-plain : (k : Kind) (f : Frequency) → k ≡ kinds.Downsample f → is_windowed k ≡ false
+downsampled-plain k f e = ap is_windowed e
+
 module _ (w : World) (c : Parts) (ok : IsChecked (pipeline_of c)) (t : ℕ) (n : Node) (is : slice_get c.graph t ≡ Some n) where
   own : IsNode (pipeline_of c) t (node_of n)
   own = record { checked = ok; node = there c ok t n is }
@@ -217,6 +222,15 @@ module _ (w : World) (c : Parts) (ok : IsChecked (pipeline_of c)) (t : ℕ) (n :
           let l = label-test-cell (world_of w) (pipeline_of c) (a ∷ []) t (node_of n) 0 s own f.0 u.0.0 texts f.1 (inputs-at n 0 ∙ ap (option_map input_of) u.1) in
           let same : x ≡ cell_in w c u.0.0 a s = h ∙ ap (λ o. input_cell_in w c o a s) u.1 in
           (subst (IsCode (world_of w).texts) (sym same) l.0, held _ (subst (λ y. cell_of (world_of w) (pipeline_of c) (a ∷ []) t 0 s ≡ chosen (is_kept (world_of w) (pipeline_of c) (a ∷ []) (node_of n).mask 0 s) (code_flag (world_of w).texts (kind_of n.kind) y) (empty_cell (pipeline_of c) t)) (sym same) l.1))
+
+      -- what the input gives on the first session of the period
+      pub start-given : (f : Frequency) (r : ℕ) → kind_of n.kind ≡ kinds.Downsample f → pos r ≡ period_start f w.sessions.now (pos s) → input_cell_in w c (slice_get n.inputs 0) a r ≡ cell_in w c t a s
+      unfolding node_of cell_of
+      start-given f r e h =
+          let x = downsampled-input (pipeline_of c) ok t (node_of n) (there c ok t n is) f e in
+          let u = term-input (slice_get n.inputs 0) x.0 (sym (inputs-at n 0) ∙ x.1) in
+          ap (λ o. input_cell_in w c o a r) u.1
+          ∙ held (cell_in w c u.0.0 a r) (downsampled-cell (world_of w) (pipeline_of c) (a ∷ []) t (node_of n) 0 s own f u.0.0 r e (inputs-at n 0 ∙ ap (option_map input_of) u.1) h)
 
       -- ---- windows
 

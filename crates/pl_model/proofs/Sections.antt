@@ -1,10 +1,10 @@
 -- The rows of a session for all assets, and the cross-section over them.
-use Rattle.std.proofs.Common.{◌≡◌, ℕ, suc, ◌+◌, ◌<◌, Bool, true, false, ◌&&◌, ℤ, pos, List, [], ◌∷◌, ◌++◌, map, filter, length, length-append, inl, inr, get_or, Option, Some, None, option_map, slice_get, All, IfSome, refl, sym, ◌∙◌, ap, subst, arith}
+use Rattle.std.proofs.Common.{◌≡◌, ℕ, suc, ◌+◌, ◌<◌, Bool, true, false, ◌&&◌, ℤ, pos, List, [], ◌∷◌, ◌++◌, map, filter, length, length-append, take, inl, inr, get_or, Option, Some, None, option_map, slice_get, All, IfSome, refl, sym, ◌∙◌, ap, subst, arith}
 use Rattle.std.specs.List.{AllPairs}
 use Rattle.std.proofs.lemmas.Bool.{cases_lt}
 use Rattle.std.proofs.Math.ListN.{get_or-append}
 use Rattle.std.proofs.Math.Seq.{get_or-append_seam}
-use Rattle.std.proofs.lemmas.List.{get_or-map, length-map}
+use Rattle.std.proofs.lemmas.List.{get_or-map, length-map, ext_get_or}
 use Rattle.std.proofs.lemmas.Option.{slice_get-get_or}
 use Rattle.pl_spec.specs.declared.AssetRow.{AssetRow}
 use Rattle.pl_spec.specs.Rounding.{IsCell}
@@ -47,7 +47,7 @@ kept_ones p q (x ∷ xs) h = here (p x) refl (kept_ones p q xs (λ i a e. h (suc
     here true e ih = let f : q x.sid ≡ true = h 0 x refl ∙ e in rw (e, f, ih) refl
     here false e ih = let f : q x.sid ≡ false = h 0 x refl ∙ e in rw (e, f, ih) refl
 
-all_there : (w : SpecWorld) (s : ℕ) → AllPairs (λ x y. x.sid < y.sid) w.assets → HasAll w (map (λ a. a.sid) w.assets) s
+pub all_there : (w : SpecWorld) (s : ℕ) → AllPairs (λ x y. x.sid < y.sid) w.assets → HasAll w (map (λ a. a.sid) w.assets) s
 all_there w s up = here (day_of w (pos s)) refl
   where
     here : (o : Option ℤ) → day_of w (pos s) ≡ o → HasAll w (map (λ a. a.sid) w.assets) s
@@ -190,3 +190,27 @@ some-mapped f P (Some a) h = h
 pub section-end : (f : CrossKind) (xs ks kd : List ℤ) (ls ld : Option (List ℤ)) (i : ℕ) (x v : ℤ) → x ≡ section_at f xs kd ld i → kd ≡ ks → ld ≡ ls
     → section_at f xs ks ls i ≡ v → x ≡ v
 section-end f xs ks kd ls ld i x v e g h l = e ∙ ap (λ r. section_at f xs r ld i) g ∙ ap (λ r. section_at f xs ks r i) h ∙ l
+
+-- what the cross-section gives at each column is the row of the term
+pub row-whole : (w : World) (c : Parts) (t s : ℕ) (row : List ℤ) (none : ℤ) → length row ≡ length w.assets.now
+    → ((i : ℕ) → i < length w.assets.now → get_or row i none ≡ cell_in w c t (sid_at w.assets.now i) s) → row ≡ row_in w c t s
+row-whole w c t s row none long each =
+    let size : length (row_in w c t s) ≡ length w.assets.now = length-map w.assets.now (λ (b : AssetRow). cell_in w c t b.sid s) in
+    ext_get_or none row (row_in w c t s) (long ∙ sym size)
+    (λ i h. let l : i < length w.assets.now = omega (arith, h, long) in
+    each i l ∙ ap (λ a. cell_in w c t a s) (sid-there w.assets.now i l) ∙ sym (get_or-map (λ (b : AssetRow). cell_in w c t b.sid s) w.assets.now i blank none l))
+
+-- one cell of it
+pub row-at : (w : World) (c : Parts) (t s i : ℕ) (row : List ℤ) → row ≡ row_in w c t s → i < length w.assets.now → get_or row i (pos 0) ≡ cell_in w c t (sid_at w.assets.now i) s
+row-at w c t s i row e h =
+    ap (λ r. get_or r i (pos 0)) e ∙ get_or-map (λ (b : AssetRow). cell_in w c t b.sid s) w.assets.now i blank (pos 0) h ∙ ap (λ a. cell_in w c t a s) (sym (sid-there w.assets.now i h))
+
+pub row-length : (w : World) (c : Parts) (t s : ℕ) (row : List ℤ) → row ≡ row_in w c t s → length row ≡ length w.assets.now
+row-length w c t s row e = ap (λ (l : List ℤ). length l) e ∙ length-map w.assets.now (λ (b : AssetRow). cell_in w c t b.sid s)
+
+-- the front of a list
+pub front-taken : (n : ℕ) (xs ys : List ℤ) → length xs ≡ n → take n (xs ++ ys) ≡ xs
+front-taken n [] ys h = let z : n ≡ 0 = omega (arith, h) in rw z refl
+front-taken n (x ∷ xs) ys h =
+    let z : n ≡ suc (length xs) = omega (arith, h) in
+    rw z (ap (λ l. x ∷ l) (front-taken (length xs) xs ys refl))

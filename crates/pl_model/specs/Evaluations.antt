@@ -1,5 +1,5 @@
 -- What a plain evaluation of a term asks for, what it gives, and the steps that it takes.
-use Rattle.std.specs.Prelude.{◌≡◌, ℕ, suc, ◌+◌, ◌-◌, ◌<◌, ◌≤◌, ◌&&◌, if◌then◌else◌, ℤ, pos, ◌≤ℤ◌, List, [], ◌∷◌, map, length, Option, Some, None, option_map, sum_by, slice_get, Bool, true, get_or, All, IfSome}
+use Rattle.std.specs.Prelude.{◌≡◌, ℕ, suc, ◌+◌, ◌-◌, ◌<◌, ◌≤◌, ◌&&◌, if◌then◌else◌, ℤ, pos, ◌≤ℤ◌, List, [], ◌∷◌, map, length, Option, Some, None, option_map, sum_by, slice_get, Bool, true, get_or, All, AllPairs, ◌<ℤ◌, IfSome}
 use Rattle.pl_spec.specs.Rounding.{MISSING, IsCell}
 use Rattle.pl_spec.specs.declared.AssetRow.{AssetRow}
 use Rattle.pl_spec.specs.Parts.{sid_at}
@@ -7,7 +7,8 @@ use Rattle.pl_spec.specs.World as spec
 use Rattle.pl_spec.specs.World.{exists}
 use Rattle.pl_spec.specs.Window.{before, downward}
 use Rattle.pl_spec.specs.Kind.{Kind}
-use Rattle.pl_spec.specs.Kind.Kind.{Window, Point, LabelTest, Cross}
+use Rattle.pl_spec.specs.Kind.Kind.{Window, Point, LabelTest, Cross, Downsample}
+use Rattle.pl_spec.specs.Periods.{period_start}
 use Rattle.pl_spec.specs.Term.{Term, term_at}
 use Rattle.pl_spec.specs.Term.Term.{absent, column, node}
 use Rattle.pl_spec.specs.Formula.{is_true}
@@ -34,6 +35,7 @@ pub record IsAsked (w : World) (c : Parts) (t session : ℕ) : Type 0 where
   pub made : IsMade w
   pub term : t < length c.graph
   pub within : session < length w.sessions.now
+  pub days : AllPairs (λ a b. a <ℤ b) w.sessions.now
   pub reaches : pos 0 ≤ℤ reach w.sessions.now (term_at (graph_of c.graph) t) (pos session)
 
 -- an input over the size sessions up to one
@@ -83,12 +85,14 @@ window_cost w size (node k n x y z m g) f a d = sum_by (λ n. f a (before d n)) 
 abbrev pub session_cost : spec.World → Cost → ℤ → ℕ
 session_cost w f d = sum_by (λ b. f b.sid d) w.assets
 
--- the inputs are evaluated over their windows, on the session, or for all assets, as the kind takes them
+-- the inputs are evaluated over their windows, on the session, for all assets, or on the first session of the
+-- period, as the kind takes them
 abbrev pub kind_cost : spec.World → Kind → Cost → Cost → Cost → Cost → Cost → Cost → Cost → Cost → Cost
 kind_cost w (Window k) wx wy wz x y z m g a d = wx a d + wy a d + wz a d
 kind_cost w (Point k) wx wy wz x y z m g a d = x a d + y a d + z a d
 kind_cost w (LabelTest k) wx wy wz x y z m g a d = x a d
 kind_cost w (Cross k) wx wy wz x y z m g a d = session_cost w x d + session_cost w m d + session_cost w g d
+kind_cost w (Downsample f) wx wy wz x y z m g a d = x a (period_start f w.days d)
 kind_cost w k wx wy wz x y z m g a d = 0
 
 -- First the mask; where the asset exists and passes it, what the kind takes. Each is evaluated anew wherever it
@@ -110,6 +114,11 @@ cost_in w c t a session = cost (world_of w) (pipeline_of c).names (term_at (grap
 abbrev pub input_cost_in : World → Parts → Option Input → ℕ → ℕ → ℕ
 input_cost_in w c (Some (input.Term u)) a session = cost_in w c u.0 a session
 input_cost_in w c o a session = 0
+
+-- on any session
+abbrev pub input_cost_at : World → Parts → Option Input → ℕ → ℤ → ℕ
+input_cost_at w c (Some (input.Term u)) a d = cost (world_of w) (pipeline_of c).names (term_at (graph_of c.graph) u.0) a d
+input_cost_at w c o a d = 0
 
 abbrev pub window_cost_in : World → Parts → ℕ → Option Input → ℕ → ℕ → ℕ
 window_cost_in w c size None a session = 0
@@ -134,6 +143,7 @@ given_cost_of w c (Window k) n a s =
 given_cost_of w c (Point k) n a s = input_cost_in w c (slice_get n.inputs 0) a s + input_cost_in w c (slice_get n.inputs 1) a s + input_cost_in w c (slice_get n.inputs 2) a s
 given_cost_of w c (LabelTest k) n a s = input_cost_in w c (slice_get n.inputs 0) a s
 given_cost_of w c (Cross k) n a s = input_row_cost_in w c (slice_get n.inputs 0) s + optional_cost_in w c n.mask s + optional_cost_in w c n.group s
+given_cost_of w c (Downsample f) n a s = input_cost_at w c (slice_get n.inputs 0) a (period_start f w.sessions.now (pos s))
 given_cost_of w c k n a s = 0
 
 abbrev pub given_cost_at : World → Parts → Option Node → ℕ → ℕ → ℕ

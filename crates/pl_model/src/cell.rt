@@ -14,7 +14,7 @@ use pl_fixed::{Column, Steps};
 use std::sync::ledger::Ledger;
 
 /// Whether the asset in column `col` exists on a session.
-pub(crate) fn exists(world: &World, col: usize, session: usize) -> bool
+pub fn exists(world: &World, col: usize, session: usize) -> bool
     requires col { col < length world.now.assets.now }
     requires session { session < length world.now.sessions.now }
     ensures value { result ≡ exists (world_of world.now)

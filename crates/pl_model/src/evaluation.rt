@@ -63,6 +63,7 @@ pub fn cell_now<L: Ledger>(
     ensures cost { OnOk result (steps.new ≡ steps.old
         + cost_in world.now checked.now t.0 (sid_at world.now.assets.now col) session) }
 {
+    let _sessions = world.sessions.len();
     cell(alloc, world, checked, t, col, session, steps)
 }
 
@@ -130,6 +131,11 @@ fn given<L: Ledger>(
             Ok(label_test_value(&node.kind, world.labels, code))
         }
         Family::Section => section_cell(alloc, world, checked, t, col, session, steps),
+        Family::Downsample(frequency) => {
+            let start = world.sessions.period_start(frequency, session);
+            let input = input_at(node, 0);
+            input_cell(alloc, world, checked, input, col, start, steps)
+        }
     }
 }
 

@@ -10,6 +10,8 @@ mod parts;
 mod world;
 
 pub use asof::asof_world;
+pub use cell::exists;
 pub use evaluation::cell_now;
 pub use owned::OwnedWorld;
+pub use parts::{input_at, label_cell, section_input, section_row};
 pub use world::World;

@@ -1,7 +1,6 @@
 //! What an evaluation reads besides the values of other terms.
 
 ghost use Rattle.std.specs.Prelude.{◌≡◌, ◌+◌, ◌<◌, ◌≤◌, ◌&&◌, [], ◌∷◌, All, IfOk, IfSome, OnOk, Some, length, option_map, pos, slice_get, true};
-ghost use Rattle.pl_spec.specs.Kind.{Kind, CrossKind};
 ghost use Rattle.pl_spec.specs.Parts.{sid_at};
 ghost use Rattle.pl_spec.specs.Rounding.{IsCell};
 ghost use Rattle.pl_spec.specs.Value.{name_at};
@@ -9,28 +8,26 @@ ghost use Rattle.pl_spec.specs.Window.{bar_window};
 ghost use Rattle.pl_spec.specs.Formula.{is_true};
 ghost use Rattle.pl_spec.specs.World.{exists, label_at};
 ghost use Rattle.pl_terms.specs.Checked.{pipeline_of};
-ghost use Rattle.pl_terms.specs.Kinds.{kind_of};
-ghost use Rattle.pl_cross.specs.Arrays.{section_at};
-ghost use Rattle.pl_cross.specs.Listing.{Fits, labels_in};
-ghost use Rattle.pl_cross.specs.Section.{HasParameters, is_section};
+ghost use Rattle.pl_cross.specs.Listing.{labels_in};
+ghost use Rattle.pl_cross.specs.Section.{is_section};
 ghost use Rattle.pl_values.specs.Families.{label_code};
 ghost use Rattle.pl_assets.specs.Assets.{AreAssets};
 ghost use Rattle.pl_model.specs.Worlds.{world_of, IsMade};
 ghost use Rattle.pl_model.specs.WindowSteps.{window_steps};
 ghost use Rattle.pl_model.specs.Evaluations as spec;
-ghost use Rattle.pl_model.specs.Evaluations.{IsAsked, HasKind, cell_in, AreRowsOf, IsKeepRow};
+ghost use Rattle.pl_model.specs.Evaluations.{IsAsked, HasKind, cell_in, row_in, AreRowsOf, IsKeepRow};
 
 use crate::cell::{exists, seen_cell};
 use crate::world::World;
 use pl_cross::Cross;
 use pl_fixed::{Column, Memory, Steps};
-use pl_terms::{Checked, Input, Node, TermId, TermKind};
+use pl_terms::{Checked, Input, Node, TermId};
 use pl_values::{label_value, section_values};
 use std::alloc::Global;
 use std::sync::ledger::Ledger;
 
 /// The input of a node in a place, from 0.
-pub(crate) fn input_at(node: &Node, place: usize) -> Option<Input>
+pub fn input_at(node: &Node, place: usize) -> Option<Input>
     ensures { result ≡ slice_get node.now.inputs place }
 {
     node.inputs.as_slice().get(place).copied()
@@ -85,13 +82,7 @@ pub(crate) fn bars_before<L: Ledger>(
 }
 
 /// The code of the asset's label under a name of the pipeline.
-pub(crate) fn label_cell(
-    world: &World,
-    checked: &Checked,
-    name: u32,
-    col: usize,
-    session: usize,
-) -> i64
+pub fn label_cell(world: &World, checked: &Checked, name: u32, col: usize, session: usize) -> i64
     requires made { IsMade world.now }
     requires name { name < length checked.now.names }
     requires col { col < length world.now.assets.now }
@@ -108,7 +99,7 @@ pub(crate) fn label_cell(
 }
 
 /// The input of a cross-section, which is a term.
-pub(crate) fn section_input(checked: &Checked, t: TermId) -> TermId
+pub fn section_input(checked: &Checked, t: TermId) -> TermId
     requires term { t.0 < length checked.now.graph }
     requires kind { HasKind checked.now t.0 is_section }
     ensures { (n : _) → slice_get checked.now.graph t.0 ≡ Some n
@@ -176,41 +167,38 @@ pub(crate) fn section_at(
         (sid_at world.now.assets.now col) session) }
     ensures cell { IfOk result IsCell }
 {
+    let row = section_row(alloc, world, checked, t, session, values, mask, groups)?;
+    Ok(row[col])
+}
+
+/// A cross-section's cells on a session, asset by asset, over the rows of its input, its mask and its group. The
+/// sessions that the term reaches are of no matter: the rows are given.
+pub fn section_row(
+    alloc: Global,
+    world: &World,
+    checked: &Checked,
+    t: TermId,
+    session: usize,
+    values: &[i64],
+    mask: &Option<Vec<i64>>,
+    groups: &Option<Vec<i64>>,
+) -> Result<Vec<i64>, Memory>
+    requires term { t.0 < length checked.now.graph }
+    requires session { session < length world.now.sessions.now }
+    requires kind { HasKind checked.now t.0 is_section }
+    requires rows { AreRowsOf world.now checked.now t.0 session values.now
+        (option_map (λ m. m.items) mask.now) (option_map (λ m. m.items) groups.now) }
+    ensures row { IfOk result (λ v. v.items ≡ row_in world.now checked.now t.0 session) }
+    ensures cells { IfOk result (λ v. All IsCell v.items) }
+{
     let kind = &checked.graph().node(t).kind;
     let assets = world.assets.len();
     let _rows = world.labels.len();
     let keep = keep_row(alloc, world, session, mask)?;
     let mut cross = Cross::reserve(alloc, assets)?;
     let mut out = vec![in alloc; 0; assets]?;
-    let groups = lent(groups);
-    Ok(section_value(kind, &mut cross, values, &keep, groups, &mut out, col))
-}
-
-// The cross-section at a column; `out` is room for those at all.
-fn section_value(
-    kind: &TermKind,
-    cross: &mut Cross,
-    values: &[i64],
-    keep: &[i64],
-    groups: Option<&[i64]>,
-    out: &mut [i64],
-    col: usize,
-) -> i64
-    requires kind { is_section (kind_of kind.now) ≡ true }
-    requires parameters { HasParameters (kind_of kind.now) }
-    requires room { length values.now ≤ cross.old }
-    requires few { length values.now ≤ 8_000 }
-    requires cells { All IsCell values.now }
-    requires keep { length keep.now ≡ length values.now }
-    requires groups { Fits (length values.now) (labels_in groups) }
-    requires out { length out.old ≡ length values.now }
-    requires col { col < length values.now }
-    ensures value { (k : CrossKind) → kind_of kind.now ≡ Kind.Cross k
-        → result ≡ section_at k values.now keep.now (labels_in groups.entry) col }
-    ensures cell { IsCell result }
-{
-    section_values(kind, cross, values, keep, groups, out);
-    out[col]
+    section_values(kind, &mut cross, values, &keep, lent(groups), &mut out);
+    Ok(out)
 }
 
 fn lent(row: &Option<Vec<i64>>) -> Option<&[i64]>

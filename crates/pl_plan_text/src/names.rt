@@ -96,5 +96,6 @@ pub(crate) fn kind_name(kind: &TermKind) -> &'static str
         TermKind::StartsWith { .. } => "StartsWith",
         TermKind::EndsWith { .. } => "EndsWith",
         TermKind::ElementOf { .. } => "ElementOf",
+        TermKind::Downsample { .. } => "Downsample",
     }
 }

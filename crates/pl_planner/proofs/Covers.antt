@@ -60,7 +60,7 @@ module _ (days : List ℤ) (g : Graph) (k : ℕ) (n : Node) (e : slice_get g k �
       let a : Asked days s n m t r = asked-of days s n m t r reads in
       mention_of_ask days s g k m a.found.0 (t, a.back) (ap (λ o. slice_get (asks_of days s o m) a.found.0) e ∙ a.found.1)
 
-  pub reads-mention : (s r : ℤ) (t : ℕ) → Reads days n s t r → contains (mentions_at g k) t ≡ true
+  reads-mention : (s r : ℤ) (t : ℕ) → Reads days n s t r → contains (mentions_at g k) t ≡ true
   reads-mention (pos s) r t reads = reads-before s 0 t r (let z : pos s ≡ pos s -ℤ pos 0 = omega (arith, ints) in subst (λ d. Reads days n d t r) z reads)
   reads-mention (negsuc s) r t reads = reads-before 0 (suc s) t r (let z : negsuc s ≡ pos 0 -ℤ pos (suc s) = omega (arith, ints) in subst (λ d. Reads days n d t r) z reads)
 

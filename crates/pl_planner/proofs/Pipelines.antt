@@ -1,5 +1,5 @@
 -- What a checked pipeline keeps that plans rest on.
-use Rattle.std.proofs.Common.{◌≡◌, ℕ, zero, suc, ◌<◌, ◌≤◌, ◌==◌, nat_le, true, ℤ, pos, ◌-ℤ◌, unsigned_abs, List, [], ◌∷◌, ◌++◌, length, map, Option, Some, None, slice_get, option_to_list, refl, sym, ◌∙◌, ap, arith, ◌⊎◌, inl}
+use Rattle.std.proofs.Common.{◌≡◌, ℕ, zero, suc, ◌-◌, ◌<◌, ◌≤◌, ◌==◌, nat_le, true, false, ℤ, pos, ◌-ℤ◌, unsigned_abs, List, [], ◌∷◌, ◌++◌, length, map, Option, Some, None, slice_get, option_to_list, refl, sym, ◌∙◌, ap, arith, ◌⊎◌, inl, inr}
 use Rattle.std.proofs.lemmas.Int.{ints}
 use Rattle.std.proofs.lemmas.Bool.{and_parts, true≢false, eqb-true, or_left, eq-eqb}
 use Rattle.std.proofs.lemmas.Bool.Decides.{nat_tests}
@@ -7,20 +7,19 @@ use Rattle.std.proofs.lemmas.Option.{slice_get_within}
 use Rattle.pl_spec.specs.Kind as kind
 use Rattle.pl_spec.specs.Kind.{Kind, WindowKind}
 use Rattle.pl_spec.specs.Table.{Pipeline, NamedColumn}
-use Rattle.pl_spec.specs.Term.{Graph, Node, IsGraph}
-use Rattle.pl_spec.specs.Term.Input.{TermInput}
+use Rattle.pl_spec.specs.declared.Frequency.{Frequency}
+use Rattle.pl_spec.specs.Periods.{period_start}
+use Rattle.pl_spec.specs.Term.{Graph, Node, Input, IsGraph}
+use Rattle.pl_spec.specs.Term.Input.{BarColumn, TermInput}
 use Rattle.pl_spec.specs.Graph.{contains, reads_at}
-use Rattle.pl_terms.specs.Sorts.{has_window, window_fits, is_window_from, has_parameters, sort_at, Filters}
+use Rattle.pl_terms.specs.Sorts.{has_window, window_fits, is_window_from, sort_at, Filters, places, all_fit, AnyTerm, is_downsampled}
 use Rattle.pl_terms.specs.Checked.{IsChecked}
 use Rattle.pl_terms.specs.Uses.{outputs}
 use Rattle.pl_terms.specs.Nodes.{graph_of, node_of}
-use Rattle.pl_terms.specs.Kinds.{kind_of, is_kind, is_not_kind}
-use Rattle.pl_terms.specs.declared.kind.TermKind.{TermKind}
-use Rattle.pl_terms.specs.declared.kind.TermKind.TheVariants as kinds
-use Rattle.pl_terms.specs.declared.kind.LabelValue.{LabelValue}
-use Rattle.pl_terms.specs.declared.kind.LabelValue.TheVariants as labels
+use Rattle.pl_terms.specs.Kinds.{kind_of}
 use Rattle.pl_terms.specs.declared.node.Node as code
 use Rattle.pl_planner.specs.Extra.{back_from}
+use Rattle.pl_planner.proofs.Moved.{early-still}
 
 abbrev Fits : ℕ → Type 0
 Fits w = (1 ≤ w) × (w ≤ 1260)
@@ -57,11 +56,22 @@ kind-fits k w e = exactly 1 w (omega arith) (omega arith) e
 abbrev pub ReadsTerms : Node → Type 0
 ReadsTerms n = ((days : List ℤ) (s : ℤ) → reads_at days n.kind s ≡ s) ⊎ ((t : ℕ) × (slice_get n.inputs 0 ≡ Some (TermInput t)))
 
--- no kind that the language has reads its inputs by the calendar
-reads-now : (k : Kind) (w names : ℕ) → has_parameters k w names ≡ true → (days : List ℤ) (s : ℤ) → reads_at days k s ≡ s
-unfolding has_parameters
-reads-now (kind.Downsample f) w names e days s = absurd (true≢false (sym e))
-reads-now k w names e days s = refl
+-- a term that isn't downsampled reads its inputs on the session itself
+pub reads-now : (k : Kind) → is_downsampled k ≡ false → (days : List ℤ) (s : ℤ) → reads_at days k s ≡ s
+reads-now (kind.Downsample f) e days s = absurd (true≢false e)
+reads-now (kind.Constant c) e days s = refl
+reads-now k e days s = refl
+
+downsampled-input : (g : Graph) (is : List Input) → all_fit g (AnyTerm ∷ []) is ≡ true → (t : ℕ) × (slice_get is 0 ≡ Some (TermInput t))
+downsampled-input g [] h = absurd (let no : false ≡ true = h in cc)
+downsampled-input g (BarColumn c ∷ is) h = absurd (let no : false ≡ true = h in cc)
+downsampled-input g (TermInput t ∷ is) h = (t, refl)
+
+reads-terms : (g : Graph) (k : Kind) (is : List Input) → all_fit g (places k) is ≡ true → ((days : List ℤ) (s : ℤ) → reads_at days k s ≡ s) ⊎ ((t : ℕ) × (slice_get is 0 ≡ Some (TermInput t)))
+unfolding places
+reads-terms g (kind.Downsample f) is h = inr (downsampled-input g is h)
+reads-terms g (kind.Constant c) is h = inl (λ days s. refl)
+reads-terms g k is h = inl (λ days s. refl)
 
 pub record IsPipeline (g : Graph) (outs : List ℕ) : Type 0 where
   pub graph : IsGraph g
@@ -69,7 +79,6 @@ pub record IsPipeline (g : Graph) (outs : List ℕ) : Type 0 where
   pub outputs_in : (i o : ℕ) → slice_get outs i ≡ Some o → o < length g
   pub windows : (k : ℕ) (n : Node) → slice_get g k ≡ Some n → (1 ≤ n.window) × (n.window ≤ 1260)
   pub reads : (k : ℕ) (n : Node) → slice_get g k ≡ Some n → ReadsTerms n
-  pub now : (days : List ℤ) (k : ℕ) (n : Node) (s : ℤ) → slice_get g k ≡ Some n → reads_at days n.kind s ≡ s
 
 columns-in : (g : Graph) (cs : List NamedColumn) (screen : Option ℕ) → ((i : ℕ) (c : NamedColumn) → slice_get cs i ≡ Some c → c.term < length g)
     → ((t : ℕ) → screen ≡ Some t → t < length g) → (i o : ℕ) → slice_get (map (λ (c : NamedColumn). c.term) cs ++ option_to_list screen) i ≡ Some o → o < length g
@@ -96,8 +105,7 @@ is-pipeline p c = record {
   some_output = first-output p.columns (option_to_list p.screen) c.some_column;
   outputs_in = columns-in p.graph p.columns p.screen c.columns (λ t e. sort-within p.graph t (c.screen t e));
   windows = λ k n e. kind-fits n.kind n.window (c.nodes k n e).window;
-  reads = λ k n e. inl (reads-now n.kind n.window (length p.names) (c.nodes k n e).parameters);
-  now = λ days k n s e. reads-now n.kind n.window (length p.names) (c.nodes k n e).parameters days s;
+  reads = λ k n e. reads-terms p.graph n.kind n.inputs (c.nodes k n e).inputs;
 }
 
 -- ---- the nodes of the code
@@ -126,23 +134,21 @@ window-is n = refl
 pub graph-few : (ns : List code.Node) → length ns ≤ 256 → length (graph_of ns) ≤ 256
 graph-few ns h = let e = graph-long ns in omega arith
 
--- the kinds of the code read their inputs on the session itself
-reads-own : (days : List ℤ) (k : TermKind) (d : ℤ) → reads_at days (kind_of k) d ≡ d
-unfolding kind_of
-reads-own days (kinds.LabelIs l) d = of_text l
-  where
-    of_text : (l : LabelValue) → reads_at days (is_kind l) d ≡ d
-    of_text (labels.Text t) = refl
-    of_text (labels.Number n) = refl
-reads-own days (kinds.LabelIsNot l) d = of_text l
-  where
-    of_text : (l : LabelValue) → reads_at days (is_not_kind l) d ≡ d
-    of_text (labels.Text t) = refl
-    of_text (labels.Number n) = refl
-reads-own days k d = refl
+-- ---- how far back a node reads
 
-pub back-own : (days : List ℤ) (s : ℕ) (n : code.Node) (m : ℕ) → m ≡ back_from days s (node_of n).kind m
+pub back-own : (days : List ℤ) (s : ℕ) (n : code.Node) (m : ℕ) → is_downsampled (kind_of n.kind) ≡ false → m ≡ back_from days s (node_of n).kind m
 unfolding node_of
-back-own days s n m =
+back-own days s n m h =
     let e : pos s -ℤ (pos s -ℤ pos m) ≡ pos m = omega (arith, ints) in
-    sym (ap (λ z. unsigned_abs (pos s -ℤ z)) (reads-own days n.kind (pos s -ℤ pos m)) ∙ ap unsigned_abs e)
+    sym (ap (λ z. unsigned_abs (pos s -ℤ z)) (reads-now (kind_of n.kind) h days (pos s -ℤ pos m)) ∙ ap unsigned_abs e)
+
+pub back-early : (days : List ℤ) (s : ℕ) (f : Frequency) (m : ℕ) → s < m → m ≡ back_from days s (kind.Downsample f) m
+back-early days s f m l =
+    let e : pos s -ℤ (pos s -ℤ pos m) ≡ pos m = omega (arith, ints) in
+    sym (ap (λ z. unsigned_abs (pos s -ℤ z)) (early-still days (kind.Downsample f) (pos s -ℤ pos m) (omega (arith, ints))) ∙ ap unsigned_abs e)
+
+pub back-start : (days : List ℤ) (s : ℕ) (f : Frequency) (m r : ℕ) → m ≤ s → r ≤ s - m → pos r ≡ period_start f days (pos (s - m)) → s - r ≡ back_from days s (kind.Downsample f) m
+back-start days s f m r l within h =
+    let at : pos s -ℤ pos m ≡ pos (s - m) = omega (arith, ints) in
+    let e : pos s -ℤ pos r ≡ pos (s - r) = omega (arith, ints) in
+    sym (ap (λ z. unsigned_abs (pos s -ℤ period_start f days z)) at ∙ ap (λ z. unsigned_abs (pos s -ℤ z)) (sym h) ∙ ap unsigned_abs e)

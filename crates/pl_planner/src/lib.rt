@@ -13,3 +13,4 @@ mod uses;
 
 pub use planning::plan;
 pub use plans::{Plan, PlanError};
+pub use uses::back_from;

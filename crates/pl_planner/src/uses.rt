@@ -1,5 +1,6 @@
 // Which terms are used, how far back, and by which term last: told from the users down to their inputs.
 ghost use Rattle.std.specs.Prelude.{◌≡◌, ℕ, All, IfSome, option_map, option_to_list, replicate, ◌+◌, ◌<◌, ◌≤◌, ◌^◌, IfOk, length, map, slice_set, filter_map, fold, get_or};
+ghost use Rattle.pl_spec.specs.Kind.Kind.{Downsample};
 ghost use Rattle.pl_spec.specs.Term.{MentionsBelow};
 ghost use Rattle.pl_terms.specs.Checked.{columns_of, pipeline_of};
 ghost use Rattle.pl_terms.specs.Nodes.{input_of, node_of, number_of};
@@ -9,7 +10,8 @@ ghost use Rattle.pl_planner.specs.Uses.{AreUses, HaveExtras, all_asked, all_mark
 
 use crate::pipeline::{count, node_at};
 use pl_calendar::Sessions;
-use pl_terms::{Checked, Input, Node, TermId};
+use pl_spec::Frequency;
+use pl_terms::{Checked, Input, Node, TermId, frequency_of};
 use std::alloc::{AllocError, Global};
 
 /// What the used terms ask of a term.
@@ -57,15 +59,29 @@ fn ask(uses: &mut [Use], term: TermId, by: usize, extra: usize)
     };
 }
 
+// The same for a downsampled term, which reads the first session of the period; before the calendar there
+// are no periods.
+fn back_to_start(sessions: &Sessions, frequency: Frequency, session: usize, extra: usize) -> usize
+    requires { session < length sessions.now }
+    ensures { result ≡ back_from sessions.now session (Downsample frequency) extra }
+{
+    if extra > session {
+        return extra;
+    }
+    session - sessions.period_start(frequency, session - extra)
+}
+
 /// How many sessions before a session a node reads its inputs, up to which its windows go, where it is
 /// computed `extra` sessions before that session.
 #[tactic(auto, unfolding(pl_terms::specs::Nodes::node_of))]
-pub(crate) fn back_from(sessions: &Sessions, node: &Node, session: usize, extra: usize) -> usize
+pub fn back_from(sessions: &Sessions, node: &Node, session: usize, extra: usize) -> usize
     requires { session < length sessions.now }
     ensures { result ≡ back_from sessions.now session (node_of node.now).kind extra }
 {
-    let _count = sessions.len();
-    extra
+    match frequency_of(&node.kind) {
+        Some(frequency) => back_to_start(sessions, frequency, session, extra),
+        None => extra,
+    }
 }
 
 fn ask_input(uses: &mut [Use], input: Input, window: u32, by: usize, back: usize)

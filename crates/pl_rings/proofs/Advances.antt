@@ -1,19 +1,18 @@
 -- One day on the rings of a column.
-use Rattle.std.proofs.Common.{◌≡◌, ℕ, zero, suc, ◌+◌, ◌-◌, ◌*◌, ◌<◌, ◌≤◌, subst, Bool, true, false, nat_lt, if◌then◌else◌, ℤ, pos, List, [], ◌∷◌, ◌++◌, length, map, take, drop, get_or, Option, Some, None, refl, sym, ◌∙◌, ap, arith, length-append, All, AllPairs, ◌⊎◌, inl, inr}
+use Rattle.std.proofs.Common.{◌≡◌, ℕ, zero, suc, ◌+◌, ◌-◌, ◌<◌, ◌≤◌, subst, Bool, true, false, nat_lt, if◌then◌else◌, ℤ, pos, List, [], ◌∷◌, ◌++◌, length, map, take, drop, get_or, Some, None, refl, sym, ◌∙◌, ap, arith, length-append, All, inl, inr}
 use Rattle.std.proofs.Math.Seq.{take-append_seam}
-use Rattle.std.proofs.lemmas.Bool.{cases_eq, cases_lt}
+use Rattle.std.proofs.lemmas.Bool.{cases_lt}
 use Rattle.std.proofs.lemmas.Bool.Decides.{nat_tests}
-use Rattle.std.proofs.lemmas.List.{get_or-drop, get_or_append_left, get_or_push, length-drop, length-map}
+use Rattle.std.proofs.lemmas.List.{get_or-drop, get_or_append_left, get_or_push, length-drop}
 use Rattle.std.proofs.lemmas.List.Elements.{All-from_get_or}
 use Rattle.circular_buffer.specs.Buffer.{buffer, keep_last}
 use Rattle.pl_spec.specs.declared.Column.{Column}
-use Rattle.pl_spec.specs.Rounding.{MISSING, IsCell}
-use Rattle.pl_spec.specs.Window.{after_all, downward}
+use Rattle.pl_spec.specs.Rounding.{IsCell}
 use Rattle.pl_rings.specs.declared.day.DayBar.{DayBar}
 use Rattle.pl_rings.specs.declared.day.DayEvent.{DayEvent}
 use Rattle.pl_rings.specs.declared.rings.Rings.{Rings}
 use Rattle.pl_rings.specs.Days.{Start, FedDay, IsStart, AreFed, cell_brought, events_at, day_back, day_window}
-use Rattle.pl_rings.specs.Rings.{acting, bar_ring, changed_cells, known_days}
+use Rattle.pl_rings.specs.Rings.{bar_ring, changed_cells, known_days}
 use Rattle.pl_rings.specs.Changes.{Ring, AreRings, IsRing, ring_at, pushed, changed, column_event, HoldBars, Brings, FollowBars}
 use Rattle.pl_rings.proofs.Moves.{bars_move, slides, ends}
 use Rattle.pl_rings.proofs.Cells.{length-known}

@@ -1,18 +1,18 @@
 -- Fresh rings stand for no day.
-use Rattle.std.proofs.Common.{◌≡◌, ℕ, zero, suc, ◌<◌, Bool, false, nat_lt, ℤ, List, [], ◌∷◌, map, Option, None, replicate, length, ap, sym, refl, ◌∙◌, arith, subst}
+use Rattle.std.proofs.Common.{◌≡◌, ℕ, ◌<◌, false, nat_lt, ℤ, List, [], ◌∷◌, map, None, replicate, length, ap, sym, refl, ◌∙◌, arith, subst}
 use Rattle.std.proofs.lemmas.List.{get_or-replicate, length-replicate}
 use Rattle.std.proofs.lemmas.Bool.Decides.{nat_tests}
 use Rattle.circular_buffer.specs.Buffer.{buffer}
 use Rattle.pl_spec.specs.Rounding.{MISSING}
 use Rattle.pl_spec.specs.Window.{downward}
-use Rattle.pl_rings.specs.Days.{Start, FedDay, day_back, day_window}
+use Rattle.pl_rings.specs.Days.{Start, day_back, day_window}
 use Rattle.pl_rings.specs.Rings.{known_days}
 use Rattle.pl_spec.specs.declared.Column.{Column}
 use Rattle.pl_spec.specs.declared.Column.TheVariants.{OpenPrice, High, Low, Close, Volume}
 use Rattle.pl_rings.specs.declared.rings.Rings.{Rings}
 use Rattle.pl_rings.specs.Changes.{Ring, AreRings, HoldBars, ring_at}
 use Rattle.pl_rings.specs.Columns.{BeginRings}
-use Rattle.pl_rings.proofs.Moves.{bar_rings_move, length-downward}
+use Rattle.pl_rings.proofs.Moves.{bar_rings_move}
 
 pub fresh_bars : (assets capacity : ℕ) (rings : List Ring) → rings ≡ replicate assets (buffer (replicate capacity MISSING) capacity) → BeginRings assets capacity rings
 fresh_bars assets capacity rings is g c long =

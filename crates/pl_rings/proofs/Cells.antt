@@ -1,19 +1,18 @@
 -- Lists of cells and of rings, by place.
-use Rattle.std.proofs.Common.{◌≡◌, ℕ, zero, suc, ◌+◌, ◌-◌, ◌*◌, ◌<◌, ◌≤◌, ◌==◌, subst, Bool, true, false, cond, if◌then◌else◌, nat_lt, min, ℤ, pos, List, [], ◌∷◌, ◌++◌, length, map, filter, filter_map, find, take, drop, get_or, slice_set, inl, inr, Option, Some, None, option_map, option_to_list, unwrap_or, refl, sym, ◌∙◌, ap, arith, length-append, All, AllPairs}
+use Rattle.std.proofs.Common.{◌≡◌, ℕ, zero, suc, ◌+◌, ◌-◌, ◌*◌, ◌<◌, ◌≤◌, ◌==◌, Bool, true, false, cond, if◌then◌else◌, nat_lt, min, ℤ, pos, List, [], ◌∷◌, ◌++◌, length, map, find, take, get_or, slice_set, inl, inr, Option, Some, None, option_map, option_to_list, unwrap_or, refl, sym, ◌∙◌, ap, arith, length-append, AllPairs}
 use Rattle.std.specs.Option.{option_or}
-use Rattle.std.proofs.Math.Path.{fun_ext}
 use Rattle.std.proofs.Math.Nat.{add-mul}
 use Rattle.std.proofs.lemmas.Bool.{cases_eq, eq-eqb, eqb-true, ne_eqb}
 use Rattle.std.proofs.lemmas.Bool.Decides.{nat_tests}
-use Rattle.std.proofs.lemmas.List.{ext_get_or, get_or-map, length-map, map-append, append-nil, take_more, get_or-take, length-take-le, get_or-set_same, get_or-set_other, length-set}
+use Rattle.std.proofs.lemmas.List.{ext_get_or, map-append, append-nil, take_more, get_or-take, length-take-le, get_or-set_same, get_or-set_other, length-set}
 use Rattle.std.proofs.lemmas.List.Elements.{filter-append, filter_map-append}
 use Rattle.std.proofs.lemmas.List.Folds.{find-append}
 use Rattle.std.proofs.lemmas.List.Sums.{fold-append}
 use Rattle.circular_buffer.specs.Buffer.{buffer}
 use Rattle.pl_spec.specs.declared.AdjustmentKind.{AdjustmentKind}
 use Rattle.pl_spec.specs.declared.Column.{Column}
-use Rattle.pl_spec.specs.Rounding.{MISSING, IsCell, Fraction}
-use Rattle.pl_spec.specs.Window.{Effect, after_all, changed as change, effect, change_effect, factor, same_column, step_count}
+use Rattle.pl_spec.specs.Rounding.{MISSING, Fraction}
+use Rattle.pl_spec.specs.Window.{Effect, after_all, changed as change, effect, change_effect, factor, step_count}
 use Rattle.pl_spec.specs.World.{Event, Change}
 use Rattle.pl_spec.specs.World.Change.{Scale, Overwrite}
 use Rattle.pl_bars.specs.Bars.{cell_of}

@@ -1,26 +1,22 @@
 -- The world of the days that were fed.
-use Rattle.std.proofs.Common.{◌≡◌, ℕ, zero, suc, ◌+◌, ◌-◌, ◌<◌, ◌≤◌, Bool, true, false, ◌&&◌, ◌==◌, cond, ℤ, pos, negsuc, ◌<ℤ◌, ◌≤ℤ◌, List, [], ◌∷◌, ◌++◌, length, map, filter, find, get_or, slice_get, Option, Some, None, option_map, unwrap_or, refl, sym, ◌∙◌, ap, arith, inl, inr, length-append, All, AllPairs}
+use Rattle.std.proofs.Common.{◌≡◌, ℕ, suc, ◌+◌, ◌<◌, Bool, true, false, ◌&&◌, ◌==◌, ℤ, pos, negsuc, ◌<ℤ◌, ◌≤ℤ◌, List, [], ◌∷◌, ◌++◌, length, map, filter, find, get_or, Option, Some, None, option_map, unwrap_or, refl, sym, ◌∙◌, ap, arith, length-append, All, AllPairs}
 use Rattle.std.specs.Option.{option_or}
 use Rattle.std.specs.List.{list_any}
-use Rattle.std.specs.Int.RustNames.{int_le}
 use Rattle.std.proofs.lemmas.Int.{ints}
 use Rattle.std.proofs.lemmas.Bool.{eqb-true, ne_eqb}
-use Rattle.std.proofs.lemmas.Bool.Decides.{nat_tests}
 use Rattle.std.proofs.lemmas.List.{map-append, append-nil}
 use Rattle.circular_buffer.proofs.Places.{slice_get-append_left, slice_get-append_right}
 use Rattle.std.proofs.lemmas.List.Kept.{AllPairs-cons, AllPairs-filter}
 use Rattle.std.proofs.lemmas.List.Elements.{All-append, All-cons, All-map, filter-append, filter_passes}
 use Rattle.std.proofs.lemmas.List.Folds.{find-append}
-use Rattle.pl_spec.specs.declared.AssetRow.{AssetRow}
 use Rattle.pl_spec.specs.declared.BarRow.{BarRow}
 use Rattle.pl_spec.specs.declared.Column.{Column}
-use Rattle.pl_spec.specs.Agree.{Agree, is_known, has_started}
-use Rattle.pl_spec.specs.Parts.{ColumnAdjustment, AreFor, bar_of, adjustment_of, sid_at, world_of}
+use Rattle.pl_spec.specs.Agree.{Agree, is_known}
+use Rattle.pl_spec.specs.Parts.{ColumnAdjustment, AreFor, bar_of, adjustment_of, sid_at}
 use Rattle.pl_spec.specs.Rounding.{MISSING}
-use Rattle.pl_spec.specs.World.{World, IsWorld, Bar, Event, cell_of, cell_in, bar_cell, events_of, day_of, exists, lives_on}
+use Rattle.pl_spec.specs.World.{Bar, Event, cell_of, bar_cell, events_of, day_of, exists, lives_on}
 use Rattle.pl_rings.proofs.PartsWorld.{parts_are_a_world}
-use Rattle.pl_rings.specs.declared.day.DayBar.{DayBar}
-use Rattle.pl_rings.specs.Days.{Start, FedDay, fed, bar_row, bars_behind, days_of, bars_of, adjustments_of, last_session, last_day, IsStart, IsLaterThan, MayFollow, AreFed}
+use Rattle.pl_rings.specs.Days.{Start, FedDay, fed, bar_row, bars_behind, days_of, bars_of, adjustments_of, last_day, IsStart, IsLaterThan, AreFed}
 use Rattle.pl_rings.specs.Laws.{FedIsAWorld, FedAgrees}
 
 -- ---- lists

@@ -1,30 +1,27 @@
 -- What one more day does to the rings of bar columns.
-use Rattle.std.proofs.Common.{◌≡◌, ℕ, zero, suc, ◌+◌, ◌-◌, ◌<◌, ◌≤◌, Bool, true, false, ◌&&◌, ◌==◌, cond, ℤ, pos, negsuc, ◌<ℤ◌, ◌≤ℤ◌, ◌+ℤ◌, List, [], ◌∷◌, ◌++◌, length, map, filter, filter_map, find, drop, replicate, get_or, slice_get, Option, Some, None, option_map, unwrap_or, refl, sym, ◌∙◌, ap, arith, inl, inr, length-append, All, AllPairs}
+use Rattle.std.proofs.Common.{◌≡◌, ℕ, zero, suc, ◌+◌, ◌-◌, ◌<◌, ◌≤◌, Bool, true, false, ◌&&◌, ◌==◌, cond, ℤ, pos, negsuc, ◌<ℤ◌, ◌≤ℤ◌, ◌+ℤ◌, List, [], ◌∷◌, ◌++◌, length, map, filter, filter_map, find, drop, replicate, get_or, Option, Some, None, option_map, unwrap_or, refl, sym, ◌∙◌, ap, arith, length-append, All}
 use Rattle.std.specs.Option.{option_or}
-use Rattle.std.specs.List.{list_any}
 use Rattle.std.specs.Int.RustNames.{int_le, int_lt}
 use Rattle.std.proofs.Math.Path.{fun_ext}
 use Rattle.std.proofs.lemmas.Int.{ints}
 use Rattle.std.proofs.lemmas.Bool.{eq-eqb, ne_eqb}
-use Rattle.std.proofs.lemmas.Bool.Decides.{nat_tests}
-use Rattle.std.proofs.lemmas.List.{map-append, append-nil, length-map, drop-map}
+use Rattle.std.proofs.lemmas.List.{map-append, length-map, drop-map}
 use Rattle.std.proofs.lemmas.Option.{slice_get-get_or}
 use Rattle.std.proofs.lemmas.List.Elements.{All-map, All-filter, filter-append, filter_map-append}
 use Rattle.std.proofs.lemmas.List.Folds.{find-append}
 use Rattle.std.proofs.lemmas.List.Sums.{fold-append}
 use Rattle.circular_buffer.specs.Buffer.{keep_last}
 use Rattle.circular_buffer.proofs.Places.{slice_get-append_left, slice_get-append_right}
-use Rattle.pl_spec.specs.declared.BarRow.{BarRow}
 use Rattle.pl_spec.specs.declared.Column.{Column}
 use Rattle.pl_spec.specs.Agree.{Agree}
-use Rattle.pl_spec.specs.Parts.{ColumnAdjustment, bar_of, adjustment_of, sid_at}
+use Rattle.pl_spec.specs.Parts.{ColumnAdjustment, sid_at}
 use Rattle.pl_spec.specs.Rounding.{MISSING}
 use Rattle.pl_spec.specs.World.{World, Event, bar_cell, events_of, day_of}
-use Rattle.pl_spec.specs.Window.{effect, changed, is_between, after_all, before, bar_window, downward, effects_in, effects_from, seen_cell}
+use Rattle.pl_spec.specs.Window.{effect, changed, is_between, after_all, before, downward, effects_in, effects_from, seen_cell}
 use Rattle.pl_bars.specs.Bars.{cell_of, is_at, cell_at}
 use Rattle.pl_bars.proofs.BarWorlds.{cells_raw}
 use Rattle.pl_rings.specs.declared.day.DayBar.{DayBar}
-use Rattle.pl_rings.specs.Days.{Start, FedDay, fed, bar_row, bars_behind, days_of, bars_of, adjustments_of, last_session, last_day, IsStart, IsLaterThan, MayFollow, AreFed, cell_brought, events_at, day_back, day_window}
+use Rattle.pl_rings.specs.Days.{Start, FedDay, fed, bar_row, days_of, bars_of, adjustments_of, IsStart, AreFed, cell_brought, events_at, day_back, day_window}
 use Rattle.pl_rings.specs.Rings.{acting, bar_ring, changed_cells}
 use Rattle.pl_rings.specs.Laws.{BarRingsMove, DaysAreFed}
 use Rattle.pl_rings.proofs.Fed.{all_before, parts_fit, agrees, length-days, sessions_below, find-miss}

@@ -1,5 +1,5 @@
 -- What terms were worth stays.
-use Rattle.std.proofs.Common.{◌≡◌, ℕ, zero, suc, ℤ, pos, negsuc, ◌≤ℤ◌, List, [], ◌∷◌, length, refl, sym, ◌∙◌, ap, arith}
+use Rattle.std.proofs.Common.{◌≡◌, ℕ, pos, negsuc, ◌≤ℤ◌, List, [], ◌∷◌, length, refl, sym, ◌∙◌, ap, arith}
 use Rattle.std.proofs.lemmas.Int.{ints}
 use Rattle.pl_spec.specs.Rounding.{MISSING}
 use Rattle.pl_spec.specs.Term.{Term}
@@ -9,7 +9,7 @@ use Rattle.pl_spec.specs.Value.Value.{Number}
 use Rattle.pl_spec.specs.Window.{before}
 use Rattle.pl_spec.specs.World.{World}
 use Rattle.pl_laws.proofs.Law.{values_agree}
-use Rattle.pl_rings.specs.Days.{Start, FedDay, fed, IsStart, AreFed, last_session}
+use Rattle.pl_rings.specs.Days.{fed}
 use Rattle.pl_rings.specs.Laws.{ValuesStay}
 use Rattle.pl_rings.proofs.Fed.{agrees, fed_is_a_world}
 use Rattle.pl_rings.proofs.Moves.{below_none}

@@ -1,6 +1,6 @@
 -- Days as they are fed, one after the other, and the world that they make. A list of days has the latest in
 -- front.
-use Rattle.std.specs.Prelude.{◌≡◌, ℕ, ◌<◌, ◌≤◌, ℤ, pos, negsuc, ◌<ℤ◌, ◌≤ℤ◌, List, [], ◌∷◌, ◌++◌, length, map, filter, find, All, AllPairs, Option, Some, None, slice_get, option_map, unwrap_or, ◌==◌, IsTrue}
+use Rattle.std.specs.Prelude.{◌≡◌, ℕ, ◌<◌, ◌≤◌, ℤ, pos, negsuc, ◌<ℤ◌, ◌≤ℤ◌, List, [], ◌∷◌, ◌++◌, length, map, filter, find, All, AllPairs, Option, Some, None, slice_get, option_map, unwrap_or, ◌==◌}
 use Rattle.std.specs.List.{Contains}
 use Rattle.pl_spec.specs.declared.AssetRow.{AssetRow}
 use Rattle.pl_spec.specs.declared.BarRow.{BarRow}

@@ -1,6 +1,6 @@
 -- What the rings hold: windows that end with the last day, in the world of the days that were fed. Sessions
 -- below 0 have no bar and no asset, so a ring is full from the start on.
-use Rattle.std.specs.Prelude.{ℕ, ◌<◌, Bool, false, ℤ, List, [], ◌∷◌, length, filter, filter_map, map, Option, Some, None, is_some, nat_lt, if◌then◌else◌}
+use Rattle.std.specs.Prelude.{ℕ, Bool, false, ℤ, List, [], ◌∷◌, length, filter, filter_map, Option, Some, None, is_some, nat_lt, if◌then◌else◌}
 use Rattle.pl_spec.specs.declared.Column.{Column}
 use Rattle.pl_spec.specs.declared.AdjustmentKind.{AdjustmentKind}
 use Rattle.pl_spec.specs.Parts.{sid_at}

@@ -1,10 +1,11 @@
 -- What a term's sort says of its values and of how they are written.
-use Rattle.std.proofs.Common.{◌≡◌, inl, inr, ℕ, ◌<◌, Bool, true, false, if◌then◌else◌, ℤ, pos, List, [], get_or, length, Option, Some, None, slice_get, option_map, unwrap_or, position, bytes_eq, Contains, refl, sym, ap, subst, ◌∙◌, true≢false}
+use Rattle.std.proofs.Common.{arith, ◌≡◌, inl, inr, ℕ, ◌<◌, Bool, true, false, if◌then◌else◌, ℤ, pos, List, [], get_or, length, Option, Some, None, slice_get, option_map, unwrap_or, position, bytes_eq, Contains, refl, sym, ap, subst, ◌∙◌, true≢false}
 use Rattle.std.proofs.lemmas.Slice.Eq.{bytes_eq-Decides}
 use Rattle.std.proofs.lemmas.List.Quantifiers.{position-Some}
 use Rattle.pl_spec.proofs.Places.{nowhere}
 use Rattle.pl_spec.specs.declared.Format.{Format}
-use Rattle.pl_spec.specs.Rounding.{is_missing}
+use Rattle.std.proofs.lemmas.List.{length-map}
+use Rattle.pl_spec.specs.Rounding.{MISSING, is_missing}
 use Rattle.pl_spec.specs.Decimals.{cell_text}
 use Rattle.pl_spec.specs.Formula.{is_true}
 use Rattle.pl_spec.specs.World.{World}
@@ -12,32 +13,43 @@ use Rattle.pl_spec.specs.Kind as kind
 use Rattle.pl_spec.specs.Kind.{Kind, WindowKind, PointKind, CrossKind}
 use Rattle.pl_spec.specs.Term.{Term, Graph, term_at}
 use Rattle.pl_spec.specs.Term as spec
-use Rattle.pl_spec.specs.Value.{Value, is_filter, is_window_filter, is_point_filter, is_cross_filter, sort_kind, sort_over, holds}
+use Rattle.pl_spec.specs.Value.{Value, is_filter, is_window_filter, is_point_filter, is_cross_filter, holds}
 use Rattle.pl_spec.specs.Table.{Pipeline, value_of, in_array, is_kept}
 use Rattle.pl_spec.specs.declared.Format.TheVariants.{Csv}
 use Rattle.pl_cross.specs.Arrays.{sid_in}
 use Rattle.pl_values.specs.Arrays.{cell_of}
 use Rattle.pl_table.proofs.Outputs.{cell-is}
 use Rattle.pl_spec.specs.Text.{field, kind_at, label_text, number_text, is_numbered}
-use Rattle.pl_spec.proofs.Trees.{term_at-node}
 use Rattle.pl_terms.specs.declared.node.Node.{Node}
 use Rattle.pl_terms.specs.Kinds.{kind_of}
 use Rattle.pl_terms.specs.Nodes.{node_of, graph_of}
 use Rattle.pl_terms.specs.Checked.{IsChecked}
-use Rattle.pl_terms.specs.Sorts.{Sort, Factors, Filters, Labels, Numbers, sort_at, sort_of, window_sort, point_sort, cross_sort, has_parameters}
+use Rattle.pl_terms.specs.Sorts.{Sort, Factors, Filters, Labels, Numbers, sort_at, sort_of, window_sort, point_sort, cross_sort}
 use Rattle.pl_cross.specs.Arrays.{HasTexts}
 use Rattle.pl_cross.proofs.Codes.{IsCoded}
 use Rattle.pl_values.specs.Families.{IsCode}
-use Rattle.pl_values.proofs.Empties.{node-there}
+use Rattle.pl_terms.proofs.TermSorts.{sorted-there}
+use Rattle.pl_spec.proofs.Unfolds.{past}
 use Rattle.pl_values.proofs.Numbers.{numbered-sort, coded-sort}
-use Rattle.pl_values.proofs.Typed.{sort-node}
 use Rattle.pl_table.specs.declared.writing.Writing.{Writing}
 use Rattle.pl_table.specs.declared.writing.Writing.TheVariants.{Cell, Truth, Whole, Label}
 use Rattle.pl_table.specs.Fields.{cell_field, sort_written}
 
-pub sort-there : (nodes : List Node) (t : ℕ) (n : Node) (r : Sort) → slice_get nodes t ≡ Some n → sort_of (kind_of n.kind) ≡ r → sort_at (graph_of nodes) t ≡ Some r
-unfolding node_of
-sort-there nodes t n r e s = ap (option_map (λ m. sort_of m.kind)) (node-there nodes t n e) ∙ ap Some s
+graph-long : (nodes : List Node) → length (graph_of nodes) ≡ length nodes
+unfolding graph_of
+graph-long nodes = length-map nodes node_of
+
+-- the sort of a term that is there
+pub sort-there : (nodes : List Node) (t : ℕ) (k : Kind) (r : Sort) → t < length nodes → k ≡ kind_at (graph_of nodes) t → sort_of k ≡ r → sort_at (graph_of nodes) t ≡ Some r
+sort-there nodes t k r h e s = here (slice_get (graph_of nodes) t) refl
+  where
+    here : (o : Option spec.Node) → slice_get (graph_of nodes) t ≡ o → sort_at (graph_of nodes) t ≡ Some r
+    here None q = absurd (past (graph_of nodes) t (omega (arith, graph-long nodes)) q)
+    here (Some n) q = ap (option_map (λ m. sort_of (kind_at (graph_of nodes) t))) q ∙ ap (λ i. Some (sort_of i)) (sym e) ∙ ap Some s
+
+pub sort-none : (nodes : List Node) (t : ℕ) → t < length nodes → kind_at (graph_of nodes) t ≡ kind.Constant MISSING → sort_at (graph_of nodes) t ≡ Some Factors
+unfolding sort_of
+sort-none nodes t h e = sort-there nodes t (kind.Constant MISSING) Factors h (sym e) refl
 
 -- ---- kinds by their sorts
 
@@ -123,22 +135,6 @@ numbers-are (kind.LabelTest k) = refl
 numbers-are (kind.Cross k) = cross-numbers k
 numbers-are (kind.Downsample f) = refl
 
--- a checked pipeline has no downsampled term, so that each is written as its own kind
-own-kind : (k i : Kind) (w names : ℕ) → has_parameters k w names ≡ true → sort_over k i ≡ k
-unfolding has_parameters
-own-kind (kind.Downsample f) i w names e = absurd (let bad : false ≡ true = e in cc)
-own-kind (kind.Constant c) i w names e = refl
-own-kind (kind.Label n) i w names e = refl
-own-kind (kind.StaticSids s) i w names e = refl
-own-kind (kind.Window k) i w names e = refl
-own-kind (kind.Point k) i w names e = refl
-own-kind (kind.LabelTest k) i w names e = refl
-own-kind (kind.Cross k) i w names e = refl
-
-kind-there : (p : Pipeline) → IsChecked p → (t : ℕ) (n : spec.Node) → slice_get p.graph t ≡ Some n → kind_at p.graph t ≡ n.kind
-kind-there p ok t n e =
-    ap sort_kind (term_at-node p.graph t n ok.graph e) ∙ own-kind n.kind _ n.window (length p.names) (ok.nodes t n e).parameters
-
 -- ---- fields
 
 missing-text : (x : ℤ) (b : Bool) → is_missing x ≡ b → (if is_missing x then [] else cell_text x) ≡ cell_text x
@@ -176,9 +172,8 @@ module _ (w : World) (p : Pipeline) (ok : IsChecked p) (texts : HasTexts w) (t a
       → field format (kind_at p.graph t) (value_of w p t a d) ≡ cell_field format w.texts r (in_array w.texts (value_of w p t a d))
   numbered-field r s other =
       let v = numbered-sort w p ok t (sort_written r) s other a d in
-      let m = sort-node p.graph t (sort_written r) s in
-      ap (λ (k : Kind). field format k (value_of w p t a d)) (kind-there p ok t m.0 m.1)
-      ∙ ap (field format m.0.kind) v.1 ∙ number-field format w.texts m.0.kind r v.0 m.2 other
+      let m = sorted-there p.graph t (sort_written r) s in
+      ap (field format (kind_at p.graph t)) v.1 ∙ number-field format w.texts (kind_at p.graph t) r v.0 m.2 other
       ∙ ap (λ (u : Value). cell_field format w.texts r (in_array w.texts u)) (sym v.1)
 
   -- the field of a value is that of its cell

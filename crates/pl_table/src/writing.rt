@@ -5,7 +5,7 @@ ghost use Rattle.pl_terms.specs.Nodes.{graph_of};
 ghost use Rattle.pl_terms.specs.Sorts.{sort_at, sort_of};
 ghost use Rattle.pl_table.specs.Fields.{sort_written};
 
-use pl_terms::{Graph, LabelValue, TermId, TermKind};
+use pl_terms::{Graph, LabelValue, TermId, TermKind, sorting_kind};
 
 /// The form of a value: the cell of a factor, the truth of a filter, the whole number of a numbered classifier, or the text of
 /// a label.
@@ -17,12 +17,15 @@ pub enum Writing {
     Label,
 }
 
-/// How the values of a term are written.
+/// How the values of a term are written: a downsampled one's as its input's.
 pub(crate) fn writing_of(graph: &Graph, term: TermId) -> Writing
     requires { term.0 < length graph.now }
     ensures { sort_at (graph_of graph.now) term.0 ≡ Some (sort_written result) }
 {
-    writing_of_kind(&graph.node(term).kind)
+    match sorting_kind(graph, term) {
+        Some(kind) => writing_of_kind(kind),
+        None => Writing::Cell,
+    }
 }
 
 #[tactic(auto, unfolding(pl_terms::specs::Kinds::kind_of, pl_terms::specs::Sorts::sort_of))]

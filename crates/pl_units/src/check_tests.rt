@@ -21,6 +21,14 @@ fn fault_of(alloc: Global, text: &[u8]) -> Option<(CheckFault, u32, u32)> {
     }
 }
 
+// The first rule that a script breaks, wherever it does.
+fn kind_of_fault(alloc: Global, text: &[u8]) -> Option<CheckFault> {
+    match fault_of(alloc, text) {
+        Some((fault, _, _)) => Some(fault),
+        None => None,
+    }
+}
+
 fn joined(alloc: Global, parts: &[&[u8]]) -> Result<Vec<u8>, AllocError> {
     let mut text = Vec::new(alloc);
     for part in parts.iter() {
@@ -333,6 +341,12 @@ fn names_the_first_fault(rt: HostRuntime) -> Result<(), Fail> {
         (b"column x = VWAP;", CheckFault::UnknownName, 2, 12),
         (b"column x = close.foo();", CheckFault::UnknownName, 2, 18),
         (
+            b"column c = close.latest.downsample(\"week_start\");",
+            CheckFault::UnknownName,
+            2,
+            25,
+        ),
+        (
             b"column x = later; let later = 1;",
             CheckFault::UnknownName,
             2,
@@ -476,6 +490,58 @@ fn names_the_first_fault(rt: HostRuntime) -> Result<(), Fail> {
     for (text, fault, line, col) in table.iter() {
         let text = joined(alloc, &[b"pipeline 1;\n", *text, b"\n"])?;
         assert!(rt; fault_of(alloc, &text) == Some((*fault, *line, *col)));
+    }
+    Ok(())
+}
+
+#[test]
+fn downsamples_in_version_2(rt: HostRuntime) -> Result<(), Fail> {
+    // A term of another, as a column or in a window, and the fault where there is one.
+    let table: &[(&[u8], Option<CheckFault>)] = &[
+        (b"close.latest.downsample(\"year_start\")", None),
+        (b"close.latest.isnull().downsample(\"quarter_start\")", None),
+        (b"label(\"s\").downsample(frequency=\"month_start\")", None),
+        (
+            b"close.latest.quantiles(3).downsample(\"week_start\")",
+            None,
+        ),
+        (b"label(\"s\").downsample(\"week_start\") == \"a\"", None),
+        (
+            b"1.downsample(\"week_start\").downsample(\"year_start\")",
+            None,
+        ),
+        (
+            b"WindowSum(RSI(close, 2).downsample(\"week_start\"), 2)",
+            None,
+        ),
+        (
+            b"WindowSum(close.latest.downsample(\"week_start\"), 2)",
+            Some(CheckFault::NotWindowSafe),
+        ),
+        (
+            b"close.downsample(\"week_start\")",
+            Some(CheckFault::WrongKind),
+        ),
+        (b"close.latest.downsample(1)", Some(CheckFault::WrongKind)),
+        (
+            b"close.latest.downsample(\"day_start\")",
+            Some(CheckFault::BadArgument),
+        ),
+        (b"close.latest.downsample()", Some(CheckFault::BadArgument)),
+        (b"close.latest.downsample", Some(CheckFault::BadArgument)),
+        (
+            b"close.latest.downsample(\"week_start\", mask=close.latest.isnull())",
+            Some(CheckFault::BadArgument),
+        ),
+        (
+            b"label(\"s\").downsample(\"week_start\") == 1",
+            Some(CheckFault::WrongKind),
+        ),
+    ];
+    let alloc = rt.alloc();
+    for (text, fault) in table.iter() {
+        let text = joined(alloc, &[b"pipeline 2;\ncolumn c = ", *text, b";\n"])?;
+        assert!(rt; kind_of_fault(alloc, &text) == *fault);
     }
     Ok(())
 }

@@ -13,7 +13,8 @@ use Rattle.pl_terms.specs.Sorts.{Place, Filters, Labels, sort_at, has_mask}
 use Rattle.pl_cross.specs.Arrays.{sid_in}
 use Rattle.pl_values.specs.Arrays.{cell_of, empty_cell, is_kept, chosen}
 use Rattle.pl_values.proofs.Typed.{optional-sort, filter-sort}
-use Rattle.pl_values.proofs.Numbers.{empty_is, numbered-sort, number_is, value-node, IsNumberedTerm}
+use Rattle.pl_values.proofs.Downsampled.{value-node}
+use Rattle.pl_values.proofs.Numbers.{empty_is, numbered-sort, number_is, IsNumberedTerm}
 
 module _ (w : World) (p : Pipeline) (sids : List ℕ) (ok : IsChecked p) where
   -- of a numbered term the cell is the number

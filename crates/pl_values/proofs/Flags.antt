@@ -10,7 +10,7 @@ use Rattle.pl_spec.specs.Kind.CrossKind.{Quantiles, Top, Bottom, PercentileBetwe
 use Rattle.pl_spec.specs.Formula.{truth, formula}
 use Rattle.pl_spec.specs.Pointwise.{pointwise, label_test}
 use Rattle.pl_spec.specs.Cross.{cross}
-use Rattle.pl_spec.specs.Term.{input_tree, trees}
+use Rattle.pl_spec.specs.Term.{Node, input_tree, trees}
 use Rattle.pl_spec.specs.Value.{Value, Part, now, passes, eligible, group_of, test_value, empty, number_of, sort_over, sort_kind, step}
 use Rattle.pl_spec.specs.Value.Value.{Number, Text}
 use Rattle.pl_spec.specs.NodeValue.{node_value, input_part, number_part}
@@ -21,8 +21,7 @@ use Rattle.pl_lanes.specs.Flags.{IsFlag}
 use Rattle.pl_cross.specs.Arrays.{sid_in}
 use Rattle.pl_values.specs.Arrays.{cell_of}
 use Rattle.pl_values.specs.Laws.{FilterCells}
-use Rattle.pl_values.proofs.Typed.{sort-node}
-use Rattle.pl_values.proofs.Numbers.{value-node}
+use Rattle.pl_values.proofs.Downsampled.{value-node, values-of-sort}
 
 abbrev IsTruth : Value → Type 0
 IsTruth v = (b : Bool) × (v ≡ Number (truth b))
@@ -106,16 +105,22 @@ point_empty FillNa e = absurd (let bad : Factors ≡ Filters = e in cc)
 point_empty IfElse e = absurd (let bad : Factors ≡ Filters = e in cc)
 point_empty k e = (false, refl)
 
-empty_truth : (k i : Kind) → sort_of k ≡ Filters → IsTruth (empty (sort_over k i))
+empty_truth : (k : Kind) → sort_of k ≡ Filters → IsTruth (empty k)
 unfolding sort_of
-empty_truth (Constant c) i h = absurd (let bad : Factors ≡ Filters = h in cc)
-empty_truth (Label n) i h = absurd (let bad : Labels ≡ Filters = h in cc)
-empty_truth (Downsample f) i h = absurd (let bad : Factors ≡ Filters = h in cc)
-empty_truth (StaticSids sids) i h = (false, refl)
-empty_truth (Window k) i h = window_empty k h
-empty_truth (Point k) i h = point_empty k h
-empty_truth (LabelTest k) i h = (false, refl)
-empty_truth (Cross k) i h = (cross_truth k [] 0 (pos 0) h).1
+empty_truth (Constant c) h = absurd (let bad : Factors ≡ Filters = h in cc)
+empty_truth (Label n) h = absurd (let bad : Labels ≡ Filters = h in cc)
+empty_truth (Downsample f) h = absurd (let bad : Factors ≡ Filters = h in cc)
+empty_truth (StaticSids sids) h = (false, refl)
+empty_truth (Window k) h = window_empty k h
+empty_truth (Point k) h = point_empty k h
+empty_truth (LabelTest k) h = (false, refl)
+empty_truth (Cross k) h = (cross_truth k [] 0 (pos 0) h).1
+
+over_truth : (k i : Kind) → sort_of k ≡ Filters → IsTruth (empty (sort_over k i))
+unfolding sort_of
+over_truth (Downsample f) i h = absurd (let bad : Factors ≡ Filters = h in cc)
+over_truth (Constant c) i h = empty_truth (Constant c) h
+over_truth k i h = empty_truth k h
 
 truth_flag : (b : Bool) → IsFlag (truth b)
 truth_flag true = inr refl
@@ -124,17 +129,19 @@ truth_flag false = inl refl
 value_flag : (texts : List (List ℕ)) (v : Value) → IsTruth v → IsFlag (in_array texts v)
 value_flag texts v t = let e = t.1 in rw e (truth_flag t.0)
 
--- a filter is worth a flag, on any session
-pub filter-flag : (w : World) (p : Pipeline) (t a : ℕ) (d : ℤ) → IsChecked p → sort_at p.graph t ≡ Some Filters → IsFlag (in_array w.texts (value_of w p t a d))
-filter-flag w p t a d ok h =
-    let m = sort-node p.graph t Filters h in
-    let n = m.0 in
+node_truth : (w : World) (p : Pipeline) (ok : IsChecked p) (t : ℕ) (n : Node) → slice_get p.graph t ≡ Some n → sort_of n.kind ≡ Filters → (a : ℕ) (d : ℤ) → IsTruth (value_of w p t a d)
+node_truth w p ok t n is s a d =
     let whole : IsTruth (node_value w p.names p.graph n a d) = either_truth
     (exists w a d && passes (number_part w p.names p.graph n.mask) a d) _ (empty (sort_over n.kind (sort_kind (input_tree (trees p.graph) (slice_get n.inputs 0)))))
     (step_truth w p.names n.kind n.window (input_part w p.names p.graph (slice_get n.inputs 0)) (input_part w p.names p.graph (slice_get n.inputs 1)) (input_part w p.names p.graph (slice_get n.inputs 2))
-    (number_part w p.names p.graph n.mask) (number_part w p.names p.graph n.group) a d m.2)
-    (empty_truth n.kind (sort_kind (input_tree (trees p.graph) (slice_get n.inputs 0))) m.2) in
-    value_flag w.texts (value_of w p t a d) (whole.0, value-node w p ok t n m.1 a d ∙ whole.1)
+    (number_part w p.names p.graph n.mask) (number_part w p.names p.graph n.group) a d s)
+    (over_truth n.kind (sort_kind (input_tree (trees p.graph) (slice_get n.inputs 0))) s) in
+    (whole.0, value-node w p ok t n is a d ∙ whole.1)
+
+-- a filter is worth a flag, on any session
+pub filter-flag : (w : World) (p : Pipeline) (t a : ℕ) (d : ℤ) → IsChecked p → sort_at p.graph t ≡ Some Filters → IsFlag (in_array w.texts (value_of w p t a d))
+filter-flag w p t a d ok h =
+    value_flag w.texts (value_of w p t a d) (values-of-sort w p ok IsTruth Filters (λ k n is own q. node_truth w p ok k n is q) (λ k q. empty_truth k q) t h a d)
 
 pub filter-cell : FilterCells
 unfolding cell_of

@@ -1,5 +1,5 @@
 -- Which terms are worth numbers, and which labels of the world.
-use Rattle.std.proofs.Common.{◌≡◌, ℕ, Bool, true, false, ◌&&◌, if◌then◌else◌, ℤ, pos, List, Option, Some, refl, sym, ◌∙◌, slice_get, ◌==◌}
+use Rattle.std.proofs.Common.{◌≡◌, ℕ, Bool, true, false, ◌&&◌, if◌then◌else◌, ℤ, pos, List, Option, Some, refl, sym, subst, ◌∙◌, slice_get, ◌==◌, inl}
 use Rattle.std.specs.List.{list_any}
 use Rattle.pl_spec.specs.World.{World, exists}
 use Rattle.pl_spec.specs.Kind.{Kind, WindowKind, PointKind, LabelKind, CrossKind}
@@ -14,14 +14,13 @@ use Rattle.pl_spec.specs.Value.{Value, Part, now, passes, eligible, group_of, te
 use Rattle.pl_spec.specs.Value.Value.{Number, Text}
 use Rattle.pl_spec.specs.NodeValue.{node_value, input_part, number_part}
 use Rattle.pl_spec.specs.Table.{Pipeline, value_of, in_array}
-use Rattle.pl_spec.proofs.Unfolds.{value_at-node}
 use Rattle.pl_spec.proofs.Trees.{term_at-node}
 use Rattle.pl_terms.specs.Checked.{IsChecked}
-use Rattle.pl_terms.specs.Sorts.{Sort, Factors, Filters, Labels, Numbers, sort_of, sort_at, window_sort, point_sort, cross_sort, has_parameters}
+use Rattle.pl_terms.specs.Sorts.{Sort, Factors, Filters, Labels, Numbers, sort_of, sort_at, window_sort, point_sort, cross_sort, is_downsampled}
 use Rattle.pl_cross.specs.Arrays.{HasTexts}
 use Rattle.pl_cross.proofs.LabelCodes.{labels-coded}
 use Rattle.pl_cross.proofs.Codes.{IsCoded}
-use Rattle.pl_values.proofs.Typed.{sort-node}
+use Rattle.pl_values.proofs.Downsampled.{value-node, values-of-sort}
 
 abbrev pub IsNumber : Value → Type 0
 IsNumber v = (x : ℤ) × (v ≡ Number x)
@@ -60,17 +59,17 @@ step_number w names (LabelTest k) size x y z m g a d h = test_number k (now x a 
 step_number w names (Cross k) size x y z m g a d h =
     either_number (list_any (λ e. e.0 == a) (eligible w x m (group_of k x g) a d)) _ (empty (Cross k)) (_, refl) (number_of (empty (Cross k)), empty_is (Cross k))
 
--- the kind of a term that isn't a label
-not_label : (k : Kind) (w names : ℕ) → has_parameters k w names ≡ true → (sort_of k ≡ Labels → ⊥) → gives_numbers k ≡ true
-unfolding has_parameters sort_of
-not_label (Label n) w names h f = absurd (f refl)
-not_label (Downsample f) w names h g = absurd (let bad : false ≡ true = h in cc)
-not_label (Constant c) w names h f = refl
-not_label (StaticSids sids) w names h f = refl
-not_label (Window k) w names h f = refl
-not_label (Point k) w names h f = refl
-not_label (LabelTest k) w names h f = refl
-not_label (Cross k) w names h f = refl
+-- the kind of a term that is neither downsampled nor a label
+not_label : (k : Kind) → is_downsampled k ≡ false → (sort_of k ≡ Labels → ⊥) → gives_numbers k ≡ true
+unfolding sort_of
+not_label (Label n) h f = absurd (f refl)
+not_label (Downsample f) h g = absurd (let bad : true ≡ false = h in cc)
+not_label (Constant c) h f = refl
+not_label (StaticSids sids) h f = refl
+not_label (Window k) h f = refl
+not_label (Point k) h f = refl
+not_label (LabelTest k) h f = refl
+not_label (Cross k) h f = refl
 
 window_not : (k : WindowKind) → window_sort k ≡ Labels → ⊥
 window_not All e = absurd (let bad : Filters ≡ Labels = e in cc)
@@ -121,20 +120,17 @@ module _ (w : World) (p : Pipeline) (ok : IsChecked p) where
   abbrev pub IsNumberedTerm : ℕ → Type 0
   IsNumberedTerm t = (a : ℕ) (d : ℤ) → IsNumber (value_of w p t a d)
 
-  pub value-node : (k : ℕ) (n : Node) → slice_get p.graph k ≡ Some n → (a : ℕ) (d : ℤ) → value_of w p k a d ≡ node_value w p.names p.graph n a d
-  value-node k n is a d = value_at-node w p.names p.graph ok.graph k n is a d
-
-  pub numbered : (t : ℕ) (m : Node) → slice_get p.graph t ≡ Some m → (sort_of m.kind ≡ Labels → ⊥) → IsNumberedTerm t
-  numbered t m is other a d =
+  numbered : (t : ℕ) (m : Node) → slice_get p.graph t ≡ Some m → is_downsampled m.kind ≡ false → (sort_of m.kind ≡ Labels → ⊥) → IsNumberedTerm t
+  numbered t m is own other a d =
       let whole : IsNumber (node_value w p.names p.graph m a d) = either_number
       (exists w a d && passes (number_part w p.names p.graph m.mask) a d) _ (empty (sort_over m.kind (sort_kind (input_tree (trees p.graph) (slice_get m.inputs 0)))))
       (step_number w p.names m.kind m.window (input_part w p.names p.graph (slice_get m.inputs 0)) (input_part w p.names p.graph (slice_get m.inputs 1)) (input_part w p.names p.graph (slice_get m.inputs 2))
-      (number_part w p.names p.graph m.mask) (number_part w p.names p.graph m.group) a d (not_label m.kind m.window _ (ok.nodes t m is).parameters other))
+      (number_part w p.names p.graph m.mask) (number_part w p.names p.graph m.group) a d (not_label m.kind own other))
       (number_of (empty (sort_over m.kind (sort_kind (input_tree (trees p.graph) (slice_get m.inputs 0))))), empty_is (sort_over m.kind (sort_kind (input_tree (trees p.graph) (slice_get m.inputs 0))))) in
-      (whole.0, value-node t m is a d ∙ whole.1)
+      (whole.0, value-node w p ok t m is a d ∙ whole.1)
 
   pub numbered-sort : (t : ℕ) (r : Sort) → sort_at p.graph t ≡ Some r → (r ≡ Labels → ⊥) → IsNumberedTerm t
-  numbered-sort t r e other = let m = sort-node p.graph t r e in numbered t m.0 m.1 (λ f. other (sym m.2 ∙ f))
+  numbered-sort t r e other = values-of-sort w p ok IsNumber r (λ k m at own s. numbered k m at own (λ f. other (sym s ∙ f))) (λ k s. (number_of (empty k), empty_is k)) t e
 
   pub plain-number : (t : ℕ) (o : Option Sort) → sort_at p.graph t ≡ o → plain_sort o ≡ true → IsNumberedTerm t
   plain-number t (Some Factors) g h = numbered-sort t Factors g (λ e. let bad : Factors ≡ Labels = e in cc)
@@ -147,8 +143,13 @@ module _ (w : World) (p : Pipeline) (ok : IsChecked p) where
   number_is t numbered a d = let e = (numbered a d).1 in rw e refl
 
   pub coded-sort : (t : ℕ) → HasTexts w → sort_at p.graph t ≡ Some Labels → (a : ℕ) (d : ℤ) → IsCoded w.texts (value_of w p t a d)
-  coded-sort t texts e a d =
-      let m = sort-node p.graph t Labels e in
-      let l = label_kind m.0.kind m.2 in
-      let tree = term_at-node p.graph t m.0 ok.graph m.1 in
-      rw (tree, l.1) (labels-coded w texts p.names l.0 m.0.window _ _ _ _ _ a d)
+  coded-sort t texts e a d = values-of-sort w p ok (IsCoded w.texts) Labels own none t e a d
+    where
+      own : (k : ℕ) (m : Node) → slice_get p.graph k ≡ Some m → is_downsampled m.kind ≡ false → sort_of m.kind ≡ Labels → (a : ℕ) (d : ℤ) → IsCoded w.texts (value_of w p k a d)
+      own k m at plain s a d =
+          let l = label_kind m.kind s in
+          let tree = term_at-node p.graph k m ok.graph at in
+          rw (tree, l.1) (labels-coded w texts p.names l.0 m.window _ _ _ _ _ a d)
+
+      none : (k : Kind) → sort_of k ≡ Labels → IsCoded w.texts (empty k)
+      none k s = let l = label_kind k s in subst (λ q. IsCoded w.texts (empty q)) (sym l.1) (inl refl)

@@ -8,7 +8,8 @@ use Rattle.pl_spec.proofs.Places.{nowhere}
 use Rattle.pl_spec.specs.Rounding.{LIMIT, IsCell}
 use Rattle.pl_spec.specs.World.{label_at}
 use Rattle.pl_spec.specs.Kind.{Kind, LabelKind}
-use Rattle.pl_spec.specs.Kind.Kind.{Constant, Label, LabelTest}
+use Rattle.pl_spec.specs.declared.Frequency.{Frequency}
+use Rattle.pl_spec.specs.Kind.Kind.{Constant, Label, LabelTest, Downsample}
 use Rattle.pl_spec.specs.Formula.{truth}
 use Rattle.pl_spec.specs.Pointwise.{label_test}
 use Rattle.pl_spec.specs.Term.{Node, Input}
@@ -16,13 +17,14 @@ use Rattle.pl_spec.specs.Term.Input.{BarColumn, TermInput}
 use Rattle.pl_spec.specs.Value.{Value, name_at, test_value, step}
 use Rattle.pl_spec.specs.Table.{Pipeline, value_of, in_array}
 use Rattle.pl_terms.specs.Checked.{IsChecked}
-use Rattle.pl_terms.specs.Sorts.{LabelClassifier, Labels, sort_at, places, fits, has_parameters, is_limited}
+use Rattle.pl_terms.specs.Sorts.{LabelClassifier, Labels, sort_at, places, fits, has_parameters, is_limited, is_downsampled}
 use Rattle.pl_cross.specs.Arrays.{sid_in}
 use Rattle.pl_cross.proofs.Codes.{IsCoded}
 use Rattle.pl_values.specs.Arrays.{cell_of}
 use Rattle.pl_values.specs.Families.{sid_flag, label_code, IsCode, code_flag}
-use Rattle.pl_values.specs.Laws.{UnkeptCells, ConstantCells, SidCells, LabelCells, LabelTestCells}
+use Rattle.pl_values.specs.Laws.{UnkeptCells, ConstantCells, SidCells, LabelCells, LabelTestCells, DownsampledCells}
 use Rattle.pl_values.proofs.Typed.{has-input, label-sort}
+use Rattle.pl_values.proofs.Downsampled.{over}
 use Rattle.pl_values.proofs.Numbers.{coded-sort}
 use Rattle.pl_values.proofs.Cells.{gated, ungated}
 
@@ -101,3 +103,14 @@ label-test-cell w p sids k n i s own f t texts e x =
       gated w p sids own.checked k n own.node i s (code_flag w.texts n.kind (in_array w.texts (value_of w p t (sid_in sids i) (pos s))))
           (rw (e, x) (coded-test w.texts f (value_of w p t (sid_in sids i) (pos s)) coded)),
     )
+
+-- ---- downsampled terms
+
+-- the input of a downsampled term
+pub downsampled-input : (p : Pipeline) (ok : IsChecked p) (k : ℕ) (n : Node) → slice_get p.graph k ≡ Some n → (f : Frequency) → n.kind ≡ Downsample f → (t : ℕ) × (slice_get n.inputs 0 ≡ Some (TermInput t))
+downsampled-input p ok k n is f e = let x = over p ok k n is (ap is_downsampled e) in (x.input, x.first)
+
+pub downsampled-cell : DownsampledCells
+unfolding cell_of step
+downsampled-cell w p sids k n i s own f t r e x h =
+    gated w p sids own.checked k n own.node i s (in_array w.texts (value_of w p t (sid_in sids i) (pos r))) (rw (e, x, sym h) refl)

@@ -1,8 +1,8 @@
 -- What the nodes of a checked pipeline mention.
-use Rattle.std.proofs.Common.{◌≡◌, ℕ, zero, suc, Bool, true, false, List, [], ◌∷◌, Option, Some, None, refl, sym, ◌∙◌, ap, slice_get, option_map}
+use Rattle.std.proofs.Common.{◌≡◌, ℕ, zero, suc, Bool, true, false, List, [], ◌∷◌, Option, Some, None, refl, sym, ◌∙◌, ap, slice_get}
 use Rattle.std.proofs.lemmas.Bool.{and_parts}
-use Rattle.pl_spec.specs.Term.{Graph, Node, Input}
-use Rattle.pl_terms.specs.Sorts.{Sort, Factors, Filters, Labels, Numbers, sort_of, sort_at, Place, takes_sort, fits, all_fit, optional_fits}
+use Rattle.pl_spec.specs.Term.{Graph, Input}
+use Rattle.pl_terms.specs.Sorts.{Sort, Factors, Filters, Labels, Numbers, sort_at, Place, takes_sort, fits, all_fit, optional_fits}
 
 -- each input is one that its place takes
 pub fit-at : (g : Graph) (ps : List Place) (is : List Input) (i : ℕ) (x : Input) → all_fit g ps is ≡ true → slice_get is i ≡ Some x
@@ -52,11 +52,3 @@ label-sort (Some Filters) h = absurd (let bad : false ≡ true = h in cc)
 label-sort (Some Factors) h = absurd (let bad : false ≡ true = h in cc)
 label-sort (Some Numbers) h = absurd (let bad : false ≡ true = h in cc)
 label-sort None h = absurd (let bad : false ≡ true = h in cc)
-
--- a term of the graph has a node
-pub sort-node : (g : Graph) (t : ℕ) (r : Sort) → sort_at g t ≡ Some r → (m : Node) × (slice_get g t ≡ Some m) × (sort_of m.kind ≡ r)
-sort-node g t r h = here (slice_get g t) refl h
-  where
-    here : (o : Option Node) → slice_get g t ≡ o → option_map (λ (n : Node). sort_of n.kind) o ≡ Some r → (m : Node) × (slice_get g t ≡ Some m) × (sort_of m.kind ≡ r)
-    here None e f = absurd (let bad : None ≡ Some r = f in cc)
-    here (Some m) e f = (m, e, cc)

@@ -36,6 +36,7 @@ IsOf k family.Window = is_windowed k ≡ true
 IsOf k family.Point = is_point k ≡ true
 IsOf k family.LabelTest = is_label_test k ≡ true
 IsOf k family.Section = is_section k ≡ true
+IsOf k (family.Downsample frequency) = k ≡ spec.Downsample frequency
 
 -- ---- windows
 

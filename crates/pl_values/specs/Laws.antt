@@ -5,6 +5,8 @@ use Rattle.pl_spec.specs.Rounding.{IsCell}
 use Rattle.pl_spec.specs.World.{World, label_at}
 use Rattle.pl_spec.specs.Kind as spec
 use Rattle.pl_spec.specs.Kind.{WindowKind, PointKind, LabelKind, CrossKind}
+use Rattle.pl_spec.specs.Periods.{period_start}
+use Rattle.pl_spec.specs.declared.Frequency.{Frequency}
 use Rattle.pl_spec.specs.Parts.{ColumnAdjustment, world_of}
 use Rattle.pl_spec.specs.Term.{Node}
 use Rattle.pl_spec.specs.Term.Input.{TermInput}
@@ -76,6 +78,11 @@ abbrev pub LabelTestCells : Type 0
 LabelTestCells = OfNodes (λ w p sids k n i s. (f : LabelKind) (t : ℕ) → HasTexts w → n.kind ≡ spec.LabelTest f
     → slice_get n.inputs 0 ≡ Some (TermInput t)
     → IsCode w.texts (cell_of w p sids t i s) × IsGiven w p sids k n i s (code_flag w.texts n.kind (cell_of w p sids t i s)))
+
+-- the input's cell of the first session of the period
+abbrev pub DownsampledCells : Type 0
+DownsampledCells = OfNodes (λ w p sids k n i s. (f : Frequency) (t start : ℕ) → n.kind ≡ spec.Downsample f
+    → slice_get n.inputs 0 ≡ Some (TermInput t) → pos start ≡ period_start f w.days (pos s) → IsGiven w p sids k n i s (cell_of w p sids t i start))
 
 -- a cross-section over the rows of a session; no place is left to be masked
 abbrev pub SectionCells : Type 0

@@ -7,12 +7,12 @@ ghost use Rattle.pl_terms.specs.Kinds.{is_kind, is_not_kind, kind_of};
 ghost use Rattle.pl_terms.specs.Nodes.{graph_of};
 ghost use Rattle.pl_values.specs.Families.{IsOf};
 
-use pl_fixed::MISSING;
-use pl_terms::{Graph, LabelValue, TermId, TermKind};
+use pl_fixed::{Frequency, MISSING};
+use pl_terms::{Graph, LabelValue, TermId, TermKind, sorting_kind};
 
 /// How the value of a kind comes from those of its inputs: a constant, a label under the name of a number, a
 /// list of sids, a formula or a filter over windows, an operation on the values of one place, a test of a
-/// label, or a cross-section.
+/// label, a cross-section, or the input's value on the first session of the period.
 #[derive(Clone, Copy, Debug, PartialEq, Eq)]
 pub enum Family {
     Constant(i64),
@@ -22,6 +22,7 @@ pub enum Family {
     Point,
     LabelTest,
     Section,
+    Downsample(Frequency),
 }
 
 /// The family of a kind.
@@ -71,6 +72,7 @@ pub fn family_of(kind: &TermKind) -> Family
             Family::LabelTest
         }
         TermKind::LabelIs { label } | TermKind::LabelIsNot { label } => compared(label),
+        TermKind::Downsample { frequency } => Family::Downsample(*frequency),
         _ => Family::Point,
     }
 }
@@ -86,14 +88,16 @@ fn compared(label: &LabelValue) -> Family
 }
 
 /// What an array holds where the term has no value, since the asset does not exist on the session or the
-/// term's mask is false: 0 for a filter, and else `MISSING`. It goes by what the term is, and not by the kind
-/// of its node alone.
+/// term's mask is false: 0 for a filter, and else `MISSING`. It goes by what the term is, which a downsampled
+/// one has from its input.
 pub fn empty_value(graph: &Graph, t: TermId) -> i64
     requires { t.0 < length graph.now }
     ensures { result ≡ number_of (empty (sort_kind (term_at (graph_of graph.now) t.0))) }
 {
-    let _terms = graph.len();
-    empty_of(&graph.node(t).kind)
+    match sorting_kind(graph, t) {
+        Some(kind) => empty_of(kind),
+        None => MISSING,
+    }
 }
 
 // What stands in the place of a value of the kind.

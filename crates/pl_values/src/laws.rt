@@ -1,6 +1,6 @@
 //! What the cells of a numbered term are, over the cells of the terms that it mentions. The functions do
 //! nothing: the contract of each is a law.
-ghost use Rattle.pl_values.specs.Laws.{UnkeptCells, ConstantCells, WindowCells, PointCells, PointOperands, SidCells, LabelCells, LabelTestCells, SectionCells, FilterCells, TextsHaveCodes};
+ghost use Rattle.pl_values.specs.Laws.{UnkeptCells, ConstantCells, WindowCells, PointCells, PointOperands, SidCells, LabelCells, LabelTestCells, SectionCells, DownsampledCells, FilterCells, TextsHaveCodes};
 
 /// In a checked pipeline the cell of a term for an asset on a session is the empty one where the asset does
 /// not exist or does not pass the term's mask, and else what the call of its kind's family gives over the cells
@@ -15,6 +15,7 @@ pub fn cells_are_given()
     ensures labels { LabelCells }
     ensures label_tests { LabelTestCells }
     ensures sections { SectionCells }
+    ensures downsampled { DownsampledCells }
 {}
 
 /// The cells of a filter are 0 and 1.

@@ -49,8 +49,9 @@ options : (values : Values) → IfSome (options_by values) (λ o. IsChunk o.chun
 options values =
     then (λ (o : Options). IsChunk o.chunk) _ (one_value (values option.Labels)) (λ labels.
     then (λ (o : Options). IsChunk o.chunk) _ (one_value (values option.Adjustments)) (λ adjustments.
-    with-chunk (λ (o : Options). IsChunk o.chunk) (λ chunk. option_and_then (λ format. option_and_then (λ stats. option_map (λ as_of. record { labels = labels; adjustments = adjustments; chunk = chunk; format = format; stats = stats; as_of = as_of }) (as_of_by values)) (stats_by values)) (format_by values)) (chunk_by values)
-    (of-chunk values) (λ n h. then (λ (o : Options). IsChunk o.chunk) _ (format_by values) (λ format. then (λ (o : Options). IsChunk o.chunk) _ (stats_by values) (λ stats. any-of (λ (o : Options). IsChunk o.chunk) _ (as_of_by values) (λ as_of. h))))))
+    then (λ (o : Options). IsChunk o.chunk) _ (one_value (values option.Revisions)) (λ revisions.
+    with-chunk (λ (o : Options). IsChunk o.chunk) (λ chunk. option_and_then (λ format. option_and_then (λ stats. option_map (λ as_of. record { labels = labels; adjustments = adjustments; revisions = revisions; chunk = chunk; format = format; stats = stats; as_of = as_of }) (as_of_by values)) (stats_by values)) (format_by values)) (chunk_by values)
+    (of-chunk values) (λ n h. then (λ (o : Options). IsChunk o.chunk) _ (format_by values) (λ format. then (λ (o : Options). IsChunk o.chunk) _ (stats_by values) (λ stats. any-of (λ (o : Options). IsChunk o.chunk) _ (as_of_by values) (λ as_of. h)))))))
 
 a-run : (names : List Word) (values : Values) → IfSome (run_in names values) (λ q. IsChunk q.options.chunk)
 a-run names values =

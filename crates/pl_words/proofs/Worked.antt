@@ -15,22 +15,22 @@ names = codes "p.pl" ∷ codes "sessions.csv" ∷ codes "assets.csv" ∷ codes "
 abbrev dates : List Word
 dates = codes "2024-01-03" ∷ codes "2024-01-04" ∷ []
 
-abbrev asks : Option Word → Option Word → ℕ → Format → Bool → Option Request
-asks labels adjustments chunk format stats = Some (Run (record {
+abbrev asks : Option Word → Option Word → Option Word → ℕ → Format → Bool → Option Request
+asks labels adjustments revisions chunk format stats = Some (Run (record {
   pipeline = codes "p.pl";
   sessions = codes "sessions.csv";
   assets = codes "assets.csv";
   bars = codes "bars.csv";
   from = record { text = codes "2024-01-03"; day = pos 19725 };
   to = record { text = codes "2024-01-04"; day = pos 19726 };
-  options = record { labels = labels; adjustments = adjustments; chunk = chunk; format = format; stats = stats; as_of = None };
+  options = record { labels = labels; adjustments = adjustments; revisions = revisions; chunk = chunk; format = format; stats = stats; as_of = None };
 }))
 
-no_options : request (codes "run" ∷ (names ++ dates)) ≡ asks None None 126 Csv false
+no_options : request (codes "run" ∷ (names ++ dates)) ≡ asks None None None 126 Csv false
 unfolding request counted date_in day_if days_from_civil day_count days_of_years days_of_months decimal_digits digits date_text
 no_options = refl
 
-mixed : request (codes "run" ∷ codes "--labels=-l" ∷ (names ++ codes "--adjustments" ∷ codes "a.db" ∷ codes "--" ∷ dates)) ≡ asks (Some (codes "-l")) (Some (codes "a.db")) 126 Csv false
+mixed : request (codes "run" ∷ codes "--labels=-l" ∷ (names ++ codes "--adjustments" ∷ codes "a.db" ∷ codes "--revisions=r" ∷ codes "--" ∷ dates)) ≡ asks (Some (codes "-l")) (Some (codes "a.db")) (Some (codes "r")) 126 Csv false
 unfolding request counted date_in day_if days_from_civil day_count days_of_years days_of_months decimal_digits digits date_text
 mixed = refl
 
@@ -39,7 +39,7 @@ with_options : map (λ (options : List Word). request (codes "run" ∷ (options 
     ∷ (codes "--chunk" ∷ codes "4096" ∷ [])
     ∷ (codes "--stats" ∷ codes "--format=fixed" ∷ [])
     ∷ (codes "--format" ∷ codes "csv" ∷ []) ∷ [])
-    ≡ asks None None 1 Csv false ∷ asks None None 4096 Csv false ∷ asks None None 126 Fixed true ∷ asks None None 126 Csv false ∷ []
+    ≡ asks None None None 1 Csv false ∷ asks None None None 4096 Csv false ∷ asks None None None 126 Fixed true ∷ asks None None None 126 Csv false ∷ []
 unfolding request counted sid_in date_in day_if days_from_civil day_count days_of_years days_of_months decimal_digits digits date_text
 with_options = refl
 
@@ -95,6 +95,8 @@ refused_runs : map (λ (options : List Word). request (codes "run" ∷ (options 
     ∷ (codes "--labels=" ∷ [])
     ∷ (codes "--labels=-" ∷ [])
     ∷ (codes "--label" ∷ codes "a" ∷ [])
+    ∷ (codes "--revisions=r" ∷ codes "--revisions" ∷ codes "r" ∷ [])
+    ∷ (codes "--revision" ∷ codes "r" ∷ [])
     ∷ (codes "--chunk" ∷ codes "2" ∷ codes "--chunk=2" ∷ [])
     ∷ (codes "--chunk" ∷ codes "0" ∷ [])
     ∷ (codes "--chunk=4097" ∷ [])
@@ -105,6 +107,6 @@ refused_runs : map (λ (options : List Word). request (codes "run" ∷ (options 
     ∷ (codes "--stats" ∷ codes "--stats" ∷ [])
     ∷ (codes "--format" ∷ codes "Csv" ∷ [])
     ∷ (codes "--format=csv" ∷ codes "--format" ∷ codes "fixed" ∷ []) ∷ [])
-    ≡ None ∷ None ∷ None ∷ None ∷ None ∷ None ∷ None ∷ None ∷ None ∷ None ∷ None ∷ None ∷ None ∷ None ∷ None ∷ None ∷ []
+    ≡ None ∷ None ∷ None ∷ None ∷ None ∷ None ∷ None ∷ None ∷ None ∷ None ∷ None ∷ None ∷ None ∷ None ∷ None ∷ None ∷ None ∷ None ∷ []
 unfolding request counted sid_in date_in day_if decimal_digits digits
 refused_runs = refl

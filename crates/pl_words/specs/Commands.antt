@@ -1,7 +1,7 @@
 -- The commands, as data.
 use Rattle.std.specs.Prelude.{ℕ, List, [], ◌∷◌, Option, find, bytes_eq, codes}
 use Rattle.pl_words.specs.declared.commands.OptionName.{OptionName}
-use Rattle.pl_words.specs.declared.commands.OptionName.TheVariants.{Labels, Adjustments, Chunk, Format, Stats, AsOf}
+use Rattle.pl_words.specs.declared.commands.OptionName.TheVariants.{Labels, Adjustments, Revisions, Chunk, Format, Stats, AsOf}
 use Rattle.pl_words.specs.declared.commands.CommandName.{CommandName}
 use Rattle.pl_words.specs.declared.commands.CommandName.TheVariants.{Run, Check, Fmt, Plan, Bench, Payouts}
 use Rattle.pl_words.specs.Parts.{Word}
@@ -28,7 +28,7 @@ places_of Payouts = 4  -- SESSIONS ASSETS BARS PAYOUTS
 
 -- the options that it knows
 abbrev pub options_of : CommandName → List OptionName
-options_of Run = Labels ∷ Adjustments ∷ Chunk ∷ Format ∷ Stats ∷ AsOf ∷ []
+options_of Run = Labels ∷ Adjustments ∷ Revisions ∷ Chunk ∷ Format ∷ Stats ∷ AsOf ∷ []
 options_of Check = []
 options_of Fmt = []
 options_of Plan = []

@@ -21,11 +21,12 @@ pub record Dated : Type 0 where
   pub text : List ℕ
   pub day : ℤ
 
--- the names of labels and adjustments, how many sessions a run computes at a time, the form of its table, whether its numbers
--- are told, and the date as of which it is
+-- the names of labels, adjustments and revisions, how many sessions a run computes at a time, the form of its table, whether
+-- its numbers are told, and the date as of which it is
 pub record Options : Type 0 where
   pub labels : Option (List ℕ)
   pub adjustments : Option (List ℕ)
+  pub revisions : Option (List ℕ)
   pub chunk : ℕ
   pub format : form.Format
   pub stats : Bool
@@ -118,11 +119,19 @@ as_of_by values = option_and_then as_of_or (one_value (values option.AsOf))
 
 abbrev pub options_by : Values → Option Options
 options_by values =
-    option_and_then (λ labels. option_and_then (λ adjustments. option_and_then (λ chunk. option_and_then (λ format.
-    option_and_then (λ stats. option_map (λ as_of.
-    record { labels = labels; adjustments = adjustments; chunk = chunk; format = format; stats = stats; as_of = as_of })
-    (as_of_by values)) (stats_by values)) (format_by values)) (chunk_by values)) (one_value (values option.Adjustments)))
-    (one_value (values option.Labels))
+    option_and_then (λ labels. option_and_then (λ adjustments. option_and_then (λ revisions.
+    option_and_then (λ chunk. option_and_then (λ format. option_and_then (λ stats. option_map (λ as_of.
+    record {
+      labels = labels;
+      adjustments = adjustments;
+      revisions = revisions;
+      chunk = chunk;
+      format = format;
+      stats = stats;
+      as_of = as_of;
+    })
+    (as_of_by values)) (stats_by values)) (format_by values)) (chunk_by values)) (one_value (values option.Revisions)))
+    (one_value (values option.Adjustments))) (one_value (values option.Labels))
 
 abbrev pub run_over : List Word → Dated → Dated → Options → RunRequest
 run_over names from to options =
@@ -201,6 +210,7 @@ run_name q file.Sessions = Some q.sessions
 run_name q file.Assets = Some q.assets
 run_name q file.Labels = q.options.labels
 run_name q file.Bars = Some q.bars
+run_name q file.Revisions = q.options.revisions
 run_name q file.Payouts = None
 
 -- of a command over the pipeline file alone
@@ -210,6 +220,7 @@ pipeline_name name file.Sessions = None
 pipeline_name name file.Assets = None
 pipeline_name name file.Labels = None
 pipeline_name name file.Bars = None
+pipeline_name name file.Revisions = None
 pipeline_name name file.Payouts = None
 
 abbrev pub plan_name : PlanRequest → InputFile → Option (List ℕ)
@@ -218,6 +229,7 @@ plan_name q file.Sessions = Some q.sessions
 plan_name q file.Assets = None
 plan_name q file.Labels = None
 plan_name q file.Bars = None
+plan_name q file.Revisions = None
 plan_name q file.Payouts = None
 
 abbrev pub payouts_name : PayoutsRequest → InputFile → Option (List ℕ)
@@ -226,6 +238,7 @@ payouts_name q file.Sessions = Some q.sessions
 payouts_name q file.Assets = Some q.assets
 payouts_name q file.Labels = None
 payouts_name q file.Bars = Some q.bars
+payouts_name q file.Revisions = None
 payouts_name q file.Payouts = Some q.payouts
 
 abbrev pub name_of : Request → InputFile → Option (List ℕ)

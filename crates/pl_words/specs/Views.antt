@@ -18,6 +18,7 @@ options_of o =
     record {
       labels = option_map (λ n. n.now) o.labels;
       adjustments = option_map (λ n. n.now) o.adjustments;
+      revisions = option_map (λ n. n.now) o.revisions;
       chunk = o.chunk;
       format = o.format;
       stats = o.stats;

@@ -19,6 +19,7 @@ pub enum CommandName {
 pub enum OptionName {
     Labels,
     Adjustments,
+    Revisions,
     Chunk,
     Format,
     Stats,
@@ -59,6 +60,7 @@ impl CommandName {
             CommandName::Run => &[
                 OptionName::Labels,
                 OptionName::Adjustments,
+                OptionName::Revisions,
                 OptionName::Chunk,
                 OptionName::Format,
                 OptionName::Stats,
@@ -78,6 +80,7 @@ impl OptionName {
         match self {
             OptionName::Labels => "labels",
             OptionName::Adjustments => "adjustments",
+            OptionName::Revisions => "revisions",
             OptionName::Chunk => "chunk",
             OptionName::Format => "format",
             OptionName::Stats => "stats",

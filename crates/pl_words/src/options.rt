@@ -21,6 +21,9 @@ pub(crate) fn options<'a>(matches: &ArgMatches<'a>) -> Option<Options<'a>>
     let Ok(adjustments) = value(matches, OptionName::Adjustments) else {
         return None;
     };
+    let Ok(revisions) = value(matches, OptionName::Revisions) else {
+        return None;
+    };
     let chunk = chunk(matches)?;
     let format = format(matches)?;
     let stats = stats(matches)?;
@@ -28,6 +31,7 @@ pub(crate) fn options<'a>(matches: &ArgMatches<'a>) -> Option<Options<'a>>
     Some(Options {
         labels,
         adjustments,
+        revisions,
         chunk,
         format,
         stats,

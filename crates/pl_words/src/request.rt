@@ -13,6 +13,7 @@ pub enum InputFile {
     Assets,
     Labels,
     Bars,
+    Revisions,
     Payouts,
 }
 
@@ -31,12 +32,13 @@ pub struct DateWord<'a> {
     pub day: i32,
 }
 
-/// The options of a run: the names of its labels and adjustments, how many sessions it computes at a time, from 1 to
-/// 4096, the form of its table, whether its numbers are told, and the date as of which it is.
+/// The options of a run: the names of its labels, adjustments and revisions, how many sessions it computes at a time,
+/// from 1 to 4096, the form of its table, whether its numbers are told, and the date as of which it is.
 #[derive(Clone, Copy)]
 pub struct Options<'a> {
     pub labels: Option<&'a str>,
     pub adjustments: Option<&'a str>,
+    pub revisions: Option<&'a str>,
     pub chunk: u32,
     pub format: Format,
     pub stats: bool,
@@ -122,6 +124,7 @@ fn pipeline_name<'a>(name: &'a str, file: InputFile) -> Option<&'a str>
         | InputFile::Assets
         | InputFile::Labels
         | InputFile::Bars
+        | InputFile::Revisions
         | InputFile::Payouts => None,
     }
 }
@@ -175,6 +178,7 @@ impl<'a> RunRequest<'a> {
             InputFile::Assets => Some(self.assets),
             InputFile::Labels => self.options.labels,
             InputFile::Bars => Some(self.bars),
+            InputFile::Revisions => self.options.revisions,
             InputFile::Payouts => None,
         }
     }
@@ -187,7 +191,11 @@ impl<'a> PlanRequest<'a> {
         match file {
             InputFile::Pipeline => Some(self.pipeline),
             InputFile::Sessions => Some(self.sessions),
-            InputFile::Assets | InputFile::Labels | InputFile::Bars | InputFile::Payouts => None,
+            InputFile::Assets
+            | InputFile::Labels
+            | InputFile::Bars
+            | InputFile::Revisions
+            | InputFile::Payouts => None,
         }
     }
 }
@@ -201,7 +209,7 @@ impl<'a> PayoutsRequest<'a> {
             InputFile::Assets => Some(self.assets),
             InputFile::Bars => Some(self.bars),
             InputFile::Payouts => Some(self.payouts),
-            InputFile::Pipeline | InputFile::Labels => None,
+            InputFile::Pipeline | InputFile::Labels | InputFile::Revisions => None,
         }
     }
 }

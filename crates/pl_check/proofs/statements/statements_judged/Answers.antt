@@ -26,9 +26,9 @@ returns-in_err-statement_judged c =
     let s = statement_of c.statement-item.result in
     let ss = statements_of (drop (c.loop-statement.statement-index + 1) c.args.statements.now) in
     let e = next-statement c.args.statements.now c.loop-statement.statement-index c.statement-item.result c.loop-statement-test.true c.statement-item.is in
-    let f : Fails c.in_err-statement_judged.field-0.0 (statements_judged (judged_of c.args.judged.now) (statements_of c.args.statements.now)) =
-    subst (Fails c.in_err-statement_judged.field-0.0) (sym (ap (statements_judged j) e) ∙ c.loop-statement.invariant.0)
-    (failed-next j c.in_err-statement_judged.field-0.0 s ss c.in_err-statement_judged.ensures) in
+    let f : Fails c.in_err-statement_judged.field-0.0 (statements_judged c.args.version (judged_of c.args.judged.now) (statements_of c.args.statements.now)) =
+    subst (Fails c.in_err-statement_judged.field-0.0) (sym (ap (statements_judged c.args.version j) e) ∙ c.loop-statement.invariant.0)
+    (failed-next c.args.version j c.in_err-statement_judged.field-0.0 s ss c.in_err-statement_judged.ensures) in
     search (rules, f)
 
 pub loop-statement-preserved : goal.loop-statement-preserved
@@ -39,9 +39,9 @@ loop-statement-preserved c =
     let ss = statements_of (drop (c.loop-statement.statement-index + 1) c.args.statements.now) in
     let e = next-statement c.args.statements.now c.loop-statement.statement-index c.statement-item.result c.loop-statement-test.true c.statement-item.is in
     let y = tree-sound s ss (sym (ap (are_sound is_written) e) ∙ c.loop-statement.invariant.2) in
-    (judged-next j k s ss c.in_ok-statement_judged.ensures ∙ sym (ap (statements_judged j) e) ∙ c.loop-statement.invariant.0, statement-kept j s k y.0 c.loop-statement.invariant.1 c.in_ok-statement_judged.ensures, y.1)
+    (judged-next c.args.version j k s ss c.in_ok-statement_judged.ensures ∙ sym (ap (statements_judged c.args.version j) e) ∙ c.loop-statement.invariant.0, statement-kept c.args.version j s k y.0 c.loop-statement.invariant.1 c.in_ok-statement_judged.ensures, y.1)
 
 pub returns : goal.returns
 unfolding statements_judged
 returns c =
-    sym c.loop-statement.invariant.0 ∙ ap (λ ss. statements_judged (judged_of c.loop-statement.judged) (statements_of ss)) (drop_all c.loop-statement.statement-index c.args.statements.now (omega arith))
+    sym c.loop-statement.invariant.0 ∙ ap (λ ss. statements_judged c.args.version (judged_of c.loop-statement.judged) (statements_of ss)) (drop_all c.loop-statement.statement-index c.args.statements.now (omega arith))

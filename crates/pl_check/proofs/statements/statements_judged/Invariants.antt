@@ -9,5 +9,5 @@ use Rattle.pl_check.proofs.statements.statements_judged.Given as goal
 
 abbrev pub invariant-loop-statement : goal.invariant-loop-statement
 invariant-loop-statement l =
-    (statements_judged (judged_of l.judged) (statements_of (drop l.statement-index l.statements)) ≡ statements_judged (judged_of l.fn.judged) (statements_of l.fn.statements))
+    (statements_judged l.version (judged_of l.judged) (statements_of (drop l.statement-index l.statements)) ≡ statements_judged l.fn.version (judged_of l.fn.judged) (statements_of l.fn.statements))
     × JudgedStands (judged_of l.judged) × (are_sound is_written (statements_of (drop l.statement-index l.statements)) ≡ true)

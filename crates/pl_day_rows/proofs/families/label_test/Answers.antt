@@ -1,4 +1,4 @@
-use Rattle.std.proofs.Common.{◌≡◌, true, ◌∙◌, sym, subst, ap, get_or, length, pos, List, ℤ, slice_get, arith, FitsSigned, w64, w32, rules}
+use Rattle.std.proofs.Common.{◌∙◌, sym, subst, ap, get_or, length, pos, List, ℤ, slice_get, arith, FitsSigned, w64}
 use Rattle.std.proofs.lemmas.Int.{to_z-of_z}
 use Rattle.pl_spec.specs.Rounding.{IsCell}
 use Rattle.pl_spec.specs.Kind.{Kind}

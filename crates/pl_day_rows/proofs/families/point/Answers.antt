@@ -1,4 +1,4 @@
-use Rattle.std.proofs.Common.{◌≡◌, ℕ, true, ◌∙◌, sym, subst, ap, get_or, length, pos, List, ℤ, slice_get, FitsSigned, w64, w32, rules}
+use Rattle.std.proofs.Common.{ℕ, sym, subst, get_or, pos, List, ℤ, slice_get, FitsSigned, w64}
 use Rattle.std.proofs.lemmas.Int.{to_z-of_z}
 use Rattle.pl_spec.specs.Rounding.{IsCell}
 use Rattle.pl_spec.specs.Kind.{Kind}

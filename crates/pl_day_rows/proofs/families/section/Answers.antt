@@ -1,6 +1,5 @@
-use Rattle.std.proofs.Common.{◌≡◌, ℕ, true, ◌∙◌, sym, subst, ap, length, List, ℤ, slice_get, Option, arith, All, ◌≤◌, ◌<◌}
+use Rattle.std.proofs.Common.{◌≡◌, ◌∙◌, sym, subst, ap, length, slice_get, arith, All}
 use Rattle.pl_spec.specs.Rounding.{IsCell}
-use Rattle.pl_spec.specs.Cross.{at}
 use Rattle.pl_cross.specs.Section.{HasParameters}
 use Rattle.pl_cross.specs.Listing.{labels_in, Fits}
 use Rattle.pl_cross.specs.Arrays.{section_at}

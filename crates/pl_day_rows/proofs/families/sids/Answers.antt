@@ -1,9 +1,9 @@
-use Rattle.std.proofs.Common.{◌≡◌, true, ◌∙◌, sym, subst, ap, FitsSigned, w64, w32, rules}
+use Rattle.std.proofs.Common.{sym, subst, FitsSigned, w64}
 use Rattle.std.proofs.lemmas.Int.{to_z-of_z}
 use Rattle.pl_spec.specs.Rounding.{IsCell}
 use Rattle.pl_spec.specs.Kind.{Kind}
 use Rattle.pl_cross.specs.Arrays.{sid_in}
-use Rattle.pl_values.specs.Families.{is_sids, sid_flag}
+use Rattle.pl_values.specs.Families.{sid_flag}
 use Rattle.pl_day_rows.specs.Rows.{Shows, sids_of}
 use Rattle.pl_day_rows.specs.Turns.{node_at}
 use Rattle.pl_day_rows.proofs.Given.{none_cell, out_is, sid_given}

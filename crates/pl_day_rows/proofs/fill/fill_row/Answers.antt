@@ -1,4 +1,4 @@
-use Rattle.std.proofs.Common.{◌≡◌, ℕ, ◌<◌, length, ◌∙◌, ap, sym, subst, rules, FitsSigned, w64, w32}
+use Rattle.std.proofs.Common.{◌<◌, length, ◌∙◌, ap, sym, subst, rules, FitsSigned, w64, w32}
 use Rattle.std.proofs.lemmas.Int.{to_z-of_z}
 use Rattle.pl_cross.specs.Listing.{labels_in}
 use Rattle.pl_spec.specs.Term.{term_at}

@@ -1,4 +1,4 @@
-use Rattle.std.proofs.Common.{◌≡◌, ◌<◌, length, pos, arith, ◌∙◌, sym}
+use Rattle.std.proofs.Common.{pos, arith, ◌∙◌, sym}
 use Rattle.std.proofs.lemmas.List.{ext_get_or}
 use Rattle.pl_day_rows.proofs.held.copy_row.Goals as goal
 

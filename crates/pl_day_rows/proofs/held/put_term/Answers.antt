@@ -1,8 +1,7 @@
-use Rattle.std.proofs.Common.{◌≡◌, ◌<◌, ◌++◌, length, take, drop, get_or, pos, ap, sym, refl, ◌∙◌, arith, subst, List, All}
+use Rattle.std.proofs.Common.{length, drop, get_or, pos, ap, sym, refl, ◌∙◌, arith, subst, List, All}
 use Rattle.pl_spec.specs.Rounding.{IsCell}
 use Rattle.pl_rings.specs.Changes.{Ring, AreRings, pushed, ring_at}
 use Rattle.pl_rings.proofs.Advances.{vec_back, rings_pushed}
-use Rattle.pl_day_rows.specs.declared.turn.TermCells.{TermCells}
 use Rattle.pl_day_rows.proofs.DayByDay.{follow_term}
 use Rattle.pl_day_rows.proofs.held.put_term.Goals as goal
 

@@ -1,13 +1,10 @@
-use Rattle.std.proofs.Common.{◌≡◌, ◌+◌, ◌<◌, ℕ, ℤ, rules, arith, pos, ap, sym, refl, ◌∙◌, get_or, set, length, subst, FitsSigned, w64, w32}
+use Rattle.std.proofs.Common.{◌+◌, ◌<◌, ℕ, ℤ, rules, arith, pos, ap, sym, refl, get_or, set, length, subst, FitsSigned, w64}
 use Rattle.std.proofs.lemmas.Int.{to_z-of_z}
 use Rattle.pl_spec.specs.Rounding.{IsCell}
 use Rattle.pl_terms.specs.Kinds.{kind_of}
-use Rattle.pl_assets.specs.Labels.{label_on}
-use Rattle.pl_cross.specs.Arrays.{sid_in}
-use Rattle.pl_values.specs.Families.{code_flag, label_code, sid_flag}
-use Rattle.pl_day_rows.specs.Rows.{sids_of}
-use Rattle.pl_day_rows.proofs.KindFamilies.{sid_flag_cell, code_flag_cell}
-use Rattle.pl_day_rows.proofs.Shown.{begun, begun_more, all_begun, picked_cell, renamed, sid_told}
+use Rattle.pl_values.specs.Families.{code_flag}
+use Rattle.pl_day_rows.proofs.KindFamilies.{code_flag_cell}
+use Rattle.pl_day_rows.proofs.Shown.{begun, begun_more, all_begun, picked_cell, renamed}
 use Rattle.pl_day_rows.proofs.leaves.label_test_row.Goals as goal
 
 pub loop-i-init : goal.loop-i-init

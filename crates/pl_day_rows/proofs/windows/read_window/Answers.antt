@@ -1,4 +1,4 @@
-use Rattle.std.proofs.Common.{◌≡◌, ℕ, subst, ◌<◌, ◌≤◌, Some, slice_get, get_or, length, ap, sym, ◌∙◌, arith}
+use Rattle.std.proofs.Common.{◌≡◌, ℕ, subst, ◌≤◌, Some, slice_get, get_or, length, ap, sym, ◌∙◌, arith}
 use Rattle.circular_buffer.specs.Buffer.{keep_last}
 use Rattle.pl_spec.specs.Term.Input.{TermInput}
 use Rattle.pl_terms.specs.Nodes.{input_of}

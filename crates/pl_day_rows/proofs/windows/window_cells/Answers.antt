@@ -1,4 +1,4 @@
-use Rattle.std.proofs.Common.{◌≡◌, ◌+◌, ◌<◌, ℕ, ℤ, rules, arith, pos, ap, sym, refl, ◌∙◌, get_or, set, length, FitsSigned, w64}
+use Rattle.std.proofs.Common.{◌+◌, ◌<◌, ℕ, ℤ, rules, arith, pos, ap, sym, refl, ◌∙◌, get_or, set, length, FitsSigned, w64}
 use Rattle.std.proofs.lemmas.Int.{to_z-of_z}
 use Rattle.pl_day_rows.specs.Windows.{windowed_by}
 use Rattle.pl_day_rows.proofs.Shown.{begun_more, renamed}

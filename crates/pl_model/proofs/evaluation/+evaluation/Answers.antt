@@ -1,4 +1,4 @@
-use Rattle.std.proofs.Common.{rules, ◌≡◌, ◌+◌, ◌-◌, ◌*◌, ◌<◌, ◌≤◌, ◌++◌, ◌∷◌, [], ◌∙◌, true, false, All, Some, pos, length, slice_get, sym, ap, subst, arith, add-zero, inl, inr, w64, FitsSigned}
+use Rattle.std.proofs.Common.{ℕ, ℤ, IfOk, OnOk, rules, ◌≡◌, ◌+◌, ◌-◌, ◌*◌, ◌<◌, ◌≤◌, ◌++◌, ◌∷◌, [], ◌∙◌, true, false, All, Some, pos, length, slice_get, sym, ap, subst, arith, add-zero, inl, inr, w64, FitsSigned}
 use Rattle.std.proofs.lemmas.Int.{to_z-of_z}
 use Rattle.pl_spec.specs.Rounding.{IsCell}
 use Rattle.pl_spec.specs.Parts.{sid_at}
@@ -16,9 +16,9 @@ use Rattle.pl_spec.specs.Value.{number_of as number_in, empty, sort_kind}
 use Rattle.pl_values.proofs.Texts.{texts-coded}
 use Rattle.pl_model.specs.Worlds.{world_of}
 use Rattle.pl_model.specs.Evaluations.{IsAsked, IsAskedInput, IsAskedOption, IsKept, as_input, lets_pass, above, above_option, cell_in, input_cell_in, window_in, cost_in, input_cost_in}
-use Rattle.pl_model.proofs.Asked.{first-asked, second-asked, third-asked, mask-asked, group-asked, mask-input-asked, input-below, mask-below, group-below, window-one}
-use Rattle.pl_model.proofs.Evaluated.{lacks-value, cell-barred, cell-kept, kept-mask, mask-passed, on-ok, sid-of, not-windowed, constant-given, sid-given, label-named, label-given, label-test-given, window-early, windows-given, point-given}
-use Rattle.pl_model.proofs.Costs.{cost-lacks, cost-barred, cost-kept}
+use Rattle.pl_model.proofs.Asked.{first-asked, second-asked, third-asked, mask-asked, group-asked, mask-input-asked, input-below, mask-below, group-below, window-one, start-asked}
+use Rattle.pl_model.proofs.Evaluated.{lacks-value, cell-barred, cell-kept, kept-mask, mask-passed, on-ok, sid-of, not-windowed, constant-given, sid-given, label-named, label-given, label-test-given, window-early, windows-given, point-given, start-given, downsampled-plain}
+use Rattle.pl_model.proofs.Costs.{cost-lacks, cost-barred, cost-kept, start-cost}
 use Rattle.pl_model.proofs.Windowing.{cells-more, steps-more, cells-all, steps-all, all-more, row-more, row-steps-more, row-all, row-steps-all}
 use Rattle.pl_model.proofs.Sections.{sid-there, blank}
 use Rattle.pl_model.proofs.evaluation.+evaluation.Goals as goal
@@ -591,3 +591,55 @@ term_row-returns-clause-cost g t c =
     let p = c.args.checked.now in
     let end : length w.assets.now ≤ c.loop-col.col = omega (arith, c.loop-col-test.false, c.len-col-end.ensures.length) in
     row-steps-all (λ b. cost_in w p c.args.u.0 b.sid c.args.session) w.assets.now c.loop-col.col c.args.steps.now c.loop-col.steps end c.loop-col.invariant.cost
+
+pub given-input_cell-requires-in-Downsample : goal.given-input_cell-requires-in-Downsample
+given-input_cell-requires-in-Downsample g t c =
+    let w = c.args.world.now in
+    let p = c.args.checked.now in
+    let t0 = c.args.t.0 in
+    let s = c.args.session in
+    let ok = c.graph.ensures.checked in
+    let asked = c.requires.asked in
+    let n = c.node-node.result.now in
+    let is : slice_get p.graph t0 ≡ Some n = ap (λ ns. slice_get ns c.args.t.0) (sym c.graph.ensures.value) ∙ c.node-node.ensures in
+    let kind : IsOf (kind_of n.kind) (family.Downsample c.in-Downsample.frequency) = subst (IsOf (kind_of n.kind)) c.in-Downsample.is c.family_of.ensures in
+    let start = c.period_start-start.result in
+    let one = window-one w p ok t0 s asked n is (downsampled-plain (kind_of n.kind) c.in-Downsample.frequency kind) in
+    let up = c.period_start-start.ensures.within in
+    let may : IsAskedInput w p c.input_at-input-in-Downsample.result 1 start =
+    subst (λ o. IsAskedInput w p o 1 start) (sym c.input_at-input-in-Downsample.ensures)
+    (subst (λ k. IsAskedInput w p (slice_get n.inputs 0) k start) one (start-asked w p ok t0 s asked n is c.in-Downsample.frequency start kind up c.period_start-start.ensures.exact)) in
+    let same : above c.input_at-input-in-Downsample.result ≡ above (slice_get n.inputs 0) = ap above c.input_at-input-in-Downsample.ensures in
+    let smaller : 16 * above c.input_at-input-in-Downsample.result < 16 * c.args.t.0 + 8 = omega (arith, input-below w p ok t0 s asked n is 0, same) in
+    search rules
+
+pub given-returns-in-Downsample-clause-value : goal.given-returns-in-Downsample-clause-value
+given-returns-in-Downsample-clause-value g t c =
+    let w = c.args.world.now in
+    let p = c.args.checked.now in
+    let t0 = c.args.t.0 in
+    let s = c.args.session in
+    let ok = c.graph.ensures.checked in
+    let n = c.node-node.result.now in
+    let is : slice_get p.graph t0 ≡ Some n = ap (λ ns. slice_get ns c.args.t.0) (sym c.graph.ensures.value) ∙ c.node-node.ensures in
+    let a = sid_at c.args.world.now.assets.now c.args.col in
+    let kind : IsOf (kind_of n.kind) (family.Downsample c.in-Downsample.frequency) = subst (IsOf (kind_of n.kind)) c.in-Downsample.is c.family_of.ensures in
+    let start = c.period_start-start.result in
+    subst (λ (y : ℤ). IfOk c.input_cell-in-Downsample.result (λ x. x ≡ y))
+    (ap (λ o. input_cell_in w p o a start) c.input_at-input-in-Downsample.ensures ∙ start-given w p ok t0 n is a s c.requires.kept c.in-Downsample.frequency start kind c.period_start-start.ensures.exact)
+    c.input_cell-in-Downsample.ensures.value
+
+pub given-returns-in-Downsample-clause-cost : goal.given-returns-in-Downsample-clause-cost
+given-returns-in-Downsample-clause-cost g t c =
+    let w = c.args.world.now in
+    let p = c.args.checked.now in
+    let t0 = c.args.t.0 in
+    let s = c.args.session in
+    let n = c.node-node.result.now in
+    let is : slice_get p.graph t0 ≡ Some n = ap (λ ns. slice_get ns c.args.t.0) (sym c.graph.ensures.value) ∙ c.node-node.ensures in
+    let a = sid_at c.args.world.now.assets.now c.args.col in
+    let kind : IsOf (kind_of n.kind) (family.Downsample c.in-Downsample.frequency) = subst (IsOf (kind_of n.kind)) c.in-Downsample.is c.family_of.ensures in
+    let start = c.period_start-start.result in
+    subst (λ (k : ℕ). OnOk c.input_cell-in-Downsample.result (c.input_cell-in-Downsample.new.steps ≡ c.args.steps.now + k))
+    (ap (λ o. input_cost_in w p o a start) c.input_at-input-in-Downsample.ensures ∙ sym (start-cost w p t0 s start a n c.in-Downsample.frequency is kind c.period_start-start.ensures.exact))
+    c.input_cell-in-Downsample.ensures.cost

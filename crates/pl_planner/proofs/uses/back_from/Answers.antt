@@ -1,5 +1,7 @@
+use Rattle.std.proofs.Common.{◌∙◌, sym, ap}
+use Rattle.pl_planner.specs.Extra.{back_from}
 use Rattle.pl_planner.proofs.Pipelines.{back-own}
 use Rattle.pl_planner.proofs.uses.back_from.Goals as goal
 
-pub returns : goal.returns
-returns c = back-own c.args.sessions.now c.args.session c.args.node.now c.args.extra
+pub returns-in-None : goal.returns-in-None
+returns-in-None c = back-own c.args.sessions.now c.args.session c.args.node.now c.args.extra c.in-None.ensures.none

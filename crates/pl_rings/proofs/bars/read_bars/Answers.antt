@@ -1,9 +1,8 @@
-use Rattle.std.proofs.Common.{◌≡◌, ◌<◌, get_or, pos, [], length, ℤ, rules, arith, refl, sym, ◌∙◌, ap, FitsSigned, w64}
+use Rattle.std.proofs.Common.{◌<◌, get_or, [], length, rules, sym, ◌∙◌, FitsSigned, w64}
 use Rattle.std.proofs.lemmas.Int.{to_z-of_z}
 use Rattle.std.proofs.lemmas.List.Elements.{All-set}
 use Rattle.pl_spec.specs.Rounding.{IsCell}
 use Rattle.pl_rings.specs.declared.day.DayBar.{DayBar}
-use Rattle.pl_rings.specs.Days.{bar_row, cell_brought}
 use Rattle.pl_rings.proofs.Cells.{brought_none, brought_set, length-set_at}
 use Rattle.pl_rings.proofs.bars.read_bars.Goals as goal
 

@@ -1,4 +1,4 @@
-use Rattle.std.proofs.Common.{◌≡◌, ◌+◌, ◌-◌, ◌*◌, min, length, take, drop, ◌++◌, rules, arith, ap, sym, ◌∙◌, subst, take_all, length-drop, List, ℤ, ℕ, ◌≤◌}
+use Rattle.std.proofs.Common.{◌≡◌, ◌+◌, ◌-◌, ◌*◌, min, length, take, drop, arith, ap, sym, ◌∙◌, subst, take_all, length-drop, List, ℤ, ℕ, ◌≤◌}
 use Rattle.pl_rings.specs.Rings.{scaling}
 use Rattle.pl_rings.specs.Changes.{Ring, AreRings, FollowBars}
 use Rattle.pl_rings.proofs.Advances.{vec_back}

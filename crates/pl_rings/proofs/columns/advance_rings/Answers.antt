@@ -1,6 +1,6 @@
-use Rattle.std.proofs.Common.{◌≡◌, ℕ, ◌<◌, pos, get_or, length, rules, arith, refl, sym, ◌∙◌, ap, subst, All}
+use Rattle.std.proofs.Common.{◌≡◌, ◌<◌, length, arith, sym, ◌∙◌, subst, All}
 use Rattle.pl_rings.specs.declared.day.DayEvent.{DayEvent}
-use Rattle.pl_rings.specs.Changes.{AreRings, ring_at}
+use Rattle.pl_rings.specs.Changes.{AreRings}
 use Rattle.pl_rings.proofs.Advances.{bars_follow, rings_pushed}
 use Rattle.pl_rings.proofs.columns.advance_rings.Goals as goal
 

@@ -1,10 +1,10 @@
-use Rattle.std.proofs.Common.{◌≡◌, ◌+◌, ◌-◌, ◌*◌, ◌<◌, ◌≤◌, [], ◌∷◌, length, rules, arith, pos, ap, sym, refl, ◌∙◌, get_or, min, option_to_list, FitsSigned, w64, w32}
+use Rattle.std.proofs.Common.{◌≡◌, ◌+◌, ◌<◌, ◌≤◌, [], ◌∷◌, length, rules, arith, pos, ap, refl, ◌∙◌, get_or, option_to_list, FitsSigned, w64, w32}
 use Rattle.std.proofs.lemmas.Int.{to_z-of_z}
 use Rattle.std.proofs.lemmas.List.Elements.{All-set}
 use Rattle.pl_spec.specs.Rounding.{IsCell}
 use Rattle.pl_spec.specs.Window.{after_all, effect}
 use Rattle.pl_adjust.specs.Events.{event_of}
-use Rattle.pl_rings.specs.Rings.{changed_cells, known_days, scaling}
+use Rattle.pl_rings.specs.Rings.{known_days, scaling}
 use Rattle.pl_rings.proofs.Cells.{begins, begun_more, next_cell, steps_one, all_begun, length-changed, length-known, cost_none, cost_next, cost_all}
 use Rattle.pl_rings.proofs.events.change_cells.Goals as goal
 

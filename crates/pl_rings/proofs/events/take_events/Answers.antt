@@ -1,8 +1,8 @@
-use Rattle.std.proofs.Common.{◌≡◌, ◌+◌, ◌*◌, ◌<◌, min, length, take, [], ◌∷◌, rules, arith, refl, sym, ◌∙◌, ap, get_or}
+use Rattle.std.proofs.Common.{◌≡◌, ◌<◌, min, length, [], ◌∷◌, rules, arith, refl, sym, ◌∙◌, ap, get_or}
 use Rattle.circular_buffer.specs.Buffer.{buffer}
 use Rattle.pl_adjust.specs.Events.{event_of}
-use Rattle.pl_rings.specs.Rings.{known_days, scaling}
-use Rattle.pl_rings.specs.Changes.{Ring, IsRing, changed, ring_at}
+use Rattle.pl_rings.specs.Rings.{known_days}
+use Rattle.pl_rings.specs.Changes.{changed, ring_at}
 use Rattle.pl_rings.proofs.Cells.{changed_nothing, count_more, ring_set, rings_set, get_or-default, length-known, cost_more}
 use Rattle.pl_rings.proofs.events.take_events.Goals as goal
 

@@ -1,4 +1,4 @@
-use Rattle.std.proofs.Common.{◌≡◌, ◌+◌, ◌-◌, ◌<◌, length, get_or, pos, arith, ap, ◌∙◌}
+use Rattle.std.proofs.Common.{◌+◌, ◌-◌, length, get_or, pos, arith, ap, ◌∙◌}
 use Rattle.pl_rings.proofs.Written.{window_is}
 use Rattle.pl_rings.proofs.rings.copy_window.Goals as goal
 

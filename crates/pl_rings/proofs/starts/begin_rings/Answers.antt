@@ -1,6 +1,4 @@
-use Rattle.std.proofs.Common.{◌≡◌, ◌≤◌, length, rules, arith, sym, ◌∙◌, ap}
-use Rattle.pl_rings.specs.Columns.{rings_of, capacity_for}
-use Rattle.pl_rings.specs.Changes.{AreRings, HoldBars}
+use Rattle.std.proofs.Common.{rules, arith, sym, ◌∙◌}
 use Rattle.pl_rings.proofs.Beginning.{by_column, none_fed, rings_are, rings_begin}
 use Rattle.pl_rings.proofs.starts.begin_rings.Goals as goal
 

@@ -1,4 +1,4 @@
-use Rattle.pl_values.proofs.Given.{unkept-cell, constant-cell, window-cell, point-cell, point-operands, sid-cell, label-cell, label-test-cell, section-cell}
+use Rattle.pl_values.proofs.Given.{unkept-cell, constant-cell, window-cell, point-cell, point-operands, sid-cell, label-cell, label-test-cell, section-cell, downsampled-cell}
 use Rattle.pl_values.proofs.laws.cells_are_given.Goals as goal
 
 pub returns-clause-unkept : goal.returns-clause-unkept
@@ -27,3 +27,6 @@ returns-clause-label_tests c = label-test-cell
 
 pub returns-clause-sections : goal.returns-clause-sections
 returns-clause-sections c = section-cell
+
+pub returns-clause-downsampled : goal.returns-clause-downsampled
+returns-clause-downsampled c = downsampled-cell

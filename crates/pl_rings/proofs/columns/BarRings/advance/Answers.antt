@@ -1,4 +1,4 @@
-use Rattle.std.proofs.Common.{◌≡◌, ◌≤◌, ℤ, List, ◌++◌, ◌∷◌, [], length, suc, ap, sym, ◌∙◌, arith, rules, FitsSigned, w32, to_z, of_z, take, drop}
+use Rattle.std.proofs.Common.{◌≡◌, ◌≤◌, ℤ, ◌++◌, ◌∷◌, [], length, suc, ap, sym, ◌∙◌, arith, rules, FitsSigned, w32, to_z, of_z, take, drop}
 use Rattle.std.proofs.lemmas.Int.{to_z-of_z}
 use Rattle.circular_buffer.specs.Buffer.{Buffer, buffer, keep_last}
 use Rattle.pl_spec.specs.declared.Column.TheVariants.{OpenPrice, High, Low, Close, Volume}

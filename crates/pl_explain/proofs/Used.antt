@@ -1,0 +1,87 @@
+-- Used terms stand in the graph, and the sid of a column is known.
+use Rattle.std.proofs.Common.{◌≡◌, ℕ, zero, suc, ◌<◌, ◌≤◌, Bool, true, false, cond, List, [], ◌∷◌, ◌++◌, length, get_or, Option, Some, None, option_map, unwrap_or, refl, sym, ◌∙◌, ap, arith, ◌==◌, inl, inr, pos, IfSome, IfNone}
+use Rattle.std.proofs.lemmas.List.{length-map}
+use Rattle.std.specs.List.{list_any, position}
+use Rattle.std.proofs.lemmas.Bool.{true≢false, or_cases, or_right, eqb-true, cases_Bool}
+use Rattle.std.proofs.lemmas.List.Folds.{list_any-append}
+use Rattle.std.proofs.lemmas.Option.{slice_get-get_or}
+use Rattle.pl_spec.specs.declared.AssetRow.{AssetRow}
+use Rattle.pl_spec.specs.Parts.{sid_at}
+use Rattle.pl_spec.specs.Term.{Graph}
+use Rattle.pl_spec.specs.Graph.{contains, mentions_at, used_below}
+use Rattle.pl_spec.specs.Table.{Pipeline}
+use Rattle.pl_terms.specs.Uses.{outputs, is_used}
+use Rattle.pl_terms.specs.declared.node.Node.{Node}
+use Rattle.pl_terms.specs.Nodes.{graph_of, node_of}
+use Rattle.pl_model.specs.declared.world.World.{World}
+use Rattle.pl_model.specs.Worlds.{world_of}
+use Rattle.pl_facts.specs.Right.{has_sid}
+use Rattle.pl_facts.proofs.Finding.{place_found, is_place}
+use Rattle.pl_explain.specs.Judging.{IsPlace}
+
+below : (g : Graph) (n : ℕ) (marks : List ℕ) (t : ℕ) → contains (used_below g n marks) t ≡ true → t < n
+below g zero marks t h = absurd (true≢false (sym h))
+below g (suc n) marks t h = here (contains marks n) h (λ m. below g n m t)
+  where
+    here : (b : Bool) → contains (used_below g n (cond b (marks ++ mentions_at g n) marks) ++ cond b (n ∷ []) []) t ≡ true
+        → ((m : List ℕ) → contains (used_below g n m) t ≡ true → t < n) → t < suc n
+    here b e more =
+        elim (or_cases (contains (used_below g n (cond b (marks ++ mentions_at g n) marks)) t) (contains (cond b (n ∷ []) []) t) (sym (list_any-append (λ x. x == t) (used_below g n (cond b (marks ++ mentions_at g n) marks)) (cond b (n ∷ []) [])) ∙ e)) [
+          | inl i ↦ (let l : t < n = more (cond b (marks ++ mentions_at g n) marks) i in omega (arith, l))
+          | inr i ↦ own b i
+        ]
+      where
+        own : (b : Bool) → contains (cond b (n ∷ []) []) t ≡ true → t < suc n
+        own false i = absurd (true≢false (sym i))
+        own true i = elim (or_cases (n == t) false i) [
+          | inl e ↦ (let same : n ≡ t = eqb-true n t e in omega (arith, same))
+          | inr e ↦ absurd (true≢false (sym e))
+        ]
+
+pub used-within : (p : Pipeline) (t : ℕ) → is_used p t ≡ true → t < length p.graph
+used-within p t h = below p.graph (length p.graph) (outputs p) t h
+
+pub past-unused : (p : Pipeline) (t : ℕ) → length p.graph ≤ t → is_used p t ≡ false
+past-unused p t l = elim (cases_Bool (is_used p t)) [
+  | inl h ↦ (let w = used-within p t h in absurd (omega (arith, l, w)))
+  | inr h ↦ h
+]
+
+-- the column that a search for a sid finds
+pub place-sid : (assets : List AssetRow) (sid i : ℕ) → position (λ a. a.sid == sid) assets ≡ Some i → (i < length assets) × (sid_at assets i ≡ sid)
+place-sid assets sid i e =
+    let none : AssetRow = record { sid = 0; start = pos 0; end = pos 0 } in
+    let found = place_found (λ (a : AssetRow). a.sid == sid) assets i none e in
+    (found.0, ap (λ o. unwrap_or (option_map (λ (a : AssetRow). a.sid) o) 0) (slice_get-get_or assets i none found.0) ∙ eqb-true (get_or assets i none).sid sid found.1)
+
+pub place-known : (assets : List AssetRow) (sid i : ℕ) → position (λ a. a.sid == sid) assets ≡ Some i → list_any (λ (a : AssetRow). a.sid == sid) assets ≡ true
+place-known assets sid i e = elim (cases_Bool (list_any (λ (a : AssetRow). a.sid == sid) assets)) [
+  | inl h ↦ h
+  | inr h ↦ (let found = place_found (λ (a : AssetRow). a.sid == sid) assets i (record { sid = 0; start = pos 0; end = pos 0 }) e in
+      absurd (true≢false (sym (any-at assets i found.0 found.1) ∙ h)))
+]
+  where
+    any-at : (assets : List AssetRow) (i : ℕ) → i < length assets → ((get_or assets i (record { sid = 0; start = pos 0; end = pos 0 })).sid == sid) ≡ true → list_any (λ (a : AssetRow). a.sid == sid) assets ≡ true
+    any-at [] i l h = absurd (omega (arith, l))
+    any-at (a ∷ assets) zero l h = rw h refl
+    any-at (a ∷ assets) (suc i) l h = or_right (a.sid == sid) (list_any (λ (a : AssetRow). a.sid == sid) assets) (any-at assets i (omega (arith, l)) h)
+
+pub nowhere-unknown : (assets : List AssetRow) (sid : ℕ) → position (λ a. a.sid == sid) assets ≡ None → list_any (λ (a : AssetRow). a.sid == sid) assets ≡ false
+nowhere-unknown assets sid e = elim (cases_Bool (list_any (λ (a : AssetRow). a.sid == sid) assets)) [
+  | inl h ↦ absurd (let bad = sym e ∙ is_place (λ (a : AssetRow). a.sid == sid) assets h in cc)
+  | inr h ↦ h
+]
+
+pub found-place : (w : World) (sid : ℕ) (o : Option ℕ) → o ≡ position (λ a. a.sid == sid) w.assets.now → IfSome o (IsPlace w sid)
+found-place w sid None e = tt
+found-place w sid (Some i) e =
+    let at = place-sid w.assets.now sid i (sym e) in
+    record { within = at.0; sid_is = at.1; known = place-known w.assets.now sid i (sym e) }
+
+pub found-nowhere : (w : World) (sid : ℕ) (o : Option ℕ) → o ≡ position (λ a. a.sid == sid) w.assets.now → IfNone o (has_sid (world_of w) sid ≡ false)
+found-nowhere w sid None e = nowhere-unknown w.assets.now sid (sym e)
+found-nowhere w sid (Some i) e = tt
+
+pub graph-long : (ns : List Node) → length (graph_of ns) ≡ length ns
+unfolding graph_of
+graph-long ns = length-map ns node_of

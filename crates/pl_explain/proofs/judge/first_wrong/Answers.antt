@@ -1,0 +1,48 @@
+use Rattle.std.proofs.Common.{◌≤◌, ◌∙◌, take, length, ap, sym, arith}
+use Rattle.pl_terms.specs.Checked.{pipeline_of}
+use Rattle.pl_cross.specs.Arrays.{HasTexts}
+use Rattle.pl_values.proofs.Texts.{texts-coded}
+use Rattle.pl_facts.specs.Right.{is_told}
+use Rattle.pl_facts.proofs.Truths.{sound}
+use Rattle.pl_lines.specs.Listed.{line_of}
+use Rattle.pl_model.specs.Worlds.{world_of}
+use Rattle.pl_explain.proofs.Passing.{pass, stop, whole, taken-more}
+use Rattle.pl_explain.proofs.Judging.{judged-right, told-behind}
+use Rattle.pl_explain.proofs.judge.first_wrong.Goals as goal
+
+pub returns-then-not-branch-clause-exact : goal.returns-then-not-branch-clause-exact
+returns-then-not-branch-clause-exact g c =
+    let w = c.args.world.now in
+    let p = c.args.checked.now in
+    let lines = c.args.derivation.now in
+    let texts : HasTexts (world_of w) = texts-coded w.sessions.now w.assets.now w.labels.now w.bars.now w.adjustments.now c.len-rows.ensures.labels in
+    let so_far = c.loop-i.invariant in
+    let l = line_of c.line-line.result.now in
+    let judged = judged-right (world_of w) (pipeline_of p) texts c.graph-terms.ensures.checked.graph c.loop-i.told (take c.loop-i.i lines) so_far.none so_far.told l in
+    sym (stop (world_of w) (pipeline_of p) lines c.loop-i.i l c.line-line.ensures.line so_far.none (sym judged ∙ sym c.in_ok-is_right.ensures.exact ∙ c.if-not-branch.true))
+
+pub loop-i-preserved : goal.loop-i-preserved
+loop-i-preserved g c =
+    let w = c.args.world.now in
+    let p = c.args.checked.now in
+    let lines = c.args.derivation.now in
+    let texts : HasTexts (world_of w) = texts-coded w.sessions.now w.assets.now w.labels.now w.bars.now w.adjustments.now c.len-rows.ensures.labels in
+    let so_far = c.loop-i.invariant in
+    let i = c.loop-i.i in
+    let l = line_of c.line-line.result.now in
+    let judged = judged-right (world_of w) (pipeline_of p) texts c.graph-terms.ensures.checked.graph c.loop-i.told (take i lines) so_far.none so_far.told l in
+    let more = c.in_ok-is_right.ensures.told c.if-not-branch.false in
+    record {
+      none = pass (world_of w) (pipeline_of p) lines i l c.line-line.ensures.line so_far.none (sym judged ∙ sym c.in_ok-is_right.ensures.exact ∙ c.if-not-branch.false);
+      told = λ f. told-behind (world_of w) c.loop-i.told c.is_right.new.told (take i lines) l so_far.told more f ∙ ap (λ ls. is_told (world_of w) ls f) (sym (taken-more (world_of w) (pipeline_of p) lines i l c.line-line.ensures.line));
+      table = c.in_ok-is_right.ensures.table;
+    }
+
+pub returns-clause-truth : goal.returns-clause-truth
+returns-clause-truth g c =
+    let w = c.args.world.now in
+    let p = c.args.checked.now in
+    let lines = c.args.derivation.now in
+    let texts : HasTexts (world_of w) = texts-coded w.sessions.now w.assets.now w.labels.now w.bars.now w.adjustments.now c.len-rows.ensures.labels in
+    let end : length lines ≤ c.loop-i.i = omega (arith, c.loop-i-test.false, c.len-i-end.ensures.length) in
+    λ _ i l at. sound (world_of w) (pipeline_of p) texts c.graph-terms.ensures.checked.graph lines (whole (world_of w) (pipeline_of p) lines c.loop-i.i end c.loop-i.invariant.none) i l at

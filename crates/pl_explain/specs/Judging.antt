@@ -1,0 +1,54 @@
+-- A line judged by what is told of the facts of the lines before it.
+use Rattle.std.specs.Prelude.{◌≡◌, ℕ, ◌<◌, length, Bool, true, false, ◌&&◌, ◌||◌, if◌then◌else◌, Option, Some, None}
+use Rattle.pl_spec.specs.World as spec
+use Rattle.pl_spec.specs.Parts.{sid_at}
+use Rattle.pl_spec.specs.Table.{Pipeline}
+use Rattle.pl_terms.specs.Checked.{Parts, pipeline_of}
+use Rattle.pl_terms.specs.Uses.{is_used}
+use Rattle.pl_model.specs.declared.world.World.{World}
+use Rattle.pl_model.specs.Worlds.{world_of}
+use Rattle.pl_lines.specs.Lines.{Line}
+use Rattle.pl_facts.specs.Facts.{Fact, number_in, premises}
+use Rattle.pl_facts.specs.Facts.Fact.{Seen, Worth}
+use Rattle.pl_facts.specs.Right.{fact_of, has_sid, is_about, is_fitting}
+use Rattle.pl_facts.specs.Laws.{tells_world}
+use Rattle.pl_told.specs.declared.told.Told.{Told}
+use Rattle.pl_told.specs.declared.rows.Rows.{Rows}
+use Rattle.pl_step.specs.Given.{has, has_all, TellsTruth, KeepsRows}
+
+-- a value of which something is told already
+abbrev pub is_repeat : Told → Fact → Bool
+is_repeat told (Seen c a s d) = false
+is_repeat told (Worth t a d) = has told (Worth t a d)
+
+abbrev pub judged_about : spec.World → Pipeline → Told → Line → Option Fact → Bool
+judged_about w p told l None = false
+judged_about w p told l (Some f) =
+    if is_repeat told f then tells_world w p l f
+    else is_fitting w p f && has_all told (premises w p (number_in w p) f) && tells_world w p l f
+
+-- the line is right, where what is told is what the right lines before it tell
+abbrev pub judged : spec.World → Pipeline → Told → Line → Bool
+judged w p told l = judged_about w p told l (fact_of w l)
+
+-- What is told is the world's, of facts that may stand in a derivation; and so are the rows.
+pub record IsTable (w : World) (c : Parts) (told : Told) (rows : Rows) : Type 0 where
+  pub truth : TellsTruth (world_of w) (pipeline_of c) told
+  pub fits : (f : Fact) → has told f ≡ true → is_fitting (world_of w) (pipeline_of c) f ≡ true
+  pub kept : KeepsRows w c told rows
+
+-- the fact of the line is told besides those before
+abbrev pub TellsLine : spec.World → Told → Told → Line → Type 0
+TellsLine w old new l = (f : Fact) → has new f ≡ (has old f || is_about w f l)
+
+-- the sid is that of the column
+pub record IsPlace (w : World) (sid col : ℕ) : Type 0 where
+  pub within : col < length w.assets.now
+  pub sid_is : sid_at w.assets.now col ≡ sid
+  pub known : has_sid (world_of w) sid ≡ true
+
+-- the term is that of the number, and it is used
+pub record IsUsedTerm (c : Parts) (number t : ℕ) : Type 0 where
+  pub same : t ≡ number
+  pub within : t < length c.graph
+  pub used : is_used (pipeline_of c) number ≡ true

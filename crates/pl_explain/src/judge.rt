@@ -1,0 +1,233 @@
+//! Checking a derivation.
+ghost use Rattle.std.specs.Prelude.{◌≡◌, ◌<◌, All, IfNone, IfOk, IfSome, IsTrue, None, OnOk, Some, false, length, slice_get};
+ghost use Rattle.std.specs.Ordering.{int_eq};
+ghost use Rattle.std.specs.Cmp.Lexicographic.{pointwise};
+ghost use Rattle.pl_spec.specs.Rounding.{IsCell};
+ghost use Rattle.pl_facts.specs.Laws.{IsTrueLine};
+ghost use Rattle.pl_facts.specs.Right as spec;
+ghost use Rattle.pl_facts.specs.Right.{has_sid};
+ghost use Rattle.pl_terms.specs.Uses.{is_used};
+ghost use Rattle.pl_lines.specs.Lines.Line.{SeenLine, ValueLine};
+ghost use Rattle.pl_lines.specs.Listed.{line_of};
+ghost use Rattle.pl_lines.specs.Texts.{IsWritable};
+ghost use Rattle.pl_model.specs.Worlds.{world_of, IsMade};
+ghost use Rattle.pl_terms.specs.Checked.{pipeline_of};
+ghost use Rattle.pl_explain.specs.Judging.{IsPlace, IsTable, IsUsedTerm, TellsLine, judged};
+
+use pl_fixed::{Column, MISSING, Memory, Steps};
+use pl_lines::{Derivation, Line};
+use pl_model::World;
+use pl_step::{seen_cells, value_told};
+use pl_terms::{Checked, TermId};
+use pl_told::{Fact, Rows, Told};
+use std::alloc::Global;
+use std::sync::ledger::Ledger;
+
+/// The number, from 1, of the first line that is not right: where its days are sessions, its sid is known, its
+/// term is used, its bar is of an earlier session, each premise stands in an earlier line, and it tells what one
+/// step gives over the numbers of these. `None` where all lines are right. The only error is want of memory.
+pub fn first_wrong<L: Ledger>(
+    alloc: Global,
+    world: &World,
+    checked: &Checked,
+    derivation: &Derivation,
+    steps: &mut Steps<L>,
+) -> Result<Option<u32>, Memory>
+    requires made { IsMade world.now }
+    ensures exact { IfOk result (λ r. r
+        ≡ spec.first_wrong (world_of world.now) (pipeline_of checked.now) derivation.now) }
+    // Where no line is wrong, each tells the truth: its last cell is the bar's as it is seen, and its value the
+    // term's.
+    ensures truth { IfOk result (λ r. r ≡ None → (i : _) → (l : _) → slice_get derivation.now i ≡ Some l
+        → IsTrueLine (world_of world.now) (pipeline_of checked.now) l) }
+{
+    let _rows = world.labels.len();
+    let _terms = checked.graph();
+    let mut told = Told::new(alloc);
+    let mut rows = Rows::new(alloc);
+    for i in 0..derivation.len() {
+        let line = derivation.line(i);
+        if !is_right(alloc, world, checked, &mut told, &mut rows, line, steps)? {
+            return Ok(Some(i as u32 + 1));
+        }
+    }
+    Ok(None)
+}
+
+// Whether a line is right behind those whose facts are told; its own is told then.
+fn is_right<L: Ledger>(
+    alloc: Global,
+    world: &World,
+    checked: &Checked,
+    told: &mut Told,
+    rows: &mut Rows,
+    line: &Line,
+    steps: &mut Steps<L>,
+) -> Result<bool, Memory>
+    requires made { IsMade world.now }
+    requires table { IsTable world.now checked.now told.old rows.old }
+    requires writable { IsWritable (line_of line.now) }
+    ensures exact { IfOk result (λ r. r
+        ≡ judged (world_of world.now) (pipeline_of checked.now) told.old (line_of line.now)) }
+    ensures table { OnOk result (IsTable world.now checked.now told.new rows.new) }
+    ensures told { IfOk result (λ r. IsTrue r
+        → TellsLine (world_of world.now) told.old told.new (line_of line.now)) }
+{
+    match line {
+        Line::Seen {
+            column,
+            sid,
+            bar_day,
+            day,
+            cells,
+        } => {
+            let cells = cells.as_slice();
+            is_right_bar(
+                alloc, world, checked, told, rows, *column, *sid, *bar_day, *day, cells, steps,
+            )
+        }
+        Line::Value {
+            term,
+            sid,
+            day,
+            value,
+        } => is_right_value(alloc, world, checked, told, rows, *term, *sid, *day, *value),
+    }
+}
+
+// The same of a bar as it is seen on a later session.
+fn is_right_bar<L: Ledger>(
+    alloc: Global,
+    world: &World,
+    checked: &Checked,
+    told: &mut Told,
+    rows: &Rows,
+    column: Column,
+    sid: u32,
+    bar_day: i32,
+    day: i32,
+    cells: &[i64],
+    steps: &mut Steps<L>,
+) -> Result<bool, Memory>
+    requires made { IsMade world.now }
+    requires table { IsTable world.now checked.now told.old rows.now }
+    ensures exact { IfOk result (λ r. r ≡ judged (world_of world.now) (pipeline_of checked.now) told.old
+        (SeenLine column sid bar_day day cells.now)) }
+    ensures table { OnOk result (IsTable world.now checked.now told.new rows.now) }
+    ensures told { IfOk result (λ r. IsTrue r
+        → TellsLine (world_of world.now) told.old told.new (SeenLine column sid bar_day day cells.now)) }
+{
+    let _sessions = world.sessions.len();
+    let Some(col) = col_of(world, sid) else {
+        return Ok(false);
+    };
+    let Some(bar) = world.sessions.index_of(bar_day) else {
+        return Ok(false);
+    };
+    let Some(session) = world.sessions.index_of(day) else {
+        return Ok(false);
+    };
+    if bar >= session {
+        return Ok(false);
+    }
+    let seen = seen_cells(alloc, world, column, col, bar, session, steps)?;
+    if !same_cells(cells, &seen) {
+        return Ok(false);
+    }
+    let fact = Fact::Seen {
+        column,
+        sid,
+        bar: bar as u32,
+        session: session as u32,
+    };
+    told.tell(fact, last_of(&seen))?;
+    Ok(true)
+}
+
+// The same of a value. Where something is told of its fact, the number alone decides.
+fn is_right_value(
+    alloc: Global,
+    world: &World,
+    checked: &Checked,
+    told: &mut Told,
+    rows: &mut Rows,
+    term: u32,
+    sid: u32,
+    day: i32,
+    value: i64,
+) -> Result<bool, Memory>
+    requires made { IsMade world.now }
+    requires table { IsTable world.now checked.now told.old rows.old }
+    requires cell { IsCell value }
+    ensures exact { IfOk result (λ r. r ≡ judged (world_of world.now) (pipeline_of checked.now) told.old
+        (ValueLine term sid day value)) }
+    ensures table { OnOk result (IsTable world.now checked.now told.new rows.new) }
+    ensures told { IfOk result (λ r. IsTrue r
+        → TellsLine (world_of world.now) told.old told.new (ValueLine term sid day value)) }
+{
+    let _sessions = world.sessions.len();
+    let Some(col) = col_of(world, sid) else {
+        return Ok(false);
+    };
+    let Some(session) = world.sessions.index_of(day) else {
+        return Ok(false);
+    };
+    let Some(t) = used_term(checked, term) else {
+        return Ok(false);
+    };
+    let fact = Fact::Worth {
+        term: t.0,
+        sid,
+        session: session as u32,
+    };
+    if let Some(number) = told.number(fact) {
+        return Ok(same_number(value, number));
+    }
+    let Some(number) = value_told(alloc, world, checked, told, rows, t, col, session)? else {
+        return Ok(false);
+    };
+    if !same_number(value, number) {
+        return Ok(false);
+    }
+    told.tell(fact, value)?;
+    Ok(true)
+}
+
+fn same_number(a: i64, b: i64) -> bool
+    ensures { result ≡ int_eq a b }
+{
+    a == b
+}
+
+fn same_cells(a: &[i64], b: &[i64]) -> bool
+    ensures { result ≡ pointwise int_eq a.now b.now }
+{
+    a == b
+}
+
+fn last_of(cells: &[i64]) -> i64
+    ensures { result ≡ spec.last_cell cells.now }
+{
+    cells.iter().fold(MISSING, |_, cell| *cell)
+}
+
+// The column of a sid.
+fn col_of(world: &World, sid: u32) -> Option<usize>
+    ensures some { IfSome result (λ col. IsPlace world.now sid col) }
+    ensures none { IfNone result (has_sid (world_of world.now) sid ≡ false) }
+{
+    world.assets.col_of(sid)
+}
+
+// The used term of a number.
+fn used_term(checked: &Checked, term: u32) -> Option<TermId>
+    ensures some { IfSome result (λ t. IsUsedTerm checked.now term t.0) }
+    ensures none { IfNone result (is_used (pipeline_of checked.now) term ≡ false) }
+{
+    let graph = checked.graph();
+    if term as usize >= graph.len() {
+        return None;
+    }
+    let t = TermId(term as u8);
+    if checked.is_used(t) { Some(t) } else { None }
+}

@@ -1,0 +1,57 @@
+-- The cells of a bar, adjustment by adjustment.
+use Rattle.std.proofs.Common.{◌≡◌, ℕ, ◌+◌, ◌<◌, ◌≤◌, ℤ, List, [], ◌∷◌, ◌++◌, length, get_or, drop, Option, Some, None, refl, sym, ◌∙◌, ap, append_assoc}
+use Rattle.std.specs.Prelude.{option_to_list}
+use Rattle.std.proofs.lemmas.List.{at_drop_more, at_drop_all}
+use Rattle.pl_spec.specs.declared.Column.{Column}
+use Rattle.pl_spec.specs.Window.{Effect, effect}
+use Rattle.pl_adjust.specs.declared.adjust.Adjust.{Adjust}
+use Rattle.pl_adjust.specs.Events.{effects_of, event_of}
+use Rattle.pl_facts.specs.Right.{after_each}
+use Rattle.pl_step.specs.Given.{GrowsBy}
+
+-- The cells so far end with one, and with what the effects that are left make of it they are all.
+pub record IsGrown (first : ℤ) (all : List Effect) (cells : List ℤ) (x : ℤ) (left : List Effect) : Type 0 where
+  pub front : List ℤ
+  pub now : cells ≡ front ++ x ∷ []
+  pub rest : front ++ after_each x left ≡ after_each first all
+
+pub grown-first : (x : ℤ) (all left : List Effect) → left ≡ all → IsGrown x all (x ∷ []) x left
+grown-first x all left e = record { front = []; now = refl; rest = ap (after_each x) e }
+
+pub grown-by : (first : ℤ) (all : List Effect) (cells new : List ℤ) (x y : ℤ) (o : Option Effect) (left more : List Effect) → IsGrown first all cells x left
+    → left ≡ option_to_list o ++ more → GrowsBy x o cells new y → IsGrown first all new y more
+grown-by first all cells new x y None left more h e g = record {
+  front = h.front;
+  now = g.1 ∙ h.now ∙ ap (λ z. h.front ++ z ∷ []) (sym g.0);
+  rest = ap (λ z. h.front ++ after_each z more) g.0 ∙ ap (λ l. h.front ++ after_each x l) (sym e) ∙ h.rest;
+}
+grown-by first all cells new x y (Some f) left more h e g = record {
+  front = h.front ++ x ∷ [];
+  now = g.1 ∙ ap (λ l. l ++ y ∷ []) h.now;
+  rest = append_assoc h.front (x ∷ []) (after_each y more) ∙ ap (λ z. h.front ++ x ∷ after_each z more) g.0 ∙ ap (λ l. h.front ++ after_each x l) (sym e) ∙ h.rest;
+}
+
+pub grown-all : (first : ℤ) (all : List Effect) (cells : List ℤ) (x : ℤ) (left : List Effect) → IsGrown first all cells x left → left ≡ [] → cells ≡ after_each first all
+grown-all first all cells x left h e = h.now ∙ ap (λ l. h.front ++ after_each x l) (sym e) ∙ h.rest
+
+-- ---- the effects of a list
+
+first-effect : (c : Column) (bar : ℤ) (x : Adjust) (xs : List Adjust) → effects_of c bar (x ∷ xs) ≡ option_to_list (effect c bar (event_of x)) ++ effects_of c bar xs
+first-effect c bar x xs = here (effect c bar (event_of x)) refl
+  where
+    here : (o : Option Effect) → effect c bar (event_of x) ≡ o → effects_of c bar (x ∷ xs) ≡ option_to_list o ++ effects_of c bar xs
+    here None e = rw e refl
+    here (Some f) e = rw e refl
+
+-- those that are left, from one adjustment on
+pub left-from : (c : Column) (bar : ℤ) (xs : List Adjust) (i : ℕ) (a : Adjust) (o : Option Effect) → i < length xs → a ≡ get_or xs i a → effect c bar (event_of a) ≡ o
+    → effects_of c bar (drop i xs) ≡ option_to_list o ++ effects_of c bar (drop (i + 1) xs)
+left-from c bar xs i a o within item e =
+    at_drop_more (effects_of c bar) xs i a within
+    ∙ ap (λ z. effects_of c bar (z ∷ drop (i + 1) xs)) (sym item)
+    ∙ first-effect c bar a (drop (i + 1) xs)
+    ∙ ap (λ p. option_to_list p ++ effects_of c bar (drop (i + 1) xs)) e
+
+-- behind the last adjustment nothing is left
+pub left-end : (c : Column) (bar : ℤ) (xs : List Adjust) (i : ℕ) → length xs ≤ i → effects_of c bar (drop i xs) ≡ []
+left-end c bar xs i h = at_drop_all (effects_of c bar) xs i h

@@ -1,0 +1,5 @@
+pub mod Given
+pub mod Facts
+pub mod Entries
+pub mod Values
+pub mod Growing
