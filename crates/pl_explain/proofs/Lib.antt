@@ -3,3 +3,5 @@ mod Passing
 mod Judging
 mod Used
 mod Lines
+mod Walks
+mod Behind
