@@ -82,11 +82,12 @@ module _ (g : ℕ → List Fact) (q : ℕ → Bool) (assets : List AssetRow) whe
 
   filter-more : (xs : List ℕ) (y : ℕ) → filter q (xs ++ y ∷ []) ≡ filter q xs ++ cond (q y) (y ∷ []) []
   filter-more [] y = refl
-  filter-more (x ∷ xs) y = here (q x)
+  filter-more (x ∷ xs) y = here (q x) (filter-more xs y)
     where
-      here : (b : Bool) → cond b (x ∷ filter q (xs ++ y ∷ [])) (filter q (xs ++ y ∷ [])) ≡ cond b (x ∷ filter q xs) (filter q xs) ++ cond (q y) (y ∷ []) []
-      here true = ap (λ l. x ∷ l) (filter-more xs y)
-      here false = filter-more xs y
+      here : (b : Bool) → filter q (xs ++ y ∷ []) ≡ filter q xs ++ cond (q y) (y ∷ []) []
+          → cond b (x ∷ filter q (xs ++ y ∷ [])) (filter q (xs ++ y ∷ [])) ≡ cond b (x ∷ filter q xs) (filter q xs) ++ cond (q y) (y ∷ []) []
+      here true rest = ap (λ l. x ∷ l) rest
+      here false rest = rest
 
   module _ (i : ℕ) (inside : i < length assets) where
     taken : entries_of (take (i + 1) assets) ≡ entries_of (take i assets) ++ flat_map g (cond (q (sid_at assets i)) (sid_at assets i ∷ []) [])
@@ -105,7 +106,7 @@ module _ (g : ℕ → List Fact) (q : ℕ → Bool) (assets : List AssetRow) whe
     entry-more e = taken ∙ ap (λ b. entries_of (take i assets) ++ flat_map g (cond b (sid_at assets i ∷ []) [])) e ∙ ap (λ l. entries_of (take i assets) ++ l) (append-nil (g (sid_at assets i)))
 
   pub entries-all : (i : ℕ) → length assets ≤ i → entries_of (take i assets) ≡ entries_of assets
-  entries-all i l = ap entries_of (take_all assets i l)
+  entries-all i l = ap entries_of (take_all i assets l)
 
 -- ---- what may stand
 

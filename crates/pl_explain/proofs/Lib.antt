@@ -4,4 +4,5 @@ mod Judging
 mod Used
 mod Lines
 mod Walks
+mod Standing
 mod Behind
