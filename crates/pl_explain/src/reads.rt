@@ -1,5 +1,5 @@
 //! The facts that a value rests on, in order.
-ghost use Rattle.std.specs.Prelude.{◌≡◌, ◌<◌, ◌≤◌, IfOk, OnOk, flat_map, length, map, option_map, pos, Some, slice_get};
+ghost use Rattle.std.specs.Prelude.{◌≡◌, ◌+◌, ◌<◌, ◌≤◌, IfOk, OnOk, flat_map, length, map, option_map, pos, Some, slice_get};
 ghost use Rattle.pl_spec.specs.Parts.{sid_at};
 ghost use Rattle.pl_spec.specs.Term.Input.{BarColumn, TermInput};
 ghost use Rattle.pl_spec.specs.World.{living_sids};
