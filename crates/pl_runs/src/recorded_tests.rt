@@ -2,9 +2,7 @@
 ghost use Rattle.std.specs.Prelude.{◌≡◌, None, [], false};
 ghost use Rattle.pl_outside.specs.Counts.{count_end, count_plus};
 
-use crate::test_runs::{
-    PIPELINE, base_shelf, run, run_words, shelf_with, split_keeper,
-};
+use crate::test_runs::{PIPELINE, base_shelf, run, run_words, shelf_with, split_keeper};
 use pl_outside::{
     AdjustKeeper, Failed, KeepError, MemoryKeeper, MemoryShelf, RawAdjust, Shelf, Sink, Table,
 };

@@ -11,7 +11,6 @@ use std::alloc::Global;
 use std::marker::Model;
 use std::mem;
 
-
 /// Want of memory, of `reserve` alone.
 #[derive(Clone, Copy, Debug, PartialEq, Eq)]
 pub struct Memory;
