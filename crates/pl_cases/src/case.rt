@@ -3,14 +3,14 @@ use std::alloc::{AllocError, Global};
 
 /// A text, under the line that it stands behind.
 #[derive(Drop)]
-pub struct Text {
-    pub title: String,
-    pub bytes: Vec<u8>,
+pub(crate) struct Text {
+    pub(crate) title: String,
+    pub(crate) bytes: Vec<u8>,
 }
 
 /// A case: its texts, the words of its commands, the sizes of chunks, the status, and whether its cells are compared.
 #[derive(Drop)]
-pub struct Case {
+pub(crate) struct Case {
     name: String,
     texts: Vec<Text>,
     commands: Vec<Vec<String>>,
@@ -21,7 +21,7 @@ pub struct Case {
 
 impl Case {
     /// A case that states nothing.
-    pub fn new(alloc: Global) -> Case {
+    pub(crate) fn new(alloc: Global) -> Case {
         Case {
             name: String::new(alloc),
             texts: Vec::new(alloc),
@@ -33,7 +33,7 @@ impl Case {
     }
 
     /// A case of another name that states the same; it has no commands.
-    pub fn copy(&self, alloc: Global, name: &str) -> Result<Case, AllocError> {
+    pub(crate) fn copy(&self, alloc: Global, name: &str) -> Result<Case, AllocError> {
         let mut texts = Vec::new(alloc);
         for text in self.texts.iter() {
             texts.push(Text {
@@ -51,45 +51,45 @@ impl Case {
         })
     }
 
-    pub fn name(&self) -> &str {
+    pub(crate) fn name(&self) -> &str {
         &self.name
     }
 
-    pub fn texts(&self) -> &[Text] {
+    pub(crate) fn texts(&self) -> &[Text] {
         &self.texts
     }
 
     /// Whether a text stands under that title.
-    pub fn has(&self, title: &str) -> bool {
+    pub(crate) fn has(&self, title: &str) -> bool {
         self.texts.iter().any(|text| text.title.as_str() == title)
     }
 
     /// The text under that title; nothing where there is none.
-    pub fn text(&self, title: &str) -> &[u8] {
+    pub(crate) fn text(&self, title: &str) -> &[u8] {
         match self.texts.iter().find(|text| text.title.as_str() == title) {
             Some(text) => &text.bytes,
             None => &[],
         }
     }
 
-    pub fn commands(&self) -> &[Vec<String>] {
+    pub(crate) fn commands(&self) -> &[Vec<String>] {
         &self.commands
     }
 
-    pub fn chunks(&self) -> &[String] {
+    pub(crate) fn chunks(&self) -> &[String] {
         &self.chunks
     }
 
-    pub fn status(&self) -> u8 {
+    pub(crate) fn status(&self) -> u8 {
         self.status
     }
 
-    pub fn cells(&self) -> bool {
+    pub(crate) fn cells(&self) -> bool {
         self.cells
     }
 
     /// Begins the text under that title anew, behind all others.
-    pub fn begin_text(&mut self, alloc: Global, title: &str) -> Result<(), AllocError> {
+    pub(crate) fn begin_text(&mut self, alloc: Global, title: &str) -> Result<(), AllocError> {
         let place = self
             .texts
             .iter()
@@ -105,30 +105,30 @@ impl Case {
     }
 
     /// The text that was begun last.
-    pub fn last_text(&mut self) -> Option<&mut Text> {
+    pub(crate) fn last_text(&mut self) -> Option<&mut Text> {
         self.texts.last_mut()
     }
 
-    pub fn add_command(&mut self, words: Vec<String>) -> Result<(), AllocError> {
+    pub(crate) fn add_command(&mut self, words: Vec<String>) -> Result<(), AllocError> {
         self.commands.push(words)?;
         Ok(())
     }
 
-    pub fn set_chunks(&mut self, chunks: Vec<String>) {
+    pub(crate) fn set_chunks(&mut self, chunks: Vec<String>) {
         self.chunks = chunks;
     }
 
-    pub fn set_status(&mut self, status: u8) {
+    pub(crate) fn set_status(&mut self, status: u8) {
         self.status = status;
     }
 
-    pub fn set_cells(&mut self, cells: bool) {
+    pub(crate) fn set_cells(&mut self, cells: bool) {
         self.cells = cells;
     }
 }
 
 /// The same words.
-pub fn copy_words(alloc: Global, words: &[String]) -> Result<Vec<String>, AllocError> {
+pub(crate) fn copy_words(alloc: Global, words: &[String]) -> Result<Vec<String>, AllocError> {
     let mut copies = Vec::new(alloc);
     for word in words {
         copies.push(String::from_str(alloc, word)?)?;

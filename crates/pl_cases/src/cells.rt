@@ -20,7 +20,12 @@ use std::marker::Brand;
 use std::sync::ledger::{Blank, Ledger};
 
 /// Whether the table of a run differs from its cells in the whole world. Other commands have none.
-pub fn cells_differ(alloc: Global, case: &Case, words: &[String], table: &[u8]) -> Result<bool> {
+pub(crate) fn cells_differ(
+    alloc: Global,
+    case: &Case,
+    words: &[String],
+    table: &[u8],
+) -> Result<bool> {
     match read_words(alloc, words) {
         Ok(Some(Request::Run(request))) => run_differs(alloc, case, &request, table),
         Ok(_) => Ok(false),

@@ -5,14 +5,14 @@ use std::alloc::Global;
 
 /// A cell, which is 0 or 1 where it is that of a filter.
 #[derive(Clone, Copy)]
-pub struct Field {
-    pub cell: i64,
-    pub is_truth: bool,
+pub(crate) struct Field {
+    pub(crate) cell: i64,
+    pub(crate) is_truth: bool,
 }
 
 /// What stands behind the field of a cell and the comma before it; none where another field stands there. A number may be
 /// written with its digits behind the point, as a whole number, or as the label of that code.
-pub fn behind_field<'a>(
+pub(crate) fn behind_field<'a>(
     alloc: Global,
     labels: &[String],
     field: Field,

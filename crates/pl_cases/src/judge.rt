@@ -6,7 +6,7 @@ use anyhow::Result;
 use std::alloc::Global;
 
 /// The first difference between what a case states and what is left; none where there is none.
-pub fn judge_case(alloc: Global, case: &Case) -> Result<Option<String>> {
+pub(crate) fn judge_case(alloc: Global, case: &Case) -> Result<Option<String>> {
     for words in case.commands() {
         let difference = judge_command(alloc, case, words)?;
         if difference.is_some() {

@@ -3,7 +3,7 @@ use anyhow::{Context, Result, bail};
 use std::alloc::Global;
 
 /// Adds a line as it is written in a case file, with its line end unless it ends with `\`.
-pub fn add_line(bytes: &mut Vec<u8>, line: &str) -> Result<()> {
+pub(crate) fn add_line(bytes: &mut Vec<u8>, line: &str) -> Result<()> {
     match line.strip_suffix('\\') {
         Some(line) => add_piece(bytes, line),
         None => {
@@ -15,7 +15,7 @@ pub fn add_line(bytes: &mut Vec<u8>, line: &str) -> Result<()> {
 }
 
 /// Adds what is written: `\r` and `\n` are those bytes, and `\x20` is the byte of those digits.
-pub fn add_piece(bytes: &mut Vec<u8>, written: &str) -> Result<()> {
+pub(crate) fn add_piece(bytes: &mut Vec<u8>, written: &str) -> Result<()> {
     for (number, piece) in written.split('\\').enumerate() {
         if number == 0 {
             bytes.extend_from_slice(piece.as_bytes())?;
@@ -57,7 +57,7 @@ fn digit(byte: u8) -> Option<u8> {
 }
 
 /// The words of a text, with a space between them.
-pub fn words_of(alloc: Global, text: &str) -> Result<Vec<String>> {
+pub(crate) fn words_of(alloc: Global, text: &str) -> Result<Vec<String>> {
     let mut words = Vec::new(alloc);
     for word in text.split(' ') {
         let mut bytes = Vec::new(alloc);

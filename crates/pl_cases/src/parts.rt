@@ -14,14 +14,14 @@ use std::sync::ledger::{Blank, Ledger};
 
 /// The numbers of the calls of each part that are to fail; 0 for none.
 #[derive(Clone, Copy)]
-pub struct Failing {
-    pub shelf: u64,
-    pub keeper: u64,
-    pub out: u64,
-    pub err: u64,
+pub(crate) struct Failing {
+    pub(crate) shelf: u64,
+    pub(crate) keeper: u64,
+    pub(crate) out: u64,
+    pub(crate) err: u64,
 }
 
-pub const SOUND: Failing = Failing {
+pub(crate) const SOUND: Failing = Failing {
     shelf: 0,
     keeper: 0,
     out: 0,
@@ -30,14 +30,19 @@ pub const SOUND: Failing = Failing {
 
 /// What a run left: its status, and what stands on `out` and `err`.
 #[derive(Drop, PartialEq, Eq)]
-pub struct Left {
-    pub status: u8,
-    pub out: Vec<u8>,
-    pub err: Vec<u8>,
+pub(crate) struct Left {
+    pub(crate) status: u8,
+    pub(crate) out: Vec<u8>,
+    pub(crate) err: Vec<u8>,
 }
 
 /// What a command leaves over the files and tables of a case.
-pub fn left_by(alloc: Global, case: &Case, words: &[String], failing: Failing) -> Result<Left> {
+pub(crate) fn left_by(
+    alloc: Global,
+    case: &Case,
+    words: &[String],
+    failing: Failing,
+) -> Result<Left> {
     let mut shelf = shelf_of(alloc, case, failing.shelf)?;
     let mut keeper = keeper_of(alloc, case, failing.keeper)?;
     let mut out = sink_of(alloc, failing.out, 0, case.text("out").len())?;
@@ -76,7 +81,7 @@ fn run<L: Ledger>(
 }
 
 /// The files of a case.
-pub fn shelf_of(alloc: Global, case: &Case, failing: u64) -> Result<MemoryShelf> {
+pub(crate) fn shelf_of(alloc: Global, case: &Case, failing: u64) -> Result<MemoryShelf> {
     let mut shelf = MemoryShelf::new(alloc, vec![in alloc; failing]?);
     for text in case.texts() {
         if let Some(name) = text.title.strip_prefix("file ") {
@@ -90,7 +95,7 @@ pub fn shelf_of(alloc: Global, case: &Case, failing: u64) -> Result<MemoryShelf>
 }
 
 /// The tables of a case, as those of `adj.db`.
-pub fn keeper_of(alloc: Global, case: &Case, failing: u64) -> Result<MemoryKeeper> {
+pub(crate) fn keeper_of(alloc: Global, case: &Case, failing: u64) -> Result<MemoryKeeper> {
     let name = String::from_str(alloc, "adj.db")?;
     let splits = rows_of(alloc, case.text("splits"))?;
     let mergers = rows_of(alloc, case.text("mergers"))?;

@@ -7,13 +7,13 @@ use std::alloc::Global;
 
 /// What was read: what holds for all cases, once the first of them began, and the case that stands open.
 #[derive(Drop)]
-pub struct Reader {
+pub(crate) struct Reader {
     common: Option<Case>,
     case: Case,
 }
 
 impl Reader {
-    pub fn new(alloc: Global) -> Reader {
+    pub(crate) fn new(alloc: Global) -> Reader {
         Reader {
             common: None,
             case: Case::new(alloc),
@@ -21,12 +21,12 @@ impl Reader {
     }
 
     /// The case that stands open.
-    pub fn case(&self) -> &Case {
+    pub(crate) fn case(&self) -> &Case {
         &self.case
     }
 
     /// Reads a line, and gives the case that ends with it.
-    pub fn take(&mut self, alloc: Global, line: &str) -> Result<Option<Case>> {
+    pub(crate) fn take(&mut self, alloc: Global, line: &str) -> Result<Option<Case>> {
         match line.split_once(' ') {
             Some(("case", name)) => self.begin(alloc, name),
             _ => {

@@ -5,7 +5,7 @@ use pl_fixed::write_day;
 use std::alloc::Global;
 
 /// Adds the lines of `COUNT from FIRST step STEP|LINE`.
-pub fn add_lines(alloc: Global, bytes: &mut Vec<u8>, written: &str) -> Result<()> {
+pub(crate) fn add_lines(alloc: Global, bytes: &mut Vec<u8>, written: &str) -> Result<()> {
     let (head, line) = written.split_once('|').context("no line to repeat")?;
     let (count, head) = head.split_once(" from ").context("no first number")?;
     let (first, step) = head.split_once(" step ").context("no step")?;
