@@ -40,10 +40,7 @@ pub(crate) fn options<'a>(matches: &ArgMatches<'a>) -> Option<Options<'a>>
 }
 
 /// The names of a world: three of the names, and the values of three options.
-pub(crate) fn world_in<'a>(
-    names: &[&'a str],
-    matches: &ArgMatches<'a>,
-) -> Option<WorldNames<'a>>
+pub(crate) fn world_in<'a>(names: &[&'a str], matches: &ArgMatches<'a>) -> Option<WorldNames<'a>>
     requires { 4 ≤ length names.now }
     ensures { MatchOption result
         (world_in (map (λ v. v.now) names.now) (values_in matches.now) ≡ None)
