@@ -15,6 +15,11 @@ returns-in_err-wrong-clause-ended g c = λ steps.
     let p = err_from_is_err_and c.from_residual-in_err-wrong.result c.from_residual-in_err-wrong.ensures.1 in
     rw (p.1, p.2) (verify-wanting _ (verify_of c.args.request.now) _ c.in_ok-loaded.ensures.load)
 
+pub returns-in_err-wrong-clause-caused : goal.returns-in_err-wrong-clause-caused
+returns-in_err-wrong-clause-caused g c =
+    let p = err_from_is_err_and c.from_residual-in_err-wrong.result c.from_residual-in_err-wrong.ensures.1 in
+    rw (p.1, p.2) (refl, refl)
+
 pub returns-clause-ended : goal.returns-clause-ended
 returns-clause-ended g c = λ steps.
     let w = c.write_verdict.ensures in
