@@ -9,7 +9,7 @@ use crate::Fault;
 use itoa::Buffer;
 use pl_outside::{Failed, Sink, Table, write_bytes};
 use pl_syntax::Place;
-use pl_words::{InputFile, Request, adjustments_asked, date_asked, name_asked};
+use pl_words::{InputFile, Request, adjustments_asked, column_asked, date_asked, name_asked};
 
 /// Writes the line of a fault of what was asked for. It takes no memory.
 pub fn write_line<E: Sink>(
@@ -30,6 +30,13 @@ pub fn write_line<E: Sink>(
         Fault::Unloaded(_) => write_named(err, "store: ", adjustments_asked(asked)),
         Fault::NotSession(date) => {
             write_named(err, "range: NotSession ", date_asked(asked, date))
+        }
+        Fault::UnknownSid { sid } => {
+            let mut buffer = Buffer::new();
+            write_named(err, "range: UnknownSid ", buffer.format(sid))
+        }
+        Fault::UnknownColumn => {
+            write_named(err, "range: UnknownColumn ", column_asked(asked))
         }
         Fault::TooEarly { reach } => {
             let mut buffer = Buffer::new();

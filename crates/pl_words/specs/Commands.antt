@@ -3,11 +3,11 @@ use Rattle.std.specs.Prelude.{ℕ, List, [], ◌∷◌, Option, find, bytes_eq, 
 use Rattle.pl_words.specs.declared.commands.OptionName.{OptionName}
 use Rattle.pl_words.specs.declared.commands.OptionName.TheVariants.{Labels, Adjustments, Revisions, Chunk, Format, Stats, AsOf}
 use Rattle.pl_words.specs.declared.commands.CommandName.{CommandName}
-use Rattle.pl_words.specs.declared.commands.CommandName.TheVariants.{Run, Check, Fmt, Plan, Bench, Payouts, Verify}
+use Rattle.pl_words.specs.declared.commands.CommandName.TheVariants.{Run, Check, Fmt, Plan, Bench, Payouts, Explain, Verify}
 use Rattle.pl_words.specs.Parts.{Word}
 
 abbrev pub all_commands : List CommandName
-all_commands = Run ∷ Check ∷ Fmt ∷ Plan ∷ Bench ∷ Payouts ∷ Verify ∷ []
+all_commands = Run ∷ Check ∷ Fmt ∷ Plan ∷ Bench ∷ Payouts ∷ Explain ∷ Verify ∷ []
 
 abbrev pub command_text : CommandName → Word
 command_text Run = codes "run"
@@ -16,6 +16,7 @@ command_text Fmt = codes "fmt"
 command_text Plan = codes "plan"
 command_text Bench = codes "bench"
 command_text Payouts = codes "payouts"
+command_text Explain = codes "explain"
 command_text Verify = codes "verify"
 
 -- how many names it takes
@@ -26,6 +27,7 @@ places_of Fmt = 1  -- PIPELINE
 places_of Plan = 4  -- PIPELINE SESSIONS FROM TO
 places_of Bench = 1  -- NUMBER
 places_of Payouts = 4  -- SESSIONS ASSETS BARS PAYOUTS
+places_of Explain = 7  -- PIPELINE SESSIONS ASSETS BARS SID DATE COLUMN
 places_of Verify = 5  -- PIPELINE SESSIONS ASSETS BARS DERIVATION
 
 -- the options that it knows
@@ -36,6 +38,7 @@ options_of Fmt = []
 options_of Plan = []
 options_of Bench = Chunk ∷ []
 options_of Payouts = []
+options_of Explain = Labels ∷ Adjustments ∷ Revisions ∷ []
 options_of Verify = Labels ∷ Adjustments ∷ Revisions ∷ []
 
 abbrev pub command_named : Word → Option CommandName

@@ -3,10 +3,11 @@ use Rattle.std.specs.Prelude.{ℕ, ◌≤◌, ⊤, ℤ, List, [], ◌∷◌, Boo
 use Rattle.std.specs.List.{list_all}
 use Rattle.pl_spec.specs.Dates.{date_in}
 use Rattle.pl_spec.specs.Decimals.{sid_in}
+use Rattle.pl_spec.specs.Names.{is_name}
 use Rattle.pl_spec.specs.declared.Format as form
 use Rattle.pl_spec.specs.declared.Format.TheVariants.{Csv, Fixed}
 use Rattle.pl_words.specs.declared.request.RangeDate.{RangeDate}
-use Rattle.pl_words.specs.declared.request.RangeDate.TheVariants.{From, To, AsOf}
+use Rattle.pl_words.specs.declared.request.RangeDate.TheVariants.{From, To, AsOf, At}
 use Rattle.pl_words.specs.declared.request.InputFile.{InputFile}
 use Rattle.pl_words.specs.declared.request.InputFile.TheVariants as file
 use Rattle.pl_words.specs.declared.commands.OptionName.{OptionName}
@@ -51,6 +52,14 @@ pub record WorldNames : Type 0 where
   pub adjustments : Option (List ℕ)
   pub revisions : Option (List ℕ)
 
+-- the cell of a column for an asset on a date, of a pipeline over a world
+pub record ExplainRequest : Type 0 where
+  pub pipeline : List ℕ
+  pub world : WorldNames
+  pub sid : ℕ
+  pub date : Dated
+  pub column : List ℕ
+
 -- the lines of the derivation of that name, of a pipeline over a world
 pub record VerifyRequest : Type 0 where
   pub pipeline : List ℕ
@@ -77,7 +86,7 @@ pub record PayoutsRequest : Type 0 where
   pub payouts : List ℕ
 
 -- the table of a pipeline, the canonical text of a pipeline file, whether it keeps the rules, a plan, the numbers of a run over
--- a stated world, the ratios of payouts, or whether a derivation is right
+-- a stated world, the ratios of payouts, the derivation of a cell, or whether a derivation is right
 pub data Request : Type 0 where
   Run : RunRequest → Request
   Fmt : (pipeline : List ℕ) → Request
@@ -85,6 +94,7 @@ pub data Request : Type 0 where
   Plan : PlanRequest → Request
   Bench : BenchRequest → Request
   Payouts : PayoutsRequest → Request
+  Explain : ExplainRequest → Request
   Verify : VerifyRequest → Request
 
 abbrev pub dated : Word → Option Dated
@@ -204,6 +214,21 @@ world_in names values =
     option_map (λ revisions. world_over names labels adjustments revisions)
     (one_value (values option.Revisions))) (one_value (values option.Adjustments))) (one_value (values option.Labels))
 
+abbrev pub explain_over : List Word → ℕ → Dated → WorldNames → ExplainRequest
+explain_over names sid date world =
+    record { pipeline = name names 0; world = world; sid = sid; date = date; column = name names 6 }
+
+-- a word of the form of a column's name
+abbrev pub column_in : Word → Option Word
+column_in text = if is_name text then Some text else None
+
+-- four names, a sid, a date and the name of a column, and the options
+abbrev pub explain_in : List Word → Values → Option ExplainRequest
+explain_in names values =
+    option_and_then (λ sid. option_and_then (λ date. option_and_then (λ column.
+    option_map (explain_over names sid date) (world_in names values))
+    (column_in (name names 6))) (dated (name names 5))) (sid_in (name names 4))
+
 -- five names and the options
 abbrev pub verify_in : List Word → Values → Option VerifyRequest
 verify_in names values =
@@ -217,6 +242,7 @@ request_in command.Fmt names values = Some (Fmt (name names 0))
 request_in command.Plan names values = option_map Plan (plan_in names)
 request_in command.Bench names values = option_map Bench (bench_in names values)
 request_in command.Payouts names values = Some (Payouts (payouts_over names))
+request_in command.Explain names values = option_map Explain (explain_in names values)
 request_in command.Verify names values = option_map Verify (verify_in names values)
 
 -- It takes exactly its number of names.
@@ -308,6 +334,16 @@ world_name q file.Revisions = q.revisions
 world_name q file.Payouts = None
 world_name q file.Derivation = None
 
+abbrev pub explain_name : ExplainRequest → InputFile → Option (List ℕ)
+explain_name q file.Pipeline = Some q.pipeline
+explain_name q file.Sessions = Some q.world.sessions
+explain_name q file.Assets = Some q.world.assets
+explain_name q file.Labels = q.world.labels
+explain_name q file.Bars = Some q.world.bars
+explain_name q file.Revisions = q.world.revisions
+explain_name q file.Payouts = None
+explain_name q file.Derivation = None
+
 abbrev pub verify_name : VerifyRequest → InputFile → Option (List ℕ)
 verify_name q file.Pipeline = Some q.pipeline
 verify_name q file.Sessions = Some q.world.sessions
@@ -325,13 +361,22 @@ name_of (Check name) file = pipeline_name name file
 name_of (Plan q) file = plan_name q file
 name_of (Bench q) file = None
 name_of (Payouts q) file = payouts_name q file
+name_of (Explain q) file = explain_name q file
 name_of (Verify q) file = verify_name q file
 
--- the texts of the two dates, and of the one as of which a run is
+-- the texts of the two dates, and of the one as of which a run is; a cell has a date of its own
 abbrev pub date_text : Dated → Dated → Option Dated → RangeDate → List ℕ
 date_text from to as_of From = from.text
 date_text from to as_of To = to.text
 date_text from to as_of AsOf = unwrap_or (option_map (λ d. d.text) as_of) []
+
+date_text from to as_of At = []
+
+abbrev pub cell_date : Dated → RangeDate → List ℕ
+cell_date date At = date.text
+cell_date date From = []
+cell_date date To = []
+cell_date date AsOf = []
 
 -- ---- of the command that words ask for, where they ask for one
 
@@ -339,7 +384,7 @@ abbrev pub name_asked : Option Request → InputFile → Option (List ℕ)
 name_asked None file = None
 name_asked (Some q) file = name_of q file
 
--- the text of a date of the words; other commands than a run and a plan have none
+-- the text of a date of the words; other commands than a run, a plan and the derivation of a cell have none
 abbrev pub date_asked : Option Request → RangeDate → List ℕ
 date_asked (Some (Run q)) date = date_text q.from q.to q.options.as_of date
 date_asked (Some (Fmt name)) date = []
@@ -347,6 +392,7 @@ date_asked (Some (Check name)) date = []
 date_asked (Some (Plan q)) date = date_text q.from q.to None date
 date_asked (Some (Bench q)) date = []
 date_asked (Some (Payouts q)) date = []
+date_asked (Some (Explain q)) date = cell_date q.date date
 date_asked (Some (Verify q)) date = []
 date_asked None date = []
 
@@ -358,5 +404,18 @@ adjustments_of (Some (Check name)) = None
 adjustments_of (Some (Plan q)) = None
 adjustments_of (Some (Bench q)) = None
 adjustments_of (Some (Payouts q)) = None
+adjustments_of (Some (Explain q)) = q.world.adjustments
 adjustments_of (Some (Verify q)) = q.world.adjustments
 adjustments_of None = None
+
+-- the name of the column whose cell is asked for
+abbrev pub column_asked : Option Request → List ℕ
+column_asked (Some (Run q)) = []
+column_asked (Some (Fmt name)) = []
+column_asked (Some (Check name)) = []
+column_asked (Some (Plan q)) = []
+column_asked (Some (Bench q)) = []
+column_asked (Some (Payouts q)) = []
+column_asked (Some (Explain q)) = q.column
+column_asked (Some (Verify q)) = []
+column_asked None = []

@@ -2,12 +2,13 @@
 use Rattle.std.specs.Prelude.{option_map}
 use Rattle.pl_words.specs.Request as spec
 use Rattle.pl_words.specs.declared.request.Request.{Request}
-use Rattle.pl_words.specs.declared.request.Request.TheVariants.{Run, Fmt, Check, Plan, Bench, Payouts, Verify}
+use Rattle.pl_words.specs.declared.request.Request.TheVariants.{Run, Fmt, Check, Plan, Bench, Payouts, Explain, Verify}
 use Rattle.pl_words.specs.declared.request.RunRequest.{RunRequest}
 use Rattle.pl_words.specs.declared.request.PlanRequest.{PlanRequest}
 use Rattle.pl_words.specs.declared.request.BenchRequest.{BenchRequest}
 use Rattle.pl_words.specs.declared.request.PayoutsRequest.{PayoutsRequest}
 use Rattle.pl_words.specs.declared.request.WorldNames.{WorldNames}
+use Rattle.pl_words.specs.declared.request.ExplainRequest.{ExplainRequest}
 use Rattle.pl_words.specs.declared.request.VerifyRequest.{VerifyRequest}
 use Rattle.pl_words.specs.declared.request.DateWord.{DateWord}
 use Rattle.pl_words.specs.declared.request.Options.{Options}
@@ -59,6 +60,16 @@ world_names_of r =
       revisions = option_map (λ n. n.now) r.revisions;
     }
 
+abbrev pub explain_of : ExplainRequest → spec.ExplainRequest
+explain_of r =
+    record {
+      pipeline = r.pipeline.now;
+      world = world_names_of r.world;
+      sid = r.sid;
+      date = dated_of r.date;
+      column = r.column.now;
+    }
+
 abbrev pub verify_of : VerifyRequest → spec.VerifyRequest
 verify_of r = record { pipeline = r.pipeline.now; world = world_names_of r.world; derivation = r.derivation.now }
 
@@ -69,4 +80,5 @@ request_of (Check name) = spec.Check name.now
 request_of (Plan r) = spec.Plan (plan_of r)
 request_of (Bench r) = spec.Bench (bench_of r)
 request_of (Payouts r) = spec.Payouts (payouts_of r)
+request_of (Explain r) = spec.Explain (explain_of r)
 request_of (Verify r) = spec.Verify (verify_of r)

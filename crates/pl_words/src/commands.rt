@@ -12,6 +12,7 @@ pub enum CommandName {
     Plan,
     Bench,
     Payouts,
+    Explain,
     Verify,
 }
 
@@ -37,6 +38,7 @@ pub(crate) fn command_named(word: &str) -> Option<CommandName>
         "plan" => Some(CommandName::Plan),
         "bench" => Some(CommandName::Bench),
         "payouts" => Some(CommandName::Payouts),
+        "explain" => Some(CommandName::Explain),
         "verify" => Some(CommandName::Verify),
         _ => None,
     }
@@ -48,6 +50,7 @@ impl CommandName {
         ensures { result ≡ places_of self }
     {
         match self {
+            CommandName::Explain => 7,
             CommandName::Run => 6,
             CommandName::Verify => 5,
             CommandName::Plan | CommandName::Payouts => 4,
@@ -69,7 +72,7 @@ impl CommandName {
                 OptionName::Stats,
                 OptionName::AsOf,
             ],
-            CommandName::Verify => &[
+            CommandName::Explain | CommandName::Verify => &[
                 OptionName::Labels,
                 OptionName::Adjustments,
                 OptionName::Revisions,

@@ -14,6 +14,6 @@ mod text;
 
 pub use read::read_words;
 pub use request::{
-    BenchRequest, DateWord, InputFile, Options, PayoutsRequest, PlanRequest, RangeDate, Request,
-    RunRequest, VerifyRequest, WorldNames, adjustments_asked, date_asked, name_asked,
+    BenchRequest, DateWord, ExplainRequest, InputFile, Options, PayoutsRequest, PlanRequest, RangeDate, Request,
+    RunRequest, VerifyRequest, WorldNames, adjustments_asked, column_asked, date_asked, name_asked,
 };
