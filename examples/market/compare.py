@@ -12,11 +12,13 @@ import numpy as np
 import pandas as pd
 
 RANGES = {"momentum": ("2023-12-18", "2023-12-29"), "crossings": ("2023-01-03", "2023-12-29"),
-          "bands": ("2023-10-02", "2023-12-29"), "liquidity": ("2023-12-01", "2023-12-08")}
+          "bands": ("2023-10-02", "2023-12-29"), "liquidity": ("2023-12-01", "2023-12-08"),
+          "revised": ("2023-10-02", "2023-12-29")}
+KINDS = ["splits", "mergers", "dividends", "revisions"]
 
 
 class Market:
-    def __init__(self, folder):
+    def __init__(self, folder, revised=False):
         self.days = pd.to_datetime(pd.read_csv(folder / "sessions.csv", header=None)[0])
         self.assets = pd.read_csv(folder / "assets.csv", parse_dates=["start", "end"]).set_index("sid")
         bars = pd.read_csv(folder / "bars.csv", parse_dates=["session"])
@@ -28,14 +30,23 @@ class Market:
         self.events = []
         for table in ("splits", "mergers", "dividends"):
             for seconds, num, den, sid in store.execute(f"SELECT effective_date, num, den, sid FROM {table}"):
-                self.events.append((pd.Timestamp(seconds, unit="s"), table, num / den, sid))
+                self.events.append((pd.Timestamp(seconds, unit="s"), table, num / den, sid, None, None))
+        if revised:
+            rows = pd.read_csv(folder / "revisions.csv", parse_dates=["session", "known"])
+            self.events += [(r.known, "revisions", r.value, r.sid, r.column, r.session) for r in rows.itertuples()]
+        self.events.sort(key=lambda event: (event[0], KINDS.index(event[1])))
 
     def seen(self, name, day, window):
         """The bars of the sessions before a day, as they are seen on it."""
         frame = self.raw[name][self.days.values < day].tail(window).copy()
-        for effective, table, ratio, sid in self.events:
-            if effective <= day and sid in frame:
-                factor = ratio if name != "volume" else (1 / ratio if table == "splits" else 1.0)
+        for effective, table, number, sid, column, session in self.events:
+            if effective > day or sid not in frame:
+                continue
+            if table == "revisions":
+                if column == name and session in frame.index:
+                    frame.loc[session, sid] = number
+            else:
+                factor = number if name != "volume" else (1 / number if table == "splits" else 1.0)
                 frame.loc[frame.index < effective, sid] *= factor
         return frame
 
@@ -113,10 +124,14 @@ def liquidity(market, day, before):
     return pd.DataFrame({"money": money, "share": share, "fifth": fifth, "peers": peers})[kept]
 
 
+def revised(market, day, before):
+    return bands(market, day, before)
+
+
 def main(folder):
-    market = Market(folder)
     for name, (first, last) in RANGES.items():
         compute = globals()[name]
+        market = Market(folder, revised=name == "revised")
         frames = {}
         for number, day in enumerate(market.days):
             if pd.Timestamp(first) <= day <= pd.Timestamp(last):

@@ -8,18 +8,21 @@ folder=$(mktemp -d)
 trap 'rm -rf "$folder"' EXIT
 sqlite3 "$folder/adjustments.db" < "$here/adjustments.sql"
 
-run() { # pipeline, first session, last session
-    "$program" run "$here/$1.pl" "$here/sessions.csv" "$here/assets.csv" "$here/bars.csv" "$2" "$3" \
-        --labels "$here/labels.csv" --adjustments "$folder/adjustments.db" > "$folder/$1.csv"
+run() { # table, pipeline, first session, last session, further words
+    local table=$1 pipeline=$2 first=$3 last=$4
+    shift 4
+    "$program" run "$here/$pipeline.pl" "$here/sessions.csv" "$here/assets.csv" "$here/bars.csv" "$first" "$last" \
+        --labels "$here/labels.csv" --adjustments "$folder/adjustments.db" "$@" > "$folder/$table.csv"
     if [ "$write" = yes ]; then
-        cp "$folder/$1.csv" "$here/$1.csv"
+        cp "$folder/$table.csv" "$here/$table.csv"
     fi
-    cmp "$folder/$1.csv" "$here/$1.csv" && echo "$1: $(($(wc -l < "$here/$1.csv") - 1)) rows, the same"
+    cmp "$folder/$table.csv" "$here/$table.csv" && echo "$table: $(($(wc -l < "$here/$table.csv") - 1)) rows, the same"
 }
 
 write=no
 [ "${1-}" = --write ] && write=yes
-run momentum 2023-12-18 2023-12-29
-run crossings 2023-01-03 2023-12-29
-run bands 2023-10-02 2023-12-29
-run liquidity 2023-12-01 2023-12-08
+run momentum momentum 2023-12-18 2023-12-29
+run crossings crossings 2023-01-03 2023-12-29
+run bands bands 2023-10-02 2023-12-29
+run liquidity liquidity 2023-12-01 2023-12-08
+run revised bands 2023-10-02 2023-12-29 --revisions "$here/revisions.csv"
