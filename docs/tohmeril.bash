@@ -3,7 +3,7 @@ _tohmeril() {
     local word=${COMP_WORDS[COMP_CWORD]} before=${COMP_WORDS[COMP_CWORD - 1]} command=${COMP_WORDS[1]-}
     COMPREPLY=()
     if [ "$COMP_CWORD" -eq 1 ]; then
-        mapfile -t COMPREPLY < <(compgen -W "run plan check fmt payouts verify bench" -- "$word")
+        mapfile -t COMPREPLY < <(compgen -W "run daily plan check fmt payouts explain verify bench" -- "$word")
         return
     fi
     case $before in
@@ -17,7 +17,8 @@ _tohmeril() {
         local options=
         case $command in
             run) options="--labels --adjustments --revisions --chunk --format --stats --asof" ;;
-            verify) options="--labels --adjustments --revisions" ;;
+            daily) options="--labels --adjustments --revisions --format" ;;
+            explain | verify) options="--labels --adjustments --revisions" ;;
             bench) options="--chunk" ;;
         esac
         mapfile -t COMPREPLY < <(compgen -W "$options" -- "$word")

@@ -1,16 +1,17 @@
 -- Places among bars that stand by column and session, and the cells there.
-use Rattle.std.proofs.Common.{◌≡◌, ◌⊎◌, ℕ, zero, suc, ◌+◌, ◌<◌, ◌≤◌, ◌==◌, ◌&&◌, ◌||◌, nat_le, IsTrue, Bool, true, false, ℤ, pos, List, [], ◌∷◌, length, get_or, All, Option, Some, None, find, position, option_map, unwrap_or, refl, sym, ◌∙◌, ap, arith, inl, inr}
+use Rattle.std.proofs.Common.{◌≡◌, ◌⊎◌, ℕ, zero, suc, ◌+◌, ◌<◌, ◌≤◌, ◌==◌, ◌&&◌, ◌||◌, nat_le, IsTrue, Bool, true, false, ℤ, pos, List, [], ◌∷◌, length, get_or, All, Option, Some, None, find, position, option_map, unwrap_or, refl, sym, ◌∙◌, ap, arith, inl, inr, FitsSigned, w64, to_z, of_z}
 use Rattle.std.specs.List.Sorted.{IsPartitionedBy}
 use Rattle.std.specs.Int.RustNames.{int_le, unsigned_abs}
-use Rattle.std.proofs.lemmas.Int.{ints}
+use Rattle.std.proofs.lemmas.Int.{ints, to_z-of_z}
 use Rattle.std.proofs.lemmas.Bool.{cases_lt, and_parts}
 use Rattle.std.proofs.lemmas.Bool.Decides.{nat_tests}
 use Rattle.std.proofs.lemmas.List.Quantifiers.{position-Some}
 use Rattle.pl_spec.specs.Rounding.{MISSING, LIMIT, IsCell, is_missing}
 use Rattle.pl_spec.specs.declared.BarRow.{BarRow}
 use Rattle.pl_spec.specs.declared.Column.{Column}
+use Rattle.pl_spec.specs.declared.Column.TheVariants.{OpenPrice, High, Low, Close, Volume}
 use Rattle.pl_spec.proofs.Places.{is_at as place_is, is_nowhere, nowhere}
-use Rattle.pl_bars.specs.Bars.{is_at, is_before, is_bar_cell, AreBars, cell_at, cell_of, place}
+use Rattle.pl_bars.specs.Bars.{is_at, is_before, is_bar_cell, AreBars, cell_at, cell_of, cells_at, place}
 use Rattle.pl_bars.specs.BarPoint.{BarPoint}
 use Rattle.pl_bars.proofs.BarSets.{same_default}
 
@@ -153,6 +154,23 @@ cell_found rows col session column n d e = sym (ap (λ o. unwrap_or (option_map 
 pub cell_none : (rows : List BarRow) (col session : ℕ) (column : Column) → None ≡ position (is_at col session) rows → MISSING ≡ cell_at rows col column session
 unfolding cell_at
 cell_none rows col session column e = sym (ap (λ o. unwrap_or (option_map (cell_of column) o) MISSING) (find-none (is_at col session) rows (sym e)))
+
+pub five_cells : (rows : List BarRow) (col session n : ℕ) (d : BarRow) → Some n ≡ position (is_at col session) rows → FitsSigned w64 (get_or (get_or rows n d).cells 0 (pos 0)) → FitsSigned w64 (get_or (get_or rows n d).cells 1 (pos 0)) → FitsSigned w64 (get_or (get_or rows n d).cells 2 (pos 0)) → FitsSigned w64 (get_or (get_or rows n d).cells 3 (pos 0)) → FitsSigned w64 (get_or (get_or rows n d).cells 4 (pos 0))
+    → to_z w64 (of_z w64 (get_or (get_or rows n d).cells 0 (pos 0))) ∷ to_z w64 (of_z w64 (get_or (get_or rows n d).cells 1 (pos 0))) ∷ to_z w64 (of_z w64 (get_or (get_or rows n d).cells 2 (pos 0))) ∷ to_z w64 (of_z w64 (get_or (get_or rows n d).cells 3 (pos 0))) ∷ to_z w64 (of_z w64 (get_or (get_or rows n d).cells 4 (pos 0))) ∷ [] ≡ cells_at rows col session
+five_cells rows col session n d e a0 a1 a2 a3 a4 =
+    ap (λ x. x ∷ to_z w64 (of_z w64 (get_or (get_or rows n d).cells 1 (pos 0))) ∷ to_z w64 (of_z w64 (get_or (get_or rows n d).cells 2 (pos 0))) ∷ to_z w64 (of_z w64 (get_or (get_or rows n d).cells 3 (pos 0))) ∷ to_z w64 (of_z w64 (get_or (get_or rows n d).cells 4 (pos 0))) ∷ []) (to_z-of_z w64 (get_or (get_or rows n d).cells 0 (pos 0)) a0 ∙ cell_found rows col session OpenPrice n d e)
+    ∙ ap (λ x. cell_at rows col OpenPrice session ∷ x ∷ to_z w64 (of_z w64 (get_or (get_or rows n d).cells 2 (pos 0))) ∷ to_z w64 (of_z w64 (get_or (get_or rows n d).cells 3 (pos 0))) ∷ to_z w64 (of_z w64 (get_or (get_or rows n d).cells 4 (pos 0))) ∷ []) (to_z-of_z w64 (get_or (get_or rows n d).cells 1 (pos 0)) a1 ∙ cell_found rows col session High n d e)
+    ∙ ap (λ x. cell_at rows col OpenPrice session ∷ cell_at rows col High session ∷ x ∷ to_z w64 (of_z w64 (get_or (get_or rows n d).cells 3 (pos 0))) ∷ to_z w64 (of_z w64 (get_or (get_or rows n d).cells 4 (pos 0))) ∷ []) (to_z-of_z w64 (get_or (get_or rows n d).cells 2 (pos 0)) a2 ∙ cell_found rows col session Low n d e)
+    ∙ ap (λ x. cell_at rows col OpenPrice session ∷ cell_at rows col High session ∷ cell_at rows col Low session ∷ x ∷ to_z w64 (of_z w64 (get_or (get_or rows n d).cells 4 (pos 0))) ∷ []) (to_z-of_z w64 (get_or (get_or rows n d).cells 3 (pos 0)) a3 ∙ cell_found rows col session Close n d e)
+    ∙ ap (λ x. cell_at rows col OpenPrice session ∷ cell_at rows col High session ∷ cell_at rows col Low session ∷ cell_at rows col Close session ∷ x ∷ []) (to_z-of_z w64 (get_or (get_or rows n d).cells 4 (pos 0)) a4 ∙ cell_found rows col session Volume n d e)
+
+pub none_of_five : (rows : List BarRow) (col session : ℕ) → None ≡ position (is_at col session) rows → MISSING ∷ MISSING ∷ MISSING ∷ MISSING ∷ MISSING ∷ [] ≡ cells_at rows col session
+none_of_five rows col session e =
+    ap (λ x. x ∷ MISSING ∷ MISSING ∷ MISSING ∷ MISSING ∷ []) (cell_none rows col session OpenPrice e)
+    ∙ ap (λ x. cell_at rows col OpenPrice session ∷ x ∷ MISSING ∷ MISSING ∷ MISSING ∷ []) (cell_none rows col session High e)
+    ∙ ap (λ x. cell_at rows col OpenPrice session ∷ cell_at rows col High session ∷ x ∷ MISSING ∷ MISSING ∷ []) (cell_none rows col session Low e)
+    ∙ ap (λ x. cell_at rows col OpenPrice session ∷ cell_at rows col High session ∷ cell_at rows col Low session ∷ x ∷ MISSING ∷ []) (cell_none rows col session Close e)
+    ∙ ap (λ x. cell_at rows col OpenPrice session ∷ cell_at rows col High session ∷ cell_at rows col Low session ∷ cell_at rows col Close session ∷ x ∷ []) (cell_none rows col session Volume e)
 
 pub IsCell-bar_cell : (v : ℤ) → is_bar_cell v ≡ true → IsCell v
 IsCell-bar_cell v t = here (is_missing v) refl

@@ -125,3 +125,7 @@ cell_of column b = slice_index_or b.cells (place column) (pos 0)
 -- the cell of the bar of the column on the session, missing where there is none
 unfoldable pub cell_at : List BarRow → ℕ → Column → ℕ → ℤ
 cell_at rows col column session = unwrap_or (option_map (cell_of column) (find (is_at col session) rows)) MISSING
+
+-- its five cells, in the order of the columns
+abbrev pub cells_at : List BarRow → ℕ → ℕ → List ℤ
+cells_at rows col session = cell_at rows col OpenPrice session ∷ cell_at rows col High session ∷ cell_at rows col Low session ∷ cell_at rows col Close session ∷ cell_at rows col Volume session ∷ []

@@ -7,7 +7,7 @@ ghost use Rattle.pl_records.specs.Reading.{Answers};
 ghost use Rattle.pl_spec.specs.AsOf.{bars_before};
 ghost use Rattle.pl_spec.specs.Rounding.{IsCell};
 ghost use Rattle.pl_records.specs.Records.{csv_records};
-ghost use Rattle.pl_bars.specs.Bars.{AreBars, bars_of, cell_at};
+ghost use Rattle.pl_bars.specs.Bars.{AreBars, bars_of, cell_at, cells_at};
 ghost use Rattle.pl_bars.specs.Faults.{fault_of};
 
 mod bar_set;
@@ -106,6 +106,13 @@ impl Bars {
         ensures cell { IsCell result }
     {
         search::cell_at(&self.rows, col, session, column)
+    }
+
+    /// The five cells of that bar, found by one search.
+    pub fn cells(&self, col: usize, session: usize) -> [i64; 5]
+        ensures { result ≡ cells_at self.now col session }
+    {
+        search::cells_at(&self.rows, col, session)
     }
 
     /// Writes the cells of some columns on `rows` sessions from the first one on, asset by asset.

@@ -1,6 +1,6 @@
 ghost use Rattle.std.specs.Prelude.{◌≡◌, ◌+◌, ◌<◌, ◌≤◌, length, position};
 ghost use Rattle.pl_spec.specs.Rounding.{IsCell};
-ghost use Rattle.pl_bars.specs.Bars.{AreBars, cell_at, is_at, is_before, place};
+ghost use Rattle.pl_bars.specs.Bars.{AreBars, cell_at, cells_at, is_at, is_before, place};
 ghost use Rattle.pl_bars.specs.BarPoint.{BarPoint};
 
 use pl_fixed::MISSING;
@@ -15,6 +15,20 @@ pub(crate) fn cell_at(rows: &[BarRow], col: usize, session: usize, column: Colum
     match row_of(rows, col, session) {
         Some(i) => rows[i].cells[place_of(column)],
         None => MISSING,
+    }
+}
+
+// The cells of all columns.
+pub(crate) fn cells_at(rows: &[BarRow], col: usize, session: usize) -> [i64; 5]
+    requires { AreBars rows.now }
+    ensures { result ≡ cells_at rows.now col session }
+{
+    match row_of(rows, col, session) {
+        Some(i) => {
+            let [open, high, low, close, volume] = rows[i].cells;
+            [open, high, low, close, volume]
+        }
+        None => [MISSING; 5],
     }
 }
 

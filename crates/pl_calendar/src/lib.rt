@@ -18,6 +18,7 @@ mod reading;
 mod search;
 
 pub use error::CalendarError;
+pub use periods::period_of;
 use pl_fixed::{Frequency, Memory};
 use std::alloc::Global;
 use std::marker::Model;

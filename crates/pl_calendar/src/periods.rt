@@ -7,8 +7,9 @@ ghost use Rattle.pl_calendar.specs.Days.{AreDays};
 
 use pl_fixed::{Frequency, month_number};
 
-// The number of the period that the day is of. Day 0 is a Thursday, and weeks begin on Monday.
-fn period_of(frequency: Frequency, day: i32) -> i32
+/// The number of the year, quarter, month or week that the day is of; later periods have greater numbers. Day
+/// 0, 1970-01-01, is a Thursday, and weeks begin on Monday.
+pub fn period_of(frequency: Frequency, day: i32) -> i32
     requires { IsDay day }
     ensures { result ≡ period frequency day }
 {

@@ -19,7 +19,7 @@ use std::alloc::Global;
 use std::marker::Brand;
 use std::sync::ledger::{Blank, Ledger};
 
-/// Whether the table of a run differs from its cells in the whole world. Other commands have none.
+/// Whether the table of a run, or that of `daily`, differs from its cells in the whole world. Other commands have none.
 pub(crate) fn cells_differ(
     alloc: Global,
     case: &Case,
@@ -28,6 +28,7 @@ pub(crate) fn cells_differ(
 ) -> Result<bool> {
     match read_words(alloc, words) {
         Ok(Some(Request::Run(request))) => run_differs(alloc, case, &request, table),
+        Ok(Some(Request::Daily(request))) => run_differs(alloc, case, &request.run(), table),
         Ok(_) => Ok(false),
         Err(_) => bail!("memory"),
     }

@@ -65,7 +65,7 @@ same-text : (format : Format) (v w : World) (p r : Pipeline) (a b from to : ℕ)
     → text v r format (table v r from to) ≡ text w p format (table w p a b)
 same-text format v w p r a b from to h c f t = rw (c, f, t) (h.written format)
 
-loaded-text : (held : Contents) (q : RunRequest) (l : Loaded) → IsLoaded held q l → loaded_text l q.options.format ≡ text_of held (Some (Run q))
+pub loaded-text : (held : Contents) (q : RunRequest) (l : Loaded) → IsLoaded held q l → loaded_text l q.options.format ≡ text_of held (Some (Run q))
 unfolding text_of
 loaded-text held q l h = same-text q.options.format (owned_world l.world) (world_held held (run_world q)) (pipeline_held held) (pipeline_of l.checked) _ _ l.plan.from l.plan.to h.same h.pipeline h.from h.to
 

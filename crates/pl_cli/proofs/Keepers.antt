@@ -6,13 +6,15 @@ use Rattle.pl_spec.specs.Table.{Pipeline}
 use Rattle.pl_outside.specs.declared.keeper.Table.{Table}
 use Rattle.pl_words.specs.declared.request.InputFile.{InputFile}
 use Rattle.pl_words.specs.declared.request.InputFile.TheVariants.{Labels as LabelsFile, Revisions as RevisionsFile}
-use Rattle.pl_words.specs.Request.{Request, Run, Fmt, Check, Plan, Bench, Payouts, Verify, RunRequest, PlanRequest, VerifyRequest, WorldNames, Dated, run_world, adjustments_of}
+use Rattle.pl_words.specs.Request.{Request, Run, Fmt, Check, Plan, Bench, Payouts, Explain, Verify, Daily, RunRequest, PlanRequest, ExplainRequest, VerifyRequest, WorldNames, Dated, run_world, daily_run, adjustments_of}
+use Rattle.pl_spec.specs.World.{World}
+use Rattle.pl_judge.specs.Cells.{cell_steps, lines_step}
 use Rattle.pl_judge.specs.Contents.{Contents}
-use Rattle.pl_judge.specs.Held.{assets_held, days_held, pipeline_held}
+use Rattle.pl_judge.specs.Held.{assets_held, days_held, pipeline_held, world_held}
 use Rattle.pl_judge.specs.Steps.{Source, Step, ReachesRead}
 use Rattle.pl_judge.specs.Steps.Source.{Input, Load}
 use Rattle.pl_judge.specs.Range.{index_of, dates_steps, plan_steps, range_steps}
-use Rattle.pl_judge.specs.Work.{labels_steps, adjustments_steps, revisions_steps, data_steps, planning_steps, payouts_steps, run_steps, verify_steps, work}
+use Rattle.pl_judge.specs.Work.{labels_steps, adjustments_steps, revisions_steps, data_steps, planning_steps, payouts_steps, run_steps, cell_work, explain_steps, verify_steps, work}
 
 no-input : {A : Type 0} {file : InputFile} {table : Table} → Some (Input file) ≡ Some (Load table) → A
 no-input h = absurd (cc)
@@ -101,6 +103,38 @@ of-verify held q table h = elim h [
   ]
 ]
 
+of-cell : (p : Pipeline) (days : List ℤ) (assets : List AssetRow) (q : ExplainRequest) (table : Table) → ReachesRead (cell_steps p days assets q) (Load table) → ⊥
+unfolding cell_steps
+of-cell p days assets q table h = elim h [
+  | inl e ↦ no-read e
+  | inr a ↦ elim a.1 [
+    | inl e ↦ no-read e
+    | inr b ↦ elim b.1 [ inl e ↦ no-read e | inr c ↦ elim c.1 [ inl e ↦ no-read e | inr d ↦ d.1 ] ]
+  ]
+]
+
+of-lines : (w : World) (p : Pipeline) (q : ExplainRequest) (table : Table) → ReachesRead (lines_step w p q ∷ []) (Load table) → ⊥
+unfolding lines_step
+of-lines w p q table h = elim h [ inl e ↦ no-read e | inr a ↦ a.1 ]
+
+of-cell-work : (held : Contents) (q : ExplainRequest) (table : Table) → ReachesRead (cell_work held q) (Load table) → IsSome q.world.adjustments
+of-cell-work held q table h = elim h [
+  | inl p ↦ no-input p
+  | inr a ↦ elim a.1 [
+    | inl p ↦ no-read p
+    | inr b ↦ elim (reaches-one (data_steps held q.world) _ (Load table) b.1) [
+      | inl e ↦ of-data held q.world table e
+      | inr c ↦ absurd (of-cell (pipeline_held held) (days_held held) (assets_held held) q table c)
+    ]
+  ]
+]
+
+of-explain : (held : Contents) (q : ExplainRequest) (table : Table) → ReachesRead (explain_steps held q) (Load table) → IsSome q.world.adjustments
+of-explain held q table h = elim (reaches-one (cell_work held q) _ (Load table) h) [
+  | inl e ↦ of-cell-work held q table e
+  | inr l ↦ absurd (of-lines (world_held held q.world) (pipeline_held held) q table l)
+]
+
 of-planning : (held : Contents) (q : PlanRequest) (table : Table) → ReachesRead (planning_steps held q) (Load table) → ⊥
 of-planning held q table h = elim h [
   | inl p ↦ no-input p
@@ -127,5 +161,7 @@ store-named held (Some (Check n)) table h = elim h [ inl p ↦ no-input p | inr 
 store-named held (Some (Plan q)) table h = absurd (of-planning held q table h)
 store-named held (Some (Bench q)) table h = absurd h
 store-named held (Some (Payouts q)) table h = absurd (of-payouts held table h)
+store-named held (Some (Explain q)) table h = of-explain held q table h
 store-named held (Some (Verify q)) table h = of-verify held q table h
+store-named held (Some (Daily q)) table h = of-run held (daily_run q) table h
 store-named held (Some (Run q)) table h = of-run held q table h

@@ -6,3 +6,5 @@ pub mod Finished
 pub mod Stats
 pub mod Further
 pub mod Verified
+pub mod Explained
+pub mod Days

@@ -1,5 +1,5 @@
 -- How the check of a derivation ends.
-use Rattle.std.proofs.Common.{◌≡◌, inr, ℕ, Bool, List, [], ◌∷◌, ◌++◌, Option, Some, None, Result, Ok, Err, IfOk, IfErr, refl, codes, append_assoc, append-nil}
+use Rattle.std.proofs.Common.{◌≡◌, inr, ℕ, Bool, List, [], ◌++◌, Option, Some, None, Result, Ok, Err, IfOk, IfErr, refl, append_assoc, append-nil}
 use Rattle.pl_spec.specs.World.{World}
 use Rattle.pl_spec.specs.Table.{Pipeline}
 use Rattle.pl_lines.specs.Lines.{Line}

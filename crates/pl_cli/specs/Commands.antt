@@ -16,6 +16,7 @@ use Rattle.pl_judge.specs.Stages.{IsStop}
 use Rattle.pl_load.specs.declared.loading.Loaded.{Loaded}
 use Rattle.pl_model.specs.Worlds.{owned_world}
 use Rattle.pl_runner.specs.Runs.{run_steps}
+use Rattle.pl_feed.specs.Feeds.{daily_steps}
 use Rattle.pl_cli.specs.declared.commands.Stats.{Stats}
 use Rattle.pl_cli.specs.Texts.{text_of, table_stats, TakesSteps, TellsNumbers}
 use Rattle.pl_cli.specs.Runs.{Observed, HasRoom}
@@ -35,6 +36,10 @@ loaded_stats asked l chunk =
     let w = owned_world l.world in
     let p = pipeline_of l.checked in
     if asked then table_stats w p (table w p l.plan.from l.plan.to) (loaded_steps l chunk) else []
+
+-- the steps where its sessions are fed one by one
+abbrev pub loaded_days : Loaded → ℕ
+loaded_days l = daily_steps (owned_world l.world) (pipeline_of l.checked) l.plan.to
 
 -- the line of the numbers that a command gives
 abbrev pub stats_told : Option Stats → List ℕ

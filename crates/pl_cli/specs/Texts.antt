@@ -1,5 +1,5 @@
 -- The text of a command over its contents, and the steps that it takes.
-use Rattle.std.specs.Prelude.{◌≡◌, ℕ, ℤ, List, [], ◌∷◌, ◌++◌, length, codes, decimal, if◌then◌else◌, Option, Some, None}
+use Rattle.std.specs.Prelude.{◌≡◌, ℕ, ℤ, pos, List, [], ◌∷◌, ◌++◌, length, codes, decimal, if◌then◌else◌, Option, Some, None}
 use Rattle.std.specs.Int.RustNames.{unsigned_abs}
 use Rattle.pl_spec.specs.World.{World}
 use Rattle.pl_spec.specs.Table.{Pipeline, Row, table, cells}
@@ -12,10 +12,14 @@ use Rattle.pl_planner.specs.Plans.{Planned, IsPlanOf}
 use Rattle.pl_exec.specs.Tasks.{cut}
 use Rattle.pl_bench.specs.Numbers.{TakesSteps as TakesBenchSteps, bench_line}
 use Rattle.pl_payouts.specs.Texts.{payouts_text}
+use Rattle.pl_lines.specs.Texts as lines
 use Rattle.pl_facts.specs.Right.{first_wrong}
+use Rattle.pl_facts.specs.Walks.{derivation}
 use Rattle.pl_runner.specs.Runs.{run_steps}
+use Rattle.pl_feed.specs.Feeds.{daily_steps}
 use Rattle.pl_words.specs.declared.request.InputFile.TheVariants.{Pipeline as PipelineFile}
-use Rattle.pl_words.specs.Request.{Request, Run, Fmt, Check, Plan, Bench, Payouts, Verify, RunRequest, run_world}
+use Rattle.pl_words.specs.Request.{Request, Run, Fmt, Check, Plan, Bench, Payouts, Explain, Verify, Daily, RunRequest, ExplainRequest, run_world, daily_run}
+use Rattle.pl_judge.specs.Cells.{term_asked}
 use Rattle.pl_judge.specs.Contents.{Contents}
 use Rattle.pl_judge.specs.Held.{script_in, pipeline_in, pipeline_held, days_held, assets_held, bars_held, payouts_held, derivation_held, world_held}
 use Rattle.pl_judge.specs.Known.{world_known}
@@ -44,13 +48,17 @@ check_text p =
 abbrev pub planned_text : List ℤ → Pipeline → ℕ → List ℕ
 planned_text days p from = plan_text p (extra_of days p from) (reach_at days p from) (bound p.graph (outputs p))
 
+-- the derivation of the value of the column that is asked for
+abbrev pub derivation_text : World → Pipeline → ExplainRequest → List ℕ
+derivation_text w p q = lines.text_of (derivation w p (term_asked p q) q.sid (pos (index_of w.days q.date.day)))
+
 -- whether all lines of a derivation are right, or the number of the first that is not
 abbrev pub verdict_text : Option ℕ → List ℕ
 verdict_text None = codes "yes" ++ 10 ∷ []
 verdict_text (Some n) = codes "no " ++ decimal n ++ 10 ∷ []
 
 -- the table of a run, the canonical text of a script, the counts of a pipeline that keeps the rules, its plan, the numbers of a run
--- over a stated world, the rows of payouts, or the verdict on a derivation
+-- over a stated world, the rows of payouts, the derivation of a cell, the verdict on one, or the table that a run has
 unfoldable pub text_of : Contents → Option Request → List ℕ
 text_of held None = []
 text_of held (Some (Run q)) = run_text held q
@@ -61,7 +69,9 @@ text_of held (Some (Plan q)) =
     planned_text days (pipeline_held held) (index_of days q.from.day)
 text_of held (Some (Bench q)) = bench_line q.number
 text_of held (Some (Payouts q)) = payouts_text (days_held held) (assets_held held) (bars_held held) (payouts_held held)
+text_of held (Some (Explain q)) = derivation_text (world_held held q.world) (pipeline_held held) q
 text_of held (Some (Verify q)) = verdict_text (first_wrong (world_held held q.world) (pipeline_held held) (derivation_held held))
+text_of held (Some (Daily q)) = run_text held (daily_run q)
 
 -- a plan of the pipeline over the sessions of a run, for its range
 pub record IsPlanFor (held : Contents) (q : RunRequest) (plan : Planned) : Type 0 where
@@ -71,11 +81,14 @@ pub record IsPlanFor (held : Contents) (q : RunRequest) (plan : Planned) : Type 
 
 -- The steps of a run, as its plan has them over the world that is known by its date: the sum over the chunks of its sessions,
 -- the used terms and the bar columns of each, of how often an adjustment acts on a bar as the window goes from session to
--- session. A run over a stated world takes those of its own plan, and no other command takes steps.
+-- session. A run over a stated world takes those of its own plan, a table that is computed session by session those of the
+-- sessions that are fed, and no other command takes steps.
 abbrev pub TakesSteps : Contents → Option Request → (ℕ → Type 0) → Type 0
 TakesSteps held (Some (Run q)) P =
     (plan : Planned) × IsPlanFor held q plan × P (run_steps (world_known held q) (pipeline_held held) plan q.options.chunk)
 TakesSteps held (Some (Bench q)) P = TakesBenchSteps q.number q.chunk P
+TakesSteps held (Some (Daily q)) P =
+    P (daily_steps (world_held held q.world) (pipeline_held held) (index_of (days_held held) q.to.day))
 TakesSteps held asked P = P 0
 
 -- The line of the numbers of a table: how many rows it has, the sum of their cells modulo 2 ^ 64, how many arrays are held at once,

@@ -3,7 +3,9 @@
 //! Its contract says which bytes stand on `out` and `err` and which status is answered, for whatever the parts outside hold.
 #![tactic(auto)]
 
+mod cells;
 mod commands;
+mod daily;
 mod derivations;
 mod payouts;
 mod stated;

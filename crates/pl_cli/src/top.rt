@@ -8,7 +8,9 @@ ghost use Rattle.pl_judge.specs.Faults.{judged_status, judged_line};
 ghost use Rattle.pl_cli.specs.Runs.{observed, IsRun, IsTold};
 ghost use Rattle.pl_cli.specs.Commands.{IsEnded, IsCaused, fault_of, numbers_told};
 
+use crate::cells::explain_command;
 use crate::commands::{Stats, check_command, fmt_command, plan_command, run_command};
+use crate::daily::daily_command;
 use crate::derivations::verify_command;
 use crate::payouts::payouts_command;
 use crate::stated::bench_command;
@@ -31,8 +33,12 @@ use std::sync::ledger::Ledger;
 ///   session whose bars are read;
 /// - `payouts SESSIONS ASSETS BARS PAYOUTS` writes the rows of the payouts file for the table of dividends, or why a payout has
 ///   none;
-/// - `verify PIPELINE SESSIONS ASSETS BARS DERIVATION`, with the options `--labels NAME`, `--adjustments NAME` and
-///   `--revisions NAME`, writes whether all lines of a derivation are right, or the number of the first that is not;
+/// - `explain PIPELINE SESSIONS ASSETS BARS SID DATE COLUMN`, with the options `--labels NAME`, `--adjustments NAME` and
+///   `--revisions NAME`, writes the derivation of a cell;
+/// - `verify PIPELINE SESSIONS ASSETS BARS DERIVATION`, with the same options, writes whether all lines of a derivation are
+///   right, or the number of the first that is not;
+/// - `daily PIPELINE SESSIONS ASSETS BARS FROM TO`, with the same options and `--format csv` and `--format fixed`, writes the
+///   table that `run` has, computed session by session from the first one on;
 /// - `bench NUMBER`, with the option `--chunk N`, runs a pipeline of the program's own over the stated world of the number, and
 ///   writes the numbers of that run.
 ///
@@ -42,13 +48,13 @@ use std::sync::ledger::Ledger;
 /// - 2: the words are of none of these forms;
 /// - 3: the pipeline file is not in the language, by its syntax or, but for `fmt`, by its rules;
 /// - 4: a record of a data file or a row of the adjustments breaks a rule; 5: the range is not one of sessions with the bars
-///   that the columns show; 6: a limit is passed;
+///   that the columns show, or the cell is none of the table's; 6: a limit is passed;
 /// - 7: the shelf counted a fault; 8: the keeper did; 9: `out` did, and a prefix of the text stands on it;
 /// - 10: memory ran out before the first byte.
 ///
 /// Every status but 0 has its line on `err`; status 0 has none but the numbers that are asked for. The first fault in the
 /// order of work decides: the words, the pipeline file, the sessions, the assets, the labels, the bars, the payouts, the
-/// adjustments, the revisions, the range, the derivation. The parts are handed back, so that a caller can run again.
+/// adjustments, the revisions, the range or the cell, the derivation. The parts are handed back, so that a caller can run again.
 pub fn run_program<S: Shelf, K: AdjustKeeper, O: Sink, E: Sink, L: Ledger>(
     alloc: Global,
     words: &[String],
@@ -123,7 +129,9 @@ fn answer<S: Shelf, K: AdjustKeeper, O: Sink, L: Ledger>(
         Some(Request::Plan(request)) => plan_command(alloc, request, shelf, out),
         Some(Request::Bench(request)) => bench_command(alloc, request, out, steps),
         Some(Request::Payouts(request)) => payouts_command(alloc, request, shelf, out),
+        Some(Request::Explain(request)) => explain_command(alloc, request, shelf, keeper, out),
         Some(Request::Verify(request)) => verify_command(alloc, request, shelf, keeper, out),
+        Some(Request::Daily(request)) => daily_command(alloc, request, shelf, keeper, out, steps),
     }
 }
 

@@ -77,7 +77,7 @@ abbrev pub IsTellingOf : Fact → ℤ → Told → Told → Type 0
 IsTellingOf f x old new = (g : Fact) → look new g ≡ (if same_fact f g then Some x else look old g)
 
 module _ (f : Fact) (x : ℤ) (old new : Told) (tells : IsTellingOf f x old new) where
-  has-more : (g : Fact) → has new g ≡ (has old g || same_fact g f)
+  pub has-more : (g : Fact) → has new g ≡ (has old g || same_fact g f)
   has-more g = ap is_some (tells g) ∙ ap (λ b. is_some (if b then Some x else look old g)) (same-turned f g) ∙ here (same_fact g f)
     where
       here : (b : Bool) → is_some (if b then Some x else look old g) ≡ (is_some (look old g) || b)

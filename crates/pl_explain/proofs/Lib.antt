@@ -3,3 +3,7 @@ mod Passing
 mod Judging
 mod Used
 mod Lines
+mod Walks
+mod Standing
+mod Behind
+mod Finished

@@ -1,3 +1,5 @@
 -- What the contracts cite.
 pub mod Reaching
 pub mod Judging
+pub mod Reading
+pub mod Walking

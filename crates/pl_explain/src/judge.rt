@@ -205,14 +205,14 @@ fn same_cells(a: &[i64], b: &[i64]) -> bool
     a == b
 }
 
-fn last_of(cells: &[i64]) -> i64
+pub(crate) fn last_of(cells: &[i64]) -> i64
     ensures { result ≡ spec.last_cell cells.now }
 {
     cells.iter().fold(MISSING, |_, cell| *cell)
 }
 
 // The column of a sid.
-fn col_of(world: &World, sid: u32) -> Option<usize>
+pub(crate) fn col_of(world: &World, sid: u32) -> Option<usize>
     ensures some { IfSome result (λ col. IsPlace world.now sid col) }
     ensures none { IfNone result (has_sid (world_of world.now) sid ≡ false) }
 {

@@ -2,4 +2,5 @@ pub mod Steps
 pub mod Needed
 pub mod Planned
 pub mod Ranges
+pub mod Cells
 pub mod Pieces

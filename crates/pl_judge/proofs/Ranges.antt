@@ -67,10 +67,10 @@ module _ (date : Option Dated) (d : Dated) (days : List ℤ) (is : date ≡ Some
 
 -- ---- the plan
 
-late : (z : ℤ) → pos 0 ≤ℤ z → int_lt z (pos 0) ≡ false
+pub late : (z : ℤ) → pos 0 ≤ℤ z → int_lt z (pos 0) ≡ false
 late z h = grind (arith, ints, nat_tests)
 
-early : (z : ℤ) → z <ℤ pos 0 → int_lt z (pos 0) ≡ true
+pub early : (z : ℤ) → z <ℤ pos 0 → int_lt z (pos 0) ≡ true
 early z h = grind (arith, ints, nat_tests)
 
 module _ (days : List ℤ) (p : Pipeline) (checked : IsChecked p) where

@@ -6,7 +6,7 @@ use Rattle.pl_outside.specs.declared.keeper.Table.TheVariants.{Splits, Mergers, 
 use Rattle.pl_grammar.specs.declared.Place.{Place}
 use Rattle.pl_words.specs.declared.request.InputFile.{InputFile}
 use Rattle.pl_words.specs.declared.request.InputFile.TheVariants.{Pipeline}
-use Rattle.pl_words.specs.Request.{Request, name_asked, date_asked, adjustments_of}
+use Rattle.pl_words.specs.Request.{Request, name_asked, date_asked, column_asked, adjustments_of}
 use Rattle.pl_judge.specs.declared.fault.SyntaxFault.{SyntaxFault}
 use Rattle.pl_judge.specs.declared.fault.SyntaxFault.TheVariants.{BadByte, Unexpected, TooDeep, NumberTooLarge, LongStatement}
 use Rattle.pl_judge.specs.declared.fault.RuleFault.{RuleFault}
@@ -85,6 +85,8 @@ status_of (faults.Rule place fault) = 3
 status_of (faults.Data file line fault) = 4
 status_of (faults.Row table id fault) = 4
 status_of (faults.NotSession date) = 5
+status_of (faults.UnknownSid sid) = 5
+status_of faults.UnknownColumn = 5
 status_of faults.Backwards = 5
 status_of (faults.TooEarly reach) = 5
 status_of (faults.Passed limit) = 6
@@ -116,6 +118,8 @@ message_of asked (faults.Data file line fault) =
 message_of asked (faults.Row table id fault) =
     tables_name asked ++ codes ":" ++ table_text table ++ codes ":" ++ signed_decimal id ++ codes ": data " ++ row_text fault
 message_of asked (faults.NotSession date) = codes "range: NotSession " ++ date_asked asked date
+message_of asked (faults.UnknownSid sid) = codes "range: UnknownSid " ++ decimal sid
+message_of asked faults.UnknownColumn = codes "range: UnknownColumn " ++ column_asked asked
 message_of asked faults.Backwards = codes "range: Backwards"
 message_of asked (faults.TooEarly reach) = codes "range: TooEarly " ++ signed_decimal reach
 message_of asked (faults.Passed limit) = codes "limit: " ++ limit_text limit

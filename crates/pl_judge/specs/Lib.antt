@@ -6,6 +6,7 @@ pub mod Rules
 pub mod Held
 pub mod Steps
 pub mod Planning
+pub mod Cells
 pub mod Work
 pub mod Range
 pub mod Ends

@@ -13,6 +13,8 @@ use Rattle.pl_lines.specs.Texts.{Broken}
 use Rattle.pl_lines.specs.Texts.Broken.{BadLine as UnreadLine, TooMany as ManyLines}
 use Rattle.pl_lines.specs.declared.read.LinesError.{LinesError}
 use Rattle.pl_lines.specs.declared.read.LinesError.TheVariants as lines_errors
+use Rattle.pl_explain.specs.declared.walk.ExplainError.{ExplainError}
+use Rattle.pl_explain.specs.declared.walk.ExplainError.TheVariants as explain_errors
 use Rattle.pl_grammar.specs.Faults as syntax
 use Rattle.pl_grammar.specs.declared.Place.{Place}
 use Rattle.pl_syntax.specs.declared.error.SyntaxError.{SyntaxError}
@@ -137,3 +139,7 @@ abbrev pub lines_error : LinesError → Fault
 lines_error (lines_errors.BadLine line) = Data files.Derivation line BadLine
 lines_error (lines_errors.TooMany line) = Passed limits.Derivation
 lines_error lines_errors.Memory = Memory
+
+abbrev pub explain_error : ExplainError → Fault
+explain_error explain_errors.TooLong = Passed limits.Derivation
+explain_error explain_errors.Memory = Memory

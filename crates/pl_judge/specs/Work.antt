@@ -21,7 +21,7 @@ use Rattle.pl_outside.specs.declared.keeper.Table.{Table}
 use Rattle.pl_outside.specs.declared.keeper.Table.TheVariants.{Splits, Mergers, Dividends}
 use Rattle.pl_words.specs.declared.request.InputFile.{InputFile}
 use Rattle.pl_words.specs.declared.request.InputFile.TheVariants.{Pipeline as PipelineFile, Sessions, Assets, Labels, Bars, Revisions, Payouts as PayoutsFile, Derivation}
-use Rattle.pl_words.specs.Request.{Request, Run, Fmt, Check, Plan, Bench, Payouts, Verify, RunRequest, PlanRequest, VerifyRequest, WorldNames, run_world}
+use Rattle.pl_words.specs.Request.{Request, Run, Fmt, Check, Plan, Bench, Payouts, Explain, Verify, Daily, RunRequest, PlanRequest, ExplainRequest, VerifyRequest, WorldNames, run_world, daily_run}
 use Rattle.pl_judge.specs.declared.limits.TheConstants.{PIPELINE_CAP, FILE_CAP}
 use Rattle.pl_judge.specs.declared.fault.Limit.{Limit}
 use Rattle.pl_judge.specs.declared.fault.Limit.TheVariants as limits
@@ -29,10 +29,11 @@ use Rattle.pl_judge.specs.declared.fault.Fault.{Fault}
 use Rattle.pl_judge.specs.declared.fault.Fault.TheVariants.{Usage, Passed, Unread}
 use Rattle.pl_judge.specs.Contents.{Contents}
 use Rattle.pl_judge.specs.Rules.{syntax_fault, rule_fault, sessions_fault, assets_fault, labels_fault, bars_fault, revisions_fault, payouts_fault, lines_fault, rows_fault}
-use Rattle.pl_judge.specs.Held.{script_in, pipeline_held, days_held, assets_held, adjustments_of_rows}
+use Rattle.pl_judge.specs.Held.{script_in, pipeline_held, days_held, assets_held, world_held, adjustments_of_rows}
 use Rattle.pl_judge.specs.Steps.{Step, rule}
 use Rattle.pl_judge.specs.Steps.Source.{Input, Load}
 use Rattle.pl_judge.specs.Range.{range_steps}
+use Rattle.pl_judge.specs.Cells.{cell_steps, lines_step}
 
 -- ---- a file that is read whole and judged
 
@@ -167,6 +168,16 @@ run_steps held q =
 abbrev pub derivation_step : Option (List ℕ) → Step
 derivation_step file = read_step Derivation lines_rule file
 
+-- the pipeline file, the data, and then the cell
+abbrev pub cell_work : Contents → ExplainRequest → List Step
+cell_work held q =
+    pipeline_steps (held.file PipelineFile)
+    ++ (data_steps held q.world ++ cell_steps (pipeline_held held) (days_held held) (assets_held held) q)
+
+-- ... and how long its derivation is
+abbrev pub explain_steps : Contents → ExplainRequest → List Step
+explain_steps held q = cell_work held q ++ lines_step (world_held held q.world) (pipeline_held held) q ∷ []
+
 -- the pipeline file, the data, and then the derivation
 abbrev pub verify_steps : Contents → VerifyRequest → List Step
 verify_steps held q =
@@ -187,7 +198,7 @@ payouts_steps held =
     ∷ read_step Bars (bars_rule days assets) (held.file Bars)
     ∷ read_step PayoutsFile (payouts_rule assets) (held.file PayoutsFile) ∷ []
 
--- A stated world is read from nowhere.
+-- A stated world is read from nowhere, and a table that is computed session by session is judged as a run.
 unfoldable pub work : Contents → Option Request → List Step
 work held None = rule (Some Usage) ∷ []
 work held (Some (Run q)) = run_steps held q
@@ -196,4 +207,6 @@ work held (Some (Check name)) = pipeline_steps (held.file PipelineFile)
 work held (Some (Plan q)) = planning_steps held q
 work held (Some (Bench q)) = []
 work held (Some (Payouts q)) = payouts_steps held
+work held (Some (Explain q)) = explain_steps held q
 work held (Some (Verify q)) = verify_steps held q
+work held (Some (Daily q)) = run_steps held (daily_run q)

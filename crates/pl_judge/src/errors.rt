@@ -1,7 +1,7 @@
 // What the errors of the readers and of the checker are to a command.
 ghost use Rattle.std.specs.Prelude.{◌≡◌};
 ghost use Rattle.pl_judge.specs.Stages.{Tells};
-ghost use Rattle.pl_judge.specs.Rules.{told_at, told, sessions_fault, assets_fault, labels_fault, bars_fault, revisions_fault, payouts_fault, rows_fault, syntax_error, rule_fault, check_error, plan_error, lines_error};
+ghost use Rattle.pl_judge.specs.Rules.{told_at, told, sessions_fault, assets_fault, labels_fault, bars_fault, revisions_fault, payouts_fault, rows_fault, syntax_error, rule_fault, check_error, plan_error, lines_error, explain_error};
 
 use crate::{DataFault, Fault, Limit, RowFault, RuleFault, SyntaxFault};
 use pl_adjust::{AdjustError, RevisionsError};
@@ -9,6 +9,7 @@ use pl_assets::{AssetsError, LabelsError};
 use pl_bars::BarsError;
 use pl_calendar::CalendarError;
 use pl_check::{CheckError, CheckFault};
+use pl_explain::ExplainError;
 use pl_fixed::Memory;
 use pl_lines::LinesError;
 use pl_payouts::PayoutsError;
@@ -187,6 +188,17 @@ impl From<LinesError> for Fault {
             }
             LinesError::TooMany { .. } => Fault::Passed(Limit::Derivation),
             LinesError::Memory => Fault::Memory,
+        }
+    }
+}
+
+impl From<ExplainError> for Fault {
+    ghost from_gives = { λ error fault. Tells fault (explain_error error) };
+
+    fn from(error: ExplainError) -> Fault {
+        match error {
+            ExplainError::TooLong => Fault::Passed(Limit::Derivation),
+            ExplainError::Memory => Fault::Memory,
         }
     }
 }

@@ -109,6 +109,12 @@ pub enum Fault {
     },
     /// No session has the date.
     NotSession(RangeDate),
+    /// No asset has the sid.
+    UnknownSid {
+        sid: u32,
+    },
+    /// No column has the name.
+    UnknownColumn,
     /// The first date is after the second.
     Backwards,
     /// The columns or the screen show bars of a session before the first one, at this number.
@@ -136,7 +142,11 @@ impl Fault {
             Fault::Usage => 2,
             Fault::Syntax { .. } | Fault::Rule { .. } => 3,
             Fault::Data { .. } | Fault::Row { .. } => 4,
-            Fault::NotSession(_) | Fault::Backwards | Fault::TooEarly { .. } => 5,
+            Fault::NotSession(_)
+            | Fault::UnknownSid { .. }
+            | Fault::UnknownColumn
+            | Fault::Backwards
+            | Fault::TooEarly { .. } => 5,
             Fault::Passed(_) => 6,
             Fault::Unread(_) => 7,
             Fault::Unloaded(_) => 8,

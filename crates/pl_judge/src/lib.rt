@@ -5,6 +5,7 @@
 //! and tables hold), `Held` (what that is read as), `Work` (the steps and the first fault), `Range`, `Ends` and `Numbers`.
 #![tactic(auto)]
 
+mod cell;
 mod errors;
 mod fault;
 mod limits;
@@ -12,6 +13,7 @@ mod line;
 mod numbers;
 mod range;
 
+pub use cell::{CellPlace, judge_cell};
 pub use fault::{DataFault, Fault, Limit, RowFault, RuleFault, SyntaxFault};
 pub use limits::{FILE_CAP, PIPELINE_CAP, cap_of, limit_of};
 pub use line::{write_line, write_pieces};

@@ -9,7 +9,7 @@ use crate::Fault;
 use itoa::Buffer;
 use pl_outside::{Failed, Sink, Table, write_bytes};
 use pl_syntax::Place;
-use pl_words::{InputFile, Request, adjustments_asked, date_asked, name_asked};
+use pl_words::{InputFile, Request, adjustments_asked, column_asked, date_asked, name_asked};
 
 /// Writes the line of a fault of what was asked for. It takes no memory.
 pub fn write_line<E: Sink>(
@@ -31,10 +31,9 @@ pub fn write_line<E: Sink>(
         Fault::NotSession(date) => {
             write_named(err, "range: NotSession ", date_asked(asked, date))
         }
-        Fault::TooEarly { reach } => {
-            let mut buffer = Buffer::new();
-            write_named(err, "range: TooEarly ", buffer.format(reach))
-        }
+        Fault::UnknownSid { sid } => write_sid(err, sid),
+        Fault::UnknownColumn => write_named(err, "range: UnknownColumn ", column_asked(asked)),
+        Fault::TooEarly { reach } => write_reach(err, reach),
         Fault::Syntax { place, fault } => {
             write_placed(
                 err,
@@ -122,6 +121,22 @@ fn write_row<'a, E: Sink>(
             "\n",
         ],
     )
+}
+
+fn write_sid<E: Sink>(err: &mut E, sid: u32) -> Result<(), Failed>
+    ensures { Writes E.taken E.faults E.sound E.room err.old err.new
+        (codes "range: UnknownSid " ++ decimal sid ++ 10 ∷ []) result }
+{
+    let mut buffer = Buffer::new();
+    write_named(err, "range: UnknownSid ", buffer.format(sid))
+}
+
+fn write_reach<E: Sink>(err: &mut E, reach: i64) -> Result<(), Failed>
+    ensures { Writes E.taken E.faults E.sound E.room err.old err.new
+        (codes "range: TooEarly " ++ signed_decimal reach ++ 10 ∷ []) result }
+{
+    let mut buffer = Buffer::new();
+    write_named(err, "range: TooEarly ", buffer.format(reach))
 }
 
 // Writes a line of two parts.

@@ -1,5 +1,5 @@
 -- What is known of a world by a session.
-use Rattle.std.proofs.Common.{◌≡◌, ℕ, zero, suc, ◌<◌, ◌≤◌, ℤ, pos, ◌≤ℤ◌, List, [], ◌∷◌, length, take, Option, Some, None, IfSome, option_map, unwrap_or, slice_get, refl, sym, ◌∙◌, ap, arith}
+use Rattle.std.proofs.Common.{◌≡◌, ℕ, suc, ◌<◌, ◌≤◌, ℤ, pos, List, length, take, Option, Some, None, IfSome, option_map, unwrap_or, slice_get, refl, sym, ◌∙◌, ap, arith}
 use Rattle.std.proofs.lemmas.Int.{ints}
 use Rattle.std.proofs.lemmas.List.{length-take}
 use Rattle.pl_spec.specs.AsOf.{as_of}

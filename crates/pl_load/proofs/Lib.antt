@@ -8,3 +8,4 @@ pub mod RunReads
 pub mod PlanReads
 pub mod PayoutReads
 pub mod DerivationReads
+pub mod CellReads

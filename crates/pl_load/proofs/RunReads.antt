@@ -28,7 +28,7 @@ abbrev pub PipelineRead : Option Files → Bool → RunRequest → Result Parts 
 PipelineRead tells sound q r = IsRead tells sound (Some q.pipeline) pipeline_steps (λ held c. pipeline_in held ≡ pipeline_of c) r
 
 -- the same contents, but for the pipeline file
-abbrev file_with : Option (List ℕ) → (InputFile → Option (List ℕ)) → InputFile → Option (List ℕ)
+abbrev pub file_with : Option (List ℕ) → (InputFile → Option (List ℕ)) → InputFile → Option (List ℕ)
 file_with pipeline file Pipeline = pipeline
 file_with pipeline file Sessions = file Sessions
 file_with pipeline file Assets = file Assets
@@ -38,10 +38,10 @@ file_with pipeline file Revisions = file Revisions
 file_with pipeline file Payouts = file Payouts
 file_with pipeline file Derivation = file Derivation
 
-abbrev held_with : Option (List ℕ) → Contents → Contents
+abbrev pub held_with : Option (List ℕ) → Contents → Contents
 held_with pipeline held = record { file = file_with pipeline held.file; rows = held.rows }
 
-same-steps : (pipeline : Option (List ℕ)) (held : Contents) (q : WorldNames) → data_steps held q ≡ data_steps (held_with pipeline held) q
+pub same-steps : (pipeline : Option (List ℕ)) (held : Contents) (q : WorldNames) → data_steps held q ≡ data_steps (held_with pipeline held) q
 unfolding data_steps
 same-steps pipeline held q = refl
 

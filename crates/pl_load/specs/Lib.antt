@@ -3,3 +3,4 @@ pub mod Reads
 pub mod Loads
 pub mod PaidOut
 pub mod Derived
+pub mod Celled

@@ -1,5 +1,5 @@
 -- What was loaded.
-use Rattle.std.specs.Prelude.{◌≡◌, ℕ, ℤ, List, pos, ◌≤ℤ◌, Bool, true, Option, Some, None, Result, IfOk, slice_get}
+use Rattle.std.specs.Prelude.{◌≡◌, ℕ, ℤ, pos, ◌≤ℤ◌, Bool, true, Option, Some, None, Result, IfOk, slice_get}
 use Rattle.pl_spec.specs.AsOf.{as_of}
 use Rattle.pl_spec.specs.Table.{Pipeline}
 use Rattle.pl_terms.specs.Checked.{pipeline_of}

@@ -1,5 +1,5 @@
 -- What was loaded of payouts.
-use Rattle.std.specs.Prelude.{◌≡◌, ◌<◌, Bool, true, length, Option, Some, None, Result, All, IfOk}
+use Rattle.std.specs.Prelude.{◌≡◌, ◌<◌, Bool, true, length, Option, Some, Result, All, IfOk}
 use Rattle.pl_outside.specs.Files.{Files}
 use Rattle.pl_outside.specs.Lists.{Lists}
 use Rattle.pl_payouts.specs.Payouts.{AreKnown}

@@ -1,6 +1,7 @@
 //! From the files and tables of a command to what it works on: each is read whole and judged before the next one is begun.
 #![tactic(auto)]
 
+mod cells;
 mod derivations;
 mod inputs;
 mod loading;
@@ -8,6 +9,7 @@ mod payouts;
 mod planning;
 mod tables;
 
+pub use cells::{LoadedCell, load_cell};
 pub use derivations::{LoadedDerivation, load_derivation};
 pub use inputs::{read_checked, read_script};
 pub use loading::{Loaded, load};

@@ -1,18 +1,14 @@
 -- Days as they are fed, one after the other, and the world that they make. A list of days has the latest in
 -- front.
-use Rattle.std.specs.Prelude.{◌≡◌, ℕ, ◌<◌, ◌≤◌, ℤ, pos, negsuc, ◌<ℤ◌, ◌≤ℤ◌, List, [], ◌∷◌, ◌++◌, length, map, filter, find, All, AllPairs, Option, Some, None, slice_get, option_map, unwrap_or, ◌==◌}
-use Rattle.std.specs.List.{Contains}
+use Rattle.std.specs.Prelude.{◌≡◌, ℕ, ◌<◌, ℤ, pos, negsuc, ◌<ℤ◌, ◌≤ℤ◌, List, [], ◌∷◌, ◌++◌, length, map, filter, find, All, AllPairs, Option, Some, None, slice_get, option_map, unwrap_or, ◌==◌}
 use Rattle.pl_spec.specs.declared.AssetRow.{AssetRow}
 use Rattle.pl_spec.specs.declared.BarRow.{BarRow}
 use Rattle.pl_spec.specs.declared.Column.{Column}
-use Rattle.pl_spec.specs.declared.AdjustmentKind.{AdjustmentKind}
-use Rattle.pl_spec.specs.declared.AdjustmentKind.TheVariants.{Split, Merger, Dividend, Revision}
 use Rattle.pl_spec.specs.Dates.{IsDay}
 use Rattle.pl_spec.specs.Rounding.{IsCell, MISSING}
 use Rattle.pl_spec.specs.Parts.{ColumnLabel, ColumnAdjustment, world_of}
 use Rattle.pl_spec.specs.Window.{downward}
-use Rattle.pl_spec.specs.World.{World, Event, Change}
-use Rattle.pl_spec.specs.World.Change.{Scale, Overwrite}
+use Rattle.pl_spec.specs.World.{World, Event}
 use Rattle.pl_bars.specs.Bars.{cell_of}
 use Rattle.pl_adjust.specs.Events.{PutsCell}
 use Rattle.pl_rings.specs.declared.day.DayBar.{DayBar}
@@ -79,23 +75,6 @@ abbrev pub IsLaterThan : Option ℤ → ℤ → Type 0
 IsLaterThan None day = Unit {0}
 IsLaterThan (Some last) day = last <ℤ day
 
--- on one day splits act before mergers, these before dividends, and these before revisions
-abbrev pub turn : AdjustmentKind → ℕ
-turn Split = 0
-turn Merger = 1
-turn Dividend = 2
-turn Revision = 3
-
--- a revision names the day of a session that was fed
-abbrev pub names_fed : List FedDay → Change → Type 0
-names_fed earlier (Scale ratio) = Unit {0}
-names_fed earlier (Overwrite bar_day c value) = Contains (days_of earlier) bar_day
-
--- both are revisions of the same cell
-abbrev pub same_place : Change → Change → Type 0
-same_place (Overwrite bar_day c value) (Overwrite other_day d other_value) = (bar_day ≡ other_day) × (c ≡ d)
-same_place a b = ⊥
-
 -- what one day may bring after the earlier ones
 pub record MayFollow (g : Start) (earlier : List FedDay) (d : FedDay) : Type 0 where
   pub is_day : IsDay d.day
@@ -107,11 +86,7 @@ pub record MayFollow (g : Start) (earlier : List FedDay) (d : FedDay) : Type 0 w
   pub put_cells : All (λ x. PutsCell x.event) d.events
   pub new : All (λ x. IsLaterThan (last_day earlier) x.event.day) d.events
   pub due : All (λ x. x.event.day ≤ℤ d.day) d.events
-  pub by_column : AllPairs (λ x y. x.col ≤ y.col) d.events
   pub by_day : AllPairs (λ x y. x.col ≡ y.col → x.event.day ≤ℤ y.event.day) d.events
-  pub by_turn : AllPairs (λ x y. x.col ≡ y.col → x.event.day ≡ y.event.day → turn x.event.kind ≤ turn y.event.kind) d.events
-  pub revise_fed : All (λ x. names_fed earlier x.event.change) d.events
-  pub revise_once : AllPairs (λ x y. x.col ≡ y.col → x.event.day ≡ y.event.day → same_place x.event.change y.event.change → ⊥) d.events
 
 -- The assets ascend, and the labels were made for them.
 pub record IsStart (g : Start) : Type 0 where

@@ -68,7 +68,7 @@ pub(crate) fn input_told(
 }
 
 /// Whether the asset passes the mask, by what is told of it; without a mask it does.
-pub(crate) fn mask_told(
+pub fn mask_told(
     world: &World,
     checked: &Checked,
     told: &Told,

@@ -7,4 +7,5 @@ mod sections;
 mod value;
 
 pub use bars::seen_cells;
+pub use inputs::mask_told;
 pub use value::value_told;

@@ -15,7 +15,7 @@ use pl_fixed::{MISSING, write_day, write_decimal};
 use pl_spec::Format;
 
 /// Puts the date of a day at the front.
-pub(crate) fn put_date(line: &mut Line, format: Format, day: i32)
+pub fn put_date(line: &mut Line, format: Format, day: i32)
     requires date { IsDay day }
     requires room { length line.old + 10 ≤ 8_448 }
     ensures text { line.new ≡ line.old ++ date_part format (date_text day) }
@@ -31,7 +31,7 @@ pub(crate) fn put_date(line: &mut Line, format: Format, day: i32)
 }
 
 /// Puts a sid behind the date.
-pub(crate) fn put_sid(line: &mut Line, format: Format, sid: u32)
+pub fn put_sid(line: &mut Line, format: Format, sid: u32)
     requires { length line.old + 11 ≤ 8_448 }
     ensures text { line.new ≡ line.old ++ sid_part format (decimal sid) }
     ensures within { length line.new ≤ length line.old + 11 }
@@ -66,7 +66,7 @@ fn put_text(line: &mut Line, format: Format, text: &[u8])
 }
 
 /// Puts the field of a cell.
-pub(crate) fn put_cell(
+pub fn put_cell(
     line: &mut Line,
     format: Format,
     writing: Writing,

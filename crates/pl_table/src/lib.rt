@@ -1,4 +1,5 @@
-//! The text of a table: its header, and a line for each row of sessions whose values stand in a workspace.
+//! The text of a table: its header, and a line for each row of sessions whose values stand in a workspace. The parts of a line
+//! are there for rows whose values stand elsewhere.
 #![tactic(auto)]
 
 mod fields;
@@ -9,8 +10,10 @@ mod rows;
 mod totals;
 mod writing;
 
+pub use fields::{put_cell, put_date, put_sid};
 pub use header::make_header;
 pub use line::Line;
 pub use outcome::Outcome;
 pub use rows::write_rows;
 pub use totals::Totals;
+pub use writing::{Writing, writing_of};

@@ -34,14 +34,14 @@ impl Line {
     }
 
     /// Begins anew.
-    pub(crate) fn clear(&mut self)
+    pub fn clear(&mut self)
         ensures { self.new ≡ [] }
     {
         self.bytes.clear();
     }
 
     /// Puts bytes at the end, for which there is room.
-    pub(crate) fn put(&mut self, piece: &[u8])
+    pub fn put(&mut self, piece: &[u8])
         requires { length self.old + length piece.now ≤ 8_448 }
         ensures { self.new ≡ self.old ++ piece.now }
     {
@@ -59,7 +59,7 @@ impl Line {
     }
 
     /// The line.
-    pub(crate) fn as_slice(&self) -> &[u8]
+    pub fn as_slice(&self) -> &[u8]
         ensures { result.now ≡ self.now }
     {
         &self.bytes

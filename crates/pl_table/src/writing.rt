@@ -18,7 +18,7 @@ pub enum Writing {
 }
 
 /// How the values of a term are written: a downsampled one's as its input's.
-pub(crate) fn writing_of(graph: &Graph, term: TermId) -> Writing
+pub fn writing_of(graph: &Graph, term: TermId) -> Writing
     requires { term.0 < length graph.now }
     ensures { sort_at (graph_of graph.now) term.0 ≡ Some (sort_written result) }
 {

@@ -16,6 +16,8 @@ mod check_tests;
 #[cfg(test)]
 mod cross_tests;
 #[cfg(test)]
+mod daily_tests;
+#[cfg(test)]
 mod factors_tests;
 #[cfg(test)]
 mod filters_tests;

@@ -7,7 +7,7 @@ use Rattle.pl_spec.specs.Decimals.{sid_in}
 use Rattle.pl_words.specs.Parts.{Word}
 use Rattle.pl_spec.specs.declared.Format.{Format}
 use Rattle.pl_spec.specs.declared.Format.TheVariants.{Csv, Fixed}
-use Rattle.pl_words.specs.Request.{request, counted, WorldNames, Request, Run, Fmt, Check, Plan, Bench, Payouts, Verify}
+use Rattle.pl_words.specs.Request.{request, counted, WorldNames, Request, Run, Fmt, Check, Plan, Bench, Payouts, Explain, Verify, Daily}
 
 abbrev names : List Word
 names = codes "p.pl" ∷ codes "sessions.csv" ∷ codes "assets.csv" ∷ codes "bars.csv" ∷ []
@@ -35,6 +35,15 @@ over labels adjustments revisions = record {
   adjustments = adjustments;
   revisions = revisions;
 }
+
+abbrev by_days : WorldNames → Format → Option Request
+by_days world format = Some (Daily (record {
+  pipeline = codes "p.pl";
+  world = world;
+  from = record { text = codes "2024-01-03"; day = pos 19725 };
+  to = record { text = codes "2024-01-04"; day = pos 19726 };
+  format = format;
+}))
 
 no_options : request (codes "run" ∷ (names ++ dates)) ≡ asks None None None 126 Csv false
 unfolding request counted date_in day_if days_from_civil day_count days_of_years days_of_months decimal_digits digits date_text
@@ -78,6 +87,20 @@ of_payouts : map (λ (words : List Word). request (codes "payouts" ∷ words)) (
 unfolding request counted
 of_payouts = refl
 
+of_cells : map (λ (words : List Word). request (codes "explain" ∷ words)) (
+    (names ++ codes "7" ∷ codes "2024-01-04" ∷ codes "c" ∷ [])
+    ∷ (codes "--labels=l" ∷ codes "--revisions=r" ∷ (names ++ codes "7" ∷ codes "2024-01-04" ∷ codes "c" ∷ codes "--adjustments" ∷ codes "a.db" ∷ []))
+    ∷ (names ++ codes "07" ∷ codes "2024-01-04" ∷ codes "c" ∷ [])
+    ∷ (names ++ codes "7" ∷ codes "2024-1-4" ∷ codes "c" ∷ [])
+    ∷ (names ++ codes "7" ∷ codes "2024-01-04" ∷ codes "let" ∷ [])
+    ∷ (names ++ codes "7" ∷ codes "2024-01-04" ∷ [])
+    ∷ (codes "--chunk=1" ∷ (names ++ codes "7" ∷ codes "2024-01-04" ∷ codes "c" ∷ [])) ∷ [])
+    ≡ Some (Explain (record { pipeline = codes "p.pl"; world = over None None None; sid = 7; date = record { text = codes "2024-01-04"; day = pos 19726 }; column = codes "c" }))
+    ∷ Some (Explain (record { pipeline = codes "p.pl"; world = over (Some (codes "l")) (Some (codes "a.db")) (Some (codes "r")); sid = 7; date = record { text = codes "2024-01-04"; day = pos 19726 }; column = codes "c" }))
+    ∷ None ∷ None ∷ None ∷ None ∷ None ∷ []
+unfolding request counted sid_in date_in day_if days_from_civil day_count days_of_years days_of_months decimal_digits digits date_text
+of_cells = refl
+
 of_derivations : map (λ (words : List Word). request (codes "verify" ∷ words)) (
     (names ++ codes "why.txt" ∷ [])
     ∷ (codes "--labels=l" ∷ codes "--revisions=r" ∷ (names ++ codes "why.txt" ∷ codes "--adjustments" ∷ codes "a.db" ∷ []))
@@ -89,6 +112,18 @@ of_derivations : map (λ (words : List Word). request (codes "verify" ∷ words)
     ∷ None ∷ None ∷ None ∷ []
 unfolding request counted
 of_derivations = refl
+
+of_days : map (λ (options : List Word). request (codes "daily" ∷ (options ++ (names ++ dates)))) (
+    []
+    ∷ (codes "--format=fixed" ∷ codes "--labels=l" ∷ codes "--adjustments" ∷ codes "a.db" ∷ codes "--revisions=r" ∷ [])
+    ∷ (codes "--chunk=1" ∷ [])
+    ∷ (codes "--stats" ∷ [])
+    ∷ (codes "--asof=2024-01-04" ∷ [])
+    ∷ (codes "p.pl" ∷ [])
+    ∷ (codes "--format=csv" ∷ codes "--format=csv" ∷ []) ∷ [])
+    ≡ by_days (over None None None) Csv ∷ by_days (over (Some (codes "l")) (Some (codes "a.db")) (Some (codes "r"))) Fixed ∷ None ∷ None ∷ None ∷ None ∷ None ∷ []
+unfolding request counted date_in day_if days_from_civil day_count days_of_years days_of_months decimal_digits digits date_text
+of_days = refl
 
 named_as_options : map request ((codes "fmt" ∷ codes "--" ∷ codes "--" ∷ []) ∷ (codes "check" ∷ codes "--" ∷ codes "-p" ∷ []) ∷ []) ≡ Some (Fmt (codes "--")) ∷ Some (Check (codes "-p")) ∷ []
 unfolding request counted

@@ -3,11 +3,11 @@ use Rattle.std.specs.Prelude.{ℕ, List, [], ◌∷◌, Option, find, bytes_eq, 
 use Rattle.pl_words.specs.declared.commands.OptionName.{OptionName}
 use Rattle.pl_words.specs.declared.commands.OptionName.TheVariants.{Labels, Adjustments, Revisions, Chunk, Format, Stats, AsOf}
 use Rattle.pl_words.specs.declared.commands.CommandName.{CommandName}
-use Rattle.pl_words.specs.declared.commands.CommandName.TheVariants.{Run, Check, Fmt, Plan, Bench, Payouts, Verify}
+use Rattle.pl_words.specs.declared.commands.CommandName.TheVariants.{Run, Check, Fmt, Plan, Bench, Payouts, Explain, Verify, Daily}
 use Rattle.pl_words.specs.Parts.{Word}
 
 abbrev pub all_commands : List CommandName
-all_commands = Run ∷ Check ∷ Fmt ∷ Plan ∷ Bench ∷ Payouts ∷ Verify ∷ []
+all_commands = Run ∷ Check ∷ Fmt ∷ Plan ∷ Bench ∷ Payouts ∷ Explain ∷ Verify ∷ Daily ∷ []
 
 abbrev pub command_text : CommandName → Word
 command_text Run = codes "run"
@@ -16,7 +16,9 @@ command_text Fmt = codes "fmt"
 command_text Plan = codes "plan"
 command_text Bench = codes "bench"
 command_text Payouts = codes "payouts"
+command_text Explain = codes "explain"
 command_text Verify = codes "verify"
+command_text Daily = codes "daily"
 
 -- how many names it takes
 abbrev pub places_of : CommandName → ℕ
@@ -26,7 +28,9 @@ places_of Fmt = 1  -- PIPELINE
 places_of Plan = 4  -- PIPELINE SESSIONS FROM TO
 places_of Bench = 1  -- NUMBER
 places_of Payouts = 4  -- SESSIONS ASSETS BARS PAYOUTS
+places_of Explain = 7  -- PIPELINE SESSIONS ASSETS BARS SID DATE COLUMN
 places_of Verify = 5  -- PIPELINE SESSIONS ASSETS BARS DERIVATION
+places_of Daily = 6  -- PIPELINE SESSIONS ASSETS BARS FROM TO
 
 -- the options that it knows
 abbrev pub options_of : CommandName → List OptionName
@@ -36,7 +40,9 @@ options_of Fmt = []
 options_of Plan = []
 options_of Bench = Chunk ∷ []
 options_of Payouts = []
+options_of Explain = Labels ∷ Adjustments ∷ Revisions ∷ []
 options_of Verify = Labels ∷ Adjustments ∷ Revisions ∷ []
+options_of Daily = Labels ∷ Adjustments ∷ Revisions ∷ Format ∷ []
 
 abbrev pub command_named : Word → Option CommandName
 command_named word = find (λ c. bytes_eq word (command_text c)) all_commands

@@ -1,12 +1,13 @@
 -- What the words ask for.
-use Rattle.std.specs.Prelude.{ℕ, ◌≤◌, ⊤, ℤ, List, [], ◌∷◌, Bool, ◌==◌, ◌&&◌, nat_le, if◌then◌else◌, Option, Some, None, option_map, option_and_then, is_some, length, slice_index_or, unwrap_or, bytes_eq, codes}
+use Rattle.std.specs.Prelude.{ℕ, ◌≤◌, ⊤, ℤ, List, [], ◌∷◌, Bool, false, ◌==◌, ◌&&◌, nat_le, if◌then◌else◌, Option, Some, None, option_map, option_and_then, is_some, length, slice_index_or, unwrap_or, bytes_eq, codes}
 use Rattle.std.specs.List.{list_all}
 use Rattle.pl_spec.specs.Dates.{date_in}
 use Rattle.pl_spec.specs.Decimals.{sid_in}
+use Rattle.pl_spec.specs.Names.{is_name}
 use Rattle.pl_spec.specs.declared.Format as form
 use Rattle.pl_spec.specs.declared.Format.TheVariants.{Csv, Fixed}
 use Rattle.pl_words.specs.declared.request.RangeDate.{RangeDate}
-use Rattle.pl_words.specs.declared.request.RangeDate.TheVariants.{From, To, AsOf}
+use Rattle.pl_words.specs.declared.request.RangeDate.TheVariants.{From, To, AsOf, At}
 use Rattle.pl_words.specs.declared.request.InputFile.{InputFile}
 use Rattle.pl_words.specs.declared.request.InputFile.TheVariants as file
 use Rattle.pl_words.specs.declared.commands.OptionName.{OptionName}
@@ -51,6 +52,22 @@ pub record WorldNames : Type 0 where
   pub adjustments : Option (List ℕ)
   pub revisions : Option (List ℕ)
 
+-- the cell of a column for an asset on a date, of a pipeline over a world
+pub record ExplainRequest : Type 0 where
+  pub pipeline : List ℕ
+  pub world : WorldNames
+  pub sid : ℕ
+  pub date : Dated
+  pub column : List ℕ
+
+-- a pipeline over a world, session by session, from a date to a date, and the form of its table
+pub record DailyRequest : Type 0 where
+  pub pipeline : List ℕ
+  pub world : WorldNames
+  pub from : Dated
+  pub to : Dated
+  pub format : form.Format
+
 -- the lines of the derivation of that name, of a pipeline over a world
 pub record VerifyRequest : Type 0 where
   pub pipeline : List ℕ
@@ -77,7 +94,8 @@ pub record PayoutsRequest : Type 0 where
   pub payouts : List ℕ
 
 -- the table of a pipeline, the canonical text of a pipeline file, whether it keeps the rules, a plan, the numbers of a run over
--- a stated world, the ratios of payouts, or whether a derivation is right
+-- a stated world, the ratios of payouts, the derivation of a cell, whether a derivation is right, or a table
+-- that is computed session by session
 pub data Request : Type 0 where
   Run : RunRequest → Request
   Fmt : (pipeline : List ℕ) → Request
@@ -85,7 +103,9 @@ pub data Request : Type 0 where
   Plan : PlanRequest → Request
   Bench : BenchRequest → Request
   Payouts : PayoutsRequest → Request
+  Explain : ExplainRequest → Request
   Verify : VerifyRequest → Request
+  Daily : DailyRequest → Request
 
 abbrev pub dated : Word → Option Dated
 dated text = option_map (λ day. record { text = text; day = day }) (date_in text)
@@ -204,10 +224,36 @@ world_in names values =
     option_map (λ revisions. world_over names labels adjustments revisions)
     (one_value (values option.Revisions))) (one_value (values option.Adjustments))) (one_value (values option.Labels))
 
+abbrev pub explain_over : List Word → ℕ → Dated → WorldNames → ExplainRequest
+explain_over names sid date world =
+    record { pipeline = name names 0; world = world; sid = sid; date = date; column = name names 6 }
+
+-- a word of the form of a column's name
+abbrev pub column_in : Word → Option Word
+column_in text = if is_name text then Some text else None
+
+-- four names, a sid, a date and the name of a column, and the options
+abbrev pub explain_in : List Word → Values → Option ExplainRequest
+explain_in names values =
+    option_and_then (λ sid. option_and_then (λ date. option_and_then (λ column.
+    option_map (explain_over names sid date) (world_in names values))
+    (column_in (name names 6))) (dated (name names 5))) (sid_in (name names 4))
+
 -- five names and the options
 abbrev pub verify_in : List Word → Values → Option VerifyRequest
 verify_in names values =
     option_map (λ world. record { pipeline = name names 0; world = world; derivation = name names 4 }) (world_in names values)
+
+abbrev pub daily_over : List Word → Dated → Dated → WorldNames → form.Format → DailyRequest
+daily_over names from to world format =
+    record { pipeline = name names 0; world = world; from = from; to = to; format = format }
+
+-- four names, two dates and the options
+abbrev pub daily_in : List Word → Values → Option DailyRequest
+daily_in names values =
+    option_and_then (λ from. option_and_then (λ to. option_and_then (λ world.
+    option_map (daily_over names from to world) (format_by values)) (world_in names values))
+    (dated (name names 5))) (dated (name names 4))
 
 -- what a command asks for by its names and its options' values
 abbrev pub request_in : CommandName → List Word → Values → Option Request
@@ -217,7 +263,9 @@ request_in command.Fmt names values = Some (Fmt (name names 0))
 request_in command.Plan names values = option_map Plan (plan_in names)
 request_in command.Bench names values = option_map Bench (bench_in names values)
 request_in command.Payouts names values = Some (Payouts (payouts_over names))
+request_in command.Explain names values = option_map Explain (explain_in names values)
 request_in command.Verify names values = option_map Verify (verify_in names values)
+request_in command.Daily names values = option_map Daily (daily_in names values)
 
 -- It takes exactly its number of names.
 unfoldable pub counted : CommandName → List Word → Values → Option Request
@@ -253,6 +301,27 @@ run_world q =
       labels = q.options.labels;
       adjustments = q.options.adjustments;
       revisions = q.options.revisions;
+    }
+
+-- the run that has the same words
+abbrev pub daily_run : DailyRequest → RunRequest
+daily_run q =
+    record {
+      pipeline = q.pipeline;
+      sessions = q.world.sessions;
+      assets = q.world.assets;
+      bars = q.world.bars;
+      from = q.from;
+      to = q.to;
+      options = record {
+        labels = q.world.labels;
+        adjustments = q.world.adjustments;
+        revisions = q.world.revisions;
+        chunk = 126;
+        format = q.format;
+        stats = false;
+        as_of = None;
+      };
     }
 
 -- the name of a file of a command, where the command has such a file
@@ -308,6 +377,16 @@ world_name q file.Revisions = q.revisions
 world_name q file.Payouts = None
 world_name q file.Derivation = None
 
+abbrev pub explain_name : ExplainRequest → InputFile → Option (List ℕ)
+explain_name q file.Pipeline = Some q.pipeline
+explain_name q file.Sessions = Some q.world.sessions
+explain_name q file.Assets = Some q.world.assets
+explain_name q file.Labels = q.world.labels
+explain_name q file.Bars = Some q.world.bars
+explain_name q file.Revisions = q.world.revisions
+explain_name q file.Payouts = None
+explain_name q file.Derivation = None
+
 abbrev pub verify_name : VerifyRequest → InputFile → Option (List ℕ)
 verify_name q file.Pipeline = Some q.pipeline
 verify_name q file.Sessions = Some q.world.sessions
@@ -325,13 +404,22 @@ name_of (Check name) file = pipeline_name name file
 name_of (Plan q) file = plan_name q file
 name_of (Bench q) file = None
 name_of (Payouts q) file = payouts_name q file
+name_of (Explain q) file = explain_name q file
 name_of (Verify q) file = verify_name q file
+name_of (Daily q) file = run_name (daily_run q) file
 
--- the texts of the two dates, and of the one as of which a run is
+-- the texts of the two dates, and of the one as of which a run is; a cell has a date of its own
 abbrev pub date_text : Dated → Dated → Option Dated → RangeDate → List ℕ
 date_text from to as_of From = from.text
 date_text from to as_of To = to.text
 date_text from to as_of AsOf = unwrap_or (option_map (λ d. d.text) as_of) []
+date_text from to as_of At = []
+
+abbrev pub cell_date : Dated → RangeDate → List ℕ
+cell_date date At = date.text
+cell_date date From = []
+cell_date date To = []
+cell_date date AsOf = []
 
 -- ---- of the command that words ask for, where they ask for one
 
@@ -339,7 +427,7 @@ abbrev pub name_asked : Option Request → InputFile → Option (List ℕ)
 name_asked None file = None
 name_asked (Some q) file = name_of q file
 
--- the text of a date of the words; other commands than a run and a plan have none
+-- the text of a date of the words; other commands than those of a table or plan and the derivation of a cell have none
 abbrev pub date_asked : Option Request → RangeDate → List ℕ
 date_asked (Some (Run q)) date = date_text q.from q.to q.options.as_of date
 date_asked (Some (Fmt name)) date = []
@@ -347,7 +435,9 @@ date_asked (Some (Check name)) date = []
 date_asked (Some (Plan q)) date = date_text q.from q.to None date
 date_asked (Some (Bench q)) date = []
 date_asked (Some (Payouts q)) date = []
+date_asked (Some (Explain q)) date = cell_date q.date date
 date_asked (Some (Verify q)) date = []
+date_asked (Some (Daily q)) date = date_text q.from q.to None date
 date_asked None date = []
 
 -- the name of the adjustments that are asked for
@@ -358,5 +448,20 @@ adjustments_of (Some (Check name)) = None
 adjustments_of (Some (Plan q)) = None
 adjustments_of (Some (Bench q)) = None
 adjustments_of (Some (Payouts q)) = None
+adjustments_of (Some (Explain q)) = q.world.adjustments
 adjustments_of (Some (Verify q)) = q.world.adjustments
+adjustments_of (Some (Daily q)) = q.world.adjustments
 adjustments_of None = None
+
+-- the name of the column whose cell is asked for
+abbrev pub column_asked : Option Request → List ℕ
+column_asked (Some (Run q)) = []
+column_asked (Some (Fmt name)) = []
+column_asked (Some (Check name)) = []
+column_asked (Some (Plan q)) = []
+column_asked (Some (Bench q)) = []
+column_asked (Some (Payouts q)) = []
+column_asked (Some (Explain q)) = q.column
+column_asked (Some (Verify q)) = []
+column_asked (Some (Daily q)) = []
+column_asked None = []

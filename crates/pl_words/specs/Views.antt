@@ -2,13 +2,15 @@
 use Rattle.std.specs.Prelude.{option_map}
 use Rattle.pl_words.specs.Request as spec
 use Rattle.pl_words.specs.declared.request.Request.{Request}
-use Rattle.pl_words.specs.declared.request.Request.TheVariants.{Run, Fmt, Check, Plan, Bench, Payouts, Verify}
+use Rattle.pl_words.specs.declared.request.Request.TheVariants.{Run, Fmt, Check, Plan, Bench, Payouts, Explain, Verify, Daily}
 use Rattle.pl_words.specs.declared.request.RunRequest.{RunRequest}
 use Rattle.pl_words.specs.declared.request.PlanRequest.{PlanRequest}
 use Rattle.pl_words.specs.declared.request.BenchRequest.{BenchRequest}
 use Rattle.pl_words.specs.declared.request.PayoutsRequest.{PayoutsRequest}
 use Rattle.pl_words.specs.declared.request.WorldNames.{WorldNames}
+use Rattle.pl_words.specs.declared.request.ExplainRequest.{ExplainRequest}
 use Rattle.pl_words.specs.declared.request.VerifyRequest.{VerifyRequest}
+use Rattle.pl_words.specs.declared.daily.DailyRequest.{DailyRequest}
 use Rattle.pl_words.specs.declared.request.DateWord.{DateWord}
 use Rattle.pl_words.specs.declared.request.Options.{Options}
 
@@ -59,8 +61,28 @@ world_names_of r =
       revisions = option_map (λ n. n.now) r.revisions;
     }
 
+abbrev pub explain_of : ExplainRequest → spec.ExplainRequest
+explain_of r =
+    record {
+      pipeline = r.pipeline.now;
+      world = world_names_of r.world;
+      sid = r.sid;
+      date = dated_of r.date;
+      column = r.column.now;
+    }
+
 abbrev pub verify_of : VerifyRequest → spec.VerifyRequest
 verify_of r = record { pipeline = r.pipeline.now; world = world_names_of r.world; derivation = r.derivation.now }
+
+abbrev pub daily_of : DailyRequest → spec.DailyRequest
+daily_of r =
+    record {
+      pipeline = r.pipeline.now;
+      world = world_names_of r.world;
+      from = dated_of r.from;
+      to = dated_of r.to;
+      format = r.format;
+    }
 
 abbrev pub request_of : Request → spec.Request
 request_of (Run r) = spec.Run (run_of r)
@@ -69,4 +91,6 @@ request_of (Check name) = spec.Check name.now
 request_of (Plan r) = spec.Plan (plan_of r)
 request_of (Bench r) = spec.Bench (bench_of r)
 request_of (Payouts r) = spec.Payouts (payouts_of r)
+request_of (Explain r) = spec.Explain (explain_of r)
 request_of (Verify r) = spec.Verify (verify_of r)
+request_of (Daily r) = spec.Daily (daily_of r)

@@ -12,7 +12,9 @@ pub enum CommandName {
     Plan,
     Bench,
     Payouts,
+    Explain,
     Verify,
+    Daily,
 }
 
 /// The options, of which a command knows some.
@@ -37,7 +39,9 @@ pub(crate) fn command_named(word: &str) -> Option<CommandName>
         "plan" => Some(CommandName::Plan),
         "bench" => Some(CommandName::Bench),
         "payouts" => Some(CommandName::Payouts),
+        "explain" => Some(CommandName::Explain),
         "verify" => Some(CommandName::Verify),
+        "daily" => Some(CommandName::Daily),
         _ => None,
     }
 }
@@ -48,7 +52,8 @@ impl CommandName {
         ensures { result ≡ places_of self }
     {
         match self {
-            CommandName::Run => 6,
+            CommandName::Explain => 7,
+            CommandName::Run | CommandName::Daily => 6,
             CommandName::Verify => 5,
             CommandName::Plan | CommandName::Payouts => 4,
             CommandName::Check | CommandName::Fmt | CommandName::Bench => 1,
@@ -69,10 +74,16 @@ impl CommandName {
                 OptionName::Stats,
                 OptionName::AsOf,
             ],
-            CommandName::Verify => &[
+            CommandName::Explain | CommandName::Verify => &[
                 OptionName::Labels,
                 OptionName::Adjustments,
                 OptionName::Revisions,
+            ],
+            CommandName::Daily => &[
+                OptionName::Labels,
+                OptionName::Adjustments,
+                OptionName::Revisions,
+                OptionName::Format,
             ],
             CommandName::Bench => &[OptionName::Chunk],
             CommandName::Check | CommandName::Fmt | CommandName::Plan | CommandName::Payouts => &[],

@@ -7,13 +7,16 @@
 
 mod commands;
 mod cut;
+mod daily;
 mod options;
 mod read;
 mod request;
 mod text;
 
+pub use daily::DailyRequest;
 pub use read::read_words;
 pub use request::{
-    BenchRequest, DateWord, InputFile, Options, PayoutsRequest, PlanRequest, RangeDate, Request,
-    RunRequest, VerifyRequest, WorldNames, adjustments_asked, date_asked, name_asked,
+    BenchRequest, DateWord, ExplainRequest, InputFile, Options, PayoutsRequest, PlanRequest,
+    RangeDate, Request, RunRequest, VerifyRequest, WorldNames, adjustments_asked, column_asked,
+    date_asked, name_asked,
 };

@@ -1,14 +1,14 @@
 // The options of a run, by the values that each was given.
 ghost use Rattle.std.specs.Prelude.{◌≡◌, ◌≤◌, None, Some, MatchOption, length, map, option_map};
 ghost use Rattle.pl_words.specs.Apps.{values_in};
-ghost use Rattle.pl_words.specs.Request.{as_of_by, dated, chunk_in, chunk_by, format_in, format_by, stats_by, options_by, world_in};
+ghost use Rattle.pl_words.specs.Request.{as_of_by, dated, chunk_in, chunk_by, format_in, format_by, stats_by, options_by, world_in, column_in};
 ghost use Rattle.pl_words.specs.Views.{dated_of, options_of, world_names_of};
 
 use crate::commands::OptionName;
 use crate::cut::value;
 use crate::request::{DateWord, Options, WorldNames};
 use clap::ArgMatches;
-use pl_fixed::{read_day, read_sid};
+use pl_fixed::{is_name, read_day, read_sid};
 use pl_spec::Format;
 
 pub(crate) fn options<'a>(matches: &ArgMatches<'a>) -> Option<Options<'a>>
@@ -60,7 +60,7 @@ pub(crate) fn world_in<'a>(names: &[&'a str], matches: &ArgMatches<'a>) -> Optio
 }
 
 // How many sessions are computed at a time where the words don't say.
-const USUAL_CHUNK: u32 = 126;
+pub(crate) const USUAL_CHUNK: u32 = 126;
 
 pub(crate) fn chunk(matches: &ArgMatches<'_>) -> Option<u32>
     ensures { result ≡ chunk_by (values_in matches.now) }
@@ -72,7 +72,7 @@ pub(crate) fn chunk(matches: &ArgMatches<'_>) -> Option<u32>
     }
 }
 
-fn format(matches: &ArgMatches<'_>) -> Option<Format>
+pub(crate) fn format(matches: &ArgMatches<'_>) -> Option<Format>
     ensures { result ≡ format_by (values_in matches.now) }
 {
     match value(matches, OptionName::Format) {
@@ -129,4 +129,14 @@ pub(crate) fn date_in<'a>(text: &'a str) -> Option<DateWord<'a>>
 {
     let day = read_day(text.as_bytes())?;
     Some(DateWord { text, day })
+}
+
+pub(crate) fn column_in<'a>(text: &'a str) -> Option<&'a str>
+    ensures { option_map (λ n. n.now) result ≡ column_in text.now }
+{
+    if is_name(text.as_bytes()) {
+        Some(text)
+    } else {
+        None
+    }
 }

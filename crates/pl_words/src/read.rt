@@ -4,14 +4,15 @@ ghost use Rattle.std.specs.List.{list_all};
 ghost use Rattle.pl_words.specs.Parts.{is_text};
 ghost use Rattle.pl_words.specs.Commands.{places_of};
 ghost use Rattle.pl_words.specs.Apps.{names_in, values_in};
-ghost use Rattle.pl_words.specs.Request.{HasChunk, asked, bench_in, counted, payouts_over, plan_in, request, request_in, run_in, verify_in};
-ghost use Rattle.pl_words.specs.Views.{bench_of, payouts_of, plan_of, request_of, run_of, verify_of};
+ghost use Rattle.pl_words.specs.Request.{HasChunk, asked, bench_in, counted, payouts_over, plan_in, request, request_in, run_in, explain_in, verify_in};
+ghost use Rattle.pl_words.specs.Views.{bench_of, payouts_of, plan_of, request_of, run_of, explain_of, verify_of};
 
 use crate::commands::{CommandName, command_named};
 use crate::cut::{cut, values};
-use crate::options::{chunk, date_in, options, world_in};
+use crate::daily::daily_in;
+use crate::options::{chunk, column_in, date_in, options, world_in};
 use crate::request::{
-    BenchRequest, PayoutsRequest, PlanRequest, Request, RunRequest, VerifyRequest,
+    BenchRequest, ExplainRequest, PayoutsRequest, PlanRequest, Request, RunRequest, VerifyRequest,
 };
 use crate::text::is_text;
 use clap::ArgMatches;
@@ -83,7 +84,9 @@ fn request_in<'a>(
         CommandName::Plan => Some(Request::Plan(plan_in(names)?)),
         CommandName::Bench => Some(Request::Bench(bench_in(names, matches)?)),
         CommandName::Payouts => Some(Request::Payouts(payouts_over(names))),
+        CommandName::Explain => Some(Request::Explain(explain_in(names, matches)?)),
         CommandName::Verify => Some(Request::Verify(verify_in(names, matches)?)),
+        CommandName::Daily => Some(Request::Daily(daily_in(names, matches)?)),
     }
 }
 
@@ -144,6 +147,25 @@ fn payouts_over<'a>(names: &[&'a str]) -> PayoutsRequest<'a>
         bars: names[2],
         payouts: names[3],
     }
+}
+
+fn explain_in<'a>(names: &[&'a str], matches: &ArgMatches<'a>) -> Option<ExplainRequest<'a>>
+    requires { length names.now ≡ 7 }
+    ensures { MatchOption result
+        (explain_in (map (λ v. v.now) names.now) (values_in matches.now) ≡ None)
+        (λ r. explain_in (map (λ v. v.now) names.now) (values_in matches.now) ≡ Some (explain_of r)) }
+{
+    let sid = read_sid(names[4].as_bytes())?;
+    let date = date_in(names[5])?;
+    let column = column_in(names[6])?;
+    let world = world_in(names, matches)?;
+    Some(ExplainRequest {
+        pipeline: names[0],
+        world,
+        sid,
+        date,
+        column,
+    })
 }
 
 fn verify_in<'a>(names: &[&'a str], matches: &ArgMatches<'a>) -> Option<VerifyRequest<'a>>

@@ -1,8 +1,9 @@
 // What a command is asked for.
 ghost use Rattle.std.specs.Prelude.{◌≡◌, [], option_map, unwrap_or};
-ghost use Rattle.pl_words.specs.Request.{name_of, pipeline_name, name_asked, date_asked, date_text, adjustments_of, payouts_name, plan_name, run_name, run_world, verify_name};
-ghost use Rattle.pl_words.specs.Views.{dated_of, payouts_of, plan_of, request_of, run_of, verify_of, world_names_of};
+ghost use Rattle.pl_words.specs.Request.{name_of, pipeline_name, name_asked, cell_date, column_asked, date_asked, date_text, adjustments_of, explain_name, payouts_name, plan_name, run_name, run_world, verify_name};
+ghost use Rattle.pl_words.specs.Views.{dated_of, explain_of, payouts_of, plan_of, request_of, run_of, verify_of, world_names_of};
 
+use crate::daily::DailyRequest;
 use pl_spec::Format;
 
 /// A file that a command reads, by what it is to the command.
@@ -18,12 +19,13 @@ pub enum InputFile {
     Derivation,
 }
 
-/// One of the two dates of a run or of a plan, or the date as of which a run is.
+/// One of the two dates of a run or of a plan, the date as of which a run is, or that of a cell.
 #[derive(Clone, Copy, Debug, PartialEq, Eq)]
 pub enum RangeDate {
     From,
     To,
     AsOf,
+    At,
 }
 
 /// A date as it is written, and its day, counted from 1970-01-01.
@@ -95,6 +97,16 @@ pub struct WorldNames<'a> {
     pub revisions: Option<&'a str>,
 }
 
+/// The names of a pipeline, of a world and of a column, and the asset and the date of the cell that is asked for.
+#[derive(Clone, Copy)]
+pub struct ExplainRequest<'a> {
+    pub pipeline: &'a str,
+    pub world: WorldNames<'a>,
+    pub sid: u32,
+    pub date: DateWord<'a>,
+    pub column: &'a str,
+}
+
 /// The names of a derivation, and of the pipeline and the world of which it tells.
 #[derive(Clone, Copy)]
 pub struct VerifyRequest<'a> {
@@ -118,8 +130,12 @@ pub enum Request<'a> {
     Bench(BenchRequest),
     /// The ratios of payouts.
     Payouts(PayoutsRequest<'a>),
+    /// Why a cell has its value.
+    Explain(ExplainRequest<'a>),
     /// Whether the lines of a derivation are right.
     Verify(VerifyRequest<'a>),
+    /// The table of a pipeline, computed session by session.
+    Daily(DailyRequest<'a>),
 }
 
 impl<'a> Request<'a> {
@@ -133,7 +149,9 @@ impl<'a> Request<'a> {
             Request::Plan(plan) => plan.name_of(file),
             Request::Bench(_) => None,
             Request::Payouts(payouts) => payouts.name_of(file),
+            Request::Explain(explain) => explain.name_of(file),
             Request::Verify(verify) => verify.name_of(file),
+            Request::Daily(daily) => daily.run().name_of(file),
         }
     }
 }
@@ -170,6 +188,8 @@ pub fn date_asked<'a>(asked: Option<&Request<'a>>, date: RangeDate) -> &'a str
     match asked {
         Some(Request::Run(run)) => date_text(&run.from, &run.to, run.options.as_of, date),
         Some(Request::Plan(plan)) => date_text(&plan.from, &plan.to, None, date),
+        Some(Request::Explain(explain)) => cell_date(&explain.date, date),
+        Some(Request::Daily(daily)) => date_text(&daily.from, &daily.to, None, date),
         Some(
             Request::Fmt(_)
             | Request::Check(_)
@@ -187,13 +207,35 @@ pub fn adjustments_asked<'a>(asked: Option<&Request<'a>>) -> &'a str
 {
     match asked {
         Some(Request::Run(run)) => run.options.adjustments.unwrap_or(""),
+        Some(Request::Explain(explain)) => explain.world.adjustments.unwrap_or(""),
         Some(Request::Verify(verify)) => verify.world.adjustments.unwrap_or(""),
+        Some(Request::Daily(daily)) => daily.world.adjustments.unwrap_or(""),
         Some(
             Request::Fmt(_)
             | Request::Check(_)
             | Request::Plan(_)
             | Request::Bench(_)
             | Request::Payouts(_),
+        )
+        | None => "",
+    }
+}
+
+/// The name of the column whose cell words ask for; nothing where they ask for none.
+pub fn column_asked<'a>(asked: Option<&Request<'a>>) -> &'a str
+    ensures { result.now ≡ column_asked (option_map (λ q. request_of q.now) asked.entry) }
+{
+    match asked {
+        Some(Request::Explain(explain)) => explain.column,
+        Some(
+            Request::Run(_)
+            | Request::Fmt(_)
+            | Request::Check(_)
+            | Request::Plan(_)
+            | Request::Bench(_)
+            | Request::Payouts(_)
+            | Request::Verify(_)
+            | Request::Daily(_),
         )
         | None => "",
     }
@@ -246,6 +288,22 @@ impl<'a> PlanRequest<'a> {
     }
 }
 
+impl<'a> ExplainRequest<'a> {
+    fn name_of(&self, file: InputFile) -> Option<&'a str>
+        ensures { option_map (λ n. n.now) result ≡ explain_name (explain_of self.now) file }
+    {
+        match file {
+            InputFile::Pipeline => Some(self.pipeline),
+            InputFile::Sessions => Some(self.world.sessions),
+            InputFile::Assets => Some(self.world.assets),
+            InputFile::Labels => self.world.labels,
+            InputFile::Bars => Some(self.world.bars),
+            InputFile::Revisions => self.world.revisions,
+            InputFile::Payouts | InputFile::Derivation => None,
+        }
+    }
+}
+
 impl<'a> VerifyRequest<'a> {
     fn name_of(&self, file: InputFile) -> Option<&'a str>
         ensures { option_map (λ n. n.now) result ≡ verify_name (verify_of self.now) file }
@@ -292,6 +350,15 @@ fn date_text<'a>(
         (RangeDate::From, _) => from.text,
         (RangeDate::To, _) => to.text,
         (RangeDate::AsOf, Some(as_of)) => as_of.text,
-        (RangeDate::AsOf, None) => "",
+        (RangeDate::AsOf, None) | (RangeDate::At, _) => "",
+    }
+}
+
+fn cell_date<'a>(at: &DateWord<'a>, date: RangeDate) -> &'a str
+    ensures { result.now ≡ cell_date (dated_of at.now) date }
+{
+    match date {
+        RangeDate::At => at.text,
+        RangeDate::From | RangeDate::To | RangeDate::AsOf => "",
     }
 }

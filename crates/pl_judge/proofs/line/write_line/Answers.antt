@@ -11,5 +11,11 @@ returns-in-NotSession g c = rw (c.in-NotSession.is, ← c.date_asked.ensures) c.
 pub returns-in-TooEarly : goal.returns-in-TooEarly
 returns-in-TooEarly g c =
     let fits : FitsSigned w64 c.in-TooEarly.reach = search rules in
-    let reach = simp to_z-of_z at c.format.ensures.text in
-    rw (c.in-TooEarly.is, ← reach) c.write_named-in-TooEarly.ensures
+    let written = simp to_z-of_z at c.write_reach.ensures in
+    rw c.in-TooEarly.is written
+
+pub returns-in-UnknownSid : goal.returns-in-UnknownSid
+returns-in-UnknownSid g c = rw c.in-UnknownSid.is c.write_sid.ensures
+
+pub returns-in-UnknownColumn : goal.returns-in-UnknownColumn
+returns-in-UnknownColumn g c = rw (c.in-UnknownColumn.is, ← c.column_asked.ensures) c.write_named-in-UnknownColumn.ensures

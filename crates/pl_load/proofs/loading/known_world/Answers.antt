@@ -1,5 +1,3 @@
-use Rattle.std.proofs.Common.{refl}
-use Rattle.pl_load.proofs.KnownWorlds.{of-lent}
 use Rattle.pl_load.proofs.loading.known_world.Goals as goal
 
 pub asof_world-requires-clause-made : goal.asof_world-requires-clause-made

@@ -1,0 +1,79 @@
+// The table that is computed session by session.
+ghost use Rattle.std.specs.Prelude.{◌≡◌, ◌≤◌, ◌+◌, ◌⊎◌, None, Some, OnOk, IfOk, IfErr, IsErrOf};
+ghost use Rattle.pl_outside.specs.Counts.{Rose};
+ghost use Rattle.pl_outside.specs.Taken.{Writes};
+ghost use Rattle.pl_outside.specs.Left.{Leaves, LeavesSink, IsUntouched};
+ghost use Rattle.pl_words.specs.Request.{Daily};
+ghost use Rattle.pl_words.specs.Views.{daily_of};
+ghost use Rattle.pl_load.specs.Loads.{IsReady};
+ghost use Rattle.pl_cli.specs.Runs.{observed};
+ghost use Rattle.pl_cli.specs.Commands.{IsEnded, IsCaused, loaded_text, loaded_days};
+
+use crate::commands::Stats;
+use pl_feed::run_daily;
+use pl_fixed::Steps;
+use pl_judge::Fault;
+use pl_load::{Loaded, load};
+use pl_outside::{AdjustKeeper, Shelf, Sink};
+use pl_runner::RunError;
+use pl_spec::Format;
+use pl_words::DailyRequest;
+use std::alloc::Global;
+use std::sync::ledger::Ledger;
+
+/// Reads and judges what the request names, feeds its pipeline the sessions one by one, and writes the table.
+pub fn daily_command<S: Shelf, K: AdjustKeeper, O: Sink, L: Ledger>(
+    alloc: Global,
+    request: &DailyRequest<'_>,
+    shelf: &mut S,
+    keeper: &mut K,
+    out: &mut O,
+    steps: &mut Steps<L>,
+) -> Result<Option<Stats>, Fault>
+    ensures ended { IsEnded (observed S.holds S.sound K.lists K.sound O.taken O.sound O.room shelf.old keeper.old
+        out.old out.new steps.old steps.new) (Some (Daily (daily_of request.now))) result }
+    ensures caused { IfErr result (IsCaused ⊥ (Rose (S.faults shelf.old) (S.faults shelf.new))
+        (Rose (K.faults keeper.old) (K.faults keeper.new)) (Rose (O.faults out.old) (O.faults out.new))
+        ((O.taken out.new ≡ O.taken out.old) × (O.room out.new ≡ O.room out.old) × (steps.new ≡ steps.old))) }
+    ensures shelf { Leaves S.holds S.sound S.faults shelf.old shelf.new }
+    ensures keeper { Leaves K.lists K.sound K.faults keeper.old keeper.new }
+    ensures alone { (daily_of request.now).world.adjustments ≡ None
+        → IsUntouched K.faults K.calls keeper.old keeper.new }
+    ensures out { LeavesSink O.sound O.faults out.old out.new }
+{
+    let loaded = load(alloc, &request.run(), shelf, keeper)?;
+    write_days(alloc, &loaded, request.format, out, steps)
+}
+
+// Writes the table of what was loaded.
+fn write_days<O: Sink, L: Ledger>(
+    alloc: Global,
+    loaded: &Loaded,
+    format: Format,
+    out: &mut O,
+    steps: &mut Steps<L>,
+) -> Result<Option<Stats>, Fault>
+    requires ready { IsReady loaded.now }
+    ensures writes { IsErrOf result Fault.Memory
+        ⊎ Writes O.taken O.faults O.sound O.room out.old out.new (loaded_text loaded.now format) result }
+    ensures quiet { IfOk result (λ stats. stats ≡ None) }
+    ensures fault { IfErr result (λ fault. (fault ≡ Fault.Memory) ⊎ (fault ≡ Fault.Unwritten)) }
+    ensures memory { IsErrOf result Fault.Memory → (out.new ≡ out.old) × (steps.new ≡ steps.old) }
+    ensures cost { OnOk result (steps.new ≡ steps.old + loaded_days loaded.now) }
+    ensures most { steps.new ≤ steps.old + loaded_days loaded.now }
+{
+    let world = loaded.world.world();
+    match run_daily(
+        alloc,
+        &world,
+        &loaded.checked,
+        &loaded.plan,
+        format,
+        out,
+        steps,
+    ) {
+        Ok(_) => Ok(None),
+        Err(RunError::Memory) => Err(Fault::Memory),
+        Err(RunError::WriteFault) => Err(Fault::Unwritten),
+    }
+}

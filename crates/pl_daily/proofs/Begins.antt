@@ -1,0 +1,157 @@
+-- Where a day begins a period, it is the first session of it; else that session stays.
+use Rattle.std.proofs.Common.{◌≡◌, ℕ, suc, ◌<◌, ◌-◌, true, false, not, ℤ, pos, ◌<ℤ◌, ◌≤ℤ◌, List, [], ◌∷◌, ◌++◌, length, get_or, Some, option_map, unwrap_or, slice_get, refl, sym, ◌∙◌, ap, arith, All}
+use Rattle.std.proofs.lemmas.Bool.{true≢false}
+use Rattle.std.proofs.lemmas.Int.{ints}
+use Rattle.std.proofs.lemmas.List.{get_or_append_left}
+use Rattle.std.proofs.lemmas.List.Elements.{All-append, All-cons}
+use Rattle.std.specs.List.{position_or_len}
+use Rattle.std.specs.Ordering.{int_eq}
+use Rattle.circular_buffer.proofs.Places.{slice_get-append_left, slice_get-append_right}
+use Rattle.pl_spec.specs.declared.Frequency.{Frequency}
+use Rattle.pl_spec.specs.Periods.{period, same_period, first_session, period_start}
+use Rattle.pl_spec.specs.Table.{Pipeline, value_of, in_array}
+use Rattle.pl_spec.specs.Term.{term_at}
+use Rattle.pl_spec.specs.Window.{before}
+use Rattle.pl_spec.proofs.Places.{first_at}
+use Rattle.pl_laws.proofs.Rises.{period-rises}
+use Rattle.pl_laws.proofs.Starts.{eq_self, start-same, start-within}
+use Rattle.pl_cross.specs.Arrays.{sid_in}
+use Rattle.pl_rings.specs.Days.{Start, FedDay, fed, days_of, last_day, last_session, IsStart, AreFed}
+use Rattle.pl_rings.proofs.Fed.{length-days, all_before}
+use Rattle.pl_rings.proofs.Values.{values_stay}
+use Rattle.pl_day_rows.specs.declared.turn.TermCells.{TermCells}
+use Rattle.pl_day_rows.specs.Rows.{sids_of}
+use Rattle.pl_day_rows.specs.Turns.{cell_on}
+use Rattle.pl_day_rows.specs.Held.{HoldsTerm}
+use Rattle.pl_daily.specs.declared.starts.StartCells.{StartCells}
+use Rattle.pl_daily.specs.Terms.{HoldsStart, begins}
+
+-- ---- the last day of a list
+
+at_end : (xs : List ℤ) (x : ℤ) → slice_get (xs ++ x ∷ []) (length xs) ≡ Some x
+at_end xs x = slice_get-append_right xs (x ∷ []) (length xs) 0 (omega arith)
+
+got_at_end : (xs : List ℤ) (x : ℤ) → get_or (xs ++ x ∷ []) (length xs) (pos 0) ≡ x
+got_at_end [] x = refl
+got_at_end (y ∷ ys) x = got_at_end ys x
+
+start_at_end : (f : Frequency) (xs : List ℤ) (x : ℤ) → period_start f (xs ++ x ∷ []) (pos (length xs)) ≡ pos (first_session f (xs ++ x ∷ []) x)
+unfolding period_start
+start_at_end f xs x = ap (λ o. unwrap_or (option_map (λ day. pos (first_session f (xs ++ x ∷ []) day)) o) (pos (length xs))) (at_end xs x)
+
+apart : (a b c : ℤ) → a ≤ℤ b → b ≤ℤ c → not (int_eq b c) ≡ true → int_eq c a ≡ false
+apart a b c h l t = grind (arith, ints)
+
+alike : (a b : ℤ) → not (int_eq a b) ≡ false → a ≡ b
+alike a b t = grind (arith, ints)
+
+not_after : (x y : ℤ) → x <ℤ y → x ≤ℤ y
+not_after x y h = omega (arith, ints)
+
+itself : (x : ℤ) → x ≤ℤ x
+itself x = omega (arith, ints)
+
+module _ (f : Frequency) (g : Start) (next now : FedDay) (earlier : List FedDay) (are : AreFed g (next ∷ now ∷ earlier)) where
+  abbrev xs : List ℤ
+  xs = days_of (now ∷ earlier)
+
+  abbrev zs : List ℤ
+  zs = xs ++ next.day ∷ []
+
+  long : length xs ≡ suc (length earlier)
+  long = length-days (now ∷ earlier)
+
+  up_to_now : All (λ x. x ≤ℤ now.day) xs
+  up_to_now = All-append (λ x. x ≤ℤ now.day) (days_of earlier) (now.day ∷ []) (λ k d l. not_after _ now.day ((all_before g earlier are.0.0 now.day are.0.1).0 k d l))
+      (All-cons (λ x. x ≤ℤ now.day) now.day [] (itself now.day) (λ k d l. absurd (omega (arith, l))))
+
+  is_other : not (same_period f now.day next.day) ≡ true → (k : ℕ) → k < length xs → same_period f next.day (get_or zs k (pos 0)) ≡ false
+  is_other other k l =
+      ap (same_period f next.day) (get_or_append_left xs (next.day ∷ []) (pos 0) k l)
+      ∙ apart (period f (get_or xs k (pos 0))) (period f now.day) (period f next.day) (period-rises f (get_or xs k (pos 0)) now.day (up_to_now k (pos 0) l)) (period-rises f now.day next.day (not_after now.day next.day are.1)) other
+
+  pub begun_later : not (same_period f now.day next.day) ≡ true → period_start f zs (pos (suc (length earlier))) ≡ pos (suc (length earlier))
+  begun_later other =
+      let inside : length xs < length zs = (let e = long_by_one xs next.day in omega (arith, e)) in
+      ap (λ n. period_start f zs (pos n)) (sym long) ∙ start_at_end f xs next.day
+      ∙ ap pos (first_at (same_period f next.day) zs (length xs) (pos 0) inside (ap (same_period f next.day) (got_at_end xs next.day) ∙ eq_self (period f next.day)) (is_other other))
+      ∙ ap pos long
+    where
+      long_by_one : (ys : List ℤ) (y : ℤ) → length (ys ++ y ∷ []) ≡ suc (length ys)
+      long_by_one [] y = refl
+      long_by_one (z ∷ ys) y = ap suc (long_by_one ys y)
+
+  now_is : slice_get xs (length earlier) ≡ Some now.day
+  now_is = ap (slice_get xs) (sym (length-days earlier)) ∙ at_end (days_of earlier) now.day
+
+  inside_now : (i : ℕ) → pos i ≤ℤ pos (length earlier) → slice_get zs i ≡ slice_get xs i
+  inside_now i l = slice_get-append_left xs (next.day ∷ []) i (let e = long in omega (arith, ints, e, l))
+
+  start_of_now : period_start f zs (pos (length earlier)) ≡ pos (first_session f zs now.day)
+  unfolding period_start
+  start_of_now = ap (λ o. unwrap_or (option_map (λ day. pos (first_session f zs day)) o) (pos (length earlier))) (inside_now (length earlier) (itself (pos (length earlier))) ∙ now_is)
+
+  by_period : (x y : ℤ) → period f x ≡ period f y → first_session f zs x ≡ first_session f zs y
+  by_period x y e = ap (λ n. position_or_len (λ d. int_eq n (period f d)) zs) e
+
+  pub begun_before : not (same_period f now.day next.day) ≡ false → period_start f zs (pos (suc (length earlier))) ≡ period_start f xs (pos (length earlier))
+  begun_before same =
+      ap (λ n. period_start f zs (pos n)) (sym long) ∙ start_at_end f xs next.day
+      ∙ ap pos (sym (by_period now.day next.day (alike (period f now.day) (period f next.day) same)))
+      ∙ sym start_of_now
+      ∙ start-same f zs xs (pos (length earlier)) inside_now
+
+pub start_is_next : (f : Frequency) (g : Start) (next : FedDay) (days : List FedDay) → AreFed g (next ∷ days) → begins f (last_day days) next.day ≡ true
+    → period_start f (days_of (next ∷ days)) (pos (length days)) ≡ pos (length days)
+start_is_next f g next [] are is = start_at_end f [] next.day ∙ ap pos (first_at (same_period f next.day) (next.day ∷ []) 0 (pos 0) (omega arith) (eq_self (period f next.day)) (λ k l. absurd (omega (arith, l))))
+start_is_next f g next (now ∷ earlier) are is = begun_later f g next now earlier are is
+
+pub start_stays : (f : Frequency) (g : Start) (next : FedDay) (days : List FedDay) → AreFed g (next ∷ days) → begins f (last_day days) next.day ≡ false
+    → period_start f (days_of (next ∷ days)) (pos (length days)) ≡ period_start f (days_of days) (last_session days)
+start_stays f g next [] are none = absurd (true≢false none)
+start_stays f g next (now ∷ earlier) are none = begun_before f g next now earlier are none
+
+-- ---- the cells
+
+fed_texts : (g : Start) (days : List FedDay) → (fed g days).texts ≡ g.texts
+unfolding fed
+fed_texts g days = refl
+
+pub days_are : (g : Start) (days : List FedDay) → (fed g days).days ≡ days_of days
+unfolding fed
+days_are g days = refl
+
+by_steps : (n s : ℕ) → pos s ≤ℤ pos n → before (pos n) (n - s) ≡ pos s
+by_steps n s h = omega (arith, ints)
+
+-- on an earlier session a term stays what it was worth
+pub cell_stays : (g : Start) (next now : FedDay) (earlier : List FedDay) (p : Pipeline) (u i s : ℕ) → IsStart g → AreFed g (next ∷ now ∷ earlier) → pos s ≤ℤ pos (length earlier)
+    → cell_on (fed g (next ∷ now ∷ earlier)) p (sids_of g.assets) u i (pos s) ≡ cell_on (fed g (now ∷ earlier)) p (sids_of g.assets) u i (pos s)
+cell_stays g next now earlier p u i s start are h =
+    let days = now ∷ earlier in
+    let back = by_steps (length earlier) s h in
+    ap (cell_on (fed g (next ∷ days)) p (sids_of g.assets) u i) (sym back)
+    ∙ ap (in_array (fed g (next ∷ days)).texts) (values_stay g next days start are p.names (term_at p.graph u) (sid_in (sids_of g.assets) i) (length earlier - s))
+    ∙ ap (λ texts. in_array texts (value_of (fed g days) p u (sid_in (sids_of g.assets) i) (before (pos (length earlier)) (length earlier - s)))) (fed_texts g (next ∷ days) ∙ sym (fed_texts g days))
+    ∙ ap (cell_on (fed g days) p (sids_of g.assets) u i) back
+
+at_most : (a b c : ℤ) → a ≡ b → b ≤ℤ c → a ≤ℤ c
+at_most a b c e h = omega (arith, ints)
+
+-- where the day begins no period, what was held stands for the list with it
+pub held_on : (f : Frequency) (g : Start) (next : FedDay) (days : List FedDay) (p : Pipeline) (u : ℕ) (s : StartCells) → IsStart g → AreFed g (next ∷ days)
+    → begins f (last_day days) next.day ≡ false → HoldsStart g days p f u s → HoldsStart g (next ∷ days) p f u s
+held_on f g next [] p u s start are none hold = absurd (true≢false none)
+held_on f g next (now ∷ earlier) p u s start are none hold = record {
+  session = λ some. hold.session (omega arith) ∙ sym (start_stays f g next (now ∷ earlier) are none);
+  row = λ some i h. hold.row (omega arith) i h
+      ∙ sym (cell_stays g next now earlier p u i s.session start are (at_most _ _ _ (hold.session (omega arith)) (start-within f (days_of (now ∷ earlier)) (pos (length earlier)))));
+}
+
+-- where it begins one, the cells of the day do
+pub held_anew : (f : Frequency) (g : Start) (next : FedDay) (days : List FedDay) (p : Pipeline) (u : ℕ) (s : StartCells) (t : TermCells) → AreFed g (next ∷ days)
+    → begins f (last_day days) next.day ≡ true → s.session ≡ length days → s.row.items ≡ t.row.items → HoldsTerm g (next ∷ days) p u t → HoldsStart g (next ∷ days) p f u s
+held_anew f g next days p u s t are is session row hold = record {
+  session = λ some. ap pos session ∙ sym (start_is_next f g next days are is);
+  row = λ some i h. ap (λ r. get_or r i (pos 0)) row ∙ hold.row i h ∙ ap (λ n. cell_on (fed g (next ∷ days)) p (sids_of g.assets) u i (pos n)) (sym session);
+}

@@ -1,0 +1,12 @@
+pub mod Begins
+pub mod Downsampled
+pub mod Placed
+pub mod Followed
+pub mod Greatest
+pub mod NodeReaches
+pub mod Firsts
+pub mod KeptPlaces
+pub mod Begun
+pub mod Outputs
+pub mod Taken
+pub mod Shown

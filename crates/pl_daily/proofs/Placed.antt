@@ -1,0 +1,214 @@
+-- A used term on its day has what it reads.
+use Rattle.std.proofs.Common.{◌≡◌, ℕ, zero, suc, ◌<◌, ◌≤◌, true, ℤ, pos, ◌-ℤ◌, List, [], ◌∷◌, length, get_or, Some, slice_get, refl, sym, ◌∙◌, ap, arith, subst, All, Bor}
+use Rattle.std.proofs.lemmas.Int.{ints}
+use Rattle.std.proofs.lemmas.List.{get_or_default, length-map}
+use Rattle.std.proofs.lemmas.Option.{slice_get_within}
+use Rattle.pl_spec.specs.declared.AssetRow.{AssetRow}
+use Rattle.pl_spec.specs.declared.Column.{Column}
+use Rattle.pl_spec.specs.declared.Frequency.{Frequency}
+use Rattle.pl_spec.specs.Kind.Kind.{Downsample}
+use Rattle.pl_spec.specs.Periods.{period_start}
+use Rattle.pl_spec.specs.Rounding.{IsCell}
+use Rattle.pl_spec.specs.Parts.{sid_at}
+use Rattle.pl_spec.specs.Table.{Pipeline}
+use Rattle.pl_spec.specs.Term.{Node}
+use Rattle.pl_spec.specs.Term.Input.{BarColumn, TermInput}
+use Rattle.pl_spec.specs.Window.{bar_window}
+use Rattle.pl_spec.specs.World.{World}
+use Rattle.pl_spec.specs.Graph.{Used, contains, mentions_at}
+use Rattle.pl_spec.specs.Lows.{Reads}
+use Rattle.pl_laws.proofs.Uses.{used_terms-sound, used_terms-complete, lower}
+use Rattle.pl_assets.specs.Labels.{AreLabels}
+use Rattle.pl_cross.specs.Arrays.{sid_in}
+use Rattle.pl_terms.specs.declared.node.Node as code
+use Rattle.pl_terms.specs.declared.node.TermId.{TermId}
+use Rattle.pl_terms.specs.Checked.{IsChecked}
+use Rattle.pl_terms.specs.Nodes.{graph_of, node_of}
+use Rattle.pl_terms.specs.Uses.{is_used, outputs}
+use Rattle.pl_terms.specs.Sorts.{is_windowed}
+use Rattle.pl_planner.specs.Extra.{asks_of}
+use Rattle.pl_planner.proofs.Gathers.{mention_of_ask}
+use Rattle.pl_planner.proofs.Lows.{Asked, asked-of}
+use Rattle.pl_planner.proofs.Pipelines.{is-pipeline}
+use Rattle.pl_values.specs.Arrays.{cell_of, Fills}
+use Rattle.pl_rings.specs.Days.{Start, FedDay, fed, IsStart, AreFed}
+use Rattle.pl_rings.specs.Changes.{Ring, AreRings, ring_at}
+use Rattle.pl_rings.specs.Columns.{HoldColumns, rings_of}
+use Rattle.pl_day_rows.specs.declared.turn.TermCells.{TermCells}
+use Rattle.pl_day_rows.specs.declared.turn.Turn.{Turn}
+use Rattle.pl_day_rows.specs.Rows.{capacity_of, rings_in, row_of, sids_of}
+use Rattle.pl_day_rows.specs.Turns.{Moment, IsAlways, IsTurn, IsDayIn, HoldsRow, HoldsRings, HoldsBars, HoldsStart, assets_at, node_at, pipeline_at, sids_at, cell_on, day_window_of}
+use Rattle.pl_day_rows.proofs.Sessions.{fed_days_are_sessions}
+use Rattle.pl_daily.specs.declared.starts.StartCells.{StartCells}
+use Rattle.pl_daily.specs.declared.terms.Lent.{Lent}
+use Rattle.pl_daily.specs.Terms
+use Rattle.pl_daily.specs.Terms.{start_at, start_of, AreTerms, Downsamples, IsAt, IsRowOf, IsStartOf, IsStartRoom, IsTermRow, TermsHold}
+use Rattle.pl_daily.proofs.Begins.{days_are}
+
+some_at : {X : Type 0} (xs : List X) (i : ℕ) → i < length xs → (x : X) × (slice_get xs i ≡ Some x)
+some_at [] i h = absurd (omega (arith, h))
+some_at (x ∷ xs) zero h = (x, refl)
+some_at (x ∷ xs) (suc i) h = some_at xs i (omega (arith, h))
+
+cell_is : (w : World) (p : Pipeline) (sids : List ℕ) (u i s : ℕ) → cell_of w p sids u i s ≡ cell_on w p sids u i (pos s)
+unfolding cell_of
+cell_is w p sids u i s = refl
+
+sid_is : (assets : List AssetRow) (i : ℕ) → i < length assets → sid_in (sids_of assets) i ≡ sid_at assets i
+sid_is [] i h = absurd (omega (arith, h))
+sid_is (a ∷ rest) zero h = refl
+sid_is (a ∷ rest) (suc i) h = sid_is rest i (omega (arith, h))
+
+-- what a used term mentions is used, and lower
+module _ (p : Pipeline) (checked : IsChecked p) (k : ℕ) (n : Node) (used : is_used p k ≡ true) (node : slice_get p.graph k ≡ Some n) where
+  pub read_used : (u : ℕ) (r : ℤ) → Reads [] n (pos 0) u r → (u < k) × (u < length p.graph) × (is_used p u ≡ true)
+  read_used u r reads =
+      let here : pos 0 ≡ pos 0 -ℤ pos 0 = omega (arith, ints) in
+      let ask : Asked [] 0 n 0 u r = asked-of [] 0 n 0 u r (subst (λ d. Reads [] n d u r) here reads) in
+      let mention : contains (mentions_at p.graph k) u ≡ true =
+      mention_of_ask [] 0 p.graph k 0 ask.found.0 (u, ask.back) (ap (λ o. slice_get (asks_of [] 0 o 0) ask.found.0) node ∙ ask.found.1) in
+      let below : u < k = lower p.graph (outputs p) checked.graph k u mention in
+      let inside : k < length p.graph = slice_get_within p.graph k n node in
+      let known : u < length p.graph = omega (arith, below, inside) in (
+        below,
+        known,
+        used_terms-complete p.graph (outputs p) checked.graph u known (Used.mentioned k (used_terms-sound p.graph (outputs p) checked.graph k used) mention),
+      )
+
+-- so is the input of a downsampled term
+pub input_used : (p : Pipeline) (k : ℕ) (f : Frequency) (u : ℕ) → IsChecked p → Downsamples p k f u → (u < k) × (u < length p.graph) × (is_used p u ≡ true)
+input_used p k f u checked down = read_used p checked k down.node down.used down.at u _ (Reads.input 0 down.input)
+
+pub length-graph : (ns : List code.Node) → length (graph_of ns) ≡ length ns
+unfolding graph_of
+length-graph ns = length-map ns node_of
+
+module _ (t : Turn) (next : FedDay) (days : List FedDay) (s : StartCells)
+    (start : IsStart (start_of t.assets.now t.labels.now)) (are_fed : AreFed (start_of t.assets.now t.labels.now) (next ∷ days)) (day : next.day ≡ t.day)
+    (bars : HoldColumns (start_of t.assets.now t.labels.now) (next ∷ days) t.bars.now)
+    (held : TermsHold (start_of t.assets.now t.labels.now) days (next ∷ days) (pipeline_at t) t.term.0 t.terms.now)
+    (begun : IsStartOf (start_of t.assets.now t.labels.now) (next ∷ days) (pipeline_at t) t.term.0 s)
+    (lent : t.start.now ≡ s.row.items) (room : IsStartRoom (assets_at t) (pipeline_at t) t.term.0 s)
+    (are : AreTerms (assets_at t) (pipeline_at t) t.bars.now t.terms.now) (checked : IsChecked (pipeline_at t)) (used : is_used (pipeline_at t) t.term.0 ≡ true)
+    (node : slice_get (pipeline_at t).graph t.term.0 ≡ Some (node_at t)) (few : assets_at t ≤ 8000) (labels : AreLabels t.labels.now) where
+  abbrev p : Pipeline
+  p = pipeline_at t
+
+  abbrev g : Start
+  g = start_of t.assets.now t.labels.now
+
+  abbrev n : Node
+  n = node_at t
+
+  abbrev w : World
+  w = fed g (next ∷ days)
+
+  abbrev v : Moment
+  v = record { world = fed (start_of t.assets.now t.labels.now) (next ∷ days); session = length days }
+
+  is_read : (u : ℕ) (r : ℤ) → Reads [] n (pos 0) u r → (u < t.term.0) × (u < length t.terms.now) × (is_used p u ≡ true)
+  is_read u r reads = let x = read_used p checked t.term.0 n used node u r reads in (x.0, omega (arith, x.1, are.many), x.2)
+
+  row_held : (u : ℕ) → (u < t.term.0) × (u < length t.terms.now) × (is_used p u ≡ true) → HoldsRow t v u
+  row_held u h =
+      let x = some_at t.terms.now u h.1 in
+      let full = are.full u x.0 h.2 x.1 in
+      let hold = held.done u x.0 h.0 h.2 x.1 in
+      record {
+        known = h.1;
+        fills = subst (λ o. Fills (λ i. cell_of w p (sids_at t) u i (length days)) (assets_at t) (row_of o)) (sym x.1) (record {
+          long = full.row;
+          each = λ i l. hold.row i l ∙ sym (cell_is w p (sids_at t) u i (length days));
+          cell = λ i l. subst IsCell (hold.row i l ∙ sym (cell_is w p (sids_at t) u i (length days))) (full.cells i (pos 0) (let long = full.row in omega (arith, l, long)));
+        });
+      }
+
+  rings_held : (place u : ℕ) → is_windowed n.kind ≡ true → slice_get n.inputs place ≡ Some (TermInput u) → (u < t.term.0) × (u < length t.terms.now) × (is_used p u ≡ true) → HoldsRings t v u
+  rings_held place u kind e h =
+      let x = some_at t.terms.now u h.1 in
+      let full = are.full u x.0 h.2 x.1 in
+      let hold = held.done u x.0 h.0 h.2 x.1 in
+      let fits : n.window ≤ x.0.rings.capacity = are.values t.term.0 n place u x.0 used node kind e x.1 in
+      let some : 1 ≤ n.window = ((is-pipeline p checked).windows t.term.0 n node).0 in
+      let has : 0 < x.0.rings.capacity = omega (arith, fits, some) in
+      record {
+        rings = subst (λ o. AreRings (assets_at t) (capacity_of o) (rings_in o)) (sym x.1) (full.rings has);
+        fits = subst (λ o. n.window ≤ capacity_of o) (sym x.1) fits;
+        each = λ i l. subst (λ o. (ring_at (rings_in o) i).items ≡ day_window_of w p (sids_at t) (capacity_of o) (Some (TermInput u)) i (length days)) (sym x.1) (hold.rings has i l);
+      }
+
+  bars_held : (place : ℕ) (c : Column) → slice_get n.inputs place ≡ Some (BarColumn c) → HoldsBars t v c
+  bars_held place c e = record {
+    rings = are.bar_rings.rings c;
+    fits = are.bars t.term.0 n place c used node e;
+    each = λ i l. ap (λ (b : Ring). b.items) ((bars.bars c).each i l)
+        ∙ ap (λ a. bar_window w c (rings_of t.bars.now c).capacity a (pos (length days))) (sym (sid_is t.assets.now i l));
+  }
+
+  here_is : IsDayIn t.assets.now t.labels.now t.day v
+  here_is = subst (λ d. IsDayIn t.assets.now t.labels.now d v) day (fed_days_are_sessions g t.labels.now next days start labels refl refl are_fed)
+
+  start_held : (f : Frequency) (u : ℕ) → n.kind ≡ Downsample f → slice_get n.inputs 0 ≡ Some (TermInput u) → HoldsStart t v f u
+  start_held f u kind input =
+      let down : Downsamples p t.term.0 f u = record { node = n; used = used; at = node; kind = kind; input = input } in
+      let hold = begun f u down in
+      let full = room f u down in
+      let here : 0 < length (next ∷ days) = omega arith in
+      let long : length t.start.now ≡ assets_at t = ap length lent ∙ full.row in
+      let cell : (i : ℕ) → i < assets_at t → get_or t.start.now i (pos 0) ≡ cell_of w p (sids_at t) u i s.session =
+      λ i l. ap (λ r. get_or r i (pos 0)) lent ∙ hold.row here i l ∙ sym (cell_is w p (sids_at t) u i s.session) in
+      record {
+        first = s.session;
+        is = hold.session here ∙ ap (λ ds. period_start f ds (pos (length days))) (sym (days_are g (next ∷ days)));
+        fills = record {
+          long = long;
+          each = cell;
+          cell = λ i l. subst IsCell (ap (λ r. get_or r i (pos 0)) (sym lent) ∙ cell i l) (full.cells i (pos 0) (let row = full.row in omega (arith, l, row)));
+        };
+      }
+
+  pub turn_is : IsTurn t v
+  turn_is = record {
+    checked = checked;
+    node = node;
+    few = few;
+    here = here_is;
+    rows = λ place u e. row_held u (is_read u _ (Reads.input place e));
+    mask = λ u e. row_held u (is_read u _ (Reads.mask e));
+    group = λ u e. row_held u (is_read u _ (Reads.group e));
+    rings = λ kind place u e. rings_held place u kind e (is_read u _ (Reads.input place e));
+    bars = bars_held;
+    start = start_held;
+  }
+
+  pub row_is : (row : List ℤ) → Fills (λ i. cell_of w p (sids_at t) t.term.0 i (length days)) (assets_at t) row → IsTermRow g p t.term.0 next days row
+  row_is row f = record { each = λ i l. f.each i (let long = f.long in omega (arith, l, long)) ∙ cell_is w p (sids_at t) t.term.0 i (length days) }
+
+  pub cells_are : (row : List ℤ) → Fills (λ i. cell_of w p (sids_at t) t.term.0 i (length days)) (assets_at t) row → All IsCell row
+  cells_are row f = λ i d l. let inside : i < assets_at t = (let long = f.long in omega (arith, l, long)) in subst IsCell (sym (get_or_default row i d (pos 0) l ∙ f.each i inside)) (f.cell i inside)
+
+-- what is computed for term k
+abbrev pub turn_of : Lent → Bor (List TermCells) → TermId → Bor code.Node → Bor (List ℤ) → ℤ → Turn
+turn_of l terms term node start day =
+    record { checked = l.checked; assets = l.assets; labels = l.labels; bars = l.bars; terms = terms; term = term; node = node; start = start; day = day }
+
+abbrev pub moment_of : Lent → FedDay → List FedDay → Moment
+moment_of l next days = record { world = fed (start_at l) (next ∷ days); session = length days }
+
+module _ (l : Lent) (terms : Bor (List TermCells)) (term : TermId) (node : Bor code.Node) (start : Bor (List ℤ)) (day : ℤ) (s : StartCells)
+    (same : day ≡ l.day) (lent : start.now ≡ s.row.items) (room : IsStartRoom (Terms.assets_at l) (Terms.pipeline_at l) term.0 s)
+    (are : AreTerms (Terms.assets_at l) (Terms.pipeline_at l) l.bars.now terms.now) (checked : IsChecked (Terms.pipeline_at l)) (used : is_used (Terms.pipeline_at l) term.0 ≡ true)
+    (is : slice_get (Terms.pipeline_at l).graph term.0 ≡ Some (node_of node.now)) (few : Terms.assets_at l ≤ 8000) (labels : AreLabels l.labels.now) where
+  abbrev t : Turn
+  t = turn_of l terms term node start day
+
+  pub stands_at : (next : FedDay) (days : List FedDay) → IsAt l term.0 terms.now s (next ∷ days) next days → IsTurn (turn_of l terms term node start day) (moment_of l next days)
+  stands_at next days at = turn_is t next days s at.may.start at.may.are_fed (at.may.day ∙ sym same) at.may.bars at.terms at.start lent room are checked used is few labels
+
+  pub row_at : (row : List ℤ) → IsAlways (turn_of l terms term node start day) row → IsRowOf l term.0 terms.now s row
+  row_at row always next days at =
+      row_is t next days s at.may.start at.may.are_fed (at.may.day ∙ sym same) at.may.bars at.terms at.start lent room are checked used is few labels row (always (moment_of l next days) (stands_at next days at))
+
+  pub cells_at : (row : List ℤ) → IsAlways (turn_of l terms term node start day) row → (next : FedDay) (days : List FedDay) → IsAt l term.0 terms.now s (next ∷ days) next days → All IsCell row
+  cells_at row always next days at =
+      cells_are t next days s at.may.start at.may.are_fed (at.may.day ∙ sym same) at.may.bars at.terms at.start lent room are checked used is few labels row (always (moment_of l next days) (stands_at next days at))

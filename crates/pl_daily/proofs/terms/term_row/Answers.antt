@@ -1,0 +1,70 @@
+use Rattle.std.proofs.Common.{rules, ◌≤◌, ◌∙◌, sym, ap, arith, slice_get, FitsSigned, w32}
+use Rattle.std.proofs.lemmas.Int.{to_z-of_z}
+use Rattle.pl_terms.specs.Nodes.{node_of}
+use Rattle.pl_planner.proofs.Pipelines.{graph-at, is-pipeline}
+use Rattle.pl_daily.specs.Terms.{pipeline_at}
+use Rattle.pl_daily.proofs.Placed.{cells_at, moment_of, row_at, stands_at}
+use Rattle.pl_daily.proofs.terms.term_row.Goals as goal
+
+pub fill_row-requires-clause-turn : goal.fill_row-requires-clause-turn
+fill_row-requires-clause-turn c =
+    let l = c.args.lent.now in
+    let k = c.args.term.0 in
+    let n = c.node.result.now in
+    let next = c.requires.placed.0 in
+    let days = c.requires.placed.1 in
+    let fits : FitsSigned w32 c.args.lent.now.day = search rules in
+    let at = graph-at l.checked.now.graph k n (ap (λ g. slice_get g k) (sym c.graph-graph.ensures.value) ∙ c.node.ensures) in (
+      moment_of l next days,
+      stands_at l c.args.terms c.args.term c.node.result c.deref.result _ c.args.start.now (to_z-of_z w32 l.day fits) c.deref.ensures.value c.requires.start c.requires.terms
+          c.graph-graph.ensures.checked c.requires.used at (omega (arith, c.len-assets.ensures.length, c.len-assets.ensures.few)) c.len-labels.ensures.labels next days c.requires.placed.2,
+    )
+
+pub fill_row-requires-clause-first : goal.fill_row-requires-clause-first
+fill_row-requires-clause-first c =
+    let l = c.args.lent.now in
+    let k = c.args.term.0 in
+    let n = c.node.result.now in
+    let at = graph-at l.checked.now.graph k n (ap (λ g. slice_get g k) (sym c.graph-graph.ensures.value) ∙ c.node.ensures) in
+    let w : (node_of n).window ≤ 1260 = ((is-pipeline (pipeline_at l) c.graph-graph.ensures.checked).windows k (node_of n) at).1 in
+    omega (arith, w, c.requires.first)
+
+pub fill_row-requires-clause-second : goal.fill_row-requires-clause-second
+fill_row-requires-clause-second c =
+    let l = c.args.lent.now in
+    let k = c.args.term.0 in
+    let n = c.node.result.now in
+    let at = graph-at l.checked.now.graph k n (ap (λ g. slice_get g k) (sym c.graph-graph.ensures.value) ∙ c.node.ensures) in
+    let w : (node_of n).window ≤ 1260 = ((is-pipeline (pipeline_at l) c.graph-graph.ensures.checked).windows k (node_of n) at).1 in
+    omega (arith, w, c.requires.second)
+
+pub fill_row-requires-clause-third : goal.fill_row-requires-clause-third
+fill_row-requires-clause-third c =
+    let l = c.args.lent.now in
+    let k = c.args.term.0 in
+    let n = c.node.result.now in
+    let at = graph-at l.checked.now.graph k n (ap (λ g. slice_get g k) (sym c.graph-graph.ensures.value) ∙ c.node.ensures) in
+    let w : (node_of n).window ≤ 1260 = ((is-pipeline (pipeline_at l) c.graph-graph.ensures.checked).windows k (node_of n) at).1 in
+    omega (arith, w, c.requires.third)
+
+pub returns-clause-row : goal.returns-clause-row
+returns-clause-row c =
+    let l = c.args.lent.now in
+    let k = c.args.term.0 in
+    let n = c.node.result.now in
+    let fits : FitsSigned w32 c.args.lent.now.day = search rules in
+    let at = graph-at l.checked.now.graph k n (ap (λ g. slice_get g k) (sym c.graph-graph.ensures.value) ∙ c.node.ensures) in
+    row_at l c.args.terms c.args.term c.node.result c.deref.result _ c.args.start.now (to_z-of_z w32 l.day fits) c.deref.ensures.value c.requires.start c.requires.terms
+    c.graph-graph.ensures.checked c.requires.used at (omega (arith, c.len-assets.ensures.length, c.len-assets.ensures.few)) c.len-labels.ensures.labels c.fill_row.new.out c.fill_row.ensures.out
+
+pub returns-clause-cells : goal.returns-clause-cells
+returns-clause-cells c =
+    let l = c.args.lent.now in
+    let k = c.args.term.0 in
+    let n = c.node.result.now in
+    let next = c.requires.placed.0 in
+    let days = c.requires.placed.1 in
+    let fits : FitsSigned w32 c.args.lent.now.day = search rules in
+    let at = graph-at l.checked.now.graph k n (ap (λ g. slice_get g k) (sym c.graph-graph.ensures.value) ∙ c.node.ensures) in
+    cells_at l c.args.terms c.args.term c.node.result c.deref.result _ c.args.start.now (to_z-of_z w32 l.day fits) c.deref.ensures.value c.requires.start c.requires.terms
+    c.graph-graph.ensures.checked c.requires.used at (omega (arith, c.len-assets.ensures.length, c.len-assets.ensures.few)) c.len-labels.ensures.labels c.fill_row.new.out c.fill_row.ensures.out next days c.requires.placed.2

@@ -1,0 +1,10 @@
+-- What the code keeps of terms one by one.
+use Rattle.std.specs.Prelude.{ℕ, Bool, if◌then◌else◌, slice_get}
+use Rattle.pl_spec.specs.Term.{Node}
+use Rattle.pl_spec.specs.Table.{Pipeline}
+use Rattle.pl_terms.specs.Uses.{is_used}
+use Rattle.pl_daily.specs.Capacities.{window_if}
+
+-- the window of a used term whose node passes, and 0 for another
+abbrev pub used_window : (Node → Bool) → Pipeline → ℕ → ℕ
+used_window passes p k = if is_used p k then window_if passes (slice_get p.graph k) else 0

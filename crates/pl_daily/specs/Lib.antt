@@ -1,0 +1,10 @@
+pub mod Capacities
+pub mod Daily
+pub mod Inside
+pub mod Kept
+pub mod Reaches
+pub mod Ready
+pub mod Room
+pub mod Steps
+pub mod Terms
+pub mod View

@@ -1,0 +1,193 @@
+//! The memory of a daily evaluation, all of it taken before the first day.
+ghost use Rattle.std.specs.Prelude.{◌≡◌, ◌<◌, ℕ, true, pos, length, replicate, IfOk};
+ghost use Rattle.pl_spec.specs.declared.Frequency.{Frequency};
+ghost use Rattle.pl_terms.specs.Checked.{pipeline_of};
+ghost use Rattle.pl_terms.specs.Uses as uses;
+ghost use Rattle.pl_spec.specs.Rounding.{IsCell};
+ghost use Rattle.pl_values.specs.Arrays.{empty_cell};
+ghost use Rattle.pl_daily.specs.Capacities as spec;
+ghost use Rattle.pl_daily.specs.Room.{AreBegun, AreBegunStarts, HasColumns, IsBegun, IsRoom, no_session};
+ghost use Rattle.pl_daily.specs.Terms.{Downsamples, IsStartRoom};
+
+use crate::capacities::{column_window, count, is_used, node_at, term_window};
+use crate::starts::StartCells;
+use pl_cross::Cross;
+use pl_day_rows::{TermCells, begin_term};
+use pl_fixed::{Column, Memory};
+use pl_rings::Capacities;
+use pl_terms::{Checked, TermId, frequency_of};
+use pl_values::empty_value;
+use std::alloc::Global;
+
+/// How many cells the longest window has.
+const MOST_CELLS: usize = 1_260;
+
+/// Room for a day: cross-sections, three windows of cells, who is kept and a term's row; and by number of the
+/// term a session.
+#[derive(Drop)]
+pub struct Room {
+    pub cross: Cross,
+    pub first: Vec<i64>,
+    pub second: Vec<i64>,
+    pub third: Vec<i64>,
+    pub keep: Vec<i64>,
+    pub out: Vec<i64>,
+    pub sessions: Vec<usize>,
+}
+
+impl Room {
+    /// Room for so many assets and terms. The only error is that there is none.
+    pub fn reserve(alloc: Global, assets: usize, terms: usize) -> Result<Room, Memory>
+        ensures { IfOk result (IsRoom assets terms) }
+    {
+        Ok(Room {
+            cross: Cross::reserve(alloc, assets)?,
+            first: vec![in alloc; 0; MOST_CELLS]?,
+            second: vec![in alloc; 0; MOST_CELLS]?,
+            third: vec![in alloc; 0; MOST_CELLS]?,
+            keep: vec![in alloc; 0; assets]?,
+            out: vec![in alloc; 0; assets]?,
+            sessions: vec![in alloc; 0; terms]?,
+        })
+    }
+}
+
+/// How many sessions the rings of each bar column need.
+pub(crate) fn column_windows(checked: &Checked) -> Capacities
+    ensures { HasColumns (pipeline_of checked.now) result }
+{
+    Capacities {
+        open_price: column_window(checked, Column::OpenPrice),
+        high: column_window(checked, Column::High),
+        low: column_window(checked, Column::Low),
+        close: column_window(checked, Column::Close),
+        volume: column_window(checked, Column::Volume),
+    }
+}
+
+// How many cells a term has in a row: one for each asset where it is used, and else none.
+fn cell_count(checked: &Checked, assets: usize, k: usize) -> usize
+    requires { k < length (pipeline_of checked.now).graph }
+    ensures { uses.is_used (pipeline_of checked.now) k ≡ true → result ≡ assets }
+{
+    if is_used(checked, k) { assets } else { 0 }
+}
+
+// What a term has for an asset that is not kept.
+fn none_of(checked: &Checked, k: usize) -> i64
+    requires { k < length (pipeline_of checked.now).graph }
+    ensures value { result ≡ empty_cell (pipeline_of checked.now) k }
+    ensures cell { IsCell result }
+{
+    let _terms = count(checked);
+    empty_value(checked.graph(), TermId(k as u8))
+}
+
+// How many sessions the rings of a term need.
+fn ring_size(checked: &Checked, k: usize) -> usize
+    requires { k < length (pipeline_of checked.now).graph }
+    ensures { result ≡ spec.term_window (pipeline_of checked.now) k }
+{
+    let _terms = count(checked);
+    term_window(checked, TermId(k as u8))
+}
+
+// What is held of a term before the first day.
+fn begin_one(alloc: Global, checked: &Checked, assets: usize, k: usize) -> Result<TermCells, Memory>
+    requires { k < length (pipeline_of checked.now).graph }
+    ensures { IfOk result (IsBegun assets (pipeline_of checked.now) k) }
+{
+    let cells = cell_count(checked, assets, k);
+    begin_term(alloc, cells, ring_size(checked, k), none_of(checked, k))
+}
+
+/// What is held of all terms before the first day.
+pub(crate) fn begin_terms(
+    alloc: Global,
+    checked: &Checked,
+    assets: usize,
+) -> Result<Vec<TermCells>, Memory>
+    ensures { IfOk result (λ terms. AreBegun assets (pipeline_of checked.now)
+        (length (pipeline_of checked.now).graph) terms.items) }
+{
+    let mut terms = Vec::new(alloc);
+    for k in 0..count(checked) {
+        let term = begin_one(alloc, checked, assets, k)?;
+        terms.push(term)?;
+    }
+    Ok(terms)
+}
+
+// Whether a term is used and downsampled.
+fn is_downsampled(checked: &Checked, k: usize) -> bool
+    requires { k < length (pipeline_of checked.now).graph }
+    ensures { (f : Frequency) (u : ℕ) → Downsamples (pipeline_of checked.now) k f u → result ≡ true }
+{
+    let node = node_at(checked, k);
+    frequency_of(&node.kind).is_some()
+}
+
+// How many cells are held for the start of a term: one for each asset where it is used and downsampled.
+fn start_count(checked: &Checked, assets: usize, k: usize) -> usize
+    requires { k < length (pipeline_of checked.now).graph }
+    ensures { (f : Frequency) (u : ℕ) → Downsamples (pipeline_of checked.now) k f u → result ≡ assets }
+{
+    if is_downsampled(checked, k) {
+        assets
+    } else {
+        0
+    }
+}
+
+// So many cells of 0.
+fn zero_row(alloc: Global, cells: usize) -> Result<Vec<i64>, Memory>
+    ensures { IfOk result (λ row. row.items ≡ replicate cells (pos 0)) }
+{
+    let mut row = Vec::new(alloc);
+    for _ in 0..cells {
+        row.push(0)?;
+    }
+    Ok(row)
+}
+
+// What is held for the start of a term before the first day.
+fn begin_start(
+    alloc: Global,
+    checked: &Checked,
+    assets: usize,
+    k: usize,
+) -> Result<StartCells, Memory>
+    requires { k < length (pipeline_of checked.now).graph }
+    ensures { IfOk result (IsStartRoom assets (pipeline_of checked.now) k) }
+{
+    let row = zero_row(alloc, start_count(checked, assets, k))?;
+    Ok(StartCells { row, session: 0 })
+}
+
+/// What is held for the starts of all terms before the first day.
+pub(crate) fn begin_starts(
+    alloc: Global,
+    checked: &Checked,
+    assets: usize,
+) -> Result<Vec<StartCells>, Memory>
+    ensures { IfOk result (λ starts. AreBegunStarts assets (pipeline_of checked.now)
+        (length (pipeline_of checked.now).graph) starts.items) }
+{
+    let mut starts = Vec::new(alloc);
+    for k in 0..count(checked) {
+        let start = begin_start(alloc, checked, assets, k)?;
+        starts.push(start)?;
+    }
+    Ok(starts)
+}
+
+/// No term has its first session.
+pub(crate) fn begin_since(alloc: Global, terms: usize) -> Result<Vec<Option<usize>>, Memory>
+    ensures { IfOk result (λ since. since.items ≡ replicate terms no_session) }
+{
+    let mut since = Vec::new(alloc);
+    for _ in 0..terms {
+        since.push(None)?;
+    }
+    Ok(since)
+}

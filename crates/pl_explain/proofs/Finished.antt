@@ -1,0 +1,253 @@
+-- What the functions of a walk leave, from what those that they call leave.
+use Rattle.std.proofs.Common.{◌≡◌, ℕ, zero, suc, ◌+◌, ◌<◌, ◌≤◌, ◌==◌, Bool, true, false, ℤ, pos, ◌≤ℤ◌, All, List, [], ◌∷◌, ◌++◌, length, map, take, drop, get_or, Option, Some, None, option_map, unwrap_or, is_some, slice_get, Result, Ok, Err, OnOk, refl, sym, ◌∙◌, ap, subst, arith}
+use Rattle.std.specs.List.{list_any}
+use Rattle.std.specs.Int.RustNames.{int_lt}
+use Rattle.std.proofs.lemmas.Int.{ints}
+use Rattle.std.proofs.lemmas.Bool.{true≢false, and_parts, and_from, or_left, or_right, eq-eqb}
+use Rattle.std.proofs.lemmas.List.{take_more, take-append-drop, map-append}
+use Rattle.std.proofs.lemmas.Option.{slice_get_within, slice_get-get_or, get_or_from_slice_get}
+use Rattle.pl_spec.specs.declared.AssetRow.{AssetRow}
+use Rattle.pl_spec.specs.declared.Column.{Column}
+use Rattle.pl_spec.specs.Rounding.{IsCell}
+use Rattle.pl_spec.specs.Parts.{sid_at}
+use Rattle.pl_spec.specs.World.{World as SpecWorld, exists, bar_cell}
+use Rattle.pl_spec.specs.Window.{Effect, effects}
+use Rattle.pl_spec.specs.Term.{term_at}
+use Rattle.pl_spec.specs.Graph.{reach}
+use Rattle.pl_terms.specs.declared.node.Node.{Node}
+use Rattle.pl_terms.specs.Checked.{Parts, pipeline_of, IsChecked}
+use Rattle.pl_terms.specs.Kinds.{kind_of}
+use Rattle.pl_terms.specs.Nodes.{graph_of, number_of}
+use Rattle.pl_terms.specs.Uses.{is_used}
+use Rattle.pl_cross.specs.Arrays.{HasTexts}
+use Rattle.pl_cross.specs.Section.{is_section}
+use Rattle.pl_lines.specs.declared.line.Line.{Line}
+use Rattle.pl_lines.specs.Listed.{line_of}
+use Rattle.pl_lines.specs.Lines.Line.{SeenLine, ValueLine}
+use Rattle.pl_lines.specs.Texts.{AreCells, AreWritable, IsWritable, MOST_LINES}
+use Rattle.pl_lines.proofs.Each.{Each, each_front, each_back, each_of_map, each_at}
+use Rattle.pl_facts.specs.Facts.{Fact, number_in, number_facts, premises}
+use Rattle.pl_facts.specs.Facts.Fact.{Seen, Worth}
+use Rattle.pl_facts.specs.Laws as laws
+use Rattle.pl_facts.specs.Right.{after_each, has_sid, is_fitting, seen_cells}
+use Rattle.pl_facts.specs.Walks.{is_in, line_for, depth_of, derivation}
+use Rattle.pl_facts.proofs.Walking.{complete}
+use Rattle.pl_model.specs.declared.world.World.{World}
+use Rattle.pl_model.specs.Worlds.{world_of, PartsMakeAWorld}
+use Rattle.pl_told.specs.declared.fact.Fact as code
+use Rattle.pl_told.specs.declared.told.Told.{Told}
+use Rattle.pl_told.specs.declared.rows.Rows.{Rows}
+use Rattle.pl_told.specs.Keys.{fact_of}
+use Rattle.pl_told.specs.Looking.{row_at}
+use Rattle.pl_step.specs.Given.{facts_read, given, has, has_all, mask_passes, KeepsRows}
+use Rattle.pl_step.proofs.Given.{given-yes}
+use Rattle.pl_step.proofs.Values.{premises-front, premises-kept, premises-barred, read-section}
+use Rattle.pl_explain.specs.declared.walk.Walk.{Walk}
+use Rattle.pl_explain.specs.Judging.{IsTable}
+use Rattle.pl_explain.specs.Walking.{CanStand, CanStandIn, HasWalked, StandsIn, Finishes, IsTooLong, IsTellingOf}
+use Rattle.pl_explain.proofs.Behind.{premises-stand, sessions-held}
+use Rattle.pl_explain.proofs.Standing.{stands-more}
+use Rattle.pl_explain.proofs.Walks.{walk-none, walk-both, walk-tells, walk-more, long-front, long-back, long-first, long-last, deeper, deeper-long}
+
+-- ---- results
+
+pub ok-three : {T E P Q R S : Type 0} (r : Result T E) → (P → Q → R → S) → OnOk r P → OnOk r Q → OnOk r R → OnOk r S
+ok-three (Ok x) f p q s = f p q s
+ok-three (Err e) f p q s = tt
+
+pub ok-four : {T E P Q R V S : Type 0} (r : Result T E) → (P → Q → R → V → S) → OnOk r P → OnOk r Q → OnOk r R → OnOk r V → OnOk r S
+ok-four (Ok x) f p q s v = f p q s v
+ok-four (Err e) f p q s v = tt
+
+pub ok-any : {T E P : Type 0} (r : Result T E) → P → OnOk r P
+ok-any (Ok x) p = p
+ok-any (Err e) p = tt
+
+-- what a walk has finished is told
+pub told-now : (w : World) (c : Parts) (t : ℕ) (old new : Walk) (fs : List Fact) → StandsIn w c old → Finishes w c (t + 1) old new fs → has_all new.told fs ≡ true
+told-now w c t old new fs from first = let one : t + 1 ≡ suc t = omega arith in walk-tells w c t old new fs from (subst (λ k. Finishes w c k old new fs) one first)
+
+-- ---- facts, one by one
+
+module _ (facts : List code.Fact) (i : ℕ) (f : code.Fact) (at : slice_get facts i ≡ Some f) where
+  pub passed-more : map fact_of (take (i + 1) facts) ≡ map fact_of (take i facts) ++ fact_of f ∷ []
+  passed-more =
+      ap (map fact_of) (take_more facts i f (slice_get_within facts i f at)) ∙ map-append fact_of (take i facts) (get_or facts i f ∷ [])
+      ∙ ap (λ x. map fact_of (take i facts) ++ fact_of x ∷ []) (get_or_from_slice_get facts i f f at)
+
+  pub passed-rest : map fact_of facts ≡ (map fact_of (take i facts) ++ fact_of f ∷ []) ++ map fact_of (drop (i + 1) facts)
+  passed-rest =
+      ap (map fact_of) (sym (take-append-drop (i + 1) facts)) ∙ map-append fact_of (take (i + 1) facts) (drop (i + 1) facts)
+      ∙ ap (λ l. l ++ map fact_of (drop (i + 1) facts)) passed-more
+
+  module _ (w : World) (c : Parts) (most : ℕ) where
+    pub all-stand : Each (CanStandIn w c most) (map fact_of facts) → CanStandIn w c most (fact_of f)
+    all-stand h = each_at (λ x. CanStandIn w c most (fact_of x)) facts i f (each_of_map (CanStandIn w c most) fact_of facts h) at
+
+    module _ (old mid : Walk) (low : depth_of (fact_of f) ≤ most) (first : Finishes w c most old mid (map fact_of (take i facts))) where
+      pub all-more : (new : Walk) → Finishes w c (depth_of (fact_of f)) mid new (fact_of f ∷ []) → Finishes w c most old new (map fact_of (take (i + 1) facts))
+      all-more new next = subst (λ fs. Finishes w c most old new fs) (sym passed-more)
+          (walk-both w c most old mid new (map fact_of (take i facts)) (fact_of f ∷ []) first (deeper w c (depth_of (fact_of f)) most mid new (fact_of f ∷ []) low next))
+
+      pub all-long : IsTooLong w c (depth_of (fact_of f)) mid (fact_of f ∷ []) → IsTooLong w c most old (map fact_of facts)
+      all-long long = subst (λ fs. IsTooLong w c most old fs) (sym passed-rest)
+          (long-front w c most old (map fact_of (take i facts) ++ fact_of f ∷ []) (map fact_of (drop (i + 1) facts))
+          (long-back w c most old mid (map fact_of (take i facts)) (fact_of f ∷ []) first (deeper-long w c (depth_of (fact_of f)) most mid (fact_of f ∷ []) low long)))
+
+-- ---- lines
+
+pub cells-all : (xs : List ℤ) → All IsCell xs → AreCells xs
+cells-all [] h = tt
+cells-all (x ∷ xs) h = (h 0 x (omega arith), cells-all xs (λ k d l. h (suc k) d (omega (arith, l))))
+
+some-after : (x : ℤ) (fs : List Effect) → 1 ≤ length (after_each x fs)
+some-after x [] = omega arith
+some-after x (f ∷ fs) = omega arith
+
+pub some-cells : (w : SpecWorld) (a : ℕ) (k : Column) (s d : ℤ) → 1 ≤ length (seen_cells w a k s d)
+some-cells w a k s d = some-after (bar_cell w a k s) (effects w a k s d)
+
+module _ (w : World) (c : Parts) where
+  pub value-line : (t a d : ℕ) (day x : ℤ) → slice_get w.sessions.now d ≡ Some day → x ≡ number_in (world_of w) (pipeline_of c) (Worth t a (pos d))
+      → ValueLine t a day x ≡ line_for (world_of w) (pipeline_of c) (Worth t a (pos d))
+  value-line t a d day x at is =
+      ap (λ y. ValueLine t a day y) is ∙ ap (λ o. ValueLine t a (unwrap_or o (pos 0)) (number_in (world_of w) (pipeline_of c) (Worth t a (pos d)))) (sym at)
+
+  pub bar-line : (k : Column) (a s d : ℕ) (bar_day day : ℤ) (cells : List ℤ) → slice_get w.sessions.now s ≡ Some bar_day → slice_get w.sessions.now d ≡ Some day
+      → cells ≡ seen_cells (world_of w) a k (pos s) (pos d) → SeenLine k a bar_day day cells ≡ line_for (world_of w) (pipeline_of c) (Seen k a (pos s) (pos d))
+  bar-line k a s d bar_day day cells at_bar at is =
+      ap (λ y. SeenLine k a bar_day day y) is ∙ ap (λ o. SeenLine k a bar_day (unwrap_or o (pos 0)) (seen_cells (world_of w) a k (pos s) (pos d))) (sym at)
+      ∙ ap (λ o. SeenLine k a (unwrap_or o (pos 0)) (unwrap_or (slice_get w.sessions.now d) (pos 0)) (seen_cells (world_of w) a k (pos s) (pos d))) (sym at_bar)
+
+-- ---- bars that may stand
+
+less-of : (s d : ℕ) → int_lt (pos s) (pos d) ≡ true → s < d
+less-of s d h = grind (arith, ints)
+
+module _ (w : World) (c : Parts) (k : Column) (a s d : ℕ) (h : CanStand w c (Seen k a (pos s) (pos d))) where
+  pub seen-sid : has_sid (world_of w) a ≡ true
+  seen-sid = (and_parts (has_sid (world_of w) a) (int_lt (pos s) (pos d)) h.0).0
+
+  pub seen-earlier : s < d
+  seen-earlier = less-of s d (and_parts (has_sid (world_of w) a) (int_lt (pos s) (pos d)) h.0).1
+
+  pub seen-day : d < length w.sessions.now
+  seen-day = let l = slice_get_within w.sessions.now h.2.0 h.2.1 h.2.3 in let e : pos d ≡ pos h.2.0 = h.2.2 in omega (arith, ints, l, e)
+
+-- ---- a walk with other rows
+
+module _ (w : World) (c : Parts) (mid new : Walk) (same : new.told ≡ mid.told) (lines : new.lines ≡ mid.lines) where
+  items : new.lines.items ≡ mid.lines.items
+  items = ap (λ v. v.items) lines
+
+  other-walked : (facts : List Fact) → HasWalked w c mid facts → HasWalked w c new facts
+  other-walked facts h = record {
+    told = subst (λ (t : Told). (f : Fact) → has t f ≡ is_in facts f) (sym same) h.told;
+    lines = subst (λ (ls : List Line). map line_of ls ≡ map (line_for (world_of w) (pipeline_of c)) facts) (sym items) h.lines;
+  }
+
+  pub other-finished : (most : ℕ) (old : Walk) (fs : List Fact) → Finishes w c most old mid fs → Finishes w c most old new fs
+  other-finished most old fs first facts h depth l = other-walked _ (first facts h depth l)
+
+  pub other-stands : StandsIn w c mid → KeepsRows w c mid.told new.rows → StandsIn w c new
+  other-stands h kept = record {
+    facts = h.facts;
+    walked = other-walked h.facts h.walked;
+    table = subst (λ (t : Told). IsTable w c t new.rows) (sym same) (record { truth = h.table.truth; fits = h.table.fits; kept = kept });
+    writable = subst (λ (ls : List Line). AreWritable (map line_of ls)) (sym items) h.writable;
+    few = subst (λ (ls : List Line). length ls ≤ MOST_LINES) (sym items) h.few;
+  }
+
+-- ---- a fact that is put behind its premises
+
+abbrev own_of : World → Parts → Fact → List Fact
+own_of w c f = premises (world_of w) (pipeline_of c) (number_in (world_of w) (pipeline_of c)) f
+
+module _ (w : World) (c : Parts) (most : ℕ) (f : Fact) (old mid new : Walk) (fresh : has old.told f ≡ false) (first : Finishes w c most old mid (own_of w c f))
+    (line : Line) (x : ℤ) (is : line_of line ≡ line_for (world_of w) (pipeline_of c) f) where
+  module _ (deep : ℕ) (depth : suc most ≤ deep) where
+    pub put-finished : {T E : Type 0} (r : Result T E) → OnOk r (IsTellingOf f x mid.told new.told) → OnOk r (new.lines.items ≡ mid.lines.items ++ line ∷ []) → OnOk r (Finishes w c deep old new (f ∷ []))
+    put-finished r tells put = ok-three r (λ t p _. deeper w c (suc most) deep old new (f ∷ []) depth (walk-more w c most f old fresh mid new line x t p is first)) tells put put
+
+  pub put-stands : {T E : Type 0} (r : Result T E) → StandsIn w c old → StandsIn w c mid → IsWritable (line_of line) → x ≡ number_in (world_of w) (pipeline_of c) f → IsCell x
+      → is_fitting (world_of w) (pipeline_of c) f ≡ true → new.rows ≡ mid.rows
+      → OnOk r (IsTellingOf f x mid.told new.told) → OnOk r (new.lines.items ≡ mid.lines.items ++ line ∷ []) → OnOk r (length new.lines.items ≤ MOST_LINES) → OnOk r (StandsIn w c new)
+  put-stands r from stands text value cell fits rows tells put few = ok-three r
+      (λ t p l. stands-more w c most f old mid new line x from fresh first stands t p is text (subst (λ (q : Rows). IsTable w c mid.told q) (sym rows) stands.table) value cell fits l) tells put few
+
+-- where there is no room for its premises
+module _ (w : World) (c : Parts) (t a d : ℕ) (old : Walk) (fresh : has old.told (Worth t a (pos d)) ≡ false) where
+  pub own-long : IsTooLong w c (t + 1) old (own_of w c (Worth t a (pos d))) → IsTooLong w c (t + 2) old (Worth t a (pos d) ∷ [])
+  own-long long = deeper-long w c (suc (t + 1)) (t + 2) old (Worth t a (pos d) ∷ []) (omega arith) (long-first w c (t + 1) (Worth t a (pos d)) old fresh long)
+
+-- where there is no room for it
+module _ (w : World) (c : Parts) (most : ℕ) (f : Fact) (old mid : Walk) (fresh : has old.told f ≡ false) (first : Finishes w c most old mid (own_of w c f)) (deep : ℕ) (depth : suc most ≤ deep) where
+  pub put-long : length mid.lines.items ≡ MOST_LINES → IsTooLong w c deep old (f ∷ [])
+  put-long full = deeper-long w c (suc most) deep old (f ∷ []) depth (long-last w c most f old fresh mid first full)
+
+-- ---- premises
+
+module _ (w : World) (c : Parts) (ok : IsChecked (pipeline_of c)) (t : ℕ) (n : Node) (is : slice_get c.graph t ≡ Some n) (a s : ℕ) (known : HasTexts (world_of w))
+    (there : exists (world_of w) a (pos s) ≡ true) where
+  abbrev own : List Fact
+  own = own_of w c (Worth t a (pos s))
+
+  abbrev mask : List Fact
+  mask = number_facts a (pos s) (option_map number_of n.mask)
+
+  front : (rest : List Fact) × (own ≡ mask ++ rest)
+  front = premises-front w c ok t n is a s known there
+
+  pub mask-stands : CanStand w c (Worth t a (pos s)) → Each (CanStandIn w c (t + 1)) mask
+  mask-stands h = each_front (CanStandIn w c (t + 1)) mask front.0 (subst (λ fs. Each (CanStandIn w c (t + 1)) fs) front.1 (premises-stand w c ok t a s h))
+
+  pub mask-long : (old : Walk) → IsTooLong w c (t + 1) old mask → IsTooLong w c (t + 1) old own
+  mask-long old long = subst (λ fs. IsTooLong w c (t + 1) old fs) (sym front.1) (long-front w c (t + 1) old mask front.0 long)
+
+  pub facts-stand : mask_passes w c n.mask a s ≡ true → CanStand w c (Worth t a (pos s)) → Each (CanStandIn w c (t + 1)) (facts_read w c t a s)
+  facts-stand passed h =
+      each_back (CanStandIn w c (t + 1)) mask (facts_read w c t a s)
+      (subst (λ fs. Each (CanStandIn w c (t + 1)) fs) (premises-kept w c ok t n is a s known there passed) (premises-stand w c ok t a s h))
+
+  module _ (old mid : Walk) (first : Finishes w c (t + 1) old mid mask) where
+    pub mask-read : (from : StandsIn w c old) (o : Option Bool) → o ≡ given mid.told mask (mask_passes w c n.mask a s) → o ≡ Some (mask_passes w c n.mask a s)
+    mask-read from o e = e ∙ given-yes mid.told mask (mask_passes w c n.mask a s) (told-now w c t old mid mask from first)
+
+    pub stopped-finished : mask_passes w c n.mask a s ≡ false → Finishes w c (t + 1) old mid own
+    stopped-finished barred = subst (λ fs. Finishes w c (t + 1) old mid fs) (sym (premises-barred w c ok t n is a s known there barred)) (walk-both w c (t + 1) old mid mid mask [] first (walk-none w c (t + 1) mid))
+
+    pub passed-finished : mask_passes w c n.mask a s ≡ true → (new : Walk) → Finishes w c (t + 1) mid new (facts_read w c t a s) → Finishes w c (t + 1) old new own
+    passed-finished passed new next = subst (λ fs. Finishes w c (t + 1) old new fs) (sym (premises-kept w c ok t n is a s known there passed)) (walk-both w c (t + 1) old mid new mask (facts_read w c t a s) first next)
+
+    pub passed-long : mask_passes w c n.mask a s ≡ true → IsTooLong w c (t + 1) mid (facts_read w c t a s) → IsTooLong w c (t + 1) old own
+    passed-long passed long = subst (λ fs. IsTooLong w c (t + 1) old fs) (sym (premises-kept w c ok t n is a s known there passed)) (long-back w c (t + 1) old mid mask (facts_read w c t a s) first long)
+
+-- what a cross-section reads is told where its row is kept
+pub whole-told : (w : World) (c : Parts) (ok : IsChecked (pipeline_of c)) (t : ℕ) (n : Node) (is : slice_get c.graph t ≡ Some n) → is_section (kind_of n.kind) ≡ true
+    → (told : Told) (rows : Rows) → KeepsRows w c told rows → (s : ℕ) → is_some (row_at rows t s) ≡ true → (a : ℕ) → has_all told (facts_read w c t a s) ≡ true
+whole-told w c ok t n is section told rows kept s e a = here (row_at rows t s) refl e
+  where
+    here : (o : Option (List ℤ)) → row_at rows t s ≡ o → is_some o ≡ true → has_all told (facts_read w c t a s) ≡ true
+    here None at e = absurd (true≢false (sym e))
+    here (Some row) at e = ap (has_all told) (read-section w c ok t n is a s section) ∙ (kept t s row at).stand n is
+
+-- ---- the value that is asked for
+
+sid-known : (assets : List AssetRow) (col : ℕ) → col < length assets → list_any (λ (x : AssetRow). x.sid == sid_at assets col) assets ≡ true
+sid-known [] col l = absurd (omega (arith, l))
+sid-known (x ∷ xs) zero l = or_left (x.sid == x.sid) (list_any (λ (y : AssetRow). y.sid == x.sid) xs) (eq-eqb x.sid x.sid refl)
+sid-known (x ∷ xs) (suc i) l = or_right (x.sid == sid_at xs i) (list_any (λ (y : AssetRow). y.sid == sid_at xs i) xs) (sid-known xs i (omega (arith, l)))
+
+module _ (w : World) (c : Parts) (t col d : ℕ) (used : is_used (pipeline_of c) t ≡ true) (place : col < length w.assets.now) (session : d < length w.sessions.now)
+    (reached : pos 0 ≤ℤ reach w.sessions.now (term_at (graph_of c.graph) t) (pos d)) where
+  day : slice_get w.sessions.now d ≡ Some (get_or w.sessions.now d (pos 0))
+  day = slice_get-get_or w.sessions.now d (pos 0) session
+
+  pub asked-stands : CanStand w c (Worth t (sid_at w.assets.now col) (pos d))
+  asked-stands = (and_from (has_sid (world_of w) (sid_at w.assets.now col)) (is_used (pipeline_of c) t) (sid-known w.assets.now col place) used, (d, get_or w.sessions.now d (pos 0), refl, day), reached)
+
+  pub asked-right : IsChecked (pipeline_of c) → HasTexts (world_of w) → PartsMakeAWorld w
+      → laws.IsDerivation (world_of w) (pipeline_of c) t (sid_at w.assets.now col) d (derivation (world_of w) (pipeline_of c) t (sid_at w.assets.now col) (pos d))
+  asked-right checked known made =
+      complete (world_of w) (pipeline_of c) made.world known checked.graph (sessions-held c checked) t (sid_at w.assets.now col) d
+      (record { used = used; known = sid-known w.assets.now col place; day = get_or w.sessions.now d (pos 0); session = day; reached = reached })

@@ -1,0 +1,66 @@
+-- What a walk leaves, and what it has put down at the end.
+use Rattle.std.proofs.Common.{◌≡◌, ℕ, suc, ◌+◌, ◌<◌, ◌≤◌, true, false, ℤ, pos, List, [], ◌∷◌, ◌++◌, length, map, fold, is_some, None, sym, ◌∙◌, ap, subst, arith}
+use Rattle.std.proofs.lemmas.List.{map-append}
+use Rattle.pl_spec.specs.Rounding.{IsCell}
+use Rattle.pl_terms.specs.Checked.{Parts, pipeline_of}
+use Rattle.pl_model.specs.declared.world.World.{World}
+use Rattle.pl_model.specs.Worlds.{world_of}
+use Rattle.pl_lines.specs.declared.line.Line.{Line}
+use Rattle.pl_lines.specs.Listed.{line_of}
+use Rattle.pl_lines.specs.Texts.{AreWritable, IsWritable, MOST_LINES}
+use Rattle.pl_facts.specs.Facts.{Fact, number_in, premises}
+use Rattle.pl_facts.specs.Facts.Fact.{Worth}
+use Rattle.pl_facts.specs.Right.{is_fitting}
+use Rattle.pl_facts.specs.Walks.{finish, facts_for, line_for, derivation}
+use Rattle.pl_told.specs.Looking.{look, row_at}
+use Rattle.pl_step.specs.Given.{has}
+use Rattle.pl_explain.specs.declared.walk.Walk.{Walk}
+use Rattle.pl_explain.specs.Judging.{IsTable}
+use Rattle.pl_explain.specs.Walking.{HasWalked, StandsIn, Finishes, IsTooLong, IsTellingOf}
+use Rattle.pl_explain.proofs.Judging.{table-more}
+use Rattle.pl_explain.proofs.Walks.{writable-more, walk-more}
+
+module _ (w : World) (c : Parts) where
+  -- a walk that has put down one fact more stands
+  pub stands-more : (most : ℕ) (f : Fact) (old mid new : Walk) (line : Line) (x : ℤ) → StandsIn w c old → has old.told f ≡ false
+      → Finishes w c most old mid (premises (world_of w) (pipeline_of c) (number_in (world_of w) (pipeline_of c)) f)
+      → StandsIn w c mid → IsTellingOf f x mid.told new.told → new.lines.items ≡ mid.lines.items ++ line ∷ []
+      → line_of line ≡ line_for (world_of w) (pipeline_of c) f → IsWritable (line_of line) → IsTable w c mid.told new.rows
+      → x ≡ number_in (world_of w) (pipeline_of c) f → IsCell x → is_fitting (world_of w) (pipeline_of c) f ≡ true → length new.lines.items ≤ MOST_LINES
+      → StandsIn w c new
+  stands-more most f old mid new line x from fresh first stands tells put is text table value cell fits few = record {
+    facts = fold (finish (world_of w) (pipeline_of c) (suc most)) from.facts (f ∷ []);
+    walked = walk-more w c most f old fresh mid new line x tells put is first from.facts from.walked (suc most) (omega arith);
+    table = table-more f x mid.told new.told tells w c new.rows table value cell fits;
+    writable = subst AreWritable (sym (ap (map line_of) put ∙ map-append line_of mid.lines.items (line ∷ []))) (writable-more (map line_of mid.lines.items) (line_of line) stands.writable text);
+    few = few;
+  }
+
+  -- before the first fact
+  module _ (walk : Walk) (told : (f : Fact) → look walk.told f ≡ None) (rows : (t d : ℕ) → row_at walk.rows t d ≡ None) (none : walk.lines.items ≡ []) where
+    pub walked-none : HasWalked w c walk []
+    walked-none = record { told = λ f. ap is_some (told f); lines = ap (map line_of) none }
+
+    pub stands-first : StandsIn w c walk
+    stands-first = record {
+      facts = [];
+      walked = walked-none;
+      table = record {
+        truth = λ f x e. absurd (let bad = sym (told f) ∙ e in cc);
+        fits = λ f e. absurd (let bad = sym (ap is_some (told f)) ∙ e in cc);
+        kept = λ t d row e. absurd (let bad = sym (rows t d) ∙ e in cc);
+      };
+      writable = subst (λ ls. AreWritable (map line_of ls)) (sym none) tt;
+      few = (let e = ap (λ (ls : List Line). length ls) none in omega (arith, e));
+    }
+
+    -- at the end the lines are the derivation
+    pub derived : (t a d : ℕ) (new : Walk) → Finishes w c (t + 2) walk new (Worth t a (pos d) ∷ []) → map line_of new.lines.items ≡ derivation (world_of w) (pipeline_of c) t a (pos d)
+    derived t a d new done =
+        let deep : t + 2 ≡ suc (suc t) = omega arith in
+        (done [] walked-none (t + 2) (omega arith)).lines ∙ ap (λ k. map (line_for (world_of w) (pipeline_of c)) (finish (world_of w) (pipeline_of c) k [] (Worth t a (pos d)))) deep
+
+    pub derived-long : (t a d : ℕ) → IsTooLong w c (t + 2) walk (Worth t a (pos d) ∷ []) → MOST_LINES < length (facts_for (world_of w) (pipeline_of c) (Worth t a (pos d)))
+    derived-long t a d long =
+        let deep : t + 2 ≡ suc (suc t) = omega arith in
+        subst (λ k. MOST_LINES < length (finish (world_of w) (pipeline_of c) k [] (Worth t a (pos d)))) deep (long [] walked-none (t + 2) (omega arith))

@@ -1,0 +1,50 @@
+use Rattle.std.proofs.Common.{◌≡◌, ◌∙◌, ap, sym, subst, true, Some, pos, slice_get}
+use Rattle.std.proofs.lemmas.Result.{IfOk-weaker}
+use Rattle.pl_spec.specs.Parts.{sid_at}
+use Rattle.pl_terms.specs.Kinds.{kind_of}
+use Rattle.pl_terms.specs.Sorts.{is_windowed}
+use Rattle.pl_terms.specs.Nodes.{node_of}
+use Rattle.pl_values.specs.Families.{IsOf}
+use Rattle.pl_facts.specs.Facts.{over_inputs, window_facts}
+use Rattle.pl_model.proofs.Asked.{first-asked, second-asked, third-asked}
+use Rattle.pl_model.proofs.Evaluated.{sid-of}
+use Rattle.pl_explain.proofs.Behind.{roomy, windows-read}
+use Rattle.pl_explain.proofs.reads.facts_read.Goals as goal
+
+pub windows_read-requires-clause-first : goal.windows_read-requires-clause-first
+windows_read-requires-clause-first c =
+    let w = c.args.world.now in
+    let p = c.args.checked.now in
+    let s = c.args.session in
+    let n = c.node-node.result.now in
+    let is : slice_get p.graph c.args.t.0 ≡ Some n = ap (λ ns. slice_get ns c.args.t.0) (sym c.graph.ensures.value) ∙ c.node-node.ensures in
+    roomy w p (slice_get n.inputs 0) n.window s (first-asked w p c.graph.ensures.checked c.args.t.0 s c.requires.asked n is)
+
+pub windows_read-requires-clause-second : goal.windows_read-requires-clause-second
+windows_read-requires-clause-second c =
+    let w = c.args.world.now in
+    let p = c.args.checked.now in
+    let s = c.args.session in
+    let n = c.node-node.result.now in
+    let is : slice_get p.graph c.args.t.0 ≡ Some n = ap (λ ns. slice_get ns c.args.t.0) (sym c.graph.ensures.value) ∙ c.node-node.ensures in
+    roomy w p (slice_get n.inputs 1) n.window s (second-asked w p c.graph.ensures.checked c.args.t.0 s c.requires.asked n is)
+
+pub windows_read-requires-clause-third : goal.windows_read-requires-clause-third
+windows_read-requires-clause-third c =
+    let w = c.args.world.now in
+    let p = c.args.checked.now in
+    let s = c.args.session in
+    let n = c.node-node.result.now in
+    let is : slice_get p.graph c.args.t.0 ≡ Some n = ap (λ ns. slice_get ns c.args.t.0) (sym c.graph.ensures.value) ∙ c.node-node.ensures in
+    roomy w p (slice_get n.inputs 2) n.window s (third-asked w p c.graph.ensures.checked c.args.t.0 s c.requires.asked n is)
+
+pub returns-in-Window : goal.returns-in-Window
+returns-in-Window c =
+    let w = c.args.world.now in
+    let p = c.args.checked.now in
+    let s = c.args.session in
+    let n = c.node-node.result.now in
+    let is : slice_get p.graph c.args.t.0 ≡ Some n = ap (λ ns. slice_get ns c.args.t.0) (sym c.graph.ensures.value) ∙ c.node-node.ensures in
+    let kind : is_windowed (kind_of n.kind) ≡ true = subst (IsOf (kind_of n.kind)) c.in-Window.is c.family_of.ensures in
+    let sid = sid-of w.assets.now c.args.col c.sid-sid.result c.sid-sid.ensures in
+    IfOk-weaker c.windows_read.result _ _ (λ v h. h ∙ ap (λ a. over_inputs (window_facts n.window a (pos s)) (node_of n)) sid ∙ windows-read w p c.args.t.0 (sid_at w.assets.now c.args.col) s n is kind) c.windows_read.ensures

@@ -1,0 +1,61 @@
+-- A walk through the premises of facts, and the lines that it has put down.
+use Rattle.std.specs.Prelude.{◌≡◌, ℕ, ◌<◌, ◌≤◌, true, if◌then◌else◌, ℤ, pos, ◌≤ℤ◌, List, length, map, fold, Some}
+use Rattle.pl_spec.specs.World as spec
+use Rattle.pl_spec.specs.World.{day_of}
+use Rattle.pl_spec.specs.Term.{term_at}
+use Rattle.pl_spec.specs.Graph.{reach}
+use Rattle.pl_terms.specs.Checked.{Parts, pipeline_of}
+use Rattle.pl_model.specs.declared.world.World.{World}
+use Rattle.pl_model.specs.Worlds.{world_of}
+use Rattle.pl_lines.specs.Listed.{line_of}
+use Rattle.pl_lines.specs.Texts.{AreWritable, MOST_LINES}
+use Rattle.pl_facts.specs.Facts.{Fact, same_fact}
+use Rattle.pl_facts.specs.Facts.Fact.{Seen, Worth}
+use Rattle.pl_facts.specs.Right.{is_fitting}
+use Rattle.pl_facts.specs.Walks.{is_in, finish, line_for, depth_of}
+use Rattle.pl_told.specs.declared.told.Told.{Told}
+use Rattle.pl_told.specs.Looking.{look}
+use Rattle.pl_step.specs.Given.{has}
+use Rattle.pl_explain.specs.Judging.{IsTable}
+use Rattle.pl_explain.specs.declared.walk.Walk.{Walk}
+
+-- what is told are the facts, and the lines are theirs
+pub record HasWalked (w : World) (c : Parts) (walk : Walk) (facts : List Fact) : Type 0 where
+  pub told : (f : Fact) → has walk.told f ≡ is_in facts f
+  pub lines : map line_of walk.lines.items ≡ map (line_for (world_of w) (pipeline_of c)) facts
+
+-- the walk stands
+pub record StandsIn (w : World) (c : Parts) (walk : Walk) : Type 0 where
+  pub facts : List Fact
+  pub walked : HasWalked w c walk facts
+  pub table : IsTable w c walk.told walk.rows
+  pub writable : AreWritable (map line_of walk.lines.items)
+  pub few : length walk.lines.items ≤ MOST_LINES
+
+-- a session has a day
+abbrev pub HasDay : spec.World → ℤ → Type 0
+HasDay w d = (n : ℕ) × (day : ℤ) × (d ≡ pos n) × (day_of w (pos n) ≡ Some day)
+
+-- the fact may stand in a derivation: it fits, and what it reaches to has days
+abbrev pub CanStand : World → Parts → Fact → Type 0
+CanStand w c (Seen k a s d) = (is_fitting (world_of w) (pipeline_of c) (Seen k a s d) ≡ true) × HasDay (world_of w) s × HasDay (world_of w) d
+CanStand w c (Worth t a d) =
+    (is_fitting (world_of w) (pipeline_of c) (Worth t a d) ≡ true) × HasDay (world_of w) d × (pos 0 ≤ℤ reach (world_of w).days (term_at (pipeline_of c).graph t) d)
+
+-- it may, and is at most so deep
+abbrev pub CanStandIn : World → Parts → ℕ → Fact → Type 0
+CanStandIn w c depth f = CanStand w c f × (depth_of f ≤ depth)
+
+-- behind the facts that it had finished, the walk has finished these, which are at most so deep
+abbrev pub Finishes : World → Parts → ℕ → Walk → Walk → List Fact → Type 0
+Finishes w c most old new fs =
+    (facts : List Fact) → HasWalked w c old facts → (depth : ℕ) → most ≤ depth → HasWalked w c new (fold (finish (world_of w) (pipeline_of c) depth) facts fs)
+
+-- to finish these takes it past the most lines
+abbrev pub IsTooLong : World → Parts → ℕ → Walk → List Fact → Type 0
+IsTooLong w c most old fs =
+    (facts : List Fact) → HasWalked w c old facts → (depth : ℕ) → most ≤ depth → MOST_LINES < length (fold (finish (world_of w) (pipeline_of c) depth) facts fs)
+
+-- the number of a fact is told besides those before
+abbrev pub IsTellingOf : Fact → ℤ → Told → Told → Type 0
+IsTellingOf f x old new = (g : Fact) → look new g ≡ (if same_fact f g then Some x else look old g)

@@ -1,0 +1,416 @@
+//! The derivation of a value.
+ghost use Rattle.std.specs.Prelude.{◌≡◌, ◌<◌, ◌≤◌, ◌≤ℤ◌, ◌∷◌, [], ◌++◌, ◌+◌, IfErr, IfOk, IsTrue, OnOk, false, length, map, pos, true};
+ghost use Rattle.pl_spec.specs.Graph.{reach};
+ghost use Rattle.pl_spec.specs.Parts.{sid_at};
+ghost use Rattle.pl_spec.specs.Rounding.{IsCell};
+ghost use Rattle.pl_spec.specs.Term.{term_at};
+ghost use Rattle.pl_spec.specs.World.{exists};
+ghost use Rattle.pl_facts.specs.Facts.{number_in, premises};
+ghost use Rattle.pl_facts.specs.Facts.Fact.{Seen, Worth};
+ghost use Rattle.pl_facts.specs.Laws.{IsDerivation};
+ghost use Rattle.pl_facts.specs.Walks.{depth_of, derivation, facts_for};
+ghost use Rattle.pl_lines.proofs.Each.{Each};
+ghost use Rattle.pl_lines.specs.Listed.{line_of};
+ghost use Rattle.pl_lines.specs.Texts.{MOST_LINES};
+ghost use Rattle.pl_model.specs.Worlds.{world_of, IsMade};
+ghost use Rattle.pl_model.specs.Evaluations.{cell_in};
+ghost use Rattle.pl_terms.specs.Checked.{pipeline_of};
+ghost use Rattle.pl_terms.specs.Nodes.{graph_of};
+ghost use Rattle.pl_terms.specs.Uses.{is_used};
+ghost use Rattle.pl_step.specs.Given.{facts_read, has, has_all, KeepsRows};
+ghost use Rattle.pl_told.specs.Keys.{fact_of};
+ghost use Rattle.pl_explain.specs.declared.walk.ExplainError.TheVariants.{TooLong};
+ghost use Rattle.pl_explain.specs.Walking.{CanStand, CanStandIn, Finishes, IsTellingOf, IsTooLong, StandsIn};
+
+use crate::judge::{col_of, last_of};
+use crate::reads::{facts_read, mask_read};
+use pl_fixed::{Column, Memory, Steps};
+use pl_lines::{CellList, Derivation, Line, MOST_LINES};
+use pl_model::laws::parts_make_a_world;
+use pl_model::{World, exists};
+use pl_step::{mask_told, seen_cells, value_told};
+use pl_terms::{Checked, TermId};
+use pl_told::{Fact, Rows, Told};
+use pl_values::{Family, family_of};
+use std::alloc::{AllocFailed, Global};
+use std::sync::ledger::Ledger;
+
+/// Why there is no derivation: it has more than 100,000 lines, or memory is wanted.
+#[derive(Clone, Copy, Debug, PartialEq, Eq)]
+pub enum ExplainError {
+    TooLong,
+    Memory,
+}
+
+impl From<Memory> for ExplainError {
+    ghost use Rattle.pl_explain.specs.declared.walk.ExplainError.TheVariants.{Memory};
+
+    ghost from_gives = { λ _ e. e ≡ Memory };
+
+    fn from(_refused: Memory) -> ExplainError {
+        ExplainError::Memory
+    }
+}
+
+impl<T: Drop> From<AllocFailed<T>> for ExplainError {
+    ghost use Rattle.pl_explain.specs.declared.walk.ExplainError.TheVariants.{Memory};
+
+    ghost from_gives = { λ _ e. e ≡ Memory };
+
+    fn from(_failed: AllocFailed<T>) -> ExplainError {
+        ExplainError::Memory
+    }
+}
+
+// What is finished so far: the number of each fact, found by it, and its line.
+#[derive(Drop)]
+struct Walk {
+    told: Told,
+    rows: Rows,
+    lines: Vec<Line>,
+}
+
+/// The derivation of the value of a term for the asset in a column on a session: a line for each of the facts
+/// that it rests on, each once, in the order in which a walk through the premises first finishes them, its
+/// own last. `TooLong` where these are more than 100,000.
+pub fn explain_cell<L: Ledger>(
+    alloc: Global,
+    world: &World,
+    checked: &Checked,
+    t: TermId,
+    col: usize,
+    session: usize,
+    steps: &mut Steps<L>,
+) -> Result<Derivation, ExplainError>
+    requires made { IsMade world.now }
+    requires used { is_used (pipeline_of checked.now) t.0 ≡ true }
+    requires col { col < length world.now.assets.now }
+    requires session { session < length world.now.sessions.now }
+    requires reach { pos 0 ≤ℤ reach world.now.sessions.now
+        (term_at (graph_of checked.now.graph) t.0) (pos session) }
+    ensures exact { IfOk result (λ d. d ≡ derivation (world_of world.now) (pipeline_of checked.now) t.0
+        (sid_at world.now.assets.now col) (pos session)) }
+    ensures few { IfOk result (λ d. length d ≤ MOST_LINES) }
+    ensures long { IfErr result (λ e. e ≡ TooLong → MOST_LINES < length (facts_for (world_of world.now)
+        (pipeline_of checked.now) (Worth t.0 (sid_at world.now.assets.now col) (pos session)))) }
+    // No line of it is wrong, no fact stands in it twice, and its last line tells the value.
+    ensures right { IfOk result (IsDerivation (world_of world.now) (pipeline_of checked.now) t.0
+        (sid_at world.now.assets.now col) session) }
+{
+    let _rows = world.labels.len();
+    let _sessions = world.sessions.len();
+    let _terms = checked.graph();
+    parts_make_a_world(world);
+    let fact = Fact::Worth {
+        term: t.0,
+        sid: world.assets.sid(col),
+        session: session as u32,
+    };
+    let mut walk = Walk {
+        told: Told::new(alloc),
+        rows: Rows::new(alloc),
+        lines: Vec::new(alloc),
+    };
+    finish(alloc, world, checked, &mut walk, fact, steps)?;
+    Ok(Derivation::of(walk.lines))
+}
+
+// Finishes a fact, where it is not finished yet.
+#[cycle(walk)]
+fn finish<L: Ledger>(
+    alloc: Global,
+    world: &World,
+    checked: &Checked,
+    walk: &mut Walk,
+    fact: Fact,
+    steps: &mut Steps<L>,
+) -> Result<(), ExplainError>
+    requires made { IsMade world.now }
+    requires stands { StandsIn world.now checked.now walk.old }
+    requires fact { CanStand world.now checked.now (fact_of fact) }
+    ensures stands { OnOk result (StandsIn world.now checked.now walk.new) }
+    ensures finished { OnOk result (Finishes world.now checked.now (depth_of (fact_of fact))
+        walk.old walk.new (fact_of fact ∷ [])) }
+    ensures long { IfErr result (λ e. e ≡ TooLong → IsTooLong world.now checked.now
+        (depth_of (fact_of fact)) walk.old (fact_of fact ∷ [])) }
+{
+    if walk.told.number(fact).is_some() {
+        return Ok(());
+    }
+    match fact {
+        Fact::Seen {
+            column,
+            sid,
+            bar,
+            session,
+        } => finish_bar(
+            alloc, world, checked, walk, column, sid, bar, session, steps,
+        ),
+        Fact::Worth { term, sid, session } => {
+            finish_value(alloc, world, checked, walk, term, sid, session, steps)
+        }
+    }
+}
+
+// Finishes what a term reads, in order.
+#[cycle(walk)]
+fn finish_all<L: Ledger>(
+    alloc: Global,
+    world: &World,
+    checked: &Checked,
+    walk: &mut Walk,
+    t: TermId,
+    facts: &[Fact],
+    steps: &mut Steps<L>,
+) -> Result<(), ExplainError>
+    requires made { IsMade world.now }
+    requires stands { StandsIn world.now checked.now walk.old }
+    requires facts { Each (CanStandIn world.now checked.now (t.0 + 1)) (map fact_of facts.now) }
+    ensures stands { OnOk result (StandsIn world.now checked.now walk.new) }
+    ensures finished { OnOk result (Finishes world.now checked.now (t.0 + 1) walk.old walk.new
+        (map fact_of facts.now)) }
+    ensures long { IfErr result (λ e. e ≡ TooLong → IsTooLong world.now checked.now (t.0 + 1)
+        walk.old (map fact_of facts.now)) }
+{
+    for fact in facts {
+        finish(alloc, world, checked, walk, *fact, steps)?;
+    }
+    Ok(())
+}
+
+// Finishes a value behind its premises.
+#[cycle(walk)]
+fn finish_value<L: Ledger>(
+    alloc: Global,
+    world: &World,
+    checked: &Checked,
+    walk: &mut Walk,
+    term: u8,
+    sid: u32,
+    session: u32,
+    steps: &mut Steps<L>,
+) -> Result<(), ExplainError>
+    requires made { IsMade world.now }
+    requires stands { StandsIn world.now checked.now walk.old }
+    requires fact { CanStand world.now checked.now (Worth term sid (pos session)) }
+    requires fresh { has walk.old.told (Worth term sid (pos session)) ≡ false }
+    ensures stands { OnOk result (StandsIn world.now checked.now walk.new) }
+    ensures finished { OnOk result (Finishes world.now checked.now (term + 2) walk.old walk.new
+        (Worth term sid (pos session) ∷ [])) }
+    ensures long { IfErr result (λ e. e ≡ TooLong → IsTooLong world.now checked.now (term + 2)
+        walk.old (Worth term sid (pos session) ∷ [])) }
+{
+    let _terms = checked.graph();
+    let Some(col) = col_of(world, sid) else {
+        unreachable!();
+    };
+    let t = TermId(term);
+    finish_premises(alloc, world, checked, walk, t, col, session as usize, steps)?;
+    let value = value_now(alloc, world, checked, walk, t, col, session as usize)?;
+    let line = Line::Value {
+        term: term as u32,
+        sid,
+        day: world.sessions.day(session as usize),
+        value,
+    };
+    put(walk, Fact::Worth { term, sid, session }, value, line)
+}
+
+// Finishes the premises of a value: the mask, and where the asset passes it what the kind reads.
+#[cycle(walk)]
+fn finish_premises<L: Ledger>(
+    alloc: Global,
+    world: &World,
+    checked: &Checked,
+    walk: &mut Walk,
+    t: TermId,
+    col: usize,
+    session: usize,
+    steps: &mut Steps<L>,
+) -> Result<(), ExplainError>
+    requires made { IsMade world.now }
+    requires stands { StandsIn world.now checked.now walk.old }
+    requires col { col < length world.now.assets.now }
+    requires session { session < length world.now.sessions.now }
+    requires fact { CanStand world.now checked.now
+        (Worth t.0 (sid_at world.now.assets.now col) (pos session)) }
+    ensures stands { OnOk result (StandsIn world.now checked.now walk.new) }
+    ensures finished { OnOk result (Finishes world.now checked.now (t.0 + 1) walk.old walk.new
+        (premises (world_of world.now) (pipeline_of checked.now)
+        (number_in (world_of world.now) (pipeline_of checked.now))
+        (Worth t.0 (sid_at world.now.assets.now col) (pos session)))) }
+    ensures long { IfErr result (λ e. e ≡ TooLong → IsTooLong world.now checked.now (t.0 + 1) walk.old
+        (premises (world_of world.now) (pipeline_of checked.now)
+        (number_in (world_of world.now) (pipeline_of checked.now))
+        (Worth t.0 (sid_at world.now.assets.now col) (pos session)))) }
+{
+    let _rows = world.labels.len();
+    let node = checked.graph().node(t);
+    if !exists(world, col, session) {
+        return Ok(());
+    }
+    let mask = mask_read(alloc, world, checked, t, world.assets.sid(col), session)?;
+    finish_all(alloc, world, checked, walk, t, &mask, steps)?;
+    match mask_told(world, checked, &walk.told, node.mask, col, session) {
+        Some(true) => finish_kind(alloc, world, checked, walk, t, col, session, steps),
+        _ => Ok(()),
+    }
+}
+
+// Finishes what the kind of a term reads.
+#[cycle(walk)]
+fn finish_kind<L: Ledger>(
+    alloc: Global,
+    world: &World,
+    checked: &Checked,
+    walk: &mut Walk,
+    t: TermId,
+    col: usize,
+    session: usize,
+    steps: &mut Steps<L>,
+) -> Result<(), ExplainError>
+    requires made { IsMade world.now }
+    requires stands { StandsIn world.now checked.now walk.old }
+    requires col { col < length world.now.assets.now }
+    requires session { session < length world.now.sessions.now }
+    requires fact { CanStand world.now checked.now
+        (Worth t.0 (sid_at world.now.assets.now col) (pos session)) }
+    requires facts { Each (CanStandIn world.now checked.now (t.0 + 1))
+        (facts_read world.now checked.now t.0 (sid_at world.now.assets.now col) session) }
+    ensures stands { OnOk result (StandsIn world.now checked.now walk.new) }
+    ensures finished { OnOk result (Finishes world.now checked.now (t.0 + 1) walk.old walk.new
+        (facts_read world.now checked.now t.0 (sid_at world.now.assets.now col) session)) }
+    ensures long { IfErr result (λ e. e ≡ TooLong → IsTooLong world.now checked.now (t.0 + 1) walk.old
+        (facts_read world.now checked.now t.0 (sid_at world.now.assets.now col) session)) }
+{
+    let _sessions = world.sessions.len();
+    let _terms = checked.graph();
+    if is_whole(world, checked, walk, t, session) {
+        return Ok(());
+    }
+    let facts = facts_read(alloc, world, checked, t, col, session)?;
+    finish_all(alloc, world, checked, walk, t, &facts, steps)
+}
+
+// Whether all that a cross-section reads is finished, since its row is kept.
+fn is_whole(world: &World, checked: &Checked, walk: &Walk, t: TermId, session: usize) -> bool
+    requires stands { StandsIn world.now checked.now walk.now }
+    requires term { t.0 < length checked.now.graph }
+    requires session { session < length world.now.sessions.now }
+    ensures { IsTrue result → (a : _)
+        → has_all walk.now.told (facts_read world.now checked.now t.0 a session) ≡ true }
+{
+    let _sessions = world.sessions.len();
+    match family_of(&checked.graph().node(t).kind) {
+        Family::Section => walk.rows.row(t.0, session as u32).is_some(),
+        _ => false,
+    }
+}
+
+// The value of a term whose premises are finished.
+fn value_now(
+    alloc: Global,
+    world: &World,
+    checked: &Checked,
+    walk: &mut Walk,
+    t: TermId,
+    col: usize,
+    session: usize,
+) -> Result<i64, Memory>
+    requires made { IsMade world.now }
+    requires stands { StandsIn world.now checked.now walk.old }
+    requires term { t.0 < length checked.now.graph }
+    requires col { col < length world.now.assets.now }
+    requires session { session < length world.now.sessions.now }
+    requires premises { has_all walk.old.told (premises (world_of world.now) (pipeline_of checked.now)
+        (number_in (world_of world.now) (pipeline_of checked.now))
+        (Worth t.0 (sid_at world.now.assets.now col) (pos session))) ≡ true }
+    ensures value { IfOk result (λ x. x ≡ cell_in world.now checked.now t.0
+        (sid_at world.now.assets.now col) session) }
+    ensures cell { IfOk result IsCell }
+    ensures told { walk.new.told ≡ walk.old.told }
+    ensures lines { walk.new.lines ≡ walk.old.lines }
+    ensures rows { OnOk result (KeepsRows world.now checked.now walk.old.told walk.new.rows) }
+{
+    match value_told(
+        alloc,
+        world,
+        checked,
+        &walk.told,
+        &mut walk.rows,
+        t,
+        col,
+        session,
+    )? {
+        Some(value) => Ok(value),
+        None => unreachable!(),
+    }
+}
+
+// Finishes a bar as it is seen on a later session.
+fn finish_bar<L: Ledger>(
+    alloc: Global,
+    world: &World,
+    checked: &Checked,
+    walk: &mut Walk,
+    column: Column,
+    sid: u32,
+    bar: u32,
+    session: u32,
+    steps: &mut Steps<L>,
+) -> Result<(), ExplainError>
+    requires made { IsMade world.now }
+    requires stands { StandsIn world.now checked.now walk.old }
+    requires fact { CanStand world.now checked.now (Seen column sid (pos bar) (pos session)) }
+    requires fresh { has walk.old.told (Seen column sid (pos bar) (pos session)) ≡ false }
+    ensures stands { OnOk result (StandsIn world.now checked.now walk.new) }
+    ensures finished { OnOk result (Finishes world.now checked.now 1 walk.old walk.new
+        (Seen column sid (pos bar) (pos session) ∷ [])) }
+    ensures long { IfErr result (λ e. e ≡ TooLong → IsTooLong world.now checked.now 1 walk.old
+        (Seen column sid (pos bar) (pos session) ∷ [])) }
+{
+    let Some(col) = col_of(world, sid) else {
+        unreachable!();
+    };
+    let seen = seen_cells(
+        alloc,
+        world,
+        column,
+        col,
+        bar as usize,
+        session as usize,
+        steps,
+    )?;
+    let number = last_of(&seen);
+    let line = Line::Seen {
+        column,
+        sid,
+        bar_day: world.sessions.day(bar as usize),
+        day: world.sessions.day(session as usize),
+        cells: CellList::new(seen),
+    };
+    let fact = Fact::Seen {
+        column,
+        sid,
+        bar,
+        session,
+    };
+    put(walk, fact, number, line)
+}
+
+// Puts a fact and its line behind those that are finished.
+fn put(walk: &mut Walk, fact: Fact, number: i64, line: Line) -> Result<(), ExplainError>
+    requires few { length walk.old.lines.items ≤ MOST_LINES }
+    ensures lines { OnOk result (walk.new.lines.items ≡ walk.old.lines.items ++ line ∷ []) }
+    ensures few { OnOk result (length walk.new.lines.items ≤ MOST_LINES) }
+    ensures told { OnOk result (IsTellingOf (fact_of fact) number walk.old.told walk.new.told) }
+    ensures rows { walk.new.rows ≡ walk.old.rows }
+    ensures long { IfErr result (λ e. e ≡ TooLong → length walk.old.lines.items ≡ MOST_LINES) }
+{
+    if walk.lines.len() == MOST_LINES {
+        return Err(ExplainError::TooLong);
+    }
+    walk.told.tell(fact, number)?;
+    walk.lines.push(line)?;
+    Ok(())
+}

@@ -1,0 +1,102 @@
+use Rattle.std.proofs.Common.{◌≡◌, ◌≤◌, ◌<◌, ◌+◌, ◌++◌, ◌∙◌, sym, ap, subst, arith}
+use Rattle.std.proofs.lemmas.Result.{err_from_is_err_and}
+use Rattle.pl_outside.proofs.Pieces.{writing-start, writing-more, writing-end, writing-stop, writing-over}
+use Rattle.pl_spec.specs.Table.{Pipeline, table}
+use Rattle.pl_model.specs.Worlds.{world_of}
+use Rattle.pl_terms.specs.Checked.{pipeline_of}
+use Rattle.pl_table.specs.Outcomes.{lines}
+use Rattle.pl_table.proofs.SessionRows.{lines-append}
+use Rattle.pl_feed.specs.Feeds.{session_work}
+use Rattle.pl_feed.specs.Days.{IsFed}
+use Rattle.pl_feed.specs.Mornings.{asked_rows}
+use Rattle.pl_feed.proofs.Values.{rows_left, left-all, left-next, left-none}
+use Rattle.pl_feed.proofs.Work.{steps_below, steps-all, steps-few, steps-next}
+use Rattle.pl_feed.proofs.run.write_all.Goals as goal
+
+pub returns-in_err-write_bytes-clause-writes : goal.returns-in_err-write_bytes-clause-writes
+returns-in_err-write_bytes-clause-writes g c =
+    let w = world_of c.args.world.now in
+    let p = pipeline_of c.args.checked.now in
+    let whole = lines w p c.args.format (table w p c.args.plan.now.from c.args.plan.now.to) in
+    let q = err_from_is_err_and c.from_residual.result c.from_residual.ensures.1 in
+    rw (q.1, q.2) (writing-stop c.args.header.now whole (writing-start g.O.Sink.taken g.O.Sink.faults g.O.Sink.sound g.O.Sink.room c.args.out.now (c.args.header.now ++ whole)) c.in_err-write_bytes.ensures.writes)
+
+pub loop-session-init : goal.loop-session-init
+loop-session-init g c =
+    let w = world_of c.args.world.now in
+    let p = pipeline_of c.args.checked.now in
+    let plan = c.args.plan.now in
+    let whole = lines w p c.args.format (table w p plan.from plan.to) in
+    record {
+      desk = c.requires.desk;
+      within = omega arith;
+      writing = writing-over (ap (lines w p c.args.format) (sym (left-all w p plan.from plan.to)))
+          (writing-more c.args.header.now whole (writing-start g.O.Sink.taken g.O.Sink.faults g.O.Sink.sound g.O.Sink.room c.args.out.now (c.args.header.now ++ whole)) c.in_ok-write_bytes.ensures.writes);
+      steps = omega arith;
+    }
+
+pub loop-session-preserved : goal.loop-session-preserved
+loop-session-preserved g c =
+    let w = world_of c.args.world.now in
+    let p = pipeline_of c.args.checked.now in
+    let plan = c.args.plan.now in
+    let s = c.loop-session.session in
+    let inside : s ≤ plan.to = omega (arith, c.loop-session-test.true, c.to-session-end.ensures.value) in
+    let own = c.loop-session.invariant.desk.fed.pipeline in
+    let next = ap (lines w p c.args.format) (left-next w p plan.from plan.to s inside) ∙ lines-append w p c.args.format (asked_rows w p plan.from s) (rows_left w p plan.from plan.to (s + 1)) in
+    record {
+      desk = record {
+        fed = subst (λ (q : Pipeline). IsFed c.args.world.now q (s + 1) c.feed.new.daily) own c.feed.ensures.fed;
+        bars = c.feed.ensures.bars;
+        events = c.feed.ensures.events;
+      };
+      within = omega (arith, inside);
+      writing = writing-more _ _ (writing-over next c.loop-session.invariant.writing) c.in_ok-write_asked.ensures;
+      steps = omega (arith, c.feed.ensures.cost, ap (λ (q : Pipeline). session_work w q s) own, steps-next w p s, c.loop-session.invariant.steps);
+    }
+
+pub returns-in_err-write_asked-clause-writes : goal.returns-in_err-write_asked-clause-writes
+returns-in_err-write_asked-clause-writes g c =
+    let w = world_of c.args.world.now in
+    let p = pipeline_of c.args.checked.now in
+    let plan = c.args.plan.now in
+    let s = c.loop-session.session in
+    let inside : s ≤ plan.to = omega (arith, c.loop-session-test.true, c.to-session-end.ensures.value) in
+    let next = ap (lines w p c.args.format) (left-next w p plan.from plan.to s inside) ∙ lines-append w p c.args.format (asked_rows w p plan.from s) (rows_left w p plan.from plan.to (s + 1)) in
+    let q = err_from_is_err_and c.from_residual-in_err-write_asked.result c.from_residual-in_err-write_asked.ensures.1 in
+    rw (q.1, q.2) (writing-stop _ _ (writing-over next c.loop-session.invariant.writing) c.in_err-write_asked.ensures)
+
+pub returns-in_err-write_asked-clause-at_most : goal.returns-in_err-write_asked-clause-at_most
+returns-in_err-write_asked-clause-at_most g c =
+    let w = world_of c.args.world.now in
+    let p = pipeline_of c.args.checked.now in
+    let plan = c.args.plan.now in
+    let s = c.loop-session.session in
+    let inside : s + 1 ≤ plan.to + 1 = omega (arith, c.loop-session-test.true, c.to-session-end.ensures.value) in
+    let own = c.loop-session.invariant.desk.fed.pipeline in
+    omega (arith, c.feed.ensures.cost, ap (λ (q : Pipeline). session_work w q s) own, steps-next w p s, steps-few w p (s + 1) (plan.to + 1) inside, steps-all w p plan.to, c.loop-session.invariant.steps)
+
+pub returns-clause-writes : goal.returns-clause-writes
+returns-clause-writes g c =
+    let w = world_of c.args.world.now in
+    let p = pipeline_of c.args.checked.now in
+    let plan = c.args.plan.now in
+    let after : plan.to < c.loop-session.session = omega (arith, c.loop-session-test.false, c.to-session-end.ensures.value) in
+    writing-end (writing-over (ap (lines w p c.args.format) (left-none w p plan.from plan.to c.loop-session.session c.requires.plan.order after)) c.loop-session.invariant.writing)
+
+-- all sessions were fed
+pub returns-clause-cost : goal.returns-clause-cost
+returns-clause-cost g c =
+    let w = world_of c.args.world.now in
+    let p = pipeline_of c.args.checked.now in
+    let plan = c.args.plan.now in
+    let done : c.loop-session.session ≡ plan.to + 1 = omega (arith, c.loop-session-test.false, c.to-session-end.ensures.value, c.loop-session.invariant.within) in
+    omega (arith, ap (steps_below w p) done, steps-all w p plan.to, c.loop-session.invariant.steps)
+
+pub returns-clause-at_most : goal.returns-clause-at_most
+returns-clause-at_most g c =
+    let w = world_of c.args.world.now in
+    let p = pipeline_of c.args.checked.now in
+    let plan = c.args.plan.now in
+    let done : c.loop-session.session ≡ plan.to + 1 = omega (arith, c.loop-session-test.false, c.to-session-end.ensures.value, c.loop-session.invariant.within) in
+    omega (arith, ap (steps_below w p) done, steps-all w p plan.to, c.loop-session.invariant.steps)

@@ -1,0 +1,42 @@
+//! The memory of a run.
+ghost use Rattle.std.specs.Prelude.{IfOk};
+ghost use Rattle.pl_model.specs.Worlds.{IsMade};
+ghost use Rattle.pl_terms.specs.Checked.{pipeline_of};
+ghost use Rattle.pl_feed.specs.Desks.{IsDesk};
+
+use pl_daily::Daily;
+use pl_fixed::Memory;
+use pl_model::World;
+use pl_rings::{DayBar, DayEvent};
+use pl_table::Line;
+use pl_terms::Checked;
+use std::alloc::Global;
+
+/// All that a run works with: the daily evaluation, the bars and the adjustments of a day, and a line of the
+/// table.
+#[derive(Drop)]
+pub struct Desk<'a> {
+    pub(crate) daily: Daily<'a>,
+    pub(crate) bars: Vec<DayBar>,
+    pub(crate) events: Vec<DayEvent>,
+    pub(crate) line: Line,
+}
+
+impl<'a> Desk<'a> {
+    /// Takes the memory; no session was fed. The only error is that there is none.
+    pub(crate) fn reserve(
+        alloc: Global,
+        world: &World<'a>,
+        checked: &'a Checked,
+    ) -> Result<Desk<'a>, Memory>
+        requires { IsMade world.now }
+        ensures { IfOk result (IsDesk world.now (pipeline_of checked.entry.now) 0) }
+    {
+        Ok(Desk {
+            daily: Daily::new(alloc, checked, world.assets, world.labels)?,
+            bars: Vec::with_capacity(alloc, world.assets.len())?,
+            events: Vec::with_capacity(alloc, world.adjustments.len())?,
+            line: Line::reserve(alloc)?,
+        })
+    }
+}

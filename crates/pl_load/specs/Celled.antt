@@ -1,0 +1,41 @@
+-- What was loaded of a cell whose derivation is asked for.
+use Rattle.std.specs.Prelude.{◌≡◌, ◌<◌, pos, ◌≤ℤ◌, true, Bool, length, Option, Some, Result, IfOk}
+use Rattle.pl_outside.specs.Files.{Files}
+use Rattle.pl_outside.specs.Lists.{Lists}
+use Rattle.pl_terms.specs.Checked.{pipeline_of}
+use Rattle.pl_terms.specs.Uses.{is_used}
+use Rattle.pl_model.specs.Worlds.{owned_world, IsOwned}
+use Rattle.pl_words.specs.Request.{ExplainRequest, Explain}
+use Rattle.pl_judge.specs.declared.fault.Fault.{Fault}
+use Rattle.pl_judge.specs.Contents.{Contents, AreHeld}
+use Rattle.pl_judge.specs.Held.{pipeline_held, world_held}
+use Rattle.pl_judge.specs.Cells.{asset_of, column_term, term_reach}
+use Rattle.pl_judge.specs.Range.{session_of}
+use Rattle.pl_judge.specs.Work.{cell_work}
+use Rattle.pl_judge.specs.Stages.{StageEnds}
+use Rattle.pl_load.specs.declared.cells.LoadedCell.{LoadedCell}
+
+-- the parts are those of the contents, and the cell is the one that is asked for
+pub record IsCellHeld (held : Contents) (q : ExplainRequest) (l : LoadedCell) : Type 0 where
+  pub pipeline : pipeline_held held ≡ pipeline_of l.checked
+  pub world : world_held held q.world ≡ owned_world l.world
+  pub term : column_term (pipeline_of l.checked) q.column ≡ Some l.cell.term.0
+  pub asset : asset_of l.world.assets q.sid ≡ Some l.cell.col
+  pub session : session_of l.world.sessions q.date.day ≡ Some l.cell.session
+
+-- what the derivation of the cell asks
+pub record IsExplainable (l : LoadedCell) : Type 0 where
+  pub made : IsOwned l.world
+  pub used : is_used (pipeline_of l.checked) l.cell.term.0 ≡ true
+  pub col : l.cell.col < length l.world.assets
+  pub within : l.cell.session < length l.world.sessions
+  pub reach : pos 0 ≤ℤ term_reach l.world.sessions (pipeline_of l.checked) l.cell.term.0 l.cell.session
+
+-- A cell is loaded with its pipeline and its world: they are those of contents which the parts hold where they tell, and the work
+-- over these, up to how long its derivation is, ends so.
+pub record IsCellLoad (files : Option Files) (lists : Option Lists) (shelf keeper : Bool) (q : ExplainRequest)
+    (result : Result LoadedCell Fault) : Type 0 where
+  pub held : Contents
+  pub are_held : AreHeld files lists (Some (Explain q)) held
+  pub ends : StageEnds shelf keeper (cell_work held q) result
+  pub loaded : IfOk result (IsCellHeld held q)
