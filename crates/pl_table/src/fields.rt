@@ -66,13 +66,7 @@ fn put_text(line: &mut Line, format: Format, text: &[u8])
 }
 
 /// Puts the field of a cell.
-pub fn put_cell(
-    line: &mut Line,
-    format: Format,
-    writing: Writing,
-    cell: i64,
-    labels: &Labels,
-)
+pub fn put_cell(line: &mut Line, format: Format, writing: Writing, cell: i64, labels: &Labels)
     requires cell { IsCell cell }
     requires code { writing ≡ Writing.Label → IsCode labels.now.texts cell }
     requires room { length line.old + 131 ≤ 8_448 }
