@@ -1,7 +1,7 @@
 // Whether a case's commands leave what it states.
 use crate::case::{Case, copy_words};
 use crate::cells::cells_differ;
-use crate::parts::{Failing, Left, SOUND, left_by};
+use crate::parts::{Failing, Left, Parts, SOUND, left_by};
 use anyhow::Result;
 use std::alloc::Global;
 
@@ -52,17 +52,23 @@ fn further_differs(alloc: Global, case: &Case, words: &[String], left: &Left) ->
     }
 }
 
-// What a case states. Its `out` may stand open, where its cells are stated.
+// What a case states. Its `out` may stand open, where its cells are stated, and so may `loaded`.
 fn wanted_of(alloc: Global, case: &Case, left: &Left) -> Result<Left> {
     let out = if case.has("out by cells") {
         left.out.as_slice()
     } else {
         case.text("out")
     };
+    let loaded = if case.has("loaded") {
+        case.text("loaded")
+    } else {
+        left.loaded.as_slice()
+    };
     Ok(Left {
         status: case.status(),
         out: out.to_vec(alloc)?,
         err: case.text("err").to_vec(alloc)?,
+        loaded: loaded.to_vec(alloc)?,
     })
 }
 
@@ -123,7 +129,7 @@ fn judge_failing(
     Ok(None)
 }
 
-// The calls of a part fail one after the other, and then the one behind the last, which no run makes.
+// The calls of a part fail one after the other. Two runs over the same parts make no call more than these, each twice.
 fn judge_part(
     alloc: Global,
     case: &Case,
@@ -140,11 +146,17 @@ fn judge_part(
             return Ok(difference);
         }
     }
-    let past = left_by(alloc, case, words, part.failing(call.saturating_add(1)))?;
-    compare(alloc, words, wanted, &past)
+    let past = call.saturating_mul(2).saturating_add(1);
+    let mut parts = Parts::new(alloc, case, part.failing(past))?;
+    let left = parts.leave(alloc, words)?;
+    let difference = compare(alloc, words, wanted, &left)?;
+    if difference.is_some() {
+        return Ok(difference);
+    }
+    judge_again(alloc, case, words, &mut parts)
 }
 
-// A call of a part fails, which leaves this line, and then a run is made over sound parts.
+// A call of a part fails, which leaves this line, and then a run is made over the same parts, none of whose calls fails.
 fn judge_call(
     alloc: Global,
     case: &Case,
@@ -154,18 +166,24 @@ fn judge_call(
     line: &str,
 ) -> Result<Option<String>> {
     let text = format!(in alloc; "{line}\n")?;
-    let left = left_by(alloc, case, words, part.failing(call))?;
-    if !is_failed(part, case, text.as_bytes(), &left)
+    let mut parts = Parts::new(alloc, case, part.failing(call))?;
+    let left = parts.leave(alloc, words)?;
+    if !is_failed(part, case, text.as_bytes(), call, &left)
         || !holds_without_err(alloc, case, words, part.failing(call), &left)?
     {
         let failed = failed(alloc, part, text.as_bytes())?;
         return Ok(Some(told(alloc, words, &failed, &left)?));
     }
-    judge_again(alloc, case, words)
+    judge_again(alloc, case, words, &mut parts)
 }
 
-fn judge_again(alloc: Global, case: &Case, words: &[String]) -> Result<Option<String>> {
-    let again = left_by(alloc, case, words, SOUND)?;
+fn judge_again(
+    alloc: Global,
+    case: &Case,
+    words: &[String],
+    parts: &mut Parts,
+) -> Result<Option<String>> {
+    let again = parts.leave(alloc, words)?;
     let wanted = wanted_of(alloc, case, &again)?;
     compare(alloc, words, &wanted, &again)
 }
@@ -179,14 +197,22 @@ fn compare(alloc: Global, words: &[String], wanted: &Left, left: &Left) -> Resul
     }
 }
 
-fn is_failed(part: Part, case: &Case, line: &[u8], left: &Left) -> bool {
+fn is_failed(part: Part, case: &Case, line: &[u8], call: u64, left: &Left) -> bool {
     let beginning = match part {
-        Part::Out => {
-            left.out.len() < case.text("out").len() && case.text("out").starts_with(&left.out)
-        }
+        Part::Out => is_beginning(case, call, &left.out),
         Part::Shelf | Part::Keeper => left.out.is_empty(),
     };
     left.status == part.status() && left.err.as_slice() == line && beginning
+}
+
+// Whether `out` holds what it took before this call of it, which fails: a beginning of its text, and where each call takes a
+// line, a line for each call before.
+fn is_beginning(case: &Case, call: u64, out: &[u8]) -> bool {
+    let lines = out.iter().filter(|&&byte| byte == b'\n').count() as u64;
+    out.len() < case.text("out").len()
+        && case.text("out").starts_with(out)
+        && (!case.has("out by lines")
+            || (lines.saturating_add(1) == call && (out.is_empty() || out.ends_with(b"\n"))))
 }
 
 // An `err` whose first call fails, or the second, up to the eighth, changes neither the status nor `out`, and takes a beginning
@@ -225,6 +251,7 @@ fn failed(alloc: Global, part: Part, line: &[u8]) -> Result<Left> {
         status: part.status(),
         out: Vec::new(alloc),
         err: line.to_vec(alloc)?,
+        loaded: Vec::new(alloc),
     })
 }
 
@@ -239,7 +266,8 @@ fn told(alloc: Global, words: &[String], wanted: &Left, left: &Left) -> Result<S
         let status = left.status;
         let out = beginning(alloc, &left.out)?;
         let err = beginning(alloc, &left.err)?;
-        text.push_str(&format!(in alloc; "\n{title} {status}\n{out}{err}")?)?;
+        let loaded = beginning(alloc, &left.loaded)?;
+        text.push_str(&format!(in alloc; "\n{title} {status}\n{out}{err}{loaded}")?)?;
     }
     Ok(text)
 }

@@ -16,10 +16,12 @@
 //!   of them leaves the same;
 //! - `chunks N..`: each command is run once with each of `--chunk N`; without numbers, once as it is;
 //! - `status N`, `out`, `err`: what a run leaves: its status, which is 0 where none is told, and the texts behind `out` and `err`;
+//! - `loaded`: the text behind it is the tables that a run loads, in that order, a line each;
 //! - `failing shelf`, `failing keeper`, `failing out`: the text behind it is what stands on `err` where the first call of that part
 //!   fails, the second, and so on, a line for each call that a run makes. The status is then 7, 8 or 9, and a beginning of `out`
-//!   stands there, nothing with 7 and 8. A failing `err` changes none of this, and after each of these runs one over sound parts
-//!   leaves what the case states;
+//!   stands there, nothing with 7 and 8. A failing `err` changes none of this, and after each of these runs one over the same
+//!   parts leaves what the case states, behind what stands there;
+//! - `out by lines`: each call of `out` takes a line of it, which `failing out` shows;
 //! - `failing err`: a run whose `err` fails leaves the same, but for `err`;
 //! - `cells yes`, `cells no`: each value of a table is the value of its cell, computed by itself; with `out by cells` the table is
 //!   stated by them alone.
@@ -34,6 +36,7 @@ mod judge;
 mod lines;
 mod parts;
 mod reader;
+mod recorded;
 mod repeat;
 
 use anyhow::{Context, Result, ensure};

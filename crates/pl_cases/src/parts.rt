@@ -4,6 +4,7 @@ ghost use Rattle.pl_spec.specs.declared.RawAdjust.{RawAdjust};
 ghost use Rattle.pl_outside.specs.Lists.{IsAscending};
 
 use crate::case::Case;
+use crate::recorded::RecordedKeeper;
 use anyhow::{Context, Result, bail};
 use pl_cli::run_program;
 use pl_fixed::{Steps, read_day};
@@ -28,12 +29,68 @@ pub(crate) const SOUND: Failing = Failing {
     err: 0,
 };
 
-/// What a run left: its status, and what stands on `out` and `err`.
+/// What a run left: its status, what it put on `out` and `err`, and the tables that it loaded, a line each.
 #[derive(Drop, PartialEq, Eq)]
 pub(crate) struct Left {
     pub(crate) status: u8,
     pub(crate) out: Vec<u8>,
     pub(crate) err: Vec<u8>,
+    pub(crate) loaded: Vec<u8>,
+}
+
+/// Parts over the files and tables of a case.
+#[derive(Drop)]
+pub(crate) struct Parts {
+    shelf: MemoryShelf,
+    keeper: RecordedKeeper,
+    out: MemorySink,
+    err: MemorySink,
+}
+
+impl Parts {
+    pub(crate) fn new(alloc: Global, case: &Case, failing: Failing) -> Result<Parts> {
+        Ok(Parts {
+            shelf: shelf_of(alloc, case, failing.shelf)?,
+            keeper: RecordedKeeper::new(alloc, keeper_of(alloc, case, failing.keeper)?),
+            out: sink_of(alloc, failing.out, 0, case.text("out").len())?,
+            err: sink_of(alloc, failing.err, 3, 0)?,
+        })
+    }
+
+    /// What a command leaves behind what stands there.
+    pub(crate) fn leave(&mut self, alloc: Global, words: &[String]) -> Result<Left> {
+        let out = self.out.bytes().len();
+        let err = self.err.bytes().len();
+        let loaded = self.keeper.loaded().len();
+        Ok(Left {
+            status: run::<Brand>(alloc, words, self, Blank::new(1)),
+            out: behind(alloc, self.out.bytes(), out)?,
+            err: behind(alloc, self.err.bytes(), err)?,
+            loaded: behind(alloc, self.keeper.loaded(), loaded)?,
+        })
+    }
+}
+
+fn behind(alloc: Global, bytes: &[u8], place: usize) -> Result<Vec<u8>> {
+    let bytes = bytes.get(place..).context("bytes that are gone")?;
+    Ok(bytes.to_vec(alloc)?)
+}
+
+fn run<L: Ledger>(alloc: Global, words: &[String], parts: &mut Parts, blank: Blank) -> u8
+    requires name { blank.name ≡ L.name }
+    requires parts { blank.parts ≡ L.parts }
+    requires some { 0 < L.parts }
+{
+    let mut steps = Steps::<L>::new(blank);
+    run_program(
+        alloc,
+        words,
+        &mut parts.shelf,
+        &mut parts.keeper,
+        &mut parts.out,
+        &mut parts.err,
+        &mut steps,
+    )
 }
 
 /// What a command leaves over the files and tables of a case.
@@ -43,41 +100,7 @@ pub(crate) fn left_by(
     words: &[String],
     failing: Failing,
 ) -> Result<Left> {
-    let mut shelf = shelf_of(alloc, case, failing.shelf)?;
-    let mut keeper = keeper_of(alloc, case, failing.keeper)?;
-    let mut out = sink_of(alloc, failing.out, 0, case.text("out").len())?;
-    let mut err = sink_of(alloc, failing.err, 3, 0)?;
-    let status = run::<Brand>(
-        alloc,
-        words,
-        &mut shelf,
-        &mut keeper,
-        &mut out,
-        &mut err,
-        Blank::new(1),
-    );
-    Ok(Left {
-        status,
-        out: out.bytes().to_vec(alloc)?,
-        err: err.bytes().to_vec(alloc)?,
-    })
-}
-
-fn run<L: Ledger>(
-    alloc: Global,
-    words: &[String],
-    shelf: &mut MemoryShelf,
-    keeper: &mut MemoryKeeper,
-    out: &mut MemorySink,
-    err: &mut MemorySink,
-    blank: Blank,
-) -> u8
-    requires name { blank.name ≡ L.name }
-    requires parts { blank.parts ≡ L.parts }
-    requires some { 0 < L.parts }
-{
-    let mut steps = Steps::<L>::new(blank);
-    run_program(alloc, words, shelf, keeper, out, err, &mut steps)
+    Parts::new(alloc, case, failing)?.leave(alloc, words)
 }
 
 /// The files of a case.

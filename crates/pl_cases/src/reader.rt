@@ -87,7 +87,9 @@ fn state_number(alloc: Global, case: &mut Case, line: &str, first: &str, rest: &
 
 fn state_word(alloc: Global, case: &mut Case, line: &str) -> Result<()> {
     match line {
-        "splits" | "mergers" | "dividends" | "out" | "err" => case.begin_text(alloc, line)?,
+        "splits" | "mergers" | "dividends" | "loaded" | "out" | "err" => case.begin_text(
+            alloc, line,
+        )?,
         "chunks" => case.set_chunks(Vec::new(alloc)),
         "$" => case.add_command(Vec::new(alloc))?,
         "" | "#" => (),

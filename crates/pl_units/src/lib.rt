@@ -34,6 +34,8 @@ mod outside_tests;
 #[cfg(test)]
 mod payouts_tests;
 #[cfg(test)]
+mod planner_tests;
+#[cfg(test)]
 mod pointwise_tests;
 #[cfg(test)]
 mod records_tests;
