@@ -52,7 +52,8 @@ fn is_quotient(dividend: u64, divisor: u64, quotient: u64) -> bool
     }
 }
 
-// `dividend / divisor`, rounded down. A guess is judged and mostly right, in a fraction of the time of a division.
+// `dividend / divisor`, rounded down. A guess is judged and mostly right, in a fraction of the time of a
+// division.
 fn quotient(dividend: u64, divisor: u64, inverse: u64) -> u64
     requires { 0 < divisor }
     ensures { result ≡ dividend / divisor }

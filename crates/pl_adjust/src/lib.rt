@@ -97,9 +97,9 @@ impl Adjustments {
     }
 
     /// Adds the revisions of a file: from the day on which it is known each overwrites the cell that it
-    /// names. The header is `sid,session,column,value,known`; each further record has the sid of an asset, the
-    /// date of a session, the name of a bar column, a decimal of at least 0 or an empty field, which takes
-    /// the cell away, and a later date. After an error the adjustments are as before.
+    /// names. The header is `sid,session,column,value,known`; each further record has the sid of an asset,
+    /// the date of a session, the name of a bar column, a decimal of at least 0 or an empty field, which
+    /// takes the cell away, and a later date. After an error the adjustments are as before.
     pub fn add_revisions(
         &mut self,
         bytes: &[u8],

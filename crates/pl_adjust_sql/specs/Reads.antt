@@ -20,7 +20,8 @@ pub record AppendsAnswer (table : Table) (old new : State) (before after : List 
   pub read : AreRead answer rows
   pub shown : Shown (statement_of table) [] old new answer
 
--- the tables of the schema begin with these tables of adjustments and this one, in the order in which they were created
+-- the tables of the schema begin with these tables of adjustments and this one, in the order in which they
+-- were created
 pub record Begins (schema : Schema) (before : List Table) (table : Table) : Type 0 where
   pub among : IsBefore table before
   pub rest : List Stored

@@ -143,8 +143,8 @@ pub record IsLabelText (text : List ℕ) : Type 0 where
   pub printable : IsTrue (is_printable text)
   pub short : length text ≤ LONGEST_LABEL
 
--- Each text of a row that is not empty has a code. Other texts may have codes too: where rows are left out, the
--- others keep the codes that they had.
+-- Each text of a row that is not empty has a code. Other texts may have codes too: where rows are left out,
+-- the others keep the codes that they had.
 pub record AreLabels (t : LabelTable) : Type 0 where
   pub rows : All IsLabelRow t.rows
   pub once : AllPairs (λ r q. is_from r.name r.col r.start q ≡ false) t.rows

@@ -1,5 +1,5 @@
-//! Where the session and the asset of a record stand. In most files a bar is that of the asset or of the session
-//! behind those of the bar before it, so these are tried before they are searched for.
+//! Where the session and the asset of a record stand. In most files a bar is that of the asset or of the
+//! session behind those of the bar before it, so these are tried before they are searched for.
 ghost use Rattle.std.specs.Prelude.{◌≡◌, ◌<◌, ◌==◌, length, position, IfSome};
 ghost use Rattle.std.specs.Ordering.{int_eq};
 ghost use Rattle.pl_assets.specs.Assets.{sid_of};

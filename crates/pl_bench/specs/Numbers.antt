@@ -21,7 +21,8 @@ bench_rows w = table w bench_pipeline 252 599
 abbrev pub bench_bound : ℕ
 bench_bound = bound bench_pipeline.graph (outputs bench_pipeline)
 
--- how many rows there are, the sum of their cells modulo 2^64, how many arrays were held at once, and how many may be
+-- how many rows there are, the sum of their cells modulo 2^64, how many arrays were held at once, and how
+-- many may be
 pub record AreNumbersOf (w : World) (n : Numbers) : Type 0 where
   pub rows : n.rows ≡ length (bench_rows w)
   pub cells : pos n.cells ≡ cells w.texts (bench_rows w)

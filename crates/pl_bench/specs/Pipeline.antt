@@ -64,8 +64,8 @@ bench_script = record {
 
 -- ---- the pipeline
 
--- the mean dollar volume of 20 sessions, the 100 greatest of them, the return of 252 sessions, the sector, and the rank
--- of the return in the sector among those 100
+-- the mean dollar volume of 20 sessions, the 100 greatest of them, the return of 252 sessions, the sector,
+-- and the rank of the return in the sector among those 100
 abbrev pub average_dollar_volume : Node
 average_dollar_volume = record { kind = Window AverageDollarVolume; inputs = BarColumn Close ∷ BarColumn Volume ∷ []; mask = None; group = None; window = 20 }
 

@@ -16,7 +16,8 @@ use pl_syntax::{Script, SyntaxError, parse};
 use pl_terms::Checked;
 use std::alloc::Global;
 
-/// The pipeline file: the return of 252 sessions, and its rank in its sector among the 100 assets that are traded most.
+/// The pipeline file: the return of 252 sessions, and its rank in its sector among the 100 assets that are
+/// traded most.
 pub const PIPELINE: &[u8] = b"pipeline 1;\n\
 let liquid = AverageDollarVolume(20).top(100);\n\
 let momentum = Returns(close, 252);\n\
@@ -78,7 +79,8 @@ pub(crate) fn make_plan(
     }
 }
 
-// The first session is late enough, and no term is read over a window, so that an error of the planner is want of memory.
+// The first session is late enough, and no term is read over a window, so that an error of the planner is
+// want of memory.
 fn planner_memory(error: PlanError) -> Memory
     requires { error ≡ PlanError.Memory }
 {

@@ -13,8 +13,8 @@ use pl_spec::Format;
 use std::alloc::Global;
 use std::sync::ledger::Ledger;
 
-/// Runs the pipeline over the stated world of the number, `chunk` sessions at a time, and writes the numbers of that run, as
-/// `rows=R cells=C peak=P bound=B` and a line end.
+/// Runs the pipeline over the stated world of the number, `chunk` sessions at a time, and writes the numbers
+/// of that run, as `rows=R cells=C peak=P bound=B` and a line end.
 pub fn bench<O: Sink, L: Ledger>(
     alloc: Global,
     number: u32,

@@ -8,7 +8,8 @@ pub(crate) struct Text {
     pub(crate) bytes: Vec<u8>,
 }
 
-/// A case: its texts, the words of its commands, the sizes of chunks, the status, and whether its cells are compared.
+/// A case: its texts, the words of its commands, the sizes of chunks, the status, and whether its cells are
+/// compared.
 #[derive(Drop)]
 pub(crate) struct Case {
     name: String,

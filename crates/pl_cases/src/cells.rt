@@ -19,7 +19,8 @@ use std::alloc::Global;
 use std::marker::Brand;
 use std::sync::ledger::{Blank, Ledger};
 
-/// Whether the table of a run, or that of `daily`, differs from its cells in the whole world. Other commands have none.
+/// Whether the table of a run, or that of `daily`, differs from its cells in the whole world. Other commands
+/// have none.
 pub(crate) fn cells_differ(
     alloc: Global,
     case: &Case,
@@ -61,7 +62,8 @@ fn loaded_of(alloc: Global, case: &Case, request: &RunRequest<'_>) -> Result<Opt
     }
 }
 
-// The texts of a labels file by their codes: in the order in which they stand there first, as they are written there.
+// The texts of a labels file by their codes: in the order in which they stand there first, as they are
+// written there.
 fn labels_of(alloc: Global, case: &Case, name: Option<&str>) -> Result<Vec<String>> {
     let mut labels: Vec<String> = Vec::new(alloc);
     let title = format!(in alloc; "file {}", name.unwrap_or(""))?;

@@ -129,7 +129,8 @@ fn judge_failing(
     Ok(None)
 }
 
-// The calls of a part fail one after the other. Two runs over the same parts make no call more than these, each twice.
+// The calls of a part fail one after the other. Two runs over the same parts make no call more than these,
+// each twice.
 fn judge_part(
     alloc: Global,
     case: &Case,
@@ -156,7 +157,8 @@ fn judge_part(
     judge_again(alloc, case, words, &mut parts)
 }
 
-// A call of a part fails, which leaves this line, and then a run is made over the same parts, none of whose calls fails.
+// A call of a part fails, which leaves this line, and then a run is made over the same parts, none of whose
+// calls fails.
 fn judge_call(
     alloc: Global,
     case: &Case,
@@ -205,8 +207,8 @@ fn is_failed(part: Part, case: &Case, line: &[u8], call: u64, left: &Left) -> bo
     left.status == part.status() && left.err.as_slice() == line && beginning
 }
 
-// Whether `out` holds what it took before this call of it, which fails: a beginning of its text, and where each call takes a
-// line, a line for each call before.
+// Whether `out` holds what it took before this call of it, which fails: a beginning of its text, and where
+// each call takes a line, a line for each call before.
 fn is_beginning(case: &Case, call: u64, out: &[u8]) -> bool {
     let lines = out.iter().filter(|&&byte| byte == b'\n').count() as u64;
     out.len() < case.text("out").len()
@@ -215,8 +217,8 @@ fn is_beginning(case: &Case, call: u64, out: &[u8]) -> bool {
             || (lines.saturating_add(1) == call && (out.is_empty() || out.ends_with(b"\n"))))
 }
 
-// An `err` whose first call fails, or the second, up to the eighth, changes neither the status nor `out`, and takes a beginning
-// of its text; nothing where it is the first.
+// An `err` whose first call fails, or the second, up to the eighth, changes neither the status nor `out`, and
+// takes a beginning of its text; nothing where it is the first.
 fn holds_without_err(
     alloc: Global,
     case: &Case,

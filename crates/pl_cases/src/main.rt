@@ -3,28 +3,32 @@
 //! Each argument names a case file, a text of lines. A line begins with what it is:
 //!
 //! - `#`: a remark; an empty line is one, too;
-//! - `case NAME`: a case begins. What stands before the first case holds for all cases, and a case may state it anew;
+//! - `case NAME`: a case begins. What stands before the first case holds for all cases, and a case may state
+//!   it anew;
 //! - `file NAME`: the text behind it is the file of that name;
-//! - `splits`, `mergers`, `dividends`: each line of the text behind it is a row of that table of `adj.db`: its id, or `+` for one
-//!   more than that of the row before, its effective time in seconds or as a date, its num, its den and its sid, with spaces
-//!   between them;
-//! - `|`: a line of a text. In it `\r` and `\n` are those bytes, `\x20` is the byte of those two digits, and `\` at its end says
-//!   that no line end follows;
-//! - `repeat COUNT from FIRST step STEP|`: so many lines of a text, in which `{n}` is a number that begins at FIRST and grows by
-//!   STEP, `{n+2}` is 2 more, and `{d}`, `{d-1}` are the dates of such numbers of days behind 1970-01-01;
-//! - `$ WORDS`: the words of a command, with a space between them and `\x20` for a space in a word. A case may have several; each
-//!   of them leaves the same;
+//! - `splits`, `mergers`, `dividends`: each line of the text behind it is a row of that table of `adj.db`:
+//!   its id, or `+` for one more than that of the row before, its effective time in seconds or as a date, its
+//!   num, its den and its sid, with spaces between them;
+//! - `|`: a line of a text. In it `\r` and `\n` are those bytes, `\x20` is the byte of those two digits, and
+//!   `\` at its end says that no line end follows;
+//! - `repeat COUNT from FIRST step STEP|`: so many lines of a text, in which `{n}` is a number that begins at
+//!   FIRST and grows by STEP, `{n+2}` is 2 more, and `{d}`, `{d-1}` are the dates of such numbers of days
+//!   behind 1970-01-01;
+//! - `$ WORDS`: the words of a command, with a space between them and `\x20` for a space in a word. A case
+//!   may have several; each of them leaves the same;
 //! - `chunks N..`: each command is run once with each of `--chunk N`; without numbers, once as it is;
-//! - `status N`, `out`, `err`: what a run leaves: its status, which is 0 where none is told, and the texts behind `out` and `err`;
+//! - `status N`, `out`, `err`: what a run leaves: its status, which is 0 where none is told, and the texts
+//!   behind `out` and `err`;
 //! - `loaded`: the text behind it is the tables that a run loads, in that order, a line each;
-//! - `failing shelf`, `failing keeper`, `failing out`: the text behind it is what stands on `err` where the first call of that part
-//!   fails, the second, and so on, a line for each call that a run makes. The status is then 7, 8 or 9, and a beginning of `out`
-//!   stands there, nothing with 7 and 8. A failing `err` changes none of this, and after each of these runs one over the same
-//!   parts leaves what the case states, behind what stands there;
+//! - `failing shelf`, `failing keeper`, `failing out`: the text behind it is what stands on `err` where the
+//!   first call of that part fails, the second, and so on, a line for each call that a run makes. The status
+//!   is then 7, 8 or 9, and a beginning of `out` stands there, nothing with 7 and 8. A failing `err` changes
+//!   none of this, and after each of these runs one over the same parts leaves what the case states, behind
+//!   what stands there;
 //! - `out by lines`: each call of `out` takes a line of it, which `failing out` shows;
 //! - `failing err`: a run whose `err` fails leaves the same, but for `err`;
-//! - `cells yes`, `cells no`: each value of a table is the value of its cell, computed by itself; with `out by cells` the table is
-//!   stated by them alone.
+//! - `cells yes`, `cells no`: each value of a table is the value of its cell, computed by itself; with
+//!   `out by cells` the table is stated by them alone.
 //!
 //! A line is written for each case: `ok NAME`, or `differs NAME` and what was wanted and what came.
 #![tactic(auto)]

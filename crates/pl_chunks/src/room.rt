@@ -13,8 +13,8 @@ use pl_model::World;
 use pl_planner::Plan;
 use pl_terms::{Checked, TermId};
 
-/// The greatest number of cells that an array of a term or of a bar column has in a chunk of at most `size` sessions.
-/// `cols` is used for the assets of the chunks.
+/// The greatest number of cells that an array of a term or of a bar column has in a chunk of at most `size`
+/// sessions. `cols` is used for the assets of the chunks.
 pub fn longest_array(
     world: &World<'_>,
     checked: &Checked,

@@ -21,7 +21,8 @@ use Rattle.pl_cli.specs.declared.commands.Stats.{Stats}
 use Rattle.pl_cli.specs.Texts.{text_of, table_stats, TakesSteps, TellsNumbers}
 use Rattle.pl_cli.specs.Runs.{Observed, HasRoom}
 
--- the table of what was loaded, its steps in chunks of so many sessions, and the line of its numbers where it is asked for
+-- the table of what was loaded, its steps in chunks of so many sessions, and the line of its numbers where it
+-- is asked for
 abbrev pub loaded_text : Loaded → Format → List ℕ
 loaded_text l format =
     let w = owned_world l.world in
@@ -76,7 +77,8 @@ pub record IsEnded (o : Observed) (asked : Option Request) (result : Result (Opt
   pub told : IfOk result (λ stats. TellsNumbers held asked (stats_told stats))
   pub ended : IfErr result (IsEnd o held asked)
 
--- What holds of a fault, whether the parts tell or not: it has its cause, and what stops leaves the sink and the steps as they were.
+-- What holds of a fault, whether the parts tell or not: it has its cause, and what stops leaves the sink and
+-- the steps as they were.
 abbrev pub IsCaused : Type 0 → Type 0 → Type 0 → Type 0 → Type 0 → Fault → Type 0
 IsCaused usage shelf keeper out kept Usage = kept × usage
 IsCaused usage shelf keeper out kept (Unread file) = kept × shelf

@@ -1,4 +1,5 @@
--- What a run of the program is. Texts and Runs are for every reader; Commands are words of the code's own contracts.
+-- What a run of the program is. Texts and Runs are for every reader; Commands are words of the code's own
+-- contracts.
 pub mod Texts
 pub mod Runs
 pub mod Commands

@@ -46,9 +46,10 @@ observed holds shelf_sound lists keeper_sound taken out_sound room shelf keeper 
 abbrev pub HasRoom : Observed → ℕ → Type 0
 HasRoom o n = IsTrue o.out_sound × (n ≤ o.room)
 
--- Files and tables have these contents: those that the parts hold under the names of the words, wherever they tell. Over these the run
--- has ended with a status and the line of a fault as the work says; with status 0 `out` took exactly the text, with status 9 a prefix
--- of it. With status 0 the numbers that are asked for are told, and else none.
+-- Files and tables have these contents: those that the parts hold under the names of the words, wherever they
+-- tell. Over these the run has ended with a status and the line of a fault as the work says; with status 0
+-- `out` took exactly the text, with status 9 a prefix of it. With status 0 the numbers that are asked for are
+-- told, and else none.
 pub record IsRun (o : Observed) (asked : Option Request) (status : ℕ) (line numbers : List ℕ) : Type 0 where
   pub held : Contents
   pub are_held : AreHeld o.files o.lists asked held

@@ -57,8 +57,9 @@ abbrev pub verdict_text : Option ℕ → List ℕ
 verdict_text None = codes "yes" ++ 10 ∷ []
 verdict_text (Some n) = codes "no " ++ decimal n ++ 10 ∷ []
 
--- the table of a run, the canonical text of a script, the counts of a pipeline that keeps the rules, its plan, the numbers of a run
--- over a stated world, the rows of payouts, the derivation of a cell, the verdict on one, or the table that a run has
+-- the table of a run, the canonical text of a script, the counts of a pipeline that keeps the rules, its
+-- plan, the numbers of a run over a stated world, the rows of payouts, the derivation of a cell, the verdict
+-- on one, or the table that a run has
 unfoldable pub text_of : Contents → Option Request → List ℕ
 text_of held None = []
 text_of held (Some (Run q)) = run_text held q
@@ -79,10 +80,10 @@ pub record IsPlanFor (held : Contents) (q : RunRequest) (plan : Planned) : Type 
   pub from : plan.from ≡ index_of (days_held held) q.from.day
   pub to : plan.to ≡ index_of (days_held held) q.to.day
 
--- The steps of a run, as its plan has them over the world that is known by its date: the sum over the chunks of its sessions,
--- the used terms and the bar columns of each, of how often an adjustment acts on a bar as the window goes from session to
--- session. A run over a stated world takes those of its own plan, a table that is computed session by session those of the
--- sessions that are fed, and no other command takes steps.
+-- The steps of a run, as its plan has them over the world that is known by its date: the sum over the chunks
+-- of its sessions, the used terms and the bar columns of each, of how often an adjustment acts on a bar as
+-- the window goes from session to session. A run over a stated world takes those of its own plan, a table
+-- that is computed session by session those of the sessions that are fed, and no other command takes steps.
 abbrev pub TakesSteps : Contents → Option Request → (ℕ → Type 0) → Type 0
 TakesSteps held (Some (Run q)) P =
     (plan : Planned) × IsPlanFor held q plan × P (run_steps (world_known held q) (pipeline_held held) plan q.options.chunk)
@@ -91,8 +92,8 @@ TakesSteps held (Some (Daily q)) P =
     P (daily_steps (world_held held q.world) (pipeline_held held) (index_of (days_held held) q.to.day))
 TakesSteps held asked P = P 0
 
--- The line of the numbers of a table: how many rows it has, the sum of their cells modulo 2 ^ 64, how many arrays are held at once,
--- which is as many as may be, and its steps, as far as 64 bits count.
+-- The line of the numbers of a table: how many rows it has, the sum of their cells modulo 2 ^ 64, how many
+-- arrays are held at once, which is as many as may be, and its steps, as far as 64 bits count.
 abbrev pub numbers_of : List (List ℕ) → Pipeline → List Row → ℕ → List ℕ
 numbers_of texts p rows steps =
     let most = bound p.graph (outputs p) in

@@ -26,14 +26,16 @@ use pl_words::{Options, PlanRequest, RunRequest};
 use std::alloc::Global;
 use std::sync::ledger::Ledger;
 
-/// What a run tells of itself where it is asked to: its numbers, and how often an adjustment was applied to a buffered bar.
+/// What a run tells of itself where it is asked to: its numbers, and how often an adjustment was applied to a
+/// buffered bar.
 #[derive(Clone, Copy, Debug, PartialEq, Eq)]
 pub struct Stats {
     pub numbers: Numbers,
     pub applied: u64,
 }
 
-/// Reads and judges what the request names, and writes the table. It gives the numbers of the run where they are asked for.
+/// Reads and judges what the request names, and writes the table. It gives the numbers of the run where they
+/// are asked for.
 pub fn run_command<S: Shelf, K: AdjustKeeper, O: Sink, L: Ledger>(
     alloc: Global,
     request: &RunRequest<'_>,

@@ -24,8 +24,8 @@ use std::alloc::Global;
 use std::marker::Brand;
 use std::sync::ledger::{Blank, Ledger};
 
-/// Reads the pipeline, the world and the derivation of these names, and writes `yes` where all its lines are right, and else `no`
-/// and the number of the first one that is not.
+/// Reads the pipeline, the world and the derivation of these names, and writes `yes` where all its lines are
+/// right, and else `no` and the number of the first one that is not.
 pub fn verify_command<S: Shelf, K: AdjustKeeper, O: Sink>(
     alloc: Global,
     request: &VerifyRequest<'_>,

@@ -19,7 +19,8 @@ use pl_payouts::write_payouts;
 use pl_words::PayoutsRequest;
 use std::alloc::Global;
 
-/// Reads the sessions, the assets, the bars and the payouts of these names, and writes the rows of the payouts.
+/// Reads the sessions, the assets, the bars and the payouts of these names, and writes the rows of the
+/// payouts.
 pub fn payouts_command<S: Shelf, O: Sink>(
     alloc: Global,
     request: &PayoutsRequest<'_>,

@@ -23,38 +23,40 @@ use std::sync::ledger::Ledger;
 
 /// Runs the program on the words after its name:
 ///
-/// - `run PIPELINE SESSIONS ASSETS BARS FROM TO`, with the options `--labels NAME`, `--adjustments NAME`, `--chunk N`,
-///   `--format csv`, `--format fixed` and `--stats` anywhere among these words, reads the files from the shelf and the
-///   adjustments from the keeper, and writes the table of the sessions FROM to TO to `out`, computed N sessions at a time, 126
-///   where N is not told; with `--stats` it tells its numbers on `err`;
+/// - `run PIPELINE SESSIONS ASSETS BARS FROM TO`, with the options `--labels NAME`, `--adjustments NAME`,
+///   `--chunk N`, `--format csv`, `--format fixed` and `--stats` anywhere among these words, reads the files
+///   from the shelf and the adjustments from the keeper, and writes the table of the sessions FROM to TO to
+///   `out`, computed N sessions at a time, 126 where N is not told; with `--stats` it tells its numbers on
+///   `err`;
 /// - `fmt PIPELINE` writes the canonical text of the pipeline file;
 /// - `check PIPELINE` writes how many terms and columns its pipeline has;
-/// - `plan PIPELINE SESSIONS FROM TO` writes what is computed for these sessions: a line for each used term, and the least
-///   session whose bars are read;
-/// - `payouts SESSIONS ASSETS BARS PAYOUTS` writes the rows of the payouts file for the table of dividends, or why a payout has
-///   none;
-/// - `explain PIPELINE SESSIONS ASSETS BARS SID DATE COLUMN`, with the options `--labels NAME`, `--adjustments NAME` and
-///   `--revisions NAME`, writes the derivation of a cell;
-/// - `verify PIPELINE SESSIONS ASSETS BARS DERIVATION`, with the same options, writes whether all lines of a derivation are
-///   right, or the number of the first that is not;
-/// - `daily PIPELINE SESSIONS ASSETS BARS FROM TO`, with the same options and `--format csv` and `--format fixed`, writes the
-///   table that `run` has, computed session by session from the first one on;
-/// - `bench NUMBER`, with the option `--chunk N`, runs a pipeline of the program's own over the stated world of the number, and
-///   writes the numbers of that run.
+/// - `plan PIPELINE SESSIONS FROM TO` writes what is computed for these sessions: a line for each used term,
+///   and the least session whose bars are read;
+/// - `payouts SESSIONS ASSETS BARS PAYOUTS` writes the rows of the payouts file for the table of dividends,
+///   or why a payout has none;
+/// - `explain PIPELINE SESSIONS ASSETS BARS SID DATE COLUMN`, with the options `--labels NAME`,
+///   `--adjustments NAME` and `--revisions NAME`, writes the derivation of a cell;
+/// - `verify PIPELINE SESSIONS ASSETS BARS DERIVATION`, with the same options, writes whether all lines of a
+///   derivation are right, or the number of the first that is not;
+/// - `daily PIPELINE SESSIONS ASSETS BARS FROM TO`, with the same options and `--format csv` and
+///   `--format fixed`, writes the table that `run` has, computed session by session from the first one on;
+/// - `bench NUMBER`, with the option `--chunk N`, runs a pipeline of the program's own over the stated world
+///   of the number, and writes the numbers of that run.
 ///
 /// It answers the status:
 ///
 /// - 0: all was read, judged and written;
 /// - 2: the words are of none of these forms;
 /// - 3: the pipeline file is not in the language, by its syntax or, but for `fmt`, by its rules;
-/// - 4: a record of a data file or a row of the adjustments breaks a rule; 5: the range is not one of sessions with the bars
-///   that the columns show, or the cell is none of the table's; 6: a limit is passed;
+/// - 4: a record of a data file or a row of the adjustments breaks a rule; 5: the range is not one of
+///   sessions with the bars that the columns show, or the cell is none of the table's; 6: a limit is passed;
 /// - 7: the shelf counted a fault; 8: the keeper did; 9: `out` did, and a prefix of the text stands on it;
 /// - 10: memory ran out before the first byte.
 ///
-/// Every status but 0 has its line on `err`; status 0 has none but the numbers that are asked for. The first fault in the
-/// order of work decides: the words, the pipeline file, the sessions, the assets, the labels, the bars, the payouts, the
-/// adjustments, the revisions, the range or the cell, the derivation. The parts are handed back, so that a caller can run again.
+/// Every status but 0 has its line on `err`; status 0 has none but the numbers that are asked for. The first
+/// fault in the order of work decides: the words, the pipeline file, the sessions, the assets, the labels,
+/// the bars, the payouts, the adjustments, the revisions, the range or the cell, the derivation. The parts
+/// are handed back, so that a caller can run again.
 pub fn run_program<S: Shelf, K: AdjustKeeper, O: Sink, E: Sink, L: Ledger>(
     alloc: Global,
     words: &[String],
@@ -64,13 +66,15 @@ pub fn run_program<S: Shelf, K: AdjustKeeper, O: Sink, E: Sink, L: Ledger>(
     err: &mut E,
     steps: &mut Steps<L>,
 ) -> u8
-    // Whatever the parts tell, there are contents of the files and tables over which the run ended as the definitions say.
+    // Whatever the parts tell, there are contents of the files and tables over which the run ended as the
+    // definitions say.
     ensures run { let asked = request (map (λ s. string_bytes s) words.now) in
         (line : List ℕ) × (numbers : List ℕ) × IsRun (observed S.holds S.sound K.lists K.sound O.taken O.sound O.room
         shelf.old keeper.old out.old out.new steps.old steps.new) asked result line numbers
         × IsTold E.taken E.faults E.sound E.room err.old err.new (line ++ numbers) }
 
-    // The words decide of status 2, unless memory runs out as they are read, and a part that failed has counted it.
+    // The words decide of status 2, unless memory runs out as they are read, and a part that failed has
+    // counted it.
     ensures usage { result ≡ 2 → request (map (λ s. string_bytes s) words.now) ≡ None }
     ensures refused { request (map (λ s. string_bytes s) words.now) ≡ None → ¬ (result ≡ 10) → result ≡ 2 }
     ensures read { result ≡ 7 → Rose (S.faults shelf.old) (S.faults shelf.new) }

@@ -44,15 +44,16 @@ abbrev pub HasNumbers : CrossKind → Part → ℤ → Type 0
 HasNumbers PeerCount x d = Unit {0}
 HasNumbers k x d = IsNumbered x d
 
--- The arrays of a session, asset by asset: the sids, the values of a kind's input, who is kept, and the labels where there are groups.
+-- The arrays of a session, asset by asset: the sids, the values of a kind's input, who is kept, and the
+-- labels where there are groups.
 pub record Columns : Type 0 where
   pub sids : List ℕ
   pub values : List ℤ
   pub keep : List ℤ
   pub labels : Option (List ℤ)
 
--- The columns are those of session d for a kind over its input, its mask and its group. The sids ascend, and each that exists on
--- d is among them.
+-- The columns are those of session d for a kind over its input, its mask and its group. The sids ascend, and
+-- each that exists on d is among them.
 pub record AreArrays (w : World) (k : CrossKind) (x mask group : Part) (d : ℤ) (c : Columns) : Type 0 where
   pub ascend : AllPairs (λ a b. a < b) c.sids
   pub all : living_sids w d ≡ filter (λ a. exists w a d) c.sids

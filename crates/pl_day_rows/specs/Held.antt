@@ -16,15 +16,15 @@ pub record AreTermCells (assets : ℕ) (t : TermCells) : Type 0 where
   pub cells : All IsCell t.row.items
   pub rings : 0 < t.rings.capacity → AreRings assets t.rings.capacity t.rings.rings.items
 
--- the row has the term's cells on the last day, and the rings those of the last sessions up to it; without a day
--- all are the cells of sessions below 0
+-- the row has the term's cells on the last day, and the rings those of the last sessions up to it; without a
+-- day all are the cells of sessions below 0
 pub record HoldsTerm (g : Start) (days : List FedDay) (p : Pipeline) (u : ℕ) (t : TermCells) : Type 0 where
   pub row : (i : ℕ) → i < length g.assets → get_or t.row.items i (pos 0) ≡ cell_on (fed g days) p (sids_of g.assets) u i (last_session days)
   pub rings : 0 < t.rings.capacity → (i : ℕ) → i < length g.assets
       → (ring_at t.rings.rings.items i).items ≡ map (λ n. cell_on (fed g days) p (sids_of g.assets) u i (before (last_session days) n)) (downward t.rings.capacity)
 
--- with a row that has the term's cells of the next day, what was held for the days stands for the list with the
--- day
+-- with a row that has the term's cells of the next day, what was held for the days stands for the list with
+-- the day
 abbrev pub FollowTerm : List ℤ → TermCells → TermCells → Type 0
 FollowTerm row old new =
     (g : Start) (next : FedDay) (days : List FedDay) (p : Pipeline) (u : ℕ) → IsStart g → AreFed g (next ∷ days) → length g.assets ≡ length row

@@ -87,7 +87,8 @@ pub record HoldsStart (t : Turn) (v : Moment) (f : Frequency) (u : ℕ) : Type 0
   pub is : pos first ≡ period_start f v.world.days (pos v.session)
   pub fills : Fills (λ i. cell_of v.world (pipeline_at t) (sids_at t) u i first) (assets_at t) t.start.now
 
--- The day is the session in the world, whose assets and labels are the given ones; each label text has a code.
+-- The day is the session in the world, whose assets and labels are the given ones; each label text has a
+-- code.
 pub record IsDayIn (assets : List AssetRow) (table : LabelTable) (day : ℤ) (v : Moment) : Type 0 where
   pub up : AllPairs (λ a b. a < b) (sids_of assets)
   pub all : HasAll v.world (sids_of assets) v.session

@@ -65,7 +65,8 @@ pub record IsRead (t : Task) (w : Slots) (s size u : ℕ) : Type 0 where
   pub some : 1 ≤ size
   pub early : low_in t u + size ≤ s + 1
 
--- what the node mentions is there for session s and later ones; where it is downsampled, from the first session of the period on
+-- what the node mentions is there for session s and later ones; where it is downsampled, from the first
+-- session of the period on
 pub record IsReady (t : Task) (w : Slots) (s : ℕ) (n : spec.Node) : Type 0 where
   pub inputs : (i u : ℕ) → slice_get n.inputs i ≡ Some (TermInput u) → IsRead t w s n.window u
   pub mask : (u : ℕ) → n.mask ≡ Some u → IsRead t w s 1 u

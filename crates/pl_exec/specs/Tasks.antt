@@ -116,7 +116,8 @@ pub record HasRoom (t : Task) (len : ℕ) : Type 0 where
 abbrev pub HasValues : Task → ℕ → List ℤ → Type 0
 HasValues t k cells = take (assets_in t * count_in t k) cells ≡ array_of t.world t.pipeline (sids_in t) (low_in t k) t.to k
 
--- The slot of each output begins with its values, asset by asset, on the sessions on which it is computed; every other slot is free.
+-- The slot of each output begins with its values, asset by asset, on the sessions on which it is computed;
+-- every other slot is free.
 pub record HoldsOutputs (t : Task) (w : Slots) : Type 0 where
   pub arrays : (k : ℕ) → contains (outputs t.pipeline) k ≡ true → IsHeld (IsArray t k) w (slot_of t.plan k)
   pub values : (k : ℕ) → contains (outputs t.pipeline) k ≡ true → IsHeld (HasValues t k) w (slot_of t.plan k)

@@ -247,10 +247,10 @@ fn term_count(job: &Job<'_>) -> usize
     job.checked.graph().len()
 }
 
-/// Computes the used terms of a planned pipeline in ascending number over the sessions that a chunk needs, each
-/// into its planned slot, and its bar columns into theirs; a result is released after its last user. Then each
-/// output is in its slot, asset by asset, from its first computed session to the chunk's last. It takes no
-/// memory and cannot fail.
+/// Computes the used terms of a planned pipeline in ascending number over the sessions that a chunk needs,
+/// each into its planned slot, and its bar columns into theirs; a result is released after its last user.
+/// Then each output is in its slot, asset by asset, from its first computed session to the chunk's last. It
+/// takes no memory and cannot fail.
 pub fn execute_chunk<L: Ledger>(
     world: &World,
     checked: &Checked,

@@ -1,5 +1,5 @@
-//! The used terms of a pipeline over the sessions of one chunk: each in its planned slot, from the bars and from
-//! the arrays of the terms that it mentions, which are released after their last user.
+//! The used terms of a pipeline over the sessions of one chunk: each in its planned slot, from the bars and
+//! from the arrays of the terms that it mentions, which are released after their last user.
 #![tactic(auto)]
 
 mod chunk;

@@ -23,9 +23,10 @@ use pl_told::{Fact, Rows, Told};
 use std::alloc::Global;
 use std::sync::ledger::Ledger;
 
-/// The number, from 1, of the first line that is not right: where its days are sessions, its sid is known, its
-/// term is used, its bar is of an earlier session, each premise stands in an earlier line, and it tells what one
-/// step gives over the numbers of these. `None` where all lines are right. The only error is want of memory.
+/// The number, from 1, of the first line that is not right: where its days are sessions, its sid is known,
+/// its term is used, its bar is of an earlier session, each premise stands in an earlier line, and it tells
+/// what one step gives over the numbers of these. `None` where all lines are right. The only error is want of
+/// memory.
 pub fn first_wrong<L: Ledger>(
     alloc: Global,
     world: &World,
@@ -36,8 +37,8 @@ pub fn first_wrong<L: Ledger>(
     requires made { IsMade world.now }
     ensures exact { IfOk result (λ r. r
         ≡ spec.first_wrong (world_of world.now) (pipeline_of checked.now) derivation.now) }
-    // Where no line is wrong, each tells the truth: its last cell is the bar's as it is seen, and its value the
-    // term's.
+    // Where no line is wrong, each tells the truth: its last cell is the bar's as it is seen, and its value
+    // the term's.
     ensures truth { IfOk result (λ r. r ≡ None → (i : _) → (l : _) → slice_get derivation.now i ≡ Some l
         → IsTrueLine (world_of world.now) (pipeline_of checked.now) l) }
 {

@@ -1,4 +1,5 @@
-//! Why a cell has its value: the lines of derivations with their text, and the least session that a value needs.
+//! Why a cell has its value: the lines of derivations with their text, and the least session that a value
+//! needs.
 #![tactic(auto)]
 
 mod judge;

@@ -48,8 +48,8 @@ abbrev pub RepeatsAreRight : Type 0
 RepeatsAreRight = (w : World) (p : Pipeline) → HasTexts w → IsGraph p.graph → (lines : List Line) → first_wrong w p lines ≡ None
     → (l : Line) (f : Fact) → fact_of w l ≡ Some f → is_told w lines f ≡ true → is_right w p lines l ≡ tells_world w p l f
 
--- the value of the cell can be explained: its term is used, its asset and session are known, and it reaches to
--- no session below 0
+-- the value of the cell can be explained: its term is used, its asset and session are known, and it reaches
+-- to no session below 0
 pub record IsAsked (w : World) (p : Pipeline) (t a d : ℕ) : Type 0 where
   pub used : is_used p t ≡ true
   pub known : has_sid w a ≡ true

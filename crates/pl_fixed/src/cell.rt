@@ -94,7 +94,8 @@ pub fn mul(a: i64, b: i64) -> i64
     }
 }
 
-/// The quotient of two cells, rounded once; `MISSING` where one of them is, where `b` is 0, or where it is too large.
+/// The quotient of two cells, rounded once; `MISSING` where one of them is, where `b` is 0, or where it is
+/// too large.
 #[tactic(auto, unfolding(pl_spec::specs::Rounding::div))]
 pub fn div(a: i64, b: i64) -> i64
     requires left { IsCell a }

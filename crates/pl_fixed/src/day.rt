@@ -7,7 +7,8 @@ ghost use Rattle.pl_fixed.specs.Pairs.{IsPairAt};
 use jiff::civil::Date;
 use jiff_core::civil;
 
-/// The day of a date `YYYY-MM-DD` of the years 1900 to 2199, counted from 1970-01-01; `None` for any other bytes.
+/// The day of a date `YYYY-MM-DD` of the years 1900 to 2199, counted from 1970-01-01; `None` for any other
+/// bytes.
 pub fn read_day(b: &[u8]) -> Option<i32>
     ensures exact { result ≡ date_in b.now }
     ensures found { IfSome result (IsDate b.now) }
@@ -107,8 +108,8 @@ fn put_date(day: i32, out: &mut [u8; 10])
     ];
 }
 
-/// The number of the month that a day from 1900-01-01 to 2199-12-31 is of: twelve for each year, and in a year
-/// 0 for January.
+/// The number of the month that a day from 1900-01-01 to 2199-12-31 is of: twelve for each year, and in a
+/// year 0 for January.
 pub fn month_number(day: i32) -> u32
     requires { IsDay day }
     ensures value { result ≡ month_number day }

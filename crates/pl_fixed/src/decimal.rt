@@ -27,8 +27,8 @@ pub enum DecimalFault {
 // As many units as no cell holds: more of them count as these.
 const MOST_UNITS: u64 = 1_000_000_000_000;
 
-/// The cell that the bytes write in decimal: an optional `-`, digits, and optionally a point and 1 to 18 digits. It is
-/// rounded once to millionths, ties away from zero. Leading zeros are accepted.
+/// The cell that the bytes write in decimal: an optional `-`, digits, and optionally a point and 1 to 18
+/// digits. It is rounded once to millionths, ties away from zero. Leading zeros are accepted.
 pub fn read_decimal(b: &[u8]) -> Result<i64, DecimalFault>
     ensures exact { result ≡ read b.now }
     ensures value { (v : ℤ) → (result ≡ Ok v) ↔ ((d : Decimal) × IsDecimal d b.now × IsReadAs d v) }
@@ -116,8 +116,8 @@ fn power_of_ten(exponent: usize) -> u64
     10u64.pow(exponent as u32)
 }
 
-// The millionths of `units` and `part` of 10^`digits` parts of a unit, rounded once. Of at most six digits nothing
-// is rounded, and nothing divided.
+// The millionths of `units` and `part` of 10^`digits` parts of a unit, rounded once. Of at most six digits
+// nothing is rounded, and nothing divided.
 fn millionths(negative: bool, units: u64, part: u64, digits: usize) -> i128
     requires units { units ≤ MOST_UNITS }
     requires part { part ≤ MOST_VALUE }
@@ -175,8 +175,9 @@ fn rounded(negative: bool, units: u64, part: u64, scale: u64) -> i128
     }
 }
 
-/// Writes the text of a cell at the front of `out`, with exactly six digits behind the point and no zeros in front,
-/// and gives its length: 0 for `MISSING`. `read_decimal` reads the text of any other cell as that cell.
+/// Writes the text of a cell at the front of `out`, with exactly six digits behind the point and no zeros in
+/// front, and gives its length: 0 for `MISSING`. `read_decimal` reads the text of any other cell as that
+/// cell.
 #[tactic(auto, unfolding(pl_spec::specs::Decimals::cell_text))]
 pub fn write_decimal(cell: i64, out: &mut [u8; 32]) -> usize
     requires { IsCell cell }

@@ -1,5 +1,5 @@
-//! Fixed-point numbers: cells of millionths with exact arithmetic, ratios, the texts of cells, days, sids and names, and
-//! the counter of steps. No call takes memory.
+//! Fixed-point numbers: cells of millionths with exact arithmetic, ratios, the texts of cells, days, sids and
+//! names, and the counter of steps. No call takes memory.
 #![tactic(auto)]
 
 mod cell;

@@ -2,8 +2,8 @@ ghost use Rattle.std.specs.Prelude.{◌≡◌};
 ghost use Rattle.std.specs.List.{list_all};
 ghost use Rattle.pl_spec.specs.Names.{is_name, is_keyword, starts_word, is_word_byte};
 
-/// Whether a text is a name of the pipeline language: a letter or `_`, then letters, digits or `_`, all ASCII, at most 32
-/// bytes, and none of the keywords `pipeline`, `let`, `column` and `screen`.
+/// Whether a text is a name of the pipeline language: a letter or `_`, then letters, digits or `_`, all
+/// ASCII, at most 32 bytes, and none of the keywords `pipeline`, `let`, `column` and `screen`.
 pub fn is_name(b: &[u8]) -> bool
     ensures { result ≡ is_name b.now }
 {

@@ -7,8 +7,8 @@ use crate::digits::{is_numeral, value_up_to};
 // One more than the greatest sid.
 const SID_END: u64 = 1 << 32;
 
-/// The sid that the bytes write: a number from 0 to 4294967295 without sign and without leading zeros; `None` for any
-/// other bytes.
+/// The sid that the bytes write: a number from 0 to 4294967295 without sign and without leading zeros; `None`
+/// for any other bytes.
 pub fn read_sid(b: &[u8]) -> Option<u32>
     ensures exact { result ≡ sid_in b.now }
     ensures found { IfSome result (λ sid. b.now ≡ decimal sid) }

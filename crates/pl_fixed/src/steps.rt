@@ -3,8 +3,8 @@ ghost use Rattle.std.specs.Prelude.{◌≡◌, ℕ, ◌+◌, ◌<◌};
 use std::marker::{Brand, Model};
 use std::sync::ledger::{Blank, Book, Ledger, Share};
 
-/// The number of steps counted so far. It takes no bytes at run time, and only `tick` changes it, so a contract
-/// can say exactly how many steps a call takes.
+/// The number of steps counted so far. It takes no bytes at run time, and only `tick` changes it, so a
+/// contract can say exactly how many steps a call takes.
 #[derive(Drop)]
 pub struct Steps<L: Ledger> {
     book: Book<L>,

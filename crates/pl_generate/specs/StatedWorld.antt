@@ -1,6 +1,7 @@
--- The stated world of a number: 400 assets over 600 weekdays from 2020-01-01 on, each with a sector and a bar on
--- every session, and 300 adjustments. All draws stand in one sequence, which begins with the number: first 400 for the
--- sectors, then 1,201 for the bars of each asset, one asset after the other, and then those of the adjustments.
+-- The stated world of a number: 400 assets over 600 weekdays from 2020-01-01 on, each with a sector and a bar
+-- on every session, and 300 adjustments. All draws stand in one sequence, which begins with the number: first
+-- 400 for the sectors, then 1,201 for the bars of each asset, one asset after the other, and then those of
+-- the adjustments.
 use Rattle.std.specs.Prelude.{◌≡◌, ℕ, zero, suc, ◌+◌, ◌-◌, ◌*◌, ◌%◌, nat_lt, Bool, if◌then◌else◌, ℤ, pos, ◌+ℤ◌, ◌-ℤ◌, ◌*ℤ◌, ◌≤ℤ◌, codes, List, [], ◌∷◌, map, filter, take, flat_map, slice_index_or}
 use Rattle.std.specs.List.{range_with_len}
 use Rattle.std.specs.Int.RustNames.{int_lt}
@@ -99,7 +100,8 @@ adjust state id num den =
       sid = pos (1 + drawn state 0 400);
     }
 
--- The adjustments come in turn, a split 1/2, a merger 9/10 and a dividend, which draws its num: seven draws a turn.
+-- The adjustments come in turn, a split 1/2, a merger 9/10 and a dividend, which draws its num: seven draws a
+-- turn.
 abbrev pub turn : ℕ → ℕ → ℕ
 turn state k = behind state (7 * k)
 

@@ -1,8 +1,8 @@
 //! The stated world: a large world that anyone can make anew from a number, for measures of a run.
 //!
-//! It has 400 assets over 600 weekdays from 2020-01-01 on, a sector for each asset, a bar for each asset and session,
-//! and 300 adjustments. All that varies is drawn by a linear congruential generator whose state begins with the
-//! number. The world is this project's own, and no market's.
+//! It has 400 assets over 600 weekdays from 2020-01-01 on, a sector for each asset, a bar for each asset and
+//! session, and 300 adjustments. All that varies is drawn by a linear congruential generator whose state
+//! begins with the number. The world is this project's own, and no market's.
 #![tactic(auto)]
 
 ghost use Rattle.std.specs.Prelude.{◌≡◌, IfOk};

@@ -32,8 +32,8 @@ term_asked p q = unwrap_or (column_term p q.column) 0
 abbrev pub term_reach : List ℤ → Pipeline → ℕ → ℕ → ℤ
 term_reach days p t d = reach days (term_at p.graph t) (pos d)
 
--- the date is a session, the sid is of an asset, the column is one of the pipeline, and its value on the date needs no session before
--- the first one
+-- the date is a session, the sid is of an asset, the column is one of the pipeline, and its value on the date
+-- needs no session before the first one
 unfoldable pub cell_steps : Pipeline → List ℤ → List AssetRow → ExplainRequest → List Step
 cell_steps p days assets q =
     let needs = term_reach days p (term_asked p q) (index_of days q.date.day) in

@@ -19,8 +19,8 @@ pub record Need : Type 0 where
 abbrev pub all_on : ℤ → List ℕ → List Need
 all_on s terms = map (λ t. record { term = t; session = s }) terms
 
--- What a node reads for its session s: its inputs from the first session of its window on, its mask and its group
--- on s.
+-- What a node reads for its session s: its inputs from the first session of its window on, its mask and its
+-- group on s.
 abbrev pub node_reads : List ℤ → Option Node → ℤ → List Need
 node_reads days None s = []
 node_reads days (Some n) s =

@@ -44,8 +44,8 @@ dates_steps from to as_of days =
     ∷ rule (when (are_backwards (index_of days from.day) (index_of days to.day) (index_asked days as_of)) Backwards)
     ∷ []
 
--- The range from .. to has a plan: on its first session no bars of a session before the first one are shown, and no
--- term has too many extra rows.
+-- The range from .. to has a plan: on its first session no bars of a session before the first one are shown,
+-- and no term has too many extra rows.
 unfoldable pub plan_steps : Pipeline → List ℤ → ℕ → ℕ → List Step
 plan_steps p days from to =
     rule (when (int_lt (reach_at days p from) (pos 0)) (TooEarly (reach_at days p from)))

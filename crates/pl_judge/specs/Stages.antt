@@ -5,8 +5,8 @@ use Rattle.pl_judge.specs.declared.fault.Fault.TheVariants.{Usage, Unread, Unloa
 use Rattle.pl_judge.specs.Steps.{Step, first_fault, ReachesRead}
 use Rattle.pl_judge.specs.Steps.Source.{Input, Load}
 
--- What stops the steps from outside: a read that a step before the first fault makes fails, but not over a sound part; or memory
--- is wanted.
+-- What stops the steps from outside: a read that a step before the first fault makes fails, but not over a
+-- sound part; or memory is wanted.
 abbrev pub StopsOutside : Bool → Bool → List Step → Fault → Type 0
 StopsOutside shelf keeper steps (Unread file) = ReachesRead steps (Input file) × (IsTrue shelf → ⊥)
 StopsOutside shelf keeper steps (Unloaded table) = ReachesRead steps (Load table) × (IsTrue keeper → ⊥)
@@ -22,7 +22,8 @@ pub record StageEnds {T : Type 0} (shelf keeper : Bool) (steps : List Step) (res
   pub passed : OnOk result (first_fault steps ≡ None)
   pub stopped : IfErr result (IsStop shelf keeper steps)
 
--- A stage has no fault of the words nor of what is written, and a read fails only where the count of its object rose.
+-- A stage has no fault of the words nor of what is written, and a read fails only where the count of its
+-- object rose.
 abbrev pub IsRisen : Type 0 → Type 0 → Fault → Type 0
 IsRisen shelf keeper Usage = ⊥
 IsRisen shelf keeper (Unread file) = shelf

@@ -24,8 +24,8 @@ pub struct CellPlace {
     pub session: usize,
 }
 
-/// The cell that is asked for: its date is a session, its sid is of an asset, its column is one of the pipeline,
-/// and its value needs no session before the first one.
+/// The cell that is asked for: its date is a session, its sid is of an asset, its column is one of the
+/// pipeline, and its value needs no session before the first one.
 pub fn judge_cell(
     alloc: Global,
     request: &ExplainRequest<'_>,

@@ -1,8 +1,9 @@
-//! What the input of a command is judged to be: the faults with their statuses and lines, the work of a command in its order,
-//! the range of a run, and the line of its numbers.
+//! What the input of a command is judged to be: the faults with their statuses and lines, the work of a
+//! command in its order, the range of a run, and the line of its numbers.
 //!
-//! The definitions that a reader of the top call needs stand in `specs`: `Faults` (statuses and lines), `Contents` (what files
-//! and tables hold), `Held` (what that is read as), `Work` (the steps and the first fault), `Range`, `Ends` and `Numbers`.
+//! The definitions that a reader of the top call needs stand in `specs`: `Faults` (statuses and lines),
+//! `Contents` (what files and tables hold), `Held` (what that is read as), `Work` (the steps and the first
+//! fault), `Range`, `Ends` and `Numbers`.
 #![tactic(auto)]
 
 mod cell;

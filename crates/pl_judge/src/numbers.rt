@@ -6,8 +6,8 @@ use crate::write_pieces;
 use itoa::Buffer;
 use pl_outside::{Failed, Sink};
 
-/// The numbers of a run: how many rows it has, the sum of their cells modulo 2^64, the greatest number of arrays that are held
-/// at once, and how many its plan allows.
+/// The numbers of a run: how many rows it has, the sum of their cells modulo 2^64, the greatest number of
+/// arrays that are held at once, and how many its plan allows.
 #[derive(Clone, Copy, Debug, PartialEq, Eq)]
 pub struct Numbers {
     pub rows: u64,
@@ -41,8 +41,8 @@ pub fn write_numbers<O: Sink>(out: &mut O, numbers: Numbers) -> Result<(), Faile
     )
 }
 
-/// Writes `rows=R cells=C peak=P bound=B applied=A` and a line end, where so many adjustments were applied to buffered bars. It
-/// takes no memory.
+/// Writes `rows=R cells=C peak=P bound=B applied=A` and a line end, where so many adjustments were applied to
+/// buffered bars. It takes no memory.
 pub fn write_stats<E: Sink>(err: &mut E, numbers: Numbers, applied: u64) -> Result<(), Failed>
     ensures { Writes E.taken E.faults E.sound E.room err.old err.new
         (stats_line numbers.rows numbers.cells numbers.peak numbers.bound applied) result }

@@ -16,8 +16,8 @@ use pl_terms::Checked;
 use pl_words::{DateWord, RangeDate};
 use std::alloc::Global;
 
-/// The sessions from which and to which rows are written, and the one as of which they are, where one is asked
-/// for.
+/// The sessions from which and to which rows are written, and the one as of which they are, where one is
+/// asked for.
 #[derive(Clone, Copy, Debug, PartialEq, Eq)]
 pub struct Range {
     pub from: usize,

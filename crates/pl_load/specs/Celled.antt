@@ -31,8 +31,8 @@ pub record IsExplainable (l : LoadedCell) : Type 0 where
   pub within : l.cell.session < length l.world.sessions
   pub reach : pos 0 ≤ℤ term_reach l.world.sessions (pipeline_of l.checked) l.cell.term.0 l.cell.session
 
--- A cell is loaded with its pipeline and its world: they are those of contents which the parts hold where they tell, and the work
--- over these, up to how long its derivation is, ends so.
+-- A cell is loaded with its pipeline and its world: they are those of contents which the parts hold where
+-- they tell, and the work over these, up to how long its derivation is, ends so.
 pub record IsCellLoad (files : Option Files) (lists : Option Lists) (shelf keeper : Bool) (q : ExplainRequest)
     (result : Result LoadedCell Fault) : Type 0 where
   pub held : Contents

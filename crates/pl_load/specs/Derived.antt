@@ -18,8 +18,8 @@ pub record IsDerivationHeld (held : Contents) (q : VerifyRequest) (l : LoadedDer
   pub world : world_held held q.world ≡ owned_world l.world
   pub lines : derivation_held held ≡ l.derivation
 
--- A derivation is loaded with its pipeline and its world: they are those of contents which the parts hold where they tell, and the
--- work over these ends so.
+-- A derivation is loaded with its pipeline and its world: they are those of contents which the parts hold
+-- where they tell, and the work over these ends so.
 pub record IsDerivationLoad (files : Option Files) (lists : Option Lists) (shelf keeper : Bool) (q : VerifyRequest)
     (result : Result LoadedDerivation Fault) : Type 0 where
   pub held : Contents

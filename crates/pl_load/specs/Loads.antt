@@ -24,8 +24,8 @@ use Rattle.pl_judge.specs.Stages.{StageEnds}
 use Rattle.pl_load.specs.declared.loading.Loaded.{Loaded}
 use Rattle.pl_load.specs.declared.planning.PlannedPipeline.{PlannedPipeline}
 
--- The world is what is known of the other by session d, up to which it shows what the other does; without a session it is the
--- other itself.
+-- The world is what is known of the other by session d, up to which it shows what the other does; without a
+-- session it is the other itself.
 pub record IsKnownBy (w : OwnedWorld) (d : ℕ) (v : OwnedWorld) : Type 0 where
   pub day : ℤ
   pub is_day : slice_get w.sessions d ≡ Some day
@@ -36,8 +36,9 @@ abbrev pub IsKnown : OwnedWorld → Option ℕ → OwnedWorld → Type 0
 IsKnown w None v = v ≡ w
 IsKnown w (Some d) v = IsKnownBy w d v
 
--- The parts are those of the contents, as far as they are known by the date as of which the run is, and the plan is one of the
--- pipeline over the sessions, for the range of the two dates. The rows of the range are those of the whole world.
+-- The parts are those of the contents, as far as they are known by the date as of which the run is, and the
+-- plan is one of the pipeline over the sessions, for the range of the two dates. The rows of the range are
+-- those of the whole world.
 pub record IsLoaded (held : Contents) (q : RunRequest) (l : Loaded) : Type 0 where
   pub pipeline : pipeline_held held ≡ pipeline_of l.checked
   pub world : world_known held q ≡ owned_world l.world
@@ -56,7 +57,8 @@ pub record AreDataHeld (files : Option Files) (lists : Option Lists) (q : WorldN
   pub files_held : (file : InputFile) → ForSome (world_name q file) (λ name. ForSome files (λ told. held.file file ≡ told name))
   pub rows_held : (table : Table) → ForSome q.adjustments (λ name. ForSome lists (λ told. held.rows table ≡ told name table))
 
--- The data of a world is read: it is that of contents which the parts hold where they tell, and the work over these ends so.
+-- The data of a world is read: it is that of contents which the parts hold where they tell, and the work over
+-- these ends so.
 pub record IsData (files : Option Files) (lists : Option Lists) (shelf keeper : Bool) (q : WorldNames) (result : Result OwnedWorld Fault) : Type 0 where
   pub held : Contents
   pub are_held : AreDataHeld files lists q held
@@ -71,8 +73,8 @@ pub record IsLoad (files : Option Files) (lists : Option Lists) (shelf keeper : 
   pub ends : StageEnds shelf keeper (run_steps held q) result
   pub loaded : IfOk result (IsLoaded held q)
 
--- The pipeline is that of the contents, and the plan is one of it over their sessions, for the range of the two
--- dates.
+-- The pipeline is that of the contents, and the plan is one of it over their sessions, for the range of the
+-- two dates.
 pub record IsPlanned (held : Contents) (q : PlanRequest) (l : PlannedPipeline) : Type 0 where
   pub pipeline : pipeline_held held ≡ pipeline_of l.checked
   pub plan : IsPlanOf (days_held held) (pipeline_of l.checked) l.plan

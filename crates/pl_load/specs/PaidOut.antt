@@ -23,8 +23,8 @@ pub record IsPayable (l : LoadedPayouts) : Type 0 where
   pub known : AreKnown l.assets l.payouts
   pub cols : All (λ b. b.col < length l.assets) l.bars
 
--- The payouts are loaded: they are those of contents which the shelf holds where it tells, and the work over these ends so. No
--- tables are asked for.
+-- The payouts are loaded: they are those of contents which the shelf holds where it tells, and the work over
+-- these ends so. No tables are asked for.
 pub record IsPayoutsLoad (files : Option Files) (shelf : Bool) (q : PayoutsRequest) (result : Result LoadedPayouts Fault) : Type 0 where
   pub held : Contents
   pub are_held : (lists : Option Lists) → AreHeld files lists (Some (Payouts q)) held

@@ -23,7 +23,8 @@ pub struct LoadedCell {
     pub cell: CellPlace,
 }
 
-/// All that the derivation of a cell reads and judges, in the order of work: the pipeline, the world, and the cell.
+/// All that the derivation of a cell reads and judges, in the order of work: the pipeline, the world, and the
+/// cell.
 pub fn load_cell<S: Shelf, K: AdjustKeeper>(
     alloc: Global,
     request: &ExplainRequest<'_>,

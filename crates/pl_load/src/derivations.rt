@@ -25,7 +25,8 @@ pub struct LoadedDerivation {
     pub derivation: Derivation,
 }
 
-/// All that the check of a derivation reads and judges, in the order of work: the pipeline, the world, and the lines.
+/// All that the check of a derivation reads and judges, in the order of work: the pipeline, the world, and
+/// the lines.
 pub fn load_derivation<S: Shelf, K: AdjustKeeper>(
     alloc: Global,
     request: &VerifyRequest<'_>,

@@ -1,4 +1,5 @@
-//! From the files and tables of a command to what it works on: each is read whole and judged before the next one is begun.
+//! From the files and tables of a command to what it works on: each is read whole and judged before the next
+//! one is begun.
 #![tactic(auto)]
 
 mod cells;

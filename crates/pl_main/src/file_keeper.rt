@@ -12,8 +12,8 @@ use std::alloc::Global;
 use std::fs;
 use std::io::{self, ErrorKind};
 
-/// Database files of SQLite by their paths: each load opens the named file and reads its table. It tells nothing but its
-/// faults.
+/// Database files of SQLite by their paths: each load opens the named file and reads its table. It tells
+/// nothing but its faults.
 #[derive(Drop)]
 pub struct FileKeeper<'a> {
     rt: &'a HostRuntime,
@@ -81,8 +81,9 @@ fn read_named(
     read_table(alloc, &mut connection, table, into)
 }
 
-// The file and the log beside it are read whole and opened in memory: SQLite would make a file that isn't there, and would
-// write a log. An empty file is no database yet, and one whose transaction was cut off would first have to be mended.
+// The file and the log beside it are read whole and opened in memory: SQLite would make a file that isn't
+// there, and would write a log. An empty file is no database yet, and one whose transaction was cut off would
+// first have to be mended.
 fn open_copy(
     rt: &HostRuntime,
     alloc: Global,

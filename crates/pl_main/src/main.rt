@@ -1,7 +1,7 @@
 //! The program `tohmeril`: the words after its name, real files, standard output and standard error.
 //!
-//! `pl_cli::run_program` does the work, and its contract says what comes of it. Here stand the adapters to the outside, which
-//! are trusted: what a file holds and what a stream shows, no clause can say.
+//! `pl_cli::run_program` does the work, and its contract says what comes of it. Here stand the adapters to
+//! the outside, which are trusted: what a file holds and what a stream shows, no clause can say.
 #![tactic(auto)]
 
 ghost use Rattle.std.specs.Prelude.{◌≡◌, ◌<◌, ◌↔◌};

@@ -24,8 +24,8 @@ pub record IsKnown (w : World) (d : ℕ) (v : OwnedWorld) : Type 0 where
   pub world : owned_world v ≡ as_of (world_of w) d day
   pub agrees : Agree (owned_world v) (world_of w) (pos d) day
 
--- two worlds have the same rows of a pipeline from a session to a session, these are written alike, and labels have
--- the same codes
+-- two worlds have the same rows of a pipeline from a session to a session, these are written alike, and
+-- labels have the same codes
 pub record ShowsSame (w v : spec.World) (p : Pipeline) (from to : ℕ) : Type 0 where
   pub rows : table w p from to ≡ table v p from to
   pub written : (format : Format) → text w p format (table w p from to) ≡ text v p format (table v p from to)

@@ -23,8 +23,8 @@ abbrev pub ValuesFollowNodes : Parts → Type 0
 ValuesFollowNodes c = (w : World) (t : ℕ) (n : Node) → slice_get (graph_of c.graph) t ≡ Some n
     → (a : ℕ) (d : ℤ) → value_of w (pipeline_of c) t a d ≡ node_value w (pipeline_of c).names (graph_of c.graph) n a d
 
--- Where two worlds agree up to session d, every term has one value in both, for every sid on every session up to
--- d, and their tables have the same rows up to d and are written alike: what comes later changes nothing.
+-- Where two worlds agree up to session d, every term has one value in both, for every sid on every session up
+-- to d, and their tables have the same rows up to d and are written alike: what comes later changes nothing.
 pub record LaterDataChangeNothing (c : Parts) : Type 0 where
   pub values : (w v : World) (d day : ℤ) → IsWorld w → IsWorld v → Agree w v d day
       → (t a : ℕ) (s : ℤ) → s ≤ℤ d → value_of w (pipeline_of c) t a s ≡ value_of v (pipeline_of c) t a s

@@ -28,16 +28,16 @@ pub fn early_bars_change_nothing(checked: &Checked)
     let _terms = checked.graph();
 }
 
-/// A term of a checked pipeline is worth what its node gives over the values of the terms of lower numbers that
-/// it mentions.
+/// A term of a checked pipeline is worth what its node gives over the values of the terms of lower numbers
+/// that it mentions.
 pub fn values_follow_nodes(checked: &Checked)
     ensures { ValuesFollowNodes checked.now }
 {
     let _terms = checked.graph();
 }
 
-/// What comes to be known later changes nothing: in worlds that agree up to a session, every term of a checked
-/// pipeline has the same values up to it, and its table the same rows.
+/// What comes to be known later changes nothing: in worlds that agree up to a session, every term of a
+/// checked pipeline has the same values up to it, and its table the same rows.
 pub fn later_data_change_nothing(checked: &Checked)
     ensures { LaterDataChangeNothing checked.now }
 {

@@ -171,8 +171,8 @@ pub(crate) fn section_at(
     Ok(row[col])
 }
 
-/// A cross-section's cells on a session, asset by asset, over the rows of its input, its mask and its group. The
-/// sessions that the term reaches are of no matter: the rows are given.
+/// A cross-section's cells on a session, asset by asset, over the rows of its input, its mask and its group.
+/// The sessions that the term reaches are of no matter: the rows are given.
 pub fn section_row(
     alloc: Global,
     world: &World,

@@ -1,7 +1,8 @@
 -- What calls leave of a shelf or a keeper.
 use Rattle.std.specs.Prelude.{ℕ, ◌≡◌, ◌≤◌, Bool, Option}
 
--- All is as it was but for the counts: it tells the same, it is sound where it was, and its count of faults hasn't fallen.
+-- All is as it was but for the counts: it tells the same, it is sound where it was, and its count of faults
+-- hasn't fallen.
 pub record Leaves {S A : Type 0} (tells : S → Option A) (sound : S → Bool) (faults : S → ℕ) (old new : S) : Type 0 where
   pub keeps : tells new ≡ tells old
   pub stays : sound new ≡ sound old

@@ -14,7 +14,8 @@ TakesPrefix old new bytes = (n : ℕ) × (n ≤ length bytes) × TakesAll old ne
 abbrev pub IsBlameless : {T E : Type 0} → Bool → ℕ → ℕ → ℕ → ℕ → Result T E → Type 0
 IsBlameless sound room length before now result = IsTrue sound → length ≤ room → IsOk result × (now ≡ before)
 
--- A call writes this text to a sink: all of it, or after a counted fault a prefix; and all of it to a sound sink with room.
+-- A call writes this text to a sink: all of it, or after a counted fault a prefix; and all of it to a sound
+-- sink with room.
 pub record Writes {S T E : Type 0} (taken : S → Option (List ℕ)) (faults : S → ℕ) (sound : S → Bool) (room : S → ℕ)
     (old new : S) (text : List ℕ) (result : Result T E) : Type 0 where
   pub all : OnOk result (TakesAll (taken old) (taken new) text)

@@ -10,8 +10,8 @@ use pl_spec::RawAdjust;
 use std::alloc::Global;
 use std::marker::Model;
 
-/// Three lists of rows under one name, and empty lists under each other name. It is sound exactly where `failing` is
-/// empty: a load fails exactly where its number is in that list.
+/// Three lists of rows under one name, and empty lists under each other name. It is sound exactly where
+/// `failing` is empty: a load fails exactly where its number is in that list.
 #[derive(Drop)]
 pub struct MemoryKeeper {
     name: String,

@@ -11,8 +11,8 @@ use crate::shelf::Shelf;
 use std::alloc::Global;
 use std::marker::Model;
 
-/// Files by name. It is sound exactly where `failing` is empty: a call fails exactly where its number is in that list or
-/// a name to begin isn't held.
+/// Files by name. It is sound exactly where `failing` is empty: a call fails exactly where its number is in
+/// that list or a name to begin isn't held.
 #[derive(Drop)]
 pub struct MemoryShelf {
     files: Vec<File>,
@@ -35,8 +35,8 @@ impl Model for MemoryShelf {
 }
 
 impl MemoryShelf {
-    /// A shelf without files. `failing` holds the numbers of the calls of `begin` and `next` that are to fail, counted
-    /// from 1 over both together.
+    /// A shelf without files. `failing` holds the numbers of the calls of `begin` and `next` that are to
+    /// fail, counted from 1 over both together.
     pub fn new(alloc: Global, failing: Vec<u64>) -> MemoryShelf
         ensures { result ≡ record { files = []; rest = []; given = 0; calls = no_calls failing.items } }
     {

@@ -9,8 +9,9 @@ use crate::sink::Sink;
 use std::alloc::Global;
 use std::marker::Model;
 
-/// A sink that keeps what it takes. It is sound exactly where `failing` is empty: a write fails exactly where its number
-/// is in that list or the piece is longer than the room, which is what was reserved and isn't yet taken.
+/// A sink that keeps what it takes. It is sound exactly where `failing` is empty: a write fails exactly where
+/// its number is in that list or the piece is longer than the room, which is what was reserved and isn't yet
+/// taken.
 #[derive(Drop)]
 pub struct MemorySink {
     bytes: Vec<u8>,
@@ -31,8 +32,8 @@ impl Model for MemorySink {
 }
 
 impl MemorySink {
-    /// A sink without room. `failing` holds the numbers of the writes that are to fail, counted from 1. A write takes at
-    /// most `piece` bytes, or any number of them where `piece` is 0.
+    /// A sink without room. `failing` holds the numbers of the writes that are to fail, counted from 1. A
+    /// write takes at most `piece` bytes, or any number of them where `piece` is 0.
     pub fn new(alloc: Global, failing: Vec<u64>, piece: usize) -> MemorySink
         ensures { result ≡ record { taken = []; room = 0; piece = piece; calls = no_calls failing.items } }
     {

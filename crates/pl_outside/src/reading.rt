@@ -8,7 +8,8 @@ use crate::faults::Failed;
 use crate::shelf::Shelf;
 use std::alloc::{AllocError, Global};
 
-/// Why a file isn't read: the shelf counted a fault, the file has more bytes than are allowed, or no memory was found.
+/// Why a file isn't read: the shelf counted a fault, the file has more bytes than are allowed, or no memory
+/// was found.
 #[derive(Clone, Copy, Debug, PartialEq, Eq)]
 pub enum ReadError {
     Failed,
@@ -41,8 +42,9 @@ const PIECE: usize = 65_536;
 
 /// The whole bytes of the named file, if there are at most `cap`, which is below 2^32.
 ///
-/// Answers Failed only where the shelf counted a fault, over a sound shelf exactly where the name isn't held; TooLong
-/// where `cap + 1` bytes were given; Memory where the bytes find none. It makes at most `cap + 2` calls of the shelf.
+/// Answers Failed only where the shelf counted a fault, over a sound shelf exactly where the name isn't held;
+/// TooLong where `cap + 1` bytes were given; Memory where the bytes find none. It makes at most `cap + 2`
+/// calls of the shelf.
 pub fn read_file<S: Shelf>(
     alloc: Global,
     shelf: &mut S,

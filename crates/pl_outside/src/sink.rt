@@ -7,8 +7,8 @@ use crate::faults::Failed;
 
 /// What takes bytes, one piece after another.
 ///
-/// A sound sink tells what it took and has a room, a number of bytes. It counts a fault or answers Failed only where a
-/// piece is longer than its room.
+/// A sound sink tells what it took and has a room, a number of bytes. It counts a fault or answers Failed
+/// only where a piece is longer than its room.
 pub trait Sink {
     /// The bytes taken so far, where it tells.
     ghost taken: { Self → Option (List ℕ) };
@@ -25,7 +25,8 @@ pub trait Sink {
     /// How many more bytes it has room for. This is meant where it is sound.
     ghost room: { Self → ℕ };
 
-    /// Takes bytes from the front of the piece, and tells how many. To take nothing of a nonempty piece is a fault.
+    /// Takes bytes from the front of the piece, and tells how many. To take nothing of a nonempty piece is a
+    /// fault.
     fn write(&mut self, bytes: &[u8]) -> Result<usize, Failed>
         ensures within { IfOk result (λ n. n ≤ length bytes.now) }
         ensures some { IfOk result (λ n. 0 < length bytes.now → 0 < n) }

@@ -57,12 +57,13 @@ last_line reach bound = codes "reach=" ++ signed_decimal reach ++ codes " bound=
 unfoldable pub lines_text : Pipeline → (ℕ → ℕ) → List ℕ
 lines_text p extra = flat_map (line_at p extra) (used_terms p.graph (outputs p))
 
--- These, and a line for the whole: with the extra rows of the terms, the least session that is reached and the
--- greatest number of arrays at once.
+-- These, and a line for the whole: with the extra rows of the terms, the least session that is reached and
+-- the greatest number of arrays at once.
 unfoldable pub plan_text : Pipeline → (ℕ → ℕ) → ℤ → ℕ → List ℕ
 plan_text p extra reach bound = lines_text p extra ++ last_line reach bound
 
--- the text of the plan of a pipeline, over the sessions of these days, for a range that begins with session from
+-- the text of the plan of a pipeline, over the sessions of these days, for a range that begins with session
+-- from
 pub record IsPlanText (days : List ℤ) (p : Pipeline) (from : ℕ) (text : List ℕ) : Type 0 where
   pub extra : ℕ → ℕ
   pub low : (t : ℕ) → is_used p t ≡ true → IsLow days p.graph (outputs p) (pos from) t (pos from -ℤ pos (extra t))

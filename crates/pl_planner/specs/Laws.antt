@@ -6,8 +6,8 @@ use Rattle.pl_spec.specs.Table.{Pipeline}
 use Rattle.pl_terms.specs.Checked.{IsChecked}
 use Rattle.pl_planner.specs.Plans.{Planned, IsAsked, IsPlanOf, is_used, low_at, IsLive}
 
--- What a used term k reads of a term t, for a session that it is computed on: t is used, has a lower number, is
--- live with k and is computed from that session on.
+-- What a used term k reads of a term t, for a session that it is computed on: t is used, has a lower number,
+-- is live with k and is computed from that session on.
 pub record IsCovered (p : Pipeline) (plan : Planned) (k t c : ℕ) (r : ℤ) : Type 0 where
   pub used : is_used plan t ≡ true
   pub lower : t < k

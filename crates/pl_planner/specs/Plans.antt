@@ -16,8 +16,8 @@ use Rattle.pl_planner.specs.Rows.{extra_at}
 use Rattle.pl_planner.specs.Uses.{use_at}
 use Rattle.pl_planner.specs.Slotting.{IsLowest, slots_at}
 
--- the range, its least reach, the greatest number of arrays at once, what is known of each term by number, and
--- how many sessions before each session of the range the terms are computed for it
+-- the range, its least reach, the greatest number of arrays at once, what is known of each term by number,
+-- and how many sessions before each session of the range the terms are computed for it
 pub record Planned : Type 0 where
   pub from : ℕ
   pub to : ℕ

@@ -72,8 +72,8 @@ revisions_of days assets records = rows_under header BadHeader (says_revision da
 
 -- ---- revisions as they are kept
 
--- of an asset's bar on a session, known on a later day of the years 1900 to 2199; the value is missing or a cell
--- of at least 0
+-- of an asset's bar on a session, known on a later day of the years 1900 to 2199; the value is missing or a
+-- cell of at least 0
 pub record IsRevision (days : List ℤ) (assets : List AssetRow) (x : Revision) : Type 0 where
   pub asset : (col : ℕ) × HasSid assets col x.sid
   pub session : Contains days x.bar_day

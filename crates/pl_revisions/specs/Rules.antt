@@ -12,8 +12,8 @@ use Rattle.pl_revisions.specs.declared.Revision.{Revision}
 use Rattle.pl_revisions.specs.declared.TheConstants.{MOST_REVISIONS}
 use Rattle.pl_revisions.specs.Revisions.{Rule, BadHeader, TooMany, BadField, NotSession, UnknownSid, Negative, TooSoon, Duplicate, rules, header}
 
--- the record is the sid, without sign and zeros in front, the date of the bar's day, the name of the column, the
--- text of the cell, and the date of the known day
+-- the record is the sid, without sign and zeros in front, the date of the bar's day, the name of the column,
+-- the text of the cell, and the date of the known day
 pub record IsRevisionRecord (r : Record) (x : Revision) : Type 0 where
   pub five : length r ≡ 5
   pub small : x.sid < 2 ^ 32

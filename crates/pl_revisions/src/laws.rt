@@ -12,9 +12,9 @@ ghost use Rattle.pl_revisions.specs.Revisions.{Rule, revisions_of, rules, says_r
 ghost use Rattle.pl_revisions.specs.Rules.{AreRevisionsOf, Breaks, IsNext, IsRevisionsFault};
 
 /// A file is read as revisions exactly where it has its header and each further record is the revision of an
-/// asset's bar on a session, known later than on its day, not below 0, the only one of that cell and known day;
-/// they stand in the order of the file. It has a fault exactly where the header is missing, or where that
-/// record breaks that rule and no earlier one, and the records before it are revisions.
+/// asset's bar on a session, known later than on its day, not below 0, the only one of that cell and known
+/// day; they stand in the order of the file. It has a fault exactly where the header is missing, or where
+/// that record breaks that rule and no earlier one, and the records before it are revisions.
 pub fn revisions_in_plain_words()
     ensures record { (days : List ℤ) (assets : List AssetRow) → AreDays days → AreAssets assets
         → Judges (IsNext days assets) (λ before r. IsFirstBroken rules (Breaks days assets before r))

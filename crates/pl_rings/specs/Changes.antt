@@ -57,8 +57,8 @@ pub record IsHandedIn (assets count : ℕ) (bars : List DayBar) (events : List D
   pub events_in : All (λ e. e.col < assets) events
   pub put_cells : All (λ e. PutsCell (event_of e.adjust)) events
 
--- Over every list of days that the old rings stand for and that the day may follow, the new ones stand for the
--- list with the day. The calendar has the days of the list's last sessions.
+-- Over every list of days that the old rings stand for and that the day may follow, the new ones stand for
+-- the list with the day. The calendar has the days of the list's last sessions.
 abbrev pub FollowBars : List DayBar → List DayEvent → ℕ → List ℤ → Column → ℕ → List Ring → List Ring → Type 0
 FollowBars bars events count calendar c capacity old new =
     (g : Start) (next : FedDay) (days : List FedDay) → IsStart g → AreFed g (next ∷ days)

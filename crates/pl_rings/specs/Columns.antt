@@ -35,14 +35,15 @@ pub record SameRoom (old new : BarRings) : Type 0 where
   pub calendar : new.calendar.capacity ≡ old.calendar.capacity
   pub rings : (c : Column) → (rings_of new c).capacity ≡ (rings_of old c).capacity
 
--- over every list of days that they stand for and that the day may follow, they stand for the list with the day
+-- over every list of days that they stand for and that the day may follow, they stand for the list with the
+-- day
 abbrev pub FollowColumns : ℤ → List DayBar → List DayEvent → ℕ → BarRings → BarRings → Type 0
 FollowColumns day bars events count old new =
     (g : Start) (next : FedDay) (days : List FedDay) → IsStart g → AreFed g (next ∷ days) → next.day ≡ day → length days ≡ count
     → Brings bars events next → HoldColumns g days old → HoldColumns g (next ∷ days) new
 
--- One step for each ratio that has a factor for the column, and each of its ring's cells of a session that was
--- fed.
+-- One step for each ratio that has a factor for the column, and each of its ring's cells of a session that
+-- was fed.
 abbrev pub column_steps : BarRings → ℕ → List DayEvent → Column → ℕ
 column_steps b fed es c = length (scaling c es) * min (rings_of b c).capacity fed
 

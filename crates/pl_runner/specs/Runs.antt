@@ -21,8 +21,8 @@ steps_of_chunk w p plan chunk = chunk_steps (task_of w p plan chunk)
 unfoldable pub run_steps : World → Pipeline → Planned → ℕ → ℕ
 run_steps w p plan size = sum_by (steps_of_chunk w p plan) (chunks_of plan.from plan.to size)
 
--- how many rows there are, the sum of their cells, the greatest number of arrays that were held at once, and the
--- steps of the traversals, as far as 64 bits count
+-- how many rows there are, the sum of their cells, the greatest number of arrays that were held at once, and
+-- the steps of the traversals, as far as 64 bits count
 pub record IsReport (w : World) (p : Pipeline) (plan : Planned) (size : ℕ) (report : RunReport) : Type 0 where
   pub rows : report.rows ≡ length (table w p plan.from plan.to)
   pub cells : pos report.cells ≡ cells w.texts (table w p plan.from plan.to)

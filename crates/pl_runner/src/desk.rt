@@ -16,8 +16,8 @@ use pl_terms::Checked;
 use pl_workspace::Workspace;
 use std::alloc::Global;
 
-/// All that a run works with, of the size that its largest chunk needs: the slots of the arrays, a cross-section and the rows
-/// of a session, the assets of a chunk, and a line of the table.
+/// All that a run works with, of the size that its largest chunk needs: the slots of the arrays, a
+/// cross-section and the rows of a session, the assets of a chunk, and a line of the table.
 #[derive(Drop)]
 pub struct Desk {
     pub(crate) workspace: Workspace,

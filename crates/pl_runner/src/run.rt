@@ -31,8 +31,9 @@ use pl_terms::Checked;
 use std::alloc::{AllocError, Global};
 use std::sync::ledger::Ledger;
 
-/// What a run did: how many rows it wrote, the sum of their cells modulo 2^64, in which missing ones count 0, the greatest number
-/// of arrays that were held at once, and how many adjustments were applied to buffered bars.
+/// What a run did: how many rows it wrote, the sum of their cells modulo 2^64, in which missing ones count 0,
+/// the greatest number of arrays that were held at once, and how many adjustments were applied to buffered
+/// bars.
 #[derive(Clone, Copy, Debug, PartialEq, Eq)]
 pub struct RunReport {
     pub rows: u64,
@@ -41,7 +42,8 @@ pub struct RunReport {
     pub applied: u64,
 }
 
-/// Why a run ended early: the sink counted a fault, or no memory was found, which comes only before the first byte.
+/// Why a run ended early: the sink counted a fault, or no memory was found, which comes only before the first
+/// byte.
 #[derive(Clone, Copy, Debug, PartialEq, Eq)]
 pub enum RunError {
     WriteFault,
@@ -68,8 +70,8 @@ impl From<Memory> for RunError {
     }
 }
 
-/// Writes the table of a plan's range, the header and each row in one piece. The sessions are computed in chunks of `chunk`,
-/// the last one perhaps shorter; all memory is taken before the first byte.
+/// Writes the table of a plan's range, the header and each row in one piece. The sessions are computed in
+/// chunks of `chunk`, the last one perhaps shorter; all memory is taken before the first byte.
 pub fn run_table<O: Sink, L: Ledger>(
     alloc: Global,
     world: &World<'_>,

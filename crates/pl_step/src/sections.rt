@@ -20,7 +20,8 @@ use pl_told::{Rows, Told};
 use pl_values::empty_value;
 use std::alloc::Global;
 
-/// The cell of a cross-section, by what is told of all assets. The row of a term and a session is computed once.
+/// The cell of a cross-section, by what is told of all assets. The row of a term and a session is computed
+/// once.
 pub(crate) fn section_told(
     alloc: Global,
     world: &World,

@@ -31,7 +31,8 @@ pub record HasArray (o : Outcome) (t : ℕ) : Type 0 where
   pub live : slot_at o.workspace.now (slot_of o.plan.now t) ≡ Live cells
   pub holds : Holds (cell_of (world_in o) (pipeline_in o) (sids_in o) t) (length o.cols.now) (low_at o.plan.now t o.from) (o.to + 1 - low_at o.plan.now t o.from) cells
 
--- The sessions are of the plan's range, all assets that exist on them are there, and each output has its array.
+-- The sessions are of the plan's range, all assets that exist on them are there, and each output has its
+-- array.
 pub record IsOutcome (o : Outcome) : Type 0 where
   pub checked : IsChecked (pipeline_in o)
   pub plan : IsPlanOf o.world.sessions.now (pipeline_in o) o.plan.now

@@ -11,8 +11,8 @@ use pl_planner::Plan;
 use pl_terms::{Checked, TermId};
 use pl_workspace::Workspace;
 
-/// The sessions from one to another of a planned pipeline, computed for the assets in some columns: each output's values stand
-/// in its slot of the workspace.
+/// The sessions from one to another of a planned pipeline, computed for the assets in some columns: each
+/// output's values stand in its slot of the workspace.
 #[derive(Clone, Copy)]
 pub struct Outcome<'a> {
     pub world: World<'a>,

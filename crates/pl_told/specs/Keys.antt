@@ -17,8 +17,8 @@ is_small n = nat_lt n 4294967296
 unfoldable pub packed : ℕ → ℕ → ℕ → ℕ → ℕ
 packed kind a s d = ((kind * 4294967296 + a) * 4294967296 + s) * 4294967296 + d
 
--- The key of a fact, where it has small numbers. The numbers of the five bar columns stand before those of the
--- terms.
+-- The key of a fact, where it has small numbers. The numbers of the five bar columns stand before those of
+-- the terms.
 abbrev pub fact_key : spec.Fact → Option ℕ
 fact_key (spec.Seen c a (pos s) (pos d)) = if is_small a && is_small s && is_small d then Some (packed (column_number c) a s d) else None
 fact_key (spec.Worth t a (pos d)) = if is_small a && is_small d then Some (packed (5 + t) a 0 d) else None

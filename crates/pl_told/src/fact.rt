@@ -4,8 +4,8 @@ ghost use Rattle.pl_told.specs.Keys.{fact_key, fact_of, packed};
 
 use pl_spec::Column;
 
-/// What a line of a derivation is about: the bar of a session of an asset as it is seen on a later session, or
-/// the value of a term for an asset on a session. Sessions are counted from 0.
+/// What a line of a derivation is about: the bar of a session of an asset as it is seen on a later session,
+/// or the value of a term for an asset on a session. Sessions are counted from 0.
 #[derive(Clone, Copy, Debug)]
 pub enum Fact {
     Seen {

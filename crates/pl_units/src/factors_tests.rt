@@ -75,8 +75,8 @@ fn value(kind: &TermKind, a: &[i64], b: &[i64], c: &[i64]) -> Option<i64> {
     }
 }
 
-// The five bars before 2024-01-09, whose open, high, low and close are the same, with a volume of ten each; windows with
-// adjusted cells; and a term's values.
+// The five bars before 2024-01-09, whose open, high, low and close are the same, with a volume of ten each;
+// windows with adjusted cells; and a term's values.
 #[test]
 fn worked_rows(rt: HostRuntime) {
     let five: &[i64] = &[100 * ONE, 102 * ONE, 51 * ONE, 52 * ONE, 53 * ONE];

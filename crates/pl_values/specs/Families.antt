@@ -49,8 +49,8 @@ windowed k a b c = MISSING
 abbrev pub IsWindowed : Kind → List ℤ → Type 0
 IsWindowed k a = IsWindowFactor k ⊎ (IsWindowFilter k × AreValues k a)
 
--- The kind is over a window, with its parameter in its range. The windows are at most 1,260 cells long, those of
--- a filter are flags, and they are of one length where their cells are taken in pairs.
+-- The kind is over a window, with its parameter in its range. The windows are at most 1,260 cells long, those
+-- of a filter are flags, and they are of one length where their cells are taken in pairs.
 pub record TakesWindows (k : Kind) (a b c : List ℤ) : Type 0 where
   pub kind : IsWindowed k a
   pub first : All IsCell a

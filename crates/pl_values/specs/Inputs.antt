@@ -10,8 +10,8 @@ use Rattle.pl_spec.specs.Table.{Pipeline}
 use Rattle.pl_cross.specs.Arrays.{sid_in}
 use Rattle.pl_values.specs.Arrays.{cell_of, is_kept, window_up_to, HasAll, Fills, IsKeep}
 
--- the window of an input: of a bar column the bars before session s as they are seen on it, of a term its cells
--- up to s
+-- the window of an input: of a bar column the bars before session s as they are seen on it, of a term its
+-- cells up to s
 abbrev pub input_window : World → Pipeline → List ℕ → ℕ → Option Input → ℕ → ℕ → List ℤ
 input_window w p sids size None i s = []
 input_window w p sids size (Some (BarColumn c)) i s = bar_window w c size (sid_in sids i) (pos s)
@@ -44,8 +44,8 @@ IsGroupRow w p sids None s labels = labels ≡ None
 IsGroupRow w p sids (Some t) s None = ⊥
 IsGroupRow w p sids (Some t) s (Some labels) = Fills (λ i. cell_of w p sids t i s) (length sids) labels
 
--- The rows of a cross-section's node on session s: its input, who is kept, and the group. The sids ascend, and
--- have every asset that exists on the session.
+-- The rows of a cross-section's node on session s: its input, who is kept, and the group. The sids ascend,
+-- and have every asset that exists on the session.
 pub record AreSectionRows (w : World) (p : Pipeline) (sids : List ℕ) (n : Node) (s : ℕ) (xs ks : List ℤ) (labels : Option (List ℤ)) : Type 0 where
   pub ascend : AllPairs (λ a b. a < b) sids
   pub all : HasAll w sids s

@@ -1,5 +1,5 @@
--- What the cells of a numbered term are over the cells of the terms that it mentions, family by family, in any
--- checked pipeline.
+-- What the cells of a numbered term are over the cells of the terms that it mentions, family by family, in
+-- any checked pipeline.
 use Rattle.std.specs.Prelude.{◌≡◌, ℕ, ◌+◌, ◌<◌, ◌≤◌, false, ℤ, pos, List, length, Option, Some, slice_get, get_or}
 use Rattle.pl_spec.specs.Rounding.{IsCell}
 use Rattle.pl_spec.specs.World.{World, label_at}

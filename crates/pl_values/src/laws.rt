@@ -3,8 +3,8 @@
 ghost use Rattle.pl_values.specs.Laws.{UnkeptCells, ConstantCells, WindowCells, PointCells, PointOperands, SidCells, LabelCells, LabelTestCells, SectionCells, DownsampledCells, FilterCells, TextsHaveCodes};
 
 /// In a checked pipeline the cell of a term for an asset on a session is the empty one where the asset does
-/// not exist or does not pass the term's mask, and else what the call of its kind's family gives over the cells
-/// of its inputs; what the calls ask for holds.
+/// not exist or does not pass the term's mask, and else what the call of its kind's family gives over the
+/// cells of its inputs; what the calls ask for holds.
 pub fn cells_are_given()
     ensures unkept { UnkeptCells }
     ensures constants { ConstantCells }

@@ -1,8 +1,8 @@
 //! The value of a term over the values of the terms that it mentions: for each family of kinds one call over
 //! cells, and the laws by which what it gives is the cell of the definitions. A cell is a number in
-//! millionths, a flag (1 or 0), the number of a numbered classifier, the code of a label's text, or `MISSING`.
-//! The laws hold for every checked pipeline, in any world and for any list of assets; they speak of cells
-//! alone, and neither of buffers nor of an order in which terms are computed.
+//! millionths, a flag (1 or 0), the number of a numbered classifier, the code of a label's text, or
+//! `MISSING`. The laws hold for every checked pipeline, in any world and for any list of assets; they speak
+//! of cells alone, and neither of buffers nor of an order in which terms are computed.
 #![tactic(auto)]
 
 mod family;

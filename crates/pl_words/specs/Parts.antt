@@ -84,9 +84,9 @@ first_part options word rest waiting words =
 abbrev pub value_part : OptionName → Word → Cut → Cut
 value_part option word rest = if begins_with_hyphen word then None else and_part (Given option word) rest
 
--- The parts of the words, for a command with these options. Where an option waits, the next word is its value, and may not
--- begin with a hyphen. Else `--` makes names of all words behind it, a word that begins with `--` is an option, another one that
--- begins with `-` is refused, and each other word is a name.
+-- The parts of the words, for a command with these options. Where an option waits, the next word is its
+-- value, and may not begin with a hyphen. Else `--` makes names of all words behind it, a word that begins
+-- with `--` is an option, another one that begins with `-` is refused, and each other word is a name.
 abbrev pub parts : List OptionName → Option OptionName → List Word → Cut
 parts options None [] = Some []
 parts options (Some option) [] = None

@@ -22,8 +22,8 @@ pub record Dated : Type 0 where
   pub text : List ℕ
   pub day : ℤ
 
--- the names of labels, adjustments and revisions, how many sessions a run computes at a time, the form of its table, whether
--- its numbers are told, and the date as of which it is
+-- the names of labels, adjustments and revisions, how many sessions a run computes at a time, the form of its
+-- table, whether its numbers are told, and the date as of which it is
 pub record Options : Type 0 where
   pub labels : Option (List ℕ)
   pub adjustments : Option (List ℕ)
@@ -93,9 +93,9 @@ pub record PayoutsRequest : Type 0 where
   pub bars : List ℕ
   pub payouts : List ℕ
 
--- the table of a pipeline, the canonical text of a pipeline file, whether it keeps the rules, a plan, the numbers of a run over
--- a stated world, the ratios of payouts, the derivation of a cell, whether a derivation is right, or a table
--- that is computed session by session
+-- the table of a pipeline, the canonical text of a pipeline file, whether it keeps the rules, a plan, the
+-- numbers of a run over a stated world, the ratios of payouts, the derivation of a cell, whether a derivation
+-- is right, or a table that is computed session by session
 pub data Request : Type 0 where
   Run : RunRequest → Request
   Fmt : (pipeline : List ℕ) → Request
@@ -427,7 +427,8 @@ abbrev pub name_asked : Option Request → InputFile → Option (List ℕ)
 name_asked None file = None
 name_asked (Some q) file = name_of q file
 
--- the text of a date of the words; other commands than those of a table or plan and the derivation of a cell have none
+-- the text of a date of the words; other commands than those of a table or plan and the derivation of a cell
+-- have none
 abbrev pub date_asked : Option Request → RangeDate → List ℕ
 date_asked (Some (Run q)) date = date_text q.from q.to q.options.as_of date
 date_asked (Some (Fmt name)) date = []

@@ -43,7 +43,8 @@ pub(crate) fn values<'m, 'a>(matches: &'m ArgMatches<'a>, id: &str) -> Option<&'
     matches.get_raw(id)
 }
 
-/// The value of an option, if it has one; an `Err` where it is given twice, or with an empty value or a hyphen.
+/// The value of an option, if it has one; an `Err` where it is given twice, or with an empty value or a
+/// hyphen.
 pub(crate) fn value<'a>(
     matches: &ArgMatches<'a>,
     option: OptionName,

@@ -35,8 +35,9 @@ pub struct DateWord<'a> {
     pub day: i32,
 }
 
-/// The options of a run: the names of its labels, adjustments and revisions, how many sessions it computes at a time,
-/// from 1 to 4096, the form of its table, whether its numbers are told, and the date as of which it is.
+/// The options of a run: the names of its labels, adjustments and revisions, how many sessions it computes at
+/// a time, from 1 to 4096, the form of its table, whether its numbers are told, and the date as of which it
+/// is.
 #[derive(Clone, Copy)]
 pub struct Options<'a> {
     pub labels: Option<&'a str>,
@@ -69,8 +70,8 @@ pub struct PlanRequest<'a> {
     pub to: DateWord<'a>,
 }
 
-/// What a run of the stated pipeline over the stated world of that number is asked for, computed so many sessions at a
-/// time, from 1 to 4096.
+/// What a run of the stated pipeline over the stated world of that number is asked for, computed so many
+/// sessions at a time, from 1 to 4096.
 #[derive(Clone, Copy)]
 pub struct BenchRequest {
     pub number: u32,
@@ -97,7 +98,8 @@ pub struct WorldNames<'a> {
     pub revisions: Option<&'a str>,
 }
 
-/// The names of a pipeline, of a world and of a column, and the asset and the date of the cell that is asked for.
+/// The names of a pipeline, of a world and of a column, and the asset and the date of the cell that is asked
+/// for.
 #[derive(Clone, Copy)]
 pub struct ExplainRequest<'a> {
     pub pipeline: &'a str,

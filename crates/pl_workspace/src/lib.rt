@@ -1,5 +1,5 @@
-// Slots of cells: their memory is taken once, lent out to be written, given back, read and lent out again. No cell is
-// copied, and how many slots are in use is counted.
+// Slots of cells: their memory is taken once, lent out to be written, given back, read and lent out again. No
+// cell is copied, and how many slots are in use is counted.
 #![tactic(auto)]
 
 ghost use Rattle.std.specs.Prelude.{◌≡◌, ◌<◌, pos, length, slice_set, IfOk};
@@ -55,8 +55,8 @@ impl Buffer {
     }
 }
 
-/// Slots by number, each free, begun or live, all of one length in cells; and the greatest number of slots that were in
-/// use, which is begun or live, at once.
+/// Slots by number, each free, begun or live, all of one length in cells; and the greatest number of slots
+/// that were in use, which is begun or live, at once.
 #[derive(Drop)]
 pub struct Workspace {
     slots: Vec<Slot>,
