@@ -64,12 +64,18 @@ impl<S: Alter> AdjustKeeper for SqlKeeper<S> {
     ) -> Result<(), KeepError>
         ensures other { ¬ (string_bytes self.old.name ≡ name.now) → result ≡ Err KeepError.Failed }
         ensures statement { HasCleanDisk (state S.Store self.new.connection)
-            → OnOk result (AppendsAnswer table (state S.Store self.old.connection) (state S.Store self.new.connection) into.old.items into.new.items) }
+            → OnOk result (AppendsAnswer table
+            (state S.Store self.old.connection) (state S.Store self.new.connection)
+            into.old.items into.new.items) }
         ensures rows { HasCleanDisk (state S.Store self.new.connection)
             → (before : List Table) → Begins (state S.Store self.old.connection).now.schema before table
-            → OnOk result (AppendsRows ((state S.Store self.old.connection).now.trees (length before)) into.old.items into.new.items) }
-        ensures refused { HasCleanDisk (state S.Store self.new.connection) → string_bytes self.old.name ≡ name.now
-            → result ≡ Err KeepError.Failed → IsRefused (statement_of table) (state S.Store self.old.connection) (state S.Store self.new.connection) }
+            → OnOk result (AppendsRows ((state S.Store self.old.connection).now.trees (length before))
+            into.old.items into.new.items) }
+        ensures refused { HasCleanDisk (state S.Store self.new.connection)
+            → string_bytes self.old.name ≡ name.now
+            → result ≡ Err KeepError.Failed
+            → IsRefused (statement_of table)
+            (state S.Store self.old.connection) (state S.Store self.new.connection) }
         ensures same { OnErr result (into.new.items ≡ into.old.items) }
         ensures count { self.new.faults ≡ count_after self.old.faults result }
         ensures name { self.new.name ≡ self.old.name }

@@ -25,7 +25,8 @@ pub fn bench<O: Sink, L: Ledger>(
     requires some { 1 ≤ chunk }
     requires most { chunk ≤ 4096 }
     // Where memory is wanted nothing was written, and no step is counted.
-    ensures writes { IsErrOf result RunError.Memory ⊎ Writes O.taken O.faults O.sound O.room out.old out.new (bench_line number) result }
+    ensures writes { IsErrOf result RunError.Memory
+        ⊎ Writes O.taken O.faults O.sound O.room out.old out.new (bench_line number) result }
     ensures memory { IsErrOf result RunError.Memory → (out.new ≡ out.old) × (steps.new ≡ steps.old) }
     ensures cost { IsErrOf result RunError.Memory ⊎ TakesSteps number chunk (λ n. steps.new ≡ steps.old + n) }
 {

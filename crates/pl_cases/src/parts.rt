@@ -169,7 +169,8 @@ fn add_row(rows: &mut Vec<RawAdjust>, row: RawAdjust) -> Result<()>
 
 // Whether the id is greater than that of the last row.
 fn is_behind(rows: &[RawAdjust], id: i64) -> bool
-    ensures { IsTrue result → (last : RawAdjust) → slice_get rows.now (length rows.now - 1) ≡ Some last → last.id <ℤ id }
+    ensures { IsTrue result → (last : RawAdjust)
+        → slice_get rows.now (length rows.now - 1) ≡ Some last → last.id <ℤ id }
 {
     match rows.last() {
         Some(last) => last.id < id,

@@ -27,7 +27,8 @@ pub fn longest_array(
     requires few { size < 2 ^ 32 }
     requires room { length world.now.assets.now ≤ vec_capacity cols.old }
     ensures each { (i : ℕ) → i < spec.chunk_count plan.now.from plan.now.to size
-        → HasRoom (world_of world.now) (pipeline_of checked.now) plan.now (spec.chunk_at plan.now.from plan.now.to size i) result }
+        → HasRoom (world_of world.now) (pipeline_of checked.now) plan.now
+        (spec.chunk_at plan.now.from plan.now.to size i) result }
     ensures room { length world.now.assets.now ≤ vec_capacity cols.new }
 {
     // a calendar is short, and so are windows
@@ -69,7 +70,8 @@ fn most_rows(world: &World<'_>, checked: &Checked, plan: &Plan, chunk: Chunk) ->
     requires order { chunk.from ≤ chunk.to }
     requires to { chunk.to ≤ plan.now.to }
     requires short { chunk.to < 2 ^ 32 }
-    ensures most { IsMost (pipeline_of checked.now) plan.now chunk (length (pipeline_of checked.now).graph) result }
+    ensures most { IsMost (pipeline_of checked.now) plan.now chunk
+        (length (pipeline_of checked.now).graph) result }
     ensures few { result < 2 ^ 33 }
 {
     let mut most = 0;

@@ -43,7 +43,8 @@ pub fn explain_command<S: Shelf, K: AdjustKeeper, O: Sink>(
         ((O.taken out.new ≡ O.taken out.old) × (O.room out.new ≡ O.room out.old))) }
     ensures shelf { Leaves S.holds S.sound S.faults shelf.old shelf.new }
     ensures keeper { Leaves K.lists K.sound K.faults keeper.old keeper.new }
-    ensures alone { (explain_of request.now).world.adjustments ≡ None → IsUntouched K.faults K.calls keeper.old keeper.new }
+    ensures alone { (explain_of request.now).world.adjustments ≡ None
+        → IsUntouched K.faults K.calls keeper.old keeper.new }
     ensures out { LeavesSink O.sound O.faults out.old out.new }
 {
     let loaded = load_cell(alloc, request, shelf, keeper)?;

@@ -45,14 +45,15 @@ pub fn run_command<S: Shelf, K: AdjustKeeper, O: Sink, L: Ledger>(
     steps: &mut Steps<L>,
 ) -> Result<Option<Stats>, Fault>
     requires chunk { IsChunk (run_of request.now).options.chunk }
-    ensures ended { IsEnded (observed S.holds S.sound K.lists K.sound O.taken O.sound O.room shelf.old keeper.old out.old out.new
-        steps.old steps.new) (Some (Run (run_of request.now))) result }
+    ensures ended { IsEnded (observed S.holds S.sound K.lists K.sound O.taken O.sound O.room
+        shelf.old keeper.old out.old out.new steps.old steps.new) (Some (Run (run_of request.now))) result }
     ensures caused { IfErr result (IsCaused ⊥ (Rose (S.faults shelf.old) (S.faults shelf.new))
         (Rose (K.faults keeper.old) (K.faults keeper.new)) (Rose (O.faults out.old) (O.faults out.new))
         ((O.taken out.new ≡ O.taken out.old) × (O.room out.new ≡ O.room out.old) × (steps.new ≡ steps.old))) }
     ensures shelf { Leaves S.holds S.sound S.faults shelf.old shelf.new }
     ensures keeper { Leaves K.lists K.sound K.faults keeper.old keeper.new }
-    ensures alone { (run_of request.now).options.adjustments ≡ None → IsUntouched K.faults K.calls keeper.old keeper.new }
+    ensures alone { (run_of request.now).options.adjustments ≡ None
+        → IsUntouched K.faults K.calls keeper.old keeper.new }
     ensures out { LeavesSink O.sound O.faults out.old out.new }
 {
     let loaded = load(alloc, request, shelf, keeper)?;
@@ -70,8 +71,10 @@ fn write_loaded<O: Sink, L: Ledger>(
     requires ready { IsReady loaded.now }
     requires chunk { IsChunk options.now.chunk }
     ensures writes { IsErrOf result Fault.Memory
-        ⊎ Writes O.taken O.faults O.sound O.room out.old out.new (loaded_text loaded.now options.now.format) result }
-    ensures stats { IfOk result (λ stats. stats_told stats ≡ loaded_stats options.now.stats loaded.now options.now.chunk) }
+        ⊎ Writes O.taken O.faults O.sound O.room out.old out.new
+        (loaded_text loaded.now options.now.format) result }
+    ensures stats { IfOk result (λ stats. stats_told stats
+        ≡ loaded_stats options.now.stats loaded.now options.now.chunk) }
     ensures fault { IfErr result (λ fault. (fault ≡ Fault.Memory) ⊎ (fault ≡ Fault.Unwritten)) }
     ensures memory { IsErrOf result Fault.Memory → (out.new ≡ out.old) × (steps.new ≡ steps.old) }
     ensures cost { OnOk result (steps.new ≡ steps.old + loaded_steps loaded.now options.now.chunk) }
@@ -97,7 +100,8 @@ fn write_loaded<O: Sink, L: Ledger>(
 // The numbers of a run, where they are asked for.
 fn stats_of(asked: bool, report: &RunReport, bound: usize) -> Option<Stats>
     ensures { stats_told result
-        ≡ (if asked then stats_line report.now.rows report.now.cells report.now.peak bound report.now.applied else []) }
+        ≡ (if asked then stats_line report.now.rows report.now.cells report.now.peak bound report.now.applied
+        else []) }
 {
     if !asked {
         return None;
@@ -122,7 +126,8 @@ pub fn fmt_command<S: Shelf, O: Sink>(
     out: &mut O,
 ) -> Result<Option<Stats>, Fault>
     // whatever a keeper tells, and however many steps were counted
-    ensures ended { (lists : Option Lists) (sound : Bool) (steps : ℕ) → IsEnded (observed S.holds S.sound (λ _. lists) (λ _. sound)
+    ensures ended { (lists : Option Lists) (sound : Bool) (steps : ℕ)
+        → IsEnded (observed S.holds S.sound (λ _. lists) (λ _. sound)
         O.taken O.sound O.room shelf.old steps out.old out.new steps steps) (Some (Fmt name.now)) result }
     ensures caused { IfErr result (IsCaused ⊥ (Rose (S.faults shelf.old) (S.faults shelf.new)) ⊥
         (Rose (O.faults out.old) (O.faults out.new))

@@ -30,8 +30,9 @@ pub fn daily_command<S: Shelf, K: AdjustKeeper, O: Sink, L: Ledger>(
     out: &mut O,
     steps: &mut Steps<L>,
 ) -> Result<Option<Stats>, Fault>
-    ensures ended { IsEnded (observed S.holds S.sound K.lists K.sound O.taken O.sound O.room shelf.old keeper.old
-        out.old out.new steps.old steps.new) (Some (Daily (daily_of request.now))) result }
+    ensures ended { IsEnded (observed S.holds S.sound K.lists K.sound O.taken O.sound O.room
+        shelf.old keeper.old out.old out.new steps.old steps.new)
+        (Some (Daily (daily_of request.now))) result }
     ensures caused { IfErr result (IsCaused ⊥ (Rose (S.faults shelf.old) (S.faults shelf.new))
         (Rose (K.faults keeper.old) (K.faults keeper.new)) (Rose (O.faults out.old) (O.faults out.new))
         ((O.taken out.new ≡ O.taken out.old) × (O.room out.new ≡ O.room out.old) × (steps.new ≡ steps.old))) }

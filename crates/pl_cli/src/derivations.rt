@@ -41,7 +41,8 @@ pub fn verify_command<S: Shelf, K: AdjustKeeper, O: Sink>(
         ((O.taken out.new ≡ O.taken out.old) × (O.room out.new ≡ O.room out.old))) }
     ensures shelf { Leaves S.holds S.sound S.faults shelf.old shelf.new }
     ensures keeper { Leaves K.lists K.sound K.faults keeper.old keeper.new }
-    ensures alone { (verify_of request.now).world.adjustments ≡ None → IsUntouched K.faults K.calls keeper.old keeper.new }
+    ensures alone { (verify_of request.now).world.adjustments ≡ None
+        → IsUntouched K.faults K.calls keeper.old keeper.new }
     ensures out { LeavesSink O.sound O.faults out.old out.new }
 {
     let loaded = load_derivation(alloc, request, shelf, keeper)?;
@@ -60,7 +61,8 @@ fn wrong_line<L: Ledger>(
     requires some { 0 < L.parts }
     requires made { IsOwned loaded.now.world }
     ensures { IfOk result (λ wrong. wrong
-        ≡ spec.first_wrong (owned_world loaded.now.world) (pipeline_of loaded.now.checked) loaded.now.derivation) }
+        ≡ spec.first_wrong (owned_world loaded.now.world)
+        (pipeline_of loaded.now.checked) loaded.now.derivation) }
 {
     let mut steps = Steps::<L>::new(blank);
     let world = loaded.world.world();
@@ -85,7 +87,8 @@ fn write_verdict<O: Sink>(wrong: Option<u32>, out: &mut O) -> Result<Option<Stat
 }
 
 fn tell_wrong<O: Sink>(line: u32, out: &mut O) -> Result<Option<Stats>, Fault>
-    ensures writes { Writes O.taken O.faults O.sound O.room out.old out.new (verdict_text (Some line)) result }
+    ensures writes { Writes O.taken O.faults O.sound O.room out.old out.new
+        (verdict_text (Some line)) result }
     ensures quiet { IfOk result (λ stats. stats ≡ None) }
     ensures unwritten { IfErr result (λ fault. fault ≡ Fault.Unwritten) }
 {

@@ -31,8 +31,9 @@ pub fn bench_command<O: Sink, L: Ledger>(
     requires chunk { IsChunk (bench_of request.now).chunk }
     // whatever a shelf and a keeper tell
     ensures ended { (files : Option Files) (lists : Option Lists) (shelf keeper : Bool)
-        → IsEnded (observed (λ _. files) (λ _. shelf) (λ _. lists) (λ _. keeper) O.taken O.sound O.room steps.old steps.old
-        out.old out.new steps.old steps.new) (Some (Bench (bench_of request.now))) result }
+        → IsEnded (observed (λ _. files) (λ _. shelf) (λ _. lists) (λ _. keeper)
+        O.taken O.sound O.room steps.old steps.old out.old out.new steps.old steps.new)
+        (Some (Bench (bench_of request.now))) result }
     ensures caused { IfErr result (IsCaused ⊥ ⊥ ⊥ (Rose (O.faults out.old) (O.faults out.new))
         ((O.taken out.new ≡ O.taken out.old) × (O.room out.new ≡ O.room out.old) × (steps.new ≡ steps.old))) }
     ensures out { LeavesSink O.sound O.faults out.old out.new }

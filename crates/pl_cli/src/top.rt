@@ -69,7 +69,8 @@ pub fn run_program<S: Shelf, K: AdjustKeeper, O: Sink, E: Sink, L: Ledger>(
     // Whatever the parts tell, there are contents of the files and tables over which the run ended as the
     // definitions say.
     ensures run { let asked = request (map (λ s. string_bytes s) words.now) in
-        (line : List ℕ) × (numbers : List ℕ) × IsRun (observed S.holds S.sound K.lists K.sound O.taken O.sound O.room
+        (line : List ℕ) × (numbers : List ℕ)
+        × IsRun (observed S.holds S.sound K.lists K.sound O.taken O.sound O.room
         shelf.old keeper.old out.old out.new steps.old steps.new) asked result line numbers
         × IsTold E.taken E.faults E.sound E.room err.old err.new (line ++ numbers) }
 
@@ -112,9 +113,11 @@ fn answer<S: Shelf, K: AdjustKeeper, O: Sink, L: Ledger>(
     steps: &mut Steps<L>,
 ) -> Result<Option<Stats>, Fault>
     requires chunk { IfSome (option_map (λ q. request_of q.now) asked) HasChunk }
-    ensures ended { IsEnded (observed S.holds S.sound K.lists K.sound O.taken O.sound O.room shelf.old keeper.old out.old out.new
-        steps.old steps.new) (option_map (λ q. request_of q.now) asked.entry) result }
-    ensures refused { option_map (λ q. request_of q.now) asked.entry ≡ None → fault_of result ≡ Some Fault.Usage }
+    ensures ended { IsEnded (observed S.holds S.sound K.lists K.sound O.taken O.sound O.room
+        shelf.old keeper.old out.old out.new steps.old steps.new)
+        (option_map (λ q. request_of q.now) asked.entry) result }
+    ensures refused { option_map (λ q. request_of q.now) asked.entry ≡ None
+        → fault_of result ≡ Some Fault.Usage }
     ensures caused { IfErr result (IsCaused (option_map (λ q. request_of q.now) asked.entry ≡ None)
         (Rose (S.faults shelf.old) (S.faults shelf.new)) (Rose (K.faults keeper.old) (K.faults keeper.new))
         (Rose (O.faults out.old) (O.faults out.new))
@@ -147,7 +150,8 @@ fn finish<E: Sink>(
 ) -> u8
     ensures status { result ≡ judged_status (fault_of ended) }
     ensures told { IsTold E.taken E.faults E.sound E.room err.old err.new
-        (judged_line (option_map (λ q. request_of q.now) asked.entry) (fault_of ended) ++ numbers_told ended) }
+        (judged_line (option_map (λ q. request_of q.now) asked.entry) (fault_of ended)
+        ++ numbers_told ended) }
     ensures err { LeavesSink E.sound E.faults err.old err.new }
 {
     match ended {

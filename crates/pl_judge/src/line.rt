@@ -104,7 +104,8 @@ fn write_row<'a, E: Sink>(
     fault: &'a str,
 ) -> Result<(), Failed>
     ensures { Writes E.taken E.faults E.sound E.room err.old err.new
-        (name.now ++ codes ":" ++ table.now ++ codes ":" ++ signed_decimal id ++ codes ": data " ++ fault.now ++ 10 ∷ [])
+        (name.now ++ codes ":" ++ table.now ++ codes ":" ++ signed_decimal id
+        ++ codes ": data " ++ fault.now ++ 10 ∷ [])
         result }
 {
     let mut buffer = Buffer::new();
@@ -141,14 +142,16 @@ fn write_reach<E: Sink>(err: &mut E, reach: i64) -> Result<(), Failed>
 
 // Writes a line of two parts.
 fn write_named<E: Sink>(err: &mut E, what: &str, name: &str) -> Result<(), Failed>
-    ensures { Writes E.taken E.faults E.sound E.room err.old err.new (what.now ++ name.now ++ 10 ∷ []) result }
+    ensures { Writes E.taken E.faults E.sound E.room err.old err.new
+        (what.now ++ name.now ++ 10 ∷ []) result }
 {
     write_pieces(err, &[what, name, "\n"])
 }
 
 /// Writes the pieces one after the other. It takes no memory.
 pub fn write_pieces<E: Sink>(err: &mut E, pieces: &[&str]) -> Result<(), Failed>
-    ensures { Writes E.taken E.faults E.sound E.room err.old err.new (flat_map (λ p. p.now) pieces.now) result }
+    ensures { Writes E.taken E.faults E.sound E.room err.old err.new
+        (flat_map (λ p. p.now) pieces.now) result }
 {
     for piece in pieces {
         write_bytes(err, piece.as_bytes())?;

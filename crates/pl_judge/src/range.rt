@@ -34,7 +34,8 @@ pub fn judge_dates(
     sessions: &Sessions,
 ) -> Result<Range, Fault>
     ensures ends { StageEnds true true
-        (dates_steps (dated_of from.now) (dated_of to.now) (option_map dated_of as_of.entry) sessions.now) result }
+        (dates_steps (dated_of from.now) (dated_of to.now)
+        (option_map dated_of as_of.entry) sessions.now) result }
     ensures from { IfOk result (λ range. range.from ≡ index_of sessions.now from.now.day) }
     ensures to { IfOk result (λ range. range.to ≡ index_of sessions.now to.now.day) }
     ensures within { IfOk result (λ range. range.to < length sessions.now) }
@@ -99,7 +100,8 @@ pub fn judge_plan(
 ) -> Result<Plan, Fault>
     requires order { range.from ≤ range.to }
     requires within { range.to < length sessions.now }
-    ensures ends { StageEnds true true (plan_steps (pipeline_of checked.now) sessions.now range.from range.to) result }
+    ensures ends { StageEnds true true
+        (plan_steps (pipeline_of checked.now) sessions.now range.from range.to) result }
     ensures plan { IfOk result (IsPlanOf sessions.now (pipeline_of checked.now)) }
     ensures rows { IfOk result (HasRows sessions.now (pipeline_of checked.now)) }
     ensures from { IfOk result (λ plan. plan.from ≡ range.from) }

@@ -31,13 +31,15 @@ pub fn load_cell<S: Shelf, K: AdjustKeeper>(
     shelf: &mut S,
     keeper: &mut K,
 ) -> Result<LoadedCell, Fault>
-    ensures load { IsCellLoad (S.holds shelf.old) (K.lists keeper.old) (S.sound shelf.old) (K.sound keeper.old)
-        (explain_of request.now) result }
+    ensures load { IsCellLoad (S.holds shelf.old) (K.lists keeper.old) (S.sound shelf.old)
+        (K.sound keeper.old) (explain_of request.now) result }
     ensures explainable { IfOk result IsExplainable }
     ensures shelf { Leaves S.holds S.sound S.faults shelf.old shelf.new }
     ensures keeper { Leaves K.lists K.sound K.faults keeper.old keeper.new }
-    ensures alone { (explain_of request.now).world.adjustments ≡ None → IsUntouched K.faults K.calls keeper.old keeper.new }
-    ensures risen { IfErr result (IsRisen (Rose (S.faults shelf.old) (S.faults shelf.new)) (Rose (K.faults keeper.old) (K.faults keeper.new))) }
+    ensures alone { (explain_of request.now).world.adjustments ≡ None
+        → IsUntouched K.faults K.calls keeper.old keeper.new }
+    ensures risen { IfErr result (IsRisen (Rose (S.faults shelf.old) (S.faults shelf.new))
+        (Rose (K.faults keeper.old) (K.faults keeper.new))) }
 {
     let checked = read_checked(alloc, shelf, request.pipeline)?;
     let world = read_world(alloc, &request.world, shelf, keeper)?;

@@ -32,7 +32,8 @@ fn read_input<S: Shelf>(
     name: &str,
     file: InputFile,
 ) -> Result<Vec<u8>, Fault>
-    ensures read { IsRead (S.holds shelf.old) (S.sound shelf.old) (Some name.now) (λ held. read_step file no_rule held ∷ [])
+    ensures read { IsRead (S.holds shelf.old) (S.sound shelf.old) (Some name.now)
+        (λ held. read_step file no_rule held ∷ [])
         (λ held bytes. held ≡ Some bytes.items) result }
     ensures within { IfOk result (λ bytes. length bytes.items ≤ cap_of file) }
     ensures leaves { Leaves S.holds S.sound S.faults shelf.old shelf.new }
@@ -48,7 +49,8 @@ fn read_input<S: Shelf>(
 
 /// The script of the pipeline file of that name.
 pub fn read_script<S: Shelf>(alloc: Global, shelf: &mut S, name: &str) -> Result<Script, Fault>
-    ensures read { IsRead (S.holds shelf.old) (S.sound shelf.old) (Some name.now) (λ held. syntax_step held ∷ [])
+    ensures read { IsRead (S.holds shelf.old) (S.sound shelf.old) (Some name.now)
+        (λ held. syntax_step held ∷ [])
         (λ held script. script_in held ≡ parsed script) result }
     ensures leaves { Leaves S.holds S.sound S.faults shelf.old shelf.new }
     ensures risen { IfErr result (IsRisen (Rose (S.faults shelf.old) (S.faults shelf.new)) ⊥) }
@@ -71,7 +73,8 @@ pub fn read_checked<S: Shelf>(alloc: Global, shelf: &mut S, name: &str) -> Resul
 /// The sessions of the sessions file of that name.
 pub fn read_sessions<S: Shelf>(alloc: Global, shelf: &mut S, name: &str) -> Result<Sessions, Fault>
     ensures read { IsRead (S.holds shelf.old) (S.sound shelf.old) (Some name.now)
-        (λ held. read_step files.Sessions sessions_rule held ∷ []) (λ held sessions. days_in held ≡ sessions) result }
+        (λ held. read_step files.Sessions sessions_rule held ∷ [])
+        (λ held sessions. days_in held ≡ sessions) result }
     ensures leaves { Leaves S.holds S.sound S.faults shelf.old shelf.new }
     ensures risen { IfErr result (IsRisen (Rose (S.faults shelf.old) (S.faults shelf.new)) ⊥) }
 {
@@ -82,7 +85,8 @@ pub fn read_sessions<S: Shelf>(alloc: Global, shelf: &mut S, name: &str) -> Resu
 /// The assets of the assets file of that name.
 pub fn read_assets<S: Shelf>(alloc: Global, shelf: &mut S, name: &str) -> Result<Assets, Fault>
     ensures read { IsRead (S.holds shelf.old) (S.sound shelf.old) (Some name.now)
-        (λ held. read_step files.Assets assets_rule held ∷ []) (λ held assets. assets_in held ≡ assets) result }
+        (λ held. read_step files.Assets assets_rule held ∷ [])
+        (λ held assets. assets_in held ≡ assets) result }
     ensures leaves { Leaves S.holds S.sound S.faults shelf.old shelf.new }
     ensures risen { IfErr result (IsRisen (Rose (S.faults shelf.old) (S.faults shelf.new)) ⊥) }
 {
@@ -184,7 +188,8 @@ pub fn read_derivation<S: Shelf>(
     shelf: &mut S,
     name: &str,
 ) -> Result<Derivation, Fault>
-    ensures read { IsRead (S.holds shelf.old) (S.sound shelf.old) (Some name.now) (λ held. derivation_step held ∷ [])
+    ensures read { IsRead (S.holds shelf.old) (S.sound shelf.old) (Some name.now)
+        (λ held. derivation_step held ∷ [])
         (λ held lines. derivation_in held ≡ lines) result }
     ensures leaves { Leaves S.holds S.sound S.faults shelf.old shelf.new }
     ensures risen { IfErr result (IsRisen (Rose (S.faults shelf.old) (S.faults shelf.new)) ⊥) }

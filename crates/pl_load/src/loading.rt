@@ -35,12 +35,15 @@ pub fn load<S: Shelf, K: AdjustKeeper>(
     shelf: &mut S,
     keeper: &mut K,
 ) -> Result<Loaded, Fault>
-    ensures load { IsLoad (S.holds shelf.old) (K.lists keeper.old) (S.sound shelf.old) (K.sound keeper.old) (run_of request.now) result }
+    ensures load { IsLoad (S.holds shelf.old) (K.lists keeper.old) (S.sound shelf.old) (K.sound keeper.old)
+        (run_of request.now) result }
     ensures ready { IfOk result IsReady }
     ensures shelf { Leaves S.holds S.sound S.faults shelf.old shelf.new }
     ensures keeper { Leaves K.lists K.sound K.faults keeper.old keeper.new }
-    ensures alone { (run_of request.now).options.adjustments ≡ None → IsUntouched K.faults K.calls keeper.old keeper.new }
-    ensures risen { IfErr result (IsRisen (Rose (S.faults shelf.old) (S.faults shelf.new)) (Rose (K.faults keeper.old) (K.faults keeper.new))) }
+    ensures alone { (run_of request.now).options.adjustments ≡ None
+        → IsUntouched K.faults K.calls keeper.old keeper.new }
+    ensures risen { IfErr result (IsRisen (Rose (S.faults shelf.old) (S.faults shelf.new))
+        (Rose (K.faults keeper.old) (K.faults keeper.new))) }
 {
     let checked = read_checked(alloc, shelf, request.pipeline)?;
     let world = read_world(alloc, &request.world_names(), shelf, keeper)?;
@@ -84,12 +87,15 @@ pub(crate) fn read_world<S: Shelf, K: AdjustKeeper>(
     shelf: &mut S,
     keeper: &mut K,
 ) -> Result<OwnedWorld, Fault>
-    ensures parts { IsData (S.holds shelf.old) (K.lists keeper.old) (S.sound shelf.old) (K.sound keeper.old) (world_names_of names.now) result }
+    ensures parts { IsData (S.holds shelf.old) (K.lists keeper.old) (S.sound shelf.old) (K.sound keeper.old)
+        (world_names_of names.now) result }
     ensures made { IfOk result IsOwned }
     ensures shelf { Leaves S.holds S.sound S.faults shelf.old shelf.new }
     ensures keeper { Leaves K.lists K.sound K.faults keeper.old keeper.new }
-    ensures alone { (world_names_of names.now).adjustments ≡ None → IsUntouched K.faults K.calls keeper.old keeper.new }
-    ensures risen { IfErr result (IsRisen (Rose (S.faults shelf.old) (S.faults shelf.new)) (Rose (K.faults keeper.old) (K.faults keeper.new))) }
+    ensures alone { (world_names_of names.now).adjustments ≡ None
+        → IsUntouched K.faults K.calls keeper.old keeper.new }
+    ensures risen { IfErr result (IsRisen (Rose (S.faults shelf.old) (S.faults shelf.new))
+        (Rose (K.faults keeper.old) (K.faults keeper.new))) }
 {
     let sessions = read_sessions(alloc, shelf, names.sessions)?;
     let assets = read_assets(alloc, shelf, names.assets)?;

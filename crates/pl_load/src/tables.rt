@@ -47,8 +47,10 @@ fn load_table<K: AdjustKeeper>(
     name: &str,
     table: Table,
 ) -> Result<Vec<RawAdjust>, Fault>
-    ensures rows { ForSome (K.lists keeper.old) (λ lists. IfOk result (λ rows. rows.items ≡ lists name.now table)) }
-    ensures unloaded { IfErr result (IsUnloaded (K.sound keeper.old) (Rose (K.faults keeper.old) (K.faults keeper.new)) table) }
+    ensures rows { ForSome (K.lists keeper.old)
+        (λ lists. IfOk result (λ rows. rows.items ≡ lists name.now table)) }
+    ensures unloaded { IfErr result (IsUnloaded (K.sound keeper.old)
+        (Rose (K.faults keeper.old) (K.faults keeper.new)) table) }
     ensures leaves { Leaves K.lists K.sound K.faults keeper.old keeper.new }
 {
     let mut rows = Vec::new(alloc);

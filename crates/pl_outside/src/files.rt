@@ -22,7 +22,8 @@ pub fn place_of(files: &[File], name: &str) -> Option<usize>
 /// Puts a file in the place of the one that has its name, or behind all others.
 pub fn put_file(files: &mut Vec<File>, name: String, bytes: Vec<u8>) -> Result<(), Memory>
     ensures held { OnOk result ((other : List ℕ) → held (map shown files.new.items) other
-        ≡ (if bytes_eq (string_bytes name) other then Some bytes.items else held (map shown files.old.items) other)) }
+        ≡ (if bytes_eq (string_bytes name) other then Some bytes.items else held
+        (map shown files.old.items) other)) }
     ensures err { OnErr result (files.new.items ≡ files.old.items) }
 {
     let place = place_of(files, &name);

@@ -69,11 +69,13 @@ pub trait AdjustKeeper {
         table: Table,
         into: &mut Vec<RawAdjust>,
     ) -> Result<(), KeepError>
-        ensures appended { ForSome (lists self.old) (λ lists. OnOk result (into.new.items ≡ into.old.items ++ lists name.now table)) }
+        ensures appended { ForSome (lists self.old)
+            (λ lists. OnOk result (into.new.items ≡ into.old.items ++ lists name.now table)) }
         ensures same { OnErr result (into.new.items ≡ into.old.items) }
         ensures failed { IsErrOf result KeepError.Failed → Rose (faults self.old) (faults self.new) }
         ensures later { faults self.old ≤ faults self.new }
-        ensures never { IsTrue (sound self.old) → ¬ IsErrOf result KeepError.Failed × (faults self.new ≡ faults self.old) }
+        ensures never { IsTrue (sound self.old)
+            → ¬ IsErrOf result KeepError.Failed × (faults self.new ≡ faults self.old) }
         ensures counted { calls self.new ≡ count_plus (calls self.old) 1 }
         ensures keeps { lists self.new ≡ lists self.old }
         ensures stays { sound self.new ≡ sound self.old };
@@ -83,7 +85,8 @@ pub trait AdjustKeeper {
 
     // Each list that is told is in ascending id.
     ghost lists_ascend: { (keeper : Self)
-        → ForSome (lists keeper) (λ lists. (name : List ℕ) (table : Table) → IsAscending (lists name table)) };
+        → ForSome (lists keeper)
+        (λ lists. (name : List ℕ) (table : Table) → IsAscending (lists name table)) };
 }
 
 /// A keeper of nothing, which tells nothing: each load is a fault.

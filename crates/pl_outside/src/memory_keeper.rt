@@ -93,8 +93,10 @@ impl AdjustKeeper for MemoryKeeper {
         into: &mut Vec<RawAdjust>,
     ) -> Result<(), KeepError>
         ensures fails { IsErrOf result KeepError.Failed ↔ IsTrue (next_fails self.old.calls) }
-        ensures rows { into.new.items ≡ (if is_ok result then into.old.items ++ kept self.old name.now table else into.old.items) }
-        ensures after { self.new ≡ record self.old { calls = one_more self.old.calls (next_fails self.old.calls) } }
+        ensures rows { into.new.items
+            ≡ (if is_ok result then into.old.items ++ kept self.old name.now table else into.old.items) }
+        ensures after { self.new
+            ≡ record self.old { calls = one_more self.old.calls (next_fails self.old.calls) } }
     {
         self.calls.take_call()?;
         into.extend_from_slice(self.rows(name, table))?;

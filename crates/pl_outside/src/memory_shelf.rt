@@ -76,7 +76,8 @@ impl Shelf for MemoryShelf {
     ghost sound = { λ shelf. never_fails shelf.calls };
 
     fn begin(&mut self, name: &str) -> Result<(), Failed>
-        ensures fails { is_err result ≡ (next_fails self.old.calls || is_none (held self.old.files name.now)) }
+        ensures fails { is_err result
+            ≡ (next_fails self.old.calls || is_none (held self.old.files name.now)) }
         ensures after { self.new ≡ record self.old {
           rest = if is_err result then [] else unwrap_or (held self.old.files name.now) [];
           calls = one_more self.old.calls (is_err result);

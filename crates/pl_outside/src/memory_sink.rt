@@ -76,7 +76,8 @@ impl Sink for MemorySink {
     ghost room = { λ sink. sink.room };
 
     fn write(&mut self, bytes: &[u8]) -> Result<usize, Failed>
-        ensures fails { is_err result ≡ (next_fails self.old.calls || nat_lt self.old.room (length bytes.now)) }
+        ensures fails { is_err result
+            ≡ (next_fails self.old.calls || nat_lt self.old.room (length bytes.now)) }
         ensures count { IfOk result (λ n. n
             ≡ (if self.old.piece == 0 then length bytes.now else min (length bytes.now) self.old.piece)) }
         ensures after { self.new ≡ record self.old {

@@ -53,18 +53,22 @@ pub fn read_file<S: Shelf>(
 ) -> Result<Vec<u8>, ReadError>
     requires { cap < 2 ^ 32 }
     ensures within { IfOk result (λ bytes. length bytes.items ≤ cap) }
-    ensures exact { ForSome (S.holds shelf.old) (λ files. IfOk result (λ bytes. files name.now ≡ Some bytes.items)) }
+    ensures exact { ForSome (S.holds shelf.old)
+        (λ files. IfOk result (λ bytes. files name.now ≡ Some bytes.items)) }
 
     // whatever the shelf is, a failure has its cause
     ensures failed { IsErrOf result ReadError.Failed → Rose (S.faults shelf.old) (S.faults shelf.new) }
     ensures later { S.faults shelf.old ≤ S.faults shelf.new }
-    ensures too_long { IsErrOf result ReadError.TooLong → S.given shelf.new ≡ count_plus (S.given shelf.old) (cap + 1) }
+    ensures too_long { IsErrOf result ReadError.TooLong
+        → S.given shelf.new ≡ count_plus (S.given shelf.old) (cap + 1) }
 
     // where the shelf tells, each answer but Failed and Memory is by the file's length
-    ensures absent { ForSome (S.holds shelf.old) (λ files. files name.now ≡ None → IsErrOf result ReadError.Failed) }
+    ensures absent { ForSome (S.holds shelf.old)
+        (λ files. files name.now ≡ None → IsErrOf result ReadError.Failed) }
     ensures longer { ForSome (S.holds shelf.old) (λ files. IsErrOf result ReadError.TooLong
         → IsSomeAnd (files name.now) (λ bytes. cap < length bytes)) }
-    ensures whole { ForSome (S.holds shelf.old) (λ files. ¬ IsErrOf result ReadError.Failed → ¬ IsErrOf result ReadError.Memory
+    ensures whole { ForSome (S.holds shelf.old)
+        (λ files. ¬ IsErrOf result ReadError.Failed → ¬ IsErrOf result ReadError.Memory
         → IsReadWhole cap (files name.now) result) }
 
     // over a sound shelf a failure comes exactly where the name isn't held
@@ -84,11 +88,14 @@ pub fn read_file<S: Shelf>(
 fn read_rest<S: Shelf>(alloc: Global, shelf: &mut S, cap: usize) -> Result<Vec<u8>, ReadError>
     requires { cap < 2 ^ 32 }
     ensures within { IfOk result (λ bytes. length bytes.items ≤ cap) }
-    ensures exact { ForSome (S.holds shelf.old) (λ files. IfOk result (λ bytes. S.rest shelf.old ≡ bytes.items)) }
+    ensures exact { ForSome (S.holds shelf.old)
+        (λ files. IfOk result (λ bytes. S.rest shelf.old ≡ bytes.items)) }
     ensures failed { IsErrOf result ReadError.Failed → Rose (S.faults shelf.old) (S.faults shelf.new) }
     ensures later { S.faults shelf.old ≤ S.faults shelf.new }
-    ensures too_long { IsErrOf result ReadError.TooLong → S.given shelf.new ≡ count_plus (S.given shelf.old) (cap + 1) }
-    ensures longer { ForSome (S.holds shelf.old) (λ files. IsErrOf result ReadError.TooLong → cap < length (S.rest shelf.old)) }
+    ensures too_long { IsErrOf result ReadError.TooLong
+        → S.given shelf.new ≡ count_plus (S.given shelf.old) (cap + 1) }
+    ensures longer { ForSome (S.holds shelf.old)
+        (λ files. IsErrOf result ReadError.TooLong → cap < length (S.rest shelf.old)) }
     ensures blameless { IsTrue (S.sound shelf.old)
         → ¬ IsErrOf result ReadError.Failed × (S.faults shelf.new ≡ S.faults shelf.old) }
     ensures keeps { S.holds shelf.new ≡ S.holds shelf.old }

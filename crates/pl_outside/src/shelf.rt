@@ -34,9 +34,11 @@ pub trait Shelf {
     fn begin(&mut self, name: &str) -> Result<(), Failed>
         ensures begun { ForSome (holds self.old) (λ files. Begins (files name.now) (rest self.new) result) }
         ensures cause { HasCause (faults self.old) (faults self.new) result }
-        ensures misses { IsTrue (sound self.old) → ForSome (holds self.old) (λ files. IsErr result ↔ (files name.now ≡ None)) }
+        ensures misses { IsTrue (sound self.old)
+            → ForSome (holds self.old) (λ files. IsErr result ↔ (files name.now ≡ None)) }
         ensures quiet { IsTrue (sound self.old)
-            → ForSome (holds self.old) (λ files. IsSome (files name.now) → faults self.new ≡ faults self.old) }
+            → ForSome (holds self.old)
+            (λ files. IsSome (files name.now) → faults self.new ≡ faults self.old) }
         ensures counted { calls self.new ≡ count_plus (calls self.old) 1 }
         ensures given { given self.new ≡ given self.old }
         ensures keeps { holds self.new ≡ holds self.old }
@@ -46,8 +48,10 @@ pub trait Shelf {
     /// a nonempty `into` is the end of the file. After a failure what is left is as before.
     fn next(&mut self, into: &mut [u8]) -> Result<usize, Failed>
         ensures within { IfOk result (λ n. n ≤ length into.old) }
-        ensures piece { ForSome (holds self.old) (λ files. rest self.old ≡ take (moved result) into.new ++ rest self.new) }
-        ensures ends { ForSome (holds self.old) (λ files. IfOk result (λ n. n ≡ 0 → 0 < length into.old → rest self.old ≡ [])) }
+        ensures piece { ForSome (holds self.old)
+            (λ files. rest self.old ≡ take (moved result) into.new ++ rest self.new) }
+        ensures ends { ForSome (holds self.old)
+            (λ files. IfOk result (λ n. n ≡ 0 → 0 < length into.old → rest self.old ≡ [])) }
         ensures cause { HasCause (faults self.old) (faults self.new) result }
         ensures blameless { IsTrue (sound self.old) → IsOk result × (faults self.new ≡ faults self.old) }
         ensures counted { calls self.new ≡ count_plus (calls self.old) 1 }

@@ -32,7 +32,8 @@ pub trait Sink {
         ensures some { IfOk result (λ n. 0 < length bytes.now → 0 < n) }
         ensures taken { TakesAll (taken self.old) (taken self.new) (take (moved result) bytes.now) }
         ensures cause { HasCause (faults self.old) (faults self.new) result }
-        ensures blameless { IsBlameless (sound self.old) (room self.old) (length bytes.now) (faults self.old) (faults self.new) result }
+        ensures blameless { IsBlameless (sound self.old) (room self.old) (length bytes.now)
+            (faults self.old) (faults self.new) result }
         ensures room { IsTrue (sound self.old) → room self.new + moved result ≡ room self.old }
         ensures counted { calls self.new ≡ count_plus (calls self.old) 1 }
         ensures stays { sound self.new ≡ sound self.old };

@@ -92,8 +92,10 @@ pub fn run_table<O: Sink, L: Ledger>(
         (table (world_of world.now) (pipeline_of checked.now) plan.now.from plan.now.to)) result }
     ensures memory { IsErrOf result RunError.Memory → (out.new ≡ out.old) × (steps.new ≡ steps.old) }
     ensures report { IfOk result (IsReport (world_of world.now) (pipeline_of checked.now) plan.now chunk) }
-    ensures cost { OnOk result (steps.new ≡ steps.old + run_steps (world_of world.now) (pipeline_of checked.now) plan.now chunk) }
-    ensures at_most { steps.new ≤ steps.old + run_steps (world_of world.now) (pipeline_of checked.now) plan.now chunk }
+    ensures cost { OnOk result (steps.new ≡ steps.old
+        + run_steps (world_of world.now) (pipeline_of checked.now) plan.now chunk) }
+    ensures at_most { steps.new ≤ steps.old
+        + run_steps (world_of world.now) (pipeline_of checked.now) plan.now chunk }
 {
     let header = make_header(alloc, checked, format)?;
     let mut desk = Desk::reserve(alloc, world, checked, plan, chunk)?;
@@ -126,8 +128,10 @@ fn write_all<O: Sink, L: Ledger>(
         (header.now ++ lines (world_of world.now) (pipeline_of checked.now) format
         (table (world_of world.now) (pipeline_of checked.now) plan.now.from plan.now.to)) result }
     ensures report { IfOk result (IsReport (world_of world.now) (pipeline_of checked.now) plan.now size) }
-    ensures cost { OnOk result (steps.new ≡ steps.old + run_steps (world_of world.now) (pipeline_of checked.now) plan.now size) }
-    ensures at_most { steps.new ≤ steps.old + run_steps (world_of world.now) (pipeline_of checked.now) plan.now size }
+    ensures cost { OnOk result (steps.new ≡ steps.old
+        + run_steps (world_of world.now) (pipeline_of checked.now) plan.now size) }
+    ensures at_most { steps.new ≤ steps.old
+        + run_steps (world_of world.now) (pipeline_of checked.now) plan.now size }
 {
     // what a world keeps by itself
     let _sessions = world.sessions.len();
@@ -181,17 +185,26 @@ fn write_chunk<O: Sink, L: Ledger>(
     requires few { totals.old.rows + (chunk.to + 1 - chunk.from) * length world.now.assets.now < 2 ^ 63 }
     ensures writes { Writes O.taken O.faults O.sound O.room out.old out.new
         (lines (world_of world.now) (pipeline_of checked.now) format
-        (rows_of_sessions (world_of world.now) (pipeline_of checked.now) chunk.from (chunk.to + 1 - chunk.from))) result }
+        (rows_of_sessions (world_of world.now) (pipeline_of checked.now) chunk.from
+        (chunk.to + 1 - chunk.from))) result }
     ensures rows { OnOk result (totals.new.rows ≡ totals.old.rows
-        + length (rows_of_sessions (world_of world.now) (pipeline_of checked.now) chunk.from (chunk.to + 1 - chunk.from))) }
+        + length (rows_of_sessions (world_of world.now) (pipeline_of checked.now) chunk.from
+        (chunk.to + 1 - chunk.from))) }
     ensures sum { OnOk result (totals.new.sum ≡ totals.old.sum
-        +ℤ rows_sum (world_of world.now).texts (rows_of_sessions (world_of world.now) (pipeline_of checked.now) chunk.from (chunk.to + 1 - chunk.from))) }
-    ensures few { OnOk result (totals.new.rows ≤ totals.old.rows + (chunk.to + 1 - chunk.from) * length world.now.assets.now) }
-    ensures desk { OnOk result ((other : Chunk) → IsDeskFor (world_of world.now) (pipeline_of checked.now) plan.now other desk.old
+        +ℤ rows_sum (world_of world.now).texts
+        (rows_of_sessions (world_of world.now) (pipeline_of checked.now) chunk.from
+        (chunk.to + 1 - chunk.from))) }
+    ensures few { OnOk result (totals.new.rows ≤ totals.old.rows
+        + (chunk.to + 1 - chunk.from) * length world.now.assets.now) }
+    ensures desk { OnOk result ((other : Chunk)
+        → IsDeskFor (world_of world.now) (pipeline_of checked.now) plan.now other desk.old
         → IsDeskFor (world_of world.now) (pipeline_of checked.now) plan.now other desk.new) }
-    ensures peak { IfOk result (λ r. r.peak ≡ bound (pipeline_of checked.now).graph (outputs (pipeline_of checked.now))) }
-    ensures applied { IfOk result (λ r. r.applied ≡ cut (steps_of_chunk (world_of world.now) (pipeline_of checked.now) plan.now chunk)) }
-    ensures cost { steps.new ≡ steps.old + steps_of_chunk (world_of world.now) (pipeline_of checked.now) plan.now chunk }
+    ensures peak { IfOk result (λ r. r.peak
+        ≡ bound (pipeline_of checked.now).graph (outputs (pipeline_of checked.now))) }
+    ensures applied { IfOk result (λ r. r.applied
+        ≡ cut (steps_of_chunk (world_of world.now) (pipeline_of checked.now) plan.now chunk)) }
+    ensures cost { steps.new ≡ steps.old
+        + steps_of_chunk (world_of world.now) (pipeline_of checked.now) plan.now chunk }
 {
     // what the parts of a world keep by themselves
     parts_make_a_world(world);

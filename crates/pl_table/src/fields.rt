@@ -70,7 +70,8 @@ pub fn put_cell(line: &mut Line, format: Format, writing: Writing, cell: i64, la
     requires cell { IsCell cell }
     requires code { writing ≡ Writing.Label → IsCode labels.now.texts cell }
     requires room { length line.old + 131 ≤ 8_448 }
-    ensures text { line.new ≡ line.old ++ field_part format (cell_field format labels.now.texts writing cell) }
+    ensures text { line.new ≡ line.old ++ field_part format
+        (cell_field format labels.now.texts writing cell) }
     ensures within { length line.new ≤ length line.old + 131 }
 {
     match writing {
@@ -84,7 +85,8 @@ pub fn put_cell(line: &mut Line, format: Format, writing: Writing, cell: i64, la
 fn put_number(line: &mut Line, format: Format, labels: &Labels, cell: i64)
     requires cell { IsCell cell }
     requires room { length line.old + 131 ≤ 8_448 }
-    ensures text { line.new ≡ line.old ++ field_part format (cell_field format labels.now.texts Writing.Cell cell) }
+    ensures text { line.new ≡ line.old ++ field_part format
+        (cell_field format labels.now.texts Writing.Cell cell) }
     ensures within { length line.new ≤ length line.old + 131 }
 {
     let mut text = [0u8; 32];
@@ -94,7 +96,8 @@ fn put_number(line: &mut Line, format: Format, labels: &Labels, cell: i64)
 
 fn put_truth(line: &mut Line, format: Format, labels: &Labels, cell: i64)
     requires room { length line.old + 131 ≤ 8_448 }
-    ensures text { line.new ≡ line.old ++ field_part format (cell_field format labels.now.texts Writing.Truth cell) }
+    ensures text { line.new ≡ line.old ++ field_part format
+        (cell_field format labels.now.texts Writing.Truth cell) }
     ensures within { length line.new ≤ length line.old + 131 }
 {
     if cell == MISSING {
@@ -108,7 +111,8 @@ fn put_truth(line: &mut Line, format: Format, labels: &Labels, cell: i64)
 
 fn put_whole(line: &mut Line, format: Format, labels: &Labels, cell: i64)
     requires room { length line.old + 131 ≤ 8_448 }
-    ensures text { line.new ≡ line.old ++ field_part format (cell_field format labels.now.texts Writing.Whole cell) }
+    ensures text { line.new ≡ line.old ++ field_part format
+        (cell_field format labels.now.texts Writing.Whole cell) }
     ensures within { length line.new ≤ length line.old + 131 }
 {
     if cell == MISSING {
@@ -122,7 +126,8 @@ fn put_whole(line: &mut Line, format: Format, labels: &Labels, cell: i64)
 fn put_label(line: &mut Line, format: Format, labels: &Labels, code: i64)
     requires code { IsCode labels.now.texts code }
     requires room { length line.old + 131 ≤ 8_448 }
-    ensures text { line.new ≡ line.old ++ field_part format (cell_field format labels.now.texts Writing.Label code) }
+    ensures text { line.new ≡ line.old ++ field_part format
+        (cell_field format labels.now.texts Writing.Label code) }
     ensures within { length line.new ≤ length line.old + 131 }
 {
     // there are few labels, so that codes are numbers of 32 bits

@@ -28,15 +28,21 @@ pub fn write_rows<O: Sink>(
     out: &mut O,
 ) -> Result<(), Failed>
     requires outcome { IsOutcome outcome.now }
-    requires few { totals.old.rows + (outcome.now.to + 1 - outcome.now.from) * length outcome.now.cols.now < 2 ^ 63 }
+    requires few { totals.old.rows
+        + (outcome.now.to + 1 - outcome.now.from) * length outcome.now.cols.now < 2 ^ 63 }
     ensures writes { Writes O.taken O.faults O.sound O.room out.old out.new
         (lines (world_in outcome.now) (pipeline_in outcome.now) format
-        (rows_of_sessions (world_in outcome.now) (pipeline_in outcome.now) outcome.now.from (outcome.now.to + 1 - outcome.now.from))) result }
+        (rows_of_sessions (world_in outcome.now) (pipeline_in outcome.now) outcome.now.from
+        (outcome.now.to + 1 - outcome.now.from))) result }
     ensures rows { OnOk result (totals.new.rows ≡ totals.old.rows
-        + length (rows_of_sessions (world_in outcome.now) (pipeline_in outcome.now) outcome.now.from (outcome.now.to + 1 - outcome.now.from))) }
+        + length (rows_of_sessions (world_in outcome.now) (pipeline_in outcome.now) outcome.now.from
+        (outcome.now.to + 1 - outcome.now.from))) }
     ensures sum { OnOk result (totals.new.sum ≡ totals.old.sum
-        +ℤ rows_sum (world_in outcome.now).texts (rows_of_sessions (world_in outcome.now) (pipeline_in outcome.now) outcome.now.from (outcome.now.to + 1 - outcome.now.from))) }
-    ensures few { OnOk result (totals.new.rows ≤ totals.old.rows + (outcome.now.to + 1 - outcome.now.from) * length outcome.now.cols.now) }
+        +ℤ rows_sum (world_in outcome.now).texts
+        (rows_of_sessions (world_in outcome.now) (pipeline_in outcome.now) outcome.now.from
+        (outcome.now.to + 1 - outcome.now.from))) }
+    ensures few { OnOk result (totals.new.rows ≤ totals.old.rows
+        + (outcome.now.to + 1 - outcome.now.from) * length outcome.now.cols.now) }
 {
     for session in outcome.from..outcome.to + 1 {
         write_session(outcome, session, format, line, totals, out)?;
@@ -57,11 +63,13 @@ fn write_session<O: Sink>(
     requires session { IsWithin outcome.now session }
     requires few { totals.old.rows + length outcome.now.cols.now < 2 ^ 63 }
     ensures writes { Writes O.taken O.faults O.sound O.room out.old out.new
-        (lines (world_in outcome.now) (pipeline_in outcome.now) format (session_rows (world_in outcome.now) (pipeline_in outcome.now) (pos session))) result }
+        (lines (world_in outcome.now) (pipeline_in outcome.now) format
+        (session_rows (world_in outcome.now) (pipeline_in outcome.now) (pos session))) result }
     ensures rows { OnOk result (totals.new.rows ≡ totals.old.rows
         + length (session_rows (world_in outcome.now) (pipeline_in outcome.now) (pos session))) }
     ensures sum { OnOk result (totals.new.sum ≡ totals.old.sum
-        +ℤ rows_sum (world_in outcome.now).texts (session_rows (world_in outcome.now) (pipeline_in outcome.now) (pos session))) }
+        +ℤ rows_sum (world_in outcome.now).texts
+        (session_rows (world_in outcome.now) (pipeline_in outcome.now) (pos session))) }
     ensures few { OnOk result (totals.new.rows ≤ totals.old.rows + length outcome.now.cols.now) }
 {
     for place in 0..outcome.cols.len() {
@@ -77,7 +85,8 @@ fn has_row(outcome: &Outcome<'_>, place: usize, session: usize) -> bool
     requires outcome { IsOutcome outcome.now }
     requires place { place < length outcome.now.cols.now }
     requires session { IsWithin outcome.now session }
-    ensures { result ≡ has_row (world_in outcome.now) (pipeline_in outcome.now) session (sid_in (sids_in outcome.now) place) }
+    ensures { result ≡ has_row (world_in outcome.now) (pipeline_in outcome.now) session
+        (sid_in (sids_in outcome.now) place) }
 {
     exists(outcome, place, session) && passes(outcome, place, session)
 }
@@ -101,7 +110,8 @@ fn passes(outcome: &Outcome<'_>, place: usize, session: usize) -> bool
     requires outcome { IsOutcome outcome.now }
     requires place { place < length outcome.now.cols.now }
     requires session { IsWithin outcome.now session }
-    ensures { result ≡ is_kept (world_in outcome.now) (pipeline_in outcome.now) (pipeline_in outcome.now).screen (pos session) (sid_in (sids_in outcome.now) place) }
+    ensures { result ≡ is_kept (world_in outcome.now) (pipeline_in outcome.now)
+        (pipeline_in outcome.now).screen (pos session) (sid_in (sids_in outcome.now) place) }
 {
     match outcome.checked.screen() {
         Some(term) => cell_at(outcome, term, place, session) == 1,
@@ -125,10 +135,12 @@ fn write_row<O: Sink>(
     requires few { totals.old.rows < 2 ^ 63 }
     ensures writes { Writes O.taken O.faults O.sound O.room out.old out.new
         (row_line (world_in outcome.now) (pipeline_in outcome.now) format
-        (row (world_in outcome.now) (pipeline_in outcome.now) (pos session) (sid_in (sids_in outcome.now) place))) result }
+        (row (world_in outcome.now) (pipeline_in outcome.now) (pos session)
+        (sid_in (sids_in outcome.now) place))) result }
     ensures rows { totals.new.rows ≡ totals.old.rows + 1 }
     ensures sum { totals.new.sum ≡ totals.old.sum +ℤ values_sum (world_in outcome.now).texts
-        (row (world_in outcome.now) (pipeline_in outcome.now) (pos session) (sid_in (sids_in outcome.now) place)).values }
+        (row (world_in outcome.now) (pipeline_in outcome.now) (pos session)
+        (sid_in (sids_in outcome.now) place)).values }
 {
     line.clear();
     put_date(line, format, outcome.world.sessions.day(session));
@@ -159,7 +171,8 @@ fn put_values(
         (sid_in (sids_in outcome.now) place) (pos session) (pipeline_in outcome.now).columns }
     ensures within { length line.new ≤ 8_447 }
     ensures sum { result ≡ values_sum (world_in outcome.now).texts
-        (row_values (world_in outcome.now) (pipeline_in outcome.now) (sid_in (sids_in outcome.now) place) (pos session) (pipeline_in outcome.now).columns) }
+        (row_values (world_in outcome.now) (pipeline_in outcome.now) (sid_in (sids_in outcome.now) place)
+        (pos session) (pipeline_in outcome.now).columns) }
     ensures small { unsigned_abs result ≤ 64 * LIMIT }
 {
     let checked = outcome.checked;
@@ -185,7 +198,8 @@ fn put_value(
     requires session { IsWithin outcome.now session }
     requires room { length line.old + 131 ≤ 8_448 }
     ensures value { (c : NamedColumn) → slice_get (pipeline_in outcome.now).columns column ≡ Some c
-        → IsPut (world_in outcome.now) (pipeline_in outcome.now) format (sid_in (sids_in outcome.now) place) (pos session) c line.old line.new result }
+        → IsPut (world_in outcome.now) (pipeline_in outcome.now) format (sid_in (sids_in outcome.now) place)
+        (pos session) c line.old line.new result }
     ensures within { length line.new ≤ length line.old + 131 }
     ensures small { unsigned_abs result ≤ LIMIT }
 {

@@ -21,7 +21,8 @@ pub(crate) fn cut<'a>(
     command: CommandName,
     words: &'a [String],
 ) -> Result<Option<ArgMatches<'a>>, Memory>
-    ensures { IfOk result (IsAnswered (parts (options_of command) None (map (λ s. string_bytes s) words.now))) }
+    ensures { IfOk result
+        (IsAnswered (parts (options_of command) None (map (λ s. string_bytes s) words.now))) }
 {
     if has_short(words) {
         return Ok(None);
@@ -61,7 +62,8 @@ pub(crate) fn value<'a>(
 
 #[tactic(auto, using(crate::proofs::Reading::one_is, crate::proofs::Reading::one_bad, crate::proofs::Reading::many, crate::proofs::Reading::none_is))]
 fn one<'a>(values: &[&'a str]) -> Result<Option<&'a str>, Refused>
-    ensures { MatchResult result (λ v. one_value (map (λ s. s.now) values.now) ≡ Some (option_map (λ s. s.now) v))
+    ensures { MatchResult result (λ v. one_value (map (λ s. s.now) values.now)
+        ≡ Some (option_map (λ s. s.now) v))
         (λ _. one_value (map (λ s. s.now) values.now) ≡ None) }
 {
     if values.is_empty() {
@@ -79,9 +81,11 @@ fn parse<'a>(
     command: CommandName,
     words: &'a [String],
 ) -> Result<ArgMatches<'a>, Error>
-    ensures fails { FailsBy (fault_of (app_for (options_of command)) (map (λ s. string_bytes s) words.entry.now)) result }
+    ensures fails { FailsBy (fault_of (app_for (options_of command))
+        (map (λ s. string_bytes s) words.entry.now)) result }
     ensures matches { IfOk result (λ m.
-        rows_of (found_of m) ≡ matches_of (app_for (options_of command)) (map (λ s. string_bytes s) words.entry.now)) }
+        rows_of (found_of m) ≡ matches_of (app_for (options_of command))
+        (map (λ s. string_bytes s) words.entry.now)) }
 {
     let app = command_for(alloc, command.options())?;
     app.try_get_matches_from(words)

@@ -346,7 +346,8 @@ fn date_text<'a>(
     as_of: Option<DateWord<'a>>,
     date: RangeDate,
 ) -> &'a str
-    ensures { result.now ≡ date_text (dated_of from.now) (dated_of to.now) (option_map dated_of as_of.entry) date }
+    ensures { result.now ≡ date_text (dated_of from.now) (dated_of to.now)
+        (option_map dated_of as_of.entry) date }
 {
     match (date, as_of) {
         (RangeDate::From, _) => from.text,
