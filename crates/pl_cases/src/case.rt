@@ -1,4 +1,6 @@
 // What a case states.
+use crate::choices::{filled, parts_of};
+use anyhow::Result;
 use std::alloc::{AllocError, Global};
 
 /// A text, under the line that it stands behind.
@@ -8,13 +10,14 @@ pub(crate) struct Text {
     pub(crate) bytes: Vec<u8>,
 }
 
-/// A case: its texts, the words of its commands, the sizes of chunks, the status, and whether its cells are
-/// compared.
+/// A case: its texts, the words of its commands, what is chosen in its texts, the sizes of chunks, the status,
+/// and whether its cells are compared.
 #[derive(Drop)]
 pub(crate) struct Case {
     name: String,
     texts: Vec<Text>,
     commands: Vec<Vec<String>>,
+    choices: Vec<String>,
     chunks: Vec<String>,
     status: u8,
     cells: bool,
@@ -27,13 +30,14 @@ impl Case {
             name: String::new(alloc),
             texts: Vec::new(alloc),
             commands: Vec::new(alloc),
+            choices: Vec::new(alloc),
             chunks: Vec::new(alloc),
             status: 0,
             cells: false,
         }
     }
 
-    /// A case of another name that states the same; it has no commands.
+    /// A case of another name that states the same; it has no commands and no choices.
     pub(crate) fn copy(&self, alloc: Global, name: &str) -> Result<Case, AllocError> {
         let mut texts = Vec::new(alloc);
         for text in self.texts.iter() {
@@ -46,9 +50,26 @@ impl Case {
             name: String::from_str(alloc, name)?,
             texts,
             commands: Vec::new(alloc),
+            choices: Vec::new(alloc),
             chunks: copy_words(alloc, &self.chunks)?,
             status: self.status,
             cells: self.cells,
+        })
+    }
+
+    /// The same case with the parts of a choice in its texts; it has no commands and no choices.
+    pub(crate) fn chosen(&self, alloc: Global, choice: &str) -> Result<Case> {
+        let parts = parts_of(alloc, choice)?;
+        let mut texts = Vec::new(alloc);
+        for text in self.texts.iter() {
+            texts.push(Text {
+                title: String::from_str(alloc, &text.title)?,
+                bytes: filled(alloc, &text.bytes, &parts)?,
+            })?;
+        }
+        Ok(Case {
+            texts,
+            ..self.copy(alloc, &self.name)?
         })
     }
 
@@ -75,6 +96,10 @@ impl Case {
 
     pub(crate) fn commands(&self) -> &[Vec<String>] {
         &self.commands
+    }
+
+    pub(crate) fn choices(&self) -> &[String] {
+        &self.choices
     }
 
     pub(crate) fn chunks(&self) -> &[String] {
@@ -112,6 +137,11 @@ impl Case {
 
     pub(crate) fn add_command(&mut self, words: Vec<String>) -> Result<(), AllocError> {
         self.commands.push(words)?;
+        Ok(())
+    }
+
+    pub(crate) fn add_choice(&mut self, choice: String) -> Result<(), AllocError> {
+        self.choices.push(choice)?;
         Ok(())
     }
 

@@ -7,7 +7,21 @@ use std::alloc::Global;
 
 /// The first difference between what a case states and what is left; none where there is none.
 pub(crate) fn judge_case(alloc: Global, case: &Case) -> Result<Option<String>> {
-    for words in case.commands() {
+    if case.choices().is_empty() {
+        return judge_commands(alloc, case.commands(), case);
+    }
+    for choice in case.choices() {
+        let chosen = case.chosen(alloc, choice)?;
+        let difference = judge_commands(alloc, case.commands(), &chosen)?;
+        if difference.is_some() {
+            return Ok(difference);
+        }
+    }
+    Ok(None)
+}
+
+fn judge_commands(alloc: Global, commands: &[Vec<String>], case: &Case) -> Result<Option<String>> {
+    for words in commands {
         let difference = judge_command(alloc, case, words)?;
         if difference.is_some() {
             return Ok(difference);

@@ -16,6 +16,9 @@
 //!   behind 1970-01-01;
 //! - `$ WORDS`: the words of a command, with a space between them and `\x20` for a space in a word. A case
 //!   may have several; each of them leaves the same;
+//! - `for PARTS`: the case holds once for each such line, with `{1}`, `{2}` and so on in its texts replaced
+//!   by the parts of that line, which stand between ` ; `, and in which `\r`, `\n` and `\x20` are as in
+//!   texts;
 //! - `chunks N..`: each command is run once with each of `--chunk N`; without numbers, once as it is;
 //! - `status N`, `out`, `err`: what a run leaves: its status, which is 0 where none is told, and the texts
 //!   behind `out` and `err`;
@@ -35,6 +38,7 @@
 
 mod case;
 mod cells;
+mod choices;
 mod fields;
 mod judge;
 mod lines;

@@ -63,6 +63,7 @@ fn state(alloc: Global, case: &mut Case, line: &str) -> Result<()> {
             add_lines(alloc, &mut text.bytes, written)
         }
         Some(("$", words)) => Ok(case.add_command(words_of(alloc, words)?)?),
+        Some(("for", choice)) => Ok(case.add_choice(String::from_str(alloc, choice)?)?),
         Some((first, rest)) => state_number(alloc, case, line, first, rest),
         None => state_word(alloc, case, line),
     }

@@ -1,9 +1,8 @@
 ghost use Rattle.std.specs.Prelude.{◌≡◌, ◌<◌};
 
-use pl_adjust::{AdjustError, Adjustments, Change, Kind, seen_now};
+use pl_adjust::{Adjustments, Change, Kind, seen_now};
 use pl_assets::{AssetRow, Assets};
 use pl_fixed::{Column, MISSING, Steps, is_cell};
-use pl_outside::Table;
 use pl_spec::RawAdjust;
 use std::alloc::Global;
 use std::marker::Brand;
@@ -194,69 +193,6 @@ fn lends_by_column(rt: HostRuntime) -> Result<(), Fail> {
             got.push((adjust.day, adjust.kind, ratio.den()))?;
         }
         assert_eq!(rt; got.as_slice(), *adjusts);
-    }
-    Ok(())
-}
-
-#[test]
-fn names_the_first_fault(rt: HostRuntime) -> Result<(), Fail> {
-    let assets = assets(rt.alloc())?;
-    let right = [
-        row(1, FOURTH, 1, 2, 1),
-        row(2, 7_258_118_399, 1_000_000_000, 1, 1),
-        row(3, -2_208_988_800, 1, 2, 1),
-    ];
-    let late = [row(1, 7_258_118_400, 0, 1, 1)];
-    let early = [row(7, FOURTH, 1, 2, 1), row(8, -2_208_988_801, 1, 2, 1)];
-    let zero = [row(1, FOURTH, 0, 1, 9)];
-    let large = [row(2, FOURTH, 1, 1_000_000_001, 1)];
-    let table: &[(
-        &[RawAdjust],
-        &[RawAdjust],
-        &[RawAdjust],
-        Option<AdjustError>,
-    )] = &[
-        (&right, &right, &right, None),
-        (
-            &late,
-            &zero,
-            &zero,
-            Some(AdjustError::BadEffective {
-                table: Table::Splits,
-                id: 1,
-            }),
-        ),
-        (
-            &zero,
-            &late,
-            &late,
-            Some(AdjustError::BadRatio {
-                table: Table::Splits,
-                id: 1,
-            }),
-        ),
-        (
-            &right,
-            &early,
-            &zero,
-            Some(AdjustError::BadEffective {
-                table: Table::Mergers,
-                id: 8,
-            }),
-        ),
-        (
-            &right,
-            &right,
-            &large,
-            Some(AdjustError::BadRatio {
-                table: Table::Dividends,
-                id: 2,
-            }),
-        ),
-    ];
-    for (splits, mergers, dividends, want) in table.iter() {
-        let got = Adjustments::from_rows(rt.alloc(), &assets, splits, mergers, dividends).err();
-        assert_eq!(rt; got, *want);
     }
     Ok(())
 }

@@ -1,4 +1,4 @@
-use pl_assets::{AssetRow, Assets, Labels, LabelsError};
+use pl_assets::{AssetRow, Assets, Labels};
 use std::test::*;
 
 const ASSETS: &[u8] = b"sid,start,end\n7,2024-01-03,2024-01-05\n1,2024-01-02,2024-01-09\n";
@@ -92,58 +92,6 @@ fn adds_labels(rt: HostRuntime) -> Result<(), Fail> {
         if let Some(number) = number {
             assert_eq!(rt; labels.label_at(number, 0, *day), *code);
         }
-    }
-    Ok(())
-}
-
-#[test]
-fn names_the_first_fault(rt: HostRuntime) -> Result<(), Fail> {
-    let assets = Assets::read(rt.alloc(), ASSETS)?;
-    let table: &[(&[u8], LabelsError)] = &[
-        (b"", LabelsError::BadHeader),
-        (b"sector,1,2024-01-05,a\n", LabelsError::BadHeader),
-        (
-            b"name,sid,start,label\nsector,1,2024-01-05\n",
-            LabelsError::BadField { line: 2 },
-        ),
-        (
-            b"name,sid,start,label\na,1,2024-01-05,b\nscreen,1,2024-01-05,a\n",
-            LabelsError::BadField { line: 3 },
-        ),
-        (
-            b"name,sid,start,label\nabcdefghijklmnopqrstuvwxyz0123456,1,2024-01-05,a\n",
-            LabelsError::BadField { line: 2 },
-        ),
-        (
-            b"name,sid,start,label\nsector,01,2024-01-05,a\n",
-            LabelsError::BadField { line: 2 },
-        ),
-        (
-            b"name,sid,start,label\nsector,1,2024-02-30,a\n",
-            LabelsError::BadField { line: 2 },
-        ),
-        (
-            b"name,sid,start,label\nsector,1,2024-01-05,a\x7f\n",
-            LabelsError::BadField { line: 2 },
-        ),
-        (
-            b"name,sid,start,label\nsector,2,2024-01-05,12345678901234567890123456789012345678901234567890123456789012345\n",
-            LabelsError::LabelTooLong { line: 2 },
-        ),
-        (
-            b"name,sid,start,label\nsector,1,2024-01-05,1234567890123456789012345678901234567890123456789012345678901234\nsector,2,2024-01-05,a\n",
-            LabelsError::UnknownSid { line: 3 },
-        ),
-        (
-            b"name,sid,start,label\nsector,1,2024-01-05,a\nsector,7,2024-01-05,a\ncountry,1,2024-01-05,a\nsector,1,2024-01-05,b\nx\n",
-            LabelsError::DuplicateStart { line: 5 },
-        ),
-    ];
-    for (bytes, fault) in table.iter() {
-        assert_eq!(rt;
-            Labels::read(rt.alloc(), bytes, &assets).err(),
-            Some(*fault)
-        );
     }
     Ok(())
 }

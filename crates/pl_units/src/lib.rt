@@ -12,8 +12,6 @@ mod bars_tests;
 #[cfg(test)]
 mod calendar_tests;
 #[cfg(test)]
-mod check_tests;
-#[cfg(test)]
 mod cross_tests;
 #[cfg(test)]
 mod daily_tests;
@@ -31,8 +29,6 @@ mod labels_tests;
 mod lanes_tests;
 #[cfg(test)]
 mod outside_tests;
-#[cfg(test)]
-mod payouts_tests;
 #[cfg(test)]
 mod planner_tests;
 #[cfg(test)]
