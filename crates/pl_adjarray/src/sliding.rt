@@ -28,6 +28,9 @@ pub(crate) fn follow<L: Ledger>(
     ensures seen { IsSeen array.now scratch.new to applied.new }
     ensures cost { steps.new + applied_at array.now from ≡ steps.old + applied_at array.now to }
 {
+    if array.cols.is_empty() {
+        return;
+    }
     for session in from..to {
         step(array, scratch, session, steps, applied);
     }

@@ -1,6 +1,6 @@
-ghost use Rattle.std.specs.Prelude.{◌≡◌, ◌+◌, ◌<◌, ◌≤◌, ◌↔◌, false, pos, length, All, IsTrue};
+ghost use Rattle.std.specs.Prelude.{◌≡◌, ◌+◌, ◌-◌, ◌<◌, ◌≤◌, ◌↔◌, ℕ, true, false, pos, length, take, drop, All, IfSome, IsTrue};
 ghost use Rattle.pl_spec.specs.Rounding.{IsCell};
-ghost use Rattle.pl_spec.specs.Window.{bar_window};
+ghost use Rattle.pl_spec.specs.Window.{bar_window, seen_cell};
 ghost use Rattle.pl_adjarray.specs.Buffered.{applied_at, col_at, cut, world_of};
 ghost use Rattle.pl_adjarray.specs.Traversals.{advances};
 ghost use Rattle.pl_adjarray.specs.Worlds.{IsWindow};
@@ -99,10 +99,46 @@ impl<'s> Windows<'s> {
         &self.scratch[end - self.window..end]
     }
 
+    /// The bars of an asset on the sessions before this one and on one session more, as they are seen on this one:
+    /// all but the last are its window on the session before, and all but the first are its window on this one.
+    /// `None` where the traversal stood on no whole window before, or where an adjustment of the asset became
+    /// effective since.
+    pub fn span(&self, i: usize) -> Option<&[i64]>
+        requires asset { i < length self.now.array.cols }
+        ensures before { IfSome result (λ s. (d : ℕ) → d + 1 ≡ self.now.session
+            → IsWindow self.now.array self.now.window i d (take (length s.now - 1) s.now)) }
+        ensures after { IfSome result (λ s. IsWindow self.now.array self.now.window i self.now.session
+            (drop 1 s.now)) }
+        ensures cells { IfSome result (λ s. All IsCell s.now) }
+    {
+        let array = self.array;
+        if self.session <= array.first + self.window || !is_still(array, i, self.session - 1) {
+            return None;
+        }
+        let behind = i * array.rows + (self.session - array.first);
+        Some(&self.scratch[behind - (self.window + 1)..behind])
+    }
+
     /// How many steps the traversal took so far, or u64's greatest value where there were more.
     pub fn applied(&self) -> u64
         ensures { result ≡ cut (applied_at self.now.array self.now.session) }
     {
         self.applied
     }
+}
+
+// Does no adjustment of an asset become effective from a session to the next one?
+fn is_still(array: &AdjustedArray<'_>, i: usize, session: usize) -> bool
+    requires more { session < array.now.first + array.now.rows }
+    requires asset { i < length array.now.cols }
+    ensures { result ≡ true → (s : ℕ) → s ≤ session
+        → seen_cell (world_of array.now) (col_at array.now i) array.now.column (pos s) (pos (session + 1))
+        ≡ seen_cell (world_of array.now) (col_at array.now i) array.now.column (pos s) (pos session) }
+{
+    let today = array.sessions.day(session);
+    let next_day = array.sessions.day(session + 1);
+    array
+        .adjustments
+        .events_between(array.cols[i] as usize, today, next_day)
+        .is_empty()
 }

@@ -25,11 +25,21 @@ use std::marker::Model;
 /// The labels of the assets, by column: at most 200,000 rows. A label has a name, and each name has
 /// a number; each text that is not empty has a code. Both count from 0, in the order in which the
 /// rows came.
-#[derive(Debug, Drop)]
+#[derive(Debug)]
 pub struct Labels {
     rows: LabelRows,
     // The numbers of the rows, by name, then column and then start.
     order: Vec<u32>,
+}
+
+// One call lets labels go, so that no caller's proof goes into their parts.
+impl Drop for Labels {
+    fn drop(self) {
+        let Labels {
+            rows: _rows,
+            order: _order,
+        } = self;
+    }
 }
 
 impl Model for Labels {

@@ -116,7 +116,7 @@ empty_is_cell k = here (is_filter k)
     here true = zero_cell
     here false = inl refl
 
-chosen_cell : (b : Bool) (x none : ℤ) → IsCell x → IsCell none → IsCell (chosen b x none)
+pub chosen_cell : (b : Bool) (x none : ℤ) → IsCell x → IsCell none → IsCell (chosen b x none)
 chosen_cell true x none h k = h
 chosen_cell false x none h k = k
 

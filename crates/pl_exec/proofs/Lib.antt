@@ -2,6 +2,7 @@ pub mod ArrayLists
 pub mod Bars
 pub mod NewColumns
 pub mod Counts
+pub mod Courses
 pub mod Givens
 pub mod Held
 pub mod Levels
@@ -9,8 +10,10 @@ pub mod Listed
 pub mod Living
 pub mod Mentions
 pub mod Places
+pub mod PointLanes
 pub mod Releases
 pub mod Sids
 pub mod Spans
 pub mod Stands
+pub mod Successions
 pub mod Trips

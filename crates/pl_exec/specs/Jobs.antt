@@ -5,24 +5,34 @@ use Rattle.pl_spec.specs.declared.Column.{Column}
 use Rattle.pl_spec.specs.declared.Column.TheVariants.{Close}
 use Rattle.pl_spec.specs.declared.Frequency.{Frequency}
 use Rattle.pl_spec.specs.Periods.{period_start}
+use Rattle.pl_spec.specs.Formula.{is_true}
+use Rattle.pl_spec.specs.Window.{bar_window}
 use Rattle.pl_spec.specs.Kind.Kind.{Downsample}
 use Rattle.pl_spec.specs.World.{column_number}
 use Rattle.pl_spec.specs.Term as spec
 use Rattle.pl_spec.specs.Term.Input.{BarColumn, TermInput}
 use Rattle.pl_spec.specs.Graph.{contains, columns_at, input_column}
 use Rattle.pl_assets.specs.Labels.{AreLabels}
-use Rattle.pl_cross.specs.Arrays.{HasTexts}
+use Rattle.pl_cross.specs.Arrays.{HasTexts, sid_in}
+use Rattle.pl_values.specs.Inputs.{input_window}
+use Rattle.pl_values.specs.declared.family.Family.{Family}
+use Rattle.pl_values.specs.declared.family.Family.TheVariants as families
 use Rattle.pl_terms.specs.Checked.{IsChecked, pipeline_of}
 use Rattle.pl_terms.specs.Nodes.{node_of}
+use Rattle.pl_terms.specs.declared.node.Node.{Node}
+use Rattle.pl_terms.specs.declared.node.TermId.{TermId}
 use Rattle.pl_terms.specs.Sorts.{is_windowed}
 use Rattle.pl_model.specs.Worlds.{world_of, PartsMakeAWorld}
 use Rattle.pl_planner.specs.Plans.{IsPlanOf, is_used, slot_of, column_slot}
 use Rattle.pl_values.specs.Arrays.{HasAll, Fills, IsKeep, empty_cell, is_kept}
 use Rattle.pl_adjarray.specs.Buffered.{Buffered, applied_at}
 use Rattle.pl_adjarray.specs.Traversals.{Traversal, advances}
+use Rattle.pl_running.specs.Kept.{Kept, kept_of}
+use Rattle.pl_running.specs.Spans.{before, after}
 use Rattle.pl_workspace.specs.Slots.{Slots, Free, slot_at}
 use Rattle.std.specs.Borrow.{Bor}
 use Rattle.pl_exec.specs.declared.job.Job.{Job}
+use Rattle.pl_exec.specs.declared.course.Course.{Course}
 use Rattle.pl_exec.specs.declared.turn.Turn.{Turn}
 use Rattle.pl_exec.specs.declared.windows.Bars.{Bars}
 use Rattle.pl_exec.specs.declared.job.Array.{Array}
@@ -30,7 +40,7 @@ use Rattle.pl_exec.specs.declared.windows.Source.{Source}
 use Rattle.pl_exec.specs.declared.windows.Source.TheVariants.{InNone, InColumn, InTerm}
 use Rattle.pl_exec.specs.declared.windows.Sources.{Sources}
 use Rattle.pl_exec.specs.Slotted.{IsHeld}
-use Rattle.pl_exec.specs.Tasks.{Task, AreColumns, IsArray, assets_in, cell_in, first_row, graph_in, low_in, row_count, sids_in}
+use Rattle.pl_exec.specs.Tasks.{Task, AreColumns, IsArray, assets_in, cell_in, count_in, first_row, graph_in, low_in, row_count, sids_in}
 
 -- what holds of a task throughout
 pub record IsTask (t : Task) : Type 0 where
@@ -105,6 +115,40 @@ IsKept t row = IsKeep (λ i. is_kept (task_at t).world (task_at t).pipeline (sid
 abbrev pub IsOut : Turn → List ℤ → Type 0
 IsOut t row = Fills (λ i. cell_in (task_at t) t.term.0 i t.session) (assets_in (task_at t)) row
 
+-- ---- one term on all its sessions
+
+abbrev pub task_in : Course → Task
+task_in c = task_of c.job.now
+
+abbrev pub node_in : Course → spec.Node
+node_in c = node_of c.node.now
+
+pub record IsCourse (c : Course) : Type 0 where
+  pub job : IsJob c.job.now
+  pub run : IsRun (task_in c) c.workspace.now c.term.0
+  pub node : slice_get (graph_in (task_in c)) c.term.0 ≡ Some (node_in c)
+  pub none : c.none ≡ empty_cell (task_in c).pipeline c.term.0
+  pub low : c.low ≡ low_in (task_in c) c.term.0
+  pub end : c.low + c.count ≡ c.job.now.to + 1
+  pub some : 1 ≤ c.count
+
+-- a used term over the arrays in a workspace
+abbrev pub course_at : Bor Job → TermId → Bor Node → Bor Slots → Course
+course_at j k n w = record { job = j; term = k; node = n; workspace = w; none = empty_cell (task_of j.now).pipeline k.0; low = low_in (task_of j.now) k.0; count = count_in (task_of j.now) k.0 }
+
+-- on session j of them
+abbrev pub turn_in : Course → ℕ → Turn
+turn_in c j = record { job = c.job; term = c.term; node = c.node; session = c.low + j; workspace = c.workspace; none = c.none }
+
+-- the cells of an asset
+abbrev pub IsLane : Course → ℕ → List ℤ → Type 0
+IsLane c i row = Fills (λ j. cell_in (task_in c) c.term.0 i (c.low + j)) c.count row
+
+-- the array is written for the first assets
+pub record AreLanes (f : ℕ → ℕ → ℤ) (low count done : ℕ) (cells : List ℤ) : Type 0 where
+  pub each : (i j : ℕ) → i < done → j < count → get_or cells (i * count + j) (pos 0) ≡ f i (low + j)
+  pub cell : (i j : ℕ) → i < done → j < count → IsCell (f i (low + j))
+
 -- a row of n cells of which the first ones are written
 pub record Begins (f : ℕ → ℤ) (n done : ℕ) (row : List ℤ) : Type 0 where
   pub long : length row ≡ n
@@ -158,26 +202,37 @@ buffered j k c cols =
     }
 
 -- the buffer for the input in place p: where that is no new bar column, it is one for no asset
-abbrev pub buffer_for : Job → ℕ → Option Column → Buffered
-buffer_for j k None = buffered j k Close []
-buffer_for j k (Some c) = buffered j k c j.cols.now
+abbrev pub buffer_for : Job → ℕ → List ℕ → Option Column → Buffered
+buffer_for j k cols None = buffered j k Close []
+buffer_for j k cols (Some c) = buffered j k c cols
 
-abbrev pub buffer_at : Job → ℕ → spec.Node → ℕ → Buffered
-buffer_at j k n p = buffer_for j k (new_column n p)
+abbrev pub buffer_at : Job → ℕ → spec.Node → List ℕ → ℕ → Buffered
+buffer_at j k n cols p = buffer_for j k cols (new_column n p)
+
+-- the column of the asset in place i alone
+abbrev pub one_col : Job → ℕ → List ℕ
+one_col j i = get_or j.cols.now i 0 ∷ []
 
 -- where a traversal stands after so many advances
 abbrev pub stand_at : Buffered → ℕ → ℕ → ℕ
 stand_at b size zero = b.first
 stand_at b size (suc n) = b.first + size + n
 
-abbrev pub traversal_at : Job → ℕ → spec.Node → ℕ → ℕ → Traversal
-traversal_at j k n p m = record { array = buffer_at j k n p; window = n.window; session = stand_at (buffer_at j k n p) n.window m }
+abbrev pub traversal_at : Job → ℕ → spec.Node → List ℕ → ℕ → ℕ → Traversal
+traversal_at j k n cols p m = record { array = buffer_at j k n cols p; window = n.window; session = stand_at (buffer_at j k n cols p) n.window m }
 
 -- the traversals of the places after so many advances
-pub record AreBars (j : Job) (k : ℕ) (n : spec.Node) (m : ℕ) (b : Bars) : Type 0 where
-  pub first : b.first ≡ traversal_at j k n 0 m
-  pub second : b.second ≡ traversal_at j k n 1 m
-  pub third : b.third ≡ traversal_at j k n 2 m
+pub record AreBars (j : Job) (k : ℕ) (n : spec.Node) (cols : List ℕ) (m : ℕ) (b : Bars) : Type 0 where
+  pub first : b.first ≡ traversal_at j k n cols 0 m
+  pub second : b.second ≡ traversal_at j k n cols 1 m
+  pub third : b.third ≡ traversal_at j k n cols 2 m
+
+-- the steps of whole traversals
+abbrev pub steps_at : Job → ℕ → spec.Node → List ℕ → ℕ → ℕ
+steps_at j k n cols p = applied_at (buffer_at j k n cols p) (first_row (task_of j) k + row_count (task_of j) k)
+
+abbrev pub steps_of : Job → ℕ → spec.Node → List ℕ → ℕ
+steps_of j k n cols = steps_at j k n cols 0 + steps_at j k n cols 1 + steps_at j k n cols 2
 
 abbrev pub place_in : Bars → ℕ → Traversal
 place_in b zero = b.first
@@ -194,16 +249,20 @@ counted b = applied_at b.first.array b.first.session + applied_at b.second.array
 abbrev pub GoesOn : Traversal → Type 0
 GoesOn v = advances v + v.window ≤ v.array.rows
 
-pub record HasBarsAt (j : Job) (k : ℕ) (n : spec.Node) (s : ℕ) (b : Bars) : Type 0 where
+pub record HasBarsAt (j : Job) (k : ℕ) (n : spec.Node) (cols : List ℕ) (s : ℕ) (b : Bars) : Type 0 where
   pub advances : ℕ
-  pub bars : AreBars j k n (suc advances) b
+  pub bars : AreBars j k n cols (suc advances) b
   pub at : s ≡ low_in (task_of j) k + advances
   pub deep : n.window ≤ low_in (task_of j) k
 
--- the traversals stand on session s; there are none where no input is a bar column
-abbrev pub HasBars : Job → ℕ → spec.Node → ℕ → Option Bars → Type 0
-HasBars j k n s None = (p : ℕ) (c : Column) → slice_get n.inputs p ≡ Some (BarColumn c) → ⊥
-HasBars j k n s (Some b) = HasBarsAt j k n s b
+-- no input is a bar column
+abbrev pub HasNoBars : spec.Node → Type 0
+HasNoBars n = (p : ℕ) (c : Column) → slice_get n.inputs p ≡ Some (BarColumn c) → ⊥
+
+-- the traversals stand on session s
+abbrev pub HasBars : Job → ℕ → spec.Node → List ℕ → ℕ → Option Bars → Type 0
+HasBars j k n cols s None = HasNoBars n
+HasBars j k n cols s (Some b) = HasBarsAt j k n cols s b
 
 abbrev pub bars_now : Option (Bor Bars) → Option Bars
 bars_now None = None
@@ -211,14 +270,9 @@ bars_now (Some b) = Some b.now
 
 -- ---- where the windows of an input lie
 
--- the traversal of a bar column that is an input, where it stands on the session
-abbrev pub column_traversal : Turn → Column → Traversal
-column_traversal t c = record { array = buffered t.job.now t.term.0 c t.job.now.cols.now; window = (node_at t).window; session = t.session }
-
--- in the traversal of its bar column
-pub record IsColumnLent (t : Turn) (c : Column) (v : Traversal) : Type 0 where
-  pub is : v ≡ column_traversal t c
-  pub begun : v.array.first + v.window ≤ v.session
+-- the traversal of a bar column that is an input, for the asset in place i, where it stands on the session
+abbrev pub column_traversal : Turn → ℕ → Column → Traversal
+column_traversal t i c = record { array = buffered t.job.now t.term.0 c (one_col t.job.now i); window = (node_at t).window; session = t.session }
 
 -- in the array of its term
 pub record IsTermLent (t : Turn) (u : ℕ) (a : Array) : Type 0 where
@@ -227,17 +281,100 @@ pub record IsTermLent (t : Turn) (u : ℕ) (a : Array) : Type 0 where
   pub low : a.low ≡ low_in (task_at t) u
   pub end : a.low + a.count ≡ t.job.now.to + 1
 
-abbrev pub IsLent : Turn → Option spec.Input → Source → Type 0
-IsLent t None InNone = Unit {0}
-IsLent t (Some (BarColumn c)) (InColumn v) = IsColumnLent t c v.now
-IsLent t (Some (TermInput u)) (InTerm a) = IsTermLent t u a
-IsLent t o s = ⊥
+-- the array of term u, as the code has it
+pub record IsArrayOf (t : Task) (u : ℕ) (a : Array) : Type 0 where
+  pub holds : IsArray t u a.cells.now
+  pub low : a.low ≡ low_in t u
+  pub end : a.low + a.count ≡ t.to + 1
 
--- those of the three places
-pub record AreLent (t : Turn) (s : Sources) : Type 0 where
-  pub first : IsLent t (slice_get (node_at t).inputs 0) s.first
-  pub second : IsLent t (slice_get (node_at t).inputs 1) s.second
-  pub third : IsLent t (slice_get (node_at t).inputs 2) s.third
+-- where the windows of the input in place p lie
+abbrev pub IsLent : Task → spec.Node → Option spec.Input → Source → Type 0
+IsLent t n None InNone = Unit {0}
+IsLent t n (Some (BarColumn c)) (InColumn q) = q ≡ place_among n.inputs c
+IsLent t n (Some (TermInput u)) (InTerm a) = IsArrayOf t u a
+IsLent t n o s = ⊥
+
+-- the array of a mask
+abbrev pub IsMaskLent : Task → Option ℕ → Option Array → Type 0
+IsMaskLent t None None = Unit {0}
+IsMaskLent t (Some u) (Some a) = IsArrayOf t u a
+IsMaskLent t m a = ⊥
+
+-- the array of a term that is read on the sessions of a course
+pub record IsReadFrom (c : Course) (u : ℕ) (a : Array) : Type 0 where
+  pub array : IsArrayOf (task_in c) u a
+  pub early : a.low ≤ c.low
+
+-- its cells there for an asset
+abbrev pub IsOperand : Course → ℕ → ℕ → List ℤ → Type 0
+IsOperand c u i row = Fills (λ j. cell_in (task_in c) u i (c.low + j)) c.count row
+
+abbrev pub IsOperandOf : Course → Option spec.Input → ℕ → List ℤ → Type 0
+IsOperandOf c (Some (TermInput u)) i row = IsOperand c u i row
+IsOperandOf c o i row = Unit {0}
+
+-- the families of which cells come row by row
+abbrev pub by_rows : Family → Bool
+by_rows families.Window = false
+by_rows families.Point = false
+by_rows f = true
+
+-- the windows of an input of the term for an asset on the session, wherever they lie
+abbrev pub IsLentAt : Turn → Source → Type 0
+IsLentAt t s = (p : ℕ) × IsLent (task_at t) (node_at t) (slice_get (node_at t).inputs p) s
+
+abbrev pub IsLentWindow : Turn → Source → ℕ → List ℤ → Type 0
+IsLentWindow t s i cells = (p : ℕ) → IsLent (task_at t) (node_at t) (slice_get (node_at t).inputs p) s
+    → cells ≡ input_window (task_at t).world (task_at t).pipeline (sids_in (task_at t)) (node_at t).window (slice_get (node_at t).inputs p) i t.session
+
+-- the traversal of place q is that of a bar column that is an input
+abbrev pub IsColumnAt : Turn → ℕ → Type 0
+IsColumnAt t q = (p : ℕ) × ((c : Column) × ((slice_get (node_at t).inputs p ≡ Some (BarColumn c)) × (q ≡ place_among (node_at t).inputs c)))
+
+abbrev pub IsColumnWindow : Turn → ℕ → ℕ → List ℤ → Type 0
+IsColumnWindow t i q cells = (p : ℕ) (c : Column) → slice_get (node_at t).inputs p ≡ Some (BarColumn c) → q ≡ place_among (node_at t).inputs c
+    → cells ≡ bar_window (task_at t).world c (node_at t).window (sid_in (sids_in (task_at t)) i) (pos t.session)
+
+-- ---- windows that move on
+
+-- the window of the input in place p, for the asset in place i on session s
+abbrev pub window_on : Task → spec.Node → ℕ → ℕ → ℕ → List ℤ
+window_on t n p i s = input_window t.world t.pipeline (sids_in t) n.window (slice_get n.inputs p) i s
+
+-- what is kept of the windows
+abbrev pub kept_on : Task → spec.Node → ℕ → ℕ → Kept
+kept_on t n i s = kept_of n.kind (window_on t n 0 i s) (window_on t n 1 i s) (window_on t n 2 i s)
+
+-- of those on the session before
+abbrev pub IsKeptBefore : Turn → ℕ → Kept → Type 0
+IsKeptBefore t i r = (s : ℕ) × ((s + 1 ≡ t.session) × (r ≡ kept_on (task_at t) (node_at t) i s))
+
+-- and of those on the session
+abbrev pub IsKeptNow : Turn → ℕ → Kept → Type 0
+IsKeptNow t i r = r ≡ kept_on (task_at t) (node_at t) i t.session
+
+-- the windows of an input on both sessions as one list
+pub record IsSpan (t : Turn) (o : Option spec.Input) (i : ℕ) (cells : List ℤ) : Type 0 where
+  pub front : (s : ℕ) → s + 1 ≡ t.session → before cells ≡ input_window (task_at t).world (task_at t).pipeline (sids_in (task_at t)) (node_at t).window o i s
+  pub back : after cells ≡ input_window (task_at t).world (task_at t).pipeline (sids_in (task_at t)) (node_at t).window o i t.session
+
+abbrev pub IsColumnSpan : Turn → ℕ → ℕ → List ℤ → Type 0
+IsColumnSpan t i q cells = (p : ℕ) (c : Column) → slice_get (node_at t).inputs p ≡ Some (BarColumn c) → q ≡ place_among (node_at t).inputs c → IsSpan t (Some (BarColumn c)) i cells
+
+abbrev pub IsLentSpan : Turn → Source → ℕ → List ℤ → Type 0
+IsLentSpan t s i cells = (p : ℕ) → IsLent (task_at t) (node_at t) (slice_get (node_at t).inputs p) s → IsSpan t (slice_get (node_at t).inputs p) i cells
+
+-- the asset in a place passes the mask
+abbrev pub passes : Task → Option ℕ → ℕ → ℕ → Bool
+passes t None i s = true
+passes t (Some u) i s = is_true (cell_in t u i s)
+
+-- those of the three places and of the mask
+pub record AreLent (t : Task) (n : spec.Node) (s : Sources) : Type 0 where
+  pub first : IsLent t n (slice_get n.inputs 0) s.first
+  pub second : IsLent t n (slice_get n.inputs 1) s.second
+  pub third : IsLent t n (slice_get n.inputs 2) s.third
+  pub mask : IsMaskLent t n.mask s.mask
 
 -- ---- the slots of bar columns
 

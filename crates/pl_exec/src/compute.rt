@@ -7,6 +7,7 @@ ghost use Rattle.pl_exec.specs.Tasks.{IsArray, assets_in, count_in, cut, graph_i
 ghost use Rattle.pl_exec.specs.Jobs.{AreFree, HasRows, IsColumnRun, IsJob, IsRun, new_first, new_second, new_third, task_of};
 
 use crate::columns::{column_count, one_new};
+use crate::course::course_of;
 use crate::fill::{fill_bars, fill_plain};
 use crate::job::{Job, node_of};
 use crate::rows::Rows;
@@ -35,9 +36,6 @@ fn fill_last<'x, L: Ledger>(
     first: &mut [i64],
     second: &mut [i64],
     third: &mut [i64],
-    mask: &mut [i64],
-    keep: &mut [i64],
-    out: &mut [i64],
     steps: &mut Steps<L>,
 ) -> Filled
     requires run { IsColumnRun job.now workspace.now term.0 (node_of node.now) }
@@ -45,18 +43,14 @@ fn fill_last<'x, L: Ledger>(
     requires first { HasRows (task_of job.now) term.0 (node_of node.now) 0 first.old }
     requires second { HasRows (task_of job.now) term.0 (node_of node.now) 1 second.old }
     requires third { HasRows (task_of job.now) term.0 (node_of node.now) 2 third.old }
-    requires mask { length mask.old ≡ assets_in (task_of job.now) }
-    requires keep { length keep.old ≡ assets_in (task_of job.now) }
-    requires long { length out.old ≡ assets_in (task_of job.now) }
     ensures array { IsArray (task_of job.now) term.0 own.new }
     ensures held { result.held ≡ live_count workspace.now.slots }
     ensures cost { steps.new ≡ steps.old + term_steps (task_of job.now) term.0 }
     ensures applied { result.applied ≡ cut (term_steps (task_of job.now) term.0) }
 {
     let held = workspace.live();
-    let applied = fill_bars(
-        job, term, node, workspace, own, first, second, third, mask, keep, out, steps,
-    );
+    let course = course_of(job, term, node, workspace);
+    let applied = fill_bars(&course, own, first, second, third, steps);
     Filled { held, applied }
 }
 
@@ -70,9 +64,6 @@ fn third_column<'x, L: Ledger>(
     own: &mut [i64],
     first: &mut [i64],
     second: &mut [i64],
-    mask: &mut [i64],
-    keep: &mut [i64],
-    out: &mut [i64],
     steps: &mut Steps<L>,
 ) -> Filled
     requires run { IsColumnRun job.now workspace.old term.0 (node_of node.now) }
@@ -83,9 +74,6 @@ fn third_column<'x, L: Ledger>(
     requires room { assets_in (task_of job.now) * count_in (task_of job.now) term.0 ≤ length own.old }
     requires first { HasRows (task_of job.now) term.0 (node_of node.now) 0 first.old }
     requires second { HasRows (task_of job.now) term.0 (node_of node.now) 1 second.old }
-    requires mask { length mask.old ≡ assets_in (task_of job.now) }
-    requires keep { length keep.old ≡ assets_in (task_of job.now) }
-    requires long { length out.old ≡ assets_in (task_of job.now) }
     ensures array { IsArray (task_of job.now) term.0 own.new }
     ensures slots { workspace.new.slots ≡ workspace.old.slots }
     ensures len { workspace.new.len ≡ workspace.old.len }
@@ -105,9 +93,6 @@ fn third_column<'x, L: Ledger>(
             first,
             second,
             &mut [],
-            mask,
-            keep,
-            out,
             steps,
         );
     }
@@ -122,9 +107,6 @@ fn third_column<'x, L: Ledger>(
         first,
         second,
         column.cells_mut(),
-        mask,
-        keep,
-        out,
         steps,
     );
     workspace.finish(slot, column);
@@ -141,9 +123,6 @@ fn second_column<'x, L: Ledger>(
     workspace: &mut Workspace,
     own: &mut [i64],
     first: &mut [i64],
-    mask: &mut [i64],
-    keep: &mut [i64],
-    out: &mut [i64],
     steps: &mut Steps<L>,
 ) -> Filled
     requires run { IsColumnRun job.now workspace.old term.0 (node_of node.now) }
@@ -153,9 +132,6 @@ fn second_column<'x, L: Ledger>(
     requires columns { assets_in (task_of job.now) * row_count (task_of job.now) term.0 ≤ workspace.old.len }
     requires room { assets_in (task_of job.now) * count_in (task_of job.now) term.0 ≤ length own.old }
     requires first { HasRows (task_of job.now) term.0 (node_of node.now) 0 first.old }
-    requires mask { length mask.old ≡ assets_in (task_of job.now) }
-    requires keep { length keep.old ≡ assets_in (task_of job.now) }
-    requires long { length out.old ≡ assets_in (task_of job.now) }
     ensures array { IsArray (task_of job.now) term.0 own.new }
     ensures slots { workspace.new.slots ≡ workspace.old.slots }
     ensures len { workspace.new.len ≡ workspace.old.len }
@@ -175,9 +151,6 @@ fn second_column<'x, L: Ledger>(
             own,
             first,
             &mut [],
-            mask,
-            keep,
-            out,
             steps,
         );
     }
@@ -192,9 +165,6 @@ fn second_column<'x, L: Ledger>(
         own,
         first,
         column.cells_mut(),
-        mask,
-        keep,
-        out,
         steps,
     );
     workspace.finish(slot, column);
@@ -210,9 +180,6 @@ fn first_column<'x, L: Ledger>(
     taken: usize,
     workspace: &mut Workspace,
     own: &mut [i64],
-    mask: &mut [i64],
-    keep: &mut [i64],
-    out: &mut [i64],
     steps: &mut Steps<L>,
 ) -> Filled
     requires run { IsColumnRun job.now workspace.old term.0 (node_of node.now) }
@@ -221,9 +188,6 @@ fn first_column<'x, L: Ledger>(
     requires counted { live_count workspace.old.slots ≤ workspace.old.peak }
     requires columns { assets_in (task_of job.now) * row_count (task_of job.now) term.0 ≤ workspace.old.len }
     requires room { assets_in (task_of job.now) * count_in (task_of job.now) term.0 ≤ length own.old }
-    requires mask { length mask.old ≡ assets_in (task_of job.now) }
-    requires keep { length keep.old ≡ assets_in (task_of job.now) }
-    requires long { length out.old ≡ assets_in (task_of job.now) }
     ensures array { IsArray (task_of job.now) term.0 own.new }
     ensures slots { workspace.new.slots ≡ workspace.old.slots }
     ensures len { workspace.new.len ≡ workspace.old.len }
@@ -234,19 +198,7 @@ fn first_column<'x, L: Ledger>(
     ensures applied { result.applied ≡ cut (term_steps (task_of job.now) term.0) }
 {
     if one_new(node, 0) == 0 {
-        return second_column(
-            job,
-            term,
-            node,
-            taken,
-            workspace,
-            own,
-            &mut [],
-            mask,
-            keep,
-            out,
-            steps,
-        );
+        return second_column(job, term, node, taken, workspace, own, &mut [], steps);
     }
     let slot = job.plan.column_slot(term, taken);
     let mut column = workspace.begin(slot);
@@ -258,9 +210,6 @@ fn first_column<'x, L: Ledger>(
         workspace,
         own,
         column.cells_mut(),
-        mask,
-        keep,
-        out,
         steps,
     );
     workspace.finish(slot, column);
@@ -277,7 +226,6 @@ fn compute_over<'x, L: Ledger>(
     cross: &mut Cross,
     first: &mut [i64],
     second: &mut [i64],
-    third: &mut [i64],
     keep: &mut [i64],
     out: &mut [i64],
     steps: &mut Steps<L>,
@@ -292,7 +240,6 @@ fn compute_over<'x, L: Ledger>(
     requires cross { assets_in (task_of job.now) ≤ cross.old }
     requires first { assets_in (task_of job.now) ≤ length first.old }
     requires second { assets_in (task_of job.now) ≤ length second.old }
-    requires third { assets_in (task_of job.now) ≤ length third.old }
     requires keep { assets_in (task_of job.now) ≤ length keep.old }
     requires out { assets_in (task_of job.now) ≤ length out.old }
     ensures array { IsArray (task_of job.now) term.0 own.new }
@@ -309,29 +256,18 @@ fn compute_over<'x, L: Ledger>(
     let node = node_of(job, term);
     let assets = job.cols.len();
     if column_count(node) > 0 {
-        return first_column(
-            job,
-            term,
-            node,
-            0,
-            workspace,
-            own,
-            &mut first[..assets],
-            &mut keep[..assets],
-            &mut out[..assets],
-            steps,
-        );
+        return first_column(job, term, node, 0, workspace, own, steps);
     }
     let held = workspace.live();
     fill_plain(
         job,
         term,
+        node,
         workspace,
         own,
         cross,
         &mut first[..assets],
         &mut second[..assets],
-        &mut third[..assets],
         &mut keep[..assets],
         &mut out[..assets],
     );
@@ -372,7 +308,6 @@ pub(crate) fn compute<'x, L: Ledger>(
 {
     let first = rows.first.as_mut_slice();
     let second = rows.second.as_mut_slice();
-    let third = rows.third.as_mut_slice();
     let keep = rows.keep.as_mut_slice();
     let out = rows.results.as_mut_slice();
     compute_over(
@@ -383,7 +318,6 @@ pub(crate) fn compute<'x, L: Ledger>(
         cross,
         first,
         second,
-        third,
         keep,
         out,
         steps,

@@ -1,26 +1,28 @@
-//! The array of one term, session after session.
-ghost use Rattle.std.specs.Prelude.{◌≡◌, ◌+◌, ◌-◌, ◌*◌, ◌<◌, ◌≤◌, ℕ, true, Some, pos, get_or, length, slice_get, slice_set};
+//! The array of one term: asset by asset where its cells come from windows or from cells of the same place,
+//! else session by session.
+ghost use Rattle.std.specs.Prelude.{◌≡◌, ◌+◌, ◌*◌, ◌<◌, ◌≤◌, ℕ, true, false, Some, pos, get_or, length, slice_get, slice_set, [], ◌∷◌};
 ghost use Rattle.pl_spec.specs.Rounding.{IsCell};
 ghost use Rattle.pl_spec.specs.Graph.{columns_at};
 ghost use Rattle.pl_terms.specs.Nodes.{node_of};
 ghost use Rattle.pl_terms.specs.Sorts.{is_windowed};
-ghost use Rattle.pl_values.specs.Arrays.{IsRow, empty_cell};
-ghost use Rattle.pl_planner.specs.Plans.{is_used};
-ghost use Rattle.std.specs.Prelude.{None};
-ghost use Rattle.pl_values.specs.Families.{IsOf};
-ghost use Rattle.pl_exec.specs.Tasks.{IsArray, assets_in, count_in, cut, graph_in, low_in, row_count, term_steps};
-ghost use Rattle.pl_exec.specs.Jobs.{AreBars, HasBars, HasRows, IsColumnRun, IsJob, IsKept, IsOut, IsRun, IsTurn, buffer_at, counted, node_at, task_at, task_of};
+ghost use Rattle.pl_values.specs.Arrays.{IsRow};
+ghost use Rattle.pl_values.specs.Families.{IsOf, is_point};
+ghost use Rattle.pl_exec.specs.Tasks.{IsArray, assets_in, count_in, cut, graph_in, term_steps};
+ghost use Rattle.pl_exec.specs.Jobs.{AreBars, AreLent, HasNoBars, HasRows, IsColumnRun, IsCourse, IsJob, IsLane, IsOut, IsRun, IsTurn, buffer_at, by_rows, counted, node_at, node_in, one_col, steps_of, task_at, task_in, task_of};
 
 use crate::columns::new_column;
-use crate::job::{Job, kind_of, low_of, node_of, window_of};
-use crate::kinds::kind_row;
+use crate::course::{Course, course_of, turn_on};
+use crate::job::{Job, kind_of, node_of, window_of};
+use crate::kinds::{is_by_rows, kind_row};
+use crate::points::point_lane;
+use crate::sliding::is_slid;
 use crate::turn::{Turn, keep_row};
-use crate::windows::{Bars, advance_all, applied, window_row};
+use crate::windows::{Bars, Sources, advance_all, applied, cell_on, sources_of};
 use pl_adjarray::AdjustedArray;
 use pl_cross::Cross;
 use pl_fixed::{Column, Steps};
 use pl_terms::{Node, TermId};
-use pl_values::empty_value;
+use pl_values::{Family, family_of};
 use pl_workspace::Workspace;
 use std::sync::ledger::Ledger;
 
@@ -43,98 +45,132 @@ fn put_row(row: &[i64], cells: &mut [i64], count: usize, session: usize)
     }
 }
 
-// The cells on a session of a term that reads no bar columns.
-fn plain_row(
+// The cells on a session, where they come row by row.
+fn row_on(
     turn: &Turn<'_>,
+    family: Family,
     cross: &mut Cross,
     first: &mut [i64],
     second: &mut [i64],
-    third: &mut [i64],
     keep: &mut [i64],
     out: &mut [i64],
 )
     requires turn { IsTurn turn.now }
+    requires family { IsOf (node_at turn.now).kind family }
+    requires rows { by_rows family ≡ true }
     requires cross { assets_in (task_at turn.now) ≤ cross.old }
     requires first { length first.old ≡ assets_in (task_at turn.now) }
     requires second { length second.old ≡ assets_in (task_at turn.now) }
-    requires third { length third.old ≡ assets_in (task_at turn.now) }
     requires keep { length keep.old ≡ assets_in (task_at turn.now) }
     requires long { length out.old ≡ assets_in (task_at turn.now) }
-    requires bars { HasBars turn.now.job.now turn.now.term.0 (node_at turn.now) turn.now.session None }
     ensures out { IsOut turn.now out.new }
     ensures cross { cross.new ≡ cross.old }
 {
     keep_row(turn, first, keep);
-    kind_row(turn, cross, first, second, third, keep, out);
+    kind_row(turn, family, cross, first, second, keep, out);
 }
 
-// The empty value of a term.
-fn none_of(job: &Job<'_>, term: TermId) -> i64
-    requires { term.0 < length (graph_in (task_of job.now)) }
-    ensures { result ≡ empty_cell (task_of job.now).pipeline term.0 }
+// The array of a term whose cells come row by row.
+fn fill_rows<'x>(
+    course: &Course<'x>,
+    family: Family,
+    own: &mut [i64],
+    cross: &mut Cross,
+    first: &mut [i64],
+    second: &mut [i64],
+    keep: &mut [i64],
+    out: &mut [i64],
+)
+    requires course { IsCourse course.now }
+    requires family { IsOf (node_in course.now).kind family }
+    requires rows { by_rows family ≡ true }
+    requires room { assets_in (task_in course.now) * course.now.count ≤ length own.old }
+    requires cross { assets_in (task_in course.now) ≤ cross.old }
+    requires first { length first.old ≡ assets_in (task_in course.now) }
+    requires second { length second.old ≡ assets_in (task_in course.now) }
+    requires keep { length keep.old ≡ assets_in (task_in course.now) }
+    requires long { length out.old ≡ assets_in (task_in course.now) }
+    ensures array { IsArray (task_in course.now) course.now.term.0 own.new }
+    ensures cross { cross.new ≡ cross.old }
 {
-    empty_value(job.checked.graph(), term)
+    for j in 0..course.count {
+        let turn = turn_on(course, j);
+        row_on(&turn, family, cross, first, second, keep, out);
+        put_row(out, own, course.count, j);
+    }
 }
 
-/// The array of a term that reads no bar columns, over rows of one session.
+// The array of a term whose cells come asset by asset, and which reads no bar columns.
+fn fill_lanes<'x>(course: &Course<'x>, family: Family, own: &mut [i64])
+    requires course { IsCourse course.now }
+    requires family { IsOf (node_in course.now).kind family }
+    requires lanes { by_rows family ≡ false }
+    requires none { columns_at (graph_in (task_in course.now)) course.now.term.0 ≡ 0 }
+    requires room { assets_in (task_in course.now) * course.now.count ≤ length own.old }
+    ensures { IsArray (task_in course.now) course.now.term.0 own.new }
+{
+    match family {
+        Family::Window => fill_windows(course, own),
+        Family::Point => fill_points(course, own),
+        _ => unreachable!(),
+    }
+}
+
+/// The array of a term that reads no bar columns.
 pub(crate) fn fill_plain<'x>(
     job: &'x Job<'x>,
     term: TermId,
+    node: &'x Node,
     workspace: &'x Workspace,
     own: &mut [i64],
     cross: &mut Cross,
     first: &mut [i64],
     second: &mut [i64],
-    third: &mut [i64],
     keep: &mut [i64],
     out: &mut [i64],
 )
     requires job { IsJob job.now }
     requires run { IsRun (task_of job.now) workspace.now term.0 }
+    requires node { slice_get (graph_in (task_of job.now)) term.0 ≡ Some (node_of node.now) }
     requires none { columns_at (graph_in (task_of job.now)) term.0 ≡ 0 }
     requires room { assets_in (task_of job.now) * count_in (task_of job.now) term.0 ≤ length own.old }
     requires cross { assets_in (task_of job.now) ≤ cross.old }
     requires first { length first.old ≡ assets_in (task_of job.now) }
     requires second { length second.old ≡ assets_in (task_of job.now) }
-    requires third { length third.old ≡ assets_in (task_of job.now) }
     requires keep { length keep.old ≡ assets_in (task_of job.now) }
     requires long { length out.old ≡ assets_in (task_of job.now) }
     ensures array { IsArray (task_of job.now) term.0 own.new }
     ensures cross { cross.new ≡ cross.old }
 {
-    let node = node_of(job, term);
-    let none = none_of(job, term);
-    let low = low_of(job, term);
-    let count = job.to + 1 - low;
-    for j in 0..count {
-        let turn = Turn {
-            job,
-            term,
-            node,
-            session: low + j,
-            workspace,
-            none,
-        };
-        plain_row(&turn, cross, first, second, third, keep, out);
-        put_row(out, own, count, j);
+    let course = course_of(job, term, node, workspace);
+    let family = family_of(kind_of(node));
+    if is_by_rows(family) {
+        fill_rows(&course, family, own, cross, first, second, keep, out);
+    } else {
+        fill_lanes(&course, family, own);
     }
 }
 
-// The rows of the input in a place.
-fn column_array<'a>(job: &Job<'a>, term: TermId, node: &Node, place: usize) -> AdjustedArray<'a>
-    requires job { IsJob job.now }
-    requires used { is_used job.now.plan.now term.0 ≡ true }
-    requires node { slice_get (graph_in (task_of job.now)) term.0 ≡ Some (node_of node.now) }
-    requires deep { (node_of node.now).window ≤ low_in (task_of job.now) term.0 }
-    requires some { 1 ≤ (node_of node.now).window }
-    ensures { result ≡ buffer_at job.now term.0 (node_of node.now) place }
+// The column of one asset.
+fn one_of(cols: &[u32], i: usize) -> &[u32]
+    requires { i < length cols.now }
+    ensures { result.now ≡ get_or cols.now i 0 ∷ [] }
 {
-    let size = window_of(node);
-    let low = low_of(job, term);
-    let first = low - size;
-    let rows = job.to - low + size;
-    let world = job.world;
-    match new_column(node, place) {
+    &cols[i..i + 1]
+}
+
+// The rows of the input in a place, for some assets.
+fn column_array<'a>(course: &Course<'a>, place: usize, cols: &'a [u32]) -> AdjustedArray<'a>
+    requires course { IsCourse course.now }
+    requires deep { (node_in course.now).window ≤ course.now.low }
+    requires some { 1 ≤ (node_in course.now).window }
+    ensures { result ≡ buffer_at course.now.job.now course.now.term.0 (node_in course.now) cols.now place }
+{
+    let size = window_of(course.node);
+    let first = course.low - size;
+    let rows = course.job.to - course.low + size;
+    let world = course.job.world;
+    match new_column(course.node, place) {
         Some(column) => AdjustedArray::new(
             world.bars,
             world.adjustments,
@@ -142,7 +178,7 @@ fn column_array<'a>(job: &Job<'a>, term: TermId, node: &Node, place: usize) -> A
             column,
             first,
             rows,
-            job.cols,
+            cols,
         ),
         None => AdjustedArray::new(
             world.bars,
@@ -156,134 +192,179 @@ fn column_array<'a>(job: &Job<'a>, term: TermId, node: &Node, place: usize) -> A
     }
 }
 
-// The cells on a session of a term over bar columns.
-fn bars_row<'t>(
-    turn: &Turn<'t>,
-    bars: &'t Bars<'t>,
-    first: &mut [i64],
-    keep: &mut [i64],
-    out: &mut [i64],
-)
-    requires turn { IsTurn turn.now }
-    requires kind { is_windowed (node_at turn.now).kind ≡ true }
-    requires first { length first.old ≡ assets_in (task_at turn.now) }
-    requires keep { length keep.old ≡ assets_in (task_at turn.now) }
-    requires long { length out.old ≡ assets_in (task_at turn.now) }
-    requires bars { HasBars turn.now.job.now turn.now.term.0 (node_at turn.now) turn.now.session
-        (Some bars.now) }
-    ensures { IsOut turn.now out.new }
-{
-    keep_row(turn, first, keep);
-    window_row(turn, Some(bars), keep, out);
-}
-
-// How many cells the traversal of a place is given: those of its rows, none where it is no new column.
-fn cells_for(
-    job: &Job<'_>,
-    term: TermId,
-    node: &Node,
-    place: usize,
-    rows: usize,
-    cells: &[i64],
-) -> usize
-    requires rows { rows ≡ row_count (task_of job.now) term.0 }
-    requires has { HasRows (task_of job.now) term.0 (node_of node.now) place cells.now }
-    ensures value { result ≡ (buffer_at job.now term.0 (node_of node.now) place).rows
-        * length (buffer_at job.now term.0 (node_of node.now) place).cols }
+// How many cells the traversal of a place is given for one asset: those of its rows, none where it is no new
+// column.
+fn cells_for(course: &Course<'_>, place: usize, cols: &[u32], cells: &[i64]) -> usize
+    requires course { IsCourse course.now }
+    requires one { length cols.now ≡ 1 }
+    requires some { 0 < assets_in (task_in course.now) }
+    requires has { HasRows (task_in course.now) course.now.term.0 (node_in course.now) place cells.now }
+    ensures value { result
+        ≡ (buffer_at course.now.job.now course.now.term.0 (node_in course.now) cols.now place).rows
+        * length (buffer_at course.now.job.now course.now.term.0 (node_in course.now) cols.now place).cols }
     ensures within { result ≤ length cells.now }
 {
-    match new_column(node, place) {
-        Some(_) => rows * job.cols.len(),
+    match new_column(course.node, place) {
+        Some(_) => course.job.to - course.low + window_of(course.node),
         None => 0,
     }
 }
 
-// The sessions of a term over bar columns, with traversals that begin.
-fn run_bars<'x, L: Ledger>(
-    job: &'x Job<'x>,
-    term: TermId,
-    node: &'x Node,
-    workspace: &'x Workspace,
-    own: &mut [i64],
-    bars: &mut Bars<'_>,
-    mask: &mut [i64],
-    keep: &mut [i64],
+// The cells of an asset, by traversals of its bars that begin.
+fn walk_bars<'x, L: Ledger>(
+    course: &Course<'x>,
+    sources: &Sources<'x>,
+    i: usize,
     out: &mut [i64],
+    bars: &mut Bars<'_>,
     steps: &mut Steps<L>,
 )
-    requires run { IsColumnRun job.now workspace.now term.0 (node_of node.now) }
-    requires room { assets_in (task_of job.now) * count_in (task_of job.now) term.0 ≤ length own.old }
-    requires bars { AreBars job.now term.0 (node_of node.now) 0 bars.old }
+    requires run { IsColumnRun course.now.job.now course.now.workspace.now course.now.term.0
+        (node_in course.now) }
+    requires course { IsCourse course.now }
+    requires sources { AreLent (task_in course.now) (node_in course.now) sources.now }
+    requires asset { i < assets_in (task_in course.now) }
+    requires long { length out.old ≡ course.now.count }
+    requires bars { AreBars course.now.job.now course.now.term.0 (node_in course.now)
+        (one_col course.now.job.now i) 0 bars.old }
     requires none { counted bars.old ≡ 0 }
-    requires mask { length mask.old ≡ assets_in (task_of job.now) }
-    requires keep { length keep.old ≡ assets_in (task_of job.now) }
-    requires long { length out.old ≡ assets_in (task_of job.now) }
-    ensures array { IsArray (task_of job.now) term.0 own.new }
+    ensures out { IsLane course.now i out.new }
+    ensures bars { AreBars course.now.job.now course.now.term.0 (node_in course.now)
+        (one_col course.now.job.now i) course.now.count bars.new }
     ensures cost { steps.new ≡ steps.old + counted bars.new }
-    ensures bars { AreBars job.now term.0 (node_of node.now) (count_in (task_of job.now) term.0) bars.new }
 {
-    let none = none_of(job, term);
-    let low = low_of(job, term);
-    let count = job.to + 1 - low;
-    for j in 0..count {
+    let slid = is_slid(course);
+    let mut kept = None;
+    for j in 0..out.len() {
         advance_all(bars, steps);
-        let turn = Turn {
-            job,
-            term,
-            node,
-            session: low + j,
-            workspace,
-            none,
-        };
-        bars_row(&turn, bars, mask, keep, out);
-        put_row(out, own, count, j);
+        out[j] = cell_on(course, sources, Some(bars), i, j, slid, &mut kept);
     }
 }
 
-/// The array of a term over bar columns, which are traversed in the cells that are given: for each place of
-/// an input those of a slot, where the place has a new column. Gives the steps of the traversals, or u64's
-/// greatest value where there are more.
-pub(crate) fn fill_bars<'x, L: Ledger>(
-    job: &'x Job<'x>,
-    term: TermId,
-    node: &'x Node,
-    workspace: &'x Workspace,
-    own: &mut [i64],
+// The cells of an asset, whose bars are traversed in the cells that are given.
+fn fill_asset<'x, L: Ledger>(
+    course: &Course<'x>,
+    sources: &Sources<'x>,
+    i: usize,
+    out: &mut [i64],
     first: &mut [i64],
     second: &mut [i64],
     third: &mut [i64],
-    mask: &mut [i64],
-    keep: &mut [i64],
-    out: &mut [i64],
     steps: &mut Steps<L>,
 ) -> u64
-    requires run { IsColumnRun job.now workspace.now term.0 (node_of node.now) }
-    requires room { assets_in (task_of job.now) * count_in (task_of job.now) term.0 ≤ length own.old }
-    requires first { HasRows (task_of job.now) term.0 (node_of node.now) 0 first.old }
-    requires second { HasRows (task_of job.now) term.0 (node_of node.now) 1 second.old }
-    requires third { HasRows (task_of job.now) term.0 (node_of node.now) 2 third.old }
-    requires mask { length mask.old ≡ assets_in (task_of job.now) }
-    requires keep { length keep.old ≡ assets_in (task_of job.now) }
-    requires long { length out.old ≡ assets_in (task_of job.now) }
-    ensures array { IsArray (task_of job.now) term.0 own.new }
-    ensures cost { steps.new ≡ steps.old + term_steps (task_of job.now) term.0 }
-    ensures applied { result ≡ cut (term_steps (task_of job.now) term.0) }
+    requires run { IsColumnRun course.now.job.now course.now.workspace.now course.now.term.0
+        (node_in course.now) }
+    requires course { IsCourse course.now }
+    requires sources { AreLent (task_in course.now) (node_in course.now) sources.now }
+    requires asset { i < assets_in (task_in course.now) }
+    requires long { length out.old ≡ course.now.count }
+    requires first { HasRows (task_in course.now) course.now.term.0 (node_in course.now) 0 first.old }
+    requires second { HasRows (task_in course.now) course.now.term.0 (node_in course.now) 1 second.old }
+    requires third { HasRows (task_in course.now) course.now.term.0 (node_in course.now) 2 third.old }
+    ensures out { IsLane course.now i out.new }
+    ensures cost { steps.new ≡ steps.old + steps_of course.now.job.now course.now.term.0
+        (node_in course.now) (one_col course.now.job.now i) }
+    ensures applied { result ≡ cut (steps_of course.now.job.now course.now.term.0
+        (node_in course.now) (one_col course.now.job.now i)) }
 {
-    let rows = job.to - low_of(job, term) + window_of(node);
-    let first_array = column_array(job, term, node, 0);
-    let second_array = column_array(job, term, node, 1);
-    let third_array = column_array(job, term, node, 2);
-    let first_cells = cells_for(job, term, node, 0, rows, first);
-    let second_cells = cells_for(job, term, node, 1, rows, second);
-    let third_cells = cells_for(job, term, node, 2, rows, third);
-    let size = window_of(node);
+    let job = course.job;
+    let cols = one_of(job.cols, i);
+    let first_array = column_array(course, 0, cols);
+    let second_array = column_array(course, 1, cols);
+    let third_array = column_array(course, 2, cols);
+    let first_cells = cells_for(course, 0, cols, first);
+    let second_cells = cells_for(course, 1, cols, second);
+    let third_cells = cells_for(course, 2, cols, third);
+    let size = window_of(course.node);
     let mut bars = Bars {
         first: first_array.traverse(size, &mut first[..first_cells]),
         second: second_array.traverse(size, &mut second[..second_cells]),
         third: third_array.traverse(size, &mut third[..third_cells]),
     };
-    run_bars(
-        job, term, node, workspace, own, &mut bars, mask, keep, out, steps,
-    );
+    walk_bars(course, sources, i, out, &mut bars, steps);
     applied(&bars)
+}
+
+/// The array of a term over bar columns, asset by asset. An asset's bars are traversed in the front of the
+/// cells that are given: for each place of an input those of a slot, where the place has a new column. Gives
+/// the steps of the traversals, or u64's greatest value where there are more.
+pub(crate) fn fill_bars<'x, L: Ledger>(
+    course: &Course<'x>,
+    own: &mut [i64],
+    first: &mut [i64],
+    second: &mut [i64],
+    third: &mut [i64],
+    steps: &mut Steps<L>,
+) -> u64
+    requires run { IsColumnRun course.now.job.now course.now.workspace.now course.now.term.0
+        (node_in course.now) }
+    requires course { IsCourse course.now }
+    requires room { assets_in (task_in course.now) * course.now.count ≤ length own.old }
+    requires first { HasRows (task_in course.now) course.now.term.0 (node_in course.now) 0 first.old }
+    requires second { HasRows (task_in course.now) course.now.term.0 (node_in course.now) 1 second.old }
+    requires third { HasRows (task_in course.now) course.now.term.0 (node_in course.now) 2 third.old }
+    ensures array { IsArray (task_in course.now) course.now.term.0 own.new }
+    ensures cost { steps.new ≡ steps.old + term_steps (task_in course.now) course.now.term.0 }
+    ensures applied { result ≡ cut (term_steps (task_in course.now) course.now.term.0) }
+{
+    let sources = sources_of(course);
+    let count = course.count;
+    let job = course.job;
+    let mut applied = 0u64;
+    for i in 0..job.cols.len() {
+        let lane = &mut own[i * count..(i + 1) * count];
+        let more = fill_asset(course, &sources, i, lane, first, second, third, steps);
+        applied = applied.saturating_add(more);
+    }
+    applied
+}
+
+// The cells of an asset over windows of terms.
+fn window_lane<'x>(course: &Course<'x>, sources: &Sources<'x>, i: usize, out: &mut [i64])
+    requires course { IsCourse course.now }
+    requires sources { AreLent (task_in course.now) (node_in course.now) sources.now }
+    requires kind { is_windowed (node_in course.now).kind ≡ true }
+    requires none { HasNoBars (node_in course.now) }
+    requires asset { i < assets_in (task_in course.now) }
+    requires long { length out.old ≡ course.now.count }
+    ensures { IsLane course.now i out.new }
+{
+    let slid = is_slid(course);
+    let mut kept = None;
+    for j in 0..out.len() {
+        out[j] = cell_on(course, sources, None, i, j, slid, &mut kept);
+    }
+}
+
+// The array of a term over windows of terms.
+fn fill_windows<'x>(course: &Course<'x>, own: &mut [i64])
+    requires course { IsCourse course.now }
+    requires kind { is_windowed (node_in course.now).kind ≡ true }
+    requires none { HasNoBars (node_in course.now) }
+    requires room { assets_in (task_in course.now) * course.now.count ≤ length own.old }
+    ensures { IsArray (task_in course.now) course.now.term.0 own.new }
+{
+    let sources = sources_of(course);
+    let count = course.count;
+    let job = course.job;
+    for i in 0..job.cols.len() {
+        let lane = &mut own[i * count..(i + 1) * count];
+        window_lane(course, &sources, i, lane);
+    }
+}
+
+// The array of an operation.
+fn fill_points<'x>(course: &Course<'x>, own: &mut [i64])
+    requires course { IsCourse course.now }
+    requires kind { is_point (node_in course.now).kind ≡ true }
+    requires room { assets_in (task_in course.now) * course.now.count ≤ length own.old }
+    ensures { IsArray (task_in course.now) course.now.term.0 own.new }
+{
+    let sources = sources_of(course);
+    let count = course.count;
+    let job = course.job;
+    for i in 0..job.cols.len() {
+        let lane = &mut own[i * count..(i + 1) * count];
+        point_lane(course, &sources, i, lane);
+    }
 }

@@ -7,21 +7,16 @@ ghost use Rattle.pl_spec.specs.Term.Input.{TermInput};
 ghost use Rattle.pl_terms.specs.Sorts.{is_downsampled};
 ghost use Rattle.pl_terms.specs.Kinds.{kind_of};
 ghost use Rattle.pl_cross.specs.Section.{is_section};
-ghost use Rattle.pl_values.specs.Families.{IsOf, is_label_test, is_point, is_sids};
+ghost use Rattle.pl_values.specs.Families.{IsOf, is_label_test, is_sids};
 ghost use Rattle.pl_exec.specs.Tasks.{assets_in};
-ghost use Rattle.std.specs.Prelude.{None};
-ghost use Rattle.pl_exec.specs.Jobs.{HasBars, IsKept, IsOut, IsTurn, node_at, task_at};
+ghost use Rattle.pl_exec.specs.Jobs.{IsKept, IsOut, IsTurn, by_rows, node_at, task_at};
 
 use crate::job::{group_of, input_at, kind_of};
 use crate::turn::{Turn, cells_on, input_row, pick, term_row};
-use crate::windows::window_row;
 use pl_cross::Cross;
 use pl_fixed::Frequency;
-use pl_pointwise::pointwise;
 use pl_terms::{Input, TermId};
-use pl_values::{
-    Family, family_of, keep_values, label_test_value, label_value, section_values, sids_value,
-};
+use pl_values::{Family, label_test_value, label_value, section_values, sids_value};
 
 fn constant_row(turn: &Turn<'_>, value: i64, keep: &[i64], out: &mut [i64])
     requires turn { IsTurn turn.now }
@@ -83,30 +78,6 @@ fn label_test_row(turn: &Turn<'_>, codes: &mut [i64], keep: &[i64], out: &mut [i
         let flag = label_test_value(kind_of(turn.node), labels, codes[i]);
         out[i] = pick(keep[i], flag, turn.none);
     }
-}
-
-fn point_row(
-    turn: &Turn<'_>,
-    first: &mut [i64],
-    second: &mut [i64],
-    third: &mut [i64],
-    keep: &[i64],
-    out: &mut [i64],
-)
-    requires turn { IsTurn turn.now }
-    requires kind { is_point (node_at turn.now).kind ≡ true }
-    requires first { length first.old ≡ assets_in (task_at turn.now) }
-    requires second { length second.old ≡ assets_in (task_at turn.now) }
-    requires third { length third.old ≡ assets_in (task_at turn.now) }
-    requires keep { IsKept turn.now keep.now }
-    requires long { length out.old ≡ assets_in (task_at turn.now) }
-    ensures { IsOut turn.now out.new }
-{
-    input_row(turn, 0, first);
-    input_row(turn, 1, second);
-    input_row(turn, 2, third);
-    pointwise(kind_of(turn.node), first, second, third, out);
-    keep_values(keep, turn.none, out);
 }
 
 fn section_row(
@@ -173,35 +144,46 @@ fn downsampled_row(
     }
 }
 
-/// The cells of the term on the session; its inputs are no bar columns.
+/// Do the cells of the family's kinds come row by row? Those of the others come asset by asset.
+pub(crate) fn is_by_rows(family: Family) -> bool
+    ensures { result ≡ by_rows family }
+{
+    match family {
+        Family::Window => false,
+        Family::Point => false,
+        _ => true,
+    }
+}
+
+/// The cells of the term on the session.
 pub(crate) fn kind_row(
     turn: &Turn<'_>,
+    family: Family,
     cross: &mut Cross,
     first: &mut [i64],
     second: &mut [i64],
-    third: &mut [i64],
     keep: &[i64],
     out: &mut [i64],
 )
     requires turn { IsTurn turn.now }
+    requires family { IsOf (node_at turn.now).kind family }
+    requires rows { by_rows family ≡ true }
     requires cross { assets_in (task_at turn.now) ≤ cross.old }
     requires first { length first.old ≡ assets_in (task_at turn.now) }
     requires second { length second.old ≡ assets_in (task_at turn.now) }
-    requires third { length third.old ≡ assets_in (task_at turn.now) }
     requires keep { IsKept turn.now keep.now }
     requires long { length out.old ≡ assets_in (task_at turn.now) }
-    requires bars { HasBars turn.now.job.now turn.now.term.0 (node_at turn.now) turn.now.session None }
     ensures out { IsOut turn.now out.new }
     ensures cross { cross.new ≡ cross.old }
 {
-    match family_of(kind_of(turn.node)) {
+    match family {
         Family::Constant(value) => constant_row(turn, value, keep, out),
         Family::Label(name) => label_row(turn, name, keep, out),
         Family::Sids => sids_row(turn, keep, out),
-        Family::Window => window_row(turn, None, keep, out),
-        Family::Point => point_row(turn, first, second, third, keep, out),
         Family::LabelTest => label_test_row(turn, first, keep, out),
         Family::Section => section_row(turn, cross, first, second, keep, out),
         Family::Downsample(frequency) => downsampled_row(turn, frequency, first, keep, out),
+        Family::Window => unreachable!(),
+        Family::Point => unreachable!(),
     }
 }

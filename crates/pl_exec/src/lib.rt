@@ -5,10 +5,13 @@
 mod chunk;
 mod columns;
 mod compute;
+mod course;
 mod fill;
 mod job;
 mod kinds;
+mod points;
 mod rows;
+mod sliding;
 mod turn;
 mod windows;
 

@@ -5,10 +5,10 @@ ghost use Rattle.pl_spec.specs.Formula.{is_true, truth};
 ghost use Rattle.pl_spec.specs.World.{exists};
 ghost use Rattle.pl_terms.specs.Nodes.{input_of};
 ghost use Rattle.pl_cross.specs.Arrays.{sid_in};
-ghost use Rattle.pl_values.specs.Arrays.{Fills, IsKeep, chosen, window_up_to};
+ghost use Rattle.pl_values.specs.Arrays.{Fills, IsKeep, chosen, is_kept, window_up_to};
 ghost use Rattle.pl_values.specs.Inputs.{IsInputRow};
 ghost use Rattle.pl_exec.specs.Tasks.{assets_in, cell_in, sids_in};
-ghost use Rattle.pl_exec.specs.Jobs.{IsKept, IsRead, IsTermLent, IsTurn, node_at, task_at};
+ghost use Rattle.pl_exec.specs.Jobs.{IsKept, IsMaskLent, IsRead, IsTermLent, IsTurn, node_at, passes, task_at};
 
 use crate::job::{Array, Job, array_of, cells_before, input_at, mask_of, window_of};
 use pl_terms::{Input, Node, TermId};
@@ -30,6 +30,13 @@ pub(crate) fn pick(keep: i64, cell: i64, none: i64) -> i64
     ensures { result ≡ chosen (is_true keep) cell none }
 {
     if keep == 1 { cell } else { none }
+}
+
+/// A cell where an asset is kept, and else the empty value.
+pub(crate) fn choose(keep: bool, cell: i64, none: i64) -> i64
+    ensures { result ≡ chosen keep cell none }
+{
+    if keep { cell } else { none }
 }
 
 /// Is a cell 1?
@@ -56,6 +63,36 @@ fn exists(turn: &Turn<'_>, day: i32, i: usize) -> bool
 {
     let job = turn.job;
     job.world.assets.exists(job.cols[i] as usize, day)
+}
+
+// Does the asset in a place pass the mask, if there is one?
+fn passes(turn: &Turn<'_>, mask: &Option<Array<'_>>, i: usize) -> bool
+    requires turn { IsTurn turn.now }
+    requires mask { IsMaskLent (task_at turn.now) (node_at turn.now).mask mask.now }
+    requires asset { i < assets_in (task_at turn.now) }
+    ensures { result ≡ passes (task_at turn.now) (node_at turn.now).mask i turn.now.session }
+{
+    match mask {
+        None => true,
+        Some(array) => is_one(array.cells[i * array.count + (turn.session - array.low)]),
+    }
+}
+
+/// Is the asset in a place kept on the session: does it exist, and pass the mask?
+pub(crate) fn is_kept(turn: &Turn<'_>, mask: &Option<Array<'_>>, i: usize) -> bool
+    requires turn { IsTurn turn.now }
+    requires mask { IsMaskLent (task_at turn.now) (node_at turn.now).mask mask.now }
+    requires asset { i < assets_in (task_at turn.now) }
+    ensures { result ≡ is_kept (task_at turn.now).world (task_at turn.now).pipeline
+        (sids_in (task_at turn.now)) (node_at turn.now).mask i turn.now.session }
+{
+    let job = turn.job;
+    let day = job.world.sessions.day(turn.session);
+    if exists(turn, day, i) {
+        passes(turn, mask, i)
+    } else {
+        false
+    }
 }
 
 // Who exists on the session.

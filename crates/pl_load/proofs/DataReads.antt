@@ -15,21 +15,16 @@ use Rattle.pl_words.specs.declared.request.InputFile.TheVariants.{Pipeline, Sess
 use Rattle.pl_words.specs.Request.{WorldNames, world_name}
 use Rattle.pl_judge.specs.declared.fault.Fault.{Fault}
 use Rattle.pl_judge.specs.Contents.{Contents}
-use Rattle.pl_judge.specs.Held.{days_in, assets_in, labels_asked, bars_in, adjustments_asked, revised_asked}
-use Rattle.pl_judge.specs.Work.{read_step, sessions_rule, assets_rule, labels_steps, bars_rule, adjustments_steps, revisions_steps, data_steps}
+use Rattle.pl_judge.specs.Held.{labels_asked, bars_in, adjustments_asked, revised_asked}
+use Rattle.pl_judge.specs.Work.{read_step, labels_steps, bars_rule, adjustments_steps, revisions_steps, data_steps}
 use Rattle.pl_judge.proofs.Steps.{stage-stops, stage-goes_on, stage-done, stage-weaker, always}
 use Rattle.pl_load.specs.Reads.{IsRead, AreLoaded}
+use Rattle.pl_load.specs.Before.{DaysRead, AssetsRead}
 use Rattle.pl_load.specs.Loads.{AreDataHeld, IsData}
 use Rattle.pl_load.proofs.FileReads.{held_under, held-told}
 use Rattle.pl_load.proofs.TableReads.{listed_under, listed-told}
 
 -- ---- what the stages say
-
-abbrev pub DaysRead : Option Files → Bool → WorldNames → Result (List ℤ) Fault → Type 0
-DaysRead tells sound q r = IsRead tells sound (Some q.sessions) (λ held. read_step Sessions sessions_rule held ∷ []) (λ held x. days_in held ≡ x) r
-
-abbrev pub AssetsRead : Option Files → Bool → WorldNames → Result (List AssetRow) Fault → Type 0
-AssetsRead tells sound q r = IsRead tells sound (Some q.assets) (λ held. read_step Assets assets_rule held ∷ []) (λ held x. assets_in held ≡ x) r
 
 abbrev pub LabelsRead : Option Files → Bool → WorldNames → List AssetRow → Result LabelTable Fault → Type 0
 LabelsRead tells sound q assets r =

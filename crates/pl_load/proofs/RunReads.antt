@@ -1,5 +1,5 @@
 -- A run as a whole: the pipeline file, the data, and the range.
-use Rattle.std.proofs.Common.{◌≡◌, inr, ℕ, ◌≤◌, Bool, true, List, Option, Some, IfSome, Result, Ok, Err, refl}
+use Rattle.std.proofs.Common.{◌≡◌, inr, ℕ, ◌≤◌, Bool, true, List, Option, Some, IfSome, Ok, Err, refl}
 use Rattle.std.specs.Option.{ForSome}
 use Rattle.pl_outside.specs.Files.{Files}
 use Rattle.pl_outside.specs.Lists.{Lists}
@@ -12,20 +12,17 @@ use Rattle.pl_words.specs.Request.{RunRequest, WorldNames, Run, run_world, world
 use Rattle.pl_judge.specs.declared.fault.Fault.{Fault}
 use Rattle.pl_judge.specs.declared.fault.Fault.TheVariants.{Memory}
 use Rattle.pl_judge.specs.Contents.{Contents, AreHeld}
-use Rattle.pl_judge.specs.Held.{pipeline_in, days_held, world_held}
-use Rattle.pl_judge.specs.Work.{pipeline_steps, data_steps}
+use Rattle.pl_judge.specs.Held.{days_held, world_held}
+use Rattle.pl_judge.specs.Work.{data_steps}
 use Rattle.pl_judge.specs.Range.{IsDateOf, dates_steps, plan_steps, index_asked, index_of}
 use Rattle.pl_judge.specs.Stages.{StageEnds}
 use Rattle.pl_judge.proofs.Steps.{stage-stops, stage-goes_on, stage-done, stage-weaker, stage-over, always}
 use Rattle.pl_load.specs.declared.loading.Loaded.{Loaded}
-use Rattle.pl_load.specs.Reads.{IsRead}
+use Rattle.pl_load.specs.Before.{PipelineRead}
 use Rattle.pl_load.specs.Loads.{AreDataHeld, IsData, IsKnown, IsLoad}
 use Rattle.pl_load.proofs.FileReads.{held_under, held-told}
 use Rattle.pl_load.proofs.KnownWorlds.{world-known, shown-same}
 use Rattle.pl_load.proofs.TableReads.{listed_under, listed-told}
-
-abbrev pub PipelineRead : Option Files → Bool → RunRequest → Result Parts Fault → Type 0
-PipelineRead tells sound q r = IsRead tells sound (Some q.pipeline) pipeline_steps (λ held c. pipeline_in held ≡ pipeline_of c) r
 
 -- the same contents, but for the pipeline file
 abbrev pub file_with : Option (List ℕ) → (InputFile → Option (List ℕ)) → InputFile → Option (List ℕ)

@@ -4,3 +4,4 @@ pub mod Loads
 pub mod PaidOut
 pub mod Derived
 pub mod Celled
+pub mod Before

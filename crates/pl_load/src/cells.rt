@@ -16,11 +16,21 @@ use pl_words::ExplainRequest;
 use std::alloc::Global;
 
 /// A cell, and the pipeline and the world that it is of.
-#[derive(Drop)]
 pub struct LoadedCell {
     pub checked: Checked,
     pub world: OwnedWorld,
     pub cell: CellPlace,
+}
+
+// One call lets it go, so that no caller's proof goes into its parts.
+impl Drop for LoadedCell {
+    fn drop(self) {
+        let LoadedCell {
+            checked: _checked,
+            world: _world,
+            cell: _cell,
+        } = self;
+    }
 }
 
 /// All that the derivation of a cell reads and judges, in the order of work: the pipeline, the world, and the

@@ -18,11 +18,21 @@ use pl_words::VerifyRequest;
 use std::alloc::Global;
 
 /// The lines of a derivation, and the pipeline and the world of which they tell.
-#[derive(Drop)]
 pub struct LoadedDerivation {
     pub checked: Checked,
     pub world: OwnedWorld,
     pub derivation: Derivation,
+}
+
+// One call lets it go, so that no caller's proof goes into its parts.
+impl Drop for LoadedDerivation {
+    fn drop(self) {
+        let LoadedDerivation {
+            checked: _checked,
+            world: _world,
+            derivation: _derivation,
+        } = self;
+    }
 }
 
 /// All that the check of a derivation reads and judges, in the order of work: the pipeline, the world, and

@@ -17,12 +17,23 @@ use pl_words::PayoutsRequest;
 use std::alloc::Global;
 
 /// Payouts, and the sessions, assets and bars by which they are turned into ratios.
-#[derive(Drop)]
 pub struct LoadedPayouts {
     pub sessions: Sessions,
     pub assets: Assets,
     pub bars: Bars,
     pub payouts: Payouts,
+}
+
+// One call lets it go, so that no caller's proof goes into its parts.
+impl Drop for LoadedPayouts {
+    fn drop(self) {
+        let LoadedPayouts {
+            sessions: _sessions,
+            assets: _assets,
+            bars: _bars,
+            payouts: _payouts,
+        } = self;
+    }
 }
 
 /// All that payouts read and judge, in the order of work.

@@ -15,10 +15,19 @@ use pl_words::PlanRequest;
 use std::alloc::Global;
 
 /// A pipeline, and its plan over the sessions that are asked for.
-#[derive(Drop)]
 pub struct PlannedPipeline {
     pub checked: Checked,
     pub plan: Plan,
+}
+
+// One call lets it go, so that no caller's proof goes into its parts.
+impl Drop for PlannedPipeline {
+    fn drop(self) {
+        let PlannedPipeline {
+            checked: _checked,
+            plan: _plan,
+        } = self;
+    }
 }
 
 /// All that a plan reads and judges, in the order of work.

@@ -7,6 +7,7 @@ use Rattle.pl_workspace.specs.Slots.{Free, slot_at}
 use Rattle.pl_chunks.specs.declared.pieces.Chunk.{Chunk}
 use Rattle.pl_chunks.specs.Chunks.{chunk_at, chunk_count}
 use Rattle.pl_chunks.specs.Room.{HasRoom}
+use Rattle.pl_table.specs.Tiles.{tile_len}
 use Rattle.pl_runner.specs.declared.desk.Desk.{Desk}
 
 -- there is room for a chunk, and all slots are free
@@ -17,6 +18,7 @@ pub record IsDeskFor (w : World) (p : Pipeline) (plan : Planned) (chunk : Chunk)
   pub cross : length w.assets ≤ d.cross
   pub rows : length w.assets ≤ d.rows
   pub cols : length w.assets ≤ vec_capacity d.cols
+  pub tile : tile_len (length w.assets) (length p.columns) ≤ length d.tile.items
 
 -- for each chunk of so many sessions
 abbrev pub IsDesk : World → Pipeline → Planned → ℕ → Desk → Type 0

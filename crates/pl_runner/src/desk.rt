@@ -11,19 +11,20 @@ use pl_exec::Rows;
 use pl_fixed::Memory;
 use pl_model::World;
 use pl_planner::Plan;
-use pl_table::Line;
+use pl_table::{Line, tile_len};
 use pl_terms::Checked;
 use pl_workspace::Workspace;
 use std::alloc::Global;
 
 /// All that a run works with, of the size that its largest chunk needs: the slots of the arrays, a
-/// cross-section and the rows of a session, the assets of a chunk, and a line of the table.
+/// cross-section and the rows of a session, the assets of a chunk, and a tile and a line of the table.
 #[derive(Drop)]
 pub struct Desk {
     pub(crate) workspace: Workspace,
     pub(crate) cross: Cross,
     pub(crate) rows: Rows,
     pub(crate) cols: Vec<u32>,
+    pub(crate) tile: Vec<i64>,
     pub(crate) line: Line,
 }
 
@@ -41,6 +42,8 @@ impl Desk {
         requires few { size < 2 ^ 32 }
         ensures { IfOk result (IsDesk (world_of world.now) (pipeline_of checked.now) plan.now size) }
     {
+        // a pipeline has few columns
+        let _checked = checked.graph();
         let assets = world.assets.len();
         let mut cols = Vec::with_capacity(alloc, assets)?;
         let longest = longest_array(world, checked, plan, size, &mut cols);
@@ -52,6 +55,7 @@ impl Desk {
             cross: Cross::reserve(alloc, assets)?,
             rows: Rows::reserve(alloc, assets)?,
             cols,
+            tile: vec![in alloc; 0i64; tile_len(assets, checked.columns())]?,
             line: Line::reserve(alloc)?,
         })
     }

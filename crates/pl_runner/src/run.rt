@@ -235,7 +235,14 @@ fn write_chunk<O: Sink, L: Ledger>(
         to: chunk.to,
         workspace: &desk.workspace,
     };
-    write_rows(&outcome, format, &mut desk.line, totals, out)?;
+    write_rows(
+        &outcome,
+        format,
+        &mut desk.tile,
+        &mut desk.line,
+        totals,
+        out,
+    )?;
     release_outputs(checked, world.sessions, plan, &mut desk.workspace);
     Ok(report)
 }

@@ -481,7 +481,10 @@ pub(crate) fn moved(
                 node: ExprNode::Number(value),
             },
         ),
-        Token::LargeNumber => Err(MoveError::Unexpected),
+        Token::LargeNumber => {
+            drop(mode);
+            Err(MoveError::Unexpected)
+        }
         Token::Text(text) => at_literal(
             stack,
             mode,
@@ -493,6 +496,7 @@ pub(crate) fn moved(
         Token::Operator(sign) => at_operator(alloc, stack, mode, place, sign),
         Token::Tilde => {
             let wanted = wants(&mode);
+            drop(mode);
             at_sign(stack, wanted, place, PrefixSign::Not)
         }
         Token::Dot => at_dot(alloc, stack, mode),
@@ -500,6 +504,9 @@ pub(crate) fn moved(
         Token::Close => at_close(alloc, stack, mode),
         Token::Comma => at_comma(alloc, stack, mode),
         Token::Assign => at_assign(stack, mode),
-        _ => Err(MoveError::Unexpected),
+        _ => {
+            drop(mode);
+            Err(MoveError::Unexpected)
+        }
     }
 }

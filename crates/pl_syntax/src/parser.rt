@@ -46,9 +46,13 @@ fn step(
         (counted progress.count t) (version_or progress.version (token_version (token_of token))) place }
 {
     if progress.count >= MOST_TOKENS {
+        drop(progress);
+        drop(token);
         return Err(SyntaxError::LongStatement(place));
     }
     if is_too_large(&token) {
+        drop(progress);
+        drop(token);
         return Err(SyntaxError::NumberTooLarge(place));
     }
     let count = count_with(&token, progress.count);
@@ -62,6 +66,7 @@ fn step(
                     version,
                 })
             } else {
+                drop(stage);
                 Err(SyntaxError::TooDeep(place))
             }
         }
@@ -83,7 +88,10 @@ fn finish(progress: Progress, end: Place) -> Result<Script, SyntaxError>
     let stage = progress.stage;
     match stage {
         Stage::Between { statements } => Ok(Script::new(version, statements, end)),
-        _ => Err(SyntaxError::Unexpected(end)),
+        unended => {
+            drop(unended);
+            Err(SyntaxError::Unexpected(end))
+        }
     }
 }
 
@@ -102,10 +110,17 @@ fn read_all(alloc: Global, bytes: &[u8]) -> Result<Script, SyntaxError>
         version: 0,
     };
     loop {
-        match text.next(alloc)? {
-            Next::Token(place, token) => progress = step(alloc, progress, place, token)?,
-            Next::Bad(place) => return Err(SyntaxError::BadByte(place)),
-            Next::End(place) => return finish(progress, place),
+        match text.next(alloc) {
+            Ok(Next::Token(place, token)) => progress = step(alloc, progress, place, token)?,
+            Ok(Next::Bad(place)) => {
+                drop(progress);
+                return Err(SyntaxError::BadByte(place));
+            }
+            Ok(Next::End(place)) => return finish(progress, place),
+            Err(_) => {
+                drop(progress);
+                return Err(SyntaxError::Memory);
+            }
         }
     }
 }

@@ -41,6 +41,12 @@ is-missing x f h = sym (to_z-of_z w64 x f) ∙ ap (to_z w64) h
 pub one-is : (x : ℤ) → FitsSigned w64 x → eqb (of_z w64 x) 1 ≡ is_true x
 one-is x f = grind (arith, ints, nat_tests)
 
+pub one-true : (x : ℤ) → FitsSigned w64 x → of_z w64 x ≡ 1 → is_true x ≡ true
+one-true x f h = grind (arith, ints, nat_tests)
+
+pub one-false : (x : ℤ) → FitsSigned w64 x → (of_z w64 x ≡ 1 → ⊥) → is_true x ≡ false
+one-false x f h = grind (arith, ints, nat_tests)
+
 pub present-is : (x : ℤ) → (x ≡ MISSING → ⊥) → x ≡ (if is_missing x then pos 0 else x)
 present-is x h = here (is_missing x) refl
   where

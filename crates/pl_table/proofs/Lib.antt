@@ -6,3 +6,4 @@ pub mod SessionRows
 pub mod RowSums
 pub mod Lengths
 pub mod Puts
+pub mod Tiles

@@ -21,7 +21,6 @@ use Rattle.pl_values.specs.Arrays.{cell_of}
 use Rattle.pl_table.proofs.Outputs.{cell-is}
 use Rattle.pl_spec.specs.Text.{field, kind_at, label_text, number_text, is_numbered}
 use Rattle.pl_terms.specs.declared.node.Node.{Node}
-use Rattle.pl_terms.specs.Kinds.{kind_of}
 use Rattle.pl_terms.specs.Nodes.{node_of, graph_of}
 use Rattle.pl_terms.specs.Checked.{IsChecked}
 use Rattle.pl_terms.specs.Sorts.{Sort, Factors, Filters, Labels, Numbers, sort_at, sort_of, window_sort, point_sort, cross_sort}

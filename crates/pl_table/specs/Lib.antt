@@ -3,3 +3,4 @@ pub mod Fields
 pub mod Sums
 pub mod Outcomes
 pub mod Rows
+pub mod Tiles

@@ -1,11 +1,12 @@
 -- What stands in a workspace when some sessions of a planned pipeline are computed.
-use Rattle.std.specs.Prelude.{◌≡◌, ℕ, ◌+◌, ◌-◌, ◌^◌, ◌<◌, ◌≤◌, true, ℤ, List, length, map, flat_map, pos, All}
+use Rattle.std.specs.Prelude.{◌≡◌, ℕ, ◌+◌, ◌-◌, ◌^◌, ◌<◌, ◌≤◌, true, ℤ, List, length, map, flat_map, pos, get_or, slice_get, Some, All}
 use Rattle.std.specs.List.{range_with_len}
 use Rattle.pl_spec.specs.declared.Format.{Format}
 use Rattle.pl_spec.specs.Parts.{sid_at}
 use Rattle.pl_spec.specs.World.{World}
 use Rattle.pl_spec.specs.Graph.{contains}
-use Rattle.pl_spec.specs.Table.{Pipeline, Row, session_rows}
+use Rattle.pl_spec.specs.Rounding.{IsCell}
+use Rattle.pl_spec.specs.Table.{NamedColumn, Pipeline, Row, session_rows}
 use Rattle.pl_spec.specs.Text.{row_line}
 use Rattle.pl_cross.specs.Arrays.{HasTexts}
 use Rattle.pl_model.specs.Worlds.{world_of}
@@ -15,6 +16,7 @@ use Rattle.pl_planner.specs.Plans.{IsPlanOf, low_at, slot_of}
 use Rattle.pl_values.specs.Arrays.{cell_of, HasAll, Holds}
 use Rattle.pl_workspace.specs.Slots.{Live, slot_at}
 use Rattle.pl_table.specs.declared.outcome.Outcome.{Outcome}
+use Rattle.pl_table.specs.declared.rows.Cells.{Cells}
 
 abbrev pub world_in : Outcome → World
 world_in o = world_of o.world
@@ -49,6 +51,17 @@ pub record IsOutcome (o : Outcome) : Type 0 where
 pub record IsWithin (o : Outcome) (session : ℕ) : Type 0 where
   pub from : o.from ≤ session
   pub to : session ≤ o.to
+
+-- the cells of the columns for the asset in a place on a session
+pub record HasCells (o : Outcome) (place session : ℕ) (values : List ℤ) : Type 0 where
+  pub long : length values ≡ length (pipeline_in o).columns
+  pub each : (k : ℕ) (c : NamedColumn) → slice_get (pipeline_in o).columns k ≡ Some c → get_or values k (pos 0) ≡ cell_of (world_in o) (pipeline_in o) (sids_in o) c.term place session
+  pub cell : (k : ℕ) → k < length (pipeline_in o).columns → IsCell (get_or values k (pos 0))
+
+-- a row's cells, which are those of its asset on its session
+pub record AreCells (c : Cells) : Type 0 where
+  pub outcome : IsOutcome c.outcome.now
+  pub cells : HasCells c.outcome.now c.place c.session c.values.now
 
 -- the lines of rows
 abbrev pub lines : World → Pipeline → Format → List Row → List ℕ

@@ -2,11 +2,13 @@
 //! The parts of a line are there for rows whose values stand elsewhere.
 #![tactic(auto)]
 
+mod asked;
 mod fields;
 mod header;
 mod line;
 mod outcome;
 mod rows;
+mod tile;
 mod totals;
 mod writing;
 
@@ -15,5 +17,6 @@ pub use header::make_header;
 pub use line::Line;
 pub use outcome::Outcome;
 pub use rows::write_rows;
+pub use tile::tile_len;
 pub use totals::Totals;
 pub use writing::{Writing, writing_of};

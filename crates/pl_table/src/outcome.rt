@@ -1,5 +1,5 @@
 //! The values of some sessions, in a workspace.
-ghost use Rattle.std.specs.Prelude.{◌≡◌, ◌<◌, true, length};
+ghost use Rattle.std.specs.Prelude.{◌≡◌, ◌<◌, ◌≤◌, ◌+◌, ◌-◌, ◌*◌, ℕ, true, pos, length, get_or};
 ghost use Rattle.pl_spec.specs.Rounding.{IsCell};
 ghost use Rattle.pl_spec.specs.Graph.{contains};
 ghost use Rattle.pl_terms.specs.Uses.{outputs};
@@ -38,4 +38,27 @@ pub(crate) fn cell_at(outcome: &Outcome<'_>, term: TermId, place: usize, session
     let count = outcome.to + 1 - low;
     let cells = outcome.workspace.array(outcome.plan.slot(term));
     cells[place * count + (session - low)]
+}
+
+/// The cells of an output for the asset in a place, on a number of sessions from `first` on.
+pub(crate) fn cells_from<'a>(
+    outcome: &Outcome<'a>,
+    term: TermId,
+    place: usize,
+    first: usize,
+    count: usize,
+) -> &'a [i64]
+    requires outcome { IsOutcome outcome.now }
+    requires output { contains (outputs (pipeline_in outcome.now)) term.0 ≡ true }
+    requires place { place < length outcome.now.cols.now }
+    requires first { IsWithin outcome.now first }
+    requires last { first + count ≤ outcome.now.to + 1 }
+    ensures size { length result.now ≡ count }
+    ensures each { (j : ℕ) → j < count → get_or result.now j (pos 0) ≡ cell_of (world_in outcome.now)
+        (pipeline_in outcome.now) (sids_in outcome.now) term.0 place (first + j) }
+{
+    let low = outcome.plan.low_at(term, outcome.from);
+    let cells = outcome.workspace.array(outcome.plan.slot(term));
+    let start = place * (outcome.to + 1 - low) + (first - low);
+    &cells[start..start + count]
 }

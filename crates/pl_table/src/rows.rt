@@ -6,28 +6,42 @@ ghost use Rattle.pl_spec.specs.Table.{NamedColumn, is_kept, row, session_rows};
 ghost use Rattle.pl_spec.specs.Text.{row_line};
 ghost use Rattle.pl_outside.specs.Taken.{Writes};
 ghost use Rattle.pl_cross.specs.Arrays.{sid_in};
-ghost use Rattle.pl_table.specs.Outcomes.{IsOutcome, IsWithin, lines, pipeline_in, rows_of_sessions, sids_in, world_in};
+ghost use Rattle.pl_table.specs.Outcomes.{AreCells, HasCells, IsOutcome, IsWithin, lines, pipeline_in, rows_of_sessions, sids_in, world_in};
 ghost use Rattle.pl_table.specs.Rows.{IsPut, has_row, row_values, value_fields};
 ghost use Rattle.pl_table.specs.Sums.{rows_sum, values_sum};
+ghost use Rattle.pl_table.specs.Tiles.{HasRows, first_in, tile_len};
 
 use crate::fields::{put_cell, put_date, put_sid};
 use crate::line::Line;
-use crate::outcome::{Outcome, cell_at};
+use crate::outcome::Outcome;
+use crate::tile::{row_at, turn};
 use crate::totals::Totals;
 use crate::writing::writing_of;
 use pl_fixed::MISSING;
 use pl_outside::{Failed, Sink, write_bytes};
 use pl_spec::Format;
 
+/// The cells of a row, which is that of the asset in a place on a session, column by column.
+#[derive(Clone, Copy)]
+struct Cells<'a> {
+    outcome: &'a Outcome<'a>,
+    place: usize,
+    session: usize,
+    values: &'a [i64],
+}
+
 /// Writes the rows of all sessions of an outcome, each in one piece, and counts them.
 pub fn write_rows<O: Sink>(
     outcome: &Outcome<'_>,
     format: Format,
+    tile: &mut [i64],
     line: &mut Line,
     totals: &mut Totals,
     out: &mut O,
 ) -> Result<(), Failed>
     requires outcome { IsOutcome outcome.now }
+    requires room { tile_len (length outcome.now.cols.now) (length (pipeline_in outcome.now).columns)
+        ≤ length tile.old }
     requires few { totals.old.rows
         + (outcome.now.to + 1 - outcome.now.from) * length outcome.now.cols.now < 2 ^ 63 }
     ensures writes { Writes O.taken O.faults O.sound O.room out.old out.new
@@ -43,9 +57,11 @@ pub fn write_rows<O: Sink>(
         (outcome.now.to + 1 - outcome.now.from))) }
     ensures few { OnOk result (totals.new.rows ≤ totals.old.rows
         + (outcome.now.to + 1 - outcome.now.from) * length outcome.now.cols.now) }
+    ensures room { length tile.new ≡ length tile.old }
 {
     for session in outcome.from..outcome.to + 1 {
-        write_session(outcome, session, format, line, totals, out)?;
+        let first = turn(outcome, session, tile);
+        write_session(outcome, first, session, &*tile, format, line, totals, out)?;
     }
     Ok(())
 }
@@ -53,14 +69,21 @@ pub fn write_rows<O: Sink>(
 // Writes the rows of one session.
 fn write_session<O: Sink>(
     outcome: &Outcome<'_>,
+    first: usize,
     session: usize,
+    tile: &[i64],
     format: Format,
     line: &mut Line,
     totals: &mut Totals,
     out: &mut O,
 ) -> Result<(), Failed>
     requires outcome { IsOutcome outcome.now }
+    requires first { first ≤ session }
+    requires near { session < first + 8 }
     requires session { IsWithin outcome.now session }
+    requires room { tile_len (length outcome.now.cols.now) (length (pipeline_in outcome.now).columns)
+        ≤ length tile.now }
+    requires tile { HasRows outcome.now first (length outcome.now.cols.now) tile.now }
     requires few { totals.old.rows + length outcome.now.cols.now < 2 ^ 63 }
     ensures writes { Writes O.taken O.faults O.sound O.room out.old out.new
         (lines (world_in outcome.now) (pipeline_in outcome.now) format
@@ -73,50 +96,11 @@ fn write_session<O: Sink>(
     ensures few { OnOk result (totals.new.rows ≤ totals.old.rows + length outcome.now.cols.now) }
 {
     for place in 0..outcome.cols.len() {
-        if has_row(outcome, place, session) {
-            write_row(outcome, place, session, format, line, totals, out)?;
+        if let Some(values) = row_at(outcome, first, session, place, tile) {
+            write_row(outcome, place, session, values, format, line, totals, out)?;
         }
     }
     Ok(())
-}
-
-// Does the asset exist on the session, and does the screen keep it?
-fn has_row(outcome: &Outcome<'_>, place: usize, session: usize) -> bool
-    requires outcome { IsOutcome outcome.now }
-    requires place { place < length outcome.now.cols.now }
-    requires session { IsWithin outcome.now session }
-    ensures { result ≡ has_row (world_in outcome.now) (pipeline_in outcome.now) session
-        (sid_in (sids_in outcome.now) place) }
-{
-    exists(outcome, place, session) && passes(outcome, place, session)
-}
-
-// Does the asset exist on the session?
-fn exists(outcome: &Outcome<'_>, place: usize, session: usize) -> bool
-    requires outcome { IsOutcome outcome.now }
-    requires place { place < length outcome.now.cols.now }
-    requires session { IsWithin outcome.now session }
-    ensures { result ≡ exists (world_in outcome.now) (sid_in (sids_in outcome.now) place) (pos session) }
-{
-    let day = outcome.world.sessions.day(session);
-    outcome
-        .world
-        .assets
-        .exists(outcome.cols[place] as usize, day)
-}
-
-// Does the screen keep it, where there is one?
-fn passes(outcome: &Outcome<'_>, place: usize, session: usize) -> bool
-    requires outcome { IsOutcome outcome.now }
-    requires place { place < length outcome.now.cols.now }
-    requires session { IsWithin outcome.now session }
-    ensures { result ≡ is_kept (world_in outcome.now) (pipeline_in outcome.now)
-        (pipeline_in outcome.now).screen (pos session) (sid_in (sids_in outcome.now) place) }
-{
-    match outcome.checked.screen() {
-        Some(term) => cell_at(outcome, term, place, session) == 1,
-        None => true,
-    }
 }
 
 // Writes the row of one asset.
@@ -124,6 +108,7 @@ fn write_row<O: Sink>(
     outcome: &Outcome<'_>,
     place: usize,
     session: usize,
+    values: &[i64],
     format: Format,
     line: &mut Line,
     totals: &mut Totals,
@@ -132,6 +117,7 @@ fn write_row<O: Sink>(
     requires outcome { IsOutcome outcome.now }
     requires place { place < length outcome.now.cols.now }
     requires session { IsWithin outcome.now session }
+    requires values { HasCells outcome.now place session values.now }
     requires few { totals.old.rows < 2 ^ 63 }
     ensures writes { Writes O.taken O.faults O.sound O.room out.old out.new
         (row_line (world_in outcome.now) (pipeline_in outcome.now) format
@@ -142,6 +128,12 @@ fn write_row<O: Sink>(
         (row (world_in outcome.now) (pipeline_in outcome.now) (pos session)
         (sid_in (sids_in outcome.now) place)).values }
 {
+    let cells = Cells {
+        outcome: &*outcome,
+        place,
+        session,
+        values: &*values,
+    };
     line.clear();
     put_date(line, format, outcome.world.sessions.day(session));
     put_sid(
@@ -149,63 +141,51 @@ fn write_row<O: Sink>(
         format,
         outcome.world.assets.sid(outcome.cols[place] as usize),
     );
-    let sum = put_values(outcome, place, session, format, line);
+    let sum = put_values(&cells, format, line);
     line.put(b"\n");
     totals.count_row(sum);
     write_bytes(out, line.as_slice())
 }
 
 // Puts the fields of the columns, and gives the sum of their cells.
-fn put_values(
-    outcome: &Outcome<'_>,
-    place: usize,
-    session: usize,
-    format: Format,
-    line: &mut Line,
-) -> i128
-    requires outcome { IsOutcome outcome.now }
-    requires place { place < length outcome.now.cols.now }
-    requires session { IsWithin outcome.now session }
+fn put_values(cells: &Cells<'_>, format: Format, line: &mut Line) -> i128
+    requires cells { AreCells cells.now }
     requires room { length line.old ≤ 21 }
-    ensures text { line.new ≡ line.old ++ value_fields (world_in outcome.now) (pipeline_in outcome.now) format
-        (sid_in (sids_in outcome.now) place) (pos session) (pipeline_in outcome.now).columns }
+    ensures text { line.new ≡ line.old ++ value_fields (world_in cells.now.outcome.now)
+        (pipeline_in cells.now.outcome.now) format
+        (sid_in (sids_in cells.now.outcome.now) cells.now.place) (pos cells.now.session)
+        (pipeline_in cells.now.outcome.now).columns }
     ensures within { length line.new ≤ 8_447 }
-    ensures sum { result ≡ values_sum (world_in outcome.now).texts
-        (row_values (world_in outcome.now) (pipeline_in outcome.now) (sid_in (sids_in outcome.now) place)
-        (pos session) (pipeline_in outcome.now).columns) }
+    ensures sum { result ≡ values_sum (world_in cells.now.outcome.now).texts
+        (row_values (world_in cells.now.outcome.now) (pipeline_in cells.now.outcome.now)
+        (sid_in (sids_in cells.now.outcome.now) cells.now.place) (pos cells.now.session)
+        (pipeline_in cells.now.outcome.now).columns) }
     ensures small { unsigned_abs result ≤ 64 * LIMIT }
 {
-    let checked = outcome.checked;
+    let checked = cells.outcome.checked;
     let mut sum = 0i128;
     for column in 0..checked.columns() {
-        sum += put_value(outcome, column, place, session, format, line);
+        sum += put_value(cells, column, format, line);
     }
     sum
 }
 
 // Puts the field of one column, and gives its cell for the sum.
-fn put_value(
-    outcome: &Outcome<'_>,
-    column: usize,
-    place: usize,
-    session: usize,
-    format: Format,
-    line: &mut Line,
-) -> i128
-    requires outcome { IsOutcome outcome.now }
-    requires column { column < length (pipeline_in outcome.now).columns }
-    requires place { place < length outcome.now.cols.now }
-    requires session { IsWithin outcome.now session }
+fn put_value(cells: &Cells<'_>, column: usize, format: Format, line: &mut Line) -> i128
+    requires cells { AreCells cells.now }
+    requires column { column < length (pipeline_in cells.now.outcome.now).columns }
     requires room { length line.old + 131 ≤ 8_448 }
-    ensures value { (c : NamedColumn) → slice_get (pipeline_in outcome.now).columns column ≡ Some c
-        → IsPut (world_in outcome.now) (pipeline_in outcome.now) format (sid_in (sids_in outcome.now) place)
-        (pos session) c line.old line.new result }
+    ensures value { (c : NamedColumn) → slice_get (pipeline_in cells.now.outcome.now).columns column ≡ Some c
+        → IsPut (world_in cells.now.outcome.now) (pipeline_in cells.now.outcome.now) format
+        (sid_in (sids_in cells.now.outcome.now) cells.now.place) (pos cells.now.session) c line.old line.new
+        result }
     ensures within { length line.new ≤ length line.old + 131 }
     ensures small { unsigned_abs result ≤ LIMIT }
 {
+    let outcome = cells.outcome;
     let term = outcome.checked.column_term(column);
     let writing = writing_of(outcome.checked.graph(), term);
-    let cell = cell_at(outcome, term, place, session);
+    let cell = cells.values[column];
     put_cell(line, format, writing, cell, outcome.world.labels);
     if cell == MISSING { 0 } else { i128::from(cell) }
 }

@@ -1,4 +1,4 @@
-ghost use Rattle.std.specs.Prelude.{◌≡◌, ◌+◌, ◌<◌, ◌≤◌, length, option_map, OnOk, OnSome, IfOk};
+ghost use Rattle.std.specs.Prelude.{◌≡◌, ◌+◌, ◌<◌, ◌≤◌, [], length, option_map, OnOk, OnSome, IfOk};
 ghost use Rattle.std.specs.List.{list_any};
 ghost use Rattle.pl_records.specs.Reading.{Answers, at_line, field, rows_of};
 ghost use Rattle.pl_records.specs.Records.{csv_records};
@@ -48,12 +48,32 @@ fn rows_behind(
 {
     let mut rows = LabelRows::new(alloc);
     let mut keys = HashSet::new(alloc);
+    put_rows(&mut rows, &mut keys, records, assets)?;
+    Ok(rows)
+}
+
+// Puts the rows of the records behind the header where there is none yet, and their keys beside them.
+fn put_rows(
+    rows: &mut LabelRows,
+    keys: &mut HashSet<u128>,
+    records: &mut Records,
+    assets: &Assets,
+) -> Result<(), LabelsError>
+    requires none { shown_rows rows.old ≡ [] }
+    requires numbered { AreNumbered rows.old }
+    requires texts { rows.old.texts ≡ texts_of (shown_rows rows.old) }
+    requires keys { AreKeys keys.old rows.old.places.items }
+    ensures exact { Answers (λ u. shown_rows rows.new) fault_of result
+        (rows_of 2 (says_label assets.now) records.old.left) }
+    ensures numbered { OnOk result (AreNumbered rows.new) }
+    ensures texts { OnOk result (rows.new.texts ≡ texts_of (shown_rows rows.new)) }
+{
     'rows: while records.next()? {
-        let start = next_start(&rows, &keys, records, assets)?;
+        let start = next_start(rows, keys, records, assets)?;
         let place = rows.push(records.field(0), start.col, start.day, records.field(3))?;
         keys.insert(key_of(&place))?;
     }
-    Ok(rows)
+    Ok(())
 }
 
 // From when on a record gives a label, and to which column.

@@ -1,22 +1,39 @@
-use Rattle.std.proofs.Common.{◌≤◌, ◌+◌, ap, ◌∙◌, sym, arith, subst}
-use Rattle.pl_adjarray.specs.Buffered.{Buffered}
-use Rattle.pl_terms.specs.Nodes.{node_of}
-use Rattle.pl_exec.specs.Tasks.{cut}
-use Rattle.pl_exec.proofs.Stands.{window_few, counted_is}
+use Rattle.std.proofs.Common.{◌≤◌, ◌*◌, ◌+◌, ◌∙◌, ap, sym, length, arith}
+use Rattle.std.proofs.lemmas.List.{take_all}
+use Rattle.pl_exec.specs.Tasks.{assets_in, cell_in, cut}
+use Rattle.pl_exec.specs.Jobs.{node_in, steps_of, task_in}
+use Rattle.pl_exec.proofs.Courses.{all_laned, course_array, lane_room, none_laned, one_laned}
+use Rattle.pl_exec.proofs.Stands.{cut_two, steps_all, steps_more, steps_none}
 use Rattle.pl_exec.proofs.fill.fill_bars.Goals as goal
 
-pub traverse-requires-2-clause-most : goal.traverse-requires-2-clause-most
-traverse-requires-2-clause-most g c =
-    subst (λ (b : Buffered). c.window_of-size.result ≤ b.rows) (sym c.column_array-second_array.ensures) (let f = window_few c.args.job.now c.args.workspace.now c.args.term.0 (node_of c.args.node.now) c.requires.run 1 in omega (arith, f, c.window_of-size.ensures))
+pub loop-i-init : goal.loop-i-init
+loop-i-init g c =
+    let e = steps_none c.args.course.now.job.now c.args.course.now.term.0 (node_in c.args.course.now) in
+    record { lanes = none_laned _ _ _ _; cost = omega (arith, e); applied = omega (arith, e) }
 
-pub traverse-requires-3-clause-most : goal.traverse-requires-3-clause-most
-traverse-requires-3-clause-most g c =
-    subst (λ (b : Buffered). c.window_of-size.result ≤ b.rows) (sym c.column_array-third_array.ensures) (let f = window_few c.args.job.now c.args.workspace.now c.args.term.0 (node_of c.args.node.now) c.requires.run 2 in omega (arith, f, c.window_of-size.ensures))
+pub loop-i-preserved : goal.loop-i-preserved
+loop-i-preserved g c =
+    let within : (c.loop-i.i + 1) * c.args.course.now.count ≤ length c.loop-i.own = lane_room c.loop-i.i (assets_in (task_in c.args.course.now)) c.args.course.now.count (length c.loop-i.own) c.loop-i-test.true (omega (arith, c.requires.room, c.loop-i.auto.own)) in
+    let more = steps_more c.args.course.now.job.now c.args.course.now.term.0 (node_in c.args.course.now) c.loop-i.i c.loop-i-test.true in
+    record {
+      lanes = one_laned (cell_in (task_in c.args.course.now) c.args.course.now.term.0) c.args.course.now.low c.args.course.now.count c.loop-i.i _ c.loop-i.own c.fill_asset-more.new.out within c.loop-i.invariant.lanes c.fill_asset-more.ensures.out;
+      cost = omega (arith, more, c.loop-i.invariant.cost, c.fill_asset-more.ensures.cost);
+      applied = cut_two _ _ _ _ _ c.loop-i.invariant.applied c.fill_asset-more.ensures.applied c.saturating_add-applied.ensures ∙ ap cut (sym more);
+    }
+
+pub returns-clause-array : goal.returns-clause-array
+returns-clause-array g c =
+    course_array c.args.course.now c.requires.course c.loop-i.own
+    (all_laned (cell_in (task_in c.args.course.now) c.args.course.now.term.0) (assets_in (task_in c.args.course.now)) c.args.course.now.low c.args.course.now.count c.loop-i.i c.loop-i.own c.loop-i.invariant.lanes (omega (arith, c.loop-i-test.false)) (omega (arith, c.requires.room, c.loop-i.auto.own)))
 
 pub returns-clause-cost : goal.returns-clause-cost
 returns-clause-cost g c =
-    c.run_bars.ensures.cost ∙ ap (λ m. c.args.steps.now + m) (counted_is c.args.job.now c.args.workspace.now c.args.term.0 (node_of c.args.node.now) c.requires.run c.run_bars.new.bars c.run_bars.ensures.bars)
+    let all = steps_all c.args.course.now.job.now c.args.course.now.workspace.now c.args.course.now.term.0 (node_in c.args.course.now) c.requires.run in
+    let whole = ap (steps_of c.args.course.now.job.now c.args.course.now.term.0 (node_in c.args.course.now)) (take_all c.loop-i.i c.args.course.now.job.now.cols.now (omega (arith, c.loop-i-test.false))) in
+    omega (arith, all, whole, c.loop-i.invariant.cost)
 
 pub returns-clause-applied : goal.returns-clause-applied
 returns-clause-applied g c =
-    c.applied.ensures ∙ ap cut (counted_is c.args.job.now c.args.workspace.now c.args.term.0 (node_of c.args.node.now) c.requires.run c.run_bars.new.bars c.run_bars.ensures.bars)
+    let all = steps_all c.args.course.now.job.now c.args.course.now.workspace.now c.args.course.now.term.0 (node_in c.args.course.now) c.requires.run in
+    let whole = ap (steps_of c.args.course.now.job.now c.args.course.now.term.0 (node_in c.args.course.now)) (take_all c.loop-i.i c.args.course.now.job.now.cols.now (omega (arith, c.loop-i-test.false))) in
+    c.loop-i.invariant.applied ∙ ap cut (whole ∙ all)

@@ -1,9 +1,8 @@
-use Rattle.std.proofs.Common.{◌<◌, ◌≤◌, arith, w64, FitsSigned, get_or, pos, ap, ◌∙◌, sym, subst, rules}
+use Rattle.std.proofs.Common.{◌<◌, arith, w64, FitsSigned, get_or, pos, ap, rules}
 use Rattle.std.proofs.lemmas.Int.{to_z-of_z}
 use Rattle.pl_terms.specs.Sorts.{is_downsampled}
-use Rattle.pl_values.specs.Laws.{IsGiven}
 use Rattle.pl_exec.specs.Tasks.{assets_in}
-use Rattle.pl_exec.specs.Jobs.{task_at, node_at}
+use Rattle.pl_exec.specs.Jobs.{task_at}
 use Rattle.pl_exec.proofs.Spans.{all_begun}
 use Rattle.pl_exec.proofs.Givens.{start_given, start_read, out_more}
 use Rattle.pl_exec.proofs.kinds.downsampled_row.Goals as goal

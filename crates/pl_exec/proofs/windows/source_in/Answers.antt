@@ -1,14 +1,14 @@
 use Rattle.std.proofs.Common.{rules, ◌≡◌, Some, slice_get}
 use Rattle.pl_spec.specs.Term.Input.{TermInput}
-use Rattle.pl_exec.specs.Jobs.{node_at}
+use Rattle.pl_exec.specs.Jobs.{node_in}
 use Rattle.pl_exec.proofs.windows.source_in.Goals as goal
 
 pub array_of-requires-clause-used : goal.array_of-requires-clause-used
 array_of-requires-clause-used c =
-    let e : slice_get (node_at c.args.turn.now).inputs c.args.place ≡ Some (TermInput c.in-Some-Term.term.0) = search rules in
-    (c.requires.turn.ready.inputs c.args.place c.in-Some-Term.term.0 e).used
+    let e : slice_get (node_in c.args.course.now).inputs c.args.place ≡ Some (TermInput c.in-Some-Term.term.0) = search rules in
+    ((c.requires.run.ready (node_in c.args.course.now) c.requires.node).inputs c.args.place c.in-Some-Term.term.0 e).used
 
 pub array_of-requires-clause-held : goal.array_of-requires-clause-held
 array_of-requires-clause-held c =
-    let e : slice_get (node_at c.args.turn.now).inputs c.args.place ≡ Some (TermInput c.in-Some-Term.term.0) = search rules in
-    (c.requires.turn.ready.inputs c.args.place c.in-Some-Term.term.0 e).held
+    let e : slice_get (node_in c.args.course.now).inputs c.args.place ≡ Some (TermInput c.in-Some-Term.term.0) = search rules in
+    ((c.requires.run.ready (node_in c.args.course.now) c.requires.node).inputs c.args.place c.in-Some-Term.term.0 e).held

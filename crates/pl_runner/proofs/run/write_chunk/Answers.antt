@@ -1,4 +1,4 @@
-use Rattle.std.proofs.Common.{◌≡◌, ◌+◌, ◌-◌, length, sym, ◌∙◌, subst, arith}
+use Rattle.std.proofs.Common.{◌≡◌, ◌*◌, ℤ, List, ap, ◌+◌, ◌-◌, length, sym, ◌∙◌, subst, arith}
 use Rattle.std.proofs.lemmas.Nat.{mul-le}
 use Rattle.pl_values.proofs.Texts.{texts-coded}
 use Rattle.pl_chunks.specs.Chunks.{columns_of}
@@ -65,6 +65,15 @@ write_rows-requires-clause-few g c =
     let few = work.few-columns c.args.world.now.sessions.now w p c.args.plan.now c.args.chunk c.graph-checked.ensures.checked c.requires.plan c.requires.from c.requires.order c.requires.to c.deref-2.result.now (c.deref-2.ensures.value ∙ c.put_columns.ensures.cols) in
     let m = mul-le (c.args.chunk.to + 1 - c.args.chunk.from) (length c.deref-2.result.now) (c.args.chunk.to + 1 - c.args.chunk.from) (length c.args.world.now.assets.now) (omega arith) few in
     omega (arith, m, c.requires.few)
+
+pub write_rows-requires-clause-room : goal.write_rows-requires-clause-room
+write_rows-requires-clause-room g c =
+    let w = world_of c.args.world.now in
+    let p = pipeline_of c.args.checked.now in
+    let few = work.few-columns c.args.world.now.sessions.now w p c.args.plan.now c.args.chunk c.graph-checked.ensures.checked c.requires.plan c.requires.from c.requires.order c.requires.to c.deref-2.result.now (c.deref-2.ensures.value ∙ c.put_columns.ensures.cols) in
+    let m = mul-le (8 * length c.deref-2.result.now) (length p.columns + 1) (8 * length w.assets) (length p.columns + 1) (omega (arith, few)) (omega arith) in
+    let own = ap (λ (l : List ℤ). length l) c.deref_mut.ensures.value in
+    omega (arith, m, own, c.requires.desk.tile)
 
 pub returns-clause-few : goal.returns-clause-few
 returns-clause-few g c =

@@ -7,12 +7,12 @@ use Rattle.pl_syntax.specs.Stages.{stage_of}
 use Rattle.pl_syntax.proofs.Verdicts.{Continues}
 use Rattle.pl_syntax.proofs.parser.read_all.Given as goal
 
-abbrev pub invariant-loop-progress : goal.invariant-loop-progress
-invariant-loop-progress l = record {
+abbrev pub invariant-loop-place : goal.invariant-loop-place
+invariant-loop-place l = record {
   goes : (ts : List Lexeme) (tail : Tail) → Read l.text.place l.text.bytes.now ts tail → Continues l.fn.bytes ts tail l.progress.1.0 l.progress.1.1.0 (stage_of l.progress.0);
   room : HasRoom l.text.place l.text.bytes.now;
   few : l.progress.1.0 ≤ most_tokens;
 }
 
-abbrev pub decreases-loop-progress : goal.decreases-loop-progress
-decreases-loop-progress l = length l.text.bytes.now
+abbrev pub decreases-loop-place : goal.decreases-loop-place
+decreases-loop-place l = length l.text.bytes.now

@@ -1,4 +1,4 @@
-use Rattle.std.proofs.Common.{◌≡◌, ◌+◌, ◌-◌, ◌*◌, ◌∙◌, ap, refl, ℕ, length, pos, arith, length-append}
+use Rattle.std.proofs.Common.{◌≡◌, subst, ◌+◌, ◌-◌, ◌*◌, ◌∙◌, ap, refl, ℕ, length, pos, arith, length-append}
 use Rattle.std.proofs.lemmas.Int.{ints}
 use Rattle.std.proofs.lemmas.Nat.{mul-le}
 use Rattle.std.proofs.lemmas.Result.{err_from_is_err_and}
@@ -6,6 +6,7 @@ use Rattle.pl_outside.proofs.Pieces.{writing-start, writing-more, writing-end, w
 use Rattle.pl_spec.specs.Table.{session_rows}
 use Rattle.pl_table.specs.Outcomes.{lines, pipeline_in, rows_of_sessions, world_in}
 use Rattle.pl_table.specs.Sums.{rows_sum}
+use Rattle.pl_table.specs.Tiles.{HasRows}
 use Rattle.pl_table.proofs.RowSums.{rows_sum-append}
 use Rattle.pl_table.proofs.SessionRows.{lines-append, sessions-next, sessions-end, times-more}
 use Rattle.pl_table.proofs.rows.write_rows.Goals as goal
@@ -18,6 +19,8 @@ loop-session-init g c =
       writing = writing-start g.O.Sink.taken g.O.Sink.faults g.O.Sink.sound g.O.Sink.room c.args.out.now _;
       rows = refl;
       sum = refl;
+      room = refl;
+      filled = λ h. absurd (omega arith);
       few = omega arith;
     }
 
@@ -51,6 +54,8 @@ loop-session-preserved g c =
       writing = writing-more _ _ (writing-over next c.loop-session.invariant.writing) c.in_ok-write_session.ensures.writes;
       rows = omega (arith, ap length own, length-append (session_rows w pl (pos s)) rest, c.loop-session.invariant.rows, c.in_ok-write_session.ensures.rows);
       sum = omega (arith, ints, ap (rows_sum w.texts) own, rows_sum-append w.texts (session_rows w pl (pos s)) rest, c.loop-session.invariant.sum, c.in_ok-write_session.ensures.sum);
+      room = c.turn-first.ensures.size ∙ c.loop-session.invariant.room;
+      filled = λ h. subst (λ (n : ℕ). HasRows o n (length o.cols.now) c.turn-first.new.tile) (c.turn-first.ensures.first ∙ omega (arith, h, c.loop-session.invariant.start)) c.turn-first.ensures.rows;
       few = omega (arith, more, c.loop-session.invariant.few, c.in_ok-write_session.ensures.few);
     }
 

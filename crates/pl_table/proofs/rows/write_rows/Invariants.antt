@@ -1,7 +1,8 @@
-use Rattle.std.proofs.Common.{◌≡◌, ◌≤◌, ◌+◌, ◌-◌, ◌*◌, ◌+ℤ◌, length}
+use Rattle.std.proofs.Common.{◌≡◌, ◌<◌, ◌≤◌, ◌+◌, ◌-◌, ◌*◌, ◌+ℤ◌, length}
 use Rattle.pl_outside.proofs.Pieces.{Writing}
 use Rattle.pl_table.specs.Outcomes.{lines, pipeline_in, rows_of_sessions, world_in}
 use Rattle.pl_table.specs.Sums.{rows_sum}
+use Rattle.pl_table.specs.Tiles.{HasRows, first_in}
 use Rattle.pl_table.proofs.rows.write_rows.Given as goal
 
 abbrev pub invariant-loop-session : goal.invariant-loop-session
@@ -14,5 +15,7 @@ invariant-loop-session g l =
           (lines w p l.format (rows_of_sessions w p l.session (to + 1 - l.session)));
       rows : l.totals.rows + length (rows_of_sessions w p l.session (to + 1 - l.session)) ≡ l.fn.totals.rows + length (rows_of_sessions w p from (to + 1 - from));
       sum : l.totals.sum +ℤ rows_sum w.texts (rows_of_sessions w p l.session (to + 1 - l.session)) ≡ l.fn.totals.sum +ℤ rows_sum w.texts (rows_of_sessions w p from (to + 1 - from));
+      room : length l.tile ≡ length l.fn.tile;
+      filled : first_in from l.session < l.session → HasRows l.outcome (first_in from l.session) (length l.outcome.cols.now) l.tile;
       few : l.totals.rows ≤ l.fn.totals.rows + (l.session - from) * length l.outcome.cols.now;
     }

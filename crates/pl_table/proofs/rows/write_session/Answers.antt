@@ -1,4 +1,4 @@
-use Rattle.std.proofs.Common.{◌<◌, ◌≤◌, ◌+◌, ◌∙◌, sym, ap, refl, drop, length, pos, arith, get_or}
+use Rattle.std.proofs.Common.{◌<◌, ◌≤◌, ◌+◌, ap, refl, drop, length, pos, arith, get_or}
 use Rattle.std.proofs.lemmas.Int.{ints}
 use Rattle.std.proofs.lemmas.List.{length-map}
 use Rattle.std.proofs.lemmas.Result.{err_from_is_err_and}
@@ -11,7 +11,7 @@ use Rattle.pl_table.specs.Sums.{rows_sum}
 use Rattle.pl_table.proofs.RowSums.{rows_sum-cons}
 use Rattle.pl_table.proofs.SessionRows.{rows_of, rows_of_session, rows_with, rows_without, rows_end}
 use Rattle.pl_table.proofs.rows.write_session.Goals as goal
-use Rattle.pl_table.proofs.rows.write_session.Goals.{then-has_row+in_ok-write_row, else-has_row}
+use Rattle.pl_table.proofs.rows.write_session.Goals.{in-Some+in_ok-write_row, in_default}
 
 pub loop-place-init : goal.loop-place-init
 loop-place-init g c =
@@ -26,7 +26,7 @@ pub returns-in_err-write_row-clause-writes : goal.returns-in_err-write_row-claus
 returns-in_err-write_row-clause-writes g c =
     let o = c.args.outcome.now in let w = world_in o in let pl = pipeline_in o in
     let inside : c.loop-place.place < length (sids_in o) = omega (arith, length-map o.cols.now (sid_at o.world.assets.now)) in
-    let next = rows_with w pl c.args.session (sids_in o) c.loop-place.place inside (sym c.has_row.ensures ∙ c.if-has_row.true) in
+    let next = rows_with w pl c.args.session (sids_in o) c.loop-place.place inside c.in-Some.ensures.some in
     let p = err_from_is_err_and c.from_residual.result c.from_residual.ensures.1 in
     rw (p.1, p.2)
     (writes-over (ap (lines w pl c.args.format) (rows_of_session w pl (sids_in o) c.args.session (c.requires.outcome.all c.args.session c.requires.session.from c.requires.session.to)))
@@ -36,9 +36,9 @@ pub loop-place-preserved : goal.loop-place-preserved
 loop-place-preserved g c =
     let o = c.args.outcome.now in let w = world_in o in let pl = pipeline_in o in let i = c.loop-place.place in
     let inside : i < length (sids_in o) = omega (arith, length-map o.cols.now (sid_at o.world.assets.now)) in
-    elim c.if-has_row.branch [
-      | then-has_row+in_ok-write_row b ↦
-          let next = rows_with w pl c.args.session (sids_in o) i inside (sym c.has_row.ensures ∙ b.if-has_row.true) in
+    elim c.match-row_at.branch [
+      | in-Some+in_ok-write_row b ↦
+          let next = rows_with w pl c.args.session (sids_in o) i inside b.in-Some.ensures.some in
           let rest = rows_of w pl c.args.session (drop (i + 1) (sids_in o)) in
           let count = ap (λ (t : Totals). t.rows) b.totals-is in
           let total = ap (λ (t : Totals). t.sum) b.totals-is in
@@ -48,8 +48,8 @@ loop-place-preserved g c =
             sum = omega (arith, ints, total, ap (rows_sum w.texts) next, rows_sum-cons w.texts (row w pl (pos c.args.session) (get_or (sids_in o) i 0)) rest, c.loop-place.invariant.sum, b.in_ok-write_row.ensures.sum);
             few = omega (arith, count, c.loop-place.invariant.few, b.in_ok-write_row.ensures.rows);
           }
-      | else-has_row b ↦
-          let next = rows_without w pl c.args.session (sids_in o) i inside (sym c.has_row.ensures ∙ b.if-has_row.false) in
+      | in_default b ↦
+          let next = rows_without w pl c.args.session (sids_in o) i inside b.in_default.ensures.none in
           let count = ap (λ (t : Totals). t.rows) b.totals-is in
           let total = ap (λ (t : Totals). t.sum) b.totals-is in
           record {

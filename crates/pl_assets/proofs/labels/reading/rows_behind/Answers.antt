@@ -1,52 +1,18 @@
-use Rattle.std.proofs.Common.{◌≡◌, ◌∙◌, ap, sym, ◌<◌, length, arith, rules, length-append, ◌∷◌, ◌++◌, [], FitsSigned, w32}
-use Rattle.std.proofs.lemmas.Int.{to_z-of_z}
-use Rattle.std.proofs.lemmas.Result.{err_from_is_err_and}
-use Rattle.pl_records.specs.Reading.{rows_of}
-use Rattle.pl_records.proofs.Readings.{goes_on, stops, is_done}
-use Rattle.pl_assets.specs.declared.TheConstants.{MOST_LABELS}
-use Rattle.pl_assets.specs.Labels.{says_label, texts_of}
-use Rattle.pl_assets.specs.LabelFaults.{fault_of}
-use Rattle.pl_assets.specs.LabelPlaces.{shown_rows}
-use Rattle.pl_assets.specs.LabelStarts.{row_from}
-use Rattle.pl_assets.proofs.LabelKeys.{AreKeys-more, AreKeys-none}
+use Rattle.std.proofs.Common.{◌∙◌, ap, sym, rules}
+use Rattle.pl_assets.specs.Labels.{texts_of}
+use Rattle.pl_assets.proofs.LabelKeys.{AreKeys-none}
 use Rattle.pl_assets.proofs.LabelRowsMade.{no_rows, no_numbers}
-use Rattle.pl_assets.proofs.FirstSeen.{no_texts, texts_next}
+use Rattle.pl_assets.proofs.FirstSeen.{no_texts}
 use Rattle.pl_assets.proofs.labels.reading.rows_behind.Goals as goal
 
-pub rows-init : goal.rows-init
-rows-init c =
-    let none : shown_rows c.new-rows.result ≡ [] = no_rows c.new-rows.result c.new-rows.ensures.places in
-    record {
-      rest = rw none search rules;
-      few = rw none (omega arith);
-      numbered = no_numbers c.new-rows.result c.new-rows.ensures.names c.new-rows.ensures.texts c.new-rows.ensures.places;
-      texts = c.new-rows.ensures.texts ∙ sym (ap texts_of none ∙ no_texts);
-      keys = AreKeys-none c.new-keys.result c.new-rows.result.places.items c.new-rows.ensures.places (search rules);
-    }
+pub put_rows-requires-clause-none : goal.put_rows-requires-clause-none
+put_rows-requires-clause-none c = no_rows c.new-rows.result c.new-rows.ensures.places
 
-pub returns-in_err-start-clause-exact : goal.returns-in_err-start-clause-exact
-returns-in_err-start-clause-exact c =
-    let more = rw c.if-branch.true at c.in_ok-next.ensures in
-    let p = err_from_is_err_and c.from_residual-in_err-start.result c.from_residual-in_err-start.ensures.1 in
-    rw (p.1, p.2) (stops 2 (says_label c.args.assets.now) (shown_rows c.rows.rows) c.rows.records.left c.next.new.self.left c.next.new.self.fields (fault_of c.in_err-start.field-0.0) _ more.ok c.in_err-start.ensures.exact c.rows.invariant.rest)
+pub put_rows-requires-clause-numbered : goal.put_rows-requires-clause-numbered
+put_rows-requires-clause-numbered c = no_numbers c.new-rows.result c.new-rows.ensures.names c.new-rows.ensures.texts c.new-rows.ensures.places
 
-pub rows-preserved : goal.rows-preserved
-rows-preserved c =
-    let more = rw c.if-branch.true at c.in_ok-next.ensures in
-    let fits : FitsSigned w32 c.in_ok-start.start.day = search rules in
-    let shown = rw (c.field.ensures, c.field-in-rows.ensures, to_z-of_z w32 c.in_ok-start.start.day fits) at c.in_ok-place.ensures.row in
-    let row : shown_rows c.push.new.self ≡ shown_rows c.rows.rows ++ row_from c.next.new.self.fields c.in_ok-start.start ∷ [] = shown in
-    let room : length (shown_rows c.rows.rows) < MOST_LABELS = c.in_ok-start.ensures.room in
-    record {
-      rest = rw row (goes_on 2 (says_label c.args.assets.now) (shown_rows c.rows.rows) c.rows.records.left c.next.new.self.left c.next.new.self.fields (row_from c.next.new.self.fields c.in_ok-start.start) _ more.ok c.in_ok-start.ensures.exact c.rows.invariant.rest);
-      few = rw row (omega (arith, length-append (shown_rows c.rows.rows) (row_from c.next.new.self.fields c.in_ok-start.start ∷ [])));
-      numbered = c.in_ok-place.ensures.numbered;
-      texts = texts_next c.rows.rows.texts c.push.new.self.texts (shown_rows c.rows.rows) (shown_rows c.push.new.self) (row_from c.next.new.self.fields c.in_ok-start.start)
-          c.rows.invariant.texts row (rw c.field-in-rows.ensures at c.in_ok-place.ensures.texts);
-      keys = rw c.in_ok-place.ensures.place (AreKeys-more c.rows.keys c.insert.new.self c.rows.rows.places.items c.in_ok-place.place c.key_of.result c.key_of.ensures c.rows.invariant.keys c.in_ok-insert.ensures.updates.0);
-    }
+pub put_rows-requires-clause-texts : goal.put_rows-requires-clause-texts
+put_rows-requires-clause-texts c = c.new-rows.ensures.texts ∙ sym (ap texts_of (no_rows c.new-rows.result c.new-rows.ensures.places) ∙ no_texts)
 
-pub returns-clause-exact : goal.returns-clause-exact
-returns-clause-exact c =
-    let none = rw c.if-branch.false at c.in_ok-next.ensures in
-    is_done 2 (says_label c.args.assets.now) (shown_rows c.rows.rows) c.rows.records.left (rows_of 2 (says_label c.args.assets.now) c.args.records.now.left) none.ok.0 c.rows.invariant.rest
+pub put_rows-requires-clause-keys : goal.put_rows-requires-clause-keys
+put_rows-requires-clause-keys c = AreKeys-none c.new-keys.result c.new-rows.result.places.items c.new-rows.ensures.places (search rules)

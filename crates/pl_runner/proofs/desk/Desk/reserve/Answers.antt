@@ -1,10 +1,11 @@
-use Rattle.std.proofs.Common.{◌≡◌, ◌<◌, ℕ, length, sym, ap, subst, ◌∙◌, arith}
+use Rattle.std.proofs.Common.{◌≡◌, ◌+◌, ◌*◌, ◌<◌, ℕ, length, sym, ap, subst, ◌∙◌, arith}
 use Rattle.std.proofs.lemmas.List.{length-replicate, get_or-replicate}
 use Rattle.pl_workspace.specs.Slots.{Slots, Free, Begun, fresh, slot_at}
 use Rattle.pl_model.specs.Worlds.{world_of}
 use Rattle.pl_terms.specs.Checked.{pipeline_of}
 use Rattle.pl_chunks.specs.Chunks.{chunk_at}
 use Rattle.pl_chunks.specs.Room.{HasRoom}
+use Rattle.pl_table.proofs.Outputs.{columns-long}
 use Rattle.pl_runner.proofs.desk.Desk.reserve.Goals as goal
 
 fresh-many : (w : Slots) (n len : ℕ) → w ≡ fresh n len → length w.slots ≡ n
@@ -13,10 +14,15 @@ fresh-many w n len is = rw is (length-replicate n Free)
 fresh-free : (w : Slots) (n len : ℕ) → w ≡ fresh n len → (s : ℕ) → s < length w.slots → slot_at w s ≡ Free
 fresh-free w n len is s h = ap (λ (v : Slots). slot_at v s) is ∙ get_or-replicate n s Free Begun (omega (arith, h, fresh-many w n len is))
 
+pub tile_len-requires-clause-columns : goal.tile_len-requires-clause-columns
+tile_len-requires-clause-columns c = omega (arith, c.columns.ensures, columns-long c.args.checked.now.columns, c.graph-checked.ensures.checked.few_columns)
+
 pub returns : goal.returns
 returns c i h =
     let is = c.in-Ok.ensures in
     let len : c.in-Ok.workspace.len ≡ c.longest_array-longest.result = ap (λ (w : Slots). w.len) is in
+    let columns = c.columns.ensures ∙ sym (columns-long c.args.checked.now.columns) in
+    let wide = c.tile_len.ensures ∙ ap (λ (n : ℕ). 8 * n * (c.columns.result + 1)) c.len-assets.ensures.length ∙ ap (λ (n : ℕ). 8 * length c.args.world.now.assets.now * (n + 1)) columns in
     record {
       room = subst (λ (n : ℕ). HasRoom (world_of c.args.world.now) (pipeline_of c.args.checked.now) c.args.plan.now (chunk_at c.args.plan.now.from c.args.plan.now.to c.args.size i) n) (sym len) (c.longest_array-longest.ensures.each i h);
       slots = omega (arith, fresh-many c.in-Ok.workspace c.bound.result c.longest_array-longest.result is, c.bound.ensures.value);
@@ -24,4 +30,5 @@ returns c i h =
       cross = omega (arith, c.in_ok-reserve.ensures, c.len-assets.ensures.length);
       rows = omega (arith, c.in_ok-reserve-2.ensures, c.len-assets.ensures.length);
       cols = omega (arith, c.longest_array-longest.ensures.room, c.in_ok-cols.ensures.capacity, c.len-assets.ensures.length);
+      tile = omega (arith, wide, c.in_ok-vec.ensures.len);
     }

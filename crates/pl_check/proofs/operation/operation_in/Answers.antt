@@ -1,0 +1,15 @@
+use Rattle.std.proofs.Common.{rules, sym, ◌∙◌, []}
+use Rattle.pl_check.specs.declared.operation.Operation.TheVariants.{SimpleMovingAverage}
+use Rattle.pl_check.proofs.Tables.{taken-at, passed-at, none-left}
+use Rattle.pl_check.proofs.operation.operation_in.Goals as goal
+
+pub returns-then-eq : goal.returns-then-eq
+returns-then-eq c =
+    sym (c.loop-known.invariant ∙ taken-at c.args.name.now c.args.table.now c.loop-known.known-index _ (search rules) (search rules))
+
+pub loop-known-preserved : goal.loop-known-preserved
+loop-known-preserved c =
+    c.loop-known.invariant ∙ passed-at c.args.name.now c.args.table.now c.loop-known.known-index (record { ref_ptr = (0, 0); now = [] }, SimpleMovingAverage) (search rules) (search rules)
+
+pub returns : goal.returns
+returns c = sym (c.loop-known.invariant ∙ none-left c.args.name.now c.args.table.now c.loop-known.known-index (search rules))

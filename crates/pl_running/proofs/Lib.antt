@@ -1,0 +1,7 @@
+pub mod Bounds
+pub mod Exact
+pub mod FirstPlaces
+pub mod Peaks
+pub mod Sliding
+pub mod Squares
+pub mod Windows

@@ -1,0 +1,41 @@
+use Rattle.std.proofs.Common.{◌≡◌, ◌≤◌, ◌<◌, ◌-◌, length, ap, sym, ◌∙◌, FitsSigned, w64, to_z, of_z}
+use Rattle.std.proofs.lemmas.Int.{to_z-of_z}
+use Rattle.pl_spec.specs.Formula.{greatest}
+use Rattle.pl_lanes.specs.Heights.{height}
+use Rattle.pl_lanes.proofs.Bits.{cell-fits}
+use Rattle.pl_factors.proofs.Casts.{wide}
+use Rattle.pl_running.specs.Kept.{first_place}
+use Rattle.pl_running.specs.Spans.{before, after, last}
+use Rattle.pl_running.proofs.Bounds.{at-cell, at-exact, before-cells}
+use Rattle.pl_running.proofs.Peaks.{greatest-cell, kept-is}
+use Rattle.pl_running.proofs.FirstPlaces.{Leaves, greatest-enters, greatest-remains}
+use Rattle.pl_running.proofs.places.joined_highest.Goals as goal
+
+pub is_higher-requires-clause-best : goal.is_higher-requires-clause-best
+is_higher-requires-clause-best c =
+    let fb : FitsSigned w64 c.args.best = c.ranges.best in
+    rw (to_z-of_z w64 c.args.best fb, c.requires.best) (greatest-cell (before c.args.a.now) (before-cells _ c.requires.cells))
+
+pub returns-then-is_higher : goal.returns-then-is_higher
+returns-then-is_higher c =
+    let xs = c.args.a.now in
+    let fb : FitsSigned w64 c.args.best = c.ranges.best in
+    let b : to_z w64 (of_z w64 c.args.best) ≡ greatest (before xs) = to_z-of_z w64 c.args.best fb ∙ c.requires.best in
+    let y : to_z w64 (of_z w64 (last xs)) ≡ last xs = at-exact xs (length xs - 1) c.requires.cells in
+    let leaves : Leaves greatest xs = rw (c.requires.place, c.requires.best) at c.requires.stays in
+    let more : height (greatest (before xs)) < height (last xs) = rw (b, y) at (c.is_higher.ensures.yes c.if-is_higher.true) in
+    let e = greatest-enters xs c.requires.cells c.requires.some leaves more in
+    kept-is _ _ _ _ (wide (last xs) (cell-fits _ (at-cell xs (length xs - 1) c.requires.cells)) ∙ sym e.0)
+    (sym (ap (λ v. first_place v (after xs)) e.0 ∙ e.1))
+
+pub returns-else-is_higher : goal.returns-else-is_higher
+returns-else-is_higher c =
+    let xs = c.args.a.now in
+    let fb : FitsSigned w64 c.args.best = c.ranges.best in
+    let b : to_z w64 (of_z w64 c.args.best) ≡ greatest (before xs) = to_z-of_z w64 c.args.best fb ∙ c.requires.best in
+    let y : to_z w64 (of_z w64 (last xs)) ≡ last xs = at-exact xs (length xs - 1) c.requires.cells in
+    let leaves : Leaves greatest xs = rw (c.requires.place, c.requires.best) at c.requires.stays in
+    let less : height (last xs) ≤ height (greatest (before xs)) = rw (b, y) at (c.is_higher.ensures.no c.if-is_higher.false) in
+    let e = greatest-remains xs c.requires.cells c.requires.some leaves less in
+    kept-is _ _ _ _ (wide c.args.best fb ∙ c.requires.best ∙ sym e.0)
+    (c.saturating_sub.ensures ∙ ap (λ n. n - 1) c.requires.place ∙ sym (ap (λ v. first_place v (after xs)) e.0 ∙ e.1))

@@ -1,0 +1,86 @@
+-- What is kept of the windows of a formula: sums from which its value follows, and which move with the windows.
+use Rattle.std.specs.Prelude.{ℕ, ℤ, pos, List, unwrap_or, position}
+use Rattle.std.specs.Ordering.{int_eq}
+use Rattle.pl_spec.specs.Formula.{present_values, total, count, products, places, differences, gains, losses, greatest, least}
+use Rattle.pl_spec.specs.Kind.{Kind, WindowKind}
+use Rattle.pl_spec.specs.Kind.Kind.{Window}
+use Rattle.pl_spec.specs.Kind.WindowKind.{SimpleMovingAverage, LinearWeightedMovingAverage, WindowSum, WindowMax, WindowMin, FastStochasticOscillator, AroonUp, AroonDown, WindowStd, BollingerMiddle, BollingerLower, BollingerUpper, RSI, VWAP, AverageDollarVolume, WeightedAverageValue, All, Any, AtLeastN, AllPresent}
+
+-- two sums and a count; which they are depends on the kind
+pub record Kept : Type 0 where
+  pub main : ℤ
+  pub beside : ℤ
+  pub number : ℕ
+
+abbrev pub nothing : Kept
+nothing = record { main = pos 0; beside = pos 0; number = 0 }
+
+-- the sum of the present cells, and their count
+abbrev pub sums : List ℤ → Kept
+sums a = record { main = total (present_values a); beside = pos 0; number = count a }
+
+-- the same, and the sum of their squares
+abbrev pub spreads : List ℤ → Kept
+spreads a = record { main = total (present_values a); beside = total (products a a); number = count a }
+
+-- the sum of the weights, and that of the products
+abbrev pub weighted : List ℤ → List ℤ → Kept
+weighted a w = record { main = total (present_values w); beside = total (products a w); number = 0 }
+
+-- the sum of the cells, and that of the cells each times its place
+abbrev pub placed : List ℤ → Kept
+placed a = record { main = total (present_values a); beside = total (products (places a) a); number = 0 }
+
+-- how far the cells rose, and how far they fell
+abbrev pub swings : List ℤ → Kept
+swings a = record { main = gains (differences a); beside = losses (differences a); number = 0 }
+
+-- the greatest cell, and the least
+abbrev pub highest : List ℤ → Kept
+highest a = record { main = greatest a; beside = pos 0; number = 0 }
+
+abbrev pub lowest : List ℤ → Kept
+lowest a = record { main = least a; beside = pos 0; number = 0 }
+
+-- the least low and the greatest high
+abbrev pub range : List ℤ → List ℤ → Kept
+range low high = record { main = least low; beside = greatest high; number = 0 }
+
+-- the place of the first cell that is x, from 0 for the oldest
+unfoldable pub first_place : ℤ → List ℤ → ℕ
+first_place x xs = unwrap_or (position (λ y. int_eq y x) xs) 0
+
+-- the greatest cell, or the least, and its first place
+abbrev pub placed_highest : List ℤ → Kept
+placed_highest a = record { main = greatest a; beside = pos 0; number = first_place (greatest a) a }
+
+abbrev pub placed_lowest : List ℤ → Kept
+placed_lowest a = record { main = least a; beside = pos 0; number = first_place (least a) a }
+
+-- nothing for a kind whose formula is computed anew
+abbrev pub kept_of_window : WindowKind → List ℤ → List ℤ → List ℤ → Kept
+kept_of_window SimpleMovingAverage a b c = sums a
+kept_of_window BollingerMiddle a b c = sums a
+kept_of_window WindowSum a b c = sums a
+kept_of_window All a b c = sums a
+kept_of_window Any a b c = sums a
+kept_of_window (AtLeastN n) a b c = sums a
+kept_of_window AllPresent a b c = sums a
+kept_of_window WindowStd a b c = spreads a
+kept_of_window (BollingerLower k) a b c = spreads a
+kept_of_window (BollingerUpper k) a b c = spreads a
+kept_of_window VWAP a b c = weighted a b
+kept_of_window WeightedAverageValue a b c = weighted a b
+kept_of_window AverageDollarVolume a b c = weighted a b
+kept_of_window LinearWeightedMovingAverage a b c = placed a
+kept_of_window RSI a b c = swings a
+kept_of_window WindowMax a b c = highest a
+kept_of_window WindowMin a b c = lowest a
+kept_of_window FastStochasticOscillator a b c = range b c
+kept_of_window AroonUp a b c = placed_highest a
+kept_of_window AroonDown a b c = placed_lowest a
+kept_of_window k a b c = nothing
+
+unfoldable pub kept_of : Kind → List ℤ → List ℤ → List ℤ → Kept
+kept_of (Window k) a b c = kept_of_window k a b c
+kept_of k a b c = nothing
