@@ -1,7 +1,7 @@
 // The table of a run against its cells, each computed by itself.
 ghost use Rattle.std.specs.Prelude.{◌≡◌, ◌<◌, length, IfOk, IfSome};
 ghost use Rattle.pl_spec.specs.Dates.{IsDay};
-ghost use Rattle.pl_model.specs.Worlds.{IsMade};
+ghost use Rattle.pl_world.specs.Worlds.{IsMade};
 ghost use Rattle.pl_load.specs.Loads.{IsReady};
 
 use crate::case::Case;
