@@ -102,7 +102,7 @@ prove_libraries() {
     local crate
     for crate in "${libraries[@]}"; do
         if ! is_proved "$crate"; then
-            run_in "$room" "$log" rt all check --jobs "$(cat "$room/jobs")" || fail
+            run_in "$room" "$log" rt all check --jobs "$(cat "$room/jobs")" || fail $?
             return
         fi
     done
@@ -112,7 +112,7 @@ prove_program() {
     local words=(run data/p.pl data/sessions.csv data/assets.csv data/bars.csv 2024-01-03 2024-01-09)
     copy_crate pl_main
     list_crates "${libraries[@]}" pl_main
-    run_in "$room/crates/pl_main" "$log" rt run -- "${words[@]}" || fail
+    run_in "$room/crates/pl_main" "$log" rt run -- "${words[@]}" || fail $?
 }
 
 # The program takes the time at which its sources were copied, so that a later edit is seen.
@@ -127,7 +127,7 @@ install_program() {
 # Tells what a failed build said last of what it could not prove, and ends.
 fail() {
     local crate
-    say "the build failed"
+    say "the build failed, with status $1"
     while read -r crate; do
         awk -v head="== $crate" '/^== / { is_it = $0 == head } is_it' "$log" | tail -n 15 >&2
     done < <(sed -n 's/^\(\w*\): failed.*/\1/p' "$log")
