@@ -14,7 +14,7 @@ use Rattle.pl_spec.specs.Order.{acts_at, by_day}
 use Rattle.pl_spec.specs.Parts.{ColumnAdjustment}
 use Rattle.pl_records.specs.Sorted.{insert_by, sorted_by}
 use Rattle.pl_spec.proofs.ByDay.{by_day-is_by_day}
-use Rattle.pl_assets.proofs.Filters.{filter-map}
+use Rattle.pl_lifetimes.proofs.Filters.{filter-map}
 use Rattle.pl_adjust.specs.Columns.{IsByPlace, by_column, by_place, in_column, insert_at_place}
 use Rattle.pl_adjust.proofs.Kept.{in_front, front_order, not_in_front}
 use Rattle.pl_adjust.proofs.OneOrder.{NoneBelow, Rises, none_below_lower, one_order, rises_from_sorted}

@@ -10,7 +10,7 @@ use Rattle.std.proofs.lemmas.List.Folds.{list_any_at, list_any_none}
 use Rattle.std.proofs.lemmas.List.Quantifiers.{position-Some}
 use Rattle.pl_spec.specs.declared.AssetRow.{AssetRow}
 use Rattle.pl_spec.proofs.Places.{nowhere}
-use Rattle.pl_assets.proofs.Filters.{any-same}
+use Rattle.pl_lifetimes.proofs.Filters.{any-same}
 
 -- an asset has the number as its sid
 abbrev pub has_sid : ℤ → List AssetRow → Bool

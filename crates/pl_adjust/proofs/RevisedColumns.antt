@@ -15,8 +15,8 @@ use Rattle.pl_spec.specs.Order.{adjustments_of, by_day, with_revisions}
 use Rattle.pl_spec.specs.Parts.{ColumnAdjustment, ColumnLabel, sid_at, world_of}
 use Rattle.pl_spec.specs.World.{Adjustment, events_of}
 use Rattle.pl_records.specs.Reading.{Record, Fault}
-use Rattle.pl_assets.specs.Assets.{sid_of}
-use Rattle.pl_assets.specs.LabelRules.{HasSid}
+use Rattle.pl_lifetimes.specs.Assets.{sid_of}
+use Rattle.pl_lifetimes.specs.Assets.{HasSid}
 use Rattle.pl_bars.proofs.BarSearch.{IsCell-bar_cell}
 use Rattle.pl_revisions.specs.declared.Revision.{Revision}
 use Rattle.pl_revisions.specs.Revisions.{AreRevisions, Rule, revisions_of}

@@ -17,8 +17,8 @@ use Rattle.pl_spec.specs.Order.{adjustment_in, adjustments_of, by_day, insert_by
 use Rattle.pl_spec.specs.Parts.{ColumnAdjustment, ColumnLabel, adjustment_of, sid_at, world_of}
 use Rattle.pl_spec.specs.World.{Adjustment, events_of}
 use Rattle.pl_records.proofs.Sorts.{sorted-permutes}
-use Rattle.pl_assets.proofs.Columns.{one_col, same_col}
-use Rattle.pl_assets.proofs.Filters.{filter-map, filter-same}
+use Rattle.pl_lifetimes.proofs.Columns.{one_col, same_col}
+use Rattle.pl_lifetimes.proofs.Filters.{filter-map, filter-same}
 use Rattle.pl_adjust.specs.Columns.{by_column, col_in, events_at, in_column}
 use Rattle.pl_adjust.specs.Tables.{adjustments_in}
 use Rattle.pl_adjust.proofs.ByColumn.{filter-sorted_by}

@@ -6,7 +6,7 @@ use Rattle.pl_spec.specs.World.{Adjustment}
 use Rattle.pl_spec.specs.World.Change.{Overwrite}
 use Rattle.pl_spec.specs.Parts.{ColumnAdjustment}
 use Rattle.pl_records.specs.Reading.{Record, Fault, ◌>>=◌}
-use Rattle.pl_assets.specs.LabelRules.{HasSid}
+use Rattle.pl_lifetimes.specs.Assets.{HasSid}
 use Rattle.pl_revisions.specs.declared.Revision.{Revision}
 use Rattle.pl_revisions.specs.Revisions.{Rule, revisions_of}
 use Rattle.pl_adjust.specs.Columns.{by_place, in_column}

@@ -26,7 +26,7 @@ mod seen;
 pub use adjust::{Adjust, Change, Effect, effect_for, ratio_for};
 use columns::Row;
 pub use error::AdjustError;
-use pl_assets::Assets;
+use pl_lifetimes::Assets;
 use pl_calendar::Sessions;
 use pl_fixed::Memory;
 pub use pl_revisions::{MOST_REVISIONS, RevisionsError};

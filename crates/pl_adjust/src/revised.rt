@@ -8,7 +8,7 @@ ghost use Rattle.pl_adjust.specs.Rows.{row_of};
 
 use crate::adjust::{Adjust, Change};
 use crate::columns::Row;
-use pl_assets::Assets;
+use pl_lifetimes::Assets;
 use pl_revisions::Revision;
 use pl_spec::AdjustmentKind as Kind;
 use std::alloc::{AllocError, Global};

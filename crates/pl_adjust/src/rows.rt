@@ -16,7 +16,7 @@ use crate::MOST_ROWS;
 use crate::adjust::{Adjust, Change};
 use crate::columns::Row;
 use crate::error::AdjustError;
-use pl_assets::Assets;
+use pl_lifetimes::Assets;
 use pl_fixed::Ratio;
 use pl_outside::Table;
 use pl_spec::{AdjustmentKind as Kind, RawAdjust};

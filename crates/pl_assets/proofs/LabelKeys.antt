@@ -15,7 +15,7 @@ use Rattle.pl_assets.specs.Labels.{is_from}
 use Rattle.pl_assets.specs.LabelPlaces.{AreKeys, AreNumbered, IsPlace, key, key_of, row_at, shown_rows}
 use Rattle.pl_assets.specs.declared.labels.rows.Place.{Place}
 use Rattle.pl_assets.specs.declared.labels.rows.LabelRows.{LabelRows}
-use Rattle.pl_assets.proofs.Filters.{any-same}
+use Rattle.pl_lifetimes.proofs.Filters.{any-same}
 use Rattle.pl_assets.proofs.TextLists.{any-map}
 use Rattle.pl_assets.proofs.FirstSeen.{Once, seen-once, one_place, same_text, equal_text}
 use Rattle.pl_assets.proofs.LabelOrder.{same_key}

@@ -12,7 +12,7 @@ use Rattle.pl_spec.specs.World.{LabelRow}
 use Rattle.pl_spec.specs.declared.AssetRow.{AssetRow}
 use Rattle.pl_records.proofs.Readings.{rows-keep, under_ok}
 use Rattle.pl_records.proofs.RuleTables.{and_then_some, map_some, told_ok, ok_or-Ok}
-use Rattle.pl_assets.specs.Assets.{sid_of}
+use Rattle.pl_lifetimes.specs.Assets.{sid_of}
 use Rattle.pl_assets.specs.Labels.{Rule, breaks, col_in, in_column, row_of, header, label_in, is_from, is_printable, says_label, label_rows_in, labels_of, table_of, texts_of, LabelTable, IsLabelRow, AreLabels}
 use Rattle.pl_assets.specs.Labels as rules
 use Rattle.pl_assets.specs.declared.TheConstants.{MOST_LABELS, LONGEST_LABEL}

@@ -11,14 +11,15 @@ use Rattle.pl_spec.specs.World.{LabelRow}
 use Rattle.pl_spec.specs.declared.AssetRow.{AssetRow}
 use Rattle.pl_records.proofs.Readings.{under-are, under-fault}
 use Rattle.pl_records.proofs.RuleTables.{and_then_some, map_some, lacks-tells, has-tells, Judges-table}
-use Rattle.pl_assets.specs.Assets.{AreAssets}
+use Rattle.pl_lifetimes.specs.Assets.{AreAssets}
 use Rattle.pl_assets.specs.Labels.{Rule, LabelTable, breaks, col_in, in_column, row_of, header, label_in, is_from, says_label, label_rows_in, labels_of, table_of}
 use Rattle.pl_assets.specs.Labels as rules
-use Rattle.pl_assets.specs.LabelRules.{HasSid, IsLabelRecord, IsRowRecord, StartWith, IsLabel, Breaks, AreLabelsOf, IsLabelsFault}
+use Rattle.pl_lifetimes.specs.Assets.{HasSid}
+use Rattle.pl_assets.specs.LabelRules.{IsLabelRecord, IsRowRecord, StartWith, IsLabel, Breaks, AreLabelsOf, IsLabelsFault}
 use Rattle.pl_assets.specs.declared.TheConstants.{LONGEST_LABEL}
 use Rattle.pl_assets.proofs.LabelKeys.{from_parts, parts_from}
 use Rattle.pl_assets.proofs.LabelFields.{label_form}
-use Rattle.pl_assets.proofs.SidColumns.{sid_form}
+use Rattle.pl_lifetimes.proofs.SidColumns.{sid_form}
 
 -- ---- the rows before
 

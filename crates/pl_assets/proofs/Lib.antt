@@ -1,7 +1,3 @@
-pub mod Filters
-pub mod Columns
-pub mod AssetsRead
-pub mod AssetsSaid
 pub mod TextLists
 pub mod FirstSeen
 pub mod LabelRowsMade
@@ -13,6 +9,5 @@ pub mod LabelTables
 pub mod LabelSearch
 pub mod LabelWorlds
 pub mod LabelsSaid
-pub mod SidColumns
 pub mod CsvFields
 pub mod LabelCuts

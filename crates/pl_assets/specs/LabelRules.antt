@@ -1,5 +1,5 @@
 -- The rules of a labels file in plain words.
-use Rattle.std.specs.Prelude.{◌≡◌, ℕ, ◌^◌, ◌<◌, ◌≤◌, IsTrue, List, length, Some, option_map, slice_get, All, Any}
+use Rattle.std.specs.Prelude.{◌≡◌, ℕ, ◌^◌, ◌<◌, ◌≤◌, IsTrue, List, length, All, Any}
 use Rattle.std.specs.Fmt.{decimal}
 use Rattle.pl_records.specs.Reading.{Record, Fault, field, AreRowsUnder, IsFaultUnder}
 use Rattle.pl_records.specs.RuleTable.{IsFirstBroken, KeepsAll}
@@ -8,7 +8,7 @@ use Rattle.pl_spec.specs.Names.{is_name}
 use Rattle.pl_spec.specs.Parts.{ColumnLabel}
 use Rattle.pl_spec.specs.World.{LabelRow}
 use Rattle.pl_spec.specs.declared.AssetRow.{AssetRow}
-use Rattle.pl_assets.specs.Assets.{sid_of}
+use Rattle.pl_lifetimes.specs.Assets.{HasSid}
 use Rattle.pl_assets.specs.Labels.{Rule, BadHeader, TooMany, BadField, LabelTooLong, UnknownSid, DuplicateStart, LabelTable, rules, header, texts_of}
 use Rattle.pl_assets.specs.declared.TheConstants.{MOST_LABELS, LONGEST_LABEL}
 
@@ -23,10 +23,6 @@ pub record IsLabelRecord (r : Record) (l : LabelRow) : Type 0 where
   pub start : IsDate (field r 2) l.start
   pub text : field r 3 ≡ l.text
   pub printable : All (λ b. (32 ≤ b) × (b ≤ 126)) l.text
-
--- the asset in the column has the sid
-abbrev pub HasSid : List AssetRow → ℕ → ℕ → Type 0
-HasSid assets col sid = option_map sid_of (slice_get assets col) ≡ Some sid
 
 -- the row is that label in the column
 pub record IsInColumn (l : LabelRow) (col : ℕ) (row : ColumnLabel) : Type 0 where

@@ -1,7 +1,3 @@
-pub mod Assets
-pub mod Rules
-pub mod Faults
-pub mod Seen
 pub mod Labels
 pub mod LabelFaults
 pub mod LabelPlaces

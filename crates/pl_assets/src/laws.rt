@@ -1,5 +1,5 @@
-//! What an assets file and a labels file say, in plain words, what the labels of a table are in a
-//! world, and what their fields are. The functions do nothing: the contract of each is a law of the
+//! What a labels file says, in plain words, what the labels of a table are in a world, and what their
+//! fields are. The functions do nothing: the contract of each is a law of the
 //! definitions that the calls' contracts cite.
 
 ghost use Rattle.std.specs.Prelude.{◌≡◌, ◌↔◌, ℕ, List, Ok, Err};
@@ -8,23 +8,10 @@ ghost use Rattle.pl_spec.specs.declared.AssetRow.{AssetRow};
 ghost use Rattle.pl_records.specs.Reading.{Record, Fault, Judges};
 ghost use Rattle.pl_records.specs.RuleTable.{IsFirstBroken};
 ghost use Rattle.pl_spec.specs.Text.{quote};
-ghost use Rattle.pl_assets.specs.Assets.{Rule, AreAssets, assets_of, rules, says_asset};
-ghost use Rattle.pl_assets.specs.Rules.{AreAssetsOf, Breaks, IsAsset, IsAssetsFault};
+ghost use Rattle.pl_lifetimes.specs.Assets.{AreAssets};
 ghost use Rattle.pl_assets.specs.Labels as labels;
 ghost use Rattle.pl_assets.specs.LabelRules as label_rules;
 ghost use Rattle.pl_assets.specs.LabelWorlds.{LabelsAreThose};
-
-/// A file is read as assets exactly where it has its header and each further record is an asset
-/// with a sid of its own; they stand by ascending sid. It has a fault exactly where the header is
-/// missing, or where that record breaks that rule and no earlier one, and the records before it are
-/// assets.
-pub fn assets_in_plain_words()
-    ensures record { Judges IsAsset (λ before r. IsFirstBroken rules (Breaks before r)) says_asset }
-    ensures assets { (records : List Record) (assets : List AssetRow) → (assets_of records ≡ Ok assets)
-        ↔ AreAssetsOf records assets }
-    ensures fault { (records : List Record) (fault : Fault Rule) → (assets_of records ≡ Err fault)
-        ↔ IsAssetsFault records fault }
-{}
 
 /// A file is read as labels exactly where it has its header and each further record is a label of
 /// an asset, the only one of its name, asset and start; they stand in the order of the file. It has

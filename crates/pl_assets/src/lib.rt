@@ -1,116 +1,15 @@
-//! The assets: their sids and the days on which they exist. A column is the place of an asset among
-//! them by ascending sid, from 0.
+//! The labels of the assets, as their sectors, each from a day on; and the assets themselves, which are those of
+//! `pl_lifetimes`.
 #![tactic(auto)]
 
-ghost use Rattle.std.specs.Prelude.{◌≡◌, ◌<◌, ◌≤◌, ◌^◌, ◌==◌, All, length, slice_get, position, Some, IfOk, IfSome, option_map};
-ghost use Rattle.pl_records.specs.Reading.{Answers};
-ghost use Rattle.pl_spec.specs.World.{lives_on};
-ghost use Rattle.pl_records.specs.Records.{csv_records};
-ghost use Rattle.pl_assets.specs.Assets.{AreAssets, assets_of, sid_of};
-ghost use Rattle.pl_assets.specs.Faults.{fault_of};
-
-mod error;
 mod labels;
 pub mod laws;
-mod reading;
-mod search;
 
-pub use error::AssetsError;
 pub use labels::{Labels, LabelsError};
-use pl_fixed::Memory;
-pub use pl_spec::AssetRow;
-use std::alloc::Global;
-use std::marker::Model;
-
-/// How many assets there may be.
-pub const MOST_ASSETS: usize = 8_000;
+pub use pl_lifetimes::{AssetRow, Assets, AssetsError, MOST_ASSETS};
 
 /// How many rows of labels there may be.
 pub const MOST_LABELS: usize = 200_000;
 
 /// How many bytes a label may have.
 pub const LONGEST_LABEL: usize = 64;
-
-/// The assets by ascending sid, at most 8,000 of them.
-#[derive(Debug, Drop)]
-pub struct Assets {
-    rows: Vec<AssetRow>,
-}
-
-impl Model for Assets {
-    ghost use Rattle.std.specs.Prelude.{List};
-    ghost use Rattle.pl_spec.specs.declared.AssetRow.{AssetRow};
-    ghost use Rattle.pl_assets.specs.Assets.{AreAssets};
-
-    ghost Value = { List AssetRow };
-
-    ghost view = { λ a. a.rows.items };
-
-    ghost invariant = { λ a. AreAssets a.rows.items };
-}
-
-impl Assets {
-    /// The assets of a file: the header `sid,start,end`, and in each further record a sid and two
-    /// dates, in any order of sids.
-    pub fn read(alloc: Global, bytes: &[u8]) -> Result<Assets, AssetsError>
-        // The assets of the records, or the fault of the first faulty one. Only want of memory may
-        // come beside.
-        ensures exact { Answers (λ a. a) fault_of result (assets_of (csv_records bytes.now)) }
-        ensures assets { IfOk result AreAssets }
-    {
-        let rows = reading::read_assets(alloc, bytes)?;
-        Ok(Assets { rows })
-    }
-
-    /// The assets of these rows.
-    pub fn from_rows(rows: Vec<AssetRow>) -> Assets
-        requires { AreAssets rows.items }
-        ensures { result ≡ rows.items }
-    {
-        Assets { rows }
-    }
-
-    /// The same assets once more.
-    pub fn copy(&self, alloc: Global) -> Result<Assets, Memory>
-        ensures { IfOk result (λ a. a ≡ self.now) }
-    {
-        let rows = Vec::from_slice(alloc, &self.rows)?;
-        Ok(Assets { rows })
-    }
-
-    /// How many assets there are. Their sids ascend, and are numbers of 32 bits.
-    pub fn len(&self) -> usize
-        ensures length { result ≡ length self.now }
-        ensures assets { AreAssets self.now }
-        ensures few { result ≤ MOST_ASSETS }
-        ensures small { All (λ a. a.sid < 2 ^ 32) self.now }
-    {
-        self.rows.len()
-    }
-
-    /// The sid of a column.
-    pub fn sid(&self, col: usize) -> u32
-        requires { col < length self.now }
-        ensures { option_map sid_of (slice_get self.now col) ≡ Some result }
-    {
-        self.rows[col].sid
-    }
-
-    /// The column of a sid, if an asset has it.
-    pub fn col_of(&self, sid: u32) -> Option<usize>
-        ensures within { IfSome result (λ i. i < length self.now) }
-        ensures few { IfSome result (λ i. i < MOST_ASSETS) }
-        ensures exact { result ≡ position (λ a. sid_of a == sid) self.now }
-    {
-        search::col_of(&self.rows, sid)
-    }
-
-    /// Whether the asset of a column exists on a day: later than its start, and up to its end.
-    pub fn exists(&self, col: usize, day: i32) -> bool
-        requires { col < length self.now }
-        ensures exact { option_map (lives_on day) (slice_get self.now col) ≡ Some result }
-        ensures assets { AreAssets self.now }
-    {
-        search::lives(self.rows[col], day)
-    }
-}

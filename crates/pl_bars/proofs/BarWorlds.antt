@@ -9,7 +9,7 @@ use Rattle.pl_spec.specs.declared.AssetRow.{AssetRow}
 use Rattle.pl_spec.specs.declared.BarRow.{BarRow}
 use Rattle.pl_spec.specs.declared.Column.{Column}
 use Rattle.pl_spec.specs.declared.Column.TheVariants.{OpenPrice, High, Low, Close, Volume}
-use Rattle.pl_assets.proofs.Columns.{same_col}
+use Rattle.pl_lifetimes.proofs.Columns.{same_col}
 use Rattle.pl_bars.specs.Bars.{is_at, cell_of, cell_at}
 use Rattle.pl_bars.specs.Worlds.{CellsAreRaw}
 

@@ -18,11 +18,11 @@ use Rattle.pl_spec.specs.declared.AssetRow.{AssetRow}
 use Rattle.pl_spec.specs.declared.BarRow.{BarRow}
 use Rattle.pl_records.proofs.Readings.{under-are, under-fault}
 use Rattle.pl_records.proofs.RuleTables.{and_then_some, map_some, lacks-tells, has-tells, Judges-table}
-use Rattle.pl_assets.proofs.SidColumns.{sid_form}
+use Rattle.pl_lifetimes.proofs.SidColumns.{sid_form}
 use Rattle.pl_records.proofs.Sorts.{sorted-are, sorted-fault}
 use Rattle.pl_spec.proofs.Places.{nowhere}
 use Rattle.pl_calendar.specs.Days.{AreDays}
-use Rattle.pl_assets.specs.Assets.{sid_of, AreAssets}
+use Rattle.pl_lifetimes.specs.Assets.{sid_of, AreAssets}
 use Rattle.pl_bars.specs.declared.fields.Fields.{Fields}
 use Rattle.pl_bars.specs.Bars.{Rule, breaks, session_in, col_in, placed_at, bar_of, header, fields_in, is_negative, is_at, says_bar, key_of, rows_in, bars_of, is_before}
 use Rattle.pl_bars.specs.Bars as rules

@@ -2,9 +2,9 @@
 use Rattle.std.proofs.Common.{◌≡◌, ◌↔◌, ℕ, List, [], ◌∷◌, codes, Option, Some, None, refl, ap, ◌∙◌, Bool, true, false, cond}
 use Rattle.std.specs.List.{find}
 use Rattle.std.specs.Str.{bytes_eq}
+use Rattle.std.proofs.lemmas.Slice.Eq.{bytes_eq-Decides}
 use Rattle.pl_spec.specs.declared.Column.{Column}
 use Rattle.pl_spec.specs.declared.Column.TheVariants.{OpenPrice, High, Low, Close, Volume}
-use Rattle.pl_assets.proofs.FirstSeen.{same_text}
 use Rattle.pl_bars.specs.ColumnNames.{column_in, column_name}
 
 -- what is found passes the test
@@ -18,7 +18,7 @@ found p (d ∷ ds) c e = here (p d) refl e (found p ds c)
 
 named : (text : List ℕ) (c : Column) → column_in text ≡ Some c → text ≡ column_name c
 unfolding column_in
-named text c e = same_text text (column_name c) (found (λ d. bytes_eq text (column_name d)) (OpenPrice ∷ High ∷ Low ∷ Close ∷ Volume ∷ []) c e)
+named text c e = (bytes_eq-Decides text (column_name c)).0 (found (λ d. bytes_eq text (column_name d)) (OpenPrice ∷ High ∷ Low ∷ Close ∷ Volume ∷ []) c e)
 
 name_back : (c : Column) → column_in (column_name c) ≡ Some c
 unfolding column_in

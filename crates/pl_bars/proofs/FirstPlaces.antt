@@ -7,7 +7,7 @@ use Rattle.std.proofs.lemmas.Option.{get_or_from_slice_get, slice_get-get_or}
 use Rattle.std.proofs.lemmas.Bool.Decides.{nat_tests}
 use Rattle.pl_spec.proofs.Places.{is_at}
 use Rattle.pl_spec.specs.declared.AssetRow.{AssetRow}
-use Rattle.pl_assets.specs.Assets.{sid_of}
+use Rattle.pl_lifetimes.specs.Assets.{sid_of}
 
 same_day : (a day : ℤ) → a ≡ day → int_eq a day ≡ true
 same_day a day e = grind (arith, ints)

@@ -16,7 +16,7 @@ use Rattle.pl_spec.specs.declared.BarRow.{BarRow}
 use Rattle.pl_spec.specs.declared.Column.{Column}
 use Rattle.pl_spec.specs.declared.Column.TheVariants.{OpenPrice, High, Low, Close, Volume}
 use Rattle.pl_fixed.specs.Reading.{read}
-use Rattle.pl_assets.specs.Assets.{sid_of}
+use Rattle.pl_lifetimes.specs.Assets.{sid_of}
 use Rattle.pl_bars.specs.declared.fields.Fields.{Fields}
 use Rattle.pl_bars.specs.declared.TheConstants.{MOST_BARS}
 

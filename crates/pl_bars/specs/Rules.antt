@@ -8,7 +8,7 @@ use Rattle.pl_spec.specs.Dates.{IsDate}
 use Rattle.pl_spec.specs.Decimals.{Decimal, IsDecimal, IsReadAs}
 use Rattle.pl_spec.specs.declared.AssetRow.{AssetRow}
 use Rattle.pl_spec.specs.declared.BarRow.{BarRow}
-use Rattle.pl_assets.specs.Assets.{sid_of}
+use Rattle.pl_lifetimes.specs.Assets.{sid_of}
 use Rattle.pl_bars.specs.declared.fields.Fields.{Fields}
 use Rattle.pl_bars.specs.Bars.{Rule, BadHeader, TooMany, BadField, NotSession, UnknownSid, Negative, Duplicate, rules, header, is_before}
 use Rattle.pl_bars.specs.declared.TheConstants.{MOST_BARS}

@@ -1,6 +1,6 @@
 ghost use Rattle.std.specs.Prelude.{◌≡◌, ℕ, ◌+◌, ◌*◌, ◌<◌, ◌≤◌, ◌==◌, ◌&&◌, ◌||◌, [], length, IfOk, vec_len};
 ghost use Rattle.pl_calendar.specs.declared.TheConstants.{MOST_SESSIONS};
-ghost use Rattle.pl_assets.specs.declared.TheConstants.{MOST_ASSETS};
+ghost use Rattle.pl_lifetimes.specs.declared.TheConstants.{MOST_ASSETS};
 
 use std::alloc::{AllocError, Global};
 

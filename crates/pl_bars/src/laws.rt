@@ -8,7 +8,7 @@ ghost use Rattle.pl_spec.specs.declared.BarRow.{BarRow};
 ghost use Rattle.pl_records.specs.Reading.{Record, Fault, Judges};
 ghost use Rattle.pl_records.specs.RuleTable.{IsFirstBroken};
 ghost use Rattle.pl_calendar.specs.Days.{AreDays};
-ghost use Rattle.pl_assets.specs.Assets.{AreAssets};
+ghost use Rattle.pl_lifetimes.specs.Assets.{AreAssets};
 ghost use Rattle.pl_bars.specs.Bars.{bars_of, Rule, rules, says_bar};
 ghost use Rattle.pl_bars.specs.Rules.{AreBarsOf, Breaks, IsBar, IsBarsFault};
 ghost use Rattle.pl_bars.specs.Worlds.{CellsAreRaw};

@@ -22,7 +22,7 @@ mod search;
 
 pub use error::BarsError;
 pub use fields::{is_below_0, read_cell, read_column};
-use pl_assets::Assets;
+use pl_lifetimes::Assets;
 use pl_calendar::Sessions;
 use pl_fixed::Memory;
 pub use pl_spec::BarRow;

@@ -2,9 +2,9 @@
 //! session behind those of the bar before it, so these are tried before they are searched for.
 ghost use Rattle.std.specs.Prelude.{◌≡◌, ◌<◌, ◌==◌, length, position, IfSome};
 ghost use Rattle.std.specs.Ordering.{int_eq};
-ghost use Rattle.pl_assets.specs.Assets.{sid_of};
+ghost use Rattle.pl_lifetimes.specs.Assets.{sid_of};
 
-use pl_assets::Assets;
+use pl_lifetimes::Assets;
 use pl_calendar::Sessions;
 use pl_spec::BarRow;
 

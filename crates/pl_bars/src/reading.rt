@@ -12,7 +12,7 @@ use crate::bar_set::BarSet;
 use crate::error::BarsError;
 use crate::fields::{fields_of, has_negative};
 use crate::places::{col_of, session_of};
-use pl_assets::Assets;
+use pl_lifetimes::Assets;
 use pl_calendar::Sessions;
 use pl_records::Records;
 use pl_spec::BarRow;

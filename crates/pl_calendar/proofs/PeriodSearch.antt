@@ -9,7 +9,7 @@ use Rattle.std.proofs.lemmas.Option.{slice_get-get_or}
 use Rattle.pl_spec.specs.declared.Frequency.{Frequency}
 use Rattle.pl_spec.specs.Periods.{period, same_period, first_session, period_start}
 use Rattle.pl_spec.proofs.Places.{first_at}
-use Rattle.pl_laws.proofs.Rises.{period-rises}
+use Rattle.pl_spec.proofs.PeriodsRise.{period-rises}
 use Rattle.pl_calendar.specs.Days.{AreDays}
 use Rattle.pl_calendar.proofs.DaySearch.{not_later}
 

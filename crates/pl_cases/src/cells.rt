@@ -1,14 +1,14 @@
 // The table of a run against its cells, each computed by itself.
 ghost use Rattle.std.specs.Prelude.{◌≡◌, ◌<◌, length, IfOk, IfSome};
 ghost use Rattle.pl_spec.specs.Dates.{IsDay};
-ghost use Rattle.pl_model.specs.Worlds.{IsMade};
+ghost use Rattle.pl_world.specs.Worlds.{IsMade};
 ghost use Rattle.pl_load.specs.Loads.{IsReady};
 
 use crate::case::Case;
 use crate::fields::{Field, behind_field};
 use crate::parts::{keeper_of, shelf_of};
 use anyhow::{Context, Result, bail};
-use pl_explain::reach_at;
+use pl_planner::reach_at;
 use pl_fixed::{Steps, write_day};
 use pl_load::{Loaded, load};
 use pl_model::{World, cell_now};

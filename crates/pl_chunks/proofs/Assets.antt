@@ -16,7 +16,7 @@ use Rattle.pl_spec.specs.Parts.{sid_at}
 use Rattle.pl_spec.specs.Graph.{contains, used_terms}
 use Rattle.pl_spec.specs.Table.{Pipeline}
 use Rattle.pl_spec.specs.World.{World, exists, living_sids, lives_on, day_of}
-use Rattle.pl_model.proofs.Lifetimes.{among-at, is_among}
+use Rattle.pl_world.proofs.Lifetimes.{among-at, is_among}
 use Rattle.pl_terms.specs.Uses.{outputs}
 use Rattle.pl_planner.specs.Plans.{Planned, IsPlanOf, is_used, low_at}
 use Rattle.pl_values.specs.Arrays.{HasAll}

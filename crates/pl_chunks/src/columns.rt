@@ -3,14 +3,14 @@ ghost use Rattle.std.specs.Prelude.{◌≡◌, ◌≤◌, ◌<◌, pos, length, 
 ghost use Rattle.std.specs.List.{range_with_len};
 ghost use Rattle.pl_spec.specs.Parts.{sid_at};
 ghost use Rattle.pl_spec.specs.World.{exists};
-ghost use Rattle.pl_model.specs.Worlds.{world_of};
+ghost use Rattle.pl_world.specs.Worlds.{world_of};
 ghost use Rattle.pl_terms.specs.Checked.{pipeline_of};
 ghost use Rattle.pl_planner.specs.Plans.{IsPlanOf};
 ghost use Rattle.pl_chunks.specs.Chunks.{columns_of, lives_within};
 
 use crate::lows::least_low;
 use crate::pieces::Chunk;
-use pl_model::World;
+use pl_world::World;
 use pl_planner::Plan;
 use pl_terms::Checked;
 

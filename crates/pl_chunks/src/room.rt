@@ -1,6 +1,6 @@
 //! How long the arrays of a run are at most.
 ghost use Rattle.std.specs.Prelude.{◌≡◌, ◌≤◌, ◌<◌, ◌+◌, ◌-◌, ◌^◌, ℕ, true, Some, length, slice_get, vec_capacity};
-ghost use Rattle.pl_model.specs.Worlds.{world_of};
+ghost use Rattle.pl_world.specs.Worlds.{world_of};
 ghost use Rattle.pl_terms.specs.Checked.{pipeline_of};
 ghost use Rattle.pl_planner.specs.Plans.{IsPlanOf, is_used, low_at};
 ghost use Rattle.pl_spec.specs.Term.{Node};
@@ -9,7 +9,7 @@ ghost use Rattle.pl_chunks.specs.Room.{HasRoom, IsMost};
 
 use crate::columns::put_columns;
 use crate::pieces::{Chunk, chunk_at, chunk_count};
-use pl_model::World;
+use pl_world::World;
 use pl_planner::Plan;
 use pl_terms::{Checked, TermId};
 

@@ -18,7 +18,7 @@ use Rattle.pl_judge.specs.Stages.{IsRisen}
 use Rattle.pl_judge.specs.Work.{work}
 use Rattle.pl_load.specs.declared.loading.Loaded.{Loaded}
 use Rattle.pl_load.specs.Loads.{IsLoad, IsLoaded}
-use Rattle.pl_model.specs.Worlds.{owned_world}
+use Rattle.pl_world.specs.Worlds.{owned_world}
 use Rattle.pl_cli.specs.declared.commands.Stats.{Stats}
 use Rattle.pl_cli.specs.Texts.{text_of, TakesSteps}
 use Rattle.pl_cli.specs.Runs.{Observed}

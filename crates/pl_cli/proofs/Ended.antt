@@ -32,8 +32,8 @@ use Rattle.pl_planner.specs.Plans.{Planned, extra}
 use Rattle.pl_plan_text.specs.Text.{plan_text}
 use Rattle.pl_runner.specs.Runs.{run_steps}
 use Rattle.pl_load.specs.Loads.{IsLoad, IsLoaded, IsPlanLoad}
-use Rattle.pl_model.specs.Worlds.{owned_world}
-use Rattle.pl_model.specs.Known.{ShowsSame}
+use Rattle.pl_world.specs.Worlds.{owned_world}
+use Rattle.pl_world.specs.Known.{ShowsSame}
 use Rattle.pl_judge.specs.Known.{world_known}
 use Rattle.pl_cli.specs.declared.commands.Stats.{Stats}
 use Rattle.pl_cli.specs.Texts.{text_of, check_text, numbers_of, table_stats, run_stats, TakesSteps, TellsNumbers}

@@ -9,16 +9,16 @@ use Rattle.pl_lines.specs.Texts as lines
 use Rattle.pl_lines.specs.Texts.{MOST_LINES}
 use Rattle.pl_facts.specs.Facts.Fact.{Worth}
 use Rattle.pl_facts.specs.Walks.{derivation, facts_for, line_for}
-use Rattle.pl_explain.specs.declared.walk.ExplainError.{ExplainError}
-use Rattle.pl_explain.specs.declared.walk.ExplainError.TheVariants as errors
+use Rattle.pl_lines.specs.declared.error.ExplainError.{ExplainError}
+use Rattle.pl_lines.specs.declared.error.ExplainError.TheVariants as errors
 use Rattle.pl_outside.specs.Files.{Files}
 use Rattle.pl_outside.specs.Lists.{Lists}
 use Rattle.pl_outside.specs.Taken.{Writes}
 use Rattle.pl_outside.proofs.Pieces.{writes-over}
 use Rattle.pl_terms.specs.Checked.{pipeline_of}
-use Rattle.pl_model.specs.declared.owned.OwnedWorld.{OwnedWorld}
-use Rattle.pl_model.specs.declared.world.World as lent
-use Rattle.pl_model.specs.Worlds.{owned_world, world_of}
+use Rattle.pl_world.specs.declared.owned.OwnedWorld.{OwnedWorld}
+use Rattle.pl_world.specs.declared.world.World as lent
+use Rattle.pl_world.specs.Worlds.{owned_world, world_of}
 use Rattle.pl_words.specs.Request.{Explain, ExplainRequest}
 use Rattle.pl_judge.specs.declared.fault.Fault.{Fault}
 use Rattle.pl_judge.specs.declared.fault.Fault.TheVariants.{Unwritten, Memory, Passed}

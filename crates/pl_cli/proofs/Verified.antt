@@ -9,7 +9,7 @@ use Rattle.pl_outside.specs.Lists.{Lists}
 use Rattle.pl_outside.specs.Taken.{Writes}
 use Rattle.pl_outside.proofs.Pieces.{writes-over}
 use Rattle.pl_terms.specs.Checked.{pipeline_of}
-use Rattle.pl_model.specs.Worlds.{owned_world}
+use Rattle.pl_world.specs.Worlds.{owned_world}
 use Rattle.pl_words.specs.Request.{Verify, VerifyRequest}
 use Rattle.pl_judge.specs.declared.fault.Fault.{Fault}
 use Rattle.pl_judge.specs.declared.fault.Fault.TheVariants.{Unwritten, Memory}

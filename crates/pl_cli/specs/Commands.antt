@@ -14,7 +14,7 @@ use Rattle.pl_judge.specs.Steps.{first_fault}
 use Rattle.pl_judge.specs.Work.{work}
 use Rattle.pl_judge.specs.Stages.{IsStop}
 use Rattle.pl_load.specs.declared.loading.Loaded.{Loaded}
-use Rattle.pl_model.specs.Worlds.{owned_world}
+use Rattle.pl_world.specs.Worlds.{owned_world}
 use Rattle.pl_runner.specs.Runs.{run_steps}
 use Rattle.pl_feed.specs.Feeds.{daily_steps}
 use Rattle.pl_cli.specs.declared.commands.Stats.{Stats}

@@ -4,7 +4,7 @@ ghost use Rattle.pl_outside.specs.Counts.{Rose};
 ghost use Rattle.pl_outside.specs.Taken.{Writes};
 ghost use Rattle.pl_outside.specs.Left.{Leaves, LeavesSink, IsUntouched};
 ghost use Rattle.pl_facts.specs.Right as spec;
-ghost use Rattle.pl_model.specs.Worlds.{owned_world, IsOwned};
+ghost use Rattle.pl_world.specs.Worlds.{owned_world, IsOwned};
 ghost use Rattle.pl_terms.specs.Checked.{pipeline_of};
 ghost use Rattle.pl_words.specs.Request.{Verify};
 ghost use Rattle.pl_words.specs.Views.{verify_of};

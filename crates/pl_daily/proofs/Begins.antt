@@ -13,7 +13,7 @@ use Rattle.pl_spec.specs.Table.{Pipeline, value_of, in_array}
 use Rattle.pl_spec.specs.Term.{term_at}
 use Rattle.pl_spec.specs.Window.{before}
 use Rattle.pl_spec.proofs.Places.{first_at}
-use Rattle.pl_laws.proofs.Rises.{period-rises}
+use Rattle.pl_spec.proofs.PeriodsRise.{period-rises}
 use Rattle.pl_laws.proofs.Starts.{eq_self, start-same, start-within}
 use Rattle.pl_cross.specs.Arrays.{sid_in}
 use Rattle.pl_rings.specs.Days.{Start, FedDay, fed, days_of, last_day, last_session, IsStart, AreFed}

@@ -6,7 +6,7 @@ use Rattle.pl_spec.specs.declared.AssetRow.{AssetRow}
 use Rattle.pl_spec.specs.Rounding.{IsCell}
 use Rattle.pl_spec.specs.Formula.{is_true, truth}
 use Rattle.pl_spec.specs.World.{lives_on}
-use Rattle.pl_assets.specs.Assets.{sid_of}
+use Rattle.pl_lifetimes.specs.Assets.{sid_of}
 use Rattle.pl_cross.specs.Arrays.{sid_in}
 use Rattle.pl_values.specs.Arrays.{chosen, kept_or}
 use Rattle.pl_day_rows.specs.Rows.{Shows, lives_at, sids_of}

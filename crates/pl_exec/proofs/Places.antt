@@ -15,7 +15,7 @@ use Rattle.pl_spec.specs.declared.Column.TheVariants.{OpenPrice, High, Low, Clos
 use Rattle.std.proofs.lemmas.Bool.{true≢false, eqb-true, eq-eqb}
 use Rattle.pl_terms.specs.declared.node.Node.{Node}
 use Rattle.pl_terms.specs.Nodes.{graph_of, node_of}
-use Rattle.pl_assets.specs.Assets.{sid_of}
+use Rattle.pl_lifetimes.specs.Assets.{sid_of}
 use Rattle.pl_cross.specs.Arrays.{sid_in}
 use Rattle.pl_values.specs.Arrays.{chosen}
 

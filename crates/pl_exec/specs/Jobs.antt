@@ -22,7 +22,7 @@ use Rattle.pl_terms.specs.Nodes.{node_of}
 use Rattle.pl_terms.specs.declared.node.Node.{Node}
 use Rattle.pl_terms.specs.declared.node.TermId.{TermId}
 use Rattle.pl_terms.specs.Sorts.{is_windowed}
-use Rattle.pl_model.specs.Worlds.{world_of, PartsMakeAWorld}
+use Rattle.pl_world.specs.Worlds.{world_of, PartsMakeAWorld}
 use Rattle.pl_planner.specs.Plans.{IsPlanOf, is_used, slot_of, column_slot}
 use Rattle.pl_values.specs.Arrays.{HasAll, Fills, IsKeep, empty_cell, is_kept}
 use Rattle.pl_adjarray.specs.Buffered.{Buffered, applied_at}

@@ -8,7 +8,7 @@ ghost use Rattle.pl_exec.specs.Slotted.{IsHeld};
 ghost use Rattle.pl_exec.specs.Tasks.{IsArray, graph_in, low_in};
 ghost use Rattle.pl_exec.specs.Jobs.{IsJob, task_of};
 
-use pl_model::World;
+use pl_world::World;
 use pl_planner::Plan;
 use pl_terms::{Checked, Input, Node, TermId, TermKind};
 use pl_workspace::Workspace;

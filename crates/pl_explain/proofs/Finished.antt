@@ -25,15 +25,15 @@ use Rattle.pl_lines.specs.declared.line.Line.{Line}
 use Rattle.pl_lines.specs.Listed.{line_of}
 use Rattle.pl_lines.specs.Lines.Line.{SeenLine, ValueLine}
 use Rattle.pl_lines.specs.Texts.{AreCells, AreWritable, IsWritable, MOST_LINES}
-use Rattle.pl_lines.proofs.Each.{Each, each_front, each_back, each_of_map, each_at}
+use Rattle.pl_spec.proofs.Each.{Each, each_front, each_back, each_of_map, each_at}
 use Rattle.pl_facts.specs.Facts.{Fact, number_in, number_facts, premises}
 use Rattle.pl_facts.specs.Facts.Fact.{Seen, Worth}
 use Rattle.pl_facts.specs.Laws as laws
 use Rattle.pl_facts.specs.Right.{after_each, has_sid, is_fitting, seen_cells}
 use Rattle.pl_facts.specs.Walks.{is_in, line_for, depth_of, derivation}
 use Rattle.pl_facts.proofs.Walking.{complete}
-use Rattle.pl_model.specs.declared.world.World.{World}
-use Rattle.pl_model.specs.Worlds.{world_of, PartsMakeAWorld}
+use Rattle.pl_world.specs.declared.world.World.{World}
+use Rattle.pl_world.specs.Worlds.{world_of, PartsMakeAWorld}
 use Rattle.pl_told.specs.declared.fact.Fact as code
 use Rattle.pl_told.specs.declared.told.Told.{Told}
 use Rattle.pl_told.specs.declared.rows.Rows.{Rows}

@@ -18,8 +18,8 @@ use Rattle.pl_facts.specs.Laws.{tells_world}
 use Rattle.pl_facts.proofs.Truths.{same_is, is_same}
 use Rattle.pl_facts.proofs.Standing.{right_is, repeat_is}
 use Rattle.pl_terms.specs.Checked.{Parts, pipeline_of}
-use Rattle.pl_model.specs.declared.world.World.{World}
-use Rattle.pl_model.specs.Worlds.{world_of}
+use Rattle.pl_world.specs.declared.world.World.{World}
+use Rattle.pl_world.specs.Worlds.{world_of}
 use Rattle.pl_told.specs.declared.told.Told.{Told}
 use Rattle.pl_told.specs.declared.rows.Rows.{Rows}
 use Rattle.pl_told.specs.Looking.{look}

@@ -1,4 +1,3 @@
-mod Depths
 mod Passing
 mod Judging
 mod Used

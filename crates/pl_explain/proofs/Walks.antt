@@ -6,8 +6,8 @@ use Rattle.std.proofs.lemmas.List.{map-append, length-map}
 use Rattle.std.proofs.lemmas.List.Folds.{list_any-append}
 use Rattle.std.proofs.lemmas.List.Sums.{fold-append}
 use Rattle.pl_terms.specs.Checked.{Parts, pipeline_of}
-use Rattle.pl_model.specs.declared.world.World.{World}
-use Rattle.pl_model.specs.Worlds.{world_of}
+use Rattle.pl_world.specs.declared.world.World.{World}
+use Rattle.pl_world.specs.Worlds.{world_of}
 use Rattle.pl_lines.specs.declared.line.Line.{Line}
 use Rattle.pl_lines.specs.Listed.{line_of}
 use Rattle.pl_lines.specs.Texts.{AreWritable, IsWritable, MOST_LINES}

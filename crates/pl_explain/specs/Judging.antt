@@ -5,8 +5,8 @@ use Rattle.pl_spec.specs.Parts.{sid_at}
 use Rattle.pl_spec.specs.Table.{Pipeline}
 use Rattle.pl_terms.specs.Checked.{Parts, pipeline_of}
 use Rattle.pl_terms.specs.Uses.{is_used}
-use Rattle.pl_model.specs.declared.world.World.{World}
-use Rattle.pl_model.specs.Worlds.{world_of}
+use Rattle.pl_world.specs.declared.world.World.{World}
+use Rattle.pl_world.specs.Worlds.{world_of}
 use Rattle.pl_lines.specs.Lines.{Line}
 use Rattle.pl_facts.specs.Facts.{Fact, number_in, premises}
 use Rattle.pl_facts.specs.Facts.Fact.{Seen, Worth}

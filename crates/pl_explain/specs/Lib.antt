@@ -1,5 +1,4 @@
 -- What the contracts cite.
-pub mod Reaching
 pub mod Judging
 pub mod Reading
 pub mod Walking

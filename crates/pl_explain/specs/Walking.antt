@@ -5,8 +5,8 @@ use Rattle.pl_spec.specs.World.{day_of}
 use Rattle.pl_spec.specs.Term.{term_at}
 use Rattle.pl_spec.specs.Graph.{reach}
 use Rattle.pl_terms.specs.Checked.{Parts, pipeline_of}
-use Rattle.pl_model.specs.declared.world.World.{World}
-use Rattle.pl_model.specs.Worlds.{world_of}
+use Rattle.pl_world.specs.declared.world.World.{World}
+use Rattle.pl_world.specs.Worlds.{world_of}
 use Rattle.pl_lines.specs.Listed.{line_of}
 use Rattle.pl_lines.specs.Texts.{AreWritable, MOST_LINES}
 use Rattle.pl_facts.specs.Facts.{Fact, same_fact}

@@ -10,13 +10,13 @@ ghost use Rattle.pl_terms.specs.Uses.{is_used};
 ghost use Rattle.pl_lines.specs.Lines.Line.{SeenLine, ValueLine};
 ghost use Rattle.pl_lines.specs.Listed.{line_of};
 ghost use Rattle.pl_lines.specs.Texts.{IsWritable};
-ghost use Rattle.pl_model.specs.Worlds.{world_of, IsMade};
+ghost use Rattle.pl_world.specs.Worlds.{world_of, IsMade};
 ghost use Rattle.pl_terms.specs.Checked.{pipeline_of};
 ghost use Rattle.pl_explain.specs.Judging.{IsPlace, IsTable, IsUsedTerm, TellsLine, judged};
 
 use pl_fixed::{Column, MISSING, Memory, Steps};
 use pl_lines::{Derivation, Line};
-use pl_model::World;
+use pl_world::World;
 use pl_step::{seen_cells, value_told};
 use pl_terms::{Checked, TermId};
 use pl_told::{Fact, Rows, Told};

@@ -3,11 +3,10 @@
 #![tactic(auto)]
 
 mod judge;
-mod reach;
 mod reads;
 mod walk;
 
 pub use judge::first_wrong;
-pub use pl_lines::{CellList, Derivation, Line, LinesError, print_lines, read_lines};
-pub use reach::reach_at;
-pub use walk::{ExplainError, explain_cell};
+pub use pl_lines::{CellList, Derivation, ExplainError, Line, LinesError, print_lines, read_lines};
+pub use pl_planner::reach_at;
+pub use walk::explain_cell;

@@ -5,14 +5,14 @@ ghost use Rattle.pl_spec.specs.Term.Input.{BarColumn, TermInput};
 ghost use Rattle.pl_spec.specs.World.{living_sids};
 ghost use Rattle.pl_terms.specs.Nodes.{input_of, node_of, number_of};
 ghost use Rattle.pl_facts.specs.Facts.{entry_facts, facts_now, number_facts, over_inputs, window_facts};
-ghost use Rattle.pl_model.specs.Worlds.{world_of};
-ghost use Rattle.pl_model.specs.Evaluations.{IsAsked};
+ghost use Rattle.pl_world.specs.Worlds.{world_of};
+ghost use Rattle.pl_world.specs.Evaluations.{IsAsked};
 ghost use Rattle.pl_step.specs.Given.{facts_read};
 ghost use Rattle.pl_told.specs.Keys.{fact_of};
 ghost use Rattle.pl_explain.specs.Reading.{ArePut, IsRoomy};
 
 use pl_fixed::{Column, Memory};
-use pl_model::{World, exists, input_at};
+use pl_world::{World, exists, input_at};
 use pl_terms::{Checked, Input, Node, TermId};
 use pl_told::Fact;
 use pl_values::{Family, family_of};

@@ -9,58 +9,31 @@ ghost use Rattle.pl_facts.specs.Facts.{number_in, premises};
 ghost use Rattle.pl_facts.specs.Facts.Fact.{Seen, Worth};
 ghost use Rattle.pl_facts.specs.Laws.{IsDerivation};
 ghost use Rattle.pl_facts.specs.Walks.{depth_of, derivation, facts_for};
-ghost use Rattle.pl_lines.proofs.Each.{Each};
+ghost use Rattle.pl_spec.proofs.Each.{Each};
 ghost use Rattle.pl_lines.specs.Listed.{line_of};
 ghost use Rattle.pl_lines.specs.Texts.{MOST_LINES};
-ghost use Rattle.pl_model.specs.Worlds.{world_of, IsMade};
-ghost use Rattle.pl_model.specs.Evaluations.{cell_in};
+ghost use Rattle.pl_world.specs.Worlds.{world_of, IsMade};
+ghost use Rattle.pl_world.specs.Evaluations.{cell_in};
 ghost use Rattle.pl_terms.specs.Checked.{pipeline_of};
 ghost use Rattle.pl_terms.specs.Nodes.{graph_of};
 ghost use Rattle.pl_terms.specs.Uses.{is_used};
 ghost use Rattle.pl_step.specs.Given.{facts_read, has, has_all, KeepsRows};
 ghost use Rattle.pl_told.specs.Keys.{fact_of};
-ghost use Rattle.pl_explain.specs.declared.walk.ExplainError.TheVariants.{TooLong};
+ghost use Rattle.pl_lines.specs.declared.error.ExplainError.TheVariants.{TooLong};
 ghost use Rattle.pl_explain.specs.Walking.{CanStand, CanStandIn, Finishes, IsTellingOf, IsTooLong, StandsIn};
 
 use crate::judge::{col_of, last_of};
 use crate::reads::{facts_read, mask_read};
 use pl_fixed::{Column, Memory, Steps};
-use pl_lines::{CellList, Derivation, Line, MOST_LINES};
-use pl_model::laws::parts_make_a_world;
-use pl_model::{World, exists};
+use pl_lines::{CellList, Derivation, ExplainError, Line, MOST_LINES};
+use pl_world::laws::parts_make_a_world;
+use pl_world::{World, exists};
 use pl_step::{mask_told, seen_cells, value_told};
 use pl_terms::{Checked, TermId};
 use pl_told::{Fact, Rows, Told};
 use pl_values::{Family, family_of};
-use std::alloc::{AllocFailed, Global};
+use std::alloc::Global;
 use std::sync::ledger::Ledger;
-
-/// Why there is no derivation: it has more than 100,000 lines, or memory is wanted.
-#[derive(Clone, Copy, Debug, PartialEq, Eq)]
-pub enum ExplainError {
-    TooLong,
-    Memory,
-}
-
-impl From<Memory> for ExplainError {
-    ghost use Rattle.pl_explain.specs.declared.walk.ExplainError.TheVariants.{Memory};
-
-    ghost from_gives = { λ _ e. e ≡ Memory };
-
-    fn from(_refused: Memory) -> ExplainError {
-        ExplainError::Memory
-    }
-}
-
-impl<T: Drop> From<AllocFailed<T>> for ExplainError {
-    ghost use Rattle.pl_explain.specs.declared.walk.ExplainError.TheVariants.{Memory};
-
-    ghost from_gives = { λ _ e. e ≡ Memory };
-
-    fn from(_failed: AllocFailed<T>) -> ExplainError {
-        ExplainError::Memory
-    }
-}
 
 // What is finished so far: the number of each fact, found by it, and its line.
 #[derive(Drop)]

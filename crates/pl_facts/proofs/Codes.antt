@@ -32,7 +32,7 @@ use Rattle.pl_cross.proofs.Codes.{IsCoded}
 use Rattle.pl_cross.proofs.LabelCodes.{labels-coded}
 use Rattle.pl_facts.specs.Facts.{Fact, number_in, value_from, term_read, column_read, input_read, number_read, node_read, single_step}
 use Rattle.pl_facts.specs.Facts.Fact.{Seen, Worth}
-use Rattle.pl_lines.proofs.Each.{map_each, each_all}
+use Rattle.pl_spec.proofs.Each.{map_each, each_all}
 use Rattle.pl_facts.proofs.Finding.{place_within, is_place}
 use Rattle.pl_facts.proofs.Steps.{before-twice}
 

@@ -27,7 +27,7 @@ use Rattle.pl_laws.proofs.Uses.{used_terms-sound, used_terms-complete}
 use Rattle.pl_laws.proofs.Reaches.{below_least, at_downward, before-zero}
 use Rattle.pl_laws.proofs.Starts.{start-within}
 use Rattle.pl_terms.specs.Uses.{outputs, is_used}
-use Rattle.pl_lines.proofs.Each.{Each, each_both, each_in_map, each_in_flat, each_more}
+use Rattle.pl_spec.proofs.Each.{Each, each_both, each_in_map, each_in_flat, each_more}
 use Rattle.pl_facts.specs.Facts.{Fact, Reading, window_facts, facts_now, number_facts, over_inputs, entry_facts, kind_facts, number_read, node_facts, premises}
 use Rattle.pl_facts.specs.Facts.Fact.{Seen, Worth}
 use Rattle.pl_facts.specs.Right.{has_sid, is_fitting}

@@ -14,7 +14,7 @@ use Rattle.pl_facts.specs.Right.{fact_of, is_about, is_told, reading_of, is_fitt
 use Rattle.pl_lines.specs.Lines.Line.{SeenLine, ValueLine}
 use Rattle.pl_cross.specs.Arrays.{HasTexts}
 use Rattle.pl_facts.specs.Laws.{tells_world}
-use Rattle.pl_lines.proofs.Each.{Each, each_both, each_more, each_list_all, list_all_each}
+use Rattle.pl_spec.proofs.Each.{Each, each_both, each_more, each_list_all, list_all_each}
 use Rattle.pl_facts.proofs.Steps.{fact_same}
 use Rattle.pl_facts.proofs.Codes.{step_true}
 use Rattle.pl_facts.proofs.Truths.{and3, fact_is, Tells, told_true, right_tells, no_map, none_wrong}

@@ -16,7 +16,7 @@ use Rattle.pl_spec.specs.Text.{kind_at}
 use Rattle.pl_spec.specs.Table.{Pipeline, in_array}
 use Rattle.pl_facts.specs.Facts.{Fact, Reading, window_facts, facts_now, number_facts, over_inputs, entry_facts, kind_facts, value_from, column_read, input_read, number_read, node_read, node_facts, premises, single_step}
 use Rattle.pl_facts.specs.Facts.Fact.{Seen, Worth}
-use Rattle.pl_lines.proofs.Each.{Each, each_front, each_back, each_of_map, each_of_flat, each_more, each_known, map_each, filter_each}
+use Rattle.pl_spec.proofs.Each.{Each, each_front, each_back, each_of_map, each_of_flat, each_more, each_known, map_each, filter_each}
 
 pub before-twice : (d : ℤ) (n : ℕ) → before (before d n) 1 ≡ before d (suc n)
 before-twice d n = omega (arith, ints)

@@ -22,7 +22,7 @@ use Rattle.pl_facts.specs.Right.{session_of, fact_of, last_cell, number_told, is
 use Rattle.pl_lines.specs.Lines.Line.{SeenLine, ValueLine}
 use Rattle.pl_cross.specs.Arrays.{HasTexts}
 use Rattle.pl_facts.specs.Laws.{IsTrueLine}
-use Rattle.pl_lines.proofs.Each.{Each, each_both, each_more, each_list_all, each_at}
+use Rattle.pl_spec.proofs.Each.{Each, each_both, each_more, each_list_all, each_at}
 use Rattle.pl_facts.proofs.Finding.{place_found}
 use Rattle.pl_facts.proofs.Steps.{fact_same}
 use Rattle.pl_facts.proofs.Codes.{step_true}

@@ -20,7 +20,7 @@ use Rattle.pl_facts.specs.Right.{session_of, fact_of, number_told, is_about, is_
 use Rattle.pl_facts.specs.Walks.{IsOnce, is_in, finish, depth_of, date_of, line_for, derivation}
 use Rattle.pl_cross.specs.Arrays.{HasTexts}
 use Rattle.pl_facts.specs.Laws.{IsAsked, IsDerivation}
-use Rattle.pl_lines.proofs.Each.{Each, each_both, each_more, each_in_map, list_all_each}
+use Rattle.pl_spec.proofs.Each.{Each, each_both, each_more, each_in_map, list_all_each}
 use Rattle.pl_facts.proofs.Steps.{fact_same}
 use Rattle.pl_facts.proofs.Codes.{step_true}
 use Rattle.pl_facts.proofs.Truths.{same_is, is_same, is_fact, last_seen, Tells, told_true}

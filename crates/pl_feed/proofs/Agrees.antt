@@ -20,8 +20,8 @@ use Rattle.pl_laws.proofs.Law.{filter-filter}
 use Rattle.pl_bars.specs.Bars.{cell_at, cell_of, is_at}
 use Rattle.pl_bars.proofs.BarWorlds.{cells_raw}
 use Rattle.pl_adjust.specs.Columns.{events_at}
-use Rattle.pl_model.specs.declared.world.World.{World}
-use Rattle.pl_model.specs.Worlds.{world_of}
+use Rattle.pl_world.specs.declared.world.World.{World}
+use Rattle.pl_world.specs.Worlds.{world_of}
 use Rattle.pl_rings.specs.Days.{adjustments_of, bar_row, bars_of, days_of, fed}
 use Rattle.pl_rings.proofs.Fed.{find-miss, or-none, parts_fit, sessions_below}
 use Rattle.pl_rings.proofs.Moves.{events_at-append, map-map}

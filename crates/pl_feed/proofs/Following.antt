@@ -11,14 +11,14 @@ use Rattle.pl_spec.specs.Parts.{ColumnAdjustment}
 use Rattle.pl_spec.specs.Rounding.{IsCell}
 use Rattle.pl_spec.specs.World.{Event}
 use Rattle.pl_calendar.specs.Days.{AreDays}
-use Rattle.pl_assets.specs.Assets.{AreAssets}
+use Rattle.pl_lifetimes.specs.Assets.{AreAssets}
 use Rattle.pl_bars.specs.Bars.{AreBars, cell_at}
 use Rattle.pl_bars.proofs.BarSearch.{cell_at-IsCell}
 use Rattle.pl_adjust.specs.Columns.{StandByDay, events_at}
 use Rattle.pl_adjust.specs.Events.{PutsCell}
 use Rattle.pl_adjust.proofs.Kept.{cells_at}
-use Rattle.pl_model.specs.declared.world.World.{World}
-use Rattle.pl_model.specs.Worlds.{IsMade}
+use Rattle.pl_world.specs.declared.world.World.{World}
+use Rattle.pl_world.specs.Worlds.{IsMade}
 use Rattle.pl_rings.specs.declared.day.DayBar.{DayBar}
 use Rattle.pl_rings.specs.Days.{IsStart, IsLaterThan, AreFed, MayFollow, days_of, last_day}
 use Rattle.pl_feed.specs.Feeds.{day_before, is_due}

@@ -7,8 +7,8 @@ use Rattle.pl_spec.specs.Table.{NamedColumn, Pipeline, in_array, value_of}
 use Rattle.pl_assets.specs.Labels.{LabelTable}
 use Rattle.pl_values.specs.Arrays.{cell_of}
 use Rattle.pl_table.proofs.Outputs.{cell-is, sid-of-place}
-use Rattle.pl_model.specs.declared.world.World.{World}
-use Rattle.pl_model.specs.Worlds.{world_of}
+use Rattle.pl_world.specs.declared.world.World.{World}
+use Rattle.pl_world.specs.Worlds.{world_of}
 use Rattle.pl_rings.specs.declared.day.DayBar.{DayBar}
 use Rattle.pl_rings.specs.Days.{FedDay, IsLaterThan, MayFollow, fed, last_day, last_session}
 use Rattle.pl_daily.specs.Daily.{Held, Stands, last_of, start_in}

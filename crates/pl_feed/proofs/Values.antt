@@ -22,8 +22,8 @@ use Rattle.pl_laws.proofs.Calendars.{least_reach-same}
 use Rattle.pl_laws.proofs.Law.{values_agree}
 use Rattle.pl_laws.proofs.Lows.{reach-rises}
 use Rattle.pl_laws.proofs.TableLaw.{rows_same}
-use Rattle.pl_model.specs.declared.world.World.{World}
-use Rattle.pl_model.specs.Worlds.{world_of}
+use Rattle.pl_world.specs.declared.world.World.{World}
+use Rattle.pl_world.specs.Worlds.{world_of}
 use Rattle.pl_terms.specs.Uses.{outputs}
 use Rattle.pl_planner.specs.Plans.{Planned, IsPlanOf}
 use Rattle.pl_table.specs.Outcomes.{lines, rows_of_sessions}

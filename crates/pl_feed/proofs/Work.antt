@@ -12,9 +12,9 @@ use Rattle.pl_spec.specs.Parts.{ColumnAdjustment, sid_at}
 use Rattle.pl_spec.specs.Table.{Pipeline}
 use Rattle.pl_spec.specs.World as worlds
 use Rattle.pl_spec.specs.World.{Event}
-use Rattle.pl_model.specs.declared.world.World.{World}
-use Rattle.pl_model.specs.Worlds.{world_of}
-use Rattle.pl_model.proofs.Made.{events_of-at}
+use Rattle.pl_world.specs.declared.world.World.{World}
+use Rattle.pl_world.specs.Worlds.{world_of}
+use Rattle.pl_world.proofs.Made.{events_of-at}
 use Rattle.pl_rings.specs.declared.day.DayEvent.{DayEvent}
 use Rattle.pl_rings.specs.Changes.{column_event}
 use Rattle.pl_rings.specs.Rings.{scales, scaling}

@@ -8,7 +8,7 @@ use Rattle.pl_spec.specs.World.{Event}
 use Rattle.pl_spec.specs.Table.{Pipeline}
 use Rattle.pl_bars.specs.Bars.{cells_at}
 use Rattle.pl_adjust.specs.Columns.{events_at}
-use Rattle.pl_model.specs.declared.world.World.{World}
+use Rattle.pl_world.specs.declared.world.World.{World}
 use Rattle.pl_rings.specs.declared.day.DayBar.{DayBar}
 use Rattle.pl_rings.specs.Days.{Start, FedDay, fed}
 use Rattle.pl_daily.specs.Terms.{start_of}

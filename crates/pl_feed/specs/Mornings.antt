@@ -4,7 +4,7 @@ use Rattle.pl_spec.specs.Parts.{sid_at}
 use Rattle.pl_spec.specs.World as worlds
 use Rattle.pl_spec.specs.Table.{Pipeline, Row, session_rows, value_of}
 use Rattle.pl_cross.specs.Arrays.{HasTexts, sid_in}
-use Rattle.pl_model.specs.Worlds.{world_of}
+use Rattle.pl_world.specs.Worlds.{world_of}
 use Rattle.pl_terms.specs.Checked.{IsChecked, pipeline_of}
 use Rattle.pl_feed.specs.declared.morning.Morning.{Morning}
 use Rattle.pl_feed.specs.Days.{IsFed, fed_world}

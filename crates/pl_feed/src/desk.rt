@@ -1,12 +1,12 @@
 //! The memory of a run.
 ghost use Rattle.std.specs.Prelude.{IfOk};
-ghost use Rattle.pl_model.specs.Worlds.{IsMade};
+ghost use Rattle.pl_world.specs.Worlds.{IsMade};
 ghost use Rattle.pl_terms.specs.Checked.{pipeline_of};
 ghost use Rattle.pl_feed.specs.Desks.{IsDesk};
 
 use pl_daily::Daily;
 use pl_fixed::Memory;
-use pl_model::World;
+use pl_world::World;
 use pl_rings::{DayBar, DayEvent};
 use pl_table::Line;
 use pl_terms::Checked;

@@ -1,6 +1,6 @@
 //! One session.
 ghost use Rattle.std.specs.Prelude.{◌≡◌, ◌≤◌, ◌<◌, ◌+◌, length, vec_capacity};
-ghost use Rattle.pl_model.specs.Worlds.{IsMade, world_of};
+ghost use Rattle.pl_world.specs.Worlds.{IsMade, world_of};
 ghost use Rattle.pl_spec.specs.Table.{Pipeline};
 ghost use Rattle.pl_terms.specs.Checked.{pipeline_of};
 ghost use Rattle.pl_feed.specs.Feeds.{session_work};
@@ -9,7 +9,7 @@ ghost use Rattle.pl_feed.specs.Days.{IsFed};
 use crate::handed::{fill_bars, fill_events};
 use pl_daily::Daily;
 use pl_fixed::Steps;
-use pl_model::World;
+use pl_world::World;
 use pl_rings::{Day, DayBar, DayEvent};
 use std::sync::ledger::Ledger;
 

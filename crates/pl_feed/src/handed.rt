@@ -10,7 +10,7 @@ ghost use Rattle.pl_feed.specs.Days as spec;
 
 use pl_adjust::Adjust;
 use pl_bars::Bars;
-use pl_model::World;
+use pl_world::World;
 use pl_rings::{DayBar, DayEvent};
 
 // The bar of the asset in a column; its cells are missing where there is none.

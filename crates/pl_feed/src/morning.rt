@@ -1,7 +1,7 @@
 //! A session that was fed last.
 
 use pl_daily::Daily;
-use pl_model::World;
+use pl_world::World;
 use pl_terms::Checked;
 
 /// A session of a world that was fed last, and has values.

@@ -3,7 +3,7 @@ ghost use Rattle.std.specs.Prelude.{◌≡◌, ◌≤◌, ◌<◌, ◌+◌, ◌+
 ghost use Rattle.pl_spec.specs.Table.{NamedColumn, row, session_rows};
 ghost use Rattle.pl_spec.specs.Text.{row_line};
 ghost use Rattle.pl_outside.specs.Taken.{Writes};
-ghost use Rattle.pl_model.specs.Worlds.{IsMade, world_of};
+ghost use Rattle.pl_world.specs.Worlds.{IsMade, world_of};
 ghost use Rattle.pl_terms.specs.Checked.{pipeline_of};
 ghost use Rattle.pl_planner.specs.Plans.{IsPlanOf};
 ghost use Rattle.pl_table.specs.Outcomes.{lines};
@@ -13,8 +13,8 @@ ghost use Rattle.pl_feed.specs.Mornings.{IsMorning, asked_rows, pipeline_in, sid
 
 use crate::morning::Morning;
 use pl_daily::Daily;
-use pl_model::World;
-use pl_model::laws::parts_make_a_world;
+use pl_world::World;
+use pl_world::laws::parts_make_a_world;
 use pl_outside::{Failed, Sink, write_bytes};
 use pl_planner::Plan;
 use pl_spec::Format;

@@ -8,7 +8,7 @@ use Rattle.std.proofs.lemmas.List.FromFn.{length-map-range_with_len, get_or-map-
 use Rattle.std.proofs.lemmas.List.Folds.{list_any_at}
 use Rattle.std.proofs.lemmas.List.Sums.{position_or_len_is}
 use Rattle.pl_spec.specs.declared.AssetRow.{AssetRow}
-use Rattle.pl_assets.specs.Assets.{AreAssets, sid_of}
+use Rattle.pl_lifetimes.specs.Assets.{AreAssets, sid_of}
 use Rattle.pl_generate.specs.StatedWorld.{asset, stated_assets, stated_days}
 
 none : AssetRow

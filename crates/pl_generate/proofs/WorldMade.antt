@@ -1,8 +1,8 @@
 -- The world of the parts.
 use Rattle.std.proofs.Common.{◌≡◌, ℕ, ◌<◌, length, refl}
 use Rattle.std.specs.Prelude.{All}
-use Rattle.pl_model.specs.declared.owned.OwnedWorld.{OwnedWorld}
-use Rattle.pl_model.specs.Worlds.{owned_world, IsOwned}
+use Rattle.pl_world.specs.declared.owned.OwnedWorld.{OwnedWorld}
+use Rattle.pl_world.specs.Worlds.{owned_world, IsOwned}
 use Rattle.pl_generate.specs.Draws.{behind}
 use Rattle.pl_generate.specs.StatedWorld.{IsStated, stated_world}
 use Rattle.pl_generate.proofs.Assets.{length-assets}

@@ -14,7 +14,7 @@ use Rattle.pl_spec.specs.Rounding.{MILLION, div_round}
 use Rattle.pl_spec.specs.World.{World}
 use Rattle.pl_assets.specs.Labels.{LabelTable, table_of}
 use Rattle.pl_adjust.specs.Columns.{by_column, in_column}
-use Rattle.pl_model.specs.declared.owned.OwnedWorld.{OwnedWorld}
+use Rattle.pl_world.specs.declared.owned.OwnedWorld.{OwnedWorld}
 use Rattle.pl_generate.specs.Draws.{behind, drawn}
 
 -- ---- sessions and assets

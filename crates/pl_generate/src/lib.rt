@@ -6,7 +6,7 @@
 #![tactic(auto)]
 
 ghost use Rattle.std.specs.Prelude.{◌≡◌, IfOk};
-ghost use Rattle.pl_model.specs.Worlds.{owned_world, IsOwned};
+ghost use Rattle.pl_world.specs.Worlds.{owned_world, IsOwned};
 ghost use Rattle.pl_generate.specs.StatedWorld.{IsStated, stated_world};
 
 mod adjusts;
@@ -17,7 +17,7 @@ mod sessions;
 
 pub use draws::Draws;
 use pl_fixed::Memory;
-use pl_model::OwnedWorld;
+use pl_world::OwnedWorld;
 use std::alloc::Global;
 
 /// How many assets there are; their sids are 1, 2 and so on.

@@ -6,7 +6,7 @@ use Rattle.pl_spec.specs.Graph.{reach}
 use Rattle.pl_spec.specs.Term.{term_at}
 use Rattle.pl_spec.specs.Table.{Pipeline}
 use Rattle.pl_spec.specs.World.{World}
-use Rattle.pl_assets.specs.Assets.{sid_of}
+use Rattle.pl_lifetimes.specs.Assets.{sid_of}
 use Rattle.pl_facts.specs.Facts.Fact.{Worth}
 use Rattle.pl_facts.specs.Walks.{facts_for}
 use Rattle.pl_lines.specs.Texts.{MOST_LINES}

@@ -10,7 +10,7 @@ use Rattle.pl_spec.specs.Table.{Pipeline}
 use Rattle.pl_spec.specs.Parts.{ColumnAdjustment, world_of}
 use Rattle.pl_records.specs.Records.{csv_records}
 use Rattle.pl_calendar.specs.Days.{sessions_of}
-use Rattle.pl_assets.specs.Assets.{assets_of}
+use Rattle.pl_lifetimes.specs.Assets.{assets_of}
 use Rattle.pl_assets.specs.Labels.{LabelTable, no_labels, labels_of}
 use Rattle.pl_bars.specs.Bars.{bars_of}
 use Rattle.pl_payouts.specs.declared.reading.Dividend.{Dividend}

@@ -3,7 +3,7 @@
 use Rattle.std.specs.Prelude.{ℕ, Option, Some, None}
 use Rattle.pl_records.specs.Reading as reading
 use Rattle.pl_calendar.specs.Days as calendar
-use Rattle.pl_assets.specs.Assets as assets
+use Rattle.pl_lifetimes.specs.Assets as assets
 use Rattle.pl_assets.specs.Labels as labels
 use Rattle.pl_bars.specs.Bars as bars
 use Rattle.pl_adjust.specs.Walk as rows
@@ -13,8 +13,8 @@ use Rattle.pl_lines.specs.Texts.{Broken}
 use Rattle.pl_lines.specs.Texts.Broken.{BadLine as UnreadLine, TooMany as ManyLines}
 use Rattle.pl_lines.specs.declared.read.LinesError.{LinesError}
 use Rattle.pl_lines.specs.declared.read.LinesError.TheVariants as lines_errors
-use Rattle.pl_explain.specs.declared.walk.ExplainError.{ExplainError}
-use Rattle.pl_explain.specs.declared.walk.ExplainError.TheVariants as explain_errors
+use Rattle.pl_lines.specs.declared.error.ExplainError.{ExplainError}
+use Rattle.pl_lines.specs.declared.error.ExplainError.TheVariants as explain_errors
 use Rattle.pl_grammar.specs.Faults as syntax
 use Rattle.pl_grammar.specs.declared.Place.{Place}
 use Rattle.pl_syntax.specs.declared.error.SyntaxError.{SyntaxError}

@@ -11,7 +11,7 @@ ghost use Rattle.pl_judge.specs.Stages.{StageEnds, IsRisen};
 use crate::Fault;
 use pl_assets::Assets;
 use pl_calendar::Sessions;
-use pl_explain::reach_at;
+use pl_planner::reach_at;
 use pl_terms::{Checked, TermId};
 use pl_words::{ExplainRequest, RangeDate};
 use std::alloc::Global;

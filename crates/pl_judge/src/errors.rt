@@ -9,9 +9,8 @@ use pl_assets::{AssetsError, LabelsError};
 use pl_bars::BarsError;
 use pl_calendar::CalendarError;
 use pl_check::{CheckError, CheckFault};
-use pl_explain::ExplainError;
 use pl_fixed::Memory;
-use pl_lines::LinesError;
+use pl_lines::{ExplainError, LinesError};
 use pl_payouts::PayoutsError;
 use pl_planner::PlanError;
 use pl_syntax::{Place, SyntaxError};
@@ -83,7 +82,7 @@ impl From<CalendarError> for Fault {
 }
 
 impl From<AssetsError> for Fault {
-    ghost use Rattle.pl_assets.specs.Faults as assets;
+    ghost use Rattle.pl_lifetimes.specs.Faults as assets;
 
     ghost from_gives = { λ error fault. Tells fault (told_at assets_fault (assets.fault_of error)) };
 

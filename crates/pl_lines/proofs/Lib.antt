@@ -1,4 +1,3 @@
-pub mod Each
 pub mod TextsRead
 pub mod TextsSaid
 pub mod Printing

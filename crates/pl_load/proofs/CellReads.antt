@@ -4,7 +4,7 @@ use Rattle.std.specs.Option.{ForSome}
 use Rattle.pl_spec.specs.World.{World}
 use Rattle.pl_outside.specs.Files.{Files}
 use Rattle.pl_outside.specs.Lists.{Lists}
-use Rattle.pl_model.specs.declared.owned.OwnedWorld.{OwnedWorld}
+use Rattle.pl_world.specs.declared.owned.OwnedWorld.{OwnedWorld}
 use Rattle.pl_terms.specs.Checked.{Parts, pipeline_of}
 use Rattle.pl_words.specs.declared.request.InputFile.{InputFile}
 use Rattle.pl_words.specs.declared.request.InputFile.TheVariants.{Pipeline, Sessions, Assets, Labels, Bars, Revisions, Payouts, Derivation}

@@ -9,7 +9,7 @@ use Rattle.pl_assets.specs.Labels.{LabelTable}
 use Rattle.pl_outside.specs.Files.{Files}
 use Rattle.pl_outside.specs.Lists.{Lists}
 use Rattle.pl_outside.specs.declared.keeper.Table.{Table}
-use Rattle.pl_model.specs.declared.owned.OwnedWorld.{OwnedWorld}
+use Rattle.pl_world.specs.declared.owned.OwnedWorld.{OwnedWorld}
 use Rattle.pl_words.specs.declared.request.InputFile.{InputFile}
 use Rattle.pl_words.specs.declared.request.InputFile.TheVariants.{Pipeline, Sessions, Assets, Labels, Bars, Revisions, Payouts, Derivation}
 use Rattle.pl_words.specs.Request.{WorldNames, world_name}

@@ -7,11 +7,11 @@ use Rattle.pl_spec.specs.Table.{Pipeline}
 use Rattle.pl_spec.specs.World.{World}
 use Rattle.pl_laws.proofs.AsOf.{slice_get-take}
 use Rattle.pl_laws.proofs.Calendars.{SameDays}
-use Rattle.pl_model.specs.Known.{ShowsSame}
-use Rattle.pl_model.specs.Known as model
-use Rattle.pl_model.specs.Worlds.{owned_world, world_of}
-use Rattle.pl_model.specs.declared.owned.OwnedWorld.{OwnedWorld}
-use Rattle.pl_model.specs.declared.world.World as lent
+use Rattle.pl_world.specs.Known.{ShowsSame}
+use Rattle.pl_world.specs.Known as model
+use Rattle.pl_world.specs.Worlds.{owned_world, world_of}
+use Rattle.pl_world.specs.declared.owned.OwnedWorld.{OwnedWorld}
+use Rattle.pl_world.specs.declared.world.World as lent
 use Rattle.pl_planner.specs.Plans.{Planned, IsPlanOf}
 use Rattle.pl_planner.proofs.Calendars.{plan-same}
 use Rattle.pl_words.specs.Request.{Dated}

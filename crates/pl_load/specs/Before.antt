@@ -2,7 +2,7 @@
 use Rattle.std.specs.Prelude.{◌≡◌, ℤ, Bool, List, [], ◌∷◌, Option, Some, Result, Ok, Err}
 use Rattle.pl_spec.specs.declared.AssetRow.{AssetRow}
 use Rattle.pl_outside.specs.Files.{Files}
-use Rattle.pl_model.specs.declared.owned.OwnedWorld.{OwnedWorld}
+use Rattle.pl_world.specs.declared.owned.OwnedWorld.{OwnedWorld}
 use Rattle.pl_terms.specs.Checked.{Parts, pipeline_of}
 use Rattle.pl_words.specs.declared.request.InputFile.TheVariants.{Sessions, Assets}
 use Rattle.pl_words.specs.Request.{RunRequest, WorldNames}

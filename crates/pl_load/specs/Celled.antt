@@ -4,7 +4,7 @@ use Rattle.pl_outside.specs.Files.{Files}
 use Rattle.pl_outside.specs.Lists.{Lists}
 use Rattle.pl_terms.specs.Checked.{pipeline_of}
 use Rattle.pl_terms.specs.Uses.{is_used}
-use Rattle.pl_model.specs.Worlds.{owned_world, IsOwned}
+use Rattle.pl_world.specs.Worlds.{owned_world, IsOwned}
 use Rattle.pl_words.specs.Request.{ExplainRequest, Explain}
 use Rattle.pl_judge.specs.declared.fault.Fault.{Fault}
 use Rattle.pl_judge.specs.Contents.{Contents, AreHeld}

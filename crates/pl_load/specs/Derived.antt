@@ -3,7 +3,7 @@ use Rattle.std.specs.Prelude.{◌≡◌, Bool, Option, Some, Result, IfOk}
 use Rattle.pl_outside.specs.Files.{Files}
 use Rattle.pl_outside.specs.Lists.{Lists}
 use Rattle.pl_terms.specs.Checked.{pipeline_of}
-use Rattle.pl_model.specs.Worlds.{owned_world}
+use Rattle.pl_world.specs.Worlds.{owned_world}
 use Rattle.pl_words.specs.Request.{VerifyRequest, Verify}
 use Rattle.pl_judge.specs.declared.fault.Fault.{Fault}
 use Rattle.pl_judge.specs.Contents.{Contents, AreHeld}

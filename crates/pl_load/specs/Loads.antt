@@ -7,9 +7,9 @@ use Rattle.std.specs.Option.{ForSome}
 use Rattle.pl_outside.specs.Files.{Files}
 use Rattle.pl_outside.specs.Lists.{Lists}
 use Rattle.pl_outside.specs.declared.keeper.Table.{Table}
-use Rattle.pl_model.specs.declared.owned.OwnedWorld.{OwnedWorld}
-use Rattle.pl_model.specs.Known.{ShowsSame}
-use Rattle.pl_model.specs.Worlds.{owned_world, IsOwned}
+use Rattle.pl_world.specs.declared.owned.OwnedWorld.{OwnedWorld}
+use Rattle.pl_world.specs.Known.{ShowsSame}
+use Rattle.pl_world.specs.Worlds.{owned_world, IsOwned}
 use Rattle.pl_planner.specs.Plans.{IsPlanOf}
 use Rattle.pl_words.specs.declared.request.InputFile.{InputFile}
 use Rattle.pl_words.specs.Request.{RunRequest, PlanRequest, WorldNames, Run, Plan, run_world, world_name}

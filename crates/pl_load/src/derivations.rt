@@ -4,14 +4,14 @@ ghost use Rattle.pl_outside.specs.Counts.{Rose};
 ghost use Rattle.pl_outside.specs.Left.{Leaves, IsUntouched};
 ghost use Rattle.pl_words.specs.Views.{verify_of};
 ghost use Rattle.pl_judge.specs.Stages.{IsRisen};
-ghost use Rattle.pl_model.specs.Worlds.{IsOwned};
+ghost use Rattle.pl_world.specs.Worlds.{IsOwned};
 ghost use Rattle.pl_load.specs.Derived.{IsDerivationLoad};
 
 use crate::inputs::{read_checked, read_derivation};
 use crate::loading::read_world;
 use pl_judge::Fault;
 use pl_lines::Derivation;
-use pl_model::OwnedWorld;
+use pl_world::OwnedWorld;
 use pl_outside::{AdjustKeeper, Shelf};
 use pl_terms::Checked;
 use pl_words::VerifyRequest;

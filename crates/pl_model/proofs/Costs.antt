@@ -25,10 +25,11 @@ use Rattle.pl_terms.specs.Checked.{Parts, pipeline_of, IsChecked}
 use Rattle.pl_values.specs.Arrays.{is_kept}
 use Rattle.pl_values.proofs.Cells.{keeps-is}
 use Rattle.pl_values.proofs.Empties.{node-there}
-use Rattle.pl_model.specs.declared.world.World.{World}
-use Rattle.pl_model.specs.Worlds.{world_of}
-use Rattle.pl_model.specs.Evaluations.{Cost, cost, window_cost, session_cost, kind_cost, cost_in, input_cost_in, input_cost_at, window_cost_in, input_row_cost_in, optional_cost_in, given_cost_of, given_cost_in, as_input, IsAsked, IsAskedInput}
-use Rattle.pl_model.proofs.Asked.{inputs-at, has-node, long-graph, first-asked, second-asked, third-asked}
+use Rattle.pl_world.specs.declared.world.World.{World}
+use Rattle.pl_world.specs.Worlds.{world_of}
+use Rattle.pl_world.specs.Evaluations.{as_input, IsAsked, IsAskedInput}
+use Rattle.pl_model.specs.Costs.{Cost, cost, window_cost, session_cost, kind_cost, cost_in, input_cost_in, input_cost_at, window_cost_in, input_row_cost_in, optional_cost_in, given_cost_of, given_cost_in}
+use Rattle.pl_world.proofs.Asked.{inputs-at, has-node, long-graph, first-asked, second-asked, third-asked}
 
 -- ---- sums
 

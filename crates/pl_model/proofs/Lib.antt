@@ -1,9 +1,2 @@
-pub mod Lifetimes
-pub mod Made
 pub mod Runs
-pub mod Asked
-pub mod Evaluated
 pub mod Costs
-pub mod Sections
-pub mod Windowing
-pub mod Known

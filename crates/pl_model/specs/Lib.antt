@@ -1,5 +1,2 @@
-pub mod Evaluations
-pub mod Known
-pub mod Laws
+pub mod Costs
 pub mod WindowSteps
-pub mod Worlds

@@ -14,22 +14,20 @@ ghost use Rattle.pl_terms.specs.Sorts.{is_windowed};
 ghost use Rattle.pl_cross.specs.Section.{is_section};
 ghost use Rattle.pl_values.specs.Families.{is_point};
 ghost use Rattle.pl_terms.specs.Nodes.{graph_of, number_of};
-ghost use Rattle.pl_assets.specs.Assets.{AreAssets};
+ghost use Rattle.pl_lifetimes.specs.Assets.{AreAssets};
 ghost use Rattle.pl_values.specs.Arrays.{IsKeep, is_kept};
-ghost use Rattle.pl_model.specs.Worlds.{world_of, IsMade};
+ghost use Rattle.pl_world.specs.Worlds.{world_of, IsMade};
 ghost use Rattle.pl_model.specs.WindowSteps.{window_steps};
-ghost use Rattle.pl_model.specs.Evaluations.{IsAsked, IsAskedInput, IsAskedOption, IsKept, HasKind, cell_in, input_cell_in, window_in, row_in, optional_row_in, given_cost_in, cost_in, input_cost_in, window_cost_in, row_cost_in, optional_cost_in};
+ghost use Rattle.pl_world.specs.Evaluations.{IsAsked, IsAskedInput, IsAskedOption, IsKept, HasKind, cell_in, input_cell_in, window_in, row_in, optional_row_in};
+ghost use Rattle.pl_model.specs.Costs.{given_cost_in, cost_in, input_cost_in, window_cost_in, row_cost_in, optional_cost_in};
 
-use crate::cell::exists;
-use crate::parts::{
-    as_input, bars_before, input_at, label_cell, lets_pass, section_at, section_input,
-};
-use crate::world::World;
+use crate::bars::{as_input, bars_before, lets_pass, section_at};
 use pl_fixed::{MISSING, Memory, Steps};
 use pl_terms::{Checked, Input, TermId};
 use pl_values::{
     Family, empty_value, family_of, label_test_value, point_value, sids_value, window_value,
 };
+use pl_world::{World, exists, input_at, label_cell, section_input};
 use std::alloc::Global;
 use std::sync::ledger::Ledger;
 

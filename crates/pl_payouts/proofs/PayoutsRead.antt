@@ -12,9 +12,9 @@ use Rattle.pl_records.proofs.Readings.{rows-keep, under_ok, under-are, under-fau
 use Rattle.pl_records.proofs.RuleTables.{told_ok, ok_or-Ok, lacks-tells, has-tells, Judges-table}
 use Rattle.pl_spec.specs.declared.AssetRow.{AssetRow}
 use Rattle.pl_spec.proofs.DatesWritten.{IsDay-IsDate}
-use Rattle.pl_assets.specs.Assets.{AreAssets, sid_of}
-use Rattle.pl_assets.specs.LabelRules.{HasSid}
-use Rattle.pl_assets.proofs.SidColumns.{sid_form}
+use Rattle.pl_lifetimes.specs.Assets.{AreAssets, sid_of}
+use Rattle.pl_lifetimes.specs.Assets.{HasSid}
+use Rattle.pl_lifetimes.proofs.SidColumns.{sid_form}
 use Rattle.pl_payouts.specs.declared.reading.Dividend.{Dividend}
 use Rattle.pl_payouts.specs.declared.TheConstants.{MOST_PAYOUTS}
 use Rattle.pl_payouts.specs.Payouts.{Rule, breaks, col_in, dividend_in, header, is_above_0, says_dividend, payouts_of, ArePayouts, AreKnown, IsKnown, IsPaid}

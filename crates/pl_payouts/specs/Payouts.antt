@@ -10,8 +10,8 @@ use Rattle.pl_spec.specs.Dates.{IsDay, date_in}
 use Rattle.pl_spec.specs.Decimals.{sid_in}
 use Rattle.pl_spec.specs.declared.AssetRow.{AssetRow}
 use Rattle.pl_fixed.specs.Reading.{read}
-use Rattle.pl_assets.specs.Assets.{sid_of}
-use Rattle.pl_assets.specs.LabelRules.{HasSid}
+use Rattle.pl_lifetimes.specs.Assets.{sid_of}
+use Rattle.pl_lifetimes.specs.Assets.{HasSid}
 use Rattle.pl_payouts.specs.declared.Payout.{Payout}
 use Rattle.pl_payouts.specs.declared.reading.Dividend.{Dividend}
 use Rattle.pl_payouts.specs.declared.TheConstants.{MOST_PAYOUTS}

@@ -6,7 +6,7 @@ use Rattle.pl_records.specs.RuleTable.{IsFirstBroken, KeepsAll}
 use Rattle.pl_spec.specs.Dates.{IsDate}
 use Rattle.pl_spec.specs.Decimals.{Decimal, IsDecimal, IsReadAs}
 use Rattle.pl_spec.specs.declared.AssetRow.{AssetRow}
-use Rattle.pl_assets.specs.LabelRules.{HasSid}
+use Rattle.pl_lifetimes.specs.Assets.{HasSid}
 use Rattle.pl_payouts.specs.declared.reading.Dividend.{Dividend}
 use Rattle.pl_payouts.specs.Payouts.{Rule, BadHeader, TooMany, BadField, UnknownSid, NotPositive, rules, header}
 use Rattle.pl_payouts.specs.declared.TheConstants.{MOST_PAYOUTS}

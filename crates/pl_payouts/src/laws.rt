@@ -5,7 +5,7 @@ ghost use Rattle.std.specs.Prelude.{◌≡◌, ◌↔◌, List, Ok, Err};
 ghost use Rattle.pl_spec.specs.declared.AssetRow.{AssetRow};
 ghost use Rattle.pl_records.specs.Reading.{Record, Fault, Judges};
 ghost use Rattle.pl_records.specs.RuleTable.{IsFirstBroken};
-ghost use Rattle.pl_assets.specs.Assets.{AreAssets};
+ghost use Rattle.pl_lifetimes.specs.Assets.{AreAssets};
 ghost use Rattle.pl_payouts.specs.declared.reading.Dividend.{Dividend};
 ghost use Rattle.pl_payouts.specs.Payouts.{Rule, payouts_of, rules, says_dividend};
 ghost use Rattle.pl_payouts.specs.Rules.{ArePayoutsOf, Breaks, IsDividend, IsPayoutsFault};

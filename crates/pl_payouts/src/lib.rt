@@ -19,7 +19,7 @@ mod reading;
 mod writing;
 
 pub use error::{PayoutsError, PayoutsOut};
-use pl_assets::Assets;
+use pl_lifetimes::Assets;
 pub use ratio::{Skip, ratio_of};
 use reading::Dividend;
 use std::alloc::Global;

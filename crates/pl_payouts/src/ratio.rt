@@ -8,7 +8,7 @@ ghost use Rattle.pl_payouts.specs.Ratios.{close_before, effective_of, last_befor
 ghost use Rattle.pl_payouts.specs.RatioRules.{ComesTo};
 
 use crate::Payout;
-use pl_assets::Assets;
+use pl_lifetimes::Assets;
 use pl_bars::Bars;
 use pl_calendar::Sessions;
 use pl_fixed::MISSING;

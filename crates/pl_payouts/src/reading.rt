@@ -1,13 +1,13 @@
 ghost use Rattle.std.specs.Prelude.{◌≡◌, ◌+◌, ◌<◌, ◌≤◌, length, OnOk};
 ghost use Rattle.pl_records.specs.Reading.{Answers, at_line, rows_of};
 ghost use Rattle.pl_records.specs.Records.{csv_records};
-ghost use Rattle.pl_assets.specs.Assets.{AreAssets};
+ghost use Rattle.pl_lifetimes.specs.Assets.{AreAssets};
 ghost use Rattle.pl_payouts.specs.Payouts.{amount_in, dividend_in, is_above_0, payouts_of, says_dividend};
 ghost use Rattle.pl_payouts.specs.Faults.{fault_of};
 
 use crate::MOST_PAYOUTS;
 use crate::error::PayoutsError;
-use pl_assets::Assets;
+use pl_lifetimes::Assets;
 use pl_fixed::{read_day, read_decimal, read_sid};
 use pl_records::Records;
 use std::alloc::Global;

@@ -7,10 +7,12 @@ pub mod laws;
 mod pipeline;
 mod planning;
 mod plans;
+mod reach;
 mod rows;
 mod slots;
 mod uses;
 
 pub use planning::plan;
 pub use plans::{Plan, PlanError};
+pub use reach::reach_at;
 pub use uses::back_from;

@@ -9,7 +9,7 @@ use Rattle.std.proofs.lemmas.List.Elements.{All-push}
 use Rattle.pl_spec.specs.declared.Column.{Column}
 use Rattle.pl_spec.specs.declared.Column.TheVariants.{OpenPrice, High, Low, Close, Volume}
 use Rattle.pl_spec.specs.World.{column_number}
-use Rattle.pl_assets.proofs.Filters.{any-same}
+use Rattle.pl_lifetimes.proofs.Filters.{any-same}
 use Rattle.pl_bars.proofs.BarSets.{same_place, same_number, number_same}
 use Rattle.pl_revisions.specs.declared.Revision.{Revision}
 use Rattle.pl_revisions.specs.Keys.{AreFound, HasDays, day_at, key_of}

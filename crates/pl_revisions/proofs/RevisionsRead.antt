@@ -23,9 +23,9 @@ use Rattle.pl_spec.specs.World.{column_number}
 use Rattle.pl_spec.specs.Window.{same_column}
 use Rattle.pl_spec.proofs.DatesWritten.{IsDay-IsDate}
 use Rattle.pl_calendar.specs.Days.{AreDays}
-use Rattle.pl_assets.specs.Assets.{AreAssets, sid_of}
-use Rattle.pl_assets.specs.LabelRules.{HasSid}
-use Rattle.pl_assets.proofs.SidColumns.{sid_form}
+use Rattle.pl_lifetimes.specs.Assets.{AreAssets, sid_of}
+use Rattle.pl_lifetimes.specs.Assets.{HasSid}
+use Rattle.pl_lifetimes.proofs.SidColumns.{sid_form}
 use Rattle.pl_bars.specs.Bars.{is_negative}
 use Rattle.pl_bars.specs.Rules.{IsNegative}
 use Rattle.pl_bars.proofs.BarFields.{IsCellText-bar_cell, IsNegative-test, is_negative-test}

@@ -10,8 +10,8 @@ use Rattle.pl_spec.specs.Dates.{IsDay, date_in}
 use Rattle.pl_spec.specs.Decimals.{sid_in}
 use Rattle.pl_spec.specs.Window.{same_column}
 use Rattle.pl_spec.specs.declared.AssetRow.{AssetRow}
-use Rattle.pl_assets.specs.Assets.{sid_of}
-use Rattle.pl_assets.specs.LabelRules.{HasSid}
+use Rattle.pl_lifetimes.specs.Assets.{sid_of}
+use Rattle.pl_lifetimes.specs.Assets.{HasSid}
 use Rattle.pl_bars.specs.Bars.{cell_in, is_bar_cell, is_negative}
 use Rattle.pl_bars.specs.ColumnNames.{column_in}
 use Rattle.pl_revisions.specs.declared.Revision.{Revision}

@@ -5,7 +5,7 @@ use Rattle.pl_records.specs.Reading.{Record, Fault, field, AreRowsUnder, IsFault
 use Rattle.pl_records.specs.RuleTable.{IsFirstBroken, KeepsAll}
 use Rattle.pl_spec.specs.Dates.{IsDate}
 use Rattle.pl_spec.specs.declared.AssetRow.{AssetRow}
-use Rattle.pl_assets.specs.LabelRules.{HasSid}
+use Rattle.pl_lifetimes.specs.Assets.{HasSid}
 use Rattle.pl_bars.specs.ColumnNames.{column_name}
 use Rattle.pl_bars.specs.Rules.{IsCellText, IsNegative}
 use Rattle.pl_revisions.specs.declared.Revision.{Revision}

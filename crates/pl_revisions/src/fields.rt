@@ -3,7 +3,7 @@ ghost use Rattle.pl_records.specs.RuleTable.{lacks};
 ghost use Rattle.pl_revisions.specs.Revisions.{col_in, is_soon, revision_in, session_in};
 
 use crate::Revision;
-use pl_assets::Assets;
+use pl_lifetimes::Assets;
 use pl_bars::{read_cell, read_column};
 use pl_calendar::Sessions;
 use pl_fixed::{read_day, read_sid};

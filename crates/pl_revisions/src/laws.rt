@@ -6,7 +6,7 @@ ghost use Rattle.pl_spec.specs.declared.AssetRow.{AssetRow};
 ghost use Rattle.pl_records.specs.Reading.{Record, Fault, Judges};
 ghost use Rattle.pl_records.specs.RuleTable.{IsFirstBroken};
 ghost use Rattle.pl_calendar.specs.Days.{AreDays};
-ghost use Rattle.pl_assets.specs.Assets.{AreAssets};
+ghost use Rattle.pl_lifetimes.specs.Assets.{AreAssets};
 ghost use Rattle.pl_revisions.specs.declared.Revision.{Revision};
 ghost use Rattle.pl_revisions.specs.Revisions.{Rule, revisions_of, rules, says_revision};
 ghost use Rattle.pl_revisions.specs.Rules.{AreRevisionsOf, Breaks, IsNext, IsRevisionsFault};

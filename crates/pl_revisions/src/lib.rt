@@ -14,7 +14,7 @@ mod reading;
 mod rows;
 
 pub use error::RevisionsError;
-use pl_assets::Assets;
+use pl_lifetimes::Assets;
 use pl_calendar::Sessions;
 use pl_fixed::Column;
 use std::alloc::Global;

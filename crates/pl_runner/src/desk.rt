@@ -1,6 +1,6 @@
 //! The memory of a run.
 ghost use Rattle.std.specs.Prelude.{◌≡◌, ◌<◌, ◌≤◌, ◌^◌, IfOk};
-ghost use Rattle.pl_model.specs.Worlds.{world_of};
+ghost use Rattle.pl_world.specs.Worlds.{world_of};
 ghost use Rattle.pl_terms.specs.Checked.{pipeline_of};
 ghost use Rattle.pl_planner.specs.Plans.{IsPlanOf};
 ghost use Rattle.pl_runner.specs.Desks.{IsDesk};
@@ -9,7 +9,7 @@ use pl_chunks::longest_array;
 use pl_cross::Cross;
 use pl_exec::Rows;
 use pl_fixed::Memory;
-use pl_model::World;
+use pl_world::World;
 use pl_planner::Plan;
 use pl_table::{Line, tile_len};
 use pl_terms::Checked;

@@ -5,4 +5,5 @@ mod desk;
 mod release;
 mod run;
 
-pub use run::{RunError, RunReport, run_table};
+pub use pl_table::RunError;
+pub use run::{RunReport, run_table};

@@ -4,7 +4,7 @@ ghost use Rattle.pl_spec.specs.Graph.{bound};
 ghost use Rattle.pl_spec.specs.Table.{table};
 ghost use Rattle.pl_spec.specs.Text.{text};
 ghost use Rattle.pl_outside.specs.Taken.{Writes};
-ghost use Rattle.pl_model.specs.Worlds.{IsMade, world_of};
+ghost use Rattle.pl_world.specs.Worlds.{IsMade, world_of};
 ghost use Rattle.pl_terms.specs.Checked.{pipeline_of};
 ghost use Rattle.pl_terms.specs.Uses.{outputs};
 ghost use Rattle.pl_planner.specs.Plans.{IsPlanOf};
@@ -14,21 +14,21 @@ ghost use Rattle.pl_chunks.specs.declared.pieces.Chunk.{Chunk};
 ghost use Rattle.pl_exec.specs.Tasks.{cut};
 ghost use Rattle.pl_runner.specs.Desks.{IsDesk, IsDeskFor};
 ghost use Rattle.pl_runner.specs.Runs.{IsReport, run_steps, steps_of_chunk};
-ghost use Rattle.pl_runner.specs.declared.run.RunError.TheVariants as RunError;
+ghost use Rattle.pl_table.specs.declared.error.RunError.TheVariants as RunError;
 
 use crate::desk::Desk;
 use crate::release::release_outputs;
 use pl_chunks::{Chunk, chunk_at, chunk_count, put_columns};
 use pl_exec::{Chunk as Sessions, ChunkReport, execute_chunk};
-use pl_fixed::{Memory, Steps};
-use pl_model::World;
-use pl_model::laws::parts_make_a_world;
+use pl_fixed::Steps;
+use pl_world::World;
+use pl_world::laws::parts_make_a_world;
 use pl_outside::{Failed, Sink, write_bytes};
 use pl_planner::Plan;
 use pl_spec::Format;
-use pl_table::{Outcome, Totals, make_header, write_rows};
+use pl_table::{Outcome, RunError, Totals, make_header, write_rows};
 use pl_terms::Checked;
-use std::alloc::{AllocError, Global};
+use std::alloc::Global;
 use std::sync::ledger::Ledger;
 
 /// What a run did: how many rows it wrote, the sum of their cells modulo 2^64, in which missing ones count 0,
@@ -40,34 +40,6 @@ pub struct RunReport {
     pub cells: u64,
     pub peak: usize,
     pub applied: u64,
-}
-
-/// Why a run ended early: the sink counted a fault, or no memory was found, which comes only before the first
-/// byte.
-#[derive(Clone, Copy, Debug, PartialEq, Eq)]
-pub enum RunError {
-    WriteFault,
-    Memory,
-}
-
-impl From<AllocError> for RunError {
-    ghost use Rattle.pl_runner.specs.declared.run.RunError.TheVariants.{Memory};
-
-    ghost from_gives = { λ _ e. e ≡ Memory };
-
-    fn from(_refused: AllocError) -> RunError {
-        RunError::Memory
-    }
-}
-
-impl From<Memory> for RunError {
-    ghost use Rattle.pl_runner.specs.declared.run.RunError.TheVariants.{Memory};
-
-    ghost from_gives = { λ _ e. e ≡ Memory };
-
-    fn from(_refused: Memory) -> RunError {
-        RunError::Memory
-    }
 }
 
 /// Writes the table of a plan's range, the header and each row in one piece. The sessions are computed in

@@ -31,10 +31,10 @@ use Rattle.pl_values.proofs.Given.{window-input}
 use Rattle.pl_facts.specs.Facts.{Fact, number_in, number_facts, number_read, over_inputs, facts_now, window_facts, entry_facts, kind_facts, node_facts, premises}
 use Rattle.pl_facts.specs.Facts.Fact.{Worth}
 use Rattle.pl_facts.proofs.Codes.{from_code}
-use Rattle.pl_model.specs.declared.world.World.{World}
-use Rattle.pl_model.specs.Worlds.{world_of}
-use Rattle.pl_model.proofs.Asked.{inputs-at}
-use Rattle.pl_model.proofs.Evaluated.{kept-mask, windowed-is, point-is, label-test-is, section-is, sids-is}
+use Rattle.pl_world.specs.declared.world.World.{World}
+use Rattle.pl_world.specs.Worlds.{world_of}
+use Rattle.pl_world.proofs.Asked.{inputs-at}
+use Rattle.pl_world.proofs.Evaluated.{kept-mask, windowed-is, point-is, label-test-is, section-is, sids-is}
 use Rattle.pl_step.specs.Given.{mask_passes, facts_read, IsEarly}
 use Rattle.pl_step.proofs.Entries.{input-facts}
 

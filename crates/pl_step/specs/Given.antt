@@ -12,9 +12,9 @@ use Rattle.pl_terms.specs.declared.node.Node.{Node}
 use Rattle.pl_terms.specs.Kinds.{kind_of}
 use Rattle.pl_terms.specs.Nodes.{node_of}
 use Rattle.pl_terms.specs.Checked.{Parts}
-use Rattle.pl_model.specs.declared.world.World.{World}
-use Rattle.pl_model.specs.Worlds.{world_of}
-use Rattle.pl_model.specs.Evaluations.{row_in, as_input, input_cell_in, lets_pass}
+use Rattle.pl_world.specs.declared.world.World.{World}
+use Rattle.pl_world.specs.Worlds.{world_of}
+use Rattle.pl_world.specs.Evaluations.{row_in, as_input, input_cell_in, lets_pass}
 use Rattle.pl_facts.specs.Facts.{Fact, number_in, entry_facts, kind_facts}
 use Rattle.pl_facts.specs.Facts.Fact.{Worth}
 use Rattle.pl_told.specs.declared.told.Told.{Told}

@@ -5,12 +5,12 @@ ghost use Rattle.pl_spec.specs.Parts.{sid_at};
 ghost use Rattle.pl_spec.specs.Window.{changed, effect};
 ghost use Rattle.pl_adjust.specs.Events.{IsPut, PutCells, PutsCell, effect_of, effects_of, event_of};
 ghost use Rattle.pl_facts.specs.Right.{after_each, seen_cells};
-ghost use Rattle.pl_model.specs.Worlds.{world_of, IsMade};
+ghost use Rattle.pl_world.specs.Worlds.{world_of, IsMade};
 ghost use Rattle.pl_step.specs.Given.{GrowsBy};
 
 use pl_adjust::{Adjust, Effect, effect_for};
 use pl_fixed::{Column, Memory, Steps};
-use pl_model::World;
+use pl_world::World;
 use std::alloc::Global;
 use std::sync::ledger::Ledger;
 

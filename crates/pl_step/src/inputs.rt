@@ -9,12 +9,12 @@ ghost use Rattle.pl_facts.specs.Facts.{facts_now, number_facts, window_facts};
 ghost use Rattle.pl_facts.specs.Facts.Fact.{Worth};
 ghost use Rattle.pl_spec.specs.Term.Input.{BarColumn, TermInput};
 ghost use Rattle.pl_terms.specs.declared.node.Input.TheVariants as input;
-ghost use Rattle.pl_model.specs.Worlds.{world_of};
-ghost use Rattle.pl_model.specs.Evaluations.{cell_in, input_cell_in, window_in};
+ghost use Rattle.pl_world.specs.Worlds.{world_of};
+ghost use Rattle.pl_world.specs.Evaluations.{cell_in, input_cell_in, window_in};
 ghost use Rattle.pl_step.specs.Given.{given, mask_passes, IsEarly, TellsTruth};
 
 use pl_fixed::{Column, MISSING, Memory};
-use pl_model::World;
+use pl_world::World;
 use pl_terms::{Checked, Input, TermId};
 use pl_told::{Fact, Told};
 use std::alloc::Global;

@@ -8,13 +8,13 @@ ghost use Rattle.pl_terms.specs.Checked.{pipeline_of};
 ghost use Rattle.pl_terms.specs.Nodes.{node_of, number_of};
 ghost use Rattle.pl_facts.specs.Facts.{entry_facts, number_facts};
 ghost use Rattle.pl_facts.specs.Facts.Fact.{Worth};
-ghost use Rattle.pl_model.specs.Worlds.{world_of};
-ghost use Rattle.pl_model.specs.Evaluations.{HasKind, cell_in, optional_row_in, row_in};
+ghost use Rattle.pl_world.specs.Worlds.{world_of};
+ghost use Rattle.pl_world.specs.Evaluations.{HasKind, cell_in, optional_row_in, row_in};
 ghost use Rattle.pl_step.specs.Given.{facts_read, given, has_all, living_facts, IsKeptRow, KeepsRows, TellsTruth};
 
 use crate::inputs::term_told;
 use pl_fixed::Memory;
-use pl_model::{World, exists, section_input, section_row};
+use pl_world::{World, exists, section_input, section_row};
 use pl_terms::{Checked, TermId};
 use pl_told::{Rows, Told};
 use pl_values::empty_value;

@@ -9,14 +9,14 @@ ghost use Rattle.pl_terms.specs.Sorts.{is_windowed};
 ghost use Rattle.pl_values.specs.Families.{is_label_test, is_point};
 ghost use Rattle.pl_facts.specs.Facts.{number_in, premises};
 ghost use Rattle.pl_facts.specs.Facts.Fact.{Worth};
-ghost use Rattle.pl_model.specs.Worlds.{world_of, IsMade};
-ghost use Rattle.pl_model.specs.Evaluations.{HasKind, IsKept, cell_in};
+ghost use Rattle.pl_world.specs.Worlds.{world_of, IsMade};
+ghost use Rattle.pl_world.specs.Evaluations.{HasKind, IsKept, cell_in};
 ghost use Rattle.pl_step.specs.Given.{facts_read, given, KeepsRows, TellsTruth};
 
 use crate::inputs::{input_told, mask_told, window_told};
 use crate::sections::section_told;
 use pl_fixed::{Frequency, Memory};
-use pl_model::{World, exists, input_at, label_cell};
+use pl_world::{World, exists, input_at, label_cell};
 use pl_terms::{Checked, TermId};
 use pl_told::{Rows, Told};
 use pl_values::{

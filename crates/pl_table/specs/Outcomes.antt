@@ -9,7 +9,7 @@ use Rattle.pl_spec.specs.Rounding.{IsCell}
 use Rattle.pl_spec.specs.Table.{NamedColumn, Pipeline, Row, session_rows}
 use Rattle.pl_spec.specs.Text.{row_line}
 use Rattle.pl_cross.specs.Arrays.{HasTexts}
-use Rattle.pl_model.specs.Worlds.{world_of}
+use Rattle.pl_world.specs.Worlds.{world_of}
 use Rattle.pl_terms.specs.Checked.{IsChecked, pipeline_of}
 use Rattle.pl_terms.specs.Uses.{outputs}
 use Rattle.pl_planner.specs.Plans.{IsPlanOf, low_at, slot_of}

@@ -3,6 +3,7 @@
 #![tactic(auto)]
 
 mod asked;
+mod error;
 mod fields;
 mod header;
 mod line;
@@ -12,6 +13,7 @@ mod tile;
 mod totals;
 mod writing;
 
+pub use error::RunError;
 pub use fields::{put_cell, put_date, put_sid};
 pub use header::make_header;
 pub use line::Line;

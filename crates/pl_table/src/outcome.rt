@@ -6,7 +6,7 @@ ghost use Rattle.pl_terms.specs.Uses.{outputs};
 ghost use Rattle.pl_values.specs.Arrays.{cell_of};
 ghost use Rattle.pl_table.specs.Outcomes.{IsOutcome, IsWithin, pipeline_in, sids_in, world_in};
 
-use pl_model::World;
+use pl_world::World;
 use pl_planner::Plan;
 use pl_terms::{Checked, TermId};
 use pl_workspace::Workspace;

@@ -5,7 +5,7 @@ use Rattle.std.proofs.lemmas.List.Elements.{All-filter}
 use Rattle.pl_spec.specs.World.{Event}
 use Rattle.pl_adjust.specs.Events.{PutCells, PutsCell, event_of}
 use Rattle.pl_adjust.specs.Columns.{events_at}
-use Rattle.pl_assets.proofs.Filters.{filter-map}
+use Rattle.pl_lifetimes.proofs.Filters.{filter-map}
 use Rattle.pl_adjust.proofs.Adjustments.events_between.Goals as goal
 
 pub returns-clause-events : goal.returns-clause-events

@@ -1,5 +1,5 @@
 use Rattle.std.proofs.Common.{◌∙◌, sym}
-use Rattle.pl_assets.proofs.SidColumns.{no_col_found}
+use Rattle.pl_lifetimes.proofs.SidColumns.{no_col_found}
 use Rattle.pl_adjust.proofs.revised.col_of.Goals as goal
 
 pub unreachable-requires : goal.unreachable-requires

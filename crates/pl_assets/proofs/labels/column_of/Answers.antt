@@ -1,6 +1,6 @@
 use Rattle.std.proofs.Common.{◌∙◌, ◌==◌, sym}
 use Rattle.std.proofs.lemmas.Bool.{true≢false}
-use Rattle.pl_assets.specs.Assets.{sid_of}
+use Rattle.pl_lifetimes.specs.Assets.{sid_of}
 use Rattle.pl_assets.proofs.TextLists.{none_there}
 use Rattle.pl_assets.proofs.labels.column_of.Goals as goal
 

@@ -1,7 +1,7 @@
 use Rattle.std.proofs.Common.{rules, w32, FitsSigned, sym}
 use Rattle.std.proofs.lemmas.Int.{to_z-of_z}
-use Rattle.pl_model.specs.Worlds.{world_of}
-use Rattle.pl_model.proofs.Lifetimes.{exists-at}
+use Rattle.pl_world.specs.Worlds.{world_of}
+use Rattle.pl_world.proofs.Lifetimes.{exists-at}
 use Rattle.pl_chunks.proofs.columns.exists.Goals as goal
 
 pub returns : goal.returns

@@ -1,5 +1,5 @@
 use Rattle.std.proofs.Common.{◌≡◌, ◌∙◌, sym, arith}
-use Rattle.pl_model.specs.Worlds.{world_of}
+use Rattle.pl_world.specs.Worlds.{world_of}
 use Rattle.pl_chunks.proofs.Living.{lives-some, lives-none}
 use Rattle.pl_chunks.proofs.columns.lives_within.Goals as goal
 

@@ -1,6 +1,6 @@
 use Rattle.std.proofs.Common.{rules, vec_len, ◌≡◌, ◌≤◌, ◌*◌, ◌∙◌, length, ap, arith}
 use Rattle.std.proofs.lemmas.Nat.{mul-le}
-use Rattle.pl_model.specs.Worlds.{world_of}
+use Rattle.pl_world.specs.Worlds.{world_of}
 use Rattle.pl_terms.specs.Checked.{pipeline_of}
 use Rattle.pl_chunks.specs.Chunks.{columns_of}
 use Rattle.pl_chunks.proofs.Assets.{columns_of-few}

@@ -1,6 +1,6 @@
 use Rattle.std.proofs.Common.{rules, ◌≡◌, max, arith}
 use Rattle.std.specs.Prelude.{ℕ, ◌<◌}
-use Rattle.pl_model.specs.Worlds.{world_of}
+use Rattle.pl_world.specs.Worlds.{world_of}
 use Rattle.pl_terms.specs.Checked.{pipeline_of}
 use Rattle.pl_chunks.proofs.Rooms.{rooms-more, room-at}
 use Rattle.pl_chunks.proofs.room.longest_array.Goals as goal

@@ -5,7 +5,7 @@ use Rattle.pl_values.proofs.Texts.{texts-coded}
 use Rattle.pl_facts.specs.Right.{is_told}
 use Rattle.pl_facts.proofs.Truths.{sound}
 use Rattle.pl_lines.specs.Listed.{line_of}
-use Rattle.pl_model.specs.Worlds.{world_of}
+use Rattle.pl_world.specs.Worlds.{world_of}
 use Rattle.pl_explain.proofs.Passing.{pass, stop, whole, taken-more}
 use Rattle.pl_explain.proofs.Judging.{judged-right, told-behind}
 use Rattle.pl_explain.proofs.judge.first_wrong.Goals as goal

@@ -7,7 +7,7 @@ use Rattle.pl_facts.specs.Facts.Fact.{Seen}
 use Rattle.pl_facts.specs.Right.{last_cell, seen_cells}
 use Rattle.pl_facts.proofs.Truths.{last_seen}
 use Rattle.pl_lines.specs.Lines.Line.{SeenLine}
-use Rattle.pl_model.specs.Worlds.{world_of}
+use Rattle.pl_world.specs.Worlds.{world_of}
 use Rattle.pl_step.proofs.Given.{none-of}
 use Rattle.pl_explain.proofs.Lines.{bar-no-day, bar-late, bar-fact, bar-fits, bar-judged, last-cell}
 use Rattle.pl_spec.specs.Rounding.{IsCell}

@@ -8,7 +8,7 @@ use Rattle.pl_facts.specs.Facts.{number_in, premises}
 use Rattle.pl_facts.specs.Facts.Fact.{Worth}
 use Rattle.pl_lines.specs.Lines.Line.{ValueLine}
 use Rattle.pl_told.specs.Looking.{look}
-use Rattle.pl_model.specs.Worlds.{world_of}
+use Rattle.pl_world.specs.Worlds.{world_of}
 use Rattle.pl_step.specs.Given.{has, has_all}
 use Rattle.pl_step.proofs.Given.{none-of, has-none, has-some, given-some, given-none}
 use Rattle.pl_explain.proofs.Lines.{value-no-day, value-repeat, value-judged, value-fits, value-fact}

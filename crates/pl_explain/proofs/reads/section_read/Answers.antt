@@ -4,9 +4,9 @@ use Rattle.pl_spec.specs.World.{exists}
 use Rattle.pl_terms.specs.Nodes.{node_of}
 use Rattle.pl_facts.specs.Facts.{entry_facts}
 use Rattle.pl_told.specs.Keys.{fact_of}
-use Rattle.pl_model.specs.Worlds.{world_of}
-use Rattle.pl_model.proofs.Evaluated.{sid-of}
-use Rattle.pl_model.proofs.Sections.{all_there}
+use Rattle.pl_world.specs.Worlds.{world_of}
+use Rattle.pl_world.proofs.Evaluated.{sid-of}
+use Rattle.pl_world.proofs.Sections.{all_there}
 use Rattle.pl_explain.proofs.Behind.{entries_of, entry-none, entry-more, entries-all}
 use Rattle.pl_explain.proofs.reads.section_read.Goals.{then-exists+in_ok-put_entry, else-exists}
 use Rattle.pl_explain.proofs.reads.section_read.Goals as goal

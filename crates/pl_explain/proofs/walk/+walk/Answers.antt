@@ -12,13 +12,13 @@ use Rattle.pl_terms.specs.Nodes.{number_of}
 use Rattle.pl_cross.specs.Arrays.{HasTexts}
 use Rattle.pl_values.proofs.Texts.{texts-coded}
 use Rattle.pl_lines.specs.declared.line.Line.TheVariants as line
-use Rattle.pl_lines.proofs.Each.{Each}
+use Rattle.pl_spec.proofs.Each.{Each}
 use Rattle.pl_facts.specs.Facts.{number_in, number_facts, premises}
 use Rattle.pl_facts.specs.Facts.Fact.{Worth}
 use Rattle.pl_facts.specs.Walks.{depth_of}
-use Rattle.pl_model.specs.Worlds.{world_of}
-use Rattle.pl_model.specs.Evaluations.{cell_in}
-use Rattle.pl_model.proofs.Evaluated.{sid-of}
+use Rattle.pl_world.specs.Worlds.{world_of}
+use Rattle.pl_world.specs.Evaluations.{cell_in}
+use Rattle.pl_world.proofs.Evaluated.{sid-of}
 use Rattle.pl_told.specs.declared.fact.Fact.{Fact}
 use Rattle.pl_told.specs.Keys.{fact_of}
 use Rattle.pl_step.specs.Given.{facts_read, mask_passes}

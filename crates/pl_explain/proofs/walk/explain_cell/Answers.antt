@@ -8,8 +8,8 @@ use Rattle.pl_facts.specs.Facts.Fact.{Worth}
 use Rattle.pl_facts.specs.Laws.{IsDerivation}
 use Rattle.pl_facts.specs.Walks.{derivation, facts_for}
 use Rattle.pl_lines.specs.Texts.{MOST_LINES}
-use Rattle.pl_model.specs.Worlds.{world_of}
-use Rattle.pl_model.proofs.Evaluated.{sid-of}
+use Rattle.pl_world.specs.Worlds.{world_of}
+use Rattle.pl_world.proofs.Evaluated.{sid-of}
 use Rattle.pl_explain.specs.declared.walk.Walk.{Walk}
 use Rattle.pl_explain.specs.Walking.{CanStand, Finishes, IsTooLong}
 use Rattle.pl_explain.proofs.Standing.{stands-first, derived, derived-long}

@@ -9,7 +9,7 @@ use Rattle.pl_facts.specs.Facts.Fact.{Seen}
 use Rattle.pl_facts.specs.Right.{last_cell, seen_cells}
 use Rattle.pl_facts.proofs.Truths.{last_seen}
 use Rattle.pl_lines.specs.declared.line.Line.TheVariants as line
-use Rattle.pl_model.specs.Worlds.{world_of}
+use Rattle.pl_world.specs.Worlds.{world_of}
 use Rattle.pl_explain.proofs.Lines.{last-cell}
 use Rattle.pl_explain.proofs.Walks.{walk-none}
 use Rattle.pl_explain.proofs.Finished.{put-finished, put-stands, put-long, bar-line, cells-all, some-cells}

@@ -1,6 +1,6 @@
 use Rattle.std.proofs.Common.{◌≤◌, ap, arith, []}
 use Rattle.pl_outside.proofs.Pieces.{writing-start, writing-end, writes-over}
-use Rattle.pl_model.specs.Worlds.{world_of}
+use Rattle.pl_world.specs.Worlds.{world_of}
 use Rattle.pl_terms.specs.Checked.{pipeline_of}
 use Rattle.pl_table.specs.Outcomes.{lines}
 use Rattle.pl_feed.proofs.Following.{AreSound}

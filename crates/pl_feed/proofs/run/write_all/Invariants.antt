@@ -1,7 +1,7 @@
 use Rattle.std.proofs.Common.{◌≡◌, ◌≤◌, ◌+◌, ◌++◌}
 use Rattle.pl_outside.proofs.Pieces.{Writing}
 use Rattle.pl_spec.specs.Table.{table}
-use Rattle.pl_model.specs.Worlds.{world_of}
+use Rattle.pl_world.specs.Worlds.{world_of}
 use Rattle.pl_terms.specs.Checked.{pipeline_of}
 use Rattle.pl_table.specs.Outcomes.{lines}
 use Rattle.pl_feed.specs.Desks.{IsDesk}

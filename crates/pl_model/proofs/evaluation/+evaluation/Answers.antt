@@ -14,13 +14,14 @@ use Rattle.pl_values.specs.declared.family.Family.TheVariants as family
 use Rattle.pl_values.specs.Arrays.{cell_of}
 use Rattle.pl_spec.specs.Value.{number_of as number_in, empty, sort_kind}
 use Rattle.pl_values.proofs.Texts.{texts-coded}
-use Rattle.pl_model.specs.Worlds.{world_of}
-use Rattle.pl_model.specs.Evaluations.{IsAsked, IsAskedInput, IsAskedOption, IsKept, as_input, lets_pass, above, above_option, cell_in, input_cell_in, window_in, cost_in, input_cost_in}
-use Rattle.pl_model.proofs.Asked.{first-asked, second-asked, third-asked, mask-asked, group-asked, mask-input-asked, input-below, mask-below, group-below, window-one, start-asked}
-use Rattle.pl_model.proofs.Evaluated.{lacks-value, cell-barred, cell-kept, kept-mask, mask-passed, on-ok, sid-of, not-windowed, constant-given, sid-given, label-named, label-given, label-test-given, window-early, windows-given, point-given, start-given, downsampled-plain}
+use Rattle.pl_world.specs.Worlds.{world_of}
+use Rattle.pl_world.specs.Evaluations.{IsAsked, IsAskedInput, IsAskedOption, IsKept, as_input, lets_pass, above, above_option, cell_in, input_cell_in, window_in}
+use Rattle.pl_model.specs.Costs.{cost_in, input_cost_in}
+use Rattle.pl_world.proofs.Asked.{first-asked, second-asked, third-asked, mask-asked, group-asked, mask-input-asked, input-below, mask-below, group-below, window-one, start-asked}
+use Rattle.pl_world.proofs.Evaluated.{lacks-value, cell-barred, cell-kept, kept-mask, mask-passed, on-ok, sid-of, not-windowed, constant-given, sid-given, label-named, label-given, label-test-given, window-early, windows-given, point-given, start-given, downsampled-plain}
 use Rattle.pl_model.proofs.Costs.{cost-lacks, cost-barred, cost-kept, start-cost}
-use Rattle.pl_model.proofs.Windowing.{cells-more, steps-more, cells-all, steps-all, all-more, row-more, row-steps-more, row-all, row-steps-all}
-use Rattle.pl_model.proofs.Sections.{sid-there, blank}
+use Rattle.pl_world.proofs.Windowing.{cells-more, steps-more, cells-all, steps-all, all-more, row-more, row-steps-more, row-all, row-steps-all}
+use Rattle.pl_world.proofs.Sections.{sid-there, blank}
 use Rattle.pl_model.proofs.evaluation.+evaluation.Goals as goal
 
 pub cell-returns-then-not-exists-clause-value : goal.cell-returns-then-not-exists-clause-value

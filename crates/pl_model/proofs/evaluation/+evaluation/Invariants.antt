@@ -2,8 +2,9 @@ use Rattle.std.proofs.Common.{◌≡◌, ◌+◌, ◌-◌, ◌*◌, ◌≤◌, m
 use Rattle.std.specs.List.{range_with_len}
 use Rattle.pl_spec.specs.Rounding.{IsCell}
 use Rattle.pl_spec.specs.Parts.{sid_at}
-use Rattle.pl_model.specs.Evaluations.{cell_in, cost_in}
-use Rattle.pl_model.specs.Evaluations.{above, above_option}
+use Rattle.pl_world.specs.Evaluations.{cell_in}
+use Rattle.pl_model.specs.Costs.{cost_in}
+use Rattle.pl_world.specs.Evaluations.{above, above_option}
 use Rattle.pl_model.proofs.evaluation.+evaluation.Given as goal
 
 abbrev pub decreases-cell : goal.decreases-cell

@@ -5,9 +5,9 @@ use Rattle.std.proofs.lemmas.Int.{to_z-of_z}
 use Rattle.pl_spec.specs.Parts.{sid_at}
 use Rattle.pl_spec.specs.declared.Column.TheVariants.{Close}
 use Rattle.pl_spec.specs.declared.AssetRow.{AssetRow}
-use Rattle.pl_assets.specs.Assets.{sid_of}
-use Rattle.pl_assets.specs.LabelRules.{HasSid}
-use Rattle.pl_assets.proofs.SidColumns.{sid_form}
+use Rattle.pl_lifetimes.specs.Assets.{sid_of}
+use Rattle.pl_lifetimes.specs.Assets.{HasSid}
+use Rattle.pl_lifetimes.proofs.SidColumns.{sid_form}
 use Rattle.pl_bars.proofs.BarWorlds.{cells_raw}
 use Rattle.pl_payouts.specs.Ratios.{close_before, raw_close}
 use Rattle.pl_payouts.proofs.ratio.close_before.Goals as goal

@@ -2,7 +2,7 @@ use Rattle.std.proofs.Common.{◌≡◌, ℕ, ◌≤◌, ◌<◌, ◌+◌, ◌-�
 use Rattle.pl_spec.specs.Graph.{bound}
 use Rattle.pl_spec.specs.Table.{table}
 use Rattle.pl_outside.proofs.Pieces.{Writing}
-use Rattle.pl_model.specs.Worlds.{world_of}
+use Rattle.pl_world.specs.Worlds.{world_of}
 use Rattle.pl_terms.specs.Checked.{pipeline_of}
 use Rattle.pl_terms.specs.Uses.{outputs}
 use Rattle.pl_table.specs.Outcomes.{lines, rows_of_sessions}

@@ -5,8 +5,8 @@ use Rattle.pl_spec.specs.Parts.{sid_at}
 use Rattle.pl_spec.specs.Window.{effect, effects}
 use Rattle.pl_bars.proofs.BarWorlds.{cells_raw}
 use Rattle.pl_facts.specs.Right.{after_each}
-use Rattle.pl_model.specs.Worlds.{world_of}
-use Rattle.pl_model.proofs.Made.{effects-at}
+use Rattle.pl_world.specs.Worlds.{world_of}
+use Rattle.pl_world.proofs.Made.{effects-at}
 use Rattle.pl_step.proofs.bars.seen_cells.Goals as goal
 
 pub returns-clause-value : goal.returns-clause-value

@@ -8,9 +8,9 @@ use Rattle.pl_spec.proofs.Windows.{bar_window-sessions}
 use Rattle.pl_facts.specs.Facts.{window_facts}
 use Rattle.pl_facts.specs.Facts.Fact.{Seen}
 use Rattle.pl_told.specs.Looking.{look}
-use Rattle.pl_model.specs.Worlds.{world_of}
-use Rattle.pl_model.proofs.Evaluated.{sid-of}
-use Rattle.pl_model.proofs.Windowing.{cells-more, all-more}
+use Rattle.pl_world.specs.Worlds.{world_of}
+use Rattle.pl_world.proofs.Evaluated.{sid-of}
+use Rattle.pl_world.proofs.Windowing.{cells-more, all-more}
 use Rattle.pl_step.proofs.Given.{refused, accepted, has-none, has-some}
 use Rattle.pl_step.proofs.Facts.{bars-run, bars-early, run-told, run-lacks, run-more}
 use Rattle.pl_step.proofs.inputs.bars_told.Goals as goal

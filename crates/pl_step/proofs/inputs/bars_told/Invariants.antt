@@ -4,7 +4,7 @@ use Rattle.pl_spec.specs.Rounding.{IsCell}
 use Rattle.pl_spec.specs.Parts.{sid_at}
 use Rattle.pl_spec.specs.Window.{seen_cell}
 use Rattle.pl_facts.specs.Facts.Fact.{Seen}
-use Rattle.pl_model.specs.Worlds.{world_of}
+use Rattle.pl_world.specs.Worlds.{world_of}
 use Rattle.pl_step.specs.Given.{has}
 use Rattle.pl_step.proofs.inputs.bars_told.Given as goal
 

@@ -5,8 +5,8 @@ use Rattle.pl_spec.specs.Term.Input.{TermInput}
 use Rattle.pl_terms.specs.declared.node.Input.TheVariants as input
 use Rattle.pl_facts.specs.Facts.{window_facts}
 use Rattle.pl_facts.specs.Facts.Fact.{Worth}
-use Rattle.pl_model.specs.Evaluations.{cell_in, window_in}
-use Rattle.pl_model.proofs.Windowing.{cells-more, cells-all, all-more}
+use Rattle.pl_world.specs.Evaluations.{cell_in, window_in}
+use Rattle.pl_world.proofs.Windowing.{cells-more, cells-all, all-more}
 use Rattle.pl_values.specs.Arrays.{cell_of}
 use Rattle.pl_step.proofs.Given.{refused, accepted, one-told, one-lacks}
 use Rattle.pl_step.proofs.Facts.{terms-run, terms-early, run-told, run-lacks, run-more}

@@ -3,7 +3,7 @@ use Rattle.std.specs.List.{range_with_len}
 use Rattle.pl_spec.specs.Rounding.{IsCell}
 use Rattle.pl_spec.specs.Parts.{sid_at}
 use Rattle.pl_facts.specs.Facts.Fact.{Worth}
-use Rattle.pl_model.specs.Evaluations.{cell_in}
+use Rattle.pl_world.specs.Evaluations.{cell_in}
 use Rattle.pl_step.specs.Given.{has}
 use Rattle.pl_step.proofs.inputs.cells_told.Given as goal
 

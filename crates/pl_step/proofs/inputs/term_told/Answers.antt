@@ -2,8 +2,8 @@ use Rattle.std.proofs.Common.{pos, ap, ◌∙◌}
 use Rattle.pl_spec.specs.Parts.{sid_at}
 use Rattle.pl_facts.specs.Facts.Fact.{Worth}
 use Rattle.pl_terms.specs.Checked.{pipeline_of}
-use Rattle.pl_model.specs.Worlds.{world_of}
-use Rattle.pl_model.proofs.Evaluated.{sid-of}
+use Rattle.pl_world.specs.Worlds.{world_of}
+use Rattle.pl_world.proofs.Evaluated.{sid-of}
 use Rattle.pl_told.specs.Looking.{look}
 use Rattle.pl_step.proofs.Given.{given-one, told-cells}
 use Rattle.pl_step.proofs.inputs.term_told.Goals as goal

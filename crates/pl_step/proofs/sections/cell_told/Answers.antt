@@ -2,8 +2,8 @@ use Rattle.std.proofs.Common.{pos, sym, ◌∙◌, ◌≡◌, false, rules, w64,
 use Rattle.std.proofs.lemmas.Int.{to_z-of_z}
 use Rattle.pl_spec.specs.Parts.{sid_at}
 use Rattle.pl_spec.specs.World.{exists}
-use Rattle.pl_model.specs.Worlds.{world_of}
-use Rattle.pl_model.proofs.Evaluated.{lacks-value}
+use Rattle.pl_world.specs.Worlds.{world_of}
+use Rattle.pl_world.proofs.Evaluated.{lacks-value}
 use Rattle.pl_step.proofs.Entries.{living-none}
 use Rattle.pl_step.proofs.sections.cell_told.Goals as goal
 

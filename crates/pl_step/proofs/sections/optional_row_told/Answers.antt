@@ -3,8 +3,8 @@ use Rattle.pl_spec.specs.World.{living_sids}
 use Rattle.pl_facts.specs.Facts.{number_facts}
 use Rattle.pl_facts.specs.Facts.Fact.{Worth}
 use Rattle.pl_terms.specs.Nodes.{number_of}
-use Rattle.pl_model.specs.Worlds.{world_of}
-use Rattle.pl_model.specs.Evaluations.{optional_row_in}
+use Rattle.pl_world.specs.Worlds.{world_of}
+use Rattle.pl_world.specs.Evaluations.{optional_row_in}
 use Rattle.pl_step.proofs.Given.{given-read, given-unread, refused, accepted, none-of}
 use Rattle.pl_step.proofs.Entries.{no-facts, term-facts}
 use Rattle.pl_step.proofs.sections.optional_row_told.Goals as goal

@@ -3,10 +3,10 @@ use Rattle.pl_spec.specs.Rounding.{IsCell}
 use Rattle.pl_spec.specs.Parts.{sid_at}
 use Rattle.pl_spec.specs.World.{exists, living_sids}
 use Rattle.pl_facts.specs.Facts.Fact.{Worth}
-use Rattle.pl_model.specs.Worlds.{world_of}
-use Rattle.pl_model.specs.Evaluations.{cell_in, row_in}
-use Rattle.pl_model.proofs.Windowing.{all-more, row-more, row-all}
-use Rattle.pl_model.proofs.Sections.{all_there, sid-there, blank}
+use Rattle.pl_world.specs.Worlds.{world_of}
+use Rattle.pl_world.specs.Evaluations.{cell_in, row_in}
+use Rattle.pl_world.proofs.Windowing.{all-more, row-more, row-all}
+use Rattle.pl_world.proofs.Sections.{all_there, sid-there, blank}
 use Rattle.pl_step.specs.Given.{has_all, living_facts}
 use Rattle.pl_step.proofs.Given.{given-some, given-none, refused, accepted}
 use Rattle.pl_step.proofs.Entries.{living-told, living-lacks, next-place}

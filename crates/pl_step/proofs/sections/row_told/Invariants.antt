@@ -1,8 +1,8 @@
 use Rattle.std.proofs.Common.{◌≡◌, ℕ, ◌<◌, true, pos, map, take, All}
 use Rattle.pl_spec.specs.Rounding.{IsCell}
 use Rattle.pl_spec.specs.Parts.{sid_at}
-use Rattle.pl_model.specs.Evaluations.{cell_in}
-use Rattle.pl_model.specs.Worlds.{world_of}
+use Rattle.pl_world.specs.Evaluations.{cell_in}
+use Rattle.pl_world.specs.Worlds.{world_of}
 use Rattle.pl_step.specs.Given.{has_all, living_facts}
 use Rattle.pl_step.proofs.sections.row_told.Given as goal
 

@@ -3,7 +3,7 @@ use Rattle.pl_spec.specs.World.{living_sids}
 use Rattle.pl_facts.specs.Facts.{number_facts, entry_facts}
 use Rattle.pl_facts.specs.Facts.Fact.{Worth}
 use Rattle.pl_terms.specs.Nodes.{node_of, number_of}
-use Rattle.pl_model.specs.Worlds.{world_of}
+use Rattle.pl_world.specs.Worlds.{world_of}
 use Rattle.pl_step.specs.Given.{has_all}
 use Rattle.pl_step.proofs.Given.{given-read, given-unread, none-of}
 use Rattle.pl_step.proofs.Entries.{entries-told, masks-lack, groups-lack, inputs-lack}

@@ -5,8 +5,8 @@ use Rattle.pl_spec.specs.Parts.{sid_at}
 use Rattle.pl_terms.specs.Kinds.{kind_of}
 use Rattle.pl_values.specs.Families.{IsOf, sid_flag}
 use Rattle.pl_values.specs.declared.family.Family.TheVariants as family
-use Rattle.pl_model.specs.Evaluations.{cell_in}
-use Rattle.pl_model.proofs.Evaluated.{sid-of, constant-given, sid-given, label-named, label-given}
+use Rattle.pl_world.specs.Evaluations.{cell_in}
+use Rattle.pl_world.proofs.Evaluated.{sid-of, constant-given, sid-given, label-named, label-given}
 use Rattle.pl_step.specs.Given.{facts_read}
 use Rattle.pl_step.proofs.Given.{accepted}
 use Rattle.pl_step.proofs.Values.{read-constant, read-label, read-sids}

@@ -5,12 +5,12 @@ use Rattle.pl_terms.specs.Nodes.{input_of}
 use Rattle.pl_cross.specs.Arrays.{HasTexts}
 use Rattle.pl_facts.specs.Facts.{facts_now}
 use Rattle.pl_values.proofs.Texts.{texts-coded}
-use Rattle.pl_model.specs.Worlds.{world_of}
-use Rattle.pl_model.specs.Evaluations.{cell_in, input_cell_in}
+use Rattle.pl_world.specs.Worlds.{world_of}
+use Rattle.pl_world.specs.Evaluations.{cell_in, input_cell_in}
 use Rattle.pl_step.specs.Given.{facts_read}
 use Rattle.pl_step.proofs.Given.{given-some, given-none, refused, accepted}
 use Rattle.pl_values.specs.Families.{IsCode}
-use Rattle.pl_model.proofs.Evaluated.{label-test-given}
+use Rattle.pl_world.proofs.Evaluated.{label-test-given}
 use Rattle.pl_step.proofs.Values.{read-label-test}
 use Rattle.pl_step.proofs.value.over_label.Goals as goal
 

@@ -3,10 +3,10 @@ use Rattle.std.proofs.lemmas.Int.{to_z-of_z}
 use Rattle.pl_spec.specs.Parts.{sid_at}
 use Rattle.pl_terms.specs.Nodes.{input_of}
 use Rattle.pl_facts.specs.Facts.{facts_now}
-use Rattle.pl_model.specs.Evaluations.{cell_in, input_cell_in}
+use Rattle.pl_world.specs.Evaluations.{cell_in, input_cell_in}
 use Rattle.pl_step.specs.Given.{facts_read, has_all}
 use Rattle.pl_step.proofs.Given.{given-some, given-none, refused, accepted, three-told, first-lacks, second-lacks, third-lacks}
-use Rattle.pl_model.proofs.Evaluated.{point-given}
+use Rattle.pl_world.proofs.Evaluated.{point-given}
 use Rattle.pl_step.proofs.Values.{read-point}
 use Rattle.pl_step.proofs.value.over_operands.Goals as goal
 

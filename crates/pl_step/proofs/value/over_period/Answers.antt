@@ -2,8 +2,8 @@ use Rattle.std.proofs.Common.{◌≡◌, Some, pos, option_map, slice_get, ap, s
 use Rattle.pl_spec.specs.Parts.{sid_at}
 use Rattle.pl_terms.specs.Nodes.{input_of}
 use Rattle.pl_facts.specs.Facts.{facts_now}
-use Rattle.pl_model.specs.Evaluations.{cell_in, input_cell_in}
-use Rattle.pl_model.proofs.Evaluated.{start-given}
+use Rattle.pl_world.specs.Evaluations.{cell_in, input_cell_in}
+use Rattle.pl_world.proofs.Evaluated.{start-given}
 use Rattle.pl_step.specs.Given.{given}
 use Rattle.pl_step.proofs.Values.{read-period}
 use Rattle.pl_step.proofs.value.over_period.Goals as goal

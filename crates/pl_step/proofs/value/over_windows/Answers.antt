@@ -4,8 +4,8 @@ use Rattle.pl_spec.specs.Rounding.{IsCell}
 use Rattle.pl_spec.specs.Parts.{sid_at}
 use Rattle.pl_terms.specs.Nodes.{input_of}
 use Rattle.pl_facts.specs.Facts.{window_facts}
-use Rattle.pl_model.specs.Evaluations.{cell_in, window_in}
-use Rattle.pl_model.proofs.Evaluated.{windows-given}
+use Rattle.pl_world.specs.Evaluations.{cell_in, window_in}
+use Rattle.pl_world.proofs.Evaluated.{windows-given}
 use Rattle.pl_step.specs.Given.{facts_read, has_all, IsEarly}
 use Rattle.pl_step.proofs.Given.{given-read, given-unread, none-of, some-holds, refused, accepted, three-told, first-lacks, second-lacks, third-lacks}
 use Rattle.pl_step.proofs.Values.{read-windows, window-in-time}

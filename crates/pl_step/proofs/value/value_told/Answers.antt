@@ -11,9 +11,9 @@ use Rattle.pl_cross.specs.Arrays.{HasTexts}
 use Rattle.pl_values.proofs.Texts.{texts-coded}
 use Rattle.pl_facts.specs.Facts.{number_in, number_facts, premises}
 use Rattle.pl_facts.specs.Facts.Fact.{Worth}
-use Rattle.pl_model.specs.Worlds.{world_of}
-use Rattle.pl_model.specs.Evaluations.{cell_in}
-use Rattle.pl_model.proofs.Evaluated.{lacks-value, cell-kept, cell-barred}
+use Rattle.pl_world.specs.Worlds.{world_of}
+use Rattle.pl_world.specs.Evaluations.{cell_in}
+use Rattle.pl_world.proofs.Evaluated.{lacks-value, cell-kept, cell-barred}
 use Rattle.pl_step.specs.Given.{facts_read, given, mask_passes}
 use Rattle.pl_step.proofs.Given.{given-some, given-none, given-behind, refused, accepted, both-told, front-lacks}
 use Rattle.pl_step.proofs.Values.{premises-lacks, premises-front, premises-kept, premises-barred}

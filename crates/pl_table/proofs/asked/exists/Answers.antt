@@ -1,7 +1,7 @@
 use Rattle.std.proofs.Common.{rules, w32, FitsSigned, sym, ap, ◌∙◌, pos, get_or, ℕ}
 use Rattle.std.proofs.lemmas.Int.{to_z-of_z}
 use Rattle.pl_spec.specs.World.{exists}
-use Rattle.pl_model.proofs.Lifetimes.{exists-at}
+use Rattle.pl_world.proofs.Lifetimes.{exists-at}
 use Rattle.pl_table.specs.Outcomes.{world_in}
 use Rattle.pl_table.proofs.Outputs.{sid-of-place}
 use Rattle.pl_table.proofs.asked.exists.Goals as goal

@@ -1,0 +1,5 @@
+pub mod Filters
+pub mod Columns
+pub mod AssetsRead
+pub mod AssetsSaid
+pub mod SidColumns

@@ -1,0 +1,4 @@
+pub mod Assets
+pub mod Rules
+pub mod Faults
+pub mod Seen

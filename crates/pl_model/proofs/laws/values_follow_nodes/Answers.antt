@@ -1,8 +1,0 @@
-use Rattle.pl_spec.proofs.Unfolds.{value_at-node}
-use Rattle.pl_terms.specs.Checked.{pipeline_of}
-use Rattle.pl_model.proofs.laws.values_follow_nodes.Goals as goal
-
-pub returns : goal.returns
-returns c w t n e a d =
-    let p = pipeline_of c.args.checked.now in
-    value_at-node w p.names p.graph c.graph-terms.ensures.checked.graph t n e a d

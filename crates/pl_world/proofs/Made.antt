@@ -1,0 +1,151 @@
+-- The world that parts make: its adjustments by sid, and its cells as they are seen.
+use Rattle.std.proofs.Common.{◌≡◌, ℕ, suc, ◌<◌, ◌==◌, Bool, true, false, IsTrue, ℤ, pos, ◌≤ℤ◌, ◌⊎◌, inl, inr, List, [], ◌∷◌, map, filter, length, get_or, All, slice_get, Some, refl, sym, ◌∙◌, ap, arith}
+use Rattle.std.specs.List.{AllPairs, Contains}
+use Rattle.std.proofs.lemmas.Bool.{cases_lt, true≢false}
+use Rattle.std.proofs.lemmas.Bool.Decides.{nat_tests}
+use Rattle.std.proofs.lemmas.List.{get_or-map, length-map}
+use Rattle.std.proofs.lemmas.Option.{slice_get-get_or}
+use Rattle.pl_spec.specs.declared.AssetRow.{AssetRow}
+use Rattle.pl_spec.specs.declared.BarRow.{BarRow}
+use Rattle.pl_spec.specs.declared.Column.{Column}
+use Rattle.pl_spec.specs.Lookups.{BarsOnce, LabelsOnce}
+use Rattle.pl_spec.specs.Parts.{ColumnAdjustment, adjustment_of, bar_of, label_of, sid_at}
+use Rattle.pl_spec.specs.World.{Event, events_of}
+use Rattle.pl_spec.specs.Window.{after_all, effects, effects_in, seen_cell}
+use Rattle.pl_calendar.specs.Days.{AreDays}
+use Rattle.pl_lifetimes.specs.Assets.{AreAssets}
+use Rattle.pl_assets.specs.Labels.{AreLabels}
+use Rattle.pl_lifetimes.proofs.Columns.{one_col, sid_there}
+use Rattle.pl_assets.proofs.LabelKeys.{parts_from}
+use Rattle.pl_bars.specs.Bars.{AreBars, cell_at, is_before}
+use Rattle.pl_bars.proofs.BarWorlds.{cells_raw}
+use Rattle.pl_adjust.specs.Columns.{StandByDay, events_at}
+use Rattle.pl_adjust.proofs.Sids.{column_events}
+use Rattle.pl_world.specs.declared.world.World.{World}
+use Rattle.pl_world.specs.Worlds.{world_of, IsMade, PartsMakeAWorld}
+
+blank : AssetRow
+blank = record { sid = 0; start = pos 0; end = pos 0 }
+
+module _ (w : World) (made : IsMade w) (assets : AreAssets w.assets.now) (col : ℕ) (inside : col < length w.assets.now) where
+  -- the adjustments of the asset in a column
+  pub events_of-at : events_of (world_of w) (sid_at w.assets.now col) ≡ events_at w.adjustments.now col
+  events_of-at =
+      ap (events_of (world_of w)) (sid_there w.assets.now col blank inside)
+      ∙ column_events w.sessions.now w.assets.now w.labels.now.rows w.labels.now.texts w.bars.now w.adjustments.now assets.ascend made.adjustments_in
+      col (get_or w.assets.now col blank) (slice_get-get_or w.assets.now col blank inside)
+
+  pub effects-at : (c : Column) (s d : ℕ) (low high : ℤ) → slice_get w.sessions.now s ≡ Some low → slice_get w.sessions.now d ≡ Some high
+      → effects (world_of w) (sid_at w.assets.now col) c (pos s) (pos d) ≡ effects_in c low low high (events_at w.adjustments.now col)
+  effects-at c s d low high at_s at_d = rw (at_s, at_d) (ap (effects_in c low low high) events_of-at)
+
+  -- its cell of one session as it is seen on another
+  pub seen-at : (c : Column) (s d : ℕ) (low high : ℤ) → slice_get w.sessions.now s ≡ Some low → slice_get w.sessions.now d ≡ Some high
+      → seen_cell (world_of w) (sid_at w.assets.now col) c (pos s) (pos d) ≡ after_all (cell_at w.bars.now col c s) (effects_in c low low high (events_at w.adjustments.now col))
+  unfolding seen_cell
+  seen-at c s d low high at_s at_d =
+      ap (after_all _) (effects-at c s d low high at_s at_d)
+      ∙ ap (λ x. after_all x (effects_in c low low high (events_at w.adjustments.now col)))
+      (sym (cells_raw w.sessions.now w.assets.now w.labels.now.rows w.labels.now.texts w.bars.now w.adjustments.now assets.ascend made.bars_in col c s inside))
+
+-- ---- the world is one
+
+abbrev events_by : List AssetRow → List ColumnAdjustment → ℕ → List Event
+events_by assets xs a = map (λ x. x.event) (filter (λ x. x.sid == a) (map (adjustment_of assets) xs))
+
+-- a sid without an adjustment, or that of a column
+found : (assets : List AssetRow) (xs : List ColumnAdjustment) (a : ℕ) → All (λ x. x.col < length assets) xs
+    → (events_by assets xs a ≡ []) ⊎ ((col : ℕ) × (col < length assets) × (sid_at assets col ≡ a))
+found assets [] a all = inl refl
+found assets (x ∷ xs) a all = here (sid_at assets x.col == a) refl (found assets xs a (λ k d l. all (suc k) d (omega arith)))
+  where
+    here : (b : Bool) → (sid_at assets x.col == a) ≡ b → (events_by assets xs a ≡ []) ⊎ ((col : ℕ) × (col < length assets) × (sid_at assets col ≡ a))
+        → (events_by assets (x ∷ xs) a ≡ []) ⊎ ((col : ℕ) × (col < length assets) × (sid_at assets col ≡ a))
+    here true t rest = inr (x.col, all 0 x (omega arith), grind (arith, nat_tests))
+    here false t (inl none) = inl (rw t none)
+    here false t (inr col) = inr col
+
+by_day : (xs : List ColumnAdjustment) → AllPairs (λ x y. x.event.day ≤ℤ y.event.day) xs → AllPairs (λ e f. e.day ≤ℤ f.day) (map (λ (x : ColumnAdjustment). x.event) xs)
+by_day xs up i j d before within =
+    let e : ColumnAdjustment = record { col = 0; event = d } in
+    let long : length (map (λ (x : ColumnAdjustment). x.event) xs) ≡ length xs = length-map xs (λ x. x.event) in
+    let first : get_or (map (λ (x : ColumnAdjustment). x.event) xs) i d ≡ (get_or xs i e).event = get_or-map (λ x. x.event) xs i e d (omega arith) in
+    let second : get_or (map (λ (x : ColumnAdjustment). x.event) xs) j d ≡ (get_or xs j e).event = get_or-map (λ x. x.event) xs j e d (omega arith) in
+    rw (first, second) (up i j e before (omega arith))
+
+-- ---- each bar and each label row stands once
+
+-- where no two elements are the same, two that are mapped to the same are one
+once-mapped : {A B : Type 0} (f : A → B) (Same : B → B → Type 0) → ((b c : B) → Same b c → Same c b) → (xs : List A) → AllPairs (λ x y. ¬ Same (f x) (f y)) xs
+    → (b c : B) → Contains (map f xs) b → Contains (map f xs) c → Same b c → b ≡ c
+once-mapped f Same back [] differ b c first second same = absurd (omega (arith, first.1))
+once-mapped {A} {B} f Same back (x ∷ xs) differ b c first second same = elim (cases_lt first.0 second.0) [
+  | inl l ↦ absurd (differ first.0 second.0 x l in_second (rw (at_first, at_second) at same))
+  | inr g ↦ elim (cases_lt second.0 first.0) [
+    | inl l ↦ absurd (differ second.0 first.0 x l in_first (rw (at_first, at_second) at (back b c same)))
+    | inr h ↦ (let one : first.0 ≡ second.0 = omega arith in at_first ∙ ap (λ k. f (get_or (x ∷ xs) k x)) one ∙ sym at_second)
+  ]
+]
+  where
+    many : length (map f (x ∷ xs)) ≡ length (x ∷ xs)
+    many = length-map (x ∷ xs) f
+
+    in_first : first.0 < length (x ∷ xs)
+    in_first = omega (arith, first.1, many)
+
+    in_second : second.0 < length (x ∷ xs)
+    in_second = omega (arith, second.1, many)
+
+    at_first : b ≡ f (get_or (x ∷ xs) first.0 x)
+    at_first = sym first.2 ∙ get_or-map f (x ∷ xs) first.0 x b in_first
+
+    at_second : c ≡ f (get_or (x ∷ xs) second.0 x)
+    at_second = sym second.2 ∙ get_or-map f (x ∷ xs) second.0 x c in_second
+
+module _ (w : World) (made : IsMade w) (days : AreDays w.sessions.now) (assets : AreAssets w.assets.now) (labels : AreLabels w.labels.now) (bars : AreBars w.bars.now)
+    (in_order : StandByDay w.adjustments.now) where
+  bars_once : BarsOnce (world_of w)
+  bars_once b c first second sids sessions =
+      once-mapped (bar_of w.assets.now) (λ b c. (b.sid ≡ c.sid) × (b.session ≡ c.session)) (λ b c same. (sym same.0, sym same.1)) w.bars.now
+      (λ i j d lt l same.
+      let first_in : (get_or w.bars.now i d).col < length w.assets.now = made.bars_in i d (omega arith) in
+      let second_in : (get_or w.bars.now j d).col < length w.assets.now = made.bars_in j d l in
+      differ (get_or w.bars.now i d) (get_or w.bars.now j d) (bars.ascend i j d lt l) (one_col w.assets.now assets.ascend _ _ first_in second_in same.0) same.1)
+      b c first second (sids, sessions)
+    where
+      differ : (x y : BarRow) → IsTrue (is_before y.col y.session x) → x.col ≡ y.col → x.session ≡ y.session → ⊥
+      differ x y before cols sessions = grind (arith, nat_tests)
+
+  labels_once : LabelsOnce (world_of w)
+  labels_once r q first second names sids starts =
+      once-mapped (label_of w.assets.now) (λ r q. (r.name ≡ q.name) × (r.sid ≡ q.sid) × (r.start ≡ q.start)) (λ r q same. (sym same.0, sym same.1, sym same.2)) w.labels.now.rows
+      (λ i j d lt l same.
+      let first_in : (get_or w.labels.now.rows i d).col < length w.assets.now = made.labels_in i d (omega arith) in
+      let second_in : (get_or w.labels.now.rows j d).col < length w.assets.now = made.labels_in j d l in
+      let row = get_or w.labels.now.rows i d in
+      true≢false (sym (parts_from row.name row.col row.start (get_or w.labels.now.rows j d) (sym same.0) (sym (one_col w.assets.now assets.ascend _ _ first_in second_in same.1)) (sym same.2))
+      ∙ labels.once i j d lt l))
+      r q first second (names, sids, starts)
+
+  pub parts_make_a_world : PartsMakeAWorld w
+  parts_make_a_world = record {
+    parts = record {
+      days_ascend = days.ascend;
+      sids_ascend = assets.ascend;
+      labels_in = made.labels_in;
+      bars_in = made.bars_in;
+      sessions_in = made.sessions_in;
+      adjustments_in = made.adjustments_in;
+      events_in_order = in_order;
+    };
+    world = record {
+      days_ascend = days.ascend;
+      sids_ascend = assets.ascend;
+      events_in_order = λ a. elim (found w.assets.now w.adjustments.now a made.adjustments_in) [
+        | inl none ↦ rw none (λ i j d l m. absurd (omega arith))
+        | inr at ↦ rw (← at.2, events_of-at w made assets at.0 at.1) (by_day _ (in_order at.0))
+      ];
+    };
+    bars_once = bars_once;
+    labels_once = labels_once;
+  }

@@ -1,0 +1,4 @@
+pub mod Evaluations
+pub mod Known
+pub mod Laws
+pub mod Worlds

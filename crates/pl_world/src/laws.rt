@@ -1,0 +1,45 @@
+//! What the parts of a world are together, and the laws of the values of a checked pipeline. The functions do
+//! nothing but ask for a size: what the types keep is enough.
+
+ghost use Rattle.pl_world.specs.Laws.{EarlyBarsChangeNothing, LaterDataChangeNothing, ValuesFollowNodes};
+ghost use Rattle.pl_world.specs.Worlds.{IsMade, PartsMakeAWorld};
+
+use crate::world::World;
+use pl_terms::Checked;
+
+/// Parts that were made for the world's own sessions and assets make a world: the days of the
+/// sessions and the sids of the assets ascend, the adjustments of an asset stand in the order in
+/// which they act, and no two bars or label rows are one bar or one label.
+pub fn parts_make_a_world(world: &World)
+    requires { IsMade world.now }
+    ensures { PartsMakeAWorld world.now }
+{
+    let _sessions = world.sessions.len();
+    let _assets = world.assets.len();
+    let _labels = world.labels.len();
+    let _bars = world.bars.len();
+    let _adjustments = world.adjustments.len();
+}
+
+/// No bar before the reach of a term of a checked pipeline counts for its value.
+pub fn early_bars_change_nothing(checked: &Checked)
+    ensures { EarlyBarsChangeNothing checked.now }
+{
+    let _terms = checked.graph();
+}
+
+/// A term of a checked pipeline is worth what its node gives over the values of the terms of lower numbers
+/// that it mentions.
+pub fn values_follow_nodes(checked: &Checked)
+    ensures { ValuesFollowNodes checked.now }
+{
+    let _terms = checked.graph();
+}
+
+/// What comes to be known later changes nothing: in worlds that agree up to a session, every term of a
+/// checked pipeline has the same values up to it, and its table the same rows.
+pub fn later_data_change_nothing(checked: &Checked)
+    ensures { LaterDataChangeNothing checked.now }
+{
+    let _terms = checked.graph();
+}

@@ -1,0 +1,15 @@
+//! The data of a pipeline as one world, and what its values read of it.
+#![tactic(auto)]
+
+mod asof;
+mod cell;
+pub mod laws;
+mod owned;
+mod parts;
+mod world;
+
+pub use asof::asof_world;
+pub use cell::exists;
+pub use owned::OwnedWorld;
+pub use parts::{input_at, label_cell, section_input, section_row};
+pub use world::World;

@@ -1,0 +1,144 @@
+//! What an evaluation reads besides the values of other terms.
+
+ghost use Rattle.std.specs.Prelude.{◌≡◌, ◌<◌, ◌&&◌, All, IfOk, IfSome, Some, length, option_map, pos, slice_get};
+ghost use Rattle.pl_spec.specs.Parts.{sid_at};
+ghost use Rattle.pl_spec.specs.Rounding.{IsCell};
+ghost use Rattle.pl_spec.specs.Value.{name_at};
+ghost use Rattle.pl_spec.specs.Formula.{is_true};
+ghost use Rattle.pl_spec.specs.World.{exists, label_at};
+ghost use Rattle.pl_terms.specs.Checked.{pipeline_of};
+ghost use Rattle.pl_cross.specs.Listing.{labels_in};
+ghost use Rattle.pl_cross.specs.Section.{is_section};
+ghost use Rattle.pl_values.specs.Families.{label_code};
+ghost use Rattle.pl_world.specs.Worlds.{world_of, IsMade};
+ghost use Rattle.pl_world.specs.Evaluations as spec;
+ghost use Rattle.pl_world.specs.Evaluations.{HasKind, row_in, AreRowsOf, IsKeepRow};
+
+use crate::cell::exists;
+use crate::world::World;
+use pl_cross::Cross;
+use pl_fixed::Memory;
+use pl_terms::{Checked, Input, Node, TermId};
+use pl_values::{label_value, section_values};
+use std::alloc::Global;
+
+/// The input of a node in a place, from 0.
+pub fn input_at(node: &Node, place: usize) -> Option<Input>
+    ensures { result ≡ slice_get node.now.inputs place }
+{
+    node.inputs.as_slice().get(place).copied()
+}
+
+/// The code of the asset's label under a name of the pipeline.
+pub fn label_cell(world: &World, checked: &Checked, name: u32, col: usize, session: usize) -> i64
+    requires made { IsMade world.now }
+    requires name { name < length checked.now.names }
+    requires col { col < length world.now.assets.now }
+    requires session { session < length world.now.sessions.now }
+    ensures value { result ≡ label_code (world_of world.now).texts
+        (label_at (world_of world.now) (name_at (pipeline_of checked.now).names name)
+        (sid_at world.now.assets.now col) (pos session)) }
+    ensures cell { IsCell result }
+{
+    let _assets = world.assets.len();
+    let day = world.sessions.day(session);
+    let text = checked.label_name(name);
+    label_value(world.labels, text, world.labels.name_of(text), col, day)
+}
+
+/// The input of a cross-section, which is a term.
+pub fn section_input(checked: &Checked, t: TermId) -> TermId
+    requires term { t.0 < length checked.now.graph }
+    requires kind { HasKind checked.now t.0 is_section }
+    ensures { (n : _) → slice_get checked.now.graph t.0 ≡ Some n
+        → slice_get n.inputs 0 ≡ Some (Input.Term result) }
+{
+    match input_at(checked.graph().node(t), 0) {
+        Some(Input::Term(u)) => u,
+        Some(Input::Column(_)) => unreachable!(),
+        None => unreachable!(),
+    }
+}
+
+// Whether the asset exists and passes the mask, whose row is given: 1 or 0.
+fn kept_flag(world: &World, col: usize, session: usize, mask: &Option<Vec<i64>>) -> i64
+    requires col { col < length world.now.assets.now }
+    requires session { session < length world.now.sessions.now }
+    requires mask { IfSome mask.now (λ v. col < length v.items) }
+    ensures { is_true result ≡ (exists (world_of world.now) (sid_at world.now.assets.now col) (pos session)
+        && spec.lets_pass_at (option_map (λ v. v.items) mask.now) col) }
+{
+    if exists(world, col, session) && lets_pass_at(mask, col) {
+        1
+    } else {
+        0
+    }
+}
+
+// Who exists and passes the mask, whose row is given.
+fn keep_row(
+    alloc: Global,
+    world: &World,
+    session: usize,
+    mask: &Option<Vec<i64>>,
+) -> Result<Vec<i64>, Memory>
+    requires session { session < length world.now.sessions.now }
+    requires mask { IfSome mask.now (λ v. length v.items ≡ length world.now.assets.now) }
+    ensures { IfOk result (λ v. IsKeepRow (world_of world.now) world.now.assets.now session
+        (option_map (λ m. m.items) mask.now) v.items) }
+{
+    let mut keep = Vec::new(alloc);
+    for col in 0..world.assets.len() {
+        keep.push(kept_flag(world, col, session, mask))?;
+    }
+    Ok(keep)
+}
+
+/// A cross-section's cells on a session, asset by asset, over the rows of its input, its mask and its group.
+/// The sessions that the term reaches are of no matter: the rows are given.
+pub fn section_row(
+    alloc: Global,
+    world: &World,
+    checked: &Checked,
+    t: TermId,
+    session: usize,
+    values: &[i64],
+    mask: &Option<Vec<i64>>,
+    groups: &Option<Vec<i64>>,
+) -> Result<Vec<i64>, Memory>
+    requires term { t.0 < length checked.now.graph }
+    requires session { session < length world.now.sessions.now }
+    requires kind { HasKind checked.now t.0 is_section }
+    requires rows { AreRowsOf world.now checked.now t.0 session values.now
+        (option_map (λ m. m.items) mask.now) (option_map (λ m. m.items) groups.now) }
+    ensures row { IfOk result (λ v. v.items ≡ row_in world.now checked.now t.0 session) }
+    ensures cells { IfOk result (λ v. All IsCell v.items) }
+{
+    let kind = &checked.graph().node(t).kind;
+    let assets = world.assets.len();
+    let _rows = world.labels.len();
+    let keep = keep_row(alloc, world, session, mask)?;
+    let mut cross = Cross::reserve(alloc, assets)?;
+    let mut out = vec![in alloc; 0; assets]?;
+    section_values(kind, &mut cross, values, &keep, lent(groups), &mut out);
+    Ok(out)
+}
+
+fn lent(row: &Option<Vec<i64>>) -> Option<&[i64]>
+    ensures { labels_in result ≡ option_map (λ v. v.items) row.now }
+{
+    match row {
+        Some(cells) => Some(cells.as_slice()),
+        None => None,
+    }
+}
+
+fn lets_pass_at(mask: &Option<Vec<i64>>, col: usize) -> bool
+    requires { IfSome mask.now (λ v. col < length v.items) }
+    ensures { result ≡ spec.lets_pass_at (option_map (λ v. v.items) mask.now) col }
+{
+    match mask {
+        Some(cells) => cells[col] == 1,
+        None => true,
+    }
+}
