@@ -129,7 +129,9 @@ fail() {
     local crate
     say "the build failed, with status $1"
     while read -r crate; do
-        awk -v head="== $crate" '/^== / { is_it = $0 == head } is_it' "$log" | tail -n 15 >&2
+        awk -v head="== $crate" '
+            /^== / { is_it = $0 == head }
+            is_it && !/: proved$|: modules loaded=/' "$log" | tail -n 15 >&2
     done < <(sed -n 's/^\(\w*\): failed.*/\1/p' "$log")
     grep -q '^== summary' "$log" || tail -n 15 "$log" >&2
     stop "$log has all that the build said"

@@ -75,17 +75,17 @@ minutes_left() {
 }
 
 tell() {
-    local all=$((${#libraries[@]} + 1)) doing jobs minutes
+    local all=$((${#libraries[@]} + 1)) doing="" jobs minutes
     jobs=$(cat "$room/jobs" 2> /dev/null || echo 1)
     if [ "$ready" = "${#libraries[@]}" ]; then
-        doing="now the program itself"
-    elif [ ${#now[@]} = 0 ]; then
-        doing="now reading them all"
-    else
-        doing="now ${now[*]}"
+        doing=", now pl_main, the program itself"
+    elif [ ${#now[@]} != 0 ]; then
+        doing=", now ${now[*]}"
+    elif [ ${#since[@]} = 0 ]; then
+        doing=", now all are read, before the first proof"
     fi
     minutes=$(list_states | minutes_left "$jobs")
-    say "$ready of $all crates proved, $doing; $(((SECONDS - first) / 60)) minutes so far, about $minutes more"
+    say "$ready of $all crates proved$doing; so far $(((SECONDS - first) / 60)) minutes, and about $minutes more"
 }
 
 tell_progress() {
