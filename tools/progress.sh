@@ -77,8 +77,10 @@ minutes_left() {
 tell() {
     local all=$((${#libraries[@]} + 1)) doing="" jobs minutes
     jobs=$(cat "$room/jobs" 2> /dev/null || echo 1)
-    if [ "$ready" = "${#libraries[@]}" ]; then
+    if [ -d "$room/crates/pl_main/src" ]; then
         doing=", now pl_main, the program itself"
+    elif [ "$ready" = "${#libraries[@]}" ]; then
+        doing=", now whether they go together"
     elif [ ${#now[@]} != 0 ]; then
         doing=", now ${now[*]}"
     elif [ ${#since[@]} = 0 ]; then

@@ -1,5 +1,6 @@
 # shellcheck shell=bash disable=SC2034,SC2154
-# The folder where builds of this checkout keep their work, who may work in it, and the commands that run for it.
+# The folder where builds of this checkout keep their work, who may work in it, and the commands that run for it. It lies outside the
+# checkout, in which the gate allows no second crates.txt.
 
 room_above() {
     case ${XDG_CACHE_HOME:-} in
