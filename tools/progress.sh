@@ -80,18 +80,18 @@ tell() {
     if [ -d "$room/crates/pl_main/src" ]; then
         doing=", now pl_main, the program itself"
     elif [ "$ready" = "${#libraries[@]}" ]; then
-        doing=", now whether they go together"
+        doing=", now whether all go together"
     elif [ ${#now[@]} != 0 ]; then
         doing=", now ${now[*]}"
     elif [ ${#since[@]} = 0 ]; then
         doing=", now all are read, before the first proof"
     fi
     minutes=$(list_states | minutes_left "$jobs")
-    say "$ready of $all crates proved$doing; so far $(((SECONDS - first) / 60)) minutes, and about $minutes more"
+    say "$ready of $all crates proved$doing; so far $((SECONDS / 60)) minutes, and about $minutes more"
 }
 
 tell_progress() {
-    local crate first=$SECONDS last=$SECONDS
+    local crate last=$SECONDS
     local -A lines=()
     # Ends with the shell that it tells of, and not before it.
     trap - EXIT HUP INT TERM
