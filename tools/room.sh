@@ -2,14 +2,17 @@
 # The folder where builds of this checkout keep their work, who may work in it, and the commands that run for it. It lies outside the
 # checkout, in which the gate allows no second crates.txt.
 
-room_above() {
-    case ${XDG_CACHE_HOME:-} in
-        /*) echo "$XDG_CACHE_HOME/tohmeril" ;;
-        *) echo "${HOME:?names no place for the build}/.cache/tohmeril" ;;
+name_room() {
+    local above=${XDG_CACHE_HOME:-}
+    case $above in
+        /*) ;;
+        *) above=${HOME:-}/.cache ;;
     esac
+    [ "$above" != /.cache ] || stop "HOME, where builds are kept, is not set"
+    room=$above/tohmeril/$(basename "$top")-$(printf '%s' "$top" | sha256sum | cut -c 1-12)
 }
 
-room=$(room_above)/$(basename "$top")-$(printf '%s' "$top" | sha256sum | cut -c 1-12)
+name_room
 
 # What runs beside this shell, to be ended when it ends.
 children=()
