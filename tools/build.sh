@@ -124,16 +124,17 @@ install_program() {
     sums_of "$room" > "$program.sums"
 }
 
-# Tells what a failed build said last of what it could not prove, and ends.
+# Tells what a failed build said last of the crates that it could not prove, or else in all, and ends.
 fail() {
-    local crate
+    local crate failed
     say "the build failed, with status $1"
-    while read -r crate; do
+    failed=$(sed -n 's/^\(\w*\): failed.*/\1/p' "$log")
+    for crate in $failed; do
         awk -v head="== $crate" '
             /^== / { is_it = $0 == head }
             is_it && !/: proved$|: modules loaded=/' "$log" | tail -n 15 >&2
-    done < <(sed -n 's/^\(\w*\): failed.*/\1/p' "$log")
-    grep -q '^== summary' "$log" || tail -n 15 "$log" >&2
+    done
+    [ -n "$failed" ] || tail -n 15 "$log" >&2
     stop "$log has all that the build said"
 }
 
