@@ -7,3 +7,4 @@ pub mod Printing
 pub mod TextsSaid
 pub mod Same
 pub mod SameText
+pub mod Likeness

@@ -40,7 +40,7 @@ unequal e = cc
 some_length : {A : Type 0} (y : A) (ys : List A) → (length (y ∷ ys) == 0) ≡ false
 some_length y ys = grind (arith, nat_tests)
 
-never : {P : Type 0} → (P → ⊥) → (false ≡ true) ↔ P
+pub never : {P : Type 0} → (P → ⊥) → (false ≡ true) ↔ P
 never f = (λ e. absurd (unequal e), λ p. absurd (f p))
 
 module _ {A : Type 0} {S : A → A → Type 0} {R : List A → List A → Type 0} (r : IsPairwise S R) where

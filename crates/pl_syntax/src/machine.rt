@@ -1,6 +1,6 @@
 //! The machine: what is open, and each token's move.
 
-ghost use Rattle.std.specs.Prelude.{◌≡◌, IfOk, IfErr};
+ghost use Rattle.std.specs.Prelude.{◌≡◌, ◌++◌, ◌∷◌, [], IfOk, IfErr};
 ghost use Rattle.pl_grammar.specs.Machine.{join, close, operand, is_wanted, literal, named_move, sign_move, operator_move, dot_move, callee, open_move, applied, shut, shut_empty, next_arg, name_arg, close_move, comma_move, assign_move, move};
 ghost use Rattle.pl_grammar.specs.Tree.{mark};
 ghost use Rattle.pl_syntax.specs.Plain.{plain};
@@ -162,9 +162,12 @@ fn at_literal(stack: &mut Stack, mode: Mode, expr: Expr) -> Result<Mode, MoveErr
     ensures { Moves result (open_in stack.new)
         (literal (plain expr) (is_wanted (mode_of mode)) (open_in stack.old)) }
 {
-    if wants(&mode) {
+    let wanted = wants(&mode);
+    drop(mode);
+    if wanted {
         Ok(Mode::Given { expr })
     } else {
+        drop(expr);
         Err(MoveError::Unexpected)
     }
 }
@@ -181,7 +184,11 @@ fn at_name(stack: &mut Stack, mode: Mode, place: Place, name: Word) -> Result<Mo
             object,
             name,
         }),
-        _ => Err(MoveError::Unexpected),
+        mode => {
+            drop(mode);
+            drop(name);
+            Err(MoveError::Unexpected)
+        }
     }
 }
 
@@ -216,12 +223,13 @@ fn at_operator(
     let wanted = wants(&mode);
     match operand_of(mode) {
         Some(expr) => {
-            let left = end_constructs(alloc, stack, level_of(sign), expr)?;
-            if left_level_of(sign) <= left.height {
-                let left = Box::new(alloc, left.expr)?;
+            let Ended { height, expr } = end_constructs(alloc, stack, level_of(sign), expr)?;
+            if left_level_of(sign) <= height {
+                let left = Box::new(alloc, expr)?;
                 stack.push(Frame::Behind { place, sign, left })?;
                 Ok(Mode::Wanted)
             } else {
+                drop(expr);
                 Err(MoveError::Unexpected)
             }
         }
@@ -261,7 +269,10 @@ fn callee_of_mode(mode: Mode) -> Option<Callee>
             object,
             name,
         }),
-        _ => None,
+        mode => {
+            drop(mode);
+            None
+        }
     }
 }
 
@@ -271,6 +282,7 @@ fn at_open(alloc: Global, stack: &mut Stack, mode: Mode) -> Result<Mode, MoveErr
         (open_move (is_wanted (mode_of mode)) (callee (mode_of mode)) (open_in stack.old)) }
 {
     if wants(&mode) {
+        drop(mode);
         stack.push(Frame::Group)?;
         return Ok(Mode::Wanted);
     }
@@ -314,26 +326,45 @@ fn call_of(callee: Callee, args: Vec<Arg>) -> Expr
     }
 }
 
+// The arguments with one more.
+fn with_arg(args: Vec<Arg>, arg: Arg) -> Result<Vec<Arg>, MoveError>
+    ensures ok { IfOk result (λ more. more.items ≡ args.items ++ arg ∷ []) }
+    ensures err { IfErr result (λ e. e ≡ Memory) }
+{
+    let mut args = args;
+    match args.push(arg) {
+        Ok(()) => Ok(args),
+        Err(_) => {
+            drop(args);
+            Err(MoveError::Memory)
+        }
+    }
+}
+
 // A `)` behind an operand that ended all but a parenthesis.
 fn shut_by(stack: &mut Stack, expr: Expr) -> Result<Mode, MoveError>
     ensures { Moves result (open_in stack.new) (shut (plain expr) (open_in stack.old)) }
 {
     match stack.pop() {
         Some(Frame::Group) => Ok(Mode::Given { expr }),
-        Some(
-            Frame::Call {
-                callee,
-                mut args,
-                name,
-            },
-        ) => {
-            args.push(Arg { name, expr })?;
-            Ok(Mode::Given {
+        Some(Frame::Call { callee, args, name }) => match with_arg(args, Arg { name, expr }) {
+            Ok(args) => Ok(Mode::Given {
                 expr: call_of(callee, args),
-            })
+            }),
+            Err(error) => {
+                drop(callee);
+                Err(error)
+            }
+        },
+        Some(frame) => {
+            drop(frame);
+            drop(expr);
+            Err(MoveError::Unexpected)
         }
-        Some(Frame::Prefixed { .. } | Frame::Behind { .. }) => Err(MoveError::Unexpected),
-        None => Err(MoveError::Unexpected),
+        None => {
+            drop(expr);
+            Err(MoveError::Unexpected)
+        }
     }
 }
 
@@ -343,27 +374,28 @@ fn shut_empty_by(stack: &mut Stack, mode: Mode) -> Result<Mode, MoveError>
 {
     match mode {
         Mode::ArgWanted => match stack.pop() {
-            Some(
-                Frame::Call {
-                    callee,
-                    args,
-                    name: _,
-                },
-            ) => {
+            Some(Frame::Call { callee, args, name }) => {
+                drop(name);
                 if args.is_empty() {
                     Ok(Mode::Given {
                         expr: call_of(callee, args),
                     })
                 } else {
+                    drop(callee);
+                    drop(args);
                     Err(MoveError::Unexpected)
                 }
             }
-            Some(Frame::Group | Frame::Prefixed { .. } | Frame::Behind { .. }) => Err(
-                MoveError::Unexpected,
-            ),
+            Some(frame) => {
+                drop(frame);
+                Err(MoveError::Unexpected)
+            }
             None => Err(MoveError::Unexpected),
         },
-        _ => Err(MoveError::Unexpected),
+        mode => {
+            drop(mode);
+            Err(MoveError::Unexpected)
+        }
     }
 }
 
@@ -372,25 +404,29 @@ fn next_by(stack: &mut Stack, expr: Expr) -> Result<Mode, MoveError>
     ensures { Moves result (open_in stack.new) (next_arg (plain expr) (open_in stack.old)) }
 {
     match stack.pop() {
-        Some(
-            Frame::Call {
-                callee,
-                mut args,
-                name,
-            },
-        ) => {
-            args.push(Arg { name, expr })?;
-            stack.push(Frame::Call {
-                callee,
-                args,
-                name: None,
-            })?;
-            Ok(Mode::ArgWanted)
+        Some(Frame::Call { callee, args, name }) => match with_arg(args, Arg { name, expr }) {
+            Ok(args) => {
+                stack.push(Frame::Call {
+                    callee,
+                    args,
+                    name: None,
+                })?;
+                Ok(Mode::ArgWanted)
+            }
+            Err(error) => {
+                drop(callee);
+                Err(error)
+            }
+        },
+        Some(frame) => {
+            drop(frame);
+            drop(expr);
+            Err(MoveError::Unexpected)
         }
-        Some(Frame::Group | Frame::Prefixed { .. } | Frame::Behind { .. }) => Err(
-            MoveError::Unexpected,
-        ),
-        None => Err(MoveError::Unexpected),
+        None => {
+            drop(expr);
+            Err(MoveError::Unexpected)
+        }
     }
 }
 
@@ -456,7 +492,10 @@ fn at_assign(stack: &mut Stack, mode: Mode) -> Result<Mode, MoveError>
 {
     match mode {
         Mode::ArgNamed { name, .. } => name_by(stack, name),
-        _ => Err(MoveError::Unexpected),
+        mode => {
+            drop(mode);
+            Err(MoveError::Unexpected)
+        }
     }
 }
 

@@ -1,6 +1,6 @@
 //! From a script to its canonical text.
 
-ghost use Rattle.std.specs.Prelude.{◌≡◌, ◌++◌, ◌-◌, ◌≤◌, length, reverse, codes, true, OnOk, IfOk};
+ghost use Rattle.std.specs.Prelude.{◌≡◌, ◌++◌, ◌-◌, ◌≤◌, length, nat_le, reverse, codes, true, OnOk, IfOk};
 ghost use Rattle.std.specs.List.{take_while};
 ghost use Rattle.std.specs.Fmt.{decimal};
 ghost use Rattle.pl_spec.specs.Dates.{digits};
@@ -8,7 +8,7 @@ ghost use Rattle.pl_spec.specs.Decimals.{point_text};
 ghost use Rattle.pl_grammar.specs.Printed.{tree_level};
 ghost use Rattle.pl_grammar.specs.Script.{is_known};
 ghost use Rattle.pl_tokens.specs.Numerals.{is_zero, trimmed, number_text};
-ghost use Rattle.pl_syntax.specs.Canonical.{comma_text, prefix_text, binary_text, open_text, close_text, name_text, tree_text, args_text, head_text, statement_text, version_text};
+ghost use Rattle.pl_syntax.specs.Canonical.{comma_text, prefix_text, binary_text, open_text, close_text, placed_text, name_text, tree_text, args_text, head_text, statement_text, version_text};
 ghost use Rattle.pl_syntax.specs.Plain.{plain, args_tree};
 ghost use Rattle.pl_syntax.specs.Statements.{statement_of};
 ghost use Rattle.pl_syntax.specs.Scripts.{parsed, printed_text};
@@ -164,6 +164,23 @@ fn put_name(name: &Option<Word>, out: &mut Vec<u8>) -> Result<(), AllocError>
     }
 }
 
+// A string with its quotes.
+fn put_quoted(text: &[u8], out: &mut Vec<u8>) -> Result<(), AllocError>
+    ensures { OnOk result (out.new.items ≡ out.old.items ++ (codes "\"" ++ (text.now ++ codes "\""))) }
+{
+    put(out, b"\"")?;
+    put(out, text)?;
+    put(out, b"\"")
+}
+
+// The name of a member behind its dot.
+fn put_dotted(name: &[u8], out: &mut Vec<u8>) -> Result<(), AllocError>
+    ensures { OnOk result (out.new.items ≡ out.old.items ++ (codes "." ++ name.now)) }
+{
+    put(out, b".")?;
+    put(out, name)
+}
+
 #[cycle(print)]
 #[tactic(auto, unfolding(crate::specs::Canonical::tree_text))]
 fn put_expr(expr: &Expr, out: &mut Vec<u8>) -> Result<(), AllocError>
@@ -171,11 +188,7 @@ fn put_expr(expr: &Expr, out: &mut Vec<u8>) -> Result<(), AllocError>
 {
     match &expr.node {
         ExprNode::Number(value) => put_number(*value, out),
-        ExprNode::Text(text) => {
-            put(out, b"\"")?;
-            put(out, text.bytes())?;
-            put(out, b"\"")
-        }
+        ExprNode::Text(text) => put_quoted(text.bytes(), out),
         ExprNode::Name(name) => put(out, name.bytes()),
         ExprNode::Call { name, args } => {
             put(out, name.bytes())?;
@@ -183,35 +196,34 @@ fn put_expr(expr: &Expr, out: &mut Vec<u8>) -> Result<(), AllocError>
         }
         ExprNode::Prefix { sign, operand } => {
             put(out, prefix_bytes(*sign))?;
-            let fits = prefix_level_of(*sign) <= level_in(operand);
-            open_unless(fits, out)?;
-            put_expr(operand, out)?;
-            close_unless(fits, out)
+            put_placed(prefix_level_of(*sign), operand, out)
         }
         ExprNode::Binary { sign, left, right } => {
-            let left_fits = left_level_of(*sign) <= level_in(left);
-            open_unless(left_fits, out)?;
-            put_expr(left, out)?;
-            close_unless(left_fits, out)?;
+            put_placed(left_level_of(*sign), left, out)?;
             put(out, binary_bytes(*sign))?;
-            let right_fits = right_level_of(*sign) <= level_in(right);
-            open_unless(right_fits, out)?;
-            put_expr(right, out)?;
-            close_unless(right_fits, out)
+            put_placed(right_level_of(*sign), right, out)
         }
         ExprNode::Member { object, name, args } => {
-            let fits = 8 <= level_in(object);
-            open_unless(fits, out)?;
-            put_expr(object, out)?;
-            close_unless(fits, out)?;
-            put(out, b".")?;
-            put(out, name.bytes())?;
+            put_placed(8, object, out)?;
+            put_dotted(name.bytes(), out)?;
             match args {
                 Some(args) => put_args(args, out),
                 None => Ok(()),
             }
         }
     }
+}
+
+// An operand at a place that asks for this level: in parentheses where its own is below.
+#[cycle(print)]
+fn put_placed(asked: u8, expr: &Expr, out: &mut Vec<u8>) -> Result<(), AllocError>
+    ensures { OnOk result (out.new.items ≡ out.old.items
+        ++ placed_text (nat_le asked (tree_level (plain expr.now))) (tree_text (plain expr.now))) }
+{
+    let fits = asked <= level_in(expr);
+    open_unless(fits, out)?;
+    put_expr(expr, out)?;
+    close_unless(fits, out)
 }
 
 #[cycle(print)]
