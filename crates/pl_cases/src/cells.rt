@@ -8,7 +8,7 @@ use crate::case::Case;
 use crate::fields::{Field, behind_field};
 use crate::parts::{keeper_of, shelf_of};
 use anyhow::{Context, Result, bail};
-use pl_explain::reach_at;
+use pl_planner::reach_at;
 use pl_fixed::{Steps, write_day};
 use pl_load::{Loaded, load};
 use pl_model::{World, cell_now};

@@ -1,5 +1,7 @@
 //! Why no derivation is made.
 
+ghost use Rattle.std.specs.Prelude.{◌≡◌};
+
 use pl_fixed::Memory;
 use std::alloc::AllocFailed;
 

@@ -1,5 +1,7 @@
 //! Why the writing of a table ended early.
 
+ghost use Rattle.std.specs.Prelude.{◌≡◌};
+
 use pl_fixed::Memory;
 use std::alloc::AllocError;
 
