@@ -1,6 +1,8 @@
 -- From clap's answer to the parts.
 use Rattle.std.proofs.Common.{◌≡◌, ◌∙◌, ◌+◌, ◌<◌, ◌≤◌, inl, inr, ℕ, zero, suc, true, false, refl, sym, ap, subst, arith, List, [], ◌∷◌, ◌++◌, map, length, take, Option, Some, None, Result, Ok, Err, IfOk, slice_index_or}
-use Rattle.clap.specs.Words.{App, HasKind, HasMatchesOf, IsAmong, Kinds, fault_of, found_of, is_simple, is_simple_and_free, kind_of, matches_of, rows_of, with_rule}
+use Rattle.clap.specs.Words.{AddsArg, App, HasKind, HasMatchesOf, IsAmong, Kinds, Rule, app_of, fault_of, found_of, is_simple, is_simple_and_free, kind_of, matches_of, rows_of, rule_of, with_rule}
+use Rattle.clap.specs.declared.builder.arg.Arg.{Arg}
+use Rattle.clap.specs.declared.builder.command.Command.{Command}
 use Rattle.clap.specs.declared.error.Error.{Error}
 use Rattle.clap.specs.declared.error.kind.ErrorKind.TheVariants.{OutOfMemory}
 use Rattle.clap.specs.declared.parser.matches.ArgMatches.{ArgMatches}
@@ -34,6 +36,9 @@ same_at (x ∷ xs) (suc i) d e lt = same_at xs i d e (omega arith)
 pub app_next : (xs : List OptionName) (i : ℕ) (d : OptionName) (a b : App) → i < length xs → a ≡ app_with (names_rule ∷ map option_rule (take i xs))
     → b ≡ with_rule a (option_rule (slice_index_or xs i d)) → b ≡ app_with (names_rule ∷ map option_rule (take (i + 1) xs))
 app_next xs i d a b lt is more = app_more xs i (slice_index_or xs i d) a b lt (same_at xs i d (slice_index_or xs i d) lt) is more
+
+pub adds_rule : (a b : Command) (x : Arg) (r : Rule) → AddsArg a x b → x.global ≡ false → rule_of x ≡ r → app_of b ≡ with_rule (app_of a) r
+adds_rule a b x r more local is = more.shape local ∙ ap (λ (q : Rule). with_rule (app_of a) q) is
 
 take_end : (xs : List OptionName) (i : ℕ) → length xs ≤ i → take i xs ≡ xs
 take_end [] zero h = refl

@@ -1,5 +1,5 @@
 -- How the code's request reads.
-use Rattle.std.specs.Prelude.{option_map}
+use Rattle.std.specs.Prelude.{◌≡◌, Option, None, Some, MatchOption, option_map}
 use Rattle.pl_words.specs.Request as spec
 use Rattle.pl_words.specs.declared.request.Request.{Request}
 use Rattle.pl_words.specs.declared.request.Request.TheVariants.{Run, Fmt, Check, Plan, Bench, Payouts, Explain, Verify, Daily}
@@ -94,3 +94,7 @@ request_of (Payouts r) = spec.Payouts (payouts_of r)
 request_of (Explain r) = spec.Explain (explain_of r)
 request_of (Verify r) = spec.Verify (verify_of r)
 request_of (Daily r) = spec.Daily (daily_of r)
+
+-- The code's answer is what is asked for.
+abbrev pub Says : Option Request → Option spec.Request → Type 0
+Says answer asked = MatchOption answer (asked ≡ None) (λ r. asked ≡ Some (request_of r))

@@ -1,10 +1,10 @@
 // The words behind the command, cut into names and options by clap.
 ghost use Rattle.std.specs.Prelude.{◌≡◌, ◌∷◌, [], List, IfOk, None, map, string_bytes, IsTrue, Some, MatchOption, MatchResult, option_map, false};
-ghost use Rattle.clap.specs.Words.{FailsBy, app_of, fault_of, found_of, kind_of, matches_of, rows_of, with_rule};
+ghost use Rattle.clap.specs.Words.{FailsBy, app_of, fault_of, found_of, kind_of, matches_of, rows_of, rule_of, with_rule};
 ghost use Rattle.clap.specs.declared.error.kind.ErrorKind.TheVariants.{OutOfMemory};
 ghost use Rattle.pl_words.specs.Parts.{parts, is_short, has_short, has_value, text_of, one_value};
 ghost use Rattle.pl_words.specs.Commands.{options_of};
-ghost use Rattle.pl_words.specs.Apps.{app_for, bare_app, names_rule, option_rule, IsAnswered, values_at, values_in};
+ghost use Rattle.pl_words.specs.Apps.{app_for, bare_app, long_rule, names_rule, option_rule, IsAnswered, values_at, values_in};
 
 use crate::commands::{CommandName, OptionName};
 use crate::text::{Refused, is_text};
@@ -96,7 +96,7 @@ fn command_for<'a>(alloc: Global, options: &'static [OptionName]) -> Result<Comm
 {
     let mut command = with_names(alloc, bare(alloc))?;
     for option in options {
-        command = with_option(alloc, command, *option)?;
+        command = command.arg(argument(alloc, *option))?;
     }
     Ok(command)
 }
@@ -116,48 +116,24 @@ fn with_names<'a>(alloc: Global, command: Command<'a>) -> Result<Command<'a>, Al
     command.arg(Arg::new(alloc, "names").action(ArgAction::Append))
 }
 
-fn with_option<'a>(
-    alloc: Global,
-    command: Command<'a>,
-    option: OptionName,
-) -> Result<Command<'a>, AllocError>
-    ensures { IfOk result (λ c. app_of c ≡ with_rule (app_of command.entry) (option_rule option)) }
+fn argument<'a>(alloc: Global, option: OptionName) -> Arg<'a>
+    ensures rule { rule_of result ≡ option_rule option }
+    ensures local { result.global ≡ false }
 {
+    let text: &'a str = option.text();
+    let named = long(alloc, text);
     if option.has_value() {
-        with_value(alloc, command, option)
+        named
     } else {
-        with_flag(alloc, command, option)
+        named.num_args(0usize).default_missing_value("yes")
     }
 }
 
-fn with_value<'a>(
-    alloc: Global,
-    command: Command<'a>,
-    option: OptionName,
-) -> Result<Command<'a>, AllocError>
-    requires { IsTrue (has_value option) }
-    ensures { IfOk result (λ c. app_of c ≡ with_rule (app_of command.entry) (option_rule option)) }
+fn long<'a>(alloc: Global, text: &'a str) -> Arg<'a>
+    ensures rule { rule_of result ≡ long_rule text.entry.now }
+    ensures local { result.global ≡ false }
 {
-    let text: &'a str = option.text();
-    command.arg(Arg::new(alloc, text).long(text).action(ArgAction::Append))
-}
-
-fn with_flag<'a>(
-    alloc: Global,
-    command: Command<'a>,
-    option: OptionName,
-) -> Result<Command<'a>, AllocError>
-    requires { has_value option ≡ false }
-    ensures { IfOk result (λ c. app_of c ≡ with_rule (app_of command.entry) (option_rule option)) }
-{
-    let text: &'a str = option.text();
-    command.arg(
-        Arg::new(alloc, text)
-            .long(text)
-            .action(ArgAction::Append)
-            .num_args(0usize)
-            .default_missing_value("yes"),
-    )
+    Arg::new(alloc, text).long(text).action(ArgAction::Append)
 }
 
 fn has_short(words: &[String]) -> bool

@@ -1,11 +1,12 @@
 // What a table that is computed session by session is asked for.
-ghost use Rattle.std.specs.Prelude.{◌≡◌, None, Some, MatchOption, length, map};
+ghost use Rattle.std.specs.Prelude.{◌≡◌, length, map};
 ghost use Rattle.pl_words.specs.Apps.{values_in};
-ghost use Rattle.pl_words.specs.Request.{daily_in, daily_run};
-ghost use Rattle.pl_words.specs.Views.{daily_of, run_of};
+ghost use Rattle.pl_words.specs.declared.commands.CommandName.TheVariants as commands;
+ghost use Rattle.pl_words.specs.Request.{daily_run, request_in};
+ghost use Rattle.pl_words.specs.Views.{Says, daily_of, run_of};
 
 use crate::options::{USUAL_CHUNK, date_in, format, world_in};
-use crate::request::{DateWord, Options, RunRequest, WorldNames};
+use crate::request::{DateWord, Options, Request, RunRequest, WorldNames};
 use clap::ArgMatches;
 use pl_spec::Format;
 
@@ -45,21 +46,19 @@ impl<'a> DailyRequest<'a> {
     }
 }
 
-pub(crate) fn daily_in<'a>(names: &[&'a str], matches: &ArgMatches<'a>) -> Option<DailyRequest<'a>>
+pub(crate) fn daily_in<'a>(names: &[&'a str], matches: &ArgMatches<'a>) -> Option<Request<'a>>
     requires { length names.now ≡ 6 }
-    ensures { MatchOption result
-        (daily_in (map (λ v. v.now) names.now) (values_in matches.now) ≡ None)
-        (λ r. daily_in (map (λ v. v.now) names.now) (values_in matches.now) ≡ Some (daily_of r)) }
+    ensures { Says result (request_in commands.Daily (map (λ v. v.now) names.now) (values_in matches.now)) }
 {
     let from = date_in(names[4])?;
     let to = date_in(names[5])?;
     let world = world_in(names, matches)?;
     let format = format(matches)?;
-    Some(DailyRequest {
+    Some(Request::Daily(DailyRequest {
         pipeline: names[0],
         world,
         from,
         to,
         format,
-    })
+    }))
 }

@@ -1,11 +1,12 @@
 // The words, read as a request.
-ghost use Rattle.std.specs.Prelude.{◌≡◌, None, Some, IfOk, IfSome, MatchOption, map, length, string_bytes};
+ghost use Rattle.std.specs.Prelude.{◌≡◌, None, Some, IfOk, IfSome, MatchOption, map, length, string_bytes, option_map};
 ghost use Rattle.std.specs.List.{list_all};
 ghost use Rattle.pl_words.specs.Parts.{is_text};
 ghost use Rattle.pl_words.specs.Commands.{places_of};
 ghost use Rattle.pl_words.specs.Apps.{names_in, values_in};
-ghost use Rattle.pl_words.specs.Request.{HasChunk, asked, bench_in, counted, payouts_over, plan_in, request, request_in, run_in, explain_in, verify_in};
-ghost use Rattle.pl_words.specs.Views.{bench_of, payouts_of, plan_of, request_of, run_of, explain_of, verify_of};
+ghost use Rattle.pl_words.specs.declared.commands.CommandName.TheVariants as commands;
+ghost use Rattle.pl_words.specs.Request.{HasChunk, Plan, asked, counted, payouts_over, plan_in, request, request_in};
+ghost use Rattle.pl_words.specs.Views.{Says, payouts_of, request_of};
 
 use crate::commands::{CommandName, command_named};
 use crate::cut::{cut, values};
@@ -73,33 +74,29 @@ fn request_in<'a>(
     matches: &ArgMatches<'a>,
 ) -> Option<Request<'a>>
     requires { length names.now ≡ places_of command }
-    ensures { MatchOption result
-        (request_in command (map (λ v. v.now) names.now) (values_in matches.now) ≡ None)
-        (λ r. request_in command (map (λ v. v.now) names.now) (values_in matches.now) ≡ Some (request_of r)) }
+    ensures { Says result (request_in command (map (λ v. v.now) names.now) (values_in matches.now)) }
 {
     match command {
-        CommandName::Run => Some(Request::Run(run_in(names, matches)?)),
+        CommandName::Run => run_in(names, matches),
         CommandName::Check => Some(Request::Check(names[0])),
         CommandName::Fmt => Some(Request::Fmt(names[0])),
-        CommandName::Plan => Some(Request::Plan(plan_in(names)?)),
-        CommandName::Bench => Some(Request::Bench(bench_in(names, matches)?)),
+        CommandName::Plan => plan_in(names),
+        CommandName::Bench => bench_in(names, matches),
         CommandName::Payouts => Some(Request::Payouts(payouts_over(names))),
-        CommandName::Explain => Some(Request::Explain(explain_in(names, matches)?)),
-        CommandName::Verify => Some(Request::Verify(verify_in(names, matches)?)),
-        CommandName::Daily => Some(Request::Daily(daily_in(names, matches)?)),
+        CommandName::Explain => explain_in(names, matches),
+        CommandName::Verify => verify_in(names, matches),
+        CommandName::Daily => daily_in(names, matches),
     }
 }
 
-fn run_in<'a>(names: &[&'a str], matches: &ArgMatches<'a>) -> Option<RunRequest<'a>>
+fn run_in<'a>(names: &[&'a str], matches: &ArgMatches<'a>) -> Option<Request<'a>>
     requires { length names.now ≡ 6 }
-    ensures { MatchOption result
-        (run_in (map (λ v. v.now) names.now) (values_in matches.now) ≡ None)
-        (λ r. run_in (map (λ v. v.now) names.now) (values_in matches.now) ≡ Some (run_of r)) }
+    ensures { Says result (request_in commands.Run (map (λ v. v.now) names.now) (values_in matches.now)) }
 {
     let from = date_in(names[4])?;
     let to = date_in(names[5])?;
     let options = options(matches)?;
-    Some(RunRequest {
+    Some(Request::Run(RunRequest {
         pipeline: names[0],
         sessions: names[1],
         assets: names[2],
@@ -107,34 +104,31 @@ fn run_in<'a>(names: &[&'a str], matches: &ArgMatches<'a>) -> Option<RunRequest<
         from,
         to,
         options,
-    })
+    }))
 }
 
-fn plan_in<'a>(names: &[&'a str]) -> Option<PlanRequest<'a>>
+fn plan_in<'a>(names: &[&'a str]) -> Option<Request<'a>>
     requires { length names.now ≡ 4 }
-    ensures { MatchOption result (plan_in (map (λ v. v.now) names.now) ≡ None)
-        (λ r. plan_in (map (λ v. v.now) names.now) ≡ Some (plan_of r)) }
+    ensures { Says result (option_map Plan (plan_in (map (λ v. v.now) names.now))) }
 {
     let from = date_in(names[2])?;
     let to = date_in(names[3])?;
-    Some(PlanRequest {
+    Some(Request::Plan(PlanRequest {
         pipeline: names[0],
         sessions: names[1],
         from,
         to,
-    })
+    }))
 }
 
-fn bench_in(names: &[&str], matches: &ArgMatches<'_>) -> Option<BenchRequest>
+fn bench_in<'a>(names: &[&str], matches: &ArgMatches<'_>) -> Option<Request<'a>>
     requires { length names.now ≡ 1 }
-    ensures { MatchOption result
-        (bench_in (map (λ v. v.now) names.now) (values_in matches.now) ≡ None)
-        (λ r. bench_in (map (λ v. v.now) names.now) (values_in matches.now) ≡ Some (bench_of r)) }
+    ensures { Says result (request_in commands.Bench (map (λ v. v.now) names.now) (values_in matches.now)) }
 {
     // The bytes of a sid are those of any number of 32 bits without sign or zeros in front.
     let number = read_sid(names[0].as_bytes())?;
     let chunk = chunk(matches)?;
-    Some(BenchRequest { number, chunk })
+    Some(Request::Bench(BenchRequest { number, chunk }))
 }
 
 fn payouts_over<'a>(names: &[&'a str]) -> PayoutsRequest<'a>
@@ -149,37 +143,33 @@ fn payouts_over<'a>(names: &[&'a str]) -> PayoutsRequest<'a>
     }
 }
 
-fn explain_in<'a>(names: &[&'a str], matches: &ArgMatches<'a>) -> Option<ExplainRequest<'a>>
+fn explain_in<'a>(names: &[&'a str], matches: &ArgMatches<'a>) -> Option<Request<'a>>
     requires { length names.now ≡ 7 }
-    ensures { MatchOption result
-        (explain_in (map (λ v. v.now) names.now) (values_in matches.now) ≡ None)
-        (λ r. explain_in (map (λ v. v.now) names.now) (values_in matches.now) ≡ Some (explain_of r)) }
+    ensures { Says result (request_in commands.Explain (map (λ v. v.now) names.now) (values_in matches.now)) }
 {
     let sid = read_sid(names[4].as_bytes())?;
     let date = date_in(names[5])?;
     let column = column_in(names[6])?;
     let world = world_in(names, matches)?;
-    Some(ExplainRequest {
+    Some(Request::Explain(ExplainRequest {
         pipeline: names[0],
         world,
         sid,
         date,
         column,
-    })
+    }))
 }
 
-fn verify_in<'a>(names: &[&'a str], matches: &ArgMatches<'a>) -> Option<VerifyRequest<'a>>
+fn verify_in<'a>(names: &[&'a str], matches: &ArgMatches<'a>) -> Option<Request<'a>>
     requires { length names.now ≡ 5 }
-    ensures { MatchOption result
-        (verify_in (map (λ v. v.now) names.now) (values_in matches.now) ≡ None)
-        (λ r. verify_in (map (λ v. v.now) names.now) (values_in matches.now) ≡ Some (verify_of r)) }
+    ensures { Says result (request_in commands.Verify (map (λ v. v.now) names.now) (values_in matches.now)) }
 {
     let world = world_in(names, matches)?;
-    Some(VerifyRequest {
+    Some(Request::Verify(VerifyRequest {
         pipeline: names[0],
         world,
         derivation: names[4],
-    })
+    }))
 }
 
 fn are_texts(words: &[String]) -> bool

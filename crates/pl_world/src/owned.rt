@@ -7,13 +7,25 @@ use pl_bars::Bars;
 use pl_calendar::Sessions;
 
 /// The parts of a world, owned.
-#[derive(Drop)]
 pub struct OwnedWorld {
     pub sessions: Sessions,
     pub assets: Assets,
     pub labels: Labels,
     pub bars: Bars,
     pub adjustments: Adjustments,
+}
+
+// One call lets it go, so that no caller's proof goes into its parts.
+impl Drop for OwnedWorld {
+    fn drop(self) {
+        let OwnedWorld {
+            sessions: _sessions,
+            assets: _assets,
+            labels: _labels,
+            bars: _bars,
+            adjustments: _adjustments,
+        } = self;
+    }
 }
 
 impl OwnedWorld {
