@@ -14,7 +14,7 @@ use Rattle.pl_spec.specs.Pointwise.{pointwise}
 use Rattle.pl_spec.specs.Value.{is_filter, is_point_filter}
 use Rattle.pl_lanes.specs.Flags.{IsFlag}
 use Rattle.pl_lanes.proofs.Cells.{is_within}
-use Rattle.pl_pointwise.specs.Operands.{HasCells, IsOperation, AreCells, AreOperands, AreOperandsOf, operation}
+use Rattle.pl_pointwise.specs.Operands.{HasCells, IsOperation, AreCells, AreFlags, AreOperands, AreOperandsOf, operation}
 
 -- either value has the property, so what a test chooses has it
 chosen-has : (P : ℤ → Type 0) (b : Bool) (x y : ℤ) → P x → P y → P (if b then x else y)
@@ -70,6 +70,10 @@ truth-flag false = inl refl
 flag-cell : (x : ℤ) → IsFlag x → IsCell x
 flag-cell x (inl e) = inr (rw e (omega arith))
 flag-cell x (inr e) = inr (rw e (omega arith))
+
+-- the values of a filter are cells
+pub flags-cells : {n : ℕ} {xs : List ℤ} → AreFlags n xs → AreCells n xs
+flags-cells h = record { cells = λ k d l. flag-cell _ (h.flags k d l); many = h.many }
 
 at : (xs : List ℤ) (n i : ℕ) → AreCells n xs → i < n → IsCell (get_or xs i (pos 0))
 at xs n i h p = h.cells i (pos 0) (omega (arith, h.many))
