@@ -18,7 +18,7 @@ use Rattle.pl_words.specs.declared.request.InputFile.{InputFile}
 use Rattle.pl_words.specs.declared.request.InputFile.TheVariants as files
 use Rattle.pl_words.specs.Request.{Request, Run, Fmt, Check, Plan, RunRequest, PlanRequest, run_world, name_asked, pipeline_name, adjustments_of}
 use Rattle.pl_judge.specs.declared.fault.Fault.{Fault}
-use Rattle.pl_judge.specs.declared.fault.Fault.TheVariants.{Usage, Unwritten, Memory}
+use Rattle.pl_judge.specs.declared.fault.Fault.TheVariants.{Usage, Unread, Unloaded, Unwritten, Memory}
 use Rattle.pl_judge.specs.Contents.{Contents, AreHeld}
 use Rattle.pl_judge.specs.Held.{script_in, pipeline_in, pipeline_held, world_held}
 use Rattle.pl_judge.specs.Steps.{Step, first_fault}
@@ -301,6 +301,18 @@ module _ {O : Type 0} (taken : O → Option (List ℕ)) (faults : O → ℕ) (so
       (writes-over (text h.file h.means) w) is
       (when-ok r (of.cost (file_held h.file) before now same)) (of.most (file_held h.file) before now same)
       (quiet-file asked name steps (file_held h.file) r of none-told)
+
+-- what no part but the sink causes, no part causes
+caused-so : (s k risen kept : Type 0) (f : Fault) → IsCaused ⊥ ⊥ ⊥ risen kept f → IsCaused ⊥ s k risen kept f
+caused-so s k risen kept Usage h = h
+caused-so s k risen kept (Unread file) h = absurd h.1
+caused-so s k risen kept (Unloaded table) h = absurd h.1
+caused-so s k risen kept Unwritten h = h
+caused-so s k risen kept f h = h
+
+pub caused-inside : (s k risen kept : Type 0) (r : Result (Option Stats) Fault) → IfErr r (IsCaused ⊥ ⊥ ⊥ risen kept) → IfErr r (IsCaused ⊥ s k risen kept)
+caused-inside s k risen kept (Ok x) h = tt
+caused-inside s k risen kept (Err f) h = caused-so s k risen kept f h
 
 -- what was not written has its cause
 pub caused-written : (s k risen kept : Type 0) (r : Result (Option Stats) Fault) → IfErr r (λ f. f ≡ Unwritten) → OnErr r risen → IfErr r (IsCaused ⊥ s k risen kept)

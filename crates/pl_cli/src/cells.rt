@@ -1,6 +1,8 @@
 // The derivation of a cell.
-ghost use Rattle.std.specs.Prelude.{◌≡◌, ◌<◌, ◌≤◌, ℕ, length, pos, None, Some, IfOk, IfErr};
+ghost use Rattle.std.specs.Prelude.{◌≡◌, ◌<◌, ◌≤◌, ℕ, Bool, length, pos, Option, None, Some, Ok, IfOk, IfErr};
 ghost use Rattle.pl_outside.specs.Counts.{Rose};
+ghost use Rattle.pl_outside.specs.Files.{Files};
+ghost use Rattle.pl_outside.specs.Lists.{Lists};
 ghost use Rattle.pl_outside.specs.Left.{Leaves, LeavesSink, IsUntouched};
 ghost use Rattle.pl_spec.specs.Parts.{sid_at};
 ghost use Rattle.pl_lines.specs.Texts.{MOST_LINES};
@@ -9,9 +11,9 @@ ghost use Rattle.pl_facts.specs.Walks.{derivation, facts_for};
 ghost use Rattle.pl_lines.specs.declared.error.ExplainError.TheVariants.{TooLong};
 ghost use Rattle.pl_world.specs.Worlds.{owned_world};
 ghost use Rattle.pl_terms.specs.Checked.{pipeline_of};
-ghost use Rattle.pl_words.specs.Request.{Explain};
+ghost use Rattle.pl_words.specs.Request.{Explain, ExplainRequest as Asked};
 ghost use Rattle.pl_words.specs.Views.{explain_of};
-ghost use Rattle.pl_load.specs.Celled.{IsExplainable};
+ghost use Rattle.pl_load.specs.Celled.{IsCellLoad, IsExplainable};
 ghost use Rattle.pl_cli.specs.Runs.{observed};
 ghost use Rattle.pl_cli.specs.Commands.{IsEnded, IsCaused};
 
@@ -48,7 +50,26 @@ pub fn explain_command<S: Shelf, K: AdjustKeeper, O: Sink>(
     ensures out { LeavesSink O.sound O.faults out.old out.new }
 {
     let loaded = load_cell(alloc, request, shelf, keeper)?;
-    let lines = lines_of::<Brand>(alloc, &loaded, Blank::new(1))?;
+    write_cell(alloc, &loaded, out)
+}
+
+// Writes the derivation of the cell.
+fn write_cell<O: Sink>(
+    alloc: Global,
+    loaded: &LoadedCell,
+    out: &mut O,
+) -> Result<Option<Stats>, Fault>
+    requires explainable { IsExplainable loaded.now }
+    // for whatever request, and from whatever parts, the cell was loaded
+    ensures ended { (q : Asked) (files : Option Files) (lists : Option Lists) (shelf keeper : Bool)
+        (steps : ℕ) → IsCellLoad files lists shelf keeper q (Ok loaded.now)
+        → IsEnded (observed (λ _. files) (λ _. shelf) (λ _. lists) (λ _. keeper) O.taken O.sound O.room
+        steps steps out.old out.new steps steps) (Some (Explain q)) result }
+    ensures caused { IfErr result (IsCaused ⊥ ⊥ ⊥ (Rose (O.faults out.old) (O.faults out.new))
+        ((O.taken out.new ≡ O.taken out.old) × (O.room out.new ≡ O.room out.old))) }
+    ensures out { LeavesSink O.sound O.faults out.old out.new }
+{
+    let lines = lines_of::<Brand>(alloc, loaded, Blank::new(1))?;
     let text = print_lines(alloc, &lines)?;
     write_text(out, &text)
 }

@@ -1,13 +1,16 @@
 // The verdict on a derivation.
-ghost use Rattle.std.specs.Prelude.{◌≡◌, ◌<◌, ℕ, None, Some, IfOk, IfErr};
+ghost use Rattle.std.specs.Prelude.{◌≡◌, ◌<◌, ℕ, Bool, Option, None, Some, Ok, IfOk, IfErr};
 ghost use Rattle.pl_outside.specs.Counts.{Rose};
+ghost use Rattle.pl_outside.specs.Files.{Files};
+ghost use Rattle.pl_outside.specs.Lists.{Lists};
 ghost use Rattle.pl_outside.specs.Taken.{Writes};
 ghost use Rattle.pl_outside.specs.Left.{Leaves, LeavesSink, IsUntouched};
 ghost use Rattle.pl_facts.specs.Right as spec;
 ghost use Rattle.pl_world.specs.Worlds.{owned_world, IsOwned};
 ghost use Rattle.pl_terms.specs.Checked.{pipeline_of};
-ghost use Rattle.pl_words.specs.Request.{Verify};
+ghost use Rattle.pl_words.specs.Request.{Verify, VerifyRequest as Asked};
 ghost use Rattle.pl_words.specs.Views.{verify_of};
+ghost use Rattle.pl_load.specs.Derived.{IsDerivationLoad};
 ghost use Rattle.pl_cli.specs.Texts.{verdict_text};
 ghost use Rattle.pl_cli.specs.Runs.{observed};
 ghost use Rattle.pl_cli.specs.Commands.{IsEnded, IsCaused};
@@ -46,7 +49,26 @@ pub fn verify_command<S: Shelf, K: AdjustKeeper, O: Sink>(
     ensures out { LeavesSink O.sound O.faults out.old out.new }
 {
     let loaded = load_derivation(alloc, request, shelf, keeper)?;
-    let wrong = wrong_line::<Brand>(alloc, &loaded, Blank::new(1))?;
+    write_judged(alloc, &loaded, out)
+}
+
+// Writes the verdict on the derivation.
+fn write_judged<O: Sink>(
+    alloc: Global,
+    loaded: &LoadedDerivation,
+    out: &mut O,
+) -> Result<Option<Stats>, Fault>
+    requires made { IsOwned loaded.now.world }
+    // for whatever request, and from whatever parts, the derivation was loaded
+    ensures ended { (q : Asked) (files : Option Files) (lists : Option Lists) (shelf keeper : Bool)
+        (steps : ℕ) → IsDerivationLoad files lists shelf keeper q (Ok loaded.now)
+        → IsEnded (observed (λ _. files) (λ _. shelf) (λ _. lists) (λ _. keeper) O.taken O.sound O.room
+        steps steps out.old out.new steps steps) (Some (Verify q)) result }
+    ensures caused { IfErr result (IsCaused ⊥ ⊥ ⊥ (Rose (O.faults out.old) (O.faults out.new))
+        ((O.taken out.new ≡ O.taken out.old) × (O.room out.new ≡ O.room out.old))) }
+    ensures out { LeavesSink O.sound O.faults out.old out.new }
+{
+    let wrong = wrong_line::<Brand>(alloc, loaded, Blank::new(1))?;
     write_verdict(wrong, out)
 }
 

@@ -1,19 +1,12 @@
 // The adapters over files of the system: as it should be, and where the system refuses.
 use super::*;
-use pl_outside::{AdjustKeeper, Failed, KeepError, RawAdjust, ReadError, Shelf, Table, read_file};
+use pl_outside::{
+    AdjustKeeper, Failed, KeepError, RawAdjust, ReadError, Shelf, Table, read_file, write_bytes,
+};
 use sqlite::Connection;
-use std::alloc::AllocError;
 use std::fs::{self, File, OpenOptions};
+use std::io::{self, BufWriter};
 use std::test::Fail;
-
-/// The words as texts of their own.
-fn owned(rt: &HostRuntime, words: &[&str]) -> Result<Vec<String>, AllocError> {
-    let mut all = Vec::new(rt.alloc());
-    for word in words {
-        all.push(String::from_str(rt.alloc(), word)?)?;
-    }
-    Ok(all)
-}
 
 /// The device on which each write fails, since it is always full.
 fn full(rt: &HostRuntime) -> io::Result<File> {
@@ -75,24 +68,6 @@ fn counts_failed_writes(rt: HostRuntime) -> Result<(), Fail> {
         assert_eq!(rt; gathered.faults, 0);
         assert_eq!(rt; flushed(&mut gathered, &mut direct, status), left);
         assert_eq!(rt; gathered.faults, 1);
-    }
-    Ok(())
-}
-
-#[test]
-fn statuses_without_standard_error(rt: HostRuntime) -> Result<(), Fail> {
-    fs::write(&rt, "p.pl", "pipeline 1;\ncolumn c = close.latest;\n")?;
-    for (words, status) in [
-        (["fmt", "p.pl"], 9),
-        (["fmt", "no-such-file"], 7),
-        (["fmt", "."], 7),
-        (["format", "p.pl"], 2),
-    ] {
-        let words = owned(&rt, &words)?;
-        let (mut out, mut err) = (Stream::new(full(&rt)?), Stream::new(full(&rt)?));
-        let left = run::<Brand, _, _>(&rt, &words, &mut out, &mut err, Blank::new(1));
-        assert_eq!(rt; left, status);
-        assert_eq!(rt; err.faults, 1, "at {status}");
     }
     Ok(())
 }

@@ -1,4 +1,4 @@
-use Rattle.pl_cli.proofs.cells.explain_command.Given as goal
+use Rattle.pl_cli.proofs.cells.write_cell.Given as goal
 
 abbrev pub ghosts-lines_of : goal.ghosts-lines_of
 ghosts-lines_of g a = record { name = a.blank.name; parts = a.blank.parts }

@@ -1,0 +1,19 @@
+//! The adapters to the outside: files, database files, standard output and standard error, and what the
+//! program does around its run.
+//!
+//! They are trusted: what a file holds and what a stream shows, no clause can say.
+#![tactic(auto)]
+
+mod command_line;
+mod ends;
+mod file_keeper;
+mod file_shelf;
+mod stream;
+#[cfg(test)]
+mod tests;
+
+pub use command_line::{WordsError, words};
+pub use ends::{ended, flushed};
+pub use file_keeper::FileKeeper;
+pub use file_shelf::FileShelf;
+pub use stream::Stream;

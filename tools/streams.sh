@@ -1,0 +1,64 @@
+#!/usr/bin/env bash
+# What the built program leaves where standard output, standard error or both take nothing: each write to
+# /dev/full fails. It prints a line for each case and how many passed, and ends with 1 where one failed.
+#
+# The program is crates/pl_main/out/pl_main, or the one that TOHMERIL names.
+set -u
+top=$(cd "$(dirname "$0")/.." && pwd)
+program=$(realpath "${TOHMERIL:-$top/crates/pl_main/out/pl_main}")
+[ -x "$program" ] || { echo "streams: there is no program $program" >&2; exit 1; }
+folder=$(mktemp -d)
+trap 'rm -rf "$folder"' EXIT
+passed=0
+failed=0
+
+# left STATUS OUT ERR WORD..: the words are run with the outputs OUT and ERR. Where one of them is the file
+# "held", it has to hold the bytes of the file "wanted".
+left() {
+    local status=$1 out=$2 err=$3 got same=yes
+    shift 3
+    rm -f held
+    "$program" "$@" > "$out" 2> "$err"
+    got=$?
+    [ ! -e held ] || cmp -s held wanted || same=no
+    if [ "$got" = "$status" ] && [ "$same" = yes ]; then
+        passed=$((passed + 1))
+        echo "passed: $status of $* > $out 2> $err"
+    else
+        failed=$((failed + 1))
+        echo "failed: $status of $* > $out 2> $err: $got, $(head -c 200 held 2> /dev/null)"
+    fi
+}
+
+# fails STATUS LINE WORD..: a command that ends with a status other than 0, over all kinds of outputs.
+fails() {
+    local status=$1 line=$2
+    shift 2
+    echo "$line" > wanted
+    left "$status" /dev/full held "$@"
+    left "$status" /dev/full /dev/full "$@"
+}
+
+cd "$folder" || exit 1
+printf 'pipeline 1;\ncolumn c = close.latest;\n' > p.pl
+cp "$top"/examples/market/{sessions,assets,bars}.csv .
+table=(run p.pl sessions.csv assets.csv bars.csv 2022-07-05 2023-12-29)
+
+# a short text is gathered, and fails as the program ends; a table of 7,120 rows fails in the run
+fails 9 write fmt p.pl
+fails 9 write "${table[@]}"
+# another status stays, whatever becomes of its line
+fails 7 'read: no-such-file' fmt no-such-file
+fails 7 'read: .' fmt .
+fails 2 usage format p.pl
+: > wanted
+left 7 held /dev/full fmt no-such-file
+left 2 held /dev/full format p.pl
+# with status 0 the text is whole, and the numbers are told or not
+cp p.pl wanted
+left 0 held /dev/full fmt p.pl
+"$program" "${table[@]}" > wanted
+left 0 held /dev/full "${table[@]}" --stats
+
+echo "$passed passed, $failed failed"
+[ "$failed" = 0 ]
