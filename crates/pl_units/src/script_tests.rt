@@ -1,3 +1,4 @@
+// Scripts that are equal, places aside, and such as are not.
 use pl_syntax::{Script, parse};
 use std::test::Fail;
 
