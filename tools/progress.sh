@@ -2,7 +2,7 @@
 # Tells now and then how far a build is, from what lies in its folder: a library that is being proved has a folder out/rlib, and one
 # that is proved has a stamp there.
 
-# When each library was first seen to be proved, and how long it took; what is being proved now; how many are proved.
+# When each crate was first seen to be proved, and how long a library took; what is being proved now; how many are proved.
 declare -A since=() took=()
 now=()
 ready=0
@@ -21,6 +21,7 @@ look_around() {
             now+=("$crate")
         fi
     done
+    [ ! -d "$room/crates/pl_main/src" ] || since[pl_main]=${since[pl_main]:-$SECONDS}
 }
 
 count_lines() {
@@ -63,6 +64,7 @@ minutes_left() {
         }
         END {
             unit = (5000 * 0.12 + taken) / (5000 + done)
+            cost[NR] *= 2
             for (k = 1; k < NR; k++) {
                 before = 0
                 for (i = 1; i < k; i++) if ((crates[k], crates[i]) in under && chain[i] > before) before = chain[i]
@@ -70,7 +72,7 @@ minutes_left() {
                 if (chain[k] > longest) longest = chain[k]
                 sum += left(k)
             }
-            print int(((sum / jobs > longest ? sum / jobs : longest) + 2 * left(NR)) / 60 + 1)
+            print int(((sum / jobs > longest ? sum / jobs : longest) + left(NR)) / 60 + 1)
         }'
 }
 
