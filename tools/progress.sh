@@ -2,10 +2,12 @@
 # Tells now and then how far a build is, from what lies in its folder: a library that is being proved has a folder out/rlib, and one
 # that is proved has a stamp there.
 
-# When each crate was first seen to be proved, and how long a library took; what is being proved now; how many are proved.
+# When each crate was first seen to be proved, and how long a library took; what is being proved now; how many are proved, and
+# how many were at first.
 declare -A since=() took=()
 now=()
 ready=0
+ready_first=
 
 look_around() {
     local crate at
@@ -22,6 +24,7 @@ look_around() {
         fi
     done
     [ ! -d "$room/crates/pl_main/src" ] || since[pl_main]=${since[pl_main]:-$SECONDS}
+    ready_first=${ready_first:-$ready}
 }
 
 count_lines() {
@@ -85,7 +88,7 @@ tell() {
         doing=", now whether all go together"
     elif [ ${#now[@]} != 0 ]; then
         doing=", now ${now[*]}"
-    elif [ ${#since[@]} = 0 ]; then
+    elif [ "${#since[@]} $ready" = "0 $ready_first" ]; then
         doing=", now all are read, before the first proof"
     fi
     minutes=$(list_states | minutes_left "$jobs")
