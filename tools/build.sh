@@ -138,11 +138,17 @@ fail() {
     stop "$log has all that the build said"
 }
 
+start_telling() {
+    tell_progress 9>&- &
+    children+=($!)
+}
+
 build_in_turn() {
     read_crates
     prepare
     count_jobs > "$room/jobs"
     : > "$log"
+    start_telling
     prove_libraries
     prove_program
     install_program
@@ -154,16 +160,11 @@ build() {
     say "building the proved program; see $log"
     if ! take_lock "$room.lock"; then
         say "another build is under way: waiting for it"
-        tell_progress 9>&- &
-        children+=($!)
+        start_telling
         flock 9
         end_children
     fi
-    if ! is_current; then
-        tell_progress 9>&- &
-        children+=($!)
-        build_in_turn
-    fi
+    is_current || build_in_turn
     end_children
     let_go
 }

@@ -2,10 +2,12 @@
 # Tells now and then how far a build is, from what lies in its folder: a library that is being proved has a folder out/rlib, and one
 # that is proved has a stamp there.
 
-# When each library was first seen to be proved, and how long it took; what is being proved now; how many are proved.
+# When each crate was first seen to be proved, and how long a library took; what is being proved now; how many are proved, and
+# how many were at first.
 declare -A since=() took=()
 now=()
 ready=0
+ready_first=
 
 look_around() {
     local crate at
@@ -21,6 +23,8 @@ look_around() {
             now+=("$crate")
         fi
     done
+    [ ! -d "$room/crates/pl_main/src" ] || since[pl_main]=${since[pl_main]:-$SECONDS}
+    ready_first=${ready_first:-$ready}
 }
 
 count_lines() {
@@ -63,6 +67,7 @@ minutes_left() {
         }
         END {
             unit = (5000 * 0.12 + taken) / (5000 + done)
+            cost[NR] *= 2
             for (k = 1; k < NR; k++) {
                 before = 0
                 for (i = 1; i < k; i++) if ((crates[k], crates[i]) in under && chain[i] > before) before = chain[i]
@@ -70,7 +75,7 @@ minutes_left() {
                 if (chain[k] > longest) longest = chain[k]
                 sum += left(k)
             }
-            print int(((sum / jobs > longest ? sum / jobs : longest) + 2 * left(NR)) / 60 + 1)
+            print int(((sum / jobs > longest ? sum / jobs : longest) + left(NR)) / 60 + 1)
         }'
 }
 
@@ -83,7 +88,7 @@ tell() {
         doing=", now whether all go together"
     elif [ ${#now[@]} != 0 ]; then
         doing=", now ${now[*]}"
-    elif [ ${#since[@]} = 0 ]; then
+    elif [ "${#since[@]} $ready" = "0 $ready_first" ]; then
         doing=", now all are read, before the first proof"
     fi
     minutes=$(list_states | minutes_left "$jobs")

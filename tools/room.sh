@@ -41,6 +41,8 @@ run_in() {
     (cd "$where" && exec "$@") >> "$log" 2>&1 < /dev/null &
     children+=($!)
     wait $! || status=$?
+    # Its number may soon be another's.
+    unset 'children[-1]'
     return "$status"
 }
 
