@@ -1,6 +1,8 @@
-ghost use Rattle.std.specs.Prelude.{◌≡◌, ◌↔◌, ◌+◌, ◌<◌, ◌≤◌, ◌≢◌, ℤ, pos, ◌<ℤ◌, length, All, IfSome, Result};
+ghost use Rattle.std.specs.Prelude.{◌≡◌, ◌↔◌, ◌+◌, ◌<◌, ◌≤◌, ◌≢◌, ◌||◌, ℤ, pos, ◌-ℤ◌, ◌<ℤ◌, length, All, IfSome, Result};
 ghost use Rattle.std.specs.Int.{IsGcd};
-ghost use Rattle.pl_spec.specs.Rounding.{IsCell, Fraction};
+ghost use Rattle.std.specs.Int.RustNames.{unsigned_abs};
+ghost use Rattle.std.specs.Ordering.{int_eq};
+ghost use Rattle.pl_spec.specs.Rounding.{IsCell, Fraction, is_missing};
 ghost use Rattle.pl_spec.specs.declared.RawAdjust.{RawAdjust};
 ghost use Rattle.pl_payouts.specs.declared.ratio.Skip.{Skip};
 ghost use Rattle.pl_payouts.specs.Payouts.{IsKnown, IsPayout};
@@ -8,10 +10,10 @@ ghost use Rattle.pl_payouts.specs.Ratios.{close_before, effective_of, last_befor
 ghost use Rattle.pl_payouts.specs.RatioRules.{ComesTo};
 
 use crate::Payout;
-use pl_lifetimes::Assets;
 use pl_bars::Bars;
 use pl_calendar::Sessions;
 use pl_fixed::MISSING;
+use pl_lifetimes::Assets;
 use pl_spec::{Column, RawAdjust};
 
 const SECONDS_A_DAY: i64 = 86_400;
@@ -101,14 +103,30 @@ fn ratio_over(payout: &Payout, close: i64) -> Result<RawAdjust, Skip>
     requires close { IsCell close }
     ensures { result ≡ ratio_over payout.now close }
 {
-    if close == MISSING || close == 0 {
+    if is_no_close(close) {
         return Err(Skip::NoClose);
     }
     if close <= payout.amount {
         return Err(Skip::NotBelow);
     }
-    let rest = close - payout.amount;
-    row_of(payout, lowest(rest.unsigned_abs(), close.unsigned_abs()))
+    row_of(payout, parts_over(payout.amount, close))
+}
+
+fn is_no_close(close: i64) -> bool
+    ensures { result ≡ (is_missing close || int_eq close (pos 0)) }
+{
+    close == MISSING || close == 0
+}
+
+// What an amount leaves of the close, over the close.
+fn parts_over(amount: i64, close: i64) -> Parts
+    requires amount { pos 0 <ℤ amount }
+    requires below { amount <ℤ close }
+    ensures num { result.num ≡ (lowest (unsigned_abs (close -ℤ amount)) (unsigned_abs close)).num }
+    ensures den { result.den ≡ (lowest (unsigned_abs (close -ℤ amount)) (unsigned_abs close)).den }
+{
+    let rest = close - amount;
+    lowest(rest.unsigned_abs(), close.unsigned_abs())
 }
 
 // The row of a payout with the ratio of these parts, unless one of them is too large.

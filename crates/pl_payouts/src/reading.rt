@@ -7,8 +7,8 @@ ghost use Rattle.pl_payouts.specs.Faults.{fault_of};
 
 use crate::MOST_PAYOUTS;
 use crate::error::PayoutsError;
-use pl_lifetimes::Assets;
 use pl_fixed::{read_day, read_decimal, read_sid};
+use pl_lifetimes::Assets;
 use pl_records::Records;
 use std::alloc::Global;
 

@@ -7,9 +7,9 @@ use crate::Payouts;
 use crate::error::PayoutsOut;
 use crate::line::line_of;
 use crate::ratio::ratio_of;
-use pl_lifetimes::Assets;
 use pl_bars::Bars;
 use pl_calendar::Sessions;
+use pl_lifetimes::Assets;
 use pl_outside::{Sink, write_bytes};
 use std::alloc::Global;
 
