@@ -1,7 +1,7 @@
 -- The adjustments up to a day, one after the other.
-use Rattle.std.proofs.Common.{◌≡◌, ℕ, ◌+◌, ◌<◌, true, false, cond, ℤ, List, [], ◌∷◌, ◌++◌, map, length, get_or, drop, sym, ◌∙◌, ap}
+use Rattle.std.proofs.Common.{◌≡◌, ℕ, ◌+◌, ◌<◌, ◌≤◌, true, false, cond, ℤ, List, [], ◌∷◌, ◌++◌, map, length, get_or, drop, sym, ◌∙◌, ap}
 use Rattle.std.specs.Int.RustNames.{int_le}
-use Rattle.std.proofs.lemmas.List.{length-map, map-append, append_assoc, drop_more}
+use Rattle.std.proofs.lemmas.List.{length-map, map-append, append_assoc, append-nil, drop_more, drop_all}
 use Rattle.std.proofs.lemmas.List.Elements.{All-filter}
 use Rattle.std.proofs.lemmas.List.Kept.{IsSortedBy-filter}
 use Rattle.pl_spec.specs.AsOf.{adjustments_by}
@@ -35,6 +35,10 @@ module _ (cols : List ℕ) (xs : List Adjust) (day : ℤ) (i c : ℕ) (x : Adjus
 
   pub row_left : (rows : List Row) → int_le x.day day ≡ false → map row_of rows ++ left (i + 1) ≡ map row_of rows ++ left i
   row_left rows t = ap (λ l. map row_of rows ++ l) (sym (next ∙ ap (λ b. cond b (row_of row ∷ left (i + 1)) (left (i + 1))) t))
+
+-- behind the last place nothing is left
+pub rows_end : (cols : List ℕ) (xs : List Adjust) (day : ℤ) (i : ℕ) (rows : List ColumnAdjustment) → length cols ≤ i → rows ++ adjustments_by day (in_columns (drop i cols) (drop i xs)) ≡ rows
+rows_end cols xs day i rows h = rw (drop_all i cols h) (append-nil rows)
 
 -- ---- those that are kept
 

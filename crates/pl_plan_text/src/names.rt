@@ -4,7 +4,7 @@ ghost use Rattle.pl_terms.specs.Kinds.{kind_of};
 ghost use Rattle.pl_plan_text.specs.Names.{column_name, kind_name};
 
 use pl_spec::Column;
-use pl_terms::{LabelValue, TermKind};
+use pl_terms::TermKind;
 
 pub(crate) fn column_name(column: Column) -> &'static str
     ensures { result.now ≡ column_name column }
@@ -68,18 +68,8 @@ pub(crate) fn kind_name(kind: &TermKind) -> &'static str
         TermKind::GreaterEqual => "GreaterEqual",
         TermKind::Equal => "Equal",
         TermKind::NotEqual => "NotEqual",
-        TermKind::LabelIs {
-            label: LabelValue::Text(_),
-        } => "LabelIs",
-        TermKind::LabelIs {
-            label: LabelValue::Number(_),
-        } => "LabelIs",
-        TermKind::LabelIsNot {
-            label: LabelValue::Text(_),
-        } => "LabelIsNot",
-        TermKind::LabelIsNot {
-            label: LabelValue::Number(_),
-        } => "LabelIsNot",
+        TermKind::LabelIs { .. } => "LabelIs",
+        TermKind::LabelIsNot { .. } => "LabelIsNot",
         TermKind::Clip { .. } => "Clip",
         TermKind::FillNa => "FillNa",
         TermKind::IsNull => "IsNull",

@@ -1,5 +1,5 @@
 -- Values from kept sums: what is computed in 128 bits is exact.
-use Rattle.std.proofs.Common.{◌≡◌, ◌≢◌, ◌≤◌, ◌*◌, ◌^◌, ℤ, pos, negsuc, ◌+ℤ◌, ◌-ℤ◌, ◌*ℤ◌, unsigned_abs, FitsSigned, to_z, of_z, ap, arith, sym, ◌∙◌}
+use Rattle.std.proofs.Common.{◌≡◌, ◌≢◌, ◌≤◌, ◌*◌, ◌^◌, ℤ, pos, negsuc, ◌+ℤ◌, ◌-ℤ◌, ◌*ℤ◌, unsigned_abs, FitsSigned, to_z, of_z, ap, ap₂, arith, sym, ◌∙◌}
 use Rattle.std.specs.Int.{w128}
 use Rattle.std.proofs.lemmas.Int.{ints, to_z-of_z, unsigned_abs-mul, fits_signed_from_abs}
 use Rattle.std.proofs.lemmas.Nat.{mul-le}
@@ -48,3 +48,13 @@ strength-within g l h k =
 -- a number that is y, in 128 bits and back
 pub same : (x y : ℤ) → x ≡ y → unsigned_abs y ≤ 10 ^ 38 → to_z w128 (of_z w128 x) ≡ y
 same x y e h = ap (λ v. to_z w128 (of_z w128 v)) e ∙ exact y h
+
+-- a product of two numbers of 128 bits, computed in as many
+pub product-is : (m x r : ℤ) → FitsSigned w128 m → FitsSigned w128 x → FitsSigned w128 r → r ≡ to_z w128 (of_z w128 m) *ℤ to_z w128 (of_z w128 x) → to_z w128 (of_z w128 r) ≡ m *ℤ x
+product-is m x r fm fx fr e = to_z-of_z w128 r fr ∙ e ∙ ap₂ (λ a b. a *ℤ b) (to_z-of_z w128 m fm) (to_z-of_z w128 x fx)
+
+-- how far such a product is from a number
+pub apart-is : (m k s r : ℤ) → unsigned_abs m ≤ LIMIT → unsigned_abs k ≤ 1260 → unsigned_abs s ≤ 1260 * LIMIT → to_z w128 (of_z w128 r) ≡ m *ℤ k → FitsSigned w128 s
+    → to_z w128 (of_z w128 (to_z w128 (of_z w128 r) -ℤ to_z w128 (of_z w128 s))) ≡ (m *ℤ k) -ℤ s
+apart-is m k s r h l t e fs =
+    same _ _ (ap₂ (λ a b. a -ℤ b) e (to_z-of_z w128 s fs)) (omega (arith, apart-within m k s h l t))

@@ -1,4 +1,5 @@
 pub mod Bounds
+mod Chosen
 pub mod Exact
 pub mod FirstPlaces
 pub mod Peaks

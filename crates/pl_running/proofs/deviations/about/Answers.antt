@@ -1,43 +1,79 @@
-use Rattle.std.proofs.Common.{◌≡◌, ◌≤◌, ◌-ℤ◌, ◌*ℤ◌, ◌+ℤ◌, ◌^◌, rules, arith, ap₂, ◌∙◌, unsigned_abs, FitsSigned, to_z, of_z}
+use Rattle.std.proofs.Common.{◌≡◌, ◌-ℤ◌, ◌*ℤ◌, ◌+ℤ◌, rules, arith, ap₂, ◌∙◌, FitsSigned, to_z, of_z}
 use Rattle.std.specs.Int.{w128}
 use Rattle.std.proofs.lemmas.Int.{to_z-of_z}
-use Rattle.pl_running.proofs.Exact.{fits, exact, same, apart-within, about-within}
+use Rattle.pl_running.proofs.Exact.{fits, exact, same, product-is, apart-is, apart-within, about-within}
 use Rattle.pl_running.proofs.deviations.about.Goals as goal
 
--- the two products, in whole numbers
-second : (c : goal.After-times-3) → to_z w128 (of_z w128 c.times-2.result) ≡ c.args.middle *ℤ c.args.sum
-second c =
+pub times-requires : goal.times-requires
+times-requires c =
     let fm : FitsSigned w128 c.args.middle = c.ranges.middle in
-    let fs : FitsSigned w128 c.args.sum = c.ranges.sum in
-    let f2 : FitsSigned w128 c.times-2.result = search rules in
-    to_z-of_z w128 _ f2 ∙ c.times-2.ensures.value ∙ ap₂ (λ a b. a *ℤ b) (to_z-of_z w128 _ fm) (to_z-of_z w128 _ fs)
-
-third : (c : goal.After-times-3) → to_z w128 (of_z w128 c.times-3.result) ≡ c.args.middle *ℤ ((c.args.middle *ℤ c.args.count) -ℤ c.args.sum)
-third c =
-    let fm : FitsSigned w128 c.args.middle = c.ranges.middle in
-    let fs : FitsSigned w128 c.args.sum = c.ranges.sum in
     let fk : FitsSigned w128 c.args.count = c.ranges.count in
+    record { middle = rw (to_z-of_z w128 _ fm) c.requires.middle; other = rw (to_z-of_z w128 _ fk) (omega arith) }
+
+pub overflow_sub-apart : goal.overflow_sub-apart
+overflow_sub-apart c =
+    let fs : FitsSigned w128 c.args.sum = c.ranges.sum in
     let f1 : FitsSigned w128 c.times.result = search rules in
-    let f3 : FitsSigned w128 c.times-3.result = search rules in
-    let one : to_z w128 (of_z w128 c.times.result) ≡ c.args.middle *ℤ c.args.count
-    = to_z-of_z w128 _ f1 ∙ c.times.ensures.value ∙ ap₂ (λ a b. a *ℤ b) (to_z-of_z w128 _ fm) (to_z-of_z w128 _ fk) in
+    let one = product-is c.args.middle c.args.count c.times.result c.ranges.middle c.ranges.count f1 c.times.ensures.value in
     let d = apart-within c.args.middle c.args.count c.args.sum c.requires.middle c.requires.count c.requires.sum in
-    let small : unsigned_abs ((c.args.middle *ℤ c.args.count) -ℤ c.args.sum) ≤ 10 ^ 38 = omega (arith, d) in
-    to_z-of_z w128 _ f3 ∙ c.times-3.ensures.value
-    ∙ ap₂ (λ a b. a *ℤ b) (to_z-of_z w128 _ fm) (same _ _ (ap₂ (λ a b. a -ℤ b) one (to_z-of_z w128 _ fs)) small)
+    rw (one, to_z-of_z w128 _ fs) (fits _ (omega (arith, d)))
+
+pub times-requires-2 : goal.times-requires-2
+times-requires-2 c =
+    let fm : FitsSigned w128 c.args.middle = c.ranges.middle in
+    let fs : FitsSigned w128 c.args.sum = c.ranges.sum in
+    record { middle = rw (to_z-of_z w128 _ fm) c.requires.middle; other = rw (to_z-of_z w128 _ fs) (omega arith) }
+
+pub overflow_sub-result : goal.overflow_sub-result
+overflow_sub-result c =
+    let fq : FitsSigned w128 c.args.squares = c.ranges.squares in
+    let f2 : FitsSigned w128 c.times-2.result = search rules in
+    let two = product-is c.args.middle c.args.sum c.times-2.result c.ranges.middle c.ranges.sum f2 c.times-2.ensures.value in
+    let d = apart-within c.args.middle c.args.count c.args.sum c.requires.middle c.requires.count c.requires.sum in
+    let w = about-within c.args.middle c.args.squares c.args.sum ((c.args.middle *ℤ c.args.count) -ℤ c.args.sum) c.requires.middle c.requires.squares c.requires.sum d in
+    rw (to_z-of_z w128 _ fq, two) (fits _ w.0)
+
+pub times-requires-3 : goal.times-requires-3
+times-requires-3 c =
+    let fm : FitsSigned w128 c.args.middle = c.ranges.middle in
+    let fs : FitsSigned w128 c.args.sum = c.ranges.sum in
+    let f1 : FitsSigned w128 c.times.result = search rules in
+    let one = product-is c.args.middle c.args.count c.times.result c.ranges.middle c.ranges.count f1 c.times.ensures.value in
+    let d = apart-within c.args.middle c.args.count c.args.sum c.requires.middle c.requires.count c.requires.sum in
+    let apart = apart-is c.args.middle c.args.count c.args.sum c.times.result c.requires.middle c.requires.count c.requires.sum one fs in
+    record { middle = rw (to_z-of_z w128 _ fm) c.requires.middle; other = rw apart d }
 
 pub overflow_add-result : goal.overflow_add-result
 overflow_add-result c =
+    let fm : FitsSigned w128 c.args.middle = c.ranges.middle in
+    let fs : FitsSigned w128 c.args.sum = c.ranges.sum in
     let fq : FitsSigned w128 c.args.squares = c.ranges.squares in
+    let f1 : FitsSigned w128 c.times.result = search rules in
+    let one = product-is c.args.middle c.args.count c.times.result c.ranges.middle c.ranges.count f1 c.times.ensures.value in
+    let f2 : FitsSigned w128 c.times-2.result = search rules in
+    let two = product-is c.args.middle c.args.sum c.times-2.result c.ranges.middle c.ranges.sum f2 c.times-2.ensures.value in
     let d = apart-within c.args.middle c.args.count c.args.sum c.requires.middle c.requires.count c.requires.sum in
-    let w = about-within c.args.middle c.args.squares c.args.sum _ c.requires.middle c.requires.squares c.requires.sum d in
-    rw (second c, third c, to_z-of_z w128 _ fq, exact _ w.0) (fits _ w.1)
+    let apart = apart-is c.args.middle c.args.count c.args.sum c.times.result c.requires.middle c.requires.count c.requires.sum one fs in
+    let w = about-within c.args.middle c.args.squares c.args.sum ((c.args.middle *ℤ c.args.count) -ℤ c.args.sum) c.requires.middle c.requires.squares c.requires.sum d in
+    let f3 : FitsSigned w128 c.times-3.result = search rules in
+    let three : to_z w128 (of_z w128 c.times-3.result) ≡ c.args.middle *ℤ ((c.args.middle *ℤ c.args.count) -ℤ c.args.sum)
+    = to_z-of_z w128 _ f3 ∙ c.times-3.ensures.value ∙ ap₂ (λ a b. a *ℤ b) (to_z-of_z w128 _ fm) apart in
+    rw (two, three, to_z-of_z w128 _ fq, exact _ w.0) (fits _ w.1)
 
 pub returns : goal.returns
 returns c =
+    let fm : FitsSigned w128 c.args.middle = c.ranges.middle in
+    let fs : FitsSigned w128 c.args.sum = c.ranges.sum in
     let fq : FitsSigned w128 c.args.squares = c.ranges.squares in
+    let f1 : FitsSigned w128 c.times.result = search rules in
+    let one = product-is c.args.middle c.args.count c.times.result c.ranges.middle c.ranges.count f1 c.times.ensures.value in
+    let f2 : FitsSigned w128 c.times-2.result = search rules in
+    let two = product-is c.args.middle c.args.sum c.times-2.result c.ranges.middle c.ranges.sum f2 c.times-2.ensures.value in
     let d = apart-within c.args.middle c.args.count c.args.sum c.requires.middle c.requires.count c.requires.sum in
-    let w = about-within c.args.middle c.args.squares c.args.sum _ c.requires.middle c.requires.squares c.requires.sum d in
-    let q = to_z-of_z w128 c.args.squares fq in
-    let first = same _ _ (ap₂ (λ a b. a -ℤ b) q (second c)) w.0 in
-    same _ _ (ap₂ (λ a b. a +ℤ b) first (third c)) w.1
+    let apart = apart-is c.args.middle c.args.count c.args.sum c.times.result c.requires.middle c.requires.count c.requires.sum one fs in
+    let w = about-within c.args.middle c.args.squares c.args.sum ((c.args.middle *ℤ c.args.count) -ℤ c.args.sum) c.requires.middle c.requires.squares c.requires.sum d in
+    let f3 : FitsSigned w128 c.times-3.result = search rules in
+    let three : to_z w128 (of_z w128 c.times-3.result) ≡ c.args.middle *ℤ ((c.args.middle *ℤ c.args.count) -ℤ c.args.sum)
+    = to_z-of_z w128 _ f3 ∙ c.times-3.ensures.value ∙ ap₂ (λ a b. a *ℤ b) (to_z-of_z w128 _ fm) apart in
+    let less = same _ _ (ap₂ (λ a b. a -ℤ b) (to_z-of_z w128 _ fq) two) w.0 in
+    same _ _ (ap₂ (λ a b. a +ℤ b) less three) w.1
