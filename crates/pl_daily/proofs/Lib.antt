@@ -10,3 +10,4 @@ pub mod Begun
 pub mod Outputs
 pub mod Taken
 pub mod Shown
+pub mod Worked

@@ -5,9 +5,11 @@
 //! begins with the number. The world is this project's own, and no market's.
 #![tactic(auto)]
 
-ghost use Rattle.std.specs.Prelude.{◌≡◌, IfOk};
+ghost use Rattle.std.specs.Prelude.{◌≡◌, ◌<◌, All, IfOk, length};
 ghost use Rattle.pl_world.specs.Worlds.{owned_world, IsOwned};
 ghost use Rattle.pl_generate.specs.StatedWorld.{IsStated, stated_world};
+ghost use Rattle.pl_generate.specs.StatedWorld.{stated_adjustments, stated_assets, stated_bars};
+ghost use Rattle.pl_generate.specs.StatedWorld.{stated_days, stated_labels};
 
 mod adjusts;
 mod bars;
@@ -16,6 +18,10 @@ mod sectors;
 mod sessions;
 
 pub use draws::Draws;
+use pl_adjust::Adjustments;
+use pl_assets::{Assets, Labels};
+use pl_bars::Bars;
+use pl_calendar::Sessions;
 use pl_fixed::Memory;
 use pl_world::OwnedWorld;
 use std::alloc::Global;
@@ -26,6 +32,39 @@ pub const ASSETS: u32 = 400;
 /// How many sessions there are.
 pub const SESSIONS: u32 = 600;
 
+// What is drawn for assets over sessions.
+#[derive(Drop)]
+struct Drawn {
+    labels: Labels,
+    bars: Bars,
+    adjustments: Adjustments,
+}
+
+// Draws it in its order, from the state that is the number.
+fn draw(
+    alloc: Global,
+    number: u32,
+    sessions: &Sessions,
+    assets: &Assets,
+) -> Result<Drawn, Memory>
+    requires sessions { sessions.now ≡ stated_days }
+    requires assets { assets.now ≡ stated_assets }
+    ensures labels { IfOk result (λ d. d.labels ≡ stated_labels number) }
+    ensures bars { IfOk result (λ d. d.bars ≡ stated_bars number) }
+    ensures adjustments { IfOk result (λ d. d.adjustments ≡ stated_adjustments number) }
+    ensures cols { IfOk result (λ d. All (λ x. x.col < length assets.now) d.adjustments) }
+{
+    let mut draws = Draws::new(number);
+    let labels = sectors::draw_sectors(alloc, assets, sessions.day(0), &mut draws)?;
+    let bars = bars::draw_bars(alloc, &mut draws)?;
+    let adjustments = adjusts::draw_adjustments(alloc, sessions, assets, &mut draws)?;
+    Ok(Drawn {
+        labels,
+        bars,
+        adjustments,
+    })
+}
+
 /// The stated world of a number.
 pub fn make_world(alloc: Global, number: u32) -> Result<OwnedWorld, Memory>
     ensures stated { IfOk result (IsStated number) }
@@ -35,15 +74,12 @@ pub fn make_world(alloc: Global, number: u32) -> Result<OwnedWorld, Memory>
 {
     let sessions = sessions::make_sessions(alloc)?;
     let assets = sessions::make_assets(alloc, &sessions)?;
-    let mut draws = Draws::new(number);
-    let labels = sectors::draw_sectors(alloc, &assets, sessions.day(0), &mut draws)?;
-    let bars = bars::draw_bars(alloc, &mut draws)?;
-    let adjustments = adjusts::draw_adjustments(alloc, &sessions, &assets, &mut draws)?;
+    let drawn = draw(alloc, number, &sessions, &assets)?;
     Ok(OwnedWorld {
         sessions,
         assets,
-        labels,
-        bars,
-        adjustments,
+        labels: drawn.labels,
+        bars: drawn.bars,
+        adjustments: drawn.adjustments,
     })
 }

@@ -13,7 +13,7 @@ use Rattle.pl_rings.specs.declared.day.DayEvent.{DayEvent}
 use Rattle.pl_rings.specs.declared.rings.Rings.{Rings}
 use Rattle.pl_rings.specs.Days.{Start, FedDay, IsStart, AreFed, cell_brought, events_at, day_back, day_window}
 use Rattle.pl_rings.specs.Rings.{bar_ring, changed_cells, known_days}
-use Rattle.pl_rings.specs.Changes.{Ring, AreRings, IsRing, ring_at, pushed, changed, column_event, HoldBars, Brings, FollowBars}
+use Rattle.pl_rings.specs.Changes.{Ring, AreRings, IsRing, ring_at, pushed, changed, column_event, HoldBars, Brings, FollowBars, IsHandedIn}
 use Rattle.pl_rings.proofs.Moves.{bars_move, slides, ends}
 use Rattle.pl_rings.proofs.Cells.{length-known}
 
@@ -140,3 +140,6 @@ column_follows bars events fed size lent calendar c old made follow room same lo
 
 pub column_are : (size other : ℕ) (r : Rings) → size ≡ other → AreRings size r.capacity r.rings.items → AreRings other r.capacity r.rings.items
 column_are size other r e are = subst (λ n. AreRings n r.capacity r.rings.items) e are
+
+pub handed_in : (size other fed : ℕ) (bars : List DayBar) (events : List DayEvent) → size ≡ other → IsHandedIn size fed bars events → IsHandedIn other fed bars events
+handed_in size other fed bars events e day = subst (λ n. IsHandedIn n fed bars events) e day

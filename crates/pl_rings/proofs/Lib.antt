@@ -6,3 +6,4 @@ pub mod Cells
 pub mod Written
 pub mod Advances
 pub mod Beginning
+pub mod Full

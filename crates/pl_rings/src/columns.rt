@@ -15,7 +15,6 @@ use std::sync::ledger::Ledger;
 
 /// The rings of the five bar columns, one for each asset: each has the cells of the last sessions before the
 /// last day as they are seen on it. The calendar has the days of the last sessions up to that day.
-#[derive(Drop)]
 pub struct BarRings {
     pub calendar: HeapCircularBuffer<i32>,
     pub open_price: Rings,
@@ -24,6 +23,21 @@ pub struct BarRings {
     pub close: Rings,
     pub volume: Rings,
     pub row: Vec<i64>,
+}
+
+// One call lets rings go, so that no caller's proof goes into their parts.
+impl Drop for BarRings {
+    fn drop(self) {
+        let BarRings {
+            calendar: _calendar,
+            open_price: _open_price,
+            high: _high,
+            low: _low,
+            close: _close,
+            volume: _volume,
+            row: _row,
+        } = self;
+    }
 }
 
 // What a day makes of the rings of a column. The days are those of the sessions of the rings' cells, and the
@@ -78,11 +92,11 @@ fn advance_column<L: Ledger>(
 }
 
 // Puts a day behind those of the calendar.
-fn put_day(calendar: &mut HeapCircularBuffer<i32>, day: i32)
+fn put_day(calendar: &mut HeapCircularBuffer<i32>, day: &Day)
     ensures { calendar.new ≡ buffer
-        (keep_last calendar.old.capacity (calendar.old.items ++ day ∷ [])) calendar.old.capacity }
+        (keep_last calendar.old.capacity (calendar.old.items ++ day.now.day ∷ [])) calendar.old.capacity }
 {
-    calendar.push_back(day);
+    calendar.push_back(day.day);
 }
 
 impl BarRings {
@@ -139,6 +153,6 @@ impl BarRings {
             row,
             steps,
         );
-        put_day(&mut self.calendar, day.day);
+        put_day(&mut self.calendar, day);
     }
 }

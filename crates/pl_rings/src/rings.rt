@@ -9,10 +9,19 @@ use pl_fixed::Memory;
 use std::alloc::Global;
 
 /// Rings of one capacity, one for each asset by column; each is full.
-#[derive(Drop)]
 pub struct Rings {
     pub capacity: usize,
     pub rings: Vec<HeapCircularBuffer<i64>>,
+}
+
+// One call lets rings go, so that no caller's proof goes into their parts.
+impl Drop for Rings {
+    fn drop(self) {
+        let Rings {
+            capacity: _capacity,
+            rings: _rings,
+        } = self;
+    }
 }
 
 // A ring that is full of one cell.

@@ -1,36 +1,17 @@
-use Rattle.std.proofs.Common.{◌≡◌, ◌∙◌, ap, subst, sym, rules, ℕ, ℤ, List, Some, pos, length, arith, FitsSigned, w32}
-use Rattle.std.specs.Prelude.{slice_get}
-use Rattle.std.proofs.lemmas.Int.{to_z-of_z}
-use Rattle.std.proofs.lemmas.Option.{get_or_from_slice_get}
-use Rattle.pl_generate.specs.StatedWorld.{stated_days, stated_labels, bars_from, adjustments_from}
-use Rattle.pl_generate.specs.Draws.{behind}
-use Rattle.pl_generate.proofs.Days.{length-stated_days}
-use Rattle.pl_generate.proofs.Sequences.{behind-more}
 use Rattle.pl_generate.proofs.WorldMade.{world-is, made-for}
 use Rattle.pl_generate.proofs.make_world.Goals as goal
 
-pub day-requires : goal.day-requires
-day-requires c = omega (arith, ap length c.in_ok-sessions.ensures, length-stated_days)
-
-pub draw_sectors-requires-clause-start : goal.draw_sectors-requires-clause-start
-draw_sectors-requires-clause-start c =
-    let fits : FitsSigned w32 c.day.result = search rules in
-    to_z-of_z w32 c.day.result fits ∙ sym (get_or_from_slice_get stated_days 0 c.day.result (pos 0) (subst (λ (d : List ℤ). slice_get d 0 ≡ Some c.day.result) c.in_ok-sessions.ensures c.day.ensures.exact))
-
 pub returns-clause-stated : goal.returns-clause-stated
-returns-clause-stated c =
-    let sectors = c.in_ok-labels.ensures.draws ∙ ap (λ (n : ℕ). behind n 400) c.new-draws.ensures in
-    let bars = c.in_ok-bars.ensures.draws ∙ ap (λ (n : ℕ). behind n 480400) sectors ∙ behind-more c.args.number 400 480400 in
-    record {
-      sessions = c.in_ok-sessions.ensures;
-      assets = c.in_ok-assets.ensures;
-      labels = c.in_ok-labels.ensures.labels ∙ ap stated_labels c.new-draws.ensures;
-      bars = c.in_ok-bars.ensures.bars ∙ ap bars_from sectors;
-      adjustments = c.in_ok-adjustments.ensures.adjustments ∙ ap adjustments_from bars;
-    }
+returns-clause-stated c = record {
+  sessions = c.in_ok-sessions.ensures;
+  assets = c.in_ok-assets.ensures;
+  labels = c.in_ok-drawn.ensures.labels;
+  bars = c.in_ok-drawn.ensures.bars;
+  adjustments = c.in_ok-drawn.ensures.adjustments;
+}
 
 pub returns-clause-world : goal.returns-clause-world
 returns-clause-world c = world-is c.args.number _ (returns-clause-stated c)
 
 pub returns-clause-made : goal.returns-clause-made
-returns-clause-made c = made-for c.args.number _ (returns-clause-stated c) c.in_ok-adjustments.ensures.cols
+returns-clause-made c = made-for c.args.number _ (returns-clause-stated c) c.in_ok-drawn.ensures.cols

@@ -20,6 +20,7 @@ use Rattle.pl_model.specs.Costs.{cost_in, input_cost_in}
 use Rattle.pl_world.proofs.Asked.{first-asked, second-asked, third-asked, mask-asked, group-asked, mask-input-asked, input-below, mask-below, group-below, window-one, start-asked}
 use Rattle.pl_world.proofs.Evaluated.{lacks-value, cell-barred, cell-kept, kept-mask, mask-passed, on-ok, sid-of, not-windowed, constant-given, sid-given, label-named, label-given, label-test-given, window-early, windows-given, point-given, start-given, downsampled-plain}
 use Rattle.pl_model.proofs.Costs.{cost-lacks, cost-barred, cost-kept, start-cost}
+use Rattle.pl_model.proofs.Taken.{always, constant-free, label-free, static-free, test-taken, windows-taken, points-taken, rows-taken}
 use Rattle.pl_world.proofs.Windowing.{cells-more, steps-more, cells-all, steps-all, all-more, row-more, row-steps-more, row-all, row-steps-all}
 use Rattle.pl_world.proofs.Sections.{sid-there, blank}
 use Rattle.pl_model.proofs.evaluation.+evaluation.Goals as goal
@@ -644,3 +645,80 @@ given-returns-in-Downsample-clause-cost g t c =
     subst (λ (k : ℕ). OnOk c.input_cell-in-Downsample.result (c.input_cell-in-Downsample.new.steps ≡ c.args.steps.now + k))
     (ap (λ o. input_cost_in w p o a start) c.input_at-input-in-Downsample.ensures ∙ sym (start-cost w p t0 s start a n c.in-Downsample.frequency is kind c.period_start-start.ensures.exact))
     c.input_cell-in-Downsample.ensures.cost
+
+pub window_cell-returns-clause-cost : goal.window_cell-returns-clause-cost
+window_cell-returns-clause-cost g t c =
+    let w = c.args.world.now in
+    let p = c.args.checked.now in
+    let t0 = c.args.t.0 in
+    let s = c.args.session in
+    let n = c.node-node.result.now in
+    let is : slice_get p.graph t0 ≡ Some n = ap (λ ns. slice_get ns c.args.t.0) (sym c.graph.ensures.value) ∙ c.node-node.ensures in
+    let a = sid_at c.args.world.now.assets.now c.args.col in
+    windows-taken w p t0 s a n is c.args.steps.now _ _ _ _ _ _ c.input_at-first.ensures c.input_at-second.ensures c.input_at-third.ensures (c.requires.kind n is) c.in_ok-a.ensures.cost c.in_ok-b.ensures.cost c.in_ok-c.ensures.cost
+
+pub point_cell-returns-clause-cost : goal.point_cell-returns-clause-cost
+point_cell-returns-clause-cost g t c =
+    let w = c.args.world.now in
+    let p = c.args.checked.now in
+    let t0 = c.args.t.0 in
+    let s = c.args.session in
+    let n = c.node-node.result.now in
+    let is : slice_get p.graph t0 ≡ Some n = ap (λ ns. slice_get ns c.args.t.0) (sym c.graph.ensures.value) ∙ c.node-node.ensures in
+    let a = sid_at c.args.world.now.assets.now c.args.col in
+    points-taken w p t0 s a n is c.args.steps.now _ _ _ _ _ _ c.input_at-first.ensures c.input_at-second.ensures c.input_at-third.ensures (c.requires.kind n is) c.in_ok-x.ensures.cost c.in_ok-y.ensures.cost c.in_ok-z.ensures.cost
+
+pub section_cell-returns-clause-cost : goal.section_cell-returns-clause-cost
+section_cell-returns-clause-cost g t c =
+    let w = c.args.world.now in
+    let p = c.args.checked.now in
+    let t0 = c.args.t.0 in
+    let s = c.args.session in
+    let n = c.node-node.result.now in
+    let is : slice_get p.graph t0 ≡ Some n = ap (λ ns. slice_get ns c.args.t.0) (sym c.graph.ensures.value) ∙ c.node-node.ensures in
+    let a = sid_at c.args.world.now.assets.now c.args.col in
+    always c.section_at.result _ (rows-taken w p t0 s a n is c.args.steps.now _ _ _ c.section_input-input.result (c.section_input-input.ensures n is) (c.requires.kind n is) c.in_ok-values.ensures.cost c.in_ok-mask.ensures.cost c.in_ok-groups.ensures.cost)
+
+pub given-returns-in-Constant-clause-cost : goal.given-returns-in-Constant-clause-cost
+given-returns-in-Constant-clause-cost g t c =
+    let w = c.args.world.now in
+    let p = c.args.checked.now in
+    let t0 = c.args.t.0 in
+    let s = c.args.session in
+    let n = c.node-node.result.now in
+    let is : slice_get p.graph t0 ≡ Some n = ap (λ ns. slice_get ns c.args.t.0) (sym c.graph.ensures.value) ∙ c.node-node.ensures in
+    let a = sid_at c.args.world.now.assets.now c.args.col in
+    constant-free w p t0 s a n is c.args.steps.now c.in-Constant.value (subst (IsOf (kind_of n.kind)) c.in-Constant.is c.family_of.ensures)
+
+pub given-returns-in-Label-clause-cost : goal.given-returns-in-Label-clause-cost
+given-returns-in-Label-clause-cost g t c =
+    let w = c.args.world.now in
+    let p = c.args.checked.now in
+    let t0 = c.args.t.0 in
+    let s = c.args.session in
+    let n = c.node-node.result.now in
+    let is : slice_get p.graph t0 ≡ Some n = ap (λ ns. slice_get ns c.args.t.0) (sym c.graph.ensures.value) ∙ c.node-node.ensures in
+    let a = sid_at c.args.world.now.assets.now c.args.col in
+    label-free w p t0 s a n is c.args.steps.now c.in-Label.name (subst (IsOf (kind_of n.kind)) c.in-Label.is c.family_of.ensures)
+
+pub given-returns-in-Sids-clause-cost : goal.given-returns-in-Sids-clause-cost
+given-returns-in-Sids-clause-cost g t c =
+    let w = c.args.world.now in
+    let p = c.args.checked.now in
+    let t0 = c.args.t.0 in
+    let s = c.args.session in
+    let n = c.node-node.result.now in
+    let is : slice_get p.graph t0 ≡ Some n = ap (λ ns. slice_get ns c.args.t.0) (sym c.graph.ensures.value) ∙ c.node-node.ensures in
+    let a = sid_at c.args.world.now.assets.now c.args.col in
+    static-free w p t0 s a n is c.args.steps.now (subst (IsOf (kind_of n.kind)) c.in-Sids.is c.family_of.ensures)
+
+pub given-returns-in_ok-code-in-LabelTest-clause-cost : goal.given-returns-in_ok-code-in-LabelTest-clause-cost
+given-returns-in_ok-code-in-LabelTest-clause-cost g t c =
+    let w = c.args.world.now in
+    let p = c.args.checked.now in
+    let t0 = c.args.t.0 in
+    let s = c.args.session in
+    let n = c.node-node.result.now in
+    let is : slice_get p.graph t0 ≡ Some n = ap (λ ns. slice_get ns c.args.t.0) (sym c.graph.ensures.value) ∙ c.node-node.ensures in
+    let a = sid_at c.args.world.now.assets.now c.args.col in
+    test-taken w p t0 s a n is c.args.steps.now _ _ c.input_at-input.ensures (subst (IsOf (kind_of n.kind)) c.in-LabelTest.is c.family_of.ensures) c.in_ok-code-in-LabelTest.ensures.cost

@@ -1,10 +1,9 @@
-use Rattle.std.proofs.Common.{◌≡◌, ◌≤◌, ℤ, ◌++◌, ◌∷◌, [], length, suc, ap, sym, ◌∙◌, arith, rules, FitsSigned, w32, to_z, of_z, take, drop}
-use Rattle.std.proofs.lemmas.Int.{to_z-of_z}
+use Rattle.std.proofs.Common.{◌≡◌, ◌≤◌, ℤ, ◌++◌, ◌∷◌, [], length, suc, ap, sym, ◌∙◌, arith, take, drop}
 use Rattle.circular_buffer.specs.Buffer.{Buffer, buffer, keep_last}
 use Rattle.pl_spec.specs.declared.Column.TheVariants.{OpenPrice, High, Low, Close, Volume}
 use Rattle.pl_rings.specs.Days.{day_window}
 use Rattle.pl_rings.specs.Rings.{known_days}
-use Rattle.pl_rings.proofs.Advances.{vec_back, column_follows, column_are, known_more, length-pushed}
+use Rattle.pl_rings.proofs.Advances.{vec_back, column_follows, column_are, handed_in, known_more, length-pushed}
 use Rattle.pl_rings.proofs.Beginning.{by_column}
 use Rattle.pl_rings.proofs.columns.BarRings.advance.Goals as goal
 
@@ -53,17 +52,30 @@ advance_column-requires-5-clause-fits g c =
     let lent : length c.make_contiguous-calendar.result.now ≡ length c.args.self.now.calendar.items = ap length c.make_contiguous-calendar.ensures.value in
     omega (arith, fits, lent, c.requires.rings.calendar)
 
+pub advance_column-requires-clause-handed_in : goal.advance_column-requires-clause-handed_in
+advance_column-requires-clause-handed_in g c = handed_in (length c.args.self.now.row.items) _ c.args.fed c.args.day.now.bars.now c.args.day.now.events.now (sym (ap length c.as_mut_slice-row.ensures.value)) c.requires.handed_in
+
+pub advance_column-requires-2-clause-handed_in : goal.advance_column-requires-2-clause-handed_in
+advance_column-requires-2-clause-handed_in g c = handed_in (length c.args.self.now.row.items) _ c.args.fed c.args.day.now.bars.now c.args.day.now.events.now (sym (c.advance_column.ensures.row ∙ ap length c.as_mut_slice-row.ensures.value)) c.requires.handed_in
+
+pub advance_column-requires-3-clause-handed_in : goal.advance_column-requires-3-clause-handed_in
+advance_column-requires-3-clause-handed_in g c = handed_in (length c.args.self.now.row.items) _ c.args.fed c.args.day.now.bars.now c.args.day.now.events.now (sym (c.advance_column-2.ensures.row ∙ (c.advance_column.ensures.row ∙ ap length c.as_mut_slice-row.ensures.value))) c.requires.handed_in
+
+pub advance_column-requires-4-clause-handed_in : goal.advance_column-requires-4-clause-handed_in
+advance_column-requires-4-clause-handed_in g c = handed_in (length c.args.self.now.row.items) _ c.args.fed c.args.day.now.bars.now c.args.day.now.events.now (sym (c.advance_column-3.ensures.row ∙ (c.advance_column-2.ensures.row ∙ (c.advance_column.ensures.row ∙ ap length c.as_mut_slice-row.ensures.value)))) c.requires.handed_in
+
+pub advance_column-requires-5-clause-handed_in : goal.advance_column-requires-5-clause-handed_in
+advance_column-requires-5-clause-handed_in g c = handed_in (length c.args.self.now.row.items) _ c.args.fed c.args.day.now.bars.now c.args.day.now.events.now (sym (c.advance_column-4.ensures.row ∙ (c.advance_column-3.ensures.row ∙ (c.advance_column-2.ensures.row ∙ (c.advance_column.ensures.row ∙ ap length c.as_mut_slice-row.ensures.value))))) c.requires.handed_in
+
 pub returns-clause-follow : goal.returns-clause-follow
 returns-clause-follow g c = λ g' next days start are same count brings hold.
-    let day : FitsSigned w32 c.args.day.now.day = search rules in
     let lent = c.make_contiguous-calendar.ensures.value in
     let depth = c.args.self.now.calendar.capacity in
     let cal = c.args.self.now.calendar.items in
     let seen = c.make_contiguous-calendar.result.now in
     let old = take (length cal) (seen ++ drop (length seen) cal) in
     let back = vec_back (length cal) seen (drop (length seen) cal) (sym (ap length c.make_contiguous-calendar.ensures.value)) ∙ c.make_contiguous-calendar.ensures.value in
-    let raw : c.put_day.new.calendar ≡ buffer (keep_last depth (old ++ to_z w32 (of_z w32 c.args.day.now.day) ∷ [])) depth = c.put_day.ensures in
-    let put = raw ∙ ap (λ x. buffer (keep_last depth (old ++ x ∷ [])) depth) (to_z-of_z w32 _ day) in
+    let put : c.put_day.new.calendar ≡ buffer (keep_last depth (old ++ c.args.day.now.day ∷ [])) depth = c.put_day.ensures in
     let room = ap (λ (b : Buffer ℤ). b.capacity) put in
     let items = ap (λ (b : Buffer ℤ). b.items) put ∙ ap (λ l. keep_last c.args.self.now.calendar.capacity (l ++ c.args.day.now.day ∷ [])) back in
     record {
@@ -84,15 +96,13 @@ returns-clause-follow g c = λ g' next days start are same count brings hold.
 
 pub returns-clause-rings : goal.returns-clause-rings
 returns-clause-rings g c =
-    let day : FitsSigned w32 c.args.day.now.day = search rules in
     let lent = c.make_contiguous-calendar.ensures.value in
     let depth = c.args.self.now.calendar.capacity in
     let cal = c.args.self.now.calendar.items in
     let seen = c.make_contiguous-calendar.result.now in
     let old = take (length cal) (seen ++ drop (length seen) cal) in
     let back = vec_back (length cal) seen (drop (length seen) cal) (sym (ap length c.make_contiguous-calendar.ensures.value)) ∙ c.make_contiguous-calendar.ensures.value in
-    let raw : c.put_day.new.calendar ≡ buffer (keep_last depth (old ++ to_z w32 (of_z w32 c.args.day.now.day) ∷ [])) depth = c.put_day.ensures in
-    let put = raw ∙ ap (λ x. buffer (keep_last depth (old ++ x ∷ [])) depth) (to_z-of_z w32 _ day) in
+    let put : c.put_day.new.calendar ≡ buffer (keep_last depth (old ++ c.args.day.now.day ∷ [])) depth = c.put_day.ensures in
     let room = ap (λ (b : Buffer ℤ). b.capacity) put in
     let items = ap (λ (b : Buffer ℤ). b.items) put ∙ ap (λ l. keep_last c.args.self.now.calendar.capacity (l ++ c.args.day.now.day ∷ [])) back in
     let rows0 : length c.as_mut_slice-row.result.now ≡ length c.args.self.now.row.items = ap length c.as_mut_slice-row.ensures.value in
@@ -121,14 +131,12 @@ returns-clause-rings g c =
 
 pub returns-clause-room : goal.returns-clause-room
 returns-clause-room g c =
-    let day : FitsSigned w32 c.args.day.now.day = search rules in
     let depth = c.args.self.now.calendar.capacity in
     let cal = c.args.self.now.calendar.items in
     let seen = c.make_contiguous-calendar.result.now in
     let old = take (length cal) (seen ++ drop (length seen) cal) in
     let back = vec_back (length cal) seen (drop (length seen) cal) (sym (ap length c.make_contiguous-calendar.ensures.value)) ∙ c.make_contiguous-calendar.ensures.value in
-    let raw : c.put_day.new.calendar ≡ buffer (keep_last depth (old ++ to_z w32 (of_z w32 c.args.day.now.day) ∷ [])) depth = c.put_day.ensures in
-    let put = raw ∙ ap (λ x. buffer (keep_last depth (old ++ x ∷ [])) depth) (to_z-of_z w32 _ day) in
+    let put : c.put_day.new.calendar ≡ buffer (keep_last depth (old ++ c.args.day.now.day ∷ [])) depth = c.put_day.ensures in
     record {
       calendar = ap (λ (b : Buffer ℤ). b.capacity) put;
       rings = by_column _ c.advance_column.ensures.capacity c.advance_column-2.ensures.capacity c.advance_column-3.ensures.capacity c.advance_column-4.ensures.capacity c.advance_column-5.ensures.capacity;
