@@ -1,5 +1,5 @@
 -- What a day's bars leave as it is, and the steps of a day by the windows over bars.
-use Rattle.std.proofs.Common.{◌≡◌, ℕ, ◌≤◌, List, length, subst, refl, arith}
+use Rattle.std.proofs.Common.{◌≡◌, ℕ, List, length, subst, refl, arith}
 use Rattle.pl_spec.specs.declared.Column.{Column}
 use Rattle.pl_spec.specs.declared.Column.TheVariants.{OpenPrice, High, Low, Close, Volume}
 use Rattle.pl_spec.specs.Table.{Pipeline}

@@ -41,12 +41,7 @@ struct Drawn {
 }
 
 // Draws it in its order, from the state that is the number.
-fn draw(
-    alloc: Global,
-    number: u32,
-    sessions: &Sessions,
-    assets: &Assets,
-) -> Result<Drawn, Memory>
+fn draw(alloc: Global, number: u32, sessions: &Sessions, assets: &Assets) -> Result<Drawn, Memory>
     requires sessions { sessions.now ≡ stated_days }
     requires assets { assets.now ≡ stated_assets }
     ensures labels { IfOk result (λ d. d.labels ≡ stated_labels number) }

@@ -1,5 +1,5 @@
 -- What the kinds take, and what an evaluation of three inputs takes.
-use Rattle.std.proofs.Common.{◌≡◌, ℕ, ◌+◌, ◌<◌, true, ℤ, pos, List, map, length, get_or, Option, Some, slice_get, Result, Ok, Err, OnOk, refl, sym, ap, ◌∙◌, arith, add-zero}
+use Rattle.std.proofs.Common.{◌≡◌, ℕ, ◌+◌, ◌<◌, true, ℤ, List, map, length, get_or, Option, Some, slice_get, Result, Ok, Err, OnOk, refl, sym, ap, ◌∙◌, arith, add-zero}
 use Rattle.std.proofs.lemmas.List.{get_or-map, length-map}
 use Rattle.pl_spec.specs.Kind as kinds
 use Rattle.pl_spec.specs.declared.AssetRow.{AssetRow}

@@ -1,9 +1,9 @@
 -- The cells of a bar, adjustment by adjustment.
-use Rattle.std.proofs.Common.{◌≡◌, ℕ, ◌+◌, ◌<◌, ◌≤◌, ℤ, List, [], ◌∷◌, ◌++◌, length, get_or, drop, Option, Some, None, refl, sym, ◌∙◌, ap, append_assoc}
+use Rattle.std.proofs.Common.{◌≡◌, ℕ, ◌+◌, ◌<◌, ◌≤◌, ℤ, List, [], ◌∷◌, ◌++◌, length, get_or, drop, Option, Some, None, refl, sym, ◌∙◌, ap, append_assoc, subst}
 use Rattle.std.specs.Prelude.{option_to_list}
 use Rattle.std.proofs.lemmas.List.{at_drop_more, at_drop_all}
 use Rattle.pl_spec.specs.declared.Column.{Column}
-use Rattle.pl_spec.specs.Window.{Effect, effect}
+use Rattle.pl_spec.specs.Window.{Effect, changed, effect}
 use Rattle.pl_adjust.specs.declared.adjust.Adjust.{Adjust}
 use Rattle.pl_adjust.specs.Events.{effects_of, event_of}
 use Rattle.pl_facts.specs.Right.{after_each}
@@ -55,3 +55,11 @@ left-from c bar xs i a o within item e =
 -- behind the last adjustment nothing is left
 pub left-end : (c : Column) (bar : ℤ) (xs : List Adjust) (i : ℕ) → length xs ≤ i → effects_of c bar (drop i xs) ≡ []
 left-end c bar xs i h = at_drop_all (effects_of c bar) xs i h
+
+-- ---- one adjustment
+
+pub grows-none : (x : ℤ) (o : Option Effect) (cells : List ℤ) → o ≡ None → GrowsBy x o cells cells x
+grows-none x o cells e = subst (λ p. GrowsBy x p cells cells x) (sym e) (refl, refl)
+
+pub grows-some : (x : ℤ) (o : Option Effect) (f : Effect) (cells new : List ℤ) (y : ℤ) → o ≡ Some f → y ≡ changed x f → new ≡ cells ++ y ∷ [] → GrowsBy x o cells new y
+grows-some x o f cells new y e is pushed = subst (λ p. GrowsBy x p cells new y) (sym e) (is, pushed)

@@ -3,3 +3,4 @@ pub mod Facts
 pub mod Entries
 pub mod Values
 pub mod Growing
+pub mod Kept

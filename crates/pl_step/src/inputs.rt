@@ -14,9 +14,9 @@ ghost use Rattle.pl_world.specs.Evaluations.{cell_in, input_cell_in, window_in};
 ghost use Rattle.pl_step.specs.Given.{given, mask_passes, IsEarly, TellsTruth};
 
 use pl_fixed::{Column, MISSING, Memory};
-use pl_world::World;
 use pl_terms::{Checked, Input, TermId};
 use pl_told::{Fact, Told};
+use pl_world::World;
 use std::alloc::Global;
 
 /// What is told of a term for an asset on a session.

@@ -14,10 +14,10 @@ ghost use Rattle.pl_step.specs.Given.{facts_read, given, has_all, living_facts, 
 
 use crate::inputs::term_told;
 use pl_fixed::Memory;
-use pl_world::{World, exists, section_input, section_row};
 use pl_terms::{Checked, TermId};
 use pl_told::{Rows, Told};
 use pl_values::empty_value;
+use pl_world::{World, exists, section_input, section_row};
 use std::alloc::Global;
 
 /// The cell of a cross-section, by what is told of all assets. The row of a term and a session is computed

@@ -16,12 +16,12 @@ ghost use Rattle.pl_step.specs.Given.{facts_read, given, KeepsRows, TellsTruth};
 use crate::inputs::{input_told, mask_told, window_told};
 use crate::sections::section_told;
 use pl_fixed::{Frequency, Memory};
-use pl_world::{World, exists, input_at, label_cell};
 use pl_terms::{Checked, TermId};
 use pl_told::{Rows, Told};
 use pl_values::{
     Family, empty_value, family_of, label_test_value, point_value, sids_value, window_value,
 };
+use pl_world::{World, exists, input_at, label_cell};
 use std::alloc::Global;
 
 /// The value of a term for the asset in a column on a session by what is told of its premises, as arrays hold
