@@ -1,4 +1,4 @@
-ghost use Rattle.std.specs.Prelude.{◌≡◌, ◌+◌, ◌<◌, ◌≤◌, [], length, OnOk};
+ghost use Rattle.std.specs.Prelude.{◌≡◌, ◌+◌, ◌<◌, ◌≤◌, length, OnOk};
 ghost use Rattle.pl_records.specs.Reading.{Answers, at_line, rows_of};
 ghost use Rattle.pl_records.specs.Records.{csv_records};
 ghost use Rattle.pl_calendar.specs.Days.{day_in, is_later, says_day, sessions_of};
@@ -27,20 +27,11 @@ fn read_days(alloc: Global, bytes: &[u8]) -> Result<Vec<i32>, CalendarError>
 {
     let mut records = Records::new(alloc, bytes);
     let mut days = Vec::new(alloc);
-    put_days(&mut days, &mut records)?;
-    Ok(days)
-}
-
-// Puts the days of the records that are left where there is none yet.
-fn put_days(days: &mut Vec<i32>, records: &mut Records) -> Result<(), CalendarError>
-    requires { days.old.items ≡ [] }
-    ensures { Answers (λ u. days.new.items) fault_of result (rows_of 1 says_day records.old.left) }
-{
     'rows: while records.next()? {
-        let day = next_day(days, records)?;
+        let day = next_day(&days, &records)?;
         days.push(day)?;
     }
-    Ok(())
+    Ok(days)
 }
 
 // The day of the record that was read last, behind the days before it.

@@ -1,10 +1,10 @@
 -- Fields that are put one behind the other are the text of a line.
-use Rattle.std.proofs.Common.{◌≡◌, ℕ, zero, suc, ℤ, List, [], ◌∷◌, ◌++◌, map, Some, None, codes, refl, sym, ◌∙◌, ap, append_assoc, append-nil, slice_get, take, length, ◌<◌, ◌+◌, subst, arith, fold, get_or}
+use Rattle.std.proofs.Common.{◌≡◌, ℕ, zero, suc, ℤ, pos, List, [], ◌∷◌, ◌++◌, map, Some, None, codes, refl, sym, ◌∙◌, ap, append_assoc, append-nil, slice_get, take, length, ◌<◌, ◌+◌, subst, arith, fold, get_or}
 use Rattle.std.proofs.lemmas.Grind.{flat_map-append}
 use Rattle.std.specs.List.{flat_map, join_by}
 use Rattle.std.proofs.lemmas.List.Folds.{flat_map-map}
 use Rattle.std.proofs.lemmas.Option.{slice_get-map, slice_get_read}
-use Rattle.std.proofs.lemmas.List.{length-map}
+use Rattle.std.proofs.lemmas.List.{length-map, flat_map_more, take_more}
 use Rattle.pl_lines.specs.declared.line.Line as code
 use Rattle.pl_lines.specs.Listed.{line_of}
 use Rattle.pl_lines.specs.Lines.{Line}
@@ -56,15 +56,22 @@ unfolding text_of
 text_more [] l = append-nil (body_of l ++ 10 ∷ [])
 text_more (m ∷ ls) l = ap (λ t. (body_of m ++ 10 ∷ []) ++ t) (text_more ls l) ∙ sym (append_assoc (body_of m ++ 10 ∷ []) (text_of ls) (body_of l ++ 10 ∷ []))
 
-take_more : (ls : List Line) (i : ℕ) (l : Line) → slice_get ls i ≡ Some l → take (i + 1) ls ≡ take i ls ++ l ∷ []
-take_more [] i l e = absurd (let bad : None ≡ Some l = e in cc)
-take_more (m ∷ ls) zero l e = let same : m ≡ l = cc in rw same refl
-take_more (m ∷ ls) (suc i) l e = let next : suc i + 1 ≡ suc (i + 1) = omega arith in rw next (ap (λ r. m ∷ r) (take_more ls i l e))
+lines_more : (ls : List Line) (i : ℕ) (l : Line) → slice_get ls i ≡ Some l → take (i + 1) ls ≡ take i ls ++ l ∷ []
+lines_more [] i l e = absurd (let bad : None ≡ Some l = e in cc)
+lines_more (m ∷ ls) zero l e = let same : m ≡ l = cc in rw same refl
+lines_more (m ∷ ls) (suc i) l e = let next : suc i + 1 ≡ suc (i + 1) = omega arith in rw next (ap (λ r. m ∷ r) (lines_more ls i l e))
 
 pub text_next : (ls : List Line) (i : ℕ) (l : Line) → slice_get ls i ≡ Some l → text_of (take (i + 1) ls) ≡ text_of (take i ls) ++ (body_of l ++ 10 ∷ [])
-text_next ls i l e = rw (take_more ls i l e) (text_more (take i ls) l)
+text_next ls i l e = rw (lines_more ls i l e) (text_more (take i ls) l)
 
 pub line_at : (items : List code.Line) (i : ℕ) (x : code.Line) → x ≡ get_or items i x → i < length (map line_of items) → slice_get (map line_of items) i ≡ Some (line_of x)
 line_at items i x e h =
     let within : i < length items = rw (length-map items line_of) at h in
     rw (slice_get-map line_of items i, slice_get_read items (length items) i x refl within e) refl
+
+-- the field of one more number
+pub numbers_next : (bytes : List ℕ) (xs : List ℤ) (i : ℕ) → i < length xs
+    → (bytes ++ flat_map (λ x. (32 ∷ []) ++ number_text x) (take i xs)) ++ ((32 ∷ []) ++ number_text (get_or xs i (pos 0))) ≡ bytes ++ flat_map (λ x. (32 ∷ []) ++ number_text x) (take (i + 1) xs)
+numbers_next bytes xs i h =
+    flat_map_more (λ x. (32 ∷ []) ++ number_text x) bytes (take i xs) (get_or xs i (pos 0))
+    ∙ ap (λ ys. bytes ++ flat_map (λ x. (32 ∷ []) ++ number_text x) ys) (sym (take_more xs i (pos 0) h))

@@ -1,8 +1,8 @@
 //! The lines of derivations, and their text: it is printed, and it is read. And why there is no derivation.
 #![tactic(auto)]
 
-pub mod laws;
 mod error;
+pub mod laws;
 mod line;
 mod number;
 mod print;

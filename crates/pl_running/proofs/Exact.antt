@@ -1,9 +1,10 @@
 -- Values from kept sums: what is computed in 128 bits is exact.
-use Rattle.std.proofs.Common.{◌≡◌, ◌≢◌, ◌≤◌, ◌*◌, ◌^◌, ℤ, pos, negsuc, ◌+ℤ◌, ◌-ℤ◌, ◌*ℤ◌, unsigned_abs, FitsSigned, to_z, of_z, ap, ap₂, arith, sym, ◌∙◌}
+use Rattle.std.proofs.Common.{◌≡◌, ◌≢◌, ◌≤◌, ◌*◌, ◌^◌, ℤ, pos, negsuc, ◌+ℤ◌, ◌-ℤ◌, ◌*ℤ◌, unsigned_abs, FitsSigned, w64, to_z, of_z, ap, ap₂, arith, sym, ◌∙◌}
 use Rattle.std.specs.Int.{w128}
 use Rattle.std.proofs.lemmas.Int.{ints, to_z-of_z, unsigned_abs-mul, fits_signed_from_abs}
 use Rattle.std.proofs.lemmas.Nat.{mul-le}
-use Rattle.pl_spec.specs.Rounding.{LIMIT}
+use Rattle.pl_spec.specs.Rounding.{LIMIT, IsCell}
+use Rattle.pl_lanes.proofs.Bits.{cell-fits}
 
 pub fits : (x : ℤ) → unsigned_abs x ≤ 10 ^ 38 → FitsSigned w128 x
 fits x h = fits_signed_from_abs w128 x (omega (arith, h))
@@ -58,3 +59,10 @@ pub apart-is : (m k s r : ℤ) → unsigned_abs m ≤ LIMIT → unsigned_abs k �
     → to_z w128 (of_z w128 (to_z w128 (of_z w128 r) -ℤ to_z w128 (of_z w128 s))) ≡ (m *ℤ k) -ℤ s
 apart-is m k s r h l t e fs =
     same _ _ (ap₂ (λ a b. a -ℤ b) e (to_z-of_z w128 s fs)) (omega (arith, apart-within m k s h l t))
+
+-- a cell, in 64 bits and back
+pub same-cell : (x : ℤ) → IsCell x → to_z w64 (of_z w64 x) ≡ x
+same-cell x h = to_z-of_z w64 x (cell-fits x h)
+
+pub stays-cell : (x : ℤ) → IsCell x → IsCell (to_z w64 (of_z w64 x))
+stays-cell x h = rw (same-cell x h) h

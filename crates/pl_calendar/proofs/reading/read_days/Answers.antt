@@ -3,13 +3,11 @@ use Rattle.std.proofs.Common.{rules, FitsSigned, w32, ◌≡◌, ◌<◌, length
 use Rattle.std.proofs.lemmas.Result.{err_from_is_err_and}
 use Rattle.pl_records.specs.Reading.{rows_of}
 use Rattle.pl_records.proofs.Readings.{goes_on, stops, is_done}
+use Rattle.pl_records.specs.Records.{csv_records}
 use Rattle.pl_calendar.specs.Days.{says_day}
 use Rattle.pl_calendar.specs.declared.TheConstants.{MOST_SESSIONS}
 use Rattle.pl_calendar.specs.Faults.{fault_of}
-use Rattle.pl_calendar.proofs.reading.put_days.Goals as goal
-
-pub rows-init : goal.rows-init
-rows-init c = record { rest = rw c.requires search rules; few = rw c.requires (omega arith) }
+use Rattle.pl_calendar.proofs.reading.read_days.Goals as goal
 
 pub returns-in_err-day : goal.returns-in_err-day
 returns-in_err-day c =
@@ -31,4 +29,4 @@ rows-preserved c =
 pub returns : goal.returns
 returns c =
     let none = rw c.if-branch.false at c.in_ok-next.ensures in
-    is_done 1 says_day c.rows.days.items c.rows.records.left (rows_of 1 says_day c.args.records.now.left) none.ok.0 c.rows.invariant.rest
+    is_done 1 says_day c.rows.days.items c.rows.records.left (rows_of 1 says_day (csv_records c.args.bytes.now)) none.ok.0 c.rows.invariant.rest
