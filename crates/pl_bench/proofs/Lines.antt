@@ -1,5 +1,5 @@
 -- The numbers of the run, and the line that tells them.
-use Rattle.std.proofs.Common.{◌≡◌, ℕ, pos, length, subst, ap, ◌∙◌, refl}
+use Rattle.std.proofs.Common.{◌≡◌, ◌+◌, ℕ, pos, length, subst, ap, ◌∙◌, refl}
 use Rattle.std.specs.Int.RustNames.{unsigned_abs}
 use Rattle.pl_spec.specs.World.{World}
 use Rattle.pl_spec.specs.Graph.{bound}
@@ -7,12 +7,15 @@ use Rattle.pl_spec.specs.Table.{Pipeline, table, cells}
 use Rattle.pl_terms.specs.Uses.{outputs}
 use Rattle.pl_planner.specs.Plans.{Planned}
 use Rattle.pl_runner.specs.declared.run.RunReport.{RunReport}
-use Rattle.pl_runner.specs.Runs.{IsReport}
+use Rattle.pl_runner.specs.Runs.{IsReport, run_steps}
 use Rattle.pl_judge.specs.declared.numbers.Numbers.{Numbers}
 use Rattle.pl_generate.specs.StatedWorld.{stated_world}
 use Rattle.pl_bench.specs.Pipeline.{bench_pipeline}
 use Rattle.pl_bench.specs.Plan.{IsBenchPlan}
-use Rattle.pl_bench.specs.Numbers.{AreNumbers, bench_rows, line_of, bench_line}
+use Rattle.pl_bench.specs.Numbers.{AreNumbers, TakesSteps, bench_rows, line_of, bench_line}
+use Rattle.pl_world.specs.declared.owned.OwnedWorld.{OwnedWorld}
+use Rattle.pl_world.specs.declared.world.World as lent
+use Rattle.pl_world.specs.Worlds.{owned_world, world_of}
 
 -- what a report tells of the table of a plan's range
 abbrev Tells : World → Pipeline → ℕ → ℕ → RunReport → Type 0
@@ -36,6 +39,20 @@ pub numbers-of : (number : ℕ) (w : World) (p : Pipeline) (plan : Planned) (chu
 numbers-of number w p plan chunk r most is means planned report held =
     numbers-told number plan r most planned
     (told-of w (stated_world number) p bench_pipeline 252 599 r is means (report-of w p plan chunk 252 599 r planned.from planned.to report)) held
+
+-- a world that is lent
+pub lent-world : (v : lent.World) (o : OwnedWorld) → v.sessions.now ≡ o.sessions → v.assets.now ≡ o.assets → v.labels.now ≡ o.labels → v.bars.now ≡ o.bars → v.adjustments.now ≡ o.adjustments
+    → world_of v ≡ owned_world o
+lent-world v o s a l b x = rw (s, a, l, b, x) refl
+
+-- the steps of a run over the stated world
+pub steps-of : (number : ℕ) (w : World) (p : Pipeline) (plan : Planned) (chunk before now : ℕ) → w ≡ stated_world number → p ≡ bench_pipeline → IsBenchPlan plan
+    → now ≡ before + run_steps w p plan chunk → TakesSteps number chunk (λ n. now ≡ before + n)
+steps-of number w p plan chunk before now is means planned cost = (
+  plan,
+  planned,
+  subst (λ q. now ≡ before + run_steps (stated_world number) q plan chunk) means (subst (λ x. now ≡ before + run_steps x p plan chunk) is cost),
+)
 
 pub line-is : (number : ℕ) (n : Numbers) → AreNumbers number n → line_of n ≡ bench_line number
 unfolding bench_line

@@ -1,6 +1,10 @@
 //! The run, and the line that tells its numbers.
-ghost use Rattle.std.specs.Prelude.{◌≡◌, ◌≤◌, ◌+◌, ◌⊎◌, IfOk, OnOk, OnErr, IsErrOf};
+ghost use Rattle.std.specs.Prelude.{◌≡◌, ◌≤◌, ◌+◌, ◌⊎◌, ℕ, IfOk, OnOk, OnErr, IsErrOf};
 ghost use Rattle.pl_outside.specs.Taken.{Writes};
+ghost use Rattle.pl_terms.specs.Checked.{pipeline_of};
+ghost use Rattle.pl_world.specs.Worlds.{owned_world, IsOwned};
+ghost use Rattle.pl_generate.specs.StatedWorld.{stated_days, stated_world};
+ghost use Rattle.pl_bench.specs.Pipeline.{bench_pipeline};
 ghost use Rattle.pl_bench.specs.Numbers.{AreNumbers, TakesSteps, bench_line};
 
 use crate::pipeline::{make_pipeline, make_plan};
@@ -10,6 +14,8 @@ use pl_judge::{Numbers, write_numbers};
 use pl_outside::{NullSink, Sink};
 use pl_runner::{RunError, run_table};
 use pl_spec::Format;
+use pl_terms::Checked;
+use pl_world::OwnedWorld;
 use std::alloc::Global;
 use std::sync::ledger::Ledger;
 
@@ -52,13 +58,35 @@ fn run<L: Ledger>(
 {
     let checked = make_pipeline(alloc)?;
     let stated = make_world(alloc, number)?;
+    run_over(alloc, &checked, &stated, chunk, steps)
+}
+
+// Runs it over a world that is a stated one.
+fn run_over<L: Ledger>(
+    alloc: Global,
+    checked: &Checked,
+    stated: &OwnedWorld,
+    chunk: usize,
+    steps: &mut Steps<L>,
+) -> Result<Numbers, Memory>
+    requires some { 1 ≤ chunk }
+    requires most { chunk ≤ 4096 }
+    requires checked { pipeline_of checked.now ≡ bench_pipeline }
+    requires sessions { stated.now.sessions ≡ stated_days }
+    requires made { IsOwned stated.now }
+    ensures numbers { (number : ℕ) → owned_world stated.now ≡ stated_world number
+        → IfOk result (AreNumbers number) }
+    ensures cost { (number : ℕ) → owned_world stated.now ≡ stated_world number
+        → OnOk result (TakesSteps number chunk (λ n. steps.new ≡ steps.old + n)) }
+    ensures memory { OnErr result (steps.new ≡ steps.old) }
+{
     let world = stated.world();
-    let plan = make_plan(alloc, &checked, world.sessions)?;
+    let plan = make_plan(alloc, checked, world.sessions)?;
     let mut sink = NullSink;
     match run_table(
         alloc,
         &world,
-        &checked,
+        checked,
         &plan,
         chunk,
         Format::Csv,
