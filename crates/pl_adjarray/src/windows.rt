@@ -99,10 +99,10 @@ impl<'s> Windows<'s> {
         &self.scratch[end - self.window..end]
     }
 
-    /// The bars of an asset on the sessions before this one and on one session more, as they are seen on this one:
-    /// all but the last are its window on the session before, and all but the first are its window on this one.
-    /// `None` where the traversal stood on no whole window before, or where an adjustment of the asset became
-    /// effective since.
+    /// The bars of an asset on the sessions before this one and on one session more, as they are seen on this
+    /// one: all but the last are its window on the session before, and all but the first are its window on
+    /// this one. `None` where the traversal stood on no whole window before, or where an adjustment of the
+    /// asset became effective since.
     pub fn span(&self, i: usize) -> Option<&[i64]>
         requires asset { i < length self.now.array.cols }
         ensures before { IfSome result (λ s. (d : ℕ) → d + 1 ≡ self.now.session

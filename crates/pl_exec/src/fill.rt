@@ -33,6 +33,15 @@ fn put(cells: &mut [i64], place: usize, cell: i64)
     cells[place] = cell;
 }
 
+// Where the cells of an asset begin in an array of so many sessions.
+fn start_in(cells: &[i64], i: usize, count: usize) -> usize
+    requires { i * count + count ≤ length cells.now }
+    ensures value { result ≡ i * count }
+    ensures within { result + count ≤ length cells.now }
+{
+    i * count
+}
+
 // A session's cells into an array.
 fn put_row(row: &[i64], cells: &mut [i64], count: usize, session: usize)
     requires cells { (i : ℕ) → i < length row.now → IsCell (get_or row.now i (pos 0)) }
@@ -312,7 +321,8 @@ pub(crate) fn fill_bars<'x, L: Ledger>(
     let job = course.job;
     let mut applied = 0u64;
     for i in 0..job.cols.len() {
-        let lane = &mut own[i * count..(i + 1) * count];
+        let start = start_in(own, i, count);
+        let lane = &mut own[start..start + count];
         let more = fill_asset(course, &sources, i, lane, first, second, third, steps);
         applied = applied.saturating_add(more);
     }
@@ -348,7 +358,8 @@ fn fill_windows<'x>(course: &Course<'x>, own: &mut [i64])
     let count = course.count;
     let job = course.job;
     for i in 0..job.cols.len() {
-        let lane = &mut own[i * count..(i + 1) * count];
+        let start = start_in(own, i, count);
+        let lane = &mut own[start..start + count];
         window_lane(course, &sources, i, lane);
     }
 }
@@ -364,7 +375,8 @@ fn fill_points<'x>(course: &Course<'x>, own: &mut [i64])
     let count = course.count;
     let job = course.job;
     for i in 0..job.cols.len() {
-        let lane = &mut own[i * count..(i + 1) * count];
+        let start = start_in(own, i, count);
+        let lane = &mut own[start..start + count];
         point_lane(course, &sources, i, lane);
     }
 }

@@ -1,5 +1,5 @@
 //! What a chunk is computed from.
-ghost use Rattle.std.specs.Prelude.{◌≡◌, ◌+◌, ◌-◌, ◌<◌, ◌≤◌, true, drop, length, map, option_map, slice_get, take, Some};
+ghost use Rattle.std.specs.Prelude.{◌≡◌, ◌+◌, ◌-◌, ◌*◌, ◌<◌, ◌≤◌, true, drop, get_or, length, map, option_map, pos, slice_get, take, Some};
 ghost use Rattle.pl_terms.specs.Kinds.{kind_of};
 ghost use Rattle.pl_terms.specs.Nodes.{input_of, node_of, number_of};
 ghost use Rattle.pl_planner.specs.Plans.{is_used, slot_of};
@@ -122,8 +122,34 @@ pub(crate) fn array_of<'a>(job: &Job<'_>, workspace: &'a Workspace, term: TermId
     }
 }
 
-/// The last cells before an end.
-pub(crate) fn cells_before(cells: &[i64], end: usize, size: usize) -> &[i64]
+/// The cell of an asset in an array, so many sessions after the first one.
+pub(crate) fn cell_at(array: &Array<'_>, i: usize, after: usize) -> i64
+    requires { i * array.now.count + after < length array.now.cells.now }
+    ensures { result ≡ get_or array.now.cells.now (i * array.now.count + after) (pos 0) }
+{
+    array.cells[i * array.count + after]
+}
+
+/// The cells of an asset in an array, of `count` sessions.
+pub(crate) fn cells_from<'t>(array: &Array<'t>, i: usize, after: usize, count: usize) -> &'t [i64]
+    requires { i * array.now.count + after + count ≤ length array.now.cells.now }
+    ensures { result.now ≡ take count (drop (i * array.now.count + after) array.now.cells.now) }
+{
+    let start = i * array.count + after;
+    &array.cells[start..start + count]
+}
+
+/// The last cells of an asset in an array, up to the one so many sessions after the first.
+pub(crate) fn cells_up_to<'t>(array: &Array<'t>, i: usize, after: usize, size: usize) -> &'t [i64]
+    requires end { i * array.now.count + after + 1 ≤ length array.now.cells.now }
+    requires size { size ≤ i * array.now.count + after + 1 }
+    ensures { result.now ≡ take size (drop (i * array.now.count + after + 1 - size) array.now.cells.now) }
+{
+    cells_before(array.cells, i * array.count + after + 1, size)
+}
+
+// The last cells before an end.
+fn cells_before(cells: &[i64], end: usize, size: usize) -> &[i64]
     requires end { end ≤ length cells.now }
     requires size { size ≤ end }
     ensures { result.now ≡ take size (drop (end - size) cells.now) }

@@ -6,7 +6,7 @@ ghost use Rattle.pl_exec.specs.Tasks.{assets_in, sids_in};
 ghost use Rattle.pl_exec.specs.Jobs.{AreLent, IsCourse, IsLane, IsLent, IsOperand, IsOperandOf, IsReadFrom, node_in, task_in};
 
 use crate::course::{Course, turn_on};
-use crate::job::{Array, kind_of};
+use crate::job::{Array, cells_from, kind_of};
 use crate::turn::{choose, is_kept};
 use crate::windows::{Source, Sources};
 use pl_pointwise::pointwise;
@@ -18,8 +18,8 @@ fn lane_of<'t>(course: &Course<'_>, array: &Array<'t>, i: usize) -> &'t [i64]
     requires read { (u : ℕ) × IsReadFrom course.now u array.now }
     ensures { (u : ℕ) → IsReadFrom course.now u array.now → IsOperand course.now u i result.now }
 {
-    let start = i * array.count + (course.low - array.low);
-    &array.cells[start..start + course.count]
+    let after = course.low - array.low;
+    cells_from(array, i, after, course.count)
 }
 
 // The cells of an input that is a term; any other is of no matter.

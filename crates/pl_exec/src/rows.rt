@@ -7,13 +7,26 @@ use std::marker::Model;
 
 /// Room for the rows of a session of up to so many assets: the first, second and third input of a term or the
 /// values of a cross-section and their groups, who is kept, and the results.
-#[derive(Debug, Drop)]
+#[derive(Debug)]
 pub struct Rows {
     pub(crate) first: Vec<i64>,
     pub(crate) second: Vec<i64>,
     pub(crate) third: Vec<i64>,
     pub(crate) keep: Vec<i64>,
     pub(crate) results: Vec<i64>,
+}
+
+// One call lets them go.
+impl Drop for Rows {
+    fn drop(self) {
+        let Rows {
+            first: _first,
+            second: _second,
+            third: _third,
+            keep: _keep,
+            results: _results,
+        } = self;
+    }
 }
 
 impl Model for Rows {

@@ -1,4 +1,5 @@
-//! Windows that move on by one cell from a session to the next: what is kept of them follows from what was kept.
+//! Windows that move on by one cell from a session to the next: what is kept of them follows from what was
+//! kept.
 ghost use Rattle.std.specs.Prelude.{◌≡◌, ◌+◌, ◌<◌, ◌≤◌, ℕ, true, All, IfSome, IsTrue, Some, length, slice_get};
 ghost use Rattle.pl_spec.specs.Rounding.{IsCell};
 ghost use Rattle.pl_spec.specs.Term.Input.{TermInput};
@@ -10,7 +11,7 @@ ghost use Rattle.pl_exec.specs.Tasks.{assets_in, cell_in, sids_in};
 ghost use Rattle.pl_exec.specs.Jobs.{AreLent, HasBars, IsColumnAt, IsColumnSpan, IsKeptBefore, IsKeptNow, IsLentAt, IsLentSpan, IsSpan, IsTermLent, IsTurn, bars_now, node_at, one_col, task_at, window_on};
 
 use crate::course::Course;
-use crate::job::{Array, cells_before, kind_of, window_of};
+use crate::job::{Array, cells_up_to, kind_of, window_of};
 use crate::turn::Turn;
 use crate::windows::{Bars, Source, Sources, window_in, windows_in};
 use pl_running::{Running, keeps};
@@ -48,7 +49,7 @@ fn term_span<'t>(turn: &Turn<'_>, array: &Array<'t>, i: usize) -> Option<&'t [i6
     if older < size {
         return None;
     }
-    Some(cells_before(array.cells, i * array.count + older + 1, size + 1))
+    Some(cells_up_to(array, i, older, size + 1))
 }
 
 // The bars of a column before the session, one more than its window has, if none of them has changed.
@@ -72,8 +73,8 @@ fn column_span<'b>(
     }
 }
 
-// The windows of an input for an asset on the session before and on the session, as one list, if they are one;
-// an empty one where there is no input.
+// The windows of an input for an asset on the session before and on the session, as one list, if they are
+// one; an empty one where there is no input.
 fn span_in<'t>(
     turn: &Turn<'_>,
     source: &Source<'t>,
@@ -108,7 +109,8 @@ fn are_long(kind: &TermKind, a: &[i64], b: &[i64], c: &[i64]) -> bool
     }
 }
 
-// Brings what is kept of the windows on the session before to the session, where they have moved on by a cell.
+// Brings what is kept of the windows on the session before to the session, where they have moved on by a
+// cell.
 fn slide(
     turn: &Turn<'_>,
     sources: &Sources<'_>,
@@ -182,7 +184,8 @@ fn running_on(
     }
 }
 
-/// The term's cell for an asset that is kept, by what is kept of its windows, which is then kept of the session.
+/// The term's cell for an asset that is kept, by what is kept of its windows, which is then kept of the
+/// session.
 pub(crate) fn slid_cell(
     turn: &Turn<'_>,
     sources: &Sources<'_>,

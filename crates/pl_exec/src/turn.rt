@@ -10,7 +10,7 @@ ghost use Rattle.pl_values.specs.Inputs.{IsInputRow};
 ghost use Rattle.pl_exec.specs.Tasks.{assets_in, cell_in, sids_in};
 ghost use Rattle.pl_exec.specs.Jobs.{IsKept, IsMaskLent, IsRead, IsTermLent, IsTurn, node_at, passes, task_at};
 
-use crate::job::{Array, Job, array_of, cells_before, input_at, mask_of, window_of};
+use crate::job::{Array, Job, array_of, cell_at, cells_up_to, input_at, mask_of, window_of};
 use pl_terms::{Input, Node, TermId};
 use pl_workspace::Workspace;
 
@@ -133,7 +133,7 @@ pub(crate) fn cells_on(turn: &Turn<'_>, term: TermId, session: usize, row: &mut 
     let array = array_of(turn.job, turn.workspace, term);
     let at = session - array.low;
     for i in 0..row.len() {
-        row[i] = array.cells[i * array.count + at];
+        row[i] = cell_at(&array, i, at);
     }
 }
 
@@ -186,6 +186,6 @@ pub(crate) fn term_window<'t>(turn: &Turn<'_>, array: &Array<'t>, i: usize) -> &
         turn.now.session }
     ensures cells { All IsCell result.now }
 {
-    let end = i * array.count + (turn.session - array.low) + 1;
-    cells_before(array.cells, end, window_of(turn.node))
+    let last = turn.session - array.low;
+    cells_up_to(array, i, last, window_of(turn.node))
 }

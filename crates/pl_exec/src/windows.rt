@@ -73,8 +73,8 @@ pub(crate) fn windows_in<'b, 's>(bars: &'b Bars<'s>, place: usize) -> &'b Window
     }
 }
 
-/// Where the windows of an input lie: nowhere where there is no such input, in the traversal of a place, which
-/// is that of its bar column, or in the array of its term.
+/// Where the windows of an input lie: nowhere where there is no such input, in the traversal of a place,
+/// which is that of its bar column, or in the array of its term.
 #[derive(Clone, Copy)]
 pub(crate) enum Source<'t> {
     InNone,
@@ -186,8 +186,8 @@ fn window_cell(turn: &Turn<'_>, sources: &Sources<'_>, bars: Option<&Bars<'_>>, 
 }
 
 /// The cell of a formula or a filter over windows, for an asset on a session of the course, on which the
-/// traversals stand. Where the windows are slid, what is kept of those on the session before is brought to the
-/// session.
+/// traversals stand. Where the windows are slid, what is kept of those on the session before is brought to
+/// the session.
 pub(crate) fn cell_on<'t>(
     course: &Course<'t>,
     sources: &Sources<'t>,

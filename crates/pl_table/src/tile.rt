@@ -15,7 +15,8 @@ use crate::outcome::{Outcome, cells_from};
 /// The greatest number of sessions in a tile.
 const HEIGHT: usize = 8;
 
-/// How many numbers a tile has for so many assets and columns: of each row whether it is there, and its cells.
+/// How many numbers a tile has for so many assets and columns: of each row whether it is there, and its
+/// cells.
 pub fn tile_len(assets: usize, columns: usize) -> usize
     requires assets { assets < 2 ^ 32 }
     requires columns { columns ≤ 64 }

@@ -11,12 +11,17 @@ loop-i-init g c =
     let e = steps_none c.args.course.now.job.now c.args.course.now.term.0 (node_in c.args.course.now) in
     record { lanes = none_laned _ _ _ _; cost = omega (arith, e); applied = omega (arith, e) }
 
+pub start_in-start-requires : goal.start_in-start-requires
+start_in-start-requires g c =
+    let within : (c.loop-i.i + 1) * c.args.course.now.count ≤ length c.loop-i.own = lane_room c.loop-i.i (assets_in (task_in c.args.course.now)) c.args.course.now.count (length c.loop-i.own) c.loop-i-test.true (omega (arith, c.requires.room, c.loop-i.auto.own)) in
+    omega (arith, within)
+
 pub loop-i-preserved : goal.loop-i-preserved
 loop-i-preserved g c =
     let within : (c.loop-i.i + 1) * c.args.course.now.count ≤ length c.loop-i.own = lane_room c.loop-i.i (assets_in (task_in c.args.course.now)) c.args.course.now.count (length c.loop-i.own) c.loop-i-test.true (omega (arith, c.requires.room, c.loop-i.auto.own)) in
     let more = steps_more c.args.course.now.job.now c.args.course.now.term.0 (node_in c.args.course.now) c.loop-i.i c.loop-i-test.true in
     record {
-      lanes = one_laned (cell_in (task_in c.args.course.now) c.args.course.now.term.0) c.args.course.now.low c.args.course.now.count c.loop-i.i _ c.loop-i.own c.fill_asset-more.new.out within c.loop-i.invariant.lanes c.fill_asset-more.ensures.out;
+      lanes = rw c.start_in-start.ensures.value (one_laned (cell_in (task_in c.args.course.now) c.args.course.now.term.0) c.args.course.now.low c.args.course.now.count c.loop-i.i _ c.loop-i.own c.fill_asset-more.new.out within c.loop-i.invariant.lanes c.fill_asset-more.ensures.out);
       cost = omega (arith, more, c.loop-i.invariant.cost, c.fill_asset-more.ensures.cost);
       applied = cut_two _ _ _ _ _ c.loop-i.invariant.applied c.fill_asset-more.ensures.applied c.saturating_add-applied.ensures ∙ ap cut (sym more);
     }

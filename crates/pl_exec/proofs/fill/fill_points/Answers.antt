@@ -7,10 +7,15 @@ use Rattle.pl_exec.proofs.fill.fill_points.Goals as goal
 pub loop-i-init : goal.loop-i-init
 loop-i-init c = none_laned _ _ _ _
 
+pub start_in-start-requires : goal.start_in-start-requires
+start_in-start-requires c =
+    let within : (c.loop-i.i + 1) * c.args.course.now.count ≤ length c.loop-i.own = lane_room c.loop-i.i (assets_in (task_in c.args.course.now)) c.args.course.now.count (length c.loop-i.own) c.loop-i-test.true (omega (arith, c.requires.room, c.loop-i.auto.own)) in
+    omega (arith, within)
+
 pub loop-i-preserved : goal.loop-i-preserved
 loop-i-preserved c =
     let within : (c.loop-i.i + 1) * c.args.course.now.count ≤ length c.loop-i.own = lane_room c.loop-i.i (assets_in (task_in c.args.course.now)) c.args.course.now.count (length c.loop-i.own) c.loop-i-test.true (omega (arith, c.requires.room, c.loop-i.auto.own)) in
-    one_laned (cell_in (task_in c.args.course.now) c.args.course.now.term.0) c.args.course.now.low c.args.course.now.count c.loop-i.i _ c.loop-i.own c.point_lane.new.out within c.loop-i.invariant c.point_lane.ensures
+    rw c.start_in-start.ensures.value (one_laned (cell_in (task_in c.args.course.now) c.args.course.now.term.0) c.args.course.now.low c.args.course.now.count c.loop-i.i _ c.loop-i.own c.point_lane.new.out within c.loop-i.invariant c.point_lane.ensures)
 
 pub returns : goal.returns
 returns c =

@@ -1,6 +1,15 @@
-use Rattle.std.proofs.Common.{arith}
-use Rattle.pl_exec.proofs.Courses.{lane_read}
+use Rattle.std.proofs.Common.{arith, refl, subst, sym}
+use Rattle.pl_exec.specs.Jobs.{IsOperand}
+use Rattle.pl_exec.proofs.Courses.{lane_read, lane_within}
 use Rattle.pl_exec.proofs.points.lane_of.Goals as goal
 
+pub overflow_sub-after : goal.overflow_sub-after
+overflow_sub-after c = omega (arith, c.requires.read.1.early)
+
+pub cells_from-requires : goal.cells_from-requires
+cells_from-requires c = lane_within c.args.course.now c.requires.read.0 c.args.array.now c.requires.course c.requires.read.1 c.args.i c.requires.asset
+
 pub returns : goal.returns
-returns c u read = lane_read c.args.course.now u c.args.array.now c.requires.course read c.args.i c.requires.asset _ (omega arith)
+returns c u read =
+    subst (λ row. IsOperand c.args.course.now u c.args.i row) (sym c.cells_from.ensures)
+    (lane_read c.args.course.now u c.args.array.now c.requires.course read c.args.i c.requires.asset c.args.course.now.count refl)
