@@ -12,6 +12,7 @@ from .data import Data
 from .faults import LimitFault
 
 NEAR = 1e10  # a tenth of the greatest cell
+DAY = 86_400
 PROBE = "pipeline 1;\ncolumn one = 1;\nscreen 1 > 2;\n"
 
 
@@ -70,14 +71,13 @@ def _adjustments(data: Data, assets: pd.DataFrame) -> Iterator[str]:
                      for table in ("splits", "mergers", "dividends"))
     store.close()
     first, last = (pd.Timestamp(day).timestamp() for day in (data.sessions[0], data.sessions[-1]))
-    days = rows.effective_date // 86_400 * 86_400  # pandas rounds down
     for name, odd in rows.groupby("name", sort=False):
         unknown = ~odd.sid.isin(assets.sid)
         if unknown.any():
             yield f"{name}: {unknown.sum()} of {len(odd)} are of unknown sids, as {odd.sid[unknown].iloc[0]}, and do nothing"
         if (odd.effective_date.abs() < 100_000).any():
             yield f"{name}: effective dates as {odd.effective_date.iloc[0]} look like days and are read as seconds since 1970-01-01"
-        elif not days[rows.name == name].between(first + 1, last).any():
+        elif not (odd.effective_date // DAY * DAY).between(first + 1, last).any():  # an adjustment acts on bars of earlier days
             yield f"{name}: none of {len(odd)} falls within the bars, so that none does anything"
 
 
