@@ -4,10 +4,8 @@ from __future__ import annotations
 import io
 import re
 import sqlite3
-from bisect import bisect_left
-from contextlib import ExitStack
 from pathlib import Path
-from typing import NamedTuple, Sequence
+from typing import Iterator, NamedTuple, Sequence
 
 import numpy as np
 import pandas as pd
@@ -78,30 +76,40 @@ def _table(data: Data, part: str) -> pd.DataFrame:
 def _bars(data: Data, spans: Sequence[Span], pieces: Sequence[Path], sids: dict) -> None:
     """Copy the lines of the bars file into the pieces that read them, block by block."""
     source, place = data.files["bars"], {day: at for at, day in enumerate(data.sessions)}
-    with ExitStack() as stack:
-        bars = stack.enter_context(open(source, "rb"))
-        outs = [stack.enter_context(open(path / FILES["bars"], "wb")) for path in pieces]
+    with open(source, "rb") as bars:
         header = bars.readline()
         if header.decode("utf-8-sig", "replace").strip().replace('"', "").split(",") != HEADERS["bars"]:
             raise DataFault(f"{source}:1: data BadHeader")
-        for out in outs:
-            out.write(header.rstrip(b"\r\n") + b"\n")
+        for path in pieces:
+            (path / FILES["bars"]).write_bytes(header.rstrip(b"\r\n") + b"\n")
         while block := bars.read(BLOCK):
             block += bars.readline()
             block += b"" if block.endswith(b"\n") else b"\n"
             lines = np.diff(np.flatnonzero(np.frombuffer(block, "u1") == 10), prepend=-1)
-            keys = pd.read_csv(io.BytesIO(block), header=None, usecols=[0, 1], dtype="category", skip_blank_lines=False)
-            for at, known, rule in ((0, sids, "UnknownSid"), (1, place, "NotSession")):
-                for key in set(keys[at].cat.categories.astype(str)) - known.keys():
-                    raise DataFault(f"{source}: data {rule}", f"    {key!r}")
-            # the code -1 of an empty line takes the last entry
-            days = np.array([place[str(key)] for key in keys[1].cat.categories] + [-1])[keys[1].cat.codes]
-            for span, out in zip(spans, outs):
-                first, last = bisect_left(data.sessions, span.first), bisect_left(data.sessions, span.last)
-                mine = np.array([str(key) in span.sids for key in keys[0].cat.categories] + [False])[keys[0].cat.codes]
-                kept = mine & (days >= first) & (days < last)
+            asset, session = _keys(block, source, sids, place)
+            codes = [key.cat.codes.to_numpy() for key in (asset, session)]
+            if ((np.minimum(*codes) < 0) & (lines > 2)).any():  # an empty line is no record
+                raise DataFault(f"{source}: data BadField", "    a sid or a session is empty")
+            days = np.array([place[key] for key in session.cat.categories] + [-1])[codes[1]]  # -1, the code of an empty line, is the last
+            for span, path in zip(spans, pieces):
+                mine = np.array([key in span.sids for key in asset.cat.categories] + [False])[codes[0]]
+                kept = mine & (days >= place[span.first]) & (days < place[span.last])
                 if kept.any():
-                    out.write(np.frombuffer(block, "u1")[np.repeat(kept, lines)].tobytes())
+                    with open(path / FILES["bars"], "ab") as out:
+                        out.write(np.frombuffer(block, "u1")[np.repeat(kept, lines)].tobytes())
+
+
+def _keys(block: bytes, source: Path, sids: dict, place: dict) -> Iterator[pd.Series]:
+    """The sids and the sessions of some lines, each one that is known."""
+    try:
+        keys = pd.read_csv(io.BytesIO(block), header=None, usecols=[0, 1], dtype="category", keep_default_na=False, na_values=[""],
+                           skip_blank_lines=False)
+    except pd.errors.ParserError as error:
+        raise DataFault(f"{source}: data BadField", f"    {error}") from None
+    for at, known, rule in ((0, sids, "UnknownSid"), (1, place, "NotSession")):
+        for key in set(keys[at].cat.categories) - known.keys():
+            raise DataFault(f"{source}: data {rule}", f"    {key!r}")
+        yield keys[at]
 
 
 def _adjustments(source: Path, span: Span, target: Path) -> None:

@@ -9,9 +9,9 @@ from pathlib import Path
 from typing import Optional, Sequence
 
 HINTS = {  # by the last word of the line; docs/FILES.md and docs/LANGUAGE.md in short
-    "BadByte": "a byte that no token can hold; texts stand in double quotes",
+    "BadByte": "a byte that no token can hold; texts are in double quotes",
     "UnknownName": "the language has no such name",
-    "WrongKind": "one of bar column, factor, filter, classifier, number and text stands where another is asked for",
+    "WrongKind": "one of bar column, factor, filter, classifier, number and text is where another is asked for",
     "BadArgument": "an argument is missing, unknown, given twice, out of its range or none of its list",
     "BadWindow": "a window is from 1 to 1,260 sessions, or from 2 where its term compares two values",
     "NotWindowSafe": "a window can't be over this factor, which depends on adjustments that come between; it can be over "
