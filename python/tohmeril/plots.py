@@ -35,8 +35,9 @@ def forward_returns(frame: pd.DataFrame, returns: str, sessions: int) -> pd.Seri
     sessions : int
     """
     wide = frame[returns].unstack("asset").shift(-sessions)
-    places = [wide.index.get_indexer(frame.index.get_level_values("session")), wide.columns.get_indexer(frame.index.get_level_values("asset"))]
-    return pd.Series(wide.to_numpy()[places[0], places[1]], index=frame.index, name=f"next {sessions}")
+    row = wide.index.get_indexer(frame.index.get_level_values("session"))
+    column = wide.columns.get_indexer(frame.index.get_level_values("asset"))
+    return pd.Series(wide.to_numpy()[row, column], index=frame.index, name=f"next {sessions}")
 
 
 def factor(frame: pd.DataFrame, column: str, assets: Optional[Iterable] = None):

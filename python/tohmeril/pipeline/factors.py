@@ -77,8 +77,8 @@ WeightedAverageValue = windowed("WeightedAverageValue", "sum of x_k w_k where bo
 WindowSum = windowed("WindowSum", "sum of the present x_k; missing where n is 0", **_OURS)
 WindowMax = windowed("WindowMax", "greatest present x_k; missing where n is 0", **_OURS)
 WindowMin = windowed("WindowMin", "least present x_k; missing where n is 0", **_OURS)
-WindowStd = windowed("WindowStd", "sqrt(sum of (x_k - mean)^2 over the present x_k / n); missing where n is 0", source="ours, as numpy's nanstd",
-                     rounding="down, of the variance and of the root: up to a millionth below a float")
+WindowStd = windowed("WindowStd", "sqrt(sum of (x_k - mean)^2 over the present x_k / n); missing where n is 0",
+                     source="ours, as numpy's nanstd", rounding="down, of the variance and of the root: up to a millionth below a float")
 Returns = windowed("Returns", "(x_W - x_1) / x_1; missing where either is", "1, as 0.05 for 5 percent", inputs=(_CLOSE,))
 PercentChange = windowed("PercentChange", "(x_W - x_1) / abs(x_1); missing where either is", "1, as 0.05 for 5 percent")
 RateOfChangePercentage = windowed("RateOfChangePercentage", "100 (x_W - x_1) / x_1; missing where either is", "percent")
