@@ -4,7 +4,7 @@ from __future__ import annotations
 from typing import Sequence
 
 from .data import Labels
-from .term import Absent, Bins, Factor, Mask, Text, factor
+from .term import Absent, Bins, Classifier, Factor, Mask, Text, factor  # noqa: F401
 
 
 def Label(name: str) -> Text:

@@ -235,6 +235,11 @@ class MovingAverageConvergenceDivergenceSignal(Windowed):
 EWMA, MACDSignal = ExponentialWeightedMovingAverage, MovingAverageConvergenceDivergenceSignal
 
 
+def Latest(inputs: Sequence[BoundColumn]) -> Factor:
+    """`inputs[0].latest`."""
+    return inputs[0].latest
+
+
 def PeerCount(inputs: Sequence[Classifier], mask: Mask = None) -> Factor:
     """`inputs[0].peer_count(mask)`."""
     return inputs[0].peer_count(mask)
@@ -246,5 +251,6 @@ EWMSTD = ExponentialWeightedMovingStdDev = Absent("ExponentialWeightedMovingStdD
 MaxDrawdown = Absent("MaxDrawdown", "close.latest / WindowMax([close], window_length=W) - 1, the distance from the greatest close")
 IchimokuKinkoHyo = Absent("IchimokuKinkoHyo", "(WindowMax([high], window_length=W) + WindowMin([low], window_length=W)) / 2")
 SimpleBeta = RollingLinearRegressionOfReturns = Absent("RollingLinearRegressionOfReturns", _REGRESSION)
+RollingLinearRegression = RollingPearson = RollingSpearman = Absent("RollingLinearRegression", _REGRESSION)
 RollingPearsonOfReturns = RollingSpearmanOfReturns = Absent("RollingPearsonOfReturns", _REGRESSION)
 BusinessDaysSincePreviousEvent = BusinessDaysUntilNextEvent = Absent("BusinessDays..Event", "a label that changes on the day of the event")

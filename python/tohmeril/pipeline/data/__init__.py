@@ -43,4 +43,4 @@ class _Labels:
 
 Labels = _Labels()
 DataSet = Absent("DataSet", "EquityPricing for numbers, Labels.NAME.latest for texts of the labels file")
-Column = Absent("Column", DataSet.nearest)
+Column = DataSetFamily = Absent("Column", DataSet.nearest)
