@@ -1,36 +1,19 @@
 #!/usr/bin/env python3
-"""A picture of a factor: its course for a few assets, and the mean return of the next sessions by fifths of the factor.
+"""Pictures of a factor: its course, mean returns of the next sessions by its fifths, and the turnover of the top fifth.
 
-Usage: picture.py TABLE FACTOR CLOSE SESSIONS PICTURE. The table has the factor and the newest close as columns, for instance of
-
-    column momentum = Returns(close, 22);
-    column close = close.latest;
-
-and the return of the next SESSIONS sessions is taken from that column of the table itself. It is not adjusted for what becomes
-effective between the two sessions, so leave out assets with splits within the range, or take a range without them.
+Usage: picture.py DATA FROM TO SESSIONS PICTURES, DATA being a folder of data and PICTURES the one for the files. The returns are
+adjusted, since they are a column of the pipeline. It asks for the package in python/ and for matplotlib.
 """
 import sys
+from pathlib import Path
 
-import matplotlib
+from tohmeril import Data, Pipeline, plots, run_pipeline
+from tohmeril.pipeline.factors import Returns
 
-matplotlib.use("Agg")
-import matplotlib.pyplot as plt
-import pandas as pd
-from table import read_table
-
-
-def main(path, factor, close, sessions, picture):
-    frame = read_table(path)
-    closes = frame[close].unstack("sid")
-    ahead = (closes.shift(-sessions) / closes - 1).stack().rename("ahead")
-    values = frame[[factor]].join(ahead).dropna()
-    fifth = values.groupby("session")[factor].transform(lambda x: pd.qcut(x, 5, labels=False, duplicates="drop"))
-    figure, (left, right) = plt.subplots(1, 2, figsize=(11, 4))
-    frame[factor].unstack("sid").iloc[:, :5].plot(ax=left, title=factor)
-    values.groupby(fifth).ahead.mean().mul(100).plot.bar(ax=right, title=f"mean return of {sessions} sessions, %")
-    figure.tight_layout()
-    figure.savefig(picture, dpi=120)
-
-
-if __name__ == "__main__":
-    main(sys.argv[1], sys.argv[2], sys.argv[3], int(sys.argv[4]), sys.argv[5])
+folder, start, end, sessions, pictures = sys.argv[1:]
+factor = Returns(window_length=22)  # put yours here
+pipe = Pipeline({"factor": factor, "fifth": factor.quintiles(), "ahead": Returns(window_length=int(sessions) + 1)})
+frame = run_pipeline(pipe, start, end, Data(folder))
+plots.factor(frame, "factor").savefig(Path(pictures) / "factor.png")
+plots.quantile_returns(frame, "fifth", "ahead", int(sessions)).savefig(Path(pictures) / "fifths.png")
+plots.turnover(frame, "fifth").savefig(Path(pictures) / "turnover.png")

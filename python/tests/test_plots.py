@@ -1,0 +1,58 @@
+"""Pictures, and the forward returns that they show."""
+import numpy as np
+import pandas as pd
+import pytest
+
+from tohmeril import Data, run_pipeline
+from tohmeril.pipeline import Pipeline
+from tohmeril.pipeline.data import EquityPricing
+from tohmeril.pipeline.factors import Returns
+
+pytest.importorskip("matplotlib")
+from tohmeril import plots  # noqa: E402
+
+DAYS = pd.bdate_range("2024-01-01", periods=12)
+
+
+@pytest.fixture(scope="module")
+def frame(tmp_path_factory):
+    """Two assets that rise by a tenth and fall by a tenth each day, the first with a split of 2:1 in the middle."""
+    close = pd.DataFrame({1: 100 * 1.1 ** np.arange(12), 2: 100 * 0.9 ** np.arange(12)}, index=DAYS)
+    close.loc[DAYS[6]:, 1] /= 2
+    data = Data.write(tmp_path_factory.mktemp("data"), {"close": close},
+                      splits=pd.DataFrame({"sid": [1], "effective_date": DAYS[6:7], "ratio": [0.5]}))
+    change = Returns(window_length=2)
+    pipe = Pipeline({"change": change, "half": change.quantiles(2), "ahead": Returns(window_length=4), "price": EquityPricing.close.latest})
+    return run_pipeline(pipe, DAYS[4], DAYS[11], data)
+
+
+def test_forward_returns_are_adjusted(frame):
+    ahead = plots.forward_returns(frame, "ahead", 3).unstack("asset")
+    np.testing.assert_allclose(ahead[1].iloc[:5], 1.1 ** 3 - 1, atol=1e-6)
+    np.testing.assert_allclose(ahead[2].iloc[:5], 0.9 ** 3 - 1, atol=1e-6)
+    assert ahead.iloc[5:].isna().all(axis=None)
+    raw = frame.price.unstack("asset")[1]
+    assert raw.shift(-3).div(raw).sub(1).min() < -0.3  # what raw closes would show
+
+
+def test_quantile_returns(frame):
+    bars = plots.quantile_returns(frame, "half", "ahead", sessions=3).axes[0].patches
+    np.testing.assert_allclose([bar.get_height() for bar in bars], [-27.1, 33.1], atol=1e-3)
+
+
+def test_factor(frame):
+    axes = plots.factor(frame, "change").axes[0]
+    assert [line.get_label() for line in axes.get_lines()] == ["1", "2"]
+    assert len(plots.factor(frame, "change", assets=[2]).axes[0].get_lines()) == 1
+
+
+def test_turnover():
+    rows = pd.MultiIndex.from_product([DAYS[:3], [1, 2, 3, 4]], names=["session", "asset"])
+    frame = pd.DataFrame({"half": [0, 0, 1, 1, 0, 1, 0, 1, 1, 1, 0, -1]}, index=rows)
+    [line] = plots.turnover(frame, "half").axes[0].get_lines()
+    assert list(line.get_ydata()) == [50, 50]
+
+
+def test_a_picture_is_saved(frame, tmp_path):
+    plots.turnover(frame, "half").savefig(tmp_path / "turnover.png")
+    assert (tmp_path / "turnover.png").read_bytes().startswith(b"\x89PNG")

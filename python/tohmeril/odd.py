@@ -1,0 +1,97 @@
+"""What looks odd in data though it is lawful: most of it shows later as an empty or a wrong column, and the program is silent."""
+from __future__ import annotations
+
+import re
+import sqlite3
+from typing import Iterator, Optional, Sequence
+
+import pandas as pd
+
+from . import program
+from .data import Data
+from .faults import LimitFault
+
+NEAR = 1e10  # a tenth of the greatest cell
+DAY = 86_400
+PROBE = "pipeline 1;\ncolumn one = 1;\nscreen 1 > 2;\n"
+
+
+def check(data: Data, pipelines: Sequence = (), table: Optional[pd.DataFrame] = None) -> list[str]:
+    """Let the program judge all files, whose fault is raised, and list what looks odd.
+
+    Parameters
+    ----------
+    data : Data
+    pipelines : sequence of Pipeline, str or Path
+        All pipelines that are run over the data: with them, labels that none of them names and names without labels are listed.
+    table : DataFrame, optional
+        A frame of `run_pipeline`: its columns without any value are listed.
+
+    Returns
+    -------
+    list of str
+        Empty where nothing looks odd.
+    """
+    found = []
+    last = data.sessions[-1] if data.sessions else "1970-01-01"
+    try:
+        with program.file(PROBE) as name:
+            program.call("run", name, *data.names, last, last, *data.options)
+    except LimitFault as fault:  # the rest can be looked at all the same
+        found.append(str(fault).replace("\n", ": "))
+    assets = pd.read_csv(data.files["assets"])
+    return [*found, *_lives(assets, last), *_bars(data), *_adjustments(data, assets), *_labels(data, pipelines), *_columns(table)]
+
+
+def _lives(assets: pd.DataFrame, last: str) -> Iterator[str]:
+    ending = (assets["end"] == last).sum()
+    if ending:
+        yield f"assets: {ending} of {len(assets)} end on the last session, {last}: they have no row on the next one; if they " \
+              "still trade, give an end far ahead"
+
+
+def _bars(data: Data) -> Iterator[str]:
+    found = pd.Series(dtype=float)
+    for rows in pd.read_csv(data.files["bars"], chunksize=1_000_000):
+        cells = rows.drop(columns=["sid", "session"]).assign(**{"close * volume": rows.close * rows.volume})
+        found = pd.concat([found, cells.max()], axis=1).max(axis=1)
+    for name, greatest in found.items():
+        if pd.isna(greatest) and name != "close * volume":
+            yield f"bars: the column {name} is empty"
+        elif greatest > NEAR:
+            yield f"bars: {name} goes up to {greatest:.0f}, and what passes 100000000000 is missing: give the volume in thousands, " \
+                  "or prices in a greater unit"
+
+
+def _adjustments(data: Data, assets: pd.DataFrame) -> Iterator[str]:
+    if "adjustments" not in data.files or not data.sessions:
+        return
+    store = sqlite3.connect(f"{data.files['adjustments'].as_uri()}?mode=ro", uri=True)
+    rows = pd.concat(pd.read_sql(f"SELECT '{table}' AS name, sid, effective_date FROM {table}", store)
+                     for table in ("splits", "mergers", "dividends"))
+    store.close()
+    first, last = (pd.Timestamp(day).timestamp() for day in (data.sessions[0], data.sessions[-1]))
+    for name, odd in rows.groupby("name", sort=False):
+        unknown = ~odd.sid.isin(assets.sid)
+        if unknown.any():
+            yield f"{name}: {unknown.sum()} of {len(odd)} are of unknown sids, as {odd.sid[unknown].iloc[0]}, and do nothing"
+        if (odd.effective_date.abs() < 100_000).any():
+            yield f"{name}: effective dates as {odd.effective_date.iloc[0]} look like days and are read as seconds since 1970-01-01"
+        elif not (odd.effective_date // DAY * DAY).between(first + 1, last).any():  # an adjustment acts on bars of earlier days
+            yield f"{name}: none of {len(odd)} falls within the bars, so that none does anything"
+
+
+def _labels(data: Data, pipelines: Sequence) -> Iterator[str]:
+    from .runs import scripted
+    named = {name for pipeline in pipelines for name in re.findall(r'label\("(\w+)"\)', scripted(pipeline).text)}
+    there = set(pd.read_csv(data.files["labels"], usecols=["name"], dtype=str)["name"]) if "labels" in data.files else set()
+    if pipelines:
+        yield from (f"labels: no pipeline names {name!r}" for name in sorted(there - named))
+    yield from (f"labels: there are none of the name {name!r}, so that its column is empty" for name in sorted(named - there))
+
+
+def _columns(table: Optional[pd.DataFrame]) -> Iterator[str]:
+    for name in [] if table is None else table:
+        cells = table[name]
+        if (cells == -1).all() if cells.dtype == "int64" else not cells.notna().any() if cells.dtype != bool else not cells.any():
+            yield f"table: the column {name!r} has no value"

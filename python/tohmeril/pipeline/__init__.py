@@ -1,0 +1,84 @@
+"""Zipline's Pipeline API, as far as the program's language says it."""
+from __future__ import annotations
+
+from typing import Mapping, Optional
+
+from .classifiers import CustomClassifier
+from .factors import CustomFactor
+from .filters import CustomFilter
+from .script import Script, script
+from .term import BoundColumn, Classifier, Factor, Filter, Inexpressible, Term
+
+__all__ = ["Pipeline", "Term", "Factor", "Filter", "Classifier", "BoundColumn", "Inexpressible",
+           "CustomFactor", "CustomFilter", "CustomClassifier"]
+
+
+class Pipeline:
+    """Columns by name, and a filter that says which assets are shown.
+
+    Parameters
+    ----------
+    columns : mapping of str to Term, optional
+    screen : Filter, optional
+    domain : ignored, since the calendar is that of the sessions file
+
+    Examples
+    --------
+    >>> from tohmeril.pipeline.factors import AverageDollarVolume, Returns
+    >>> pipe = Pipeline({"year": Returns(window_length=252)})
+    >>> pipe.set_screen(AverageDollarVolume(window_length=30).top(15))
+    >>> print(pipe)
+    pipeline 1;
+    column year = Returns(close, 252);
+    screen AverageDollarVolume(30).top(15);
+    """
+
+    def __init__(self, columns: Optional[Mapping[str, Term]] = None, screen: Optional[Filter] = None, domain=None):
+        self._columns: dict[str, Term] = {}
+        self._screen: Optional[Filter] = None
+        for name, term in (columns or {}).items():
+            self.add(term, name)
+        if screen is not None:
+            self.set_screen(screen)
+
+    @property
+    def columns(self) -> dict[str, Term]:
+        return dict(self._columns)
+
+    @property
+    def screen(self) -> Optional[Filter]:
+        return self._screen
+
+    def add(self, term: Term, name: str, overwrite: bool = False) -> None:
+        """Add a column."""
+        if not isinstance(name, str):
+            raise TypeError(f"the name of a column is a text, not {name!r}")
+        if isinstance(term, BoundColumn) or not isinstance(term, Term):
+            raise TypeError(f"column {name!r} is {term!r} and no factor, filter or classifier; .latest is the newest value of bars")
+        if name in self._columns and not overwrite:
+            raise KeyError(f"Column {name!r} already exists.")
+        self._columns[name] = term
+
+    def remove(self, name: str) -> Term:
+        """Remove a column, and return its term."""
+        return self._columns.pop(name)
+
+    def set_screen(self, screen: Filter, overwrite: bool = False) -> None:
+        """Set the filter that says which assets are shown."""
+        if not isinstance(screen, Filter):
+            raise TypeError(f"a screen is a filter, not {screen!r}")
+        if self._screen is not None and not overwrite:
+            raise ValueError("set_screen() called with overwrite=False and screen already set.")
+        self._screen = screen
+
+    def script(self) -> Script:
+        """The text of the pipeline, with what leads back from it."""
+        return script(self._columns, self._screen)
+
+    def show_graph(self):
+        """The graph of its terms, which a notebook draws."""
+        from ..plans import show_graph
+        return show_graph(self)
+
+    def __repr__(self) -> str:
+        return self.script().text.rstrip()

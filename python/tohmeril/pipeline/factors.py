@@ -1,0 +1,256 @@
+"""Zipline's factors, with its names, inputs and keyword arguments.
+
+In the formulas x_1 to x_W is the window, oldest first: of a column of bars the W sessions before today as today sees them, of a
+term today's value and the W - 1 before it. n is how many values are present, that is not missing.
+
+>>> SimpleMovingAverage(inputs=[EquityPricing.close], window_length=10)
+SimpleMovingAverage(close, 10)
+>>> class Quarter(Returns):
+...     window_length = 64
+>>> Quarter()
+Returns(close, 64)
+>>> print(WindowSum.__doc__)
+sum of the present x_k; missing where n is 0
+<BLANKLINE>
+Units: those of the input. Source: ours. Rounding: none.
+"""
+from __future__ import annotations
+
+import math
+from collections import namedtuple
+from functools import reduce
+from typing import Optional, Sequence
+
+import numpy as np
+
+from .data import EquityPricing
+from .term import CALL, Absent, BoundColumn, Classifier, Factor, Filter, Mask, Term
+
+_HIGH, _LOW, _CLOSE, _VOLUME = (getattr(EquityPricing, name) for name in ("high", "low", "close", "volume"))
+
+
+class Windowed:
+    """A function of the language over a window. Calling the class makes a term; class attributes are defaults, as in Zipline."""
+
+    inputs: Sequence[Term] = ()
+    window_length: Optional[int] = None
+    function = ""  # its name in the language
+    sort: type = Factor
+    takes: tuple = (BoundColumn, Factor)
+    fixed = False  # whether the function is of its own inputs alone
+
+    def __init_subclass__(cls):
+        if Windowed in cls.__bases__:
+            cls.function = cls.__name__
+        if "compute" in cls.__dict__:
+            CustomFactor()
+
+    def __new__(cls, inputs=None, *, window_length: Optional[int] = None, mask: Mask = None, **params):
+        inputs = tuple(cls.inputs if inputs is None else inputs if isinstance(inputs, (list, tuple)) else [inputs])
+        window_length = cls.window_length if window_length is None else window_length
+        if not inputs or window_length is None:
+            raise TypeError(f"{cls.__name__}: {'window_length is' if inputs else 'inputs are'} missing")
+        for term in inputs:
+            if not isinstance(term, cls.takes):
+                raise TypeError(f"{cls.__name__}: {term!r} can't be its input")
+        if cls.fixed and inputs != tuple(cls.inputs):
+            Absent(f"{cls.__name__} of {', '.join(map(repr, inputs))}", f"that of {', '.join(map(repr, cls.inputs))}")()
+        return cls.term(() if cls.fixed else inputs, window_length, mask, **params)
+
+    @classmethod
+    def term(cls, inputs, window, mask, *numbers):
+        return cls.sort(CALL, cls.function, *inputs, window, *numbers, mask=mask)
+
+
+def windowed(name: str, formula: str, units: str = "those of the input", source: str = "Zipline",
+             rounding: str = "once, to the nearest millionth", **defaults) -> type[Windowed]:
+    """A class of the language's function of this name."""
+    doc = f"{formula}\n\nUnits: {units}. Source: {source}. Rounding: {rounding}."
+    return type(name, (Windowed,), {"__doc__": doc, "__module__": defaults.pop("module", __name__), **defaults})
+
+
+_OURS = {"source": "ours", "rounding": "none"}
+SimpleMovingAverage = windowed("SimpleMovingAverage", "sum of the present x_k / n; missing where n is 0")
+LinearWeightedMovingAverage = windowed("LinearWeightedMovingAverage", "(1 x_1 + .. + W x_W) / (W (W + 1) / 2), missing values counting 0")
+WeightedAverageValue = windowed("WeightedAverageValue", "sum of x_k w_k where both are present / sum of the present w_k",
+                                "those of the first input")
+WindowSum = windowed("WindowSum", "sum of the present x_k; missing where n is 0", **_OURS)
+WindowMax = windowed("WindowMax", "greatest present x_k; missing where n is 0", **_OURS)
+WindowMin = windowed("WindowMin", "least present x_k; missing where n is 0", **_OURS)
+WindowStd = windowed("WindowStd", "sqrt(sum of (x_k - mean)^2 over the present x_k / n); missing where n is 0",
+                     source="ours, as numpy's nanstd", rounding="down, of the variance and of the root: up to a millionth below a float")
+Returns = windowed("Returns", "(x_W - x_1) / x_1; missing where either is", "1, as 0.05 for 5 percent", inputs=(_CLOSE,))
+PercentChange = windowed("PercentChange", "(x_W - x_1) / abs(x_1); missing where either is", "1, as 0.05 for 5 percent")
+RateOfChangePercentage = windowed("RateOfChangePercentage", "100 (x_W - x_1) / x_1; missing where either is", "percent")
+RSI = windowed("RSI", "100 U / (U + D), U the sum of the rises and D of the falls between neighbors that are both present; missing "
+               "where nothing moved", "percent", inputs=(_CLOSE,), window_length=15)
+AverageDollarVolume = windowed("AverageDollarVolume", "sum of close_k volume_k where both are present / W; 0 where none is, and missing "
+                               "above 10^11", "money per session", inputs=(_CLOSE, _VOLUME), fixed=True)
+FastStochasticOscillator = windowed("FastStochasticOscillator", "100 (c - l) / (h - l): the last close, the least low, the greatest high; "
+                                    "missing where one is", "percent", inputs=(_CLOSE, _LOW, _HIGH), window_length=14, fixed=True)
+
+
+class DailyReturns(Returns):
+    """`Returns` over two sessions: (x_2 - x_1) / x_1
+
+    Units: 1, as 0.05 for 5 percent. Source: Zipline. Rounding: once, to the nearest millionth.
+    """
+    window_length = 2
+
+
+class VWAP(Windowed):
+    """sum of close_k volume_k where both are present / sum of the present volume_k; of other inputs a `WeightedAverageValue`
+
+    Units: those of the close. Source: Zipline. Rounding: once, to the nearest millionth.
+    """
+    inputs = (_CLOSE, _VOLUME)
+
+    @classmethod
+    def term(cls, inputs, window, mask):
+        return super().term((), window, mask) if inputs == (_CLOSE, _VOLUME) else WeightedAverageValue.term(inputs, window, mask)
+
+
+class TrueRange(Windowed):
+    """greatest present one of high - low, abs(high - previous close), abs(low - previous close)
+
+    Units: those of the close. Source: Zipline. Rounding: none.
+    """
+    inputs = (_HIGH, _LOW, _CLOSE)
+    window_length = 2
+    fixed = True
+
+    @classmethod
+    def term(cls, inputs, window, mask):
+        return Factor(CALL, cls.function, mask=mask)
+
+
+class ExponentialWeightedMovingAverage(Windowed):
+    """sum of w_k x_k / sum of w_k, w_W = 1 and w_(k-1) = w_k decay_rate; missing where any value is
+
+    Units: those of the input. Source: Zipline. Rounding: of `decay_rate` and of each weight to millionths, then once: by about
+    10^-7 of the value from a float.
+
+    >>> ExponentialWeightedMovingAverage.from_span([EquityPricing.close], window_length=30, span=15)
+    ExponentialWeightedMovingAverage(close, 30, 0.875)
+    """
+
+    @classmethod
+    def term(cls, inputs, window, mask, decay_rate):
+        return super().term(inputs, window, mask, decay_rate)
+
+    @classmethod
+    def from_span(cls, inputs, window_length, span, **kwargs):
+        """With `decay_rate` 1 - 2 / (1 + span)."""
+        return cls(inputs, window_length=window_length, decay_rate=1 - 2 / (1 + span), **kwargs)
+
+    @classmethod
+    def from_halflife(cls, inputs, window_length, halflife, **kwargs):
+        """With `decay_rate` 0.5 ** (1 / halflife)."""
+        return cls(inputs, window_length=window_length, decay_rate=0.5 ** (1 / halflife), **kwargs)
+
+    @classmethod
+    def from_center_of_mass(cls, inputs, window_length, center_of_mass, **kwargs):
+        """With `decay_rate` 1 - 1 / (1 + center_of_mass)."""
+        return cls(inputs, window_length=window_length, decay_rate=1 - 1 / (1 + center_of_mass), **kwargs)
+
+
+class BollingerBands(Windowed):
+    """`lower`, `middle`, `upper`: mean - k s, mean, mean + k s, with s the `WindowStd`
+
+    Units: those of the input. Source: Zipline. Rounding: s down to millionths, so that a band is up to k + 1 millionths off.
+
+    >>> lower, middle, upper = BollingerBands(window_length=20, k=2)
+    >>> upper
+    BollingerUpper(close, 20, 2)
+    """
+    inputs = (_CLOSE,)
+    outputs = namedtuple("BollingerBands", "lower middle upper")
+
+    @classmethod
+    def term(cls, inputs, window, mask, k):
+        return cls.outputs(Factor(CALL, "BollingerLower", *inputs, window, k, mask=mask),
+                           Factor(CALL, "BollingerMiddle", *inputs, window, mask=mask),
+                           Factor(CALL, "BollingerUpper", *inputs, window, k, mask=mask))
+
+
+class Aroon(Windowed):
+    """`down`, `up`: 100 i / (W - 1), i from 0 the place of the first least low, of the first greatest high
+
+    Units: percent. Source: Zipline. Rounding: once, to the nearest millionth.
+
+    >>> Aroon(window_length=25).up
+    AroonUp(25)
+    """
+    inputs = (_LOW, _HIGH)
+    fixed = True
+    outputs = namedtuple("Aroon", "down up")
+
+    @classmethod
+    def term(cls, inputs, window, mask):
+        return cls.outputs(Factor(CALL, "AroonDown", window, mask=mask), Factor(CALL, "AroonUp", window, mask=mask))
+
+
+class AnnualizedVolatility(Windowed):
+    """`WindowStd` of the daily returns * sqrt(annualization_factor)
+
+    Units: 1 per root of a year. Source: Zipline. Rounding: deviation and root to millionths before the product: by 0.00002 from
+    a float.
+
+    >>> AnnualizedVolatility(window_length=63)
+    WindowStd(Returns(close, 2), 63) * 15.874508
+    """
+    inputs = (DailyReturns(),)
+    window_length = 252
+
+    @classmethod
+    def term(cls, inputs, window, mask, annualization_factor=252.0):
+        return WindowStd(inputs, window_length=window, mask=mask) * math.sqrt(annualization_factor)
+
+
+class MovingAverageConvergenceDivergenceSignal(Windowed):
+    """exponential mean of the differences between a fast and a slow exponential mean of closes, all as today sees the closes
+
+    Units: those of the close. Source: Zipline. Rounding: the language has no window over exponential means, but the signal is a
+    weighted sum of closes, and so one of exact sums over windows; their weights are given to ten decimals: by about 10^-6 from a
+    float for prices up to 1,000. With the usual periods it takes 138 of the 256 terms that a pipeline may have.
+    """
+    inputs = (_CLOSE,)
+    window_length = 0  # set by the periods
+
+    @classmethod
+    def term(cls, inputs, window, mask, fast_period=12, slow_period=26, signal_period=9):
+        def means(period):  # the weights of an exponential mean, newest first
+            weights = (1 - 2 / (1 + period)) ** np.arange(period)
+            return weights / weights.sum()
+        if slow_period <= fast_period:
+            raise ValueError("slow_period has to be greater than fast_period")
+        weights = np.convolve(means(signal_period), np.pad(means(fast_period), (0, slow_period - fast_period)) - means(slow_period))
+        whole = Filter(CALL, "AllPresent", *inputs, len(weights))
+        whole = whole if mask is None else whole & mask
+        steps = (weights - np.append(weights[1:], 0)) * 10_000
+        sums = (WindowSum(inputs, window_length=at, mask=whole) * step for at, step in enumerate(steps, 1))
+        return reduce(Factor.__add__, sums) / 10_000
+
+
+EWMA, MACDSignal = ExponentialWeightedMovingAverage, MovingAverageConvergenceDivergenceSignal
+
+
+def Latest(inputs: Sequence[BoundColumn]) -> Factor:
+    """`inputs[0].latest`."""
+    return inputs[0].latest
+
+
+def PeerCount(inputs: Sequence[Classifier], mask: Mask = None) -> Factor:
+    """`inputs[0].peer_count(mask)`."""
+    return inputs[0].peer_count(mask)
+
+
+_REGRESSION = "Returns as a column, and the regression over the table in pandas"
+CustomFactor = Absent("CustomFactor", "WindowSum, WindowMax, WindowMin, WindowStd and arithmetic; or their table, and pandas")
+EWMSTD = ExponentialWeightedMovingStdDev = Absent("ExponentialWeightedMovingStdDev", "WindowStd, with equal weights")
+MaxDrawdown = Absent("MaxDrawdown", "close.latest / WindowMax([close], window_length=W) - 1, the distance from the greatest close")
+IchimokuKinkoHyo = Absent("IchimokuKinkoHyo", "(WindowMax([high], window_length=W) + WindowMin([low], window_length=W)) / 2")
+SimpleBeta = RollingLinearRegressionOfReturns = Absent("RollingLinearRegressionOfReturns", _REGRESSION)
+RollingLinearRegression = RollingPearson = RollingSpearman = Absent("RollingLinearRegression", _REGRESSION)
+RollingPearsonOfReturns = RollingSpearmanOfReturns = Absent("RollingPearsonOfReturns", _REGRESSION)
+BusinessDaysSincePreviousEvent = BusinessDaysUntilNextEvent = Absent("BusinessDays..Event", "a label that changes on the day of the event")

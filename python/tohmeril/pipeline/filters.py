@@ -1,0 +1,54 @@
+"""Zipline's filters; all are exact.
+
+>>> from tohmeril.pipeline.data import EquityPricing
+>>> AtLeastN(inputs=[EquityPricing.volume.latest > 0], window_length=20, N=15)
+AtLeastN(volume.latest > 0, 20, 15)
+"""
+from __future__ import annotations
+
+from typing import Iterable
+
+from .factors import Windowed, windowed
+from .term import CALL, Absent, Filter, either
+
+_FILTER = {"units": "true or false", "rounding": "none", "sort": Filter, "module": __name__}
+All = windowed("All", "true on each of the W sessions up to today", takes=(Filter,), **_FILTER)
+Any = windowed("Any", "true on one of the W sessions up to today", takes=(Filter,), **_FILTER)
+AllPresent = windowed("AllPresent", "each x_k is present", **_FILTER)
+
+
+class AtLeastN(Windowed):
+    """true on N of the W sessions up to today, or on more
+
+    Units: true or false. Source: Zipline. Rounding: none.
+    """
+    sort, takes = Filter, (Filter,)
+
+    @classmethod
+    def term(cls, inputs, window, mask, N):
+        return super().term(inputs, window, mask, N)
+
+
+def StaticSids(sids: Iterable[int]) -> Filter:
+    """True of exactly these assets, by their sids; `Data.sids` has those of symbols.
+
+    >>> StaticSids([24, 5])
+    StaticSids(5, 24)
+    """
+    return either(lambda some: Filter(CALL, "StaticSids", *some), sorted(map(int, sids)), 500)
+
+
+def StaticAssets(assets: Iterable) -> Filter:
+    """True of exactly these assets, given by their sids or as objects with a `sid`."""
+    return StaticSids(getattr(asset, "sid", asset) for asset in assets)
+
+
+def SingleAsset(asset) -> Filter:
+    """True of exactly this asset."""
+    return StaticAssets([asset])
+
+
+CustomFilter = Absent("CustomFilter", "comparisons of factors, and & | ~")
+ArrayPredicate = NullFilter = NotNullFilter = Absent("ArrayPredicate", "isnull(), notnull(), comparisons")
+PercentileFilter = Absent("PercentileFilter", "percentile_between(low, high)")
+MaximumFilter = Absent("MaximumFilter", "top(1, groupby=classifier)")

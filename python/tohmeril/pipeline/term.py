@@ -1,0 +1,375 @@
+"""Terms: immutable Python objects with Zipline's methods and operators, which the program's language can say.
+
+A term is what it is written as: a form, a name, what it is of, and its named arguments. Equal terms are one object, as in
+Zipline, so that what is used twice is computed once. Python decides only what kind a thing is; windows, ranges and what may be
+in a window are judged by the program.
+
+Unless a docstring says otherwise, a value has the units of its input, the rule is Zipline's of the same name, and the result is
+the exact one rounded once to the nearest millionth, ties away from zero: half a millionth from a float's at most.
+
+>>> from tohmeril.pipeline.data import EquityPricing
+>>> price = EquityPricing.close.latest
+>>> (price > 5) & price.notnull()
+close.latest > 5 & close.latest.notnull()
+>>> price.rank(ascending=False) is EquityPricing.close.latest.rank(ascending=False)
+True
+"""
+from __future__ import annotations
+
+import math
+from decimal import ROUND_HALF_UP, Decimal
+from functools import reduce
+from numbers import Real
+from typing import Callable, Iterable, Optional, Union
+from weakref import WeakValueDictionary
+
+CALL, MEMBER, PROPERTY, INFIX, PREFIX, WORD, ALIAS = "call", "member", "property", "infix", "prefix", "word", "alias"
+GREATEST = Decimal(10) ** 11  # no cell has a greater magnitude
+Value = Union["Factor", float]
+Mask, Group = Optional["Filter"], Optional["Classifier"]
+
+
+class Inexpressible(NotImplementedError):
+    """The language has no such thing; the message names the nearest one that it has."""
+
+
+class Absent:
+    """A name of Zipline's that the language cannot say. Whoever calls it, or subclasses it, learns what comes nearest.
+
+    >>> Absent("CustomFactor", "WindowSum and arithmetic")()
+    Traceback (most recent call last):
+    tohmeril.pipeline.term.Inexpressible: the language has no CustomFactor; nearest: WindowSum and arithmetic
+    """
+
+    def __init__(self, name: str, nearest: str):
+        self.name, self.nearest = name, nearest
+
+    def __call__(self, *args, **kwargs):
+        raise Inexpressible(f"the language has no {self.name}; nearest: {self.nearest}")
+
+    __mro_entries__ = __call__  # as a base class
+
+    def __getattr__(self, name):  # as EWMSTD.from_span
+        if name.startswith("_"):
+            raise AttributeError(name)
+        return self
+
+
+def number(value: Real) -> Decimal:
+    """A number as the program reads it: whole millionths, rounded once, ties away from zero.
+
+    >>> number(0.1), number(1.0000005), number(-3)
+    (Decimal('0.1'), Decimal('1.000001'), Decimal('-3'))
+    """
+    if isinstance(value, bool) or not isinstance(value, (Real, Decimal)):
+        raise TypeError(f"{value!r} is no number")
+    if not abs(value) <= GREATEST:
+        raise Inexpressible(f"the language has no number {value!r}; nearest: {GREATEST:f}, the greatest there is")
+    exact = value if isinstance(value, Decimal) else Decimal(int(value) if value == int(value) else repr(float(value)))
+    return Decimal(f"{exact.quantize(Decimal('0.000001'), ROUND_HALF_UP):f}".rstrip("0").rstrip("."))
+
+
+def factor(value: Value) -> Factor:
+    """A factor, or a number in place of one; a NaN becomes a division by zero, which is missing."""
+    if isinstance(value, Factor):
+        return value
+    if isinstance(value, BoundColumn):
+        raise TypeError(f"{value!r} is a column of bars and no factor: write .latest for its newest value")
+    if isinstance(value, float) and math.isnan(value):
+        return Factor(INFIX, "/", factor(1), factor(0))
+    return Factor(WORD, f"{number(value):f}")
+
+
+class Term:
+    """What a pipeline is made of. `args` are terms, numbers and texts in the language's order, `options` its named arguments."""
+
+    __slots__ = ("form", "name", "args", "options", "__weakref__")
+    __array_ufunc__ = None  # numbers of numpy leave the operators to the term
+    sort = ""
+    _known: WeakValueDictionary = WeakValueDictionary()
+
+    def __new__(cls, form: str, name: str, *args, **options):
+        given = tuple((key, value) for key, value in options.items() if value is not None)
+        for key, value in given:
+            wanted = {"mask": Filter, "groupby": Classifier}.get(key, object)
+            if not isinstance(value, wanted):
+                raise TypeError(f"{key} of {name} has to be a {wanted.__name__.lower()}, and is {value!r}")
+        parts = form, name, tuple(arg if isinstance(arg, (Term, str)) else number(arg) for arg in args), given
+        term = Term._known.get((cls, *parts))
+        if term is None:
+            term = super().__new__(cls)
+            for slot, part in zip(Term.__slots__, parts):
+                object.__setattr__(term, slot, part)
+            term = Term._known.setdefault((cls, *parts), term)
+        return term
+
+    @property
+    def terms(self) -> list[Term]:
+        """The terms that this one is of, from left to right."""
+        return [part for part in (*self.args, *(value for _, value in self.options)) if isinstance(part, Term)]
+
+    def alias(self, name: str):
+        """The same term, under this name in the text of the pipeline."""
+        return type(self)(ALIAS, name, self)
+
+    def downsample(self, frequency: str):
+        """Value on the first session of the year, quarter, month or week, kept through all of it, as it was seen then.
+
+        `frequency` is "year_start", "quarter_start", "month_start" or "week_start"; weeks begin on Monday. Exact.
+        """
+        return type(self)(MEMBER, "downsample", self, frequency)
+
+    def __setattr__(self, name, value):
+        raise AttributeError("terms do not change")
+
+    def __reduce__(self):
+        return _again, (type(self), self.form, self.name, self.args, self.options)
+
+    def __repr__(self) -> str:
+        from .script import expression
+        return expression(self)
+
+    def __bool__(self):
+        raise TypeError(f"{self!r} is true or false only in a table: join filters by & | ~, and compare twice for a < b < c")
+
+    def __eq__(self, other):
+        if isinstance(other, (Real, str)):
+            raise TypeError(f"== says whether two terms are one; write .eq({other!r}) for a filter")
+        return self is other
+
+    __hash__ = object.__hash__
+
+
+def _again(sort, form, name, args, options):
+    return sort(form, name, *args, **dict(options))
+
+
+def _infix(sign: str, doc: str, result: Optional[type] = None, turned: bool = False) -> Callable:
+    def operator(self, other):
+        if not isinstance(other, (Factor, Real, Decimal)):
+            return NotImplemented
+        left, right = (other, self) if turned else (self, other)
+        return (result or Factor)(INFIX, sign, factor(left), factor(right))
+    operator.__doc__ = doc
+    return operator
+
+
+def _arithmetic(sign: str, doc: str) -> tuple[Callable, Callable]:
+    return _infix(sign, doc), _infix(sign, doc, turned=True)
+
+
+class BoundColumn(Term):
+    """A column of bars, such as `EquityPricing.close`: an input of windows, and by `latest` a factor."""
+    __slots__ = ()
+
+    @property
+    def latest(self) -> Factor:
+        """Newest value, that of the session before, as today sees it. Missing where there is no bar. Exact."""
+        return Factor(PROPERTY, "latest", self)
+
+
+class Filter(Term):
+    """True or false for each asset and session; false where the asset does not exist."""
+    __slots__ = ()
+    sort = "filter"
+
+    def __and__(self, other: Filter) -> Filter:
+        """True where both are."""
+        return Filter(INFIX, "&", self, other) if isinstance(other, Filter) else NotImplemented
+
+    def __or__(self, other: Filter) -> Filter:
+        """True where one of the two is."""
+        return Filter(INFIX, "|", self, other) if isinstance(other, Filter) else NotImplemented
+
+    def __invert__(self) -> Filter:
+        """True where this one is false, for an asset that exists."""
+        return Filter(PREFIX, "~", self)
+
+    def if_else(self, if_true: Value, if_false: Value) -> Factor:
+        """`if_true` where the filter is true, else `if_false`. Zipline's, for factors and numbers alone. Exact."""
+        if isinstance(if_true, Classifier) or isinstance(if_false, Classifier):
+            Absent("if_else of classifiers", "if_else of factors, or labels of another name in the labels file")()
+        return Factor(MEMBER, "if_else", self, factor(if_true), factor(if_false))
+
+
+class Factor(Term):
+    """A number for each asset and session, in whole millionths, or none."""
+    __slots__ = ()
+    sort = "factor"
+
+    __add__, __radd__ = _arithmetic("+", "x + y, missing where one is. Exact.")
+    __sub__, __rsub__ = _arithmetic("-", "x - y, missing where one is. Exact.")
+    __mul__, __rmul__ = _arithmetic("*", "x y, missing where one is. Units: those of x times those of y. Rounds once.")
+    __truediv__, __rtruediv__ = _arithmetic("/", "x / y, missing where one is or y is 0. Units: those of x over those of y. "
+                                                 "Rounds once.")
+    __lt__, __le__, __gt__, __ge__ = (_infix(sign, f"True where x {sign} y and both are present. Exact.", Filter)
+                                      for sign in ("<", "<=", ">", ">="))
+    __ne__ = _infix("!=", "True where both are present and differ: false where one is missing, which is ours. Exact.", Filter)
+
+    def eq(self, other: Value) -> Filter:
+        """True where both are present and equal, to the millionth: floats are seldom equal, whole millionths often."""
+        return Filter(INFIX, "==", self, factor(other))
+
+    def __neg__(self) -> Factor:
+        """-x. Exact."""
+        return Factor(PREFIX, "-", self)
+
+    def __pow__(self, power: int) -> Factor:
+        """x * x * .., for a whole power from 1 to 32; ours rounds at each multiplication."""
+        if power not in range(1, 33):
+            Absent(f"** {power!r}", "a whole power from 1 to 32")()
+        return reduce(lambda product, _: product * self, range(power - 1), self)
+
+    def abs(self) -> Factor:
+        """Magnitude. Exact."""
+        return Factor(MEMBER, "abs", self)
+
+    def isnull(self) -> Filter:
+        """True where there is no value, for an asset that exists."""
+        return Filter(MEMBER, "isnull", self)
+
+    def notnull(self) -> Filter:
+        """True where there is a value."""
+        return Filter(MEMBER, "notnull", self)
+
+    # there are no infinities: what is too great is missing
+    __abs__, isnan, notnan, isfinite = abs, isnull, notnull, notnull
+
+    def clip(self, min_bound: float, max_bound: float) -> Factor:
+        """`min_bound` where x is below it, `max_bound` where x is above it, else x. Exact; the bounds round to millionths."""
+        low, high = (math.copysign(GREATEST, bound) if math.isinf(bound) else bound for bound in (min_bound, max_bound))
+        return Factor(MEMBER, "clip", self, low, high)
+
+    def fillna(self, fill_value: Value) -> Factor:
+        """x, and `fill_value` where x is missing. Exact."""
+        return Factor(MEMBER, "fillna", self, factor(fill_value))
+
+    def rank(self, method: str = "ordinal", ascending: bool = True, mask: Mask = None, groupby: Group = None) -> Factor:
+        """Place from 1 among the session's values, of the asset's own label with `groupby`. Units: places. Exact.
+
+        Of equal values "ordinal" counts on by ascending sid in both orders, "min" and "max" give the least and the greatest of
+        their places, "average" the mean of these two, "dense" counts distinct values. Values equal to the millionth are equal.
+        """
+        return Factor(MEMBER, "rank", self, method=None if method == "ordinal" else method,
+                      order=None if ascending else "descending", mask=mask, groupby=groupby)
+
+    def demean(self, mask: Mask = None, groupby: Group = None) -> Factor:
+        """x less the mean of the session's values, of the asset's own label with `groupby`. Rounds once."""
+        return Factor(MEMBER, "demean", self, mask=mask, groupby=groupby)
+
+    def zscore(self, mask: Mask = None, groupby: Group = None) -> Factor:
+        """(x - mean) / s, s = sqrt(sum of (v - mean)^2 / n) over the session's values. Units: deviations.
+
+        Missing where s is 0. s is rounded down to millionths before the division, so that a small s shows in the fifth decimal.
+        """
+        return Factor(MEMBER, "zscore", self, mask=mask, groupby=groupby)
+
+    def quantiles(self, bins: int, mask: Mask = None) -> Bins:
+        """Bin from 0: how many of the edges 1 to bins - 1 are below x, edge k being k / bins of the way through the session's
+        sorted values, on a line between neighbors. Units: number of the bin. Edges are exact, where Zipline's are floats."""
+        return Bins(MEMBER, "quantiles", self, bins, mask=mask)
+
+    def quartiles(self, mask: Mask = None) -> Bins:
+        """`quantiles(4)`."""
+        return self.quantiles(4, mask)
+
+    def quintiles(self, mask: Mask = None) -> Bins:
+        """`quantiles(5)`."""
+        return self.quantiles(5, mask)
+
+    def deciles(self, mask: Mask = None) -> Bins:
+        """`quantiles(10)`."""
+        return self.quantiles(10, mask)
+
+    def top(self, N: int, mask: Mask = None, groupby: Group = None) -> Filter:
+        """True of the N greatest values of the session; equal ones by ascending sid. Exact."""
+        return Filter(MEMBER, "top", self, N, mask=mask, groupby=groupby)
+
+    def bottom(self, N: int, mask: Mask = None, groupby: Group = None) -> Filter:
+        """True of the N least values of the session; equal ones by ascending sid. Exact."""
+        return Filter(MEMBER, "bottom", self, N, mask=mask, groupby=groupby)
+
+    def percentile_between(self, min_percentile: float, max_percentile: float, mask: Mask = None) -> Filter:
+        """True from `min_percentile` of the way through the session's sorted values to `max_percentile`, both ends included.
+
+        Percentiles are whole hundredths from 0 to 100. Edges are exact, where Zipline's are floats.
+        """
+        return Filter(MEMBER, "percentile_between", self, min_percentile, max_percentile, mask=mask)
+
+
+class Classifier(Term):
+    """A label for each asset and session, or none: a text, or the number of a bin."""
+    __slots__ = ()
+    label: type = str
+    isnull, notnull = Factor.isnull, Factor.notnull
+
+    def eq(self, other: Union[str, int], sign: str = "==") -> Filter:
+        """True where the label is this one."""
+        if not isinstance(other, self.label):
+            raise TypeError(f"{self!r} {sign} {other!r}: the labels are of type {self.label.__name__.lower()}")
+        return Filter(INFIX, sign, self, other)
+
+    def __ne__(self, other: Union[str, int]) -> Filter:
+        """True where there is a label and it is another one."""
+        return self.eq(other, "!=")
+
+    def peer_count(self, mask: Mask = None) -> Factor:
+        """How many assets of the session have the asset's own label; missing where it has none. Units: assets. Exact."""
+        return Factor(MEMBER, "peer_count", self, mask=mask)
+
+
+class Text(Classifier):
+    """A text for each asset and session, or none, as its sector. A test of it is false where there is none."""
+    __slots__ = ()
+    sort = "label"
+
+    def startswith(self, prefix: str) -> Filter:
+        """True where the label begins with `prefix`."""
+        return Filter(MEMBER, "startswith", self, prefix)
+
+    def endswith(self, suffix: str) -> Filter:
+        """True where the label ends with `suffix`."""
+        return Filter(MEMBER, "endswith", self, suffix)
+
+    def element_of(self, choices: Iterable[str]) -> Filter:
+        """True where the label is one of `choices`."""
+        return either(lambda some: Filter(MEMBER, "element_of", self, *some), choices, 100)
+
+
+class Bins(Classifier):
+    """The number of a bin, from 0, for each asset and session, or none."""
+    __slots__ = ()
+    sort = "number"
+    label = Real
+
+    def element_of(self, choices: Iterable[int]) -> Filter:
+        """True where the bin is one of `choices`."""
+        return either(lambda one: self.eq(*one), choices, 1)
+
+
+def either(make: Callable, items: Iterable, size: int) -> Filter:
+    """A filter of a list of any length, as filters of at most `size` items joined by |."""
+    listed = list(dict.fromkeys(items))
+    if not listed:
+        Absent("filter of no choices", "~(1 == 1)")()
+    return reduce(Filter.__or__, (make(listed[start:start + size]) for start in range(0, len(listed), size)))
+
+
+_MONOTONE = "y itself where its order counts: rank, top and quantiles of y and of a rising function of it are the same"
+_ABSENT = {
+    Factor: {
+        "winsorize": "clip(low, high) between numbers, or mask=y.percentile_between(low, high), which drops the tails",
+        "pearsonr spearmanr linear_regression": "Returns as a column, and the regression over the table in pandas",
+        "mean sum stddev min max median notnull_count": "y - y.demean(), which is the mean of the session; zscore; rank",
+        "__mod__ __floordiv__": "/ and clip",
+        "exp expm1 log log10 log1p sqrt sinh tanh arctan arcsinh": _MONOTONE,
+        "sin cos tan cosh arcsin arccos arccosh arctanh": "arithmetic",
+    },
+    Classifier: {"relabel": "labels of another name in the labels file", "fillna": "isnull()"},
+    Text: {"matches has_substring": "startswith, endswith, element_of"},
+    Term: {"__getitem__": "StaticSids(sids) as a mask, and the asset's rows of the table"},
+}
+for _sort, _names in _ABSENT.items():
+    for _each, _nearest in _names.items():
+        for _name in _each.split():
+            setattr(_sort, _name, Absent(_name.strip("_"), _nearest))
