@@ -22,9 +22,9 @@ mod search;
 
 pub use error::BarsError;
 pub use fields::{is_below_0, read_cell, read_column};
-use pl_lifetimes::Assets;
 use pl_calendar::Sessions;
 use pl_fixed::Memory;
+use pl_lifetimes::Assets;
 pub use pl_spec::BarRow;
 use pl_spec::Column;
 use std::alloc::Global;

@@ -4,8 +4,8 @@ ghost use Rattle.std.specs.Prelude.{◌≡◌, ◌<◌, ◌==◌, length, positi
 ghost use Rattle.std.specs.Ordering.{int_eq};
 ghost use Rattle.pl_lifetimes.specs.Assets.{sid_of};
 
-use pl_lifetimes::Assets;
 use pl_calendar::Sessions;
+use pl_lifetimes::Assets;
 use pl_spec::BarRow;
 
 /// The session of a day, if the day has one.

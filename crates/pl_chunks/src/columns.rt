@@ -10,9 +10,9 @@ ghost use Rattle.pl_chunks.specs.Chunks.{columns_of, lives_within};
 
 use crate::lows::least_low;
 use crate::pieces::Chunk;
-use pl_world::World;
 use pl_planner::Plan;
 use pl_terms::Checked;
+use pl_world::World;
 
 /// Puts the columns of the assets of a chunk, which exist on a session on which a used term is computed, in
 /// place of those that are there. It takes no memory: there is room for all assets.

@@ -9,9 +9,9 @@ ghost use Rattle.pl_chunks.specs.Room.{HasRoom, IsMost};
 
 use crate::columns::put_columns;
 use crate::pieces::{Chunk, chunk_at, chunk_count};
-use pl_world::World;
 use pl_planner::Plan;
 use pl_terms::{Checked, TermId};
+use pl_world::World;
 
 /// The greatest number of cells that an array of a term or of a bar column has in a chunk of at most `size`
 /// sessions. `cols` is used for the assets of the chunks.

@@ -18,11 +18,11 @@ use crate::job::Job;
 use crate::rows::Rows;
 use pl_cross::Cross;
 use pl_fixed::Steps;
-use pl_world::World;
-use pl_world::laws::parts_make_a_world;
 use pl_planner::Plan;
 use pl_terms::{Checked, TermId};
 use pl_workspace::Workspace;
+use pl_world::World;
+use pl_world::laws::parts_make_a_world;
 use std::sync::ledger::Ledger;
 
 /// The sessions from one to another.

@@ -8,10 +8,10 @@ ghost use Rattle.pl_exec.specs.Slotted.{IsHeld};
 ghost use Rattle.pl_exec.specs.Tasks.{IsArray, graph_in, low_in};
 ghost use Rattle.pl_exec.specs.Jobs.{IsJob, task_of};
 
-use pl_world::World;
 use pl_planner::Plan;
 use pl_terms::{Checked, Input, Node, TermId, TermKind};
 use pl_workspace::Workspace;
+use pl_world::World;
 
 /// The sessions from one to another of a planned pipeline, for the assets in some columns.
 #[derive(Clone, Copy)]

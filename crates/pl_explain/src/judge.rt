@@ -16,10 +16,10 @@ ghost use Rattle.pl_explain.specs.Judging.{IsPlace, IsTable, IsUsedTerm, TellsLi
 
 use pl_fixed::{Column, MISSING, Memory, Steps};
 use pl_lines::{Derivation, Line};
-use pl_world::World;
 use pl_step::{seen_cells, value_told};
 use pl_terms::{Checked, TermId};
 use pl_told::{Fact, Rows, Told};
+use pl_world::World;
 use std::alloc::Global;
 use std::sync::ledger::Ledger;
 

@@ -12,10 +12,10 @@ ghost use Rattle.pl_told.specs.Keys.{fact_of};
 ghost use Rattle.pl_explain.specs.Reading.{ArePut, IsRoomy};
 
 use pl_fixed::{Column, Memory};
-use pl_world::{World, exists, input_at};
 use pl_terms::{Checked, Input, Node, TermId};
 use pl_told::Fact;
 use pl_values::{Family, family_of};
+use pl_world::{World, exists, input_at};
 use std::alloc::Global;
 
 /// The mask of a term for an asset on a session, where it has one.

@@ -26,12 +26,12 @@ use crate::judge::{col_of, last_of};
 use crate::reads::{facts_read, mask_read};
 use pl_fixed::{Column, Memory, Steps};
 use pl_lines::{CellList, Derivation, ExplainError, Line, MOST_LINES};
-use pl_world::laws::parts_make_a_world;
-use pl_world::{World, exists};
 use pl_step::{mask_told, seen_cells, value_told};
 use pl_terms::{Checked, TermId};
 use pl_told::{Fact, Rows, Told};
 use pl_values::{Family, family_of};
+use pl_world::laws::parts_make_a_world;
+use pl_world::{World, exists};
 use std::alloc::Global;
 use std::sync::ledger::Ledger;
 

@@ -6,10 +6,10 @@ ghost use Rattle.pl_feed.specs.Desks.{IsDesk};
 
 use pl_daily::Daily;
 use pl_fixed::Memory;
-use pl_world::World;
 use pl_rings::{DayBar, DayEvent};
 use pl_table::Line;
 use pl_terms::Checked;
+use pl_world::World;
 use std::alloc::Global;
 
 /// All that a run works with: the daily evaluation, the bars and the adjustments of a day, and a line of the

@@ -9,8 +9,8 @@ ghost use Rattle.pl_feed.specs.Days.{IsFed};
 use crate::handed::{fill_bars, fill_events};
 use pl_daily::Daily;
 use pl_fixed::Steps;
-use pl_world::World;
 use pl_rings::{Day, DayBar, DayEvent};
+use pl_world::World;
 use std::sync::ledger::Ledger;
 
 /// Feeds a session, before which all earlier ones were fed. What is handed in takes the place of what is

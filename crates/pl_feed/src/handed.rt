@@ -10,8 +10,8 @@ ghost use Rattle.pl_feed.specs.Days as spec;
 
 use pl_adjust::Adjust;
 use pl_bars::Bars;
-use pl_world::World;
 use pl_rings::{DayBar, DayEvent};
+use pl_world::World;
 
 // The bar of the asset in a column; its cells are missing where there is none.
 fn bar_at(bars: &Bars, col: usize, session: usize) -> DayBar

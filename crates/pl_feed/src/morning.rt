@@ -1,8 +1,8 @@
 //! A session that was fed last.
 
 use pl_daily::Daily;
-use pl_world::World;
 use pl_terms::Checked;
+use pl_world::World;
 
 /// A session of a world that was fed last, and has values.
 #[derive(Clone, Copy)]

@@ -13,13 +13,13 @@ ghost use Rattle.pl_feed.specs.Mornings.{IsMorning, asked_rows, pipeline_in, sid
 
 use crate::morning::Morning;
 use pl_daily::Daily;
-use pl_world::World;
-use pl_world::laws::parts_make_a_world;
 use pl_outside::{Failed, Sink, write_bytes};
 use pl_planner::Plan;
 use pl_spec::Format;
 use pl_table::{Line, put_cell, put_date, put_sid, writing_of};
 use pl_terms::Checked;
+use pl_world::World;
+use pl_world::laws::parts_make_a_world;
 
 /// Writes the rows of the session that was fed last, each in one piece, where it is of the plan's range.
 pub(crate) fn write_asked<O: Sink>(

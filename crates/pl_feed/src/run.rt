@@ -15,12 +15,12 @@ use crate::desk::Desk;
 use crate::feed::feed;
 use crate::rows::write_asked;
 use pl_fixed::Steps;
-use pl_world::World;
 use pl_outside::{Failed, Sink, write_bytes};
 use pl_planner::Plan;
 use pl_spec::Format;
 use pl_table::{RunError, make_header};
 use pl_terms::Checked;
+use pl_world::World;
 use std::alloc::Global;
 use std::sync::ledger::Ledger;
 

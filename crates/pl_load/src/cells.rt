@@ -9,10 +9,10 @@ ghost use Rattle.pl_load.specs.Celled.{IsCellLoad, IsExplainable};
 use crate::inputs::read_checked;
 use crate::loading::read_world;
 use pl_judge::{CellPlace, Fault, judge_cell};
-use pl_world::OwnedWorld;
 use pl_outside::{AdjustKeeper, Shelf};
 use pl_terms::Checked;
 use pl_words::ExplainRequest;
+use pl_world::OwnedWorld;
 use std::alloc::Global;
 
 /// A cell, and the pipeline and the world that it is of.

@@ -11,10 +11,10 @@ use crate::inputs::{read_checked, read_derivation};
 use crate::loading::read_world;
 use pl_judge::Fault;
 use pl_lines::Derivation;
-use pl_world::OwnedWorld;
 use pl_outside::{AdjustKeeper, Shelf};
 use pl_terms::Checked;
 use pl_words::VerifyRequest;
+use pl_world::OwnedWorld;
 use std::alloc::Global;
 
 /// The lines of a derivation, and the pipeline and the world of which they tell.

@@ -18,11 +18,11 @@ use pl_assets::{Assets, Labels};
 use pl_bars::Bars;
 use pl_calendar::Sessions;
 use pl_judge::{Fault, judge_dates, judge_plan};
-use pl_world::{OwnedWorld, asof_world};
 use pl_outside::{AdjustKeeper, Shelf};
 use pl_planner::Plan;
 use pl_terms::Checked;
 use pl_words::{RunRequest, WorldNames};
+use pl_world::{OwnedWorld, asof_world};
 use std::alloc::Global;
 
 /// What was read and judged, and is left to write: the table of a pipeline over its world, by a plan.

@@ -3,10 +3,10 @@ ghost use Rattle.pl_records.specs.RuleTable.{lacks};
 ghost use Rattle.pl_revisions.specs.Revisions.{col_in, is_soon, revision_in, session_in};
 
 use crate::Revision;
-use pl_lifetimes::Assets;
 use pl_bars::{read_cell, read_column};
 use pl_calendar::Sessions;
 use pl_fixed::{read_day, read_sid};
+use pl_lifetimes::Assets;
 use pl_records::Records;
 
 // The revision of the record that was read last, where its fields are those of one.

@@ -14,9 +14,9 @@ mod reading;
 mod rows;
 
 pub use error::RevisionsError;
-use pl_lifetimes::Assets;
 use pl_calendar::Sessions;
 use pl_fixed::Column;
+use pl_lifetimes::Assets;
 use std::alloc::Global;
 
 /// How many revisions a file may have.

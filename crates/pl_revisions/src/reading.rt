@@ -8,9 +8,9 @@ use crate::error::RevisionsError;
 use crate::fields::{is_soon, lacks_asset, lacks_session, revision_of};
 use crate::rows::Rows;
 use crate::{MOST_REVISIONS, Revision};
-use pl_lifetimes::Assets;
 use pl_bars::is_below_0;
 use pl_calendar::Sessions;
+use pl_lifetimes::Assets;
 use pl_records::Records;
 use std::alloc::Global;
 

@@ -9,11 +9,11 @@ use pl_chunks::longest_array;
 use pl_cross::Cross;
 use pl_exec::Rows;
 use pl_fixed::Memory;
-use pl_world::World;
 use pl_planner::Plan;
 use pl_table::{Line, tile_len};
 use pl_terms::Checked;
 use pl_workspace::Workspace;
+use pl_world::World;
 use std::alloc::Global;
 
 /// All that a run works with, of the size that its largest chunk needs: the slots of the arrays, a

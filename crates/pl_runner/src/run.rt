@@ -21,13 +21,13 @@ use crate::release::release_outputs;
 use pl_chunks::{Chunk, chunk_at, chunk_count, put_columns};
 use pl_exec::{Chunk as Sessions, ChunkReport, execute_chunk};
 use pl_fixed::Steps;
-use pl_world::World;
-use pl_world::laws::parts_make_a_world;
 use pl_outside::{Failed, Sink, write_bytes};
 use pl_planner::Plan;
 use pl_spec::Format;
 use pl_table::{Outcome, RunError, Totals, make_header, write_rows};
 use pl_terms::Checked;
+use pl_world::World;
+use pl_world::laws::parts_make_a_world;
 use std::alloc::Global;
 use std::sync::ledger::Ledger;
 

@@ -6,10 +6,10 @@ ghost use Rattle.pl_terms.specs.Uses.{outputs};
 ghost use Rattle.pl_values.specs.Arrays.{cell_of};
 ghost use Rattle.pl_table.specs.Outcomes.{IsOutcome, IsWithin, pipeline_in, sids_in, world_in};
 
-use pl_world::World;
 use pl_planner::Plan;
 use pl_terms::{Checked, TermId};
 use pl_workspace::Workspace;
+use pl_world::World;
 
 /// The sessions from one to another of a planned pipeline, computed for the assets in some columns: each
 /// output's values stand in its slot of the workspace.
