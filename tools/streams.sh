@@ -5,7 +5,7 @@
 # The program is crates/pl_main/out/pl_main, or the one that TOHMERIL names. Without one it says so and ends with 0.
 set -u
 top=$(cd "$(dirname "$0")/.." && pwd)
-program=$(realpath "${TOHMERIL:-$top/crates/pl_main/out/pl_main}")
+program=$(realpath -m "${TOHMERIL:-$top/crates/pl_main/out/pl_main}")
 [ -x "$program" ] || { echo "streams: not tried, there is no program $program"; exit 0; }
 folder=$(mktemp -d)
 trap 'rm -rf "$folder"' EXIT
