@@ -73,7 +73,7 @@ def momentum(market, day, before):
     year = close.iloc[-1] / close.iloc[0] - 1
     month = close.iloc[-1] / close.iloc[-22] - 1
     liquid = dollars(market, day, 30)[sids].rank(ascending=False, method="first") <= 15
-    value = (year - month)[sids]
+    value = ((1 + year) / (1 + month) - 1)[sids]
     listed = value[liquid].dropna()
     sector = market.label(day).reindex(sids)
     place = listed.groupby(sector.reindex(listed.index)).rank(ascending=False, method="first")
