@@ -1,10 +1,16 @@
-# Completions for bash: source this file, or put it into /etc/bash_completion.d.
+# Completions for bash: source this file, or put it into ~/.local/share/bash-completion/completions under the name tohmeril.
 _tohmeril() {
     local word=${COMP_WORDS[COMP_CWORD]} before=${COMP_WORDS[COMP_CWORD - 1]} command=${COMP_WORDS[1]-}
     COMPREPLY=()
     if [ "$COMP_CWORD" -eq 1 ]; then
         mapfile -t COMPREPLY < <(compgen -W "run daily plan check fmt payouts explain verify bench" -- "$word")
         return
+    fi
+    # bash takes the = of --format=csv for a word of its own
+    if [ "$word" = = ]; then
+        word=
+    elif [ "$before" = = ]; then
+        before=${COMP_WORDS[COMP_CWORD - 2]}
     fi
     case $before in
         --format)
