@@ -81,14 +81,15 @@ same() {
     if cmp -s "$file" "$work/out"; then pass; else fail "$what" && diff "$file" "$work/out" | head -n 20; fi
 }
 
-# Runs a command of a page and compares what it prints.
+# Runs a command of a page and compares what it prints. Where a tool is lacking, the rest of its block is left out.
 run_command() {
     local status=0
     case $2 in
         "cd "*) where=$where/${2#cd } && return ;;
-        python3*) [ -n "$python" ] || return 0 ;;
+        python3*) [ -n "$python" ] || skipped=yes ;;
         git*) [ -n "$git_folder" ] || return 0 ;;
     esac
+    [ "$skipped" = no ] || return 0
     (cd "$where" && eval "$2") > "$work/got" 2>&1 < /dev/null || status=$?
     if matches "$work/wanted" "$work/got" && { [ "$status" = 0 ] || [ -s "$work/wanted" ]; }; then
         pass
@@ -103,7 +104,7 @@ run_page() {
     copy
     while IFS= read -r line; do
         case $inside:$line in
-            'no:```console') inside=yes command="" where=$work/copy ;;
+            'no:```console') inside=yes command="" where=$work/copy skipped=no ;;
             'yes:$ '* | 'yes:```')
                 [ -z "$command" ] || run_command "$1" "$command"
                 command=${line#\$ }
