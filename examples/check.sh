@@ -2,8 +2,8 @@
 # Runs the examples of all pages, and the recipes, over the built program, and prints what differs.
 #
 # In README.md, docs/*.md and examples/README.md a block ```console has commands after `$ ` and what each prints; a line `..` there
-# stands for any lines. Each block begins at the top of a copy of the checkout, in which a page leaves its files. The tables of
-# docs/LANGUAGE.md and docs/TERMS.md are tried too. The examples of python/README.md and docs/ZIPLINE.md are run by python/check.sh.
+# stands for any lines. Each block begins at the top of a copy of the checkout, in which a page leaves its files. Blocks ```python
+# are run too, and the tables of docs/LANGUAGE.md and docs/TERMS.md. The examples of python/README.md and docs/ZIPLINE.md are run by python/check.sh.
 #
 # The program is crates/pl_main/out/pl_main, or the one that TOHMERIL names; without one this says so and ends with 0. What asks for
 # a tool that is not there is left out, and the tool is named.
@@ -99,12 +99,21 @@ run_command() {
     fi
 }
 
+# Runs a block of Python, which a page of doctests is not made of.
+run_python() {
+    [ -n "$python" ] && ! grep -q '^>>>' block.py || return 0
+    try "$1: a block of Python" "$python" block.py
+}
+
 run_page() {
     local line command="" inside=no
     copy
     while IFS= read -r line; do
         case $inside:$line in
             'no:```console') inside=yes command="" where=$work/copy skipped=no ;;
+            'no:```python') inside=python && : > block.py ;;
+            'python:```') inside=no && run_python "$1" ;;
+            python:*) printf '%s\n' "$line" >> block.py ;;
             'yes:$ '* | 'yes:```')
                 [ -z "$command" ] || run_command "$1" "$command"
                 command=${line#\$ }

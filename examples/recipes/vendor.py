@@ -34,7 +34,7 @@ own = run_pipeline(Pipeline({"change": Returns(window_length=2)}), data.sessions
 adjusted = prices.assign(day=pd.to_datetime(prices.date).dt.strftime("%Y-%m-%d")).pivot(index="day", columns="ticker", values="adjClose")
 theirs = adjusted.pct_change(fill_method=None).shift().set_axis(pd.to_datetime(adjusted.index))
 gaps = (own - theirs.loc[own.index, own.columns]).abs().stack()
-print(f"{len(gaps)} changes of closes are compared with the vendor's, the greatest gap is {gaps.max():.6f}")
+print(f"{len(gaps)} changes of closes are compared with the vendor's, the greatest gap is {gaps.max():.7f}")
 far = gaps[gaps > 0.0005]
 if len(far):
     print(f"{len(far)} are farther apart than 0.0005:", far.sort_values().tail(10).to_string(), sep="\n")
