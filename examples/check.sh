@@ -55,6 +55,7 @@ copy() {
 matches() {
     awk 'NR == FNR { want[n++] = $0; next } { got[m++] = $0 }
         END {
+            i = j = 0
             while (i < n) {
                 if (want[i] == "..") {
                     if (++i == n) exit 0
@@ -62,7 +63,7 @@ matches() {
                 }
                 if (j >= m || got[j++] != want[i++]) exit 1
             }
-            exit j < m
+            exit (j < m)
         }' "$1" "$2"
 }
 
@@ -125,9 +126,20 @@ run_page() {
     done < "$top/$1"
 }
 
+# answers TEXT LINE: what `check` says of a text.
+answers() {
+    printf '%s' "$1" > text.pl
+    "$program" check text.pl > "$work/out" 2>&1
+    if [ "$(cat "$work/out")" = "$2" ]; then pass; else fail "docs/LANGUAGE.md: $2" && head -n 5 "$work/out"; fi
+}
+
 # The tables of docs/LANGUAGE.md: texts with the place of their fault, and texts with their printed form.
 language() {
     local text answer line column fault
+    answers "pipeline 1;"$'\n'"column x = $(printf '(%.0s' {1..33})" "text.pl:2:44: syntax TooDeep"
+    answers "pipeline 1;"$'\n'"$(printf 'column c%s = 1;\n' {1..65})" "limit: columns"
+    answers "pipeline 1;"$'\n'"$(seq 257 | sed 's/.*/let a& = &;/')" "limit: terms"
+    answers $'pipeline 1;\nlet b = 1;\n\n' "text.pl:4:1: check NoColumn"
     while IFS=$'\t' read -r text answer; do
         printf 'pipeline 1;\n%s\n' "$text" > text.pl
         case $text in *screen\ a | *\"ab) printf 'pipeline 1;\n%s' "$text" > text.pl ;; esac
