@@ -214,7 +214,11 @@ mornings() {
     printf 'sid,start,end\n1,2024-01-02,2024-01-09\n' > news/assets.csv
     rm -f news/bars.csv
     "$recipe/morning.sh" store news 2024-01-10 2> said > /dev/null || fail "morning.sh: a day more"
-    holds "morning.sh: an end that is reached" grep 'the end of asset 1 was 2024-01-09' said
+    holds "morning.sh: an end that is reached" grep 'no row from 2024-01-10 on: 1;' said
+    printf 'sid,session,open,high,low,close,volume\n7,2024-01-10,1,1,1,1,1\n' > news/bars.csv
+    cp store/bars.csv before.csv
+    holds "morning.sh: news with a fault" bash -c '! "$@"' - "$recipe/morning.sh" store news 2024-01-11
+    holds "morning.sh: news with a fault leave the store" cmp before.csv store/bars.csv
     holds "morning.sh: a day before the last session" bash -c '! "$@"' - "$recipe/morning.sh" store news 2024-01-09
 }
 

@@ -6,40 +6,46 @@
 #   bars.csv, labels.csv, revisions.csv            rows to add, under the headers of those files
 #   assets.csv                                     new assets, and assets with another end, which replace those of the same sid
 #   splits.csv, mergers.csv, dividends.csv         as adjustments.sh takes them
-# TODAY is added to sessions.csv last, so a morning that is asked for again adds nothing. Assets whose end was the session before
-# today are named on standard error, since they have no row from today on. TOHMERIL names the program, if it is not on the path.
+# The program runs over the files with the news before they are put into STORE: where it finds a fault in them, STORE stays as it
+# was. A morning that is asked for again adds nothing. Assets whose end is reached are named on standard error, since they have no
+# row from today on. TOHMERIL names the program, if it is not on the path.
 set -euo pipefail
 if [ $# -ne 3 ]; then
     echo "usage: morning.sh STORE NEWS TODAY" >&2
     exit 2
 fi
-store=$(cd "$1" && pwd) news=$2 today=$3
+store=$(cd "$1" && pwd) news=$(cd "$2" && pwd) today=$3
 
-# Adds the rows of the news to a file.
+# Adds the rows of the news to a file of the folder.
 add_rows() {
     [ -e "$news/$1" ] || return 0
+    rm -f "$1"
     if [ -e "$store/$1" ]; then
-        cp "$store/$1" "$work/$1"
-        tail -n +2 "$news/$1" >> "$work/$1"
+        cp "$store/$1" "$1"
+        tail -n +2 "$news/$1" >> "$1"
     else
-        cp "$news/$1" "$work/$1"
+        cp "$news/$1" "$1"
     fi
 }
 
 # The lifetimes of the store, where the news has none for the sid, and then those of the news.
 replace_assets() {
     [ -e "$news/assets.csv" ] || return 0
+    rm assets.csv
     awk -F, 'NR == FNR { if (FNR > 1) { new[$1]; rows[++n] = $0 } next }
         !($1 in new)
-        END { for (i = 1; i <= n; i++) print rows[i] }' "$news/assets.csv" "$store/assets.csv" > "$work/assets.csv"
+        END { for (i = 1; i <= n; i++) print rows[i] }' "$news/assets.csv" "$store/assets.csv" > assets.csv
 }
 
 add_adjustments() {
     local table
     for table in splits mergers dividends; do
         [ -e "$news/$table.csv" ] || continue
-        [ -e "$work/adjustments.db" ] || cp "$store/adjustments.db" "$work"
-        sqlite3 "$work/adjustments.db" <<SQL
+        if [ -L adjustments.db ]; then
+            rm adjustments.db
+            cp "$store/adjustments.db" .
+        fi
+        sqlite3 adjustments.db <<SQL
 CREATE TABLE rows (date TEXT, num INTEGER, den INTEGER, sid INTEGER);
 .import --csv --skip 1 "$news/$table.csv" rows
 INSERT INTO $table (effective_date, num, den, sid) SELECT unixepoch(date), num, den, sid FROM rows ORDER BY rowid;
@@ -48,30 +54,47 @@ SQL
     done
 }
 
+# Today's rows, over the files of the current folder.
+run_today() {
+    local option options=()
+    for option in labels:labels.csv revisions:revisions.csv adjustments:adjustments.db; do
+        [ ! -e "${option#*:}" ] || options+=("--${option%%:*}" "${option#*:}")
+    done
+    "${TOHMERIL:-tohmeril}" run p.pl sessions.csv assets.csv bars.csv "$today" "$today" "${options[@]}"
+}
+
 last=$(tail -n 1 "$store/sessions.csv" | tr -d '\r')
-if [ "$today" != "$last" ]; then
-    if [[ ! $today =~ ^[0-9]{4}-[0-9]{2}-[0-9]{2}$ || $today < $last ]]; then
-        echo "morning: $today is no day after $last, the last session" >&2
-        exit 2
-    fi
-    work=$(mktemp -d "$store/morning.XXXXXX")
-    trap 'rm -rf "$work"' EXIT
-    for file in bars labels revisions; do
-        add_rows "$file.csv"
-    done
-    replace_assets
-    add_adjustments
-    for file in "$work"/*; do
-        [ ! -e "$file" ] || mv "$file" "$store"
-    done
-    echo "$today" >> "$store/sessions.csv"
+if [ "$today" = "$last" ]; then
+    cd "$store"
+    run_today
+    exit
 fi
-cd "$store"
-before=$(tail -n 2 sessions.csv | head -n 1 | tr -d '\r')
-tr -d '\r' < assets.csv | awk -F, -v before="$before" -v today="$today" '$3 >= before && $3 < today {
-    print "morning: the end of asset " $1 " was " $3 ": it has no row from " today " on; if it still trades, give it a later end" }' >&2
-options=()
-for option in labels:labels.csv revisions:revisions.csv adjustments:adjustments.db; do
-    [ ! -e "${option#*:}" ] || options+=("--${option%%:*}" "${option#*:}")
+if [[ ! $today =~ ^[0-9]{4}-[0-9]{2}-[0-9]{2}$ || $today < $last ]]; then
+    echo "morning: $today is no day after $last, the last session" >&2
+    exit 2
+fi
+work=$(mktemp -d "$store/morning.XXXXXX")
+trap 'rm -rf "$work"' EXIT
+cd "$work"
+for file in p.pl assets.csv bars.csv labels.csv revisions.csv adjustments.db; do
+    [ ! -e "$store/$file" ] || ln -s "$store/$file" "$file"
 done
-"${TOHMERIL:-tohmeril}" run p.pl sessions.csv assets.csv bars.csv "$today" "$today" "${options[@]}"
+for file in bars labels revisions; do
+    add_rows "$file.csv"
+done
+replace_assets
+add_adjustments
+cp "$store/sessions.csv" sessions.csv
+echo "$today" >> sessions.csv
+status=0
+run_today > rows || status=$?
+# with status 5 there are fewer sessions so far than the windows read
+[ "$status" -eq 0 ] || [ "$status" -eq 5 ] || exit "$status"
+ended=$(tr -d '\r' < assets.csv | awk -F, -v last="$last" -v today="$today" '$3 >= last && $3 < today { printf " %s", $1 }')
+[ -z "$ended" ] || echo "morning: the end of these assets is reached, so that they have no row from $today on:$ended;" \
+    "give those that still trade a later end" >&2
+for file in assets.csv bars.csv labels.csv revisions.csv adjustments.db sessions.csv; do
+    [ -L "$file" ] || [ ! -e "$file" ] || mv "$file" "$store"
+done
+cat rows
+exit "$status"
