@@ -14,7 +14,7 @@ program=$(realpath -m "${TOHMERIL:-$top/crates/pl_main/out/pl_main}")
 command -v sqlite3 > /dev/null || { echo "examples: not run, there is no sqlite3"; exit 0; }
 work=$(mktemp -d)
 trap 'rm -rf "$work"' EXIT
-mkdir "$work/bin" "$work/copy"
+mkdir "$work/bin" "$work/copy" "$work/home"
 passed=0 failed=0 lacking=()
 
 # The tools as the pages call them: the program, and a Python that has pandas.
@@ -27,6 +27,7 @@ for each in python3 /usr/bin/python3; do
         chmod +x "$work/bin/python3"
     fi
 done
+export PYTHONUSERBASE=${PYTHONUSERBASE:-$HOME/.local} HOME=$work/home
 export PATH=$work/bin:$PATH TOHMERIL=$program PYTHONDONTWRITEBYTECODE=1 PYTHONPATH=$work/copy/python TMPDIR=$work
 export MPLCONFIGDIR=$work DASK_CONFIG=$work DASK_TEMPORARY_DIRECTORY=$work
 git_folder=$(git -C "$top" rev-parse --absolute-git-dir 2> /dev/null) && export GIT_DIR=$git_folder
@@ -43,8 +44,8 @@ has() { [ -n "$python" ] && "$python" -c "import $1" 2> /dev/null; }
 
 # A fresh copy of what the pages speak of, in which ./tohmeril is the built program.
 copy() {
-    rm -rf "$work/copy"
-    mkdir -p "$work/copy/crates/pl_main/out"
+    rm -rf "$work/copy" "${work:?}/home"
+    mkdir -p "$work/home" "$work/copy/crates/pl_main/out"
     cp -r "$top/README.md" "$top/docs" "$top/examples" "$top/python" "$work/copy"
     ln -s "$program" "$work/copy/tohmeril"
     ln -s "$program" "$work/copy/crates/pl_main/out/pl_main"
@@ -86,7 +87,7 @@ same() {
 run_command() {
     local status=0
     case $2 in
-        "cd "*) where=$where/${2#cd } && return ;;
+        "cd "*) where=$(cd "$where" && eval "$2" && pwd) && return ;;
         python3*) [ -n "$python" ] || skipped=yes ;;
         git*) [ -n "$git_folder" ] || return 0 ;;
     esac
