@@ -27,7 +27,7 @@ for each in python3 /usr/bin/python3; do
         chmod +x "$work/bin/python3"
     fi
 done
-export PYTHONUSERBASE=${PYTHONUSERBASE:-$HOME/.local} HOME=$work/home
+export PYTHONUSERBASE=${PYTHONUSERBASE:-${HOME:-/nowhere}/.local} HOME=$work/home
 export PATH=$work/bin:$PATH TOHMERIL=$program PYTHONDONTWRITEBYTECODE=1 PYTHONPATH=$work/copy/python TMPDIR=$work
 export MPLCONFIGDIR=$work DASK_CONFIG=$work DASK_TEMPORARY_DIRECTORY=$work
 git_folder=$(git -C "$top" rev-parse --absolute-git-dir 2> /dev/null) && export GIT_DIR=$git_folder
@@ -171,7 +171,7 @@ same_words() {
     sed -n 's/.*options="\(.*\)".*/\1/p' docs/tohmeril.bash | tr ' ' '\n' | sort -u > "$work/got"
     holds "the options of docs/tohmeril.bash" cmp "$work/options" "$work/got"
     if command -v man > /dev/null; then
-        holds "the manual page has warnings" test -z "$(man -l --warnings docs/tohmeril.1 2>&1 > /dev/null)"
+        holds "the manual page has warnings" test -z "$(LC_ALL=C.UTF-8 man -l --warnings docs/tohmeril.1 2>&1 > /dev/null)"
     else
         lack man
     fi

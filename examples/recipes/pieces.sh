@@ -19,7 +19,7 @@ sessions=$1 from=$2 to=$3 count=$4
 shift 4
 
 # FROM and TO have to be sessions, as for a run
-list=$(tr -d '\r"' < "$sessions" | awk -v from="$from" -v to="$to" -v count="$count" '
+list=$(tr -d '\r"' < "$sessions" | LC_ALL=C awk -v from="$from" -v to="$to" -v count="$count" '
     NR == 1 { sub(/^\357\273\277/, "") }
     $1 == from { begins = 1 }
     $1 == to { ends = 1 }
