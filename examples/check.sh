@@ -2,10 +2,10 @@
 # Runs the examples of all pages, and the recipes, over the built program, and prints what differs.
 #
 # In README.md, docs/*.md and examples/README.md a block ```console has commands after `$ ` and what each prints; a line `..` there
-# stands for any lines. Each block begins at the top of a copy of the checkout, in which a page leaves its files. Blocks ```python
+# means any lines. Each block begins at the top of a copy of the checkout, in which a page leaves its files. Blocks ```python
 # are run too, and the tables of docs/LANGUAGE.md and docs/TERMS.md. The examples of python/README.md and docs/ZIPLINE.md are run by python/check.sh.
 #
-# The program is crates/pl_main/out/pl_main, or the one that TOHMERIL names; without one this says so and ends with 0. What asks for
+# The program is crates/pl_main/out/pl_main, or the one that TOHMERIL names; without one this says so and ends with 0. What needs
 # a tool that is not there is left out, and the tool is named.
 set -u
 top=$(cd "$(dirname "${BASH_SOURCE[0]}")/.." && pwd)
@@ -52,7 +52,7 @@ copy() {
     cd "$work/copy" || exit 1
 }
 
-# Whether the lines of the second file are those of the first, where `..` stands for any.
+# Whether the lines of the second file are those of the first, where `..` means any.
 matches() {
     awk 'NR == FNR { want[n++] = $0; next } { got[m++] = $0 }
         END {

@@ -2,7 +2,7 @@
 """The files of a run from wide CSV files, as most data comes: a row for each session, a column for each symbol.
 
 Usage: bars.py FOLDER close.csv volume.csv .. Each file is named by what it holds: open, high, low, close or volume. Prices are as
-they were quoted on their day; an empty field is a missing value. It asks for the package in python/, whose Data.write takes
+they were quoted on their day; an empty field is a missing value. It needs the package in python/, whose Data.write takes
 splits, dividends, labels and revisions too.
 """
 import sys

@@ -7,7 +7,7 @@
 #   assets.csv                                     new assets, and assets with another end, which replace those of the same sid
 #   splits.csv, mergers.csv, dividends.csv         as adjustments.sh takes them
 # The program runs over the files with the news before they are put into STORE: where it finds a fault in them, STORE stays as it
-# was. A morning that is asked for again adds nothing. Assets whose end is reached are named on standard error, since they have no
+# was. A second call for the same morning adds nothing. Assets whose end is reached are named on standard error, since they have no
 # row from today on. TOHMERIL names the program, if it is not on the path.
 set -euo pipefail
 if [ $# -ne 3 ]; then

@@ -6,8 +6,8 @@ Usage: vendor.py SOURCE TARGET. SOURCE is a folder as examples/vendor, with thes
   splits.csv      date,ticker,split: 20:1 is twenty new shares for an old one
   dividends.csv   ex_date,ticker,amount: cash, in the money of the prices
   sectors.csv     date,ticker,sector: from the date on
-TARGET becomes the folder of a run. Tickers get sids in alphabetic order, which TARGET/symbols.csv tells. Where the vendor's
-columns have other names, rename them below. It asks for the package in python/.
+TARGET becomes the folder of a run. Tickers get sids in alphabetic order, which are in TARGET/symbols.csv. Where the vendor's
+columns have other names, rename them below. It needs the package in python/.
 """
 import sys
 from pathlib import Path
