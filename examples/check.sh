@@ -1,12 +1,13 @@
 #!/usr/bin/env bash
 # Runs the examples of all pages, and the recipes, over the built program, and prints what differs.
 #
-# In README.md, docs/*.md and examples/README.md a block ```console has commands after `$ ` and what each prints; a line `..` there
-# means any lines. Each block begins at the top of a copy of the checkout, in which a page leaves its files. Blocks ```python
-# are run too, and the tables of docs/LANGUAGE.md and docs/TERMS.md. The examples of python/README.md and docs/ZIPLINE.md are run by python/check.sh.
+# In README.md, docs/*.md and examples/README.md a block ```console has commands after `$ ` and what each
+# prints; a line `..` there means any lines. Each block begins at the top of a copy of the checkout, in which
+# a page leaves its files. Blocks ```python are run too, and the tables of docs/LANGUAGE.md and docs/TERMS.md.
+# The examples of python/README.md and docs/ZIPLINE.md are run by python/check.sh.
 #
-# The program is crates/pl_main/out/pl_main, or the one that TOHMERIL names; without one this says so and ends with 0. What needs
-# a tool that is not there is left out, and the tool is named.
+# The program is crates/pl_main/out/pl_main, or the one that TOHMERIL names; without one this says so and ends
+# with 0. What needs a tool that is not there is left out, and the tool is named.
 set -u
 top=$(cd "$(dirname "${BASH_SOURCE[0]}")/.." && pwd)
 program=$(realpath -m "${TOHMERIL:-$top/crates/pl_main/out/pl_main}")
@@ -83,7 +84,8 @@ same() {
     if cmp -s "$file" "$work/out"; then pass; else fail "$what" && diff "$file" "$work/out" | head -n 20; fi
 }
 
-# Runs a command of a page and compares what it prints. Where a tool is lacking, the rest of its block is left out.
+# Runs a command of a page and compares what it prints. Where a tool is lacking, the rest of its block is left
+# out.
 run_command() {
     local status=0
     case $2 in

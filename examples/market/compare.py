@@ -1,8 +1,10 @@
 #!/usr/bin/env python3
-"""Computes the tables of this folder once more with pandas, in floats, and compares them with those beside it.
+"""Computes the tables of this folder once more with pandas, in floats, and compares them with those beside
+it.
 
-Usage: compare.py FOLDER. It needs pandas and nothing of the program. For each table it prints how many numbers there are, how
-many differ in the sixth decimal, and the greatest difference; texts, truth values and rows have to be the same.
+Usage: compare.py FOLDER. It needs pandas and nothing of the program. For each table it prints how many
+numbers there are, how many differ in the sixth decimal, and the greatest difference; texts, truth values and
+rows have to be the same.
 """
 import sqlite3
 import sys

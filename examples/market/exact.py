@@ -1,8 +1,9 @@
 #!/usr/bin/env python3
 """Computes momentum.csv once more with fractions, by the rules of docs/TERMS.md, and compares it to the byte.
 
-Usage: exact.py FOLDER, a folder with the files of this one. It uses nothing but Python itself and nothing of the program. Each
-step is exact and rounded once, to the nearest millionth, ties away from zero; a standard deviation is rounded down.
+Usage: exact.py FOLDER, a folder with the files of this one. It uses nothing but Python itself and nothing of
+the program. Each step is exact and rounded once, to the nearest millionth, ties away from zero; a standard
+deviation is rounded down.
 """
 import csv
 import datetime

@@ -1,8 +1,8 @@
 #!/usr/bin/env python3
 """Writes the files of a small made-up market: 20 assets over a year and a half of sessions.
 
-Usage: make.py FOLDER. The same files come out each time. Prices are in whole cents, as they were quoted on their day, so that a
-split or a dividend shows in them as a fall.
+Usage: make.py FOLDER. The same files come out each time. Prices are in whole cents, as they were quoted on
+their day, so that a split or a dividend shows in them as a fall.
 """
 import datetime
 import random

@@ -1,9 +1,10 @@
 #!/usr/bin/env python3
 """A range in pieces on the workers of a Dask cluster, joined to the table of the whole.
 
-Usage: cluster.py PIPELINE FOLDER FROM TO [SCHEDULER]. Without the address of a scheduler it starts two workers of its own. It asks
-for the package in python/ and for dask.distributed. Workers on other machines need the package, the program and the data under
-the same paths. `run_pipeline` with the same `executor` gives a frame in place of the text.
+Usage: cluster.py PIPELINE FOLDER FROM TO [SCHEDULER]. Without the address of a scheduler it starts two
+workers of its own. It asks for the package in python/ and for dask.distributed. Workers on other machines
+need the package, the program and the data under the same paths. `run_pipeline` with the same `executor` gives
+a frame in place of the text.
 """
 import sys
 from pathlib import Path

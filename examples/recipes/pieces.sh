@@ -1,15 +1,17 @@
 #!/usr/bin/env bash
 # A long range in pieces, one process each, joined to the table of the whole.
 #
-#   pieces.sh SESSIONS FROM TO PIECES               prints the pieces: a line with the first and the last session of each
-#   pieces.sh SESSIONS FROM TO PIECES COMMAND ..    runs COMMAND FIRST LAST for all pieces at once, and prints their joined table
+#   pieces.sh SESSIONS FROM TO PIECES               prints the pieces: the first and the last session of each
+#   pieces.sh SESSIONS FROM TO PIECES COMMAND ..    runs COMMAND FIRST LAST for all pieces at once, and prints
+#                                                   their joined table
 #
 # COMMAND .. are the words of a run without its dates, for instance
-#   pieces.sh sessions.csv 2023-01-03 2023-12-29 4 tohmeril run p.pl sessions.csv assets.csv bars.csv --labels labels.csv
+#   pieces.sh sessions.csv 2023-01-03 2023-12-29 4 tohmeril run p.pl sessions.csv assets.csv bars.csv
 #
-# A row of a table depends on its own session and not on the range that is asked for, so the joined table is that of the whole
-# range, to the byte. Each process reads and holds all bars: take as many pieces as there are cores, and no more than fit in memory.
-# Where a piece fails, its line is on standard error, nothing is printed, and the status is that of the first piece that failed.
+# A row of a table depends on its own session and not on the range that is asked for, so the joined table is
+# that of the whole range, to the byte. Each process reads and holds all bars: take as many pieces as there
+# are cores, and no more than fit in memory. Where a piece fails, its line is on standard error, nothing is
+# printed, and the status is that of the first piece that failed.
 set -euo pipefail
 if [ $# -lt 4 ]; then
     echo "usage: pieces.sh SESSIONS FROM TO PIECES [COMMAND ..]" >&2
@@ -25,10 +27,14 @@ list=$(tr -d '\r"' < "$sessions" | LC_ALL=C awk -v from="$from" -v to="$to" -v c
     $1 == to { ends = 1 }
     $1 >= from && $1 <= to { day[n++] = $1 }
     END {
-        fault = !begins ? "NotSession " from : !ends ? "NotSession " to : n == 0 ? "Backwards" : count !~ /^[1-9][0-9]*$/ ? "pieces" : ""
-        if (fault) { print (fault == "pieces" ? "PIECES is a number from 1 on" : "range: " fault) > "/dev/stderr"; exit 5 }
-        for (i = 0; i < count; i++)
-            if (int(n * i / count) < int(n * (i + 1) / count)) print day[int(n * i / count)], day[int(n * (i + 1) / count) - 1]
+        fault = !begins ? "range: NotSession " from : !ends ? "range: NotSession " to : n == 0 ? "range: Backwards" : ""
+        if (!fault && count !~ /^[1-9][0-9]*$/) fault = "PIECES is a number from 1 on"
+        if (fault) { print fault > "/dev/stderr"; exit 5 }
+        for (i = 0; i < count; i++) {
+            first = int(n * i / count)
+            last = int(n * (i + 1) / count) - 1
+            if (first <= last) print day[first], day[last]
+        }
     }')
 if [ $# -eq 0 ]; then
     echo "$list"

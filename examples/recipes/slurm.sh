@@ -1,5 +1,6 @@
 #!/usr/bin/env bash
-# A range in pieces as an array of Slurm jobs, in a folder that all machines see, with the program on the path:
+# A range in pieces as an array of Slurm jobs, in a folder that all machines see, with the program on the
+# path:
 #   pieces.sh sessions.csv 2023-01-03 2023-12-29 4 > pieces
 #   sbatch --wait --array=1-4 slurm.sh
 #   awk 'NR == 1 || FNR > 1' piece-{1..4}.csv > table.csv

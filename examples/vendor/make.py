@@ -1,9 +1,9 @@
 #!/usr/bin/env python3
 """Writes the files of a made-up vendor: four tickers over 80 sessions, as many vendors give them.
 
-Usage: make.py FOLDER. The same files come out each time. Bars are raw, in whole cents; adjusted closes are computed backward from
-the last session in floats, as vendors do. One ticker is listed late, one has sessions without a bar, one splits 20:1, two pay
-dividends, one changes its sector.
+Usage: make.py FOLDER. The same files come out each time. Bars are raw, in whole cents; adjusted closes are
+computed backward from the last session in floats, as vendors do. One ticker is listed late, one has sessions
+without a bar, one splits 20:1, two pay dividends, one changes its sector.
 """
 import datetime
 import random
