@@ -225,47 +225,55 @@ mornings() {
     holds "morning.sh: a day before the last session" bash -c '! "$@"' - "$recipe/morning.sh" store news 2024-01-09
 }
 
-# Ranges in pieces: each way of running them gives the table of the whole.
-pieces() {
-    local recipes=$PWD/examples/recipes words status=0
+# A range of the market, and what each way of running it in pieces has to give: whole.csv, or plain.csv without adjustments.
+make_range() {
     cp examples/market/crossings.pl p.pl
-    mkdir "a folder's"
-    cp examples/market/*.csv .
-    cp examples/market/labels.csv "a folder's/labels.csv"
+    cp examples/market/{sessions,assets,bars,labels}.csv .
+    mkdir "a folder's" data
+    cp labels.csv "a folder's"
     sqlite3 adjustments.db < examples/market/adjustments.sql
+    cp {sessions,assets,bars,labels}.csv adjustments.db data
     words=(run p.pl sessions.csv assets.csv bars.csv --adjustments adjustments.db --labels "a folder's/labels.csv")
     "$program" "${words[@]}" 2023-01-03 2023-12-29 > whole.csv
+    "$program" run p.pl sessions.csv assets.csv bars.csv 2023-01-03 2023-12-29 > plain.csv
+    examples/recipes/pieces.sh sessions.csv 2023-01-03 2023-12-29 4 > pieces
+}
+
+on_one_machine() {
+    local recipes=$PWD/examples/recipes words status=0
+    make_range
     same "pieces.sh" whole.csv "$recipes/pieces.sh" sessions.csv 2023-01-03 2023-12-29 4 tohmeril "${words[@]}"
     "$recipes/pieces.sh" sessions.csv 2023-01-01 2023-12-29 4 2> /dev/null || status=$?
     holds "pieces.sh: a FROM that is no session, status $status" test "$status" = 5
     status=0
     "$recipes/pieces.sh" sessions.csv 2022-08-01 2023-12-29 4 tohmeril "${words[@]}" > out.csv 2> /dev/null || status=$?
     holds "pieces.sh: a piece that fails, status $status" test "$status" = 5 -a ! -s out.csv
-    "$recipes/pieces.sh" sessions.csv 2023-01-03 2023-12-29 4 > pieces
-    if command -v parallel > /dev/null; then
-        parallel -k -j4 --colsep ' ' tohmeril run p.pl sessions.csv assets.csv bars.csv --adjustments adjustments.db '{1}' '{2}' \
-            < pieces 2> "$work/err" | awk 'NR == 1 { header = $0 } NR == 1 || $0 != header' > out.csv
-        holds "parallel over the list of pieces" cmp whole.csv out.csv
-    else
-        lack parallel
-    fi
-    if command -v sbatch > /dev/null && [ -n "$(sinfo -h -t idle,mix 2> /dev/null)" ]; then
-        "$program" run p.pl sessions.csv assets.csv bars.csv 2023-01-03 2023-12-29 > plain.csv
-        sbatch --wait --array=1-4 "$recipes/slurm.sh" > "$work/out" 2>&1 || fail "slurm.sh: $(cat "$work/out" piece-*.log)"
-        awk 'NR == 1 || FNR > 1' piece-{1..4}.csv > out.csv
-        holds "slurm.sh" cmp plain.csv out.csv
-    else
-        lack "slurm (a running one)"
-    fi
     [ -n "$python" ] || return
-    mkdir data
-    cp sessions.csv assets.csv bars.csv labels.csv adjustments.db data
     "$python" "$recipes/cut.py" p.pl data 2023-01-03 2023-12-29 3 cuts > cut_pieces || fail cut.py
     while read -r folder first last; do
         "$program" run p.pl sessions.csv "$folder/assets.csv" "$folder/bars.csv" "$first" "$last" \
             --adjustments "$folder/adjustments.db" > "$folder/table.csv" || fail "cut.py: $folder"
     done < cut_pieces
     same cut.py whole.csv awk 'NR == 1 || FNR > 1' cuts/{0,1,2}/table.csv
+}
+
+on_many_machines() {
+    local recipes=$PWD/examples/recipes words
+    make_range
+    if command -v parallel > /dev/null; then
+        parallel -k -j4 --colsep ' ' tohmeril run p.pl sessions.csv assets.csv bars.csv '{1}' '{2}' < pieces 2> "$work/err" |
+            awk 'NR == 1 { header = $0 } NR == 1 || $0 != header' > out.csv
+        holds "parallel over the list of pieces" cmp plain.csv out.csv
+    else
+        lack parallel
+    fi
+    if command -v sbatch > /dev/null && [ -n "$(sinfo -h -t idle,mix 2> /dev/null)" ]; then
+        sbatch --wait --array=1-4 "$recipes/slurm.sh" > "$work/out" 2>&1 || fail "slurm.sh: $(cat "$work/out" piece-*.log)"
+        awk 'NR == 1 || FNR > 1' piece-{1..4}.csv > out.csv
+        holds "slurm.sh" cmp plain.csv out.csv
+    else
+        lack "slurm (a running one)"
+    fi
     if has distributed; then
         same cluster.py whole.csv timeout 120 "$python" "$recipes/cluster.py" p.pl data 2023-01-03 2023-12-29
     else
@@ -309,7 +317,7 @@ if [ -n "$python" ]; then
 else
     lack python3-pandas
 fi
-for part in recipes mornings pieces; do
+for part in recipes mornings on_one_machine on_many_machines; do
     copy
     $part
 done
