@@ -7,7 +7,6 @@ from __future__ import annotations
 import csv
 import io
 import os
-import re
 import shutil
 import sqlite3
 import zlib
@@ -19,14 +18,12 @@ from typing import Iterator, NamedTuple, Sequence, Union
 import numpy as np
 import pandas as pd
 
-from . import program
-from .data import CREATE, FILES, TABLES, Data
+from .data import CREATE, FILES, HEADERS, SECONDS, TABLES, Data, read_only
 from .faults import DataFault, ReadFault, StoreFault
+from .pipeline.script import Script
+from .plans import plan
 
 BLOCK = 8 << 20  # bytes of bars at a time
-HEADERS = {"assets": ["sid", "start", "end"], "labels": ["name", "sid", "start", "label"],
-           "revisions": ["sid", "session", "column", "value", "known"]}
-DAY = 86_400
 
 
 class Span(NamedTuple):
@@ -37,19 +34,17 @@ class Span(NamedTuple):
     sids: frozenset
 
 
-def cut_files(text: str, data: Data, ranges: Sequence[tuple[str, str]], folder: Path) -> list[Data]:
+def cut_files(script: Script, data: Data, ranges: Sequence[tuple[str, str]], folder: Path) -> list[Data]:
     """For each range of sessions, the files with what a pipeline reads for it and no more. The sessions are kept whole."""
     for part, path in data.files.items():
         if part != "adjustments" and not os.access(path, os.R_OK):
             raise ReadFault(f"read: {path}")
-    tables = {part: _table(data, part) for part in HEADERS if part in data.files}
+    tables = {part: _table(data, part) for part in ("assets", "labels", "revisions") if part in data.files}
     assets = tables["assets"]
     spans = []
-    with program.file(text) as name:
-        for at, (start, end) in enumerate(ranges):
-            plan = program.call("plan", name, data.names[0], start, end).decode()
-            first = data.sessions[int(re.search(r"reach=(\d+)", plan)[1])]
-            spans.append(Span(folder / str(at), first, end, frozenset(assets.sid[(assets.start < end) & (assets.end >= first)])))
+    for at, (start, end) in enumerate(ranges):
+        first = plan(script, start, end, data).first_session
+        spans.append(Span(folder / str(at), first, end, frozenset(assets.sid[(assets.start < end) & (assets.end >= first)])))
     for span in spans:
         span.folder.mkdir()
         shutil.copyfile(data.files["sessions"], span.folder / FILES["sessions"])
@@ -150,10 +145,10 @@ def _places(keys: pd.Series, known: pd.Index) -> np.ndarray:
 
 def _adjustments(source: Path, span: Span) -> None:
     """Copy the adjustments of days after the first bar that is read and up to the last session."""
-    days = [int(pd.Timestamp(day).timestamp()) + DAY for day in (span.first, span.last)]
+    days = [int(pd.Timestamp(day).timestamp()) + SECONDS for day in (span.first, span.last)]
     try:
         with closing(sqlite3.connect(span.folder / FILES["adjustments"], uri=True)) as store, store:
-            store.execute("ATTACH ? AS source", (f"{Path(source).resolve().as_uri()}?mode=ro",))
+            store.execute("ATTACH ? AS source", (read_only(source),))
             for table in TABLES:
                 store.execute(CREATE.format(table))
                 store.execute(f"INSERT INTO {table} SELECT id, effective_date, num, den, sid FROM source.{table} "

@@ -9,6 +9,8 @@ from itertools import islice
 from pathlib import Path
 from typing import Optional, Sequence
 
+from .data import read_only
+
 CUT = "; run in pieces, or in more of them, with cut=True"
 HINTS = {  # by the last word of the line; docs/FILES.md and docs/LANGUAGE.md in short
     "BadByte": "a byte that no token can hold; texts are in double quotes",
@@ -165,7 +167,7 @@ class DataFault(Fault, status=4):
     def _row(self) -> tuple[Sequence[str], Sequence[str]]:
         """The names and the fields of a row of the adjustments."""
         names = "id", "effective_date", "num", "den", "sid"
-        with closing(sqlite3.connect(f"{Path(self.path).resolve().as_uri()}?mode=ro", uri=True)) as store:
+        with closing(sqlite3.connect(read_only(self.path), uri=True)) as store:
             row = store.execute(f"SELECT {', '.join(names)} FROM {self.table} WHERE id = ?", (self.record,)).fetchone()
             return names, [str(field) for field in row or ()]
 

@@ -9,11 +9,11 @@ from typing import Iterator, Optional, Sequence
 import pandas as pd
 
 from . import program
-from .data import TABLES, Data
+from .data import SECONDS, TABLES, Data, read_only
 from .faults import LimitFault
+from .plans import scripted
 
 NEAR = 1e10  # a tenth of the greatest cell
-DAY = 86_400
 PROBE = "pipeline 1;\ncolumn one = 1;\nscreen 1 > 2;\n"
 
 
@@ -66,7 +66,7 @@ def _adjustments(data: Data, assets: pd.DataFrame) -> Iterator[str]:
     if "adjustments" not in data.files or not data.sessions:
         return
     first, last = (pd.Timestamp(day).timestamp() for day in (data.sessions[0], data.sessions[-1]))
-    with closing(sqlite3.connect(f"{data.files['adjustments'].as_uri()}?mode=ro", uri=True)) as store:
+    with closing(sqlite3.connect(read_only(data.files["adjustments"]), uri=True)) as store:
         for name in TABLES:
             rows = pd.DataFrame(store.execute(f"SELECT sid, effective_date FROM {name}"), columns=["sid", "date"])
             unknown = ~rows.sid.isin(assets.sid)
@@ -74,12 +74,11 @@ def _adjustments(data: Data, assets: pd.DataFrame) -> Iterator[str]:
                 yield f"{name}: {unknown.sum()} of {len(rows)} are of unknown sids, as {rows.sid[unknown].iloc[0]}, and do nothing"
             if (rows.date.abs() < 100_000).any():
                 yield f"{name}: effective dates as {rows.date.iloc[0]} look like days and are read as seconds since 1970-01-01"
-            elif len(rows) and not (rows.date // DAY * DAY).between(first + 1, last).any():  # it acts on bars of earlier days
+            elif len(rows) and not (rows.date // SECONDS * SECONDS).between(first + 1, last).any():  # it acts on bars of earlier days
                 yield f"{name}: none of {len(rows)} falls within the bars, so that none does anything"
 
 
 def _labels(data: Data, pipelines: Sequence) -> Iterator[str]:
-    from .runs import scripted
     named = {name for pipeline in pipelines for name in re.findall(r'label\("(\w+)"\)', scripted(pipeline).text)}
     there = set(pd.read_csv(data.files["labels"], usecols=["name"], dtype=str)["name"]) if "labels" in data.files else set()
     if pipelines:
