@@ -39,6 +39,7 @@ class Windowed:
     sort: type = Factor
     takes: tuple = (BoundColumn, Factor)
     fixed = False  # whether the function is of its own inputs alone
+    windowless = False  # whether it is of its own window, too
 
     def __init_subclass__(cls):
         if Windowed in cls.__bases__:
@@ -63,7 +64,8 @@ class Windowed:
         for name in params.keys() ^ set(cls.params):
             raise TypeError(f"{cls.__name__}: {name} is {'none of its parameters' if name in params else 'missing'}; it takes "
                             f"{', '.join(['inputs', 'window_length', 'mask', *cls.params])}")
-        return cls.sort(CALL, cls.function, *inputs, window, *(params[name] for name in cls.params), mask=mask)
+        window = () if cls.windowless else (window,)
+        return cls.sort(CALL, cls.function, *inputs, *window, *(params[name] for name in cls.params), mask=mask)
 
 
 def windowed(name: str, formula: str, units: str = "those of the input", source: str = "Zipline",
@@ -93,6 +95,8 @@ AverageDollarVolume = windowed("AverageDollarVolume", "sum of close_k volume_k w
                                "above 10^11", "money per session", inputs=(_CLOSE, _VOLUME), fixed=True)
 FastStochasticOscillator = windowed("FastStochasticOscillator", "100 (c - l) / (h - l): the last close, the least low, the greatest high; "
                                     "missing where one is", "percent", inputs=(_CLOSE, _LOW, _HIGH), window_length=14, fixed=True)
+TrueRange = windowed("TrueRange", "greatest present one of high - low, abs(high - previous close), abs(low - previous close)",
+                     "those of the close", rounding="none", inputs=(_HIGH, _LOW, _CLOSE), window_length=2, fixed=True, windowless=True)
 
 
 class VWAP(Windowed):
@@ -105,20 +109,6 @@ class VWAP(Windowed):
     @classmethod
     def term(cls, inputs, window, mask):
         return super().term((), window, mask) if inputs == (_CLOSE, _VOLUME) else WeightedAverageValue.term(inputs, window, mask)
-
-
-class TrueRange(Windowed):
-    """greatest present one of high - low, abs(high - previous close), abs(low - previous close)
-
-    Units: those of the close. Source: Zipline. Rounding: none.
-    """
-    inputs = (_HIGH, _LOW, _CLOSE)
-    window_length = 2
-    fixed = True
-
-    @classmethod
-    def term(cls, inputs, window, mask):
-        return Factor(CALL, "TrueRange", mask=mask)
 
 
 class ExponentialWeightedMovingAverage(Windowed):
