@@ -130,8 +130,9 @@ def _bars(data: Data, spans: Sequence[Span], assets: pd.Index) -> None:
                                quoting=csv.QUOTE_NONE, keep_default_na=False, skip_blank_lines=False, lineterminator="\n",
                                encoding_errors="replace")
             asset, session = _places(keys.sid, assets), _places(keys.session, sessions)
+            unknown = (asset < 0) | (session < 0) | (records == 1)
             for folder, mine, first, last in pieces:
-                kept = is_record & (mine[asset] & (session >= first) & (session < last) | (asset < 0) | (session < 0))
+                kept = is_record & (mine[asset] & (session >= first) & (session < last) | unknown)
                 if kept.any():
                     with open(folder / FILES["bars"], "ab") as out, open(folder / "bars.records", "ab") as numbers:
                         text[np.repeat(kept, lengths)].tofile(out)
