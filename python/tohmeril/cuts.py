@@ -18,7 +18,7 @@ from typing import Iterator, NamedTuple, Sequence, Union
 import numpy as np
 import pandas as pd
 
-from .data import CREATE, FILES, HEADERS, SECONDS, TABLES, Data, read_only
+from .data import CREATE, FILES, HEADERS, SECONDS, TABLES, Data, read_only, records
 from .faults import DataFault, ReadFault, StoreFault
 from .pipeline.script import Script
 from .plans import plan
@@ -84,15 +84,13 @@ def unpacked(data: Union[Data, dict[str, bytes]]) -> Iterator[Data]:
 
 def _table(data: Data, part: str) -> pd.DataFrame:
     """The records of a file as texts, by their numbers less 1."""
-    path, header = data.files[part], HEADERS[part]
-    with open(path, newline="", encoding="utf-8-sig", errors="replace") as file:
-        records = list(filter(None, csv.reader(file)))
-    if records[:1] != [header]:
+    path, header, rows = data.files[part], HEADERS[part], list(records(data.files[part]))
+    if rows[:1] != [header]:
         raise DataFault(f"{path}:1: data BadHeader")
-    for number, record in enumerate(records, 1):
-        if len(record) != len(header):
+    for number, row in enumerate(rows, 1):
+        if len(row) != len(header):
             raise DataFault(f"{path}:{number}: data BadField")
-    return pd.DataFrame(records, columns=header).drop(index=0)
+    return pd.DataFrame(rows, columns=header).drop(index=0)
 
 
 def _kept(part: str, table: pd.DataFrame, span: Span) -> pd.Series:
@@ -112,7 +110,7 @@ def _bars(data: Data, spans: Sequence[Span], assets: pd.Index) -> None:
 
     The header, and a line of an unknown asset or session, go into each piece, where the program judges them.
     """
-    sessions, record = pd.Index(data.sessions), 0
+    sessions, last = pd.Index(data.sessions), 0  # the number of the last record
     pieces = [(span.folder, np.append(assets.isin(span.sids), False), *sessions.get_indexer([span.first, span.last])) for span in spans]
     for folder, *_ in pieces:
         (folder / FILES["bars"]).touch()
@@ -124,19 +122,19 @@ def _bars(data: Data, spans: Sequence[Span], assets: pd.Index) -> None:
             ends = np.flatnonzero(text == ord("\n"))
             lengths = np.diff(ends, prepend=-1)
             is_record = lengths - (text[ends - 1] == ord("\r")) > 1
-            records = record + np.cumsum(is_record, dtype="i8")
-            record = records[-1]
+            numbers = last + np.cumsum(is_record, dtype="i8")
+            last = numbers[-1]
             keys = pd.read_csv(io.BytesIO(block), header=None, names=["sid", "session"], usecols=[0, 1], index_col=False, dtype="category",
                                quoting=csv.QUOTE_NONE, keep_default_na=False, skip_blank_lines=False, lineterminator="\n",
                                encoding_errors="replace")
             asset, session = _places(keys.sid, assets), _places(keys.session, sessions)
-            unknown = (asset < 0) | (session < 0) | (records == 1)
-            for folder, mine, first, last in pieces:
-                kept = is_record & (mine[asset] & (session >= first) & (session < last) | unknown)
+            unknown = (asset < 0) | (session < 0) | (numbers == 1)
+            for folder, mine, first, end in pieces:
+                kept = is_record & (mine[asset] & (session >= first) & (session < end) | unknown)
                 if kept.any():
-                    with open(folder / FILES["bars"], "ab") as out, open(folder / "bars.records", "ab") as numbers:
+                    with open(folder / FILES["bars"], "ab") as out, open(folder / "bars.records", "ab") as whole:
                         text[np.repeat(kept, lengths)].tofile(out)
-                        records[kept].tofile(numbers)
+                        numbers[kept].tofile(whole)
 
 
 def _places(keys: pd.Series, known: pd.Index) -> np.ndarray:

@@ -9,7 +9,7 @@ from itertools import islice
 from pathlib import Path
 from typing import Optional, Sequence
 
-from .data import read_only
+from .data import read_only, records
 
 CUT = "; run in pieces, or in more of them, with cut=True"
 HINTS = {  # by the last word of the line; docs/FILES.md and docs/LANGUAGE.md in short
@@ -159,10 +159,9 @@ class DataFault(Fault, status=4):
 
     def _record(self) -> tuple[Sequence[str], Sequence[str]]:
         """The header of a CSV file and one of its records."""
-        with open(self.path, newline="", encoding="utf-8-sig", errors="replace") as file:
-            records = filter(None, csv.reader(file))
-            first = next(records)
-            return first, first if self.record == 1 else next(islice(records, self.record - 2, None))
+        rows = records(self.path)
+        first = next(rows)
+        return first, first if self.record == 1 else next(islice(rows, self.record - 2, None))
 
     def _row(self) -> tuple[Sequence[str], Sequence[str]]:
         """The names and the fields of a row of the adjustments."""
