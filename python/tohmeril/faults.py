@@ -14,6 +14,7 @@ from .data import read_only, records
 CUT = "; run in pieces, or in more of them, with cut=True"
 HINTS = {  # by the last word of the line; docs/FILES.md and docs/LANGUAGE.md in short
     "BadByte": "a byte that no token can hold; texts are in double quotes",
+    "Unexpected": "the text up to here begins no pipeline; give the name of a file as a Path",
     "UnknownName": "the language has no such name",
     "WrongKind": "one of bar column, factor, filter, classifier, number and text is where another is asked for",
     "BadArgument": "an argument is missing, unknown, given twice, out of its range or none of its list",
@@ -39,7 +40,7 @@ HINTS = {  # by the last word of the line; docs/FILES.md and docs/LANGUAGE.md in
     "NotPositive": "drop payouts of nothing",
     "BadEffective": "give seconds since 1970-01-01 UTC, of the years 1900 to 2199",
     "BadRatio": "num and den are from 1 to 1,000,000,000; reduce the fraction",
-    "Backwards": "there is no session from the first day to the last",
+    "Backwards": "there is no session from the first day to the last, or asof is before the last",
     "pipeline": "the text of a pipeline has at most 262,144 bytes",
     "terms": "a pipeline has at most 256 different terms",
     "columns": "a pipeline has at most 64 columns",

@@ -49,6 +49,9 @@ class Absent:
 
     __mro_entries__ = __call__  # as a base class
 
+    def __repr__(self) -> str:
+        return f"<no {self.name} in the language; nearest: {self.nearest}>"
+
     def __getattr__(self, name):  # as EWMSTD.from_span
         if name.startswith("_"):
             raise AttributeError(name)
