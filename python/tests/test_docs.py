@@ -1,11 +1,15 @@
 """The pages for readers: their examples, and the rows of their tables."""
 import doctest
 import re
+import textwrap
+from concurrent.futures import ThreadPoolExecutor
+from types import SimpleNamespace
 
 import pytest
 from conftest import CHECKOUT
 
-from tohmeril.pipeline import Inexpressible, classifiers, factors, filters
+from tohmeril import plots, run_chunked_pipeline, run_pipeline
+from tohmeril.pipeline import Inexpressible, Pipeline, classifiers, factors, filters
 from tohmeril.pipeline.data import Column, DataSet, EquityPricing, Labels
 
 PAGES = [CHECKOUT / "python/README.md", CHECKOUT / "docs/ZIPLINE.md"]
@@ -27,6 +31,17 @@ def test_examples(page, data, tmp_path):
     found = doctest.testfile(str(page), module_relative=False, globs={"data": data, "folder": tmp_path},
                              optionflags=doctest.NORMALIZE_WHITESPACE | doctest.REPORT_NDIFF)
     assert found.attempted and not found.failed
+
+
+@pytest.mark.parametrize("code", [code for code in re.findall(r"\n\n((?:    .+\n)+)", PAGES[0].read_text()) if "pip install" not in code])
+def test_code_without_its_output(code, data, tmp_path, monkeypatch):
+    pytest.importorskip("matplotlib")
+    monkeypatch.chdir(tmp_path)
+    names = {**NAMES, "Pipeline": Pipeline, "run_pipeline": run_pipeline, "run_chunked_pipeline": run_chunked_pipeline, "plots": plots,
+             "data": data, "start": "2023-12-01", "end": "2023-12-29", "momentum": NAMES["y"], "pipe": Pipeline({"y": NAMES["y"]}),
+             "dask": SimpleNamespace(distributed=SimpleNamespace(Client=lambda address: ThreadPoolExecutor(2)))}
+    exec(textwrap.dedent(code), names)
+    assert len(names["frame"])
 
 
 @pytest.mark.parametrize("python, text", [(python, text) for row in cells("What is here") for python, text in [row[:2]] if python])

@@ -1,129 +1,156 @@
-"""The files that a piece of a range reads, cut from larger ones in one pass, with memory for a block of bars and not for all."""
+"""The files that a piece of a range reads, cut from larger ones in one pass, with memory for a block of bars and not for all.
+
+Beside each cut file stand the numbers that its records have in the whole file, for faults.
+"""
 from __future__ import annotations
 
+import csv
 import io
-import re
+import os
+import shutil
 import sqlite3
+import zlib
+from contextlib import closing, contextmanager
 from pathlib import Path
-from typing import Iterator, NamedTuple, Sequence
+from tempfile import TemporaryDirectory
+from typing import Iterator, NamedTuple, Sequence, Union
 
 import numpy as np
 import pandas as pd
 
-from . import program
-from .data import FILES, Data
+from .data import CREATE, FILES, HEADERS, SECONDS, TABLES, Data, read_only, records
 from .faults import DataFault, ReadFault, StoreFault
-from .pipeline.script import BARS
+from .pipeline.script import Script
+from .plans import plan
 
 BLOCK = 8 << 20  # bytes of bars at a time
-HEADERS = {"assets": ["sid", "start", "end"], "labels": ["name", "sid", "start", "label"],
-           "revisions": ["sid", "session", "column", "value", "known"], "bars": ["sid", "session", *BARS]}
-DAY = 86_400
 
 
 class Span(NamedTuple):
-    """The first session whose bars a piece reads, the last session of the piece, and the assets that exist between them."""
+    """A piece: its folder, the first session whose bars it reads, its last session, and the assets that exist between them."""
+    folder: Path
     first: str
     last: str
     sids: frozenset
 
 
-def cut_files(text: str, data: Data, ranges: Sequence[tuple[str, str]], folder: Path) -> list[Data]:
+def cut_files(script: Script, data: Data, ranges: Sequence[tuple[str, str]], folder: Path) -> list[Data]:
     """For each range of sessions, the files with what a pipeline reads for it and no more. The sessions are kept whole."""
-    assets = _table(data, "assets")
+    for part, path in data.files.items():
+        if part != "adjustments" and not os.access(path, os.R_OK):
+            raise ReadFault(f"read: {path}")
+    tables = {part: _table(data, part) for part in ("assets", "labels", "revisions") if part in data.files}
+    assets = tables["assets"]
     spans = []
-    with program.file(text) as name:
-        for ends in ranges:
-            plan = program.call("plan", name, data.names[0], *ends).decode()
-            first = data.sessions[int(re.search(r"reach=(\d+)", plan)[1])]
-            spans.append(Span(first, ends[1], frozenset(assets.sid[(assets.start < ends[1]) & (assets.end >= first)])))
-    pieces = []
-    for at, span in enumerate(spans):
-        path = folder / str(at)
-        path.mkdir()
-        assets[assets.sid.isin(span.sids)].to_csv(path / FILES["assets"], index=False)
-        pieces.append(path)
-    _bars(data, spans, pieces, dict.fromkeys(assets.sid))
-    if "labels" in data.files:
-        labels = _table(data, "labels")
-        for span, path in zip(spans, pieces):
-            mine = labels[labels.sid.isin(span.sids) & (labels.start <= span.last)]
-            old = mine[mine.start <= span.first].sort_values("start", kind="stable").drop_duplicates(["name", "sid"], keep="last")
-            pd.concat([old, mine[mine.start > span.first]]).to_csv(path / FILES["labels"], index=False)
-    if "revisions" in data.files:
-        late = _table(data, "revisions")
-        for span, path in zip(spans, pieces):
-            kept = late.sid.isin(span.sids) & (late.session >= span.first) & (late.session < span.last) & (late.known <= span.last)
-            late[kept].to_csv(path / FILES["revisions"], index=False)
-    if "adjustments" in data.files:
-        for span, path in zip(spans, pieces):
-            _adjustments(data.files["adjustments"], span, path / FILES["adjustments"])
-    return [Data(path, sessions=str(data.files["sessions"])) for path in pieces]
+    for at, (start, end) in enumerate(ranges):
+        first = plan(script, start, end, data).first_session
+        spans.append(Span(folder / str(at), first, end, frozenset(assets.sid[(assets.start < end) & (assets.end >= first)])))
+    for span in spans:
+        span.folder.mkdir()
+        shutil.copyfile(data.files["sessions"], span.folder / FILES["sessions"])
+        for part, table in tables.items():
+            rows = table[_kept(part, table, span)]
+            rows.to_csv(span.folder / FILES[part], index=False)
+            np.append(1, rows.index + 1).astype("i8").tofile(span.folder / f"{part}.records")
+        if "adjustments" in data.files:
+            _adjustments(data.files["adjustments"], span)
+    _bars(data, spans, pd.Index(assets.sid.unique()))
+    return [Data(span.folder) for span in spans]
+
+
+def of_whole(fault: DataFault, data: Data, piece: Data) -> DataFault:
+    """A fault of a piece's file, as one of the file that this was cut from."""
+    part = {name: part for part, name in FILES.items()}[Path(fault.path).name]
+    records = piece.folder / f"{part}.records"
+    return fault.moved(data.files[part], np.fromfile(records, "i8")[fault.record - 1] if records.exists() else fault.record)
+
+
+def packed(data: Data) -> dict[str, bytes]:
+    """The files of a piece, compressed, which go with its task to a worker on another machine."""
+    return {part: zlib.compress(path.read_bytes(), 1) for part, path in data.files.items()}
+
+
+@contextmanager
+def unpacked(data: Union[Data, dict[str, bytes]]) -> Iterator[Data]:
+    """The data, whose files are laid in a temporary folder where they came with the task."""
+    if isinstance(data, Data):
+        yield data
+        return
+    with TemporaryDirectory() as folder:
+        for part, content in data.items():
+            Path(folder, FILES[part]).write_bytes(zlib.decompress(content))
+        yield Data(folder)
 
 
 def _table(data: Data, part: str) -> pd.DataFrame:
-    """A file as texts, once its header is the right one."""
-    path = data.files[part]
-    try:
-        frame = pd.read_csv(path, dtype=str, keep_default_na=False, encoding="utf-8-sig")
-    except (OSError, UnicodeError) as error:
-        raise ReadFault(f"read: {path}", str(error)) from None
-    if list(frame.columns) != HEADERS[part]:
+    """The records of a file as texts, by their numbers less 1."""
+    path, header, rows = data.files[part], HEADERS[part], list(records(data.files[part]))
+    if rows[:1] != [header]:
         raise DataFault(f"{path}:1: data BadHeader")
-    return frame
+    for number, row in enumerate(rows, 1):
+        if len(row) != len(header):
+            raise DataFault(f"{path}:{number}: data BadField")
+    return pd.DataFrame(rows, columns=header).drop(index=0)
 
 
-def _bars(data: Data, spans: Sequence[Span], pieces: Sequence[Path], sids: dict) -> None:
-    """Copy the lines of the bars file into the pieces that read them, block by block."""
-    source, place = data.files["bars"], {day: at for at, day in enumerate(data.sessions)}
-    with open(source, "rb") as bars:
-        header = bars.readline()
-        if header.decode("utf-8-sig", "replace").strip().replace('"', "").split(",") != HEADERS["bars"]:
-            raise DataFault(f"{source}:1: data BadHeader")
-        for path in pieces:
-            (path / FILES["bars"]).write_bytes(header.rstrip(b"\r\n") + b"\n")
+def _kept(part: str, table: pd.DataFrame, span: Span) -> pd.Series:
+    """Which records of the assets, the labels or the revisions a piece reads."""
+    kept = table.sid.isin(span.sids)
+    if part == "labels":  # those that begin within the piece, and the newest ones before it
+        kept &= table.start <= span.last
+        old = table[kept & (table.start <= span.first)].sort_values("start", kind="stable")
+        kept &= (table.start > span.first) | table.index.isin(old.drop_duplicates(["name", "sid"], keep="last").index)
+    if part == "revisions":
+        kept &= (table.session >= span.first) & (table.session < span.last) & (table.known <= span.last)
+    return kept
+
+
+def _bars(data: Data, spans: Sequence[Span], assets: pd.Index) -> None:
+    """Copy the lines of the bars file into the pieces that read them, block by block.
+
+    The header, and a line of an unknown asset or session, go into each piece, where the program judges them.
+    """
+    sessions, last = pd.Index(data.sessions), 0  # the number of the last record
+    pieces = [(span.folder, np.append(assets.isin(span.sids), False), *sessions.get_indexer([span.first, span.last])) for span in spans]
+    for folder, *_ in pieces:
+        (folder / FILES["bars"]).touch()
+    with open(data.files["bars"], "rb") as bars:
         while block := bars.read(BLOCK):
             block += bars.readline()
             block += b"" if block.endswith(b"\n") else b"\n"
-            lines = np.diff(np.flatnonzero(np.frombuffer(block, "u1") == 10), prepend=-1)
-            asset, session = _keys(block, source, sids, place)
-            codes = [key.cat.codes.to_numpy() for key in (asset, session)]
-            if ((np.minimum(*codes) < 0) & (lines > 2)).any():  # an empty line is no record
-                raise DataFault(f"{source}: data BadField", "    a sid or a session is empty")
-            days = np.array([place[key] for key in session.cat.categories] + [-1])[codes[1]]  # -1, the code of an empty line, is the last
-            for span, path in zip(spans, pieces):
-                mine = np.array([key in span.sids for key in asset.cat.categories] + [False])[codes[0]]
-                kept = mine & (days >= place[span.first]) & (days < place[span.last])
+            text = np.frombuffer(block, "u1")
+            ends = np.flatnonzero(text == ord("\n"))
+            lengths = np.diff(ends, prepend=-1)
+            is_record = lengths - (text[ends - 1] == ord("\r")) > 1
+            numbers = last + np.cumsum(is_record, dtype="i8")
+            last = numbers[-1]
+            keys = pd.read_csv(io.BytesIO(block), header=None, names=["sid", "session"], usecols=[0, 1], index_col=False, dtype="category",
+                               quoting=csv.QUOTE_NONE, keep_default_na=False, skip_blank_lines=False, lineterminator="\n",
+                               encoding_errors="replace")
+            asset, session = _places(keys.sid, assets), _places(keys.session, sessions)
+            unknown = (asset < 0) | (session < 0) | (numbers == 1)
+            for folder, mine, first, end in pieces:
+                kept = is_record & (mine[asset] & (session >= first) & (session < end) | unknown)
                 if kept.any():
-                    with open(path / FILES["bars"], "ab") as out:
-                        out.write(np.frombuffer(block, "u1")[np.repeat(kept, lines)].tobytes())
+                    with open(folder / FILES["bars"], "ab") as out, open(folder / "bars.records", "ab") as whole:
+                        text[np.repeat(kept, lengths)].tofile(out)
+                        numbers[kept].tofile(whole)
 
 
-def _keys(block: bytes, source: Path, sids: dict, place: dict) -> Iterator[pd.Series]:
-    """The sids and the sessions of some lines, each one that is known."""
-    try:
-        keys = pd.read_csv(io.BytesIO(block), header=None, usecols=[0, 1], dtype="category", keep_default_na=False, na_values=[""],
-                           skip_blank_lines=False)
-    except pd.errors.ParserError as error:
-        raise DataFault(f"{source}: data BadField", f"    {error}") from None
-    for at, known, rule in ((0, sids, "UnknownSid"), (1, place, "NotSession")):
-        for key in set(keys[at].cat.categories) - known.keys():
-            raise DataFault(f"{source}: data {rule}", f"    {key!r}")
-        yield keys[at]
+def _places(keys: pd.Series, known: pd.Index) -> np.ndarray:
+    """The places of keys among the known ones; -1 for one that is not."""
+    return np.append(known.get_indexer([str(key).strip('"') for key in keys.cat.categories]), -1)[keys.cat.codes]
 
 
-def _adjustments(source: Path, span: Span, target: Path) -> None:
+def _adjustments(source: Path, span: Span) -> None:
     """Copy the adjustments of days after the first bar that is read and up to the last session."""
-    first, last = (int(pd.Timestamp(day).timestamp()) + DAY for day in (span.first, span.last))
+    days = [int(pd.Timestamp(day).timestamp()) + SECONDS for day in (span.first, span.last)]
     try:
-        store = sqlite3.connect(target, uri=True)
-        with store:
-            store.execute("ATTACH ? AS source", (f"{Path(source).resolve().as_uri()}?mode=ro",))
-            for table in ("splits", "mergers", "dividends"):
-                store.execute(f"CREATE TABLE {table} (id INTEGER PRIMARY KEY, effective_date INTEGER NOT NULL, num INTEGER NOT NULL, "
-                              "den INTEGER NOT NULL, sid INTEGER NOT NULL) STRICT")
+        with closing(sqlite3.connect(span.folder / FILES["adjustments"], uri=True)) as store, store:
+            store.execute("ATTACH ? AS source", (read_only(source),))
+            for table in TABLES:
+                store.execute(CREATE.format(table))
                 store.execute(f"INSERT INTO {table} SELECT id, effective_date, num, den, sid FROM source.{table} "
-                              "WHERE effective_date >= ? AND effective_date < ?", (first, last))
-        store.close()
+                              "WHERE effective_date >= ? AND effective_date < ?", days)
     except sqlite3.Error as error:
         raise StoreFault(f"store: {source}", str(error)) from None

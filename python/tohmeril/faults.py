@@ -1,21 +1,28 @@
-"""The program's statuses as exceptions. Each carries the line that the program printed, and how to fix what it names."""
+"""The program's statuses as exceptions. Each carries the line that the program printed, and how to mend what it names."""
 from __future__ import annotations
 
 import csv
 import re
 import sqlite3
+from contextlib import closing
 from itertools import islice
 from pathlib import Path
 from typing import Optional, Sequence
 
+from .data import read_only, records
+
+CUT = "; run in pieces, or in more of them, with cut=True"
 HINTS = {  # by the last word of the line; docs/FILES.md and docs/LANGUAGE.md in short
     "BadByte": "a byte that no token can hold; texts are in double quotes",
+    "Unexpected": "the text up to here begins no pipeline; give the name of a file as a Path",
     "UnknownName": "the language has no such name",
     "WrongKind": "one of bar column, factor, filter, classifier, number and text is where another is asked for",
     "BadArgument": "an argument is missing, unknown, given twice, out of its range or none of its list",
     "BadWindow": "a window is from 1 to 1,260 sessions, or from 2 where its term compares two values",
     "NotWindowSafe": "a window can't be over this factor, which depends on adjustments that come between; it can be over "
                      "Returns and ranks",
+    "Redefined": "a column, a let or the screen is there twice, or a let has a name of the language",
+    "NoColumn": "a pipeline has one column at least",
     "BadHeader": "write the header of docs/FILES.md",
     "BadDate": "write YYYY-MM-DD; the sessions have no header",
     "NotAscending": "sort the sessions, each once",
@@ -33,20 +40,26 @@ HINTS = {  # by the last word of the line; docs/FILES.md and docs/LANGUAGE.md in
     "NotPositive": "drop payouts of nothing",
     "BadEffective": "give seconds since 1970-01-01 UTC, of the years 1900 to 2199",
     "BadRatio": "num and den are from 1 to 1,000,000,000; reduce the fraction",
+    "Backwards": "there is no session from the first day to the last, or asof is before the last",
+    "pipeline": "the text of a pipeline has at most 262,144 bytes",
     "terms": "a pipeline has at most 256 different terms",
     "columns": "a pipeline has at most 64 columns",
     "extra": "a term is needed more than 4,096 sessions before the range",
-    "bars": "a run reads at most 4,000,000 bars; run in pieces with cut=True",
-    "assets": "a run reads at most 8,000 assets; run in pieces with cut=True",
-    "file": "a file has at most 536,870,912 bytes; run in pieces with cut=True",
+    "sessions": "a calendar has at most 16,000 sessions; leave out the oldest",
+    "assets": "a run reads at most 8,000 assets" + CUT,
+    "labels": "a run reads at most 200,000 labels; leave out those that change nothing, or" + CUT[1:],
+    "bars": "a run reads at most 4,000,000 bars" + CUT,
+    "adjustments": "a run reads at most 1,000,000 adjustments" + CUT,
+    "revisions": "a run reads at most 200,000 revisions" + CUT,
+    "file": "a file has at most 536,870,912 bytes" + CUT,
+    "memory": "it ran out" + CUT,
 }
-DATE, SID, DECIMAL = r"\d{4}-\d\d-\d\d", r"0|[1-9]\d{0,9}", r"(-?\d+(\.\d{1,18})?)?"
+DATE, SID, DECIMAL = r"\d{4}-\d\d-\d\d", r"0|[1-9]\d{0,9}", r"-?\d+(\.\d{1,18})?"
 FORMS = {"sid": SID, **dict.fromkeys(("session", "start", "end", "known", "ex"), DATE), "column": "open|high|low|close|volume",
-         "name": r"[A-Za-z_]\w{0,31}", "label": r"[ -~]{0,64}", "amount": DECIMAL[:-1],
-         **dict.fromkeys(("open", "high", "low", "close", "volume", "value"), DECIMAL)}
+         "name": r"[A-Za-z_]\w{0,31}", "label": r"[ -~]{0,64}", "amount": DECIMAL,
+         **dict.fromkeys(("open", "high", "low", "close", "volume", "value"), f"({DECIMAL})?")}
 WRONG = {"NotSession": "session", "UnknownSid": "sid", "DuplicateSid": "sid", "Duplicate": "session", "StartAfterEnd": "start",
-         "LabelTooLong": "label", "DuplicateStart": "start", "TooSoon": "known", "NotPositive": "amount",
-         "BadEffective": "effective_date"}
+         "LabelTooLong": "label", "DuplicateStart": "start", "TooSoon": "known", "NotPositive": "amount", "BadEffective": "effective_date"}
 
 
 class Fault(Exception):
@@ -61,21 +74,23 @@ class Fault(Exception):
     """
     status = 0
 
+    def __init_subclass__(cls, status: int):
+        cls.status = status
+
     def __init__(self, line: str, note: str = ""):
         super().__init__(line, note)
         self.line, self.note = line, note
 
     def __str__(self) -> str:
-        hint = HINTS.get(re.split(r"\W+", self.line)[-1], "")
-        return "\n".join(filter(None, (self.line, self.note, hint)))
+        named = re.search(r"(?:^|(?:syntax|check|data|range:|limit:) )(\w+)$", self.line)
+        return "\n".join(filter(None, (self.line, self.note, named and HINTS.get(named[1]))))
 
 
-class UsageError(Fault):
+class UsageError(Fault, status=2):
     """The words are of no command's form: an option out of its range, or a fault of this package."""
-    status = 2
 
 
-class PipelineError(Fault):
+class PipelineError(Fault, status=3):
     """The text of a pipeline is not in the language, or breaks one of its rules.
 
     Attributes
@@ -85,7 +100,6 @@ class PipelineError(Fault):
     term : Term or None
         The Python term that was written there.
     """
-    status = 3
     term = None
 
     @property
@@ -102,44 +116,85 @@ class PipelineError(Fault):
         return self
 
 
-class DataFault(Fault):
-    """A record of a data file, or a row of the adjustments, breaks a rule; `note` shows its fields and the wrong one."""
-    status = 4
+class DataFault(Fault, status=4):
+    """A record of a data file, or a row of the adjustments, breaks a rule; `note` shows its fields and the wrong one.
+
+    Attributes
+    ----------
+    path, rule : str
+        The file, and the name of the rule; None in a fault of a frame that `Data.write` is given, as the next two are.
+    record : int
+        The number of the record in the file, where the header is 1 and empty lines do not count; or the row's id.
+    table : str or None
+        The table of the row.
+    """
+    path = rule = record = table = None
 
     def __init__(self, line: str, note: str = ""):
         place = re.fullmatch(r"(.*?)(?::(splits|mergers|dividends))?:(\d+): data (\w+)", line)
-        super().__init__(line, note or (_shown(*place.groups()) if place else ""))
+        if place:
+            self.path, self.table, self.rule, self.record = *place.group(1, 2, 4), int(place[3])
+        super().__init__(line, note or (self._shown() if place else ""))
+
+    def moved(self, path: Path, record: int) -> DataFault:
+        """The fault of the same record in the larger file that this one is cut from."""
+        indent = " " * (len(str(record)) - len(str(self.record)))
+        note = self.note.replace(str(self.record), str(record), 1).replace("\n", "\n" + indent)
+        return DataFault(":".join(filter(None, (str(path), self.table, f"{record}: data {self.rule}"))), note)
+
+    def _shown(self) -> str:
+        """The record or the row as it is, with a caret under the field that breaks the rule."""
+        try:
+            names, fields = self._row() if self.table else self._record()
+        except (OSError, csv.Error, sqlite3.Error, StopIteration):
+            return ""
+        breaks = {"BadField": lambda name, field: not re.fullmatch(FORMS.get(name, ".*"), field),
+                  "Negative": lambda name, field: field.startswith("-"),
+                  "BadRatio": lambda name, field: name in ("num", "den") and not 1 <= int(field) <= 10**9,
+                  }.get(self.rule, lambda name, field: name == WRONG.get(self.rule))
+        shown = f"    {'row' if self.table else 'record'} {self.record}: {','.join(fields)}"
+        for at, (name, field) in enumerate(zip(names, fields)):
+            if breaks(name, field):
+                return f"{shown}\n{'':{len(shown) - len(','.join(fields[at:]))}}{'^' * max(len(field), 1)} {name}"
+        return shown
+
+    def _record(self) -> tuple[Sequence[str], Sequence[str]]:
+        """The header of a CSV file and one of its records."""
+        rows = records(self.path)
+        first = next(rows)
+        return first, first if self.record == 1 else next(islice(rows, self.record - 2, None))
+
+    def _row(self) -> tuple[Sequence[str], Sequence[str]]:
+        """The names and the fields of a row of the adjustments."""
+        names = "id", "effective_date", "num", "den", "sid"
+        with closing(sqlite3.connect(read_only(self.path), uri=True)) as store:
+            row = store.execute(f"SELECT {', '.join(names)} FROM {self.table} WHERE id = ?", (self.record,)).fetchone()
+            return names, [str(field) for field in row or ()]
 
 
-class RangeFault(Fault):
+class RangeFault(Fault, status=5):
     """The range, or the cell of `explain`, is none of the data; `first_session` is the first that can be asked for."""
-    status = 5
     first_session: Optional[str] = None
 
 
-class LimitFault(Fault):
+class LimitFault(Fault, status=6):
     """A limit is passed."""
-    status = 6
 
 
-class ReadFault(Fault):
+class ReadFault(Fault, status=7):
     """A file can't be read."""
-    status = 7
 
 
-class StoreFault(Fault):
+class StoreFault(Fault, status=8):
     """The adjustments can't be loaded."""
-    status = 8
 
 
-class WriteFault(Fault):
+class WriteFault(Fault, status=9):
     """The output could not be written."""
-    status = 9
 
 
-class MemoryFault(Fault):
+class MemoryFault(Fault, status=10):
     """Memory ran out."""
-    status = 10
 
 
 def fault(status: int, line: str, note: str = "") -> Fault:
@@ -150,42 +205,3 @@ def fault(status: int, line: str, note: str = "") -> Fault:
     """
     sort = {each.status: each for each in Fault.__subclasses__()}.get(status, Fault)
     return sort(line.strip() or f"the program ended with status {status}", note)
-
-
-def _shown(path: str, table: Optional[str], number: str, rule: str) -> str:
-    """A record or a row as it is, with a caret under the field that breaks the rule."""
-    try:
-        names, fields = _row(path, table, number) if table else _record(path, int(number))
-    except (OSError, csv.Error, sqlite3.Error, StopIteration):
-        return ""
-    wrong = WRONG.get(rule)
-    if rule == "BadField":
-        wrong = next((name for name, field in zip(names, fields) if not re.fullmatch(FORMS.get(name, ".*"), field)), None)
-    elif rule == "Negative":
-        wrong = next((name for name, field in zip(names, fields) if field.startswith("-")), None)
-    elif rule == "BadRatio":
-        wrong = next(name for name, field in zip(names, fields) if name in ("num", "den") and not 1 <= int(field) <= 10**9)
-    shown = f"    {'row' if table else 'record'} {number}: {','.join(fields)}"
-    if wrong not in names[:len(fields)]:
-        return shown
-    at = names.index(wrong)
-    column = len(shown) - len(",".join(fields[at:]))
-    return f"{shown}\n{'':{column}}{'^' * max(len(fields[at]), 1)} {wrong}"
-
-
-def _record(path: str, number: int) -> tuple[Sequence[str], Sequence[str]]:
-    """The header of a CSV file and one of its records; empty lines are no records."""
-    with open(path, newline="", encoding="utf-8-sig", errors="replace") as file:
-        records = filter(None, csv.reader(file))
-        first = next(records)
-        return first, first if number == 1 else next(islice(records, number - 2, None))
-
-
-def _row(path: str, table: str, number: str) -> tuple[Sequence[str], Sequence[str]]:
-    """The names and the fields of a row of the adjustments."""
-    store = sqlite3.connect(f"{Path(path).resolve().as_uri()}?mode=ro", uri=True)
-    try:
-        row = store.execute(f"SELECT id, effective_date, num, den, sid FROM {table} WHERE id = ?", (int(number),)).fetchone()
-        return ("id", "effective_date", "num", "den", "sid"), [str(field) for field in row or ()]
-    finally:
-        store.close()

@@ -3,16 +3,17 @@ from __future__ import annotations
 
 import re
 import sqlite3
+from contextlib import closing
 from typing import Iterator, Optional, Sequence
 
 import pandas as pd
 
 from . import program
-from .data import Data
+from .data import SECONDS, TABLES, Data, read_only
 from .faults import LimitFault
+from .plans import scripted
 
 NEAR = 1e10  # a tenth of the greatest cell
-DAY = 86_400
 PROBE = "pipeline 1;\ncolumn one = 1;\nscreen 1 > 2;\n"
 
 
@@ -51,11 +52,9 @@ def _lives(assets: pd.DataFrame, last: str) -> Iterator[str]:
 
 
 def _bars(data: Data) -> Iterator[str]:
-    found = pd.Series(dtype=float)
-    for rows in pd.read_csv(data.files["bars"], chunksize=1_000_000):
-        cells = rows.drop(columns=["sid", "session"]).assign(**{"close * volume": rows.close * rows.volume})
-        found = pd.concat([found, cells.max()], axis=1).max(axis=1)
-    for name, greatest in found.items():
+    parts = (rows.iloc[:, 2:].assign(**{"close * volume": rows.close * rows.volume}).max()
+             for rows in pd.read_csv(data.files["bars"], chunksize=1_000_000))
+    for name, greatest in pd.DataFrame(parts).max().items():
         if pd.isna(greatest) and name != "close * volume":
             yield f"bars: the column {name} is empty"
         elif greatest > NEAR:
@@ -66,23 +65,20 @@ def _bars(data: Data) -> Iterator[str]:
 def _adjustments(data: Data, assets: pd.DataFrame) -> Iterator[str]:
     if "adjustments" not in data.files or not data.sessions:
         return
-    store = sqlite3.connect(f"{data.files['adjustments'].as_uri()}?mode=ro", uri=True)
-    rows = pd.concat(pd.read_sql(f"SELECT '{table}' AS name, sid, effective_date FROM {table}", store)
-                     for table in ("splits", "mergers", "dividends"))
-    store.close()
     first, last = (pd.Timestamp(day).timestamp() for day in (data.sessions[0], data.sessions[-1]))
-    for name, odd in rows.groupby("name", sort=False):
-        unknown = ~odd.sid.isin(assets.sid)
-        if unknown.any():
-            yield f"{name}: {unknown.sum()} of {len(odd)} are of unknown sids, as {odd.sid[unknown].iloc[0]}, and do nothing"
-        if (odd.effective_date.abs() < 100_000).any():
-            yield f"{name}: effective dates as {odd.effective_date.iloc[0]} look like days and are read as seconds since 1970-01-01"
-        elif not (odd.effective_date // DAY * DAY).between(first + 1, last).any():  # an adjustment acts on bars of earlier days
-            yield f"{name}: none of {len(odd)} falls within the bars, so that none does anything"
+    with closing(sqlite3.connect(read_only(data.files["adjustments"]), uri=True)) as store:
+        for name in TABLES:
+            rows = pd.DataFrame(store.execute(f"SELECT sid, effective_date FROM {name}"), columns=["sid", "date"])
+            unknown = ~rows.sid.isin(assets.sid)
+            if unknown.any():
+                yield f"{name}: {unknown.sum()} of {len(rows)} are of unknown sids, as {rows.sid[unknown].iloc[0]}, and do nothing"
+            if (rows.date.abs() < 100_000).any():
+                yield f"{name}: effective dates as {rows.date.iloc[0]} look like days and are read as seconds since 1970-01-01"
+            elif len(rows) and not (rows.date // SECONDS * SECONDS).between(first + 1, last).any():  # it acts on bars of earlier days
+                yield f"{name}: none of {len(rows)} falls within the bars, so that none does anything"
 
 
 def _labels(data: Data, pipelines: Sequence) -> Iterator[str]:
-    from .runs import scripted
     named = {name for pipeline in pipelines for name in re.findall(r'label\("(\w+)"\)', scripted(pipeline).text)}
     there = set(pd.read_csv(data.files["labels"], usecols=["name"], dtype=str)["name"]) if "labels" in data.files else set()
     if pipelines:

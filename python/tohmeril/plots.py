@@ -17,10 +17,13 @@ closes are not: a split would count as a return. Run without a screen, since an 
 """
 from __future__ import annotations
 
-from typing import Iterable, Optional
+from typing import TYPE_CHECKING, Iterable, Optional
 
 import numpy as np
 import pandas as pd
+
+if TYPE_CHECKING:
+    from matplotlib.figure import Figure
 
 
 def forward_returns(frame: pd.DataFrame, returns: str, sessions: int) -> pd.Series:
@@ -40,7 +43,7 @@ def forward_returns(frame: pd.DataFrame, returns: str, sessions: int) -> pd.Seri
     return pd.Series(wide.to_numpy()[row, column], index=frame.index, name=f"next {sessions}")
 
 
-def factor(frame: pd.DataFrame, column: str, assets: Optional[Iterable] = None):
+def factor(frame: pd.DataFrame, column: str, assets: Optional[Iterable] = None) -> Figure:
     """A factor over time: a line for each asset, by default of the first five, above the band of the middle half of all."""
     figure, axes = _figure(f"{column}, and the middle half of all assets")
     wide = frame[column].unstack("asset").astype(float)
@@ -51,7 +54,7 @@ def factor(frame: pd.DataFrame, column: str, assets: Optional[Iterable] = None):
     return figure
 
 
-def quantile_returns(frame: pd.DataFrame, bins: str, returns: str, sessions: int):
+def quantile_returns(frame: pd.DataFrame, bins: str, returns: str, sessions: int) -> Figure:
     """Mean forward return of the assets of each bin, a mean over sessions of the means of each; `bins` is a column of quantiles."""
     figure, axes = _figure(f"mean return of the next {sessions} sessions by {bins}, percent")
     rows = pd.DataFrame({"bin": frame[bins], "return": forward_returns(frame, returns, sessions).astype(float)})
@@ -63,7 +66,7 @@ def quantile_returns(frame: pd.DataFrame, bins: str, returns: str, sessions: int
     return figure
 
 
-def turnover(frame: pd.DataFrame, bins: str, sessions: int = 1):
+def turnover(frame: pd.DataFrame, bins: str, sessions: int = 1) -> Figure:
     """Share of the top quantile's assets that were not in it some sessions before, over time."""
     figure, axes = _figure(f"turnover of the top {bins}, percent")
     wide = frame[bins].unstack("asset", fill_value=-1)

@@ -2,6 +2,7 @@
 from __future__ import annotations
 
 import os
+import platform
 import shutil
 import subprocess
 import tempfile
@@ -15,14 +16,17 @@ F_SETPIPE_SZ = 1031  # of Linux; the module fcntl names it from Python 3.10 on
 
 
 def find() -> str:
-    """Path of the program: what TOHMERIL names, else `tohmeril` on the path, else the one built in this checkout."""
+    """Path of the program: what TOHMERIL names, else `tohmeril` on the path, else the one built in this checkout.
+
+    A worker of an executor finds its own, by its own environment.
+    """
     built = Path(__file__).resolve().parents[2] / "crates/pl_main/out/pl_main"
     named = os.environ.get("TOHMERIL")
     for program in [named] if named else [shutil.which("tohmeril"), str(built)]:
         if program and os.access(program, os.X_OK):
             return program
-    raise FileNotFoundError(f"there is no program {named or 'tohmeril'}: set TOHMERIL to its path, "
-                            "or build it with ./tohmeril in the checkout")
+    raise FileNotFoundError(f"there is no program {named or 'tohmeril'} on {platform.node()}: set TOHMERIL to its path, put it "
+                            "on the path as tohmeril, or build it with ./tohmeril in the checkout")
 
 
 def _widen(pipe: BinaryIO) -> None:

@@ -34,10 +34,12 @@ class Windowed:
 
     inputs: Sequence[Term] = ()
     window_length: Optional[int] = None
+    params: Sequence[str] = ()  # what it takes beside these and `mask`, as in Zipline
     function = ""  # its name in the language
     sort: type = Factor
     takes: tuple = (BoundColumn, Factor)
     fixed = False  # whether the function is of its own inputs alone
+    windowless = False  # whether it is of its own window, too
 
     def __init_subclass__(cls):
         if Windowed in cls.__bases__:
@@ -58,15 +60,19 @@ class Windowed:
         return cls.term(() if cls.fixed else inputs, window_length, mask, **params)
 
     @classmethod
-    def term(cls, inputs, window, mask, *numbers):
-        return cls.sort(CALL, cls.function, *inputs, window, *numbers, mask=mask)
+    def term(cls, inputs, window, mask, /, **params):
+        for name in params.keys() ^ set(cls.params):
+            raise TypeError(f"{cls.__name__}: {name} is {'none of its parameters' if name in params else 'missing'}; it takes "
+                            f"{', '.join(['inputs', 'window_length', 'mask', *cls.params])}")
+        window = () if cls.windowless else (window,)
+        return cls.sort(CALL, cls.function, *inputs, *window, *(params[name] for name in cls.params), mask=mask)
 
 
 def windowed(name: str, formula: str, units: str = "those of the input", source: str = "Zipline",
-             rounding: str = "once, to the nearest millionth", **defaults) -> type[Windowed]:
+             rounding: str = "once, to the nearest millionth", base: type = Windowed, **defaults) -> type[Windowed]:
     """A class of the language's function of this name."""
     doc = f"{formula}\n\nUnits: {units}. Source: {source}. Rounding: {rounding}."
-    return type(name, (Windowed,), {"__doc__": doc, "__module__": defaults.pop("module", __name__), **defaults})
+    return type(name, (base,), {"__doc__": doc, "__module__": defaults.pop("module", __name__), **defaults})
 
 
 _OURS = {"source": "ours", "rounding": "none"}
@@ -80,6 +86,7 @@ WindowMin = windowed("WindowMin", "least present x_k; missing where n is 0", **_
 WindowStd = windowed("WindowStd", "sqrt(sum of (x_k - mean)^2 over the present x_k / n); missing where n is 0",
                      source="ours, as numpy's nanstd", rounding="down, of the variance and of the root: up to a millionth below a float")
 Returns = windowed("Returns", "(x_W - x_1) / x_1; missing where either is", "1, as 0.05 for 5 percent", inputs=(_CLOSE,))
+DailyReturns = windowed("DailyReturns", "`Returns` over two sessions", "1, as 0.05 for 5 percent", base=Returns, window_length=2)
 PercentChange = windowed("PercentChange", "(x_W - x_1) / abs(x_1); missing where either is", "1, as 0.05 for 5 percent")
 RateOfChangePercentage = windowed("RateOfChangePercentage", "100 (x_W - x_1) / x_1; missing where either is", "percent")
 RSI = windowed("RSI", "100 U / (U + D), U the sum of the rises and D of the falls between neighbors that are both present; missing "
@@ -88,14 +95,8 @@ AverageDollarVolume = windowed("AverageDollarVolume", "sum of close_k volume_k w
                                "above 10^11", "money per session", inputs=(_CLOSE, _VOLUME), fixed=True)
 FastStochasticOscillator = windowed("FastStochasticOscillator", "100 (c - l) / (h - l): the last close, the least low, the greatest high; "
                                     "missing where one is", "percent", inputs=(_CLOSE, _LOW, _HIGH), window_length=14, fixed=True)
-
-
-class DailyReturns(Returns):
-    """`Returns` over two sessions: (x_2 - x_1) / x_1
-
-    Units: 1, as 0.05 for 5 percent. Source: Zipline. Rounding: once, to the nearest millionth.
-    """
-    window_length = 2
+TrueRange = windowed("TrueRange", "greatest present one of high - low, abs(high - previous close), abs(low - previous close)",
+                     "those of the close", rounding="none", inputs=(_HIGH, _LOW, _CLOSE), window_length=2, fixed=True, windowless=True)
 
 
 class VWAP(Windowed):
@@ -110,20 +111,6 @@ class VWAP(Windowed):
         return super().term((), window, mask) if inputs == (_CLOSE, _VOLUME) else WeightedAverageValue.term(inputs, window, mask)
 
 
-class TrueRange(Windowed):
-    """greatest present one of high - low, abs(high - previous close), abs(low - previous close)
-
-    Units: those of the close. Source: Zipline. Rounding: none.
-    """
-    inputs = (_HIGH, _LOW, _CLOSE)
-    window_length = 2
-    fixed = True
-
-    @classmethod
-    def term(cls, inputs, window, mask):
-        return Factor(CALL, cls.function, mask=mask)
-
-
 class ExponentialWeightedMovingAverage(Windowed):
     """sum of w_k x_k / sum of w_k, w_W = 1 and w_(k-1) = w_k decay_rate; missing where any value is
 
@@ -133,10 +120,7 @@ class ExponentialWeightedMovingAverage(Windowed):
     >>> ExponentialWeightedMovingAverage.from_span([EquityPricing.close], window_length=30, span=15)
     ExponentialWeightedMovingAverage(close, 30, 0.875)
     """
-
-    @classmethod
-    def term(cls, inputs, window, mask, decay_rate):
-        return super().term(inputs, window, mask, decay_rate)
+    params = ("decay_rate",)
 
     @classmethod
     def from_span(cls, inputs, window_length, span, **kwargs):

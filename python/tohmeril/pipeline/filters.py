@@ -8,25 +8,14 @@ from __future__ import annotations
 
 from typing import Iterable
 
-from .factors import Windowed, windowed
+from .factors import windowed
 from .term import CALL, Absent, Filter, either
 
 _FILTER = {"units": "true or false", "rounding": "none", "sort": Filter, "module": __name__}
 All = windowed("All", "true on each of the W sessions up to today", takes=(Filter,), **_FILTER)
 Any = windowed("Any", "true on one of the W sessions up to today", takes=(Filter,), **_FILTER)
 AllPresent = windowed("AllPresent", "each x_k is present", **_FILTER)
-
-
-class AtLeastN(Windowed):
-    """true on N of the W sessions up to today, or on more
-
-    Units: true or false. Source: Zipline. Rounding: none.
-    """
-    sort, takes = Filter, (Filter,)
-
-    @classmethod
-    def term(cls, inputs, window, mask, N):
-        return super().term(inputs, window, mask, N)
+AtLeastN = windowed("AtLeastN", "true on N of the W sessions up to today, or on more", takes=(Filter,), params=("N",), **_FILTER)
 
 
 def StaticSids(sids: Iterable[int]) -> Filter:

@@ -18,7 +18,7 @@ from __future__ import annotations
 
 import math
 from decimal import ROUND_HALF_UP, Decimal
-from functools import reduce
+from functools import partial, reduce
 from numbers import Real
 from typing import Callable, Iterable, Optional, Union
 from weakref import WeakValueDictionary
@@ -48,6 +48,9 @@ class Absent:
         raise Inexpressible(f"the language has no {self.name}; nearest: {self.nearest}")
 
     __mro_entries__ = __call__  # as a base class
+
+    def __repr__(self) -> str:
+        return f"<no {self.name} in the language; nearest: {self.nearest}>"
 
     def __getattr__(self, name):  # as EWMSTD.from_span
         if name.startswith("_"):
@@ -123,7 +126,7 @@ class Term:
         raise AttributeError("terms do not change")
 
     def __reduce__(self):
-        return _again, (type(self), self.form, self.name, self.args, self.options)
+        return partial(type(self), self.form, self.name, *self.args, **dict(self.options)), ()
 
     def __repr__(self) -> str:
         from .script import expression
@@ -138,10 +141,6 @@ class Term:
         return self is other
 
     __hash__ = object.__hash__
-
-
-def _again(sort, form, name, args, options):
-    return sort(form, name, *args, **dict(options))
 
 
 def _infix(sign: str, doc: str, result: Optional[type] = None, turned: bool = False) -> Callable:
@@ -166,6 +165,9 @@ class BoundColumn(Term):
     def latest(self) -> Factor:
         """Newest value, that of the session before, as today sees it. Missing where there is no bar. Exact."""
         return Factor(PROPERTY, "latest", self)
+
+    def __getattr__(self, name):
+        raise AttributeError(f"{self!r} is a column of bars and has no {name}: write {self!r}.latest for its newest value")
 
 
 class Filter(Term):
@@ -354,6 +356,9 @@ def either(make: Callable, items: Iterable, size: int) -> Filter:
         Absent("filter of no choices", "~(1 == 1)")()
     return reduce(Filter.__or__, (make(listed[start:start + size]) for start in range(0, len(listed), size)))
 
+
+for _name in "add radd sub rsub mul rmul truediv rtruediv lt le gt ge ne".split():  # which say that a column of bars is no factor
+    setattr(BoundColumn, f"__{_name}__", getattr(Factor, f"__{_name}__"))
 
 _MONOTONE = "y itself where its order counts: rank, top and quantiles of y and of a rising function of it are the same"
 _ABSENT = {
