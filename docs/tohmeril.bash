@@ -1,29 +1,43 @@
-# Completions for bash: source this file, or put it into /etc/bash_completion.d.
+# Completions for bash: source this file, or put it into ~/.local/share/bash-completion/completions under the name tohmeril.
+_tohmeril_offer() {
+    local each
+    while IFS= read -r each; do
+        COMPREPLY+=("$each")
+    done
+}
 _tohmeril() {
-    local word=${COMP_WORDS[COMP_CWORD]} before=${COMP_WORDS[COMP_CWORD - 1]} command=${COMP_WORDS[1]-}
+    local word=${COMP_WORDS[COMP_CWORD]} before=${COMP_WORDS[COMP_CWORD - 1]} command=${COMP_WORDS[1]-} options=
     COMPREPLY=()
     if [ "$COMP_CWORD" -eq 1 ]; then
-        mapfile -t COMPREPLY < <(compgen -W "run daily plan check fmt payouts explain verify bench" -- "$word")
+        _tohmeril_offer < <(compgen -W "run daily plan check fmt payouts explain verify bench" -- "$word")
         return
+    fi
+    # bash takes the = of --format=csv for a word of its own, and zsh does not
+    if [[ $word == --format=* ]]; then
+        _tohmeril_offer < <(compgen -W "--format=csv --format=fixed" -- "$word")
+        return
+    elif [ "$word" = = ]; then
+        word=
+    elif [ "$before" = = ]; then
+        before=${COMP_WORDS[COMP_CWORD - 2]}
     fi
     case $before in
         --format)
-            mapfile -t COMPREPLY < <(compgen -W "csv fixed" -- "$word")
+            _tohmeril_offer < <(compgen -W "csv fixed" -- "$word")
             return
             ;;
         --chunk | --asof) return ;;
     esac
     if [[ $word == -* ]]; then
-        local options=
         case $command in
             run) options="--labels --adjustments --revisions --chunk --format --stats --asof" ;;
             daily) options="--labels --adjustments --revisions --format" ;;
             explain | verify) options="--labels --adjustments --revisions" ;;
             bench) options="--chunk" ;;
         esac
-        mapfile -t COMPREPLY < <(compgen -W "$options" -- "$word")
+        _tohmeril_offer < <(compgen -W "$options" -- "$word")
         return
     fi
-    mapfile -t COMPREPLY < <(compgen -f -- "$word")
+    _tohmeril_offer < <(compgen -f -- "$word")
 }
 complete -o filenames -F _tohmeril tohmeril ./tohmeril

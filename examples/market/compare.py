@@ -1,8 +1,10 @@
 #!/usr/bin/env python3
-"""Computes the tables of this folder once more with pandas, in floats, and compares them with those beside it.
+"""Computes the tables of this folder once more with pandas, in floats, and compares them with those beside
+it.
 
-Usage: compare.py FOLDER. It asks for pandas and nothing of the program. For each table it prints how many numbers there are, how
-many differ in the sixth decimal, and the greatest difference; texts, truth values and rows have to be the same.
+Usage: compare.py FOLDER. It needs pandas and nothing of the program. For each table it prints how many
+numbers there are, how many differ in the sixth decimal, and the greatest difference; texts, truth values and
+rows have to be the same.
 """
 import sqlite3
 import sys
@@ -73,7 +75,7 @@ def momentum(market, day, before):
     year = close.iloc[-1] / close.iloc[0] - 1
     month = close.iloc[-1] / close.iloc[-22] - 1
     liquid = dollars(market, day, 30)[sids].rank(ascending=False, method="first") <= 15
-    value = (year - month)[sids]
+    value = ((1 + year) / (1 + month) - 1)[sids]
     listed = value[liquid].dropna()
     sector = market.label(day).reindex(sids)
     place = listed.groupby(sector.reindex(listed.index)).rank(ascending=False, method="first")

@@ -1,8 +1,8 @@
 #!/usr/bin/env python3
 """Writes the files of a small made-up market: 20 assets over a year and a half of sessions.
 
-Usage: make.py FOLDER. The same files come out each time. Prices are in whole cents, as they were quoted on their day, so that a
-split or a dividend shows in them as a fall.
+Usage: make.py FOLDER. The same files come out each time. Prices are in whole cents, as they were quoted on
+their day, so that a split or a dividend shows in them as a fall.
 """
 import datetime
 import random
@@ -99,7 +99,7 @@ def write_files(folder, days, sids, bars, closes):
 def write_adjustments(folder, days, closes):
     with open(folder / "adjustments.sql", "w") as file:
         for table in ("splits", "mergers", "dividends"):
-            file.write(f"CREATE TABLE {table} (id INTEGER PRIMARY KEY, effective_date INTEGER NOT NULL,\n"
+            file.write(f"DROP TABLE IF EXISTS {table};\nCREATE TABLE {table} (id INTEGER PRIMARY KEY, effective_date INTEGER NOT NULL,\n"
                        "  num INTEGER NOT NULL, den INTEGER NOT NULL, sid INTEGER NOT NULL) STRICT;\n")
         rows = [("splits", SPLITS), ("mergers", MERGERS)]
         for table, listed in rows:

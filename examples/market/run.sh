@@ -1,5 +1,5 @@
 #!/usr/bin/env bash
-# Makes the tables of this folder again and says whether they are those that stand here; with --write it writes them here.
+# Makes the tables of this folder again and compares them with those here; with --write it writes them here.
 # TOHMERIL names another program than the one of this repository.
 set -eu
 here=$(cd "$(dirname "${BASH_SOURCE[0]}")" && pwd)

@@ -1,7 +1,7 @@
 #!/usr/bin/env bash
-# A file of adjustments from three CSV files. Usage: adjustments.sh SPLITS MERGERS DIVIDENDS DATABASE
-# Each CSV file has the header `date,num,den,sid`, and prices before the date are multiplied by num / den: a split of one share
-# into two is 1,2. Rows act in the order of the file where their dates are equal.
+# A file of adjustments from three CSV files. Usage: adjustments.sh SPLITS MERGERS DIVIDENDS DATABASE Each CSV
+# file has the header `date,num,den,sid`, and prices before the date are multiplied by num / den: a split of
+# one share into two is 1,2. Rows act in the order of the file where their dates are equal.
 set -eu
 database=$4
 rm -f "$database"

@@ -1,9 +1,10 @@
 #!/usr/bin/env python3
-"""The files of a run from wide CSV files, as most data comes: a row for each session, a column for each symbol.
+"""The files of a run from wide CSV files, as most data comes: a row for each session, a column for each
+symbol.
 
-Usage: bars.py FOLDER close.csv volume.csv .. Each file is named by what it holds: open, high, low, close or volume. Prices are as
-they were quoted on their day; an empty field is a missing value. It asks for the package in python/, whose Data.write takes
-splits, dividends, labels and revisions too.
+Usage: bars.py FOLDER close.csv volume.csv .. Each file is named by what it holds: open, high, low, close or
+volume. Prices are as they were quoted on their day; an empty field is a missing value. It needs the package
+in python/, whose Data.write takes splits, dividends, labels and revisions too.
 """
 import sys
 from pathlib import Path

@@ -1,8 +1,10 @@
 #!/usr/bin/env python3
-"""Pictures of a factor: its course, mean returns of the next sessions by its fifths, and the turnover of the top fifth.
+"""Pictures of a factor: its course, mean returns of the next sessions by its fifths, and the turnover of the
+top fifth.
 
-Usage: picture.py DATA FROM TO SESSIONS PICTURES, DATA being a folder of data and PICTURES the one for the files. The returns are
-adjusted, since they are a column of the pipeline. It asks for the package in python/ and for matplotlib.
+Usage: picture.py DATA FROM TO SESSIONS PICTURES, DATA being a folder of data and PICTURES the one for the
+files. The returns are adjusted, since they are a column of the pipeline. It needs the package in python/ and
+for matplotlib.
 """
 import sys
 from pathlib import Path

@@ -24,10 +24,10 @@ use std::sync::ledger::Ledger;
 /// Runs the program on the words after its name:
 ///
 /// - `run PIPELINE SESSIONS ASSETS BARS FROM TO`, with the options `--labels NAME`, `--adjustments NAME`,
-///   `--chunk N`, `--format csv`, `--format fixed` and `--stats` anywhere among these words, reads the files
-///   from the shelf and the adjustments from the keeper, and writes the table of the sessions FROM to TO to
-///   `out`, computed N sessions at a time, 126 where N is not told; with `--stats` it tells its numbers on
-///   `err`;
+///   `--revisions NAME`, `--chunk N`, `--format csv`, `--format fixed`, `--stats` and `--asof DATE` anywhere
+///   among these words, reads the files from the shelf and the adjustments from the keeper, and writes the
+///   table of the sessions FROM to TO to `out`, computed N sessions at a time, 126 where N is not given, and
+///   with `--asof` over what is known by that session; with `--stats` it writes its numbers on `err`;
 /// - `fmt PIPELINE` writes the canonical text of the pipeline file;
 /// - `check PIPELINE` writes how many terms and columns its pipeline has;
 /// - `plan PIPELINE SESSIONS FROM TO` writes what is computed for these sessions: a line for each used term,

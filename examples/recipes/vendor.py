@@ -1,0 +1,42 @@
+#!/usr/bin/env python3
+"""The program's files from a vendor's, checked against the vendor's adjusted closes.
+
+Usage: vendor.py SOURCE TARGET. SOURCE is a folder as examples/vendor, with these files, of which the last
+three may be left out:
+  prices.csv      date,ticker,open,high,low,close,volume,adjClose: raw bars, dates with or without a time
+  splits.csv      date,ticker,split: 20:1 is twenty new shares for an old one
+  dividends.csv   ex_date,ticker,amount: cash, in the money of the prices
+  sectors.csv     date,ticker,sector: from the date on
+TARGET becomes the folder of a run. Tickers get sids in alphabetic order, which are in TARGET/symbols.csv.
+Where the vendor's columns have other names, rename them below. It needs the package in python/.
+"""
+import sys
+from pathlib import Path
+
+import pandas as pd
+
+from tohmeril import Data, Pipeline, run_pipeline
+from tohmeril.pipeline.factors import Returns
+
+source, target = map(Path, sys.argv[1:])
+
+
+def read(name):
+    return pd.read_csv(source / f"{name}.csv") if (source / f"{name}.csv").exists() else None
+
+
+prices, sectors = read("prices"), read("sectors")
+labels = None if sectors is None else sectors.rename(columns={"date": "start", "sector": "label"}).assign(name="sector")
+data = Data.write(target, prices, splits=read("splits"), dividends=read("dividends"), labels=labels)
+print(*data.check() or ["nothing looks odd"], sep="\n")
+
+# The change of each close as the program adjusts it, beside that of the vendor's adjusted closes. A session
+# sees the one before it.
+own = run_pipeline(Pipeline({"change": Returns(window_length=2)}), data.sessions[2], data.sessions[-1], data, symbols=True).change.unstack()
+adjusted = prices.assign(day=pd.to_datetime(prices.date).dt.strftime("%Y-%m-%d")).pivot(index="day", columns="ticker", values="adjClose")
+theirs = adjusted.pct_change(fill_method=None).shift().set_axis(pd.to_datetime(adjusted.index))
+gaps = (own - theirs.loc[own.index, own.columns]).abs().stack()
+print(f"{len(gaps)} changes of closes are compared with the vendor's, the greatest gap is {gaps.max():.7f}")
+far = gaps[gaps > 0.0005]
+if len(far):
+    print(f"{len(far)} are farther apart than 0.0005:", far.sort_values().tail(10).to_string(), sep="\n")
