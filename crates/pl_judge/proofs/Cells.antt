@@ -160,8 +160,8 @@ module _ (p : Pipeline) (days : List ℤ) (assets : List AssetRow) (q : ExplainR
 
 -- ---- the lines of its derivation
 
-abbrev most_lines : ℕ → Step
-most_lines n = rule (when (nat_lt most_lines n) (Passed limits.Derivation))
+abbrev counted : ℕ → Step
+counted n = rule (when (nat_lt most_lines n) (Passed limits.Derivation))
 
 is-below : (m n : ℕ) → m < n → nat_lt m n ≡ true
 is-below m n l = grind (arith, nat_tests)
@@ -169,10 +169,10 @@ is-below m n l = grind (arith, nat_tests)
 not-below : (m n : ℕ) → n ≤ m → nat_lt m n ≡ false
 not-below m n l = grind (arith, nat_tests)
 
-past : (n : ℕ) → most_lines < n → first_fault (most_lines n ∷ []) ≡ Some (Passed limits.Derivation)
+past : (n : ℕ) → most_lines < n → first_fault (counted n ∷ []) ≡ Some (Passed limits.Derivation)
 past n l = rw (is-below most_lines n l) refl
 
-within : (n : ℕ) → n ≤ most_lines → first_fault (most_lines n ∷ []) ≡ None
+within : (n : ℕ) → n ≤ most_lines → first_fault (counted n ∷ []) ≡ None
 within n l = rw (not-below most_lines n l) refl
 
 module _ (w : World) (p : Pipeline) (q : ExplainRequest) (t d : ℕ) (is : column_term p q.column ≡ Some t) (on : session_of w.days q.date.day ≡ Some d) where
