@@ -9,7 +9,7 @@ use Rattle.pl_spec.specs.declared.AssetRow.{AssetRow}
 use Rattle.pl_spec.specs.declared.RawAdjust.{RawAdjust}
 use Rattle.pl_spec.specs.Order.{adjustments_of}
 use Rattle.pl_spec.specs.Parts.{ColumnAdjustment}
-use Rattle.pl_adjust.specs.declared.TheConstants.{MOST_ROWS}
+use Rattle.pl_spec.specs.Limits.{most_adjustments}
 use Rattle.pl_adjust.specs.Columns.{by_column, in_column}
 use Rattle.pl_adjust.specs.Tables.{adjustments_in, ok_unless}
 use Rattle.pl_adjust.specs.Walk.{Fault, TooMany, BadEffective, BadRatio, TableRow, fault_at, first_fault, is_effective, is_part, walk}
@@ -68,10 +68,10 @@ ratio_if r e = let both = and_parts (is_part r.num) (is_part r.den) e in record 
 ratio_from : (r : RawAdjust) → HasRatio r → (is_part r.num && is_part r.den) ≡ true
 ratio_from r h = rw (part_from r.num h.num.0 h.num.1, part_from r.den h.den.0 h.den.1) refl
 
-few_rows : (n : ℕ) → nat_le MOST_ROWS n ≡ false → n < MOST_ROWS
+few_rows : (n : ℕ) → nat_le most_adjustments n ≡ false → n < most_adjustments
 few_rows n e = grind (arith, nat_tests)
 
-many_rows : (n : ℕ) → nat_le MOST_ROWS n ≡ true → MOST_ROWS ≤ n
+many_rows : (n : ℕ) → nat_le most_adjustments n ≡ true → most_adjustments ≤ n
 many_rows n e = grind (arith, nat_tests)
 
 -- ---- the fault of a row
@@ -82,9 +82,9 @@ module _ (n : ℕ) (r : TableRow) where
 
   is_right : fault_at n r ≡ None → IsRight n r
   unfolding fault_at
-  is_right e = here (nat_le MOST_ROWS n) (is_effective r.row.effective) (is_part r.row.num && is_part r.row.den) refl refl refl e
+  is_right e = here (nat_le most_adjustments n) (is_effective r.row.effective) (is_part r.row.num && is_part r.row.den) refl refl refl e
     where
-      here : (a b c : Bool) → nat_le MOST_ROWS n ≡ a → is_effective r.row.effective ≡ b → (is_part r.row.num && is_part r.row.den) ≡ c → said a b c ≡ None → IsRight n r
+      here : (a b c : Bool) → nat_le most_adjustments n ≡ a → is_effective r.row.effective ≡ b → (is_part r.row.num && is_part r.row.den) ≡ c → said a b c ≡ None → IsRight n r
       here true b c t u v e = absurd (let bad : Some TooMany ≡ None = e in cc)
       here false true true t u v e = record { room = few_rows n t; effective = effective_if r.row.effective u; ratio = ratio_if r.row v }
       here false true false t u v e = absurd (let bad : Some (BadRatio r.table r.row.id) ≡ None = e in cc)
@@ -93,15 +93,15 @@ module _ (n : ℕ) (r : TableRow) where
   right_is : IsRight n r → fault_at n r ≡ None
   unfolding fault_at
   right_is h =
-      let room : n < MOST_ROWS = h.room in
-      let t : nat_le MOST_ROWS n ≡ false = grind (arith, nat_tests) in
+      let room : n < most_adjustments = h.room in
+      let t : nat_le most_adjustments n ≡ false = grind (arith, nat_tests) in
       rw (t, effective_from r.row.effective h.effective, ratio_from r.row h.ratio) refl
 
   is_fault : (f : Fault) → fault_at n r ≡ Some f → IsFaultOf n r f
   unfolding fault_at
-  is_fault f e = here (nat_le MOST_ROWS n) (is_effective r.row.effective) (is_part r.row.num && is_part r.row.den) refl refl refl e
+  is_fault f e = here (nat_le most_adjustments n) (is_effective r.row.effective) (is_part r.row.num && is_part r.row.den) refl refl refl e
     where
-      here : (a b c : Bool) → nat_le MOST_ROWS n ≡ a → is_effective r.row.effective ≡ b → (is_part r.row.num && is_part r.row.den) ≡ c → said a b c ≡ Some f → IsFaultOf n r f
+      here : (a b c : Bool) → nat_le most_adjustments n ≡ a → is_effective r.row.effective ≡ b → (is_part r.row.num && is_part r.row.den) ≡ c → said a b c ≡ Some f → IsFaultOf n r f
       here true b c t u v e = let same : TooMany ≡ f = cc in rw (← same) (many_rows n t)
       here false true true t u v e = absurd (let bad : None ≡ Some f = e in cc)
       here false true false t u v e =
@@ -113,18 +113,18 @@ module _ (n : ℕ) (r : TableRow) where
 
   fault_is : (f : Fault) → IsFaultOf n r f → fault_at n r ≡ Some f
   unfolding fault_at
-  fault_is TooMany h = let t : nat_le MOST_ROWS n ≡ true = grind (arith, nat_tests) in rw t refl
+  fault_is TooMany h = let t : nat_le most_adjustments n ≡ true = grind (arith, nat_tests) in rw t refl
   fault_is (BadEffective table id) h =
-      let room : n < MOST_ROWS = h.0 in
-      let t : nat_le MOST_ROWS n ≡ false = grind (arith, nat_tests) in
+      let room : n < most_adjustments = h.0 in
+      let t : nat_le most_adjustments n ≡ false = grind (arith, nat_tests) in
       rw (t, other (is_effective r.row.effective) refl) (ap (λ x. Some (BadEffective x r.row.id)) (sym h.2) ∙ ap (λ i. Some (BadEffective table i)) (sym h.3))
     where
       other : (b : Bool) → is_effective r.row.effective ≡ b → is_effective r.row.effective ≡ false
       other true e = absurd (h.1 (effective_if r.row.effective e))
       other false e = e
   fault_is (BadRatio table id) h =
-      let room : n < MOST_ROWS = h.0 in
-      let t : nat_le MOST_ROWS n ≡ false = grind (arith, nat_tests) in
+      let room : n < most_adjustments = h.0 in
+      let t : nat_le most_adjustments n ≡ false = grind (arith, nat_tests) in
       rw (t, effective_from r.row.effective h.1, other (is_part r.row.num && is_part r.row.den) refl) (ap (λ x. Some (BadRatio x r.row.id)) (sym h.3) ∙ ap (λ i. Some (BadRatio table i)) (sym h.4))
     where
       other : (b : Bool) → (is_part r.row.num && is_part r.row.den) ≡ b → (is_part r.row.num && is_part r.row.den) ≡ false

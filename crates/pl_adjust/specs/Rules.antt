@@ -1,7 +1,7 @@
 -- The rules of the rows of adjustments in plain words.
 use Rattle.std.specs.Prelude.{◌≡◌, ℕ, ◌<◌, ◌≤◌, ℤ, pos, negsuc, ◌<ℤ◌, ◌≤ℤ◌, List, ◌∷◌, ◌++◌, length, slice_get, Some}
 use Rattle.pl_spec.specs.declared.RawAdjust.{RawAdjust}
-use Rattle.pl_adjust.specs.declared.TheConstants.{MOST_ROWS}
+use Rattle.pl_spec.specs.Limits.{most_adjustments}
 use Rattle.pl_adjust.specs.Walk.{Fault, TooMany, BadEffective, BadRatio, TableRow}
 
 -- a time from the first second of 1900 up to the last of 2199
@@ -16,7 +16,7 @@ pub record HasRatio (r : RawAdjust) : Type 0 where
 
 -- a row behind n rows that breaks no rule
 pub record IsRight (n : ℕ) (r : TableRow) : Type 0 where
-  pub room : n < MOST_ROWS
+  pub room : n < most_adjustments
   pub effective : IsEffective r.row.effective
   pub ratio : HasRatio r.row
 
@@ -25,11 +25,11 @@ AreRight rows = (k : ℕ) (r : TableRow) → slice_get rows k ≡ Some r → IsR
 
 -- a row behind n rows breaks this rule, and none that is tested before it
 abbrev pub IsFaultOf : ℕ → TableRow → Fault → Type 0
-IsFaultOf n r TooMany = MOST_ROWS ≤ n
+IsFaultOf n r TooMany = most_adjustments ≤ n
 IsFaultOf n r (BadEffective table id) =
-    (n < MOST_ROWS) × (¬ IsEffective r.row.effective) × (table ≡ r.table) × (id ≡ r.row.id)
+    (n < most_adjustments) × (¬ IsEffective r.row.effective) × (table ≡ r.table) × (id ≡ r.row.id)
 IsFaultOf n r (BadRatio table id) =
-    (n < MOST_ROWS) × IsEffective r.row.effective × (¬ HasRatio r.row) × (table ≡ r.table) × (id ≡ r.row.id)
+    (n < most_adjustments) × IsEffective r.row.effective × (¬ HasRatio r.row) × (table ≡ r.table) × (id ≡ r.row.id)
 
 -- the rows in front of the faulty one are right
 pub record IsFirstFault (rows : List TableRow) (fault : Fault) : Type 0 where

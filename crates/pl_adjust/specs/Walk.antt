@@ -7,7 +7,7 @@ use Rattle.pl_spec.specs.declared.AdjustmentKind.TheVariants.{Split, Merger, Div
 use Rattle.pl_spec.specs.declared.RawAdjust.{RawAdjust}
 use Rattle.pl_spec.specs.Order.{day_of_time}
 use Rattle.pl_outside.specs.declared.keeper.Table.{Table}
-use Rattle.pl_adjust.specs.declared.TheConstants.{MOST_ROWS}
+use Rattle.pl_spec.specs.Limits.{most_adjustments}
 use Rattle.pl_outside.specs.declared.keeper.Table.TheVariants.{Splits, Mergers, Dividends}
 
 -- what the rows of a table are
@@ -43,7 +43,7 @@ is_part n = int_le (pos 1) n && int_le n (pos 1000000000)
 -- the first rule that a row breaks behind n rows
 unfoldable pub fault_at : ℕ → TableRow → Option Fault
 fault_at n r =
-    if nat_le MOST_ROWS n then Some TooMany
+    if nat_le most_adjustments n then Some TooMany
     else if is_effective r.row.effective then
     if is_part r.row.num && is_part r.row.den then None else Some (BadRatio r.table r.row.id)
     else Some (BadEffective r.table r.row.id)

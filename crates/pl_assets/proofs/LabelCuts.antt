@@ -12,7 +12,7 @@ use Rattle.pl_spec.specs.AsOf.{labels_by}
 use Rattle.pl_spec.specs.Parts.{ColumnLabel}
 use Rattle.pl_assets.specs.Labels.{AreLabels, IsLabelRow, is_from, is_text, with_label}
 use Rattle.pl_assets.specs.LabelPlaces.{AreNumbered, IsPlace, row_at, shown_rows, table_in, text_in}
-use Rattle.pl_assets.specs.declared.TheConstants.{MOST_LABELS}
+use Rattle.pl_spec.specs.Limits.{most_labels}
 use Rattle.pl_assets.specs.declared.labels.rows.Place.{Place}
 use Rattle.pl_assets.specs.declared.labels.rows.LabelRows.{LabelRows}
 use Rattle.pl_assets.proofs.FirstSeen.{equal_text}
@@ -73,7 +73,7 @@ module _ (day : ℤ) (old new : LabelRows) (own : AreLabels (table_in old)) (row
   pub once_cut : AllPairs (λ r q. is_from r.name r.col r.start q ≡ false) (shown_rows new)
   once_cut = rw rows (AllPairs-filter (λ r q. is_from r.name r.col r.start q ≡ false) (λ r. int_le r.start day) (shown_rows old) own.once)
 
-  pub few_cut : length (shown_rows new) ≤ MOST_LABELS
+  pub few_cut : length (shown_rows new) ≤ most_labels
   few_cut =
       let few = own.few in
       rw rows (omega (arith, length-filter (λ (r : ColumnLabel). int_le r.start day) (shown_rows old), count_by-le-length (λ (r : ColumnLabel). int_le r.start day) (shown_rows old)))

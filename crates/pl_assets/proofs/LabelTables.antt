@@ -9,7 +9,7 @@ use Rattle.std.proofs.lemmas.List.{length-map, get_or-map, get_or_append_left, g
 use Rattle.std.proofs.lemmas.List.Elements.{All-append, All-filter, All-map}
 use Rattle.std.proofs.lemmas.List.Edits.{length-insert, get_or-insert_at, get_or-insert_below, get_or-insert_above}
 use Rattle.pl_spec.specs.Parts.{ColumnLabel}
-use Rattle.pl_assets.specs.declared.TheConstants.{MOST_LABELS}
+use Rattle.pl_spec.specs.Limits.{most_labels}
 use Rattle.pl_assets.specs.Labels.{AreLabels, IsLabelRow, IsLabelText, LabelTable, MayFollow, is_from, is_text, no_labels, table_of, texts_of, with_label}
 use Rattle.pl_assets.specs.LabelPlaces.{AreNumbered, IsOrder, IsTable, KeyPoint, OwnKeys, key_at, key_of, row_at, shown_rows, table_in}
 use Rattle.pl_assets.specs.declared.labels.rows.Place.{Place}
@@ -177,14 +177,14 @@ no_table t order n x e o =
       found = rw o (order_none t.places.items e);
     }
 
-pub kept_labels : (t : LabelRows) → AreNumbered t → All IsLabelRow (shown_rows t) → Once (shown_rows t) → length (shown_rows t) ≤ MOST_LABELS → All IsLabelText t.texts → AreLabels (table_in t)
+pub kept_labels : (t : LabelRows) → AreNumbered t → All IsLabelRow (shown_rows t) → Once (shown_rows t) → length (shown_rows t) ≤ most_labels → All IsLabelText t.texts → AreLabels (table_in t)
 kept_labels t numbered rows once few right = record { rows = rows; once = once; few = few; texts = numbered.texts; right = right; coded = rows_coded t numbered }
 
 pub labels_more : (old new : LabelRows) (r : ColumnLabel) → AreLabels (table_in old) → AreNumbered new → MayFollow (shown_rows old) r → shown_rows new ≡ shown_rows old ++ r ∷ [] → new.texts ≡ with_label old.texts r.text
     → AreLabels (table_in new)
 labels_more old new r h numbered may e t =
     kept_labels new numbered (rw e (right-more (shown_rows old) r h.rows may.row)) (rw e (once-more (shown_rows old) r h.once may.own_start))
-    (rw e (let room : length (shown_rows old) < MOST_LABELS = may.room in omega (arith, length-append (shown_rows old) (r ∷ []))))
+    (rw e (let room : length (shown_rows old) < most_labels = may.room in omega (arith, length-append (shown_rows old) (r ∷ []))))
     (rw t (right_text_more old.texts r.text h.right (record { printable = may.row.printable; short = may.row.short })))
 
 pub order_before : (places new : List Place) (p : Place) (order kept : List ℕ) → new ≡ places ++ p ∷ [] → kept ≡ order → IsOrder places (length places) order → IsOrder new (length new - 1) kept

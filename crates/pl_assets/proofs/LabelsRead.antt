@@ -15,17 +15,17 @@ use Rattle.pl_records.proofs.RuleTables.{and_then_some, map_some, told_ok, ok_or
 use Rattle.pl_lifetimes.specs.Assets.{sid_of}
 use Rattle.pl_assets.specs.Labels.{Rule, breaks, col_in, in_column, row_of, header, label_in, is_from, is_printable, says_label, label_rows_in, labels_of, table_of, texts_of, LabelTable, IsLabelRow, AreLabels}
 use Rattle.pl_assets.specs.Labels as rules
-use Rattle.pl_assets.specs.declared.TheConstants.{MOST_LABELS, LONGEST_LABEL}
+use Rattle.pl_spec.specs.Limits.{most_labels, most_label_bytes}
 use Rattle.pl_assets.proofs.LabelFields.{IsLabelRecord-label_in, printable-bytes}
 use Rattle.pl_assets.proofs.LabelKeys.{from_parts, parts_from}
 
 -- ---- what the tests were where a record says its row
 
 pub record Says (assets : List AssetRow) (before : List ColumnLabel) (r : Record) (row : ColumnLabel) : Type 0 where
-  pub few : nat_le MOST_LABELS (length before) ≡ false
+  pub few : nat_le most_labels (length before) ≡ false
   pub label : LabelRow
   pub written : label_in r ≡ Some label
-  pub short : nat_lt LONGEST_LABEL (length label.text) ≡ false
+  pub short : nat_lt most_label_bytes (length label.text) ≡ false
   pub col : position (λ a. sid_of a == label.sid) assets ≡ Some row.col
   pub own : list_any (is_from label.name row.col label.start) before ≡ false
   pub same : in_column label row.col ≡ row
@@ -55,7 +55,7 @@ says_label-ok assets before r row e =
 pub record AreRead (assets : List AssetRow) (rows : List ColumnLabel) : Type 0 where
   pub right : All IsLabelRow rows
   pub once : AllPairs (λ r q. is_from r.name r.col r.start q ≡ false) rows
-  pub few : length rows ≤ MOST_LABELS
+  pub few : length rows ≤ most_labels
   pub cols : All (λ r. r.col < length assets) rows
 
 one_row : (P : ColumnLabel → Type 0) (r : ColumnLabel) → P r → All P (r ∷ [])
@@ -90,7 +90,7 @@ read-more assets before r row h s =
     let ok = says_label-ok assets before r row s in
     let w = IsLabelRecord-label_in r ok.label ok.written in
     let at = position-Some (λ a. sid_of a == ok.label.sid) assets row.col blank ok.col in
-    let room : length before < MOST_LABELS = room_left (length before) ok.few in
+    let room : length before < most_labels = room_left (length before) ok.few in
     let right : IsLabelRow (in_column ok.label row.col) = record { name = w.right_name; printable = printable-bytes ok.label.text w.printable; short = fits (length ok.label.text) ok.short } in
     record {
       right = right-more before row h.right (subst IsLabelRow ok.same right);
@@ -99,10 +99,10 @@ read-more assets before r row h s =
       cols = All-append (λ (x : ColumnLabel). x.col < length assets) before (row ∷ []) h.cols (one_row (λ x. x.col < length assets) row at.0);
     }
   where
-    room_left : (n : ℕ) → nat_le MOST_LABELS n ≡ false → n < MOST_LABELS
+    room_left : (n : ℕ) → nat_le most_labels n ≡ false → n < most_labels
     room_left n t = grind (arith, nat_tests)
 
-    fits : (n : ℕ) → nat_lt LONGEST_LABEL n ≡ false → n ≤ LONGEST_LABEL
+    fits : (n : ℕ) → nat_lt most_label_bytes n ≡ false → n ≤ most_label_bytes
     fits n t = grind (arith, nat_tests)
 
 read-none : (assets : List AssetRow) → AreRead assets []

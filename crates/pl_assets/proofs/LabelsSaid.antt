@@ -16,7 +16,7 @@ use Rattle.pl_assets.specs.Labels.{Rule, LabelTable, breaks, col_in, in_column, 
 use Rattle.pl_assets.specs.Labels as rules
 use Rattle.pl_lifetimes.specs.Assets.{HasSid}
 use Rattle.pl_assets.specs.LabelRules.{IsLabelRecord, IsRowRecord, StartWith, IsLabel, Breaks, AreLabelsOf, IsLabelsFault}
-use Rattle.pl_assets.specs.declared.TheConstants.{LONGEST_LABEL}
+use Rattle.pl_spec.specs.Limits.{most_label_bytes}
 use Rattle.pl_assets.proofs.LabelKeys.{from_parts, parts_from}
 use Rattle.pl_assets.proofs.LabelFields.{label_form}
 use Rattle.pl_lifetimes.proofs.SidColumns.{sid_form}
@@ -67,7 +67,7 @@ tells assets up before r rules.TooMany = (λ t. grind (arith, nat_tests), λ h. 
 tells assets up before r rules.BadField = lacks-tells label_in IsLabelRecord label_form r
 tells assets up before r rules.LabelTooLong = has-tells label_in IsLabelRecord label_form _ _ (λ l. long (length l.text)) r
   where
-    long : (n : ℕ) → Decides (nat_lt LONGEST_LABEL n) (LONGEST_LABEL < n)
+    long : (n : ℕ) → Decides (nat_lt most_label_bytes n) (most_label_bytes < n)
     long n = (λ t. grind (arith, nat_tests), λ h. grind (arith, nat_tests))
 tells assets up before r rules.UnknownSid =
     has-tells label_in IsLabelRecord label_form _ _ (lacks-tells (col_in assets) (λ l col. HasSid assets col l.sid) (col_form assets up)) r

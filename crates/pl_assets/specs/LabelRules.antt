@@ -10,7 +10,7 @@ use Rattle.pl_spec.specs.World.{LabelRow}
 use Rattle.pl_spec.specs.declared.AssetRow.{AssetRow}
 use Rattle.pl_lifetimes.specs.Assets.{HasSid}
 use Rattle.pl_assets.specs.Labels.{Rule, BadHeader, TooMany, BadField, LabelTooLong, UnknownSid, DuplicateStart, LabelTable, rules, header, texts_of}
-use Rattle.pl_assets.specs.declared.TheConstants.{MOST_LABELS, LONGEST_LABEL}
+use Rattle.pl_spec.specs.Limits.{most_labels, most_label_bytes}
 
 -- the record is the name, the sid, without sign and zeros in front, the date of the start and the text of the
 -- label, which has no bytes but the printable ones of ASCII
@@ -45,9 +45,9 @@ StartWith row x = (x.name ≡ row.name) × (x.col ≡ row.col) × (x.start ≡ r
 -- what it is to break each rule
 abbrev pub Breaks : List AssetRow → List ColumnLabel → Record → Rule → Type 0
 Breaks assets before r BadHeader = ⊥
-Breaks assets before r TooMany = MOST_LABELS ≤ length before
+Breaks assets before r TooMany = most_labels ≤ length before
 Breaks assets before r BadField = (l : LabelRow) → ¬ IsLabelRecord r l
-Breaks assets before r LabelTooLong = (l : LabelRow) × IsLabelRecord r l × (LONGEST_LABEL < length l.text)
+Breaks assets before r LabelTooLong = (l : LabelRow) × IsLabelRecord r l × (most_label_bytes < length l.text)
 Breaks assets before r UnknownSid = (l : LabelRow) × IsLabelRecord r l × ((col : ℕ) → ¬ HasSid assets col l.sid)
 Breaks assets before r DuplicateStart = (row : ColumnLabel) × IsRowRecord assets r row × Any (StartWith row) before
 

@@ -13,7 +13,7 @@ use Rattle.pl_spec.specs.Parts.{ColumnLabel}
 use Rattle.pl_spec.specs.World.{LabelRow, last_started, nonempty, is_label_of}
 use Rattle.pl_spec.specs.declared.AssetRow.{AssetRow}
 use Rattle.pl_lifetimes.specs.Assets.{sid_of}
-use Rattle.pl_assets.specs.declared.TheConstants.{MOST_LABELS, LONGEST_LABEL}
+use Rattle.pl_spec.specs.Limits.{most_labels, most_label_bytes}
 
 -- the rows of labels, and the distinct texts in them: a text's place in that list, from 0, is its code
 pub record LabelTable : Type 0 where
@@ -106,9 +106,9 @@ rules = TooMany ∷ BadField ∷ LabelTooLong ∷ UnknownSid ∷ DuplicateStart 
 
 abbrev pub breaks : List AssetRow → List ColumnLabel → Record → Rule → Bool
 breaks assets before r BadHeader = false
-breaks assets before r TooMany = nat_le MOST_LABELS (length before)
+breaks assets before r TooMany = nat_le most_labels (length before)
 breaks assets before r BadField = lacks (label_in r)
-breaks assets before r LabelTooLong = has (λ l. nat_lt LONGEST_LABEL (length l.text)) (label_in r)
+breaks assets before r LabelTooLong = has (λ l. nat_lt most_label_bytes (length l.text)) (label_in r)
 breaks assets before r UnknownSid = has (λ l. lacks (col_in assets l)) (label_in r)
 breaks assets before r DuplicateStart = has (λ row. list_any (is_from row.name row.col row.start) before) (row_of assets r)
 
@@ -130,7 +130,7 @@ labels_of assets records = label_rows_in assets records >>= λ rows. Ok (table_o
 pub record IsLabelRow (r : ColumnLabel) : Type 0 where
   pub name : IsTrue (is_name r.name)
   pub printable : IsTrue (is_printable r.text)
-  pub short : length r.text ≤ LONGEST_LABEL
+  pub short : length r.text ≤ most_label_bytes
 
 -- texts that have codes: each once, none of them empty, and no more than there are codes of 32 bits
 pub record AreTexts (texts : List (List ℕ)) : Type 0 where
@@ -141,14 +141,14 @@ pub record AreTexts (texts : List (List ℕ)) : Type 0 where
 -- a text that a label may have
 pub record IsLabelText (text : List ℕ) : Type 0 where
   pub printable : IsTrue (is_printable text)
-  pub short : length text ≤ LONGEST_LABEL
+  pub short : length text ≤ most_label_bytes
 
 -- Each text of a row that is not empty has a code. Other texts may have codes too: where rows are left out,
 -- the others keep the codes that they had.
 pub record AreLabels (t : LabelTable) : Type 0 where
   pub rows : All IsLabelRow t.rows
   pub once : AllPairs (λ r q. is_from r.name r.col r.start q ≡ false) t.rows
-  pub few : length t.rows ≤ MOST_LABELS
+  pub few : length t.rows ≤ most_labels
   pub texts : AreTexts t.texts
   pub right : All IsLabelText t.texts
   pub coded : All (λ r. IfSome (nonempty r.text) (Contains t.texts)) t.rows
@@ -161,4 +161,4 @@ label_row assets name sid start text = record { name = name; col = position_or_l
 pub record MayFollow (rows : List ColumnLabel) (r : ColumnLabel) : Type 0 where
   pub row : IsLabelRow r
   pub own_start : list_any (is_from r.name r.col r.start) rows ≡ false
-  pub room : length rows < MOST_LABELS
+  pub room : length rows < most_labels

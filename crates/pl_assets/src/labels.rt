@@ -7,7 +7,7 @@ ghost use Rattle.pl_records.specs.Records.{csv_records};
 ghost use Rattle.pl_lifetimes.specs.Assets.{sid_of};
 ghost use Rattle.pl_assets.specs.Labels.{AreLabels, MayFollow, is_printable, label_on, label_row, labels_of, names_of, no_labels, with_label};
 ghost use Rattle.pl_assets.specs.LabelFaults.{fault_of};
-ghost use Rattle.pl_assets.specs.declared.TheConstants.{LONGEST_LABEL};
+ghost use Rattle.pl_spec.specs.Limits.{most_label_bytes};
 
 mod error;
 mod order;
@@ -159,7 +159,7 @@ impl Labels {
         requires { code < length self.now.texts }
         ensures exact { result.now ≡ slice_index_or self.now.texts code [] }
         ensures printable { IsTrue (is_printable result.now) }
-        ensures short { length result.now ≤ LONGEST_LABEL }
+        ensures short { length result.now ≤ most_label_bytes }
     {
         self.rows.texts.text(code as usize)
     }

@@ -19,12 +19,12 @@ use Rattle.pl_lifetimes.specs.Assets.{sid_of}
 use Rattle.pl_bars.specs.declared.fields.Fields.{Fields}
 use Rattle.pl_bars.specs.Bars.{Rule, breaks, session_in, col_in, placed_at, bar_of, header, fields_in, is_negative, is_at, says_bar, key_of, rows_in, bars_of, is_before, is_bar_cell, AreBars}
 use Rattle.pl_bars.specs.Bars as rules
-use Rattle.pl_bars.specs.declared.TheConstants.{MOST_BARS}
-use Rattle.pl_calendar.specs.declared.TheConstants.{MOST_SESSIONS}
+use Rattle.pl_spec.specs.Limits.{most_bars}
+use Rattle.pl_spec.specs.Limits.{most_sessions}
 use Rattle.pl_bars.proofs.BarSets.{same_place}
 use Rattle.pl_bars.proofs.BarFields.{fields-cells}
 
-few : (n : ℕ) → n < MOST_BARS → nat_le MOST_BARS n ≡ false
+few : (n : ℕ) → n < most_bars → nat_le most_bars n ≡ false
 few n h = grind (arith, nat_tests)
 
 -- ---- the exits of a judgement
@@ -35,7 +35,7 @@ SessionIs days f o = position (λ d. int_eq d f.day) days ≡ o
 abbrev ColIs : List AssetRow → Fields → Option ℕ → Type 0
 ColIs assets f o = position (λ a. sid_of a == f.sid) assets ≡ o
 
-module _ (days : List ℤ) (assets : List AssetRow) (before : List BarRow) (r : Record) (f : Fields) (n : length before < MOST_BARS) (e : fields_in r ≡ Some f) where
+module _ (days : List ℤ) (assets : List AssetRow) (before : List BarRow) (r : Record) (f : Fields) (n : length before < most_bars) (e : fields_in r ≡ Some f) where
   pub no_session : SessionIs days f None → says_bar days assets before r ≡ Err rules.NotSession
   unfolding says_bar
   no_session p =
@@ -75,7 +75,7 @@ module _ (days : List ℤ) (assets : List AssetRow) (before : List BarRow) (r : 
 -- ---- what the tests were where a record says its bar
 
 pub record Says (days : List ℤ) (assets : List AssetRow) (before : List BarRow) (r : Record) (b : BarRow) : Type 0 where
-  pub few : nat_le MOST_BARS (length before) ≡ false
+  pub few : nat_le most_bars (length before) ≡ false
   pub fields : Fields
   pub written : fields_in r ≡ Some fields
   pub session : position (λ d. int_eq d fields.day) days ≡ Some b.session
@@ -120,19 +120,19 @@ other_keys (x ∷ xs) y s h e =
 pub record AreKept (rows : List BarRow) : Type 0 where
   pub own : HasOwnKeys key_of rows
   pub small : All (λ b. b.session < 2 ^ 32) rows
-  pub few : length rows ≤ MOST_BARS
+  pub few : length rows ≤ most_bars
   pub cells : All (λ b. All (λ v. IsTrue (is_bar_cell v)) b.cells) rows
 
 one_row : (P : BarRow → Type 0) (b : BarRow) → P b → All P (b ∷ [])
 one_row P b p zero d h = p
 one_row P b p (suc k) d h = absurd (omega arith)
 
-kept-more : (days : List ℤ) (assets : List AssetRow) → length days ≤ MOST_SESSIONS → (before : List BarRow) (r : Record) (b : BarRow) → AreKept before → says_bar days assets before r ≡ Ok b → AreKept (before ++ b ∷ [])
+kept-more : (days : List ℤ) (assets : List AssetRow) → length days ≤ most_sessions → (before : List BarRow) (r : Record) (b : BarRow) → AreKept before → says_bar days assets before r ≡ Ok b → AreKept (before ++ b ∷ [])
 kept-more days assets n before r b h s =
     let ok = says_bar-ok days assets before r b s in
     let at = position-Some (λ d. int_eq d ok.fields.day) days b.session (pos 0) ok.session in
     let small : b.session < 2 ^ 32 = omega (arith, at.0) in
-    let room : length before < MOST_BARS = (let t = ok.few in grind (arith, nat_tests)) in
+    let room : length before < most_bars = (let t = ok.few in grind (arith, nat_tests)) in
     record {
       own = OwnKeys-more key_of before b h.own (other_keys before b h.small small ok.own_place);
       small = All-append (λ (x : BarRow). x.session < 2 ^ 32) before (b ∷ []) h.small (one_row (λ x. x.session < 2 ^ 32) b small);
@@ -144,7 +144,7 @@ kept-more days assets n before r b h s =
 kept-none : AreKept []
 kept-none = record { own = OwnKeys-none key_of; small = λ k d h. absurd (omega arith); few = omega arith; cells = λ k d h. absurd (omega arith) }
 
-pub AreKept-read : (days : List ℤ) (assets : List AssetRow) (records : List Record) (rows : List BarRow) → length days ≤ MOST_SESSIONS → rows_in days assets records ≡ Ok rows → AreKept rows
+pub AreKept-read : (days : List ℤ) (assets : List AssetRow) (records : List Record) (rows : List BarRow) → length days ≤ most_sessions → rows_in days assets records ≡ Ok rows → AreKept rows
 unfolding rows_in
 AreKept-read days assets records rows n e =
     rows-keep AreKept 2 (says_bar days assets) (kept-more days assets n) _ [] rows kept-none (under_ok header rules.BadHeader (says_bar days assets) records rows e).1
@@ -173,7 +173,7 @@ ascend-from_keys rows small up i j d h l = before_by_key (get_or rows i d) (get_
 pub keys-from_ascend : (rows : List BarRow) → All (λ b. b.session < 2 ^ 32) rows → AllPairs (λ a b. IsTrue (is_before b.col b.session a)) rows → AllPairs (λ a b. key_of a < key_of b) rows
 keys-from_ascend rows small up i j d h l = key_by_before (get_or rows i d) (get_or rows j d) (small i d (omega arith)) (small j d l) (up i j d h l)
 
-pub AreBars-read : (days : List ℤ) (assets : List AssetRow) (records : List Record) (bars : List BarRow) → length days ≤ MOST_SESSIONS → bars_of days assets records ≡ Ok bars → AreBars bars
+pub AreBars-read : (days : List ℤ) (assets : List AssetRow) (records : List Record) (bars : List BarRow) → length days ≤ most_sessions → bars_of days assets records ≡ Ok bars → AreBars bars
 AreBars-read days assets records bars n e =
     let it = sorted_from days assets records bars e in
     let kept = AreKept-read days assets records it.0 n it.1 in

@@ -18,7 +18,7 @@ use Rattle.pl_spec.specs.declared.Column.TheVariants.{OpenPrice, High, Low, Clos
 use Rattle.pl_fixed.specs.Reading.{read}
 use Rattle.pl_lifetimes.specs.Assets.{sid_of}
 use Rattle.pl_bars.specs.declared.fields.Fields.{Fields}
-use Rattle.pl_bars.specs.declared.TheConstants.{MOST_BARS}
+use Rattle.pl_spec.specs.Limits.{most_bars}
 
 -- what may be wrong with a file
 pub data Rule : Type 0 where
@@ -72,7 +72,7 @@ rules = TooMany ∷ BadField ∷ NotSession ∷ UnknownSid ∷ Negative ∷ Dupl
 
 abbrev pub breaks : List ℤ → List AssetRow → List BarRow → Record → Rule → Bool
 breaks days assets before r BadHeader = false
-breaks days assets before r TooMany = nat_le MOST_BARS (length before)
+breaks days assets before r TooMany = nat_le most_bars (length before)
 breaks days assets before r BadField = lacks (fields_in r)
 breaks days assets before r NotSession = has (λ f. lacks (session_in days f)) (fields_in r)
 breaks days assets before r UnknownSid = has (λ f. lacks (col_in assets f)) (fields_in r)
@@ -107,7 +107,7 @@ is_bar_cell v = is_missing v || (int_le (pos 0) v && nat_le (unsigned_abs v) LIM
 
 pub record AreBars (rows : List BarRow) : Type 0 where
   pub ascend : AllPairs (λ a b. IsTrue (is_before b.col b.session a)) rows
-  pub few : length rows ≤ MOST_BARS
+  pub few : length rows ≤ most_bars
   pub cells : All (λ b. All (λ v. IsTrue (is_bar_cell v)) b.cells) rows
 
 -- ---- their cells

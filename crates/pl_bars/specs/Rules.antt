@@ -11,7 +11,7 @@ use Rattle.pl_spec.specs.declared.BarRow.{BarRow}
 use Rattle.pl_lifetimes.specs.Assets.{sid_of}
 use Rattle.pl_bars.specs.declared.fields.Fields.{Fields}
 use Rattle.pl_bars.specs.Bars.{Rule, BadHeader, TooMany, BadField, NotSession, UnknownSid, Negative, Duplicate, rules, header, is_before}
-use Rattle.pl_bars.specs.declared.TheConstants.{MOST_BARS}
+use Rattle.pl_spec.specs.Limits.{most_bars}
 
 -- the text is empty and the cell missing, or it is a decimal that is read as the cell
 abbrev pub IsCellText : List ℕ → ℤ → Type 0
@@ -45,7 +45,7 @@ pub record IsRowRecord (days : List ℤ) (assets : List AssetRow) (r : Record) (
 -- what it is to break each rule
 abbrev pub Breaks : List ℤ → List AssetRow → List BarRow → Record → Rule → Type 0
 Breaks days assets before r BadHeader = ⊥
-Breaks days assets before r TooMany = MOST_BARS ≤ length before
+Breaks days assets before r TooMany = most_bars ≤ length before
 Breaks days assets before r BadField = (f : Fields) → ¬ IsBarRecord r f
 Breaks days assets before r NotSession = (f : Fields) × IsBarRecord r f × ((session : ℕ) → ¬ (slice_get days session ≡ Some f.day))
 Breaks days assets before r UnknownSid = (f : Fields) × IsBarRecord r f × ((col : ℕ) → ¬ (option_map sid_of (slice_get assets col) ≡ Some f.sid))

@@ -1,6 +1,6 @@
 ghost use Rattle.std.specs.Prelude.{◌≡◌, ℕ, ◌+◌, ◌*◌, ◌<◌, ◌≤◌, ◌==◌, ◌&&◌, ◌||◌, [], length, IfOk, vec_len};
-ghost use Rattle.pl_calendar.specs.declared.TheConstants.{MOST_SESSIONS};
-ghost use Rattle.pl_lifetimes.specs.declared.TheConstants.{MOST_ASSETS};
+ghost use Rattle.pl_spec.specs.Limits.{most_sessions};
+ghost use Rattle.pl_spec.specs.Limits.{most_assets};
 
 use std::alloc::{AllocError, Global};
 
@@ -10,8 +10,8 @@ pub(crate) struct BarSet {
     cols: usize,
     sessions: usize,
     words: Vec<u64>,
-    ghost few_cols: { cols ≤ MOST_ASSETS },
-    ghost few_sessions: { sessions ≤ MOST_SESSIONS },
+    ghost few_cols: { cols ≤ most_assets },
+    ghost few_sessions: { sessions ≤ most_sessions },
     ghost room: { cols * sessions ≤ 64 * vec_len words },
 }
 
@@ -20,8 +20,8 @@ impl BarSet {
 
     // No bars, of so many columns and sessions.
     pub(crate) fn new(alloc: Global, cols: usize, sessions: usize) -> Result<BarSet, AllocError>
-        requires cols { cols ≤ MOST_ASSETS }
-        requires sessions { sessions ≤ MOST_SESSIONS }
+        requires cols { cols ≤ most_assets }
+        requires sessions { sessions ≤ most_sessions }
         ensures cols { IfOk result (λ set. set.cols ≡ cols) }
         ensures sessions { IfOk result (λ set. set.sessions ≡ sessions) }
         ensures none { IfOk result (λ set. AreBarsIn set []) }

@@ -5,7 +5,7 @@ ghost use Rattle.pl_records.specs.Records.{csv_records};
 ghost use Rattle.pl_bars.specs.Bars.{bars_of, key_of, rows_in, says_bar};
 ghost use Rattle.pl_bars.specs.BarSet.{AreBarsIn};
 ghost use Rattle.pl_bars.specs.Faults.{fault_of};
-ghost use Rattle.pl_calendar.specs.declared.TheConstants.{MOST_SESSIONS};
+ghost use Rattle.pl_spec.specs.Limits.{most_sessions};
 
 use crate::MOST_BARS;
 use crate::bar_set::BarSet;
@@ -28,7 +28,7 @@ pub(crate) fn read_bars(
 ) -> Result<Vec<BarRow>, BarsError>
     ensures exact { Answers (λ v. v.items) fault_of result
         (bars_of sessions.now assets.now (csv_records bytes.now)) }
-    ensures few { length sessions.now ≤ MOST_SESSIONS }
+    ensures few { length sessions.now ≤ most_sessions }
 {
     let _count = sessions.len();
     let mut rows = read_rows(alloc, bytes, sessions, assets)?;

@@ -15,7 +15,7 @@ use Rattle.pl_records.proofs.Readings.{rows-keep, rows-as_many, rows-are, fault-
 use Rattle.pl_calendar.specs.Days.{Rule, rules, day_in, last_of, is_later, says_day, sessions_of, AreDays}
 use Rattle.pl_calendar.specs.Days as days
 use Rattle.pl_calendar.specs.Rules.{IsSession, Breaks, IsSessionsFault}
-use Rattle.pl_calendar.specs.declared.TheConstants.{MOST_SESSIONS}
+use Rattle.pl_spec.specs.Limits.{most_sessions}
 use Rattle.pl_calendar.proofs.DaysSaid.{days_judged}
 
 -- ---- the days ascend
@@ -24,7 +24,7 @@ use Rattle.pl_calendar.proofs.DaysSaid.{days_judged}
 pub record AreFront (xs : List ℤ) : Type 0 where
   pub dates : All IsDay xs
   pub ascend : AllPairs (λ a b. a <ℤ b) xs
-  pub few : length xs ≤ MOST_SESSIONS
+  pub few : length xs ≤ most_sessions
 
 AreFront-none : AreFront []
 AreFront-none = record { dates = λ k d h. absurd (omega arith); ascend = λ i j d h l. absurd (omega arith); few = omega arith }
@@ -34,7 +34,7 @@ AreFront-more xs r y up h =
     record {
       dates = All-push IsDay xs y up.dates (IsDay-IsDate (field r 0) y h.0.1);
       ascend = pairs;
-      few = (let small : length xs < MOST_SESSIONS = below (length xs) MOST_SESSIONS h.1.0 in omega (arith, length-append xs (y ∷ [])));
+      few = (let small : length xs < most_sessions = below (length xs) most_sessions h.1.0 in omega (arith, length-append xs (y ∷ [])));
     }
   where
     below : (n m : ℕ) → ¬ (m ≤ n) → n < m

@@ -5,7 +5,7 @@ use Rattle.std.specs.Option.{ok_or}
 use Rattle.pl_records.specs.Reading.{Record, Fault, field, rows_of}
 use Rattle.pl_records.specs.RuleTable.{first_broken, lacks, has}
 use Rattle.pl_spec.specs.Dates.{IsDay, date_in}
-use Rattle.pl_calendar.specs.declared.TheConstants.{MOST_SESSIONS}
+use Rattle.pl_spec.specs.Limits.{most_sessions}
 
 -- what may be wrong with a file
 pub data Rule : Type 0 where
@@ -28,7 +28,7 @@ abbrev pub rules : List Rule
 rules = TooMany ∷ BadDate ∷ NotAscending ∷ []
 
 abbrev pub breaks : List ℤ → Record → Rule → Bool
-breaks before r TooMany = nat_le MOST_SESSIONS (length before)
+breaks before r TooMany = nat_le most_sessions (length before)
 breaks before r BadDate = lacks (day_in r)
 breaks before r NotAscending = has (λ day. not (is_later before day)) (day_in r)
 breaks before r Empty = false
@@ -47,4 +47,4 @@ pub record AreDays (days : List ℤ) : Type 0 where
   pub some : 0 < length days
   pub dates : All IsDay days
   pub ascend : AllPairs (λ a b. a <ℤ b) days
-  pub few : length days ≤ MOST_SESSIONS
+  pub few : length days ≤ most_sessions

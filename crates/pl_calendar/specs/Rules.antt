@@ -4,7 +4,7 @@ use Rattle.pl_records.specs.Reading.{Record, Fault, field, IsFirstFault}
 use Rattle.pl_records.specs.RuleTable.{IsFirstBroken, KeepsAll}
 use Rattle.pl_spec.specs.Dates.{IsDate}
 use Rattle.pl_calendar.specs.Days.{Rule, TooMany, BadDate, NotAscending, Empty, rules, last_of}
-use Rattle.pl_calendar.specs.declared.TheConstants.{MOST_SESSIONS}
+use Rattle.pl_spec.specs.Limits.{most_sessions}
 
 -- the record is the date of the day
 abbrev pub IsDayRecord : Record → ℤ → Type 0
@@ -12,7 +12,7 @@ IsDayRecord r day = (length r ≡ 1) × IsDate (field r 0) day
 
 -- what it is to break each rule
 abbrev pub Breaks : List ℤ → Record → Rule → Type 0
-Breaks before r TooMany = MOST_SESSIONS ≤ length before
+Breaks before r TooMany = most_sessions ≤ length before
 Breaks before r BadDate = (day : ℤ) → ¬ IsDayRecord r day
 Breaks before r NotAscending = (day : ℤ) × IsDayRecord r day × ((last : ℤ) × (last_of before ≡ Some last) × (day ≤ℤ last))
 Breaks before r Empty = ⊥

@@ -1,12 +1,12 @@
 -- How the derivation of a cell ends.
 use Rattle.std.proofs.Common.{◌≡◌, ◌∙◌, inl, inr, ℕ, ◌<◌, ◌≤◌, pos, Bool, List, [], ◌∷◌, length, Option, Some, None, Result, Ok, Err, IfOk, IfErr, refl, sym, subst, ap, unwrap_or}
 use Rattle.std.proofs.lemmas.List.{length-map}
+use Rattle.pl_spec.specs.Limits.{most_lines}
 use Rattle.pl_spec.specs.World.{World}
 use Rattle.pl_spec.specs.Parts.{sid_at}
 use Rattle.pl_spec.specs.Table.{Pipeline}
 use Rattle.pl_lines.specs.Lines.{Line}
 use Rattle.pl_lines.specs.Texts as lines
-use Rattle.pl_lines.specs.Texts.{MOST_LINES}
 use Rattle.pl_facts.specs.Facts.Fact.{Worth}
 use Rattle.pl_facts.specs.Walks.{derivation, facts_for, line_for}
 use Rattle.pl_lines.specs.declared.error.ExplainError.{ExplainError}
@@ -58,17 +58,17 @@ module _ (held : Contents) (q : ExplainRequest) (l : LoadedCell) (h : IsCellHeld
   sid-is : sid_at l.world.assets l.cell.col ≡ q.sid
   sid-is = sid-there l.world.assets q.sid l.cell.col h.asset
 
-  long-step : MOST_LINES < loaded_count l → first_fault (lines_step (world_held held q.world) (pipeline_held held) q ∷ []) ≡ Some (Passed limits.Derivation)
+  long-step : most_lines < loaded_count l → first_fault (lines_step (world_held held q.world) (pipeline_held held) q ∷ []) ≡ Some (Passed limits.Derivation)
   long-step more =
       step-at (owned_world l.world) _ _ (pipeline_of l.checked) q _ h.world h.pipeline
       (too-long (owned_world l.world) (pipeline_of l.checked) q l.cell.term.0 l.cell.session h.term h.session
-      (subst (λ a. MOST_LINES < length (facts_for (owned_world l.world) (pipeline_of l.checked) (Worth l.cell.term.0 a (pos l.cell.session)))) sid-is more))
+      (subst (λ a. most_lines < length (facts_for (owned_world l.world) (pipeline_of l.checked) (Worth l.cell.term.0 a (pos l.cell.session)))) sid-is more))
 
-  short-step : loaded_count l ≤ MOST_LINES → first_fault (lines_step (world_held held q.world) (pipeline_held held) q ∷ []) ≡ None
+  short-step : loaded_count l ≤ most_lines → first_fault (lines_step (world_held held q.world) (pipeline_held held) q ∷ []) ≡ None
   short-step few =
       step-at (owned_world l.world) _ _ (pipeline_of l.checked) q _ h.world h.pipeline
       (short (owned_world l.world) (pipeline_of l.checked) q l.cell.term.0 l.cell.session h.term h.session
-      (subst (λ a. length (facts_for (owned_world l.world) (pipeline_of l.checked) (Worth l.cell.term.0 a (pos l.cell.session))) ≤ MOST_LINES) sid-is few))
+      (subst (λ a. length (facts_for (owned_world l.world) (pipeline_of l.checked) (Worth l.cell.term.0 a (pos l.cell.session))) ≤ most_lines) sid-is few))
 
 same-derivation : (w v : World) (r p : Pipeline) (t u a b d k : ℕ) → w ≡ v → r ≡ p → t ≡ u → a ≡ b → d ≡ k → derivation w r t a (pos d) ≡ derivation v p u b (pos k)
 same-derivation w v r p t u a b d k e f g h i =
@@ -89,10 +89,10 @@ module _ (v : lent.World) (o : OwnedWorld) (p : Pipeline) (t col d : ℕ) (same 
   lent-lines (Ok ls) h = h ∙ same-derivation (world_of v) (owned_world o) p p t t (sid_at v.assets.now col) (sid_at o.assets col) d d same refl refl (ap (λ xs. sid_at xs col) assets) refl
   lent-lines (Err e) h = tt
 
-  pub lent-count : (r : Result (List Line) ExplainError) → IfErr r (λ e. e ≡ errors.TooLong → MOST_LINES < length (facts_for (world_of v) p (Worth t (sid_at v.assets.now col) (pos d))))
-      → IfErr r (λ e. e ≡ errors.TooLong → MOST_LINES < length (facts_for (owned_world o) p (Worth t (sid_at o.assets col) (pos d))))
+  pub lent-count : (r : Result (List Line) ExplainError) → IfErr r (λ e. e ≡ errors.TooLong → most_lines < length (facts_for (world_of v) p (Worth t (sid_at v.assets.now col) (pos d))))
+      → IfErr r (λ e. e ≡ errors.TooLong → most_lines < length (facts_for (owned_world o) p (Worth t (sid_at o.assets col) (pos d))))
   lent-count (Ok ls) h = tt
-  lent-count (Err e) h = λ is. subst (λ n. MOST_LINES < n)
+  lent-count (Err e) h = λ is. subst (λ n. most_lines < n)
       (same-count (world_of v) (owned_world o) p t (sid_at v.assets.now col) (sid_at o.assets col) d same (ap (λ xs. sid_at xs col) assets)) (h is)
 
 same-lines : (w v : World) (p r : Pipeline) (q : ExplainRequest) (t sid d : ℕ) (ls : List Line) → v ≡ w → p ≡ r → column_term r q.column ≡ Some t → session_of w.days q.date.day ≡ Some d
@@ -108,12 +108,12 @@ unfolding text_of
 lines-text held q l ls h e = same-lines (owned_world l.world) _ _ (pipeline_of l.checked) q _ _ _ ls h.world h.pipeline h.term h.session (sid-is held q l h) e
 
 -- there are as many lines as facts
-few-lines : (l : LoadedCell) (ls : List Line) → ls ≡ loaded_lines l → length ls ≤ MOST_LINES → loaded_count l ≤ MOST_LINES
+few-lines : (l : LoadedCell) (ls : List Line) → ls ≡ loaded_lines l → length ls ≤ most_lines → loaded_count l ≤ most_lines
 few-lines l ls e few =
     let w = owned_world l.world in
     let p = pipeline_of l.checked in
     let facts = facts_for w p (Worth l.cell.term.0 (sid_at l.world.assets l.cell.col) (pos l.cell.session)) in
-    subst (λ n. n ≤ MOST_LINES) (ap length e ∙ length-map facts (line_for w p)) few
+    subst (λ n. n ≤ most_lines) (ap length e ∙ length-map facts (line_for w p)) few
 
 -- ---- the ends
 
@@ -132,7 +132,7 @@ explain-stops o q s k fault risen h =
 
 -- there are too many lines, or memory is wanted for them
 pub explain-fails : (o : Observed) (q : ExplainRequest) (l : LoadedCell) (e : ExplainError) → IsCellLoad o.files o.lists o.shelf_sound o.keeper_sound q (Ok l)
-    → (e ≡ errors.TooLong → MOST_LINES < loaded_count l) → IsEnded o (Some (Explain q)) (Err (explain_error e))
+    → (e ≡ errors.TooLong → most_lines < loaded_count l) → IsEnded o (Some (Explain q)) (Err (explain_error e))
 unfolding work
 explain-fails o q l errors.TooLong h long =
     let last : StageEnds {T = Unit {0}} o.shelf_sound o.keeper_sound (lines_step (world_held h.held q.world) (pipeline_held h.held) q ∷ []) (Err (Passed limits.Derivation)) =
@@ -154,7 +154,7 @@ fails-inside s k out A B errors.Memory a b = (a, b)
 module _ {O : Type 0} (taken : O → Option (List ℕ)) (faults : O → ℕ) (sound : O → Bool) (room : O → ℕ) (old new : O)
     (tells : Option Files) (lists : Option Lists) (shelf keeper : Bool) (before now : ℕ) where
   pub lines-written : (q : ExplainRequest) (l : LoadedCell) (ls : List Line) (bytes : List ℕ) (r : Result (Option Stats) Fault) → now ≡ before
-      → IsCellLoad tells lists shelf keeper q (Ok l) → ls ≡ loaded_lines l → length ls ≤ MOST_LINES → bytes ≡ lines.text_of ls
+      → IsCellLoad tells lists shelf keeper q (Ok l) → ls ≡ loaded_lines l → length ls ≤ most_lines → bytes ≡ lines.text_of ls
       → Writes taken faults sound room old new bytes r → IfErr r (λ f. f ≡ Unwritten) → IfOk r (λ stats. stats ≡ None)
       → IsEnded (seen taken sound room old new tells lists shelf keeper before now) (Some (Explain q)) r
   unfolding work

@@ -1,11 +1,11 @@
 // The derivation of a cell.
 ghost use Rattle.std.specs.Prelude.{◌≡◌, ◌<◌, ◌≤◌, ℕ, Bool, length, pos, Option, None, Some, Ok, IfOk, IfErr};
+ghost use Rattle.pl_spec.specs.Limits.{most_lines};
 ghost use Rattle.pl_outside.specs.Counts.{Rose};
 ghost use Rattle.pl_outside.specs.Files.{Files};
 ghost use Rattle.pl_outside.specs.Lists.{Lists};
 ghost use Rattle.pl_outside.specs.Left.{Leaves, LeavesSink, IsUntouched};
 ghost use Rattle.pl_spec.specs.Parts.{sid_at};
-ghost use Rattle.pl_lines.specs.Texts.{MOST_LINES};
 ghost use Rattle.pl_facts.specs.Facts.Fact.{Worth};
 ghost use Rattle.pl_facts.specs.Walks.{derivation, facts_for};
 ghost use Rattle.pl_lines.specs.declared.error.ExplainError.TheVariants.{TooLong};
@@ -87,8 +87,8 @@ fn lines_of<L: Ledger>(
     ensures exact { IfOk result (λ lines. lines ≡ derivation (owned_world loaded.now.world)
         (pipeline_of loaded.now.checked) loaded.now.cell.term.0
         (sid_at loaded.now.world.assets loaded.now.cell.col) (pos loaded.now.cell.session)) }
-    ensures few { IfOk result (λ lines. length lines ≤ MOST_LINES) }
-    ensures long { IfErr result (λ error. error ≡ TooLong → MOST_LINES < length (facts_for
+    ensures few { IfOk result (λ lines. length lines ≤ most_lines) }
+    ensures long { IfErr result (λ error. error ≡ TooLong → most_lines < length (facts_for
         (owned_world loaded.now.world) (pipeline_of loaded.now.checked) (Worth loaded.now.cell.term.0
         (sid_at loaded.now.world.assets loaded.now.cell.col) (pos loaded.now.cell.session)))) }
 {

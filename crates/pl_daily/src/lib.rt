@@ -11,3 +11,4 @@ mod starts;
 mod terms;
 
 pub use daily::{Daily, NotLater};
+pub use pl_rings::{Day, DayBar, DayEvent};

@@ -16,4 +16,5 @@ mod turn;
 mod windows;
 
 pub use chunk::{Chunk, ChunkReport, execute_chunk};
+pub use pl_spec::Format;
 pub use rows::Rows;

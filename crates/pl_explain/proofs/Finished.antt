@@ -6,6 +6,7 @@ use Rattle.std.proofs.lemmas.Int.{ints}
 use Rattle.std.proofs.lemmas.Bool.{true≢false, and_parts, and_from, or_left, or_right, eq-eqb}
 use Rattle.std.proofs.lemmas.List.{take_more, take-append-drop, map-append}
 use Rattle.std.proofs.lemmas.Option.{slice_get_within, slice_get-get_or, get_or_from_slice_get}
+use Rattle.pl_spec.specs.Limits.{most_lines}
 use Rattle.pl_spec.specs.declared.AssetRow.{AssetRow}
 use Rattle.pl_spec.specs.declared.Column.{Column}
 use Rattle.pl_spec.specs.Rounding.{IsCell}
@@ -24,7 +25,7 @@ use Rattle.pl_cross.specs.Section.{is_section}
 use Rattle.pl_lines.specs.declared.line.Line.{Line}
 use Rattle.pl_lines.specs.Listed.{line_of}
 use Rattle.pl_lines.specs.Lines.Line.{SeenLine, ValueLine}
-use Rattle.pl_lines.specs.Texts.{AreCells, AreWritable, IsWritable, MOST_LINES}
+use Rattle.pl_lines.specs.Texts.{AreCells, AreWritable, IsWritable}
 use Rattle.pl_spec.proofs.Each.{Each, each_front, each_back, each_of_map, each_at}
 use Rattle.pl_facts.specs.Facts.{Fact, number_in, number_facts, premises}
 use Rattle.pl_facts.specs.Facts.Fact.{Seen, Worth}
@@ -155,7 +156,7 @@ module _ (w : World) (c : Parts) (mid new : Walk) (same : new.told ≡ mid.told)
     walked = other-walked h.facts h.walked;
     table = subst (λ (t : Told). IsTable w c t new.rows) (sym same) (record { truth = h.table.truth; fits = h.table.fits; kept = kept });
     writable = subst (λ (ls : List Line). AreWritable (map line_of ls)) (sym items) h.writable;
-    few = subst (λ (ls : List Line). length ls ≤ MOST_LINES) (sym items) h.few;
+    few = subst (λ (ls : List Line). length ls ≤ most_lines) (sym items) h.few;
   }
 
 -- ---- a fact that is put behind its premises
@@ -171,7 +172,7 @@ module _ (w : World) (c : Parts) (most : ℕ) (f : Fact) (old mid new : Walk) (f
 
   pub put-stands : {T E : Type 0} (r : Result T E) → StandsIn w c old → StandsIn w c mid → IsWritable (line_of line) → x ≡ number_in (world_of w) (pipeline_of c) f → IsCell x
       → is_fitting (world_of w) (pipeline_of c) f ≡ true → new.rows ≡ mid.rows
-      → OnOk r (IsTellingOf f x mid.told new.told) → OnOk r (new.lines.items ≡ mid.lines.items ++ line ∷ []) → OnOk r (length new.lines.items ≤ MOST_LINES) → OnOk r (StandsIn w c new)
+      → OnOk r (IsTellingOf f x mid.told new.told) → OnOk r (new.lines.items ≡ mid.lines.items ++ line ∷ []) → OnOk r (length new.lines.items ≤ most_lines) → OnOk r (StandsIn w c new)
   put-stands r from stands text value cell fits rows tells put few = ok-three r
       (λ t p l. stands-more w c most f old mid new line x from fresh first stands t p is text (subst (λ (q : Rows). IsTable w c mid.told q) (sym rows) stands.table) value cell fits l) tells put few
 
@@ -182,7 +183,7 @@ module _ (w : World) (c : Parts) (t a d : ℕ) (old : Walk) (fresh : has old.tol
 
 -- where there is no room for it
 module _ (w : World) (c : Parts) (most : ℕ) (f : Fact) (old mid : Walk) (fresh : has old.told f ≡ false) (first : Finishes w c most old mid (own_of w c f)) (deep : ℕ) (depth : suc most ≤ deep) where
-  pub put-long : length mid.lines.items ≡ MOST_LINES → IsTooLong w c deep old (f ∷ [])
+  pub put-long : length mid.lines.items ≡ most_lines → IsTooLong w c deep old (f ∷ [])
   put-long full = deeper-long w c (suc most) deep old (f ∷ []) depth (long-last w c most f old fresh mid first full)
 
 -- ---- premises

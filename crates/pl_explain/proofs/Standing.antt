@@ -1,13 +1,14 @@
 -- What a walk leaves, and what it has put down at the end.
 use Rattle.std.proofs.Common.{◌≡◌, ℕ, suc, ◌+◌, ◌<◌, ◌≤◌, true, false, ℤ, pos, List, [], ◌∷◌, ◌++◌, length, map, fold, is_some, None, sym, ◌∙◌, ap, subst, arith}
 use Rattle.std.proofs.lemmas.List.{map-append}
+use Rattle.pl_spec.specs.Limits.{most_lines}
 use Rattle.pl_spec.specs.Rounding.{IsCell}
 use Rattle.pl_terms.specs.Checked.{Parts, pipeline_of}
 use Rattle.pl_world.specs.declared.world.World.{World}
 use Rattle.pl_world.specs.Worlds.{world_of}
 use Rattle.pl_lines.specs.declared.line.Line.{Line}
 use Rattle.pl_lines.specs.Listed.{line_of}
-use Rattle.pl_lines.specs.Texts.{AreWritable, IsWritable, MOST_LINES}
+use Rattle.pl_lines.specs.Texts.{AreWritable, IsWritable}
 use Rattle.pl_facts.specs.Facts.{Fact, number_in, premises}
 use Rattle.pl_facts.specs.Facts.Fact.{Worth}
 use Rattle.pl_facts.specs.Right.{is_fitting}
@@ -26,7 +27,7 @@ module _ (w : World) (c : Parts) where
       → Finishes w c most old mid (premises (world_of w) (pipeline_of c) (number_in (world_of w) (pipeline_of c)) f)
       → StandsIn w c mid → IsTellingOf f x mid.told new.told → new.lines.items ≡ mid.lines.items ++ line ∷ []
       → line_of line ≡ line_for (world_of w) (pipeline_of c) f → IsWritable (line_of line) → IsTable w c mid.told new.rows
-      → x ≡ number_in (world_of w) (pipeline_of c) f → IsCell x → is_fitting (world_of w) (pipeline_of c) f ≡ true → length new.lines.items ≤ MOST_LINES
+      → x ≡ number_in (world_of w) (pipeline_of c) f → IsCell x → is_fitting (world_of w) (pipeline_of c) f ≡ true → length new.lines.items ≤ most_lines
       → StandsIn w c new
   stands-more most f old mid new line x from fresh first stands tells put is text table value cell fits few = record {
     facts = fold (finish (world_of w) (pipeline_of c) (suc most)) from.facts (f ∷ []);
@@ -60,7 +61,7 @@ module _ (w : World) (c : Parts) where
         let deep : t + 2 ≡ suc (suc t) = omega arith in
         (done [] walked-none (t + 2) (omega arith)).lines ∙ ap (λ k. map (line_for (world_of w) (pipeline_of c)) (finish (world_of w) (pipeline_of c) k [] (Worth t a (pos d)))) deep
 
-    pub derived-long : (t a d : ℕ) → IsTooLong w c (t + 2) walk (Worth t a (pos d) ∷ []) → MOST_LINES < length (facts_for (world_of w) (pipeline_of c) (Worth t a (pos d)))
+    pub derived-long : (t a d : ℕ) → IsTooLong w c (t + 2) walk (Worth t a (pos d) ∷ []) → most_lines < length (facts_for (world_of w) (pipeline_of c) (Worth t a (pos d)))
     derived-long t a d long =
         let deep : t + 2 ≡ suc (suc t) = omega arith in
-        subst (λ k. MOST_LINES < length (finish (world_of w) (pipeline_of c) k [] (Worth t a (pos d)))) deep (long [] walked-none (t + 2) (omega arith))
+        subst (λ k. most_lines < length (finish (world_of w) (pipeline_of c) k [] (Worth t a (pos d)))) deep (long [] walked-none (t + 2) (omega arith))

@@ -5,12 +5,13 @@ use Rattle.std.proofs.lemmas.Bool.{and_parts, or_left, or_right}
 use Rattle.std.proofs.lemmas.List.{map-append, length-map}
 use Rattle.std.proofs.lemmas.List.Folds.{list_any-append}
 use Rattle.std.proofs.lemmas.List.Sums.{fold-append}
+use Rattle.pl_spec.specs.Limits.{most_lines}
 use Rattle.pl_terms.specs.Checked.{Parts, pipeline_of}
 use Rattle.pl_world.specs.declared.world.World.{World}
 use Rattle.pl_world.specs.Worlds.{world_of}
 use Rattle.pl_lines.specs.declared.line.Line.{Line}
 use Rattle.pl_lines.specs.Listed.{line_of}
-use Rattle.pl_lines.specs.Texts.{AreWritable, IsWritable, MOST_LINES}
+use Rattle.pl_lines.specs.Texts.{AreWritable, IsWritable}
 use Rattle.pl_facts.specs.Facts.{Fact, same_fact, number_in, premises}
 use Rattle.pl_facts.specs.Walks.{is_in, finish, line_for}
 use Rattle.pl_facts.proofs.Growing.{grow}
@@ -108,7 +109,7 @@ module _ (w : World) (c : Parts) where
 
     pub long-back : (old mid : Walk) (fs gs : List Fact) → Finishes w c most old mid fs → IsTooLong w c most mid gs → IsTooLong w c most old (fs ++ gs)
     long-back old mid fs gs first long facts h depth l =
-        subst (λ x. MOST_LINES < length x) (sym (fold-append (finish (world_of w) (pipeline_of c) depth) facts fs gs))
+        subst (λ x. most_lines < length x) (sym (fold-append (finish (world_of w) (pipeline_of c) depth) facts fs gs))
         (long (walked_by depth facts fs) (first facts h depth l) depth l)
 
     -- what a walk has finished is told
@@ -143,7 +144,7 @@ module _ (w : World) (c : Parts) where
         walk-more first facts h (suc depth) l = subst (HasWalked w c new) (sym (anew facts h depth)) (walked-more (walked_by depth facts (own f)) (first facts h depth (omega (arith, l))))
 
       -- where there is no room for it
-      pub long-last : (mid : Walk) → Finishes w c most old mid (own f) → length mid.lines.items ≡ MOST_LINES → IsTooLong w c (suc most) old (f ∷ [])
+      pub long-last : (mid : Walk) → Finishes w c most old mid (own f) → length mid.lines.items ≡ most_lines → IsTooLong w c (suc most) old (f ∷ [])
       long-last mid first full facts h zero l = absurd (omega (arith, l))
       long-last mid first full facts h (suc depth) l =
           let done = walked_by depth facts (own f) in

@@ -1,5 +1,6 @@
 -- A walk through the premises of facts, and the lines that it has put down.
 use Rattle.std.specs.Prelude.{◌≡◌, ℕ, ◌<◌, ◌≤◌, true, if◌then◌else◌, ℤ, pos, ◌≤ℤ◌, List, length, map, fold, Some}
+use Rattle.pl_spec.specs.Limits.{most_lines}
 use Rattle.pl_spec.specs.World as spec
 use Rattle.pl_spec.specs.World.{day_of}
 use Rattle.pl_spec.specs.Term.{term_at}
@@ -8,7 +9,7 @@ use Rattle.pl_terms.specs.Checked.{Parts, pipeline_of}
 use Rattle.pl_world.specs.declared.world.World.{World}
 use Rattle.pl_world.specs.Worlds.{world_of}
 use Rattle.pl_lines.specs.Listed.{line_of}
-use Rattle.pl_lines.specs.Texts.{AreWritable, MOST_LINES}
+use Rattle.pl_lines.specs.Texts.{AreWritable}
 use Rattle.pl_facts.specs.Facts.{Fact, same_fact}
 use Rattle.pl_facts.specs.Facts.Fact.{Seen, Worth}
 use Rattle.pl_facts.specs.Right.{is_fitting}
@@ -30,7 +31,7 @@ pub record StandsIn (w : World) (c : Parts) (walk : Walk) : Type 0 where
   pub walked : HasWalked w c walk facts
   pub table : IsTable w c walk.told walk.rows
   pub writable : AreWritable (map line_of walk.lines.items)
-  pub few : length walk.lines.items ≤ MOST_LINES
+  pub few : length walk.lines.items ≤ most_lines
 
 -- a session has a day
 abbrev pub HasDay : spec.World → ℤ → Type 0
@@ -54,7 +55,7 @@ Finishes w c most old new fs =
 -- to finish these takes it past the most lines
 abbrev pub IsTooLong : World → Parts → ℕ → Walk → List Fact → Type 0
 IsTooLong w c most old fs =
-    (facts : List Fact) → HasWalked w c old facts → (depth : ℕ) → most ≤ depth → MOST_LINES < length (fold (finish (world_of w) (pipeline_of c) depth) facts fs)
+    (facts : List Fact) → HasWalked w c old facts → (depth : ℕ) → most ≤ depth → most_lines < length (fold (finish (world_of w) (pipeline_of c) depth) facts fs)
 
 -- the number of a fact is told besides those before
 abbrev pub IsTellingOf : Fact → ℤ → Told → Told → Type 0

@@ -1,5 +1,6 @@
 //! The derivation of a value.
 ghost use Rattle.std.specs.Prelude.{◌≡◌, ◌<◌, ◌≤◌, ◌≤ℤ◌, ◌∷◌, [], ◌++◌, ◌+◌, IfErr, IfOk, IsTrue, OnOk, false, length, map, pos, true};
+ghost use Rattle.pl_spec.specs.Limits.{most_lines};
 ghost use Rattle.pl_spec.specs.Graph.{reach};
 ghost use Rattle.pl_spec.specs.Parts.{sid_at};
 ghost use Rattle.pl_spec.specs.Rounding.{IsCell};
@@ -11,7 +12,6 @@ ghost use Rattle.pl_facts.specs.Laws.{IsDerivation};
 ghost use Rattle.pl_facts.specs.Walks.{depth_of, derivation, facts_for};
 ghost use Rattle.pl_spec.proofs.Each.{Each};
 ghost use Rattle.pl_lines.specs.Listed.{line_of};
-ghost use Rattle.pl_lines.specs.Texts.{MOST_LINES};
 ghost use Rattle.pl_world.specs.Worlds.{world_of, IsMade};
 ghost use Rattle.pl_world.specs.Evaluations.{cell_in};
 ghost use Rattle.pl_terms.specs.Checked.{pipeline_of};
@@ -63,8 +63,8 @@ pub fn explain_cell<L: Ledger>(
         (term_at (graph_of checked.now.graph) t.0) (pos session) }
     ensures exact { IfOk result (λ d. d ≡ derivation (world_of world.now) (pipeline_of checked.now) t.0
         (sid_at world.now.assets.now col) (pos session)) }
-    ensures few { IfOk result (λ d. length d ≤ MOST_LINES) }
-    ensures long { IfErr result (λ e. e ≡ TooLong → MOST_LINES < length (facts_for (world_of world.now)
+    ensures few { IfOk result (λ d. length d ≤ most_lines) }
+    ensures long { IfErr result (λ e. e ≡ TooLong → most_lines < length (facts_for (world_of world.now)
         (pipeline_of checked.now) (Worth t.0 (sid_at world.now.assets.now col) (pos session)))) }
     // No line of it is wrong, no fact stands in it twice, and its last line tells the value.
     ensures right { IfOk result (IsDerivation (world_of world.now) (pipeline_of checked.now) t.0
@@ -373,12 +373,12 @@ fn finish_bar<L: Ledger>(
 
 // Puts a fact and its line behind those that are finished.
 fn put(walk: &mut Walk, fact: Fact, number: i64, line: Line) -> Result<(), ExplainError>
-    requires few { length walk.old.lines.items ≤ MOST_LINES }
+    requires few { length walk.old.lines.items ≤ most_lines }
     ensures lines { OnOk result (walk.new.lines.items ≡ walk.old.lines.items ++ line ∷ []) }
-    ensures few { OnOk result (length walk.new.lines.items ≤ MOST_LINES) }
+    ensures few { OnOk result (length walk.new.lines.items ≤ most_lines) }
     ensures told { OnOk result (IsTellingOf (fact_of fact) number walk.old.told walk.new.told) }
     ensures rows { walk.new.rows ≡ walk.old.rows }
-    ensures long { IfErr result (λ e. e ≡ TooLong → length walk.old.lines.items ≡ MOST_LINES) }
+    ensures long { IfErr result (λ e. e ≡ TooLong → length walk.old.lines.items ≡ most_lines) }
 {
     if walk.lines.len() == MOST_LINES {
         return Err(ExplainError::TooLong);

@@ -9,6 +9,7 @@ use Rattle.std.proofs.lemmas.List.{length-map}
 use Rattle.std.proofs.lemmas.List.Folds.{list_any-append}
 use Rattle.std.proofs.lemmas.List.Quantifiers.{position-Some}
 use Rattle.std.proofs.lemmas.Option.{slice_get-get_or}
+use Rattle.pl_spec.specs.Limits.{most_lines}
 use Rattle.pl_spec.specs.declared.AssetRow.{AssetRow}
 use Rattle.pl_spec.specs.Parts.{sid_at}
 use Rattle.pl_spec.specs.Graph.{contains}
@@ -17,7 +18,6 @@ use Rattle.pl_spec.specs.Table.{Pipeline, NamedColumn}
 use Rattle.pl_spec.specs.World.{World}
 use Rattle.pl_facts.specs.Facts.Fact.{Worth}
 use Rattle.pl_facts.specs.Walks.{facts_for}
-use Rattle.pl_lines.specs.Texts.{MOST_LINES}
 use Rattle.pl_laws.proofs.Uses.{used_terms-complete}
 use Rattle.pl_terms.specs.declared.node.TermId.{TermId}
 use Rattle.pl_terms.specs.declared.checked.NamedColumn as code
@@ -160,8 +160,8 @@ module _ (p : Pipeline) (days : List ℤ) (assets : List AssetRow) (q : ExplainR
 
 -- ---- the lines of its derivation
 
-abbrev most_lines : ℕ → Step
-most_lines n = rule (when (nat_lt MOST_LINES n) (Passed limits.Derivation))
+abbrev counted : ℕ → Step
+counted n = rule (when (nat_lt most_lines n) (Passed limits.Derivation))
 
 is-below : (m n : ℕ) → m < n → nat_lt m n ≡ true
 is-below m n l = grind (arith, nat_tests)
@@ -169,17 +169,17 @@ is-below m n l = grind (arith, nat_tests)
 not-below : (m n : ℕ) → n ≤ m → nat_lt m n ≡ false
 not-below m n l = grind (arith, nat_tests)
 
-past : (n : ℕ) → MOST_LINES < n → first_fault (most_lines n ∷ []) ≡ Some (Passed limits.Derivation)
-past n l = rw (is-below MOST_LINES n l) refl
+past : (n : ℕ) → most_lines < n → first_fault (counted n ∷ []) ≡ Some (Passed limits.Derivation)
+past n l = rw (is-below most_lines n l) refl
 
-within : (n : ℕ) → n ≤ MOST_LINES → first_fault (most_lines n ∷ []) ≡ None
-within n l = rw (not-below MOST_LINES n l) refl
+within : (n : ℕ) → n ≤ most_lines → first_fault (counted n ∷ []) ≡ None
+within n l = rw (not-below most_lines n l) refl
 
 module _ (w : World) (p : Pipeline) (q : ExplainRequest) (t d : ℕ) (is : column_term p q.column ≡ Some t) (on : session_of w.days q.date.day ≡ Some d) where
-  pub too-long : MOST_LINES < length (facts_for w p (Worth t q.sid (pos d))) → first_fault (lines_step w p q ∷ []) ≡ Some (Passed limits.Derivation)
+  pub too-long : most_lines < length (facts_for w p (Worth t q.sid (pos d))) → first_fault (lines_step w p q ∷ []) ≡ Some (Passed limits.Derivation)
   unfolding lines_step
   too-long l = rw (is, on) (past (length (facts_for w p (Worth t q.sid (pos d)))) l)
 
-  pub short : length (facts_for w p (Worth t q.sid (pos d))) ≤ MOST_LINES → first_fault (lines_step w p q ∷ []) ≡ None
+  pub short : length (facts_for w p (Worth t q.sid (pos d))) ≤ most_lines → first_fault (lines_step w p q ∷ []) ≡ None
   unfolding lines_step
   short l = rw (is, on) (within (length (facts_for w p (Worth t q.sid (pos d)))) l)

@@ -8,6 +8,7 @@ use Rattle.std.proofs.lemmas.Bool.Decides.{nat_tests}
 use Rattle.std.proofs.lemmas.Int.{ints}
 use Rattle.std.proofs.lemmas.List.Folds.{list_any_at}
 use Rattle.std.proofs.lemmas.List.FromFn.{get_or-range_with_len, length-range_with_len}
+use Rattle.pl_spec.specs.Limits.{most_extra_rows}
 use Rattle.pl_spec.specs.Graph.{contains, least_of, Used}
 use Rattle.pl_spec.specs.Lows.{Needs, IsLow}
 use Rattle.pl_spec.specs.Table.{Pipeline}
@@ -17,7 +18,7 @@ use Rattle.pl_terms.specs.Checked.{IsChecked}
 use Rattle.pl_terms.specs.Uses.{outputs, is_used}
 use Rattle.pl_planner.proofs.Pipelines.{IsPipeline, is-pipeline}
 use Rattle.pl_planner.proofs.Covers.{needs-used}
-use Rattle.pl_planner.specs.Plans.{Planned, IsPlanOf, IsDeepest, IsAsked, low_at, most_rows}
+use Rattle.pl_planner.specs.Plans.{Planned, IsPlanOf, IsDeepest, IsAsked, low_at}
 use Rattle.pl_judge.specs.Planning.{Need, sessions_of, needs, first_of, first_of_all, extra_of, HasRows, is_too_deep}
 use Rattle.pl_judge.proofs.Needed.{IsIn, IsSession, of-term, term-of, in-of-all, all-of-in, all-listed, listed-are}
 
@@ -87,14 +88,14 @@ module _ (p : Pipeline) (checked : IsChecked p) where
         (least-above low d (sessions_of (list d) t) l (λ s i. is.least s (of-list d t s (term-of t s (list d) i))))
 
     -- a term that is computed so much earlier
-    pub too-deep : (from to n : ℕ) → IsDeepest days p from to n → most_rows < n → is_too_deep days p from to ≡ true
+    pub too-deep : (from to n : ℕ) → IsDeepest days p from to n → most_extra_rows < n → is_too_deep days p from to ≡ true
     unfolding is_too_deep
     too-deep from to n is deep =
-        list_any_at (λ d. int_lt (pos most_rows) (pos d -ℤ first_of_all days p (pos d))) (range_with_len from (to + 1 - from)) (is.session - from) 0
+        list_any_at (λ d. int_lt (pos most_extra_rows) (pos d -ℤ first_of_all days p (pos d))) (range_with_len from (to + 1 - from)) (is.session - from) 0
         (let long = length-range_with_len from (to + 1 - from) in let a = is.within in omega arith)
         (let at : get_or (range_with_len from (to + 1 - from)) (is.session - from) 0 ≡ is.session = get_or-range_with_len from (to + 1 - from) (is.session - from) 0 (let a = is.within in omega arith) ∙ (let a = is.within in omega arith) in rw at here)
       where
-        here : int_lt (pos most_rows) (pos is.session -ℤ first_of_all days p (pos is.session)) ≡ true
+        here : int_lt (pos most_extra_rows) (pos is.session -ℤ first_of_all days p (pos is.session)) ≡ true
         here =
             let below = least-below (map (λ n. n.session) (list (pos is.session))) (pos is.session) is.low
             (all-of-in is.term is.low (list (pos is.session)) (to-list (pos is.session) is.term is.low is.is_low.needed)) in
@@ -115,13 +116,13 @@ module _ (p : Pipeline) (checked : IsChecked p) where
           let first = first-is (pos plan.from) t (pos (low_at plan t plan.from)) (is.lows.exact t plan.from a) (let f = (is.lows.few t plan.from a).0 in omega (arith, ints)) in
           sym (ap (λ z. int_gap z (pos plan.from)) first)
 
-      enough : (d : ℕ) → plan.from ≤ d → d ≤ plan.to → int_lt (pos most_rows) (pos d -ℤ first_of_all days p (pos d)) ≡ false
+      enough : (d : ℕ) → plan.from ≤ d → d ≤ plan.to → int_lt (pos most_extra_rows) (pos d -ℤ first_of_all days p (pos d)) ≡ false
       enough d a b =
-          let low : (pos d -ℤ pos most_rows) ≤ℤ first_of_all days p (pos d) =
-          least-above (pos d -ℤ pos most_rows) (pos d) (map (λ n. n.session) (list (pos d))) (omega (arith, ints)) each in
+          let low : (pos d -ℤ pos most_extra_rows) ≤ℤ first_of_all days p (pos d) =
+          least-above (pos d -ℤ pos most_extra_rows) (pos d) (map (λ n. n.session) (list (pos d))) (omega (arith, ints)) each in
           grind (arith, ints, nat_tests)
         where
-          each : (s : ℤ) → IsSession s (map (λ n. n.session) (list (pos d))) → (pos d -ℤ pos most_rows) ≤ℤ s
+          each : (s : ℤ) → IsSession s (map (λ n. n.session) (list (pos d))) → (pos d -ℤ pos most_extra_rows) ≤ℤ s
           each s i =
               let found = in-of-all s (list (pos d)) i in
               let needs = of-list (pos d) found.0 s found.1 in
@@ -131,7 +132,7 @@ module _ (p : Pipeline) (checked : IsChecked p) where
               omega (arith, ints)
 
       none-deep : (a n : ℕ) → plan.from ≤ a → a + n ≤ plan.to + 1
-          → list_any (λ d. int_lt (pos most_rows) (pos d -ℤ first_of_all days p (pos d))) (range_with_len a n) ≡ false
+          → list_any (λ d. int_lt (pos most_extra_rows) (pos d -ℤ first_of_all days p (pos d))) (range_with_len a n) ≡ false
       none-deep a zero h l = refl
       none-deep a (suc n) h l = rw (enough a h (omega arith)) (none-deep (a + 1) n (omega arith) (omega arith))
 

@@ -1,6 +1,7 @@
 -- The cell whose derivation is asked for.
 use Rattle.std.specs.Prelude.{ℕ, ℤ, pos, List, [], ◌∷◌, length, nat_lt, not, ◌==◌, bytes_eq, find, position, Option, is_some, option_map, unwrap_or}
 use Rattle.std.specs.Int.RustNames.{int_lt}
+use Rattle.pl_spec.specs.Limits.{most_lines}
 use Rattle.pl_spec.specs.declared.AssetRow.{AssetRow}
 use Rattle.pl_spec.specs.Graph.{reach}
 use Rattle.pl_spec.specs.Term.{term_at}
@@ -9,7 +10,6 @@ use Rattle.pl_spec.specs.World.{World}
 use Rattle.pl_lifetimes.specs.Assets.{sid_of}
 use Rattle.pl_facts.specs.Facts.Fact.{Worth}
 use Rattle.pl_facts.specs.Walks.{facts_for}
-use Rattle.pl_lines.specs.Texts.{MOST_LINES}
 use Rattle.pl_words.specs.declared.request.RangeDate.TheVariants.{At}
 use Rattle.pl_words.specs.Request.{ExplainRequest}
 use Rattle.pl_judge.specs.declared.fault.Fault.TheVariants.{NotSession, UnknownSid, UnknownColumn, TooEarly, Passed}
@@ -47,4 +47,4 @@ cell_steps p days assets q =
 unfoldable pub lines_step : World → Pipeline → ExplainRequest → Step
 lines_step w p q =
     let cell = Worth (term_asked p q) q.sid (pos (index_of w.days q.date.day)) in
-    rule (when (nat_lt MOST_LINES (length (facts_for w p cell))) (Passed limits.Derivation))
+    rule (when (nat_lt most_lines (length (facts_for w p cell))) (Passed limits.Derivation))

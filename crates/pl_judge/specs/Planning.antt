@@ -3,13 +3,14 @@ use Rattle.std.specs.Prelude.{◌≡◌, ℕ, zero, suc, ◌+◌, ◌-◌, ◌==
 use Rattle.std.specs.List.{list_any, range_with_len}
 use Rattle.std.specs.Int.{int_gap}
 use Rattle.std.specs.Int.RustNames.{int_lt}
+use Rattle.pl_spec.specs.Limits.{most_extra_rows}
 use Rattle.pl_spec.specs.Window.{before}
 use Rattle.pl_spec.specs.Term.{Node, Graph}
 use Rattle.pl_spec.specs.Graph.{input_number, least_of, reads_at}
 use Rattle.pl_spec.specs.Lows.{least_reach}
 use Rattle.pl_spec.specs.Table.{Pipeline}
 use Rattle.pl_terms.specs.Uses.{outputs, is_used}
-use Rattle.pl_planner.specs.Plans.{Planned, extra, most_rows}
+use Rattle.pl_planner.specs.Plans.{Planned, extra}
 
 -- a session on which a term is needed
 pub record Need : Type 0 where
@@ -59,7 +60,7 @@ HasRows days p plan = (t : ℕ) → is_used p t ≡ true → extra plan t ≡ ex
 -- for a session of the range some term has too many extra rows
 unfoldable pub is_too_deep : List ℤ → Pipeline → ℕ → ℕ → Bool
 is_too_deep days p from to =
-    list_any (λ d. int_lt (pos most_rows) (pos d -ℤ first_of_all days p (pos d))) (range_with_len from (to + 1 - from))
+    list_any (λ d. int_lt (pos most_extra_rows) (pos d -ℤ first_of_all days p (pos d))) (range_with_len from (to + 1 - from))
 
 -- the first session whose bars the columns and the screen show on session d
 unfoldable pub reach_at : List ℤ → Pipeline → ℕ → ℤ

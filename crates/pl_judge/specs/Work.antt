@@ -22,7 +22,7 @@ use Rattle.pl_outside.specs.declared.keeper.Table.TheVariants.{Splits, Mergers, 
 use Rattle.pl_words.specs.declared.request.InputFile.{InputFile}
 use Rattle.pl_words.specs.declared.request.InputFile.TheVariants.{Pipeline as PipelineFile, Sessions, Assets, Labels, Bars, Revisions, Payouts as PayoutsFile, Derivation}
 use Rattle.pl_words.specs.Request.{Request, Run, Fmt, Check, Plan, Bench, Payouts, Explain, Verify, Daily, RunRequest, PlanRequest, ExplainRequest, VerifyRequest, WorldNames, run_world, daily_run}
-use Rattle.pl_judge.specs.declared.limits.TheConstants.{PIPELINE_CAP, FILE_CAP}
+use Rattle.pl_spec.specs.Limits.{most_pipeline_bytes, most_file_bytes}
 use Rattle.pl_judge.specs.declared.fault.Limit.{Limit}
 use Rattle.pl_judge.specs.declared.fault.Limit.TheVariants as limits
 use Rattle.pl_judge.specs.declared.fault.Fault.{Fault}
@@ -38,14 +38,14 @@ use Rattle.pl_judge.specs.Cells.{cell_steps, lines_step}
 -- ---- a file that is read whole and judged
 
 abbrev pub cap_of : InputFile → ℕ
-cap_of PipelineFile = PIPELINE_CAP
-cap_of Sessions = FILE_CAP
-cap_of Assets = FILE_CAP
-cap_of Labels = FILE_CAP
-cap_of Bars = FILE_CAP
-cap_of Revisions = FILE_CAP
-cap_of PayoutsFile = FILE_CAP
-cap_of Derivation = FILE_CAP
+cap_of PipelineFile = most_pipeline_bytes
+cap_of Sessions = most_file_bytes
+cap_of Assets = most_file_bytes
+cap_of Labels = most_file_bytes
+cap_of Bars = most_file_bytes
+cap_of Revisions = most_file_bytes
+cap_of PayoutsFile = most_file_bytes
+cap_of Derivation = most_file_bytes
 
 abbrev pub limit_of : InputFile → Limit
 limit_of PipelineFile = limits.Pipeline

@@ -17,11 +17,11 @@ use Rattle.pl_records.proofs.Sorts.{OwnKeys-none, OwnKeys-more, sorted-rises, so
 use Rattle.pl_spec.proofs.SidsRead.{decimal-sid_in}
 use Rattle.pl_lifetimes.specs.Assets.{Rule, breaks, asset_in, says_asset, rows_in, assets_of, AreAssets, sid_of, header}
 use Rattle.pl_lifetimes.specs.Assets as rules
-use Rattle.pl_lifetimes.specs.declared.TheConstants.{MOST_ASSETS}
+use Rattle.pl_spec.specs.Limits.{most_assets}
 
 -- what the tests were where a record says its asset
 pub record Says (before : List AssetRow) (r : Record) (a : AssetRow) : Type 0 where
-  pub few : nat_le MOST_ASSETS (length before) ≡ false
+  pub few : nat_le most_assets (length before) ≡ false
   pub fields : asset_in r ≡ Some a
   pub in_order : int_lt a.end a.start ≡ false
   pub own_sid : list_any (λ x. sid_of x == a.sid) before ≡ false
@@ -39,13 +39,13 @@ OwnSids-read records rows e =
     rows-keep (HasOwnKeys sid_of) 2 says_asset (λ before r a own s. OwnKeys-more sid_of before a own (says_asset-ok before r a s).own_sid) _ [] rows (OwnKeys-none sid_of)
     (under_ok header rules.BadHeader says_asset records rows e).1
 
-few_more : (before : List AssetRow) (a : AssetRow) → nat_le MOST_ASSETS (length before) ≡ false → length (before ++ a ∷ []) ≤ MOST_ASSETS
-few_more before a n = let small : length before < MOST_ASSETS = grind (arith, nat_tests) in omega (arith, length-append before (a ∷ []))
+few_more : (before : List AssetRow) (a : AssetRow) → nat_le most_assets (length before) ≡ false → length (before ++ a ∷ []) ≤ most_assets
+few_more before a n = let small : length before < most_assets = grind (arith, nat_tests) in omega (arith, length-append before (a ∷ []))
 
-few-read : (records : List Record) (rows : List AssetRow) → rows_in records ≡ Ok rows → length rows ≤ MOST_ASSETS
+few-read : (records : List Record) (rows : List AssetRow) → rows_in records ≡ Ok rows → length rows ≤ most_assets
 unfolding rows_in
 few-read records rows e =
-    rows-keep (λ rs. length rs ≤ MOST_ASSETS) 2 says_asset (λ before r a n s. few_more before a (says_asset-ok before r a s).few) _ [] rows (omega arith)
+    rows-keep (λ rs. length rs ≤ most_assets) 2 says_asset (λ before r a n s. few_more before a (says_asset-ok before r a s).few) _ [] rows (omega arith)
     (under_ok header rules.BadHeader says_asset records rows e).1
 
 -- the sid of a record is one of 32 bits

@@ -9,7 +9,7 @@ use Rattle.pl_records.specs.Sorted.{sorted_by}
 use Rattle.pl_spec.specs.Dates.{date_in}
 use Rattle.pl_spec.specs.Decimals.{sid_in}
 use Rattle.pl_spec.specs.declared.AssetRow.{AssetRow}
-use Rattle.pl_lifetimes.specs.declared.TheConstants.{MOST_ASSETS}
+use Rattle.pl_spec.specs.Limits.{most_assets}
 
 -- what may be wrong with a file
 pub data Rule : Type 0 where
@@ -35,7 +35,7 @@ rules = TooMany ∷ BadField ∷ StartAfterEnd ∷ DuplicateSid ∷ []
 
 abbrev pub breaks : List AssetRow → Record → Rule → Bool
 breaks before r BadHeader = false
-breaks before r TooMany = nat_le MOST_ASSETS (length before)
+breaks before r TooMany = nat_le most_assets (length before)
 breaks before r BadField = lacks (asset_in r)
 breaks before r StartAfterEnd = has (λ a. int_lt a.end a.start) (asset_in r)
 breaks before r DuplicateSid = has (λ a. list_any (λ x. sid_of x == a.sid) before) (asset_in r)
@@ -55,7 +55,7 @@ assets_of records = rows_in records >>= λ rows. Ok (sorted_by sid_of rows)
 -- assets as they are kept
 pub record AreAssets (rows : List AssetRow) : Type 0 where
   pub ascend : AllPairs (λ a b. a.sid < b.sid) rows
-  pub few : length rows ≤ MOST_ASSETS
+  pub few : length rows ≤ most_assets
   pub small : All (λ a. a.sid < 2 ^ 32) rows
 
 -- the asset in the column has the sid

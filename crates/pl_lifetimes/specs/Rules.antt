@@ -6,7 +6,7 @@ use Rattle.pl_records.specs.RuleTable.{IsFirstBroken, KeepsAll}
 use Rattle.pl_spec.specs.Dates.{IsDate}
 use Rattle.pl_spec.specs.declared.AssetRow.{AssetRow}
 use Rattle.pl_lifetimes.specs.Assets.{Rule, BadHeader, TooMany, BadField, StartAfterEnd, DuplicateSid, rules, header}
-use Rattle.pl_lifetimes.specs.declared.TheConstants.{MOST_ASSETS}
+use Rattle.pl_spec.specs.Limits.{most_assets}
 
 -- the record is the sid of the asset, without sign and zeros in front, and its two days
 pub record IsAssetRecord (r : Record) (a : AssetRow) : Type 0 where
@@ -19,7 +19,7 @@ pub record IsAssetRecord (r : Record) (a : AssetRow) : Type 0 where
 -- what it is to break each rule
 abbrev pub Breaks : List AssetRow → Record → Rule → Type 0
 Breaks before r BadHeader = ⊥
-Breaks before r TooMany = MOST_ASSETS ≤ length before
+Breaks before r TooMany = most_assets ≤ length before
 Breaks before r BadField = (a : AssetRow) → ¬ IsAssetRecord r a
 Breaks before r StartAfterEnd = (a : AssetRow) × IsAssetRecord r a × (a.end <ℤ a.start)
 Breaks before r DuplicateSid = (a : AssetRow) × IsAssetRecord r a × Any (λ b. b.sid ≡ a.sid) before

@@ -2,8 +2,9 @@
 use Rattle.std.proofs.Common.{◌≡◌, ℕ, suc, ◌+◌, ◌<◌, ◌≤◌, ◌==◌, true, false, nat_lt, List, [], ◌∷◌, ◌++◌, length, take, drop, position, Some, None, Result, Ok, Err, refl, sym, ◌∙◌, ap, arith, append_assoc, length-append, map}
 use Rattle.std.proofs.lemmas.List.{map-append}
 use Rattle.std.proofs.lemmas.Bool.Decides.{nat_tests}
+use Rattle.pl_spec.specs.Limits.{most_lines}
 use Rattle.pl_lines.specs.Lines.{Line}
-use Rattle.pl_lines.specs.Texts.{Broken, pieces, line_in, with_line, line_judged, lines_from, lines_in, MOST_LINES, IsWritable, AreWritable}
+use Rattle.pl_lines.specs.Texts.{Broken, pieces, line_in, with_line, line_judged, lines_from, lines_in, IsWritable, AreWritable}
 use Rattle.pl_lines.specs.Texts.Broken.{BadLine, TooMany}
 use Rattle.pl_lines.specs.declared.line.Line as code
 use Rattle.pl_lines.specs.Listed.{line_of}
@@ -64,14 +65,14 @@ module _ (bytes : List ℕ) (ls : List Line) (n : ℕ) (left : List ℕ) (told :
     pub no_line : None ≡ line_in (take end left) → lines_in bytes ≡ Err (BadLine (n + 1))
     no_line e = judged ∙ ap (λ o. lines_told ls (line_judged (suc n) o rest)) (sym e) ∙ ap (λ k. Err (BadLine k)) (next n)
 
-    pub past_most : (l : Line) → Some l ≡ line_in (take end left) → n ≡ MOST_LINES → lines_in bytes ≡ Err (TooMany (n + 1))
+    pub past_most : (l : Line) → Some l ≡ line_in (take end left) → n ≡ most_lines → lines_in bytes ≡ Err (TooMany (n + 1))
     past_most l e h =
-        let many : nat_lt MOST_LINES (suc n) ≡ true = grind (arith, nat_tests) in
+        let many : nat_lt most_lines (suc n) ≡ true = grind (arith, nat_tests) in
         judged ∙ ap (λ o. lines_told ls (line_judged (suc n) o rest)) (sym e) ∙ rw many (ap (λ k. Err (TooMany k)) (next n))
 
-    pub one_more : (l : Line) → Some l ≡ line_in (take end left) → n < MOST_LINES → lines_in bytes ≡ lines_told (ls ++ l ∷ []) rest
+    pub one_more : (l : Line) → Some l ≡ line_in (take end left) → n < most_lines → lines_in bytes ≡ lines_told (ls ++ l ∷ []) rest
     one_more l e h =
-        let few : nat_lt MOST_LINES (suc n) ≡ false = grind (arith, nat_tests) in
+        let few : nat_lt most_lines (suc n) ≡ false = grind (arith, nat_tests) in
         judged ∙ ap (λ o. lines_told ls (line_judged (suc n) o rest)) (sym e) ∙ rw few (line_told ls l rest)
 
 pub loop_begun : (bytes : List ℕ) (items : List code.Line) → items ≡ [] → 0 < length bytes → IsRead bytes items bytes
@@ -80,9 +81,9 @@ loop_begun bytes (x ∷ xs) e some = absurd (let bad : x ∷ xs ≡ [] = e in cc
 
 -- one line more
 pub loop_more : (bytes : List ℕ) (items : List code.Line) (left : List ℕ) (h : IsRead bytes items left) (end : ℕ) → position (λ b. b == 10) left ≡ Some end
-    → (line : code.Line) → Some (line_of line) ≡ line_in (take end left) → (length items ≡ MOST_LINES → ⊥) → IsRead bytes (items ++ line ∷ []) (drop (end + 1) left)
+    → (line : code.Line) → Some (line_of line) ≡ line_in (take end left) → (length items ≡ most_lines → ⊥) → IsRead bytes (items ++ line ∷ []) (drop (end + 1) left)
 loop_more bytes items left h end at line e other =
-    let few : length items ≤ MOST_LINES = h.few in
+    let few : length items ≤ most_lines = h.few in
     let long : length (items ++ line ∷ []) ≡ length items + 1 = length-append items (line ∷ []) in
     let count : length (items ++ line ∷ []) ≡ suc (length items) = omega arith in
     let lines : map line_of (items ++ line ∷ []) ≡ map line_of items ++ line_of line ∷ [] = map-append line_of items (line ∷ []) in

@@ -9,6 +9,7 @@ use Rattle.std.proofs.lemmas.Bool.{true≢false, not-true, and_parts, eq-eqb}
 use Rattle.std.proofs.lemmas.Bool.Decides.{nat_tests, Decides-int_eq}
 use Rattle.std.proofs.lemmas.Slice.Eq.{bytes_eq-Decides}
 use Rattle.std.proofs.lemmas.Fmt.{decimal_digit, decimal-digits_of, decimal_is_IsNumeral}
+use Rattle.pl_spec.specs.Limits.{most_lines}
 use Rattle.pl_spec.specs.declared.Column.{Column}
 use Rattle.pl_spec.specs.declared.Column.TheVariants.{OpenPrice, High, Low, Close, Volume}
 use Rattle.pl_spec.specs.Rounding.{LIMIT, MISSING, is_missing, IsCell}
@@ -19,7 +20,7 @@ use Rattle.pl_spec.proofs.DatesWritten.{IsDate-date_text}
 use Rattle.pl_spec.proofs.SidsRead.{sid_in-decimal}
 use Rattle.pl_lines.specs.Lines.{Line}
 use Rattle.pl_lines.specs.Lines.Line.{SeenLine, ValueLine}
-use Rattle.pl_lines.specs.Texts.{column_name, number_text, fields_of, body_of, text_of, pieces, column_in, number_of_text, numbers_in, line_in_fields, line_in, MOST_LINES, lines_from, lines_in, AreCells, IsWritable, AreWritable}
+use Rattle.pl_lines.specs.Texts.{column_name, number_text, fields_of, body_of, text_of, pieces, column_in, number_of_text, numbers_in, line_in_fields, line_in, lines_from, lines_in, AreCells, IsWritable, AreWritable}
 use Rattle.pl_spec.proofs.Each.{Each, each_both, each_in_map, each_all, each_more}
 
 -- ---- pieces
@@ -216,13 +217,13 @@ lines_cut (l ∷ ls) h =
     rw (append_assoc (body_of l) (10 ∷ []) (flat_map (λ l. body_of l ++ 10 ∷ []) ls))
     (pieces_front 10 (body_of l) (flat_map (λ l. body_of l ++ 10 ∷ []) ls) (joined_plain (fields_of l) (fields_plain l h.0)) ∙ ap (λ ps. body_of l ∷ ps) (lines_cut ls h.1))
 
-from_back : (n : ℕ) (ls : List Line) → AreWritable ls → n + length ls ≤ suc MOST_LINES → lines_from n (map body_of ls ++ [] ∷ []) ≡ Ok ls
+from_back : (n : ℕ) (ls : List Line) → AreWritable ls → n + length ls ≤ suc most_lines → lines_from n (map body_of ls ++ [] ∷ []) ≡ Ok ls
 from_back n [] h few = refl
 from_back n (l ∷ []) h few =
-    let within : nat_lt MOST_LINES n ≡ false = grind (arith, nat_tests) in
+    let within : nat_lt most_lines n ≡ false = grind (arith, nat_tests) in
     rw (line_back l h.0, within) refl
 from_back n (l ∷ m ∷ ls) h few =
-    let within : nat_lt MOST_LINES n ≡ false = grind (arith, nat_tests) in
+    let within : nat_lt most_lines n ≡ false = grind (arith, nat_tests) in
     let rest : lines_from (suc n) (map body_of (m ∷ ls) ++ [] ∷ []) ≡ Ok (m ∷ ls) = from_back (suc n) (m ∷ ls) h.1 (omega arith) in
     rw (line_back l h.0, within, rest) refl
 
@@ -231,7 +232,7 @@ unfolding text_of
 text_there (SeenLine c a bar day cells) ls = refl
 text_there (ValueLine t a day v) ls = refl
 
-pub read : (lines : List Line) → AreWritable lines → 1 ≤ length lines → length lines ≤ MOST_LINES → lines_in (text_of lines) ≡ Ok lines
+pub read : (lines : List Line) → AreWritable lines → 1 ≤ length lines → length lines ≤ most_lines → lines_in (text_of lines) ≡ Ok lines
 unfolding lines_in
 read [] ok some few = absurd (omega arith)
 read (l ∷ ls) ok some few =

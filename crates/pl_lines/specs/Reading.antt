@@ -1,10 +1,11 @@
 -- The words of the reader.
 use Rattle.std.specs.Prelude.{◌≡◌, ℕ, suc, ◌≤◌, length, map, ℤ, List, [], ◌++◌, Option, Some, None, option_map, option_and_then, Result, Ok, Err}
+use Rattle.pl_spec.specs.Limits.{most_lines}
 use Rattle.pl_spec.specs.Dates.{date_in}
 use Rattle.pl_spec.specs.Decimals.{sid_in}
 use Rattle.pl_lines.specs.Lines.{Line}
 use Rattle.pl_lines.specs.Lines.Line.{SeenLine}
-use Rattle.pl_lines.specs.Texts.{Broken, pieces, column_in, lines_from, lines_in, AreWritable, MOST_LINES}
+use Rattle.pl_lines.specs.Texts.{Broken, pieces, column_in, lines_from, lines_in, AreWritable}
 use Rattle.pl_lines.specs.declared.line.Line as code
 use Rattle.pl_lines.specs.Listed.{line_of}
 use Rattle.pl_lines.specs.Texts.Broken.{BadLine, TooMany}
@@ -40,5 +41,5 @@ bar_line c a bar day cells =
 -- these lines were read of the text, and so much is left of it
 pub record IsRead (bytes : List ℕ) (items : List code.Line) (left : List ℕ) : Type 0 where
   pub told : lines_in bytes ≡ lines_told (map line_of items) (lines_from (suc (length items)) (pieces 10 left))
-  pub few : length items ≤ MOST_LINES
+  pub few : length items ≤ most_lines
   pub writable : AreWritable (map line_of items)

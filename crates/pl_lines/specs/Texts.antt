@@ -4,6 +4,7 @@ use Rattle.std.specs.List.{join_by}
 use Rattle.std.specs.Fmt.{decimal, signed_decimal}
 use Rattle.std.specs.Str.Parse.{signed_digits_value}
 use Rattle.std.specs.Int.RustNames.{unsigned_abs}
+use Rattle.pl_spec.specs.Limits.{most_lines}
 use Rattle.pl_spec.specs.declared.Column.{Column}
 use Rattle.pl_spec.specs.declared.Column.TheVariants.{OpenPrice, High, Low, Close, Volume}
 use Rattle.pl_spec.specs.Rounding.{LIMIT, MISSING, is_missing, IsCell}
@@ -87,9 +88,6 @@ line_in_fields (word ∷ fields) =
 unfoldable pub line_in : List ℕ → Option Line
 line_in text = line_in_fields (pieces 32 text)
 
-abbrev pub MOST_LINES : ℕ
-MOST_LINES = 100000
-
 pub data Broken : Type 0 where
   BadLine TooMany : (line : ℕ) → Broken
 
@@ -100,7 +98,7 @@ with_line l (Err e) = Err e
 -- the line of a piece, in front of what is behind it
 abbrev pub line_judged : ℕ → Option Line → Result (List Line) Broken → Result (List Line) Broken
 line_judged n None rest = Err (BadLine n)
-line_judged n (Some l) rest = if nat_lt MOST_LINES n then Err (TooMany n) else with_line l rest
+line_judged n (Some l) rest = if nat_lt most_lines n then Err (TooMany n) else with_line l rest
 
 -- the pieces from line number n on; the last one is behind the last line feed, so it has to be empty
 abbrev pub lines_from : ℕ → List (List ℕ) → Result (List Line) Broken
@@ -129,7 +127,7 @@ AreWritable (l ∷ ls) = IsWritable l × AreWritable ls
 
 -- what was written is read back
 abbrev pub TextsAreRead : Type 0
-TextsAreRead = (lines : List Line) → AreWritable lines → 1 ≤ length lines → length lines ≤ MOST_LINES → lines_in (text_of lines) ≡ Ok lines
+TextsAreRead = (lines : List Line) → AreWritable lines → 1 ≤ length lines → length lines ≤ most_lines → lines_in (text_of lines) ≡ Ok lines
 
 -- a text is read as a line exactly where it is the text of that line
 abbrev pub LinesAreRead : Type 0

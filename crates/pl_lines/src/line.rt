@@ -1,7 +1,8 @@
 ghost use Rattle.std.specs.Prelude.{◌≡◌, ◌<◌, ◌≤◌, All, Some, length, map, slice_get};
+ghost use Rattle.pl_spec.specs.Limits.{most_lines};
 ghost use Rattle.pl_spec.specs.Rounding.{IsCell};
 ghost use Rattle.pl_lines.specs.Listed.{line_of};
-ghost use Rattle.pl_lines.specs.Texts.{IsWritable, AreWritable, MOST_LINES};
+ghost use Rattle.pl_lines.specs.Texts.{IsWritable, AreWritable};
 
 use pl_spec::Column;
 use std::marker::Model;
@@ -68,20 +69,21 @@ impl Model for Derivation {
     ghost use Rattle.std.specs.Prelude.{◌≤◌, List, length, map};
     ghost use Rattle.pl_lines.specs.Lines as spec;
     ghost use Rattle.pl_lines.specs.Listed.{line_of};
-    ghost use Rattle.pl_lines.specs.Texts.{AreWritable, MOST_LINES};
+    ghost use Rattle.pl_lines.specs.Texts.{AreWritable};
+    ghost use Rattle.pl_spec.specs.Limits.{most_lines};
 
     ghost Value = { List spec.Line };
 
     ghost view = { λ d. map line_of d.lines.items };
 
-    ghost invariant = { λ d. AreWritable (map line_of d.lines.items) × (length d.lines.items ≤ MOST_LINES) };
+    ghost invariant = { λ d. AreWritable (map line_of d.lines.items) × (length d.lines.items ≤ most_lines) };
 }
 
 impl Derivation {
     /// The derivation of these lines, whose numbers and days have texts.
     pub fn of(lines: Vec<Line>) -> Derivation
         requires writable { AreWritable (map line_of lines.items) }
-        requires few { length lines.items ≤ MOST_LINES }
+        requires few { length lines.items ≤ most_lines }
         ensures { result ≡ map line_of lines.items }
     {
         Derivation { lines }
@@ -90,7 +92,7 @@ impl Derivation {
     /// How many lines there are.
     pub fn len(&self) -> usize
         ensures length { result ≡ length self.now }
-        ensures few { result ≤ MOST_LINES }
+        ensures few { result ≤ most_lines }
     {
         self.lines.len()
     }

@@ -16,7 +16,7 @@ use Rattle.pl_lifetimes.specs.Assets.{AreAssets, sid_of}
 use Rattle.pl_lifetimes.specs.Assets.{HasSid}
 use Rattle.pl_lifetimes.proofs.SidColumns.{sid_form}
 use Rattle.pl_payouts.specs.declared.reading.Dividend.{Dividend}
-use Rattle.pl_payouts.specs.declared.TheConstants.{MOST_PAYOUTS}
+use Rattle.pl_spec.specs.Limits.{most_payouts}
 use Rattle.pl_payouts.specs.Payouts.{Rule, breaks, col_in, dividend_in, header, is_above_0, says_dividend, payouts_of, ArePayouts, AreKnown, IsKnown, IsPaid}
 use Rattle.pl_payouts.specs.Payouts as rules
 use Rattle.pl_payouts.specs.Rules.{IsDividendRecord, IsDividend, Breaks, ArePayoutsOf, IsPayoutsFault}
@@ -61,8 +61,8 @@ module _ (assets : List AssetRow) (up : AreAssets assets) where
 abbrev Kept : List AssetRow → List Dividend → Type 0
 Kept assets rows = ArePayouts rows × AreKnown assets rows
 
-few_more : (before : List Dividend) (d : Dividend) → nat_le MOST_PAYOUTS (length before) ≡ false → length (before ++ d ∷ []) ≤ MOST_PAYOUTS
-few_more before d n = let small : length before < MOST_PAYOUTS = grind (arith, nat_tests) in omega (arith, length-append before (d ∷ []))
+few_more : (before : List Dividend) (d : Dividend) → nat_le most_payouts (length before) ≡ false → length (before ++ d ∷ []) ≤ most_payouts
+few_more before d n = let small : length before < most_payouts = grind (arith, nat_tests) in omega (arith, length-append before (d ∷ []))
 
 paid : (r : Record) (d : Dividend) → dividend_in r ≡ Some d → not (is_above_0 d.amount) ≡ false → IsPaid d.ex d.amount
 paid r d e t =

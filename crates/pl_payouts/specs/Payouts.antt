@@ -14,7 +14,7 @@ use Rattle.pl_lifetimes.specs.Assets.{sid_of}
 use Rattle.pl_lifetimes.specs.Assets.{HasSid}
 use Rattle.pl_payouts.specs.declared.Payout.{Payout}
 use Rattle.pl_payouts.specs.declared.reading.Dividend.{Dividend}
-use Rattle.pl_payouts.specs.declared.TheConstants.{MOST_PAYOUTS}
+use Rattle.pl_spec.specs.Limits.{most_payouts}
 
 -- what may be wrong with a file
 pub data Rule : Type 0 where
@@ -48,7 +48,7 @@ rules = TooMany ∷ BadField ∷ UnknownSid ∷ NotPositive ∷ []
 
 abbrev pub breaks : List AssetRow → List Dividend → Record → Rule → Bool
 breaks assets before r BadHeader = false
-breaks assets before r TooMany = nat_le MOST_PAYOUTS (length before)
+breaks assets before r TooMany = nat_le most_payouts (length before)
 breaks assets before r BadField = lacks (dividend_in r)
 breaks assets before r UnknownSid = has (λ d. lacks (col_in assets d)) (dividend_in r)
 breaks assets before r NotPositive = has (λ d. not (is_above_0 d.amount)) (dividend_in r)
@@ -77,7 +77,7 @@ abbrev pub IsPayout : Payout → Type 0
 IsPayout p = IsPaid p.ex p.amount
 
 pub record ArePayouts (rows : List Dividend) : Type 0 where
-  pub few : length rows ≤ MOST_PAYOUTS
+  pub few : length rows ≤ most_payouts
   pub paid : All (λ d. IsPaid d.ex d.amount) rows
 
 -- an asset has the sid

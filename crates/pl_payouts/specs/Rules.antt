@@ -9,7 +9,7 @@ use Rattle.pl_spec.specs.declared.AssetRow.{AssetRow}
 use Rattle.pl_lifetimes.specs.Assets.{HasSid}
 use Rattle.pl_payouts.specs.declared.reading.Dividend.{Dividend}
 use Rattle.pl_payouts.specs.Payouts.{Rule, BadHeader, TooMany, BadField, UnknownSid, NotPositive, rules, header}
-use Rattle.pl_payouts.specs.declared.TheConstants.{MOST_PAYOUTS}
+use Rattle.pl_spec.specs.Limits.{most_payouts}
 
 -- the text is a decimal that is read as the cell
 abbrev pub IsAmountText : List ℕ → ℤ → Type 0
@@ -26,7 +26,7 @@ pub record IsDividendRecord (r : Record) (d : Dividend) : Type 0 where
 -- what it is to break each rule
 abbrev pub Breaks : List AssetRow → List Dividend → Record → Rule → Type 0
 Breaks assets before r BadHeader = ⊥
-Breaks assets before r TooMany = MOST_PAYOUTS ≤ length before
+Breaks assets before r TooMany = most_payouts ≤ length before
 Breaks assets before r BadField = (d : Dividend) → ¬ IsDividendRecord r d
 Breaks assets before r UnknownSid =
     (d : Dividend) × IsDividendRecord r d × ((col : ℕ) → ¬ HasSid assets col d.sid)

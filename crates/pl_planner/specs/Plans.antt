@@ -1,5 +1,6 @@
 -- The plan of a run, and why there is none.
 use Rattle.std.specs.Prelude.{◌≡◌, ℕ, ◌<◌, ◌≤◌, ◌+◌, ◌-◌, ◌*◌, ◌⊎◌, Bool, true, false, ◌&&◌, if◌then◌else◌, nat_le, nat_lt, ℤ, pos, ◌-ℤ◌, ◌<ℤ◌, ◌≤ℤ◌, List, length, get_or, slice_get, Option, Some, None}
+use Rattle.pl_spec.specs.Limits.{most_extra_rows}
 use Rattle.pl_spec.specs.Window.{before}
 use Rattle.pl_spec.specs.Term.{Graph, Node}
 use Rattle.pl_spec.specs.Graph.{Used, contains, mentions_at, live_terms, columns_at, bound}
@@ -65,10 +66,6 @@ column_slot plan t i = get_or (slots_at plan.slots t).columns i 0
 
 -- ---- the plan of a pipeline
 
--- the greatest number of extra rows
-abbrev pub most_rows : ℕ
-most_rows = 4096
-
 -- term t is used, and session s is one of the range
 abbrev pub IsAsked : Planned → ℕ → ℕ → Type 0
 IsAsked plan t s = (is_used plan t ≡ true) × ((plan.from ≤ s) × (s ≤ plan.to))
@@ -77,7 +74,7 @@ IsAsked plan t s = (is_used plan t ≡ true) × ((plan.from ≤ s) × (s ≤ pla
 -- bar before it is read.
 pub record AreLows (days : List ℤ) (p : Pipeline) (plan : Planned) : Type 0 where
   pub exact : (t s : ℕ) → IsAsked plan t s → IsLow days p.graph (outputs p) (pos s) t (pos (low_at plan t s))
-  pub few : (t s : ℕ) → IsAsked plan t s → (low_at plan t s ≤ s) × (s - low_at plan t s ≤ most_rows)
+  pub few : (t s : ℕ) → IsAsked plan t s → (low_at plan t s ≤ s) × (s - low_at plan t s ≤ most_extra_rows)
   pub covered : (t s : ℕ) → IsAsked plan t s → plan.reach ≤ℤ pos (low_at plan t s)
   pub bars : (t s : ℕ) (n : Node) → IsAsked plan t s → slice_get p.graph t ≡ Some n → HasBar n
       → plan.reach ≤ℤ before (pos (low_at plan t s)) n.window
@@ -149,7 +146,7 @@ pub record IsDeepest (days : List ℤ) (p : Pipeline) (from to n : ℕ) : Type 0
 abbrev pub IsPlanFault : List ℤ → Pipeline → ℕ → ℕ → PlanError → Type 0
 IsPlanFault days p from to (TooEarly r) = (r ≡ least_reach days p.graph (outputs p) (pos from)) × (r <ℤ pos 0)
 IsPlanFault days p from to (TooDeep n) =
-    (pos 0 ≤ℤ least_reach days p.graph (outputs p) (pos from)) × IsDeepest days p from to n × (most_rows < n)
+    (pos 0 ≤ℤ least_reach days p.graph (outputs p) (pos from)) × IsDeepest days p from to n × (most_extra_rows < n)
 IsPlanFault days p from to Memory = Unit {0}
 
 -- ---- what each plan keeps by itself
@@ -162,6 +159,6 @@ pub record KeepsLimits (plan : Planned) : Type 0 where
   pub within : (t : ℕ) → is_used plan t ≡ true → t < length plan.slots
   pub size : length plan.extras ≡ (plan.to + 1 - plan.from) * length plan.uses
   pub rows : (t s : ℕ) → IsAsked plan t s → (extra_at plan.extras (length plan.uses) (s - plan.from) t ≤ s)
-      × (extra_at plan.extras (length plan.uses) (s - plan.from) t ≤ most_rows)
+      × (extra_at plan.extras (length plan.uses) (s - plan.from) t ≤ most_extra_rows)
   pub among : (t : ℕ) → is_used plan t ≡ true → t < length plan.uses
   pub slots : (t : ℕ) → is_used plan t ≡ true → slot_of plan t < plan.bound

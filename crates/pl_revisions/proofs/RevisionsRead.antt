@@ -32,7 +32,7 @@ use Rattle.pl_bars.proofs.BarFields.{IsCellText-bar_cell, IsNegative-test, is_ne
 use Rattle.pl_bars.proofs.BarSets.{same_number, number_same}
 use Rattle.pl_bars.proofs.BarsSaid.{day_form}
 use Rattle.pl_revisions.specs.declared.Revision.{Revision}
-use Rattle.pl_revisions.specs.declared.TheConstants.{MOST_REVISIONS}
+use Rattle.pl_spec.specs.Limits.{most_revisions}
 use Rattle.pl_revisions.specs.Revisions.{Rule, breaks, col_in, session_in, revision_in, header, is_same, is_soon, says_revision, revisions_of, AreRevisions, IsRevision}
 use Rattle.pl_revisions.specs.Revisions as rules
 use Rattle.pl_revisions.specs.Rules.{IsRevisionRecord, AreOfOne, IsNext, Breaks, AreRevisionsOf, IsRevisionsFault}
@@ -124,8 +124,8 @@ module _ (days : List ℤ) (assets : List AssetRow) (ud : AreDays days) (ua : Ar
 
   -- ---- what is kept of all rows
 
-  few_more : (before : List Revision) (x : Revision) → nat_le MOST_REVISIONS (length before) ≡ false → length (before ++ x ∷ []) ≤ MOST_REVISIONS
-  few_more before x n = let small : length before < MOST_REVISIONS = grind (arith, nat_tests) in omega (arith, length-append before (x ∷ []))
+  few_more : (before : List Revision) (x : Revision) → nat_le most_revisions (length before) ≡ false → length (before ++ x ∷ []) ≤ most_revisions
+  few_more before x n = let small : length before < most_revisions = grind (arith, nat_tests) in omega (arith, length-append before (x ∷ []))
 
   known : (sid : ℕ) → lacks (position (λ a. sid_of a == sid) assets) ≡ false → (col : ℕ) × HasSid assets col sid
   known sid t = here (position (λ a. sid_of a == sid) assets) refl t

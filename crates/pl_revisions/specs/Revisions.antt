@@ -15,7 +15,7 @@ use Rattle.pl_lifetimes.specs.Assets.{HasSid}
 use Rattle.pl_bars.specs.Bars.{cell_in, is_bar_cell, is_negative}
 use Rattle.pl_bars.specs.ColumnNames.{column_in}
 use Rattle.pl_revisions.specs.declared.Revision.{Revision}
-use Rattle.pl_revisions.specs.declared.TheConstants.{MOST_REVISIONS}
+use Rattle.pl_spec.specs.Limits.{most_revisions}
 
 -- what may be wrong with a file
 pub data Rule : Type 0 where
@@ -54,7 +54,7 @@ rules = TooMany ∷ BadField ∷ NotSession ∷ UnknownSid ∷ Negative ∷ TooS
 
 abbrev pub breaks : List ℤ → List AssetRow → List Revision → Record → Rule → Bool
 breaks days assets before r BadHeader = false
-breaks days assets before r TooMany = nat_le MOST_REVISIONS (length before)
+breaks days assets before r TooMany = nat_le most_revisions (length before)
 breaks days assets before r BadField = lacks (revision_in r)
 breaks days assets before r NotSession = has (λ x. lacks (session_in days x)) (revision_in r)
 breaks days assets before r UnknownSid = has (λ x. lacks (col_in assets x)) (revision_in r)
@@ -82,5 +82,5 @@ pub record IsRevision (days : List ℤ) (assets : List AssetRow) (x : Revision) 
   pub cell : IsTrue (is_bar_cell x.value)
 
 pub record AreRevisions (days : List ℤ) (assets : List AssetRow) (rows : List Revision) : Type 0 where
-  pub few : length rows ≤ MOST_REVISIONS
+  pub few : length rows ≤ most_revisions
   pub each : All (IsRevision days assets) rows

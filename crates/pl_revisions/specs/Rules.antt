@@ -9,7 +9,7 @@ use Rattle.pl_lifetimes.specs.Assets.{HasSid}
 use Rattle.pl_bars.specs.ColumnNames.{column_name}
 use Rattle.pl_bars.specs.Rules.{IsCellText, IsNegative}
 use Rattle.pl_revisions.specs.declared.Revision.{Revision}
-use Rattle.pl_revisions.specs.declared.TheConstants.{MOST_REVISIONS}
+use Rattle.pl_spec.specs.Limits.{most_revisions}
 use Rattle.pl_revisions.specs.Revisions.{Rule, BadHeader, TooMany, BadField, NotSession, UnknownSid, Negative, TooSoon, Duplicate, rules, header}
 
 -- the record is the sid, without sign and zeros in front, the date of the bar's day, the name of the column,
@@ -33,7 +33,7 @@ pub record AreOfOne (x y : Revision) : Type 0 where
 -- what it is to break each rule
 abbrev pub Breaks : List ℤ → List AssetRow → List Revision → Record → Rule → Type 0
 Breaks days assets before r BadHeader = ⊥
-Breaks days assets before r TooMany = MOST_REVISIONS ≤ length before
+Breaks days assets before r TooMany = most_revisions ≤ length before
 Breaks days assets before r BadField = (x : Revision) → ¬ IsRevisionRecord r x
 Breaks days assets before r NotSession =
     (x : Revision) × IsRevisionRecord r x × ((session : ℕ) → ¬ (slice_get days session ≡ Some x.bar_day))

@@ -5,5 +5,6 @@ mod desk;
 mod release;
 mod run;
 
+pub use pl_spec::Format;
 pub use pl_table::RunError;
 pub use run::{RunReport, run_table};

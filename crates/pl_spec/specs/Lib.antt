@@ -1,4 +1,5 @@
 -- What the contracts of the project cite. docs/DEFINITIONS.md explains each definition.
+pub mod Limits
 pub mod Rounding
 pub mod Dates
 pub mod Periods

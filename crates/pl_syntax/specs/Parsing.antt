@@ -12,7 +12,7 @@ use Rattle.pl_syntax.specs.Spells.{Parsed, FirstFault, SameScript}
 use Rattle.pl_syntax.specs.Statements.{statements_of}
 use Rattle.pl_syntax.specs.Scripts.{version_in, statements_in, end_in, parsed}
 use Rattle.pl_syntax.specs.Stages.{stage_of}
-use Rattle.pl_syntax.specs.declared.parser.TheConstants.{MOST_BYTES}
+use Rattle.pl_spec.specs.Limits.{most_pipeline_bytes}
 use Rattle.pl_syntax.specs.declared.script.Script.{Script}
 use Rattle.pl_syntax.specs.declared.progress.Progress.{Progress}
 use Rattle.pl_syntax.specs.declared.error.SyntaxError.{SyntaxError}
@@ -32,7 +32,7 @@ IsCause bytes (Unexpected p) = FirstFault bytes f.Unexpected p
 IsCause bytes (TooDeep p) = FirstFault bytes f.TooDeep p
 IsCause bytes (NumberTooLarge p) = FirstFault bytes f.NumberTooLarge p
 IsCause bytes (LongStatement p) = FirstFault bytes f.LongStatement p
-IsCause bytes TooLong = MOST_BYTES < length bytes
+IsCause bytes TooLong = most_pipeline_bytes < length bytes
 IsCause bytes Memory = Unit {0}
 
 -- the answer is this script, unless memory ran out

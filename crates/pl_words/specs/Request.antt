@@ -1,6 +1,7 @@
 -- What the words ask for.
 use Rattle.std.specs.Prelude.{ℕ, ◌≤◌, ⊤, ℤ, List, [], ◌∷◌, Bool, false, ◌==◌, ◌&&◌, nat_le, if◌then◌else◌, Option, Some, None, option_map, option_and_then, is_some, length, slice_index_or, unwrap_or, bytes_eq, codes}
 use Rattle.std.specs.List.{list_all}
+use Rattle.pl_spec.specs.Limits.{most_chunk}
 use Rattle.pl_spec.specs.Dates.{date_in}
 use Rattle.pl_spec.specs.Decimals.{sid_in}
 use Rattle.pl_spec.specs.Names.{is_name}
@@ -119,7 +120,7 @@ Values = OptionName → List Word
 
 -- from 1 to 4096, in digits without sign or zeros in front
 abbrev pub chunk_in : Word → Option ℕ
-chunk_in text = option_and_then (λ n. if nat_le 1 n && nat_le n 4096 then Some n else None) (sid_in text)
+chunk_in text = option_and_then (λ n. if nat_le 1 n && nat_le n most_chunk then Some n else None) (sid_in text)
 
 -- 126 where no chunk is given
 abbrev pub chunk_or : Option Word → Option ℕ
@@ -284,7 +285,7 @@ request [] = None
 request (first ∷ words) = option_and_then (λ command. asked command words) (command_named first)
 
 abbrev pub IsChunk : ℕ → Type 0
-IsChunk n = (1 ≤ n) × (n ≤ 4096)
+IsChunk n = (1 ≤ n) × (n ≤ most_chunk)
 
 abbrev pub HasChunk : Request → Type 0
 HasChunk (Run q) = IsChunk q.options.chunk

@@ -1,7 +1,7 @@
 ghost use Rattle.std.specs.Prelude.{◌≡◌, ◌+◌, ◌^◌, ◌-◌, ◌<◌, ◌≤◌, length, pos, ◌+ℤ◌, vec_len, vec_capacity, IfOk};
 ghost use Rattle.pl_records.specs.Sorted.{HasOwnKeys, sorted_by};
 ghost use Rattle.pl_assets.specs.LabelPlaces.{AreNumbered, Ascend, IsLastStarted, IsOrder, KeyPoint, OwnKeys, key, key_at, key_of, numbers};
-ghost use Rattle.pl_assets.specs.declared.TheConstants.{MOST_LABELS};
+ghost use Rattle.pl_spec.specs.Limits.{most_labels};
 
 use crate::labels::rows::{LabelRows, Place};
 use std::alloc::{AllocError, Global};
@@ -39,7 +39,7 @@ fn key_at(places: &[Place], i: u32) -> u128
 
 // The numbers of all rows, by the keys of the rows.
 pub(crate) fn order_of(alloc: Global, places: &[Place]) -> Result<Vec<u32>, AllocError>
-    requires few { length places.now ≤ MOST_LABELS }
+    requires few { length places.now ≤ most_labels }
     requires own { OwnKeys places.now }
     ensures { IfOk result (λ v. IsOrder places.now (length places.now) v.items) }
 {
@@ -47,7 +47,7 @@ pub(crate) fn order_of(alloc: Global, places: &[Place]) -> Result<Vec<u32>, Allo
 }
 
 fn sorted_numbers(alloc: Global, places: &[Place]) -> Result<Vec<u32>, AllocError>
-    requires few { length places.now ≤ MOST_LABELS }
+    requires few { length places.now ≤ most_labels }
     requires own { OwnKeys places.now }
     ensures { IfOk result (λ v.
         v.items ≡ sorted_by (key_at places.now) (numbers (length places.now))) }
@@ -59,7 +59,7 @@ fn sorted_numbers(alloc: Global, places: &[Place]) -> Result<Vec<u32>, AllocErro
 
 #[tactic(auto, unfolding(crate::specs::LabelPlaces::numbers))]
 fn numbers_below(alloc: Global, n: usize) -> Result<Vec<u32>, AllocError>
-    requires { n ≤ MOST_LABELS }
+    requires { n ≤ most_labels }
     ensures { IfOk result (λ v. v.items ≡ numbers n) }
 {
     let mut order = Vec::with_capacity(alloc, n)?;
@@ -79,7 +79,7 @@ fn sort_by_key(places: &[Place], order: &mut [u32])
 // Puts the number of the last row, whose key no other has, into the order of the others.
 pub(crate) fn insert_last(places: &[Place], order: &mut Vec<u32>)
     requires some { 0 < length places.now }
-    requires few { length places.now ≤ MOST_LABELS }
+    requires few { length places.now ≤ most_labels }
     requires room { vec_len order.old < vec_capacity order.old }
     requires own { OwnKeys places.now }
     requires others { IsOrder places.now (length places.now - 1) order.old.items }

@@ -3,7 +3,7 @@ ghost use Rattle.std.specs.Int.RustNames.{int_le};
 ghost use Rattle.pl_spec.specs.AsOf.{labels_by};
 ghost use Rattle.pl_assets.specs.Labels.{with_label};
 ghost use Rattle.pl_assets.specs.LabelPlaces.{AreNumbered, IsBehind, IsPlace, KeepsFront, row_at, shown_rows, text_in};
-ghost use Rattle.pl_assets.specs.declared.TheConstants.{MOST_LABELS};
+ghost use Rattle.pl_spec.specs.Limits.{most_labels};
 
 use crate::labels::texts::{LabelTexts, Texts};
 use std::alloc::{AllocError, Global};
@@ -43,7 +43,7 @@ impl LabelRows {
     // The rows that start by the day, with all texts.
     pub(crate) fn cut(&self, alloc: Global, day: i32) -> Result<LabelRows, AllocError>
         requires numbered { AreNumbered self.now }
-        requires few { length self.now.places.items ≤ MOST_LABELS }
+        requires few { length self.now.places.items ≤ most_labels }
         ensures numbered { IfOk result AreNumbered }
         ensures rows { IfOk result (λ t. shown_rows t ≡ labels_by day (shown_rows self.now)) }
         ensures texts { IfOk result (λ t. t.texts ≡ self.now.texts) }
@@ -62,7 +62,7 @@ impl LabelRows {
     // A row of others, whose texts these rows have, behind these, if it starts by the day.
     fn take(&mut self, from: &LabelRows, place: &Place, day: i32) -> Result<(), AllocError>
         requires numbered { AreNumbered self.old }
-        requires few { length self.old.places.items < MOST_LABELS }
+        requires few { length self.old.places.items < most_labels }
         requires place { IsPlace from.now.names from.now.texts place.now }
         requires texts { self.old.texts ≡ from.now.texts }
         ensures numbered { OnOk result (AreNumbered self.new) }
@@ -100,7 +100,7 @@ impl LabelRows {
         text: &[u8],
     ) -> Result<Place, AllocError>
         requires numbered { AreNumbered self.old }
-        requires few { length self.old.places.items < MOST_LABELS }
+        requires few { length self.old.places.items < most_labels }
         ensures numbered { AreNumbered self.new }
         ensures place { IfOk result (λ p. IsBehind self.old self.new p) }
         ensures row { OnOk result (shown_rows self.new
@@ -124,7 +124,7 @@ impl LabelRows {
     // The same, but where memory runs out, a name and a text may stay behind the others.
     fn put(&mut self, name: &[u8], col: u32, start: i32, text: &[u8]) -> Result<Place, AllocError>
         requires numbered { AreNumbered self.old }
-        requires few { length self.old.places.items < MOST_LABELS }
+        requires few { length self.old.places.items < most_labels }
         ensures numbered { OnOk result (AreNumbered self.new) }
         ensures place { IfOk result (λ p. IsBehind self.old self.new p) }
         ensures row { OnOk result (shown_rows self.new

@@ -1,10 +1,10 @@
 use Rattle.std.proofs.Common.{◌≤◌, length, arith}
 use Rattle.pl_records.specs.Records.{csv_records}
-use Rattle.pl_calendar.specs.declared.TheConstants.{MOST_SESSIONS}
+use Rattle.pl_spec.specs.Limits.{most_sessions}
 use Rattle.pl_bars.proofs.BarsRead.{AreKept-read}
 use Rattle.pl_bars.proofs.reading.read_bars.Goals as goal
 
 pub sort_by_place-requires : goal.sort_by_place-requires
 sort_by_place-requires c =
-    let few : length c.args.sessions.now ≤ MOST_SESSIONS = omega (arith, c.len-count.ensures.length, c.len-count.ensures.few) in
+    let few : length c.args.sessions.now ≤ most_sessions = omega (arith, c.len-count.ensures.length, c.len-count.ensures.few) in
     rw c.deref_mut.ensures.value (AreKept-read c.args.sessions.now c.args.assets.now (csv_records c.args.bytes.now) c.in_ok-rows.rows.items few c.in_ok-rows.ensures).own

@@ -2,7 +2,7 @@ use Rattle.std.proofs.Common.{◌≡◌, ◌<◌, length, arith, length-append, 
 use Rattle.std.proofs.lemmas.Result.{err_from_is_err_and}
 use Rattle.pl_records.specs.Reading.{rows_of}
 use Rattle.pl_records.proofs.Readings.{goes_on, stops, is_done}
-use Rattle.pl_bars.specs.declared.TheConstants.{MOST_BARS}
+use Rattle.pl_spec.specs.Limits.{most_bars}
 use Rattle.pl_bars.specs.Bars.{says_bar}
 use Rattle.pl_bars.specs.Faults.{fault_of}
 use Rattle.pl_bars.proofs.reading.rows_behind.Goals as goal
@@ -17,7 +17,7 @@ pub rows-preserved : goal.rows-preserved
 rows-preserved c =
     let more = rw c.if-branch.true at c.in_ok-next.ensures in
     let items : c.push.new.self.items ≡ c.rows.rows.items ++ c.in_ok-bar.bar ∷ [] = c.in_ok-push.ensures.items in
-    let room : length c.rows.rows.items < MOST_BARS = rw c.deref.ensures.value at c.in_ok-bar.ensures.room in
+    let room : length c.rows.rows.items < most_bars = rw c.deref.ensures.value at c.in_ok-bar.ensures.room in
     record {
       rest = rw items (goes_on 2 (says_bar c.args.sessions.now c.args.assets.now) c.rows.rows.items c.rows.records.left c.next.new.self.left c.next.new.self.fields c.in_ok-bar.bar _ more.ok (rw c.deref.ensures.value at c.in_ok-bar.ensures.exact) c.rows.invariant.rest);
       few = rw items (omega (arith, length-append c.rows.rows.items (c.in_ok-bar.bar ∷ [])));

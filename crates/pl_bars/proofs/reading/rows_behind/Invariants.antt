@@ -1,6 +1,6 @@
 use Rattle.std.proofs.Common.{◌≡◌, ◌≤◌, length}
 use Rattle.pl_records.specs.Reading.{rows_of, rows_behind}
-use Rattle.pl_bars.specs.declared.TheConstants.{MOST_BARS}
+use Rattle.pl_spec.specs.Limits.{most_bars}
 use Rattle.pl_bars.specs.Bars.{says_bar}
 use Rattle.pl_bars.specs.BarSet.{AreBarsIn}
 use Rattle.pl_bars.proofs.reading.rows_behind.Given as goal
@@ -8,7 +8,7 @@ use Rattle.pl_bars.proofs.reading.rows_behind.Given as goal
 abbrev pub invariant-rows : goal.invariant-rows
 invariant-rows l = record {
   rest : rows_behind 2 (says_bar l.sessions l.assets) l.rows.items l.records.left ≡ rows_of 2 (says_bar l.sessions l.assets) l.fn.records.left;
-  few : length l.rows.items ≤ MOST_BARS;
+  few : length l.rows.items ≤ most_bars;
   cols : l.seen.cols ≡ length l.assets;
   sessions : l.seen.sessions ≡ length l.sessions;
   seen : AreBarsIn l.seen l.rows.items;

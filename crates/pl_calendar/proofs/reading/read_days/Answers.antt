@@ -5,7 +5,7 @@ use Rattle.pl_records.specs.Reading.{rows_of}
 use Rattle.pl_records.proofs.Readings.{goes_on, stops, is_done}
 use Rattle.pl_records.specs.Records.{csv_records}
 use Rattle.pl_calendar.specs.Days.{says_day}
-use Rattle.pl_calendar.specs.declared.TheConstants.{MOST_SESSIONS}
+use Rattle.pl_spec.specs.Limits.{most_sessions}
 use Rattle.pl_calendar.specs.Faults.{fault_of}
 use Rattle.pl_calendar.proofs.reading.read_days.Goals as goal
 
@@ -20,7 +20,7 @@ rows-preserved c =
     let more = rw c.if-branch.true at c.in_ok-next.ensures in
     let fits : FitsSigned w32 c.in_ok-day.day = search rules in
     let items : c.push.new.self.items ≡ c.rows.days.items ++ c.in_ok-day.day ∷ [] = simp to_z-of_z at c.in_ok-push.ensures.items in
-    let room : length c.rows.days.items < MOST_SESSIONS = rw c.deref.ensures.value at c.in_ok-day.ensures.room in
+    let room : length c.rows.days.items < most_sessions = rw c.deref.ensures.value at c.in_ok-day.ensures.room in
     record {
       rest = rw items (goes_on 1 says_day c.rows.days.items c.rows.records.left c.next.new.self.left c.next.new.self.fields c.in_ok-day.day _ more.ok (rw c.deref.ensures.value at c.in_ok-day.ensures.exact) c.rows.invariant.rest);
       few = rw items (omega (arith, length-append c.rows.days.items (c.in_ok-day.day ∷ [])));

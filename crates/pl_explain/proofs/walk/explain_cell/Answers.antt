@@ -1,5 +1,6 @@
 use Rattle.std.proofs.Common.{arith, ◌≡◌, ◌<◌, ◌+◌, ◌∷◌, [], ◌∙◌, suc, ap, sym, subst, length, pos}
 use Rattle.std.proofs.lemmas.Result.{err_from_is_err_and}
+use Rattle.pl_spec.specs.Limits.{most_lines}
 use Rattle.pl_spec.specs.Parts.{sid_at}
 use Rattle.pl_terms.specs.Checked.{pipeline_of}
 use Rattle.pl_cross.specs.Arrays.{HasTexts}
@@ -7,7 +8,6 @@ use Rattle.pl_values.proofs.Texts.{texts-coded}
 use Rattle.pl_facts.specs.Facts.Fact.{Worth}
 use Rattle.pl_facts.specs.Laws.{IsDerivation}
 use Rattle.pl_facts.specs.Walks.{derivation, facts_for}
-use Rattle.pl_lines.specs.Texts.{MOST_LINES}
 use Rattle.pl_world.specs.Worlds.{world_of}
 use Rattle.pl_world.proofs.Evaluated.{sid-of}
 use Rattle.pl_explain.specs.declared.walk.Walk.{Walk}
@@ -44,7 +44,7 @@ returns-in_err-finish-clause-long g c =
     let q = err_from_is_err_and c.from_residual.result c.from_residual.ensures.1 in
     rw (q.1, q.2) (λ e.
     let long = subst (λ k. IsTooLong w p k walk (Worth t0 a (pos d) ∷ [])) deep (c.in_err-finish.ensures.long e) in
-    subst (λ b. MOST_LINES < length (facts_for (world_of w) (pipeline_of p) (Worth t0 b (pos d)))) same
+    subst (λ b. most_lines < length (facts_for (world_of w) (pipeline_of p) (Worth t0 b (pos d)))) same
     (derived-long w p walk c.new.ensures c.new-2.ensures c.new-3.ensures.items t0 a d long))
 
 pub returns-clause-exact : goal.returns-clause-exact

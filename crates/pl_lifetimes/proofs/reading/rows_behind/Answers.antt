@@ -3,7 +3,7 @@ use Rattle.std.proofs.lemmas.Result.{err_from_is_err_and}
 use Rattle.pl_records.specs.Reading.{rows_of}
 use Rattle.pl_records.proofs.Readings.{goes_on, stops, is_done}
 use Rattle.pl_lifetimes.specs.Assets.{says_asset}
-use Rattle.pl_lifetimes.specs.declared.TheConstants.{MOST_ASSETS}
+use Rattle.pl_spec.specs.Limits.{most_assets}
 use Rattle.pl_lifetimes.specs.Faults.{fault_of}
 use Rattle.pl_lifetimes.proofs.reading.rows_behind.Goals as goal
 
@@ -20,7 +20,7 @@ pub rows-preserved : goal.rows-preserved
 rows-preserved c =
     let more = rw c.if-branch.true at c.in_ok-next.ensures in
     let items : c.push.new.self.items ≡ c.rows.rows.items ++ c.in_ok-asset.asset ∷ [] = c.in_ok-push.ensures.items in
-    let room : length c.rows.rows.items < MOST_ASSETS = rw c.deref.ensures.value at c.in_ok-asset.ensures.room in
+    let room : length c.rows.rows.items < most_assets = rw c.deref.ensures.value at c.in_ok-asset.ensures.room in
     record {
       rest = rw items (goes_on 2 says_asset c.rows.rows.items c.rows.records.left c.next.new.self.left c.next.new.self.fields c.in_ok-asset.asset _ more.ok (rw c.deref.ensures.value at c.in_ok-asset.ensures.exact) c.rows.invariant.rest);
       sids = rw (items, ← c.deref.ensures.value) c.in_ok-asset.ensures.sids;

@@ -2,7 +2,7 @@ use Rattle.std.proofs.Common.{◌≡◌, ◌<◌, length, arith, length-append, 
 use Rattle.std.proofs.lemmas.Result.{err_from_is_err_and}
 use Rattle.pl_records.specs.Reading.{rows_of}
 use Rattle.pl_records.proofs.Readings.{goes_on, stops, is_done}
-use Rattle.pl_payouts.specs.declared.TheConstants.{MOST_PAYOUTS}
+use Rattle.pl_spec.specs.Limits.{most_payouts}
 use Rattle.pl_payouts.specs.Payouts.{says_dividend}
 use Rattle.pl_payouts.specs.Faults.{fault_of}
 use Rattle.pl_payouts.proofs.reading.rows_behind.Goals as goal
@@ -17,7 +17,7 @@ pub rows-preserved : goal.rows-preserved
 rows-preserved c =
     let more = rw c.if-branch.true at c.in_ok-next.ensures in
     let items : c.push.new.self.items ≡ c.rows.rows.items ++ c.in_ok-dividend.dividend ∷ [] = c.in_ok-push.ensures.items in
-    let room : length c.rows.rows.items < MOST_PAYOUTS = rw c.deref.ensures.value at c.in_ok-dividend.ensures.room in
+    let room : length c.rows.rows.items < most_payouts = rw c.deref.ensures.value at c.in_ok-dividend.ensures.room in
     record {
       rest = rw items (goes_on 2 (says_dividend c.args.assets.now) c.rows.rows.items c.rows.records.left c.next.new.self.left c.next.new.self.fields c.in_ok-dividend.dividend _ more.ok (rw c.deref.ensures.value at c.in_ok-dividend.ensures.exact) c.rows.invariant.rest);
       few = rw items (omega (arith, length-append c.rows.rows.items (c.in_ok-dividend.dividend ∷ [])));

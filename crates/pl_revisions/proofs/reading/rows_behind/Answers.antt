@@ -2,7 +2,7 @@ use Rattle.std.proofs.Common.{◌≡◌, ◌<◌, length, arith, length-append, 
 use Rattle.std.proofs.lemmas.Result.{err_from_is_err_and}
 use Rattle.pl_records.specs.Reading.{rows_of}
 use Rattle.pl_records.proofs.Readings.{goes_on, stops, is_done}
-use Rattle.pl_revisions.specs.declared.TheConstants.{MOST_REVISIONS}
+use Rattle.pl_spec.specs.Limits.{most_revisions}
 use Rattle.pl_revisions.specs.Revisions.{says_revision}
 use Rattle.pl_revisions.specs.Faults.{fault_of}
 use Rattle.pl_revisions.proofs.reading.rows_behind.Goals as goal
@@ -16,7 +16,7 @@ returns-in_err-revision c =
 pub rows-preserved : goal.rows-preserved
 rows-preserved c =
     let more = rw c.if-branch.true at c.in_ok-next.ensures in
-    let room : length c.rows.rows < MOST_REVISIONS = c.in_ok-revision.ensures.room in
+    let room : length c.rows.rows < most_revisions = c.in_ok-revision.ensures.room in
     record {
       rest = rw c.in_ok-rows.ensures (goes_on 2 (says_revision c.args.sessions.now c.args.assets.now) c.rows.rows c.rows.records.left c.next.new.self.left c.next.new.self.fields c.in_ok-revision.revision _ more.ok c.in_ok-revision.ensures.exact c.rows.invariant.rest);
       few = rw c.in_ok-rows.ensures (omega (arith, length-append c.rows.rows (c.in_ok-revision.revision ∷ [])));

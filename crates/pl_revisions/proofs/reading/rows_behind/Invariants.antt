@@ -1,13 +1,13 @@
 use Rattle.std.proofs.Common.{◌≡◌, ◌≤◌, length}
 use Rattle.pl_records.specs.Reading.{rows_of, rows_behind}
-use Rattle.pl_revisions.specs.declared.TheConstants.{MOST_REVISIONS}
+use Rattle.pl_spec.specs.Limits.{most_revisions}
 use Rattle.pl_revisions.specs.Revisions.{says_revision}
 use Rattle.pl_revisions.proofs.reading.rows_behind.Given as goal
 
 abbrev pub invariant-rows : goal.invariant-rows
 invariant-rows l = record {
   rest : rows_behind 2 (says_revision l.sessions l.assets) l.rows l.records.left ≡ rows_of 2 (says_revision l.sessions l.assets) l.fn.records.left;
-  few : length l.rows ≤ MOST_REVISIONS;
+  few : length l.rows ≤ most_revisions;
 }
 
 abbrev pub decreases-rows : goal.decreases-rows

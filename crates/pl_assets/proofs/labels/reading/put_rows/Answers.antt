@@ -3,7 +3,7 @@ use Rattle.std.proofs.lemmas.Int.{to_z-of_z}
 use Rattle.std.proofs.lemmas.Result.{err_from_is_err_and}
 use Rattle.pl_records.specs.Reading.{rows_of}
 use Rattle.pl_records.proofs.Readings.{goes_on, stops, is_done}
-use Rattle.pl_assets.specs.declared.TheConstants.{MOST_LABELS}
+use Rattle.pl_spec.specs.Limits.{most_labels}
 use Rattle.pl_assets.specs.Labels.{says_label, texts_of}
 use Rattle.pl_assets.specs.LabelFaults.{fault_of}
 use Rattle.pl_assets.specs.LabelPlaces.{shown_rows}
@@ -34,7 +34,7 @@ rows-preserved c =
     let fits : FitsSigned w32 c.in_ok-start.start.day = search rules in
     let shown = rw (c.field.ensures, c.field-in-rows.ensures, to_z-of_z w32 c.in_ok-start.start.day fits) at c.in_ok-place.ensures.row in
     let row : shown_rows c.push.new.self ≡ shown_rows c.rows.rows ++ row_from c.next.new.self.fields c.in_ok-start.start ∷ [] = shown in
-    let room : length (shown_rows c.rows.rows) < MOST_LABELS = c.in_ok-start.ensures.room in
+    let room : length (shown_rows c.rows.rows) < most_labels = c.in_ok-start.ensures.room in
     record {
       rest = rw row (goes_on 2 (says_label c.args.assets.now) (shown_rows c.rows.rows) c.rows.records.left c.next.new.self.left c.next.new.self.fields (row_from c.next.new.self.fields c.in_ok-start.start) _ more.ok c.in_ok-start.ensures.exact c.rows.invariant.rest);
       few = rw row (omega (arith, length-append (shown_rows c.rows.rows) (row_from c.next.new.self.fields c.in_ok-start.start ∷ [])));
