@@ -41,6 +41,38 @@ pub(crate) fn value_up_to(most: u64, digits: &[u8]) -> u64
     value
 }
 
+// How many digits stand in front, and the number that they write, or `most` where it is greater.
+pub(crate) fn front_number(most: u64, b: &[u8]) -> (usize, u64)
+    requires { most ≤ MOST_VALUE }
+    ensures count { result.0 ≡ length (front_digits b.now) }
+    ensures number { result.1 ≡ min most (digits_value 10 (front_digits b.now)) }
+{
+    if b.len() <= 18 {
+        let (count, number) = short_front(b);
+        (count, number.min(most))
+    } else {
+        let count = count_digits(b);
+        (count, value_up_to(most, &b[..count]))
+    }
+}
+
+// The same of so few bytes that the number fits: each is looked at once.
+fn short_front(b: &[u8]) -> (usize, u64)
+    requires { length b.now ≤ 18 }
+    ensures count { result.0 ≡ length (front_digits b.now) }
+    ensures number { result.1 ≡ digits_value 10 (front_digits b.now) }
+{
+    let mut number = 0u64;
+    for i in 0..b.len() {
+        let byte = b[i];
+        if !byte.is_ascii_digit() {
+            return (i, number);
+        }
+        number = number * 10 + u64::from(byte - b'0');
+    }
+    (b.len(), number)
+}
+
 // Writes a byte at `at`, and gives the place behind it.
 pub(crate) fn put(byte: u8, out: &mut [u8], at: usize) -> usize
     requires { at < length out.old }
