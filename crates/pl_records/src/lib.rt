@@ -5,7 +5,7 @@
 //! is trimmed, and a byte order mark at the front is dropped. A blank line is no record.
 #![tactic(auto)]
 
-ghost use Rattle.std.specs.Prelude.{◌≡◌, ◌<◌, [], map, drop, length, bytes_eq, IsTrue, IfOk, OnErr};
+ghost use Rattle.std.specs.Prelude.{◌≡◌, ◌<◌, [], map, drop, length, bytes_eq, IsTrue, IsSome, IfOk, IfSome, OnErr};
 ghost use lib.Pointwise.{pointwise};
 ghost use Rattle.pl_records.specs.Reading.{field, has_header};
 ghost use Rattle.pl_records.specs.Records.{csv_records, GivesNext};
@@ -36,6 +36,26 @@ impl<'a> Model for Records<'a> {
     ghost view = { view_of };
 }
 
+// Has csv read from here on, and reads the next record. A function pays for the room of its locals each time that it
+// is called, and csv's reader takes 16 KiB.
+#[cold]
+#[inline(never)]
+fn begin_quoted<'a>(
+    alloc: Global,
+    text: &'a [u8],
+    quoted: &mut Option<QuotedRecords<'a>>,
+) -> Result<bool, AllocError>
+    ensures some { IsSome quoted.new }
+    ensures ok { IfOk result (λ found. IfSome quoted.new (λ q.
+        GivesNext (record { fields = []; left = csv_records text.entry.now }) q found)) }
+    ensures err { OnErr result (IfSome quoted.new (λ q. q.left ≡ [])) }
+{
+    let mut reader = QuotedRecords::new(alloc, text);
+    let found = reader.next();
+    *quoted = Some(reader);
+    found
+}
+
 impl<'a> Records<'a> {
     /// All records of the file are left, and none was read.
     pub fn new(alloc: Global, bytes: &'a [u8]) -> Records<'a>
@@ -60,12 +80,7 @@ impl<'a> Records<'a> {
         match self.plain.next()? {
             Next::Record => Ok(true),
             Next::End => Ok(false),
-            Next::Quoted => {
-                let mut quoted = QuotedRecords::new(self.alloc, self.plain.rest());
-                let found = quoted.next();
-                self.quoted = Some(quoted);
-                found
-            }
+            Next::Quoted => begin_quoted(self.alloc, self.plain.rest(), &mut self.quoted),
         }
     }
 
