@@ -13,6 +13,7 @@ use Rattle.std.proofs.lemmas.List.Sums.{take_while-cons}
 use Rattle.std.proofs.lemmas.Str.{digit_value_digit}
 use Rattle.std.proofs.lemmas.Str.Parse.{digit_from_value}
 use Rattle.pl_spec.specs.Dates.{digits}
+use Rattle.pl_fixed.specs.Pairs.{IsPairAt}
 use Rattle.pl_fixed.specs.Reading.{is_numeral, front_digits}
 
 -- ---- bytes that are digits
@@ -139,6 +140,39 @@ digit_of d h = grind (arith, nat_tests)
 
 digit_below : (d : ℕ) → d < 10 → digit_value (48 + d) < 10
 digit_below d h = rw (digit_of d h) h
+
+-- ---- six digits, by pairs
+
+digit_is : (c n : ℕ) → n < 10 → c ≡ 48 + n → digit_value c ≡ n
+digit_is c n h e = ap digit_value e ∙ digit_of n h
+
+-- their digits and their number
+pub record AreSix (bs : List ℕ) (n : ℕ) : Type 0 where
+  pub digits : AllDigits 10 bs
+  pub number : n ≡ digits_value 10 bs
+
+six_of : (a b c d e f x y z : ℕ) → x < 100 → y < 100 → z < 100
+    → digit_value a ≡ x / 10 → digit_value b ≡ x % 10 → digit_value c ≡ y / 10 → digit_value d ≡ y % 10 → digit_value e ≡ z / 10 → digit_value f ≡ z % 10
+    → AreSix (a ∷ b ∷ c ∷ d ∷ e ∷ f ∷ []) (x * 10_000 + y * 100 + z)
+six_of a b c d e f x y z hx hy hz da db dc dd de df =
+    record {
+      digits = (omega arith, (omega arith, (omega arith, (omega arith, (omega arith, (omega arith, tt))))));
+      number = omega (arith, div-add-mod' x 10, div-add-mod' y 10, div-add-mod' z 10);
+    }
+
+pub six_digits-pairs : (bs : List ℕ) (x y z : ℕ) → length bs ≡ 6 → IsPairAt bs 0 x → IsPairAt bs 2 y → IsPairAt bs 4 z → AreSix bs (x * 10_000 + y * 100 + z)
+six_digits-pairs [] x y z n p q r = absurd (omega arith)
+six_digits-pairs (a ∷ []) x y z n p q r = absurd (omega arith)
+six_digits-pairs (a ∷ b ∷ []) x y z n p q r = absurd (omega arith)
+six_digits-pairs (a ∷ b ∷ c ∷ []) x y z n p q r = absurd (omega arith)
+six_digits-pairs (a ∷ b ∷ c ∷ d ∷ []) x y z n p q r = absurd (omega arith)
+six_digits-pairs (a ∷ b ∷ c ∷ d ∷ e ∷ []) x y z n p q r = absurd (omega arith)
+six_digits-pairs (a ∷ b ∷ c ∷ d ∷ e ∷ f ∷ []) x y z n p q r =
+    six_of a b c d e f x y z p.below q.below r.below
+    (digit_is a (x / 10) (omega (arith, p.below)) p.tens) (digit_is b (x % 10) (mod_below x 10 (omega arith)) p.ones)
+    (digit_is c (y / 10) (omega (arith, q.below)) q.tens) (digit_is d (y % 10) (mod_below y 10 (omega arith)) q.ones)
+    (digit_is e (z / 10) (omega (arith, r.below)) r.tens) (digit_is f (z % 10) (mod_below z 10 (omega arith)) r.ones)
+six_digits-pairs (a ∷ b ∷ c ∷ d ∷ e ∷ f ∷ g ∷ gs) x y z n p q r = absurd (omega arith)
 
 pub length-digits : (k n : ℕ) → length (digits k n) ≡ k
 unfolding digits

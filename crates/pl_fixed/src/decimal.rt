@@ -6,7 +6,7 @@ ghost use Rattle.pl_spec.specs.Decimals.{Decimal, IsDecimal, IsTooLong, IsTooLar
 ghost use Rattle.pl_fixed.specs.Reading.{read, unsigned_read, fraction_read, judged, in_range};
 
 use crate::cell::{LIM, MISSING, UNIT};
-use crate::digits::{MOST_VALUE, front_number, put, put_decimal, put_digits};
+use crate::digits::{MOST_VALUE, front_number, put, put_decimal, put_digits, six_digits};
 use crate::rounding::div_round;
 
 /// Why bytes are no decimal of a cell. The faults are tested in this order.
@@ -84,6 +84,9 @@ fn read_part(negative: bool, units: u64, fraction: &[u8]) -> Result<i64, Decimal
     ensures { (whole : List ℕ) → units ≡ min MOST_UNITS (digits_value 10 whole)
         → result ≡ fraction_read negative whole (46 ∷ fraction.now) }
 {
+    if let Some(part) = six_digits(fraction) {
+        return judge(negative, units, part, 6);
+    }
     let (digits, part) = front_number(MOST_VALUE, fraction);
     if digits == 0 || digits < fraction.len() {
         return Err(DecimalFault::Shape);

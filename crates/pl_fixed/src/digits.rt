@@ -1,10 +1,12 @@
-ghost use Rattle.std.specs.Prelude.{◌≡◌, ◌<◌, ◌≤◌, ◌+◌, ℕ, min, [], ◌∷◌, ◌++◌, length, take};
+ghost use Rattle.std.specs.Prelude.{◌≡◌, ◌<◌, ◌≤◌, ◌+◌, ℕ, min, [], ◌∷◌, ◌++◌, length, take, IfSome};
 ghost use Rattle.std.specs.List.{list_all};
 ghost use Rattle.std.specs.Char.{is_ascii_digit};
 ghost use Rattle.std.specs.Str.Parse.{AllDigits, digits_value};
 ghost use Rattle.std.specs.Fmt.{decimal};
 ghost use Rattle.pl_spec.specs.Dates.{digits};
 ghost use Rattle.pl_fixed.specs.Reading.{is_numeral, front_digits};
+
+use crate::day::pair_at;
 
 // The greatest number that `value_up_to` counts to: one digit more still fits 64 bits.
 pub(crate) const MOST_VALUE: u64 = 1_000_000_000_000_000_000;
@@ -71,6 +73,23 @@ fn short_front(b: &[u8]) -> (usize, u64)
         number = number * 10 + u64::from(byte - b'0');
     }
     (b.len(), number)
+}
+
+// The number of exactly six digits, as many as most decimals have behind the point: no loop, and the pairs do not wait
+// for each other.
+pub(crate) fn six_digits(b: &[u8]) -> Option<u64>
+    ensures count { IfSome result (λ _. length b.now ≡ 6) }
+    ensures digits { IfSome result (λ _. AllDigits 10 b.now) }
+    ensures number { IfSome result (λ n. n ≡ digits_value 10 b.now) }
+    ensures small { IfSome result (λ n. n < 1_000_000) }
+{
+    if b.len() != 6 {
+        return None;
+    }
+    let high = pair_at(b, 0)?;
+    let middle = pair_at(b, 2)?;
+    let low = pair_at(b, 4)?;
+    Some(u64::from(high) * 10_000 + u64::from(middle) * 100 + u64::from(low))
 }
 
 // Writes a byte at `at`, and gives the place behind it.

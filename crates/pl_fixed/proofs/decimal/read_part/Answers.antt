@@ -15,6 +15,15 @@ returns-then-digits-eq0 c = λ whole units.
       | then-digits-eq0-via-else-digits-eq0+then-digits-fraction w ↦ inr (rw (← count) w.if-digits-fraction.true)
     ]))
 
+pub returns-in-Some : goal.returns-in-Some
+returns-in-Some c = λ whole units.
+    let ds = c.args.fraction.now in
+    let d : Decimal = record { negative = c.args.negative; whole = whole; fraction = ds } in
+    let six = c.in-Some.ensures in
+    let some : 0 < length ds = omega (arith, six.count) in
+    c.judge.ensures d six.digits refl units (omega (arith, six.number, six.small)) (sym six.count)
+    ∙ sym (part-read c.args.negative whole ds some six.digits)
+
 pub returns : goal.returns
 returns c = λ whole units.
     let ds = c.args.fraction.now in
@@ -23,5 +32,5 @@ returns c = λ whole units.
     let digits : AllDigits 10 ds = part-digits ds same in
     let d : Decimal = record { negative = c.args.negative; whole = whole; fraction = ds } in
     let some : 0 < length ds = omega (arith, count, ap length same, c.if-digits-eq0.false) in
-    c.judge.ensures d digits refl units (c.front_number-digits.ensures.number ∙ ap (λ x. min MOST_VALUE (digits_value 10 x)) same) (count ∙ ap length same)
+    c.judge-2.ensures d digits refl units (c.front_number-digits.ensures.number ∙ ap (λ x. min MOST_VALUE (digits_value 10 x)) same) (count ∙ ap length same)
     ∙ sym (part-read c.args.negative whole ds some digits)
