@@ -196,6 +196,16 @@ cut-byte text fields start i l comma quote end h =
       read = rw (part-more text start i h.low l) (read-byte _ fields _ (get_or text i 0) (drop (i + 1) text) comma quote end (rw (here text i _ l refl) at h.read));
     }
 
+above : (c k : ℕ) → k < c → (c == k) ≡ false
+above c k h = grind (arith, nat_tests)
+
+pub cut-high : (text : List ℕ) (fields : List (List ℕ)) (start i : ℕ) → i < length text → 44 < get_or text i 0 → IsCutTo text fields start i → IsCutTo text fields start (i + 1)
+cut-high text fields start i l high h =
+    let byte = get_or text i 0 in
+    let return = above byte 13 (omega arith) in
+    let feed = above byte 10 (omega arith) in
+    cut-byte text fields start i l (above byte 44 high) (above byte 34 (omega arith)) (rw (return, feed) refl) h
+
 pub cut-lf : (text : List ℕ) (fields : List (List ℕ)) (start i : ℕ) → i < length text → get_or text i 0 ≡ 10 → IsCutTo text fields start i
     → records default_config text ≡ (fields ++ take (i - start) (drop start text) ∷ []) ∷ csv_records (drop i text)
 cut-lf text fields start i l e h =

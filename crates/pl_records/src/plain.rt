@@ -147,7 +147,12 @@ fn split<'a>(text: &'a [u8], fields: &mut Vec<&'a [u8]>) -> Result<Option<usize>
 {
     let mut start = 0;
     for i in 0..text.len() {
-        match text[i] {
+        let byte = text[i];
+        // Digits and letters, which are most bytes, take one comparison.
+        if byte > b',' {
+            continue;
+        }
+        match byte {
             b',' => {
                 fields.push(&text[start..i])?;
                 start = i + 1;

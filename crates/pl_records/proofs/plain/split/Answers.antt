@@ -1,7 +1,7 @@
 use Rattle.std.proofs.Common.{◌≡◌, ◌==◌, ◌++◌, ◌∷◌, [], List, ℕ, Bor, map, length, get_or, refl, ap, ◌∙◌, arith, false, inl, inr}
 use Rattle.std.proofs.lemmas.List.{map-append}
 use Rattle.std.proofs.lemmas.Bool.Decides.{nat_tests}
-use Rattle.pl_records.proofs.PlainLines.{cut-none, cut-comma, cut-byte, cut-lf, cut-return, cut-all}
+use Rattle.pl_records.proofs.PlainLines.{cut-none, cut-comma, cut-byte, cut-high, cut-lf, cut-return, cut-all}
 use Rattle.pl_records.proofs.plain.split.Goals as goal
 use Rattle.pl_records.proofs.plain.split.Goals.{in-44+in_ok-push-in-44, in_default}
 
@@ -12,8 +12,11 @@ one_more xs ys f e = ap (map (λ f. f.now)) e ∙ map-append (λ f. f.now) xs (f
 pub loop-i-init : goal.loop-i-init
 loop-i-init c = rw c.requires.none (cut-none c.args.text.now c.requires.some c.requires.starts)
 
+pub loop-i-preserved-then-byte-gt44 : goal.loop-i-preserved-then-byte-gt44
+loop-i-preserved-then-byte-gt44 c = cut-high c.args.text.now _ c.loop-i.start c.loop-i.i c.loop-i-test.true c.if-byte-gt44.true c.loop-i.invariant
+
 pub loop-i-preserved : goal.loop-i-preserved
-loop-i-preserved c = elim c.match-text-i.branch [
+loop-i-preserved c = elim c.match-byte.branch [
   | in-44+in_ok-push-in-44 w ↦
       let items = one_more _ _ _ w.in_ok-push-in-44.ensures.items in
       rw (w.fields-is, w.start-is, items) (cut-comma c.args.text.now _ c.loop-i.start c.loop-i.i c.loop-i-test.true w.in-44.is c.loop-i.invariant)
