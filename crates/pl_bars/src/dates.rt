@@ -1,5 +1,5 @@
-//! The dates of the sessions as they are written. In most files a bar is on the session behind that of the bar
-//! before it, or on the same, so its date is compared with theirs before it is read.
+//! The dates of the sessions as they are written. In most files a bar is on the session behind that of the
+//! bar before it, or on the same, so its date is compared with theirs before it is read.
 ghost use Rattle.std.specs.Prelude.{◌≡◌, Some};
 ghost use Rattle.pl_spec.specs.Dates.{date_in};
 

@@ -99,7 +99,8 @@ fn judge(negative: bool, units: u64, part: u64, digits: usize) -> Result<i64, De
     requires units { units ≤ MOST_UNITS }
     requires part { part ≤ MOST_VALUE }
     ensures { (d : Decimal) → AllDigits 10 d.fraction → negative ≡ d.negative
-        → units ≡ min MOST_UNITS (digits_value 10 d.whole) → part ≡ min MOST_VALUE (digits_value 10 d.fraction)
+        → units ≡ min MOST_UNITS (digits_value 10 d.whole)
+        → part ≡ min MOST_VALUE (digits_value 10 d.fraction)
         → digits ≡ length d.fraction → result ≡ judged d }
 {
     if digits > 18 {

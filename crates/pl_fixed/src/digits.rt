@@ -75,8 +75,8 @@ fn short_front(b: &[u8]) -> (usize, u64)
     (b.len(), number)
 }
 
-// The number of exactly six digits, as many as most decimals have behind the point: no loop, and the pairs do not wait
-// for each other.
+// The number of exactly six digits, as many as most decimals have behind the point. There is no loop, and the
+// pairs do not wait for each other.
 pub(crate) fn six_digits(b: &[u8]) -> Option<u64>
     ensures count { IfSome result (λ _. length b.now ≡ 6) }
     ensures digits { IfSome result (λ _. AllDigits 10 b.now) }

@@ -18,8 +18,8 @@ use quoted::QuotedRecords;
 use std::alloc::{AllocError, Global};
 use std::marker::Model;
 
-/// The records of a file: the one that was read last, and those that are left. From the first record with a quote
-/// on, csv reads them.
+/// The records of a file: the one that was read last, and those that are left. From the first record
+/// with a quote on, csv reads them.
 #[derive(Drop)]
 pub struct Records<'a> {
     alloc: Global,
@@ -36,8 +36,8 @@ impl<'a> Model for Records<'a> {
     ghost view = { view_of };
 }
 
-// Has csv read from here on, and reads the next record. A function pays for the room of its locals each time that it
-// is called, and csv's reader takes 16 KiB.
+// Has csv read from here on, and reads the next record. A function pays for the room of its locals at
+// each call, and csv's reader takes 16 KiB.
 #[cold]
 #[inline(never)]
 fn begin_quoted<'a>(

@@ -1,5 +1,5 @@
-//! The records of a text as long as they have no quotes: a line is a record, and its fields are what stands between
-//! its commas. They are the pieces of the text itself, and nothing is copied.
+//! The records of a text as long as they have no quotes: a line is a record, and its fields are what
+//! stands between its commas. They are the pieces of the text itself, and nothing is copied.
 ghost use Rattle.std.specs.Prelude.{◌≡◌, ◌==◌, ◌<◌, ◌≤◌, ◌∷◌, [], drop, length, map, slice_index, IfOk, IfSome, OnErr};
 ghost use Rattle.csv.specs.Reading.{records, default_config};
 ghost use Rattle.pl_records.specs.Reading.{field};
@@ -142,8 +142,8 @@ fn split<'a>(text: &'a [u8], fields: &mut Vec<&'a [u8]>) -> Result<Option<usize>
     requires some { 0 < length text.now }
     requires starts { StartsRecord text.now }
     ensures within { IfOk result (λ found. IfSome found (λ end. end ≤ length text.now)) }
-    ensures record { IfOk result (λ found. IfSome found (λ end.
-        records default_config text.now ≡ map (λ f. f.now) fields.new.items ∷ csv_records (drop end text.now))) }
+    ensures record { IfOk result (λ found. IfSome found (λ end. records default_config text.now
+        ≡ map (λ f. f.now) fields.new.items ∷ csv_records (drop end text.now))) }
 {
     let mut start = 0;
     for i in 0..text.len() {
