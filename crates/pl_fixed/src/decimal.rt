@@ -168,8 +168,19 @@ fn whole_millionths(negative: bool, units: u64, part: u64, each: u64) -> i128
     requires each { each ≤ MILLION }
     ensures { result ≡ signed negative (units * MILLION + part * each) }
 {
-    let magnitude = units as i128 * 1_000_000 + part as i128 * each as i128;
-    if negative { -magnitude } else { magnitude }
+    let magnitude = units as u128 * UNIT as u128 + part as u128 * each as u128;
+    signed(negative, magnitude)
+}
+
+fn signed(negative: bool, magnitude: u128) -> i128
+    requires { magnitude < 2 ^ 127 }
+    ensures { result ≡ signed negative magnitude }
+{
+    if negative {
+        -(magnitude as i128)
+    } else {
+        magnitude as i128
+    }
 }
 
 // The millionths of `units` and `part` of `scale` parts of a unit, rounded once.
