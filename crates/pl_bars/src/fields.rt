@@ -3,8 +3,10 @@ ghost use Rattle.std.specs.List.{list_any};
 ghost use Rattle.pl_bars.specs.Bars.{cell_in, cells_in, fields_in, is_negative};
 ghost use Rattle.pl_bars.specs.ColumnNames.{column_in};
 
-use pl_fixed::{Column, MISSING, read_day, read_decimal, read_sid};
+use crate::dates::{Dated, day_of};
+use pl_fixed::{Column, MISSING, read_decimal, read_sid};
 use pl_records::Records;
+use pl_spec::BarRow;
 
 // What a record of a bar says: a sid, a day and the cells open, high, low, close and volume.
 #[derive(Clone, Copy)]
@@ -14,16 +16,16 @@ pub(crate) struct Fields {
     pub cells: [i64; 5],
 }
 
-// The fields of the record that was read last, where they are those of a bar.
+// The fields of the record that was read last, behind these bars, where they are those of a bar.
 #[tactic(auto, unfolding(crate::specs::Bars::fields_in))]
-pub(crate) fn fields_of(row: &Records) -> Option<Fields>
+pub(crate) fn fields_of(row: &Records, before: &[BarRow], dates: &[Dated]) -> Option<Fields>
     ensures { result ≡ fields_in row.now.fields }
 {
     if row.field_count() != 7 {
         return None;
     }
     let sid = read_sid(row.field(0))?;
-    let day = read_day(row.field(1))?;
+    let day = day_of(before, dates, row.field(1))?;
     let cells = cells_of(row)?;
     Some(Fields { sid, day, cells })
 }

@@ -12,6 +12,7 @@ ghost use Rattle.pl_bars.specs.Faults.{fault_of};
 
 mod bar_set;
 mod cut;
+mod dates;
 mod error;
 mod fields;
 mod filling;

@@ -1,5 +1,6 @@
-//! Where the session and the asset of a record stand. In most files a bar is that of the asset or of the
-//! session behind those of the bar before it, so these are tried before they are searched for.
+//! Where the session and the asset of a record stand. In a file by asset the next bar is that of the same
+//! asset on the next session, and in a file by date that of the next asset on the same session, so these are
+//! tried before they are searched for.
 ghost use Rattle.std.specs.Prelude.{◌≡◌, ◌<◌, ◌==◌, length, position, IfSome};
 ghost use Rattle.std.specs.Ordering.{int_eq};
 ghost use Rattle.pl_lifetimes.specs.Assets.{sid_of};
@@ -14,9 +15,13 @@ pub(crate) fn session_of(before: &[BarRow], sessions: &Sessions, day: i32) -> Op
     ensures exact { result ≡ position (λ d. int_eq d day) sessions.now }
 {
     if let [.., last] = before {
-        let next = last.session as usize + 1;
+        let same = last.session as usize;
+        let next = same + 1;
         if next < sessions.len() && sessions.day(next) == day {
             return Some(next);
+        }
+        if same < sessions.len() && sessions.day(same) == day {
+            return Some(same);
         }
     }
     sessions.index_of(day)
@@ -28,9 +33,13 @@ pub(crate) fn col_of(before: &[BarRow], assets: &Assets, sid: u32) -> Option<usi
     ensures exact { result ≡ position (λ a. sid_of a == sid) assets.now }
 {
     if let [.., last] = before {
-        let col = last.col as usize;
-        if col < assets.len() && assets.sid(col) == sid {
-            return Some(col);
+        let same = last.col as usize;
+        let next = same + 1;
+        if same < assets.len() && assets.sid(same) == sid {
+            return Some(same);
+        }
+        if next < assets.len() && assets.sid(next) == sid {
+            return Some(next);
         }
     }
     assets.col_of(sid)

@@ -1,4 +1,4 @@
-ghost use Rattle.std.specs.Prelude.{◌≡◌, ◌+◌, ◌*◌, ◌^◌, ◌<◌, ◌≤◌, [], ◌∷◌, ◌++◌, ◌==◌, length, min, count_by, vec_capacity, OnOk, IfOk};
+ghost use Rattle.std.specs.Prelude.{◌≡◌, ◌+◌, ◌*◌, ◌/◌, ◌^◌, ◌<◌, ◌≤◌, [], ◌∷◌, ◌++◌, ◌==◌, length, min, vec_capacity, OnOk, IfOk};
 ghost use Rattle.pl_records.specs.Reading.{Answers, at_line, rows_of};
 ghost use Rattle.pl_records.specs.Sorted.{HasOwnKeys, sorted_by};
 ghost use Rattle.pl_records.specs.Records.{csv_records};
@@ -9,6 +9,7 @@ ghost use Rattle.pl_spec.specs.Limits.{most_sessions};
 
 use crate::MOST_BARS;
 use crate::bar_set::BarSet;
+use crate::dates::{Dated, dates_of};
 use crate::error::BarsError;
 use crate::fields::{fields_of, has_negative};
 use crate::places::{col_of, session_of};
@@ -70,14 +71,15 @@ fn read_rows(
     rows_behind(alloc, rows, &mut records, sessions, assets)
 }
 
-// No bars, with room for one on each line of the file.
+// The fewest bytes that a bar takes: one digit, a date, six commas and the end of the line.
+const FEWEST_BYTES: usize = 18;
+
+// No bars, with room for as many as the file can hold. Memory that no bar reaches is never touched.
 fn room_for(alloc: Global, bytes: &[u8]) -> Result<Vec<BarRow>, AllocError>
     ensures none { IfOk result (λ v. v.items ≡ []) }
-    ensures room { IfOk result (λ v.
-        vec_capacity v ≡ min (count_by (λ byte. byte == 10) bytes.now) MOST_BARS) }
+    ensures room { IfOk result (λ v. vec_capacity v ≡ min (length bytes.now / FEWEST_BYTES) MOST_BARS) }
 {
-    let lines = bytes.iter().filter(|byte| **byte == b'\n').count();
-    Vec::with_capacity(alloc, lines.min(MOST_BARS))
+    Vec::with_capacity(alloc, (bytes.len() / FEWEST_BYTES).min(MOST_BARS))
 }
 
 // The bars of the records behind the header.
@@ -92,9 +94,10 @@ fn rows_behind(
     ensures { Answers (λ v. v.items) fault_of result
         (rows_of 2 (says_bar sessions.now assets.now) records.old.left) }
 {
+    let dates = dates_of(alloc, sessions)?;
     let mut seen = BarSet::new(alloc, assets.len(), sessions.len())?;
     'rows: while records.next()? {
-        let bar = next_bar(&rows, &mut seen, records, sessions, assets)?;
+        let bar = next_bar(&rows, &dates, &mut seen, records, sessions, assets)?;
         rows.push(bar)?;
     }
     Ok(rows)
@@ -104,6 +107,7 @@ fn rows_behind(
 #[tactic(auto, unfolding(crate::specs::Bars::says_bar))]
 fn next_bar(
     before: &[BarRow],
+    dates: &[Dated],
     seen: &mut BarSet,
     row: &Records,
     sessions: &Sessions,
@@ -124,7 +128,7 @@ fn next_bar(
     if before.len() >= MOST_BARS {
         return Err(BarsError::TooMany { line });
     }
-    let Some(fields) = fields_of(row) else {
+    let Some(fields) = fields_of(row, before, dates) else {
         return Err(BarsError::BadField { line });
     };
     let Some(session) = session_of(before, sessions, fields.day) else {

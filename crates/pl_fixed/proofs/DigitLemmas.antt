@@ -1,5 +1,5 @@
 -- Digits, and the numbers that they write.
-use Rattle.std.proofs.Common.{◌≡◌, ℕ, zero, suc, ◌+◌, ◌-◌, ◌*◌, ◌/◌, ◌%◌, ◌^◌, ◌<◌, ◌≤◌, Bool, true, false, cond, nat_lt, min, List, [], ◌∷◌, ◌++◌, length, length-append, refl, ◌∙◌, arith}
+use Rattle.std.proofs.Common.{◌≡◌, ℕ, zero, suc, ◌+◌, ◌-◌, ◌*◌, ◌/◌, ◌%◌, ◌^◌, ◌<◌, ◌≤◌, Bool, true, false, cond, nat_lt, min, List, [], ◌∷◌, ◌++◌, length, length-append, take, drop, drop-cons, get_or, append-nil, refl, sym, ap, ◌∙◌, arith}
 use Rattle.std.proofs.Math.Nat.{one-le-pow, pow-le-pow_right, pow-suc}
 use Rattle.std.specs.List.{list_all}
 use Rattle.std.specs.Char.{is_ascii_digit, digit_value}
@@ -7,10 +7,13 @@ use Rattle.std.specs.Str.Parse.{AllDigits, digits_value, digits_value_after}
 use Rattle.std.proofs.lemmas.Nat.{div-add-mod', mod_below, div_below}
 use Rattle.std.proofs.lemmas.Bool.{and_parts}
 use Rattle.std.proofs.lemmas.Bool.Decides.{nat_tests}
-use Rattle.std.proofs.lemmas.Int.Digits.{digits_value_push, digits_push}
+use Rattle.std.proofs.lemmas.Int.Digits.{digits_value_push, digits_push, digits_value-lt, digits_value_more, digits_more}
+use Rattle.std.proofs.lemmas.List.{take-append-drop}
 use Rattle.std.proofs.lemmas.List.Sums.{take_while-cons}
+use Rattle.std.proofs.lemmas.Str.{digit_value_digit}
 use Rattle.std.proofs.lemmas.Str.Parse.{digit_from_value}
 use Rattle.pl_spec.specs.Dates.{digits}
+use Rattle.pl_fixed.specs.Pairs.{IsPairAt}
 use Rattle.pl_fixed.specs.Reading.{is_numeral, front_digits}
 
 -- ---- bytes that are digits
@@ -95,6 +98,41 @@ power_pos k = one-le-pow k 10 (omega arith)
 pub power_le : (k : ℕ) → k ≤ 18 → 10 ^ k ≤ 10 ^ 18
 power_le k h = pow-le-pow_right (omega arith) h
 
+-- ---- the digits in front, one more at a time
+
+-- digits that are followed by no digit are those in front
+pub front-at : (bs : List ℕ) (i : ℕ) → i < length bs → AllDigits 10 (take i bs) → is_ascii_digit (get_or bs i 0) ≡ false → take i bs ≡ front_digits bs
+front-at bs i l h e =
+    let rest : front_digits (drop i bs) ≡ [] = rw (drop-cons bs i 0 l, take_while-cons is_ascii_digit (get_or bs i 0) (drop (suc i) bs), e) refl in
+    sym (ap front_digits (sym (take-append-drop i bs)) ∙ front-append (take i bs) (drop i bs) h rest)
+
+pub front-all : (bs : List ℕ) → AllDigits 10 bs → bs ≡ front_digits bs
+front-all bs h = sym (ap front_digits (sym (append-nil bs)) ∙ front-append bs [] h refl)
+
+-- one more of the digits in front
+pub record HasMore (bs : List ℕ) (i : ℕ) : Type 0 where
+  pub all : AllDigits 10 (take (i + 1) bs)
+  pub number : digits_value 10 (take (i + 1) bs) ≡ digits_value 10 (take i bs) * 10 + (get_or bs i 0 - 48)
+  pub small : get_or bs i 0 < 58
+
+less_48 : (d c : ℕ) → d + 48 ≡ c → d ≡ c - 48
+less_48 d c e = omega arith
+
+pub one_more_digit : (bs : List ℕ) (i : ℕ) → i < length bs → AllDigits 10 (take i bs) → is_ascii_digit (get_or bs i 0) ≡ true → HasMore bs i
+one_more_digit bs i l h t =
+    let below = digit_from_test (get_or bs i 0) t in
+    let range = digit_from_value (get_or bs i 0) below in
+    let value = less_48 _ _ (digit_value_digit (get_or bs i 0) range) in
+    record {
+      all = digits_more 10 bs i l h below;
+      number = digits_value_more 10 bs i l ∙ ap (λ d. digits_value 10 (take i bs) * 10 + d) value;
+      small = omega (arith, range);
+    }
+
+-- a number of at most 18 digits
+pub short_number : (ds : List ℕ) → length ds ≤ 18 → AllDigits 10 ds → digits_value 10 ds < 10 ^ 18
+short_number ds n h = omega (arith, digits_value-lt 10 ds h, power_le (length ds) n)
+
 -- ---- a number in so many digits
 
 digit_of : (d : ℕ) → d < 10 → digit_value (48 + d) ≡ d
@@ -102,6 +140,39 @@ digit_of d h = grind (arith, nat_tests)
 
 digit_below : (d : ℕ) → d < 10 → digit_value (48 + d) < 10
 digit_below d h = rw (digit_of d h) h
+
+-- ---- six digits, by pairs
+
+digit_is : (c n : ℕ) → n < 10 → c ≡ 48 + n → digit_value c ≡ n
+digit_is c n h e = ap digit_value e ∙ digit_of n h
+
+-- their digits and their number
+pub record AreSix (bs : List ℕ) (n : ℕ) : Type 0 where
+  pub digits : AllDigits 10 bs
+  pub number : n ≡ digits_value 10 bs
+
+six_of : (a b c d e f x y z : ℕ) → x < 100 → y < 100 → z < 100
+    → digit_value a ≡ x / 10 → digit_value b ≡ x % 10 → digit_value c ≡ y / 10 → digit_value d ≡ y % 10 → digit_value e ≡ z / 10 → digit_value f ≡ z % 10
+    → AreSix (a ∷ b ∷ c ∷ d ∷ e ∷ f ∷ []) (x * 10_000 + y * 100 + z)
+six_of a b c d e f x y z hx hy hz da db dc dd de df =
+    record {
+      digits = (omega arith, (omega arith, (omega arith, (omega arith, (omega arith, (omega arith, tt))))));
+      number = omega (arith, div-add-mod' x 10, div-add-mod' y 10, div-add-mod' z 10);
+    }
+
+pub six_digits-pairs : (bs : List ℕ) (x y z : ℕ) → length bs ≡ 6 → IsPairAt bs 0 x → IsPairAt bs 2 y → IsPairAt bs 4 z → AreSix bs (x * 10_000 + y * 100 + z)
+six_digits-pairs [] x y z n p q r = absurd (omega arith)
+six_digits-pairs (a ∷ []) x y z n p q r = absurd (omega arith)
+six_digits-pairs (a ∷ b ∷ []) x y z n p q r = absurd (omega arith)
+six_digits-pairs (a ∷ b ∷ c ∷ []) x y z n p q r = absurd (omega arith)
+six_digits-pairs (a ∷ b ∷ c ∷ d ∷ []) x y z n p q r = absurd (omega arith)
+six_digits-pairs (a ∷ b ∷ c ∷ d ∷ e ∷ []) x y z n p q r = absurd (omega arith)
+six_digits-pairs (a ∷ b ∷ c ∷ d ∷ e ∷ f ∷ []) x y z n p q r =
+    six_of a b c d e f x y z p.below q.below r.below
+    (digit_is a (x / 10) (omega (arith, p.below)) p.tens) (digit_is b (x % 10) (mod_below x 10 (omega arith)) p.ones)
+    (digit_is c (y / 10) (omega (arith, q.below)) q.tens) (digit_is d (y % 10) (mod_below y 10 (omega arith)) q.ones)
+    (digit_is e (z / 10) (omega (arith, r.below)) r.tens) (digit_is f (z % 10) (mod_below z 10 (omega arith)) r.ones)
+six_digits-pairs (a ∷ b ∷ c ∷ d ∷ e ∷ f ∷ g ∷ gs) x y z n p q r = absurd (omega arith)
 
 pub length-digits : (k n : ℕ) → length (digits k n) ≡ k
 unfolding digits

@@ -1,5 +1,5 @@
 -- Decimal texts: what is spelled is read, and what is read is spelled so.
-use Rattle.std.proofs.Common.{◌≡◌, ◌≢◌, ◌⊎◌, ◌↔◌, inl, inr, ℕ, zero, suc, ◌+◌, ◌*◌, ◌^◌, ◌<◌, ◌≤◌, Bool, true, false, ◌&&◌, cond, ◌==◌, List, [], ◌∷◌, ◌++◌, length, take, drop, ℤ, pos, neg_ℤ, unsigned_abs, Result, Ok, Err, refl, sym, ap, ◌∙◌, arith, nat_lt, min}
+use Rattle.std.proofs.Common.{◌≡◌, ◌≢◌, ◌⊎◌, ◌↔◌, inl, inr, ℕ, zero, suc, ◌+◌, ◌*◌, ◌^◌, ◌<◌, ◌≤◌, Bool, true, false, ◌&&◌, cond, ◌==◌, List, [], ◌∷◌, ◌++◌, length, take, take_all, drop, ℤ, pos, neg_ℤ, unsigned_abs, Result, Ok, Err, refl, sym, ap, ◌∙◌, arith, nat_lt, min}
 use Rattle.std.specs.List.{prefix_len}
 use Rattle.std.specs.Char.{is_ascii_digit, digit_value}
 use Rattle.std.specs.Fmt.{sign_text}
@@ -20,7 +20,7 @@ use Rattle.pl_fixed.specs.declared.decimal.DecimalFault.{DecimalFault}
 use Rattle.pl_fixed.specs.declared.decimal.DecimalFault.TheVariants.{Empty, Shape, TooManyDigits, TooLarge}
 use Rattle.pl_fixed.specs.Reading.{is_numeral, front_digits, in_range, judged, fraction_read, unsigned_read, read}
 use Rattle.pl_fixed.proofs.RoundingLemmas.{unsigned_abs-div_round}
-use Rattle.pl_fixed.proofs.DigitLemmas.{AllDigits-from_test, test-AllDigits, nat_lt-zero-suc, AllDigits-front, front-append, digits_value-append, power_pos, power_le}
+use Rattle.pl_fixed.proofs.DigitLemmas.{AllDigits-from_test, test-AllDigits, nat_lt-zero-suc, AllDigits-front, front-append, digits_value-append, power_pos, power_le, front-all, is_numeral-digits, is_numeral-some, is_numeral-from_digits}
 
 abbrev decimal_of : Bool → List ℕ → List ℕ → Decimal
 decimal_of negative whole fraction = record { negative = negative; whole = whole; fraction = fraction }
@@ -67,6 +67,34 @@ signed_spelled false (c ∷ cs) fs p hw hf =
 
 pub read-spelled : (d : Decimal) (bytes : List ℕ) → IsDecimal d bytes → read bytes ≡ judged d
 read-spelled d bytes h = ap read h.spelled ∙ signed_spelled d.negative d.whole d.fraction h.whole.0 h.whole.1 h.fraction
+
+-- ---- what follows a point, by how many digits stand in front of it
+
+pub full_front : (ds : List ℕ) → length ds ≤ length (front_digits ds) → front_digits ds ≡ ds
+full_front ds h = take_all (prefix_len is_ascii_digit ds) ds (omega (arith, length-prefix_len is_ascii_digit ds))
+
+all_of : (xs ys : List ℕ) → xs ≡ ys → AllDigits 10 xs → AllDigits 10 ys
+all_of xs ys e h = rw (← e) h
+
+pub part-digits : (ds : List ℕ) → front_digits ds ≡ ds → AllDigits 10 ds
+part-digits ds e = all_of (front_digits ds) ds e (AllDigits-front ds)
+
+pub part-read : (negative : Bool) (whole ds : List ℕ) → 0 < length ds → AllDigits 10 ds
+    → fraction_read negative whole (46 ∷ ds) ≡ judged (decimal_of negative whole ds)
+unfolding fraction_read
+part-read negative whole ds p h = let t = is_numeral-from_digits ds p h in rw t refl
+
+not_numeral : (ds : List ℕ) (b : Bool) → is_numeral ds ≡ b → length (front_digits ds) ≡ 0 ⊎ length (front_digits ds) < length ds → is_numeral ds ≡ false
+not_numeral ds false e h = e
+not_numeral ds true e h =
+    let some = is_numeral-some ds e in
+    let all : length ds ≡ length (front_digits ds) = ap length (front-all ds (is_numeral-digits ds e)) in
+    absurd (elim h [ inl none ↦ omega arith | inr less ↦ omega arith ])
+
+pub part-refused : (negative : Bool) (whole ds : List ℕ) → length (front_digits ds) ≡ 0 ⊎ length (front_digits ds) < length ds
+    → fraction_read negative whole (46 ∷ ds) ≡ Err Shape
+unfolding fraction_read
+part-refused negative whole ds h = let t = not_numeral ds (is_numeral ds) refl h in rw t refl
 
 -- ---- what is read is spelled so
 
@@ -133,7 +161,7 @@ in_range-cell : (v : ℤ) → unsigned_abs v ≤ LIMIT → in_range v ≡ Ok v
 unfolding in_range
 in_range-cell v h = let t : nat_lt LIMIT (unsigned_abs v) ≡ false = grind (arith, nat_tests) in rw t
 
-judged-long : (d : Decimal) → IsTooLong d → judged d ≡ Err TooManyDigits
+pub judged-long : (d : Decimal) → IsTooLong d → judged d ≡ Err TooManyDigits
 unfolding judged
 judged-long d h = let t : nat_lt 18 (length d.fraction) ≡ true = grind (arith, nat_tests) in rw t
 

@@ -1,14 +1,12 @@
-ghost use Rattle.std.specs.Prelude.{◌≡◌, ◌≢◌, ◌↔◌, ◌<◌, ◌≤◌, ◌+◌, ◌*◌, ◌^◌, ℤ, pos, int_lt, unsigned_abs, [], ◌++◌, length, take};
-ghost use Rattle.std.specs.Str.Parse.{AllDigits};
+ghost use Rattle.std.specs.Prelude.{◌≡◌, ◌≢◌, ◌↔◌, ◌<◌, ◌≤◌, ◌+◌, ◌*◌, ◌^◌, ℕ, ℤ, pos, int_lt, unsigned_abs, List, [], ◌∷◌, ◌++◌, length, take, min};
+ghost use Rattle.std.specs.Str.Parse.{AllDigits, digits_value};
 ghost use Rattle.std.specs.Fmt.{sign_text};
 ghost use Rattle.pl_spec.specs.Rounding.{MILLION, LIMIT, IsCell, div_round};
 ghost use Rattle.pl_spec.specs.Decimals.{Decimal, IsDecimal, IsTooLong, IsTooLarge, IsReadAs, signed, cell_text, units_text};
 ghost use Rattle.pl_fixed.specs.Reading.{read, unsigned_read, fraction_read, judged, in_range};
 
 use crate::cell::{LIM, MISSING, UNIT};
-use crate::digits::{
-    MOST_VALUE, count_digits, is_numeral, put, put_decimal, put_digits, value_up_to,
-};
+use crate::digits::{MOST_VALUE, front_number, put, put_decimal, put_digits, six_digits};
 use crate::rounding::div_round;
 
 /// Why bytes are no decimal of a cell. The faults are tested in this order.
@@ -59,41 +57,56 @@ fn read_bytes(b: &[u8]) -> Result<i64, DecimalFault>
 fn read_unsigned(negative: bool, b: &[u8]) -> Result<i64, DecimalFault>
     ensures { result ≡ unsigned_read negative b.now }
 {
-    let count = count_digits(b);
+    let (count, units) = front_number(MOST_UNITS, b);
     if count == 0 {
         return Err(DecimalFault::Shape);
     }
-    read_fraction(negative, &b[..count], &b[count..])
+    read_fraction(negative, units, &b[count..])
 }
 
+// Of the digits in front of the rest only their number matters.
 #[tactic(auto, unfolding(crate::specs::Reading::fraction_read))]
-fn read_fraction(negative: bool, whole: &[u8], rest: &[u8]) -> Result<i64, DecimalFault>
-    requires { AllDigits 10 whole.now }
-    ensures { result ≡ fraction_read negative whole.now rest.now }
+fn read_fraction(negative: bool, units: u64, rest: &[u8]) -> Result<i64, DecimalFault>
+    requires { units ≤ MOST_UNITS }
+    ensures { (whole : List ℕ) → units ≡ min MOST_UNITS (digits_value 10 whole)
+        → result ≡ fraction_read negative whole rest.now }
 {
     match rest {
-        [] => judge(negative, whole, rest),
-        [b'.', fraction @ ..] if is_numeral(fraction) => judge(negative, whole, fraction),
+        [] => judge(negative, units, 0, 0),
+        [b'.', fraction @ ..] => read_part(negative, units, fraction),
         _ => Err(DecimalFault::Shape),
     }
 }
 
-#[tactic(auto, unfolding(crate::specs::Reading::judged))]
-fn judge(negative: bool, whole: &[u8], fraction: &[u8]) -> Result<i64, DecimalFault>
-    requires whole_digits { AllDigits 10 whole.now }
-    requires fraction_digits { AllDigits 10 fraction.now }
-    ensures { result
-        ≡ judged (record { negative = negative; whole = whole.now; fraction = fraction.now }) }
+// The same of what stands behind the point.
+fn read_part(negative: bool, units: u64, fraction: &[u8]) -> Result<i64, DecimalFault>
+    requires { units ≤ MOST_UNITS }
+    ensures { (whole : List ℕ) → units ≡ min MOST_UNITS (digits_value 10 whole)
+        → result ≡ fraction_read negative whole (46 ∷ fraction.now) }
 {
-    if fraction.len() > 18 {
+    if let Some(part) = six_digits(fraction) {
+        return judge(negative, units, part, 6);
+    }
+    let (digits, part) = front_number(MOST_VALUE, fraction);
+    if digits == 0 || digits < fraction.len() {
+        return Err(DecimalFault::Shape);
+    }
+    judge(negative, units, part, digits)
+}
+
+// The decimal of so many units, and of so many digits behind the point that write the part.
+fn judge(negative: bool, units: u64, part: u64, digits: usize) -> Result<i64, DecimalFault>
+    requires units { units ≤ MOST_UNITS }
+    requires part { part ≤ MOST_VALUE }
+    ensures { (d : Decimal) → AllDigits 10 d.fraction → negative ≡ d.negative
+        → units ≡ min MOST_UNITS (digits_value 10 d.whole)
+        → part ≡ min MOST_VALUE (digits_value 10 d.fraction)
+        → digits ≡ length d.fraction → result ≡ judged d }
+{
+    if digits > 18 {
         return Err(DecimalFault::TooManyDigits);
     }
-    in_range(millionths(
-        negative,
-        value_up_to(MOST_UNITS, whole),
-        value_up_to(MOST_VALUE, fraction),
-        fraction.len(),
-    ))
+    in_range(millionths(negative, units, part, digits))
 }
 
 #[tactic(auto, unfolding(crate::specs::Reading::in_range))]
@@ -155,8 +168,19 @@ fn whole_millionths(negative: bool, units: u64, part: u64, each: u64) -> i128
     requires each { each ≤ MILLION }
     ensures { result ≡ signed negative (units * MILLION + part * each) }
 {
-    let magnitude = units as i128 * 1_000_000 + part as i128 * each as i128;
-    if negative { -magnitude } else { magnitude }
+    let magnitude = units as u128 * UNIT as u128 + part as u128 * each as u128;
+    signed(negative, magnitude)
+}
+
+fn signed(negative: bool, magnitude: u128) -> i128
+    requires { magnitude < 2 ^ 127 }
+    ensures { result ≡ signed negative magnitude }
+{
+    if negative {
+        -(magnitude as i128)
+    } else {
+        magnitude as i128
+    }
 }
 
 // The millionths of `units` and `part` of `scale` parts of a unit, rounded once.

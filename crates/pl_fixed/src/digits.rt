@@ -1,10 +1,12 @@
-ghost use Rattle.std.specs.Prelude.{◌≡◌, ◌<◌, ◌≤◌, ◌+◌, ℕ, min, [], ◌∷◌, ◌++◌, length, take};
+ghost use Rattle.std.specs.Prelude.{◌≡◌, ◌<◌, ◌≤◌, ◌+◌, ℕ, min, [], ◌∷◌, ◌++◌, length, take, IfSome};
 ghost use Rattle.std.specs.List.{list_all};
 ghost use Rattle.std.specs.Char.{is_ascii_digit};
 ghost use Rattle.std.specs.Str.Parse.{AllDigits, digits_value};
 ghost use Rattle.std.specs.Fmt.{decimal};
 ghost use Rattle.pl_spec.specs.Dates.{digits};
 ghost use Rattle.pl_fixed.specs.Reading.{is_numeral, front_digits};
+
+use crate::day::pair_at;
 
 // The greatest number that `value_up_to` counts to: one digit more still fits 64 bits.
 pub(crate) const MOST_VALUE: u64 = 1_000_000_000_000_000_000;
@@ -39,6 +41,55 @@ pub(crate) fn value_up_to(most: u64, digits: &[u8]) -> u64
         value = (value * 10 + u64::from(*digit - b'0')).min(most);
     }
     value
+}
+
+// How many digits stand in front, and the number that they write, or `most` where it is greater.
+pub(crate) fn front_number(most: u64, b: &[u8]) -> (usize, u64)
+    requires { most ≤ MOST_VALUE }
+    ensures count { result.0 ≡ length (front_digits b.now) }
+    ensures number { result.1 ≡ min most (digits_value 10 (front_digits b.now)) }
+{
+    if b.len() <= 18 {
+        let (count, number) = short_front(b);
+        (count, number.min(most))
+    } else {
+        let count = count_digits(b);
+        (count, value_up_to(most, &b[..count]))
+    }
+}
+
+// The same of so few bytes that the number fits: each is looked at once.
+fn short_front(b: &[u8]) -> (usize, u64)
+    requires { length b.now ≤ 18 }
+    ensures count { result.0 ≡ length (front_digits b.now) }
+    ensures number { result.1 ≡ digits_value 10 (front_digits b.now) }
+{
+    let mut number = 0u64;
+    for i in 0..b.len() {
+        let byte = b[i];
+        if !byte.is_ascii_digit() {
+            return (i, number);
+        }
+        number = number * 10 + u64::from(byte - b'0');
+    }
+    (b.len(), number)
+}
+
+// The number of exactly six digits, as many as most decimals have behind the point. There is no loop, and the
+// pairs do not wait for each other.
+pub(crate) fn six_digits(b: &[u8]) -> Option<u64>
+    ensures count { IfSome result (λ _. length b.now ≡ 6) }
+    ensures digits { IfSome result (λ _. AllDigits 10 b.now) }
+    ensures number { IfSome result (λ n. n ≡ digits_value 10 b.now) }
+    ensures small { IfSome result (λ n. n < 1_000_000) }
+{
+    if b.len() != 6 {
+        return None;
+    }
+    let high = pair_at(b, 0)?;
+    let middle = pair_at(b, 2)?;
+    let low = pair_at(b, 4)?;
+    Some(u64::from(high) * 10_000 + u64::from(middle) * 100 + u64::from(low))
 }
 
 // Writes a byte at `at`, and gives the place behind it.

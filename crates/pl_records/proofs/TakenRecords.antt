@@ -4,7 +4,7 @@ use Rattle.csv.specs.Machine.{ends_at_end, next_record, Read}
 use Rattle.csv.specs.Reading.{default_config, records_from, NextIs, ReadsNext, ReadRecord, has_failed, took_first, pending_of}
 use Rattle.csv.specs.declared.parser.State.{State}
 use Rattle.csv.specs.declared.reader.Reader.{Reader}
-use Rattle.pl_records.specs.Inside.{records_left, unread, IsAtRecord}
+use Rattle.pl_records.specs.QuotedInside.{records_left, unread, IsAtRecord}
 use Rattle.pl_records.proofs.Facts.{next-leaves, fuel-same, Leaves}
 
 -- the record, and what is left behind it
@@ -12,7 +12,7 @@ pub record Took (s s2 : State) (y : List ℕ) (after : Option (List ℕ)) (field
   pub left : records_left s (Some y) ≡ fields ∷ records_left s2 after
   pub between : ends_at_end s2 ≡ false
 
-took-go : (s s2 : State) (y z : List ℕ) (fields : List (List ℕ)) (o : Option Read) → next_record default_config s [] [] y ≡ o → ends_at_end s ≡ false
+pub took-go : (s s2 : State) (y z : List ℕ) (fields : List (List ℕ)) (o : Option Read) → next_record default_config s [] [] y ≡ o → ends_at_end s ≡ false
     → NextIs o true fields s2 z → Took s s2 y (Some z) fields
 unfolding records_from
 took-go s s2 y z fields None e k h = absurd (cc)

@@ -5,42 +5,55 @@
 //! is trimmed, and a byte order mark at the front is dropped. A blank line is no record.
 #![tactic(auto)]
 
-ghost use Rattle.std.specs.Prelude.{◌≡◌, ◌<◌, [], map, drop, length, bytes_eq, IsTrue, IfOk, OnErr};
+ghost use Rattle.std.specs.Prelude.{◌≡◌, ◌<◌, [], map, drop, length, bytes_eq, IsTrue, IsSome, IfOk, IfSome, OnErr};
 ghost use lib.Pointwise.{pointwise};
 ghost use Rattle.pl_records.specs.Reading.{field, has_header};
 ghost use Rattle.pl_records.specs.Records.{csv_records, GivesNext};
 
-use csv::{ByteRecord, ErrorKind, Reader, ReaderBuilder};
+mod plain;
+mod quoted;
+
+use plain::{Next, PlainRecords};
+use quoted::QuotedRecords;
 use std::alloc::{AllocError, Global};
 use std::marker::Model;
 
-/// The records of a file: the one that was read last, and those that are left.
+/// The records of a file: the one that was read last, and those that are left. From the first record
+/// with a quote on, csv reads them.
+#[derive(Drop)]
 pub struct Records<'a> {
-    reader: Reader<&'a [u8]>,
-    row: ByteRecord,
-    done: bool,
-}
-
-// One call lets it go, so that no reader's proof goes into csv's types.
-impl<'a> Drop for Records<'a> {
-    fn drop(self) {
-        let Records {
-            reader: _reader,
-            row: _row,
-            done: _done,
-        } = self;
-    }
+    alloc: Global,
+    plain: PlainRecords<'a>,
+    quoted: Option<QuotedRecords<'a>>,
 }
 
 impl<'a> Model for Records<'a> {
     ghost use Rattle.pl_records.specs.View.{RecordsView};
-    ghost use Rattle.pl_records.specs.Inside.{view_of, IsReading};
+    ghost use Rattle.pl_records.specs.RecordsInside.{view_of};
 
     ghost Value = { RecordsView };
 
     ghost view = { view_of };
+}
 
-    ghost invariant = { IsReading };
+// Has csv read from here on, and reads the next record. A function pays for the room of its locals at
+// each call, and csv's reader takes 16 KiB.
+#[cold]
+#[inline(never)]
+fn begin_quoted<'a>(
+    alloc: Global,
+    text: &'a [u8],
+    quoted: &mut Option<QuotedRecords<'a>>,
+) -> Result<bool, AllocError>
+    ensures some { IsSome quoted.new }
+    ensures ok { IfOk result (λ found. IfSome quoted.new (λ q.
+        GivesNext (record { fields = []; left = csv_records text.entry.now }) q found)) }
+    ensures err { OnErr result (IfSome quoted.new (λ q. q.left ≡ [])) }
+{
+    let mut reader = QuotedRecords::new(alloc, text);
+    let found = reader.next();
+    *quoted = Some(reader);
+    found
 }
 
 impl<'a> Records<'a> {
@@ -49,14 +62,10 @@ impl<'a> Records<'a> {
         ensures none { result.fields ≡ [] }
         ensures all { result.left ≡ csv_records bytes.entry.now }
     {
-        let reader = ReaderBuilder::new()
-            .has_headers(false)
-            .flexible(true)
-            .from_reader(alloc, bytes);
         Records {
-            reader,
-            row: ByteRecord::new(alloc),
-            done: false,
+            alloc,
+            plain: PlainRecords::new(alloc, bytes),
+            quoted: None,
         }
     }
 
@@ -65,26 +74,13 @@ impl<'a> Records<'a> {
         ensures ok { IfOk result (λ found. GivesNext self.old self.new found) }
         ensures err { OnErr result (self.new.left ≡ []) }
     {
-        if self.done {
-            return Ok(false);
+        if let Some(quoted) = &mut self.quoted {
+            return quoted.next();
         }
-        match self.reader.read_byte_record(&mut self.row) {
-            Ok(true) => Ok(true),
-            Ok(false) => {
-                self.done = true;
-                Ok(false)
-            }
-            Err(error) => {
-                self.done = true;
-                match error.kind() {
-                    // Bytes in memory give no `Io`, but no clause of csv says so.
-                    ErrorKind::OutOfMemory | ErrorKind::Io(_) => Err(AllocError),
-                    // Records may have any number of fields, and any bytes.
-                    ErrorKind::UnequalLengths { .. } | ErrorKind::Utf8 { .. } => unreachable!(),
-                    // No record is read as a value, and none is written.
-                    ErrorKind::Serialize(_) | ErrorKind::Deserialize { .. } => unreachable!(),
-                }
-            }
+        match self.plain.next()? {
+            Next::Record => Ok(true),
+            Next::End => Ok(false),
+            Next::Quoted => begin_quoted(self.alloc, self.plain.rest(), &mut self.quoted),
         }
     }
 
@@ -92,7 +88,10 @@ impl<'a> Records<'a> {
     pub fn field_count(&self) -> usize
         ensures { result ≡ length self.now.fields }
     {
-        self.row.len()
+        match &self.quoted {
+            Some(quoted) => quoted.field_count(),
+            None => self.plain.field_count(),
+        }
     }
 
     /// A field of the record that was read last, counted from 0.
@@ -100,9 +99,9 @@ impl<'a> Records<'a> {
         requires { i < length self.now.fields }
         ensures { result.now ≡ field self.now.fields i }
     {
-        match self.row.get(i) {
-            Some(field) => field,
-            None => unreachable!(),
+        match &self.quoted {
+            Some(quoted) => quoted.field(i),
+            None => self.plain.field(i),
         }
     }
 

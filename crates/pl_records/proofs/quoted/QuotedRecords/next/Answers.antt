@@ -1,9 +1,9 @@
 use Rattle.std.proofs.Common.{◌≡◌, Ok, Result, Bool, true, false, refl, ◌∙◌, ap}
 use Rattle.pl_records.proofs.TakenRecords.{gives-more, gives-none, Gives}
 use Rattle.csv.specs.Records.{fields_of}
-use Rattle.pl_records.specs.Inside.{IsAtRecord}
-use Rattle.pl_records.proofs.Records.next.Goals as goal
-use Rattle.pl_records.proofs.Records.next.Goals.{In-Ok-true}
+use Rattle.pl_records.specs.QuotedInside.{IsAtRecord}
+use Rattle.pl_records.proofs.quoted.QuotedRecords.next.Goals as goal
+use Rattle.pl_records.proofs.quoted.QuotedRecords.next.Goals.{In-Ok-true}
 
 not-failed : {E : Type 0} (b : Bool) (r : Result Bool E) → r ≡ Ok true → (b ≡ true → r ≡ Ok false) → b ≡ false
 not-failed true r e h = let other : r ≡ Ok false = h refl in absurd (cc)

@@ -2,7 +2,7 @@ use Rattle.std.proofs.Common.{◌≡◌, ◌∷◌, [], ℕ, List, sym, None, So
 use Rattle.csv.proofs.RecordFacts.{field-there}
 use Rattle.csv.specs.Records.{field_at, fields_of}
 use Rattle.pl_records.specs.Reading.{Record, field}
-use Rattle.pl_records.proofs.Records.field.Goals as goal
+use Rattle.pl_records.proofs.quoted.QuotedRecords.field.Goals as goal
 
 pub unreachable-requires : goal.unreachable-requires
 unreachable-requires c =

@@ -1,4 +1,4 @@
--- How the records are kept.
+-- How csv's reader keeps the records.
 use Rattle.std.specs.Prelude.{ℕ, List, [], ◌≡◌, Option, Some, None, Bool, true, false, length, ◌+◌, ⊤}
 use Rattle.csv.specs.Reading.{Ready, default_config, source_of, records_from}
 use Rattle.csv.specs.Records.{fields_of}
@@ -7,7 +7,7 @@ use Rattle.csv.specs.declared.reader.Reader.{Reader}
 use Rattle.csv.specs.declared.reader.Trim.TheVariants as trim
 use Rattle.csv.specs.declared.parser.State.{State}
 use Rattle.pl_records.specs.View.{RecordsView}
-use Rattle.pl_records.specs.declared.Records.TheInside.{Inside}
+use Rattle.pl_records.specs.declared.quoted.QuotedRecords.TheInside.{Inside}
 use Rattle.std.proofs.Common.{Bor}
 
 -- the records of the bytes that a reader has left, where it has not failed

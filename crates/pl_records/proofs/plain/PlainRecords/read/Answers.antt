@@ -1,0 +1,18 @@
+use Rattle.std.proofs.Common.{◌≡◌, ◌==◌, ◌-◌, ◌<◌, length, take, drop, get_or, take_all, length-drop, sym, ap, ◌∙◌, arith, true, false}
+use Rattle.std.proofs.lemmas.Bool.Decides.{nat_tests}
+use Rattle.pl_records.specs.Records.{csv_records}
+use Rattle.pl_records.proofs.PlainLines.{from_line, no_line}
+use Rattle.pl_records.proofs.plain.PlainRecords.read.Goals as goal
+
+pub returns-then-is_empty : goal.returns-then-is_empty
+returns-then-is_empty c =
+    let unmarked = sym c.may_have_mark.ensures ∙ c.if-may_have_mark.false in
+    rw (← c.self.view_is) (no_line c.self.inside.rest.now c.behind_line_ends-line.result.now unmarked c.behind_line_ends-line.ensures.same (sym c.is_empty.ensures ∙ c.if-is_empty.true))
+
+pub returns-in-Some : goal.returns-in-Some
+returns-in-Some c =
+    let unmarked = sym c.may_have_mark.ensures ∙ c.if-may_have_mark.false in
+    let line = c.behind_line_ends-line.result.now in
+    let first = rw c.in-Some.is at c.in_ok-end.ensures.record in
+    let rest : take (length line - c.in-Some.end) (drop c.in-Some.end line) ≡ drop c.in-Some.end line = take_all _ _ (omega (arith, length-drop c.in-Some.end line)) in
+    rw (← c.self.view_is, rest) (from_line c.self.inside.rest.now line unmarked c.behind_line_ends-line.ensures.same ∙ first)
