@@ -1,5 +1,5 @@
 -- A point by the bars beside it.
-use Rattle.std.proofs.Common.{◌≡◌, ℕ, ◌+◌, ◌<◌, ◌≤◌, Bool, true, false, List, length, get_or, refl, sym, ◌∙◌, ap, arith}
+use Rattle.std.proofs.Common.{◌≡◌, ℕ, ◌+◌, ◌<◌, Bool, true, false, List, length, get_or, refl, sym, ◌∙◌, ap, arith}
 use Rattle.pl_spec.specs.declared.BarRow.{BarRow}
 use Rattle.pl_bars.specs.Bars.{is_before, AreBars}
 use Rattle.pl_bars.specs.BarPoint.{AllBefore, NoneBefore}

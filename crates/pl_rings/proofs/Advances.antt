@@ -73,11 +73,6 @@ bars_follow bars events count calendar c capacity old middle new row same_middle
       ∙ ap (λ l. buffer l capacity) (sym moved);
 }
 
--- rings without room stand for any days
-pub none_follow : (bars : List DayBar) (events : List DayEvent) (count : ℕ) (calendar : List ℤ) (c : Column) (capacity : ℕ) (rings : List Ring) → capacity ≡ 0 → FollowBars bars events count calendar c capacity rings rings
-none_follow bars events count calendar c zero rings e g next days start are known brings hold = record { count = hold.count; each = hold.each }
-none_follow bars events count calendar c (suc n) rings e g next days start are known brings hold = absurd (omega (arith, e))
-
 -- rings with a row behind them
 pub rings_pushed : (capacity : ℕ) (old new : List Ring) (row : List ℤ) {size : ℕ} → length new ≡ length old → AreRings size capacity old → length row ≡ size → All IsCell row
     → ((i : ℕ) → i < length old → ring_at new i ≡ pushed (get_or row i (pos 0)) (ring_at old i)) → AreRings size capacity new

@@ -1,4 +1,4 @@
-use Rattle.std.proofs.Common.{◌-◌, length, ◌∙◌, arith}
+use Rattle.std.proofs.Common.{◌-◌, length, ◌∙◌}
 use Rattle.std.proofs.lemmas.List.{take_rest}
 use Rattle.pl_rings.proofs.Ends.{copied}
 use Rattle.pl_rings.proofs.rings.copy_last.Goals as goal
