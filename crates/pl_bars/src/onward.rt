@@ -60,8 +60,32 @@ fn point_onward(rows: &[BarRow], col: usize, session: usize, place: usize) -> us
     }
 }
 
-// Whether the place is the point, by the bars beside it.
+// Whether the place is the point, by the bar at it, which most times is the one, or by those beside it.
 fn is_point(rows: &[BarRow], col: usize, session: usize, place: usize) -> bool
+    requires { AreBars rows.now }
+    ensures within { IsTrue result → place ≤ length rows.now }
+    ensures point { IsTrue result → BarPoint col session rows.now place }
+{
+    stands_at(rows, col, session, place) || is_between(rows, col, session, place)
+}
+
+// Whether the bar of the column and session stands at a place.
+fn stands_at(rows: &[BarRow], col: usize, session: usize, place: usize) -> bool
+    requires { AreBars rows.now }
+    ensures within { IsTrue result → place ≤ length rows.now }
+    ensures point { IsTrue result → BarPoint col session rows.now place }
+{
+    place < rows.len() && is_bar_of(&rows[place], col, session)
+}
+
+fn is_bar_of(row: &BarRow, col: usize, session: usize) -> bool
+    ensures { result ≡ is_at col session row.now }
+{
+    row.col as usize == col && row.session as usize == session
+}
+
+// Whether the bars before a place stand before the column and session, and the others do not.
+fn is_between(rows: &[BarRow], col: usize, session: usize, place: usize) -> bool
     requires { AreBars rows.now }
     ensures within { IsTrue result → place ≤ length rows.now }
     ensures point { IsTrue result → BarPoint col session rows.now place }
