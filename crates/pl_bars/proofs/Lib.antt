@@ -4,6 +4,7 @@ pub mod BarFields
 pub mod BarsSaid
 pub mod BarSearch
 pub mod BarFilling
+pub mod BarOnward
 pub mod BarWorlds
 pub mod ColumnTexts
 pub mod BarsCut

@@ -17,6 +17,7 @@ mod error;
 mod fields;
 mod filling;
 pub mod laws;
+mod onward;
 mod places;
 mod reading;
 mod search;

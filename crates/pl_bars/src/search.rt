@@ -53,7 +53,7 @@ pub(crate) fn point_of(rows: &[BarRow], col: usize, session: usize) -> usize
     rows.partition_point(|row| stands_before(row, col, session))
 }
 
-fn stands_before(row: &BarRow, col: usize, session: usize) -> bool
+pub(crate) fn stands_before(row: &BarRow, col: usize, session: usize) -> bool
     ensures { result ≡ is_before col session row.now }
 {
     (row.col as usize) < col || row.col as usize == col && (row.session as usize) < session

@@ -42,7 +42,6 @@ pub struct NotLater {
 /// A pipeline session by session: each morning a day is taken in with the bars of the session before and the
 /// adjustments since then, and gives the values of all columns for the assets that the screen keeps. What is
 /// held are the rings of bar columns and terms that windows read. All memory is taken at the start.
-#[derive(Drop)]
 pub struct Daily<'a> {
     checked: &'a Checked,
     assets: &'a Assets,
@@ -56,6 +55,26 @@ pub struct Daily<'a> {
     since: Vec<Option<usize>>,
     kept: Vec<u32>,
     room: Room,
+}
+
+// One call lets it go, so that no caller's proof goes into its parts.
+impl<'a> Drop for Daily<'a> {
+    fn drop(self) {
+        let Daily {
+            checked: _checked,
+            assets: _assets,
+            labels: _labels,
+            fed: _fed,
+            last: _last,
+            answered: _answered,
+            bars: _bars,
+            terms: _terms,
+            starts: _starts,
+            since: _since,
+            kept: _kept,
+            room: _room,
+        } = self;
+    }
 }
 
 impl<'a> Model for Daily<'a> {

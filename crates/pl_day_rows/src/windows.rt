@@ -27,6 +27,10 @@ fn read_window(turn: &Turn<'_>, place: usize, i: usize, window: &mut [i64])
     ensures { window.new ≡ ring_window turn.now.bars.now turn.now.terms.now (node_at turn.now).window
         (slice_get (node_at turn.now).inputs place) i }
 {
+    // most kinds read fewer windows
+    if window.is_empty() {
+        return;
+    }
     match input_at(turn.node, place) {
         Some(Input::Term(term)) => {
             copy_window(&turn.terms[term.0 as usize].rings.rings[i], window);

@@ -12,11 +12,12 @@ use pl_terms::Checked;
 use pl_world::World;
 use std::alloc::Global;
 
-/// All that a run works with: the daily evaluation, the bars and the adjustments of a day, and a line of the
-/// table.
+/// All that a run works with: the daily evaluation, for each asset the place of its next bar, the bars and the
+/// adjustments of a day, and a line of the table.
 #[derive(Drop)]
 pub struct Desk<'a> {
     pub(crate) daily: Daily<'a>,
+    pub(crate) places: Vec<usize>,
     pub(crate) bars: Vec<DayBar>,
     pub(crate) events: Vec<DayEvent>,
     pub(crate) line: Line,
@@ -34,6 +35,7 @@ impl<'a> Desk<'a> {
     {
         Ok(Desk {
             daily: Daily::new(alloc, checked, world.assets, world.labels)?,
+            places: vec![in alloc; 0; world.assets.len()]?,
             bars: Vec::with_capacity(alloc, world.assets.len())?,
             events: Vec::with_capacity(alloc, world.adjustments.len())?,
             line: Line::reserve(alloc)?,

@@ -19,6 +19,7 @@ pub(crate) fn feed<L: Ledger>(
     world: &World<'_>,
     session: usize,
     daily: &mut Daily<'_>,
+    places: &mut [usize],
     bars: &mut Vec<DayBar>,
     events: &mut Vec<DayEvent>,
     steps: &mut Steps<L>,
@@ -26,10 +27,12 @@ pub(crate) fn feed<L: Ledger>(
     requires made { IsMade world.now }
     requires session { session < length world.now.sessions.now }
     requires fed { IsFed world.now daily.old.pipeline session daily.old }
+    requires places { length world.now.assets.now ≤ length places.old }
     requires bars { length world.now.assets.now ≤ vec_capacity bars.old }
     requires events { length world.now.adjustments.now ≤ vec_capacity events.old }
     ensures fed { IsFed world.now daily.old.pipeline (session + 1) daily.new }
     ensures cost { steps.new ≡ steps.old + session_work (world_of world.now) daily.old.pipeline session }
+    ensures places { length places.new ≡ length places.old }
     ensures bars { length world.now.assets.now ≤ vec_capacity bars.new }
     ensures events { length world.now.adjustments.now ≤ vec_capacity events.new }
 {
@@ -38,7 +41,7 @@ pub(crate) fn feed<L: Ledger>(
     let _assets = world.assets.len();
     let _bars = world.bars.len();
     let _adjustments = world.adjustments.len();
-    fill_bars(world, session, bars);
+    fill_bars(world, session, places, bars);
     fill_events(world, session, events);
     let day = Day {
         day: world.sessions.day(session),

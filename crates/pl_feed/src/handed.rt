@@ -13,27 +13,37 @@ use pl_bars::Bars;
 use pl_rings::{DayBar, DayEvent};
 use pl_world::World;
 
-// The bar of the asset in a column; its cells are missing where there is none.
-fn bar_at(bars: &Bars, col: usize, session: usize) -> DayBar
+// The bar of the asset in a column; its cells are missing where there is none. It is looked up from the
+// asset's place.
+fn bar_at(bars: &Bars, col: usize, session: usize, place: &mut usize) -> DayBar
     requires { col < 2 ^ 32 }
     ensures { result ≡ spec.bar_at bars.now session col }
 {
     DayBar {
         col: col as u32,
-        cells: bars.cells(col, session),
+        cells: bars.cells_onward(col, session, place),
     }
 }
 
-/// Puts the bars of the session before this one in place of those that are there. There is room for them.
-pub(crate) fn fill_bars(world: &World<'_>, session: usize, bars: &mut Vec<DayBar>)
+/// Puts the bars of the session before this one in place of those that are there. There is room for them. Each
+/// asset has a place among all bars, from where its next one is looked up.
+pub(crate) fn fill_bars(
+    world: &World<'_>,
+    session: usize,
+    places: &mut [usize],
+    bars: &mut Vec<DayBar>,
+)
+    requires places { length world.now.assets.now ≤ length places.old }
     requires room { length world.now.assets.now ≤ vec_capacity bars.old }
     ensures bars { bars.new.items ≡ bars_due world.now.bars.now (length world.now.assets.now) session }
+    ensures places { length places.new ≡ length places.old }
     ensures room { length world.now.assets.now ≤ vec_capacity bars.new }
 {
     bars.clear();
     if session > 0 {
         for col in 0..world.assets.len() {
-            bars.push(bar_at(world.bars, col, session - 1)).unwrap();
+            let bar = bar_at(world.bars, col, session - 1, &mut places[col]);
+            bars.push(bar).unwrap();
         }
     }
 }

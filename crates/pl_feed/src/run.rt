@@ -87,6 +87,7 @@ fn write_all<O: Sink, L: Ledger>(
             world,
             session,
             &mut desk.daily,
+            &mut desk.places,
             &mut desk.bars,
             &mut desk.events,
             steps,

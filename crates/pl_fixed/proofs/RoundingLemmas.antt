@@ -1,13 +1,10 @@
 -- The code's quotient is the nearest number, and what follows of its size.
-use Rattle.std.proofs.Common.{◌≡◌, ℕ, zero, suc, ◌+◌, ◌-◌, ◌*◌, ◌/◌, ◌%◌, ◌<◌, ◌≤◌, ℤ, pos, negsuc, neg_ℤ, ◌+ℤ◌, ◌-ℤ◌, ◌<ℤ◌, ◌≤ℤ◌, unsigned_abs, arith, refl, ap, sym, ◌∙◌, FitsSigned, ◌*ℤ◌, w64}
-use Rattle.std.specs.Int.{Width, w128}
+use Rattle.std.proofs.Common.{◌≡◌, ℕ, zero, suc, ◌+◌, ◌-◌, ◌*◌, ◌/◌, ◌%◌, ◌<◌, ◌≤◌, ℤ, pos, negsuc, neg_ℤ, ◌+ℤ◌, ◌-ℤ◌, ◌<ℤ◌, ◌≤ℤ◌, unsigned_abs, arith, refl, ap, sym, ◌∙◌, FitsSigned}
+use Rattle.std.specs.Int.{Width}
 use Rattle.std.specs.Int.RustNames.{int_div, int_rem}
-use Rattle.std.specs.Int.Signed.{nat_abs-le}
 use Rattle.std.proofs.lemmas.Nat.{div-add-mod', div-mul-add, mod_below, mul-le}
 use Rattle.std.proofs.lemmas.Int.{ints}
 use Rattle.pl_spec.specs.Rounding.{div_round}
-use Rattle.pl_spec.proofs.Nearest.{nearest_is-div_round}
-use Rattle.jiff_core.proofs.SignedLemmas.{one_part, product_within, signed_arith, unsigned_abs-product}
 
 -- ---- from the quotient that is rounded toward 0, by its rest
 
@@ -108,54 +105,3 @@ div_round-multiple m b p = ap pos (multiple m b p)
 
 pub div_round-multiple_neg : (m b : ℕ) → 0 < b → div_round (neg_ℤ (pos (m * b))) b ≡ neg_ℤ (pos m)
 div_round-multiple_neg m b p = div_round-neg (m * b) b p ∙ ap (λ n. neg_ℤ (pos n)) (multiple m b p)
-
--- ---- a quotient that was guessed, by what it leaves of the dividend
-
--- 2 ^ 63 * (2 ^ 63 - 1)
-abbrev MOST_PRODUCT : ℕ
-MOST_PRODUCT = 85070591730234615856620279821087277056
-
-size_of : (q : ℤ) → FitsSigned w64 q → unsigned_abs q ≤ 9223372036854775808
-size_of q f = nat_abs-le q f.sfits
-
-size_above : (b : ℤ) → FitsSigned w64 b → pos 0 <ℤ b → unsigned_abs b ≤ 9223372036854775807
-size_above (pos b) f p = omega (arith, f.sfits)
-size_above (negsuc b) f p = absurd (omega (arith, ints))
-
-pub product_small : (q b : ℤ) → FitsSigned w64 q → FitsSigned w64 b → pos 0 <ℤ b → unsigned_abs (q *ℤ b) ≤ MOST_PRODUCT
-product_small q b fq fb p = product_within q b 9223372036854775808 9223372036854775807 (size_of q fq) (size_above b fb p)
-
-pub product_fits : (p : ℤ) → unsigned_abs p ≤ MOST_PRODUCT → FitsSigned w128 p
-product_fits p small = omega (arith, signed_arith)
-
-pub negated_fits : (b : ℤ) → FitsSigned w64 b → FitsSigned w128 (pos 0 -ℤ b)
-negated_fits b f = omega (arith, signed_arith)
-
-pub left_fits : (a p : ℤ) → FitsSigned w64 a → unsigned_abs p ≤ MOST_PRODUCT → FitsSigned w128 (a -ℤ p)
-left_fits a p f small = omega (arith, signed_arith)
-
-pub twice_fits : (a p : ℤ) → FitsSigned w64 a → unsigned_abs p ≤ MOST_PRODUCT → FitsSigned w128 (pos 2 *ℤ (a -ℤ p))
-twice_fits a p f small = omega (arith, signed_arith)
-
--- the product of a tie is farther from 0
-tie_above : (n b : ℕ) (p : ℤ) → (pos 2 *ℤ (pos n -ℤ p)) <ℤ pos b → 2 * unsigned_abs (pos n -ℤ p) ≡ b → n < unsigned_abs p
-tie_above n b p high tie = omega (arith, signed_arith, one_part (pos n -ℤ p), one_part p)
-
-pub nearest_above : (a b q : ℤ) → pos 0 <ℤ b → pos 0 ≤ℤ a → (pos 0 -ℤ b) ≤ℤ (pos 2 *ℤ (a -ℤ q *ℤ b)) → (pos 2 *ℤ (a -ℤ q *ℤ b)) <ℤ b → q ≡ div_round a (unsigned_abs b)
-nearest_above a (negsuc b) q p s low high = absurd (omega (arith, ints))
-nearest_above (negsuc a) (pos b) q p s low high = absurd (omega (arith, ints))
-nearest_above (pos a) (pos b) q p s low high = nearest_is-div_round (pos a) b q (omega (arith, ints)) (record {
-  near = omega (arith, signed_arith, one_part (pos a -ℤ q *ℤ pos b));
-  tie = λ t. rw (← unsigned_abs-product q (pos b)) (tie_above a b (q *ℤ pos b) high t);
-})
-
-pub nearest_below : (a b q : ℤ) → pos 0 <ℤ b → a <ℤ pos 0 → (pos 0 -ℤ b) <ℤ (pos 2 *ℤ (a -ℤ q *ℤ b)) → (pos 2 *ℤ (a -ℤ q *ℤ b)) ≤ℤ b → q ≡ div_round a (unsigned_abs b)
-nearest_below a (negsuc b) q p s low high = absurd (omega (arith, ints))
-nearest_below (pos a) (pos b) q p s low high = absurd (omega (arith, ints))
-nearest_below (negsuc a) (pos b) q p s low high = nearest_is-div_round (negsuc a) b q (omega (arith, ints)) (record {
-  near = omega (arith, signed_arith, one_part (negsuc a -ℤ q *ℤ pos b));
-  tie = λ t. rw (← unsigned_abs-product q (pos b)) (tie_below a b (q *ℤ pos b) low t);
-})
-  where
-    tie_below : (n b : ℕ) (p : ℤ) → (pos 0 -ℤ pos b) <ℤ (pos 2 *ℤ (negsuc n -ℤ p)) → 2 * unsigned_abs (negsuc n -ℤ p) ≡ b → suc n < unsigned_abs p
-    tie_below n b p low tie = omega (arith, signed_arith, one_part (negsuc n -ℤ p), one_part p)

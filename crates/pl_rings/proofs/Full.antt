@@ -1,5 +1,5 @@
 -- Rings that are full of one cell.
-use Rattle.std.proofs.Common.{◌≡◌, ℕ, ◌<◌, ℤ, List, [], All, replicate, length, ap, sym, refl, subst, ◌∙◌, arith}
+use Rattle.std.proofs.Common.{◌≡◌, ℕ, ℤ, List, [], All, replicate, length, ap, sym, refl, subst, ◌∙◌, arith}
 use Rattle.std.proofs.lemmas.List.{get_or-replicate, length-replicate}
 use Rattle.circular_buffer.specs.Buffer.{buffer}
 use Rattle.pl_spec.specs.Rounding.{IsCell}

@@ -7,3 +7,4 @@ pub mod Written
 pub mod Advances
 pub mod Beginning
 pub mod Full
+pub mod Ends

@@ -1,9 +1,7 @@
 -- Rows that are written place after place.
-use Rattle.std.proofs.Common.{◌≡◌, ℕ, ◌+◌, ◌-◌, ◌<◌, ◌≤◌, ◌==◌, Bool, true, false, if◌then◌else◌, ℤ, pos, List, length, get_or, slice_set, subst, refl, sym, ◌∙◌, ap, arith, inl}
+use Rattle.std.proofs.Common.{◌≡◌, ℕ, ◌+◌, ◌<◌, ◌==◌, Bool, true, false, if◌then◌else◌, ℤ, pos, List, length, get_or, slice_set, subst, refl, ◌∙◌, ap, arith, inl}
 use Rattle.std.proofs.lemmas.Bool.{eqb-true}
 use Rattle.std.proofs.lemmas.Bool.Decides.{nat_tests}
-use Rattle.std.proofs.lemmas.List.{ext_get_or, get_or-drop, length-drop}
-use Rattle.circular_buffer.specs.Buffer.{keep_last}
 use Rattle.pl_spec.specs.Formula.{is_true}
 use Rattle.pl_spec.specs.Rounding.{IsCell, MISSING}
 use Rattle.pl_rings.proofs.Cells.{set_at, length-set_at}
@@ -38,13 +36,6 @@ nothing_written fact f size row count = record { count = count; front = λ k h. 
 pub one_is_true : (b : Bool) → is_true (if b then pos 1 else pos 0) ≡ b
 one_is_true true = refl
 one_is_true false = refl
-
--- the last cells, cell by cell
-pub window_is : (xs ys : List ℤ) (size : ℕ) → size ≤ length xs → length ys ≡ size → ((k : ℕ) → k < size → get_or ys k (pos 0) ≡ get_or xs (length xs - size + k) (pos 0)) → ys ≡ keep_last size xs
-window_is xs ys size few count each =
-    let long : length (keep_last size xs) ≡ length xs - (length xs - size) = length-drop (length xs - size) xs in
-    ext_get_or (pos 0) ys (keep_last size xs) (omega (arith, long, count, few))
-    (λ k h. each k (omega (arith, h, count)) ∙ sym (get_or-drop (length xs - size) xs k (pos 0)))
 
 abbrev pub Anything : ℤ → Type 0
 Anything x = Unit {0}

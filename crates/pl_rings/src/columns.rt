@@ -87,6 +87,10 @@ fn advance_column<L: Ledger>(
     ensures cost { steps.new ≡ steps.old
         + length (scaling column day.now.events.now) * min rings.old.capacity fed }
 {
+    // where no window reads the column, nothing is held of it
+    if rings.capacity == 0 {
+        return;
+    }
     let days = &calendar[calendar.len() - rings.capacity..];
     advance_rings(&mut rings.rings, days, fed, day, column, row, steps);
 }

@@ -1,5 +1,5 @@
 //! Rings of cells: one for each asset.
-ghost use Rattle.std.specs.Prelude.{◌≡◌, ℕ, ◌<◌, ◌≤◌, pos, length, get_or, replicate, IfOk};
+ghost use Rattle.std.specs.Prelude.{◌≡◌, ℕ, ◌<◌, ◌≤◌, ◌+◌, ◌++◌, pos, length, get_or, replicate, IfOk};
 ghost use Rattle.circular_buffer.specs.Buffer.{buffer, keep_last};
 ghost use Rattle.pl_spec.specs.Rounding.{IsCell};
 ghost use Rattle.pl_rings.specs.Changes.{AreRings, pushed, ring_at};
@@ -70,10 +70,17 @@ pub fn copy_window(ring: &HeapCircularBuffer<i64>, window: &mut [i64])
     requires { length window.old ≤ length ring.now.items }
     ensures { window.new ≡ keep_last (length window.old) ring.now.items }
 {
-    let from = ring.len() - window.len();
-    for j in 0..window.len() {
-        if let Some(cell) = ring.get(from + j) {
-            window[j] = *cell;
-        }
-    }
+    let (front, back) = ring.as_slices();
+    copy_last(front, back, window);
+}
+
+// The last cells of two runs, of which the second stands behind the first.
+fn copy_last(front: &[i64], back: &[i64], window: &mut [i64])
+    requires { length window.old ≤ length front.now + length back.now }
+    ensures { window.new ≡ keep_last (length window.old) (front.now ++ back.now) }
+{
+    let ahead = window.len().saturating_sub(back.len());
+    let behind = window.len() - ahead;
+    window[..ahead].copy_from_slice(&front[front.len() - ahead..]);
+    window[ahead..].copy_from_slice(&back[back.len() - behind..]);
 }

@@ -1,8 +1,14 @@
-use Rattle.std.proofs.Common.{◌≡◌, ℕ, subst, ◌≤◌, Some, slice_get, get_or, length, ap, sym, ◌∙◌, arith}
+use Rattle.std.proofs.Common.{◌≡◌, ℕ, ◌-◌, ◌≤◌, ℤ, List, [], ◌∷◌, Option, None, Some, slice_get, get_or, length, subst, refl, ap, sym, ◌∙◌, arith}
+use Rattle.std.proofs.lemmas.Bool.Decides.{nat_tests}
+use Rattle.std.proofs.lemmas.List.{drop_all}
 use Rattle.circular_buffer.specs.Buffer.{keep_last}
-use Rattle.pl_spec.specs.Term.Input.{TermInput}
+use Rattle.pl_spec.specs.Term.{Input, Node}
+use Rattle.pl_spec.specs.Term.Input.{BarColumn, TermInput}
 use Rattle.pl_terms.specs.Nodes.{input_of}
 use Rattle.pl_rings.specs.Changes.{Ring}
+use Rattle.pl_rings.specs.declared.columns.BarRings.{BarRings}
+use Rattle.pl_day_rows.specs.declared.turn.TermCells.{TermCells}
+use Rattle.pl_day_rows.specs.Rows.{ring_window}
 use Rattle.pl_day_rows.specs.Turns.{node_at}
 use Rattle.pl_day_rows.specs.Windows.{size_for}
 use Rattle.pl_day_rows.proofs.Given.{ring_there}
@@ -10,6 +16,21 @@ use Rattle.pl_day_rows.proofs.windows.read_window.Goals as goal
 
 at_most : (a b c : ℕ) → a ≡ b → b ≤ c → a ≤ c
 at_most a b c e h = omega (arith, e, h)
+
+no_cells : (size : ℕ) (xs : List ℤ) → size ≡ 0 → keep_last size xs ≡ []
+no_cells size xs e = drop_all (length xs - size) xs (omega (arith, e))
+
+-- a window of no cells
+nothing_read : (bars : BarRings) (terms : List TermCells) (n : Node) (o : Option Input) (i : ℕ) (window : List ℤ) → length window ≡ 0 → length window ≡ size_for n o → window ≡ ring_window bars terms n.window o i
+nothing_read bars terms n None i [] none long = refl
+nothing_read bars terms n (Some (BarColumn c)) i [] none long = sym (no_cells n.window _ (sym long))
+nothing_read bars terms n (Some (TermInput u)) i [] none long = sym (no_cells n.window _ (sym long))
+nothing_read bars terms n o i (x ∷ window) none long = absurd (omega (arith, none))
+
+pub returns-then-is_empty : goal.returns-then-is_empty
+returns-then-is_empty c =
+    nothing_read c.args.turn.now.bars.now c.args.turn.now.terms.now (node_at c.args.turn.now) (slice_get (node_at c.args.turn.now).inputs c.args.place) c.args.i c.args.window.now
+    (grind (arith, nat_tests, c.is_empty.ensures, c.if-is_empty.true)) c.requires.size
 
 pub bounds-turn-term : goal.bounds-turn-term
 bounds-turn-term c =

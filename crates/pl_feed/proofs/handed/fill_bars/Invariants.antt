@@ -7,6 +7,7 @@ abbrev pub invariant-loop-col : goal.invariant-loop-col
 invariant-loop-col l =
     record {
       bars : l.bars.items ≡ map (bar_at l.world.bars.now (l.session - 1)) (range_with_len 0 l.col);
+      places : length l.places ≡ length l.fn.places;
       few : vec_len l.bars ≤ l.col;
       room : length l.world.assets.now ≤ vec_capacity l.bars;
     }

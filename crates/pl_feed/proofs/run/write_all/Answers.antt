@@ -1,4 +1,4 @@
-use Rattle.std.proofs.Common.{◌≡◌, ◌≤◌, ◌<◌, ◌+◌, ◌++◌, ◌∙◌, sym, ap, subst, arith}
+use Rattle.std.proofs.Common.{◌≡◌, ℕ, ◌≤◌, ◌<◌, ◌+◌, List, ◌++◌, length, drop, ◌∙◌, sym, ap, subst, arith}
 use Rattle.std.proofs.lemmas.Result.{err_from_is_err_and}
 use Rattle.pl_outside.proofs.Pieces.{writing-start, writing-more, writing-end, writing-stop, writing-over}
 use Rattle.pl_spec.specs.Table.{Pipeline, table}
@@ -9,6 +9,7 @@ use Rattle.pl_table.proofs.SessionRows.{lines-append}
 use Rattle.pl_feed.specs.Feeds.{session_work}
 use Rattle.pl_feed.specs.Days.{IsFed}
 use Rattle.pl_feed.specs.Mornings.{asked_rows}
+use Rattle.pl_rings.proofs.Advances.{vec_back}
 use Rattle.pl_feed.proofs.Values.{rows_left, left-all, left-next, left-none}
 use Rattle.pl_feed.proofs.Work.{steps_below, steps-all, steps-few, steps-next}
 use Rattle.pl_feed.proofs.run.write_all.Goals as goal
@@ -44,9 +45,13 @@ loop-session-preserved g c =
     let inside : s ≤ plan.to = omega (arith, c.loop-session-test.true, c.to-session-end.ensures.value) in
     let own = c.loop-session.invariant.desk.fed.pipeline in
     let next = ap (lines w p c.args.format) (left-next w p plan.from plan.to s inside) ∙ lines-append w p c.args.format (asked_rows w p plan.from s) (rows_left w p plan.from plan.to (s + 1)) in
+    let places = c.loop-session.desk.places in
+    let new = c.feed.new.places in
+    let back = vec_back places.len new (drop (length new) places.items) (sym c.deref_mut.ensures.len ∙ sym c.feed.ensures.places) in
     record {
       desk = record {
         fed = subst (λ (q : Pipeline). IsFed c.args.world.now q (s + 1) c.feed.new.daily) own c.feed.ensures.fed;
+        places = subst (λ (l : List ℕ). length c.args.world.now.assets.now ≤ length l) (sym back) (omega (arith, c.feed.ensures.places, ap length c.deref_mut.ensures.value, c.loop-session.invariant.desk.places));
         bars = c.feed.ensures.bars;
         events = c.feed.ensures.events;
       };
