@@ -1,5 +1,5 @@
 -- Which operations are filters.
-use Rattle.std.proofs.Common.{◌≡◌, ℕ, ℤ, [], List, length, IsTrue, refl}
+use Rattle.std.proofs.Common.{◌≡◌, ℕ, ℤ, [], List, IsTrue, refl}
 use Rattle.pl_terms.specs.declared.kind.TermKind.{TermKind}
 use Rattle.pl_terms.specs.declared.kind.TermKind.TheVariants as kinds
 use Rattle.pl_terms.specs.declared.kind.LabelValue.TheVariants as label
