@@ -19,6 +19,7 @@ ghost use Rattle.pl_values.specs.Arrays.{IsKeep, is_kept};
 ghost use Rattle.pl_world.specs.Worlds.{world_of, IsMade};
 ghost use Rattle.pl_model.specs.WindowSteps.{window_steps};
 ghost use Rattle.pl_world.specs.Evaluations.{IsAsked, IsAskedInput, IsAskedOption, IsKept, HasKind, cell_in, input_cell_in, window_in, row_in, optional_row_in};
+ghost use Rattle.pl_model.specs.Gives.{IsCellOf, AreCellsOf, IsRowOf};
 ghost use Rattle.pl_model.specs.Costs.{given_cost_in, cost_in, input_cost_in, window_cost_in, row_cost_in, optional_cost_in};
 
 use crate::bars::{as_input, bars_before, lets_pass, section_at};
@@ -77,11 +78,9 @@ fn cell<L: Ledger>(
 ) -> Result<i64, Memory>
     requires asked { IsAsked world.now checked.now t.0 session }
     requires col { col < length world.now.assets.now }
-    ensures value { IfOk result (λ x. x ≡ cell_in world.now checked.now t.0
-        (sid_at world.now.assets.now col) session) }
-    ensures cell { IfOk result IsCell }
-    ensures cost { OnOk result (steps.new ≡ steps.old
-        + cost_in world.now checked.now t.0 (sid_at world.now.assets.now col) session) }
+    ensures { IfOk result (IsCellOf
+        (cell_in world.now checked.now t.0 (sid_at world.now.assets.now col) session)
+        (cost_in world.now checked.now t.0 (sid_at world.now.assets.now col) session) steps.old steps.new) }
 {
     let graph = checked.graph();
     if !exists(world, col, session) {
@@ -109,11 +108,10 @@ fn given<L: Ledger>(
     requires asked { IsAsked world.now checked.now t.0 session }
     requires col { col < length world.now.assets.now }
     requires kept { IsKept world.now checked.now t.0 (sid_at world.now.assets.now col) session }
-    ensures value { IfOk result (λ x. x ≡ cell_in world.now checked.now t.0
-        (sid_at world.now.assets.now col) session) }
-    ensures cell { IfOk result IsCell }
-    ensures cost { OnOk result (steps.new ≡ steps.old
-        + given_cost_in world.now checked.now t.0 (sid_at world.now.assets.now col) session) }
+    ensures { IfOk result (IsCellOf
+        (cell_in world.now checked.now t.0 (sid_at world.now.assets.now col) session)
+        (given_cost_in world.now checked.now t.0 (sid_at world.now.assets.now col) session)
+        steps.old steps.new) }
 {
     let node = checked.graph().node(t);
     match family_of(&node.kind) {
@@ -151,11 +149,10 @@ fn window_cell<L: Ledger>(
     requires col { col < length world.now.assets.now }
     requires kept { IsKept world.now checked.now t.0 (sid_at world.now.assets.now col) session }
     requires kind { HasKind checked.now t.0 is_windowed }
-    ensures value { IfOk result (λ x. x ≡ cell_in world.now checked.now t.0
-        (sid_at world.now.assets.now col) session) }
-    ensures cell { IfOk result IsCell }
-    ensures cost { OnOk result (steps.new ≡ steps.old
-        + given_cost_in world.now checked.now t.0 (sid_at world.now.assets.now col) session) }
+    ensures { IfOk result (IsCellOf
+        (cell_in world.now checked.now t.0 (sid_at world.now.assets.now col) session)
+        (given_cost_in world.now checked.now t.0 (sid_at world.now.assets.now col) session)
+        steps.old steps.new) }
 {
     let node = checked.graph().node(t);
     let size = node.window as usize;
@@ -182,11 +179,10 @@ fn point_cell<L: Ledger>(
     requires col { col < length world.now.assets.now }
     requires kept { IsKept world.now checked.now t.0 (sid_at world.now.assets.now col) session }
     requires kind { HasKind checked.now t.0 is_point }
-    ensures value { IfOk result (λ x. x ≡ cell_in world.now checked.now t.0
-        (sid_at world.now.assets.now col) session) }
-    ensures cell { IfOk result IsCell }
-    ensures cost { OnOk result (steps.new ≡ steps.old
-        + given_cost_in world.now checked.now t.0 (sid_at world.now.assets.now col) session) }
+    ensures { IfOk result (IsCellOf
+        (cell_in world.now checked.now t.0 (sid_at world.now.assets.now col) session)
+        (given_cost_in world.now checked.now t.0 (sid_at world.now.assets.now col) session)
+        steps.old steps.new) }
 {
     let node = checked.graph().node(t);
     let first = input_at(node, 0);
@@ -211,11 +207,10 @@ fn section_cell<L: Ledger>(
     requires asked { IsAsked world.now checked.now t.0 session }
     requires col { col < length world.now.assets.now }
     requires kind { HasKind checked.now t.0 is_section }
-    ensures value { IfOk result (λ x. x ≡ cell_in world.now checked.now t.0
-        (sid_at world.now.assets.now col) session) }
-    ensures cell { IfOk result IsCell }
-    ensures cost { OnOk result (steps.new ≡ steps.old
-        + given_cost_in world.now checked.now t.0 (sid_at world.now.assets.now col) session) }
+    ensures { IfOk result (IsCellOf
+        (cell_in world.now checked.now t.0 (sid_at world.now.assets.now col) session)
+        (given_cost_in world.now checked.now t.0 (sid_at world.now.assets.now col) session)
+        steps.old steps.new) }
 {
     let node = checked.graph().node(t);
     let input = section_input(checked, t);
@@ -243,11 +238,10 @@ fn input_window<L: Ledger>(
     requires asked { IsAskedInput world.now checked.now input size session }
     requires session { session < length world.now.sessions.now }
     requires col { col < length world.now.assets.now }
-    ensures value { IfOk result (λ v. v.items ≡ window_in world.now checked.now size input
-        (sid_at world.now.assets.now col) session) }
-    ensures cells { IfOk result (λ v. All IsCell v.items) }
-    ensures cost { OnOk result (steps.new ≡ steps.old + window_cost_in world.now checked.now size input
-        (sid_at world.now.assets.now col) session) }
+    ensures { IfOk result (λ v. AreCellsOf
+        (window_in world.now checked.now size input (sid_at world.now.assets.now col) session)
+        (window_cost_in world.now checked.now size input (sid_at world.now.assets.now col) session)
+        steps.old steps.new v.items) }
 {
     match input {
         None => Ok(Vec::new(alloc)),
@@ -273,11 +267,11 @@ fn cells_up_to<L: Ledger>(
     requires asked { IsAskedInput world.now checked.now (Some (Input.Term u)) size session }
     requires session { session < length world.now.sessions.now }
     requires col { col < length world.now.assets.now }
-    ensures value { IfOk result (λ v. v.items ≡ window_in world.now checked.now size
-        (Some (Input.Term u)) (sid_at world.now.assets.now col) session) }
-    ensures cells { IfOk result (λ v. All IsCell v.items) }
-    ensures cost { OnOk result (steps.new ≡ steps.old + window_cost_in world.now checked.now size
-        (Some (Input.Term u)) (sid_at world.now.assets.now col) session) }
+    ensures { IfOk result (λ v. AreCellsOf
+        (window_in world.now checked.now size (Some (Input.Term u)) (sid_at world.now.assets.now col)
+        session)
+        (window_cost_in world.now checked.now size (Some (Input.Term u))
+        (sid_at world.now.assets.now col) session) steps.old steps.new v.items) }
 {
     let _sessions = world.sessions.len();
     let mut cells = Vec::new(alloc);
@@ -300,11 +294,10 @@ fn input_cell<L: Ledger>(
 ) -> Result<i64, Memory>
     requires asked { IsAskedInput world.now checked.now input 1 session }
     requires col { col < length world.now.assets.now }
-    ensures value { IfOk result (λ x. x ≡ input_cell_in world.now checked.now input
-        (sid_at world.now.assets.now col) session) }
-    ensures cell { IfOk result IsCell }
-    ensures cost { OnOk result (steps.new ≡ steps.old + input_cost_in world.now checked.now input
-        (sid_at world.now.assets.now col) session) }
+    ensures { IfOk result (IsCellOf
+        (input_cell_in world.now checked.now input (sid_at world.now.assets.now col) session)
+        (input_cost_in world.now checked.now input (sid_at world.now.assets.now col) session)
+        steps.old steps.new) }
 {
     match input {
         Some(Input::Term(u)) => cell(alloc, world, checked, u, col, session, steps),
@@ -323,9 +316,8 @@ fn term_row<L: Ledger>(
     steps: &mut Steps<L>,
 ) -> Result<Vec<i64>, Memory>
     requires asked { IsAsked world.now checked.now u.0 session }
-    ensures value { IfOk result (λ v. v.items ≡ row_in world.now checked.now u.0 session) }
-    ensures cells { IfOk result (λ v. All IsCell v.items) }
-    ensures cost { OnOk result (steps.new ≡ steps.old + row_cost_in world.now checked.now u.0 session) }
+    ensures { IfOk result (λ v. AreCellsOf (row_in world.now checked.now u.0 session)
+        (row_cost_in world.now checked.now u.0 session) steps.old steps.new v.items) }
 {
     let mut row = Vec::new(alloc);
     for col in 0..world.assets.len() {
@@ -345,11 +337,9 @@ fn optional_row<L: Ledger>(
     steps: &mut Steps<L>,
 ) -> Result<Option<Vec<i64>>, Memory>
     requires asked { IsAskedOption world.now checked.now u session }
-    ensures value { IfOk result (λ o. option_map (λ v. v.items) o
-        ≡ optional_row_in world.now checked.now u session) }
-    ensures cells { IfOk result (λ o. IfSome o (λ v. All IsCell v.items)) }
-    ensures cost { OnOk result (steps.new ≡ steps.old
-        + optional_cost_in world.now checked.now u session) }
+    ensures { IfOk result (λ o. IsRowOf (optional_row_in world.now checked.now u session)
+        (optional_cost_in world.now checked.now u session) steps.old steps.new
+        (option_map (λ v. v.items) o)) }
 {
     match u {
         Some(u) => Ok(Some(term_row(alloc, world, checked, u, session, steps)?)),

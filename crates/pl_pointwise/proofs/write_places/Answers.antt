@@ -1,128 +1,63 @@
-use Rattle.std.proofs.Common.{length, rules}
+use Rattle.std.proofs.Common.{length, subst, rules}
+use Rattle.pl_terms.specs.declared.kind.TermKind.{TermKind}
 use Rattle.pl_terms.specs.Kinds.{kind_of}
 use Rattle.pl_spec.specs.Pointwise.{pointwise}
-use Rattle.pl_pointwise.specs.Operands.{AreCells, AreFlags}
-use Rattle.pl_pointwise.proofs.ResultLemmas.{flags-cells}
+use Rattle.pl_pointwise.specs.Operands.{AreCells, AreFlags, AreOperands}
+use Rattle.pl_pointwise.proofs.FlagLemmas.{flag-left, two-operands}
 use Rattle.pl_pointwise.proofs.write_places.Goals as goal
 
 pub at_each_pair-requires : goal.at_each_pair-requires
 unfolding kind_of
 at_each_pair-requires c =
-    let o : AreCells (length c.args.out.now) c.args.a.now × AreCells (length c.args.out.now) c.args.b.now = rw c.in-Add.is at c.requires.operands in
+    let o : AreCells (length c.args.out.now) c.args.a.now × AreCells (length c.args.out.now) c.args.b.now = subst (λ (k : TermKind). AreOperands (kind_of k) c.args.a.now c.args.b.now c.args.c.now (length c.args.out.now)) c.in-Add.is c.requires.operands in
     record { callable = search rules; left = o.0; right = o.1 }
 
 pub at_each_pair-requires-in-Sub : goal.at_each_pair-requires-in-Sub
 unfolding kind_of
 at_each_pair-requires-in-Sub c =
-    let o : AreCells (length c.args.out.now) c.args.a.now × AreCells (length c.args.out.now) c.args.b.now = rw c.in-Sub.is at c.requires.operands in
+    let o : AreCells (length c.args.out.now) c.args.a.now × AreCells (length c.args.out.now) c.args.b.now = subst (λ (k : TermKind). AreOperands (kind_of k) c.args.a.now c.args.b.now c.args.c.now (length c.args.out.now)) c.in-Sub.is c.requires.operands in
     record { callable = search rules; left = o.0; right = o.1 }
 
 pub at_each_pair-requires-in-Mul : goal.at_each_pair-requires-in-Mul
 unfolding kind_of
 at_each_pair-requires-in-Mul c =
-    let o : AreCells (length c.args.out.now) c.args.a.now × AreCells (length c.args.out.now) c.args.b.now = rw c.in-Mul.is at c.requires.operands in
+    let o : AreCells (length c.args.out.now) c.args.a.now × AreCells (length c.args.out.now) c.args.b.now = subst (λ (k : TermKind). AreOperands (kind_of k) c.args.a.now c.args.b.now c.args.c.now (length c.args.out.now)) c.in-Mul.is c.requires.operands in
     record { callable = search rules; left = o.0; right = o.1 }
 
 pub at_each_pair-requires-in-Div : goal.at_each_pair-requires-in-Div
 unfolding kind_of
 at_each_pair-requires-in-Div c =
-    let o : AreCells (length c.args.out.now) c.args.a.now × AreCells (length c.args.out.now) c.args.b.now = rw c.in-Div.is at c.requires.operands in
+    let o : AreCells (length c.args.out.now) c.args.a.now × AreCells (length c.args.out.now) c.args.b.now = subst (λ (k : TermKind). AreOperands (kind_of k) c.args.a.now c.args.b.now c.args.c.now (length c.args.out.now)) c.in-Div.is c.requires.operands in
     record { callable = search rules; left = o.0; right = o.1 }
 
 pub at_each-requires : goal.at_each-requires
 unfolding kind_of
 at_each-requires c =
-    let o : AreCells (length c.args.out.now) c.args.a.now = rw c.in-Neg.is at c.requires.operands in
+    let o : AreCells (length c.args.out.now) c.args.a.now = subst (λ (k : TermKind). AreOperands (kind_of k) c.args.a.now c.args.b.now c.args.c.now (length c.args.out.now)) c.in-Neg.is c.requires.operands in
     record { callable = search rules; cells = o }
-
-pub compare_mask-requires : goal.compare_mask-requires
-unfolding kind_of
-compare_mask-requires c =
-    let o : AreCells (length c.args.out.now) c.args.a.now × AreCells (length c.args.out.now) c.args.b.now = rw c.in-Less.is at c.requires.operands in
-    record { left = o.0.cells; right = o.1.cells; left_length = o.0.many; right_length = o.1.many }
-
-pub compare_mask-requires-in-LessEqual : goal.compare_mask-requires-in-LessEqual
-unfolding kind_of
-compare_mask-requires-in-LessEqual c =
-    let o : AreCells (length c.args.out.now) c.args.a.now × AreCells (length c.args.out.now) c.args.b.now = rw c.in-LessEqual.is at c.requires.operands in
-    record { left = o.0.cells; right = o.1.cells; left_length = o.0.many; right_length = o.1.many }
-
-pub compare_mask-requires-in-Greater : goal.compare_mask-requires-in-Greater
-unfolding kind_of
-compare_mask-requires-in-Greater c =
-    let o : AreCells (length c.args.out.now) c.args.a.now × AreCells (length c.args.out.now) c.args.b.now = rw c.in-Greater.is at c.requires.operands in
-    record { left = o.0.cells; right = o.1.cells; left_length = o.0.many; right_length = o.1.many }
-
-pub compare_mask-requires-in-GreaterEqual : goal.compare_mask-requires-in-GreaterEqual
-unfolding kind_of
-compare_mask-requires-in-GreaterEqual c =
-    let o : AreCells (length c.args.out.now) c.args.a.now × AreCells (length c.args.out.now) c.args.b.now = rw c.in-GreaterEqual.is at c.requires.operands in
-    record { left = o.0.cells; right = o.1.cells; left_length = o.0.many; right_length = o.1.many }
-
-pub compare_mask-requires-in-Equal : goal.compare_mask-requires-in-Equal
-unfolding kind_of
-compare_mask-requires-in-Equal c =
-    let o : AreCells (length c.args.out.now) c.args.a.now × AreCells (length c.args.out.now) c.args.b.now = rw c.in-Equal.is at c.requires.operands in
-    record { left = o.0.cells; right = o.1.cells; left_length = o.0.many; right_length = o.1.many }
-
-pub compare_mask-requires-in-NotEqual : goal.compare_mask-requires-in-NotEqual
-unfolding kind_of
-compare_mask-requires-in-NotEqual c =
-    let o : AreCells (length c.args.out.now) c.args.a.now × AreCells (length c.args.out.now) c.args.b.now = rw c.in-NotEqual.is at c.requires.operands in
-    record { left = o.0.cells; right = o.1.cells; left_length = o.0.many; right_length = o.1.many }
-
-pub and_mask-requires : goal.and_mask-requires
-unfolding kind_of
-and_mask-requires c =
-    let o : AreFlags (length c.args.out.now) c.args.a.now × AreFlags (length c.args.out.now) c.args.b.now = rw c.in-And.is at c.requires.operands in
-    record { left = o.0.flags; right = o.1.flags; left_length = o.0.many; right_length = o.1.many }
-
-pub or_mask-requires : goal.or_mask-requires
-unfolding kind_of
-or_mask-requires c =
-    let o : AreFlags (length c.args.out.now) c.args.a.now × AreFlags (length c.args.out.now) c.args.b.now = rw c.in-Or.is at c.requires.operands in
-    record { left = o.0.flags; right = o.1.flags; left_length = o.0.many; right_length = o.1.many }
-
-pub at_each-requires-in-Not : goal.at_each-requires-in-Not
-unfolding kind_of
-at_each-requires-in-Not c =
-    let o : AreFlags (length c.args.out.now) c.args.a.now = rw c.in-Not.is at c.requires.operands in
-    record { callable = search rules; cells = flags-cells o }
 
 pub at_each-requires-in-Abs : goal.at_each-requires-in-Abs
 unfolding kind_of
 at_each-requires-in-Abs c =
-    let o : AreCells (length c.args.out.now) c.args.a.now = rw c.in-Abs.is at c.requires.operands in
+    let o : AreCells (length c.args.out.now) c.args.a.now = subst (λ (k : TermKind). AreOperands (kind_of k) c.args.a.now c.args.b.now c.args.c.now (length c.args.out.now)) c.in-Abs.is c.requires.operands in
     record { callable = search rules; cells = o }
 
 pub at_each-requires-in-Clip : goal.at_each-requires-in-Clip
 unfolding kind_of
 at_each-requires-in-Clip c =
-    let o : AreCells (length c.args.out.now) c.args.a.now = rw c.in-Clip.is at c.requires.operands in
+    let o : AreCells (length c.args.out.now) c.args.a.now = subst (λ (k : TermKind). AreOperands (kind_of k) c.args.a.now c.args.b.now c.args.c.now (length c.args.out.now)) c.in-Clip.is c.requires.operands in
     record { callable = search rules; cells = o }
 
 pub at_each_pair-requires-in-FillNa : goal.at_each_pair-requires-in-FillNa
 unfolding kind_of
 at_each_pair-requires-in-FillNa c =
-    let o : AreCells (length c.args.out.now) c.args.a.now × AreCells (length c.args.out.now) c.args.b.now = rw c.in-FillNa.is at c.requires.operands in
+    let o : AreCells (length c.args.out.now) c.args.a.now × AreCells (length c.args.out.now) c.args.b.now = subst (λ (k : TermKind). AreOperands (kind_of k) c.args.a.now c.args.b.now c.args.c.now (length c.args.out.now)) c.in-FillNa.is c.requires.operands in
     record { callable = search rules; left = o.0; right = o.1 }
-
-pub at_each-requires-in-IsNull : goal.at_each-requires-in-IsNull
-unfolding kind_of
-at_each-requires-in-IsNull c =
-    let o : AreCells (length c.args.out.now) c.args.a.now = rw c.in-IsNull.is at c.requires.operands in
-    record { callable = search rules; cells = o }
-
-pub at_each-requires-in-NotNull : goal.at_each-requires-in-NotNull
-unfolding kind_of
-at_each-requires-in-NotNull c =
-    let o : AreCells (length c.args.out.now) c.args.a.now = rw c.in-NotNull.is at c.requires.operands in
-    record { callable = search rules; cells = o }
 
 pub select-requires : goal.select-requires
 unfolding kind_of
 select-requires c =
-    let o : AreFlags (length c.args.out.now) c.args.a.now × AreCells (length c.args.out.now) c.args.b.now × AreCells (length c.args.out.now) c.args.c.now = rw c.in-IfElse.is at c.requires.operands in
+    let o : AreFlags (length c.args.out.now) c.args.a.now × AreCells (length c.args.out.now) c.args.b.now × AreCells (length c.args.out.now) c.args.c.now = subst (λ (k : TermKind). AreOperands (kind_of k) c.args.a.now c.args.b.now c.args.c.now (length c.args.out.now)) c.in-IfElse.is c.requires.operands in
     record {
       flags = o.0.flags;
       left = o.1.cells;
@@ -131,20 +66,6 @@ select-requires c =
       left_length = o.1.many;
       right_length = o.2.many;
     }
-
-pub at_each-requires-in-LabelIs : goal.at_each-requires-in-LabelIs
-unfolding kind_of
-at_each-requires-in-LabelIs c =
-    let e = rw c.number_of-number.ensures at c.in-LabelIs.is in
-    let o : AreCells (length c.args.out.now) c.args.a.now = rw e at c.requires.operands in
-    record { callable = search rules; cells = o }
-
-pub at_each-requires-in-LabelIsNot : goal.at_each-requires-in-LabelIsNot
-unfolding kind_of
-at_each-requires-in-LabelIsNot c =
-    let e = rw c.number_of-number-in-LabelIsNot.ensures at c.in-LabelIsNot.is in
-    let o : AreCells (length c.args.out.now) c.args.a.now = rw e at c.requires.operands in
-    record { callable = search rules; cells = o }
 
 pub returns-in-Add-clause-values : goal.returns-in-Add-clause-values
 unfolding kind_of pointwise
@@ -182,12 +103,6 @@ returns-in-Neg-clause-values c = λ k h.
     let v = c.at_each.ensures.values k h in
     rw c.in-Neg.is (search rules)
 
-pub returns-in-Not-clause-values : goal.returns-in-Not-clause-values
-unfolding kind_of pointwise
-returns-in-Not-clause-values c = λ k h.
-    let v = c.at_each-in-Not.ensures.values k h in
-    rw c.in-Not.is (search rules)
-
 pub returns-in-Abs-clause-values : goal.returns-in-Abs-clause-values
 unfolding kind_of pointwise
 returns-in-Abs-clause-values c = λ k h.
@@ -200,28 +115,12 @@ returns-in-Clip-clause-values c = λ k h.
     let v = c.at_each-in-Clip.ensures.values k h in
     rw c.in-Clip.is (search rules)
 
-pub returns-in-IsNull-clause-values : goal.returns-in-IsNull-clause-values
-unfolding kind_of pointwise
-returns-in-IsNull-clause-values c = λ k h.
-    let v = c.at_each-in-IsNull.ensures.values k h in
-    rw c.in-IsNull.is (search rules)
-
-pub returns-in-NotNull-clause-values : goal.returns-in-NotNull-clause-values
-unfolding kind_of pointwise
-returns-in-NotNull-clause-values c = λ k h.
-    let v = c.at_each-in-NotNull.ensures.values k h in
-    rw c.in-NotNull.is (search rules)
-
-pub returns-in-LabelIs-clause-values : goal.returns-in-LabelIs-clause-values
-unfolding kind_of pointwise
-returns-in-LabelIs-clause-values c = λ k h.
-    let v = c.at_each-in-LabelIs.ensures.values k h in
-    let e = rw c.number_of-number.ensures at c.in-LabelIs.is in
-    rw e (search rules)
-
-pub returns-in-LabelIsNot-clause-values : goal.returns-in-LabelIsNot-clause-values
-unfolding kind_of pointwise
-returns-in-LabelIsNot-clause-values c = λ k h.
-    let v = c.at_each-in-LabelIsNot.ensures.values k h in
-    let e = rw c.number_of-number-in-LabelIsNot.ensures at c.in-LabelIsNot.is in
-    rw e (search rules)
+pub write_flags-requires : goal.write_flags-requires
+write_flags-requires c =
+    let left = c.in_default in
+    let filter = flag-left c.args.kind.now c.requires.kind left.not-Add left.not-Sub left.not-Mul left.not-Div left.not-Neg left.not-Abs left.not-Clip left.not-FillNa left.not-IfElse in
+    record {
+      kind = c.requires.kind;
+      filter = filter;
+      operands = two-operands (kind_of c.args.kind.now) c.args.a.now c.args.b.now c.args.c.now (length c.args.out.now) filter c.requires.operands;
+    }
