@@ -10,9 +10,8 @@ pub(crate) struct Text {
     pub(crate) bytes: Vec<u8>,
 }
 
-/// A case: its texts, the words of its commands, what is chosen in its texts, the sizes of chunks, the status,
-/// and whether its cells are compared.
-#[derive(Drop)]
+/// A case: its texts, the words of its commands, what is chosen in its texts, the sizes of chunks, the
+/// status, and whether its cells are compared.
 pub(crate) struct Case {
     name: String,
     texts: Vec<Text>,
@@ -21,6 +20,21 @@ pub(crate) struct Case {
     chunks: Vec<String>,
     status: u8,
     cells: bool,
+}
+
+// One call lets it go, so that no caller's proof goes into its parts.
+impl Drop for Case {
+    fn drop(self) {
+        let Case {
+            name: _name,
+            texts: _texts,
+            commands: _commands,
+            choices: _choices,
+            chunks: _chunks,
+            status: _status,
+            cells: _cells,
+        } = self;
+    }
 }
 
 impl Case {
@@ -60,17 +74,11 @@ impl Case {
     /// The same case with the parts of a choice in its texts; it has no commands and no choices.
     pub(crate) fn chosen(&self, alloc: Global, choice: &str) -> Result<Case> {
         let parts = parts_of(alloc, choice)?;
-        let mut texts = Vec::new(alloc);
-        for text in self.texts.iter() {
-            texts.push(Text {
-                title: String::from_str(alloc, &text.title)?,
-                bytes: filled(alloc, &text.bytes, &parts)?,
-            })?;
+        let mut chosen = self.copy(alloc, &self.name)?;
+        for text in chosen.texts.iter_mut() {
+            text.bytes = filled(alloc, &text.bytes, &parts)?;
         }
-        Ok(Case {
-            texts,
-            ..self.copy(alloc, &self.name)?
-        })
+        Ok(chosen)
     }
 
     pub(crate) fn name(&self) -> &str {

@@ -6,10 +6,10 @@ ghost use Rattle.pl_load.specs.Loads.{IsReady};
 
 use crate::case::Case;
 use crate::fields::{Field, behind_field};
-use crate::parts::{keeper_of, shelf_of};
+use crate::parts::{Parts, SOUND};
 use anyhow::{Context, Result, bail};
 use pl_fixed::{Steps, write_day};
-use pl_load::{Loaded, load};
+use pl_load::Loaded;
 use pl_model::{World, cell_now};
 use pl_planner::reach_at;
 use pl_terms::{Checked, TermId};
@@ -54,27 +54,28 @@ fn loaded_of(alloc: Global, case: &Case, request: &RunRequest<'_>) -> Result<Opt
         },
         ..*request
     };
-    let mut shelf = shelf_of(alloc, case, 0)?;
-    let mut keeper = keeper_of(alloc, case, 0)?;
-    match load(alloc, &whole, &mut shelf, &mut keeper) {
-        Ok(loaded) => Ok(Some(loaded)),
-        Err(_) => Ok(None),
-    }
+    let mut parts = Parts::new(alloc, case, SOUND)?;
+    Ok(parts.load(alloc, &whole))
 }
 
 // The texts of a labels file by their codes: in the order in which they stand there first, as they are
 // written there.
 fn labels_of(alloc: Global, case: &Case, name: Option<&str>) -> Result<Vec<String>> {
-    let mut labels: Vec<String> = Vec::new(alloc);
     let title = format!(in alloc; "file {}", name.unwrap_or(""))?;
     let file = String::from_utf8_lossy(alloc, case.text(&title))?;
+    let mut labels = Vec::new(alloc);
+    put_labels(alloc, &file, &mut labels)?;
+    Ok(labels)
+}
+
+fn put_labels(alloc: Global, file: &str, labels: &mut Vec<String>) -> Result<()> {
     for line in file.lines().skip(1) {
         let text = line.splitn(4, ',').nth(3).unwrap_or("");
         if !text.is_empty() && !labels.iter().any(|label| label.as_str() == text) {
             labels.push(String::from_str(alloc, text)?)?;
         }
     }
-    Ok(labels)
+    Ok(())
 }
 
 fn table_differs<L: Ledger>(

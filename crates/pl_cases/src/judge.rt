@@ -274,18 +274,27 @@ fn failed(alloc: Global, part: Part, line: &[u8]) -> Result<Left> {
 // What was wanted and what came.
 fn told(alloc: Global, words: &[String], wanted: &Left, left: &Left) -> Result<String> {
     let mut text = String::new(alloc);
+    tell_words(&mut text, words)?;
+    tell_left(alloc, &mut text, "wanted", wanted)?;
+    tell_left(alloc, &mut text, "came", left)?;
+    Ok(text)
+}
+
+fn tell_words(text: &mut String, words: &[String]) -> Result<()> {
     for word in words {
         text.push_str(word)?;
         text.push_str(" ")?;
     }
-    for (title, left) in [("wanted", wanted), ("came", left)] {
-        let status = left.status;
-        let out = beginning(alloc, &left.out)?;
-        let err = beginning(alloc, &left.err)?;
-        let loaded = beginning(alloc, &left.loaded)?;
-        text.push_str(&format!(in alloc; "\n{title} {status}\n{out}{err}{loaded}")?)?;
-    }
-    Ok(text)
+    Ok(())
+}
+
+fn tell_left(alloc: Global, text: &mut String, title: &str, left: &Left) -> Result<()> {
+    let status = left.status;
+    text.push_str(&format!(in alloc; "\n{title} {status}\n")?)?;
+    text.push_str(&beginning(alloc, &left.out)?)?;
+    text.push_str(&beginning(alloc, &left.err)?)?;
+    text.push_str(&beginning(alloc, &left.loaded)?)?;
+    Ok(())
 }
 
 // Up to 2,000 bytes of a text.

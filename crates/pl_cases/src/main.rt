@@ -66,8 +66,14 @@ fn main(rt: HostRuntime) -> Result<()> {
 
 // Runs the cases of a file, and answers how many of them differ.
 fn judge_file(rt: &impl Print, alloc: Global, text: &str) -> Result<u64> {
-    let mut differing = 0u64;
     let mut reader = Reader::new(alloc);
+    let differing = judge_lines(rt, alloc, text, &mut reader)?;
+    Ok(differing.saturating_add(tell(rt, alloc, reader.case())?))
+}
+
+// Runs the cases that end with a line.
+fn judge_lines(rt: &impl Print, alloc: Global, text: &str, reader: &mut Reader) -> Result<u64> {
+    let mut differing = 0u64;
     for (number, line) in text.split('\n').enumerate() {
         let ended = reader
             .take(alloc, line)
@@ -76,7 +82,7 @@ fn judge_file(rt: &impl Print, alloc: Global, text: &str) -> Result<u64> {
             differing = differing.saturating_add(tell(rt, alloc, &case)?);
         }
     }
-    Ok(differing.saturating_add(tell(rt, alloc, reader.case())?))
+    Ok(differing)
 }
 
 // Runs a case and tells how it ended: 0 where all is as it states, else 1.

@@ -1,14 +1,17 @@
 // Parts in memory, and a run over them.
-ghost use Rattle.std.specs.Prelude.{◌≡◌, ◌<◌, ◌<ℤ◌, ◌-◌, IfOk, IsTrue, Some, length, slice_get};
+ghost use Rattle.std.specs.Prelude.{◌≡◌, ◌<◌, ◌<ℤ◌, ◌-◌, IfOk, IfSome, IsTrue, Some, length, slice_get};
 ghost use Rattle.pl_spec.specs.declared.RawAdjust.{RawAdjust};
 ghost use Rattle.pl_outside.specs.Lists.{IsAscending};
+ghost use Rattle.pl_load.specs.Loads.{IsReady};
 
 use crate::case::Case;
 use crate::recorded::RecordedKeeper;
 use anyhow::{Context, Result, bail};
 use pl_cli::run_program;
 use pl_fixed::{Steps, read_day};
+use pl_load::{Loaded, load};
 use pl_outside::{MemoryKeeper, MemoryShelf, MemorySink, RawAdjust};
+use pl_words::RunRequest;
 use std::alloc::Global;
 use std::marker::Brand;
 use std::sync::ledger::{Blank, Ledger};
@@ -30,7 +33,7 @@ pub(crate) const SOUND: Failing = Failing {
 };
 
 /// What a run left: its status, what it put on `out` and `err`, and the tables that it loaded, a line each.
-#[derive(Drop, PartialEq, Eq)]
+#[derive(PartialEq, Eq)]
 pub(crate) struct Left {
     pub(crate) status: u8,
     pub(crate) out: Vec<u8>,
@@ -38,13 +41,36 @@ pub(crate) struct Left {
     pub(crate) loaded: Vec<u8>,
 }
 
+// One call lets it go, so that no caller's proof goes into its parts.
+impl Drop for Left {
+    fn drop(self) {
+        let Left {
+            status: _status,
+            out: _out,
+            err: _err,
+            loaded: _loaded,
+        } = self;
+    }
+}
+
 /// Parts over the files and tables of a case.
-#[derive(Drop)]
 pub(crate) struct Parts {
     shelf: MemoryShelf,
     keeper: RecordedKeeper,
     out: MemorySink,
     err: MemorySink,
+}
+
+// One call lets them go, as above.
+impl Drop for Parts {
+    fn drop(self) {
+        let Parts {
+            shelf: _shelf,
+            keeper: _keeper,
+            out: _out,
+            err: _err,
+        } = self;
+    }
 }
 
 impl Parts {
@@ -55,6 +81,16 @@ impl Parts {
             out: sink_of(alloc, failing.out, 0, case.text("out").len())?,
             err: sink_of(alloc, failing.err, 3, 0)?,
         })
+    }
+
+    /// What a run reads; none where it is refused.
+    pub(crate) fn load(&mut self, alloc: Global, request: &RunRequest<'_>) -> Option<Loaded>
+        ensures { IfSome result IsReady }
+    {
+        match load(alloc, request, &mut self.shelf, &mut self.keeper) {
+            Ok(loaded) => Some(loaded),
+            Err(_) => None,
+        }
     }
 
     /// What a command leaves behind what stands there.
@@ -103,9 +139,14 @@ pub(crate) fn left_by(
     Parts::new(alloc, case, failing)?.leave(alloc, words)
 }
 
-/// The files of a case.
-pub(crate) fn shelf_of(alloc: Global, case: &Case, failing: u64) -> Result<MemoryShelf> {
+// The files of a case.
+fn shelf_of(alloc: Global, case: &Case, failing: u64) -> Result<MemoryShelf> {
     let mut shelf = MemoryShelf::new(alloc, vec![in alloc; failing]?);
+    put_files(alloc, case, &mut shelf)?;
+    Ok(shelf)
+}
+
+fn put_files(alloc: Global, case: &Case, shelf: &mut MemoryShelf) -> Result<()> {
     for text in case.texts() {
         if let Some(name) = text.title.strip_prefix("file ") {
             shelf
@@ -114,11 +155,11 @@ pub(crate) fn shelf_of(alloc: Global, case: &Case, failing: u64) -> Result<Memor
                 .context("memory")?;
         }
     }
-    Ok(shelf)
+    Ok(())
 }
 
-/// The tables of a case, as those of `adj.db`.
-pub(crate) fn keeper_of(alloc: Global, case: &Case, failing: u64) -> Result<MemoryKeeper> {
+// The tables of a case, as those of `adj.db`.
+fn keeper_of(alloc: Global, case: &Case, failing: u64) -> Result<MemoryKeeper> {
     let name = String::from_str(alloc, "adj.db")?;
     let splits = rows_of(alloc, case.text("splits"))?;
     let mergers = rows_of(alloc, case.text("mergers"))?;

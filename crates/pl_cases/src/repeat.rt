@@ -7,16 +7,23 @@ use std::alloc::Global;
 /// Adds the lines of `COUNT from FIRST step STEP|LINE`.
 pub(crate) fn add_lines(alloc: Global, bytes: &mut Vec<u8>, written: &str) -> Result<()> {
     let (head, line) = written.split_once('|').context("no line to repeat")?;
-    let (count, head) = head.split_once(" from ").context("no first number")?;
-    let (first, step) = head.split_once(" step ").context("no step")?;
-    let count = count.parse::<u32>()?;
-    let step = step.parse::<i64>()?;
-    let mut number = first.parse::<i64>()?;
+    let (count, first, step) = numbers_of(head)?;
+    let mut number = first;
     for _ in 0..count {
         add_line(bytes, &filled(alloc, line, number)?)?;
         number = number.checked_add(step).context("too large a number")?;
     }
     Ok(())
+}
+
+fn numbers_of(head: &str) -> Result<(u32, i64, i64)> {
+    let (count, head) = head.split_once(" from ").context("no first number")?;
+    let (first, step) = head.split_once(" step ").context("no step")?;
+    Ok((
+        count.parse::<u32>()?,
+        first.parse::<i64>()?,
+        step.parse::<i64>()?,
+    ))
 }
 
 // The line with what stands in braces replaced.

@@ -1,5 +1,5 @@
 -- How a table that is computed session by session ends.
-use Rattle.std.proofs.Common.{◌≡◌, ◌⊎◌, inl, inr, ℕ, ◌+◌, ◌≤◌, Bool, List, [], Option, Some, None, Result, Ok, Err, OnOk, IfOk, IfErr, IsErrOf, refl, sym, subst}
+use Rattle.std.proofs.Common.{◌≡◌, ◌⊎◌, inl, inr, ℕ, ◌+◌, ◌≤◌, Bool, List, Option, Some, None, Result, Ok, Err, OnOk, IfOk, IfErr, IsErrOf, refl, subst}
 use Rattle.pl_spec.specs.World.{World}
 use Rattle.pl_spec.specs.Table.{Pipeline}
 use Rattle.pl_outside.specs.Files.{Files}
@@ -22,8 +22,8 @@ use Rattle.pl_world.specs.Worlds.{owned_world}
 use Rattle.pl_cli.specs.declared.commands.Stats.{Stats}
 use Rattle.pl_cli.specs.Texts.{text_of, TakesSteps}
 use Rattle.pl_cli.specs.Runs.{Observed}
-use Rattle.pl_cli.specs.Commands.{IsEnded, loaded_text, loaded_days, stats_told}
-use Rattle.pl_cli.proofs.Ended.{seen, end-of, ends-written, quiet, when-ok, loaded-text}
+use Rattle.pl_cli.specs.Commands.{IsEnded, loaded_text, loaded_days}
+use Rattle.pl_cli.proofs.Ended.{seen, end-of, ends-written, quiet, loaded-text}
 
 -- it asks for the files and tables of its run
 are-held : (tells : Option Files) (lists : Option Lists) (q : DailyRequest) (held : Contents) → AreHeld tells lists (Some (Run (daily_run q))) held → AreHeld tells lists (Some (Daily q)) held

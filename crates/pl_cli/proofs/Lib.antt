@@ -8,3 +8,4 @@ pub mod Further
 pub mod Verified
 pub mod Explained
 pub mod Days
+pub mod Causes

@@ -1,124 +1,150 @@
 // The adapters over files of the system: as it should be, and where the system refuses.
 use super::*;
+use databases::{CLOSED, LOG, NULL, OPEN, Piece};
 use pl_outside::{
     AdjustKeeper, Failed, KeepError, RawAdjust, ReadError, Shelf, Table, read_file, write_bytes,
 };
-use sqlite::Connection;
+use std::alloc::Global;
 use std::fs::{self, File, OpenOptions};
-use std::io::{self, BufWriter};
+use std::io::{self, BufWriter, Write};
 use std::test::Fail;
 
-/// The device on which each write fails, since it is always full.
-fn full(rt: &HostRuntime) -> io::Result<File> {
-    OpenOptions::new().write(true).open(rt, "/dev/full")
+mod databases;
+
+// Less is proved of it than of an assertion that shows both sides.
+fn expect(is_so: bool, what: &'static str) -> Result<(), Fail> {
+    if is_so { Ok(()) } else { Err(what.into()) }
 }
 
 #[test]
 fn reads_files(rt: HostRuntime) -> Result<(), Fail> {
     fs::write(&rt, "ten", "0123456789")?;
     let mut shelf = FileShelf::new(&rt);
-    shelf.begin("ten").or(Err("ten"))?;
-    let mut into = [0u8; 4];
-    for (count, left) in [(4, b"0123"), (4, b"4567"), (2, b"8967"), (0, b"8967")] {
-        assert_eq!(rt; shelf.next(&mut into), Ok(count));
-        assert_eq!(rt; into.as_slice(), left.as_slice());
+    reads_ten(rt.alloc(), &mut shelf)
+}
+
+// The shelf is lent here and below, so that no exit lets it go.
+fn reads_ten(alloc: Global, shelf: &mut FileShelf<'_>) -> Result<(), Fail> {
+    expect(shelf.begin("ten").is_ok(), "ten")?;
+    expect(gives(shelf, 4, b"0123"), "the first piece")?;
+    expect(gives(shelf, 4, b"4567"), "the second piece")?;
+    expect(gives(shelf, 2, b"89--"), "the last piece")?;
+    expect(gives(shelf, 0, b"----"), "the end")?;
+    expect(gives_whole(alloc, shelf), "the whole file")?;
+    expect(shelf.faults == 0, "no fault")
+}
+
+// Whether so many bytes come next, and lie so in a room of four.
+fn gives(shelf: &mut FileShelf<'_>, count: usize, left: &[u8]) -> bool {
+    let mut into = [b'-'; 4];
+    shelf.next(&mut into) == Ok(count) && into.as_slice() == left
+}
+
+fn gives_whole(alloc: Global, shelf: &mut FileShelf<'_>) -> bool {
+    match read_file(alloc, shelf, "ten", 10) {
+        Ok(bytes) => bytes.as_slice() == b"0123456789".as_slice(),
+        Err(_) => false,
     }
-    let again = read_file(rt.alloc(), &mut shelf, "ten", 10).or(Err("again"))?;
-    assert_eq!(rt; again.as_slice(), b"0123456789".as_slice());
-    assert_eq!(rt; shelf.faults, 0);
-    Ok(())
 }
 
 #[test]
 fn counts_failed_reads(rt: HostRuntime) -> Result<(), Fail> {
     fs::write(&rt, "one", "1")?;
     let mut shelf = FileShelf::new(&rt);
-    let mut into = [7u8; 4];
-    shelf.begin("one").or(Err("one"))?;
+    fails_to_read(rt.alloc(), &mut shelf)
+}
+
+fn fails_to_read(alloc: Global, shelf: &mut FileShelf<'_>) -> Result<(), Fail> {
+    expect(shelf.begin("one").is_ok(), "one")?;
     // a file that isn't there, behind which no file is begun
-    assert_eq!(rt; shelf.begin("no-such-file"), Err(Failed));
-    assert_eq!(rt; shelf.faults, 1);
-    assert_eq!(rt; shelf.next(&mut into), Ok(0));
+    expect(shelf.begin("no-such-file") == Err(Failed), "no file")?;
+    expect(shelf.faults == 1, "one fault")?;
+    expect(gives(shelf, 0, b"----"), "nothing of no file")?;
     // a folder is opened as a file is, and then has no bytes to read
-    shelf.begin(".").or(Err("folder"))?;
-    assert_eq!(rt; shelf.next(&mut into), Err(Failed));
-    assert_eq!(rt; shelf.faults, 2);
-    assert_eq!(rt; into.as_slice(), [7, 7, 7, 7].as_slice());
-    for name in ["no-such-file", "."] {
-        let read = read_file(rt.alloc(), &mut shelf, name, 10);
-        assert_eq!(rt; read.err(), Some(ReadError::Failed), "{name}");
-    }
-    assert_eq!(rt; shelf.faults, 4);
-    Ok(())
+    expect(shelf.begin(".").is_ok(), "a folder")?;
+    let mut into = [7u8; 4];
+    expect(shelf.next(&mut into) == Err(Failed), "nothing of a folder")?;
+    expect(into == [7; 4] && shelf.faults == 2, "two faults")?;
+    expect(gives_none(alloc, shelf, "no-such-file"), "no whole file")?;
+    expect(gives_none(alloc, shelf, "."), "no whole folder")?;
+    expect(shelf.faults == 4, "four faults")
+}
+
+fn gives_none(alloc: Global, shelf: &mut FileShelf<'_>, name: &str) -> bool {
+    matches!(read_file(alloc, shelf, name, 10), Err(ReadError::Failed))
+}
+
+/// The device on which each write fails, since it is always full.
+fn full(rt: &HostRuntime) -> io::Result<File> {
+    OpenOptions::new().write(true).open(rt, "/dev/full")
+}
+
+// Whether a row is taken, and the faults that are counted.
+fn row_taken<W: Write + Drop>(to: W) -> (bool, u64) {
+    let mut stream = Stream::new(to);
+    let taken = write_bytes(&mut stream, b"row").is_ok();
+    (taken, stream.faults)
 }
 
 #[test]
 fn counts_failed_writes(rt: HostRuntime) -> Result<(), Fail> {
-    let mut held = Stream::new(fs::create(&rt, "held")?);
-    assert_eq!(rt; write_bytes(&mut held, b"row"), Ok(()));
-    assert_eq!(rt; held.faults, 0);
-    assert_eq!(rt; fs::read_to_string(&rt, "held")?.as_str(), "row");
-    let mut direct = Stream::new(full(&rt)?);
-    assert_eq!(rt; write_bytes(&mut direct, b"row"), Err(Failed));
-    assert_eq!(rt; direct.faults, 1);
+    expect(row_taken(fs::create(&rt, "held")?) == (true, 0), "a file")?;
+    expect(holds(&rt, "held", b"row"), "held")?;
+    expect(row_taken(full(&rt)?) == (false, 1), "a full device")
+}
+
+#[test]
+fn counts_failed_flushes(rt: HostRuntime) -> Result<(), Fail> {
     // what is gathered fails as late as it is written, which changes status 0 alone
     for (status, left) in [(0, 9), (7, 7)] {
-        let mut gathered = Stream::new(BufWriter::with_capacity(rt.alloc(), 8, full(&rt)?)?);
-        assert_eq!(rt; write_bytes(&mut gathered, b"row"), Ok(()));
-        assert_eq!(rt; gathered.faults, 0);
-        assert_eq!(rt; flushed(&mut gathered, &mut direct, status), left);
-        assert_eq!(rt; gathered.faults, 1);
+        let gathered = BufWriter::with_capacity(rt.alloc(), 8, full(&rt)?)?;
+        expect(
+            flushed_row(&rt, gathered, status)? == (left, 0, 1),
+            "status",
+        )?;
     }
     Ok(())
 }
 
-const SPLITS: &str =
-    "CREATE TABLE splits (id INTEGER PRIMARY KEY, effective_date INTEGER NOT NULL, \
-    num INTEGER NOT NULL, den INTEGER NOT NULL, sid INTEGER NOT NULL) STRICT; \
-    INSERT INTO splits VALUES (2, 1704326400, 1, 2, 1)";
-
-/// Makes a database file.
-fn make(rt: &HostRuntime, path: &str, script: &str) -> Result<(), sqlite::Error> {
-    let mut connection = Connection::open(rt, path)?;
-    connection.execute_batch(script)?;
-    connection.close()
+// The status that is left where a row was gathered, and the faults before and after that.
+fn flushed_row<W: Write + Drop>(rt: &HostRuntime, to: W, status: u8) -> io::Result<(u8, u64, u64)> {
+    let mut err = Stream::new(full(rt)?);
+    let mut out = Stream::new(to);
+    let _ = write_bytes(&mut out, b"row");
+    let before = out.faults;
+    let left = flushed(&mut out, &mut err, status);
+    Ok((left, before, out.faults))
 }
 
 #[test]
 fn reads_database_files(rt: HostRuntime) -> Result<(), Fail> {
-    make(&rt, "closed.db", SPLITS)?;
-    make(
-        &rt,
-        "null.db",
-        "CREATE TABLE splits (id, effective_date, num, den, sid); INSERT INTO splits VALUES (1, 2, NULL, 4, 5)",
-    )?;
-    fs::write(&rt, "text.db", "id,effective_date,num,den,sid\n")?;
-    fs::write(&rt, "empty.db", "")?;
-    make(&rt, "cut.db", SPLITS)?;
-    fs::write(&rt, "cut.db-journal", [0xd9u8, 0xd5].as_slice())?;
-    // what is written to an open file stands in its log alone
-    let mut open = Connection::open(&rt, "open.db")?;
-    open.execute_batch(SPLITS)?;
-    let bytes = fs::read(&rt, "closed.db")?;
+    make_all(&rt)?;
     let mut keeper = FileKeeper::new(&rt);
     let mut rows = Vec::new(rt.alloc());
-    for (name, table, loaded, faults, count) in [
-        ("closed.db", Table::Splits, Ok(()), 0, 1),
-        ("open.db", Table::Splits, Ok(()), 0, 2),
-        ("closed.db", Table::Mergers, Err(KeepError::Failed), 1, 2),
-        ("null.db", Table::Splits, Err(KeepError::Failed), 2, 2),
-        ("text.db", Table::Splits, Err(KeepError::Failed), 3, 2),
-        ("empty.db", Table::Splits, Err(KeepError::Failed), 4, 2),
-        ("cut.db", Table::Splits, Err(KeepError::Failed), 5, 2),
-        ("no-such.db", Table::Splits, Err(KeepError::Failed), 6, 2),
-        (".", Table::Splits, Err(KeepError::Failed), 7, 2),
-    ] {
-        assert_eq!(rt;
-            keeper.load(rt.alloc(), name, table, &mut rows),
-            loaded,
-            "{name}"
-        );
-        assert_eq!(rt; (keeper.faults, rows.len()), (faults, count), "{name}");
+    loads_all(rt.alloc(), &mut keeper, &mut rows)
+}
+
+const LOADS: [(&str, Table, Result<(), KeepError>, u64, usize); 9] = [
+    ("closed.db", Table::Splits, Ok(()), 0, 1),
+    ("open.db", Table::Splits, Ok(()), 0, 2),
+    ("closed.db", Table::Mergers, Err(KeepError::Failed), 1, 2),
+    ("null.db", Table::Splits, Err(KeepError::Failed), 2, 2),
+    ("text.db", Table::Splits, Err(KeepError::Failed), 3, 2),
+    ("empty.db", Table::Splits, Err(KeepError::Failed), 4, 2),
+    ("cut.db", Table::Splits, Err(KeepError::Failed), 5, 2),
+    ("no-such.db", Table::Splits, Err(KeepError::Failed), 6, 2),
+    (".", Table::Splits, Err(KeepError::Failed), 7, 2),
+];
+
+fn loads_all(
+    alloc: Global,
+    keeper: &mut FileKeeper<'_>,
+    rows: &mut Vec<RawAdjust>,
+) -> Result<(), Fail> {
+    for (name, table, loaded, faults, count) in LOADS.iter() {
+        let answer = keeper.load(alloc, name, *table, rows);
+        expect(answer == *loaded, name)?;
+        expect(keeper.faults == *faults && rows.len() == *count, name)?;
     }
     let split = RawAdjust {
         id: 2,
@@ -127,17 +153,70 @@ fn reads_database_files(rt: HostRuntime) -> Result<(), Fail> {
         den: 2,
         sid: 1,
     };
-    assert_eq!(rt; rows.as_slice(), [split, split].as_slice());
+    expect(rows.as_slice() == [split, split].as_slice(), "the rows")
+}
+
+#[test]
+fn leaves_database_files(rt: HostRuntime) -> Result<(), Fail> {
+    make_all(&rt)?;
+    load_some(&rt);
     // no file is made or changed
-    for name in [
-        "no-such.db",
-        "no-such.db-wal",
-        "empty.db-wal",
-        "text.db-wal",
-    ] {
-        assert!(rt; fs::read(&rt, name).is_err(), "{name}");
+    expect(!is_there(&rt, "no-such.db"), "no file")?;
+    expect(!is_there(&rt, "no-such.db-wal"), "no log of no file")?;
+    expect(!is_there(&rt, "empty.db-wal"), "no log of an empty file")?;
+    expect(!is_there(&rt, "text.db-wal"), "no log of a text")?;
+    expect(holds(&rt, "empty.db", b""), "empty.db")?;
+    expect(holds_pieces(&rt, "closed.db", &CLOSED)?, "closed.db")
+}
+
+fn load_some(rt: &HostRuntime) {
+    let mut keeper = FileKeeper::new(rt);
+    let mut rows = Vec::new(rt.alloc());
+    for name in ["closed.db", "no-such.db", "empty.db", "text.db"] {
+        let _ = keeper.load(rt.alloc(), name, Table::Splits, &mut rows);
     }
-    assert!(rt; fs::read(&rt, "empty.db")?.is_empty());
-    assert_eq!(rt; fs::read(&rt, "closed.db")?.as_slice(), bytes.as_slice());
+}
+
+fn is_there(rt: &HostRuntime, name: &str) -> bool {
+    fs::read(rt, name).is_ok()
+}
+
+fn holds(rt: &HostRuntime, name: &str, bytes: &[u8]) -> bool {
+    match fs::read(rt, name) {
+        Ok(held) => held.as_slice() == bytes,
+        Err(_) => false,
+    }
+}
+
+fn holds_pieces(rt: &HostRuntime, name: &str, pieces: &[Piece]) -> Result<bool, Fail> {
+    let bytes = bytes_of(rt.alloc(), pieces)?;
+    Ok(holds(rt, name, &bytes))
+}
+
+fn make_all(rt: &HostRuntime) -> Result<(), Fail> {
+    make(rt, "closed.db", &CLOSED)?;
+    make(rt, "null.db", &NULL)?;
+    // what is written to an open file stands in its log alone
+    make(rt, "open.db", &OPEN)?;
+    make(rt, "open.db-wal", &LOG)?;
+    make(rt, "cut.db", &CLOSED)?;
+    make(rt, "cut.db-journal", &[(0, b"\xd9\xd5")])?;
+    make(rt, "text.db", &[(0, b"id,effective_date,num,den,sid\n")])?;
+    make(rt, "empty.db", &[])
+}
+
+// Makes a file of these pieces.
+fn make(rt: &HostRuntime, name: &str, pieces: &[Piece]) -> Result<(), Fail> {
+    let bytes = bytes_of(rt.alloc(), pieces)?;
+    fs::write(rt, name, bytes.as_slice())?;
     Ok(())
+}
+
+fn bytes_of(alloc: Global, pieces: &[Piece]) -> Result<Vec<u8>, Fail> {
+    let mut bytes = Vec::new(alloc);
+    for (place, piece) in pieces {
+        bytes.resize(*place, 0u8)?;
+        bytes.extend_from_slice(piece)?;
+    }
+    Ok(bytes)
 }

@@ -14,13 +14,25 @@ use std::alloc::Global;
 
 /// All that a run works with: the daily evaluation, for each asset the place of its next bar, the bars and the
 /// adjustments of a day, and a line of the table.
-#[derive(Drop)]
 pub struct Desk<'a> {
     pub(crate) daily: Daily<'a>,
     pub(crate) places: Vec<usize>,
     pub(crate) bars: Vec<DayBar>,
     pub(crate) events: Vec<DayEvent>,
     pub(crate) line: Line,
+}
+
+// One call lets it go, so that no run's proof goes into its parts.
+impl<'a> Drop for Desk<'a> {
+    fn drop(self) {
+        let Desk {
+            daily: _daily,
+            places: _places,
+            bars: _bars,
+            events: _events,
+            line: _line,
+        } = self;
+    }
 }
 
 impl<'a> Desk<'a> {
@@ -33,12 +45,18 @@ impl<'a> Desk<'a> {
         requires { IsMade world.now }
         ensures { IfOk result (IsDesk world.now (pipeline_of checked.entry.now) 0) }
     {
+        // the evaluation last: no exit lets it go
+        let places = vec![in alloc; 0; world.assets.len()]?;
+        let bars = Vec::with_capacity(alloc, world.assets.len())?;
+        let events = Vec::with_capacity(alloc, world.adjustments.len())?;
+        let line = Line::reserve(alloc)?;
+        let daily = Daily::new(alloc, checked, world.assets, world.labels)?;
         Ok(Desk {
-            daily: Daily::new(alloc, checked, world.assets, world.labels)?,
-            places: vec![in alloc; 0; world.assets.len()]?,
-            bars: Vec::with_capacity(alloc, world.assets.len())?,
-            events: Vec::with_capacity(alloc, world.adjustments.len())?,
-            line: Line::reserve(alloc)?,
+            daily,
+            places,
+            bars,
+            events,
+            line,
         })
     }
 }

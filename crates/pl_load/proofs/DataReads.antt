@@ -1,5 +1,5 @@
 -- The data of a world, part by part.
-use Rattle.std.proofs.Common.{◌≡◌, ℕ, ℤ, Bool, List, [], ◌∷◌, Option, Some, None, Result, Ok, Err, refl}
+use Rattle.std.proofs.Common.{◌≡◌, ℕ, ℤ, Bool, List, Option, Some, None, Result, Ok, Err, refl}
 use Rattle.std.specs.Option.{ForSome}
 use Rattle.pl_spec.specs.declared.AssetRow.{AssetRow}
 use Rattle.pl_spec.specs.declared.BarRow.{BarRow}
@@ -15,24 +15,16 @@ use Rattle.pl_words.specs.declared.request.InputFile.TheVariants.{Pipeline, Sess
 use Rattle.pl_words.specs.Request.{WorldNames, world_name}
 use Rattle.pl_judge.specs.declared.fault.Fault.{Fault}
 use Rattle.pl_judge.specs.Contents.{Contents}
-use Rattle.pl_judge.specs.Held.{labels_asked, bars_in, adjustments_asked, revised_asked}
-use Rattle.pl_judge.specs.Work.{read_step, labels_steps, bars_rule, adjustments_steps, revisions_steps, data_steps}
+use Rattle.pl_judge.specs.Held.{adjustments_asked, revised_asked}
+use Rattle.pl_judge.specs.Work.{adjustments_steps, revisions_steps, data_steps}
 use Rattle.pl_judge.proofs.Steps.{stage-stops, stage-goes_on, stage-done, stage-weaker, always}
 use Rattle.pl_load.specs.Reads.{IsRead, AreLoaded}
-use Rattle.pl_load.specs.Before.{DaysRead, AssetsRead}
+use Rattle.pl_load.specs.Before.{DaysRead, AssetsRead, LabelsRead, BarsRead, with_rows, with_adjustments}
 use Rattle.pl_load.specs.Loads.{AreDataHeld, IsData}
 use Rattle.pl_load.proofs.FileReads.{held_under, held-told}
 use Rattle.pl_load.proofs.TableReads.{listed_under, listed-told}
 
 -- ---- what the stages say
-
-abbrev pub LabelsRead : Option Files → Bool → WorldNames → List AssetRow → Result LabelTable Fault → Type 0
-LabelsRead tells sound q assets r =
-    IsRead tells sound q.labels (labels_steps assets q.labels) (λ held x. labels_asked assets q.labels held ≡ x) r
-
-abbrev pub BarsRead : Option Files → Bool → WorldNames → List ℤ → List AssetRow → Result (List BarRow) Fault → Type 0
-BarsRead tells sound q days assets r =
-    IsRead tells sound (Some q.bars) (λ held. read_step Bars (bars_rule days assets) held ∷ []) (λ held x. bars_in days assets held ≡ x) r
 
 abbrev pub AdjustmentsRead : Option Lists → Bool → WorldNames → List AssetRow → Result (List ColumnAdjustment) Fault → Type 0
 AdjustmentsRead lists sound q assets r =
@@ -162,7 +154,7 @@ module _ (tells : Option Files) (lists : Option Lists) (sound keeper : Bool) (q 
         world = tt;
       }
 
-  pub no-revisions : (days : List ℤ) (assets : List AssetRow) (labels : LabelTable) (bars : List BarRow) (adjustments : List ColumnAdjustment) (fault : Fault)
+  no-revisions : (days : List ℤ) (assets : List AssetRow) (labels : LabelTable) (bars : List BarRow) (adjustments : List ColumnAdjustment) (fault : Fault)
       → DaysRead tells sound q (Ok days) → AssetsRead tells sound q (Ok assets) → LabelsRead tells sound q assets (Ok labels) → BarsRead tells sound q days assets (Ok bars)
       → AdjustmentsRead lists keeper q assets (Ok adjustments) → RevisionsRead tells sound q days assets adjustments (Err fault)
       → IsData tells lists sound keeper q (Err fault)
@@ -179,7 +171,7 @@ module _ (tells : Option Files) (lists : Option Lists) (sound keeper : Bool) (q 
 
   -- ---- all was read
 
-  pub all-read : (w : OwnedWorld) (adjustments : List ColumnAdjustment) → DaysRead tells sound q (Ok w.sessions) → AssetsRead tells sound q (Ok w.assets)
+  all-read : (w : OwnedWorld) (adjustments : List ColumnAdjustment) → DaysRead tells sound q (Ok w.sessions) → AssetsRead tells sound q (Ok w.assets)
       → LabelsRead tells sound q w.assets (Ok w.labels) → BarsRead tells sound q w.sessions w.assets (Ok w.bars) → AdjustmentsRead lists keeper q w.assets (Ok adjustments)
       → RevisionsRead tells sound q w.sessions w.assets adjustments (Ok w.adjustments) → IsData tells lists sound keeper q (Ok w)
   unfolding data_steps
@@ -192,3 +184,12 @@ module _ (tells : Option Files) (lists : Option Lists) (sound keeper : Bool) (q 
         days = s.means;
         world = rw (s.means, a.means, l.means, b.means, j.means, h.means) refl;
       }
+
+  -- ... or all but the revisions
+  pub rest-read : (days : List ℤ) (assets : List AssetRow) (labels : LabelTable) (bars : List BarRow) (adjustments : List ColumnAdjustment)
+      (r : Result (List ColumnAdjustment) Fault) → DaysRead tells sound q (Ok days) → AssetsRead tells sound q (Ok assets)
+      → LabelsRead tells sound q assets (Ok labels) → BarsRead tells sound q days assets (Ok bars) → AdjustmentsRead lists keeper q assets (Ok adjustments)
+      → RevisionsRead tells sound q days assets adjustments r → IsData tells lists sound keeper q (with_rows days assets (with_adjustments labels bars r))
+  rest-read days assets labels bars adjustments (Ok revised) s a l b j h =
+      all-read (record { sessions = days; assets = assets; labels = labels; bars = bars; adjustments = revised }) adjustments s a l b j h
+  rest-read days assets labels bars adjustments (Err fault) s a l b j h = no-revisions days assets labels bars adjustments fault s a l b j h

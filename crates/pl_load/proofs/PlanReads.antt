@@ -1,30 +1,28 @@
 -- A plan as a whole: the pipeline file, the sessions, and the range.
-use Rattle.std.proofs.Common.{◌≡◌, ℕ, ℤ, Bool, true, List, [], ◌∷◌, Option, Some, None, Result, Ok, Err, refl}
+use Rattle.std.proofs.Common.{◌≡◌, ℕ, ℤ, Bool, true, List, [], ◌∷◌, Option, Some, None, Result, Ok, Err, IfOk, refl}
 use Rattle.std.specs.Option.{ForSome}
 use Rattle.pl_outside.specs.Files.{Files}
 use Rattle.pl_outside.specs.Lists.{Lists}
 use Rattle.pl_terms.specs.Checked.{Parts, pipeline_of}
-use Rattle.pl_planner.specs.Plans.{IsPlanOf}
+use Rattle.pl_planner.specs.Plans.{Planned, IsPlanOf}
 use Rattle.pl_words.specs.declared.request.InputFile.{InputFile}
 use Rattle.pl_words.specs.declared.request.InputFile.TheVariants.{Pipeline, Sessions, Assets, Labels, Bars, Revisions, Payouts, Derivation}
 use Rattle.pl_words.specs.Request.{PlanRequest, Plan, name_asked}
 use Rattle.pl_judge.specs.declared.fault.Fault.{Fault}
 use Rattle.pl_judge.specs.Contents.{Contents, AreHeld}
-use Rattle.pl_judge.specs.Held.{pipeline_in, days_in}
-use Rattle.pl_judge.specs.Work.{pipeline_steps, sessions_step}
+use Rattle.pl_judge.specs.Held.{days_in}
+use Rattle.pl_judge.specs.Work.{sessions_step}
 use Rattle.pl_judge.specs.Planning.{HasRows}
 use Rattle.pl_judge.specs.Range.{dates_steps, plan_steps, index_of}
 use Rattle.pl_judge.specs.Stages.{StageEnds}
 use Rattle.pl_judge.proofs.Steps.{stage-stops, stage-goes_on, stage-done, stage-weaker, always}
 use Rattle.pl_load.specs.declared.planning.PlannedPipeline.{PlannedPipeline}
 use Rattle.pl_load.specs.Reads.{IsRead}
+use Rattle.pl_load.specs.Before.{ScriptRead, with_plan}
 use Rattle.pl_load.specs.Loads.{IsPlanLoad}
 use Rattle.pl_load.proofs.FileReads.{held_under, held-told}
 
 module _ (tells : Option Files) (sound : Bool) (q : PlanRequest) where
-  abbrev ScriptRead : Result Parts Fault → Type 0
-  ScriptRead r = IsRead tells sound (Some q.pipeline) pipeline_steps (λ held c. pipeline_in held ≡ pipeline_of c) r
-
   abbrev DaysRead : Result (List ℤ) Fault → Type 0
   DaysRead r = IsRead tells sound (Some q.sessions) (λ held. sessions_step held ∷ []) (λ held days. days_in held ≡ days) r
 
@@ -63,7 +61,7 @@ module _ (tells : Option Files) (sound : Bool) (q : PlanRequest) where
   abbrev left : Option (List ℕ)
   left = held_under tells (Some q.sessions)
 
-  pub no-script : (fault : Fault) → ScriptRead (Err fault) → IsPlanLoad tells sound q (Err fault)
+  pub no-script : (fault : Fault) → ScriptRead tells sound q (Err fault) → IsPlanLoad tells sound q (Err fault)
   no-script fault h =
       record {
         held = two h.file left;
@@ -72,7 +70,7 @@ module _ (tells : Option Files) (sound : Bool) (q : PlanRequest) where
         planned = tt;
       }
 
-  pub no-days : (c : Parts) (fault : Fault) → ScriptRead (Ok c) → DaysRead (Err fault) → IsPlanLoad tells sound q (Err fault)
+  pub no-days : (c : Parts) (fault : Fault) → ScriptRead tells sound q (Ok c) → DaysRead (Err fault) → IsPlanLoad tells sound q (Err fault)
   no-days c fault h s =
       record {
         held = two h.file s.file;
@@ -81,7 +79,7 @@ module _ (tells : Option Files) (sound : Bool) (q : PlanRequest) where
         planned = tt;
       }
 
-  pub no-range : {T : Type 0} (c : Parts) (days : List ℤ) (fault : Fault) → ScriptRead (Ok c) → DaysRead (Ok days)
+  pub no-range : {T : Type 0} (c : Parts) (days : List ℤ) (fault : Fault) → ScriptRead tells sound q (Ok c) → DaysRead (Ok days)
       → StageEnds {T = T} true true (dates_steps q.from q.to None days) (Err fault) → IsPlanLoad tells sound q (Err fault)
   no-range c days fault h s r =
       record {
@@ -92,7 +90,7 @@ module _ (tells : Option Files) (sound : Bool) (q : PlanRequest) where
         planned = tt;
       }
 
-  pub no-plan : {T U : Type 0} (c : Parts) (days : List ℤ) (x : T) (from to : ℕ) (fault : Fault) → ScriptRead (Ok c) → DaysRead (Ok days)
+  no-plan : {T U : Type 0} (c : Parts) (days : List ℤ) (x : T) (from to : ℕ) (fault : Fault) → ScriptRead tells sound q (Ok c) → DaysRead (Ok days)
       → StageEnds true true (dates_steps q.from q.to None days) (Ok x) → from ≡ index_of days q.from.day → to ≡ index_of days q.to.day
       → StageEnds {T = U} true true (plan_steps (pipeline_of c) days from to) (Err fault) → IsPlanLoad tells sound q (Err fault)
   no-plan c days x from to fault h s r at until e =
@@ -104,7 +102,7 @@ module _ (tells : Option Files) (sound : Bool) (q : PlanRequest) where
         planned = tt;
       }
 
-  pub all-planned : {T U : Type 0} (l : PlannedPipeline) (days : List ℤ) (x : T) (y : U) (from to : ℕ) → ScriptRead (Ok l.checked) → DaysRead (Ok days)
+  all-planned : {T U : Type 0} (l : PlannedPipeline) (days : List ℤ) (x : T) (y : U) (from to : ℕ) → ScriptRead tells sound q (Ok l.checked) → DaysRead (Ok days)
       → StageEnds true true (dates_steps q.from q.to None days) (Ok x) → from ≡ index_of days q.from.day → to ≡ index_of days q.to.day
       → StageEnds true true (plan_steps (pipeline_of l.checked) days from to) (Ok y) → IsPlanOf days (pipeline_of l.checked) l.plan
       → HasRows days (pipeline_of l.checked) l.plan → l.plan.from ≡ from
@@ -117,3 +115,11 @@ module _ (tells : Option Files) (sound : Bool) (q : PlanRequest) where
             (stage-goes_on h.ends (stage-goes_on s.ends (stage-goes_on r (stage-done e))));
         planned = record { pipeline = h.means; plan = rw s.means plan; rows = rw s.means rows; from = rw (s.means, ← at, is) refl };
       }
+
+  -- the plan is made or it is not
+  pub plan-judged : {T : Type 0} (c : Parts) (days : List ℤ) (x : T) (from to : ℕ) (r : Result Planned Fault) → ScriptRead tells sound q (Ok c) → DaysRead (Ok days)
+      → StageEnds true true (dates_steps q.from q.to None days) (Ok x) → from ≡ index_of days q.from.day → to ≡ index_of days q.to.day
+      → StageEnds true true (plan_steps (pipeline_of c) days from to) r → IfOk r (IsPlanOf days (pipeline_of c)) → IfOk r (HasRows days (pipeline_of c))
+      → IfOk r (λ plan. plan.from ≡ from) → IsPlanLoad tells sound q (with_plan c r)
+  plan-judged c days x from to (Ok plan) h s g at until e is rows same = all-planned (record { checked = c; plan = plan }) days x plan from to h s g at until e is rows same
+  plan-judged c days x from to (Err fault) h s g at until e is rows same = no-plan c days x from to fault h s g at until e

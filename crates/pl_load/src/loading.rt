@@ -1,12 +1,12 @@
 // What a run reads and judges before its first row.
-ghost use Rattle.std.specs.Prelude.{◌≡◌, ◌<◌, length, None, Ok, IfOk, IfErr, IfSome};
+ghost use Rattle.std.specs.Prelude.{◌≡◌, ◌<◌, length, None, Ok, All, IfOk, IfErr, IfSome};
 ghost use Rattle.pl_outside.specs.Counts.{Rose};
 ghost use Rattle.pl_outside.specs.Left.{Leaves, IsUntouched};
 ghost use Rattle.pl_words.specs.Views.{run_of, world_names_of};
 ghost use Rattle.pl_judge.specs.Stages.{IsRisen};
 ghost use Rattle.pl_world.specs.Worlds.{AreMadeFor, IsOwned};
 ghost use Rattle.pl_judge.specs.declared.fault.Fault.TheVariants.{Memory};
-ghost use Rattle.pl_load.specs.Before.{PipelineRead, DaysRead, AssetsRead, with_pipeline, with_rows};
+ghost use Rattle.pl_load.specs.Before.{PipelineRead, DaysRead, AssetsRead, IsRest, with_pipeline, with_rows};
 ghost use Rattle.pl_load.specs.Loads.{IsData, IsKnown, IsLoad, IsReady};
 
 use crate::inputs::{
@@ -177,7 +177,8 @@ fn read_rows<S: Shelf, K: AdjustKeeper>(
     shelf: &mut S,
     keeper: &mut K,
 ) -> Result<WorldRows, Fault>
-    ensures parts { DaysRead (S.holds shelf.old) (S.sound shelf.old) (world_names_of names.now) (Ok sessions.now)
+    ensures parts { DaysRead (S.holds shelf.old) (S.sound shelf.old) (world_names_of names.now)
+        (Ok sessions.now)
         → AssetsRead (S.holds shelf.old) (S.sound shelf.old) (world_names_of names.now) (Ok assets.now)
         → IsData (S.holds shelf.old) (K.lists keeper.old) (S.sound shelf.old) (K.sound keeper.old)
         (world_names_of names.now) (with_rows sessions.now assets.now result) }
@@ -191,11 +192,33 @@ fn read_rows<S: Shelf, K: AdjustKeeper>(
 {
     let labels = read_labels(alloc, shelf, names.labels, assets)?;
     let bars = read_bars(alloc, shelf, names.bars, sessions, assets)?;
-    let loaded = read_adjustments(alloc, keeper, names.adjustments, assets)?;
-    let adjustments = read_revisions(alloc, shelf, names.revisions, sessions, assets, loaded)?;
+    let adjustments = read_revised(alloc, names, sessions, assets, shelf, keeper)?;
     Ok(WorldRows {
         labels,
         bars,
         adjustments,
     })
+}
+
+// The adjustments of the world of these names with their revisions, behind the labels and the bars.
+fn read_revised<S: Shelf, K: AdjustKeeper>(
+    alloc: Global,
+    names: &WorldNames<'_>,
+    sessions: &Sessions,
+    assets: &Assets,
+    shelf: &mut S,
+    keeper: &mut K,
+) -> Result<Adjustments, Fault>
+    ensures parts { IsRest (S.holds shelf.old) (K.lists keeper.old) (S.sound shelf.old) (K.sound keeper.old)
+        (world_names_of names.now) sessions.now assets.now result }
+    ensures cols { IfOk result (All (λ x. x.col < length assets.now)) }
+    ensures shelf { Leaves S.holds S.sound S.faults shelf.old shelf.new }
+    ensures keeper { Leaves K.lists K.sound K.faults keeper.old keeper.new }
+    ensures alone { (world_names_of names.now).adjustments ≡ None
+        → IsUntouched K.faults K.calls keeper.old keeper.new }
+    ensures risen { IfErr result (IsRisen (Rose (S.faults shelf.old) (S.faults shelf.new))
+        (Rose (K.faults keeper.old) (K.faults keeper.new))) }
+{
+    let loaded = read_adjustments(alloc, keeper, names.adjustments, assets)?;
+    read_revisions(alloc, shelf, names.revisions, sessions, assets, loaded)
 }

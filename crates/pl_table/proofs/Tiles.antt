@@ -28,7 +28,7 @@ use Rattle.pl_table.proofs.Outputs.{columns-long, has-column, term-there, output
 abbrev pub places_of : Outcome → ℕ
 places_of o = length o.cols.now
 
-row_within : (i n m j : ℕ) → i < n → j < m → i * m + j < n * m
+pub row_within : (i n m j : ℕ) → i < n → j < m → i * m + j < n * m
 row_within i n m j h l = let r = mul-le (i + 1) m n m (omega arith) (omega arith) in let e : (i + 1) * m ≡ i * m + m = omega arith in omega (arith, r, e)
 
 pub start_within : (places width j i : ℕ) → j < 8 → i < places → (j * places + i) * width + width ≤ 8 * places * width

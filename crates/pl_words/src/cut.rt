@@ -60,7 +60,7 @@ pub(crate) fn value<'a>(
     }
 }
 
-#[tactic(auto, using(crate::proofs::Reading::one_is, crate::proofs::Reading::one_bad, crate::proofs::Reading::many, crate::proofs::Reading::none_is))]
+#[tactic(auto, using(crate::proofs::Reading::one_of))]
 fn one<'a>(values: &[&'a str]) -> Result<Option<&'a str>, Refused>
     ensures { MatchResult result (λ v. one_value (map (λ s. s.now) values.now)
         ≡ Some (option_map (λ s. s.now) v))

@@ -1,20 +1,50 @@
-use Rattle.std.proofs.Common.{Err, map, string_bytes}
+use Rattle.std.proofs.Common.{Err, map, string_bytes, ap, ◌∙◌, refl}
 use Rattle.pl_words.specs.Request.{request}
-use Rattle.pl_judge.specs.Faults.{judged_line}
+use Rattle.pl_judge.specs.Faults.{judged_line, judged_status}
 use Rattle.pl_cli.specs.Commands.{fault_of, numbers_told}
 use Rattle.pl_judge.specs.declared.fault.Fault.TheVariants.{Memory}
 use Rattle.pl_cli.proofs.Finished.{asked-lent, run-of, no-words}
+use Rattle.pl_cli.proofs.Causes.{by-answer, part-left, part-alone, sink-left}
 use Rattle.pl_cli.proofs.top.run_program.Goals as goal
 
-pub returns-in-Ok-clause-run : goal.returns-in-Ok-clause-run
-returns-in-Ok-clause-run g c =
+pub returns-in-Ok : goal.returns-in-Ok
+returns-in-Ok g c =
     let asked = asked-lent _ _ c.as_ref.result c.in-Ok.ensures.asked c.as_ref.ensures.value in
     let told = asked-lent _ _ c.as_ref-in-Ok.result c.in-Ok.ensures.asked c.as_ref-in-Ok.ensures.value in
-    let run = run-of _ _ c.answer-ended.result c.finish.result c.finish.ensures.status c.answer-ended.ensures.ended in
     let ended = c.answer-ended.result in
-    (judged_line (request (map (λ s. string_bytes s) c.args.words.now)) (fault_of ended), numbers_told ended, rw asked run, rw (← told) at c.finish.ensures.told)
+    let e = c.answer-ended.ensures in
+    let run = run-of _ _ ended c.finish.result c.finish.ensures.status e.ended in
+    let causes = by-answer _ _ _ _ _ ended c.finish.result c.finish.ensures.status e.caused in
+    record {
+      run = (judged_line (request (map (λ s. string_bytes s) c.args.words.now)) (fault_of ended), numbers_told ended, rw asked run, rw (← told) at c.finish.ensures.told);
+      usage = λ two. asked ∙ causes.refused two;
+      refused = λ none other. c.finish.ensures.status ∙ ap judged_status (e.refused (rw (← asked) none));
+      read = causes.unread;
+      store = causes.unloaded;
+      write = causes.unwritten;
+      kept = causes.same;
+      alone = λ none. e.alone (rw (← asked) none);
+      shelf = e.shelf;
+      keeper = e.keeper;
+      out = e.out;
+      err = c.finish.ensures.err;
+    }
 
-pub returns-in-Err-clause-run : goal.returns-in-Err-clause-run
-returns-in-Err-clause-run g c =
+pub returns-in-Err : goal.returns-in-Err
+returns-in-Err g c =
     let run = run-of _ _ (Err Memory) c.finish-in-Err.result c.finish-in-Err.ensures.status (no-words _ _) in
-    (_, _, run, c.finish-in-Err.ensures.told)
+    let causes = by-answer _ _ _ _ _ (Err Memory) c.finish-in-Err.result c.finish-in-Err.ensures.status (refl, refl, refl) in
+    record {
+      run = (_, _, run, c.finish-in-Err.ensures.told);
+      usage = causes.refused;
+      refused = λ none other. absurd (other c.finish-in-Err.ensures.status);
+      read = causes.unread;
+      store = causes.unloaded;
+      write = causes.unwritten;
+      kept = causes.same;
+      alone = λ none. part-alone g.K.AdjustKeeper.faults g.K.AdjustKeeper.calls c.args.keeper.now;
+      shelf = part-left g.S.Shelf.holds g.S.Shelf.sound g.S.Shelf.faults c.args.shelf.now;
+      keeper = part-left g.K.AdjustKeeper.lists g.K.AdjustKeeper.sound g.K.AdjustKeeper.faults c.args.keeper.now;
+      out = sink-left g.O.Sink.sound g.O.Sink.faults c.args.out.now;
+      err = c.finish-in-Err.ensures.err;
+    }

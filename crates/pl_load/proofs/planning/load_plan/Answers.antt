@@ -1,7 +1,6 @@
 use Rattle.std.proofs.lemmas.Result.{err_from_is_err_and}
 use Rattle.pl_words.specs.Views.{plan_of}
-use Rattle.pl_judge.proofs.Steps.{risen-inside}
-use Rattle.pl_load.proofs.PlanReads.{no-script, no-days, no-range, no-plan, all-planned}
+use Rattle.pl_load.proofs.PlanReads.{no-script}
 use Rattle.pl_load.proofs.planning.load_plan.Goals as goal
 
 pub returns-in_err-checked-clause-load : goal.returns-in_err-checked-clause-load
@@ -9,43 +8,15 @@ returns-in_err-checked-clause-load g c =
     let p = err_from_is_err_and c.from_residual.result c.from_residual.ensures.1 in
     rw (p.1, p.2) (no-script _ _ (plan_of c.args.request.now) _ c.in_err-checked.ensures.read)
 
-pub returns-in_err-sessions-clause-load : goal.returns-in_err-sessions-clause-load
-returns-in_err-sessions-clause-load g c =
-    let p = err_from_is_err_and c.from_residual-in_err-sessions.result c.from_residual-in_err-sessions.ensures.1 in
-    let checked = c.in_ok-checked.ensures in
-    let sessions = rw (checked.leaves.keeps, checked.leaves.stays) at c.in_err-sessions.ensures.read in
-    rw (p.1, p.2) (no-days _ _ (plan_of c.args.request.now) _ _ checked.read sessions)
-
-pub returns-in_err-range-clause-load : goal.returns-in_err-range-clause-load
-returns-in_err-range-clause-load g c =
-    let p = err_from_is_err_and c.from_residual-in_err-range.result c.from_residual-in_err-range.ensures.1 in
-    let checked = c.in_ok-checked.ensures in
-    let sessions = rw (checked.leaves.keeps, checked.leaves.stays) at c.in_ok-sessions.ensures.read in
-    rw (p.1, p.2) (no-range _ _ (plan_of c.args.request.now) _ _ _ checked.read sessions c.in_err-range.ensures.ends)
-
 pub returns-in_err-plan-clause-load : goal.returns-in_err-plan-clause-load
 returns-in_err-plan-clause-load g c =
     let p = err_from_is_err_and c.from_residual-in_err-plan.result c.from_residual-in_err-plan.ensures.1 in
     let checked = c.in_ok-checked.ensures in
-    let range = c.in_ok-range.ensures in
-    let sessions = rw (checked.leaves.keeps, checked.leaves.stays) at c.in_ok-sessions.ensures.read in
-    rw (p.1, p.2)
-    (no-plan _ _ (plan_of c.args.request.now) _ _ _ _ _ _ checked.read sessions range.ends range.from range.to c.in_err-plan.ensures.ends)
-
-pub returns-in_err-range-clause-risen : goal.returns-in_err-range-clause-risen
-returns-in_err-range-clause-risen g c =
-    let p = err_from_is_err_and c.from_residual-in_err-range.result c.from_residual-in_err-range.ensures.1 in
-    rw (p.1, p.2) (risen-inside _ _ _ c.in_err-range.ensures.risen)
-
-pub returns-in_err-plan-clause-risen : goal.returns-in_err-plan-clause-risen
-returns-in_err-plan-clause-risen g c =
-    let p = err_from_is_err_and c.from_residual-in_err-plan.result c.from_residual-in_err-plan.ensures.1 in
-    rw (p.1, p.2) (risen-inside _ _ _ c.in_err-plan.ensures.risen)
+    let whole = rw (checked.leaves.keeps, checked.leaves.stays) at c.in_err-plan.ensures.load in
+    rw (p.1, p.2) (whole checked.read)
 
 pub returns-clause-load : goal.returns-clause-load
 returns-clause-load g c =
     let checked = c.in_ok-checked.ensures in
-    let range = c.in_ok-range.ensures in
-    let plan = c.in_ok-plan.ensures in
-    let sessions = rw (checked.leaves.keeps, checked.leaves.stays) at c.in_ok-sessions.ensures.read in
-    all-planned _ _ (plan_of c.args.request.now) _ _ _ _ _ _ checked.read sessions range.ends range.from range.to plan.ends plan.plan plan.rows plan.from
+    let whole = rw (checked.leaves.keeps, checked.leaves.stays) at c.in_ok-plan.ensures.load in
+    whole checked.read
