@@ -8,10 +8,10 @@ mod compute;
 mod course;
 mod fill;
 mod job;
+mod keep;
 mod kinds;
 mod points;
 mod rows;
-mod sliding;
 mod turn;
 mod windows;
 
