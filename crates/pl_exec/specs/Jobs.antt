@@ -332,9 +332,9 @@ IsOperandOf c o i row = Unit {0}
 
 -- the families of which cells come row by row
 abbrev pub by_rows : Family → Bool
-by_rows families.Window = false
-by_rows families.Point = false
-by_rows f = true
+by_rows families.Section = true
+by_rows (families.Downsample f) = true
+by_rows f = false
 
 -- the windows of an input of the term for an asset on the session, wherever they lie
 abbrev pub IsLentAt : Turn → Source → Type 0
@@ -362,6 +362,10 @@ IsLentReach t s i more cells = (p : ℕ) → IsLent (task_at t) (node_at t) (sli
 pub record IsGivenOn (c : Course) (i j : ℕ) (x : ℤ) : Type 0 where
   pub given : IsGiven (task_in c).world (task_in c).pipeline (sids_in (task_in c)) c.term.0 (node_in c) i (c.low + j) x
   pub cell : IsCell x
+
+-- and so on each session
+abbrev pub AreGiven : Course → ℕ → List ℤ → Type 0
+AreGiven c i row = (j : ℕ) → j < c.count → IsGivenOn c i j (get_or row j (pos 0))
 
 -- the asset in a place passes the mask
 abbrev pub passes : Task → Option ℕ → ℕ → ℕ → Bool

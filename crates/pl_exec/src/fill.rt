@@ -6,15 +6,16 @@ ghost use Rattle.pl_spec.specs.Graph.{columns_at};
 ghost use Rattle.pl_terms.specs.Nodes.{node_of};
 ghost use Rattle.pl_terms.specs.Sorts.{is_windowed};
 ghost use Rattle.pl_values.specs.Arrays.{IsRow};
-ghost use Rattle.pl_values.specs.Families.{IsOf, is_point};
+ghost use Rattle.pl_values.specs.Families.{IsOf};
 ghost use Rattle.pl_exec.specs.Tasks.{IsArray, assets_in, count_in, cut, graph_in, term_steps};
-ghost use Rattle.pl_exec.specs.Jobs.{AreBars, AreLent, HasNoBars, HasRows, IsColumnRun, IsCourse, IsJob, IsLane, IsOut, IsRun, IsTurn, buffer_at, by_rows, counted, node_at, node_in, one_col, steps_of, task_at, task_in, task_of};
+ghost use Rattle.pl_exec.specs.Jobs.{AreBars, AreGiven, AreLent, HasNoBars, HasRows, IsColumnRun, IsCourse, IsJob, IsLane, IsOut, IsRun, IsTurn, buffer_at, by_rows, counted, node_at, node_in, one_col, steps_of, task_at, task_in, task_of};
 
 use crate::columns::new_column;
 use crate::course::{Course, course_of, turn_on};
 use crate::job::{Job, kind_of, node_of, window_of};
 use crate::keep::keep_lane;
 use crate::kinds::{is_by_rows, kind_row};
+use crate::leaves::{constant_lane, label_lane, label_test_lane, sids_lane};
 use crate::points::point_lane;
 use crate::turn::{Turn, keep_row};
 use crate::windows::{Bars, Sources, advance_all, applied, fill_stretch, pass, sources_of, still};
@@ -109,18 +110,33 @@ fn fill_rows<'x>(
     }
 }
 
-// The cells of an asset over windows of terms.
-fn window_lane<'x>(course: &Course<'x>, sources: &Sources<'x>, i: usize, out: &mut [i64])
+// What a term that reads no bar columns is worth for an asset, whether that is kept or not.
+fn given_lane<'x>(
+    course: &Course<'x>,
+    sources: &Sources<'x>,
+    family: Family,
+    i: usize,
+    out: &mut [i64],
+)
     requires course { IsCourse course.now }
     requires sources { AreLent (task_in course.now) (node_in course.now) sources.now }
-    requires kind { is_windowed (node_in course.now).kind ≡ true }
+    requires family { IsOf (node_in course.now).kind family }
+    requires lanes { by_rows family ≡ false }
     requires none { HasNoBars (node_in course.now) }
     requires asset { i < assets_in (task_in course.now) }
     requires long { length out.old ≡ course.now.count }
-    ensures { IsLane course.now i out.new }
+    ensures { AreGiven course.now i out.new }
 {
-    fill_stretch(course, sources, None, i, 0, out);
-    keep_lane(course, sources, i, out);
+    match family {
+        Family::Constant(value) => constant_lane(course, value, i, out),
+        Family::Label(name) => label_lane(course, name, i, out),
+        Family::Sids => sids_lane(course, i, out),
+        Family::LabelTest => label_test_lane(course, sources, i, out),
+        Family::Point => point_lane(course, sources, i, out),
+        Family::Window => fill_stretch(course, sources, None, i, 0, out),
+        Family::Section => unreachable!(),
+        Family::Downsample(_) => unreachable!(),
+    }
 }
 
 // The cells of an asset of a term that reads no bar columns.
@@ -140,11 +156,8 @@ fn plain_lane<'x>(
     requires long { length out.old ≡ course.now.count }
     ensures { IsLane course.now i out.new }
 {
-    match family {
-        Family::Window => window_lane(course, sources, i, out),
-        Family::Point => point_lane(course, sources, i, out),
-        _ => unreachable!(),
-    }
+    given_lane(course, sources, family, i, out);
+    keep_lane(course, sources, i, out);
 }
 
 // The array of a term whose cells come asset by asset, and which reads no bar columns.

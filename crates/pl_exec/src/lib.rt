@@ -10,6 +10,7 @@ mod fill;
 mod job;
 mod keep;
 mod kinds;
+mod leaves;
 mod points;
 mod rows;
 mod turn;
