@@ -4,7 +4,10 @@ use Rattle.std.proofs.lemmas.Bool.{cases_eq, cases_lt}
 use Rattle.std.proofs.lemmas.List.{take-take, take_all, drop-drop, drop-take}
 use Rattle.std.proofs.lemmas.List.Elements.{All-take, All-drop}
 use Rattle.pl_spec.specs.Rounding.{IsCell}
+use Rattle.pl_spec.specs.Formula.{formula, mean}
 use Rattle.pl_spec.specs.Kind.{Kind}
+use Rattle.pl_spec.specs.Kind.Kind.{Window}
+use Rattle.pl_spec.specs.Kind.WindowKind.{SimpleMovingAverage}
 use Rattle.pl_running.specs.Lanes.{AreValues, HasWindows, TakesLanes, formula_at, window_at}
 use Rattle.pl_running.specs.Spans.{TakesSpans, after, before, takes_range}
 
@@ -105,3 +108,33 @@ module _ (size k j : ℕ) (next : j ≡ k - 1 + 1) (xs span : List ℤ) (has : 0
 
   pub span_after : after span ≡ window_at size j xs
   span_after = ap after is ∙ after_is size (k - 1) xs has ∙ ap (λ n. window_at size n xs) (sym next)
+
+-- ---- means
+
+-- the first cells are the means of the first windows
+pub record AreMeans (size : ℕ) (a : List ℤ) (done : ℕ) (out : List ℤ) : Type 0 where
+  pub each : (j : ℕ) → j < done → get_or out j (pos 0) ≡ mean (window_at size j a)
+  pub cell : (j : ℕ) → j < done → IsCell (get_or out j (pos 0))
+
+module _ (size : ℕ) (a : List ℤ) where
+  pub no_means : (out : List ℤ) → AreMeans size a 0 out
+  no_means out = record { each = λ j h. absurd (omega (arith, h)); cell = λ j h. absurd (omega (arith, h)) }
+
+  pub one_mean : (done : ℕ) (out : List ℤ) (x : ℤ) → AreMeans size a done out → done < length out → x ≡ mean (window_at size done a) → IsCell x → AreMeans size a (done + 1) (set out done x)
+  one_mean done out x so_far room e is_cell = record {
+    each = λ j h. elim (cases_eq j done) [
+      | inl p ↦ ap (λ k. get_or (set out done x) k (pos 0)) p ∙ get_or-set_same out done x (pos 0) room ∙ e ∙ ap (λ k. mean (window_at size k a)) (sym p)
+      | inr p ↦ get_or-set_other out done j x (pos 0) p ∙ so_far.each j (omega (arith, h, p))
+    ];
+    cell = λ j h. elim (cases_eq j done) [
+      | inl p ↦ subst IsCell (sym (ap (λ k. get_or (set out done x) k (pos 0)) p ∙ get_or-set_same out done x (pos 0) room)) is_cell
+      | inr p ↦ subst IsCell (sym (get_or-set_other out done j x (pos 0) p)) (so_far.cell j (omega (arith, h, p)))
+    ];
+  }
+
+  pub means_are : (b c : List ℤ) (n done : ℕ) (out : List ℤ) → n ≤ done → AreMeans size a done out → AreValues (Window SimpleMovingAverage) size a b c n out
+  unfolding formula
+  means_are b c n done out few m = record { each = λ j h. m.each j (omega (arith, few, h)); cell = λ j h. m.cell j (omega (arith, few, h)) }
+
+pub window_long : (size k : ℕ) (xs : List ℤ) → k + size ≤ length xs → length (window_at size k xs) ≡ size
+window_long size k xs room = let d = length-drop k xs in let t = length-take size (drop k xs) in omega (arith, d, t, room)

@@ -1,6 +1,8 @@
 //! The values of a formula over windows that follow on each other, each a cell later than the one before.
-ghost use Rattle.std.specs.Prelude.{◌≡◌, ◌+◌, ◌-◌, ◌<◌, ◌≤◌, true, IsTrue, drop, length};
+ghost use Rattle.std.specs.Prelude.{◌≡◌, ◌+◌, ◌<◌, ◌≤◌, ℤ, List, true, All, IsTrue, length};
 ghost use Rattle.pl_spec.specs.Rounding.{IsCell};
+ghost use Rattle.pl_spec.specs.Kind.Kind.{Window};
+ghost use Rattle.pl_spec.specs.Kind.WindowKind.{SimpleMovingAverage};
 ghost use Rattle.pl_terms.specs.Kinds.{kind_of};
 ghost use Rattle.pl_factors.specs.Kinds.{formula_of};
 ghost use Rattle.pl_running.specs.Kept.{kept_of};
@@ -8,6 +10,9 @@ ghost use Rattle.pl_running.specs.Lanes.{AreValues, TakesLanes, window_at};
 ghost use Rattle.pl_running.specs.Spans.{TakesSpans, TakesWindows, after, before, takes_range};
 
 use crate::running::{Running, keeps};
+use crate::starts::sums_of;
+use crate::steps::next_sums;
+use crate::values::mean;
 use pl_terms::TermKind;
 
 // From how many cells on a window of a kind is slid: a shorter one is read anew as quickly.
@@ -96,6 +101,26 @@ fn fill_anew(kind: &TermKind, size: usize, a: &[i64], b: &[i64], c: &[i64], out:
     }
 }
 
+// The means, each from the sum and the count of the window before.
+fn fill_means(size: usize, a: &[i64], out: &mut [i64])
+    requires cells { All IsCell a.now }
+    requires some { 1 ≤ size }
+    requires few { size ≤ 1260 }
+    requires windows { 0 < length out.old }
+    requires long { size + length out.old ≤ length a.now + 1 }
+    ensures { (b c : List ℤ) → AreValues (Window SimpleMovingAverage) size a.now b c (length out.old)
+        out.new }
+{
+    let first = window_at(a, 0, size);
+    let mut kept = sums_of(first);
+    out[0] = mean(&kept, first);
+    for k in 1..out.len() {
+        let span = window_at(a, k - 1, size + 1);
+        kept = next_sums(&kept, span);
+        out[k] = mean(&kept, after(span));
+    }
+}
+
 // The values, each from what is kept of the windows before.
 fn fill_slid(kind: &TermKind, size: usize, a: &[i64], b: &[i64], c: &[i64], out: &mut [i64])
     requires lanes { TakesLanes (kind_of kind.now) size (length out.old) a.now b.now c.now }
@@ -121,13 +146,17 @@ fn fill_slid(kind: &TermKind, size: usize, a: &[i64], b: &[i64], c: &[i64], out:
 /// What a formula or a filter gives over windows of `size` cells that follow on each other: into cell k over
 /// those that begin with cell k of the lists of its inputs in order. A list that the kind does not use may
 /// have no cell. It takes no memory.
+#[tactic(auto, unfolding(pl_terms::specs::Kinds::kind_of))]
 pub fn fill_values(kind: &TermKind, size: usize, a: &[i64], b: &[i64], c: &[i64], out: &mut [i64])
     requires { TakesLanes (kind_of kind.now) size (length out.old) a.now b.now c.now }
     ensures long { length out.new ≡ length out.old }
     ensures values { AreValues (kind_of kind.now) size a.now b.now c.now (length out.old) out.new }
 {
     if !out.is_empty() && slides(kind, size, a, b, c) {
-        fill_slid(kind, size, a, b, c, out);
+        match kind {
+            TermKind::SimpleMovingAverage => fill_means(size, a, out),
+            _ => fill_slid(kind, size, a, b, c, out),
+        }
     } else {
         fill_anew(kind, size, a, b, c, out);
     }
