@@ -1,12 +1,12 @@
 -- A cell that is put into the row of its day.
-use Rattle.std.proofs.Common.{◌≡◌, ◌≢◌, ℕ, ◌+◌, ◌-◌, ◌<◌, ◌≤◌, ◌==◌, ◌&&◌, Bool, true, false, cond, ℤ, pos, List, length, get_or, slice_get, Option, Some, None, position, refl, sym, ◌∙◌, ap, subst, arith}
+use Rattle.std.proofs.Common.{◌≡◌, ◌≢◌, ℕ, ◌+◌, ◌-◌, ◌<◌, ◌≤◌, ◌&&◌, Bool, true, false, cond, ℤ, pos, List, length, slice_get, Option, Some, None, position, refl, sym, ◌∙◌, ap, arith}
 use Rattle.std.specs.Prelude.{option_to_list}
 use Rattle.std.specs.Ordering.{int_eq}
 use Rattle.std.proofs.Math.ListN.{set}
 use Rattle.std.proofs.lemmas.Int.{ints}
 use Rattle.std.proofs.lemmas.List.{get_or-set_same, get_or-set_other}
 use Rattle.pl_spec.specs.declared.Column.{Column}
-use Rattle.pl_spec.specs.Window.{Effect, after_all, same_column}
+use Rattle.pl_spec.specs.Window.{after_all, same_column}
 use Rattle.pl_spec.specs.Window.Effect.{Put}
 use Rattle.pl_calendar.specs.Days.{AreDays}
 use Rattle.pl_bars.proofs.BarsSaid.{day_form}

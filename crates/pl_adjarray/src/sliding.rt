@@ -8,6 +8,7 @@ ghost use Rattle.pl_adjarray.specs.Traversals.{IsSeen};
 
 use crate::array::AdjustedArray;
 use crate::factor::{factor_of, multiplied};
+use crate::stillness::still_from;
 use pl_adjust::{Adjust, Change, ratio_for};
 use pl_calendar::Sessions;
 use pl_fixed::{Column, Ratio, Steps};
@@ -28,11 +29,36 @@ pub(crate) fn follow<L: Ledger>(
     ensures seen { IsSeen array.now scratch.new to applied.new }
     ensures cost { steps.new + applied_at array.now from ≡ steps.old + applied_at array.now to }
 {
-    if array.cols.is_empty() {
-        return;
+    let mut session = from;
+    while session < to {
+        session = move_on(array, scratch, session, to, steps, applied);
     }
-    for session in from..to {
+}
+
+// Brings a buffer from a session over all on which nothing changes, or else to the next one. Gives the session
+// that it came to.
+fn move_on<L: Ledger>(
+    array: &AdjustedArray<'_>,
+    scratch: &mut [i64],
+    session: usize,
+    to: usize,
+    steps: &mut Steps<L>,
+    applied: &mut u64,
+) -> usize
+    requires order { session < to }
+    requires most { to ≤ array.now.first + array.now.rows }
+    requires seen { IsSeen array.now scratch.old session applied.old }
+    ensures later { session < result }
+    ensures most { result ≤ to }
+    ensures seen { IsSeen array.now scratch.new result applied.new }
+    ensures cost { steps.new + applied_at array.now session ≡ steps.old + applied_at array.now result }
+{
+    let still = still_from(array, session, to - session);
+    if still > 0 {
+        session + still
+    } else {
         step(array, scratch, session, steps, applied);
+        session + 1
     }
 }
 

@@ -1,12 +1,14 @@
-ghost use Rattle.std.specs.Prelude.{◌≡◌, ◌+◌, ◌-◌, ◌<◌, ◌≤◌, ◌↔◌, ℕ, true, false, pos, length, take, drop, All, IfSome, IsTrue};
+ghost use Rattle.std.specs.Prelude.{◌≡◌, ◌+◌, ◌<◌, ◌≤◌, ◌↔◌, ℕ, false, pos, length, take, drop, All, IsTrue};
 ghost use Rattle.pl_spec.specs.Rounding.{IsCell};
-ghost use Rattle.pl_spec.specs.Window.{bar_window, seen_cell};
+ghost use Rattle.pl_spec.specs.Window.{bar_window};
 ghost use Rattle.pl_adjarray.specs.Buffered.{applied_at, col_at, cut, world_of};
+ghost use Rattle.pl_adjarray.specs.Stillness.{IsStill};
 ghost use Rattle.pl_adjarray.specs.Traversals.{advances};
 ghost use Rattle.pl_adjarray.specs.Worlds.{IsWindow};
 
 use crate::array::AdjustedArray;
 use crate::sliding::follow;
+use crate::stillness::still_from;
 use pl_fixed::Steps;
 use std::marker::Model;
 use std::sync::ledger::Ledger;
@@ -99,24 +101,52 @@ impl<'s> Windows<'s> {
         &self.scratch[end - self.window..end]
     }
 
-    /// The bars of an asset on the sessions before this one and on one session more, as they are seen on this
-    /// one: all but the last are its window on the session before, and all but the first are its window on
-    /// this one. `None` where the traversal stood on no whole window before, or where an adjustment of the
-    /// asset became effective since.
-    pub fn span(&self, i: usize) -> Option<&[i64]>
-        requires asset { i < length self.now.array.cols }
-        ensures before { IfSome result (λ s. (d : ℕ) → d + 1 ≡ self.now.session
-            → IsWindow self.now.array self.now.window i d (take (length s.now - 1) s.now)) }
-        ensures after { IfSome result (λ s. IsWindow self.now.array self.now.window i self.now.session
-            (drop 1 s.now)) }
-        ensures cells { IfSome result (λ s. All IsCell s.now) }
+    /// On how many of the next sessions, up to `most`, nothing changes: no adjustment becomes effective. Where
+    /// one becomes so on the next session, on none.
+    pub fn still(&self, most: usize) -> usize
+        ensures few { result ≤ most }
+        ensures still { IsStill self.now.array self.now.session result }
     {
         let array = self.array;
-        if self.session <= array.first + self.window || !is_still(array, i, self.session - 1) {
-            return None;
-        }
+        still_from(
+            array,
+            self.session,
+            most.min(array.first + array.rows - self.session),
+        )
+    }
+
+    /// The bars of an asset from the oldest of its window on, up to the newest of its window so many sessions
+    /// later, where nothing changes on them: its windows on all these sessions.
+    pub fn reach(&self, i: usize, more: usize) -> &[i64]
+        requires begun { self.now.array.first + self.now.window ≤ self.now.session }
+        requires still { IsStill self.now.array self.now.session more }
+        requires asset { i < length self.now.array.cols }
+        ensures long { length result.now ≡ self.now.window + more }
+        ensures windows { (m : ℕ) → m ≤ more → IsWindow self.now.array self.now.window i
+            (self.now.session + m) (take self.now.window (drop m result.now)) }
+        ensures cells { All IsCell result.now }
+    {
+        let array = self.array;
         let behind = i * array.rows + (self.session - array.first);
-        Some(&self.scratch[behind - (self.window + 1)..behind])
+        &self.scratch[behind - self.window..behind + more]
+    }
+
+    /// Goes on by so many sessions on which nothing changes, without a step.
+    pub fn pass(&mut self, more: usize)
+        requires begun { self.old.array.first + self.old.window ≤ self.old.session }
+        requires still { IsStill self.old.array self.old.session more }
+        ensures passed { self.new ≡ record {
+          array = self.old.array;
+          window = self.old.window;
+          session = self.old.session + more;
+        } }
+        ensures cost { applied_at self.old.array self.new.session
+            ≡ applied_at self.old.array self.old.session }
+    {
+        // The call says how few sessions there are.
+        let array = self.array;
+        let _few = array.sessions.len();
+        self.session += more;
     }
 
     /// How many steps the traversal took so far, or u64's greatest value where there were more.
@@ -125,20 +155,4 @@ impl<'s> Windows<'s> {
     {
         self.applied
     }
-}
-
-// Does no adjustment of an asset become effective from a session to the next one?
-fn is_still(array: &AdjustedArray<'_>, i: usize, session: usize) -> bool
-    requires more { session < array.now.first + array.now.rows }
-    requires asset { i < length array.now.cols }
-    ensures { result ≡ true → (s : ℕ) → s ≤ session
-        → seen_cell (world_of array.now) (col_at array.now i) array.now.column (pos s) (pos (session + 1))
-        ≡ seen_cell (world_of array.now) (col_at array.now i) array.now.column (pos s) (pos session) }
-{
-    let today = array.sessions.day(session);
-    let next_day = array.sessions.day(session + 1);
-    array
-        .adjustments
-        .events_between(array.cols[i] as usize, today, next_day)
-        .is_empty()
 }

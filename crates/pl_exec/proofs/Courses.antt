@@ -1,5 +1,5 @@
 -- One term on all its sessions: its turns, the arrays that it reads there, and its cells asset by asset.
-use Rattle.std.proofs.Common.{◌≡◌, ℕ, zero, suc, ◌+◌, ◌-◌, ◌*◌, ◌<◌, ◌≤◌, Bool, ℤ, pos, List, [], ◌∷◌, length, take, drop, get_or, set, Option, Some, None, slice_get, refl, sym, ◌∙◌, ap, subst, arith}
+use Rattle.std.proofs.Common.{◌≡◌, ℕ, zero, suc, ◌+◌, ◌-◌, ◌*◌, ◌<◌, ◌≤◌, Bool, ℤ, pos, List, [], ◌∷◌, length, take, drop, get_or, Option, Some, None, slice_get, refl, sym, ◌∙◌, ap, subst, arith}
 use Rattle.std.proofs.lemmas.List.{get_or-take, get_or-drop, length-take-le, length-drop}
 use Rattle.std.proofs.Math.Nat.{mul_comm}
 use Rattle.pl_spec.specs.Rounding.{IsCell}
@@ -13,9 +13,9 @@ use Rattle.pl_exec.specs.declared.course.Course.{Course}
 use Rattle.pl_exec.specs.declared.windows.Source.TheVariants.{InTerm}
 use Rattle.pl_exec.specs.declared.turn.Turn.{Turn}
 use Rattle.pl_exec.specs.Tasks.{Task, IsArray, assets_in, cell_in, count_in, low_in, sids_in}
-use Rattle.pl_exec.specs.Jobs.{AreLanes, Begins, IsArrayOf, IsCourse, IsLent, IsMaskLent, IsOperand, IsReadFrom, IsTurn, node_at, node_in, task_at, task_in, turn_in}
+use Rattle.pl_exec.specs.Jobs.{AreLanes, IsArrayOf, IsCourse, IsLent, IsMaskLent, IsOperand, IsReadFrom, IsTurn, node_at, node_in, task_at, task_in, turn_in}
 use Rattle.pl_exec.proofs.Held.{turn_is, held}
-use Rattle.pl_exec.proofs.Spans.{at_within, at_is, one_begun, place_within}
+use Rattle.pl_exec.proofs.Spans.{at_within, at_is, place_within}
 
 pub course_turn : (c : Course) → IsCourse c → (j : ℕ) → j < c.count → IsTurn (turn_in c j)
 course_turn c is j h = turn_is (turn_in c j) is.job is.run is.node (let l = is.low in omega arith) (let e = is.end in omega arith) is.none
@@ -127,9 +127,3 @@ read_from c is place a lent = here (slice_get (node_in c).inputs place) refl len
     here (Some (TermInput u)) e l =
         let r = (is.run.ready (node_in c) is.node).inputs place u e in
         (u, (e, record { array = l; early = (let x = r.early in let y = r.some in let z = is.low in let v = l.low in omega arith) }))
-
--- ---- a lane, session after session
-
-pub one_begun_lane : (c : Course) (i j : ℕ) (row : List ℤ) (x : ℤ) → Begins (λ k. cell_in (task_in c) c.term.0 i (c.low + k)) c.count j row → j < c.count → x ≡ cell_in (task_in c) c.term.0 i (c.low + j) → IsCell x
-    → Begins (λ k. cell_in (task_in c) c.term.0 i (c.low + k)) c.count (j + 1) (set row j x)
-one_begun_lane c i j row x b h e is_cell = one_begun (λ k. cell_in (task_in c) c.term.0 i (c.low + k)) c.count j row x b h e is_cell

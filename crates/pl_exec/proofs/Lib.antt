@@ -7,6 +7,7 @@ pub mod Givens
 pub mod Held
 pub mod Levels
 pub mod Listed
+pub mod Lives
 pub mod Living
 pub mod Mentions
 pub mod Places
@@ -15,5 +16,5 @@ pub mod Releases
 pub mod Sids
 pub mod Spans
 pub mod Stands
-pub mod Successions
+pub mod Stretches
 pub mod Trips

@@ -1,5 +1,5 @@
 -- Operations for an asset on all the sessions of a course.
-use Rattle.std.proofs.Common.{◌≡◌, ℕ, ◌+◌, ◌<◌, true, ℤ, pos, List, [], ◌∷◌, length, get_or, Option, Some, None, slice_get, refl, sym, ◌∙◌, ap, subst, arith}
+use Rattle.std.proofs.Common.{◌≡◌, ℕ, ◌+◌, ◌<◌, true, ℤ, pos, List, [], ◌∷◌, get_or, Option, Some, None, slice_get, refl, sym, ◌∙◌, ap, subst, arith}
 use Rattle.std.proofs.lemmas.List.{get_or_default}
 use Rattle.pl_spec.specs.Rounding.{IsCell}
 use Rattle.pl_spec.specs.World.{World}
@@ -16,10 +16,9 @@ use Rattle.pl_values.specs.Families.{is_point}
 use Rattle.pl_values.specs.Laws.{IsNode, IsGiven}
 use Rattle.pl_values.proofs.Given.{point-cell, point-operands}
 use Rattle.pl_exec.specs.declared.course.Course.{Course}
-use Rattle.pl_exec.specs.Tasks.{cell_in, sids_in}
-use Rattle.pl_exec.specs.Jobs.{IsCourse, IsLane, IsOperandOf, node_in, task_in, turn_in}
-use Rattle.pl_exec.proofs.Courses.{course_turn}
-use Rattle.pl_exec.proofs.Givens.{chosen_cell, none_cell, point_kind}
+use Rattle.pl_exec.specs.Tasks.{sids_in}
+use Rattle.pl_exec.specs.Jobs.{AreGiven, IsCourse, IsOperandOf, node_in, task_in}
+use Rattle.pl_exec.proofs.Givens.{point_kind}
 
 -- ---- an asset alone
 
@@ -138,19 +137,9 @@ module _ (c : Course) (is : IsCourse c) (i : ℕ) where
           (point-cell w p alone c.term.0 n 0 (c.low + j) node_is f 1 (get_or a j (pos 0) ∷ []) (get_or b j (pos 0) ∷ []) (get_or d j (pos 0) ∷ []) (point_kind n.kind e).1
           (record { first = row_at _ j a h ra; second = row_at _ j b h rb; third = row_at _ j d h rd }) (omega arith))
 
-      -- and then the empty value where the asset is not kept
-      module _ (made out : List ℤ) (values : (j : ℕ) → j < c.count → get_or made j (pos 0) ≡ operation n.kind (get_or a j (pos 0)) (get_or b j (pos 0)) (get_or d j (pos 0)))
-          (cells : (j : ℕ) → j < c.count → IsCell (get_or made j (pos 0)))
-          (kept : (j : ℕ) → j < c.count → get_or out j (pos 0) ≡ chosen (is_kept w p (sids_in (task_in c)) n.mask i (c.low + j)) (get_or made j (pos 0)) c.none) where
-        cell_at : (j : ℕ) → j < c.count → get_or out j (pos 0) ≡ cell_in (task_in c) c.term.0 i (c.low + j)
-        cell_at j h =
-            kept j h ∙ ap (λ v. chosen (is_kept w p (sids_in (task_in c)) n.mask i (c.low + j)) v c.none) (values j h)
-            ∙ ap (chosen (is_kept w p (sids_in (task_in c)) n.mask i (c.low + j)) (operation n.kind (get_or a j (pos 0)) (get_or b j (pos 0)) (get_or d j (pos 0)))) is.none
-            ∙ sym (point_given_at j h)
-
-        pub point_lane_is : length out ≡ c.count → IsLane c i out
-        point_lane_is long = record {
-          long = long;
-          each = cell_at;
-          cell = λ j h. subst IsCell (sym (kept j h) ∙ cell_at j h) (chosen_cell (is_kept w p (sids_in (task_in c)) n.mask i (c.low + j)) (get_or made j (pos 0)) c.none (cells j h) (none_cell (turn_in c j) (course_turn c is j h)));
-        }
+      pub point_given_on : (made : List ℤ) → ((j : ℕ) → j < c.count → get_or made j (pos 0) ≡ operation n.kind (get_or a j (pos 0)) (get_or b j (pos 0)) (get_or d j (pos 0)))
+          → ((j : ℕ) → j < c.count → IsCell (get_or made j (pos 0))) → AreGiven c i made
+      point_given_on made values cells j h = record {
+        given = subst (IsGiven w p (sids_in (task_in c)) c.term.0 n i (c.low + j)) (sym (values j h)) (point_given_at j h);
+        cell = cells j h;
+      }

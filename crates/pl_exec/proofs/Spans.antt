@@ -11,7 +11,7 @@ pub long : (n : ℕ) → length (downward n) ≡ n
 long zero = refl
 long (suc n) = ap suc (long n)
 
-at_downward : {X : Type 0} (f : ℕ → X) (size j : ℕ) (d : X) → j < size → get_or (map f (downward size)) j d ≡ f (size - 1 - j)
+pub at_downward : {X : Type 0} (f : ℕ → X) (size j : ℕ) (d : X) → j < size → get_or (map f (downward size)) j d ≡ f (size - 1 - j)
 at_downward f zero j d h = absurd (omega arith)
 at_downward f (suc size) zero d h = let e : size ≡ suc size - 1 - 0 = omega arith in ap f e
 at_downward f (suc size) (suc j) d h = let e : size - 1 - j ≡ suc size - 1 - suc j = omega arith in at_downward f size j d (omega arith) ∙ ap f e

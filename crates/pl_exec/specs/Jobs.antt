@@ -6,14 +6,13 @@ use Rattle.pl_spec.specs.declared.Column.TheVariants.{Close}
 use Rattle.pl_spec.specs.declared.Frequency.{Frequency}
 use Rattle.pl_spec.specs.Periods.{period_start}
 use Rattle.pl_spec.specs.Formula.{is_true}
-use Rattle.pl_spec.specs.Window.{bar_window}
 use Rattle.pl_spec.specs.Kind.Kind.{Downsample}
 use Rattle.pl_spec.specs.World.{column_number}
 use Rattle.pl_spec.specs.Term as spec
 use Rattle.pl_spec.specs.Term.Input.{BarColumn, TermInput}
 use Rattle.pl_spec.specs.Graph.{contains, columns_at, input_column}
 use Rattle.pl_assets.specs.Labels.{AreLabels}
-use Rattle.pl_cross.specs.Arrays.{HasTexts, sid_in}
+use Rattle.pl_cross.specs.Arrays.{HasTexts}
 use Rattle.pl_values.specs.Inputs.{input_window}
 use Rattle.pl_values.specs.declared.family.Family.{Family}
 use Rattle.pl_values.specs.declared.family.Family.TheVariants as families
@@ -27,8 +26,9 @@ use Rattle.pl_planner.specs.Plans.{IsPlanOf, is_used, slot_of, column_slot}
 use Rattle.pl_values.specs.Arrays.{HasAll, Fills, IsKeep, empty_cell, is_kept}
 use Rattle.pl_adjarray.specs.Buffered.{Buffered, applied_at}
 use Rattle.pl_adjarray.specs.Traversals.{Traversal, advances}
-use Rattle.pl_running.specs.Kept.{Kept, kept_of}
-use Rattle.pl_running.specs.Spans.{before, after}
+use Rattle.pl_adjarray.specs.Stillness.{IsStill}
+use Rattle.pl_running.specs.Lanes.{HasWindows, window_at}
+use Rattle.pl_values.specs.Laws.{IsGiven}
 use Rattle.pl_workspace.specs.Slots.{Slots, Free, slot_at}
 use Rattle.std.specs.Borrow.{Bor}
 use Rattle.pl_exec.specs.declared.job.Job.{Job}
@@ -243,6 +243,19 @@ place_in b (suc (suc p)) = b.third
 abbrev pub advanced : Traversal → Traversal
 advanced v = record { array = v.array; window = v.window; session = v.array.first + v.window + advances v }
 
+-- and after some on which nothing changes
+abbrev pub passed : Traversal → ℕ → Traversal
+passed v more = record { array = v.array; window = v.window; session = v.session + more }
+
+abbrev pub HasBegun : Traversal → Type 0
+HasBegun v = v.array.first + v.window ≤ v.session
+
+-- nothing changes in the traversals on so many sessions
+pub record AreStill (b : Bars) (n : ℕ) : Type 0 where
+  pub first : IsStill b.first.array b.first.session n
+  pub second : IsStill b.second.array b.second.session n
+  pub third : IsStill b.third.array b.third.session n
+
 abbrev pub counted : Bars → ℕ
 counted b = applied_at b.first.array b.first.session + applied_at b.second.array b.second.session + applied_at b.third.array b.third.session
 
@@ -267,6 +280,10 @@ HasBars j k n cols s (Some b) = HasBarsAt j k n cols s b
 abbrev pub bars_now : Option (Bor Bars) → Option Bars
 bars_now None = None
 bars_now (Some b) = Some b.now
+
+abbrev pub AreStillNow : Option Bars → ℕ → Type 0
+AreStillNow None n = Unit {0}
+AreStillNow (Some b) n = AreStill b n
 
 -- ---- where the windows of an input lie
 
@@ -315,54 +332,40 @@ IsOperandOf c o i row = Unit {0}
 
 -- the families of which cells come row by row
 abbrev pub by_rows : Family → Bool
-by_rows families.Window = false
-by_rows families.Point = false
-by_rows f = true
+by_rows families.Section = true
+by_rows (families.Downsample f) = true
+by_rows f = false
 
 -- the windows of an input of the term for an asset on the session, wherever they lie
 abbrev pub IsLentAt : Turn → Source → Type 0
 IsLentAt t s = (p : ℕ) × IsLent (task_at t) (node_at t) (slice_get (node_at t).inputs p) s
 
-abbrev pub IsLentWindow : Turn → Source → ℕ → List ℤ → Type 0
-IsLentWindow t s i cells = (p : ℕ) → IsLent (task_at t) (node_at t) (slice_get (node_at t).inputs p) s
-    → cells ≡ input_window (task_at t).world (task_at t).pipeline (sids_in (task_at t)) (node_at t).window (slice_get (node_at t).inputs p) i t.session
-
 -- the traversal of place q is that of a bar column that is an input
 abbrev pub IsColumnAt : Turn → ℕ → Type 0
 IsColumnAt t q = (p : ℕ) × ((c : Column) × ((slice_get (node_at t).inputs p ≡ Some (BarColumn c)) × (q ≡ place_among (node_at t).inputs c)))
 
-abbrev pub IsColumnWindow : Turn → ℕ → ℕ → List ℤ → Type 0
-IsColumnWindow t i q cells = (p : ℕ) (c : Column) → slice_get (node_at t).inputs p ≡ Some (BarColumn c) → q ≡ place_among (node_at t).inputs c
-    → cells ≡ bar_window (task_at t).world c (node_at t).window (sid_in (sids_in (task_at t)) i) (pos t.session)
+-- ---- windows on sessions in a row
 
--- ---- windows that move on
+-- the cells of an input of the term for an asset, in its windows on the session and on `more` later ones
+pub record IsReach (t : Turn) (o : Option spec.Input) (i more : ℕ) (cells : List ℤ) : Type 0 where
+  pub windows : (m : ℕ) → m ≤ more → window_at (node_at t).window m cells ≡ input_window (task_at t).world (task_at t).pipeline (sids_in (task_at t)) (node_at t).window o i (t.session + m)
+  pub long : HasWindows (node_at t).window (more + 1) cells
 
--- the window of the input in place p, for the asset in place i on session s
-abbrev pub window_on : Task → spec.Node → ℕ → ℕ → ℕ → List ℤ
-window_on t n p i s = input_window t.world t.pipeline (sids_in t) n.window (slice_get n.inputs p) i s
+abbrev pub IsColumnReach : Turn → ℕ → ℕ → ℕ → List ℤ → Type 0
+IsColumnReach t i q more cells = (p : ℕ) (c : Column) → slice_get (node_at t).inputs p ≡ Some (BarColumn c) → q ≡ place_among (node_at t).inputs c → IsReach t (Some (BarColumn c)) i more cells
 
--- what is kept of the windows
-abbrev pub kept_on : Task → spec.Node → ℕ → ℕ → Kept
-kept_on t n i s = kept_of n.kind (window_on t n 0 i s) (window_on t n 1 i s) (window_on t n 2 i s)
+-- wherever they lie
+abbrev pub IsLentReach : Turn → Source → ℕ → ℕ → List ℤ → Type 0
+IsLentReach t s i more cells = (p : ℕ) → IsLent (task_at t) (node_at t) (slice_get (node_at t).inputs p) s → IsReach t (slice_get (node_at t).inputs p) i more cells
 
--- of those on the session before
-abbrev pub IsKeptBefore : Turn → ℕ → Kept → Type 0
-IsKeptBefore t i r = (s : ℕ) × ((s + 1 ≡ t.session) × (r ≡ kept_on (task_at t) (node_at t) i s))
+-- on session j of the course the term is worth x for an asset where that is kept
+pub record IsGivenOn (c : Course) (i j : ℕ) (x : ℤ) : Type 0 where
+  pub given : IsGiven (task_in c).world (task_in c).pipeline (sids_in (task_in c)) c.term.0 (node_in c) i (c.low + j) x
+  pub cell : IsCell x
 
--- and of those on the session
-abbrev pub IsKeptNow : Turn → ℕ → Kept → Type 0
-IsKeptNow t i r = r ≡ kept_on (task_at t) (node_at t) i t.session
-
--- the windows of an input on both sessions as one list
-pub record IsSpan (t : Turn) (o : Option spec.Input) (i : ℕ) (cells : List ℤ) : Type 0 where
-  pub front : (s : ℕ) → s + 1 ≡ t.session → before cells ≡ input_window (task_at t).world (task_at t).pipeline (sids_in (task_at t)) (node_at t).window o i s
-  pub back : after cells ≡ input_window (task_at t).world (task_at t).pipeline (sids_in (task_at t)) (node_at t).window o i t.session
-
-abbrev pub IsColumnSpan : Turn → ℕ → ℕ → List ℤ → Type 0
-IsColumnSpan t i q cells = (p : ℕ) (c : Column) → slice_get (node_at t).inputs p ≡ Some (BarColumn c) → q ≡ place_among (node_at t).inputs c → IsSpan t (Some (BarColumn c)) i cells
-
-abbrev pub IsLentSpan : Turn → Source → ℕ → List ℤ → Type 0
-IsLentSpan t s i cells = (p : ℕ) → IsLent (task_at t) (node_at t) (slice_get (node_at t).inputs p) s → IsSpan t (slice_get (node_at t).inputs p) i cells
+-- and so on each session
+abbrev pub AreGiven : Course → ℕ → List ℤ → Type 0
+AreGiven c i row = (j : ℕ) → j < c.count → IsGivenOn c i j (get_or row j (pos 0))
 
 -- the asset in a place passes the mask
 abbrev pub passes : Task → Option ℕ → ℕ → ℕ → Bool

@@ -6,18 +6,19 @@ ghost use Rattle.pl_spec.specs.Graph.{columns_at};
 ghost use Rattle.pl_terms.specs.Nodes.{node_of};
 ghost use Rattle.pl_terms.specs.Sorts.{is_windowed};
 ghost use Rattle.pl_values.specs.Arrays.{IsRow};
-ghost use Rattle.pl_values.specs.Families.{IsOf, is_point};
+ghost use Rattle.pl_values.specs.Families.{IsOf};
 ghost use Rattle.pl_exec.specs.Tasks.{IsArray, assets_in, count_in, cut, graph_in, term_steps};
-ghost use Rattle.pl_exec.specs.Jobs.{AreBars, AreLent, HasNoBars, HasRows, IsColumnRun, IsCourse, IsJob, IsLane, IsOut, IsRun, IsTurn, buffer_at, by_rows, counted, node_at, node_in, one_col, steps_of, task_at, task_in, task_of};
+ghost use Rattle.pl_exec.specs.Jobs.{AreBars, AreGiven, AreLent, HasNoBars, HasRows, IsColumnRun, IsCourse, IsJob, IsLane, IsOut, IsRun, IsTurn, buffer_at, by_rows, counted, node_at, node_in, one_col, steps_of, task_at, task_in, task_of};
 
 use crate::columns::new_column;
 use crate::course::{Course, course_of, turn_on};
 use crate::job::{Job, kind_of, node_of, window_of};
+use crate::keep::keep_lane;
 use crate::kinds::{is_by_rows, kind_row};
+use crate::leaves::{constant_lane, label_lane, label_test_lane, sids_lane};
 use crate::points::point_lane;
-use crate::sliding::is_slid;
 use crate::turn::{Turn, keep_row};
-use crate::windows::{Bars, Sources, advance_all, applied, cell_on, sources_of};
+use crate::windows::{Bars, Sources, advance_all, applied, fill_stretch, pass, sources_of, still};
 use pl_adjarray::AdjustedArray;
 use pl_cross::Cross;
 use pl_fixed::{Column, Steps};
@@ -109,6 +110,56 @@ fn fill_rows<'x>(
     }
 }
 
+// What a term that reads no bar columns is worth for an asset, whether that is kept or not.
+fn given_lane<'x>(
+    course: &Course<'x>,
+    sources: &Sources<'x>,
+    family: Family,
+    i: usize,
+    out: &mut [i64],
+)
+    requires course { IsCourse course.now }
+    requires sources { AreLent (task_in course.now) (node_in course.now) sources.now }
+    requires family { IsOf (node_in course.now).kind family }
+    requires lanes { by_rows family ≡ false }
+    requires none { HasNoBars (node_in course.now) }
+    requires asset { i < assets_in (task_in course.now) }
+    requires long { length out.old ≡ course.now.count }
+    ensures { AreGiven course.now i out.new }
+{
+    match family {
+        Family::Constant(value) => constant_lane(course, value, i, out),
+        Family::Label(name) => label_lane(course, name, i, out),
+        Family::Sids => sids_lane(course, i, out),
+        Family::LabelTest => label_test_lane(course, sources, i, out),
+        Family::Point => point_lane(course, sources, i, out),
+        Family::Window => fill_stretch(course, sources, None, i, 0, out),
+        Family::Section => unreachable!(),
+        Family::Downsample(_) => unreachable!(),
+    }
+}
+
+// The cells of an asset of a term that reads no bar columns.
+fn plain_lane<'x>(
+    course: &Course<'x>,
+    sources: &Sources<'x>,
+    family: Family,
+    i: usize,
+    out: &mut [i64],
+)
+    requires course { IsCourse course.now }
+    requires sources { AreLent (task_in course.now) (node_in course.now) sources.now }
+    requires family { IsOf (node_in course.now).kind family }
+    requires lanes { by_rows family ≡ false }
+    requires none { columns_at (graph_in (task_in course.now)) course.now.term.0 ≡ 0 }
+    requires asset { i < assets_in (task_in course.now) }
+    requires long { length out.old ≡ course.now.count }
+    ensures { IsLane course.now i out.new }
+{
+    given_lane(course, sources, family, i, out);
+    keep_lane(course, sources, i, out);
+}
+
 // The array of a term whose cells come asset by asset, and which reads no bar columns.
 fn fill_lanes<'x>(course: &Course<'x>, family: Family, own: &mut [i64])
     requires course { IsCourse course.now }
@@ -118,10 +169,13 @@ fn fill_lanes<'x>(course: &Course<'x>, family: Family, own: &mut [i64])
     requires room { assets_in (task_in course.now) * course.now.count ≤ length own.old }
     ensures { IsArray (task_in course.now) course.now.term.0 own.new }
 {
-    match family {
-        Family::Window => fill_windows(course, own),
-        Family::Point => fill_points(course, own),
-        _ => unreachable!(),
+    let sources = sources_of(course);
+    let count = course.count;
+    let job = course.job;
+    for i in 0..job.cols.len() {
+        let start = start_in(own, i, count);
+        let lane = &mut own[start..start + count];
+        plain_lane(course, &sources, family, i, lane);
     }
 }
 
@@ -219,7 +273,7 @@ fn cells_for(course: &Course<'_>, place: usize, cols: &[u32], cells: &[i64]) -> 
     }
 }
 
-// The cells of an asset, by traversals of its bars that begin.
+// The cells of an asset, by traversals of its bars that begin: from one change of the bars to the next at once.
 fn walk_bars<'x, L: Ledger>(
     course: &Course<'x>,
     sources: &Sources<'x>,
@@ -242,12 +296,16 @@ fn walk_bars<'x, L: Ledger>(
         (one_col course.now.job.now i) course.now.count bars.new }
     ensures cost { steps.new ≡ steps.old + counted bars.new }
 {
-    let slid = is_slid(course);
-    let mut kept = None;
-    for j in 0..out.len() {
+    let mut done = 0;
+    while done < out.len() {
         advance_all(bars, steps);
-        out[j] = cell_on(course, sources, Some(bars), i, j, slid, &mut kept);
+        let more = still(bars, out.len() - 1 - done);
+        let end = done + more + 1;
+        fill_stretch(course, sources, Some(bars), i, done, &mut out[done..end]);
+        pass(bars, more);
+        done = end;
     }
+    keep_lane(course, sources, i, out);
 }
 
 // The cells of an asset, whose bars are traversed in the cells that are given.
@@ -327,56 +385,4 @@ pub(crate) fn fill_bars<'x, L: Ledger>(
         applied = applied.saturating_add(more);
     }
     applied
-}
-
-// The cells of an asset over windows of terms.
-fn window_lane<'x>(course: &Course<'x>, sources: &Sources<'x>, i: usize, out: &mut [i64])
-    requires course { IsCourse course.now }
-    requires sources { AreLent (task_in course.now) (node_in course.now) sources.now }
-    requires kind { is_windowed (node_in course.now).kind ≡ true }
-    requires none { HasNoBars (node_in course.now) }
-    requires asset { i < assets_in (task_in course.now) }
-    requires long { length out.old ≡ course.now.count }
-    ensures { IsLane course.now i out.new }
-{
-    let slid = is_slid(course);
-    let mut kept = None;
-    for j in 0..out.len() {
-        out[j] = cell_on(course, sources, None, i, j, slid, &mut kept);
-    }
-}
-
-// The array of a term over windows of terms.
-fn fill_windows<'x>(course: &Course<'x>, own: &mut [i64])
-    requires course { IsCourse course.now }
-    requires kind { is_windowed (node_in course.now).kind ≡ true }
-    requires none { HasNoBars (node_in course.now) }
-    requires room { assets_in (task_in course.now) * course.now.count ≤ length own.old }
-    ensures { IsArray (task_in course.now) course.now.term.0 own.new }
-{
-    let sources = sources_of(course);
-    let count = course.count;
-    let job = course.job;
-    for i in 0..job.cols.len() {
-        let start = start_in(own, i, count);
-        let lane = &mut own[start..start + count];
-        window_lane(course, &sources, i, lane);
-    }
-}
-
-// The array of an operation.
-fn fill_points<'x>(course: &Course<'x>, own: &mut [i64])
-    requires course { IsCourse course.now }
-    requires kind { is_point (node_in course.now).kind ≡ true }
-    requires room { assets_in (task_in course.now) * course.now.count ≤ length own.old }
-    ensures { IsArray (task_in course.now) course.now.term.0 own.new }
-{
-    let sources = sources_of(course);
-    let count = course.count;
-    let job = course.job;
-    for i in 0..job.cols.len() {
-        let start = start_in(own, i, count);
-        let lane = &mut own[start..start + count];
-        point_lane(course, &sources, i, lane);
-    }
 }

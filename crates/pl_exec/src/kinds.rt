@@ -2,12 +2,12 @@
 ghost use Rattle.std.specs.Prelude.{◌≡◌, ◌+◌, ◌<◌, ◌≤◌, ℕ, true, All, Some, length, option_map, pos, get_or, slice_get};
 ghost use Rattle.pl_spec.specs.Rounding.{IsCell};
 ghost use Rattle.pl_spec.specs.Kind.{Kind};
-ghost use Rattle.pl_spec.specs.Kind.Kind.{Constant, Downsample, Label};
+ghost use Rattle.pl_spec.specs.Kind.Kind.{Downsample};
 ghost use Rattle.pl_spec.specs.Term.Input.{TermInput};
 ghost use Rattle.pl_terms.specs.Sorts.{is_downsampled};
 ghost use Rattle.pl_terms.specs.Kinds.{kind_of};
 ghost use Rattle.pl_cross.specs.Section.{is_section};
-ghost use Rattle.pl_values.specs.Families.{IsOf, is_label_test, is_sids};
+ghost use Rattle.pl_values.specs.Families.{IsOf};
 ghost use Rattle.pl_exec.specs.Tasks.{assets_in};
 ghost use Rattle.pl_exec.specs.Jobs.{IsKept, IsOut, IsTurn, by_rows, node_at, task_at};
 
@@ -16,69 +16,7 @@ use crate::turn::{Turn, cells_on, input_row, pick, term_row};
 use pl_cross::Cross;
 use pl_fixed::Frequency;
 use pl_terms::{Input, TermId};
-use pl_values::{Family, label_test_value, label_value, section_values, sids_value};
-
-fn constant_row(turn: &Turn<'_>, value: i64, keep: &[i64], out: &mut [i64])
-    requires turn { IsTurn turn.now }
-    requires kind { (node_at turn.now).kind ≡ Constant value }
-    requires keep { IsKept turn.now keep.now }
-    requires long { length out.old ≡ assets_in (task_at turn.now) }
-    ensures { IsOut turn.now out.new }
-{
-    for i in 0..out.len() {
-        out[i] = pick(keep[i], value, turn.none);
-    }
-}
-
-fn sids_row(turn: &Turn<'_>, keep: &[i64], out: &mut [i64])
-    requires turn { IsTurn turn.now }
-    requires kind { is_sids (node_at turn.now).kind ≡ true }
-    requires keep { IsKept turn.now keep.now }
-    requires long { length out.old ≡ assets_in (task_at turn.now) }
-    ensures { IsOut turn.now out.new }
-{
-    let job = turn.job;
-    for i in 0..out.len() {
-        let sid = job.world.assets.sid(job.cols[i] as usize);
-        out[i] = pick(keep[i], sids_value(kind_of(turn.node), sid), turn.none);
-    }
-}
-
-// Labels by their codes; `name` is the number of the label's name.
-fn label_row(turn: &Turn<'_>, name: u32, keep: &[i64], out: &mut [i64])
-    requires turn { IsTurn turn.now }
-    requires kind { (node_at turn.now).kind ≡ Label name }
-    requires keep { IsKept turn.now keep.now }
-    requires long { length out.old ≡ assets_in (task_at turn.now) }
-    ensures { IsOut turn.now out.new }
-{
-    let job = turn.job;
-    let labels = job.world.labels;
-    let day = job.world.sessions.day(turn.session);
-    let name = job.checked.label_name(name);
-    let number = labels.name_of(name);
-    for i in 0..out.len() {
-        let code = label_value(labels, name, number, job.cols[i] as usize, day);
-        out[i] = pick(keep[i], code, turn.none);
-    }
-}
-
-fn label_test_row(turn: &Turn<'_>, codes: &mut [i64], keep: &[i64], out: &mut [i64])
-    requires turn { IsTurn turn.now }
-    requires kind { is_label_test (node_at turn.now).kind ≡ true }
-    requires codes { length codes.old ≡ assets_in (task_at turn.now) }
-    requires keep { IsKept turn.now keep.now }
-    requires long { length out.old ≡ assets_in (task_at turn.now) }
-    ensures { IsOut turn.now out.new }
-{
-    input_row(turn, 0, codes);
-    let job = turn.job;
-    let labels = job.world.labels;
-    for i in 0..out.len() {
-        let flag = label_test_value(kind_of(turn.node), labels, codes[i]);
-        out[i] = pick(keep[i], flag, turn.none);
-    }
-}
+use pl_values::{Family, section_values};
 
 fn section_row(
     turn: &Turn<'_>,
@@ -149,9 +87,9 @@ pub(crate) fn is_by_rows(family: Family) -> bool
     ensures { result ≡ by_rows family }
 {
     match family {
-        Family::Window => false,
-        Family::Point => false,
-        _ => true,
+        Family::Section => true,
+        Family::Downsample(_) => true,
+        _ => false,
     }
 }
 
@@ -177,13 +115,8 @@ pub(crate) fn kind_row(
     ensures cross { cross.new ≡ cross.old }
 {
     match family {
-        Family::Constant(value) => constant_row(turn, value, keep, out),
-        Family::Label(name) => label_row(turn, name, keep, out),
-        Family::Sids => sids_row(turn, keep, out),
-        Family::LabelTest => label_test_row(turn, first, keep, out),
         Family::Section => section_row(turn, cross, first, second, keep, out),
         Family::Downsample(frequency) => downsampled_row(turn, frequency, first, keep, out),
-        Family::Window => unreachable!(),
-        Family::Point => unreachable!(),
+        _ => unreachable!(),
     }
 }

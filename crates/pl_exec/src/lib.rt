@@ -8,10 +8,11 @@ mod compute;
 mod course;
 mod fill;
 mod job;
+mod keep;
 mod kinds;
+mod leaves;
 mod points;
 mod rows;
-mod sliding;
 mod turn;
 mod windows;
 

@@ -5,13 +5,11 @@ use pl_fixed::Memory;
 use std::alloc::Global;
 use std::marker::Model;
 
-/// Room for the rows of a session of up to so many assets: the first, second and third input of a term or the
-/// values of a cross-section and their groups, who is kept, and the results.
+/// Room for the rows of a session of up to so many assets: the values of a cross-section and their groups, who is kept, and the results.
 #[derive(Debug)]
 pub struct Rows {
     pub(crate) first: Vec<i64>,
     pub(crate) second: Vec<i64>,
-    pub(crate) third: Vec<i64>,
     pub(crate) keep: Vec<i64>,
     pub(crate) results: Vec<i64>,
 }
@@ -22,7 +20,6 @@ impl Drop for Rows {
         let Rows {
             first: _first,
             second: _second,
-            third: _third,
             keep: _keep,
             results: _results,
         } = self;
@@ -48,7 +45,6 @@ impl Rows {
         Ok(Rows {
             first: vec![in alloc; 0; cols]?,
             second: vec![in alloc; 0; cols]?,
-            third: vec![in alloc; 0; cols]?,
             keep: vec![in alloc; 0; cols]?,
             results: vec![in alloc; 0; cols]?,
         })

@@ -3,12 +3,13 @@ ghost use Rattle.std.specs.Prelude.{◌≡◌, ◌+◌, ◌<◌, ◌≤◌, ◌&
 ghost use Rattle.pl_spec.specs.Rounding.{IsCell};
 ghost use Rattle.pl_spec.specs.Formula.{is_true, truth};
 ghost use Rattle.pl_spec.specs.World.{exists};
+ghost use Rattle.pl_spec.specs.Term.Input.{TermInput};
 ghost use Rattle.pl_terms.specs.Nodes.{input_of};
 ghost use Rattle.pl_cross.specs.Arrays.{sid_in};
-ghost use Rattle.pl_values.specs.Arrays.{Fills, IsKeep, chosen, is_kept, window_up_to};
+ghost use Rattle.pl_values.specs.Arrays.{Fills, IsKeep, chosen, is_kept};
 ghost use Rattle.pl_values.specs.Inputs.{IsInputRow};
 ghost use Rattle.pl_exec.specs.Tasks.{assets_in, cell_in, sids_in};
-ghost use Rattle.pl_exec.specs.Jobs.{IsKept, IsMaskLent, IsRead, IsTermLent, IsTurn, node_at, passes, task_at};
+ghost use Rattle.pl_exec.specs.Jobs.{IsKept, IsMaskLent, IsReach, IsRead, IsTermLent, IsTurn, node_at, passes, task_at};
 
 use crate::job::{Array, Job, array_of, cell_at, cells_up_to, input_at, mask_of, window_of};
 use pl_terms::{Input, Node, TermId};
@@ -78,6 +79,18 @@ fn passes(turn: &Turn<'_>, mask: &Option<Array<'_>>, i: usize) -> bool
     }
 }
 
+/// Does the asset in a place exist on the session?
+pub(crate) fn lives(turn: &Turn<'_>, i: usize) -> bool
+    requires turn { IsTurn turn.now }
+    requires asset { i < assets_in (task_at turn.now) }
+    ensures { result ≡ exists (task_at turn.now).world (sid_in (sids_in (task_at turn.now)) i)
+        (pos turn.now.session) }
+{
+    let job = turn.job;
+    let day = job.world.sessions.day(turn.session);
+    exists(turn, day, i)
+}
+
 /// Is the asset in a place kept on the session: does it exist, and pass the mask?
 pub(crate) fn is_kept(turn: &Turn<'_>, mask: &Option<Array<'_>>, i: usize) -> bool
     requires turn { IsTurn turn.now }
@@ -86,9 +99,7 @@ pub(crate) fn is_kept(turn: &Turn<'_>, mask: &Option<Array<'_>>, i: usize) -> bo
     ensures { result ≡ is_kept (task_at turn.now).world (task_at turn.now).pipeline
         (sids_in (task_at turn.now)) (node_at turn.now).mask i turn.now.session }
 {
-    let job = turn.job;
-    let day = job.world.sessions.day(turn.session);
-    if exists(turn, day, i) {
+    if lives(turn, i) {
         passes(turn, mask, i)
     } else {
         false
@@ -176,16 +187,16 @@ pub(crate) fn input_row(turn: &Turn<'_>, place: usize, row: &mut [i64])
     }
 }
 
-/// The cells of a term over the sessions up to this one, as many as the window has.
-pub(crate) fn term_window<'t>(turn: &Turn<'_>, array: &Array<'t>, i: usize) -> &'t [i64]
+/// The cells of a term in its windows on the session and on `more` later ones.
+pub(crate) fn term_reach<'t>(turn: &Turn<'_>, array: &Array<'t>, i: usize, more: usize) -> &'t [i64]
     requires turn { IsTurn turn.now }
     requires lent { (u : ℕ) × IsTermLent turn.now u array.now }
     requires asset { i < assets_in (task_at turn.now) }
+    requires late { turn.now.session + more ≤ turn.now.job.now.to }
     ensures value { (u : ℕ) → IsTermLent turn.now u array.now
-        → result.now ≡ window_up_to (cell_in (task_at turn.now) u i) (node_at turn.now).window
-        turn.now.session }
+        → IsReach turn.now (Some (TermInput u)) i more result.now }
     ensures cells { All IsCell result.now }
 {
-    let last = turn.session - array.low;
-    cells_up_to(array, i, last, window_of(turn.node))
+    let last = turn.session + more - array.low;
+    cells_up_to(array, i, last, window_of(turn.node) + more)
 }

@@ -1,22 +1,20 @@
 //! The windows of a node's inputs: of its bar columns, which are traversed together, and of terms.
-ghost use Rattle.std.specs.Prelude.{◌≡◌, ◌+◌, ◌<◌, true, All, IfSome, slice_get};
+ghost use Rattle.std.specs.Prelude.{◌≡◌, ◌+◌, ◌-◌, ◌<◌, ◌≤◌, ℕ, true, All, get_or, length, pos, slice_get};
 ghost use Rattle.pl_spec.specs.Rounding.{IsCell};
 ghost use Rattle.pl_adjarray.specs.Buffered.{applied_at};
+ghost use Rattle.pl_adjarray.specs.Stillness.{IsStill};
 ghost use Rattle.pl_terms.specs.Sorts.{is_windowed};
-ghost use Rattle.pl_values.specs.Arrays.{is_kept};
-ghost use Rattle.pl_exec.specs.Tasks.{assets_in, cell_in, cut, sids_in};
-ghost use Rattle.pl_exec.specs.Jobs.{AreLent, GoesOn, HasBars, IsColumnAt, IsColumnWindow, IsCourse, IsKeptBefore, IsKeptNow, IsLent, IsLentAt, IsLentWindow, IsMaskLent, IsTurn, advanced, bars_now, counted, node_at, node_in, one_col, place_in, task_at, task_in, turn_in};
+ghost use Rattle.pl_exec.specs.Tasks.{assets_in, cut};
+ghost use Rattle.pl_exec.specs.Jobs.{AreLent, AreStill, AreStillNow, GoesOn, HasBars, HasBegun, IsColumnAt, IsColumnReach, IsCourse, IsGivenOn, IsLent, IsLentAt, IsLentReach, IsMaskLent, IsTurn, advanced, bars_now, counted, node_at, node_in, one_col, passed, place_in, task_at, task_in};
 
 use crate::columns::place_of;
 use crate::course::{Course, turn_on};
-use crate::job::{Array, array_of, input_at, kind_of, mask_of};
-use crate::sliding::slid_cell;
-use crate::turn::{Turn, is_kept, term_window};
+use crate::job::{Array, array_of, input_at, kind_of, mask_of, window_of};
+use crate::turn::{Turn, term_reach};
 use pl_adjarray::Windows;
 use pl_fixed::Steps;
-use pl_running::Running;
+use pl_running::fill_values;
 use pl_terms::Input;
-use pl_values::window_value;
 use std::sync::ledger::Ledger;
 
 /// A traversal for each place of an input; where the input is no bar column, or one that an input before it
@@ -50,6 +48,42 @@ pub(crate) fn advance_all<L: Ledger>(bars: &mut Bars<'_>, steps: &mut Steps<L>)
     advance(&mut bars.first, steps);
     advance(&mut bars.second, steps);
     advance(&mut bars.third, steps);
+}
+
+/// On how many of the next sessions, up to `most`, nothing changes in any traversal.
+pub(crate) fn still(bars: &Bars<'_>, most: usize) -> usize
+    ensures few { result ≤ most }
+    ensures still { AreStill bars.now result }
+{
+    let first = bars.first.still(most);
+    let second = bars.second.still(first);
+    bars.third.still(second)
+}
+
+fn pass_one(windows: &mut Windows<'_>, more: usize)
+    requires begun { HasBegun windows.old }
+    requires still { IsStill windows.old.array windows.old.session more }
+    ensures next { windows.new ≡ passed windows.old more }
+    ensures cost { applied_at windows.old.array windows.new.session
+        ≡ applied_at windows.old.array windows.old.session }
+{
+    windows.pass(more);
+}
+
+/// All traversals go on by so many sessions on which nothing changes.
+pub(crate) fn pass(bars: &mut Bars<'_>, more: usize)
+    requires first { HasBegun bars.old.first }
+    requires second { HasBegun bars.old.second }
+    requires third { HasBegun bars.old.third }
+    requires still { AreStill bars.old more }
+    ensures first { bars.new.first ≡ passed bars.old.first more }
+    ensures second { bars.new.second ≡ passed bars.old.second more }
+    ensures third { bars.new.third ≡ passed bars.old.third more }
+    ensures cost { counted bars.new ≡ counted bars.old }
+{
+    pass_one(&mut bars.first, more);
+    pass_one(&mut bars.second, more);
+    pass_one(&mut bars.third, more);
 }
 
 /// How many steps they took, or u64's greatest value where there were more.
@@ -128,97 +162,84 @@ pub(crate) fn sources_of<'t>(course: &Course<'t>) -> Sources<'t>
     }
 }
 
-// The window of a bar column for an asset, which is the only one of the traversals.
-fn column_window<'b>(turn: &Turn<'_>, bars: Option<&'b Bars<'_>>, q: usize, i: usize) -> &'b [i64]
+// The bars of a column for an asset, which is the only one of the traversals, in its windows on the session
+// and on `more` later ones.
+fn column_reach<'b>(
+    turn: &Turn<'_>,
+    bars: Option<&'b Bars<'_>>,
+    q: usize,
+    i: usize,
+    more: usize,
+) -> &'b [i64]
     requires turn { IsTurn turn.now }
     requires bars { HasBars turn.now.job.now turn.now.term.0 (node_at turn.now) (one_col turn.now.job.now i)
         turn.now.session (bars_now bars) }
+    requires still { AreStillNow (bars_now bars) more }
     requires asset { i < assets_in (task_at turn.now) }
     requires lent { IsColumnAt turn.now q }
-    ensures value { IsColumnWindow turn.now i q result.now }
+    ensures value { IsColumnReach turn.now i q more result.now }
     ensures cells { All IsCell result.now }
 {
     match bars {
-        Some(bars) => windows_in(bars, q).window(0),
+        Some(bars) => windows_in(bars, q).reach(0, more),
         None => unreachable!(),
     }
 }
 
-/// The window of an input for an asset; none where there is no input.
-pub(crate) fn window_in<'t>(
+// The cells of an input for an asset in its windows on the session and on `more` later ones; none where there
+// is no input.
+fn reach_in<'t>(
     turn: &Turn<'_>,
     source: &Source<'t>,
     bars: Option<&'t Bars<'_>>,
     i: usize,
+    more: usize,
 ) -> &'t [i64]
     requires turn { IsTurn turn.now }
     requires bars { HasBars turn.now.job.now turn.now.term.0 (node_at turn.now) (one_col turn.now.job.now i)
         turn.now.session (bars_now bars) }
+    requires still { AreStillNow (bars_now bars) more }
     requires asset { i < assets_in (task_at turn.now) }
     requires lent { IsLentAt turn.now source.now }
-    ensures value { IsLentWindow turn.now source.now i result.now }
+    requires late { turn.now.session + more ≤ turn.now.job.now.to }
+    ensures value { IsLentReach turn.now source.now i more result.now }
     ensures cells { All IsCell result.now }
 {
     match source {
         Source::InNone => &[],
-        Source::InColumn(place) => column_window(turn, bars, *place, i),
-        Source::InTerm(array) => term_window(turn, array, i),
+        Source::InColumn(place) => column_reach(turn, bars, *place, i, more),
+        Source::InTerm(array) => term_reach(turn, array, i, more),
     }
 }
 
-// The term's cell for an asset that is kept.
-fn window_cell(turn: &Turn<'_>, sources: &Sources<'_>, bars: Option<&Bars<'_>>, i: usize) -> i64
-    requires turn { IsTurn turn.now }
-    requires kind { is_windowed (node_at turn.now).kind ≡ true }
-    requires bars { HasBars turn.now.job.now turn.now.term.0 (node_at turn.now) (one_col turn.now.job.now i)
-        turn.now.session (bars_now bars) }
-    requires asset { i < assets_in (task_at turn.now) }
-    requires lent { AreLent (task_at turn.now) (node_at turn.now) sources.now }
-    requires kept { is_kept (task_at turn.now).world (task_at turn.now).pipeline (sids_in (task_at turn.now))
-        (node_at turn.now).mask i turn.now.session ≡ true }
-    ensures value { result ≡ cell_in (task_at turn.now) turn.now.term.0 i turn.now.session }
-    ensures cell { IsCell result }
-{
-    let first = window_in(turn, &sources.first, bars, i);
-    let second = window_in(turn, &sources.second, bars, i);
-    let third = window_in(turn, &sources.third, bars, i);
-    window_value(kind_of(turn.node), first, second, third)
-}
-
-/// The cell of a formula or a filter over windows, for an asset on a session of the course, on which the
-/// traversals stand. Where the windows are slid, what is kept of those on the session before is brought to
-/// the session.
-pub(crate) fn cell_on<'t>(
+/// What a formula or a filter gives over the windows of an asset on some sessions in a row, from session `j` of
+/// the course on, on which nothing changes in the traversals.
+pub(crate) fn fill_stretch<'t>(
     course: &Course<'t>,
     sources: &Sources<'t>,
     bars: Option<&Bars<'_>>,
     i: usize,
     j: usize,
-    slid: bool,
-    kept: &mut Option<Running>,
-) -> i64
+    out: &mut [i64],
+)
     requires course { IsCourse course.now }
     requires kind { is_windowed (node_in course.now).kind ≡ true }
     requires bars { HasBars course.now.job.now course.now.term.0 (node_in course.now)
         (one_col course.now.job.now i) (course.now.low + j) (bars_now bars) }
+    requires still { AreStillNow (bars_now bars) (length out.old - 1) }
     requires asset { i < assets_in (task_in course.now) }
-    requires session { j < course.now.count }
     requires lent { AreLent (task_in course.now) (node_in course.now) sources.now }
-    requires stood { IfSome kept.old (λ r. IsKeptBefore (turn_in course.now j) i r) }
-    ensures value { result ≡ cell_in (task_in course.now) course.now.term.0 i (course.now.low + j) }
-    ensures cell { IsCell result }
-    ensures stands { IfSome kept.new (λ r. IsKeptNow (turn_in course.now j) i r) }
+    requires some { 0 < length out.old }
+    requires within { j + length out.old ≤ course.now.count }
+    ensures long { length out.new ≡ length out.old }
+    ensures values { (m : ℕ) → m < length out.old
+        → IsGivenOn course.now i (j + m) (get_or out.new m (pos 0)) }
 {
     let turn = turn_on(course, j);
-    if is_kept(&turn, &sources.mask, i) {
-        if slid {
-            slid_cell(&turn, sources, bars, i, kept)
-        } else {
-            *kept = None;
-            window_cell(&turn, sources, bars, i)
-        }
-    } else {
-        *kept = None;
-        turn.none
-    }
+    let more = out.len() - 1;
+    let first = reach_in(&turn, &sources.first, bars, i, more);
+    let second = reach_in(&turn, &sources.second, bars, i, more);
+    let third = reach_in(&turn, &sources.third, bars, i, more);
+    let kind = kind_of(turn.node);
+    fill_values(kind, window_of(turn.node), first, second, third, out);
 }

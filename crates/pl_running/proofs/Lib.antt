@@ -2,6 +2,7 @@ pub mod Bounds
 mod Chosen
 pub mod Exact
 pub mod FirstPlaces
+pub mod Following
 pub mod Peaks
 pub mod Sliding
 pub mod Squares

@@ -4,6 +4,7 @@
 
 mod deviations;
 mod extremes;
+mod lanes;
 mod laws;
 mod parts;
 mod places;
@@ -13,5 +14,6 @@ mod steps;
 mod sums;
 mod values;
 
+pub use crate::lanes::fill_values;
 pub use crate::laws::{extremes_slide, sums_slide, windows_slide};
 pub use crate::running::{Running, keeps};

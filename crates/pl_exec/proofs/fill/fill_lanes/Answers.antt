@@ -1,9 +1,23 @@
-use Rattle.pl_exec.specs.Tasks.{graph_in}
-use Rattle.pl_exec.specs.Jobs.{node_in, task_in}
-use Rattle.pl_exec.proofs.NewColumns.{no_bars}
+use Rattle.std.proofs.Common.{◌≤◌, ◌*◌, ◌+◌, length, arith}
+use Rattle.pl_exec.specs.Tasks.{assets_in, cell_in}
+use Rattle.pl_exec.specs.Jobs.{task_in}
+use Rattle.pl_exec.proofs.Courses.{all_laned, course_array, lane_room, none_laned, one_laned}
 use Rattle.pl_exec.proofs.fill.fill_lanes.Goals as goal
 
-pub fill_windows-requires-clause-none : goal.fill_windows-requires-clause-none
-fill_windows-requires-clause-none c =
-    let few = c.requires.course.job.task.checked.graph.few c.args.course.now.term.0 (node_in c.args.course.now) c.requires.course.node in
-    no_bars (graph_in (task_in c.args.course.now)) c.args.course.now.term.0 (node_in c.args.course.now) c.requires.course.node few c.requires.none
+pub loop-i-init : goal.loop-i-init
+loop-i-init c = none_laned _ _ _ _
+
+pub start_in-start-requires : goal.start_in-start-requires
+start_in-start-requires c =
+    let within : (c.loop-i.i + 1) * c.args.course.now.count ≤ length c.loop-i.own = lane_room c.loop-i.i (assets_in (task_in c.args.course.now)) c.args.course.now.count (length c.loop-i.own) c.loop-i-test.true (omega (arith, c.requires.room, c.loop-i.auto.own)) in
+    omega (arith, within)
+
+pub loop-i-preserved : goal.loop-i-preserved
+loop-i-preserved c =
+    let within : (c.loop-i.i + 1) * c.args.course.now.count ≤ length c.loop-i.own = lane_room c.loop-i.i (assets_in (task_in c.args.course.now)) c.args.course.now.count (length c.loop-i.own) c.loop-i-test.true (omega (arith, c.requires.room, c.loop-i.auto.own)) in
+    rw c.start_in-start.ensures.value (one_laned (cell_in (task_in c.args.course.now) c.args.course.now.term.0) c.args.course.now.low c.args.course.now.count c.loop-i.i _ c.loop-i.own c.plain_lane.new.out within c.loop-i.invariant c.plain_lane.ensures)
+
+pub returns : goal.returns
+returns c =
+    course_array c.args.course.now c.requires.course c.loop-i.own
+    (all_laned (cell_in (task_in c.args.course.now) c.args.course.now.term.0) (assets_in (task_in c.args.course.now)) c.args.course.now.low c.args.course.now.count c.loop-i.i c.loop-i.own c.loop-i.invariant (omega (arith, c.loop-i-test.false)) (omega (arith, c.requires.room, c.loop-i.auto.own)))

@@ -1,49 +1,78 @@
-use Rattle.std.proofs.Common.{rules, ◌≡◌, ◌<◌, ◌+◌, arith, subst, ap, w64, FitsSigned}
-use Rattle.std.proofs.lemmas.Int.{to_z-of_z}
-use Rattle.pl_exec.specs.Jobs.{AreBars, node_in, one_col}
-use Rattle.pl_exec.proofs.Courses.{one_begun_lane, count_of}
-use Rattle.pl_exec.proofs.Spans.{all_begun}
-use Rattle.pl_exec.proofs.Stands.{stands_on, bars_next, bars_suc, bars_here}
-use Rattle.pl_exec.proofs.Successions.{kept_next}
+use Rattle.std.proofs.Common.{◌≡◌, ◌+◌, ◌-◌, ◌∙◌, arith, subst, ap, length, length-take, length-drop, take, drop}
+use Rattle.pl_exec.specs.Jobs.{AreBars, AreStill, IsGivenOn, node_in, one_col}
+use Rattle.pl_exec.proofs.Courses.{count_of}
+use Rattle.pl_exec.proofs.Stands.{bars_begun, bars_here, bars_later, bars_next, stands_on}
+use Rattle.pl_exec.proofs.Stretches.{kept_lane, more_given}
 use Rattle.pl_exec.proofs.fill.walk_bars.Goals as goal
 
 pub advance_all-requires-clause-first : goal.advance_all-requires-clause-first
 advance_all-requires-clause-first g c =
     let n = count_of c.args.course.now c.requires.course in
-    stands_on c.args.course.now.job.now c.args.course.now.workspace.now c.args.course.now.term.0 (node_in c.args.course.now) c.requires.run (one_col c.args.course.now.job.now c.args.i) 0 c.loop-j.j (omega (arith, n, c.loop-j-test.true, c.loop-j.invariant.lane.long)) c.loop-j.bars.first c.loop-j.invariant.bars.first
+    stands_on c.args.course.now.job.now c.args.course.now.workspace.now c.args.course.now.term.0 (node_in c.args.course.now) c.requires.run (one_col c.args.course.now.job.now c.args.i) 0 c.loop-done.done (omega (arith, n, c.loop-done-test.true, c.loop-done.auto.out, c.requires.long)) c.loop-done.bars.first c.loop-done.invariant.bars.first
 
 pub advance_all-requires-clause-second : goal.advance_all-requires-clause-second
 advance_all-requires-clause-second g c =
     let n = count_of c.args.course.now c.requires.course in
-    stands_on c.args.course.now.job.now c.args.course.now.workspace.now c.args.course.now.term.0 (node_in c.args.course.now) c.requires.run (one_col c.args.course.now.job.now c.args.i) 1 c.loop-j.j (omega (arith, n, c.loop-j-test.true, c.loop-j.invariant.lane.long)) c.loop-j.bars.second c.loop-j.invariant.bars.second
+    stands_on c.args.course.now.job.now c.args.course.now.workspace.now c.args.course.now.term.0 (node_in c.args.course.now) c.requires.run (one_col c.args.course.now.job.now c.args.i) 1 c.loop-done.done (omega (arith, n, c.loop-done-test.true, c.loop-done.auto.out, c.requires.long)) c.loop-done.bars.second c.loop-done.invariant.bars.second
 
 pub advance_all-requires-clause-third : goal.advance_all-requires-clause-third
 advance_all-requires-clause-third g c =
     let n = count_of c.args.course.now c.requires.course in
-    stands_on c.args.course.now.job.now c.args.course.now.workspace.now c.args.course.now.term.0 (node_in c.args.course.now) c.requires.run (one_col c.args.course.now.job.now c.args.i) 2 c.loop-j.j (omega (arith, n, c.loop-j-test.true, c.loop-j.invariant.lane.long)) c.loop-j.bars.third c.loop-j.invariant.bars.third
+    stands_on c.args.course.now.job.now c.args.course.now.workspace.now c.args.course.now.term.0 (node_in c.args.course.now) c.requires.run (one_col c.args.course.now.job.now c.args.i) 2 c.loop-done.done (omega (arith, n, c.loop-done-test.true, c.loop-done.auto.out, c.requires.long)) c.loop-done.bars.third c.loop-done.invariant.bars.third
 
-pub cell_on-requires-clause-bars : goal.cell_on-requires-clause-bars
-cell_on-requires-clause-bars g c =
-    bars_here c.args.course.now.job.now c.args.course.now.workspace.now c.args.course.now.term.0 (node_in c.args.course.now) c.requires.run (one_col c.args.course.now.job.now c.args.i) c.loop-j.j _ c.advance_all.new.bars
-    (bars_next c.args.course.now.job.now c.args.course.now.workspace.now c.args.course.now.term.0 (node_in c.args.course.now) c.requires.run (one_col c.args.course.now.job.now c.args.i) c.loop-j.j c.loop-j.bars c.advance_all.new.bars c.loop-j.invariant.bars c.advance_all.ensures.first c.advance_all.ensures.second c.advance_all.ensures.third)
-    (ap (λ l. l + c.loop-j.j) c.requires.course.low)
+pub fill_stretch-requires-clause-bars : goal.fill_stretch-requires-clause-bars
+fill_stretch-requires-clause-bars g c =
+    bars_here c.args.course.now.job.now c.args.course.now.workspace.now c.args.course.now.term.0 (node_in c.args.course.now) c.requires.run (one_col c.args.course.now.job.now c.args.i) c.loop-done.done _ c.advance_all.new.bars
+    (bars_next c.args.course.now.job.now c.args.course.now.workspace.now c.args.course.now.term.0 (node_in c.args.course.now) c.requires.run (one_col c.args.course.now.job.now c.args.i) c.loop-done.done c.loop-done.bars c.advance_all.new.bars c.loop-done.invariant.bars c.advance_all.ensures.first c.advance_all.ensures.second c.advance_all.ensures.third)
+    (ap (λ l. l + c.loop-done.done) c.requires.course.low)
 
-pub loop-j-preserved : goal.loop-j-preserved
-loop-j-preserved g c =
-    let r : FitsSigned w64 c.cell_on.result = search rules in
-    let here : c.loop-j.j < c.args.course.now.count = omega (arith, c.loop-j-test.true, c.loop-j.invariant.lane.long) in
-    rw (to_z-of_z w64 _ r) (record {
-      lane = one_begun_lane c.args.course.now c.args.i c.loop-j.j c.loop-j.out c.cell_on.result c.loop-j.invariant.lane here c.cell_on.ensures.value c.cell_on.ensures.cell;
-      bars = bars_suc c.args.course.now.job.now c.args.course.now.workspace.now c.args.course.now.term.0 (node_in c.args.course.now) c.requires.run (one_col c.args.course.now.job.now c.args.i) c.loop-j.j c.advance_all.new.bars
-          (bars_next c.args.course.now.job.now c.args.course.now.workspace.now c.args.course.now.term.0 (node_in c.args.course.now) c.requires.run (one_col c.args.course.now.job.now c.args.i) c.loop-j.j c.loop-j.bars c.advance_all.new.bars c.loop-j.invariant.bars c.advance_all.ensures.first c.advance_all.ensures.second c.advance_all.ensures.third);
-      kept = kept_next c.args.course.now c.args.i c.loop-j.j c.cell_on.new.kept c.cell_on.ensures.stands;
-      cost = omega (arith, c.advance_all.ensures.cost, c.loop-j.invariant.cost);
-    })
+pub fill_stretch-requires-clause-still : goal.fill_stretch-requires-clause-still
+fill_stretch-requires-clause-still g c =
+    let n = c.still-more.result in
+    let taken = length-take (c.loop-done.done + n + 1 - c.loop-done.done) (drop c.loop-done.done c.loop-done.out) in
+    let dropped = length-drop c.loop-done.done c.loop-done.out in
+    let e : n ≡ length (take (c.loop-done.done + n + 1 - c.loop-done.done) (drop c.loop-done.done c.loop-done.out)) - 1 = omega (arith, taken, dropped, c.still-more.ensures.few, c.loop-done-test.true) in
+    subst (AreStill c.advance_all.new.bars) e c.still-more.ensures.still
+
+pub loop-done-preserved : goal.loop-done-preserved
+loop-done-preserved g c =
+    let n = c.still-more.result in
+    let taken = length-take (c.loop-done.done + n + 1 - c.loop-done.done) (drop c.loop-done.done c.loop-done.out) in
+    let dropped = length-drop c.loop-done.done c.loop-done.out in
+    let part : length (take (c.loop-done.done + n + 1 - c.loop-done.done) (drop c.loop-done.done c.loop-done.out)) ≡ n + 1 = omega (arith, taken, dropped, c.still-more.ensures.few, c.loop-done-test.true) in
+    record {
+      within = omega (arith, c.still-more.ensures.few, c.loop-done-test.true, c.loop-done.auto.out, c.requires.long);
+      given = λ m h. more_given (λ k x. IsGivenOn c.args.course.now c.args.i k x) c.loop-done.out c.fill_stretch.new.out c.loop-done.done (n + 1) _ (omega (arith, c.loop-done-test.true)) (c.fill_stretch.ensures.long ∙ part)
+          c.loop-done.invariant.given (λ k l. c.fill_stretch.ensures.values k (omega (arith, l, part))) m (omega (arith, h));
+      bars = bars_later c.args.course.now.job.now c.args.course.now.workspace.now c.args.course.now.term.0 (node_in c.args.course.now) c.requires.run (one_col c.args.course.now.job.now c.args.i) c.loop-done.done n c.advance_all.new.bars c.pass.new.bars
+          (bars_next c.args.course.now.job.now c.args.course.now.workspace.now c.args.course.now.term.0 (node_in c.args.course.now) c.requires.run (one_col c.args.course.now.job.now c.args.i) c.loop-done.done c.loop-done.bars c.advance_all.new.bars c.loop-done.invariant.bars c.advance_all.ensures.first c.advance_all.ensures.second c.advance_all.ensures.third)
+          c.pass.ensures.first c.pass.ensures.second c.pass.ensures.third;
+      cost = omega (arith, c.advance_all.ensures.cost, c.loop-done.invariant.cost, c.pass.ensures.cost);
+    }
+
+pub pass-requires-clause-first : goal.pass-requires-clause-first
+pass-requires-clause-first g c =
+    (bars_begun c.args.course.now.job.now c.args.course.now.workspace.now c.args.course.now.term.0 (node_in c.args.course.now) c.requires.run (one_col c.args.course.now.job.now c.args.i) c.loop-done.done c.advance_all.new.bars
+    (bars_next c.args.course.now.job.now c.args.course.now.workspace.now c.args.course.now.term.0 (node_in c.args.course.now) c.requires.run (one_col c.args.course.now.job.now c.args.i) c.loop-done.done c.loop-done.bars c.advance_all.new.bars c.loop-done.invariant.bars c.advance_all.ensures.first c.advance_all.ensures.second c.advance_all.ensures.third)).0
+
+pub pass-requires-clause-second : goal.pass-requires-clause-second
+pass-requires-clause-second g c =
+    (bars_begun c.args.course.now.job.now c.args.course.now.workspace.now c.args.course.now.term.0 (node_in c.args.course.now) c.requires.run (one_col c.args.course.now.job.now c.args.i) c.loop-done.done c.advance_all.new.bars
+    (bars_next c.args.course.now.job.now c.args.course.now.workspace.now c.args.course.now.term.0 (node_in c.args.course.now) c.requires.run (one_col c.args.course.now.job.now c.args.i) c.loop-done.done c.loop-done.bars c.advance_all.new.bars c.loop-done.invariant.bars c.advance_all.ensures.first c.advance_all.ensures.second c.advance_all.ensures.third)).1
+
+pub pass-requires-clause-third : goal.pass-requires-clause-third
+pass-requires-clause-third g c =
+    (bars_begun c.args.course.now.job.now c.args.course.now.workspace.now c.args.course.now.term.0 (node_in c.args.course.now) c.requires.run (one_col c.args.course.now.job.now c.args.i) c.loop-done.done c.advance_all.new.bars
+    (bars_next c.args.course.now.job.now c.args.course.now.workspace.now c.args.course.now.term.0 (node_in c.args.course.now) c.requires.run (one_col c.args.course.now.job.now c.args.i) c.loop-done.done c.loop-done.bars c.advance_all.new.bars c.loop-done.invariant.bars c.advance_all.ensures.first c.advance_all.ensures.second c.advance_all.ensures.third)).2
 
 pub returns-clause-out : goal.returns-clause-out
-returns-clause-out g c = all_begun _ _ c.loop-j.j c.loop-j.out c.loop-j.invariant.lane (omega (arith, c.loop-j-test.false, c.loop-j.invariant.lane.long))
+returns-clause-out g c =
+    kept_lane c.args.course.now c.requires.course c.args.i c.loop-done.out c.keep_lane.new.out
+    (λ m h. c.loop-done.invariant.given m (omega (arith, h, c.loop-done-test.false, c.loop-done.auto.out, c.requires.long)))
+    c.keep_lane.ensures.each
+    (c.keep_lane.ensures.long ∙ c.loop-done.auto.out ∙ c.requires.long)
 
 pub returns-clause-bars : goal.returns-clause-bars
 returns-clause-bars g c =
-    let e : c.loop-j.j ≡ c.args.course.now.count = omega (arith, c.loop-j-test.false, c.loop-j.auto.j-end, c.loop-j.invariant.lane.long) in
-    subst (λ m. AreBars c.args.course.now.job.now c.args.course.now.term.0 (node_in c.args.course.now) (one_col c.args.course.now.job.now c.args.i) m c.loop-j.bars) e c.loop-j.invariant.bars
+    let e : c.loop-done.done ≡ c.args.course.now.count = omega (arith, c.loop-done-test.false, c.loop-done.auto.out, c.loop-done.invariant.within, c.requires.long) in
+    subst (λ m. AreBars c.args.course.now.job.now c.args.course.now.term.0 (node_in c.args.course.now) (one_col c.args.course.now.job.now c.args.i) m c.loop-done.bars) e c.loop-done.invariant.bars

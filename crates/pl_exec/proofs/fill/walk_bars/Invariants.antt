@@ -1,12 +1,14 @@
-use Rattle.std.proofs.Common.{◌≡◌, ◌+◌, IfSome}
-use Rattle.pl_exec.specs.Tasks.{cell_in}
-use Rattle.pl_exec.specs.Jobs.{AreBars, Begins, IsKeptBefore, counted, node_in, one_col, task_in, turn_in}
+use Rattle.std.proofs.Common.{◌≡◌, ℕ, ◌+◌, ◌-◌, ◌<◌, ◌≤◌, get_or, length, pos}
+use Rattle.pl_exec.specs.Jobs.{AreBars, IsGivenOn, counted, node_in, one_col}
 use Rattle.pl_exec.proofs.fill.walk_bars.Given as goal
 
-abbrev pub invariant-loop-j : goal.invariant-loop-j
-invariant-loop-j g l = record {
-  lane : Begins (λ k. cell_in (task_in l.course) l.course.term.0 l.fn.i (l.course.low + k)) l.course.count l.j l.out;
-  bars : AreBars l.course.job.now l.course.term.0 (node_in l.course) (one_col l.course.job.now l.fn.i) l.j l.bars;
-  kept : IfSome l.kept (λ r. IsKeptBefore (turn_in l.course l.j) l.fn.i r);
+abbrev pub invariant-loop-done : goal.invariant-loop-done
+invariant-loop-done g l = record {
+  within : l.done ≤ l.course.count;
+  given : (m : ℕ) → m < l.done → IsGivenOn l.course l.fn.i m (get_or l.out m (pos 0));
+  bars : AreBars l.course.job.now l.course.term.0 (node_in l.course) (one_col l.course.job.now l.fn.i) l.done l.bars;
   cost : l.steps ≡ l.fn.steps + counted l.bars;
 }
+
+abbrev pub decreases-loop-done : goal.decreases-loop-done
+decreases-loop-done g l = length l.out - l.done

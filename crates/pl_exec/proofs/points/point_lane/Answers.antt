@@ -1,7 +1,7 @@
 use Rattle.std.proofs.Common.{◌≡◌, arith, length, get_or, pos, ap, ◌∙◌, sym, subst}
 use Rattle.pl_terms.specs.Kinds.{kind_of}
 use Rattle.pl_pointwise.specs.Operands.{IsOperation, AreOperands, operation}
-use Rattle.pl_exec.proofs.PointLanes.{point_takes, point_lane_is}
+use Rattle.pl_exec.proofs.PointLanes.{point_given_on, point_takes}
 use Rattle.pl_exec.proofs.points.point_lane.Goals as goal
 
 pub pointwise-requires-clause-kind : goal.pointwise-requires-clause-kind
@@ -15,8 +15,6 @@ pointwise-requires-clause-operands c =
 pub returns : goal.returns
 returns c =
     let size : length c.pointwise.new.out ≡ c.args.course.now.count = c.pointwise.ensures.length ∙ c.requires.long in
-    point_lane_is c.args.course.now c.requires.course c.args.i c.operand-first.result.now c.operand-second.result.now c.operand-third.result.now c.operand-first.ensures c.operand-second.ensures c.operand-third.ensures c.requires.kind c.pointwise.new.out c.keep_lane.new.out
+    point_given_on c.args.course.now c.requires.course c.args.i c.operand-first.result.now c.operand-second.result.now c.operand-third.result.now c.operand-first.ensures c.operand-second.ensures c.operand-third.ensures c.requires.kind c.pointwise.new.out
     (λ j h. c.pointwise.ensures.values j (omega (arith, h, c.requires.long)) ∙ ap (λ q. operation q (get_or c.operand-first.result.now j (pos 0)) (get_or c.operand-second.result.now j (pos 0)) (get_or c.operand-third.result.now j (pos 0))) c.kind_of.ensures)
     (λ j h. c.pointwise.ensures.cells j (pos 0) (omega (arith, h, size)))
-    c.keep_lane.ensures.each
-    (c.keep_lane.ensures.long ∙ size)

@@ -1,0 +1,194 @@
+-- The values of a term for an asset on sessions in a row.
+use Rattle.std.proofs.Common.{◌≡◌, ℕ, zero, suc, ◌+◌, ◌-◌, ◌*◌, ◌<◌, ◌≤◌, true, ℤ, pos, List, [], ◌∷◌, ◌++◌, length, take, drop, get_or, get_or-set_same, get_or-set_other, set, Option, Some, slice_get, refl, sym, ◌∙◌, ap, subst, arith, All, inl, inr}
+use Rattle.std.proofs.lemmas.Bool.{cases_eq, cases_lt}
+use Rattle.std.proofs.lemmas.List.{ext_get_or, get_or-take, get_or-drop, get_or_append_left, length-map, length-take, length-drop}
+use borrow.Rule.Slice.PartMut.{put_mid, post_of}
+use Rattle.pl_spec.specs.Rounding.{IsCell}
+use Rattle.pl_spec.specs.Kind.{Kind}
+use Rattle.pl_spec.specs.Term as spec
+use Rattle.pl_spec.specs.Window.{downward}
+use Rattle.pl_terms.specs.Sorts.{is_windowed}
+use Rattle.pl_factors.specs.Kinds.{formula_of}
+use Rattle.pl_running.specs.Lanes.{AreValues, TakesLanes, window_at}
+use Rattle.pl_running.specs.Spans.{TakesWindows}
+use Rattle.pl_running.proofs.Following.{cells_at}
+use Rattle.pl_values.specs.Arrays.{chosen, is_kept, window_up_to}
+use Rattle.pl_values.specs.Families.{TakesWindows as TakesGiven, windowed}
+use Rattle.pl_values.specs.Inputs.{input_window}
+use Rattle.pl_values.specs.Laws.{IsGiven}
+use Rattle.pl_values.proofs.Given.{window-cell}
+use Rattle.pl_exec.specs.declared.course.Course.{Course}
+use Rattle.pl_exec.specs.declared.turn.Turn.{Turn}
+use Rattle.pl_exec.specs.declared.job.Array.{Array}
+use Rattle.pl_exec.specs.Tasks.{assets_in, cell_in, low_in, sids_in}
+use Rattle.pl_exec.specs.Jobs.{IsCourse, IsGivenOn, IsLane, IsReach, IsTermLent, IsTurn, node_at, node_in, task_at, task_in, turn_in}
+use Rattle.pl_exec.proofs.Courses.{course_turn}
+use Rattle.pl_exec.proofs.Givens.{chosen_cell, node_is, none_cell, window_kind}
+use Rattle.pl_exec.proofs.Held.{read_cells, read_end, read_size, read_window}
+use Rattle.pl_exec.proofs.Spans.{at_downward, long}
+
+-- ---- the cells of a term
+
+-- a window among the cells up to a later session
+up_to_at : (f : ℕ → ℤ) (size more s m : ℕ) → m ≤ more → window_at size m (window_up_to f (size + more) (s + more)) ≡ window_up_to f size (s + m)
+up_to_at f size more s m h =
+    let whole : length (window_up_to f (size + more) (s + more)) ≡ size + more = length-map (downward (size + more)) (λ n. f (s + more - n)) ∙ long (size + more) in
+    let part : length (window_at size m (window_up_to f (size + more) (s + more))) ≡ size
+    = (let t = length-take size (drop m (window_up_to f (size + more) (s + more))) in let d = length-drop m (window_up_to f (size + more) (s + more)) in omega (arith, t, d, whole, h)) in
+    ext_get_or (pos 0) _ _ (part ∙ sym (length-map (downward size) (λ n. f (s + m - n)) ∙ long size))
+    (λ k l.
+    let inside : k < size = omega (arith, l, part) in
+    let at : s + more - (size + more - 1 - (m + k)) ≡ s + m - (size - 1 - k) = omega (arith, inside, h) in
+    get_or-take size (drop m (window_up_to f (size + more) (s + more))) k (pos 0) inside
+    ∙ get_or-drop m (window_up_to f (size + more) (s + more)) k (pos 0)
+    ∙ at_downward (λ n. f (s + more - n)) (size + more) (m + k) (pos 0) (omega (arith, inside, h))
+    ∙ ap f at
+    ∙ sym (at_downward (λ n. f (s + m - n)) size k (pos 0) inside))
+
+module _ (t : Turn) (is : IsTurn t) (i u : ℕ) (a : Array) (lent : IsTermLent t u a) (asset : i < assets_in (task_at t)) (more size : ℕ) (same : size ≡ (node_at t).window + more) (late : t.session + more ≤ t.job.now.to) where
+  some : 1 ≤ (node_at t).window + more
+  some = let s = lent.read.some in omega (arith, s)
+
+  early : low_in (task_at t) u + ((node_at t).window + more) ≤ t.session + more + 1
+  early = let e = lent.read.early in omega (arith, e)
+
+  pub reach_end : i * a.count + (t.session + more - a.low) + 1 ≤ length a.cells.now
+  reach_end = read_end (task_at t) u a.low a.count a.cells.now lent.holds lent.low lent.end (t.session + more) size ((node_at t).window + more) i same asset some early late
+
+  pub reach_size : size ≤ i * a.count + (t.session + more - a.low) + 1
+  reach_size = read_size (task_at t) u a.low a.count a.cells.now lent.holds lent.low lent.end (t.session + more) size ((node_at t).window + more) i same asset some early late
+
+  taken_is : take size (drop (i * a.count + (t.session + more - a.low) + 1 - size) a.cells.now) ≡ window_up_to (cell_in (task_at t) u i) ((node_at t).window + more) (t.session + more)
+  taken_is = read_window (task_at t) u a.low a.count a.cells.now lent.holds lent.low lent.end (t.session + more) size ((node_at t).window + more) i same asset some early late
+
+  pub term_reached : IsReach t (Some (spec.TermInput u)) i more (take size (drop (i * a.count + (t.session + more - a.low) + 1 - size) a.cells.now))
+  term_reached = record {
+    windows = λ m h. ap (window_at (node_at t).window m) taken_is ∙ up_to_at (cell_in (task_at t) u i) (node_at t).window more t.session m h;
+    long = λ h. (let l = ap length taken_is ∙ length-map (downward ((node_at t).window + more)) (λ n. cell_in (task_at t) u i (t.session + more - n)) ∙ long ((node_at t).window + more) in omega (arith, l));
+  }
+
+  pub reach_cells : All IsCell (take size (drop (i * a.count + (t.session + more - a.low) + 1 - size) a.cells.now))
+  reach_cells = subst (All IsCell) (sym taken_is) (read_cells (task_at t) u a.low a.count a.cells.now lent.holds lent.low lent.end (t.session + more) size ((node_at t).window + more) i same asset some early late)
+
+-- ---- what a formula gives
+
+formula_windowed : (k : Kind) (a b c : List ℤ) → is_windowed k ≡ true → formula_of k a b c ≡ windowed k a b c
+formula_windowed k a b c e = let f = window_kind k e in subst (λ q. formula_of q a b c ≡ windowed q a b c) (sym f.1) refl
+
+module _ (t : Turn) (is : IsTurn t) (i : ℕ) (a b c : List ℤ) (kind : is_windowed (node_at t).kind ≡ true)
+    (ea : a ≡ input_window (task_at t).world (task_at t).pipeline (sids_in (task_at t)) (node_at t).window (slice_get (node_at t).inputs 0) i t.session)
+    (eb : b ≡ input_window (task_at t).world (task_at t).pipeline (sids_in (task_at t)) (node_at t).window (slice_get (node_at t).inputs 1) i t.session)
+    (ec : c ≡ input_window (task_at t).world (task_at t).pipeline (sids_in (task_at t)) (node_at t).window (slice_get (node_at t).inputs 2) i t.session)
+    (ca : All IsCell a) (cb : All IsCell b) (cc' : All IsCell c) where
+  both : TakesGiven (node_at t).kind a b c × IsGiven (task_at t).world (task_at t).pipeline (sids_in (task_at t)) t.term.0 (node_at t) i t.session (windowed (node_at t).kind a b c)
+  both =
+      let f = window_kind (node_at t).kind kind in
+      window-cell (task_at t).world (task_at t).pipeline (sids_in (task_at t)) t.term.0 (node_at t) i t.session (node_is t is) f.0 a b c f.1 is.deep
+      (record { first = ea; second = eb; third = ec; first_cells = ca; second_cells = cb; third_cells = cc' })
+
+  takes_windows : TakesWindows (node_at t).kind a b c
+  takes_windows = let w = both.0 in record { kind = w.kind; first = w.first; second = w.second; third = w.third; few = w.few; paired = w.paired }
+
+  formula_given : IsGiven (task_at t).world (task_at t).pipeline (sids_in (task_at t)) t.term.0 (node_at t) i t.session (formula_of (node_at t).kind a b c)
+  formula_given = subst (IsGiven (task_at t).world (task_at t).pipeline (sids_in (task_at t)) t.term.0 (node_at t) i t.session) (sym (formula_windowed (node_at t).kind a b c kind)) both.1
+
+-- ---- on sessions in a row
+
+module _ (c : Course) (is : IsCourse c) (i j n : ℕ) (within : j + n ≤ c.count) (kind : is_windowed (node_in c).kind ≡ true) (a b d : List ℤ)
+    (ra : IsReach (turn_in c j) (slice_get (node_in c).inputs 0) i (n - 1) a) (rb : IsReach (turn_in c j) (slice_get (node_in c).inputs 1) i (n - 1) b) (rd : IsReach (turn_in c j) (slice_get (node_in c).inputs 2) i (n - 1) d)
+    (ca : All IsCell a) (cb : All IsCell b) (cd : All IsCell d) where
+  window_on : (o : Option spec.Input) (xs : List ℤ) → IsReach (turn_in c j) o i (n - 1) xs → (m : ℕ) → m < n
+      → window_at (node_in c).window m xs ≡ input_window (task_in c).world (task_in c).pipeline (sids_in (task_in c)) (node_in c).window o i (c.low + (j + m))
+  window_on o xs r m h =
+      let e : c.low + j + m ≡ c.low + (j + m) = omega arith in
+      r.windows m (omega (arith, h)) ∙ ap (input_window (task_in c).world (task_in c).pipeline (sids_in (task_in c)) (node_in c).window o i) e
+
+  long_on : (o : Option spec.Input) (xs : List ℤ) → IsReach (turn_in c j) o i (n - 1) xs → 0 < n → 0 < length xs → (node_in c).window + n ≤ length xs + 1
+  long_on o xs r some has = let l = r.long has in omega (arith, l, some)
+
+  module _ (m : ℕ) (h : m < n) where
+    taken_at : TakesWindows (node_in c).kind (window_at (node_in c).window m a) (window_at (node_in c).window m b) (window_at (node_in c).window m d)
+    taken_at =
+        takes_windows (turn_in c (j + m)) (course_turn c is (j + m) (omega (arith, h, within))) i _ _ _ kind (window_on _ a ra m h) (window_on _ b rb m h) (window_on _ d rd m h)
+        (cells_at (node_in c).window m a ca) (cells_at (node_in c).window m b cb) (cells_at (node_in c).window m d cd)
+
+    given_at : IsGiven (task_in c).world (task_in c).pipeline (sids_in (task_in c)) c.term.0 (node_in c) i (c.low + (j + m))
+        (formula_of (node_in c).kind (window_at (node_in c).window m a) (window_at (node_in c).window m b) (window_at (node_in c).window m d))
+    given_at =
+        formula_given (turn_in c (j + m)) (course_turn c is (j + m) (omega (arith, h, within))) i _ _ _ kind (window_on _ a ra m h) (window_on _ b rb m h) (window_on _ d rd m h)
+        (cells_at (node_in c).window m a ca) (cells_at (node_in c).window m b cb) (cells_at (node_in c).window m d cd)
+
+  pub lanes_taken : 0 < n → TakesLanes (node_in c).kind (node_in c).window n a b d
+  lanes_taken some = record {
+    first = ca;
+    second = cb;
+    third = cd;
+    first_long = long_on _ a ra some;
+    second_long = long_on _ b rb some;
+    third_long = long_on _ d rd some;
+    windows = taken_at;
+  }
+
+  pub stretch_given : (out : List ℤ) → AreValues (node_in c).kind (node_in c).window a b d n out → (m : ℕ) → m < n → IsGivenOn c i (j + m) (get_or out m (pos 0))
+  stretch_given out values m h = record {
+    given = subst (IsGiven (task_in c).world (task_in c).pipeline (sids_in (task_in c)) c.term.0 (node_in c) i (c.low + (j + m))) (sym (values.each m h)) (given_at m h);
+    cell = values.cell m h;
+  }
+
+-- ---- a lane, stretch by stretch
+
+front : (xs zs : List ℤ) (a k : ℕ) (d : ℤ) → k < a → a ≤ length xs → get_or (take a xs ++ zs) k d ≡ get_or xs k d
+front xs zs zero k d h l = absurd (omega (arith, h))
+front [] zs (suc a) k d h l = absurd (omega (arith, l))
+front (x ∷ xs) zs (suc a) zero d h l = refl
+front (x ∷ xs) zs (suc a) (suc k) d h l = front xs zs a k d (omega (arith, h)) (omega (arith, l))
+
+behind : (xs zs : List ℤ) (a j k : ℕ) (d : ℤ) → j ≡ a + k → a ≤ length xs → get_or (take a xs ++ zs) j d ≡ get_or zs k d
+behind xs zs zero j k d e l = let same : j ≡ k = omega (arith, e) in ap (λ i. get_or zs i d) same
+behind [] zs (suc a) j k d e l = absurd (omega (arith, l))
+behind (x ∷ xs) zs (suc a) zero k d e l = absurd (omega (arith, e))
+behind (x ∷ xs) zs (suc a) (suc j) k d e l = behind xs zs a j k d (omega (arith, e)) (omega (arith, l))
+
+-- what holds of the cells before a part, and of the part that is written, holds of the cells so far
+pub more_given : (P : ℕ → ℤ → Type 0) (xs ys : List ℤ) (done n k : ℕ) → done ≤ length xs → length ys ≡ n → ((m : ℕ) → m < done → P m (get_or xs m (pos 0))) → ((m : ℕ) → m < n → P (done + m) (get_or ys m (pos 0)))
+    → (m : ℕ) → m < done + n → P m (get_or (put_mid done k xs ys) m (pos 0))
+more_given P xs ys done n k within size so_far more m h = elim (cases_lt m done) [
+  | inl p ↦ subst (P m) (sym (front xs (ys ++ post_of done k xs) done m (pos 0) p within)) (so_far m p)
+  | inr p ↦ (
+      let e : m ≡ done + (m - done) = omega (arith, p) in
+      let inside : m - done < n = omega (arith, h, p) in
+      let own : get_or (put_mid done k xs ys) m (pos 0) ≡ get_or ys (m - done) (pos 0)
+      = behind xs (ys ++ post_of done k xs) done m (m - done) (pos 0) e within ∙ get_or_append_left ys (post_of done k xs) (pos 0) (m - done) (omega (arith, inside, size)) in
+      subst (P m) (sym own) (subst (λ x. P x (get_or ys (m - done) (pos 0))) (sym e) (more (m - done) inside)))
+]
+
+-- one cell more
+pub one_given : (P : ℕ → ℤ → Type 0) (done : ℕ) (out : List ℤ) (x : ℤ) → ((m : ℕ) → m < done → P m (get_or out m (pos 0))) → done < length out → P done x
+    → (m : ℕ) → m < done + 1 → P m (get_or (set out done x) m (pos 0))
+one_given P done out x so_far room here m h = elim (cases_eq m done) [
+  | inl p ↦ subst (P m) (sym (ap (λ k. get_or (set out done x) k (pos 0)) p ∙ get_or-set_same out done x (pos 0) room)) (subst (λ k. P k x) (sym p) here)
+  | inr p ↦ subst (P m) (sym (get_or-set_other out done m x (pos 0) p)) (so_far m (omega (arith, h, p)))
+]
+
+-- a cell that is said otherwise
+pub given_by : (c : Course) (i j : ℕ) (x y : ℤ) → y ≡ x → IsGiven (task_in c).world (task_in c).pipeline (sids_in (task_in c)) c.term.0 (node_in c) i (c.low + j) x → IsCell x → IsGivenOn c i j y
+given_by c i j x y e given cell = record {
+  given = subst (IsGiven (task_in c).world (task_in c).pipeline (sids_in (task_in c)) c.term.0 (node_in c) i (c.low + j)) (sym e) given;
+  cell = subst IsCell (sym e) cell;
+}
+
+-- and then the empty value where the asset is not kept
+module _ (c : Course) (is : IsCourse c) (i : ℕ) (made out : List ℤ) (given : (j : ℕ) → j < c.count → IsGivenOn c i j (get_or made j (pos 0)))
+    (kept : (j : ℕ) → j < c.count → get_or out j (pos 0) ≡ chosen (is_kept (task_in c).world (task_in c).pipeline (sids_in (task_in c)) (node_in c).mask i (c.low + j)) (get_or made j (pos 0)) c.none) where
+  cell_at : (j : ℕ) → j < c.count → get_or out j (pos 0) ≡ cell_in (task_in c) c.term.0 i (c.low + j)
+  cell_at j h =
+      kept j h
+      ∙ ap (chosen (is_kept (task_in c).world (task_in c).pipeline (sids_in (task_in c)) (node_in c).mask i (c.low + j)) (get_or made j (pos 0))) is.none
+      ∙ sym (given j h).given
+
+  pub kept_lane : length out ≡ c.count → IsLane c i out
+  kept_lane size = record {
+    long = size;
+    each = cell_at;
+    cell = λ j h. subst IsCell (sym (kept j h) ∙ cell_at j h) (chosen_cell (is_kept (task_in c).world (task_in c).pipeline (sids_in (task_in c)) (node_in c).mask i (c.low + j)) (get_or made j (pos 0)) c.none (given j h).cell (none_cell (turn_in c j) (course_turn c is j h)));
+  }

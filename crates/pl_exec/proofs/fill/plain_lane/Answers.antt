@@ -1,0 +1,15 @@
+use Rattle.std.proofs.Common.{◌∙◌}
+use Rattle.pl_exec.specs.Tasks.{graph_in}
+use Rattle.pl_exec.specs.Jobs.{node_in, task_in}
+use Rattle.pl_exec.proofs.NewColumns.{no_bars}
+use Rattle.pl_exec.proofs.Stretches.{kept_lane}
+use Rattle.pl_exec.proofs.fill.plain_lane.Goals as goal
+
+pub given_lane-requires-clause-none : goal.given_lane-requires-clause-none
+given_lane-requires-clause-none c =
+    let few = c.requires.course.job.task.checked.graph.few c.args.course.now.term.0 (node_in c.args.course.now) c.requires.course.node in
+    no_bars (graph_in (task_in c.args.course.now)) c.args.course.now.term.0 (node_in c.args.course.now) c.requires.course.node few c.requires.none
+
+pub returns : goal.returns
+returns c =
+    kept_lane c.args.course.now c.requires.course c.args.i c.given_lane.new.out c.keep_lane.new.out c.given_lane.ensures c.keep_lane.ensures.each (c.keep_lane.ensures.long ∙ c.given_lane.auto.out ∙ c.requires.long)

@@ -1,0 +1,15 @@
+use Rattle.std.proofs.Common.{◌≡◌, ◌∙◌, pos, subst, sym, true}
+use Rattle.pl_spec.specs.World.{exists}
+use Rattle.pl_cross.specs.Arrays.{sid_in}
+use Rattle.pl_exec.specs.declared.turn.Turn.{Turn}
+use Rattle.pl_exec.specs.Tasks.{sids_in}
+use Rattle.pl_exec.specs.Jobs.{IsMaskLent, node_in, task_at, task_in}
+use Rattle.pl_exec.proofs.Lives.{kept_throughout}
+use Rattle.pl_exec.proofs.keep.is_kept_throughout.Goals as goal
+
+pub returns-then-lives : goal.returns-then-lives
+returns-then-lives c t j h =
+    kept_throughout c.args.course.now c.requires.course c.args.i c.requires.asset (subst (IsMaskLent (task_in c.args.course.now) (node_in c.args.course.now).mask) c.in-None.is c.requires.lent.mask)
+    (subst (λ (u : Turn). exists (task_at u).world (sid_in (sids_in (task_at u)) c.args.i) (pos u.session) ≡ true) c.turn_on.ensures.is (sym c.lives.ensures ∙ c.if-lives.true))
+    (subst (λ (u : Turn). exists (task_at u).world (sid_in (sids_in (task_at u)) c.args.i) (pos u.session) ≡ true) c.turn_on-then-lives.ensures.is (sym c.lives-then-lives.ensures ∙ t))
+    j h

@@ -1,0 +1,20 @@
+use Rattle.std.proofs.Common.{rules, ◌≡◌, ◌∙◌, arith, ap, sym, w64, FitsSigned}
+use Rattle.std.proofs.lemmas.Int.{to_z-of_z}
+use Rattle.pl_cross.specs.Arrays.{sid_in}
+use Rattle.pl_values.specs.Families.{sid_flag}
+use Rattle.pl_exec.specs.Tasks.{sids_in}
+use Rattle.pl_exec.specs.Jobs.{node_in, task_in, turn_in}
+use Rattle.pl_exec.proofs.Courses.{course_turn}
+use Rattle.pl_exec.proofs.Givens.{sid_flag_cell, sid_given}
+use Rattle.pl_exec.proofs.Places.{sid_told}
+use Rattle.pl_exec.proofs.Stretches.{given_by}
+use Rattle.pl_exec.proofs.leaves.sids_lane.Goals as goal
+
+pub returns : goal.returns
+returns c j h =
+    let value : FitsSigned w64 c.sids_value.result = search rules in
+    let same = simp to_z-of_z at (c.fill_same.ensures j (omega (arith, h, c.requires.long))) in
+    let sid = sid_told c.args.course.now.job.now.world.assets.now c.args.course.now.job.now.cols.now c.args.i c.requires.asset c.sid-sid.result c.sid-sid.ensures in
+    let flag : c.sids_value.result ≡ sid_flag (node_in c.args.course.now).kind (sid_in (sids_in (task_in c.args.course.now)) c.args.i)
+    = c.sids_value.ensures ∙ ap (λ q. sid_flag q c.sid-sid.result) c.kind_of.ensures ∙ ap (sid_flag (node_in c.args.course.now).kind) (sym sid) in
+    given_by c.args.course.now c.args.i j _ _ (same ∙ flag) (sid_given (turn_in c.args.course.now j) (course_turn c.args.course.now c.requires.course j h) c.args.i c.requires.kind) (sid_flag_cell _ _ c.requires.kind)

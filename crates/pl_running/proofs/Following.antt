@@ -1,0 +1,140 @@
+-- Windows that follow on each other in a list, two of them as a span, and the values over them one after the other.
+use Rattle.std.proofs.Common.{◌≡◌, ℕ, ◌+◌, ◌-◌, ◌<◌, ◌≤◌, ◌⊎◌, inl, inr, IsTrue, ℤ, pos, List, length, take, drop, get_or, set, All, sym, ◌∙◌, ap, subst, arith, length-take, length-drop, get_or-set_same, get_or-set_other}
+use Rattle.std.proofs.lemmas.Bool.{cases_eq, cases_lt}
+use Rattle.std.proofs.lemmas.List.{take-take, take_all, drop-drop, drop-take}
+use Rattle.std.proofs.lemmas.List.Elements.{All-take, All-drop}
+use Rattle.pl_spec.specs.Rounding.{IsCell}
+use Rattle.pl_spec.specs.Formula.{formula, mean}
+use Rattle.pl_spec.specs.Kind.{Kind}
+use Rattle.pl_spec.specs.Kind.Kind.{Window}
+use Rattle.pl_spec.specs.Kind.WindowKind.{SimpleMovingAverage}
+use Rattle.pl_running.specs.Lanes.{AreValues, HasWindows, TakesLanes, formula_at, window_at}
+use Rattle.pl_running.specs.Spans.{TakesSpans, after, before, takes_range}
+
+front_of : (size : ℕ) (ys : List ℤ) → (length ys ≡ 0) ⊎ (size + 1 ≤ length ys) → take (length (take (size + 1) ys) - 1) (take (size + 1) ys) ≡ take size ys
+front_of size ys (inl none) =
+    let whole : take (size + 1) ys ≡ ys = take_all (size + 1) ys (omega (arith, none)) in
+    rw whole (take_all (length ys - 1) ys (omega (arith, none)) ∙ sym (take_all size ys (omega (arith, none))))
+front_of size ys (inr long) =
+    let n : length (take (size + 1) ys) - 1 ≡ size = let t = length-take (size + 1) ys in omega (arith, t, long) in
+    ap (λ m. take m (take (size + 1) ys)) n ∙ take-take size (size + 1) ys (omega arith)
+
+module _ (size k : ℕ) (xs : List ℤ) (has : 0 < length xs → k + (size + 1) ≤ length xs) where
+  -- the window before, and the one after, of a span
+  pub before_is : before (window_at (size + 1) k xs) ≡ window_at size k xs
+  before_is = let d = length-drop k xs in elim (cases_lt 0 (length xs)) [
+    | inl some ↦ (let room = has some in front_of size (drop k xs) (inr (omega (arith, d, room))))
+    | inr none ↦ front_of size (drop k xs) (inl (omega (arith, d, none)))
+  ]
+
+  pub after_is : after (window_at (size + 1) k xs) ≡ window_at size (k + 1) xs
+  after_is =
+      let e : size + 1 ≡ 1 + size = omega arith in
+      ap (λ n. drop 1 (take n (drop k xs))) e ∙ drop-take 1 size (drop k xs) ∙ ap (take size) (drop-drop 1 k xs)
+
+  long_is : 0 < length xs → length (window_at (size + 1) k xs) ≡ size + 1
+  long_is some = let room = has some in let d = length-drop k xs in let t = length-take (size + 1) (drop k xs) in omega (arith, room, d, t)
+
+short_is : (size k : ℕ) (xs : List ℤ) → 0 < length (window_at size k xs) → 0 < length xs
+short_is size k xs h = let d = length-drop k xs in let t = length-take size (drop k xs) in omega (arith, h, d, t)
+
+pub cells_at : (size k : ℕ) (xs : List ℤ) → All IsCell xs → All IsCell (window_at size k xs)
+cells_at size k xs h = All-take IsCell size (drop k xs) (All-drop IsCell k xs h)
+
+module _ (q : Kind) (size n : ℕ) (a b c : List ℤ) (lanes : TakesLanes q size n a b c) where
+  -- a window has room, and so has a span
+  pub roomy : (xs : List ℤ) → HasWindows size n xs → (k : ℕ) → k < n → 0 < length xs → k + size ≤ length xs
+  roomy xs has k h some = let w = has some in omega (arith, w, h)
+
+  pub roomy_span : (xs : List ℤ) → HasWindows size n xs → (k : ℕ) → k + 1 < n → 0 < length xs → k + (size + 1) ≤ length xs
+  roomy_span xs has k h some = let w = has some in omega (arith, w, h)
+
+  pub spans_at : 1 ≤ size → 0 < length a → (IsTrue (takes_range q) → (0 < length b) × (0 < length c)) → (k : ℕ) → k + 1 < n
+      → TakesSpans q (window_at (size + 1) k a) (window_at (size + 1) k b) (window_at (size + 1) k c)
+  spans_at some has range k h =
+      let w = lanes.windows k (omega (arith, h)) in
+      let la = long_is size k a (roomy_span a lanes.first_long k h) has in
+      let room = roomy a lanes.first_long k (omega (arith, h)) has in
+      let wa : length (window_at size k a) ≡ size = (let d = length-drop k a in let t = length-take size (drop k a) in omega (arith, d, t, room)) in
+      let few = w.few in
+      record {
+        first = cells_at (size + 1) k a lanes.first;
+        second = cells_at (size + 1) k b lanes.second;
+        third = cells_at (size + 1) k c lanes.third;
+        some = omega (arith, la, some);
+        few = omega (arith, la, wa, few);
+        paired = λ p. (
+            let e = w.paired p in
+            let lb = long_is size k b (roomy_span b lanes.second_long k h) (short_is size k b (omega (arith, e, wa, some))) in
+            omega (arith, la, lb));
+        range = λ r. (
+            let s = range r in
+            let lb = long_is size k b (roomy_span b lanes.second_long k h) s.0 in
+            let lc = long_is size k c (roomy_span c lanes.third_long k h) s.1 in
+            (omega (arith, lb, some), omega (arith, lc, some)));
+      }
+
+-- ---- values
+
+module _ (q : Kind) (size : ℕ) (a b c : List ℤ) where
+  pub none_valued : (out : List ℤ) → AreValues q size a b c 0 out
+  none_valued out = record { each = λ j h. absurd (omega (arith, h)); cell = λ j h. absurd (omega (arith, h)) }
+
+  pub one_valued : (done : ℕ) (out : List ℤ) (x : ℤ) → AreValues q size a b c done out → done < length out → x ≡ formula_at q size a b c done → IsCell x
+      → AreValues q size a b c (done + 1) (set out done x)
+  one_valued done out x so_far room e is_cell = record {
+    each = λ j h. elim (cases_eq j done) [
+      | inl p ↦ ap (λ k. get_or (set out done x) k (pos 0)) p ∙ get_or-set_same out done x (pos 0) room ∙ e ∙ ap (formula_at q size a b c) (sym p)
+      | inr p ↦ get_or-set_other out done j x (pos 0) p ∙ so_far.each j (omega (arith, h, p))
+    ];
+    cell = λ j h. elim (cases_eq j done) [
+      | inl p ↦ subst IsCell (sym (ap (λ k. get_or (set out done x) k (pos 0)) p ∙ get_or-set_same out done x (pos 0) room)) is_cell
+      | inr p ↦ subst IsCell (sym (get_or-set_other out done j x (pos 0) p)) (so_far.cell j (omega (arith, h, p)))
+    ];
+  }
+
+-- ---- lists for lists
+
+pub same_of : {R : Type 0} (f : List ℤ → List ℤ → List ℤ → R) (x y z a b c : List ℤ) → x ≡ a → y ≡ b → z ≡ c → f x y z ≡ f a b c
+same_of f x y z a b c p q r = ap (λ l. f l y z) p ∙ ap (λ l. f a l z) q ∙ ap (λ l. f a b l) r
+
+pub holds_of : (P : List ℤ → List ℤ → List ℤ → Type 0) (x y z a b c : List ℤ) → x ≡ a → y ≡ b → z ≡ c → P a b c → P x y z
+holds_of P x y z a b c p q r h = subst (λ l. P l y z) (sym p) (subst (λ l. P a l z) (sym q) (subst (λ l. P a b l) (sym r) h))
+
+-- the windows of a span that was taken one place before
+module _ (size k j : ℕ) (next : j ≡ k - 1 + 1) (xs span : List ℤ) (has : 0 < length xs → (k - 1) + (size + 1) ≤ length xs) (is : span ≡ window_at (size + 1) (k - 1) xs) where
+  pub span_before : before span ≡ window_at size (k - 1) xs
+  span_before = ap before is ∙ before_is size (k - 1) xs has
+
+  pub span_after : after span ≡ window_at size j xs
+  span_after = ap after is ∙ after_is size (k - 1) xs has ∙ ap (λ n. window_at size n xs) (sym next)
+
+-- ---- means
+
+-- the first cells are the means of the first windows
+pub record AreMeans (size : ℕ) (a : List ℤ) (done : ℕ) (out : List ℤ) : Type 0 where
+  pub each : (j : ℕ) → j < done → get_or out j (pos 0) ≡ mean (window_at size j a)
+  pub cell : (j : ℕ) → j < done → IsCell (get_or out j (pos 0))
+
+module _ (size : ℕ) (a : List ℤ) where
+  pub no_means : (out : List ℤ) → AreMeans size a 0 out
+  no_means out = record { each = λ j h. absurd (omega (arith, h)); cell = λ j h. absurd (omega (arith, h)) }
+
+  pub one_mean : (done : ℕ) (out : List ℤ) (x : ℤ) → AreMeans size a done out → done < length out → x ≡ mean (window_at size done a) → IsCell x → AreMeans size a (done + 1) (set out done x)
+  one_mean done out x so_far room e is_cell = record {
+    each = λ j h. elim (cases_eq j done) [
+      | inl p ↦ ap (λ k. get_or (set out done x) k (pos 0)) p ∙ get_or-set_same out done x (pos 0) room ∙ e ∙ ap (λ k. mean (window_at size k a)) (sym p)
+      | inr p ↦ get_or-set_other out done j x (pos 0) p ∙ so_far.each j (omega (arith, h, p))
+    ];
+    cell = λ j h. elim (cases_eq j done) [
+      | inl p ↦ subst IsCell (sym (ap (λ k. get_or (set out done x) k (pos 0)) p ∙ get_or-set_same out done x (pos 0) room)) is_cell
+      | inr p ↦ subst IsCell (sym (get_or-set_other out done j x (pos 0) p)) (so_far.cell j (omega (arith, h, p)))
+    ];
+  }
+
+  pub means_are : (b c : List ℤ) (n done : ℕ) (out : List ℤ) → n ≤ done → AreMeans size a done out → AreValues (Window SimpleMovingAverage) size a b c n out
+  unfolding formula
+  means_are b c n done out few m = record { each = λ j h. m.each j (omega (arith, few, h)); cell = λ j h. m.cell j (omega (arith, few, h)) }
+
+pub window_long : (size k : ℕ) (xs : List ℤ) → k + size ≤ length xs → length (window_at size k xs) ≡ size
+window_long size k xs room = let d = length-drop k xs in let t = length-take size (drop k xs) in omega (arith, d, t, room)

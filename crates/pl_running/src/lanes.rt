@@ -1,0 +1,163 @@
+//! The values of a formula over windows that follow on each other, each a cell later than the one before.
+ghost use Rattle.std.specs.Prelude.{◌≡◌, ◌+◌, ◌<◌, ◌≤◌, ℤ, List, true, All, IsTrue, length};
+ghost use Rattle.pl_spec.specs.Rounding.{IsCell};
+ghost use Rattle.pl_spec.specs.Kind.Kind.{Window};
+ghost use Rattle.pl_spec.specs.Kind.WindowKind.{SimpleMovingAverage};
+ghost use Rattle.pl_terms.specs.Kinds.{kind_of};
+ghost use Rattle.pl_factors.specs.Kinds.{formula_of};
+ghost use Rattle.pl_running.specs.Kept.{kept_of};
+ghost use Rattle.pl_running.specs.Lanes.{AreValues, TakesLanes, window_at};
+ghost use Rattle.pl_running.specs.Spans.{TakesSpans, TakesWindows, after, before, takes_range};
+
+use crate::running::{Running, keeps};
+use crate::starts::sums_of;
+use crate::steps::next_sums;
+use crate::values::mean;
+use pl_terms::TermKind;
+
+// From how many cells on a window of a kind is slid: a shorter one is read anew as quickly.
+fn least_of(kind: &TermKind) -> usize {
+    match kind {
+        TermKind::WindowMax | TermKind::WindowMin => 24,
+        _ => 6,
+    }
+}
+
+// Do the windows of a kind slide, and has each input that it reads windows?
+#[tactic(auto, unfolding(pl_terms::specs::Kinds::kind_of))]
+fn slides(kind: &TermKind, size: usize, a: &[i64], b: &[i64], c: &[i64]) -> bool
+    ensures some { result ≡ true → 1 ≤ size }
+    ensures first { result ≡ true → 0 < length a.now }
+    ensures range { result ≡ true
+        → IsTrue (takes_range (kind_of kind.now)) → (0 < length b.now) × (0 < length c.now) }
+{
+    let long = size >= 1 && size >= least_of(kind) && keeps(kind);
+    match kind {
+        TermKind::FastStochasticOscillator => long
+            && !a.is_empty()
+            && !b.is_empty()
+            && !c.is_empty(),
+        _ => long && !a.is_empty(),
+    }
+}
+
+// The window that begins with a cell, of a list that has it or no cell at all.
+fn window_at(cells: &[i64], k: usize, size: usize) -> &[i64]
+    requires { 0 < length cells.now → k + size ≤ length cells.now }
+    ensures { result.now ≡ window_at size k cells.now }
+{
+    if cells.is_empty() {
+        cells
+    } else {
+        &cells[k..k + size]
+    }
+}
+
+// All cells but the first.
+fn after(cells: &[i64]) -> &[i64]
+    ensures { result.now ≡ after cells.now }
+{
+    match cells {
+        [] => cells,
+        [_, rest @ ..] => rest,
+    }
+}
+
+// The value over windows alone.
+fn value_of(kind: &TermKind, a: &[i64], b: &[i64], c: &[i64]) -> i64
+    requires { TakesWindows (kind_of kind.now) a.now b.now c.now }
+    ensures value { result ≡ formula_of (kind_of kind.now) a.now b.now c.now }
+    ensures cell { IsCell result }
+{
+    Running::start(kind, a, b, c).value(kind, a, b, c)
+}
+
+// The value over the windows a cell later, from what is kept of those before, which is then kept of these.
+fn next_value(running: &mut Running, kind: &TermKind, a: &[i64], b: &[i64], c: &[i64]) -> i64
+    requires spans { TakesSpans (kind_of kind.now) a.now b.now c.now }
+    requires windows { TakesWindows (kind_of kind.now) (after a.now) (after b.now) (after c.now) }
+    requires stands { running.old
+        ≡ kept_of (kind_of kind.now) (before a.now) (before b.now) (before c.now) }
+    ensures stands { running.new ≡ kept_of (kind_of kind.now) (after a.now) (after b.now) (after c.now) }
+    ensures value { result ≡ formula_of (kind_of kind.now) (after a.now) (after b.now) (after c.now) }
+    ensures cell { IsCell result }
+{
+    running.slide(kind, a, b, c);
+    running.value(kind, after(a), after(b), after(c))
+}
+
+// The values, each anew.
+fn fill_anew(kind: &TermKind, size: usize, a: &[i64], b: &[i64], c: &[i64], out: &mut [i64])
+    requires { TakesLanes (kind_of kind.now) size (length out.old) a.now b.now c.now }
+    ensures { AreValues (kind_of kind.now) size a.now b.now c.now (length out.old) out.new }
+{
+    for k in 0..out.len() {
+        out[k] = value_of(
+            kind,
+            window_at(a, k, size),
+            window_at(b, k, size),
+            window_at(c, k, size),
+        );
+    }
+}
+
+// The means, each from the sum and the count of the window before.
+fn fill_means(size: usize, a: &[i64], out: &mut [i64])
+    requires cells { All IsCell a.now }
+    requires some { 1 ≤ size }
+    requires few { size ≤ 1260 }
+    requires windows { 0 < length out.old }
+    requires long { size + length out.old ≤ length a.now + 1 }
+    ensures { (b c : List ℤ) → AreValues (Window SimpleMovingAverage) size a.now b c (length out.old)
+        out.new }
+{
+    let first = window_at(a, 0, size);
+    let mut kept = sums_of(first);
+    out[0] = mean(&kept, first);
+    for k in 1..out.len() {
+        let span = window_at(a, k - 1, size + 1);
+        kept = next_sums(&kept, span);
+        out[k] = mean(&kept, after(span));
+    }
+}
+
+// The values, each from what is kept of the windows before.
+fn fill_slid(kind: &TermKind, size: usize, a: &[i64], b: &[i64], c: &[i64], out: &mut [i64])
+    requires lanes { TakesLanes (kind_of kind.now) size (length out.old) a.now b.now c.now }
+    requires some { 1 ≤ size }
+    requires windows { 0 < length out.old }
+    requires first { 0 < length a.now }
+    requires range { IsTrue (takes_range (kind_of kind.now)) → (0 < length b.now) × (0 < length c.now) }
+    ensures { AreValues (kind_of kind.now) size a.now b.now c.now (length out.old) out.new }
+{
+    let first = window_at(a, 0, size);
+    let second = window_at(b, 0, size);
+    let third = window_at(c, 0, size);
+    let mut running = Running::start(kind, first, second, third);
+    out[0] = running.value(kind, first, second, third);
+    for k in 1..out.len() {
+        let a_span = window_at(a, k - 1, size + 1);
+        let b_span = window_at(b, k - 1, size + 1);
+        let c_span = window_at(c, k - 1, size + 1);
+        out[k] = next_value(&mut running, kind, a_span, b_span, c_span);
+    }
+}
+
+/// What a formula or a filter gives over windows of `size` cells that follow on each other: into cell k over
+/// those that begin with cell k of the lists of its inputs in order. A list that the kind does not use may
+/// have no cell. It takes no memory.
+#[tactic(auto, unfolding(pl_terms::specs::Kinds::kind_of))]
+pub fn fill_values(kind: &TermKind, size: usize, a: &[i64], b: &[i64], c: &[i64], out: &mut [i64])
+    requires { TakesLanes (kind_of kind.now) size (length out.old) a.now b.now c.now }
+    ensures long { length out.new ≡ length out.old }
+    ensures values { AreValues (kind_of kind.now) size a.now b.now c.now (length out.old) out.new }
+{
+    if !out.is_empty() && slides(kind, size, a, b, c) {
+        match kind {
+            TermKind::SimpleMovingAverage => fill_means(size, a, out),
+            _ => fill_slid(kind, size, a, b, c, out),
+        }
+    } else {
+        fill_anew(kind, size, a, b, c, out);
+    }
+}
