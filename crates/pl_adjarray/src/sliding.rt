@@ -35,8 +35,8 @@ pub(crate) fn follow<L: Ledger>(
     }
 }
 
-// Brings a buffer from a session over all on which nothing changes, or else to the next one. Gives the session
-// that it came to.
+// Brings a buffer from a session over all on which nothing changes, or else to the next one. Gives the
+// session that it came to.
 fn move_on<L: Ledger>(
     array: &AdjustedArray<'_>,
     scratch: &mut [i64],

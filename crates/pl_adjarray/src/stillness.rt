@@ -38,22 +38,14 @@ fn is_still(array: &AdjustedArray<'_>, session: usize, count: usize) -> bool
 
 // How many sessions, of so many behind one, there seem to be before one on which an adjustment of a column's
 // asset becomes effective, if there is one.
-fn before_change(
-    array: &AdjustedArray<'_>,
-    col: u32,
-    session: usize,
-    most: usize,
-) -> Option<usize>
+fn before_change(array: &AdjustedArray<'_>, col: u32, session: usize, most: usize) -> Option<usize>
     requires { session + most ≤ array.now.first + array.now.rows }
     ensures { IfSome result (λ n. n ≤ most) }
 {
     let sessions = array.sessions;
     let today = sessions.day(session);
     let last = sessions.day(session + most);
-    match array
-        .adjustments
-        .events_between(col as usize, today, last)
-    {
+    match array.adjustments.events_between(col as usize, today, last) {
         [] => None,
         [first, ..] => match sessions.first_at_or_after(first.day) {
             Some(next) => Some(next.saturating_sub(session + 1).min(most)),
@@ -62,8 +54,8 @@ fn before_change(
     }
 }
 
-// How many sessions there seem to be before a change, at most so many. The near ones are looked at first, since
-// all adjustments between two days are counted.
+// How many sessions there seem to be before a change, at most so many. The near ones are looked at first,
+// since all adjustments between two days are counted.
 fn ahead_of(array: &AdjustedArray<'_>, col: u32, session: usize, most: usize) -> usize
     requires { session + most ≤ array.now.first + array.now.rows }
     ensures { result ≤ most }

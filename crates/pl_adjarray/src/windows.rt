@@ -101,8 +101,8 @@ impl<'s> Windows<'s> {
         &self.scratch[end - self.window..end]
     }
 
-    /// On how many of the next sessions, up to `most`, nothing changes: no adjustment becomes effective. Where
-    /// one becomes so on the next session, on none.
+    /// On how many of the next sessions, up to `most`, nothing changes: no adjustment becomes effective.
+    /// Where one becomes so on the next session, on none.
     pub fn still(&self, most: usize) -> usize
         ensures few { result ≤ most }
         ensures still { IsStill self.now.array self.now.session result }

@@ -273,7 +273,8 @@ fn cells_for(course: &Course<'_>, place: usize, cols: &[u32], cells: &[i64]) -> 
     }
 }
 
-// The cells of an asset, by traversals of its bars that begin: from one change of the bars to the next at once.
+// The cells of an asset, by traversals of its bars that begin: from one change of the bars to the next at
+// once.
 fn walk_bars<'x, L: Ledger>(
     course: &Course<'x>,
     sources: &Sources<'x>,

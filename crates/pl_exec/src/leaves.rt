@@ -1,4 +1,4 @@
-//! Constants, sids, labels and tests of labels, for an asset on all sessions at once, whether it is kept or not.
+//! Constants, sids, labels and tests of labels, for an asset on all sessions at once, kept or not.
 ghost use Rattle.std.specs.Prelude.{◌≡◌, ◌<◌, ℕ, true, get_or, length, pos};
 ghost use Rattle.pl_spec.specs.Kind.Kind.{Constant, Label};
 ghost use Rattle.pl_values.specs.Families.{is_label_test, is_sids};

@@ -212,8 +212,8 @@ fn reach_in<'t>(
     }
 }
 
-/// What a formula or a filter gives over the windows of an asset on some sessions in a row, from session `j` of
-/// the course on, on which nothing changes in the traversals.
+/// What a formula or a filter gives over the windows of an asset on some sessions in a row, from session `j`
+/// of the course on, on which nothing changes in the traversals.
 pub(crate) fn fill_stretch<'t>(
     course: &Course<'t>,
     sources: &Sources<'t>,
