@@ -5,7 +5,7 @@ ghost use Rattle.pl_records.specs.Records.{csv_records};
 ghost use Rattle.pl_bars.specs.Bars.{bars_of, key_of, rows_in, says_bar};
 ghost use Rattle.pl_bars.specs.BarSet.{AreBarsIn};
 ghost use Rattle.pl_bars.specs.Faults.{fault_of};
-ghost use Rattle.pl_spec.specs.Limits.{most_sessions};
+ghost use Rattle.pl_spec.specs.Limits.{most_sessions, most_bars};
 
 use crate::MOST_BARS;
 use crate::bar_set::BarSet;
@@ -77,7 +77,7 @@ const FEWEST_BYTES: usize = 18;
 // No bars, with room for as many as the file can hold. Memory that no bar reaches is never touched.
 fn room_for(alloc: Global, bytes: &[u8]) -> Result<Vec<BarRow>, AllocError>
     ensures none { IfOk result (λ v. v.items ≡ []) }
-    ensures room { IfOk result (λ v. vec_capacity v ≡ min (length bytes.now / FEWEST_BYTES) MOST_BARS) }
+    ensures room { IfOk result (λ v. vec_capacity v ≡ min (length bytes.now / FEWEST_BYTES) most_bars) }
 {
     Vec::with_capacity(alloc, (bytes.len() / FEWEST_BYTES).min(MOST_BARS))
 }
@@ -113,11 +113,11 @@ fn next_bar(
     sessions: &Sessions,
     assets: &Assets,
 ) -> Result<BarRow, BarsError>
-    requires few { length before.now ≤ MOST_BARS }
+    requires few { length before.now ≤ most_bars }
     requires cols { seen.old.cols ≡ length assets.now }
     requires sessions { seen.old.sessions ≡ length sessions.now }
     requires seen { AreBarsIn seen.old before.now }
-    ensures room { OnOk result (length before.now < MOST_BARS) }
+    ensures room { OnOk result (length before.now < most_bars) }
     ensures cols { seen.new.cols ≡ length assets.now }
     ensures sessions { seen.new.sessions ≡ length sessions.now }
     ensures seen { IfOk result (λ b. AreBarsIn seen.new (before.now ++ b ∷ [])) }

@@ -4,6 +4,7 @@
 ghost use Rattle.std.specs.Prelude.{◌≡◌, ◌<◌, ◌≤◌, pos, length, slice_get, take, position, Some, IfOk, IfSome};
 ghost use Rattle.std.specs.Int.RustNames.{int_le};
 ghost use Rattle.std.specs.Ordering.{int_eq};
+ghost use Rattle.pl_spec.specs.Limits.{most_sessions};
 ghost use Rattle.pl_spec.specs.Dates.{IsDay};
 ghost use Rattle.pl_spec.specs.Periods.{period_start};
 ghost use Rattle.pl_records.specs.Reading.{Answers};
@@ -79,7 +80,7 @@ impl Sessions {
         ensures length { result ≡ length self.now }
         ensures days { AreDays self.now }
         ensures some { 0 < result }
-        ensures few { result ≤ MOST_SESSIONS }
+        ensures few { result ≤ most_sessions }
     {
         self.days.len()
     }
@@ -89,7 +90,7 @@ impl Sessions {
         requires { i < length self.now }
         ensures exact { slice_get self.now i ≡ Some result }
         ensures date { IsDay result }
-        ensures few { length self.now ≤ MOST_SESSIONS }
+        ensures few { length self.now ≤ most_sessions }
     {
         self.days[i]
     }

@@ -1,4 +1,5 @@
 ghost use Rattle.std.specs.Prelude.{◌≡◌, ◌+◌, ◌<◌, ◌≤◌, length, OnOk};
+ghost use Rattle.pl_spec.specs.Limits.{most_sessions};
 ghost use Rattle.pl_records.specs.Reading.{Answers, at_line, rows_of};
 ghost use Rattle.pl_records.specs.Records.{csv_records};
 ghost use Rattle.pl_calendar.specs.Days.{day_in, is_later, says_day, sessions_of};
@@ -37,8 +38,8 @@ fn read_days(alloc: Global, bytes: &[u8]) -> Result<Vec<i32>, CalendarError>
 // The day of the record that was read last, behind the days before it.
 #[tactic(auto, unfolding(crate::specs::Days::says_day))]
 fn next_day(before: &[i32], row: &Records) -> Result<i32, CalendarError>
-    requires { length before.now ≤ MOST_SESSIONS }
-    ensures room { OnOk result (length before.now < MOST_SESSIONS) }
+    requires { length before.now ≤ most_sessions }
+    ensures room { OnOk result (length before.now < most_sessions) }
     ensures exact { Answers (λ d. d) fault_of result
         (at_line (1 + length before.now) (says_day before.now row.now.fields)) }
 {

@@ -3,6 +3,7 @@
 #![tactic(auto)]
 
 ghost use Rattle.std.specs.Prelude.{◌≡◌, ◌<◌, ◌≤◌, ◌^◌, ◌==◌, All, length, slice_get, position, Some, IfOk, IfSome, option_map};
+ghost use Rattle.pl_spec.specs.Limits.{most_assets};
 ghost use Rattle.pl_records.specs.Reading.{Answers};
 ghost use Rattle.pl_spec.specs.World.{lives_on};
 ghost use Rattle.pl_records.specs.Records.{csv_records};
@@ -74,7 +75,7 @@ impl Assets {
     pub fn len(&self) -> usize
         ensures length { result ≡ length self.now }
         ensures assets { AreAssets self.now }
-        ensures few { result ≤ MOST_ASSETS }
+        ensures few { result ≤ most_assets }
         ensures small { All (λ a. a.sid < 2 ^ 32) self.now }
     {
         self.rows.len()
@@ -91,7 +92,7 @@ impl Assets {
     /// The column of a sid, if an asset has it.
     pub fn col_of(&self, sid: u32) -> Option<usize>
         ensures within { IfSome result (λ i. i < length self.now) }
-        ensures few { IfSome result (λ i. i < MOST_ASSETS) }
+        ensures few { IfSome result (λ i. i < most_assets) }
         ensures exact { result ≡ position (λ a. sid_of a == sid) self.now }
     {
         search::col_of(&self.rows, sid)

@@ -1,4 +1,5 @@
 ghost use Rattle.std.specs.Prelude.{◌≡◌, ◌+◌, ◌<◌, ◌≤◌, [], ◌∷◌, ◌++◌, length, OnOk, IfOk};
+ghost use Rattle.pl_spec.specs.Limits.{most_assets};
 ghost use Rattle.pl_records.specs.Reading.{Answers, at_line, rows_of};
 ghost use Rattle.pl_records.specs.Sorted.{HasOwnKeys, sorted_by};
 ghost use Rattle.pl_records.specs.Records.{csv_records};
@@ -63,9 +64,9 @@ fn next_asset(
     sids: &mut HashSet<u32>,
     row: &Records,
 ) -> Result<AssetRow, AssetsError>
-    requires few { length before.now ≤ MOST_ASSETS }
+    requires few { length before.now ≤ most_assets }
     requires sids { AreSids sids.old before.now }
-    ensures room { OnOk result (length before.now < MOST_ASSETS) }
+    ensures room { OnOk result (length before.now < most_assets) }
     ensures sids { IfOk result (λ a. AreSids sids.new (before.now ++ a ∷ [])) }
     ensures exact { Answers (λ a. a) fault_of result
         (at_line (2 + length before.now) (says_asset before.now row.now.fields)) }

@@ -6,6 +6,7 @@
 #![tactic(auto)]
 
 ghost use Rattle.std.specs.Prelude.{◌≡◌, ◌+◌, ◌<◌, ◌≤◌, length, slice_get, option_map, Some, IfOk};
+ghost use Rattle.pl_spec.specs.Limits.{most_payouts};
 ghost use Rattle.pl_records.specs.Reading.{Answers};
 ghost use Rattle.pl_records.specs.Records.{csv_records};
 ghost use Rattle.pl_payouts.specs.Payouts.{AreKnown, ArePayouts, IsPayout, numbered, payouts_of};
@@ -77,7 +78,7 @@ impl Payouts {
     pub fn len(&self) -> usize
         ensures length { result ≡ length self.now }
         ensures payouts { ArePayouts self.now }
-        ensures few { result ≤ MOST_PAYOUTS }
+        ensures few { result ≤ most_payouts }
     {
         self.rows.len()
     }

@@ -1,4 +1,5 @@
 ghost use Rattle.std.specs.Prelude.{◌≡◌, ◌+◌, ◌<◌, ◌≤◌, length, OnOk};
+ghost use Rattle.pl_spec.specs.Limits.{most_payouts};
 ghost use Rattle.pl_records.specs.Reading.{Answers, at_line, rows_of};
 ghost use Rattle.pl_records.specs.Records.{csv_records};
 ghost use Rattle.pl_lifetimes.specs.Assets.{AreAssets};
@@ -61,8 +62,8 @@ fn next_dividend(
     row: &Records,
     assets: &Assets,
 ) -> Result<Dividend, PayoutsError>
-    requires { length before.now ≤ MOST_PAYOUTS }
-    ensures room { OnOk result (length before.now < MOST_PAYOUTS) }
+    requires { length before.now ≤ most_payouts }
+    ensures room { OnOk result (length before.now < most_payouts) }
     ensures exact { Answers (λ d. d) fault_of result
         (at_line (2 + length before.now) (says_dividend assets.now before.now row.now.fields)) }
 {

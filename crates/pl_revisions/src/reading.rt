@@ -1,4 +1,5 @@
 ghost use Rattle.std.specs.Prelude.{◌≡◌, ◌+◌, ◌<◌, ◌≤◌, [], length, IfOk, OnOk};
+ghost use Rattle.pl_spec.specs.Limits.{most_revisions};
 ghost use Rattle.pl_records.specs.Reading.{Answers, at_line, rows_of};
 ghost use Rattle.pl_records.specs.Records.{csv_records};
 ghost use Rattle.pl_revisions.specs.Revisions.{AreRevisions, revisions_of, says_revision};
@@ -74,8 +75,8 @@ fn next_revision(
     sessions: &Sessions,
     assets: &Assets,
 ) -> Result<Revision, RevisionsError>
-    requires { length before.now ≤ MOST_REVISIONS }
-    ensures room { OnOk result (length before.now < MOST_REVISIONS) }
+    requires { length before.now ≤ most_revisions }
+    ensures room { OnOk result (length before.now < most_revisions) }
     ensures exact { Answers (λ r. r) fault_of result
         (at_line (2 + length before.now) (says_revision sessions.now assets.now before.now row.now.fields)) }
 {

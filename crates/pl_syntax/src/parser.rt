@@ -1,6 +1,7 @@
 //! From bytes to a script.
 
 ghost use Rattle.std.specs.Prelude.{◌≡◌, ◌≤◌, ◌<◌, ◌↔◌, Err, List, Some, true, length, IfOk, IfErr};
+ghost use Rattle.pl_spec.specs.Limits.{most_pipeline_bytes};
 ghost use Rattle.pl_grammar.specs.Tree.{mark};
 ghost use Rattle.pl_grammar.specs.Script.{is_known, script_finish, token_version, version_or};
 ghost use Rattle.pl_grammar.specs.Script as g;
@@ -97,7 +98,7 @@ fn finish(progress: Progress, end: Place) -> Result<Script, SyntaxError>
 
 // The script that the bytes spell, or their first fault.
 fn read_all(alloc: Global, bytes: &[u8]) -> Result<Script, SyntaxError>
-    requires { length bytes.now ≤ MOST_BYTES }
+    requires { length bytes.now ≤ most_pipeline_bytes }
     ensures { Outcome bytes.now result }
 {
     let mut text = Text {
@@ -129,17 +130,17 @@ fn read_all(alloc: Global, bytes: &[u8]) -> Result<Script, SyntaxError>
 pub fn parse(alloc: Global, bytes: &[u8]) -> Result<Script, SyntaxError>
     // What is read is spelled so, and what is spelled so is read.
     ensures found { IfOk result (λ script. Spells bytes.now (parsed script)) }
-    ensures only { (x : Parsed) → length bytes.now ≤ MOST_BYTES → Spells bytes.now x
+    ensures only { (x : Parsed) → length bytes.now ≤ most_pipeline_bytes → Spells bytes.now x
         → AnswersScript result x }
 
     // The canonical text of a script is read as that script, places aside.
-    ensures printed { (script : s.Script) → length bytes.now ≤ MOST_BYTES → bytes.now ≡ printed_text script
+    ensures printed { (script : s.Script) → length bytes.now ≤ most_pipeline_bytes → bytes.now ≡ printed_text script
         → AnswersSame result (parsed script) }
 
     // Each fault comes where it is the first, and what is the first is answered.
-    ensures too_long { (result ≡ Err SyntaxError.TooLong) ↔ (MOST_BYTES < length bytes.now) }
+    ensures too_long { (result ≡ Err SyntaxError.TooLong) ↔ (most_pipeline_bytes < length bytes.now) }
     ensures cause { IfErr result (IsCause bytes.now) }
-    ensures fault { (kind : Kind) (place : p.Place) → length bytes.now ≤ MOST_BYTES
+    ensures fault { (kind : Kind) (place : p.Place) → length bytes.now ≤ most_pipeline_bytes
         → FirstFault bytes.now kind place → AnswersFault result kind place }
 {
     if bytes.len() > MOST_BYTES {

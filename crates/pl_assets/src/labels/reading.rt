@@ -1,5 +1,6 @@
 ghost use Rattle.std.specs.Prelude.{◌≡◌, ◌+◌, ◌<◌, ◌≤◌, [], length, option_map, OnOk, OnSome, IfOk};
 ghost use Rattle.std.specs.List.{list_any};
+ghost use Rattle.pl_spec.specs.Limits.{most_labels};
 ghost use Rattle.pl_records.specs.Reading.{Answers, at_line, field, rows_of};
 ghost use Rattle.pl_records.specs.Records.{csv_records};
 ghost use Rattle.pl_assets.specs.Labels.{is_from, is_printable, label_in, label_rows_in, says_label, texts_of};
@@ -94,9 +95,9 @@ fn next_start(
     assets: &Assets,
 ) -> Result<ColumnStart, LabelsError>
     requires numbered { AreNumbered before.now }
-    requires few { length (shown_rows before.now) ≤ MOST_LABELS }
+    requires few { length (shown_rows before.now) ≤ most_labels }
     requires keys { AreKeys keys.now before.now.places.items }
-    ensures room { OnOk result (length (shown_rows before.now) < MOST_LABELS) }
+    ensures room { OnOk result (length (shown_rows before.now) < most_labels) }
     ensures four { OnOk result (length row.now.fields ≡ 4) }
     ensures exact { Answers (row_from row.now.fields) fault_of result
         (at_line (2 + length (shown_rows before.now))
@@ -127,7 +128,7 @@ fn next_start(
 // Whether a row has the name, the column and the day.
 fn is_known(rows: &LabelRows, keys: &HashSet<u128>, name: &[u8], col: usize, day: i32) -> bool
     requires numbered { AreNumbered rows.now }
-    requires few { length (shown_rows rows.now) ≤ MOST_LABELS }
+    requires few { length (shown_rows rows.now) ≤ most_labels }
     requires keys { AreKeys keys.now rows.now.places.items }
     ensures { result ≡ list_any (is_from name.now col day) (shown_rows rows.now) }
 {
