@@ -17,7 +17,7 @@ buffered_of a =
       cols = a.cols.now;
     }
 
--- there is a session behind the last row, and the days and the events of each asset are in order
+-- there is a session after the last row, and the days and the events of each asset are in order
 pub record IsReady (b : Buffered) : Type 0 where
   pub range : b.first + b.rows < length b.days
   pub days : AreDays b.days

@@ -3,7 +3,7 @@ use Rattle.std.specs.Prelude.{◌≡◌, ℕ, ◌+◌, ◌<◌, ◌≤◌, pos, 
 use Rattle.pl_spec.specs.Window.{seen_cell}
 use Rattle.pl_adjarray.specs.Buffered.{Buffered, applied_at, col_at, world_of}
 
--- On n sessions behind session d each buffered bar is seen as it is seen on d, and no step is counted.
+-- On n sessions after session d each buffered bar is seen as it is seen on d, and no step is counted.
 pub record IsStill (b : Buffered) (d n : ℕ) : Type 0 where
   pub within : d + n ≤ b.first + b.rows
   pub seen : (i j m : ℕ) → i < length b.cols → j < b.rows → m ≤ n

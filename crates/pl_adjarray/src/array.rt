@@ -32,7 +32,7 @@ impl<'a> Model for AdjustedArray<'a> {
 }
 
 impl<'a> AdjustedArray<'a> {
-    /// The bars of these assets, which are known by their columns. A session must stand behind the
+    /// The bars of these assets, which are known by their columns. A session must stand after the
     /// last row.
     pub fn new(
         bars: &'a Bars,

@@ -20,7 +20,7 @@ fn has_none(array: &AdjustedArray<'_>, col: u32, from: i32, to: i32) -> bool
         .is_empty()
 }
 
-// Does no adjustment become effective on so many sessions behind one?
+// Does no adjustment become effective on so many sessions after one?
 fn is_still(array: &AdjustedArray<'_>, session: usize, count: usize) -> bool
     requires low { array.now.first ≤ session }
     requires high { session + count ≤ array.now.first + array.now.rows }
@@ -36,7 +36,7 @@ fn is_still(array: &AdjustedArray<'_>, session: usize, count: usize) -> bool
     true
 }
 
-// How many sessions, of so many behind one, there seem to be before one on which an adjustment of a column's
+// How many sessions, of so many after one, there seem to be before one on which an adjustment of a column's
 // asset becomes effective, if there is one.
 fn before_change(array: &AdjustedArray<'_>, col: u32, session: usize, most: usize) -> Option<usize>
     requires { session + most ≤ array.now.first + array.now.rows }
@@ -79,7 +79,7 @@ fn ahead(array: &AdjustedArray<'_>, session: usize, most: usize) -> usize
     least
 }
 
-/// On how many sessions behind one, up to `most`, nothing changes. What is guessed is judged.
+/// On how many sessions after one, up to `most`, nothing changes. What is guessed is judged.
 pub(crate) fn still_from(array: &AdjustedArray<'_>, session: usize, most: usize) -> usize
     requires low { array.now.first ≤ session }
     requires high { session + most ≤ array.now.first + array.now.rows }

@@ -36,8 +36,8 @@ impl<'s> Model for Windows<'s> {
 
 impl<'s> Windows<'s> {
     /// Goes to the first session with a whole window, and then to the next one each time, up to the
-    /// one behind the last row. Each adjustment that became effective since the session before
-    /// changes every buffered row of its asset that is older: each time is one step. `false` behind
+    /// one after the last row. Each adjustment that became effective since the session before
+    /// changes every buffered row of its asset that is older: each time is one step. `false` after
     /// the last session, where nothing changes. No window can be held across it.
     pub fn advance<L: Ledger>(&mut self, steps: &mut Steps<L>) -> bool
         ensures array { self.new.array ≡ self.old.array }

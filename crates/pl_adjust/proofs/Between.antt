@@ -13,7 +13,7 @@ use Rattle.pl_adjust.proofs.Runs.{filter-run}
 abbrev pub is_between : ℤ → ℤ → Adjust → Bool
 is_between low high a = int_lt low a.day && int_le a.day high
 
--- the place behind the adjustments of a day and of the days before
+-- the place after the adjustments of a day and of the days before
 abbrev pub IsEnd : ℤ → List Adjust → ℕ → Type 0
 IsEnd day xs n = IsPartitionPoint (λ a. int_le a.day day ≡ true) (λ a. int_le a.day day ≡ false) xs n
 

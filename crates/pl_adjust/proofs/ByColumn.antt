@@ -173,7 +173,7 @@ module _ (assets : List AssetRow) where
 
 -- ---- rows by place, computed
 
--- none that ties with z is in front of another
+-- none that ties with z is before another
 apart : (z x y : ColumnAdjustment) → ties in_front z x ≡ true → ties in_front z y ≡ true → in_front y x ≡ false
 apart z x y e f =
     let p = tied z x e in

@@ -36,7 +36,7 @@ module _ (cols : List ℕ) (xs : List Adjust) (day : ℤ) (i c : ℕ) (x : Adjus
   pub row_left : (rows : List Row) → int_le x.day day ≡ false → map row_of rows ++ left (i + 1) ≡ map row_of rows ++ left i
   row_left rows t = ap (λ l. map row_of rows ++ l) (sym (next ∙ ap (λ b. cond b (row_of row ∷ left (i + 1)) (left (i + 1))) t))
 
--- behind the last place nothing is left
+-- after the last place nothing is left
 pub rows_end : (cols : List ℕ) (xs : List Adjust) (day : ℤ) (i : ℕ) (rows : List ColumnAdjustment) → length cols ≤ i → rows ++ adjustments_by day (in_columns (drop i cols) (drop i xs)) ≡ rows
 rows_end cols xs day i rows h = rw (drop_all i cols h) (append-nil rows)
 

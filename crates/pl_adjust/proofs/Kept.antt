@@ -19,7 +19,7 @@ use Rattle.pl_adjust.specs.Events.{PutCells, PutsCell, event_of}
 use Rattle.pl_adjust.specs.Columns.{AreKept, events_at, in_columns, place_cmp}
 use Rattle.pl_adjust.proofs.Runs.{filter-run}
 
--- one adjustment stands in front of another
+-- one adjustment stands before another
 abbrev pub in_front : ColumnAdjustment → ColumnAdjustment → Bool
 in_front x y = is_lt (place_cmp x y)
 

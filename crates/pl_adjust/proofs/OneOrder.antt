@@ -37,7 +37,7 @@ module _ {X : Type 0} (lt : X → X → Bool) (order : IsStrictWeakOrder lt) whe
       here true e = let f : lt x x ≡ false = order.one_way x x e in absurd (cc)
       here false e = rw e refl
 
-  -- what ties with x stands behind y only where y is not below x
+  -- what ties with x stands after y only where y is not below x
   below_front : (x y : X) (ys : List X) (rest : List X) → NoneBelow y ys → filter (ties lt x) ys ≡ x ∷ rest → lt x y ≡ false
   below_front x y [] rest n e = absurd (cc)
   below_front x y (z ∷ zs) rest n e = here (ties lt x z) e (below_front x y zs rest n.1)

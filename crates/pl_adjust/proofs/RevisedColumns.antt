@@ -1,4 +1,4 @@
--- Adjustments with revisions behind them.
+-- Adjustments with revisions after them.
 use Rattle.std.proofs.Common.{◌≡◌, ℕ, zero, suc, ◌+◌, ◌<◌, ◌==◌, Bool, true, false, ℤ, pos, List, [], ◌∷◌, ◌++◌, map, filter, length, get_or, drop, All, AllPairs, slice_get, Option, Some, None, IfSome, option_map, Ok, Err, refl, sym, ◌∙◌, ap, arith, add-one, drop-cons}
 use Rattle.std.specs.Ordering.{int_eq}
 use Rattle.std.specs.List.Sorted.{ties}

@@ -70,7 +70,7 @@ pub row_parts : (assets : List AssetRow) (kind : AdjustmentKind) (r : RawAdjust)
     → row_of (record { col = col; adjust = a }) ≡ in_column assets (adjustment_in kind r)
 row_parts assets kind r col a place event = cc
 
--- ---- one table behind the other
+-- ---- one table after the other
 
 pub first_fault-append : (n : ℕ) (xs ys : List TableRow) → first_fault n (xs ++ ys) ≡ option_or (first_fault n xs) (first_fault (n + length xs) ys)
 unfolding first_fault

@@ -46,7 +46,7 @@ pub record IsByPlace (xs ys : List ColumnAdjustment) : Type 0 where
   pub sorted : IsSorted place_cmp ys
   pub stable : IsStable place_cmp xs ys
 
--- x behind those that stand in front of it
+-- x after those that stand before it
 abbrev pub insert_at_place : ColumnAdjustment → List ColumnAdjustment → List ColumnAdjustment
 insert_at_place x [] = x ∷ []
 insert_at_place x (y ∷ ys) = if is_lt (place_cmp y x) then y ∷ insert_at_place x ys else x ∷ y ∷ ys

@@ -25,7 +25,7 @@ IsKnown assets sid = (col : ℕ) × HasSid assets col sid
 abbrev pub AreKnown : List AssetRow → List Revision → Type 0
 AreKnown assets rows = All (λ x. IsKnown assets x.sid) rows
 
--- adjustments with revisions, by column and day and behind what acts on their day already
+-- adjustments with revisions, by column and day and after what acts on their day already
 abbrev pub revised_by : List AssetRow → List ColumnAdjustment → List Revision → List ColumnAdjustment
 revised_by assets old rows = by_place (old ++ revised_columns assets rows)
 

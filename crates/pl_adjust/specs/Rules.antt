@@ -14,7 +14,7 @@ pub record HasRatio (r : RawAdjust) : Type 0 where
   pub num : (pos 1 ≤ℤ r.num) × (r.num ≤ℤ pos 1000000000)
   pub den : (pos 1 ≤ℤ r.den) × (r.den ≤ℤ pos 1000000000)
 
--- a row behind n rows that breaks no rule
+-- a row after n rows that breaks no rule
 pub record IsRight (n : ℕ) (r : TableRow) : Type 0 where
   pub room : n < most_adjustments
   pub effective : IsEffective r.row.effective
@@ -23,7 +23,7 @@ pub record IsRight (n : ℕ) (r : TableRow) : Type 0 where
 abbrev pub AreRight : List TableRow → Type 0
 AreRight rows = (k : ℕ) (r : TableRow) → slice_get rows k ≡ Some r → IsRight k r
 
--- a row behind n rows breaks this rule, and none that is tested before it
+-- a row after n rows breaks this rule, and none that is tested before it
 abbrev pub IsFaultOf : ℕ → TableRow → Fault → Type 0
 IsFaultOf n r TooMany = most_adjustments ≤ n
 IsFaultOf n r (BadEffective table id) =
@@ -31,7 +31,7 @@ IsFaultOf n r (BadEffective table id) =
 IsFaultOf n r (BadRatio table id) =
     (n < most_adjustments) × IsEffective r.row.effective × (¬ HasRatio r.row) × (table ≡ r.table) × (id ≡ r.row.id)
 
--- the rows in front of the faulty one are right
+-- the rows before the faulty one are right
 pub record IsFirstFault (rows : List TableRow) (fault : Fault) : Type 0 where
   pub front : List TableRow
   pub faulty : TableRow

@@ -40,7 +40,7 @@ is_effective time = int_le (negsuc 25566) (day_of_time time) && int_le (day_of_t
 abbrev pub is_part : ℤ → Bool
 is_part n = int_le (pos 1) n && int_le n (pos 1000000000)
 
--- the first rule that a row breaks behind n rows
+-- the first rule that a row breaks after n rows
 unfoldable pub fault_at : ℕ → TableRow → Option Fault
 fault_at n r =
     if nat_le most_adjustments n then Some TooMany
@@ -48,7 +48,7 @@ fault_at n r =
     if is_part r.row.num && is_part r.row.den then None else Some (BadRatio r.table r.row.id)
     else Some (BadEffective r.table r.row.id)
 
--- the first fault of rows that stand behind n rows
+-- the first fault of rows that stand after n rows
 unfoldable pub first_fault : ℕ → List TableRow → Option Fault
 first_fault n [] = None
 first_fault n (r ∷ rs) = option_or (fault_at n r) (first_fault (suc n) rs)

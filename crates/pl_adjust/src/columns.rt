@@ -54,7 +54,7 @@ pub(crate) fn starts_of(
     Ok(starts)
 }
 
-// The place of the first adjustment of a column or of those behind it.
+// The place of the first adjustment of a column or of those after it.
 fn first_from(cols: &[usize], col: usize) -> usize
     requires { IsNonDecreasing cols.now }
     ensures { IsStart cols.now col result }
@@ -62,7 +62,7 @@ fn first_from(cols: &[usize], col: usize) -> usize
     cols.partition_point(|c| *c < col)
 }
 
-// The place behind the last adjustment of a column and of those before it.
+// The place after the last adjustment of a column and of those before it.
 fn first_behind(cols: &[usize], col: usize) -> usize
     requires { IsNonDecreasing cols.now }
     ensures { IsEnd cols.now col result }

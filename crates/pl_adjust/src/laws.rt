@@ -17,7 +17,7 @@ ghost use Rattle.pl_adjust.specs.Tables.{adjustments_in};
 ghost use Rattle.pl_adjust.specs.Walk.{Fault, walk};
 
 /// Three tables have adjustments exactly where each of their rows is right. They have a fault
-/// exactly where a row breaks that rule and none that is tested before it, and the rows in front of
+/// exactly where a row breaks that rule and none that is tested before it, and the rows before
 /// it are right.
 pub fn tables_in_plain_words()
     ensures right { (assets : List AssetRow) (splits mergers dividends : List RawAdjust)

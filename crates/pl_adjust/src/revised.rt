@@ -32,7 +32,7 @@ pub(crate) fn rows_of(
     Ok(rows)
 }
 
-// Puts the revisions behind the rows.
+// Puts the revisions after the rows.
 pub(crate) fn add_rows(
     assets: &Assets,
     revisions: &[Revision],

@@ -54,7 +54,7 @@ pub(crate) fn rows_of(
     Ok(rows)
 }
 
-// Appends the adjustments of a table whose rows stand behind so many others.
+// Appends the adjustments of a table whose rows stand after so many others.
 fn read_table(
     assets: &Assets,
     table: Table,
@@ -76,7 +76,7 @@ fn read_table(
     Ok(())
 }
 
-// The adjustment of a row that stands behind so many others.
+// The adjustment of a row that stands after so many others.
 #[tactic(auto, unfolding(crate::specs::Walk::fault_at))]
 fn adjust_of(table: Table, row: &RawAdjust, before: usize) -> Result<Adjust, AdjustError>
     ensures adjust { IfOk result (λ a.

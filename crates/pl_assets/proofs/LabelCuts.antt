@@ -49,7 +49,7 @@ starts_later day r rows e = here (int_le r.start day) refl e
     here true t e = absurd (cc)
     here false t e = rw t (sym (append-nil rows))
 
--- the next row behind those in front of it
+-- the next row after those before it
 pub row_cut : (day : ℤ) (t : LabelRows) (i : ℕ) (d : Place) (rows new : List ColumnLabel) → i < length t.places.items
     → rows ≡ labels_by day (map (row_at t.names t.texts) (take i t.places.items)) → new ≡ rows ++ labels_by day (row_at t.names t.texts (get_or t.places.items i d) ∷ [])
     → new ≡ labels_by day (map (row_at t.names t.texts) (take (i + 1) t.places.items))

@@ -129,7 +129,7 @@ module _ (places : List Place) (n : ℕ) (order : List ℕ) (count : length plac
         ];
       }
 
--- the order stays while rows come behind
+-- the order stays while rows come after
 key_kept : (places : List Place) (p : Place) (i : ℕ) → i < length places → key_at (places ++ p ∷ []) i ≡ key_at places i
 key_kept places p i h =
     key_there (places ++ p ∷ []) i p (omega (arith, length-append places (p ∷ []))) ∙ ap key_of (get_or_append_left places (p ∷ []) p i h) ∙ sym (key_there places i p h)

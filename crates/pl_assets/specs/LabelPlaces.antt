@@ -39,7 +39,7 @@ pub record AreNumbered (t : LabelRows) : Type 0 where
   pub names : t.names ≡ names_of (shown_rows t)
   pub texts : AreTexts t.texts
 
--- the place was put behind the others
+-- the place was put after the others
 abbrev pub IsBehind : LabelRows → LabelRows → Place → Type 0
 IsBehind old new p = new.places.items ≡ old.places.items ++ p ∷ []
 

@@ -12,7 +12,7 @@ use Rattle.pl_lifetimes.specs.Assets.{HasSid}
 use Rattle.pl_assets.specs.Labels.{Rule, BadHeader, TooMany, BadField, LabelTooLong, UnknownSid, DuplicateStart, LabelTable, rules, header, texts_of}
 use Rattle.pl_spec.specs.Limits.{most_labels, most_label_bytes}
 
--- the record is the name, the sid, without sign and zeros in front, the date of the start and the text of the
+-- the record is the name, the sid, without sign and leading zeros, the date of the start and the text of the
 -- label, which has no bytes but the printable ones of ASCII
 pub record IsLabelRecord (r : Record) (l : LabelRow) : Type 0 where
   pub four : length r ≡ 4
@@ -55,7 +55,7 @@ Breaks assets before r DuplicateStart = (row : ColumnLabel) × IsRowRecord asset
 abbrev pub IsLabel : List AssetRow → List ColumnLabel → Record → ColumnLabel → Type 0
 IsLabel assets before r row = IsRowRecord assets r row × KeepsAll rules (Breaks assets before r)
 
--- the rows of the records behind the header, and their texts
+-- the rows of the records after the header, and their texts
 pub record AreLabelsOf (assets : List AssetRow) (records : List Record) (table : LabelTable) : Type 0 where
   pub read : AreRowsUnder header (IsLabel assets) records table.rows
   pub texts : table.texts ≡ texts_of table.rows

@@ -100,7 +100,7 @@ in_column l col = record { name = l.name; col = col; start = l.start; text = l.t
 abbrev pub row_of : List AssetRow → Record → Option ColumnLabel
 row_of assets r = option_and_then (λ l. option_map (in_column l) (col_in assets l)) (label_in r)
 
--- the rules of a record behind the header, in the order in which they are tested, and their tests
+-- the rules of a record after the header, in the order in which they are tested, and their tests
 abbrev pub rules : List Rule
 rules = TooMany ∷ BadField ∷ LabelTooLong ∷ UnknownSid ∷ DuplicateStart ∷ []
 
@@ -112,7 +112,7 @@ breaks assets before r LabelTooLong = has (λ l. nat_lt most_label_bytes (length
 breaks assets before r UnknownSid = has (λ l. lacks (col_in assets l)) (label_in r)
 breaks assets before r DuplicateStart = has (λ row. list_any (is_from row.name row.col row.start) before) (row_of assets r)
 
--- the row of a record behind the rows before it, or the first rule that it breaks
+-- the row of a record after the rows before it, or the first rule that it breaks
 unfoldable pub says_label : List AssetRow → List ColumnLabel → Record → Result ColumnLabel Rule
 says_label assets before r = first_broken rules (breaks assets before r) (ok_or (row_of assets r) BadField)
 
@@ -157,7 +157,7 @@ pub record AreLabels (t : LabelTable) : Type 0 where
 abbrev pub label_row : List AssetRow → List ℕ → ℕ → ℤ → List ℕ → ColumnLabel
 label_row assets name sid start text = record { name = name; col = position_or_len (λ a. sid_of a == sid) assets; start = start; text = text }
 
--- the row may stand behind the rows: none of them has its name, column and start
+-- the row may stand after the rows: none of them has its name, column and start
 pub record MayFollow (rows : List ColumnLabel) (r : ColumnLabel) : Type 0 where
   pub row : IsLabelRow r
   pub own_start : list_any (is_from r.name r.col r.start) rows ≡ false

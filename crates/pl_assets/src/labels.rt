@@ -82,7 +82,7 @@ impl Labels {
         Ok(Labels { rows, order })
     }
 
-    /// Puts one row behind the others: from the day on the asset of the sid has the label under the
+    /// Puts one row after the others: from the day on the asset of the sid has the label under the
     /// name. Where memory or the codes of 32 bits run out, the labels stay as they were.
     pub fn add(
         &mut self,
@@ -96,7 +96,7 @@ impl Labels {
         requires row { MayFollow self.old.rows (label_row assets.now name.now sid start label.now) }
         ensures row { OnOk result (self.new.rows
             ≡ self.old.rows ++ label_row assets.now name.now sid start label.now ∷ []) }
-        // A text that is new and not empty stands behind the others.
+        // A text that is new and not empty stands after the others.
         ensures texts { OnOk result (self.new.texts ≡ with_label self.old.texts label.now) }
         ensures kept { OnErr result (self.new ≡ self.old) }
     {

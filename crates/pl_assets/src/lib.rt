@@ -1,5 +1,5 @@
-//! The labels of the assets, as their sectors, each from a day on; and the assets themselves, which are those of
-//! `pl_lifetimes`.
+//! The labels of the assets, as their sectors, each from a day on; and the assets themselves, which are those
+//! of `pl_lifetimes`.
 #![tactic(auto)]
 
 mod labels;

@@ -12,7 +12,7 @@ pub before_one : (col session : ℕ) (rows : List BarRow) (n : ℕ) (d : BarRow)
 before_one col session rows n d up inside before k x h =
     parted col session rows up k n x (omega (arith, h)) inside (ap (is_before col session) (same_default rows n x d inside) ∙ before)
 
--- where a bar does not, none behind it does
+-- where a bar does not, none after it does
 pub behind_one : (col session : ℕ) (rows : List BarRow) (n : ℕ) (d : BarRow) → AreBars rows → n < length rows → is_before col session (get_or rows n d) ≡ false → NoneBefore col session rows n
 behind_one col session rows n d up inside behind k x h l = here (is_before col session (get_or rows k x)) refl
   where

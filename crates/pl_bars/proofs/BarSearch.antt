@@ -34,7 +34,7 @@ before_not_at col session b t = grind (arith, nat_tests)
 before_trans : (col session : ℕ) (a b : BarRow) → is_before b.col b.session a ≡ true → is_before col session b ≡ true → is_before col session a ≡ true
 before_trans col session a b t u = grind (arith, nat_tests)
 
--- behind a bar that does not stand before a place, none is at it
+-- after a bar that does not stand before a place, none is at it
 behind_not_at : (col session : ℕ) (a b : BarRow) → is_before b.col b.session a ≡ true → is_before col session a ≡ false → is_at col session b ≡ false
 behind_not_at col session a b t u = grind (arith, nat_tests)
 

@@ -42,7 +42,7 @@ module _ (days : List ℤ) (assets : List AssetRow) (before : List BarRow) (r : 
       guard_on _ _ _ (few (length before) n) ∙ guard_on _ _ _ (ap lacks e) ∙ guard_err _ _ _ (ap (has (λ f. lacks (session_in days f))) e ∙ ap lacks p)
 
   module _ (session : ℕ) (p : SessionIs days f (Some session)) where
-    -- the rules in front of that of the asset are kept
+    -- the rules before that of the asset are kept
     dated : says_bar days assets before r
         ≡ first_broken (rules.UnknownSid ∷ rules.Negative ∷ rules.Duplicate ∷ []) (breaks days assets before r) (ok_or (bar_of days assets r) rules.BadField)
     unfolding says_bar

@@ -66,7 +66,7 @@ abbrev pub bar_of : List ℤ → List AssetRow → Record → Option BarRow
 bar_of days assets r =
     option_and_then (λ f. option_and_then (λ session. option_map (placed_at f session) (col_in assets f)) (session_in days f)) (fields_in r)
 
--- the rules of a record behind the header, in the order in which they are tested, and their tests
+-- the rules of a record after the header, in the order in which they are tested, and their tests
 abbrev pub rules : List Rule
 rules = TooMany ∷ BadField ∷ NotSession ∷ UnknownSid ∷ Negative ∷ Duplicate ∷ []
 
@@ -79,7 +79,7 @@ breaks days assets before r UnknownSid = has (λ f. lacks (col_in assets f)) (fi
 breaks days assets before r Negative = has (λ f. list_any is_negative f.cells) (fields_in r)
 breaks days assets before r Duplicate = has (λ b. list_any (is_at b.col b.session) before) (bar_of days assets r)
 
--- the bar of a record behind the bars before it, or the first rule that it breaks
+-- the bar of a record after the bars before it, or the first rule that it breaks
 unfoldable pub says_bar : List ℤ → List AssetRow → List BarRow → Record → Result BarRow Rule
 says_bar days assets before r = first_broken rules (breaks days assets before r) (ok_or (bar_of days assets r) BadField)
 

@@ -17,7 +17,7 @@ use Rattle.pl_spec.specs.Limits.{most_bars}
 abbrev pub IsCellText : List ℕ → ℤ → Type 0
 IsCellText text v = ((text ≡ []) × (v ≡ MISSING)) ⊎ ((d : Decimal) × IsDecimal d text × IsReadAs d v)
 
--- the record is the sid, without sign and zeros in front, the date of the day, and the texts of five cells
+-- the record is the sid, without sign and leading zeros, the date of the day, and the texts of five cells
 pub record IsBarRecord (r : Record) (f : Fields) : Type 0 where
   pub seven : length r ≡ 7
   pub small : f.sid < 2 ^ 32
@@ -56,7 +56,7 @@ Breaks days assets before r Duplicate = (b : BarRow) × IsRowRecord days assets 
 abbrev pub IsBar : List ℤ → List AssetRow → List BarRow → Record → BarRow → Type 0
 IsBar days assets before r b = IsRowRecord days assets r b × KeepsAll rules (Breaks days assets before r)
 
--- the bars of the records behind the header, by column and session
+-- the bars of the records after the header, by column and session
 pub record AreBarsOf (days : List ℤ) (assets : List AssetRow) (records : List Record) (bars : List BarRow) : Type 0 where
   pub rows : List BarRow
   pub read : AreRowsUnder header (IsBar days assets) records rows

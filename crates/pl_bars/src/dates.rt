@@ -1,4 +1,4 @@
-//! The dates of the sessions as they are written. In most files a bar is on the session behind that of the
+//! The dates of the sessions as they are written. In most files a bar is on the session after that of the
 //! bar before it, or on the same, so its date is compared with theirs before it is read.
 ghost use Rattle.std.specs.Prelude.{◌≡◌, Some};
 ghost use Rattle.pl_spec.specs.Dates.{date_in};
@@ -28,7 +28,7 @@ pub(crate) fn dates_of(alloc: Global, sessions: &Sessions) -> Result<Vec<Dated>,
     Ok(dates)
 }
 
-// The day of a date behind these bars.
+// The day of a date after these bars.
 pub(crate) fn day_of(before: &[BarRow], dates: &[Dated], text: &[u8]) -> Option<i32>
     ensures { result ≡ date_in text.now }
 {

@@ -16,7 +16,7 @@ pub(crate) struct Fields {
     pub cells: [i64; 5],
 }
 
-// The fields of the record that was read last, behind these bars, where they are those of a bar.
+// The fields of the record that was read last, after these bars, where they are those of a bar.
 #[tactic(auto, unfolding(crate::specs::Bars::fields_in))]
 pub(crate) fn fields_of(row: &Records, before: &[BarRow], dates: &[Dated]) -> Option<Fields>
     ensures { result ≡ fields_in row.now.fields }

@@ -82,7 +82,7 @@ fn room_for(alloc: Global, bytes: &[u8]) -> Result<Vec<BarRow>, AllocError>
     Vec::with_capacity(alloc, (bytes.len() / FEWEST_BYTES).min(MOST_BARS))
 }
 
-// The bars of the records behind the header.
+// The bars of the records after the header.
 fn rows_behind(
     alloc: Global,
     mut rows: Vec<BarRow>,
@@ -103,7 +103,7 @@ fn rows_behind(
     Ok(rows)
 }
 
-// The bar of the record that was read last, behind the bars before it, which are those of the set.
+// The bar of the record that was read last, after the bars before it, which are those of the set.
 #[tactic(auto, unfolding(crate::specs::Bars::says_bar))]
 fn next_bar(
     before: &[BarRow],

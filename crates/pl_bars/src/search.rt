@@ -44,7 +44,7 @@ fn row_of(rows: &[BarRow], col: usize, session: usize) -> Option<usize>
     }
 }
 
-// The place of the first bar that stands at the column and session or behind them.
+// The place of the first bar that stands at the column and session or after them.
 pub(crate) fn point_of(rows: &[BarRow], col: usize, session: usize) -> usize
     requires { AreBars rows.now }
     ensures within { result ≤ length rows.now }

@@ -17,7 +17,7 @@ use Rattle.pl_calendar.proofs.DaySearch.{not_later}
 abbrev pub period_at : Frequency → List ℤ → ℕ → ℤ
 period_at f days k = period f (get_or days k (pos 0))
 
--- the first day of the period of the day at place i stands at low or behind it, and at high or before it
+-- the first day of the period of the day at place i stands at low or after it, and at high or before it
 pub record IsBracket (f : Frequency) (days : List ℤ) (i low high : ℕ) : Type 0 where
   pub order : low ≤ high
   pub within : high ≤ i

@@ -33,7 +33,7 @@ breaks before r BadDate = lacks (day_in r)
 breaks before r NotAscending = has (λ day. not (is_later before day)) (day_in r)
 breaks before r Empty = false
 
--- the day of a record behind the days before it, or the first rule that it breaks
+-- the day of a record after the days before it, or the first rule that it breaks
 unfoldable pub says_day : List ℤ → Record → Result ℤ Rule
 says_day before r = first_broken rules (breaks before r) (ok_or (day_in r) BadDate)
 

@@ -35,7 +35,7 @@ fn read_days(alloc: Global, bytes: &[u8]) -> Result<Vec<i32>, CalendarError>
     Ok(days)
 }
 
-// The day of the record that was read last, behind the days before it.
+// The day of the record that was read last, after the days before it.
 #[tactic(auto, unfolding(crate::specs::Days::says_day))]
 fn next_day(before: &[i32], row: &Records) -> Result<i32, CalendarError>
     requires { length before.now ≤ most_sessions }

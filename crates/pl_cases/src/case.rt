@@ -3,7 +3,7 @@ use crate::choices::{filled, parts_of};
 use anyhow::Result;
 use std::alloc::{AllocError, Global};
 
-/// A text, under the line that it stands behind.
+/// A text, under the line that it stands after.
 #[derive(Drop)]
 pub(crate) struct Text {
     pub(crate) title: String,
@@ -122,7 +122,7 @@ impl Case {
         self.cells
     }
 
-    /// Begins the text under that title anew, behind all others.
+    /// Begins the text under that title anew, after all others.
     pub(crate) fn begin_text(&mut self, alloc: Global, title: &str) -> Result<(), AllocError> {
         let place = self
             .texts

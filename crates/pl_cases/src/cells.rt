@@ -111,7 +111,7 @@ fn table_differs<L: Ledger>(
     Ok(!rest.is_empty())
 }
 
-// What stands behind the rows of a session; none where another row stands there.
+// What stands after the rows of a session; none where another row stands there.
 fn behind_session<'a, L: Ledger>(
     alloc: Global,
     world: &World,
@@ -162,7 +162,7 @@ fn is_shown<L: Ledger>(
     }
 }
 
-// What stands behind the row of an asset on a session; none where another row stands there.
+// What stands after the row of an asset on a session; none where another row stands there.
 fn behind_row<'a, L: Ledger>(
     alloc: Global,
     world: &World,
@@ -192,7 +192,7 @@ fn behind_row<'a, L: Ledger>(
     Ok(rest.strip_prefix('\n'))
 }
 
-// The date and the sid in front of a row.
+// The date and the sid before a row.
 fn front_of(alloc: Global, day: i32, sid: u32) -> Result<String>
     requires { IsDay day }
 {

@@ -10,8 +10,8 @@ pub(crate) struct Field {
     pub(crate) is_truth: bool,
 }
 
-/// What stands behind the field of a cell and the comma before it; none where another field stands there. A
-/// number may be written with its digits behind the point, as a whole number, or as the label of that code.
+/// What stands after the field of a cell and the comma before it; none where another field stands there. A
+/// number may be written with its digits after the point, as a whole number, or as the label of that code.
 pub(crate) fn behind_field<'a>(
     alloc: Global,
     labels: &[String],
@@ -41,7 +41,7 @@ pub(crate) fn behind_field<'a>(
     )
 }
 
-// What stands behind a whole field.
+// What stands after a whole field.
 fn behind<'a>(rest: &'a str, field: &str) -> Option<&'a str> {
     let further = rest.strip_prefix(field)?;
     if further.starts_with(',') || further.starts_with('\n') {

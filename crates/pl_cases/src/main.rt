@@ -5,15 +5,15 @@
 //! - `#`: a remark; an empty line is one, too;
 //! - `case NAME`: a case begins. What stands before the first case holds for all cases, and a case may state
 //!   it anew;
-//! - `file NAME`: the text behind it is the file of that name;
-//! - `splits`, `mergers`, `dividends`: each line of the text behind it is a row of that table of `adj.db`:
+//! - `file NAME`: the text after it is the file of that name;
+//! - `splits`, `mergers`, `dividends`: each line of the text after it is a row of that table of `adj.db`:
 //!   its id, or `+` for one more than that of the row before, its effective time in seconds or as a date, its
 //!   num, its den and its sid, with spaces between them;
 //! - `|`: a line of a text. In it `\r` and `\n` are those bytes, `\x20` is the byte of those two digits, and
 //!   `\` at its end says that no line end follows;
 //! - `repeat COUNT from FIRST step STEP|`: so many lines of a text, in which `{n}` is a number that begins at
 //!   FIRST and grows by STEP, `{n+2}` is 2 more, and `{d}`, `{d-1}` are the dates of such numbers of days
-//!   behind 1970-01-01;
+//!   after 1970-01-01;
 //! - `$ WORDS`: the words of a command, with a space between them and `\x20` for a space in a word. A case
 //!   may have several; each of them leaves the same;
 //! - `for PARTS`: the case holds once for each such line, with `{1}`, `{2}` and so on in its texts replaced
@@ -21,12 +21,12 @@
 //!   texts;
 //! - `chunks N..`: each command is run once with each of `--chunk N`; without numbers, once as it is;
 //! - `status N`, `out`, `err`: what a run leaves: its status, which is 0 where none is told, and the texts
-//!   behind `out` and `err`;
-//! - `loaded`: the text behind it is the tables that a run loads, in that order, a line each;
-//! - `failing shelf`, `failing keeper`, `failing out`: the text behind it is what stands on `err` where the
+//!   after `out` and `err`;
+//! - `loaded`: the text after it is the tables that a run loads, in that order, a line each;
+//! - `failing shelf`, `failing keeper`, `failing out`: the text after it is what stands on `err` where the
 //!   first call of that part fails, the second, and so on, a line for each call that a run makes. The status
 //!   is then 7, 8 or 9, and a beginning of `out` stands there, nothing with 7 and 8. A failing `err` changes
-//!   none of this, and after each of these runs one over the same parts leaves what the case states, behind
+//!   none of this, and after each of these runs one over the same parts leaves what the case states, after
 //!   what stands there;
 //! - `out by lines`: each call of `out` takes a line of it, which `failing out` shows;
 //! - `failing err`: a run whose `err` fails leaves the same, but for `err`;

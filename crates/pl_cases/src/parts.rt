@@ -93,7 +93,7 @@ impl Parts {
         }
     }
 
-    /// What a command leaves behind what stands there.
+    /// What a command leaves after what stands there.
     pub(crate) fn leave(&mut self, alloc: Global, words: &[String]) -> Result<Left> {
         let out = self.out.bytes().len();
         let err = self.err.bytes().len();

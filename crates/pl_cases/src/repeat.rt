@@ -41,7 +41,7 @@ fn filled(alloc: Global, line: &str, number: i64) -> Result<String> {
     Ok(text)
 }
 
-// Adds `n` as the number, `d` as its date, each with a number added that stands behind it.
+// Adds `n` as the number, `d` as its date, each with a number added that stands after it.
 fn add_named(alloc: Global, text: &mut String, named: &str, number: i64) -> Result<()> {
     let (is_date, added) = match named.strip_prefix('n') {
         Some(added) => (false, added),

@@ -1,4 +1,4 @@
--- What an expression is worth behind one of its parts, and where the part has a fault.
+-- What an expression is worth after one of its parts, and where the part has a fault.
 use Rattle.std.proofs.Common.{◌≡◌, ℕ, List, [], Option, Some, None, Result, Ok, Box, Global, sym, ap, subst, ◌∙◌}
 use Rattle.pl_grammar.specs.declared.Place.{Place}
 use Rattle.pl_grammar.specs.declared.PrefixSign.{PrefixSign}

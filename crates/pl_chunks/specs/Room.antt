@@ -8,7 +8,7 @@ use Rattle.pl_chunks.specs.declared.pieces.Chunk.{Chunk}
 use Rattle.pl_chunks.specs.Chunks.{columns_of}
 
 -- A term has at most so many sessions in the chunk, and a bar column of it so many rows: its window, and one
--- for each session behind the first one on which the term is computed.
+-- for each session after the first one on which the term is computed.
 abbrev pub rows_at : Planned → Chunk → ℕ → Node → ℕ
 rows_at plan chunk k n = chunk.to - low_at plan k chunk.from + n.window
 

@@ -57,7 +57,7 @@ fn lives_within(world: &World<'_>, col: usize, low: usize, to: usize) -> bool
     requires col { col < length world.now.assets.now }
     ensures { result ≡ lives_within (world_of world.now) low to col }
 {
-    // a calendar is short, so that the session behind the last one has a number
+    // a calendar is short, so that the session after the last one has a number
     let _sessions = world.sessions.len();
     for session in low..to + 1 {
         if exists(world, col, session) {

@@ -29,7 +29,7 @@ use std::marker::Brand;
 use std::sync::ledger::{Blank, Ledger};
 
 /// Reads the pipeline and the world of these names, and writes the derivation of the value that a column has
-/// for an asset on a date, each line behind those that it rests on.
+/// for an asset on a date, each line after those that it rests on.
 pub fn explain_command<S: Shelf, K: AdjustKeeper, O: Sink>(
     alloc: Global,
     request: &ExplainRequest<'_>,

@@ -10,7 +10,7 @@ use Rattle.pl_spec.specs.Value.Value.{Number, Text}
 use Rattle.pl_spec.specs.Table.{in_array}
 use Rattle.pl_spec.proofs.Places.{nowhere}
 
--- behind a text's code stands the text
+-- after a text's code stands the text
 behind : (texts : List (List ℕ)) (t : List ℕ) → Contains texts t → get_or texts (unwrap_or (position (bytes_eq t) texts) 0) [] ≡ t
 behind texts t own = here (position (bytes_eq t) texts) refl
   where

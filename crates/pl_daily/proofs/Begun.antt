@@ -45,7 +45,7 @@ one_more xs ys k x so_far inside is j l = elim (cases_eq j k) [
   | inr other ↦ get_or-set_other xs k j x 0 other ∙ so_far j (omega (arith, l, other))
 ]
 
--- what stands in a place of a list with one more behind it
+-- what stands in a place of a list with one more after it
 pub in_more : {X : Type 0} (P : ℕ → X → Type 0) (xs : List X) (x : X) (n : ℕ) → length xs ≡ n → ((k : ℕ) (y : X) → slice_get xs k ≡ Some y → P k y) → P n x
     → (k : ℕ) (y : X) → slice_get (xs ++ x ∷ []) k ≡ Some y → P k y
 in_more P xs x n long each new k y e = elim (cases_eq k n) [

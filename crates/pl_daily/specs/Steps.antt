@@ -11,7 +11,7 @@ use Rattle.pl_daily.specs.Daily.{Held, last_of, start_in}
 use Rattle.pl_daily.specs.Reaches.{AreFirst}
 use Rattle.pl_daily.specs.Terms.{HoldStarts, HoldTerms}
 
--- the rings of bars have the day behind the days, and the terms do not have it yet
+-- the rings of bars have the day after the days, and the terms do not have it yet
 pub record IsMidway (h : Held) (day : ℤ) (next : FedDay) (days : List FedDay) : Type 0 where
   pub start : IsStart (start_in h)
   pub are_fed : AreFed (start_in h) (next ∷ days)

@@ -121,7 +121,7 @@ pub(crate) fn label_row(
     }
 }
 
-/// Tests of the labels behind codes.
+/// Tests of the labels that codes stand for.
 pub(crate) fn label_test_row(
     kind: &TermKind,
     labels: &Labels,

@@ -83,7 +83,7 @@ fn read_named(
 
 // The file and the log beside it are read whole and opened in memory: SQLite would make a file that isn't
 // there, and would write a log. An empty file is no database yet, and one whose transaction was cut off would
-// first have to be mended.
+// first have to be fixed.
 fn open_copy(
     rt: &HostRuntime,
     alloc: Global,

@@ -56,7 +56,7 @@ fn counts_failed_reads(rt: HostRuntime) -> Result<(), Fail> {
 
 fn fails_to_read(alloc: Global, shelf: &mut FileShelf<'_>) -> Result<(), Fail> {
     expect(shelf.begin("one").is_ok(), "one")?;
-    // a file that isn't there, behind which no file is begun
+    // a file that isn't there, after which no file is begun
     expect(shelf.begin("no-such-file") == Err(Failed), "no file")?;
     expect(shelf.faults == 1, "one fault")?;
     expect(gives(shelf, 0, b"----"), "nothing of no file")?;

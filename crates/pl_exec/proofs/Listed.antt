@@ -61,7 +61,7 @@ module _ (g : Graph) where
           ap (λ l. l ++ []) front ∙ ap (λ l. filter q (range_with_len 0 n) ++ l) back ∙ sym split
 
   module _ (outputs : List ℕ) where
-    -- none behind the last
+    -- none after the last
     pub listed_below : (k : ℕ) → length g ≤ k → contains (used_terms g outputs) k ≡ false
     listed_below k h = low (length g) outputs k h
 

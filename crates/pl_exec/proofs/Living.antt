@@ -189,7 +189,7 @@ module _ (used : ℕ → Bool) (last : ℕ → Option ℕ) (k : ℕ) where
       here true e true f p = absurd (never (ap used (sym p) ∙ e) (ap (λ m. ends_at (last m) k) (sym p) ∙ f))
       here true e false f p = rw (e, f) (no_matter (is_read_by (last j) k) (nat_lt j t) (nat_lt j (t + 1)))
 
-  -- behind an unused term the same terms are kept, since no used term is read last by it
+  -- after an unused term the same terms are kept, since no used term is read last by it
   pub kept_skipped : ((t : ℕ) → used t ≡ true → ends_at (last t) k ≡ true → ⊥) → (j : ℕ) → kept used last k j ≡ kept used last (k + 1) j
   kept_skipped unread j = here (used j) refl (ends_at (last j) k) refl
     where
@@ -198,7 +198,7 @@ module _ (used : ℕ → Bool) (last : ℕ → Option ℕ) (k : ℕ) where
       here true e true f = absurd (unread j e f)
       here true e false f = ap (λ b. used j && b) (reads_on (last j) k f)
 
-  -- what is left behind term k is what is kept for the next
+  -- what is left after term k is what is kept for the next
   pub left_at_last : (j : ℕ) → j < k + 1 → left used last k (k + 1) j ≡ kept used last (k + 1) j
   left_at_last j h = here (used j) refl (ends_at (last j) k) refl
     where

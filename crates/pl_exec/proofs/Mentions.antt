@@ -258,7 +258,7 @@ module _ (t : Task) (is : IsTask t) where
       let inside = f.0 in
       (omega arith, still_free w v (column_slot t.plan k i) (column_slot t.plan k m) e f.1 (λ s. lowest.free (inr (i, omega arith, sym s))))
 
-  -- ---- what is live behind an unused term, and at the end
+  -- ---- what is live after an unused term, and at the end
 
   pub unread : (k : ℕ) → k < length g → is_used t.plan k ≡ false → (u : ℕ) → is_used t.plan u ≡ true → ends_at (last_user t.plan u) k ≡ true → ⊥
   unread k h off u used e = here (last_user t.plan u) refl

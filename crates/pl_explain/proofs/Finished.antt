@@ -159,7 +159,7 @@ module _ (w : World) (c : Parts) (mid new : Walk) (same : new.told ≡ mid.told)
     few = subst (λ (ls : List Line). length ls ≤ most_lines) (sym items) h.few;
   }
 
--- ---- a fact that is put behind its premises
+-- ---- a fact that is put after its premises
 
 abbrev own_of : World → Parts → Fact → List Fact
 own_of w c f = premises (world_of w) (pipeline_of c) (number_in (world_of w) (pipeline_of c)) f

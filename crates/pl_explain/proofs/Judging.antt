@@ -1,4 +1,4 @@
--- A line is judged right by what is told where it is right behind the lines that told it.
+-- A line is judged right by what is told where it is right after the lines that told it.
 use Rattle.std.proofs.Common.{◌≡◌, Bool, true, false, ◌&&◌, ◌||◌, if◌then◌else◌, ℤ, List, [], ◌∷◌, ◌++◌, Option, Some, None, is_some, refl, sym, ◌∙◌, ap, subst, inl, inr}
 use Rattle.std.specs.List.{list_any, list_all}
 use Rattle.std.specs.Option.{option_to_list}
@@ -53,7 +53,7 @@ module _ (w : SpecWorld) (p : Pipeline) (known : HasTexts w) (ok : IsGraph p.gra
       here None e = rw e refl
       here (Some f) e = ap (judged_about w p told l) e ∙ about l f e
 
--- what is told behind one line more
+-- what is told after one line more
 pub told-behind : (w : SpecWorld) (old new : Told) (lines : List Line) (l : Line) → ((f : Fact) → has old f ≡ is_told w lines f) → TellsLine w old new l → (f : Fact) → has new f ≡ is_told w (lines ++ l ∷ []) f
 told-behind w old new lines l same more f =
     more f ∙ ap (λ b. b || is_about w f l) (same f) ∙ ap (λ b. is_told w lines f || b) (sym (or-false (is_about w f l))) ∙ sym (list_any-append (is_about w f) lines (l ∷ []))

@@ -118,10 +118,10 @@ module _ (w : World) (c : Parts) where
         let all = finished stands.facts stands.walked (suc most) (omega arith) in
         same-told new.told (walked_by (suc most) stands.facts fs) fs all.told ∙ all-in most fs stands.facts
 
-    -- ---- a fact behind its premises
+    -- ---- a fact after its premises
 
     module _ (f : Fact) (old : Walk) (fresh : has old.told f ≡ false) where
-      -- it is put behind them
+      -- it is put after them
       anew : (facts : List Fact) → HasWalked w c old facts → (depth : ℕ) → finish (world_of w) (pipeline_of c) (suc depth) facts f ≡ walked_by depth facts (own f) ++ f ∷ []
       anew facts h depth = ap (λ b. if b then facts else walked_by depth facts (own f) ++ f ∷ []) (sym (h.told f) ∙ fresh)
 

@@ -1,4 +1,4 @@
--- Facts that are put behind others.
+-- Facts that are put after others.
 use Rattle.std.specs.Prelude.{◌≡◌, ℕ, ◌+◌, ◌≤◌, List, ◌++◌, map, Option, Some, None}
 use Rattle.pl_terms.specs.declared.node.Input.{Input}
 use Rattle.pl_terms.specs.declared.node.Input.TheVariants as input
@@ -6,7 +6,7 @@ use Rattle.pl_facts.specs.Facts as spec
 use Rattle.pl_told.specs.declared.fact.Fact.{Fact}
 use Rattle.pl_told.specs.Keys.{fact_of}
 
--- behind the old facts stand these
+-- after the old facts stand these
 abbrev pub ArePut : List Fact → List Fact → List spec.Fact → Type 0
 ArePut old new fs = map fact_of new ≡ map fact_of old ++ fs
 

@@ -47,7 +47,7 @@ CanStand w c (Worth t a d) =
 abbrev pub CanStandIn : World → Parts → ℕ → Fact → Type 0
 CanStandIn w c depth f = CanStand w c f × (depth_of f ≤ depth)
 
--- behind the facts that it had finished, the walk has finished these, which are at most so deep
+-- after the facts that it had finished, the walk has finished these, which are at most so deep
 abbrev pub Finishes : World → Parts → ℕ → Walk → Walk → List Fact → Type 0
 Finishes w c most old new fs =
     (facts : List Fact) → HasWalked w c old facts → (depth : ℕ) → most ≤ depth → HasWalked w c new (fold (finish (world_of w) (pipeline_of c) depth) facts fs)

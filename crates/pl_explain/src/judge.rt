@@ -55,7 +55,7 @@ pub fn first_wrong<L: Ledger>(
     Ok(None)
 }
 
-// Whether a line is right behind those whose facts are told; its own is told then.
+// Whether a line is right after those whose facts are told; its own is told then.
 fn is_right<L: Ledger>(
     alloc: Global,
     world: &World,

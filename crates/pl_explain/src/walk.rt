@@ -151,7 +151,7 @@ fn finish_all<L: Ledger>(
     Ok(())
 }
 
-// Finishes a value behind its premises.
+// Finishes a value after its premises.
 #[cycle(walk)]
 fn finish_value<L: Ledger>(
     alloc: Global,
@@ -371,7 +371,7 @@ fn finish_bar<L: Ledger>(
     put(walk, fact, number, line)
 }
 
-// Puts a fact and its line behind those that are finished.
+// Puts a fact and its line after those that are finished.
 fn put(walk: &mut Walk, fact: Fact, number: i64, line: Line) -> Result<(), ExplainError>
     requires few { length walk.old.lines.items ≤ most_lines }
     ensures lines { OnOk result (walk.new.lines.items ≡ walk.old.lines.items ++ line ∷ []) }

@@ -1,4 +1,4 @@
--- A walk only puts facts behind those that are finished.
+-- A walk only puts facts after those that are finished.
 use Rattle.std.proofs.Common.{◌≡◌, ℕ, zero, suc, Bool, true, false, List, [], ◌∷◌, ◌++◌, fold, refl, sym, ◌∙◌, ap, append_assoc, append-nil}
 use Rattle.pl_spec.specs.World.{World}
 use Rattle.pl_spec.specs.Table.{Pipeline}

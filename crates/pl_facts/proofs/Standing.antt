@@ -1,4 +1,4 @@
--- Behind right lines, what the lines tell of the premises is what the world has.
+-- After right lines, what the lines tell of the premises is what the world has.
 use Rattle.std.proofs.Common.{◌≡◌, Bool, true, false, ◌&&◌, List, [], ◌∷◌, ◌++◌, Some, None, refl, sym, ◌∙◌, ap, inl, inr, append_assoc, append-nil}
 use Rattle.std.specs.List.{list_all}
 use Rattle.std.specs.Ordering.{int_eq}

@@ -156,7 +156,7 @@ module _ (w : World) (p : Pipeline) where
   tells_number r (ValueLine t a day v) f h = same_int v (single_step w p r f) h
 
   module _ (known : HasTexts w) (ok : IsGraph p.graph) where
-    -- behind true lines a right line is true
+    -- after true lines a right line is true
     right_about : (lines : List Line) → Each Tells lines → (l : Line) (f : Fact) → is_right_about w p lines l (Some f) ≡ true → number_told l ≡ number_in w p f
     right_about lines h l f e =
         let parts = and3 (is_fitting w p f) (list_all (is_told w lines) (premises w p (reading_of w lines) f)) (tells_step w p (reading_of w lines) l f) e in

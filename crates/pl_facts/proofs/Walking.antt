@@ -88,7 +88,7 @@ module _ (w : World) (p : Pipeline) (ok : IsWorld w) (known : HasTexts w) (graph
   tells_step_of r (Seen c a s d) e = (slice_eq-Decides Decides-int_eq (seen_cells w a c s d) (seen_cells w a c s d) _ refl).1 refl
   tells_step_of r (Worth t a d) e = (Decides-int_eq (number_in w p (Worth t a d)) (single_step w p r (Worth t a d))).1 (sym e)
 
-  -- a fact's line is right behind those of its premises
+  -- a fact's line is right after those of its premises
   line_right : (done : List Fact) → Each Fit done → (f : Fact) → Fit f → Each (λ g. is_in done g ≡ true) (premises w p (number_in w p) f)
       → is_right w p (lines_of done) (line_for w p f) ≡ true
   line_right done h f fit behind =

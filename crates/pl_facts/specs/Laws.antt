@@ -36,14 +36,14 @@ tells_world w p (SeenLine c' a' bar day cells) (Seen c a s d) = pointwise int_eq
 tells_world w p (ValueLine t a day v) f = int_eq v (number_in w p f)
 tells_world w p l f = false
 
--- Behind right lines a line is right where its fact fits, each premise stands in these, and it tells what the
+-- After right lines a line is right where its fact fits, each premise stands in these, and it tells what the
 -- world has: what the first lines tell of the premises need not be kept.
 abbrev pub RightIsTrue : Type 0
 RightIsTrue = (w : World) (p : Pipeline) → HasTexts w → IsGraph p.graph → (lines : List Line) → first_wrong w p lines ≡ None
     → (l : Line) (f : Fact) → fact_of w l ≡ Some f
     → is_right w p lines l ≡ (is_fitting w p f && list_all (is_told w lines) (premises w p (number_in w p) f) && tells_world w p l f)
 
--- Behind right lines that tell of its fact already, a line is right where it tells what the world has.
+-- After right lines that tell of its fact already, a line is right where it tells what the world has.
 abbrev pub RepeatsAreRight : Type 0
 RepeatsAreRight = (w : World) (p : Pipeline) → HasTexts w → IsGraph p.graph → (lines : List Line) → first_wrong w p lines ≡ None
     → (l : Line) (f : Fact) → fact_of w l ≡ Some f → is_told w lines f ≡ true → is_right w p lines l ≡ tells_world w p l f

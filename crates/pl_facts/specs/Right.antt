@@ -72,7 +72,7 @@ tells_step w p r (SeenLine c' a' bar day cells) (Seen c a s d) = pointwise int_e
 tells_step w p r (ValueLine t a day v) f = int_eq v (single_step w p r f)
 tells_step w p r l f = false
 
--- A line is right behind others where its fact fits, each premise stands in these and it tells what the step
+-- A line is right after others where its fact fits, each premise stands in these and it tells what the step
 -- over their numbers gives.
 abbrev pub is_right_about : World → Pipeline → List Line → Line → Option Fact → Bool
 is_right_about w p lines l None = false
@@ -82,7 +82,7 @@ is_right_about w p lines l (Some f) =
 abbrev pub is_right : World → Pipeline → List Line → Line → Bool
 is_right w p lines l = is_right_about w p lines l (fact_of w l)
 
--- the place from 0 of the first of the further lines that is not right, counted behind those so far
+-- the place from 0 of the first of the further lines that is not right, counted after those so far
 abbrev pub wrong_behind : World → Pipeline → List Line → List Line → Option ℕ
 wrong_behind w p lines [] = None
 wrong_behind w p lines (l ∷ ls) =

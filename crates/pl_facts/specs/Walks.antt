@@ -1,4 +1,4 @@
--- The derivation of a value: the facts that it rests on, each once, behind those that it rests on itself.
+-- The derivation of a value: the facts that it rests on, each once, after those that it rests on itself.
 use Rattle.std.specs.Prelude.{◌≡◌, false, ℕ, zero, suc, Bool, if◌then◌else◌, ℤ, pos, List, [], ◌∷◌, ◌++◌, map, fold, unwrap_or}
 use Rattle.std.specs.List.{list_any}
 use Rattle.pl_spec.specs.World.{World, day_of}
@@ -44,6 +44,6 @@ line_for w p (Worth t a d) = ValueLine t a (date_of w d) (number_in w p (Worth t
 abbrev pub derivation : World → Pipeline → ℕ → ℕ → ℤ → List Line
 derivation w p t a d = map (line_for w p) (facts_for w p (Worth t a d))
 
--- a walk only puts facts behind those that are finished, so that one which is too long may stop
+-- a walk only puts facts after those that are finished, so that one which is too long may stop
 abbrev pub WalksGrow : Type 0
 WalksGrow = (w : World) (p : Pipeline) (depth : ℕ) (done : List Fact) (f : Fact) → (more : List Fact) × (finish w p depth done f ≡ done ++ more)

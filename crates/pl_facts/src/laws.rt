@@ -12,7 +12,7 @@ pub fn derivations_are_right()
     ensures { DerivationsAreRight }
 {}
 
-/// Behind right lines a line is right where its premises stand and it tells the truth.
+/// After right lines a line is right where its premises stand and it tells the truth.
 pub fn right_is_true()
     ensures { RightIsTrue }
 {}

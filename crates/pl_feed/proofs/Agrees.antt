@@ -82,7 +82,7 @@ other-column b t e = rw e refl
 both : (b t : Bool) → b ≡ true → t ≡ true → (b && t) ≡ true
 both b t e f = rw (e, f) refl
 
--- a bar that stands behind others, or in front of them
+-- a bar that stands after others, or before them
 cell-front : (old new : List BarRow) (col : ℕ) (c : Column) (s : ℕ) → All (λ b. is_at col s b ≡ false) new → cell_at (old ++ new) col c s ≡ cell_at old col c s
 unfolding cell_at
 cell-front old new col c s miss =

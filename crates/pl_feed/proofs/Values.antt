@@ -66,7 +66,7 @@ kept-sids w v p d same = sym (sids-of w p d (kept_sids w p d)) ∙ ap (map (λ (
 abbrev pub lines_of : worlds.World → Pipeline → Format → ℕ → List ℕ → List ℕ
 lines_of w p format s sids = lines w p format (map (row w p (pos s)) sids)
 
--- the line of a place, and the lines of the places behind it
+-- the line of a place, and the lines of the places after it
 abbrev pub piece_at : worlds.World → Pipeline → Format → ℕ → List ℕ → ℕ → List ℕ
 piece_at w p format s sids i = row_line w p format (row w p (pos s) (get_or sids i 0))
 

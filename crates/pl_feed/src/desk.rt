@@ -12,8 +12,8 @@ use pl_terms::Checked;
 use pl_world::World;
 use std::alloc::Global;
 
-/// All that a run works with: the daily evaluation, for each asset the place of its next bar, the bars and the
-/// adjustments of a day, and a line of the table.
+/// All that a run works with: the daily evaluation, for each asset the place of its next bar, the bars and
+/// the adjustments of a day, and a line of the table.
 pub struct Desk<'a> {
     pub(crate) daily: Daily<'a>,
     pub(crate) places: Vec<usize>,

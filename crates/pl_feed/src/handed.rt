@@ -25,8 +25,8 @@ fn bar_at(bars: &Bars, col: usize, session: usize, place: &mut usize) -> DayBar
     }
 }
 
-/// Puts the bars of the session before this one in place of those that are there. There is room for them. Each
-/// asset has a place among all bars, from where its next one is looked up.
+/// Puts the bars of the session before this one in place of those that are there. There is room for them.
+/// Each asset has a place among all bars, from where its next one is looked up.
 pub(crate) fn fill_bars(
     world: &World<'_>,
     session: usize,
@@ -71,7 +71,7 @@ fn due<'a>(world: &World<'a>, col: usize, session: usize) -> &'a [Adjust]
     }
 }
 
-// Puts the adjustments of the asset in a column behind those that are there.
+// Puts the adjustments of the asset in a column after those that are there.
 fn put_events(col: u32, adjusts: &[Adjust], events: &mut Vec<DayEvent>)
     requires { vec_len events.old + length adjusts.now ≤ vec_capacity events.old }
     ensures events { map column_event events.new.items

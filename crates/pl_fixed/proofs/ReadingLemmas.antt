@@ -68,7 +68,7 @@ signed_spelled false (c ∷ cs) fs p hw hf =
 pub read-spelled : (d : Decimal) (bytes : List ℕ) → IsDecimal d bytes → read bytes ≡ judged d
 read-spelled d bytes h = ap read h.spelled ∙ signed_spelled d.negative d.whole d.fraction h.whole.0 h.whole.1 h.fraction
 
--- ---- what follows a point, by how many digits stand in front of it
+-- ---- what follows a point, by how many digits stand before it
 
 pub full_front : (ds : List ℕ) → length ds ≤ length (front_digits ds) → front_digits ds ≡ ds
 full_front ds h = take_all (prefix_len is_ascii_digit ds) ds (omega (arith, length-prefix_len is_ascii_digit ds))
@@ -279,7 +279,7 @@ div_round-ge : (negative : Bool) (n b k : ℕ) → 0 < b → k * b ≤ n → k �
 div_round-ge negative n b k p h =
     rw (unsigned_abs-div_round (signed negative n) b, abs-signed negative n) (le-div k (2 * n + b) (2 * b) (omega arith) (omega arith))
 
--- The digits in front of the point count as 10^12 at most: from there on no cell holds the number, whatever follows.
+-- The digits before the point count as 10^12 at most: from there on no cell holds the number, whatever follows.
 pub in_range-capped : (d : Decimal) (units part scale : ℕ) → length d.fraction ≤ 18 → AllDigits 10 d.fraction
     → units ≡ min (10 ^ 12) (digits_value 10 d.whole) → part ≡ min (10 ^ 18) (digits_value 10 d.fraction) → scale ≡ 10 ^ length d.fraction
     → in_range (div_round (signed d.negative ((units * scale + part) * MILLION)) scale) ≡ in_range (millionths d)

@@ -44,7 +44,7 @@ reads_back v small =
       (rw (length-digits 6 r) (omega arith), small, rw (value, length-digits 6 r, exact, signed-abs v)),
     )
 
--- the sign and the digits in front of the point take 13 bytes at most
+-- the sign and the digits before the point take 13 bytes at most
 pub length-front-le : (v : ℤ) (n : ℕ) → n ≡ unsigned_abs v → unsigned_abs v ≤ LIMIT
     → length (sign_text (int_lt v (pos 0))) + length (decimal (n / MILLION)) ≤ 13
 length-front-le v n e small =

@@ -60,7 +60,7 @@ fn parts_of(b: &[u8]) -> Option<Parts>
     })
 }
 
-// The number in the two digits at a place and behind it.
+// The number in the two digits at a place and after it.
 pub(crate) fn pair_at(b: &[u8], place: usize) -> Option<u8>
     requires { place + 1 < length b.now }
     ensures found { IfSome result (IsPairAt b.now place) }

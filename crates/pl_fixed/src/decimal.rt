@@ -16,7 +16,7 @@ pub enum DecimalFault {
     Empty,
     /// They are no optional `-`, digits, and optionally a point and digits.
     Shape,
-    /// More than 18 digits stand behind the point.
+    /// More than 18 digits stand after the point.
     TooManyDigits,
     /// The rounded value is outside `-LIM` to `LIM`.
     TooLarge,
@@ -64,7 +64,7 @@ fn read_unsigned(negative: bool, b: &[u8]) -> Result<i64, DecimalFault>
     read_fraction(negative, units, &b[count..])
 }
 
-// Of the digits in front of the rest only their number matters.
+// Of the digits before the rest only their number matters.
 #[tactic(auto, unfolding(crate::specs::Reading::fraction_read))]
 fn read_fraction(negative: bool, units: u64, rest: &[u8]) -> Result<i64, DecimalFault>
     requires { units ≤ MOST_UNITS }
@@ -78,7 +78,7 @@ fn read_fraction(negative: bool, units: u64, rest: &[u8]) -> Result<i64, Decimal
     }
 }
 
-// The same of what stands behind the point.
+// The same of what stands after the point.
 fn read_part(negative: bool, units: u64, fraction: &[u8]) -> Result<i64, DecimalFault>
     requires { units ≤ MOST_UNITS }
     ensures { (whole : List ℕ) → units ≡ min MOST_UNITS (digits_value 10 whole)
@@ -94,7 +94,7 @@ fn read_part(negative: bool, units: u64, fraction: &[u8]) -> Result<i64, Decimal
     judge(negative, units, part, digits)
 }
 
-// The decimal of so many units, and of so many digits behind the point that write the part.
+// The decimal of so many units, and of so many digits after the point that write the part.
 fn judge(negative: bool, units: u64, part: u64, digits: usize) -> Result<i64, DecimalFault>
     requires units { units ≤ MOST_UNITS }
     requires part { part ≤ MOST_VALUE }
@@ -144,7 +144,7 @@ fn millionths(negative: bool, units: u64, part: u64, digits: usize) -> i128
     }
 }
 
-// How many millionths the last of so many digits behind the point stands for.
+// How many millionths the last of so many digits after the point stands for.
 fn millionths_of_digit(digits: usize) -> u64
     requires { digits ≤ 6 }
     ensures value { result * 10 ^ digits ≡ MILLION }
@@ -199,7 +199,7 @@ fn rounded(negative: bool, units: u64, part: u64, scale: u64) -> i128
     }
 }
 
-/// Writes the text of a cell at the front of `out`, with exactly six digits behind the point and no zeros in
+/// Writes the text of a cell at the front of `out`, with exactly six digits after the point and no zeros in
 /// front, and gives its length: 0 for `MISSING`. `read_decimal` reads the text of any other cell as that
 /// cell.
 #[tactic(auto, unfolding(pl_spec::specs::Decimals::cell_text))]

@@ -75,7 +75,7 @@ fn short_front(b: &[u8]) -> (usize, u64)
     (b.len(), number)
 }
 
-// The number of exactly six digits, as many as most decimals have behind the point. There is no loop, and the
+// The number of exactly six digits, as many as most decimals have after the point. There is no loop, and the
 // pairs do not wait for each other.
 pub(crate) fn six_digits(b: &[u8]) -> Option<u64>
     ensures count { IfSome result (λ _. length b.now ≡ 6) }
@@ -92,7 +92,7 @@ pub(crate) fn six_digits(b: &[u8]) -> Option<u64>
     Some(u64::from(high) * 10_000 + u64::from(middle) * 100 + u64::from(low))
 }
 
-// Writes a byte at `at`, and gives the place behind it.
+// Writes a byte at `at`, and gives the place after it.
 pub(crate) fn put(byte: u8, out: &mut [u8], at: usize) -> usize
     requires { at < length out.old }
     ensures end { result ≡ at + 1 }
@@ -115,7 +115,7 @@ pub(crate) fn put_decimal(n: u64, out: &mut [u8], at: usize) -> usize
     put(b'0' + (n % 10) as u8, out, end)
 }
 
-// Writes the last `width` digits of `n`, with zeros in front.
+// Writes the last `width` digits of `n`, with leading zeros.
 pub(crate) fn put_digits(n: u64, width: usize, out: &mut [u8], at: usize) -> usize
     requires { at + width ≤ length out.old }
     ensures end { result ≡ at + width }

@@ -53,7 +53,7 @@ unfolding change
 price-steps m d (pos n) h few = rw (next-by_change (pos n) d) (grows m n (change (pos n) d) (omega (arith, ints, h.low)) (omega (arith, ints, h.high)) (part-size n (pos d -ℤ pos 200) (near_200 d few)))
 price-steps m d (negsuc n) h few = absurd (omega (arith, ints, h.low))
 
--- the greatest price behind so many sessions
+-- the greatest price after so many sessions
 unfoldable pub most : ℕ → ℕ
 most zero = 99000000
 most (suc n) = 51 * most n / 50 + 1

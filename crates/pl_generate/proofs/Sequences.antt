@@ -1,4 +1,4 @@
--- Draws behind draws.
+-- Draws after draws.
 use Rattle.std.proofs.Common.{◌≡◌, ℕ, zero, suc, ◌+◌, ◌<◌, refl, sym, ap, ◌∙◌, arith}
 use Rattle.pl_generate.specs.Draws.{next_state, behind, number_at}
 

@@ -47,7 +47,7 @@ abbrev pub sector : ℕ → ℕ → ColumnLabel
 sector state col =
     record { name = codes "sector"; col = col; start = first_day; text = 83 ∷ (48 + drawn state col 10) ∷ [] }
 
--- those whose draws stand behind the state
+-- those whose draws stand after the state
 unfoldable pub sectors_from : ℕ → List ColumnLabel
 sectors_from state = map (sector state) (range_with_len 0 400)
 
@@ -59,7 +59,7 @@ next_price price draw =
     let grown = price +ℤ div_round (price *ℤ (pos draw -ℤ pos 200)) 10000 in
     if int_lt grown (pos MILLION) then pos MILLION else grown
 
--- The prices of an asset whose draws stand behind the state: that with which it begins, and then that of each
+-- The prices of an asset whose draws stand after the state: that with which it begins, and then that of each
 -- session. A session draws its change and then its volume.
 unfoldable pub price : ℕ → ℕ → ℤ
 price state zero = pos (20000000 + drawn state 0 80 * MILLION)
@@ -89,7 +89,7 @@ bars_from state = flat_map (λ col. bars_of_asset (behind state (1201 * col)) co
 
 -- ---- adjustments
 
--- A row whose two draws stand behind the state: its sid, and the session on whose midnight it acts.
+-- A row whose two draws stand after the state: its sid, and the session on whose midnight it acts.
 abbrev pub adjust : ℕ → ℤ → ℤ → ℤ → RawAdjust
 adjust state id num den =
     record {

@@ -25,7 +25,7 @@ pub(crate) fn draw_bars(alloc: Global, draws: &mut Draws) -> Result<Bars, AllocE
     Ok(Bars::from_rows(rows))
 }
 
-// Puts the bars of the asset in a column, one for each session, behind the rows.
+// Puts the bars of the asset in a column, one for each session, after the rows.
 fn draw_asset(col: u32, draws: &mut Draws, rows: &mut Vec<BarRow>) -> Result<(), AllocError>
     ensures rows { OnOk result (rows.new.items ≡ rows.old.items ++ bars_of_asset draws.old col) }
     ensures draws { OnOk result (draws.new ≡ behind draws.old 1201) }

@@ -69,7 +69,7 @@ name_open : (w : Bool) (p q : Place) (n : List ℕ) (fs : List Frame) → move (
 name_open true p q n fs = refl
 name_open false p q n fs = refl
 
--- an operand behind which the token t ends what the operand ends
+-- an operand after which the token t ends what the operand ends
 behind_operand : (p : Place) (o : BinarySign) (mode : Mode) (frames : List Frame) (tree : Tree) (h : ℕ) (e : Tree) (fs : List Frame) → operand mode ≡ Some tree → closed (level o) tree frames ≡ close (level o) h e fs → asked fs ≤ level o → left_level o ≤ h → move (mark p (Operator o)) mode frames ≡ Some (at Wanted (Behind p o e ∷ fs))
 behind_operand p o mode frames tree h e fs given same fits high =
     ap (λ x. operator_move p o x (is_wanted mode) frames) given

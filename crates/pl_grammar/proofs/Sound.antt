@@ -111,7 +111,7 @@ close_has {d = d} {ts = ts} (opens_group g o q) m h e xs us x fits whole =
 close_has {d = d} {ts = ts} (opens_call g o c v n q) m h e xs us x fits whole =
     record { spare = d; before = ts; own = xs; opens = opens_call g o c v n q; derives = x; whole = whole; fits = fits; stopped = tt }
 
--- the place behind what was closed by a binary sign allows that sign
+-- the place after what was closed by a binary sign allows that sign
 asked_by : (o : BinarySign) (fs : List Frame) → Stopped (level o) fs → asked fs ≤ level o
 asked_by o [] h = (levels o).low
 asked_by o (Prefixed p s ∷ fs) h = omega arith

@@ -5,7 +5,7 @@ use Rattle.pl_grammar.specs.Tree.{Token, LargeNumber, Lexeme, mark, Semicolon}
 use Rattle.pl_grammar.specs.Machine.{Stop, Stuck, Deep}
 use Rattle.pl_grammar.specs.Script.{Statement, Script, Viable, Stage, script_step, script_finish}
 
--- behind the tokens: the end of the text, or a byte that begins or continues no token
+-- after the tokens: the end of the text, or a byte that begins or continues no token
 pub data Tail : Type 0 where
   AtEnd : Place → Tail
   AtBad : Place → Tail
@@ -33,7 +33,7 @@ token_too_large t = false
 abbrev pub too_large : Lexeme → Bool
 too_large (mark p t) = token_too_large t
 
--- how many tokens of its statement have come with this one, 0 behind its `;`
+-- how many tokens of its statement have come with this one, 0 after its `;`
 abbrev pub token_counted : ℕ → Token → ℕ
 token_counted n Semicolon = 0
 token_counted n t = suc n
@@ -67,7 +67,7 @@ pub data IsFault (front : List Lexeme) (t : Lexeme) : Kind → Type 0 where
   is_deep : since 0 front < most_tokens → too_large t ≡ false → (d : ℕ) → Viable d (front ++ (t ∷ []))
       → (Viable most_depth (front ++ (t ∷ [])) → ⊥) → IsFault front t TooDeep
 
--- the first fault of the tokens and what is behind them
+-- the first fault of the tokens and what is after them
 pub data IsFirst : List Lexeme → Tail → Kind → Place → Type 0 where
   at_bad : {ts : List Lexeme} {p : Place} → IsFine ts → IsFirst ts (AtBad p) BadByte p
   at_end : {ts : List Lexeme} {p : Place} → IsFine ts → ((d : ℕ) (ss : List Statement) → Script d ts ss → ⊥)

@@ -16,8 +16,8 @@ pub record Arg : Type 0 where
   pub name : Option (List ℕ)
   pub tree : Tree
 
--- what is open, the innermost first: a prefix sign, a binary sign behind its left operand, a group, and
--- an argument behind its callee, the arguments before it and its name
+-- what is open, the innermost first: a prefix sign, a binary sign after its left operand, a group, and
+-- an argument after its callee, the arguments before it and its name
 pub data Frame : Type 0 where
   Prefixed : Place → PrefixSign → Frame
   Behind : Place → BinarySign → Tree → Frame
@@ -98,7 +98,7 @@ pub record Closed : Type 0 where
   pub tree : Tree
   pub frames : List Frame
 
--- is the construct ended by a sign of level m behind its operand
+-- is the construct ended by a sign of level m after its operand
 abbrev pub ends : ℕ → Frame → Bool
 ends m (Prefixed p s) = nat_le m (prefix_level s)
 ends m (Behind p o a) = nat_le m (level o)
@@ -189,7 +189,7 @@ shut e (Behind p o a ∷ fs) = None
 shut e (Group ∷ fs) = Some (at (Given e) fs)
 shut e (Call c ps n ∷ fs) = Some (at (Given (applied c (ps ++ (record { name = n; tree = e } ∷ [])))) fs)
 
--- a `)` where no operand was read: only behind the `(` of a call
+-- a `)` where no operand was read: only after the `(` of a call
 abbrev pub shut_empty : Mode → List Frame → Option State
 shut_empty Wanted fs = None
 shut_empty ArgWanted [] = None

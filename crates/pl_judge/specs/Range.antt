@@ -31,7 +31,7 @@ IsDateOf days (Some k) (Some d) = slice_get days k ≡ Some d.day
 IsDateOf days (Some k) None = ⊥
 IsDateOf days None (Some d) = ⊥
 
--- the last session comes before the first one, or behind the one as of which the rows are asked for
+-- the last session comes before the first one, or after the one as of which the rows are asked for
 abbrev pub are_backwards : ℕ → ℕ → Option ℕ → Bool
 are_backwards from to as_of = nat_lt to from || unwrap_or (option_map (λ known. nat_lt known to) as_of) false
 

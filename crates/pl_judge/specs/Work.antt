@@ -148,7 +148,7 @@ abbrev pub revisions_steps : List ℤ → List AssetRow → Option (List ℕ) �
 revisions_steps days assets None file = []
 revisions_steps days assets (Some name) file = read_step Revisions (revisions_rule days assets) file ∷ []
 
--- Each file is read whole and judged before the next one is begun; the tables come behind the bars, and the
+-- Each file is read whole and judged before the next one is begun; the tables come after the bars, and the
 -- revisions last.
 unfoldable pub data_steps : Contents → WorldNames → List Step
 data_steps held q =

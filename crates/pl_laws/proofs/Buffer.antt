@@ -1,4 +1,4 @@
--- What is seen on the next session: the events of the new day come behind those seen so far.
+-- What is seen on the next session: the events of the new day come after those seen so far.
 use Rattle.std.proofs.Common.{◌≡◌, ℕ, suc, Bool, true, false, cond, ℤ, pos, ◌<ℤ◌, ◌≤ℤ◌, ◌+ℤ◌, List, [], ◌∷◌, ◌++◌, get_or, Some, refl, ◌∙◌, ap, arith, filter, AllPairs, All, filter_map}
 use Rattle.std.proofs.lemmas.Int.{ints}
 use Rattle.std.proofs.lemmas.List.Elements.{filter_map-append}
@@ -90,7 +90,7 @@ pub no_effects : (c : Column) (bar low high : ℤ) → high ≤ℤ low → (es :
 no_effects c bar low high h es = ap (filter_map (effect c bar)) (nothing low high h es)
 
 module _ (w : World) (a : ℕ) (c : Column) (s d : ℤ) (low mid high : ℤ) where
-  -- Going to the next session adds the events of the days up to it, behind those of the row so far.
+  -- Going to the next session adds the events of the days up to it, after those of the row so far.
   pub seen_next : IsWorld w → day_of w s ≡ Some low → day_of w d ≡ Some mid → day_of w (d +ℤ pos 1) ≡ Some high → low ≤ℤ mid → mid ≤ℤ high
       → seen_cell w a c s (d +ℤ pos 1) ≡ after_all (seen_cell w a c s d) (effects_in c low mid high (events_of w a))
   unfolding seen_cell

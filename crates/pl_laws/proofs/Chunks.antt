@@ -1,4 +1,4 @@
--- The tables of two pieces of a range, one behind the other, are the table of the range.
+-- The tables of two pieces of a range, one after the other, are the table of the range.
 use Rattle.std.proofs.Common.{◌≡◌, ℕ, zero, suc, ◌+◌, ◌-◌, ◌≤◌, pos, ◌++◌, refl, arith}
 use Rattle.std.proofs.lemmas.Grind.{flat_map-append}
 use Rattle.std.specs.List.{range_with_len}

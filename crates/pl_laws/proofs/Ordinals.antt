@@ -73,7 +73,7 @@ module _ {A : Type 0} (lt : A → A → Bool) where
         here true e = absurd (let yes : lt x x ≡ true = transitive x y x t e in let no : lt x x ≡ false = irreflexive x in cc)
         here false e = e
 
-    -- what stands behind x moves up by one
+    -- what stands after x moves up by one
     place-more : (x : A) (xs : List A) (y : A) → In y xs → (lt x y ≡ true) ⊎ (lt y x ≡ true) → place (x ∷ xs) y ≡ shift (place (x ∷ xs) x) (place xs y)
     unfolding place
     place-more x xs y i (inl t) =

@@ -16,7 +16,7 @@ is_eq x y h = grind (arith, ints)
 pub eq_is : (x y : ℤ) → x ≡ y → int_eq x y ≡ true
 eq_is x y h = grind (arith, ints)
 
--- behind no session there is none
+-- after no session there is none
 gone : (d e : ℕ) (days : List ℤ) (y : ℤ) → d ≤ e → slice_get days d ≡ None → slice_get days e ≡ Some y → ⊥
 gone d e [] y h at_d at_e = cc
 gone zero e (x ∷ xs) y h at_d at_e = cc

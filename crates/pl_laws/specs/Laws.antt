@@ -78,7 +78,7 @@ OpenMasksChangeNothing = (w : World) (names : List (List ℕ)) (mask : Term)
     → (kind : Kind) (size : ℕ) (x y z group : Term) (a : ℕ) (d : ℤ)
     → value w names (node kind size x y z mask group) a d ≡ value w names (node kind size x y z absent group) a d
 
--- the tables of two pieces of a range, one behind the other, are the table of the range: a run may be cut
+-- the tables of two pieces of a range, one after the other, are the table of the range: a run may be cut
 -- anywhere
 abbrev pub TablesConcatenate : Type 0
 TablesConcatenate = (w : World) (p : Pipeline) (from mid to : ℕ) → from ≤ suc mid → mid ≤ to

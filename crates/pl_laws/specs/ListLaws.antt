@@ -46,7 +46,7 @@ BinsAreFew = (bins : ℕ) (vs : List ℤ) (x y : ℤ) → (bin_of bins vs x ≤ 
 abbrev pub EdgesAscend : Type 0
 EdgesAscend = (vs : List ℤ) (n p q : ℕ) → 0 < n → p ≤ q → q ≤ n * (length vs - 1) → edge vs p n ≤ℤ edge vs q n
 
--- a value stands in bin k where the edge in front of it lies below the value and the one behind it doesn't
+-- a value stands in bin k where the edge before it lies below the value and the one after it doesn't
 abbrev pub BinsLieBetweenEdges : Type 0
 BinsLieBetweenEdges = (bins : ℕ) (vs : List ℤ) (x : ℤ) (k : ℕ) → k < bins
     → (bin_of bins vs x ≡ k) ↔ ((0 < k → edge_of bins vs k <ℤ (x *ℤ pos bins)) × (k + 1 < bins → (x *ℤ pos bins) ≤ℤ edge_of bins vs (k + 1)))

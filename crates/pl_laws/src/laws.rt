@@ -63,7 +63,7 @@ pub fn order_is_one()
     ensures { OrderIsOne }
 {}
 
-/// Adjustments may be brought into their order before others come behind them.
+/// Adjustments may be brought into their order before others come after them.
 pub fn order_is_kept()
     ensures { OrderIsKept }
 {}

@@ -29,7 +29,7 @@ asset_in r =
 abbrev pub sid_of : AssetRow → ℕ
 sid_of a = a.sid
 
--- the rules of a record behind the header, in the order in which they are tested, and their tests
+-- the rules of a record after the header, in the order in which they are tested, and their tests
 abbrev pub rules : List Rule
 rules = TooMany ∷ BadField ∷ StartAfterEnd ∷ DuplicateSid ∷ []
 
@@ -40,7 +40,7 @@ breaks before r BadField = lacks (asset_in r)
 breaks before r StartAfterEnd = has (λ a. int_lt a.end a.start) (asset_in r)
 breaks before r DuplicateSid = has (λ a. list_any (λ x. sid_of x == a.sid) before) (asset_in r)
 
--- the asset of a record behind the assets before it, or the first rule that it breaks
+-- the asset of a record after the assets before it, or the first rule that it breaks
 unfoldable pub says_asset : List AssetRow → Record → Result AssetRow Rule
 says_asset before r = first_broken rules (breaks before r) (ok_or (asset_in r) BadField)
 

@@ -8,7 +8,7 @@ use Rattle.pl_spec.specs.declared.AssetRow.{AssetRow}
 use Rattle.pl_lifetimes.specs.Assets.{Rule, BadHeader, TooMany, BadField, StartAfterEnd, DuplicateSid, rules, header}
 use Rattle.pl_spec.specs.Limits.{most_assets}
 
--- the record is the sid of the asset, without sign and zeros in front, and its two days
+-- the record is the sid of the asset, without sign and leading zeros, and its two days
 pub record IsAssetRecord (r : Record) (a : AssetRow) : Type 0 where
   pub three : length r ≡ 3
   pub small : a.sid < 2 ^ 32
@@ -28,7 +28,7 @@ Breaks before r DuplicateSid = (a : AssetRow) × IsAssetRecord r a × Any (λ b.
 abbrev pub IsAsset : List AssetRow → Record → AssetRow → Type 0
 IsAsset before r a = IsAssetRecord r a × KeepsAll rules (Breaks before r)
 
--- the assets of the records behind the header, by ascending sid
+-- the assets of the records after the header, by ascending sid
 pub record AreAssetsOf (records : List Record) (assets : List AssetRow) : Type 0 where
   pub rows : List AssetRow
   pub read : AreRowsUnder header IsAsset records rows

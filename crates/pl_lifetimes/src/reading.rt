@@ -44,7 +44,7 @@ fn read_rows(alloc: Global, bytes: &[u8]) -> Result<Vec<AssetRow>, AssetsError>
     rows_behind(alloc, &mut records)
 }
 
-// The assets of the records behind the header.
+// The assets of the records after the header.
 fn rows_behind(alloc: Global, records: &mut Records) -> Result<Vec<AssetRow>, AssetsError>
     ensures { Answers (λ v. v.items) fault_of result (rows_of 2 says_asset records.old.left) }
 {
@@ -57,7 +57,7 @@ fn rows_behind(alloc: Global, records: &mut Records) -> Result<Vec<AssetRow>, As
     Ok(rows)
 }
 
-// The asset of the record that was read last, behind the assets before it, whose sids are given.
+// The asset of the record that was read last, after the assets before it, whose sids are given.
 #[tactic(auto, unfolding(crate::specs::Assets::says_asset))]
 fn next_asset(
     before: &[AssetRow],

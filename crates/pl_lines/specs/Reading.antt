@@ -12,7 +12,7 @@ use Rattle.pl_lines.specs.Texts.Broken.{BadLine, TooMany}
 use Rattle.pl_lines.specs.declared.read.LinesError.{LinesError}
 use Rattle.pl_lines.specs.declared.read.LinesError.TheVariants as errors
 
--- the pieces of what is behind a mark
+-- the pieces of what is after a mark
 abbrev pub behind : ℕ → Option (List ℕ) → List (List ℕ)
 behind mark None = []
 behind mark (Some text) = pieces mark text

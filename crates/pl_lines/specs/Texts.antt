@@ -39,7 +39,7 @@ text_of lines = flat_map (λ l. body_of l ++ 10 ∷ []) lines
 
 -- ---- reading
 
--- a byte in front of the first piece
+-- a byte before the first piece
 abbrev pub in_first : ℕ → List (List ℕ) → List (List ℕ)
 in_first x [] = (x ∷ []) ∷ []
 in_first x (p ∷ ps) = (x ∷ p) ∷ ps
@@ -95,12 +95,12 @@ abbrev pub with_line : Line → Result (List Line) Broken → Result (List Line)
 with_line l (Ok ls) = Ok (l ∷ ls)
 with_line l (Err e) = Err e
 
--- the line of a piece, in front of what is behind it
+-- the line of a piece, before what is after it
 abbrev pub line_judged : ℕ → Option Line → Result (List Line) Broken → Result (List Line) Broken
 line_judged n None rest = Err (BadLine n)
 line_judged n (Some l) rest = if nat_lt most_lines n then Err (TooMany n) else with_line l rest
 
--- the pieces from line number n on; the last one is behind the last line feed, so it has to be empty
+-- the pieces from line number n on; the last one is after the last line feed, so it has to be empty
 abbrev pub lines_from : ℕ → List (List ℕ) → Result (List Line) Broken
 lines_from n [] = Ok []
 lines_from n (piece ∷ []) = if bytes_eq piece [] then Ok [] else Err (BadLine n)

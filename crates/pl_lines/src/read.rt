@@ -35,7 +35,7 @@ fn text_after(text: &[u8], at: usize) -> &[u8]
     &text[at + 1..]
 }
 
-// What stands before the first of these bytes, and what is behind it.
+// What stands before the first of these bytes, and what is after it.
 fn cut(mark: u8, text: &[u8]) -> (&[u8], Option<&[u8]>)
     ensures pieces { pieces mark text.now ≡ result.0.now ∷ behind mark (option_map (λ r. r.now) result.1) }
     ensures shorter { IfSome result.1 (λ r. length r.now < length text.now) }

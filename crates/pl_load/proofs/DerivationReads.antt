@@ -37,7 +37,7 @@ lines-tell text (errors.BadLine n) fault e h = inl (rw (h, e) refl)
 lines-tell text (errors.TooMany n) fault e h = inl (rw (h, e) refl)
 lines-tell text errors.Memory fault e h = inr e
 
--- a read that fails behind others
+-- a read that fails after others
 pub risen-later : (first mid last : ℕ) (keeper : Type 0) (f : Fault) → first ≤ mid → IsRisen (Rose mid last) ⊥ f → IsRisen (Rose first last) keeper f
 risen-later first mid last keeper Usage l h = absurd h
 risen-later first mid last keeper (Unread file) l h = Rose-later first mid last l h

@@ -200,7 +200,7 @@ fn read_rows<S: Shelf, K: AdjustKeeper>(
     })
 }
 
-// The adjustments of the world of these names with their revisions, behind the labels and the bars.
+// The adjustments of the world of these names with their revisions, after the labels and the bars.
 fn read_revised<S: Shelf, K: AdjustKeeper>(
     alloc: Global,
     names: &WorldNames<'_>,

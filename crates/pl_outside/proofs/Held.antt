@@ -61,7 +61,7 @@ rest_at-start files (Some place) = refl
 pub rest_at-held : (files : List File) (name : List ℕ) → rest_at files (position (has_name name) files) 0 ≡ unwrap_or (held (map shown files) name) []
 rest_at-held files name = rw (held-position files name) (rest_at-start files (position (has_name name) files))
 
--- A file under another name in front of the others takes no look-up away from this name.
+-- A file under another name before the others takes no look-up away from this name.
 module _ (first name other mine bytes : List ℕ) (rest all : Option (List ℕ)) where
   past-in : (b c : Bool) → bytes_eq first other ≡ b → bytes_eq name other ≡ c → bytes_eq first name ≡ false
       → all ≡ (if bytes_eq name other then Some bytes else rest)
@@ -127,7 +127,7 @@ module _ (new : File) (other : List ℕ) where
       by_name put false (suc place) miss found =
           behind file files (set files place new) miss (put place (later-Some (position is_new files) place (sym (position-later is_new file files miss) ∙ found)))
 
-  -- it stands behind files of other names
+  -- it stands after files of other names
   pub held-push : (files : List File) → position is_new files ≡ None → IsPut files (files ++ new ∷ [])
   held-push [] none = refl
   held-push (file ∷ files) none = by_name (held-push files) (is_new file) refl

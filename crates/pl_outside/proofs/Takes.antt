@@ -12,7 +12,7 @@ pub takes-more : (a b c : Option (List ℕ)) (xs ys : List ℕ) → TakesAll a b
 takes-more None b c xs ys first second = rw (second, first) refl
 takes-more (Some old) b c xs ys first second = rw (second, first) (ap Some (append_assoc old xs ys))
 
--- the next piece of a text is taken from what is left behind the first d bytes
+-- the next piece of a text is taken from what is left after the first d bytes
 pub take-more : (d n : ℕ) (text : List ℕ) → n ≤ length text - d → take (d + n) text ≡ take d text ++ take n (take (length text - d) (drop d text))
 take-more d n text h = grind (arith, common_steps, take-add d n text)
 

@@ -2,7 +2,7 @@
 use Rattle.std.specs.Prelude.{ℕ, ◌≡◌, ◌≤◌, ◌+◌, List, ◌++◌, take, length, Option, option_map, Result, Bool, IsTrue, IsOk, OnOk, OnErr}
 use Rattle.pl_outside.specs.Counts.{Rose}
 
--- these bytes were taken behind those taken before, where the sink tells
+-- these bytes were taken after those taken before, where the sink tells
 abbrev pub TakesAll : Option (List ℕ) → Option (List ℕ) → List ℕ → Type 0
 TakesAll old new bytes = new ≡ option_map (λ front. front ++ bytes) old
 

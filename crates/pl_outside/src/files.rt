@@ -19,7 +19,7 @@ pub fn place_of(files: &[File], name: &str) -> Option<usize>
     files.iter().position(|file| file.name.as_str() == name)
 }
 
-/// Puts a file in the place of the one that has its name, or behind all others.
+/// Puts a file in the place of the one that has its name, or after all others.
 pub fn put_file(files: &mut Vec<File>, name: String, bytes: Vec<u8>) -> Result<(), Memory>
     ensures held { OnOk result ((other : List ℕ) → held (map shown files.new.items) other
         ≡ (if bytes_eq (string_bytes name) other then Some bytes.items else held

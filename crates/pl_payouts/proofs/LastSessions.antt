@@ -34,7 +34,7 @@ not_before d ex t = grind (arith, ints)
 later_not_before : (d e ex : ℤ) → d <ℤ e → int_le ex d ≡ true → int_lt e ex ≡ false
 later_not_before d e ex l t = grind (arith, ints)
 
--- where the first day that is no earlier stands, or behind all of them, the days are parted
+-- where the first day that is no earlier stands, or after all of them, the days are parted
 pub parted : (days : List ℤ) (ex : ℤ) → AllPairs (λ a b. a <ℤ b) days → (o : Option ℕ) → position (λ d. int_le ex d) days ≡ o → Parts (λ d. int_lt d ex) days (unwrap_or o (length days))
 parted days ex up None e =
     record {

@@ -3,7 +3,7 @@ use Rattle.std.proofs.Common.{◌≡◌, ℕ, List, [], ◌∷◌, ◌++◌, ari
 use Rattle.std.proofs.lemmas.Grind.{common_steps}
 use Rattle.pl_payouts.specs.Texts.{line}
 
--- three fields, each with the comma behind it
+-- three fields, each with the comma after it
 three : (a b e l0 l1 l2 l3 : List ℕ) → l0 ≡ [] → l1 ≡ l0 ++ (a ++ 44 ∷ []) → l2 ≡ l1 ++ (b ++ 44 ∷ []) → l3 ≡ l2 ++ (e ++ 44 ∷ [])
     → l3 ≡ a ++ (44 ∷ b ++ (44 ∷ e ++ (44 ∷ [])))
 three a b e l0 l1 l2 l3 p q s t = grind (arith, common_steps)

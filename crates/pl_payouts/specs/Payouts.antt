@@ -42,7 +42,7 @@ is_above_0 v = int_lt (pos 0) v
 abbrev pub col_in : List AssetRow → Dividend → Option ℕ
 col_in assets d = position (λ a. sid_of a == d.sid) assets
 
--- the rules of a record behind the header, in the order in which they are tested, and their tests
+-- the rules of a record after the header, in the order in which they are tested, and their tests
 abbrev pub rules : List Rule
 rules = TooMany ∷ BadField ∷ UnknownSid ∷ NotPositive ∷ []
 
@@ -53,7 +53,7 @@ breaks assets before r BadField = lacks (dividend_in r)
 breaks assets before r UnknownSid = has (λ d. lacks (col_in assets d)) (dividend_in r)
 breaks assets before r NotPositive = has (λ d. not (is_above_0 d.amount)) (dividend_in r)
 
--- the payout of a record behind the payouts before it, or the first rule that it breaks
+-- the payout of a record after the payouts before it, or the first rule that it breaks
 unfoldable pub says_dividend : List AssetRow → List Dividend → Record → Result Dividend Rule
 says_dividend assets before r = first_broken rules (breaks assets before r) (ok_or (dividend_in r) BadField)
 

@@ -15,7 +15,7 @@ use Rattle.pl_spec.specs.Limits.{most_payouts}
 abbrev pub IsAmountText : List ℕ → ℤ → Type 0
 IsAmountText text v = (d : Decimal) × IsDecimal d text × IsReadAs d v
 
--- the record is the sid, without sign and zeros in front, the date of the ex day, and the text of the amount
+-- the record is the sid, without sign and leading zeros, the date of the ex day, and the text of the amount
 pub record IsDividendRecord (r : Record) (d : Dividend) : Type 0 where
   pub three : length r ≡ 3
   pub small : d.sid < 2 ^ 32
@@ -36,7 +36,7 @@ Breaks assets before r NotPositive = (d : Dividend) × IsDividendRecord r d × (
 abbrev pub IsDividend : List AssetRow → List Dividend → Record → Dividend → Type 0
 IsDividend assets before r d = IsDividendRecord r d × KeepsAll rules (Breaks assets before r)
 
--- the payouts of the records behind the header, in their order
+-- the payouts of the records after the header, in their order
 abbrev pub ArePayoutsOf : List AssetRow → List Record → List Dividend → Type 0
 ArePayoutsOf assets records rows = AreRowsUnder header (IsDividend assets) records rows
 

@@ -39,7 +39,7 @@ pub(crate) fn read_payouts(
     rows_behind(alloc, &mut records, assets)
 }
 
-// The payouts of the records behind the header.
+// The payouts of the records after the header.
 fn rows_behind(
     alloc: Global,
     records: &mut Records,
@@ -55,7 +55,7 @@ fn rows_behind(
     Ok(rows)
 }
 
-// The payout of the record that was read last, behind those before it.
+// The payout of the record that was read last, after those before it.
 #[tactic(auto, unfolding(crate::specs::Payouts::says_dividend))]
 fn next_dividend(
     before: &[Dividend],

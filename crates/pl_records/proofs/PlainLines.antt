@@ -172,7 +172,7 @@ part-more l s i low high =
 here : (text : List ℕ) (i c : ℕ) → i < length text → get_or text i 0 ≡ c → drop i text ≡ c ∷ drop (i + 1) text
 here text i c l e = drop-cons text i 0 l ∙ ap (λ k. get_or text i 0 ∷ drop k text) (sym (add-one i)) ∙ ap (λ x. x ∷ drop (i + 1) text) e
 
--- a line end in front of a record does not matter
+-- a line end before a record does not matter
 pub skipped : (text : List ℕ) (i : ℕ) → i < length text → is_line_end (get_or text i 0) ≡ true
     → records default_config (drop (i + 1) text) ≡ records default_config (drop i text)
 skipped text i l e = sym (ap (records default_config) (here text i _ l refl) ∙ behind-end (get_or text i 0) (drop (i + 1) text) e)

@@ -15,7 +15,7 @@ pub rows-stop : {Row R : Type 0} (first : ℕ) (says : List Row → Record → R
 unfolding rows_behind
 rows-stop first says before r rs rule e = rw e refl
 
--- what holds of no rows, and of each row behind rows of which it holds, holds of the rows that are read
+-- what holds of no rows, and of each row after rows of which it holds, holds of the rows that are read
 pub rows-keep : {Row R : Type 0} (P : List Row → Type 0) (first : ℕ) (says : List Row → Record → Result Row R)
     → ((before : List Row) (r : Record) (row : Row) → P before → says before r ≡ Ok row → P (before ++ row ∷ []))
     → (rs : List Record) (before rows : List Row) → P before → rows_behind first says before rs ≡ Ok rows → P rows
@@ -95,7 +95,7 @@ AreRows-more {Row} {R} says records rows r row h e =
           (row, ap (slice_get (rows ++ row ∷ [])) last' ∙ at_seam rows row [], ap (λ n. says (take n (rows ++ row ∷ [])) q) last' ∙ ap (λ before. says before q) (take-append_seam rows (row ∷ [])) ∙ ap (says rows) q_is ∙ e)
     ]
 
--- what is read behind rows of the records that are done
+-- what is read after rows of the records that are done
 reads : {Row R : Type 0} (first : ℕ) (says : List Row → Record → Result Row R) (rest done : List Record) (before rows : List Row)
     → AreRows (Says says) done before → rows_behind first says before rest ≡ Ok rows → AreRows (Says says) (done ++ rest) rows
 unfolding rows_behind

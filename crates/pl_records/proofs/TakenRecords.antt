@@ -7,7 +7,7 @@ use Rattle.csv.specs.declared.reader.Reader.{Reader}
 use Rattle.pl_records.specs.QuotedInside.{records_left, unread, IsAtRecord}
 use Rattle.pl_records.proofs.Facts.{next-leaves, fuel-same, Leaves}
 
--- the record, and what is left behind it
+-- the record, and what is left after it
 pub record Took (s s2 : State) (y : List ℕ) (after : Option (List ℕ)) (fields : List (List ℕ)) : Type 0 where
   pub left : records_left s (Some y) ≡ fields ∷ records_left s2 after
   pub between : ends_at_end s2 ≡ false

@@ -6,7 +6,7 @@ abbrev pub first_broken : {A R : Type 0} → List R → (R → Bool) → Result 
 first_broken [] broken right = right
 first_broken (q ∷ qs) broken right = if broken q then Err q else first_broken qs broken right
 
--- this rule is broken, and none that stands in front of it
+-- this rule is broken, and none that stands before it
 abbrev pub IsFirstBroken : {R : Type 0} → List R → (R → Type 0) → R → Type 0
 IsFirstBroken [] Breaks rule = ⊥
 IsFirstBroken (q ∷ qs) Breaks rule = ((q ≡ rule) × Breaks q) ⊎ (¬ Breaks q × IsFirstBroken qs Breaks rule)

@@ -9,7 +9,7 @@ ghost use Rattle.pl_records.specs.Plain.{StartsRecord, Advances, is_line_end};
 use std::alloc::{AllocError, Global};
 use std::marker::Model;
 
-/// The record that was read last, and the text behind it.
+/// The record that was read last, and the text after it.
 #[derive(Drop)]
 pub(crate) struct PlainRecords<'a> {
     fields: Vec<&'a [u8]>,
@@ -135,7 +135,7 @@ fn is_line_end(byte: u8) -> bool
     byte == b'\r' || byte == b'\n'
 }
 
-// Splits the first record of the text into its fields, and gives the place behind it; `None` where it has a
+// Splits the first record of the text into its fields, and gives the place after it; `None` where it has a
 // quote.
 fn split<'a>(text: &'a [u8], fields: &mut Vec<&'a [u8]>) -> Result<Option<usize>, AllocError>
     requires none { fields.old.items ≡ [] }

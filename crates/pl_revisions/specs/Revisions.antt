@@ -48,7 +48,7 @@ is_soon x = int_le x.known x.bar_day
 abbrev pub is_same : Revision → Revision → Bool
 is_same x y = ((y.sid == x.sid && int_eq y.bar_day x.bar_day) && same_column y.column x.column) && int_eq y.known x.known
 
--- the rules of a record behind the header, in the order in which they are tested, and their tests
+-- the rules of a record after the header, in the order in which they are tested, and their tests
 abbrev pub rules : List Rule
 rules = TooMany ∷ BadField ∷ NotSession ∷ UnknownSid ∷ Negative ∷ TooSoon ∷ Duplicate ∷ []
 
@@ -62,7 +62,7 @@ breaks days assets before r Negative = has (λ x. is_negative x.value) (revision
 breaks days assets before r TooSoon = has is_soon (revision_in r)
 breaks days assets before r Duplicate = has (λ x. list_any (is_same x) before) (revision_in r)
 
--- the revision of a record behind the revisions before it, or the first rule that it breaks
+-- the revision of a record after the revisions before it, or the first rule that it breaks
 unfoldable pub says_revision : List ℤ → List AssetRow → List Revision → Record → Result Revision Rule
 says_revision days assets before r = first_broken rules (breaks days assets before r) (ok_or (revision_in r) BadField)
 

@@ -12,7 +12,7 @@ use Rattle.pl_revisions.specs.declared.Revision.{Revision}
 use Rattle.pl_spec.specs.Limits.{most_revisions}
 use Rattle.pl_revisions.specs.Revisions.{Rule, BadHeader, TooMany, BadField, NotSession, UnknownSid, Negative, TooSoon, Duplicate, rules, header}
 
--- the record is the sid, without sign and zeros in front, the date of the bar's day, the name of the column,
+-- the record is the sid, without sign and leading zeros, the date of the bar's day, the name of the column,
 -- the text of the cell, and the date of the known day
 pub record IsRevisionRecord (r : Record) (x : Revision) : Type 0 where
   pub five : length r ≡ 5
@@ -47,7 +47,7 @@ Breaks days assets before r Duplicate = (x : Revision) × IsRevisionRecord r x �
 abbrev pub IsNext : List ℤ → List AssetRow → List Revision → Record → Revision → Type 0
 IsNext days assets before r x = IsRevisionRecord r x × KeepsAll rules (Breaks days assets before r)
 
--- the revisions of the records behind the header, in their order
+-- the revisions of the records after the header, in their order
 abbrev pub AreRevisionsOf : List ℤ → List AssetRow → List Record → List Revision → Type 0
 AreRevisionsOf days assets records rows = AreRowsUnder header (IsNext days assets) records rows
 

@@ -49,7 +49,7 @@ fn read_rows(
     rows_behind(alloc, &mut records, sessions, assets)
 }
 
-// The revisions of the records behind the header.
+// The revisions of the records after the header.
 fn rows_behind(
     alloc: Global,
     records: &mut Records,
@@ -67,7 +67,7 @@ fn rows_behind(
     Ok(rows)
 }
 
-// The revision of the record that was read last, behind those before it.
+// The revision of the record that was read last, after those before it.
 #[tactic(auto, unfolding(crate::specs::Revisions::says_revision))]
 fn next_revision(
     before: &Rows,

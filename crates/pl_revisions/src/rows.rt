@@ -53,7 +53,7 @@ impl Rows {
         self.keys.contains(&key_of(row))
     }
 
-    // These and one more behind them.
+    // These and one more after them.
     pub(crate) fn and(mut self, row: Revision) -> Result<Rows, AllocError>
         ensures { IfOk result (λ r. r ≡ self ++ row ∷ []) }
     {

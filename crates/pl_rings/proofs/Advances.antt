@@ -17,7 +17,7 @@ use Rattle.pl_rings.specs.Changes.{Ring, AreRings, IsRing, ring_at, pushed, chan
 use Rattle.pl_rings.proofs.Moves.{bars_move, slides, ends}
 use Rattle.pl_rings.proofs.Cells.{length-known}
 
--- the cells of a ring behind which one more was put
+-- the cells of a ring after which one more was put
 pushed_at : (xs : List ℤ) (n : ℕ) (x : ℤ) (j : ℕ) → length xs ≡ n → j < n → get_or (keep_last n (xs ++ x ∷ [])) j (pos 0) ≡ get_or (xs ++ x ∷ []) (1 + j) (pos 0)
 pushed_at xs n x j long h =
     let all : length (xs ++ x ∷ []) ≡ length xs + 1 = length-append xs (x ∷ []) in
@@ -29,7 +29,7 @@ length-pushed xs n x long =
     let all : length (xs ++ x ∷ []) ≡ length xs + 1 = length-append xs (x ∷ []) in
     length-drop (length (xs ++ x ∷ []) - n) (xs ++ x ∷ []) ∙ omega (arith, all, long)
 
--- a ring behind which one more cell was put
+-- a ring after which one more cell was put
 pub ring_pushed : (capacity : ℕ) (b : Ring) (x : ℤ) → IsRing capacity b → IsCell x → IsRing capacity (pushed x b)
 ring_pushed capacity b x ring cell = record {
   room = ring.room;
@@ -73,7 +73,7 @@ bars_follow bars events count calendar c capacity old middle new row same_middle
       ∙ ap (λ l. buffer l capacity) (sym moved);
 }
 
--- rings with a row behind them
+-- rings with a row after them
 pub rings_pushed : (capacity : ℕ) (old new : List Ring) (row : List ℤ) {size : ℕ} → length new ≡ length old → AreRings size capacity old → length row ≡ size → All IsCell row
     → ((i : ℕ) → i < length old → ring_at new i ≡ pushed (get_or row i (pos 0)) (ring_at old i)) → AreRings size capacity new
 rings_pushed capacity old new row {size} count are long cells pushes = record {

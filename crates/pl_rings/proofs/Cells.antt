@@ -160,7 +160,7 @@ changed_nothing c days b same = ap (λ l. buffer l b.capacity) (unchanged days b
     unchanged (o ∷ os) [] h = absurd (omega (arith, h))
     unchanged (o ∷ os) (x ∷ xs) h = rw (idle o x) (ap (λ l. x ∷ l) (unchanged os xs (omega (arith, h))))
 
--- events one behind the other
+-- events one after the other
 changed-append : (c : Column) (es fs : List Event) (days : List (Option ℤ)) (b : Ring) → changed c (es ++ fs) days b ≡ changed c fs days (changed c es days b)
 changed-append c es fs days b = ap (λ l. buffer l b.capacity) (cells days b.items)
   where

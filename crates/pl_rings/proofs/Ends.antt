@@ -1,4 +1,4 @@
--- The end of two lists, one behind the other.
+-- The end of two lists, one after the other.
 use Rattle.std.proofs.Common.{◌≡◌, ℕ, ◌+◌, ◌-◌, ◌≤◌, ◌++◌, ℤ, List, [], length, take, drop, append-nil, refl, sym, ◌∙◌, ap, arith, inl, inr}
 use Rattle.std.proofs.lemmas.Bool.{cases_lt}
 use borrow.Rule.Slice.PartMut.{post_of}

@@ -19,7 +19,7 @@ abbrev pub FedAgrees : Type 0
 FedAgrees = (g : Start) (now next : FedDay) (earlier : List FedDay) → IsStart g → AreFed g (next ∷ now ∷ earlier)
     → Agree (fed g (now ∷ earlier)) (fed g (next ∷ now ∷ earlier)) (pos (length earlier)) now.day
 
--- A day puts its bar's cell behind, and its events change the cells, each by the day of its session. Without
+-- A day puts its bar's cell after, and its events change the cells, each by the day of its session. Without
 -- a day all cells are missing. A ring has the smaller windows at its end.
 pub record BarRingsMove : Type 0 where
   pub begins : (g : Start) (c : Column) (size col : ℕ) → bar_ring g [] c size col ≡ replicate size MISSING

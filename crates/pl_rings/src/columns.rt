@@ -95,7 +95,7 @@ fn advance_column<L: Ledger>(
     advance_rings(&mut rings.rings, days, fed, day, column, row, steps);
 }
 
-// Puts a day behind those of the calendar.
+// Puts a day after those of the calendar.
 fn put_day(calendar: &mut HeapCircularBuffer<i32>, day: &Day)
     ensures { calendar.new ≡ buffer
         (keep_last calendar.old.capacity (calendar.old.items ++ day.now.day ∷ [])) calendar.old.capacity }

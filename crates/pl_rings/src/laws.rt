@@ -1,7 +1,7 @@
 //! Laws of fed days. The functions do nothing: the contract of each is a law.
 ghost use Rattle.pl_rings.specs.Laws.{BarRingsMove, DaysAreFed, FedAgrees, FedIsAWorld, ValuesStay};
 
-/// Days that were fed, each as it may be fed behind those before it, make a world.
+/// Days that were fed, each as it may be fed after those before it, make a world.
 pub fn fed_is_a_world()
     ensures { FedIsAWorld }
 {}

@@ -53,7 +53,7 @@ impl Rings {
     }
 }
 
-/// Puts a cell behind each ring; the oldest one leaves it.
+/// Puts a cell at the end of each ring; the oldest one leaves it.
 pub fn push_row(rings: &mut [HeapCircularBuffer<i64>], row: &[i64])
     requires { length row.now ≡ length rings.old }
     ensures count { length rings.new ≡ length rings.old }
@@ -74,7 +74,7 @@ pub fn copy_window(ring: &HeapCircularBuffer<i64>, window: &mut [i64])
     copy_last(front, back, window);
 }
 
-// The last cells of two runs, of which the second stands behind the first.
+// The last cells of two runs, of which the second stands after the first.
 fn copy_last(front: &[i64], back: &[i64], window: &mut [i64])
     requires { length window.old ≤ length front.now + length back.now }
     ensures { window.new ≡ keep_last (length window.old) (front.now ++ back.now) }

@@ -1,4 +1,4 @@
-// Where in a window its greatest and its least cell stand, from where they stood in the window before it. Both
+// Where in a window its greatest and its least cell are, from where they were in the window before it. Both
 // windows are one list: all but its last cell, and all but its first.
 ghost use Rattle.std.specs.Prelude.{◌≡◌, ◌≤◌, ◌<◌, ◌↔◌, ◌⊎◌, true, false, IsTrue, length, position, Option};
 ghost use Rattle.std.specs.List.{All};

@@ -95,7 +95,7 @@ edges-from vs n p (suc k) q h e inside =
 pub edges-ascend : (vs : List ℤ) (n p q : ℕ) → 0 < n → p ≤ q → q ≤ n * (length vs - 1) → edge vs p n ≤ℤ edge vs q n
 edges-ascend vs n p q h le inside = edges-from vs n p (q - p) q h (omega arith) inside
 
--- ---- how many of the numbers from a on pass, where none passes behind one that doesn't
+-- ---- how many of the numbers from a on pass, where none passes after one that doesn't
 
 Falls : (ℕ → Bool) → ℕ → ℕ → Type 0
 Falls Q a n = (i j : ℕ) → a ≤ i → i ≤ j → j < a + n → Q j ≡ true → Q i ≡ true

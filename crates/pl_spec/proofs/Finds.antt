@@ -19,7 +19,7 @@ contains-front x xs = (0, omega arith, refl)
 contains-behind : {X : Type 0} (y : X) (xs : List X) (x : X) → Contains xs x → Contains (y ∷ xs) x
 contains-behind y xs x h = (suc h.0, omega (arith, h.1), h.2)
 
--- an element of a list is its first or one behind it
+-- an element of a list is its first or one after it
 first_or_behind : {X : Type 0} (y : X) (xs : List X) (x : X) → Contains (y ∷ xs) x → (y ≡ x) ⊎ Contains xs x
 first_or_behind y xs x h = here h.0 h.1 h.2
   where

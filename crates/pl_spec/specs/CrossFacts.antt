@@ -10,7 +10,7 @@ pub record IsValueAt (vs : List ℤ) (i : ℕ) (v : ℤ) : Type 0 where
   pub few : below v vs ≤ i
   pub many : i < below v vs + same v vs
 
--- the edge in front of bin k, times the number of bins
+-- the edge before bin k, times the number of bins
 abbrev pub edge_of : ℕ → List ℤ → ℕ → ℤ
 edge_of bins vs k = edge vs (k * (length vs - 1)) bins
 

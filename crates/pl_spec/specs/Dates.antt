@@ -4,7 +4,7 @@ use Rattle.std.specs.List.{range_with_len}
 use Rattle.std.specs.Int.RustNames.{int_le, unsigned_abs}
 use Rattle.jiff_core.specs.Calendar.{IsCivilDate, days_in_month, days_from_civil}
 
--- the last digits of n, so many of them, with zeros in front
+-- the last digits of n, so many of them, with leading zeros
 unfoldable pub digits : ℕ → ℕ → List ℕ
 digits zero n = []
 digits (suc width) n = digits width (n / 10) ++ (48 + n % 10) ∷ []

@@ -18,7 +18,7 @@ pub record IsByDay (rows sorted : List Adjustment) : Type 0 where
   pub rising : AllPairs (λ x y. x.event.day ≤ℤ y.event.day) sorted
   pub same : (day : ℤ) → filter (acts_at day) sorted ≡ filter (acts_at day) rows
 
--- x in front of the first that isn't earlier
+-- x before the first that isn't earlier
 abbrev pub insert_by_day : Adjustment → List Adjustment → List Adjustment
 insert_by_day x [] = x ∷ []
 insert_by_day x (y ∷ ys) = if int_le x.event.day y.event.day then x ∷ y ∷ ys else y ∷ insert_by_day x ys
@@ -51,6 +51,6 @@ abbrev pub adjustments_of : List AssetRow → List RawAdjust → List RawAdjust 
 adjustments_of assets splits mergers dividends =
     by_day (of_table assets Split splits ++ of_table assets Merger mergers ++ of_table assets Dividend dividends)
 
--- with revisions, which act behind the other adjustments of their day, each in the order of their file
+-- with revisions, which act after the other adjustments of their day, each in the order of their file
 abbrev pub with_revisions : List Adjustment → List Adjustment → List Adjustment
 with_revisions adjustments revisions = by_day (adjustments ++ revisions)

@@ -55,7 +55,7 @@ field format k (Text t) = label_text format t
 abbrev pub kind_at : Graph → ℕ → Kind
 kind_at g t = sort_kind (term_at g t)
 
--- spaces in front of a text, or behind it, up to a width; a longer text stays whole
+-- spaces before a text, or after it, up to a width; a longer text stays whole
 abbrev pub right_in : ℕ → List ℕ → List ℕ
 right_in width t = replicate (width - length t) 32 ++ t
 

@@ -88,7 +88,7 @@ module _ (told : Told) where
   pub back-lacks : (xs ys : List Fact) → has_all told ys ≡ false → has_all told (xs ++ ys) ≡ false
   back-lacks xs ys h = list_all-append (has told) xs ys ∙ and-false-right (has_all told xs) (has_all told ys) h
 
-  -- behind facts that are told, what is given rests on the others
+  -- after facts that are told, what is given rests on the others
   pub given-behind : {X : Type 0} (xs ys : List Fact) (v : X) → has_all told xs ≡ true → given told ys v ≡ given told (xs ++ ys) v
   given-behind xs ys v h = ap (λ b. if b then Some v else None) (sym (list_all-append (has told) xs ys ∙ ap (λ b. b && has_all told ys) h))
 

@@ -52,7 +52,7 @@ left-from c bar xs i a o within item e =
     ∙ first-effect c bar a (drop (i + 1) xs)
     ∙ ap (λ p. option_to_list p ++ effects_of c bar (drop (i + 1) xs)) e
 
--- behind the last adjustment nothing is left
+-- after the last adjustment nothing is left
 pub left-end : (c : Column) (bar : ℤ) (xs : List Adjust) (i : ℕ) → length xs ≤ i → effects_of c bar (drop i xs) ≡ []
 left-end c bar xs i h = at_drop_all (effects_of c bar) xs i h
 

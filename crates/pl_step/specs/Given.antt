@@ -62,7 +62,7 @@ facts_read w c t a s = unwrap_or (option_map (λ n. kind_facts (world_of w) (nod
 abbrev pub living_facts : spec.World → ℕ → ℕ → ℤ → List Fact
 living_facts w t a d = if exists w a d then Worth t a d ∷ [] else []
 
--- some cells with what a cell is after an effect behind them, where there is one
+-- some cells with what a cell is after an effect after them, where there is one
 abbrev pub GrowsBy : ℤ → Option Effect → List ℤ → List ℤ → ℤ → Type 0
 GrowsBy x None old new y = (y ≡ x) × (new ≡ old)
 GrowsBy x (Some f) old new y = (y ≡ changed x f) × (new ≡ old ++ y ∷ [])

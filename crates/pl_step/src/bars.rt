@@ -64,7 +64,7 @@ fn after_each<L: Ledger>(
     Ok(cells)
 }
 
-// Puts what a cell is after an adjustment behind the others, and gives it, where the adjustment acts on it.
+// Puts what a cell is after an adjustment after the others, and gives it, where the adjustment acts on it.
 fn push_changed<L: Ledger>(
     cells: &mut Vec<i64>,
     cell: i64,

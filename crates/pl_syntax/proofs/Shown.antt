@@ -128,7 +128,7 @@ prefix_shows Not rest us p k = sign_shows 126 rest us p refl (plain_sign rest) k
 regroup : (bs cs : List ℕ) (us vs : List Lexeme) → bs ≡ cs → us ≡ vs → Shows cs vs → Shows bs us
 regroup bs cs us vs e f k = subst (λ z. Shows z us) (sym e) (subst (λ z. Shows cs z) (sym f) k)
 
--- an operand is shown in front of what may follow it
+-- an operand is shown before what may follow it
 abbrev Operand : List ℕ → List Lexeme → Type 0
 Operand xs ts = (rest : List ℕ) (us : List Lexeme) → Clear rest → Shows rest us → Shows (xs ++ rest) (ts ++ us)
 
@@ -139,7 +139,7 @@ placed_shows false xs ts f rest us c k =
     (ap (λ z. 40 ∷ z) (append_assoc xs (41 ∷ []) rest)) (ap (λ z. here t.Open ∷ z) (append_assoc ts (here t.Close ∷ []) us))
     (open_shows (xs ++ (41 ∷ rest)) (ts ++ (here t.Close ∷ us)) (f (41 ∷ rest) (here t.Close ∷ us) (clear_at 41 rest refl refl refl) (close_shows rest us k)))
 
--- the tokens of arguments, the first of them or more behind a comma
+-- the tokens of arguments, the first of them or more after a comma
 abbrev list_tokens : Bool → Args → List Lexeme
 list_tokens true ps = args_tokens ps
 list_tokens false ps = more_tokens ps
@@ -160,7 +160,7 @@ comma_shows : (first : Bool) (rest : List ℕ) (us : List Lexeme) → Shows rest
 comma_shows true rest us k = k
 comma_shows false rest us k = sign_shows 44 (32 ∷ rest) us _ refl (plain_sign (32 ∷ rest)) (blank_shows 32 rest us refl k)
 
--- a member's name behind its dot
+-- a member's name after its dot
 dot_shows : (n rest : List ℕ) (us : List Lexeme) (p : Place) → is_name n ≡ true → Stops is_word_byte rest → Shows rest us → Shows (46 ∷ (n ++ rest)) (here t.Dot ∷ (mark p (t.Name n) ∷ us))
 dot_shows n rest us p h s k = sign_shows 46 (n ++ rest) _ _ refl (plain_sign (n ++ rest)) (name_shows n rest us p h s k)
 

@@ -25,7 +25,7 @@ use Rattle.pl_syntax.specs.declared.script.Script.{Script}
 use Rattle.pl_syntax.specs.declared.error.SyntaxError.{SyntaxError}
 use Rattle.pl_syntax.specs.declared.error.SyntaxError.TheVariants.{BadByte, Unexpected, TooDeep, NumberTooLarge, TooLong, LongStatement, Memory}
 
--- behind the tokens that were read, the rest decides as the whole does
+-- after the tokens that were read, the rest decides as the whole does
 pub record Continues (bytes : List ℕ) (ts : List Lexeme) (tail : Tail) (n v : ℕ) (s : g.Stage) : Type 0 where
   pub tokens : List Lexeme
   pub reads : Read start bytes tokens tail

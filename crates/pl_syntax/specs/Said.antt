@@ -11,7 +11,7 @@ pub data Said : Type 0 where
   Spelled : Parsed → Said
   Faulty : Kind → Place → Said
 
--- behind a byte that is in no token stands no script
+-- after a byte that is in no token stands no script
 abbrev pub said_by : ℕ → Verdict → Tail → Said
 said_by n (Good ss) (AtEnd p) = Spelled (record { version = n; statements = ss; end = p })
 said_by n (Good ss) (AtBad p) = Faulty f.BadByte p

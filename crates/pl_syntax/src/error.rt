@@ -16,7 +16,7 @@ pub enum SyntaxError {
     Unexpected(Place),
     /// This token opens the 33rd construct inside one another, of `~`, prefix `-`, groups and arguments.
     TooDeep(Place),
-    /// A number has more than 18 digits behind its point, or its value rounded to millionths passes 10^17.
+    /// A number has more than 18 digits after its point, or its value rounded to millionths passes 10^17.
     NumberTooLarge(Place),
     /// The file has more than 262,144 bytes.
     TooLong,

@@ -341,7 +341,7 @@ fn with_arg(args: Vec<Arg>, arg: Arg) -> Result<Vec<Arg>, MoveError>
     }
 }
 
-// A `)` behind an operand that ended all but a parenthesis.
+// A `)` after an operand that ended all but a parenthesis.
 fn shut_by(stack: &mut Stack, expr: Expr) -> Result<Mode, MoveError>
     ensures { Moves result (open_in stack.new) (shut (plain expr) (open_in stack.old)) }
 {
@@ -368,7 +368,7 @@ fn shut_by(stack: &mut Stack, expr: Expr) -> Result<Mode, MoveError>
     }
 }
 
-// A `)` behind the `(` of a call.
+// A `)` after the `(` of a call.
 fn shut_empty_by(stack: &mut Stack, mode: Mode) -> Result<Mode, MoveError>
     ensures { Moves result (open_in stack.new) (shut_empty (mode_of mode) (open_in stack.old)) }
 {
@@ -399,7 +399,7 @@ fn shut_empty_by(stack: &mut Stack, mode: Mode) -> Result<Mode, MoveError>
     }
 }
 
-// A comma behind an operand that ended all but a parenthesis.
+// A comma after an operand that ended all but a parenthesis.
 fn next_by(stack: &mut Stack, expr: Expr) -> Result<Mode, MoveError>
     ensures { Moves result (open_in stack.new) (next_arg (plain expr) (open_in stack.old)) }
 {
@@ -430,7 +430,7 @@ fn next_by(stack: &mut Stack, expr: Expr) -> Result<Mode, MoveError>
     }
 }
 
-// An `=` behind the name of an argument.
+// An `=` after the name of an argument.
 fn name_by(stack: &mut Stack, word: Word) -> Result<Mode, MoveError>
     ensures { Moves result (open_in stack.new) (name_arg word (open_in stack.old)) }
 {

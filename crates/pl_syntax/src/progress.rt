@@ -23,7 +23,7 @@ pub(crate) fn is_too_large(token: &Token) -> bool
     matches!(token, Token::LargeNumber)
 }
 
-// How many tokens of its statement have come with this one, 0 behind its `;`.
+// How many tokens of its statement have come with this one, 0 after its `;`.
 pub(crate) fn count_with(token: &Token, count: usize) -> usize
     requires { count < most_tokens }
     ensures value { result ≡ token_counted count (token_of token.now) }

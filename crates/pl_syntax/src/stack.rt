@@ -100,7 +100,7 @@ pub(crate) fn frame_level_of(frame: &Frame) -> u8
     }
 }
 
-// Is the construct ended by a sign of this level behind its operand?
+// Is the construct ended by a sign of this level after its operand?
 pub(crate) fn is_ended(frame: &Frame, level: u8) -> bool
     ensures { result ≡ ends level (frame_of frame.now) }
 {

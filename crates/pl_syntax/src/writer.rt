@@ -173,7 +173,7 @@ fn put_quoted(text: &[u8], out: &mut Vec<u8>) -> Result<(), AllocError>
     put(out, b"\"")
 }
 
-// The name of a member behind its dot.
+// The name of a member after its dot.
 fn put_dotted(name: &[u8], out: &mut Vec<u8>) -> Result<(), AllocError>
     ensures { OnOk result (out.new.items ≡ out.old.items ++ (codes "." ++ name.now)) }
 {

@@ -1,4 +1,4 @@
--- A line is its parts, one behind the other.
+-- A line is its parts, one after the other.
 use Rattle.std.proofs.Common.{◌≡◌, ℕ, List, [], ◌∷◌, ◌++◌, map, codes, sym, ap, ◌∙◌, append_assoc}
 use Rattle.std.specs.Prelude.{flat_map}
 use Rattle.std.proofs.lemmas.List.Folds.{flat_map-map}
@@ -8,7 +8,7 @@ use Rattle.pl_spec.specs.Table.{Pipeline, NamedColumn}
 use Rattle.pl_spec.specs.Text.{line, header, left_in, right_in}
 use Rattle.pl_table.specs.Fields.{date_part, sid_part, field_part}
 
--- a text, a field behind it, further fields and the end
+-- a text, a field after it, further fields and the end
 behind : (a b c e : List ℕ) → (a ++ (b ++ c)) ++ e ≡ (a ++ b) ++ c ++ e
 behind a b c e = ap (λ (t : List ℕ). t ++ e) (sym (append_assoc a b c))
 

@@ -150,7 +150,7 @@ number-field format texts k Whole x s other =
     let f = filters-are k ∙ ap is_filters s in let n = numbers-are k ∙ ap is_numbers s in rw (f, n) refl
 number-field format texts k Label x s other = absurd (other refl)
 
--- behind a text's code stands the text
+-- after a text's code stands the text
 abbrev HasPlace : List (List ℕ) → List ℕ → Option ℕ → Type 0
 HasPlace texts t o = (unwrap_or o 0 < length texts) × (get_or texts (unwrap_or o 0) [] ≡ t)
 

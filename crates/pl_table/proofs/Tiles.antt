@@ -138,7 +138,7 @@ truth-is false = refl
 pub column-few : (o : Outcome) (k : ℕ) (c : NamedColumn) → slice_get (pipeline_in o).columns k ≡ Some c → k < length (pipeline_in o).columns
 column-few o k c e = slice_get_within (pipeline_in o).columns k c e
 
--- what is behind a place's marks and its first n columns
+-- what is after a place's marks and its first n columns
 pub record IsBegun (o : Outcome) (first place n : ℕ) (old new : List ℤ) : Type 0 where
   pub others : IsPlace (places_of o) (width_of o) place old new
   pub marks : (j : ℕ) → j < sessions_in first o.to → in_row o new j place 0 ≡ marked o first place j

@@ -12,7 +12,7 @@ use Rattle.pl_table.specs.declared.writing.Writing.TheVariants.{Cell, Truth, Who
 
 -- ---- the parts of a line
 
--- the date's field at its front, the sid's field behind it, and each further field
+-- the date's field at its front, the sid's field after it, and each further field
 abbrev pub date_part : Format → List ℕ → List ℕ
 date_part Csv text = text
 date_part Fixed text = left_in 10 text

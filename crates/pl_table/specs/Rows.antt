@@ -22,7 +22,7 @@ value_part w p format a d c = field_part format (field format (kind_at p.graph c
 abbrev pub value_fields : World → Pipeline → Format → ℕ → ℤ → List NamedColumn → List ℕ
 value_fields w p format a d cs = flat_map (value_part w p format a d) cs
 
--- the field of a column was put behind a line, and this is its summand
+-- the field of a column was put after a line, and this is its summand
 pub record IsPut (w : World) (p : Pipeline) (format : Format) (a : ℕ) (d : ℤ) (c : NamedColumn) (old new : List ℕ) (x : ℤ) : Type 0 where
   pub text : new ≡ old ++ value_part w p format a d c
   pub sum : x ≡ summand w.texts (value_of w p c.term a d)

@@ -21,7 +21,7 @@ tile_at places width j i c = (j * places + i) * width + c
 abbrev pub in_row : Outcome → List ℤ → ℕ → ℕ → ℕ → ℤ
 in_row o tile j i c = get_or tile (tile_at (length o.cols.now) (length (pipeline_in o).columns + 1) j i c) (pos 0)
 
--- the mark says whether there is a row; the cells stand behind it
+-- the mark says whether there is a row; the cells stand after it
 pub record IsTileRow (o : Outcome) (session place : ℕ) (row : ℕ → ℤ) : Type 0 where
   pub mark : is_true (row 0) ≡ has_row (world_in o) (pipeline_in o) session (sid_in (sids_in o) place)
   pub each : is_true (row 0) ≡ true → (k : ℕ) (c : NamedColumn) → slice_get (pipeline_in o).columns k ≡ Some c → row (k + 1) ≡ cell_of (world_in o) (pipeline_in o) (sids_in o) c.term place session

@@ -30,7 +30,7 @@ pub fn put_date(line: &mut Line, format: Format, day: i32)
     }
 }
 
-/// Puts a sid behind the date.
+/// Puts a sid after the date.
 pub fn put_sid(line: &mut Line, format: Format, sid: u32)
     requires { length line.old + 11 ≤ 8_448 }
     ensures text { line.new ≡ line.old ++ sid_part format (decimal sid) }

@@ -1,4 +1,4 @@
-//! The rows of a few sessions side by side. In the arrays the cells of an asset stand session behind session,
+//! The rows of a few sessions side by side. In the arrays the cells of an asset stand session after session,
 //! and those of a row far apart.
 ghost use Rattle.std.specs.Prelude.{◌≡◌, ◌≤◌, ◌<◌, ◌+◌, ◌-◌, ◌*◌, ◌^◌, ℕ, true, false, pos, length, get_or, slice_get, Some, IfSome, IfNone};
 ghost use Rattle.pl_spec.specs.Formula.{truth};

@@ -185,7 +185,7 @@ pub record TokenAt (bs : List ℕ) (f : Form) : Type 0 where
   pub whole : bs ≡ own ++ rest
   pub form : Front own rest f
 
--- a bad byte is found behind so many bytes
+-- a bad byte is found after so many bytes
 abbrev pub FoundAt : List ℕ → Found → Type 0
 FoundAt bs End = bs ≡ []
 FoundAt bs (Bad k) = IsBad bs k

@@ -142,7 +142,7 @@ text_value n V k l e size =
     add_comm' : (a b : ℕ) → b + a ≡ a + b
     add_comm' a b = omega arith
 
--- the bytes xs are a number with these digits in front of its point and behind it
+-- the bytes xs are a number with these digits before its point and after it
 record NumberFrontOf (xs ws fs rest : List ℕ) : Type 0 where
   form : Form
   front : Front xs rest form

@@ -5,11 +5,11 @@ use Rattle.std.specs.Prelude.{ℕ, ◌≡◌, Bool, false, ◌&&◌, ◌||◌, n
 abbrev pub is_text_byte : ℕ → Bool
 is_text_byte b = nat_le 32 b && (nat_le b 126 && (not (b == 34) && not (b == 92)))
 
--- `<`, `=` and `>`, which are signs alone and with a `=` behind them
+-- `<`, `=` and `>`, which are signs alone and with a `=` after them
 abbrev pub may_pair : ℕ → Bool
 may_pair b = nat_le 60 b && nat_le b 62
 
--- what is a sign with a `=` behind it: these and `!`
+-- what is a sign with a `=` after it: these and `!`
 abbrev pub pairs : ℕ → Bool
 pairs b = may_pair b || (b == 33)
 

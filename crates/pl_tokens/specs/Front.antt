@@ -28,7 +28,7 @@ sign_front c (b ∷ bs) =
 abbrev digits_front : ℕ → List ℕ → Found
 digits_front n bs = fraction_behind n (drop n bs)
 
--- a text with so many bytes behind its first quote
+-- a text with so many bytes after its first quote
 abbrev quoted_front : ℕ → List ℕ → Found
 quoted_front n bs = text_end (n + 1) (drop n bs)
 

@@ -5,7 +5,7 @@ use Rattle.pl_grammar.specs.Tree.{Lexeme}
 use Rattle.pl_grammar.specs.Faults.{Tail}
 use Rattle.pl_tokens.specs.Text.{Read}
 
--- each text is some tokens and what is behind them
+-- each text is some tokens and what is after them
 abbrev pub EachIsRead : Type 0
 EachIsRead = (p : Place) (bs : List ℕ) → (ts : List Lexeme) × (tail : Tail) × Read p bs ts tail
 

@@ -14,7 +14,7 @@ is_zero d = d == 48
 abbrev pub trimmed : List ℕ → List ℕ
 trimmed ds = take (length ds - length (take_while is_zero (reverse ds))) ds
 
--- the digits behind the point of a number of millionths
+-- the digits after the point of a number of millionths
 unfoldable pub fraction_of : ℤ → List ℕ
 fraction_of v = trimmed (digits 6 (unsigned_abs v % MILLION))
 

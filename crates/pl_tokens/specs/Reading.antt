@@ -12,7 +12,7 @@ use Rattle.pl_tokens.specs.Tokens.{token_in, form_length}
 use Rattle.pl_tokens.specs.Front.{front}
 use Rattle.pl_tokens.specs.Text.{start, after, after_byte}
 
--- tokens, and what is behind them
+-- tokens, and what is after them
 abbrev pub Whole : Type 0
 Whole = List Lexeme × Tail
 

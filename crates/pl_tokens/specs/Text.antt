@@ -1,4 +1,4 @@
--- A whole text: its tokens at their places, the gaps between them, and what is behind them.
+-- A whole text: its tokens at their places, the gaps between them, and what is after them.
 use Rattle.std.specs.Prelude.{ℕ, ◌+◌, ◌<◌, ◌≡◌, true, false, if◌then◌else◌, ◌==◌, List, [], ◌∷◌, ◌++◌, length, take}
 use Rattle.std.specs.List.{list_all}
 use Rattle.pl_grammar.specs.declared.Place.{Place}
@@ -9,7 +9,7 @@ use Rattle.pl_spec.specs.Names.{is_digit, starts_word, is_word_byte}
 use Rattle.pl_tokens.specs.Tokens.{Front, token_in}
 use Rattle.pl_tokens.specs.declared.front.Form.{Form}
 
--- the place behind a byte, and behind some: lines and columns count from 1, columns in bytes, and LF ends a
+-- the place after a byte, and after some: lines and columns count from 1, columns in bytes, and LF ends a
 -- line
 abbrev pub after_byte : ℕ → Place → Place
 after_byte b p =
@@ -40,7 +40,7 @@ pub data IsBad : List ℕ → ℕ → Type 0 where
       → IsBad (c ∷ rest) 0
 
 -- Read p bs ts tail: the text bs, whose first byte is at p, is the tokens ts with gaps round them, and
--- behind them tail: the end of the text, or the first byte that begins or continues no token. A comment
+-- after them tail: the end of the text, or the first byte that begins or continues no token. A comment
 -- goes from `#` to before the next LF or the end of the text, and may hold any bytes.
 pub data Read : Place → List ℕ → List Lexeme → Tail → Type 0 where
   at_text_end : {p : Place} → Read p [] [] (AtEnd p)

@@ -12,13 +12,13 @@ use Rattle.pl_spec.specs.Names.{is_digit, starts_word, is_word_byte}
 use Rattle.pl_tokens.specs.declared.front.Form.{Form}
 use Rattle.pl_tokens.specs.declared.front.Form.TheVariants.{Word, Number, Text, One, Two}
 
--- no point with a digit behind it
+-- no point with a digit after it
 abbrev pub NoDecimals : List ℕ → Type 0
 NoDecimals [] = Unit {0}
 NoDecimals (b ∷ bs) = (is_digit b ≡ false) × (b ≡ 46 → Stops is_digit bs)
 
 -- Front xs rest f: xs is the longest token at the front of xs ++ rest, and f is its form with its lengths:
--- the bytes of a word, the digits in front of a number's point and behind it, the bytes of a text with its
+-- the bytes of a word, the digits before a number's point and after it, the bytes of a text with its
 -- quotes
 pub data Front : List ℕ → List ℕ → Form → Type 0 where
   a_word : (c : ℕ) (cs : List ℕ) {rest : List ℕ} → starts_word c ≡ true → list_all is_word_byte cs ≡ true
@@ -43,7 +43,7 @@ word_token w =
     else if bytes_eq w (codes "screen") then t.ScreenWord
     else t.Name w
 
--- a number in millionths, rounded once, unless it has more than 18 digits behind its point or passes the
+-- a number in millionths, rounded once, unless it has more than 18 digits after its point or passes the
 -- greatest cell
 abbrev pub decimal_token : Decimal → Token
 decimal_token d = if nat_lt 18 (length d.fraction) || nat_lt LIMIT (unsigned_abs (millionths d))

@@ -10,7 +10,7 @@ ghost use Rattle.pl_tokens.specs.Front.{fraction_behind, text_end, sign_front, w
 #[derive(Clone, Copy, Debug)]
 pub(crate) enum Form {
     Word(usize),
-    /// The digits, and the digits behind a point, 0 where there is no point.
+    /// The digits, and the digits after a point, 0 where there is no point.
     Number(usize, usize),
     /// A string with its quotes.
     Text(usize),
@@ -94,7 +94,7 @@ fn word_of(length: usize) -> Found
     }
 }
 
-// A number of so many whole digits, by what stands behind them.
+// A number of so many whole digits, by what stands after them.
 fn number_of(digits: usize, behind: &[u8]) -> Found
     ensures { result ≡ fraction_behind digits behind.now }
 {
@@ -104,7 +104,7 @@ fn number_of(digits: usize, behind: &[u8]) -> Found
     }
 }
 
-// A text of so many bytes, its first quote included, by what stands behind them.
+// A text of so many bytes, its first quote included, by what stands after them.
 fn text_of(length: usize, behind: &[u8]) -> Found
     requires { length ≤ 2 ^ 32 }
     ensures { result ≡ text_end length behind.now }
@@ -115,7 +115,7 @@ fn text_of(length: usize, behind: &[u8]) -> Found
     }
 }
 
-// A sign, by the byte behind it.
+// A sign, by the byte after it.
 fn sign_of(b: u8, behind: &[u8]) -> Found
     ensures { result ≡ sign_front b behind.now }
 {

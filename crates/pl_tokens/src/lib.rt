@@ -1,7 +1,7 @@
 //! The tokens of a pipeline file: each with its place, read from the bytes one after another.
 //!
 //! `specs/Tokens` has the forms of tokens, taken longest first, and what each is to the grammar;
-//! `specs/Text` says what a whole text is: tokens with gaps round them, and behind them its end or the
+//! `specs/Text` says what a whole text is: tokens with gaps round them, and after them its end or the
 //! first byte that begins or continues no token.
 #![tactic(auto)]
 
@@ -16,7 +16,7 @@ pub use text::{Next, Text};
 pub use token::Token;
 pub use word::Word;
 
-/// Each text is some tokens and what is behind them.
+/// Each text is some tokens and what is after them.
 pub fn each_is_read()
     ensures { EachIsRead }
 {}

@@ -32,7 +32,7 @@ pub enum Next {
     Token(Place, Token),
 }
 
-// The place behind a byte.
+// The place after a byte.
 fn place_behind(place: Place, b: u8) -> Place
     requires line { place.line < 2 ^ 32 - 1 }
     requires col { place.col < 2 ^ 32 - 1 }
@@ -51,7 +51,7 @@ fn place_behind(place: Place, b: u8) -> Place
     }
 }
 
-// The place behind these bytes.
+// The place after these bytes.
 fn place_after(place: Place, bytes: &[u8]) -> Place
     requires { HasRoom place bytes.now }
     ensures { result ≡ after bytes.now place }
@@ -136,7 +136,7 @@ impl<'a> Text<'a> {
         }
     }
 
-    /// What comes next, behind blanks and comments. After a token the text goes on behind it.
+    /// What comes next, after blanks and comments. After a token the text goes on after it.
     pub fn next(&mut self, alloc: Global) -> Result<Next, AllocError>
         requires { HasRoom self.old.place self.old.bytes.now }
         ensures { IfOk result

@@ -15,7 +15,7 @@ use std::alloc::{AllocError, Global};
 pub enum Token {
     Name(Word),
     Number(i64),
-    /// A number with more than 18 digits behind its point, or past the greatest cell.
+    /// A number with more than 18 digits after its point, or past the greatest cell.
     LargeNumber,
     Text(Word),
     Operator(BinarySign),
@@ -57,7 +57,7 @@ fn word_at(alloc: Global, bytes: &[u8]) -> Result<Token, AllocError>
     }
 }
 
-// A number of so many digits, and so many behind its point.
+// A number of so many digits, and so many after its point.
 fn number_at(bytes: &[u8]) -> Token
     requires { (whole : ℕ) × (fraction : ℕ) × (rest : List ℕ)
         × Front bytes.now rest (Form.Number whole fraction) }

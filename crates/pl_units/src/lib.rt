@@ -1,5 +1,5 @@
-//! What no command reaches, as tests: a keeper of nothing, a sink that is full, slots by themselves, and whether
-//! two scripts are equal. The cases of pl_cases reach all else.
+//! What no command reaches, as tests: a keeper of nothing, a sink that is full, slots by themselves, and
+//! whether two scripts are equal. The cases of pl_cases reach all else.
 #![tactic(auto)]
 
 #[cfg(test)]

@@ -60,7 +60,7 @@ label-cell w p sids k n i s own name e = (
 
 -- ---- tests of labels
 
--- a text of the list has a code, behind which it stands
+-- a text of the list has a code, after which it stands
 abbrev HasPlace : List (List ℕ) → List ℕ → Option ℕ → Type 0
 HasPlace texts t o = (unwrap_or o 0 < length texts) × (get_or texts (unwrap_or o 0) [] ≡ t)
 

@@ -25,7 +25,7 @@ has-input g (r ∷ ps) (y ∷ ys) zero q h e =
     (y, refl, ap (λ z. fits g z y) (sym same) ∙ (and_parts (fits g r y) (all_fit g ps ys) h).0)
 has-input g (r ∷ ps) (y ∷ ys) (suc i) q h e = has-input g ps ys i q (and_parts (fits g r y) (all_fit g ps ys) h).1 e
 
--- and none stands behind them
+-- and none stands after them
 pub no-input : (g : Graph) (ps : List Place) (is : List Input) (i : ℕ) → all_fit g ps is ≡ true → slice_get ps i ≡ None → slice_get is i ≡ None
 no-input g [] [] i h e = refl
 no-input g [] (y ∷ ys) i h e = absurd (let bad : false ≡ true = h in cc)

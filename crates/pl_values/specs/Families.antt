@@ -74,7 +74,7 @@ label_code texts label = in_array texts (label_value label)
 abbrev pub IsCode : List (List ℕ) → ℤ → Type 0
 IsCode texts x = (x ≡ MISSING) ⊎ ((n : ℕ) × (x ≡ pos n) × (n < length texts))
 
--- what is asked of the text behind a code; no label passes
+-- what is asked of the text after a code; no label passes
 abbrev pub code_flag : List (List ℕ) → Kind → ℤ → ℤ
 code_flag texts (spec.LabelTest k) x = if is_missing x then pos 0 else truth (label_test k (get_or texts (unsigned_abs x) []))
 code_flag texts k x = pos 0

@@ -17,7 +17,7 @@ input_window w p sids size None i s = []
 input_window w p sids size (Some (BarColumn c)) i s = bar_window w c size (sid_in sids i) (pos s)
 input_window w p sids size (Some (TermInput t)) i s = window_up_to (cell_of w p sids t i) size s
 
--- The windows of a node's inputs for the asset in place i, in order; what stands behind the last input is
+-- The windows of a node's inputs for the asset in place i, in order; what stands after the last input is
 -- empty.
 pub record AreWindows (w : World) (p : Pipeline) (sids : List ℕ) (n : Node) (i s : ℕ) (a b c : List ℤ) : Type 0 where
   pub first : a ≡ input_window w p sids n.window (slice_get n.inputs 0) i s

@@ -1,4 +1,4 @@
-//! Labels as their codes, and the tests of the texts behind them.
+//! Labels as their codes, and the tests of the texts that they stand for.
 ghost use Rattle.std.specs.Prelude.{◌≡◌, bytes_eq, position, true};
 ghost use Rattle.pl_terms.specs.Kinds.{kind_of};
 ghost use Rattle.pl_spec.specs.Rounding.{IsCell};
@@ -25,7 +25,7 @@ pub fn label_value(labels: &Labels, name: &[u8], number: Option<u32>, col: usize
     }
 }
 
-/// Whether the label behind a code passes the test: 1 or 0, and 0 for `MISSING`, which is no label.
+/// Whether the label of a code passes the test: 1 or 0, and 0 for `MISSING`, which is no label.
 pub fn label_test_value(kind: &TermKind, labels: &Labels, code: i64) -> i64
     requires kind { is_label_test (kind_of kind.now) ≡ true }
     requires code { IsCode labels.now.texts code }

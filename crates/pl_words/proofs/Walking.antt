@@ -182,7 +182,7 @@ module _ (options : List OptionName) where
   name_rows : (h : Held) (word : Word) → (settled R (pushed names_id word (settled R h))).rows ≡ put (Name word) (settled R h).rows
   name_rows h word = refl
 
-  -- ---- behind `--`
+  -- ---- after `--`
 
   trail_walked : (w : Waiting) (word : Word) (h : Held) → walked R [] (trail w h) word ≡ trail positional (pushed names_id word (settled R h))
   unfolding walked
@@ -220,7 +220,7 @@ module _ (options : List OptionName) where
     unknown_turn v f found = rw (no_sub w word, f.no_end, f.is_long, found) refl
 
     module _ (o : OptionName) (found : arg_by_long R name ≡ Some (built_option o)) where
-      -- with a value behind its `=`
+      -- with a value after its `=`
       given_walked : (v : Word) → LooksLong word name (Some v) → has_value o ≡ true → walked R [] (ready w h) word ≡ ready idle (reacted R (built_option o) (v ∷ []) h)
       unfolding walked
       given_walked v f has = rw (no_sub w word, f.no_end, f.is_long, found, has) refl

@@ -1,4 +1,4 @@
--- How the words behind a command are cut into its names and its options.
+-- How the words after a command are cut into its names and its options.
 use Rattle.std.specs.Prelude.{ℕ, List, [], ◌∷◌, Bool, true, false, not, ◌&&◌, ◌==◌, if◌then◌else◌, Option, Some, None, option_map, option_and_then, is_some, map, find, bytes_eq, codes}
 use Rattle.std.specs.List.{list_any, before_first, after_first}
 use Rattle.pl_words.specs.declared.commands.OptionName.{OptionName}
@@ -7,7 +7,7 @@ use Rattle.pl_words.specs.declared.commands.OptionName.TheVariants.{Labels, Adju
 abbrev pub Word : Type 0
 Word = List ℕ
 
--- what is written behind `--`
+-- what is written after `--`
 abbrev pub text_of : OptionName → Word
 text_of Labels = codes "labels"
 text_of Adjustments = codes "adjustments"
@@ -41,14 +41,14 @@ behind b (x ∷ xs) = if x == b then Some xs else None
 abbrev pub begins_with_hyphen : Word → Bool
 begins_with_hyphen word = is_some (behind 45 word)
 
--- what stands behind `--`
+-- what stands after `--`
 abbrev pub behind_hyphens : Word → Option Word
 behind_hyphens word = option_and_then (behind 45) (behind 45 word)
 
 abbrev pub is_equals : ℕ → Bool
 is_equals b = b == 61
 
--- a text behind `--`, cut at its first `=`
+-- a text after `--`, cut at its first `=`
 abbrev pub option_name : Word → Word
 option_name text = before_first is_equals text
 
@@ -58,7 +58,7 @@ value_behind text = if list_any is_equals text then Some (after_first is_equals 
 abbrev pub and_part : Part → Cut → Cut
 and_part part = option_map (λ parts. part ∷ parts)
 
--- An option that wants a value takes the one behind its `=`, or else the next word; `--stats` has none.
+-- An option that wants a value takes the one after its `=`, or else the next word; `--stats` has none.
 abbrev pub option_part : Bool → OptionName → Option Word → Cut → Cut → Cut
 option_part true option (Some value) rest waiting = and_part (Given option value) rest
 option_part true option None rest waiting = waiting
@@ -69,7 +69,7 @@ abbrev pub named_part : Option OptionName → Option Word → Cut → (OptionNam
 named_part None value rest waiting = None
 named_part (Some option) value rest waiting = option_part (has_value option) option value rest (waiting option)
 
--- a word of which this stands behind its two hyphens: `--` itself, `--NAME` or `--NAME=VALUE`
+-- a word of which this stands after its two hyphens: `--` itself, `--NAME` or `--NAME=VALUE`
 abbrev pub hyphens_part : List OptionName → Option Word → Cut → (OptionName → Cut) → List Word → Cut
 hyphens_part options None rest waiting words = None
 hyphens_part options (Some []) rest waiting words = Some (map Name words)
@@ -85,7 +85,7 @@ abbrev pub value_part : OptionName → Word → Cut → Cut
 value_part option word rest = if begins_with_hyphen word then None else and_part (Given option word) rest
 
 -- The parts of the words, for a command with these options. Where an option waits, the next word is its
--- value, and may not begin with a hyphen. Else `--` makes names of all words behind it, a word that begins
+-- value, and may not begin with a hyphen. Else `--` makes names of all words after it, a word that begins
 -- with `--` is an option, another one that begins with `-` is refused, and each other word is a name.
 abbrev pub parts : List OptionName → Option OptionName → List Word → Cut
 parts options None [] = Some []
@@ -93,7 +93,7 @@ parts options (Some option) [] = None
 parts options None (word ∷ words) = first_part options word (parts options None words) (λ option. parts options (Some option) words) words
 parts options (Some option) (word ∷ words) = value_part option word (parts options None words)
 
--- a hyphen alone, or a hyphen and something else behind it
+-- a hyphen alone, or a hyphen and something else after it
 abbrev pub is_short : Word → Bool
 is_short word = begins_with_hyphen word && not (is_some (behind_hyphens word))
 

@@ -118,7 +118,7 @@ name names i = slice_index_or names i []
 abbrev pub Values : Type 0
 Values = OptionName → List Word
 
--- from 1 to 4096, in digits without sign or zeros in front
+-- from 1 to 4096, in digits without sign or leading zeros
 abbrev pub chunk_in : Word → Option ℕ
 chunk_in text = option_and_then (λ n. if nat_le 1 n && nat_le n most_chunk then Some n else None) (sid_in text)
 
@@ -196,7 +196,7 @@ abbrev pub plan_in : List Word → Option PlanRequest
 plan_in names =
     option_and_then (λ from. option_map (plan_over names from) (dated (name names 3))) (dated (name names 2))
 
--- a number from 0 to 4294967295, in digits without sign or zeros in front
+-- a number from 0 to 4294967295, in digits without sign or leading zeros
 abbrev pub bench_in : List Word → Values → Option BenchRequest
 bench_in names values =
     option_and_then (λ number. option_map (λ chunk. record { number = number; chunk = chunk }) (chunk_by values))
@@ -218,7 +218,7 @@ world_over names labels adjustments revisions =
       revisions = revisions;
     }
 
--- three names behind that of the pipeline, and three options
+-- three names after that of the pipeline, and three options
 abbrev pub world_in : List Word → Values → Option WorldNames
 world_in names values =
     option_and_then (λ labels. option_and_then (λ adjustments.
@@ -272,7 +272,7 @@ request_in command.Daily names values = option_map Daily (daily_in names values)
 unfoldable pub counted : CommandName → List Word → Values → Option Request
 counted command names values = if length names == places_of command then request_in command names values else None
 
--- No word behind the command is empty or a hyphen alone.
+-- No word after the command is empty or a hyphen alone.
 abbrev pub asked : CommandName → List Word → Option Request
 asked command words =
     if list_all is_text words then

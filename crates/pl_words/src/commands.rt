@@ -92,7 +92,7 @@ impl CommandName {
 }
 
 impl OptionName {
-    /// What is written behind `--`.
+    /// What is written after `--`.
     pub(crate) fn text(self) -> &'static str
         ensures { result.now ≡ text_of self }
     {

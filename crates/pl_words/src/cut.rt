@@ -1,4 +1,4 @@
-// The words behind the command, cut into names and options by clap.
+// The words after the command, cut into names and options by clap.
 ghost use Rattle.std.specs.Prelude.{◌≡◌, ◌∷◌, [], List, IfOk, None, map, string_bytes, IsTrue, Some, MatchOption, MatchResult, option_map, false};
 ghost use Rattle.clap.specs.Words.{FailsBy, app_of, fault_of, found_of, kind_of, matches_of, rows_of, rule_of, with_rule};
 ghost use Rattle.clap.specs.declared.error.kind.ErrorKind.TheVariants.{OutOfMemory};
@@ -13,7 +13,7 @@ use clap::{Arg, ArgAction, ArgMatches, Command, Error};
 use pl_outside::Memory;
 use std::alloc::{AllocError, Global};
 
-/// What clap makes of the words behind the command; `None` where they have no parts.
+/// What clap makes of the words after the command; `None` where they have no parts.
 ///
 /// A word that begins with one hyphen is judged first, since clap takes a hyphen alone for a name.
 pub(crate) fn cut<'a>(

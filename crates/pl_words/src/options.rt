@@ -115,7 +115,7 @@ fn format_in(text: &str) -> Option<Format>
 fn chunk_in(text: &str) -> Option<u32>
     ensures { result ≡ chunk_in text.now }
 {
-    // The bytes of a sid are those of any number of 32 bits without sign or zeros in front.
+    // The bytes of a sid are those of any number of 32 bits without sign or leading zeros.
     let number = read_sid(text.as_bytes())?;
     if 1 <= number && number <= 4096 {
         Some(number)

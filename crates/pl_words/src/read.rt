@@ -125,7 +125,7 @@ fn bench_in<'a>(names: &[&str], matches: &ArgMatches<'_>) -> Option<Request<'a>>
     requires { length names.now ≡ 1 }
     ensures { Says result (request_in commands.Bench (map (λ v. v.now) names.now) (values_in matches.now)) }
 {
-    // The bytes of a sid are those of any number of 32 bits without sign or zeros in front.
+    // The bytes of a sid are those of any number of 32 bits without sign or leading zeros.
     let number = read_sid(names[0].as_bytes())?;
     let chunk = chunk(matches)?;
     Some(Request::Bench(BenchRequest { number, chunk }))

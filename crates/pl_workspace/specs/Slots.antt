@@ -25,7 +25,7 @@ in_use (Live cells) = 1
 abbrev pub live_count : List Slot → ℕ
 live_count slots = sum_by in_use slots
 
--- the slot of a number; behind the last none is free and none is live
+-- the slot of a number; after the last none is free and none is live
 abbrev pub slot_at : Slots → ℕ → Slot
 slot_at w k = get_or w.slots k Begun
 

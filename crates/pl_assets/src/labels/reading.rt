@@ -37,7 +37,7 @@ pub(crate) fn read_rows(
     rows_behind(alloc, &mut records, assets)
 }
 
-// The labels of the records behind the header.
+// The labels of the records after the header.
 fn rows_behind(
     alloc: Global,
     records: &mut Records,
@@ -54,7 +54,7 @@ fn rows_behind(
     Ok(rows)
 }
 
-// Puts the rows of the records behind the header where there is none yet, and their keys beside them.
+// Puts the rows of the records after the header where there is none yet, and their keys beside them.
 fn put_rows(
     rows: &mut LabelRows,
     keys: &mut HashSet<u128>,
@@ -85,7 +85,7 @@ struct ColumnStart {
     day: i32,
 }
 
-// The start of the label of the record that was read last, behind the rows before it, whose keys
+// The start of the label of the record that was read last, after the rows before it, whose keys
 // are given.
 #[tactic(auto, unfolding(crate::specs::Labels::says_label))]
 fn next_start(

@@ -18,7 +18,7 @@ pub(crate) struct Place {
     pub(crate) code: Option<u32>,
 }
 
-// Rows of labels, one behind the other, with their distinct names and texts.
+// Rows of labels, one after the other, with their distinct names and texts.
 #[derive(Debug, Drop)]
 pub(crate) struct LabelRows {
     pub(crate) names: Texts,
@@ -59,7 +59,7 @@ impl LabelRows {
         Ok(rows)
     }
 
-    // A row of others, whose texts these rows have, behind these, if it starts by the day.
+    // A row of others, whose texts these rows have, after these, if it starts by the day.
     fn take(&mut self, from: &LabelRows, place: &Place, day: i32) -> Result<(), AllocError>
         requires numbered { AreNumbered self.old }
         requires few { length self.old.places.items < most_labels }
@@ -91,7 +91,7 @@ impl LabelRows {
         }
     }
 
-    // One row behind the others. Where memory runs out, none is added.
+    // One row after the others. Where memory runs out, none is added.
     pub(crate) fn push(
         &mut self,
         name: &[u8],
@@ -121,7 +121,7 @@ impl LabelRows {
         place
     }
 
-    // The same, but where memory runs out, a name and a text may stay behind the others.
+    // The same, but where memory runs out, a name and a text may stay after the others.
     fn put(&mut self, name: &[u8], col: u32, start: i32, text: &[u8]) -> Result<Place, AllocError>
         requires numbered { AreNumbered self.old }
         requires few { length self.old.places.items < most_labels }

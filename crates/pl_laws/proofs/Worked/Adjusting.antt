@@ -128,7 +128,7 @@ a_revision_counts_from_its_day_on : by_session (with plain late_104) (at_close k
 unfolding opened
 a_revision_counts_from_its_day_on = refl
 
--- 104 and 25.5: what is known on the day of a split is in the units behind it
+-- 104 and 25.5: what is known on the day of a split is in the units after it
 a_split_of_its_day_leaves_a_revision :
     on (with (alone closes (splits_of (row_on 19727 1 2 ∷ []))) late_104) 3 (at_close kind.SimpleMovingAverage 2 ∷ []) ≡ Number (pos 64750000) ∷ []
 unfolding opened

@@ -45,7 +45,7 @@ all_terms_are_used : used_terms liquid outputs ≡ 0 ∷ 1 ∷ 2 ∷ 3 ∷ 4 ∷
 unfolding liquid outputs
 all_terms_are_used = refl
 
--- the mask is no longer read behind term 4, and what it compares not behind term 2
+-- the mask is no longer read after term 4, and what it compares not after term 2
 live_with_each_term : map (live_terms liquid outputs) (0 ∷ 1 ∷ 2 ∷ 3 ∷ 4 ∷ []) ≡ (0 ∷ []) ∷ (0 ∷ 1 ∷ []) ∷ (0 ∷ 1 ∷ 2 ∷ []) ∷ (2 ∷ 3 ∷ []) ∷ (2 ∷ 3 ∷ 4 ∷ []) ∷ []
 unfolding liquid outputs
 live_with_each_term = refl
