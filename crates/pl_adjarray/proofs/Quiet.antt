@@ -1,7 +1,6 @@
 -- A buffer in which nothing changes for a while, and windows of it on all the sessions.
-use Rattle.std.proofs.Common.{◌≡◌, ◌==◌, Bool, true, false, cond, ℕ, zero, suc, ◌+◌, ◌-◌, ◌*◌, ◌<◌, ◌≤◌, ℤ, pos, ◌≤ℤ◌, List, [], ◌∷◌, All, length, filter, filter_map, take, drop, get_or, sum_by, Some, slice_get, refl, sym, ◌∙◌, ap, subst, arith, inl, inr, length-take, length-drop}
+use Rattle.std.proofs.Common.{◌≡◌, Bool, true, false, cond, ℕ, zero, suc, ◌+◌, ◌-◌, ◌*◌, ◌<◌, ◌≤◌, ℤ, pos, ◌≤ℤ◌, List, [], ◌∷◌, All, length, filter, filter_map, take, drop, get_or, sum_by, Some, slice_get, refl, sym, ◌∙◌, ap, subst, arith, inl, inr, length-take, length-drop}
 use Rattle.std.proofs.lemmas.Bool.{cases_lt}
-use Rattle.std.proofs.lemmas.Bool.Decides.{nat_tests}
 use Rattle.std.proofs.lemmas.List.{get_or_default, get_or-take, get_or-drop}
 use Rattle.std.proofs.lemmas.List.Sums.{sum_by-cons}
 use Rattle.pl_spec.specs.Rounding.{IsCell}
@@ -15,12 +14,8 @@ use Rattle.pl_adjarray.specs.Stillness.{IsStill}
 use Rattle.pl_adjarray.proofs.Places.{part_is, rows_within}
 use Rattle.pl_adjarray.proofs.Slides.{days_le, has_day, moved_is_seen, next_applied, raw_is_seen}
 
-pub none_listed : {X : Type 0} (xs : List X) (e : Bool) → e ≡ (length xs == 0) → e ≡ true → xs ≡ []
-none_listed [] e h t = refl
-none_listed (x ∷ xs) e h t = absurd (let q : (length (x ∷ xs) == 0) ≡ true = sym h ∙ t in let z : length (x ∷ xs) ≡ 0 = grind (arith, nat_tests, q) in omega (arith, z))
-
 -- no event is between two days that lie within two others between which none is
-within_none : (low high from to : ℤ) → low ≤ℤ from → to ≤ℤ high → (es : List Event) → filter (is_between low high) es ≡ [] → filter (is_between from to) es ≡ []
+pub within_none : (low high from to : ℤ) → low ≤ℤ from → to ≤ℤ high → (es : List Event) → filter (is_between low high) es ≡ [] → filter (is_between from to) es ≡ []
 within_none low high from to l h [] none = refl
 within_none low high from to l h (e ∷ es) none = here (is_between low high e) refl none (within_none low high from to l h es)
   where
@@ -89,15 +84,7 @@ module _ (b : Buffered) (ready : IsReady b) (d n : ℕ) (low : b.first ≤ d) (h
   pub still_is : IsStill b d n
   still_is = record { within = high; seen = seen_all; applied = applied_all }
 
--- nothing changes on no session
-pub still_none : (b : Buffered) (d : ℕ) → d ≤ b.first + b.rows → IsStill b d 0
-still_none b d h = record {
-  within = omega (arith, h);
-  seen = λ i j m a r l. (let e : d + m ≡ d = omega (arith, l) in ap (λ x. seen_cell (world_of b) (col_at b i) b.column (pos (b.first + j)) (pos x)) e);
-  applied = λ m l. (let e : d + m ≡ d = omega (arith, l) in ap (applied_at b) e);
-}
-
--- and on fewer
+-- where nothing changes on some sessions, nothing does on fewer
 pub still_fewer : (b : Buffered) (d n m : ℕ) → m ≤ n → IsStill b d n → IsStill b d m
 still_fewer b d n m h s = record {
   within = (let w = s.within in omega (arith, w, h));

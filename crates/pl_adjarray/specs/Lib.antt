@@ -4,4 +4,3 @@ pub mod Inside
 pub mod Stillness
 pub mod Traversals
 pub mod Worlds
-pub mod Factors

@@ -7,7 +7,6 @@ ghost use Rattle.pl_adjarray.specs.Buffered.{HasCells, applied_at, cell_at, col_
 ghost use Rattle.pl_adjarray.specs.Traversals.{IsSeen};
 
 use crate::array::AdjustedArray;
-use crate::factor::{factor_of, multiplied};
 use crate::stillness::still_from;
 use pl_adjust::{Adjust, Change, ratio_for};
 use pl_calendar::Sessions;
@@ -247,8 +246,8 @@ fn scale<L: Ledger>(cells: &mut [i64], at: usize, count: usize, factor: Ratio, s
     ensures cells { (j : ℕ) → j < count → IsCell (cell_at cells.new (at + j)) }
     ensures cost { steps.new ≡ steps.old + count }
 {
-    let quick = factor_of(factor);
+    let ready = factor.ready();
     for i in 0..count {
-        cells[at + i] = multiplied(&quick, cells[at + i], steps);
+        cells[at + i] = ready.apply(cells[at + i], steps);
     }
 }

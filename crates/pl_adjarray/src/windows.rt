@@ -2,7 +2,7 @@ ghost use Rattle.std.specs.Prelude.{◌≡◌, ◌+◌, ◌<◌, ◌≤◌, ◌�
 ghost use Rattle.pl_spec.specs.Rounding.{IsCell};
 ghost use Rattle.pl_spec.specs.Window.{bar_window};
 ghost use Rattle.pl_adjarray.specs.Buffered.{applied_at, col_at, cut, world_of};
-ghost use Rattle.pl_adjarray.specs.Stillness.{IsStill};
+ghost use Rattle.pl_adjarray.specs.Stillness.{IsQuiet, IsStill};
 ghost use Rattle.pl_adjarray.specs.Traversals.{advances};
 ghost use Rattle.pl_adjarray.specs.Worlds.{IsWindow};
 
@@ -101,10 +101,13 @@ impl<'s> Windows<'s> {
         &self.scratch[end - self.window..end]
     }
 
-    /// On how many of the next sessions, up to `most`, nothing changes: no adjustment becomes effective.
-    /// Where one becomes so on the next session, on none.
+    /// The greatest number of next sessions, at most `most` and none past the one after the last row, on
+    /// which no adjustment of an asset of the array becomes effective, whatever column it is for. Nothing
+    /// changes on them. It is 0 where one becomes effective on the next session.
     pub fn still(&self, most: usize) -> usize
         ensures few { result ≤ most }
+        ensures quiet { IsQuiet self.now.array self.now.session result }
+        ensures greatest { (n : ℕ) → n ≤ most → IsQuiet self.now.array self.now.session n → n ≤ result }
         ensures still { IsStill self.now.array self.now.session result }
     {
         let array = self.array;

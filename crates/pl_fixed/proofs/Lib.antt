@@ -5,3 +5,4 @@ pub mod ReadingLemmas
 pub mod WritingLemmas
 pub mod SidLemmas
 pub mod DayLemmas
+pub mod ScaledCells

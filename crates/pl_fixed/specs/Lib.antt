@@ -2,3 +2,4 @@
 pub mod Reading
 pub mod Pairs
 pub mod Ratios
+pub mod Ready

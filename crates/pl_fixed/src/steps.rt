@@ -3,8 +3,8 @@ ghost use Rattle.std.specs.Prelude.{◌≡◌, ℕ, ◌+◌, ◌<◌};
 use std::marker::{Brand, Model};
 use std::sync::ledger::{Blank, Book, Ledger, Share};
 
-/// The number of steps counted so far. It takes no bytes at run time, and only `tick` changes it, so a
-/// contract can say exactly how many steps a call takes.
+/// The number of steps counted so far. It takes no bytes at run time, and only the product of a cell and a
+/// ratio counts one, so a contract can say exactly how many products a call makes.
 #[derive(Drop)]
 pub struct Steps<L: Ledger> {
     book: Book<L>,
@@ -33,8 +33,8 @@ impl<L: Ledger> Steps<L> {
         Steps { book, share }
     }
 
-    /// Counts one step.
-    pub fn tick(&mut self)
+    // Counts one step.
+    pub(crate) fn tick(&mut self)
         ensures { self.new ≡ self.old + 1 }
     {
         self.book.add(&mut self.share, 1);

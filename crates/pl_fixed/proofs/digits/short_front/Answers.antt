@@ -1,8 +1,5 @@
-use Rattle.std.proofs.Common.{◌≡◌, ◌+◌, ◌*◌, ◌-◌, ◌<◌, ◌≤◌, ◌^◌, ◌∙◌, sym, ap, refl, length, take, length-take, take_all, get_or, arith, true}
-use Rattle.std.specs.Char.{is_ascii_digit, digit_value}
-use Rattle.std.specs.Str.Parse.{AllDigits, digits_value}
-use Rattle.std.proofs.lemmas.Str.{digit_value_digit}
-use Rattle.std.proofs.lemmas.Int.Digits.{digits_value_more, digits_more}
+use Rattle.std.proofs.Common.{◌≡◌, ◌+◌, ◌*◌, ◌≤◌, ◌∙◌, sym, ap, length, take, length-take, take_all, arith}
+use Rattle.std.specs.Str.Parse.{digits_value}
 use Rattle.pl_fixed.proofs.DigitLemmas.{short_number, front-all, front-at, one_more_digit}
 use Rattle.pl_fixed.proofs.digits.short_front.Goals as goal
 

@@ -1,4 +1,3 @@
-use Rattle.std.proofs.Common.{◌≡◌, ◌+◌, ◌*◌}
 use Rattle.pl_fixed.proofs.DigitLemmas.{six_digits-pairs}
 use Rattle.pl_fixed.proofs.digits.six_digits.Goals as goal
 

@@ -1,23 +1,25 @@
 use Rattle.std.proofs.Common.{rules, ◌≡◌, ◌<◌, ◌≤◌, ◌∙◌, ap, arith, w64, FitsSigned, unsigned_abs}
 use Rattle.std.proofs.lemmas.Int.{to_z-of_z}
 use Rattle.std.proofs.lemmas.Nat.{mul-le}
-use Rattle.pl_spec.specs.Rounding.{LIMIT}
-use Rattle.pl_adjarray.proofs.ScaledCells.{rounded_size, scaled_by_size}
-use Rattle.pl_adjarray.proofs.factor.multiplied.Goals as goal
+use Rattle.pl_spec.specs.Rounding.{LIMIT, scaled}
+use Rattle.pl_fixed.specs.Ready.{IsReady}
+use Rattle.pl_fixed.proofs.ScaledCells.{rounded_size, scaled_by_size}
+use Rattle.pl_fixed.proofs.ready.ReadyRatio.apply.Goals as goal
 
 pub returns-then-rounded-clause-value : goal.returns-then-rounded-clause-value
 returns-then-rounded-clause-value g c =
-    let f = c.args.factor.now in
-    let ready = c.requires.ready in
+    let f = c.self.inside in
+    let ready : IsReady f = c.self.invariant in
     let fits : FitsSigned w64 c.with_sign.result = search rules in
     let cell : FitsSigned w64 c.args.cell = c.ranges.cell in
     let size = simp to_z-of_z at c.unsigned_abs-size.ensures.value in
     let one : 1 ≤ f.num = omega (arith, ready.num, ready.ratio) in
     let den : 0 < f.ratio.den = omega (arith, ready.ratio) in
     let product = mul-le f.most 1 f.most f.num (omega arith) one in
-    let few : unsigned_abs c.args.cell ≤ 9000000000000000000 = omega (arith, size, product, ready.most, c.if-size-factor.true) in
+    let few : unsigned_abs c.args.cell ≤ 9000000000000000000 = omega (arith, size, product, ready.most, c.if-size-self.true) in
     let rounded : c.quotient-rounded.result ≡ rounded_size (unsigned_abs c.args.cell) f.ratio.num f.ratio.den
     = c.quotient-rounded.ensures ∙ ap (λ s. rounded_size s f.num f.den) size ∙ ap (λ n. rounded_size (unsigned_abs c.args.cell) n f.den) ready.num ∙ ap (λ d. rounded_size (unsigned_abs c.args.cell) f.ratio.num d) ready.den in
     let within : c.quotient-rounded.result ≤ LIMIT = omega (arith, c.if-rounded.true) in
     to_z-of_z w64 _ fits ∙ simp to_z-of_z at c.with_sign.ensures
     ∙ scaled_by_size f.ratio c.args.cell c.quotient-rounded.result den few rounded within
+    ∙ ap (λ ratio. scaled ratio c.args.cell) c.self.view_is

@@ -1,10 +1,10 @@
 -- A cell times a ratio, by its size and its sign.
-use Rattle.std.proofs.Common.{◌≡◌, ℕ, zero, suc, ◌+◌, ◌*◌, ◌/◌, ◌<◌, ◌≤◌, false, ℤ, pos, negsuc, neg_ℤ, ◌*ℤ◌, unsigned_abs, refl, ap, ◌∙◌, sym, arith, inr}
+use Rattle.std.proofs.Common.{◌≡◌, ℕ, zero, suc, ◌+◌, ◌*◌, ◌/◌, ◌<◌, ◌≤◌, false, ℤ, pos, negsuc, neg_ℤ, ◌*ℤ◌, unsigned_abs, refl, ap, ◌∙◌, sym, arith}
 use Rattle.std.proofs.lemmas.Nat.{div-mul-add}
 use Rattle.std.proofs.Math.IntN.{pos-*ℤ-pos, negsuc-*ℤ-pos}
-use Rattle.pl_spec.specs.Rounding.{Fraction, IsCell, LIMIT, div_round, is_missing, scaled, to_cell}
+use Rattle.pl_spec.specs.Rounding.{Fraction, LIMIT, div_round, is_missing, scaled, to_cell}
 use Rattle.pl_spec.proofs.Means.{to_cell-within}
-use Rattle.pl_adjarray.specs.Factors.{signed}
+use Rattle.pl_fixed.specs.Ratios.{signed}
 
 -- the size of a product, over the double of what divides it
 abbrev pub rounded_size : ℕ → ℕ → ℕ → ℕ
@@ -39,6 +39,3 @@ pub scaled_by_size : (f : Fraction) (x : ℤ) (n : ℕ) → 0 < f.den → unsign
 unfolding scaled
 scaled_by_size f x n p h e few =
     rw (there x h) (sym (ap to_cell (by_sign x f.num f.den p ∙ ap (signed x) (sym e)) ∙ to_cell-within (signed x n) (rw (signed_size x n) few)))
-
-pub signed_cell : (x : ℤ) (n : ℕ) → n ≤ LIMIT → IsCell (signed x n)
-signed_cell x n few = inr (rw (signed_size x n) few)
