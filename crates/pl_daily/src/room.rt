@@ -68,7 +68,8 @@ pub(crate) fn column_windows(checked: &Checked) -> Capacities
 // How many cells a term has in a row: one for each asset where it is used, and else none.
 fn cell_count(checked: &Checked, assets: usize, k: usize) -> usize
     requires { k < length (pipeline_of checked.now).graph }
-    ensures { uses.is_used (pipeline_of checked.now) k ≡ true → result ≡ assets }
+    ensures used { uses.is_used (pipeline_of checked.now) k ≡ true → result ≡ assets }
+    ensures idle { uses.is_used (pipeline_of checked.now) k ≡ false → result ≡ 0 }
 {
     if is_used(checked, k) { assets } else { 0 }
 }

@@ -1,5 +1,5 @@
 -- What is given where facts are told.
-use Rattle.std.specs.Prelude.{◌≡◌, ℕ, ◌+◌, ◌≤◌, Bool, true, if◌then◌else◌, ℤ, pos, List, [], ◌∷◌, ◌++◌, flat_map, Option, Some, None, option_map, unwrap_or, is_some, slice_get, All}
+use Rattle.std.specs.Prelude.{◌≡◌, ℕ, ◌+◌, ◌≤◌, ◌×◌, Bool, true, if◌then◌else◌, ℤ, pos, List, [], ◌∷◌, ◌++◌, flat_map, Option, Some, None, option_map, unwrap_or, is_some, slice_get, All}
 use Rattle.std.specs.List.{list_all}
 use Rattle.pl_spec.specs.Rounding.{IsCell}
 use Rattle.pl_spec.specs.World as spec
@@ -44,6 +44,14 @@ pub record IsKeptRow (w : World) (c : Parts) (told : Told) (t d : ℕ) (row : Li
 
 abbrev pub KeepsRows : World → Parts → Told → Rows → Type 0
 KeepsRows w c told rows = (t d : ℕ) (row : List ℤ) → row_at rows t d ≡ Some row → IsKeptRow w c told t d row
+
+-- the row of a term on a session is kept
+abbrev pub HasRow : ℕ → ℕ → Rows → Type 0
+HasRow t d rows = (row : List ℤ) × (row_at rows t d ≡ Some row)
+
+-- each row that was kept still is
+abbrev pub KeepsAll : Rows → Rows → Type 0
+KeepsAll old new = (t d : ℕ) (row : List ℤ) → row_at old t d ≡ Some row → row_at new t d ≡ Some row
 
 -- an input's window begins at no session below 0
 abbrev pub IsEarly : Option Input → ℕ → ℕ → Type 0
