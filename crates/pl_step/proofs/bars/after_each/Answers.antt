@@ -37,5 +37,7 @@ returns-clause-value g c =
 
 pub returns-clause-cost : goal.returns-clause-cost
 returns-clause-cost g c =
-    let none = ap step_count (left-end c.args.column (to_z w32 (of_z w32 c.args.bar_day)) c.args.list.now c.loop-adjust.adjust-index c.loop-adjust-test.false) in
-    omega (arith, none, c.loop-adjust.invariant.cost)
+    let bar_day : FitsSigned w32 c.args.bar_day = c.ranges.bar_day in
+    let cost = simp to_z-of_z at c.loop-adjust.invariant.cost in
+    let none = ap step_count (left-end c.args.column c.args.bar_day c.args.list.now c.loop-adjust.adjust-index c.loop-adjust-test.false) in
+    omega (arith, none, cost)

@@ -80,9 +80,9 @@ returns-in-Some-clause-kept c =
     (c.in-Some.row.now, e)
 
 pub returns-in_ok-keep-in-Some-2-clause-kept : goal.returns-in_ok-keep-in-Some-2-clause-kept
-returns-in_ok-keep-in-Some-2-clause-kept c = (c.in-Some-2.row.items, row-now c.args.rows.now c.keep.new.rows c.args.t.0 c.args.session c.in-Some-2.row.items c.in_ok-keep.ensures)
+returns-in_ok-keep-in-Some-2-clause-kept c = (c.in-Some-2.row.items, row-now c.args.rows.now c.keep.new.self c.args.t.0 c.args.session c.in-Some-2.row.items c.in_ok-keep-in-Some-2.ensures)
 
 pub returns-in_ok-keep-in-Some-2-clause-stays : goal.returns-in_ok-keep-in-Some-2-clause-stays
 returns-in_ok-keep-in-Some-2-clause-stays c =
     let none : row_at c.args.rows.now c.args.t.0 c.args.session ≡ None = search rules in
-    rows-stay c.args.rows.now c.keep.new.rows c.args.t.0 c.args.session c.in-Some-2.row.items none c.in_ok-keep.ensures
+    rows-stay c.args.rows.now c.keep.new.self c.args.t.0 c.args.session c.in-Some-2.row.items c.in_ok-keep-in-Some-2.ensures none
