@@ -1,5 +1,5 @@
 //! The memory of a daily evaluation, all of it taken before the first day.
-ghost use Rattle.std.specs.Prelude.{◌≡◌, ◌<◌, ℕ, true, pos, length, replicate, IfOk};
+ghost use Rattle.std.specs.Prelude.{false, ◌≡◌, ◌<◌, ℕ, true, pos, length, replicate, IfOk};
 ghost use Rattle.pl_spec.specs.declared.Frequency.{Frequency};
 ghost use Rattle.pl_terms.specs.Checked.{pipeline_of};
 ghost use Rattle.pl_terms.specs.Uses as uses;
