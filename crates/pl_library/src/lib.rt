@@ -6,23 +6,25 @@
 /// Cells, ratios, dates and sids, and the counter of steps.
 pub mod numbers {
     pub use pl_fixed::{
-        Column, DecimalFault, Frequency, LIM, MISSING, Memory, Ratio, Steps, add, div, div_round, is_cell,
-        isqrt, mul, neg, quot, read_day, read_decimal, read_sid, sub, to_cell, write_day, write_decimal,
+        Column, DecimalFault, Frequency, LIM, MISSING, Memory, Ratio, Steps, add, div, div_round,
+        is_cell, isqrt, mul, neg, quot, read_day, read_decimal, read_sid, sub, to_cell, write_day,
+        write_decimal,
     };
 }
 
 /// Files, tables of adjustments and output, as a program sees them, and such parts in memory.
 pub mod outside {
     pub use pl_outside::{
-        AdjustKeeper, Failed, KeepError, Memory, MemoryKeeper, MemoryShelf, MemorySink, NoKeeper, NullSink,
-        RawAdjust, ReadError, Shelf, Sink, Table, read_file, write_bytes,
+        AdjustKeeper, Failed, KeepError, Memory, MemoryKeeper, MemoryShelf, MemorySink, NoKeeper,
+        NullSink, RawAdjust, ReadError, Shelf, Sink, Table, read_file, write_bytes,
     };
 }
 
 /// The parts of a world, and their readers.
 pub mod world {
     pub use pl_adjust::{
-        Adjust, AdjustError, Adjustments, Change, Effect, Kind, RevisionsError, effect_for, seen_now,
+        Adjust, AdjustError, Adjustments, Change, Effect, Kind, RevisionsError, effect_for,
+        seen_now,
     };
     pub use pl_adjust_sql::{SqlKeeper, TableError, read_table};
     pub use pl_assets::{AssetRow, Assets, AssetsError, Labels, LabelsError};
@@ -36,12 +38,12 @@ pub mod pipelines {
     pub use pl_check::{CheckError, CheckFault, check};
     pub use pl_planner::{Plan, PlanError, plan, reach_at};
     pub use pl_syntax::{
-        Arg, ArgList, BinarySign, Expr, ExprNode, Place, PrefixSign, Script, Statement, SyntaxError, Word,
-        parse, print,
+        Arg, ArgList, BinarySign, Expr, ExprNode, Place, PrefixSign, Script, Statement,
+        SyntaxError, Word, parse, print,
     };
     pub use pl_terms::{
-        Checked, Frequency, Graph, GraphError, Input, Inputs, LabelValue, NamedColumn, Node, RankMethod,
-        RankOrder, SidList, TermId, TermKind, Text, TextList,
+        Checked, Frequency, Graph, GraphError, Input, Inputs, LabelValue, NamedColumn, Node,
+        RankMethod, RankOrder, SidList, TermId, TermKind, Text, TextList,
     };
 }
 
@@ -64,10 +66,12 @@ pub mod tables {
     pub use pl_cli::run_program;
     pub use pl_daily::{Daily, Day, DayBar, DayEvent, NotLater};
     pub use pl_explain::{
-        CellList, Derivation, ExplainError, Line, LinesError, explain_cell, first_wrong, print_lines,
-        read_lines, reach_at,
+        CellList, Derivation, ExplainError, Line, LinesError, explain_cell, first_wrong,
+        print_lines, reach_at, read_lines,
     };
     pub use pl_generate::make_world;
-    pub use pl_payouts::{Payout, Payouts, PayoutsError, PayoutsOut, Skip, ratio_of, write_payouts};
+    pub use pl_payouts::{
+        Payout, Payouts, PayoutsError, PayoutsOut, Skip, ratio_of, write_payouts,
+    };
     pub use pl_runner::{Format, RunError, RunReport, run_table};
 }
