@@ -29,6 +29,9 @@ pub fn longest_array(
     ensures each { (i : ℕ) → i < spec.chunk_count plan.now.from plan.now.to size
         → HasRoom (world_of world.now) (pipeline_of checked.now) plan.now
         (spec.chunk_at plan.now.from plan.now.to size i) result }
+    ensures least { (len : ℕ) → ((i : ℕ) → i < spec.chunk_count plan.now.from plan.now.to size
+        → HasRoom (world_of world.now) (pipeline_of checked.now) plan.now
+        (spec.chunk_at plan.now.from plan.now.to size i) len) → result ≤ len }
     ensures room { length world.now.assets.now ≤ vec_capacity cols.new }
 {
     // a calendar is short, and so are windows
@@ -56,6 +59,8 @@ fn array_of(
     requires short { chunk.to < 2 ^ 32 }
     requires room { length world.now.assets.now ≤ vec_capacity cols.old }
     ensures each { HasRoom (world_of world.now) (pipeline_of checked.now) plan.now chunk result }
+    ensures least { (len : ℕ) → HasRoom (world_of world.now) (pipeline_of checked.now) plan.now chunk len
+        → result ≤ len }
     ensures room { length world.now.assets.now ≤ vec_capacity cols.new }
 {
     let _assets = world.assets.len();

@@ -1,5 +1,5 @@
 -- Memory that is taken before the first day.
-use Rattle.std.specs.Prelude.{◌≡◌, ℕ, ◌≤◌, true, List, length, slice_get, Option, Some, None}
+use Rattle.std.specs.Prelude.{◌≡◌, ℕ, ◌≤◌, true, false, List, length, slice_get, Option, Some, None}
 use Rattle.pl_spec.specs.declared.Column.{Column}
 use Rattle.pl_spec.specs.Table.{Pipeline}
 use Rattle.pl_terms.specs.Uses.{is_used}
@@ -27,11 +27,13 @@ pub record IsRoom (assets terms : ℕ) (r : Room) : Type 0 where
 abbrev pub HasColumns : Pipeline → Capacities → Type 0
 HasColumns p x = (c : Column) → capacity_for x c ≡ column_window p c
 
--- Term k has room for the greatest window over it; where it is used, it is full of its empty value.
+-- Term k has room for the greatest window over it; where it is used, it is full of its empty value, and where
+-- it isn't, it has no row.
 pub record IsBegun (assets : ℕ) (p : Pipeline) (k : ℕ) (t : TermCells) : Type 0 where
   pub capacity : t.rings.capacity ≡ term_window p k
   pub cells : is_used p k ≡ true → AreTermCells assets t
   pub begins : is_used p k ≡ true → BeginsTerm assets (empty_cell p k) t
+  pub idle : is_used p k ≡ false → length t.row.items ≡ 0
 
 -- so it is with each of the first terms
 pub record AreBegun (assets : ℕ) (p : Pipeline) (count : ℕ) (terms : List TermCells) : Type 0 where

@@ -1,5 +1,5 @@
 //! The memory of a daily evaluation, all of it taken before the first day.
-ghost use Rattle.std.specs.Prelude.{◌≡◌, ◌<◌, ℕ, true, pos, length, replicate, IfOk};
+ghost use Rattle.std.specs.Prelude.{false, ◌≡◌, ◌<◌, ℕ, true, pos, length, replicate, IfOk};
 ghost use Rattle.pl_spec.specs.declared.Frequency.{Frequency};
 ghost use Rattle.pl_terms.specs.Checked.{pipeline_of};
 ghost use Rattle.pl_terms.specs.Uses as uses;
@@ -68,7 +68,8 @@ pub(crate) fn column_windows(checked: &Checked) -> Capacities
 // How many cells a term has in a row: one for each asset where it is used, and else none.
 fn cell_count(checked: &Checked, assets: usize, k: usize) -> usize
     requires { k < length (pipeline_of checked.now).graph }
-    ensures { uses.is_used (pipeline_of checked.now) k ≡ true → result ≡ assets }
+    ensures used { uses.is_used (pipeline_of checked.now) k ≡ true → result ≡ assets }
+    ensures idle { uses.is_used (pipeline_of checked.now) k ≡ false → result ≡ 0 }
 {
     if is_used(checked, k) { assets } else { 0 }
 }

@@ -6,6 +6,7 @@ ghost use Rattle.pl_spec.specs.Parts.{sid_at};
 ghost use Rattle.pl_spec.specs.Rounding.{IsCell};
 ghost use Rattle.pl_spec.specs.Term.{term_at};
 ghost use Rattle.pl_spec.specs.World.{exists};
+ghost use Rattle.pl_cross.specs.Section.{is_section};
 ghost use Rattle.pl_facts.specs.Facts.{number_in, premises};
 ghost use Rattle.pl_facts.specs.Facts.Fact.{Seen, Worth};
 ghost use Rattle.pl_facts.specs.Laws.{IsDerivation};
@@ -13,11 +14,11 @@ ghost use Rattle.pl_facts.specs.Walks.{depth_of, derivation, facts_for};
 ghost use Rattle.pl_spec.proofs.Each.{Each};
 ghost use Rattle.pl_lines.specs.Listed.{line_of};
 ghost use Rattle.pl_world.specs.Worlds.{world_of, IsMade};
-ghost use Rattle.pl_world.specs.Evaluations.{cell_in};
+ghost use Rattle.pl_world.specs.Evaluations.{cell_in, HasKind};
 ghost use Rattle.pl_terms.specs.Checked.{pipeline_of};
 ghost use Rattle.pl_terms.specs.Nodes.{graph_of};
 ghost use Rattle.pl_terms.specs.Uses.{is_used};
-ghost use Rattle.pl_step.specs.Given.{facts_read, has, has_all, KeepsRows};
+ghost use Rattle.pl_step.specs.Given.{facts_read, has, has_all, HasRow, KeepsRows};
 ghost use Rattle.pl_told.specs.Keys.{fact_of};
 ghost use Rattle.pl_lines.specs.declared.error.ExplainError.TheVariants.{TooLong};
 ghost use Rattle.pl_explain.specs.Walking.{CanStand, CanStandIn, Finishes, IsTellingOf, IsTooLong, StandsIn};
@@ -270,8 +271,9 @@ fn is_whole(world: &World, checked: &Checked, walk: &Walk, t: TermId, session: u
     requires stands { StandsIn world.now checked.now walk.now }
     requires term { t.0 < length checked.now.graph }
     requires session { session < length world.now.sessions.now }
-    ensures { IsTrue result → (a : _)
+    ensures stand { IsTrue result → (a : _)
         → has_all walk.now.told (facts_read world.now checked.now t.0 a session) ≡ true }
+    ensures whole { HasKind checked.now t.0 is_section → HasRow t.0 session walk.now.rows → result ≡ true }
 {
     let _sessions = world.sessions.len();
     match family_of(&checked.graph().node(t).kind) {

@@ -1,5 +1,6 @@
 -- What a kept row of a cross-section tells.
-use Rattle.std.proofs.Common.{◌≡◌, ℕ, ◌<◌, false, ℤ, pos, List, flat_map, length, get_or, Option, Some, None, IfNone, slice_get, refl, sym, ◌∙◌, ap, subst}
+use Rattle.std.proofs.Common.{◌≡◌, ◌==◌, ◌&&◌, if◌then◌else◌, ℕ, Bool, true, ◌<◌, false, ℤ, pos, List, flat_map, length, get_or, Option, Some, None, IfNone, slice_get, refl, sym, ◌∙◌, ap, subst}
+use Rattle.std.proofs.lemmas.Bool.{and_from, and_parts, eq-eqb, eqb-true}
 use Rattle.std.proofs.lemmas.List.{get_or-map, length-map}
 use Rattle.pl_spec.specs.declared.AssetRow.{AssetRow}
 use Rattle.pl_spec.specs.Parts.{sid_at}
@@ -11,13 +12,15 @@ use Rattle.pl_terms.specs.Checked.{Parts}
 use Rattle.pl_cross.specs.Section.{is_section}
 use Rattle.pl_facts.specs.Facts.{Fact, entry_facts}
 use Rattle.pl_told.specs.declared.told.Told.{Told}
+use Rattle.pl_told.specs.declared.rows.Rows.{Rows}
+use Rattle.pl_told.specs.Looking.{row_at}
 use Rattle.pl_world.specs.declared.world.World.{World}
 use Rattle.pl_world.specs.Worlds.{world_of}
 use Rattle.pl_world.specs.Evaluations.{HasKind, cell_in}
 use Rattle.pl_spec.proofs.Unfolds.{past}
 use Rattle.pl_world.proofs.Evaluated.{section-is}
 use Rattle.pl_world.proofs.Sections.{sid-there, blank}
-use Rattle.pl_step.specs.Given.{has_all, given, facts_read, IsKeptRow}
+use Rattle.pl_step.specs.Given.{has_all, given, facts_read, IsKeptRow, KeepsAll}
 use Rattle.pl_step.proofs.Given.{refused, accepted}
 
 node-in : (ns : List Node) (t : ℕ) → t < length ns → (n : Node) × (slice_get ns t ≡ Some n)
@@ -52,3 +55,19 @@ module _ (w : World) (c : Parts) (told : Told) (t s : ℕ) where
         let n = node-in c.graph t known in
         let none = subst (λ p. IfNone p ((n : Node) → slice_get c.graph t ≡ Some n → has_all told (entries n) ≡ false)) is lacks in
         refused told (entries n.0) (facts_read w c t sid s) (cell_in w c t sid s) None (reads n.0 n.1) (none n.0 n.1) refl
+
+-- ---- rows that are kept
+
+none≢some : {X : Type 0} (x : X) → None ≡ Some x → ⊥
+none≢some x e = cc
+
+module _ (old new : Rows) (t s : ℕ) (row : List ℤ) (is : (u d : ℕ) → row_at new u d ≡ (if t == u && s == d then Some row else row_at old u d)) where
+  pub row-now : row_at new t s ≡ Some row
+  row-now = is t s ∙ ap (λ b. if b then Some row else row_at old t s) (and_from (t == t) (s == s) (eq-eqb t t refl) (eq-eqb s s refl))
+
+  pub rows-stay : row_at old t s ≡ None → KeepsAll old new
+  rows-stay none u d r e = here (t == u && s == d) refl
+    where
+      here : (b : Bool) → (t == u && s == d) ≡ b → row_at new u d ≡ Some r
+      here true f = let p = and_parts (t == u) (s == d) f in absurd (none≢some r (sym none ∙ ap (λ n. row_at old n s) (eqb-true t u p.0) ∙ ap (row_at old u) (eqb-true s d p.1) ∙ e))
+      here false f = is u d ∙ ap (λ b. if b then Some row else row_at old u d) f ∙ e

@@ -45,6 +45,14 @@ pub record IsKeptRow (w : World) (c : Parts) (told : Told) (t d : ℕ) (row : Li
 abbrev pub KeepsRows : World → Parts → Told → Rows → Type 0
 KeepsRows w c told rows = (t d : ℕ) (row : List ℤ) → row_at rows t d ≡ Some row → IsKeptRow w c told t d row
 
+-- the row of a term on a session is kept
+abbrev pub HasRow : ℕ → ℕ → Rows → Type 0
+HasRow t d rows = (row : List ℤ) × (row_at rows t d ≡ Some row)
+
+-- each row that was kept still is
+abbrev pub KeepsAll : Rows → Rows → Type 0
+KeepsAll old new = (t d : ℕ) (row : List ℤ) → row_at old t d ≡ Some row → row_at new t d ≡ Some row
+
 -- an input's window begins at no session below 0
 abbrev pub IsEarly : Option Input → ℕ → ℕ → Type 0
 IsEarly None size s = Unit {0}

@@ -1,8 +1,8 @@
 //! The cells of a bar as a later session sees it.
-ghost use Rattle.std.specs.Prelude.{◌≡◌, ◌<◌, All, IfOk, OnOk, length, map, pos};
+ghost use Rattle.std.specs.Prelude.{◌≡◌, ◌<◌, ◌+◌, All, IfOk, OnOk, length, map, option_to_list, pos};
 ghost use Rattle.pl_spec.specs.Rounding.{IsCell};
 ghost use Rattle.pl_spec.specs.Parts.{sid_at};
-ghost use Rattle.pl_spec.specs.Window.{changed, effect};
+ghost use Rattle.pl_spec.specs.Window.{changed, effect, effects, step_count, step_of};
 ghost use Rattle.pl_adjust.specs.Events.{IsPut, PutCells, PutsCell, effect_of, effects_of, event_of};
 ghost use Rattle.pl_facts.specs.Right.{after_each, seen_cells};
 ghost use Rattle.pl_world.specs.Worlds.{world_of, IsMade};
@@ -32,6 +32,8 @@ pub fn seen_cells<L: Ledger>(
     ensures value { IfOk result (λ v. v.items
         ≡ seen_cells (world_of world.now) (sid_at world.now.assets.now col) column (pos bar) (pos session)) }
     ensures cells { IfOk result (λ v. All IsCell v.items) }
+    ensures cost { OnOk result (steps.new ≡ steps.old + step_count (effects (world_of world.now)
+        (sid_at world.now.assets.now col) column (pos bar) (pos session))) }
 {
     let _assets = world.assets.len();
     let bar_day = world.sessions.day(bar);
@@ -54,6 +56,8 @@ fn after_each<L: Ledger>(
     requires put { PutCells (map event_of list.now) }
     ensures value { IfOk result (λ v. v.items ≡ after_each cell (effects_of column bar_day list.now)) }
     ensures cells { IfOk result (λ v. All IsCell v.items) }
+    ensures cost { OnOk result (steps.new
+        ≡ steps.old + step_count (effects_of column bar_day list.now)) }
 {
     let mut seen = cell;
     let mut cells = Vec::new(alloc);
@@ -80,6 +84,8 @@ fn push_changed<L: Ledger>(
         (effect column bar_day (event_of adjust.now)) cells.old.items cells.new.items x) }
     ensures cell { IfOk result IsCell }
     ensures cells { OnOk result (All IsCell cells.new.items) }
+    ensures cost { OnOk result (steps.new
+        ≡ steps.old + step_count (option_to_list (effect column bar_day (event_of adjust.now)))) }
 {
     match effect_for(adjust, bar_day, column) {
         None => Ok(cell),
@@ -97,6 +103,7 @@ fn changed<L: Ledger>(cell: i64, effect: Effect, steps: &mut Steps<L>) -> i64
     requires put { IsPut effect }
     ensures value { result ≡ changed cell (effect_of effect) }
     ensures cell { IsCell result }
+    ensures cost { steps.new ≡ steps.old + step_of (effect_of effect) }
 {
     match effect {
         Effect::Scale(ratio) => ratio.apply(cell, steps),

@@ -10,7 +10,7 @@ ghost use Rattle.pl_facts.specs.Facts.{entry_facts, number_facts};
 ghost use Rattle.pl_facts.specs.Facts.Fact.{Worth};
 ghost use Rattle.pl_world.specs.Worlds.{world_of};
 ghost use Rattle.pl_world.specs.Evaluations.{HasKind, cell_in, optional_row_in, row_in};
-ghost use Rattle.pl_step.specs.Given.{facts_read, given, has_all, living_facts, IsKeptRow, KeepsRows, TellsTruth};
+ghost use Rattle.pl_step.specs.Given.{facts_read, given, has_all, living_facts, HasRow, IsKeptRow, KeepsAll, KeepsRows, TellsTruth};
 
 use crate::inputs::term_told;
 use pl_fixed::Memory;
@@ -43,6 +43,8 @@ pub(crate) fn section_told(
         (cell_in world.now checked.now t.0 (sid_at world.now.assets.now col) session)) }
     ensures cell { IfOk result (λ o. IfSome o IsCell) }
     ensures rows { OnOk result (KeepsRows world.now checked.now told.now rows.new) }
+    ensures kept { IfOk result (λ o. IfSome o (λ _. HasRow t.0 session rows.new)) }
+    ensures stays { OnOk result (KeepsAll rows.old rows.new) }
 {
     let _sessions = world.sessions.len();
     if let Some(row) = rows.row(t.0, session as u32) {

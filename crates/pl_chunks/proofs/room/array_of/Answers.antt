@@ -4,7 +4,7 @@ use Rattle.pl_world.specs.Worlds.{world_of}
 use Rattle.pl_terms.specs.Checked.{pipeline_of}
 use Rattle.pl_chunks.specs.Chunks.{columns_of}
 use Rattle.pl_chunks.proofs.Assets.{columns_of-few}
-use Rattle.pl_chunks.proofs.Rooms.{room-of}
+use Rattle.pl_chunks.proofs.Rooms.{room-of, room-least}
 use Rattle.pl_chunks.proofs.room.array_of.Goals as goal
 
 pub overflow_mul-result : goal.overflow_mul-result
@@ -18,3 +18,8 @@ pub returns-clause-each : goal.returns-clause-each
 returns-clause-each c =
     let cols : c.len.result ≡ length (columns_of (world_of c.args.world.now) (pipeline_of c.args.checked.now) c.args.plan.now c.args.chunk) = (let v : vec_len c.put_columns.new.cols ≡ length c.put_columns.new.cols.items = search rules in c.len.ensures ∙ v) ∙ ap length c.put_columns.ensures.cols in
     room-of c.args.world.now.sessions.now (world_of c.args.world.now) (pipeline_of c.args.checked.now) c.args.plan.now c.args.chunk c.most_rows.result c.len.result c.requires.plan c.most_rows.ensures.most cols
+
+pub returns-clause-least : goal.returns-clause-least
+returns-clause-least c =
+    let cols : c.len.result ≡ length (columns_of (world_of c.args.world.now) (pipeline_of c.args.checked.now) c.args.plan.now c.args.chunk) = (let v : vec_len c.put_columns.new.cols ≡ length c.put_columns.new.cols.items = search rules in c.len.ensures ∙ v) ∙ ap length c.put_columns.ensures.cols in
+    λ len h. room-least (world_of c.args.world.now) (pipeline_of c.args.checked.now) c.args.plan.now c.args.chunk _ c.most_rows.result c.len.result len c.most_rows.ensures.most cols h

@@ -9,5 +9,6 @@ abbrev pub invariant-loop-i : goal.invariant-loop-i
 invariant-loop-i l =
     record {
       each : (i : ℕ) → i < l.i → HasRoom (world_of l.world) (pipeline_of l.checked) l.plan (chunk_at l.plan.from l.plan.to l.size i) l.longest;
+      least : (len : ℕ) → ((i : ℕ) → i < l.i → HasRoom (world_of l.world) (pipeline_of l.checked) l.plan (chunk_at l.plan.from l.plan.to l.size i) len) → l.longest ≤ len;
       room : length l.world.assets.now ≤ vec_capacity l.cols;
     }

@@ -7,15 +7,16 @@ use Rattle.pl_chunks.proofs.room.most_rows.Goals as goal
 use Rattle.pl_chunks.proofs.room.most_rows.Goals.{then-is_used, else-is_used}
 
 pub loop-t-init : goal.loop-t-init
-loop-t-init c = record { most = most-none (pipeline_of c.args.checked.now) c.args.plan.now c.args.chunk 0; few = omega arith }
+loop-t-init c = record { most = most-none (pipeline_of c.args.checked.now) c.args.plan.now c.args.chunk; few = omega arith }
 
 pub loop-t-preserved : goal.loop-t-preserved
 loop-t-preserved c =
     let p = pipeline_of c.args.checked.now in
+    let inside : c.loop-t.t < length p.graph = omega (arith, c.len-t-end.ensures.value, ap length c.graph.ensures.value, graph-long c.args.checked.now.graph) in
     elim c.if-is_used.branch [
       | then-is_used b ↦ (let m : b.max-most.result ≡ max c.loop-t.most b.rows_of.result = search rules in
           rw b.most-is record {
-            most = most-more p c.args.plan.now c.args.chunk c.loop-t.t c.loop-t.most b.rows_of.result _ c.loop-t.invariant.most b.rows_of.ensures.value m;
+            most = most-more p c.args.plan.now c.args.chunk c.loop-t.t c.loop-t.most b.rows_of.result _ (sym c.is_used.ensures ∙ b.if-is_used.true) inside c.loop-t.invariant.most b.rows_of.ensures.value m;
             few = omega (arith, m, c.loop-t.invariant.few, b.rows_of.ensures.few);
           })
       | else-is_used b ↦

@@ -397,7 +397,7 @@ finish_kind-returns-then-is_whole-clause-finished g t c =
     let w = c.args.world.now in
     let p = c.args.checked.now in
     let a = sid_at w.assets.now c.args.col in
-    walk-told w p (c.args.t.0 + 1) c.args.walk.now (facts_read w p c.args.t.0 a c.args.session) (c.is_whole.ensures c.if-is_whole.true a)
+    walk-told w p (c.args.t.0 + 1) c.args.walk.now (facts_read w p c.args.t.0 a c.args.session) (c.is_whole.ensures.stand c.if-is_whole.true a)
 
 pub finish_kind-facts_read-requires-clause-asked : goal.finish_kind-facts_read-requires-clause-asked
 finish_kind-facts_read-requires-clause-asked g t c =

@@ -1,10 +1,10 @@
-use Rattle.std.proofs.Common.{◌≡◌, ◌∙◌, Some, pos, get_or, subst, sym, ap, arith, rules, w64, FitsSigned}
+use Rattle.std.proofs.Common.{◌≡◌, ◌∙◌, None, Some, pos, get_or, subst, sym, ap, arith, rules, w64, FitsSigned}
 use Rattle.std.proofs.lemmas.Int.{to_z-of_z}
 use Rattle.pl_spec.specs.Rounding.{IsCell}
 use Rattle.pl_told.specs.Looking.{row_at}
 use Rattle.pl_step.specs.Given.{IsKeptRow}
 use Rattle.pl_step.proofs.Given.{some-holds}
-use Rattle.pl_step.proofs.Kept.{kept-long, kept-cell, none-kept}
+use Rattle.pl_step.proofs.Kept.{kept-long, kept-cell, none-kept, row-now, rows-stay}
 use Rattle.pl_step.proofs.sections.section_told.Goals as goal
 
 pub returns-in-Some-clause-value : goal.returns-in-Some-clause-value
@@ -73,3 +73,16 @@ bounds-row-col c =
     let kept = c.requires.rows c.args.t.0 c.args.session row e in
     let long = kept-long c.args.world.now c.args.checked.now c.args.told.now c.args.t.0 c.args.session row kept in
     omega (arith, long, c.requires.col)
+
+pub returns-in-Some-clause-kept : goal.returns-in-Some-clause-kept
+returns-in-Some-clause-kept c =
+    let e : row_at c.args.rows.now c.args.t.0 c.args.session ≡ Some c.in-Some.row.now = search rules in
+    (c.in-Some.row.now, e)
+
+pub returns-in_ok-keep-in-Some-2-clause-kept : goal.returns-in_ok-keep-in-Some-2-clause-kept
+returns-in_ok-keep-in-Some-2-clause-kept c = (c.in-Some-2.row.items, row-now c.args.rows.now c.keep.new.self c.args.t.0 c.args.session c.in-Some-2.row.items c.in_ok-keep-in-Some-2.ensures)
+
+pub returns-in_ok-keep-in-Some-2-clause-stays : goal.returns-in_ok-keep-in-Some-2-clause-stays
+returns-in_ok-keep-in-Some-2-clause-stays c =
+    let none : row_at c.args.rows.now c.args.t.0 c.args.session ≡ None = search rules in
+    rows-stay c.args.rows.now c.keep.new.self c.args.t.0 c.args.session c.in-Some-2.row.items c.in_ok-keep-in-Some-2.ensures none
