@@ -25,3 +25,8 @@ pub record Writes {S T E : Type 0} (taken : S → Option (List ℕ)) (faults : S
   pub stays : sound new ≡ sound old
   pub room_left : IsTrue (sound old) → OnOk result (room new + length text ≡ room old)
   pub blameless : IsBlameless (sound old) (room old) (length text) (faults old) (faults new) result
+
+-- the line is told, where the sink tells, and counted no fault in this call or is sound with room
+pub record IsTold {S : Type 0} (taken : S → Option (List ℕ)) (faults : S → ℕ) (sound : S → Bool) (room : S → ℕ) (old new : S) (line : List ℕ) : Type 0 where
+  pub unless_risen : (Rose (faults old) (faults new) → ⊥) → TakesAll (taken old) (taken new) line
+  pub in_room : IsTrue (sound old) → length line ≤ room old → TakesAll (taken old) (taken new) line
