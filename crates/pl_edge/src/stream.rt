@@ -60,6 +60,9 @@ impl<W: Write + Drop> Sink for Stream<W> {
 
     ghost room = { λ _. 0 };
 
+    // a system takes as much of a piece as it can
+    ghost whole = { λ _. false };
+
     fn write(&mut self, bytes: &[u8]) -> Result<usize, Failed>
         ensures within { IfOk result (λ n. n ≤ length bytes.now) }
         ensures some { IfOk result (λ n. 0 < length bytes.now → 0 < n) }

@@ -1,6 +1,6 @@
 -- What a sink takes.
 use Rattle.std.specs.Prelude.{ℕ, ◌≡◌, ◌≤◌, ◌+◌, List, ◌++◌, take, length, Option, option_map, Result, Bool, IsTrue, IsOk, OnOk, OnErr}
-use Rattle.pl_outside.specs.Counts.{Rose}
+use Rattle.pl_outside.specs.Counts.{Rose, count_plus}
 
 -- these bytes were taken after those taken before, where the sink tells
 abbrev pub TakesAll : Option (List ℕ) → Option (List ℕ) → List ℕ → Type 0
@@ -13,6 +13,11 @@ TakesPrefix old new bytes = (n : ℕ) × (n ≤ length bytes) × TakesAll old ne
 -- a sound sink with room for so many bytes doesn't fail, and counts no fault
 abbrev pub IsBlameless : {T E : Type 0} → Bool → ℕ → ℕ → ℕ → ℕ → Result T E → Type 0
 IsBlameless sound room length before now result = IsTrue sound → length ≤ room → IsOk result × (now ≡ before)
+
+-- A sink that takes each piece whole got so many pieces, and goes on so.
+pub record IsWrittenIn {S : Type 0} (whole : S → Bool) (calls : S → ℕ) (old new : S) (pieces : ℕ) : Type 0 where
+  pub stays : whole new ≡ whole old
+  pub counted : IsTrue (whole old) → calls new ≡ count_plus (calls old) pieces
 
 -- A call writes this text to a sink: all of it, or after a counted fault a prefix; and all of it to a sound
 -- sink with room.
