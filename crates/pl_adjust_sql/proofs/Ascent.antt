@@ -32,15 +32,15 @@ flips a b = ap is_eq (value_cmp_total.antisymm a b) ∙ reversed (value_cmp b a)
 abbrev first : Row → Value
 first row = column row 0
 
-below_all : (row : Row) (rows : List Row) → AllByRecursion (λ other. value_cmp (rowid row) (rowid other) ≡ Less) rows
-    → AllByRecursion (λ v. ties (first (shown row)) v ≡ false) (map first (map shown rows))
-below_all row [] below = tt
-below_all row (r ∷ rows) below = (ap is_eq below.0, below_all row rows below.1)
+below_all : (more : List ℕ) (row : Row) (rows : List Row) → AllByRecursion (λ other. value_cmp (rowid row) (rowid other) ≡ Less) rows
+    → AllByRecursion (λ v. ties (first (shown (0 ∷ more) row)) v ≡ false) (map first (map (shown (0 ∷ more)) rows))
+below_all more row [] below = tt
+below_all more row (r ∷ rows) below = (ap is_eq below.0, below_all more row rows below.1)
 
-rowids_differ : (stored : List Row) → IsTable stored → IsDistinct ties (map first (map shown stored))
+rowids_differ : (more : List ℕ) (stored : List Row) → IsTable stored → IsDistinct ties (map first (map (shown (0 ∷ more)) stored))
 unfolding IsDistinct
-rowids_differ [] up = tt
-rowids_differ (row ∷ rows) up = (below_all row rows up.0, rowids_differ rows up.1)
+rowids_differ more [] up = tt
+rowids_differ more (row ∷ rows) up = (below_all more row rows up.0, rowids_differ more rows up.1)
 
 id_at : (rows : List RawAdjust) (i : ℕ) (d : RawAdjust) (v : Value) → i < length rows → slice_index_or (map first (map row_of rows)) i v ≡ Int (slice_index_or rows i d).id
 id_at [] i d v within = absurd (omega arith)
@@ -58,11 +58,11 @@ strictly a b at_most apart =
     let tied : ties (Int a) (Int b) ≡ true = subst (λ n. ties (Int a) (Int n) ≡ true) (sym same) (ap is_eq (tied_itself value_cmp_total (Int a))) in
     absurd (let bad : true ≡ false = sym tied ∙ apart in cc))
 
-pub ids_ascend : (stored : List Row) (rows : List RawAdjust) → IsPermutation (map shown stored) (map row_of rows) → AllPairs (λ a b. a.id ≤ℤ b.id) rows
+pub ids_ascend : (more : List ℕ) (stored : List Row) (rows : List RawAdjust) → IsPermutation (map (shown (0 ∷ more)) stored) (map row_of rows) → AllPairs (λ a b. a.id ≤ℤ b.id) rows
     → IsTable stored → IsAscending rows
-ids_ascend stored rows same ascend up i j d below within =
-    let moved = IsPermutation-map first (map shown stored) (map row_of rows) same in
-    let differ = IsDistinct-IsPermutation ties flips _ _ moved (rowids_differ stored up) in
+ids_ascend more stored rows same ascend up i j d below within =
+    let moved = IsPermutation-map first (map (shown (0 ∷ more)) stored) (map row_of rows) same in
+    let differ = IsDistinct-IsPermutation ties flips _ _ moved (rowids_differ more stored up) in
     let counted = count rows in
     let here = id_at rows i d (Int d.id) (omega arith) in
     let there = id_at rows j d (Int d.id) within in

@@ -1,15 +1,13 @@
 -- What a read of a table appends to a list of rows.
-use Rattle.std.specs.Prelude.{◌≡◌, List, [], ◌∷◌, ◌++◌, Result, Ok, Err, ℕ}
+use Rattle.std.specs.Prelude.{◌≡◌, List, [], ◌++◌, Result, Ok, Err, ℕ}
 use Rattle.sqlite.specs.State.{State, Shown}
-use Rattle.sqlite.specs.Schema.{Schema}
-use Rattle.sqlite.specs.Table.{Table as Stored}
 use Rattle.sqlite_value.specs.Order.{Row}
 use Rattle.pl_outside.specs.declared.keeper.Table.{Table}
 use Rattle.pl_outside.specs.declared.keeper.KeepError.{KeepError}
 use Rattle.pl_outside.specs.declared.keeper.KeepError.TheVariants.{Failed, Memory}
 use Rattle.pl_outside.specs.Counts.{count_plus}
 use Rattle.pl_spec.specs.declared.RawAdjust.{RawAdjust}
-use Rattle.pl_adjust_sql.specs.Tables.{statement_of, tables_from, IsBefore}
+use Rattle.pl_adjust_sql.specs.Tables.{statement_of}
 use Rattle.pl_adjust_sql.specs.Rows.{AreRead, AreRowsOf}
 
 -- rows are appended, which are those that SQLite shows for the table's statement
@@ -20,18 +18,11 @@ pub record AppendsAnswer (table : Table) (old new : State) (before after : List 
   pub read : AreRead answer rows
   pub shown : Shown (statement_of table) [] old new answer
 
--- the tables of the schema begin with these tables of adjustments and this one, in the order in which they
--- were created
-pub record Begins (schema : Schema) (before : List Table) (table : Table) : Type 0 where
-  pub among : IsBefore table before
-  pub rest : List Stored
-  pub tables : schema.tables ≡ tables_from 0 (before ++ table ∷ []) ++ rest
-
--- rows are appended, which are the stored ones in ascending id
-pub record AppendsRows (stored : List Row) (before after : List RawAdjust) : Type 0 where
+-- rows are appended, which are the stored ones, all of them, in ascending id
+pub record AppendsRows (places : List ℕ) (stored : List Row) (before after : List RawAdjust) : Type 0 where
   pub rows : List RawAdjust
   pub appended : after ≡ before ++ rows
-  pub all : AreRowsOf stored rows
+  pub all : AreRowsOf places stored rows
 
 -- a count of faults rises exactly where a load fails
 abbrev pub count_after : {T : Type 0} → ℕ → Result T KeepError → ℕ

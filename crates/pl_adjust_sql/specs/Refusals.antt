@@ -1,6 +1,6 @@
 -- Why a table isn't read.
-use Rattle.std.specs.Prelude.{◌≡◌, ◌⊎◌, ℕ, List, [], Any}
-use Rattle.sqlite.specs.State.{State, Shown, FailsToQuery}
+use Rattle.std.specs.Prelude.{◌≡◌, ◌⊎◌, ℕ, List, [], Any, Err}
+use Rattle.sqlite.specs.State.{State, Shown, Executes, FailsToQuery}
 use Rattle.sqlite.specs.declared.error.Error.{Error}
 use Rattle.sqlite.specs.declared.error.Error.TheVariants.{SqliteFailure}
 use Rattle.sqlite.specs.declared.error.ErrorCode.TheVariants.{OutOfMemory}
@@ -22,3 +22,7 @@ Refuses sql old new = (e : Error) × (table_error e ≡ Refused) × FailsToQuery
 abbrev pub IsRefused : List ℕ → State → State → Type 0
 IsRefused sql old new =
     Refuses sql old new ⊎ ((answer : List Row) × Shown sql [] old new answer × Any (λ row. ¬ HasFiveIntegers row) answer)
+
+-- the same of the statement that makes a table
+abbrev pub RefusesToMake : List ℕ → State → State → Type 0
+RefusesToMake sql old new = (e : Error) × (table_error e ≡ Refused) × Executes sql [] old new (Err e)

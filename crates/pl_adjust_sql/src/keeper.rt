@@ -1,11 +1,11 @@
 // The keeper over one connection.
-ghost use Rattle.std.specs.Prelude.{◌≡◌, List, None, Err, OnOk, OnErr, length, string_bytes, false};
+ghost use Rattle.std.specs.Prelude.{◌≡◌, ℕ, List, None, Err, OnOk, OnErr, string_bytes, false};
 ghost use Rattle.sqlite.specs.State.{HasCleanDisk};
 ghost use Rattle.sqlite.specs.Held.{state};
-ghost use Rattle.pl_outside.specs.declared.keeper.Table.{Table};
+ghost use Rattle.sqlite.specs.Table.{Table as Stored};
 ghost use Rattle.pl_outside.specs.Counts.{count_end, count_plus};
-ghost use Rattle.pl_adjust_sql.specs.Tables.{statement_of};
-ghost use Rattle.pl_adjust_sql.specs.Reads.{AppendsAnswer, AppendsRows, Begins, count_after};
+ghost use Rattle.pl_adjust_sql.specs.Tables.{statement_of, IsFound};
+ghost use Rattle.pl_adjust_sql.specs.Reads.{AppendsAnswer, AppendsRows, count_after};
 ghost use Rattle.pl_adjust_sql.specs.Refusals.{IsRefused};
 
 use crate::read::read_table;
@@ -68,8 +68,9 @@ impl<S: Alter> AdjustKeeper for SqlKeeper<S> {
             (state S.Store self.old.connection) (state S.Store self.new.connection)
             into.old.items into.new.items) }
         ensures rows { HasCleanDisk (state S.Store self.new.connection)
-            → (before : List Table) → Begins (state S.Store self.old.connection).now.schema before table
-            → OnOk result (AppendsRows ((state S.Store self.old.connection).now.trees (length before))
+            → (stored : Stored) (places : List ℕ)
+            → IsFound (state S.Store self.old.connection).now.schema table stored places
+            → OnOk result (AppendsRows places ((state S.Store self.old.connection).now.trees stored.tree)
             into.old.items into.new.items) }
         ensures refused { HasCleanDisk (state S.Store self.new.connection)
             → string_bytes self.old.name ≡ name.now
