@@ -2,6 +2,7 @@
 use Rattle.std.proofs.Common.{◌≡◌, ℕ, ◌+◌, ◌<◌, ◌≤◌, Bool, true, false, ◌⊎◌, List, [], ◌∷◌, ◌++◌, length, Option, Some, None, slice_get, refl, sym, ap, subst, ◌∙◌, arith, length-append, inl, inr, nat_lt, get_or}
 use Rattle.std.specs.List.{Contains}
 use Rattle.std.proofs.lemmas.List.Elements.{Contains-get_or}
+use Rattle.std.proofs.lemmas.Bool.Decides.{nat_tests}
 use Rattle.std.proofs.lemmas.Option.{slice_get_within, slice_get-get_or}
 use Rattle.std.proofs.Math.ListN.{get_or-append}
 use Rattle.std.proofs.Math.Seq.{get_or-append_seam}
@@ -11,7 +12,9 @@ use Rattle.pl_spec.specs.Term.Term.{absent}
 use Rattle.pl_spec.proofs.Trees.{term_at-node}
 use Rattle.pl_spec.proofs.Distinct.{one_tree}
 use Rattle.pl_terms.specs.Nodes.{place_from, Interned, interned}
-use Rattle.pl_terms.proofs.Shared.{not-there, place-is, get-last, graph-more}
+use Rattle.pl_terms.specs.Laws.{IsNew}
+use Rattle.pl_terms.proofs.Shared.{not-there, place-is, graph-more}
+use Rattle.pl_terms.proofs.Numbered.{refused-full}
 
 -- ---- the trees of one node more
 
@@ -42,7 +45,7 @@ later-still g h i a b =
     let q : length h ≤ length i = b.longer in
     record { longer = omega arith; same = λ k l. b.same k (omega arith) ∙ a.same k l }
 
-later-more : (g : Graph) (n : Node) → Later g (g ++ n ∷ [])
+pub later-more : (g : Graph) (n : Node) → Later g (g ++ n ∷ [])
 later-more g n = record {
   longer = omega (arith, length-append g (n ∷ []));
   same = λ k l. ap (λ ts. tree_at ts k) (trees-more [] g n) ∙ get_or-append (trees g) (tree_over (trees g) n ∷ []) absent k (omega (arith, length-trees g));
@@ -67,6 +70,7 @@ pub record IsPut (g : Graph) (n : Node) (i : Interned) : Type 0 where
   pub later : Later g i.graph
   pub there : i.number < length i.graph
   pub tree : term_at i.graph i.number ≡ tree_over (trees g) n
+  pub few : length g ≤ most_terms → length i.graph ≤ most_terms
   pub trees : (Contains (trees g) (tree_over (trees g) n) × (trees i.graph ≡ trees g)) ⊎ (¬ Contains (trees g) (tree_over (trees g) n) × (trees i.graph ≡ trees g ++ tree_over (trees g) n ∷ []))
 
 old-put : (g : Graph) (n : Node) (k : ℕ) → IsGraph g → slice_get g k ≡ Some n → IsPut g n (record { number = k; graph = g })
@@ -78,6 +82,7 @@ old-put g n k ok e =
       later = later-same g;
       there = in_range;
       tree = at;
+      few = λ h. h;
       trees = inl (subst (Contains (trees g)) at (Contains-get_or (trees g) k absent (omega (arith, length-trees g))), refl);
     }
 
@@ -92,14 +97,15 @@ new-tree g n ok c =
     let one : w.0 ≡ length g = one_tree (g ++ n ∷ []) ok t w.0 (length g) (omega arith) (omega arith) at (last-tree g n) in
     omega arith
 
-new-put : (g : Graph) (n : Node) → IsGraph g → length n.inputs ≤ 3 → MentionsBelow n (length g) → place_from 0 g n ≡ None → IsPut g n (record { number = length g; graph = g ++ n ∷ [] })
-new-put g n ok few low fresh =
+new-put : (g : Graph) (n : Node) → IsGraph g → length n.inputs ≤ 3 → MentionsBelow n (length g) → place_from 0 g n ≡ None → nat_lt (length g) most_terms ≡ true → IsPut g n (record { number = length g; graph = g ++ n ∷ [] })
+new-put g n ok few low fresh room =
     let more : IsGraph (g ++ n ∷ []) = graph-more g n ok few low (not-there 0 g n fresh) in
     record {
       graph = more;
       later = later-more g n;
       there = omega (arith, length-append g (n ∷ []));
       tree = last-tree g n;
+      few = λ h. (let l : length g < most_terms = grind (arith, nat_tests) in omega (arith, length-append g (n ∷ [])));
       trees = inr (new-tree g n more, trees-more [] g n);
     }
 
@@ -115,5 +121,16 @@ put g n i ok few low h = here (place_from 0 g n) refl (nat_lt (length g) most_te
         subst (IsPut g n) same (old-put g n k ok (sym (ap (slice_get g) at) ∙ w.2))
     here None p true q =
         let same : record { number = length g; graph = g ++ n ∷ [] } ≡ i = (let s : Some (record { number = length g; graph = g ++ n ∷ [] }) ≡ Some i = sym (rw (p, q) refl) ∙ h in cc) in
-        subst (IsPut g n) same (new-put g n ok few low p)
+        subst (IsPut g n) same (new-put g n ok few low p q)
     here None p false q = absurd (let s : None ≡ Some i = sym (rw (p, q) refl) ∙ h in cc)
+
+-- a node that is refused would be one more than 256
+pub record IsFull (g : Graph) (n : Node) : Type 0 where
+  pub full : most_terms ≤ length g
+  pub graph : IsGraph (g ++ n ∷ [])
+  pub last : term_at (g ++ n ∷ []) (length g) ≡ tree_over (trees g) n
+
+pub refused : (g : Graph) (n : Node) → IsGraph g → length n.inputs ≤ 3 → MentionsBelow n (length g) → interned g n ≡ None → IsFull g n
+refused g n ok few low h =
+    let r : IsNew g n × (most_terms ≤ length g) = refused-full g n h in
+    record { full = r.1; graph = graph-more g n ok few low r.0; last = last-tree g n }
