@@ -1,11 +1,11 @@
 -- A typed script is its trees, numbered.
-use Rattle.std.proofs.Common.{◌≡◌, ℕ, ◌<◌, ◌≤◌, nat_le, nat_lt, Bool, true, false, ◌||◌, cond, ◌⊎◌, List, [], ◌∷◌, ◌++◌, length, map, Option, Some, None, option_map, Result, Ok, Err, refl, sym, ap, subst, ◌∙◌, arith, inl, inr, bytes_eq}
+use Rattle.std.proofs.Common.{◌≡◌, ℕ, ◌<◌, ◌≤◌, nat_le, nat_lt, Bool, true, false, ◌||◌, ◌⊎◌, List, [], ◌∷◌, ◌++◌, length, map, Option, Some, None, option_map, Result, Ok, Err, refl, sym, ap, subst, ◌∙◌, arith, inl, inr, bytes_eq}
 use Rattle.std.specs.Prelude.{is_some, not, option_to_list}
 use Rattle.std.specs.Option.{option_or}
 use Rattle.std.specs.List.{list_any}
 use Rattle.std.proofs.lemmas.List.{length-map, map-append}
 use Rattle.pl_spec.specs.Limits.{most_columns}
-use Rattle.pl_spec.specs.Term.{Term, Graph, trees, term_at}
+use Rattle.pl_spec.specs.Term.{Term, Graph, term_at}
 use Rattle.pl_spec.specs.Table.{NamedColumn, Pipeline}
 use Rattle.pl_grammar.specs.declared.Place.{Place}
 use Rattle.pl_grammar.specs.Script.{Head, LetHead, ColumnHead, ScreenHead, Statement}
@@ -16,7 +16,6 @@ use Rattle.pl_check.specs.declared.fault.CheckFault.TheVariants.{TooManyTerms}
 use Rattle.pl_check.specs.Faults.{Broken, ◌>>=◌, or_fault}
 use Rattle.pl_check.specs.Values.{Value, Bars, Factor, Filter, Labels, Numbers, Number, Text}
 use Rattle.pl_check.specs.Operations.{function_named}
-use Rattle.pl_check.specs.Results.{term_in}
 use Rattle.pl_check.specs.Typed.{Terms, Found, found, Definition, bar_column, defined, is_storable, is_term_filter, term_of, require, is_taken, has_column, factor_value, stored, let_judged, column_judged, screen_judged, head_judged, statement_judged, statements_judged, worth, pipeline_of, ended, typed}
 use Rattle.pl_check.specs.Typed as typed
 use Rattle.pl_check.specs.Trees as by_tree

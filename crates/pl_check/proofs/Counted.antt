@@ -1,5 +1,5 @@
 -- Putting terms into the graph, and into the list of their trees.
-use Rattle.std.proofs.Common.{◌≡◌, ℕ, ℤ, ◌<◌, ◌≤◌, Bool, true, false, cond, ◌⊎◌, List, [], ◌∷◌, ◌++◌, length, map, Option, Some, None, option_map, slice_get, refl, sym, ap, subst, ◌∙◌, arith, inl, inr, append_assoc, append-nil, length-append}
+use Rattle.std.proofs.Common.{◌≡◌, ℕ, ℤ, ◌<◌, ◌≤◌, Bool, true, false, cond, ◌⊎◌, List, [], ◌∷◌, ◌++◌, length, map, Option, Some, None, option_map, refl, sym, ap, subst, ◌∙◌, arith, inl, inr, append_assoc, append-nil, length-append}
 use Rattle.std.specs.Prelude.{filter_map, option_to_list}
 use Rattle.std.specs.Option.{option_or}
 use Rattle.std.specs.List.{Contains, cons_option}
@@ -8,7 +8,7 @@ use Rattle.std.proofs.lemmas.List.{map-append}
 use Rattle.std.proofs.lemmas.List.Elements.{Contains-get_or, Contains-append_left, Contains-append_right, Contains-append_cases}
 use Rattle.pl_spec.proofs.Distinct.{one_tree}
 use Rattle.pl_spec.specs.Limits.{most_terms}
-use Rattle.pl_spec.specs.Term.{Term, absent, Input, TermInput, tree_at, Node, Graph, IsGraph, MentionsBelow, tree_over, trees, term_at}
+use Rattle.pl_spec.specs.Term.{Term, absent, TermInput, Node, Graph, IsGraph, MentionsBelow, tree_over, trees, term_at}
 use Rattle.pl_terms.specs.Nodes.{Interned, interned}
 use Rattle.pl_terms.proofs.Interning.{Later, later-same, later-still, later-more, length-trees, IsPut, put, IsFull, refused}
 use Rattle.pl_check.specs.declared.operation.Operation.{Operation}
@@ -23,8 +23,8 @@ use Rattle.pl_check.specs.Numbering.{AreFirsts, HasMany}
 use Rattle.pl_check.proofs.Extended.{many-later, IsOver}
 use Rattle.pl_check.proofs.Placing.{bind-some}
 use Rattle.pl_check.proofs.Few.{few-inputs}
-use Rattle.pl_check.proofs.Unnumbered.{unnumbered, bare, kind-bare, names-bare, result-bare}
-use Rattle.pl_check.proofs.Rooted.{tree_of, meaning_of, IsIn, AllIn, values, in-later, tree-later, all-later, trees-later, all-append, tree-for, node-mentions}
+use Rattle.pl_check.proofs.Unnumbered.{unnumbered, bare, names-bare, result-bare}
+use Rattle.pl_check.proofs.Rooted.{tree_of, meaning_of, IsIn, AllIn, values, all-later, trees-later, all-append, tree-for, node-mentions}
 
 -- ---- one tree more
 

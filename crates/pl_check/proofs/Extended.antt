@@ -1,5 +1,5 @@
 -- The trees of a script only grow: what is judged later comes last.
-use Rattle.std.proofs.Common.{◌≡◌, ℕ, ◌<◌, ◌≤◌, Bool, true, false, cond, ◌⊎◌, List, [], ◌∷◌, ◌++◌, length, map, Option, Some, None, Result, Ok, Err, refl, sym, ap, subst, ◌∙◌, arith, inl, inr, append_assoc, append-nil, length-append}
+use Rattle.std.proofs.Common.{◌≡◌, ℕ, Bool, true, false, cond, List, [], ◌∷◌, ◌++◌, length, map, Option, Some, None, Result, Ok, Err, refl, sym, ap, subst, ◌∙◌, append_assoc, append-nil}
 use Rattle.std.specs.Prelude.{filter_map, option_to_list, not, is_some, nat_le, nat_lt, bytes_eq}
 use Rattle.std.specs.Option.{option_or}
 use Rattle.std.specs.List.{list_any}
@@ -17,7 +17,7 @@ use Rattle.pl_check.specs.declared.fault.CheckFault.TheVariants.{UnknownName, Ba
 use Rattle.pl_check.specs.declared.operation.Operation.{Operation}
 use Rattle.pl_check.specs.Faults.{Broken, ◌>>=◌, or_fault, unless}
 use Rattle.pl_check.specs.Values.{Value, Bars, Factor, Filter, Labels, Numbers, Number, Text, Bound}
-use Rattle.pl_check.specs.Operations.{function_named, member_named, without_parentheses, operator, prefix_operator}
+use Rattle.pl_check.specs.Operations.{function_named, member_named, without_parentheses, operator}
 use Rattle.pl_check.specs.Rules.{form, broken}
 use Rattle.pl_check.specs.Typed.{require, is_storable, is_term_filter, bar_column, object_of, operands_of}
 use Rattle.pl_check.specs.Trees.{Meaning, Forest, After, after, with_trees, constant_of, factor_of, constant_in, settled, settled_trees, tree_for, Arguments, made, applied, called, prefixed, combined, member_of, method_of, Definition, meaning_named, with_argument, meaning, arguments, TreeColumn, Judged, is_taken, stored, let_judged, column_judged, screen_judged, head_judged, statement_judged, statements_judged, ended}

@@ -1,9 +1,9 @@
 -- A typed script follows its trees, expression by expression and statement by statement.
-use Rattle.std.proofs.Common.{◌≡◌, ℕ, ◌<◌, ◌≤◌, Bool, true, false, ◌||◌, cond, ◌⊎◌, List, [], ◌∷◌, ◌++◌, length, map, Option, Some, None, option_map, Result, Ok, Err, refl, sym, ap, subst, ◌∙◌, arith, inl, inr, append_assoc, append-nil, bytes_eq}
-use Rattle.std.specs.Prelude.{is_some, option_and_then, not}
-use Rattle.std.proofs.lemmas.List.{length-map, map-append}
+use Rattle.std.proofs.Common.{◌≡◌, ℕ, Bool, true, false, ◌||◌, cond, ◌⊎◌, List, [], ◌∷◌, ◌++◌, map, Option, Some, None, option_map, Result, Ok, Err, refl, sym, ap, subst, ◌∙◌, inl, inr, append_assoc, append-nil, bytes_eq}
+use Rattle.std.specs.Prelude.{is_some, option_and_then}
+use Rattle.std.proofs.lemmas.List.{map-append}
 use Rattle.pl_spec.specs.declared.Column.{Column}
-use Rattle.pl_spec.specs.Term.{Term, Graph, term_at}
+use Rattle.pl_spec.specs.Term.{Term, Graph}
 use Rattle.pl_grammar.specs.declared.Place.{Place}
 use Rattle.pl_grammar.specs.declared.PrefixSign.{PrefixSign}
 use Rattle.pl_grammar.specs.declared.PrefixSign.TheVariants.{Minus, Not}
@@ -39,7 +39,8 @@ of_arguments m = m.forest
 abbrev pub of_judged : by_tree.Judged → Forest
 of_judged j = j.forest
 
--- Where there is a value, the other has one that is its; a fault is the same, unless the other's trees are too many.
+-- Where there is a value, the other has one that is its; a fault is the same, unless the other's trees are
+-- too many.
 abbrev pub Agrees : {A B : Type 0} → (B → Forest) → (A → B → Type 0) → Result A Broken → Result B Broken → Type 0
 Agrees {A} {B} F R (Ok x) q = (y : B) × (q ≡ Ok y) × R x y
 Agrees {A} {B} F R (Err e) q = ((e.fault ≡ TooManyTerms) × ((y : B) → q ≡ Ok y → IsOver (F y))) ⊎ (q ≡ Err e)

@@ -1,11 +1,11 @@
 -- What values and nodes of a graph are as trees.
-use Rattle.std.proofs.Common.{◌≡◌, ℕ, ℤ, zero, suc, ◌<◌, ◌≤◌, Bool, true, false, cond, List, [], ◌∷◌, ◌++◌, length, map, Option, Some, None, option_map, slice_get, get_or, refl, sym, ap, subst, ◌∙◌, arith}
+use Rattle.std.proofs.Common.{◌≡◌, ℕ, zero, suc, ◌<◌, ◌≤◌, Bool, true, false, cond, List, [], ◌∷◌, ◌++◌, length, map, Option, Some, None, option_map, slice_get, get_or, refl, sym, ap, subst, ◌∙◌, arith}
 use Rattle.std.specs.Prelude.{filter_map, option_and_then}
 use Rattle.std.specs.List.{cons_option}
 use Rattle.std.proofs.lemmas.List.{map-append}
 use Rattle.pl_spec.specs.declared.Column.{Column}
 use Rattle.pl_spec.specs.Kind.{Kind}
-use Rattle.pl_spec.specs.Term.{Term, absent, column, node, Input, BarColumn, TermInput, Node, Graph, MentionsBelow, input_tree, number_tree, tree_over, trees, term_at}
+use Rattle.pl_spec.specs.Term.{Term, absent, column, node, Input, BarColumn, TermInput, Graph, MentionsBelow, input_tree, number_tree, tree_over, trees, term_at}
 use Rattle.pl_terms.proofs.Interning.{Later}
 use Rattle.pl_check.specs.declared.operation.Operation.{Operation}
 use Rattle.pl_check.specs.declared.operation.Parameter.{Parameter}
@@ -13,7 +13,7 @@ use Rattle.pl_check.specs.declared.operation.Parameter.TheVariants.{Mask, Groupb
 use Rattle.pl_check.specs.Parameters.{same_parameter}
 use Rattle.pl_check.specs.Values.{Value, Bars, Factor, Filter, Labels, Numbers, Number, Text, Bound, given}
 use Rattle.pl_check.specs.Operations.{parameters}
-use Rattle.pl_check.specs.Results.{kind_for, columns_of, term_in, input_in, gives_input, input_for, inputs_for, term_given, window_for, node_for}
+use Rattle.pl_check.specs.Results.{columns_of, term_in, input_in, gives_input, input_for, inputs_for, term_given, node_for}
 use Rattle.pl_check.specs.Trees.{Meaning, tree_given, read_in, input_given, inputs_given, or_absent, tree_for}
 use Rattle.pl_check.proofs.Unnumbered.{unnumbered, bare, given-is, given-bare, kind-bare, window-for-bare}
 

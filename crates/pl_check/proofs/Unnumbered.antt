@@ -1,5 +1,5 @@
 -- Rules, kinds, windows and sorts look at no number of a term.
-use Rattle.std.proofs.Common.{◌≡◌, ℕ, ℤ, Bool, true, false, ◌&&◌, ◌||◌, cond, List, [], ◌∷◌, ◌++◌, length, map, Option, Some, None, option_map, pos, refl, sym, ap, ◌∙◌}
+use Rattle.std.proofs.Common.{◌≡◌, ℕ, ℤ, Bool, true, false, ◌&&◌, ◌||◌, cond, List, [], ◌∷◌, ◌++◌, map, Option, Some, None, option_map, pos, refl, sym, ap, ◌∙◌}
 use Rattle.std.specs.Prelude.{filter, is_some, option_and_then}
 use Rattle.std.specs.List.{list_all}
 use Rattle.std.proofs.lemmas.List.{length-map, map-append}
@@ -12,10 +12,10 @@ use Rattle.pl_check.specs.declared.operation.Operation.TheVariants as op
 use Rattle.pl_check.specs.declared.operation.Parameter.{Parameter}
 use Rattle.pl_check.specs.declared.operation.Parameter.TheVariants as parameter
 use Rattle.pl_check.specs.Parameters.{same_parameter, is_optional}
-use Rattle.pl_check.specs.Values.{Value, Bars, Factor, Filter, Labels, Numbers, Number, Text, Bound, bound, is_safe, number_in, text_in, given}
+use Rattle.pl_check.specs.Values.{Value, Factor, Filter, Labels, Numbers, Bound, bound, is_safe, number_in, text_in, given}
 use Rattle.pl_check.specs.Operations.{parameters, equal_to, unequal_to, operator}
 use Rattle.pl_check.specs.Rules.{Written, place_at, named_in, is_given, unless_given, parameter_of, has_all, form, takes, is_whole, is_percent, number_given, is_within, is_window, is_safe_for, each, broken}
-use Rattle.pl_check.specs.Results.{whole, whole_given, percent_given, text_given, values_given, method_of, order_of, frequency_of, with_sid, sorted_sids, name_number, with_name, kind_for, names_after, window_without, window_for, all_safe, like, result_for}
+use Rattle.pl_check.specs.Results.{whole, percent_given, text_given, values_given, method_of, order_of, frequency_of, with_sid, sorted_sids, name_number, with_name, kind_for, names_after, window_without, window_for, all_safe, like, result_for}
 use Rattle.pl_check.specs.Typed.{first_of, object_of, second_of, operands_of, is_storable, is_term_filter}
 
 -- a value whose term has the number 0

@@ -1,5 +1,5 @@
 -- How the numbers of a typed script follow from its trees.
-use Rattle.std.specs.Prelude.{◌≡◌, ◌≢◌, ◌<◌, ◌≤◌, ◌⊎◌, ℕ, List, [], ◌∷◌, ◌++◌, length, map, option_map, Ok, Err}
+use Rattle.std.specs.Prelude.{◌≡◌, ◌<◌, ◌≤◌, ◌⊎◌, ℕ, List, [], ◌∷◌, ◌++◌, length, map, option_map, Ok, Err}
 use Rattle.std.specs.List.{Contains}
 use Rattle.pl_spec.specs.Limits.{most_terms}
 use Rattle.pl_spec.specs.Term.{Term, Graph, tree_at, trees, term_at}

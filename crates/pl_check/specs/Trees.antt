@@ -1,6 +1,6 @@
 -- What a script means without numbers: the tree of each expression, and the trees of all terms of the script
 -- in the order of judging, equal ones too. Kinds, windows and rules are those of the typed script.
-use Rattle.std.specs.Prelude.{◌≡◌, ℕ, nat_le, nat_lt, Bool, true, false, ◌||◌, not, if◌then◌else◌, ℤ, List, [], ◌∷◌, ◌++◌, length, map, filter_map, Option, Some, None, is_some, option_and_then, option_to_list, bytes_eq, Result, Ok, Err, get_or}
+use Rattle.std.specs.Prelude.{ℕ, nat_le, nat_lt, Bool, true, false, ◌||◌, not, if◌then◌else◌, ℤ, List, [], ◌∷◌, ◌++◌, length, map, filter_map, Option, Some, None, is_some, option_and_then, option_to_list, bytes_eq, Result, Ok, Err, get_or}
 use Rattle.std.specs.Option.{option_or}
 use Rattle.std.specs.List.{list_any}
 use lib.IntN.{neg_ℤ}
@@ -55,6 +55,9 @@ with_trees s ts = record { trees = s.trees ++ ts; names = s.names }
 
 -- ---- constants
 
+-- What an operation is given is a list of parameters with their values, and another of the values' trees, in
+-- the same order.
+
 -- the tree of a number
 abbrev pub constant_tree : ℤ → Term
 constant_tree n = node (Constant n) 1 absent absent absent absent absent
@@ -71,6 +74,7 @@ factor_of v = v
 abbrev pub constant_in : Bound → Option Term
 constant_in b = if asks_factor b.parameter then constant_of b.value else None
 
+-- what is given then, and its tree
 abbrev pub settled : Bound → Bound
 settled b = if asks_factor b.parameter then bound b.parameter (factor_of b.value) else b
 
@@ -105,10 +109,12 @@ abbrev pub tree_over_inputs : Kind → ℕ → List Term → Option Term → Opt
 tree_over_inputs k window is mask group =
     node k window (get_or is 0 absent) (get_or is 1 absent) (get_or is 2 absent) (or_absent mask) (or_absent group)
 
+-- the operation's kind and window over its inputs, its mask and its group
 unfoldable pub tree_for : Operation → List Bound → List (Option Term) → List (List ℕ) → Term
 tree_for op bs ts names =
     tree_over_inputs (kind_for op bs names) (window_for op bs) (inputs_given op bs ts) (tree_given bs ts Mask) (tree_given bs ts Groupby)
 
+-- its tree comes last
 abbrev pub with_node : Operation → List Bound → List (Option Term) → Forest → After Meaning
 with_node op bs ts s =
     after (record { value = result_for op bs 0; tree = Some (tree_for op bs ts s.names) })
@@ -244,7 +250,7 @@ unfoldable pub statements_judged : ℕ → Judged → List Statement → Result 
 statements_judged v j [] = Ok j
 statements_judged v j (s ∷ ss) = statement_judged v j s >>= λ k. statements_judged v k ss
 
--- at the end of the file a column has to stand
+-- at the end of the file there has to be a column
 abbrev pub ended : Place → Judged → Result Judged Broken
 ended p j = require (nat_le 1 (length j.columns)) NoColumn p (Ok j)
 

@@ -4,6 +4,9 @@ use Rattle.std.proofs.lemmas.Bool.Decides.{nat_tests}
 use Rattle.pl_spec.specs.Limits.{most_terms}
 use Rattle.pl_spec.specs.Term.{Graph, Node}
 use Rattle.pl_terms.specs.Nodes.{same_node, place_from, interned}
+use Rattle.std.specs.Prelude.{Result, Ok, Err}
+use Rattle.pl_terms.specs.declared.graph.GraphError.{GraphError}
+use Rattle.pl_terms.specs.declared.graph.GraphError.TheVariants.{Full, Memory}
 use Rattle.pl_terms.specs.Laws.{IsFirstAt, IsNew, OldNodesStay, NewNodesFollow}
 use Rattle.pl_terms.proofs.Same.{node-same, node-only}
 use Rattle.pl_terms.proofs.Shared.{not-there, place-is, kept}
@@ -56,3 +59,23 @@ refused-full g n h = here (place_from 0 g n) refl (nat_lt (length g) most_terms)
     here (Some k) p b q = absurd (let no : Some (record { number = k; graph = g }) ≡ None = sym (rw p refl) ∙ h in cc)
     here None p true q = absurd (let no : Some (record { number = length g; graph = g ++ n ∷ [] }) ≡ None = sym (rw (p, q) refl) ∙ h in cc)
     here None p false q = (λ k e. not-there 0 g n p k e, grind (arith, nat_tests))
+
+-- ---- what is full
+
+abbrev err : {A : Type 0} → GraphError → Result A GraphError
+err e = Err e
+
+pub ok-not-full : {A : Type 0} (x : A) (e : GraphError) → Ok x ≡ Err e → ⊥
+ok-not-full x e h = (let no : Ok x ≡ Err e = h in cc)
+
+err-one : {A : Type 0} (x y : GraphError) → err {A = A} x ≡ err {A = A} y → x ≡ y
+err-one x y h = cc
+
+pub memory-not-full : {A : Type 0} → err {A = A} Memory ≡ err {A = A} Full → ⊥
+memory-not-full h = (let no : Memory ≡ Full = err-one Memory Full h in cc)
+
+pub fresh-new : (g : Graph) (n : Node) → place_from 0 g n ≡ None → IsNew g n
+fresh-new g n h k e = not-there 0 g n h k e
+
+pub there-old : (g : Graph) (n : Node) (k : ℕ) → place_from 0 g n ≡ Some k → IsNew g n → ⊥
+there-old g n k h new = let w = place-is 0 g n k h in new w.0 w.2
