@@ -1,6 +1,5 @@
-use Rattle.std.proofs.Common.{◌≡◌, ◌<◌, ◌∙◌, Option, Some, None, IfSome, IfNone, sym, subst, rules, arith}
+use Rattle.std.proofs.Common.{◌≡◌, ◌<◌, ◌∙◌, IfSome, IfNone, sym, subst, rules, arith}
 use Rattle.std.proofs.lemmas.Option.{slice_get_within}
-use Rattle.pl_terms.specs.Nodes.{graph_of}
 use Rattle.pl_terms.specs.Kinds.{kind_of}
 use Rattle.pl_spec.specs.Kind.{Kind}
 use Rattle.pl_spec.specs.Rounding.{MISSING}

@@ -1,0 +1,361 @@
+-- A typed script follows its trees, expression by expression and statement by statement.
+use Rattle.std.proofs.Common.{◌≡◌, ℕ, Bool, true, false, ◌||◌, cond, ◌⊎◌, List, [], ◌∷◌, ◌++◌, map, Option, Some, None, option_map, Result, Ok, Err, refl, sym, ap, subst, ◌∙◌, inl, inr, append_assoc, append-nil, bytes_eq}
+use Rattle.std.specs.Prelude.{is_some, option_and_then}
+use Rattle.std.proofs.lemmas.List.{map-append}
+use Rattle.pl_spec.specs.declared.Column.{Column}
+use Rattle.pl_spec.specs.Term.{Term, Graph}
+use Rattle.pl_grammar.specs.declared.Place.{Place}
+use Rattle.pl_grammar.specs.declared.PrefixSign.{PrefixSign}
+use Rattle.pl_grammar.specs.declared.PrefixSign.TheVariants.{Minus, Not}
+use Rattle.pl_grammar.specs.declared.BinarySign.{BinarySign}
+use Rattle.pl_grammar.specs.declared.BinarySign.TheVariants as signs
+use Rattle.pl_grammar.specs.Tree.{Tree, number, text, name, call, prefix, binary, member, method, Args, no_args, arg}
+use Rattle.pl_terms.proofs.Interning.{Later, later-same, later-still}
+use Rattle.pl_check.specs.declared.fault.CheckFault.{CheckFault}
+use Rattle.pl_check.specs.declared.fault.CheckFault.TheVariants.{UnknownName, BadArgument, TooManyTerms}
+use Rattle.pl_check.specs.declared.operation.Operation.{Operation}
+use Rattle.pl_check.specs.declared.operation.Operation.TheVariants as op
+use Rattle.pl_check.specs.declared.operation.Parameter.{Parameter}
+use Rattle.pl_check.specs.Faults.{Broken, ◌>>=◌, or_fault, unless}
+use Rattle.pl_check.specs.Values.{Value, Bars, Factor, Filter, Labels, Numbers, Number, Text, Bound, bound}
+use Rattle.pl_check.specs.Operations.{function_named, member_named, without_parentheses, operator, equal_to, unequal_to, prefix_operator, parameters}
+use Rattle.pl_check.specs.Rules.{Written, parameter_of, has_all, form, broken}
+use Rattle.pl_check.specs.Typed.{Terms, Found, found, Definition, bar_column, defined, value_named, made, applied, called, object_of, prefixed, operands_of, combined, member_of, method_of, written, worth, args_worth}
+use Rattle.pl_check.specs.Typed as typed
+use Rattle.pl_check.specs.Trees as by_tree
+use Rattle.pl_check.specs.Trees.{Meaning, plain, Forest, After, after, Arguments, meaning_named, with_argument, meaning, arguments}
+use Rattle.pl_check.proofs.Unnumbered.{unnumbered, bare, bare_written, broken-bare, form-bare, object-bare, operands-bare, operator-bare}
+use Rattle.pl_check.proofs.Rooted.{tree_of, meaning_of, IsIn, AllIn, values, in-later, tree-later, all-later, trees-later, all-append}
+use Rattle.pl_check.proofs.Walk.{then-ok}
+use Rattle.pl_check.proofs.Extended.{Extends, IsOver, over-later, extends-further, called-extends, prefixed-extends, combined-extends, member-extends, method-extends, meaning-extends, arguments-extends}
+use Rattle.pl_check.proofs.Counted.{Same, Means, made-means, made-over}
+
+abbrev pub of_meaning : After Meaning → Forest
+of_meaning m = m.forest
+
+abbrev pub of_arguments : After Arguments → Forest
+of_arguments m = m.forest
+
+abbrev pub of_judged : by_tree.Judged → Forest
+of_judged j = j.forest
+
+-- Where there is a value, the other has one that is its; a fault is the same, unless the other's trees are
+-- too many.
+abbrev pub Agrees : {A B : Type 0} → (B → Forest) → (A → B → Type 0) → Result A Broken → Result B Broken → Type 0
+Agrees {A} {B} F R (Ok x) q = (y : B) × (q ≡ Ok y) × R x y
+Agrees {A} {B} F R (Err e) q = ((e.fault ≡ TooManyTerms) × ((y : B) → q ≡ Ok y → IsOver (F y))) ⊎ (q ≡ Err e)
+
+pub then-agrees : {A B C D : Type 0} (F : B → Forest) (G : D → Forest) (R : A → B → Type 0) (S : C → D → Type 0) (r : Result A Broken) (q : Result B Broken) (f : A → Result C Broken) (g : B → Result D Broken)
+    → Agrees F R r q → ((x : A) (y : B) → R x y → Agrees G S (f x) (g y)) → ((y : B) (z : D) → g y ≡ Ok z → Extends (F y) (G z)) → Agrees G S (r >>= f) (q >>= g)
+then-agrees F G R S (Ok x) q f g h k l = subst (λ z. Agrees G S (f x) (z >>= g)) (sym h.1) (k x h.0 h.2)
+then-agrees F G R S (Err e) q f g (inl t) k l = inl (t.0, λ z h. let x = then-ok q g z h in over-later (F x.0) (G z) (l x.0 z x.2) (t.1 x.0 x.1))
+then-agrees F G R S (Err e) q f g (inr s) k l = inr (ap (λ z. z >>= g) s)
+
+-- the same thing is looked up
+looked-agrees : {A C D : Type 0} (G : D → Forest) (S : C → D → Type 0) (k : CheckFault) (p : Place) (o : Option A) (f : A → Result C Broken) (g : A → Result D Broken)
+    → ((x : A) → Agrees G S (f x) (g x)) → Agrees G S (or_fault k p o >>= f) (or_fault k p o >>= g)
+looked-agrees G S k p None f g h = inr refl
+looked-agrees G S k p (Some x) f g h = h x
+
+pub weaker : {A B : Type 0} (F : B → Forest) (R S : A → B → Type 0) (r : Result A Broken) (q : Result B Broken) → ((x : A) (y : B) → R x y → S x y) → Agrees F R r q → Agrees F S r q
+weaker F R S (Ok x) q h a = (a.0, a.1, h x a.0 a.2)
+weaker F R S (Err e) q h a = a
+
+means-behind : (s t : Terms) (r : Found Value) (m : After Meaning) → Later s.graph t.graph → Means t r m → Means s r m
+means-behind s t r m l k = record { later = later-still s.graph t.graph r.terms.graph l k.later; inside = k.inside; is = k.is; same = k.same }
+
+behind : (s t : Terms) (r : Result (Found Value) Broken) (q : Result (After Meaning) Broken) → Later s.graph t.graph → Agrees of_meaning (Means t) r q → Agrees of_meaning (Means s) r q
+behind s t r q l a = weaker of_meaning (Means t) (Means s) r q (λ x y k. means-behind s t x y l k) a
+
+found-means : (s : Terms) (f : Forest) (v : Value) (m : Meaning) → Same s f → IsIn s.graph v → m ≡ meaning_of s.graph v → Means s (found v s) (after m f)
+found-means s f v m w i e = record { later = later-same s.graph; inside = i; is = e; same = w }
+
+-- ---- operations
+
+applied-agrees : (p : Place) (o : Operation) (bs : List Bound) (s : Terms) (f : Forest) → Same s f → AllIn s.graph (values bs)
+    → Agrees of_meaning (Means s) (applied p o bs s) (by_tree.applied p o (map bare bs) (map (tree_of s.graph) (values bs)) f)
+unfolding applied by_tree.applied
+applied-agrees p o bs s f w i =
+    subst (λ c. Agrees of_meaning (Means s) (unless (broken bs) p (or_fault TooManyTerms p (made o bs s))) (unless c p (Ok tree))) (sym (broken-bare bs)) (here (broken bs))
+  where
+    tree : After Meaning
+    tree = by_tree.made o (map bare bs) (map (tree_of s.graph) (values bs)) f
+
+    one : (r : Option (Found Value)) → made o bs s ≡ r → Agrees of_meaning (Means s) (or_fault TooManyTerms p r) (Ok tree)
+    one None e = inl (refl, λ y q. subst (λ (x : After Meaning). IsOver x.forest) (let z : tree ≡ y = (let h : Ok tree ≡ Ok y = q in cc) in z) (made-over o bs s f w i e))
+    one (Some r) e = (tree, refl, made-means o bs s f r w i e)
+
+    here : (c : Option CheckFault) → Agrees of_meaning (Means s) (unless c p (or_fault TooManyTerms p (made o bs s))) (unless c p (Ok tree))
+    here (Some k) = inr refl
+    here None = one (made o bs s) refl
+
+-- what arguments are worth
+abbrev pub worths : List Written → List Value
+worths ws = map (λ w. w.value) ws
+
+abbrev pub arguments_of : Graph → List Written → Arguments
+arguments_of g ws = record { written = map bare_written ws; trees = map (tree_of g) (worths ws) }
+
+form-values : (o : Operation) (n : Bool) (bs : List Bound) (ws : List Written) (r : List Bound) → form o n bs ws ≡ Some r → values r ≡ values bs ++ worths ws
+unfolding form
+form-values o n bs [] r h = here (has_all o bs) h
+  where
+    here : (a : Bool) → cond a (Some bs) None ≡ Some r → values r ≡ values bs ++ []
+    here true e = (let q : bs ≡ r = (let s : Some bs ≡ Some r = e in cc) in ap values (sym q)) ∙ sym (append-nil (values bs))
+    here false e = absurd (let no : None ≡ Some r = e in cc)
+form-values o n bs (w ∷ ws) r h =
+    here (parameter_of o n bs w.name) h (λ p e. form-values o (n || is_some w.name) (bs ++ bound p w.value ∷ []) ws r e ∙ ap (λ vs. vs ++ worths ws) (map-append (λ (b : Bound). b.value) bs (bound p w.value ∷ [])) ∙ append_assoc (values bs) (w.value ∷ []) (worths ws))
+  where
+    here : (q : Option Parameter) → option_and_then (λ p. form o (n || is_some w.name) (bs ++ bound p w.value ∷ []) ws) q ≡ Some r
+        → ((p : Parameter) → form o (n || is_some w.name) (bs ++ bound p w.value ∷ []) ws ≡ Some r → values r ≡ values bs ++ w.value ∷ worths ws) → values r ≡ values bs ++ w.value ∷ worths ws
+    here None e k = absurd (let no : None ≡ Some r = e in cc)
+    here (Some p) e k = k p e
+
+called-agrees : (p : Place) (o : Operation) (object : List Bound) (ws : List Written) (s : Terms) (f : Forest) → Same s f → AllIn s.graph (values object) → AllIn s.graph (worths ws)
+    → Agrees of_meaning (Means s) (called p o object ws s) (by_tree.called p o (map bare object) (map (tree_of s.graph) (values object)) (arguments_of s.graph ws) f)
+unfolding called by_tree.called
+called-agrees p o object ws s f w i k =
+    subst (λ c. Agrees of_meaning (Means s) (or_fault BadArgument p (form o false object ws) >>= λ bs. applied p o bs s) (or_fault BadArgument p c >>= λ bs. by_tree.applied p o bs ts f)) (sym (form-bare o false object ws)) (here (form o false object ws) refl)
+  where
+    ts : List (Option Term)
+    ts = map (tree_of s.graph) (values object) ++ map (tree_of s.graph) (worths ws)
+
+    here : (c : Option (List Bound)) → form o false object ws ≡ c → Agrees of_meaning (Means s) (or_fault BadArgument p c >>= λ bs. applied p o bs s) (or_fault BadArgument p (option_map (map bare) c) >>= λ bs. by_tree.applied p o bs ts f)
+    here None e = inr refl
+    here (Some bs) e =
+        let split : values bs ≡ values object ++ worths ws = form-values o false object ws bs e in
+        let all : map (tree_of s.graph) (values bs) ≡ ts = ap (map (tree_of s.graph)) split ∙ map-append (tree_of s.graph) (values object) (worths ws) in
+        subst (λ us. Agrees of_meaning (Means s) (applied p o bs s) (by_tree.applied p o (map bare bs) us f)) all
+        (applied-agrees p o bs s f w (subst (AllIn s.graph) (sym split) (all-append s.graph (values object) (worths ws) i k)))
+
+-- ---- objects and operands
+
+object-value : (o : Operation) (v : Value) → values (object_of o v) ≡ v ∷ []
+unfolding object_of parameters
+object-value op.All v = refl
+object-value o v = refl
+
+object-in : (g : Graph) (o : Operation) (v : Value) → IsIn g v → AllIn g (values (object_of o v))
+object-in g o v i = subst (AllIn g) (sym (object-value o v)) (i, tt)
+
+object-agrees : (p : Place) (o : Operation) (v : Value) (s : Terms) (f : Forest) → Same s f → IsIn s.graph v
+    → Agrees of_meaning (Means s) (applied p o (object_of o v) s) (by_tree.applied p o (object_of o (unnumbered v)) (tree_of s.graph v ∷ []) f)
+object-agrees p o v s f w i =
+    subst (λ bs. Agrees of_meaning (Means s) (applied p o (object_of o v) s) (by_tree.applied p o bs (tree_of s.graph v ∷ []) f)) (sym (object-bare o v))
+    (subst (λ vs. Agrees of_meaning (Means s) (applied p o (object_of o v) s) (by_tree.applied p o (map bare (object_of o v)) (map (tree_of s.graph) vs) f)) (object-value o v)
+    (applied-agrees p o (object_of o v) s f w (object-in s.graph o v i)))
+
+prefixed-agrees : (p : Place) (sign : PrefixSign) (v : Value) (s : Terms) (f : Forest) → Same s f → IsIn s.graph v → Agrees of_meaning (Means s) (prefixed p sign v s) (by_tree.prefixed p sign (unnumbered v) (tree_of s.graph v) f)
+unfolding prefixed by_tree.prefixed
+prefixed-agrees p Minus (Number n) s f w i = (_, refl, found-means s f _ _ w (λ k e. absurd (let no : None ≡ Some k = e in cc)) refl)
+prefixed-agrees p Minus (Bars c) s f w i = object-agrees p (prefix_operator Minus) (Bars c) s f w i
+prefixed-agrees p Minus (Factor t x) s f w i = object-agrees p (prefix_operator Minus) (Factor t x) s f w i
+prefixed-agrees p Minus (Filter t) s f w i = object-agrees p (prefix_operator Minus) (Filter t) s f w i
+prefixed-agrees p Minus (Labels t) s f w i = object-agrees p (prefix_operator Minus) (Labels t) s f w i
+prefixed-agrees p Minus (Numbers t) s f w i = object-agrees p (prefix_operator Minus) (Numbers t) s f w i
+prefixed-agrees p Minus (Text t) s f w i = object-agrees p (prefix_operator Minus) (Text t) s f w i
+prefixed-agrees p Not v s f w i = object-agrees p (prefix_operator Not) v s f w i
+
+equal-values : (x v w : Value) → values (operands_of (equal_to x) v w) ≡ v ∷ w ∷ []
+unfolding object_of parameters
+equal-values (Labels t) v w = refl
+equal-values (Numbers t) v w = refl
+equal-values x v w = refl
+
+unequal-values : (x v w : Value) → values (operands_of (unequal_to x) v w) ≡ v ∷ w ∷ []
+unfolding object_of parameters
+unequal-values (Labels t) v w = refl
+unequal-values (Numbers t) v w = refl
+unequal-values x v w = refl
+
+operands-values : (sign : BinarySign) (x v w : Value) → values (operands_of (operator sign x) v w) ≡ v ∷ w ∷ []
+unfolding object_of parameters
+operands-values signs.Equal x v w = equal-values x v w
+operands-values signs.NotEqual x v w = unequal-values x v w
+operands-values sign x v w = refl
+
+combined-agrees : (p : Place) (sign : BinarySign) (v x : Value) (s : Terms) (f : Forest) → Same s f → IsIn s.graph v → IsIn s.graph x
+    → Agrees of_meaning (Means s) (combined p sign v x s) (by_tree.combined p sign (meaning_of s.graph v) (meaning_of s.graph x) f)
+unfolding combined by_tree.combined
+combined-agrees p sign v x s f w i k =
+    let o = operator sign v in
+    let all = operands-values sign v v x in
+    subst (λ z. Agrees of_meaning (Means s) (applied p o (operands_of o v x) s) (by_tree.applied p z (operands_of z (unnumbered v) (unnumbered x)) (tree_of s.graph v ∷ tree_of s.graph x ∷ []) f)) (sym (operator-bare sign v))
+    (subst (λ bs. Agrees of_meaning (Means s) (applied p o (operands_of o v x) s) (by_tree.applied p o bs (tree_of s.graph v ∷ tree_of s.graph x ∷ []) f)) (sym (operands-bare o v x))
+    (subst (λ vs. Agrees of_meaning (Means s) (applied p o (operands_of o v x) s) (by_tree.applied p o (map bare (operands_of o v x)) (map (tree_of s.graph) vs) f)) all
+    (applied-agrees p o (operands_of o v x) s f w (subst (AllIn s.graph) (sym all) (i, (k, tt))))))
+
+member-agrees : (p : Place) (v : Value) (s : Terms) (f : Forest) (o : Operation) → Same s f → IsIn s.graph v → Agrees of_meaning (Means s) (member_of p v s o) (by_tree.member_of p (meaning_of s.graph v) f o)
+member-agrees p v s f o w i = here (without_parentheses o)
+  where
+    here : (a : Bool) → Agrees of_meaning (Means s) (cond a (applied p o (object_of o v) s) (Err (record { fault = BadArgument; place = p })))
+        (cond a (by_tree.applied p o (object_of o (unnumbered v)) (tree_of s.graph v ∷ []) f) (Err (record { fault = BadArgument; place = p })))
+    here true = object-agrees p o v s f w i
+    here false = inr refl
+
+method-agrees : (p : Place) (v : Value) (ws : List Written) (s : Terms) (f : Forest) (o : Operation) → Same s f → IsIn s.graph v → AllIn s.graph (worths ws)
+    → Agrees of_meaning (Means s) (method_of p v ws s o) (by_tree.method_of p (meaning_of s.graph v) (arguments_of s.graph ws) f o)
+method-agrees p v ws s f o w i k = here (without_parentheses o)
+  where
+    inside : Agrees of_meaning (Means s) (called p o (object_of o v) ws s) (by_tree.called p o (object_of o (unnumbered v)) (tree_of s.graph v ∷ []) (arguments_of s.graph ws) f)
+    inside =
+        subst (λ bs. Agrees of_meaning (Means s) (called p o (object_of o v) ws s) (by_tree.called p o bs (tree_of s.graph v ∷ []) (arguments_of s.graph ws) f)) (sym (object-bare o v))
+        (subst (λ vs. Agrees of_meaning (Means s) (called p o (object_of o v) ws s) (by_tree.called p o (map bare (object_of o v)) (map (tree_of s.graph) vs) (arguments_of s.graph ws) f)) (object-value o v)
+        (called-agrees p o (object_of o v) ws s f w (object-in s.graph o v i) k))
+
+    here : (a : Bool) → Agrees of_meaning (Means s) (cond a (Err (record { fault = BadArgument; place = p })) (called p o (object_of o v) ws s))
+        (cond a (Err (record { fault = BadArgument; place = p })) (by_tree.called p o (object_of o (unnumbered v)) (tree_of s.graph v ∷ []) (arguments_of s.graph ws) f))
+    here true = inr refl
+    here false = inside
+
+-- ---- names
+
+-- definitions, and what they mean
+abbrev pub AreMeant : Graph → List Definition → List by_tree.Definition → Type 0
+AreMeant g [] [] = Unit {0}
+AreMeant g (d ∷ ds) (e ∷ es) = (e.name ≡ d.name) × IsIn g d.value × (e.meaning ≡ meaning_of g d.value) × AreMeant g ds es
+AreMeant g ds es = ⊥
+
+meaning-later : (g h : Graph) (v : Value) → Later g h → IsIn g v → meaning_of g v ≡ meaning_of h v
+meaning-later g h v l i = ap (λ t. record { value = unnumbered v; tree = t }) (sym (tree-later g h v l i))
+
+pub meant-later : (g h : Graph) (ds : List Definition) (es : List by_tree.Definition) → Later g h → AreMeant g ds es → AreMeant h ds es
+meant-later g h [] [] l a = tt
+meant-later g h [] (e ∷ es) l a = absurd a
+meant-later g h (d ∷ ds) [] l a = absurd a
+meant-later g h (d ∷ ds) (e ∷ es) l a = (a.0, in-later g h d.value l a.1, a.2 ∙ meaning-later g h d.value l a.1, meant-later g h ds es l a.3)
+
+pub defined-is : (g : Graph) (ds : List Definition) (es : List by_tree.Definition) (n : List ℕ) → AreMeant g ds es → by_tree.defined es n ≡ option_map (meaning_of g) (defined ds n)
+unfolding defined by_tree.defined
+defined-is g [] [] n a = refl
+defined-is g [] (e ∷ es) n a = absurd a
+defined-is g (d ∷ ds) [] n a = absurd a
+defined-is g (d ∷ ds) (e ∷ es) n a =
+    ap (λ k. cond (bytes_eq n k) (Some e.meaning) (by_tree.defined es n)) a.0 ∙ ap (λ m. cond (bytes_eq n d.name) (Some m) (by_tree.defined es n)) a.2 ∙ here (bytes_eq n d.name) (defined-is g ds es n a.3)
+  where
+    here : (b : Bool) → by_tree.defined es n ≡ option_map (meaning_of g) (defined ds n) → cond b (Some (meaning_of g d.value)) (by_tree.defined es n) ≡ option_map (meaning_of g) (cond b (Some d.value) (defined ds n))
+    here true k = refl
+    here false k = k
+
+defined-in : (g : Graph) (ds : List Definition) (es : List by_tree.Definition) (n : List ℕ) (v : Value) → AreMeant g ds es → defined ds n ≡ Some v → IsIn g v
+unfolding defined
+defined-in g [] [] n v a h = absurd (let no : None ≡ Some v = h in cc)
+defined-in g [] (e ∷ es) n v a h = absurd a
+defined-in g (d ∷ ds) [] n v a h = absurd a
+defined-in g (d ∷ ds) (e ∷ es) n v a h = here (bytes_eq n d.name) h (defined-in g ds es n v a.3)
+  where
+    here : (b : Bool) → cond b (Some d.value) (defined ds n) ≡ Some v → (defined ds n ≡ Some v → IsIn g v) → IsIn g v
+    here true e k = subst (IsIn g) (let s : Some d.value ≡ Some v = e in let q : d.value ≡ v = cc in q) a.1
+    here false e k = k e
+
+named-agrees : (p : Place) (ds : List Definition) (es : List by_tree.Definition) (n : List ℕ) (s : Terms) (f : Forest) → Same s f → AreMeant s.graph ds es
+    → Agrees of_meaning (Means s) (or_fault UnknownName p (value_named ds n) >>= λ x. Ok (found x s)) (or_fault UnknownName p (meaning_named es n (bar_column n)) >>= λ m. Ok (after m f))
+named-agrees p ds es n s f w a = here (bar_column n)
+  where
+    inner : (o : Option Value) → defined ds n ≡ o → Agrees of_meaning (Means s) (or_fault UnknownName p o >>= λ x. Ok (found x s)) (or_fault UnknownName p (option_map (meaning_of s.graph) o) >>= λ m. Ok (after m f))
+    inner None e = inr refl
+    inner (Some v) e = (_, refl, found-means s f v _ w (defined-in s.graph ds es n v a e) refl)
+
+    here : (c : Option Column) → Agrees of_meaning (Means s) (or_fault UnknownName p (typed.meant ds n c) >>= λ x. Ok (found x s)) (or_fault UnknownName p (meaning_named es n c) >>= λ m. Ok (after m f))
+    here (Some c) = (_, refl, found-means s f (Bars c) _ w (λ k e. absurd (let no : None ≡ Some k = e in cc)) refl)
+    here None = subst (λ o. Agrees of_meaning (Means s) (or_fault UnknownName p (defined ds n) >>= λ x. Ok (found x s)) (or_fault UnknownName p o >>= λ m. Ok (after m f))) (sym (defined-is s.graph ds es n a)) (inner (defined ds n) refl)
+
+-- ---- expressions
+
+-- arguments, and their trees
+pub record MeanAll (s : Terms) (r : Found (List Written)) (m : After Arguments) : Type 0 where
+  pub later : Later s.graph r.terms.graph
+  pub inside : AllIn r.terms.graph (worths r.value)
+  pub is : m.value ≡ arguments_of r.terms.graph r.value
+  pub same : Same r.terms m.forest
+
+all-behind : (s t : Terms) (r : Result (Found (List Written)) Broken) (q : Result (After Arguments) Broken) → Later s.graph t.graph → Agrees of_arguments (MeanAll t) r q → Agrees of_arguments (MeanAll s) r q
+all-behind s t r q l a = weaker of_arguments (MeanAll t) (MeanAll s) r q (λ x y k. record { later = later-still s.graph t.graph x.terms.graph l k.later; inside = k.inside; is = k.is; same = k.same }) a
+
+abbrev arguments_with : List Written → List (Option Term) → Arguments
+arguments_with ws ts = record { written = ws; trees = ts }
+
+both : {a b : List Written} {c d : List (Option Term)} → a ≡ b → c ≡ d → arguments_with a c ≡ arguments_with b d
+both e f = cc
+
+argument-is : (g h : Graph) (ws : List Written) (n : Option (List ℕ)) (v : Value) → Later g h → AllIn g (worths ws) → with_argument (arguments_of g ws) n (meaning_of h v) ≡ arguments_of h (ws ++ written n v ∷ [])
+argument-is g h ws n v l i =
+    both (sym (map-append bare_written ws (written n v ∷ [])))
+    (ap (λ ts. ts ++ tree_of h v ∷ []) (sym (trees-later g h (worths ws) l i)) ∙ sym (map-append (tree_of h) (worths ws) (v ∷ [])) ∙ ap (map (tree_of h)) (sym (map-append (λ (w : Written). w.value) ws (written n v ∷ []))))
+
+argument-in : (g h : Graph) (ws : List Written) (n : Option (List ℕ)) (v : Value) → Later g h → AllIn g (worths ws) → IsIn h v → AllIn h (worths (ws ++ written n v ∷ []))
+argument-in g h ws n v l i k = subst (AllIn h) (sym (map-append (λ (w : Written). w.value) ws (written n v ∷ []))) (all-append h (worths ws) (v ∷ []) (all-later g h (worths ws) l i) (k, tt))
+
+-- no arguments yet
+abbrev none : Arguments
+none = arguments_with [] []
+
+-- both operands
+both-agree : (p : Place) (sign : BinarySign) (s : Terms) (l r : Found Value) (m q : After Meaning) → Means s l m → Means l.terms r q
+    → Agrees of_meaning (Means s) (combined p sign l.value r.value r.terms) (by_tree.combined p sign m.value q.value q.forest)
+both-agree p sign s l r m q k j =
+    subst (λ z. Agrees of_meaning (Means s) (combined p sign l.value r.value r.terms) (by_tree.combined p sign z q.value q.forest)) (sym (k.is ∙ meaning-later l.terms.graph r.terms.graph l.value j.later k.inside))
+    (subst (λ z. Agrees of_meaning (Means s) (combined p sign l.value r.value r.terms) (by_tree.combined p sign (meaning_of r.terms.graph l.value) z q.forest)) (sym j.is)
+    (behind s r.terms _ _ (later-still s.graph l.terms.graph r.terms.graph k.later j.later)
+    (combined-agrees p sign l.value r.value r.terms q.forest j.same (in-later l.terms.graph r.terms.graph l.value j.later k.inside) j.inside)))
+
+object-and-arguments : (v : ℕ) (p : Place) (n : List ℕ) (s : Terms) (r : Found Value) (m : After Meaning) (q : Found (List Written)) (b : After Arguments) → Means s r m → MeanAll r.terms q b
+    → Agrees of_meaning (Means s) (or_fault UnknownName p (member_named v n) >>= λ o. method_of p r.value q.value q.terms o) (or_fault UnknownName p (member_named v n) >>= λ o. by_tree.method_of p m.value b.value b.forest o)
+object-and-arguments v p n s r m q b k j =
+    subst (λ z. Agrees of_meaning (Means s) (or_fault UnknownName p (member_named v n) >>= λ o. method_of p r.value q.value q.terms o) (or_fault UnknownName p (member_named v n) >>= λ o. by_tree.method_of p z b.value b.forest o))
+    (sym (k.is ∙ meaning-later r.terms.graph q.terms.graph r.value j.later k.inside))
+    (subst (λ z. Agrees of_meaning (Means s) (or_fault UnknownName p (member_named v n) >>= λ o. method_of p r.value q.value q.terms o) (or_fault UnknownName p (member_named v n) >>= λ o. by_tree.method_of p (meaning_of q.terms.graph r.value) z b.forest o)) (sym j.is)
+    (looked-agrees of_meaning (Means s) UnknownName p (member_named v n) _ _ (λ o. behind s q.terms _ _ (later-still s.graph r.terms.graph q.terms.graph k.later j.later)
+    (method-agrees p r.value q.value q.terms b.forest o j.same (in-later r.terms.graph q.terms.graph r.value j.later k.inside) j.inside))))
+
+mutual
+  unfolding worth args_worth meaning arguments
+
+  pub worth-agrees : (v : ℕ) (ds : List Definition) (es : List by_tree.Definition) (e : Tree) (s : Terms) (f : Forest) → Same s f → AreMeant s.graph ds es → Agrees of_meaning (Means s) (worth v ds e s) (meaning v es e f)
+  worth-agrees v ds es (number p n) s f w a = (_, refl, found-means s f (Number n) _ w (λ k e. absurd (let no : None ≡ Some k = e in cc)) refl)
+  worth-agrees v ds es (text p t) s f w a = (_, refl, found-means s f (Text t) _ w (λ k e. absurd (let no : None ≡ Some k = e in cc)) refl)
+  worth-agrees v ds es (name p n) s f w a = named-agrees p ds es n s f w a
+  worth-agrees v ds es (call p n ps) s f w a =
+      then-agrees of_arguments of_meaning (MeanAll s) (Means s) (args_worth v ds [] ps s) (arguments v es none ps f) _ _
+      (args-agrees v ds es [] none ps s f w a tt refl)
+      (λ r m k. subst (λ x. Agrees of_meaning (Means s) (or_fault UnknownName p (function_named n) >>= λ o. called p o [] r.value r.terms) (or_fault UnknownName p (function_named n) >>= λ o. by_tree.called p o [] [] x m.forest)) (sym k.is)
+      (looked-agrees of_meaning (Means s) UnknownName p (function_named n) _ _ (λ o. behind s r.terms _ _ k.later (called-agrees p o [] r.value r.terms m.forest k.same tt k.inside))))
+      (λ m z h. let o = then-ok (or_fault UnknownName p (function_named n)) (λ o. by_tree.called p o [] [] m.value m.forest) z h in called-extends p o.0 [] [] m.value m.forest z o.2)
+  worth-agrees v ds es (prefix p sign e) s f w a =
+      then-agrees of_meaning of_meaning (Means s) (Means s) (worth v ds e s) (meaning v es e f) _ _ (worth-agrees v ds es e s f w a)
+      (λ r m k. subst (λ (x : Meaning). Agrees of_meaning (Means s) (prefixed p sign r.value r.terms) (by_tree.prefixed p sign x.value x.tree m.forest)) (sym k.is)
+      (behind s r.terms _ _ k.later (prefixed-agrees p sign r.value r.terms m.forest k.same k.inside)))
+      (λ m z h. prefixed-extends p sign m.value.value m.value.tree m.forest z h)
+  worth-agrees v ds es (binary p sign x y) s f w a =
+      then-agrees of_meaning of_meaning (Means s) (Means s) (worth v ds x s) (meaning v es x f) _ _ (worth-agrees v ds es x s f w a)
+      (λ l m k. then-agrees of_meaning of_meaning (Means l.terms) (Means s) (worth v ds y l.terms) (meaning v es y m.forest) _ _ (worth-agrees v ds es y l.terms m.forest k.same (meant-later s.graph l.terms.graph ds es k.later a))
+      (λ r q j. both-agree p sign s l r m q k j)
+      (λ q z h. combined-extends p sign m.value q.value q.forest z h))
+      (λ m z h.
+      let q = then-ok (meaning v es y m.forest) (λ q. by_tree.combined p sign m.value q.value q.forest) z h in
+      extends-further m.forest q.0.forest z.forest (meaning-extends v es y m.forest q.0 q.1) (combined-extends p sign m.value q.0.value q.0.forest z q.2))
+  worth-agrees v ds es (member p e n) s f w a =
+      then-agrees of_meaning of_meaning (Means s) (Means s) (worth v ds e s) (meaning v es e f) _ _ (worth-agrees v ds es e s f w a)
+      (λ r m k. subst (λ x. Agrees of_meaning (Means s) (or_fault UnknownName p (member_named v n) >>= λ o. member_of p r.value r.terms o) (or_fault UnknownName p (member_named v n) >>= λ o. by_tree.member_of p x m.forest o)) (sym k.is)
+      (looked-agrees of_meaning (Means s) UnknownName p (member_named v n) _ _ (λ o. behind s r.terms _ _ k.later (member-agrees p r.value r.terms m.forest o k.same k.inside))))
+      (λ m z h. let o = then-ok (or_fault UnknownName p (member_named v n)) (λ o. by_tree.member_of p m.value m.forest o) z h in member-extends p m.value m.forest o.0 z o.2)
+  worth-agrees v ds es (method p e n ps) s f w a =
+      then-agrees of_meaning of_meaning (Means s) (Means s) (worth v ds e s) (meaning v es e f) _ _ (worth-agrees v ds es e s f w a)
+      (λ r m k. then-agrees of_arguments of_meaning (MeanAll r.terms) (Means s) (args_worth v ds [] ps r.terms) (arguments v es none ps m.forest) _ _
+      (args-agrees v ds es [] none ps r.terms m.forest k.same (meant-later s.graph r.terms.graph ds es k.later a) tt refl)
+      (λ q b j. object-and-arguments v p n s r m q b k j)
+      (λ b z h. let o = then-ok (or_fault UnknownName p (member_named v n)) (λ o. by_tree.method_of p m.value b.value b.forest o) z h in method-extends p m.value b.value b.forest o.0 z o.2))
+      (λ m z h.
+      let b = then-ok (arguments v es none ps m.forest) (λ b. or_fault UnknownName p (member_named v n) >>= λ o. by_tree.method_of p m.value b.value b.forest o) z h in
+      let o = then-ok (or_fault UnknownName p (member_named v n)) (λ o. by_tree.method_of p m.value b.0.value b.0.forest o) z b.2 in
+      extends-further m.forest b.0.forest z.forest (arguments-extends v es none ps m.forest b.0 b.1) (method-extends p m.value b.0.value b.0.forest o.0 z o.2))
+
+  pub args-agrees : (v : ℕ) (ds : List Definition) (es : List by_tree.Definition) (ws : List Written) (xs : Arguments) (ps : Args) (s : Terms) (f : Forest) → Same s f → AreMeant s.graph ds es → AllIn s.graph (worths ws) → xs ≡ arguments_of s.graph ws
+      → Agrees of_arguments (MeanAll s) (args_worth v ds ws ps s) (arguments v es xs ps f)
+  args-agrees v ds es ws xs no_args s f w a i h = (_, refl, record { later = later-same s.graph; inside = i; is = h; same = w })
+  args-agrees v ds es ws xs (arg n e ps) s f w a i h =
+      then-agrees of_meaning of_arguments (Means s) (MeanAll s) (worth v ds e s) (meaning v es e f) _ _ (worth-agrees v ds es e s f w a)
+      (λ r m k. all-behind s r.terms _ _ k.later (args-agrees v ds es (ws ++ written n r.value ∷ []) (with_argument xs n m.value) ps r.terms m.forest k.same (meant-later s.graph r.terms.graph ds es k.later a)
+      (argument-in s.graph r.terms.graph ws n r.value k.later i k.inside)
+      (ap (λ x. with_argument x n m.value) h ∙ ap (with_argument (arguments_of s.graph ws) n) k.is ∙ argument-is s.graph r.terms.graph ws n r.value k.later i)))
+      (λ m z q. arguments-extends v es (with_argument xs n m.value) ps m.forest z q)

@@ -1,0 +1,355 @@
+-- Rules, kinds, windows and sorts look at no number of a term.
+use Rattle.std.proofs.Common.{◌≡◌, ℕ, ℤ, Bool, true, false, ◌&&◌, ◌||◌, cond, List, [], ◌∷◌, ◌++◌, map, Option, Some, None, option_map, pos, refl, sym, ap, ◌∙◌}
+use Rattle.std.specs.Prelude.{filter, is_some, option_and_then}
+use Rattle.std.specs.List.{list_all}
+use Rattle.std.proofs.lemmas.List.{length-map, map-append}
+use Rattle.std.specs.Int.RustNames.{int_le}
+use Rattle.pl_spec.specs.Kind as kind
+use Rattle.pl_grammar.specs.declared.BinarySign.{BinarySign}
+use Rattle.pl_grammar.specs.declared.BinarySign.TheVariants as signs
+use Rattle.pl_check.specs.declared.operation.Operation.{Operation}
+use Rattle.pl_check.specs.declared.operation.Operation.TheVariants as op
+use Rattle.pl_check.specs.declared.operation.Parameter.{Parameter}
+use Rattle.pl_check.specs.declared.operation.Parameter.TheVariants as parameter
+use Rattle.pl_check.specs.Parameters.{same_parameter, is_optional}
+use Rattle.pl_check.specs.Values.{Value, Factor, Filter, Labels, Numbers, Bound, bound, is_safe, number_in, text_in, given}
+use Rattle.pl_check.specs.Operations.{parameters, equal_to, unequal_to, operator}
+use Rattle.pl_check.specs.Rules.{Written, place_at, named_in, is_given, unless_given, parameter_of, has_all, form, takes, is_whole, is_percent, number_given, is_within, is_window, is_safe_for, each, broken}
+use Rattle.pl_check.specs.Results.{whole, percent_given, text_given, values_given, method_of, order_of, frequency_of, with_sid, sorted_sids, name_number, with_name, kind_for, names_after, window_without, window_for, all_safe, like, result_for}
+use Rattle.pl_check.specs.Typed.{first_of, object_of, second_of, operands_of, is_storable, is_term_filter}
+
+-- a value whose term has the number 0
+abbrev pub unnumbered : Value → Value
+unnumbered (Factor t s) = Factor 0 s
+unnumbered (Filter t) = Filter 0
+unnumbered (Labels t) = Labels 0
+unnumbered (Numbers t) = Numbers 0
+unnumbered v = v
+
+abbrev pub bare : Bound → Bound
+bare b = bound b.parameter (unnumbered b.value)
+
+abbrev pub bare_written : Written → Written
+bare_written w = record { name = w.name; value = unnumbered w.value }
+
+-- ---- one value
+
+number-bare : (v : Value) → number_in (unnumbered v) ≡ number_in v
+number-bare (Factor t s) = refl
+number-bare v = refl
+
+text-bare : (v : Value) → text_in (unnumbered v) ≡ text_in v
+text-bare (Factor t s) = refl
+text-bare v = refl
+
+safe-bare : (v : Value) → is_safe (unnumbered v) ≡ is_safe v
+safe-bare (Factor t s) = refl
+safe-bare v = refl
+
+pub storable-bare : (v : Value) → is_storable (unnumbered v) ≡ is_storable v
+storable-bare (Factor t s) = refl
+storable-bare v = refl
+
+pub filter-bare : (v : Value) → is_term_filter (unnumbered v) ≡ is_term_filter v
+filter-bare (Factor t s) = refl
+filter-bare v = refl
+
+-- ---- the rules
+
+takes-bare : (v : Value) (q : Parameter) → takes q (unnumbered v) ≡ takes q v
+unfolding takes
+takes-bare (Factor t s) parameter.X = refl
+takes-bare (Factor t s) q = refl
+takes-bare (Filter t) parameter.X = refl
+takes-bare (Filter t) q = refl
+takes-bare (Labels t) parameter.X = refl
+takes-bare (Labels t) q = refl
+takes-bare (Numbers t) parameter.X = refl
+takes-bare (Numbers t) q = refl
+takes-bare v q = refl
+
+within-bare : (bs : List Bound) (v : Value) (q : Parameter) → is_within bs q (unnumbered v) ≡ is_within bs q v
+unfolding is_within
+within-bare bs (Factor t s) parameter.X = refl
+within-bare bs (Factor t s) q = refl
+within-bare bs (Filter t) parameter.X = refl
+within-bare bs (Filter t) q = refl
+within-bare bs (Labels t) parameter.X = refl
+within-bare bs (Labels t) q = refl
+within-bare bs (Numbers t) parameter.X = refl
+within-bare bs (Numbers t) q = refl
+within-bare bs v q = refl
+
+window-bare : (v : Value) (q : Parameter) → is_window q (unnumbered v) ≡ is_window q v
+unfolding is_window
+window-bare (Factor t s) parameter.X = refl
+window-bare (Factor t s) q = refl
+window-bare (Filter t) parameter.X = refl
+window-bare (Filter t) q = refl
+window-bare (Labels t) parameter.X = refl
+window-bare (Labels t) q = refl
+window-bare (Numbers t) parameter.X = refl
+window-bare (Numbers t) q = refl
+window-bare v q = refl
+
+safe-for-bare : (v : Value) (q : Parameter) → is_safe_for q (unnumbered v) ≡ is_safe_for q v
+unfolding is_safe_for
+safe-for-bare (Factor t s) parameter.X = refl
+safe-for-bare (Factor t s) q = refl
+safe-for-bare (Filter t) parameter.X = refl
+safe-for-bare (Filter t) q = refl
+safe-for-bare (Labels t) parameter.X = refl
+safe-for-bare (Labels t) q = refl
+safe-for-bare (Numbers t) parameter.X = refl
+safe-for-bare (Numbers t) q = refl
+safe-for-bare v q = refl
+
+-- ---- what a parameter is given
+
+given-first : (b : Bound) (bs : List Bound) (p : Parameter) (a : Bool) → same_parameter b.parameter p ≡ a → given (b ∷ bs) p ≡ cond a (Some b.value) (given bs p)
+unfolding given
+given-first b bs p true h = rw h refl
+given-first b bs p false h = rw h refl
+
+pub given-is : (b : Bound) (bs : List Bound) (p : Parameter) → given (b ∷ bs) p ≡ cond (same_parameter b.parameter p) (Some b.value) (given bs p)
+given-is b bs p = given-first b bs p (same_parameter b.parameter p) refl
+
+pub given-bare : (bs : List Bound) (p : Parameter) → given (map bare bs) p ≡ option_map unnumbered (given bs p)
+unfolding given
+given-bare [] p = refl
+given-bare (b ∷ bs) p =
+    given-is (bare b) (map bare bs) p ∙ here (same_parameter b.parameter p) (given-bare bs p) ∙ sym (ap (option_map unnumbered) (given-is b bs p))
+  where
+    here : (a : Bool) → given (map bare bs) p ≡ option_map unnumbered (given bs p) → cond a (Some (unnumbered b.value)) (given (map bare bs) p) ≡ option_map unnumbered (cond a (Some b.value) (given bs p))
+    here true k = refl
+    here false k = k
+
+abbrev number_of : Option Value → ℤ
+number_of None = pos 0
+number_of (Some v) = number_in v
+
+number-of-bare : (o : Option Value) → number_of (option_map unnumbered o) ≡ number_of o
+number-of-bare None = refl
+number-of-bare (Some v) = number-bare v
+
+number-is : (bs : List Bound) (p : Parameter) (o : Option Value) → given bs p ≡ o → number_given bs p ≡ number_of o
+number-is bs p None h = rw h refl
+number-is bs p (Some v) h = rw h refl
+
+number-given : (bs : List Bound) (p : Parameter) → number_given (map bare bs) p ≡ number_given bs p
+number-given bs p = number-is (map bare bs) p _ (given-bare bs p) ∙ number-of-bare (given bs p) ∙ sym (number-is bs p _ refl)
+
+abbrev text_of : Option Value → List ℕ
+text_of None = []
+text_of (Some v) = text_in v
+
+text-of-bare : (o : Option Value) → text_of (option_map unnumbered o) ≡ text_of o
+text-of-bare None = refl
+text-of-bare (Some v) = text-bare v
+
+text-is : (bs : List Bound) (p : Parameter) (o : Option Value) → given bs p ≡ o → text_given bs p ≡ text_of o
+text-is bs p None h = rw h refl
+text-is bs p (Some v) h = rw h refl
+
+text-given : (bs : List Bound) (p : Parameter) → text_given (map bare bs) p ≡ text_given bs p
+text-given bs p = text-is (map bare bs) p _ (given-bare bs p) ∙ text-of-bare (given bs p) ∙ sym (text-is bs p _ refl)
+
+values-given : (bs : List Bound) (p : Parameter) → values_given (map bare bs) p ≡ map unnumbered (values_given bs p)
+values-given [] p = refl
+values-given (b ∷ bs) p = here (same_parameter b.parameter p) (values-given bs p)
+  where
+    here : (a : Bool) → values_given (map bare bs) p ≡ map unnumbered (values_given bs p)
+        → map (λ x. x.value) (cond a (bare b ∷ filter (λ x. same_parameter x.parameter p) (map bare bs)) (filter (λ x. same_parameter x.parameter p) (map bare bs)))
+        ≡ map unnumbered (map (λ x. x.value) (cond a (b ∷ filter (λ x. same_parameter x.parameter p) bs) (filter (λ x. same_parameter x.parameter p) bs)))
+    here true k = ap (λ z. unnumbered b.value ∷ z) k
+    here false k = k
+
+sids-bare : (vs : List Value) → sorted_sids (map unnumbered vs) ≡ sorted_sids vs
+unfolding sorted_sids
+sids-bare [] = refl
+sids-bare (v ∷ vs) = ap (λ n. with_sid (whole n) (sorted_sids (map unnumbered vs))) (number-bare v) ∙ ap (with_sid (whole (number_in v))) (sids-bare vs)
+
+texts-bare : (vs : List Value) → map text_in (map unnumbered vs) ≡ map text_in vs
+texts-bare [] = refl
+texts-bare (v ∷ vs) = ap (λ t. t ∷ map text_in (map unnumbered vs)) (text-bare v) ∙ ap (λ z. text_in v ∷ z) (texts-bare vs)
+
+-- ---- the first broken rule
+
+within-given : (bs : List Bound) (v : Value) (q : Parameter) → is_within (map bare bs) q v ≡ is_within bs q v
+unfolding is_within
+within-given bs v parameter.AtLeast = ap (λ z. is_whole 1 1000000000000 (number_in v) && int_le (number_in v) z) (number-given bs parameter.Window)
+within-given bs v parameter.High = ap (λ z. int_le z (number_in v)) (number-given bs parameter.Low)
+within-given bs v parameter.HighPercent = ap (λ z. is_percent (number_in v) && int_le z (number_in v)) (number-given bs parameter.LowPercent)
+within-given bs v q = refl
+
+each-bare : (f g : Parameter → Value → Bool) → ((v : Value) (q : Parameter) → f q (unnumbered v) ≡ g q v) → (bs : List Bound) → each f (map bare bs) ≡ each g bs
+each-bare f g h [] = refl
+each-bare f g h (b ∷ bs) = ap (λ a. a && each f (map bare bs)) (h b.value b.parameter) ∙ ap (λ a. g b.parameter b.value && a) (each-bare f g h bs)
+
+pub broken-bare : (bs : List Bound) → broken (map bare bs) ≡ broken bs
+unfolding broken
+broken-bare bs =
+    let a : each takes (map bare bs) ≡ each takes bs = each-bare takes takes takes-bare bs in
+    let b : each (is_within (map bare bs)) (map bare bs) ≡ each (is_within bs) bs = each-bare (is_within (map bare bs)) (is_within bs) (λ v q. within-bare (map bare bs) v q ∙ within-given bs v q) bs in
+    let c : each is_window (map bare bs) ≡ each is_window bs = each-bare is_window is_window window-bare bs in
+    let d : each is_safe_for (map bare bs) ≡ each is_safe_for bs = each-bare is_safe_for is_safe_for safe-for-bare bs in
+    rw (a, b, c, d) refl
+
+-- ---- kinds, windows and results
+
+pub kind-bare : (o : Operation) (bs : List Bound) (names : List (List ℕ)) → kind_for o (map bare bs) names ≡ kind_for o bs names
+unfolding kind_for
+kind-bare op.BollingerLower bs names = ap (λ n. kind.Window (kind.BollingerLower n)) (number-given bs parameter.K)
+kind-bare op.BollingerUpper bs names = ap (λ n. kind.Window (kind.BollingerUpper n)) (number-given bs parameter.K)
+kind-bare op.ExponentialWeightedMovingAverage bs names = ap (λ n. kind.Window (kind.ExponentialWeightedMovingAverage n)) (number-given bs parameter.Decay)
+kind-bare op.AtLeastN bs names = ap (λ n. kind.Window (kind.AtLeastN (whole n))) (number-given bs parameter.AtLeast)
+kind-bare op.StaticSids bs names = ap kind.StaticSids (ap sorted_sids (values-given bs parameter.Sid) ∙ sids-bare (values_given bs parameter.Sid))
+kind-bare op.Label bs names = ap (λ t. kind.Label (name_number names t)) (text-given bs parameter.Name)
+kind-bare op.Clip bs names =
+    ap (λ n. kind.Point (kind.Clip n (number_given (map bare bs) parameter.High))) (number-given bs parameter.Low) ∙ ap (λ n. kind.Point (kind.Clip (number_given bs parameter.Low) n)) (number-given bs parameter.High)
+kind-bare op.Rank bs names =
+    ap (λ t. kind.Cross (kind.Rank (method_of t) (order_of (text_given (map bare bs) parameter.Order)))) (text-given bs parameter.Method)
+    ∙ ap (λ t. kind.Cross (kind.Rank (method_of (text_given bs parameter.Method)) (order_of t))) (text-given bs parameter.Order)
+kind-bare op.Quantiles bs names = ap (λ n. kind.Cross (kind.Quantiles (whole n))) (number-given bs parameter.Bins)
+kind-bare op.Top bs names = ap (λ n. kind.Cross (kind.Top (whole n))) (number-given bs parameter.Count)
+kind-bare op.Bottom bs names = ap (λ n. kind.Cross (kind.Bottom (whole n))) (number-given bs parameter.Count)
+kind-bare op.PercentileBetween bs names =
+    let a : percent_given (map bare bs) parameter.LowPercent ≡ percent_given bs parameter.LowPercent = rw (number-given bs parameter.LowPercent) refl in
+    let b : percent_given (map bare bs) parameter.HighPercent ≡ percent_given bs parameter.HighPercent = rw (number-given bs parameter.HighPercent) refl in
+    ap (λ n. kind.Cross (kind.PercentileBetween n (percent_given (map bare bs) parameter.HighPercent))) a ∙ ap (λ n. kind.Cross (kind.PercentileBetween (percent_given bs parameter.LowPercent) n)) b
+kind-bare op.StartsWith bs names = ap (λ t. kind.LabelTest (kind.StartsWith t)) (text-given bs parameter.Text)
+kind-bare op.EndsWith bs names = ap (λ t. kind.LabelTest (kind.EndsWith t)) (text-given bs parameter.Text)
+kind-bare op.ElementOf bs names = ap (λ ts. kind.LabelTest (kind.ElementOf ts)) (ap (map text_in) (values-given bs parameter.Element) ∙ texts-bare (values_given bs parameter.Element))
+kind-bare op.Downsample bs names = ap (λ t. kind.Downsample (frequency_of t)) (text-given bs parameter.Frequency)
+kind-bare op.LabelIs bs names = ap (λ t. kind.LabelTest (kind.LabelIs t)) (text-given bs parameter.ComparedText)
+kind-bare op.LabelIsNot bs names = ap (λ t. kind.LabelTest (kind.LabelIsNot t)) (text-given bs parameter.ComparedText)
+kind-bare op.NumberIs bs names = ap (λ n. kind.Point (kind.NumberIs n)) (number-given bs parameter.ComparedNumber)
+kind-bare op.NumberIsNot bs names = ap (λ n. kind.Point (kind.NumberIsNot n)) (number-given bs parameter.ComparedNumber)
+kind-bare o bs names = refl
+
+pub names-bare : (o : Operation) (bs : List Bound) (names : List (List ℕ)) → names_after o (map bare bs) names ≡ names_after o bs names
+names-bare op.Label bs names = ap (with_name names) (text-given bs parameter.Name)
+names-bare o bs names = refl
+
+abbrev window_of : Operation → Option Value → Option Value → ℕ
+window_of o (Some v) w = whole (number_in v)
+window_of o None (Some v) = whole (number_in v)
+window_of o None None = window_without o
+
+window-of-bare : (o : Operation) (v w : Option Value) → window_of o (option_map unnumbered v) (option_map unnumbered w) ≡ window_of o v w
+window-of-bare o (Some v) w = ap whole (number-bare v)
+window-of-bare o None (Some v) = ap whole (number-bare v)
+window-of-bare o None None = refl
+
+window-is : (o : Operation) (bs : List Bound) (v w : Option Value) → given bs parameter.Window ≡ v → given bs parameter.LongWindow ≡ w → window_for o bs ≡ window_of o v w
+window-is o bs (Some v) w h k = rw h refl
+window-is o bs None (Some v) h k = rw (h, k) refl
+window-is o bs None None h k = rw (h, k) refl
+
+pub window-for-bare : (o : Operation) (bs : List Bound) → window_for o (map bare bs) ≡ window_for o bs
+window-for-bare o bs =
+    window-is o (map bare bs) _ _ (given-bare bs parameter.Window) (given-bare bs parameter.LongWindow) ∙ window-of-bare o (given bs parameter.Window) (given bs parameter.LongWindow)
+    ∙ sym (window-is o bs _ _ refl refl)
+
+all-safe-bare : (bs : List Bound) → all_safe (map bare bs) ≡ all_safe bs
+all-safe-bare [] = refl
+all-safe-bare (b ∷ bs) = ap (λ a. a && all_safe (map bare bs)) (safe-bare b.value) ∙ ap (λ a. is_safe b.value && a) (all-safe-bare bs)
+
+like-bare : (o : Option Value) (s : Bool) (t : ℕ) → like (option_map unnumbered o) s 0 ≡ unnumbered (like o s t)
+like-bare None s t = refl
+like-bare (Some (Filter u)) s t = refl
+like-bare (Some v) s t = refl
+
+pub result-bare : (o : Operation) (bs : List Bound) (t : ℕ) → result_for o (map bare bs) 0 ≡ unnumbered (result_for o bs t)
+unfolding result_for
+result-bare op.Downsample bs t =
+    ap (λ v. like v (all_safe (map bare bs)) 0) (given-bare bs parameter.AnyTerm) ∙ ap (λ s. like (option_map unnumbered (given bs parameter.AnyTerm)) s 0) (all-safe-bare bs)
+    ∙ like-bare (given bs parameter.AnyTerm) (all_safe bs) t
+result-bare op.Demean bs t = ap (Factor 0) (all-safe-bare bs)
+result-bare op.Add bs t = ap (Factor 0) (all-safe-bare bs)
+result-bare op.Sub bs t = ap (Factor 0) (all-safe-bare bs)
+result-bare op.Mul bs t = ap (Factor 0) (all-safe-bare bs)
+result-bare op.Div bs t = ap (Factor 0) (all-safe-bare bs)
+result-bare op.Neg bs t = ap (Factor 0) (all-safe-bare bs)
+result-bare op.Abs bs t = ap (Factor 0) (all-safe-bare bs)
+result-bare op.Clip bs t = ap (Factor 0) (all-safe-bare bs)
+result-bare op.FillNa bs t = ap (Factor 0) (all-safe-bare bs)
+result-bare op.IfElse bs t = ap (Factor 0) (all-safe-bare bs)
+result-bare o bs t = refl
+
+-- ---- the form of arguments
+
+is-given-bare : (bs : List Bound) (p : Parameter) → is_given (map bare bs) p ≡ is_given bs p
+is-given-bare bs p = ap is_some (given-bare bs p) ∙ here (given bs p)
+  where
+    here : (o : Option Value) → is_some (option_map unnumbered o) ≡ is_some o
+    here None = refl
+    here (Some v) = refl
+
+all-same : (f g : Parameter → Bool) (ps : List Parameter) → ((p : Parameter) → f p ≡ g p) → list_all f ps ≡ list_all g ps
+all-same f g [] h = refl
+all-same f g (p ∷ ps) h = ap (λ a. a && list_all f ps) (h p) ∙ ap (λ a. g p && a) (all-same f g ps h)
+
+has-all-bare : (o : Operation) (bs : List Bound) → has_all o (map bare bs) ≡ has_all o bs
+has-all-bare o bs = all-same (λ p. is_optional p || is_given (map bare bs) p) (λ p. is_optional p || is_given bs p) (parameters o) (λ p. ap (λ a. is_optional p || a) (is-given-bare bs p))
+
+parameter-bare : (o : Operation) (n : Bool) (bs : List Bound) (name : Option (List ℕ)) → parameter_of o n (map bare bs) name ≡ parameter_of o n bs name
+parameter-bare o n bs (Some name) = here (named_in (parameters o) name)
+  where
+    here : (p : Option Parameter) → unless_given (map bare bs) p ≡ unless_given bs p
+    here None = refl
+    here (Some p) = ap (λ a. cond a None (Some p)) (is-given-bare bs p)
+parameter-bare o true bs None = refl
+parameter-bare o false bs None = ap (place_at o) (length-map bs bare)
+
+pub form-bare : (o : Operation) (n : Bool) (bs : List Bound) (ws : List Written) → form o n (map bare bs) (map bare_written ws) ≡ option_map (map bare) (form o n bs ws)
+unfolding form
+form-bare o n bs [] = ap (λ a. cond a (Some (map bare bs)) None) (has-all-bare o bs) ∙ here (has_all o bs)
+  where
+    here : (a : Bool) → cond a (Some (map bare bs)) None ≡ option_map (map bare) (cond a (Some bs) None)
+    here true = refl
+    here false = refl
+form-bare o n bs (w ∷ ws) =
+    ap (option_and_then (λ p. form o (n || is_some w.name) (map bare bs ++ bound p (unnumbered w.value) ∷ []) (map bare_written ws))) (parameter-bare o n bs w.name)
+    ∙ here (parameter_of o n bs w.name)
+    (λ p. ap (λ xs. form o (n || is_some w.name) xs (map bare_written ws)) (sym (map-append bare bs (bound p w.value ∷ []))) ∙ form-bare o (n || is_some w.name) (bs ++ bound p w.value ∷ []) ws)
+  where
+    here : (p : Option Parameter)
+        → ((q : Parameter) → form o (n || is_some w.name) (map bare bs ++ bound q (unnumbered w.value) ∷ []) (map bare_written ws) ≡ option_map (map bare) (form o (n || is_some w.name) (bs ++ bound q w.value ∷ []) ws))
+        → option_and_then (λ q. form o (n || is_some w.name) (map bare bs ++ bound q (unnumbered w.value) ∷ []) (map bare_written ws)) p
+        ≡ option_map (map bare) (option_and_then (λ q. form o (n || is_some w.name) (bs ++ bound q w.value ∷ []) ws) p)
+    here None k = refl
+    here (Some p) k = k p
+
+-- ---- objects and operands
+
+first-bare : (ps : List Parameter) (v : Value) → first_of ps (unnumbered v) ≡ map bare (first_of ps v)
+first-bare [] v = refl
+first-bare (p ∷ ps) v = refl
+
+second-bare : (ps : List Parameter) (v : Value) → second_of ps (unnumbered v) ≡ map bare (second_of ps v)
+second-bare [] v = refl
+second-bare (p ∷ []) v = refl
+second-bare (p ∷ (q ∷ ps)) v = refl
+
+pub object-bare : (o : Operation) (v : Value) → object_of o (unnumbered v) ≡ map bare (object_of o v)
+unfolding object_of
+object-bare o v = first-bare (parameters o) v
+
+pub operands-bare : (o : Operation) (v w : Value) → operands_of o (unnumbered v) (unnumbered w) ≡ map bare (operands_of o v w)
+operands-bare o v w =
+    ap (λ xs. xs ++ second_of (parameters o) (unnumbered w)) (object-bare o v) ∙ ap (λ ys. map bare (object_of o v) ++ ys) (second-bare (parameters o) w)
+    ∙ sym (map-append bare (object_of o v) (second_of (parameters o) w))
+
+equal-bare : (v : Value) → equal_to (unnumbered v) ≡ equal_to v
+equal-bare (Labels t) = refl
+equal-bare v = refl
+
+unequal-bare : (v : Value) → unequal_to (unnumbered v) ≡ unequal_to v
+unequal-bare (Labels t) = refl
+unequal-bare v = refl
+
+pub operator-bare : (sign : BinarySign) (v : Value) → operator sign (unnumbered v) ≡ operator sign v
+operator-bare signs.Equal v = equal-bare v
+operator-bare signs.NotEqual v = unequal-bare v
+operator-bare sign v = refl
