@@ -1,5 +1,5 @@
 -- The slot of one bar column, while the rest of a term is computed.
-use Rattle.std.proofs.Common.{◌≡◌, ℕ, zero, suc, ◌+◌, ◌*◌, ◌<◌, ◌≤◌, Bool, true, false, max, List, [], ◌∷◌, ◌++◌, length, take, drop, sum_by, Option, Some, None, slice_get, get_or, refl, sym, ◌∙◌, ap, subst, arith, ◌⊎◌, inl, inr, ℤ, ◌&&◌}
+use Rattle.std.proofs.Common.{◌≡◌, ℕ, zero, suc, ◌+◌, ◌*◌, ◌<◌, ◌≤◌, Bool, true, false, List, [], ◌∷◌, ◌++◌, length, take, drop, sum_by, Option, Some, None, slice_get, get_or, refl, sym, ◌∙◌, ap, subst, arith, ◌⊎◌, inl, inr, ℤ, ◌&&◌}
 use Rattle.std.specs.List.{list_all}
 use Rattle.std.proofs.lemmas.Int.{ints}
 use Rattle.std.proofs.lemmas.Bool.{true≢false}

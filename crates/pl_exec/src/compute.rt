@@ -109,7 +109,10 @@ fn fill_from<L: Ledger>(
         };
         return fill_from(term, place + 1, workspace, own, next, steps);
     }
-    let slot = term.job.plan.column_slot(term.id, new_count(term.node, place));
+    let slot = term
+        .job
+        .plan
+        .column_slot(term.id, new_count(term.node, place));
     let mut column = workspace.begin(slot);
     let next = Cells {
         first: second,

@@ -1,4 +1,4 @@
-use Rattle.std.proofs.Common.{◌≡◌, ◌<◌, ◌≤◌, refl, ap, ◌∙◌, sym, subst, arith, length}
+use Rattle.std.proofs.Common.{◌≡◌, ◌<◌, refl, ap, ◌∙◌, subst, arith, length}
 use Rattle.pl_planner.specs.Plans.{column_slot}
 use Rattle.pl_workspace.specs.Slots.{Slots}
 use Rattle.pl_exec.specs.Filling.{node_for, task_for}
@@ -22,9 +22,22 @@ pub fill_from-requires : goal.fill_from-requires
 fill_from-requires g t c =
     let none : one_new (new_column (node_for c.args.term.now) c.args.place) ≡ 0 = omega (arith, c.one_new.ensures.value, c.if-one_new-eq0.true) in
     let place : c.args.place < 3 = omega (arith, c.requires.place, c.if-place-eq3.false) in
-    λ κs lives. (omega (arith, place), (lives, (c.requires.run, (omega (arith, place), (
-      subst (AreFree (task_for c.args.term.now) c.args.workspace.now c.args.term.now.id.0) (let b = before_next (node_for c.args.term.now) c.args.place in omega (arith, b, none)) c.requires.free,
-      (c.requires.counted, (c.requires.columns, (c.requires.room, rows_none c.args.term.now c.args.place c.args.cells.first.now c.args.cells.second.now c.args.cells.third.now _ c.requires.cells none))))))))
+    λ κs lives. (
+      omega (arith, place),
+      (
+        lives,
+        (
+          c.requires.run,
+          (
+            omega (arith, place),
+            (
+              subst (AreFree (task_for c.args.term.now) c.args.workspace.now c.args.term.now.id.0) (let b = before_next (node_for c.args.term.now) c.args.place in omega (arith, b, none)) c.requires.free,
+              (c.requires.counted, (c.requires.columns, (c.requires.room, rows_none c.args.term.now c.args.place c.args.cells.first.now c.args.cells.second.now c.args.cells.third.now _ c.requires.cells none))),
+            ),
+          ),
+        ),
+      ),
+    )
 
 pub returns-then-one_new-eq0 : goal.returns-then-one_new-eq0
 returns-then-one_new-eq0 g t c =
@@ -52,10 +65,25 @@ fill_from-filled-requires g t c =
     let slot = c.column_slot-slot.ensures ∙ ap (column_slot c.args.term.now.job.now.plan.now c.args.term.now.id.0) c.new_count.ensures.value in
     let same : c.begin-column.new.self.len ≡ c.args.workspace.now.len = ap (λ (x : Slots). x.len) c.begin-column.ensures.changed in
     let long : length c.cells_mut.result.now ≡ c.args.workspace.now.len = ap length c.cells_mut.ensures.value ∙ c.begin-column.ensures.cells in
-    λ κs lives. (omega (arith, place), (lives, (run_next c.args.term.now.job.now c.args.workspace.now c.args.term.now.id.0 (node_for c.args.term.now) c.requires.run c.args.place place one c.requires.free c.column_slot-slot.result slot c.begin-column.new.self c.begin-column.ensures.changed, (omega (arith, place), (
-      free_next c.args.term.now.job.now c.args.workspace.now c.args.term.now.id.0 (node_for c.args.term.now) c.requires.run c.args.place place one c.requires.free c.column_slot-slot.result slot c.begin-column.new.self c.begin-column.ensures.changed,
-      (counted_next c.args.term.now.job.now c.args.workspace.now c.args.term.now.id.0 (node_for c.args.term.now) c.requires.run c.args.place place one c.requires.free c.column_slot-slot.result slot c.begin-column.new.self c.begin-column.ensures.changed,
-      (omega (arith, c.requires.columns, same), (c.requires.room, rows_one c.args.term.now c.args.place c.args.cells.first.now c.args.cells.second.now c.args.cells.third.now _ c.requires.cells (omega (arith, c.requires.columns, long))))))))))
+    λ κs lives. (
+      omega (arith, place),
+      (
+        lives,
+        (
+          run_next c.args.term.now.job.now c.args.workspace.now c.args.term.now.id.0 (node_for c.args.term.now) c.requires.run c.args.place place one c.requires.free c.column_slot-slot.result slot c.begin-column.new.self c.begin-column.ensures.changed,
+          (
+            omega (arith, place),
+            (
+              free_next c.args.term.now.job.now c.args.workspace.now c.args.term.now.id.0 (node_for c.args.term.now) c.requires.run c.args.place place one c.requires.free c.column_slot-slot.result slot c.begin-column.new.self c.begin-column.ensures.changed,
+              (
+                counted_next c.args.term.now.job.now c.args.workspace.now c.args.term.now.id.0 (node_for c.args.term.now) c.requires.run c.args.place place one c.requires.free c.column_slot-slot.result slot c.begin-column.new.self c.begin-column.ensures.changed,
+                (omega (arith, c.requires.columns, same), (c.requires.room, rows_one c.args.term.now c.args.place c.args.cells.first.now c.args.cells.second.now c.args.cells.third.now _ c.requires.cells (omega (arith, c.requires.columns, long)))),
+              ),
+            ),
+          ),
+        ),
+      ),
+    )
 
 pub finish-requires-clause-within : goal.finish-requires-clause-within
 finish-requires-clause-within g t c =
