@@ -385,15 +385,10 @@ abbrev pub one_new : Option Column → ℕ
 one_new None = 0
 one_new (Some c) = 1
 
--- how many new bar columns there are from the third, the second and the first place on
-abbrev pub new_third : spec.Node → ℕ
-new_third n = one_new (new_column n 2)
-
-abbrev pub new_second : spec.Node → ℕ
-new_second n = one_new (new_column n 1) + new_third n
-
-abbrev pub new_first : spec.Node → ℕ
-new_first n = one_new (new_column n 0) + new_second n
+-- how many of the places before place p have a new bar column
+abbrev pub new_before : spec.Node → ℕ → ℕ
+new_before n zero = 0
+new_before n (suc p) = new_before n p + one_new (new_column n p)
 
 -- the slots of the bar columns from the i-th on are free
 abbrev pub AreFree : Task → Slots → ℕ → ℕ → Type 0

@@ -1,4 +1,5 @@
 pub mod Chunks
+pub mod Filling
 pub mod Jobs
 pub mod RowsInside
 pub mod Slotted

@@ -98,9 +98,15 @@ pub(crate) fn one_new(node: &Node, place: usize) -> usize
     }
 }
 
-/// How many distinct bar columns there are among the inputs.
-pub(crate) fn column_count(node: &Node) -> usize
-    ensures { result ≡ spec.new_first (node_of node.now) }
+/// How many of the places before a place have a new bar column.
+pub(crate) fn new_count(node: &Node, place: usize) -> usize
+    requires { place ≤ 3 }
+    ensures value { result ≡ spec.new_before (node_of node.now) place }
+    ensures few { result ≤ place }
 {
-    one_new(node, 0) + (one_new(node, 1) + one_new(node, 2))
+    let mut count = 0;
+    for before in 0..place {
+        count += one_new(node, before);
+    }
+    count
 }

@@ -1,30 +1,28 @@
 //! The array of one term: asset by asset where its cells come from windows or from cells of the same place,
 //! else session by session.
-ghost use Rattle.std.specs.Prelude.{◌≡◌, ◌+◌, ◌*◌, ◌<◌, ◌≤◌, ℕ, true, false, Some, pos, get_or, length, slice_get, slice_set, [], ◌∷◌};
+ghost use Rattle.std.specs.Prelude.{◌≡◌, ◌+◌, ◌*◌, ◌<◌, ◌≤◌, ℕ, true, false, pos, get_or, length, slice_set, [], ◌∷◌};
 ghost use Rattle.pl_spec.specs.Rounding.{IsCell};
 ghost use Rattle.pl_spec.specs.Graph.{columns_at};
-ghost use Rattle.pl_terms.specs.Nodes.{node_of};
 ghost use Rattle.pl_terms.specs.Sorts.{is_windowed};
 ghost use Rattle.pl_values.specs.Arrays.{IsRow};
 ghost use Rattle.pl_values.specs.Families.{IsOf};
-ghost use Rattle.pl_exec.specs.Tasks.{IsArray, assets_in, count_in, cut, graph_in, term_steps};
-ghost use Rattle.pl_exec.specs.Jobs.{AreBars, AreGiven, AreLent, HasNoBars, HasRows, IsColumnRun, IsCourse, IsJob, IsLane, IsOut, IsRun, IsTurn, buffer_at, by_rows, counted, node_at, node_in, one_col, steps_of, task_at, task_in, task_of};
+ghost use Rattle.pl_exec.specs.Tasks.{IsArray, assets_in, cut, graph_in, term_steps};
+ghost use Rattle.pl_exec.specs.Jobs.{AreBars, AreGiven, AreLent, HasNoBars, HasRows, IsColumnRun, IsCourse, IsLane, IsOut, IsTurn, buffer_at, by_rows, counted, node_at, node_in, one_col, steps_of, task_at, task_in};
 
 use crate::columns::new_column;
-use crate::course::{Course, course_of, turn_on};
-use crate::job::{Job, kind_of, node_of, window_of};
+use crate::course::{Course, turn_on};
+use crate::job::{kind_of, window_of};
 use crate::keep::keep_lane;
 use crate::kinds::{is_by_rows, kind_row};
 use crate::leaves::{constant_lane, label_lane, label_test_lane, sids_lane};
 use crate::points::point_lane;
+use crate::rows::Rows;
 use crate::turn::{Turn, keep_row};
 use crate::windows::{Bars, Sources, advance_all, applied, fill_stretch, pass, sources_of, still};
 use pl_adjarray::AdjustedArray;
 use pl_cross::Cross;
 use pl_fixed::{Column, Steps};
-use pl_terms::{Node, TermId};
 use pl_values::{Family, family_of};
-use pl_workspace::Workspace;
 use std::sync::ledger::Ledger;
 
 fn put(cells: &mut [i64], place: usize, cell: i64)
@@ -179,12 +177,9 @@ fn fill_lanes<'x>(course: &Course<'x>, family: Family, own: &mut [i64])
     }
 }
 
-/// The array of a term that reads no bar columns.
-pub(crate) fn fill_plain<'x>(
-    job: &'x Job<'x>,
-    term: TermId,
-    node: &'x Node,
-    workspace: &'x Workspace,
+// The same over rows that have room for its assets.
+fn fill_over(
+    course: &Course<'_>,
     own: &mut [i64],
     cross: &mut Cross,
     first: &mut [i64],
@@ -192,26 +187,50 @@ pub(crate) fn fill_plain<'x>(
     keep: &mut [i64],
     out: &mut [i64],
 )
-    requires job { IsJob job.now }
-    requires run { IsRun (task_of job.now) workspace.now term.0 }
-    requires node { slice_get (graph_in (task_of job.now)) term.0 ≡ Some (node_of node.now) }
-    requires none { columns_at (graph_in (task_of job.now)) term.0 ≡ 0 }
-    requires room { assets_in (task_of job.now) * count_in (task_of job.now) term.0 ≤ length own.old }
-    requires cross { assets_in (task_of job.now) ≤ cross.old }
-    requires first { length first.old ≡ assets_in (task_of job.now) }
-    requires second { length second.old ≡ assets_in (task_of job.now) }
-    requires keep { length keep.old ≡ assets_in (task_of job.now) }
-    requires long { length out.old ≡ assets_in (task_of job.now) }
-    ensures array { IsArray (task_of job.now) term.0 own.new }
+    requires course { IsCourse course.now }
+    requires none { columns_at (graph_in (task_in course.now)) course.now.term.0 ≡ 0 }
+    requires room { assets_in (task_in course.now) * course.now.count ≤ length own.old }
+    requires cross { assets_in (task_in course.now) ≤ cross.old }
+    requires first { assets_in (task_in course.now) ≤ length first.old }
+    requires second { assets_in (task_in course.now) ≤ length second.old }
+    requires keep { assets_in (task_in course.now) ≤ length keep.old }
+    requires out { assets_in (task_in course.now) ≤ length out.old }
+    ensures array { IsArray (task_in course.now) course.now.term.0 own.new }
     ensures cross { cross.new ≡ cross.old }
 {
-    let course = course_of(job, term, node, workspace);
-    let family = family_of(kind_of(node));
-    if is_by_rows(family) {
-        fill_rows(&course, family, own, cross, first, second, keep, out);
-    } else {
-        fill_lanes(&course, family, own);
+    let family = family_of(kind_of(course.node));
+    if !is_by_rows(family) {
+        return fill_lanes(course, family, own);
     }
+    let assets = course.job.cols.len();
+    fill_rows(
+        course,
+        family,
+        own,
+        cross,
+        &mut first[..assets],
+        &mut second[..assets],
+        &mut keep[..assets],
+        &mut out[..assets],
+    );
+}
+
+/// The array of a term that reads no bar columns.
+pub(crate) fn fill_plain(course: &Course<'_>, own: &mut [i64], cross: &mut Cross, rows: &mut Rows)
+    requires course { IsCourse course.now }
+    requires none { columns_at (graph_in (task_in course.now)) course.now.term.0 ≡ 0 }
+    requires room { assets_in (task_in course.now) * course.now.count ≤ length own.old }
+    requires cross { assets_in (task_in course.now) ≤ cross.old }
+    requires rows { assets_in (task_in course.now) ≤ rows.old }
+    ensures array { IsArray (task_in course.now) course.now.term.0 own.new }
+    ensures cross { cross.new ≡ cross.old }
+    ensures rows { rows.new ≡ rows.old }
+{
+    let first = rows.first.as_mut_slice();
+    let second = rows.second.as_mut_slice();
+    let keep = rows.keep.as_mut_slice();
+    let out = rows.results.as_mut_slice();
+    fill_over(course, own, cross, first, second, keep, out);
 }
 
 // The column of one asset.

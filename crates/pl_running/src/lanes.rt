@@ -2,7 +2,7 @@
 ghost use Rattle.std.specs.Prelude.{◌≡◌, ◌+◌, ◌<◌, ◌≤◌, ℤ, List, true, All, IsTrue, length};
 ghost use Rattle.pl_spec.specs.Rounding.{IsCell};
 ghost use Rattle.pl_spec.specs.Kind.Kind.{Window};
-ghost use Rattle.pl_spec.specs.Kind.WindowKind.{SimpleMovingAverage};
+ghost use Rattle.pl_spec.specs.Kind.WindowKind.{Latest, SimpleMovingAverage};
 ghost use Rattle.pl_terms.specs.Kinds.{kind_of};
 ghost use Rattle.pl_factors.specs.Kinds.{formula_of};
 ghost use Rattle.pl_running.specs.Kept.{kept_of};
@@ -21,6 +21,14 @@ fn least_of(kind: &TermKind) -> usize {
         TermKind::WindowMax | TermKind::WindowMin => 24,
         _ => 6,
     }
+}
+
+// Is the kind the latest value?
+#[tactic(auto, unfolding(pl_terms::specs::Kinds::kind_of))]
+fn is_latest(kind: &TermKind) -> bool
+    ensures { result ≡ true → kind_of kind.now ≡ Window Latest }
+{
+    matches!(kind, TermKind::Latest)
 }
 
 // Do the windows of a kind slide, and has each input that it reads windows?
@@ -121,6 +129,17 @@ fn fill_means(size: usize, a: &[i64], out: &mut [i64])
     }
 }
 
+// The latest values, which are the first cells of the windows.
+fn fill_latest(size: usize, a: &[i64], out: &mut [i64])
+    requires cells { All IsCell a.now }
+    requires some { 1 ≤ size }
+    requires long { size + length out.old ≤ length a.now + 1 }
+    ensures { (b c : List ℤ) → AreValues (Window Latest) size a.now b c (length out.old) out.new }
+{
+    let count = out.len();
+    out.copy_from_slice(&a[..count]);
+}
+
 // The values, each from what is kept of the windows before.
 fn fill_slid(kind: &TermKind, size: usize, a: &[i64], b: &[i64], c: &[i64], out: &mut [i64])
     requires lanes { TakesLanes (kind_of kind.now) size (length out.old) a.now b.now c.now }
@@ -152,7 +171,9 @@ pub fn fill_values(kind: &TermKind, size: usize, a: &[i64], b: &[i64], c: &[i64]
     ensures long { length out.new ≡ length out.old }
     ensures values { AreValues (kind_of kind.now) size a.now b.now c.now (length out.old) out.new }
 {
-    if !out.is_empty() && slides(kind, size, a, b, c) {
+    if is_latest(kind) && size > 0 && !a.is_empty() {
+        fill_latest(size, a, out);
+    } else if !out.is_empty() && slides(kind, size, a, b, c) {
         match kind {
             TermKind::SimpleMovingAverage => fill_means(size, a, out),
             _ => fill_slid(kind, size, a, b, c, out),

@@ -1,4 +1,4 @@
-use Rattle.std.proofs.Common.{◌≡◌, ◌≤◌, ◌+◌, ◌*◌, sym, subst, length}
+use Rattle.std.proofs.Common.{◌≡◌, ◌≤◌, ◌+◌, ◌*◌, sym, subst, refl, length, arith}
 use Rattle.pl_exec.specs.declared.course.Course.{Course}
 use Rattle.pl_exec.specs.Tasks.{IsArray, assets_in, cut, term_steps}
 use Rattle.pl_exec.specs.Jobs.{HasRows, IsColumnRun, node_in, task_in}
@@ -19,11 +19,13 @@ fill_bars-applied-requires-clause-second g c = subst (λ (x : Course). HasRows (
 pub fill_bars-applied-requires-clause-third : goal.fill_bars-applied-requires-clause-third
 fill_bars-applied-requires-clause-third g c = subst (λ (x : Course). HasRows (task_in x) x.term.0 (node_in x) 2 c.args.third.now) (sym c.course_of-course.ensures.is) c.requires.third
 
-pub returns-clause-array : goal.returns-clause-array
-returns-clause-array g c = subst (λ (x : Course). IsArray (task_in x) x.term.0 c.fill_bars-applied.new.own) c.course_of-course.ensures.is c.fill_bars-applied.ensures.array
-
-pub returns-clause-cost : goal.returns-clause-cost
-returns-clause-cost g c = subst (λ (x : Course). c.fill_bars-applied.new.steps ≡ c.args.steps.now + term_steps (task_in x) x.term.0) c.course_of-course.ensures.is c.fill_bars-applied.ensures.cost
-
-pub returns-clause-applied : goal.returns-clause-applied
-returns-clause-applied g c = subst (λ (x : Course). c.fill_bars-applied.result ≡ cut (term_steps (task_in x) x.term.0)) c.course_of-course.ensures.is c.fill_bars-applied.ensures.applied
+pub returns : goal.returns
+returns g c = record {
+  array = subst (λ (x : Course). IsArray (task_in x) x.term.0 c.fill_bars-applied.new.own) c.course_of-course.ensures.is c.fill_bars-applied.ensures.array;
+  slots = refl;
+  len = refl;
+  peak = omega (arith, c.requires.counted);
+  held = omega (arith, c.live-held.ensures);
+  cost = subst (λ (x : Course). c.fill_bars-applied.new.steps ≡ c.args.steps.now + term_steps (task_in x) x.term.0) c.course_of-course.ensures.is c.fill_bars-applied.ensures.cost;
+  applied = subst (λ (x : Course). c.fill_bars-applied.result ≡ cut (term_steps (task_in x) x.term.0)) c.course_of-course.ensures.is c.fill_bars-applied.ensures.applied;
+}
