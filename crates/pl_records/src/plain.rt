@@ -174,6 +174,7 @@ fn split<'a>(text: &'a [u8], fields: &mut Vec<&'a [u8]>) -> Result<Option<usize>
 }
 
 // A bit for each of the sixteen bytes from a place on, which is set where the byte may end a field.
+#[inline(always)]
 fn marks_of(text: &[u8], at: usize) -> u64
     requires { at + 16 ≤ length text.now }
     ensures { result ≡ mask_l (map is_low (chunk at 16 text.now)) }
@@ -184,6 +185,7 @@ fn marks_of(text: &[u8], at: usize) -> u64
 }
 
 // Goes on with a record over sixteen bytes, of which only those that may end a field are looked at.
+#[inline(always)]
 fn split_part<'a>(
     text: &'a [u8],
     first: usize,
@@ -213,6 +215,7 @@ fn split_part<'a>(
 }
 
 // Goes on with a record over one byte.
+#[inline(always)]
 fn cut_at<'a>(
     text: &'a [u8],
     start: usize,
