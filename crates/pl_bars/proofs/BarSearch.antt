@@ -20,7 +20,7 @@ use Rattle.pl_bars.proofs.BarSets.{same_default}
 at_true : (col session : ℕ) (b : BarRow) → b.col ≡ col → b.session ≡ session → is_at col session b ≡ true
 at_true col session b e f = grind (arith, nat_tests)
 
-at_parts : (col session : ℕ) (b : BarRow) → is_at col session b ≡ true → (b.col ≡ col) × (b.session ≡ session)
+pub at_parts : (col session : ℕ) (b : BarRow) → is_at col session b ≡ true → (b.col ≡ col) × (b.session ≡ session)
 at_parts col session b t =
     let p = and_parts (b.col == col) (b.session == session) t in (same _ _ p.0, same _ _ p.1)
   where

@@ -5,6 +5,9 @@ pub mod BarsSaid
 pub mod BarSearch
 pub mod BarFilling
 pub mod BarOnward
+pub mod BarOrder
+pub mod BarRange
+pub mod BarStretch
 pub mod BarWorlds
 pub mod ColumnTexts
 pub mod BarsCut

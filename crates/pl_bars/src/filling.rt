@@ -1,15 +1,18 @@
-ghost use Rattle.std.specs.Prelude.{◌≡◌, ℕ, ◌+◌, ◌*◌, ◌^◌, ◌<◌, ◌≤◌, length, pos, slice_index, slice_index_or};
+ghost use Rattle.std.specs.Prelude.{◌≡◌, ℕ, ◌+◌, ◌*◌, ◌^◌, ◌<◌, ◌≤◌, IsTrue, length, pos, slice_index, slice_index_or};
 ghost use Rattle.pl_spec.specs.Rounding.{IsCell};
 ghost use Rattle.pl_bars.specs.Bars.{AreBars, cell_at};
-ghost use Rattle.pl_bars.specs.BarPoint.{BarPoint};
+ghost use Rattle.pl_bars.specs.BarPoint.{BarPoint, IsStretch};
 
-use crate::search::{place_of, point_of};
+use crate::onward::{is_bar_of, likely_point};
+use crate::search::place_of;
+use crate::starts::Starts;
 use pl_fixed::MISSING;
 use pl_spec::{BarRow, Column};
 
 // Writes the cells of some columns on sessions from the first one on, column by column.
 pub(crate) fn fill_assets(
     bars: &[BarRow],
+    starts: &Starts,
     column: Column,
     first: usize,
     rows: usize,
@@ -27,19 +30,88 @@ pub(crate) fn fill_assets(
 {
     for (i, col) in cols.iter().enumerate() {
         let part = &mut into[i * rows..(i + 1) * rows];
-        fill_asset(bars, *col as usize, column, first, part);
+        fill_asset(bars, starts, *col as usize, column, first, part);
     }
 }
 
 // Writes the cells of a column on sessions from the first one on.
-fn fill_asset(bars: &[BarRow], col: usize, column: Column, first: usize, into: &mut [i64])
+fn fill_asset(
+    bars: &[BarRow],
+    starts: &Starts,
+    col: usize,
+    column: Column,
+    first: usize,
+    into: &mut [i64],
+)
     requires bars { AreBars bars.now }
     requires range { first + length into.old ≤ 2 ^ 32 }
     ensures values { (k : ℕ) → k < length into.old
         → slice_index_or into.new k (pos 0) ≡ cell_at bars.now col column (first + k) }
     ensures cells { (k : ℕ) → k < length into.old → IsCell (slice_index_or into.new k (pos 0)) }
 {
-    let mut at = point_of(bars, col, first);
+    let at = likely_point(bars, starts, col, first);
+    if is_stretch(bars, at, col, first, into.len()) {
+        copy_stretch(bars, at, col, column, first, into);
+    } else {
+        fill_by_session(bars, at, col, column, first, into);
+    }
+}
+
+// Whether the bars at a point are those of the column on so many sessions. The last of them tells, since
+// they stand by session.
+fn is_stretch(bars: &[BarRow], at: usize, col: usize, first: usize, count: usize) -> bool
+    requires bars { AreBars bars.now }
+    requires within { at ≤ length bars.now }
+    requires point { BarPoint col first bars.now at }
+    requires range { first + count ≤ 2 ^ 32 }
+    ensures { IsTrue result → IsStretch col first bars.now at count }
+{
+    if count == 0 {
+        return false;
+    }
+    let last = count - 1;
+    last < bars.len() - at && is_bar_of(&bars[at + last], col, first + last)
+}
+
+// Writes the cells of a column whose bars stand one after the other.
+fn copy_stretch(
+    bars: &[BarRow],
+    at: usize,
+    col: usize,
+    column: Column,
+    first: usize,
+    into: &mut [i64],
+)
+    requires bars { AreBars bars.now }
+    requires stretch { IsStretch col first bars.now at (length into.old) }
+    ensures values { (k : ℕ) → k < length into.old
+        → slice_index_or into.new k (pos 0) ≡ cell_at bars.now col column (first + k) }
+    ensures cells { (k : ℕ) → k < length into.old → IsCell (slice_index_or into.new k (pos 0)) }
+{
+    let place = place_of(column);
+    for k in 0..into.len() {
+        into[k] = bars[at + k].cells[place];
+    }
+}
+
+// Writes the cells of a column session by session, from the first one's point on.
+fn fill_by_session(
+    bars: &[BarRow],
+    point: usize,
+    col: usize,
+    column: Column,
+    first: usize,
+    into: &mut [i64],
+)
+    requires bars { AreBars bars.now }
+    requires within { point ≤ length bars.now }
+    requires point { BarPoint col first bars.now point }
+    requires range { first + length into.old ≤ 2 ^ 32 }
+    ensures values { (k : ℕ) → k < length into.old
+        → slice_index_or into.new k (pos 0) ≡ cell_at bars.now col column (first + k) }
+    ensures cells { (k : ℕ) → k < length into.old → IsCell (slice_index_or into.new k (pos 0)) }
+{
+    let mut at = point;
     for k in 0..into.len() {
         let (cell, next) = step(bars, at, col, first + k, column);
         into[k] = cell;

@@ -21,6 +21,7 @@ mod onward;
 mod places;
 mod reading;
 mod search;
+mod starts;
 
 pub use error::BarsError;
 pub use fields::{is_below_0, read_cell, read_column};
@@ -29,6 +30,7 @@ use pl_fixed::Memory;
 use pl_lifetimes::Assets;
 pub use pl_spec::BarRow;
 use pl_spec::Column;
+use starts::Starts;
 use std::alloc::Global;
 use std::marker::Model;
 
@@ -40,6 +42,7 @@ pub const MOST_BARS: usize = 4_000_000;
 #[derive(Debug, Drop)]
 pub struct Bars {
     rows: Vec<BarRow>,
+    starts: Starts,
 }
 
 impl Model for Bars {
@@ -74,7 +77,8 @@ impl Bars {
         ensures sessions { IfOk result (All (λ b. b.session < length sessions.now)) }
     {
         let rows = reading::read_bars(alloc, bytes, sessions, assets)?;
-        Ok(Bars { rows })
+        let starts = Starts::new(alloc, &rows, assets.len())?;
+        Ok(Bars { rows, starts })
     }
 
     /// The bars of these rows.
@@ -82,7 +86,10 @@ impl Bars {
         requires { AreBars rows.items }
         ensures { result ≡ rows.items }
     {
-        Bars { rows }
+        Bars {
+            rows,
+            starts: Starts::unknown(),
+        }
     }
 
     /// The bars of the sessions below `sessions`.
@@ -90,7 +97,10 @@ impl Bars {
         ensures { IfOk result (λ b. b ≡ bars_before sessions self.now) }
     {
         let rows = cut::rows_before(alloc, &self.rows, sessions)?;
-        Ok(Bars { rows })
+        Ok(Bars {
+            rows,
+            starts: Starts::unknown(),
+        })
     }
 
     /// How many bars there are. They stand by ascending column and then session.
@@ -134,6 +144,6 @@ impl Bars {
         ensures cells { (i k : ℕ) → i < length cols.now → k < rows
             → IsCell (slice_index_or into.new (i * rows + k) (pos 0)) }
     {
-        filling::fill_assets(&self.rows, column, first, rows, cols, into)
+        filling::fill_assets(&self.rows, &self.starts, column, first, rows, cols, into)
     }
 }

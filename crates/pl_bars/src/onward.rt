@@ -6,6 +6,7 @@ ghost use Rattle.pl_bars.specs.BarPoint.{AllBefore, BarPoint, NoneBefore};
 
 use crate::Bars;
 use crate::search::{point_of, stands_before};
+use crate::starts::Starts;
 use pl_fixed::MISSING;
 use pl_spec::BarRow;
 
@@ -48,7 +49,7 @@ fn row_onward(rows: &[BarRow], col: usize, session: usize, place: &mut usize) ->
 }
 
 // The point of the column and session, searched for where it is another place.
-fn point_onward(rows: &[BarRow], col: usize, session: usize, place: usize) -> usize
+pub(crate) fn point_onward(rows: &[BarRow], col: usize, session: usize, place: usize) -> usize
     requires { AreBars rows.now }
     ensures within { result ≤ length rows.now }
     ensures point { BarPoint col session rows.now result }
@@ -58,6 +59,66 @@ fn point_onward(rows: &[BarRow], col: usize, session: usize, place: usize) -> us
     } else {
         point_of(rows, col, session)
     }
+}
+
+// The point of the column and session, where most times it is where the column's bars make it likely.
+pub(crate) fn likely_point(bars: &[BarRow], starts: &Starts, col: usize, session: usize) -> usize
+    requires { AreBars bars.now }
+    ensures within { result ≤ length bars.now }
+    ensures point { BarPoint col session bars.now result }
+{
+    let place = starts.likely_place(bars, col, session);
+    if is_point(bars, col, session, place) {
+        place
+    } else {
+        point_between(
+            bars,
+            col,
+            session,
+            starts.start(col),
+            starts.start(col.saturating_add(1)),
+        )
+    }
+}
+
+// The point, searched for between two places where it lies between them.
+fn point_between(rows: &[BarRow], col: usize, session: usize, low: usize, high: usize) -> usize
+    requires { AreBars rows.now }
+    ensures within { result ≤ length rows.now }
+    ensures point { BarPoint col session rows.now result }
+{
+    if is_between_them(rows, col, session, low, high) {
+        point_in(rows, col, session, low, high)
+    } else {
+        point_of(rows, col, session)
+    }
+}
+
+// The point, which lies between two places.
+fn point_in(rows: &[BarRow], col: usize, session: usize, low: usize, high: usize) -> usize
+    requires rows { AreBars rows.now }
+    requires order { low ≤ high }
+    requires most { high ≤ length rows.now }
+    requires before { AllBefore col session rows.now low }
+    requires after { NoneBefore col session rows.now high }
+    ensures within { result ≤ length rows.now }
+    ensures point { BarPoint col session rows.now result }
+{
+    low + point_of(&rows[low..high], col, session)
+}
+
+// Whether the point lies between two places.
+fn is_between_them(rows: &[BarRow], col: usize, session: usize, low: usize, high: usize) -> bool
+    requires { AreBars rows.now }
+    ensures order { IsTrue result → low ≤ high }
+    ensures within { IsTrue result → high ≤ length rows.now }
+    ensures before { IsTrue result → AllBefore col session rows.now low }
+    ensures after { IsTrue result → NoneBefore col session rows.now high }
+{
+    if low > high || high > rows.len() {
+        return false;
+    }
+    are_before(rows, col, session, low) && are_behind(rows, col, session, high)
 }
 
 // Whether the place is the point, by the bar at it, which most times is the one, or by those beside it.
@@ -78,7 +139,7 @@ fn stands_at(rows: &[BarRow], col: usize, session: usize, place: usize) -> bool
     place < rows.len() && is_bar_of(&rows[place], col, session)
 }
 
-fn is_bar_of(row: &BarRow, col: usize, session: usize) -> bool
+pub(crate) fn is_bar_of(row: &BarRow, col: usize, session: usize) -> bool
     ensures { result ≡ is_at col session row.now }
 {
     row.col as usize == col && row.session as usize == session

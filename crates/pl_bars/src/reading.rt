@@ -1,8 +1,9 @@
-ghost use Rattle.std.specs.Prelude.{◌≡◌, ◌+◌, ◌*◌, ◌/◌, ◌^◌, ◌<◌, ◌≤◌, [], ◌∷◌, ◌++◌, ◌==◌, length, min, vec_capacity, OnOk, IfOk};
+ghost use Rattle.std.specs.Prelude.{◌≡◌, ◌+◌, ◌*◌, ◌/◌, ◌^◌, ◌<◌, ◌≤◌, [], ◌∷◌, ◌++◌, ◌==◌, length, min, nat_lt, vec_capacity, IsTrue, OnOk, IfOk};
 ghost use Rattle.pl_records.specs.Reading.{Answers, at_line, rows_of};
 ghost use Rattle.pl_records.specs.Sorted.{HasOwnKeys, sorted_by};
 ghost use Rattle.pl_records.specs.Records.{csv_records};
 ghost use Rattle.pl_bars.specs.Bars.{bars_of, key_of, rows_in, says_bar};
+ghost use Rattle.pl_bars.specs.BarPoint.{IsAfter, Rise};
 ghost use Rattle.pl_bars.specs.BarSet.{AreBarsIn};
 ghost use Rattle.pl_bars.specs.Faults.{fault_of};
 ghost use Rattle.pl_spec.specs.Limits.{most_sessions, most_bars};
@@ -32,9 +33,33 @@ pub(crate) fn read_bars(
     ensures few { length sessions.now ≤ most_sessions }
 {
     let _count = sessions.len();
-    let mut rows = read_rows(alloc, bytes, sessions, assets)?;
+    let read = read_rows(alloc, bytes, sessions, assets)?;
+    Ok(ordered(read))
+}
+
+// The bars in the order of the file, and whether that is seen to be the order of columns and sessions.
+#[derive(Drop)]
+struct Unordered {
+    rows: Vec<BarRow>,
+    rise: bool,
+    ghost rises: { IsTrue rise → Rise rows.items },
+}
+
+// The bars by column and session. Most files have them so.
+fn ordered(read: Unordered) -> Vec<BarRow>
+    requires { HasOwnKeys key_of read.rows.items }
+    ensures { result.items ≡ sorted_by key_of read.rows.items }
+{
+    let Unordered { rows, rise } = read;
+    if rise { rows } else { sorted(rows) }
+}
+
+fn sorted(mut rows: Vec<BarRow>) -> Vec<BarRow>
+    requires { HasOwnKeys key_of rows.items }
+    ensures { result.items ≡ sorted_by key_of rows.items }
+{
     sort_by_place(&mut rows);
-    Ok(rows)
+    rows
 }
 
 fn sort_by_place(rows: &mut [BarRow])
@@ -57,8 +82,8 @@ fn read_rows(
     bytes: &[u8],
     sessions: &Sessions,
     assets: &Assets,
-) -> Result<Vec<BarRow>, BarsError>
-    ensures { Answers (λ v. v.items) fault_of result
+) -> Result<Unordered, BarsError>
+    ensures { Answers (λ u. u.rows.items) fault_of result
         (rows_in sessions.now assets.now (csv_records bytes.now)) }
 {
     let mut records = Records::new(alloc, bytes);
@@ -83,24 +108,49 @@ fn room_for(alloc: Global, bytes: &[u8]) -> Result<Vec<BarRow>, AllocError>
 }
 
 // The bars of the records after the header.
+#[tactic(auto, using(crate::proofs::BarOrder::rise_empty))]
 fn rows_behind(
     alloc: Global,
     mut rows: Vec<BarRow>,
     records: &mut Records,
     sessions: &Sessions,
     assets: &Assets,
-) -> Result<Vec<BarRow>, BarsError>
+) -> Result<Unordered, BarsError>
     requires { rows.items ≡ [] }
-    ensures { Answers (λ v. v.items) fault_of result
+    ensures { Answers (λ u. u.rows.items) fault_of result
         (rows_of 2 (says_bar sessions.now assets.now) records.old.left) }
 {
     let dates = dates_of(alloc, sessions)?;
     let mut seen = BarSet::new(alloc, assets.len(), sessions.len())?;
+    let mut rise = true;
     'rows: while records.next()? {
         let bar = next_bar(&rows, &dates, &mut seen, records, sessions, assets)?;
+        rise = rise_on(rise, &rows, &bar);
         rows.push(bar)?;
     }
-    Ok(rows)
+    Ok(Unordered { rows, rise })
+}
+
+// Whether bars that rise do so with one more after them.
+fn rise_on(rise: bool, before: &[BarRow], bar: &BarRow) -> bool
+    ensures before { IsTrue result → IsTrue rise }
+    ensures after { IsTrue result → IsAfter bar.now before.now }
+{
+    rise && is_after(before, bar)
+}
+
+// Whether a bar stands after the last one.
+fn is_after(before: &[BarRow], bar: &BarRow) -> bool
+    ensures { IsTrue result → IsAfter bar.now before.now }
+{
+    let count = before.len();
+    count == 0 || rises(&before[count - 1], bar)
+}
+
+fn rises(a: &BarRow, b: &BarRow) -> bool
+    ensures { result ≡ nat_lt (key_of a.now) (key_of b.now) }
+{
+    key(a) < key(b)
 }
 
 // The bar of the record that was read last, after the bars before it, which are those of the set.

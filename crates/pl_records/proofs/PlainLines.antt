@@ -1,5 +1,5 @@
 -- A line without quotes is a record, whose fields stand between its commas.
-use Rattle.std.proofs.Common.{◌≡◌, ◌⊎◌, inl, inr, ℕ, suc, ◌+◌, ◌-◌, ◌<◌, ◌≤◌, ◌==◌, List, [], ◌∷◌, ◌++◌, length, take, drop, get_or, get_or-drop, length-drop, drop-cons, add-one, Bool, true, false, refl, sym, ap, ◌∙◌, arith, Option, Some, None}
+use Rattle.std.proofs.Common.{◌≡◌, inl, inr, ℕ, zero, suc, ◌+◌, ◌-◌, ◌<◌, ◌≤◌, ◌==◌, List, [], ◌∷◌, ◌++◌, length, take, drop, get_or, get_or-drop, length-drop, drop-cons, add-one, true, false, refl, sym, ap, subst, ◌∙◌, arith, Option, Some}
 use Rattle.std.proofs.lemmas.Grind.{common_steps}
 use Rattle.std.proofs.lemmas.List.{drop_all, take_more}
 use Rattle.std.proofs.lemmas.Bool.Decides.{nat_tests}
@@ -10,6 +10,7 @@ use Rattle.csv.specs.declared.parser.State.TheVariants as st
 use Rattle.csv.specs.declared.parser.Action.TheVariants as act
 use Rattle.pl_records.specs.Records.{csv_records}
 use Rattle.pl_records.specs.Plain.{is_line_end, StartsRecord}
+use Rattle.pl_records.specs.PlainCuts.{IsInside, IsReadTo, IsCutTo}
 use Rattle.pl_records.specs.QuotedInside.{records_left}
 use Rattle.pl_records.proofs.Facts.{fuel-same}
 use Rattle.pl_records.proofs.TakenRecords.{took-go, Took}
@@ -78,15 +79,6 @@ no_line text line e same n =
 
 -- ---- a record up to some place
 
-abbrev IsInside : State → Type 0
-IsInside s = (s ≡ st.StartField) ⊎ (s ≡ st.InField)
-
--- what the record of the text is, by its fields so far and the text that is left of it
-pub record IsReadTo (whole : Option Read) (fields : List (List ℕ)) (field left : List ℕ) : Type 0 where
-  pub state : State
-  pub inside : IsInside state
-  pub same : whole ≡ next_record default_config state fields field left
-
 step-comma : (s : State) → IsInside s → step default_config s 44 ≡ (st.StartField, act.EndField)
 step-comma s (inl e) = rw e refl
 step-comma s (inr e) = rw e refl
@@ -151,11 +143,7 @@ return-first : (left : List ℕ) → records_left st.AfterCr (Some left) ≡ csv
 return-first left =
     same-records st.AfterCr st.StartRecord left left refl refl (after-cr left) ∙ sym (behind-end 13 left refl) ∙ sym (unmarked_records (13 ∷ left) refl)
 
--- ---- the same, by places in the text: a field begins at start, and the byte at i comes next
-
-pub record IsCutTo (text : List ℕ) (fields : List (List ℕ)) (start i : ℕ) : Type 0 where
-  pub low : start ≤ i
-  pub read : IsReadTo (next_record default_config st.StartRecord [] [] text) fields (take (i - start) (drop start text)) (drop i text)
+-- ---- the same, by places in the text
 
 pub cut-none : (text : List ℕ) → 0 < length text → StartsRecord text → IsCutTo text [] 0 0
 cut-none [] p h = absurd (omega arith)
@@ -224,3 +212,11 @@ cut-all text fields start h =
     let none = drop_all (length text) text (omega arith) in
     first_record text [] _ st.StartRecord (read-all _ fields _ (rw none at h.read))
     ∙ ap (λ rs. (fields ++ take (length text - start) (drop start text) ∷ []) ∷ rs) (sym (unmarked_records [] refl) ∙ ap csv_records (sym none))
+
+-- bytes above the comma are passed over
+pub cut-over : (text : List ℕ) (fields : List (List ℕ)) (start i n : ℕ) → i + n ≤ length text → ((k : ℕ) → k < n → 44 < get_or text (i + k) 0) → IsCutTo text fields start i
+    → IsCutTo text fields start (i + n)
+cut-over text fields start i zero inside high h = subst (IsCutTo text fields start) (let e : i ≡ i + 0 = omega arith in e) h
+cut-over text fields start i (suc n) inside high h =
+    let before = cut-over text fields start i n (omega arith) (λ k l. high k (omega arith)) h in
+    subst (IsCutTo text fields start) (let e : i + n + 1 ≡ i + suc n = omega arith in e) (cut-high text fields start (i + n) (omega arith) (high n (omega arith)) before)

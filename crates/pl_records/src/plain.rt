@@ -1,13 +1,16 @@
 //! The records of a text as long as they have no quotes: a line is a record, and its fields are what
 //! stands between its commas. They are the pieces of the text itself, and nothing is copied.
-ghost use Rattle.std.specs.Prelude.{◌≡◌, ◌==◌, ◌<◌, ◌≤◌, ◌∷◌, [], drop, length, map, slice_index, IfOk, IfSome, OnErr};
+ghost use Rattle.std.specs.Prelude.{◌≡◌, ◌==◌, ◌+◌, ◌<◌, ◌≤◌, ◌∷◌, [], drop, length, map, slice_index, IfOk, IfSome, OnErr};
 ghost use Rattle.csv.specs.Reading.{records, default_config};
 ghost use Rattle.pl_records.specs.Reading.{field};
 ghost use Rattle.pl_records.specs.Records.{csv_records};
 ghost use Rattle.pl_records.specs.Plain.{StartsRecord, Advances, is_line_end};
+ghost use Rattle.pl_records.specs.PlainCuts.{IsCut, IsCutTo, is_low};
+ghost use Rattle.std.specs.Simd.Lanes.{chunk, mask_l};
 
 use std::alloc::{AllocError, Global};
 use std::marker::Model;
+use std::simd::prelude::*;
 
 /// The record that was read last, and the text after it.
 #[derive(Drop)]
@@ -135,6 +138,17 @@ fn is_line_end(byte: u8) -> bool
     byte == b'\r' || byte == b'\n'
 }
 
+// What became of the bytes of a record up to some place.
+#[derive(Clone, Copy)]
+pub(crate) enum Cut {
+    // The record goes on. A field begins at the place.
+    On(usize),
+    // The record ends at the place.
+    End(usize),
+    // It has a quote.
+    Quoted,
+}
+
 // Splits the first record of the text into its fields, and gives the place after it; `None` where it has a
 // quote.
 fn split<'a>(text: &'a [u8], fields: &mut Vec<&'a [u8]>) -> Result<Option<usize>, AllocError>
@@ -146,23 +160,111 @@ fn split<'a>(text: &'a [u8], fields: &mut Vec<&'a [u8]>) -> Result<Option<usize>
         ≡ map (λ f. f.now) fields.new.items ∷ csv_records (drop end text.now))) }
 {
     let mut start = 0;
-    for i in 0..text.len() {
+    let mut at = 0;
+    'parts: while text.len() - at >= 16 {
+        let cut = split_part(text, start, at, fields)?;
+        match cut {
+            Cut::On(next) => start = next,
+            Cut::End(end) => return Ok(Some(end)),
+            Cut::Quoted => return Ok(None),
+        }
+        at += 16;
+    }
+    split_rest(text, start, at, fields)
+}
+
+// A bit for each of the sixteen bytes from a place on, which is set where the byte may end a field.
+#[inline(always)]
+fn marks_of(text: &[u8], at: usize) -> u64
+    requires { at + 16 ≤ length text.now }
+    ensures { result ≡ mask_l (map is_low (chunk at 16 text.now)) }
+{
+    u8x16::from_slice(&text[at..])
+        .simd_le(u8x16::splat(b','))
+        .to_bitmask()
+}
+
+// Goes on with a record over sixteen bytes, of which only those that may end a field are looked at.
+#[inline(always)]
+fn split_part<'a>(
+    text: &'a [u8],
+    first: usize,
+    at: usize,
+    fields: &mut Vec<&'a [u8]>,
+) -> Result<Cut, AllocError>
+    requires room { at + 16 ≤ length text.now }
+    requires cut { IsCutTo text.now (map (λ f. f.now) fields.old.items) first at }
+    ensures { IfOk result (IsCut text.now (map (λ f. f.now) fields.new.items) (at + 16)) }
+{
+    let mut marks = marks_of(text, at);
+    let mut start = first;
+    let mut next = at;
+    'lows: while marks != 0 {
+        let before = marks.trailing_zeros();
+        let place = next + before as usize;
+        let cut = cut_at(text, start, place, fields)?;
+        match cut {
+            Cut::On(later) => start = later,
+            Cut::End(end) => return Ok(Cut::End(end)),
+            Cut::Quoted => return Ok(Cut::Quoted),
+        }
+        marks = (marks >> before) >> 1;
+        next = place + 1;
+    }
+    Ok(Cut::On(start))
+}
+
+// Goes on with a record over one byte.
+#[inline(always)]
+fn cut_at<'a>(
+    text: &'a [u8],
+    start: usize,
+    i: usize,
+    fields: &mut Vec<&'a [u8]>,
+) -> Result<Cut, AllocError>
+    requires inside { i < length text.now }
+    requires cut { IsCutTo text.now (map (λ f. f.now) fields.old.items) start i }
+    ensures { IfOk result (IsCut text.now (map (λ f. f.now) fields.new.items) (i + 1)) }
+{
+    match text[i] {
+        b',' => {
+            fields.push(&text[start..i])?;
+            Ok(Cut::On(i + 1))
+        }
+        b'\n' | b'\r' => {
+            fields.push(&text[start..i])?;
+            Ok(Cut::End(i))
+        }
+        b'"' => Ok(Cut::Quoted),
+        _ => Ok(Cut::On(start)),
+    }
+}
+
+// Goes on with a record over all bytes that are left.
+fn split_rest<'a>(
+    text: &'a [u8],
+    first: usize,
+    at: usize,
+    fields: &mut Vec<&'a [u8]>,
+) -> Result<Option<usize>, AllocError>
+    requires most { at ≤ length text.now }
+    requires cut { IsCutTo text.now (map (λ f. f.now) fields.old.items) first at }
+    ensures within { IfOk result (λ found. IfSome found (λ end. end ≤ length text.now)) }
+    ensures record { IfOk result (λ found. IfSome found (λ end. records default_config text.now
+        ≡ map (λ f. f.now) fields.new.items ∷ csv_records (drop end text.now))) }
+{
+    let mut start = first;
+    for i in at..text.len() {
         let byte = text[i];
         // Digits and letters, which are most bytes, take one comparison.
         if byte > b',' {
             continue;
         }
-        match byte {
-            b',' => {
-                fields.push(&text[start..i])?;
-                start = i + 1;
-            }
-            b'\n' | b'\r' => {
-                fields.push(&text[start..i])?;
-                return Ok(Some(i));
-            }
-            b'"' => return Ok(None),
-            _ => {}
+        let cut = cut_at(text, start, i, fields)?;
+        match cut {
+            Cut::On(next) => start = next,
+            Cut::End(end) => return Ok(Some(end)),
+            Cut::Quoted => return Ok(None),
         }
     }
     fields.push(&text[start..])?;

@@ -13,3 +13,7 @@ returns-clause-cols c = (AreInside-read c.args.sessions.now c.args.assets.now (c
 
 pub returns-clause-sessions : goal.returns-clause-sessions
 returns-clause-sessions c = (AreInside-read c.args.sessions.now c.args.assets.now (csv_records c.args.bytes.now) c.in_ok-rows.rows.items c.in_ok-rows.ensures.exact).sessions
+
+pub new-requires : goal.new-requires
+new-requires c =
+    rw c.deref.ensures.value (AreBars-read c.args.sessions.now c.args.assets.now (csv_records c.args.bytes.now) c.in_ok-rows.rows.items c.in_ok-rows.ensures.few c.in_ok-rows.ensures.exact)

@@ -5,6 +5,7 @@ use Rattle.pl_records.proofs.Readings.{goes_on, stops, is_done}
 use Rattle.pl_spec.specs.Limits.{most_bars}
 use Rattle.pl_bars.specs.Bars.{says_bar}
 use Rattle.pl_bars.specs.Faults.{fault_of}
+use Rattle.pl_bars.proofs.BarOrder.{rise_more}
 use Rattle.pl_bars.proofs.reading.rows_behind.Goals as goal
 
 pub returns-in_err-bar : goal.returns-in_err-bar
@@ -24,6 +25,7 @@ rows-preserved c =
       cols = c.in_ok-bar.ensures.cols;
       sessions = c.in_ok-bar.ensures.sessions;
       seen = rw (items, ← c.deref.ensures.value) c.in_ok-bar.ensures.seen;
+      rises = λ t. rw items (rise_more c.rows.rows.items c.in_ok-bar.bar (c.rows.invariant.rises (c.rise_on-rise.ensures.before t)) (rw c.deref-in-rows-2.ensures.value at c.rise_on-rise.ensures.after t));
     }
 
 pub returns : goal.returns

@@ -1,7 +1,8 @@
-use Rattle.std.proofs.Common.{◌≡◌, ◌≤◌, length}
+use Rattle.std.proofs.Common.{◌≡◌, ◌≤◌, IsTrue, length}
 use Rattle.pl_records.specs.Reading.{rows_of, rows_behind}
 use Rattle.pl_spec.specs.Limits.{most_bars}
 use Rattle.pl_bars.specs.Bars.{says_bar}
+use Rattle.pl_bars.specs.BarPoint.{Rise}
 use Rattle.pl_bars.specs.BarSet.{AreBarsIn}
 use Rattle.pl_bars.proofs.reading.rows_behind.Given as goal
 
@@ -12,6 +13,7 @@ invariant-rows l = record {
   cols : l.seen.cols ≡ length l.assets;
   sessions : l.seen.sessions ≡ length l.sessions;
   seen : AreBarsIn l.seen l.rows.items;
+  rises : IsTrue l.rise → Rise l.rows.items;
 }
 
 abbrev pub decreases-rows : goal.decreases-rows

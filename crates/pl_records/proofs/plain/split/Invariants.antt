@@ -1,6 +1,12 @@
-use Rattle.std.proofs.Common.{map}
-use Rattle.pl_records.proofs.PlainLines.{IsCutTo}
+use Rattle.std.proofs.Common.{map, length, ◌-◌, ◌≤◌}
+use Rattle.pl_records.specs.PlainCuts.{IsCutTo}
 use Rattle.pl_records.proofs.plain.split.Given as goal
 
-abbrev pub invariant-loop-i : goal.invariant-loop-i
-invariant-loop-i l = IsCutTo l.text (map (λ f. f.now) l.fields.items) l.start l.i
+abbrev pub invariant-parts : goal.invariant-parts
+invariant-parts l = record {
+  most : l.at ≤ length l.text;
+  cut : IsCutTo l.text (map (λ f. f.now) l.fields.items) l.start l.at;
+}
+
+abbrev pub decreases-parts : goal.decreases-parts
+decreases-parts l = length l.text - l.at

@@ -1,6 +1,4 @@
-use Rattle.std.proofs.Common.{◌≡◌, ◌==◌, ◌-◌, ◌<◌, length, take, drop, get_or, take_all, length-drop, sym, ap, ◌∙◌, arith, true, false}
-use Rattle.std.proofs.lemmas.Bool.Decides.{nat_tests}
-use Rattle.pl_records.specs.Records.{csv_records}
+use Rattle.std.proofs.Common.{◌≡◌, ◌-◌, length, take, drop, take_all, length-drop, sym, ◌∙◌, arith}
 use Rattle.pl_records.proofs.PlainLines.{from_line, no_line}
 use Rattle.pl_records.proofs.plain.PlainRecords.read.Goals as goal
 

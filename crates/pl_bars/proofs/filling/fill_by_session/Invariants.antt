@@ -2,7 +2,7 @@ use Rattle.std.proofs.Common.{◌≡◌, ◌+◌, ◌<◌, ◌≤◌, ℕ, lengt
 use Rattle.pl_spec.specs.Rounding.{IsCell}
 use Rattle.pl_bars.specs.Bars.{cell_at}
 use Rattle.pl_bars.specs.BarPoint.{BarPoint}
-use Rattle.pl_bars.proofs.filling.fill_asset.Given as goal
+use Rattle.pl_bars.proofs.filling.fill_by_session.Given as goal
 
 abbrev pub invariant-loop-k : goal.invariant-loop-k
 invariant-loop-k l = record {
