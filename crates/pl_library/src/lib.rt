@@ -6,9 +6,9 @@
 /// Cells, ratios, dates and sids, and the counter of steps.
 pub mod numbers {
     pub use pl_fixed::{
-        Column, DecimalFault, Frequency, LIM, MISSING, Memory, Ratio, Steps, add, div, div_round,
-        is_cell, isqrt, mul, neg, quot, read_day, read_decimal, read_sid, sub, to_cell, write_day,
-        write_decimal,
+        Column, DecimalFault, Frequency, LIM, MISSING, Memory, Ratio, ReadyRatio, Steps, add, div,
+        div_round, is_cell, isqrt, mul, neg, quot, read_day, read_decimal, read_sid, sub, to_cell,
+        write_day, write_decimal,
     };
 }
 
@@ -26,7 +26,7 @@ pub mod world {
         Adjust, AdjustError, Adjustments, Change, Effect, Kind, RevisionsError, effect_for,
         seen_now,
     };
-    pub use pl_adjust_sql::{SqlKeeper, TableError, read_table};
+    pub use pl_adjust_sql::{SqlKeeper, TableError, create_table, create_tables, read_table};
     pub use pl_assets::{AssetRow, Assets, AssetsError, Labels, LabelsError};
     pub use pl_bars::{BarRow, Bars, BarsError};
     pub use pl_calendar::{CalendarError, Sessions};
