@@ -9,3 +9,4 @@ pub mod BarWorlds
 pub mod ColumnTexts
 pub mod BarsCut
 pub mod FirstPlaces
+pub mod BarsMoved
