@@ -27,7 +27,6 @@ both_not b c e f = rw (e, f) refl
 module _ {Row R : Type 0} (says : List Row → Record → Result Row R) (most : ℕ) (Is : Record → Row → Type 0) (clash : Row → Row → Bool)
     (flips : (x y : Row) → clash x y ≡ clash y x)
     (tells : (before : List Row) (r : Record) (row : Row) → (says before r ≡ Ok row) ↔ Fits most Is clash before r row) where
-
   -- rows before in another order leave the next one as it is
   moved : (before other : List Row) → IsPermutation before other → (r : Record) (row : Row) → says before r ≡ Ok row → says other r ≡ Ok row
   moved before other m r row e =
@@ -44,8 +43,7 @@ module _ {Row R : Type 0} (says : List Row → Record → Result Row R) (most : 
   swapped before r q row other e f =
       let first = (tells before r row).0 e in
       let second = (tells (before ++ row ∷ []) q other).0 f in
-      let apart = neither (list_any (clash other) before) (clash other row) (sym (list_any-append (clash other) before (row ∷ [])) ∙ second.own) in
-      (
+      let apart = neither (list_any (clash other) before) (clash other row) (sym (list_any-append (clash other) before (row ∷ [])) ∙ second.own) in (
         (tells before q other).1 (record { few = first.few; is = second.is; own = apart.0 }),
         (tells (before ++ other ∷ []) r row).1 (record {
           few = omega (arith, second.few, length-append before (row ∷ []), length-append before (other ∷ []));
@@ -110,8 +108,7 @@ module _ {Row R : Type 0} (says : List Row → Record → Result Row R) (most : 
       let one = went_on before r (q ∷ xs) rows e in
       let two = went_on (before ++ one.0 ∷ []) q xs rows one.2 in
       let either = swapped before r q one.0 two.0 one.1 two.1 in
-      let rest = same xs ((before ++ one.0 ∷ []) ++ two.0 ∷ []) ((earlier ++ two.0 ∷ []) ++ one.0 ∷ []) (last_two before earlier m one.0 two.0) rows two.2 in
-      (
+      let rest = same xs ((before ++ one.0 ∷ []) ++ two.0 ∷ []) ((earlier ++ two.0 ∷ []) ++ one.0 ∷ []) (last_two before earlier m one.0 two.0) rows two.2 in (
         rest.0,
         goes_on earlier q (r ∷ xs) two.0 (moved before earlier m q two.0 either.0)
             ∙ goes_on (earlier ++ two.0 ∷ []) r xs one.0 (moved (before ++ two.0 ∷ []) (earlier ++ two.0 ∷ []) (IsPermutation-append_left (two.0 ∷ []) before earlier m) r one.0 either.1)

@@ -95,8 +95,7 @@ records-in-any-order files others m days assets labels bars are =
     let assets_are = AreAssets-read files.assets assets are.assets_read in
     let bars_are = AreBars-read days assets files.bars bars days_are.few are.bars_read in
     let inside = AreInside-read days assets files.bars bars are.bars_read in
-    let found = labels-read assets files.labels others.labels m.labels labels are.labels_read in
-    (
+    let found = labels-read assets files.labels others.labels m.labels labels are.labels_read in (
       found.0,
       record {
         days_read = rw (← m.sessions) are.days_read;
