@@ -31,8 +31,8 @@ pub fn bars_in_plain_words()
 
 /// Records after the first, the header, are in another order read as the same bars.
 pub fn bars_in_any_order()
-    ensures { (days : List ℤ) (assets : List AssetRow) → AreDays days
-        → (first : Record) (records others : List Record) → IsPermutation records others → (bars : List BarRow)
+    ensures { (days : List ℤ) (assets : List AssetRow) → AreDays days → (first : Record)
+        (records others : List Record) → IsPermutation records others → (bars : List BarRow)
         → bars_of days assets (first ∷ records) ≡ Ok bars → bars_of days assets (first ∷ others) ≡ Ok bars }
 {}
 

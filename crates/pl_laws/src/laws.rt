@@ -4,7 +4,8 @@ ghost use Rattle.pl_laws.specs.Laws.{ValuesAgree, RoundingIsExact, BufferSteps, 
 ghost use Rattle.pl_laws.specs.Laws.{TermsAreDistinct, OrderIsOne, OrderIsKept, RootIsGreatest, UsedAreListed};
 ghost use Rattle.pl_laws.specs.Laws.{RawWithoutEvents, WindowOfOne, OpenMasksChangeNothing, TablesConcatenate};
 ghost use Rattle.pl_laws.specs.AsOfLaws.{AsOfAgrees, TablesAsOf, PartsAsOf};
-ghost use Rattle.pl_laws.specs.PermutedLaws.{AgreeingWorldsAreAlike, OrderChangesNothing, TableRowsInAnyOrder};
+ghost use Rattle.pl_laws.specs.PermutedLaws.{AgreeingWorldsAreAlike, OrderChangesNothing};
+ghost use Rattle.pl_laws.specs.PermutedLaws.{TableRowsInAnyOrder};
 ghost use Rattle.pl_laws.specs.LowLaws.{StartsAreFirst, ReachesRise, ReachIsEnough, LowsCover, ReachesCover, ReachesMeet};
 ghost use Rattle.pl_laws.specs.DateLaws.{DatesAreRead, DatesAreWritten, DaysHaveOneDate};
 ghost use Rattle.pl_laws.specs.SidLaws.{SidsAreRead};

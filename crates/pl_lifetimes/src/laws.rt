@@ -23,5 +23,6 @@ pub fn assets_in_plain_words()
 /// Records after the first, the header, are in another order read as the same assets.
 pub fn assets_in_any_order()
     ensures { (first : Record) (records others : List Record) → IsPermutation records others
-        → (assets : List AssetRow) → assets_of (first ∷ records) ≡ Ok assets → assets_of (first ∷ others) ≡ Ok assets }
+        → (assets : List AssetRow) → assets_of (first ∷ records) ≡ Ok assets
+        → assets_of (first ∷ others) ≡ Ok assets }
 {}

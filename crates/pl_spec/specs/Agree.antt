@@ -8,9 +8,9 @@ use Rattle.pl_spec.specs.World.{World, Event, events_of, day_of, bar_cell, exist
 abbrev pub is_known : ℤ → Event → Bool
 is_known day e = int_le e.day day
 
--- The worlds have the same sessions up to d, whose day is the given one, and whatever is looked up is the same
--- in both: bars before d, lifetimes and labels up to d. Of each sid they have the same adjustments that are
--- effective by that day. In which order bars, assets and label rows stand does not matter.
+-- The worlds have the same sessions up to d, whose day is the given one, and whatever is looked up is the
+-- same in both: bars before d, lifetimes and labels up to d. Of each sid they have the same adjustments that
+-- are effective by that day. In which order bars, assets and label rows stand does not matter.
 pub record Agree (w v : World) (d day : ℤ) : Type 0 where
   pub is_day : day_of w d ≡ Some day
   pub days : (s : ℤ) → s ≤ℤ d → day_of w s ≡ day_of v s

@@ -4,8 +4,8 @@ use Rattle.std.specs.Ordering.{int_eq}
 use Rattle.pl_spec.specs.declared.Column.{Column}
 use Rattle.pl_spec.specs.World.{World, Event, events_of, bar_cell, exists, label_at}
 
--- The worlds have the same sessions, and whatever is looked up is the same in both: bars, lifetimes, labels, and
--- of each sid the adjustments in the order in which they act.
+-- The worlds have the same sessions, and whatever is looked up is the same in both: bars, lifetimes, labels,
+-- and of each sid the adjustments in the order in which they act.
 pub record AgreeInAll (w v : World) : Type 0 where
   pub days : w.days ≡ v.days
   pub bars : (a : ℕ) (c : Column) (s : ℤ) → bar_cell w a c s ≡ bar_cell v a c s
@@ -21,8 +21,9 @@ events_on w a day = filter (λ e. int_eq e.day day) (events_of w a)
 abbrev pub EventsHaveOwnDays : World → Type 0
 EventsHaveOwnDays w = (a : ℕ) → AllPairs (λ e f. e.day ≢ f.day) (events_of w a)
 
--- The worlds have the same sessions, and the assets, label rows and bars of one are those of the other in some
--- order. So are the adjustments, but those of one asset and one day stand in the same order, in which they act.
+-- The worlds have the same sessions, and the assets, label rows and bars of one are those of the other in
+-- some order. So are the adjustments, but those of one asset and one day stand in the same order, in which
+-- they act.
 pub record HaveSameRows (w v : World) : Type 0 where
   pub days : w.days ≡ v.days
   pub assets : IsPermutation w.assets v.assets
