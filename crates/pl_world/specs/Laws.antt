@@ -35,8 +35,10 @@ pub record LaterDataChangeNothing (c : Parts) : Type 0 where
       → (format : Format) (from to : ℕ) → pos to ≤ℤ d
       → text w (pipeline_of c) format (table w (pipeline_of c) from to) ≡ text v (pipeline_of c) format (table v (pipeline_of c) from to)
 
--- Whatever is looked up is the same in both worlds, and so are the rows of each pipeline, which are written alike.
+-- Whatever is looked up is the same in both worlds, and so are the rows of each pipeline, which are written
+-- alike.
 pub record ShowAlike (w v : World) : Type 0 where
   pub agree : AgreeInAll w v
   pub rows : (p : Pipeline) (from to : ℕ) → table w p from to ≡ table v p from to
-  pub texts : (p : Pipeline) (format : Format) (from to : ℕ) → text w p format (table w p from to) ≡ text v p format (table v p from to)
+  pub texts : (p : Pipeline) (format : Format) (from to : ℕ)
+      → text w p format (table w p from to) ≡ text v p format (table v p from to)

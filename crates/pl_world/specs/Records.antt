@@ -20,7 +20,8 @@ pub record DataFiles : Type 0 where
   pub bars : List Record
 
 -- each is read without a fault, as this part
-pub record AreReadAs (files : DataFiles) (days : List ℤ) (assets : List AssetRow) (labels : LabelTable) (bars : List BarRow) : Type 0 where
+pub record AreReadAs (files : DataFiles) (days : List ℤ) (assets : List AssetRow) (labels : LabelTable)
+    (bars : List BarRow) : Type 0 where
   pub days_read : sessions_of files.sessions ≡ Ok days
   pub assets_read : assets_of files.assets ≡ Ok assets
   pub labels_read : labels_of assets files.labels ≡ Ok labels
@@ -38,11 +39,14 @@ pub record FilesAreMoved (files others : DataFiles) : Type 0 where
   pub labels : AreMoved files.labels others.labels
   pub bars : AreMoved files.bars others.bars
 
--- The others are read too, as the same sessions, assets and bars and as the same label rows in some order. With any
--- adjustments of these assets the two worlds show the same.
+-- The others are read too, as the same sessions, assets and bars and as the same label rows in some order.
+-- With any adjustments of these assets the two worlds show the same.
 abbrev pub RecordsInAnyOrder : Type 0
 RecordsInAnyOrder = (files others : DataFiles) → FilesAreMoved files others
-    → (days : List ℤ) (assets : List AssetRow) (labels : LabelTable) (bars : List BarRow) → AreReadAs files days assets labels bars
+    → (days : List ℤ) (assets : List AssetRow) (labels : LabelTable) (bars : List BarRow)
+    → AreReadAs files days assets labels bars
     → (other : LabelTable) × AreReadAs others days assets other bars × IsPermutation labels.rows other.rows
-    × ((adjustments : List ColumnAdjustment) → All (λ x. x.col < length assets) adjustments → StandByDay adjustments
-    → ShowAlike (parts.world_of days assets labels.rows labels.texts bars adjustments) (parts.world_of days assets other.rows other.texts bars adjustments))
+    × ((adjustments : List ColumnAdjustment)
+    → All (λ x. x.col < length assets) adjustments → StandByDay adjustments
+    → ShowAlike (parts.world_of days assets labels.rows labels.texts bars adjustments)
+    (parts.world_of days assets other.rows other.texts bars adjustments))

@@ -2,7 +2,8 @@
 //! nothing but ask for a size: what the types keep is enough.
 
 ghost use Rattle.pl_spec.specs.Permuted.{HaveSameRows};
-ghost use Rattle.pl_world.specs.Laws.{EarlyBarsChangeNothing, LaterDataChangeNothing, ShowAlike, ValuesFollowNodes};
+ghost use Rattle.pl_world.specs.Laws.{EarlyBarsChangeNothing, LaterDataChangeNothing, ShowAlike};
+ghost use Rattle.pl_world.specs.Laws.{ValuesFollowNodes};
 ghost use Rattle.pl_world.specs.Records.{RecordsInAnyOrder};
 ghost use Rattle.pl_world.specs.Worlds.{IsMade, PartsMakeAWorld, world_of};
 
