@@ -2,7 +2,6 @@
 use Rattle.std.specs.Prelude.{◌≡◌, ◌⊎◌, ℕ, ◌+◌, ◌≤◌, List, [], length, Bool, IsTrue, Option, None, IsSome}
 use Rattle.pl_outside.specs.Files.{Files}
 use Rattle.pl_outside.specs.Lists.{Lists}
-use Rattle.pl_outside.specs.Counts.{Rose}
 use Rattle.pl_outside.specs.Taken.{TakesAll, TakesPrefix}
 use Rattle.pl_words.specs.Request.{Request, adjustments_of}
 use Rattle.pl_judge.specs.Contents.{Contents, AreHeld}
@@ -67,8 +66,3 @@ pub record IsRun (o : Observed) (asked : Option Request) (status : ℕ) (line nu
   pub complete : IsTrue o.shelf_sound → (IsSome (adjustments_of asked) → IsTrue o.keeper_sound)
       → (first_fault (work held asked) ≡ None → HasRoom o (length (text_of held asked))) → IsTrue o.out_sound
       → EndsJudged (work held asked) asked status line ⊎ EndsForMemory asked status line
-
--- the line is told, where the sink tells, and counted no fault in this call or is sound with room
-pub record IsTold {S : Type 0} (taken : S → Option (List ℕ)) (faults : S → ℕ) (sound : S → Bool) (room : S → ℕ) (old new : S) (line : List ℕ) : Type 0 where
-  pub unless_risen : (Rose (faults old) (faults new) → ⊥) → TakesAll (taken old) (taken new) line
-  pub in_room : IsTrue (sound old) → length line ≤ room old → TakesAll (taken old) (taken new) line

@@ -2,10 +2,11 @@
 ghost use Rattle.std.specs.Prelude.{◌≡◌, ◌++◌, ℕ, List, Some, None, map, option_map, string_bytes, IfErr, IfSome};
 ghost use Rattle.pl_outside.specs.Counts.{Rose};
 ghost use Rattle.pl_outside.specs.Left.{Leaves, LeavesSink, IsUntouched};
+ghost use Rattle.pl_outside.specs.Taken.{IsTold};
 ghost use Rattle.pl_words.specs.Request.{HasChunk, request, adjustments_of};
 ghost use Rattle.pl_words.specs.Views.{request_of};
 ghost use Rattle.pl_judge.specs.Faults.{judged_status, judged_line};
-ghost use Rattle.pl_cli.specs.Runs.{observed, IsRun, IsTold};
+ghost use Rattle.pl_cli.specs.Runs.{observed, IsRun};
 ghost use Rattle.pl_cli.specs.Commands.{IsEnded, IsCaused, fault_of, numbers_told};
 
 use crate::cells::explain_command;

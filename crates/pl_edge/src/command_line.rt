@@ -1,49 +1,80 @@
 // The words of the command line.
-ghost use Rattle.std.specs.Prelude.{◌≡◌, ◌↔◌};
+ghost use Rattle.std.specs.Prelude.{◌≡◌, ◌↔◌, drop, IfErr, IfOk, IsErr, OnOk};
 ghost use Rattle.std.specs.IoError.{error_kind};
+ghost use Rattle.std.specs.Vec.Iter.{into_iter_items};
+ghost use Rattle.pl_edge.specs.Starts.{line_of, status_of};
 
-use std::alloc::AllocFailed;
-use std::env;
+use std::alloc::{AllocFailed, Global};
+use std::env::Args;
 use std::io::{self, ErrorKind};
 
-/// Why there are no words.
+/// Why the program can't begin.
 #[derive(Clone, Copy, Debug, PartialEq, Eq)]
-pub enum WordsError {
-    /// One of them is no text in UTF-8.
+pub enum StartError {
+    /// One of the words is no text in UTF-8.
     NotText,
     /// Memory ran out.
     Memory,
 }
 
-impl<T: Drop> From<AllocFailed<T>> for WordsError {
-    ghost use Rattle.pl_edge.specs.declared.command_line.WordsError.TheVariants.{Memory};
+impl StartError {
+    /// The status with which the program ends.
+    pub fn status(self) -> u8
+        ensures { result ≡ status_of self }
+    {
+        match self {
+            StartError::NotText => 2,
+            StartError::Memory => 10,
+        }
+    }
 
-    ghost from_gives = { λ _ e. e ≡ Memory };
-
-    fn from(_refused: AllocFailed<T>) -> WordsError {
-        WordsError::Memory
+    /// The line on standard error.
+    pub fn line(self) -> &'static [u8]
+        ensures { result.now ≡ line_of self }
+    {
+        match self {
+            StartError::NotText => b"usage\n",
+            StartError::Memory => b"memory\n",
+        }
     }
 }
 
-/// The words after the program's name.
-pub fn words(rt: &HostRuntime) -> Result<Vec<String>, WordsError> {
-    let args = match env::args(rt) {
+impl<T: Drop> From<AllocFailed<T>> for StartError {
+    ghost use Rattle.pl_edge.specs.declared.command_line.StartError.TheVariants.{Memory};
+
+    ghost from_gives = { λ _ e. e ≡ Memory };
+
+    fn from(_refused: AllocFailed<T>) -> StartError {
+        StartError::Memory
+    }
+}
+
+/// The words after the program's name, of those that `std::env::args` answered.
+pub fn words(alloc: Global, args: io::Result<Args>) -> Result<Vec<String>, StartError>
+    ensures words { IfOk args (λ args. IfOk result (λ words. words.items ≡ drop 1 (into_iter_items args))) }
+    ensures refused { IfErr args (λ error. IfErr result (λ why. why ≡ StartError.Memory
+        ↔ (error_kind error ≡ ErrorKind.OutOfMemory))) }
+    ensures none { IfErr args (λ _. IsErr result) }
+    ensures memory { OnOk args (IfErr result (λ why. why ≡ StartError.Memory)) }
+{
+    let mut args = match args {
         Ok(args) => args,
         Err(error) => return Err(why_no_words(&error)),
     };
-    let mut words = Vec::new(rt.alloc());
-    for word in args.skip(1) {
+    let _name = args.next();
+    let mut words = Vec::new(alloc);
+    for word in args {
         words.push(word)?;
     }
     Ok(words)
 }
 
 // The system's words fail by want of memory or by their bytes alone.
-fn why_no_words(error: &io::Error) -> WordsError
-    ensures { result ≡ WordsError.Memory ↔ (error_kind error.now ≡ ErrorKind.OutOfMemory) }
+fn why_no_words(error: &io::Error) -> StartError
+    ensures { result ≡ StartError.Memory ↔ (error_kind error.now ≡ ErrorKind.OutOfMemory) }
 {
     match error.kind() {
-        ErrorKind::OutOfMemory => WordsError::Memory,
-        _ => WordsError::NotText,
+        ErrorKind::OutOfMemory => StartError::Memory,
+        _ => StartError::NotText,
     }
 }

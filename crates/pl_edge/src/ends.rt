@@ -1,27 +1,47 @@
 // How the program ends.
-ghost use Rattle.std.specs.Prelude.{◌≡◌};
+ghost use Rattle.std.specs.Prelude.{◌≡◌, [], codes};
 ghost use Rattle.std.specs.Process.{exit_status};
+ghost use Rattle.std.specs.Io.Buffered.{writer_buffer, writer_contents};
+ghost use Rattle.std.specs.Io.KnownBytes.{Keeps};
 ghost use Rattle.pl_outside.specs.Counts.{Rose};
+ghost use Rattle.pl_outside.specs.Taken.{IsTold};
+ghost use Rattle.pl_edge.specs.Starts.{line_of, status_of};
 
+use crate::command_line::StartError;
 use crate::stream::Stream;
 use pl_outside::{Sink, write_bytes};
-use std::io::Write;
+use std::io::{BufWriter, Write};
 use std::process::ExitCode;
 
-/// Tells why nothing was run. The status is the same where that can't be told.
-pub fn ended<E: Sink>(err: &mut E, line: &[u8], status: u8) -> ExitCode
-    ensures { exit_status result ≡ status }
+/// Writes why nothing was run. The status is the same where that can't be written.
+pub fn ended<E: Sink>(err: &mut E, why: StartError) -> ExitCode
+    ensures status { exit_status result ≡ status_of why }
+    ensures told { IsTold E.taken E.faults E.sound E.room err.old err.new (line_of why) }
 {
-    let _ = write_bytes(err, line);
-    ExitCode::from(status)
+    let _ = write_bytes(err, why.line());
+    ExitCode::from(why.status())
 }
 
 /// The status after what was gathered for standard output is written, too. A failure of that changes status 0
-/// alone.
-pub fn flushed<W: Write + Drop, E: Sink>(out: &mut Stream<W>, err: &mut E, status: u8) -> u8
+/// alone, and then the line `write` is written to `err`.
+pub fn flushed<W: Write + Drop, E: Sink>(
+    out: &mut Stream<BufWriter<W>>,
+    err: &mut E,
+    status: u8,
+) -> u8
     ensures kept { ¬ (status ≡ 0) → result ≡ status }
     ensures well { result ≡ 0 → out.new.faults ≡ out.old.faults }
     ensures failed { ¬ (result ≡ status) → (result ≡ 9) × Rose out.old.faults out.new.faults }
+
+    // Nothing is left in the buffer, unless a fault was counted, and no byte of it is lost.
+    ensures written { result ≡ 0 → writer_buffer out.new.to ≡ [] }
+    ensures tried { ¬ (Rose out.old.faults out.new.faults) → writer_buffer out.new.to ≡ [] }
+    ensures bytes { Keeps (writer_contents W.contents out.old.to) (writer_contents W.contents out.new.to) }
+
+    // A line is written exactly where the status changed.
+    ensures told { ¬ (result ≡ status)
+        → IsTold E.taken E.faults E.sound E.room err.old err.new (codes "write\n") }
+    ensures quiet { result ≡ status → err.new ≡ err.old }
 {
     if out.flush().is_err() && status == 0 {
         let _ = write_bytes(err, b"write\n");

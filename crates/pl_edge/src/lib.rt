@@ -12,7 +12,7 @@ mod stream;
 #[cfg(test)]
 mod tests;
 
-pub use command_line::{WordsError, words};
+pub use command_line::{StartError, words};
 pub use ends::{ended, flushed};
 pub use file_keeper::FileKeeper;
 pub use file_shelf::FileShelf;

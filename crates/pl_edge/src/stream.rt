@@ -1,11 +1,14 @@
 // Standard output and standard error.
-ghost use Rattle.std.specs.Prelude.{◌≡◌, None, OnOk, false};
+ghost use Rattle.std.specs.Prelude.{◌≡◌, ◌≤◌, ◌<◌, [], None, IfOk, OnOk, length, false};
+ghost use Rattle.std.specs.Io.Buffered.{writer_buffer, writer_contents};
+ghost use Rattle.std.specs.Io.KnownBytes.{Keeps, WriteAppends};
 ghost use Rattle.pl_outside.specs.Counts.{HasCause, count_end, count_plus};
 
 use pl_outside::{Failed, Sink};
-use std::io::Write;
+use std::io::{BufWriter, Write};
 
-/// A writer of the system as a sink. It tells nothing but its faults.
+/// A writer of the system as a sink. As a sink it tells nothing but its faults; what its writer holds, where
+/// that is known, grows by exactly the bytes that it takes.
 #[derive(Drop)]
 pub struct Stream<W: Write + Drop> {
     to: W,
@@ -15,13 +18,26 @@ pub struct Stream<W: Write + Drop> {
 impl<W: Write + Drop> Stream<W> {
     /// Nothing is written yet.
     pub fn new(to: W) -> Stream<W>
-        ensures { result.faults ≡ 0 }
+        ensures to { result.to ≡ to }
+        ensures faults { result.faults ≡ 0 }
     {
         Stream { to, faults: 0 }
     }
 
+    fn failed(&mut self) -> Failed
+        ensures faults { self.new.faults ≡ count_plus self.old.faults 1 }
+        ensures to { self.new.to ≡ self.old.to }
+    {
+        self.faults = self.faults.saturating_add(1);
+        Failed
+    }
+}
+
+impl<W: Write + Drop> Stream<BufWriter<W>> {
     /// Writes what is gathered.
     pub fn flush(&mut self) -> Result<(), Failed>
+        ensures written { OnOk result (writer_buffer self.new.to ≡ []) }
+        ensures bytes { Keeps (writer_contents W.contents self.old.to) (writer_contents W.contents self.new.to) }
         ensures cause { HasCause self.old.faults self.new.faults result }
         ensures quiet { OnOk result (self.new.faults ≡ self.old.faults) }
     {
@@ -29,13 +45,6 @@ impl<W: Write + Drop> Stream<W> {
             Ok(()) => Ok(()),
             Err(_) => Err(self.failed()),
         }
-    }
-
-    fn failed(&mut self) -> Failed
-        ensures { self.new.faults ≡ count_plus self.old.faults 1 }
-    {
-        self.faults = self.faults.saturating_add(1);
-        Failed
     }
 }
 
@@ -51,7 +60,15 @@ impl<W: Write + Drop> Sink for Stream<W> {
 
     ghost room = { λ _. 0 };
 
-    fn write(&mut self, bytes: &[u8]) -> Result<usize, Failed> {
+    // a system takes as much of a piece as it can
+    ghost whole = { λ _. false };
+
+    fn write(&mut self, bytes: &[u8]) -> Result<usize, Failed>
+        ensures within { IfOk result (λ n. n ≤ length bytes.now) }
+        ensures some { IfOk result (λ n. 0 < length bytes.now → 0 < n) }
+        ensures bytes { WriteAppends (W.contents self.old.to) (W.contents self.new.to) result bytes.now }
+        ensures cause { HasCause self.old.faults self.new.faults result }
+    {
         match self.to.write(bytes) {
             Ok(0) if !bytes.is_empty() => Err(self.failed()),
             Ok(count) => Ok(count),

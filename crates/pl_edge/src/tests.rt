@@ -107,7 +107,11 @@ fn counts_failed_flushes(rt: HostRuntime) -> Result<(), Fail> {
 }
 
 // The status that is left where a row was gathered, and the faults before and after that.
-fn flushed_row<W: Write + Drop>(rt: &HostRuntime, to: W, status: u8) -> io::Result<(u8, u64, u64)> {
+fn flushed_row<W: Write + Drop>(
+    rt: &HostRuntime,
+    to: BufWriter<W>,
+    status: u8,
+) -> io::Result<(u8, u64, u64)> {
     let mut err = Stream::new(full(rt)?);
     let mut out = Stream::new(to);
     let _ = write_bytes(&mut out, b"row");

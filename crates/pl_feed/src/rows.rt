@@ -1,8 +1,8 @@
 //! The rows of a session.
-ghost use Rattle.std.specs.Prelude.{◌≡◌, ◌≤◌, ◌<◌, ◌+◌, ◌++◌, true, pos, length, slice_get, Some};
+ghost use Rattle.std.specs.Prelude.{◌≡◌, ◌≤◌, ◌<◌, ◌+◌, ◌++◌, true, pos, length, slice_get, Some, OnOk};
 ghost use Rattle.pl_spec.specs.Table.{NamedColumn, row, session_rows};
 ghost use Rattle.pl_spec.specs.Text.{row_line};
-ghost use Rattle.pl_outside.specs.Taken.{Writes};
+ghost use Rattle.pl_outside.specs.Taken.{IsWrittenIn, Writes};
 ghost use Rattle.pl_world.specs.Worlds.{IsMade, world_of};
 ghost use Rattle.pl_terms.specs.Checked.{pipeline_of};
 ghost use Rattle.pl_planner.specs.Plans.{IsPlanOf};
@@ -36,9 +36,11 @@ pub(crate) fn write_asked<O: Sink>(
     requires plan { IsPlanOf world.now.sessions.now (pipeline_of checked.now) plan.now }
     requires session { session < length world.now.sessions.now }
     requires fed { IsFed world.now (pipeline_of checked.now) (session + 1) daily.now }
-    ensures { Writes O.taken O.faults O.sound O.room out.old out.new
+    ensures writes { Writes O.taken O.faults O.sound O.room out.old out.new
         (lines (world_of world.now) (pipeline_of checked.now) format
         (asked_rows (world_of world.now) (pipeline_of checked.now) plan.now.from session)) result }
+    ensures pieces { OnOk result (IsWrittenIn O.whole O.calls out.old out.new
+        (length (asked_rows (world_of world.now) (pipeline_of checked.now) plan.now.from session))) }
 {
     // what the parts of a world keep by themselves
     let _sessions = world.sessions.len();
@@ -66,9 +68,11 @@ fn write_session<O: Sink>(
     requires session { session < length world.now.sessions.now }
     requires fed { IsFed world.now (pipeline_of checked.now) (session + 1) daily.now }
     requires answered { daily.now.answered ≡ true }
-    ensures { Writes O.taken O.faults O.sound O.room out.old out.new
+    ensures writes { Writes O.taken O.faults O.sound O.room out.old out.new
         (lines (world_of world.now) (pipeline_of checked.now) format
         (session_rows (world_of world.now) (pipeline_of checked.now) (pos session))) result }
+    ensures pieces { OnOk result (IsWrittenIn O.whole O.calls out.old out.new
+        (length (session_rows (world_of world.now) (pipeline_of checked.now) (pos session)))) }
 {
     // what the parts of a world keep by themselves
     parts_make_a_world(world);
@@ -100,10 +104,11 @@ fn write_row<O: Sink>(
 ) -> Result<(), Failed>
     requires morning { IsMorning morning.now }
     requires kept { i < length morning.now.daily.now.kept }
-    ensures { Writes O.taken O.faults O.sound O.room out.old out.new
+    ensures writes { Writes O.taken O.faults O.sound O.room out.old out.new
         (row_line (world_in morning.now) (pipeline_in morning.now) format
         (row (world_in morning.now) (pipeline_in morning.now) (pos morning.now.session)
         (sid_of morning.now i))) result }
+    ensures pieces { IsWrittenIn O.whole O.calls out.old out.new 1 }
 {
     let col = morning.daily.kept()[i] as usize;
     line.clear();

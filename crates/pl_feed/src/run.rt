@@ -1,8 +1,8 @@
 //! The table of a plan's range, session by session.
-ghost use Rattle.std.specs.Prelude.{◌≡◌, ◌≤◌, ◌+◌, ◌++◌, ◌⊎◌, OnOk, IsErrOf};
+ghost use Rattle.std.specs.Prelude.{◌≡◌, ◌≤◌, ◌+◌, ◌++◌, ◌⊎◌, length, OnOk, IsErrOf};
 ghost use Rattle.pl_spec.specs.Table.{table};
 ghost use Rattle.pl_spec.specs.Text.{text};
-ghost use Rattle.pl_outside.specs.Taken.{Writes};
+ghost use Rattle.pl_outside.specs.Taken.{IsWrittenIn, Writes};
 ghost use Rattle.pl_world.specs.Worlds.{IsMade, world_of};
 ghost use Rattle.pl_terms.specs.Checked.{pipeline_of};
 ghost use Rattle.pl_planner.specs.Plans.{IsPlanOf};
@@ -43,6 +43,9 @@ pub fn run_daily<O: Sink, L: Ledger>(
     ensures writes { IsErrOf result RunError.Memory ⊎ Writes O.taken O.faults O.sound O.room out.old out.new
         (text (world_of world.now) (pipeline_of checked.now) format
         (table (world_of world.now) (pipeline_of checked.now) plan.now.from plan.now.to)) result }
+    // A sink that takes each piece whole got the header and each row in one call.
+    ensures pieces { OnOk result (IsWrittenIn O.whole O.calls out.old out.new (1 + length
+        (table (world_of world.now) (pipeline_of checked.now) plan.now.from plan.now.to))) }
     ensures memory { IsErrOf result RunError.Memory → (out.new ≡ out.old) × (steps.new ≡ steps.old) }
     ensures cost { OnOk result (steps.new ≡ steps.old
         + daily_steps (world_of world.now) (pipeline_of checked.now) plan.now.to) }
@@ -74,6 +77,8 @@ fn write_all<O: Sink, L: Ledger>(
     ensures writes { Writes O.taken O.faults O.sound O.room out.old out.new
         (header.now ++ lines (world_of world.now) (pipeline_of checked.now) format
         (table (world_of world.now) (pipeline_of checked.now) plan.now.from plan.now.to)) result }
+    ensures pieces { OnOk result (IsWrittenIn O.whole O.calls out.old out.new (1 + length
+        (table (world_of world.now) (pipeline_of checked.now) plan.now.from plan.now.to))) }
     ensures cost { OnOk result (steps.new ≡ steps.old
         + daily_steps (world_of world.now) (pipeline_of checked.now) plan.now.to) }
     ensures at_most { steps.new ≤ steps.old

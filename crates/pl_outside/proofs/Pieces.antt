@@ -3,7 +3,7 @@ use Rattle.std.proofs.Common.{◌≡◌, ◌≤◌, ◌+◌, ◌++◌, ℕ, List
 use Rattle.std.proofs.lemmas.Grind.{common_steps}
 use Rattle.std.proofs.lemmas.List.{take-append-le}
 use Rattle.std.proofs.Math.Seq.{take-append-add}
-use Rattle.pl_outside.specs.Taken.{TakesAll, Writes}
+use Rattle.pl_outside.specs.Taken.{IsWrittenIn, TakesAll, Writes}
 use Rattle.pl_outside.proofs.Counting.{Rose-later}
 use Rattle.pl_outside.proofs.Takes.{takes-none, takes-more}
 
@@ -91,3 +91,16 @@ writing-over {taken = taken} {faults = faults} {sound = sound} {room = room} {ol
 pub writes-over : {S T E : Type 0} {taken : S → Option (List ℕ)} {faults : S → ℕ} {sound : S → Bool} {room : S → ℕ} {old new : S} {text other : List ℕ} {r : Result T E}
     → text ≡ other → Writes taken faults sound room old new text r → Writes taken faults sound room old new other r
 writes-over {taken = taken} {faults = faults} {sound = sound} {room = room} {old = old} {new = new} {r = r} e h = subst (λ xs. Writes taken faults sound room old new xs r) e h
+
+-- ---- in how many pieces
+
+pub written-none : {S : Type 0} {whole : S → Bool} {calls : S → ℕ} {old : S} {n : ℕ} → n ≡ 0 → IsWrittenIn whole calls old old n
+written-none {n = n} none = record { stays = refl; counted = λ w. omega arith }
+
+pub written-more : {S : Type 0} {whole : S → Bool} {calls : S → ℕ} {old mid new : S} {m n k : ℕ}
+    → IsWrittenIn whole calls old mid m → IsWrittenIn whole calls mid new n → k ≡ m + n → IsWrittenIn whole calls old new k
+written-more {m = m} {n = n} {k = k} first second sum =
+    record {
+      stays = second.stays ∙ first.stays;
+      counted = λ w. omega (arith, first.counted w, second.counted (rw first.stays w), sum);
+    }

@@ -1,6 +1,6 @@
 -- What a sink takes.
 use Rattle.std.specs.Prelude.{ℕ, ◌≡◌, ◌≤◌, ◌+◌, List, ◌++◌, take, length, Option, option_map, Result, Bool, IsTrue, IsOk, OnOk, OnErr}
-use Rattle.pl_outside.specs.Counts.{Rose}
+use Rattle.pl_outside.specs.Counts.{Rose, count_plus}
 
 -- these bytes were taken after those taken before, where the sink tells
 abbrev pub TakesAll : Option (List ℕ) → Option (List ℕ) → List ℕ → Type 0
@@ -14,6 +14,11 @@ TakesPrefix old new bytes = (n : ℕ) × (n ≤ length bytes) × TakesAll old ne
 abbrev pub IsBlameless : {T E : Type 0} → Bool → ℕ → ℕ → ℕ → ℕ → Result T E → Type 0
 IsBlameless sound room length before now result = IsTrue sound → length ≤ room → IsOk result × (now ≡ before)
 
+-- A sink that takes each piece whole got so many pieces, and goes on so.
+pub record IsWrittenIn {S : Type 0} (whole : S → Bool) (calls : S → ℕ) (old new : S) (pieces : ℕ) : Type 0 where
+  pub stays : whole new ≡ whole old
+  pub counted : IsTrue (whole old) → calls new ≡ count_plus (calls old) pieces
+
 -- A call writes this text to a sink: all of it, or after a counted fault a prefix; and all of it to a sound
 -- sink with room.
 pub record Writes {S T E : Type 0} (taken : S → Option (List ℕ)) (faults : S → ℕ) (sound : S → Bool) (room : S → ℕ)
@@ -25,3 +30,8 @@ pub record Writes {S T E : Type 0} (taken : S → Option (List ℕ)) (faults : S
   pub stays : sound new ≡ sound old
   pub room_left : IsTrue (sound old) → OnOk result (room new + length text ≡ room old)
   pub blameless : IsBlameless (sound old) (room old) (length text) (faults old) (faults new) result
+
+-- the line is told, where the sink tells, and counted no fault in this call or is sound with room
+pub record IsTold {S : Type 0} (taken : S → Option (List ℕ)) (faults : S → ℕ) (sound : S → Bool) (room : S → ℕ) (old new : S) (line : List ℕ) : Type 0 where
+  pub unless_risen : (Rose (faults old) (faults new) → ⊥) → TakesAll (taken old) (taken new) line
+  pub in_room : IsTrue (sound old) → length line ≤ room old → TakesAll (taken old) (taken new) line

@@ -11,7 +11,7 @@ use std::marker::Model;
 
 /// A sink that keeps what it takes. It is sound exactly where `failing` is empty: a write fails exactly where
 /// its number is in that list or the piece is longer than the room, which is what was reserved and isn't yet
-/// taken.
+/// taken. It takes each piece whole where `piece` is 0.
 #[derive(Drop)]
 pub struct MemorySink {
     bytes: Vec<u8>,
@@ -74,6 +74,8 @@ impl Sink for MemorySink {
     ghost sound = { λ sink. never_fails sink.calls };
 
     ghost room = { λ sink. sink.room };
+
+    ghost whole = { λ sink. sink.piece == 0 };
 
     fn write(&mut self, bytes: &[u8]) -> Result<usize, Failed>
         ensures fails { is_err result

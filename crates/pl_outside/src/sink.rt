@@ -1,5 +1,5 @@
 // What takes bytes.
-ghost use Rattle.std.specs.Prelude.{◌≡◌, ◌≤◌, ◌<◌, ◌+◌, ℕ, List, Option, None, Ok, take, length, IfOk, IsTrue, Bool, false, IsSome};
+ghost use Rattle.std.specs.Prelude.{◌≡◌, ◌≤◌, ◌<◌, ◌+◌, ℕ, List, Option, None, Ok, take, length, IfOk, IsTrue, Bool, true, false, IsSome};
 ghost use Rattle.pl_outside.specs.Counts.{HasCause, count_plus, count_end, moved};
 ghost use Rattle.pl_outside.specs.Taken.{TakesAll, IsBlameless};
 
@@ -25,6 +25,9 @@ pub trait Sink {
     /// How many more bytes it has room for. This is meant where it is sound.
     ghost room: { Self → ℕ };
 
+    /// Whether it takes each piece whole, or fails.
+    ghost whole: { Self → Bool };
+
     /// Takes bytes from the front of the piece, and tells how many. To take nothing of a nonempty piece is a
     /// fault.
     fn write(&mut self, bytes: &[u8]) -> Result<usize, Failed>
@@ -36,7 +39,9 @@ pub trait Sink {
             (faults self.old) (faults self.new) result }
         ensures room { IsTrue (sound self.old) → room self.new + moved result ≡ room self.old }
         ensures counted { calls self.new ≡ count_plus (calls self.old) 1 }
-        ensures stays { sound self.new ≡ sound self.old };
+        ensures whole { IsTrue (whole self.old) → IfOk result (λ n. n ≡ length bytes.now) }
+        ensures stays { sound self.new ≡ sound self.old }
+        ensures stays_whole { whole self.new ≡ whole self.old };
 
     // A sound sink tells.
     ghost sound_tells: { (sink : Self) → IsTrue (sound sink) → IsSome (taken sink) };
@@ -57,6 +62,8 @@ impl Sink for NullSink {
     ghost sound = { λ _. false };
 
     ghost room = { λ _. 0 };
+
+    ghost whole = { λ _. true };
 
     fn write(&mut self, bytes: &[u8]) -> Result<usize, Failed>
         ensures { result ≡ Ok (length bytes.now) }

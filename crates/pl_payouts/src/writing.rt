@@ -1,5 +1,5 @@
-ghost use Rattle.std.specs.Prelude.{◌≡◌, ◌<◌, length, All, IfOk, IsErrOf};
-ghost use Rattle.pl_outside.specs.Taken.{Writes};
+ghost use Rattle.std.specs.Prelude.{◌≡◌, ◌<◌, ◌+◌, length, All, IfOk, IsErrOf, OnOk};
+ghost use Rattle.pl_outside.specs.Taken.{IsWrittenIn, Writes};
 ghost use Rattle.pl_payouts.specs.Payouts.{AreKnown};
 ghost use Rattle.pl_payouts.specs.Texts.{payouts_kept, payouts_text};
 
@@ -14,7 +14,7 @@ use pl_outside::{Sink, write_bytes};
 use std::alloc::Global;
 
 /// Writes the header `record,sid,effective_date,num,den,reason` and a line for each payout in the
-/// order of its file: its number, its sid, the seconds from 1970-01-01 to its ex day, and the ratio
+/// order of its file, each in one piece: its number, its sid, the seconds from 1970-01-01 to its ex day, and the ratio
 /// of its row and no reason, or no ratio and the reason why it has no row. Gives the number of
 /// payouts that have a row. It takes no memory.
 pub fn write_payouts<O: Sink>(
@@ -29,6 +29,7 @@ pub fn write_payouts<O: Sink>(
     requires cols { All (λ b. b.col < length assets.now) bars.now }
     ensures writes { Writes O.taken O.faults O.sound O.room out.old out.new
         (payouts_text sessions.now assets.now bars.now payouts.now) result }
+    ensures pieces { OnOk result (IsWrittenIn O.whole O.calls out.old out.new (1 + length payouts.now)) }
     ensures kept { IfOk result (λ n. n ≡ payouts_kept sessions.now assets.now bars.now payouts.now) }
     ensures memory { ¬ IsErrOf result PayoutsOut.Memory }
 {

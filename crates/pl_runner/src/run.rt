@@ -3,7 +3,7 @@ ghost use Rattle.std.specs.Prelude.{◌≡◌, ◌≤◌, ◌<◌, ◌+◌, ◌-
 ghost use Rattle.pl_spec.specs.Graph.{bound};
 ghost use Rattle.pl_spec.specs.Table.{table};
 ghost use Rattle.pl_spec.specs.Text.{text};
-ghost use Rattle.pl_outside.specs.Taken.{Writes};
+ghost use Rattle.pl_outside.specs.Taken.{IsWrittenIn, Writes};
 ghost use Rattle.pl_world.specs.Worlds.{IsMade, world_of};
 ghost use Rattle.pl_terms.specs.Checked.{pipeline_of};
 ghost use Rattle.pl_terms.specs.Uses.{outputs};
@@ -62,6 +62,8 @@ pub fn run_table<O: Sink, L: Ledger>(
     ensures writes { IsErrOf result RunError.Memory ⊎ Writes O.taken O.faults O.sound O.room out.old out.new
         (text (world_of world.now) (pipeline_of checked.now) format
         (table (world_of world.now) (pipeline_of checked.now) plan.now.from plan.now.to)) result }
+    // A sink that takes each piece whole got the header and each row in one call.
+    ensures pieces { IfOk result (λ report. IsWrittenIn O.whole O.calls out.old out.new (1 + report.rows)) }
     ensures memory { IsErrOf result RunError.Memory → (out.new ≡ out.old) × (steps.new ≡ steps.old) }
     ensures report { IfOk result (IsReport (world_of world.now) (pipeline_of checked.now) plan.now chunk) }
     ensures cost { OnOk result (steps.new ≡ steps.old
@@ -99,6 +101,7 @@ fn write_all<O: Sink, L: Ledger>(
     ensures writes { Writes O.taken O.faults O.sound O.room out.old out.new
         (header.now ++ lines (world_of world.now) (pipeline_of checked.now) format
         (table (world_of world.now) (pipeline_of checked.now) plan.now.from plan.now.to)) result }
+    ensures pieces { IfOk result (λ report. IsWrittenIn O.whole O.calls out.old out.new (1 + report.rows)) }
     ensures report { IfOk result (IsReport (world_of world.now) (pipeline_of checked.now) plan.now size) }
     ensures cost { OnOk result (steps.new ≡ steps.old
         + run_steps (world_of world.now) (pipeline_of checked.now) plan.now size) }
@@ -159,6 +162,8 @@ fn write_chunk<O: Sink, L: Ledger>(
         (lines (world_of world.now) (pipeline_of checked.now) format
         (rows_of_sessions (world_of world.now) (pipeline_of checked.now) chunk.from
         (chunk.to + 1 - chunk.from))) result }
+    ensures pieces { OnOk result (IsWrittenIn O.whole O.calls out.old out.new
+        (totals.new.rows - totals.old.rows)) }
     ensures rows { OnOk result (totals.new.rows ≡ totals.old.rows
         + length (rows_of_sessions (world_of world.now) (pipeline_of checked.now) chunk.from
         (chunk.to + 1 - chunk.from))) }

@@ -4,7 +4,7 @@ ghost use Rattle.pl_spec.specs.Rounding.{LIMIT};
 ghost use Rattle.pl_spec.specs.World.{exists};
 ghost use Rattle.pl_spec.specs.Table.{NamedColumn, is_kept, row, session_rows};
 ghost use Rattle.pl_spec.specs.Text.{row_line};
-ghost use Rattle.pl_outside.specs.Taken.{Writes};
+ghost use Rattle.pl_outside.specs.Taken.{IsWrittenIn, Writes};
 ghost use Rattle.pl_cross.specs.Arrays.{sid_in};
 ghost use Rattle.pl_table.specs.Outcomes.{AreCells, HasCells, IsOutcome, IsWithin, lines, pipeline_in, rows_of_sessions, sids_in, world_in};
 ghost use Rattle.pl_table.specs.Rows.{IsPut, has_row, row_values, value_fields};
@@ -48,6 +48,8 @@ pub fn write_rows<O: Sink>(
         (lines (world_in outcome.now) (pipeline_in outcome.now) format
         (rows_of_sessions (world_in outcome.now) (pipeline_in outcome.now) outcome.now.from
         (outcome.now.to + 1 - outcome.now.from))) result }
+    ensures pieces { OnOk result (IsWrittenIn O.whole O.calls out.old out.new
+        (totals.new.rows - totals.old.rows)) }
     ensures rows { OnOk result (totals.new.rows ≡ totals.old.rows
         + length (rows_of_sessions (world_in outcome.now) (pipeline_in outcome.now) outcome.now.from
         (outcome.now.to + 1 - outcome.now.from))) }
@@ -88,6 +90,8 @@ fn write_session<O: Sink>(
     ensures writes { Writes O.taken O.faults O.sound O.room out.old out.new
         (lines (world_in outcome.now) (pipeline_in outcome.now) format
         (session_rows (world_in outcome.now) (pipeline_in outcome.now) (pos session))) result }
+    ensures pieces { OnOk result (IsWrittenIn O.whole O.calls out.old out.new
+        (totals.new.rows - totals.old.rows)) }
     ensures rows { OnOk result (totals.new.rows ≡ totals.old.rows
         + length (session_rows (world_in outcome.now) (pipeline_in outcome.now) (pos session))) }
     ensures sum { OnOk result (totals.new.sum ≡ totals.old.sum
@@ -123,6 +127,7 @@ fn write_row<O: Sink>(
         (row_line (world_in outcome.now) (pipeline_in outcome.now) format
         (row (world_in outcome.now) (pipeline_in outcome.now) (pos session)
         (sid_in (sids_in outcome.now) place))) result }
+    ensures pieces { IsWrittenIn O.whole O.calls out.old out.new 1 }
     ensures rows { totals.new.rows ≡ totals.old.rows + 1 }
     ensures sum { totals.new.sum ≡ totals.old.sum +ℤ values_sum (world_in outcome.now).texts
         (row (world_in outcome.now) (pipeline_in outcome.now) (pos session)

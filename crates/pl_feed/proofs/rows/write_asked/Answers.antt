@@ -1,5 +1,5 @@
-use Rattle.std.proofs.Common.{◌≤◌, ap, arith, []}
-use Rattle.pl_outside.proofs.Pieces.{writing-start, writing-end, writes-over}
+use Rattle.std.proofs.Common.{◌≤◌, ap, sym, length, arith, []}
+use Rattle.pl_outside.proofs.Pieces.{writing-start, writing-end, writes-over, written-none}
 use Rattle.pl_world.specs.Worlds.{world_of}
 use Rattle.pl_terms.specs.Checked.{pipeline_of}
 use Rattle.pl_table.specs.Outcomes.{lines}
@@ -14,14 +14,25 @@ write_session-requires-clause-answered g c =
     let from : c.args.plan.now.from ≤ c.args.session = omega (arith, c.from.ensures.value, c.if-from-session.true) in
     has-values w sound (pipeline_of c.args.checked.now) c.args.session c.requires.session c.args.plan.now c.requires.plan from c.args.daily.now c.requires.fed
 
-pub returns-then-from-session : goal.returns-then-from-session
-returns-then-from-session g c =
+pub returns-then-from-session-clause-writes : goal.returns-then-from-session-clause-writes
+returns-then-from-session-clause-writes g c =
     let w = world_of c.args.world.now in let p = pipeline_of c.args.checked.now in
     let from : c.args.plan.now.from ≤ c.args.session = omega (arith, c.from.ensures.value, c.if-from-session.true) in
-    writes-over (ap (lines w p c.args.format) (asked-rows w p c.args.plan.now.from c.args.session from)) c.write_session.ensures
+    writes-over (ap (lines w p c.args.format) (asked-rows w p c.args.plan.now.from c.args.session from)) c.write_session.ensures.writes
 
-pub returns-else-from-session : goal.returns-else-from-session
-returns-else-from-session g c =
+pub returns-then-from-session-clause-pieces : goal.returns-then-from-session-clause-pieces
+returns-then-from-session-clause-pieces g c =
+    let w = world_of c.args.world.now in let p = pipeline_of c.args.checked.now in
+    let from : c.args.plan.now.from ≤ c.args.session = omega (arith, c.from.ensures.value, c.if-from-session.true) in
+    rw (← ap length (asked-rows w p c.args.plan.now.from c.args.session from)) c.write_session.ensures.pieces
+
+pub returns-else-from-session-clause-pieces : goal.returns-else-from-session-clause-pieces
+returns-else-from-session-clause-pieces g c =
+    let w = world_of c.args.world.now in let p = pipeline_of c.args.checked.now in
+    written-none (sym (ap length (no-rows w p c.args.plan.now.from c.args.session (λ h. omega (arith, c.if-from-session.false, c.from.ensures.value, h)))))
+
+pub returns-else-from-session-clause-writes : goal.returns-else-from-session-clause-writes
+returns-else-from-session-clause-writes g c =
     let w = world_of c.args.world.now in let p = pipeline_of c.args.checked.now in
     writes-over (ap (lines w p c.args.format) (no-rows w p c.args.plan.now.from c.args.session (λ h. omega (arith, c.if-from-session.false, c.from.ensures.value, h))))
     (writing-end (writing-start g.O.Sink.taken g.O.Sink.faults g.O.Sink.sound g.O.Sink.room c.args.out.now []))

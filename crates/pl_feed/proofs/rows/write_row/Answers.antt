@@ -8,8 +8,8 @@ use Rattle.pl_table.proofs.RowLines.{put-together}
 use Rattle.pl_feed.specs.Mornings.{pipeline_in, sid_of, world_in}
 use Rattle.pl_feed.proofs.rows.write_row.Goals as goal
 
-pub returns : goal.returns
-returns g c =
+pub returns-clause-writes : goal.returns-clause-writes
+returns-clause-writes g c =
     let m = c.args.morning.now in
     let assets = m.world.assets.now in
     let fits : FitsSigned w32 c.day.result = search rules in

@@ -1,6 +1,6 @@
-use Rattle.std.proofs.Common.{◌≡◌, ℕ, ◌≤◌, ◌<◌, ◌+◌, List, ◌++◌, length, drop, ◌∙◌, sym, ap, subst, arith}
+use Rattle.std.proofs.Common.{◌≡◌, ℕ, ◌≤◌, ◌<◌, ◌+◌, List, ◌++◌, length, drop, ◌∙◌, refl, sym, ap, subst, arith, length-append}
 use Rattle.std.proofs.lemmas.Result.{err_from_is_err_and}
-use Rattle.pl_outside.proofs.Pieces.{writing-start, writing-more, writing-end, writing-stop, writing-over}
+use Rattle.pl_outside.proofs.Pieces.{writing-start, writing-more, writing-end, writing-stop, writing-over, written-none, written-more}
 use Rattle.pl_spec.specs.Table.{Pipeline, table}
 use Rattle.pl_world.specs.Worlds.{world_of}
 use Rattle.pl_terms.specs.Checked.{pipeline_of}
@@ -33,6 +33,7 @@ loop-session-init g c =
       within = omega arith;
       writing = writing-over (ap (lines w p c.args.format) (sym (left-all w p plan.from plan.to)))
           (writing-more c.args.header.now whole (writing-start g.O.Sink.taken g.O.Sink.faults g.O.Sink.sound g.O.Sink.room c.args.out.now (c.args.header.now ++ whole)) c.in_ok-write_bytes.ensures.writes);
+      pieces = (1, c.in_ok-write_bytes.ensures.pieces, omega (arith, ap length (left-all w p plan.from plan.to)));
       steps = omega arith;
     }
 
@@ -56,7 +57,14 @@ loop-session-preserved g c =
         events = c.feed.ensures.events;
       };
       within = omega (arith, inside);
-      writing = writing-more _ _ (writing-over next c.loop-session.invariant.writing) c.in_ok-write_asked.ensures;
+      writing = writing-more _ _ (writing-over next c.loop-session.invariant.writing) c.in_ok-write_asked.ensures.writes;
+      pieces =
+          let before = c.loop-session.invariant.pieces in
+          let rest = rows_left w p plan.from plan.to (s + 1) in (
+            before.0 + length (asked_rows w p plan.from s),
+            written-more before.1 c.in_ok-write_asked.ensures.pieces refl,
+            omega (arith, before.2, ap length (left-next w p plan.from plan.to s inside), length-append (asked_rows w p plan.from s) rest),
+          );
       steps = omega (arith, c.feed.ensures.cost, ap (λ (q : Pipeline). session_work w q s) own, steps-next w p s, c.loop-session.invariant.steps);
     }
 
@@ -69,7 +77,7 @@ returns-in_err-write_asked-clause-writes g c =
     let inside : s ≤ plan.to = omega (arith, c.loop-session-test.true, c.to-session-end.ensures.value) in
     let next = ap (lines w p c.args.format) (left-next w p plan.from plan.to s inside) ∙ lines-append w p c.args.format (asked_rows w p plan.from s) (rows_left w p plan.from plan.to (s + 1)) in
     let q = err_from_is_err_and c.from_residual-in_err-write_asked.result c.from_residual-in_err-write_asked.ensures.1 in
-    rw (q.1, q.2) (writing-stop _ _ (writing-over next c.loop-session.invariant.writing) c.in_err-write_asked.ensures)
+    rw (q.1, q.2) (writing-stop _ _ (writing-over next c.loop-session.invariant.writing) c.in_err-write_asked.ensures.writes)
 
 pub returns-in_err-write_asked-clause-at_most : goal.returns-in_err-write_asked-clause-at_most
 returns-in_err-write_asked-clause-at_most g c =
@@ -88,6 +96,15 @@ returns-clause-writes g c =
     let plan = c.args.plan.now in
     let after : plan.to < c.loop-session.session = omega (arith, c.loop-session-test.false, c.to-session-end.ensures.value) in
     writing-end (writing-over (ap (lines w p c.args.format) (left-none w p plan.from plan.to c.loop-session.session c.requires.plan.order after)) c.loop-session.invariant.writing)
+
+pub returns-clause-pieces : goal.returns-clause-pieces
+returns-clause-pieces g c =
+    let w = world_of c.args.world.now in
+    let p = pipeline_of c.args.checked.now in
+    let plan = c.args.plan.now in
+    let after : plan.to < c.loop-session.session = omega (arith, c.loop-session-test.false, c.to-session-end.ensures.value) in
+    let none = left-none w p plan.from plan.to c.loop-session.session c.requires.plan.order after in
+    written-more (written-none refl) c.loop-session.invariant.pieces.1 (omega (arith, ap length none, c.loop-session.invariant.pieces.2))
 
 -- all sessions were fed
 pub returns-clause-cost : goal.returns-clause-cost

@@ -17,5 +17,7 @@ loop-done-preserved g c =
           (wrote.blameless (rw inv.stays sound) (omega (arith, inv.room sound, length-drop {A = ℕ}))).1 ∙ inv.quiet sound room;
       room = λ sound. omega (arith, inv.room sound, wrote.room (rw inv.stays sound));
       calls = omega (arith, wrote.some, wrote.counted, length-drop {A = ℕ});
+      kind = wrote.stays_whole ∙ inv.kind;
+      one = λ whole. absurd (omega (arith, (inv.one whole).0));
       empty = λ none. absurd (omega (arith, none));
     }

@@ -15,6 +15,8 @@ invariant-loop-done g l =
       quiet : IsTrue (out.sound l.fn.out) → length l.bytes ≤ out.room l.fn.out → out.faults l.out ≡ out.faults l.fn.out;
       room : IsTrue (out.sound l.fn.out) → out.room l.out + l.done ≡ out.room l.fn.out;
       calls : out.calls l.out ≤ out.calls l.fn.out + max 1 l.done;
+      kind : out.whole l.out ≡ out.whole l.fn.out;
+      one : IsTrue (out.whole l.fn.out) → (l.done ≡ length l.bytes) × (out.calls l.out ≡ count_plus (out.calls l.fn.out) 1);
       empty : length l.bytes ≡ 0 → out.calls l.out ≡ count_plus (out.calls l.fn.out) 1;
     }
 

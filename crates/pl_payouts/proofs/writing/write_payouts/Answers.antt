@@ -1,6 +1,6 @@
-use Rattle.std.proofs.Common.{◌≡◌, ◌≤◌, ◌∙◌, is_ok, sym, ap, length, arith}
+use Rattle.std.proofs.Common.{◌≡◌, ◌≤◌, ◌∙◌, is_ok, refl, sym, ap, length, arith}
 use Rattle.std.proofs.lemmas.Result.{err_from_is_err_and}
-use Rattle.pl_outside.proofs.Pieces.{writing-start, writing-more, writing-end, writing-stop, writing-over, writes-over}
+use Rattle.pl_outside.proofs.Pieces.{writing-start, writing-more, writing-end, writing-stop, writing-over, writes-over, written-none, written-more}
 use Rattle.pl_payouts.specs.Ratios.{ratio_in}
 use Rattle.pl_payouts.specs.Texts.{payout_line, payouts_text}
 use Rattle.pl_payouts.proofs.PayoutLines.{known-at, text-is, kept-is, lines-next, lines-none, kept-ok, kept-err, kept-none}
@@ -21,6 +21,7 @@ loop-i-init g c =
     let whole = text-is c.args.sessions.now c.args.assets.now c.args.bars.now c.args.payouts.now in
     record {
       writing = writing-more _ _ (writing-over whole (writing-start g.O.Sink.taken g.O.Sink.faults g.O.Sink.sound g.O.Sink.room c.args.out.now text)) c.in_ok-write_bytes.ensures.writes;
+      pieces = c.in_ok-write_bytes.ensures.pieces;
       kept = omega (arith, kept-is c.args.sessions.now c.args.assets.now c.args.bars.now c.args.payouts.now);
       few = omega arith;
     }
@@ -49,10 +50,10 @@ loop-i-preserved g c =
     elim c.if-is_ok.branch [
       | then-is_ok w ↦
           let more = kept-ok days assets bars rows c.loop-i.i p c.get-payout.ensures.exact (test ∙ w.if-is_ok.true) in
-          record { writing = writing; kept = rw w.kept-is (omega (arith, more, c.loop-i.invariant.kept)); few = rw w.kept-is (omega (arith, c.loop-i.invariant.few)) }
+          record { writing = writing; pieces = written-more c.loop-i.invariant.pieces c.in_ok-write_bytes-2.ensures.pieces (omega arith); kept = rw w.kept-is (omega (arith, more, c.loop-i.invariant.kept)); few = rw w.kept-is (omega (arith, c.loop-i.invariant.few)) }
       | else-is_ok w ↦
           let same = kept-err days assets bars rows c.loop-i.i p c.get-payout.ensures.exact (test ∙ w.if-is_ok.false) in
-          record { writing = writing; kept = rw w.kept-is (omega (arith, same, c.loop-i.invariant.kept)); few = rw w.kept-is (omega (arith, c.loop-i.invariant.few)) }
+          record { writing = writing; pieces = written-more c.loop-i.invariant.pieces c.in_ok-write_bytes-2.ensures.pieces (omega arith); kept = rw w.kept-is (omega (arith, same, c.loop-i.invariant.kept)); few = rw w.kept-is (omega (arith, c.loop-i.invariant.few)) }
     ]
 
 pub returns-clause-writes : goal.returns-clause-writes
@@ -65,3 +66,6 @@ returns-clause-kept g c =
     let done : length c.args.payouts.now ≤ c.loop-i.i = omega (arith, c.len-i-end.ensures.length, c.loop-i-test.false) in
     let none = kept-none c.args.sessions.now c.args.assets.now c.args.bars.now c.args.payouts.now c.loop-i.i done in
     omega (arith, none, c.loop-i.invariant.kept)
+
+pub returns-clause-pieces : goal.returns-clause-pieces
+returns-clause-pieces g c = written-more (written-none refl) c.loop-i.invariant.pieces (omega (arith, c.len-i-end.ensures.length, c.loop-i-test.false, c.loop-i.auto.i-end))

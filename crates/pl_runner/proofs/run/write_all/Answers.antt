@@ -1,9 +1,9 @@
-use Rattle.std.proofs.Common.{◌≡◌, ◌≤◌, ◌<◌, ◌+◌, ◌-◌, ◌*◌, ◌++◌, ◌∙◌, ℕ, ℤ, length, pos, sym, ap, arith, length-append}
+use Rattle.std.proofs.Common.{◌≡◌, ◌≤◌, ◌<◌, ◌+◌, ◌-◌, ◌*◌, ◌++◌, ◌∙◌, ℕ, ℤ, length, pos, refl, sym, ap, arith, length-append}
 use Rattle.std.specs.Int.{int_rem_euclid}
 use Rattle.std.proofs.lemmas.Int.{ints}
 use Rattle.std.proofs.lemmas.Nat.{mul-le}
 use Rattle.std.proofs.lemmas.Result.{err_from_is_err_and}
-use Rattle.pl_outside.proofs.Pieces.{writing-start, writing-more, writing-end, writing-stop, writing-over}
+use Rattle.pl_outside.proofs.Pieces.{writing-start, writing-more, writing-end, writing-stop, writing-over, written-none, written-more}
 use Rattle.pl_spec.specs.Table.{table}
 use Rattle.pl_world.specs.Worlds.{world_of}
 use Rattle.pl_terms.specs.Checked.{pipeline_of}
@@ -28,6 +28,7 @@ loop-i-init g c =
       within = omega arith;
       writing = writing-over (ap (lines w p c.args.format) (sym all))
           (writing-more c.args.header.now whole (writing-start g.O.Sink.taken g.O.Sink.faults g.O.Sink.sound g.O.Sink.room c.args.out.now (c.args.header.now ++ whole)) c.in_ok-write_bytes.ensures.writes);
+      pieces = written-more (written-none refl) c.in_ok-write_bytes.ensures.pieces (omega (arith, c.none-totals.ensures.rows));
       rows = omega (arith, ap length all, c.none-totals.ensures.rows);
       sum = omega (arith, ints, ap (rows_sum w.texts) all, c.none-totals.ensures.sum);
       few = omega (arith, c.none-totals.ensures.rows);
@@ -88,6 +89,7 @@ loop-i-preserved g c =
     record {
       within = omega (arith, before);
       writing = writing-more _ _ (writing-over next c.loop-i.invariant.writing) c.in_ok-report.ensures.writes;
+      pieces = written-more c.loop-i.invariant.pieces c.in_ok-report.ensures.pieces (omega (arith, c.in_ok-report.ensures.rows));
       rows = omega (arith, ap length split, length-append own rest, c.loop-i.invariant.rows, c.in_ok-report.ensures.rows);
       sum = omega (arith, ints, ap (rows_sum w.texts) split, rows_sum-append w.texts own rest, c.loop-i.invariant.sum, c.in_ok-report.ensures.sum);
       few = omega (arith, m, times-more i (size * length w.assets), c.loop-i.invariant.few, c.in_ok-report.ensures.few);
@@ -104,6 +106,9 @@ returns-clause-writes g c =
     let count : c.chunk_count-i-end.result ≡ chunk_count plan.from plan.to c.args.size = c.chunk_count-i-end.ensures.value ∙ ap (λ (n : ℕ). chunk_count n c.to.result c.args.size) c.from.ensures.value ∙ ap (λ (n : ℕ). chunk_count plan.from n c.args.size) c.to.ensures.value in
     let after : chunk_count plan.from plan.to c.args.size ≤ c.loop-i.i = omega (arith, count) in
     writing-end (writing-over (ap (lines w p c.args.format) (rows-end w p plan.from plan.to c.args.size c.loop-i.i c.requires.plan.order c.requires.some after)) c.loop-i.invariant.writing)
+
+pub returns-clause-pieces : goal.returns-clause-pieces
+returns-clause-pieces g c = written-more (written-none refl) c.loop-i.invariant.pieces (omega (arith, c.rows.ensures))
 
 pub returns-clause-report : goal.returns-clause-report
 returns-clause-report g c =

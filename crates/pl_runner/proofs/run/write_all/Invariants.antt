@@ -1,6 +1,7 @@
 use Rattle.std.proofs.Common.{◌≡◌, ℕ, ◌≤◌, ◌<◌, ◌+◌, ◌-◌, ◌*◌, ◌++◌, ◌+ℤ◌, length}
 use Rattle.pl_spec.specs.Graph.{bound}
 use Rattle.pl_spec.specs.Table.{table}
+use Rattle.pl_outside.specs.Taken.{IsWrittenIn}
 use Rattle.pl_outside.proofs.Pieces.{Writing}
 use Rattle.pl_world.specs.Worlds.{world_of}
 use Rattle.pl_terms.specs.Checked.{pipeline_of}
@@ -25,6 +26,7 @@ invariant-loop-i g l =
     record {
       within : l.i ≤ chunk_count l.plan.from l.plan.to l.size;
       writing : Writing out.taken out.faults out.sound out.room l.fn.out l.out (l.header ++ lines w p l.format whole) (lines w p l.format rest);
+      pieces : IsWrittenIn out.whole out.calls l.fn.out l.out (1 + l.totals.rows);
       rows : l.totals.rows + length rest ≡ length whole;
       sum : l.totals.sum +ℤ rows_sum w.texts rest ≡ rows_sum w.texts whole;
       few : l.totals.rows ≤ l.i * (l.size * length w.assets);

@@ -2,7 +2,7 @@ use Rattle.std.proofs.Common.{◌≡◌, subst, ◌+◌, ◌-◌, ◌*◌, ◌�
 use Rattle.std.proofs.lemmas.Int.{ints}
 use Rattle.std.proofs.lemmas.Nat.{mul-le}
 use Rattle.std.proofs.lemmas.Result.{err_from_is_err_and}
-use Rattle.pl_outside.proofs.Pieces.{writing-start, writing-more, writing-end, writing-stop, writing-over}
+use Rattle.pl_outside.proofs.Pieces.{writing-start, writing-more, writing-end, writing-stop, writing-over, written-none, written-more}
 use Rattle.pl_spec.specs.Table.{session_rows}
 use Rattle.pl_table.specs.Outcomes.{lines, pipeline_in, rows_of_sessions, world_in}
 use Rattle.pl_table.specs.Sums.{rows_sum}
@@ -17,6 +17,8 @@ loop-session-init g c =
       start = omega arith;
       within = omega (arith, c.requires.outcome.order);
       writing = writing-start g.O.Sink.taken g.O.Sink.faults g.O.Sink.sound g.O.Sink.room c.args.out.now _;
+      pieces = written-none (omega arith);
+      more = omega arith;
       rows = refl;
       sum = refl;
       room = refl;
@@ -52,6 +54,8 @@ loop-session-preserved g c =
       start = omega (arith, c.loop-session.invariant.start);
       within = omega arith;
       writing = writing-more _ _ (writing-over next c.loop-session.invariant.writing) c.in_ok-write_session.ensures.writes;
+      pieces = written-more c.loop-session.invariant.pieces c.in_ok-write_session.ensures.pieces (omega (arith, c.loop-session.invariant.more, c.in_ok-write_session.ensures.rows));
+      more = omega (arith, c.loop-session.invariant.more, c.in_ok-write_session.ensures.rows);
       rows = omega (arith, ap length own, length-append (session_rows w pl (pos s)) rest, c.loop-session.invariant.rows, c.in_ok-write_session.ensures.rows);
       sum = omega (arith, ints, ap (rows_sum w.texts) own, rows_sum-append w.texts (session_rows w pl (pos s)) rest, c.loop-session.invariant.sum, c.in_ok-write_session.ensures.sum);
       room = c.turn-first.ensures.size ∙ c.loop-session.invariant.room;

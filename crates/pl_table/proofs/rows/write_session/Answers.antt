@@ -2,7 +2,7 @@ use Rattle.std.proofs.Common.{◌<◌, ◌≤◌, ◌+◌, ap, refl, drop, lengt
 use Rattle.std.proofs.lemmas.Int.{ints}
 use Rattle.std.proofs.lemmas.List.{length-map}
 use Rattle.std.proofs.lemmas.Result.{err_from_is_err_and}
-use Rattle.pl_outside.proofs.Pieces.{writing-start, writing-more, writing-end, writing-stop, writing-over, writes-over}
+use Rattle.pl_outside.proofs.Pieces.{writing-start, writing-more, writing-end, writing-stop, writing-over, writes-over, written-none, written-more}
 use Rattle.pl_spec.specs.Parts.{sid_at}
 use Rattle.pl_spec.specs.Table.{row}
 use Rattle.pl_table.specs.declared.totals.Totals.{Totals}
@@ -17,6 +17,8 @@ pub loop-place-init : goal.loop-place-init
 loop-place-init g c =
     record {
       writing = writing-start g.O.Sink.taken g.O.Sink.faults g.O.Sink.sound g.O.Sink.room c.args.out.now _;
+      pieces = written-none (omega arith);
+      more = omega arith;
       rows = refl;
       sum = refl;
       few = omega arith;
@@ -44,6 +46,8 @@ loop-place-preserved g c =
           let total = ap (λ (t : Totals). t.sum) b.totals-is in
           record {
             writing = rw b.out-is (writing-more _ _ (writing-over (ap (lines w pl c.args.format) next) c.loop-place.invariant.writing) b.in_ok-write_row.ensures.writes);
+            pieces = rw b.out-is (written-more c.loop-place.invariant.pieces b.in_ok-write_row.ensures.pieces (omega (arith, count, c.loop-place.invariant.more, b.in_ok-write_row.ensures.rows)));
+            more = omega (arith, count, c.loop-place.invariant.more, b.in_ok-write_row.ensures.rows);
             rows = omega (arith, count, ap length next, c.loop-place.invariant.rows, b.in_ok-write_row.ensures.rows);
             sum = omega (arith, ints, total, ap (rows_sum w.texts) next, rows_sum-cons w.texts (row w pl (pos c.args.session) (get_or (sids_in o) i 0)) rest, c.loop-place.invariant.sum, b.in_ok-write_row.ensures.sum);
             few = omega (arith, count, c.loop-place.invariant.few, b.in_ok-write_row.ensures.rows);
@@ -54,6 +58,8 @@ loop-place-preserved g c =
           let total = ap (λ (t : Totals). t.sum) b.totals-is in
           record {
             writing = rw b.out-is (writing-over (ap (lines w pl c.args.format) next) c.loop-place.invariant.writing);
+            pieces = rw (b.out-is, count) c.loop-place.invariant.pieces;
+            more = omega (arith, count, c.loop-place.invariant.more);
             rows = omega (arith, count, ap length next, c.loop-place.invariant.rows);
             sum = omega (arith, ints, total, ap (rows_sum w.texts) next, c.loop-place.invariant.sum);
             few = omega (arith, count, c.loop-place.invariant.few);

@@ -1,0 +1,2 @@
+-- What the contracts of the edge cite.
+pub mod Starts
