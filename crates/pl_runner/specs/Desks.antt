@@ -23,3 +23,9 @@ pub record IsDeskFor (w : World) (p : Pipeline) (plan : Planned) (chunk : Chunk)
 -- for each chunk of so many sessions
 abbrev pub IsDesk : World → Pipeline → Planned → ℕ → Desk → Type 0
 IsDesk w p plan size d = (i : ℕ) → i < chunk_count plan.from plan.to size → IsDeskFor w p plan (chunk_at plan.from plan.to size i) d
+
+-- It is no larger than that: a slot for each array that is held at once, and cells for the longest of them.
+pub record IsNoMore (w : World) (p : Pipeline) (plan : Planned) (size : ℕ) (d : Desk) : Type 0 where
+  pub slots : length d.workspace.slots ≡ plan.bound
+  pub cells : (len : ℕ) → ((i : ℕ) → i < chunk_count plan.from plan.to size → HasRoom w p plan (chunk_at plan.from plan.to size i) len) → d.workspace.len ≤ len
+  pub tile : length d.tile.items ≡ tile_len (length w.assets) (length p.columns)

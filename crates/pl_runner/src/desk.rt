@@ -3,7 +3,7 @@ ghost use Rattle.std.specs.Prelude.{◌≡◌, ◌<◌, ◌≤◌, ◌^◌, IfOk
 ghost use Rattle.pl_world.specs.Worlds.{world_of};
 ghost use Rattle.pl_terms.specs.Checked.{pipeline_of};
 ghost use Rattle.pl_planner.specs.Plans.{IsPlanOf};
-ghost use Rattle.pl_runner.specs.Desks.{IsDesk};
+ghost use Rattle.pl_runner.specs.Desks.{IsDesk, IsNoMore};
 
 use pl_chunks::longest_array;
 use pl_cross::Cross;
@@ -40,7 +40,10 @@ impl Desk {
         requires plan { IsPlanOf world.now.sessions.now (pipeline_of checked.now) plan.now }
         requires some { 1 ≤ size }
         requires few { size < 2 ^ 32 }
-        ensures { IfOk result (IsDesk (world_of world.now) (pipeline_of checked.now) plan.now size) }
+        ensures desk { IfOk result
+            (IsDesk (world_of world.now) (pipeline_of checked.now) plan.now size) }
+        ensures least { IfOk result
+            (IsNoMore (world_of world.now) (pipeline_of checked.now) plan.now size) }
     {
         // a pipeline has few columns
         let _checked = checked.graph();

@@ -17,8 +17,8 @@ fresh-free w n len is s h = ap (λ (v : Slots). slot_at v s) is ∙ get_or-repli
 pub tile_len-requires-clause-columns : goal.tile_len-requires-clause-columns
 tile_len-requires-clause-columns c = omega (arith, c.columns.ensures, columns-long c.args.checked.now.columns, c.graph-checked.ensures.checked.few_columns)
 
-pub returns : goal.returns
-returns c i h =
+pub returns-clause-desk : goal.returns-clause-desk
+returns-clause-desk c i h =
     let is = c.in-Ok.ensures in
     let len : c.in-Ok.workspace.len ≡ c.longest_array-longest.result = ap (λ (w : Slots). w.len) is in
     let columns = c.columns.ensures ∙ sym (columns-long c.args.checked.now.columns) in
@@ -30,5 +30,17 @@ returns c i h =
       cross = omega (arith, c.in_ok-reserve.ensures, c.len-assets.ensures.length);
       rows = omega (arith, c.in_ok-reserve-2.ensures, c.len-assets.ensures.length);
       cols = omega (arith, c.longest_array-longest.ensures.room, c.in_ok-cols.ensures.capacity, c.len-assets.ensures.length);
+      tile = omega (arith, wide, c.in_ok-vec.ensures.len);
+    }
+
+pub returns-clause-least : goal.returns-clause-least
+returns-clause-least c =
+    let is = c.in-Ok.ensures in
+    let len : c.in-Ok.workspace.len ≡ c.longest_array-longest.result = ap (λ (w : Slots). w.len) is in
+    let columns = c.columns.ensures ∙ sym (columns-long c.args.checked.now.columns) in
+    let wide = c.tile_len.ensures ∙ ap (λ (n : ℕ). 8 * n * (c.columns.result + 1)) c.len-assets.ensures.length ∙ ap (λ (n : ℕ). 8 * length c.args.world.now.assets.now * (n + 1)) columns in
+    record {
+      slots = fresh-many c.in-Ok.workspace c.bound.result c.longest_array-longest.result is ∙ c.bound.ensures.value;
+      cells = λ most room. (let own = c.longest_array-longest.ensures.least most room in omega (arith, own, len));
       tile = omega (arith, wide, c.in_ok-vec.ensures.len);
     }
