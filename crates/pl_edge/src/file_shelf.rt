@@ -40,6 +40,8 @@ impl Shelf for FileShelf<'_> {
 
     ghost rest = { λ _. [] };
 
+    ghost begun = { λ _. None };
+
     ghost faults = { λ s. s.faults };
 
     // it counts neither calls nor bytes, so that their counts stand at their ends

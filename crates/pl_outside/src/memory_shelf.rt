@@ -1,5 +1,5 @@
 // Files in memory.
-ghost use Rattle.std.specs.Prelude.{◌≡◌, ◌||◌, ◌++◌, ℕ, [], List, Option, Some, length, take, drop, min, OnOk, OnErr, IfOk, if◌then◌else◌, is_err, is_none, unwrap_or, bytes_eq, string_bytes};
+ghost use Rattle.std.specs.Prelude.{◌≡◌, ◌||◌, ◌++◌, ℕ, [], List, Option, Some, None, length, take, drop, min, OnOk, OnErr, IfOk, if◌then◌else◌, is_err, is_none, unwrap_or, bytes_eq, string_bytes};
 ghost use Rattle.pl_outside.specs.Calls.{never_fails, next_fails, no_calls, one_more};
 ghost use Rattle.pl_outside.specs.Counts.{count_plus, moved};
 ghost use Rattle.pl_outside.specs.ShelfState.{held};
@@ -66,6 +66,9 @@ impl Shelf for MemoryShelf {
     ghost holds = { λ shelf. Some (held shelf.files) };
 
     ghost rest = { λ shelf. shelf.rest };
+
+    // it keeps no list of the names
+    ghost begun = { λ _. None };
 
     ghost faults = { λ shelf. shelf.calls.faults };
 

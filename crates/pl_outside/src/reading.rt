@@ -1,7 +1,8 @@
 // A file as a whole.
-ghost use Rattle.std.specs.Prelude.{◌≡◌, ◌≤◌, ◌<◌, ◌+◌, ◌^◌, ◌↔◌, Some, None, length, IfOk, IsTrue, IsSome, IsSomeAnd, IsErrOf};
+ghost use Rattle.std.specs.Prelude.{◌≡◌, ◌≤◌, ◌<◌, ◌+◌, ◌^◌, ◌∷◌, ◌↔◌, [], Some, None, length, IfOk, IsTrue, IsSome, IsSomeAnd, IsErrOf};
 ghost use Rattle.std.specs.Option.{ForSome};
 ghost use Rattle.pl_outside.specs.Counts.{Rose, count_plus};
+ghost use Rattle.pl_outside.specs.Files.{BeginsAll};
 ghost use Rattle.pl_outside.specs.Reads.{IsReadWhole};
 
 use crate::faults::Failed;
@@ -76,6 +77,9 @@ pub fn read_file<S: Shelf>(
         IsErrOf result ReadError.Failed ↔ (files name.now ≡ None)) }
     ensures quiet { IsTrue (S.sound shelf.old) → ForSome (S.holds shelf.old) (λ files. IsSome (files name.now)
         → S.faults shelf.new ≡ S.faults shelf.old) }
+
+    // with any answer the name was begun, once, and no other
+    ensures named { BeginsAll (S.begun shelf.old) (S.begun shelf.new) (name.now ∷ []) }
     ensures keeps { S.holds shelf.new ≡ S.holds shelf.old }
     ensures stays { S.sound shelf.new ≡ S.sound shelf.old }
     ensures calls { S.calls shelf.new ≤ S.calls shelf.old + (cap + 2) }
@@ -98,6 +102,7 @@ fn read_rest<S: Shelf>(alloc: Global, shelf: &mut S, cap: usize) -> Result<Vec<u
         (λ files. IsErrOf result ReadError.TooLong → cap < length (S.rest shelf.old)) }
     ensures blameless { IsTrue (S.sound shelf.old)
         → ¬ IsErrOf result ReadError.Failed × (S.faults shelf.new ≡ S.faults shelf.old) }
+    ensures named { S.begun shelf.new ≡ S.begun shelf.old }
     ensures keeps { S.holds shelf.new ≡ S.holds shelf.old }
     ensures stays { S.sound shelf.new ≡ S.sound shelf.old }
     ensures calls { S.calls shelf.new ≤ S.calls shelf.old + (cap + 1) }

@@ -1,8 +1,8 @@
 // Where files are read.
-ghost use Rattle.std.specs.Prelude.{◌≡◌, ◌≤◌, ◌<◌, ◌++◌, ◌↔◌, ℕ, List, Option, None, Bool, [], take, length, IfOk, IsTrue, IsOk, IsErr, IsSome};
+ghost use Rattle.std.specs.Prelude.{◌≡◌, ◌≤◌, ◌<◌, ◌++◌, ◌∷◌, ◌↔◌, ℕ, List, Option, None, Bool, [], take, length, IfOk, IsTrue, IsOk, IsErr, IsSome};
 ghost use Rattle.std.specs.Option.{ForSome};
 ghost use Rattle.pl_outside.specs.Counts.{HasCause, count_plus, moved};
-ghost use Rattle.pl_outside.specs.Files.{Files, Begins};
+ghost use Rattle.pl_outside.specs.Files.{Files, Begins, BeginsAll};
 
 use crate::faults::Failed;
 
@@ -18,6 +18,9 @@ pub trait Shelf {
     /// it tells.
     ghost rest: { Self → List ℕ };
 
+    /// The names that were begun, in their order and as often as they were begun, as long as it tells them.
+    ghost begun: { Self → Option (List (List ℕ)) };
+
     /// How many faults it has counted, up to the count's end.
     ghost faults: { Self → ℕ };
 
@@ -32,7 +35,8 @@ pub trait Shelf {
 
     /// Starts the named file at its first byte. A name that isn't held is a fault, and then no file is begun.
     fn begin(&mut self, name: &str) -> Result<(), Failed>
-        ensures begun { ForSome (holds self.old) (λ files. Begins (files name.now) (rest self.new) result) }
+        ensures begins { ForSome (holds self.old) (λ files. Begins (files name.now) (rest self.new) result) }
+        ensures named { BeginsAll (begun self.old) (begun self.new) (name.now ∷ []) }
         ensures cause { HasCause (faults self.old) (faults self.new) result }
         ensures misses { IsTrue (sound self.old)
             → ForSome (holds self.old) (λ files. IsErr result ↔ (files name.now ≡ None)) }
@@ -50,6 +54,7 @@ pub trait Shelf {
         ensures within { IfOk result (λ n. n ≤ length into.old) }
         ensures piece { ForSome (holds self.old)
             (λ files. rest self.old ≡ take (moved result) into.new ++ rest self.new) }
+        ensures named { begun self.new ≡ begun self.old }
         ensures ends { ForSome (holds self.old)
             (λ files. IfOk result (λ n. n ≡ 0 → 0 < length into.old → rest self.old ≡ [])) }
         ensures cause { HasCause (faults self.old) (faults self.new) result }

@@ -9,6 +9,7 @@ invariant-loop-piece g l =
     record {
       within : length l.bytes.items ≤ l.cap + 1;
       read : ForSome (shelf.holds l.fn.shelf) (λ files. shelf.rest l.fn.shelf ≡ l.bytes.items ++ shelf.rest l.shelf);
+      named : shelf.begun l.shelf ≡ shelf.begun l.fn.shelf;
       later : shelf.faults l.fn.shelf ≤ shelf.faults l.shelf;
       quiet : IsTrue (shelf.sound l.fn.shelf) → shelf.faults l.shelf ≡ shelf.faults l.fn.shelf;
       given : shelf.given l.shelf ≡ count_plus (shelf.given l.fn.shelf) (length l.bytes.items);
