@@ -1,2 +1,0 @@
--- What the program did.
-pub mod Runs
