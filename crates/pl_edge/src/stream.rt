@@ -37,7 +37,8 @@ impl<W: Write + Drop> Stream<BufWriter<W>> {
     /// Writes what is gathered.
     pub fn flush(&mut self) -> Result<(), Failed>
         ensures written { OnOk result (writer_buffer self.new.to ≡ []) }
-        ensures bytes { Keeps (writer_contents W.contents self.old.to) (writer_contents W.contents self.new.to) }
+        ensures bytes { Keeps (writer_contents W.contents self.old.to)
+            (writer_contents W.contents self.new.to) }
         ensures cause { HasCause self.old.faults self.new.faults result }
         ensures quiet { OnOk result (self.new.faults ≡ self.old.faults) }
     {

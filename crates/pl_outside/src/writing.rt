@@ -7,8 +7,8 @@ use crate::faults::Failed;
 use crate::sink::Sink;
 
 /// Writes all of the bytes, or answers Failed after a prefix of them, which comes only where the sink counted
-/// a fault. It makes at most one call of the sink for each byte, one call where there is no byte, and one call
-/// of a sink that takes each piece whole. It takes no memory.
+/// a fault. It makes at most one call of the sink for each byte, one call where there is no byte, and one
+/// call of a sink that takes each piece whole. It takes no memory.
 pub fn write_bytes<O: Sink>(out: &mut O, bytes: &[u8]) -> Result<(), Failed>
     ensures writes { Writes O.taken O.faults O.sound O.room out.old out.new bytes.now result }
     ensures calls { O.calls out.new ≤ O.calls out.old + max 1 (length bytes.now) }

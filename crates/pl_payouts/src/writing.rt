@@ -13,10 +13,10 @@ use pl_lifetimes::Assets;
 use pl_outside::{Sink, write_bytes};
 use std::alloc::Global;
 
-/// Writes the header `record,sid,effective_date,num,den,reason` and a line for each payout in the
-/// order of its file, each in one piece: its number, its sid, the seconds from 1970-01-01 to its ex day, and the ratio
-/// of its row and no reason, or no ratio and the reason why it has no row. Gives the number of
-/// payouts that have a row. It takes no memory.
+/// Writes the header `record,sid,effective_date,num,den,reason` and a line for each payout in the order of
+/// its file, each in one piece: its number, its sid, the seconds from 1970-01-01 to its ex day, and the ratio
+/// of its row and no reason, or no ratio and the reason why it has no row. Gives the number of payouts that
+/// have a row. It takes no memory.
 pub fn write_payouts<O: Sink>(
     _alloc: Global,
     payouts: &Payouts,
