@@ -4,7 +4,12 @@
 //! the outside.
 #![tactic(auto)]
 
-ghost use Rattle.std.specs.Prelude.{◌≡◌, ◌<◌};
+ghost use Rattle.std.specs.Prelude.{◌≡◌, ◌<◌, ◌++◌, ℕ, List, None, map, string_bytes};
+ghost use Rattle.pl_outside.specs.Counts.{Rose};
+ghost use Rattle.pl_outside.specs.Taken.{IsTold};
+ghost use Rattle.pl_words.specs.Request.{request};
+ghost use Rattle.pl_cli.specs.Runs.{IsRun};
+ghost use Rattle.pl_main.specs.Runs.{seen};
 
 use pl_cli::run_program;
 use pl_edge::{FileKeeper, FileShelf, StartError, Stream, ended, flushed, words};
@@ -33,6 +38,7 @@ fn main(rt: HostRuntime) -> ExitCode {
     ExitCode::from(flushed(&mut out, &mut err, status))
 }
 
+// Runs once over the disk: what `run_program` ensures, but for what no clause can say of the disk.
 fn run<L: Ledger, O: Sink, E: Sink>(
     rt: &HostRuntime,
     words: &[String],
@@ -43,6 +49,13 @@ fn run<L: Ledger, O: Sink, E: Sink>(
     requires name { blank.name ≡ L.name }
     requires parts { blank.parts ≡ L.parts }
     requires some { 0 < L.parts }
+    ensures run { let asked = request (map (λ s. string_bytes s) words.now) in
+        (line : List ℕ) × (numbers : List ℕ) × (steps : ℕ)
+        × IsRun (seen O.taken O.sound O.room out.old out.new steps) asked result line numbers
+        × IsTold E.taken E.faults E.sound E.room err.old err.new (line ++ numbers) }
+    ensures usage { result ≡ 2 → request (map (λ s. string_bytes s) words.now) ≡ None }
+    ensures refused { request (map (λ s. string_bytes s) words.now) ≡ None → ¬ (result ≡ 10) → result ≡ 2 }
+    ensures write { result ≡ 9 → Rose (O.faults out.old) (O.faults out.new) }
 {
     let mut steps = Steps::<L>::new(blank);
     let mut shelf = FileShelf::new(rt);

@@ -1,0 +1,2 @@
+-- What the program did.
+pub mod Runs

@@ -1,0 +1,20 @@
+-- What is seen of a run over the real outside.
+use Rattle.std.specs.Prelude.{ℕ, List, Bool, false, Option, None}
+use Rattle.pl_cli.specs.Runs.{Observed}
+
+-- no clause says what the disk holds, and the steps are counted from 0
+abbrev pub seen : {O : Type 0} (taken : O → Option (List ℕ)) (sound : O → Bool) (room : O → ℕ) (out out_now : O) (steps : ℕ) → Observed
+seen taken sound room out out_now steps =
+    record {
+      files = None;
+      lists = None;
+      shelf_sound = false;
+      keeper_sound = false;
+      out_sound = sound out;
+      taken = taken out;
+      taken_now = taken out_now;
+      room = room out;
+      room_now = room out_now;
+      steps = 0;
+      steps_now = steps;
+    }
