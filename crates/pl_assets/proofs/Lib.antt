@@ -11,3 +11,4 @@ pub mod LabelWorlds
 pub mod LabelsSaid
 pub mod CsvFields
 pub mod LabelCuts
+pub mod LabelsMoved

@@ -2,7 +2,7 @@
 //! fields are. The functions do nothing: the contract of each is a law of the
 //! definitions that the calls' contracts cite.
 
-ghost use Rattle.std.specs.Prelude.{◌≡◌, ◌↔◌, ℕ, List, Ok, Err};
+ghost use Rattle.std.specs.Prelude.{◌≡◌, ◌↔◌, ◌∷◌, ℕ, List, IsPermutation, Ok, Err};
 ghost use Rattle.csv.specs.Writing.{default_writer, field_text};
 ghost use Rattle.pl_spec.specs.declared.AssetRow.{AssetRow};
 ghost use Rattle.pl_records.specs.Reading.{Record, Fault, Judges};
@@ -28,6 +28,16 @@ pub fn labels_in_plain_words()
     ensures fault { (assets : List AssetRow) → AreAssets assets → (records : List Record)
         (fault : Fault labels.Rule) → (labels.labels_of assets records ≡ Err fault)
         ↔ label_rules.IsLabelsFault assets records fault }
+{}
+
+/// Records after the first, the header, are in another order read as the same rows in some order. The texts
+/// may have other codes, which go by that order.
+pub fn labels_in_any_order()
+    ensures { (assets : List AssetRow) (first : Record) (records others : List Record)
+        → IsPermutation records others
+        → (table : labels.LabelTable) → labels.labels_of assets (first ∷ records) ≡ Ok table
+        → (other : labels.LabelTable) × (labels.labels_of assets (first ∷ others) ≡ Ok other)
+        × IsPermutation table.rows other.rows }
 {}
 
 /// In a world of parts the label of an asset on a session is that of its column on the session's

@@ -12,3 +12,4 @@ pub mod BarWorlds
 pub mod ColumnTexts
 pub mod BarsCut
 pub mod FirstPlaces
+pub mod BarsMoved

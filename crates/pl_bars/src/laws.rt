@@ -2,7 +2,7 @@
 //! functions do nothing: the contract of each is a law of the definitions that the calls' contracts
 //! cite.
 
-ghost use Rattle.std.specs.Prelude.{◌≡◌, ◌↔◌, ℤ, List, Ok, Err};
+ghost use Rattle.std.specs.Prelude.{◌≡◌, ◌↔◌, ◌∷◌, ℤ, List, IsPermutation, Ok, Err};
 ghost use Rattle.pl_spec.specs.declared.AssetRow.{AssetRow};
 ghost use Rattle.pl_spec.specs.declared.BarRow.{BarRow};
 ghost use Rattle.pl_records.specs.Reading.{Record, Fault, Judges};
@@ -27,6 +27,13 @@ pub fn bars_in_plain_words()
     ensures fault { (days : List ℤ) (assets : List AssetRow) → AreDays days → AreAssets assets
         → (records : List Record) (fault : Fault Rule) → (bars_of days assets records ≡ Err fault)
         ↔ IsBarsFault days assets records fault }
+{}
+
+/// Records after the first, the header, are in another order read as the same bars.
+pub fn bars_in_any_order()
+    ensures { (days : List ℤ) (assets : List AssetRow) → AreDays days → (first : Record)
+        (records others : List Record) → IsPermutation records others → (bars : List BarRow)
+        → bars_of days assets (first ∷ records) ≡ Ok bars → bars_of days assets (first ∷ others) ≡ Ok bars }
 {}
 
 /// The cell of a table is the raw cell, of the column's sid, in the world that is made of the

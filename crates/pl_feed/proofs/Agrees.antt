@@ -16,7 +16,7 @@ use Rattle.pl_spec.specs.Parts.{AreFor, ColumnAdjustment, adjustment_of, bar_of,
 use Rattle.pl_spec.specs.Rounding.{MISSING}
 use Rattle.pl_spec.specs.World.{Event, bar_cell, cell_in, day_of, events_of, exists, lives_on}
 use Rattle.pl_laws.proofs.AsOf.{slice_get-take}
-use Rattle.pl_laws.proofs.Law.{filter-filter}
+use Rattle.pl_laws.proofs.Law.{filter-filter, labels-of_days}
 use Rattle.pl_bars.specs.Bars.{cell_at, cell_of, is_at}
 use Rattle.pl_bars.proofs.BarWorlds.{cells_raw}
 use Rattle.pl_adjust.specs.Columns.{events_at}
@@ -203,5 +203,5 @@ module _ (w : World) (sound : AreSound w) where
           bars = same-bars;
           adjustments = same-events;
           lifetimes = same-lives;
-          labels = refl;
+          labels = λ name a s below. labels-of_days (fed_world w (suc n)) (world_of w) refl name a s (same-days s below);
         }

@@ -1,5 +1,5 @@
 -- The world as of a session agrees with the whole.
-use Rattle.std.proofs.Common.{◌≡◌, ℕ, zero, suc, ◌<◌, Bool, true, false, ◌&&◌, cond, ℤ, pos, negsuc, ◌<ℤ◌, ◌≤ℤ◌, List, [], ◌∷◌, length, map, filter, find, take, get_or, All, AllPairs, Some, option_map, unwrap_or, refl, sym, ◌∙◌, ap, arith, slice_get, ◌==◌, nat_lt, min}
+use Rattle.std.proofs.Common.{◌≡◌, ℕ, zero, suc, ◌<◌, Bool, true, false, ◌&&◌, cond, ℤ, pos, negsuc, ◌<ℤ◌, ◌≤ℤ◌, List, [], ◌∷◌, length, map, filter, find, take, get_or, All, AllPairs, Option, Some, None, option_map, option_and_then, unwrap_or, refl, sym, ◌∙◌, ap, arith, slice_get, ◌==◌, nat_lt, min}
 use Rattle.std.specs.Int.RustNames.{int_le}
 use Rattle.std.proofs.lemmas.Bool.Decides.{nat_tests}
 use Rattle.std.proofs.lemmas.Int.{ints}
@@ -11,12 +11,12 @@ use Rattle.pl_spec.specs.declared.AssetRow.{AssetRow}
 use Rattle.pl_spec.specs.declared.BarRow.{BarRow}
 use Rattle.pl_spec.specs.declared.Column.{Column}
 use Rattle.pl_spec.specs.Rounding.{MISSING}
-use Rattle.pl_spec.specs.World.{World, IsWorld, Bar, LabelRow, Adjustment, events_of, day_of, bar_cell, cell_of, exists}
-use Rattle.pl_spec.specs.Agree.{Agree, is_known, has_started}
+use Rattle.pl_spec.specs.World.{World, IsWorld, Bar, LabelRow, Adjustment, events_of, day_of, bar_cell, cell_of, exists, nonempty, last_started, is_label_of, label_at}
+use Rattle.pl_spec.specs.Agree.{Agree, is_known}
 use Rattle.pl_spec.specs.Parts.{ColumnLabel, ColumnAdjustment, bar_of, label_of, adjustment_of}
-use Rattle.pl_spec.specs.AsOf.{as_of, bars_before, adjustments_by}
+use Rattle.pl_spec.specs.AsOf.{as_of, has_started, bars_before, adjustments_by}
 use Rattle.pl_laws.specs.AsOfLaws.{PartsOf}
-use Rattle.pl_laws.proofs.Law.{filter-filter}
+use Rattle.pl_laws.proofs.Law.{filter-filter, day_by, labels-of_days}
 
 -- ---- lists
 
@@ -31,7 +31,7 @@ find-filter p q h (x ∷ xs) = here (p x) (q x) refl refl (find-filter p q h xs)
     here false true e f rest = rw e rest
     here false false e f rest = rw e rest
 
-filter-map : {X Y : Type 0} (p : Y → Bool) (f : X → Y) (xs : List X) → filter p (map f xs) ≡ map f (filter (λ x. p (f x)) xs)
+pub filter-map : {X Y : Type 0} (p : Y → Bool) (f : X → Y) (xs : List X) → filter p (map f xs) ≡ map f (filter (λ x. p (f x)) xs)
 filter-map p f [] = refl
 filter-map {X} {Y} p f (x ∷ xs) = here (p (f x)) (filter-map p f xs)
   where
@@ -39,7 +39,7 @@ filter-map {X} {Y} p f (x ∷ xs) = here (p (f x)) (filter-map p f xs)
     here true e = ap (λ l. f x ∷ l) e
     here false e = e
 
-filter-swap : {X : Type 0} (p q : X → Bool) (xs : List X) → filter p (filter q xs) ≡ filter q (filter p xs)
+pub filter-swap : {X : Type 0} (p q : X → Bool) (xs : List X) → filter p (filter q xs) ≡ filter q (filter p xs)
 filter-swap p q [] = refl
 filter-swap p q (x ∷ xs) = here (p x) (q x) refl refl (filter-swap p q xs)
   where
@@ -50,7 +50,7 @@ filter-swap p q (x ∷ xs) = here (p x) (q x) refl refl (filter-swap p q xs)
     here false true e f rest = rw e rest
     here false false e f rest = rest
 
-all_pass : {X : Type 0} (p : X → Bool) (xs : List X) → All (λ x. p x ≡ true) (filter p xs)
+pub all_pass : {X : Type 0} (p : X → Bool) (xs : List X) → All (λ x. p x ≡ true) (filter p xs)
 all_pass p [] = λ k d l. absurd (omega arith)
 all_pass {X} p (x ∷ xs) = here (p x) refl (all_pass p xs)
   where
@@ -79,6 +79,9 @@ days_kept days n rise i j d h l =
 asked_before : (a s d : ℕ) → s < d → (b : Bar) → (b.sid == a && b.session == s) ≡ true → nat_lt b.session d ≡ true
 asked_before a s d h b e = grind (arith, nat_tests)
 
+asked_started : (name : List ℕ) (a : ℕ) (x day : ℤ) → x ≤ℤ day → (r : LabelRow) → is_label_of name a x r ≡ true → has_started day r ≡ true
+asked_started name a x day h r p = grind (arith, ints)
+
 module _ (w : World) (d : ℕ) (day : ℤ) where
   events-by : (a : ℕ) → events_of (as_of w d day) a ≡ filter (is_known day) (events_of w a)
   events-by a =
@@ -98,6 +101,23 @@ module _ (w : World) (d : ℕ) (day : ℤ) where
   exists-kept : (a : ℕ) (s : ℤ) → s ≤ℤ pos d → exists (as_of w d day) a s ≡ exists w a s
   exists-kept a s h = rw (day_of-kept s h) refl
 
+  -- on a day that is no later the label rows that have not started by then do not count
+  label_on : Option ℤ → List LabelRow → List ℕ → ℕ → Option (List ℕ)
+  label_on o rows name a = option_and_then (λ x. option_and_then (λ r. nonempty r.text) (last_started (filter (is_label_of name a x) rows))) o
+
+  label_on-kept : (name : List ℕ) (a : ℕ) (o : Option ℤ) → ((x : ℤ) → o ≡ Some x → x ≤ℤ day) → label_on o (filter (has_started day) w.labels) name a ≡ label_on o w.labels name a
+  unfolding label_on
+  label_on-kept name a None h = refl
+  label_on-kept name a (Some x) h =
+      ap (λ rows. option_and_then (λ r. nonempty r.text) (last_started rows))
+      (filter-filter (is_label_of name a x) (has_started day) (asked_started name a x day (h x refl)) w.labels)
+
+  label_at-kept : IsWorld w → slice_get w.days d ≡ Some day → (name : List ℕ) (a : ℕ) (s : ℤ) → s ≤ℤ pos d → label_at (as_of w d day) name a s ≡ label_at w name a s
+  unfolding label_on
+  label_at-kept ok at_d name a s h =
+      labels-of_days (as_of w d day) (record w { labels = filter (has_started day) w.labels }) refl name a s (day_of-kept s h)
+      ∙ label_on-kept name a (day_of w s) (λ x e. day_by w ok s (pos d) x day h e at_d)
+
   pub is-world : IsWorld w → IsWorld (as_of w d day)
   is-world ok = record {
     days_ascend = days_kept w.days (suc d) ok.days_ascend;
@@ -105,14 +125,14 @@ module _ (w : World) (d : ℕ) (day : ℤ) where
     events_in_order = λ a. rw (events-by a) (AllPairs-filter (λ e f. e.day ≤ℤ f.day) (is_known day) (events_of w a) (ok.events_in_order a));
   }
 
-  pub agrees : slice_get w.days d ≡ Some day → Agree (as_of w d day) w (pos d) day
-  agrees at_d = record {
+  pub agrees : IsWorld w → slice_get w.days d ≡ Some day → Agree (as_of w d day) w (pos d) day
+  agrees ok at_d = record {
     is_day = day_of-kept (pos d) (omega (arith, ints)) ∙ at_d;
     days = day_of-kept;
     bars = bar_cell-kept;
     adjustments = λ a. ap (filter (is_known day)) (events-by a) ∙ filter-filter (is_known day) (is_known day) (λ e p. p) (events_of w a);
     lifetimes = exists-kept;
-    labels = filter-filter (has_started day) (has_started day) (λ r p. p) w.labels;
+    labels = label_at-kept ok at_d;
   }
 
 -- ---- the parts

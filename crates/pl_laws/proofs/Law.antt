@@ -6,11 +6,11 @@ use Rattle.std.proofs.lemmas.Int.{ints}
 use Rattle.std.proofs.lemmas.Bool.{eqb-true, eq-eqb, ne_eqb, or_cases, or_left, true≢false, false_from_ne_true, cases_eq}
 use Rattle.std.proofs.lemmas.Option.{get_or_from_slice_get, slice_get_within}
 use Rattle.pl_spec.specs.Rounding.{is_present}
-use Rattle.pl_spec.specs.World.{World, IsWorld, Event, events_of, LabelRow, day_of, bar_cell, living_sids, label_at, is_label_of, last_started, nonempty, lives_on}
+use Rattle.pl_spec.specs.World.{World, IsWorld, Event, events_of, day_of, bar_cell, living_sids, label_at, is_label_of, last_started, nonempty, lives_on}
 use Rattle.pl_spec.specs.declared.AssetRow.{AssetRow}
 use Rattle.pl_spec.specs.declared.Column.{Column}
 use Rattle.pl_spec.specs.Window.{effect, is_between, effects_from, effects, after_all, seen_cell, before, downward}
-use Rattle.pl_spec.specs.Agree.{Agree, is_known, has_started}
+use Rattle.pl_spec.specs.Agree.{Agree, is_known}
 use Rattle.pl_spec.specs.Kind.{Kind, CrossKind}
 use Rattle.pl_spec.specs.Kind.Kind.{Constant, Label, StaticSids, Window, Point, LabelTest, Cross, Downsample}
 use Rattle.pl_spec.specs.Kind.CrossKind.{PeerCount}
@@ -37,9 +37,6 @@ filter-filter p q h (x ∷ xs) = here (p x) (q x) refl refl (filter-filter p q h
 
 event_known : (low high day : ℤ) → high ≤ℤ day → (e : Event) → is_between low high e ≡ true → is_known day e ≡ true
 event_known low high day h e p = grind (arith, ints)
-
-label_started : (name : List ℕ) (a : ℕ) (x day : ℤ) → x ≤ℤ day → (r : LabelRow) → is_label_of name a x r ≡ true → has_started day r ≡ true
-label_started name a x day h r p = grind (arith, ints)
 
 before_above : (s : ℤ) (n : ℕ) → before s (suc n) <ℤ s
 before_above s n = omega (arith, ints)
@@ -144,15 +141,23 @@ days_rise xs i j x y rise h e f = elim (cases_eq i j) [
       let b : get_or xs j x ≡ y = get_or_from_slice_get xs j y x f in omega (arith, ints)
 ]
 
+-- the day of an earlier session is no later
+pub day_by : (w : World) → IsWorld w → (s d x day : ℤ) → s ≤ℤ d → day_of w s ≡ Some x → day_of w d ≡ Some day → x ≤ℤ day
+day_by w ok (pos i) (pos j) x day h e f = days_rise w.days i j x day ok.days_ascend (omega (arith, ints)) e f
+day_by w ok (pos i) (negsuc j) x day h e f = cc
+day_by w ok (negsuc i) d x day h e f = cc
+
+-- ---- labels
+
+-- worlds of the same label rows have the same labels on a session whose day is the same
+pub labels-of_days : (w v : World) → w.labels ≡ v.labels → (name : List ℕ) (a : ℕ) (s : ℤ) → day_of w s ≡ day_of v s → label_at w name a s ≡ label_at v name a s
+labels-of_days w v rows name a s days =
+    ap (λ ls. option_and_then (λ day. option_and_then (λ r. nonempty r.text) (last_started (filter (is_label_of name a day) ls))) (day_of w s)) rows
+    ∙ ap (λ o. option_and_then (λ day. option_and_then (λ r. nonempty r.text) (last_started (filter (is_label_of name a day) v.labels))) o) days
+
 module _ (w v : World) (d day : ℤ) (ok : IsWorld w) (ok' : IsWorld v) (agree : Agree w v d day) where
-  -- the day of an earlier session is no later
   day_before : (s x : ℤ) → s ≤ℤ d → day_of w s ≡ Some x → x ≤ℤ day
-  day_before s x h e = go s d h e agree.is_day
-    where
-      go : (s d : ℤ) → s ≤ℤ d → day_of w s ≡ Some x → day_of w d ≡ Some day → x ≤ℤ day
-      go (pos i) (pos j) h e f = days_rise w.days i j x day ok.days_ascend (omega (arith, ints)) e f
-      go (pos i) (negsuc j) h e f = cc
-      go (negsuc i) d h e f = cc
+  day_before s x h e = day_by w ok s d x day h e agree.is_day
 
   events_same : (a : ℕ) (low high : ℤ) → high ≤ℤ day → filter (is_between low high) (events_of w a) ≡ filter (is_between low high) (events_of v a)
   events_same a low high h =
@@ -180,23 +185,6 @@ module _ (w v : World) (d day : ℤ) (ok : IsWorld w) (ok' : IsWorld v) (agree :
 
   pub living_same : (s : ℤ) → s ≤ℤ d → living_sids w s ≡ living_sids v s
   living_same s h = rising_is_one (living_sids w s) (living_sids v s) (living_rise w ok (day_of w s)) (living_rise v ok' (day_of v s)) (λ a. agree.lifetimes a s h)
-
-  rows_same : (name : List ℕ) (a : ℕ) (x : ℤ) → x ≤ℤ day → filter (is_label_of name a x) w.labels ≡ filter (is_label_of name a x) v.labels
-  rows_same name a x h =
-      let part : (r : LabelRow) → is_label_of name a x r ≡ true → has_started day r ≡ true = label_started name a x day h in
-      sym (filter-filter (is_label_of name a x) (has_started day) part w.labels)
-      ∙ ap (filter (is_label_of name a x)) agree.labels
-      ∙ filter-filter (is_label_of name a x) (has_started day) part v.labels
-
-  label_same : (name : List ℕ) (a : ℕ) (s : ℤ) → s ≤ℤ d → label_at w name a s ≡ label_at v name a s
-  label_same name a s h = on_day (day_of w s) (λ x e. day_before s x h e) ∙ ap (label_on v) (agree.days s h)
-    where
-      label_on : World → Option ℤ → Option (List ℕ)
-      label_on u o = option_and_then (λ x. option_and_then (λ r. nonempty r.text) (last_started (filter (is_label_of name a x) u.labels))) o
-
-      on_day : (o : Option ℤ) → ((x : ℤ) → o ≡ Some x → x ≤ℤ day) → label_on w o ≡ label_on v o
-      on_day None h = refl
-      on_day (Some x) h = ap (λ rows. option_and_then (λ r. nonempty r.text) (last_started rows)) (rows_same name a x (h x refl))
 
   -- ---- values
 
@@ -254,7 +242,7 @@ module _ (w v : World) (d day : ℤ) (ok : IsWorld w) (ok' : IsWorld v) (agree :
       ≡ step v names k size (part_of x f') (part_of y g') (part_of z h') (part_of m q') (part_of p e') a s
   unfolding step
   step_same names (Constant cell) size x y z m p f f' g g' h h' q q' e e' hf hg hh hq he a s l = refl
-  step_same names (Label n) size x y z m p f f' g g' h h' q q' e e' hf hg hh hq he a s l = ap label_value (label_same (name_at names n) a s l)
+  step_same names (Label n) size x y z m p f f' g g' h h' q q' e e' hf hg hh hq he a s l = ap label_value (agree.labels (name_at names n) a s l)
   step_same names (StaticSids sids) size x y z m p f f' g g' h h' q q' e e' hf hg hh hq he a s l = refl
   step_same names (Window k) size x y z m p f f' g g' h h' q q' e e' hf hg hh hq he a s l =
       rw (window_same x f f' size hf a s l, window_same y g g' size hg a s l, window_same z h h' size hh a s l) refl

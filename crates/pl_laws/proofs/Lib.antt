@@ -2,6 +2,9 @@ pub mod Buffer
 pub mod TableLaw
 pub mod Law
 pub mod AsOf
+pub mod Permuted
+pub mod TablesMoved
+pub mod Alike
 pub mod Worked
 pub mod Uses
 pub mod NoEvents

@@ -9,7 +9,7 @@ use Rattle.pl_spec.specs.Value.{Value, holds}
 use Rattle.pl_spec.specs.Table.{Pipeline, Row, is_kept, kept_sids, row, session_rows, table}
 use Rattle.pl_laws.proofs.Law as law
 
-range_same : {X : Type 0} (f g : ℕ → List X) (n a : ℕ) → ((k : ℕ) → a ≤ k → k < a + n → f k ≡ g k) → flat_map f (range_with_len a n) ≡ flat_map g (range_with_len a n)
+pub range_same : {X : Type 0} (f g : ℕ → List X) (n a : ℕ) → ((k : ℕ) → a ≤ k → k < a + n → f k ≡ g k) → flat_map f (range_with_len a n) ≡ flat_map g (range_with_len a n)
 range_same f g zero a h = refl
 range_same f g (suc n) a h =
     let rest : flat_map f (range_with_len (a + 1) n) ≡ flat_map g (range_with_len (a + 1) n) = range_same f g n (a + 1) (λ k m l. h k (omega arith) (omega arith)) in

@@ -1,6 +1,7 @@
 -- The laws, each the contract of a function.
 pub mod Laws
 pub mod AsOfLaws
+pub mod PermutedLaws
 pub mod LowLaws
 pub mod ListLaws
 pub mod DateLaws

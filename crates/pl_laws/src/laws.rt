@@ -4,6 +4,8 @@ ghost use Rattle.pl_laws.specs.Laws.{ValuesAgree, RoundingIsExact, BufferSteps, 
 ghost use Rattle.pl_laws.specs.Laws.{TermsAreDistinct, OrderIsOne, OrderIsKept, RootIsGreatest, UsedAreListed};
 ghost use Rattle.pl_laws.specs.Laws.{RawWithoutEvents, WindowOfOne, OpenMasksChangeNothing, TablesConcatenate};
 ghost use Rattle.pl_laws.specs.AsOfLaws.{AsOfAgrees, TablesAsOf, PartsAsOf};
+ghost use Rattle.pl_laws.specs.PermutedLaws.{AgreeingWorldsAreAlike, OrderChangesNothing};
+ghost use Rattle.pl_laws.specs.PermutedLaws.{TableRowsInAnyOrder};
 ghost use Rattle.pl_laws.specs.LowLaws.{StartsAreFirst, ReachesRise, ReachIsEnough, LowsCover, ReachesCover, ReachesMeet};
 ghost use Rattle.pl_laws.specs.DateLaws.{DatesAreRead, DatesAreWritten, DaysHaveOneDate};
 ghost use Rattle.pl_laws.specs.SidLaws.{SidsAreRead};
@@ -51,6 +53,22 @@ pub fn tables_as_of()
 /// The parts that are known by a session make the world as of it.
 pub fn parts_as_of()
     ensures { PartsAsOf }
+{}
+
+/// Worlds in which whatever is looked up is the same have the same tables.
+pub fn agreeing_worlds_are_alike()
+    ensures { AgreeingWorldsAreAlike }
+{}
+
+/// Rows of data in another order change nothing that is looked up.
+pub fn order_changes_nothing()
+    ensures { OrderChangesNothing }
+{}
+
+/// Rows of adjustment tables in another order are the same adjustments of each asset, where no two rows of a
+/// table are of one asset and one day.
+pub fn table_rows_in_any_order()
+    ensures { TableRowsInAnyOrder }
 {}
 
 /// No two numbers of a graph have one tree.

@@ -3,3 +3,4 @@ pub mod Columns
 pub mod AssetsRead
 pub mod AssetsSaid
 pub mod SidColumns
+pub mod AssetsMoved

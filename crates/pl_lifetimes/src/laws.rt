@@ -1,7 +1,7 @@
-//! What an assets file says, in plain words. The function does nothing: its contract is a law of the
-//! definitions that the calls' contracts cite.
+//! What an assets file says, in plain words. The functions do nothing: the contract of each is a law of
+//! the definitions that the calls' contracts cite.
 
-ghost use Rattle.std.specs.Prelude.{◌≡◌, ◌↔◌, List, Ok, Err};
+ghost use Rattle.std.specs.Prelude.{◌≡◌, ◌↔◌, ◌∷◌, List, IsPermutation, Ok, Err};
 ghost use Rattle.pl_spec.specs.declared.AssetRow.{AssetRow};
 ghost use Rattle.pl_records.specs.Reading.{Record, Fault, Judges};
 ghost use Rattle.pl_records.specs.RuleTable.{IsFirstBroken};
@@ -18,4 +18,11 @@ pub fn assets_in_plain_words()
         ↔ AreAssetsOf records assets }
     ensures fault { (records : List Record) (fault : Fault Rule) → (assets_of records ≡ Err fault)
         ↔ IsAssetsFault records fault }
+{}
+
+/// Records after the first, the header, are in another order read as the same assets.
+pub fn assets_in_any_order()
+    ensures { (first : Record) (records others : List Record) → IsPermutation records others
+        → (assets : List AssetRow) → assets_of (first ∷ records) ≡ Ok assets
+        → assets_of (first ∷ others) ≡ Ok assets }
 {}

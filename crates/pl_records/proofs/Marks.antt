@@ -11,7 +11,7 @@ use Rattle.std.proofs.Math.ListN.{get_or-eq_default}
 use Rattle.pl_records.specs.PlainCuts.{is_low, IsCutTo}
 use Rattle.pl_records.proofs.PlainLines.{cut-over}
 
--- a bit is set for no byte from the end on, and for each other byte from the place on that is not above the comma
+-- a bit is set for no byte from the end on, and for each byte before it that is not above the comma
 pub record AreMarks (text : List ℕ) (from end marks : ℕ) : Type 0 where
   pub marked : (k : ℕ) → bit_at marks k ≡ 1 → from + k < end
   pub plain : (k : ℕ) → from + k < end → bit_at marks k ≡ 0 → 44 < get_or text (from + k) 0

@@ -15,6 +15,7 @@ use Rattle.pl_spec.specs.Agree.{Agree, is_known}
 use Rattle.pl_spec.specs.Parts.{ColumnAdjustment, AreFor, bar_of, adjustment_of, sid_at}
 use Rattle.pl_spec.specs.Rounding.{MISSING}
 use Rattle.pl_spec.specs.World.{Bar, Event, cell_of, bar_cell, events_of, day_of, exists, lives_on}
+use Rattle.pl_laws.proofs.Law.{labels-of_days}
 use Rattle.pl_rings.proofs.PartsWorld.{parts_are_a_world}
 use Rattle.pl_rings.specs.Days.{Start, FedDay, fed, bar_row, bars_behind, days_of, bars_of, adjustments_of, last_day, IsStart, IsLaterThan, AreFed}
 use Rattle.pl_rings.specs.Laws.{FedIsAWorld, FedAgrees}
@@ -225,7 +226,7 @@ module _ (g : Start) (now next : FedDay) (earlier : List FedDay) (start : IsStar
     bars = λ a c s below. on_bars a c s below;
     adjustments = events_stay;
     lifetimes = lives_on_day;
-    labels = refl;
+    labels = λ name a s below. labels-of_days (fed g (now ∷ earlier)) (fed g (next ∷ now ∷ earlier)) refl name a s (days_stay s below);
   }
     where
       on_bars : (a : ℕ) (c : Column) (s : ℤ) → s <ℤ pos (length earlier) → bar_cell (fed g (now ∷ earlier)) a c s ≡ bar_cell (fed g (next ∷ now ∷ earlier)) a c s

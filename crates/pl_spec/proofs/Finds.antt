@@ -13,14 +13,14 @@ use Rattle.pl_spec.specs.Lookups.{BarsOnce, LabelsOnce, BarsAreFound, LabelsAreF
 
 -- ---- lists
 
-contains-front : {X : Type 0} (x : X) (xs : List X) → Contains (x ∷ xs) x
+pub contains-front : {X : Type 0} (x : X) (xs : List X) → Contains (x ∷ xs) x
 contains-front x xs = (0, omega arith, refl)
 
-contains-behind : {X : Type 0} (y : X) (xs : List X) (x : X) → Contains xs x → Contains (y ∷ xs) x
+pub contains-behind : {X : Type 0} (y : X) (xs : List X) (x : X) → Contains xs x → Contains (y ∷ xs) x
 contains-behind y xs x h = (suc h.0, omega (arith, h.1), h.2)
 
 -- an element of a list is its first or one after it
-first_or_behind : {X : Type 0} (y : X) (xs : List X) (x : X) → Contains (y ∷ xs) x → (y ≡ x) ⊎ Contains xs x
+pub first_or_behind : {X : Type 0} (y : X) (xs : List X) (x : X) → Contains (y ∷ xs) x → (y ≡ x) ⊎ Contains xs x
 first_or_behind y xs x h = here h.0 h.1 h.2
   where
     here : (k : ℕ) → k < suc (length xs) → get_or (y ∷ xs) k x ≡ x → (y ≡ x) ⊎ Contains xs x
@@ -31,7 +31,7 @@ none_in_empty : {X : Type 0} (x : X) → Contains [] x → ⊥
 none_in_empty x h = absurd (omega (arith, h.1))
 
 -- what alone passes a test is found by it
-find-one : {X : Type 0} (p : X → Bool) (xs : List X) (x : X) → Contains xs x → p x ≡ true → ((y : X) → Contains xs y → p y ≡ true → y ≡ x) → find p xs ≡ Some x
+pub find-one : {X : Type 0} (p : X → Bool) (xs : List X) (x : X) → Contains xs x → p x ≡ true → ((y : X) → Contains xs y → p y ≡ true → y ≡ x) → find p xs ≡ Some x
 find-one p [] x h e one = absurd (none_in_empty x h)
 find-one p (y ∷ ys) x h e one =
     here (p y) refl (λ later. find-one p ys x later e (λ z in_ys g. one z (contains-behind y ys z in_ys) g))
@@ -43,7 +43,7 @@ find-one p (y ∷ ys) x h e one =
     here true f rest = ap Some (one y (contains-front y ys) f)
     here false f rest = rest (behind f)
 
-find-none : {X : Type 0} (p : X → Bool) (xs : List X) → ((y : X) → Contains xs y → p y ≡ true → ⊥) → find p xs ≡ None
+pub find-none : {X : Type 0} (p : X → Bool) (xs : List X) → ((y : X) → Contains xs y → p y ≡ true → ⊥) → find p xs ≡ None
 find-none p [] none = refl
 find-none p (y ∷ ys) none = here (p y) refl (find-none p ys (λ z in_ys g. none z (contains-behind y ys z in_ys) g))
   where
@@ -51,7 +51,7 @@ find-none p (y ∷ ys) none = here (p y) refl (find-none p ys (λ z in_ys g. non
     here true f rest = absurd (none y (contains-front y ys) f)
     here false f rest = rest
 
-contains-filter : {X : Type 0} (p : X → Bool) (xs : List X) (x : X) → Contains xs x → p x ≡ true → Contains (filter p xs) x
+pub contains-filter : {X : Type 0} (p : X → Bool) (xs : List X) (x : X) → Contains xs x → p x ≡ true → Contains (filter p xs) x
 contains-filter p [] x h e = absurd (none_in_empty x h)
 contains-filter p (y ∷ ys) x h e = here (p y) refl (first_or_behind y ys x h) (λ later. contains-filter p ys x later e)
   where
@@ -61,7 +61,7 @@ contains-filter p (y ∷ ys) x h e = here (p y) refl (first_or_behind y ys x h) 
     here false f (inl same) rest = absurd (true≢false (sym e ∙ ap p (sym same) ∙ f))
     here false f (inr later) rest = rest later
 
-filter-contains : {X : Type 0} (p : X → Bool) (xs : List X) (x : X) → Contains (filter p xs) x → Contains xs x × (p x ≡ true)
+pub filter-contains : {X : Type 0} (p : X → Bool) (xs : List X) (x : X) → Contains (filter p xs) x → Contains xs x × (p x ≡ true)
 filter-contains p [] x h = absurd (none_in_empty x h)
 filter-contains p (y ∷ ys) x h = here (p y) refl h (filter-contains p ys x)
   where
@@ -73,13 +73,13 @@ filter-contains p (y ∷ ys) x h = here (p y) refl h (filter-contains p ys x)
     ]
     here false f g rest = (contains-behind y ys x (rest g).0, (rest g).1)
 
-all-contains : {X : Type 0} (p : X → Bool) (xs : List X) → list_all p xs ≡ true → (x : X) → Contains xs x → p x ≡ true
+pub all-contains : {X : Type 0} (p : X → Bool) (xs : List X) → list_all p xs ≡ true → (x : X) → Contains xs x → p x ≡ true
 all-contains p [] e x h = absurd (none_in_empty x h)
 all-contains p (y ∷ ys) e x h =
     let parts = and_parts (p y) (list_all p ys) e in
     elim (first_or_behind y ys x h) [ inl same ↦ ap p (sym same) ∙ parts.0 | inr later ↦ all-contains p ys parts.1 x later ]
 
-contains-all : {X : Type 0} (p : X → Bool) (xs : List X) → ((x : X) → Contains xs x → p x ≡ true) → list_all p xs ≡ true
+pub contains-all : {X : Type 0} (p : X → Bool) (xs : List X) → ((x : X) → Contains xs x → p x ≡ true) → list_all p xs ≡ true
 contains-all p [] h = refl
 contains-all p (y ∷ ys) h = rw (h y (contains-front y ys), contains-all p ys (λ x l. h x (contains-behind y ys x l))) refl
 
@@ -108,7 +108,7 @@ bar-none w a s none c =
 
 -- ---- labels
 
-label_of : (name : List ℕ) (a : ℕ) (day : ℤ) (r : LabelRow) → is_label_of name a day r ≡ true → (r.name ≡ name) × (r.sid ≡ a)
+pub label_of : (name : List ℕ) (a : ℕ) (day : ℤ) (r : LabelRow) → is_label_of name a day r ≡ true → (r.name ≡ name) × (r.sid ≡ a)
 label_of name a day r e =
     let front = and_parts _ _ (and_parts _ _ e).0 in
     ((bytes_eq-Decides r.name name).0 front.0, eqb-true r.sid a front.1)

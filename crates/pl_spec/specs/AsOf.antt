@@ -1,10 +1,10 @@
 -- What is known by a session: the world, and its parts, without what comes later.
-use Rattle.std.specs.Prelude.{ℕ, suc, nat_lt, ℤ, List, filter, take}
+use Rattle.std.specs.Prelude.{ℕ, suc, nat_lt, Bool, ℤ, List, filter, take}
 use Rattle.std.specs.Int.RustNames.{int_le}
 use Rattle.pl_spec.specs.declared.BarRow.{BarRow}
-use Rattle.pl_spec.specs.World.{World}
+use Rattle.pl_spec.specs.World.{World, LabelRow}
 use Rattle.pl_spec.specs.Parts.{ColumnLabel, ColumnAdjustment}
-use Rattle.pl_spec.specs.Agree.{is_known, has_started}
+use Rattle.pl_spec.specs.Agree.{is_known}
 
 -- ---- the parts
 
@@ -21,6 +21,9 @@ abbrev pub adjustments_by : ℤ → List ColumnAdjustment → List ColumnAdjustm
 adjustments_by day adjustments = filter (λ x. int_le x.event.day day) adjustments
 
 -- ---- the world
+
+abbrev pub has_started : ℤ → LabelRow → Bool
+has_started day r = int_le r.start day
 
 -- The world as of session d, whose day is the given one: its sessions up to d, the bars of sessions before d,
 -- and the label rows and adjustments that count by that day. All assets are kept, and all texts, so that each

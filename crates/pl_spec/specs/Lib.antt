@@ -23,5 +23,6 @@ pub mod Lows
 pub mod Text
 pub mod Parts
 pub mod Agree
+pub mod Permuted
 pub mod AsOf
 pub mod Names

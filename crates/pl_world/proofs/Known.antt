@@ -42,7 +42,7 @@ module _ (w : World) (d : ℕ) (day : ℤ) (v : OwnedWorld) (are : AreCut w d da
         bars = are.bars;
         adjustments = are.adjustments;
         world = world_is;
-        agrees = rw world_is (agrees (world_of w) d day are.is_day);
+        agrees = rw world_is (agrees (world_of w) d day made.world are.is_day);
       }
 
   pub is_owned : IsOwned v
@@ -53,7 +53,7 @@ module _ (w : World) (d : ℕ) (day : ℤ) (v : OwnedWorld) (are : AreCut w d da
 
   pub shows_same : ShowsSameUpTo w d v
   shows_same p from to h =
-      let known = agrees (world_of w) d day are.is_day in
+      let known = agrees (world_of w) d day made.world are.is_day in
       let cut = is-world (world_of w) d day made.world in
       record {
         rows = ap (λ x. table x p from to) world_is ∙ table_same (as_of (world_of w) d day) (world_of w) (pos d) day cut made.world known p from to h;

@@ -1,5 +1,6 @@
 pub mod Lifetimes
 pub mod Made
+pub mod Moved
 pub mod Asked
 pub mod Evaluated
 pub mod Sections

@@ -1,5 +1,5 @@
 -- The world that parts make: its adjustments by sid, and its cells as they are seen.
-use Rattle.std.proofs.Common.{◌≡◌, ℕ, suc, ◌<◌, ◌==◌, Bool, true, false, IsTrue, ℤ, pos, ◌≤ℤ◌, ◌⊎◌, inl, inr, List, [], ◌∷◌, map, filter, length, get_or, All, slice_get, Some, refl, sym, ◌∙◌, ap, arith}
+use Rattle.std.proofs.Common.{◌≡◌, ℕ, suc, ◌<◌, ◌==◌, Bool, true, false, IsTrue, ℤ, pos, ◌<ℤ◌, ◌≤ℤ◌, ◌⊎◌, inl, inr, List, [], ◌∷◌, map, filter, length, get_or, All, slice_get, Some, refl, sym, ◌∙◌, ap, arith}
 use Rattle.std.specs.List.{AllPairs, Contains}
 use Rattle.std.proofs.lemmas.Bool.{cases_lt, true≢false}
 use Rattle.std.proofs.lemmas.Bool.Decides.{nat_tests}
@@ -9,12 +9,14 @@ use Rattle.pl_spec.specs.declared.AssetRow.{AssetRow}
 use Rattle.pl_spec.specs.declared.BarRow.{BarRow}
 use Rattle.pl_spec.specs.declared.Column.{Column}
 use Rattle.pl_spec.specs.Lookups.{BarsOnce, LabelsOnce}
-use Rattle.pl_spec.specs.Parts.{ColumnAdjustment, adjustment_of, bar_of, label_of, sid_at}
-use Rattle.pl_spec.specs.World.{Event, events_of}
+use Rattle.pl_spec.specs.Parts as parts
+use Rattle.pl_spec.specs.Parts.{ColumnAdjustment, ColumnLabel, adjustment_of, bar_of, label_of, sid_at}
+use Rattle.pl_spec.specs.World as spec
+use Rattle.pl_spec.specs.World.{Event, IsWorld, events_of}
 use Rattle.pl_spec.specs.Window.{after_all, effects, effects_in, seen_cell}
 use Rattle.pl_calendar.specs.Days.{AreDays}
 use Rattle.pl_lifetimes.specs.Assets.{AreAssets}
-use Rattle.pl_assets.specs.Labels.{AreLabels}
+use Rattle.pl_assets.specs.Labels.{AreLabels, is_from}
 use Rattle.pl_lifetimes.proofs.Columns.{one_col, sid_there}
 use Rattle.pl_assets.proofs.LabelKeys.{parts_from}
 use Rattle.pl_bars.specs.Bars.{AreBars, cell_at, is_before}
@@ -22,7 +24,7 @@ use Rattle.pl_bars.proofs.BarWorlds.{cells_raw}
 use Rattle.pl_adjust.specs.Columns.{StandByDay, events_at}
 use Rattle.pl_adjust.proofs.Sids.{column_events}
 use Rattle.pl_world.specs.declared.world.World.{World}
-use Rattle.pl_world.specs.Worlds.{world_of, IsMade, PartsMakeAWorld}
+use Rattle.pl_world.specs.Worlds.{world_of, AreMadeFor, IsMade, PartsMakeAWorld}
 
 blank : AssetRow
 blank = record { sid = 0; start = pos 0; end = pos 0 }
@@ -102,50 +104,67 @@ once-mapped {A} {B} f Same back (x ∷ xs) differ b c first second same = elim (
     at_second : c ≡ f (get_or (x ∷ xs) second.0 x)
     at_second = sym second.2 ∙ get_or-map f (x ∷ xs) second.0 x c in_second
 
-module _ (w : World) (made : IsMade w) (days : AreDays w.sessions.now) (assets : AreAssets w.assets.now) (labels : AreLabels w.labels.now) (bars : AreBars w.bars.now)
-    (in_order : StandByDay w.adjustments.now) where
-  bars_once : BarsOnce (world_of w)
+module _ (days : List ℤ) (assets : List AssetRow) (labels : List ColumnLabel) (texts : List (List ℕ)) (bars : List BarRow) (adjustments : List ColumnAdjustment)
+    (made : AreMadeFor days assets labels bars adjustments) (days_up : AllPairs (λ a b. a <ℤ b) days) (sids_up : AllPairs (λ a b. a.sid < b.sid) assets)
+    (starts_own : AllPairs (λ r q. is_from r.name r.col r.start q ≡ false) labels) (bars_up : AllPairs (λ a b. IsTrue (is_before b.col b.session a)) bars)
+    (in_order : StandByDay adjustments) where
+  abbrev whole : spec.World
+  whole = parts.world_of days assets labels texts bars adjustments
+
+  pub bars_once : BarsOnce whole
   bars_once b c first second sids sessions =
-      once-mapped (bar_of w.assets.now) (λ b c. (b.sid ≡ c.sid) × (b.session ≡ c.session)) (λ b c same. (sym same.0, sym same.1)) w.bars.now
+      once-mapped (bar_of assets) (λ b c. (b.sid ≡ c.sid) × (b.session ≡ c.session)) (λ b c same. (sym same.0, sym same.1)) bars
       (λ i j d lt l same.
-      let first_in : (get_or w.bars.now i d).col < length w.assets.now = made.bars_in i d (omega arith) in
-      let second_in : (get_or w.bars.now j d).col < length w.assets.now = made.bars_in j d l in
-      differ (get_or w.bars.now i d) (get_or w.bars.now j d) (bars.ascend i j d lt l) (one_col w.assets.now assets.ascend _ _ first_in second_in same.0) same.1)
+      let first_in : (get_or bars i d).col < length assets = made.bars_in i d (omega arith) in
+      let second_in : (get_or bars j d).col < length assets = made.bars_in j d l in
+      differ (get_or bars i d) (get_or bars j d) (bars_up i j d lt l) (one_col assets sids_up _ _ first_in second_in same.0) same.1)
       b c first second (sids, sessions)
     where
       differ : (x y : BarRow) → IsTrue (is_before y.col y.session x) → x.col ≡ y.col → x.session ≡ y.session → ⊥
       differ x y before cols sessions = grind (arith, nat_tests)
 
-  labels_once : LabelsOnce (world_of w)
+  pub labels_once : LabelsOnce whole
   labels_once r q first second names sids starts =
-      once-mapped (label_of w.assets.now) (λ r q. (r.name ≡ q.name) × (r.sid ≡ q.sid) × (r.start ≡ q.start)) (λ r q same. (sym same.0, sym same.1, sym same.2)) w.labels.now.rows
+      once-mapped (label_of assets) (λ r q. (r.name ≡ q.name) × (r.sid ≡ q.sid) × (r.start ≡ q.start)) (λ r q same. (sym same.0, sym same.1, sym same.2)) labels
       (λ i j d lt l same.
-      let first_in : (get_or w.labels.now.rows i d).col < length w.assets.now = made.labels_in i d (omega arith) in
-      let second_in : (get_or w.labels.now.rows j d).col < length w.assets.now = made.labels_in j d l in
-      let row = get_or w.labels.now.rows i d in
-      true≢false (sym (parts_from row.name row.col row.start (get_or w.labels.now.rows j d) (sym same.0) (sym (one_col w.assets.now assets.ascend _ _ first_in second_in same.1)) (sym same.2))
-      ∙ labels.once i j d lt l))
+      let first_in : (get_or labels i d).col < length assets = made.labels_in i d (omega arith) in
+      let second_in : (get_or labels j d).col < length assets = made.labels_in j d l in
+      let row = get_or labels i d in
+      true≢false (sym (parts_from row.name row.col row.start (get_or labels j d) (sym same.0) (sym (one_col assets sids_up _ _ first_in second_in same.1)) (sym same.2))
+      ∙ starts_own i j d lt l))
       r q first second (names, sids, starts)
 
-  pub parts_make_a_world : PartsMakeAWorld w
-  parts_make_a_world = record {
-    parts = record {
-      days_ascend = days.ascend;
-      sids_ascend = assets.ascend;
-      labels_in = made.labels_in;
-      bars_in = made.bars_in;
-      sessions_in = made.sessions_in;
-      adjustments_in = made.adjustments_in;
-      events_in_order = in_order;
-    };
-    world = record {
-      days_ascend = days.ascend;
-      sids_ascend = assets.ascend;
-      events_in_order = λ a. elim (found w.assets.now w.adjustments.now a made.adjustments_in) [
-        | inl none ↦ rw none (λ i j d l m. absurd (omega arith))
-        | inr at ↦ rw (← at.2, events_of-at w made assets at.0 at.1) (by_day _ (in_order at.0))
-      ];
-    };
-    bars_once = bars_once;
-    labels_once = labels_once;
+  events_in : (col : ℕ) → col < length assets → events_of whole (sid_at assets col) ≡ events_at adjustments col
+  events_in col inside =
+      ap (events_of whole) (sid_there assets col blank inside)
+      ∙ column_events days assets labels texts bars adjustments sids_up made.adjustments_in col (get_or assets col blank) (slice_get-get_or assets col blank inside)
+
+  pub is_world : IsWorld whole
+  is_world = record {
+    days_ascend = days_up;
+    sids_ascend = sids_up;
+    events_in_order = λ a. elim (found assets adjustments a made.adjustments_in) [
+      | inl none ↦ rw none (λ i j d l m. absurd (omega arith))
+      | inr at ↦ rw (← at.2, events_in at.0 at.1) (by_day _ (in_order at.0))
+    ];
   }
+
+pub parts_make_a_world : (w : World) → IsMade w → AreDays w.sessions.now → AreAssets w.assets.now → AreLabels w.labels.now → AreBars w.bars.now → StandByDay w.adjustments.now
+    → PartsMakeAWorld w
+parts_make_a_world w made days assets labels bars in_order =
+    let rows = w.labels.now.rows in
+    let texts = w.labels.now.texts in
+    record {
+      parts = record {
+        days_ascend = days.ascend;
+        sids_ascend = assets.ascend;
+        labels_in = made.labels_in;
+        bars_in = made.bars_in;
+        sessions_in = made.sessions_in;
+        adjustments_in = made.adjustments_in;
+        events_in_order = in_order;
+      };
+      world = is_world w.sessions.now w.assets.now rows texts w.bars.now w.adjustments.now made days.ascend assets.ascend labels.once bars.ascend in_order;
+      bars_once = bars_once w.sessions.now w.assets.now rows texts w.bars.now w.adjustments.now made days.ascend assets.ascend labels.once bars.ascend in_order;
+      labels_once = labels_once w.sessions.now w.assets.now rows texts w.bars.now w.adjustments.now made days.ascend assets.ascend labels.once bars.ascend in_order;
+    }

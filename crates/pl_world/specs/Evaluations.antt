@@ -6,11 +6,9 @@ use Rattle.pl_spec.specs.Parts.{sid_at}
 use Rattle.pl_spec.specs.World as spec
 use Rattle.pl_spec.specs.World.{exists}
 use Rattle.pl_spec.specs.Kind.{Kind}
-use Rattle.pl_spec.specs.Term.{Term, term_at}
-use Rattle.pl_spec.specs.Term.Term.{column}
+use Rattle.pl_spec.specs.Term.{term_at}
 use Rattle.pl_spec.specs.Formula.{is_true}
 use Rattle.pl_spec.specs.Graph.{reach}
-use Rattle.pl_spec.specs.Value.{passes, value}
 use Rattle.pl_spec.specs.Table.{value_of, in_array}
 use Rattle.pl_terms.specs.declared.node.TermId.{TermId}
 use Rattle.pl_terms.specs.declared.node.Input.{Input}

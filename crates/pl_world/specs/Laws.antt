@@ -1,13 +1,14 @@
 -- The laws of the definitions, for the terms of a checked pipeline.
 use Rattle.std.specs.Prelude.{◌≡◌, ℕ, ◌<◌, ℤ, pos, ◌≤ℤ◌, List, length, Some, slice_get}
 use Rattle.pl_spec.specs.Agree.{Agree}
+use Rattle.pl_spec.specs.Permuted.{AgreeInAll}
 use Rattle.pl_spec.specs.World.{World, Bar, IsWorld}
 use Rattle.pl_spec.specs.Term.{Node, term_at}
 use Rattle.pl_spec.specs.Graph.{reach}
 use Rattle.pl_spec.specs.Reaching.{SameBarsFrom}
 use Rattle.pl_spec.specs.NodeValue.{node_value}
 use Rattle.pl_spec.specs.declared.Format.{Format}
-use Rattle.pl_spec.specs.Table.{table, value_of}
+use Rattle.pl_spec.specs.Table.{Pipeline, table, value_of}
 use Rattle.pl_spec.specs.Text.{text}
 use Rattle.pl_terms.specs.Nodes.{graph_of}
 use Rattle.pl_terms.specs.Checked.{Parts, pipeline_of}
@@ -33,3 +34,11 @@ pub record LaterDataChangeNothing (c : Parts) : Type 0 where
   pub texts : (w v : World) (d day : ℤ) → IsWorld w → IsWorld v → Agree w v d day
       → (format : Format) (from to : ℕ) → pos to ≤ℤ d
       → text w (pipeline_of c) format (table w (pipeline_of c) from to) ≡ text v (pipeline_of c) format (table v (pipeline_of c) from to)
+
+-- Whatever is looked up is the same in both worlds, and so are the rows of each pipeline, which are written
+-- alike.
+pub record ShowAlike (w v : World) : Type 0 where
+  pub agree : AgreeInAll w v
+  pub rows : (p : Pipeline) (from to : ℕ) → table w p from to ≡ table v p from to
+  pub texts : (p : Pipeline) (format : Format) (from to : ℕ)
+      → text w p format (table w p from to) ≡ text v p format (table v p from to)

@@ -1,4 +1,5 @@
 pub mod Evaluations
 pub mod Known
 pub mod Laws
+pub mod Records
 pub mod Worlds

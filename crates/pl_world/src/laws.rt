@@ -1,8 +1,11 @@
 //! What the parts of a world are together, and the laws of the values of a checked pipeline. The functions do
 //! nothing but ask for a size: what the types keep is enough.
 
-ghost use Rattle.pl_world.specs.Laws.{EarlyBarsChangeNothing, LaterDataChangeNothing, ValuesFollowNodes};
-ghost use Rattle.pl_world.specs.Worlds.{IsMade, PartsMakeAWorld};
+ghost use Rattle.pl_spec.specs.Permuted.{HaveSameRows};
+ghost use Rattle.pl_world.specs.Laws.{EarlyBarsChangeNothing, LaterDataChangeNothing, ShowAlike};
+ghost use Rattle.pl_world.specs.Laws.{ValuesFollowNodes};
+ghost use Rattle.pl_world.specs.Records.{RecordsInAnyOrder};
+ghost use Rattle.pl_world.specs.Worlds.{IsMade, PartsMakeAWorld, world_of};
 
 use crate::world::World;
 use pl_terms::Checked;
@@ -20,6 +23,25 @@ pub fn parts_make_a_world(world: &World)
     let _bars = world.bars.len();
     let _adjustments = world.adjustments.len();
 }
+
+/// The order of rows changes nothing: worlds with the same assets, label rows, bars and adjustments show the
+/// same rows, written alike, in whatever order theirs stand. Only the adjustments of one asset and one day
+/// have an order that counts, that in which they act. The codes of labels go by the order of rows.
+pub fn order_changes_nothing(world: &World, other: &World)
+    requires made { IsMade world.now }
+    requires other_made { IsMade other.now }
+    ensures { HaveSameRows (world_of world.now) (world_of other.now)
+        → ShowAlike (world_of world.now) (world_of other.now) }
+{
+    parts_make_a_world(world);
+    parts_make_a_world(other);
+}
+
+/// Files whose records after the header stand in another order are read where the first are, and their world
+/// shows the same rows, written alike. The sessions alone have one order.
+pub fn records_in_any_order()
+    ensures { RecordsInAnyOrder }
+{}
 
 /// No bar before the reach of a term of a checked pipeline counts for its value.
 pub fn early_bars_change_nothing(checked: &Checked)

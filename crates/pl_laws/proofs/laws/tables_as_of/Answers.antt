@@ -6,4 +6,4 @@ use Rattle.pl_laws.proofs.laws.tables_as_of.Goals as goal
 
 pub returns : goal.returns
 returns c w d day ok at_d p from to h =
-    table_same (as_of w d day) w (pos d) day (is-world w d day ok) ok (agrees w d day at_d) p from to h
+    table_same (as_of w d day) w (pos d) day (is-world w d day ok) ok (agrees w d day ok at_d) p from to h

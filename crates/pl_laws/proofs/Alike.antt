@@ -1,0 +1,88 @@
+-- Worlds in which whatever is looked up is the same have the same tables.
+use Rattle.std.proofs.Common.{◌≡◌, ℕ, suc, ◌-◌, false, ◌==◌, ℤ, pos, negsuc, ◌≤ℤ◌, List, [], ◌++◌, map, filter, flat_map, Option, Some, None, option_map, unwrap_or, refl, sym, ◌∙◌, ap, arith, slice_get}
+use Rattle.std.specs.Fmt.{decimal}
+use Rattle.std.specs.List.{list_any}
+use Rattle.std.proofs.Math.Path.{fun_ext}
+use Rattle.std.proofs.lemmas.Int.{ints}
+use Rattle.pl_spec.specs.declared.Format.{Format}
+use Rattle.pl_spec.specs.Agree.{Agree, is_known}
+use Rattle.pl_spec.specs.Permuted.{AgreeInAll}
+use Rattle.pl_spec.specs.World.{World, IsWorld, day_of, exists, living_sids, lives_on}
+use Rattle.pl_spec.specs.Term.{Term}
+use Rattle.pl_spec.specs.Term.Term.{absent, column, node}
+use Rattle.pl_spec.specs.Value.{empty, sort_kind, value}
+use Rattle.pl_spec.specs.Table.{Pipeline, Row, is_kept, row, session_rows, table}
+use Rattle.pl_spec.specs.Dates.{date_text}
+use Rattle.pl_spec.specs.Text.{header, line, row_fields, row_line, text}
+use Rattle.pl_laws.specs.PermutedLaws.{AgreeingWorldsAreAlike}
+use Rattle.pl_laws.proofs.Law as law
+use Rattle.pl_laws.proofs.TableLaw as tables
+
+pub day_of-days : (w v : World) → w.days ≡ v.days → (s : ℤ) → day_of w s ≡ day_of v s
+day_of-days w v e (pos s) = ap (λ days. slice_get days s) e
+day_of-days w v e (negsuc s) = refl
+
+-- on no session nothing exists
+none_living : (w : World) (s : ℤ) → day_of w s ≡ None → living_sids w s ≡ []
+none_living w s e = ap (λ o. unwrap_or (option_map (λ day. map (λ a. a.sid) (filter (lives_on day) w.assets)) o) []) e
+
+not_there : (w : World) (a : ℕ) (s : ℤ) → day_of w s ≡ None → exists w a s ≡ false
+not_there w a s e = ap (list_any (λ x. x == a)) (none_living w s e)
+
+-- so a term is worth nothing there
+empty_there : (w : World) (names : List (List ℕ)) (t : Term) (a : ℕ) (s : ℤ) → day_of w s ≡ None → value w names t a s ≡ empty (sort_kind t)
+unfolding value
+empty_there w names absent a s e = refl
+empty_there w names (column c) a s e = refl
+empty_there w names (node k size x y z m g) a s e = rw (not_there w a s e) refl
+
+no_rows : (w : World) (p : Pipeline) (s : ℤ) → day_of w s ≡ None → session_rows w p s ≡ []
+no_rows w p s e = ap (λ l. map (row w p s) (filter (is_kept w p p.screen s) l)) (none_living w s e)
+
+module _ (w v : World) (ok : IsWorld w) (ok' : IsWorld v) (all : AgreeInAll w v) where
+  same-day : (s : ℤ) → day_of w s ≡ day_of v s
+  same-day = day_of-days w v all.days
+
+  up_to : (d day : ℤ) → day_of w d ≡ Some day → Agree w v d day
+  up_to d day e = record {
+    is_day = e;
+    days = λ s l. same-day s;
+    bars = λ a c s l. all.bars a c s;
+    adjustments = λ a. ap (filter (is_known day)) (all.adjustments a);
+    lifetimes = λ a s l. all.lifetimes a s;
+    labels = λ name a s l. all.labels name a s;
+  }
+
+  here : (s : ℤ) → s ≤ℤ s
+  here s = omega (arith, ints)
+
+  values_same : (names : List (List ℕ)) (t : Term) (a : ℕ) (s : ℤ) → value w names t a s ≡ value v names t a s
+  values_same names t a s = on_day (day_of w s) refl
+    where
+      on_day : (o : Option ℤ) → day_of w s ≡ o → value w names t a s ≡ value v names t a s
+      on_day (Some day) e = law.values_agree w v s day ok ok' (up_to s day e) names t a s (here s)
+      on_day None e = empty_there w names t a s e ∙ sym (empty_there v names t a s (sym (same-day s) ∙ e))
+
+  rows_same : (p : Pipeline) (s : ℤ) → session_rows w p s ≡ session_rows v p s
+  rows_same p s = on_day (day_of w s) refl
+    where
+      on_day : (o : Option ℤ) → day_of w s ≡ o → session_rows w p s ≡ session_rows v p s
+      on_day (Some day) e = tables.rows_same w v s day ok ok' (up_to s day e) p s (here s)
+      on_day None e = no_rows w p s e ∙ sym (no_rows v p s (sym (same-day s) ∙ e))
+
+  table_same : (p : Pipeline) (from to : ℕ) → table w p from to ≡ table v p from to
+  table_same p from to =
+      tables.range_same (λ s. session_rows w p (pos s)) (λ s. session_rows v p (pos s)) (suc to - from) from (λ k m h. rows_same p (pos k))
+
+  line_same : (p : Pipeline) (format : Format) (r : Row) → row_line w p format r ≡ row_line v p format r
+  line_same p format r =
+      ap (λ o. line format (date_text (unwrap_or o (pos 0))) (decimal r.sid) (row_fields p format p.columns r.values)) (same-day r.session)
+
+  text_same : (p : Pipeline) (format : Format) (from to : ℕ) → text w p format (table w p from to) ≡ text v p format (table v p from to)
+  unfolding text
+  text_same p format from to =
+      ap (λ rows. header p format ++ flat_map (row_line w p format) rows) (table_same p from to)
+      ∙ ap (λ f. header p format ++ flat_map f (table v p from to)) (fun_ext (line_same p format))
+
+pub alike : AgreeingWorldsAreAlike
+alike = record { values = values_same; rows = table_same; texts = text_same }

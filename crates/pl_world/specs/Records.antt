@@ -1,0 +1,52 @@
+-- The files of a world, and files whose records stand in another order.
+use Rattle.std.specs.Prelude.{◌≡◌, ◌<◌, ℤ, List, [], ◌∷◌, length, All, IsPermutation, Ok}
+use Rattle.pl_records.specs.Reading.{Record}
+use Rattle.pl_spec.specs.declared.AssetRow.{AssetRow}
+use Rattle.pl_spec.specs.declared.BarRow.{BarRow}
+use Rattle.pl_spec.specs.Parts as parts
+use Rattle.pl_spec.specs.Parts.{ColumnAdjustment}
+use Rattle.pl_calendar.specs.Days.{sessions_of}
+use Rattle.pl_lifetimes.specs.Assets.{assets_of}
+use Rattle.pl_assets.specs.Labels.{LabelTable, labels_of}
+use Rattle.pl_bars.specs.Bars.{bars_of}
+use Rattle.pl_adjust.specs.Columns.{StandByDay}
+use Rattle.pl_world.specs.Laws.{ShowAlike}
+
+-- the records of four files
+pub record DataFiles : Type 0 where
+  pub sessions : List Record
+  pub assets : List Record
+  pub labels : List Record
+  pub bars : List Record
+
+-- each is read without a fault, as this part
+pub record AreReadAs (files : DataFiles) (days : List ℤ) (assets : List AssetRow) (labels : LabelTable)
+    (bars : List BarRow) : Type 0 where
+  pub days_read : sessions_of files.sessions ≡ Ok days
+  pub assets_read : assets_of files.assets ≡ Ok assets
+  pub labels_read : labels_of assets files.labels ≡ Ok labels
+  pub bars_read : bars_of days assets files.bars ≡ Ok bars
+
+-- the records after the first, the header, are in some order those of the other file
+abbrev pub AreMoved : List Record → List Record → Type 0
+AreMoved [] others = others ≡ []
+AreMoved (r ∷ rs) [] = ⊥
+AreMoved (r ∷ rs) (q ∷ qs) = (r ≡ q) × IsPermutation rs qs
+
+pub record FilesAreMoved (files others : DataFiles) : Type 0 where
+  pub sessions : files.sessions ≡ others.sessions
+  pub assets : AreMoved files.assets others.assets
+  pub labels : AreMoved files.labels others.labels
+  pub bars : AreMoved files.bars others.bars
+
+-- The others are read too, as the same sessions, assets and bars and as the same label rows in some order.
+-- With any adjustments of these assets the two worlds show the same.
+abbrev pub RecordsInAnyOrder : Type 0
+RecordsInAnyOrder = (files others : DataFiles) → FilesAreMoved files others
+    → (days : List ℤ) (assets : List AssetRow) (labels : LabelTable) (bars : List BarRow)
+    → AreReadAs files days assets labels bars
+    → (other : LabelTable) × AreReadAs others days assets other bars × IsPermutation labels.rows other.rows
+    × ((adjustments : List ColumnAdjustment)
+    → All (λ x. x.col < length assets) adjustments → StandByDay adjustments
+    → ShowAlike (parts.world_of days assets labels.rows labels.texts bars adjustments)
+    (parts.world_of days assets other.rows other.texts bars adjustments))
