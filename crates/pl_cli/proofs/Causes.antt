@@ -1,4 +1,4 @@
--- What causes a status, and what is left of the parts that a command does not use.
+-- What causes a status, and what is left of parts that are not used.
 use Rattle.std.proofs.Common.{◌≡◌, ℕ, ◌<◌, Bool, Option, Result, Ok, Err, IfErr, refl, arith}
 use Rattle.pl_outside.specs.Left.{Leaves, LeavesSink, IsUntouched}
 use Rattle.pl_judge.specs.declared.fault.Fault.{Fault}
@@ -86,19 +86,7 @@ module _ (usage shelf keeper out kept : Type 0) where
       }
   by-answer (Err f) status e h = rw e (by-fault f h)
 
--- ---- a command that uses fewer parts
-
-fault-within : (usage shelf keeper out kept s k m : Type 0) → (s → shelf) → (k → keeper) → (m → kept) → (f : Fault) → IsCaused ⊥ s k out m f → IsCaused usage shelf keeper out kept f
-fault-within usage shelf keeper out kept s k m a b d Usage h = absurd h.1
-fault-within usage shelf keeper out kept s k m a b d (Unread file) h = (d h.0, a h.1)
-fault-within usage shelf keeper out kept s k m a b d (Unloaded table) h = (d h.0, b h.1)
-fault-within usage shelf keeper out kept s k m a b d Unwritten h = h
-fault-within usage shelf keeper out kept s k m a b d f h = d h
-
-pub within : (usage shelf keeper out kept s k m : Type 0) → (s → shelf) → (k → keeper) → (m → kept)
-    → (r : Result (Option Stats) Fault) → IfErr r (IsCaused ⊥ s k out m) → IfErr r (IsCaused usage shelf keeper out kept)
-within usage shelf keeper out kept s k m a b d (Ok x) h = tt
-within usage shelf keeper out kept s k m a b d (Err f) h = fault-within usage shelf keeper out kept s k m a b d f h
+-- ---- what is left of parts that are not used
 
 pub part-left : {S A : Type 0} (tells : S → Option A) (sound : S → Bool) (faults : S → ℕ) (part : S) → Leaves tells sound faults part part
 part-left tells sound faults part = record { keeps = refl; stays = refl; later = omega arith }

@@ -1,11 +1,7 @@
 -- From the end of a command to the status and the line of the program.
-use Rattle.std.proofs.Common.{◌≡◌, ◌⊎◌, inl, inr, ℕ, List, [], length, Bool, arith, IsTrue, IsSome, Option, Some, None, Result, Ok, Err, refl, subst, MatchOption, IfSome, option_map, Bor}
-use Rattle.std.specs.Option.{option_copied, ForSome}
-use Rattle.pl_outside.specs.Files.{Files}
-use Rattle.pl_outside.specs.Lists.{Lists}
-use Rattle.pl_outside.specs.declared.keeper.Table.{Table}
-use Rattle.pl_spec.specs.declared.RawAdjust.{RawAdjust}
-use Rattle.pl_words.specs.Request.{Request, HasChunk, name_asked, adjustments_of}
+use Rattle.std.proofs.Common.{◌≡◌, ◌⊎◌, inl, inr, ℕ, List, [], length, Bool, arith, IsTrue, IsSome, Option, Some, None, Result, Ok, Err, refl, subst, ◌∙◌, append-nil, MatchOption, IfSome, option_map, Bor}
+use Rattle.std.specs.Option.{option_copied}
+use Rattle.pl_words.specs.Request.{Request, HasChunk, adjustments_of}
 use Rattle.pl_words.specs.Views.{request_of}
 use Rattle.pl_words.specs.declared.request.Request.{Request as Code}
 use Rattle.pl_judge.specs.declared.fault.Fault.{Fault}
@@ -13,14 +9,16 @@ use Rattle.pl_judge.specs.declared.fault.Fault.TheVariants as faults
 use Rattle.pl_judge.specs.declared.fault.Fault.TheVariants.{Unread, Unloaded, Unwritten, Memory}
 use Rattle.pl_judge.specs.Faults.{status_of, line_of, judged_status, judged_line}
 use Rattle.pl_judge.specs.Contents.{Contents}
-use Rattle.pl_judge.specs.Steps.{Step, first_fault}
+use Rattle.pl_judge.specs.Steps.{Source, Step, first_fault, reads_in}
 use Rattle.pl_judge.specs.Work.{work}
 use Rattle.pl_judge.specs.Ends.{Ends, EndsJudged, EndsForMemory}
-use Rattle.pl_judge.specs.Stages.{StopsOutside, IsStop}
+use Rattle.pl_judge.specs.Stages.{StopsOutside, IsStop, IsFront, IsReadUpTo}
+use Rattle.pl_load.specs.Views.{ShelfView, KeeperView, unchanged}
+use Rattle.pl_load.proofs.Joined.{wants-memory}
 use Rattle.pl_cli.specs.Texts.{text_of}
 use Rattle.pl_cli.specs.Runs.{Observed, HasRoom, IsRun}
 use Rattle.pl_cli.specs.declared.commands.Stats.{Stats}
-use Rattle.pl_cli.specs.Commands.{IsEnd, IsEnded, fault_of, numbers_told}
+use Rattle.pl_cli.specs.Commands.{IsEnd, IsEnded, SinkView, observed_by, fault_of, numbers_told}
 use Rattle.pl_cli.proofs.Keepers.{store-named}
 
 judged-is : (steps : List Step) (asked : Option Request) (o : Option Fault) → first_fault steps ≡ o → EndsJudged steps asked (judged_status o) (judged_line asked o)
@@ -99,6 +97,21 @@ nine-is (Unloaded table) e = absurd (omega arith)
 nine-is Unwritten e = refl
 nine-is Memory e = absurd (omega arith)
 
+-- ---- what was read
+
+up-to-front : (steps : List Step) (reads : List Source) (f : Fault) → IsReadUpTo steps reads f → IsFront reads (reads_in steps)
+up-to-front steps reads (Unread file) h = h
+up-to-front steps reads (Unloaded table) h = h
+up-to-front steps reads Memory h = h
+up-to-front steps reads f h = ([], append-nil reads ∙ h)
+
+up-to-whole : (steps : List Step) (reads : List Source) (f : Fault) → ¬ (status_of f ≡ 7) → ¬ (status_of f ≡ 8) → ¬ (status_of f ≡ 10) → IsReadUpTo steps reads f
+    → reads ≡ reads_in steps
+up-to-whole steps reads (Unread file) a b c h = absurd (a refl)
+up-to-whole steps reads (Unloaded table) a b c h = absurd (b refl)
+up-to-whole steps reads Memory a b c h = absurd (c refl)
+up-to-whole steps reads f a b c h = h
+
 -- ---- the whole
 
 run-is : (o : Observed) (asked : Option Request) (r : Result (Option Stats) Fault) → IsEnded o asked r
@@ -116,6 +129,11 @@ run-is o asked (Ok x) h =
       told = λ z. h.told;
       quiet = λ n. absurd (n refl);
       complete = λ s k r out. inl (judged-is (work h.held asked) asked None h.done.passed);
+      reads = h.reads;
+      front = ([], append-nil h.reads ∙ h.has_read.whole);
+      whole = λ a b c. h.has_read.whole;
+      begun = h.begun;
+      calls = h.calls;
     }
 run-is o asked (Err f) h =
     record {
@@ -130,6 +148,11 @@ run-is o asked (Err f) h =
       told = λ z. absurd (not-zero f z);
       quiet = λ n. refl;
       complete = λ s k r out. end-complete o h.held asked f h.ended s k r;
+      reads = h.reads;
+      front = up-to-front (work h.held asked) h.reads f h.has_read.up_to;
+      whole = λ a b c. up-to-whole (work h.held asked) h.reads f a b c h.has_read.up_to;
+      begun = h.begun;
+      calls = h.calls;
     }
 
 pub run-of : (o : Observed) (asked : Option Request) (r : Result (Option Stats) Fault) (status : ℕ) → status ≡ judged_status (fault_of r)
@@ -149,32 +172,18 @@ chunk-lent words asked lent h e fits = subst (λ o. IfSome o HasChunk) (asked-le
 
 -- ---- where memory ran out before the words were read
 
-abbrev told-file : Option (List ℕ) → Option Files → Option (List ℕ)
-told-file None files = None
-told-file (Some name) None = None
-told-file (Some name) (Some told) = told name
-
-abbrev told-rows : Option (List ℕ) → Option Lists → Table → List RawAdjust
-told-rows None lists table = []
-told-rows (Some name) None table = []
-told-rows (Some name) (Some told) table = told name table
-
-file-told : (name : Option (List ℕ)) (files : Option Files) → ForSome name (λ n. ForSome files (λ told. told-file name files ≡ told n))
-file-told None files n is told has = absurd (cc)
-file-told (Some name) None n is told has = absurd (cc)
-file-told (Some name) (Some held) n is told has = cc
-
-rows-told : (name : Option (List ℕ)) (lists : Option Lists) (table : Table) → ForSome name (λ n. ForSome lists (λ told. told-rows name lists table ≡ told n table))
-rows-told None lists table n is told has = absurd (cc)
-rows-told (Some name) None table n is told has = absurd (cc)
-rows-told (Some name) (Some held) table n is told has = cc
-
-pub no-words : (o : Observed) (asked : Option Request) → IsEnded o asked (Err Memory)
-no-words o asked =
+pub no-words : (shelf : ShelfView) (keeper : KeeperView) (out : SinkView) (steps : ℕ) (asked : Option Request)
+    → IsEnded (observed_by (unchanged shelf) (unchanged keeper) (unchanged out) (unchanged steps)) asked (Err Memory)
+no-words shelf keeper out steps asked =
+    let h = wants-memory shelf keeper asked (λ held. work held asked) (λ held (u : Unit {0}). Unit {0}) in
     record {
-      held = record { file = λ f. told-file (name_asked asked f) o.files; rows = λ t. told-rows (adjustments_of asked) o.lists t };
-      are_held = record { files_held = λ f. file-told (name_asked asked f) o.files; rows_held = λ t. rows-told (adjustments_of asked) o.lists t };
+      held = h.held;
+      are_held = h.are_held;
       done = tt;
       told = tt;
       ended = inr tt;
+      reads = h.reads;
+      has_read = record { whole = tt; up_to = h.has_read.up_to };
+      begun = h.begun;
+      calls = h.calls;
     }

@@ -2,6 +2,7 @@ pub mod Keepers
 pub mod Counts
 pub mod PlanTexts
 pub mod Ended
+pub mod Loaded
 pub mod Finished
 pub mod Stats
 pub mod Further

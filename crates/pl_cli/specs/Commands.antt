@@ -3,16 +3,20 @@ use Rattle.std.specs.Prelude.{◌≡◌, ℕ, ◌+◌, ◌≤◌, List, [], leng
 use Rattle.pl_spec.specs.declared.Format.{Format}
 use Rattle.pl_spec.specs.Table.{table}
 use Rattle.pl_spec.specs.Text.{text}
+use Rattle.pl_outside.specs.Counts.{Rose, count_plus}
+use Rattle.pl_outside.specs.Files.{BeginsAll}
+use Rattle.pl_outside.specs.Left.{LeavesSink}
 use Rattle.pl_outside.specs.Taken.{TakesAll, TakesPrefix}
 use Rattle.pl_terms.specs.Checked.{pipeline_of}
-use Rattle.pl_words.specs.Request.{Request}
+use Rattle.pl_words.specs.Request.{Request, name_asked, adjustments_of}
 use Rattle.pl_judge.specs.declared.fault.Fault.{Fault}
 use Rattle.pl_judge.specs.declared.fault.Fault.TheVariants.{Usage, Unread, Unloaded, Unwritten}
 use Rattle.pl_judge.specs.Numbers.{stats_line}
 use Rattle.pl_judge.specs.Contents.{Contents, AreHeld}
-use Rattle.pl_judge.specs.Steps.{first_fault}
+use Rattle.pl_judge.specs.Steps.{Source, first_fault, names_read, tables_read}
 use Rattle.pl_judge.specs.Work.{work}
-use Rattle.pl_judge.specs.Stages.{IsStop}
+use Rattle.pl_judge.specs.Stages.{IsStop, HasRead}
+use Rattle.pl_load.specs.Views.{ShelfView, KeeperView, Change, change, ShelfLeft, KeeperLeft, KeeperAlone}
 use Rattle.pl_load.specs.declared.loading.Loaded.{Loaded}
 use Rattle.pl_world.specs.Worlds.{owned_world}
 use Rattle.pl_runner.specs.Runs.{run_steps}
@@ -76,6 +80,10 @@ pub record IsEnded (o : Observed) (asked : Option Request) (result : Result (Opt
   pub done : OnOk result (IsDone o held asked)
   pub told : IfOk result (λ stats. TellsNumbers held asked (stats_told stats))
   pub ended : IfErr result (IsEnd o held asked)
+  pub reads : List Source
+  pub has_read : HasRead (work held asked) reads result
+  pub begun : BeginsAll o.begun o.begun_now (names_read (λ file. name_asked asked file) reads)
+  pub calls : o.calls_now ≡ count_plus o.calls (tables_read reads)
 
 -- What holds of a fault, whether the parts tell or not: it has its cause, and what stops leaves the sink and
 -- the steps as they were.
@@ -85,3 +93,59 @@ IsCaused usage shelf keeper out kept (Unread file) = kept × shelf
 IsCaused usage shelf keeper out kept (Unloaded table) = kept × keeper
 IsCaused usage shelf keeper out kept Unwritten = out
 IsCaused usage shelf keeper out kept fault = kept
+
+-- what a clause sees of a sink, before a call and after it
+pub record SinkView : Type 0 where
+  pub taken : Option (List ℕ)
+  pub sound : Bool
+  pub faults : ℕ
+  pub room : ℕ
+
+abbrev pub sink_view : {O : Type 0} (taken : O → Option (List ℕ)) (sound : O → Bool) (faults room : O → ℕ) → O → SinkView
+sink_view taken sound faults room out =
+    record { taken = taken out; sound = sound out; faults = faults out; room = room out }
+
+abbrev pub sink_change : {O : Type 0} (taken : O → Option (List ℕ)) (sound : O → Bool) (faults room : O → ℕ) → O → O → Change SinkView
+sink_change taken sound faults room old new = change (sink_view taken sound faults room old) (sink_view taken sound faults room new)
+
+abbrev pub SinkLeft : Change SinkView → Type 0
+SinkLeft c = LeavesSink (λ (v : SinkView). v.sound) (λ v. v.faults) c.before c.after
+
+-- the sink and the steps are as they were
+abbrev pub IsKept : Change SinkView → Change ℕ → Type 0
+IsKept out steps =
+    (out.after.taken ≡ out.before.taken) × (out.after.room ≡ out.before.room) × (steps.after ≡ steps.before)
+
+abbrev pub observed_by : Change ShelfView → Change KeeperView → Change SinkView → Change ℕ → Observed
+observed_by shelf keeper out steps =
+    record {
+      files = shelf.before.holds;
+      begun = shelf.before.begun;
+      begun_now = shelf.after.begun;
+      lists = keeper.before.lists;
+      calls = keeper.before.calls;
+      calls_now = keeper.after.calls;
+      shelf_sound = shelf.before.sound;
+      keeper_sound = keeper.before.sound;
+      out_sound = out.before.sound;
+      taken = out.before.taken;
+      taken_now = out.after.taken;
+      room = out.before.room;
+      room_now = out.after.room;
+      steps = steps.before;
+      steps_now = steps.after;
+    }
+
+-- What holds of each command: it ended over contents that the parts hold where they tell; without words it is
+-- refused; a fault has its cause; the parts are left as parts, and the keeper alone where no adjustments are
+-- asked for.
+pub record IsAnswered (shelf : Change ShelfView) (keeper : Change KeeperView) (out : Change SinkView) (steps : Change ℕ)
+    (asked : Option Request) (result : Result (Option Stats) Fault) : Type 0 where
+  pub ended : IsEnded (observed_by shelf keeper out steps) asked result
+  pub refused : asked ≡ None → fault_of result ≡ Some Usage
+  pub caused : IfErr result (IsCaused (asked ≡ None) (Rose shelf.before.faults shelf.after.faults)
+      (Rose keeper.before.faults keeper.after.faults) (Rose out.before.faults out.after.faults) (IsKept out steps))
+  pub shelf_left : ShelfLeft shelf
+  pub keeper_left : KeeperLeft keeper
+  pub alone : adjustments_of asked ≡ None → KeeperAlone keeper
+  pub out_left : SinkLeft out

@@ -1,19 +1,25 @@
 -- What a run of the program did.
 use Rattle.std.specs.Prelude.{◌≡◌, ◌⊎◌, ℕ, ◌+◌, ◌≤◌, List, [], length, Bool, IsTrue, Option, None, IsSome}
-use Rattle.pl_outside.specs.Files.{Files}
+use Rattle.pl_outside.specs.Files.{Files, BeginsAll}
 use Rattle.pl_outside.specs.Lists.{Lists}
+use Rattle.pl_outside.specs.Counts.{count_plus}
 use Rattle.pl_outside.specs.Taken.{TakesAll, TakesPrefix}
-use Rattle.pl_words.specs.Request.{Request, adjustments_of}
+use Rattle.pl_words.specs.Request.{Request, name_asked, adjustments_of}
 use Rattle.pl_judge.specs.Contents.{Contents, AreHeld}
-use Rattle.pl_judge.specs.Steps.{first_fault}
+use Rattle.pl_judge.specs.Stages.{IsFront}
+use Rattle.pl_judge.specs.Steps.{Source, first_fault, reads_in, names_read, tables_read}
 use Rattle.pl_judge.specs.Work.{work}
 use Rattle.pl_judge.specs.Ends.{Ends, EndsJudged, EndsForMemory}
 use Rattle.pl_cli.specs.Texts.{text_of, TakesSteps, TellsNumbers}
 
--- What the parts of the outside tell as a run begins, and what is told of `out` and of the steps as it ends.
+-- What the parts of the outside tell as a run begins, and what is told of them and of the steps as it ends.
 pub record Observed : Type 0 where
   pub files : Option Files
+  pub begun : Option (List (List ℕ))
+  pub begun_now : Option (List (List ℕ))
   pub lists : Option Lists
+  pub calls : ℕ
+  pub calls_now : ℕ
   pub shelf_sound : Bool
   pub keeper_sound : Bool
   pub out_sound : Bool
@@ -24,12 +30,17 @@ pub record Observed : Type 0 where
   pub steps : ℕ
   pub steps_now : ℕ
 
-abbrev pub observed : {S K O : Type 0} (holds : S → Option Files) (shelf_sound : S → Bool) (lists : K → Option Lists) (keeper_sound : K → Bool)
-    (taken : O → Option (List ℕ)) (out_sound : O → Bool) (room : O → ℕ) (shelf : S) (keeper : K) (out out_now : O) (steps steps_now : ℕ) → Observed
-observed holds shelf_sound lists keeper_sound taken out_sound room shelf keeper out out_now steps steps_now =
+abbrev pub observed : {S K O : Type 0} (holds : S → Option Files) (begun : S → Option (List (List ℕ))) (shelf_sound : S → Bool)
+    (lists : K → Option Lists) (calls : K → ℕ) (keeper_sound : K → Bool) (taken : O → Option (List ℕ)) (out_sound : O → Bool) (room : O → ℕ)
+    (shelf shelf_now : S) (keeper keeper_now : K) (out out_now : O) (steps steps_now : ℕ) → Observed
+observed holds begun shelf_sound lists calls keeper_sound taken out_sound room shelf shelf_now keeper keeper_now out out_now steps steps_now =
     record {
       files = holds shelf;
+      begun = begun shelf;
+      begun_now = begun shelf_now;
       lists = lists keeper;
+      calls = calls keeper;
+      calls_now = calls keeper_now;
       shelf_sound = shelf_sound shelf;
       keeper_sound = keeper_sound keeper;
       out_sound = out_sound out;
@@ -57,6 +68,14 @@ pub record IsRun (o : Observed) (asked : Option Request) (status : ℕ) (line nu
   pub prefix : status ≡ 9 → TakesPrefix o.taken o.taken_now (text_of held asked)
   pub told : status ≡ 0 → TellsNumbers held asked numbers
   pub quiet : ¬ (status ≡ 0) → numbers ≡ []
+  -- What was read: all that the work reads up to its end, each file and each table once and in their order;
+  -- where a read failed or memory ran out, some of that from the front. No other name was begun, and no other
+  -- table loaded.
+  pub reads : List Source
+  pub front : IsFront reads (reads_in (work held asked))
+  pub whole : ¬ (status ≡ 7) → ¬ (status ≡ 8) → ¬ (status ≡ 10) → reads ≡ reads_in (work held asked)
+  pub begun : BeginsAll o.begun o.begun_now (names_read (λ file. name_asked asked file) reads)
+  pub calls : o.calls_now ≡ count_plus o.calls (tables_read reads)
   -- the room that is left, where out is sound
   pub room_left : status ≡ 0 → IsTrue o.out_sound → o.room_now + length (text_of held asked) ≡ o.room
   -- all its steps with status 0, and no more of them with status 9

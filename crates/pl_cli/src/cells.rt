@@ -1,10 +1,6 @@
 // The derivation of a cell.
-ghost use Rattle.std.specs.Prelude.{◌≡◌, ◌<◌, ◌≤◌, ℕ, Bool, length, pos, Option, None, Some, Ok, IfOk, IfErr};
+ghost use Rattle.std.specs.Prelude.{◌≡◌, ◌<◌, ◌≤◌, ℕ, length, pos, Some, Ok, IfOk, IfErr};
 ghost use Rattle.pl_spec.specs.Limits.{most_lines};
-ghost use Rattle.pl_outside.specs.Counts.{Rose};
-ghost use Rattle.pl_outside.specs.Files.{Files};
-ghost use Rattle.pl_outside.specs.Lists.{Lists};
-ghost use Rattle.pl_outside.specs.Left.{Leaves, LeavesSink, IsUntouched};
 ghost use Rattle.pl_spec.specs.Parts.{sid_at};
 ghost use Rattle.pl_facts.specs.Facts.Fact.{Worth};
 ghost use Rattle.pl_facts.specs.Walks.{derivation, facts_for};
@@ -13,9 +9,9 @@ ghost use Rattle.pl_world.specs.Worlds.{owned_world};
 ghost use Rattle.pl_terms.specs.Checked.{pipeline_of};
 ghost use Rattle.pl_words.specs.Request.{Explain, ExplainRequest as Asked};
 ghost use Rattle.pl_words.specs.Views.{explain_of};
+ghost use Rattle.pl_load.specs.Views.{ShelfView, KeeperView, Change, unchanged, shelf_change, keeper_change};
 ghost use Rattle.pl_load.specs.Celled.{IsCellLoad, IsExplainable};
-ghost use Rattle.pl_cli.specs.Runs.{observed};
-ghost use Rattle.pl_cli.specs.Commands.{IsEnded, IsCaused};
+ghost use Rattle.pl_cli.specs.Commands.{IsAnswered, sink_change};
 
 use crate::commands::{Stats, write_text};
 use pl_explain::{Derivation, ExplainError, explain_cell, print_lines};
@@ -38,16 +34,11 @@ pub fn explain_command<S: Shelf, K: AdjustKeeper, O: Sink>(
     out: &mut O,
 ) -> Result<Option<Stats>, Fault>
     // however many steps were counted
-    ensures ended { (steps : ℕ) → IsEnded (observed S.holds S.sound K.lists K.sound O.taken O.sound O.room
-        shelf.old keeper.old out.old out.new steps steps) (Some (Explain (explain_of request.now))) result }
-    ensures caused { IfErr result (IsCaused ⊥ (Rose (S.faults shelf.old) (S.faults shelf.new))
-        (Rose (K.faults keeper.old) (K.faults keeper.new)) (Rose (O.faults out.old) (O.faults out.new))
-        ((O.taken out.new ≡ O.taken out.old) × (O.room out.new ≡ O.room out.old))) }
-    ensures shelf { Leaves S.holds S.sound S.faults shelf.old shelf.new }
-    ensures keeper { Leaves K.lists K.sound K.faults keeper.old keeper.new }
-    ensures alone { (explain_of request.now).world.adjustments ≡ None
-        → IsUntouched K.faults K.calls keeper.old keeper.new }
-    ensures out { LeavesSink O.sound O.faults out.old out.new }
+    ensures { (steps : ℕ)
+        → IsAnswered (shelf_change S.holds S.begun S.sound S.faults shelf.old shelf.new)
+        (keeper_change K.lists K.sound K.faults K.calls keeper.old keeper.new)
+        (sink_change O.taken O.sound O.faults O.room out.old out.new) (unchanged steps)
+        (Some (Explain (explain_of request.now))) result }
 {
     let loaded = load_cell(alloc, request, shelf, keeper)?;
     write_cell(alloc, &loaded, out)
@@ -61,13 +52,10 @@ fn write_cell<O: Sink>(
 ) -> Result<Option<Stats>, Fault>
     requires explainable { IsExplainable loaded.now }
     // for whatever request, and from whatever parts, the cell was loaded
-    ensures ended { (q : Asked) (files : Option Files) (lists : Option Lists) (shelf keeper : Bool)
-        (steps : ℕ) → IsCellLoad files lists shelf keeper q (Ok loaded.now)
-        → IsEnded (observed (λ _. files) (λ _. shelf) (λ _. lists) (λ _. keeper) O.taken O.sound O.room
-        steps steps out.old out.new steps steps) (Some (Explain q)) result }
-    ensures caused { IfErr result (IsCaused ⊥ ⊥ ⊥ (Rose (O.faults out.old) (O.faults out.new))
-        ((O.taken out.new ≡ O.taken out.old) × (O.room out.new ≡ O.room out.old))) }
-    ensures out { LeavesSink O.sound O.faults out.old out.new }
+    ensures { (shelf : Change ShelfView) (keeper : Change KeeperView) (q : Asked) (steps : ℕ)
+        → IsCellLoad shelf keeper q (Ok loaded.now)
+        → IsAnswered shelf keeper (sink_change O.taken O.sound O.faults O.room out.old out.new)
+        (unchanged steps) (Some (Explain q)) result }
 {
     let lines = lines_of::<Brand>(alloc, loaded, Blank::new(1))?;
     let text = print_lines(alloc, &lines)?;

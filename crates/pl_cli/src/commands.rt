@@ -1,17 +1,14 @@
 // The commands. Each reads and judges what it is asked for, and writes its text.
-ghost use Rattle.std.specs.Prelude.{◌≡◌, ◌≤◌, ◌+◌, ◌⊎◌, ℕ, Bool, if◌then◌else◌, [], Option, None, Some, OnOk, IfOk, IfErr, IsErrOf};
-ghost use Rattle.pl_outside.specs.Counts.{Rose};
-ghost use Rattle.pl_outside.specs.Lists.{Lists};
+ghost use Rattle.std.specs.Prelude.{◌≡◌, ◌≤◌, ◌+◌, ◌⊎◌, ℕ, if◌then◌else◌, [], None, Some, OnOk, IfOk, IfErr, IsErrOf};
 ghost use Rattle.pl_outside.specs.Taken.{Writes};
-ghost use Rattle.pl_outside.specs.Left.{Leaves, LeavesSink, IsUntouched};
 ghost use Rattle.pl_words.specs.Request.{Run, Fmt, Check, Plan, IsChunk};
 ghost use Rattle.pl_words.specs.Views.{run_of, plan_of};
 ghost use Rattle.pl_judge.specs.Numbers.{stats_line};
-ghost use Rattle.pl_cli.specs.Runs.{observed};
+ghost use Rattle.pl_load.specs.Views.{KeeperView, change, unchanged, shelf_change, keeper_change};
 ghost use Rattle.pl_load.specs.Loads.{IsReady};
 ghost use Rattle.pl_terms.specs.Checked.{pipeline_of};
 ghost use Rattle.pl_cli.specs.Texts.{check_text};
-ghost use Rattle.pl_cli.specs.Commands.{IsEnded, IsCaused, loaded_text, loaded_steps, loaded_stats, stats_told};
+ghost use Rattle.pl_cli.specs.Commands.{IsAnswered, sink_change, loaded_text, loaded_steps, loaded_stats, stats_told};
 
 use itoa::Buffer;
 use pl_fixed::Steps;
@@ -45,16 +42,10 @@ pub fn run_command<S: Shelf, K: AdjustKeeper, O: Sink, L: Ledger>(
     steps: &mut Steps<L>,
 ) -> Result<Option<Stats>, Fault>
     requires chunk { IsChunk (run_of request.now).options.chunk }
-    ensures ended { IsEnded (observed S.holds S.sound K.lists K.sound O.taken O.sound O.room
-        shelf.old keeper.old out.old out.new steps.old steps.new) (Some (Run (run_of request.now))) result }
-    ensures caused { IfErr result (IsCaused ⊥ (Rose (S.faults shelf.old) (S.faults shelf.new))
-        (Rose (K.faults keeper.old) (K.faults keeper.new)) (Rose (O.faults out.old) (O.faults out.new))
-        ((O.taken out.new ≡ O.taken out.old) × (O.room out.new ≡ O.room out.old) × (steps.new ≡ steps.old))) }
-    ensures shelf { Leaves S.holds S.sound S.faults shelf.old shelf.new }
-    ensures keeper { Leaves K.lists K.sound K.faults keeper.old keeper.new }
-    ensures alone { (run_of request.now).options.adjustments ≡ None
-        → IsUntouched K.faults K.calls keeper.old keeper.new }
-    ensures out { LeavesSink O.sound O.faults out.old out.new }
+    ensures { IsAnswered (shelf_change S.holds S.begun S.sound S.faults shelf.old shelf.new)
+        (keeper_change K.lists K.sound K.faults K.calls keeper.old keeper.new)
+        (sink_change O.taken O.sound O.faults O.room out.old out.new)
+        (change steps.old steps.new) (Some (Run (run_of request.now))) result }
 {
     let loaded = load(alloc, request, shelf, keeper)?;
     write_loaded(alloc, &loaded, &request.options, out, steps)
@@ -126,14 +117,10 @@ pub fn fmt_command<S: Shelf, O: Sink>(
     out: &mut O,
 ) -> Result<Option<Stats>, Fault>
     // whatever a keeper tells, and however many steps were counted
-    ensures ended { (lists : Option Lists) (sound : Bool) (steps : ℕ)
-        → IsEnded (observed S.holds S.sound (λ _. lists) (λ _. sound)
-        O.taken O.sound O.room shelf.old steps out.old out.new steps steps) (Some (Fmt name.now)) result }
-    ensures caused { IfErr result (IsCaused ⊥ (Rose (S.faults shelf.old) (S.faults shelf.new)) ⊥
-        (Rose (O.faults out.old) (O.faults out.new))
-        ((O.taken out.new ≡ O.taken out.old) × (O.room out.new ≡ O.room out.old))) }
-    ensures shelf { Leaves S.holds S.sound S.faults shelf.old shelf.new }
-    ensures out { LeavesSink O.sound O.faults out.old out.new }
+    ensures { (keeper : KeeperView) (steps : ℕ)
+        → IsAnswered (shelf_change S.holds S.begun S.sound S.faults shelf.old shelf.new)
+        (unchanged keeper) (sink_change O.taken O.sound O.faults O.room out.old out.new)
+        (unchanged steps) (Some (Fmt name.now)) result }
 {
     let script = read_script(alloc, shelf, name)?;
     let text = print(alloc, &script)?;
@@ -148,14 +135,10 @@ pub fn check_command<S: Shelf, O: Sink>(
     out: &mut O,
 ) -> Result<Option<Stats>, Fault>
     // whatever a keeper tells, and however many steps were counted
-    ensures ended { (lists : Option Lists) (sound : Bool) (steps : ℕ)
-        → IsEnded (observed S.holds S.sound (λ _. lists) (λ _. sound) O.taken O.sound O.room shelf.old steps
-        out.old out.new steps steps) (Some (Check name.now)) result }
-    ensures caused { IfErr result (IsCaused ⊥ (Rose (S.faults shelf.old) (S.faults shelf.new)) ⊥
-        (Rose (O.faults out.old) (O.faults out.new))
-        ((O.taken out.new ≡ O.taken out.old) × (O.room out.new ≡ O.room out.old))) }
-    ensures shelf { Leaves S.holds S.sound S.faults shelf.old shelf.new }
-    ensures out { LeavesSink O.sound O.faults out.old out.new }
+    ensures { (keeper : KeeperView) (steps : ℕ)
+        → IsAnswered (shelf_change S.holds S.begun S.sound S.faults shelf.old shelf.new)
+        (unchanged keeper) (sink_change O.taken O.sound O.faults O.room out.old out.new)
+        (unchanged steps) (Some (Check name.now)) result }
 {
     let checked = read_checked(alloc, shelf, name)?;
     match write_counts(&checked, out) {
@@ -172,14 +155,10 @@ pub fn plan_command<S: Shelf, O: Sink>(
     out: &mut O,
 ) -> Result<Option<Stats>, Fault>
     // whatever a keeper tells, and however many steps were counted
-    ensures ended { (lists : Option Lists) (sound : Bool) (steps : ℕ)
-        → IsEnded (observed S.holds S.sound (λ _. lists) (λ _. sound) O.taken O.sound O.room shelf.old steps
-        out.old out.new steps steps) (Some (Plan (plan_of request.now))) result }
-    ensures caused { IfErr result (IsCaused ⊥ (Rose (S.faults shelf.old) (S.faults shelf.new)) ⊥
-        (Rose (O.faults out.old) (O.faults out.new))
-        ((O.taken out.new ≡ O.taken out.old) × (O.room out.new ≡ O.room out.old))) }
-    ensures shelf { Leaves S.holds S.sound S.faults shelf.old shelf.new }
-    ensures out { LeavesSink O.sound O.faults out.old out.new }
+    ensures { (keeper : KeeperView) (steps : ℕ)
+        → IsAnswered (shelf_change S.holds S.begun S.sound S.faults shelf.old shelf.new)
+        (unchanged keeper) (sink_change O.taken O.sound O.faults O.room out.old out.new)
+        (unchanged steps) (Some (Plan (plan_of request.now))) result }
 {
     let planned = load_plan(alloc, request, shelf)?;
     let text = plan_text(alloc, &planned.checked, &planned.plan)?;

@@ -1,13 +1,11 @@
 // The table that is computed session by session.
 ghost use Rattle.std.specs.Prelude.{◌≡◌, ◌≤◌, ◌+◌, ◌⊎◌, None, Some, OnOk, IfOk, IfErr, IsErrOf};
-ghost use Rattle.pl_outside.specs.Counts.{Rose};
 ghost use Rattle.pl_outside.specs.Taken.{Writes};
-ghost use Rattle.pl_outside.specs.Left.{Leaves, LeavesSink, IsUntouched};
 ghost use Rattle.pl_words.specs.Request.{Daily};
 ghost use Rattle.pl_words.specs.Views.{daily_of};
+ghost use Rattle.pl_load.specs.Views.{change, shelf_change, keeper_change};
 ghost use Rattle.pl_load.specs.Loads.{IsReady};
-ghost use Rattle.pl_cli.specs.Runs.{observed};
-ghost use Rattle.pl_cli.specs.Commands.{IsEnded, IsCaused, loaded_text, loaded_days};
+ghost use Rattle.pl_cli.specs.Commands.{IsAnswered, sink_change, loaded_text, loaded_days};
 
 use crate::commands::Stats;
 use pl_feed::run_daily;
@@ -30,17 +28,10 @@ pub fn daily_command<S: Shelf, K: AdjustKeeper, O: Sink, L: Ledger>(
     out: &mut O,
     steps: &mut Steps<L>,
 ) -> Result<Option<Stats>, Fault>
-    ensures ended { IsEnded (observed S.holds S.sound K.lists K.sound O.taken O.sound O.room
-        shelf.old keeper.old out.old out.new steps.old steps.new)
-        (Some (Daily (daily_of request.now))) result }
-    ensures caused { IfErr result (IsCaused ⊥ (Rose (S.faults shelf.old) (S.faults shelf.new))
-        (Rose (K.faults keeper.old) (K.faults keeper.new)) (Rose (O.faults out.old) (O.faults out.new))
-        ((O.taken out.new ≡ O.taken out.old) × (O.room out.new ≡ O.room out.old) × (steps.new ≡ steps.old))) }
-    ensures shelf { Leaves S.holds S.sound S.faults shelf.old shelf.new }
-    ensures keeper { Leaves K.lists K.sound K.faults keeper.old keeper.new }
-    ensures alone { (daily_of request.now).world.adjustments ≡ None
-        → IsUntouched K.faults K.calls keeper.old keeper.new }
-    ensures out { LeavesSink O.sound O.faults out.old out.new }
+    ensures { IsAnswered (shelf_change S.holds S.begun S.sound S.faults shelf.old shelf.new)
+        (keeper_change K.lists K.sound K.faults K.calls keeper.old keeper.new)
+        (sink_change O.taken O.sound O.faults O.room out.old out.new)
+        (change steps.old steps.new) (Some (Daily (daily_of request.now))) result }
 {
     let loaded = load(alloc, &request.run(), shelf, keeper)?;
     write_days(alloc, &loaded, request.format, out, steps)

@@ -1,19 +1,15 @@
 // The verdict on a derivation.
-ghost use Rattle.std.specs.Prelude.{◌≡◌, ◌<◌, ℕ, Bool, Option, None, Some, Ok, IfOk, IfErr};
-ghost use Rattle.pl_outside.specs.Counts.{Rose};
-ghost use Rattle.pl_outside.specs.Files.{Files};
-ghost use Rattle.pl_outside.specs.Lists.{Lists};
+ghost use Rattle.std.specs.Prelude.{◌≡◌, ◌<◌, ℕ, None, Some, Ok, IfOk, IfErr};
 ghost use Rattle.pl_outside.specs.Taken.{Writes};
-ghost use Rattle.pl_outside.specs.Left.{Leaves, LeavesSink, IsUntouched};
 ghost use Rattle.pl_facts.specs.Right as spec;
 ghost use Rattle.pl_world.specs.Worlds.{owned_world, IsOwned};
 ghost use Rattle.pl_terms.specs.Checked.{pipeline_of};
 ghost use Rattle.pl_words.specs.Request.{Verify, VerifyRequest as Asked};
 ghost use Rattle.pl_words.specs.Views.{verify_of};
+ghost use Rattle.pl_load.specs.Views.{ShelfView, KeeperView, Change, unchanged, shelf_change, keeper_change};
 ghost use Rattle.pl_load.specs.Derived.{IsDerivationLoad};
 ghost use Rattle.pl_cli.specs.Texts.{verdict_text};
-ghost use Rattle.pl_cli.specs.Runs.{observed};
-ghost use Rattle.pl_cli.specs.Commands.{IsEnded, IsCaused};
+ghost use Rattle.pl_cli.specs.Commands.{IsAnswered, sink_change};
 
 use crate::commands::{Stats, write_text};
 use itoa::Buffer;
@@ -37,16 +33,11 @@ pub fn verify_command<S: Shelf, K: AdjustKeeper, O: Sink>(
     out: &mut O,
 ) -> Result<Option<Stats>, Fault>
     // however many steps were counted
-    ensures ended { (steps : ℕ) → IsEnded (observed S.holds S.sound K.lists K.sound O.taken O.sound O.room
-        shelf.old keeper.old out.old out.new steps steps) (Some (Verify (verify_of request.now))) result }
-    ensures caused { IfErr result (IsCaused ⊥ (Rose (S.faults shelf.old) (S.faults shelf.new))
-        (Rose (K.faults keeper.old) (K.faults keeper.new)) (Rose (O.faults out.old) (O.faults out.new))
-        ((O.taken out.new ≡ O.taken out.old) × (O.room out.new ≡ O.room out.old))) }
-    ensures shelf { Leaves S.holds S.sound S.faults shelf.old shelf.new }
-    ensures keeper { Leaves K.lists K.sound K.faults keeper.old keeper.new }
-    ensures alone { (verify_of request.now).world.adjustments ≡ None
-        → IsUntouched K.faults K.calls keeper.old keeper.new }
-    ensures out { LeavesSink O.sound O.faults out.old out.new }
+    ensures { (steps : ℕ)
+        → IsAnswered (shelf_change S.holds S.begun S.sound S.faults shelf.old shelf.new)
+        (keeper_change K.lists K.sound K.faults K.calls keeper.old keeper.new)
+        (sink_change O.taken O.sound O.faults O.room out.old out.new) (unchanged steps)
+        (Some (Verify (verify_of request.now))) result }
 {
     let loaded = load_derivation(alloc, request, shelf, keeper)?;
     write_judged(alloc, &loaded, out)
@@ -60,13 +51,10 @@ fn write_judged<O: Sink>(
 ) -> Result<Option<Stats>, Fault>
     requires made { IsOwned loaded.now.world }
     // for whatever request, and from whatever parts, the derivation was loaded
-    ensures ended { (q : Asked) (files : Option Files) (lists : Option Lists) (shelf keeper : Bool)
-        (steps : ℕ) → IsDerivationLoad files lists shelf keeper q (Ok loaded.now)
-        → IsEnded (observed (λ _. files) (λ _. shelf) (λ _. lists) (λ _. keeper) O.taken O.sound O.room
-        steps steps out.old out.new steps steps) (Some (Verify q)) result }
-    ensures caused { IfErr result (IsCaused ⊥ ⊥ ⊥ (Rose (O.faults out.old) (O.faults out.new))
-        ((O.taken out.new ≡ O.taken out.old) × (O.room out.new ≡ O.room out.old))) }
-    ensures out { LeavesSink O.sound O.faults out.old out.new }
+    ensures { (shelf : Change ShelfView) (keeper : Change KeeperView) (q : Asked) (steps : ℕ)
+        → IsDerivationLoad shelf keeper q (Ok loaded.now)
+        → IsAnswered shelf keeper (sink_change O.taken O.sound O.faults O.room out.old out.new)
+        (unchanged steps) (Some (Verify q)) result }
 {
     let wrong = wrong_line::<Brand>(alloc, loaded, Blank::new(1))?;
     write_verdict(wrong, out)

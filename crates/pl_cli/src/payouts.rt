@@ -1,15 +1,12 @@
 // The rows of payouts.
-ghost use Rattle.std.specs.Prelude.{◌≡◌, ℕ, Bool, None, Option, Some, IfOk, IfErr};
-ghost use Rattle.pl_outside.specs.Counts.{Rose};
-ghost use Rattle.pl_outside.specs.Lists.{Lists};
+ghost use Rattle.std.specs.Prelude.{◌≡◌, ℕ, None, Some, IfOk, IfErr};
 ghost use Rattle.pl_outside.specs.Taken.{Writes};
-ghost use Rattle.pl_outside.specs.Left.{Leaves, LeavesSink};
 ghost use Rattle.pl_words.specs.Request.{Payouts};
 ghost use Rattle.pl_words.specs.Views.{payouts_of};
 ghost use Rattle.pl_payouts.specs.Texts.{payouts_text};
+ghost use Rattle.pl_load.specs.Views.{KeeperView, unchanged, shelf_change};
 ghost use Rattle.pl_load.specs.PaidOut.{IsPayable};
-ghost use Rattle.pl_cli.specs.Runs.{observed};
-ghost use Rattle.pl_cli.specs.Commands.{IsEnded, IsCaused};
+ghost use Rattle.pl_cli.specs.Commands.{IsAnswered, sink_change};
 
 use crate::commands::Stats;
 use pl_judge::Fault;
@@ -28,14 +25,10 @@ pub fn payouts_command<S: Shelf, O: Sink>(
     out: &mut O,
 ) -> Result<Option<Stats>, Fault>
     // whatever a keeper tells, and however many steps were counted
-    ensures ended { (lists : Option Lists) (sound : Bool) (steps : ℕ)
-        → IsEnded (observed S.holds S.sound (λ _. lists) (λ _. sound) O.taken O.sound O.room shelf.old steps
-        out.old out.new steps steps) (Some (Payouts (payouts_of request.now))) result }
-    ensures caused { IfErr result (IsCaused ⊥ (Rose (S.faults shelf.old) (S.faults shelf.new)) ⊥
-        (Rose (O.faults out.old) (O.faults out.new))
-        ((O.taken out.new ≡ O.taken out.old) × (O.room out.new ≡ O.room out.old))) }
-    ensures shelf { Leaves S.holds S.sound S.faults shelf.old shelf.new }
-    ensures out { LeavesSink O.sound O.faults out.old out.new }
+    ensures { (keeper : KeeperView) (steps : ℕ)
+        → IsAnswered (shelf_change S.holds S.begun S.sound S.faults shelf.old shelf.new)
+        (unchanged keeper) (sink_change O.taken O.sound O.faults O.room out.old out.new)
+        (unchanged steps) (Some (Payouts (payouts_of request.now))) result }
 {
     let loaded = load_payouts(alloc, request, shelf)?;
     write_loaded_payouts(alloc, &loaded, out)

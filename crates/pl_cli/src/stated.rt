@@ -1,15 +1,11 @@
 // The run over a stated world.
-ghost use Rattle.std.specs.Prelude.{◌≡◌, ◌+◌, ◌⊎◌, Bool, None, Option, Some, IfOk, IfErr, IsErrOf};
-ghost use Rattle.pl_outside.specs.Counts.{Rose};
-ghost use Rattle.pl_outside.specs.Files.{Files};
-ghost use Rattle.pl_outside.specs.Lists.{Lists};
+ghost use Rattle.std.specs.Prelude.{◌≡◌, ◌+◌, ◌⊎◌, None, Some, IfOk, IfErr, IsErrOf};
 ghost use Rattle.pl_outside.specs.Taken.{Writes};
-ghost use Rattle.pl_outside.specs.Left.{LeavesSink};
 ghost use Rattle.pl_words.specs.Request.{Bench, IsChunk};
 ghost use Rattle.pl_words.specs.Views.{bench_of};
 ghost use Rattle.pl_bench.specs.Numbers.{TakesSteps, bench_line};
-ghost use Rattle.pl_cli.specs.Runs.{observed};
-ghost use Rattle.pl_cli.specs.Commands.{IsEnded, IsCaused};
+ghost use Rattle.pl_load.specs.Views.{ShelfView, KeeperView, change, unchanged};
+ghost use Rattle.pl_cli.specs.Commands.{IsAnswered, sink_change};
 
 use crate::commands::Stats;
 use pl_bench::bench;
@@ -30,13 +26,10 @@ pub fn bench_command<O: Sink, L: Ledger>(
 ) -> Result<Option<Stats>, Fault>
     requires chunk { IsChunk (bench_of request.now).chunk }
     // whatever a shelf and a keeper tell
-    ensures ended { (files : Option Files) (lists : Option Lists) (shelf keeper : Bool)
-        → IsEnded (observed (λ _. files) (λ _. shelf) (λ _. lists) (λ _. keeper)
-        O.taken O.sound O.room steps.old steps.old out.old out.new steps.old steps.new)
-        (Some (Bench (bench_of request.now))) result }
-    ensures caused { IfErr result (IsCaused ⊥ ⊥ ⊥ (Rose (O.faults out.old) (O.faults out.new))
-        ((O.taken out.new ≡ O.taken out.old) × (O.room out.new ≡ O.room out.old) × (steps.new ≡ steps.old))) }
-    ensures out { LeavesSink O.sound O.faults out.old out.new }
+    ensures { (shelf : ShelfView) (keeper : KeeperView)
+        → IsAnswered (unchanged shelf) (unchanged keeper)
+        (sink_change O.taken O.sound O.faults O.room out.old out.new)
+        (change steps.old steps.new) (Some (Bench (bench_of request.now))) result }
 {
     write_bench(alloc, request, out, steps)
 }

@@ -1,5 +1,5 @@
 // The top call.
-ghost use Rattle.std.specs.Prelude.{◌≡◌, ◌++◌, ℕ, List, Some, None, map, option_map, string_bytes, IfErr, IfSome};
+ghost use Rattle.std.specs.Prelude.{◌≡◌, ◌++◌, ℕ, List, Some, None, map, option_map, string_bytes, IfSome};
 ghost use Rattle.pl_outside.specs.Counts.{Rose};
 ghost use Rattle.pl_outside.specs.Left.{Leaves, LeavesSink, IsUntouched};
 ghost use Rattle.pl_outside.specs.Taken.{IsTold};
@@ -7,7 +7,8 @@ ghost use Rattle.pl_words.specs.Request.{HasChunk, request, adjustments_of};
 ghost use Rattle.pl_words.specs.Views.{request_of};
 ghost use Rattle.pl_judge.specs.Faults.{judged_status, judged_line};
 ghost use Rattle.pl_cli.specs.Runs.{observed, IsRun};
-ghost use Rattle.pl_cli.specs.Commands.{IsEnded, IsCaused, fault_of, numbers_told};
+ghost use Rattle.pl_load.specs.Views.{change, shelf_change, keeper_change};
+ghost use Rattle.pl_cli.specs.Commands.{IsAnswered, sink_change, fault_of, numbers_told};
 
 use crate::cells::explain_command;
 use crate::commands::{Stats, check_command, fmt_command, plan_command, run_command};
@@ -71,8 +72,9 @@ pub fn run_program<S: Shelf, K: AdjustKeeper, O: Sink, E: Sink, L: Ledger>(
     // definitions say.
     ensures run { let asked = request (map (λ s. string_bytes s) words.now) in
         (line : List ℕ) × (numbers : List ℕ)
-        × IsRun (observed S.holds S.sound K.lists K.sound O.taken O.sound O.room
-        shelf.old keeper.old out.old out.new steps.old steps.new) asked result line numbers
+        × IsRun (observed S.holds S.begun S.sound K.lists K.calls K.sound O.taken O.sound O.room
+        shelf.old shelf.new keeper.old keeper.new out.old out.new steps.old steps.new)
+        asked result line numbers
         × IsTold E.taken E.faults E.sound E.room err.old err.new (line ++ numbers) }
 
     // The words decide of status 2, unless memory runs out as they are read, and a part that failed has
@@ -114,20 +116,10 @@ fn answer<S: Shelf, K: AdjustKeeper, O: Sink, L: Ledger>(
     steps: &mut Steps<L>,
 ) -> Result<Option<Stats>, Fault>
     requires chunk { IfSome (option_map (λ q. request_of q.now) asked) HasChunk }
-    ensures ended { IsEnded (observed S.holds S.sound K.lists K.sound O.taken O.sound O.room
-        shelf.old keeper.old out.old out.new steps.old steps.new)
-        (option_map (λ q. request_of q.now) asked.entry) result }
-    ensures refused { option_map (λ q. request_of q.now) asked.entry ≡ None
-        → fault_of result ≡ Some Fault.Usage }
-    ensures caused { IfErr result (IsCaused (option_map (λ q. request_of q.now) asked.entry ≡ None)
-        (Rose (S.faults shelf.old) (S.faults shelf.new)) (Rose (K.faults keeper.old) (K.faults keeper.new))
-        (Rose (O.faults out.old) (O.faults out.new))
-        ((O.taken out.new ≡ O.taken out.old) × (O.room out.new ≡ O.room out.old) × (steps.new ≡ steps.old))) }
-    ensures shelf { Leaves S.holds S.sound S.faults shelf.old shelf.new }
-    ensures keeper { Leaves K.lists K.sound K.faults keeper.old keeper.new }
-    ensures alone { adjustments_of (option_map (λ q. request_of q.now) asked.entry) ≡ None
-        → IsUntouched K.faults K.calls keeper.old keeper.new }
-    ensures out { LeavesSink O.sound O.faults out.old out.new }
+    ensures { IsAnswered (shelf_change S.holds S.begun S.sound S.faults shelf.old shelf.new)
+        (keeper_change K.lists K.sound K.faults K.calls keeper.old keeper.new)
+        (sink_change O.taken O.sound O.faults O.room out.old out.new)
+        (change steps.old steps.new) (option_map (λ q. request_of q.now) asked.entry) result }
 {
     match asked {
         None => Err(Fault::Usage),

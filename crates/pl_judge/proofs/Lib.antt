@@ -1,4 +1,5 @@
 pub mod Steps
+pub mod StepsRead
 pub mod Needed
 pub mod Planned
 pub mod Ranges

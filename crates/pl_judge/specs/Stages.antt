@@ -1,8 +1,8 @@
 -- How a stage of the work may end, in the words of the code.
-use Rattle.std.specs.Prelude.{◌≡◌, ◌⊎◌, Bool, IsTrue, List, Some, None, Result, OnOk, IfErr, ⊤}
+use Rattle.std.specs.Prelude.{◌≡◌, ◌⊎◌, Bool, IsTrue, List, ◌++◌, Some, None, Result, OnOk, IfErr, ⊤}
 use Rattle.pl_judge.specs.declared.fault.Fault.{Fault}
 use Rattle.pl_judge.specs.declared.fault.Fault.TheVariants.{Usage, Unread, Unloaded, Unwritten, Memory}
-use Rattle.pl_judge.specs.Steps.{Step, first_fault, ReachesRead}
+use Rattle.pl_judge.specs.Steps.{Source, Step, first_fault, reads_in, ReachesRead}
 use Rattle.pl_judge.specs.Steps.Source.{Input, Load}
 
 -- What stops the steps from outside: a read that a step before the first fault makes fails, but not over a
@@ -21,6 +21,23 @@ IsStop shelf keeper steps fault = (first_fault steps ≡ Some fault) ⊎ StopsOu
 pub record StageEnds {T : Type 0} (shelf keeper : Bool) (steps : List Step) (result : Result T Fault) : Type 0 where
   pub passed : OnOk result (first_fault steps ≡ None)
   pub stopped : IfErr result (IsStop shelf keeper steps)
+
+-- the one list begins with the other
+abbrev pub IsFront : List Source → List Source → Type 0
+IsFront front all = (left : List Source) × (front ++ left ≡ all)
+
+-- What was read where the steps stop with this fault: all that they read up to it, and some of that from the
+-- front where a read failed or memory was wanted.
+abbrev pub IsReadUpTo : List Step → List Source → Fault → Type 0
+IsReadUpTo steps reads (Unread file) = IsFront reads (reads_in steps)
+IsReadUpTo steps reads (Unloaded table) = IsFront reads (reads_in steps)
+IsReadUpTo steps reads Memory = IsFront reads (reads_in steps)
+IsReadUpTo steps reads fault = reads ≡ reads_in steps
+
+-- what a stage has read, which ends so
+pub record HasRead {T : Type 0} (steps : List Step) (reads : List Source) (result : Result T Fault) : Type 0 where
+  pub whole : OnOk result (reads ≡ reads_in steps)
+  pub up_to : IfErr result (IsReadUpTo steps reads)
 
 -- A stage has no fault of the words nor of what is written, and a read fails only where the count of its
 -- object rose.

@@ -1,5 +1,5 @@
 -- The work as steps, each with what it reads and its fault, and the first fault.
-use Rattle.std.specs.Prelude.{◌≡◌, ◌⊎◌, Bool, if◌then◌else◌, List, [], ◌∷◌, Option, Some, None}
+use Rattle.std.specs.Prelude.{◌≡◌, ◌⊎◌, ℕ, ◌+◌, Bool, if◌then◌else◌, List, [], ◌∷◌, ◌++◌, Option, Some, None, is_none, option_to_list}
 use Rattle.std.specs.Option.{option_or}
 use Rattle.pl_outside.specs.declared.keeper.Table.{Table}
 use Rattle.pl_words.specs.declared.request.InputFile.{InputFile}
@@ -23,6 +23,23 @@ first_fault (s ∷ ss) = option_or s.fault (first_fault ss)
 abbrev pub ReachesRead : List Step → Source → Type 0
 ReachesRead [] source = ⊥
 ReachesRead (s ∷ ss) source = (s.reads ≡ Some source) ⊎ ((s.fault ≡ None) × ReachesRead ss source)
+
+-- what the steps read, each once and in their order, up to the first step that has a fault
+abbrev pub reads_in : List Step → List Source
+reads_in [] = []
+reads_in (s ∷ ss) = option_to_list s.reads ++ (if is_none s.fault then reads_in ss else [])
+
+-- the names of the files among what was read, by the names of all files
+abbrev pub names_read : (InputFile → Option (List ℕ)) → List Source → List (List ℕ)
+names_read name [] = []
+names_read name (Input file ∷ sources) = option_to_list (name file) ++ names_read name sources
+names_read name (Load table ∷ sources) = names_read name sources
+
+-- how many tables are among it
+abbrev pub tables_read : List Source → ℕ
+tables_read [] = 0
+tables_read (Input file ∷ sources) = tables_read sources
+tables_read (Load table ∷ sources) = 1 + tables_read sources
 
 -- a step that judges what was read before
 abbrev pub rule : Option Fault → Step

@@ -148,17 +148,22 @@ abbrev pub revisions_steps : List ℤ → List AssetRow → Option (List ℕ) �
 revisions_steps days assets None file = []
 revisions_steps days assets (Some name) file = read_step Revisions (revisions_rule days assets) file ∷ []
 
--- Each file is read whole and judged before the next one is begun; the tables come after the bars, and the
--- revisions last.
+-- the tables come after the bars, and the revisions last
+abbrev pub revised_steps : List ℤ → List AssetRow → Contents → WorldNames → List Step
+revised_steps days assets held q =
+    adjustments_steps assets q.adjustments held.rows ++ revisions_steps days assets q.revisions (held.file Revisions)
+
+-- the labels, the bars and the adjustments of a world with these sessions and assets
+abbrev pub rows_steps : List ℤ → List AssetRow → Contents → WorldNames → List Step
+rows_steps days assets held q =
+    labels_steps assets q.labels (held.file Labels)
+    ++ read_step Bars (bars_rule days assets) (held.file Bars) ∷ revised_steps days assets held q
+
+-- Each file is read whole and judged before the next one is begun.
 unfoldable pub data_steps : Contents → WorldNames → List Step
 data_steps held q =
-    let days = days_held held in
-    let assets = assets_held held in
     sessions_step (held.file Sessions) ∷ read_step Assets assets_rule (held.file Assets)
-    ∷ (labels_steps assets q.labels (held.file Labels)
-    ++ (read_step Bars (bars_rule days assets) (held.file Bars)
-    ∷ (adjustments_steps assets q.adjustments held.rows
-    ++ revisions_steps days assets q.revisions (held.file Revisions))))
+    ∷ rows_steps (days_held held) (assets_held held) held q
 
 -- first the pipeline file, then the data, and then the range
 abbrev pub run_steps : Contents → RunRequest → List Step

@@ -1,20 +1,25 @@
 -- The reading of a file.
-use Rattle.std.proofs.Common.{◌≡◌, ◌⊎◌, inl, inr, ℕ, ◌+◌, ◌≤◌, ◌<◌, Bool, true, false, IsTrue, nat_lt, List, [], ◌∷◌, length, Option, Some, None, IfSome, IsSomeAnd, Result, Ok, Err, Vec, refl, ◌∙◌, arith, replicate}
+use Rattle.std.proofs.Common.{◌≡◌, ◌⊎◌, inl, inr, ℕ, ◌+◌, ◌≤◌, ◌<◌, Bool, true, false, IsTrue, nat_lt, List, [], ◌∷◌, length, Option, Some, None, IfSome, IsSomeAnd, Result, Ok, Err, Vec, refl, sym, ap, ◌∙◌, arith, replicate}
 use Rattle.std.specs.declared.alloc.Global.{Global}
 use Rattle.std.specs.Prelude.{option_and_then}
 use Rattle.std.specs.Option.{ForSome, option_or}
 use Rattle.std.proofs.lemmas.Bool.Decides.{nat_tests}
 use Rattle.std.proofs.lemmas.List.{length-replicate}
 use Rattle.pl_records.specs.Reading as reading
-use Rattle.pl_outside.specs.Files.{Files}
+use Rattle.pl_outside.specs.Counts.{Rose}
+use Rattle.pl_outside.specs.Files.{Files, BeginsAll}
 use Rattle.pl_words.specs.declared.request.InputFile.{InputFile}
 use Rattle.pl_judge.specs.declared.fault.Fault.{Fault}
 use Rattle.pl_judge.specs.declared.fault.Fault.TheVariants.{Unread, Unloaded, Passed, Memory}
+use Rattle.pl_judge.specs.declared.fault.Limit.{Limit}
 use Rattle.pl_judge.specs.Rules.{told_at}
-use Rattle.pl_judge.specs.Steps.{Step}
+use Rattle.pl_judge.specs.Steps.{Step, first_fault}
 use Rattle.pl_judge.specs.Work.{cap_of, limit_of, read_step, file_fault, fault_in}
-use Rattle.pl_judge.specs.Stages.{IsStop, StopsOutside}
+use Rattle.pl_judge.specs.Stages.{IsStop, IsRisen, StopsOutside}
+use Rattle.pl_judge.proofs.Steps.{risen-inside}
 use Rattle.pl_load.specs.Reads.{IsRead, no_rule}
+use Rattle.pl_load.specs.Views.{ShelfView, Change, change, ShelfLeft}
+use Rattle.pl_load.proofs.Calls.{shelf-same, begins-none}
 
 -- ---- a file of which nothing is known but what the shelf tells
 
@@ -24,10 +29,20 @@ held_under tells name = option_and_then (λ files. option_and_then files name) t
 pub held-told : (tells : Option Files) (name : Option (List ℕ)) → ForSome name (λ n. ForSome tells (λ files. held_under tells name ≡ files n))
 held-told tells name = λ n is files f. rw (is, f) refl
 
--- memory may be wanted at any place
-pub wanting : {T : Type 0} (tells : Option Files) (sound : Bool) (name : Option (List ℕ)) (steps : Option (List ℕ) → List Step) (Means : Option (List ℕ) → T → Type 0)
-    → IsRead tells sound name steps Means (Err Memory)
-wanting tells sound name steps Means = record { file = held_under tells name; is_told = held-told tells name; ends = record { passed = tt; stopped = inr tt }; means = tt }
+module _ {c : Change ShelfView} where
+  -- memory may be wanted at any place
+  pub wanting : {T : Type 0} (name : List ℕ) (steps : Option (List ℕ) → List Step) (Means : Option (List ℕ) → T → Type 0)
+      → BeginsAll c.before.begun c.after.begun (name ∷ []) → ShelfLeft c → IsRead c (Some name) steps Means (Err Memory)
+  wanting name steps Means begun kept =
+      record {
+        file = held_under c.before.holds (Some name);
+        is_told = held-told c.before.holds (Some name);
+        ends = record { passed = tt; stopped = inr tt };
+        means = tt;
+        begun = begun;
+        risen = tt;
+        left = kept;
+      }
 
 -- the file isn't there, or a shelf that isn't sound failed
 held-none : (tells : Option Files) (name : List ℕ) → ForSome tells (λ files. files name ≡ None) → held_under tells (Some name) ≡ None
@@ -38,15 +53,19 @@ stop-unread : (f : InputFile) (o : Option (List ℕ)) (sound : Bool) → (IsTrue
 stop-unread f None sound h = inl refl
 stop-unread f (Some bytes) sound h = inr (inl refl, λ s. absurd (let e = h s in cc))
 
-pub is-unread : {T : Type 0} (f : InputFile) (tells : Option Files) (sound : Bool) (name : List ℕ) (Means : Option (List ℕ) → T → Type 0)
-    → (IsTrue sound → ForSome tells (λ files. files name ≡ None))
-    → IsRead tells sound (Some name) (λ held. read_step f no_rule held ∷ []) Means (Err (Unread f))
-is-unread f tells sound name Means h =
+pub is-unread : {T : Type 0} {c : Change ShelfView} (f : InputFile) (name : List ℕ) (Means : Option (List ℕ) → T → Type 0)
+    → (IsTrue c.before.sound → ForSome c.before.holds (λ files. files name ≡ None))
+    → BeginsAll c.before.begun c.after.begun (name ∷ []) → Rose c.before.faults c.after.faults → ShelfLeft c
+    → IsRead c (Some name) (λ held. read_step f no_rule held ∷ []) Means (Err (Unread f))
+is-unread {c = c} f name Means h begun risen kept =
     record {
-      file = held_under tells (Some name);
-      is_told = held-told tells (Some name);
-      ends = record { passed = tt; stopped = stop-unread f (held_under tells (Some name)) sound (λ s. held-none tells name (h s)) };
+      file = held_under c.before.holds (Some name);
+      is_told = held-told c.before.holds (Some name);
+      ends = record { passed = tt; stopped = stop-unread f (held_under c.before.holds (Some name)) c.before.sound (λ s. held-none c.before.holds name (h s)) };
       means = tt;
+      begun = begun;
+      risen = risen;
+      left = kept;
     }
 
 -- ---- a file that is too long
@@ -71,16 +90,24 @@ too-long : (f : InputFile) (o : Option (List ℕ)) → IsSomeAnd o (λ bytes. ca
 too-long f None h = absurd h
 too-long f (Some bytes) h = let t : nat_lt (cap_of f) (length bytes) ≡ true = grind (arith, nat_tests) in rw t refl
 
-pub is-too-long : {T : Type 0} (f : InputFile) (tells : Option Files) (sound : Bool) (name : List ℕ) (Means : Option (List ℕ) → T → Type 0)
-    → ForSome tells (λ files. IsSomeAnd (files name) (λ bytes. cap_of f < length bytes))
-    → IsRead tells sound (Some name) (λ held. read_step f no_rule held ∷ []) Means (Err (Passed (limit_of f)))
-is-too-long f tells sound name Means h =
+inside-limit : (s k : Type 0) (limit : Limit) → IsRisen s k (Passed limit)
+inside-limit s k limit = tt
+
+pub is-too-long : {T : Type 0} {c : Change ShelfView} (f : InputFile) (name : List ℕ) (Means : Option (List ℕ) → T → Type 0)
+    → ForSome c.before.holds (λ files. IsSomeAnd (files name) (λ bytes. cap_of f < length bytes))
+    → BeginsAll c.before.begun c.after.begun (name ∷ []) → ShelfLeft c
+    → IsRead c (Some name) (λ held. read_step f no_rule held ∷ []) Means (Err (Passed (limit_of f)))
+is-too-long {c = c} f name Means h begun kept =
+    let tells = c.before.holds in
     let long = long-is-one tells name (cap_of f) (omega (arith, length-replicate {A = ℕ} (cap_of f + 1) 0)) h in
     record {
       file = long_under tells name (cap_of f);
       is_told = long-told tells name (cap_of f);
       ends = record { passed = tt; stopped = inl (alone _ _ (too-long f (long_under tells name (cap_of f)) long)) };
       means = tt;
+      begun = begun;
+      risen = inside-limit (Rose c.before.faults c.after.faults) ⊥ (limit_of f);
+      left = kept;
     }
 
 -- ---- what was read, and its rule
@@ -91,25 +118,43 @@ none-alone o e = rw e refl
 ruled : (f : InputFile) (rule : List ℕ → Option Fault) (file : Option (List ℕ)) (bytes : List ℕ) → file ≡ Some bytes → length bytes ≤ cap_of f → file_fault f rule file ≡ rule bytes
 ruled f rule file bytes e h = let t : nat_lt (cap_of f) (length bytes) ≡ false = grind (arith, nat_tests) in rw (e, t) refl
 
+-- the whole bytes of a file
+pub is-read : {c : Change ShelfView} (f : InputFile) (name : List ℕ) (bytes : Vec ℕ Global) → ForSome c.before.holds (λ files. files name ≡ Some bytes.items)
+    → length bytes.items ≤ cap_of f → BeginsAll c.before.begun c.after.begun (name ∷ []) → ShelfLeft c
+    → IsRead c (Some name) (λ held. read_step f no_rule held ∷ []) (λ held (b : Vec ℕ Global). held ≡ Some b.items) (Ok bytes)
+is-read {c = c} f name bytes h few begun kept =
+    record {
+      file = Some bytes.items;
+      is_told = λ n is files f. let name' : name ≡ n = cc in rw (← name') (sym (h files f));
+      ends = record { passed = none-alone _ (ruled f no_rule (Some bytes.items) bytes.items refl few); stopped = tt };
+      means = refl;
+      begun = begun;
+      risen = tt;
+      left = kept;
+    }
+
 -- a file that was read, and that its rule passes
-pub read-passes : {T : Type 0} {tells : Option Files} {sound : Bool} {name : Option (List ℕ)} {bytes : Vec ℕ Global} (f : InputFile) (rule : List ℕ → Option Fault) (Means : Option (List ℕ) → T → Type 0) (x : T)
-    → IsRead tells sound name (λ held. read_step f no_rule held ∷ []) (λ held b. held ≡ Some b.items) (Ok bytes) → length bytes.items ≤ cap_of f
+pub read-passes : {T : Type 0} {c : Change ShelfView} {name : Option (List ℕ)} {bytes : Vec ℕ Global} (f : InputFile) (rule : List ℕ → Option Fault) (Means : Option (List ℕ) → T → Type 0) (x : T)
+    → IsRead c name (λ held. read_step f no_rule held ∷ []) (λ held b. held ≡ Some b.items) (Ok bytes) → length bytes.items ≤ cap_of f
     → rule bytes.items ≡ None → Means (Some bytes.items) x
-    → IsRead tells sound name (λ held. read_step f rule held ∷ []) Means (Ok x)
+    → IsRead c name (λ held. read_step f rule held ∷ []) Means (Ok x)
 read-passes {bytes = bytes} f rule Means x h few passes means =
     record {
       file = h.file;
       is_told = h.is_told;
       ends = record { passed = none-alone _ (ruled f rule h.file bytes.items h.means few ∙ passes); stopped = tt };
       means = rw h.means means;
+      begun = h.begun;
+      risen = tt;
+      left = h.left;
     }
 
 -- ... or doesn't, or memory is wanted
-pub read-stops : {T : Type 0} {tells : Option Files} {sound : Bool} {name : Option (List ℕ)} {bytes : Vec ℕ Global} (f : InputFile) (rule : List ℕ → Option Fault) (Means : Option (List ℕ) → T → Type 0) (fault : Fault)
-    → IsRead tells sound name (λ held. read_step f no_rule held ∷ []) (λ held b. held ≡ Some b.items) (Ok bytes) → length bytes.items ≤ cap_of f
-    → (rule bytes.items ≡ Some fault) ⊎ (fault ≡ Memory)
-    → IsRead tells sound name (λ held. read_step f rule held ∷ []) Means (Err fault)
-read-stops {bytes = bytes} f rule Means fault h few stops =
+pub read-stops : {T : Type 0} {c : Change ShelfView} {name : Option (List ℕ)} {bytes : Vec ℕ Global} (f : InputFile) (rule : List ℕ → Option Fault) (Means : Option (List ℕ) → T → Type 0) (fault : Fault)
+    → IsRead c name (λ held. read_step f no_rule held ∷ []) (λ held b. held ≡ Some b.items) (Ok bytes) → length bytes.items ≤ cap_of f
+    → (rule bytes.items ≡ Some fault) ⊎ (fault ≡ Memory) → IsRisen ⊥ ⊥ fault
+    → IsRead c name (λ held. read_step f rule held ∷ []) Means (Err fault)
+read-stops {bytes = bytes} f rule Means fault h few stops inside =
     record {
       file = h.file;
       is_told = h.is_told;
@@ -118,6 +163,23 @@ read-stops {bytes = bytes} f rule Means fault h few stops =
         stopped = elim stops [ inl q ↦ inl (alone _ _ (ruled f rule h.file bytes.items h.means few ∙ q)) | inr q ↦ rw q (inr tt) ];
       };
       means = tt;
+      begun = h.begun;
+      risen = risen-inside _ _ fault inside;
+      left = h.left;
+    }
+
+-- no name is given, and no file is read
+pub not-asked : {T : Type 0} {a : ShelfView} {steps : Option (List ℕ) → List Step} {Means : Option (List ℕ) → T → Type 0} {x : T} → steps None ≡ [] → Means None x
+    → IsRead (change a a) None steps Means (Ok x)
+not-asked {a = a} none means =
+    record {
+      file = None;
+      is_told = λ n is. absurd (cc);
+      ends = record { passed = ap first_fault none; stopped = tt };
+      means = means;
+      begun = begins-none a.begun;
+      risen = tt;
+      left = shelf-same a;
     }
 
 -- a file that was not read is of no rule
@@ -141,18 +203,21 @@ outside f rule sound file (Unloaded table) h = absurd (h.1 refl)
 outside f rule sound file Memory h = tt
 outside f rule sound file fault h = absurd h
 
-pub read-fails : {T : Type 0} {tells : Option Files} {sound : Bool} {name : Option (List ℕ)} (f : InputFile) (rule : List ℕ → Option Fault) (Means : Option (List ℕ) → T → Type 0) (fault : Fault)
-    → IsRead tells sound name (λ held. read_step f no_rule held ∷ []) (λ held (b : Vec ℕ Global). held ≡ Some b.items) (Err fault)
-    → IsRead tells sound name (λ held. read_step f rule held ∷ []) Means (Err fault)
-read-fails {sound = sound} f rule Means fault h =
+pub read-fails : {T : Type 0} {c : Change ShelfView} {name : Option (List ℕ)} (f : InputFile) (rule : List ℕ → Option Fault) (Means : Option (List ℕ) → T → Type 0) (fault : Fault)
+    → IsRead c name (λ held. read_step f no_rule held ∷ []) (λ held (b : Vec ℕ Global). held ≡ Some b.items) (Err fault)
+    → IsRead c name (λ held. read_step f rule held ∷ []) Means (Err fault)
+read-fails {c = c} f rule Means fault h =
     record {
       file = h.file;
       is_told = h.is_told;
       ends = record {
         passed = tt;
-        stopped = elim h.ends.stopped [ inl p ↦ inl (other-file f rule h.file fault p) | inr q ↦ inr (outside f rule sound h.file fault q) ];
+        stopped = elim h.ends.stopped [ inl p ↦ inl (other-file f rule h.file fault p) | inr q ↦ inr (outside f rule c.before.sound h.file fault q) ];
       };
       means = tt;
+      begun = h.begun;
+      risen = h.risen;
+      left = h.left;
     }
 
 -- the fault that an error of a reader tells

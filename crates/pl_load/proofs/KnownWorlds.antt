@@ -14,9 +14,9 @@ use Rattle.pl_world.specs.declared.owned.OwnedWorld.{OwnedWorld}
 use Rattle.pl_world.specs.declared.world.World as lent
 use Rattle.pl_planner.specs.Plans.{Planned, IsPlanOf}
 use Rattle.pl_planner.proofs.Calendars.{plan-same}
-use Rattle.pl_words.specs.Request.{Dated}
+use Rattle.pl_words.specs.Request.{Dated, RunRequest, ExplainRequest, VerifyRequest, Run, Explain, Verify, run_world}
 use Rattle.pl_judge.specs.Range.{IsDateOf, index_asked, index_of}
-use Rattle.pl_load.specs.Loads.{IsKnown, IsKnownBy}
+use Rattle.pl_load.specs.Loads.{AsksWorld, IsKnown, IsKnownBy}
 
 -- the world as of a date, of contents that are those of the parts
 pub world-known : (date : Option Dated) (days : List ℤ) (held : World) (w v : OwnedWorld) (session : Option ℕ) → days ≡ w.sessions → held ≡ owned_world w
@@ -52,3 +52,14 @@ of-lent w l d v days same known shows =
       world = known.world ∙ ap (λ x. as_of x d known.day) same;
       same = λ p from to h. rw (← same) (shows p from to h);
     }
+
+-- ---- the names of a world are those of the command
+
+pub run-asks : (q : RunRequest) → AsksWorld (Some (Run q)) (run_world q)
+run-asks q = record { sessions = refl; assets = refl; labels = refl; bars = refl; revisions = refl; adjustments = refl }
+
+pub explain-asks : (q : ExplainRequest) → AsksWorld (Some (Explain q)) q.world
+explain-asks q = record { sessions = refl; assets = refl; labels = refl; bars = refl; revisions = refl; adjustments = refl }
+
+pub verify-asks : (q : VerifyRequest) → AsksWorld (Some (Verify q)) q.world
+verify-asks q = record { sessions = refl; assets = refl; labels = refl; bars = refl; revisions = refl; adjustments = refl }

@@ -1,11 +1,10 @@
-pub mod KnownWorlds
+pub mod Calls
 pub mod FileReads
 pub mod ScriptReads
 pub mod TableReads
 pub mod RevisionReads
-pub mod DataReads
-pub mod RunReads
-pub mod PlanReads
-pub mod PayoutReads
 pub mod DerivationReads
-pub mod CellReads
+pub mod Joined
+pub mod Works
+pub mod DataReads
+pub mod KnownWorlds

@@ -1,6 +1,5 @@
 -- The pipeline file that was read, and its rules.
 use Rattle.std.proofs.Common.{◌≡◌, ◌⊎◌, inl, inr, ◌≤◌, ℕ, List, [], ◌∷◌, Bool, length, Option, Some, Ok, Err, refl, arith}
-use Rattle.pl_outside.specs.Files.{Files}
 use Rattle.pl_grammar.specs.Faults as syntax
 use Rattle.pl_syntax.specs.declared.error.SyntaxError.{SyntaxError}
 use Rattle.pl_syntax.specs.declared.error.SyntaxError.TheVariants as errors
@@ -19,9 +18,10 @@ use Rattle.pl_judge.specs.Rules.{syntax_error, check_error}
 use Rattle.pl_judge.specs.Held.{script_in, pipeline_in}
 use Rattle.pl_judge.specs.Work.{syntax_rule, script_rule, syntax_step, pipeline_steps}
 use Rattle.pl_judge.specs.Steps.{rule}
-use Rattle.pl_judge.specs.Stages.{StageEnds}
-use Rattle.pl_judge.proofs.Steps.{stage-goes_on, stage-stops}
+use Rattle.pl_judge.specs.Stages.{StageEnds, IsRisen}
+use Rattle.pl_judge.proofs.Steps.{stage-goes_on, stage-stops, risen-inside}
 use Rattle.pl_load.specs.Reads.{IsRead}
+use Rattle.pl_load.specs.Views.{ShelfView, Change}
 
 -- an error of the parser tells what the text says
 pub error-tells : (bytes : List ℕ) (e : SyntaxError) (fault : Fault) → fault ≡ syntax_error e → IsCause bytes e → length bytes ≤ 262_144
@@ -54,31 +54,39 @@ pipeline-in : (file : Option (List ℕ)) (script : Parsed) (p : Pipeline) → sc
 unfolding pipeline_in
 pipeline-in file script p e h = rw (e, h) refl
 
-pub pipeline-read : {S T : Type 0} {tells : Option Files} {sound : Bool} {name : Option (List ℕ)} {script : S} (said : S → Parsed) (means : T → Pipeline) (x : T)
-    → IsRead tells sound name (λ held. syntax_step held ∷ []) (λ held y. script_in held ≡ said y) (Ok script) → typed (said script) ≡ Ok (means x)
-    → IsRead tells sound name pipeline_steps (λ held y. pipeline_in held ≡ means y) (Ok x)
+pub pipeline-read : {S T : Type 0} {c : Change ShelfView} {name : Option (List ℕ)} {script : S} (said : S → Parsed) (means : T → Pipeline) (x : T)
+    → IsRead c name (λ held. syntax_step held ∷ []) (λ held y. script_in held ≡ said y) (Ok script) → typed (said script) ≡ Ok (means x)
+    → IsRead c name pipeline_steps (λ held y. pipeline_in held ≡ means y) (Ok x)
 pipeline-read {script = script} said means x h e =
     record {
       file = h.file;
       is_told = h.is_told;
       ends = stage-goes_on h.ends (rules-pass (script_in h.file) (said script) (means x) x h.means e);
       means = pipeline-in h.file (said script) (means x) h.means e;
+      begun = h.begun;
+      risen = tt;
+      left = h.left;
     }
 
-pub no-pipeline : {S T : Type 0} {tells : Option Files} {sound : Bool} {name : Option (List ℕ)} {script : S} (said : S → Parsed) (Means : Option (List ℕ) → T → Type 0) (e : CheckError) (fault : Fault)
-    → IsRead tells sound name (λ held. syntax_step held ∷ []) (λ held y. script_in held ≡ said y) (Ok script) → Fails e (typed (said script)) → fault ≡ check_error e
-    → IsRead tells sound name pipeline_steps Means (Err fault)
-no-pipeline {script = script} said Means e fault h fails is =
+pub no-pipeline : {S T : Type 0} {c : Change ShelfView} {name : Option (List ℕ)} {script : S} (said : S → Parsed) (Means : Option (List ℕ) → T → Type 0) (e : CheckError) (fault : Fault)
+    → IsRead c name (λ held. syntax_step held ∷ []) (λ held y. script_in held ≡ said y) (Ok script) → Fails e (typed (said script)) → fault ≡ check_error e → IsRisen ⊥ ⊥ fault
+    → IsRead c name pipeline_steps Means (Err fault)
+no-pipeline {script = script} said Means e fault h fails is inside =
+    let risen = rw is at inside in
     rw is
     (record {
       file = h.file;
       is_told = h.is_told;
       ends = stage-goes_on h.ends (check-stops (script_in h.file) (said script) e h.means fails);
       means = tt;
+      begun = h.begun;
+      risen = risen-inside _ _ (check_error e) risen;
+      left = h.left;
     })
 
 -- the file was not read, or holds no script
-pub no-script : {S T : Type 0} {tells : Option Files} {sound : Bool} {name : Option (List ℕ)} {fault : Fault} (Said : Option (List ℕ) → S → Type 0) (Means : Option (List ℕ) → T → Type 0)
-    → IsRead {T = S} tells sound name (λ held. syntax_step held ∷ []) Said (Err fault)
-    → IsRead tells sound name pipeline_steps Means (Err fault)
-no-script Said Means h = record { file = h.file; is_told = h.is_told; ends = stage-stops _ h.ends; means = tt }
+pub no-script : {S T : Type 0} {c : Change ShelfView} {name : Option (List ℕ)} {fault : Fault} (Said : Option (List ℕ) → S → Type 0) (Means : Option (List ℕ) → T → Type 0)
+    → IsRead {T = S} c name (λ held. syntax_step held ∷ []) Said (Err fault)
+    → IsRead c name pipeline_steps Means (Err fault)
+no-script Said Means h =
+    record { file = h.file; is_told = h.is_told; ends = stage-stops _ h.ends; means = tt; begun = h.begun; risen = h.risen; left = h.left }

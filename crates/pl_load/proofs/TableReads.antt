@@ -1,23 +1,30 @@
 -- The tables of adjustments that were loaded.
-use Rattle.std.proofs.Common.{◌≡◌, ◌⊎◌, inl, inr, ℕ, Bool, true, List, [], Option, Some, None, IfSome, Ok, Err, refl, ◌∙◌}
+use Rattle.std.proofs.Common.{◌≡◌, ◌⊎◌, inl, inr, ℕ, ◌≤◌, Bool, true, List, [], ◌∷◌, Option, Some, None, IfSome, Ok, Err, refl, sym, ap, ◌∙◌, arith}
 use Rattle.std.specs.Option.{ForSome, option_or}
 use Rattle.pl_spec.specs.declared.AssetRow.{AssetRow}
 use Rattle.pl_spec.specs.declared.RawAdjust.{RawAdjust}
 use Rattle.pl_spec.specs.Parts.{ColumnAdjustment}
 use Rattle.pl_adjust.specs.Walk as rows
 use Rattle.pl_adjust.specs.Tables.{adjustments_in}
+use Rattle.pl_outside.specs.Counts.{Rose, count_plus}
+use Rattle.pl_outside.proofs.Counting.{Rose-later}
 use Rattle.pl_outside.specs.Lists.{Lists}
 use Rattle.pl_outside.specs.declared.keeper.Table.{Table}
 use Rattle.pl_outside.specs.declared.keeper.Table.TheVariants.{Splits, Mergers, Dividends}
+use Rattle.pl_words.specs.declared.request.InputFile.{InputFile}
 use Rattle.pl_judge.specs.declared.fault.Fault.{Fault}
 use Rattle.pl_judge.specs.declared.fault.Fault.TheVariants.{Unloaded, Memory}
 use Rattle.pl_judge.specs.Rules.{told, rows_fault}
 use Rattle.pl_judge.specs.Held.{adjustments_asked, adjustments_from}
-use Rattle.pl_judge.specs.Steps.{ReachesRead}
+use Rattle.pl_judge.specs.Steps.{Source, Step, ReachesRead, reads_in, names_read, tables_read, rule}
 use Rattle.pl_judge.specs.Steps.Source.{Load}
 use Rattle.pl_judge.specs.Work.{adjustments_steps, rows_rule}
-use Rattle.pl_judge.specs.Stages.{StopsOutside}
+use Rattle.pl_judge.specs.Stages.{StopsOutside, IsFront, IsReadUpTo, IsRisen}
+use Rattle.pl_judge.proofs.Steps.{risen-inside}
+use Rattle.pl_judge.proofs.StepsRead.{quiet, read-all}
 use Rattle.pl_load.specs.Reads.{AreLoaded, IsUnloaded}
+use Rattle.pl_load.specs.Views.{KeeperView, Change, change, KeeperLeft, KeeperAlone}
+use Rattle.pl_load.proofs.Calls.{keeper-same, alone-same, plus-none}
 
 -- ---- rows of which nothing is known but what the keeper tells
 
@@ -40,15 +47,77 @@ outside assets name rows table sound risen (Unloaded t) h = (rw h.0 (reached ass
 outside assets name rows table sound risen Memory h = tt
 outside assets name rows table sound risen fault h = absurd h
 
--- a table was not loaded
-pub not-loaded : {T : Type 0} (tells : Option Lists) (sound s : Bool) (name : List ℕ) (assets : List AssetRow) (Means : (Table → List RawAdjust) → T → Type 0) (table : Table) (risen : Type 0) (fault : Fault)
-    → s ≡ sound → IsUnloaded s risen table fault → AreLoaded tells sound (Some name) (adjustments_steps assets (Some name)) Means (Err fault)
-not-loaded tells sound s name assets Means table risen fault e h =
+-- the three tables are read, each once
+abbrev pub three : List Source
+three = Load Splits ∷ Load Mergers ∷ Load Dividends ∷ []
+
+pub three-read : (assets : List AssetRow) (name : List ℕ) (rows : Table → List RawAdjust) → reads_in (adjustments_steps assets (Some name) rows) ≡ three
+three-read assets name rows = ap (λ xs. Load Splits ∷ Load Mergers ∷ Load Dividends ∷ xs) (quiet (rule (rows_rule assets rows) ∷ []) (refl, tt))
+
+front-in : (assets : List AssetRow) (name : List ℕ) (rows : Table → List RawAdjust) (reads : List Source) → IsFront reads three
+    → IsFront reads (reads_in (adjustments_steps assets (Some name) rows))
+front-in assets name rows reads h = (h.0, h.1 ∙ sym (three-read assets name rows))
+
+pub three-calls : (a b c d : ℕ) → b ≡ count_plus a 1 → c ≡ count_plus b 1 → d ≡ count_plus c 1 → d ≡ count_plus a 3
+three-calls a b c d e f g = rw (g, f, e) (omega arith)
+
+pub two-calls : (a b c : ℕ) → b ≡ count_plus a 1 → c ≡ count_plus b 1 → c ≡ count_plus a 2
+two-calls a b c e f = rw (f, e) (omega arith)
+
+-- what was read up to a table, which was not loaded
+up-to-table : (ss : List Step) (reads : List Source) (table : Table) (sound : Bool) (risen : Type 0) (fault : Fault) → IsUnloaded sound risen table fault
+    → IsFront reads (reads_in ss) → IsReadUpTo ss reads fault
+up-to-table ss reads table sound risen (Unloaded t) h front = front
+up-to-table ss reads table sound risen Memory h front = front
+up-to-table ss reads table sound risen fault h front = absurd h
+
+pub unloaded-risen : (a b c : ℕ) (sound : Bool) (table : Table) (fault : Fault) → a ≤ b → IsUnloaded sound (Rose b c) table fault → IsRisen ⊥ (Rose a c) fault
+unloaded-risen a b c sound table (Unloaded t) l h = Rose-later a b c l h.1
+unloaded-risen a b c sound table Memory l h = tt
+unloaded-risen a b c sound table fault l h = absurd h
+
+named-alone : (name : List ℕ) (A : Type 0) → Some name ≡ None → A
+named-alone name A e = absurd (cc)
+
+-- a table was not loaded, after these
+pub not-loaded : {T : Type 0} {c : Change KeeperView} (s : Bool) (mid : ℕ) (name : List ℕ) (assets : List AssetRow) (Means : (Table → List RawAdjust) → T → Type 0) (table : Table) (fault : Fault)
+    (reads : List Source) → IsFront reads three → ((names : InputFile → Option (List ℕ)) → names_read names reads ≡ [])
+    → s ≡ c.before.sound → c.before.faults ≤ mid → IsUnloaded s (Rose mid c.after.faults) table fault → c.after.calls ≡ count_plus c.before.calls (tables_read reads) → KeeperLeft c
+    → AreLoaded c (Some name) (adjustments_steps assets (Some name)) Means (Err fault)
+not-loaded {c = c} s mid name assets Means table fault reads front no_files e l h calls kept =
     record {
-      rows = listed_under tells (Some name);
-      are_told = listed-told tells (Some name);
-      ends = record { passed = tt; stopped = inr (outside assets name (listed_under tells (Some name)) table sound risen fault (rw e at h)) };
+      rows = listed_under c.before.lists (Some name);
+      are_told = listed-told c.before.lists (Some name);
+      ends = record { passed = tt; stopped = inr (outside assets name (listed_under c.before.lists (Some name)) table c.before.sound (Rose mid c.after.faults) fault (rw e at h)) };
       means = tt;
+      reads = reads;
+      has_read = record {
+        whole = tt;
+        up_to = up-to-table (adjustments_steps assets (Some name) (listed_under c.before.lists (Some name))) reads table s (Rose mid c.after.faults) fault h (front-in assets name _ reads front);
+      };
+      no_files = no_files;
+      calls = calls;
+      risen = unloaded-risen c.before.faults mid c.after.faults s table fault l h;
+      left = kept;
+      alone = named-alone name (KeeperAlone c);
+    }
+
+-- no name is given, and the keeper is left alone
+pub none-loaded : (k : KeeperView) (assets : List AssetRow) (xs : List ColumnAdjustment) → xs ≡ []
+    → AreLoaded (change k k) None (adjustments_steps assets None) (λ rows ys. adjustments_asked assets None rows ≡ ys) (Ok xs)
+none-loaded k assets xs e =
+    record {
+      rows = listed_under k.lists None;
+      are_told = listed-told k.lists None;
+      ends = record { passed = refl; stopped = tt };
+      means = sym e;
+      reads = [];
+      has_read = read-all (Ok xs) refl;
+      no_files = λ names. refl;
+      calls = plus-none k.calls;
+      risen = tt;
+      left = keeper-same k;
+      alone = λ none. alone-same k;
     }
 
 -- ---- rows that were loaded
@@ -74,16 +143,23 @@ none-alone o e = rw e refl
 alone : (o : Option Fault) (f : Fault) → o ≡ Some f → option_or o None ≡ Some f
 alone o f e = rw e refl
 
-pub rows-pass : (tells : Option Lists) (sound : Bool) (name : List ℕ) (assets : List AssetRow) (splits mergers dividends : List RawAdjust) (xs : List ColumnAdjustment)
-    → AreTold tells name (by_table splits mergers dividends) → adjustments_in assets splits mergers dividends ≡ Ok xs
-    → AreLoaded tells sound (Some name) (adjustments_steps assets (Some name)) (λ rows ys. adjustments_asked assets (Some name) rows ≡ ys) (Ok xs)
+pub rows-pass : {c : Change KeeperView} (name : List ℕ) (assets : List AssetRow) (splits mergers dividends : List RawAdjust) (xs : List ColumnAdjustment)
+    → AreTold c.before.lists name (by_table splits mergers dividends) → adjustments_in assets splits mergers dividends ≡ Ok xs → c.after.calls ≡ count_plus c.before.calls 3 → KeeperLeft c
+    → AreLoaded c (Some name) (adjustments_steps assets (Some name)) (λ rows ys. adjustments_asked assets (Some name) rows ≡ ys) (Ok xs)
 unfolding rows_rule adjustments_from
-rows-pass tells sound name assets splits mergers dividends xs h e =
+rows-pass {c = c} name assets splits mergers dividends xs h e calls kept =
     record {
       rows = by_table splits mergers dividends;
       are_told = h;
       ends = record { passed = none-alone _ (rw e refl); stopped = tt };
       means = rw e refl;
+      reads = three;
+      has_read = read-all (Ok xs) (three-read assets name (by_table splits mergers dividends));
+      no_files = λ names. refl;
+      calls = calls;
+      risen = tt;
+      left = kept;
+      alone = named-alone name (KeeperAlone c);
     }
 
 told-fault : (assets : List AssetRow) (splits mergers dividends : List RawAdjust) (o : Option rows.Fault) (fault : Fault) → fault ≡ told rows_fault o
@@ -92,11 +168,11 @@ unfolding rows_rule
 told-fault assets splits mergers dividends None fault e h = inr e
 told-fault assets splits mergers dividends (Some f) fault e h = inl (rw (h, e) refl)
 
-pub rows-stop : {T : Type 0} (tells : Option Lists) (sound : Bool) (name : List ℕ) (assets : List AssetRow) (splits mergers dividends : List RawAdjust) (Means : (Table → List RawAdjust) → T → Type 0)
+pub rows-stop : {T : Type 0} {c : Change KeeperView} (name : List ℕ) (assets : List AssetRow) (splits mergers dividends : List RawAdjust) (Means : (Table → List RawAdjust) → T → Type 0)
     (o : Option rows.Fault) (fault : Fault)
-    → AreTold tells name (by_table splits mergers dividends) → fault ≡ told rows_fault o → IfSome o (λ f. adjustments_in assets splits mergers dividends ≡ Err f)
-    → AreLoaded tells sound (Some name) (adjustments_steps assets (Some name)) Means (Err fault)
-rows-stop tells sound name assets splits mergers dividends Means o fault h e f =
+    → AreTold c.before.lists name (by_table splits mergers dividends) → fault ≡ told rows_fault o → IfSome o (λ f. adjustments_in assets splits mergers dividends ≡ Err f) → IsRisen ⊥ ⊥ fault → c.after.calls ≡ count_plus c.before.calls 3 → KeeperLeft c
+    → AreLoaded c (Some name) (adjustments_steps assets (Some name)) Means (Err fault)
+rows-stop {c = c} name assets splits mergers dividends Means o fault h e f inside calls kept =
     record {
       rows = by_table splits mergers dividends;
       are_told = h;
@@ -105,4 +181,11 @@ rows-stop tells sound name assets splits mergers dividends Means o fault h e f =
         stopped = elim (told-fault assets splits mergers dividends o fault e f) [ inl q ↦ inl (alone _ _ q) | inr q ↦ rw q (inr tt) ];
       };
       means = tt;
+      reads = three;
+      has_read = read-all (Err fault) (three-read assets name (by_table splits mergers dividends));
+      no_files = λ names. refl;
+      calls = calls;
+      risen = risen-inside _ _ fault inside;
+      left = kept;
+      alone = named-alone name (KeeperAlone c);
     }

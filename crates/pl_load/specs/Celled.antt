@@ -1,18 +1,17 @@
 -- What was loaded of a cell whose derivation is asked for.
-use Rattle.std.specs.Prelude.{◌≡◌, ◌<◌, pos, ◌≤ℤ◌, true, Bool, length, Option, Some, Result, IfOk}
-use Rattle.pl_outside.specs.Files.{Files}
-use Rattle.pl_outside.specs.Lists.{Lists}
+use Rattle.std.specs.Prelude.{◌≡◌, ◌<◌, pos, ◌≤ℤ◌, true, length, Some, Result}
 use Rattle.pl_terms.specs.Checked.{pipeline_of}
 use Rattle.pl_terms.specs.Uses.{is_used}
 use Rattle.pl_world.specs.Worlds.{owned_world, IsOwned}
 use Rattle.pl_words.specs.Request.{ExplainRequest, Explain}
 use Rattle.pl_judge.specs.declared.fault.Fault.{Fault}
-use Rattle.pl_judge.specs.Contents.{Contents, AreHeld}
+use Rattle.pl_judge.specs.Contents.{Contents}
 use Rattle.pl_judge.specs.Held.{pipeline_held, world_held}
 use Rattle.pl_judge.specs.Cells.{asset_of, column_term, term_reach}
 use Rattle.pl_judge.specs.Range.{session_of}
 use Rattle.pl_judge.specs.Work.{cell_work}
-use Rattle.pl_judge.specs.Stages.{StageEnds}
+use Rattle.pl_load.specs.Loads.{IsLoadOf}
+use Rattle.pl_load.specs.Views.{ShelfView, KeeperView, Change}
 use Rattle.pl_load.specs.declared.cells.LoadedCell.{LoadedCell}
 
 -- the parts are those of the contents, and the cell is the one that is asked for
@@ -31,11 +30,7 @@ pub record IsExplainable (l : LoadedCell) : Type 0 where
   pub within : l.cell.session < length l.world.sessions
   pub reach : pos 0 ≤ℤ term_reach l.world.sessions (pipeline_of l.checked) l.cell.term.0 l.cell.session
 
--- A cell is loaded with its pipeline and its world: they are those of contents which the parts hold where
--- they tell, and the work over these, up to how long its derivation is, ends so.
-pub record IsCellLoad (files : Option Files) (lists : Option Lists) (shelf keeper : Bool) (q : ExplainRequest)
-    (result : Result LoadedCell Fault) : Type 0 where
-  pub held : Contents
-  pub are_held : AreHeld files lists (Some (Explain q)) held
-  pub ends : StageEnds shelf keeper (cell_work held q) result
-  pub loaded : IfOk result (IsCellHeld held q)
+-- A cell is loaded in this way with its pipeline and its world, up to how long its derivation is.
+abbrev pub IsCellLoad : Change ShelfView → Change KeeperView → ExplainRequest → Result LoadedCell Fault → Type 0
+IsCellLoad shelf keeper q result =
+    IsLoadOf shelf keeper (Some (Explain q)) (λ held. cell_work held q) (λ held l. IsCellHeld held q l) result

@@ -1,28 +1,47 @@
 -- What was loaded.
-use Rattle.std.specs.Prelude.{◌≡◌, ℕ, ℤ, pos, ◌≤ℤ◌, Bool, true, Option, Some, None, Result, IfOk, slice_get}
+use Rattle.std.specs.Prelude.{◌≡◌, ℕ, ℤ, pos, ◌≤ℤ◌, List, Option, Some, None, Result, IfOk, IfErr, slice_get}
 use Rattle.pl_spec.specs.AsOf.{as_of}
 use Rattle.pl_spec.specs.Table.{Pipeline}
 use Rattle.pl_terms.specs.Checked.{pipeline_of}
-use Rattle.std.specs.Option.{ForSome}
-use Rattle.pl_outside.specs.Files.{Files}
-use Rattle.pl_outside.specs.Lists.{Lists}
-use Rattle.pl_outside.specs.declared.keeper.Table.{Table}
+use Rattle.pl_outside.specs.Counts.{Rose, count_plus}
+use Rattle.pl_outside.specs.Files.{BeginsAll}
 use Rattle.pl_world.specs.declared.owned.OwnedWorld.{OwnedWorld}
 use Rattle.pl_world.specs.Known.{ShowsSame}
 use Rattle.pl_world.specs.Worlds.{owned_world, IsOwned}
 use Rattle.pl_planner.specs.Plans.{IsPlanOf}
-use Rattle.pl_words.specs.declared.request.InputFile.{InputFile}
-use Rattle.pl_words.specs.Request.{RunRequest, PlanRequest, WorldNames, Run, Plan, run_world, world_name}
+use Rattle.pl_words.specs.declared.request.InputFile.TheVariants.{Sessions, Assets, Labels, Bars, Revisions}
+use Rattle.pl_words.specs.Request.{Request, RunRequest, PlanRequest, WorldNames, Run, Plan, run_world, name_asked, adjustments_of}
 use Rattle.pl_judge.specs.declared.fault.Fault.{Fault}
 use Rattle.pl_judge.specs.Contents.{Contents, AreHeld}
 use Rattle.pl_judge.specs.Held.{pipeline_held, days_held, world_held}
 use Rattle.pl_judge.specs.Known.{world_known}
+use Rattle.pl_judge.specs.Steps.{Source, Step, names_read, tables_read}
 use Rattle.pl_judge.specs.Work.{data_steps, run_steps, planning_steps}
 use Rattle.pl_judge.specs.Planning.{HasRows}
 use Rattle.pl_judge.specs.Range.{index_of}
-use Rattle.pl_judge.specs.Stages.{StageEnds}
+use Rattle.pl_judge.specs.Stages.{StageEnds, HasRead, IsRisen}
 use Rattle.pl_load.specs.declared.loading.Loaded.{Loaded}
 use Rattle.pl_load.specs.declared.planning.PlannedPipeline.{PlannedPipeline}
+use Rattle.pl_load.specs.Views.{ShelfView, KeeperView, Change, ShelfLeft, KeeperLeft, KeeperAlone}
+
+-- Some part of the work of a command was done. There are contents, those which the parts hold under its names
+-- where they tell, over which the steps of that part end so, and of which the value is. What was read is what
+-- these steps read, each file and each table once and in their order. The parts are left as parts.
+pub record IsLoadOf {T : Type 0} (shelf : Change ShelfView) (keeper : Change KeeperView) (asked : Option Request)
+    (steps : Contents → List Step) (Means : Contents → T → Type 0) (result : Result T Fault) : Type 0 where
+  pub held : Contents
+  pub are_held : AreHeld shelf.before.holds keeper.before.lists asked held
+  pub ends : StageEnds shelf.before.sound keeper.before.sound (steps held) result
+  pub loaded : IfOk result (Means held)
+  pub reads : List Source
+  pub has_read : HasRead (steps held) reads result
+  pub begun : BeginsAll shelf.before.begun shelf.after.begun (names_read (λ file. name_asked asked file) reads)
+  pub calls : keeper.after.calls ≡ count_plus keeper.before.calls (tables_read reads)
+  pub risen : IfErr result (IsRisen (Rose shelf.before.faults shelf.after.faults)
+      (Rose keeper.before.faults keeper.after.faults))
+  pub shelf_left : ShelfLeft shelf
+  pub keeper_left : KeeperLeft keeper
+  pub alone : adjustments_of asked ≡ None → KeeperAlone keeper
 
 -- The world is what is known of the other by session d, up to which it shows what the other does; without a
 -- session it is the other itself.
@@ -52,26 +71,30 @@ pub record IsReady (l : Loaded) : Type 0 where
   pub made : IsOwned l.world
   pub plan : IsPlanOf l.world.sessions (pipeline_of l.checked) l.plan
 
--- The contents are what the parts hold under the names of a world, wherever they tell.
-pub record AreDataHeld (files : Option Files) (lists : Option Lists) (q : WorldNames) (held : Contents) : Type 0 where
-  pub files_held : (file : InputFile) → ForSome (world_name q file) (λ name. ForSome files (λ told. held.file file ≡ told name))
-  pub rows_held : (table : Table) → ForSome q.adjustments (λ name. ForSome lists (λ told. held.rows table ≡ told name table))
+-- the names of a world are those under which a command asks for its files and its tables
+pub record AsksWorld (asked : Option Request) (q : WorldNames) : Type 0 where
+  pub sessions : name_asked asked Sessions ≡ Some q.sessions
+  pub assets : name_asked asked Assets ≡ Some q.assets
+  pub labels : name_asked asked Labels ≡ q.labels
+  pub bars : name_asked asked Bars ≡ Some q.bars
+  pub revisions : name_asked asked Revisions ≡ q.revisions
+  pub adjustments : adjustments_of asked ≡ q.adjustments
 
--- The data of a world is read: it is that of contents which the parts hold where they tell, and the work over
--- these ends so.
-pub record IsData (files : Option Files) (lists : Option Lists) (shelf keeper : Bool) (q : WorldNames) (result : Result OwnedWorld Fault) : Type 0 where
-  pub held : Contents
-  pub are_held : AreDataHeld files lists q held
-  pub ends : StageEnds shelf keeper (data_steps held q) result
-  pub days : IfOk result (λ w. days_held held ≡ w.sessions)
-  pub world : IfOk result (λ w. world_held held q ≡ owned_world w)
+-- the world is that of the contents
+pub record IsWorldHeld (q : WorldNames) (held : Contents) (w : OwnedWorld) : Type 0 where
+  pub days : days_held held ≡ w.sessions
+  pub world : world_held held q ≡ owned_world w
+
+-- The data of a world is loaded in this way, by whatever command asks for it.
+abbrev pub IsData : Change ShelfView → Change KeeperView → WorldNames → Result OwnedWorld Fault → Type 0
+IsData shelf keeper q result =
+    (asked : Option Request) → AsksWorld asked q
+    → IsLoadOf shelf keeper asked (λ held. data_steps held q) (IsWorldHeld q) result
 
 -- A run is loaded in this way.
-pub record IsLoad (files : Option Files) (lists : Option Lists) (shelf keeper : Bool) (q : RunRequest) (result : Result Loaded Fault) : Type 0 where
-  pub held : Contents
-  pub are_held : AreHeld files lists (Some (Run q)) held
-  pub ends : StageEnds shelf keeper (run_steps held q) result
-  pub loaded : IfOk result (IsLoaded held q)
+abbrev pub IsLoad : Change ShelfView → Change KeeperView → RunRequest → Result Loaded Fault → Type 0
+IsLoad shelf keeper q result =
+    IsLoadOf shelf keeper (Some (Run q)) (λ held. run_steps held q) (λ held l. IsLoaded held q l) result
 
 -- The pipeline is that of the contents, and the plan is one of it over their sessions, for the range of the
 -- two dates.
@@ -81,9 +104,7 @@ pub record IsPlanned (held : Contents) (q : PlanRequest) (l : PlannedPipeline) :
   pub rows : HasRows (days_held held) (pipeline_of l.checked) l.plan
   pub from : index_of (days_held held) q.from.day ≡ l.plan.from
 
--- A plan is loaded in this way; no tables are asked for.
-pub record IsPlanLoad (files : Option Files) (shelf : Bool) (q : PlanRequest) (result : Result PlannedPipeline Fault) : Type 0 where
-  pub held : Contents
-  pub are_held : (lists : Option Lists) → AreHeld files lists (Some (Plan q)) held
-  pub ends : StageEnds shelf true (planning_steps held q) result
-  pub planned : IfOk result (IsPlanned held q)
+-- A plan is loaded in this way.
+abbrev pub IsPlanLoad : Change ShelfView → Change KeeperView → PlanRequest → Result PlannedPipeline Fault → Type 0
+IsPlanLoad shelf keeper q result =
+    IsLoadOf shelf keeper (Some (Plan q)) (λ held. planning_steps held q) (λ held l. IsPlanned held q l) result

@@ -1,36 +1,49 @@
 -- How a stage that reads a file, or the tables of the keeper, ends.
-use Rattle.std.specs.Prelude.{◌≡◌, ℕ, Bool, true, List, Option, None, Result, IfOk, IsTrue, ⊤}
+use Rattle.std.specs.Prelude.{◌≡◌, ℕ, Bool, true, List, [], Option, None, option_to_list, Result, IfOk, IfErr, IsTrue, ⊤}
 use Rattle.std.specs.Option.{ForSome}
 use Rattle.pl_spec.specs.declared.RawAdjust.{RawAdjust}
-use Rattle.pl_outside.specs.Files.{Files}
-use Rattle.pl_outside.specs.Lists.{Lists}
+use Rattle.pl_outside.specs.Counts.{Rose, count_plus}
+use Rattle.pl_outside.specs.Files.{BeginsAll}
 use Rattle.pl_outside.specs.declared.keeper.Table.{Table}
+use Rattle.pl_words.specs.declared.request.InputFile.{InputFile}
 use Rattle.pl_judge.specs.declared.fault.Fault.{Fault}
 use Rattle.pl_judge.specs.declared.fault.Fault.TheVariants.{Unloaded, Memory}
-use Rattle.pl_judge.specs.Steps.{Step}
-use Rattle.pl_judge.specs.Stages.{StageEnds}
+use Rattle.pl_judge.specs.Steps.{Source, Step, names_read, tables_read}
+use Rattle.pl_judge.specs.Stages.{StageEnds, HasRead, IsRisen}
+use Rattle.pl_load.specs.Views.{ShelfView, KeeperView, Change, ShelfLeft, KeeperLeft, KeeperAlone}
 
 -- whatever the bytes are
 abbrev pub no_rule : List ℕ → Option Fault
 no_rule bytes = None
 
 -- There is a file, that which the shelf holds under the name where it tells, over which the stage ends as its
--- steps say, and whose meaning is the value.
-pub record IsRead {T : Type 0} (told : Option Files) (sound : Bool) (name : Option (List ℕ)) (steps : Option (List ℕ) → List Step)
+-- steps say, and whose meaning is the value. The name was begun once, and a failure has counted its fault.
+pub record IsRead {T : Type 0} (shelf : Change ShelfView) (name : Option (List ℕ)) (steps : Option (List ℕ) → List Step)
     (Means : Option (List ℕ) → T → Type 0) (result : Result T Fault) : Type 0 where
   pub file : Option (List ℕ)
-  pub is_told : ForSome name (λ n. ForSome told (λ files. file ≡ files n))
-  pub ends : StageEnds sound true (steps file) result
+  pub is_told : ForSome name (λ n. ForSome shelf.before.holds (λ files. file ≡ files n))
+  pub ends : StageEnds shelf.before.sound true (steps file) result
   pub means : IfOk result (Means file)
+  pub begun : BeginsAll shelf.before.begun shelf.after.begun (option_to_list name)
+  pub risen : IfErr result (IsRisen (Rose shelf.before.faults shelf.after.faults) ⊥)
+  pub left : ShelfLeft shelf
 
 -- There are rows of the tables, those of the name where the keeper tells, over which the stage ends as its
--- steps say, and whose meaning is the value.
-pub record AreLoaded {T : Type 0} (told : Option Lists) (sound : Bool) (name : Option (List ℕ)) (steps : (Table → List RawAdjust) → List Step)
-    (Means : (Table → List RawAdjust) → T → Type 0) (result : Result T Fault) : Type 0 where
+-- steps say, and whose meaning is the value. The keeper took one call for each table that the steps load, and
+-- a failure has counted its fault.
+pub record AreLoaded {T : Type 0} (keeper : Change KeeperView) (name : Option (List ℕ))
+    (steps : (Table → List RawAdjust) → List Step) (Means : (Table → List RawAdjust) → T → Type 0) (result : Result T Fault) : Type 0 where
   pub rows : Table → List RawAdjust
-  pub are_told : (table : Table) → ForSome name (λ n. ForSome told (λ lists. rows table ≡ lists n table))
-  pub ends : StageEnds true sound (steps rows) result
+  pub are_told : (table : Table) → ForSome name (λ n. ForSome keeper.before.lists (λ lists. rows table ≡ lists n table))
+  pub ends : StageEnds true keeper.before.sound (steps rows) result
   pub means : IfOk result (Means rows)
+  pub reads : List Source
+  pub has_read : HasRead (steps rows) reads result
+  pub no_files : (names : InputFile → Option (List ℕ)) → names_read names reads ≡ []
+  pub calls : keeper.after.calls ≡ count_plus keeper.before.calls (tables_read reads)
+  pub risen : IfErr result (IsRisen ⊥ (Rose keeper.before.faults keeper.after.faults))
+  pub left : KeeperLeft keeper
+  pub alone : name ≡ None → KeeperAlone keeper
 
 -- The rows of a table were not loaded: over a sound keeper only for want of memory, and else since its count
 -- rose.

@@ -1,14 +1,12 @@
 // The files of the shelf. Each stage reads one file whole and judges it, and ends as its steps say.
-ghost use Rattle.std.specs.Prelude.{◌≡◌, ◌≤◌, ◌<◌, [], ◌∷◌, Some, length, All, IfOk, IfErr, option_map};
-ghost use Rattle.pl_outside.specs.Counts.{Rose};
-ghost use Rattle.pl_outside.specs.Left.{Leaves};
+ghost use Rattle.std.specs.Prelude.{◌≡◌, ◌≤◌, ◌<◌, [], ◌∷◌, Some, length, All, IfOk, option_map};
 ghost use Rattle.pl_payouts.specs.Payouts.{AreKnown};
 ghost use Rattle.pl_syntax.specs.Scripts.{parsed};
 ghost use Rattle.pl_terms.specs.Checked.{pipeline_of};
 ghost use Rattle.pl_words.specs.declared.request.InputFile.TheVariants as files;
 ghost use Rattle.pl_judge.specs.Held.{script_in, pipeline_in, days_in, assets_in, labels_asked, bars_in, revised_asked, payouts_in, derivation_in};
 ghost use Rattle.pl_judge.specs.Work.{cap_of, read_step, syntax_step, pipeline_steps, sessions_rule, assets_rule, labels_steps, bars_rule, revisions_steps, payouts_rule, derivation_step};
-ghost use Rattle.pl_judge.specs.Stages.{IsRisen};
+ghost use Rattle.pl_load.specs.Views.{shelf_change};
 ghost use Rattle.pl_load.specs.Reads.{IsRead, no_rule};
 
 use pl_adjust::Adjustments;
@@ -32,12 +30,11 @@ fn read_input<S: Shelf>(
     name: &str,
     file: InputFile,
 ) -> Result<Vec<u8>, Fault>
-    ensures read { IsRead (S.holds shelf.old) (S.sound shelf.old) (Some name.now)
+    ensures read { IsRead (shelf_change S.holds S.begun S.sound S.faults shelf.old shelf.new)
+        (Some name.now)
         (λ held. read_step file no_rule held ∷ [])
         (λ held bytes. held ≡ Some bytes.items) result }
     ensures within { IfOk result (λ bytes. length bytes.items ≤ cap_of file) }
-    ensures leaves { Leaves S.holds S.sound S.faults shelf.old shelf.new }
-    ensures risen { IfErr result (IsRisen (Rose (S.faults shelf.old) (S.faults shelf.new)) ⊥) }
 {
     match read_file(alloc, shelf, name, cap_of(file)) {
         Ok(bytes) => Ok(bytes),
@@ -49,11 +46,10 @@ fn read_input<S: Shelf>(
 
 /// The script of the pipeline file of that name.
 pub fn read_script<S: Shelf>(alloc: Global, shelf: &mut S, name: &str) -> Result<Script, Fault>
-    ensures read { IsRead (S.holds shelf.old) (S.sound shelf.old) (Some name.now)
+    ensures { IsRead (shelf_change S.holds S.begun S.sound S.faults shelf.old shelf.new)
+        (Some name.now)
         (λ held. syntax_step held ∷ [])
         (λ held script. script_in held ≡ parsed script) result }
-    ensures leaves { Leaves S.holds S.sound S.faults shelf.old shelf.new }
-    ensures risen { IfErr result (IsRisen (Rose (S.faults shelf.old) (S.faults shelf.new)) ⊥) }
 {
     let bytes = read_input(alloc, shelf, name, InputFile::Pipeline)?;
     Ok(parse(alloc, &bytes)?)
@@ -61,10 +57,9 @@ pub fn read_script<S: Shelf>(alloc: Global, shelf: &mut S, name: &str) -> Result
 
 /// The pipeline that the pipeline file of that name means.
 pub fn read_checked<S: Shelf>(alloc: Global, shelf: &mut S, name: &str) -> Result<Checked, Fault>
-    ensures read { IsRead (S.holds shelf.old) (S.sound shelf.old) (Some name.now) pipeline_steps
+    ensures { IsRead (shelf_change S.holds S.begun S.sound S.faults shelf.old shelf.new)
+        (Some name.now) pipeline_steps
         (λ held checked. pipeline_in held ≡ pipeline_of checked) result }
-    ensures leaves { Leaves S.holds S.sound S.faults shelf.old shelf.new }
-    ensures risen { IfErr result (IsRisen (Rose (S.faults shelf.old) (S.faults shelf.new)) ⊥) }
 {
     let script = read_script(alloc, shelf, name)?;
     Ok(check(alloc, &script)?)
@@ -72,11 +67,10 @@ pub fn read_checked<S: Shelf>(alloc: Global, shelf: &mut S, name: &str) -> Resul
 
 /// The sessions of the sessions file of that name.
 pub fn read_sessions<S: Shelf>(alloc: Global, shelf: &mut S, name: &str) -> Result<Sessions, Fault>
-    ensures read { IsRead (S.holds shelf.old) (S.sound shelf.old) (Some name.now)
+    ensures { IsRead (shelf_change S.holds S.begun S.sound S.faults shelf.old shelf.new)
+        (Some name.now)
         (λ held. read_step files.Sessions sessions_rule held ∷ [])
         (λ held sessions. days_in held ≡ sessions) result }
-    ensures leaves { Leaves S.holds S.sound S.faults shelf.old shelf.new }
-    ensures risen { IfErr result (IsRisen (Rose (S.faults shelf.old) (S.faults shelf.new)) ⊥) }
 {
     let bytes = read_input(alloc, shelf, name, InputFile::Sessions)?;
     Ok(Sessions::read(alloc, &bytes)?)
@@ -84,11 +78,10 @@ pub fn read_sessions<S: Shelf>(alloc: Global, shelf: &mut S, name: &str) -> Resu
 
 /// The assets of the assets file of that name.
 pub fn read_assets<S: Shelf>(alloc: Global, shelf: &mut S, name: &str) -> Result<Assets, Fault>
-    ensures read { IsRead (S.holds shelf.old) (S.sound shelf.old) (Some name.now)
+    ensures { IsRead (shelf_change S.holds S.begun S.sound S.faults shelf.old shelf.new)
+        (Some name.now)
         (λ held. read_step files.Assets assets_rule held ∷ [])
         (λ held assets. assets_in held ≡ assets) result }
-    ensures leaves { Leaves S.holds S.sound S.faults shelf.old shelf.new }
-    ensures risen { IfErr result (IsRisen (Rose (S.faults shelf.old) (S.faults shelf.new)) ⊥) }
 {
     let bytes = read_input(alloc, shelf, name, InputFile::Assets)?;
     Ok(Assets::read(alloc, &bytes)?)
@@ -102,11 +95,10 @@ pub fn read_labels<S: Shelf>(
     assets: &Assets,
 ) -> Result<Labels, Fault>
     ensures read { let asked = option_map (λ n. n.now) name.entry in
-        IsRead (S.holds shelf.old) (S.sound shelf.old) asked (labels_steps assets.now asked)
+        IsRead (shelf_change S.holds S.begun S.sound S.faults shelf.old shelf.new)
+        asked (labels_steps assets.now asked)
         (λ held labels. labels_asked assets.now asked held ≡ labels) result }
     ensures cols { IfOk result (λ labels. All (λ r. r.col < length assets.now) labels.rows) }
-    ensures leaves { Leaves S.holds S.sound S.faults shelf.old shelf.new }
-    ensures risen { IfErr result (IsRisen (Rose (S.faults shelf.old) (S.faults shelf.new)) ⊥) }
 {
     match name {
         None => Ok(Labels::none(alloc)),
@@ -125,13 +117,12 @@ pub fn read_bars<S: Shelf>(
     sessions: &Sessions,
     assets: &Assets,
 ) -> Result<Bars, Fault>
-    ensures read { IsRead (S.holds shelf.old) (S.sound shelf.old) (Some name.now)
+    ensures read { IsRead (shelf_change S.holds S.begun S.sound S.faults shelf.old shelf.new)
+        (Some name.now)
         (λ held. read_step files.Bars (bars_rule sessions.now assets.now) held ∷ [])
         (λ held bars. bars_in sessions.now assets.now held ≡ bars) result }
     ensures cols { IfOk result (All (λ b. b.col < length assets.now)) }
     ensures sessions { IfOk result (All (λ b. b.session < length sessions.now)) }
-    ensures leaves { Leaves S.holds S.sound S.faults shelf.old shelf.new }
-    ensures risen { IfErr result (IsRisen (Rose (S.faults shelf.old) (S.faults shelf.new)) ⊥) }
 {
     let bytes = read_input(alloc, shelf, name, InputFile::Bars)?;
     Ok(Bars::read(alloc, &bytes, sessions, assets)?)
@@ -147,12 +138,11 @@ pub fn read_revisions<S: Shelf>(
     mut adjustments: Adjustments,
 ) -> Result<Adjustments, Fault>
     ensures read { let asked = option_map (λ n. n.now) name.entry in
-        IsRead (S.holds shelf.old) (S.sound shelf.old) asked (revisions_steps sessions.now assets.now asked)
+        IsRead (shelf_change S.holds S.begun S.sound S.faults shelf.old shelf.new)
+        asked (revisions_steps sessions.now assets.now asked)
         (λ held revised. revised_asked sessions.now assets.now adjustments asked held ≡ revised) result }
     ensures cols { All (λ x. x.col < length assets.now) adjustments
         → IfOk result (All (λ x. x.col < length assets.now)) }
-    ensures leaves { Leaves S.holds S.sound S.faults shelf.old shelf.new }
-    ensures risen { IfErr result (IsRisen (Rose (S.faults shelf.old) (S.faults shelf.new)) ⊥) }
 {
     match name {
         None => Ok(adjustments),
@@ -171,12 +161,11 @@ pub fn read_payouts<S: Shelf>(
     name: &str,
     assets: &Assets,
 ) -> Result<Payouts, Fault>
-    ensures read { IsRead (S.holds shelf.old) (S.sound shelf.old) (Some name.now)
+    ensures read { IsRead (shelf_change S.holds S.begun S.sound S.faults shelf.old shelf.new)
+        (Some name.now)
         (λ held. read_step files.Payouts (payouts_rule assets.now) held ∷ [])
         (λ held payouts. payouts_in assets.now held ≡ payouts) result }
     ensures known { IfOk result (AreKnown assets.now) }
-    ensures leaves { Leaves S.holds S.sound S.faults shelf.old shelf.new }
-    ensures risen { IfErr result (IsRisen (Rose (S.faults shelf.old) (S.faults shelf.new)) ⊥) }
 {
     let bytes = read_input(alloc, shelf, name, InputFile::Payouts)?;
     Ok(Payouts::read(alloc, &bytes, assets)?)
@@ -188,11 +177,10 @@ pub fn read_derivation<S: Shelf>(
     shelf: &mut S,
     name: &str,
 ) -> Result<Derivation, Fault>
-    ensures read { IsRead (S.holds shelf.old) (S.sound shelf.old) (Some name.now)
+    ensures { IsRead (shelf_change S.holds S.begun S.sound S.faults shelf.old shelf.new)
+        (Some name.now)
         (λ held. derivation_step held ∷ [])
         (λ held lines. derivation_in held ≡ lines) result }
-    ensures leaves { Leaves S.holds S.sound S.faults shelf.old shelf.new }
-    ensures risen { IfErr result (IsRisen (Rose (S.faults shelf.old) (S.faults shelf.new)) ⊥) }
 {
     let bytes = read_input(alloc, shelf, name, InputFile::Derivation)?;
     Ok(read_lines(alloc, &bytes)?)

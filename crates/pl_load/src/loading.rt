@@ -1,12 +1,12 @@
 // What a run reads and judges before its first row.
-ghost use Rattle.std.specs.Prelude.{◌≡◌, ◌<◌, length, None, Ok, All, IfOk, IfErr, IfSome};
-ghost use Rattle.pl_outside.specs.Counts.{Rose};
-ghost use Rattle.pl_outside.specs.Left.{Leaves, IsUntouched};
+ghost use Rattle.std.specs.Prelude.{◌≡◌, ◌<◌, length, All, IfOk, IfErr, IfSome};
+ghost use Rattle.pl_terms.specs.Checked.{pipeline_of};
+ghost use Rattle.pl_planner.specs.Plans.{IsPlanOf};
 ghost use Rattle.pl_words.specs.Views.{run_of, world_names_of};
-ghost use Rattle.pl_judge.specs.Stages.{IsRisen};
 ghost use Rattle.pl_world.specs.Worlds.{AreMadeFor, IsOwned};
 ghost use Rattle.pl_judge.specs.declared.fault.Fault.TheVariants.{Memory};
-ghost use Rattle.pl_load.specs.Before.{PipelineRead, DaysRead, AssetsRead, IsRest, with_pipeline, with_rows};
+ghost use Rattle.pl_load.specs.Views.{shelf_change, keeper_change};
+ghost use Rattle.pl_load.specs.Parts.{IsWorldLoad, IsRowsLoad, IsRevisedLoad};
 ghost use Rattle.pl_load.specs.Loads.{IsData, IsKnown, IsLoad, IsReady};
 
 use crate::inputs::{
@@ -65,15 +65,10 @@ pub fn load<S: Shelf, K: AdjustKeeper>(
     shelf: &mut S,
     keeper: &mut K,
 ) -> Result<Loaded, Fault>
-    ensures load { IsLoad (S.holds shelf.old) (K.lists keeper.old) (S.sound shelf.old) (K.sound keeper.old)
+    ensures load { IsLoad (shelf_change S.holds S.begun S.sound S.faults shelf.old shelf.new)
+        (keeper_change K.lists K.sound K.faults K.calls keeper.old keeper.new)
         (run_of request.now) result }
     ensures ready { IfOk result IsReady }
-    ensures shelf { Leaves S.holds S.sound S.faults shelf.old shelf.new }
-    ensures keeper { Leaves K.lists K.sound K.faults keeper.old keeper.new }
-    ensures alone { (run_of request.now).options.adjustments ≡ None
-        → IsUntouched K.faults K.calls keeper.old keeper.new }
-    ensures risen { IfErr result (IsRisen (Rose (S.faults shelf.old) (S.faults shelf.new))
-        (Rose (K.faults keeper.old) (K.faults keeper.new))) }
 {
     let checked = read_checked(alloc, shelf, request.pipeline)?;
     let planned = load_world(alloc, request, &checked, shelf, keeper)?;
@@ -93,16 +88,11 @@ fn load_world<S: Shelf, K: AdjustKeeper>(
     shelf: &mut S,
     keeper: &mut K,
 ) -> Result<PlannedWorld, Fault>
-    ensures load { PipelineRead (S.holds shelf.old) (S.sound shelf.old) (run_of request.now) (Ok checked.now)
-        → IsLoad (S.holds shelf.old) (K.lists keeper.old) (S.sound shelf.old) (K.sound keeper.old)
-        (run_of request.now) (with_pipeline checked.now result) }
-    ensures ready { IfOk (with_pipeline checked.now result) IsReady }
-    ensures shelf { Leaves S.holds S.sound S.faults shelf.old shelf.new }
-    ensures keeper { Leaves K.lists K.sound K.faults keeper.old keeper.new }
-    ensures alone { (run_of request.now).options.adjustments ≡ None
-        → IsUntouched K.faults K.calls keeper.old keeper.new }
-    ensures risen { IfErr result (IsRisen (Rose (S.faults shelf.old) (S.faults shelf.new))
-        (Rose (K.faults keeper.old) (K.faults keeper.new))) }
+    ensures load { IsWorldLoad (shelf_change S.holds S.begun S.sound S.faults shelf.old shelf.new)
+        (keeper_change K.lists K.sound K.faults K.calls keeper.old keeper.new)
+        (run_of request.now) (pipeline_of checked.now) result }
+    ensures made { IfOk result (λ w. IsOwned w.world) }
+    ensures plan { IfOk result (λ w. IsPlanOf w.world.sessions (pipeline_of checked.now) w.plan) }
 {
     let world = read_world(alloc, &request.world_names(), shelf, keeper)?;
     let range = judge_dates(
@@ -141,15 +131,10 @@ pub(crate) fn read_world<S: Shelf, K: AdjustKeeper>(
     shelf: &mut S,
     keeper: &mut K,
 ) -> Result<OwnedWorld, Fault>
-    ensures parts { IsData (S.holds shelf.old) (K.lists keeper.old) (S.sound shelf.old) (K.sound keeper.old)
+    ensures data { IsData (shelf_change S.holds S.begun S.sound S.faults shelf.old shelf.new)
+        (keeper_change K.lists K.sound K.faults K.calls keeper.old keeper.new)
         (world_names_of names.now) result }
     ensures made { IfOk result IsOwned }
-    ensures shelf { Leaves S.holds S.sound S.faults shelf.old shelf.new }
-    ensures keeper { Leaves K.lists K.sound K.faults keeper.old keeper.new }
-    ensures alone { (world_names_of names.now).adjustments ≡ None
-        → IsUntouched K.faults K.calls keeper.old keeper.new }
-    ensures risen { IfErr result (IsRisen (Rose (S.faults shelf.old) (S.faults shelf.new))
-        (Rose (K.faults keeper.old) (K.faults keeper.new))) }
 {
     let sessions = read_sessions(alloc, shelf, names.sessions)?;
     let assets = read_assets(alloc, shelf, names.assets)?;
@@ -177,18 +162,10 @@ fn read_rows<S: Shelf, K: AdjustKeeper>(
     shelf: &mut S,
     keeper: &mut K,
 ) -> Result<WorldRows, Fault>
-    ensures parts { DaysRead (S.holds shelf.old) (S.sound shelf.old) (world_names_of names.now)
-        (Ok sessions.now)
-        → AssetsRead (S.holds shelf.old) (S.sound shelf.old) (world_names_of names.now) (Ok assets.now)
-        → IsData (S.holds shelf.old) (K.lists keeper.old) (S.sound shelf.old) (K.sound keeper.old)
-        (world_names_of names.now) (with_rows sessions.now assets.now result) }
+    ensures rows { IsRowsLoad (shelf_change S.holds S.begun S.sound S.faults shelf.old shelf.new)
+        (keeper_change K.lists K.sound K.faults K.calls keeper.old keeper.new)
+        (world_names_of names.now) sessions.now assets.now result }
     ensures made { IfOk result (λ r. AreMadeFor sessions.now assets.now r.labels.rows r.bars r.adjustments) }
-    ensures shelf { Leaves S.holds S.sound S.faults shelf.old shelf.new }
-    ensures keeper { Leaves K.lists K.sound K.faults keeper.old keeper.new }
-    ensures alone { (world_names_of names.now).adjustments ≡ None
-        → IsUntouched K.faults K.calls keeper.old keeper.new }
-    ensures risen { IfErr result (IsRisen (Rose (S.faults shelf.old) (S.faults shelf.new))
-        (Rose (K.faults keeper.old) (K.faults keeper.new))) }
 {
     let labels = read_labels(alloc, shelf, names.labels, assets)?;
     let bars = read_bars(alloc, shelf, names.bars, sessions, assets)?;
@@ -209,15 +186,10 @@ fn read_revised<S: Shelf, K: AdjustKeeper>(
     shelf: &mut S,
     keeper: &mut K,
 ) -> Result<Adjustments, Fault>
-    ensures parts { IsRest (S.holds shelf.old) (K.lists keeper.old) (S.sound shelf.old) (K.sound keeper.old)
+    ensures revised { IsRevisedLoad (shelf_change S.holds S.begun S.sound S.faults shelf.old shelf.new)
+        (keeper_change K.lists K.sound K.faults K.calls keeper.old keeper.new)
         (world_names_of names.now) sessions.now assets.now result }
     ensures cols { IfOk result (All (λ x. x.col < length assets.now)) }
-    ensures shelf { Leaves S.holds S.sound S.faults shelf.old shelf.new }
-    ensures keeper { Leaves K.lists K.sound K.faults keeper.old keeper.new }
-    ensures alone { (world_names_of names.now).adjustments ≡ None
-        → IsUntouched K.faults K.calls keeper.old keeper.new }
-    ensures risen { IfErr result (IsRisen (Rose (S.faults shelf.old) (S.faults shelf.new))
-        (Rose (K.faults keeper.old) (K.faults keeper.new))) }
 {
     let loaded = read_adjustments(alloc, keeper, names.adjustments, assets)?;
     read_revisions(alloc, shelf, names.revisions, sessions, assets, loaded)

@@ -1,9 +1,7 @@
 // What payouts read and judge.
-ghost use Rattle.std.specs.Prelude.{IfOk, IfErr};
-ghost use Rattle.pl_outside.specs.Counts.{Rose};
-ghost use Rattle.pl_outside.specs.Left.{Leaves};
+ghost use Rattle.std.specs.Prelude.{IfOk};
 ghost use Rattle.pl_words.specs.Views.{payouts_of};
-ghost use Rattle.pl_judge.specs.Stages.{IsRisen};
+ghost use Rattle.pl_load.specs.Views.{KeeperView, shelf_change, unchanged};
 ghost use Rattle.pl_load.specs.PaidOut.{IsPayoutsLoad, IsPayable};
 
 use crate::inputs::{read_assets, read_bars, read_payouts, read_sessions};
@@ -42,10 +40,11 @@ pub fn load_payouts<S: Shelf>(
     request: &PayoutsRequest<'_>,
     shelf: &mut S,
 ) -> Result<LoadedPayouts, Fault>
-    ensures load { IsPayoutsLoad (S.holds shelf.old) (S.sound shelf.old) (payouts_of request.now) result }
+    // whatever a keeper tells
+    ensures load { (keeper : KeeperView)
+        → IsPayoutsLoad (shelf_change S.holds S.begun S.sound S.faults shelf.old shelf.new)
+        (unchanged keeper) (payouts_of request.now) result }
     ensures payable { IfOk result IsPayable }
-    ensures shelf { Leaves S.holds S.sound S.faults shelf.old shelf.new }
-    ensures risen { IfErr result (IsRisen (Rose (S.faults shelf.old) (S.faults shelf.new)) ⊥) }
 {
     let sessions = read_sessions(alloc, shelf, request.sessions)?;
     let assets = read_assets(alloc, shelf, request.assets)?;

@@ -1,10 +1,8 @@
 // What a plan reads and judges.
-ghost use Rattle.std.specs.Prelude.{Ok, IfErr};
-ghost use Rattle.pl_outside.specs.Counts.{Rose};
-ghost use Rattle.pl_outside.specs.Left.{Leaves};
+ghost use Rattle.pl_terms.specs.Checked.{pipeline_of};
 ghost use Rattle.pl_words.specs.Views.{plan_of};
-ghost use Rattle.pl_judge.specs.Stages.{IsRisen};
-ghost use Rattle.pl_load.specs.Before.{ScriptRead, with_plan};
+ghost use Rattle.pl_load.specs.Views.{KeeperView, shelf_change, unchanged};
+ghost use Rattle.pl_load.specs.Parts.{IsPlanFor};
 ghost use Rattle.pl_load.specs.Loads.{IsPlanLoad};
 
 use crate::inputs::{read_checked, read_sessions};
@@ -37,9 +35,10 @@ pub fn load_plan<S: Shelf>(
     request: &PlanRequest<'_>,
     shelf: &mut S,
 ) -> Result<PlannedPipeline, Fault>
-    ensures load { IsPlanLoad (S.holds shelf.old) (S.sound shelf.old) (plan_of request.now) result }
-    ensures shelf { Leaves S.holds S.sound S.faults shelf.old shelf.new }
-    ensures risen { IfErr result (IsRisen (Rose (S.faults shelf.old) (S.faults shelf.new)) ⊥) }
+    // whatever a keeper tells
+    ensures { (keeper : KeeperView)
+        → IsPlanLoad (shelf_change S.holds S.begun S.sound S.faults shelf.old shelf.new)
+        (unchanged keeper) (plan_of request.now) result }
 {
     let checked = read_checked(alloc, shelf, request.pipeline)?;
     let plan = plan_for(alloc, request, &checked, shelf)?;
@@ -53,11 +52,9 @@ fn plan_for<S: Shelf>(
     checked: &Checked,
     shelf: &mut S,
 ) -> Result<Plan, Fault>
-    ensures load { ScriptRead (S.holds shelf.old) (S.sound shelf.old) (plan_of request.now) (Ok checked.now)
-        → IsPlanLoad (S.holds shelf.old) (S.sound shelf.old) (plan_of request.now)
-        (with_plan checked.now result) }
-    ensures shelf { Leaves S.holds S.sound S.faults shelf.old shelf.new }
-    ensures risen { IfErr result (IsRisen (Rose (S.faults shelf.old) (S.faults shelf.new)) ⊥) }
+    ensures { (keeper : KeeperView)
+        → IsPlanFor (shelf_change S.holds S.begun S.sound S.faults shelf.old shelf.new)
+        (unchanged keeper) (plan_of request.now) (pipeline_of checked.now) result }
 {
     let sessions = read_sessions(alloc, shelf, request.sessions)?;
     let range = judge_dates(&request.from, &request.to, None, &sessions)?;

@@ -1,11 +1,10 @@
 // The adjustments of the keeper.
-ghost use Rattle.std.specs.Prelude.{◌≡◌, ◌<◌, length, Some, All, IsNone, IfOk, IfErr, option_map};
+ghost use Rattle.std.specs.Prelude.{◌≡◌, ◌<◌, length, All, IfOk, IfErr, option_map};
 ghost use Rattle.std.specs.Option.{ForSome};
-ghost use Rattle.pl_outside.specs.Counts.{Rose};
-ghost use Rattle.pl_outside.specs.Left.{Leaves, IsUntouched};
+ghost use Rattle.pl_outside.specs.Counts.{Rose, count_plus};
 ghost use Rattle.pl_judge.specs.Held.{adjustments_asked};
 ghost use Rattle.pl_judge.specs.Work.{adjustments_steps};
-ghost use Rattle.pl_judge.specs.Stages.{IsRisen};
+ghost use Rattle.pl_load.specs.Views.{KeeperLeft, keeper_change};
 ghost use Rattle.pl_load.specs.Reads.{AreLoaded, IsUnloaded};
 
 use pl_adjust::Adjustments;
@@ -22,12 +21,10 @@ pub fn read_adjustments<K: AdjustKeeper>(
     assets: &Assets,
 ) -> Result<Adjustments, Fault>
     ensures read { let asked = option_map (λ n. n.now) name.entry in
-        AreLoaded (K.lists keeper.old) (K.sound keeper.old) asked (adjustments_steps assets.now asked)
+        AreLoaded (keeper_change K.lists K.sound K.faults K.calls keeper.old keeper.new) asked
+        (adjustments_steps assets.now asked)
         (λ rows adjustments. adjustments_asked assets.now asked rows ≡ adjustments) result }
     ensures cols { IfOk result (All (λ x. x.col < length assets.now)) }
-    ensures leaves { Leaves K.lists K.sound K.faults keeper.old keeper.new }
-    ensures alone { IsNone name.entry → IsUntouched K.faults K.calls keeper.old keeper.new }
-    ensures risen { IfErr result (IsRisen ⊥ (Rose (K.faults keeper.old) (K.faults keeper.new))) }
 {
     match name {
         None => Ok(Adjustments::none(alloc)),
@@ -51,7 +48,8 @@ fn load_table<K: AdjustKeeper>(
         (λ lists. IfOk result (λ rows. rows.items ≡ lists name.now table)) }
     ensures unloaded { IfErr result (IsUnloaded (K.sound keeper.old)
         (Rose (K.faults keeper.old) (K.faults keeper.new)) table) }
-    ensures leaves { Leaves K.lists K.sound K.faults keeper.old keeper.new }
+    ensures call { K.calls keeper.new ≡ count_plus (K.calls keeper.old) 1 }
+    ensures leaves { KeeperLeft (keeper_change K.lists K.sound K.faults K.calls keeper.old keeper.new) }
 {
     let mut rows = Vec::new(alloc);
     match keeper.load(alloc, name, table, &mut rows) {

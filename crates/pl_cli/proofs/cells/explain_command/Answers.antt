@@ -1,16 +1,15 @@
 use Rattle.std.proofs.lemmas.Result.{err_from_is_err_and}
+use Rattle.pl_words.specs.Request.{Explain}
 use Rattle.pl_words.specs.Views.{explain_of}
-use Rattle.pl_cli.proofs.Ended.{caused-inside}
-use Rattle.pl_cli.proofs.Explained.{explain-stops}
+use Rattle.pl_cli.proofs.Ended.{stopped}
+use Rattle.pl_cli.proofs.Explained.{cell-stops}
 use Rattle.pl_cli.proofs.cells.explain_command.Goals as goal
 
-pub returns-in_err-loaded-clause-ended : goal.returns-in_err-loaded-clause-ended
-returns-in_err-loaded-clause-ended g c = λ steps.
+pub returns-in_err-loaded : goal.returns-in_err-loaded
+returns-in_err-loaded g c = λ steps.
     let p = err_from_is_err_and c.from_residual.result c.from_residual.ensures.1 in
-    rw (p.1, p.2) (explain-stops _ (explain_of c.args.request.now) _ _ _ c.in_err-loaded.ensures.risen c.in_err-loaded.ensures.load)
+    let q = explain_of c.args.request.now in
+    rw (p.1, p.2) (stopped {q = Explain q} _ steps (cell-stops q c.in_err-loaded.ensures.load))
 
-pub returns-clause-ended : goal.returns-clause-ended
-returns-clause-ended g c = λ steps. c.write_cell.ensures.ended _ _ _ _ _ steps c.in_ok-loaded.ensures.load
-
-pub returns-clause-caused : goal.returns-clause-caused
-returns-clause-caused g c = caused-inside _ _ _ _ c.write_cell.result c.write_cell.ensures.caused
+pub returns : goal.returns
+returns g c = λ steps. c.write_cell.ensures _ _ (explain_of c.args.request.now) steps c.in_ok-loaded.ensures.load

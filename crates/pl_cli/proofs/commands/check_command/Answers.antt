@@ -1,26 +1,38 @@
-use Rattle.std.proofs.Common.{refl}
+use Rattle.std.proofs.Common.{Some, None, Ok, Err, refl}
 use Rattle.std.proofs.lemmas.Result.{err_from_is_err_and}
+use Rattle.pl_outside.proofs.Pieces.{writes-over}
 use Rattle.pl_terms.specs.Checked.{pipeline_of}
-use Rattle.pl_cli.proofs.Ended.{check-is, check-text, file-stops, file-written}
+use Rattle.pl_words.specs.declared.request.InputFile.TheVariants.{Pipeline}
+use Rattle.pl_words.specs.Request.{Check}
+use Rattle.pl_judge.specs.declared.fault.Fault.TheVariants.{Unwritten}
+use Rattle.pl_judge.specs.Work.{work}
+use Rattle.pl_load.specs.Views.{unchanged}
+use Rattle.pl_load.proofs.Joined.{file-read, pipeline-one}
+use Rattle.pl_cli.proofs.Ended.{stopped, written, seen-all, seen-part, none, no-more}
+use Rattle.pl_cli.proofs.Loaded.{check-text}
 use Rattle.pl_cli.proofs.commands.check_command.Goals as goal
 
-pub returns-in_err-checked-clause-ended : goal.returns-in_err-checked-clause-ended
-returns-in_err-checked-clause-ended g c = λ lists sound steps.
+pub returns-in_err-checked : goal.returns-in_err-checked
+unfolding work
+returns-in_err-checked g c = λ keeper steps.
     let p = err_from_is_err_and c.from_residual.result c.from_residual.ensures.1 in
-    rw (p.1, p.2)
-    (file-stops g.O.Sink.taken g.O.Sink.faults g.O.Sink.sound g.O.Sink.room c.args.out.now c.args.out.now _ lists _ sound steps steps _ _ _ _ _ _ _ (check-is c.args.name.now)
-    c.in_err-checked.ensures.risen c.in_err-checked.ensures.read)
+    let q = Check c.args.name.now in
+    rw (p.1, p.2) (stopped {q = q} _ steps (file-read keeper (Some q) Pipeline refl pipeline-one c.in_err-checked.ensures))
 
-pub returns-in-Ok-clause-ended : goal.returns-in-Ok-clause-ended
-returns-in-Ok-clause-ended g c = λ lists sound steps.
-    let w = c.in-Ok.ensures in
-    file-written g.O.Sink.taken g.O.Sink.faults g.O.Sink.sound g.O.Sink.room c.args.out.now c.write_counts.new.out _ lists _ sound steps steps _ _ _ _ _ _ _ (check-is c.args.name.now)
-    refl c.in_ok-checked.ensures.read (λ file h. check-text c.args.name.now (pipeline_of c.in_ok-checked.checked) _ h)
-    (record { all = w.all; prefix = tt; failed = tt; later = w.later; stays = w.stays; room_left = w.room_left; blameless = w.blameless }) tt refl
+pub returns-in-Ok : goal.returns-in-Ok
+unfolding work
+returns-in-Ok g c = λ keeper steps.
+    let q = Check c.args.name.now in
+    let h = file-read keeper (Some q) Pipeline refl pipeline-one c.in_ok-checked.ensures in
+    written {q = q} _ (unchanged steps) h (Ok None)
+    (seen-all (writes-over (check-text c.args.name.now (pipeline_of c.in_ok-checked.checked) h.held h.loaded) c.in-Ok.ensures)) tt
+    (none steps steps refl) (no-more steps steps refl) refl
 
-pub returns-clause-ended : goal.returns-clause-ended
-returns-clause-ended g c = λ lists sound steps.
-    let w = c.in-Err.ensures in
-    file-written g.O.Sink.taken g.O.Sink.faults g.O.Sink.sound g.O.Sink.room c.args.out.now c.write_counts.new.out _ lists _ sound steps steps _ _ _ _ _ _ _ (check-is c.args.name.now)
-    refl c.in_ok-checked.ensures.read (λ file h. check-text c.args.name.now (pipeline_of c.in_ok-checked.checked) _ h)
-    (record { all = tt; prefix = w.prefix; failed = w.failed; later = w.later; stays = w.stays; room_left = λ s. tt; blameless = λ s r. absurd (cc (w.blameless s r).0) }) refl tt
+pub returns : goal.returns
+unfolding work
+returns g c = λ keeper steps.
+    let q = Check c.args.name.now in
+    let h = file-read keeper (Some q) Pipeline refl pipeline-one c.in_ok-checked.ensures in
+    written {q = q} _ (unchanged steps) h (Err Unwritten)
+    (seen-part (writes-over (check-text c.args.name.now (pipeline_of c.in_ok-checked.checked) h.held h.loaded) c.in-Err.ensures)) refl
+    tt (no-more steps steps refl) tt

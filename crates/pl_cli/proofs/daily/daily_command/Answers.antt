@@ -1,32 +1,26 @@
-use Rattle.std.proofs.Common.{refl, ap, ◌∙◌}
+use Rattle.std.proofs.Common.{inr}
 use Rattle.std.proofs.lemmas.Result.{err_from_is_err_and}
-use Rattle.pl_words.specs.Request.{RunRequest}
+use Rattle.pl_words.specs.Request.{Daily}
 use Rattle.pl_words.specs.Views.{daily_of}
-use Rattle.pl_cli.proofs.Ended.{caused-loaded, failed-or, leaves-or}
-use Rattle.pl_cli.proofs.Days.{days-stop, days-written}
+use Rattle.pl_cli.specs.Commands.{sink_view}
+use Rattle.pl_cli.proofs.Ended.{stopped, seen-or, kept-view, quiet, written-or}
+use Rattle.pl_cli.proofs.Days.{days-load, days-text, most-days, ok-days}
 use Rattle.pl_cli.proofs.daily.daily_command.Goals as goal
 
-pub returns-in_err-loaded-clause-ended : goal.returns-in_err-loaded-clause-ended
-returns-in_err-loaded-clause-ended g c =
+pub returns-in_err-loaded : goal.returns-in_err-loaded
+returns-in_err-loaded g c =
     let p = err_from_is_err_and c.from_residual.result c.from_residual.ensures.1 in
-    let load = rw c.run.ensures at c.in_err-loaded.ensures.load in
-    rw (p.1, p.2) (days-stop _ (daily_of c.args.request.now) _ _ _ c.in_err-loaded.ensures.risen load)
+    let q = daily_of c.args.request.now in
+    rw (p.1, p.2) (stopped {q = Daily q} _ _ (days-load q _ c.run.ensures c.in_err-loaded.ensures.load))
 
-pub returns-clause-ended : goal.returns-clause-ended
-returns-clause-ended g c =
+pub returns : goal.returns
+returns g c =
     let w = c.write_days.ensures in
-    let load = rw c.run.ensures at c.in_ok-loaded.ensures.load in
-    days-written g.O.Sink.taken g.O.Sink.faults g.O.Sink.sound g.O.Sink.room c.args.out.now c.write_days.new.out _ _ _ _ _ _ (daily_of c.args.request.now) _ _
-    load w.writes w.fault w.quiet w.cost w.most
-
-pub returns-clause-caused : goal.returns-clause-caused
-returns-clause-caused g c =
-    let w = c.write_days.ensures in
-    caused-loaded _ _ _ _ c.write_days.result w.fault
-    (λ m. let kept = w.memory m in (rw kept.0 refl, rw kept.0 refl, kept.1)) (failed-or _ _ _ _ _ _ _ _ w.writes)
-
-pub returns-clause-alone : goal.returns-clause-alone
-returns-clause-alone g c = λ none. c.in_ok-loaded.ensures.alone (ap (λ (q : RunRequest). q.options.adjustments) c.run.ensures ∙ none)
-
-pub returns-clause-out : goal.returns-clause-out
-returns-clause-out g c = leaves-or _ _ _ _ _ _ _ _ _ c.write_days.ensures.writes c.write_days.ensures.memory
+    let q = daily_of c.args.request.now in
+    let h = days-load q _ c.run.ensures c.in_ok-loaded.ensures.load in
+    let l = c.in_ok-loaded.loaded in
+    written-or {q = Daily q} (sink_view g.O.Sink.taken g.O.Sink.sound g.O.Sink.faults g.O.Sink.room c.args.out.now) (sink_view g.O.Sink.taken g.O.Sink.sound g.O.Sink.faults g.O.Sink.room c.write_days.new.out) _ _ h c.write_days.result
+    (seen-or (days-text h.held q l h.loaded) w.writes) w.fault
+    (kept-view g.O.Sink.taken g.O.Sink.sound g.O.Sink.faults g.O.Sink.room _ _ _ _ _ w.memory)
+    (ok-days q h.held l _ _ c.write_days.result h.loaded w.cost) (inr (most-days q h.held l _ _ h.loaded w.most))
+    (quiet c.write_days.result w.quiet)

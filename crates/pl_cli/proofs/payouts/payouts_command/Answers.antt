@@ -1,23 +1,26 @@
 use Rattle.std.proofs.Common.{refl}
 use Rattle.std.proofs.lemmas.Result.{err_from_is_err_and}
+use Rattle.pl_outside.proofs.Pieces.{writes-over}
+use Rattle.pl_words.specs.Request.{Payouts}
 use Rattle.pl_words.specs.Views.{payouts_of}
-use Rattle.pl_cli.proofs.Ended.{caused-written}
-use Rattle.pl_cli.proofs.Further.{payouts-stops, payouts-written}
+use Rattle.pl_judge.specs.Work.{work}
+use Rattle.pl_load.specs.Views.{unchanged}
+use Rattle.pl_cli.proofs.Ended.{stopped, written, seen-writes, none, no-more, quiet, when-ok}
+use Rattle.pl_cli.proofs.Further.{payouts-text}
 use Rattle.pl_cli.proofs.payouts.payouts_command.Goals as goal
 
-pub returns-in_err-loaded-clause-ended : goal.returns-in_err-loaded-clause-ended
-returns-in_err-loaded-clause-ended g c = λ lists sound steps.
+pub returns-in_err-loaded : goal.returns-in_err-loaded
+unfolding work
+returns-in_err-loaded g c = λ keeper steps.
     let p = err_from_is_err_and c.from_residual.result c.from_residual.ensures.1 in
-    rw (p.1, p.2)
-    (payouts-stops g.O.Sink.taken g.O.Sink.faults g.O.Sink.sound g.O.Sink.room c.args.out.now c.args.out.now _ lists _ sound steps steps (payouts_of c.args.request.now) _ _ _
-    c.in_err-loaded.ensures.risen c.in_err-loaded.ensures.load)
+    rw (p.1, p.2) (stopped {q = Payouts (payouts_of c.args.request.now)} _ steps (c.in_err-loaded.ensures.load keeper))
 
-pub returns-clause-ended : goal.returns-clause-ended
-returns-clause-ended g c = λ lists sound steps.
+pub returns : goal.returns
+unfolding work
+returns g c = λ keeper steps.
     let w = c.write_loaded_payouts.ensures in
-    payouts-written g.O.Sink.taken g.O.Sink.faults g.O.Sink.sound g.O.Sink.room c.args.out.now c.write_loaded_payouts.new.out _ lists _ sound steps steps (payouts_of c.args.request.now) _ _ refl
-    c.in_ok-loaded.ensures.load w.writes w.unwritten w.quiet
-
-pub returns-clause-caused : goal.returns-clause-caused
-returns-clause-caused g c =
-    caused-written _ _ _ _ c.write_loaded_payouts.result c.write_loaded_payouts.ensures.unwritten c.write_loaded_payouts.ensures.writes.failed
+    let q = payouts_of c.args.request.now in
+    let h = c.in_ok-loaded.ensures.load keeper in
+    written {q = Payouts q} _ (unchanged steps) h c.write_loaded_payouts.result
+    (seen-writes (writes-over (payouts-text h.held q c.in_ok-loaded.loaded h.loaded) w.writes)) w.unwritten
+    (when-ok c.write_loaded_payouts.result (none steps steps refl)) (no-more steps steps refl) (quiet c.write_loaded_payouts.result w.quiet)

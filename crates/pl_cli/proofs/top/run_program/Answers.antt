@@ -1,7 +1,8 @@
 use Rattle.std.proofs.Common.{Err, map, string_bytes, ap, ◌∙◌, refl}
 use Rattle.pl_words.specs.Request.{request}
 use Rattle.pl_judge.specs.Faults.{judged_line, judged_status}
-use Rattle.pl_cli.specs.Commands.{fault_of, numbers_told}
+use Rattle.pl_load.specs.Views.{shelf_view, keeper_view}
+use Rattle.pl_cli.specs.Commands.{sink_view, fault_of, numbers_told}
 use Rattle.pl_judge.specs.declared.fault.Fault.TheVariants.{Memory}
 use Rattle.pl_cli.proofs.Finished.{asked-lent, run-of, no-words}
 use Rattle.pl_cli.proofs.Causes.{by-answer, part-left, part-alone, sink-left}
@@ -23,16 +24,19 @@ returns-in-Ok g c =
       store = causes.unloaded;
       write = causes.unwritten;
       kept = causes.same;
-      alone = λ none. e.alone (rw (← asked) none);
-      shelf = e.shelf;
-      keeper = e.keeper;
-      out = e.out;
+      alone = λ none. let u = e.alone (rw (← asked) none) in record { no_fault = u.no_fault; no_call = u.no_call };
+      shelf = record { keeps = e.shelf_left.keeps; stays = e.shelf_left.stays; later = e.shelf_left.later };
+      keeper = record { keeps = e.keeper_left.keeps; stays = e.keeper_left.stays; later = e.keeper_left.later };
+      out = record { stays = e.out_left.stays; later = e.out_left.later };
       err = c.finish.ensures.err;
     }
 
 pub returns-in-Err : goal.returns-in-Err
 returns-in-Err g c =
-    let run = run-of _ _ (Err Memory) c.finish-in-Err.result c.finish-in-Err.ensures.status (no-words _ _) in
+    let shelf = shelf_view g.S.Shelf.holds g.S.Shelf.begun g.S.Shelf.sound g.S.Shelf.faults c.args.shelf.now in
+    let keeper = keeper_view g.K.AdjustKeeper.lists g.K.AdjustKeeper.sound g.K.AdjustKeeper.faults g.K.AdjustKeeper.calls c.args.keeper.now in
+    let out = sink_view g.O.Sink.taken g.O.Sink.sound g.O.Sink.faults g.O.Sink.room c.args.out.now in
+    let run = run-of _ _ (Err Memory) c.finish-in-Err.result c.finish-in-Err.ensures.status (no-words shelf keeper out c.args.steps.now _) in
     let causes = by-answer _ _ _ _ _ (Err Memory) c.finish-in-Err.result c.finish-in-Err.ensures.status (refl, refl, refl) in
     record {
       run = (_, _, run, c.finish-in-Err.ensures.told);

@@ -1,36 +1,45 @@
+use Rattle.std.proofs.Common.{◌≡◌, Some, true, false, refl}
 use Rattle.std.proofs.lemmas.Result.{err_from_is_err_and}
+use Rattle.pl_terms.specs.Checked.{pipeline_of}
+use Rattle.pl_world.specs.Worlds.{owned_world}
+use Rattle.pl_judge.specs.Held.{world_held}
+use Rattle.pl_words.specs.declared.request.InputFile.TheVariants.{Pipeline}
+use Rattle.pl_words.specs.Request.{Explain}
 use Rattle.pl_words.specs.Views.{explain_of}
-use Rattle.pl_judge.proofs.Steps.{risen-inside}
-use Rattle.pl_load.proofs.CellReads.{no-pipeline, no-data, no-cell, all-loaded}
+use Rattle.pl_judge.proofs.StepsRead.{cell-quiet}
+use Rattle.pl_load.proofs.Joined.{is_file, file-read, pipeline-one, judged, refused, stops, part-stops, part-stops-later, part-done, stops-later, both-done}
+use Rattle.pl_load.proofs.Works.{whole, cell_rest, cell-first, cell-world}
+use Rattle.pl_load.proofs.KnownWorlds.{explain-asks}
 use Rattle.pl_load.proofs.cells.load_cell.Goals as goal
 
 pub returns-in_err-checked-clause-load : goal.returns-in_err-checked-clause-load
 returns-in_err-checked-clause-load g c =
     let p = err_from_is_err_and c.from_residual.result c.from_residual.ensures.1 in
-    rw (p.1, p.2) (no-pipeline _ _ _ _ (explain_of c.args.request.now) _ c.in_err-checked.ensures.read)
+    rw (p.1, p.2) (stops (file-read _ (Some (Explain (explain_of c.args.request.now))) Pipeline refl pipeline-one c.in_err-checked.ensures) _ (λ held. refl))
 
 pub returns-in_err-world-clause-load : goal.returns-in_err-world-clause-load
 returns-in_err-world-clause-load g c =
     let p = err_from_is_err_and c.from_residual-in_err-world.result c.from_residual-in_err-world.ensures.1 in
-    let checked = c.in_ok-checked.ensures in
-    let parts = rw (checked.leaves.keeps, checked.leaves.stays) at c.in_err-world.ensures.parts in
-    rw (p.1, p.2) (no-data _ _ _ _ (explain_of c.args.request.now) _ _ checked.read parts)
+    let q = explain_of c.args.request.now in
+    rw (p.1, p.2)
+    (stops-later (file-read _ (Some (Explain q)) Pipeline refl pipeline-one c.in_ok-checked.ensures)
+    (part-stops (cell_rest q (pipeline_of c.in_ok-checked.checked)) (c.in_err-world.ensures.data (Some (Explain q)) (explain-asks q)) _ (λ held. refl)) (is_file Pipeline) false (λ f r m. cell-first q _ f r m))
 
 pub returns-in_err-cell-clause-load : goal.returns-in_err-cell-clause-load
 returns-in_err-cell-clause-load g c =
     let p = err_from_is_err_and c.from_residual-in_err-cell.result c.from_residual-in_err-cell.ensures.1 in
-    let checked = c.in_ok-checked.ensures in
-    let parts = rw (checked.leaves.keeps, checked.leaves.stays) at c.in_ok-world.ensures.parts in
-    rw (p.1, p.2) (no-cell _ _ _ _ (explain_of c.args.request.now) _ _ _ checked.read parts c.in_err-cell.ensures.ends)
-
-pub returns-in_err-cell-clause-risen : goal.returns-in_err-cell-clause-risen
-returns-in_err-cell-clause-risen g c =
-    let p = err_from_is_err_and c.from_residual-in_err-cell.result c.from_residual-in_err-cell.ensures.1 in
-    rw (p.1, p.2) (risen-inside _ _ _ c.in_err-cell.ensures.risen)
+    let q = explain_of c.args.request.now in
+    let cell = c.in_err-cell.ensures in
+    rw (p.1, p.2)
+    (stops-later (file-read _ (Some (Explain q)) Pipeline refl pipeline-one c.in_ok-checked.ensures)
+    (part-stops-later (cell_rest q (pipeline_of c.in_ok-checked.checked)) (c.in_ok-world.ensures.data (Some (Explain q)) (explain-asks q)) (refused _ _ (Some (Explain q)) (cell-quiet _ _ _ q) cell.ends cell.risen) whole true
+    (λ f r m. cell-world q _ _ f r m)) (is_file Pipeline) false (λ f r m. cell-first q _ f r m))
 
 pub returns-clause-load : goal.returns-clause-load
 returns-clause-load g c =
-    let checked = c.in_ok-checked.ensures in
-    let parts = rw (checked.leaves.keeps, checked.leaves.stays) at c.in_ok-world.ensures.parts in
+    let q = explain_of c.args.request.now in
     let cell = c.in_ok-cell.ensures in
-    all-loaded _ _ _ _ (explain_of c.args.request.now) _ _ checked.read parts cell.ends cell.term cell.asset cell.session
+    both-done (file-read _ (Some (Explain q)) Pipeline refl pipeline-one c.in_ok-checked.ensures)
+    (part-done (cell_rest q (pipeline_of c.in_ok-checked.checked)) (λ held. world_held held q.world ≡ owned_world c.in_ok-world.world) (c.in_ok-world.ensures.data (Some (Explain q)) (explain-asks q)) (judged _ _ (Some (Explain q)) (cell-quiet _ _ _ q) cell.ends) whole true
+    (λ f r m. cell-world q _ _ f r m) (λ f r m h. m.world)) (is_file Pipeline) false (λ f r m. cell-first q _ f r m)
+    (λ f r m h. record { pipeline = m; world = h; term = cell.term; asset = cell.asset; session = cell.session })

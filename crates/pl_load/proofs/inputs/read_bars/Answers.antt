@@ -12,7 +12,7 @@ unfolding bars_rule
 returns-in_err-read-clause-read g c =
     let p = err_from_is_err_and c.from_residual-in_err-read.result c.from_residual-in_err-read.ensures.1 in
     let tells = reader-tells bars_fault _ _ p.0 p.2.is (rw c.deref.ensures.value at c.in_err-read.ensures.exact) in
-    rw p.1 (read-stops files.Bars (bars_rule c.args.sessions.now c.args.assets.now) _ p.0 c.in_ok-bytes.ensures.read c.in_ok-bytes.ensures.within tells)
+    rw p.1 (read-stops files.Bars (bars_rule c.args.sessions.now c.args.assets.now) _ p.0 c.in_ok-bytes.ensures.read c.in_ok-bytes.ensures.within tells p.2.inside)
 
 pub returns-clause-read : goal.returns-clause-read
 unfolding bars_rule bars_in

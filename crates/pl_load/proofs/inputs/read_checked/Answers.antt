@@ -5,17 +5,17 @@ use Rattle.pl_terms.specs.Checked.{Parts, pipeline_of}
 use Rattle.pl_load.proofs.ScriptReads.{pipeline-read, no-pipeline, no-script}
 use Rattle.pl_load.proofs.inputs.read_checked.Goals as goal
 
-pub returns-in_err-script-clause-read : goal.returns-in_err-script-clause-read
-returns-in_err-script-clause-read g c =
+pub returns-in_err-script : goal.returns-in_err-script
+returns-in_err-script g c =
     let p = err_from_is_err_and c.from_residual.result c.from_residual.ensures.1 in
-    rw (p.1, p.2) (no-script _ _ c.in_err-script.ensures.read)
+    rw (p.1, p.2) (no-script _ _ c.in_err-script.ensures)
 
-pub returns-in_err-check-clause-read : goal.returns-in_err-check-clause-read
-returns-in_err-check-clause-read g c =
+pub returns-in_err-check : goal.returns-in_err-check
+returns-in_err-check g c =
     let p = err_from_is_err_and c.from_residual-in_err-check.result c.from_residual-in_err-check.ensures.1 in
     rw p.1
-    (no-pipeline (λ (s : Script). parsed s) _ _ p.0 c.in_ok-script.ensures.read c.in_err-check.ensures.value p.2.is)
+    (no-pipeline (λ (s : Script). parsed s) _ _ p.0 c.in_ok-script.ensures c.in_err-check.ensures.value p.2.is p.2.inside)
 
-pub returns-clause-read : goal.returns-clause-read
-returns-clause-read g c =
-    pipeline-read (λ (s : Script). parsed s) (λ (p : Parts). pipeline_of p) _ c.in_ok-script.ensures.read c.in_ok-check.ensures.value
+pub returns : goal.returns
+returns g c =
+    pipeline-read (λ (s : Script). parsed s) (λ (p : Parts). pipeline_of p) _ c.in_ok-script.ensures c.in_ok-check.ensures.value

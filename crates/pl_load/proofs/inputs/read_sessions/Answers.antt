@@ -7,15 +7,15 @@ use Rattle.pl_judge.specs.Held.{days_in}
 use Rattle.pl_load.proofs.FileReads.{read-passes, read-stops, reader-tells}
 use Rattle.pl_load.proofs.inputs.read_sessions.Goals as goal
 
-pub returns-in_err-read-clause-read : goal.returns-in_err-read-clause-read
+pub returns-in_err-read : goal.returns-in_err-read
 unfolding sessions_rule
-returns-in_err-read-clause-read g c =
+returns-in_err-read g c =
     let p = err_from_is_err_and c.from_residual-in_err-read.result c.from_residual-in_err-read.ensures.1 in
     let tells = reader-tells sessions_fault _ _ p.0 p.2.is (rw c.deref.ensures.value at c.in_err-read.ensures.exact) in
-    rw p.1 (read-stops files.Sessions sessions_rule _ p.0 c.in_ok-bytes.ensures.read c.in_ok-bytes.ensures.within tells)
+    rw p.1 (read-stops files.Sessions sessions_rule _ p.0 c.in_ok-bytes.ensures.read c.in_ok-bytes.ensures.within tells p.2.inside)
 
-pub returns-clause-read : goal.returns-clause-read
+pub returns : goal.returns
 unfolding sessions_rule days_in
-returns-clause-read g c =
+returns g c =
     let exact = rw c.deref.ensures.value at c.in_ok-read.ensures.exact in
     read-passes files.Sessions sessions_rule _ c.in_ok-read.field-0 c.in_ok-bytes.ensures.read c.in_ok-bytes.ensures.within (rw exact refl) (rw exact refl)

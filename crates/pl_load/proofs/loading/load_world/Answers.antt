@@ -1,68 +1,84 @@
-use Rattle.std.proofs.Common.{◌∙◌, ap}
+use Rattle.std.proofs.Common.{◌∙◌, Some, true, refl, sym}
 use Rattle.std.proofs.lemmas.Result.{err_from_is_err_and}
-use Rattle.pl_words.specs.Request.{WorldNames}
+use Rattle.pl_terms.specs.Checked.{pipeline_of}
+use Rattle.pl_words.specs.Request.{Run, run_world}
 use Rattle.pl_words.specs.Views.{run_of}
-use Rattle.pl_judge.proofs.Steps.{risen-inside}
-use Rattle.pl_load.proofs.RunReads.{no-data, no-dates, no-plan, no-room, all-loaded}
-use Rattle.pl_load.proofs.KnownWorlds.{plan-known}
+use Rattle.pl_judge.proofs.StepsRead.{dates-quiet, plan-quiet}
+use Rattle.pl_judge.specs.Held.{days_held, world_held}
+use Rattle.pl_judge.specs.Range.{range_steps}
+use Rattle.pl_load.proofs.Joined.{judged, refused, wants-memory, stops, part-stops, part-stops-later, part-done, stops-later, both-done}
+use Rattle.pl_load.proofs.Works.{whole, range-is, world-first}
+use Rattle.pl_load.proofs.KnownWorlds.{plan-known, run-asks, world-known, shown-same}
 use Rattle.pl_load.proofs.loading.load_world.Goals as goal
 
 pub returns-in_err-world-clause-load : goal.returns-in_err-world-clause-load
 returns-in_err-world-clause-load g c =
     let p = err_from_is_err_and c.from_residual.result c.from_residual.ensures.1 in
-    let parts = rw c.world_names.ensures at c.in_err-world.ensures.parts in
-    rw (p.1, p.2) (λ read. no-data _ _ _ _ (run_of c.args.request.now) _ _ read parts)
+    let q = run_of c.args.request.now in
+    let read = rw c.world_names.ensures at c.in_err-world.ensures.data in
+    rw (p.1, p.2) (stops (read (Some (Run q)) (run-asks q)) _ (λ held. refl))
 
 pub returns-in_err-range-clause-load : goal.returns-in_err-range-clause-load
 returns-in_err-range-clause-load g c =
     let p = err_from_is_err_and c.from_residual-in_err-range.result c.from_residual-in_err-range.ensures.1 in
-    let parts = rw c.world_names.ensures at c.in_ok-world.ensures.parts in
-    rw (p.1, p.2) (λ read. no-dates _ _ _ _ (run_of c.args.request.now) _ _ _ read parts c.in_err-range.ensures.ends)
+    let q = run_of c.args.request.now in
+    let read = rw c.world_names.ensures at c.in_ok-world.ensures.data in
+    let range = c.in_err-range.ensures in
+    rw (p.1, p.2)
+    (stops-later (read (Some (Run q)) (run-asks q))
+    (part-stops (λ held. range_steps (pipeline_of c.args.checked.now) c.in_ok-world.world.sessions q.from q.to q.options.as_of)
+    (refused _ _ (Some (Run q)) (dates-quiet q.from q.to q.options.as_of _) range.ends range.risen) _ (λ held. refl)) whole true
+    (λ f r m. world-first q (pipeline_of c.args.checked.now) _ f r m))
 
 pub returns-in_err-plan-clause-load : goal.returns-in_err-plan-clause-load
 returns-in_err-plan-clause-load g c =
     let p = err_from_is_err_and c.from_residual-in_err-plan.result c.from_residual-in_err-plan.ensures.1 in
+    let q = run_of c.args.request.now in
+    let pipeline = pipeline_of c.args.checked.now in
+    let read = rw c.world_names.ensures at c.in_ok-world.ensures.data in
     let range = c.in_ok-range.ensures in
-    let parts = rw c.world_names.ensures at c.in_ok-world.ensures.parts in
+    let plan = c.in_err-plan.ensures in
     rw (p.1, p.2)
-    (λ read. no-plan _ _ _ _ (run_of c.args.request.now) _ _ _ _ _ _ read parts range.ends range.from range.to c.in_err-plan.ensures.ends)
-
-pub returns-in_err-range-clause-risen : goal.returns-in_err-range-clause-risen
-returns-in_err-range-clause-risen g c =
-    let p = err_from_is_err_and c.from_residual-in_err-range.result c.from_residual-in_err-range.ensures.1 in
-    rw (p.1, p.2) (risen-inside _ _ _ c.in_err-range.ensures.risen)
-
-pub returns-in_err-plan-clause-risen : goal.returns-in_err-plan-clause-risen
-returns-in_err-plan-clause-risen g c =
-    let p = err_from_is_err_and c.from_residual-in_err-plan.result c.from_residual-in_err-plan.ensures.1 in
-    rw (p.1, p.2) (risen-inside _ _ _ c.in_err-plan.ensures.risen)
+    (stops-later (read (Some (Run q)) (run-asks q))
+    (part-stops-later (λ held. range_steps pipeline c.in_ok-world.world.sessions q.from q.to q.options.as_of) (judged _ _ (Some (Run q)) (dates-quiet q.from q.to q.options.as_of _) range.ends)
+    (refused _ _ (Some (Run q)) (plan-quiet pipeline _ _ _) plan.ends plan.risen) whole true
+    (λ f r m. range-is pipeline _ q.from q.to q.options.as_of _ _ range.from range.to)) whole true (λ f r m. world-first q pipeline _ f r m))
 
 pub returns-in_err-known-clause-load : goal.returns-in_err-known-clause-load
 returns-in_err-known-clause-load g c =
     let p = err_from_is_err_and c.from_residual-in_err-known.result c.from_residual-in_err-known.ensures.1 in
-    let parts = rw c.world_names.ensures at c.in_ok-world.ensures.parts in
-    rw (p.1, p.2, c.in_err-known.ensures.memory) (λ read. no-room _ _ _ _ (run_of c.args.request.now) _ _ read parts)
-
-pub returns-in_err-known-clause-risen : goal.returns-in_err-known-clause-risen
-returns-in_err-known-clause-risen g c =
-    let p = err_from_is_err_and c.from_residual-in_err-known.result c.from_residual-in_err-known.ensures.1 in
-    rw (p.1, p.2, c.in_err-known.ensures.memory) tt
+    let q = run_of c.args.request.now in
+    let pipeline = pipeline_of c.args.checked.now in
+    let read = rw c.world_names.ensures at c.in_ok-world.ensures.data in
+    rw (p.1, p.2, c.in_err-known.ensures.memory)
+    (stops-later (read (Some (Run q)) (run-asks q)) (wants-memory _ _ (Some (Run q)) (λ held. range_steps pipeline c.in_ok-world.world.sessions q.from q.to q.options.as_of) (λ held (u : Unit {0}). Unit {0})) whole true
+    (λ f r m. world-first q pipeline _ f r m))
 
 pub returns-clause-load : goal.returns-clause-load
 returns-clause-load g c =
+    let q = run_of c.args.request.now in
+    let pipeline = pipeline_of c.args.checked.now in
+    let w = c.in_ok-world.world in
+    let v = c.in_ok-known.known in
+    let read = rw c.world_names.ensures at c.in_ok-world.ensures.data in
     let range = c.in_ok-range.ensures in
-    let parts = rw c.world_names.ensures at c.in_ok-world.ensures.parts in
     let plan = c.in_ok-plan.ensures in
-    λ read. all-loaded _ _ _ _ (run_of c.args.request.now) _ _ _ _ _ _ _ read parts range.ends range.from range.to range.as_of range.date range.known plan.ends plan.plan plan.from plan.to
-    c.in_ok-known.ensures.known
+    let known = c.in_ok-known.ensures.known in
+    let made = c.in_ok-plan.plan in
+    both-done (read (Some (Run q)) (run-asks q))
+    (part-done (λ held. range_steps pipeline w.sessions q.from q.to q.options.as_of) (λ held. Unit {0}) (judged _ _ (Some (Run q)) (dates-quiet q.from q.to q.options.as_of _) range.ends)
+    (judged _ _ (Some (Run q)) (plan-quiet pipeline _ _ _) plan.ends) whole true
+    (λ f r m. range-is pipeline _ q.from q.to q.options.as_of _ _ range.from range.to) (λ f r m h. tt)) whole true
+    (λ f r m. world-first q pipeline w f r m)
+    (λ f r m h. record {
+      world = world-known q.options.as_of (days_held f) (world_held f (run_world q)) w v _ m.days m.world range.as_of range.date known;
+      same = rw m.world (shown-same w v _ pipeline made.from made.to (rw plan.to range.known) known);
+      plan = rw m.days plan.plan;
+      from = rw m.days (sym range.from ∙ sym plan.from);
+      to = rw m.days (sym range.to ∙ sym plan.to);
+    })
 
-pub returns-clause-ready : goal.returns-clause-ready
-returns-clause-ready g c =
+pub returns-clause-plan : goal.returns-clause-plan
+returns-clause-plan g c =
     let plan = c.in_ok-plan.ensures in
-    record {
-      made = c.in_ok-known.ensures.made;
-      plan = plan-known _ _ _ _ _ (rw plan.to c.in_ok-range.ensures.known) c.in_ok-known.ensures.known plan.plan;
-    }
-
-pub returns-clause-alone : goal.returns-clause-alone
-returns-clause-alone g c = λ none. c.in_ok-world.ensures.alone (ap (λ (q : WorldNames). q.adjustments) c.world_names.ensures ∙ none)
+    plan-known _ _ _ _ _ (rw plan.to c.in_ok-range.ensures.known) c.in_ok-known.ensures.known plan.plan

@@ -1,34 +1,38 @@
-use Rattle.std.proofs.Common.{◌∙◌}
+use Rattle.std.proofs.Common.{false, refl}
 use Rattle.std.proofs.lemmas.Result.{err_from_is_err_and}
+use Rattle.pl_words.specs.declared.request.InputFile.TheVariants.{Labels, Bars}
 use Rattle.pl_words.specs.Views.{world_names_of}
-use Rattle.pl_load.proofs.DataReads.{no-labels, no-bars}
+use Rattle.pl_load.proofs.Joined.{is_file, file-read, file-one, labels-one, stops, part-stops, part-stops-later, part-done, stops-later, both-done}
+use Rattle.pl_load.proofs.Works.{after_labels}
+use Rattle.pl_load.proofs.DataReads.{AreBarsHeld}
 use Rattle.pl_load.proofs.loading.read_rows.Goals as goal
 
-pub returns-in_err-labels-clause-parts : goal.returns-in_err-labels-clause-parts
-returns-in_err-labels-clause-parts g c =
+pub returns-in_err-labels-clause-rows : goal.returns-in_err-labels-clause-rows
+returns-in_err-labels-clause-rows g c = λ asked names.
     let p = err_from_is_err_and c.from_residual.result c.from_residual.ensures.1 in
-    rw (p.1, p.2) (λ s a. no-labels _ _ _ _ (world_names_of c.args.names.now) _ _ _ s a c.in_err-labels.ensures.read)
+    rw (p.1, p.2) (stops (file-read _ asked Labels names.labels (labels-one _ _) c.in_err-labels.ensures.read) _ (λ held. refl))
 
-pub returns-in_err-bars-clause-parts : goal.returns-in_err-bars-clause-parts
-returns-in_err-bars-clause-parts g c =
+pub returns-in_err-bars-clause-rows : goal.returns-in_err-bars-clause-rows
+returns-in_err-bars-clause-rows g c = λ asked names.
     let p = err_from_is_err_and c.from_residual-in_err-bars.result c.from_residual-in_err-bars.ensures.1 in
-    let l = c.in_ok-labels.ensures in
-    let bars = rw (l.leaves.keeps, l.leaves.stays) at c.in_err-bars.ensures.read in
-    rw (p.1, p.2) (λ s a. no-bars _ _ _ _ (world_names_of c.args.names.now) _ _ _ _ s a l.read bars)
+    rw (p.1, p.2)
+    (stops-later (file-read _ asked Labels names.labels (labels-one _ _) c.in_ok-labels.ensures.read)
+    (part-stops (after_labels (world_names_of c.args.names.now) c.args.sessions.now c.args.assets.now) (file-read _ asked Bars names.bars (file-one Bars _) c.in_err-bars.ensures.read) _ (λ held. refl))
+    (is_file Labels) false (λ f r m. refl))
 
-pub returns-in_err-adjustments-clause-parts : goal.returns-in_err-adjustments-clause-parts
-returns-in_err-adjustments-clause-parts g c =
+pub returns-in_err-adjustments-clause-rows : goal.returns-in_err-adjustments-clause-rows
+returns-in_err-adjustments-clause-rows g c = λ asked names.
     let p = err_from_is_err_and c.from_residual-in_err-adjustments.result c.from_residual-in_err-adjustments.ensures.1 in
-    let l = c.in_ok-labels.ensures in
-    let b = c.in_ok-bars.ensures in
-    let bars = rw (l.leaves.keeps, l.leaves.stays) at b.read in
-    let rest = rw (b.leaves.keeps ∙ l.leaves.keeps, b.leaves.stays ∙ l.leaves.stays) at c.in_err-adjustments.ensures.parts in
-    rw (p.1, p.2) (λ s a. rest _ _ s a l.read bars)
+    rw (p.1, p.2)
+    (stops-later (file-read _ asked Labels names.labels (labels-one _ _) c.in_ok-labels.ensures.read)
+    (part-stops-later (after_labels (world_names_of c.args.names.now) c.args.sessions.now c.args.assets.now)
+    (file-read _ asked Bars names.bars (file-one Bars _) c.in_ok-bars.ensures.read) (c.in_err-adjustments.ensures.revised asked names) (is_file Bars) false (λ f r m. refl))
+    (is_file Labels) false (λ f r m. refl))
 
-pub returns-clause-parts : goal.returns-clause-parts
-returns-clause-parts g c =
-    let l = c.in_ok-labels.ensures in
-    let b = c.in_ok-bars.ensures in
-    let bars = rw (l.leaves.keeps, l.leaves.stays) at b.read in
-    let rest = rw (b.leaves.keeps ∙ l.leaves.keeps, b.leaves.stays ∙ l.leaves.stays) at c.in_ok-adjustments.ensures.parts in
-    λ s a. rest _ _ s a l.read bars
+pub returns-clause-rows : goal.returns-clause-rows
+returns-clause-rows g c = λ asked names.
+    both-done (file-read _ asked Labels names.labels (labels-one _ _) c.in_ok-labels.ensures.read)
+    (part-done (after_labels (world_names_of c.args.names.now) c.args.sessions.now c.args.assets.now)
+    (AreBarsHeld (world_names_of c.args.names.now) c.args.sessions.now c.args.assets.now c.in_ok-bars.bars c.in_ok-adjustments.adjustments)
+    (file-read _ asked Bars names.bars (file-one Bars _) c.in_ok-bars.ensures.read) (c.in_ok-adjustments.ensures.revised asked names) (is_file Bars) false (λ f r m. refl)
+    (λ f r m h. record { bars = m; adjustments = h })) (is_file Labels) false (λ f r m. refl) (λ f r m h. record { labels = m; bars = h.bars; adjustments = h.adjustments })

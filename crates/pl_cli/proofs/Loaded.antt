@@ -1,0 +1,79 @@
+-- What was loaded of a run, and the texts of scripts and pipelines.
+use Rattle.std.proofs.Common.{◌≡◌, ℕ, ◌+◌, ◌≤◌, Bool, cond, List, [], Option, Some, Result, Ok, Err, OnOk, IfOk, refl, sym, ap, ◌∙◌}
+use Rattle.pl_spec.specs.declared.Format.{Format}
+use Rattle.pl_spec.specs.World.{World}
+use Rattle.pl_spec.specs.Table.{Pipeline, table}
+use Rattle.pl_spec.specs.Text.{text}
+use Rattle.pl_syntax.specs.Spells.{Parsed}
+use Rattle.pl_syntax.specs.Canonical.{script_text}
+use Rattle.pl_terms.specs.Checked.{pipeline_of}
+use Rattle.pl_planner.specs.Plans.{Planned}
+use Rattle.pl_runner.specs.Runs.{run_steps}
+use Rattle.pl_words.specs.declared.request.InputFile.TheVariants as files
+use Rattle.pl_words.specs.Request.{Run, Fmt, Check, RunRequest, run_world}
+use Rattle.pl_judge.specs.declared.fault.Fault.{Fault}
+use Rattle.pl_judge.specs.Contents.{Contents}
+use Rattle.pl_judge.specs.Held.{script_in, pipeline_in, pipeline_held, world_held}
+use Rattle.pl_judge.specs.Known.{world_known}
+use Rattle.pl_load.specs.declared.loading.Loaded.{Loaded}
+use Rattle.pl_load.specs.Loads.{IsLoaded}
+use Rattle.pl_world.specs.Worlds.{owned_world}
+use Rattle.pl_world.specs.Known.{ShowsSame}
+use Rattle.pl_cli.specs.declared.commands.Stats.{Stats}
+use Rattle.pl_cli.specs.Texts.{text_of, check_text, numbers_of, table_stats, run_stats, TakesSteps, TellsNumbers}
+use Rattle.pl_cli.specs.Commands.{loaded_text, loaded_steps, loaded_stats, stats_told}
+
+same-text : (format : Format) (v w : World) (p r : Pipeline) (a b from to : ℕ) → ShowsSame v w r from to → p ≡ r → a ≡ from → b ≡ to
+    → text v r format (table v r from to) ≡ text w p format (table w p a b)
+same-text format v w p r a b from to h c f t = rw (c, f, t) (h.written format)
+
+pub loaded-text : (held : Contents) (q : RunRequest) (l : Loaded) → IsLoaded held q l → loaded_text l q.options.format ≡ text_of held (Some (Run q))
+unfolding text_of
+loaded-text held q l h = same-text q.options.format (owned_world l.world) (world_held held (run_world q)) (pipeline_held held) (pipeline_of l.checked) _ _ l.plan.from l.plan.to h.same h.pipeline h.from h.to
+
+loaded-steps : (held : Contents) (q : RunRequest) (l : Loaded) (P : ℕ → Type 0) → IsLoaded held q l → P (loaded_steps l q.options.chunk) → TakesSteps held (Some (Run q)) P
+loaded-steps held q l P h k =
+    (l.plan, record { is = rw h.pipeline h.plan; from = sym h.from; to = sym h.to }, rw (h.world, h.pipeline) k)
+
+same-numbers : (asked : Bool) (steps : ℕ) (v w : World) (p r : Pipeline) (a b from to : ℕ) → ShowsSame v w r from to → p ≡ r → a ≡ from → b ≡ to
+    → cond asked (table_stats v r (table v r from to) steps) [] ≡ cond asked (table_stats w p (table w p a b) steps) []
+same-numbers asked steps v w p r a b from to h c f t =
+    rw (c, f, t)
+    (ap (λ rows. cond asked (table_stats v r rows steps) []) h.rows
+    ∙ ap (λ texts. cond asked (numbers_of texts r (table w r from to) steps) []) h.codes)
+
+same-steps : (v w : World) (p r : Pipeline) (plan : Planned) (size : ℕ) → v ≡ w → p ≡ r → run_steps w r plan size ≡ run_steps v p plan size
+same-steps v w p r plan size e c = rw (e, c) refl
+
+-- the numbers of what was loaded are those of the run
+loaded-numbers : (held : Contents) (q : RunRequest) (l : Loaded) (line : List ℕ) → IsLoaded held q l
+    → line ≡ loaded_stats q.options.stats l q.options.chunk → TellsNumbers held (Some (Run q)) line
+loaded-numbers held q l line h e = (
+  l.plan,
+  record { is = rw h.pipeline h.plan; from = sym h.from; to = sym h.to },
+  e ∙ same-numbers q.options.stats (loaded_steps l q.options.chunk) (owned_world l.world) (world_held held (run_world q)) (pipeline_held held) (pipeline_of l.checked) _ _ l.plan.from l.plan.to h.same h.pipeline h.from h.to
+      ∙ ap (λ n. run_stats held q n) (same-steps (world_known held q) (owned_world l.world) (pipeline_held held) (pipeline_of l.checked) l.plan q.options.chunk h.world h.pipeline),
+)
+
+pub fmt-text : (name bytes : List ℕ) (script : Parsed) → bytes ≡ script_text script.version script.statements
+    → (held : Contents) → script_in (held.file files.Pipeline) ≡ script → bytes ≡ text_of held (Some (Fmt name))
+unfolding text_of
+fmt-text name bytes script e held h = rw (e, h) refl
+
+pub check-text : (name : List ℕ) (p : Pipeline) (held : Contents) → pipeline_in (held.file files.Pipeline) ≡ p → check_text p ≡ text_of held (Some (Check name))
+unfolding text_of
+check-text name p held h = rw h refl
+
+pub ok-steps : (held : Contents) (q : RunRequest) (l : Loaded) (before now : ℕ) (r : Result (Option Stats) Fault) → IsLoaded held q l
+    → OnOk r (now ≡ before + loaded_steps l q.options.chunk) → OnOk r (TakesSteps held (Some (Run q)) (λ n. now ≡ before + n))
+ok-steps held q l before now (Ok x) h cost = loaded-steps held q l (λ n. now ≡ before + n) h cost
+ok-steps held q l before now (Err f) h cost = tt
+
+pub ok-numbers : (held : Contents) (q : RunRequest) (l : Loaded) (r : Result (Option Stats) Fault) → IsLoaded held q l
+    → IfOk r (λ stats. stats_told stats ≡ loaded_stats q.options.stats l q.options.chunk) → IfOk r (λ stats. TellsNumbers held (Some (Run q)) (stats_told stats))
+ok-numbers held q l (Ok x) h told = loaded-numbers held q l (stats_told x) h told
+ok-numbers held q l (Err f) h told = tt
+
+pub most-steps : (held : Contents) (q : RunRequest) (l : Loaded) (before now : ℕ) → IsLoaded held q l → now ≤ before + loaded_steps l q.options.chunk
+    → TakesSteps held (Some (Run q)) (λ n. now ≤ before + n)
+most-steps held q l before now h most = loaded-steps held q l (λ n. now ≤ before + n) h most
