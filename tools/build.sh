@@ -1,7 +1,7 @@
 # shellcheck shell=bash disable=SC2034,SC2154
-# Builds the proved program. Its libraries are proved some at a time in copies of their sources, which lie in a folder of the build
-# beside an empty library that names them all: the toolchain first reads what stands on top, and the empty one is read soonest.
-# Then the program alone is proved over them.
+# Builds the proved program. Each library is proved in a folder of its own that holds its sources and, as links, all that it stands
+# on: the toolchain locks what lies in a folder, so that in one folder no two libraries could be proved at a time. A library whose
+# own have all been proved starts as soon as a job is free, and first the one that most others wait for. Then the program is proved.
 
 # shellcheck source=tools/room.sh
 . "$top/tools/room.sh"
@@ -31,14 +31,20 @@ count_jobs() {
     echo "${TOHMERIL_JOBS:-$most}"
 }
 
+# The folder of a crate that is built; what was proved lies in out/ there.
+home_of() {
+    echo "$room/$1/crates/$1"
+}
+
 is_proved() {
-    [ -e "$room/crates/$1/out/rlib/stamp" ]
+    [ -e "$room/$1/crates/$1/out/rlib/stamp" ]
 }
 
 # Whether the build has a crate as it stands now, over libraries that are proved.
 is_copied() {
-    local part use here=$top/crates/$1 there=$room/crates/$1
-    grep -qFx "$1: ${uses[$1]}" "$room/crates.txt" 2> /dev/null || return 1
+    local part use here=$top/crates/$1 there
+    there=$(home_of "$1")
+    grep -qFx "$1: ${uses[$1]}" "$room/$1/crates.txt" 2> /dev/null || return 1
     for part in src specs proofs; do
         [ -d "$here/$part" ] || [ -d "$there/$part" ] || continue
         diff -rq "$here/$part" "$there/$part" > /dev/null 2>&1 || return 1
@@ -50,92 +56,143 @@ is_copied() {
 
 # Copies the sources of a crate, and keeps what checks of it left.
 copy_crate() {
-    local part to=$room/crates/$1
+    local part to
+    to=$(home_of "$1")
     mkdir -p "$to"
     for part in src specs proofs data; do
         rm -rf "${to:?}/$part"
         [ ! -d "$top/crates/$1/$part" ] || cp -Rp "$top/crates/$1/$part" "$to/$part"
     done
+    echo "$1: ${uses[$1]}" > "$room/$1/crates.txt"
 }
 
-# Leaves no crate in the build but the libraries. The program's own work stays, as it is built last.
+# Puts what a crate stands on beside it, as links to the files of those crates.
+link_below() {
+    local crate rest part from to
+    for to in "$room/$1"/crates/*; do
+        [ "$(basename "$to")" = "$1" ] || rm -rf "$to"
+    done
+    while read -r crate rest; do
+        echo "$crate: $rest"
+        [ "$crate" != "$1" ] || continue
+        from=$(home_of "$crate") to=$room/$1/crates/$crate
+        mkdir -p "$to/out"
+        for part in src specs proofs out/rlib; do
+            [ ! -d "$from/$part" ] || cp -Rl "$from/$part" "$to/$part"
+        done
+    done < <(crates_below "$top" "$1") > "$room/$1/crates.txt"
+}
+
+# Leaves no crate in the build but those of the program. Of the program its own work stays alone, as it is built last.
 drop_others() {
     local path part
-    for path in "$room"/crates/*; do
-        case " ${libraries[*]} all_libraries pl_main " in
+    for path in "$room"/*/; do
+        case " ${libraries[*]} pl_main unproved " in
             *" $(basename "$path") "*) ;;
             *) rm -rf "$path" ;;
         esac
     done
     for part in src specs proofs data; do
-        rm -rf "$room/crates/pl_main/$part"
+        rm -rf "${room:?}/pl_main/crates/pl_main/$part"
     done
-}
-
-# Writes the build's crates.txt, of these crates.
-list_crates() {
-    local crate
-    for crate in "$@"; do
-        echo "$crate: ${uses[$crate]}"
-    done > "$room/crates.txt"
 }
 
 # Brings the copies of the libraries up to date. What changed, or stands on what did, is not counted as proved any more.
 prepare() {
     local crate
-    mkdir -p "$room/crates"
+    mkdir -p "$room"
     touch "$room/begun"
     drop_others
     for crate in "${libraries[@]}"; do
         if ! is_copied "$crate" || ! is_proved "$crate"; then
-            rm -rf "$room/crates/$crate/out/rlib"
+            rm -rf "$(home_of "$crate")/out/rlib"
             copy_crate "$crate"
         fi
     done
-    mkdir -p "$room/crates/all_libraries/src"
-    printf '%s\n\n' '//! Names all libraries of the program.' '#![tactic(auto)]' > "$room/crates/all_libraries/src/lib.rt"
-    uses[all_libraries]=${libraries[*]}
-    list_crates "${libraries[@]}" all_libraries
+}
+
+# The libraries, those first that the longest chain of others, by their lines, waits for.
+by_chain() {
+    local crate
+    for crate in "${libraries[@]}"; do
+        echo "$crate $(count_lines "$crate") ${uses[$crate]}"
+    done | tac | awk '
+        {
+            chain[$1] += $2 + 500
+            for (i = 3; i <= NF; i++) if (chain[$1] > chain[$i]) chain[$i] = chain[$1]
+            print chain[$1], $1
+        }' | sort -rn | cut -d ' ' -f 2
+}
+
+# The proofs that run: the library of each process.
+declare -A proving=()
+
+can_start() {
+    local use
+    ! is_proved "$1" || return 1
+    case " ${proving[*]} " in
+        *" $1 "*) return 1 ;;
+    esac
+    for use in ${uses[$1]}; do
+        [ -z "${uses[$use]+known}" ] || is_proved "$use" || return 1
+    done
+}
+
+start_proof() {
+    link_below "$1"
+    (cd "$(home_of "$1")" && exec rt lib --jobs 1) > "$room/$1/log" 2>&1 < /dev/null &
+    proving[$!]=$1
+    children+=($!)
+}
+
+# Waits until one of the proofs has ended, and adds what it said to the log.
+end_proof() {
+    local ended=0 status=0 crate
+    wait -n -p ended "${!proving[@]}" || status=$?
+    forget "$ended"
+    crate=${proving[$ended]}
+    unset "proving[$ended]"
+    { echo "== $crate" && cat "$room/$crate/log"; } >> "$log"
+    is_proved "$crate" || fail "$crate" "$status"
 }
 
 prove_libraries() {
-    local crate
-    for crate in "${libraries[@]}"; do
-        if ! is_proved "$crate"; then
-            run_in "$room" "$log" rt all check --jobs "$(cat "$room/jobs")" || fail $?
-            return
-        fi
+    local crate jobs order
+    jobs=$(cat "$room/jobs")
+    mapfile -t order < <(by_chain)
+    while :; do
+        for crate in "${order[@]}"; do
+            [ ${#proving[@]} -lt "$jobs" ] || break
+            ! can_start "$crate" || start_proof "$crate"
+        done
+        [ ${#proving[@]} != 0 ] || return 0
+        end_proof
     done
 }
 
 prove_program() {
-    local words=(run data/p.pl data/sessions.csv data/assets.csv data/bars.csv 2024-01-03 2024-01-09)
+    local status=0 words=(run data/p.pl data/sessions.csv data/assets.csv data/bars.csv 2024-01-03 2024-01-09)
     copy_crate pl_main
-    list_crates "${libraries[@]}" pl_main
-    run_in "$room/crates/pl_main" "$log" rt run -- "${words[@]}" || fail $?
+    link_below pl_main
+    run_in "$(home_of pl_main)" "$room/pl_main/log" rt run -- "${words[@]}" || status=$?
+    { echo "== pl_main" && cat "$room/pl_main/log"; } >> "$log"
+    [ "$status" = 0 ] || fail pl_main "$status"
 }
 
 # The program takes the time at which its sources were copied, so that a later edit is seen.
 install_program() {
     mkdir -p "$folder/out"
-    cp "$room/crates/pl_main/out/pl_main" "$program.new"
+    cp "$(home_of pl_main)/out/pl_main" "$program.new"
     touch -r "$room/begun" "$program.new"
     mv -f "$program.new" "$program"
-    sums_of "$room" > "$program.sums"
+    sums_of "$room/pl_main" > "$program.sums"
 }
 
-# Tells what a failed build said last of the crates that it could not prove, or else in all, and ends.
+# Tells what a crate that could not be proved said last, and ends.
 fail() {
-    local crate failed
-    say "the build failed, with status $1"
-    failed=$(sed -n 's/^\(\w*\): failed.*/\1/p' "$log")
-    for crate in $failed; do
-        awk -v head="== $crate" '
-            /^== / { is_it = $0 == head }
-            is_it && !/: proved$|: modules loaded=/' "$log" | tail -n 15 >&2
-    done
-    [ -n "$failed" ] || tail -n 15 "$log" >&2
-    stop "$log has all that the build said"
+    say "the build failed at $1, with status $2"
+    grep -v ': proved$\|: modules loaded=' "$room/$1/log" | tail -n 15 >&2
+    stop "$log has all that the build said, and $room/*/log what the crates say that are being proved"
 }
 
 start_telling() {

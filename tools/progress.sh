@@ -2,19 +2,17 @@
 # Tells now and then how far a build is, from what lies in its folder: a library that is being proved has a folder out/rlib, and one
 # that is proved has a stamp there.
 
-# When each crate was first seen to be proved, and how long a library took; what is being proved now; how many are proved, and
-# how many were at first.
+# When each crate was first seen to be proved, and how long a library took; what is being proved now; how many are proved.
 declare -A since=() took=()
 now=()
 ready=0
-ready_first=
 
 look_around() {
     local crate at
     now=()
     ready=0
     for crate in "${libraries[@]}"; do
-        at=$room/crates/$crate/out/rlib
+        at=$(home_of "$crate")/out/rlib
         if [ -e "$at/stamp" ]; then
             ready=$((ready + 1))
             [ -z "${since[$crate]:-}" ] || took[$crate]=${took[$crate]:-$((SECONDS - since[$crate]))}
@@ -23,8 +21,7 @@ look_around() {
             now+=("$crate")
         fi
     done
-    [ ! -d "$room/crates/pl_main/src" ] || since[pl_main]=${since[pl_main]:-$SECONDS}
-    ready_first=${ready_first:-$ready}
+    [ ! -d "$(home_of pl_main)/src" ] || since[pl_main]=${since[pl_main]:-$SECONDS}
 }
 
 count_lines() {
@@ -82,14 +79,10 @@ minutes_left() {
 tell() {
     local all=$((${#libraries[@]} + 1)) doing="" jobs minutes
     jobs=$(cat "$room/jobs" 2> /dev/null || echo 1)
-    if [ -d "$room/crates/pl_main/src" ]; then
+    if [ -d "$(home_of pl_main)/src" ]; then
         doing=", now pl_main, the program itself"
-    elif [ "$ready" = "${#libraries[@]}" ]; then
-        doing=", now whether all go together"
     elif [ ${#now[@]} != 0 ]; then
         doing=", now ${now[*]}"
-    elif [ "${#since[@]} $ready" = "0 $ready_first" ]; then
-        doing=", now all are read, before the first proof"
     fi
     minutes=$(list_states | minutes_left "$jobs")
     say "$ready of $all crates proved$doing; so far $((SECONDS / 60)) minutes, and about $minutes more"

@@ -29,6 +29,15 @@ end_children() {
     children=()
 }
 
+# Strikes out a child that has ended: its number may soon be another's.
+forget() {
+    local child others=()
+    for child in "${children[@]}"; do
+        [ "$child" = "$1" ] || others+=("$child")
+    done
+    children=("${others[@]}")
+}
+
 trap end_children EXIT
 trap 'exit 129' HUP
 trap 'exit 130' INT
@@ -36,13 +45,13 @@ trap 'exit 143' TERM
 
 # Runs a command of the toolchain in a folder, with what it says in a log, and returns its status. It is ended when this shell is.
 run_in() {
-    local where=$1 log=$2 status=0
+    local where=$1 log=$2 child status=0
     shift 2
-    (cd "$where" && exec "$@") >> "$log" 2>&1 < /dev/null &
-    children+=($!)
-    wait $! || status=$?
-    # Its number may soon be another's.
-    unset 'children[-1]'
+    (cd "$where" && exec "$@") > "$log" 2>&1 < /dev/null &
+    child=$!
+    children+=("$child")
+    wait "$child" || status=$?
+    forget "$child"
     return "$status"
 }
 
