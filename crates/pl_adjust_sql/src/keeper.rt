@@ -1,4 +1,5 @@
-// The keeper over one connection.
+//! The keeper over one connection.
+
 ghost use Rattle.std.specs.Prelude.{◌≡◌, ℕ, List, None, Err, OnOk, OnErr, string_bytes, false};
 ghost use Rattle.sqlite.specs.State.{HasCleanDisk};
 ghost use Rattle.sqlite.specs.Held.{state};
@@ -25,7 +26,7 @@ pub struct SqlKeeper<S: Alter> {
 }
 
 impl<S: Alter> SqlKeeper<S> {
-    /// No fault is counted yet.
+    /// The keeper of the connection's tables under this name, with no fault counted yet.
     pub fn new(connection: Connection<S>, name: String) -> SqlKeeper<S>
         ensures { result ≡ record { connection = connection; name = name; faults = 0 } }
     {
