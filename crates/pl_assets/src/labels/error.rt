@@ -1,3 +1,5 @@
+//! Why a labels file is refused.
+
 ghost use Rattle.std.specs.Prelude.{◌≡◌};
 ghost use Rattle.pl_assets.specs.declared.labels.error.LabelsError.TheVariants.{Memory};
 
