@@ -1,3 +1,5 @@
+//! Why a bars file is refused.
+
 ghost use Rattle.std.specs.Prelude.{◌≡◌};
 ghost use Rattle.pl_bars.specs.declared.error.BarsError.TheVariants.{Memory};
 
