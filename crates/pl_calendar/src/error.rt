@@ -1,3 +1,5 @@
+//! Why a sessions file is refused.
+
 ghost use Rattle.std.specs.Prelude.{◌≡◌};
 ghost use Rattle.pl_calendar.specs.declared.error.CalendarError.TheVariants.{Memory};
 
