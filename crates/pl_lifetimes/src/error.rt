@@ -1,3 +1,5 @@
+//! Why an assets file is refused.
+
 ghost use Rattle.std.specs.Prelude.{◌≡◌};
 ghost use Rattle.pl_lifetimes.specs.declared.error.AssetsError.TheVariants.{Memory};
 
