@@ -24,7 +24,8 @@ pub enum AdjustmentKind {
     Revision,
 }
 
-/// How two numbers are compared.
+/// How two numbers are compared. A comparison with a missing side is false, `NotEqual` too, which is this
+/// project's rule.
 #[derive(Clone, Copy, Debug, PartialEq, Eq)]
 pub enum Compare {
     Less,
@@ -64,7 +65,7 @@ pub enum Frequency {
     WeekStart,
 }
 
-/// The form of a table's text.
+/// The form of a table's text: fields with commas between them, or columns of one width.
 #[derive(Clone, Copy, Debug, PartialEq, Eq)]
 pub enum Format {
     Csv,
