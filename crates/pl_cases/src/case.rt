@@ -1,4 +1,5 @@
-// What a case states.
+//! What a case states.
+
 use crate::choices::{filled, parts_of};
 use anyhow::Result;
 use std::alloc::{AllocError, Global};

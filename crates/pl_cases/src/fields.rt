@@ -1,4 +1,5 @@
-// The fields of a row.
+//! The fields of a row.
+
 use anyhow::Result;
 use pl_fixed::{MISSING, is_cell, write_decimal};
 use std::alloc::Global;

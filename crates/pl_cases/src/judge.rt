@@ -1,4 +1,5 @@
-// Whether a case's commands leave what it states.
+//! Whether a case's commands leave what it states.
+
 use crate::case::{Case, copy_words};
 use crate::cells::cells_differ;
 use crate::parts::{Failing, Left, Parts, SOUND, left_by};

@@ -1,4 +1,5 @@
-// Parts in memory, and a run over them.
+//! Parts in memory, and a run over them.
+
 ghost use Rattle.std.specs.Prelude.{◌≡◌, ◌<◌, ◌<ℤ◌, ◌-◌, IfOk, IfSome, IsTrue, Some, length, slice_get};
 ghost use Rattle.pl_spec.specs.declared.RawAdjust.{RawAdjust};
 ghost use Rattle.pl_outside.specs.Lists.{IsAscending};

@@ -1,4 +1,5 @@
-// The cases of a file, line by line.
+//! The cases of a file, line by line.
+
 use crate::case::Case;
 use crate::lines::{add_line, words_of};
 use crate::repeat::add_lines;

@@ -1,4 +1,5 @@
-// A keeper in memory that tells which tables were loaded.
+//! A keeper in memory that tells which tables were loaded.
+
 use pl_outside::{AdjustKeeper, KeepError, MemoryKeeper, RawAdjust, Table};
 use std::alloc::Global;
 
