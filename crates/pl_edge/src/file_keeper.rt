@@ -1,4 +1,5 @@
-// The database files of the disk.
+//! The database files of the disk.
+
 ghost use Rattle.std.specs.Prelude.{◌≡◌, ◌==◌, ◌↔◌, None, IfOk, IsTrue, OnErr, false, not, slice_index_or};
 ghost use Rattle.std.specs.IoError.{error_kind};
 ghost use Rattle.sqlite_disk.specs.Memory.{memory_bytes, memory_is_usable};

@@ -1,4 +1,5 @@
-// The files of the disk.
+//! The files of the disk.
+
 ghost use Rattle.std.specs.Prelude.{◌≡◌, None, [], false};
 ghost use Rattle.pl_outside.specs.Counts.{count_end, count_plus};
 

@@ -1,5 +1,5 @@
-// Database files, as SQLite 3.40 wrote them in pages of 512 bytes: what stands at these places, with zeros
-// between.
+//! Database files, as SQLite 3.40 wrote them in pages of 512 bytes: what stands at these places, with zeros
+//! between.
 
 /// What stands at a place of a file.
 pub type Piece = (usize, &'static [u8]);
