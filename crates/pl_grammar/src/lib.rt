@@ -15,7 +15,7 @@ pub struct Place {
     pub col: u32,
 }
 
-/// The signs before an operand: `-` and `~`.
+/// The signs before an operand: `-` (`Minus`) and `~` (`Not`).
 #[derive(Clone, Copy, Debug, PartialEq, Eq)]
 pub enum PrefixSign {
     Minus,
