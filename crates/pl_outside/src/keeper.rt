@@ -1,4 +1,5 @@
-// What keeps the rows of adjustments.
+//! What keeps the rows of adjustments.
+
 ghost use Rattle.std.specs.Prelude.{◌≡◌, ◌≤◌, ◌++◌, ℕ, Option, List, None, Err, OnOk, OnErr, IsTrue, IsSome, IsErrOf, Bool, false};
 ghost use Rattle.std.specs.Option.{ForSome};
 ghost use Rattle.pl_outside.specs.declared.keeper.Table.{Table};
@@ -10,7 +11,7 @@ use pl_spec::RawAdjust;
 use std::alloc::{AllocError, Global};
 use std::marker::Model;
 
-/// A table of adjustments, as Zipline's database of adjustments has them.
+/// A table of adjustments, as Zipline's database of adjustments has them: `splits`, `mergers`, `dividends`.
 #[derive(Clone, Copy, Debug, PartialEq, Eq)]
 pub enum Table {
     Splits,
@@ -18,7 +19,7 @@ pub enum Table {
     Dividends,
 }
 
-/// Why rows aren't loaded: the keeper counted a fault, or no memory was found.
+/// Why rows aren't loaded: the keeper counted a fault, or memory ran out.
 #[derive(Clone, Copy, Debug, PartialEq, Eq)]
 pub enum KeepError {
     Failed,
@@ -61,7 +62,9 @@ pub trait AdjustKeeper {
     /// Whether it is sound.
     ghost sound: { Self → Bool };
 
-    /// Appends the whole list of that name and table to `into`, which is as before after an error.
+    /// Appends the whole list of that name and table to `into`, in ascending id. `Failed` comes only where
+    /// the keeper counted a fault, as for a name or table that it can't read; after an error `into` is as
+    /// before.
     fn load(
         &mut self,
         alloc: Global,

@@ -1,4 +1,5 @@
-// Where files are read.
+//! Where files are read.
+
 ghost use Rattle.std.specs.Prelude.{◌≡◌, ◌≤◌, ◌<◌, ◌++◌, ◌∷◌, ◌↔◌, ℕ, List, Option, None, Bool, [], take, length, IfOk, IsTrue, IsOk, IsErr, IsSome};
 ghost use Rattle.std.specs.Option.{ForSome};
 ghost use Rattle.pl_outside.specs.Counts.{HasCause, count_plus, moved};

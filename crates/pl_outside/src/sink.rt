@@ -1,4 +1,5 @@
-// What takes bytes.
+//! What takes bytes.
+
 ghost use Rattle.std.specs.Prelude.{◌≡◌, ◌≤◌, ◌<◌, ◌+◌, ℕ, List, Option, None, Ok, take, length, IfOk, IsTrue, Bool, true, false, IsSome};
 ghost use Rattle.pl_outside.specs.Counts.{HasCause, count_plus, count_end, moved};
 ghost use Rattle.pl_outside.specs.Taken.{TakesAll, IsBlameless};
