@@ -1,4 +1,5 @@
-// The slot of each term and of its bar columns: of those that are free the lowest.
+//! The slot of each term and of its bar columns: of those that are free the lowest.
+
 ghost use Rattle.std.specs.Prelude.{◌≡◌, ℕ, ◌+◌, ◌<◌, ◌≤◌, ◌^◌, IfOk, false, true, get_or, length, replicate, slice_set, sum_by};
 ghost use Rattle.pl_planner.specs.Slotting.{AreSlotted, IsSlotted, IsTaken, one, own_slot};
 
