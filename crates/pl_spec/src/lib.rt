@@ -15,7 +15,8 @@ pub enum Column {
     Volume,
 }
 
-/// What an adjustment comes from.
+/// What an adjustment comes from. Splits, mergers and dividends are Zipline's tables; revisions are this
+/// project's own.
 #[derive(Clone, Copy, Debug, PartialEq, Eq)]
 pub enum AdjustmentKind {
     Split,
