@@ -12,7 +12,7 @@ use crate::kind::TermKind;
 use crate::node::{Input, Node, TermId};
 use pl_spec::Frequency;
 
-/// The frequency of a downsampled term's kind.
+/// The frequency of a downsampled term's kind; `None` for every other kind.
 #[tactic(auto, unfolding(crate::specs::Kinds::kind_of))]
 pub fn frequency_of(kind: &TermKind) -> Option<Frequency>
     ensures some { IfSome result (λ f. kind_of kind.now ≡ Downsample f) }
