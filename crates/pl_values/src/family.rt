@@ -10,9 +10,9 @@ ghost use Rattle.pl_values.specs.Families.{IsOf};
 use pl_fixed::{Frequency, MISSING};
 use pl_terms::{Graph, LabelValue, TermId, TermKind, sorting_kind};
 
-/// How the value of a kind comes from those of its inputs: a constant, a label under the name of a number, a
-/// list of sids, a formula or a filter over windows, an operation on the values of one place, a test of a
-/// label, a cross-section, or the input's value on the first session of the period.
+/// How the value of a kind comes from those of its inputs: a constant in millionths, a label under the name
+/// of a number, a list of sids, a formula or a filter over windows, an operation on the values of one place,
+/// a test of a label, a cross-section, or the input's value on the first session of the period.
 #[derive(Clone, Copy, Debug, PartialEq, Eq)]
 pub enum Family {
     Constant(i64),

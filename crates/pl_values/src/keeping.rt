@@ -11,7 +11,8 @@ pub fn truth_of(holds: bool) -> i64
     if holds { 1 } else { 0 }
 }
 
-/// Puts the empty value where the asset is not kept, and leaves the rest as it is.
+/// Puts `none`, which is the term's empty value, wherever `keep` is 0, since the asset does not exist there
+/// or does not pass the mask, and leaves the cells where it is 1 as they are.
 pub fn keep_values(keep: &[i64], none: i64, out: &mut [i64])
     requires { length keep.now ≡ length out.old }
     ensures length { length out.new ≡ length out.old }
