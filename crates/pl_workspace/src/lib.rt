@@ -1,5 +1,6 @@
-// Slots of cells: their memory is taken once, lent out to be written, given back, read and lent out again. No
-// cell is copied, and how many slots are in use is counted.
+//! Slots of cells: their memory is taken once, lent out to be written, given back, read and lent out again.
+//! No cell is
+//! copied, and how many slots are in use is counted.
 #![tactic(auto)]
 
 ghost use Rattle.std.specs.Prelude.{◌≡◌, ◌<◌, pos, length, slice_set, IfOk};
@@ -11,7 +12,7 @@ use std::alloc::Global;
 use std::marker::Model;
 use std::mem;
 
-/// Want of memory, of `reserve` alone.
+/// Memory ran out. It is the error of `reserve` alone.
 #[derive(Clone, Copy, Debug, PartialEq, Eq)]
 pub struct Memory;
 
@@ -78,7 +79,8 @@ impl Model for Workspace {
 }
 
 impl Workspace {
-    /// Takes the memory of all slots, each of `len` cells. No other call takes any.
+    /// Takes the memory of all slots, numbered from 0, each of `len` cells. No other call takes any. The only
+    /// error is that there is none.
     pub fn reserve(alloc: Global, slots: usize, len: usize) -> Result<Workspace, Memory>
         ensures { IfOk result (λ w. w ≡ fresh slots len) }
     {
