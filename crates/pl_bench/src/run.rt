@@ -20,7 +20,8 @@ use std::alloc::Global;
 use std::sync::ledger::Ledger;
 
 /// Runs the pipeline over the stated world of the number, `chunk` sessions at a time, and writes the numbers
-/// of that run, as `rows=R cells=C peak=P bound=B` and a line end.
+/// of that run, as `rows=R cells=C peak=P bound=B` and a line end. The error is that memory ran out, before
+/// anything was written, or that the sink counted a fault. The run is this project's own.
 pub fn bench<O: Sink, L: Ledger>(
     alloc: Global,
     number: u32,
