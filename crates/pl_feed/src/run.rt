@@ -24,10 +24,11 @@ use pl_world::World;
 use std::alloc::Global;
 use std::sync::ledger::Ledger;
 
-/// Writes the table of a plan's range, the header and each row in one piece. The sessions up to the range's
-/// last are fed one by one, each with the bars of the session before it and the adjustments since then; rows
-/// come from the range's first session on. All memory is taken before the first byte. The only errors are
-/// that there is none, and that the sink counted a fault.
+/// Writes the table of a plan's range, the header and each row in one piece: the bytes that `run_table`
+/// writes. The sessions up to the range's last are fed one by one, each with the bars of the session before
+/// it and the adjustments since then; rows come from the range's first session on. All memory is taken before
+/// the first byte. The error is that memory ran out, or that the sink counted a fault, and then a prefix of
+/// the text was written.
 pub fn run_daily<O: Sink, L: Ledger>(
     alloc: Global,
     world: &World<'_>,
