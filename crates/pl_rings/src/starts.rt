@@ -41,7 +41,8 @@ fn rings_of(alloc: Global, assets: usize, capacity: usize) -> Result<Rings, Memo
     Rings::new(alloc, assets, capacity, MISSING)
 }
 
-/// Rings of these capacities, one for each asset and column, that stand for no day.
+/// Rings of these capacities, in sessions, one for each asset and column, into which no day was taken: every
+/// cell is `MISSING`. The only error is want of memory.
 pub fn begin_rings(alloc: Global, assets: usize, capacities: Capacities) -> Result<BarRings, Memory>
     ensures rings { IfOk result (AreBarRings assets) }
     ensures room { IfOk result (HasRoom capacities) }
