@@ -66,7 +66,8 @@ pub enum Frequency {
     WeekStart,
 }
 
-/// The form of a table's text: fields with commas between them, or columns of one width.
+/// The form of a table's text: fields with commas between them, or columns of one width with a space between
+/// them: the date in 10 bytes, the sid in 10, each value in 20. A longer text stays whole.
 #[derive(Clone, Copy, Debug, PartialEq, Eq)]
 pub enum Format {
     Csv,
