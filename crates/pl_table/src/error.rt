@@ -5,8 +5,8 @@ ghost use Rattle.std.specs.Prelude.{◌≡◌};
 use pl_fixed::Memory;
 use std::alloc::AllocError;
 
-/// Why a run ended early: the sink counted a fault, or no memory was found, which comes only before the first
-/// byte.
+/// Why a run ended early: the sink counted a fault, and a prefix of the text was written; or memory ran out,
+/// which comes only before the first byte.
 #[derive(Clone, Copy, Debug, PartialEq, Eq)]
 pub enum RunError {
     WriteFault,

@@ -25,7 +25,7 @@ impl Model for Line {
 }
 
 impl Line {
-    /// An empty line with room for the longest one.
+    /// An empty line with room for the longest one, 8,448 bytes. The only error is want of memory.
     pub fn reserve(alloc: Global) -> Result<Line, AllocError>
         ensures { IfOk result (λ line. line ≡ []) }
     {
@@ -33,7 +33,7 @@ impl Line {
         Ok(Line { bytes })
     }
 
-    /// Begins anew.
+    /// Begins anew: the line has no bytes.
     pub fn clear(&mut self)
         ensures { self.new ≡ [] }
     {
@@ -58,7 +58,7 @@ impl Line {
         self.put(&spaces[..count]);
     }
 
-    /// The line.
+    /// Lends the bytes that were put so far.
     pub fn as_slice(&self) -> &[u8]
         ensures { result.now ≡ self.now }
     {
