@@ -101,7 +101,7 @@ impl Adjustments {
     /// names. The header is `sid,session,column,value,known`; each further record has the sid of an asset,
     /// the date of a session, the name of a bar column, a decimal of at least 0 or an empty field, which
     /// takes the cell away, and a later date. The error is the first fault of the file, or want of memory,
-    /// and after it the adjustments are as before. Zipline has no revisions.
+    /// and after it the adjustments are as before. Revisions are this project's own.
     pub fn add_revisions(
         &mut self,
         bytes: &[u8],
@@ -170,7 +170,7 @@ impl Adjustments {
         })
     }
 
-    /// How many adjustments there are. Those of an asset stand by day, and what overwrites a cell is a cell.
+    /// How many adjustments there are. Those of an asset are by day, and what overwrites a cell is a cell.
     pub fn len(&self) -> usize
         ensures length { result ≡ length self.now }
         ensures in_order { StandByDay self.now }
