@@ -30,7 +30,7 @@ pub enum BarsError {
     /// A record before has the sid and the date.
     #[error("record {line}: the bar stands before")]
     Duplicate { line: u32 },
-    /// 4,000,000 bars stand before this one.
+    /// 4,000,000 bars come before this one.
     #[error("record {line}: too many bars")]
     TooMany { line: u32 },
     /// Memory ran out.

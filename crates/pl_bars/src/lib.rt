@@ -82,7 +82,7 @@ impl Bars {
         Ok(Bars { rows, starts })
     }
 
-    /// The bars of these rows, which stand by ascending column and then session, one for each: at most
+    /// The bars of these rows, which are by ascending column and then session, one for each: at most
     /// 4,000,000, whose cells are `MISSING` or at least 0.
     pub fn from_rows(rows: Vec<BarRow>) -> Bars
         requires { AreBars rows.items }
@@ -105,7 +105,7 @@ impl Bars {
         })
     }
 
-    /// How many bars there are. They stand by ascending column and then session.
+    /// How many bars there are. They are by ascending column and then session.
     pub fn len(&self) -> usize
         ensures length { result ≡ length self.now }
         ensures bars { AreBars self.now }
