@@ -1,4 +1,4 @@
-//! The run, and the line that tells its numbers.
+//! The run, and the line of its numbers.
 ghost use Rattle.std.specs.Prelude.{◌≡◌, ◌≤◌, ◌+◌, ◌⊎◌, ℕ, IfOk, OnOk, OnErr, IsErrOf};
 ghost use Rattle.pl_outside.specs.Taken.{Writes};
 ghost use Rattle.pl_terms.specs.Checked.{pipeline_of};
