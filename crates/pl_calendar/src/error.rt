@@ -20,7 +20,7 @@ pub enum CalendarError {
     /// There is no record.
     #[error("no sessions")]
     Empty,
-    /// 16,000 records stand before this one.
+    /// 16,000 records come before this one.
     #[error("record {line}: too many sessions")]
     TooMany { line: u32 },
     /// Memory ran out.
