@@ -94,7 +94,7 @@ impl Parts {
         }
     }
 
-    /// What a command leaves after what stands there.
+    /// What a command leaves after what is there.
     pub(crate) fn leave(&mut self, alloc: Global, words: &[String]) -> Result<Left> {
         let out = self.out.bytes().len();
         let err = self.err.bytes().len();
