@@ -41,8 +41,8 @@ pub struct NotLater {
 
 /// A pipeline session by session: each morning a day is taken in with the bars of the session before and the
 /// adjustments since then, and gives the values of all columns for the assets that the screen keeps. What is
-/// held are the rings of bar columns and terms that windows read. All memory is taken at the start. Zipline
-/// has no such call.
+/// held are the rings of bar columns and terms that windows read. All memory is taken at the start. This is
+/// the project's own.
 pub struct Daily<'a> {
     checked: &'a Checked,
     assets: &'a Assets,
