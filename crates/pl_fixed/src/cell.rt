@@ -5,7 +5,7 @@ ghost use Rattle.pl_spec.specs.Rounding.{IsCell, to_cell, quot, add, sub, mul, d
 
 use crate::rounding::div_round;
 
-/// The cell that stands for no value. In columns of numbers it is what NaN is in Zipline.
+/// The cell that stands for no value. It is what NaN is in Zipline.
 pub const MISSING: i64 = i64::MIN;
 
 /// The greatest magnitude of a cell, in millionths: 10^11 units.

@@ -18,7 +18,7 @@ pub enum DecimalFault {
     Empty,
     /// They are no optional `-`, digits, and optionally a point and digits.
     Shape,
-    /// More than 18 digits stand after the point.
+    /// There are more than 18 digits after the point.
     TooManyDigits,
     /// The rounded value is outside `-LIM` to `LIM`.
     TooLarge,
