@@ -55,7 +55,7 @@ impl Assets {
         Ok(Assets { rows })
     }
 
-    /// The assets of these rows, which stand by ascending sid, each sid once: at most 8,000 of them.
+    /// The assets of these rows, which are by ascending sid, each sid once: at most 8,000 of them.
     pub fn from_rows(rows: Vec<AssetRow>) -> Assets
         requires { AreAssets rows.items }
         ensures { result ≡ rows.items }
