@@ -48,9 +48,9 @@ impl From<AllocError> for KeepError {
 
 /// Three lists of rows by name, each in ascending id with distinct ids.
 ///
-/// A sound keeper tells its lists, and never counts a fault or answers Failed.
+/// The lists of a sound keeper are known, and it never counts a fault or answers Failed.
 pub trait AdjustKeeper {
-    /// The rows of each name and table, where it tells.
+    /// The rows of each name and table, where they are known.
     ghost lists: { Self → Option Lists };
 
     /// How many faults it has counted, up to the count's end.
@@ -92,7 +92,7 @@ pub trait AdjustKeeper {
         (λ lists. (name : List ℕ) (table : Table) → IsAscending (lists name table)) };
 }
 
-/// A keeper of nothing, which tells nothing: each load is a fault.
+/// A keeper of nothing: each load is a fault.
 #[derive(Drop)]
 pub struct NoKeeper {
     faults: u64,
