@@ -23,7 +23,7 @@ pub enum PayoutsError {
     /// The amount, rounded to millionths, is not above 0.
     #[error("record {line}: an amount that is not above 0")]
     NotPositive { line: u32 },
-    /// 200,000 payouts stand before this one.
+    /// 200,000 payouts come before this one.
     #[error("record {line}: too many payouts")]
     TooMany { line: u32 },
     /// Memory ran out.
