@@ -7,7 +7,7 @@ use crate::columns::{either, is_kept};
 use crate::uses::Use;
 use std::alloc::{AllocError, Global};
 
-/// Where the values of a term stand, and those of its bar columns while it is computed.
+/// The slots of the values of a term, and of its bar columns while it is computed.
 #[derive(Clone, Copy, Debug)]
 pub(crate) struct TermSlots {
     pub(crate) own: usize,
