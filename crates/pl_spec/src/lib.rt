@@ -1,6 +1,6 @@
 //! What pipelines mean: the definitions on which every contract of the project rests.
 //!
-//! The definitions stand in `specs/`, and docs/DEFINITIONS.md explains each of them. The types here are those
+//! The definitions are in `specs/`, and docs/DEFINITIONS.md explains each of them. The types here are those
 //! that both the definitions and the code speak of; the crates that they belong to export them. The laws of
 //! the definitions are the crate `pl_laws`.
 #![tactic(auto)]
