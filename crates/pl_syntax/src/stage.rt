@@ -19,7 +19,7 @@ use pl_grammar::Place;
 use pl_tokens::Token;
 use std::alloc::{AllocError, Global};
 
-/// Where the reader of a script stands.
+/// The state of the reader of a script.
 #[derive(Drop)]
 pub(crate) enum Stage {
     Opening,
