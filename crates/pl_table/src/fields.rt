@@ -14,7 +14,7 @@ use pl_assets::Labels;
 use pl_fixed::{MISSING, write_day, write_decimal};
 use pl_spec::Format;
 
-/// Puts the date `YYYY-MM-DD` of a day, counted from 1970-01-01, at the front of a line of its form.
+/// Puts the date `YYYY-MM-DD` of a day, counted from 1970-01-01, as the first field of a line.
 pub fn put_date(line: &mut Line, format: Format, day: i32)
     requires date { IsDay day }
     requires room { length line.old + 10 ≤ 8_448 }
@@ -30,7 +30,7 @@ pub fn put_date(line: &mut Line, format: Format, day: i32)
     }
 }
 
-/// Puts a sid after the date: after a comma, or right in a column of 10 bytes after a space.
+/// Puts a sid after the date: after a comma, or set right in a column of 10 bytes after a space.
 pub fn put_sid(line: &mut Line, format: Format, sid: u32)
     requires { length line.old + 11 ≤ 8_448 }
     ensures text { line.new ≡ line.old ++ sid_part format (decimal sid) }

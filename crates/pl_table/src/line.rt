@@ -4,7 +4,7 @@ ghost use Rattle.std.specs.Prelude.{◌≡◌, ◌≤◌, ◌+◌, ◌++◌, [],
 use std::alloc::{AllocError, Global};
 use std::marker::Model;
 
-/// The greatest length of a line: a date, a sid, and 64 fields of at most 131 bytes with what stands before
+/// The greatest length of a line: a date, a sid, and 64 fields of at most 131 bytes with what comes before
 /// them, a label of 64 quotes in quotes, take 8,406 bytes.
 const MOST: usize = 8_448;
 
