@@ -88,8 +88,8 @@ fn compared(label: &LabelValue) -> Family
 }
 
 /// What an array holds where the term has no value, since the asset does not exist on the session or the
-/// term's mask is false: 0 for a filter, and else `MISSING`. It goes by what the term is, which a downsampled
-/// one has from its input.
+/// term's mask is false: 0 for a filter, and else `MISSING`. It depends on what the term is, which a
+/// downsampled one has from its input.
 pub fn empty_value(graph: &Graph, t: TermId) -> i64
     requires { t.0 < length graph.now }
     ensures { result ≡ number_of (empty (sort_kind (term_at (graph_of graph.now) t.0))) }
