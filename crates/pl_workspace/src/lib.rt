@@ -40,7 +40,7 @@ impl Model for Buffer {
 }
 
 impl Buffer {
-    /// The cells as they stand.
+    /// The cells as they are now.
     pub fn cells(&self) -> &[i64]
         ensures { result.now ≡ self.now.cells }
     {
