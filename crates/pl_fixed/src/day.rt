@@ -111,8 +111,8 @@ fn put_date(day: i32, out: &mut [u8; 10])
     ];
 }
 
-/// The number of the month that a day from 1900-01-01 to 2199-12-31 is of: twelve for each year of the
-/// calendar from year 0 on, and in a year 0 for January.
+/// The number of the month that a day from 1900-01-01 to 2199-12-31, counted from 1970-01-01, is of: twelve
+/// for each year of the calendar from year 0 on, and in a year 0 for January.
 pub fn month_number(day: i32) -> u32
     requires { IsDay day }
     ensures value { result ≡ month_number day }

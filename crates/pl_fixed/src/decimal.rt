@@ -29,7 +29,7 @@ const MOST_UNITS: u64 = 1_000_000_000_000;
 
 /// The cell that the bytes write in decimal: an optional `-`, digits, and optionally a point and 1 to 18
 /// digits. It is rounded once to millionths, ties away from zero. Leading zeros are accepted; an exponent, a
-/// `+` and blanks are not.
+/// `+` and blanks are not. The error is the first fault in the order of its variants.
 pub fn read_decimal(b: &[u8]) -> Result<i64, DecimalFault>
     ensures exact { result ≡ read b.now }
     ensures value { (v : ℤ) → (result ≡ Ok v) ↔ ((d : Decimal) × IsDecimal d b.now × IsReadAs d v) }
