@@ -24,8 +24,8 @@ pub struct CellPlace {
     pub session: usize,
 }
 
-/// The cell that is asked for: its date is a session, its sid is of an asset, its column is one of the
-/// pipeline, and its value needs no session before the first one.
+/// The cell that is asked for. The fault is the first of these: its date is no session, no asset has its sid,
+/// no column of the pipeline has its name, its value needs a session before the first one; or want of memory.
 pub fn judge_cell(
     alloc: Global,
     request: &ExplainRequest<'_>,

@@ -95,7 +95,8 @@ pub enum Fault {
         place: Place,
         fault: RuleFault,
     },
-    /// The record of this number breaks a rule of its file.
+    /// The record of this number breaks a rule of its file. Records count from 1, the header too; empty lines
+    /// are no records. In a derivation it is the number of the line.
     Data {
         file: InputFile,
         line: u32,
@@ -107,34 +108,35 @@ pub enum Fault {
         id: i64,
         fault: RowFault,
     },
-    /// No session has the date.
+    /// The date is no session.
     NotSession(RangeDate),
-    /// No asset has the sid.
+    /// No asset has the sid of the cell.
     UnknownSid {
         sid: u32,
     },
-    /// No column has the name.
+    /// The pipeline has no column of the name.
     UnknownColumn,
-    /// The first date is after the second.
+    /// The first date is after the second, or the second after the one as of which rows are asked for.
     Backwards,
-    /// The columns or the screen show bars of a session before the first one, at this number.
+    /// The columns or the screen, or the cell, need a session before the first one: the least has this
+    /// number, below 0, where the first one is 0.
     TooEarly {
         reach: i64,
     },
     /// There is more than a limit allows.
     Passed(Limit),
-    /// The file could not be read.
+    /// The shelf counted a fault as the file was read.
     Unread(InputFile),
-    /// The rows of the table could not be loaded.
+    /// The keeper counted a fault as the rows of the table were loaded.
     Unloaded(Table),
-    /// The text could not be written; a prefix of it was.
+    /// The sink counted a fault as the text was written; a prefix of it was.
     Unwritten,
     /// Memory ran out.
     Memory,
 }
 
 impl Fault {
-    /// The status with which the program ends.
+    /// The status with which the program ends, from 2 to 10.
     pub fn status(self) -> u8
         ensures { result ≡ status_of self }
     {

@@ -11,7 +11,8 @@ use pl_outside::{Failed, Sink, Table, write_bytes};
 use pl_syntax::Place;
 use pl_words::{InputFile, Request, adjustments_asked, column_asked, date_asked, name_asked};
 
-/// Writes the line of a fault of what was asked for. It takes no memory.
+/// Writes the line of a fault of what was asked for, with its line end. `Failed` comes where the sink counted
+/// a fault. It takes no memory.
 pub fn write_line<E: Sink>(
     err: &mut E,
     asked: Option<&Request<'_>>,
@@ -148,7 +149,8 @@ fn write_named<E: Sink>(err: &mut E, what: &str, name: &str) -> Result<(), Faile
     write_pieces(err, &[what, name, "\n"])
 }
 
-/// Writes the pieces one after the other. It takes no memory.
+/// Writes the pieces one after the other. `Failed` comes where the sink counted a fault; the pieces after it
+/// are not written. It takes no memory.
 pub fn write_pieces<E: Sink>(err: &mut E, pieces: &[&str]) -> Result<(), Failed>
     ensures { Writes E.taken E.faults E.sound E.room err.old err.new
         (flat_map (λ p. p.now) pieces.now) result }
