@@ -12,7 +12,7 @@ use pl_spec::Column;
 use std::alloc::{AllocError, Global};
 
 /// Why a text is no derivation: its first line, counted from 1, that is none of a derivation's; the first one
-/// past the limit; or want of memory.
+/// past 100,000; or memory ran out.
 #[derive(Clone, Copy, Debug, PartialEq, Eq)]
 pub enum LinesError {
     BadLine { line: u32 },
@@ -161,8 +161,8 @@ fn add_line(lines: &mut Vec<Line>, line: Line) -> Result<(), AllocError>
     Ok(())
 }
 
-/// Reads the text of a derivation: its lines, or its first fault. An empty text is a bad line, and so is a
-/// last line without its line feed.
+/// Reads the text of a derivation. The error is its first fault, or want of memory. An empty text is a bad
+/// line, and so is a last line without its LF. Whether the lines are right is not judged here.
 pub fn read_lines(alloc: Global, bytes: &[u8]) -> Result<Derivation, LinesError>
     ensures lines { IfOk result (λ lines. lines_in bytes.now ≡ Ok lines) }
     ensures fault { IfErr result (λ e. IsLinesFault bytes.now e) }
