@@ -5,11 +5,12 @@ ghost use Rattle.std.specs.Prelude.{◌≡◌};
 use sqlite::{Error, ErrorCode};
 use std::alloc::{AllocError, AllocFailed};
 
-/// Why a table isn't read or made: SQLite refused the statement, or a value of its answer is no integer
-/// (`Refused`), or memory ran out.
+/// Why a table isn't read or made.
 #[derive(Clone, Copy, Debug, PartialEq, Eq)]
 pub enum TableError {
+    /// SQLite refused the statement, or a value of its answer is no integer.
     Refused,
+    /// Memory ran out.
     Memory,
 }
 
