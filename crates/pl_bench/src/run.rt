@@ -31,7 +31,7 @@ pub fn bench<O: Sink, L: Ledger>(
 ) -> Result<(), RunError>
     requires some { 1 ≤ chunk }
     requires most { chunk ≤ 4096 }
-    // Where memory is wanted nothing was written, and no step is counted.
+    // Where memory ran out nothing was written, and no step is counted.
     ensures writes { IsErrOf result RunError.Memory
         ⊎ Writes O.taken O.faults O.sound O.room out.old out.new (bench_line number) result }
     ensures memory { IsErrOf result RunError.Memory → (out.new ≡ out.old) × (steps.new ≡ steps.old) }
