@@ -85,7 +85,7 @@ fn judge_lines(rt: &impl Print, alloc: Global, text: &str, reader: &mut Reader) 
     Ok(differing)
 }
 
-// Runs a case and tells how it ended: 0 where all is as it states, else 1.
+// Runs a case and says how it ended: 0 where all is as it states, else 1.
 fn tell(rt: &impl Print, alloc: Global, case: &Case) -> Result<u64> {
     let name = case.name();
     match judge_case(alloc, case)? {
