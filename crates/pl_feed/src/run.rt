@@ -40,7 +40,7 @@ pub fn run_daily<O: Sink, L: Ledger>(
 ) -> Result<(), RunError>
     requires made { IsMade world.now }
     requires plan { IsPlanOf world.now.sessions.now (pipeline_of checked.now) plan.now }
-    // Where memory is wanted nothing was written; else the text of the table is.
+    // Where memory ran out nothing was written; else the text of the table is.
     ensures writes { IsErrOf result RunError.Memory ⊎ Writes O.taken O.faults O.sound O.room out.old out.new
         (text (world_of world.now) (pipeline_of checked.now) format
         (table (world_of world.now) (pipeline_of checked.now) plan.now.from plan.now.to)) result }
