@@ -6,7 +6,7 @@ use pl_outside::Table;
 use pl_syntax::Place;
 use pl_words::{InputFile, RangeDate};
 
-/// The limit that a count passes.
+/// The limit that a count passes; docs/COMMANDS.md has their sizes.
 #[derive(Clone, Copy, Debug, PartialEq, Eq)]
 pub enum Limit {
     /// The bytes of the pipeline file.
@@ -30,7 +30,7 @@ pub enum Limit {
     Extra,
 }
 
-/// The fault of the syntax of a pipeline file.
+/// The fault of the syntax of a pipeline file; `SyntaxError` of pl_syntax says where each comes.
 #[derive(Clone, Copy, Debug, PartialEq, Eq)]
 pub enum SyntaxFault {
     BadByte,
@@ -40,7 +40,7 @@ pub enum SyntaxFault {
     LongStatement,
 }
 
-/// The rule that the script of a pipeline file breaks.
+/// The rule that the script of a pipeline file breaks; `CheckFault` of pl_check says where each comes.
 #[derive(Clone, Copy, Debug, PartialEq, Eq)]
 pub enum RuleFault {
     UnknownName,
@@ -52,31 +52,50 @@ pub enum RuleFault {
     NoColumn,
 }
 
-/// The rule that a record of a data file breaks.
+/// The rule that a record of a data file breaks, or a line of a derivation; docs/FILES.md says of each file
+/// which come, and how to fix them.
 #[derive(Clone, Copy, Debug, PartialEq, Eq)]
 pub enum DataFault {
+    /// The first record is not the header of the file.
     BadHeader,
+    /// The sessions file has no record.
     Empty,
+    /// The record of a session is not one date.
     BadDate,
+    /// The session is not later than the one before.
     NotAscending,
+    /// There are too few or too many fields, or one has another form.
     BadField,
+    /// The asset's start is later than its end.
     StartAfterEnd,
+    /// An earlier asset has the sid.
     DuplicateSid,
+    /// The label has more than 64 bytes.
     LabelTooLong,
+    /// An earlier label has the name, the sid and the start.
     DuplicateStart,
+    /// The date of the bar is no session.
     NotSession,
+    /// No asset has the sid.
     UnknownSid,
+    /// A value is below 0.
     Negative,
+    /// The amount of a payout is not above 0.
     NotPositive,
+    /// The revision is not known later than on the day of its bar.
     TooSoon,
+    /// An earlier record is of the same bar, or of the same cell and known day.
     Duplicate,
+    /// The line is none of a derivation's.
     BadLine,
 }
 
 /// The rule that a row of a table of adjustments breaks.
 #[derive(Clone, Copy, Debug, PartialEq, Eq)]
 pub enum RowFault {
+    /// Its day is not of the years 1900 to 2199.
     BadEffective,
+    /// A part of its ratio is not from 1 to 10^9.
     BadRatio,
 }
 
