@@ -11,12 +11,14 @@ use pl_fixed::{read_day, read_sid};
 use pl_spec::Column;
 use std::alloc::{AllocError, Global};
 
-/// Why a text is no derivation: its first line, counted from 1, that is none of a derivation's; the first one
-/// past 100,000; or memory ran out.
+/// Why a text is no derivation. `line` is counted from 1.
 #[derive(Clone, Copy, Debug, PartialEq, Eq)]
 pub enum LinesError {
+    /// The first line that is none of a derivation's.
     BadLine { line: u32 },
+    /// The first line after 100,000.
     TooMany { line: u32 },
+    /// Memory ran out.
     Memory,
 }
 
