@@ -19,10 +19,12 @@ pub enum Table {
     Dividends,
 }
 
-/// Why rows aren't loaded: the keeper counted a fault, or memory ran out.
+/// Why rows aren't loaded.
 #[derive(Clone, Copy, Debug, PartialEq, Eq)]
 pub enum KeepError {
+    /// The keeper counted a fault.
     Failed,
+    /// Memory ran out.
     Memory,
 }
 
@@ -83,10 +85,10 @@ pub trait AdjustKeeper {
         ensures keeps { lists self.new ≡ lists self.old }
         ensures stays { sound self.new ≡ sound self.old };
 
-    // A sound keeper tells.
+    // The lists of a sound keeper are known.
     ghost sound_tells: { (keeper : Self) → IsTrue (sound keeper) → IsSome (lists keeper) };
 
-    // Each list that is told is in ascending id.
+    // Each list that is known is in ascending id.
     ghost lists_ascend: { (keeper : Self)
         → ForSome (lists keeper)
         (λ lists. (name : List ℕ) (table : Table) → IsAscending (lists name table)) };

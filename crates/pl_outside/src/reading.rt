@@ -10,12 +10,14 @@ use crate::faults::Failed;
 use crate::shelf::Shelf;
 use std::alloc::{AllocError, Global};
 
-/// Why a file isn't read: the shelf counted a fault, the file has more bytes than are allowed, or memory ran
-/// out.
+/// Why a file isn't read.
 #[derive(Clone, Copy, Debug, PartialEq, Eq)]
 pub enum ReadError {
+    /// The shelf counted a fault.
     Failed,
+    /// The file has more bytes than are allowed.
     TooLong,
+    /// Memory ran out.
     Memory,
 }
 
@@ -64,7 +66,7 @@ pub fn read_file<S: Shelf>(
     ensures too_long { IsErrOf result ReadError.TooLong
         → S.given shelf.new ≡ count_plus (S.given shelf.old) (cap + 1) }
 
-    // where the shelf tells, each answer but Failed and Memory is by the file's length
+    // where what the shelf holds is known, each answer but Failed and Memory is by the file's length
     ensures absent { ForSome (S.holds shelf.old)
         (λ files. files name.now ≡ None → IsErrOf result ReadError.Failed) }
     ensures longer { ForSome (S.holds shelf.old) (λ files. IsErrOf result ReadError.TooLong

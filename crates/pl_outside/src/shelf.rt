@@ -65,6 +65,6 @@ pub trait Shelf {
         ensures keeps { holds self.new ≡ holds self.old }
         ensures stays { sound self.new ≡ sound self.old };
 
-    // A sound shelf tells.
+    // What a sound shelf holds is known.
     ghost sound_tells: { (shelf : Self) → IsTrue (sound shelf) → IsSome (holds shelf) };
 }

@@ -44,7 +44,7 @@ pub trait Sink {
         ensures stays { sound self.new ≡ sound self.old }
         ensures stays_whole { whole self.new ≡ whole self.old };
 
-    // A sound sink tells.
+    // What a sound sink took is known.
     ghost sound_tells: { (sink : Self) → IsTrue (sound sink) → IsSome (taken sink) };
 }
 
