@@ -61,7 +61,7 @@ pub fn run_table<O: Sink, L: Ledger>(
     requires plan { IsPlanOf world.now.sessions.now (pipeline_of checked.now) plan.now }
     requires some { 1 ≤ chunk }
     requires most { chunk ≤ 4096 }
-    // Where memory is wanted nothing was written; else the text of the table is.
+    // Where memory ran out nothing was written; else the text of the table is.
     ensures writes { IsErrOf result RunError.Memory ⊎ Writes O.taken O.faults O.sound O.room out.old out.new
         (text (world_of world.now) (pipeline_of checked.now) format
         (table (world_of world.now) (pipeline_of checked.now) plan.now.from plan.now.to)) result }
