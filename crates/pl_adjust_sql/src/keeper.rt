@@ -16,7 +16,7 @@ use sqlite::{Alter, Connection};
 use std::alloc::Global;
 
 /// The tables of one connection, under one name. A load by another name, and each refusal of a statement or a
-/// value, is a counted fault. Its trait's members say nothing of what it holds: what a load appends is what
+/// value, is a counted fault. As a keeper it says nothing of what it holds: what a load appends is what
 /// `read_table` does.
 #[derive(Drop)]
 pub struct SqlKeeper<S: Alter> {
