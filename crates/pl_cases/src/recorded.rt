@@ -3,7 +3,7 @@
 use pl_outside::{AdjustKeeper, KeepError, MemoryKeeper, RawAdjust, Table};
 use std::alloc::Global;
 
-/// A keeper, and the tables that were loaded, a line each. Its trait's members say nothing but its faults.
+/// A keeper, and the tables that were loaded, a line each. Contracts see nothing of it but its faults.
 #[derive(Drop)]
 pub(crate) struct RecordedKeeper {
     keeper: MemoryKeeper,
