@@ -13,8 +13,8 @@ use std::alloc::Global;
 use std::fs;
 use std::io::{self, ErrorKind};
 
-/// Database files of SQLite by their paths: each load opens the named file and reads its table. Its trait's
-/// members say nothing but its faults.
+/// Database files of SQLite by their paths: each load opens the named file and reads its table. Contracts see
+/// nothing of it but its faults.
 #[derive(Drop)]
 pub struct FileKeeper<'a> {
     rt: &'a HostRuntime,

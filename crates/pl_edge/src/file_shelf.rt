@@ -7,8 +7,8 @@ use pl_outside::{Failed, Shelf};
 use std::fs::{self, File};
 use std::io::Read;
 
-/// The files of the disk by their paths, of which the one that was begun last is open. Its trait's members
-/// say nothing but its faults.
+/// The files of the disk by their paths, of which the one that was begun last is open. Contracts see nothing
+/// of it but its faults.
 #[derive(Drop)]
 pub struct FileShelf<'a> {
     rt: &'a HostRuntime,

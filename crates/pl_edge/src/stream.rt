@@ -8,8 +8,8 @@ ghost use Rattle.pl_outside.specs.Counts.{HasCause, count_end, count_plus};
 use pl_outside::{Failed, Sink};
 use std::io::{BufWriter, Write};
 
-/// A writer of the system as a sink. Its trait's members say nothing but its faults; what its writer holds,
-/// where that is known, grows by exactly the bytes that it takes.
+/// A writer of the system as a sink. As a sink contracts see nothing of it but its faults; what its writer
+/// holds, where that is known, grows by exactly the bytes that it takes.
 #[derive(Drop)]
 pub struct Stream<W: Write + Drop> {
     to: W,
