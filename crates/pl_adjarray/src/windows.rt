@@ -79,7 +79,7 @@ impl<'s> Windows<'s> {
         true
     }
 
-    /// The session of the last advance; the first one of the buffer before the first advance.
+    /// The session of the last advance, counted from 0; the first one of the buffer before the first advance.
     pub fn session(&self) -> usize
         ensures { result ≡ self.now.session }
     {
