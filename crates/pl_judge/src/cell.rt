@@ -16,7 +16,7 @@ use pl_terms::{Checked, TermId};
 use pl_words::{ExplainRequest, RangeDate};
 use std::alloc::Global;
 
-/// A cell by its term, the column of its asset and its session.
+/// A cell by its term, the column of its asset and its session, both counted from 0.
 #[derive(Clone, Copy, Debug, PartialEq, Eq)]
 pub struct CellPlace {
     pub term: TermId,

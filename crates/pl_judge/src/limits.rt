@@ -5,7 +5,7 @@ ghost use Rattle.pl_judge.specs.Work as spec;
 use crate::Limit;
 use pl_words::InputFile;
 
-/// The greatest number of bytes of a pipeline file.
+/// The greatest number of bytes of a pipeline file. Both limits are this project's own.
 pub const PIPELINE_CAP: usize = 262_144;
 
 /// The greatest number of bytes of a data file.

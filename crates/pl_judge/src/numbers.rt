@@ -6,8 +6,9 @@ use crate::write_pieces;
 use itoa::Buffer;
 use pl_outside::{Failed, Sink};
 
-/// The numbers of a run: how many rows it has, the sum of their cells modulo 2^64, the greatest number of
-/// arrays that are held at once, and how many its plan allows.
+/// The numbers of a run: how many rows it has, the sum of their cells modulo 2^64 (in millionths, a filter's
+/// 1 or 0, a classifier's number or code, what is missing 0), the greatest number of arrays that are held at
+/// once, and how many its plan allows.
 #[derive(Clone, Copy, Debug, PartialEq, Eq)]
 pub struct Numbers {
     pub rows: u64,
