@@ -91,7 +91,7 @@ impl Derivation {
         Derivation { lines }
     }
 
-    /// How many lines there are.
+    /// How many lines there are: at most 100,000.
     pub fn len(&self) -> usize
         ensures length { result ≡ length self.now }
         ensures few { result ≤ most_lines }
