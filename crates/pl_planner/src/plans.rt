@@ -47,7 +47,7 @@ impl Model for Plan {
 }
 
 impl Plan {
-    /// The first session of the range.
+    /// The first session of the range, counted from 0.
     pub fn from(&self) -> usize
         ensures value { result ≡ self.now.from }
         ensures order { result ≤ self.now.to }
@@ -55,7 +55,7 @@ impl Plan {
         self.from
     }
 
-    /// The last session of the range.
+    /// The last session of the range, included, counted from 0.
     pub fn to(&self) -> usize
         ensures value { result ≡ self.now.to }
         ensures order { self.now.from ≤ result }
@@ -112,7 +112,7 @@ impl Plan {
         self.reach
     }
 
-    /// The greatest number of terms and bar columns that are live at once.
+    /// The greatest number of terms and bar columns that are live at once, and so of arrays: at most 261.
     pub fn bound(&self) -> usize
         ensures value { result ≡ self.now.bound }
         ensures few { result ≤ 261 }
@@ -120,7 +120,7 @@ impl Plan {
         self.bound
     }
 
-    /// The last used term that mentions a used term; none for an output, which is kept to the end.
+    /// The last used term that mentions a used term; `None` for an output, which is kept to the end.
     #[tactic(auto, unfolding(crate::specs::Plans::last_user))]
     pub fn last_user(&self, t: TermId) -> Option<TermId>
         requires { spec.is_used self.now t.0 ≡ true }
