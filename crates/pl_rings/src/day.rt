@@ -9,7 +9,7 @@ pub struct DayBar {
     pub cells: [i64; 5],
 }
 
-/// An adjustment of the asset in a column.
+/// An adjustment of the asset in a column, effective on its day, counted from 1970-01-01.
 #[derive(Clone, Copy, Debug, PartialEq, Eq)]
 pub struct DayEvent {
     pub col: u32,

@@ -10,7 +10,7 @@ use circular_buffer::HeapCircularBuffer;
 use pl_fixed::{MISSING, Memory};
 use std::alloc::Global;
 
-/// How many sessions the rings of each bar column have.
+/// How many sessions the rings of each bar column have: 0 where no window reads it.
 #[derive(Clone, Copy, Debug, PartialEq, Eq)]
 pub struct Capacities {
     pub open_price: usize,
