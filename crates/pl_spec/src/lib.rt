@@ -49,7 +49,7 @@ pub enum RankMethod {
     Average,
 }
 
-/// Whether the least value or the greatest has the first rank.
+/// Whether the least value or the greatest has the first rank, which is 1.
 #[derive(Clone, Copy, Debug, PartialEq, Eq)]
 pub enum RankOrder {
     Ascending,
@@ -74,8 +74,8 @@ pub enum Format {
     Fixed,
 }
 
-/// An asset, which exists on each session whose day is later than `start` and at most `end`. Days are counted
-/// from 1970-01-01.
+/// An asset, which exists on each session whose day is later than `start` and at most `end`, as in Zipline.
+/// Days are counted from 1970-01-01.
 #[derive(Clone, Copy, Debug, PartialEq, Eq)]
 pub struct AssetRow {
     pub sid: u32,
@@ -83,7 +83,8 @@ pub struct AssetRow {
     pub end: i32,
 }
 
-/// The bar of the asset in a column on a session: open, high, low, close and volume, in millionths.
+/// The bar of the asset in a column on a session: open, high, low, close and volume, in millionths, each
+/// `MISSING` where it has none. Columns and sessions are counted from 0.
 #[derive(Clone, Copy, Debug, PartialEq, Eq)]
 pub struct BarRow {
     pub col: u32,
@@ -91,8 +92,9 @@ pub struct BarRow {
     pub cells: [i64; 5],
 }
 
-/// A row of a table of splits, mergers or dividends. `effective` is in seconds since 1970-01-01 UTC: from
-/// that day on earlier bars are seen times `num / den`.
+/// A row of a table of splits, mergers or dividends, which are Zipline's; the ratio in two whole numbers is
+/// this project's own. `effective` is in seconds since 1970-01-01 UTC: from that day on earlier bars are seen
+/// times `num / den`. The numbers are as in the table, right or not.
 #[derive(Clone, Copy, Debug, PartialEq, Eq)]
 pub struct RawAdjust {
     pub id: i64,
