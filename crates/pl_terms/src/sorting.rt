@@ -45,7 +45,7 @@ fn first_term(node: &Node) -> Option<TermId>
     }
 }
 
-/// The kind whose sort a term has: its own, or that of its input where it is downsampled; none where a bar
+/// The kind whose sort a term has: its own, or that of its input where it is downsampled; `None` where a bar
 /// column is downsampled, which no checked pipeline does.
 pub fn sorting_kind(graph: &Graph, t: TermId) -> Option<&TermKind>
     requires { t.0 < length graph.now }
