@@ -103,7 +103,8 @@ impl Workspace {
         })
     }
 
-    /// Hands out the cells of a free slot, whatever they hold.
+    /// Hands out the cells of a free slot, whatever they hold. The slot is begun until `finish` takes them
+    /// back.
     pub fn begin(&mut self, slot: usize) -> Buffer
         requires { slot_at self.old slot ≡ Free }
         ensures changed { self.new ≡ with_slot self.old slot Begun }
@@ -142,7 +143,7 @@ impl Workspace {
         self.live -= 1;
     }
 
-    /// The cells that were finished in a live slot.
+    /// The cells that were finished in a live slot, all of them.
     pub fn array(&self, slot: usize) -> &[i64]
         requires { IsLive (slot_at self.now slot) }
         ensures { slot_at self.now slot ≡ Live result.now }
