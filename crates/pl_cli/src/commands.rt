@@ -129,8 +129,7 @@ pub fn fmt_command<S: Shelf, O: Sink>(
 }
 
 /// Reads the pipeline file of that name, and writes how many terms and columns its pipeline has, as `ok: T
-/// terms, C columns` and a line end. It gives no numbers. The fault is the first one of syntax, or else of
-/// the rules.
+/// terms, C columns` and a line end. It gives no numbers. The fault is the first one in the order of work.
 pub fn check_command<S: Shelf, O: Sink>(
     alloc: Global,
     name: &str,
