@@ -90,8 +90,8 @@ impl<'a> Model for Daily<'a> {
 }
 
 impl<'a> Daily<'a> {
-    /// An evaluation into which no day was taken. It lends the pipeline, the assets and the labels of all
-    /// days. The only error is want of memory.
+    /// An evaluation of the pipeline over these assets and labels, which stay lent to it; no day was taken
+    /// in. The only error is want of memory.
     pub fn new(
         alloc: Global,
         checked: &'a Checked,
@@ -246,7 +246,7 @@ impl<'a> Daily<'a> {
     }
 
     /// The columns of the assets that the screen keeps on the last day, ascending, which are those of the
-    /// table's rows. The last call of `advance` must have given `true`.
+    /// table's rows. The day must have values, which `advance` said.
     pub fn kept(&self) -> &[u32]
         requires { self.now.answered ≡ true }
         ensures is { result.now ≡ self.now.kept }
