@@ -7,8 +7,8 @@ ghost use Rattle.pl_outside.specs.Counts.{count_plus};
 use crate::faults::Failed;
 use std::marker::Model;
 
-/// The calls of a part in memory, numbered from 1 over all methods of its trait. It stays at u64's greatest
-/// value.
+/// The calls of a part in memory, numbered from 1 over all methods of its trait. The count stays at u64's
+/// greatest value.
 #[derive(Drop)]
 pub struct CallLog {
     failing: Vec<u64>,
