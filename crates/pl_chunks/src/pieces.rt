@@ -2,14 +2,14 @@
 ghost use Rattle.std.specs.Prelude.{◌≡◌, ◌+◌, ◌≤◌, ◌<◌, ◌^◌};
 ghost use Rattle.pl_chunks.specs.Chunks as spec;
 
-/// The sessions of a chunk, from one to another, both included.
+/// The sessions of a chunk, from one to another.
 #[derive(Clone, Copy, Debug, PartialEq, Eq)]
 pub struct Chunk {
     pub from: usize,
     pub to: usize,
 }
 
-/// How many chunks of at most `size` sessions there are from one session to another, both included.
+/// How many chunks of at most `size` sessions there are from one session to another.
 pub fn chunk_count(from: usize, to: usize, size: usize) -> usize
     requires order { from ≤ to }
     requires fits { to < 2 ^ 32 }
@@ -20,7 +20,7 @@ pub fn chunk_count(from: usize, to: usize, size: usize) -> usize
     (to - from) / size + 1
 }
 
-/// The i-th of them, counted from 0: of `size` sessions, but for the last one, which may be shorter.
+/// The i-th of them, counted from 0.
 pub fn chunk_at(from: usize, to: usize, size: usize, i: usize) -> Chunk
     requires order { from ≤ to }
     requires fits { to < 2 ^ 32 }
