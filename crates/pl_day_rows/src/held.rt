@@ -54,7 +54,8 @@ fn copy_row(from: &[i64], to: &mut [i64])
     }
 }
 
-/// Takes the cells of the next day in, one for each asset by ascending sid. It takes no memory.
+/// Takes the cells of the next day in. It takes no memory.
+/// `row` has one for each asset by ascending sid.
 pub fn put_term(cells: &mut TermCells, row: &[i64])
     requires cells { AreTermCells (length row.now) cells.old }
     requires row { All IsCell row.now }
