@@ -19,7 +19,7 @@ use pl_fixed::Column;
 use pl_lifetimes::Assets;
 use std::alloc::Global;
 
-/// How many revisions a file may have. The limit is this project's own.
+/// How many revisions a file may have.
 pub const MOST_REVISIONS: usize = 200_000;
 
 /// From the day `known` on the cell of a bar column in the bar of the asset `sid` on the session of the day
@@ -36,7 +36,7 @@ pub struct Revision {
 
 /// The revisions of a file in its order: the header `sid,session,column,value,known`, and in each further
 /// record the sid of an asset, the date of a session, the name of a bar column, a decimal of at least 0 or an
-/// empty field, and a later date. The error is the first fault of the file, or want of memory.
+/// empty field, and a later date.
 pub fn read_revisions(
     alloc: Global,
     bytes: &[u8],
