@@ -67,8 +67,7 @@ pub(crate) fn input_told(
     }
 }
 
-/// Whether the asset passes the mask on the session, by the mask's number there; without a mask it does.
-/// `None` where that number is not there.
+/// Whether the asset passes the mask, by what is told of it; without a mask it does.
 pub fn mask_told(
     world: &World,
     checked: &Checked,
