@@ -5,8 +5,7 @@ use pl_fixed::Memory;
 use std::alloc::Global;
 use std::collections::HashMap;
 
-/// Rows of cells, one for each asset by ascending sid, found by the number of a term and a session, which is
-/// counted from 0.
+/// Rows of cells, found by the number of a term and a session.
 #[derive(Drop)]
 pub struct Rows {
     rows: HashMap<u64, Vec<i64>>,
@@ -19,7 +18,7 @@ fn key(term: u8, session: u32) -> u64
 }
 
 impl Rows {
-    /// No row is there.
+    /// No row is kept.
     #[tactic(auto, unfolding(crate::specs::Looking::row_at))]
     pub fn new(alloc: Global) -> Rows
         ensures { (t d : ℕ) → row_at result t d ≡ None }
@@ -29,7 +28,7 @@ impl Rows {
         }
     }
 
-    /// Lends the row of a term on a session; `None` where none was put there.
+    /// Lends the row of a term on a session.
     #[tactic(auto, unfolding(crate::specs::Looking::row_at))]
     pub fn row(&self, term: u8, session: u32) -> Option<&[i64]>
         ensures { option_map (λ r. r.now) result ≡ row_at self.now term session }
@@ -40,8 +39,7 @@ impl Rows {
         }
     }
 
-    /// Puts the row of a term on a session there, in place of one that is there already. The only error is
-    /// want of memory.
+    /// Keeps the row of a term on a session.
     pub fn keep(&mut self, term: u8, session: u32, row: Vec<i64>) -> Result<(), Memory>
         ensures { OnOk result ((t d : ℕ) → row_at self.new t d
             ≡ (if term == t && session == d then Some row.items else row_at self.old t d)) }

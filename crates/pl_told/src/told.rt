@@ -8,15 +8,14 @@ use pl_fixed::Memory;
 use std::alloc::Global;
 use std::collections::HashMap;
 
-/// The numbers of some facts, found by the fact: the last cell of a bar as it is seen, or the value of a
-/// term, as arrays hold it.
+/// The number that is told of each of some facts, found by the fact.
 #[derive(Drop)]
 pub struct Told {
     numbers: HashMap<u128, i64>,
 }
 
 impl Told {
-    /// No fact has a number.
+    /// Nothing is told.
     #[tactic(auto, unfolding(crate::specs::Looking::look))]
     pub fn new(alloc: Global) -> Told
         ensures { (f : _) → look result f ≡ None }
@@ -26,8 +25,7 @@ impl Told {
         }
     }
 
-    /// The number of a fact, in millionths, a filter's 1 or 0, a label's code, or `MISSING`; `None` where it
-    /// has none.
+    /// The number that is told of a fact.
     #[tactic(auto, unfolding(crate::specs::Looking::look))]
     pub fn number(&self, fact: Fact) -> Option<i64>
         ensures { result ≡ look self.now (fact_of fact) }
@@ -35,8 +33,7 @@ impl Told {
         self.numbers.get(&key(fact)).copied()
     }
 
-    /// Puts the number of a fact there, in place of one that is there already. The only error is want of
-    /// memory.
+    /// Tells the number of a fact.
     pub fn tell(&mut self, fact: Fact, number: i64) -> Result<(), Memory>
         ensures { OnOk result ((f : _) → look self.new f
             ≡ (if same_fact (fact_of fact) f then Some number else look self.old f)) }
