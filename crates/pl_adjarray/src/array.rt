@@ -1,3 +1,5 @@
+//! What a traversal reads: a bar column of some assets, and what adjusts it.
+
 ghost use Rattle.std.specs.Prelude.{◌≡◌, ◌+◌, ◌*◌, ◌<◌, ◌≤◌, length};
 ghost use Rattle.pl_adjarray.specs.Buffered.{applied_at};
 
@@ -32,8 +34,8 @@ impl<'a> Model for AdjustedArray<'a> {
 }
 
 impl<'a> AdjustedArray<'a> {
-    /// The bars of these assets, which are known by their columns. A session must stand after the
-    /// last row.
+    /// The bars of the assets in the columns `cols`, in that order. After the last row there must be one more
+    /// session.
     pub fn new(
         bars: &'a Bars,
         adjustments: &'a Adjustments,
@@ -68,8 +70,9 @@ impl<'a> AdjustedArray<'a> {
         }
     }
 
-    /// Begins a traversal with windows of so many sessions, in a scratch of `rows` cells for each
-    /// asset. It fills the scratch with raw bars, asset by asset.
+    /// Begins a traversal with windows of so many sessions, in a scratch of `rows` cells for each asset. It
+    /// fills the scratch with raw bars in millionths, all sessions of the first asset and then those of the
+    /// next one.
     pub fn traverse<'s>(&'s self, window: usize, scratch: &'s mut [i64]) -> Windows<'s>
         requires some { 1 ≤ window }
         requires most { window ≤ self.now.rows }

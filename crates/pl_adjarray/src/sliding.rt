@@ -1,3 +1,5 @@
+//! How a buffer of bars is changed from one session to a later one.
+
 ghost use Rattle.std.specs.Prelude.{◌≡◌, ◌≢◌, ℕ, ◌+◌, ◌*◌, ◌<◌, ◌≤◌, ℤ, Some, length, map, option_to_list, slice_get, sum_by};
 ghost use Rattle.pl_spec.specs.Rounding.{IsCell, scaled};
 ghost use Rattle.pl_spec.specs.Window.{after_all, effect, effects_in, same_column, step_count};

@@ -1,3 +1,5 @@
+//! A traversal: windows over a buffer of bars, session after session.
+
 ghost use Rattle.std.specs.Prelude.{◌≡◌, ◌+◌, ◌<◌, ◌≤◌, ◌↔◌, ℕ, false, pos, length, take, drop, All, IsTrue};
 ghost use Rattle.pl_spec.specs.Rounding.{IsCell};
 ghost use Rattle.pl_spec.specs.Window.{bar_window};
@@ -77,15 +79,15 @@ impl<'s> Windows<'s> {
         true
     }
 
-    /// The session of the last advance; the first one of the buffer before the first advance.
+    /// The session of the last advance, counted from 0; the first one of the buffer before the first advance.
     pub fn session(&self) -> usize
         ensures { result ≡ self.now.session }
     {
         self.session
     }
 
-    /// The bars of an asset on the sessions before this one, as they are seen on it, the oldest
-    /// first: in millionths, `MISSING` where there is no bar.
+    /// The bars of the i-th asset of the array, from 0, on the sessions before this one, as they are seen on
+    /// it, the oldest first: in millionths, `MISSING` where there is no bar.
     pub fn window(&self, i: usize) -> &[i64]
         requires begun { self.now.array.first + self.now.window ≤ self.now.session }
         requires asset { i < length self.now.array.cols }
@@ -118,8 +120,8 @@ impl<'s> Windows<'s> {
         )
     }
 
-    /// The bars of an asset from the oldest of its window on, up to the newest of its window so many sessions
-    /// later, where nothing changes on them: its windows on all these sessions.
+    /// The bars of the i-th asset from the oldest of its window on, up to the newest of its window `more`
+    /// sessions later, where nothing changes on them: its windows on all these sessions, in millionths.
     pub fn reach(&self, i: usize, more: usize) -> &[i64]
         requires begun { self.now.array.first + self.now.window ≤ self.now.session }
         requires still { IsStill self.now.array self.now.session more }
@@ -152,7 +154,7 @@ impl<'s> Windows<'s> {
         self.session += more;
     }
 
-    /// How many steps the traversal took so far, or u64's greatest value where there were more.
+    /// How many steps the traversal took so far; u64's greatest value where there were more.
     pub fn applied(&self) -> u64
         ensures { result ≡ cut (applied_at self.now.array self.now.session) }
     {

@@ -8,8 +8,8 @@ use pl_fixed::{Column, Ratio};
 use pl_spec::AdjustmentKind as Kind;
 
 /// What an adjustment changes: it multiplies the cells of earlier bars by a ratio, or overwrites one cell,
-/// that of a bar column in the bar of the session on a day. The value is a cell in millionths, or
-/// `MISSING`.
+/// that of a bar column in the bar of the session on a day, counted from 1970-01-01. The value is a cell in
+/// millionths, or `MISSING`.
 #[derive(Clone, Copy, Debug, PartialEq, Eq)]
 pub enum Change {
     Scale(Ratio),
@@ -29,7 +29,8 @@ pub struct Adjust {
     pub change: Change,
 }
 
-/// What an adjustment does to a cell: it multiplies it by a ratio, or puts another in its place.
+/// What an adjustment does to a cell: it multiplies it by a ratio, or puts another in its place, in
+/// millionths or `MISSING`.
 #[derive(Clone, Copy, Debug, PartialEq, Eq)]
 pub enum Effect {
     Scale(Ratio),
@@ -49,9 +50,9 @@ pub fn ratio_for(kind: Kind, ratio: Ratio, column: Column) -> Option<Ratio>
     }
 }
 
-/// What an adjustment does to the cell of a bar column in the bar of a day: a ratio multiplies it by its
-/// factor, and a revision overwrites its own cell. `None` for a merger or a dividend on volume, and for a
-/// revision of another bar or column.
+/// What an adjustment does to the cell of a bar column in the bar of a day, counted from 1970-01-01: a ratio
+/// multiplies it by its factor, and a revision overwrites its own cell. `None` for a merger or a dividend on
+/// volume, and for a revision of another bar or column.
 pub fn effect_for(adjust: &Adjust, bar_day: i32, column: Column) -> Option<Effect>
     ensures some { IfSome result (λ e.
         effect column bar_day (event_of adjust.now) ≡ Some (effect_of e)) }

@@ -1,3 +1,5 @@
+//! The adjustments that are known by a day.
+
 ghost use Rattle.std.specs.Prelude.{◌≡◌, length, map, IfOk};
 ghost use Rattle.pl_spec.specs.AsOf.{adjustments_by};
 ghost use Rattle.pl_adjust.specs.Columns.{in_columns};

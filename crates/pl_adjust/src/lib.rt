@@ -37,11 +37,11 @@ pub use seen::seen_now;
 use std::alloc::{AllocError, Global};
 use std::marker::Model;
 
-/// How many rows the three tables may have together.
+/// How many rows the three tables may have together. The limit is this project's own.
 pub const MOST_ROWS: usize = 1_000_000;
 
-/// The adjustments of the assets, by asset column, which is the place of an asset by ascending sid, from
-/// 0.
+/// The adjustments of the assets, by asset column, which is the place of an asset by ascending sid, from 0.
+/// Those of an asset are in the order in which they act.
 #[derive(Debug, Drop)]
 pub struct Adjustments {
     cols: Vec<usize>,
@@ -63,7 +63,7 @@ impl Model for Adjustments {
 }
 
 impl Adjustments {
-    /// No adjustments.
+    /// No adjustments: each bar is seen as it was written.
     pub fn none(alloc: Global) -> Adjustments
         ensures { result ≡ [] }
     {
@@ -74,9 +74,10 @@ impl Adjustments {
         }
     }
 
-    /// The adjustments of the rows of three tables. A row acts from the day of its effective time
-    /// on, which is in seconds since 1970-01-01. The rows are tested in the order of the tables and
-    /// then in their own; those whose sid is of no asset are tested too, and left out.
+    /// The adjustments of the rows of three tables. A row acts from the day of its effective time on, which
+    /// is in seconds since 1970-01-01. The rows are tested in the order of the tables and then in their own;
+    /// those whose sid is of no asset are tested too, and left out. The error is the first fault, or want of
+    /// memory.
     pub fn from_rows(
         alloc: Global,
         assets: &Assets,
@@ -99,7 +100,8 @@ impl Adjustments {
     /// Adds the revisions of a file: from the day on which it is known each overwrites the cell that it
     /// names. The header is `sid,session,column,value,known`; each further record has the sid of an asset,
     /// the date of a session, the name of a bar column, a decimal of at least 0 or an empty field, which
-    /// takes the cell away, and a later date. After an error the adjustments are as before.
+    /// takes the cell away, and a later date. The error is the first fault of the file, or want of memory,
+    /// and after it the adjustments are as before. Revisions are this project's own.
     pub fn add_revisions(
         &mut self,
         bytes: &[u8],
@@ -152,7 +154,8 @@ impl Adjustments {
         })
     }
 
-    /// The adjustments whose day is at most `day`.
+    /// The adjustments whose day, counted from 1970-01-01, is at most `day`, copied. The only error is want
+    /// of memory.
     pub fn cut(&self, alloc: Global, day: i32) -> Result<Adjustments, Memory>
         ensures { IfOk result (λ a. a ≡ adjustments_by day self.now) }
     {
@@ -167,7 +170,7 @@ impl Adjustments {
         })
     }
 
-    /// How many adjustments there are. Those of an asset stand by day, and what overwrites a cell is one.
+    /// How many adjustments there are. Those of an asset are by day, and what overwrites a cell is a cell.
     pub fn len(&self) -> usize
         ensures length { result ≡ length self.now }
         ensures in_order { StandByDay self.now }
@@ -176,9 +179,9 @@ impl Adjustments {
         self.cols.len()
     }
 
-    /// The adjustments of the asset in a column in the order in which they act: by day, on one day
-    /// splits before mergers, these before dividends and these before revisions, each in the order of its
-    /// table or file.
+    /// The adjustments of the asset in a column in the order in which they act: by day, on one day splits
+    /// before mergers, these before dividends and these before revisions, each in the order of its table or
+    /// file.
     pub fn of_col(&self, col: usize) -> &[Adjust]
         ensures events { map event_of result.now ≡ events_at self.now col }
         ensures in_order { AllPairs (λ a b. a.day ≤ℤ b.day) result.now }
@@ -187,7 +190,8 @@ impl Adjustments {
         columns::of_col(&self.cols, &self.starts, &self.adjusts, col)
     }
 
-    /// Those of them whose days are later than `after` and at most `to`, in that order.
+    /// Those of them whose days, counted from 1970-01-01, are later than `after` and at most `to`, in that
+    /// order.
     pub fn events_between(&self, col: usize, after: i32, to: i32) -> &[Adjust]
         ensures events { map event_of result.now
             ≡ filter (λ e. int_lt after e.day && int_le e.day to) (events_at self.now col) }

@@ -11,9 +11,9 @@ use crate::adjust::{Adjust, Effect, effect_for};
 use pl_fixed::{Column, Steps};
 use std::sync::ledger::Ledger;
 
-/// The cell of a bar column in a bar of the day `bar_day` as it is seen on `day`: changed by each
-/// adjustment of the list that acts on it later than the one day and by the other, one after the
-/// other. Each product is rounded, and is one step; to overwrite is none.
+/// The cell of a bar column in a bar of the day `bar_day` as it is seen on `day`, in millionths; both are
+/// counted from 1970-01-01. Each adjustment of the list that acts on it later than the one day and by the
+/// other changes it, one after the other. Each product is rounded, and is one step; to overwrite is none.
 pub fn seen_now<L: Ledger>(
     cell: i64,
     bar_day: i32,

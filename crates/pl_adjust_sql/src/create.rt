@@ -1,4 +1,5 @@
-// The documented statements that make the tables.
+//! The documented statements that make the tables.
+
 ghost use Rattle.std.specs.Prelude.{◌≡◌, ◌≤◌, ℕ, List, OnOk};
 ghost use Rattle.sqlite.specs.State.{HasCleanDisk};
 ghost use Rattle.sqlite.specs.Held.{state};
@@ -13,8 +14,8 @@ use crate::refusal::TableError;
 use pl_outside::Table;
 use sqlite::{Alter, Connection};
 
-/// Makes the table by the documented statement, whatever other tables there are. `Refused` is the answer
-/// where SQLite refuses the statement, as where something has the name.
+/// Makes the table by the documented statement, whatever other tables there are. `Refused` comes where SQLite
+/// refuses the statement, as where something has the name, and `Memory` where memory runs out.
 pub fn create_table<S: Alter>(
     connection: &mut Connection<S>,
     table: Table,
@@ -35,7 +36,8 @@ pub fn create_table<S: Alter>(
     Ok(())
 }
 
-/// Makes the three tables by the documented statements. After an error some may be there.
+/// Makes the tables `splits`, `mergers` and `dividends`, in this order. The error is that of the first one
+/// that is not made; after it some may be there.
 pub fn create_tables<S: Alter>(connection: &mut Connection<S>) -> Result<(), TableError>
     ensures made { HasCleanDisk (state S.Store connection.new) → OnOk result ((table : Name) → (tree : ℕ)
         × IsFound (state S.Store connection.new).now.schema table (created_table table tree) created_places) }

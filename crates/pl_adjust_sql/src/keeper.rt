@@ -1,4 +1,5 @@
-// The keeper over one connection.
+//! The keeper over one connection.
+
 ghost use Rattle.std.specs.Prelude.{◌≡◌, ℕ, List, None, Err, OnOk, OnErr, string_bytes, false};
 ghost use Rattle.sqlite.specs.State.{HasCleanDisk};
 ghost use Rattle.sqlite.specs.Held.{state};
@@ -15,8 +16,8 @@ use sqlite::{Alter, Connection};
 use std::alloc::Global;
 
 /// The tables of one connection, under one name. A load by another name, and each refusal of a statement or a
-/// value, is a counted fault. It tells nothing of what it holds: what a load appends is what `read_table`
-/// does.
+/// value, is a counted fault. As a keeper it says nothing of what it holds: what a load appends is what
+/// `read_table` does.
 #[derive(Drop)]
 pub struct SqlKeeper<S: Alter> {
     connection: Connection<S>,
@@ -25,7 +26,7 @@ pub struct SqlKeeper<S: Alter> {
 }
 
 impl<S: Alter> SqlKeeper<S> {
-    /// No fault is counted yet.
+    /// The keeper of the connection's tables under this name, with no fault counted yet.
     pub fn new(connection: Connection<S>, name: String) -> SqlKeeper<S>
         ensures { result ≡ record { connection = connection; name = name; faults = 0 } }
     {

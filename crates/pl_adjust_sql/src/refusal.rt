@@ -1,13 +1,16 @@
-// Why a table isn't read.
+//! Why a table isn't read.
+
 ghost use Rattle.std.specs.Prelude.{◌≡◌};
 
 use sqlite::{Error, ErrorCode};
 use std::alloc::{AllocError, AllocFailed};
 
-/// Why a table isn't read: the statement or a value was refused, or no memory was found.
+/// Why a table isn't read or made.
 #[derive(Clone, Copy, Debug, PartialEq, Eq)]
 pub enum TableError {
+    /// SQLite refused the statement, or a value of its answer is no integer.
     Refused,
+    /// Memory ran out.
     Memory,
 }
 

@@ -1,3 +1,5 @@
+//! The labels of assets: read from a file or put together row by row, and looked up by day.
+
 ghost use Rattle.std.specs.Prelude.{◌≡◌, ◌<◌, ◌≤◌, ◌++◌, ◌∷◌, ◌==◌, [], length, position, slice_index_or, bytes_eq, All, Contains, IfOk, IfSome, IsTrue, OnOk, OnErr, option_and_then};
 ghost use Rattle.std.specs.List.{list_any, position_or_len};
 ghost use Rattle.pl_records.specs.Reading.{Answers};
@@ -22,9 +24,8 @@ use rows::LabelRows;
 use std::alloc::Global;
 use std::marker::Model;
 
-/// The labels of the assets, by column: at most 200,000 rows. A label has a name, and each name has
-/// a number; each text that is not empty has a code. Both count from 0, in the order in which the
-/// rows came.
+/// The labels of the assets, by column: at most 200,000 rows. A label has a name, and each name has a number;
+/// each text that is not empty has a code. Both count from 0, in the order in which the rows came.
 #[derive(Debug)]
 pub struct Labels {
     rows: LabelRows,
@@ -54,7 +55,7 @@ impl Model for Labels {
 }
 
 impl Labels {
-    /// No labels.
+    /// No labels: no asset has one under any name.
     pub fn none(alloc: Global) -> Labels
         ensures { result ≡ no_labels }
     {
@@ -64,9 +65,9 @@ impl Labels {
         }
     }
 
-    /// The labels of a file: the header `name,sid,start,label`, and in each further record a name,
-    /// the sid of an asset, a date and a label of at most 64 bytes. From the date on the asset has
-    /// the label; an empty one says that it has none.
+    /// The labels of a file: the header `name,sid,start,label`, and in each further record a name, the sid of
+    /// an asset, a date and a label of at most 64 bytes. From the date on the asset has the label; an empty
+    /// one says that it has none. The error is the first fault of the file, or want of memory.
     #[tactic(auto, unfolding(crate::specs::Labels::labels_of))]
     pub fn read(alloc: Global, bytes: &[u8], assets: &Assets) -> Result<Labels, LabelsError>
         // The labels of the records, or the fault of the first faulty one. Only want of memory may
@@ -82,8 +83,9 @@ impl Labels {
         Ok(Labels { rows, order })
     }
 
-    /// Puts one row after the others: from the day on the asset of the sid has the label under the
-    /// name. Where memory or the codes of 32 bits run out, the labels stay as they were.
+    /// Puts one row after the others: from the day `start` on, counted from 1970-01-01, the asset of the sid
+    /// has the label under the name. The error is want of memory, or of the codes of 32 bits; then the labels
+    /// stay as they were.
     pub fn add(
         &mut self,
         assets: &Assets,
@@ -107,7 +109,8 @@ impl Labels {
         Ok(())
     }
 
-    /// The rows that start by the day. All texts stay, so that each keeps its code.
+    /// The rows that start by the day, counted from 1970-01-01. All texts stay, so that each keeps its code.
+    /// The only error is want of memory.
     pub fn cut(&self, alloc: Global, day: i32) -> Result<Labels, Memory>
         ensures rows { IfOk result (λ l. l.rows ≡ labels_by day self.now.rows) }
         ensures texts { IfOk result (λ l. l.texts ≡ self.now.texts) }
@@ -125,7 +128,7 @@ impl Labels {
         self.rows.places.len()
     }
 
-    /// The number of a name, if a row has it.
+    /// The number of a name, from 0; `None` where no row has it.
     pub fn name_of(&self, name: &[u8]) -> Option<u32>
         ensures within { IfSome result (λ number. number < length (names_of self.now.rows)) }
         ensures exact { result ≡ position (bytes_eq name.now) (names_of self.now.rows) }
@@ -136,8 +139,9 @@ impl Labels {
         }
     }
 
-    /// The code of the label of a column under a name on a day, if it has one: that of the row that
-    /// started last, unless its text is empty.
+    /// The code of the label of the asset in a column, under the name of a number, on a day counted from
+    /// 1970-01-01: that of the row that started last. `None` where no row started by the day, or the text of
+    /// that row is empty.
     pub fn label_at(&self, name: u32, col: usize, day: i32) -> Option<u32>
         requires { name < length (names_of self.now.rows) }
         ensures code { result ≡ option_and_then (λ text. position (bytes_eq text) self.now.texts)
@@ -154,7 +158,7 @@ impl Labels {
         }
     }
 
-    /// The text of a code.
+    /// The text of a code: 1 to 64 bytes from the space to `~`.
     pub fn text(&self, code: u32) -> &[u8]
         requires { code < length self.now.texts }
         ensures exact { result.now ≡ slice_index_or self.now.texts code [] }

@@ -13,10 +13,10 @@ ghost use Rattle.pl_assets.specs.Labels as labels;
 ghost use Rattle.pl_assets.specs.LabelRules as label_rules;
 ghost use Rattle.pl_assets.specs.LabelWorlds.{LabelsAreThose};
 
-/// A file is read as labels exactly where it has its header and each further record is a label of
-/// an asset, the only one of its name, asset and start; they stand in the order of the file. It has
-/// a fault exactly where the header is missing, or where that record breaks that rule and no
-/// earlier one, and the records before it are labels.
+/// A file is read as labels exactly where it has its header and each further record is a label of an asset,
+/// the only one of its name, asset and start; they are in the order of the file. It has a fault exactly where
+/// the header is missing, or where that record breaks that rule and no earlier one, and the records before it
+/// are labels.
 pub fn labels_in_plain_words()
     ensures record { (assets : List AssetRow) → AreAssets assets
         → Judges (label_rules.IsLabel assets)

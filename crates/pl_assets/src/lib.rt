@@ -8,7 +8,7 @@ pub mod laws;
 pub use labels::{Labels, LabelsError};
 pub use pl_lifetimes::{AssetRow, Assets, AssetsError, MOST_ASSETS};
 
-/// How many rows of labels there may be.
+/// How many rows of labels there may be. The limit is this project's own.
 pub const MOST_LABELS: usize = 200_000;
 
 /// How many bytes a label may have.

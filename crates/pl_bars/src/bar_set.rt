@@ -1,3 +1,5 @@
+//! A set of columns and sessions, by which a second bar is found.
+
 ghost use Rattle.std.specs.Prelude.{◌≡◌, ℕ, ◌+◌, ◌*◌, ◌<◌, ◌≤◌, ◌==◌, ◌&&◌, ◌||◌, [], length, IfOk, vec_len};
 ghost use Rattle.pl_spec.specs.Limits.{most_sessions};
 ghost use Rattle.pl_spec.specs.Limits.{most_assets};

@@ -1,3 +1,5 @@
+//! The bars before a session.
+
 ghost use Rattle.std.specs.Prelude.{◌≡◌, IfOk};
 ghost use Rattle.pl_spec.specs.AsOf.{bars_before};
 

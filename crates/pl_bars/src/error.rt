@@ -1,3 +1,5 @@
+//! Why a bars file is refused.
+
 ghost use Rattle.std.specs.Prelude.{◌≡◌};
 ghost use Rattle.pl_bars.specs.declared.error.BarsError.TheVariants.{Memory};
 
@@ -28,7 +30,7 @@ pub enum BarsError {
     /// A record before has the sid and the date.
     #[error("record {line}: the bar stands before")]
     Duplicate { line: u32 },
-    /// 4,000,000 bars stand before this one.
+    /// 4,000,000 bars come before this one.
     #[error("record {line}: too many bars")]
     TooMany { line: u32 },
     /// Memory ran out.

@@ -1,3 +1,5 @@
+//! The fields of a record of a bar.
+
 ghost use Rattle.std.specs.Prelude.{◌≡◌, length};
 ghost use Rattle.std.specs.List.{list_any};
 ghost use Rattle.pl_bars.specs.Bars.{cell_in, cells_in, fields_in, is_negative};
@@ -43,7 +45,7 @@ fn cells_of(row: &Records) -> Option<[i64; 5]>
 }
 
 /// The cell of a field, in millionths: `MISSING` where the text is empty, else the decimal. `None` where it
-/// is neither.
+/// is neither, or its rounded value is no cell.
 #[tactic(auto, unfolding(crate::specs::Bars::cell_in))]
 pub fn read_cell(text: &[u8]) -> Option<i64>
     ensures { result ≡ cell_in text.now }
@@ -54,7 +56,8 @@ pub fn read_cell(text: &[u8]) -> Option<i64>
     read_decimal(text).ok()
 }
 
-/// The bar column of a name: `open`, `high`, `low`, `close` or `volume`.
+/// The bar column of a name: `open`, `high`, `low`, `close` or `volume`, in small letters. `None` for any
+/// other text.
 #[tactic(auto, unfolding(crate::specs::ColumnNames::column_in))]
 pub fn read_column(text: &[u8]) -> Option<Column>
     ensures { result ≡ column_in text.now }

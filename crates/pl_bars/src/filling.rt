@@ -1,3 +1,5 @@
+//! Cells of a bar column written for many sessions at once.
+
 ghost use Rattle.std.specs.Prelude.{◌≡◌, ℕ, ◌+◌, ◌*◌, ◌^◌, ◌<◌, ◌≤◌, IsTrue, length, pos, slice_index, slice_index_or};
 ghost use Rattle.pl_spec.specs.Rounding.{IsCell};
 ghost use Rattle.pl_bars.specs.Bars.{AreBars, cell_at};

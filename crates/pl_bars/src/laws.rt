@@ -13,10 +13,9 @@ ghost use Rattle.pl_bars.specs.Bars.{bars_of, Rule, rules, says_bar};
 ghost use Rattle.pl_bars.specs.Rules.{AreBarsOf, Breaks, IsBar, IsBarsFault};
 ghost use Rattle.pl_bars.specs.Worlds.{CellsAreRaw};
 
-/// A file is read as bars exactly where it has its header and each further record is the bar of an
-/// asset on a session, the only one; they stand by column and session. It has a fault exactly where
-/// the header is missing, or where that record breaks that rule and no earlier one, and the records
-/// before it are bars.
+/// A file is read as bars exactly where it has its header and each further record is the bar of an asset on a
+/// session, the only one; they are by column and session. It has a fault exactly where the header is missing,
+/// or where that record breaks that rule and no earlier one, and the records before it are bars.
 pub fn bars_in_plain_words()
     ensures record { (days : List ℤ) (assets : List AssetRow) → AreDays days → AreAssets assets
         → Judges (IsBar days assets) (λ before r. IsFirstBroken rules (Breaks days assets before r))

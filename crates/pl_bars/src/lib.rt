@@ -34,10 +34,10 @@ use starts::Starts;
 use std::alloc::Global;
 use std::marker::Model;
 
-/// How many bars there may be.
+/// How many bars there may be. The limit is this project's own.
 pub const MOST_BARS: usize = 4_000_000;
 
-/// The bars, at most 4,000,000 of them, by ascending column and then session. Their cells are
+/// The bars, at most 4,000,000 of them, by ascending column and then session. Their cells are millionths,
 /// missing or at least 0.
 #[derive(Debug, Drop)]
 pub struct Bars {
@@ -58,9 +58,10 @@ impl Model for Bars {
 }
 
 impl Bars {
-    /// The bars of a file: the header `sid,session,open,high,low,close,volume`, and in each further
-    /// record a sid, the date of a session and five decimals or empty fields, in any order. An
-    /// empty field is missing.
+    /// The bars of a file: the header `sid,session,open,high,low,close,volume`, and in each further record a
+    /// sid, the date of a session and five decimals or empty fields, in any order. An empty field is missing,
+    /// a volume's too, which in Zipline's reader is 0. The error is the first fault of the file, or want of
+    /// memory.
     pub fn read(
         alloc: Global,
         bytes: &[u8],
@@ -81,7 +82,8 @@ impl Bars {
         Ok(Bars { rows, starts })
     }
 
-    /// The bars of these rows.
+    /// The bars of these rows, which are by ascending column and then session, one for each: at most
+    /// 4,000,000, whose cells are `MISSING` or at least 0.
     pub fn from_rows(rows: Vec<BarRow>) -> Bars
         requires { AreBars rows.items }
         ensures { result ≡ rows.items }
@@ -92,7 +94,7 @@ impl Bars {
         }
     }
 
-    /// The bars of the sessions below `sessions`.
+    /// The bars of the sessions below `sessions`, copied. The only error is want of memory.
     pub fn cut(&self, alloc: Global, sessions: usize) -> Result<Bars, Memory>
         ensures { IfOk result (λ b. b ≡ bars_before sessions self.now) }
     {
@@ -103,7 +105,7 @@ impl Bars {
         })
     }
 
-    /// How many bars there are. They stand by ascending column and then session.
+    /// How many bars there are. They are by ascending column and then session.
     pub fn len(&self) -> usize
         ensures length { result ≡ length self.now }
         ensures bars { AreBars self.now }
@@ -111,7 +113,7 @@ impl Bars {
         self.rows.len()
     }
 
-    /// The cell of the bar of a column on a session, in millionths; `MISSING` where there is no
+    /// One cell of the bar of the asset in a column on a session, in millionths; `MISSING` where there is no
     /// bar.
     pub fn get(&self, col: usize, session: usize, column: Column) -> i64
         ensures value { result ≡ cell_at self.now col column session }
@@ -120,14 +122,16 @@ impl Bars {
         search::cell_at(&self.rows, col, session, column)
     }
 
-    /// The five cells of that bar, found by one search.
+    /// The five cells of that bar, found by one search: open, high, low, close, volume.
     pub fn cells(&self, col: usize, session: usize) -> [i64; 5]
         ensures { result ≡ cells_at self.now col session }
     {
         search::cells_at(&self.rows, col, session)
     }
 
-    /// Writes the cells of some columns on `rows` sessions from the first one on, asset by asset.
+    /// Writes the cells of a bar column for the assets `cols` on `rows` sessions from `first` on, in
+    /// millionths: all of the first asset in the order of the sessions, then those of the next one. A session
+    /// past the last has `MISSING`.
     pub fn fill_column(
         &self,
         column: Column,

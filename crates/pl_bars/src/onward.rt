@@ -1,5 +1,7 @@
-//! Look-ups that go on from a place: session after session, the next bar of an asset stands where that of the
-//! session before was left, so that it is not searched for.
+//! Look-ups that go on from a place: session after session, the next bar of an asset is where that of the
+//! session before
+//! ended, so that it is not searched for.
+
 ghost use Rattle.std.specs.Prelude.{◌≡◌, ◌≤◌, IsTrue, length, position};
 ghost use Rattle.pl_bars.specs.Bars.{AreBars, cells_at, is_at};
 ghost use Rattle.pl_bars.specs.BarPoint.{AllBefore, BarPoint, NoneBefore};
@@ -11,8 +13,9 @@ use pl_fixed::MISSING;
 use pl_spec::BarRow;
 
 impl Bars {
-    /// The five cells of the bar of a column on a session, from whatever place. They are not searched for
-    /// where the place was left by the look-up of the column's session before.
+    /// The five cells of the bar of the asset in a column on a session, in millionths: open, high, low,
+    /// close, volume, each `MISSING` where there is no bar. `place` may be any number; where it was left by
+    /// the look-up of the column's session before, nothing is searched.
     pub fn cells_onward(&self, col: usize, session: usize, place: &mut usize) -> [i64; 5]
         ensures { result ≡ cells_at self.now col session }
     {

@@ -1,6 +1,9 @@
-//! Where the session and the asset of a record stand. In a file by asset the next bar is that of the same
-//! asset on the next session, and in a file by date that of the next asset on the same session, so these are
-//! tried before they are searched for.
+//! Where the session and the asset of a record are. In a file by asset the next bar is that of the same asset
+//! on the next
+//! session, and in a file by date that of the next asset on the same session, so these are tried before they
+//! are searched
+//! for.
+
 ghost use Rattle.std.specs.Prelude.{◌≡◌, ◌<◌, ◌==◌, length, position, IfSome};
 ghost use Rattle.std.specs.Ordering.{int_eq};
 ghost use Rattle.pl_lifetimes.specs.Assets.{sid_of};

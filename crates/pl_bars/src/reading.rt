@@ -1,3 +1,5 @@
+//! From the bytes of a bars file to its rows.
+
 ghost use Rattle.std.specs.Prelude.{◌≡◌, ◌+◌, ◌*◌, ◌/◌, ◌^◌, ◌<◌, ◌≤◌, [], ◌∷◌, ◌++◌, ◌==◌, length, min, nat_lt, vec_capacity, IsTrue, OnOk, IfOk};
 ghost use Rattle.pl_records.specs.Reading.{Answers, at_line, rows_of};
 ghost use Rattle.pl_records.specs.Sorted.{HasOwnKeys, sorted_by};

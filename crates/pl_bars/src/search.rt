@@ -1,3 +1,5 @@
+//! Where a bar is among the rows.
+
 ghost use Rattle.std.specs.Prelude.{◌≡◌, ◌+◌, ◌<◌, ◌≤◌, length, position};
 ghost use Rattle.pl_spec.specs.Rounding.{IsCell};
 ghost use Rattle.pl_bars.specs.Bars.{AreBars, cell_at, cells_at, is_at, is_before, place};

@@ -1,5 +1,6 @@
 //! Where the bars of each column begin. A place is only likely and judged where it is used, so that no clause
-//! speaks of it.
+//! speaks of
+//! it.
 ghost use Rattle.pl_bars.specs.Bars.{AreBars};
 
 use crate::onward::point_onward;

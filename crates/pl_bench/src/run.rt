@@ -1,4 +1,4 @@
-//! The run, and the line that tells its numbers.
+//! The run, and the line of its numbers.
 ghost use Rattle.std.specs.Prelude.{◌≡◌, ◌≤◌, ◌+◌, ◌⊎◌, ℕ, IfOk, OnOk, OnErr, IsErrOf};
 ghost use Rattle.pl_outside.specs.Taken.{Writes};
 ghost use Rattle.pl_terms.specs.Checked.{pipeline_of};
@@ -20,7 +20,8 @@ use std::alloc::Global;
 use std::sync::ledger::Ledger;
 
 /// Runs the pipeline over the stated world of the number, `chunk` sessions at a time, and writes the numbers
-/// of that run, as `rows=R cells=C peak=P bound=B` and a line end.
+/// of that run, as `rows=R cells=C peak=P bound=B` and a line end. The error is that memory ran out, before
+/// anything was written, or that the sink counted a fault. The run is this project's own.
 pub fn bench<O: Sink, L: Ledger>(
     alloc: Global,
     number: u32,
@@ -30,7 +31,7 @@ pub fn bench<O: Sink, L: Ledger>(
 ) -> Result<(), RunError>
     requires some { 1 ≤ chunk }
     requires most { chunk ≤ 4096 }
-    // Where memory is wanted nothing was written, and no step is counted.
+    // Where memory ran out nothing was written, and no step is counted.
     ensures writes { IsErrOf result RunError.Memory
         ⊎ Writes O.taken O.faults O.sound O.room out.old out.new (bench_line number) result }
     ensures memory { IsErrOf result RunError.Memory → (out.new ≡ out.old) × (steps.new ≡ steps.old) }

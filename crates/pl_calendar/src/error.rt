@@ -1,3 +1,5 @@
+//! Why a sessions file is refused.
+
 ghost use Rattle.std.specs.Prelude.{◌≡◌};
 ghost use Rattle.pl_calendar.specs.declared.error.CalendarError.TheVariants.{Memory};
 
@@ -18,7 +20,7 @@ pub enum CalendarError {
     /// There is no record.
     #[error("no sessions")]
     Empty,
-    /// 16,000 records stand before this one.
+    /// 16,000 records come before this one.
     #[error("record {line}: too many sessions")]
     TooMany { line: u32 },
     /// Memory ran out.

@@ -24,10 +24,11 @@ use pl_fixed::{Frequency, Memory};
 use std::alloc::Global;
 use std::marker::Model;
 
-/// How many sessions there may be.
+/// How many sessions there may be. The limit is this project's own.
 pub const MOST_SESSIONS: usize = 16_000;
 
-/// The days of the sessions, ascending: from 1 to 16,000 of them, each counted from 1970-01-01.
+/// The days of the sessions, ascending: from 1 to 16,000 of them, each counted from 1970-01-01 and of the
+/// years 1900 to 2199.
 #[derive(Debug, Drop)]
 pub struct Sessions {
     days: Vec<i32>,
@@ -45,8 +46,8 @@ impl Model for Sessions {
 }
 
 impl Sessions {
-    /// The sessions of a file: each record is one date, `YYYY-MM-DD`, later than the one before.
-    /// There is no header.
+    /// The sessions of a file: each record is one date, `YYYY-MM-DD`, later than the one before. There is no
+    /// header. The error is the first fault of the file, or want of memory.
     pub fn read(alloc: Global, bytes: &[u8]) -> Result<Sessions, CalendarError>
         // The days of the records, or the fault of the first faulty one. Only want of memory may
         // come beside.
@@ -57,7 +58,8 @@ impl Sessions {
         Ok(Sessions { days })
     }
 
-    /// The sessions of these days.
+    /// The sessions of these days, counted from 1970-01-01, which ascend, each once: 1 to 16,000 of the years
+    /// 1900 to 2199.
     pub fn from_days(days: Vec<i32>) -> Sessions
         requires { AreDays days.items }
         ensures { result ≡ days.items }
@@ -65,7 +67,7 @@ impl Sessions {
         Sessions { days }
     }
 
-    /// The first `len` sessions.
+    /// The first `len` sessions, copied. The only error is want of memory.
     pub fn cut(&self, alloc: Global, len: usize) -> Result<Sessions, Memory>
         requires some { 0 < len }
         requires within { len ≤ length self.now }
@@ -75,7 +77,7 @@ impl Sessions {
         Ok(Sessions { days })
     }
 
-    /// How many sessions there are. Their days ascend.
+    /// How many sessions there are, at least 1. Their days ascend.
     pub fn len(&self) -> usize
         ensures length { result ≡ length self.now }
         ensures days { AreDays self.now }
@@ -85,7 +87,7 @@ impl Sessions {
         self.days.len()
     }
 
-    /// The day of a session.
+    /// The day of a session, counted from 1970-01-01.
     pub fn day(&self, i: usize) -> i32
         requires { i < length self.now }
         ensures exact { slice_get self.now i ≡ Some result }
@@ -95,7 +97,8 @@ impl Sessions {
         self.days[i]
     }
 
-    /// The session of a day, if the day has one.
+    /// The session of a day, counted from 1970-01-01; `None` where the day is no session. It is found by
+    /// bisection.
     pub fn index_of(&self, day: i32) -> Option<usize>
         ensures within { IfSome result (λ i. i < length self.now) }
         ensures exact { result ≡ position (λ d. int_eq d day) self.now }
@@ -103,7 +106,8 @@ impl Sessions {
         search::index_of(&self.days, day)
     }
 
-    /// The first session whose day is this one or a later one, if there is one.
+    /// The first session whose day, counted from 1970-01-01, is this one or a later one; `None` where all are
+    /// earlier.
     pub fn first_at_or_after(&self, day: i32) -> Option<usize>
         ensures within { IfSome result (λ i. i < length self.now) }
         ensures exact { result ≡ position (λ d. int_le day d) self.now }

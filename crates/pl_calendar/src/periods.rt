@@ -1,4 +1,5 @@
-// Where the years, quarters, months and weeks of days begin in a calendar.
+//! Where the years, quarters, months and weeks of days begin in a calendar.
+
 ghost use Rattle.std.specs.Prelude.{◌≡◌, ◌<◌, ◌≤◌, pos, length};
 ghost use Rattle.std.specs.Int.RustNames.{int_lt};
 ghost use Rattle.pl_spec.specs.Dates.{IsDay};
@@ -7,8 +8,8 @@ ghost use Rattle.pl_calendar.specs.Days.{AreDays};
 
 use pl_fixed::{Frequency, month_number};
 
-/// The number of the year, quarter, month or week that the day is of; later periods have greater numbers. Day
-/// 0, 1970-01-01, is a Thursday, and weeks begin on Monday.
+/// The number of the year, quarter, month or week that a day, counted from 1970-01-01, is of; later periods
+/// have greater numbers. 1970-01-01 is a Thursday, and weeks begin on Monday.
 pub fn period_of(frequency: Frequency, day: i32) -> i32
     requires { IsDay day }
     ensures { result ≡ period frequency day }

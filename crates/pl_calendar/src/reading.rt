@@ -1,3 +1,5 @@
+//! From the bytes of a sessions file to its days.
+
 ghost use Rattle.std.specs.Prelude.{◌≡◌, ◌+◌, ◌<◌, ◌≤◌, length, OnOk};
 ghost use Rattle.pl_spec.specs.Limits.{most_sessions};
 ghost use Rattle.pl_records.specs.Reading.{Answers, at_line, rows_of};

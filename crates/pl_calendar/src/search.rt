@@ -1,3 +1,5 @@
+//! Where a day is among the sessions.
+
 ghost use Rattle.std.specs.Prelude.{◌≡◌, ◌<◌, length, position, IfSome};
 ghost use Rattle.std.specs.Int.RustNames.{int_le};
 ghost use Rattle.std.specs.Ordering.{int_eq};

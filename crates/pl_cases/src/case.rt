@@ -1,9 +1,10 @@
-// What a case states.
+//! What a case states.
+
 use crate::choices::{filled, parts_of};
 use anyhow::Result;
 use std::alloc::{AllocError, Global};
 
-/// A text, under the line that it stands after.
+/// A text, under the line that comes before it.
 #[derive(Drop)]
 pub(crate) struct Text {
     pub(crate) title: String,
@@ -89,7 +90,7 @@ impl Case {
         &self.texts
     }
 
-    /// Whether a text stands under that title.
+    /// Whether there is a text under that title.
     pub(crate) fn has(&self, title: &str) -> bool {
         self.texts.iter().any(|text| text.title.as_str() == title)
     }

@@ -1,4 +1,5 @@
-// The table of a run against its cells, each computed by itself.
+//! The table of a run against its cells, each computed by itself.
+
 ghost use Rattle.std.specs.Prelude.{◌≡◌, ◌<◌, length, IfOk, IfSome};
 ghost use Rattle.pl_spec.specs.Dates.{IsDay};
 ghost use Rattle.pl_world.specs.Worlds.{IsMade};

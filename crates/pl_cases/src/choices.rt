@@ -1,4 +1,5 @@
-// Texts in which parts are chosen.
+//! Texts in which parts are chosen.
+
 use crate::lines::add_piece;
 use anyhow::{Context, Result};
 use std::alloc::Global;

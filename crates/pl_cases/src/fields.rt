@@ -1,4 +1,5 @@
-// The fields of a row.
+//! The fields of a row.
+
 use anyhow::Result;
 use pl_fixed::{MISSING, is_cell, write_decimal};
 use std::alloc::Global;
@@ -10,8 +11,8 @@ pub(crate) struct Field {
     pub(crate) is_truth: bool,
 }
 
-/// What stands after the field of a cell and the comma before it; none where another field stands there. A
-/// number may be written with its digits after the point, as a whole number, or as the label of that code.
+/// What comes after the field of a cell and the comma before it; none where another field is there. A number
+/// may be written with its digits after the point, as a whole number, or as the label of that code.
 pub(crate) fn behind_field<'a>(
     alloc: Global,
     labels: &[String],

@@ -1,4 +1,5 @@
-// Whether a case's commands leave what it states.
+//! Whether a case's commands leave what it states.
+
 use crate::case::{Case, copy_words};
 use crate::cells::cells_differ;
 use crate::parts::{Failing, Left, Parts, SOUND, left_by};
@@ -271,7 +272,7 @@ fn failed(alloc: Global, part: Part, line: &[u8]) -> Result<Left> {
     })
 }
 
-// What was wanted and what came.
+// What the case states and what came.
 fn told(alloc: Global, words: &[String], wanted: &Left, left: &Left) -> Result<String> {
     let mut text = String::new(alloc);
     tell_words(&mut text, words)?;

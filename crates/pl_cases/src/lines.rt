@@ -1,4 +1,5 @@
-// The lines of texts.
+//! The lines of texts.
+
 use anyhow::{Context, Result, bail};
 use std::alloc::Global;
 

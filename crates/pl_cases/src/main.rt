@@ -3,7 +3,7 @@
 //! Each argument names a case file, a text of lines. A line begins with what it is:
 //!
 //! - `#`: a remark; an empty line is one, too;
-//! - `case NAME`: a case begins. What stands before the first case holds for all cases, and a case may state
+//! - `case NAME`: a case begins. What comes before the first case holds for all cases, and a case may state
 //!   it anew;
 //! - `file NAME`: the text after it is the file of that name;
 //! - `splits`, `mergers`, `dividends`: each line of the text after it is a row of that table of `adj.db`:
@@ -17,23 +17,23 @@
 //! - `$ WORDS`: the words of a command, with a space between them and `\x20` for a space in a word. A case
 //!   may have several; each of them leaves the same;
 //! - `for PARTS`: the case holds once for each such line, with `{1}`, `{2}` and so on in its texts replaced
-//!   by the parts of that line, which stand between ` ; `, and in which `\r`, `\n` and `\x20` are as in
+//!   by the parts of that line, which have ` ; ` between them, and in which `\r`, `\n` and `\x20` are as in
 //!   texts;
 //! - `chunks N..`: each command is run once with each of `--chunk N`; without numbers, once as it is;
-//! - `status N`, `out`, `err`: what a run leaves: its status, which is 0 where none is told, and the texts
+//! - `status N`, `out`, `err`: what a run leaves: its status, which is 0 where none is stated, and the texts
 //!   after `out` and `err`;
 //! - `loaded`: the text after it is the tables that a run loads, in that order, a line each;
-//! - `failing shelf`, `failing keeper`, `failing out`: the text after it is what stands on `err` where the
-//!   first call of that part fails, the second, and so on, a line for each call that a run makes. The status
-//!   is then 7, 8 or 9, and a beginning of `out` stands there, nothing with 7 and 8. A failing `err` changes
+//! - `failing shelf`, `failing keeper`, `failing out`: the text after it is what is on `err` where the first
+//!   call of that part fails, the second, and so on, a line for each call that a run makes. The status is
+//!   then 7, 8 or 9, and `out` has a beginning of its text, nothing with 7 and 8. A failing `err` changes
 //!   none of this, and after each of these runs one over the same parts leaves what the case states, after
-//!   what stands there;
+//!   what is there;
 //! - `out by lines`: each call of `out` takes a line of it, which `failing out` shows;
 //! - `failing err`: a run whose `err` fails leaves the same, but for `err`;
 //! - `cells yes`, `cells no`: each value of a table is the value of its cell, computed by itself; with
 //!   `out by cells` the table is stated by them alone.
 //!
-//! A line is written for each case: `ok NAME`, or `differs NAME` and what was wanted and what came.
+//! A line is written for each case: `ok NAME`, or `differs NAME` with what the case states and what came.
 #![tactic(auto)]
 
 mod case;
@@ -85,7 +85,7 @@ fn judge_lines(rt: &impl Print, alloc: Global, text: &str, reader: &mut Reader) 
     Ok(differing)
 }
 
-// Runs a case and tells how it ended: 0 where all is as it states, else 1.
+// Runs a case and says how it ended: 0 where all is as it states, else 1.
 fn tell(rt: &impl Print, alloc: Global, case: &Case) -> Result<u64> {
     let name = case.name();
     match judge_case(alloc, case)? {

@@ -1,4 +1,5 @@
-// Parts in memory, and a run over them.
+//! Parts in memory, and a run over them.
+
 ghost use Rattle.std.specs.Prelude.{◌≡◌, ◌<◌, ◌<ℤ◌, ◌-◌, IfOk, IfSome, IsTrue, Some, length, slice_get};
 ghost use Rattle.pl_spec.specs.declared.RawAdjust.{RawAdjust};
 ghost use Rattle.pl_outside.specs.Lists.{IsAscending};
@@ -93,7 +94,7 @@ impl Parts {
         }
     }
 
-    /// What a command leaves after what stands there.
+    /// What a command leaves after what is there.
     pub(crate) fn leave(&mut self, alloc: Global, words: &[String]) -> Result<Left> {
         let out = self.out.bytes().len();
         let err = self.err.bytes().len();

@@ -1,11 +1,12 @@
-// The cases of a file, line by line.
+//! The cases of a file, line by line.
+
 use crate::case::Case;
 use crate::lines::{add_line, words_of};
 use crate::repeat::add_lines;
 use anyhow::{Context, Result, bail};
 use std::alloc::Global;
 
-/// What was read: what holds for all cases, once the first of them began, and the case that stands open.
+/// What was read: what holds for all cases, once the first of them began, and the case that is not ended.
 #[derive(Drop)]
 pub(crate) struct Reader {
     common: Option<Case>,
@@ -20,7 +21,7 @@ impl Reader {
         }
     }
 
-    /// The case that stands open.
+    /// The case that is not ended.
     pub(crate) fn case(&self) -> &Case {
         &self.case
     }

@@ -1,8 +1,9 @@
-// A keeper in memory that tells which tables were loaded.
+//! A keeper in memory that records which tables were loaded.
+
 use pl_outside::{AdjustKeeper, KeepError, MemoryKeeper, RawAdjust, Table};
 use std::alloc::Global;
 
-/// A keeper, and the tables that were loaded, a line each. It tells nothing but its faults.
+/// A keeper, and the tables that were loaded, a line each. Contracts see nothing of it but its faults.
 #[derive(Drop)]
 pub(crate) struct RecordedKeeper {
     keeper: MemoryKeeper,

@@ -1,4 +1,5 @@
-// Lines with a counter.
+//! Lines with a counter.
+
 use crate::lines::add_line;
 use anyhow::{Context, Result, bail};
 use pl_fixed::write_day;

@@ -8,7 +8,7 @@ use crate::value::Value;
 use indexmap::IndexMap;
 use std::alloc::Global;
 
-/// The names defined so far, with what they stand for, in the order of their statements.
+/// The names defined so far, with what they mean, in the order of their statements.
 pub type Definitions<'a> = IndexMap<&'a [u8], Value<'a>>;
 
 /// No names.
@@ -19,7 +19,7 @@ pub(crate) fn none<'a>(alloc: Global) -> Definitions<'a>
     IndexMap::new(alloc)
 }
 
-/// What a name stands for.
+/// What a name means.
 #[tactic(auto, unfolding(crate::specs::Seen::definitions_of))]
 pub(crate) fn defined<'a>(definitions: &Definitions<'a>, name: &[u8]) -> Option<Value<'a>>
     ensures { option_map value_of result ≡ spec.defined (definitions_of definitions.entry.now) name.now }

@@ -25,7 +25,8 @@ use std::marker::Brand;
 use std::sync::ledger::{Blank, Ledger};
 
 /// Reads the pipeline and the world of these names, and writes the derivation of the value that a column has
-/// for an asset on a date, each line after those that it rests on.
+/// for an asset on a date, each line after those that it rests on. It gives no numbers. The fault is the
+/// first one in the order of work.
 pub fn explain_command<S: Shelf, K: AdjustKeeper, O: Sink>(
     alloc: Global,
     request: &ExplainRequest<'_>,

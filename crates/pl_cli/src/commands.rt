@@ -23,8 +23,8 @@ use pl_words::{Options, PlanRequest, RunRequest};
 use std::alloc::Global;
 use std::sync::ledger::Ledger;
 
-/// What a run tells of itself where it is asked to: its numbers, and how often an adjustment was applied to a
-/// buffered bar.
+/// The numbers of a run where they are asked for, and how often an adjustment was applied to a buffered bar,
+/// at most u64's greatest value.
 #[derive(Clone, Copy, Debug, PartialEq, Eq)]
 pub struct Stats {
     pub numbers: Numbers,
@@ -32,7 +32,7 @@ pub struct Stats {
 }
 
 /// Reads and judges what the request names, and writes the table. It gives the numbers of the run where they
-/// are asked for.
+/// are asked for, and else `None`. The fault is the first one in the order of work; all commands have it so.
 pub fn run_command<S: Shelf, K: AdjustKeeper, O: Sink, L: Ledger>(
     alloc: Global,
     request: &RunRequest<'_>,
@@ -109,7 +109,8 @@ fn stats_of(asked: bool, report: &RunReport, bound: usize) -> Option<Stats>
     })
 }
 
-/// Reads the pipeline file of that name, and writes its canonical text.
+/// Reads the pipeline file of that name, and writes its canonical text. It gives no numbers. The rules of the
+/// language are not judged.
 pub fn fmt_command<S: Shelf, O: Sink>(
     alloc: Global,
     name: &str,
@@ -127,7 +128,8 @@ pub fn fmt_command<S: Shelf, O: Sink>(
     write_text(out, &text)
 }
 
-/// Reads the pipeline file of that name, and writes how many terms and columns its pipeline has.
+/// Reads the pipeline file of that name, and writes how many terms and columns its pipeline has, as `ok: T
+/// terms, C columns` and a line end. It gives no numbers. The fault is the first one in the order of work.
 pub fn check_command<S: Shelf, O: Sink>(
     alloc: Global,
     name: &str,
@@ -147,7 +149,8 @@ pub fn check_command<S: Shelf, O: Sink>(
     }
 }
 
-/// Reads the pipeline file and the sessions of these names, and writes the plan of the pipeline.
+/// Reads the pipeline file and the sessions of these names, and writes the plan of the pipeline as text. It
+/// gives no numbers. The fault is the first one in the order of work.
 pub fn plan_command<S: Shelf, O: Sink>(
     alloc: Global,
     request: &PlanRequest<'_>,

@@ -19,7 +19,8 @@ use pl_words::DailyRequest;
 use std::alloc::Global;
 use std::sync::ledger::Ledger;
 
-/// Reads and judges what the request names, feeds its pipeline the sessions one by one, and writes the table.
+/// Reads and judges what the request names, feeds its pipeline the sessions one by one, and writes the table:
+/// the bytes that a run writes. It gives no numbers. The fault is the first one in the order of work.
 pub fn daily_command<S: Shelf, K: AdjustKeeper, O: Sink, L: Ledger>(
     alloc: Global,
     request: &DailyRequest<'_>,

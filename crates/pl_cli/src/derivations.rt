@@ -24,7 +24,8 @@ use std::marker::Brand;
 use std::sync::ledger::{Blank, Ledger};
 
 /// Reads the pipeline, the world and the derivation of these names, and writes `yes` where all its lines are
-/// right, and else `no` and the number of the first one that is not.
+/// right, and else `no` and the number, from 1, of the first one that is not. It gives no numbers. The fault
+/// is the first one in the order of work; a wrong line is none.
 pub fn verify_command<S: Shelf, K: AdjustKeeper, O: Sink>(
     alloc: Global,
     request: &VerifyRequest<'_>,

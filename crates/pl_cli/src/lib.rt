@@ -1,8 +1,8 @@
 //! The top call: it reads the words and the files that they name, judges them in order, and writes the text
 //! of the command.
 //!
-//! Its contract says which bytes stand on `out` and `err` and which status is answered, for whatever the
-//! parts outside hold.
+//! Its contract says which bytes `out` and `err` take and which status is answered, for whatever the parts
+//! outside hold.
 #![tactic(auto)]
 
 mod cells;

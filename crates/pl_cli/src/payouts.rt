@@ -17,7 +17,8 @@ use pl_words::PayoutsRequest;
 use std::alloc::Global;
 
 /// Reads the sessions, the assets, the bars and the payouts of these names, and writes the rows of the
-/// payouts.
+/// payouts as CSV. It gives no numbers. The fault is the first one in the order of work; a payout without a
+/// row is none.
 pub fn payouts_command<S: Shelf, O: Sink>(
     alloc: Global,
     request: &PayoutsRequest<'_>,

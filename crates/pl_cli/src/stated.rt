@@ -17,7 +17,8 @@ use pl_words::BenchRequest;
 use std::alloc::Global;
 use std::sync::ledger::Ledger;
 
-/// Runs the stated pipeline over the stated world of a number, and writes the numbers of that run.
+/// Runs the stated pipeline over the stated world of a number, and writes the numbers of that run. It reads
+/// nothing, and gives no numbers besides. The fault is that memory ran out, or that the text was not written.
 pub fn bench_command<O: Sink, L: Ledger>(
     alloc: Global,
     request: &BenchRequest,

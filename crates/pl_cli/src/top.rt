@@ -52,7 +52,7 @@ use std::sync::ledger::Ledger;
 /// - 3: the pipeline file is not in the language, by its syntax or, but for `fmt`, by its rules;
 /// - 4: a record of a data file or a row of the adjustments breaks a rule; 5: the range is not one of
 ///   sessions with the bars that the columns show, or the cell is none of the table's; 6: a limit is passed;
-/// - 7: the shelf counted a fault; 8: the keeper did; 9: `out` did, and a prefix of the text stands on it;
+/// - 7: the shelf counted a fault; 8: the keeper did; 9: `out` did, and it took a prefix of the text;
 /// - 10: memory ran out before the first byte.
 ///
 /// Every status but 0 has its line on `err`; status 0 has none but the numbers that are asked for. The first

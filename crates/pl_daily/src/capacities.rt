@@ -115,7 +115,8 @@ fn window_over_term(checked: &Checked, k: usize, t: TermId) -> usize
     }
 }
 
-/// The greatest window of a used term that reads the bar column; 0 where none does. It is at most 1,260.
+/// The greatest window, in sessions, of a used term that reads the bar column; 0 where none does. It is at
+/// most 1,260.
 #[tactic(auto, unfolding(crate::specs::Capacities::column_window))]
 pub fn column_window(checked: &Checked, column: Column) -> usize
     ensures value { result ≡ spec.column_window (pipeline_of checked.now) column }
@@ -128,8 +129,8 @@ pub fn column_window(checked: &Checked, column: Column) -> usize
     greatest
 }
 
-/// The greatest window of a used term of a windowed kind that reads the term; 0 where none does. It is at
-/// most 1,260.
+/// The greatest window, in sessions, of a used term of a windowed kind that reads the term; 0 where none
+/// does. It is at most 1,260.
 #[tactic(auto, unfolding(crate::specs::Capacities::term_window))]
 pub fn term_window(checked: &Checked, t: TermId) -> usize
     ensures value { result ≡ spec.term_window (pipeline_of checked.now) t.0 }

@@ -33,7 +33,7 @@ use std::alloc::Global;
 use std::marker::Model;
 use std::sync::ledger::Ledger;
 
-/// The day is not later than the last one, which is this.
+/// The day is not later than the last one, which is this, counted from 1970-01-01.
 #[derive(Clone, Copy, Debug, PartialEq, Eq)]
 pub struct NotLater {
     pub last: i32,
@@ -41,7 +41,8 @@ pub struct NotLater {
 
 /// A pipeline session by session: each morning a day is taken in with the bars of the session before and the
 /// adjustments since then, and gives the values of all columns for the assets that the screen keeps. What is
-/// held are the rings of bar columns and terms that windows read. All memory is taken at the start.
+/// held are the rings of bar columns and terms that windows read. All memory is taken at the start. This is
+/// the project's own.
 pub struct Daily<'a> {
     checked: &'a Checked,
     assets: &'a Assets,
@@ -89,7 +90,8 @@ impl<'a> Model for Daily<'a> {
 }
 
 impl<'a> Daily<'a> {
-    /// No day so far.
+    /// An evaluation of the pipeline over these assets and labels, which stay lent to it; no day was taken
+    /// in. The only error is want of memory.
     pub fn new(
         alloc: Global,
         checked: &'a Checked,
@@ -209,9 +211,10 @@ impl<'a> Daily<'a> {
         }
     }
 
-    /// Takes a day in, which is a session, and tells whether it has values: whether no column and no screen
-    /// needs a session before the first day. A day that is not later than the last one changes nothing. It
-    /// takes no memory. Each ratio counts one step for each bar of a ring that it changes.
+    /// Takes a day in, which is a session, and gives whether it has values: whether no column and no screen
+    /// needs a session before the first day. The error is that the day is not later than the last one, and
+    /// then nothing changes. It takes no memory. Each ratio counts one step for each bar of a ring that it
+    /// changes.
     pub fn advance<L: Ledger>(&mut self, day: &Day, steps: &mut Steps<L>) -> Result<bool, NotLater>
         requires day { IsDay day.now.day }
         requires may_follow { IsLaterThan (last_of self.old) day.now.day
@@ -242,7 +245,8 @@ impl<'a> Daily<'a> {
         Ok(self.answered)
     }
 
-    /// The columns of the assets that the screen keeps on the last day, ascending.
+    /// The columns of the assets that the screen keeps on the last day, ascending, which are those of the
+    /// table's rows. The day must have values, which `advance` said.
     pub fn kept(&self) -> &[u32]
         requires { self.now.answered ≡ true }
         ensures is { result.now ≡ self.now.kept }
@@ -253,8 +257,8 @@ impl<'a> Daily<'a> {
         &self.kept
     }
 
-    /// The value of a column on the last day for an asset that is kept, as arrays hold it: a cell in
-    /// millionths, 0 or 1, or the code of a label.
+    /// The value of a column on the last day for the i-th asset of `kept`, from 0, as arrays hold it: a cell
+    /// in millionths, 0 or 1, or the code of a label; `MISSING` where it is empty.
     pub fn value(&self, column: usize, i: usize) -> i64
         requires answered { self.now.answered ≡ true }
         requires column { column < length self.now.pipeline.columns }

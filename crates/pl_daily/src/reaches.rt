@@ -117,7 +117,7 @@ fn first_of(
 }
 
 /// Takes in the session numbered `fed`, before which as many were taken in. For each used term by its number,
-/// `since` has the first session for which it reaches no session below 0, and None where there was none so
+/// `since` has the first session for which it reaches no session below 0, and `None` where there was none so
 /// far. For each used term that is downsampled, `starts` has the first session of this session's period. It
 /// takes no memory.
 pub fn advance_reaches(checked: &Checked, starts: &[usize], fed: usize, since: &mut [Option<usize>])

@@ -49,9 +49,9 @@ fn kind_row(
     }
 }
 
-/// The row of a term on its day: its cells as arrays hold them, in every world in which the day is a session
-/// whose bars and terms the rings and rows hold. `keep` is for who is kept, three slices are for windows, and
-/// `cross` is for cross-sections. It takes no memory.
+/// The row of a term on its day: its cells as arrays hold them, one for each asset by ascending sid, in every
+/// world in which the day is a session whose bars and terms the rings and rows hold. `keep` is for who is
+/// kept, three slices are for windows, and `cross` is for cross-sections. It takes no memory.
 pub fn fill_row(
     turn: &Turn<'_>,
     cross: &mut Cross,

@@ -9,7 +9,7 @@ use pl_rings::{Rings, push_row};
 use std::alloc::Global;
 
 /// What is held of a term before the first day, whose empty value is `none`. The capacity is that of its
-/// rings, 0 where no window is over it.
+/// rings, in sessions, 0 where no window is over it. The only error is want of memory.
 pub fn begin_term(
     alloc: Global,
     assets: usize,
@@ -55,6 +55,7 @@ fn copy_row(from: &[i64], to: &mut [i64])
 }
 
 /// Takes the cells of the next day in. It takes no memory.
+/// `row` has one for each asset by ascending sid.
 pub fn put_term(cells: &mut TermCells, row: &[i64])
     requires cells { AreTermCells (length row.now) cells.old }
     requires row { All IsCell row.now }

@@ -1,4 +1,5 @@
-// The words of the command line.
+//! The words of the command line.
+
 ghost use Rattle.std.specs.Prelude.{◌≡◌, ◌↔◌, drop, IfErr, IfOk, IsErr, OnOk};
 ghost use Rattle.std.specs.IoError.{error_kind};
 ghost use Rattle.std.specs.Vec.Iter.{into_iter_items};
@@ -18,7 +19,7 @@ pub enum StartError {
 }
 
 impl StartError {
-    /// The status with which the program ends.
+    /// The status with which the program ends: 2 where a word is no text, 10 where memory ran out.
     pub fn status(self) -> u8
         ensures { result ≡ status_of self }
     {
@@ -28,7 +29,7 @@ impl StartError {
         }
     }
 
-    /// The line on standard error.
+    /// The line on standard error, with its line end.
     pub fn line(self) -> &'static [u8]
         ensures { result.now ≡ line_of self }
     {
@@ -49,7 +50,8 @@ impl<T: Drop> From<AllocFailed<T>> for StartError {
     }
 }
 
-/// The words after the program's name, of those that `std::env::args` answered.
+/// The words after the program's name, of those that `std::env::args` answered. `NotText` comes where a word
+/// is not in UTF-8, `Memory` where memory ran out.
 pub fn words(alloc: Global, args: io::Result<Args>) -> Result<Vec<String>, StartError>
     ensures words { IfOk args (λ args. IfOk result (λ words. words.items ≡ drop 1 (into_iter_items args))) }
     ensures refused { IfErr args (λ error. IfErr result (λ why. why ≡ StartError.Memory

@@ -1,4 +1,5 @@
-// How the program ends.
+//! How the program ends.
+
 ghost use Rattle.std.specs.Prelude.{◌≡◌, [], codes};
 ghost use Rattle.std.specs.Process.{exit_status};
 ghost use Rattle.std.specs.Io.Buffered.{writer_buffer, writer_contents};
@@ -23,7 +24,7 @@ pub fn ended<E: Sink>(err: &mut E, why: StartError) -> ExitCode
 }
 
 /// The status after what was gathered for standard output is written, too. A failure of that changes status 0
-/// alone, and then the line `write` is written to `err`.
+/// alone, to 9, and then the line `write` is written to `err`.
 pub fn flushed<W: Write + Drop, E: Sink>(
     out: &mut Stream<BufWriter<W>>,
     err: &mut E,

@@ -1,4 +1,5 @@
-// The database files of the disk.
+//! The database files of the disk.
+
 ghost use Rattle.std.specs.Prelude.{◌≡◌, ◌==◌, ◌↔◌, None, IfOk, IsTrue, OnErr, false, not, slice_index_or};
 ghost use Rattle.std.specs.IoError.{error_kind};
 ghost use Rattle.sqlite_disk.specs.Memory.{memory_bytes, memory_is_usable};
@@ -12,8 +13,8 @@ use std::alloc::Global;
 use std::fs;
 use std::io::{self, ErrorKind};
 
-/// Database files of SQLite by their paths: each load opens the named file and reads its table. It tells
-/// nothing but its faults.
+/// Database files of SQLite by their paths: each load opens the named file and reads its table. Contracts see
+/// nothing of it but its faults.
 #[derive(Drop)]
 pub struct FileKeeper<'a> {
     rt: &'a HostRuntime,

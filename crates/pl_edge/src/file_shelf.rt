@@ -1,4 +1,5 @@
-// The files of the disk.
+//! The files of the disk.
+
 ghost use Rattle.std.specs.Prelude.{◌≡◌, None, [], false};
 ghost use Rattle.pl_outside.specs.Counts.{count_end, count_plus};
 
@@ -6,8 +7,8 @@ use pl_outside::{Failed, Shelf};
 use std::fs::{self, File};
 use std::io::Read;
 
-/// The files of the disk by their paths, of which the one that was begun last is open. It tells nothing but
-/// its faults.
+/// The files of the disk by their paths, of which the one that was begun last is open. Contracts see nothing
+/// of it but its faults.
 #[derive(Drop)]
 pub struct FileShelf<'a> {
     rt: &'a HostRuntime,

@@ -1,4 +1,5 @@
-// Standard output and standard error.
+//! Standard output and standard error.
+
 ghost use Rattle.std.specs.Prelude.{◌≡◌, ◌≤◌, ◌<◌, [], None, IfOk, OnOk, length, false};
 ghost use Rattle.std.specs.Io.Buffered.{writer_buffer, writer_contents};
 ghost use Rattle.std.specs.Io.KnownBytes.{Keeps, WriteAppends};
@@ -7,8 +8,8 @@ ghost use Rattle.pl_outside.specs.Counts.{HasCause, count_end, count_plus};
 use pl_outside::{Failed, Sink};
 use std::io::{BufWriter, Write};
 
-/// A writer of the system as a sink. As a sink it tells nothing but its faults; what its writer holds, where
-/// that is known, grows by exactly the bytes that it takes.
+/// A writer of the system as a sink. As a sink contracts see nothing of it but its faults; what its writer
+/// holds, where that is known, grows by exactly the bytes that it takes.
 #[derive(Drop)]
 pub struct Stream<W: Write + Drop> {
     to: W,
@@ -34,7 +35,7 @@ impl<W: Write + Drop> Stream<W> {
 }
 
 impl<W: Write + Drop> Stream<BufWriter<W>> {
-    /// Writes what is gathered.
+    /// Writes what is gathered. `Failed` comes where the writer refused it, and then a fault is counted.
     pub fn flush(&mut self) -> Result<(), Failed>
         ensures written { OnOk result (writer_buffer self.new.to ≡ []) }
         ensures bytes { Keeps (writer_contents W.contents self.old.to)

@@ -1,4 +1,5 @@
-// The adapters over files of the system: as it should be, and where the system refuses.
+//! The adapters over files of the system: as it should be, and where the system refuses.
+
 use super::*;
 use databases::{CLOSED, LOG, NULL, OPEN, Piece};
 use pl_outside::{

@@ -25,7 +25,7 @@ use pl_world::World;
 use pl_world::laws::parts_make_a_world;
 use std::sync::ledger::Ledger;
 
-/// The sessions from one to another.
+/// The sessions from one to another, both included, counted from 0.
 #[derive(Clone, Copy, Debug, PartialEq, Eq)]
 pub struct Chunk {
     pub from: usize,

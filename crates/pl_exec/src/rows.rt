@@ -5,8 +5,8 @@ use pl_fixed::Memory;
 use std::alloc::Global;
 use std::marker::Model;
 
-/// Room for the rows of a session of up to so many assets: the values of a cross-section and their groups,
-/// who is kept, and the results.
+/// Room for the rows of a session of up to so many assets, which contracts see: the values of a cross-section
+/// and their groups, who is kept, and the results.
 #[derive(Debug)]
 pub struct Rows {
     pub(crate) first: Vec<i64>,

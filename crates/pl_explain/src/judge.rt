@@ -24,7 +24,7 @@ use std::alloc::Global;
 use std::sync::ledger::Ledger;
 
 /// The number, from 1, of the first line that is not right: where its days are sessions, its sid is known,
-/// its term is used, its bar is of an earlier session, each premise stands in an earlier line, and it tells
+/// its term is used, its bar is of an earlier session, each premise is in an earlier line, and its number is
 /// what one step gives over the numbers of these. `None` where all lines are right. The only error is want of
 /// memory.
 pub fn first_wrong<L: Ledger>(

@@ -46,7 +46,8 @@ struct Walk {
 
 /// The derivation of the value of a term for the asset in a column on a session: a line for each of the facts
 /// that it rests on, each once, in the order in which a walk through the premises first finishes them, its
-/// own last. `TooLong` where these are more than 100,000.
+/// own last. The error is `TooLong` where these are more than 100,000, or want of memory. Derivations are
+/// this project's own.
 pub fn explain_cell<L: Ledger>(
     alloc: Global,
     world: &World,

@@ -24,10 +24,11 @@ use pl_world::World;
 use std::alloc::Global;
 use std::sync::ledger::Ledger;
 
-/// Writes the table of a plan's range, the header and each row in one piece. The sessions up to the range's
-/// last are fed one by one, each with the bars of the session before it and the adjustments since then; rows
-/// come from the range's first session on. All memory is taken before the first byte. The only errors are
-/// that there is none, and that the sink counted a fault.
+/// Writes the table of a plan's range, the header and each row in one piece: the bytes that `run_table`
+/// writes. The sessions up to the range's last are fed one by one, each with the bars of the session before
+/// it and the adjustments since then; rows come from the range's first session on. All memory is taken before
+/// the first byte. The error is that memory ran out, or that the sink counted a fault, and then a prefix of
+/// the text was written.
 pub fn run_daily<O: Sink, L: Ledger>(
     alloc: Global,
     world: &World<'_>,
@@ -39,7 +40,7 @@ pub fn run_daily<O: Sink, L: Ledger>(
 ) -> Result<(), RunError>
     requires made { IsMade world.now }
     requires plan { IsPlanOf world.now.sessions.now (pipeline_of checked.now) plan.now }
-    // Where memory is wanted nothing was written; else the text of the table is.
+    // Where memory ran out nothing was written; else the text of the table is.
     ensures writes { IsErrOf result RunError.Memory ⊎ Writes O.taken O.faults O.sound O.room out.old out.new
         (text (world_of world.now) (pipeline_of checked.now) format
         (table (world_of world.now) (pipeline_of checked.now) plan.now.from plan.now.to)) result }

@@ -11,9 +11,9 @@ ghost use Rattle.pl_filters.specs.Filters.{IsWindowFilter, AreValues, filtered};
 use pl_lanes::sum_present;
 use pl_terms::TermKind;
 
-/// Whether all values of a window are true, any is, at least n are, or all are present: 1 or 0, as Zipline's
-/// filters of these names. It asks for one of these kinds, and for a window of at most 1,260 values: 0 and 1
-/// of a filter, and for `AllPresent` cells. It takes no memory.
+/// Whether all values of a window are true, any is, at least n are, or all are present: 1 or 0. It asks for
+/// one of these kinds, and for a window of at most 1,260 values: 0 and 1 of a filter, and for `AllPresent`
+/// cells. `All`, `Any` and `AtLeastN` are Zipline's filters of these names. It takes no memory.
 #[tactic(auto, unfolding(pl_terms::specs::Kinds::kind_of))]
 pub fn window_filter(kind: &TermKind, a: &[i64]) -> i64
     requires kind { IsWindowFilter (kind_of kind.now) }

@@ -1,9 +1,11 @@
+//! Cells: whole numbers of millionths, or `MISSING`, with their arithmetic, each result rounded once.
+
 ghost use Rattle.std.specs.Prelude.{◌≡◌, ◌≢◌, ◌↔◌, IsTrue};
 ghost use Rattle.pl_spec.specs.Rounding.{IsCell, to_cell, quot, add, sub, mul, div, neg};
 
 use crate::rounding::div_round;
 
-/// The cell that stands for no value.
+/// The cell that stands for no value. It is what NaN is in Zipline.
 pub const MISSING: i64 = i64::MIN;
 
 /// The greatest magnitude of a cell, in millionths: 10^11 units.
@@ -32,7 +34,8 @@ pub fn to_cell(v: i128) -> i64
     }
 }
 
-/// The cell of `a / b`, rounded once, ties away from zero; `MISSING` where `b` is 0.
+/// The whole number nearest to `a / b` as a cell, ties away from zero; `MISSING` where `b` is 0, or where it
+/// is outside `-LIM` to `LIM`.
 #[tactic(auto, unfolding(pl_spec::specs::Rounding::quot))]
 pub fn quot(a: i128, b: i128) -> i64
     requires dividend { a ≢ i128.MIN }
@@ -49,7 +52,7 @@ pub fn quot(a: i128, b: i128) -> i64
     }
 }
 
-/// The sum of two cells; `MISSING` where one of them is, or where it is too large.
+/// The sum of two cells; `MISSING` where one of them is, or where it is outside `-LIM` to `LIM`.
 #[tactic(auto, unfolding(pl_spec::specs::Rounding::add))]
 pub fn add(a: i64, b: i64) -> i64
     requires left { IsCell a }
@@ -64,7 +67,7 @@ pub fn add(a: i64, b: i64) -> i64
     }
 }
 
-/// The difference of two cells; `MISSING` where one of them is, or where it is too large.
+/// The difference of two cells; `MISSING` where one of them is, or where it is outside `-LIM` to `LIM`.
 #[tactic(auto, unfolding(pl_spec::specs::Rounding::sub))]
 pub fn sub(a: i64, b: i64) -> i64
     requires left { IsCell a }
@@ -79,7 +82,8 @@ pub fn sub(a: i64, b: i64) -> i64
     }
 }
 
-/// The product of two cells, rounded once; `MISSING` where one of them is, or where it is too large.
+/// The product of two cells, in millionths, rounded once; `MISSING` where one of them is, or where it is
+/// outside `-LIM` to `LIM`.
 #[tactic(auto, unfolding(pl_spec::specs::Rounding::mul))]
 pub fn mul(a: i64, b: i64) -> i64
     requires left { IsCell a }
@@ -94,8 +98,8 @@ pub fn mul(a: i64, b: i64) -> i64
     }
 }
 
-/// The quotient of two cells, rounded once; `MISSING` where one of them is, where `b` is 0, or where it is
-/// too large.
+/// The quotient of two cells, in millionths, rounded once; `MISSING` where one of them is, where `b` is 0, or
+/// where it is outside `-LIM` to `LIM`.
 #[tactic(auto, unfolding(pl_spec::specs::Rounding::div))]
 pub fn div(a: i64, b: i64) -> i64
     requires left { IsCell a }

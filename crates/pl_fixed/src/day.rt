@@ -1,3 +1,5 @@
+//! Days, counted from 1970-01-01, and their dates.
+
 ghost use Rattle.std.specs.Prelude.{◌≡◌, ◌<◌, ◌+◌, ◌/◌, ◌%◌, ℕ, ℤ, pos, ◌≤ℤ◌, IfSome, length};
 ghost use Rattle.jiff.specs.Words.{epoch_day};
 ghost use Rattle.pl_spec.specs.Dates.{IsDate, IsDay, date_spelling, date_in, date_text};
@@ -7,8 +9,8 @@ ghost use Rattle.pl_fixed.specs.Pairs.{IsPairAt};
 use jiff::civil::Date;
 use jiff_core::civil;
 
-/// The day of a date `YYYY-MM-DD` of the years 1900 to 2199, counted from 1970-01-01; `None` for any other
-/// bytes.
+/// The day of a date `YYYY-MM-DD` from 1900-01-01 to 2199-12-31, counted from 1970-01-01; `None` for any
+/// other bytes.
 pub fn read_day(b: &[u8]) -> Option<i32>
     ensures exact { result ≡ date_in b.now }
     ensures found { IfSome result (IsDate b.now) }
@@ -75,7 +77,8 @@ pub(crate) fn pair_at(b: &[u8], place: usize) -> Option<u8>
     }
 }
 
-/// Writes the date `YYYY-MM-DD` of a day from 1900-01-01 to 2199-12-31. `read_day` reads it as that day.
+/// Writes the date `YYYY-MM-DD` of a day, counted from 1970-01-01, from 1900-01-01 to 2199-12-31. `read_day`
+/// reads it as that day.
 pub fn write_day(day: i32, out: &mut [u8; 10])
     requires { IsDay day }
     ensures text { out.new ≡ date_text day }
@@ -108,8 +111,8 @@ fn put_date(day: i32, out: &mut [u8; 10])
     ];
 }
 
-/// The number of the month that a day from 1900-01-01 to 2199-12-31 is of: twelve for each year, and in a
-/// year 0 for January.
+/// The number of the month that a day from 1900-01-01 to 2199-12-31, counted from 1970-01-01, is of: twelve
+/// for each year of the calendar from year 0 on, and in a year 0 for January.
 pub fn month_number(day: i32) -> u32
     requires { IsDay day }
     ensures value { result ≡ month_number day }

@@ -1,3 +1,5 @@
+//! The decimals of cells, read and written.
+
 ghost use Rattle.std.specs.Prelude.{◌≡◌, ◌≢◌, ◌↔◌, ◌<◌, ◌≤◌, ◌+◌, ◌*◌, ◌^◌, ℕ, ℤ, pos, int_lt, unsigned_abs, List, [], ◌∷◌, ◌++◌, length, take, min};
 ghost use Rattle.std.specs.Str.Parse.{AllDigits, digits_value};
 ghost use Rattle.std.specs.Fmt.{sign_text};
@@ -16,7 +18,7 @@ pub enum DecimalFault {
     Empty,
     /// They are no optional `-`, digits, and optionally a point and digits.
     Shape,
-    /// More than 18 digits stand after the point.
+    /// There are more than 18 digits after the point.
     TooManyDigits,
     /// The rounded value is outside `-LIM` to `LIM`.
     TooLarge,
@@ -26,7 +28,8 @@ pub enum DecimalFault {
 const MOST_UNITS: u64 = 1_000_000_000_000;
 
 /// The cell that the bytes write in decimal: an optional `-`, digits, and optionally a point and 1 to 18
-/// digits. It is rounded once to millionths, ties away from zero. Leading zeros are accepted.
+/// digits. It is rounded once to millionths, ties away from zero. Leading zeros are accepted; an exponent, a
+/// `+` and blanks are not. The error is the first fault in the order of its variants.
 pub fn read_decimal(b: &[u8]) -> Result<i64, DecimalFault>
     ensures exact { result ≡ read b.now }
     ensures value { (v : ℤ) → (result ≡ Ok v) ↔ ((d : Decimal) × IsDecimal d b.now × IsReadAs d v) }
@@ -199,8 +202,8 @@ fn rounded(negative: bool, units: u64, part: u64, scale: u64) -> i128
     }
 }
 
-/// Writes the text of a cell at the front of `out`, with exactly six digits after the point and no zeros in
-/// front, and gives its length: 0 for `MISSING`. `read_decimal` reads the text of any other cell as that
+/// Writes the text of a cell at the front of `out`, with exactly six digits after the point and no leading
+/// zeros, and gives its length: 0 for `MISSING`. `read_decimal` reads the text of any other cell as that
 /// cell.
 #[tactic(auto, unfolding(pl_spec::specs::Decimals::cell_text))]
 pub fn write_decimal(cell: i64, out: &mut [u8; 32]) -> usize

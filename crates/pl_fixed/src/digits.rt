@@ -1,3 +1,5 @@
+//! Digits at the front of a text, and the numbers that they write.
+
 ghost use Rattle.std.specs.Prelude.{◌≡◌, ◌<◌, ◌≤◌, ◌+◌, ℕ, min, [], ◌∷◌, ◌++◌, length, take, IfSome};
 ghost use Rattle.std.specs.List.{list_all};
 ghost use Rattle.std.specs.Char.{is_ascii_digit};

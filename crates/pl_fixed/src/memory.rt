@@ -1,6 +1,8 @@
+//! The error of calls that can fail by want of memory alone.
+
 use std::alloc::{AllocError, AllocFailed};
 
-/// Want of memory, of calls that are refused for nothing else.
+/// Memory ran out. It is the error of calls that fail for no other reason.
 #[derive(Clone, Copy, Debug, PartialEq, Eq)]
 pub struct Memory;
 

@@ -1,3 +1,5 @@
+//! The form of names in the pipeline language.
+
 ghost use Rattle.std.specs.Prelude.{◌≡◌};
 ghost use Rattle.std.specs.List.{list_all};
 ghost use Rattle.pl_spec.specs.Names.{is_name, is_keyword, starts_word, is_word_byte};

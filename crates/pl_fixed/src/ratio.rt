@@ -1,3 +1,5 @@
+//! Ratios of whole numbers, as adjustments have them.
+
 ghost use Rattle.std.specs.Prelude.{◌≡◌, ◌↔◌, ◌+◌, pos, IsSome, IfSome, ◌≤ℤ◌};
 ghost use Rattle.pl_spec.specs.Rounding.{IsCell};
 
@@ -50,7 +52,7 @@ impl Ratio {
         }
     }
 
-    /// The numerator.
+    /// The numerator as it was given, from 1 to 10^9.
     pub fn num(&self) -> i64
         ensures value { result ≡ pos self.now.num }
         ensures range { IsRatio self.now }
@@ -58,7 +60,7 @@ impl Ratio {
         self.num as i64
     }
 
-    /// The denominator.
+    /// The denominator as it was given, from 1 to 10^9.
     pub fn den(&self) -> i64
         ensures value { result ≡ pos self.now.den }
         ensures range { IsRatio self.now }
@@ -76,7 +78,8 @@ impl Ratio {
         }
     }
 
-    /// The cell times the ratio, rounded once, in one step; `MISSING` stays `MISSING`, in one step too.
+    /// The cell times the ratio, in millionths, rounded once, ties away from zero: one step. `MISSING` stays
+    /// `MISSING`, in one step too; a product outside `-LIM` to `LIM` is `MISSING`.
     #[tactic(auto, unfolding(pl_spec::specs::Rounding::scaled))]
     pub fn apply<L: Ledger>(&self, cell: i64, steps: &mut Steps<L>) -> i64
         requires { IsCell cell }

@@ -55,7 +55,8 @@ impl Ratio {
 }
 
 impl ReadyRatio {
-    /// The cell times the ratio, rounded once, in one step; `MISSING` stays `MISSING`, in one step too.
+    /// The cell times the ratio, in millionths, rounded once, ties away from zero: one step. `MISSING` stays
+    /// `MISSING`, in one step too; a product outside `-LIM` to `LIM` is `MISSING`.
     #[inline]
     pub fn apply<L: Ledger>(&self, cell: i64, steps: &mut Steps<L>) -> i64
         requires { IsCell cell }

@@ -1,3 +1,5 @@
+//! Sids, read from their digits.
+
 ghost use Rattle.std.specs.Prelude.{◌≡◌, ◌<◌, ◌^◌, ℕ, IfSome};
 ghost use Rattle.std.specs.Fmt.{decimal};
 ghost use Rattle.pl_spec.specs.Decimals.{sid_in};

@@ -33,7 +33,7 @@ impl Draws {
         }
     }
 
-    /// The next number below `below`, from the upper bits of the state.
+    /// The next number below `below`, from the upper 31 bits of the state.
     #[tactic(auto, unfolding(crate::specs::Draws::next_state, crate::specs::Draws::number_at))]
     pub fn draw(&mut self, below: u32) -> u32
         requires { 0 < below }

@@ -60,7 +60,9 @@ fn draw(alloc: Global, number: u32, sessions: &Sessions, assets: &Assets) -> Res
     })
 }
 
-/// The stated world of a number.
+/// The stated world of a number, made anew in memory: 400 assets over 600 sessions with all their bars, a
+/// sector each under one name, and 300 adjustments. It is the same on every machine. The only error is want
+/// of memory.
 pub fn make_world(alloc: Global, number: u32) -> Result<OwnedWorld, Memory>
     ensures stated { IfOk result (IsStated number) }
     ensures world { IfOk result (λ w. owned_world w ≡ stated_world number) }

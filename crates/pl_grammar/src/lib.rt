@@ -1,9 +1,9 @@
 //! The grammar of pipeline files over tokens: its rules by cases, the first fault of a text, the machine
 //! that reads it token by token, and what is proved of them.
 //!
-//! The definitions stand in `specs/`. `Grammar` and `Script` are the rules; `Faults` says which fault is
-//! the first; `Machine` has the moves that the parser makes; `Printed` is the canonical form. The functions
-//! here do nothing: the contract of each is a law of the definitions.
+//! The definitions are in `specs/`. `Grammar` and `Script` are the rules; `Faults` says which fault is the
+//! first; `Machine` has the moves that the parser makes; `Printed` is the canonical form. The functions here
+//! do nothing: the contract of each is a law of the definitions.
 #![tactic(auto)]
 
 ghost use Rattle.pl_grammar.specs.Laws.{VerdictIsRight, OneScript};
@@ -15,7 +15,7 @@ pub struct Place {
     pub col: u32,
 }
 
-/// The signs before an operand: `-` and `~`.
+/// The signs before an operand: `-` (`Minus`) and `~` (`Not`).
 #[derive(Clone, Copy, Debug, PartialEq, Eq)]
 pub enum PrefixSign {
     Minus,

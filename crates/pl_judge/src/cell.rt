@@ -16,7 +16,7 @@ use pl_terms::{Checked, TermId};
 use pl_words::{ExplainRequest, RangeDate};
 use std::alloc::Global;
 
-/// A cell by its term, the column of its asset and its session.
+/// A cell by its term, the column of its asset and its session, both counted from 0.
 #[derive(Clone, Copy, Debug, PartialEq, Eq)]
 pub struct CellPlace {
     pub term: TermId,
@@ -24,8 +24,8 @@ pub struct CellPlace {
     pub session: usize,
 }
 
-/// The cell that is asked for: its date is a session, its sid is of an asset, its column is one of the
-/// pipeline, and its value needs no session before the first one.
+/// The cell that is asked for. The fault is the first of these: its date is no session, no asset has its sid,
+/// no column of the pipeline has its name, its value needs a session before the first one; or want of memory.
 pub fn judge_cell(
     alloc: Global,
     request: &ExplainRequest<'_>,

@@ -6,7 +6,7 @@ use pl_outside::Table;
 use pl_syntax::Place;
 use pl_words::{InputFile, RangeDate};
 
-/// The limit that a count passes.
+/// The limit that a count passes; docs/COMMANDS.md has their sizes.
 #[derive(Clone, Copy, Debug, PartialEq, Eq)]
 pub enum Limit {
     /// The bytes of the pipeline file.
@@ -30,7 +30,7 @@ pub enum Limit {
     Extra,
 }
 
-/// The fault of the syntax of a pipeline file.
+/// The fault of the syntax of a pipeline file; `SyntaxError` of pl_syntax says where each comes.
 #[derive(Clone, Copy, Debug, PartialEq, Eq)]
 pub enum SyntaxFault {
     BadByte,
@@ -40,7 +40,7 @@ pub enum SyntaxFault {
     LongStatement,
 }
 
-/// The rule that the script of a pipeline file breaks.
+/// The rule that the script of a pipeline file breaks; `CheckFault` of pl_check says where each comes.
 #[derive(Clone, Copy, Debug, PartialEq, Eq)]
 pub enum RuleFault {
     UnknownName,
@@ -52,31 +52,50 @@ pub enum RuleFault {
     NoColumn,
 }
 
-/// The rule that a record of a data file breaks.
+/// The rule that a record of a data file breaks, or a line of a derivation; docs/FILES.md says of each file
+/// which come, and how to fix them.
 #[derive(Clone, Copy, Debug, PartialEq, Eq)]
 pub enum DataFault {
+    /// The first record is not the header of the file.
     BadHeader,
+    /// The sessions file has no record.
     Empty,
+    /// The record of a session is not one date.
     BadDate,
+    /// The session is not later than the one before.
     NotAscending,
+    /// There are too few or too many fields, or one has another form.
     BadField,
+    /// The asset's start is later than its end.
     StartAfterEnd,
+    /// An earlier asset has the sid.
     DuplicateSid,
+    /// The label has more than 64 bytes.
     LabelTooLong,
+    /// An earlier label has the name, the sid and the start.
     DuplicateStart,
+    /// The date of the bar is no session.
     NotSession,
+    /// No asset has the sid.
     UnknownSid,
+    /// A value is below 0.
     Negative,
+    /// The amount of a payout is not above 0.
     NotPositive,
+    /// The revision is not known later than on the day of its bar.
     TooSoon,
+    /// An earlier record is of the same bar, or of the same cell and known day.
     Duplicate,
+    /// The line is none of a derivation's.
     BadLine,
 }
 
 /// The rule that a row of a table of adjustments breaks.
 #[derive(Clone, Copy, Debug, PartialEq, Eq)]
 pub enum RowFault {
+    /// Its day is not of the years 1900 to 2199.
     BadEffective,
+    /// A part of its ratio is not from 1 to 10^9.
     BadRatio,
 }
 
@@ -95,7 +114,8 @@ pub enum Fault {
         place: Place,
         fault: RuleFault,
     },
-    /// The record of this number breaks a rule of its file.
+    /// The record of this number breaks a rule of its file. Records count from 1, the header too; empty lines
+    /// are no records. In a derivation it is the number of the line.
     Data {
         file: InputFile,
         line: u32,
@@ -107,34 +127,35 @@ pub enum Fault {
         id: i64,
         fault: RowFault,
     },
-    /// No session has the date.
+    /// The date is no session.
     NotSession(RangeDate),
-    /// No asset has the sid.
+    /// No asset has the sid of the cell.
     UnknownSid {
         sid: u32,
     },
-    /// No column has the name.
+    /// The pipeline has no column of the name.
     UnknownColumn,
-    /// The first date is after the second.
+    /// The first date is after the second, or the second after the one as of which rows are asked for.
     Backwards,
-    /// The columns or the screen show bars of a session before the first one, at this number.
+    /// The columns or the screen, or the cell, need a session before the first one: the least has this
+    /// number, below 0, where the first one is 0.
     TooEarly {
         reach: i64,
     },
     /// There is more than a limit allows.
     Passed(Limit),
-    /// The file could not be read.
+    /// The shelf counted a fault as the file was read.
     Unread(InputFile),
-    /// The rows of the table could not be loaded.
+    /// The keeper counted a fault as the rows of the table were loaded.
     Unloaded(Table),
-    /// The text could not be written; a prefix of it was.
+    /// The sink counted a fault as the text was written; a prefix of it was.
     Unwritten,
     /// Memory ran out.
     Memory,
 }
 
 impl Fault {
-    /// The status with which the program ends.
+    /// The status with which the program ends, from 2 to 10.
     pub fn status(self) -> u8
         ensures { result ≡ status_of self }
     {

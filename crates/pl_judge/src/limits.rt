@@ -5,13 +5,13 @@ ghost use Rattle.pl_judge.specs.Work as spec;
 use crate::Limit;
 use pl_words::InputFile;
 
-/// The greatest number of bytes of a pipeline file.
+/// The greatest number of bytes of a pipeline file. Both limits are this project's own.
 pub const PIPELINE_CAP: usize = 262_144;
 
 /// The greatest number of bytes of a data file.
 pub const FILE_CAP: usize = 536_870_912;
 
-/// The greatest number of bytes of a file.
+/// The greatest number of bytes of a file, by what it is to the command.
 pub fn cap_of(file: InputFile) -> usize
     ensures value { result ≡ spec.cap_of file }
     ensures small { result < 2 ^ 32 }

@@ -11,7 +11,8 @@ use pl_outside::{Failed, Sink, Table, write_bytes};
 use pl_syntax::Place;
 use pl_words::{InputFile, Request, adjustments_asked, column_asked, date_asked, name_asked};
 
-/// Writes the line of a fault of what was asked for. It takes no memory.
+/// Writes the line of a fault of what was asked for, with its line end. `Failed` comes where the sink counted
+/// a fault. It takes no memory.
 pub fn write_line<E: Sink>(
     err: &mut E,
     asked: Option<&Request<'_>>,

@@ -6,8 +6,9 @@ use crate::write_pieces;
 use itoa::Buffer;
 use pl_outside::{Failed, Sink};
 
-/// The numbers of a run: how many rows it has, the sum of their cells modulo 2^64, the greatest number of
-/// arrays that are held at once, and how many its plan allows.
+/// The numbers of a run: how many rows it has, the sum of their cells modulo 2^64 (in millionths, a filter's
+/// 1 or 0, a classifier's number or code, what is missing 0), the greatest number of arrays that are held at
+/// once, and how many its plan allows.
 #[derive(Clone, Copy, Debug, PartialEq, Eq)]
 pub struct Numbers {
     pub rows: u64,
@@ -16,7 +17,8 @@ pub struct Numbers {
     pub bound: usize,
 }
 
-/// Writes `rows=R cells=C peak=P bound=B` and a line end. It takes no memory.
+/// Writes `rows=R cells=C peak=P bound=B` and a line end. `Failed` comes where the sink counted a fault. It
+/// takes no memory.
 pub fn write_numbers<O: Sink>(out: &mut O, numbers: Numbers) -> Result<(), Failed>
     ensures { Writes O.taken O.faults O.sound O.room out.old out.new
         (numbers_line numbers.rows numbers.cells numbers.peak numbers.bound) result }
@@ -42,7 +44,7 @@ pub fn write_numbers<O: Sink>(out: &mut O, numbers: Numbers) -> Result<(), Faile
 }
 
 /// Writes `rows=R cells=C peak=P bound=B applied=A` and a line end, where so many adjustments were applied to
-/// buffered bars. It takes no memory.
+/// buffered bars. `Failed` comes where the sink counted a fault. It takes no memory.
 pub fn write_stats<E: Sink>(err: &mut E, numbers: Numbers, applied: u64) -> Result<(), Failed>
     ensures { Writes E.taken E.faults E.sound E.room err.old err.new
         (stats_line numbers.rows numbers.cells numbers.peak numbers.bound applied) result }

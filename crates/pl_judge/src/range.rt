@@ -16,8 +16,8 @@ use pl_terms::Checked;
 use pl_words::{DateWord, RangeDate};
 use std::alloc::Global;
 
-/// The sessions from which and to which rows are written, and the one as of which they are, where one is
-/// asked for.
+/// The sessions from which and to which rows are written, both included, and the one as of which they are,
+/// where one is asked for. Sessions count from 0.
 #[derive(Clone, Copy, Debug, PartialEq, Eq)]
 pub struct Range {
     pub from: usize,
@@ -25,7 +25,9 @@ pub struct Range {
     pub as_of: Option<usize>,
 }
 
-/// The range of two dates and of the one as of which rows are asked for: they are sessions, in their order.
+/// The range of two dates and of the one as of which rows are asked for. The fault is the first of these: the
+/// first date is no session, the second is none, the third is none where it is given; the second is before
+/// the first, or after the third.
 #[tactic(auto, unfolding(crate::specs::Range::dates_steps))]
 pub fn judge_dates(
     from: &DateWord<'_>,
@@ -91,7 +93,9 @@ fn are_backwards(from: usize, to: usize, as_of: Option<usize>) -> bool
     }
 }
 
-/// The plan of a pipeline over the sessions of a range.
+/// The plan of a pipeline over the sessions of a range. The fault is that a column or the screen needs a
+/// session before the first one, or a term more than 4,096 sessions before one of the range; or want of
+/// memory.
 pub fn judge_plan(
     alloc: Global,
     checked: &Checked,

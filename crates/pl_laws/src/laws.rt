@@ -30,7 +30,7 @@ pub fn bars_are_alike()
     ensures { BarsAreAlike }
 {}
 
-/// A numbered term is worth what its node gives over lower numbers.
+/// A numbered term has the value that its node gives over lower numbers.
 pub fn nodes_unfold()
     ensures { NodesUnfold }
 {}
@@ -96,7 +96,7 @@ pub fn used_are_listed()
     ensures { UsedAreListed }
 {}
 
-/// An asset without adjustments is seen as its bars stand.
+/// An asset without adjustments is seen as its bars are written.
 pub fn raw_without_events()
     ensures { RawWithoutEvents }
 {}

@@ -10,7 +10,7 @@ pub fn values_are_sorted()
     ensures { ValuesAreSorted }
 {}
 
-/// Each place among the values in ascending order has one value, which is told by how many lie below it.
+/// Each place among the values in ascending order has one value, which follows from how many lie below it.
 pub fn values_are_counted()
     ensures { ValuesAreCounted }
 {}
@@ -31,7 +31,7 @@ pub fn mean_is_between()
     ensures { MeanIsBetween }
 {}
 
-/// Quantiles have their number of bins, and a greater value stands in no lower one.
+/// Quantiles have their number of bins, and a greater value is in no lower one.
 pub fn bins_are_few()
     ensures { BinsAreFew }
 {}
@@ -41,7 +41,7 @@ pub fn edges_ascend()
     ensures { EdgesAscend }
 {}
 
-/// A value's quantile is the bin between whose edges it lies; a value on an edge stands in the lower bin.
+/// A value's quantile is the bin between whose edges it lies; a value on an edge is in the lower bin.
 pub fn bins_lie_between_edges()
     ensures { BinsLieBetweenEdges }
 {}

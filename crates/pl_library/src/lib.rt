@@ -1,6 +1,7 @@
 //! The whole library as one crate: each public type and call, taken from the crate that it belongs to.
 //!
-//! A program over the library may name this crate alone. The crate below a name is where its contract stands.
+//! A program over the library may name this crate alone. The contract of a name is in the crate that it is
+//! taken from.
 #![tactic(auto)]
 
 /// Cells, ratios, dates and sids, and the counter of steps.

@@ -1,3 +1,5 @@
+//! Why an assets file is refused.
+
 ghost use Rattle.std.specs.Prelude.{◌≡◌};
 ghost use Rattle.pl_lifetimes.specs.declared.error.AssetsError.TheVariants.{Memory};
 
@@ -21,7 +23,7 @@ pub enum AssetsError {
     /// A record before has the sid.
     #[error("record {line}: the sid stands before")]
     DuplicateSid { line: u32 },
-    /// 8,000 assets stand before this one.
+    /// 8,000 assets come before this one.
     #[error("record {line}: too many assets")]
     TooMany { line: u32 },
     /// Memory ran out.

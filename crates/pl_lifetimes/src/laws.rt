@@ -8,10 +8,9 @@ ghost use Rattle.pl_records.specs.RuleTable.{IsFirstBroken};
 ghost use Rattle.pl_lifetimes.specs.Assets.{Rule, assets_of, rules, says_asset};
 ghost use Rattle.pl_lifetimes.specs.Rules.{AreAssetsOf, Breaks, IsAsset, IsAssetsFault};
 
-/// A file is read as assets exactly where it has its header and each further record is an asset
-/// with a sid of its own; they stand by ascending sid. It has a fault exactly where the header is
-/// missing, or where that record breaks that rule and no earlier one, and the records before it are
-/// assets.
+/// A file is read as assets exactly where it has its header and each further record is an asset with a sid of
+/// its own; they are by ascending sid. It has a fault exactly where the header is missing, or where that
+/// record breaks that rule and no earlier one, and the records before it are assets.
 pub fn assets_in_plain_words()
     ensures record { Judges IsAsset (λ before r. IsFirstBroken rules (Breaks before r)) says_asset }
     ensures assets { (records : List Record) (assets : List AssetRow) → (assets_of records ≡ Ok assets)

@@ -21,7 +21,7 @@ pub use pl_spec::AssetRow;
 use std::alloc::Global;
 use std::marker::Model;
 
-/// How many assets there may be.
+/// How many assets there may be. The limit is this project's own.
 pub const MOST_ASSETS: usize = 8_000;
 
 /// The assets by ascending sid, at most 8,000 of them.
@@ -43,8 +43,8 @@ impl Model for Assets {
 }
 
 impl Assets {
-    /// The assets of a file: the header `sid,start,end`, and in each further record a sid and two
-    /// dates, in any order of sids.
+    /// The assets of a file: the header `sid,start,end`, and in each further record a sid and two dates
+    /// `YYYY-MM-DD`, in any order of sids. The error is the first fault of the file, or want of memory.
     pub fn read(alloc: Global, bytes: &[u8]) -> Result<Assets, AssetsError>
         // The assets of the records, or the fault of the first faulty one. Only want of memory may
         // come beside.
@@ -55,7 +55,7 @@ impl Assets {
         Ok(Assets { rows })
     }
 
-    /// The assets of these rows.
+    /// The assets of these rows, which are by ascending sid, each sid once: at most 8,000 of them.
     pub fn from_rows(rows: Vec<AssetRow>) -> Assets
         requires { AreAssets rows.items }
         ensures { result ≡ rows.items }
@@ -63,7 +63,7 @@ impl Assets {
         Assets { rows }
     }
 
-    /// The same assets once more.
+    /// A copy of the assets, which outlives them. The only error is want of memory.
     pub fn copy(&self, alloc: Global) -> Result<Assets, Memory>
         ensures { IfOk result (λ a. a ≡ self.now) }
     {
@@ -81,7 +81,7 @@ impl Assets {
         self.rows.len()
     }
 
-    /// The sid of a column.
+    /// The sid of the asset in a column.
     pub fn sid(&self, col: usize) -> u32
         requires { col < length self.now }
         ensures { option_map sid_of (slice_get self.now col) ≡ Some result }
@@ -89,7 +89,7 @@ impl Assets {
         self.rows[col].sid
     }
 
-    /// The column of a sid, if an asset has it.
+    /// The column of the asset with a sid; `None` where no asset has it. It is found by bisection.
     pub fn col_of(&self, sid: u32) -> Option<usize>
         ensures within { IfSome result (λ i. i < length self.now) }
         ensures few { IfSome result (λ i. i < most_assets) }
@@ -98,7 +98,8 @@ impl Assets {
         search::col_of(&self.rows, sid)
     }
 
-    /// Whether the asset of a column exists on a day: later than its start, and up to its end.
+    /// Whether the asset in a column exists on a day, counted from 1970-01-01: later than its start, and up
+    /// to its end, as in Zipline. The day need not be a session.
     pub fn exists(&self, col: usize, day: i32) -> bool
         requires { col < length self.now }
         ensures exact { option_map (lives_on day) (slice_get self.now col) ≡ Some result }

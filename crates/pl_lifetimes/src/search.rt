@@ -1,3 +1,5 @@
+//! Where a sid is among the assets, and when an asset exists.
+
 ghost use Rattle.std.specs.Prelude.{◌≡◌, ◌<◌, ◌==◌, length, position, IfSome};
 ghost use Rattle.pl_spec.specs.World.{lives_on};
 ghost use Rattle.pl_lifetimes.specs.Assets.{AreAssets, sid_of};

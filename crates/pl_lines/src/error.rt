@@ -5,10 +5,12 @@ ghost use Rattle.std.specs.Prelude.{◌≡◌};
 use pl_fixed::Memory;
 use std::alloc::AllocFailed;
 
-/// Why there is no derivation: it has more than 100,000 lines, or memory is wanted.
+/// Why there is no derivation.
 #[derive(Clone, Copy, Debug, PartialEq, Eq)]
 pub enum ExplainError {
+    /// It has more than 100,000 lines.
     TooLong,
+    /// Memory ran out.
     Memory,
 }
 

@@ -7,7 +7,7 @@ ghost use Rattle.pl_lines.specs.Texts.{IsWritable, AreWritable};
 use pl_spec::Column;
 use std::marker::Model;
 
-/// The cells of a bar, as it stands and after each event in turn.
+/// The cells of a bar, in millionths or `MISSING`: as it is in the file, and after each event in turn.
 #[derive(Debug, Drop)]
 pub struct CellList {
     cells: Vec<i64>,
@@ -30,7 +30,7 @@ impl CellList {
         CellList { cells }
     }
 
-    /// Lends the cells.
+    /// Lends the cells, as they came to be: the last one is what is seen.
     pub fn as_slice(&self) -> &[i64]
         ensures { result.now ≡ self.now }
     {
@@ -38,7 +38,8 @@ impl CellList {
     }
 }
 
-/// What is said of one fact: a bar as it is seen from a later day, or the value of a term.
+/// What is said of one fact: a bar as it is seen from a later day, or the value of a term. Days are counted
+/// from 1970-01-01; `value` is in millionths, a filter's 1 or 0, a label's code, or `MISSING`.
 #[derive(Debug, Drop)]
 pub enum Line {
     Seen {
@@ -56,10 +57,10 @@ pub enum Line {
     },
 }
 
-/// The most lines of a derivation.
+/// The most lines of a derivation. The limit is this project's own.
 pub const MOST_LINES: usize = 100_000;
 
-/// A list of at most 100,000 lines.
+/// A list of at most 100,000 lines in their order, right or not.
 #[derive(Debug, Drop)]
 pub struct Derivation {
     lines: Vec<Line>,
@@ -80,7 +81,8 @@ impl Model for Derivation {
 }
 
 impl Derivation {
-    /// The derivation of these lines, whose numbers and days have texts.
+    /// The derivation of these lines, whose numbers and days have texts: cells, and days from 1900-01-01 to
+    /// 2199-12-31.
     pub fn of(lines: Vec<Line>) -> Derivation
         requires writable { AreWritable (map line_of lines.items) }
         requires few { length lines.items ≤ most_lines }
@@ -89,7 +91,7 @@ impl Derivation {
         Derivation { lines }
     }
 
-    /// How many lines there are.
+    /// How many lines there are: at most 100,000.
     pub fn len(&self) -> usize
         ensures length { result ≡ length self.now }
         ensures few { result ≤ most_lines }

@@ -131,7 +131,8 @@ fn put_line(bytes: &mut Vec<u8>, line: &Line) -> Result<(), AllocError>
     }
 }
 
-/// The text of the lines, which reads back as them.
+/// The text of the lines, each ended by LF, as docs/DERIVATIONS.md has them; it reads back as them. The only
+/// error is want of memory.
 pub fn print_lines(alloc: Global, derivation: &Derivation) -> Result<Vec<u8>, Memory>
     ensures { IfOk result (λ bytes. bytes.items ≡ text_of derivation.now) }
 {

@@ -11,12 +11,14 @@ use pl_fixed::{read_day, read_sid};
 use pl_spec::Column;
 use std::alloc::{AllocError, Global};
 
-/// Why a text is no derivation: its first line, counted from 1, that is none of a derivation's; the first one
-/// past the limit; or want of memory.
+/// Why a text is no derivation. `line` is counted from 1.
 #[derive(Clone, Copy, Debug, PartialEq, Eq)]
 pub enum LinesError {
+    /// The first line that is none of a derivation's.
     BadLine { line: u32 },
+    /// The first line after 100,000.
     TooMany { line: u32 },
+    /// Memory ran out.
     Memory,
 }
 
@@ -161,8 +163,8 @@ fn add_line(lines: &mut Vec<Line>, line: Line) -> Result<(), AllocError>
     Ok(())
 }
 
-/// Reads the text of a derivation: its lines, or its first fault. An empty text is a bad line, and so is a
-/// last line without its line feed.
+/// Reads the text of a derivation. The error is its first fault, or want of memory. An empty text is a bad
+/// line, and so is a last line without its LF. Whether the lines are right is not judged here.
 pub fn read_lines(alloc: Global, bytes: &[u8]) -> Result<Derivation, LinesError>
     ensures lines { IfOk result (λ lines. lines_in bytes.now ≡ Ok lines) }
     ensures fault { IfErr result (λ e. IsLinesFault bytes.now e) }

@@ -31,8 +31,8 @@ impl Drop for LoadedCell {
     }
 }
 
-/// All that the derivation of a cell reads and judges, in the order of work: the pipeline, the world, and the
-/// cell.
+/// Reads and judges all that the derivation of a cell asks for, in this order: the pipeline file, the files
+/// and tables of the world, and the cell. The fault is the first one, or want of memory.
 pub fn load_cell<S: Shelf, K: AdjustKeeper>(
     alloc: Global,
     request: &ExplainRequest<'_>,

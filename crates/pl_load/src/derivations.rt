@@ -33,8 +33,9 @@ impl Drop for LoadedDerivation {
     }
 }
 
-/// All that the check of a derivation reads and judges, in the order of work: the pipeline, the world, and
-/// the lines.
+/// Reads and judges all that the check of a derivation asks for, in this order: the pipeline file, the files
+/// and tables of the world, and the lines, whose form alone is judged here. The fault is the first one, or
+/// want of memory.
 pub fn load_derivation<S: Shelf, K: AdjustKeeper>(
     alloc: Global,
     request: &VerifyRequest<'_>,

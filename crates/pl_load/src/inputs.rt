@@ -44,7 +44,8 @@ fn read_input<S: Shelf>(
     }
 }
 
-/// The script of the pipeline file of that name.
+/// The script of the pipeline file of that name. The fault is that the shelf refused it, it is too long, or
+/// it has a fault of syntax; or want of memory.
 pub fn read_script<S: Shelf>(alloc: Global, shelf: &mut S, name: &str) -> Result<Script, Fault>
     ensures { IsRead (shelf_change S.holds S.begun S.sound S.faults shelf.old shelf.new)
         (Some name.now)
@@ -55,7 +56,8 @@ pub fn read_script<S: Shelf>(alloc: Global, shelf: &mut S, name: &str) -> Result
     Ok(parse(alloc, &bytes)?)
 }
 
-/// The pipeline that the pipeline file of that name means.
+/// The pipeline that the pipeline file of that name means. The fault is that the shelf refused it, it is too
+/// long, has a fault of syntax, or breaks a rule of the language; or want of memory.
 pub fn read_checked<S: Shelf>(alloc: Global, shelf: &mut S, name: &str) -> Result<Checked, Fault>
     ensures { IsRead (shelf_change S.holds S.begun S.sound S.faults shelf.old shelf.new)
         (Some name.now) pipeline_steps
@@ -65,7 +67,8 @@ pub fn read_checked<S: Shelf>(alloc: Global, shelf: &mut S, name: &str) -> Resul
     Ok(check(alloc, &script)?)
 }
 
-/// The sessions of the sessions file of that name.
+/// The sessions of the sessions file of that name. The fault is that the shelf refused it, it is too long, or
+/// it has a faulty record; or want of memory. So it is with each further file.
 pub fn read_sessions<S: Shelf>(alloc: Global, shelf: &mut S, name: &str) -> Result<Sessions, Fault>
     ensures { IsRead (shelf_change S.holds S.begun S.sound S.faults shelf.old shelf.new)
         (Some name.now)
@@ -87,7 +90,8 @@ pub fn read_assets<S: Shelf>(alloc: Global, shelf: &mut S, name: &str) -> Result
     Ok(Assets::read(alloc, &bytes)?)
 }
 
-/// The labels of the labels file of that name; none where no name is given.
+/// The labels of the labels file of that name, for these assets; no labels where no name is given, and then
+/// nothing is read.
 pub fn read_labels<S: Shelf>(
     alloc: Global,
     shelf: &mut S,
@@ -109,7 +113,7 @@ pub fn read_labels<S: Shelf>(
     }
 }
 
-/// The bars of the bars file of that name.
+/// The bars of the bars file of that name, for these sessions and assets.
 pub fn read_bars<S: Shelf>(
     alloc: Global,
     shelf: &mut S,
@@ -128,7 +132,8 @@ pub fn read_bars<S: Shelf>(
     Ok(Bars::read(alloc, &bytes, sessions, assets)?)
 }
 
-/// The adjustments with the revisions of the revisions file of that name; as they are where no name is given.
+/// The adjustments with the revisions of the revisions file of that name; as they are where no name is given,
+/// and then nothing is read.
 pub fn read_revisions<S: Shelf>(
     alloc: Global,
     shelf: &mut S,
@@ -154,7 +159,7 @@ pub fn read_revisions<S: Shelf>(
     }
 }
 
-/// The payouts of the payouts file of that name.
+/// The payouts of the payouts file of that name, for these assets.
 pub fn read_payouts<S: Shelf>(
     alloc: Global,
     shelf: &mut S,
@@ -171,7 +176,7 @@ pub fn read_payouts<S: Shelf>(
     Ok(Payouts::read(alloc, &bytes, assets)?)
 }
 
-/// The lines of the derivation of that name.
+/// The lines of the derivation of that name, which are read and not yet judged.
 pub fn read_derivation<S: Shelf>(
     alloc: Global,
     shelf: &mut S,

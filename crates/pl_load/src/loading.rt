@@ -25,7 +25,8 @@ use pl_words::{RunRequest, WorldNames};
 use pl_world::{OwnedWorld, asof_world};
 use std::alloc::Global;
 
-/// What was read and judged, and is left to write: the table of a pipeline over its world, by a plan.
+/// What was read and judged for a table: the pipeline, its world, and its plan over the range. With `--asof`
+/// the world is the one that is known by that session.
 pub struct Loaded {
     pub checked: Checked,
     pub world: OwnedWorld,
@@ -58,7 +59,10 @@ pub(crate) struct WorldRows {
     pub(crate) adjustments: Adjustments,
 }
 
-/// All that a run reads and judges, in the order of work.
+/// Reads and judges all that a run asks for, each file whole before the next one: the pipeline file, the
+/// sessions, assets, labels, bars, adjustments and revisions, and then the range. Labels, adjustments and
+/// revisions are read only where they are asked for. The fault is the first one in this order, or want of
+/// memory.
 pub fn load<S: Shelf, K: AdjustKeeper>(
     alloc: Global,
     request: &RunRequest<'_>,

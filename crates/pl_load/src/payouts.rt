@@ -34,7 +34,8 @@ impl Drop for LoadedPayouts {
     }
 }
 
-/// All that payouts read and judge, in the order of work.
+/// Reads and judges what the rows of payouts ask for, in this order: the sessions, the assets, the bars and
+/// the payouts. The fault is the first one, or want of memory.
 pub fn load_payouts<S: Shelf>(
     alloc: Global,
     request: &PayoutsRequest<'_>,

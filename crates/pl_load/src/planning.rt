@@ -29,7 +29,8 @@ impl Drop for PlannedPipeline {
     }
 }
 
-/// All that a plan reads and judges, in the order of work.
+/// Reads and judges what a plan asks for, in this order: the pipeline file, the sessions, and the range. The
+/// fault is the first one, or want of memory.
 pub fn load_plan<S: Shelf>(
     alloc: Global,
     request: &PlanRequest<'_>,

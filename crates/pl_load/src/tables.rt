@@ -13,7 +13,9 @@ use pl_judge::Fault;
 use pl_outside::{AdjustKeeper, KeepError, RawAdjust, Table};
 use std::alloc::Global;
 
-/// The adjustments of that name; none where no name is given, and then the keeper is left alone.
+/// The adjustments of that name, splits before mergers before dividends; none where no name is given, and
+/// then the keeper is left alone. The fault is that the keeper refused a table, the first faulty row, or want
+/// of memory.
 pub fn read_adjustments<K: AdjustKeeper>(
     alloc: Global,
     keeper: &mut K,

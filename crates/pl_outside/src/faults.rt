@@ -1,11 +1,12 @@
-// The two ways in which a call can end without an answer.
+//! The two ways in which a call can end without an answer.
+
 use std::alloc::{AllocError, AllocFailed};
 
-/// The call failed, and its object counted a fault.
+/// The call failed, and its object counted a fault. What went wrong is not said.
 #[derive(Clone, Copy, Debug, PartialEq, Eq)]
 pub struct Failed;
 
-/// No memory was found.
+/// Memory ran out.
 #[derive(Clone, Copy, Debug, PartialEq, Eq)]
 pub struct Memory;
 

@@ -1,4 +1,5 @@
-// The files of a shelf in memory.
+//! The files of a shelf in memory.
+
 ghost use Rattle.std.specs.Prelude.{◌≡◌, ℕ, List, Some, OnOk, OnErr, if◌then◌else◌, map, bytes_eq, string_bytes, position};
 ghost use Rattle.pl_outside.specs.HeldFiles.{has_name, shown};
 ghost use Rattle.pl_outside.specs.ShelfState.{held};
@@ -12,14 +13,15 @@ pub struct File {
     pub bytes: Vec<u8>,
 }
 
-/// The place of the first file of that name.
+/// The place of the first file of that name, from 0; `None` where there is none.
 pub fn place_of(files: &[File], name: &str) -> Option<usize>
     ensures { result ≡ position (has_name name.now) files.now }
 {
     files.iter().position(|file| file.name.as_str() == name)
 }
 
-/// Puts a file in the place of the one that has its name, or after all others.
+/// Puts a file in the place of the one that has its name, or after all others. The only error is want of
+/// memory, and after it the files are as before.
 pub fn put_file(files: &mut Vec<File>, name: String, bytes: Vec<u8>) -> Result<(), Memory>
     ensures held { OnOk result ((other : List ℕ) → held (map shown files.new.items) other
         ≡ (if bytes_eq (string_bytes name) other then Some bytes.items else held

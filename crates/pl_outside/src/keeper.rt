@@ -1,4 +1,5 @@
-// What keeps the rows of adjustments.
+//! What keeps the rows of adjustments.
+
 ghost use Rattle.std.specs.Prelude.{◌≡◌, ◌≤◌, ◌++◌, ℕ, Option, List, None, Err, OnOk, OnErr, IsTrue, IsSome, IsErrOf, Bool, false};
 ghost use Rattle.std.specs.Option.{ForSome};
 ghost use Rattle.pl_outside.specs.declared.keeper.Table.{Table};
@@ -10,7 +11,7 @@ use pl_spec::RawAdjust;
 use std::alloc::{AllocError, Global};
 use std::marker::Model;
 
-/// A table of adjustments, as Zipline's database of adjustments has them.
+/// A table of adjustments, as Zipline's database of adjustments has them: `splits`, `mergers`, `dividends`.
 #[derive(Clone, Copy, Debug, PartialEq, Eq)]
 pub enum Table {
     Splits,
@@ -18,10 +19,12 @@ pub enum Table {
     Dividends,
 }
 
-/// Why rows aren't loaded: the keeper counted a fault, or no memory was found.
+/// Why rows aren't loaded.
 #[derive(Clone, Copy, Debug, PartialEq, Eq)]
 pub enum KeepError {
+    /// The keeper counted a fault.
     Failed,
+    /// Memory ran out.
     Memory,
 }
 
@@ -47,9 +50,9 @@ impl From<AllocError> for KeepError {
 
 /// Three lists of rows by name, each in ascending id with distinct ids.
 ///
-/// A sound keeper tells its lists, and never counts a fault or answers Failed.
+/// The lists of a sound keeper are known, and it never counts a fault or answers Failed.
 pub trait AdjustKeeper {
-    /// The rows of each name and table, where it tells.
+    /// The rows of each name and table, where they are known.
     ghost lists: { Self → Option Lists };
 
     /// How many faults it has counted, up to the count's end.
@@ -61,7 +64,9 @@ pub trait AdjustKeeper {
     /// Whether it is sound.
     ghost sound: { Self → Bool };
 
-    /// Appends the whole list of that name and table to `into`, which is as before after an error.
+    /// Appends the whole list of that name and table to `into`, in ascending id. `Failed` comes only where
+    /// the keeper counted a fault, as for a name or table that it can't read; after an error `into` is as
+    /// before.
     fn load(
         &mut self,
         alloc: Global,
@@ -80,16 +85,16 @@ pub trait AdjustKeeper {
         ensures keeps { lists self.new ≡ lists self.old }
         ensures stays { sound self.new ≡ sound self.old };
 
-    // A sound keeper tells.
+    // The lists of a sound keeper are known.
     ghost sound_tells: { (keeper : Self) → IsTrue (sound keeper) → IsSome (lists keeper) };
 
-    // Each list that is told is in ascending id.
+    // Each list that is known is in ascending id.
     ghost lists_ascend: { (keeper : Self)
         → ForSome (lists keeper)
         (λ lists. (name : List ℕ) (table : Table) → IsAscending (lists name table)) };
 }
 
-/// A keeper of nothing, which tells nothing: each load is a fault.
+/// A keeper of nothing: each load is a fault.
 #[derive(Drop)]
 pub struct NoKeeper {
     faults: u64,

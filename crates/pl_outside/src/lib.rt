@@ -1,10 +1,10 @@
 //! The outside of a run: where files, rows of adjustments and written bytes come from and go to.
 //!
 //! `Shelf`, `AdjustKeeper` and `Sink` are what a run is given. Each says by ghost members what it holds or
-//! took, as far as it tells, and counts its faults. A call fails only where the count rose in it: as the call
-//! ends, the count is greater than at its start or stands at its end, the greatest number of 64 bits. A sound
-//! object tells, and counts no fault but those that its trait names, so that a caller of sound objects knows
-//! each answer.
+//! took, as far as that is known, and counts its faults. A call fails only where the count rose in it: as the
+//! call ends, the count is greater than at its start, or it is the greatest number of 64 bits, at which it
+//! stays. Of a sound object it is known what it holds or took, and it counts no fault but those that its
+//! trait names, so that a caller of sound objects knows each answer.
 //!
 //! `read_file` and `write_bytes` are the two loops over them. The parts in memory are for tests and for runs
 //! that write nothing. These rules are this project's own; Zipline has none of them.

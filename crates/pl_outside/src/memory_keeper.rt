@@ -1,4 +1,5 @@
-// Rows of adjustments in memory.
+//! Rows of adjustments in memory.
+
 ghost use Rattle.std.specs.Prelude.{◌≡◌, ◌++◌, ◌↔◌, Some, IsTrue, IsErrOf, if◌then◌else◌, is_ok, string_bytes};
 ghost use Rattle.pl_outside.specs.Calls.{never_fails, next_fails, no_calls, one_more};
 ghost use Rattle.pl_outside.specs.KeeperState.{kept};
@@ -35,7 +36,8 @@ impl Model for MemoryKeeper {
 }
 
 impl MemoryKeeper {
-    /// A keeper of these lists. `failing` holds the numbers of the loads that are to fail, counted from 1.
+    /// A keeper of these lists, each in ascending id with distinct ids. `failing` holds the numbers of the
+    /// loads that are to fail, counted from 1.
     pub fn new(
         name: String,
         splits: Vec<RawAdjust>,

@@ -1,4 +1,5 @@
-// Files in memory.
+//! Files in memory.
+
 ghost use Rattle.std.specs.Prelude.{◌≡◌, ◌||◌, ◌++◌, ℕ, [], List, Option, Some, None, length, take, drop, min, OnOk, OnErr, IfOk, if◌then◌else◌, is_err, is_none, unwrap_or, bytes_eq, string_bytes};
 ghost use Rattle.pl_outside.specs.Calls.{never_fails, next_fails, no_calls, one_more};
 ghost use Rattle.pl_outside.specs.Counts.{count_plus, moved};
@@ -49,7 +50,8 @@ impl MemoryShelf {
         }
     }
 
-    /// Puts a file there, in the place of the one that has the name. No file is begun then.
+    /// Puts a file there, in the place of the one that has the name. No file is begun then. The only error is
+    /// want of memory, and after it the shelf is as before.
     pub fn put(&mut self, name: String, bytes: Vec<u8>) -> Result<(), Memory>
         ensures held { OnOk result ((other : List ℕ) → held self.new.files other
             ≡ (if bytes_eq (string_bytes name) other then Some bytes.items else held self.old.files other)) }

@@ -1,4 +1,5 @@
-// A sink in memory.
+//! A sink in memory.
+
 ghost use Rattle.std.specs.Prelude.{◌≡◌, ◌+◌, ◌-◌, ◌==◌, ◌||◌, ◌++◌, [], Some, take, length, min, OnOk, OnErr, IfOk, if◌then◌else◌, is_err, nat_lt};
 ghost use Rattle.pl_outside.specs.Calls.{never_fails, next_fails, no_calls, one_more};
 ghost use Rattle.pl_outside.specs.Counts.{moved};
@@ -45,7 +46,8 @@ impl MemorySink {
         }
     }
 
-    /// Adds so many bytes to the room. All memory of the sink is taken here.
+    /// Adds so many bytes to the room. All memory of the sink is taken here; the only error is that there is
+    /// none, and then the room is as before.
     pub fn reserve(&mut self, bytes: usize) -> Result<(), Memory>
         ensures ok { OnOk result (self.new ≡ record self.old { room = self.old.room + bytes }) }
         ensures err { OnErr result (self.new ≡ self.old) }

@@ -1,4 +1,5 @@
-// A file as a whole.
+//! A file as a whole.
+
 ghost use Rattle.std.specs.Prelude.{◌≡◌, ◌≤◌, ◌<◌, ◌+◌, ◌^◌, ◌∷◌, ◌↔◌, [], Some, None, length, IfOk, IsTrue, IsSome, IsSomeAnd, IsErrOf};
 ghost use Rattle.std.specs.Option.{ForSome};
 ghost use Rattle.pl_outside.specs.Counts.{Rose, count_plus};
@@ -9,12 +10,14 @@ use crate::faults::Failed;
 use crate::shelf::Shelf;
 use std::alloc::{AllocError, Global};
 
-/// Why a file isn't read: the shelf counted a fault, the file has more bytes than are allowed, or no memory
-/// was found.
+/// Why a file isn't read.
 #[derive(Clone, Copy, Debug, PartialEq, Eq)]
 pub enum ReadError {
+    /// The shelf counted a fault.
     Failed,
+    /// The file has more bytes than are allowed.
     TooLong,
+    /// Memory ran out.
     Memory,
 }
 
@@ -43,9 +46,9 @@ const PIECE: usize = 65_536;
 
 /// The whole bytes of the named file, if there are at most `cap`, which is below 2^32.
 ///
-/// Answers Failed only where the shelf counted a fault, over a sound shelf exactly where the name isn't held;
-/// TooLong where `cap + 1` bytes were given; Memory where the bytes find none. It makes at most `cap + 2`
-/// calls of the shelf.
+/// The error is `Failed` only where the shelf counted a fault, over a sound shelf exactly where the name
+/// isn't held; `TooLong` where `cap + 1` bytes were given; `Memory` where memory for the bytes ran out. It
+/// makes at most `cap + 2` calls of the shelf.
 pub fn read_file<S: Shelf>(
     alloc: Global,
     shelf: &mut S,
@@ -63,7 +66,7 @@ pub fn read_file<S: Shelf>(
     ensures too_long { IsErrOf result ReadError.TooLong
         → S.given shelf.new ≡ count_plus (S.given shelf.old) (cap + 1) }
 
-    // where the shelf tells, each answer but Failed and Memory is by the file's length
+    // where what the shelf holds is known, each answer but Failed and Memory is by the file's length
     ensures absent { ForSome (S.holds shelf.old)
         (λ files. files name.now ≡ None → IsErrOf result ReadError.Failed) }
     ensures longer { ForSome (S.holds shelf.old) (λ files. IsErrOf result ReadError.TooLong

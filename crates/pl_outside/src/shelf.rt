@@ -1,4 +1,5 @@
-// Where files are read.
+//! Where files are read.
+
 ghost use Rattle.std.specs.Prelude.{◌≡◌, ◌≤◌, ◌<◌, ◌++◌, ◌∷◌, ◌↔◌, ℕ, List, Option, None, Bool, [], take, length, IfOk, IsTrue, IsOk, IsErr, IsSome};
 ghost use Rattle.std.specs.Option.{ForSome};
 ghost use Rattle.pl_outside.specs.Counts.{HasCause, count_plus, moved};
@@ -8,17 +9,17 @@ use crate::faults::Failed;
 
 /// Files by name, which are read one at a time from the front.
 ///
-/// A sound shelf tells what it holds. It counts a fault or answers Failed only at the beginning of a name
+/// What a sound shelf holds is known. It counts a fault or answers Failed only at the beginning of a name
 /// that it doesn't hold.
 pub trait Shelf {
-    /// The bytes of each name, where it tells.
+    /// The bytes of each name, where they are known.
     ghost holds: { Self → Option Files };
 
-    /// What is left of the file that was begun last, and nothing where no file is begun. This is meant where
-    /// it tells.
+    /// What is left of the file that was begun last, and nothing where no file is begun. It counts only where
+    /// what the shelf holds is known.
     ghost rest: { Self → List ℕ };
 
-    /// The names that were begun, in their order and as often as they were begun, as long as it tells them.
+    /// The names that were begun, in their order and as often as they were begun, as long as they are known.
     ghost begun: { Self → Option (List (List ℕ)) };
 
     /// How many faults it has counted, up to the count's end.
@@ -48,8 +49,8 @@ pub trait Shelf {
         ensures keeps { holds self.new ≡ holds self.old }
         ensures stays { sound self.new ≡ sound self.old };
 
-    /// Gives the next bytes of the file that was begun, at the front of `into`, and tells how many: none for
-    /// a nonempty `into` is the end of the file. After a failure what is left is as before.
+    /// Gives the next bytes of the file that was begun, at the front of `into`, and says how many: none for a
+    /// nonempty `into` is the end of the file. After a failure what is left is as before.
     fn next(&mut self, into: &mut [u8]) -> Result<usize, Failed>
         ensures within { IfOk result (λ n. n ≤ length into.old) }
         ensures piece { ForSome (holds self.old)
@@ -64,6 +65,6 @@ pub trait Shelf {
         ensures keeps { holds self.new ≡ holds self.old }
         ensures stays { sound self.new ≡ sound self.old };
 
-    // A sound shelf tells.
+    // What a sound shelf holds is known.
     ghost sound_tells: { (shelf : Self) → IsTrue (sound shelf) → IsSome (holds shelf) };
 }

@@ -1,4 +1,5 @@
-// What takes bytes.
+//! What takes bytes.
+
 ghost use Rattle.std.specs.Prelude.{◌≡◌, ◌≤◌, ◌<◌, ◌+◌, ℕ, List, Option, None, Ok, take, length, IfOk, IsTrue, Bool, true, false, IsSome};
 ghost use Rattle.pl_outside.specs.Counts.{HasCause, count_plus, count_end, moved};
 ghost use Rattle.pl_outside.specs.Taken.{TakesAll, IsBlameless};
@@ -7,10 +8,10 @@ use crate::faults::Failed;
 
 /// What takes bytes, one piece after another.
 ///
-/// A sound sink tells what it took and has a room, a number of bytes. It counts a fault or answers Failed
+/// What a sound sink took is known, and it has a room, a number of bytes. It counts a fault or answers Failed
 /// only where a piece is longer than its room.
 pub trait Sink {
-    /// The bytes taken so far, where it tells.
+    /// The bytes taken so far, where they are known.
     ghost taken: { Self → Option (List ℕ) };
 
     /// How many faults it has counted, up to the count's end.
@@ -22,13 +23,13 @@ pub trait Sink {
     /// Whether it is sound.
     ghost sound: { Self → Bool };
 
-    /// How many more bytes it has room for. This is meant where it is sound.
+    /// How many more bytes it has room for. It counts only where the sink is sound.
     ghost room: { Self → ℕ };
 
     /// Whether it takes each piece whole, or fails.
     ghost whole: { Self → Bool };
 
-    /// Takes bytes from the front of the piece, and tells how many. To take nothing of a nonempty piece is a
+    /// Takes bytes from the front of the piece, and says how many. To take nothing of a nonempty piece is a
     /// fault.
     fn write(&mut self, bytes: &[u8]) -> Result<usize, Failed>
         ensures within { IfOk result (λ n. n ≤ length bytes.now) }
@@ -43,11 +44,11 @@ pub trait Sink {
         ensures stays { sound self.new ≡ sound self.old }
         ensures stays_whole { whole self.new ≡ whole self.old };
 
-    // A sound sink tells.
+    // What a sound sink took is known.
     ghost sound_tells: { (sink : Self) → IsTrue (sound sink) → IsSome (taken sink) };
 }
 
-/// A sink that takes all and never fails. It tells only its count of faults, which is 0.
+/// A sink that takes all and never fails, and keeps nothing. Its count of faults is 0.
 #[derive(Clone, Copy, Debug, PartialEq, Eq)]
 pub struct NullSink;
 

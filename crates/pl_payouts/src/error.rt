@@ -1,3 +1,5 @@
+//! Why a payouts file is refused, and why its rows are not written.
+
 ghost use Rattle.std.specs.Prelude.{◌≡◌};
 
 use pl_outside::Failed;
@@ -12,16 +14,16 @@ pub enum PayoutsError {
     /// The first record is not `sid,ex,amount`, or there is none.
     #[error("record 1: not the header of payouts")]
     BadHeader,
-    /// The record is not a sid, a date and the decimal of a cell.
+    /// The record is not a sid, a date and the decimal of a cell, which may not be empty.
     #[error("record {line}: no payout")]
     BadField { line: u32 },
     /// No asset has the sid.
     #[error("record {line}: an unknown sid")]
     UnknownSid { line: u32 },
-    /// The amount is not above 0.
+    /// The amount, rounded to millionths, is not above 0.
     #[error("record {line}: an amount that is not above 0")]
     NotPositive { line: u32 },
-    /// 200,000 payouts stand before this one.
+    /// 200,000 payouts come before this one.
     #[error("record {line}: too many payouts")]
     TooMany { line: u32 },
     /// Memory ran out.

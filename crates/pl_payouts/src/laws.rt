@@ -10,9 +10,9 @@ ghost use Rattle.pl_payouts.specs.declared.reading.Dividend.{Dividend};
 ghost use Rattle.pl_payouts.specs.Payouts.{Rule, payouts_of, rules, says_dividend};
 ghost use Rattle.pl_payouts.specs.Rules.{ArePayoutsOf, Breaks, IsDividend, IsPayoutsFault};
 
-/// A file is read as payouts exactly where it has its header and each further record is a payout of an
-/// asset, above 0; they stand in the order of the file. It has a fault exactly where the header is missing,
-/// or where that record breaks that rule and no earlier one, and the records before it are payouts.
+/// A file is read as payouts exactly where it has its header and each further record is a payout of an asset,
+/// above 0; they are in the order of the file. It has a fault exactly where the header is missing, or where
+/// that record breaks that rule and no earlier one, and the records before it are payouts.
 pub fn payouts_in_plain_words()
     ensures record { (assets : List AssetRow) → AreAssets assets
         → Judges (IsDividend assets) (λ before r. IsFirstBroken rules (Breaks assets before r))

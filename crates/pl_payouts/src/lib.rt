@@ -27,7 +27,7 @@ use std::alloc::Global;
 use std::marker::Model;
 pub use writing::write_payouts;
 
-/// How many payouts a file may have.
+/// How many payouts a file may have. The limit is this project's own.
 pub const MOST_PAYOUTS: usize = 200_000;
 
 /// A cash payout of `amount` millionths of a unit of money a share of the asset `sid`. `ex` is the
@@ -60,8 +60,9 @@ impl Model for Payouts {
 }
 
 impl Payouts {
-    /// The payouts of a file: the header `sid,ex,amount`, and in each further record the sid of an
-    /// asset, a date and a decimal above 0, in any order. A payout may stand there twice.
+    /// The payouts of a file: the header `sid,ex,amount`, and in each further record the sid of an asset, a
+    /// date and a decimal above 0, in any order. A payout may be there twice, and counts twice. The error is
+    /// the first fault of the file, or want of memory.
     pub fn read(alloc: Global, bytes: &[u8], assets: &Assets) -> Result<Payouts, PayoutsError>
         // The payouts of the records, or the fault of the first faulty one. Only want of memory may
         // come beside.
@@ -83,7 +84,7 @@ impl Payouts {
         self.rows.len()
     }
 
-    /// A payout, by its place from 0.
+    /// A payout by its place in the file, from 0; its `number` is one more.
     pub fn get(&self, i: usize) -> Payout
         requires { i < length self.now }
         ensures exact { option_map (numbered (i + 1)) (slice_get self.now i) ≡ Some result }

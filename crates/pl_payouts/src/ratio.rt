@@ -1,3 +1,5 @@
+//! The ratio of a payout in lowest terms, or why it has none.
+
 ghost use Rattle.std.specs.Prelude.{◌≡◌, ◌↔◌, ◌+◌, ◌<◌, ◌≤◌, ◌≢◌, ◌||◌, ℤ, pos, ◌-ℤ◌, ◌<ℤ◌, length, All, IfSome, Result};
 ghost use Rattle.std.specs.Int.{IsGcd};
 ghost use Rattle.std.specs.Int.RustNames.{unsigned_abs};
@@ -26,7 +28,7 @@ const MOST_PART: u64 = 1_000_000_000;
 pub enum Skip {
     /// No session is before the ex day.
     NoSession,
-    /// The last session before it has no close of the asset, or the close 0.
+    /// The asset has no bar on the last session before it, or its close there is missing or 0.
     NoClose,
     /// The amount is the close or more.
     NotBelow,

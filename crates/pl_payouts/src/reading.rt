@@ -1,3 +1,5 @@
+//! From the bytes of a payouts file to its rows.
+
 ghost use Rattle.std.specs.Prelude.{◌≡◌, ◌+◌, ◌<◌, ◌≤◌, length, OnOk};
 ghost use Rattle.pl_spec.specs.Limits.{most_payouts};
 ghost use Rattle.pl_records.specs.Reading.{Answers, at_line, rows_of};

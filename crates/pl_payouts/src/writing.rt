@@ -1,3 +1,5 @@
+//! The text of the rows of payouts.
+
 ghost use Rattle.std.specs.Prelude.{◌≡◌, ◌<◌, ◌+◌, length, All, IfOk, IsErrOf, OnOk};
 ghost use Rattle.pl_outside.specs.Taken.{IsWrittenIn, Writes};
 ghost use Rattle.pl_payouts.specs.Payouts.{AreKnown};
@@ -16,7 +18,8 @@ use std::alloc::Global;
 /// Writes the header `record,sid,effective_date,num,den,reason` and a line for each payout in the order of
 /// its file, each in one piece: its number, its sid, the seconds from 1970-01-01 to its ex day, and the ratio
 /// of its row and no reason, or no ratio and the reason why it has no row. Gives the number of payouts that
-/// have a row. It takes no memory.
+/// have a row. The only error is that the sink counted a fault; then a prefix of the text was written. It
+/// takes no memory.
 pub fn write_payouts<O: Sink>(
     _alloc: Global,
     payouts: &Payouts,

@@ -1,7 +1,7 @@
 //! The law of the text of a plan.
 ghost use Rattle.pl_plan_text.specs.Laws.{PlansAreTold};
 
-/// What the text of a plan tells is what the definitions say of the pipeline.
+/// What the text of a plan says is what the definitions say of the pipeline.
 pub fn plans_are_told()
     ensures { PlansAreTold }
 {}

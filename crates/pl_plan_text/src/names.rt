@@ -1,4 +1,5 @@
-// The names under which the text of a plan has bar columns and kinds.
+//! The names under which the text of a plan has bar columns and kinds.
+
 ghost use Rattle.std.specs.Prelude.{◌≡◌};
 ghost use Rattle.pl_terms.specs.Kinds.{kind_of};
 ghost use Rattle.pl_plan_text.specs.Names.{column_name, kind_name};

@@ -1,4 +1,5 @@
-// A line for each used term, and one for the whole.
+//! A line for each used term, and one for the whole.
+
 ghost use Rattle.std.specs.Prelude.{◌≡◌, ℕ, ◌<◌, ◌≤◌, ◌++◌, ◌∷◌, [], IfOk, OnOk, codes, decimal, flat_map, length, map, option_map};
 ghost use Rattle.std.specs.Fmt.{signed_decimal};
 ghost use Rattle.pl_terms.specs.Checked.{pipeline_of};
@@ -164,10 +165,11 @@ fn put_terms(out: &mut Vec<u8>, checked: &Checked, plan: &Plan) -> Result<(), Al
     Ok(())
 }
 
-/// The text of a plan: for each used term in ascending number one line, as
-/// `4 SimpleMovingAverage inputs=close window=3 mask=2 group=- extra=0 uses=1`, with its number, its kind
-/// without the parameters, its inputs joined by `;` (a bar column by its name, a term by its number), its
-/// window, mask and group, its extra rows and how often it is used; then `reach=R bound=B`.
+/// The text of a plan: for each used term in ascending number one line, as `4 SimpleMovingAverage
+/// inputs=close window=3 mask=2 group=- extra=0 uses=1`, with its number, its kind without the parameters,
+/// its inputs joined by `;` (a bar column by its name, a term by its number), its window in sessions, its
+/// mask and group, on how many sessions before the range it is computed and how often it is used; then
+/// `reach=R bound=B`. Each line ends with LF. The only error is want of memory.
 #[tactic(auto, unfolding(crate::specs::Text::plan_text))]
 pub fn plan_text(alloc: Global, checked: &Checked, plan: &Plan) -> Result<Vec<u8>, Memory>
     // The plan is one of this pipeline's.

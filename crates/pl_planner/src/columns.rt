@@ -1,4 +1,5 @@
-// How many arrays are held at once, and how far back bars are read.
+//! How many arrays are held at once, and how far back bars are read.
+
 ghost use Rattle.std.specs.Prelude.{◌≡◌, ◌||◌, if◌then◌else◌, ◌+◌, ◌*◌, ◌<◌, ◌≤◌, count_by, filter_map, fold, length, map, max, option_to_list};
 ghost use Rattle.std.specs.List.{list_any, range_with_len};
 ghost use Rattle.pl_spec.specs.World.{column_number};

@@ -1,4 +1,5 @@
-// The terms of a checked pipeline by their numbers.
+//! The terms of a checked pipeline by their numbers.
+
 ghost use Rattle.std.specs.Prelude.{◌≡◌, ◌<◌, ◌≤◌, Some, length, slice_get};
 ghost use Rattle.pl_terms.specs.Checked.{IsChecked, pipeline_of};
 ghost use Rattle.pl_terms.specs.Nodes.{node_of};

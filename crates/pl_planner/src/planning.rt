@@ -34,7 +34,9 @@ fn reach_of(checked: &Checked, sessions: &Sessions, uses: &[Use], from: usize) -
     from as i64 - most_back(checked, sessions, uses, from) as i64
 }
 
-/// The plan of a pipeline for the sessions from one to another.
+/// The plan of a pipeline for the sessions `from` to `to`, which are counted from 0 and both included. The
+/// error says that a column or the screen needs a session before the first one, or a term more than 4,096
+/// sessions before one of the range; or memory ran out.
 pub fn plan(
     alloc: Global,
     checked: &Checked,

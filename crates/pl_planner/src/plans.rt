@@ -11,14 +11,18 @@ use std::marker::Model;
 /// Why there is no plan.
 #[derive(Clone, Copy, Debug, PartialEq, Eq)]
 pub enum PlanError {
-    /// The least session that a column or the screen reaches lies before the first one.
+    /// The least session that a column or the screen reaches for the first one of the range; it is below 0,
+    /// where the first session there is has the number 0.
     TooEarly { reach: i64 },
-    /// The greatest number of extra rows is more than 4,096.
+    /// A term is computed `rows` sessions before a session of the range, the most of all, which is over
+    /// 4,096.
     TooDeep { rows: u64 },
+    /// Memory ran out.
     Memory,
 }
 
-/// How a pipeline is run over the sessions from one to another.
+/// How a pipeline is run over the sessions from one to another: how far back each used term is computed, and
+/// in which slot it is held. Sessions are counted from 0.
 #[derive(Drop)]
 pub struct Plan {
     pub(crate) from: usize,
@@ -43,7 +47,7 @@ impl Model for Plan {
 }
 
 impl Plan {
-    /// The first session of the range.
+    /// The first session of the range, counted from 0.
     pub fn from(&self) -> usize
         ensures value { result ≡ self.now.from }
         ensures order { result ≤ self.now.to }
@@ -51,7 +55,7 @@ impl Plan {
         self.from
     }
 
-    /// The last session of the range.
+    /// The last session of the range, included, counted from 0.
     pub fn to(&self) -> usize
         ensures value { result ≡ self.now.to }
         ensures order { self.now.from ≤ result }
@@ -76,7 +80,7 @@ impl Plan {
         self.from - self.low(t)
     }
 
-    /// The session from which on a used term is computed.
+    /// The session from which on a used term is computed, for the whole range.
     pub fn low(&self, t: TermId) -> usize
         requires { spec.is_used self.now t.0 ≡ true }
         ensures value { result ≡ spec.low self.now t.0 }
@@ -99,7 +103,8 @@ impl Plan {
         session - self.extras[(session - self.from) * self.uses.len() + t.0 as usize]
     }
 
-    /// The least session that a column or the screen reaches for the first session.
+    /// The first session that a column or the screen needs for the first one of the range, of its bars or of
+    /// the values of its terms; at least 0.
     pub fn reach(&self) -> i64
         ensures value { result ≡ self.now.reach }
         ensures early { pos 0 ≤ℤ result }
@@ -107,7 +112,7 @@ impl Plan {
         self.reach
     }
 
-    /// The greatest number of terms and bar columns that are live at once.
+    /// The greatest number of terms and bar columns that are live at once, and so of arrays: at most 261.
     pub fn bound(&self) -> usize
         ensures value { result ≡ self.now.bound }
         ensures few { result ≤ 261 }
@@ -115,7 +120,7 @@ impl Plan {
         self.bound
     }
 
-    /// The last used term that mentions a used term; none for an output, which is kept to the end.
+    /// The last used term that mentions a used term; `None` for an output, which is kept to the end.
     #[tactic(auto, unfolding(crate::specs::Plans::last_user))]
     pub fn last_user(&self, t: TermId) -> Option<TermId>
         requires { spec.is_used self.now t.0 ≡ true }

@@ -15,7 +15,7 @@ use pl_terms::{Checked, Input, Node, TermId};
 use std::alloc::Global;
 
 /// The least session that the value of a term on a session needs, of its bars and of the terms that it is of;
-/// it is below 0 where there are too few sessions before.
+/// it is below 0 where there are too few sessions before. The only error is want of memory.
 pub fn reach_at(
     alloc: Global,
     checked: &Checked,

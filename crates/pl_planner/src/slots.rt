@@ -1,4 +1,5 @@
-// The slot of each term and of its bar columns: of those that are free the lowest.
+//! The slot of each term and of its bar columns: of those that are free the lowest.
+
 ghost use Rattle.std.specs.Prelude.{◌≡◌, ℕ, ◌+◌, ◌<◌, ◌≤◌, ◌^◌, IfOk, false, true, get_or, length, replicate, slice_set, sum_by};
 ghost use Rattle.pl_planner.specs.Slotting.{AreSlotted, IsSlotted, IsTaken, one, own_slot};
 
@@ -6,7 +7,7 @@ use crate::columns::{either, is_kept};
 use crate::uses::Use;
 use std::alloc::{AllocError, Global};
 
-/// Where the values of a term stand, and those of its bar columns while it is computed.
+/// The slots of the values of a term, and of its bar columns while it is computed.
 #[derive(Clone, Copy, Debug)]
 pub(crate) struct TermSlots {
     pub(crate) own: usize,

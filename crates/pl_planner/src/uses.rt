@@ -1,4 +1,5 @@
-// Which terms are used, how far back, and by which term last: told from the users down to their inputs.
+//! Which terms are used, how far back, and by which term last, from the users down to their inputs.
+
 ghost use Rattle.std.specs.Prelude.{◌≡◌, ℕ, All, IfSome, option_map, option_to_list, replicate, ◌+◌, ◌<◌, ◌≤◌, ◌^◌, IfOk, length, map, slice_set, filter_map, fold, get_or};
 ghost use Rattle.pl_spec.specs.Kind.Kind.{Downsample};
 ghost use Rattle.pl_spec.specs.Term.{MentionsBelow};

@@ -57,7 +57,7 @@ fn begin_quoted<'a>(
 }
 
 impl<'a> Records<'a> {
-    /// All records of the file are left, and none was read.
+    /// All records of the file are left, and none was read. No memory is taken yet.
     pub fn new(alloc: Global, bytes: &'a [u8]) -> Records<'a>
         ensures none { result.fields ≡ [] }
         ensures all { result.left ≡ csv_records bytes.entry.now }
@@ -69,7 +69,8 @@ impl<'a> Records<'a> {
         }
     }
 
-    /// Reads the next record, if there is one. After an error none is left.
+    /// Reads the next record; `false` where none is left. The only error is want of memory, and after it none
+    /// is left.
     pub fn next(&mut self) -> Result<bool, AllocError>
         ensures ok { IfOk result (λ found. GivesNext self.old self.new found) }
         ensures err { OnErr result (self.new.left ≡ []) }
@@ -84,7 +85,7 @@ impl<'a> Records<'a> {
         }
     }
 
-    /// How many fields the record has that was read last.
+    /// How many fields the record has that was read last; 0 before the first one.
     pub fn field_count(&self) -> usize
         ensures { result ≡ length self.now.fields }
     {
@@ -94,7 +95,7 @@ impl<'a> Records<'a> {
         }
     }
 
-    /// A field of the record that was read last, counted from 0.
+    /// A field of the record that was read last, counted from 0, without its quotes.
     pub fn field(&self, i: usize) -> &[u8]
         requires { i < length self.now.fields }
         ensures { result.now ≡ field self.now.fields i }
@@ -105,7 +106,7 @@ impl<'a> Records<'a> {
         }
     }
 
-    /// Whether the record that was read last has exactly these fields.
+    /// Whether the record that was read last has exactly these fields, byte by byte and in this order.
     pub fn has_fields(&self, names: &[&[u8]]) -> bool
         ensures { result ≡ pointwise bytes_eq self.now.fields (map (λ n. n.now) names.now) }
     {
@@ -121,8 +122,8 @@ impl<'a> Records<'a> {
         true
     }
 
-    /// Reads the first record, and tells whether it is this header. A file without records has
-    /// none.
+    /// Reads the first record; `true` where it is this header. A file without records has none. The only
+    /// error is want of memory.
     pub fn read_header(&mut self, names: &[&[u8]]) -> Result<bool, AllocError>
         ensures header { IfOk result (λ b.
             b ≡ has_header (map (λ n. n.now) names.now) self.old.left) }

@@ -1,5 +1,5 @@
-//! The records of a text as long as they have no quotes: a line is a record, and its fields are what
-//! stands between its commas. They are the pieces of the text itself, and nothing is copied.
+//! The records of a text as long as they have no quotes: a line is a record, and its fields are what is
+//! between its commas. They are the pieces of the text itself, and nothing is copied.
 ghost use Rattle.std.specs.Prelude.{◌≡◌, ◌==◌, ◌+◌, ◌<◌, ◌≤◌, ◌∷◌, [], drop, length, map, slice_index, IfOk, IfSome, OnErr};
 ghost use Rattle.csv.specs.Reading.{records, default_config};
 ghost use Rattle.pl_records.specs.Reading.{field};
@@ -51,7 +51,7 @@ impl<'a> PlainRecords<'a> {
         }
     }
 
-    /// Reads the next record, unless it has a quote or a byte order mark stands first. After an error none is
+    /// Reads the next record, unless it has a quote or begins with a byte order mark. After an error none is
     /// left.
     pub(crate) fn next(&mut self) -> Result<Next, AllocError>
         ensures ok { IfOk result (Advances self.old self.new) }

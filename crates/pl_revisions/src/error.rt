@@ -32,7 +32,7 @@ pub enum RevisionsError {
     /// A record before has the sid, the session, the column and the day from which on it is known.
     #[error("record {line}: the revision stands before")]
     Duplicate { line: u32 },
-    /// 200,000 revisions stand before this one.
+    /// 200,000 revisions come before this one.
     #[error("record {line}: too many revisions")]
     TooMany { line: u32 },
     /// Memory ran out.

@@ -14,7 +14,8 @@ use pl_fixed::{Column, Steps};
 use std::sync::ledger::Ledger;
 
 /// The rings of the five bar columns, one for each asset: each has the cells of the last sessions before the
-/// last day as they are seen on it. The calendar has the days of the last sessions up to that day.
+/// last day as they are seen on it, oldest first, in millionths. `calendar` has the days of the last sessions
+/// up to that day, counted from 1970-01-01; `row` is room for one cell of each asset.
 pub struct BarRings {
     pub calendar: HeapCircularBuffer<i32>,
     pub open_price: Rings,
@@ -104,7 +105,7 @@ fn put_day(calendar: &mut HeapCircularBuffer<i32>, day: &Day)
 }
 
 impl BarRings {
-    /// The rings of the column.
+    /// The rings of the column, one for each asset by ascending sid.
     pub fn of(&self, column: Column) -> &Rings
         ensures { result.now ≡ rings_of self.now column }
     {
@@ -117,7 +118,8 @@ impl BarRings {
         }
     }
 
-    /// Takes a day in, before which so many were fed. It takes no memory.
+    /// Takes a day in, before which `fed` days were: its bars become the newest of the rings, as they are
+    /// seen on the day, and its adjustments change the older ones. It takes no memory.
     pub fn advance<L: Ledger>(&mut self, day: &Day, fed: usize, steps: &mut Steps<L>)
         requires rings { AreBarRings (length self.old.row.items) self.old }
         requires handed_in { IsHandedIn (length self.old.row.items) fed day.now.bars.now day.now.events.now }

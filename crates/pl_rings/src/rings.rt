@@ -36,7 +36,8 @@ fn full_ring(alloc: Global, capacity: usize, cell: i64) -> Result<HeapCircularBu
 }
 
 impl Rings {
-    /// Rings that are full of one cell.
+    /// Rings of `capacity` cells, one for each asset, that are full of one cell. The only error is want of
+    /// memory.
     pub fn new(alloc: Global, assets: usize, capacity: usize, cell: i64) -> Result<Rings, Memory>
         requires { IsCell cell }
         ensures capacity { IfOk result (λ r. r.capacity ≡ capacity) }
@@ -53,7 +54,7 @@ impl Rings {
     }
 }
 
-/// Puts a cell at the end of each ring; the oldest one leaves it.
+/// Puts a cell at the end of each ring, asset by asset; the oldest one leaves it.
 pub fn push_row(rings: &mut [HeapCircularBuffer<i64>], row: &[i64])
     requires { length row.now ≡ length rings.old }
     ensures count { length rings.new ≡ length rings.old }
@@ -65,7 +66,7 @@ pub fn push_row(rings: &mut [HeapCircularBuffer<i64>], row: &[i64])
     }
 }
 
-/// The last cells of a ring, oldest first.
+/// The last cells of a ring, oldest first: as many as `window` has.
 pub fn copy_window(ring: &HeapCircularBuffer<i64>, window: &mut [i64])
     requires { length window.old ≤ length ring.now.items }
     ensures { window.new ≡ keep_last (length window.old) ring.now.items }

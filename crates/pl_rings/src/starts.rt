@@ -10,7 +10,7 @@ use circular_buffer::HeapCircularBuffer;
 use pl_fixed::{MISSING, Memory};
 use std::alloc::Global;
 
-/// How many sessions the rings of each bar column have.
+/// How many sessions the rings of each bar column have: 0 where no window reads it.
 #[derive(Clone, Copy, Debug, PartialEq, Eq)]
 pub struct Capacities {
     pub open_price: usize,
@@ -41,7 +41,8 @@ fn rings_of(alloc: Global, assets: usize, capacity: usize) -> Result<Rings, Memo
     Rings::new(alloc, assets, capacity, MISSING)
 }
 
-/// Rings of these capacities, one for each asset and column, that stand for no day.
+/// Rings of these capacities, in sessions, one for each asset and column, into which no day was taken: every
+/// cell is `MISSING`. The only error is want of memory.
 pub fn begin_rings(alloc: Global, assets: usize, capacities: Capacities) -> Result<BarRings, Memory>
     ensures rings { IfOk result (AreBarRings assets) }
     ensures room { IfOk result (HasRoom capacities) }

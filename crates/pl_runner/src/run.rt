@@ -33,7 +33,8 @@ use std::sync::ledger::Ledger;
 
 /// What a run did: how many rows it wrote, the sum of their cells modulo 2^64, in which missing ones count 0,
 /// the greatest number of arrays that were held at once, and how many adjustments were applied to buffered
-/// bars.
+/// bars, at most u64's greatest value. `cells` is of millionths, a filter's 1 or 0, a classifier's number or
+/// code.
 #[derive(Clone, Copy, Debug, PartialEq, Eq)]
 pub struct RunReport {
     pub rows: u64,
@@ -43,7 +44,9 @@ pub struct RunReport {
 }
 
 /// Writes the table of a plan's range, the header and each row in one piece. The sessions are computed in
-/// chunks of `chunk`, the last one perhaps shorter; all memory is taken before the first byte.
+/// chunks of `chunk`, the last one perhaps shorter; the text is the same for each size. All memory is taken
+/// before the first byte. The error is that memory ran out, or that the sink counted a fault, and then a
+/// prefix of the text was written.
 pub fn run_table<O: Sink, L: Ledger>(
     alloc: Global,
     world: &World<'_>,
@@ -58,7 +61,7 @@ pub fn run_table<O: Sink, L: Ledger>(
     requires plan { IsPlanOf world.now.sessions.now (pipeline_of checked.now) plan.now }
     requires some { 1 ≤ chunk }
     requires most { chunk ≤ 4096 }
-    // Where memory is wanted nothing was written; else the text of the table is.
+    // Where memory ran out nothing was written; else the text of the table is.
     ensures writes { IsErrOf result RunError.Memory ⊎ Writes O.taken O.faults O.sound O.room out.old out.new
         (text (world_of world.now) (pipeline_of checked.now) format
         (table (world_of world.now) (pipeline_of checked.now) plan.now.from plan.now.to)) result }

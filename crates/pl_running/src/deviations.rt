@@ -1,4 +1,5 @@
-// How far cells lie from their mean, from their sum and that of their squares.
+//! How far cells lie from their mean, from their sum and that of their squares.
+
 ghost use Rattle.std.specs.Prelude.{◌≡◌, ◌≤◌, ◌*◌, ℤ, pos, ◌*ℤ◌, ◌-ℤ◌, length, unsigned_abs, sum_by};
 ghost use Rattle.std.specs.List.{All};
 ghost use Rattle.pl_spec.specs.Rounding.{IsCell, LIMIT, add, sub, mul};

@@ -1,5 +1,7 @@
-// The greatest and the least cell of a window, from those of the window before it. Both windows are one list:
-// all but its last cell, and all but its first. The whole window is read only where the extreme leaves it.
+//! The greatest and the least cell of a window, from those of the window before it. Both windows are one
+//! list: all but its
+//! last cell, and all but its first. The whole window is read only where the extreme leaves it.
+
 ghost use Rattle.std.specs.Prelude.{◌≡◌, ◌≤◌, length};
 ghost use Rattle.std.specs.List.{All};
 ghost use Rattle.pl_spec.specs.Rounding.{IsCell};

@@ -163,8 +163,8 @@ fn fill_slid(kind: &TermKind, size: usize, a: &[i64], b: &[i64], c: &[i64], out:
 }
 
 /// What a formula or a filter gives over windows of `size` cells that follow on each other: into cell k over
-/// those that begin with cell k of the lists of its inputs in order. A list that the kind does not use may
-/// have no cell. It takes no memory.
+/// those that begin with cell k of the lists of its inputs in order, oldest first; a number in millionths, or
+/// a filter's 1 or 0. A list that the kind does not use may have no cell. It takes no memory.
 #[tactic(auto, unfolding(pl_terms::specs::Kinds::kind_of))]
 pub fn fill_values(kind: &TermKind, size: usize, a: &[i64], b: &[i64], c: &[i64], out: &mut [i64])
     requires { TakesLanes (kind_of kind.now) size (length out.old) a.now b.now c.now }

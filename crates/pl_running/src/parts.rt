@@ -1,4 +1,5 @@
-// What a cell adds to a sum and to a count, and how a sum moves.
+//! What a cell adds to a sum and to a count, and how a sum moves.
+
 ghost use Rattle.std.specs.Prelude.{◌≡◌, ◌≤◌, ◌*◌, unsigned_abs};
 ghost use Rattle.pl_spec.specs.Rounding.{IsCell, LIMIT};
 ghost use Rattle.pl_running.specs.Spans.{part, presence};

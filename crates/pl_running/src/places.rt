@@ -1,5 +1,6 @@
-// Where in a window its greatest and its least cell are, from where they were in the window before it. Both
-// windows are one list: all but its last cell, and all but its first.
+//! Where in a window its greatest and its least cell are, from where they were in the window before it. Both
+//! windows are one list: all but its last cell, and all but its first.
+
 ghost use Rattle.std.specs.Prelude.{◌≡◌, ◌≤◌, ◌<◌, ◌↔◌, ◌⊎◌, true, false, IsTrue, length, position, Option};
 ghost use Rattle.std.specs.List.{All};
 ghost use Rattle.std.specs.Ordering.{int_eq};

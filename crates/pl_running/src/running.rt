@@ -1,4 +1,5 @@
-// The sums that are kept, and the calls that choose among them by the kind.
+//! The sums that are kept, and the calls that choose among them by the kind.
+
 ghost use Rattle.std.specs.Prelude.{◌≡◌, false, List, ℤ};
 ghost use Rattle.pl_spec.specs.Rounding.{IsCell};
 ghost use Rattle.pl_terms.specs.Kinds.{kind_of};
@@ -38,7 +39,8 @@ impl Model for Running {
 }
 
 impl Running {
-    /// What is kept of windows, which the kind takes as `formula` does. This reads whole windows.
+    /// What is kept of windows, oldest first, which the kind takes as `formula` does. This reads whole
+    /// windows.
     #[tactic(auto, unfolding(pl_terms::specs::Kinds::kind_of, crate::specs::Kept::kept_of))]
     pub fn start(kind: &TermKind, a: &[i64], b: &[i64], c: &[i64]) -> Running
         requires { TakesWindows (kind_of kind.now) a.now b.now c.now }
@@ -94,8 +96,8 @@ impl Running {
         };
     }
 
-    /// The value of the formula over windows that this stands for: what `formula` and `window_filter` give. A
-    /// formula of which nothing is kept is computed anew.
+    /// The value of the formula over windows that this stands for, a cell in millionths: what `formula` and
+    /// `window_filter` give. A formula of which nothing is kept is computed anew.
     #[tactic(auto, unfolding(pl_spec::specs::Formula::formula, pl_terms::specs::Kinds::kind_of, crate::specs::Kept::kept_of))]
     pub fn value(&self, kind: &TermKind, a: &[i64], b: &[i64], c: &[i64]) -> i64
         requires windows { TakesWindows (kind_of kind.now) a.now b.now c.now }

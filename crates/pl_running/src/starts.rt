@@ -1,4 +1,5 @@
-// What is kept of whole windows.
+//! What is kept of whole windows.
+
 ghost use Rattle.std.specs.Prelude.{◌≡◌, ◌≤◌, length};
 ghost use Rattle.std.specs.List.{All};
 ghost use Rattle.pl_spec.specs.Rounding.{IsCell};

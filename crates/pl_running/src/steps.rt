@@ -1,4 +1,5 @@
-// What is kept of windows, from what was kept of those before.
+//! What is kept of windows, from what was kept of those before.
+
 ghost use Rattle.std.specs.Prelude.{◌≡◌, ◌≤◌, length};
 ghost use Rattle.std.specs.List.{All};
 ghost use Rattle.pl_spec.specs.Rounding.{IsCell};

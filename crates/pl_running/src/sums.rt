@@ -1,5 +1,7 @@
-// The sums of a window, from those of the window before it. Both windows are one list: all but its last cell,
-// and all but its first.
+//! The sums of a window, from those of the window before it. Both windows are one list: all but its last
+//! cell, and all but
+//! its first.
+
 ghost use Rattle.std.specs.Prelude.{◌≡◌, ◌≤◌, length};
 ghost use Rattle.std.specs.List.{All};
 ghost use Rattle.pl_spec.specs.Rounding.{IsCell};

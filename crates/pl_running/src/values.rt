@@ -1,4 +1,5 @@
-// The value of a formula from what is kept of its windows.
+//! The value of a formula from what is kept of its windows.
+
 ghost use Rattle.std.specs.Prelude.{◌≡◌, ◌≤◌, ◌*◌, ◌/◌, ◌+◌, nat_le, pos, ◌*ℤ◌, ◌+ℤ◌, ◌-ℤ◌, length};
 ghost use Rattle.std.specs.List.{All, count_by, list_all};
 ghost use Rattle.pl_spec.specs.Rounding.{IsCell, MILLION, quot, to_cell, is_present};

@@ -1,6 +1,6 @@
 //! What pipelines mean: the definitions on which every contract of the project rests.
 //!
-//! The definitions stand in `specs/`, and docs/DEFINITIONS.md explains each of them. The types here are those
+//! The definitions are in `specs/`, and docs/DEFINITIONS.md explains each of them. The types here are those
 //! that both the definitions and the code speak of; the crates that they belong to export them. The laws of
 //! the definitions are the crate `pl_laws`.
 #![tactic(auto)]
@@ -15,7 +15,8 @@ pub enum Column {
     Volume,
 }
 
-/// What an adjustment comes from.
+/// What an adjustment comes from. Splits, mergers and dividends are Zipline's tables; revisions are this
+/// project's own.
 #[derive(Clone, Copy, Debug, PartialEq, Eq)]
 pub enum AdjustmentKind {
     Split,
@@ -24,7 +25,8 @@ pub enum AdjustmentKind {
     Revision,
 }
 
-/// How two numbers are compared.
+/// How two numbers are compared. A comparison with a missing side is false, `NotEqual` too, which is this
+/// project's rule.
 #[derive(Clone, Copy, Debug, PartialEq, Eq)]
 pub enum Compare {
     Less,
@@ -47,7 +49,7 @@ pub enum RankMethod {
     Average,
 }
 
-/// Whether the least value or the greatest has the first rank.
+/// Whether the least value or the greatest has the first rank, which is 1.
 #[derive(Clone, Copy, Debug, PartialEq, Eq)]
 pub enum RankOrder {
     Ascending,
@@ -64,15 +66,16 @@ pub enum Frequency {
     WeekStart,
 }
 
-/// The form of a table's text.
+/// The form of a table's text: fields with commas between them, or columns of one width with a space between
+/// them: the date in 10 bytes, the sid in 10, each value in 20. A longer text stays whole.
 #[derive(Clone, Copy, Debug, PartialEq, Eq)]
 pub enum Format {
     Csv,
     Fixed,
 }
 
-/// An asset, which exists on each session whose day is later than `start` and at most `end`. Days are counted
-/// from 1970-01-01.
+/// An asset, which exists on each session whose day is later than `start` and at most `end`, as in Zipline.
+/// Days are counted from 1970-01-01.
 #[derive(Clone, Copy, Debug, PartialEq, Eq)]
 pub struct AssetRow {
     pub sid: u32,
@@ -80,7 +83,8 @@ pub struct AssetRow {
     pub end: i32,
 }
 
-/// The bar of the asset in a column on a session: open, high, low, close and volume, in millionths.
+/// The bar of the asset in a column on a session: open, high, low, close and volume, in millionths, each
+/// `MISSING` where it has none. Columns and sessions are counted from 0.
 #[derive(Clone, Copy, Debug, PartialEq, Eq)]
 pub struct BarRow {
     pub col: u32,
@@ -88,8 +92,9 @@ pub struct BarRow {
     pub cells: [i64; 5],
 }
 
-/// A row of a table of splits, mergers or dividends. `effective` is in seconds since 1970-01-01 UTC: from
-/// that day on earlier bars are seen times `num / den`.
+/// A row of a table of splits, mergers or dividends, which are Zipline's; the ratio in two whole numbers is
+/// this project's own. `effective` is in seconds since 1970-01-01 UTC: from that day on earlier bars are seen
+/// times `num / den`. The numbers are as in the table, right or not.
 #[derive(Clone, Copy, Debug, PartialEq, Eq)]
 pub struct RawAdjust {
     pub id: i64,

@@ -198,8 +198,8 @@ fn same_scripts(a: &Script, b: &Script) -> bool
     a.version() == b.version() && same_statements(a.statements(), b.statements())
 }
 
-/// Scripts are equal where they say the same, wherever it stands in their files: their versions are the
-/// same, and so are their statements but for places; and so their canonical texts are.
+/// Scripts are equal where they say the same, at whatever places of their files: their versions are the same,
+/// and so are their statements but for places; and so their canonical texts are.
 impl PartialEq for Script {
     ghost eq = { λ a b. bytes_eq (printed_text a) (printed_text b) };
 

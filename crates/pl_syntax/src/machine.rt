@@ -17,7 +17,7 @@ use pl_grammar::{BinarySign, Place, PrefixSign};
 use pl_tokens::{Token, Word};
 use std::alloc::{AllocError, AllocFailed, Global};
 
-/// Where the machine stands.
+/// The state of the machine.
 #[derive(Drop)]
 pub(crate) enum Mode {
     Wanted,

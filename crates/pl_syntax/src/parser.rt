@@ -26,7 +26,7 @@ use pl_grammar::Place;
 use pl_tokens::{Next, Text, Token};
 use std::alloc::Global;
 
-/// The most bytes of a file.
+/// The most bytes of a pipeline file.
 pub const MOST_BYTES: usize = 262_144;
 
 // The most tokens of a statement.
@@ -126,7 +126,8 @@ fn read_all(alloc: Global, bytes: &[u8]) -> Result<Script, SyntaxError>
     }
 }
 
-/// The script that the bytes of a pipeline file spell, or the first fault in the text with its place.
+/// The script that the bytes of a pipeline file spell. The error is the first fault in the text, with its
+/// place but for `TooLong`, or want of memory. The language is this project's own (docs/LANGUAGE.md).
 pub fn parse(alloc: Global, bytes: &[u8]) -> Result<Script, SyntaxError>
     // What is read is spelled so, and what is spelled so is read.
     ensures found { IfOk result (λ script. Spells bytes.now (parsed script)) }

@@ -7,7 +7,7 @@ ghost use Rattle.pl_tokens.specs.Code.{token_of};
 use crate::stage::Stage;
 use pl_tokens::Token;
 
-// Where the reader stands, how many tokens of its statement have come, and which version was told, 0 for
+// Where the reader stands, how many tokens of its statement have come, and which version was named, 0 for
 // none.
 #[derive(Drop)]
 pub(crate) struct Progress {

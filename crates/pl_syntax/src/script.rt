@@ -87,7 +87,7 @@ impl Script {
         self.statements.as_slice()
     }
 
-    /// The end of the file, just past its last byte.
+    /// The place of the end of the file, just past its last byte.
     pub fn end(&self) -> Place
         ensures { result ≡ end_in self.now }
     {

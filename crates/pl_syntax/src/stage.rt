@@ -19,7 +19,7 @@ use pl_grammar::Place;
 use pl_tokens::Token;
 use std::alloc::{AllocError, Global};
 
-/// Where the reader of a script stands.
+/// The state of the reader of a script.
 #[derive(Drop)]
 pub(crate) enum Stage {
     Opening,
@@ -51,7 +51,7 @@ const FIRST: i64 = 1_000_000;
 
 const SECOND: i64 = 2_000_000;
 
-// The version that a number tells; 0 for none.
+// The version that a number names; 0 for none.
 fn version_of(value: i64) -> u32
     ensures { result ≡ version_of value }
 {
@@ -64,7 +64,7 @@ fn version_of(value: i64) -> u32
     }
 }
 
-// The version that was told before, or else that of the token.
+// The version that was named before, or else that of the token.
 pub(crate) fn version_with(token: &Token, version: u32) -> u32
     ensures { result ≡ version_or version (token_version (token_of token.now)) }
 {

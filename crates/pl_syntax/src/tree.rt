@@ -45,7 +45,7 @@ pub enum ExprNode {
     },
 }
 
-/// An argument, with its name where it has one.
+/// An argument, with its name where it is given by name.
 #[cycle(tree)]
 #[derive(Drop, Debug)]
 pub struct Arg {
@@ -61,7 +61,7 @@ pub struct ArgList {
 }
 
 impl ArgList {
-    /// Lends the arguments.
+    /// Lends the arguments, in the order written, those by place and those by name.
     pub fn as_slice(&self) -> &[Arg]
         ensures { result.now ≡ args_of self.now }
     {

@@ -302,8 +302,9 @@ fn text_of(alloc: Global, script: &Script) -> Result<Vec<u8>, AllocError>
     Ok(out)
 }
 
-/// The canonical text of a script, one statement a line: parentheses stand exactly where the levels ask for
-/// them. `parse` reads it as the same script, places aside, where it has at most 262,144 bytes.
+/// The canonical text of a script, one statement a line, each ended by LF: parentheses are exactly where the
+/// levels ask for them. `parse` reads it as the same script, places aside, where it has at most 262,144
+/// bytes. The only error is want of memory.
 pub fn print(alloc: Global, script: &Script) -> Result<Vec<u8>, Memory>
     ensures text { IfOk result (λ v. v.items ≡ printed_text script.now) }
     ensures again { IfOk result (λ v. SpellsAgain v.items (parsed script.now)) }

@@ -5,11 +5,12 @@ ghost use Rattle.std.specs.Prelude.{◌≡◌};
 use pl_fixed::Memory;
 use std::alloc::AllocError;
 
-/// Why a run ended early: the sink counted a fault, or no memory was found, which comes only before the first
-/// byte.
+/// Why a run ended early.
 #[derive(Clone, Copy, Debug, PartialEq, Eq)]
 pub enum RunError {
+    /// The sink counted a fault; a prefix of the text was written.
     WriteFault,
+    /// Memory ran out, which comes only before the first byte.
     Memory,
 }
 

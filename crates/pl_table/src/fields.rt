@@ -14,7 +14,7 @@ use pl_assets::Labels;
 use pl_fixed::{MISSING, write_day, write_decimal};
 use pl_spec::Format;
 
-/// Puts the date of a day at the front.
+/// Puts the date `YYYY-MM-DD` of a day, counted from 1970-01-01, as the first field of a line.
 pub fn put_date(line: &mut Line, format: Format, day: i32)
     requires date { IsDay day }
     requires room { length line.old + 10 ≤ 8_448 }
@@ -30,7 +30,7 @@ pub fn put_date(line: &mut Line, format: Format, day: i32)
     }
 }
 
-/// Puts a sid after the date.
+/// Puts a sid after the date: after a comma, or set right in a column of 10 bytes after a space.
 pub fn put_sid(line: &mut Line, format: Format, sid: u32)
     requires { length line.old + 11 ≤ 8_448 }
     ensures text { line.new ≡ line.old ++ sid_part format (decimal sid) }
@@ -65,7 +65,9 @@ fn put_text(line: &mut Line, format: Format, text: &[u8])
     line.put(text);
 }
 
-/// Puts the field of a cell.
+/// Puts the field of a cell after the others: in csv a comma, and a number with six decimals, `true` or
+/// `false`, a bin's whole number or a label's text, quoted where it has to be; nothing where it is missing.
+/// In the other form it is set right in a column of 20 bytes, after a space.
 pub fn put_cell(line: &mut Line, format: Format, writing: Writing, cell: i64, labels: &Labels)
     requires cell { IsCell cell }
     requires code { writing ≡ Writing.Label → IsCode labels.now.texts cell }

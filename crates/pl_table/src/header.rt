@@ -8,7 +8,8 @@ use pl_spec::Format;
 use pl_terms::Checked;
 use std::alloc::{AllocError, Global};
 
-/// The header of the table of a pipeline.
+/// The header of the table of a pipeline, with its line end: `session`, `sid` and the names of the columns.
+/// The only error is want of memory.
 pub fn make_header(alloc: Global, checked: &Checked, format: Format) -> Result<Vec<u8>, AllocError>
     ensures { IfOk result (λ text. text.items ≡ header (pipeline_of checked.now) format) }
 {

@@ -4,7 +4,7 @@ ghost use Rattle.std.specs.Prelude.{◌≡◌, ◌≤◌, ◌+◌, ◌++◌, [],
 use std::alloc::{AllocError, Global};
 use std::marker::Model;
 
-/// The greatest length of a line: a date, a sid, and 64 fields of at most 131 bytes with what stands before
+/// The greatest length of a line: a date, a sid, and 64 fields of at most 131 bytes with what comes before
 /// them, a label of 64 quotes in quotes, take 8,406 bytes.
 const MOST: usize = 8_448;
 
@@ -25,7 +25,7 @@ impl Model for Line {
 }
 
 impl Line {
-    /// An empty line with room for the longest one.
+    /// An empty line with room for the longest one, 8,448 bytes. The only error is want of memory.
     pub fn reserve(alloc: Global) -> Result<Line, AllocError>
         ensures { IfOk result (λ line. line ≡ []) }
     {
@@ -33,7 +33,7 @@ impl Line {
         Ok(Line { bytes })
     }
 
-    /// Begins anew.
+    /// Begins anew: the line has no bytes.
     pub fn clear(&mut self)
         ensures { self.new ≡ [] }
     {
@@ -58,7 +58,7 @@ impl Line {
         self.put(&spaces[..count]);
     }
 
-    /// The line.
+    /// Lends the bytes that were put so far.
     pub fn as_slice(&self) -> &[u8]
         ensures { result.now ≡ self.now }
     {

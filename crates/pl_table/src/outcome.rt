@@ -11,8 +11,8 @@ use pl_terms::{Checked, TermId};
 use pl_workspace::Workspace;
 use pl_world::World;
 
-/// The sessions from one to another of a planned pipeline, computed for the assets in some columns: each
-/// output's values stand in its slot of the workspace.
+/// The sessions `from` to `to`, both included, of a planned pipeline, computed for the assets in the columns
+/// `cols`: each output's values are in its slot of the workspace.
 #[derive(Clone, Copy)]
 pub struct Outcome<'a> {
     pub world: World<'a>,

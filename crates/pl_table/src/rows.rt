@@ -30,7 +30,9 @@ struct Cells<'a> {
     values: &'a [i64],
 }
 
-/// Writes the rows of all sessions of an outcome, each in one piece, and counts them.
+/// Writes the rows of all sessions of an outcome, session by session and by ascending sid, each in one piece,
+/// and counts them. A session's row is there for each asset that exists and passes the screen. `Failed` comes
+/// where the sink counted a fault; then a prefix of the rows was written.
 pub fn write_rows<O: Sink>(
     outcome: &Outcome<'_>,
     format: Format,

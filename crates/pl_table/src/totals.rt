@@ -4,7 +4,7 @@ ghost use Rattle.std.specs.Int.{int_rem_euclid};
 ghost use Rattle.pl_spec.specs.Rounding.{LIMIT};
 ghost use Rattle.pl_table.specs.Sums.{IsSumOf};
 
-/// How many rows there are, and the sum of their cells, of at most 64 in a row.
+/// How many rows there are, and the sum of their cells, of at most 64 in a row. Missing cells count 0.
 #[derive(Clone, Copy, Debug, PartialEq, Eq)]
 pub struct Totals {
     rows: u64,
@@ -41,7 +41,8 @@ impl Totals {
         self.rows
     }
 
-    /// The sum of the cells modulo 2^64.
+    /// The sum of the cells modulo 2^64, as arrays hold them: in millionths, a filter's 1 or 0, a
+    /// classifier's number or code.
     pub fn cells(&self) -> u64
         ensures { pos result ≡ int_rem_euclid self.now.sum (pos (2 ^ 64)) }
     {

@@ -7,8 +7,8 @@ ghost use Rattle.pl_table.specs.Fields.{sort_written};
 
 use pl_terms::{Graph, LabelValue, TermId, TermKind, sorting_kind};
 
-/// The form of a value: the cell of a factor, the truth of a filter, the whole number of a numbered
-/// classifier, or the text of a label.
+/// The form of a value: the cell of a factor with six decimals, `true` or `false` of a filter, the whole
+/// number of a numbered classifier, or the text of a label.
 #[derive(Clone, Copy, Debug, PartialEq, Eq)]
 pub enum Writing {
     Cell,

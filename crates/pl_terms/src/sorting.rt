@@ -12,7 +12,7 @@ use crate::kind::TermKind;
 use crate::node::{Input, Node, TermId};
 use pl_spec::Frequency;
 
-/// The frequency of a downsampled term's kind.
+/// The frequency of a downsampled term's kind; `None` for every other kind.
 #[tactic(auto, unfolding(crate::specs::Kinds::kind_of))]
 pub fn frequency_of(kind: &TermKind) -> Option<Frequency>
     ensures some { IfSome result (λ f. kind_of kind.now ≡ Downsample f) }
@@ -45,7 +45,7 @@ fn first_term(node: &Node) -> Option<TermId>
     }
 }
 
-/// The kind whose sort a term has: its own, or that of its input where it is downsampled; none where a bar
+/// The kind whose sort a term has: its own, or that of its input where it is downsampled; `None` where a bar
 /// column is downsampled, which no checked pipeline does.
 pub fn sorting_kind(graph: &Graph, t: TermId) -> Option<&TermKind>
     requires { t.0 < length graph.now }

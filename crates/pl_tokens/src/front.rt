@@ -1,4 +1,4 @@
-//! What stands at the front of a text.
+//! What is at the front of a text.
 
 ghost use Rattle.std.specs.Prelude.{◌≡◌, ◌+◌, ◌^◌, ◌<◌, ◌≤◌, length};
 ghost use Rattle.std.specs.List.{take_while};
@@ -19,7 +19,7 @@ pub(crate) enum Form {
     Two(u8),
 }
 
-/// What stands at the front of a text that begins with no gap.
+/// What is at the front of a text that begins with no gap.
 #[derive(Clone, Copy, Debug)]
 pub(crate) enum Found {
     End,
@@ -131,7 +131,7 @@ fn sign_of(b: u8, behind: &[u8]) -> Found
     }
 }
 
-// What stands at the front of a text that begins with no gap.
+// What is at the front of a text that begins with no gap.
 #[tactic(auto, unfolding(crate::specs::Front::front))]
 pub(crate) fn front_of(bytes: &[u8]) -> Found
     requires { length bytes.now < 2 ^ 32 }

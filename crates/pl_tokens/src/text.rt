@@ -136,7 +136,8 @@ impl<'a> Text<'a> {
         }
     }
 
-    /// What comes next, after blanks and comments. After a token the text goes on after it.
+    /// What comes next, after blanks and comments. After a token the text goes on after it. The only error is
+    /// want of memory, for the bytes of a name or a string.
     pub fn next(&mut self, alloc: Global) -> Result<Next, AllocError>
         requires { HasRoom self.old.place self.old.bytes.now }
         ensures { IfOk result

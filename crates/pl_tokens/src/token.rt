@@ -10,7 +10,7 @@ use pl_fixed::{DecimalFault, read_decimal};
 use pl_grammar::BinarySign;
 use std::alloc::{AllocError, Global};
 
-/// A token. A number is in millionths; `-` is `Operator(Sub)` wherever it stands.
+/// A token. A number is in millionths; `-` is `Operator(Sub)` before an operand, too.
 #[derive(Drop, Debug)]
 pub enum Token {
     Name(Word),

@@ -1,4 +1,5 @@
-// Parts in memory where they take no more, and the parts that keep nothing.
+//! Parts in memory where they take no more, and the parts that keep nothing.
+
 use pl_outside::{
     AdjustKeeper, Failed, KeepError, MemorySink, NoKeeper, NullSink, Sink, Table, write_bytes,
 };

@@ -1,4 +1,5 @@
-// Scripts that are equal, places aside, and such as are not.
+//! Scripts that are equal, places aside, and such as are not.
+
 use pl_syntax::{Script, parse};
 use std::test::Fail;
 

@@ -10,9 +10,9 @@ ghost use Rattle.pl_values.specs.Families.{IsOf};
 use pl_fixed::{Frequency, MISSING};
 use pl_terms::{Graph, LabelValue, TermId, TermKind, sorting_kind};
 
-/// How the value of a kind comes from those of its inputs: a constant, a label under the name of a number, a
-/// list of sids, a formula or a filter over windows, an operation on the values of one place, a test of a
-/// label, a cross-section, or the input's value on the first session of the period.
+/// How the value of a kind comes from those of its inputs: a constant in millionths, a label under the name
+/// of a number, a list of sids, a formula or a filter over windows, an operation on the values of one place,
+/// a test of a label, a cross-section, or the input's value on the first session of the period.
 #[derive(Clone, Copy, Debug, PartialEq, Eq)]
 pub enum Family {
     Constant(i64),
@@ -88,8 +88,8 @@ fn compared(label: &LabelValue) -> Family
 }
 
 /// What an array holds where the term has no value, since the asset does not exist on the session or the
-/// term's mask is false: 0 for a filter, and else `MISSING`. It goes by what the term is, which a downsampled
-/// one has from its input.
+/// term's mask is false: 0 for a filter, and else `MISSING`. It depends on what the term is, which a
+/// downsampled one has from its input.
 pub fn empty_value(graph: &Graph, t: TermId) -> i64
     requires { t.0 < length graph.now }
     ensures { result ≡ number_of (empty (sort_kind (term_at (graph_of graph.now) t.0))) }

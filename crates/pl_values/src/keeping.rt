@@ -12,6 +12,7 @@ pub fn truth_of(holds: bool) -> i64
 }
 
 /// Puts the empty value where the asset is not kept, and leaves the rest as it is.
+/// `none` is that value, 0 or `MISSING`; `keep` is 1 where the asset exists and passes the mask, else 0.
 pub fn keep_values(keep: &[i64], none: i64, out: &mut [i64])
     requires { length keep.now ≡ length out.old }
     ensures length { length out.new ≡ length out.old }

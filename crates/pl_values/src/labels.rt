@@ -11,8 +11,8 @@ use pl_filters::label_test;
 use pl_fixed::MISSING;
 use pl_terms::TermKind;
 
-/// The label of a column under a name on a day as arrays hold it: its code, `MISSING` for none. `number` is
-/// the name's number among the labels, as `Labels::name_of` gives it.
+/// The label of the asset in a column, under a name on a day counted from 1970-01-01, as arrays hold it: its
+/// code, `MISSING` for none. `number` is the name's number among the labels, as `Labels::name_of` gives it.
 pub fn label_value(labels: &Labels, name: &[u8], number: Option<u32>, col: usize, day: i32) -> i64
     requires { number ≡ position (bytes_eq name.now) (names_of labels.now.rows) }
     ensures value { result ≡ label_code labels.now.texts (label_on labels.now.rows name.now col day) }

@@ -11,8 +11,8 @@ ghost use Rattle.pl_cross.specs.Arrays.{section_at};
 use pl_cross::{Cross, cross_into, select_into};
 use pl_terms::TermKind;
 
-/// The cross-section of one session over the rows of its input, of who is kept, and of the group:
-/// `cross_into` or `select_into`, whichever the kind asks for.
+/// The cross-section of one session over the rows of its input, of who is kept (1 or 0), and of the group,
+/// each by ascending column: `cross_into` or `select_into`, whichever the kind asks for. It takes no memory.
 pub fn section_values(
     kind: &TermKind,
     cross: &mut Cross,

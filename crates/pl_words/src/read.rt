@@ -21,7 +21,8 @@ use pl_fixed::read_sid;
 use pl_outside::Memory;
 use std::alloc::Global;
 
-/// What the words ask for; `None` where they have no command's form. The parser of the words takes memory.
+/// What the words ask for; `None` where they have no command's form, which is status 2. The only error is
+/// want of memory.
 #[tactic(auto, unfolding(crate::specs::Request::request))]
 pub fn read_words<'a>(alloc: Global, words: &'a [String]) -> Result<Option<Request<'a>>, Memory>
     ensures asked { IfOk result (λ o. MatchOption o (request (map (λ s. string_bytes s) words.now) ≡ None)

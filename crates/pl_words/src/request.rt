@@ -19,7 +19,7 @@ pub enum InputFile {
     Derivation,
 }
 
-/// One of the two dates of a run or of a plan, the date as of which a run is, or that of a cell.
+/// Which date of a command is meant: FROM or TO of a table or a plan, that of `--asof`, or that of a cell.
 #[derive(Clone, Copy, Debug, PartialEq, Eq)]
 pub enum RangeDate {
     From,
@@ -28,7 +28,7 @@ pub enum RangeDate {
     At,
 }
 
-/// A date as it is written, and its day, counted from 1970-01-01.
+/// A date as it is written, `YYYY-MM-DD`, and its day, counted from 1970-01-01.
 #[derive(Clone, Copy)]
 pub struct DateWord<'a> {
     pub text: &'a str,

@@ -1,5 +1,6 @@
-// Slots of cells: their memory is taken once, lent out to be written, given back, read and lent out again. No
-// cell is copied, and how many slots are in use is counted.
+//! Slots of cells: their memory is taken once, lent out to be written, given back, read and lent out again.
+//! No cell is
+//! copied, and how many slots are in use is counted.
 #![tactic(auto)]
 
 ghost use Rattle.std.specs.Prelude.{◌≡◌, ◌<◌, pos, length, slice_set, IfOk};
@@ -11,7 +12,7 @@ use std::alloc::Global;
 use std::marker::Model;
 use std::mem;
 
-/// Want of memory, of `reserve` alone.
+/// Memory ran out. It is the error of `reserve` alone.
 #[derive(Clone, Copy, Debug, PartialEq, Eq)]
 pub struct Memory;
 
@@ -39,7 +40,7 @@ impl Model for Buffer {
 }
 
 impl Buffer {
-    /// The cells as they stand.
+    /// The cells as they are now.
     pub fn cells(&self) -> &[i64]
         ensures { result.now ≡ self.now.cells }
     {
@@ -78,7 +79,8 @@ impl Model for Workspace {
 }
 
 impl Workspace {
-    /// Takes the memory of all slots, each of `len` cells. No other call takes any.
+    /// Takes the memory of all slots, numbered from 0, each of `len` cells. No other call takes any. The only
+    /// error is that there is none.
     pub fn reserve(alloc: Global, slots: usize, len: usize) -> Result<Workspace, Memory>
         ensures { IfOk result (λ w. w ≡ fresh slots len) }
     {
@@ -101,7 +103,8 @@ impl Workspace {
         })
     }
 
-    /// Hands out the cells of a free slot, whatever they hold.
+    /// Hands out the cells of a free slot, whatever they hold. The slot is begun until `finish` takes them
+    /// back.
     pub fn begin(&mut self, slot: usize) -> Buffer
         requires { slot_at self.old slot ≡ Free }
         ensures changed { self.new ≡ with_slot self.old slot Begun }
@@ -140,7 +143,7 @@ impl Workspace {
         self.live -= 1;
     }
 
-    /// The cells that were finished in a live slot.
+    /// The cells that were finished in a live slot, all of them.
     pub fn array(&self, slot: usize) -> &[i64]
         requires { IsLive (slot_at self.now slot) }
         ensures { slot_at self.now slot ≡ Live result.now }

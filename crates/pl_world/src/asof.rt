@@ -1,3 +1,5 @@
+//! What of a world is known by a session.
+
 ghost use Rattle.std.specs.Prelude.{◌<◌, length, IfOk};
 ghost use Rattle.pl_world.specs.Worlds.{IsMade, IsOwned};
 ghost use Rattle.pl_world.specs.Known.{IsKnown, ShowsSameUpTo};
@@ -8,8 +10,9 @@ use crate::world::World;
 use pl_fixed::Memory;
 use std::alloc::Global;
 
-/// The world as of a session: its sessions up to that one, the bars of the sessions before it, the label rows
-/// and the adjustments that count by its day, all assets, and all label texts with their codes.
+/// The world as of a session, copied: its sessions up to that one, the bars of the sessions before it, the
+/// label rows and the adjustments that count by its day, all assets, and all label texts with their codes.
+/// The only error is want of memory.
 pub fn asof_world(alloc: Global, world: &World, session: usize) -> Result<OwnedWorld, Memory>
     requires made { IsMade world.now }
     requires within { session < length world.now.sessions.now }

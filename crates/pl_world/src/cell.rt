@@ -8,7 +8,7 @@ ghost use Rattle.pl_world.specs.Worlds.{world_of};
 
 use crate::world::World;
 
-/// Whether the asset in column `col` exists on a session.
+/// Whether the asset in column `col` exists on a session: later than its start day, and up to its end.
 pub fn exists(world: &World, col: usize, session: usize) -> bool
     requires col { col < length world.now.assets.now }
     requires session { session < length world.now.sessions.now }

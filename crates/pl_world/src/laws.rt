@@ -10,9 +10,9 @@ ghost use Rattle.pl_world.specs.Worlds.{IsMade, PartsMakeAWorld, world_of};
 use crate::world::World;
 use pl_terms::Checked;
 
-/// Parts that were made for the world's own sessions and assets make a world: the days of the
-/// sessions and the sids of the assets ascend, the adjustments of an asset stand in the order in
-/// which they act, and no two bars or label rows are one bar or one label.
+/// Parts that were made for the world's own sessions and assets make a world: the days of the sessions and
+/// the sids of the assets ascend, the adjustments of an asset are in the order in which they act, and no two
+/// bars or label rows are one bar or one label.
 pub fn parts_make_a_world(world: &World)
     requires { IsMade world.now }
     ensures { PartsMakeAWorld world.now }
@@ -25,8 +25,8 @@ pub fn parts_make_a_world(world: &World)
 }
 
 /// The order of rows changes nothing: worlds with the same assets, label rows, bars and adjustments show the
-/// same rows, written alike, in whatever order theirs stand. Only the adjustments of one asset and one day
-/// have an order that counts, that in which they act. The codes of labels go by the order of rows.
+/// same rows, written alike, in whatever order theirs are. Only the adjustments of one asset and one day have
+/// an order that counts, that in which they act. The codes of labels go by the order of rows.
 pub fn order_changes_nothing(world: &World, other: &World)
     requires made { IsMade world.now }
     requires other_made { IsMade other.now }
@@ -37,7 +37,7 @@ pub fn order_changes_nothing(world: &World, other: &World)
     parts_make_a_world(other);
 }
 
-/// Files whose records after the header stand in another order are read where the first are, and their world
+/// Files whose records after the header are in another order are read where the first are, and their world
 /// shows the same rows, written alike. The sessions alone have one order.
 pub fn records_in_any_order()
     ensures { RecordsInAnyOrder }
@@ -50,8 +50,8 @@ pub fn early_bars_change_nothing(checked: &Checked)
     let _terms = checked.graph();
 }
 
-/// A term of a checked pipeline is worth what its node gives over the values of the terms of lower numbers
-/// that it mentions.
+/// A term of a checked pipeline has the value that its node gives over the values of the terms of lower
+/// numbers that it mentions.
 pub fn values_follow_nodes(checked: &Checked)
     ensures { ValuesFollowNodes checked.now }
 {

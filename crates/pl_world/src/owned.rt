@@ -1,3 +1,5 @@
+//! The parts of a world, owned.
+
 ghost use Rattle.std.specs.Prelude.{◌≡◌};
 
 use crate::world::World;
@@ -6,7 +8,7 @@ use pl_assets::{Assets, Labels};
 use pl_bars::Bars;
 use pl_calendar::Sessions;
 
-/// The parts of a world, owned.
+/// The parts of a world, owned. Sessions, assets and bars count from 0 as `World` says.
 pub struct OwnedWorld {
     pub sessions: Sessions,
     pub assets: Assets,
@@ -29,7 +31,7 @@ impl Drop for OwnedWorld {
 }
 
 impl OwnedWorld {
-    /// Lends its parts.
+    /// Lends its parts as a world.
     pub fn world(&self) -> World<'_>
         ensures sessions { result.sessions.now ≡ self.now.sessions }
         ensures assets { result.assets.now ≡ self.now.assets }

@@ -22,14 +22,15 @@ use pl_terms::{Checked, Input, Node, TermId};
 use pl_values::{label_value, section_values};
 use std::alloc::Global;
 
-/// The input of a node in a place, from 0.
+/// The input of a node in a place, from 0; `None` where it has fewer inputs.
 pub fn input_at(node: &Node, place: usize) -> Option<Input>
     ensures { result ≡ slice_get node.now.inputs place }
 {
     node.inputs.as_slice().get(place).copied()
 }
 
-/// The code of the asset's label under a name of the pipeline.
+/// The code of the asset's label on a session, under the name of that number in the pipeline; `MISSING` where
+/// the asset has no label there.
 pub fn label_cell(world: &World, checked: &Checked, name: u32, col: usize, session: usize) -> i64
     requires made { IsMade world.now }
     requires name { name < length checked.now.names }
@@ -95,7 +96,8 @@ fn keep_row(
 }
 
 /// A cross-section's cells on a session, asset by asset, over the rows of its input, its mask and its group.
-/// The sessions that the term reaches are of no matter: the rows are given.
+/// It does not matter which sessions the term reaches, since the rows are given. The only error is want of
+/// memory.
 pub fn section_row(
     alloc: Global,
     world: &World,

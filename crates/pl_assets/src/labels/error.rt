@@ -1,3 +1,5 @@
+//! Why a labels file is refused.
+
 ghost use Rattle.std.specs.Prelude.{◌≡◌};
 ghost use Rattle.pl_assets.specs.declared.labels.error.LabelsError.TheVariants.{Memory};
 
@@ -25,7 +27,7 @@ pub enum LabelsError {
     /// A record before has the name, the sid and the date.
     #[error("record {line}: the name, the sid and the start stand before")]
     DuplicateStart { line: u32 },
-    /// 200,000 labels stand before this one.
+    /// 200,000 labels come before this one.
     #[error("record {line}: too many labels")]
     TooMany { line: u32 },
     /// Memory ran out.

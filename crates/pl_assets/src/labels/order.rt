@@ -1,3 +1,5 @@
+//! The order of label rows by name, column and day, in which a label is searched for.
+
 ghost use Rattle.std.specs.Prelude.{◌≡◌, ◌+◌, ◌^◌, ◌-◌, ◌<◌, ◌≤◌, length, pos, ◌+ℤ◌, vec_len, vec_capacity, IfOk};
 ghost use Rattle.pl_records.specs.Sorted.{HasOwnKeys, sorted_by};
 ghost use Rattle.pl_assets.specs.LabelPlaces.{AreNumbered, Ascend, IsLastStarted, IsOrder, KeyPoint, OwnKeys, key, key_at, key_of, numbers};

@@ -1,3 +1,5 @@
+//! From the bytes of a labels file to its rows.
+
 ghost use Rattle.std.specs.Prelude.{◌≡◌, ◌+◌, ◌<◌, ◌≤◌, [], length, option_map, OnOk, OnSome, IfOk};
 ghost use Rattle.std.specs.List.{list_any};
 ghost use Rattle.pl_spec.specs.Limits.{most_labels};

@@ -1,3 +1,5 @@
+//! Distinct texts, numbered in the order in which they came.
+
 ghost use Rattle.std.specs.Prelude.{◌≡◌, ◌<◌, ◌≤◌, ◌^◌, [], ◌∷◌, ◌++◌, flat_map, length, take, position, slice_index_or, bytes_eq, IfOk, OnOk, OnErr};
 ghost use Rattle.std.specs.List.{list_any, position_or_len};
 ghost use Rattle.pl_spec.specs.Text.{calls_for_quotes, quote, quoted_byte};

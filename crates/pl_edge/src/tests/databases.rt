@@ -1,7 +1,7 @@
-// Database files, as SQLite 3.40 wrote them in pages of 512 bytes: what stands at these places, with zeros
-// between.
+//! Database files, as SQLite 3.40 wrote them in pages of 512 bytes: what is at these places, with zeros
+//! between.
 
-/// What stands at a place of a file.
+/// What is at a place of a file.
 pub type Piece = (usize, &'static [u8]);
 
 /// One split.
@@ -47,7 +47,7 @@ pub const OPEN: [Piece; 3] = [
     (512, b""),
 ];
 
-/// Its log, in which the split stands.
+/// Its log, in which the split is.
 pub const LOG: [Piece; 4] = [
     (
         0,
