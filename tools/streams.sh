@@ -1,6 +1,7 @@
 #!/usr/bin/env bash
 # What the built program leaves where standard output, standard error or both take nothing: each write to
-# /dev/full fails. It prints a line for each case and how many passed, and ends with 1 where one failed.
+# /dev/full fails; and its table over a database file. It prints a line for each case and how many passed, and ends
+# with 1 where one failed.
 #
 # The program is crates/pl_main/out/pl_main, or the one that TOHMERIL names. Without one it says so and ends with 0.
 set -u
@@ -59,6 +60,13 @@ cp p.pl wanted
 left 0 held /dev/full fmt p.pl
 "$program" "${table[@]}" > wanted
 left 0 held /dev/full "${table[@]}" --stats
+
+# A database that SQLite has left with its commits in the log alone: a split 1/2 on 2024-01-04 makes the 102 that
+# is seen on that day 51, and changes no other day. It is read from a copy, since a reader may fold the log in.
+cp "$top"/crates/pl_main/data/* "$top"/tools/adjusted.db{,-wal} .
+printf '%s\n' session,sid,c 2024-01-03,1,100.000000 2024-01-04,1,51.000000 2024-01-05,1,51.000000 \
+    2024-01-08,1,52.000000 2024-01-09,1,53.000000 > wanted
+left 0 held /dev/full run p.pl sessions.csv assets.csv bars.csv 2024-01-03 2024-01-09 --adjustments adjusted.db
 
 echo "$passed passed, $failed failed"
 [ "$failed" = 0 ]

@@ -29,15 +29,16 @@ pub(crate) fn cells_differ(
     table: &[u8],
 ) -> Result<bool> {
     match read_words(alloc, words) {
-        Ok(Some(Request::Run(request))) => run_differs(alloc, case, &request, table),
-        Ok(Some(Request::Daily(request))) => run_differs(alloc, case, &request.run(), table),
+        Ok(Some(Request::Run(request) | Request::Daily(request))) => {
+            run_differs(alloc, case, &request, table)
+        }
         Ok(_) => Ok(false),
         Err(_) => bail!("memory"),
     }
 }
 
 fn run_differs(alloc: Global, case: &Case, request: &RunRequest<'_>, table: &[u8]) -> Result<bool> {
-    let labels = labels_of(alloc, case, request.options.labels)?;
+    let labels = labels_of(alloc, case, request.world.labels)?;
     match loaded_of(alloc, case, request)? {
         Some(loaded) => table_differs::<Brand>(alloc, &loaded, &labels, table, Blank::new(1)),
         None => Ok(case.status() == 0),

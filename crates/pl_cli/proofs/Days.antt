@@ -1,13 +1,14 @@
 -- How a table that is computed session by session ends.
-use Rattle.std.proofs.Common.{◌≡◌, ℕ, ◌+◌, ◌≤◌, List, Option, Some, Result, Ok, Err, OnOk, refl, subst}
+use Rattle.std.proofs.Common.{◌≡◌, ℕ, ◌+◌, ◌≤◌, Option, Some, Result, Ok, Err, OnOk, refl, subst}
 use Rattle.pl_spec.specs.World.{World}
 use Rattle.pl_spec.specs.Table.{Pipeline}
 use Rattle.pl_terms.specs.Checked.{pipeline_of}
 use Rattle.pl_feed.specs.Feeds.{daily_steps}
-use Rattle.pl_words.specs.Request.{Daily, DailyRequest, RunRequest, daily_run}
+use Rattle.pl_words.specs.Request.{Daily, RunRequest}
 use Rattle.pl_judge.specs.declared.fault.Fault.{Fault}
 use Rattle.pl_judge.specs.Contents.{Contents}
-use Rattle.pl_judge.specs.Held.{world_held, pipeline_held, days_held}
+use Rattle.pl_judge.specs.Held.{pipeline_held, days_held}
+use Rattle.pl_judge.specs.Known.{world_known}
 use Rattle.pl_judge.specs.Range.{index_of}
 use Rattle.pl_judge.specs.Work.{work}
 use Rattle.pl_load.specs.Views.{ShelfView, KeeperView, Change}
@@ -20,10 +21,10 @@ use Rattle.pl_cli.specs.Commands.{loaded_text, loaded_days}
 use Rattle.pl_cli.proofs.Loaded.{loaded-text}
 
 -- it asks for the files and tables of its run
-days-held : {shelf : Change ShelfView} {keeper : Change KeeperView} {r : Result Loaded Fault} (q : DailyRequest) → IsLoad shelf keeper (daily_run q) r
-    → IsLoadOf shelf keeper (Some (Daily q)) (λ held. work held (Some (Daily q))) (λ held l. IsLoaded held (daily_run q) l) r
+pub days-load : {shelf : Change ShelfView} {keeper : Change KeeperView} {r : Result Loaded Fault} (q : RunRequest) → IsLoad shelf keeper q r
+    → IsLoadOf shelf keeper (Some (Daily q)) (λ held. work held (Some (Daily q))) (λ held l. IsLoaded held q l) r
 unfolding work
-days-held q h =
+days-load q h =
     record {
       held = h.held;
       are_held = record { files_held = h.are_held.files_held; rows_held = h.are_held.rows_held };
@@ -39,26 +40,22 @@ days-held q h =
       alone = h.alone;
     }
 
-pub days-load : {shelf : Change ShelfView} {keeper : Change KeeperView} {r : Result Loaded Fault} (q : DailyRequest) (run : RunRequest) → run ≡ daily_run q → IsLoad shelf keeper run r
-    → IsLoadOf shelf keeper (Some (Daily q)) (λ held. work held (Some (Daily q))) (λ held l. IsLoaded held (daily_run q) l) r
-days-load {shelf = shelf} {keeper = keeper} {r = r} q run e h = days-held q (subst (λ a. IsLoad shelf keeper a r) e h)
-
-pub days-text : (held : Contents) (q : DailyRequest) (l : Loaded) → IsLoaded held (daily_run q) l → loaded_text l q.format ≡ text_of held (Some (Daily q))
+pub days-text : (held : Contents) (q : RunRequest) (l : Loaded) → IsLoaded held q l → loaded_text l q.options.format ≡ text_of held (Some (Daily q))
 unfolding text_of
-days-text held q l h = loaded-text held (daily_run q) l h
+days-text held q l h = loaded-text held q l h
 
 same-steps : (v w : World) (p r : Pipeline) (a b : ℕ) → v ≡ w → p ≡ r → a ≡ b → daily_steps w r b ≡ daily_steps v p a
 same-steps v w p r a b e f g = rw (e, f, g) refl
 
-days-steps : (held : Contents) (q : DailyRequest) (l : Loaded) (P : ℕ → Type 0) → IsLoaded held (daily_run q) l → P (loaded_days l) → TakesSteps held (Some (Daily q)) P
+days-steps : (held : Contents) (q : RunRequest) (l : Loaded) (P : ℕ → Type 0) → IsLoaded held q l → P (loaded_days l) → TakesSteps held (Some (Daily q)) P
 days-steps held q l P h k =
-    subst P (same-steps (world_held held q.world) (owned_world l.world) (pipeline_held held) (pipeline_of l.checked) (index_of (days_held held) q.to.day) l.plan.to h.world h.pipeline h.to) k
+    subst P (same-steps (world_known held q) (owned_world l.world) (pipeline_held held) (pipeline_of l.checked) (index_of (days_held held) q.to.day) l.plan.to h.world h.pipeline h.to) k
 
-pub ok-days : (q : DailyRequest) (held : Contents) (l : Loaded) (before now : ℕ) (r : Result (Option Stats) Fault) → IsLoaded held (daily_run q) l → OnOk r (now ≡ before + loaded_days l)
+pub ok-days : (q : RunRequest) (held : Contents) (l : Loaded) (before now : ℕ) (r : Result (Option Stats) Fault) → IsLoaded held q l → OnOk r (now ≡ before + loaded_days l)
     → OnOk r (TakesSteps held (Some (Daily q)) (λ n. now ≡ before + n))
 ok-days q held l before now (Ok x) h cost = days-steps held q l (λ n. now ≡ before + n) h cost
 ok-days q held l before now (Err f) h cost = tt
 
-pub most-days : (q : DailyRequest) (held : Contents) (l : Loaded) (before now : ℕ) → IsLoaded held (daily_run q) l → now ≤ before + loaded_days l
+pub most-days : (q : RunRequest) (held : Contents) (l : Loaded) (before now : ℕ) → IsLoaded held q l → now ≤ before + loaded_days l
     → TakesSteps held (Some (Daily q)) (λ n. now ≤ before + n)
 most-days q held l before now h most = days-steps held q l (λ n. now ≤ before + n) h most

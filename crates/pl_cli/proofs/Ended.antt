@@ -1,9 +1,10 @@
 -- How the commands end.
-use Rattle.std.proofs.Common.{◌≡◌, inl, inr, ℕ, ◌+◌, ◌≤◌, Bool, List, [], Option, Some, None, Result, Ok, Err, OnOk, OnErr, IfOk, IfErr, IsErrOf, ◌⊎◌, refl, sym, ap, subst, subst₂, ◌∙◌, arith}
-use Rattle.pl_outside.specs.Counts.{Rose}
+use Rattle.std.proofs.Common.{◌≡◌, inl, inr, ℕ, ◌+◌, ◌≤◌, Bool, List, [], Option, Some, None, Result, Ok, Err, OnOk, IfOk, IfErr, IsErrOf, ◌⊎◌, refl, sym, ap, subst, subst₂, arith}
 use Rattle.pl_outside.specs.Taken.{Writes}
 use Rattle.pl_outside.proofs.Pieces.{writes-over}
-use Rattle.pl_words.specs.Request.{Request}
+use Rattle.pl_words.specs.declared.request.InputFile.{InputFile}
+use Rattle.pl_words.specs.declared.request.InputFile.TheVariants as file
+use Rattle.pl_words.specs.Request.{Request, name_asked}
 use Rattle.pl_judge.specs.declared.fault.Fault.{Fault}
 use Rattle.pl_judge.specs.declared.fault.Fault.TheVariants.{Usage, Unread, Unloaded, Unwritten, Memory}
 use Rattle.pl_judge.specs.Contents.{Contents}
@@ -16,7 +17,7 @@ use Rattle.pl_load.proofs.Calls.{shelf-same, keeper-same, alone-same, begins-non
 use Rattle.pl_cli.specs.declared.commands.Stats.{Stats}
 use Rattle.pl_cli.specs.Texts.{text_of, TakesSteps, TellsNumbers}
 use Rattle.pl_cli.specs.Runs.{Observed}
-use Rattle.pl_cli.specs.Commands.{IsEnd, IsEnded, IsCaused, IsAnswered, IsKept, SinkView, SinkLeft, sink_view, sink_change, observed_by, stats_told}
+use Rattle.pl_cli.specs.Commands.{IsEnd, IsCaused, IsAnswered, SinkView, SinkLeft, sink_view, sink_change, observed_by, stats_told}
 
 -- ---- a sink
 
@@ -217,13 +218,23 @@ module _ {T : Type 0} {shelf : Change ShelfView} {keeper : Change KeeperView} {q
 
 -- ---- no command
 
+no-name : (f : InputFile) → name_asked None f ≡ None
+no-name file.Pipeline = refl
+no-name file.Sessions = refl
+no-name file.Assets = refl
+no-name file.Labels = refl
+no-name file.Bars = refl
+no-name file.Revisions = refl
+no-name file.Payouts = refl
+no-name file.Derivation = refl
+
 pub no-command : (shelf : ShelfView) (keeper : KeeperView) (out : SinkView) (steps : ℕ) → IsAnswered (unchanged shelf) (unchanged keeper) (unchanged out) (unchanged steps) None (Err Usage)
 unfolding work
 no-command shelf keeper out steps =
     record {
       ended = record {
         held = record { file = λ f. None; rows = λ t. [] };
-        are_held = record { files_held = λ f n is. absurd (cc); rows_held = λ t n is. absurd (cc) };
+        are_held = record { files_held = λ f n is. absurd (let none = no-name f in cc); rows_held = λ t n is. absurd (cc) };
         done = tt;
         told = tt;
         ended = inl refl;

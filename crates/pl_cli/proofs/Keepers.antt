@@ -6,7 +6,7 @@ use Rattle.pl_spec.specs.Table.{Pipeline}
 use Rattle.pl_outside.specs.declared.keeper.Table.{Table}
 use Rattle.pl_words.specs.declared.request.InputFile.{InputFile}
 use Rattle.pl_words.specs.declared.request.InputFile.TheVariants.{Labels as LabelsFile, Revisions as RevisionsFile}
-use Rattle.pl_words.specs.Request.{Request, Run, Fmt, Check, Plan, Bench, Payouts, Explain, Verify, Daily, RunRequest, PlanRequest, ExplainRequest, VerifyRequest, WorldNames, Dated, run_world, daily_run, adjustments_of}
+use Rattle.pl_words.specs.Request.{Request, Run, Fmt, Check, Plan, Bench, Payouts, Explain, Verify, Daily, RunRequest, PlanRequest, ExplainRequest, VerifyRequest, WorldNames, Dated, adjustments_of}
 use Rattle.pl_spec.specs.World.{World}
 use Rattle.pl_judge.specs.Cells.{cell_steps, lines_step}
 use Rattle.pl_judge.specs.Contents.{Contents}
@@ -79,13 +79,13 @@ of-data held q table h =
       ]
     ]
 
-of-run : (held : Contents) (q : RunRequest) (table : Table) → ReachesRead (run_steps held q) (Load table) → IsSome q.options.adjustments
+of-run : (held : Contents) (q : RunRequest) (table : Table) → ReachesRead (run_steps held q) (Load table) → IsSome q.world.adjustments
 of-run held q table h = elim h [
   | inl p ↦ no-input p
   | inr a ↦ elim a.1 [
     | inl p ↦ no-read p
-    | inr b ↦ elim (reaches-one (data_steps held (run_world q)) _ (Load table) b.1) [
-      | inl e ↦ of-data held (run_world q) table e
+    | inr b ↦ elim (reaches-one (data_steps held q.world) _ (Load table) b.1) [
+      | inl e ↦ of-data held q.world table e
       | inr r ↦ absurd (of-range (pipeline_held held) (days_held held) q.from q.to q.options.as_of table r)
     ]
   ]
@@ -163,5 +163,5 @@ store-named held (Some (Bench q)) table h = absurd h
 store-named held (Some (Payouts q)) table h = absurd (of-payouts held table h)
 store-named held (Some (Explain q)) table h = of-explain held q table h
 store-named held (Some (Verify q)) table h = of-verify held q table h
-store-named held (Some (Daily q)) table h = of-run held (daily_run q) table h
+store-named held (Some (Daily q)) table h = of-run held q table h
 store-named held (Some (Run q)) table h = of-run held q table h

@@ -10,7 +10,7 @@ use Rattle.pl_terms.specs.Checked.{pipeline_of}
 use Rattle.pl_planner.specs.Plans.{Planned}
 use Rattle.pl_runner.specs.Runs.{run_steps}
 use Rattle.pl_words.specs.declared.request.InputFile.TheVariants as files
-use Rattle.pl_words.specs.Request.{Run, Fmt, Check, RunRequest, run_world}
+use Rattle.pl_words.specs.Request.{Run, Fmt, Check, RunRequest}
 use Rattle.pl_judge.specs.declared.fault.Fault.{Fault}
 use Rattle.pl_judge.specs.Contents.{Contents}
 use Rattle.pl_judge.specs.Held.{script_in, pipeline_in, pipeline_held, world_held}
@@ -29,7 +29,7 @@ same-text format v w p r a b from to h c f t = rw (c, f, t) (h.written format)
 
 pub loaded-text : (held : Contents) (q : RunRequest) (l : Loaded) → IsLoaded held q l → loaded_text l q.options.format ≡ text_of held (Some (Run q))
 unfolding text_of
-loaded-text held q l h = same-text q.options.format (owned_world l.world) (world_held held (run_world q)) (pipeline_held held) (pipeline_of l.checked) _ _ l.plan.from l.plan.to h.same h.pipeline h.from h.to
+loaded-text held q l h = same-text q.options.format (owned_world l.world) (world_held held q.world) (pipeline_held held) (pipeline_of l.checked) _ _ l.plan.from l.plan.to h.same h.pipeline h.from h.to
 
 loaded-steps : (held : Contents) (q : RunRequest) (l : Loaded) (P : ℕ → Type 0) → IsLoaded held q l → P (loaded_steps l q.options.chunk) → TakesSteps held (Some (Run q)) P
 loaded-steps held q l P h k =
@@ -51,7 +51,7 @@ loaded-numbers : (held : Contents) (q : RunRequest) (l : Loaded) (line : List �
 loaded-numbers held q l line h e = (
   l.plan,
   record { is = rw h.pipeline h.plan; from = sym h.from; to = sym h.to },
-  e ∙ same-numbers q.options.stats (loaded_steps l q.options.chunk) (owned_world l.world) (world_held held (run_world q)) (pipeline_held held) (pipeline_of l.checked) _ _ l.plan.from l.plan.to h.same h.pipeline h.from h.to
+  e ∙ same-numbers q.options.stats (loaded_steps l q.options.chunk) (owned_world l.world) (world_held held q.world) (pipeline_held held) (pipeline_of l.checked) _ _ l.plan.from l.plan.to h.same h.pipeline h.from h.to
       ∙ ap (λ n. run_stats held q n) (same-steps (world_known held q) (owned_world l.world) (pipeline_held held) (pipeline_of l.checked) l.plan q.options.chunk h.world h.pipeline),
 )
 

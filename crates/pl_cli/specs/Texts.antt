@@ -18,7 +18,7 @@ use Rattle.pl_facts.specs.Walks.{derivation}
 use Rattle.pl_runner.specs.Runs.{run_steps}
 use Rattle.pl_feed.specs.Feeds.{daily_steps}
 use Rattle.pl_words.specs.declared.request.InputFile.TheVariants.{Pipeline as PipelineFile}
-use Rattle.pl_words.specs.Request.{Request, Run, Fmt, Check, Plan, Bench, Payouts, Explain, Verify, Daily, RunRequest, ExplainRequest, run_world, daily_run}
+use Rattle.pl_words.specs.Request.{Request, Run, Fmt, Check, Plan, Bench, Payouts, Explain, Verify, Daily, RunRequest, ExplainRequest}
 use Rattle.pl_judge.specs.Cells.{term_asked}
 use Rattle.pl_judge.specs.Contents.{Contents}
 use Rattle.pl_judge.specs.Held.{script_in, pipeline_in, pipeline_held, days_held, assets_held, bars_held, payouts_held, derivation_held, world_held}
@@ -34,7 +34,7 @@ rows_asked w p q = table w p (index_of w.days q.from.day) (index_of w.days q.to.
 -- the table of a run
 abbrev pub run_text : Contents → RunRequest → List ℕ
 run_text held q =
-    let w = world_held held (run_world q) in
+    let w = world_held held q.world in
     let p = pipeline_held held in
     text w p q.options.format (rows_asked w p q)
 
@@ -72,7 +72,7 @@ text_of held (Some (Bench q)) = bench_line q.number
 text_of held (Some (Payouts q)) = payouts_text (days_held held) (assets_held held) (bars_held held) (payouts_held held)
 text_of held (Some (Explain q)) = derivation_text (world_held held q.world) (pipeline_held held) q
 text_of held (Some (Verify q)) = verdict_text (first_wrong (world_held held q.world) (pipeline_held held) (derivation_held held))
-text_of held (Some (Daily q)) = run_text held (daily_run q)
+text_of held (Some (Daily q)) = run_text held q
 
 -- a plan of the pipeline over the sessions of a run, for its range
 pub record IsPlanFor (held : Contents) (q : RunRequest) (plan : Planned) : Type 0 where
@@ -89,7 +89,7 @@ TakesSteps held (Some (Run q)) P =
     (plan : Planned) × IsPlanFor held q plan × P (run_steps (world_known held q) (pipeline_held held) plan q.options.chunk)
 TakesSteps held (Some (Bench q)) P = TakesBenchSteps q.number q.chunk P
 TakesSteps held (Some (Daily q)) P =
-    P (daily_steps (world_held held q.world) (pipeline_held held) (index_of (days_held held) q.to.day))
+    P (daily_steps (world_known held q) (pipeline_held held) (index_of (days_held held) q.to.day))
 TakesSteps held asked P = P 0
 
 -- The line of the numbers of a table: how many rows it has, the sum of their cells modulo 2 ^ 64, how many
@@ -105,7 +105,7 @@ table_stats w p rows steps = numbers_of w.texts p rows steps
 -- of a run, where it is asked for
 abbrev pub run_stats : Contents → RunRequest → ℕ → List ℕ
 run_stats held q steps =
-    let w = world_held held (run_world q) in
+    let w = world_held held q.world in
     let p = pipeline_held held in
     if q.options.stats then table_stats w p (rows_asked w p q) steps else []
 

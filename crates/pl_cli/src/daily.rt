@@ -2,7 +2,7 @@
 ghost use Rattle.std.specs.Prelude.{◌≡◌, ◌≤◌, ◌+◌, ◌⊎◌, None, Some, OnOk, IfOk, IfErr, IsErrOf};
 ghost use Rattle.pl_outside.specs.Taken.{Writes};
 ghost use Rattle.pl_words.specs.Request.{Daily};
-ghost use Rattle.pl_words.specs.Views.{daily_of};
+ghost use Rattle.pl_words.specs.Views.{run_of};
 ghost use Rattle.pl_load.specs.Views.{change, shelf_change, keeper_change};
 ghost use Rattle.pl_load.specs.Loads.{IsReady};
 ghost use Rattle.pl_cli.specs.Commands.{IsAnswered, sink_change, loaded_text, loaded_days};
@@ -15,7 +15,7 @@ use pl_load::{Loaded, load};
 use pl_outside::{AdjustKeeper, Shelf, Sink};
 use pl_runner::RunError;
 use pl_spec::Format;
-use pl_words::DailyRequest;
+use pl_words::RunRequest;
 use std::alloc::Global;
 use std::sync::ledger::Ledger;
 
@@ -23,7 +23,7 @@ use std::sync::ledger::Ledger;
 /// the bytes that a run writes. It gives no numbers. The fault is the first one in the order of work.
 pub fn daily_command<S: Shelf, K: AdjustKeeper, O: Sink, L: Ledger>(
     alloc: Global,
-    request: &DailyRequest<'_>,
+    request: &RunRequest<'_>,
     shelf: &mut S,
     keeper: &mut K,
     out: &mut O,
@@ -32,10 +32,10 @@ pub fn daily_command<S: Shelf, K: AdjustKeeper, O: Sink, L: Ledger>(
     ensures { IsAnswered (shelf_change S.holds S.begun S.sound S.faults shelf.old shelf.new)
         (keeper_change K.lists K.sound K.faults K.calls keeper.old keeper.new)
         (sink_change O.taken O.sound O.faults O.room out.old out.new)
-        (change steps.old steps.new) (Some (Daily (daily_of request.now))) result }
+        (change steps.old steps.new) (Some (Daily (run_of request.now))) result }
 {
-    let loaded = load(alloc, &request.run(), shelf, keeper)?;
-    write_days(alloc, &loaded, request.format, out, steps)
+    let loaded = load(alloc, request, shelf, keeper)?;
+    write_days(alloc, &loaded, request.options.format, out, steps)
 }
 
 // Writes the table of what was loaded.

@@ -6,6 +6,7 @@ use Rattle.pl_outside.specs.declared.keeper.Table.TheVariants.{Splits, Mergers, 
 use Rattle.pl_grammar.specs.declared.Place.{Place}
 use Rattle.pl_words.specs.declared.request.InputFile.{InputFile}
 use Rattle.pl_words.specs.declared.request.InputFile.TheVariants.{Pipeline}
+use Rattle.pl_words.specs.declared.request.RangeDate.{RangeDate}
 use Rattle.pl_words.specs.Request.{Request, name_asked, date_asked, column_asked, adjustments_of}
 use Rattle.pl_judge.specs.declared.fault.SyntaxFault.{SyntaxFault}
 use Rattle.pl_judge.specs.declared.fault.SyntaxFault.TheVariants.{BadByte, Unexpected, TooDeep, NumberTooLarge, LongStatement}
@@ -102,6 +103,13 @@ file_name asked file = unwrap_or (name_asked asked file) []
 abbrev pub tables_name : Option Request → List ℕ
 tables_name asked = unwrap_or (adjustments_of asked) []
 
+abbrev pub column_name : Option Request → List ℕ
+column_name asked = unwrap_or (column_asked asked) []
+
+-- a date as it is written
+abbrev pub date_name : Option Request → RangeDate → List ℕ
+date_name asked date = unwrap_or (date_asked asked date) []
+
 -- a place in the pipeline file
 abbrev pub place_text : Option Request → Place → List ℕ
 place_text asked place =
@@ -117,9 +125,9 @@ message_of asked (faults.Data file line fault) =
     file_name asked file ++ codes ":" ++ decimal line ++ codes ": data " ++ data_text fault
 message_of asked (faults.Row table id fault) =
     tables_name asked ++ codes ":" ++ table_text table ++ codes ":" ++ signed_decimal id ++ codes ": data " ++ row_text fault
-message_of asked (faults.NotSession date) = codes "range: NotSession " ++ date_asked asked date
+message_of asked (faults.NotSession date) = codes "range: NotSession " ++ date_name asked date
 message_of asked (faults.UnknownSid sid) = codes "range: UnknownSid " ++ decimal sid
-message_of asked faults.UnknownColumn = codes "range: UnknownColumn " ++ column_asked asked
+message_of asked faults.UnknownColumn = codes "range: UnknownColumn " ++ column_name asked
 message_of asked faults.Backwards = codes "range: Backwards"
 message_of asked (faults.TooEarly reach) = codes "range: TooEarly " ++ signed_decimal reach
 message_of asked (faults.Passed limit) = codes "limit: " ++ limit_text limit

@@ -2,7 +2,7 @@
 use Rattle.std.specs.Prelude.{option_map, unwrap_or}
 use Rattle.pl_spec.specs.World.{World}
 use Rattle.pl_spec.specs.AsOf.{as_of}
-use Rattle.pl_words.specs.Request.{RunRequest, run_world}
+use Rattle.pl_words.specs.Request.{RunRequest}
 use Rattle.pl_judge.specs.Contents.{Contents}
 use Rattle.pl_judge.specs.Held.{days_held, world_held}
 use Rattle.pl_judge.specs.Range.{index_of}
@@ -10,5 +10,5 @@ use Rattle.pl_judge.specs.Range.{index_of}
 -- the whole world, or what is known of it by the date as of which the run is
 abbrev pub world_known : Contents → RunRequest → World
 world_known held q =
-    let whole = world_held held (run_world q) in
+    let whole = world_held held q.world in
     unwrap_or (option_map (λ d. as_of whole (index_of (days_held held) d.day) d.day) q.options.as_of) whole

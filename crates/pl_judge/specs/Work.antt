@@ -21,7 +21,7 @@ use Rattle.pl_outside.specs.declared.keeper.Table.{Table}
 use Rattle.pl_outside.specs.declared.keeper.Table.TheVariants.{Splits, Mergers, Dividends}
 use Rattle.pl_words.specs.declared.request.InputFile.{InputFile}
 use Rattle.pl_words.specs.declared.request.InputFile.TheVariants.{Pipeline as PipelineFile, Sessions, Assets, Labels, Bars, Revisions, Payouts as PayoutsFile, Derivation}
-use Rattle.pl_words.specs.Request.{Request, Run, Fmt, Check, Plan, Bench, Payouts, Explain, Verify, Daily, RunRequest, PlanRequest, ExplainRequest, VerifyRequest, WorldNames, run_world, daily_run}
+use Rattle.pl_words.specs.Request.{Request, Run, Fmt, Check, Plan, Bench, Payouts, Explain, Verify, Daily, RunRequest, PlanRequest, ExplainRequest, VerifyRequest, WorldNames}
 use Rattle.pl_spec.specs.Limits.{most_pipeline_bytes, most_file_bytes}
 use Rattle.pl_judge.specs.declared.fault.Limit.{Limit}
 use Rattle.pl_judge.specs.declared.fault.Limit.TheVariants as limits
@@ -169,7 +169,7 @@ data_steps held q =
 abbrev pub run_steps : Contents → RunRequest → List Step
 run_steps held q =
     pipeline_steps (held.file PipelineFile)
-    ++ (data_steps held (run_world q) ++ range_steps (pipeline_held held) (days_held held) q.from q.to q.options.as_of)
+    ++ (data_steps held q.world ++ range_steps (pipeline_held held) (days_held held) q.from q.to q.options.as_of)
 
 abbrev pub derivation_step : Option (List ℕ) → Step
 derivation_step file = read_step Derivation lines_rule file
@@ -215,4 +215,4 @@ work held (Some (Bench q)) = []
 work held (Some (Payouts q)) = payouts_steps held
 work held (Some (Explain q)) = explain_steps held q
 work held (Some (Verify q)) = verify_steps held q
-work held (Some (Daily q)) = run_steps held (daily_run q)
+work held (Some (Daily q)) = run_steps held q

@@ -14,7 +14,7 @@ use Rattle.pl_world.specs.declared.owned.OwnedWorld.{OwnedWorld}
 use Rattle.pl_world.specs.declared.world.World as lent
 use Rattle.pl_planner.specs.Plans.{Planned, IsPlanOf}
 use Rattle.pl_planner.proofs.Calendars.{plan-same}
-use Rattle.pl_words.specs.Request.{Dated, RunRequest, ExplainRequest, VerifyRequest, Run, Explain, Verify, run_world}
+use Rattle.pl_words.specs.Request.{Dated, RunRequest, ExplainRequest, VerifyRequest, Run, Explain, Verify}
 use Rattle.pl_judge.specs.Range.{IsDateOf, index_asked, index_of}
 use Rattle.pl_load.specs.Loads.{AsksWorld, IsKnown, IsKnownBy}
 
@@ -55,7 +55,7 @@ of-lent w l d v days same known shows =
 
 -- ---- the names of a world are those of the command
 
-pub run-asks : (q : RunRequest) → AsksWorld (Some (Run q)) (run_world q)
+pub run-asks : (q : RunRequest) → AsksWorld (Some (Run q)) q.world
 run-asks q = record { sessions = refl; assets = refl; labels = refl; bars = refl; revisions = refl; adjustments = refl }
 
 pub explain-asks : (q : ExplainRequest) → AsksWorld (Some (Explain q)) q.world

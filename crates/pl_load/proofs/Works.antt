@@ -1,22 +1,21 @@
 -- The work of the commands, part by part.
-use Rattle.std.proofs.Common.{◌≡◌, ℕ, ℤ, Bool, true, false, not, List, [], ◌∷◌, ◌++◌, Option, None, Result, Ok, Err, IfOk, refl, sym, ap, ap₂, ◌∙◌}
+use Rattle.std.proofs.Common.{◌≡◌, ℕ, ℤ, Bool, true, false, not, List, [], ◌∷◌, ◌++◌, Option, None, Result, Ok, Err, IfOk, refl, sym, ap, ap₂}
 use Rattle.pl_spec.specs.declared.AssetRow.{AssetRow}
 use Rattle.pl_spec.specs.Table.{Pipeline}
 use Rattle.pl_spec.specs.World.{World}
-use Rattle.pl_spec.specs.Parts.{ColumnAdjustment}
 use Rattle.pl_world.specs.declared.owned.OwnedWorld.{OwnedWorld}
 use Rattle.pl_planner.specs.Plans.{Planned, IsPlanOf}
 use Rattle.pl_words.specs.declared.request.InputFile.{InputFile}
 use Rattle.pl_words.specs.declared.request.InputFile.TheVariants as file
-use Rattle.pl_words.specs.Request.{Dated, RunRequest, PlanRequest, ExplainRequest, VerifyRequest, WorldNames, run_world}
+use Rattle.pl_words.specs.Request.{Dated, RunRequest, PlanRequest, ExplainRequest, VerifyRequest, WorldNames}
 use Rattle.pl_judge.specs.declared.fault.Fault.{Fault}
 use Rattle.pl_judge.specs.Contents.{Contents}
-use Rattle.pl_judge.specs.Held.{pipeline_in, days_in, assets_in, days_held, assets_held, adjustments_asked}
+use Rattle.pl_judge.specs.Held.{pipeline_in, days_in, assets_in, days_held, assets_held}
 use Rattle.pl_judge.specs.Planning.{HasRows}
 use Rattle.pl_judge.specs.Cells.{cell_steps}
 use Rattle.pl_judge.specs.Range.{dates_steps, plan_steps, range_steps, index_of}
 use Rattle.pl_judge.specs.Steps.{Step}
-use Rattle.pl_judge.specs.Work.{read_step, sessions_step, labels_steps, bars_rule, assets_rule, payouts_rule, derivation_step, pipeline_steps, adjustments_steps, revisions_steps, revised_steps, rows_steps, data_steps, run_steps, planning_steps, payouts_steps, cell_work, verify_steps}
+use Rattle.pl_judge.specs.Work.{read_step, sessions_step, bars_rule, assets_rule, payouts_rule, derivation_step, pipeline_steps, revised_steps, rows_steps, data_steps, run_steps, planning_steps, payouts_steps, cell_work, verify_steps}
 use Rattle.pl_load.specs.Loads.{IsWorldHeld}
 use Rattle.pl_load.specs.Parts.{world_steps, plan_steps_for}
 use Rattle.pl_load.proofs.Joined.{joint, is_file}
@@ -60,10 +59,10 @@ pub run-first : (q : RunRequest) (p : Pipeline) (f r : Contents) → pipeline_in
 unfolding data_steps
 run-first q p f r m = ap (λ x. pipeline_steps (f.file file.Pipeline) ++ world_steps q x r) m
 
-pub world-first : (q : RunRequest) (p : Pipeline) (w : OwnedWorld) (f r : Contents) → IsWorldHeld (run_world q) f w
-    → world_steps q p (joint whole true f r) ≡ data_steps f (run_world q) ++ range_steps p w.sessions q.from q.to q.options.as_of
+pub world-first : (q : RunRequest) (p : Pipeline) (w : OwnedWorld) (f r : Contents) → IsWorldHeld q.world f w
+    → world_steps q p (joint whole true f r) ≡ data_steps f q.world ++ range_steps p w.sessions q.from q.to q.options.as_of
 unfolding data_steps
-world-first q p w f r m = ap (λ days. data_steps f (run_world q) ++ range_steps p days q.from q.to q.options.as_of) m.days
+world-first q p w f r m = ap (λ days. data_steps f q.world ++ range_steps p days q.from q.to q.options.as_of) m.days
 
 pub plan-first : (q : PlanRequest) (p : Pipeline) (f r : Contents) → pipeline_in (f.file file.Pipeline) ≡ p
     → planning_steps (joint (is_file file.Pipeline) false f r) q ≡ pipeline_steps (f.file file.Pipeline) ++ plan_steps_for q p r

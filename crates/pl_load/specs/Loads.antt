@@ -10,7 +10,7 @@ use Rattle.pl_world.specs.Known.{ShowsSame}
 use Rattle.pl_world.specs.Worlds.{owned_world, IsOwned}
 use Rattle.pl_planner.specs.Plans.{IsPlanOf}
 use Rattle.pl_words.specs.declared.request.InputFile.TheVariants.{Sessions, Assets, Labels, Bars, Revisions}
-use Rattle.pl_words.specs.Request.{Request, RunRequest, PlanRequest, WorldNames, Run, Plan, run_world, name_asked, adjustments_of}
+use Rattle.pl_words.specs.Request.{Request, RunRequest, PlanRequest, WorldNames, Run, Plan, name_asked, adjustments_of}
 use Rattle.pl_judge.specs.declared.fault.Fault.{Fault}
 use Rattle.pl_judge.specs.Contents.{Contents, AreHeld}
 use Rattle.pl_judge.specs.Held.{pipeline_held, days_held, world_held}
@@ -61,7 +61,7 @@ IsKnown w (Some d) v = IsKnownBy w d v
 pub record IsLoaded (held : Contents) (q : RunRequest) (l : Loaded) : Type 0 where
   pub pipeline : pipeline_held held ≡ pipeline_of l.checked
   pub world : world_known held q ≡ owned_world l.world
-  pub same : ShowsSame (owned_world l.world) (world_held held (run_world q)) (pipeline_of l.checked) l.plan.from l.plan.to
+  pub same : ShowsSame (owned_world l.world) (world_held held q.world) (pipeline_of l.checked) l.plan.from l.plan.to
   pub plan : IsPlanOf (days_held held) (pipeline_of l.checked) l.plan
   pub from : index_of (days_held held) q.from.day ≡ l.plan.from
   pub to : index_of (days_held held) q.to.day ≡ l.plan.to

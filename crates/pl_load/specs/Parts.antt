@@ -8,7 +8,7 @@ use Rattle.pl_planner.specs.Plans.{Planned, IsPlanOf}
 use Rattle.pl_world.specs.Known.{ShowsSame}
 use Rattle.pl_world.specs.Worlds.{owned_world}
 use Rattle.pl_words.specs.declared.request.InputFile.TheVariants.{Sessions, Labels, Bars, Revisions}
-use Rattle.pl_words.specs.Request.{Request, PlanRequest, RunRequest, WorldNames, Run, Plan, run_world}
+use Rattle.pl_words.specs.Request.{Request, PlanRequest, RunRequest, WorldNames, Run, Plan}
 use Rattle.pl_judge.specs.declared.fault.Fault.{Fault}
 use Rattle.pl_judge.specs.Contents.{Contents}
 use Rattle.pl_judge.specs.Held.{days_held, world_held, labels_asked, bars_in, adjustments_asked, revised_asked}
@@ -48,14 +48,14 @@ IsRowsLoad shelf keeper q days assets result =
 -- the world of a run of this pipeline, and its plan
 pub record IsPlannedWorld (q : RunRequest) (p : Pipeline) (held : Contents) (w : PlannedWorld) : Type 0 where
   pub world : world_known held q ≡ owned_world w.world
-  pub same : ShowsSame (owned_world w.world) (world_held held (run_world q)) p w.plan.from w.plan.to
+  pub same : ShowsSame (owned_world w.world) (world_held held q.world) p w.plan.from w.plan.to
   pub plan : IsPlanOf (days_held held) p w.plan
   pub from : index_of (days_held held) q.from.day ≡ w.plan.from
   pub to : index_of (days_held held) q.to.day ≡ w.plan.to
 
 abbrev pub world_steps : RunRequest → Pipeline → Contents → List Step
 world_steps q p held =
-    data_steps held (run_world q) ++ range_steps p (days_held held) q.from q.to q.options.as_of
+    data_steps held q.world ++ range_steps p (days_held held) q.from q.to q.options.as_of
 
 abbrev pub IsWorldLoad : Change ShelfView → Change KeeperView → RunRequest → Pipeline → Result PlannedWorld Fault → Type 0
 IsWorldLoad shelf keeper q p result =

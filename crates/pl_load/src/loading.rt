@@ -98,7 +98,7 @@ fn load_world<S: Shelf, K: AdjustKeeper>(
     ensures made { IfOk result (λ w. IsOwned w.world) }
     ensures plan { IfOk result (λ w. IsPlanOf w.world.sessions (pipeline_of checked.now) w.plan) }
 {
-    let world = read_world(alloc, &request.world_names(), shelf, keeper)?;
+    let world = read_world(alloc, &request.world, shelf, keeper)?;
     let range = judge_dates(
         &request.from,
         &request.to,

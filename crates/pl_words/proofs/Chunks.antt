@@ -9,7 +9,7 @@ use Rattle.pl_words.specs.declared.commands.CommandName.{CommandName}
 use Rattle.pl_words.specs.declared.commands.CommandName.TheVariants as command
 use Rattle.pl_words.specs.Commands.{command_named, places_of, options_of}
 use Rattle.pl_words.specs.Parts.{Word, parts, names_of, values_of, is_text, one_value}
-use Rattle.pl_words.specs.Request.{Options, RunRequest, BenchRequest, Request, Run, Plan, Bench, Explain, Verify, Daily, Values, name, dated, chunk_or, chunk_by, format_by, stats_by, as_of_by, options_by, run_in, plan_in, bench_in, explain_in, verify_in, daily_in, request_in, counted, asked, request, IsChunk, HasChunk}
+use Rattle.pl_words.specs.Request.{Options, RunRequest, BenchRequest, Request, Run, Plan, Bench, Explain, Verify, Daily, Values, name, dated, chunk_or, chunk_by, format_by, stats_by, as_of_by, options_by, world_in, table_in, run_in, plan_in, bench_in, explain_in, verify_in, daily_in, request_in, counted, asked, request, IsChunk, HasChunk}
 
 then : {X Y : Type 0} (P : Y → Type 0) (f : X → Option Y) (o : Option X) → ((x : X) → IfSome (f x) P) → IfSome (option_and_then f o) P
 then P f None h = tt
@@ -47,17 +47,18 @@ any-of P f (Some x) h = h x
 
 options : (values : Values) → IfSome (options_by values) (λ o. IsChunk o.chunk)
 options values =
-    then (λ (o : Options). IsChunk o.chunk) _ (one_value (values option.Labels)) (λ labels.
-    then (λ (o : Options). IsChunk o.chunk) _ (one_value (values option.Adjustments)) (λ adjustments.
-    then (λ (o : Options). IsChunk o.chunk) _ (one_value (values option.Revisions)) (λ revisions.
-    with-chunk (λ (o : Options). IsChunk o.chunk) (λ chunk. option_and_then (λ format. option_and_then (λ stats. option_map (λ as_of. record { labels = labels; adjustments = adjustments; revisions = revisions; chunk = chunk; format = format; stats = stats; as_of = as_of }) (as_of_by values)) (stats_by values)) (format_by values)) (chunk_by values)
-    (of-chunk values) (λ n h. then (λ (o : Options). IsChunk o.chunk) _ (format_by values) (λ format. then (λ (o : Options). IsChunk o.chunk) _ (stats_by values) (λ stats. any-of (λ (o : Options). IsChunk o.chunk) _ (as_of_by values) (λ as_of. h)))))))
+    with-chunk (λ (o : Options). IsChunk o.chunk) (λ chunk. option_and_then (λ format. option_and_then (λ stats. option_map (λ as_of. record { chunk = chunk; format = format; stats = stats; as_of = as_of }) (as_of_by values)) (stats_by values)) (format_by values)) (chunk_by values)
+    (of-chunk values) (λ n h. then (λ (o : Options). IsChunk o.chunk) _ (format_by values) (λ format. then (λ (o : Options). IsChunk o.chunk) _ (stats_by values) (λ stats. any-of (λ (o : Options). IsChunk o.chunk) _ (as_of_by values) (λ as_of. h))))
+
+a-table : (names : List Word) (values : Values) (o : Options) → IsChunk o.chunk → IfSome (table_in names values o) (λ q. IsChunk q.options.chunk)
+a-table names values o h =
+    then (λ (q : RunRequest). IsChunk q.options.chunk) _ (dated (name names 4)) (λ from.
+    then (λ (q : RunRequest). IsChunk q.options.chunk) _ (dated (name names 5)) (λ to.
+    any-of (λ (q : RunRequest). IsChunk q.options.chunk) _ (world_in names values) (λ world. h)))
 
 a-run : (names : List Word) (values : Values) → IfSome (run_in names values) (λ q. IsChunk q.options.chunk)
 a-run names values =
-    then (λ (q : RunRequest). IsChunk q.options.chunk) _ (dated (name names 4)) (λ from.
-    then (λ (q : RunRequest). IsChunk q.options.chunk) _ (dated (name names 5)) (λ to.
-    mapped (λ (q : RunRequest). IsChunk q.options.chunk) _ (options_by values) (options values)))
+    with-chunk (λ (q : RunRequest). IsChunk q.options.chunk) (table_in names values) (options_by values) (options values) (a-table names values)
 
 a-bench : (names : List Word) (values : Values) → IfSome (bench_in names values) (λ q. IsChunk q.chunk)
 a-bench names values =

@@ -7,24 +7,13 @@ use Rattle.pl_spec.specs.Decimals.{sid_in}
 use Rattle.pl_words.specs.Parts.{Word}
 use Rattle.pl_spec.specs.declared.Format.{Format}
 use Rattle.pl_spec.specs.declared.Format.TheVariants.{Csv, Fixed}
-use Rattle.pl_words.specs.Request.{request, counted, WorldNames, Request, Run, Fmt, Check, Plan, Bench, Payouts, Explain, Verify, Daily}
+use Rattle.pl_words.specs.Request.{request, counted, RunRequest, WorldNames, Request, Run, Fmt, Check, Plan, Bench, Payouts, Explain, Verify, Daily}
 
 abbrev names : List Word
 names = codes "p.pl" ∷ codes "sessions.csv" ∷ codes "assets.csv" ∷ codes "bars.csv" ∷ []
 
 abbrev dates : List Word
 dates = codes "2024-01-03" ∷ codes "2024-01-04" ∷ []
-
-abbrev asks : Option Word → Option Word → Option Word → ℕ → Format → Bool → Option Request
-asks labels adjustments revisions chunk format stats = Some (Run (record {
-  pipeline = codes "p.pl";
-  sessions = codes "sessions.csv";
-  assets = codes "assets.csv";
-  bars = codes "bars.csv";
-  from = record { text = codes "2024-01-03"; day = pos 19725 };
-  to = record { text = codes "2024-01-04"; day = pos 19726 };
-  options = record { labels = labels; adjustments = adjustments; revisions = revisions; chunk = chunk; format = format; stats = stats; as_of = None };
-}))
 
 abbrev over : Option Word → Option Word → Option Word → WorldNames
 over labels adjustments revisions = record {
@@ -36,14 +25,20 @@ over labels adjustments revisions = record {
   revisions = revisions;
 }
 
-abbrev by_days : WorldNames → Format → Option Request
-by_days world format = Some (Daily (record {
+abbrev table : WorldNames → ℕ → Format → Bool → RunRequest
+table world chunk format stats = record {
   pipeline = codes "p.pl";
   world = world;
   from = record { text = codes "2024-01-03"; day = pos 19725 };
   to = record { text = codes "2024-01-04"; day = pos 19726 };
-  format = format;
-}))
+  options = record { chunk = chunk; format = format; stats = stats; as_of = None };
+}
+
+abbrev asks : Option Word → Option Word → Option Word → ℕ → Format → Bool → Option Request
+asks labels adjustments revisions chunk format stats = Some (Run (table (over labels adjustments revisions) chunk format stats))
+
+abbrev by_days : WorldNames → Format → Option Request
+by_days world format = Some (Daily (table world 126 format false))
 
 no_options : request (codes "run" ∷ (names ++ dates)) ≡ asks None None None 126 Csv false
 unfolding request counted date_in day_if days_from_civil day_count days_of_years days_of_months decimal_digits digits date_text

@@ -1,5 +1,5 @@
 -- What the words ask for.
-use Rattle.std.specs.Prelude.{ℕ, ◌≤◌, ⊤, ℤ, List, [], ◌∷◌, Bool, false, ◌==◌, ◌&&◌, nat_le, if◌then◌else◌, Option, Some, None, option_map, option_and_then, is_some, length, slice_index_or, unwrap_or, bytes_eq, codes}
+use Rattle.std.specs.Prelude.{ℕ, ◌≤◌, ⊤, ℤ, List, [], ◌∷◌, Bool, false, ◌==◌, ◌&&◌, nat_le, if◌then◌else◌, Option, Some, None, option_map, option_and_then, is_some, length, slice_index_or, bytes_eq, codes}
 use Rattle.std.specs.List.{list_all}
 use Rattle.pl_spec.specs.Limits.{most_chunk}
 use Rattle.pl_spec.specs.Dates.{date_in}
@@ -23,26 +23,13 @@ pub record Dated : Type 0 where
   pub text : List ℕ
   pub day : ℤ
 
--- the names of labels, adjustments and revisions, how many sessions a run computes at a time, the form of its
--- table, whether its numbers are told, and the date as of which it is
+-- how many sessions a table is computed of at a time, its form, whether its numbers are told, and the date as
+-- of which it is
 pub record Options : Type 0 where
-  pub labels : Option (List ℕ)
-  pub adjustments : Option (List ℕ)
-  pub revisions : Option (List ℕ)
   pub chunk : ℕ
   pub format : form.Format
   pub stats : Bool
   pub as_of : Option Dated
-
--- a pipeline over the files of these names, from a date to a date
-pub record RunRequest : Type 0 where
-  pub pipeline : List ℕ
-  pub sessions : List ℕ
-  pub assets : List ℕ
-  pub bars : List ℕ
-  pub from : Dated
-  pub to : Dated
-  pub options : Options
 
 -- the names of the files of a world, and those of its labels, adjustments and revisions where it has some
 pub record WorldNames : Type 0 where
@@ -53,6 +40,14 @@ pub record WorldNames : Type 0 where
   pub adjustments : Option (List ℕ)
   pub revisions : Option (List ℕ)
 
+-- the table of a pipeline over a world, from a date to a date
+pub record RunRequest : Type 0 where
+  pub pipeline : List ℕ
+  pub world : WorldNames
+  pub from : Dated
+  pub to : Dated
+  pub options : Options
+
 -- the cell of a column for an asset on a date, of a pipeline over a world
 pub record ExplainRequest : Type 0 where
   pub pipeline : List ℕ
@@ -60,14 +55,6 @@ pub record ExplainRequest : Type 0 where
   pub sid : ℕ
   pub date : Dated
   pub column : List ℕ
-
--- a pipeline over a world, session by session, from a date to a date, and the form of its table
-pub record DailyRequest : Type 0 where
-  pub pipeline : List ℕ
-  pub world : WorldNames
-  pub from : Dated
-  pub to : Dated
-  pub format : form.Format
 
 -- the lines of the derivation of that name, of a pipeline over a world
 pub record VerifyRequest : Type 0 where
@@ -106,7 +93,7 @@ pub data Request : Type 0 where
   Payouts : PayoutsRequest → Request
   Explain : ExplainRequest → Request
   Verify : VerifyRequest → Request
-  Daily : DailyRequest → Request
+  Daily : RunRequest → Request
 
 abbrev pub dated : Word → Option Dated
 dated text = option_map (λ day. record { text = text; day = day }) (date_in text)
@@ -122,9 +109,11 @@ Values = OptionName → List Word
 abbrev pub chunk_in : Word → Option ℕ
 chunk_in text = option_and_then (λ n. if nat_le 1 n && nat_le n most_chunk then Some n else None) (sid_in text)
 
--- 126 where no chunk is given
+abbrev pub usual_chunk : ℕ
+usual_chunk = 126
+
 abbrev pub chunk_or : Option Word → Option ℕ
-chunk_or None = Some 126
+chunk_or None = Some usual_chunk
 chunk_or (Some text) = chunk_in text
 
 abbrev pub chunk_by : Values → Option ℕ
@@ -156,37 +145,48 @@ as_of_by values = option_and_then as_of_or (one_value (values option.AsOf))
 
 abbrev pub options_by : Values → Option Options
 options_by values =
-    option_and_then (λ labels. option_and_then (λ adjustments. option_and_then (λ revisions.
     option_and_then (λ chunk. option_and_then (λ format. option_and_then (λ stats. option_map (λ as_of.
-    record {
-      labels = labels;
-      adjustments = adjustments;
-      revisions = revisions;
-      chunk = chunk;
-      format = format;
-      stats = stats;
-      as_of = as_of;
-    })
-    (as_of_by values)) (stats_by values)) (format_by values)) (chunk_by values)) (one_value (values option.Revisions)))
-    (one_value (values option.Adjustments))) (one_value (values option.Labels))
+    record { chunk = chunk; format = format; stats = stats; as_of = as_of })
+    (as_of_by values)) (stats_by values)) (format_by values)) (chunk_by values)
 
-abbrev pub run_over : List Word → Dated → Dated → Options → RunRequest
-run_over names from to options =
+-- of a table whose words give its form alone
+abbrev pub usual : form.Format → Options
+usual format = record { chunk = usual_chunk; format = format; stats = false; as_of = None }
+
+abbrev pub world_over : List Word → Option Word → Option Word → Option Word → WorldNames
+world_over names labels adjustments revisions =
     record {
-      pipeline = name names 0;
       sessions = name names 1;
       assets = name names 2;
       bars = name names 3;
-      from = from;
-      to = to;
-      options = options;
+      labels = labels;
+      adjustments = adjustments;
+      revisions = revisions;
     }
 
--- four names, two dates and the options
-abbrev pub run_in : List Word → Values → Option RunRequest
-run_in names values =
-    option_and_then (λ from. option_and_then (λ to. option_map (run_over names from to) (options_by values))
+-- three names after that of the pipeline, and three options
+abbrev pub world_in : List Word → Values → Option WorldNames
+world_in names values =
+    option_and_then (λ labels. option_and_then (λ adjustments.
+    option_map (λ revisions. world_over names labels adjustments revisions)
+    (one_value (values option.Revisions))) (one_value (values option.Adjustments))) (one_value (values option.Labels))
+
+abbrev pub table_over : List Word → Options → Dated → Dated → WorldNames → RunRequest
+table_over names options from to world =
+    record { pipeline = name names 0; world = world; from = from; to = to; options = options }
+
+-- four names and two dates, and the names of the world
+abbrev pub table_in : List Word → Values → Options → Option RunRequest
+table_in names values options =
+    option_and_then (λ from. option_and_then (λ to.
+    option_map (table_over names options from to) (world_in names values))
     (dated (name names 5))) (dated (name names 4))
+
+abbrev pub run_in : List Word → Values → Option RunRequest
+run_in names values = option_and_then (table_in names values) (options_by values)
+
+abbrev pub daily_in : List Word → Values → Option RunRequest
+daily_in names values = option_and_then (λ format. table_in names values (usual format)) (format_by values)
 
 abbrev pub plan_over : List Word → Dated → Dated → PlanRequest
 plan_over names from to = record { pipeline = name names 0; sessions = name names 1; from = from; to = to }
@@ -207,24 +207,6 @@ abbrev pub payouts_over : List Word → PayoutsRequest
 payouts_over names =
     record { sessions = name names 0; assets = name names 1; bars = name names 2; payouts = name names 3 }
 
-abbrev pub world_over : List Word → Option Word → Option Word → Option Word → WorldNames
-world_over names labels adjustments revisions =
-    record {
-      sessions = name names 1;
-      assets = name names 2;
-      bars = name names 3;
-      labels = labels;
-      adjustments = adjustments;
-      revisions = revisions;
-    }
-
--- three names after that of the pipeline, and three options
-abbrev pub world_in : List Word → Values → Option WorldNames
-world_in names values =
-    option_and_then (λ labels. option_and_then (λ adjustments.
-    option_map (λ revisions. world_over names labels adjustments revisions)
-    (one_value (values option.Revisions))) (one_value (values option.Adjustments))) (one_value (values option.Labels))
-
 abbrev pub explain_over : List Word → ℕ → Dated → WorldNames → ExplainRequest
 explain_over names sid date world =
     record { pipeline = name names 0; world = world; sid = sid; date = date; column = name names 6 }
@@ -244,17 +226,6 @@ explain_in names values =
 abbrev pub verify_in : List Word → Values → Option VerifyRequest
 verify_in names values =
     option_map (λ world. record { pipeline = name names 0; world = world; derivation = name names 4 }) (world_in names values)
-
-abbrev pub daily_over : List Word → Dated → Dated → WorldNames → form.Format → DailyRequest
-daily_over names from to world format =
-    record { pipeline = name names 0; world = world; from = from; to = to; format = format }
-
--- four names, two dates and the options
-abbrev pub daily_in : List Word → Values → Option DailyRequest
-daily_in names values =
-    option_and_then (λ from. option_and_then (λ to. option_and_then (λ world.
-    option_map (daily_over names from to world) (format_by values)) (world_in names values))
-    (dated (name names 5))) (dated (name names 4))
 
 -- what a command asks for by its names and its options' values
 abbrev pub request_in : CommandName → List Word → Values → Option Request
@@ -292,178 +263,113 @@ HasChunk (Run q) = IsChunk q.options.chunk
 HasChunk (Bench q) = IsChunk q.chunk
 HasChunk request = ⊤
 
--- the names of the world of a run
-abbrev pub run_world : RunRequest → WorldNames
-run_world q =
+-- ---- what words name
+
+-- the names of files, of adjustments and of a column, and the dates as they are written; each where the words
+-- have it
+pub record Names : Type 0 where
+  pub pipeline : Option (List ℕ)
+  pub sessions : Option (List ℕ)
+  pub assets : Option (List ℕ)
+  pub labels : Option (List ℕ)
+  pub bars : Option (List ℕ)
+  pub adjustments : Option (List ℕ)
+  pub revisions : Option (List ℕ)
+  pub payouts : Option (List ℕ)
+  pub derivation : Option (List ℕ)
+  pub column : Option (List ℕ)
+  pub from : Option (List ℕ)
+  pub to : Option (List ℕ)
+  pub as_of : Option (List ℕ)
+  pub at : Option (List ℕ)
+
+abbrev pub no_names : Names
+no_names =
     record {
-      sessions = q.sessions;
-      assets = q.assets;
-      bars = q.bars;
-      labels = q.options.labels;
-      adjustments = q.options.adjustments;
-      revisions = q.options.revisions;
+      pipeline = None;
+      sessions = None;
+      assets = None;
+      labels = None;
+      bars = None;
+      adjustments = None;
+      revisions = None;
+      payouts = None;
+      derivation = None;
+      column = None;
+      from = None;
+      to = None;
+      as_of = None;
+      at = None;
     }
 
--- the run that has the same words
-abbrev pub daily_run : DailyRequest → RunRequest
-daily_run q =
-    record {
-      pipeline = q.pipeline;
-      sessions = q.world.sessions;
-      assets = q.world.assets;
-      bars = q.world.bars;
-      from = q.from;
-      to = q.to;
-      options = record {
-        labels = q.world.labels;
-        adjustments = q.world.adjustments;
-        revisions = q.world.revisions;
-        chunk = 126;
-        format = q.format;
-        stats = false;
-        as_of = None;
-      };
-    }
+-- of a pipeline and a world
+abbrev pub names_over : List ℕ → WorldNames → Names
+names_over pipeline w = record no_names {
+  pipeline = Some pipeline;
+  sessions = Some w.sessions;
+  assets = Some w.assets;
+  labels = w.labels;
+  bars = Some w.bars;
+  adjustments = w.adjustments;
+  revisions = w.revisions;
+}
 
--- the name of a file of a command, where the command has such a file
-abbrev pub run_name : RunRequest → InputFile → Option (List ℕ)
-run_name q file.Pipeline = Some q.pipeline
-run_name q file.Sessions = Some q.sessions
-run_name q file.Assets = Some q.assets
-run_name q file.Labels = q.options.labels
-run_name q file.Bars = Some q.bars
-run_name q file.Revisions = q.options.revisions
-run_name q file.Payouts = None
-run_name q file.Derivation = None
+abbrev pub table_names : RunRequest → Names
+table_names q = record (names_over q.pipeline q.world) {
+  from = Some q.from.text;
+  to = Some q.to.text;
+  as_of = option_map (λ d. d.text) q.options.as_of;
+}
 
--- of a command over the pipeline file alone
-abbrev pub pipeline_name : List ℕ → InputFile → Option (List ℕ)
-pipeline_name name file.Pipeline = Some name
-pipeline_name name file.Sessions = None
-pipeline_name name file.Assets = None
-pipeline_name name file.Labels = None
-pipeline_name name file.Bars = None
-pipeline_name name file.Revisions = None
-pipeline_name name file.Payouts = None
-pipeline_name name file.Derivation = None
+abbrev pub named_by : Request → Names
+named_by (Run q) = table_names q
+named_by (Fmt name) = record no_names { pipeline = Some name }
+named_by (Check name) = record no_names { pipeline = Some name }
+named_by (Plan q) = record no_names {
+  pipeline = Some q.pipeline;
+  sessions = Some q.sessions;
+  from = Some q.from.text;
+  to = Some q.to.text;
+}
+named_by (Bench q) = no_names
+named_by (Payouts q) = record no_names {
+  sessions = Some q.sessions;
+  assets = Some q.assets;
+  bars = Some q.bars;
+  payouts = Some q.payouts;
+}
+named_by (Explain q) = record (names_over q.pipeline q.world) { at = Some q.date.text; column = Some q.column }
+named_by (Verify q) = record (names_over q.pipeline q.world) { derivation = Some q.derivation }
+named_by (Daily q) = table_names q
 
-abbrev pub plan_name : PlanRequest → InputFile → Option (List ℕ)
-plan_name q file.Pipeline = Some q.pipeline
-plan_name q file.Sessions = Some q.sessions
-plan_name q file.Assets = None
-plan_name q file.Labels = None
-plan_name q file.Bars = None
-plan_name q file.Revisions = None
-plan_name q file.Payouts = None
-plan_name q file.Derivation = None
+abbrev pub names_asked : Option Request → Names
+names_asked None = no_names
+names_asked (Some q) = named_by q
 
-abbrev pub payouts_name : PayoutsRequest → InputFile → Option (List ℕ)
-payouts_name q file.Pipeline = None
-payouts_name q file.Sessions = Some q.sessions
-payouts_name q file.Assets = Some q.assets
-payouts_name q file.Labels = None
-payouts_name q file.Bars = Some q.bars
-payouts_name q file.Revisions = None
-payouts_name q file.Payouts = Some q.payouts
-payouts_name q file.Derivation = None
+abbrev pub file_named : Names → InputFile → Option (List ℕ)
+file_named names file.Pipeline = names.pipeline
+file_named names file.Sessions = names.sessions
+file_named names file.Assets = names.assets
+file_named names file.Labels = names.labels
+file_named names file.Bars = names.bars
+file_named names file.Revisions = names.revisions
+file_named names file.Payouts = names.payouts
+file_named names file.Derivation = names.derivation
 
--- of the files of a world
-abbrev pub world_name : WorldNames → InputFile → Option (List ℕ)
-world_name q file.Pipeline = None
-world_name q file.Sessions = Some q.sessions
-world_name q file.Assets = Some q.assets
-world_name q file.Labels = q.labels
-world_name q file.Bars = Some q.bars
-world_name q file.Revisions = q.revisions
-world_name q file.Payouts = None
-world_name q file.Derivation = None
-
-abbrev pub explain_name : ExplainRequest → InputFile → Option (List ℕ)
-explain_name q file.Pipeline = Some q.pipeline
-explain_name q file.Sessions = Some q.world.sessions
-explain_name q file.Assets = Some q.world.assets
-explain_name q file.Labels = q.world.labels
-explain_name q file.Bars = Some q.world.bars
-explain_name q file.Revisions = q.world.revisions
-explain_name q file.Payouts = None
-explain_name q file.Derivation = None
-
-abbrev pub verify_name : VerifyRequest → InputFile → Option (List ℕ)
-verify_name q file.Pipeline = Some q.pipeline
-verify_name q file.Sessions = Some q.world.sessions
-verify_name q file.Assets = Some q.world.assets
-verify_name q file.Labels = q.world.labels
-verify_name q file.Bars = Some q.world.bars
-verify_name q file.Revisions = q.world.revisions
-verify_name q file.Payouts = None
-verify_name q file.Derivation = Some q.derivation
-
-abbrev pub name_of : Request → InputFile → Option (List ℕ)
-name_of (Run q) file = run_name q file
-name_of (Fmt name) file = pipeline_name name file
-name_of (Check name) file = pipeline_name name file
-name_of (Plan q) file = plan_name q file
-name_of (Bench q) file = None
-name_of (Payouts q) file = payouts_name q file
-name_of (Explain q) file = explain_name q file
-name_of (Verify q) file = verify_name q file
-name_of (Daily q) file = run_name (daily_run q) file
-
--- the texts of the two dates, and of the one as of which a run is; a cell has a date of its own
-abbrev pub date_text : Dated → Dated → Option Dated → RangeDate → List ℕ
-date_text from to as_of From = from.text
-date_text from to as_of To = to.text
-date_text from to as_of AsOf = unwrap_or (option_map (λ d. d.text) as_of) []
-date_text from to as_of At = []
-
-abbrev pub cell_date : Dated → RangeDate → List ℕ
-cell_date date At = date.text
-cell_date date From = []
-cell_date date To = []
-cell_date date AsOf = []
-
--- ---- of the command that words ask for, where they ask for one
+abbrev pub date_named : Names → RangeDate → Option (List ℕ)
+date_named names From = names.from
+date_named names To = names.to
+date_named names AsOf = names.as_of
+date_named names At = names.at
 
 abbrev pub name_asked : Option Request → InputFile → Option (List ℕ)
-name_asked None file = None
-name_asked (Some q) file = name_of q file
+name_asked asked file = file_named (names_asked asked) file
 
--- the text of a date of the words; other commands than those of a table or plan and the derivation of a cell
--- have none
-abbrev pub date_asked : Option Request → RangeDate → List ℕ
-date_asked (Some (Run q)) date = date_text q.from q.to q.options.as_of date
-date_asked (Some (Fmt name)) date = []
-date_asked (Some (Check name)) date = []
-date_asked (Some (Plan q)) date = date_text q.from q.to None date
-date_asked (Some (Bench q)) date = []
-date_asked (Some (Payouts q)) date = []
-date_asked (Some (Explain q)) date = cell_date q.date date
-date_asked (Some (Verify q)) date = []
-date_asked (Some (Daily q)) date = date_text q.from q.to None date
-date_asked None date = []
+abbrev pub date_asked : Option Request → RangeDate → Option (List ℕ)
+date_asked asked date = date_named (names_asked asked) date
 
--- the name of the adjustments that are asked for
 abbrev pub adjustments_of : Option Request → Option (List ℕ)
-adjustments_of (Some (Run q)) = q.options.adjustments
-adjustments_of (Some (Fmt name)) = None
-adjustments_of (Some (Check name)) = None
-adjustments_of (Some (Plan q)) = None
-adjustments_of (Some (Bench q)) = None
-adjustments_of (Some (Payouts q)) = None
-adjustments_of (Some (Explain q)) = q.world.adjustments
-adjustments_of (Some (Verify q)) = q.world.adjustments
-adjustments_of (Some (Daily q)) = q.world.adjustments
-adjustments_of None = None
+adjustments_of asked = (names_asked asked).adjustments
 
--- the name of the column whose cell is asked for
-abbrev pub column_asked : Option Request → List ℕ
-column_asked (Some (Run q)) = []
-column_asked (Some (Fmt name)) = []
-column_asked (Some (Check name)) = []
-column_asked (Some (Plan q)) = []
-column_asked (Some (Bench q)) = []
-column_asked (Some (Payouts q)) = []
-column_asked (Some (Explain q)) = q.column
-column_asked (Some (Verify q)) = []
-column_asked (Some (Daily q)) = []
-column_asked None = []
+abbrev pub column_asked : Option Request → Option (List ℕ)
+column_asked asked = (names_asked asked).column

@@ -1,5 +1,6 @@
 -- How the code's request reads.
-use Rattle.std.specs.Prelude.{◌≡◌, Option, None, Some, MatchOption, option_map}
+use Rattle.std.specs.Prelude.{◌≡◌, ℕ, List, Option, None, Some, MatchOption, option_map}
+use Rattle.std.specs.Borrow.{Bor}
 use Rattle.pl_words.specs.Request as spec
 use Rattle.pl_words.specs.declared.request.Request.{Request}
 use Rattle.pl_words.specs.declared.request.Request.TheVariants.{Run, Fmt, Check, Plan, Bench, Payouts, Explain, Verify, Daily}
@@ -10,32 +11,32 @@ use Rattle.pl_words.specs.declared.request.PayoutsRequest.{PayoutsRequest}
 use Rattle.pl_words.specs.declared.request.WorldNames.{WorldNames}
 use Rattle.pl_words.specs.declared.request.ExplainRequest.{ExplainRequest}
 use Rattle.pl_words.specs.declared.request.VerifyRequest.{VerifyRequest}
-use Rattle.pl_words.specs.declared.daily.DailyRequest.{DailyRequest}
 use Rattle.pl_words.specs.declared.request.DateWord.{DateWord}
 use Rattle.pl_words.specs.declared.request.Options.{Options}
+use Rattle.pl_words.specs.declared.names.Names.{Names}
 
 abbrev pub dated_of : DateWord → spec.Dated
 dated_of d = record { text = d.text.now; day = d.day }
 
 abbrev pub options_of : Options → spec.Options
-options_of o =
+options_of o = record { chunk = o.chunk; format = o.format; stats = o.stats; as_of = option_map dated_of o.as_of }
+
+abbrev pub world_names_of : WorldNames → spec.WorldNames
+world_names_of r =
     record {
-      labels = option_map (λ n. n.now) o.labels;
-      adjustments = option_map (λ n. n.now) o.adjustments;
-      revisions = option_map (λ n. n.now) o.revisions;
-      chunk = o.chunk;
-      format = o.format;
-      stats = o.stats;
-      as_of = option_map dated_of o.as_of;
+      sessions = r.sessions.now;
+      assets = r.assets.now;
+      bars = r.bars.now;
+      labels = option_map (λ n. n.now) r.labels;
+      adjustments = option_map (λ n. n.now) r.adjustments;
+      revisions = option_map (λ n. n.now) r.revisions;
     }
 
 abbrev pub run_of : RunRequest → spec.RunRequest
 run_of r =
     record {
       pipeline = r.pipeline.now;
-      sessions = r.sessions.now;
-      assets = r.assets.now;
-      bars = r.bars.now;
+      world = world_names_of r.world;
       from = dated_of r.from;
       to = dated_of r.to;
       options = options_of r.options;
@@ -50,17 +51,6 @@ bench_of r = record { number = r.number; chunk = r.chunk }
 abbrev pub payouts_of : PayoutsRequest → spec.PayoutsRequest
 payouts_of r = record { sessions = r.sessions.now; assets = r.assets.now; bars = r.bars.now; payouts = r.payouts.now }
 
-abbrev pub world_names_of : WorldNames → spec.WorldNames
-world_names_of r =
-    record {
-      sessions = r.sessions.now;
-      assets = r.assets.now;
-      bars = r.bars.now;
-      labels = option_map (λ n. n.now) r.labels;
-      adjustments = option_map (λ n. n.now) r.adjustments;
-      revisions = option_map (λ n. n.now) r.revisions;
-    }
-
 abbrev pub explain_of : ExplainRequest → spec.ExplainRequest
 explain_of r =
     record {
@@ -74,16 +64,6 @@ explain_of r =
 abbrev pub verify_of : VerifyRequest → spec.VerifyRequest
 verify_of r = record { pipeline = r.pipeline.now; world = world_names_of r.world; derivation = r.derivation.now }
 
-abbrev pub daily_of : DailyRequest → spec.DailyRequest
-daily_of r =
-    record {
-      pipeline = r.pipeline.now;
-      world = world_names_of r.world;
-      from = dated_of r.from;
-      to = dated_of r.to;
-      format = r.format;
-    }
-
 abbrev pub request_of : Request → spec.Request
 request_of (Run r) = spec.Run (run_of r)
 request_of (Fmt name) = spec.Fmt name.now
@@ -93,8 +73,30 @@ request_of (Bench r) = spec.Bench (bench_of r)
 request_of (Payouts r) = spec.Payouts (payouts_of r)
 request_of (Explain r) = spec.Explain (explain_of r)
 request_of (Verify r) = spec.Verify (verify_of r)
-request_of (Daily r) = spec.Daily (daily_of r)
+request_of (Daily r) = spec.Daily (run_of r)
 
 -- The code's answer is what is asked for.
 abbrev pub Says : Option Request → Option spec.Request → Type 0
 Says answer asked = MatchOption answer (asked ≡ None) (λ r. asked ≡ Some (request_of r))
+
+abbrev pub text_of : Option (Bor (List ℕ)) → Option (List ℕ)
+text_of name = option_map (λ n. n.now) name
+
+abbrev pub names_view : Names → spec.Names
+names_view n =
+    record {
+      pipeline = text_of n.pipeline;
+      sessions = text_of n.sessions;
+      assets = text_of n.assets;
+      labels = text_of n.labels;
+      bars = text_of n.bars;
+      adjustments = text_of n.adjustments;
+      revisions = text_of n.revisions;
+      payouts = text_of n.payouts;
+      derivation = text_of n.derivation;
+      column = text_of n.column;
+      from = text_of n.from;
+      to = text_of n.to;
+      as_of = text_of n.as_of;
+      at = text_of n.at;
+    }

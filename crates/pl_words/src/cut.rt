@@ -1,8 +1,8 @@
 // The words after the command, cut into names and options by clap.
-ghost use Rattle.std.specs.Prelude.{◌≡◌, ◌∷◌, [], List, IfOk, None, map, string_bytes, IsTrue, Some, MatchOption, MatchResult, option_map, false};
-ghost use Rattle.clap.specs.Words.{FailsBy, app_of, fault_of, found_of, kind_of, matches_of, rows_of, rule_of, with_rule};
+ghost use Rattle.std.specs.Prelude.{◌≡◌, [], IfOk, None, map, string_bytes, Some, MatchOption, MatchResult, option_map, false};
+ghost use Rattle.clap.specs.Words.{FailsBy, app_of, fault_of, found_of, matches_of, rows_of, rule_of, with_rule};
 ghost use Rattle.clap.specs.declared.error.kind.ErrorKind.TheVariants.{OutOfMemory};
-ghost use Rattle.pl_words.specs.Parts.{parts, is_short, has_short, has_value, text_of, one_value};
+ghost use Rattle.pl_words.specs.Parts.{parts, is_short, has_short, one_value};
 ghost use Rattle.pl_words.specs.Commands.{options_of};
 ghost use Rattle.pl_words.specs.Apps.{app_for, bare_app, long_rule, names_rule, option_rule, IsAnswered, values_at, values_in};
 

@@ -7,16 +7,15 @@
 
 mod commands;
 mod cut;
-mod daily;
+mod names;
 mod options;
 mod read;
 mod request;
 mod text;
 
-pub use daily::DailyRequest;
+pub use names::{adjustments_asked, column_asked, date_asked, name_asked};
 pub use read::read_words;
 pub use request::{
     BenchRequest, DateWord, ExplainRequest, InputFile, Options, PayoutsRequest, PlanRequest,
-    RangeDate, Request, RunRequest, VerifyRequest, WorldNames, adjustments_asked, column_asked,
-    date_asked, name_asked,
+    RangeDate, Request, RunRequest, VerifyRequest, WorldNames,
 };

@@ -1,7 +1,7 @@
-// The options of a run, by the values that each was given.
+// The options of a table, by the values that each was given.
 ghost use Rattle.std.specs.Prelude.{◌≡◌, ◌≤◌, None, Some, MatchOption, length, map, option_map};
 ghost use Rattle.pl_words.specs.Apps.{values_in};
-ghost use Rattle.pl_words.specs.Request.{as_of_by, dated, chunk_in, chunk_by, format_in, format_by, stats_by, options_by, world_in, column_in};
+ghost use Rattle.pl_words.specs.Request.{as_of_by, dated, chunk_in, chunk_by, format_in, format_by, stats_by, options_by, usual, world_in, column_in};
 ghost use Rattle.pl_words.specs.Views.{dated_of, options_of, world_names_of};
 
 use crate::commands::OptionName;
@@ -15,23 +15,11 @@ pub(crate) fn options<'a>(matches: &ArgMatches<'a>) -> Option<Options<'a>>
     ensures { MatchOption result (options_by (values_in matches.now) ≡ None)
         (λ s. options_by (values_in matches.now) ≡ Some (options_of s)) }
 {
-    let Ok(labels) = value(matches, OptionName::Labels) else {
-        return None;
-    };
-    let Ok(adjustments) = value(matches, OptionName::Adjustments) else {
-        return None;
-    };
-    let Ok(revisions) = value(matches, OptionName::Revisions) else {
-        return None;
-    };
     let chunk = chunk(matches)?;
     let format = format(matches)?;
     let stats = stats(matches)?;
     let as_of = as_of(matches)?;
     Some(Options {
-        labels,
-        adjustments,
-        revisions,
         chunk,
         format,
         stats,
@@ -60,7 +48,19 @@ pub(crate) fn world_in<'a>(names: &[&'a str], matches: &ArgMatches<'a>) -> Optio
 }
 
 // How many sessions are computed at a time where the words don't say.
-pub(crate) const USUAL_CHUNK: u32 = 126;
+const USUAL_CHUNK: u32 = 126;
+
+/// The options of a table whose words give its form alone.
+pub(crate) fn usual<'a>(format: Format) -> Options<'a>
+    ensures { options_of result ≡ usual format }
+{
+    Options {
+        chunk: USUAL_CHUNK,
+        format,
+        stats: false,
+        as_of: None,
+    }
+}
 
 pub(crate) fn chunk(matches: &ArgMatches<'_>) -> Option<u32>
     ensures { result ≡ chunk_by (values_in matches.now) }

@@ -5,15 +5,15 @@ ghost use Rattle.pl_words.specs.Parts.{is_text};
 ghost use Rattle.pl_words.specs.Commands.{places_of};
 ghost use Rattle.pl_words.specs.Apps.{names_in, values_in};
 ghost use Rattle.pl_words.specs.declared.commands.CommandName.TheVariants as commands;
-ghost use Rattle.pl_words.specs.Request.{HasChunk, Plan, asked, counted, payouts_over, plan_in, request, request_in};
-ghost use Rattle.pl_words.specs.Views.{Says, payouts_of, request_of};
+ghost use Rattle.pl_words.specs.Request.{HasChunk, Plan, asked, counted, payouts_over, plan_in, request, request_in, table_in};
+ghost use Rattle.pl_words.specs.Views.{Says, options_of, payouts_of, request_of, run_of};
 
 use crate::commands::{CommandName, command_named};
 use crate::cut::{cut, values};
-use crate::daily::daily_in;
-use crate::options::{chunk, column_in, date_in, options, world_in};
+use crate::options::{chunk, column_in, date_in, format, options, usual, world_in};
 use crate::request::{
-    BenchRequest, ExplainRequest, PayoutsRequest, PlanRequest, Request, RunRequest, VerifyRequest,
+    BenchRequest, ExplainRequest, Options, PayoutsRequest, PlanRequest, Request, RunRequest,
+    VerifyRequest,
 };
 use crate::text::is_text;
 use clap::ArgMatches;
@@ -94,18 +94,37 @@ fn run_in<'a>(names: &[&'a str], matches: &ArgMatches<'a>) -> Option<Request<'a>
     requires { length names.now ≡ 6 }
     ensures { Says result (request_in commands.Run (map (λ v. v.now) names.now) (values_in matches.now)) }
 {
+    let options = options(matches)?;
+    Some(Request::Run(table_in(names, matches, options)?))
+}
+
+fn daily_in<'a>(names: &[&'a str], matches: &ArgMatches<'a>) -> Option<Request<'a>>
+    requires { length names.now ≡ 6 }
+    ensures { Says result (request_in commands.Daily (map (λ v. v.now) names.now) (values_in matches.now)) }
+{
+    let options = usual(format(matches)?);
+    Some(Request::Daily(table_in(names, matches, options)?))
+}
+
+fn table_in<'a>(
+    names: &[&'a str],
+    matches: &ArgMatches<'a>,
+    options: Options<'a>,
+) -> Option<RunRequest<'a>>
+    requires { length names.now ≡ 6 }
+    ensures { let asked = table_in (map (λ v. v.now) names.now) (values_in matches.now) (options_of options.entry) in
+        MatchOption result (asked ≡ None) (λ r. asked ≡ Some (run_of r)) }
+{
     let from = date_in(names[4])?;
     let to = date_in(names[5])?;
-    let options = options(matches)?;
-    Some(Request::Run(RunRequest {
+    let world = world_in(names, matches)?;
+    Some(RunRequest {
         pipeline: names[0],
-        sessions: names[1],
-        assets: names[2],
-        bars: names[3],
+        world,
         from,
         to,
         options,
-    }))
+    })
 }
 
 fn plan_in<'a>(names: &[&'a str]) -> Option<Request<'a>>

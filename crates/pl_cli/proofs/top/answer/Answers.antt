@@ -1,7 +1,7 @@
 use Rattle.std.proofs.Common.{◌≡◌, ◌∙◌, ap, Option, Some, option_map, Bor}
 use Rattle.pl_words.specs.declared.request.Request.{Request as Code}
 use Rattle.pl_words.specs.Request.{Run, Fmt, Check, Plan, Bench, Payouts, Explain, Verify, Daily}
-use Rattle.pl_words.specs.Views.{request_of, run_of, plan_of, bench_of, payouts_of, explain_of, verify_of, daily_of}
+use Rattle.pl_words.specs.Views.{request_of, run_of, plan_of, bench_of, payouts_of, explain_of, verify_of}
 use Rattle.pl_load.specs.Views.{shelf_view, keeper_view}
 use Rattle.pl_cli.specs.Commands.{sink_view}
 use Rattle.pl_cli.proofs.Ended.{no-command}
@@ -69,5 +69,5 @@ returns-in-Some-Verify g c =
 pub returns-in-Some-Daily : goal.returns-in-Some-Daily
 returns-in-Some-Daily g c =
     let is = rw c.in-Some-Daily.is at c.in-Some-Daily.field-0-is in
-    let asked : option_map (λ (q : Bor Code). request_of q.now) c.args.asked ≡ Some (Daily (daily_of c.in-Some-Daily.request)) = lent _ _ _ c.in-Some-Daily.is is in
+    let asked : option_map (λ (q : Bor Code). request_of q.now) c.args.asked ≡ Some (Daily (run_of c.in-Some-Daily.request)) = lent _ _ _ c.in-Some-Daily.is is in
     rw asked c.daily_command.ensures

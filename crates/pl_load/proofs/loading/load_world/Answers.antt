@@ -1,7 +1,7 @@
 use Rattle.std.proofs.Common.{◌∙◌, Some, true, refl, sym}
 use Rattle.std.proofs.lemmas.Result.{err_from_is_err_and}
 use Rattle.pl_terms.specs.Checked.{pipeline_of}
-use Rattle.pl_words.specs.Request.{Run, run_world}
+use Rattle.pl_words.specs.Request.{Run}
 use Rattle.pl_words.specs.Views.{run_of}
 use Rattle.pl_judge.proofs.StepsRead.{dates-quiet, plan-quiet}
 use Rattle.pl_judge.specs.Held.{days_held, world_held}
@@ -15,14 +15,14 @@ pub returns-in_err-world-clause-load : goal.returns-in_err-world-clause-load
 returns-in_err-world-clause-load g c =
     let p = err_from_is_err_and c.from_residual.result c.from_residual.ensures.1 in
     let q = run_of c.args.request.now in
-    let read = rw c.world_names.ensures at c.in_err-world.ensures.data in
+    let read = c.in_err-world.ensures.data in
     rw (p.1, p.2) (stops (read (Some (Run q)) (run-asks q)) _ (λ held. refl))
 
 pub returns-in_err-range-clause-load : goal.returns-in_err-range-clause-load
 returns-in_err-range-clause-load g c =
     let p = err_from_is_err_and c.from_residual-in_err-range.result c.from_residual-in_err-range.ensures.1 in
     let q = run_of c.args.request.now in
-    let read = rw c.world_names.ensures at c.in_ok-world.ensures.data in
+    let read = c.in_ok-world.ensures.data in
     let range = c.in_err-range.ensures in
     rw (p.1, p.2)
     (stops-later (read (Some (Run q)) (run-asks q))
@@ -35,7 +35,7 @@ returns-in_err-plan-clause-load g c =
     let p = err_from_is_err_and c.from_residual-in_err-plan.result c.from_residual-in_err-plan.ensures.1 in
     let q = run_of c.args.request.now in
     let pipeline = pipeline_of c.args.checked.now in
-    let read = rw c.world_names.ensures at c.in_ok-world.ensures.data in
+    let read = c.in_ok-world.ensures.data in
     let range = c.in_ok-range.ensures in
     let plan = c.in_err-plan.ensures in
     rw (p.1, p.2)
@@ -49,7 +49,7 @@ returns-in_err-known-clause-load g c =
     let p = err_from_is_err_and c.from_residual-in_err-known.result c.from_residual-in_err-known.ensures.1 in
     let q = run_of c.args.request.now in
     let pipeline = pipeline_of c.args.checked.now in
-    let read = rw c.world_names.ensures at c.in_ok-world.ensures.data in
+    let read = c.in_ok-world.ensures.data in
     rw (p.1, p.2, c.in_err-known.ensures.memory)
     (stops-later (read (Some (Run q)) (run-asks q)) (wants-memory _ _ (Some (Run q)) (λ held. range_steps pipeline c.in_ok-world.world.sessions q.from q.to q.options.as_of) (λ held (u : Unit {0}). Unit {0})) whole true
     (λ f r m. world-first q pipeline _ f r m))
@@ -60,7 +60,7 @@ returns-clause-load g c =
     let pipeline = pipeline_of c.args.checked.now in
     let w = c.in_ok-world.world in
     let v = c.in_ok-known.known in
-    let read = rw c.world_names.ensures at c.in_ok-world.ensures.data in
+    let read = c.in_ok-world.ensures.data in
     let range = c.in_ok-range.ensures in
     let plan = c.in_ok-plan.ensures in
     let known = c.in_ok-known.ensures.known in
@@ -71,7 +71,7 @@ returns-clause-load g c =
     (λ f r m. range-is pipeline _ q.from q.to q.options.as_of _ _ range.from range.to) (λ f r m h. tt)) whole true
     (λ f r m. world-first q pipeline w f r m)
     (λ f r m h. record {
-      world = world-known q.options.as_of (days_held f) (world_held f (run_world q)) w v _ m.days m.world range.as_of range.date known;
+      world = world-known q.options.as_of (days_held f) (world_held f q.world) w v _ m.days m.world range.as_of range.date known;
       same = rw m.world (shown-same w v _ pipeline made.from made.to (rw plan.to range.known) known);
       plan = rw m.days plan.plan;
       from = rw m.days (sym range.from ∙ sym plan.from);
