@@ -1,8 +1,9 @@
 -- Digits, and the numbers that they write.
-use Rattle.std.proofs.Common.{◌≡◌, ℕ, zero, suc, ◌+◌, ◌-◌, ◌*◌, ◌/◌, ◌%◌, ◌^◌, ◌<◌, ◌≤◌, Bool, true, false, cond, nat_lt, min, List, [], ◌∷◌, ◌++◌, length, length-append, take, drop, drop-cons, get_or, append-nil, refl, sym, ap, ◌∙◌, arith}
+use Rattle.std.proofs.Common.{◌≡◌, ℕ, zero, suc, ◌+◌, ◌-◌, ◌*◌, ◌/◌, ◌%◌, ◌^◌, ◌<◌, ◌≤◌, Bool, true, false, cond, nat_lt, min, List, [], ◌∷◌, ◌++◌, length, append_assoc, length-append, take, drop, drop-cons, get_or, append-nil, refl, sym, ap, ◌∙◌, arith}
 use Rattle.std.proofs.Math.Nat.{one-le-pow, pow-le-pow_right, pow-suc}
 use Rattle.std.specs.List.{list_all}
 use Rattle.std.specs.Char.{is_ascii_digit, digit_value}
+use Rattle.std.specs.Fmt.{decimal}
 use Rattle.std.specs.Str.Parse.{AllDigits, digits_value, digits_value_after}
 use Rattle.std.proofs.lemmas.Nat.{div-add-mod', mod_below, div_below}
 use Rattle.std.proofs.lemmas.Bool.{and_parts}
@@ -10,6 +11,7 @@ use Rattle.std.proofs.lemmas.Bool.Decides.{nat_tests}
 use Rattle.std.proofs.lemmas.Int.Digits.{digits_value_push, digits_push, digits_value-lt, digits_value_more, digits_more}
 use Rattle.std.proofs.lemmas.List.{take-append-drop}
 use Rattle.std.proofs.lemmas.List.Sums.{take_while-cons}
+use Rattle.std.proofs.lemmas.Fmt.{decimal_digit, decimal_step}
 use Rattle.std.proofs.lemmas.Str.{digit_value_digit}
 use Rattle.std.proofs.lemmas.Str.Parse.{digit_from_value}
 use Rattle.pl_spec.specs.Dates.{digits}
@@ -194,12 +196,39 @@ digits_value-digits (suc k) n h =
     digits_value-digits k (n / 10) (div_below n 10 (10 ^ k) (omega arith) (rw (pow-suc 10 k) at h)) in
     digits_value_push 10 (digits k (n / 10)) (48 + n % 10) ∙ rw (high, digit_of _ low) (div-add-mod' n 10)
 
-pub digits_none : (k n : ℕ) → k ≡ 0 → digits k n ≡ []
+two_digits : (n : ℕ) → digits 2 n ≡ (48 + n / 10 % 10) ∷ (48 + n % 10) ∷ []
 unfolding digits
-digits_none zero n e = refl
-digits_none (suc k) n e = absurd (omega arith)
+two_digits n = refl
 
-pub digits-step : (k n : ℕ) → 0 < k → digits k n ≡ digits (k - 1) (n / 10) ++ (48 + n % 10) ∷ []
+-- two digits
+pub digits_two : (n : ℕ) → n < 100 → digits 2 n ≡ (48 + n / 10) ∷ (48 + n % 10) ∷ []
+digits_two n h = let e : n / 10 % 10 ≡ n / 10 = omega arith in rw (two_digits n, e) refl
+
+-- the last two of some digits
+digits-pair : (k n : ℕ) → digits (suc (suc k)) n ≡ digits k (n / 100) ++ digits 2 (n % 100)
 unfolding digits
-digits-step zero n p = absurd (omega arith)
-digits-step (suc k) n p = let e : suc k - 1 ≡ k = omega arith in rw e
+digits-pair k n =
+    let high : n / 10 / 10 ≡ n / 100 = omega arith in
+    let tens : n % 100 / 10 % 10 ≡ n / 10 % 10 = omega arith in
+    let ones : n % 100 % 10 ≡ n % 10 = omega arith in
+    rw (two_digits (n % 100), tens, ones, high) (append_assoc (digits k (n / 100)) ((48 + n / 10 % 10) ∷ []) ((48 + n % 10) ∷ []))
+
+-- six digits in pairs
+pub digits_six : (n : ℕ) → digits 6 n ≡ (digits 2 (n / 10_000) ++ digits 2 (n / 100 % 100)) ++ digits 2 (n % 100)
+digits_six n =
+    let high : n / 100 / 100 ≡ n / 10_000 = omega arith in
+    rw (digits-pair 4 n, digits-pair 2 (n / 100), high) refl
+
+-- a number of two digits
+pub decimal_two : (n : ℕ) → 10 ≤ n → n < 100 → decimal n ≡ digits 2 n
+decimal_two n low high =
+    rw (decimal_step n low (omega arith), decimal_digit (n / 10) (omega arith), digits_two n high) refl
+
+-- the last two digits of a number
+pub decimal_pair : (n : ℕ) → 100 ≤ n → n < 2 ^ 64 → decimal n ≡ decimal (n / 100) ++ digits 2 (n % 100)
+decimal_pair n low fits =
+    let high : n / 10 / 10 ≡ n / 100 = omega arith in
+    let tens : n % 100 / 10 ≡ n / 10 % 10 = omega arith in
+    let ones : n % 100 % 10 ≡ n % 10 = omega arith in
+    rw (decimal_step n (omega arith) fits, decimal_step (n / 10) (omega arith) (omega arith), digits_two (n % 100) (mod_below n 100 (omega arith)), tens, ones, high)
+    (append_assoc (decimal (n / 100)) ((48 + n / 10 % 10) ∷ []) ((48 + n % 10) ∷ []))

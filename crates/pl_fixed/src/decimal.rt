@@ -8,7 +8,7 @@ ghost use Rattle.pl_spec.specs.Decimals.{Decimal, IsDecimal, IsTooLong, IsTooLar
 ghost use Rattle.pl_fixed.specs.Reading.{read, unsigned_read, fraction_read, judged, in_range};
 
 use crate::cell::{LIM, MISSING, UNIT};
-use crate::digits::{MOST_VALUE, front_number, put, put_decimal, put_digits, six_digits};
+use crate::digits::{MOST_VALUE, front_number, put, put_decimal, put_six, six_digits};
 use crate::rounding::div_round;
 
 /// Why bytes are no decimal of a cell. The faults are tested in this order.
@@ -230,7 +230,7 @@ fn write_present(cell: i64, out: &mut [u8]) -> usize
     let sign_end = put_sign(cell < 0, out, 0);
     let whole_end = put_decimal(magnitude / UNIT as u64, out, sign_end);
     let point_end = put(b'.', out, whole_end);
-    put_digits(magnitude % UNIT as u64, 6, out, point_end)
+    put_six(magnitude % UNIT as u64, out, point_end)
 }
 
 fn put_sign(negative: bool, out: &mut [u8], at: usize) -> usize

@@ -104,7 +104,18 @@ pub(crate) fn put(byte: u8, out: &mut [u8], at: usize) -> usize
     at + 1
 }
 
-// Writes the digits of `n`, without zeros in front.
+// Writes two digits.
+pub(crate) fn put_pair(n: u64, out: &mut [u8], at: usize) -> usize
+    requires small { n < 100 }
+    requires room { at + 2 ≤ length out.old }
+    ensures end { result ≡ at + 2 }
+    ensures text { take result out.new ≡ take at out.old ++ digits 2 n }
+{
+    let next = put(b'0' + (n / 10) as u8, out, at);
+    put(b'0' + (n % 10) as u8, out, next)
+}
+
+// Writes the digits of `n`, without zeros in front, two at a time.
 pub(crate) fn put_decimal(n: u64, out: &mut [u8], at: usize) -> usize
     requires { at + length (decimal n) ≤ length out.old }
     ensures end { result ≡ at + length (decimal n) }
@@ -113,19 +124,21 @@ pub(crate) fn put_decimal(n: u64, out: &mut [u8], at: usize) -> usize
     if n < 10 {
         return put(b'0' + n as u8, out, at);
     }
-    let end = put_decimal(n / 10, out, at);
-    put(b'0' + (n % 10) as u8, out, end)
+    if n < 100 {
+        return put_pair(n, out, at);
+    }
+    let end = put_decimal(n / 100, out, at);
+    put_pair(n % 100, out, end)
 }
 
-// Writes the last `width` digits of `n`, with leading zeros.
-pub(crate) fn put_digits(n: u64, width: usize, out: &mut [u8], at: usize) -> usize
-    requires { at + width ≤ length out.old }
-    ensures end { result ≡ at + width }
-    ensures text { take result out.new ≡ take at out.old ++ digits width n }
+// Writes six digits, in pairs that do not wait for each other.
+pub(crate) fn put_six(n: u64, out: &mut [u8], at: usize) -> usize
+    requires small { n < 1_000_000 }
+    requires room { at + 6 ≤ length out.old }
+    ensures end { result ≡ at + 6 }
+    ensures text { take result out.new ≡ take at out.old ++ digits 6 n }
 {
-    if width == 0 {
-        return at;
-    }
-    let end = put_digits(n / 10, width - 1, out, at);
-    put(b'0' + (n % 10) as u8, out, end)
+    let high = put_pair(n / 10_000, out, at);
+    let middle = put_pair(n / 100 % 100, out, high);
+    put_pair(n % 100, out, middle)
 }

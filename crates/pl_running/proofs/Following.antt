@@ -1,14 +1,16 @@
 -- Windows that follow on each other in a list, two of them as a span, and the values over them one after the other.
-use Rattle.std.proofs.Common.{◌≡◌, ℕ, ◌+◌, ◌-◌, ◌<◌, ◌≤◌, ◌⊎◌, inl, inr, IsTrue, ℤ, pos, List, length, take, drop, get_or, set, All, sym, ◌∙◌, ap, subst, arith, length-take, length-drop, get_or-set_same, get_or-set_other}
+use Rattle.std.proofs.Common.{◌≡◌, ℕ, ◌+◌, ◌-◌, ◌<◌, ◌≤◌, ◌⊎◌, inl, inr, IsTrue, ℤ, pos, List, length, take, drop, get_or, set, map, All, sym, ◌∙◌, ap, subst, arith, length-take, length-drop, get_or-set_same, get_or-set_other}
 use Rattle.std.proofs.lemmas.Bool.{cases_eq, cases_lt}
 use Rattle.std.proofs.lemmas.List.{take-take, take_all, drop-drop, drop-take}
 use Rattle.std.proofs.lemmas.List.Elements.{All-take, All-drop}
 use Rattle.pl_spec.specs.Rounding.{IsCell}
-use Rattle.pl_spec.specs.Formula.{formula, mean}
+use Rattle.pl_spec.specs.Formula.{faded, faded_mean, formula, mean}
+use Rattle.pl_spec.specs.Window.{downward}
 use Rattle.pl_spec.specs.Kind.{Kind}
 use Rattle.pl_spec.specs.Kind.Kind.{Window}
-use Rattle.pl_spec.specs.Kind.WindowKind.{SimpleMovingAverage}
-use Rattle.pl_running.specs.Lanes.{AreValues, HasWindows, TakesLanes, formula_at, window_at}
+use Rattle.pl_spec.specs.Kind.WindowKind.{ExponentialWeightedMovingAverage, SimpleMovingAverage}
+use Rattle.pl_factors.specs.Terms.{mean_by}
+use Rattle.pl_running.specs.Lanes.{AreValues, AreWeighted, HasWindows, TakesLanes, formula_at, window_at}
 use Rattle.pl_running.specs.Spans.{TakesSpans, after, before, takes_range}
 
 front_of : (size : ℕ) (ys : List ℤ) → (length ys ≡ 0) ⊎ (size + 1 ≤ length ys) → take (length (take (size + 1) ys) - 1) (take (size + 1) ys) ≡ take size ys
@@ -138,3 +140,36 @@ module _ (size : ℕ) (a : List ℤ) where
 
 pub window_long : (size k : ℕ) (xs : List ℤ) → k + size ≤ length xs → length (window_at size k xs) ≡ size
 window_long size k xs room = let d = length-drop k xs in let t = length-take size (drop k xs) in omega (arith, d, t, room)
+
+-- ---- means with weights
+
+module _ (ws a : List ℤ) where
+  pub none_weighted : (out : List ℤ) → AreWeighted ws a 0 out
+  none_weighted out = record { each = λ j h. absurd (omega (arith, h)); cell = λ j h. absurd (omega (arith, h)) }
+
+  pub one_weighted : (done : ℕ) (out : List ℤ) (x : ℤ) → AreWeighted ws a done out → done < length out → x ≡ mean_by ws (window_at (length ws) done a) → IsCell x
+      → AreWeighted ws a (done + 1) (set out done x)
+  one_weighted done out x so_far room e is_cell = record {
+    each = λ j h. elim (cases_eq j done) [
+      | inl p ↦ ap (λ k. get_or (set out done x) k (pos 0)) p ∙ get_or-set_same out done x (pos 0) room ∙ e ∙ ap (λ k. mean_by ws (window_at (length ws) k a)) (sym p)
+      | inr p ↦ get_or-set_other out done j x (pos 0) p ∙ so_far.each j (omega (arith, h, p))
+    ];
+    cell = λ j h. elim (cases_eq j done) [
+      | inl p ↦ subst IsCell (sym (ap (λ k. get_or (set out done x) k (pos 0)) p ∙ get_or-set_same out done x (pos 0) room)) is_cell
+      | inr p ↦ subst IsCell (sym (get_or-set_other out done j x (pos 0) p)) (so_far.cell j (omega (arith, h, p)))
+    ];
+  }
+
+  pub weighted_are : (n done : ℕ) (out : List ℤ) → n ≤ done → AreWeighted ws a done out → AreWeighted ws a n out
+  weighted_are n done out few m = record { each = λ j h. m.each j (omega (arith, few, h)); cell = λ j h. m.cell j (omega (arith, few, h)) }
+
+-- the weights fade
+module _ (d : ℤ) (size n : ℕ) (a ws out : List ℤ) (long : length ws ≡ size) (is : ws ≡ map (faded d) (downward size)) (room : size + n ≤ length a + 1) (means : AreWeighted ws a n out) where
+  faded_at : (j : ℕ) → j < n → mean_by ws (window_at (length ws) j a) ≡ faded_mean d (window_at size j a)
+  faded_at j h =
+      let wide : length (window_at size j a) ≡ size = window_long size j a (omega (arith, h, room)) in
+      ap (λ k. mean_by ws (window_at k j a)) long ∙ ap (λ l. mean_by l (window_at size j a)) (is ∙ ap (λ k. map (faded d) (downward k)) (sym wide))
+
+  pub faded_are : (b c : List ℤ) → AreValues (Window (ExponentialWeightedMovingAverage d)) size a b c n out
+  unfolding formula
+  faded_are b c = record { each = λ j h. means.each j h ∙ faded_at j h; cell = means.cell }

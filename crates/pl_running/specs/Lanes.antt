@@ -4,6 +4,7 @@ use Rattle.std.specs.List.{All}
 use Rattle.pl_spec.specs.Rounding.{IsCell}
 use Rattle.pl_spec.specs.Kind.{Kind}
 use Rattle.pl_factors.specs.Kinds.{formula_of}
+use Rattle.pl_factors.specs.Terms.{mean_by}
 use Rattle.pl_running.specs.Spans.{TakesWindows}
 
 -- the window that begins with cell k
@@ -31,4 +32,9 @@ formula_at k size a b c j = formula_of k (window_at size j a) (window_at size j 
 -- the first cells are what the formula gives over the first windows
 pub record AreValues (k : Kind) (size : ℕ) (a b c : List ℤ) (done : ℕ) (out : List ℤ) : Type 0 where
   pub each : (j : ℕ) → j < done → get_or out j (pos 0) ≡ formula_at k size a b c j
+  pub cell : (j : ℕ) → j < done → IsCell (get_or out j (pos 0))
+
+-- the first cells are the means of the first windows with these weights
+pub record AreWeighted (weights a : List ℤ) (done : ℕ) (out : List ℤ) : Type 0 where
+  pub each : (j : ℕ) → j < done → get_or out j (pos 0) ≡ mean_by weights (window_at (length weights) j a)
   pub cell : (j : ℕ) → j < done → IsCell (get_or out j (pos 0))

@@ -1,18 +1,20 @@
 //! The values of a formula over windows that follow on each other, each a cell later than the one before.
-ghost use Rattle.std.specs.Prelude.{◌≡◌, ◌+◌, ◌<◌, ◌≤◌, ℤ, List, true, All, IsTrue, length};
-ghost use Rattle.pl_spec.specs.Rounding.{IsCell};
+ghost use Rattle.std.specs.Prelude.{◌≡◌, ◌+◌, ◌*◌, ◌<◌, ◌≤◌, ℤ, pos, ◌≤ℤ◌, unsigned_abs, List, true, All, IsTrue, length};
+ghost use Rattle.pl_spec.specs.Rounding.{IsCell, MILLION};
+ghost use Rattle.pl_spec.specs.Formula.{total};
 ghost use Rattle.pl_spec.specs.Kind.Kind.{Window};
-ghost use Rattle.pl_spec.specs.Kind.WindowKind.{Latest, SimpleMovingAverage};
+ghost use Rattle.pl_spec.specs.Kind.WindowKind.{ExponentialWeightedMovingAverage, Latest, SimpleMovingAverage};
 ghost use Rattle.pl_terms.specs.Kinds.{kind_of};
 ghost use Rattle.pl_factors.specs.Kinds.{formula_of};
 ghost use Rattle.pl_running.specs.Kept.{kept_of};
-ghost use Rattle.pl_running.specs.Lanes.{AreValues, TakesLanes, window_at};
+ghost use Rattle.pl_running.specs.Lanes.{AreValues, AreWeighted, TakesLanes, window_at};
 ghost use Rattle.pl_running.specs.Spans.{TakesSpans, TakesWindows, after, before, takes_range};
 
 use crate::running::{Running, keeps};
 use crate::starts::sums_of;
 use crate::steps::next_sums;
 use crate::values::mean;
+use pl_factors::{faded_weights, mean_by};
 use pl_terms::TermKind;
 
 // From how many cells on a window of a kind is slid: a shorter one is read anew as quickly.
@@ -59,6 +61,15 @@ fn window_at(cells: &[i64], k: usize, size: usize) -> &[i64]
     } else {
         &cells[k..k + size]
     }
+}
+
+// Are there windows, of cells, and not too long?
+fn is_filled(size: usize, a: &[i64], out: &[i64]) -> bool
+    ensures few { result ≡ true → size ≤ 1260 }
+    ensures cells { result ≡ true → 0 < length a.now }
+    ensures windows { result ≡ true → 0 < length out.now }
+{
+    size <= 1260 && !a.is_empty() && !out.is_empty()
 }
 
 // All cells but the first.
@@ -162,6 +173,37 @@ fn fill_slid(kind: &TermKind, size: usize, a: &[i64], b: &[i64], c: &[i64], out:
     }
 }
 
+// The means with these weights, which have this sum.
+fn fill_weighted(weights: &[i64], sum: i128, a: &[i64], out: &mut [i64])
+    requires cells { All IsCell a.now }
+    requires weights { All IsCell weights.now }
+    requires few { length weights.now ≤ 1260 }
+    requires sum { sum ≡ total weights.now }
+    requires small { unsigned_abs sum ≤ 1260 * MILLION }
+    requires long { length weights.now + length out.old ≤ length a.now + 1 }
+    ensures { AreWeighted weights.now a.now (length out.old) out.new }
+{
+    for k in 0..out.len() {
+        out[k] = mean_by(weights, sum, window_at(a, k, weights.len()));
+    }
+}
+
+// The exponentially weighted averages. The weights are made once for all.
+fn fill_faded(decay: i64, size: usize, a: &[i64], out: &mut [i64])
+    requires cells { All IsCell a.now }
+    requires few { size ≤ 1260 }
+    requires low { pos 0 ≤ℤ decay }
+    requires high { decay ≤ℤ pos MILLION }
+    requires long { size + length out.old ≤ length a.now + 1 }
+    ensures { (b c : List ℤ) → AreValues (Window (ExponentialWeightedMovingAverage decay)) size a.now b c
+        (length out.old) out.new }
+{
+    let mut room = [0i64; 1260];
+    let weights = &mut room[..size];
+    let sum = faded_weights(decay, weights);
+    fill_weighted(&*weights, sum, a, out);
+}
+
 /// What a formula or a filter gives over windows of `size` cells that follow on each other: into cell k over
 /// those that begin with cell k of the lists of its inputs in order, oldest first; a number in millionths, or
 /// a filter's 1 or 0. A list that the kind does not use may have no cell. It takes no memory.
@@ -179,6 +221,10 @@ pub fn fill_values(kind: &TermKind, size: usize, a: &[i64], b: &[i64], c: &[i64]
             _ => fill_slid(kind, size, a, b, c, out),
         }
     } else {
-        fill_anew(kind, size, a, b, c, out);
+        match kind {
+            TermKind::ExponentialWeightedMovingAverage { decay } if is_filled(size, a, out) =>
+                fill_faded(*decay, size, a, out),
+            _ => fill_anew(kind, size, a, b, c, out),
+        }
     }
 }

@@ -38,6 +38,12 @@ start_within places width j i h l =
     let e : (j * places + i + 1) * width ≡ (j * places + i) * width + width = omega arith in
     omega (arith, m, e)
 
+pub number_within : (places width j i c at len : ℕ) → at ≡ tile_at places width j i c → j < 8 → i < places → c < width → 8 * places * width ≤ len → at < len
+number_within places width j i c at len e h l k room = let w = start_within places width j i h l in omega (arith, w)
+
+pub session_within : (places width len : ℕ) → 8 * places * width ≤ len → places * width ≤ len
+session_within places width len room = let e : 8 * places * width ≡ 8 * (places * width) = omega arith in omega arith
+
 apart : (i k m j t : ℕ) → j < m → t < m → i * m + t ≡ k * m + j → (i ≡ k) × (t ≡ j)
 apart i k m j t h l e = elim (cases_lt i k) [
   | inl p ↦ (let r = row_within i k m t p l in absurd (omega arith))
@@ -53,6 +59,13 @@ one_place places width j i c k t d hi ht hc hd e =
     let outer = apart (j * places + i) (k * places + t) width d c hd hc e in
     let inner = apart j k places t i ht hi outer.0 in
     (inner.0, inner.1, outer.1)
+
+-- the same number of the same place on the next session
+pub next_session : (places width j i c at step : ℕ) → at ≡ tile_at places width j i c → step ≡ places * width → at + step ≡ tile_at places width (j + 1) i c
+next_session places width j i c at step e f =
+    let one : (j + 1) * places + i ≡ (j * places + i) + places = omega arith in
+    let all : ((j * places + i) + places) * width ≡ (j * places + i) * width + places * width = omega arith in
+    rw (e, f, one, all) (omega arith)
 
 -- ---- strips
 

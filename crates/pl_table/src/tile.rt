@@ -108,7 +108,8 @@ fn truth_of(holds: bool) -> i64
     if holds { 1 } else { 0 }
 }
 
-// Copies the cells of a column.
+// Copies the cells of a column. Those of one session stand a row of all assets behind those of the session
+// before it. The loop is short, so that the processor fetches the cells of some columns at once.
 fn copy_cells(outcome: &Outcome<'_>, first: usize, place: usize, column: usize, tile: &mut [i64])
     requires outcome { IsOutcome outcome.now }
     requires first { IsWithin outcome.now first }
@@ -124,9 +125,11 @@ fn copy_cells(outcome: &Outcome<'_>, first: usize, place: usize, column: usize, 
     let term = outcome.checked.column_term(column);
     let count = HEIGHT.min(outcome.to + 1 - first);
     let cells = cells_from(outcome, term, place, first, count);
+    let session = outcome.cols.len() * width_of(outcome);
+    let mut at = start_of(outcome, 0, place, &*tile) + (column + 1);
     for j in 0..count {
-        let at = start_of(outcome, j, place, &*tile);
-        tile[at + (column + 1)] = cells[j];
+        tile[at] = cells[j];
+        at += session;
     }
 }
 

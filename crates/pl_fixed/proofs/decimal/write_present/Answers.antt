@@ -16,8 +16,8 @@ put-point_end-requires c =
     let sign = simp to_z-of_z at c.put_sign-sign_end.ensures.end in
     omega (arith, c.put_decimal-whole_end.ensures.end)
 
-pub put_digits-requires : goal.put_digits-requires
-put_digits-requires c =
+pub put_six-requires-clause-room : goal.put_six-requires-clause-room
+put_six-requires-clause-room c =
     let f : FitsSigned w64 c.args.cell = c.ranges.cell in
     let front = length-front-le c.args.cell _ (simp to_z-of_z at c.unsigned_abs-magnitude.ensures.value) c.requires.small in
     let sign = simp to_z-of_z at c.put_sign-sign_end.ensures.end in
@@ -28,4 +28,4 @@ returns-clause-within c =
     let f : FitsSigned w64 c.args.cell = c.ranges.cell in
     let front = length-front-le c.args.cell _ (simp to_z-of_z at c.unsigned_abs-magnitude.ensures.value) c.requires.small in
     let sign = simp to_z-of_z at c.put_sign-sign_end.ensures.end in
-    omega (arith, c.put_decimal-whole_end.ensures.end, c.put-point_end.ensures.end, c.put_digits.ensures.end)
+    omega (arith, c.put_decimal-whole_end.ensures.end, c.put-point_end.ensures.end, c.put_six.ensures.end)
