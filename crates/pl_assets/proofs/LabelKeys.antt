@@ -20,22 +20,22 @@ use Rattle.pl_assets.proofs.TextLists.{any-map}
 use Rattle.pl_assets.proofs.FirstSeen.{Once, seen-once, one_place, same_text, equal_text}
 use Rattle.pl_assets.proofs.LabelOrder.{same_key}
 
-both_false : (b c : Bool) → (b ≡ true → c ≡ true) → (c ≡ true → b ≡ true) → b ≡ c
+pub both_false : (b c : Bool) → (b ≡ true → c ≡ true) → (c ≡ true → b ≡ true) → b ≡ c
 both_false true true f g = refl
 both_false true false f g = sym (f refl)
 both_false false true f g = g refl
 both_false false false f g = refl
 
-same_number : (a b : ℕ) → (a == b) ≡ true → a ≡ b
+pub same_number : (a b : ℕ) → (a == b) ≡ true → a ≡ b
 same_number a b t = grind (arith, nat_tests)
 
-number_same : (a b : ℕ) → a ≡ b → (a == b) ≡ true
+pub number_same : (a b : ℕ) → a ≡ b → (a == b) ≡ true
 number_same a b e = grind (arith, nat_tests)
 
-same_day : (a b : ℤ) → int_eq a b ≡ true → a ≡ b
+pub same_day : (a b : ℤ) → int_eq a b ≡ true → a ≡ b
 same_day a b t = grind (arith, ints)
 
-day_same : (a b : ℤ) → a ≡ b → int_eq a b ≡ true
+pub day_same : (a b : ℤ) → a ≡ b → int_eq a b ≡ true
 day_same a b e = grind (arith, ints)
 
 pub from_parts : (name : List ℕ) (col : ℕ) (day : ℤ) (r : ColumnLabel) → is_from name col day r ≡ true → (r.name ≡ name) × (r.col ≡ col) × (r.start ≡ day)
@@ -88,7 +88,7 @@ not_named t name col day h e =
 
 -- ---- the set of keys
 
-any-behind : {A : Type 0} (p : A → Bool) (xs : List A) (y : A) → list_any p (xs ++ y ∷ []) ≡ (p y || list_any p xs)
+pub any-behind : {A : Type 0} (p : A → Bool) (xs : List A) (y : A) → list_any p (xs ++ y ∷ []) ≡ (p y || list_any p xs)
 any-behind p [] y = refl
 any-behind p (x ∷ xs) y = ap (λ b. p x || b) (any-behind p xs y) ∙ swapped (p x) (p y) (list_any p xs)
   where

@@ -68,6 +68,21 @@ same_key n c x m k y small_c small_k fits_x fits_y e =
     let days : day_at x ≡ day_at y = omega (arith, e, same.0, same.1) in
     (same.0, same.1, omega (arith, ints))
 
+-- what lies between two keys of one name and column is of these too
+pub keys_between : (n c : ℕ) (x : ℤ) (m k : ℕ) (y z : ℤ) → c < 2 ^ 64 → k < 2 ^ 64 → FitsSigned w32 x → FitsSigned w32 y → FitsSigned w32 z → key n c x ≤ key m k y → key m k y ≤ key n c z → (m ≡ n) × (k ≡ c)
+unfolding day_at
+keys_between n c x m k y z small_c small_k fits_x fits_y fits_z low high =
+    between n c (day_at x) (day_at z) m k (day_at x) (day_at y) (day_at z) small_c small_k (day_small x fits_x) (day_small y fits_y) (day_small z fits_z) low high
+
+-- of one name and column the keys stand as the days
+pub keys_rise : (n c : ℕ) (x y : ℤ) → FitsSigned w32 x → FitsSigned w32 y → x ≤ℤ y → key n c x ≤ key n c y
+unfolding day_at
+keys_rise n c x y fits_x fits_y h = let days : day_at x ≤ day_at y = days_rise x y fits_x fits_y h in omega arith
+
+pub keys_back : (n c : ℕ) (x y : ℤ) → FitsSigned w32 x → FitsSigned w32 y → key n c x ≤ key n c y → x ≤ℤ y
+unfolding day_at
+keys_back n c x y fits_x fits_y h = days_back x y fits_x fits_y (omega arith)
+
 pub key_there : (places : List Place) (i : ℕ) (d : Place) → i < length places → key_at places i ≡ key_of (get_or places i d)
 unfolding key_at
 key_there places i d h = ap (λ o. unwrap_or (option_map key_of o) 0) (slice_get-get_or places i d h)

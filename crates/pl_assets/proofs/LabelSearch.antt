@@ -22,10 +22,10 @@ use Rattle.pl_assets.proofs.LabelKeys.{once_named, parts_from}
 
 -- ---- elements of lists that are read through a function
 
-contains_mapped : {A B : Type 0} (f : A → B) (xs : List A) (x : A) → Contains xs x → Contains (map f xs) (f x)
+pub contains_mapped : {A B : Type 0} (f : A → B) (xs : List A) (x : A) → Contains xs x → Contains (map f xs) (f x)
 contains_mapped f xs x h = (h.0, (let l : h.0 < length xs = h.1 in omega (arith, length-map xs f)), get_or-map f xs h.0 x (f x) h.1 ∙ ap f h.2)
 
-mapped_contains : {A B : Type 0} (f : A → B) (xs : List A) (y : B) (d : A) → Contains (map f xs) y → (x : A) × Contains xs x × (f x ≡ y)
+pub mapped_contains : {A B : Type 0} (f : A → B) (xs : List A) (y : B) (d : A) → Contains (map f xs) y → (x : A) × Contains xs x × (f x ≡ y)
 mapped_contains f xs y d h =
     let l : h.0 < length xs = (let m : h.0 < length (map f xs) = h.1 in omega (arith, length-map xs f)) in
     (get_or xs h.0 d, (h.0, l, own xs h.0 d l), sym (get_or-map f xs h.0 d y l) ∙ h.2)

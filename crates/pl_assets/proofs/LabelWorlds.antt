@@ -13,7 +13,7 @@ use Rattle.pl_lifetimes.proofs.Filters.{filter-map, filter-same}
 
 -- ---- look-ups in a list that is read through a function
 
-find-mapped : {A B : Type 0} (p : B → Bool) (f : A → B) (xs : List A) → find p (map f xs) ≡ option_map f (find (λ x. p (f x)) xs)
+pub find-mapped : {A B : Type 0} (p : B → Bool) (f : A → B) (xs : List A) → find p (map f xs) ≡ option_map f (find (λ x. p (f x)) xs)
 find-mapped p f [] = refl
 find-mapped p f (x ∷ xs) = ap (cond (p (f x)) (Some (f x))) (find-mapped p f xs) ∙ here (p (f x))
   where
@@ -21,7 +21,7 @@ find-mapped p f (x ∷ xs) = ap (cond (p (f x)) (Some (f x))) (find-mapped p f x
     here true = refl
     here false = refl
 
-find-same : {A : Type 0} (p q : A → Bool) → ((x : A) → p x ≡ q x) → (xs : List A) → find p xs ≡ find q xs
+pub find-same : {A : Type 0} (p q : A → Bool) → ((x : A) → p x ≡ q x) → (xs : List A) → find p xs ≡ find q xs
 find-same p q same [] = refl
 find-same p q same (x ∷ xs) = ap (λ b. cond b (Some x) (find p xs)) (same x) ∙ ap (cond (q x) (Some x)) (find-same p q same xs)
 

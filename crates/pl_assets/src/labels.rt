@@ -23,6 +23,7 @@ use pl_lifetimes::Assets;
 use rows::LabelRows;
 use std::alloc::Global;
 use std::marker::Model;
+pub use texts::Texts;
 
 /// The labels of the assets, by column: at most 200,000 rows. A label has a name, and each name has a number;
 /// each text that is not empty has a code. Both count from 0, in the order in which the rows came.

@@ -26,3 +26,4 @@ pub mod Agree
 pub mod Permuted
 pub mod AsOf
 pub mod Names
+pub mod Numbers

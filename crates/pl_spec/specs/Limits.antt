@@ -28,6 +28,9 @@ most_labels = 200000
 abbrev pub most_bars : ℕ
 most_bars = 4000000
 
+abbrev pub most_numbers : ℕ
+most_numbers = 2000000
+
 -- rows of the three tables of adjustments, all together
 abbrev pub most_adjustments : ℕ
 most_adjustments = 1000000

@@ -9,9 +9,9 @@ use indexmap::IndexSet;
 use std::alloc::{AllocError, Global};
 use std::marker::Model;
 
-// Distinct texts, numbered from 0 in the order in which they came.
+/// Distinct texts, numbered from 0 in the order in which they came.
 #[derive(Debug)]
-pub(crate) struct Texts {
+pub struct Texts {
     set: IndexSet<Vec<u8>>,
 }
 
@@ -31,8 +31,8 @@ impl Model for Texts {
 }
 
 impl Texts {
-    // No texts.
-    pub(crate) fn new(alloc: Global) -> Texts
+    /// No texts.
+    pub fn new(alloc: Global) -> Texts
         ensures { result ≡ [] }
     {
         Texts {
@@ -40,22 +40,22 @@ impl Texts {
         }
     }
 
-    // How many texts there are.
-    pub(crate) fn len(&self) -> usize
+    /// How many texts there are.
+    pub fn len(&self) -> usize
         ensures { result ≡ length self.now }
     {
         self.set.len()
     }
 
-    // The number of a text.
-    pub(crate) fn number_of(&self, text: &[u8]) -> Option<usize>
+    /// The number of a text.
+    pub fn number_of(&self, text: &[u8]) -> Option<usize>
         ensures { result ≡ position (bytes_eq text.now) self.now }
     {
         self.set.get_index_of(text)
     }
 
-    // The text of a number.
-    pub(crate) fn text(&self, number: usize) -> &[u8]
+    /// The text of a number.
+    pub fn text(&self, number: usize) -> &[u8]
         requires { number < length self.now }
         ensures { result.now ≡ slice_index_or self.now number [] }
     {
@@ -65,8 +65,8 @@ impl Texts {
         }
     }
 
-    // The number of a text, which is added if it is new.
-    pub(crate) fn insert(&mut self, text: &[u8]) -> Result<usize, AllocError>
+    /// The number of a text, which is added if it is new.
+    pub fn insert(&mut self, text: &[u8]) -> Result<usize, AllocError>
         ensures texts { OnOk result (self.new ≡ with_text self.old text.now) }
         ensures number { IfOk result (λ n. n ≡ position_or_len (bytes_eq text.now) self.old) }
         ensures err { OnErr result (self.new ≡ self.old) }

@@ -1,0 +1,9 @@
+pub mod NumberRowsMade
+pub mod NumberKeys
+pub mod NumberFields
+pub mod NumbersRead
+pub mod NumberTables
+pub mod NumberSearch
+pub mod NumbersSaid
+pub mod NumbersMoved
+pub mod NumberWorlds

@@ -1,0 +1,5 @@
+pub mod Numbers
+pub mod NumberFaults
+pub mod NumberPlaces
+pub mod NumberRules
+pub mod NumberLaws

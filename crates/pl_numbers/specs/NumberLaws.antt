@@ -1,0 +1,16 @@
+-- The numbers of a table are those of the rows of its assets' sids.
+use Rattle.std.specs.Prelude.{◌≡◌, ℕ, ◌<◌, ℤ, List, length, map, All, AllPairs}
+use Rattle.pl_spec.specs.Numbers.{NumberRow, number_at}
+use Rattle.pl_spec.specs.Parts.{sid_at}
+use Rattle.pl_spec.specs.declared.AssetRow.{AssetRow}
+use Rattle.pl_numbers.specs.Numbers.{ColumnNumber, number_on}
+
+abbrev pub number_of : List AssetRow → ColumnNumber → NumberRow
+number_of assets r = record { name = r.name; sid = sid_at assets r.col; known = r.known; value = r.value }
+
+-- where the sids ascend and the rows are in columns of assets
+abbrev pub NumbersAreThose : Type 0
+NumbersAreThose = (assets : List AssetRow) (rows : List ColumnNumber)
+    → AllPairs (λ a b. a.sid < b.sid) assets → All (λ r. r.col < length assets) rows
+    → (name : List ℕ) (col : ℕ) (day : ℤ) → col < length assets
+    → number_at (map (number_of assets) rows) name (sid_at assets col) day ≡ number_on rows name col day

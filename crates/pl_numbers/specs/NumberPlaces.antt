@@ -1,0 +1,89 @@
+-- Rows of numbers as they are kept: numbers for their names, by which they stand.
+use Rattle.std.specs.Prelude.{◌≡◌, ℕ, ◌^◌, ◌==◌, ◌<◌, ◌≤◌, nat_eq, nat_le, true, false, ℤ, List, [], length, map, slice_index_or, bytes_eq, All, AllPairs, Option, Some, None, FitsSigned}
+use Rattle.std.specs.Int.{w32}
+use Rattle.std.specs.List.{list_any}
+use Rattle.std.specs.List.Sorted.{IsPartitionPoint}
+use Rattle.std.specs.HashSet.{HashSet, contains}
+use Rattle.pl_spec.specs.Limits.{most_numbers}
+use Rattle.pl_spec.specs.Numbers.{NumberRow}
+use Rattle.pl_spec.specs.Rounding.{IsCell}
+use Rattle.pl_records.specs.Reading.{Record, field}
+use Rattle.pl_assets.specs.LabelPlaces.{key}
+use Rattle.pl_numbers.specs.Numbers.{ColumnNumber, NumberTable, names_of}
+use Rattle.pl_numbers.specs.declared.rows.Place.{Place}
+use Rattle.pl_numbers.specs.declared.rows.NumberRows.{NumberRows}
+use Rattle.pl_numbers.specs.declared.reading.Fields.{Fields}
+use Rattle.pl_numbers.specs.declared.reading.NextNumber.{NextNumber}
+
+-- ---- the rows
+
+abbrev pub row_at : List (List ℕ) → Place → ColumnNumber
+row_at names p = record { name = slice_index_or names p.name []; col = p.col; known = p.known; value = p.value }
+
+abbrev pub shown_rows : NumberRows → List ColumnNumber
+shown_rows t = map (row_at t.names) t.places.items
+
+abbrev pub table_in : NumberRows → NumberTable
+table_in t = record { names = t.names; rows = shown_rows t }
+
+-- the name is among these
+pub record IsPlace (names : List (List ℕ)) (p : Place) : Type 0 where
+  pub name : p.name < length names
+  pub col : p.col < 2 ^ 32
+  pub day : FitsSigned w32 p.known
+
+-- the names are those of the rows, in the order in which they first stand there
+pub record AreNumbered (t : NumberRows) : Type 0 where
+  pub places : All (IsPlace t.names) t.places.items
+  pub names : t.names ≡ names_of (shown_rows t)
+
+-- ---- their keys
+
+abbrev pub key_of : Place → ℕ
+key_of p = key p.name p.col p.known
+
+-- the rows stand by their keys
+abbrev pub Rise : List Place → Type 0
+Rise places = AllPairs (λ p q. key_of p < key_of q) places
+
+-- below n the rows have no greater key, from n on all have
+abbrev pub KeyPoint : List Place → ℕ → ℕ → Type 0
+KeyPoint places k n = IsPartitionPoint (λ p. nat_le (key_of p) k ≡ true) (λ p. nat_le (key_of p) k ≡ false) places n
+
+-- below n the rows have no greater key
+abbrev pub AllLow : List Place → ℕ → ℕ → Type 0
+AllLow places k n = (i : ℕ) (d : Place) → i < n → key_of (slice_index_or places i d) ≤ k
+
+-- all rows have lower keys
+abbrev pub AllBelow : List Place → ℕ → Type 0
+AllBelow places k = (i : ℕ) (d : Place) → i < length places → key_of (slice_index_or places i d) < k
+
+-- the set has the keys of the rows
+pub record AreKeys {S : Type 0} (keys : HashSet ℕ S) (places : List Place) : Type 0 where
+  pub each : (k : ℕ) → contains nat_eq keys k ≡ list_any (λ p. key_of p == k) places
+
+-- the keys of the rows are known: they rise, or a set has them
+abbrev pub AreSeen : {S : Type 0} → Option (HashSet ℕ S) → List Place → Type 0
+AreSeen None places = Rise places
+AreSeen (Some keys) places = AreKeys keys places
+
+-- ---- the row of a record
+
+abbrev pub number_from : Record → Fields → NumberRow
+number_from r f = record { name = field r 0; sid = f.sid; known = f.known; value = f.value }
+
+abbrev pub row_from : Record → NextNumber → ColumnNumber
+row_from r n = record { name = field r 0; col = n.col; known = n.known; value = n.value }
+
+abbrev pub key_next : NextNumber → ℕ
+key_next n = key n.name n.col n.known
+
+-- ---- the table
+
+pub record IsTable (t : NumberRows) : Type 0 where
+  pub places : All (IsPlace t.names) t.places.items
+  pub names : AllPairs (λ x y. bytes_eq x y ≡ false) t.names
+  pub rise : Rise t.places.items
+  pub few : length t.places.items ≤ most_numbers
+  pub few_names : length t.names ≤ length t.places.items
+  pub cells : All (λ p. IsCell p.value) t.places.items

@@ -1,0 +1,117 @@
+//! Numbers beside bars, as a company's earnings or a score: each of a name and an asset, from the day on which it
+//! was known.
+#![tactic(auto)]
+
+ghost use Rattle.std.specs.Prelude.{◌≡◌, ℕ, ◌+◌, ◌<◌, ◌≤◌, [], length, pos, position, slice_index_or, bytes_eq, All, IfOk, IfSome};
+ghost use Rattle.pl_spec.specs.Rounding.{IsCell};
+ghost use Rattle.pl_records.specs.Reading.{Answers};
+ghost use Rattle.pl_records.specs.Records.{csv_records};
+ghost use Rattle.pl_numbers.specs.Numbers.{AreNumbers, number_on, numbers_of};
+ghost use Rattle.pl_numbers.specs.NumberFaults.{fault_of};
+
+mod error;
+pub mod laws;
+mod order;
+mod reading;
+mod rows;
+mod search;
+mod seen;
+
+pub use error::NumbersError;
+use pl_calendar::Sessions;
+use pl_lifetimes::Assets;
+use rows::NumberRows;
+use std::alloc::Global;
+use std::marker::Model;
+
+/// How many numbers there may be.
+pub const MOST_NUMBERS: usize = 2_000_000;
+
+/// The numbers of the assets, by name, column and day: at most 2,000,000 rows. Each name has a number, which
+/// counts from 0 in the order in which the names first stood in the file.
+#[derive(Debug)]
+pub struct Numbers {
+    rows: NumberRows,
+}
+
+// One call lets numbers go, so that no caller's proof goes into their parts.
+impl Drop for Numbers {
+    fn drop(self) {
+        let Numbers { rows: _rows } = self;
+    }
+}
+
+impl Model for Numbers {
+    ghost use Rattle.pl_numbers.specs.Numbers.{NumberTable};
+    ghost use Rattle.pl_numbers.specs.NumberPlaces.{IsTable, table_in};
+
+    ghost Value = { NumberTable };
+
+    ghost view = { λ n. table_in n.rows };
+
+    ghost invariant = { λ n. IsTable n.rows };
+}
+
+impl Numbers {
+    /// The numbers of a file: the header `name,sid,known,value`, and in each further record a name, the sid of an
+    /// asset, a date and a decimal. From the date on the asset has the number; an empty field says that it has
+    /// none.
+    #[tactic(auto, unfolding(crate::specs::Numbers::numbers_of))]
+    pub fn read(alloc: Global, bytes: &[u8], assets: &Assets) -> Result<Numbers, NumbersError>
+        // The numbers of the records, or the fault of the first faulty one. Only want of memory may
+        // come beside.
+        ensures exact { Answers (λ n. n) fault_of result
+            (numbers_of assets.now (csv_records bytes.now)) }
+        ensures numbers { IfOk result AreNumbers }
+        // Each stands in the column of an asset.
+        ensures cols { IfOk result (λ n. All (λ r. r.col < length assets.now) n.rows) }
+    {
+        let read = reading::read_rows(alloc, bytes, assets)?;
+        let rows = order::ordered(read);
+        Ok(Numbers { rows })
+    }
+
+    /// How many rows there are. No two of them have one name, column and day.
+    pub fn len(&self) -> usize
+        ensures length { result ≡ length self.now.rows }
+        ensures numbers { AreNumbers self.now }
+    {
+        self.rows.places.len()
+    }
+
+    /// The number of a name, if a row has it.
+    pub fn name_of(&self, name: &[u8]) -> Option<u32>
+        ensures within { IfSome result (λ number. number < length self.now.names) }
+        ensures exact { result ≡ position (bytes_eq name.now) self.now.names }
+    {
+        match self.rows.names.number_of(name) {
+            Some(number) => Some(number as u32),
+            None => None,
+        }
+    }
+
+    /// The cell of a column under a name on a day: that of the row that was known last by then, missing where
+    /// there is none.
+    pub fn number_on(&self, name: u32, col: usize, day: i32) -> i64
+        requires { name < length self.now.names }
+        ensures value { result
+            ≡ number_on self.now.rows (slice_index_or self.now.names name []) col day }
+        ensures cell { IsCell result }
+    {
+        search::number_on(&self.rows, name, col, day)
+    }
+
+    /// Writes the cells of a column under a name on sessions from the first one on. The rows of the column are
+    /// gone over once.
+    pub fn fill(&self, name: u32, col: usize, sessions: &Sessions, first: usize, into: &mut [i64])
+        requires name { name < length self.now.names }
+        requires range { first + length into.old ≤ length sessions.now }
+        ensures values { (k : ℕ) → k < length into.old → slice_index_or into.new k (pos 0)
+            ≡ number_on self.now.rows (slice_index_or self.now.names name []) col
+            (slice_index_or sessions.now (first + k) (pos 0)) }
+        ensures cells { (k : ℕ) → k < length into.old
+            → IsCell (slice_index_or into.new k (pos 0)) }
+    {
+        search::fill(&self.rows, name, col, sessions, first, into);
+    }
+}

@@ -1,0 +1,99 @@
+//! The number of a column on a day.
+ghost use Rattle.std.specs.Prelude.{◌≡◌, ◌+◌, ◌<◌, ◌≤◌, [], ℕ, ℤ, FitsSigned, IsTrue, length, nat_le, pos, slice_index_or};
+ghost use Rattle.std.specs.Int.{w32};
+ghost use Rattle.pl_spec.specs.Rounding.{IsCell};
+ghost use Rattle.pl_assets.specs.LabelPlaces.{key};
+ghost use Rattle.pl_numbers.specs.Numbers.{number_on};
+ghost use Rattle.pl_numbers.specs.NumberPlaces.{AllLow, IsTable, KeyPoint, Rise, key_of, shown_rows};
+
+use crate::rows::{NumberRows, Place, key, key_of};
+use pl_calendar::Sessions;
+use pl_fixed::MISSING;
+
+// The cell of the row under the name that was known last in the column by the day.
+pub(crate) fn number_on(rows: &NumberRows, name: u32, col: usize, day: i32) -> i64
+    requires table { IsTable rows.now }
+    requires name { name < length rows.now.names }
+    ensures value { result ≡ number_on (shown_rows rows.now) (slice_index_or rows.now.names name []) col day }
+    ensures cell { IsCell result }
+{
+    let end = point_of(&rows.places, key(name, col, day));
+    value_before(rows, name, col, end)
+}
+
+// How many of the rows have no greater key.
+fn point_of(places: &[Place], key: u128) -> usize
+    requires { Rise places.now }
+    ensures within { result ≤ length places.now }
+    ensures point { KeyPoint places.now key result }
+{
+    places.partition_point(|place| key_of(place) <= key)
+}
+
+// The same, from a place on before which they have none.
+fn point_onward(places: &[Place], from: usize, key: u128) -> usize
+    requires rise { Rise places.now }
+    requires within { from ≤ length places.now }
+    requires low { AllLow places.now key from }
+    ensures within { result ≤ length places.now }
+    ensures point { KeyPoint places.now key result }
+{
+    let mut at = from;
+    while at < places.len() && is_low(&places[at], key) {
+        at += 1;
+    }
+    at
+}
+
+fn is_low(place: &Place, key: u128) -> bool
+    ensures { result ≡ nat_le (key_of place.now) key }
+{
+    key_of(place) <= key
+}
+
+// The cell of the last row before a place, where it is of the name and the column: of a day whose key has its
+// point there, that is the number.
+fn value_before(rows: &NumberRows, name: u32, col: usize, end: usize) -> i64
+    requires table { IsTable rows.now }
+    requires name { name < length rows.now.names }
+    requires within { end ≤ length rows.now.places.items }
+    ensures value { (day : ℤ) → FitsSigned w32 day → KeyPoint rows.now.places.items (key name col day) end
+        → result ≡ number_on (shown_rows rows.now) (slice_index_or rows.now.names name []) col day }
+    ensures cell { IsCell result }
+{
+    if end == 0 {
+        return MISSING;
+    }
+    let place = rows.places[end - 1];
+    if place.name == name && place.col as usize == col {
+        place.value
+    } else {
+        MISSING
+    }
+}
+
+// Writes the numbers of a column on sessions from the first one on, whose days ascend, so that the rows are
+// gone over once.
+pub(crate) fn fill(
+    rows: &NumberRows,
+    name: u32,
+    col: usize,
+    sessions: &Sessions,
+    first: usize,
+    into: &mut [i64],
+)
+    requires table { IsTable rows.now }
+    requires name { name < length rows.now.names }
+    requires range { first + length into.old ≤ length sessions.now }
+    ensures values { (k : ℕ) → k < length into.old → slice_index_or into.new k (pos 0)
+        ≡ number_on (shown_rows rows.now) (slice_index_or rows.now.names name []) col
+        (slice_index_or sessions.now (first + k) (pos 0)) }
+    ensures cells { (k : ℕ) → k < length into.old → IsCell (slice_index_or into.new k (pos 0)) }
+{
+    let _count = sessions.len();
+    let mut at = point_of(&rows.places, key(name, col, i32::MIN));
+    for k in 0..into.len() {
+        at = point_onward(&rows.places, at, key(name, col, sessions.day(first + k)));
+        into[k] = value_before(rows, name, col, at);
+    }
+}
