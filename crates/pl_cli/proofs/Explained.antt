@@ -5,12 +5,12 @@ use Rattle.pl_spec.specs.Limits.{most_lines}
 use Rattle.pl_spec.specs.World.{World}
 use Rattle.pl_spec.specs.Parts.{sid_at}
 use Rattle.pl_spec.specs.Table.{Pipeline}
-use Rattle.pl_lines.specs.Lines.{Line}
-use Rattle.pl_lines.specs.Texts as lines
-use Rattle.pl_facts.specs.Facts.Fact.{Worth}
-use Rattle.pl_facts.specs.Walks.{derivation, facts_for, line_for}
-use Rattle.pl_lines.specs.declared.error.ExplainError.{ExplainError}
-use Rattle.pl_lines.specs.declared.error.ExplainError.TheVariants as errors
+use Rattle.pl_derivation.specs.Lines.{Line}
+use Rattle.pl_derivation.specs.Texts as lines
+use Rattle.pl_derivation.specs.Facts.Fact.{Worth}
+use Rattle.pl_derivation.specs.Walks.{derivation, facts_for, line_for}
+use Rattle.pl_derivation.specs.declared.error.ExplainError.{ExplainError}
+use Rattle.pl_derivation.specs.declared.error.ExplainError.TheVariants as errors
 use Rattle.pl_terms.specs.Checked.{pipeline_of}
 use Rattle.pl_world.specs.declared.owned.OwnedWorld.{OwnedWorld}
 use Rattle.pl_world.specs.declared.world.World as lent

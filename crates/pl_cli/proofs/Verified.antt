@@ -2,8 +2,8 @@
 use Rattle.std.proofs.Common.{◌≡◌, ℕ, List, [], ◌++◌, Option, Some, refl, append_assoc, append-nil}
 use Rattle.pl_spec.specs.World.{World}
 use Rattle.pl_spec.specs.Table.{Pipeline}
-use Rattle.pl_lines.specs.Lines.{Line}
-use Rattle.pl_facts.specs.Right.{first_wrong}
+use Rattle.pl_derivation.specs.Lines.{Line}
+use Rattle.pl_derivation.specs.Right.{first_wrong}
 use Rattle.pl_terms.specs.Checked.{pipeline_of}
 use Rattle.pl_world.specs.Worlds.{owned_world}
 use Rattle.pl_words.specs.Request.{Verify, VerifyRequest}

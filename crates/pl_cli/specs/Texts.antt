@@ -12,9 +12,9 @@ use Rattle.pl_planner.specs.Plans.{Planned, IsPlanOf}
 use Rattle.pl_exec.specs.Tasks.{cut}
 use Rattle.pl_bench.specs.Numbers.{TakesSteps as TakesBenchSteps, bench_line}
 use Rattle.pl_payouts.specs.Texts.{payouts_text}
-use Rattle.pl_lines.specs.Texts as lines
-use Rattle.pl_facts.specs.Right.{first_wrong}
-use Rattle.pl_facts.specs.Walks.{derivation}
+use Rattle.pl_derivation.specs.Texts as lines
+use Rattle.pl_derivation.specs.Right.{first_wrong}
+use Rattle.pl_derivation.specs.Walks.{derivation}
 use Rattle.pl_runner.specs.Runs.{run_steps}
 use Rattle.pl_feed.specs.Feeds.{daily_steps}
 use Rattle.pl_words.specs.declared.request.InputFile.TheVariants.{Pipeline as PipelineFile}

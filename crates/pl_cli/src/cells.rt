@@ -2,9 +2,9 @@
 ghost use Rattle.std.specs.Prelude.{◌≡◌, ◌<◌, ◌≤◌, ℕ, length, pos, Some, Ok, IfOk, IfErr};
 ghost use Rattle.pl_spec.specs.Limits.{most_lines};
 ghost use Rattle.pl_spec.specs.Parts.{sid_at};
-ghost use Rattle.pl_facts.specs.Facts.Fact.{Worth};
-ghost use Rattle.pl_facts.specs.Walks.{derivation, facts_for};
-ghost use Rattle.pl_lines.specs.declared.error.ExplainError.TheVariants.{TooLong};
+ghost use Rattle.pl_derivation.specs.Facts.Fact.{Worth};
+ghost use Rattle.pl_derivation.specs.Walks.{derivation, facts_for};
+ghost use Rattle.pl_derivation.specs.declared.error.ExplainError.TheVariants.{TooLong};
 ghost use Rattle.pl_world.specs.Worlds.{owned_world};
 ghost use Rattle.pl_terms.specs.Checked.{pipeline_of};
 ghost use Rattle.pl_words.specs.Request.{Explain, ExplainRequest as Asked};

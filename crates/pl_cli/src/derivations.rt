@@ -1,7 +1,7 @@
 // The verdict on a derivation.
 ghost use Rattle.std.specs.Prelude.{◌≡◌, ◌<◌, ℕ, None, Some, Ok, IfOk, IfErr};
 ghost use Rattle.pl_outside.specs.Taken.{Writes};
-ghost use Rattle.pl_facts.specs.Right as spec;
+ghost use Rattle.pl_derivation.specs.Right as spec;
 ghost use Rattle.pl_world.specs.Worlds.{owned_world, IsOwned};
 ghost use Rattle.pl_terms.specs.Checked.{pipeline_of};
 ghost use Rattle.pl_words.specs.Request.{Verify, VerifyRequest as Asked};

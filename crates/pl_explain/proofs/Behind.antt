@@ -23,14 +23,14 @@ use Rattle.pl_spec.specs.Kind.Kind.{Window}
 use Rattle.pl_terms.specs.Kinds.{kind_of}
 use Rattle.pl_terms.specs.Sorts.{is_windowed}
 use Rattle.pl_world.proofs.Evaluated.{windowed-is}
-use Rattle.pl_step.specs.Given.{facts_read}
-use Rattle.pl_facts.specs.Facts.{Fact, number_in, premises, over_inputs, entry_facts, facts_now, number_facts, window_facts}
-use Rattle.pl_facts.specs.Facts.Fact.{Worth}
-use Rattle.pl_facts.specs.Right.{has_sid}
-use Rattle.pl_facts.proofs.Fits.{HasSessions, premises_ready}
+use Rattle.pl_explain.specs.Given.{facts_read}
+use Rattle.pl_derivation.specs.Facts.{Fact, number_in, premises, over_inputs, entry_facts, facts_now, number_facts, window_facts}
+use Rattle.pl_derivation.specs.Facts.Fact.{Worth}
+use Rattle.pl_derivation.specs.Right.{has_sid}
+use Rattle.pl_derivation.proofs.Fits.{HasSessions, premises_ready}
 use Rattle.pl_spec.proofs.Each.{Each}
-use Rattle.pl_told.specs.declared.fact.Fact as code
-use Rattle.pl_told.specs.Keys.{fact_of}
+use Rattle.pl_explain.specs.declared.fact.Fact as code
+use Rattle.pl_explain.specs.Keys.{fact_of}
 use Rattle.pl_world.specs.declared.world.World.{World}
 use Rattle.pl_world.specs.Worlds.{world_of, IsMade}
 use Rattle.pl_world.specs.Evaluations.{IsAsked, IsAskedInput}

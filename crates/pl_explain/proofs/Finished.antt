@@ -22,47 +22,34 @@ use Rattle.pl_terms.specs.Nodes.{graph_of, number_of}
 use Rattle.pl_terms.specs.Uses.{is_used}
 use Rattle.pl_cross.specs.Arrays.{HasTexts}
 use Rattle.pl_cross.specs.Section.{is_section}
-use Rattle.pl_lines.specs.declared.line.Line.{Line}
-use Rattle.pl_lines.specs.Listed.{line_of}
-use Rattle.pl_lines.specs.Lines.Line.{SeenLine, ValueLine}
-use Rattle.pl_lines.specs.Texts.{AreCells, AreWritable, IsWritable}
+use Rattle.pl_derivation.specs.declared.error.ExplainError.{ExplainError}
+use Rattle.pl_derivation.specs.declared.line.Line.{Line}
+use Rattle.pl_derivation.specs.Listed.{line_of}
+use Rattle.pl_derivation.specs.Lines.Line.{SeenLine, ValueLine}
+use Rattle.pl_derivation.specs.Texts.{AreCells, AreWritable, IsWritable}
 use Rattle.pl_spec.proofs.Each.{Each, each_front, each_back, each_of_map, each_at}
-use Rattle.pl_facts.specs.Facts.{Fact, number_in, number_facts, premises}
-use Rattle.pl_facts.specs.Facts.Fact.{Seen, Worth}
-use Rattle.pl_facts.specs.Laws as laws
-use Rattle.pl_facts.specs.Right.{after_each, has_sid, is_fitting, seen_cells}
-use Rattle.pl_facts.specs.Walks.{is_in, line_for, depth_of, derivation}
-use Rattle.pl_facts.proofs.Walking.{complete}
+use Rattle.pl_derivation.specs.Facts.{Fact, number_in, number_facts, premises}
+use Rattle.pl_derivation.specs.Facts.Fact.{Seen, Worth}
+use Rattle.pl_derivation.specs.Laws as laws
+use Rattle.pl_derivation.specs.Right.{after_each, has_sid, is_fitting, seen_cells}
+use Rattle.pl_derivation.specs.Walks.{is_in, line_for, depth_of, derivation}
+use Rattle.pl_derivation.proofs.Walking.{complete}
 use Rattle.pl_world.specs.declared.world.World.{World}
 use Rattle.pl_world.specs.Worlds.{world_of, PartsMakeAWorld}
-use Rattle.pl_told.specs.declared.fact.Fact as code
-use Rattle.pl_told.specs.declared.told.Told.{Told}
-use Rattle.pl_told.specs.declared.rows.Rows.{Rows}
-use Rattle.pl_told.specs.Keys.{fact_of}
-use Rattle.pl_told.specs.Looking.{row_at}
-use Rattle.pl_step.specs.Given.{facts_read, given, has, has_all, mask_passes, KeepsRows}
-use Rattle.pl_step.proofs.Given.{given-yes}
-use Rattle.pl_step.proofs.Values.{premises-front, premises-kept, premises-barred, read-section}
+use Rattle.pl_explain.specs.declared.fact.Fact as code
+use Rattle.pl_explain.specs.declared.told.Told.{Told}
+use Rattle.pl_explain.specs.declared.rows.Rows.{Rows}
+use Rattle.pl_explain.specs.Keys.{fact_of}
+use Rattle.pl_explain.specs.Looking.{row_at}
+use Rattle.pl_explain.specs.Given.{facts_read, given, has, has_all, mask_passes, KeepsRows}
+use Rattle.pl_explain.proofs.Given.{given-yes}
+use Rattle.pl_explain.proofs.Values.{premises-front, premises-kept, premises-barred, read-section}
 use Rattle.pl_explain.specs.declared.walk.Walk.{Walk}
 use Rattle.pl_explain.specs.Judging.{IsTable}
-use Rattle.pl_explain.specs.Walking.{CanStand, CanStandIn, HasWalked, StandsIn, Finishes, IsTooLong, IsTellingOf}
+use Rattle.pl_explain.specs.Walking.{CanStand, CanStandIn, HasWalked, StandsIn, Finishes, IsPut, IsTooLong, IsWalkTo}
 use Rattle.pl_explain.proofs.Behind.{premises-stand, sessions-held}
 use Rattle.pl_explain.proofs.Standing.{stands-more}
 use Rattle.pl_explain.proofs.Walks.{walk-none, walk-both, walk-tells, walk-more, long-front, long-back, long-first, long-last, deeper, deeper-long}
-
--- ---- results
-
-pub ok-three : {T E P Q R S : Type 0} (r : Result T E) → (P → Q → R → S) → OnOk r P → OnOk r Q → OnOk r R → OnOk r S
-ok-three (Ok x) f p q s = f p q s
-ok-three (Err e) f p q s = tt
-
-pub ok-four : {T E P Q R V S : Type 0} (r : Result T E) → (P → Q → R → V → S) → OnOk r P → OnOk r Q → OnOk r R → OnOk r V → OnOk r S
-ok-four (Ok x) f p q s v = f p q s v
-ok-four (Err e) f p q s v = tt
-
-pub ok-any : {T E P : Type 0} (r : Result T E) → P → OnOk r P
-ok-any (Ok x) p = p
-ok-any (Err e) p = tt
 
 -- what a walk has finished is told
 pub told-now : (w : World) (c : Parts) (t : ℕ) (old new : Walk) (fs : List Fact) → StandsIn w c old → Finishes w c (t + 1) old new fs → has_all new.told fs ≡ true
@@ -167,24 +154,23 @@ own_of w c f = premises (world_of w) (pipeline_of c) (number_in (world_of w) (pi
 module _ (w : World) (c : Parts) (most : ℕ) (f : Fact) (old mid new : Walk) (fresh : has old.told f ≡ false) (first : Finishes w c most old mid (own_of w c f))
     (line : Line) (x : ℤ) (is : line_of line ≡ line_for (world_of w) (pipeline_of c) f) where
   module _ (deep : ℕ) (depth : suc most ≤ deep) where
-    pub put-finished : {T E : Type 0} (r : Result T E) → OnOk r (IsTellingOf f x mid.told new.told) → OnOk r (new.lines.items ≡ mid.lines.items ++ line ∷ []) → OnOk r (Finishes w c deep old new (f ∷ []))
-    put-finished r tells put = ok-three r (λ t p _. deeper w c (suc most) deep old new (f ∷ []) depth (walk-more w c most f old fresh mid new line x t p is first)) tells put put
-
-  pub put-stands : {T E : Type 0} (r : Result T E) → StandsIn w c old → StandsIn w c mid → IsWritable (line_of line) → x ≡ number_in (world_of w) (pipeline_of c) f → IsCell x
-      → is_fitting (world_of w) (pipeline_of c) f ≡ true → new.rows ≡ mid.rows
-      → OnOk r (IsTellingOf f x mid.told new.told) → OnOk r (new.lines.items ≡ mid.lines.items ++ line ∷ []) → OnOk r (length new.lines.items ≤ most_lines) → OnOk r (StandsIn w c new)
-  put-stands r from stands text value cell fits rows tells put few = ok-three r
-      (λ t p l. stands-more w c most f old mid new line x from fresh first stands t p is text (subst (λ (q : Rows). IsTable w c mid.told q) (sym rows) stands.table) value cell fits l) tells put few
+    pub put-walked : {T : Type 0} (r : Result T ExplainError) → StandsIn w c old → StandsIn w c mid → IsWritable (line_of line)
+        → x ≡ number_in (world_of w) (pipeline_of c) f → IsCell x → is_fitting (world_of w) (pipeline_of c) f ≡ true → IsPut f x line mid new r → IsWalkTo w c deep (f ∷ []) old new r
+    put-walked (Ok u) from stands text value cell fits h = record {
+      stands = stands-more w c most f old mid new line x from fresh first stands h.told h.lines is text (subst (λ (q : Rows). IsTable w c mid.told q) (sym h.rows) stands.table) value cell fits h.few;
+      finished = deeper w c (suc most) deep old new (f ∷ []) depth (walk-more w c most f old fresh mid new line x h.told h.lines is first);
+      long = tt;
+    }
+    put-walked (Err e) from stands text value cell fits h = record {
+      stands = tt;
+      finished = tt;
+      long = λ i. deeper-long w c (suc most) deep old (f ∷ []) depth (long-last w c most f old fresh mid first (h.long i));
+    }
 
 -- where there is no room for its premises
 module _ (w : World) (c : Parts) (t a d : ℕ) (old : Walk) (fresh : has old.told (Worth t a (pos d)) ≡ false) where
   pub own-long : IsTooLong w c (t + 1) old (own_of w c (Worth t a (pos d))) → IsTooLong w c (t + 2) old (Worth t a (pos d) ∷ [])
   own-long long = deeper-long w c (suc (t + 1)) (t + 2) old (Worth t a (pos d) ∷ []) (omega arith) (long-first w c (t + 1) (Worth t a (pos d)) old fresh long)
-
--- where there is no room for it
-module _ (w : World) (c : Parts) (most : ℕ) (f : Fact) (old mid : Walk) (fresh : has old.told f ≡ false) (first : Finishes w c most old mid (own_of w c f)) (deep : ℕ) (depth : suc most ≤ deep) where
-  pub put-long : length mid.lines.items ≡ most_lines → IsTooLong w c deep old (f ∷ [])
-  put-long full = deeper-long w c (suc most) deep old (f ∷ []) depth (long-last w c most f old fresh mid first full)
 
 -- ---- premises
 
@@ -217,11 +203,18 @@ module _ (w : World) (c : Parts) (ok : IsChecked (pipeline_of c)) (t : ℕ) (n :
     pub stopped-finished : mask_passes w c n.mask a s ≡ false → Finishes w c (t + 1) old mid own
     stopped-finished barred = subst (λ fs. Finishes w c (t + 1) old mid fs) (sym (premises-barred w c ok t n is a s known there barred)) (walk-both w c (t + 1) old mid mid mask [] first (walk-none w c (t + 1) mid))
 
-    pub passed-finished : mask_passes w c n.mask a s ≡ true → (new : Walk) → Finishes w c (t + 1) mid new (facts_read w c t a s) → Finishes w c (t + 1) old new own
-    passed-finished passed new next = subst (λ fs. Finishes w c (t + 1) old new fs) (sym (premises-kept w c ok t n is a s known there passed)) (walk-both w c (t + 1) old mid new mask (facts_read w c t a s) first next)
-
-    pub passed-long : mask_passes w c n.mask a s ≡ true → IsTooLong w c (t + 1) mid (facts_read w c t a s) → IsTooLong w c (t + 1) old own
-    passed-long passed long = subst (λ fs. IsTooLong w c (t + 1) old fs) (sym (premises-kept w c ok t n is a s known there passed)) (long-back w c (t + 1) old mid mask (facts_read w c t a s) first long)
+    pub passed-walked : mask_passes w c n.mask a s ≡ true → (new : Walk) → {T : Type 0} (r : Result T ExplainError)
+        → IsWalkTo w c (t + 1) (facts_read w c t a s) mid new r → IsWalkTo w c (t + 1) own old new r
+    passed-walked passed new (Ok u) h = record {
+      stands = h.stands;
+      finished = subst (λ fs. Finishes w c (t + 1) old new fs) (sym (premises-kept w c ok t n is a s known there passed)) (walk-both w c (t + 1) old mid new mask (facts_read w c t a s) first h.finished);
+      long = tt;
+    }
+    passed-walked passed new (Err e) h = record {
+      stands = tt;
+      finished = tt;
+      long = λ i. subst (λ fs. IsTooLong w c (t + 1) old fs) (sym (premises-kept w c ok t n is a s known there passed)) (long-back w c (t + 1) old mid mask (facts_read w c t a s) first (h.long i));
+    }
 
 -- what a cross-section reads is told where its row is kept
 pub whole-told : (w : World) (c : Parts) (ok : IsChecked (pipeline_of c)) (t : ℕ) (n : Node) (is : slice_get c.graph t ≡ Some n) → is_section (kind_of n.kind) ≡ true

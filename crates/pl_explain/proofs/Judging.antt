@@ -10,21 +10,21 @@ use Rattle.pl_spec.specs.World.{World as SpecWorld}
 use Rattle.pl_spec.specs.Term.{IsGraph}
 use Rattle.pl_spec.specs.Table.{Pipeline}
 use Rattle.pl_cross.specs.Arrays.{HasTexts}
-use Rattle.pl_lines.specs.Lines.{Line}
-use Rattle.pl_facts.specs.Facts.{Fact, same_fact, number_in, premises}
-use Rattle.pl_facts.specs.Facts.Fact.{Seen, Worth}
-use Rattle.pl_facts.specs.Right.{fact_of, is_told, is_about, is_fitting, is_right, first_wrong}
-use Rattle.pl_facts.specs.Laws.{tells_world}
-use Rattle.pl_facts.proofs.Truths.{same_is, is_same}
-use Rattle.pl_facts.proofs.Standing.{right_is, repeat_is}
+use Rattle.pl_derivation.specs.Lines.{Line}
+use Rattle.pl_derivation.specs.Facts.{Fact, same_fact, number_in, premises}
+use Rattle.pl_derivation.specs.Facts.Fact.{Seen, Worth}
+use Rattle.pl_derivation.specs.Right.{fact_of, is_told, is_about, is_fitting, is_right, first_wrong}
+use Rattle.pl_derivation.specs.Laws.{tells_world}
+use Rattle.pl_derivation.proofs.Truths.{same_is, is_same}
+use Rattle.pl_derivation.proofs.Standing.{right_is, repeat_is}
 use Rattle.pl_terms.specs.Checked.{Parts, pipeline_of}
 use Rattle.pl_world.specs.declared.world.World.{World}
 use Rattle.pl_world.specs.Worlds.{world_of}
-use Rattle.pl_told.specs.declared.told.Told.{Told}
-use Rattle.pl_told.specs.declared.rows.Rows.{Rows}
-use Rattle.pl_told.specs.Looking.{look}
-use Rattle.pl_step.specs.Given.{has, has_all, KeepsRows}
-use Rattle.pl_explain.specs.Judging.{judged_about, judged, IsTable, TellsLine}
+use Rattle.pl_explain.specs.declared.told.Told.{Told}
+use Rattle.pl_explain.specs.declared.rows.Rows.{Rows}
+use Rattle.pl_explain.specs.Looking.{look, IsTellingOf}
+use Rattle.pl_explain.specs.Given.{has, has_all, KeepsRows}
+use Rattle.pl_explain.specs.Judging.{judged_about, judged, IsJudgement, IsTable, TellsLine}
 
 -- ---- judging
 
@@ -72,9 +72,6 @@ same-turned f g = here (same_fact f g) (same_fact g f) refl refl
     here false false e h = refl
     here true false e h = let same : f ≡ g = same_is f g e in absurd (true≢false (sym (is_same g) ∙ ap (same_fact g) (sym same) ∙ h))
     here false true e h = let same : g ≡ f = same_is g f h in absurd (true≢false (sym (is_same f) ∙ ap (same_fact f) (sym same) ∙ e))
-
-abbrev pub IsTellingOf : Fact → ℤ → Told → Told → Type 0
-IsTellingOf f x old new = (g : Fact) → look new g ≡ (if same_fact f g then Some x else look old g)
 
 module _ (f : Fact) (x : ℤ) (old new : Told) (tells : IsTellingOf f x old new) where
   pub has-more : (g : Fact) → has new g ≡ (has old g || same_fact g f)
@@ -127,6 +124,10 @@ module _ (f : Fact) (x : ℤ) (old new : Told) (tells : IsTellingOf f x old new)
           let value : x ≡ y = cc in
           (sym value ∙ is ∙ ap (number_in (world_of w) (pipeline_of c)) same, subst IsCell value cell)
       truth g y false i e = t.truth g y e
+
+-- a line that is not right tells nothing
+pub not-right : (w : World) (c : Parts) (l : Line) (told : Told) (rows : Rows) → IsTable w c told rows → false ≡ judged (world_of w) (pipeline_of c) told l → IsJudgement w c l told told rows false
+not-right w c l told rows table exact = record { exact = exact; table = table; told = λ e. absurd (true≢false (sym e)) }
 
 -- a line on a fact that is told already tells nothing
 pub tells-again : (w : SpecWorld) (told : Told) (l : Line) (f : Fact) → fact_of w l ≡ Some f → has told f ≡ true → TellsLine w told told l

@@ -1,3 +1,11 @@
+mod Keys
+mod Looking
+mod Given
+mod Facts
+mod Entries
+mod Values
+mod Growing
+mod Kept
 mod Passing
 mod Judging
 mod Used

@@ -6,17 +6,17 @@ use Rattle.std.specs.Ordering.{int_eq}
 use Rattle.std.specs.Int.RustNames.{int_lt}
 use Rattle.std.specs.Cmp.Lexicographic.{pointwise}
 use Rattle.std.proofs.lemmas.Int.{ints}
-use Rattle.std.proofs.lemmas.Bool.{and_from}
+use Rattle.std.proofs.lemmas.Bool.{true≢false, and_from}
 use Rattle.pl_spec.specs.declared.Column.{Column}
 use Rattle.pl_spec.specs.World.{World}
 use Rattle.pl_spec.specs.Table.{Pipeline}
 use Rattle.pl_terms.specs.Uses.{is_used}
-use Rattle.pl_lines.specs.Lines.Line.{SeenLine, ValueLine}
-use Rattle.pl_facts.specs.Facts.{number_in, premises}
-use Rattle.pl_facts.specs.Facts.Fact.{Seen, Worth}
-use Rattle.pl_facts.specs.Right.{session_of, fact_of, has_sid, is_fitting, seen_cells, last_cell}
-use Rattle.pl_told.specs.declared.told.Told.{Told}
-use Rattle.pl_step.specs.Given.{has, has_all}
+use Rattle.pl_derivation.specs.Lines.Line.{SeenLine, ValueLine}
+use Rattle.pl_derivation.specs.Facts.{Fact, number_in, premises}
+use Rattle.pl_derivation.specs.Facts.Fact.{Seen, Worth}
+use Rattle.pl_derivation.specs.Right.{session_of, fact_of, has_sid, is_fitting, seen_cells, last_cell}
+use Rattle.pl_explain.specs.declared.told.Told.{Told}
+use Rattle.pl_explain.specs.Given.{has, has_all}
 use Rattle.pl_explain.specs.Judging.{judged_about, judged}
 
 less-not : (s d : ℕ) → d ≤ s → int_lt (pos s) (pos d) ≡ false
@@ -31,6 +31,17 @@ and-no false = refl
 
 module _ (w : World) (p : Pipeline) (told : Told) where
   module _ (c : Column) (sid : ℕ) (bar_day day : ℤ) (cells : List ℤ) where
+    pub bar-unknown : has_sid w sid ≡ false → false ≡ judged w p told (SeenLine c sid bar_day day cells)
+    bar-unknown e = here (session_of w bar_day) (session_of w day)
+      where
+        here : (o q : Option ℕ) → false ≡ judged_about w p told (SeenLine c sid bar_day day cells) (option_and_then (λ s. option_map (λ d. Seen c sid (pos s) (pos d)) q) o)
+        here None q = refl
+        here (Some s) None = refl
+        here (Some s) (Some d) = rw e refl
+
+    pub bar-no-session : session_of w bar_day ≡ None → false ≡ judged w p told (SeenLine c sid bar_day day cells)
+    bar-no-session e = rw e refl
+
     pub bar-no-day : session_of w day ≡ None → false ≡ judged w p told (SeenLine c sid bar_day day cells)
     bar-no-day e = here (session_of w bar_day)
       where
@@ -55,6 +66,26 @@ module _ (w : World) (p : Pipeline) (told : Told) where
           step = rw (known, less-is s d l) refl
 
   module _ (t sid : ℕ) (day v : ℤ) where
+    -- a fact that fits nowhere is not told either
+    value-unfit : ((f : Fact) → has told f ≡ true → is_fitting w p f ≡ true) → (has_sid w sid && is_used p t) ≡ false → false ≡ judged w p told (ValueLine t sid day v)
+    value-unfit fits e = here (session_of w day)
+      where
+        there : (d : ℕ) (b : Bool) → has told (Worth t sid (pos d)) ≡ b
+            → false ≡ (if b then int_eq v (number_in w p (Worth t sid (pos d)))
+            else is_fitting w p (Worth t sid (pos d)) && has_all told (premises w p (number_in w p) (Worth t sid (pos d))) && int_eq v (number_in w p (Worth t sid (pos d))))
+        there d true h = absurd (true≢false (sym (fits (Worth t sid (pos d)) h) ∙ e))
+        there d false h = rw e refl
+
+        here : (o : Option ℕ) → false ≡ judged_about w p told (ValueLine t sid day v) (option_map (λ d. Worth t sid (pos d)) o)
+        here None = refl
+        here (Some d) = there d (has told (Worth t sid (pos d))) refl
+
+    pub value-unknown : ((f : Fact) → has told f ≡ true → is_fitting w p f ≡ true) → has_sid w sid ≡ false → false ≡ judged w p told (ValueLine t sid day v)
+    value-unknown fits e = value-unfit fits (ap (λ b. b && is_used p t) e)
+
+    pub value-unused : ((f : Fact) → has told f ≡ true → is_fitting w p f ≡ true) → is_used p t ≡ false → false ≡ judged w p told (ValueLine t sid day v)
+    value-unused fits e = value-unfit fits (ap (λ b. has_sid w sid && b) e ∙ and-no (has_sid w sid))
+
     pub value-no-day : session_of w day ≡ None → false ≡ judged w p told (ValueLine t sid day v)
     value-no-day e = rw e refl
 

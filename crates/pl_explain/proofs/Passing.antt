@@ -4,8 +4,8 @@ use Rattle.std.proofs.lemmas.List.{take_more, take_all}
 use Rattle.std.proofs.lemmas.Option.{slice_get_within, get_or_from_slice_get}
 use Rattle.pl_spec.specs.World.{World}
 use Rattle.pl_spec.specs.Table.{Pipeline}
-use Rattle.pl_lines.specs.Lines.{Line}
-use Rattle.pl_facts.specs.Right.{is_right, wrong_behind, first_wrong}
+use Rattle.pl_derivation.specs.Lines.{Line}
+use Rattle.pl_derivation.specs.Right.{is_right, wrong_behind, first_wrong}
 
 no-map : (o : Option ℕ) → option_map suc o ≡ None → o ≡ None
 no-map None h = refl

@@ -6,18 +6,18 @@ use Rattle.pl_spec.specs.Rounding.{IsCell}
 use Rattle.pl_terms.specs.Checked.{Parts, pipeline_of}
 use Rattle.pl_world.specs.declared.world.World.{World}
 use Rattle.pl_world.specs.Worlds.{world_of}
-use Rattle.pl_lines.specs.declared.line.Line.{Line}
-use Rattle.pl_lines.specs.Listed.{line_of}
-use Rattle.pl_lines.specs.Texts.{AreWritable, IsWritable}
-use Rattle.pl_facts.specs.Facts.{Fact, number_in, premises}
-use Rattle.pl_facts.specs.Facts.Fact.{Worth}
-use Rattle.pl_facts.specs.Right.{is_fitting}
-use Rattle.pl_facts.specs.Walks.{finish, facts_for, line_for, derivation}
-use Rattle.pl_told.specs.Looking.{look, row_at}
-use Rattle.pl_step.specs.Given.{has}
+use Rattle.pl_derivation.specs.declared.line.Line.{Line}
+use Rattle.pl_derivation.specs.Listed.{line_of}
+use Rattle.pl_derivation.specs.Texts.{AreWritable, IsWritable}
+use Rattle.pl_derivation.specs.Facts.{Fact, number_in, premises}
+use Rattle.pl_derivation.specs.Facts.Fact.{Worth}
+use Rattle.pl_derivation.specs.Right.{is_fitting}
+use Rattle.pl_derivation.specs.Walks.{finish, facts_for, line_for, derivation}
+use Rattle.pl_explain.specs.Looking.{look, row_at, IsTellingOf}
+use Rattle.pl_explain.specs.Given.{has}
 use Rattle.pl_explain.specs.declared.walk.Walk.{Walk}
 use Rattle.pl_explain.specs.Judging.{IsTable}
-use Rattle.pl_explain.specs.Walking.{HasWalked, StandsIn, Finishes, IsTooLong, IsTellingOf}
+use Rattle.pl_explain.specs.Walking.{HasWalked, StandsIn, Finishes, IsTooLong}
 use Rattle.pl_explain.proofs.Judging.{table-more}
 use Rattle.pl_explain.proofs.Walks.{writable-more, walk-more}
 

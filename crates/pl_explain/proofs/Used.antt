@@ -15,8 +15,8 @@ use Rattle.pl_terms.specs.declared.node.Node.{Node}
 use Rattle.pl_terms.specs.Nodes.{graph_of, node_of}
 use Rattle.pl_world.specs.declared.world.World.{World}
 use Rattle.pl_world.specs.Worlds.{world_of}
-use Rattle.pl_facts.specs.Right.{has_sid}
-use Rattle.pl_facts.proofs.Finding.{place_found, is_place}
+use Rattle.pl_derivation.specs.Right.{has_sid}
+use Rattle.pl_derivation.proofs.Finding.{place_found, is_place}
 use Rattle.pl_explain.specs.Judging.{IsPlace}
 
 below : (g : Graph) (n : ℕ) (marks : List ℕ) (t : ℕ) → contains (used_below g n marks) t ≡ true → t < n

@@ -9,17 +9,18 @@ use Rattle.pl_spec.specs.Limits.{most_lines}
 use Rattle.pl_terms.specs.Checked.{Parts, pipeline_of}
 use Rattle.pl_world.specs.declared.world.World.{World}
 use Rattle.pl_world.specs.Worlds.{world_of}
-use Rattle.pl_lines.specs.declared.line.Line.{Line}
-use Rattle.pl_lines.specs.Listed.{line_of}
-use Rattle.pl_lines.specs.Texts.{AreWritable, IsWritable}
-use Rattle.pl_facts.specs.Facts.{Fact, same_fact, number_in, premises}
-use Rattle.pl_facts.specs.Walks.{is_in, finish, line_for}
-use Rattle.pl_facts.proofs.Growing.{grow}
-use Rattle.pl_facts.proofs.Truths.{is_same}
-use Rattle.pl_told.specs.declared.told.Told.{Told}
-use Rattle.pl_step.specs.Given.{has, has_all}
+use Rattle.pl_derivation.specs.declared.line.Line.{Line}
+use Rattle.pl_derivation.specs.Listed.{line_of}
+use Rattle.pl_derivation.specs.Texts.{AreWritable, IsWritable}
+use Rattle.pl_derivation.specs.Facts.{Fact, same_fact, number_in, premises}
+use Rattle.pl_derivation.specs.Walks.{is_in, finish, line_for}
+use Rattle.pl_derivation.proofs.Growing.{grow}
+use Rattle.pl_derivation.proofs.Truths.{is_same}
+use Rattle.pl_explain.specs.declared.told.Told.{Told}
+use Rattle.pl_explain.specs.Looking.{IsTellingOf}
+use Rattle.pl_explain.specs.Given.{has, has_all}
 use Rattle.pl_explain.specs.declared.walk.Walk.{Walk}
-use Rattle.pl_explain.specs.Walking.{HasWalked, StandsIn, Finishes, IsTooLong, IsTellingOf}
+use Rattle.pl_explain.specs.Walking.{HasWalked, StandsIn, Finishes, IsTooLong}
 use Rattle.pl_explain.proofs.Judging.{has-more}
 
 pub writable-more : (ls : List _) (l : _) → AreWritable ls → IsWritable l → AreWritable (ls ++ l ∷ [])

@@ -1,5 +1,5 @@
 -- A line judged by what is told of the facts of the lines before it.
-use Rattle.std.specs.Prelude.{◌≡◌, ℕ, ◌<◌, length, Bool, true, false, ◌&&◌, ◌||◌, if◌then◌else◌, Option, Some, None}
+use Rattle.std.specs.Prelude.{◌≡◌, ℕ, ◌<◌, length, Bool, true, false, ◌&&◌, ◌||◌, if◌then◌else◌, IsTrue, Option, Some, None}
 use Rattle.pl_spec.specs.World as spec
 use Rattle.pl_spec.specs.Parts.{sid_at}
 use Rattle.pl_spec.specs.Table.{Pipeline}
@@ -7,14 +7,14 @@ use Rattle.pl_terms.specs.Checked.{Parts, pipeline_of}
 use Rattle.pl_terms.specs.Uses.{is_used}
 use Rattle.pl_world.specs.declared.world.World.{World}
 use Rattle.pl_world.specs.Worlds.{world_of}
-use Rattle.pl_lines.specs.Lines.{Line}
-use Rattle.pl_facts.specs.Facts.{Fact, number_in, premises}
-use Rattle.pl_facts.specs.Facts.Fact.{Seen, Worth}
-use Rattle.pl_facts.specs.Right.{fact_of, has_sid, is_about, is_fitting}
-use Rattle.pl_facts.specs.Laws.{tells_world}
-use Rattle.pl_told.specs.declared.told.Told.{Told}
-use Rattle.pl_told.specs.declared.rows.Rows.{Rows}
-use Rattle.pl_step.specs.Given.{has, has_all, TellsTruth, KeepsRows}
+use Rattle.pl_derivation.specs.Lines.{Line}
+use Rattle.pl_derivation.specs.Facts.{Fact, number_in, premises}
+use Rattle.pl_derivation.specs.Facts.Fact.{Seen, Worth}
+use Rattle.pl_derivation.specs.Right.{fact_of, has_sid, is_about, is_fitting}
+use Rattle.pl_derivation.specs.Laws.{tells_world}
+use Rattle.pl_explain.specs.declared.told.Told.{Told}
+use Rattle.pl_explain.specs.declared.rows.Rows.{Rows}
+use Rattle.pl_explain.specs.Given.{has, has_all, TellsTruth, KeepsRows}
 
 -- a value of which something is told already
 abbrev pub is_repeat : Told → Fact → Bool
@@ -40,6 +40,13 @@ pub record IsTable (w : World) (c : Parts) (told : Told) (rows : Rows) : Type 0 
 -- the fact of the line is told besides those before
 abbrev pub TellsLine : spec.World → Told → Told → Line → Type 0
 TellsLine w old new l = (f : Fact) → has new f ≡ (has old f || is_about w f l)
+
+-- What is left of a line that was judged: whether it is right, what is told then, and that its fact is told
+-- where it is right.
+pub record IsJudgement (w : World) (c : Parts) (l : Line) (old new : Told) (rows : Rows) (right : Bool) : Type 0 where
+  pub exact : right ≡ judged (world_of w) (pipeline_of c) old l
+  pub table : IsTable w c new rows
+  pub told : IsTrue right → TellsLine (world_of w) old new l
 
 -- the sid is that of the column
 pub record IsPlace (w : World) (sid col : ℕ) : Type 0 where

@@ -1,4 +1,8 @@
--- What the contracts cite.
+-- What the contracts cite: the keys of facts and what is found by them, what is given where facts are told,
+-- lines judged by it, and walks.
+pub mod Keys
+pub mod Looking
+pub mod Given
 pub mod Judging
 pub mod Reading
 pub mod Walking

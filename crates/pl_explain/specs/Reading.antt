@@ -2,9 +2,9 @@
 use Rattle.std.specs.Prelude.{◌≡◌, ℕ, ◌+◌, ◌≤◌, List, ◌++◌, map, Option, Some, None}
 use Rattle.pl_terms.specs.declared.node.Input.{Input}
 use Rattle.pl_terms.specs.declared.node.Input.TheVariants as input
-use Rattle.pl_facts.specs.Facts as spec
-use Rattle.pl_told.specs.declared.fact.Fact.{Fact}
-use Rattle.pl_told.specs.Keys.{fact_of}
+use Rattle.pl_derivation.specs.Facts as spec
+use Rattle.pl_explain.specs.declared.fact.Fact.{Fact}
+use Rattle.pl_explain.specs.Keys.{fact_of}
 
 -- after the old facts stand these
 abbrev pub ArePut : List Fact → List Fact → List spec.Fact → Type 0

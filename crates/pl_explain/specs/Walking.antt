@@ -1,5 +1,5 @@
 -- A walk through the premises of facts, and the lines that it has put down.
-use Rattle.std.specs.Prelude.{◌≡◌, ℕ, ◌<◌, ◌≤◌, true, if◌then◌else◌, ℤ, pos, ◌≤ℤ◌, List, length, map, fold, Some}
+use Rattle.std.specs.Prelude.{◌≡◌, ℕ, ◌<◌, ◌≤◌, true, ℤ, pos, ◌≤ℤ◌, List, [], ◌∷◌, ◌++◌, length, map, fold, Some, Result, OnOk, IfErr}
 use Rattle.pl_spec.specs.Limits.{most_lines}
 use Rattle.pl_spec.specs.World as spec
 use Rattle.pl_spec.specs.World.{day_of}
@@ -8,15 +8,17 @@ use Rattle.pl_spec.specs.Graph.{reach}
 use Rattle.pl_terms.specs.Checked.{Parts, pipeline_of}
 use Rattle.pl_world.specs.declared.world.World.{World}
 use Rattle.pl_world.specs.Worlds.{world_of}
-use Rattle.pl_lines.specs.Listed.{line_of}
-use Rattle.pl_lines.specs.Texts.{AreWritable}
-use Rattle.pl_facts.specs.Facts.{Fact, same_fact}
-use Rattle.pl_facts.specs.Facts.Fact.{Seen, Worth}
-use Rattle.pl_facts.specs.Right.{is_fitting}
-use Rattle.pl_facts.specs.Walks.{is_in, finish, line_for, depth_of}
-use Rattle.pl_told.specs.declared.told.Told.{Told}
-use Rattle.pl_told.specs.Looking.{look}
-use Rattle.pl_step.specs.Given.{has}
+use Rattle.pl_derivation.specs.declared.error.ExplainError.{ExplainError}
+use Rattle.pl_derivation.specs.declared.error.ExplainError.TheVariants.{TooLong}
+use Rattle.pl_derivation.specs.declared.line.Line.{Line}
+use Rattle.pl_derivation.specs.Listed.{line_of}
+use Rattle.pl_derivation.specs.Texts.{AreWritable}
+use Rattle.pl_derivation.specs.Facts.{Fact}
+use Rattle.pl_derivation.specs.Facts.Fact.{Seen, Worth}
+use Rattle.pl_derivation.specs.Right.{is_fitting}
+use Rattle.pl_derivation.specs.Walks.{is_in, finish, line_for, depth_of}
+use Rattle.pl_explain.specs.Looking.{IsTellingOf}
+use Rattle.pl_explain.specs.Given.{has}
 use Rattle.pl_explain.specs.Judging.{IsTable}
 use Rattle.pl_explain.specs.declared.walk.Walk.{Walk}
 
@@ -57,6 +59,18 @@ abbrev pub IsTooLong : World → Parts → ℕ → Walk → List Fact → Type 0
 IsTooLong w c most old fs =
     (facts : List Fact) → HasWalked w c old facts → (depth : ℕ) → most ≤ depth → most_lines < length (fold (finish (world_of w) (pipeline_of c) depth) facts fs)
 
--- the number of a fact is told besides those before
-abbrev pub IsTellingOf : Fact → ℤ → Told → Told → Type 0
-IsTellingOf f x old new = (g : Fact) → look new g ≡ (if same_fact f g then Some x else look old g)
+-- What a walk to some facts leaves, which are at most so deep: with Ok it stands and has finished them, and
+-- TooLong says that they take it past the most lines.
+pub record IsWalkTo {T : Type 0} (w : World) (c : Parts) (most : ℕ) (fs : List Fact) (old new : Walk) (result : Result T ExplainError) : Type 0 where
+  pub stands : OnOk result (StandsIn w c new)
+  pub finished : OnOk result (Finishes w c most old new fs)
+  pub long : IfErr result (λ e. e ≡ TooLong → IsTooLong w c most old fs)
+
+-- What is left where a fact with its number and its line is put: it is told, the line comes after the others,
+-- and the rows stay. TooLong says that there were the most lines already.
+pub record IsPut {T : Type 0} (f : Fact) (x : ℤ) (line : Line) (old new : Walk) (result : Result T ExplainError) : Type 0 where
+  pub told : OnOk result (IsTellingOf f x old.told new.told)
+  pub lines : OnOk result (new.lines.items ≡ old.lines.items ++ line ∷ [])
+  pub few : OnOk result (length new.lines.items ≤ most_lines)
+  pub rows : new.rows ≡ old.rows
+  pub long : IfErr result (λ e. e ≡ TooLong → length old.lines.items ≡ most_lines)

@@ -1,24 +1,27 @@
 //! Checking a derivation.
-ghost use Rattle.std.specs.Prelude.{◌≡◌, ◌<◌, All, IfNone, IfOk, IfSome, IsTrue, None, OnOk, Some, false, length, slice_get};
+ghost use Rattle.std.specs.Prelude.{◌≡◌, ◌<◌, All, IfNone, IfOk, IfSome, None, Some, false, length, slice_get};
 ghost use Rattle.std.specs.Ordering.{int_eq};
 ghost use Rattle.std.specs.Cmp.Lexicographic.{pointwise};
 ghost use Rattle.pl_spec.specs.Rounding.{IsCell};
-ghost use Rattle.pl_facts.specs.Laws.{IsTrueLine};
-ghost use Rattle.pl_facts.specs.Right as spec;
-ghost use Rattle.pl_facts.specs.Right.{has_sid};
+ghost use Rattle.pl_derivation.specs.Laws.{IsTrueLine};
+ghost use Rattle.pl_derivation.specs.Right as spec;
+ghost use Rattle.pl_derivation.specs.Right.{has_sid};
 ghost use Rattle.pl_terms.specs.Uses.{is_used};
-ghost use Rattle.pl_lines.specs.Lines.Line.{SeenLine, ValueLine};
-ghost use Rattle.pl_lines.specs.Listed.{line_of};
-ghost use Rattle.pl_lines.specs.Texts.{IsWritable};
+ghost use Rattle.pl_derivation.specs.Lines.Line.{SeenLine, ValueLine};
+ghost use Rattle.pl_derivation.specs.Listed.{line_of};
+ghost use Rattle.pl_derivation.specs.Texts.{IsWritable};
 ghost use Rattle.pl_world.specs.Worlds.{world_of, IsMade};
 ghost use Rattle.pl_terms.specs.Checked.{pipeline_of};
-ghost use Rattle.pl_explain.specs.Judging.{IsPlace, IsTable, IsUsedTerm, TellsLine, judged};
+ghost use Rattle.pl_explain.specs.Judging.{IsJudgement, IsPlace, IsTable, IsUsedTerm};
 
+use crate::bars::seen_cells;
+use crate::fact::Fact;
+use crate::rows::Rows;
+use crate::told::Told;
+use crate::value::value_told;
+use pl_derivation::{Derivation, Line};
 use pl_fixed::{Column, MISSING, Memory, Steps};
-use pl_lines::{Derivation, Line};
-use pl_step::{seen_cells, value_told};
 use pl_terms::{Checked, TermId};
-use pl_told::{Fact, Rows, Told};
 use pl_world::World;
 use std::alloc::Global;
 use std::sync::ledger::Ledger;
@@ -68,11 +71,8 @@ fn is_right<L: Ledger>(
     requires made { IsMade world.now }
     requires table { IsTable world.now checked.now told.old rows.old }
     requires writable { IsWritable (line_of line.now) }
-    ensures exact { IfOk result (λ r. r
-        ≡ judged (world_of world.now) (pipeline_of checked.now) told.old (line_of line.now)) }
-    ensures table { OnOk result (IsTable world.now checked.now told.new rows.new) }
-    ensures told { IfOk result (λ r. IsTrue r
-        → TellsLine (world_of world.now) told.old told.new (line_of line.now)) }
+    ensures { IfOk result
+        (IsJudgement world.now checked.now (line_of line.now) told.old told.new rows.new) }
 {
     match line {
         Line::Seen {
@@ -112,11 +112,8 @@ fn is_right_bar<L: Ledger>(
 ) -> Result<bool, Memory>
     requires made { IsMade world.now }
     requires table { IsTable world.now checked.now told.old rows.now }
-    ensures exact { IfOk result (λ r. r ≡ judged (world_of world.now) (pipeline_of checked.now) told.old
-        (SeenLine column sid bar_day day cells.now)) }
-    ensures table { OnOk result (IsTable world.now checked.now told.new rows.now) }
-    ensures told { IfOk result (λ r. IsTrue r
-        → TellsLine (world_of world.now) told.old told.new (SeenLine column sid bar_day day cells.now)) }
+    ensures { IfOk result (IsJudgement world.now checked.now (SeenLine column sid bar_day day cells.now)
+        told.old told.new rows.now) }
 {
     let _sessions = world.sessions.len();
     let Some(col) = col_of(world, sid) else {
@@ -160,11 +157,8 @@ fn is_right_value(
     requires made { IsMade world.now }
     requires table { IsTable world.now checked.now told.old rows.old }
     requires cell { IsCell value }
-    ensures exact { IfOk result (λ r. r ≡ judged (world_of world.now) (pipeline_of checked.now) told.old
-        (ValueLine term sid day value)) }
-    ensures table { OnOk result (IsTable world.now checked.now told.new rows.new) }
-    ensures told { IfOk result (λ r. IsTrue r
-        → TellsLine (world_of world.now) told.old told.new (ValueLine term sid day value)) }
+    ensures { IfOk result (IsJudgement world.now checked.now (ValueLine term sid day value)
+        told.old told.new rows.new) }
 {
     let _sessions = world.sessions.len();
     let Some(col) = col_of(world, sid) else {

@@ -2,11 +2,20 @@
 //! needs.
 #![tactic(auto)]
 
+mod bars;
+mod fact;
+mod inputs;
 mod judge;
 mod reads;
+mod rows;
+mod sections;
+mod told;
+mod value;
 mod walk;
 
 pub use judge::first_wrong;
-pub use pl_lines::{CellList, Derivation, ExplainError, Line, LinesError, print_lines, read_lines};
+pub use pl_derivation::{
+    CellList, Derivation, ExplainError, Line, LinesError, print_lines, read_lines,
+};
 pub use pl_planner::reach_at;
 pub use walk::explain_cell;

@@ -1,5 +1,5 @@
 //! The derivation of a value.
-ghost use Rattle.std.specs.Prelude.{◌≡◌, ◌<◌, ◌≤◌, ◌≤ℤ◌, ◌∷◌, [], ◌++◌, ◌+◌, IfErr, IfOk, IsTrue, OnOk, false, length, map, pos, true};
+ghost use Rattle.std.specs.Prelude.{◌≡◌, ◌<◌, ◌≤◌, ◌≤ℤ◌, ◌∷◌, [], ◌+◌, IfErr, IfOk, IsTrue, OnOk, false, length, map, pos, true};
 ghost use Rattle.pl_spec.specs.Limits.{most_lines};
 ghost use Rattle.pl_spec.specs.Graph.{reach};
 ghost use Rattle.pl_spec.specs.Parts.{sid_at};
@@ -7,29 +7,33 @@ ghost use Rattle.pl_spec.specs.Rounding.{IsCell};
 ghost use Rattle.pl_spec.specs.Term.{term_at};
 ghost use Rattle.pl_spec.specs.World.{exists};
 ghost use Rattle.pl_cross.specs.Section.{is_section};
-ghost use Rattle.pl_facts.specs.Facts.{number_in, premises};
-ghost use Rattle.pl_facts.specs.Facts.Fact.{Seen, Worth};
-ghost use Rattle.pl_facts.specs.Laws.{IsDerivation};
-ghost use Rattle.pl_facts.specs.Walks.{depth_of, derivation, facts_for};
+ghost use Rattle.pl_derivation.specs.Facts.{number_in, premises};
+ghost use Rattle.pl_derivation.specs.Facts.Fact.{Seen, Worth};
+ghost use Rattle.pl_derivation.specs.Laws.{IsDerivation};
+ghost use Rattle.pl_derivation.specs.Walks.{depth_of, derivation, facts_for};
 ghost use Rattle.pl_spec.proofs.Each.{Each};
-ghost use Rattle.pl_lines.specs.Listed.{line_of};
+ghost use Rattle.pl_derivation.specs.Listed.{line_of};
 ghost use Rattle.pl_world.specs.Worlds.{world_of, IsMade};
 ghost use Rattle.pl_world.specs.Evaluations.{cell_in, HasKind};
 ghost use Rattle.pl_terms.specs.Checked.{pipeline_of};
 ghost use Rattle.pl_terms.specs.Nodes.{graph_of};
 ghost use Rattle.pl_terms.specs.Uses.{is_used};
-ghost use Rattle.pl_step.specs.Given.{facts_read, has, has_all, HasRow, KeepsRows};
-ghost use Rattle.pl_told.specs.Keys.{fact_of};
-ghost use Rattle.pl_lines.specs.declared.error.ExplainError.TheVariants.{TooLong};
-ghost use Rattle.pl_explain.specs.Walking.{CanStand, CanStandIn, Finishes, IsTellingOf, IsTooLong, StandsIn};
+ghost use Rattle.pl_explain.specs.Given.{facts_read, has, has_all, HasRow, KeepsRows};
+ghost use Rattle.pl_explain.specs.Keys.{fact_of};
+ghost use Rattle.pl_derivation.specs.declared.error.ExplainError.TheVariants.{TooLong};
+ghost use Rattle.pl_explain.specs.Walking.{CanStand, CanStandIn, IsPut, IsWalkTo, StandsIn};
 
+use crate::bars::seen_cells;
+use crate::fact::Fact;
+use crate::inputs::mask_told;
 use crate::judge::{col_of, last_of};
 use crate::reads::{facts_read, mask_read};
+use crate::rows::Rows;
+use crate::told::Told;
+use crate::value::value_told;
+use pl_derivation::{CellList, Derivation, ExplainError, Line, MOST_LINES};
 use pl_fixed::{Column, Memory, Steps};
-use pl_lines::{CellList, Derivation, ExplainError, Line, MOST_LINES};
-use pl_step::{mask_told, seen_cells, value_told};
 use pl_terms::{Checked, TermId};
-use pl_told::{Fact, Rows, Told};
 use pl_values::{Family, family_of};
 use pl_world::laws::parts_make_a_world;
 use pl_world::{World, exists};
@@ -103,11 +107,8 @@ fn finish<L: Ledger>(
     requires made { IsMade world.now }
     requires stands { StandsIn world.now checked.now walk.old }
     requires fact { CanStand world.now checked.now (fact_of fact) }
-    ensures stands { OnOk result (StandsIn world.now checked.now walk.new) }
-    ensures finished { OnOk result (Finishes world.now checked.now (depth_of (fact_of fact))
-        walk.old walk.new (fact_of fact ∷ [])) }
-    ensures long { IfErr result (λ e. e ≡ TooLong → IsTooLong world.now checked.now
-        (depth_of (fact_of fact)) walk.old (fact_of fact ∷ [])) }
+    ensures { IsWalkTo world.now checked.now (depth_of (fact_of fact)) (fact_of fact ∷ [])
+        walk.old walk.new result }
 {
     if walk.told.number(fact).is_some() {
         return Ok(());
@@ -141,11 +142,7 @@ fn finish_all<L: Ledger>(
     requires made { IsMade world.now }
     requires stands { StandsIn world.now checked.now walk.old }
     requires facts { Each (CanStandIn world.now checked.now (t.0 + 1)) (map fact_of facts.now) }
-    ensures stands { OnOk result (StandsIn world.now checked.now walk.new) }
-    ensures finished { OnOk result (Finishes world.now checked.now (t.0 + 1) walk.old walk.new
-        (map fact_of facts.now)) }
-    ensures long { IfErr result (λ e. e ≡ TooLong → IsTooLong world.now checked.now (t.0 + 1)
-        walk.old (map fact_of facts.now)) }
+    ensures { IsWalkTo world.now checked.now (t.0 + 1) (map fact_of facts.now) walk.old walk.new result }
 {
     for fact in facts {
         finish(alloc, world, checked, walk, *fact, steps)?;
@@ -169,11 +166,8 @@ fn finish_value<L: Ledger>(
     requires stands { StandsIn world.now checked.now walk.old }
     requires fact { CanStand world.now checked.now (Worth term sid (pos session)) }
     requires fresh { has walk.old.told (Worth term sid (pos session)) ≡ false }
-    ensures stands { OnOk result (StandsIn world.now checked.now walk.new) }
-    ensures finished { OnOk result (Finishes world.now checked.now (term + 2) walk.old walk.new
-        (Worth term sid (pos session) ∷ [])) }
-    ensures long { IfErr result (λ e. e ≡ TooLong → IsTooLong world.now checked.now (term + 2)
-        walk.old (Worth term sid (pos session) ∷ [])) }
+    ensures { IsWalkTo world.now checked.now (term + 2) (Worth term sid (pos session) ∷ [])
+        walk.old walk.new result }
 {
     let _terms = checked.graph();
     let Some(col) = col_of(world, sid) else {
@@ -209,15 +203,10 @@ fn finish_premises<L: Ledger>(
     requires session { session < length world.now.sessions.now }
     requires fact { CanStand world.now checked.now
         (Worth t.0 (sid_at world.now.assets.now col) (pos session)) }
-    ensures stands { OnOk result (StandsIn world.now checked.now walk.new) }
-    ensures finished { OnOk result (Finishes world.now checked.now (t.0 + 1) walk.old walk.new
+    ensures { IsWalkTo world.now checked.now (t.0 + 1)
         (premises (world_of world.now) (pipeline_of checked.now)
         (number_in (world_of world.now) (pipeline_of checked.now))
-        (Worth t.0 (sid_at world.now.assets.now col) (pos session)))) }
-    ensures long { IfErr result (λ e. e ≡ TooLong → IsTooLong world.now checked.now (t.0 + 1) walk.old
-        (premises (world_of world.now) (pipeline_of checked.now)
-        (number_in (world_of world.now) (pipeline_of checked.now))
-        (Worth t.0 (sid_at world.now.assets.now col) (pos session)))) }
+        (Worth t.0 (sid_at world.now.assets.now col) (pos session))) walk.old walk.new result }
 {
     let _rows = world.labels.len();
     let node = checked.graph().node(t);
@@ -228,7 +217,8 @@ fn finish_premises<L: Ledger>(
     finish_all(alloc, world, checked, walk, t, &mask, steps)?;
     match mask_told(world, checked, &walk.told, node.mask, col, session) {
         Some(true) => finish_kind(alloc, world, checked, walk, t, col, session, steps),
-        _ => Ok(()),
+        Some(false) => Ok(()),
+        None => unreachable!(),
     }
 }
 
@@ -252,11 +242,9 @@ fn finish_kind<L: Ledger>(
         (Worth t.0 (sid_at world.now.assets.now col) (pos session)) }
     requires facts { Each (CanStandIn world.now checked.now (t.0 + 1))
         (facts_read world.now checked.now t.0 (sid_at world.now.assets.now col) session) }
-    ensures stands { OnOk result (StandsIn world.now checked.now walk.new) }
-    ensures finished { OnOk result (Finishes world.now checked.now (t.0 + 1) walk.old walk.new
-        (facts_read world.now checked.now t.0 (sid_at world.now.assets.now col) session)) }
-    ensures long { IfErr result (λ e. e ≡ TooLong → IsTooLong world.now checked.now (t.0 + 1) walk.old
-        (facts_read world.now checked.now t.0 (sid_at world.now.assets.now col) session)) }
+    ensures { IsWalkTo world.now checked.now (t.0 + 1)
+        (facts_read world.now checked.now t.0 (sid_at world.now.assets.now col) session)
+        walk.old walk.new result }
 {
     let _sessions = world.sessions.len();
     let _terms = checked.graph();
@@ -339,11 +327,8 @@ fn finish_bar<L: Ledger>(
     requires stands { StandsIn world.now checked.now walk.old }
     requires fact { CanStand world.now checked.now (Seen column sid (pos bar) (pos session)) }
     requires fresh { has walk.old.told (Seen column sid (pos bar) (pos session)) ≡ false }
-    ensures stands { OnOk result (StandsIn world.now checked.now walk.new) }
-    ensures finished { OnOk result (Finishes world.now checked.now 1 walk.old walk.new
-        (Seen column sid (pos bar) (pos session) ∷ [])) }
-    ensures long { IfErr result (λ e. e ≡ TooLong → IsTooLong world.now checked.now 1 walk.old
-        (Seen column sid (pos bar) (pos session) ∷ [])) }
+    ensures { IsWalkTo world.now checked.now 1 (Seen column sid (pos bar) (pos session) ∷ [])
+        walk.old walk.new result }
 {
     let Some(col) = col_of(world, sid) else {
         unreachable!();
@@ -377,11 +362,7 @@ fn finish_bar<L: Ledger>(
 // Puts a fact and its line after those that are finished.
 fn put(walk: &mut Walk, fact: Fact, number: i64, line: Line) -> Result<(), ExplainError>
     requires few { length walk.old.lines.items ≤ most_lines }
-    ensures lines { OnOk result (walk.new.lines.items ≡ walk.old.lines.items ++ line ∷ []) }
-    ensures few { OnOk result (length walk.new.lines.items ≤ most_lines) }
-    ensures told { OnOk result (IsTellingOf (fact_of fact) number walk.old.told walk.new.told) }
-    ensures rows { walk.new.rows ≡ walk.old.rows }
-    ensures long { IfErr result (λ e. e ≡ TooLong → length walk.old.lines.items ≡ most_lines) }
+    ensures { IsPut (fact_of fact) number line walk.old walk.new result }
 {
     if walk.lines.len() == MOST_LINES {
         return Err(ExplainError::TooLong);

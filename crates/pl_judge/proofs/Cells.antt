@@ -16,8 +16,8 @@ use Rattle.pl_spec.specs.Graph.{contains}
 use Rattle.pl_spec.specs.Graph.Used.{output}
 use Rattle.pl_spec.specs.Table.{Pipeline, NamedColumn}
 use Rattle.pl_spec.specs.World.{World}
-use Rattle.pl_facts.specs.Facts.Fact.{Worth}
-use Rattle.pl_facts.specs.Walks.{facts_for}
+use Rattle.pl_derivation.specs.Facts.Fact.{Worth}
+use Rattle.pl_derivation.specs.Walks.{facts_for}
 use Rattle.pl_laws.proofs.Uses.{used_terms-complete}
 use Rattle.pl_terms.specs.declared.node.TermId.{TermId}
 use Rattle.pl_terms.specs.declared.checked.NamedColumn as code

@@ -8,8 +8,8 @@ use Rattle.pl_spec.specs.Term.{term_at}
 use Rattle.pl_spec.specs.Table.{Pipeline}
 use Rattle.pl_spec.specs.World.{World}
 use Rattle.pl_lifetimes.specs.Assets.{sid_of}
-use Rattle.pl_facts.specs.Facts.Fact.{Worth}
-use Rattle.pl_facts.specs.Walks.{facts_for}
+use Rattle.pl_derivation.specs.Facts.Fact.{Worth}
+use Rattle.pl_derivation.specs.Walks.{facts_for}
 use Rattle.pl_words.specs.declared.request.RangeDate.TheVariants.{At}
 use Rattle.pl_words.specs.Request.{ExplainRequest}
 use Rattle.pl_judge.specs.declared.fault.Fault.TheVariants.{NotSession, UnknownSid, UnknownColumn, TooEarly, Passed}

@@ -20,8 +20,8 @@ use Rattle.pl_adjust.specs.Tables.{adjustments_in}
 use Rattle.pl_adjust.specs.Revised.{revised_by}
 use Rattle.pl_revisions.specs.declared.Revision.{Revision}
 use Rattle.pl_revisions.specs.Revisions.{revisions_of}
-use Rattle.pl_lines.specs.Lines.{Line}
-use Rattle.pl_lines.specs.Texts.{lines_in}
+use Rattle.pl_derivation.specs.Lines.{Line}
+use Rattle.pl_derivation.specs.Texts.{lines_in}
 use Rattle.pl_syntax.specs.Spells.{Parsed}
 use Rattle.pl_syntax.specs.Said.{Said, Spelled, Faulty, said}
 use Rattle.pl_check.specs.Typed.{typed}

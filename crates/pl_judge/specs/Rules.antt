@@ -9,12 +9,12 @@ use Rattle.pl_bars.specs.Bars as bars
 use Rattle.pl_adjust.specs.Walk as rows
 use Rattle.pl_revisions.specs.Revisions as revisions
 use Rattle.pl_payouts.specs.Payouts as payouts
-use Rattle.pl_lines.specs.Texts.{Broken}
-use Rattle.pl_lines.specs.Texts.Broken.{BadLine as UnreadLine, TooMany as ManyLines}
-use Rattle.pl_lines.specs.declared.read.LinesError.{LinesError}
-use Rattle.pl_lines.specs.declared.read.LinesError.TheVariants as lines_errors
-use Rattle.pl_lines.specs.declared.error.ExplainError.{ExplainError}
-use Rattle.pl_lines.specs.declared.error.ExplainError.TheVariants as explain_errors
+use Rattle.pl_derivation.specs.Texts.{Broken}
+use Rattle.pl_derivation.specs.Texts.Broken.{BadLine as UnreadLine, TooMany as ManyLines}
+use Rattle.pl_derivation.specs.declared.read.LinesError.{LinesError}
+use Rattle.pl_derivation.specs.declared.read.LinesError.TheVariants as lines_errors
+use Rattle.pl_derivation.specs.declared.error.ExplainError.{ExplainError}
+use Rattle.pl_derivation.specs.declared.error.ExplainError.TheVariants as explain_errors
 use Rattle.pl_grammar.specs.Faults as syntax
 use Rattle.pl_grammar.specs.declared.Place.{Place}
 use Rattle.pl_syntax.specs.declared.error.SyntaxError.{SyntaxError}

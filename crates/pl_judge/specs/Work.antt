@@ -11,8 +11,8 @@ use Rattle.pl_bars.specs.Bars.{bars_of}
 use Rattle.pl_payouts.specs.Payouts.{payouts_of}
 use Rattle.pl_adjust.specs.Walk as rows
 use Rattle.pl_revisions.specs.Revisions.{revisions_of}
-use Rattle.pl_lines.specs.Lines.{Line}
-use Rattle.pl_lines.specs.Texts.{Broken as BrokenLines, lines_in}
+use Rattle.pl_derivation.specs.Lines.{Line}
+use Rattle.pl_derivation.specs.Texts.{Broken as BrokenLines, lines_in}
 use Rattle.pl_syntax.specs.Spells.{Parsed}
 use Rattle.pl_syntax.specs.Said.{Said, Spelled, Faulty, said}
 use Rattle.pl_check.specs.Faults.{Broken}

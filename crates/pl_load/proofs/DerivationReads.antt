@@ -1,9 +1,9 @@
 -- The errors of the reader of derivations.
 use Rattle.std.proofs.Common.{◌≡◌, ◌⊎◌, inl, inr, ℕ, List, Some, refl}
-use Rattle.pl_lines.specs.Texts.{lines_in}
-use Rattle.pl_lines.specs.Reading.{IsLinesFault}
-use Rattle.pl_lines.specs.declared.read.LinesError.{LinesError}
-use Rattle.pl_lines.specs.declared.read.LinesError.TheVariants as errors
+use Rattle.pl_derivation.specs.Texts.{lines_in}
+use Rattle.pl_derivation.specs.Reading.{IsLinesFault}
+use Rattle.pl_derivation.specs.declared.read.LinesError.{LinesError}
+use Rattle.pl_derivation.specs.declared.read.LinesError.TheVariants as errors
 use Rattle.pl_judge.specs.declared.fault.Fault.{Fault}
 use Rattle.pl_judge.specs.declared.fault.Fault.TheVariants.{Memory}
 use Rattle.pl_judge.specs.Rules.{lines_error}

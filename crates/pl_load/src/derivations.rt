@@ -7,8 +7,8 @@ ghost use Rattle.pl_load.specs.Derived.{IsDerivationLoad};
 
 use crate::inputs::{read_checked, read_derivation};
 use crate::loading::read_world;
+use pl_derivation::Derivation;
 use pl_judge::Fault;
-use pl_lines::Derivation;
 use pl_outside::{AdjustKeeper, Shelf};
 use pl_terms::Checked;
 use pl_words::VerifyRequest;

@@ -2,9 +2,9 @@ use Rattle.std.proofs.Common.{◌≤◌, ◌∙◌, take, length, ap, sym, arith
 use Rattle.pl_terms.specs.Checked.{pipeline_of}
 use Rattle.pl_cross.specs.Arrays.{HasTexts}
 use Rattle.pl_values.proofs.Texts.{texts-coded}
-use Rattle.pl_facts.specs.Right.{is_told}
-use Rattle.pl_facts.proofs.Truths.{sound}
-use Rattle.pl_lines.specs.Listed.{line_of}
+use Rattle.pl_derivation.specs.Right.{is_told}
+use Rattle.pl_derivation.proofs.Truths.{sound}
+use Rattle.pl_derivation.specs.Listed.{line_of}
 use Rattle.pl_world.specs.Worlds.{world_of}
 use Rattle.pl_explain.proofs.Passing.{pass, stop, whole, taken-more}
 use Rattle.pl_explain.proofs.Judging.{judged-right, told-behind}

@@ -1,9 +1,9 @@
 use Rattle.std.proofs.Common.{◌≡◌, take, None}
 use Rattle.pl_terms.specs.Checked.{pipeline_of}
-use Rattle.pl_facts.specs.Facts.{Fact}
-use Rattle.pl_facts.specs.Right.{first_wrong, is_told}
+use Rattle.pl_derivation.specs.Facts.{Fact}
+use Rattle.pl_derivation.specs.Right.{first_wrong, is_told}
 use Rattle.pl_world.specs.Worlds.{world_of}
-use Rattle.pl_step.specs.Given.{has}
+use Rattle.pl_explain.specs.Given.{has}
 use Rattle.pl_explain.specs.Judging.{IsTable}
 use Rattle.pl_explain.proofs.judge.first_wrong.Given as goal
 

@@ -5,7 +5,7 @@ use Rattle.pl_terms.specs.Kinds.{kind_of}
 use Rattle.pl_terms.specs.Sorts.{is_windowed}
 use Rattle.pl_terms.specs.Nodes.{node_of}
 use Rattle.pl_values.specs.Families.{IsOf}
-use Rattle.pl_facts.specs.Facts.{over_inputs, window_facts}
+use Rattle.pl_derivation.specs.Facts.{over_inputs, window_facts}
 use Rattle.pl_world.proofs.Asked.{first-asked, second-asked, third-asked}
 use Rattle.pl_world.proofs.Evaluated.{sid-of}
 use Rattle.pl_explain.proofs.Behind.{roomy, windows-read}

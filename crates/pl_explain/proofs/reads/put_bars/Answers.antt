@@ -1,9 +1,9 @@
 use Rattle.std.proofs.Common.{◌≡◌, ◌-◌, ◌++◌, ◌∷◌, [], pos, Some, arith, rules}
 use Rattle.pl_spec.specs.Term.Input.{BarColumn}
-use Rattle.pl_facts.specs.Facts.{window_facts}
-use Rattle.pl_facts.specs.Facts.Fact.{Seen}
-use Rattle.pl_step.proofs.Facts.{bars-run}
-use Rattle.pl_told.specs.declared.fact.Fact.TheVariants as code
+use Rattle.pl_derivation.specs.Facts.{window_facts}
+use Rattle.pl_derivation.specs.Facts.Fact.{Seen}
+use Rattle.pl_explain.proofs.Facts.{bars-run}
+use Rattle.pl_explain.specs.declared.fact.Fact.TheVariants as code
 use Rattle.pl_explain.proofs.Behind.{put-one, run-more, run-all}
 use Rattle.pl_explain.proofs.reads.put_bars.Goals as goal
 

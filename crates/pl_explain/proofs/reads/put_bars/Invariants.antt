@@ -1,7 +1,7 @@
 use Rattle.std.proofs.Common.{◌≡◌, ◌-◌, ◌≤◌, ◌++◌, map, pos}
 use Rattle.std.specs.List.{range_with_len}
-use Rattle.pl_facts.specs.Facts.Fact.{Seen}
-use Rattle.pl_told.specs.Keys.{fact_of}
+use Rattle.pl_derivation.specs.Facts.Fact.{Seen}
+use Rattle.pl_explain.specs.Keys.{fact_of}
 use Rattle.pl_explain.proofs.reads.put_bars.Given as goal
 
 -- the bars that have been passed

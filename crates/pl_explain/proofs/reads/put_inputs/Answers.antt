@@ -1,6 +1,6 @@
 use Rattle.std.proofs.Common.{pos}
 use Rattle.std.proofs.lemmas.Result.{on_ok_weaker}
-use Rattle.pl_facts.specs.Facts.{facts_now}
+use Rattle.pl_derivation.specs.Facts.{facts_now}
 use Rattle.pl_explain.proofs.Behind.{inputs-put}
 use Rattle.pl_explain.proofs.reads.put_inputs.Goals as goal
 

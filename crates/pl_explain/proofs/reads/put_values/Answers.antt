@@ -1,8 +1,8 @@
 use Rattle.std.proofs.Common.{◌≡◌, ◌-◌, ◌+◌, pos, Some, arith}
 use Rattle.pl_spec.specs.Term.Input.{TermInput}
-use Rattle.pl_facts.specs.Facts.{window_facts}
-use Rattle.pl_facts.specs.Facts.Fact.{Worth}
-use Rattle.pl_step.proofs.Facts.{terms-run}
+use Rattle.pl_derivation.specs.Facts.{window_facts}
+use Rattle.pl_derivation.specs.Facts.Fact.{Worth}
+use Rattle.pl_explain.proofs.Facts.{terms-run}
 use Rattle.pl_explain.proofs.Behind.{run-more, run-all}
 use Rattle.pl_explain.proofs.reads.put_values.Goals as goal
 

@@ -1,8 +1,8 @@
 use Rattle.std.proofs.Common.{◌≡◌, ◌≤◌, map, take, filter, flat_map, length, pos}
 use Rattle.pl_spec.specs.World.{exists}
 use Rattle.pl_terms.specs.Nodes.{node_of}
-use Rattle.pl_facts.specs.Facts.{entry_facts}
-use Rattle.pl_told.specs.Keys.{fact_of}
+use Rattle.pl_derivation.specs.Facts.{entry_facts}
+use Rattle.pl_explain.specs.Keys.{fact_of}
 use Rattle.pl_world.specs.Worlds.{world_of}
 use Rattle.pl_explain.proofs.reads.section_read.Given as goal
 

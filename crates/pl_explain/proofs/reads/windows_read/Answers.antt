@@ -1,7 +1,7 @@
 use Rattle.std.proofs.Common.{ap, pos, map, ◌++◌, ◌∙◌}
 use Rattle.pl_terms.specs.Nodes.{node_of}
-use Rattle.pl_facts.specs.Facts.{over_inputs, window_facts}
-use Rattle.pl_told.specs.Keys.{fact_of}
+use Rattle.pl_derivation.specs.Facts.{over_inputs, window_facts}
+use Rattle.pl_explain.specs.Keys.{fact_of}
 use Rattle.pl_explain.proofs.Behind.{inputs-put}
 use Rattle.pl_explain.proofs.reads.windows_read.Goals as goal
 

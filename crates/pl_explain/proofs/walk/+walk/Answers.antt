@@ -2,7 +2,7 @@ use Rattle.std.proofs.Common.{rules, arith, ◌≡◌, ◌<◌, ◌≤◌, ◌+�
 use Rattle.std.proofs.lemmas.Int.{to_z-of_z}
 use Rattle.std.proofs.lemmas.List.{take_all}
 use Rattle.std.proofs.lemmas.Option.{slice_get-get_or}
-use Rattle.std.proofs.lemmas.Result.{err_from_is_err_and, IfErr-weaker, on_ok_weaker}
+use Rattle.std.proofs.lemmas.Result.{err_from_is_err_and}
 use Rattle.pl_spec.specs.Dates.{IsDay}
 use Rattle.pl_spec.specs.Rounding.{IsCell}
 use Rattle.pl_spec.specs.Parts.{sid_at}
@@ -11,41 +11,39 @@ use Rattle.pl_terms.specs.Checked.{pipeline_of}
 use Rattle.pl_terms.specs.Nodes.{number_of}
 use Rattle.pl_cross.specs.Arrays.{HasTexts}
 use Rattle.pl_values.proofs.Texts.{texts-coded}
-use Rattle.pl_lines.specs.declared.line.Line.TheVariants as line
+use Rattle.pl_derivation.specs.declared.line.Line.TheVariants as line
 use Rattle.pl_spec.proofs.Each.{Each}
-use Rattle.pl_facts.specs.Facts.{number_in, number_facts, premises}
-use Rattle.pl_facts.specs.Facts.Fact.{Worth}
-use Rattle.pl_facts.specs.Walks.{depth_of}
+use Rattle.pl_derivation.specs.Facts.{number_in, number_facts, premises}
+use Rattle.pl_derivation.specs.Facts.Fact.{Worth}
+use Rattle.pl_derivation.specs.Walks.{depth_of}
 use Rattle.pl_world.specs.Worlds.{world_of}
 use Rattle.pl_world.specs.Evaluations.{cell_in}
 use Rattle.pl_world.proofs.Evaluated.{sid-of}
-use Rattle.pl_told.specs.declared.fact.Fact.{Fact}
-use Rattle.pl_told.specs.Keys.{fact_of}
-use Rattle.pl_step.specs.Given.{facts_read, mask_passes}
-use Rattle.pl_step.proofs.Given.{some-same}
-use Rattle.pl_explain.specs.Walking.{CanStand, CanStandIn, Finishes, IsTooLong}
+use Rattle.pl_explain.specs.declared.fact.Fact.{Fact}
+use Rattle.pl_explain.specs.Keys.{fact_of}
+use Rattle.pl_explain.specs.Given.{facts_read, mask_passes}
+use Rattle.pl_explain.proofs.Given.{some-same}
+use Rattle.pl_explain.specs.Walking.{CanStand, CanStandIn, Finishes, IsTooLong, IsWalkTo}
 use Rattle.pl_explain.proofs.Behind.{worth-within, worth-day, worth-asked}
 use Rattle.pl_explain.proofs.Walks.{walk-told}
-use Rattle.pl_explain.proofs.Finished.{ok-any, told-now, all-stand, all-more, all-long, value-line, other-finished, other-stands, put-finished, put-stands, put-long, own-long, mask-stands, mask-long, mask-read, facts-stand, stopped-finished, passed-finished, passed-long}
+use Rattle.pl_explain.proofs.Finished.{told-now, all-stand, all-more, all-long, value-line, other-finished, other-stands, put-walked, own-long, mask-stands, mask-long, mask-read, facts-stand, stopped-finished, passed-walked}
 use Rattle.pl_explain.proofs.walk.+walk.Goals as goal
-use Rattle.pl_explain.proofs.walk.+walk.Goals.{finish_premises-in_default, finish_premises-in_default-2}
 
 -- ---- a fact
 
-pub finish-returns-in-Seen-clause-finished : goal.finish-returns-in-Seen-clause-finished
-finish-returns-in-Seen-clause-finished g t c =
+pub finish-returns-in-Seen : goal.finish-returns-in-Seen
+finish-returns-in-Seen g t c =
     let w = c.args.world.now in
     let p = c.args.checked.now in
-    on_ok_weaker c.finish_bar.result (λ h. subst (λ f. Finishes w p (depth_of (fact_of f)) c.args.walk.now c.finish_bar.new.walk (fact_of f ∷ [])) (sym c.in-Seen.is) h) c.finish_bar.ensures.finished
+    subst (λ f. IsWalkTo w p (depth_of (fact_of f)) (fact_of f ∷ []) c.args.walk.now c.finish_bar.new.walk c.finish_bar.result) (sym c.in-Seen.is) c.finish_bar.ensures
 
-pub finish-returns-in-Worth-clause-finished : goal.finish-returns-in-Worth-clause-finished
-finish-returns-in-Worth-clause-finished g t c =
+pub finish-returns-in-Worth : goal.finish-returns-in-Worth
+finish-returns-in-Worth g t c =
     let w = c.args.world.now in
     let p = c.args.checked.now in
     let deep : c.in-Worth.term + 2 ≡ suc (suc c.in-Worth.term) = omega arith in
-    on_ok_weaker c.finish_value.result
-    (λ h. subst (λ f. Finishes w p (depth_of (fact_of f)) c.args.walk.now c.finish_value.new.walk (fact_of f ∷ [])) (sym c.in-Worth.is)
-    (subst (λ k. Finishes w p k c.args.walk.now c.finish_value.new.walk (Worth c.in-Worth.term c.in-Worth.sid (pos c.in-Worth.session) ∷ [])) deep h)) c.finish_value.ensures.finished
+    subst (λ f. IsWalkTo w p (depth_of (fact_of f)) (fact_of f ∷ []) c.args.walk.now c.finish_value.new.walk c.finish_value.result) (sym c.in-Worth.is)
+    (subst (λ k. IsWalkTo w p k (Worth c.in-Worth.term c.in-Worth.sid (pos c.in-Worth.session) ∷ []) c.args.walk.now c.finish_value.new.walk c.finish_value.result) deep c.finish_value.ensures)
 
 -- ---- facts in a row
 
@@ -62,8 +60,8 @@ finish_all-finish-requires g t c =
     let smaller : (d : Fact) → 8 * depth_of (fact_of (get_or facts i d)) + 6 < 8 * (c.args.t.0 + 1) + 7 = λ d. let l = (each d).1 in omega (arith, l) in
     search rules
 
-pub finish_all-returns-in_err-finish-clause-long : goal.finish_all-returns-in_err-finish-clause-long
-finish_all-returns-in_err-finish-clause-long g t c =
+pub finish_all-returns-in_err-finish : goal.finish_all-returns-in_err-finish
+finish_all-returns-in_err-finish g t c =
     let w = c.args.world.now in
     let p = c.args.checked.now in
     let most = c.args.t.0 + 1 in
@@ -72,7 +70,11 @@ finish_all-returns-in_err-finish-clause-long g t c =
     let within : i < length facts = c.loop-fact-test.true in
     let each : (d : Fact) → CanStandIn w p most (fact_of (get_or facts i d)) = λ d. all-stand facts i (get_or facts i d) (slice_get-get_or facts i d within) w p most c.requires.facts in
     let q = err_from_is_err_and c.from_residual.result c.from_residual.ensures.1 in
-    rw (q.1, q.2) (λ e. all-long facts i _ (slice_get-get_or facts i _ within) w p most c.args.walk.now c.loop-fact.walk (each _).1 c.loop-fact.invariant.finished (c.in_err-finish.ensures.long e))
+    rw (q.1, q.2) (record {
+      stands = tt;
+      finished = tt;
+      long = λ e. all-long facts i _ (slice_get-get_or facts i _ within) w p most c.args.walk.now c.loop-fact.walk (each _).1 c.loop-fact.invariant.finished (c.in_err-finish.ensures.long e);
+    })
 
 pub finish_all-loop-fact-preserved : goal.finish_all-loop-fact-preserved
 finish_all-loop-fact-preserved g t c =
@@ -88,19 +90,23 @@ finish_all-loop-fact-preserved g t c =
       finished = all-more facts i _ (slice_get-get_or facts i _ within) w p most c.args.walk.now c.loop-fact.walk (each _).1 c.loop-fact.invariant.finished c.finish.new.walk c.in_ok-finish.ensures.finished;
     }
 
-pub finish_all-returns-clause-finished : goal.finish_all-returns-clause-finished
-finish_all-returns-clause-finished g t c =
+pub finish_all-returns : goal.finish_all-returns
+finish_all-returns g t c =
     let w = c.args.world.now in
     let p = c.args.checked.now in
     let facts = c.args.facts.now in
     let i = c.loop-fact.fact-index in
     let end : length facts ≤ i = c.loop-fact-test.false in
-    subst (λ fs. Finishes w p (c.args.t.0 + 1) c.args.walk.now c.loop-fact.walk (map fact_of fs)) (take_all i facts end) c.loop-fact.invariant.finished
+    record {
+      stands = c.loop-fact.invariant.stands;
+      finished = subst (λ fs. Finishes w p (c.args.t.0 + 1) c.args.walk.now c.loop-fact.walk (map fact_of fs)) (take_all i facts end) c.loop-fact.invariant.finished;
+      long = tt;
+    }
 
 -- ---- a value
 
-pub finish_value-returns-in_err-finish_premises-clause-long : goal.finish_value-returns-in_err-finish_premises-clause-long
-finish_value-returns-in_err-finish_premises-clause-long g t c =
+pub finish_value-returns-in_err-finish_premises : goal.finish_value-returns-in_err-finish_premises
+finish_value-returns-in_err-finish_premises g t c =
     let w = c.args.world.now in
     let p = c.args.checked.now in
     let t0 = c.args.term in
@@ -109,8 +115,12 @@ finish_value-returns-in_err-finish_premises-clause-long g t c =
     let ok = c.graph-terms.ensures.checked in
     let place = c.in-Some.ensures.some in
     let q = err_from_is_err_and c.from_residual.result c.from_residual.ensures.1 in
-    rw (q.1, q.2) (λ e. own-long w p t0 a s c.args.walk.now c.requires.fresh
-    (subst (λ b. IsTooLong w p (t0 + 1) c.args.walk.now (premises (world_of w) (pipeline_of p) (number_in (world_of w) (pipeline_of p)) (Worth t0 b (pos s)))) place.sid_is (c.in_err-finish_premises.ensures.long e)))
+    rw (q.1, q.2) (record {
+      stands = tt;
+      finished = tt;
+      long = λ e. own-long w p t0 a s c.args.walk.now c.requires.fresh
+          (subst (λ b. IsTooLong w p (t0 + 1) c.args.walk.now (premises (world_of w) (pipeline_of p) (number_in (world_of w) (pipeline_of p)) (Worth t0 b (pos s)))) place.sid_is (c.in_err-finish_premises.ensures.long e));
+    })
 
 pub finish_value-value_now-requires-clause-term : goal.finish_value-value_now-requires-clause-term
 finish_value-value_now-requires-clause-term g t c =
@@ -153,8 +163,8 @@ finish_value-day-requires g t c =
     let ok = c.graph-terms.ensures.checked in
     worth-day w p ok t0 a s c.requires.fact
 
-pub finish_value-returns-clause-stands : goal.finish_value-returns-clause-stands
-finish_value-returns-clause-stands g t c =
+pub finish_value-returns : goal.finish_value-returns
+finish_value-returns g t c =
     let w = c.args.world.now in
     let p = c.args.checked.now in
     let t0 = c.args.term in
@@ -178,62 +188,14 @@ finish_value-returns-clause-stands g t c =
     let at : slice_get w.sessions.now s ≡ Some day = c.day.ensures.exact in
     let said = line.Value t0 a day x in
     let is = value-line w p t0 a s day x at value in
-    let tells = simp to_z-of_z at c.put.ensures.told in
-    let put = simp to_z-of_z at c.put.ensures.lines in
+    let put = simp to_z-of_z at c.put.ensures in
     let cell : IsCell x = c.in_ok-value.ensures.cell in
     let date : IsDay day = c.day.ensures.date in
     let small_term : t0 < 2 ^ 32 = omega (arith, c.ranges.term.fits) in
     let small : a < 2 ^ 32 = omega (arith, c.ranges.sid.fits) in
     let stands = other-stands w p before mid c.in_ok-value.ensures.told c.in_ok-value.ensures.lines c.in_ok-finish_premises.ensures.stands c.in_ok-value.ensures.rows in
-    put-stands w p (t0 + 1) f walk mid c.put.new.walk c.requires.fresh behind said x is c.put.result c.requires.stands stands
-    (small_term, small, date, cell) value cell c.requires.fact.0 c.put.ensures.rows tells put c.put.ensures.few
-
-pub finish_value-returns-clause-finished : goal.finish_value-returns-clause-finished
-finish_value-returns-clause-finished g t c =
-    let w = c.args.world.now in
-    let p = c.args.checked.now in
-    let t0 = c.args.term in
-    let a = c.args.sid in
-    let s = c.args.session in
-    let ok = c.graph-terms.ensures.checked in
-    let walk = c.args.walk.now in
-    let f = Worth t0 a (pos s) in
-    let place = c.in-Some.ensures.some in
-    let before = c.finish_premises.new.walk in
-    let mid = c.value_now.new.walk in
-    let own = premises (world_of w) (pipeline_of p) (number_in (world_of w) (pipeline_of p)) f in
-    let first : Finishes w p (t0 + 1) walk before own = subst (λ b. Finishes w p (t0 + 1) walk before (premises (world_of w) (pipeline_of p) (number_in (world_of w) (pipeline_of p)) (Worth t0 b (pos s)))) place.sid_is c.in_ok-finish_premises.ensures.finished in
-    let behind : Finishes w p (t0 + 1) walk mid own = other-finished w p before mid c.in_ok-value.ensures.told c.in_ok-value.ensures.lines (t0 + 1) walk own first in
-    let day = c.day.result in
-    let x = c.in_ok-value.value in
-    let fits_day : FitsSigned w32 c.day.result = search rules in
-    let fits : FitsSigned w64 c.in_ok-value.value = search rules in
-    let got : x ≡ cell_in w p t0 (sid_at w.assets.now c.in-Some.col) s = c.in_ok-value.ensures.value in
-    let value : x ≡ number_in (world_of w) (pipeline_of p) f = got ∙ ap (λ b. cell_in w p t0 b s) place.sid_is in
-    let at : slice_get w.sessions.now s ≡ Some day = c.day.ensures.exact in
-    let said = line.Value t0 a day x in
-    let is = value-line w p t0 a s day x at value in
-    let tells = simp to_z-of_z at c.put.ensures.told in
-    let put = simp to_z-of_z at c.put.ensures.lines in
-    put-finished w p (t0 + 1) f walk mid c.put.new.walk c.requires.fresh behind said x is (t0 + 2) (omega arith) c.put.result tells put
-
-pub finish_value-returns-clause-long : goal.finish_value-returns-clause-long
-finish_value-returns-clause-long g t c =
-    let w = c.args.world.now in
-    let p = c.args.checked.now in
-    let t0 = c.args.term in
-    let a = c.args.sid in
-    let s = c.args.session in
-    let ok = c.graph-terms.ensures.checked in
-    let walk = c.args.walk.now in
-    let f = Worth t0 a (pos s) in
-    let place = c.in-Some.ensures.some in
-    let before = c.finish_premises.new.walk in
-    let mid = c.value_now.new.walk in
-    let own = premises (world_of w) (pipeline_of p) (number_in (world_of w) (pipeline_of p)) f in
-    let first : Finishes w p (t0 + 1) walk before own = subst (λ b. Finishes w p (t0 + 1) walk before (premises (world_of w) (pipeline_of p) (number_in (world_of w) (pipeline_of p)) (Worth t0 b (pos s)))) place.sid_is c.in_ok-finish_premises.ensures.finished in
-    let behind : Finishes w p (t0 + 1) walk mid own = other-finished w p before mid c.in_ok-value.ensures.told c.in_ok-value.ensures.lines (t0 + 1) walk own first in
-    IfErr-weaker c.put.result _ _ (λ e h is. put-long w p (t0 + 1) f walk mid c.requires.fresh behind (t0 + 2) (omega arith) (h is)) c.put.ensures.long
+    put-walked w p (t0 + 1) f walk mid c.put.new.walk c.requires.fresh behind said x is (t0 + 2) (omega arith) c.put.result c.requires.stands stands
+    (small_term, small, date, cell) value cell c.requires.fact.0 put
 
 -- ---- the premises
 
@@ -276,8 +238,8 @@ finish_premises-finish_all-requires g t c =
     let smaller : 8 * (t0 + 1) + 7 < 8 * (t0 + 2) + 2 = omega arith in
     search rules
 
-pub finish_premises-returns-in_err-finish_all-clause-long : goal.finish_premises-returns-in_err-finish_all-clause-long
-finish_premises-returns-in_err-finish_all-clause-long g t c =
+pub finish_premises-returns-in_err-finish_all : goal.finish_premises-returns-in_err-finish_all
+finish_premises-returns-in_err-finish_all g t c =
     let w = c.args.world.now in
     let p = c.args.checked.now in
     let t0 = c.args.t.0 in
@@ -292,7 +254,11 @@ finish_premises-returns-in_err-finish_all-clause-long g t c =
     let mask = number_facts a (pos s) (option_map number_of n.mask) in
     let mask_is : map fact_of c.deref.result.now ≡ mask = ap (map fact_of) c.deref.ensures.value ∙ c.in_ok-mask.ensures n is ∙ ap (λ b. number_facts b (pos s) (option_map number_of n.mask)) (sid-of w.assets.now c.args.col c.sid.result c.sid.ensures) in
     let q = err_from_is_err_and c.from_residual-in_err-finish_all.result c.from_residual-in_err-finish_all.ensures.1 in
-    rw (q.1, q.2) (λ e. mask-long w p ok t0 n is a s texts there walk (subst (λ fs. IsTooLong w p (t0 + 1) walk fs) mask_is (c.in_err-finish_all.ensures.long e)))
+    rw (q.1, q.2) (record {
+      stands = tt;
+      finished = tt;
+      long = λ e. mask-long w p ok t0 n is a s texts there walk (subst (λ fs. IsTooLong w p (t0 + 1) walk fs) mask_is (c.in_err-finish_all.ensures.long e));
+    })
 
 pub finish_premises-finish_kind-requires : goal.finish_premises-finish_kind-requires
 finish_premises-finish_kind-requires g t c =
@@ -317,8 +283,8 @@ finish_premises-finish_kind-requires g t c =
     let smaller : 8 * (t0 + 2) + 1 < 8 * (t0 + 2) + 2 = omega arith in
     search rules
 
-pub finish_premises-returns-in-Some-true-clause-finished : goal.finish_premises-returns-in-Some-true-clause-finished
-finish_premises-returns-in-Some-true-clause-finished g t c =
+pub finish_premises-returns-in-Some-true : goal.finish_premises-returns-in-Some-true
+finish_premises-returns-in-Some-true g t c =
     let w = c.args.world.now in
     let p = c.args.checked.now in
     let t0 = c.args.t.0 in
@@ -336,10 +302,10 @@ finish_premises-returns-in-Some-true-clause-finished g t c =
     let first : Finishes w p (t0 + 1) walk mid mask = subst (λ fs. Finishes w p (t0 + 1) walk mid fs) mask_is c.in_ok-finish_all.ensures.finished in
     let read : c.mask_told.result ≡ Some (mask_passes w p n.mask a s) = mask-read w p ok t0 n is a s texts there walk mid first c.requires.stands c.mask_told.result c.mask_told.ensures in
     let passed : mask_passes w p n.mask a s ≡ true = sym (some-same c.in-Some-true.field-0 (mask_passes w p n.mask a s) (sym c.in-Some-true.is ∙ read)) ∙ c.in-Some-true.field-0-test in
-    on_ok_weaker c.finish_kind.result (λ h. passed-finished w p ok t0 n is a s texts there walk mid first passed c.finish_kind.new.walk h) c.finish_kind.ensures.finished
+    passed-walked w p ok t0 n is a s texts there walk mid first passed c.finish_kind.new.walk c.finish_kind.result c.finish_kind.ensures
 
-pub finish_premises-returns-in-Some-true-clause-long : goal.finish_premises-returns-in-Some-true-clause-long
-finish_premises-returns-in-Some-true-clause-long g t c =
+pub finish_premises-returns-in-Some-false : goal.finish_premises-returns-in-Some-false
+finish_premises-returns-in-Some-false g t c =
     let w = c.args.world.now in
     let p = c.args.checked.now in
     let t0 = c.args.t.0 in
@@ -356,11 +322,15 @@ finish_premises-returns-in-Some-true-clause-long g t c =
     let mid = c.finish_all.new.walk in
     let first : Finishes w p (t0 + 1) walk mid mask = subst (λ fs. Finishes w p (t0 + 1) walk mid fs) mask_is c.in_ok-finish_all.ensures.finished in
     let read : c.mask_told.result ≡ Some (mask_passes w p n.mask a s) = mask-read w p ok t0 n is a s texts there walk mid first c.requires.stands c.mask_told.result c.mask_told.ensures in
-    let passed : mask_passes w p n.mask a s ≡ true = sym (some-same c.in-Some-true.field-0 (mask_passes w p n.mask a s) (sym c.in-Some-true.is ∙ read)) ∙ c.in-Some-true.field-0-test in
-    IfErr-weaker c.finish_kind.result _ _ (λ e h i. passed-long w p ok t0 n is a s texts there walk mid first passed (h i)) c.finish_kind.ensures.long
+    let barred : mask_passes w p n.mask a s ≡ false = sym (some-same c.in-Some-false.field-0 (mask_passes w p n.mask a s) (sym c.in-Some-false.is ∙ read)) ∙ c.in-Some-false.field-0-test in
+    record {
+      stands = c.in_ok-finish_all.ensures.stands;
+      finished = stopped-finished w p ok t0 n is a s texts there walk mid first barred;
+      long = tt;
+    }
 
-pub finish_premises-returns-clause-finished : goal.finish_premises-returns-clause-finished
-finish_premises-returns-clause-finished g t c =
+pub finish_premises-unreachable-requires : goal.finish_premises-unreachable-requires
+finish_premises-unreachable-requires g t c =
     let w = c.args.world.now in
     let p = c.args.checked.now in
     let t0 = c.args.t.0 in
@@ -377,12 +347,8 @@ finish_premises-returns-clause-finished g t c =
     let mid = c.finish_all.new.walk in
     let first : Finishes w p (t0 + 1) walk mid mask = subst (λ fs. Finishes w p (t0 + 1) walk mid fs) mask_is c.in_ok-finish_all.ensures.finished in
     let read : c.mask_told.result ≡ Some (mask_passes w p n.mask a s) = mask-read w p ok t0 n is a s texts there walk mid first c.requires.stands c.mask_told.result c.mask_told.ensures in
-    elim c.match-mask_told.branch [
-      | finish_premises-in_default v ↦ (let told = mask-read w p ok t0 n is a s texts there walk mid first c.requires.stands _ v.in_default.ensures in
-          let barred : mask_passes w p n.mask a s ≡ false = sym (some-same _ (mask_passes w p n.mask a s) told) ∙ v.in_default.field-0-test in
-          ok-any c.match-mask_told.result (stopped-finished w p ok t0 n is a s texts there walk mid first barred))
-      | finish_premises-in_default-2 v ↦ absurd (let bad : None ≡ Some (mask_passes w p n.mask a s) = sym v.in_default.is ∙ read in cc)
-    ]
+    let bad : None ≡ Some (mask_passes w p n.mask a s) = sym c.in-None.is ∙ read in
+    cc
 
 -- ---- what the kind reads
 
@@ -392,12 +358,16 @@ finish_kind-is_whole-requires-clause-term g t c =
     let p = c.args.checked.now in
     worth-within w p c.graph-terms.ensures.checked c.args.t.0 (sid_at w.assets.now c.args.col) c.args.session c.requires.fact
 
-pub finish_kind-returns-then-is_whole-clause-finished : goal.finish_kind-returns-then-is_whole-clause-finished
-finish_kind-returns-then-is_whole-clause-finished g t c =
+pub finish_kind-returns-then-is_whole : goal.finish_kind-returns-then-is_whole
+finish_kind-returns-then-is_whole g t c =
     let w = c.args.world.now in
     let p = c.args.checked.now in
     let a = sid_at w.assets.now c.args.col in
-    walk-told w p (c.args.t.0 + 1) c.args.walk.now (facts_read w p c.args.t.0 a c.args.session) (c.is_whole.ensures.stand c.if-is_whole.true a)
+    record {
+      stands = c.requires.stands;
+      finished = walk-told w p (c.args.t.0 + 1) c.args.walk.now (facts_read w p c.args.t.0 a c.args.session) (c.is_whole.ensures.stand c.if-is_whole.true a);
+      long = tt;
+    }
 
 pub finish_kind-facts_read-requires-clause-asked : goal.finish_kind-facts_read-requires-clause-asked
 finish_kind-facts_read-requires-clause-asked g t c =
@@ -405,16 +375,9 @@ finish_kind-facts_read-requires-clause-asked g t c =
     let p = c.args.checked.now in
     worth-asked w p c.graph-terms.ensures.checked c.args.t.0 (sid_at w.assets.now c.args.col) c.args.session c.requires.fact c.requires.made c.len-sessions.ensures.days.ascend
 
-pub finish_kind-returns-clause-finished : goal.finish_kind-returns-clause-finished
-finish_kind-returns-clause-finished g t c =
+pub finish_kind-returns : goal.finish_kind-returns
+finish_kind-returns g t c =
     let w = c.args.world.now in
     let p = c.args.checked.now in
     let same = ap (map fact_of) c.deref.ensures.value ∙ c.in_ok-facts.ensures in
-    on_ok_weaker c.finish_all.result (λ h. subst (λ fs. Finishes w p (c.args.t.0 + 1) c.args.walk.now c.finish_all.new.walk fs) same h) c.finish_all.ensures.finished
-
-pub finish_kind-returns-clause-long : goal.finish_kind-returns-clause-long
-finish_kind-returns-clause-long g t c =
-    let w = c.args.world.now in
-    let p = c.args.checked.now in
-    let same = ap (map fact_of) c.deref.ensures.value ∙ c.in_ok-facts.ensures in
-    IfErr-weaker c.finish_all.result _ _ (λ e h is. subst (λ fs. IsTooLong w p (c.args.t.0 + 1) c.args.walk.now fs) same (h is)) c.finish_all.ensures.long
+    subst (λ fs. IsWalkTo w p (c.args.t.0 + 1) fs c.args.walk.now c.finish_all.new.walk c.finish_all.result) same c.finish_all.ensures

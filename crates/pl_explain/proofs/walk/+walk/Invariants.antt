@@ -1,6 +1,6 @@
 use Rattle.std.proofs.Common.{◌+◌, ◌*◌, map, take}
-use Rattle.pl_facts.specs.Walks.{depth_of}
-use Rattle.pl_told.specs.Keys.{fact_of}
+use Rattle.pl_derivation.specs.Walks.{depth_of}
+use Rattle.pl_explain.specs.Keys.{fact_of}
 use Rattle.pl_explain.specs.Walking.{StandsIn, Finishes}
 use Rattle.pl_explain.proofs.walk.+walk.Given as goal
 

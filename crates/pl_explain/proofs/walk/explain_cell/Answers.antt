@@ -5,9 +5,9 @@ use Rattle.pl_spec.specs.Parts.{sid_at}
 use Rattle.pl_terms.specs.Checked.{pipeline_of}
 use Rattle.pl_cross.specs.Arrays.{HasTexts}
 use Rattle.pl_values.proofs.Texts.{texts-coded}
-use Rattle.pl_facts.specs.Facts.Fact.{Worth}
-use Rattle.pl_facts.specs.Laws.{IsDerivation}
-use Rattle.pl_facts.specs.Walks.{derivation, facts_for}
+use Rattle.pl_derivation.specs.Facts.Fact.{Worth}
+use Rattle.pl_derivation.specs.Laws.{IsDerivation}
+use Rattle.pl_derivation.specs.Walks.{derivation, facts_for}
 use Rattle.pl_world.specs.Worlds.{world_of}
 use Rattle.pl_world.proofs.Evaluated.{sid-of}
 use Rattle.pl_explain.specs.declared.walk.Walk.{Walk}

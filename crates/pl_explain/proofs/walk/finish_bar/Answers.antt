@@ -1,22 +1,21 @@
 use Rattle.std.proofs.Common.{rules, arith, ◌≡◌, ◌<◌, ◌≤◌, ◌^◌, ◌∙◌, All, Some, ap, sym, subst, slice_get, length, pos, w32, w64, FitsSigned}
 use Rattle.std.proofs.lemmas.Int.{to_z-of_z}
-use Rattle.std.proofs.lemmas.Result.{IfErr-weaker}
 use Rattle.pl_spec.specs.Dates.{IsDay}
 use Rattle.pl_spec.specs.Rounding.{IsCell}
 use Rattle.pl_terms.specs.Checked.{pipeline_of}
-use Rattle.pl_facts.specs.Facts.{number_in}
-use Rattle.pl_facts.specs.Facts.Fact.{Seen}
-use Rattle.pl_facts.specs.Right.{last_cell, seen_cells}
-use Rattle.pl_facts.proofs.Truths.{last_seen}
-use Rattle.pl_lines.specs.declared.line.Line.TheVariants as line
+use Rattle.pl_derivation.specs.Facts.{number_in}
+use Rattle.pl_derivation.specs.Facts.Fact.{Seen}
+use Rattle.pl_derivation.specs.Right.{last_cell, seen_cells}
+use Rattle.pl_derivation.proofs.Truths.{last_seen}
+use Rattle.pl_derivation.specs.declared.line.Line.TheVariants as line
 use Rattle.pl_world.specs.Worlds.{world_of}
 use Rattle.pl_explain.proofs.Lines.{last-cell}
 use Rattle.pl_explain.proofs.Walks.{walk-none}
-use Rattle.pl_explain.proofs.Finished.{put-finished, put-stands, put-long, bar-line, cells-all, some-cells}
+use Rattle.pl_explain.proofs.Finished.{put-walked, bar-line, cells-all, some-cells}
 use Rattle.pl_explain.proofs.walk.finish_bar.Goals as goal
 
-pub returns-clause-stands : goal.returns-clause-stands
-returns-clause-stands g c =
+pub returns : goal.returns
+returns g c =
     let w = c.args.world.now in
     let p = c.args.checked.now in
     let walk = c.args.walk.now in
@@ -37,8 +36,7 @@ returns-clause-stands g c =
     let at : slice_get w.sessions.now d ≡ Some day = c.day-2.ensures.exact in
     let said = line.Seen k a bar_day day c.new.result in
     let is = bar-line w p k a s d bar_day day c.new.result at_bar at (c.new.ensures ∙ cells) in
-    let tells = simp to_z-of_z at c.put.ensures.told in
-    let put = simp to_z-of_z at c.put.ensures.lines in
+    let put = simp to_z-of_z at c.put.ensures in
     let value : x ≡ number_in (world_of w) (pipeline_of p) f = c.last_of-number.ensures ∙ ap last_cell (c.deref.ensures.value ∙ cells) ∙ last_seen (world_of w) a k (pos s) (pos d) in
     let cell : IsCell x = subst IsCell (sym c.last_of-number.ensures) (last-cell c.deref.result.now (subst (All IsCell) (sym c.deref.ensures.value) c.in_ok-seen.ensures.cells)) in
     let small : a < 2 ^ 32 = omega (arith, c.ranges.sid.fits) in
@@ -46,39 +44,5 @@ returns-clause-stands g c =
     let date : IsDay day = c.day-2.ensures.date in
     let some = subst (λ xs. 1 ≤ length xs) (sym (c.new.ensures ∙ cells)) (some-cells (world_of w) a k (pos s) (pos d)) in
     let all = cells-all c.new.result (subst (All IsCell) (sym c.new.ensures) c.in_ok-seen.ensures.cells) in
-    put-stands w p 0 f walk walk c.put.new.walk c.requires.fresh (walk-none w p 0 walk) said x is c.put.result c.requires.stands c.requires.stands
-    (small, date_bar, date, some, all) value cell c.requires.fact.0 c.put.ensures.rows tells put c.put.ensures.few
-
-pub returns-clause-finished : goal.returns-clause-finished
-returns-clause-finished g c =
-    let w = c.args.world.now in
-    let p = c.args.checked.now in
-    let walk = c.args.walk.now in
-    let k = c.args.column in
-    let a = c.args.sid in
-    let s = c.args.bar in
-    let d = c.args.session in
-    let f = Seen k a (pos s) (pos d) in
-    let bar_day = c.day.result in
-    let day = c.day-2.result in
-    let x = c.last_of-number.result in
-    let fits_bar : FitsSigned w32 c.day.result = search rules in
-    let fits_day : FitsSigned w32 c.day-2.result = search rules in
-    let fits : FitsSigned w64 c.last_of-number.result = search rules in
-    let place = c.in-Some.ensures.some in
-    let cells = c.in_ok-seen.ensures.value ∙ ap (λ b. seen_cells (world_of w) b k (pos s) (pos d)) place.sid_is in
-    let at_bar : slice_get w.sessions.now s ≡ Some bar_day = c.day.ensures.exact in
-    let at : slice_get w.sessions.now d ≡ Some day = c.day-2.ensures.exact in
-    let said = line.Seen k a bar_day day c.new.result in
-    let is = bar-line w p k a s d bar_day day c.new.result at_bar at (c.new.ensures ∙ cells) in
-    let tells = simp to_z-of_z at c.put.ensures.told in
-    let put = simp to_z-of_z at c.put.ensures.lines in
-    put-finished w p 0 f walk walk c.put.new.walk c.requires.fresh (walk-none w p 0 walk) said x is 1 (omega arith) c.put.result tells put
-
-pub returns-clause-long : goal.returns-clause-long
-returns-clause-long g c =
-    let w = c.args.world.now in
-    let p = c.args.checked.now in
-    let walk = c.args.walk.now in
-    let f = Seen c.args.column c.args.sid (pos c.args.bar) (pos c.args.session) in
-    IfErr-weaker c.put.result _ _ (λ e h is. put-long w p 0 f walk walk c.requires.fresh (walk-none w p 0 walk) 1 (omega arith) (h is)) c.put.ensures.long
+    put-walked w p 0 f walk walk c.put.new.walk c.requires.fresh (walk-none w p 0 walk) said x is 1 (omega arith) c.put.result c.requires.stands c.requires.stands
+    (small, date_bar, date, some, all) value cell c.requires.fact.0 put

@@ -1,0 +1,181 @@
+-- Over the numbers of the world itself the single step of a value is the value.
+use Rattle.std.proofs.Common.{◌≡◌, ℕ, ◌+◌, ◌<◌, Bool, true, false, ◌&&◌, if◌then◌else◌, ℤ, List, [], ◌∷◌, ◌++◌, length, Option, Some, None, refl, sym, ap, arith, slice_get, get_or, ◌==◌, inl, inr, length-append}
+use Rattle.std.specs.List.{list_any, position_or_len}
+use Rattle.std.specs.Str.{bytes_eq}
+use Rattle.std.proofs.Math.Path.{fun_ext}
+use Rattle.std.proofs.lemmas.Bool.{cases_lt, or_left, or_right}
+use Rattle.std.proofs.lemmas.Option.{unwrap_or-slice_get}
+use Rattle.std.proofs.lemmas.List.{get_or_past}
+use Rattle.std.proofs.lemmas.List.Sums.{passes_at_first}
+use Rattle.std.proofs.lemmas.Slice.Eq.{bytes_eq-Decides}
+use Rattle.pl_spec.specs.declared.Column.{Column}
+use Rattle.pl_spec.specs.World.{World, exists}
+use Rattle.pl_spec.specs.Window.{downward, seen_cell}
+use Rattle.pl_spec.specs.Periods.{period_start}
+use Rattle.pl_spec.specs.Kind.{Kind, WindowKind, LabelKind, CrossKind}
+use Rattle.pl_spec.specs.Kind.Kind.{Constant, Label, StaticSids, Window, Point, LabelTest, Cross, Downsample}
+use Rattle.pl_spec.specs.Term.{Term, Graph, Input, Node, IsGraph, tree_over, trees_after, trees, term_at}
+use Rattle.pl_spec.specs.Term.Term.{absent, column, node}
+use Rattle.pl_spec.specs.Term.Input.{BarColumn, TermInput}
+use Rattle.pl_spec.specs.Cross.{cross}
+use Rattle.pl_spec.specs.Value.{Value, Part, part_of, number_of, now, passes, eligible, group_of, window_of, is_window_filter, is_point_filter, is_cross_filter, sort_kind, test_value, step, empty, value}
+use Rattle.pl_spec.specs.Value.Value.{Number, Text}
+use Rattle.pl_spec.specs.Value.Part.{Bars, Values}
+use Rattle.pl_spec.specs.NodeValue.{meaning_of, input_part, number_part, node_value}
+use Rattle.pl_spec.specs.Table.{Pipeline, value_of, in_array}
+use Rattle.pl_spec.specs.Text.{kind_at}
+use Rattle.pl_spec.proofs.Members.{In, contains-in}
+use Rattle.pl_spec.proofs.Trees.{term_at-node}
+use Rattle.pl_spec.proofs.Unfolds.{value_at-node, past}
+use Rattle.pl_cross.specs.Arrays.{HasTexts}
+use Rattle.pl_cross.proofs.Codes.{IsCoded}
+use Rattle.pl_cross.proofs.LabelCodes.{labels-coded}
+use Rattle.pl_derivation.specs.Facts.{Fact, number_in, value_from, term_read, column_read, input_read, number_read, node_read, single_step}
+use Rattle.pl_derivation.specs.Facts.Fact.{Seen, Worth}
+use Rattle.pl_spec.proofs.Each.{map_each, each_all}
+use Rattle.pl_derivation.proofs.Finding.{place_within, is_place}
+use Rattle.pl_derivation.proofs.Steps.{before-twice}
+
+among : (texts : List (List ℕ)) (t : List ℕ) → In t texts → list_any (bytes_eq t) texts ≡ true
+among [] t i = absurd i
+among (x ∷ xs) t (inl e) = or_left (bytes_eq t x) (list_any (bytes_eq t) xs) ((bytes_eq-Decides t x).1 e)
+among (x ∷ xs) t (inr i) = or_right (bytes_eq t x) (list_any (bytes_eq t) xs) (among xs t i)
+
+-- the text of a code is the text that it is the code of
+name_of_code : (texts : List (List ℕ)) (t : List ℕ) → list_any (bytes_eq t) texts ≡ true → value_from texts (Label 0) (in_array texts (Text t)) ≡ Text t
+name_of_code texts t h =
+    let inside : position_or_len (bytes_eq t) texts < length texts = place_within (bytes_eq t) texts h in
+    let passes : bytes_eq t (get_or texts (position_or_len (bytes_eq t) texts) []) ≡ true = passes_at_first (bytes_eq t) texts [] inside in
+    let same : t ≡ get_or texts (position_or_len (bytes_eq t) texts) [] = (bytes_eq-Decides t _).0 passes in
+    rw (is_place (bytes_eq t) texts h, unwrap_or-slice_get texts (position_or_len (bytes_eq t) texts) []) (ap Text (sym same))
+
+abbrev IsKept : List (List ℕ) → Kind → Value → Type 0
+IsKept texts k v = value_from texts k (in_array texts v) ≡ v
+
+kept_if : (texts : List (List ℕ)) (k : Kind) (b : Bool) (v u : Value) → IsKept texts k v → IsKept texts k u → IsKept texts k (if b then v else u)
+kept_if texts k true v u h i = h
+kept_if texts k false v u h i = i
+
+empty_kept : (texts : List (List ℕ)) (k : Kind) → IsKept texts k (empty k)
+empty_kept texts (Constant x) = refl
+empty_kept texts (Label n) = refl
+empty_kept texts (StaticSids sids) = refl
+empty_kept texts (Window k) = kept_if texts (Window k) (is_window_filter k) _ _ refl refl
+empty_kept texts (Point k) = kept_if texts (Point k) (is_point_filter k) _ _ refl refl
+empty_kept texts (LabelTest k) = refl
+empty_kept texts (Cross k) = kept_if texts (Cross k) (is_cross_filter k) _ _ refl refl
+empty_kept texts (Downsample f) = refl
+
+label_kept : (texts : List (List ℕ)) (n : ℕ) (v : Value) → IsCoded texts v → IsKept texts (Label n) v
+label_kept texts n v (inl e) = rw e refl
+label_kept texts n v (inr c) = rw c.1 (name_of_code texts c.0 (among texts c.0 (contains-in texts c.0 c.2)))
+
+test_kept : (texts : List (List ℕ)) (k : LabelKind) (v : Value) → IsKept texts (LabelTest k) (test_value k v)
+test_kept texts k (Number x) = refl
+test_kept texts k (Text t) = refl
+
+module _ (w : World) (known : HasTexts w) (names : List (List ℕ)) where
+  gate : (k : Kind) (b : Bool) (v : Value) → IsKept w.texts k v → IsKept w.texts k (if b then v else empty k)
+  gate k b v h = kept_if w.texts k b v (empty k) h (empty_kept w.texts k)
+
+  abbrev is_open : Term → ℕ → ℤ → Bool
+  is_open m a d = exists w a d && passes (part_of m (value w names m)) a d
+
+  section_kept : (k : CrossKind) (x m g : Part) (a : ℕ) (d : ℤ)
+      → IsKept w.texts (Cross k) (let list = eligible w x m (group_of k x g) a d in if list_any (λ e. e.0 == a) list then Number (cross k list a (number_of (now x a d))) else empty (Cross k))
+  section_kept k x m g a d =
+      let list = eligible w x m (group_of k x g) a d in
+      gate (Cross k) (list_any (λ e. e.0 == a) list) (Number (cross k list a (number_of (now x a d)))) refl
+
+  now_kept : (x : Term) (a : ℕ) (d : ℤ) → IsKept w.texts (sort_kind x) (value w names x a d) → IsKept w.texts (sort_kind x) (now (part_of x (value w names x)) a d)
+  now_kept absent a d h = refl
+  now_kept (column c) a d h = refl
+  now_kept (node k size x y z m g) a d h = h
+
+  -- the code of a term's value stands for that value
+  kept : (x : Term) (a : ℕ) (d : ℤ) → IsKept w.texts (sort_kind x) (value w names x a d)
+  unfolding value step
+  kept absent a d = refl
+  kept (column c) a d = refl
+  kept (node (Constant c) size x y z m g) a d = gate (Constant c) (is_open m a d) _ refl
+  kept (node (Label n) size x y z m g) a d = label_kept w.texts n _ (labels-coded w known names n size x y z m g a d)
+  kept (node (StaticSids sids) size x y z m g) a d = gate (StaticSids sids) (is_open m a d) _ refl
+  kept (node (Window k) size x y z m g) a d = gate (Window k) (is_open m a d) _ refl
+  kept (node (Point k) size x y z m g) a d = gate (Point k) (is_open m a d) _ refl
+  kept (node (LabelTest k) size x y z m g) a d = gate (LabelTest k) (is_open m a d) _ (test_kept w.texts k (now (part_of x (value w names x)) a d))
+  kept (node (Cross k) size x y z m g) a d =
+      gate (Cross k) (is_open m a d) _ (section_kept k (part_of x (value w names x)) (part_of m (value w names m)) (part_of g (value w names g)) a d)
+  kept (node (Downsample f) size x y z m g) a d =
+      gate (sort_kind x) (is_open m a d) _ (now_kept x a (period_start f w.days d) (kept x a (period_start f w.days d)))
+
+trees-length : (ts : List Term) (g : Graph) → length (trees_after ts g) ≡ length ts + length g
+trees-length ts [] = omega arith
+trees-length ts (n ∷ g) =
+    let rest : length (trees_after (ts ++ tree_over ts n ∷ []) g) ≡ length (ts ++ tree_over ts n ∷ []) + length g = trees-length (ts ++ tree_over ts n ∷ []) g in
+    let more : length (ts ++ tree_over ts n ∷ []) ≡ length ts + 1 = length-append ts (tree_over ts n ∷ []) in
+    omega (arith, rest, more)
+
+no_term : (g : Graph) (t : ℕ) → slice_get g t ≡ None → term_at g t ≡ absent
+no_term g t e = elim (cases_lt t (length g)) [
+  | inl l ↦ absurd (past g t l e)
+  | inr h ↦ (let long : length (trees g) ≡ 0 + length g = trees-length [] g in get_or_past (trees g) t absent (omega arith))
+]
+
+module _ (w : World) (p : Pipeline) (known : HasTexts w) (ok : IsGraph p.graph) where
+  -- what a term's number stands for is its value
+  pub from_code : (t a : ℕ) (d : ℤ) → term_read w p (number_in w p) t a d ≡ value_of w p t a d
+  from_code t a d = kept w known p.names (term_at p.graph t) a d
+
+  term_is : (t : ℕ) → term_read w p (number_in w p) t ≡ meaning_of w p.names p.graph t
+  term_is t = fun_ext (λ a. fun_ext (λ d. from_code t a d))
+
+  number_is : (o : Option ℕ) → number_read w p (number_in w p) o ≡ number_part w p.names p.graph o
+  number_is None = refl
+  number_is (Some t) = ap Values (term_is t)
+
+  input_is : (k : Kind) (d : ℤ) → ((c : Column) → column_read (number_in w p) k d c ≡ Bars c) → (o : Option Input)
+      → input_read w p (number_in w p) k d o ≡ input_part w p.names p.graph o
+  input_is k d flat None = refl
+  input_is k d flat (Some (BarColumn c)) = flat c
+  input_is k d flat (Some (TermInput t)) = ap Values (term_is t)
+
+  window_is : (k : WindowKind) (size a : ℕ) (d : ℤ) (o : Option Input)
+      → window_of w size (input_read w p (number_in w p) (Window k) d o) a d ≡ window_of w size (input_part w p.names p.graph o) a d
+  window_is k size a d None = refl
+  window_is k size a d (Some (BarColumn c)) =
+      map_each _ _ (downward size) (each_all _ (downward size) (λ n. ap (λ s. seen_cell w a c s d) (before-twice d n)))
+  window_is k size a d (Some (TermInput t)) = ap (λ f. window_of w size (Values f) a d) (term_is t)
+
+  module _ (n : Node) (a : ℕ) (d : ℤ) where
+    abbrev input : ℕ → Option Input
+    input i = slice_get n.inputs i
+
+    step_is : (k : Kind)
+        → step w p.names k n.window (input_read w p (number_in w p) k d (input 0)) (input_read w p (number_in w p) k d (input 1))
+        (input_read w p (number_in w p) k d (input 2)) (number_part w p.names p.graph n.mask) (number_part w p.names p.graph n.group) a d
+        ≡ step w p.names k n.window (input_part w p.names p.graph (input 0)) (input_part w p.names p.graph (input 1))
+        (input_part w p.names p.graph (input 2)) (number_part w p.names p.graph n.mask) (number_part w p.names p.graph n.group) a d
+    unfolding step
+    step_is (Constant c) = refl
+    step_is (Label l) = refl
+    step_is (StaticSids sids) = refl
+    step_is (Window k) = rw (window_is k n.window a d (input 0), window_is k n.window a d (input 1), window_is k n.window a d (input 2)) refl
+    step_is (Point k) = rw (input_is (Point k) d (λ c. refl) (input 0), input_is (Point k) d (λ c. refl) (input 1), input_is (Point k) d (λ c. refl) (input 2)) refl
+    step_is (LabelTest k) = rw (input_is (LabelTest k) d (λ c. refl) (input 0)) refl
+    step_is (Cross k) = rw (input_is (Cross k) d (λ c. refl) (input 0)) refl
+    step_is (Downsample f) = rw (input_is (Downsample f) d (λ c. refl) (input 0)) refl
+
+    node_is : (t : ℕ) → slice_get p.graph t ≡ Some n → node_read w p (number_in w p) t n a d ≡ node_value w p.names p.graph n a d
+    node_is t e =
+        let shown : kind_at p.graph t ≡ sort_kind (tree_over (trees p.graph) n) = ap sort_kind (term_at-node p.graph t n ok e) in
+        rw (number_is n.mask, number_is n.group, step_is n.kind, shown) refl
+
+  -- the single step over the world's own numbers gives the world's number
+  pub step_true : (f : Fact) → single_step w p (number_in w p) f ≡ number_in w p f
+  unfolding value
+  step_true (Seen c a s d) = refl
+  step_true (Worth t a d) = found (slice_get p.graph t) refl
+    where
+      found : (o : Option Node) → slice_get p.graph t ≡ o → single_step w p (number_in w p) (Worth t a d) ≡ number_in w p (Worth t a d)
+      found None e = rw (e, no_term p.graph t e) refl
+      found (Some n) e = rw (e, node_is n a d t e, value_at-node w p.names p.graph ok t n e a d) refl

@@ -1,0 +1,338 @@
+-- The premises of a fact that may stand in a derivation may stand in it too, and are of a lower depth.
+use Rattle.std.proofs.Common.{◌≡◌, ℕ, zero, suc, ◌<◌, ◌≤◌, Bool, true, false, if◌then◌else◌, cond, ℤ, pos, negsuc, ◌≤ℤ◌, ◌<ℤ◌, List, [], ◌∷◌, ◌++◌, length, map, filter, filter_map, Option, Some, None, option_map, unwrap_or, option_to_list, refl, ◌∙◌, arith, slice_get, ◌==◌, inl, inr}
+use Rattle.std.specs.List.{list_any}
+use Rattle.std.specs.Int.RustNames.{int_lt}
+use Rattle.std.proofs.lemmas.Int.{ints}
+use Rattle.std.proofs.lemmas.Bool.{or_left, or_right, and_from, and_parts, eq-eqb}
+use Rattle.std.proofs.lemmas.List.Folds.{list_any-append}
+use Rattle.std.proofs.lemmas.Option.{slice_get_within}
+use Rattle.pl_spec.specs.declared.Column.{Column}
+use Rattle.pl_spec.specs.declared.AssetRow.{AssetRow}
+use Rattle.pl_spec.specs.declared.Frequency.{Frequency}
+use Rattle.pl_spec.specs.World.{World, day_of, lives_on, living_sids, exists}
+use Rattle.pl_spec.specs.Window.{before, downward}
+use Rattle.pl_spec.specs.Periods.{first_session, period_start}
+use Rattle.pl_spec.specs.Kind.{Kind}
+use Rattle.pl_spec.specs.Kind.Kind.{Constant, Label, StaticSids, Window, Point, LabelTest, Cross, Downsample}
+use Rattle.pl_spec.specs.Term.{Term, Graph, Input, Node, IsGraph, input_tree, number_tree, tree_over, trees, term_at}
+use Rattle.pl_spec.specs.Term.Term.{absent, column, node}
+use Rattle.pl_spec.specs.Term.Input.{BarColumn, TermInput}
+use Rattle.pl_spec.specs.Value.{passes}
+use Rattle.pl_spec.specs.Graph.{part_reach, reads_at, reach, input_number, mentions, contains, used_terms}
+use Rattle.pl_spec.specs.Graph.Used.{mentioned}
+use Rattle.pl_spec.specs.Table.{Pipeline}
+use Rattle.pl_spec.proofs.Trees.{term_at-node}
+use Rattle.pl_spec.proofs.Unfolds.{past}
+use Rattle.pl_laws.proofs.Uses.{used_terms-sound, used_terms-complete}
+use Rattle.pl_laws.proofs.Reaches.{below_least, at_downward, before-zero}
+use Rattle.pl_laws.proofs.Starts.{start-within}
+use Rattle.pl_terms.specs.Uses.{outputs, is_used}
+use Rattle.pl_spec.proofs.Each.{Each, each_both, each_in_map, each_in_flat, each_more}
+use Rattle.pl_derivation.specs.Facts.{Fact, Reading, window_facts, facts_now, number_facts, over_inputs, entry_facts, kind_facts, number_read, node_facts, premises}
+use Rattle.pl_derivation.specs.Facts.Fact.{Seen, Worth}
+use Rattle.pl_derivation.specs.Right.{has_sid, is_fitting}
+use Rattle.pl_derivation.specs.Walks.{depth_of}
+
+-- ---- sessions that are reached
+
+-- each window of the graph holds a session
+abbrev pub HasSessions : Graph → Type 0
+HasSessions g = (k : ℕ) (n : Node) → slice_get g k ≡ Some n → 1 ≤ n.window
+
+each_downward : (P : ℕ → Type 0) (size : ℕ) → ((n : ℕ) → n < size → P n) → Each P (downward size)
+each_downward P zero h = tt
+each_downward P (suc size) h = (h size (omega arith), each_downward P size (λ n l. h n (omega arith)))
+
+-- no term reaches later than its session
+late : (days : List ℤ) (low : ℤ) (t : Term) (d : ℤ) → low ≤ℤ reach days t d → low ≤ℤ d
+unfolding reach
+late days low absent d h = h
+late days low (column c) d h = h
+late days low (node k size x y z m g) d h =
+    (below_least low d (part_reach x (reach days x) size (reads_at days k d) ∷ part_reach y (reach days y) size (reads_at days k d) ∷ part_reach z (reach days z) size (reads_at days k d) ∷ part_reach m (reach days m) 1 d ∷ part_reach g (reach days g) 1 d ∷ []) h).0
+
+-- the first session of a period is one
+start-from : (f : Frequency) (days : List ℤ) (m : ℕ) → pos 0 ≤ℤ period_start f days (pos m)
+unfolding period_start
+start-from f days m = here (slice_get days m)
+  where
+    here : (o : Option ℤ) → pos 0 ≤ℤ unwrap_or (option_map (λ day. pos (first_session f days day)) o) (pos m)
+    here None = omega (arith, ints)
+    here (Some day) = omega (arith, ints)
+
+earlier : (d : ℤ) (n : ℕ) → before d (suc n) <ℤ d
+earlier d n = omega (arith, ints)
+
+earlier_test : (x y : ℤ) → x <ℤ y → int_lt x y ≡ true
+earlier_test x y h = grind (arith, ints)
+
+before-least : (d : ℤ) (size n : ℕ) → n < size → pos 0 ≤ℤ before d size → pos 0 ≤ℤ before d (suc n)
+before-least d size n l h = omega (arith, ints)
+
+before-most : (d : ℤ) (n : ℕ) → before d n ≤ℤ d
+before-most d n = omega (arith, ints)
+
+-- ---- sessions
+
+-- there is such a session
+abbrev pub IsSession : World → ℤ → Type 0
+IsSession w d = (n : ℕ) × (day : ℤ) × (d ≡ pos n) × (day_of w (pos n) ≡ Some day)
+
+get_before : {X : Type 0} (xs : List X) (m n : ℕ) (x : X) → m ≤ n → slice_get xs n ≡ Some x → (y : X) × (slice_get xs m ≡ Some y)
+get_before {X} xs m n x l e = found (slice_get xs m) refl
+  where
+    found : (o : Option X) → slice_get xs m ≡ o → (y : X) × (slice_get xs m ≡ Some y)
+    found None f = let within : n < length xs = slice_get_within xs n x e in absurd (past xs m (omega arith) f)
+    found (Some y) f = (y, f)
+
+pub session_before : (w : World) (s d : ℤ) → IsSession w d → pos 0 ≤ℤ s → s ≤ℤ d → IsSession w s
+session_before w (pos m) d h low l =
+    let same : d ≡ pos h.0 = h.2 in
+    let le : m ≤ h.0 = omega (arith, ints) in
+    let at : (y : ℤ) × (slice_get w.days m ≡ Some y) = get_before w.days m h.0 h.1 le h.3 in
+    (m, at.0, refl, at.1)
+session_before w (negsuc m) d h low l = absurd (omega (arith, ints))
+
+-- ---- sids
+
+living_known : (w : World) (d : ℤ) → Each (λ b. has_sid w b ≡ true) (living_sids w d)
+living_known w d = on (day_of w d)
+  where
+    sid_in : (day : ℤ) (rows all : List AssetRow) → ((b : ℕ) → list_any (λ x. x.sid == b) rows ≡ true → list_any (λ x. x.sid == b) all ≡ true)
+        → Each (λ b. list_any (λ x. x.sid == b) all ≡ true) (map (λ a. a.sid) (filter (lives_on day) rows))
+    sid_in day [] all h = tt
+    sid_in day (r ∷ rows) all h =
+        here (lives_on day r) (sid_in day rows all (λ b e. h b (or_right (r.sid == b) (list_any (λ x. x.sid == b) rows) e)))
+      where
+        here : (t : Bool) → Each (λ b. list_any (λ x. x.sid == b) all ≡ true) (map (λ a. a.sid) (filter (lives_on day) rows))
+            → Each (λ b. list_any (λ x. x.sid == b) all ≡ true) (map (λ a. a.sid) (cond t (r ∷ filter (lives_on day) rows) (filter (lives_on day) rows)))
+        here true rest = (h r.sid (or_left (r.sid == r.sid) (list_any (λ x. x.sid == r.sid) rows) (eq-eqb r.sid r.sid refl)), rest)
+        here false rest = rest
+
+    on : (o : Option ℤ) → Each (λ b. has_sid w b ≡ true) (unwrap_or (option_map (λ day. map (λ a. a.sid) (filter (lives_on day) w.assets)) o) [])
+    on None = tt
+    on (Some day) = sid_in day w.assets w.assets (λ b e. e)
+
+-- ---- mentioned terms
+
+input_mentioned : (is : List Input) (i t : ℕ) → slice_get is i ≡ Some (TermInput t) → contains (filter_map input_number is) t ≡ true
+input_mentioned [] i t e = absurd (let bad : None ≡ Some (TermInput t) = e in cc)
+input_mentioned (BarColumn c ∷ is) zero t e = absurd (let bad : Some (BarColumn c) ≡ Some (TermInput t) = e in cc)
+input_mentioned (BarColumn c ∷ is) (suc i) t e = input_mentioned is i t e
+input_mentioned (TermInput u ∷ is) zero t e =
+    let same : Some (TermInput u) ≡ Some (TermInput t) = e in
+    let number : u ≡ t = cc in
+    or_left (u == t) (contains (filter_map input_number is) t) (eq-eqb u t number)
+input_mentioned (TermInput u ∷ is) (suc i) t e = or_right (u == t) (contains (filter_map input_number is) t) (input_mentioned is i t e)
+
+in_front : (xs ys : List ℕ) (k : ℕ) → contains xs k ≡ true → contains (xs ++ ys) k ≡ true
+in_front xs ys k h = list_any-append (λ x. x == k) xs ys ∙ or_left (contains xs k) (contains ys k) h
+
+in_back : (xs ys : List ℕ) (k : ℕ) → contains ys k ≡ true → contains (xs ++ ys) k ≡ true
+in_back xs ys k h = list_any-append (λ x. x == k) xs ys ∙ or_right (contains xs k) (contains ys k) h
+
+number_in_option : (o : Option ℕ) (t : ℕ) → o ≡ Some t → contains (option_to_list o) t ≡ true
+number_in_option o t e = rw e (or_left (t == t) false (eq-eqb t t refl))
+
+module _ (w : World) (p : Pipeline) (ok : IsGraph p.graph) (windows : HasSessions p.graph) where
+  abbrev g : Graph
+  g = p.graph
+
+  -- a fact that may stand in a derivation: it fits, and what it reaches to has days
+  abbrev pub Fits : Fact → Type 0
+  Fits (Seen c a s d) = (is_fitting w p (Seen c a s d) ≡ true) × IsSession w s × IsSession w d
+  Fits (Worth t a d) = (is_fitting w p (Worth t a d) ≡ true) × IsSession w d × (pos 0 ≤ℤ reach w.days (term_at g t) d)
+
+  -- and of a lower depth
+  abbrev pub Ready : ℕ → Fact → Type 0
+  Ready depth f = Fits f × (depth_of f ≤ depth)
+
+  module _ (k : ℕ) (n : Node) (at : slice_get g k ≡ Some n) (used : is_used p k ≡ true) where
+    used_too : (t : ℕ) → t < k → contains (mentions n) t ≡ true → is_used p t ≡ true
+    used_too t l h =
+        let here : k < length g = slice_get_within g k n at in
+        used_terms-complete g (outputs p) ok t (omega arith)
+        (mentioned k (used_terms-sound g (outputs p) ok k used) (rw at h))
+
+    -- a term that the node mentions
+    record Lower (t : ℕ) : Type 0 where
+      below : t < k
+      read : is_used p t ≡ true
+
+    input_lower : (i t : ℕ) → slice_get n.inputs i ≡ Some (TermInput t) → Lower t
+    input_lower i t e =
+        let l : t < k = (ok.lower k n at).inputs i t e in
+        record {
+          below = l;
+          read = used_too t l
+              (in_front (filter_map input_number n.inputs ++ option_to_list n.mask) (option_to_list n.group) t
+              (in_front (filter_map input_number n.inputs) (option_to_list n.mask) t (input_mentioned n.inputs i t e)));
+        }
+
+    mask_lower : (t : ℕ) → n.mask ≡ Some t → Lower t
+    mask_lower t e =
+        let l : t < k = (ok.lower k n at).mask t e in
+        record {
+          below = l;
+          read = used_too t l
+              (in_front (filter_map input_number n.inputs ++ option_to_list n.mask) (option_to_list n.group) t
+              (in_back (filter_map input_number n.inputs) (option_to_list n.mask) t (number_in_option n.mask t e)));
+        }
+
+    group_lower : (t : ℕ) → n.group ≡ Some t → Lower t
+    group_lower t e =
+        let l : t < k = (ok.lower k n at).group t e in
+        record {
+          below = l;
+          read = used_too t l (in_back (filter_map input_number n.inputs ++ option_to_list n.mask) (option_to_list n.group) t (number_in_option n.group t e));
+        }
+
+    -- the reach of a term in a window
+    term_reach : (t : ℕ) → t < k → (size : ℕ) (d : ℤ) → pos 0 ≤ℤ part_reach (term_at g t) (reach w.days (term_at g t)) size d
+        → (i : ℕ) → i < size → pos 0 ≤ℤ reach w.days (term_at g t) (before d i)
+    term_reach t l size d h i below =
+        let here : k < length g = slice_get_within g k n at in
+        found (slice_get g t) refl
+      where
+        found : (o : Option Node) → slice_get g t ≡ o → pos 0 ≤ℤ reach w.days (term_at g t) (before d i)
+        found None e = let here : k < length g = slice_get_within g k n at in absurd (past g t (omega arith) e)
+        found (Some m) e =
+            let tree : term_at g t ≡ tree_over (trees g) m = term_at-node g t m ok e in
+            let low : pos 0 ≤ℤ part_reach (tree_over (trees g) m) (reach w.days (tree_over (trees g) m)) size d = rw tree at h in
+            let at_i = at_downward (pos 0) (λ i. reach w.days (tree_over (trees g) m) (before d i)) size (below_least (pos 0) d _ low).1 i below in
+            rw tree at_i
+
+    module _ (a : ℕ) (d : ℤ) (sid : has_sid w a ≡ true) (now : IsSession w d) where
+      worth_ready : (t : ℕ) (s : ℤ) → Lower t → IsSession w s → pos 0 ≤ℤ reach w.days (term_at g t) s → Ready (suc k) (Worth t a s)
+      worth_ready t s lower at_s low = let l : t < k = lower.below in ((and_from _ _ sid lower.read, at_s, low), omega arith)
+
+      bar_ready : (c : Column) (s : ℤ) → s <ℤ d → pos 0 ≤ℤ s → Ready (suc k) (Seen c a s d)
+      bar_ready c s l low = ((and_from _ _ sid (earlier_test s d l), session_before w s d now low (omega (arith, ints)), now), omega arith)
+
+      now_ready : (i : ℕ) (size : ℕ) → 1 ≤ size → pos 0 ≤ℤ part_reach (input_tree (trees g) (slice_get n.inputs i)) (reach w.days (input_tree (trees g) (slice_get n.inputs i))) size d
+          → Each (Ready (suc k)) (facts_now a d (slice_get n.inputs i))
+      now_ready i size some low = found (slice_get n.inputs i) refl low
+        where
+          found : (o : Option Input) → slice_get n.inputs i ≡ o → pos 0 ≤ℤ part_reach (input_tree (trees g) o) (reach w.days (input_tree (trees g) o)) size d → Each (Ready (suc k)) (facts_now a d o)
+          found None e low = tt
+          found (Some (BarColumn c)) e low = tt
+          found (Some (TermInput t)) e low =
+              let lower : Lower t = input_lower i t e in
+              let at_zero = term_reach t lower.below size d low 0 (omega arith) in
+              (worth_ready t d lower now (rw (before-zero d) at at_zero), tt)
+
+      number_ready : (o : Option ℕ) → ((t : ℕ) → o ≡ Some t → Lower t) → pos 0 ≤ℤ part_reach (number_tree (trees g) o) (reach w.days (number_tree (trees g) o)) 1 d
+          → Each (Ready (suc k)) (number_facts a d o)
+      number_ready None lower low = tt
+      number_ready (Some t) lower low =
+          let l : Lower t = lower t refl in
+          let at_zero = term_reach t l.below 1 d low 0 (omega arith) in
+          (worth_ready t d l now (rw (before-zero d) at at_zero), tt)
+
+      window_ready : (i size : ℕ) → pos 0 ≤ℤ part_reach (input_tree (trees g) (slice_get n.inputs i)) (reach w.days (input_tree (trees g) (slice_get n.inputs i))) size d
+          → Each (Ready (suc k)) (window_facts size a d (slice_get n.inputs i))
+      window_ready i size low = found (slice_get n.inputs i) refl low
+        where
+          found : (o : Option Input) → slice_get n.inputs i ≡ o → pos 0 ≤ℤ part_reach (input_tree (trees g) o) (reach w.days (input_tree (trees g) o)) size d → Each (Ready (suc k)) (window_facts size a d o)
+          found None e low = tt
+          found (Some (BarColumn c)) e low =
+              each_in_map (Ready (suc k)) _ (downward size) (each_downward _ size (λ j l. bar_ready c (before d (suc j)) (earlier d j) (before-least d size j l low)))
+          found (Some (TermInput t)) e low =
+              let lower : Lower t = input_lower i t e in
+              each_in_map (Ready (suc k)) _ (downward size) (each_downward _ size (λ j l.
+              let reaches : pos 0 ≤ℤ reach w.days (term_at g t) (before d j) = term_reach t lower.below size d low j l in
+              worth_ready t (before d j) lower (session_before w (before d j) d now (late w.days (pos 0) (term_at g t) (before d j) reaches) (before-most d j)) reaches))
+
+    abbrev reached : Term → ℕ → ℤ → Type 0
+    reached x size d = pos 0 ≤ℤ part_reach x (reach w.days x) size d
+
+    -- the inputs are reached for session s, and the mask and the group for d
+    record Reached (s d : ℤ) : Type 0 where
+      first : reached (input_tree (trees g) (slice_get n.inputs 0)) n.window s
+      second : reached (input_tree (trees g) (slice_get n.inputs 1)) n.window s
+      third : reached (input_tree (trees g) (slice_get n.inputs 2)) n.window s
+      mask : reached (number_tree (trees g) n.mask) 1 d
+      group : reached (number_tree (trees g) n.group) 1 d
+
+    abbrev inputs_at : ℤ → ℤ
+    inputs_at d = reads_at w.days n.kind d
+
+    node_reached : (d : ℤ) → pos 0 ≤ℤ reach w.days (tree_over (trees g) n) d → Reached (inputs_at d) d
+    unfolding reach
+    node_reached d h =
+        let s : ℤ = reads_at w.days n.kind d in
+        let x = input_tree (trees g) (slice_get n.inputs 0) in
+        let y = input_tree (trees g) (slice_get n.inputs 1) in
+        let z = input_tree (trees g) (slice_get n.inputs 2) in
+        let m = number_tree (trees g) n.mask in
+        let q = number_tree (trees g) n.group in
+        let parts = (below_least (pos 0) d (part_reach x (reach w.days x) n.window s ∷ part_reach y (reach w.days y) n.window s ∷ part_reach z (reach w.days z) n.window s ∷ part_reach m (reach w.days m) 1 d ∷ part_reach q (reach w.days q) 1 d ∷ []) h).1 in
+        record { first = parts.0; second = parts.1.0; third = parts.1.1.0; mask = parts.1.1.1.0; group = parts.1.1.1.1.0 }
+
+    all_reached : (d : ℤ) → pos 0 ≤ℤ reach w.days (term_at g k) d → Reached (inputs_at d) d
+    all_reached d h = node_reached d (rw (term_at-node g k n ok at) at h)
+
+    inputs_ready : (s d : ℤ) → IsSession w s → Reached s d → (a : ℕ) → has_sid w a ≡ true → Each (Ready (suc k)) (over_inputs (facts_now a s) n)
+    inputs_ready s d now far a sid =
+        let some : 1 ≤ n.window = windows k n at in
+        each_both (Ready (suc k)) (facts_now a s (slice_get n.inputs 0) ++ facts_now a s (slice_get n.inputs 1)) (facts_now a s (slice_get n.inputs 2))
+        (each_both (Ready (suc k)) (facts_now a s (slice_get n.inputs 0)) (facts_now a s (slice_get n.inputs 1))
+        (now_ready a s sid now 0 n.window some far.first) (now_ready a s sid now 1 n.window some far.second))
+        (now_ready a s sid now 2 n.window some far.third)
+
+    module _ (d : ℤ) (now : IsSession w d) where
+      windows_ready : Reached d d → (a : ℕ) → has_sid w a ≡ true → Each (Ready (suc k)) (over_inputs (window_facts n.window a d) n)
+      windows_ready far a sid =
+          each_both (Ready (suc k)) (window_facts n.window a d (slice_get n.inputs 0) ++ window_facts n.window a d (slice_get n.inputs 1)) (window_facts n.window a d (slice_get n.inputs 2))
+          (each_both (Ready (suc k)) (window_facts n.window a d (slice_get n.inputs 0)) (window_facts n.window a d (slice_get n.inputs 1))
+          (window_ready a d sid now 0 n.window far.first) (window_ready a d sid now 1 n.window far.second))
+          (window_ready a d sid now 2 n.window far.third)
+
+      mask_ready : (s : ℤ) → Reached s d → (a : ℕ) → has_sid w a ≡ true → Each (Ready (suc k)) (number_facts a d n.mask)
+      mask_ready s far a sid = number_ready a d sid now n.mask mask_lower far.mask
+
+      entry_ready : Reached d d → (a : ℕ) → has_sid w a ≡ true → Each (Ready (suc k)) (entry_facts n d a)
+      entry_ready far a sid =
+          each_both (Ready (suc k)) (number_facts a d n.mask ++ number_facts a d n.group) (over_inputs (facts_now a d) n)
+          (each_both (Ready (suc k)) (number_facts a d n.mask) (number_facts a d n.group) (mask_ready d far a sid) (number_ready a d sid now n.group group_lower far.group))
+          (inputs_ready d d now far a sid)
+
+      start_session : (f : Frequency) → IsSession w (period_start f w.days d)
+      start_session f =
+          let same : d ≡ pos now.0 = now.2 in
+          session_before w (period_start f w.days d) d now (rw same (start-from f w.days now.0)) (start-within f w.days d)
+
+      kind_ready : (kind : Kind) → Reached (reads_at w.days kind d) d → (a : ℕ) → has_sid w a ≡ true → Each (Ready (suc k)) (kind_facts w n kind a d)
+      kind_ready (Constant c) far a sid = tt
+      kind_ready (Label l) far a sid = tt
+      kind_ready (StaticSids sids) far a sid = tt
+      kind_ready (Window f) far a sid = windows_ready far a sid
+      kind_ready (Point f) far a sid = inputs_ready d d now far a sid
+      kind_ready (LabelTest f) far a sid = inputs_ready d d now far a sid
+      kind_ready (Cross f) far a sid =
+          each_in_flat (Ready (suc k)) (entry_facts n d) (living_sids w d) (each_more _ _ (living_sids w d) (λ b known. entry_ready far b known) (living_known w d))
+      kind_ready (Downsample f) far a sid = inputs_ready (period_start f w.days d) d (start_session f) far a sid
+
+      node_ready : Reached (inputs_at d) d → (r : Reading) (a : ℕ) → has_sid w a ≡ true → Each (Ready (suc k)) (node_facts w p r n a d)
+      node_ready far r a sid = there (exists w a d)
+        where
+          passing : (b : Bool) → Each (Ready (suc k)) (if b then kind_facts w n n.kind a d else [])
+          passing true = kind_ready n.kind far a sid
+          passing false = tt
+
+          there : (b : Bool) → Each (Ready (suc k)) (if b then number_facts a d n.mask ++ (if passes (number_read w p r n.mask) a d then kind_facts w n n.kind a d else []) else [])
+          there true = each_both (Ready (suc k)) (number_facts a d n.mask) _ (mask_ready (inputs_at d) far a sid) (passing (passes (number_read w p r n.mask) a d))
+          there false = tt
+
+  -- the premises of a fact are ready before it
+  pub premises_ready : (r : Reading) (f : Fact) (depth : ℕ) → Fits f → depth_of f ≤ suc depth → Each (Ready depth) (premises w p r f)
+  premises_ready r (Seen c a s d) depth h l = tt
+  premises_ready r (Worth t a d) depth h l = found (slice_get g t) refl
+    where
+      found : (o : Option Node) → slice_get g t ≡ o → Each (Ready depth) (premises w p r (Worth t a d))
+      found None e = rw e tt
+      found (Some n) e =
+          let fit = and_parts (has_sid w a) (is_used p t) h.0 in
+          let all : Each (Ready (suc t)) (node_facts w p r n a d) = node_ready t n e fit.1 d h.1 (all_reached t n e fit.1 d h.2) r a fit.0 in
+          let here : Each (Ready depth) (node_facts w p r n a d) = each_more _ _ (node_facts w p r n a d) (λ f i. (i.0, (let m : depth_of f ≤ suc t = i.1 in omega arith))) all in
+          rw e here

@@ -1,0 +1,15 @@
+pub mod TextsRead
+pub mod TextsSaid
+pub mod Printing
+pub mod Numbers
+pub mod Cuts
+pub mod Listing
+pub mod Steps
+pub mod Codes
+pub mod Finding
+pub mod Truths
+pub mod Fits
+pub mod Walking
+pub mod Worked
+pub mod Standing
+pub mod Growing

@@ -1,0 +1,77 @@
+-- Fields that are put one after the other are the text of a line.
+use Rattle.std.proofs.Common.{◌≡◌, ℕ, zero, suc, ℤ, pos, List, [], ◌∷◌, ◌++◌, map, Some, None, codes, refl, sym, ◌∙◌, ap, append_assoc, append-nil, slice_get, take, length, ◌<◌, ◌+◌, subst, arith, fold, get_or}
+use Rattle.std.proofs.lemmas.Grind.{flat_map-append}
+use Rattle.std.specs.List.{flat_map, join_by}
+use Rattle.std.proofs.lemmas.List.Folds.{flat_map-map}
+use Rattle.std.proofs.lemmas.Option.{slice_get-map, slice_get_read}
+use Rattle.std.proofs.lemmas.List.{length-map, flat_map_more, take_more}
+use Rattle.pl_derivation.specs.declared.line.Line as code
+use Rattle.pl_derivation.specs.Listed.{line_of}
+use Rattle.pl_derivation.specs.Lines.{Line}
+use Rattle.pl_derivation.specs.Texts.{number_text, body_of, text_of, IsWritable, AreWritable}
+
+pub writable_at : (ls : List Line) → AreWritable ls → (i : ℕ) (l : Line) → slice_get ls i ≡ Some l → IsWritable l
+writable_at [] h i l e = absurd (let bad : None ≡ Some l = e in cc)
+writable_at (m ∷ ls) h zero l e = let same : m ≡ l = cc in subst IsWritable same h.0
+writable_at (m ∷ ls) h (suc i) l e = writable_at ls h.1 i l e
+
+abbrev behind : List (List ℕ) → List ℕ
+behind fs = flat_map (λ y. (32 ∷ []) ++ y) fs
+
+one_by_one : (b : List ℕ) (fs : List (List ℕ)) → fold (λ bytes f. bytes ++ ((32 ∷ []) ++ f)) b fs ≡ b ++ behind fs
+one_by_one b [] = sym (append-nil b)
+one_by_one b (f ∷ fs) = one_by_one (b ++ ((32 ∷ []) ++ f)) fs ∙ append_assoc b ((32 ∷ []) ++ f) (behind fs)
+
+regroup : (b s f c n : List ℕ) → (((b ++ s) ++ f) ++ c) ++ n ≡ b ++ ((s ++ (f ++ c)) ++ n)
+regroup [] s f c n = ap (λ x. x ++ n) (append_assoc s f c)
+regroup (x ∷ b) s f c n = ap (λ r. x ∷ r) (regroup b s f c n)
+
+regroup_short : (b s f n : List ℕ) → ((b ++ s) ++ f) ++ n ≡ b ++ ((s ++ f) ++ n)
+regroup_short [] s f n = refl
+regroup_short (x ∷ b) s f n = ap (λ r. x ∷ r) (regroup_short b s f n)
+
+pub seen_joined : (b name a bar day : List ℕ) (cells : List ℤ)
+    → ((((((b ++ codes "seen") ++ ((32 ∷ []) ++ name)) ++ ((32 ∷ []) ++ a)) ++ ((32 ∷ []) ++ bar)) ++ ((32 ∷ []) ++ day)) ++ flat_map (λ x. (32 ∷ []) ++ number_text x) cells) ++ 10 ∷ []
+    ≡ b ++ (join_by (λ f. f) (32 ∷ []) (codes "seen" ∷ name ∷ a ∷ bar ∷ day ∷ map number_text cells) ++ 10 ∷ [])
+seen_joined b name a bar day cells =
+    let front = name ∷ a ∷ bar ∷ day ∷ [] in
+    ap (λ t. (t ++ flat_map (λ x. (32 ∷ []) ++ number_text x) cells) ++ 10 ∷ []) (one_by_one (b ++ codes "seen") front)
+    ∙ regroup b (codes "seen") (behind front) (flat_map (λ x. (32 ∷ []) ++ number_text x) cells) (10 ∷ [])
+    ∙ ap (λ t. b ++ ((codes "seen" ++ (behind front ++ t)) ++ 10 ∷ [])) (sym (flat_map-map (λ y. (32 ∷ []) ++ y) number_text cells))
+    ∙ ap (λ t. b ++ ((codes "seen" ++ t) ++ 10 ∷ [])) (sym (flat_map-append (λ y. (32 ∷ []) ++ y) front (map number_text cells)))
+
+pub value_joined : (b t a day v : List ℕ)
+    → (((((b ++ codes "value") ++ ((32 ∷ []) ++ t)) ++ ((32 ∷ []) ++ a)) ++ ((32 ∷ []) ++ day)) ++ ((32 ∷ []) ++ v)) ++ 10 ∷ []
+    ≡ b ++ (join_by (λ f. f) (32 ∷ []) (codes "value" ∷ t ∷ a ∷ day ∷ v ∷ []) ++ 10 ∷ [])
+value_joined b t a day v =
+    let fields = t ∷ a ∷ day ∷ v ∷ [] in
+    ap (λ t. t ++ 10 ∷ []) (one_by_one (b ++ codes "value") fields) ∙ regroup_short b (codes "value") (behind fields) (10 ∷ [])
+
+pub text_begun : text_of [] ≡ []
+unfolding text_of
+text_begun = refl
+
+pub text_more : (ls : List Line) (l : Line) → text_of (ls ++ l ∷ []) ≡ text_of ls ++ (body_of l ++ 10 ∷ [])
+unfolding text_of
+text_more [] l = append-nil (body_of l ++ 10 ∷ [])
+text_more (m ∷ ls) l = ap (λ t. (body_of m ++ 10 ∷ []) ++ t) (text_more ls l) ∙ sym (append_assoc (body_of m ++ 10 ∷ []) (text_of ls) (body_of l ++ 10 ∷ []))
+
+lines_more : (ls : List Line) (i : ℕ) (l : Line) → slice_get ls i ≡ Some l → take (i + 1) ls ≡ take i ls ++ l ∷ []
+lines_more [] i l e = absurd (let bad : None ≡ Some l = e in cc)
+lines_more (m ∷ ls) zero l e = let same : m ≡ l = cc in rw same refl
+lines_more (m ∷ ls) (suc i) l e = let next : suc i + 1 ≡ suc (i + 1) = omega arith in rw next (ap (λ r. m ∷ r) (lines_more ls i l e))
+
+pub text_next : (ls : List Line) (i : ℕ) (l : Line) → slice_get ls i ≡ Some l → text_of (take (i + 1) ls) ≡ text_of (take i ls) ++ (body_of l ++ 10 ∷ [])
+text_next ls i l e = rw (lines_more ls i l e) (text_more (take i ls) l)
+
+pub line_at : (items : List code.Line) (i : ℕ) (x : code.Line) → x ≡ get_or items i x → i < length (map line_of items) → slice_get (map line_of items) i ≡ Some (line_of x)
+line_at items i x e h =
+    let within : i < length items = rw (length-map items line_of) at h in
+    rw (slice_get-map line_of items i, slice_get_read items (length items) i x refl within e) refl
+
+-- the field of one more number
+pub numbers_next : (bytes : List ℕ) (xs : List ℤ) (i : ℕ) → i < length xs
+    → (bytes ++ flat_map (λ x. (32 ∷ []) ++ number_text x) (take i xs)) ++ ((32 ∷ []) ++ number_text (get_or xs i (pos 0))) ≡ bytes ++ flat_map (λ x. (32 ∷ []) ++ number_text x) (take (i + 1) xs)
+numbers_next bytes xs i h =
+    flat_map_more (λ x. (32 ∷ []) ++ number_text x) bytes (take i xs) (get_or xs i (pos 0))
+    ∙ ap (λ ys. bytes ++ flat_map (λ x. (32 ∷ []) ++ number_text x) ys) (sym (take_more xs i (pos 0) h))

@@ -1,0 +1,209 @@
+-- Where no line is wrong, each tells the number that the world has.
+use Rattle.std.proofs.Common.{◌≡◌, ℕ, zero, suc, Bool, true, false, ◌&&◌, ℤ, pos, List, [], ◌∷◌, ◌++◌, fold, get_or, Option, Some, None, option_map, refl, sym, ◌∙◌, ap, slice_get, ◌==◌, inl, inr}
+use Rattle.std.specs.List.{list_any, list_all}
+use Rattle.std.specs.Option.{option_and_then, option_to_list}
+use Rattle.std.specs.Ordering.{int_eq}
+use Rattle.std.specs.Cmp.Lexicographic.{pointwise}
+use Rattle.std.proofs.lemmas.Bool.{true≢false, or_cases, and_parts, eqb-true, eq-eqb}
+use Rattle.std.proofs.lemmas.Bool.Decides.{Decides-int_eq}
+use Rattle.std.proofs.lemmas.Slice.Eq.{slice_eq-Decides}
+use Rattle.std.proofs.lemmas.Option.{slice_get-get_or}
+use Rattle.pl_spec.specs.declared.Column.{Column}
+use Rattle.pl_spec.specs.declared.Column.TheVariants.{OpenPrice, High, Low, Close, Volume}
+use Rattle.pl_spec.specs.Rounding.{MISSING}
+use Rattle.pl_spec.specs.World.{World, day_of, bar_cell, column_number}
+use Rattle.pl_spec.specs.Window.{Effect, changed, after_all, effects, seen_cell}
+use Rattle.pl_spec.specs.Term.{IsGraph}
+use Rattle.pl_spec.specs.Table.{Pipeline}
+use Rattle.pl_derivation.specs.Facts.{Fact, Reading, same_fact, number_in, premises, single_step}
+use Rattle.pl_derivation.specs.Facts.Fact.{Seen, Worth}
+use Rattle.pl_derivation.specs.Lines.{Line}
+use Rattle.pl_derivation.specs.Right.{session_of, fact_of, last_cell, number_told, is_about, is_told, reading_of, is_fitting, after_each, seen_cells, tells_step, is_right_about, is_right, wrong_behind, first_wrong}
+use Rattle.pl_derivation.specs.Lines.Line.{SeenLine, ValueLine}
+use Rattle.pl_cross.specs.Arrays.{HasTexts}
+use Rattle.pl_derivation.specs.Laws.{IsTrueLine}
+use Rattle.pl_spec.proofs.Each.{Each, each_both, each_more, each_list_all, each_at}
+use Rattle.pl_derivation.proofs.Finding.{place_found}
+use Rattle.pl_derivation.proofs.Steps.{fact_same}
+use Rattle.pl_derivation.proofs.Codes.{step_true}
+
+-- ---- one fact
+
+column_at : ℕ → Column
+column_at zero = OpenPrice
+column_at (suc zero) = High
+column_at (suc (suc zero)) = Low
+column_at (suc (suc (suc zero))) = Close
+column_at (suc (suc (suc (suc n)))) = Volume
+
+column_back : (c : Column) → column_at (column_number c) ≡ c
+unfolding column_at
+column_back OpenPrice = refl
+column_back High = refl
+column_back Low = refl
+column_back Close = refl
+column_back Volume = refl
+
+pub column_same : (c c' : Column) → (column_number c == column_number c') ≡ true → c ≡ c'
+column_same c c' h = sym (column_back c) ∙ ap column_at (eqb-true (column_number c) (column_number c') h) ∙ column_back c'
+
+same_int : (x y : ℤ) → int_eq x y ≡ true → x ≡ y
+same_int x y h = (Decides-int_eq x y).0 h
+
+int_same : (x : ℤ) → int_eq x x ≡ true
+int_same x = (Decides-int_eq x x).1 refl
+
+nat_same : (x : ℕ) → (x == x) ≡ true
+nat_same x = eq-eqb x x refl
+
+pub and3 : (x y z : Bool) → (x && y && z) ≡ true → (x ≡ true) × (y ≡ true) × (z ≡ true)
+and3 true y z h = let p = and_parts y z h in (refl, p.0, p.1)
+and3 false y z h = absurd (true≢false (sym h))
+
+and4 : (x y z u : Bool) → (x && y && z && u) ≡ true → (x ≡ true) × (y ≡ true) × (z ≡ true) × (u ≡ true)
+and4 true y z u h = let p = and3 y z u h in (refl, p.0, p.1, p.2)
+and4 false y z u h = absurd (true≢false (sym h))
+
+pub same_is : (f g : Fact) → same_fact f g ≡ true → f ≡ g
+same_is (Seen c a s d) (Seen c' a' s' d') h =
+    let p = and4 (column_number c == column_number c') (a == a') (int_eq s s') (int_eq d d') h in
+    rw (column_same c c' p.0, eqb-true a a' p.1, same_int s s' p.2, same_int d d' p.3) refl
+same_is (Worth t a d) (Worth t' a' d') h =
+    let p = and3 (t == t') (a == a') (int_eq d d') h in
+    rw (eqb-true t t' p.0, eqb-true a a' p.1, same_int d d' p.2) refl
+same_is (Seen c a s d) (Worth t' a' d') h = absurd (true≢false (sym h))
+same_is (Worth t a d) (Seen c' a' s' d') h = absurd (true≢false (sym h))
+
+pub is_same : (f : Fact) → same_fact f f ≡ true
+is_same (Seen c a s d) = rw (nat_same (column_number c), nat_same a, int_same s, int_same d) refl
+is_same (Worth t a d) = rw (nat_same t, nat_same a, int_same d) refl
+
+-- ---- the fact of a line
+
+about_is : (f : Fact) (o : Option Fact) → list_any (same_fact f) (option_to_list o) ≡ true → o ≡ Some f
+about_is f None h = absurd (true≢false (sym h))
+about_is f (Some g) h = elim (or_cases (same_fact f g) false h) [
+  | inl e ↦ ap Some (sym (same_is f g e))
+  | inr e ↦ absurd (true≢false (sym e))
+]
+
+pub fact_is : (w : World) (f : Fact) (l : Line) → is_about w f l ≡ true → fact_of w l ≡ Some f
+fact_is w f l h = about_is f (fact_of w l) h
+
+pub is_fact : (w : World) (f : Fact) (l : Line) → fact_of w l ≡ Some f → is_about w f l ≡ true
+is_fact w f l e = rw (e, is_same f) refl
+
+-- the session of a day has that day
+session_is : (w : World) (day : ℤ) (s : ℕ) → session_of w day ≡ Some s → day_of w (pos s) ≡ Some day
+session_is w day s e =
+    let place = place_found (λ x. int_eq x day) w.days s (pos 0) e in
+    let same : get_or w.days s (pos 0) ≡ day = same_int (get_or w.days s (pos 0)) day place.1 in
+    slice_get-get_or w.days s (pos 0) place.0 ∙ ap Some same
+
+seen_sessions : (c : Column) (a : ℕ) (f : Fact) (o q : Option ℕ) → option_and_then (λ s. option_map (λ d. Seen c a (pos s) (pos d)) q) o ≡ Some f
+    → (s : ℕ) × (d : ℕ) × (o ≡ Some s) × (q ≡ Some d) × (f ≡ Seen c a (pos s) (pos d))
+seen_sessions c a f None q h = absurd (let bad : None ≡ Some f = h in cc)
+seen_sessions c a f (Some s) None h = absurd (let bad : None ≡ Some f = h in cc)
+seen_sessions c a f (Some s) (Some d) h = let same : Some (Seen c a (pos s) (pos d)) ≡ Some f = h in (s, d, refl, refl, cc)
+
+value_session : (t a : ℕ) (f : Fact) (q : Option ℕ) → option_map (λ d. Worth t a (pos d)) q ≡ Some f → (d : ℕ) × (q ≡ Some d) × (f ≡ Worth t a (pos d))
+value_session t a f None h = absurd (let bad : None ≡ Some f = h in cc)
+value_session t a f (Some d) h = let same : Some (Worth t a (pos d)) ≡ Some f = h in (d, refl, cc)
+
+-- ---- the cells of a bar
+
+each_last : (x y : ℤ) (fs : List Effect) → fold (λ x y. y) y (after_each x fs) ≡ after_all x fs
+each_last x y [] = refl
+each_last x y (f ∷ fs) = each_last (changed x f) x fs
+
+each_ends : (x : ℤ) (fs : List Effect) → (front : List ℤ) × (after_each x fs ≡ front ++ after_all x fs ∷ [])
+each_ends x [] = ([], refl)
+each_ends x (f ∷ fs) =
+    let rest : (front : List ℤ) × (after_each (changed x f) fs ≡ front ++ after_all (changed x f) fs ∷ []) = each_ends (changed x f) fs in
+    (x ∷ rest.0, ap (λ l. x ∷ l) rest.1)
+
+pub last_seen : (w : World) (a : ℕ) (c : Column) (s d : ℤ) → last_cell (seen_cells w a c s d) ≡ seen_cell w a c s d
+unfolding seen_cell
+last_seen w a c s d = each_last (bar_cell w a c s) MISSING (effects w a c s d)
+
+seen_ends : (w : World) (a : ℕ) (c : Column) (s d : ℤ) → (front : List ℤ) × (seen_cells w a c s d ≡ front ++ seen_cell w a c s d ∷ [])
+unfolding seen_cell
+seen_ends w a c s d = each_ends (bar_cell w a c s) (effects w a c s d)
+
+pub none_wrong : ◌≡◌ {A = Option ℕ} (Some 0) None → ⊥
+none_wrong h = cc
+
+module _ (w : World) (p : Pipeline) where
+  -- a line whose fact's number is the world's
+  abbrev pub Tells : Line → Type 0
+  Tells l = (f : Fact) → fact_of w l ≡ Some f → number_told l ≡ number_in w p f
+
+  -- the first line about a fact tells its number
+  pub told_true : (lines : List Line) (f : Fact) → Each Tells lines → is_told w lines f ≡ true → reading_of w lines f ≡ number_in w p f
+  told_true [] f h i = absurd (true≢false (sym i))
+  told_true (l ∷ lines) f h i = step (is_about w f l) refl i (told_true lines f h.1)
+    where
+      step : (b : Bool) → is_about w f l ≡ b → is_told w (l ∷ lines) f ≡ true → (is_told w lines f ≡ true → reading_of w lines f ≡ number_in w p f)
+          → reading_of w (l ∷ lines) f ≡ number_in w p f
+      step true e i more = rw e (h.0 f (fact_is w f l e))
+      step false e i more = rw e (more (rw e at i))
+
+  tells_number : (r : Reading) (l : Line) (f : Fact) → tells_step w p r l f ≡ true → number_told l ≡ single_step w p r f
+  tells_number r (SeenLine c' a' bar day cells) (Seen c a s d) h =
+      let same : cells ≡ seen_cells w a c s d = (slice_eq-Decides Decides-int_eq cells (seen_cells w a c s d) _ refl).0 h in
+      ap last_cell same ∙ last_seen w a c s d
+  tells_number r (SeenLine c' a' bar day cells) (Worth t a d) h = absurd (true≢false (sym h))
+  tells_number r (ValueLine t a day v) f h = same_int v (single_step w p r f) h
+
+  module _ (known : HasTexts w) (ok : IsGraph p.graph) where
+    -- after true lines a right line is true
+    right_about : (lines : List Line) → Each Tells lines → (l : Line) (f : Fact) → is_right_about w p lines l (Some f) ≡ true → number_told l ≡ number_in w p f
+    right_about lines h l f e =
+        let parts = and3 (is_fitting w p f) (list_all (is_told w lines) (premises w p (reading_of w lines) f)) (tells_step w p (reading_of w lines) l f) e in
+        let stand = each_list_all (is_told w lines) (premises w p (reading_of w lines) f) parts.1 in
+        let agree : Each (λ g. reading_of w lines g ≡ number_in w p g) (premises w p (reading_of w lines) f)
+        = each_more _ _ (premises w p (reading_of w lines) f) (λ g i. told_true lines g h i) stand in
+        tells_number (reading_of w lines) l f parts.2 ∙ (fact_same w p (reading_of w lines) (number_in w p) f agree).1 ∙ step_true w p known ok f
+
+    pub right_tells : (lines : List Line) → Each Tells lines → (l : Line) → is_right w p lines l ≡ true → Tells l
+    right_tells lines h l e f i = right_about lines h l f (rw i at e)
+
+    -- what a right line has besides: its days are sessions, and its cells are those of the bar
+    right_line : (lines : List Line) → Each Tells lines → (l : Line) → is_right w p lines l ≡ true → IsTrueLine w p l
+    right_line lines h l e = found (fact_of w l) refl
+      where
+        true_line : (l : Line) (f : Fact) → fact_of w l ≡ Some f → is_right_about w p lines l (Some f) ≡ true → number_told l ≡ number_in w p f → IsTrueLine w p l
+        true_line (SeenLine c a bar day cells) f i e n =
+            let at = seen_sessions c a f (session_of w bar) (session_of w day) i in
+            let fact : f ≡ Seen c a (pos at.0) (pos at.1) = at.4 in
+            let parts = and3 (is_fitting w p f) (list_all (is_told w lines) (premises w p (reading_of w lines) f)) (tells_step w p (reading_of w lines) (SeenLine c a bar day cells) f) e in
+            let told : pointwise int_eq cells (seen_cells w a c (pos at.0) (pos at.1)) ≡ true = rw fact at parts.2 in
+            let same : cells ≡ seen_cells w a c (pos at.0) (pos at.1) = (slice_eq-Decides Decides-int_eq cells (seen_cells w a c (pos at.0) (pos at.1)) _ refl).0 told in
+            let ends : (front : List ℤ) × (seen_cells w a c (pos at.0) (pos at.1) ≡ front ++ seen_cell w a c (pos at.0) (pos at.1) ∷ []) = seen_ends w a c (pos at.0) (pos at.1) in
+            (at.0, at.1, session_is w bar at.0 at.2, session_is w day at.1 at.3, ends.0, same ∙ ends.1)
+        true_line (ValueLine t a day v) f i e n =
+            let at = value_session t a f (session_of w day) i in
+            let fact : f ≡ Worth t a (pos at.0) = at.2 in
+            (at.0, session_is w day at.0 at.1, rw fact at n)
+
+        found : (o : Option Fact) → fact_of w l ≡ o → IsTrueLine w p l
+        found None i = let no : false ≡ true = rw i at e in absurd (true≢false (sym no))
+        found (Some f) i = true_line l f i (rw i at e) (right_tells lines h l e f i)
+
+    pub no_map : (o : Option ℕ) → option_map suc o ≡ None → o ≡ None
+    no_map None h = refl
+    no_map (Some n) h = absurd (let bad : Some (suc n) ≡ None = h in cc)
+
+    pub all_true : (lines ls : List Line) → Each Tells lines → wrong_behind w p lines ls ≡ None → Each (IsTrueLine w p) ls
+    all_true lines [] h e = tt
+    all_true lines (l ∷ ls) h e =
+        step (is_right w p lines l) refl e (λ i. all_true (lines ++ l ∷ []) ls (each_both Tells lines (l ∷ []) h (right_tells lines h l i, tt)))
+      where
+        step : (b : Bool) → is_right w p lines l ≡ b → wrong_behind w p lines (l ∷ ls) ≡ None
+            → (is_right w p lines l ≡ true → wrong_behind w p (lines ++ l ∷ []) ls ≡ None → Each (IsTrueLine w p) ls) → Each (IsTrueLine w p) (l ∷ ls)
+        step true i e more = (right_line lines h l i, more i (no_map _ (rw i at e)))
+        step false i e more = let bad : Some 0 ≡ None = rw i at e in absurd (none_wrong bad)
+
+    -- The law: where no line is wrong, each is true.
+    pub sound : (lines : List Line) → first_wrong w p lines ≡ None → (i : ℕ) (l : Line) → slice_get lines i ≡ Some l → IsTrueLine w p l
+    sound lines e i l at = each_at (IsTrueLine w p) lines i l (all_true [] lines tt (no_map _ e)) at

@@ -1,0 +1,8 @@
+-- The lines of the code by the definitions.
+use Rattle.pl_derivation.specs.Lines as spec
+use Rattle.pl_derivation.specs.declared.line.Line.{Line}
+use Rattle.pl_derivation.specs.declared.line.Line.TheVariants.{Seen, Value}
+
+abbrev pub line_of : Line → spec.Line
+line_of (Seen column sid bar_day day cells) = spec.SeenLine column sid bar_day day cells
+line_of (Value term sid day value) = spec.ValueLine term sid day value

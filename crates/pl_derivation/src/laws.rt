@@ -1,0 +1,39 @@
+//! The laws of derivations and of their text. The functions do nothing: the contract of each is a law.
+ghost use Rattle.pl_derivation.specs.Texts.{LinesAreRead, TextsAreRead};
+ghost use Rattle.pl_derivation.specs.Walks.{WalksGrow};
+ghost use Rattle.pl_derivation.specs.Laws.{RightLinesAreTrue, RightIsTrue, RepeatsAreRight, DerivationsAreRight};
+
+/// What was written of lines is read back.
+pub fn texts_are_read()
+    ensures { TextsAreRead }
+{}
+
+/// A text is read as a line exactly where it is the line's text.
+pub fn lines_are_read()
+    ensures { LinesAreRead }
+{}
+
+/// A list of right lines tells the truth.
+pub fn right_lines_are_true()
+    ensures { RightLinesAreTrue }
+{}
+
+/// The derivation of a cell is right, and ends with the cell.
+pub fn derivations_are_right()
+    ensures { DerivationsAreRight }
+{}
+
+/// After right lines a line is right where its premises stand and it tells the truth.
+pub fn right_is_true()
+    ensures { RightIsTrue }
+{}
+
+/// A fact that stands already is judged by its number alone.
+pub fn repeats_are_right()
+    ensures { RepeatsAreRight }
+{}
+
+/// A walk takes nothing back.
+pub fn walks_grow()
+    ensures { WalksGrow }
+{}

@@ -1,0 +1,163 @@
+-- What a cross-section rests on: its mask, its group and its input, each for all assets that exist.
+use Rattle.std.proofs.Common.{◌≡◌, ℕ, zero, suc, ◌+◌, ◌<◌, Bool, true, false, ◌&&◌, if◌then◌else◌, cond, ℤ, List, [], ◌∷◌, ◌++◌, map, flat_map, filter, length, Some, None, slice_get, refl, sym, ◌∙◌, ap, arith, inl, inr}
+use Rattle.std.specs.List.{list_all}
+use Rattle.std.proofs.lemmas.Bool.{cases_lt}
+use Rattle.std.proofs.lemmas.List.Folds.{list_all-append}
+use Rattle.pl_spec.specs.declared.AssetRow.{AssetRow}
+use Rattle.pl_spec.specs.Parts.{sid_at}
+use Rattle.pl_spec.specs.World.{World, exists}
+use Rattle.pl_spec.specs.Term.{Node}
+use Rattle.pl_spec.specs.Term.Input.{TermInput}
+use Rattle.pl_derivation.specs.Facts.{Fact, number_facts, facts_now, over_inputs, entry_facts}
+use Rattle.pl_derivation.specs.Facts.Fact.{Worth}
+use Rattle.pl_explain.specs.declared.told.Told.{Told}
+use Rattle.pl_explain.specs.Given.{has, has_all, given, living_facts}
+
+-- ---- three lists for each
+
+shuffle : (a b c x y z : Bool) → ((a && b && c) && (x && y && z)) ≡ ((a && x) && (b && y) && (c && z))
+shuffle false b c x y z = refl
+shuffle true false c true y z = refl
+shuffle true false c false y z = refl
+shuffle true true false true true z = refl
+shuffle true true false true false z = refl
+shuffle true true false false y z = refl
+shuffle true true true true true z = refl
+shuffle true true true true false z = refl
+shuffle true true true false y z = refl
+
+module _ (h : Fact → Bool) (f g k : ℕ → List Fact) where
+  each-list : (b : ℕ) → list_all h (f b ++ g b ++ k b) ≡ (list_all h (f b) && list_all h (g b) && list_all h (k b))
+  each-list b = list_all-append h (f b ++ g b) (k b) ∙ ap (λ t. t && list_all h (k b)) (list_all-append h (f b) (g b)) ∙ grouped (list_all h (f b)) (list_all h (g b)) (list_all h (k b))
+    where
+      grouped : (x y z : Bool) → ((x && y) && z) ≡ (x && y && z)
+      grouped true y z = refl
+      grouped false y z = refl
+
+  pub entries-split : (bs : List ℕ) → list_all h (flat_map (λ b. f b ++ g b ++ k b) bs) ≡ (list_all h (flat_map f bs) && list_all h (flat_map g bs) && list_all h (flat_map k bs))
+  entries-split [] = refl
+  entries-split (b ∷ bs) =
+      list_all-append h (f b ++ g b ++ k b) (flat_map (λ b. f b ++ g b ++ k b) bs)
+      ∙ ap (λ t. t && list_all h (flat_map (λ b. f b ++ g b ++ k b) bs)) (each-list b)
+      ∙ ap (λ t. (list_all h (f b) && list_all h (g b) && list_all h (k b)) && t) (entries-split bs)
+      ∙ shuffle (list_all h (f b)) (list_all h (g b)) (list_all h (k b)) (list_all h (flat_map f bs)) (list_all h (flat_map g bs)) (list_all h (flat_map k bs))
+      ∙ ap (λ t. t && (list_all h (g b) && list_all h (flat_map g bs)) && (list_all h (k b) && list_all h (flat_map k bs))) (sym (list_all-append h (f b) (flat_map f bs)))
+      ∙ ap (λ t. list_all h (f b ++ flat_map f bs) && t && (list_all h (k b) && list_all h (flat_map k bs))) (sym (list_all-append h (g b) (flat_map g bs)))
+      ∙ ap (λ t. list_all h (f b ++ flat_map f bs) && list_all h (g b ++ flat_map g bs) && t) (sym (list_all-append h (k b) (flat_map k bs)))
+
+-- ---- one list each
+
+pub no-facts : (d : ℤ) (bs : List ℕ) → flat_map (λ b. number_facts b d None) bs ≡ []
+no-facts d [] = refl
+no-facts d (b ∷ bs) = no-facts d bs
+
+pub term-facts : (t : ℕ) (d : ℤ) (bs : List ℕ) → flat_map (λ b. number_facts b d (Some t)) bs ≡ map (λ b. Worth t b d) bs
+term-facts t d [] = refl
+term-facts t d (b ∷ bs) = ap (λ l. Worth t b d ∷ l) (term-facts t d bs)
+
+pub input-facts : (n : Node) (t : ℕ) (d : ℤ) → slice_get n.inputs 0 ≡ Some (TermInput t) → slice_get n.inputs 1 ≡ None → slice_get n.inputs 2 ≡ None
+    → (bs : List ℕ) → flat_map (λ b. over_inputs (facts_now b d) n) bs ≡ map (λ b. Worth t b d) bs
+input-facts n t d e f g [] = refl
+input-facts n t d e f g (b ∷ bs) = ap (λ l. l ++ flat_map (λ b. over_inputs (facts_now b d) n) bs) one ∙ ap (λ l. Worth t b d ∷ l) (input-facts n t d e f g bs)
+  where
+    one : over_inputs (facts_now b d) n ≡ Worth t b d ∷ []
+    one = rw (e, f, g) refl
+
+module _ (told : Told) (n : Node) (d : ℤ) (bs : List ℕ) where
+  abbrev pub masks : List Fact
+  masks = flat_map (λ b. number_facts b d n.mask) bs
+
+  abbrev pub groups : List Fact
+  groups = flat_map (λ b. number_facts b d n.group) bs
+
+  abbrev pub inputs : List Fact
+  inputs = flat_map (λ b. over_inputs (facts_now b d) n) bs
+
+  whole : has_all told (flat_map (entry_facts n d) bs) ≡ (has_all told masks && has_all told groups && has_all told inputs)
+  whole = entries-split (has told) (λ b. number_facts b d n.mask) (λ b. number_facts b d n.group) (λ b. over_inputs (facts_now b d) n) bs
+
+  pub entries-told : has_all told masks ≡ true → has_all told groups ≡ true → has_all told inputs ≡ true → has_all told (flat_map (entry_facts n d) bs) ≡ true
+  entries-told x y z = whole ∙ rw (x, y, z) refl
+
+  lack : (a b c : Bool) → (a ≡ false) → (a && b && c) ≡ false
+  lack a b c e = rw e refl
+
+  lack-second : (a b c : Bool) → (b ≡ false) → (a && b && c) ≡ false
+  lack-second true b c e = rw e refl
+  lack-second false b c e = refl
+
+  lack-third : (a b c : Bool) → (c ≡ false) → (a && b && c) ≡ false
+  lack-third true true c e = e
+  lack-third true false c e = refl
+  lack-third false b c e = refl
+
+  pub masks-lack : has_all told masks ≡ false → has_all told (flat_map (entry_facts n d) bs) ≡ false
+  masks-lack x = whole ∙ lack (has_all told masks) (has_all told groups) (has_all told inputs) x
+
+  pub groups-lack : has_all told groups ≡ false → has_all told (flat_map (entry_facts n d) bs) ≡ false
+  groups-lack x = whole ∙ lack-second (has_all told masks) (has_all told groups) (has_all told inputs) x
+
+  pub inputs-lack : has_all told inputs ≡ false → has_all told (flat_map (entry_facts n d) bs) ≡ false
+  inputs-lack x = whole ∙ lack-third (has_all told masks) (has_all told groups) (has_all told inputs) x
+
+-- ---- for the assets that exist, place by place
+
+-- the fact of a sid that passes a test
+abbrev pub fact_where : (ℕ → Bool) → (ℕ → Fact) → ℕ → List Fact
+fact_where q f a = if q a then f a ∷ [] else []
+
+module _ (told : Told) (q : ℕ → Bool) (f : ℕ → Fact) where
+  abbrev sids : List AssetRow → List ℕ
+  sids assets = map (λ a. a.sid) assets
+
+  one : (b : Bool) (x : Fact) (xs : List Fact) → has_all told (if b then x ∷ [] else []) ≡ true → has_all told xs ≡ true → has_all told (cond b (x ∷ xs) xs) ≡ true
+  one true x xs h i = both (has told x) (has_all told xs) h i
+    where
+      both : (a c : Bool) → (a && true) ≡ true → c ≡ true → (a && c) ≡ true
+      both true c h i = i
+      both false c h i = h
+  one false x xs h i = i
+
+  own : (b : Bool) (x : Fact) (xs : List Fact) → has_all told (if b then x ∷ [] else []) ≡ false → has_all told (cond b (x ∷ xs) xs) ≡ false
+  own true x xs h = fails (has told x) (has_all told xs) h
+    where
+      fails : (a c : Bool) → (a && true) ≡ false → (a && c) ≡ false
+      fails true c h = absurd (let bad : true ≡ false = h in cc)
+      fails false c h = refl
+  own false x xs h = absurd (let bad : true ≡ false = h in cc)
+
+  other : (b : Bool) (x : Fact) (xs : List Fact) → has_all told xs ≡ false → has_all told (cond b (x ∷ xs) xs) ≡ false
+  other true x xs h = fails (has told x) (has_all told xs) h
+    where
+      fails : (a c : Bool) → c ≡ false → (a && c) ≡ false
+      fails true c h = h
+      fails false c h = refl
+  other false x xs h = h
+
+  kept-first : (b : Bool) (a : ℕ) (bs : List ℕ) → map f (cond b (a ∷ bs) bs) ≡ cond b (f a ∷ map f bs) (map f bs)
+  kept-first true a bs = refl
+  kept-first false a bs = refl
+
+  pub living-told : (assets : List AssetRow) → ((i : ℕ) → i < length assets → has_all told (fact_where q f (sid_at assets i)) ≡ true) → has_all told (map f (filter q (sids assets))) ≡ true
+  living-told [] h = refl
+  living-told (a ∷ assets) h =
+      ap (has_all told) (kept-first (q a.sid) a.sid (filter q (sids assets)))
+      ∙ one (q a.sid) (f a.sid) (map f (filter q (sids assets))) (h 0 (omega arith)) (living-told assets (λ i l. h (suc i) (omega (arith, l))))
+
+  pub living-lacks : (assets : List AssetRow) (i : ℕ) → i < length assets → has_all told (fact_where q f (sid_at assets i)) ≡ false → has_all told (map f (filter q (sids assets))) ≡ false
+  living-lacks [] i l h = absurd (omega (arith, l))
+  living-lacks (a ∷ assets) zero l h = ap (has_all told) (kept-first (q a.sid) a.sid (filter q (sids assets))) ∙ own (q a.sid) (f a.sid) (map f (filter q (sids assets))) h
+  living-lacks (a ∷ assets) (suc i) l h =
+      ap (has_all told) (kept-first (q a.sid) a.sid (filter q (sids assets)))
+      ∙ other (q a.sid) (f a.sid) (map f (filter q (sids assets))) (living-lacks assets i (omega (arith, l)) h)
+
+-- of an asset that does not exist nothing has to be told
+pub living-none : {X : Type 0} (told : Told) (w : World) (t a : ℕ) (d : ℤ) (x v : X) → exists w a d ≡ false → x ≡ v → Some x ≡ given told (living_facts w t a d) v
+living-none told w t a d x v e h = rw (e, h) refl
+
+-- one place more
+pub next-place : (g : ℕ → Bool) (at : ℕ) → ((i : ℕ) → i < at → g i ≡ true) → g at ≡ true → (i : ℕ) → i < at + 1 → g i ≡ true
+next-place g at h e i l = elim (cases_lt i at) [
+  | inl before ↦ h i before
+  | inr past ↦ (let same : at ≡ i = omega (arith, past, l) in ap g (sym same) ∙ e)
+]

@@ -1,0 +1,76 @@
+-- What is given where facts are told.
+use Rattle.std.specs.Prelude.{◌≡◌, ℕ, ◌+◌, ◌≤◌, Bool, true, if◌then◌else◌, ℤ, pos, List, [], ◌∷◌, ◌++◌, flat_map, Option, Some, None, option_map, unwrap_or, is_some, slice_get, All}
+use Rattle.std.specs.List.{list_all}
+use Rattle.pl_spec.specs.Rounding.{IsCell}
+use Rattle.pl_spec.specs.World as spec
+use Rattle.pl_spec.specs.World.{living_sids, exists}
+use Rattle.pl_spec.specs.Window.{Effect, changed}
+use Rattle.pl_spec.specs.Table.{Pipeline}
+use Rattle.pl_terms.specs.declared.node.Input.{Input}
+use Rattle.pl_terms.specs.declared.node.TermId.{TermId}
+use Rattle.pl_terms.specs.declared.node.Node.{Node}
+use Rattle.pl_terms.specs.Kinds.{kind_of}
+use Rattle.pl_terms.specs.Nodes.{node_of}
+use Rattle.pl_terms.specs.Checked.{Parts}
+use Rattle.pl_world.specs.declared.world.World.{World}
+use Rattle.pl_world.specs.Worlds.{world_of}
+use Rattle.pl_world.specs.Evaluations.{row_in, as_input, input_cell_in, lets_pass}
+use Rattle.pl_derivation.specs.Facts.{Fact, number_in, entry_facts, kind_facts}
+use Rattle.pl_derivation.specs.Facts.Fact.{Worth}
+use Rattle.pl_explain.specs.declared.told.Told.{Told}
+use Rattle.pl_explain.specs.declared.rows.Rows.{Rows}
+use Rattle.pl_explain.specs.Looking.{look, row_at}
+
+-- something is told of the fact
+abbrev pub has : Told → Fact → Bool
+has told f = is_some (look told f)
+
+abbrev pub has_all : Told → List Fact → Bool
+has_all told fs = list_all (has told) fs
+
+-- x, where something is told of each of the facts
+abbrev pub given : {X : Type 0} → Told → List Fact → X → Option X
+given told fs x = if has_all told fs then Some x else None
+
+-- what is told of facts is what the world has
+abbrev pub TellsTruth : spec.World → Pipeline → Told → Type 0
+TellsTruth w p told = (f : Fact) (x : ℤ) → look told f ≡ Some x → (x ≡ number_in w p f) × IsCell x
+
+-- a row has the cells of a cross-section, and what these rest on is told
+pub record IsKeptRow (w : World) (c : Parts) (told : Told) (t d : ℕ) (row : List ℤ) : Type 0 where
+  pub is : row ≡ row_in w c t d
+  pub cells : All IsCell row
+  pub stand : (n : Node) → slice_get c.graph t ≡ Some n → has_all told (flat_map (entry_facts (node_of n) (pos d)) (living_sids (world_of w) (pos d))) ≡ true
+
+abbrev pub KeepsRows : World → Parts → Told → Rows → Type 0
+KeepsRows w c told rows = (t d : ℕ) (row : List ℤ) → row_at rows t d ≡ Some row → IsKeptRow w c told t d row
+
+-- the row of a term on a session is kept
+abbrev pub HasRow : ℕ → ℕ → Rows → Type 0
+HasRow t d rows = (row : List ℤ) × (row_at rows t d ≡ Some row)
+
+-- each row that was kept still is
+abbrev pub KeepsAll : Rows → Rows → Type 0
+KeepsAll old new = (t d : ℕ) (row : List ℤ) → row_at old t d ≡ Some row → row_at new t d ≡ Some row
+
+-- an input's window begins at no session below 0
+abbrev pub IsEarly : Option Input → ℕ → ℕ → Type 0
+IsEarly None size s = Unit {0}
+IsEarly (Some i) size s = size ≤ s + 1
+
+-- whether an asset passes a mask of the code
+abbrev pub mask_passes : World → Parts → Option TermId → ℕ → ℕ → Bool
+mask_passes w c m a s = lets_pass (as_input m) (input_cell_in w c (as_input m) a s)
+
+-- what the kind of term t reads for asset a on session s
+abbrev pub facts_read : World → Parts → ℕ → ℕ → ℕ → List Fact
+facts_read w c t a s = unwrap_or (option_map (λ n. kind_facts (world_of w) (node_of n) (kind_of n.kind) a (pos s)) (slice_get c.graph t)) []
+
+-- the value of a term for an asset that exists; of another there is nothing to be told
+abbrev pub living_facts : spec.World → ℕ → ℕ → ℤ → List Fact
+living_facts w t a d = if exists w a d then Worth t a d ∷ [] else []
+
+-- some cells with what a cell is after an effect after them, where there is one
+abbrev pub GrowsBy : ℤ → Option Effect → List ℤ → List ℤ → ℤ → Type 0
+GrowsBy x None old new y = (y ≡ x) × (new ≡ old)
+GrowsBy x (Some f) old new y = (y ≡ changed x f) × (new ≡ old ++ y ∷ [])

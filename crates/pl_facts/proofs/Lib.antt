@@ -1,9 +1,0 @@
-pub mod Steps
-pub mod Codes
-pub mod Finding
-pub mod Truths
-pub mod Fits
-pub mod Walking
-pub mod Worked
-pub mod Standing
-pub mod Growing

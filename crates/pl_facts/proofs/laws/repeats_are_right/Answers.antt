@@ -1,5 +1,0 @@
-use Rattle.pl_facts.proofs.Standing.{repeat_is}
-use Rattle.pl_facts.proofs.laws.repeats_are_right.Goals as goal
-
-pub returns : goal.returns
-returns c w p known ok lines e l f at told = repeat_is w p known ok lines e l f at told

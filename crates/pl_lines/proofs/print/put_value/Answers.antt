@@ -1,6 +1,0 @@
-use Rattle.std.proofs.Common.{arith}
-use Rattle.pl_lines.proofs.Printing.{value_joined}
-use Rattle.pl_lines.proofs.print.put_value.Goals as goal
-
-pub returns : goal.returns
-returns c = grind (arith, value_joined)

@@ -1,6 +1,0 @@
-pub mod Given
-pub mod Facts
-pub mod Entries
-pub mod Values
-pub mod Growing
-pub mod Kept
