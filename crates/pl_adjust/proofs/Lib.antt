@@ -11,5 +11,9 @@ pub mod ByColumn
 pub mod Made
 pub mod FirstFaults
 pub mod Sids
+pub mod RevisionFields
+pub mod RevisionKeys
+pub mod RevisionsRead
 pub mod RevisedColumns
+pub mod RevisionsMoved
 pub mod ByDays

@@ -7,7 +7,7 @@ use Rattle.std.proofs.lemmas.Bool.Decides.{nat_tests}
 use Rattle.std.proofs.lemmas.Int.{ints}
 use Rattle.std.proofs.lemmas.List.{length-map, map-append}
 use Rattle.std.proofs.lemmas.List.Elements.{All-append, All-cons, filter_passes}
-use Rattle.std.proofs.lemmas.List.Kept.{AllPairs-filter}
+use Rattle.std.proofs.lemmas.List.Kept.{AllPairs-cons, AllPairs-filter}
 use Rattle.std.proofs.lemmas.List.Sorted.{All-permutation, sorted_far}
 use Rattle.pl_spec.specs.declared.AdjustmentKind.{AdjustmentKind}
 use Rattle.pl_spec.specs.declared.AdjustmentKind.TheVariants.{Split, Merger, Dividend}
@@ -24,6 +24,7 @@ use Rattle.pl_adjust.specs.Tables.{adjustments_in, ok_unless}
 use Rattle.pl_adjust.specs.Walk.{Fault, first_fault, walk}
 use Rattle.pl_adjust.proofs.Kept.{in_front, front_order, not_in_front}
 use Rattle.pl_adjust.proofs.ByColumn.{by_column_is}
+use Rattle.pl_adjust.proofs.OneOrder.{NoneBelow, Rises}
 
 -- ---- what is kept of rows
 
@@ -53,13 +54,27 @@ InTurn x y = x.col ≡ y.col → x.event.day ≤ℤ y.event.day
 in_turn : (ys : List ColumnAdjustment) → IsSorted place_cmp ys → AllPairs InTurn ys
 in_turn ys up i j d h l = (not_in_front _ _ _ _ (sorted_far in_front front_order ys up i j d (omega arith) l)).1
 
-pub by_day_each : (ys : List ColumnAdjustment) → IsSorted place_cmp ys → StandByDay ys
-by_day_each ys up col i j d h l =
+turns_each : (ys : List ColumnAdjustment) → AllPairs InTurn ys → StandByDay ys
+turns_each ys turns col i j d h l =
     let all = filter_passes (λ (x : ColumnAdjustment). x.col == col) ys in
-    AllPairs-filter InTurn (λ x. x.col == col) ys (in_turn ys up) i j d h l (one _ _ (all i d (omega arith)) (all j d l))
+    AllPairs-filter InTurn (λ x. x.col == col) ys turns i j d h l (one _ _ (all i d (omega arith)) (all j d l))
   where
     one : (a b : ℕ) → (a == col) ≡ true → (b == col) ≡ true → a ≡ b
     one a b t u = grind (arith, nat_tests)
+
+pub by_day_each : (ys : List ColumnAdjustment) → IsSorted place_cmp ys → StandByDay ys
+by_day_each ys up = turns_each ys (in_turn ys up)
+
+turn_all : (x : ColumnAdjustment) (ys : List ColumnAdjustment) → NoneBelow in_front front_order x ys → All (InTurn x) ys
+turn_all x [] n = λ k d h. absurd (omega arith)
+turn_all x (y ∷ ys) n = All-cons (InTurn x) y ys (not_in_front x.col y.col x.event.day y.event.day n.0).1 (turn_all x ys n.1)
+
+rises_turn : (ys : List ColumnAdjustment) → Rises in_front front_order ys → AllPairs InTurn ys
+rises_turn [] r = λ i j d h l. absurd (omega arith)
+rises_turn (y ∷ ys) r = AllPairs-cons InTurn y ys (turn_all y ys r.0) (rises_turn ys r.1)
+
+pub rises_each : (ys : List ColumnAdjustment) → Rises in_front front_order ys → StandByDay ys
+rises_each ys r = turns_each ys (rises_turn ys r)
 
 -- ---- each column is one of an asset
 

@@ -1,9 +1,9 @@
 -- Adjustments with revisions after them.
-use Rattle.std.proofs.Common.{◌≡◌, ℕ, zero, suc, ◌+◌, ◌<◌, ◌==◌, Bool, true, false, ℤ, pos, List, [], ◌∷◌, ◌++◌, map, filter, length, get_or, drop, All, AllPairs, slice_get, Option, Some, None, IfSome, option_map, Ok, Err, refl, sym, ◌∙◌, ap, arith, add-one, drop-cons}
+use Rattle.std.proofs.Common.{◌≡◌, ℕ, suc, ◌+◌, ◌<◌, ◌==◌, true, ℤ, pos, List, ◌∷◌, ◌++◌, map, filter, length, get_or, drop, All, AllPairs, slice_get, Option, Some, None, IfSome, option_map, Ok, Err, refl, sym, ◌∙◌, ap, arith, add-one, drop-cons}
 use Rattle.std.specs.Ordering.{int_eq}
 use Rattle.std.specs.List.Sorted.{ties}
 use Rattle.std.proofs.lemmas.Int.{ints}
-use Rattle.std.proofs.lemmas.List.{at_drop_more, map-append}
+use Rattle.std.proofs.lemmas.List.{map-append}
 use Rattle.std.proofs.lemmas.List.Elements.{All-append, All-map, filter-append}
 use Rattle.std.proofs.lemmas.List.Folds.{list_any_at}
 use Rattle.std.proofs.lemmas.List.Sorted.{All-permutation}
@@ -16,12 +16,11 @@ use Rattle.pl_spec.specs.Parts.{ColumnAdjustment, ColumnLabel, sid_at, world_of}
 use Rattle.pl_spec.specs.World.{Adjustment, events_of}
 use Rattle.pl_records.specs.Reading.{Record, Fault}
 use Rattle.pl_lifetimes.specs.Assets.{sid_of}
-use Rattle.pl_lifetimes.specs.Assets.{HasSid}
 use Rattle.pl_bars.proofs.BarSearch.{IsCell-bar_cell}
-use Rattle.pl_revisions.specs.declared.Revision.{Revision}
-use Rattle.pl_revisions.specs.Revisions.{AreRevisions, Rule, revisions_of}
+use Rattle.pl_adjust.specs.declared.revisions.Revision.{Revision}
+use Rattle.pl_adjust.specs.Revisions.{AreRevisions, Rule, revisions_of}
 use Rattle.pl_adjust.specs.declared.adjust.Adjust.{Adjust}
-use Rattle.pl_adjust.specs.Columns.{by_column, by_place, in_column, in_columns}
+use Rattle.pl_adjust.specs.Columns.{StandByDay, by_column, by_place, in_column, in_columns}
 use Rattle.pl_adjust.specs.Events.{PutsCell, event_of}
 use Rattle.pl_adjust.specs.Revised.{AreKnown, IsKnown, revised, revised_by, revised_columns, revised_in}
 use Rattle.pl_adjust.specs.Tables.{adjustments_in}
@@ -30,12 +29,12 @@ use Rattle.pl_adjust.proofs.FirstFaults.{made_is}
 use Rattle.pl_adjust.proofs.Kept.{in_front, front_order}
 use Rattle.pl_adjust.proofs.OneOrder.{one_order}
 use Rattle.pl_adjust.proofs.Known.{has_sid}
-use Rattle.pl_adjust.proofs.Made.{Puts, place_known}
+use Rattle.pl_adjust.proofs.Made.{Puts, place_known, rises_each}
 use Rattle.pl_adjust.proofs.Sids.{All-by_day, Known, by_sid, parts_events, tables_known}
 
 -- ---- what is kept of revisions
 
-known_has : (assets : List AssetRow) (sid : ℕ) → IsKnown assets sid → has_sid (pos sid) assets ≡ true
+pub known_has : (assets : List AssetRow) (sid : ℕ) → IsKnown assets sid → has_sid (pos sid) assets ≡ true
 known_has assets sid h = here (slice_get assets h.0) refl h.1
   where
     test : (n : ℕ) → n ≡ sid → int_eq (pos n) (pos sid) ≡ true
@@ -71,6 +70,9 @@ pub cols_with : (assets : List AssetRow) (old rows : List ColumnAdjustment) → 
 cols_with assets old rows more all =
     All-permutation (λ (x : ColumnAdjustment). x.col < length assets) (old ++ rows) (by_place (old ++ rows)) (by_place-permutes (old ++ rows))
     (All-append (λ (x : ColumnAdjustment). x.col < length assets) old rows all more)
+
+pub days_with : (xs : List ColumnAdjustment) → StandByDay (by_place xs)
+days_with xs = rises_each (by_place xs) (rises-by_place xs)
 
 -- ---- rows that are made, one after the other
 

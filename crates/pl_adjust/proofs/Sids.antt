@@ -69,7 +69,7 @@ has_sid_abs assets (negsuc n) e =
     let none : has_sid (negsuc n) assets ≡ false = list_any_none (λ a. int_eq (pos a.sid) (negsuc n)) assets (λ k d h. refl) in
     let bad : true ≡ false = sym e ∙ none in absurd (cc)
 
-sid_of_col : (assets : List AssetRow) (s : ℕ) → has_sid (pos s) assets ≡ true → sid_at assets (col_in assets s) ≡ s
+pub sid_of_col : (assets : List AssetRow) (s : ℕ) → has_sid (pos s) assets ≡ true → sid_at assets (col_in assets s) ≡ s
 sid_of_col [] s e = absurd (let bad : false ≡ true = e in cc)
 sid_of_col (a ∷ assets) s e = here (a.sid == s) refl (sid_of_col assets s)
   where

@@ -2,6 +2,10 @@
 pub mod Events
 pub mod Columns
 pub mod Rows
+pub mod Revisions
+pub mod RevisionRules
+pub mod RevisionFaults
+pub mod RevisionKeys
 pub mod Revised
 pub mod Walk
 pub mod Faults

@@ -1,15 +1,17 @@
 -- Adjustments with the revisions of a file.
-use Rattle.std.specs.Prelude.{ℕ, ℤ, List, ◌++◌, map, All, Result, Ok}
+use Rattle.std.specs.Prelude.{◌≡◌, ℕ, ℤ, List, ◌++◌, map, All, Result, Ok}
 use Rattle.pl_spec.specs.declared.AdjustmentKind.TheVariants as kinds
 use Rattle.pl_spec.specs.declared.AssetRow.{AssetRow}
+use Rattle.pl_spec.specs.declared.Column.{Column}
 use Rattle.pl_spec.specs.World.{Adjustment}
 use Rattle.pl_spec.specs.World.Change.{Overwrite}
 use Rattle.pl_spec.specs.Parts.{ColumnAdjustment}
+use Rattle.pl_spec.specs.Window.{effects_in}
 use Rattle.pl_records.specs.Reading.{Record, Fault, ◌>>=◌}
 use Rattle.pl_lifetimes.specs.Assets.{HasSid}
-use Rattle.pl_revisions.specs.declared.Revision.{Revision}
-use Rattle.pl_revisions.specs.Revisions.{Rule, revisions_of}
-use Rattle.pl_adjust.specs.Columns.{by_place, in_column}
+use Rattle.pl_adjust.specs.declared.revisions.Revision.{Revision}
+use Rattle.pl_adjust.specs.Revisions.{Rule, revisions_of}
+use Rattle.pl_adjust.specs.Columns.{by_place, events_at, in_column}
 
 -- from the day on which it is known a revision overwrites the cell of its column in the bar of its day
 abbrev pub revised : Revision → Adjustment
@@ -32,3 +34,8 @@ revised_by assets old rows = by_place (old ++ revised_columns assets rows)
 -- with the revisions of the records of a file, or its first fault
 unfoldable pub revised_in : List ℤ → List AssetRow → List ColumnAdjustment → List Record → Result (List ColumnAdjustment) (Fault Rule)
 revised_in days assets old records = revisions_of days assets records >>= λ rows. Ok (revised_by assets old rows)
+
+-- Those of a column that come between two days do the same to each cell, the one after the other.
+abbrev pub ChangeAlike : List ColumnAdjustment → List ColumnAdjustment → Type 0
+ChangeAlike xs ys = (col : ℕ) (c : Column) (bar low high : ℤ)
+    → effects_in c bar low high (events_at xs col) ≡ effects_in c bar low high (events_at ys col)

@@ -6,11 +6,11 @@ ghost use Rattle.std.specs.Int.RustNames.{int_lt, int_le};
 ghost use Rattle.pl_records.specs.Reading.{Answers};
 ghost use Rattle.pl_records.specs.Records.{csv_records};
 ghost use Rattle.pl_spec.specs.AsOf.{adjustments_by};
-ghost use Rattle.pl_revisions.specs.Faults as revisions;
 ghost use Rattle.pl_adjust.specs.Events.{PutCells, PutsCell, event_of};
 ghost use Rattle.pl_adjust.specs.Columns.{IsByPlace, StandByDay, events_at};
 ghost use Rattle.pl_adjust.specs.Faults.{fault_of};
 ghost use Rattle.pl_adjust.specs.Revised.{AreKnown, revised_by, revised_columns, revised_in};
+ghost use Rattle.pl_adjust.specs.RevisionFaults as revision_faults;
 ghost use Rattle.pl_adjust.specs.Rows.{row_of};
 ghost use Rattle.pl_adjust.specs.Tables.{adjustments_in};
 
@@ -20,6 +20,7 @@ mod cut;
 mod error;
 pub mod laws;
 mod revised;
+mod revisions;
 mod rows;
 mod seen;
 
@@ -29,10 +30,10 @@ pub use error::AdjustError;
 use pl_calendar::Sessions;
 use pl_fixed::Memory;
 use pl_lifetimes::Assets;
-pub use pl_revisions::{MOST_REVISIONS, RevisionsError};
-use pl_revisions::{Revision, read_revisions};
 pub use pl_spec::AdjustmentKind as Kind;
 use pl_spec::RawAdjust;
+pub use revisions::{MOST_REVISIONS, RevisionsError};
+use revisions::{Revision, read_revisions};
 pub use seen::seen_now;
 use std::alloc::{AllocError, Global};
 use std::marker::Model;
@@ -110,7 +111,7 @@ impl Adjustments {
     ) -> Result<(), RevisionsError>
         // These adjustments and the revisions of the records, or the fault of the first faulty one. Only
         // want of memory may come beside.
-        ensures exact { Answers (λ x. self.new) revisions.fault_of result
+        ensures exact { Answers (λ x. self.new) revision_faults.fault_of result
             (revised_in sessions.now assets.now self.old (csv_records bytes.now)) }
         ensures kept { OnErr result (self.new ≡ self.old) }
         ensures cols { All (λ x. x.col < length assets.now) self.old

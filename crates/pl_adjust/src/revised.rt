@@ -8,8 +8,8 @@ ghost use Rattle.pl_adjust.specs.Rows.{row_of};
 
 use crate::adjust::{Adjust, Change};
 use crate::columns::Row;
+use crate::revisions::Revision;
 use pl_lifetimes::Assets;
-use pl_revisions::Revision;
 use pl_spec::AdjustmentKind as Kind;
 use std::alloc::{AllocError, Global};
 

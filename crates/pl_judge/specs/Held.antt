@@ -18,8 +18,8 @@ use Rattle.pl_payouts.specs.Payouts.{payouts_of}
 use Rattle.pl_adjust.specs.Walk as rows
 use Rattle.pl_adjust.specs.Tables.{adjustments_in}
 use Rattle.pl_adjust.specs.Revised.{revised_by}
-use Rattle.pl_revisions.specs.declared.Revision.{Revision}
-use Rattle.pl_revisions.specs.Revisions.{revisions_of}
+use Rattle.pl_adjust.specs.declared.revisions.Revision.{Revision}
+use Rattle.pl_adjust.specs.Revisions.{revisions_of}
 use Rattle.pl_derivation.specs.Lines.{Line}
 use Rattle.pl_derivation.specs.Texts.{lines_in}
 use Rattle.pl_syntax.specs.Spells.{Parsed}

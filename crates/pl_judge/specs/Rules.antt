@@ -7,7 +7,7 @@ use Rattle.pl_lifetimes.specs.Assets as assets
 use Rattle.pl_assets.specs.Labels as labels
 use Rattle.pl_bars.specs.Bars as bars
 use Rattle.pl_adjust.specs.Walk as rows
-use Rattle.pl_revisions.specs.Revisions as revisions
+use Rattle.pl_adjust.specs.Revisions as revisions
 use Rattle.pl_payouts.specs.Payouts as payouts
 use Rattle.pl_derivation.specs.Texts.{Broken}
 use Rattle.pl_derivation.specs.Texts.Broken.{BadLine as UnreadLine, TooMany as ManyLines}

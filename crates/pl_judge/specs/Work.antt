@@ -10,7 +10,7 @@ use Rattle.pl_assets.specs.Labels.{labels_of}
 use Rattle.pl_bars.specs.Bars.{bars_of}
 use Rattle.pl_payouts.specs.Payouts.{payouts_of}
 use Rattle.pl_adjust.specs.Walk as rows
-use Rattle.pl_revisions.specs.Revisions.{revisions_of}
+use Rattle.pl_adjust.specs.Revisions.{revisions_of}
 use Rattle.pl_derivation.specs.Lines.{Line}
 use Rattle.pl_derivation.specs.Texts.{Broken as BrokenLines, lines_in}
 use Rattle.pl_syntax.specs.Spells.{Parsed}

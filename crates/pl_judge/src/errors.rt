@@ -139,7 +139,7 @@ impl From<BarsError> for Fault {
 }
 
 impl From<RevisionsError> for Fault {
-    ghost use Rattle.pl_revisions.specs.Faults as revisions;
+    ghost use Rattle.pl_adjust.specs.RevisionFaults as revisions;
 
     ghost from_gives = { λ error fault. Tells fault (told_at revisions_fault (revisions.fault_of error)) };
 

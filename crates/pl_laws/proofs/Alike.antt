@@ -1,13 +1,14 @@
--- Worlds in which whatever is looked up is the same have the same tables.
+-- Worlds in which whatever is looked up is the same, or does the same to each cell, have the same tables.
 use Rattle.std.proofs.Common.{◌≡◌, ℕ, suc, ◌-◌, false, ◌==◌, ℤ, pos, negsuc, ◌≤ℤ◌, List, [], ◌++◌, map, filter, flat_map, Option, Some, None, option_map, unwrap_or, refl, sym, ◌∙◌, ap, arith, slice_get}
 use Rattle.std.specs.Fmt.{decimal}
 use Rattle.std.specs.List.{list_any}
 use Rattle.std.proofs.Math.Path.{fun_ext}
 use Rattle.std.proofs.lemmas.Int.{ints}
 use Rattle.pl_spec.specs.declared.Format.{Format}
-use Rattle.pl_spec.specs.Agree.{Agree, is_known}
+use Rattle.pl_spec.specs.declared.Column.{Column}
 use Rattle.pl_spec.specs.Permuted.{AgreeInAll}
-use Rattle.pl_spec.specs.World.{World, IsWorld, day_of, exists, living_sids, lives_on}
+use Rattle.pl_spec.specs.Window.{effects_in}
+use Rattle.pl_spec.specs.World.{World, IsWorld, bar_cell, day_of, events_of, exists, label_at, living_sids, lives_on}
 use Rattle.pl_spec.specs.Term.{Term}
 use Rattle.pl_spec.specs.Term.Term.{absent, column, node}
 use Rattle.pl_spec.specs.Value.{empty, sort_kind, value}
@@ -16,6 +17,7 @@ use Rattle.pl_spec.specs.Dates.{date_text}
 use Rattle.pl_spec.specs.Text.{header, line, row_fields, row_line, text}
 use Rattle.pl_laws.specs.PermutedLaws.{AgreeingWorldsAreAlike}
 use Rattle.pl_laws.proofs.Law as law
+use Rattle.pl_laws.proofs.Law.{SeenAlike}
 use Rattle.pl_laws.proofs.TableLaw as tables
 
 pub day_of-days : (w v : World) → w.days ≡ v.days → (s : ℤ) → day_of w s ≡ day_of v s
@@ -39,16 +41,35 @@ empty_there w names (node k size x y z m g) a s e = rw (not_there w a s e) refl
 no_rows : (w : World) (p : Pipeline) (s : ℤ) → day_of w s ≡ None → session_rows w p s ≡ []
 no_rows w p s e = ap (λ l. map (row w p s) (filter (is_kept w p p.screen s) l)) (none_living w s e)
 
-module _ (w v : World) (ok : IsWorld w) (ok' : IsWorld v) (all : AgreeInAll w v) where
+-- The worlds show the same on each session: whatever is looked up is the same, and of adjustments what they do
+-- to each cell.
+pub record SeenInAll (w v : World) : Type 0 where
+  pub days : w.days ≡ v.days
+  pub bars : (a : ℕ) (c : Column) (s : ℤ) → bar_cell w a c s ≡ bar_cell v a c s
+  pub changes : (a : ℕ) (c : Column) (bar low high : ℤ) → effects_in c bar low high (events_of w a) ≡ effects_in c bar low high (events_of v a)
+  pub lifetimes : (a : ℕ) (s : ℤ) → exists w a s ≡ exists v a s
+  pub labels : (name : List ℕ) (a : ℕ) (s : ℤ) → label_at w name a s ≡ label_at v name a s
+
+agree-all : (w v : World) → AgreeInAll w v → SeenInAll w v
+agree-all w v all =
+    record {
+      days = all.days;
+      bars = all.bars;
+      changes = λ a c bar low high. ap (effects_in c bar low high) (all.adjustments a);
+      lifetimes = all.lifetimes;
+      labels = all.labels;
+    }
+
+module _ (w v : World) (ok : IsWorld w) (ok' : IsWorld v) (all : SeenInAll w v) where
   same-day : (s : ℤ) → day_of w s ≡ day_of v s
   same-day = day_of-days w v all.days
 
-  up_to : (d day : ℤ) → day_of w d ≡ Some day → Agree w v d day
+  up_to : (d day : ℤ) → day_of w d ≡ Some day → SeenAlike w v d day
   up_to d day e = record {
     is_day = e;
     days = λ s l. same-day s;
     bars = λ a c s l. all.bars a c s;
-    adjustments = λ a. ap (filter (is_known day)) (all.adjustments a);
+    changes = λ a c bar low high h. all.changes a c bar low high;
     lifetimes = λ a s l. all.lifetimes a s;
     labels = λ name a s l. all.labels name a s;
   }
@@ -70,7 +91,7 @@ module _ (w v : World) (ok : IsWorld w) (ok' : IsWorld v) (all : AgreeInAll w v)
       on_day (Some day) e = tables.rows_same w v s day ok ok' (up_to s day e) p s (here s)
       on_day None e = no_rows w p s e ∙ sym (no_rows v p s (sym (same-day s) ∙ e))
 
-  table_same : (p : Pipeline) (from to : ℕ) → table w p from to ≡ table v p from to
+  pub table_same : (p : Pipeline) (from to : ℕ) → table w p from to ≡ table v p from to
   table_same p from to =
       tables.range_same (λ s. session_rows w p (pos s)) (λ s. session_rows v p (pos s)) (suc to - from) from (λ k m h. rows_same p (pos k))
 
@@ -78,11 +99,16 @@ module _ (w v : World) (ok : IsWorld w) (ok' : IsWorld v) (all : AgreeInAll w v)
   line_same p format r =
       ap (λ o. line format (date_text (unwrap_or o (pos 0))) (decimal r.sid) (row_fields p format p.columns r.values)) (same-day r.session)
 
-  text_same : (p : Pipeline) (format : Format) (from to : ℕ) → text w p format (table w p from to) ≡ text v p format (table v p from to)
+  pub text_same : (p : Pipeline) (format : Format) (from to : ℕ) → text w p format (table w p from to) ≡ text v p format (table v p from to)
   unfolding text
   text_same p format from to =
       ap (λ rows. header p format ++ flat_map (row_line w p format) rows) (table_same p from to)
       ∙ ap (λ f. header p format ++ flat_map f (table v p from to)) (fun_ext (line_same p format))
 
 pub alike : AgreeingWorldsAreAlike
-alike = record { values = values_same; rows = table_same; texts = text_same }
+alike =
+    record {
+      values = λ w v ok ok' all. values_same w v ok ok' (agree-all w v all);
+      rows = λ w v ok ok' all. table_same w v ok ok' (agree-all w v all);
+      texts = λ w v ok ok' all. text_same w v ok ok' (agree-all w v all);
+    }

@@ -6,10 +6,10 @@ use Rattle.std.proofs.lemmas.Int.{ints}
 use Rattle.std.proofs.lemmas.Bool.{eqb-true, eq-eqb, ne_eqb, or_cases, or_left, true≢false, false_from_ne_true, cases_eq}
 use Rattle.std.proofs.lemmas.Option.{get_or_from_slice_get, slice_get_within}
 use Rattle.pl_spec.specs.Rounding.{is_present}
-use Rattle.pl_spec.specs.World.{World, IsWorld, Event, events_of, day_of, bar_cell, living_sids, label_at, is_label_of, last_started, nonempty, lives_on}
+use Rattle.pl_spec.specs.World.{World, IsWorld, Event, events_of, day_of, bar_cell, exists, living_sids, label_at, is_label_of, last_started, nonempty, lives_on}
 use Rattle.pl_spec.specs.declared.AssetRow.{AssetRow}
 use Rattle.pl_spec.specs.declared.Column.{Column}
-use Rattle.pl_spec.specs.Window.{effect, is_between, effects_from, effects, after_all, seen_cell, before, downward}
+use Rattle.pl_spec.specs.Window.{effect, is_between, effects_from, effects_in, effects, after_all, seen_cell, before, downward}
 use Rattle.pl_spec.specs.Agree.{Agree, is_known}
 use Rattle.pl_spec.specs.Kind.{Kind, CrossKind}
 use Rattle.pl_spec.specs.Kind.Kind.{Constant, Label, StaticSids, Window, Point, LabelTest, Cross, Downsample}
@@ -155,22 +155,44 @@ labels-of_days w v rows name a s days =
     ap (λ ls. option_and_then (λ day. option_and_then (λ r. nonempty r.text) (last_started (filter (is_label_of name a day) ls))) (day_of w s)) rows
     ∙ ap (λ o. option_and_then (λ day. option_and_then (λ r. nonempty r.text) (last_started (filter (is_label_of name a day) v.labels))) o) days
 
-module _ (w v : World) (d day : ℤ) (ok : IsWorld w) (ok' : IsWorld v) (agree : Agree w v d day) where
+-- ---- what worlds show up to a session
+
+-- The same as that the worlds agree, but of adjustments only what they do to each cell has to be the same.
+pub record SeenAlike (w v : World) (d day : ℤ) : Type 0 where
+  pub is_day : day_of w d ≡ Some day
+  pub days : (s : ℤ) → s ≤ℤ d → day_of w s ≡ day_of v s
+  pub bars : (a : ℕ) (c : Column) (s : ℤ) → s <ℤ d → bar_cell w a c s ≡ bar_cell v a c s
+  pub changes : (a : ℕ) (c : Column) (bar low high : ℤ) → high ≤ℤ day → effects_in c bar low high (events_of w a) ≡ effects_in c bar low high (events_of v a)
+  pub lifetimes : (a : ℕ) (s : ℤ) → s ≤ℤ d → exists w a s ≡ exists v a s
+  pub labels : (name : List ℕ) (a : ℕ) (s : ℤ) → s ≤ℤ d → label_at w name a s ≡ label_at v name a s
+
+pub agree-seen : (w v : World) (d day : ℤ) → Agree w v d day → SeenAlike w v d day
+agree-seen w v d day agree =
+    record {
+      is_day = agree.is_day;
+      days = agree.days;
+      bars = agree.bars;
+      changes = λ a c bar low high h. ap (filter_map (effect c bar)) (events_same a low high h);
+      lifetimes = agree.lifetimes;
+      labels = agree.labels;
+    }
+  where
+    events_same : (a : ℕ) (low high : ℤ) → high ≤ℤ day → filter (is_between low high) (events_of w a) ≡ filter (is_between low high) (events_of v a)
+    events_same a low high h =
+        let part : (e : Event) → is_between low high e ≡ true → is_known day e ≡ true = event_known low high day h in
+        sym (filter-filter (is_between low high) (is_known day) part (events_of w a))
+        ∙ ap (filter (is_between low high)) (agree.adjustments a)
+        ∙ filter-filter (is_between low high) (is_known day) part (events_of v a)
+
+module _ (w v : World) (d day : ℤ) (ok : IsWorld w) (ok' : IsWorld v) (agree : SeenAlike w v d day) where
   day_before : (s x : ℤ) → s ≤ℤ d → day_of w s ≡ Some x → x ≤ℤ day
   day_before s x h e = day_by w ok s d x day h e agree.is_day
-
-  events_same : (a : ℕ) (low high : ℤ) → high ≤ℤ day → filter (is_between low high) (events_of w a) ≡ filter (is_between low high) (events_of v a)
-  events_same a low high h =
-      let part : (e : Event) → is_between low high e ≡ true → is_known day e ≡ true = event_known low high day h in
-      sym (filter-filter (is_between low high) (is_known day) part (events_of w a))
-      ∙ ap (filter (is_between low high)) (agree.adjustments a)
-      ∙ filter-filter (is_between low high) (is_known day) part (events_of v a)
 
   between_same : (a : ℕ) (c : Column) (low high : Option ℤ) → ((x : ℤ) → high ≡ Some x → x ≤ℤ day) → effects_from c low high (events_of w a) ≡ effects_from c low high (events_of v a)
   between_same a c None None h = refl
   between_same a c None (Some y) h = refl
   between_same a c (Some x) None h = refl
-  between_same a c (Some x) (Some y) h = ap (filter_map (effect c x)) (events_same a x y (h y refl))
+  between_same a c (Some x) (Some y) h = agree.changes a c x x y (h y refl)
 
   seen_same : (a : ℕ) (c : Column) (s e : ℤ) → s <ℤ e → e ≤ℤ d → seen_cell w a c s e ≡ seen_cell v a c s e
   unfolding seen_cell

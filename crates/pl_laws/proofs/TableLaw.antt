@@ -4,10 +4,10 @@ use Rattle.std.proofs.Math.Path.{fun_ext}
 use Rattle.std.specs.List.{range_with_len}
 use Rattle.std.proofs.lemmas.Int.{ints}
 use Rattle.pl_spec.specs.World.{World, IsWorld, living_sids}
-use Rattle.pl_spec.specs.Agree.{Agree}
 use Rattle.pl_spec.specs.Value.{Value, holds}
 use Rattle.pl_spec.specs.Table.{Pipeline, Row, is_kept, kept_sids, row, session_rows, table}
 use Rattle.pl_laws.proofs.Law as law
+use Rattle.pl_laws.proofs.Law.{SeenAlike}
 
 pub range_same : {X : Type 0} (f g : ℕ → List X) (n a : ℕ) → ((k : ℕ) → a ≤ k → k < a + n → f k ≡ g k) → flat_map f (range_with_len a n) ≡ flat_map g (range_with_len a n)
 range_same f g zero a h = refl
@@ -16,7 +16,7 @@ range_same f g (suc n) a h =
     let here : f a ≡ g a = h a (omega arith) (omega arith) in
     ap (λ l. l ++ flat_map f (range_with_len (a + 1) n)) here ∙ ap (λ l. g a ++ l) rest
 
-module _ (w v : World) (d day : ℤ) (ok : IsWorld w) (ok' : IsWorld v) (agree : Agree w v d day) (p : Pipeline) where
+module _ (w v : World) (d day : ℤ) (ok : IsWorld w) (ok' : IsWorld v) (agree : SeenAlike w v d day) (p : Pipeline) where
   kept_same : (s : ℤ) → s ≤ℤ d → kept_sids w p s ≡ kept_sids v p s
   kept_same s l = ap (λ q. filter q (living_sids w s)) (screened p.screen) ∙ ap (filter (is_kept v p p.screen s)) (law.living_same w v d day ok ok' agree s l)
     where

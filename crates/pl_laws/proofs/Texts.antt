@@ -10,6 +10,7 @@ use Rattle.pl_spec.specs.World.{World, IsWorld}
 use Rattle.pl_spec.specs.Agree.{Agree}
 use Rattle.pl_spec.specs.Table.{Pipeline, Row, kept_sids, row, session_rows, table}
 use Rattle.pl_spec.specs.Text.{header, line, row_fields, row_line, text}
+use Rattle.pl_laws.proofs.Law.{agree-seen}
 use Rattle.pl_laws.proofs.TableLaw.{table_same}
 
 module _ (w v : World) (d day : ℤ) (agree : Agree w v d day) (p : Pipeline) (format : Format) where
@@ -35,5 +36,5 @@ module _ (w v : World) (d day : ℤ) (agree : Agree w v d day) (p : Pipeline) (f
   pub text_same : IsWorld w → IsWorld v → (from to : ℕ) → pos to ≤ℤ d → text w p format (table w p from to) ≡ text v p format (table v p from to)
   unfolding text
   text_same ok ok' from to l =
-      ap (λ rows. header p format ++ flat_map (row_line w p format) rows) (table_same w v d day ok ok' agree p from to l)
+      ap (λ rows. header p format ++ flat_map (row_line w p format) rows) (table_same w v d day ok ok' (agree-seen w v d day agree) p from to l)
       ∙ ap (λ body. header p format ++ body) (sessions_same (suc to - from) from (λ k m h. omega (arith, ints)))

@@ -4,8 +4,8 @@ use Rattle.pl_records.specs.Reading.{Record, Fault, ◌>>=◌}
 use Rattle.pl_spec.specs.declared.AssetRow.{AssetRow}
 use Rattle.pl_spec.specs.Parts.{ColumnAdjustment}
 use Rattle.pl_adjust.specs.Revised.{revised_by, revised_in}
-use Rattle.pl_revisions.specs.declared.Revision.{Revision}
-use Rattle.pl_revisions.specs.Revisions.{Rule, revisions_of}
+use Rattle.pl_adjust.specs.declared.revisions.Revision.{Revision}
+use Rattle.pl_adjust.specs.Revisions.{Rule, revisions_of}
 
 -- adjustments with the revisions of records are those of the file's reading
 pub record AreAdded (assets : List AssetRow) (old new : List ColumnAdjustment) (reading : Result (List Revision) (Fault Rule)) : Type 0 where

@@ -5,3 +5,4 @@ pub mod LastSessions
 pub mod Outcomes
 pub mod Lines
 pub mod PayoutLines
+pub mod PayoutsMoved

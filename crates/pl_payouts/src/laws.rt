@@ -1,7 +1,7 @@
-//! What a payouts file says, in plain words. The function does nothing: its contract is the law of the
+//! What a payouts file says, in plain words. The functions do nothing: the contract of each is a law of the
 //! definitions that the reader's contract cites.
 
-ghost use Rattle.std.specs.Prelude.{◌≡◌, ◌↔◌, List, Ok, Err};
+ghost use Rattle.std.specs.Prelude.{◌≡◌, ◌↔◌, ◌∷◌, List, IsPermutation, Ok, Err};
 ghost use Rattle.pl_spec.specs.declared.AssetRow.{AssetRow};
 ghost use Rattle.pl_records.specs.Reading.{Record, Fault, Judges};
 ghost use Rattle.pl_records.specs.RuleTable.{IsFirstBroken};
@@ -23,4 +23,14 @@ pub fn payouts_in_plain_words()
     ensures fault { (assets : List AssetRow) → AreAssets assets → (records : List Record)
         (fault : Fault Rule) → (payouts_of assets records ≡ Err fault)
         ↔ IsPayoutsFault assets records fault }
+{}
+
+/// Records after the first, the header, are in another order read as the same payouts in some order. Their
+/// numbers go by that order.
+pub fn payouts_in_any_order()
+    ensures { (assets : List AssetRow) (first : Record) (records others : List Record)
+        → IsPermutation records others
+        → (rows : List Dividend) → payouts_of assets (first ∷ records) ≡ Ok rows
+        → (found : List Dividend) × (payouts_of assets (first ∷ others) ≡ Ok found)
+        × IsPermutation rows found }
 {}

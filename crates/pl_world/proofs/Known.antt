@@ -2,6 +2,7 @@
 use Rattle.std.proofs.Common.{◌≡◌, ℕ, suc, ◌+◌, ℤ, pos, take, Some, slice_get, ◌∙◌, ap, arith}
 use Rattle.pl_spec.specs.AsOf.{as_of, sessions_to, labels_by, bars_before, adjustments_by}
 use Rattle.pl_laws.proofs.AsOf.{agrees, is-world, parts-of}
+use Rattle.pl_laws.proofs.Law.{agree-seen}
 use Rattle.pl_laws.proofs.TableLaw.{table_same}
 use Rattle.pl_laws.proofs.Texts.{text_same}
 use Rattle.pl_spec.specs.Table.{table}
@@ -56,7 +57,7 @@ module _ (w : World) (d : ℕ) (day : ℤ) (v : OwnedWorld) (are : AreCut w d da
       let known = agrees (world_of w) d day made.world are.is_day in
       let cut = is-world (world_of w) d day made.world in
       record {
-        rows = ap (λ x. table x p from to) world_is ∙ table_same (as_of (world_of w) d day) (world_of w) (pos d) day cut made.world known p from to h;
+        rows = ap (λ x. table x p from to) world_is ∙ table_same (as_of (world_of w) d day) (world_of w) (pos d) day cut made.world (agree-seen (as_of (world_of w) d day) (world_of w) (pos d) day known) p from to h;
         written = λ format. ap (λ x. text x p format (table x p from to)) world_is
             ∙ text_same (as_of (world_of w) d day) (world_of w) (pos d) day known p format cut made.world from to h;
         codes = are.texts;

@@ -31,7 +31,7 @@ pub show-alike : (w v : World) → IsWorld w → IsWorld v → AgreeInAll w v �
 show-alike w v ok ok' agree = record { agree = agree; rows = alike.rows w v ok ok' agree; texts = alike.texts w v ok ok' agree }
 
 -- the rows of a table that was read
-AreRead-labels : (assets : List AssetRow) (records : List Record) (table : LabelTable) → labels_of assets records ≡ Ok table → AreRead assets table.rows
+pub AreRead-labels : (assets : List AssetRow) (records : List Record) (table : LabelTable) → labels_of assets records ≡ Ok table → AreRead assets table.rows
 unfolding labels_of
 AreRead-labels assets records table e = here (label_rows_in assets records) refl e
   where

@@ -1,15 +1,20 @@
 -- The files of a world, and files whose records stand in another order.
-use Rattle.std.specs.Prelude.{◌≡◌, ◌<◌, ℤ, List, [], ◌∷◌, length, All, IsPermutation, Ok}
+use Rattle.std.specs.Prelude.{◌≡◌, ℕ, ◌<◌, ℤ, List, [], ◌∷◌, length, All, IsPermutation, Ok}
 use Rattle.pl_records.specs.Reading.{Record}
 use Rattle.pl_spec.specs.declared.AssetRow.{AssetRow}
 use Rattle.pl_spec.specs.declared.BarRow.{BarRow}
+use Rattle.pl_spec.specs.declared.Format.{Format}
 use Rattle.pl_spec.specs.Parts as parts
 use Rattle.pl_spec.specs.Parts.{ColumnAdjustment}
+use Rattle.pl_spec.specs.Table.{Pipeline, table}
+use Rattle.pl_spec.specs.Text.{text}
+use Rattle.pl_spec.specs.World.{World}
 use Rattle.pl_calendar.specs.Days.{sessions_of}
 use Rattle.pl_lifetimes.specs.Assets.{assets_of}
 use Rattle.pl_assets.specs.Labels.{LabelTable, labels_of}
 use Rattle.pl_bars.specs.Bars.{bars_of}
 use Rattle.pl_adjust.specs.Columns.{StandByDay}
+use Rattle.pl_adjust.specs.Revised.{revised_in}
 use Rattle.pl_world.specs.Laws.{ShowAlike}
 
 -- the records of four files
@@ -50,3 +55,21 @@ RecordsInAnyOrder = (files others : DataFiles) → FilesAreMoved files others
     → All (λ x. x.col < length assets) adjustments → StandByDay adjustments
     → ShowAlike (parts.world_of days assets labels.rows labels.texts bars adjustments)
     (parts.world_of days assets other.rows other.texts bars adjustments))
+
+-- the rows of each pipeline are the same, and they are written alike
+pub record HaveSameTables (w v : World) : Type 0 where
+  pub rows : (p : Pipeline) (from to : ℕ) → table w p from to ≡ table v p from to
+  pub texts : (p : Pipeline) (format : Format) (from to : ℕ)
+      → text w p format (table w p from to) ≡ text v p format (table v p from to)
+
+-- Beside adjustments of these assets revisions may stand in any order too: the others are read, and the two
+-- worlds have the same tables.
+abbrev pub RevisionsInAnyOrder : Type 0
+RevisionsInAnyOrder = (files : DataFiles) (days : List ℤ) (assets : List AssetRow) (labels : LabelTable)
+    (bars : List BarRow) → AreReadAs files days assets labels bars
+    → (revisions others : List Record) → AreMoved revisions others
+    → (adjustments revised : List ColumnAdjustment) → All (λ x. x.col < length assets) adjustments
+    → revised_in days assets adjustments revisions ≡ Ok revised
+    → (other : List ColumnAdjustment) × (revised_in days assets adjustments others ≡ Ok other)
+    × HaveSameTables (parts.world_of days assets labels.rows labels.texts bars revised)
+    (parts.world_of days assets labels.rows labels.texts bars other)

@@ -4,7 +4,7 @@
 ghost use Rattle.pl_spec.specs.Permuted.{HaveSameRows};
 ghost use Rattle.pl_world.specs.Laws.{EarlyBarsChangeNothing, LaterDataChangeNothing, ShowAlike};
 ghost use Rattle.pl_world.specs.Laws.{ValuesFollowNodes};
-ghost use Rattle.pl_world.specs.Records.{RecordsInAnyOrder};
+ghost use Rattle.pl_world.specs.Records.{RecordsInAnyOrder, RevisionsInAnyOrder};
 ghost use Rattle.pl_world.specs.Worlds.{IsMade, PartsMakeAWorld, world_of};
 
 use crate::world::World;
@@ -41,6 +41,12 @@ pub fn order_changes_nothing(world: &World, other: &World)
 /// shows the same rows, written alike. The sessions alone have one order.
 pub fn records_in_any_order()
     ensures { RecordsInAnyOrder }
+{}
+
+/// Records of revisions after the header may stand in another order: the tables are the same. Of one asset and
+/// one known day the revisions then act in another order, but each on a cell of its own.
+pub fn revisions_in_any_order()
+    ensures { RevisionsInAnyOrder }
 {}
 
 /// No bar before the reach of a term of a checked pipeline counts for its value.

@@ -1,6 +1,6 @@
 use Rattle.std.proofs.lemmas.Result.{err_from_is_err_and}
 use Rattle.pl_records.specs.Records.{csv_records}
-use Rattle.pl_revisions.specs.Faults.{fault_of}
+use Rattle.pl_adjust.specs.RevisionFaults.{fault_of}
 use Rattle.pl_adjust.specs.Revised.{revised_columns}
 use Rattle.pl_adjust.proofs.RevisedColumns.{added, cols_with, known_from, refused_by, revised_cols, revised_puts}
 use Rattle.pl_adjust.proofs.Adjustments.add_revisions.Goals as goal

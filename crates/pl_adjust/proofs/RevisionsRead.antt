@@ -1,0 +1,169 @@
+-- Revisions that are read: what is kept of all rows, and what a file says, in plain words.
+use Rattle.std.proofs.Common.{◌≡◌, ◌↔◌, ℕ, zero, suc, ◌<◌, ◌≤◌, ◌==◌, ◌&&◌, nat_le, true, false, List, [], ◌∷◌, ◌++◌, length, length-append, Option, Some, None, position, Ok, Err, refl, sym, ap, ◌∙◌, ℤ, ◌<ℤ◌, ◌≤ℤ◌, arith, Any}
+use Rattle.std.specs.Prelude.{Contains}
+use Rattle.std.specs.List.{list_any, slice_get}
+use Rattle.std.specs.Int.RustNames.{int_le}
+use Rattle.std.specs.Ordering.{int_eq}
+use Rattle.std.specs.Bool.{Decides}
+use Rattle.std.specs.Option.{ok_or}
+use Rattle.std.proofs.lemmas.Int.{ints}
+use Rattle.std.proofs.lemmas.Bool.{and_parts}
+use Rattle.std.proofs.lemmas.Bool.Decides.{nat_tests}
+use Rattle.std.proofs.lemmas.List.Elements.{All-push, Contains-get_or}
+use Rattle.std.proofs.lemmas.List.Folds.{Any-from_list_any, list_any-from_Any}
+use Rattle.std.proofs.lemmas.Option.{slice_get_within, get_or_from_slice_get}
+use Rattle.pl_records.specs.Reading.{Record, Fault, field, Judges}
+use Rattle.pl_records.specs.RuleTable.{IsFirstBroken, lacks}
+use Rattle.pl_records.proofs.Readings.{rows-keep, under_ok, under-are, under-fault}
+use Rattle.pl_records.proofs.RuleTables.{told_ok, ok_or-Ok, lacks-tells, has-tells, Judges-table}
+use Rattle.pl_spec.specs.declared.AssetRow.{AssetRow}
+use Rattle.pl_spec.specs.declared.Column.{Column}
+use Rattle.pl_spec.specs.declared.Column.TheVariants.{OpenPrice, High, Low, Close, Volume}
+use Rattle.pl_spec.specs.World.{column_number}
+use Rattle.pl_spec.specs.Window.{same_column}
+use Rattle.pl_spec.proofs.DatesWritten.{IsDay-IsDate}
+use Rattle.pl_calendar.specs.Days.{AreDays}
+use Rattle.pl_lifetimes.specs.Assets.{AreAssets, sid_of}
+use Rattle.pl_lifetimes.specs.Assets.{HasSid}
+use Rattle.pl_lifetimes.proofs.SidColumns.{sid_form}
+use Rattle.pl_bars.proofs.BarFields.{IsCellText-bar_cell, IsNegative-test, is_negative-test}
+use Rattle.pl_bars.proofs.BarSets.{same_number, number_same}
+use Rattle.pl_bars.proofs.BarsSaid.{day_form}
+use Rattle.pl_adjust.specs.declared.revisions.Revision.{Revision}
+use Rattle.pl_spec.specs.Limits.{most_revisions}
+use Rattle.pl_adjust.specs.Revisions.{Rule, breaks, col_in, session_in, revision_in, header, is_same, is_soon, says_revision, revisions_of, AreRevisions, IsRevision}
+use Rattle.pl_adjust.specs.Revisions as rules
+use Rattle.pl_adjust.specs.RevisionRules.{IsRevisionRecord, AreOfOne, IsNext, Breaks, AreRevisionsOf, IsRevisionsFault}
+use Rattle.pl_adjust.proofs.RevisionFields.{revision_form}
+
+-- ---- the tests
+
+soon_tells : (x : Revision) → Decides (is_soon x) (x.known ≤ℤ x.bar_day)
+soon_tells x = here x.known x.bar_day
+  where
+    here : (a b : ℤ) → Decides (int_le a b) (a ≤ℤ b)
+    here a b = (λ t. grind (arith, ints), λ h. grind (arith, ints))
+
+abbrev column_at : ℕ → Column
+column_at zero = OpenPrice
+column_at (suc zero) = High
+column_at (suc (suc zero)) = Low
+column_at (suc (suc (suc zero))) = Close
+column_at (suc (suc (suc (suc n)))) = Volume
+
+column_back : (c : Column) → column_at (column_number c) ≡ c
+column_back OpenPrice = refl
+column_back High = refl
+column_back Low = refl
+column_back Close = refl
+column_back Volume = refl
+
+pub column_is : (c k : Column) → same_column c k ≡ true → c ≡ k
+column_is c k t = sym (column_back c) ∙ ap column_at (same_number _ _ t) ∙ column_back k
+
+pub day_same : (a b : ℤ) → int_eq a b ≡ true → a ≡ b
+day_same a b t = grind (arith, ints)
+
+same_day : (a b : ℤ) → a ≡ b → int_eq a b ≡ true
+same_day a b e = grind (arith, ints)
+
+pub parts : (x y : Revision) → is_same x y ≡ true → AreOfOne x y
+parts x y t =
+    let a = and_parts ((y.sid == x.sid && int_eq y.bar_day x.bar_day) && same_column y.column x.column) (int_eq y.known x.known) t in
+    let b = and_parts (y.sid == x.sid && int_eq y.bar_day x.bar_day) (same_column y.column x.column) a.0 in
+    let d = and_parts (y.sid == x.sid) (int_eq y.bar_day x.bar_day) b.0 in
+    record { sid = same_number _ _ d.0; session = day_same _ _ d.1; column = column_is _ _ b.1; known = day_same _ _ a.1 }
+
+pub whole : (x y : Revision) → AreOfOne x y → is_same x y ≡ true
+whole x y h =
+    let sid : (y.sid == x.sid) ≡ true = number_same _ _ h.sid in
+    let day : int_eq y.bar_day x.bar_day ≡ true = same_day _ _ h.session in
+    let column : same_column y.column x.column ≡ true = number_same _ _ (ap column_number h.column) in
+    let known : int_eq y.known x.known ≡ true = same_day _ _ h.known in
+    rw (sid, day, column, known) refl
+
+same_tells : (before : List Revision) (x : Revision) → Decides (list_any (is_same x) before) (Any (AreOfOne x) before)
+same_tells before x = (
+  λ e. (let it = Any-from_list_any (is_same x) before e in (it.0, it.1, it.2, it.3, parts x it.1 it.4)),
+  λ any. list_any-from_Any (is_same x) before (any.0, any.1, any.2, any.3, whole x any.1 any.4),
+)
+
+module _ (days : List ℤ) (assets : List AssetRow) (ud : AreDays days) (ua : AreAssets assets) where
+  tells : (before : List Revision) (r : Record) (q : Rule) → Decides (breaks days assets before r q) (Breaks days assets before r q)
+  tells before r rules.BadHeader = (λ t. absurd (let bad : false ≡ true = t in cc), λ h. absurd h)
+  tells before r rules.TooMany = (λ t. grind (arith, nat_tests), λ h. grind (arith, nat_tests))
+  tells before r rules.BadField = lacks-tells revision_in IsRevisionRecord revision_form r
+  tells before r rules.NotSession =
+      has-tells revision_in IsRevisionRecord revision_form _ _
+      (lacks-tells (session_in days) (λ x session. slice_get days session ≡ Some x.bar_day) (λ x. day_form days ud x.bar_day)) r
+  tells before r rules.UnknownSid =
+      has-tells revision_in IsRevisionRecord revision_form _ _ (lacks-tells (col_in assets) (λ x col. HasSid assets col x.sid) (λ x. sid_form assets ua x.sid)) r
+  tells before r rules.Negative =
+      has-tells revision_in IsRevisionRecord revision_form _ _ (λ x. (IsNegative-test x.value, is_negative-test x.value)) r
+  tells before r rules.TooSoon = has-tells revision_in IsRevisionRecord revision_form _ _ soon_tells r
+  tells before r rules.Duplicate = has-tells revision_in IsRevisionRecord revision_form _ _ (same_tells before) r
+
+  pub revisions_judged : Judges (IsNext days assets) (λ before r. IsFirstBroken rules.rules (Breaks days assets before r)) (says_revision days assets)
+  unfolding says_revision
+  revisions_judged =
+      Judges-table revision_in IsRevisionRecord revision_form rules.rules rules.BadField (breaks days assets) (Breaks days assets) tells (λ before r kept none. kept.1.0 none)
+
+  -- ---- a file
+
+  pub revisions-are : (records : List Record) (rows : List Revision) → (revisions_of days assets records ≡ Ok rows) ↔ AreRevisionsOf days assets records rows
+  unfolding revisions_of
+  revisions-are records rows =
+      under-are header rules.BadHeader (IsNext days assets) (λ before r. IsFirstBroken rules.rules (Breaks days assets before r)) (says_revision days assets) revisions_judged records rows
+
+  pub revisions-fault : (records : List Record) (fault : Fault Rule) → (revisions_of days assets records ≡ Err fault) ↔ IsRevisionsFault days assets records fault
+  unfolding revisions_of
+  revisions-fault records fault =
+      under-fault header rules.BadHeader (IsNext days assets) (λ before r. IsFirstBroken rules.rules (Breaks days assets before r)) (says_revision days assets) revisions_judged records fault
+
+  -- ---- what is kept of all rows
+
+  few_more : (before : List Revision) (x : Revision) → nat_le most_revisions (length before) ≡ false → length (before ++ x ∷ []) ≤ most_revisions
+  few_more before x n = let small : length before < most_revisions = grind (arith, nat_tests) in omega (arith, length-append before (x ∷ []))
+
+  known : (sid : ℕ) → lacks (position (λ a. sid_of a == sid) assets) ≡ false → (col : ℕ) × HasSid assets col sid
+  known sid t = here (position (λ a. sid_of a == sid) assets) refl t
+    where
+      here : (o : Option ℕ) → position (λ a. sid_of a == sid) assets ≡ o → lacks o ≡ false → (col : ℕ) × HasSid assets col sid
+      here None e t = absurd (let bad : true ≡ false = t in cc)
+      here (Some col) e t = (col, (sid_form assets ua sid col).0 e)
+
+  dated : (day : ℤ) → lacks (position (λ d. int_eq d day) days) ≡ false → Contains days day
+  dated day t = here (position (λ d. int_eq d day) days) refl t
+    where
+      here : (o : Option ℕ) → position (λ d. int_eq d day) days ≡ o → lacks o ≡ false → Contains days day
+      here None e t = absurd (let bad : true ≡ false = t in cc)
+      here (Some s) e t =
+          let at : slice_get days s ≡ Some day = (day_form days ud day s).0 e in
+          rw (← get_or_from_slice_get days s day day at) (Contains-get_or days s day (slice_get_within days s day at))
+
+  later : (a b : ℤ) → int_le a b ≡ false → b <ℤ a
+  later a b t = grind (arith, ints)
+
+  kept-more : (before : List Revision) (r : Record) (x : Revision) → AreRevisions days assets before → says_revision days assets before r ≡ Ok x → AreRevisions days assets (before ++ x ∷ [])
+  unfolding says_revision
+  kept-more before r x h s =
+      let k = told_ok rules.rules (breaks days assets before r) (ok_or (revision_in r) rules.BadField) x s in
+      let at : revision_in r ≡ Some x = ok_or-Ok (revision_in r) rules.BadField x k.1 in
+      let it = (revision_form r x).0 at in
+      record {
+        few = few_more before x k.0.0;
+        each = All-push (IsRevision days assets) before x h.each (record {
+          asset = known x.sid (rw at at k.0.1.1.1.0);
+          session = dated x.bar_day (rw at at k.0.1.1.0);
+          later = later x.known x.bar_day (rw at at k.0.1.1.1.1.1.0);
+          date = IsDay-IsDate (field r 4) x.known it.known;
+          cell = IsCellText-bar_cell (field r 3) x.value it.value (rw at at k.0.1.1.1.1.0);
+        });
+      }
+
+  pub AreRevisions-read : (records : List Record) (rows : List Revision) → revisions_of days assets records ≡ Ok rows → AreRevisions days assets rows
+  unfolding revisions_of
+  AreRevisions-read records rows e =
+      rows-keep (AreRevisions days assets) 2 (says_revision days assets) kept-more _ [] rows
+      (record { few = omega arith; each = λ k d h. absurd (omega arith) })
+      (under_ok header rules.BadHeader (says_revision days assets) records rows e).1

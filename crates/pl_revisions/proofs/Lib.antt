@@ -1,3 +1,0 @@
-pub mod RevisionFields
-pub mod RevisionKeys
-pub mod RevisionsRead
