@@ -1,6 +1,7 @@
 // What is kept of whole windows.
 ghost use Rattle.std.specs.Prelude.{◌≡◌, ◌≤◌, length};
 ghost use Rattle.std.specs.List.{All};
+ghost use Rattle.pl_spec.specs.Limits.{most_window};
 ghost use Rattle.pl_spec.specs.Rounding.{IsCell};
 ghost use Rattle.pl_running.specs.Kept.{sums, spreads, weighted, placed, swings};
 
@@ -10,7 +11,7 @@ use pl_lanes::sum_present;
 
 pub(crate) fn sums_of(a: &[i64]) -> Running
     requires cells { All IsCell a.now }
-    requires few { length a.now ≤ 1260 }
+    requires few { length a.now ≤ most_window }
     ensures { result ≡ sums a.now }
 {
     let (main, number) = sum_present(a);
@@ -23,7 +24,7 @@ pub(crate) fn sums_of(a: &[i64]) -> Running
 
 pub(crate) fn spreads_of(a: &[i64]) -> Running
     requires cells { All IsCell a.now }
-    requires few { length a.now ≤ 1260 }
+    requires few { length a.now ≤ most_window }
     ensures { result ≡ spreads a.now }
 {
     let (main, number) = sum_present(a);
@@ -37,7 +38,7 @@ pub(crate) fn spreads_of(a: &[i64]) -> Running
 pub(crate) fn weighted_of(a: &[i64], w: &[i64]) -> Running
     requires cells { All IsCell a.now }
     requires weights { All IsCell w.now }
-    requires few { length a.now ≤ 1260 }
+    requires few { length a.now ≤ most_window }
     requires paired { length w.now ≡ length a.now }
     ensures { result ≡ weighted a.now w.now }
 {
@@ -51,7 +52,7 @@ pub(crate) fn weighted_of(a: &[i64], w: &[i64]) -> Running
 
 pub(crate) fn placed_of(a: &[i64]) -> Running
     requires cells { All IsCell a.now }
-    requires few { length a.now ≤ 1260 }
+    requires few { length a.now ≤ most_window }
     ensures { result ≡ placed a.now }
 {
     let (main, _) = sum_present(a);
@@ -64,7 +65,7 @@ pub(crate) fn placed_of(a: &[i64]) -> Running
 
 pub(crate) fn swings_of(a: &[i64]) -> Running
     requires cells { All IsCell a.now }
-    requires few { length a.now ≤ 1260 }
+    requires few { length a.now ≤ most_window }
     ensures { result ≡ swings a.now }
 {
     Running {
