@@ -1,6 +1,7 @@
 //! The filters over a window: how many of its values are true, or present.
 ghost use Rattle.std.specs.Prelude.{◌≡◌, ◌≤◌, [], length};
 ghost use Rattle.std.specs.List.{All, count_by};
+ghost use Rattle.pl_spec.specs.Limits.{most_window};
 ghost use Rattle.pl_spec.specs.Rounding.{IsCell};
 ghost use Rattle.pl_spec.specs.Formula.{is_true, formula};
 ghost use Rattle.pl_spec.specs.Kind.{WindowKind as window};
@@ -18,7 +19,7 @@ use pl_terms::TermKind;
 pub fn window_filter(kind: &TermKind, a: &[i64]) -> i64
     requires kind { IsWindowFilter (kind_of kind.now) }
     requires values { AreValues (kind_of kind.now) a.now }
-    requires few { length a.now ≤ 1260 }
+    requires few { length a.now ≤ most_window }
     ensures value { result ≡ filtered (kind_of kind.now) a.now }
     ensures flag { IsFlag result }
 {
@@ -35,7 +36,7 @@ pub fn window_filter(kind: &TermKind, a: &[i64]) -> i64
 #[tactic(auto, unfolding(pl_spec::specs::Formula::formula))]
 fn at_least(n: usize, flags: &[i64]) -> i64
     requires flags { All IsFlag flags.now }
-    requires few { length flags.now ≤ 1260 }
+    requires few { length flags.now ≤ most_window }
     ensures value { result ≡ formula (window.AtLeastN n) flags.now [] [] }
     ensures flag { IsFlag result }
 {
@@ -45,7 +46,7 @@ fn at_least(n: usize, flags: &[i64]) -> i64
 // How many values of a filter are true: their sum.
 fn true_count(flags: &[i64]) -> usize
     requires flags { All IsFlag flags.now }
-    requires few { length flags.now ≤ 1260 }
+    requires few { length flags.now ≤ most_window }
     ensures { result ≡ count_by is_true flags.now }
 {
     sum_present(flags).0 as usize
@@ -55,7 +56,7 @@ fn true_count(flags: &[i64]) -> usize
 #[tactic(auto, unfolding(pl_spec::specs::Formula::formula))]
 fn all_present(cells: &[i64]) -> i64
     requires cells { All IsCell cells.now }
-    requires few { length cells.now ≤ 1260 }
+    requires few { length cells.now ≤ most_window }
     ensures value { result ≡ formula window.AllPresent cells.now [] [] }
     ensures flag { IsFlag result }
 {

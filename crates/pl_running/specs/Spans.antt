@@ -1,6 +1,7 @@
 -- Two windows, the second a place after the first, as one list: all but its last cell, and all but its first.
 use Rattle.std.specs.Prelude.{◌≡◌, ℕ, ◌-◌, ◌≤◌, ℤ, pos, List, length, take, drop, get_or, if◌then◌else◌, IsTrue, ◌⊎◌, Bool, true, false}
 use Rattle.std.specs.List.{All}
+use Rattle.pl_spec.specs.Limits.{most_window}
 use Rattle.pl_spec.specs.Rounding.{IsCell, is_missing}
 use Rattle.pl_spec.specs.Kind.{Kind}
 use Rattle.pl_spec.specs.Kind.Kind.{Window}
@@ -36,7 +37,7 @@ pub record TakesWindows (k : Kind) (a b c : List ℤ) : Type 0 where
   pub first : All IsCell a
   pub second : All IsCell b
   pub third : All IsCell c
-  pub few : length a ≤ 1260
+  pub few : length a ≤ most_window
   pub paired : IsTrue (takes_pairs k) → length b ≡ length a
 
 -- does the formula take a range between two windows of their own?

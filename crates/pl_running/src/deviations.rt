@@ -2,6 +2,7 @@
 
 ghost use Rattle.std.specs.Prelude.{◌≡◌, ◌≤◌, ◌*◌, ℤ, pos, ◌*ℤ◌, ◌-ℤ◌, length, unsigned_abs, sum_by};
 ghost use Rattle.std.specs.List.{All};
+ghost use Rattle.pl_spec.specs.Limits.{most_window};
 ghost use Rattle.pl_spec.specs.Rounding.{IsCell, LIMIT, add, sub, mul};
 ghost use Rattle.pl_spec.specs.Formula.{present_values, mean, deviation, square};
 ghost use Rattle.pl_running.specs.Kept.{spreads};
@@ -14,7 +15,7 @@ use pl_fixed::{MISSING, add, div_round, isqrt, mul, sub, to_cell};
 // The root of the mean square of what lies between the present cells and their rounded mean, rounded down.
 pub(crate) fn deviation(kept: &Running, a: &[i64]) -> i64
     requires cells { All IsCell a.now }
-    requires few { length a.now ≤ 1260 }
+    requires few { length a.now ≤ most_window }
     requires stands { kept.now ≡ spreads a.now }
     ensures value { result ≡ deviation a.now }
     ensures cell { IsCell result }
@@ -30,7 +31,7 @@ pub(crate) fn deviation(kept: &Running, a: &[i64]) -> i64
 // The mean less `k` deviations.
 pub(crate) fn bollinger_lower(kept: &Running, a: &[i64], k: i64) -> i64
     requires cells { All IsCell a.now }
-    requires few { length a.now ≤ 1260 }
+    requires few { length a.now ≤ most_window }
     requires factor { IsCell k }
     requires stands { kept.now ≡ spreads a.now }
     ensures value { result ≡ sub (mean a.now) (mul k (deviation a.now)) }
@@ -42,7 +43,7 @@ pub(crate) fn bollinger_lower(kept: &Running, a: &[i64], k: i64) -> i64
 // The mean and `k` deviations.
 pub(crate) fn bollinger_upper(kept: &Running, a: &[i64], k: i64) -> i64
     requires cells { All IsCell a.now }
-    requires few { length a.now ≤ 1260 }
+    requires few { length a.now ≤ most_window }
     requires factor { IsCell k }
     requires stands { kept.now ≡ spreads a.now }
     ensures value { result ≡ add (mean a.now) (mul k (deviation a.now)) }
@@ -54,7 +55,7 @@ pub(crate) fn bollinger_upper(kept: &Running, a: &[i64], k: i64) -> i64
 // The sum of the squares of how far the present cells lie from a number.
 fn squares_about(kept: &Running, a: &[i64], middle: i128) -> u128
     requires cells { All IsCell a.now }
-    requires few { length a.now ≤ 1260 }
+    requires few { length a.now ≤ most_window }
     requires stands { kept.now ≡ spreads a.now }
     requires middle { unsigned_abs middle ≤ LIMIT }
     ensures { result ≡ sum_by (λ x. square (x -ℤ middle)) (present_values a.now) }
@@ -65,9 +66,9 @@ fn squares_about(kept: &Running, a: &[i64], middle: i128) -> u128
 // The same from the sum of the squares, the sum and the number of the cells.
 fn about(middle: i128, squares: i128, sum: i128, count: i128) -> i128
     requires middle { unsigned_abs middle ≤ LIMIT }
-    requires squares { unsigned_abs squares ≤ 1260 * (LIMIT * LIMIT) }
-    requires sum { unsigned_abs sum ≤ 1260 * LIMIT }
-    requires count { unsigned_abs count ≤ 1260 }
+    requires squares { unsigned_abs squares ≤ most_window * (LIMIT * LIMIT) }
+    requires sum { unsigned_abs sum ≤ most_window * LIMIT }
+    requires count { unsigned_abs count ≤ most_window }
     ensures { result ≡ about middle squares sum count }
 {
     let apart = times(middle, count) - sum;

@@ -1,5 +1,6 @@
 //! The values of a formula over windows that follow on each other, each a cell later than the one before.
 ghost use Rattle.std.specs.Prelude.{◌≡◌, ◌+◌, ◌*◌, ◌<◌, ◌≤◌, ℤ, pos, ◌≤ℤ◌, unsigned_abs, List, true, All, IsTrue, length};
+ghost use Rattle.pl_spec.specs.Limits.{most_window};
 ghost use Rattle.pl_spec.specs.Rounding.{IsCell, MILLION};
 ghost use Rattle.pl_spec.specs.Formula.{total};
 ghost use Rattle.pl_spec.specs.Kind.Kind.{Window};
@@ -124,7 +125,7 @@ fn fill_anew(kind: &TermKind, size: usize, a: &[i64], b: &[i64], c: &[i64], out:
 fn fill_means(size: usize, a: &[i64], out: &mut [i64])
     requires cells { All IsCell a.now }
     requires some { 1 ≤ size }
-    requires few { size ≤ 1260 }
+    requires few { size ≤ most_window }
     requires windows { 0 < length out.old }
     requires long { size + length out.old ≤ length a.now + 1 }
     ensures { (b c : List ℤ) → AreValues (Window SimpleMovingAverage) size a.now b c (length out.old)

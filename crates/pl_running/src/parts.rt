@@ -1,6 +1,7 @@
 //! What a cell adds to a sum and to a count, and how a sum moves.
 
 ghost use Rattle.std.specs.Prelude.{◌≡◌, ◌≤◌, ◌*◌, unsigned_abs};
+ghost use Rattle.pl_spec.specs.Limits.{most_window};
 ghost use Rattle.pl_spec.specs.Rounding.{IsCell, LIMIT};
 ghost use Rattle.pl_running.specs.Spans.{part, presence};
 ghost use Rattle.pl_running.specs.Laws.{moved};
@@ -28,7 +29,7 @@ pub(crate) fn presence(x: i64) -> usize
 
 // The sum, less what leaves it, and with what enters.
 pub(crate) fn moved(sum: i128, leaves: i128, enters: i128) -> i128
-    requires sum { unsigned_abs sum ≤ 1260 * (LIMIT * LIMIT) }
+    requires sum { unsigned_abs sum ≤ most_window * (LIMIT * LIMIT) }
     requires leaves { unsigned_abs leaves ≤ LIMIT * LIMIT }
     requires enters { unsigned_abs enters ≤ LIMIT * LIMIT }
     ensures { result ≡ moved sum leaves enters }

@@ -4,6 +4,7 @@
 ghost use Rattle.std.specs.Prelude.{◌≡◌, ◌≤◌, ◌<◌, ◌↔◌, ◌⊎◌, true, false, IsTrue, length, position, Option};
 ghost use Rattle.std.specs.List.{All};
 ghost use Rattle.std.specs.Ordering.{int_eq};
+ghost use Rattle.pl_spec.specs.Limits.{most_window};
 ghost use Rattle.pl_spec.specs.Rounding.{IsCell, MISSING, is_missing};
 ghost use Rattle.pl_spec.specs.Formula.{count, greatest, least, place_of};
 ghost use Rattle.pl_lanes.specs.Heights.{height, depth};
@@ -156,7 +157,7 @@ fn is_lower(x: i64, best: i64) -> bool
 
 // A place in hundredths of the way from the oldest cell to the newest.
 pub(crate) fn place_value(kept: &Running, a: &[i64]) -> i64
-    requires few { length a.now ≤ 1260 }
+    requires few { length a.now ≤ most_window }
     requires cell { IsCell kept.now.main }
     requires known { (is_missing kept.now.main ≡ true) ↔ (count a.now ≡ 0) }
     requires place { kept.now.number ≡ first_place kept.now.main a.now }
@@ -167,7 +168,7 @@ pub(crate) fn place_value(kept: &Running, a: &[i64]) -> i64
 }
 
 fn hundredths(x: i64, place: usize, a: &[i64]) -> i64
-    requires few { length a.now ≤ 1260 }
+    requires few { length a.now ≤ most_window }
     requires known { (is_missing x ≡ true) ↔ (count a.now ≡ 0) }
     requires place { place ≡ first_place x a.now }
     ensures value { result ≡ place_of x a.now }

@@ -2,6 +2,7 @@
 
 ghost use Rattle.std.specs.Prelude.{◌≡◌, ◌≤◌, length};
 ghost use Rattle.std.specs.List.{All};
+ghost use Rattle.pl_spec.specs.Limits.{most_window};
 ghost use Rattle.pl_spec.specs.Rounding.{IsCell};
 ghost use Rattle.pl_running.specs.Kept.{sums, spreads, weighted, placed, swings};
 
@@ -11,7 +12,7 @@ use pl_lanes::sum_present;
 
 pub(crate) fn sums_of(a: &[i64]) -> Running
     requires cells { All IsCell a.now }
-    requires few { length a.now ≤ 1260 }
+    requires few { length a.now ≤ most_window }
     ensures { result ≡ sums a.now }
 {
     let (main, number) = sum_present(a);
@@ -24,7 +25,7 @@ pub(crate) fn sums_of(a: &[i64]) -> Running
 
 pub(crate) fn spreads_of(a: &[i64]) -> Running
     requires cells { All IsCell a.now }
-    requires few { length a.now ≤ 1260 }
+    requires few { length a.now ≤ most_window }
     ensures { result ≡ spreads a.now }
 {
     let (main, number) = sum_present(a);
@@ -38,7 +39,7 @@ pub(crate) fn spreads_of(a: &[i64]) -> Running
 pub(crate) fn weighted_of(a: &[i64], w: &[i64]) -> Running
     requires cells { All IsCell a.now }
     requires weights { All IsCell w.now }
-    requires few { length a.now ≤ 1260 }
+    requires few { length a.now ≤ most_window }
     requires paired { length w.now ≡ length a.now }
     ensures { result ≡ weighted a.now w.now }
 {
@@ -52,7 +53,7 @@ pub(crate) fn weighted_of(a: &[i64], w: &[i64]) -> Running
 
 pub(crate) fn placed_of(a: &[i64]) -> Running
     requires cells { All IsCell a.now }
-    requires few { length a.now ≤ 1260 }
+    requires few { length a.now ≤ most_window }
     ensures { result ≡ placed a.now }
 {
     let (main, _) = sum_present(a);
@@ -65,7 +66,7 @@ pub(crate) fn placed_of(a: &[i64]) -> Running
 
 pub(crate) fn swings_of(a: &[i64]) -> Running
     requires cells { All IsCell a.now }
-    requires few { length a.now ≤ 1260 }
+    requires few { length a.now ≤ most_window }
     ensures { result ≡ swings a.now }
 {
     Running {

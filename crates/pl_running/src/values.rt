@@ -2,6 +2,7 @@
 
 ghost use Rattle.std.specs.Prelude.{◌≡◌, ◌≤◌, ◌*◌, ◌/◌, ◌+◌, nat_le, pos, ◌*ℤ◌, ◌+ℤ◌, ◌-ℤ◌, length};
 ghost use Rattle.std.specs.List.{All, count_by, list_all};
+ghost use Rattle.pl_spec.specs.Limits.{most_window};
 ghost use Rattle.pl_spec.specs.Rounding.{IsCell, MILLION, quot, to_cell, is_present};
 ghost use Rattle.pl_spec.specs.Formula.{HUNDRED, present_values, total, count, mean, if_any, products, places, weighted_mean, differences, gains, losses, truth, is_true, newest, of_all};
 ghost use Rattle.pl_lanes.specs.Flags.{IsFlag};
@@ -14,7 +15,7 @@ use pl_fixed::{MISSING, quot, to_cell};
 // The sum of the present cells over their number.
 pub(crate) fn mean(kept: &Running, a: &[i64]) -> i64
     requires cells { All IsCell a.now }
-    requires few { length a.now ≤ 1260 }
+    requires few { length a.now ≤ most_window }
     requires main { kept.now.main ≡ total (present_values a.now) }
     requires number { kept.now.number ≡ count a.now }
     ensures value { result ≡ mean a.now }
@@ -40,7 +41,7 @@ pub(crate) fn window_sum(kept: &Running, a: &[i64]) -> i64
 pub(crate) fn weighted_mean(kept: &Running, a: &[i64], w: &[i64]) -> i64
     requires cells { All IsCell a.now }
     requires weights { All IsCell w.now }
-    requires few { length a.now ≤ 1260 }
+    requires few { length a.now ≤ most_window }
     requires paired { length w.now ≡ length a.now }
     requires stands { kept.now ≡ weighted a.now w.now }
     ensures value { result ≡ weighted_mean a.now w.now }
@@ -53,7 +54,7 @@ pub(crate) fn weighted_mean(kept: &Running, a: &[i64], w: &[i64]) -> i64
 pub(crate) fn average_dollar_volume(kept: &Running, a: &[i64], b: &[i64]) -> i64
     requires cells { All IsCell a.now }
     requires volumes { All IsCell b.now }
-    requires few { length a.now ≤ 1260 }
+    requires few { length a.now ≤ most_window }
     requires paired { length b.now ≡ length a.now }
     requires stands { kept.now ≡ weighted a.now b.now }
     ensures value { result ≡ quot (total (products a.now b.now)) (pos (length a.now * MILLION)) }
@@ -65,7 +66,7 @@ pub(crate) fn average_dollar_volume(kept: &Running, a: &[i64], b: &[i64]) -> i64
 // The mean in which a cell counts as often as its place from the oldest.
 pub(crate) fn linear_weighted(kept: &Running, a: &[i64]) -> i64
     requires cells { All IsCell a.now }
-    requires few { length a.now ≤ 1260 }
+    requires few { length a.now ≤ most_window }
     requires stands { kept.now ≡ placed a.now }
     ensures value { result
         ≡ quot (total (products (places a.now) a.now)) (pos (length a.now * (length a.now + 1) / 2)) }
@@ -77,7 +78,7 @@ pub(crate) fn linear_weighted(kept: &Running, a: &[i64]) -> i64
 // How far the cells rose, of how far they rose and fell, in hundredths.
 pub(crate) fn relative_strength(kept: &Running, a: &[i64]) -> i64
     requires cells { All IsCell a.now }
-    requires few { length a.now ≤ 1260 }
+    requires few { length a.now ≤ most_window }
     requires stands { kept.now ≡ swings a.now }
     ensures value { result ≡ quot (gains (differences a.now) *ℤ HUNDRED)
         (gains (differences a.now) +ℤ losses (differences a.now)) }
@@ -89,7 +90,7 @@ pub(crate) fn relative_strength(kept: &Running, a: &[i64]) -> i64
 // Whether at least `n` values of a filter are true: their sum is the number of the true ones.
 pub(crate) fn at_least(kept: &Running, n: usize, flags: &[i64]) -> i64
     requires flags { All IsFlag flags.now }
-    requires few { length flags.now ≤ 1260 }
+    requires few { length flags.now ≤ most_window }
     requires stands { kept.now ≡ sums flags.now }
     ensures value { result ≡ truth (nat_le n (count_by is_true flags.now)) }
     ensures cell { IsCell result }

@@ -1,6 +1,7 @@
 -- The families of kinds, what each asks of its parameters and cells, and what it gives over cells.
 use Rattle.std.specs.Prelude.{◌≡◌, ℕ, ◌≤◌, ◌<◌, ◌==◌, Bool, true, false, ℤ, pos, List, [], length, get_or, All, Option, Some, None, if◌then◌else◌, IsTrue, ◌⊎◌, unsigned_abs}
 use Rattle.std.specs.List.{list_any}
+use Rattle.pl_spec.specs.Limits.{most_window}
 use Rattle.pl_spec.specs.Rounding.{MISSING, IsCell, is_missing}
 use Rattle.pl_spec.specs.Kind as spec
 use Rattle.pl_spec.specs.Kind.{Kind, WindowKind, PointKind, LabelKind, CrossKind}
@@ -56,7 +57,7 @@ pub record TakesWindows (k : Kind) (a b c : List ℤ) : Type 0 where
   pub first : All IsCell a
   pub second : All IsCell b
   pub third : All IsCell c
-  pub few : length a ≤ 1260
+  pub few : length a ≤ most_window
   pub paired : IsTrue (takes_pairs k) → length b ≡ length a
 
 -- ---- sids and labels

@@ -1,7 +1,7 @@
 //! Who is kept.
 ghost use Rattle.std.specs.Prelude.{◌≡◌, ℕ, ◌<◌, pos, get_or, length};
 ghost use Rattle.pl_spec.specs.Rounding.{IsCell};
-ghost use Rattle.pl_spec.specs.Formula.{truth};
+ghost use Rattle.pl_spec.specs.Formula.{is_true, truth};
 ghost use Rattle.pl_values.specs.Arrays.{kept_or};
 
 /// 1 for true, 0 for false.
@@ -9,6 +9,13 @@ pub fn truth_of(holds: bool) -> i64
     ensures { result ≡ truth holds }
 {
     if holds { 1 } else { 0 }
+}
+
+/// Is a cell 1?
+pub fn is_one(cell: i64) -> bool
+    ensures { result ≡ is_true cell }
+{
+    cell == 1
 }
 
 /// Puts the empty value where the asset is not kept, and leaves the rest as it is.

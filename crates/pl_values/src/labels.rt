@@ -1,5 +1,5 @@
 //! Labels as their codes, and the tests of the texts that they stand for.
-ghost use Rattle.std.specs.Prelude.{◌≡◌, bytes_eq, position, true};
+ghost use Rattle.std.specs.Prelude.{◌≡◌, ◌<◌, ℕ, bytes_eq, get_or, length, pos, position, true};
 ghost use Rattle.pl_terms.specs.Kinds.{kind_of};
 ghost use Rattle.pl_spec.specs.Rounding.{IsCell};
 ghost use Rattle.pl_assets.specs.Labels.{label_on, names_of};
@@ -36,6 +36,20 @@ pub fn label_test_value(kind: &TermKind, labels: &Labels, code: i64) -> i64
         0
     } else {
         truth_of(label_test(kind, labels.text(code as u32)))
+    }
+}
+
+/// Whether the labels of codes pass the test, one after the other.
+pub fn label_test_values(kind: &TermKind, labels: &Labels, codes: &[i64], out: &mut [i64])
+    requires kind { is_label_test (kind_of kind.now) ≡ true }
+    requires codes { (i : ℕ) → i < length codes.now → IsCode labels.now.texts (get_or codes.now i (pos 0)) }
+    requires many { length codes.now ≡ length out.old }
+    ensures length { length out.new ≡ length out.old }
+    ensures each { (i : ℕ) → i < length out.old → get_or out.new i (pos 0)
+        ≡ code_flag labels.now.texts (kind_of kind.now) (get_or codes.now i (pos 0)) }
+{
+    for i in 0..out.len() {
+        out[i] = label_test_value(kind, labels, codes[i]);
     }
 }
 

@@ -9,14 +9,16 @@ mod family;
 mod keeping;
 mod labels;
 pub mod laws;
+mod node;
 mod points;
 mod sections;
 mod sids;
 mod windows;
 
 pub use family::{Family, empty_value, family_of};
-pub use keeping::keep_values;
-pub use labels::{label_test_value, label_value};
+pub use keeping::{is_one, keep_values, truth_of};
+pub use labels::{label_test_value, label_test_values, label_value};
+pub use node::{group_of, input_at, inputs_of, kind_of, mask_of, window_of};
 pub use points::point_value;
 pub use sections::section_values;
 pub use sids::sids_value;

@@ -1,5 +1,6 @@
 //! Cross-sections.
 ghost use Rattle.std.specs.Prelude.{◌≡◌, ◌≤◌, ◌<◌, ℕ, All, length, not, true};
+ghost use Rattle.pl_spec.specs.Limits.{most_assets};
 ghost use Rattle.pl_spec.specs.Rounding.{IsCell};
 ghost use Rattle.pl_spec.specs.Cross.{at};
 ghost use Rattle.pl_spec.specs.Kind.{Kind, CrossKind};
@@ -24,7 +25,7 @@ pub fn section_values(
     requires kind { is_section (kind_of kind.now) ≡ true }
     requires parameters { HasParameters (kind_of kind.now) }
     requires room { length values.now ≤ cross.old }
-    requires few { length values.now ≤ 8_000 }
+    requires few { length values.now ≤ most_assets }
     requires cells { All IsCell values.now }
     requires keep { length keep.now ≡ length values.now }
     requires groups { Fits (length values.now) (labels_in groups) }
