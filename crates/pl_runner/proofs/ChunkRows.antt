@@ -9,8 +9,8 @@ use Rattle.pl_spec.specs.World.{World}
 use Rattle.pl_spec.specs.Table.{Pipeline, Row, session_rows, table}
 use Rattle.pl_planner.specs.Plans.{Planned}
 use Rattle.pl_table.specs.Outcomes.{rows_of_sessions}
-use Rattle.pl_chunks.specs.declared.pieces.Chunk.{Chunk}
-use Rattle.pl_chunks.specs.Chunks.{chunk_at, chunk_count}
+use Rattle.pl_exec.specs.declared.chunk.Chunk.{Chunk}
+use Rattle.pl_runner.specs.Chunks.{chunk_at, chunk_count}
 use Rattle.pl_runner.specs.Runs.{run_steps, steps_of_chunk}
 
 pub times-more : (n m : ℕ) → (n + 1) * m ≡ n * m + m

@@ -4,9 +4,9 @@ use Rattle.pl_spec.specs.World.{World}
 use Rattle.pl_spec.specs.Table.{Pipeline}
 use Rattle.pl_planner.specs.Plans.{Planned}
 use Rattle.pl_workspace.specs.Slots.{Free, slot_at}
-use Rattle.pl_chunks.specs.declared.pieces.Chunk.{Chunk}
-use Rattle.pl_chunks.specs.Chunks.{chunk_at, chunk_count}
-use Rattle.pl_chunks.specs.Room.{HasRoom}
+use Rattle.pl_exec.specs.declared.chunk.Chunk.{Chunk}
+use Rattle.pl_runner.specs.Chunks.{chunk_at, chunk_count}
+use Rattle.pl_runner.specs.Room.{HasRoom}
 use Rattle.pl_table.specs.Tiles.{tile_len}
 use Rattle.pl_runner.specs.declared.desk.Desk.{Desk}
 

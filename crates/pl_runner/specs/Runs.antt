@@ -5,8 +5,8 @@ use Rattle.pl_spec.specs.Graph.{bound}
 use Rattle.pl_spec.specs.Table.{Pipeline, table, cells}
 use Rattle.pl_terms.specs.Uses.{outputs}
 use Rattle.pl_planner.specs.Plans.{Planned}
-use Rattle.pl_chunks.specs.declared.pieces.Chunk.{Chunk}
-use Rattle.pl_chunks.specs.Chunks.{chunks_of, columns_of}
+use Rattle.pl_exec.specs.declared.chunk.Chunk.{Chunk}
+use Rattle.pl_runner.specs.Chunks.{chunks_of, columns_of}
 use Rattle.pl_exec.specs.Tasks.{Task, chunk_steps, cut}
 use Rattle.pl_runner.specs.declared.run.RunReport.{RunReport}
 

@@ -5,7 +5,7 @@ ghost use Rattle.pl_terms.specs.Checked.{pipeline_of};
 ghost use Rattle.pl_planner.specs.Plans.{IsPlanOf};
 ghost use Rattle.pl_runner.specs.Desks.{IsDesk, IsNoMore};
 
-use pl_chunks::longest_array;
+use crate::room::longest_array;
 use pl_cross::Cross;
 use pl_exec::Rows;
 use pl_fixed::Memory;

@@ -1,8 +1,13 @@
-//! The table of a range of sessions, computed in chunks.
+//! The table of a range of sessions, computed in chunks: which sessions each has, for which assets it is
+//! computed, and how much memory the largest one needs.
 #![tactic(auto)]
 
+mod columns;
 mod desk;
+mod lows;
+mod pieces;
 mod release;
+mod room;
 mod run;
 
 pub use pl_spec::Format;

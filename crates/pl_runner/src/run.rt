@@ -10,16 +10,17 @@ ghost use Rattle.pl_terms.specs.Uses.{outputs};
 ghost use Rattle.pl_planner.specs.Plans.{IsPlanOf};
 ghost use Rattle.pl_table.specs.Outcomes.{lines, rows_of_sessions};
 ghost use Rattle.pl_table.specs.Sums.{rows_sum};
-ghost use Rattle.pl_chunks.specs.declared.pieces.Chunk.{Chunk};
+ghost use Rattle.pl_exec.specs.declared.chunk.Chunk.{Chunk};
 ghost use Rattle.pl_exec.specs.Tasks.{cut};
 ghost use Rattle.pl_runner.specs.Desks.{IsDesk, IsDeskFor};
 ghost use Rattle.pl_runner.specs.Runs.{IsReport, run_steps, steps_of_chunk};
 ghost use Rattle.pl_table.specs.declared.error.RunError.TheVariants as RunError;
 
+use crate::columns::put_columns;
 use crate::desk::Desk;
+use crate::pieces::{chunk_at, chunk_count};
 use crate::release::release_outputs;
-use pl_chunks::{Chunk, chunk_at, chunk_count, put_columns};
-use pl_exec::{Chunk as Sessions, ChunkReport, execute_chunk};
+use pl_exec::{Chunk, ChunkReport, execute_chunk};
 use pl_fixed::Steps;
 use pl_outside::{Failed, Sink, write_bytes};
 use pl_planner::Plan;
@@ -104,10 +105,11 @@ fn write_all<O: Sink, L: Ledger>(
     ensures writes { Writes O.taken O.faults O.sound O.room out.old out.new
         (header.now ++ lines (world_of world.now) (pipeline_of checked.now) format
         (table (world_of world.now) (pipeline_of checked.now) plan.now.from plan.now.to)) result }
-    ensures pieces { IfOk result (λ report. IsWrittenIn O.whole O.calls out.old out.new (1 + report.rows)) }
-    ensures report { IfOk result (IsReport (world_of world.now) (pipeline_of checked.now) plan.now size) }
-    ensures cost { OnOk result (steps.new ≡ steps.old
-        + run_steps (world_of world.now) (pipeline_of checked.now) plan.now size) }
+    // The pieces, the report and the steps of a run that comes to its end.
+    ensures done { IfOk result (λ report. IsWrittenIn O.whole O.calls out.old out.new (1 + report.rows)
+        × IsReport (world_of world.now) (pipeline_of checked.now) plan.now size report
+        × (steps.new ≡ steps.old
+        + run_steps (world_of world.now) (pipeline_of checked.now) plan.now size)) }
     ensures at_most { steps.new ≤ steps.old
         + run_steps (world_of world.now) (pipeline_of checked.now) plan.now size }
 {
@@ -196,10 +198,7 @@ fn write_chunk<O: Sink, L: Ledger>(
         world,
         checked,
         plan,
-        &Sessions {
-            from: chunk.from,
-            to: chunk.to,
-        },
+        &chunk,
         &desk.cols,
         &mut desk.workspace,
         &mut desk.cross,

@@ -33,3 +33,12 @@ returns-clause-writes g c =
     let is = text-is w p c.args.format rows c.deref.result.now (c.deref.ensures.value ∙ c.in_ok-header.ensures) in
     let start = writing-over (is ∙ sym (append-nil (c.deref.result.now ++ lines w p c.args.format rows))) (writing-start g.O.Sink.taken g.O.Sink.faults g.O.Sink.sound g.O.Sink.room c.args.out.now whole) in
     inr (writing-stop _ _ start c.in-Err.ensures.writes)
+
+pub returns-in-Ok-clause-pieces : goal.returns-in-Ok-clause-pieces
+returns-in-Ok-clause-pieces g c = c.in-Ok.ensures.done.0
+
+pub returns-in-Ok-clause-report : goal.returns-in-Ok-clause-report
+returns-in-Ok-clause-report g c = c.in-Ok.ensures.done.1
+
+pub returns-in-Ok-clause-cost : goal.returns-in-Ok-clause-cost
+returns-in-Ok-clause-cost g c = c.in-Ok.ensures.done.2

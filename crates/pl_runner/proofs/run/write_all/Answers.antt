@@ -11,7 +11,7 @@ use Rattle.pl_table.specs.Outcomes.{lines, rows_of_sessions}
 use Rattle.pl_table.specs.Sums.{rows_sum}
 use Rattle.pl_table.proofs.RowSums.{rows_sum-append}
 use Rattle.pl_table.proofs.SessionRows.{lines-append}
-use Rattle.pl_chunks.specs.Chunks.{chunk_at, chunk_count}
+use Rattle.pl_runner.specs.Chunks.{chunk_at, chunk_count}
 use Rattle.pl_exec.specs.Tasks.{cut}
 use Rattle.pl_runner.specs.Runs.{run_steps, steps_of_chunk}
 use Rattle.pl_runner.proofs.ChunkRows.{start_of, rows-next, rows-end, rows-all, chunk-few, steps-next, steps-end, steps-all, times-more}
@@ -36,6 +36,15 @@ loop-i-init g c =
       peak = λ some. absurd (omega (arith, some));
       desk = c.requires.desk;
     }
+
+pub returns-in_err-write_bytes-clause-writes : goal.returns-in_err-write_bytes-clause-writes
+returns-in_err-write_bytes-clause-writes g c =
+    let w = world_of c.args.world.now in
+    let p = pipeline_of c.args.checked.now in
+    let whole = lines w p c.args.format (table w p c.args.plan.now.from c.args.plan.now.to) in
+    let q = err_from_is_err_and c.from_residual.result c.from_residual.ensures.1 in
+    rw (q.1, q.2)
+    (writing-stop c.args.header.now whole (writing-start g.O.Sink.taken g.O.Sink.faults g.O.Sink.sound g.O.Sink.room c.args.out.now (c.args.header.now ++ whole)) c.in_err-write_bytes.ensures.writes)
 
 pub returns-in_err-report-clause-writes : goal.returns-in_err-report-clause-writes
 returns-in_err-report-clause-writes g c =
@@ -107,11 +116,8 @@ returns-clause-writes g c =
     let after : chunk_count plan.from plan.to c.args.size ≤ c.loop-i.i = omega (arith, count) in
     writing-end (writing-over (ap (lines w p c.args.format) (rows-end w p plan.from plan.to c.args.size c.loop-i.i c.requires.plan.order c.requires.some after)) c.loop-i.invariant.writing)
 
-pub returns-clause-pieces : goal.returns-clause-pieces
-returns-clause-pieces g c = written-more (written-none refl) c.loop-i.invariant.pieces (omega (arith, c.rows.ensures))
-
-pub returns-clause-report : goal.returns-clause-report
-returns-clause-report g c =
+pub returns-clause-done : goal.returns-clause-done
+returns-clause-done g c =
     let w = world_of c.args.world.now in
     let p = pipeline_of c.args.checked.now in
     let plan = c.args.plan.now in
@@ -121,10 +127,13 @@ returns-clause-report g c =
     let sum : c.loop-i.totals.sum ≡ rows_sum w.texts (table w p plan.from plan.to) = omega (arith, ints, ap (rows_sum w.texts) none, c.loop-i.invariant.sum) in
     let done = c.loop-i.invariant.done in
     let last = steps-end w p plan c.args.size c.loop-i.i after in
-    let n : done.0 ≡ run_steps w p plan c.args.size = omega (arith, last, done.3) in
-    record {
-      rows = omega (arith, c.rows.ensures, ap length none, c.loop-i.invariant.rows);
-      cells = c.cells.ensures ∙ ap (λ (x : ℤ). int_rem_euclid x (pos 18446744073709551616)) sum;
-      peak = c.loop-i.invariant.peak (omega (arith, after));
-      applied = done.2 ∙ ap cut n;
-    }
+    let n : done.0 ≡ run_steps w p plan c.args.size = omega (arith, last, done.3) in (
+      written-more (written-none refl) c.loop-i.invariant.pieces (omega (arith, c.rows.ensures)),
+      record {
+        rows = omega (arith, c.rows.ensures, ap length none, c.loop-i.invariant.rows);
+        cells = c.cells.ensures ∙ ap (λ (x : ℤ). int_rem_euclid x (pos 18446744073709551616)) sum;
+        peak = c.loop-i.invariant.peak (omega (arith, after));
+        applied = done.2 ∙ ap cut n;
+      },
+      omega (arith, done.1, n),
+    )

@@ -8,7 +8,7 @@ use Rattle.pl_terms.specs.Checked.{pipeline_of}
 use Rattle.pl_terms.specs.Uses.{outputs}
 use Rattle.pl_table.specs.Outcomes.{lines, rows_of_sessions}
 use Rattle.pl_table.specs.Sums.{rows_sum}
-use Rattle.pl_chunks.specs.Chunks.{chunk_count}
+use Rattle.pl_runner.specs.Chunks.{chunk_count}
 use Rattle.pl_exec.specs.Tasks.{cut}
 use Rattle.pl_runner.specs.Desks.{IsDesk}
 use Rattle.pl_runner.specs.Runs.{run_steps}

@@ -1,7 +1,7 @@
 use Rattle.std.proofs.Common.{◌≡◌, ◌*◌, ℤ, List, ap, ◌+◌, ◌-◌, length, sym, ◌∙◌, subst, arith}
 use Rattle.std.proofs.lemmas.Nat.{mul-le}
 use Rattle.pl_values.proofs.Texts.{texts-coded}
-use Rattle.pl_chunks.specs.Chunks.{columns_of}
+use Rattle.pl_runner.specs.Chunks.{columns_of}
 use Rattle.pl_world.specs.Worlds.{world_of}
 use Rattle.pl_terms.specs.Checked.{pipeline_of}
 use Rattle.pl_exec.specs.Tasks.{HoldsOutputs}

@@ -3,8 +3,8 @@ use Rattle.std.proofs.lemmas.List.{length-replicate, get_or-replicate}
 use Rattle.pl_workspace.specs.Slots.{Slots, Free, Begun, fresh, slot_at}
 use Rattle.pl_world.specs.Worlds.{world_of}
 use Rattle.pl_terms.specs.Checked.{pipeline_of}
-use Rattle.pl_chunks.specs.Chunks.{chunk_at}
-use Rattle.pl_chunks.specs.Room.{HasRoom}
+use Rattle.pl_runner.specs.Chunks.{chunk_at}
+use Rattle.pl_runner.specs.Room.{HasRoom}
 use Rattle.pl_table.proofs.Outputs.{columns-long}
 use Rattle.pl_runner.proofs.desk.Desk.reserve.Goals as goal
 

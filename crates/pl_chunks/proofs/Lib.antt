@@ -1,4 +1,0 @@
-pub mod Living
-pub mod Terms
-pub mod Assets
-pub mod Rooms

@@ -1,6 +1,0 @@
-use Rattle.std.proofs.Common.{◌≡◌}
-use Rattle.pl_chunks.proofs.Terms.{IsSoFar}
-use Rattle.pl_chunks.proofs.lows.least_low.Given as goal
-
-abbrev pub invariant-loop-t : goal.invariant-loop-t
-invariant-loop-t l = IsSoFar l.plan l.from l.t l.low

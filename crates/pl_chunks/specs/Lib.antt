@@ -1,3 +1,0 @@
--- The chunks of a run.
-pub mod Chunks
-pub mod Room
