@@ -1,5 +1,5 @@
 -- What the functions of a walk leave, from what those that they call leave.
-use Rattle.std.proofs.Common.{◌≡◌, ℕ, zero, suc, ◌+◌, ◌<◌, ◌≤◌, ◌==◌, Bool, true, false, ℤ, pos, ◌≤ℤ◌, All, List, [], ◌∷◌, ◌++◌, length, map, take, drop, get_or, Option, Some, None, option_map, unwrap_or, is_some, slice_get, Result, Ok, Err, OnOk, refl, sym, ◌∙◌, ap, subst, arith}
+use Rattle.std.proofs.Common.{◌≡◌, ℕ, zero, suc, ◌+◌, ◌<◌, ◌≤◌, ◌==◌, Bool, true, false, ℤ, pos, ◌≤ℤ◌, All, List, [], ◌∷◌, ◌++◌, length, map, take, drop, get_or, Option, Some, None, option_map, unwrap_or, is_some, slice_get, Result, Ok, Err, refl, sym, ◌∙◌, ap, subst, arith, IsErrAnd}
 use Rattle.std.specs.List.{list_any}
 use Rattle.std.specs.Int.RustNames.{int_lt}
 use Rattle.std.proofs.lemmas.Int.{ints}
@@ -23,6 +23,7 @@ use Rattle.pl_terms.specs.Uses.{is_used}
 use Rattle.pl_cross.specs.Arrays.{HasTexts}
 use Rattle.pl_cross.specs.Section.{is_section}
 use Rattle.pl_derivation.specs.declared.error.ExplainError.{ExplainError}
+use Rattle.pl_derivation.specs.declared.error.ExplainError.TheVariants.{Memory, TooLong}
 use Rattle.pl_derivation.specs.declared.line.Line.{Line}
 use Rattle.pl_derivation.specs.Listed.{line_of}
 use Rattle.pl_derivation.specs.Lines.Line.{SeenLine, ValueLine}
@@ -50,6 +51,11 @@ use Rattle.pl_explain.specs.Walking.{CanStand, CanStandIn, HasWalked, StandsIn, 
 use Rattle.pl_explain.proofs.Behind.{premises-stand, sessions-held}
 use Rattle.pl_explain.proofs.Standing.{stands-more}
 use Rattle.pl_explain.proofs.Walks.{walk-none, walk-both, walk-tells, walk-more, long-front, long-back, long-first, long-last, deeper, deeper-long}
+
+-- want of memory says nothing of the lines
+pub no-memory : {T : Type 0} (w : World) (c : Parts) (most : ℕ) (fs : List Fact) (old new : Walk) (r : Result T ExplainError) → IsErrAnd r (λ e. e ≡ Memory) → IsWalkTo w c most fs old new r
+no-memory w c most fs old new (Ok x) h = absurd h
+no-memory w c most fs old new (Err e) h = record { stands = tt; finished = tt; long = λ i. absurd (let bad : Memory ≡ TooLong = sym h ∙ i in cc) }
 
 -- what a walk has finished is told
 pub told-now : (w : World) (c : Parts) (t : ℕ) (old new : Walk) (fs : List Fact) → StandsIn w c old → Finishes w c (t + 1) old new fs → has_all new.told fs ≡ true

@@ -1,4 +1,4 @@
-use Rattle.std.proofs.Common.{◌≡◌, ◌+◌, refl, ap, drop, arith, rules, to_z, of_z, w32, w64, FitsSigned}
+use Rattle.std.proofs.Common.{◌+◌, refl, ap, drop, arith, rules, to_z, of_z, w32, w64, FitsSigned}
 use Rattle.std.proofs.lemmas.Int.{to_z-of_z}
 use Rattle.pl_spec.specs.Window.{effect, step_count}
 use Rattle.pl_adjust.proofs.Folds.{put_at, count_more}

@@ -1,4 +1,5 @@
 use Rattle.std.proofs.Common.{rules, arith, ◌≡◌, ◌<◌, ◌≤◌, ◌+◌, ◌*◌, ◌^◌, ◌∷◌, [], ◌∙◌, true, false, Some, None, suc, ap, sym, subst, length, map, get_or, pos, option_map, slice_get, w32, w64, FitsSigned}
+use Rattle.std.proofs.lemmas.Bool.{true≢false}
 use Rattle.std.proofs.lemmas.Int.{to_z-of_z}
 use Rattle.std.proofs.lemmas.List.{take_all}
 use Rattle.std.proofs.lemmas.Option.{slice_get-get_or}
@@ -21,15 +22,24 @@ use Rattle.pl_world.specs.Evaluations.{cell_in}
 use Rattle.pl_world.proofs.Evaluated.{sid-of}
 use Rattle.pl_explain.specs.declared.fact.Fact.{Fact}
 use Rattle.pl_explain.specs.Keys.{fact_of}
-use Rattle.pl_explain.specs.Given.{facts_read, mask_passes}
-use Rattle.pl_explain.proofs.Given.{some-same}
+use Rattle.pl_explain.specs.Given.{facts_read, has_all, mask_passes}
+use Rattle.pl_explain.proofs.Given.{some-same, none-holds}
 use Rattle.pl_explain.specs.Walking.{CanStand, CanStandIn, Finishes, IsTooLong, IsWalkTo}
-use Rattle.pl_explain.proofs.Behind.{worth-within, worth-day, worth-asked}
-use Rattle.pl_explain.proofs.Walks.{walk-told}
-use Rattle.pl_explain.proofs.Finished.{told-now, all-stand, all-more, all-long, value-line, other-finished, other-stands, put-walked, own-long, mask-stands, mask-long, mask-read, facts-stand, stopped-finished, passed-walked}
+use Rattle.pl_explain.proofs.Behind.{worth-within, worth-day, worth-sid, worth-asked}
+use Rattle.pl_explain.proofs.Values.{premises-lacks}
+use Rattle.pl_explain.proofs.Walks.{walk-none, walk-told}
+use Rattle.pl_explain.proofs.Finished.{no-memory, told-now, all-stand, all-more, all-long, value-line, other-finished, other-stands, put-walked, own-long, mask-stands, mask-long, mask-read, facts-stand, stopped-finished, passed-walked}
 use Rattle.pl_explain.proofs.walk.+walk.Goals as goal
 
 -- ---- a fact
+
+pub finish-returns-then-is_some : goal.finish-returns-then-is_some
+finish-returns-then-is_some g t c =
+    let w = c.args.world.now in
+    let p = c.args.checked.now in
+    let f = fact_of c.args.fact in
+    let there : has_all c.args.walk.now.told (f ∷ []) ≡ true = search rules in
+    record { stands = c.requires.stands; finished = walk-told w p (depth_of f) c.args.walk.now (f ∷ []) there; long = tt }
 
 pub finish-returns-in-Seen : goal.finish-returns-in-Seen
 finish-returns-in-Seen g t c =
@@ -122,6 +132,15 @@ finish_value-returns-in_err-finish_premises g t c =
           (subst (λ b. IsTooLong w p (t0 + 1) c.args.walk.now (premises (world_of w) (pipeline_of p) (number_in (world_of w) (pipeline_of p)) (Worth t0 b (pos s)))) place.sid_is (c.in_err-finish_premises.ensures.long e));
     })
 
+pub finish_value-unreachable-requires : goal.finish_value-unreachable-requires
+finish_value-unreachable-requires g t c =
+    let w = c.args.world.now in
+    let p = c.args.checked.now in
+    true≢false (sym (worth-sid w p c.graph-terms.ensures.checked c.args.term c.args.sid c.args.session c.requires.fact) ∙ none-holds c.col_of.result c.in_default.not-Some c.col_of.ensures.none)
+
+pub finish_value-returns-in_err-value : goal.finish_value-returns-in_err-value
+finish_value-returns-in_err-value g t c = no-memory _ _ _ _ _ _ _ c.from_residual-in_err-value.ensures.1
+
 pub finish_value-value_now-requires-clause-term : goal.finish_value-value_now-requires-clause-term
 finish_value-value_now-requires-clause-term g t c =
     let w = c.args.world.now in
@@ -208,6 +227,25 @@ finish_premises-node-node-requires g t c =
     let a = sid_at w.assets.now c.args.col in
     let ok = c.graph.ensures.checked in
     subst (λ ns. t0 < length ns) (sym c.graph.ensures.value) (worth-within w p ok t0 a s c.requires.fact)
+
+pub finish_premises-returns-then-not-exists : goal.finish_premises-returns-then-not-exists
+finish_premises-returns-then-not-exists g t c =
+    let w = c.args.world.now in
+    let p = c.args.checked.now in
+    let t0 = c.args.t.0 in
+    let s = c.args.session in
+    let a = sid_at w.assets.now c.args.col in
+    let ok = c.graph.ensures.checked in
+    let walk = c.args.walk.now in
+    let gone : exists (world_of w) a (pos s) ≡ false = sym c.exists.ensures.value ∙ c.if-not-exists.true in
+    record {
+      stands = c.requires.stands;
+      finished = subst (λ fs. Finishes w p (t0 + 1) walk walk fs) (sym (premises-lacks w p ok t0 a s (worth-within w p ok t0 a s c.requires.fact) gone)) (walk-none w p (t0 + 1) walk);
+      long = tt;
+    }
+
+pub finish_premises-returns-in_err-mask : goal.finish_premises-returns-in_err-mask
+finish_premises-returns-in_err-mask g t c = no-memory _ _ _ _ _ _ _ c.from_residual.ensures.1
 
 pub finish_premises-mask_read-requires-clause-term : goal.finish_premises-mask_read-requires-clause-term
 finish_premises-mask_read-requires-clause-term g t c =
@@ -368,6 +406,9 @@ finish_kind-returns-then-is_whole g t c =
       finished = walk-told w p (c.args.t.0 + 1) c.args.walk.now (facts_read w p c.args.t.0 a c.args.session) (c.is_whole.ensures.stand c.if-is_whole.true a);
       long = tt;
     }
+
+pub finish_kind-returns-in_err-facts : goal.finish_kind-returns-in_err-facts
+finish_kind-returns-in_err-facts g t c = no-memory _ _ _ _ _ _ _ c.from_residual.ensures.1
 
 pub finish_kind-facts_read-requires-clause-asked : goal.finish_kind-facts_read-requires-clause-asked
 finish_kind-facts_read-requires-clause-asked g t c =

@@ -1,4 +1,5 @@
 use Rattle.std.proofs.Common.{rules, arith, ◌≡◌, ◌<◌, ◌≤◌, ◌^◌, ◌∙◌, All, Some, ap, sym, subst, slice_get, length, pos, w32, w64, FitsSigned}
+use Rattle.std.proofs.lemmas.Bool.{true≢false}
 use Rattle.std.proofs.lemmas.Int.{to_z-of_z}
 use Rattle.pl_spec.specs.Dates.{IsDay}
 use Rattle.pl_spec.specs.Rounding.{IsCell}
@@ -9,10 +10,35 @@ use Rattle.pl_derivation.specs.Right.{last_cell, seen_cells}
 use Rattle.pl_derivation.proofs.Truths.{last_seen}
 use Rattle.pl_derivation.specs.declared.line.Line.TheVariants as line
 use Rattle.pl_world.specs.Worlds.{world_of}
+use Rattle.pl_explain.proofs.Given.{none-holds}
 use Rattle.pl_explain.proofs.Lines.{last-cell}
 use Rattle.pl_explain.proofs.Walks.{walk-none}
-use Rattle.pl_explain.proofs.Finished.{put-walked, bar-line, cells-all, some-cells}
+use Rattle.pl_explain.proofs.Finished.{no-memory, put-walked, bar-line, cells-all, some-cells, seen-sid, seen-earlier, seen-day}
 use Rattle.pl_explain.proofs.walk.finish_bar.Goals as goal
+
+pub unreachable-requires : goal.unreachable-requires
+unreachable-requires g c =
+    let w = c.args.world.now in
+    let p = c.args.checked.now in
+    true≢false (sym (seen-sid w p c.args.column c.args.sid c.args.bar c.args.session c.requires.fact) ∙ none-holds c.col_of.result c.in_default.not-Some c.col_of.ensures.none)
+
+pub seen_cells-requires-clause-bar : goal.seen_cells-requires-clause-bar
+seen_cells-requires-clause-bar g c = seen-earlier c.args.world.now c.args.checked.now c.args.column c.args.sid c.args.bar c.args.session c.requires.fact
+
+pub seen_cells-requires-clause-session : goal.seen_cells-requires-clause-session
+seen_cells-requires-clause-session g c = seen-day c.args.world.now c.args.checked.now c.args.column c.args.sid c.args.bar c.args.session c.requires.fact
+
+pub returns-in_err-seen : goal.returns-in_err-seen
+returns-in_err-seen g c = no-memory _ _ _ _ _ _ _ c.from_residual.ensures.1
+
+pub day-requires : goal.day-requires
+day-requires g c =
+    let earlier = seen-earlier c.args.world.now c.args.checked.now c.args.column c.args.sid c.args.bar c.args.session c.requires.fact in
+    let within = seen-day c.args.world.now c.args.checked.now c.args.column c.args.sid c.args.bar c.args.session c.requires.fact in
+    omega (arith, earlier, within)
+
+pub day-requires-2 : goal.day-requires-2
+day-requires-2 g c = seen-day c.args.world.now c.args.checked.now c.args.column c.args.sid c.args.bar c.args.session c.requires.fact
 
 pub returns : goal.returns
 returns g c =
