@@ -8,7 +8,7 @@ use Rattle.pl_spec.specs.Value.{Value, empty, sort_over, sort_kind, value}
 use Rattle.pl_spec.specs.Value.Value.{Number}
 use Rattle.pl_spec.specs.Window.{before}
 use Rattle.pl_spec.specs.World.{World}
-use Rattle.pl_laws.proofs.Law.{values_agree}
+use Rattle.pl_laws.proofs.Law.{agree-seen, values_agree}
 use Rattle.pl_rings.specs.Days.{fed}
 use Rattle.pl_rings.specs.Laws.{ValuesStay}
 use Rattle.pl_rings.proofs.Fed.{agrees, fed_is_a_world}
@@ -32,7 +32,7 @@ values_stay g next [] start are names t a n =
     ∙ sym (ap (value (fed g []) names t a) (below_none n) ∙ value_below (fed g []) names t a n)
 values_stay g next (now ∷ earlier) start are names t a n =
     sym (values_agree (fed g (now ∷ earlier)) (fed g (next ∷ now ∷ earlier)) (pos (length earlier)) now.day (fed_is_a_world g (now ∷ earlier) start are.0) (fed_is_a_world g (next ∷ now ∷ earlier) start are)
-    (agrees g now next earlier start are) names t a (before (pos (length earlier)) n) (by_it (length earlier) n))
+    (agree-seen (fed g (now ∷ earlier)) (fed g (next ∷ now ∷ earlier)) (pos (length earlier)) now.day (agrees g now next earlier start are)) names t a (before (pos (length earlier)) n) (by_it (length earlier) n))
   where
     by_it : (s n : ℕ) → before (pos s) n ≤ℤ pos s
     by_it s n = omega (arith, ints)
