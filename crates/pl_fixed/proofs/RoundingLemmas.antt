@@ -5,7 +5,6 @@ use Rattle.std.specs.Int.RustNames.{int_div, int_rem}
 use Rattle.std.proofs.lemmas.Nat.{div-add-mod', div-mul-add, mod_below, mul-le}
 use Rattle.std.proofs.lemmas.Int.{ints}
 use Rattle.pl_spec.specs.Rounding.{div_round}
-use Rattle.pl_fixed.specs.Ratios.{signed}
 
 -- ---- from the quotient that is rounded toward 0, by its rest
 
@@ -54,12 +53,6 @@ quotient_below (negsuc a) (pos b) rest size h more sign =
     let e = nat_up (suc a) b (omega (arith, ints, h.above)) (omega (arith, rw abs_neg at h.rest_is, h.size_is)) in
     rw e (omega (arith, ints))
 quotient_below a (negsuc b) rest size h more sign = absurd (omega (arith, ints, h.above))
-
--- by its size and its sign
-pub rounded_by_size : (a : ℤ) (b q : ℕ) → q ≡ (2 * unsigned_abs a + b) / (2 * b) → signed a q ≡ div_round a b
-unfolding div_round
-rounded_by_size (pos a) b q e = ap pos e
-rounded_by_size (negsuc a) b q e = ap (λ n. neg_ℤ (pos n)) e
 
 pub above_zero : (b : ℤ) → pos 0 <ℤ b → 0 < unsigned_abs b
 above_zero (pos b) p = omega (arith, ints)

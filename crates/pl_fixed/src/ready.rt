@@ -1,11 +1,10 @@
 //! A ratio that acts on many cells.
-ghost use Rattle.std.specs.Prelude.{◌≡◌, ◌+◌, ◌/◌, ◌<◌, ◌^◌};
+ghost use Rattle.std.specs.Prelude.{◌≡◌, ◌+◌, ◌/◌, ◌<◌, ◌^◌, IsTrue};
 ghost use Rattle.pl_spec.specs.Rounding.{IsCell, scaled};
 ghost use Rattle.pl_fixed.specs.Ratios.{signed};
 
 use crate::cell::LIM;
 use crate::ratio::Ratio;
-use crate::rounding::is_quotient;
 use crate::steps::Steps;
 use std::marker::Model;
 use std::sync::ledger::Ledger;
@@ -96,6 +95,18 @@ fn quotient(dividend: u64, divisor: u64, inverse: u64) -> u64
 #[inline]
 fn upper_half(a: u64, b: u64) -> u64 {
     ((a as u128 * b as u128) >> 64) as u64
+}
+
+// Whether a number is `dividend / divisor`, by what it leaves.
+#[inline]
+fn is_quotient(dividend: u64, divisor: u64, quotient: u64) -> bool
+    requires { 0 < divisor }
+    ensures { IsTrue result → quotient ≡ dividend / divisor }
+{
+    match quotient.checked_mul(divisor) {
+        Some(product) => product <= dividend && dividend - product < divisor,
+        None => false,
+    }
 }
 
 // A size with the sign of a cell.
