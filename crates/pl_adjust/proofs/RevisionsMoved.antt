@@ -1,4 +1,5 @@
--- Records of revisions in another order are read as the same revisions in some order, and no cell is changed otherwise.
+-- Records of revisions in another order are read as the same revisions in some order, and no cell is changed
+-- otherwise.
 use Rattle.std.proofs.Common.{◌≡◌, ℕ, ◌<◌, ◌≤◌, ◌==◌, ◌&&◌, ◌↔◌, nat_le, Bool, true, false, cond, if◌then◌else◌, ℤ, List, [], ◌∷◌, ◌++◌, map, filter, filter_map, length, get_or, All, AllPairs, IsPermutation, Option, Some, None, Result, Ok, Err, refl, sym, ◌∙◌, ap, arith}
 use Rattle.std.specs.List.{list_any}
 use Rattle.std.specs.List.Sorted.{ties}

@@ -9,7 +9,7 @@ pub use error::RevisionsError;
 use pl_fixed::Column;
 pub(crate) use reading::read_revisions;
 
-/// How many revisions a file may have.
+/// How many revisions a file may have. The limit is this project's own.
 pub const MOST_REVISIONS: usize = 200_000;
 
 /// From the day `known` on the cell of a bar column in the bar of the asset `sid` on the session of the day

@@ -1,4 +1,5 @@
-// The derivation of a cell.
+//! The derivation of a cell.
+
 ghost use Rattle.std.specs.Prelude.{◌≡◌, ◌<◌, ◌≤◌, ℕ, length, pos, Some, Ok, IfOk, IfErr};
 ghost use Rattle.pl_spec.specs.Limits.{most_lines};
 ghost use Rattle.pl_spec.specs.Parts.{sid_at};

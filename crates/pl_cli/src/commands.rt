@@ -1,4 +1,5 @@
-// The commands. Each reads and judges what it is asked for, and writes its text.
+//! The commands. Each reads and judges what it is asked for, and writes its text.
+
 ghost use Rattle.std.specs.Prelude.{◌≡◌, ◌≤◌, ◌+◌, ◌⊎◌, ℕ, if◌then◌else◌, [], None, Some, OnOk, IfOk, IfErr, IsErrOf};
 ghost use Rattle.pl_outside.specs.Taken.{Writes};
 ghost use Rattle.pl_words.specs.Request.{Run, Fmt, Check, Plan, IsChunk};

@@ -1,4 +1,5 @@
-// The verdict on a derivation.
+//! The verdict on a derivation.
+
 ghost use Rattle.std.specs.Prelude.{◌≡◌, ◌<◌, ℕ, None, Some, Ok, IfOk, IfErr};
 ghost use Rattle.pl_outside.specs.Taken.{Writes};
 ghost use Rattle.pl_derivation.specs.Right as spec;

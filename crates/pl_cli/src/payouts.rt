@@ -1,4 +1,5 @@
-// The rows of payouts.
+//! The rows of payouts.
+
 ghost use Rattle.std.specs.Prelude.{◌≡◌, ℕ, None, Some, IfOk, IfErr};
 ghost use Rattle.pl_outside.specs.Taken.{Writes};
 ghost use Rattle.pl_words.specs.Request.{Payouts};

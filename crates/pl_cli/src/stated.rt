@@ -1,4 +1,5 @@
-// The run over a stated world.
+//! The run over a stated world.
+
 ghost use Rattle.std.specs.Prelude.{◌≡◌, ◌+◌, ◌⊎◌, None, Some, IfOk, IfErr, IsErrOf};
 ghost use Rattle.pl_outside.specs.Taken.{Writes};
 ghost use Rattle.pl_words.specs.Request.{Bench, IsChunk};

@@ -1,4 +1,5 @@
-// The top call.
+//! The top call.
+
 ghost use Rattle.std.specs.Prelude.{◌≡◌, ◌++◌, ℕ, List, Some, None, map, option_map, string_bytes, IfSome};
 ghost use Rattle.pl_outside.specs.Counts.{Rose};
 ghost use Rattle.pl_outside.specs.Left.{Leaves, LeavesSink, IsUntouched};

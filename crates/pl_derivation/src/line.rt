@@ -1,3 +1,5 @@
+//! The lines of derivations, and lists of them.
+
 ghost use Rattle.std.specs.Prelude.{◌≡◌, ◌<◌, ◌≤◌, All, Some, length, map, slice_get};
 ghost use Rattle.pl_spec.specs.Limits.{most_lines};
 ghost use Rattle.pl_spec.specs.Rounding.{IsCell};

@@ -1,4 +1,5 @@
-// Whole numbers as lines have them.
+//! Whole numbers as lines have them.
+
 ghost use Rattle.std.specs.Prelude.{◌≡◌, ◌≢◌, ◌≤◌, ◌<◌, ◌∷◌, ℕ, ℤ, Some, IfSome, length, min, get_or};
 ghost use Rattle.std.specs.List.{list_all};
 ghost use Rattle.std.specs.Char.{is_ascii_digit};

@@ -1,3 +1,5 @@
+//! From lines to their text.
+
 ghost use Rattle.std.specs.Prelude.{◌≡◌, ◌++◌, ◌∷◌, [], IfOk, map, flat_map, decimal, codes};
 ghost use Rattle.pl_spec.specs.Dates.{IsDay, date_text};
 ghost use Rattle.pl_derivation.specs.Texts.{column_name, number_text, body_of, text_of, IsWritable};

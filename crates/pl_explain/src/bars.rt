@@ -15,7 +15,8 @@ use std::alloc::Global;
 use std::sync::ledger::Ledger;
 
 /// The cell of the bar of an earlier session, and what it is after each adjustment in turn that acts on it
-/// until it is seen on this session. Each product is one step.
+/// until it is seen on this session, in millionths. Each product is one step. The only error is want of
+/// memory.
 pub(crate) fn seen_cells<L: Ledger>(
     alloc: Global,
     world: &World,

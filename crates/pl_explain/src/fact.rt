@@ -1,3 +1,5 @@
+//! Facts, and the keys by which they are found.
+
 ghost use Rattle.std.specs.Prelude.{◌≡◌, ◌<◌, Some};
 ghost use Rattle.pl_spec.specs.World.{column_number};
 ghost use Rattle.pl_explain.specs.Keys.{fact_key, fact_of, packed};

@@ -68,7 +68,8 @@ pub(crate) fn input_told(
     }
 }
 
-/// Whether the asset passes the mask, by what is told of it; without a mask it does.
+/// Whether the asset passes the mask on the session, by the mask's number there; without a mask it does.
+/// `None` where that number is not there.
 pub(crate) fn mask_told(
     world: &World,
     checked: &Checked,

@@ -1,3 +1,5 @@
+//! Rows of cross-sections, each computed once.
+
 ghost use Rattle.std.specs.Prelude.{◌≡◌, ◌==◌, ◌&&◌, ℕ, None, Some, OnOk, option_map, if◌then◌else◌};
 ghost use Rattle.pl_explain.specs.Looking.{row_at, row_key};
 
@@ -5,7 +7,8 @@ use pl_fixed::Memory;
 use std::alloc::Global;
 use std::collections::HashMap;
 
-/// Rows of cells, found by the number of a term and a session.
+/// Rows of cells, one for each asset by ascending sid, found by the number of a term and a session, which is
+/// counted from 0.
 #[derive(Drop)]
 pub(crate) struct Rows {
     rows: HashMap<u64, Vec<i64>>,
@@ -18,7 +21,7 @@ fn key(term: u8, session: u32) -> u64
 }
 
 impl Rows {
-    /// No row is kept.
+    /// No row is there.
     #[tactic(auto, unfolding(crate::specs::Looking::row_at))]
     pub(crate) fn new(alloc: Global) -> Rows
         ensures { (t d : ℕ) → row_at result t d ≡ None }
@@ -28,7 +31,7 @@ impl Rows {
         }
     }
 
-    /// Lends the row of a term on a session.
+    /// Lends the row of a term on a session; `None` where none was put there.
     #[tactic(auto, unfolding(crate::specs::Looking::row_at))]
     pub(crate) fn row(&self, term: u8, session: u32) -> Option<&[i64]>
         ensures { option_map (λ r. r.now) result ≡ row_at self.now term session }
@@ -39,7 +42,8 @@ impl Rows {
         }
     }
 
-    /// Keeps the row of a term on a session.
+    /// Puts the row of a term on a session there, in place of one that is there already. The only error is
+    /// want of memory.
     pub(crate) fn keep(&mut self, term: u8, session: u32, row: Vec<i64>) -> Result<(), Memory>
         ensures { OnOk result ((t d : ℕ) → row_at self.new t d
             ≡ (if term == t && session == d then Some row.items else row_at self.old t d)) }

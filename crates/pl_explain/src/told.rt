@@ -1,3 +1,5 @@
+//! The numbers of facts.
+
 ghost use Rattle.std.specs.Prelude.{◌≡◌, None, OnOk};
 ghost use Rattle.pl_explain.specs.Keys.{fact_of};
 ghost use Rattle.pl_explain.specs.Looking.{look, IsTellingOf};
@@ -7,14 +9,15 @@ use pl_fixed::Memory;
 use std::alloc::Global;
 use std::collections::HashMap;
 
-/// The number that is told of each of some facts, found by the fact.
+/// The numbers of some facts, found by the fact: the last cell of a bar as it is seen, or the value of a
+/// term, as arrays hold it.
 #[derive(Drop)]
 pub(crate) struct Told {
     numbers: HashMap<u128, i64>,
 }
 
 impl Told {
-    /// Nothing is told.
+    /// No fact has a number.
     #[tactic(auto, unfolding(crate::specs::Looking::look))]
     pub(crate) fn new(alloc: Global) -> Told
         ensures { (f : _) → look result f ≡ None }
@@ -24,7 +27,8 @@ impl Told {
         }
     }
 
-    /// The number that is told of a fact.
+    /// The number of a fact, in millionths, a filter's 1 or 0, a label's code, or `MISSING`; `None` where it
+    /// has none.
     #[tactic(auto, unfolding(crate::specs::Looking::look))]
     pub(crate) fn number(&self, fact: Fact) -> Option<i64>
         ensures { result ≡ look self.now (fact_of fact) }
@@ -32,7 +36,8 @@ impl Told {
         self.numbers.get(&key(fact)).copied()
     }
 
-    /// Tells the number of a fact.
+    /// Puts the number of a fact there, in place of one that is there already. The only error is want of
+    /// memory.
     pub(crate) fn tell(&mut self, fact: Fact, number: i64) -> Result<(), Memory>
         ensures { OnOk result (IsTellingOf (fact_of fact) number self.old self.new) }
     {

@@ -25,8 +25,9 @@ use pl_values::{
 use pl_world::{World, exists, input_at, label_cell};
 use std::alloc::Global;
 
-/// The value of a term for the asset in a column on a session by what is told of its premises, as arrays hold
-/// it; None where one of them is not told. `rows` keeps the rows of cross-sections.
+/// The value of a term for the asset in a column on a session by the numbers of its premises, as arrays hold
+/// it; `None` where one of them has no number. `rows` keeps the rows of cross-sections. The only error is
+/// want of memory.
 pub(crate) fn value_told(
     alloc: Global,
     world: &World,

@@ -279,7 +279,8 @@ div_round-ge : (negative : Bool) (n b k : ℕ) → 0 < b → k * b ≤ n → k �
 div_round-ge negative n b k p h =
     rw (unsigned_abs-div_round (signed negative n) b, abs-signed negative n) (le-div k (2 * n + b) (2 * b) (omega arith) (omega arith))
 
--- The digits before the point count as 10^12 at most: from there on no cell holds the number, whatever follows.
+-- The digits before the point count as 10^12 at most: from there on no cell holds the number, whatever
+-- follows.
 pub in_range-capped : (d : Decimal) (units part scale : ℕ) → length d.fraction ≤ 18 → AllDigits 10 d.fraction
     → units ≡ min (10 ^ 12) (digits_value 10 d.whole) → part ≡ min (10 ^ 18) (digits_value 10 d.fraction) → scale ≡ 10 ^ length d.fraction
     → in_range (div_round (signed d.negative ((units * scale + part) * MILLION)) scale) ≡ in_range (millionths d)

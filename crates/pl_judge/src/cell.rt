@@ -1,4 +1,5 @@
-// The cell whose derivation is asked for.
+//! The cell whose derivation is asked for.
+
 ghost use Rattle.std.specs.Prelude.{◌≡◌, ◌<◌, ◌≤ℤ◌, Some, length, option_map, pos, true, IfOk, IfErr, IfSome};
 ghost use Rattle.pl_terms.specs.Checked.{pipeline_of};
 ghost use Rattle.pl_terms.specs.Nodes.{number_of};

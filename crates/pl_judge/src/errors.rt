@@ -1,4 +1,5 @@
-// What the errors of the readers and of the checker are to a command.
+//! What the errors of the readers and of the checker are to a command.
+
 ghost use Rattle.std.specs.Prelude.{◌≡◌};
 ghost use Rattle.pl_judge.specs.Stages.{Tells};
 ghost use Rattle.pl_judge.specs.Rules.{told_at, told, sessions_fault, assets_fault, labels_fault, bars_fault, revisions_fault, payouts_fault, rows_fault, syntax_error, rule_fault, check_error, plan_error, lines_error, explain_error};

@@ -1,4 +1,5 @@
-// Why a command ends without its whole text.
+//! Why a command ends without its whole text.
+
 ghost use Rattle.std.specs.Prelude.{◌≡◌};
 ghost use Rattle.pl_judge.specs.Faults.{status_of, syntax_text, rule_text, data_text, row_text, limit_text};
 

@@ -1,4 +1,5 @@
-// The greatest sizes of files.
+//! The greatest sizes of files.
+
 ghost use Rattle.std.specs.Prelude.{◌≡◌, ◌<◌, ◌^◌};
 ghost use Rattle.pl_judge.specs.Work as spec;
 

@@ -1,4 +1,5 @@
-// The line that tells a fault.
+//! The line that tells a fault.
+
 ghost use Rattle.std.specs.Prelude.{◌≡◌, [], ◌∷◌, ◌++◌, codes, decimal, option_map, flat_map};
 ghost use Rattle.std.specs.Fmt.{signed_decimal};
 ghost use Rattle.pl_outside.specs.Taken.{Writes};
@@ -149,7 +150,8 @@ fn write_named<E: Sink>(err: &mut E, what: &str, name: &str) -> Result<(), Faile
     write_pieces(err, &[what, name, "\n"])
 }
 
-/// Writes the pieces one after the other. It takes no memory.
+/// Writes the pieces one after the other. `Failed` comes where the sink counted a fault; the pieces after it
+/// are not written. It takes no memory.
 pub fn write_pieces<E: Sink>(err: &mut E, pieces: &[&str]) -> Result<(), Failed>
     ensures { Writes E.taken E.faults E.sound E.room err.old err.new
         (flat_map (λ p. p.now) pieces.now) result }

@@ -1,4 +1,5 @@
-// The line that tells the numbers of a run.
+//! The line that tells the numbers of a run.
+
 ghost use Rattle.pl_outside.specs.Taken.{Writes};
 ghost use Rattle.pl_judge.specs.Numbers.{numbers_line, stats_line};
 

@@ -1,4 +1,5 @@
--- Two calendars that are the same up to a session: what terms reach and are computed from for a session up to it.
+-- Two calendars that are the same up to a session: what terms reach and are computed from for a session up to
+-- it.
 use Rattle.std.proofs.Common.{◌≡◌, ℕ, ◌-◌, ℤ, pos, ◌≤ℤ◌, List, [], ◌∷◌, map, slice_get, refl, sym, ◌∙◌, ap, subst, arith}
 use Rattle.std.proofs.lemmas.Int.{ints}
 use Rattle.pl_spec.specs.Window.{before, downward}

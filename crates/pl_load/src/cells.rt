@@ -1,4 +1,5 @@
-// What the derivation of a cell reads and judges.
+//! What the derivation of a cell reads and judges.
+
 ghost use Rattle.std.specs.Prelude.{IfOk};
 ghost use Rattle.pl_words.specs.Views.{explain_of};
 ghost use Rattle.pl_load.specs.Views.{shelf_change, keeper_change};

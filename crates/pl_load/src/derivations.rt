@@ -1,4 +1,5 @@
-// What the check of a derivation reads and judges.
+//! What the check of a derivation reads and judges.
+
 ghost use Rattle.std.specs.Prelude.{IfOk};
 ghost use Rattle.pl_words.specs.Views.{verify_of};
 ghost use Rattle.pl_world.specs.Worlds.{IsOwned};

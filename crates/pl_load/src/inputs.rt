@@ -1,4 +1,5 @@
-// The files of the shelf. Each stage reads one file whole and judges it, and ends as its steps say.
+//! The files of the shelf. Each stage reads one file whole and judges it, and ends as its steps say.
+
 ghost use Rattle.std.specs.Prelude.{◌≡◌, ◌≤◌, ◌<◌, [], ◌∷◌, Some, length, All, IfOk, option_map};
 ghost use Rattle.pl_payouts.specs.Payouts.{AreKnown};
 ghost use Rattle.pl_syntax.specs.Scripts.{parsed};

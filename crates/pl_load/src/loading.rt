@@ -1,4 +1,5 @@
-// What a run reads and judges before its first row.
+//! What a run reads and judges before its first row.
+
 ghost use Rattle.std.specs.Prelude.{◌≡◌, ◌<◌, length, All, IfOk, IfErr, IfSome};
 ghost use Rattle.pl_terms.specs.Checked.{pipeline_of};
 ghost use Rattle.pl_planner.specs.Plans.{IsPlanOf};

@@ -1,4 +1,5 @@
-// What payouts read and judge.
+//! What payouts read and judge.
+
 ghost use Rattle.std.specs.Prelude.{IfOk};
 ghost use Rattle.pl_words.specs.Views.{payouts_of};
 ghost use Rattle.pl_load.specs.Views.{KeeperView, shelf_change, unchanged};

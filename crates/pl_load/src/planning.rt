@@ -1,4 +1,5 @@
-// What a plan reads and judges.
+//! What a plan reads and judges.
+
 ghost use Rattle.pl_terms.specs.Checked.{pipeline_of};
 ghost use Rattle.pl_words.specs.Views.{plan_of};
 ghost use Rattle.pl_load.specs.Views.{KeeperView, shelf_change, unchanged};

@@ -1,4 +1,5 @@
-// The adjustments of the keeper.
+//! The adjustments of the keeper.
+
 ghost use Rattle.std.specs.Prelude.{◌≡◌, ◌<◌, length, All, IfOk, IfErr, option_map};
 ghost use Rattle.std.specs.Option.{ForSome};
 ghost use Rattle.pl_outside.specs.Counts.{Rose, count_plus};

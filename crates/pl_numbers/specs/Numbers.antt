@@ -49,7 +49,8 @@ table_of rows = record { names = names_of rows; rows = sorted_by (key_in (names_
 abbrev pub by_column : ColumnNumber → NumberRow
 by_column r = record { name = r.name; sid = r.col; known = r.known; value = r.value }
 
--- the value of the row under the name that was known last in the column by the day, missing where there is none
+-- the value of the row under the name that was known last in the column by the day, missing where there is
+-- none
 unfoldable pub number_on : List ColumnNumber → List ℕ → ℕ → ℤ → ℤ
 number_on rows name col day = number_at (map by_column rows) name col day
 

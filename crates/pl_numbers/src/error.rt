@@ -1,3 +1,4 @@
+//! Why a numbers file is refused.
 ghost use Rattle.std.specs.Prelude.{◌≡◌};
 ghost use Rattle.pl_numbers.specs.declared.error.NumbersError.TheVariants.{Memory};
 

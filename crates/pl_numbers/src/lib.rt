@@ -1,5 +1,5 @@
-//! Numbers beside bars, as a company's earnings or a score: each of a name and an asset, from the day on which it
-//! was known.
+//! Numbers beside bars, as a company's earnings or a score: each of a name and an asset, from the day on
+//! which it was known.
 #![tactic(auto)]
 
 ghost use Rattle.std.specs.Prelude.{◌≡◌, ℕ, ◌+◌, ◌<◌, ◌≤◌, [], length, pos, position, slice_index_or, bytes_eq, All, IfOk, IfSome};
@@ -53,9 +53,9 @@ impl Model for Numbers {
 }
 
 impl Numbers {
-    /// The numbers of a file: the header `name,sid,known,value`, and in each further record a name, the sid of an
-    /// asset, a date and a decimal. From the date on the asset has the number; an empty field says that it has
-    /// none.
+    /// The numbers of a file: the header `name,sid,known,value`, and in each further record a name, the sid
+    /// of an asset, a date and a decimal. From the date on the asset has the number; an empty field says that
+    /// it has none.
     #[tactic(auto, unfolding(crate::specs::Numbers::numbers_of))]
     pub fn read(alloc: Global, bytes: &[u8], assets: &Assets) -> Result<Numbers, NumbersError>
         // The numbers of the records, or the fault of the first faulty one. Only want of memory may
@@ -101,8 +101,8 @@ impl Numbers {
         search::number_on(&self.rows, name, col, day)
     }
 
-    /// Writes the cells of a column under a name on sessions from the first one on. The rows of the column are
-    /// gone over once.
+    /// Writes the cells of a column under a name on sessions from the first one on. The rows of the column
+    /// are gone over once.
     pub fn fill(&self, name: u32, col: usize, sessions: &Sessions, first: usize, into: &mut [i64])
         requires name { name < length self.now.names }
         requires range { first + length into.old ≤ length sessions.now }

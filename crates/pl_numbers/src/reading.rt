@@ -1,3 +1,4 @@
+//! Reads the records of a numbers file.
 ghost use Rattle.std.specs.Prelude.{◌≡◌, ◌+◌, ◌==◌, ◌++◌, ◌∷◌, ◌<◌, ◌≤◌, ◌^◌, not, [], length, position, bytes_eq, IfOk, IfSome, IsTrue, OnOk, OnSome, option_map};
 ghost use Rattle.std.specs.List.{list_any, position_or_len};
 ghost use Rattle.pl_spec.specs.Limits.{most_assets, most_numbers};
@@ -154,8 +155,8 @@ fn is_new(
     seen.insert(&before.places, key)
 }
 
-// The column of a sid, if an asset has it. In most files a record is of the asset of the record before it or of
-// the next one, so these are tried before it is searched for.
+// The column of a sid, if an asset has it. In most files a record is of the asset of the record before it or
+// of the next one, so these are tried before it is searched for.
 fn col_of(before: &[Place], assets: &Assets, sid: u32) -> Option<usize>
     ensures few { IfSome result (λ i. i < most_assets) }
     ensures exact { result ≡ position (λ a. sid_of a == sid) assets.now }

@@ -38,8 +38,8 @@ impl NumberRows {
         }
     }
 
-    // The number of a name; that of a new one is how many there are. In most files a record has the name of the
-    // record before, so that is tried first.
+    // The number of a name; that of a new one is how many there are. In most files a record has the name of
+    // the record before, so that is tried first.
     pub(crate) fn number_of(&self, name: &[u8]) -> usize
         requires { AreNumbered self.now }
         ensures { result ≡ position_or_len (bytes_eq name.now) self.now.names }

@@ -9,8 +9,8 @@ use Rattle.pl_records.proofs.Readings.{under_ok}
 use Rattle.pl_records.proofs.Sorts.{sorted-are}
 use Rattle.pl_spec.proofs.Permuted.{permuted, flipped}
 
--- What a record has to be, so that it is the next row: the file is not full, the record is this row, and no row
--- before it clashes with it.
+-- What a record has to be, so that it is the next row: the file is not full, the record is this row, and no
+-- row before it clashes with it.
 pub record Fits {Row : Type 0} (most : ℕ) (Is : Record → Row → Type 0) (clash : Row → Row → Bool) (before : List Row) (r : Record) (row : Row) : Type 0 where
   pub few : length before < most
   pub is : Is r row

@@ -14,8 +14,8 @@ use pl_planner::Plan;
 use pl_terms::Checked;
 use pl_world::World;
 
-/// Puts the columns of the assets of a chunk, which exist on a session on which a used term is computed, in
-/// place of those that are there. It takes no memory: there is room for all assets.
+/// Puts the columns of the assets of a chunk, ascending, which exist on a session on which a used term is
+/// computed, in place of those that are there. It takes no memory: there is room for all assets.
 pub(crate) fn put_columns(
     world: &World<'_>,
     checked: &Checked,

@@ -4,7 +4,7 @@ ghost use Rattle.pl_runner.specs.Chunks as spec;
 
 use pl_exec::Chunk;
 
-/// How many chunks of at most `size` sessions there are from one session to another.
+/// How many chunks of at most `size` sessions there are from one session to another, both included.
 pub(crate) fn chunk_count(from: usize, to: usize, size: usize) -> usize
     requires order { from ≤ to }
     requires fits { to < 2 ^ 32 }
@@ -15,7 +15,7 @@ pub(crate) fn chunk_count(from: usize, to: usize, size: usize) -> usize
     (to - from) / size + 1
 }
 
-/// The i-th of them, counted from 0.
+/// The i-th of them, counted from 0: of `size` sessions, but for the last one, which may be shorter.
 pub(crate) fn chunk_at(from: usize, to: usize, size: usize, i: usize) -> Chunk
     requires order { from ≤ to }
     requires fits { to < 2 ^ 32 }

@@ -1,4 +1,5 @@
--- What is kept of the windows of a formula: sums from which its value follows, and which move with the windows.
+-- What is kept of the windows of a formula: sums from which its value follows, and which move with the
+-- windows.
 use Rattle.std.specs.Prelude.{ℕ, ℤ, pos, List, unwrap_or, position}
 use Rattle.std.specs.Ordering.{int_eq}
 use Rattle.pl_spec.specs.Formula.{present_values, total, count, products, places, differences, gains, losses, greatest, least}

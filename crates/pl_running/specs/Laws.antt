@@ -61,8 +61,8 @@ LeastSlides = (xs : List ℤ) → All IsCell xs → 2 ≤ length xs
     → (first xs ≢ least (before xs)) ⊎ (least (before xs) ≡ MISSING)
     → least (after xs) ≡ least_of (least (before xs)) (last xs)
 
--- The cells of a list of sessions, newest last, as `downward` counts them back: where the cells seen one session later, f, are those
--- seen before, g, the longer list holds both windows.
+-- The cells of a list of sessions, newest last, as `downward` counts them back: where the cells seen one
+-- session later, f, are those seen before, g, the longer list holds both windows.
 abbrev pub WindowsSlide : Type 0
 WindowsSlide = (f g : ℕ → ℤ) (size : ℕ) → ((n : ℕ) → n < size → f (suc n) ≡ g n)
     → (before (map f (downward (suc size))) ≡ map g (downward size)) × (after (map f (downward (suc size))) ≡ map f (downward size))

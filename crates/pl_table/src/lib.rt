@@ -1,5 +1,5 @@
-//! The text of a table: its header, and a line for each row of sessions whose values stand in a workspace.
-//! The parts of a line are there for rows whose values stand elsewhere.
+//! The text of a table: its header, and a line for each row of sessions whose values are in a workspace. The
+//! parts of a line are for rows whose values are elsewhere.
 #![tactic(auto)]
 
 mod asked;

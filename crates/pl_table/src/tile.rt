@@ -1,5 +1,6 @@
-//! The rows of a few sessions side by side. In the arrays the cells of an asset stand session after session,
-//! and those of a row far apart.
+//! The rows of a few sessions side by side. In the arrays the cells of an asset are one session after
+//! another, and those of a row far apart.
+
 ghost use Rattle.std.specs.Prelude.{◌≡◌, ◌≤◌, ◌<◌, ◌+◌, ◌-◌, ◌*◌, ◌^◌, ℕ, true, false, pos, length, get_or, slice_get, Some, IfSome, IfNone};
 ghost use Rattle.pl_spec.specs.Formula.{truth};
 ghost use Rattle.pl_spec.specs.Table.{NamedColumn};

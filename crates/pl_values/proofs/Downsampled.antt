@@ -100,6 +100,7 @@ module _ (w : World) (p : Pipeline) (ok : IsChecked p) where
     below-all own none zero t l s a d = absurd (omega arith)
     below-all own none (suc n) t l s a d = one own none t s (λ u k q b c. below-all own none n u (omega arith) q b c) a d
 
-    -- What holds of the values of all terms of a sort that aren't downsampled, and of empty ones, holds of all.
+    -- What holds of the values of all terms of a sort that aren't downsampled, and of empty ones, holds of
+    -- all.
     pub values-of-sort : Own → None-good → (t : ℕ) → sort_at p.graph t ≡ Some r → (a : ℕ) (d : ℤ) → Good (value_of w p t a d)
     values-of-sort own none t s a d = below-all own none (suc t) t (omega arith) s a d

@@ -30,7 +30,8 @@ use Rattle.pl_values.proofs.Numbers.{plain_sort, plain-number}
 use Rattle.pl_values.proofs.Cells.{gated, cell-number}
 use Rattle.pl_values.proofs.Flags.{filter-cell}
 
--- ---- what a place of an operation takes: a filter, a number, or a value that is only asked whether it is present
+-- ---- what a place of an operation takes: a filter, a number, or a value that is only asked whether it is
+-- present
 abbrev is_asked : PointKind → Bool
 is_asked IsNull = true
 is_asked NotNull = true

@@ -1,4 +1,5 @@
-// The commands and their options, as data.
+//! The commands and their options, as data.
+
 ghost use Rattle.std.specs.Prelude.{◌≡◌};
 ghost use Rattle.pl_words.specs.Parts.{text_of, has_value};
 ghost use Rattle.pl_words.specs.Commands.{command_named, places_of, options_of};

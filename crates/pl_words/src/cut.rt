@@ -1,4 +1,5 @@
-// The words after the command, cut into names and options by clap.
+//! The words after the command, cut into names and options by clap.
+
 ghost use Rattle.std.specs.Prelude.{◌≡◌, [], IfOk, None, map, string_bytes, Some, MatchOption, MatchResult, option_map, false};
 ghost use Rattle.clap.specs.Words.{FailsBy, app_of, fault_of, found_of, matches_of, rows_of, rule_of, with_rule};
 ghost use Rattle.clap.specs.declared.error.kind.ErrorKind.TheVariants.{OutOfMemory};

@@ -1,12 +1,13 @@
-// What words name.
+//! What words name.
+
 ghost use Rattle.std.specs.Prelude.{◌≡◌, [], option_map, unwrap_or};
 ghost use Rattle.pl_words.specs.Request.{adjustments_of, column_asked, date_asked, date_named, file_named, name_asked, named_by, names_asked, names_over, no_names, table_names};
 ghost use Rattle.pl_words.specs.Views.{dated_of, names_view, request_of, run_of, text_of, world_names_of};
 
 use crate::request::{DateWord, InputFile, RangeDate, Request, RunRequest, WorldNames};
 
-/// The names of files, of adjustments and of a column, and the dates as they are written; each where the words
-/// have it.
+/// The names of files, of adjustments and of a column, and the dates as they are written; each where the
+/// words have it.
 #[derive(Clone, Copy)]
 pub(crate) struct Names<'a> {
     pipeline: Option<&'a str>,

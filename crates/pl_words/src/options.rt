@@ -1,4 +1,5 @@
-// The options of a table, by the values that each was given.
+//! The options of a table, by the values that each was given.
+
 ghost use Rattle.std.specs.Prelude.{◌≡◌, ◌≤◌, None, Some, MatchOption, length, map, option_map};
 ghost use Rattle.pl_words.specs.Apps.{values_in};
 ghost use Rattle.pl_words.specs.Request.{as_of_by, dated, chunk_in, chunk_by, format_in, format_by, stats_by, options_by, usual, world_in, column_in};

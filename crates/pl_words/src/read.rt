@@ -1,4 +1,5 @@
-// The words, read as a request.
+//! The words, read as a request.
+
 ghost use Rattle.std.specs.Prelude.{◌≡◌, None, Some, IfOk, IfSome, MatchOption, map, length, string_bytes, option_map};
 ghost use Rattle.std.specs.List.{list_all};
 ghost use Rattle.pl_words.specs.Parts.{is_text};

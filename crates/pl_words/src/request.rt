@@ -1,4 +1,5 @@
-// What a command is asked for.
+//! What a command is asked for.
+
 use pl_spec::Format;
 
 /// A file that a command reads, by what it is to the command.
@@ -30,8 +31,8 @@ pub struct DateWord<'a> {
     pub day: i32,
 }
 
-/// How many sessions a table is computed of at a time, from 1 to 4096, its form, whether its numbers are told,
-/// and the date as of which it is.
+/// How many sessions a table is computed of at a time, from 1 to 4096, its form, whether its numbers are
+/// told, and the date as of which it is.
 #[derive(Clone, Copy)]
 pub struct Options<'a> {
     pub chunk: u32,

@@ -43,8 +43,8 @@ pub fn records_in_any_order()
     ensures { RecordsInAnyOrder }
 {}
 
-/// Records of revisions after the header may stand in another order: the tables are the same. Of one asset and
-/// one known day the revisions then act in another order, but each on a cell of its own.
+/// Records of revisions after the header may stand in another order: the tables are the same. Of one asset
+/// and one known day the revisions then act in another order, but each on a cell of its own.
 pub fn revisions_in_any_order()
     ensures { RevisionsInAnyOrder }
 {}

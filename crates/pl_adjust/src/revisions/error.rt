@@ -1,3 +1,5 @@
+//! Why a revisions file is refused.
+
 ghost use Rattle.std.specs.Prelude.{◌≡◌};
 ghost use Rattle.pl_adjust.specs.declared.revisions.error.RevisionsError.TheVariants.{Memory};
 

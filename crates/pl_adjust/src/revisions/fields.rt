@@ -1,3 +1,5 @@
+//! The fields of a record of a revision.
+
 ghost use Rattle.std.specs.Prelude.{◌≡◌};
 ghost use Rattle.pl_records.specs.RuleTable.{lacks};
 ghost use Rattle.pl_adjust.specs.Revisions.{col_in, is_soon, revision_in, session_in};

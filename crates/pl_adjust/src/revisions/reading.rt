@@ -1,3 +1,5 @@
+//! From the bytes of a revisions file to its rows.
+
 ghost use Rattle.std.specs.Prelude.{◌≡◌, ◌+◌, ◌<◌, ◌≤◌, [], length, IfOk, OnOk};
 ghost use Rattle.pl_spec.specs.Limits.{most_revisions};
 ghost use Rattle.pl_records.specs.Reading.{Answers, at_line, rows_of};
@@ -17,7 +19,7 @@ use std::alloc::Global;
 
 /// The revisions of a file in its order: the header `sid,session,column,value,known`, and in each further
 /// record the sid of an asset, the date of a session, the name of a bar column, a decimal of at least 0 or an
-/// empty field, and a later date.
+/// empty field, and a later date. The error is the first fault of the file, or want of memory.
 pub(crate) fn read_revisions(
     alloc: Global,
     bytes: &[u8],

@@ -1,3 +1,5 @@
+//! The rows of revisions, among which a second one of a cell is found.
+
 ghost use Rattle.std.specs.Prelude.{◌≡◌, ◌+◌, ◌^◌, ◌<◌, ◌++◌, ◌∷◌, [], length, pos, ◌+ℤ◌, IfOk};
 ghost use Rattle.std.specs.List.{list_any};
 ghost use Rattle.pl_spec.specs.World.{column_number};

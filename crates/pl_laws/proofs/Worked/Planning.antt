@@ -31,7 +31,8 @@ bound_of_a_window_over_a_window : bound of_returns (1 ∷ []) ≡ 2
 unfolding of_returns
 bound_of_a_window_over_a_window = refl
 
--- ---- an average of dollar volume above 1000 as the mask of one of two averages; the other stands in two columns
+-- ---- an average of dollar volume above 1000 as the mask of one of two averages; the other stands in two
+-- columns
 
 liquid : Graph
 liquid =

@@ -5,7 +5,8 @@ use Rattle.pl_adjust.specs.Events.{effects_of}
 use Rattle.pl_adjarray.specs.Buffered.{cell_at, cut}
 use Rattle.pl_adjarray.proofs.sliding.slide.Given as goal
 
--- the events that are left make of the cells so far what all make of the first cells, in as many steps as are left
+-- the events that are left make of the cells so far what all make of the first cells, in as many steps as are
+-- left
 abbrev pub invariant-loop-event : goal.invariant-loop-event
 invariant-loop-event g l = record {
   moved : (bar : ℤ) (j : ℕ) → j < l.part.count → slice_get l.sessions (l.part.first + j) ≡ Some bar → after_all (cell_at l.cells (l.part.at + j)) (effects_of l.column bar (drop l.event-index l.events)) ≡ after_all (cell_at l.fn.cells (l.part.at + j)) (effects_of l.column bar l.events);
