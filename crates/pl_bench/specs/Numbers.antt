@@ -7,8 +7,8 @@ use Rattle.pl_spec.specs.Table.{Row, table, cells}
 use Rattle.pl_terms.specs.Uses.{outputs}
 use Rattle.pl_planner.specs.Plans.{Planned}
 use Rattle.pl_runner.specs.Runs.{run_steps}
-use Rattle.pl_judge.specs.declared.numbers.Numbers.{Numbers}
-use Rattle.pl_judge.specs.Numbers.{numbers_line}
+use Rattle.pl_table.specs.declared.numbers.Numbers.{Numbers}
+use Rattle.pl_table.specs.Numbers.{numbers_line}
 use Rattle.pl_generate.specs.StatedWorld.{stated_world}
 use Rattle.pl_bench.specs.Pipeline.{bench_pipeline}
 use Rattle.pl_bench.specs.Plan.{IsBenchPlan}

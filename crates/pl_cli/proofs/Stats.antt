@@ -6,7 +6,7 @@ use Rattle.pl_spec.specs.Graph.{bound}
 use Rattle.pl_spec.specs.Table.{Pipeline, table, cells}
 use Rattle.pl_terms.specs.Uses.{outputs}
 use Rattle.pl_planner.specs.Plans.{Planned, IsPlanOf}
-use Rattle.pl_judge.specs.Numbers.{stats_line}
+use Rattle.pl_table.specs.Numbers.{stats_line}
 use Rattle.pl_runner.specs.declared.run.RunReport.{RunReport}
 use Rattle.pl_runner.specs.Runs.{IsReport, run_steps}
 use Rattle.pl_cli.specs.Texts.{table_stats}

@@ -11,7 +11,7 @@ use Rattle.pl_terms.specs.Checked.{pipeline_of}
 use Rattle.pl_words.specs.Request.{Request, name_asked, adjustments_of}
 use Rattle.pl_judge.specs.declared.fault.Fault.{Fault}
 use Rattle.pl_judge.specs.declared.fault.Fault.TheVariants.{Usage, Unread, Unloaded, Unwritten}
-use Rattle.pl_judge.specs.Numbers.{stats_line}
+use Rattle.pl_table.specs.Numbers.{stats_line}
 use Rattle.pl_judge.specs.Contents.{Contents, AreHeld}
 use Rattle.pl_judge.specs.Steps.{Source, first_fault, names_read, tables_read}
 use Rattle.pl_judge.specs.Work.{work}

@@ -23,7 +23,7 @@ use Rattle.pl_judge.specs.Cells.{term_asked}
 use Rattle.pl_judge.specs.Contents.{Contents}
 use Rattle.pl_judge.specs.Held.{script_in, pipeline_in, pipeline_held, days_held, assets_held, bars_held, payouts_held, derivation_held, world_held}
 use Rattle.pl_judge.specs.Known.{world_known}
-use Rattle.pl_judge.specs.Numbers.{stats_line}
+use Rattle.pl_table.specs.Numbers.{stats_line}
 use Rattle.pl_judge.specs.Planning.{extra_of, reach_at}
 use Rattle.pl_judge.specs.Range.{index_of}
 

@@ -4,7 +4,7 @@ ghost use Rattle.std.specs.Prelude.{◌≡◌, ◌≤◌, ◌+◌, ◌⊎◌, �
 ghost use Rattle.pl_outside.specs.Taken.{Writes};
 ghost use Rattle.pl_words.specs.Request.{Run, Fmt, Check, Plan, IsChunk};
 ghost use Rattle.pl_words.specs.Views.{run_of, plan_of};
-ghost use Rattle.pl_judge.specs.Numbers.{stats_line};
+ghost use Rattle.pl_table.specs.Numbers.{stats_line};
 ghost use Rattle.pl_load.specs.Views.{KeeperView, change, unchanged, shelf_change, keeper_change};
 ghost use Rattle.pl_load.specs.Loads.{IsReady};
 ghost use Rattle.pl_terms.specs.Checked.{pipeline_of};
@@ -13,12 +13,13 @@ ghost use Rattle.pl_cli.specs.Commands.{IsAnswered, sink_change, loaded_text, lo
 
 use itoa::Buffer;
 use pl_fixed::Steps;
-use pl_judge::{Fault, Numbers, write_pieces};
+use pl_judge::Fault;
 use pl_load::{Loaded, load, load_plan, read_checked, read_script};
-use pl_outside::{AdjustKeeper, Failed, Shelf, Sink, write_bytes};
+use pl_outside::{AdjustKeeper, Failed, Shelf, Sink, write_bytes, write_pieces};
 use pl_plan_text::plan_text;
 use pl_runner::{RunError, RunReport, run_table};
 use pl_syntax::print;
+use pl_table::Numbers;
 use pl_terms::Checked;
 use pl_words::{Options, PlanRequest, RunRequest};
 use std::alloc::Global;

@@ -4,4 +4,3 @@ pub mod Needed
 pub mod Planned
 pub mod Ranges
 pub mod Cells
-pub mod Pieces

@@ -1,5 +1,5 @@
--- What the input of a command is judged to be. Faults, Contents, Held, Work, Planning, Range, Ends and
--- Numbers are for every reader; Stages and Rules are words of the code's own contracts.
+-- What the input of a command is judged to be. Faults, Contents, Held, Work, Planning, Range and Ends are for
+-- every reader; Stages and Rules are words of the code's own contracts.
 pub mod Faults
 pub mod Contents
 pub mod Rules
@@ -10,6 +10,5 @@ pub mod Cells
 pub mod Work
 pub mod Range
 pub mod Ends
-pub mod Numbers
 pub mod Stages
 pub mod Known

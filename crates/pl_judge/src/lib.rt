@@ -1,9 +1,9 @@
 //! What the input of a command is judged to be: the faults with their statuses and lines, the work of a
-//! command in its order, the range of a run, and the line of its numbers.
+//! command in its order, and the range of a run.
 //!
 //! The definitions that a reader of the top call needs stand in `specs`: `Faults` (statuses and lines),
 //! `Contents` (what files and tables hold), `Held` (what that is read as), `Work` (the steps and the first
-//! fault), `Range`, `Ends` and `Numbers`.
+//! fault), `Range` and `Ends`.
 #![tactic(auto)]
 
 mod cell;
@@ -11,12 +11,10 @@ mod errors;
 mod fault;
 mod limits;
 mod line;
-mod numbers;
 mod range;
 
 pub use cell::{CellPlace, judge_cell};
 pub use fault::{DataFault, Fault, Limit, RowFault, RuleFault, SyntaxFault};
 pub use limits::{FILE_CAP, PIPELINE_CAP, cap_of, limit_of};
-pub use line::{write_line, write_pieces};
-pub use numbers::{Numbers, write_numbers, write_stats};
+pub use line::write_line;
 pub use range::{Range, judge_dates, judge_plan};

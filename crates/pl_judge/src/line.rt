@@ -1,6 +1,6 @@
 //! The line that tells a fault.
 
-ghost use Rattle.std.specs.Prelude.{◌≡◌, [], ◌∷◌, ◌++◌, codes, decimal, option_map, flat_map};
+ghost use Rattle.std.specs.Prelude.{◌≡◌, [], ◌∷◌, ◌++◌, codes, decimal, option_map};
 ghost use Rattle.std.specs.Fmt.{signed_decimal};
 ghost use Rattle.pl_outside.specs.Taken.{Writes};
 ghost use Rattle.pl_words.specs.Views.{request_of};
@@ -8,7 +8,7 @@ ghost use Rattle.pl_judge.specs.Faults.{line_of, table_text};
 
 use crate::Fault;
 use itoa::Buffer;
-use pl_outside::{Failed, Sink, Table, write_bytes};
+use pl_outside::{Failed, Sink, Table, write_bytes, write_pieces};
 use pl_syntax::Place;
 use pl_words::{InputFile, Request, adjustments_asked, column_asked, date_asked, name_asked};
 
@@ -148,18 +148,6 @@ fn write_named<E: Sink>(err: &mut E, what: &str, name: &str) -> Result<(), Faile
         (what.now ++ name.now ++ 10 ∷ []) result }
 {
     write_pieces(err, &[what, name, "\n"])
-}
-
-/// Writes the pieces one after the other. `Failed` comes where the sink counted a fault; the pieces after it
-/// are not written. It takes no memory.
-pub fn write_pieces<E: Sink>(err: &mut E, pieces: &[&str]) -> Result<(), Failed>
-    ensures { Writes E.taken E.faults E.sound E.room err.old err.new
-        (flat_map (λ p. p.now) pieces.now) result }
-{
-    for piece in pieces {
-        write_bytes(err, piece.as_bytes())?;
-    }
-    Ok(())
 }
 
 fn table_name(table: Table) -> &'static str

@@ -6,7 +6,7 @@
 //! stays. Of a sound object it is known what it holds or took, and it counts no fault but those that its
 //! trait names, so that a caller of sound objects knows each answer.
 //!
-//! `read_file` and `write_bytes` are the two loops over them. The parts in memory are for tests and for runs
+//! `read_file`, `write_bytes` and `write_pieces` are the loops over them. The parts in memory are for tests and for runs
 //! that write nothing. These rules are this project's own; Zipline has none of them.
 #![tactic(auto)]
 
@@ -17,6 +17,7 @@ mod keeper;
 mod memory_keeper;
 mod memory_shelf;
 mod memory_sink;
+mod parts;
 mod reading;
 mod shelf;
 mod sink;
@@ -27,6 +28,7 @@ pub use keeper::{AdjustKeeper, KeepError, NoKeeper, Table};
 pub use memory_keeper::MemoryKeeper;
 pub use memory_shelf::MemoryShelf;
 pub use memory_sink::MemorySink;
+pub use parts::write_pieces;
 pub use pl_spec::RawAdjust;
 pub use reading::{ReadError, read_file};
 pub use shelf::Shelf;

@@ -7,3 +7,4 @@ pub mod RowSums
 pub mod Lengths
 pub mod Puts
 pub mod Tiles
+pub mod Pieces

@@ -1,6 +1,7 @@
--- The text of rows whose values stand in arrays.
+-- The text of rows whose values stand in arrays, and the line that tells a run's numbers.
 pub mod Fields
 pub mod Sums
 pub mod Outcomes
 pub mod Rows
 pub mod Tiles
+pub mod Numbers

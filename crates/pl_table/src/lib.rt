@@ -1,5 +1,5 @@
 //! The text of a table: its header, and a line for each row of sessions whose values are in a workspace. The
-//! parts of a line are for rows whose values are elsewhere.
+//! parts of a line are for rows whose values are elsewhere. Also the line of a run's numbers.
 #![tactic(auto)]
 
 mod asked;
@@ -7,6 +7,7 @@ mod error;
 mod fields;
 mod header;
 mod line;
+mod numbers;
 mod outcome;
 mod rows;
 mod tile;
@@ -17,6 +18,7 @@ pub use error::RunError;
 pub use fields::{put_cell, put_date, put_sid};
 pub use header::make_header;
 pub use line::Line;
+pub use numbers::{Numbers, write_numbers, write_stats};
 pub use outcome::Outcome;
 pub use rows::write_rows;
 pub use tile::tile_len;

@@ -1,7 +1,7 @@
 use Rattle.std.proofs.Common.{[], ◌∷◌, codes}
 use Rattle.pl_outside.proofs.Pieces.{writes-over}
-use Rattle.pl_judge.proofs.Pieces.{pieces-are}
-use Rattle.pl_judge.proofs.numbers.write_stats.Goals as goal
+use Rattle.pl_table.proofs.Pieces.{pieces-are}
+use Rattle.pl_table.proofs.numbers.write_stats.Goals as goal
 
 pub returns : goal.returns
 returns g c =

@@ -2,7 +2,7 @@ use Rattle.std.proofs.Common.{flat_map, ℕ, List, Bor}
 use Rattle.std.proofs.lemmas.List.{at_drop_more}
 use Rattle.std.proofs.lemmas.Result.{err_from_is_err_and}
 use Rattle.pl_outside.proofs.Pieces.{writing-more, writing-stop, writing-over}
-use Rattle.pl_judge.proofs.line.write_pieces.Goals as goal
+use Rattle.pl_outside.proofs.parts.write_pieces.Goals as goal
 
 pub returns-in_err-write_bytes : goal.returns-in_err-write_bytes
 returns-in_err-write_bytes g c =

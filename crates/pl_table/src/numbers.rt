@@ -1,11 +1,10 @@
 //! The line that tells the numbers of a run.
 
 ghost use Rattle.pl_outside.specs.Taken.{Writes};
-ghost use Rattle.pl_judge.specs.Numbers.{numbers_line, stats_line};
+ghost use Rattle.pl_table.specs.Numbers.{numbers_line, stats_line};
 
-use crate::write_pieces;
 use itoa::Buffer;
-use pl_outside::{Failed, Sink};
+use pl_outside::{Failed, Sink, write_pieces};
 
 /// The numbers of a run: how many rows it has, the sum of their cells modulo 2^64 (in millionths, a filter's
 /// 1 or 0, a classifier's number or code, what is missing 0), the greatest number of arrays that are held at
