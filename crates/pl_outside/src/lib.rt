@@ -6,8 +6,8 @@
 //! stays. Of a sound object it is known what it holds or took, and it counts no fault but those that its
 //! trait names, so that a caller of sound objects knows each answer.
 //!
-//! `read_file`, `write_bytes` and `write_pieces` are the loops over them. The parts in memory are for tests and for runs
-//! that write nothing. These rules are this project's own; Zipline has none of them.
+//! `read_file`, `write_bytes` and `write_pieces` are the loops over them. The parts in memory are for tests
+//! and for runs that write nothing. These rules are this project's own; Zipline has none of them.
 #![tactic(auto)]
 
 mod call_log;
