@@ -1,6 +1,7 @@
 -- Memory that is taken before the first day.
 use Rattle.std.specs.Prelude.{◌≡◌, ℕ, ◌≤◌, true, false, List, length, slice_get, Option, Some, None}
 use Rattle.pl_spec.specs.declared.Column.{Column}
+use Rattle.pl_spec.specs.Limits.{most_window}
 use Rattle.pl_spec.specs.Table.{Pipeline}
 use Rattle.pl_terms.specs.Uses.{is_used}
 use Rattle.pl_values.specs.Arrays.{empty_cell}
@@ -16,9 +17,9 @@ use Rattle.pl_daily.specs.Terms.{IsStartRoom}
 -- rows of so many assets, windows of the greatest length, and a session for each term
 pub record IsRoom (assets terms : ℕ) (r : Room) : Type 0 where
   pub cross : assets ≤ r.cross
-  pub first : 1260 ≤ length r.first.items
-  pub second : 1260 ≤ length r.second.items
-  pub third : 1260 ≤ length r.third.items
+  pub first : most_window ≤ length r.first.items
+  pub second : most_window ≤ length r.second.items
+  pub third : most_window ≤ length r.third.items
   pub keep : length r.keep.items ≡ assets
   pub out : length r.out.items ≡ assets
   pub sessions : length r.sessions.items ≡ terms

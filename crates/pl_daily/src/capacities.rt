@@ -1,5 +1,6 @@
 //! How many sessions the windows of a pipeline read of a bar column and of a term.
 ghost use Rattle.std.specs.Prelude.{◌≡◌, ◌<◌, ◌≤◌, Some, filter_map, length, map, slice_get};
+ghost use Rattle.pl_spec.specs.Limits.{most_window};
 ghost use Rattle.pl_spec.specs.World.{column_number};
 ghost use Rattle.pl_spec.specs.Graph.{contains, input_column, input_number};
 ghost use Rattle.pl_terms.specs.Checked.{IsChecked, pipeline_of};
@@ -120,7 +121,7 @@ fn window_over_term(checked: &Checked, k: usize, t: TermId) -> usize
 #[tactic(auto, unfolding(crate::specs::Capacities::column_window))]
 pub fn column_window(checked: &Checked, column: Column) -> usize
     ensures value { result ≡ spec.column_window (pipeline_of checked.now) column }
-    ensures few { result ≤ 1260 }
+    ensures few { result ≤ most_window }
 {
     let mut greatest = 0;
     for k in 0..count(checked) {
@@ -134,7 +135,7 @@ pub fn column_window(checked: &Checked, column: Column) -> usize
 #[tactic(auto, unfolding(crate::specs::Capacities::term_window))]
 pub fn term_window(checked: &Checked, t: TermId) -> usize
     ensures value { result ≡ spec.term_window (pipeline_of checked.now) t.0 }
-    ensures few { result ≤ 1260 }
+    ensures few { result ≤ most_window }
 {
     let mut greatest = 0;
     for k in 0..count(checked) {

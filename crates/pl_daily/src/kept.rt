@@ -1,34 +1,13 @@
 //! Who is kept on a day.
 ghost use Rattle.std.specs.Prelude.{◌≡◌, ◌≤◌, ◌<◌, length, vec_capacity, All, IfSome};
 ghost use Rattle.pl_cross.specs.Listing.{labels_in};
-ghost use Rattle.pl_spec.specs.Formula.{is_true};
 ghost use Rattle.pl_terms.specs.Checked.{pipeline_of};
-ghost use Rattle.pl_day_rows.specs.Rows.{is_kept_by};
 ghost use Rattle.pl_day_rows.specs.Turns.{number_row};
 ghost use Rattle.pl_daily.specs.Kept.{kept_places};
 
 use pl_assets::Assets;
-use pl_day_rows::TermCells;
+use pl_day_rows::{TermCells, is_kept};
 use pl_terms::Checked;
-
-fn is_one(cell: i64) -> bool
-    ensures { result ≡ is_true cell }
-{
-    cell == 1
-}
-
-// Does the asset in a column live on the day and pass the screen?
-fn is_kept(assets: &Assets, day: i32, screen: Option<&[i64]>, col: usize) -> bool
-    requires col { col < length assets.now }
-    requires screen { IfSome screen (λ row. col < length row.now) }
-    ensures { result ≡ is_kept_by assets.now day (labels_in screen.entry) col }
-{
-    let lives = assets.exists(col, day);
-    match screen {
-        None => lives,
-        Some(row) => lives && is_one(row[col]),
-    }
-}
 
 /// Puts the columns of the assets that live on the day and pass the screen, ascending, into room for all. The
 /// screen is given by its row. It takes no memory.

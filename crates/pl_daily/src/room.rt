@@ -1,5 +1,5 @@
 //! The memory of a daily evaluation, all of it taken before the first day.
-ghost use Rattle.std.specs.Prelude.{false, ◌≡◌, ◌<◌, ℕ, true, pos, length, replicate, IfOk};
+ghost use Rattle.std.specs.Prelude.{false, ◌≡◌, ◌<◌, ℕ, true, length, replicate, IfOk};
 ghost use Rattle.pl_spec.specs.declared.Frequency.{Frequency};
 ghost use Rattle.pl_terms.specs.Checked.{pipeline_of};
 ghost use Rattle.pl_terms.specs.Uses as uses;
@@ -140,17 +140,6 @@ fn start_count(checked: &Checked, assets: usize, k: usize) -> usize
     }
 }
 
-// So many cells of 0.
-fn zero_row(alloc: Global, cells: usize) -> Result<Vec<i64>, Memory>
-    ensures { IfOk result (λ row. row.items ≡ replicate cells (pos 0)) }
-{
-    let mut row = Vec::new(alloc);
-    for _ in 0..cells {
-        row.push(0)?;
-    }
-    Ok(row)
-}
-
 // What is held for the start of a term before the first day.
 fn begin_start(
     alloc: Global,
@@ -161,7 +150,7 @@ fn begin_start(
     requires { k < length (pipeline_of checked.now).graph }
     ensures { IfOk result (IsStartRoom assets (pipeline_of checked.now) k) }
 {
-    let row = zero_row(alloc, start_count(checked, assets, k))?;
+    let row = vec![in alloc; 0; start_count(checked, assets, k)]?;
     Ok(StartCells { row, session: 0 })
 }
 

@@ -69,16 +69,6 @@ fn started_input(lent: &Lent<'_>, term: TermId) -> Option<TermId>
     }
 }
 
-// Copies a row.
-fn copy_row(from: &[i64], to: &mut [i64])
-    requires { length from.now ≡ length to.old }
-    ensures { to.new ≡ from.now }
-{
-    for i in 0..to.len() {
-        to[i] = from[i];
-    }
-}
-
 /// Keeps the cells of the input of a downsampled term where the day begins a period; the terms below have the
 /// day already.
 pub(crate) fn take_start(lent: &Lent<'_>, terms: &[TermCells], term: TermId, start: &mut StartCells)
@@ -92,7 +82,7 @@ pub(crate) fn take_start(lent: &Lent<'_>, terms: &[TermCells], term: TermId, sta
     ensures start { IsStartRoom (assets_at lent.now) (pipeline_at lent.now) term.0 start.new }
 {
     if let Some(input) = started_input(lent, term) {
-        copy_row(&terms[input.0 as usize].row, &mut start.row);
+        start.row.copy_from_slice(&terms[input.0 as usize].row);
         start.session = lent.fed;
     }
 }

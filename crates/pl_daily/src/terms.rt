@@ -1,5 +1,6 @@
 //! All used terms in ascending number, each over the rows and rings of lower ones.
 ghost use Rattle.std.specs.Prelude.{◌≡◌, ◌≤◌, ◌<◌, ◌∷◌, true, List, length, All};
+ghost use Rattle.pl_spec.specs.Limits.{most_window};
 ghost use Rattle.pl_spec.specs.Rounding.{IsCell};
 ghost use Rattle.pl_terms.specs.Uses.{is_used};
 ghost use Rattle.pl_rings.specs.Days.{FedDay};
@@ -47,9 +48,9 @@ fn term_row(
     requires used { is_used (pipeline_at lent.now) term.0 ≡ true }
     requires known { term.0 < length lent.now.checked.now.graph }
     requires cross { assets_at lent.now ≤ cross.old }
-    requires first { 1260 ≤ length first.old }
-    requires second { 1260 ≤ length second.old }
-    requires third { 1260 ≤ length third.old }
+    requires first { most_window ≤ length first.old }
+    requires second { most_window ≤ length second.old }
+    requires third { most_window ≤ length third.old }
     requires keep { length keep.old ≡ assets_at lent.now }
     requires out { length out.old ≡ assets_at lent.now }
     ensures row { IsRowOf lent.now term.0 terms.now start.now out.new }
@@ -98,9 +99,9 @@ fn advance_term(
     requires used { is_used (pipeline_at lent.now) term.0 ≡ true }
     requires known { term.0 < length lent.now.checked.now.graph }
     requires cross { assets_at lent.now ≤ cross.old }
-    requires first { 1260 ≤ length first.old }
-    requires second { 1260 ≤ length second.old }
-    requires third { 1260 ≤ length third.old }
+    requires first { most_window ≤ length first.old }
+    requires second { most_window ≤ length second.old }
+    requires third { most_window ≤ length third.old }
     requires keep { length keep.old ≡ assets_at lent.now }
     requires out { length out.old ≡ assets_at lent.now }
     ensures follow { FollowTermAt lent.now term.0 terms.old start.old terms.new start.new }
@@ -139,9 +140,9 @@ pub fn advance_terms(
     requires terms { AreTerms (assets_at lent.now) (pipeline_at lent.now) lent.now.bars.now terms.old }
     requires starts { AreStarts (assets_at lent.now) (pipeline_at lent.now) starts.old }
     requires cross { assets_at lent.now ≤ cross.old }
-    requires first { 1260 ≤ length first.old }
-    requires second { 1260 ≤ length second.old }
-    requires third { 1260 ≤ length third.old }
+    requires first { most_window ≤ length first.old }
+    requires second { most_window ≤ length second.old }
+    requires third { most_window ≤ length third.old }
     requires keep { length keep.old ≡ assets_at lent.now }
     requires out { length out.old ≡ assets_at lent.now }
     ensures follow { FollowTerms lent.now terms.old starts.old terms.new starts.new }

@@ -26,11 +26,12 @@ use Rattle.pl_cross.specs.Arrays.{sid_in, section_at}
 use Rattle.pl_cross.specs.Section.{is_section, HasParameters}
 use Rattle.pl_assets.specs.Labels.{label_on}
 use Rattle.pl_pointwise.specs.Operands.{IsOperation, AreOperands, operation}
-use Rattle.pl_values.specs.Arrays.{cell_of, empty_cell, is_kept, chosen, Fills, IsKeep}
+use Rattle.pl_values.specs.Arrays.{cell_of, empty_cell, is_kept, chosen, kept_or, Fills, IsKeep}
 use Rattle.pl_values.specs.Families.{is_sids, is_point, is_label_test, sid_flag, code_flag, label_code, IsCode, TakesWindows}
 use Rattle.pl_values.specs.Laws.{IsNode, IsGiven}
 use Rattle.pl_values.specs.Inputs.{IsInputRow, IsGroupRow, AreRows, AreSectionRows}
 use Rattle.pl_values.proofs.Given.{constant-cell, sid-cell, label-cell, label-test-cell, label-input, point-cell, point-operands, section-cell, section-input, downsampled-cell, downsampled-input}
+use Rattle.pl_values.proofs.KindFamilies.{sids_kind, point_kind, label_test_kind, section_kind, window_kind, downsampled_kind, chosen_cell, empty_is_cell}
 use Rattle.pl_values.proofs.Operations.{fills-all}
 use Rattle.pl_rings.proofs.Moves.{ends}
 use Rattle.pl_rings.specs.Changes.{Ring, ring_at}
@@ -40,7 +41,6 @@ use Rattle.pl_day_rows.specs.declared.turn.TermCells.{TermCells}
 use Rattle.pl_day_rows.specs.Rows.{Shows, is_kept_by, row_of, rings_in, capacity_of, input_row, ring_window}
 use Rattle.pl_day_rows.specs.Turns.{Moment, IsTurn, IsKept, IsOut, HoldsStart, assets_at, sids_at, node_at, pipeline_at, keeps, number_row, cell_on, day_window_of}
 use Rattle.pl_day_rows.specs.Windows.{window_at, windowed_by}
-use Rattle.pl_day_rows.proofs.KindFamilies.{sids_kind, point_kind, label_test_kind, section_kind, window_kind, downsampled_kind, empty_is_cell}
 use Rattle.pl_day_rows.proofs.DayWindows.{AreDayWindows, takes-day-windows, day-window-cell}
 
 All-drop : (P : ℤ → Type 0) (k : ℕ) (xs : List ℤ) → All P xs → All P (drop k xs)
@@ -104,6 +104,19 @@ module _ (t : Turn) (v : Moment) (is : IsTurn t v) where
           ∙ ap (λ b. chosen b (f i) none) ((kept_is keep kept).each i h)
           ∙ ap (chosen (is_kept w p sids n.mask i s) (f i)) empty
           ∙ sym (given i h)
+
+  -- what is given for all, and then put away where the asset is not kept
+  pub kept_out : (f : ℕ → ℤ) (keep made out : List ℤ) (none : ℤ) → IsKept t keep → none ≡ empty_cell p t.term.0 → length out ≡ assets_at t
+      → ((i : ℕ) → i < assets_at t → get_or made i (pos 0) ≡ f i) → ((i : ℕ) → i < assets_at t → IsCell (f i)) → ((i : ℕ) → i < assets_at t → IsGiven w p sids t.term.0 n i s (f i))
+      → ((i : ℕ) → i < assets_at t → get_or out i (pos 0) ≡ kept_or none keep (λ j. get_or made j (pos 0)) i) → IsOut t v out
+  kept_out f keep made out none kept empty size made_is cells given picked = out_is keep out none f kept empty (record {
+    long = size ∙ sym kept.long;
+    each = λ i h. shown i (omega (arith, h, kept.long));
+    cell = λ i h. subst IsCell (sym (shown i (omega (arith, h, kept.long)))) (chosen_cell (is_true (get_or keep i (pos 0))) (f i) none (cells i (omega (arith, h, kept.long))) (subst IsCell (sym empty) none_cell));
+  }) given
+    where
+      shown : (i : ℕ) → i < assets_at t → get_or out i (pos 0) ≡ kept_or none keep f i
+      shown i h = picked i h ∙ ap (λ x. chosen (is_true (get_or keep i (pos 0))) x none) (made_is i h)
 
   pub constant_given : (value : ℤ) (i : ℕ) → n.kind ≡ Constant value → IsCell value × IsGiven w p sids t.term.0 n i s value
   constant_given value i e = constant-cell w p sids t.term.0 n i s node_is value e

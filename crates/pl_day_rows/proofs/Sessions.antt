@@ -19,7 +19,7 @@ use Rattle.pl_rings.specs.Days.{Start, FedDay, fed, days_of, bars_of, adjustment
 use Rattle.pl_rings.proofs.Moves.{days_are_fed}
 use Rattle.pl_day_rows.specs.Rows.{lives_at, sids_of}
 use Rattle.pl_day_rows.specs.Turns.{FedDaysAreSessions}
-use Rattle.pl_day_rows.proofs.Lifetimes.{among-at, is_among}
+use Rattle.pl_values.proofs.Among.{among-at, is_among}
 
 abbrev blank : AssetRow
 blank = record { sid = 0; start = pos 0; end = pos 0 }

@@ -1,5 +1,6 @@
 -- One term on a day, in a world in which the day is a session.
 use Rattle.std.specs.Prelude.{◌≡◌, ℕ, ◌<◌, ◌≤◌, Bool, true, ℤ, pos, List, [], ◌∷◌, length, map, Option, Some, None, slice_get, AllPairs}
+use Rattle.pl_spec.specs.Limits.{most_assets}
 use Rattle.pl_spec.specs.Term as spec
 use Rattle.pl_spec.specs.declared.Frequency.{Frequency}
 use Rattle.pl_spec.specs.Kind.Kind.{Downsample}
@@ -101,7 +102,7 @@ pub record IsDayIn (assets : List AssetRow) (table : LabelTable) (day : ℤ) (v 
 pub record IsTurn (t : Turn) (v : Moment) : Type 0 where
   pub checked : IsChecked (pipeline_at t)
   pub node : slice_get (pipeline_at t).graph t.term.0 ≡ Some (node_at t)
-  pub few : assets_at t ≤ 8000
+  pub few : assets_at t ≤ most_assets
   pub here : IsDayIn t.assets.now t.labels.now t.day v
   pub rows : (place u : ℕ) → slice_get (node_at t).inputs place ≡ Some (TermInput u) → HoldsRow t v u
   pub mask : (u : ℕ) → (node_at t).mask ≡ Some u → HoldsRow t v u

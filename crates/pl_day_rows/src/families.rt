@@ -1,7 +1,7 @@
 //! The row of a term by the family of its kind.
-ghost use Rattle.std.specs.Prelude.{◌≡◌, ◌≤◌, ◌<◌, ℕ, true, length, slice_get, option_map, IfSome};
+ghost use Rattle.std.specs.Prelude.{◌≡◌, ◌≤◌, ◌<◌, true, length, slice_get, option_map, IfSome};
 ghost use Rattle.pl_spec.specs.Kind.Kind.{Constant, Label};
-ghost use Rattle.pl_terms.specs.Nodes.{input_of, number_of};
+ghost use Rattle.pl_terms.specs.Nodes.{number_of};
 ghost use Rattle.pl_terms.specs.Sorts.{is_downsampled, is_windowed};
 ghost use Rattle.pl_cross.specs.Section.{is_section};
 ghost use Rattle.pl_cross.specs.Listing.{labels_in};
@@ -11,13 +11,13 @@ ghost use Rattle.pl_day_rows.specs.Rows.{input_row};
 ghost use Rattle.pl_day_rows.specs.Turns.{IsAlways, IsKept, IsTurn, Moment, assets_at, node_at};
 ghost use Rattle.pl_day_rows.specs.Turns.{number_row, pipeline_at};
 
-use crate::leaves::{constant_row, held_row, label_row, label_test_row, point_row, sids_row};
-use crate::node::{group_of, input_at, kind_of};
+use crate::leaves::{label_row, sids_row};
 use crate::turn::Turn;
 use crate::windows::window_row;
 use pl_cross::Cross;
+use pl_pointwise::pointwise;
 use pl_terms::{Input, TermId};
-use pl_values::section_values;
+use pl_values::{group_of, input_at, keep_values, kind_of, label_test_values, section_values};
 
 /// The row of the input in a place that is a term; nothing else has one.
 pub(crate) fn row_at<'t>(turn: &Turn<'t>, place: usize) -> &'t [i64]
@@ -49,7 +49,8 @@ pub(crate) fn constant(turn: &Turn<'_>, value: i64, none: i64, keep: &[i64], out
     requires long { length out.old ≡ assets_at turn.now }
     ensures { IsAlways turn.now out.new }
 {
-    constant_row(value, none, keep, out);
+    out.fill(value);
+    keep_values(keep, none, out);
 }
 
 pub(crate) fn sids(turn: &Turn<'_>, none: i64, keep: &[i64], out: &mut [i64])
@@ -60,7 +61,8 @@ pub(crate) fn sids(turn: &Turn<'_>, none: i64, keep: &[i64], out: &mut [i64])
     requires long { length out.old ≡ assets_at turn.now }
     ensures { IsAlways turn.now out.new }
 {
-    sids_row(kind_of(turn.node), turn.assets, none, keep, out);
+    sids_row(kind_of(turn.node), turn.assets, out);
+    keep_values(keep, none, out);
 }
 
 // Labels; `name` is the number of the label's name.
@@ -72,14 +74,8 @@ pub(crate) fn label(turn: &Turn<'_>, name: u32, none: i64, keep: &[i64], out: &m
     requires long { length out.old ≡ assets_at turn.now }
     ensures { IsAlways turn.now out.new }
 {
-    label_row(
-        turn.labels,
-        turn.checked.label_name(name),
-        turn.day,
-        none,
-        keep,
-        out,
-    );
+    label_row(turn.labels, turn.checked.label_name(name), turn.day, out);
+    keep_values(keep, none, out);
 }
 
 pub(crate) fn label_test(turn: &Turn<'_>, none: i64, keep: &[i64], out: &mut [i64])
@@ -90,14 +86,8 @@ pub(crate) fn label_test(turn: &Turn<'_>, none: i64, keep: &[i64], out: &mut [i6
     requires long { length out.old ≡ assets_at turn.now }
     ensures { IsAlways turn.now out.new }
 {
-    label_test_row(
-        kind_of(turn.node),
-        turn.labels,
-        row_at(turn, 0),
-        none,
-        keep,
-        out,
-    );
+    label_test_values(kind_of(turn.node), turn.labels, row_at(turn, 0), out);
+    keep_values(keep, none, out);
 }
 
 pub(crate) fn point(turn: &Turn<'_>, none: i64, keep: &[i64], out: &mut [i64])
@@ -111,7 +101,8 @@ pub(crate) fn point(turn: &Turn<'_>, none: i64, keep: &[i64], out: &mut [i64])
     let first = row_at(turn, 0);
     let second = row_at(turn, 1);
     let third = row_at(turn, 2);
-    point_row(kind_of(turn.node), first, second, third, none, keep, out);
+    pointwise(kind_of(turn.node), first, second, third, out);
+    keep_values(keep, none, out);
 }
 
 pub(crate) fn window(
@@ -162,5 +153,6 @@ pub(crate) fn downsampled(turn: &Turn<'_>, none: i64, keep: &[i64], out: &mut [i
     requires long { length out.old ≡ assets_at turn.now }
     ensures { IsAlways turn.now out.new }
 {
-    held_row(turn.start, none, keep, out);
+    out.copy_from_slice(turn.start);
+    keep_values(keep, none, out);
 }

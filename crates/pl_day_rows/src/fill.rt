@@ -7,10 +7,9 @@ use crate::families::{
     constant, downsampled, label, label_test, number_row, point, section, sids, window,
 };
 use crate::leaves::keep_row;
-use crate::node::{kind_of, mask_of};
 use crate::turn::Turn;
 use pl_cross::Cross;
-use pl_values::{Family, empty_value, family_of};
+use pl_values::{Family, empty_value, family_of, kind_of, mask_of};
 
 // The row of a term, for the assets that are kept.
 fn kind_row(

@@ -1,5 +1,5 @@
 //! What is held of a term from day to day.
-ghost use Rattle.std.specs.Prelude.{◌≡◌, ◌<◌, length, replicate, All, IfOk};
+ghost use Rattle.std.specs.Prelude.{◌≡◌, ◌<◌, length, All, IfOk};
 ghost use Rattle.pl_spec.specs.Rounding.{IsCell};
 ghost use Rattle.pl_day_rows.specs.Held.{AreTermCells, BeginsTerm, FollowTerm};
 
@@ -21,20 +21,9 @@ pub fn begin_term(
     ensures capacity { IfOk result (λ t. t.rings.capacity ≡ capacity) }
     ensures begins { IfOk result (BeginsTerm assets none) }
 {
-    let row = full_row(alloc, assets, none)?;
+    let row = vec![in alloc; none; assets]?;
     let rings = Rings::new(alloc, ring_count(assets, capacity), capacity, none)?;
     Ok(TermCells { row, rings })
-}
-
-// A row of one cell.
-fn full_row(alloc: Global, assets: usize, cell: i64) -> Result<Vec<i64>, Memory>
-    ensures { IfOk result (λ row. row.items ≡ replicate assets cell) }
-{
-    let mut row = Vec::new(alloc);
-    for _ in 0..assets {
-        row.push(cell)?;
-    }
-    Ok(row)
 }
 
 // How many rings there are: one for each asset, and none without room.
@@ -42,16 +31,6 @@ fn ring_count(assets: usize, capacity: usize) -> usize
     ensures { 0 < capacity → result ≡ assets }
 {
     if capacity == 0 { 0 } else { assets }
-}
-
-// Copies a row.
-fn copy_row(from: &[i64], to: &mut [i64])
-    requires { length from.now ≡ length to.old }
-    ensures { to.new ≡ from.now }
-{
-    for i in 0..to.len() {
-        to[i] = from[i];
-    }
 }
 
 /// Takes the cells of the next day in. It takes no memory.
@@ -63,7 +42,7 @@ pub fn put_term(cells: &mut TermCells, row: &[i64])
     ensures cells { AreTermCells (length row.now) cells.new }
     ensures capacity { cells.new.rings.capacity ≡ cells.old.rings.capacity }
 {
-    copy_row(row, &mut cells.row);
+    cells.row.copy_from_slice(row);
     if cells.rings.capacity > 0 {
         push_row(&mut cells.rings.rings, row);
     }

@@ -8,10 +8,10 @@ mod fill;
 mod held;
 pub mod laws;
 mod leaves;
-mod node;
 mod turn;
 mod windows;
 
 pub use fill::fill_row;
 pub use held::{begin_term, put_term};
+pub use leaves::is_kept;
 pub use turn::{TermCells, Turn};

@@ -1,22 +1,17 @@
 //! Formulas and filters over the windows of a node's inputs, which are the ends of rings.
-ghost use Rattle.std.specs.Prelude.{◌≡◌, ◌≤◌, ◌<◌, ℕ, true, length, map, option_map, slice_get, All, IfSome};
-ghost use Rattle.circular_buffer.specs.Buffer.{keep_last};
+ghost use Rattle.std.specs.Prelude.{◌≡◌, ◌≤◌, ◌<◌, true, length, slice_get};
 ghost use Rattle.pl_spec.specs.Rounding.{IsCell};
 ghost use Rattle.pl_spec.specs.Formula.{is_true};
-ghost use Rattle.pl_terms.specs.Nodes.{input_of};
 ghost use Rattle.pl_terms.specs.Sorts.{is_windowed};
 ghost use Rattle.pl_values.specs.Arrays.{chosen};
-ghost use Rattle.pl_values.specs.Families.{TakesWindows, windowed};
 ghost use Rattle.pl_day_rows.specs.Rows.{Shows, ring_window};
-ghost use Rattle.pl_day_rows.specs.Turns.{IsKept, IsTurn, Moment, assets_at, node_at};
+ghost use Rattle.pl_day_rows.specs.Turns.{IsTurn, Moment, assets_at, node_at};
 ghost use Rattle.pl_day_rows.specs.Windows.{windowed_by, window_size};
 
-use crate::leaves::is_one;
-use crate::node::{input_at, kind_of, window_of};
 use crate::turn::Turn;
 use pl_rings::copy_window;
 use pl_terms::Input;
-use pl_values::window_value;
+use pl_values::{input_at, is_one, kind_of, window_of, window_value};
 
 // The window of the input in a place, for an asset; it has the length of the slice.
 fn read_window(turn: &Turn<'_>, place: usize, i: usize, window: &mut [i64])

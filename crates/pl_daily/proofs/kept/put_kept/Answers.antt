@@ -25,8 +25,8 @@ loop-col-preserved c =
           }
     ]
 
-pub is_kept-requires-clause-screen : goal.is_kept-requires-clause-screen
-is_kept-requires-clause-screen c = mask_within c.args.screen (length c.args.assets.now) c.loop-col.col c.requires.screen (omega (arith, c.loop-col-test.true, c.len-col-end.ensures.length))
+pub is_kept-requires-clause-mask : goal.is_kept-requires-clause-mask
+is_kept-requires-clause-mask c = mask_within c.args.screen (length c.args.assets.now) c.loop-col.col c.requires.screen (omega (arith, c.loop-col-test.true, c.len-col-end.ensures.length))
 
 pub returns-clause-within : goal.returns-clause-within
 returns-clause-within c =

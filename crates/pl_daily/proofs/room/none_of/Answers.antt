@@ -4,7 +4,7 @@ use Rattle.pl_spec.specs.Term.{term_at}
 use Rattle.pl_spec.specs.Value.{empty, number_of, sort_kind}
 use Rattle.pl_terms.specs.Nodes.{graph_of}
 use Rattle.pl_planner.proofs.Pipelines.{graph-long}
-use Rattle.pl_day_rows.proofs.KindFamilies.{empty_is_cell}
+use Rattle.pl_values.proofs.KindFamilies.{empty_is_cell}
 use Rattle.pl_daily.proofs.room.none_of.Goals as goal
 
 pub empty_value-requires : goal.empty_value-requires

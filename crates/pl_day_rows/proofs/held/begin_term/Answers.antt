@@ -15,7 +15,7 @@ replicated n x cell k d h =
 pub returns-clause-cells : goal.returns-clause-cells
 returns-clause-cells c =
     let e : FitsSigned w64 c.args.none = c.ranges.none in
-    let row = simp to_z-of_z at c.in_ok-row.ensures in
+    let row = simp to_z-of_z at (c.in_ok-row.ensures.items_if_clones_equal (λ y same. same)) in
     record {
       row = ap length row ∙ length-replicate c.args.assets c.args.none;
       cells = subst (All IsCell) (sym row) (replicated c.args.assets c.args.none c.requires);
@@ -28,7 +28,7 @@ returns-clause-cells c =
 pub returns-clause-begins : goal.returns-clause-begins
 returns-clause-begins c =
     let e : FitsSigned w64 c.args.none = c.ranges.none in
-    let row = simp to_z-of_z at c.in_ok-row.ensures in
+    let row = simp to_z-of_z at (c.in_ok-row.ensures.items_if_clones_equal (λ y same. same)) in
     let rings = simp to_z-of_z at c.in_ok-rings.ensures.items in
     begin_term c.args.assets c.args.capacity c.args.none (record { row = c.in_ok-row.row; rings = c.in_ok-rings.rings }) row c.in_ok-rings.ensures.capacity
     (λ some. rings ∙ ap (λ n. replicate n (buffer (replicate c.args.capacity c.args.none) c.args.capacity)) (c.ring_count.ensures some))

@@ -8,25 +8,23 @@ use Rattle.pl_day_rows.proofs.held.put_term.Goals as goal
 pub returns-then-cells-gt0-clause-follow : goal.returns-then-cells-gt0-clause-follow
 returns-then-cells-gt0-clause-follow c =
     let old = c.args.cells.now in
-    let long = sym c.deref_mut.ensures.len ∙ ap length c.deref_mut.ensures.value ∙ c.requires.cells.row ∙ sym (ap length c.copy_row.ensures) in
-    let is = vec_back old.row.len c.copy_row.new.to (drop (length c.copy_row.new.to) old.row.items) long ∙ c.copy_row.ensures in
-    let back = vec_back old.rings.rings.len c.push_row.new.rings (drop (length c.push_row.new.rings) old.rings.rings.items) (sym c.deref_mut-then-cells-gt0.ensures.len ∙ sym c.push_row.ensures.count) in
-    let many = ap length c.deref_mut-then-cells-gt0.ensures.value ∙ (c.requires.cells.rings c.if-cells-gt0.true).count in
+    let is = c.copy_from_slice.ensures.items in
+    let back = vec_back old.rings.rings.len c.push_row.new.rings (drop (length c.push_row.new.rings) old.rings.rings.items) (sym c.deref_mut.ensures.len ∙ sym c.push_row.ensures.count) in
+    let many = ap length c.deref_mut.ensures.value ∙ (c.requires.cells.rings c.if-cells-gt0.true).count in
     follow_term c.args.row.now old _ is refl c.requires.cells
     (λ some i h. ap (λ (l : List Ring). ring_at l i) back ∙ c.push_row.ensures.each i (omega (arith, h, many))
-    ∙ ap (λ (l : List Ring). pushed (get_or c.args.row.now i (pos 0)) (ring_at l i)) c.deref_mut-then-cells-gt0.ensures.value)
+    ∙ ap (λ (l : List Ring). pushed (get_or c.args.row.now i (pos 0)) (ring_at l i)) c.deref_mut.ensures.value)
 
 pub returns-then-cells-gt0-clause-cells : goal.returns-then-cells-gt0-clause-cells
 returns-then-cells-gt0-clause-cells c =
     let old = c.args.cells.now in
-    let long = sym c.deref_mut.ensures.len ∙ ap length c.deref_mut.ensures.value ∙ c.requires.cells.row ∙ sym (ap length c.copy_row.ensures) in
-    let is = vec_back old.row.len c.copy_row.new.to (drop (length c.copy_row.new.to) old.row.items) long ∙ c.copy_row.ensures in
-    let back = vec_back old.rings.rings.len c.push_row.new.rings (drop (length c.push_row.new.rings) old.rings.rings.items) (sym c.deref_mut-then-cells-gt0.ensures.len ∙ sym c.push_row.ensures.count) in
-    let lent : AreRings (length c.args.row.now) old.rings.capacity c.deref_mut-then-cells-gt0.result.now =
-    subst (AreRings (length c.args.row.now) old.rings.capacity) (sym c.deref_mut-then-cells-gt0.ensures.value) (c.requires.cells.rings c.if-cells-gt0.true) in
+    let is = c.copy_from_slice.ensures.items in
+    let back = vec_back old.rings.rings.len c.push_row.new.rings (drop (length c.push_row.new.rings) old.rings.rings.items) (sym c.deref_mut.ensures.len ∙ sym c.push_row.ensures.count) in
+    let lent : AreRings (length c.args.row.now) old.rings.capacity c.deref_mut.result.now =
+    subst (AreRings (length c.args.row.now) old.rings.capacity) (sym c.deref_mut.ensures.value) (c.requires.cells.rings c.if-cells-gt0.true) in
     record {
       row = ap length is;
       cells = subst (All IsCell) (sym is) c.requires.row;
       rings = λ some. subst (AreRings (length c.args.row.now) old.rings.capacity) (sym back)
-          (rings_pushed old.rings.capacity c.deref_mut-then-cells-gt0.result.now c.push_row.new.rings c.args.row.now c.push_row.ensures.count lent refl c.requires.row c.push_row.ensures.each);
+          (rings_pushed old.rings.capacity c.deref_mut.result.now c.push_row.new.rings c.args.row.now c.push_row.ensures.count lent refl c.requires.row c.push_row.ensures.each);
     }

@@ -3,7 +3,9 @@ use Rattle.std.proofs.lemmas.Int.{to_z-of_z}
 use Rattle.pl_spec.specs.Formula.{is_true}
 use Rattle.pl_cross.specs.Listing.{labels_in}
 use Rattle.pl_day_rows.specs.Rows.{is_kept_by}
-use Rattle.pl_day_rows.proofs.Shown.{keep_more, mask_within, truth_told}
+use Rattle.pl_values.proofs.KindFamilies.{truth_told}
+use Rattle.pl_values.proofs.Written.{one_given}
+use Rattle.pl_day_rows.proofs.Shown.{mask_within}
 use Rattle.pl_day_rows.proofs.leaves.keep_row.Goals as goal
 
 pub is_kept-requires-clause-mask : goal.is_kept-requires-clause-mask
@@ -20,7 +22,7 @@ loop-i-preserved c =
     let IsSoFar : ℤ → ℕ → List ℤ → Type 0 = λ d done row. (k : ℕ) → k < done → is_true (get_or row k (pos 0)) ≡ is_kept_by c.args.assets.now d (labels_in c.args.mask) k in
     let before : IsSoFar c.args.day i c.loop-i.keep = subst (λ d. IsSoFar d i c.loop-i.keep) day c.loop-i.invariant.each in
     let after : IsSoFar c.args.day (i + 1) (set c.loop-i.keep i c.truth_of.result) =
-    keep_more (is_kept_by c.args.assets.now c.args.day (labels_in c.args.mask)) c.loop-i.keep i c.truth_of.result before
+    one_given (λ k x. is_true x ≡ is_kept_by c.args.assets.now c.args.day (labels_in c.args.mask) k) i c.loop-i.keep c.truth_of.result before
     (omega (arith, c.loop-i-test.true, c.loop-i.invariant.long)) (ap is_true c.truth_of.ensures ∙ truth_told c.is_kept.result ∙ kept) in
     record {
       long = length-set c.loop-i.keep i _ ∙ c.loop-i.invariant.long;

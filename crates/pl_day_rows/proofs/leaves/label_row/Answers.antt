@@ -1,43 +1,24 @@
-use Rattle.std.proofs.Common.{◌+◌, ◌<◌, ℕ, ℤ, rules, arith, pos, ap, sym, refl, get_or, set, length, FitsSigned, w64, w32}
+use Rattle.std.proofs.Common.{◌≡◌, rules, arith, w64, w32, FitsSigned}
 use Rattle.std.proofs.lemmas.Int.{to_z-of_z}
+use Rattle.pl_spec.specs.Rounding.{IsCell}
 use Rattle.pl_assets.specs.Labels.{label_on}
 use Rattle.pl_values.specs.Families.{label_code}
-use Rattle.pl_day_rows.proofs.Shown.{begun, begun_more, all_begun, picked_cell, renamed}
+use Rattle.pl_values.proofs.Written.{one_given}
 use Rattle.pl_day_rows.proofs.leaves.label_row.Goals as goal
-
-pub loop-i-init : goal.loop-i-init
-loop-i-init c =
-    let F : ℤ → ℕ → ℤ = λ z i. label_code c.args.labels.now.texts (label_on c.args.labels.now.rows c.args.name.now i z) in
-    let e : FitsSigned w64 c.args.none = c.ranges.none in
-    let fx : FitsSigned w32 c.args.day = c.ranges.day in
-    let v = to_z-of_z w32 _ fx in
-    let none = to_z-of_z w64 _ e in
-    renamed F c.args.day _ c.args.none _ c.args.keep.now c.args.out.now c.args.out.now 0 (sym v) (sym none) refl (begun (F c.args.day) c.args.none c.args.keep.now c.args.out.now c.requires.long)
 
 pub loop-i-preserved : goal.loop-i-preserved
 loop-i-preserved c =
-    let F : ℤ → ℕ → ℤ = λ z i. label_code c.args.labels.now.texts (label_on c.args.labels.now.rows c.args.name.now i z) in
-    let e : FitsSigned w64 c.args.none = c.ranges.none in
-    let fx : FitsSigned w32 c.args.day = c.ranges.day in
-    let v = to_z-of_z w32 _ fx in
-    let none = to_z-of_z w64 _ e in
-    let k : FitsSigned w64 (get_or c.args.keep.now c.loop-i.i (pos 0)) = search rules in
-    let r : FitsSigned w64 c.pick.result = search rules in
-    let u : FitsSigned w64 c.label_value-code.result = search rules in
-    let value = simp to_z-of_z at c.label_value-code.ensures.value in
-    let picked = simp to_z-of_z at c.pick.ensures in
-    let inv = renamed F _ c.args.day _ c.args.none c.args.keep.now c.loop-i.out c.loop-i.out c.loop-i.i v none refl c.loop-i.invariant in
-    let inside : c.loop-i.i < length c.args.keep.now = omega (arith, c.loop-i-test.true, inv.long) in
-    renamed F c.args.day _ c.args.none _ c.args.keep.now (set c.loop-i.out c.loop-i.i c.pick.result) _ (c.loop-i.i + 1) (sym v) (sym none) (ap (set c.loop-i.out c.loop-i.i) (sym (to_z-of_z w64 _ r)))
-    (begun_more (F c.args.day) c.args.none c.args.keep.now c.loop-i.out c.loop-i.i c.pick.result c.pick.result inv inside
-    (picked_cell _ _ c.args.none c.pick.result picked c.label_value-code.ensures.cell c.requires.none) (rw value at picked) refl)
+    let day : FitsSigned w32 c.args.day = c.ranges.day in
+    let u : FitsSigned w64 c.label_value.result = search rules in
+    let value = simp to_z-of_z at c.label_value.ensures.value in
+    let so_far = simp to_z-of_z at c.loop-i.invariant.each in
+    rw (to_z-of_z w64 _ u, to_z-of_z w32 _ day) (record {
+      each = one_given (λ k x. x ≡ label_code c.args.labels.now.texts (label_on c.args.labels.now.rows c.args.name.now k c.args.day)) c.loop-i.i c.loop-i.out c.label_value.result so_far (omega (arith, c.loop-i-test.true)) value;
+      cells = one_given (λ k x. IsCell x) c.loop-i.i c.loop-i.out c.label_value.result c.loop-i.invariant.cells (omega (arith, c.loop-i-test.true)) c.label_value.ensures.cell;
+    })
 
-pub returns : goal.returns
-returns c =
-    let F : ℤ → ℕ → ℤ = λ z i. label_code c.args.labels.now.texts (label_on c.args.labels.now.rows c.args.name.now i z) in
-    let e : FitsSigned w64 c.args.none = c.ranges.none in
-    let fx : FitsSigned w32 c.args.day = c.ranges.day in
-    let v = to_z-of_z w32 _ fx in
-    let none = to_z-of_z w64 _ e in
-    let inv = renamed F _ c.args.day _ c.args.none c.args.keep.now c.loop-i.out c.loop-i.out c.loop-i.i v none refl c.loop-i.invariant in
-    all_begun (F c.args.day) c.args.none c.args.keep.now c.loop-i.out c.loop-i.i inv (omega (arith, c.loop-i-test.false, inv.long, c.loop-i.auto.i-end, c.requires.long))
+pub returns-clause-each : goal.returns-clause-each
+returns-clause-each c i h =
+    let day : FitsSigned w32 c.args.day = c.ranges.day in
+    let all = simp to_z-of_z at c.loop-i.invariant.each in
+    all i (omega (arith, h, c.loop-i-test.false, c.loop-i.auto.out))
