@@ -1,9 +1,9 @@
 -- Adjustments with revisions after them.
-use Rattle.std.proofs.Common.{◌≡◌, ℕ, zero, suc, ◌+◌, ◌<◌, ◌==◌, Bool, true, false, ℤ, pos, List, [], ◌∷◌, ◌++◌, map, filter, length, get_or, drop, All, AllPairs, slice_get, Option, Some, None, IfSome, option_map, Ok, Err, refl, sym, ◌∙◌, ap, arith, add-one, drop-cons}
+use Rattle.std.proofs.Common.{◌≡◌, ℕ, ◌<◌, ◌==◌, true, ℤ, pos, List, ◌++◌, map, filter, length, get_or, All, AllPairs, slice_get, Option, Some, None, IfSome, option_map, Ok, Err, refl, sym, ◌∙◌, ap, arith}
 use Rattle.std.specs.Ordering.{int_eq}
 use Rattle.std.specs.List.Sorted.{ties}
 use Rattle.std.proofs.lemmas.Int.{ints}
-use Rattle.std.proofs.lemmas.List.{at_drop_more, map-append}
+use Rattle.std.proofs.lemmas.List.{map-append}
 use Rattle.std.proofs.lemmas.List.Elements.{All-append, All-map, filter-append}
 use Rattle.std.proofs.lemmas.List.Folds.{list_any_at}
 use Rattle.std.proofs.lemmas.List.Sorted.{All-permutation}
@@ -16,13 +16,11 @@ use Rattle.pl_spec.specs.Parts.{ColumnAdjustment, ColumnLabel, sid_at, world_of}
 use Rattle.pl_spec.specs.World.{Adjustment, events_of}
 use Rattle.pl_records.specs.Reading.{Record, Fault}
 use Rattle.pl_lifetimes.specs.Assets.{sid_of}
-use Rattle.pl_lifetimes.specs.Assets.{HasSid}
 use Rattle.pl_bars.proofs.BarSearch.{IsCell-bar_cell}
 use Rattle.pl_revisions.specs.declared.Revision.{Revision}
 use Rattle.pl_revisions.specs.Revisions.{AreRevisions, Rule, revisions_of}
-use Rattle.pl_adjust.specs.declared.adjust.Adjust.{Adjust}
-use Rattle.pl_adjust.specs.Columns.{by_column, by_place, in_column, in_columns}
-use Rattle.pl_adjust.specs.Events.{PutsCell, event_of}
+use Rattle.pl_adjust.specs.Columns.{by_column, by_place, in_column}
+use Rattle.pl_adjust.specs.Events.{PutsCell}
 use Rattle.pl_adjust.specs.Revised.{AreKnown, IsKnown, revised, revised_by, revised_columns, revised_in}
 use Rattle.pl_adjust.specs.Tables.{adjustments_in}
 use Rattle.pl_adjust.proofs.ByColumn.{by_day-ties, by_place-permutes, by_place-ties, filter-sorted_by, rises-by_place, rises-columns, tied}
@@ -71,15 +69,6 @@ pub cols_with : (assets : List AssetRow) (old rows : List ColumnAdjustment) → 
 cols_with assets old rows more all =
     All-permutation (λ (x : ColumnAdjustment). x.col < length assets) (old ++ rows) (by_place (old ++ rows)) (by_place-permutes (old ++ rows))
     (All-append (λ (x : ColumnAdjustment). x.col < length assets) old rows all more)
-
--- ---- rows that are made, one after the other
-
-pub in_columns-more : (cols : List ℕ) (xs : List Adjust) (i c : ℕ) (a : Adjust) → length xs ≡ length cols → i < length cols → c ≡ get_or cols i c → a ≡ get_or xs i a
-    → in_columns (drop i cols) (drop i xs) ≡ (record { col = c; event = event_of a }) ∷ in_columns (drop (i + 1) cols) (drop (i + 1) xs)
-in_columns-more cols xs i c a long within col adjust =
-    let first : drop i cols ≡ c ∷ drop (i + 1) cols = rw add-one (drop-cons cols i c within ∙ ap (λ x. x ∷ drop (suc i) cols) (sym col)) in
-    let second : drop i xs ≡ a ∷ drop (i + 1) xs = rw add-one (drop-cons xs i a (omega arith) ∙ ap (λ x. x ∷ drop (suc i) xs) (sym adjust)) in
-    rw (first, second) refl
 
 -- ---- the order in which they act
 

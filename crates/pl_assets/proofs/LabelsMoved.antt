@@ -1,5 +1,5 @@
 -- Records of labels in another order are read as the same rows in some order.
-use Rattle.std.proofs.Common.{◌≡◌, ℕ, ◌<◌, ◌==◌, ◌↔◌, nat_le, nat_lt, Bool, true, false, List, [], ◌∷◌, length, IsPermutation, Result, Ok, Err, refl, sym, ◌∙◌, ap, arith}
+use Rattle.std.proofs.Common.{◌≡◌, ℕ, ◌<◌, ◌↔◌, nat_le, Bool, true, false, List, [], ◌∷◌, length, IsPermutation, Result, Ok, Err, refl, sym, ◌∙◌, ap, arith}
 use Rattle.std.specs.List.{list_any}
 use Rattle.std.proofs.lemmas.Bool.Decides.{nat_tests}
 use Rattle.pl_spec.specs.Limits.{most_labels}

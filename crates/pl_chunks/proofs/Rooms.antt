@@ -8,7 +8,8 @@ use Rattle.pl_spec.specs.Term.{Node}
 use Rattle.pl_spec.specs.Table.{Pipeline}
 use Rattle.pl_terms.specs.declared.node.Node as code
 use Rattle.pl_terms.specs.Nodes.{graph_of, node_of}
-use Rattle.pl_planner.proofs.Pipelines.{graph-at, window-is}
+use Rattle.pl_terms.proofs.Graphs.{graph-at}
+use Rattle.pl_planner.proofs.Pipelines.{window-is}
 use Rattle.pl_planner.specs.Plans.{Planned, IsPlanOf, is_used, low_at}
 use Rattle.pl_chunks.specs.declared.pieces.Chunk.{Chunk}
 use Rattle.pl_chunks.specs.Chunks.{columns_of, chunk_at}

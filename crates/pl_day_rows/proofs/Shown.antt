@@ -1,15 +1,15 @@
 -- Rows that are written place after place.
-use Rattle.std.proofs.Common.{◌≡◌, ℕ, zero, suc, ◌+◌, ◌<◌, ℤ, pos, List, [], ◌∷◌, length, get_or, set, refl, sym, ◌∙◌, ap, arith, inl, inr, get_or-set_same, get_or-set_other, length-set, Bool, true, false, Option, Some, None, option_map, unwrap_or, slice_get, subst, IfSome}
+use Rattle.std.proofs.Common.{◌≡◌, ℕ, zero, suc, ◌+◌, ◌<◌, ℤ, pos, List, [], ◌∷◌, length, get_or, set, sym, ◌∙◌, ap, arith, inl, inr, get_or-set_same, get_or-set_other, length-set, Bool, Option, Some, None, option_map, unwrap_or, slice_get, subst, IfSome}
 use Rattle.std.specs.Borrow.{Bor}
 use Rattle.std.proofs.lemmas.Bool.{cases_eq}
 use Rattle.pl_spec.specs.declared.AssetRow.{AssetRow}
 use Rattle.pl_spec.specs.Rounding.{IsCell}
-use Rattle.pl_spec.specs.Formula.{is_true, truth}
-use Rattle.pl_spec.specs.World.{lives_on}
+use Rattle.pl_spec.specs.Formula.{is_true}
+use Rattle.pl_spec.proofs.Cells.{chosen-cell}
 use Rattle.pl_lifetimes.specs.Assets.{sid_of}
 use Rattle.pl_cross.specs.Arrays.{sid_in}
 use Rattle.pl_values.specs.Arrays.{chosen, kept_or}
-use Rattle.pl_day_rows.specs.Rows.{Shows, lives_at, sids_of}
+use Rattle.pl_day_rows.specs.Rows.{Shows, sids_of}
 
 -- the first ones are written
 pub record Begins (f : ℕ → ℤ) (none : ℤ) (keep : List ℤ) (done : ℕ) (row : List ℤ) : Type 0 where
@@ -19,10 +19,6 @@ pub record Begins (f : ℕ → ℤ) (none : ℤ) (keep : List ℤ) (done : ℕ) 
 
 pub begun : (f : ℕ → ℤ) (none : ℤ) (keep row : List ℤ) → length row ≡ length keep → Begins f none keep 0 row
 begun f none keep row long = record { long = long; each = λ i h. absurd (omega (arith, h)); cell = λ i h. absurd (omega (arith, h)) }
-
-chosen_cell : (b : Bool) (x none : ℤ) → IsCell x → IsCell none → IsCell (chosen b x none)
-chosen_cell true x none h k = h
-chosen_cell false x none h k = k
 
 pub begun_more : (f : ℕ → ℤ) (none : ℤ) (keep row : List ℤ) (i : ℕ) (x y : ℤ) → Begins f none keep i row → i < length keep → IsCell y
     → x ≡ kept_or none keep f i → y ≡ x → Begins f none keep (i + 1) (set row i y)
@@ -43,14 +39,7 @@ all_begun f none keep row i b e = record { long = b.long; each = λ k h. b.each 
 
 -- a cell that is picked is one
 pub picked_cell : (b : Bool) (x none y : ℤ) → y ≡ chosen b x none → IsCell x → IsCell none → IsCell y
-picked_cell b x none y e h k = subst IsCell (sym e) (chosen_cell b x none h k)
-
-pub truth_told : (b : Bool) → is_true (truth b) ≡ b
-truth_told true = refl
-truth_told false = refl
-
-pub lives_is : (assets : List AssetRow) (day : ℤ) (i : ℕ) (b : Bool) → option_map (lives_on day) (slice_get assets i) ≡ Some b → lives_at assets day i ≡ b
-lives_is assets day i b e = ap (λ o. unwrap_or o false) e
+picked_cell b x none y e h k = subst IsCell (sym e) (chosen-cell b x none h k)
 
 pub sid_told : (assets : List AssetRow) (i sid : ℕ) → option_map sid_of (slice_get assets i) ≡ Some sid → sid_in (sids_of assets) i ≡ sid
 sid_told [] i sid e = absurd (let bad : None ≡ Some sid = e in cc)

@@ -1,9 +1,9 @@
 -- What the functions of a walk leave, from what those that they call leave.
-use Rattle.std.proofs.Common.{◌≡◌, ℕ, zero, suc, ◌+◌, ◌<◌, ◌≤◌, ◌==◌, Bool, true, false, ℤ, pos, ◌≤ℤ◌, All, List, [], ◌∷◌, ◌++◌, length, map, take, drop, get_or, Option, Some, None, option_map, unwrap_or, is_some, slice_get, Result, Ok, Err, OnOk, refl, sym, ◌∙◌, ap, subst, arith}
+use Rattle.std.proofs.Common.{◌≡◌, ℕ, zero, suc, ◌+◌, ◌<◌, ◌≤◌, ◌==◌, Bool, true, false, ℤ, pos, ◌≤ℤ◌, All, List, [], ◌∷◌, ◌++◌, length, map, take, drop, get_or, Option, Some, option_map, unwrap_or, slice_get, Result, Ok, Err, OnOk, refl, sym, ◌∙◌, ap, subst, arith}
 use Rattle.std.specs.List.{list_any}
 use Rattle.std.specs.Int.RustNames.{int_lt}
 use Rattle.std.proofs.lemmas.Int.{ints}
-use Rattle.std.proofs.lemmas.Bool.{true≢false, and_parts, and_from, or_left, or_right, eq-eqb}
+use Rattle.std.proofs.lemmas.Bool.{and_parts, and_from, or_left, or_right, eq-eqb}
 use Rattle.std.proofs.lemmas.List.{take_more, take-append-drop, map-append}
 use Rattle.std.proofs.lemmas.Option.{slice_get_within, slice_get-get_or, get_or_from_slice_get}
 use Rattle.pl_spec.specs.Limits.{most_lines}
@@ -17,11 +17,9 @@ use Rattle.pl_spec.specs.Term.{term_at}
 use Rattle.pl_spec.specs.Graph.{reach}
 use Rattle.pl_terms.specs.declared.node.Node.{Node}
 use Rattle.pl_terms.specs.Checked.{Parts, pipeline_of, IsChecked}
-use Rattle.pl_terms.specs.Kinds.{kind_of}
 use Rattle.pl_terms.specs.Nodes.{graph_of, number_of}
 use Rattle.pl_terms.specs.Uses.{is_used}
 use Rattle.pl_cross.specs.Arrays.{HasTexts}
-use Rattle.pl_cross.specs.Section.{is_section}
 use Rattle.pl_lines.specs.declared.line.Line.{Line}
 use Rattle.pl_lines.specs.Listed.{line_of}
 use Rattle.pl_lines.specs.Lines.Line.{SeenLine, ValueLine}
@@ -39,10 +37,9 @@ use Rattle.pl_told.specs.declared.fact.Fact as code
 use Rattle.pl_told.specs.declared.told.Told.{Told}
 use Rattle.pl_told.specs.declared.rows.Rows.{Rows}
 use Rattle.pl_told.specs.Keys.{fact_of}
-use Rattle.pl_told.specs.Looking.{row_at}
 use Rattle.pl_step.specs.Given.{facts_read, given, has, has_all, mask_passes, KeepsRows}
 use Rattle.pl_step.proofs.Given.{given-yes}
-use Rattle.pl_step.proofs.Values.{premises-front, premises-kept, premises-barred, read-section}
+use Rattle.pl_step.proofs.Values.{premises-front, premises-kept, premises-barred}
 use Rattle.pl_explain.specs.declared.walk.Walk.{Walk}
 use Rattle.pl_explain.specs.Judging.{IsTable}
 use Rattle.pl_explain.specs.Walking.{CanStand, CanStandIn, HasWalked, StandsIn, Finishes, IsTooLong, IsTellingOf}
@@ -55,10 +52,6 @@ use Rattle.pl_explain.proofs.Walks.{walk-none, walk-both, walk-tells, walk-more,
 pub ok-three : {T E P Q R S : Type 0} (r : Result T E) → (P → Q → R → S) → OnOk r P → OnOk r Q → OnOk r R → OnOk r S
 ok-three (Ok x) f p q s = f p q s
 ok-three (Err e) f p q s = tt
-
-pub ok-four : {T E P Q R V S : Type 0} (r : Result T E) → (P → Q → R → V → S) → OnOk r P → OnOk r Q → OnOk r R → OnOk r V → OnOk r S
-ok-four (Ok x) f p q s v = f p q s v
-ok-four (Err e) f p q s v = tt
 
 pub ok-any : {T E P : Type 0} (r : Result T E) → P → OnOk r P
 ok-any (Ok x) p = p
@@ -222,15 +215,6 @@ module _ (w : World) (c : Parts) (ok : IsChecked (pipeline_of c)) (t : ℕ) (n :
 
     pub passed-long : mask_passes w c n.mask a s ≡ true → IsTooLong w c (t + 1) mid (facts_read w c t a s) → IsTooLong w c (t + 1) old own
     passed-long passed long = subst (λ fs. IsTooLong w c (t + 1) old fs) (sym (premises-kept w c ok t n is a s known there passed)) (long-back w c (t + 1) old mid mask (facts_read w c t a s) first long)
-
--- what a cross-section reads is told where its row is kept
-pub whole-told : (w : World) (c : Parts) (ok : IsChecked (pipeline_of c)) (t : ℕ) (n : Node) (is : slice_get c.graph t ≡ Some n) → is_section (kind_of n.kind) ≡ true
-    → (told : Told) (rows : Rows) → KeepsRows w c told rows → (s : ℕ) → is_some (row_at rows t s) ≡ true → (a : ℕ) → has_all told (facts_read w c t a s) ≡ true
-whole-told w c ok t n is section told rows kept s e a = here (row_at rows t s) refl e
-  where
-    here : (o : Option (List ℤ)) → row_at rows t s ≡ o → is_some o ≡ true → has_all told (facts_read w c t a s) ≡ true
-    here None at e = absurd (true≢false (sym e))
-    here (Some row) at e = ap (has_all told) (read-section w c ok t n is a s section) ∙ (kept t s row at).stand n is
 
 -- ---- the value that is asked for
 

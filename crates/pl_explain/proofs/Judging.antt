@@ -25,6 +25,7 @@ use Rattle.pl_told.specs.declared.rows.Rows.{Rows}
 use Rattle.pl_told.specs.Looking.{look}
 use Rattle.pl_step.specs.Given.{has, has_all, KeepsRows}
 use Rattle.pl_explain.specs.Judging.{judged_about, judged, IsTable, TellsLine}
+use Rattle.pl_explain.specs.Walking.{IsTellingOf}
 
 -- ---- judging
 
@@ -72,9 +73,6 @@ same-turned f g = here (same_fact f g) (same_fact g f) refl refl
     here false false e h = refl
     here true false e h = let same : f ≡ g = same_is f g e in absurd (true≢false (sym (is_same g) ∙ ap (same_fact g) (sym same) ∙ h))
     here false true e h = let same : g ≡ f = same_is g f h in absurd (true≢false (sym (is_same f) ∙ ap (same_fact f) (sym same) ∙ e))
-
-abbrev pub IsTellingOf : Fact → ℤ → Told → Told → Type 0
-IsTellingOf f x old new = (g : Fact) → look new g ≡ (if same_fact f g then Some x else look old g)
 
 module _ (f : Fact) (x : ℤ) (old new : Told) (tells : IsTellingOf f x old new) where
   pub has-more : (g : Fact) → has new g ≡ (has old g || same_fact g f)
@@ -127,26 +125,6 @@ module _ (f : Fact) (x : ℤ) (old new : Told) (tells : IsTellingOf f x old new)
           let value : x ≡ y = cc in
           (sym value ∙ is ∙ ap (number_in (world_of w) (pipeline_of c)) same, subst IsCell value cell)
       truth g y false i e = t.truth g y e
-
--- a line on a fact that is told already tells nothing
-pub tells-again : (w : SpecWorld) (told : Told) (l : Line) (f : Fact) → fact_of w l ≡ Some f → has told f ≡ true → TellsLine w told told l
-tells-again w told l f e h g = here (same_fact g f) refl
-  where
-    about : (b : Bool) → same_fact g f ≡ b → list_any (same_fact g) (option_to_list (fact_of w l)) ≡ b
-    about true i = rw (e, i) refl
-    about false i = rw (e, i) refl
-
-    front : (b c : Bool) → b ≡ true → b ≡ (b || c)
-    front true c i = refl
-    front false c i = absurd (true≢false (sym i))
-
-    alone : (b c : Bool) → c ≡ false → b ≡ (b || c)
-    alone true c i = refl
-    alone false c i = sym i
-
-    here : (b : Bool) → same_fact g f ≡ b → has told g ≡ (has told g || list_any (same_fact g) (option_to_list (fact_of w l)))
-    here true i = front (has told g) _ (ap (has told) (same_is g f i) ∙ h)
-    here false i = alone (has told g) _ (about false i)
 
 -- other rows that are kept
 pub other-rows : (w : World) (c : Parts) (told : Told) (old new : Rows) → IsTable w c told old → KeepsRows w c told new → IsTable w c told new

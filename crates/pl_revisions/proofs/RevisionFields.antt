@@ -1,5 +1,5 @@
 -- The fields of a record, in plain words.
-use Rattle.std.proofs.Common.{◌≡◌, ◌↔◌, ◌==◌, Bool, true, false, length, ℕ, Option, Some, None, option_map, option_and_then, refl, ap, arith}
+use Rattle.std.proofs.Common.{◌≡◌, ◌↔◌, ◌==◌, Bool, true, false, length, Option, Some, None, option_map, option_and_then, refl, arith}
 use Rattle.std.specs.Bool.{if◌then◌else◌}
 use Rattle.std.proofs.lemmas.Bool.Decides.{nat_tests}
 use Rattle.pl_records.specs.Reading.{Record, field}

@@ -135,6 +135,3 @@ module _ (size : ℕ) (a : List ℤ) where
   pub means_are : (b c : List ℤ) (n done : ℕ) (out : List ℤ) → n ≤ done → AreMeans size a done out → AreValues (Window SimpleMovingAverage) size a b c n out
   unfolding formula
   means_are b c n done out few m = record { each = λ j h. m.each j (omega (arith, few, h)); cell = λ j h. m.cell j (omega (arith, few, h)) }
-
-pub window_long : (size k : ℕ) (xs : List ℤ) → k + size ≤ length xs → length (window_at size k xs) ≡ size
-window_long size k xs room = let d = length-drop k xs in let t = length-take size (drop k xs) in omega (arith, d, t, room)

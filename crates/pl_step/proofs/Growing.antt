@@ -6,6 +6,7 @@ use Rattle.pl_spec.specs.declared.Column.{Column}
 use Rattle.pl_spec.specs.Window.{Effect, changed, effect}
 use Rattle.pl_adjust.specs.declared.adjust.Adjust.{Adjust}
 use Rattle.pl_adjust.specs.Events.{effects_of, event_of}
+use Rattle.pl_adjust.proofs.Folds.{effects-first}
 use Rattle.pl_facts.specs.Right.{after_each}
 use Rattle.pl_step.specs.Given.{GrowsBy}
 
@@ -14,9 +15,6 @@ pub record IsGrown (first : ℤ) (all : List Effect) (cells : List ℤ) (x : ℤ
   pub front : List ℤ
   pub now : cells ≡ front ++ x ∷ []
   pub rest : front ++ after_each x left ≡ after_each first all
-
-pub grown-first : (x : ℤ) (all left : List Effect) → left ≡ all → IsGrown x all (x ∷ []) x left
-grown-first x all left e = record { front = []; now = refl; rest = ap (after_each x) e }
 
 pub grown-by : (first : ℤ) (all : List Effect) (cells new : List ℤ) (x y : ℤ) (o : Option Effect) (left more : List Effect) → IsGrown first all cells x left
     → left ≡ option_to_list o ++ more → GrowsBy x o cells new y → IsGrown first all new y more
@@ -36,20 +34,13 @@ grown-all first all cells x left h e = h.now ∙ ap (λ l. h.front ++ after_each
 
 -- ---- the effects of a list
 
-first-effect : (c : Column) (bar : ℤ) (x : Adjust) (xs : List Adjust) → effects_of c bar (x ∷ xs) ≡ option_to_list (effect c bar (event_of x)) ++ effects_of c bar xs
-first-effect c bar x xs = here (effect c bar (event_of x)) refl
-  where
-    here : (o : Option Effect) → effect c bar (event_of x) ≡ o → effects_of c bar (x ∷ xs) ≡ option_to_list o ++ effects_of c bar xs
-    here None e = rw e refl
-    here (Some f) e = rw e refl
-
 -- those that are left, from one adjustment on
 pub left-from : (c : Column) (bar : ℤ) (xs : List Adjust) (i : ℕ) (a : Adjust) (o : Option Effect) → i < length xs → a ≡ get_or xs i a → effect c bar (event_of a) ≡ o
     → effects_of c bar (drop i xs) ≡ option_to_list o ++ effects_of c bar (drop (i + 1) xs)
 left-from c bar xs i a o within item e =
     at_drop_more (effects_of c bar) xs i a within
     ∙ ap (λ z. effects_of c bar (z ∷ drop (i + 1) xs)) (sym item)
-    ∙ first-effect c bar a (drop (i + 1) xs)
+    ∙ effects-first c bar a (drop (i + 1) xs)
     ∙ ap (λ p. option_to_list p ++ effects_of c bar (drop (i + 1) xs)) e
 
 -- after the last adjustment nothing is left

@@ -1,8 +1,8 @@
 use Rattle.std.proofs.Common.{◌≡◌, ◌<◌, ◌≤◌, ◌+◌, ◌++◌, ◌∷◌, [], ◌∙◌, ap, sym, subst, ℕ, List, length, vec_len, vec_capacity, arith, Vec, Global}
 use Rattle.std.proofs.lemmas.Grind.{common_steps}
+use Rattle.pl_spec.proofs.Ranges.{filter-with, filter-without}
 use Rattle.pl_world.specs.Worlds.{world_of}
 use Rattle.pl_chunks.specs.Chunks.{lives_within}
-use Rattle.pl_chunks.proofs.Living.{filter-with, filter-without}
 use Rattle.pl_chunks.proofs.columns.put_living.Goals as goal
 use Rattle.pl_chunks.proofs.columns.put_living.Goals.{then-lives_within, else-lives_within}
 

@@ -4,7 +4,8 @@ use Rattle.pl_spec.specs.Term as spec
 use Rattle.pl_terms.specs.declared.node.Node.{Node}
 use Rattle.pl_terms.specs.Checked.{pipeline_of}
 use Rattle.pl_terms.specs.Nodes.{node_of}
-use Rattle.pl_planner.proofs.Pipelines.{graph-long, graph-at, window-is}
+use Rattle.pl_terms.proofs.Graphs.{graph-long, graph-at}
+use Rattle.pl_planner.proofs.Pipelines.{window-is}
 use Rattle.pl_chunks.proofs.Terms.{used-within}
 use Rattle.pl_chunks.proofs.Rooms.{window-of}
 use Rattle.pl_chunks.proofs.room.rows_of.Goals as goal

@@ -3,7 +3,7 @@ use Rattle.std.proofs.lemmas.Int.{to_z-of_z}
 use Rattle.pl_spec.specs.Rounding.{IsCell}
 use Rattle.pl_terms.specs.Kinds.{kind_of}
 use Rattle.pl_values.specs.Families.{code_flag}
-use Rattle.pl_day_rows.proofs.KindFamilies.{code_flag_cell}
+use Rattle.pl_values.proofs.KindFamilies.{code_flag_cell}
 use Rattle.pl_day_rows.proofs.Shown.{begun, begun_more, all_begun, picked_cell, renamed}
 use Rattle.pl_day_rows.proofs.leaves.label_test_row.Goals as goal
 

@@ -4,8 +4,8 @@ use Rattle.pl_spec.specs.Rounding.{IsCell}
 use Rattle.pl_terms.specs.Kinds.{kind_of}
 use Rattle.pl_cross.specs.Arrays.{sid_in}
 use Rattle.pl_values.specs.Families.{sid_flag}
+use Rattle.pl_values.proofs.KindFamilies.{sid_flag_cell}
 use Rattle.pl_day_rows.specs.Rows.{sids_of}
-use Rattle.pl_day_rows.proofs.KindFamilies.{sid_flag_cell}
 use Rattle.pl_day_rows.proofs.Shown.{begun, begun_more, all_begun, picked_cell, renamed, sid_told}
 use Rattle.pl_day_rows.proofs.leaves.sids_row.Goals as goal
 

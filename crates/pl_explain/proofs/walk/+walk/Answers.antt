@@ -1,7 +1,7 @@
 use Rattle.std.proofs.Common.{rules, arith, ◌≡◌, ◌<◌, ◌≤◌, ◌+◌, ◌*◌, ◌^◌, ◌∷◌, [], ◌∙◌, true, false, Some, None, suc, ap, sym, subst, length, map, get_or, pos, option_map, slice_get, w32, w64, FitsSigned}
 use Rattle.std.proofs.lemmas.Int.{to_z-of_z}
 use Rattle.std.proofs.lemmas.List.{take_all}
-use Rattle.std.proofs.lemmas.Option.{slice_get-get_or}
+use Rattle.std.proofs.lemmas.Option.{slice_get-get_or, same_Some}
 use Rattle.std.proofs.lemmas.Result.{err_from_is_err_and, IfErr-weaker, on_ok_weaker}
 use Rattle.pl_spec.specs.Dates.{IsDay}
 use Rattle.pl_spec.specs.Rounding.{IsCell}
@@ -22,7 +22,6 @@ use Rattle.pl_world.proofs.Evaluated.{sid-of}
 use Rattle.pl_told.specs.declared.fact.Fact.{Fact}
 use Rattle.pl_told.specs.Keys.{fact_of}
 use Rattle.pl_step.specs.Given.{facts_read, mask_passes}
-use Rattle.pl_step.proofs.Given.{some-same}
 use Rattle.pl_explain.specs.Walking.{CanStand, CanStandIn, Finishes, IsTooLong}
 use Rattle.pl_explain.proofs.Behind.{worth-within, worth-day, worth-asked}
 use Rattle.pl_explain.proofs.Walks.{walk-told}
@@ -312,7 +311,7 @@ finish_premises-finish_kind-requires g t c =
     let mid = c.finish_all.new.walk in
     let first : Finishes w p (t0 + 1) walk mid mask = subst (λ fs. Finishes w p (t0 + 1) walk mid fs) mask_is c.in_ok-finish_all.ensures.finished in
     let read : c.mask_told.result ≡ Some (mask_passes w p n.mask a s) = mask-read w p ok t0 n is a s texts there walk mid first c.requires.stands c.mask_told.result c.mask_told.ensures in
-    let passed : mask_passes w p n.mask a s ≡ true = sym (some-same c.in-Some-true.field-0 (mask_passes w p n.mask a s) (sym c.in-Some-true.is ∙ read)) ∙ c.in-Some-true.field-0-test in
+    let passed : mask_passes w p n.mask a s ≡ true = sym (same_Some c.in-Some-true.field-0 (mask_passes w p n.mask a s) (sym c.in-Some-true.is ∙ read)) ∙ c.in-Some-true.field-0-test in
     let facts : Each (CanStandIn w p (t0 + 1)) (facts_read w p t0 a s) = facts-stand w p ok t0 n is a s texts there passed c.requires.fact in
     let smaller : 8 * (t0 + 2) + 1 < 8 * (t0 + 2) + 2 = omega arith in
     search rules
@@ -335,7 +334,7 @@ finish_premises-returns-in-Some-true-clause-finished g t c =
     let mid = c.finish_all.new.walk in
     let first : Finishes w p (t0 + 1) walk mid mask = subst (λ fs. Finishes w p (t0 + 1) walk mid fs) mask_is c.in_ok-finish_all.ensures.finished in
     let read : c.mask_told.result ≡ Some (mask_passes w p n.mask a s) = mask-read w p ok t0 n is a s texts there walk mid first c.requires.stands c.mask_told.result c.mask_told.ensures in
-    let passed : mask_passes w p n.mask a s ≡ true = sym (some-same c.in-Some-true.field-0 (mask_passes w p n.mask a s) (sym c.in-Some-true.is ∙ read)) ∙ c.in-Some-true.field-0-test in
+    let passed : mask_passes w p n.mask a s ≡ true = sym (same_Some c.in-Some-true.field-0 (mask_passes w p n.mask a s) (sym c.in-Some-true.is ∙ read)) ∙ c.in-Some-true.field-0-test in
     on_ok_weaker c.finish_kind.result (λ h. passed-finished w p ok t0 n is a s texts there walk mid first passed c.finish_kind.new.walk h) c.finish_kind.ensures.finished
 
 pub finish_premises-returns-in-Some-true-clause-long : goal.finish_premises-returns-in-Some-true-clause-long
@@ -356,7 +355,7 @@ finish_premises-returns-in-Some-true-clause-long g t c =
     let mid = c.finish_all.new.walk in
     let first : Finishes w p (t0 + 1) walk mid mask = subst (λ fs. Finishes w p (t0 + 1) walk mid fs) mask_is c.in_ok-finish_all.ensures.finished in
     let read : c.mask_told.result ≡ Some (mask_passes w p n.mask a s) = mask-read w p ok t0 n is a s texts there walk mid first c.requires.stands c.mask_told.result c.mask_told.ensures in
-    let passed : mask_passes w p n.mask a s ≡ true = sym (some-same c.in-Some-true.field-0 (mask_passes w p n.mask a s) (sym c.in-Some-true.is ∙ read)) ∙ c.in-Some-true.field-0-test in
+    let passed : mask_passes w p n.mask a s ≡ true = sym (same_Some c.in-Some-true.field-0 (mask_passes w p n.mask a s) (sym c.in-Some-true.is ∙ read)) ∙ c.in-Some-true.field-0-test in
     IfErr-weaker c.finish_kind.result _ _ (λ e h i. passed-long w p ok t0 n is a s texts there walk mid first passed (h i)) c.finish_kind.ensures.long
 
 pub finish_premises-returns-clause-finished : goal.finish_premises-returns-clause-finished
@@ -379,7 +378,7 @@ finish_premises-returns-clause-finished g t c =
     let read : c.mask_told.result ≡ Some (mask_passes w p n.mask a s) = mask-read w p ok t0 n is a s texts there walk mid first c.requires.stands c.mask_told.result c.mask_told.ensures in
     elim c.match-mask_told.branch [
       | finish_premises-in_default v ↦ (let told = mask-read w p ok t0 n is a s texts there walk mid first c.requires.stands _ v.in_default.ensures in
-          let barred : mask_passes w p n.mask a s ≡ false = sym (some-same _ (mask_passes w p n.mask a s) told) ∙ v.in_default.field-0-test in
+          let barred : mask_passes w p n.mask a s ≡ false = sym (same_Some _ (mask_passes w p n.mask a s) told) ∙ v.in_default.field-0-test in
           ok-any c.match-mask_told.result (stopped-finished w p ok t0 n is a s texts there walk mid first barred))
       | finish_premises-in_default-2 v ↦ absurd (let bad : None ≡ Some (mask_passes w p n.mask a s) = sym v.in_default.is ∙ read in cc)
     ]
