@@ -1,6 +1,6 @@
 -- The steps of events, one after the other.
 use Rattle.std.proofs.Common.{◌≡◌, ℕ, ◌+◌, ◌*◌, arith}
-use Rattle.pl_adjarray.specs.Buffered.{cut}
+use Rattle.pl_spec.specs.Limits.{cut}
 
 -- the steps of one event, and of those that are left
 pub cost_more : (old now count one left all start : ℕ) → now ≡ old + count * one → one + left ≡ all → old + count * all ≡ start → now + count * left ≡ start

@@ -4,9 +4,11 @@ use Rattle.std.proofs.lemmas.Bool.{cases_lt}
 use Rattle.std.proofs.lemmas.List.Sums.{sum_by_more}
 use Rattle.pl_spec.specs.World.{events_of}
 use Rattle.pl_spec.specs.Window.{Effect, after_all, effects_in, step_count}
-use Rattle.pl_adjarray.specs.Buffered.{Buffered, HasCells, cut, cell_at, col_at, ratio_count, world_of}
+use Rattle.pl_adjarray.specs.Buffered.{Buffered, HasCells, cell_at, col_at, ratio_count, world_of}
 use Rattle.pl_spec.specs.Rounding.{IsCell}
-use Rattle.pl_adjarray.proofs.Places.{row_before, row_behind}
+use Rattle.pl_spec.specs.Limits.{cut}
+use Rattle.pl_spec.proofs.Places.{row-within}
+use Rattle.pl_adjarray.proofs.Places.{row_behind}
 
 -- the first n assets are at the later day
 pub record AreSlid (b : Buffered) (shown : ℕ) (from to : ℤ) (n : ℕ) (old new : List ℤ) (steps_old steps applied_old applied : ℕ) : Type 0 where
@@ -44,7 +46,7 @@ pub record IsOneSlid (b : Buffered) (shown n : ℕ) (mid new : List ℤ) (es : �
 module _ (b : Buffered) (shown n : ℕ) (mid new : List ℤ) (es : ℤ → List Effect) (few : shown ≤ b.rows) (one : IsOneSlid b shown n mid new es) where
   cells_more : HasCells b mid → HasCells b new
   cells_more cells i j h k = elim (cases_lt i n) [
-    | inl p ↦ subst IsCell (sym (one.before (i * b.rows + j) (row_before i j n b.rows p k))) (cells i j h k)
+    | inl p ↦ subst IsCell (sym (one.before (i * b.rows + j) (row-within i n b.rows j p k))) (cells i j h k)
     | inr p ↦ elim (cases_lt n i) [
       | inl q ↦ subst IsCell (sym (one.behind (i * b.rows + j) (row_behind n i j b.rows shown q few))) (cells i j h k)
       | inr q ↦ (let same : i ≡ n = omega arith in elim (cases_lt j shown) [
@@ -64,14 +66,14 @@ module _ (b : Buffered) (shown n : ℕ) (mid new : List ℤ) (es : ℤ → List 
       let more : (bar : ℤ) → sum_by (ratio_count b bar from to) (take (n + 1) b.cols) ≡ sum_by (ratio_count b bar from to) (take n b.cols) + ratio_count b bar from to (get_or b.cols n 0) = λ bar. sum_by_more (ratio_count b bar from to) b.cols n 0 in_cols in
       record {
         moved = λ bar i j h k day. elim (cases_lt i n) [
-          | inl p ↦ one.before (i * b.rows + j) (row_before i j n b.rows p (omega arith)) ∙ so_far.moved bar i j p k day
+          | inl p ↦ one.before (i * b.rows + j) (row-within i n b.rows j p (omega arith)) ∙ so_far.moved bar i j p k day
           | inr p ↦ (let same : i ≡ n = omega arith in
               rw same (one.moved bar j k day
               ∙ ap (λ x. after_all x (es bar)) (so_far.rest (n * b.rows + j) (omega arith))
               ∙ ap (after_all (cell_at old (n * b.rows + j))) (own bar)))
         ];
         kept = λ i j h k m. elim (cases_lt i n) [
-          | inl p ↦ one.before (i * b.rows + j) (row_before i j n b.rows p m) ∙ so_far.kept i j p k m
+          | inl p ↦ one.before (i * b.rows + j) (row-within i n b.rows j p m) ∙ so_far.kept i j p k m
           | inr p ↦ (let same : i ≡ n = omega arith in
               rw same (one.behind (n * b.rows + j) (omega arith) ∙ so_far.rest (n * b.rows + j) (omega arith)))
         ];

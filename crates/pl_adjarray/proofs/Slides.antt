@@ -12,7 +12,8 @@ use Rattle.pl_spec.specs.Window.{seen_cell, after_all, effects, effects_in, step
 use Rattle.pl_laws.proofs.Buffer.{effects-split, no_effects, seen_next}
 use Rattle.pl_laws.proofs.Steps.{bars-alike}
 use Rattle.pl_spec.proofs.Windows.{bar_window-sessions}
-use Rattle.pl_adjarray.specs.Buffered.{Buffered, AreSeen, HasCells, cell_at, cut, ratio_count, row_count, applied_at, world_of}
+use Rattle.pl_spec.specs.Limits.{cut}
+use Rattle.pl_adjarray.specs.Buffered.{Buffered, AreSeen, HasCells, cell_at, ratio_count, row_count, applied_at, world_of}
 use Rattle.pl_adjarray.specs.Inside.{IsReady}
 use Rattle.pl_adjarray.proofs.Counts.{rows_gain, no_rows, no_assets, assets_gain}
 use Rattle.pl_adjarray.proofs.Places.{part_is, rows_within}

@@ -12,6 +12,7 @@ use Rattle.std.proofs.lemmas.Option.{get_or_from_slice_get, slice_get_within, sl
 use Rattle.pl_spec.specs.World.{Event, events_of}
 use Rattle.pl_spec.specs.Window.{is_between}
 use Rattle.pl_spec.proofs.Places.{nowhere}
+use Rattle.pl_spec.proofs.Signed.{int_le-false}
 use Rattle.pl_adjust.specs.declared.adjust.Adjust.{Adjust}
 use Rattle.pl_adjust.specs.Events.{event_of}
 use Rattle.pl_adjarray.specs.Buffered.{Buffered, col_at, world_of}
@@ -119,11 +120,8 @@ after_low low high day e h i = subst (λ x. low <ℤ x) h (let p : low <ℤ e.da
 by_high : (low high day : ℤ) (e : Event) → e.day ≡ day → is_between low high e ≡ true → day ≤ℤ high
 by_high low high day e h i = subst (λ x. x ≤ℤ high) h (let p : e.day ≤ℤ high = grind (arith, i) in p)
 
-is_before : (day x : ℤ) → int_le day x ≡ false → x <ℤ day
-is_before day x h = grind (arith, ints)
-
 before_none : (day x : ℤ) → int_le day x ≡ false → day ≤ℤ x → ⊥
-before_none day x h l = let b = is_before day x h in omega (arith, ints)
+before_none day x h l = let b = int_le-false day x h in omega (arith, ints)
 
 not_reached : (day next today : ℤ) → int_le day next ≡ true → next ≤ℤ today → today <ℤ day → ⊥
 not_reached day next today h l m = let p : day ≤ℤ next = grind (arith, h) in omega (arith, ints)
@@ -204,7 +202,7 @@ module _ (b : Buffered) (ready : IsReady b) where
         up_to_next =
             let l = next_later in let s = next_soon in
             let place : d + (next - d - 1) ≡ next - 1 = omega (arith, l) in
-            let early : day_at b (next - 1) <ℤ day = is_before day (day_at b (next - 1)) (reached.2 (next - 1) (omega (arith, l))) in
+            let early : day_at b (next - 1) <ℤ day = int_le-false day (day_at b (next - 1)) (reached.2 (next - 1) (omega (arith, l))) in
             record {
               few = omega (arith, l, s);
               holds = rw place (none_before (day_at b d) (day_at b (next - 1)) (day_at b (d + most)) found.0 (events_of (world_of b) a) (ready.world.events_in_order a)

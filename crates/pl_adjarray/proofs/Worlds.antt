@@ -1,5 +1,5 @@
 -- What is seen in the world of columns is what is seen in each world of the parts.
-use Rattle.std.proofs.Common.{◌≡◌, ℕ, suc, ◌+◌, ◌<◌, ℤ, pos, negsuc, List, [], ◌∷◌, map, length, get_or, sum_by, All, refl, sym, ◌∙◌, ap, arith, option_map, unwrap_or}
+use Rattle.std.proofs.Common.{◌≡◌, ℕ, suc, ◌+◌, ◌<◌, ℤ, pos, negsuc, List, [], ◌∷◌, map, length, get_or, sum_by, All, refl, sym, ◌∙◌, ap, arith}
 use Rattle.std.specs.List.{range_with_len}
 use Rattle.std.proofs.lemmas.List.Sums.{sum_by-cons}
 use Rattle.std.proofs.lemmas.Option.{slice_get-get_or}
@@ -9,25 +9,20 @@ use Rattle.pl_spec.specs.declared.Column.{Column}
 use Rattle.pl_spec.specs.Parts.{AreFor, ColumnAdjustment, ColumnLabel, sid_at, world_of}
 use Rattle.pl_spec.specs.World.{bar_cell, day_of, events_of}
 use Rattle.pl_spec.specs.Window.{after_all, bar_window, before, downward, effects, effects_from, seen_cell, step_count}
+use Rattle.pl_spec.proofs.Columns.{no_asset, sid-there}
 use Rattle.pl_bars.proofs.BarWorlds.{cells_raw}
 use Rattle.pl_adjust.proofs.Sids.{column_events}
 use Rattle.pl_adjarray.specs.Buffered.{column_world}
 use Rattle.pl_adjarray.specs.Worlds.{CountsAreOfTheWorld, WholeCountsAreOfTheWorld, applied_in}
 use Rattle.pl_adjarray.proofs.ColumnWorlds.{own_cell, own_events}
 
-blank : AssetRow
-blank = record { sid = 0; start = pos 0; end = pos 0 }
-
-sid_there : (assets : List AssetRow) (col : ℕ) → col < length assets → sid_at assets col ≡ (get_or assets col blank).sid
-sid_there assets col h = ap (λ o. unwrap_or (option_map (λ (a : AssetRow). a.sid) o) 0) (slice_get-get_or assets col blank h)
-
 module _ (days : List ℤ) (assets : List AssetRow) (labels : List ColumnLabel) (texts : List (List ℕ)) (bars : List BarRow) (xs : List ColumnAdjustment) (made : AreFor days assets labels bars xs) where
   module _ (col : ℕ) (inside : col < length assets) where
     own-events-same : events_of (column_world days bars xs) col ≡ events_of (world_of days assets labels texts bars xs) (sid_at assets col)
     own-events-same =
         own_events days bars xs col
-        ∙ sym (ap (events_of (world_of days assets labels texts bars xs)) (sid_there assets col inside)
-        ∙ column_events days assets labels texts bars xs made.sids_ascend made.adjustments_in col (get_or assets col blank) (slice_get-get_or assets col blank inside))
+        ∙ sym (ap (events_of (world_of days assets labels texts bars xs)) (sid-there assets col inside)
+        ∙ column_events days assets labels texts bars xs made.sids_ascend made.adjustments_in col (get_or assets col no_asset) (slice_get-get_or assets col no_asset inside))
 
     pub effects-same : (c : Column) (s d : ℤ) → effects (column_world days bars xs) col c s d ≡ effects (world_of days assets labels texts bars xs) (sid_at assets col) c s d
     effects-same c s d = ap (effects_from c (day_of (column_world days bars xs) s) (day_of (column_world days bars xs) d)) own-events-same

@@ -1,5 +1,5 @@
 -- A buffer of bars: what it is of, and what its rows hold at a session.
-use Rattle.std.specs.Prelude.{◌≡◌, ℕ, ◌+◌, ◌*◌, ◌-◌, ◌^◌, ◌<◌, min, ℤ, pos, List, [], map, length, get_or, sum_by, slice_index_or}
+use Rattle.std.specs.Prelude.{◌≡◌, ℕ, ◌+◌, ◌*◌, ◌<◌, ℤ, pos, List, [], map, length, get_or, sum_by, slice_index_or}
 use Rattle.std.specs.List.{range_with_len}
 use Rattle.pl_spec.specs.declared.BarRow.{BarRow}
 use Rattle.pl_spec.specs.declared.Column.{Column}
@@ -73,7 +73,3 @@ applied_at b d = sum_by (row_count b d) b.cols
 -- how many ratios of asset a act later than one day and by another, on a bar of any day
 abbrev pub ratio_count : Buffered → ℤ → ℤ → ℤ → ℕ → ℕ
 ratio_count b bar from to a = step_count (effects_in b.column bar from to (events_of (world_of b) a))
-
--- the number, or the greatest that 64 bits hold
-abbrev pub cut : ℕ → ℕ
-cut n = min n (2 ^ 64 - 1)

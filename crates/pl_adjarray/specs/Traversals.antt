@@ -1,6 +1,7 @@
 -- Where a traversal stands.
 use Rattle.std.specs.Prelude.{◌≡◌, ◌⊎◌, ℕ, ◌+◌, ◌-◌, ◌*◌, ◌≤◌, ◌==◌, if◌then◌else◌, ℤ, List, length}
-use Rattle.pl_adjarray.specs.Buffered.{Buffered, AreSeen, HasCells, applied_at, cut}
+use Rattle.pl_spec.specs.Limits.{cut}
+use Rattle.pl_adjarray.specs.Buffered.{Buffered, AreSeen, HasCells, applied_at}
 use Rattle.pl_adjarray.specs.declared.windows.Windows.TheInside.{Inside}
 
 -- an array's traversal with windows of so many sessions: it has come to a session. Its windows and its count

@@ -4,8 +4,9 @@ ghost use Rattle.std.specs.Prelude.{◌≡◌, ◌≢◌, ℕ, ◌+◌, ◌*◌,
 ghost use Rattle.pl_spec.specs.Rounding.{IsCell, scaled};
 ghost use Rattle.pl_spec.specs.Window.{after_all, effect, effects_in, same_column, step_count};
 ghost use Rattle.pl_spec.specs.World.{events_of};
+ghost use Rattle.pl_spec.specs.Limits.{cut};
 ghost use Rattle.pl_adjust.specs.Events.{PutCells, PutsCell, effects_of, event_of};
-ghost use Rattle.pl_adjarray.specs.Buffered.{HasCells, applied_at, cell_at, col_at, cut, ratio_count, world_of};
+ghost use Rattle.pl_adjarray.specs.Buffered.{HasCells, applied_at, cell_at, col_at, ratio_count, world_of};
 ghost use Rattle.pl_adjarray.specs.Traversals.{IsSeen};
 
 use crate::array::AdjustedArray;

@@ -3,7 +3,8 @@
 ghost use Rattle.std.specs.Prelude.{◌≡◌, ◌+◌, ◌<◌, ◌≤◌, ◌↔◌, ℕ, false, pos, length, take, drop, All, IsTrue};
 ghost use Rattle.pl_spec.specs.Rounding.{IsCell};
 ghost use Rattle.pl_spec.specs.Window.{bar_window};
-ghost use Rattle.pl_adjarray.specs.Buffered.{applied_at, col_at, cut, world_of};
+ghost use Rattle.pl_spec.specs.Limits.{cut};
+ghost use Rattle.pl_adjarray.specs.Buffered.{applied_at, col_at, world_of};
 ghost use Rattle.pl_adjarray.specs.Stillness.{IsQuiet, IsStill};
 ghost use Rattle.pl_adjarray.specs.Traversals.{advances};
 ghost use Rattle.pl_adjarray.specs.Worlds.{IsWindow};

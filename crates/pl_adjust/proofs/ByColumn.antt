@@ -14,7 +14,7 @@ use Rattle.pl_spec.specs.Order.{acts_at, by_day}
 use Rattle.pl_spec.specs.Parts.{ColumnAdjustment}
 use Rattle.pl_records.specs.Sorted.{insert_by, sorted_by}
 use Rattle.pl_spec.proofs.ByDay.{by_day-is_by_day}
-use Rattle.pl_lifetimes.proofs.Filters.{filter-map}
+use Rattle.pl_spec.proofs.Lists.{filter-map, filter-filter}
 use Rattle.pl_adjust.specs.Columns.{IsByPlace, by_column, by_place, in_column, insert_at_place}
 use Rattle.pl_adjust.proofs.Kept.{in_front, front_order, not_in_front}
 use Rattle.pl_adjust.proofs.OneOrder.{NoneBelow, Rises, none_below_lower, one_order, rises_from_sorted}
@@ -36,16 +36,6 @@ tied z x t =
     one_place z.col x.col z.event.day x.event.day (not-true (in_front x z) both.1) (not-true (in_front z x) both.0)
 
 -- ---- filters of sorted lists
-
-pub filter-filter : {X : Type 0} (p q : X → Bool) → ((x : X) → p x ≡ true → q x ≡ true) → (xs : List X) → filter p (filter q xs) ≡ filter p xs
-filter-filter p q part [] = refl
-filter-filter {X} p q part (x ∷ xs) = here (p x) (q x) refl refl (filter-filter p q part xs)
-  where
-    here : (b c : Bool) → p x ≡ b → q x ≡ c → filter p (filter q xs) ≡ filter p xs → filter p (cond c (x ∷ filter q xs) (filter q xs)) ≡ cond b (x ∷ filter p xs) (filter p xs)
-    here true true e f rest = rw e (ap (λ l. x ∷ l) rest)
-    here true false e f rest = let bad : true ≡ false = sym (part x e) ∙ f in absurd (cc)
-    here false true e f rest = rw e rest
-    here false false e f rest = rest
 
 filter-insert : {X : Type 0} (key : X → ℕ) (q : X → Bool) → ((x y : X) → q x ≡ true → q y ≡ true → key x ≡ key y) → (x : X) (ys : List X) → filter q (insert_by key x ys) ≡ filter q (x ∷ ys)
 filter-insert key q one x [] = refl

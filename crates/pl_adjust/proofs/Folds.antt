@@ -26,7 +26,7 @@ effects-between c bar low high xs = ap (filter_map (effect c bar)) (events xs)
         here false rest = rest
 
 -- the first one's effect, if it has one, and those of the others
-effects-first : (c : Column) (bar : ℤ) (x : Adjust) (xs : List Adjust) → effects_of c bar (x ∷ xs) ≡ option_to_list (effect c bar (event_of x)) ++ effects_of c bar xs
+pub effects-first : (c : Column) (bar : ℤ) (x : Adjust) (xs : List Adjust) → effects_of c bar (x ∷ xs) ≡ option_to_list (effect c bar (event_of x)) ++ effects_of c bar xs
 effects-first c bar x xs = here (effect c bar (event_of x)) refl
   where
     here : (o : Option Effect) → effect c bar (event_of x) ≡ o → effects_of c bar (x ∷ xs) ≡ option_to_list o ++ effects_of c bar xs

@@ -1,5 +1,5 @@
 -- Adjustments with revisions after them.
-use Rattle.std.proofs.Common.{◌≡◌, ℕ, suc, ◌+◌, ◌<◌, ◌==◌, true, ℤ, pos, List, ◌∷◌, ◌++◌, map, filter, length, get_or, drop, All, AllPairs, slice_get, Option, Some, None, IfSome, option_map, Ok, Err, refl, sym, ◌∙◌, ap, arith, add-one, drop-cons}
+use Rattle.std.proofs.Common.{◌≡◌, ℕ, ◌+◌, ◌<◌, ◌==◌, true, ℤ, pos, List, ◌++◌, map, filter, length, get_or, All, AllPairs, slice_get, Option, Some, None, IfSome, option_map, Ok, Err, refl, sym, ◌∙◌, ap, arith}
 use Rattle.std.specs.Ordering.{int_eq}
 use Rattle.std.specs.List.Sorted.{ties}
 use Rattle.std.proofs.lemmas.Int.{ints}
@@ -19,9 +19,8 @@ use Rattle.pl_lifetimes.specs.Assets.{sid_of}
 use Rattle.pl_bars.proofs.BarSearch.{IsCell-bar_cell}
 use Rattle.pl_adjust.specs.declared.revisions.Revision.{Revision}
 use Rattle.pl_adjust.specs.Revisions.{AreRevisions, Rule, revisions_of}
-use Rattle.pl_adjust.specs.declared.adjust.Adjust.{Adjust}
-use Rattle.pl_adjust.specs.Columns.{StandByDay, by_column, by_place, in_column, in_columns}
-use Rattle.pl_adjust.specs.Events.{PutsCell, event_of}
+use Rattle.pl_adjust.specs.Columns.{StandByDay, by_column, by_place, in_column}
+use Rattle.pl_adjust.specs.Events.{PutsCell}
 use Rattle.pl_adjust.specs.Revised.{AreKnown, IsKnown, revised, revised_by, revised_columns, revised_in}
 use Rattle.pl_adjust.specs.Tables.{adjustments_in}
 use Rattle.pl_adjust.proofs.ByColumn.{by_day-ties, by_place-permutes, by_place-ties, filter-sorted_by, rises-by_place, rises-columns, tied}
@@ -73,15 +72,6 @@ cols_with assets old rows more all =
 
 pub days_with : (xs : List ColumnAdjustment) → StandByDay (by_place xs)
 days_with xs = rises_each (by_place xs) (rises-by_place xs)
-
--- ---- rows that are made, one after the other
-
-pub in_columns-more : (cols : List ℕ) (xs : List Adjust) (i c : ℕ) (a : Adjust) → length xs ≡ length cols → i < length cols → c ≡ get_or cols i c → a ≡ get_or xs i a
-    → in_columns (drop i cols) (drop i xs) ≡ (record { col = c; event = event_of a }) ∷ in_columns (drop (i + 1) cols) (drop (i + 1) xs)
-in_columns-more cols xs i c a long within col adjust =
-    let first : drop i cols ≡ c ∷ drop (i + 1) cols = rw add-one (drop-cons cols i c within ∙ ap (λ x. x ∷ drop (suc i) cols) (sym col)) in
-    let second : drop i xs ≡ a ∷ drop (i + 1) xs = rw add-one (drop-cons xs i a (omega arith) ∙ ap (λ x. x ∷ drop (suc i) xs) (sym adjust)) in
-    rw (first, second) refl
 
 -- ---- the order in which they act
 

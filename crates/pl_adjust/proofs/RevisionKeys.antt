@@ -1,5 +1,5 @@
 -- The keys of revisions tell their sids, days and columns.
-use Rattle.std.proofs.Common.{◌≡◌, ℕ, ◌+◌, ◌-◌, ◌*◌, ◌<◌, ◌^◌, ◌==◌, ◌&&◌, ◌||◌, nat_eq, cond, Bool, true, false, ℤ, pos, negsuc, ◌+ℤ◌, ◌≤ℤ◌, List, [], ◌∷◌, ◌++◌, get_or, All, FitsSigned, w32, refl, sym, ap, ◌∙◌, arith, unsigned_abs}
+use Rattle.std.proofs.Common.{◌≡◌, ℕ, ◌+◌, ◌-◌, ◌*◌, ◌<◌, ◌^◌, ◌==◌, ◌&&◌, ◌||◌, nat_eq, cond, Bool, true, false, ℤ, pos, ◌+ℤ◌, ◌≤ℤ◌, List, [], ◌∷◌, ◌++◌, get_or, All, FitsSigned, w32, refl, sym, ap, ◌∙◌, arith, eq-eqb, eqb-true}
 use Rattle.std.specs.List.{list_any}
 use Rattle.std.specs.HashSet.{HashSet, contains}
 use Rattle.std.specs.Ordering.{int_eq}
@@ -8,28 +8,18 @@ use Rattle.std.proofs.lemmas.List.Elements.{All-push}
 use Rattle.pl_spec.specs.declared.Column.{Column}
 use Rattle.pl_spec.specs.declared.Column.TheVariants.{OpenPrice, High, Low, Close, Volume}
 use Rattle.pl_spec.specs.World.{column_number}
+use Rattle.pl_spec.proofs.Signed.{pos-unsigned_abs, from_first, to_last}
+use Rattle.pl_spec.proofs.Lists.{any-push}
 use Rattle.pl_lifetimes.proofs.Filters.{any-same}
-use Rattle.pl_bars.proofs.BarSets.{same_place, same_number, number_same}
+use Rattle.pl_bars.proofs.BarSets.{same_place}
 use Rattle.pl_adjust.specs.declared.revisions.Revision.{Revision}
 use Rattle.pl_adjust.specs.RevisionKeys.{AreFound, HasDays, day_at, key_of}
 use Rattle.pl_adjust.specs.Revisions.{is_same}
 
 -- ---- the number of a day
 
-not_below : (z : ℤ) → pos 0 ≤ℤ z → pos (unsigned_abs z) ≡ z
-not_below (pos n) h = refl
-not_below (negsuc n) h = absurd (omega (arith, ints))
-
-from_first : (d : ℤ) → FitsSigned w32 d → pos 0 ≤ℤ (d +ℤ pos (2 ^ 31))
-from_first (pos n) h = let small : n < 2 ^ 31 = h.sfits in omega (arith, ints)
-from_first (negsuc n) h = let small : n < 2 ^ 31 = h.sfits in omega (arith, ints)
-
-to_last : (d : ℤ) → FitsSigned w32 d → (d +ℤ pos (2 ^ 31)) ≤ℤ pos (2 ^ 32 - 1)
-to_last (pos n) h = let small : n < 2 ^ 31 = h.sfits in omega (arith, ints)
-to_last (negsuc n) h = let small : n < 2 ^ 31 = h.sfits in omega (arith, ints)
-
 pub day_is : (d : ℤ) → FitsSigned w32 d → pos (day_at d) ≡ d +ℤ pos (2 ^ 31)
-day_is d h = not_below (d +ℤ pos (2 ^ 31)) (from_first d h)
+day_is d h = pos-unsigned_abs (d +ℤ pos (2 ^ 31)) (from_first d h)
 
 pub day_small : (d : ℤ) → FitsSigned w32 d → day_at d < 2 ^ 32
 day_small d h = let e : pos (day_at d) ≡ d +ℤ pos (2 ^ 31) = day_is d h in let l : (d +ℤ pos (2 ^ 31)) ≤ℤ pos (2 ^ 32 - 1) = to_last d h in omega (arith, ints)
@@ -38,8 +28,8 @@ same_days : (m n : ℕ) (x y : ℤ) → pos m ≡ x +ℤ pos (2 ^ 31) → pos n 
 same_days m n x y e f = here (int_eq x y) refl
   where
     here : (b : Bool) → int_eq x y ≡ b → (m == n) ≡ b
-    here true t = let same : x ≡ y = grind (arith, ints) in let it : m ≡ n = omega (arith, ints) in number_same m n it
-    here false t = not_true (m == n) (λ u. let it : m ≡ n = same_number m n u in let same : x ≡ y = omega (arith, ints) in absurd (grind (arith, ints)))
+    here true t = let same : x ≡ y = grind (arith, ints) in let it : m ≡ n = omega (arith, ints) in eq-eqb m n it
+    here false t = not_true (m == n) (λ u. let it : m ≡ n = eqb-true m n u in let same : x ≡ y = omega (arith, ints) in absurd (grind (arith, ints)))
       where
         not_true : (b : Bool) → (b ≡ true → ⊥) → b ≡ false
         not_true true f = absurd (f refl)
@@ -80,26 +70,13 @@ found_by_key rows x all h = any-same (λ y. key_of y == key_of x) (is_same x) ro
 
 -- ---- the set of keys
 
-any-behind : {A : Type 0} (p : A → Bool) (xs : List A) (y : A) → list_any p (xs ++ y ∷ []) ≡ (p y || list_any p xs)
-any-behind p [] y = refl
-any-behind p (x ∷ xs) y = ap (λ b. p x || b) (any-behind p xs y) ∙ swapped (p x) (p y) (list_any p xs)
-  where
-    swapped : (a b c : Bool) → (a || (b || c)) ≡ (b || (a || c))
-    swapped true true c = refl
-    swapped true false c = refl
-    swapped false true c = refl
-    swapped false false c = refl
-
 pub found-more : {S : Type 0} (old new : HashSet ℕ S) (rows : List Revision) (x : Revision) (k : ℕ) → k ≡ key_of x → HasDays x → AreFound old rows
     → ((j : ℕ) → contains nat_eq new j ≡ cond (nat_eq k j) true (contains nat_eq old j)) → AreFound new (rows ++ x ∷ [])
 found-more old new rows x k same days h e = record {
-  each = λ j. e j ∙ either (nat_eq k j) (contains nat_eq old j) ∙ ap (λ b. nat_eq k j || b) (h.each j) ∙ ap (λ i. nat_eq i j || list_any (λ y. key_of y == j) rows) same ∙ sym (any-behind (λ y. key_of y == j) rows x);
+  each = λ j. e j ∙ either (nat_eq k j) (contains nat_eq old j) ∙ ap (λ b. nat_eq k j || b) (h.each j) ∙ ap (λ i. nat_eq i j || list_any (λ y. key_of y == j) rows) same ∙ sym (any-push (λ y. key_of y == j) rows x);
   days = All-push HasDays rows x h.days days;
 }
   where
     either : (b c : Bool) → cond b true c ≡ (b || c)
     either true c = refl
     either false c = refl
-
-pub found-none : {S : Type 0} (keys : HashSet ℕ S) (rows : List Revision) → rows ≡ [] → ((k : ℕ) → contains nat_eq keys k ≡ false) → AreFound keys rows
-found-none keys rows e none = rw e record { each = none; days = λ k d h. absurd (omega arith) }

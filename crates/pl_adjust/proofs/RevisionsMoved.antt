@@ -21,6 +21,7 @@ use Rattle.pl_spec.specs.Parts.{ColumnAdjustment, sid_at}
 use Rattle.pl_spec.specs.Window.{effect, effects_in, is_between, same_column}
 use Rattle.pl_spec.specs.Window.Effect.{Put}
 use Rattle.pl_spec.specs.World.{Event}
+use Rattle.pl_spec.proofs.Signed.{int_eq-true}
 use Rattle.pl_spec.proofs.Permuted.{filter-permuted, one-permuted}
 use Rattle.pl_records.specs.Reading.{Record, Fault, ◌>>=◌}
 use Rattle.pl_records.specs.RuleTable.{lacks}
@@ -30,7 +31,7 @@ use Rattle.pl_records.proofs.RuleTables.{told_ok, ok_or-Ok}
 use Rattle.std.specs.Option.{ok_or}
 use Rattle.pl_calendar.specs.Days.{AreDays}
 use Rattle.pl_lifetimes.specs.Assets.{AreAssets}
-use Rattle.pl_lifetimes.proofs.Filters.{filter-map}
+use Rattle.pl_spec.proofs.Lists.{filter-map}
 use Rattle.pl_bars.specs.Bars.{is_negative}
 use Rattle.pl_adjust.specs.declared.revisions.Revision.{Revision}
 use Rattle.pl_adjust.specs.Columns.{StandByDay, by_place, in_column}
@@ -41,7 +42,7 @@ use Rattle.pl_adjust.proofs.ByColumn.{by_place-ties, rises-by_place, tied}
 use Rattle.pl_adjust.proofs.Kept.{in_front, front_order}
 use Rattle.pl_adjust.proofs.OneOrder.{NoneBelow, Rises, one_order}
 use Rattle.pl_adjust.proofs.RevisedColumns.{cols_with, days_with, known_from, known_has, revised_cols}
-use Rattle.pl_adjust.proofs.RevisionsRead.{AreRevisions-read, column_is, day_same, parts, whole}
+use Rattle.pl_adjust.proofs.RevisionsRead.{AreRevisions-read, column_is, parts, whole}
 use Rattle.pl_adjust.proofs.Sids.{sid_of_col}
 
 -- ---- the rows of records in another order
@@ -238,7 +239,7 @@ module _ (assets : List AssetRow) (c : Column) (bar : ℤ) (at : ℕ → Bool) w
   own_cell x d = here (int_eq x.bar_day bar && same_column x.column c) refl d
     where
       here : (b : Bool) → (int_eq x.bar_day bar && same_column x.column c) ≡ b → is_some (if b then Some (Put x.value) else None) ≡ true → (x.bar_day ≡ bar) × (x.column ≡ c)
-      here true e d = let p = and_parts (int_eq x.bar_day bar) (same_column x.column c) e in (day_same x.bar_day bar p.0, column_is x.column c p.1)
+      here true e d = let p = and_parts (int_eq x.bar_day bar) (same_column x.column c) e in (int_eq-true x.bar_day bar p.0, column_is x.column c p.1)
       here false e d = absurd (let bad : false ≡ true = d in cc)
 
   module _ (z : ColumnAdjustment) where

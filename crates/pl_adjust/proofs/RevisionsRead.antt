@@ -1,5 +1,5 @@
 -- Revisions that are read: what is kept of all rows, and what a file says, in plain words.
-use Rattle.std.proofs.Common.{◌≡◌, ◌↔◌, ℕ, zero, suc, ◌<◌, ◌≤◌, ◌==◌, ◌&&◌, nat_le, true, false, List, [], ◌∷◌, ◌++◌, length, length-append, Option, Some, None, position, Ok, Err, refl, sym, ap, ◌∙◌, ℤ, ◌<ℤ◌, ◌≤ℤ◌, arith, Any}
+use Rattle.std.proofs.Common.{◌≡◌, ◌↔◌, ℕ, ◌<◌, ◌≤◌, ◌==◌, ◌&&◌, nat_le, true, false, List, [], ◌∷◌, ◌++◌, length, length-append, Option, Some, None, position, Ok, Err, refl, ap, ℤ, ◌<ℤ◌, ◌≤ℤ◌, arith, Any, eq-eqb, eqb-true}
 use Rattle.std.specs.Prelude.{Contains}
 use Rattle.std.specs.List.{list_any, slice_get}
 use Rattle.std.specs.Int.RustNames.{int_le}
@@ -18,7 +18,6 @@ use Rattle.pl_records.proofs.Readings.{rows-keep, under_ok, under-are, under-fau
 use Rattle.pl_records.proofs.RuleTables.{told_ok, ok_or-Ok, lacks-tells, has-tells, Judges-table}
 use Rattle.pl_spec.specs.declared.AssetRow.{AssetRow}
 use Rattle.pl_spec.specs.declared.Column.{Column}
-use Rattle.pl_spec.specs.declared.Column.TheVariants.{OpenPrice, High, Low, Close, Volume}
 use Rattle.pl_spec.specs.World.{column_number}
 use Rattle.pl_spec.specs.Window.{same_column}
 use Rattle.pl_spec.proofs.DatesWritten.{IsDay-IsDate}
@@ -27,7 +26,6 @@ use Rattle.pl_lifetimes.specs.Assets.{AreAssets, sid_of}
 use Rattle.pl_lifetimes.specs.Assets.{HasSid}
 use Rattle.pl_lifetimes.proofs.SidColumns.{sid_form}
 use Rattle.pl_bars.proofs.BarFields.{IsCellText-bar_cell, IsNegative-test, is_negative-test}
-use Rattle.pl_bars.proofs.BarSets.{same_number, number_same}
 use Rattle.pl_bars.proofs.BarsSaid.{day_form}
 use Rattle.pl_adjust.specs.declared.revisions.Revision.{Revision}
 use Rattle.pl_spec.specs.Limits.{most_revisions}
@@ -35,6 +33,8 @@ use Rattle.pl_adjust.specs.Revisions.{Rule, breaks, col_in, session_in, revision
 use Rattle.pl_adjust.specs.Revisions as rules
 use Rattle.pl_adjust.specs.RevisionRules.{IsRevisionRecord, AreOfOne, IsNext, Breaks, AreRevisionsOf, IsRevisionsFault}
 use Rattle.pl_adjust.proofs.RevisionFields.{revision_form}
+use Rattle.pl_spec.proofs.Signed.{int_eq-true, eq-int_eq}
+use Rattle.pl_spec.proofs.Columns.{column_number-one}
 
 -- ---- the tests
 
@@ -44,42 +44,22 @@ soon_tells x = here x.known x.bar_day
     here : (a b : ℤ) → Decides (int_le a b) (a ≤ℤ b)
     here a b = (λ t. grind (arith, ints), λ h. grind (arith, ints))
 
-abbrev column_at : ℕ → Column
-column_at zero = OpenPrice
-column_at (suc zero) = High
-column_at (suc (suc zero)) = Low
-column_at (suc (suc (suc zero))) = Close
-column_at (suc (suc (suc (suc n)))) = Volume
-
-column_back : (c : Column) → column_at (column_number c) ≡ c
-column_back OpenPrice = refl
-column_back High = refl
-column_back Low = refl
-column_back Close = refl
-column_back Volume = refl
-
 pub column_is : (c k : Column) → same_column c k ≡ true → c ≡ k
-column_is c k t = sym (column_back c) ∙ ap column_at (same_number _ _ t) ∙ column_back k
-
-pub day_same : (a b : ℤ) → int_eq a b ≡ true → a ≡ b
-day_same a b t = grind (arith, ints)
-
-same_day : (a b : ℤ) → a ≡ b → int_eq a b ≡ true
-same_day a b e = grind (arith, ints)
+column_is c k t = column_number-one c k (eqb-true _ _ t)
 
 pub parts : (x y : Revision) → is_same x y ≡ true → AreOfOne x y
 parts x y t =
     let a = and_parts ((y.sid == x.sid && int_eq y.bar_day x.bar_day) && same_column y.column x.column) (int_eq y.known x.known) t in
     let b = and_parts (y.sid == x.sid && int_eq y.bar_day x.bar_day) (same_column y.column x.column) a.0 in
     let d = and_parts (y.sid == x.sid) (int_eq y.bar_day x.bar_day) b.0 in
-    record { sid = same_number _ _ d.0; session = day_same _ _ d.1; column = column_is _ _ b.1; known = day_same _ _ a.1 }
+    record { sid = eqb-true _ _ d.0; session = int_eq-true _ _ d.1; column = column_is _ _ b.1; known = int_eq-true _ _ a.1 }
 
 pub whole : (x y : Revision) → AreOfOne x y → is_same x y ≡ true
 whole x y h =
-    let sid : (y.sid == x.sid) ≡ true = number_same _ _ h.sid in
-    let day : int_eq y.bar_day x.bar_day ≡ true = same_day _ _ h.session in
-    let column : same_column y.column x.column ≡ true = number_same _ _ (ap column_number h.column) in
-    let known : int_eq y.known x.known ≡ true = same_day _ _ h.known in
+    let sid : (y.sid == x.sid) ≡ true = eq-eqb _ _ h.sid in
+    let day : int_eq y.bar_day x.bar_day ≡ true = eq-int_eq _ _ h.session in
+    let column : same_column y.column x.column ≡ true = eq-eqb _ _ (ap column_number h.column) in
+    let known : int_eq y.known x.known ≡ true = eq-int_eq _ _ h.known in
     rw (sid, day, column, known) refl
 
 same_tells : (before : List Revision) (x : Revision) → Decides (list_any (is_same x) before) (Any (AreOfOne x) before)

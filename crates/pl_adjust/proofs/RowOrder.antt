@@ -6,7 +6,7 @@ use Rattle.std.specs.Ordering.{nat_cmp, int_cmp, ordering_then}
 use Rattle.std.proofs.lemmas.List.{get_or-map, length-map}
 use Rattle.std.proofs.lemmas.List.Sorted.{IsPermutation-map}
 use Rattle.pl_spec.specs.Parts.{ColumnAdjustment}
-use Rattle.pl_lifetimes.proofs.Filters.{filter-map}
+use Rattle.pl_spec.proofs.Lists.{filter-map}
 use Rattle.pl_adjust.specs.declared.adjust.Change.TheVariants.{Scale}
 use Rattle.pl_adjust.specs.declared.columns.Row.{Row}
 use Rattle.pl_adjust.specs.Columns.{IsByPlace}

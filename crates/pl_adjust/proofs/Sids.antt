@@ -16,18 +16,15 @@ use Rattle.pl_spec.specs.declared.RawAdjust.{RawAdjust}
 use Rattle.pl_spec.specs.Order.{adjustment_in, adjustments_of, by_day, insert_by_day, is_of, of_table}
 use Rattle.pl_spec.specs.Parts.{ColumnAdjustment, ColumnLabel, adjustment_of, sid_at, world_of}
 use Rattle.pl_spec.specs.World.{Adjustment, events_of}
+use Rattle.pl_spec.proofs.Lists.{filter-map, filter-same}
 use Rattle.pl_records.proofs.Sorts.{sorted-permutes}
 use Rattle.pl_lifetimes.proofs.Columns.{one_col, same_col}
-use Rattle.pl_lifetimes.proofs.Filters.{filter-map, filter-same}
 use Rattle.pl_adjust.specs.Columns.{by_column, col_in, events_at, in_column}
 use Rattle.pl_adjust.specs.Tables.{adjustments_in}
 use Rattle.pl_adjust.proofs.ByColumn.{filter-sorted_by}
 use Rattle.pl_adjust.proofs.FirstFaults.{made_is}
 use Rattle.pl_adjust.proofs.Known.{has_sid, same_sid}
 use Rattle.pl_adjust.proofs.Made.{place_known}
-
-All-weaker : {X : Type 0} (P Q : X → Type 0) → ((x : X) → P x → Q x) → (xs : List X) → All P xs → All Q xs
-All-weaker P Q h xs all k d l = h (get_or xs k d) (all k d l)
 
 -- ---- a world of parts
 

@@ -6,7 +6,6 @@ use Rattle.pl_spec.specs.declared.AdjustmentKind.{AdjustmentKind}
 use Rattle.pl_spec.specs.declared.AssetRow.{AssetRow}
 use Rattle.pl_spec.specs.declared.RawAdjust.{RawAdjust}
 use Rattle.pl_spec.specs.Order.{adjustment_in, is_of, of_table}
-use Rattle.pl_spec.specs.Parts.{ColumnAdjustment}
 use Rattle.pl_adjust.specs.declared.adjust.Adjust.{Adjust}
 use Rattle.pl_adjust.specs.declared.columns.Row.{Row}
 use Rattle.pl_outside.specs.declared.keeper.Table.{Table}
@@ -15,6 +14,7 @@ use Rattle.pl_adjust.specs.Events.{event_of}
 use Rattle.pl_adjust.specs.Columns.{col_in, in_column}
 use Rattle.pl_adjust.specs.Rows.{row_of}
 use Rattle.pl_adjust.specs.Walk.{Fault, TableRow, fault_at, first_fault, in_table, walk}
+use Rattle.pl_adjust.specs.Tables.{of_rows}
 
 -- where a row is past the end
 abbrev pub blank : RawAdjust
@@ -48,22 +48,18 @@ pub fault_ends : (before i : ℕ) (table : Table) (raw : List RawAdjust) → len
 unfolding first_fault
 fault_ends before i table raw past = at_drop_all (λ rows. first_fault (before + i) (in_table table rows)) raw i past
 
--- the adjustments of what is left of a table
-abbrev rest : List AssetRow → AdjustmentKind → List RawAdjust → List ColumnAdjustment
-rest assets kind raw = map (in_column assets) (of_table assets kind raw)
-
 pub row_known : (assets : List AssetRow) (kind : AdjustmentKind) (raw : List RawAdjust) (i : ℕ) (d : RawAdjust) (rows : List Row) (x : Row) → i < length raw
     → is_of assets (get_or raw i d) ≡ true → row_of x ≡ in_column assets (adjustment_in kind (get_or raw i d))
     → map row_of (rows ++ x ∷ []) ++ map (in_column assets) (of_table assets kind (drop (i + 1) raw)) ≡ map row_of rows ++ map (in_column assets) (of_table assets kind (drop i raw))
 row_known assets kind raw i d rows x within known is =
-    ap (λ l. l ++ rest assets kind (drop (i + 1) raw)) (map-append row_of rows (x ∷ []))
-    ∙ append_assoc (map row_of rows) (row_of x ∷ []) (rest assets kind (drop (i + 1) raw))
-    ∙ ap (λ y. map row_of rows ++ (y ∷ rest assets kind (drop (i + 1) raw))) is
-    ∙ sym (at_drop_more (λ l. map row_of rows ++ rest assets kind l) raw i d within ∙ (rw known refl))
+    ap (λ l. l ++ of_rows assets kind (drop (i + 1) raw)) (map-append row_of rows (x ∷ []))
+    ∙ append_assoc (map row_of rows) (row_of x ∷ []) (of_rows assets kind (drop (i + 1) raw))
+    ∙ ap (λ y. map row_of rows ++ (y ∷ of_rows assets kind (drop (i + 1) raw))) is
+    ∙ sym (at_drop_more (λ l. map row_of rows ++ of_rows assets kind l) raw i d within ∙ (rw known refl))
 
 pub row_unknown : (assets : List AssetRow) (kind : AdjustmentKind) (raw : List RawAdjust) (i : ℕ) (d : RawAdjust) (rows : List Row) → i < length raw → is_of assets (get_or raw i d) ≡ false
     → map row_of rows ++ map (in_column assets) (of_table assets kind (drop (i + 1) raw)) ≡ map row_of rows ++ map (in_column assets) (of_table assets kind (drop i raw))
-row_unknown assets kind raw i d rows within other = sym (at_drop_more (λ l. map row_of rows ++ rest assets kind l) raw i d within ∙ (rw other refl))
+row_unknown assets kind raw i d rows within other = sym (at_drop_more (λ l. map row_of rows ++ of_rows assets kind l) raw i d within ∙ (rw other refl))
 
 -- a row's adjustment by column, from its parts
 pub row_parts : (assets : List AssetRow) (kind : AdjustmentKind) (r : RawAdjust) (col : ℕ) (a : Adjust) → col ≡ col_in assets (unsigned_abs r.sid) → event_of a ≡ (adjustment_in kind r).event

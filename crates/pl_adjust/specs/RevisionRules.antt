@@ -6,10 +6,10 @@ use Rattle.pl_records.specs.RuleTable.{IsFirstBroken, KeepsAll}
 use Rattle.pl_spec.specs.Dates.{IsDate}
 use Rattle.pl_spec.specs.declared.AssetRow.{AssetRow}
 use Rattle.pl_lifetimes.specs.Assets.{HasSid}
-use Rattle.pl_bars.specs.ColumnNames.{column_name}
 use Rattle.pl_bars.specs.Rules.{IsCellText, IsNegative}
 use Rattle.pl_adjust.specs.declared.revisions.Revision.{Revision}
 use Rattle.pl_spec.specs.Limits.{most_revisions}
+use Rattle.pl_spec.specs.Names.{column_name}
 use Rattle.pl_adjust.specs.Revisions.{Rule, BadHeader, TooMany, BadField, NotSession, UnknownSid, Negative, TooSoon, Duplicate, rules, header}
 
 -- the record is the sid, without sign and leading zeros, the date of the bar's day, the name of the column,

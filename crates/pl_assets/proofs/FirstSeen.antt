@@ -3,7 +3,7 @@ use Rattle.std.proofs.Common.{◌≡◌, ℕ, suc, ◌+◌, ◌<◌, ◌≤◌, 
 use Rattle.std.proofs.lemmas.List.{length-map, length-take, map-append, append-nil, get_or_append_left, get_or_default, get_or-take, take_more}
 use Rattle.std.proofs.lemmas.List.Folds.{list_any_none}
 use Rattle.std.proofs.Math.Seq.{get_or-append_seam}
-use Rattle.std.proofs.lemmas.List.Elements.{filter-append, All-cons, All-filter}
+use Rattle.std.proofs.lemmas.List.Elements.{filter-append, All-cons, All-filter, All-nil}
 use Rattle.std.proofs.lemmas.List.Kept.{AllPairs-cons, AllPairs-filter}
 use Rattle.std.proofs.lemmas.List.Sums.{length-filter, count_by-le-length}
 use Rattle.std.proofs.lemmas.List.Quantifiers.{position-Some}
@@ -69,9 +69,6 @@ seen-more (y ∷ ys) x = ap (λ l. y ∷ filter (other y) l) (seen-more ys x) �
     here : (b : Bool) → bytes_eq x y ≡ b → (c : Bool) → list_any (bytes_eq x) (first_seen ys) ≡ c → y ∷ filter (other y) (with_text (first_seen ys) x) ≡ with_text (y ∷ filter (other y) (first_seen ys)) x
     here true t c u = same c u t (reversed true t)
     here false t c u = kept c u t (reversed false t)
-
-All-nil : (P : List ℕ → Type 0) → All P []
-All-nil P k d h = absurd (omega arith)
 
 -- ---- each once
 

@@ -1,16 +1,17 @@
 -- The keys of rows of labels tell their names, columns and days.
-use Rattle.std.proofs.Common.{◌≡◌, ℕ, ◌<◌, ◌^◌, ◌==◌, ◌&&◌, ◌||◌, nat_eq, cond, Bool, true, false, ℤ, List, [], ◌∷◌, ◌++◌, length, map, get_or, Some, None, FitsSigned, w32, refl, sym, ap, ◌∙◌, arith}
+use Rattle.std.proofs.Common.{◌≡◌, ℕ, ◌<◌, ◌^◌, ◌==◌, ◌&&◌, ◌||◌, nat_eq, cond, Bool, true, false, ℤ, List, [], ◌∷◌, ◌++◌, length, map, get_or, Some, None, FitsSigned, w32, refl, sym, ap, ◌∙◌, eq-eqb, eqb-true}
 use Rattle.std.specs.List.{list_any, position}
 use Rattle.std.specs.HashSet.{HashSet, contains}
 use Rattle.std.specs.Str.{bytes_eq}
 use Rattle.std.specs.Ordering.{int_eq}
-use Rattle.std.proofs.lemmas.Int.{ints}
 use Rattle.std.proofs.lemmas.Bool.{and_parts, true≢false}
-use Rattle.std.proofs.lemmas.Bool.Decides.{nat_tests}
 use Rattle.std.proofs.lemmas.List.Folds.{list_any_none}
 use Rattle.std.proofs.lemmas.List.Quantifiers.{position-Some}
+use Rattle.std.specs.Cmp.{both_ways}
 use Rattle.pl_spec.specs.Parts.{ColumnLabel}
 use Rattle.pl_spec.proofs.Places.{nowhere}
+use Rattle.pl_spec.proofs.Signed.{int_eq-true, eq-int_eq}
+use Rattle.pl_spec.proofs.Lists.{any-push}
 use Rattle.pl_assets.specs.Labels.{is_from}
 use Rattle.pl_assets.specs.LabelPlaces.{AreKeys, AreNumbered, IsPlace, key, key_of, row_at, shown_rows}
 use Rattle.pl_assets.specs.declared.labels.rows.Place.{Place}
@@ -20,32 +21,14 @@ use Rattle.pl_assets.proofs.TextLists.{any-map}
 use Rattle.pl_assets.proofs.FirstSeen.{Once, seen-once, one_place, same_text, equal_text}
 use Rattle.pl_assets.proofs.LabelOrder.{same_key}
 
-pub both_false : (b c : Bool) → (b ≡ true → c ≡ true) → (c ≡ true → b ≡ true) → b ≡ c
-both_false true true f g = refl
-both_false true false f g = sym (f refl)
-both_false false true f g = g refl
-both_false false false f g = refl
-
-pub same_number : (a b : ℕ) → (a == b) ≡ true → a ≡ b
-same_number a b t = grind (arith, nat_tests)
-
-pub number_same : (a b : ℕ) → a ≡ b → (a == b) ≡ true
-number_same a b e = grind (arith, nat_tests)
-
-pub same_day : (a b : ℤ) → int_eq a b ≡ true → a ≡ b
-same_day a b t = grind (arith, ints)
-
-pub day_same : (a b : ℤ) → a ≡ b → int_eq a b ≡ true
-day_same a b e = grind (arith, ints)
-
 pub from_parts : (name : List ℕ) (col : ℕ) (day : ℤ) (r : ColumnLabel) → is_from name col day r ≡ true → (r.name ≡ name) × (r.col ≡ col) × (r.start ≡ day)
 from_parts name col day r t =
     let front = and_parts (bytes_eq r.name name) (r.col == col && int_eq r.start day) t in
     let back = and_parts (r.col == col) (int_eq r.start day) front.1 in
-    (same_text r.name name front.0, same_number r.col col back.0, same_day r.start day back.1)
+    (same_text r.name name front.0, eqb-true r.col col back.0, int_eq-true r.start day back.1)
 
 pub parts_from : (name : List ℕ) (col : ℕ) (day : ℤ) (r : ColumnLabel) → r.name ≡ name → r.col ≡ col → r.start ≡ day → is_from name col day r ≡ true
-parts_from name col day r e f g = rw (e, f, g, equal_text name, number_same col col refl, day_same day day refl) refl
+parts_from name col day r e f g = rw (e, f, g, equal_text name, eq-eqb col col refl, eq-int_eq day day refl) refl
 
 pub once_named : (t : LabelRows) → AreNumbered t → Once t.names
 once_named t h = rw h.names (seen-once (map (λ (r : ColumnLabel). r.name) (shown_rows t)))
@@ -62,17 +45,17 @@ is_known t name number col day h e small fits =
 
     there : (p : Place) → IsPlace t.names t.texts p → (key_of p == key number col day) ≡ true → is_from name col day (row_at t.names t.texts p) ≡ true
     there p q u =
-        let parts = same_key p.name p.col p.start number col day q.col small q.day fits (same_number _ _ u) in
+        let parts = same_key p.name p.col p.start number col day q.col small q.day fits (eqb-true _ _ u) in
         parts_from name col day (row_at t.names t.texts p) (ap (λ n. get_or t.names n []) parts.0 ∙ sym it.1) parts.1 parts.2
 
     back : (p : Place) → IsPlace t.names t.texts p → is_from name col day (row_at t.names t.texts p) ≡ true → (key_of p == key number col day) ≡ true
     back p q u =
         let parts = from_parts name col day (row_at t.names t.texts p) u in
         let n : p.name ≡ number = one_place t.names p.name number (once_named t h) q.name it.0 (parts.0 ∙ it.1) in
-        number_same _ _ (ap (λ m. key m p.col p.start) n ∙ ap (λ c. key number c p.start) parts.1 ∙ ap (key number col) parts.2)
+        eq-eqb _ _ (ap (λ m. key m p.col p.start) n ∙ ap (λ c. key number c p.start) parts.1 ∙ ap (key number col) parts.2)
 
     same : (p : Place) → IsPlace t.names t.texts p → (key_of p == key number col day) ≡ is_from name col day (row_at t.names t.texts p)
-    same p q = both_false _ _ (there p q) (back p q)
+    same p q = both_ways _ _ (there p q) (back p q)
 
 pub not_named : (t : LabelRows) (name : List ℕ) (col : ℕ) (day : ℤ) → AreNumbered t → position (bytes_eq name) t.names ≡ None → list_any (is_from name col day) (shown_rows t) ≡ false
 not_named t name col day h e =
@@ -88,20 +71,10 @@ not_named t name col day h e =
 
 -- ---- the set of keys
 
-pub any-behind : {A : Type 0} (p : A → Bool) (xs : List A) (y : A) → list_any p (xs ++ y ∷ []) ≡ (p y || list_any p xs)
-any-behind p [] y = refl
-any-behind p (x ∷ xs) y = ap (λ b. p x || b) (any-behind p xs y) ∙ swapped (p x) (p y) (list_any p xs)
-  where
-    swapped : (a b c : Bool) → (a || (b || c)) ≡ (b || (a || c))
-    swapped true true c = refl
-    swapped true false c = refl
-    swapped false true c = refl
-    swapped false false c = refl
-
 pub AreKeys-more : {S : Type 0} (old new : HashSet ℕ S) (places : List Place) (p : Place) (k : ℕ) → k ≡ key_of p → AreKeys old places
     → ((j : ℕ) → contains nat_eq new j ≡ cond (nat_eq k j) true (contains nat_eq old j)) → AreKeys new (places ++ p ∷ [])
 AreKeys-more old new places p k same h e =
-    record { each = λ j. e j ∙ either (nat_eq k j) (contains nat_eq old j) ∙ ap (λ b. nat_eq k j || b) (h.each j) ∙ ap (λ i. nat_eq i j || list_any (λ q. key_of q == j) places) same ∙ sym (any-behind (λ q. key_of q == j) places p) }
+    record { each = λ j. e j ∙ either (nat_eq k j) (contains nat_eq old j) ∙ ap (λ b. nat_eq k j || b) (h.each j) ∙ ap (λ i. nat_eq i j || list_any (λ q. key_of q == j) places) same ∙ sym (any-push (λ q. key_of q == j) places p) }
   where
     either : (b c : Bool) → cond b true c ≡ (b || c)
     either true c = refl

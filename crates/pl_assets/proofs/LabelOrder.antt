@@ -1,5 +1,5 @@
 -- The order of rows of labels by their keys.
-use Rattle.std.proofs.Common.{◌≡◌, ◌≢◌, ℕ, zero, suc, ◌+◌, ◌*◌, ◌-◌, ◌<◌, ◌≤◌, ◌^◌, ◌==◌, nat_le, true, false, ℤ, pos, negsuc, ◌+ℤ◌, ◌≤ℤ◌, List, [], ◌∷◌, ◌++◌, length, get_or, All, Some, None, FitsSigned, w32, refl, sym, ap, ◌∙◌, arith, inl, inr, length-append, unsigned_abs, option_map, unwrap_or}
+use Rattle.std.proofs.Common.{◌≡◌, ◌≢◌, ℕ, zero, suc, ◌+◌, ◌*◌, ◌-◌, ◌<◌, ◌≤◌, ◌^◌, ◌==◌, nat_le, true, false, ℤ, pos, ◌+ℤ◌, ◌≤ℤ◌, List, [], ◌∷◌, ◌++◌, length, get_or, All, Some, None, FitsSigned, w32, refl, sym, ap, ◌∙◌, arith, inl, inr, length-append, unsigned_abs, option_map, unwrap_or}
 use Rattle.std.specs.Prelude.{Contains}
 use Rattle.std.specs.List.Sorted.{IsPartitionedBy}
 use Rattle.std.proofs.Math.Seq.{get_or-append_seam}
@@ -13,29 +13,18 @@ use Rattle.std.proofs.lemmas.Option.{slice_get-get_or}
 use Rattle.pl_records.specs.Sorted.{HasOwnKeys, sorted_by}
 use Rattle.pl_records.proofs.Sorts.{OwnKeys-none, OwnKeys-more, sorted-rises, sorted-permutes}
 use Rattle.pl_spec.proofs.Places.{rising_at}
+use Rattle.pl_spec.proofs.Signed.{pos-unsigned_abs, from_first, to_last}
 use Rattle.pl_assets.specs.LabelPlaces.{Ascend, HasStarted, IsLastStarted, IsOrder, IsPlace, KeyPoint, OwnKeys, key, key_at, key_of, numbers}
 use Rattle.pl_assets.specs.declared.labels.rows.Place.{Place}
 
 -- ---- the number of a day
 
-not_below : (z : ℤ) → pos 0 ≤ℤ z → pos (unsigned_abs z) ≡ z
-not_below (pos n) h = refl
-not_below (negsuc n) h = absurd (omega (arith, ints))
-
 day_at : ℤ → ℕ
 day_at d = unsigned_abs (d +ℤ pos (2 ^ 31))
 
-from_first : (d : ℤ) → FitsSigned w32 d → pos 0 ≤ℤ (d +ℤ pos (2 ^ 31))
-from_first (pos n) h = let small : n < 2 ^ 31 = h.sfits in omega (arith, ints)
-from_first (negsuc n) h = let small : n < 2 ^ 31 = h.sfits in omega (arith, ints)
-
-to_last : (d : ℤ) → FitsSigned w32 d → (d +ℤ pos (2 ^ 31)) ≤ℤ pos (2 ^ 32 - 1)
-to_last (pos n) h = let small : n < 2 ^ 31 = h.sfits in omega (arith, ints)
-to_last (negsuc n) h = let small : n < 2 ^ 31 = h.sfits in omega (arith, ints)
-
 day_is : (d : ℤ) → FitsSigned w32 d → pos (day_at d) ≡ d +ℤ pos (2 ^ 31)
 unfolding day_at
-day_is d h = not_below (d +ℤ pos (2 ^ 31)) (from_first d h)
+day_is d h = pos-unsigned_abs (d +ℤ pos (2 ^ 31)) (from_first d h)
 
 day_small : (d : ℤ) → FitsSigned w32 d → day_at d < 2 ^ 32
 day_small d h = let e : pos (day_at d) ≡ d +ℤ pos (2 ^ 31) = day_is d h in let l : (d +ℤ pos (2 ^ 31)) ≤ℤ pos (2 ^ 32 - 1) = to_last d h in omega (arith, ints)

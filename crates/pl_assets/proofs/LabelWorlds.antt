@@ -6,10 +6,10 @@ use Rattle.std.proofs.lemmas.List.Folds.{list_all-map}
 use Rattle.pl_spec.specs.World.{LabelRow, day_of, is_label_of, last_started, nonempty}
 use Rattle.pl_spec.specs.Parts.{ColumnLabel, label_of, sid_at, world_of}
 use Rattle.pl_spec.specs.declared.AssetRow.{AssetRow}
+use Rattle.pl_spec.proofs.Lists.{filter-map, filter-same}
 use Rattle.pl_assets.specs.Labels.{by_column, label_on}
 use Rattle.pl_assets.specs.LabelWorlds.{LabelsAreThose}
 use Rattle.pl_lifetimes.proofs.Columns.{same_col}
-use Rattle.pl_lifetimes.proofs.Filters.{filter-map, filter-same}
 
 -- ---- look-ups in a list that is read through a function
 

@@ -1,5 +1,5 @@
 -- Records of labels in another order are read as the same rows in some order.
-use Rattle.std.proofs.Common.{◌≡◌, ℕ, ◌<◌, ◌==◌, ◌↔◌, nat_le, nat_lt, Bool, true, false, List, [], ◌∷◌, length, IsPermutation, Result, Ok, Err, refl, sym, ◌∙◌, ap, arith}
+use Rattle.std.proofs.Common.{◌≡◌, ℕ, ◌<◌, ◌↔◌, nat_le, Bool, true, false, List, [], ◌∷◌, length, IsPermutation, Result, Ok, Err, refl, sym, ◌∙◌, ap, arith}
 use Rattle.std.specs.List.{list_any}
 use Rattle.std.proofs.lemmas.Bool.Decides.{nat_tests}
 use Rattle.pl_spec.specs.Limits.{most_labels}
@@ -7,7 +7,7 @@ use Rattle.pl_spec.specs.Parts.{ColumnLabel}
 use Rattle.pl_spec.specs.declared.AssetRow.{AssetRow}
 use Rattle.pl_records.specs.Reading.{Record, Fault, ◌>>=◌}
 use Rattle.pl_records.proofs.Orders.{Fits, under-permuted}
-use Rattle.pl_assets.specs.Labels.{Rule, LabelTable, table_of, in_column, is_from, says_label, label_rows_in, labels_of, header}
+use Rattle.pl_assets.specs.Labels.{Rule, LabelTable, table_of, is_from, says_label, label_rows_in, labels_of, header}
 use Rattle.pl_assets.specs.Labels as rules
 use Rattle.pl_assets.proofs.LabelKeys.{from_parts, parts_from}
 use Rattle.pl_assets.proofs.LabelsRead.{Says, says_label-ok}

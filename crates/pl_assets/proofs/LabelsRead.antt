@@ -1,5 +1,5 @@
 -- Labels that are read: what each test tells, and what is kept of all rows.
-use Rattle.std.proofs.Common.{◌≡◌, ℕ, zero, suc, ◌==◌, ◌<◌, ◌≤◌, nat_le, nat_lt, Bool, true, false, List, [], ◌∷◌, ◌++◌, length, get_or, length-append, All, Some, option_map, Ok, refl, sym, subst, ap, ◌∙◌, pos, position, arith}
+use Rattle.std.proofs.Common.{◌≡◌, ℕ, zero, suc, ◌==◌, ◌<◌, ◌≤◌, nat_le, nat_lt, Bool, true, false, List, [], ◌∷◌, ◌++◌, length, get_or, length-append, All, Some, option_map, Ok, refl, sym, subst, ap, ◌∙◌, position, arith}
 use Rattle.std.specs.List.{list_any, AllPairs}
 use Rattle.std.specs.Option.{ok_or}
 use Rattle.std.proofs.lemmas.Bool.Decides.{nat_tests}
@@ -13,9 +13,10 @@ use Rattle.pl_spec.specs.declared.AssetRow.{AssetRow}
 use Rattle.pl_records.proofs.Readings.{rows-keep, under_ok}
 use Rattle.pl_records.proofs.RuleTables.{and_then_some, map_some, told_ok, ok_or-Ok}
 use Rattle.pl_lifetimes.specs.Assets.{sid_of}
-use Rattle.pl_assets.specs.Labels.{Rule, breaks, col_in, in_column, row_of, header, label_in, is_from, is_printable, says_label, label_rows_in, labels_of, table_of, texts_of, LabelTable, IsLabelRow, AreLabels}
+use Rattle.pl_assets.specs.Labels.{breaks, col_in, in_column, row_of, header, label_in, is_from, says_label, label_rows_in, IsLabelRow}
 use Rattle.pl_assets.specs.Labels as rules
 use Rattle.pl_spec.specs.Limits.{most_labels, most_label_bytes}
+use Rattle.pl_spec.proofs.Columns.{no_asset}
 use Rattle.pl_assets.proofs.LabelFields.{IsLabelRecord-label_in, printable-bytes}
 use Rattle.pl_assets.proofs.LabelKeys.{from_parts, parts_from}
 
@@ -62,9 +63,6 @@ one_row : (P : ColumnLabel → Type 0) (r : ColumnLabel) → P r → All P (r �
 one_row P r p zero d h = p
 one_row P r p (suc k) d h = absurd (omega arith)
 
-blank : AssetRow
-blank = record { sid = 0; start = pos 0; end = pos 0 }
-
 -- a row from whose start none before is, is not from theirs
 pub others-before : (rows : List ColumnLabel) (r : ColumnLabel) → list_any (is_from r.name r.col r.start) rows ≡ false → All (λ q. is_from q.name q.col q.start r ≡ false) rows
 others-before rows r e k d h = here (is_from (get_or rows k d).name (get_or rows k d).col (get_or rows k d).start r) refl
@@ -89,7 +87,7 @@ read-more : (assets : List AssetRow) (before : List ColumnLabel) (r : Record) (r
 read-more assets before r row h s =
     let ok = says_label-ok assets before r row s in
     let w = IsLabelRecord-label_in r ok.label ok.written in
-    let at = position-Some (λ a. sid_of a == ok.label.sid) assets row.col blank ok.col in
+    let at = position-Some (λ a. sid_of a == ok.label.sid) assets row.col no_asset ok.col in
     let room : length before < most_labels = room_left (length before) ok.few in
     let right : IsLabelRow (in_column ok.label row.col) = record { name = w.right_name; printable = printable-bytes ok.label.text w.printable; short = fits (length ok.label.text) ok.short } in
     record {

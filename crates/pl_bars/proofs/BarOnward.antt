@@ -1,16 +1,16 @@
 -- A point by the bars beside it.
 use Rattle.std.proofs.Common.{◌≡◌, ℕ, ◌+◌, ◌<◌, ◌≤◌, Bool, true, false, List, length, get_or, refl, sym, ◌∙◌, ap, arith}
 use Rattle.std.proofs.lemmas.Bool.Decides.{nat_tests}
+use Rattle.std.proofs.lemmas.List.{get_or_default}
 use Rattle.pl_spec.specs.declared.BarRow.{BarRow}
 use Rattle.pl_bars.specs.Bars.{is_at, is_before, AreBars}
 use Rattle.pl_bars.specs.BarPoint.{AllBefore, BarPoint, NoneBefore}
-use Rattle.pl_bars.proofs.BarSets.{same_default}
 use Rattle.pl_bars.proofs.BarSearch.{parted}
 
 -- where a bar stands before, all up to it do
 pub before_one : (col session : ℕ) (rows : List BarRow) (n : ℕ) (d : BarRow) → AreBars rows → n < length rows → is_before col session (get_or rows n d) ≡ true → AllBefore col session rows (n + 1)
 before_one col session rows n d up inside before k x h =
-    parted col session rows up k n x (omega (arith, h)) inside (ap (is_before col session) (same_default rows n x d inside) ∙ before)
+    parted col session rows up k n x (omega (arith, h)) inside (ap (is_before col session) (get_or_default rows n x d inside) ∙ before)
 
 -- where a bar does not, none after it does
 pub behind_one : (col session : ℕ) (rows : List BarRow) (n : ℕ) (d : BarRow) → AreBars rows → n < length rows → is_before col session (get_or rows n d) ≡ false → NoneBefore col session rows n
@@ -19,7 +19,7 @@ behind_one col session rows n d up inside behind k x h l = here (is_before col s
     here : (t : Bool) → is_before col session (get_or rows k x) ≡ t → t ≡ false
     here true e =
         let first : is_before col session (get_or rows n x) ≡ true = parted col session rows up n k x h l e in
-        sym first ∙ ap (is_before col session) (same_default rows n x d inside) ∙ behind
+        sym first ∙ ap (is_before col session) (get_or_default rows n x d inside) ∙ behind
     here false e = refl
 
 not_before_itself : (col session : ℕ) (b : BarRow) → is_at col session b ≡ true → is_before col session b ≡ false
@@ -35,4 +35,4 @@ here_is_point col session rows n d up inside here = (before, behind_one col sess
     before : (k : ℕ) (x : BarRow) → 0 ≤ k → k < n → is_before col session (get_or rows k x) ≡ true
     before k x z h =
         before_it col session (get_or rows k x) (get_or rows n x) (up.ascend k n x h inside)
-        (ap (is_at col session) (same_default rows n x d inside) ∙ here)
+        (ap (is_at col session) (get_or_default rows n x d inside) ∙ here)

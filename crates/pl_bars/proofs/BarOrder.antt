@@ -3,14 +3,13 @@ use Rattle.std.proofs.Common.{◌≡◌, ℕ, ◌+◌, ◌-◌, ◌<◌, nat_lt,
 use Rattle.std.specs.List.Sorted.{IsNonDecreasingBy}
 use Rattle.std.proofs.lemmas.Bool.{cases_lt}
 use Rattle.std.proofs.lemmas.Bool.Decides.{nat_tests}
-use Rattle.std.proofs.lemmas.List.{get_or_append_left}
+use Rattle.std.proofs.lemmas.List.{get_or_append_left, get_or_default}
 use Rattle.std.proofs.lemmas.List.Sorted.{IsPermutation-refl}
 use Rattle.pl_records.specs.Sorted.{sorted_by, HasOwnKeys}
 use Rattle.pl_records.proofs.Sorts.{sorted-is}
 use Rattle.pl_spec.specs.declared.BarRow.{BarRow}
 use Rattle.pl_bars.specs.Bars.{key_of}
 use Rattle.pl_bars.specs.BarPoint.{IsAfter, Rise}
-use Rattle.pl_bars.proofs.BarSets.{same_default}
 
 at_end : (xs : List BarRow) (b d : BarRow) → get_or (xs ++ b ∷ []) (length xs) d ≡ b
 at_end [] b d = refl
@@ -22,7 +21,7 @@ rise_empty rows e i j d h l = let none : length rows ≡ 0 = ap length e in absu
 pub last_after : (rows : List BarRow) (b : BarRow) (n : ℕ) (d : BarRow) → n + 1 ≡ length rows → nat_lt (key_of (get_or rows n d)) (key_of b) ≡ true → IsAfter b rows
 last_after rows b n d e t k x f =
     let same : n ≡ k = omega arith in
-    let own : get_or rows k x ≡ get_or rows n d = ap (λ i. get_or rows i x) (sym same) ∙ same_default rows n x d (omega arith) in
+    let own : get_or rows k x ≡ get_or rows n d = ap (λ i. get_or rows i x) (sym same) ∙ get_or_default rows n x d (omega arith) in
     let lt : key_of (get_or rows n d) < key_of b = below _ _ t in
     rw own lt
   where

@@ -6,18 +6,19 @@ use Rattle.std.proofs.lemmas.Int.{ints, to_z-of_z}
 use Rattle.std.proofs.lemmas.Bool.{cases_lt, and_parts}
 use Rattle.std.proofs.lemmas.Bool.Decides.{nat_tests}
 use Rattle.std.proofs.lemmas.List.Quantifiers.{position-Some}
+use Rattle.std.proofs.lemmas.List.{get_or_default, get_or_past}
 use Rattle.pl_spec.specs.Rounding.{MISSING, LIMIT, IsCell, is_missing}
 use Rattle.pl_spec.specs.declared.BarRow.{BarRow}
 use Rattle.pl_spec.specs.declared.Column.{Column}
 use Rattle.pl_spec.specs.declared.Column.TheVariants.{OpenPrice, High, Low, Close, Volume}
 use Rattle.pl_spec.proofs.Places.{is_at as place_is, is_nowhere, nowhere}
-use Rattle.pl_bars.specs.Bars.{is_at, is_before, is_bar_cell, AreBars, cell_at, cell_of, cells_at, place}
+use Rattle.pl_spec.specs.World.{column_number}
+use Rattle.pl_bars.specs.Bars.{is_at, is_before, is_bar_cell, AreBars, cell_at, cell_of, cells_at}
 use Rattle.pl_bars.specs.BarPoint.{BarPoint}
-use Rattle.pl_bars.proofs.BarSets.{same_default}
 
 -- ---- the order
 
-at_true : (col session : ℕ) (b : BarRow) → b.col ≡ col → b.session ≡ session → is_at col session b ≡ true
+pub at_true : (col session : ℕ) (b : BarRow) → b.col ≡ col → b.session ≡ session → is_at col session b ≡ true
 at_true col session b e f = grind (arith, nat_tests)
 
 pub at_parts : (col session : ℕ) (b : BarRow) → is_at col session b ≡ true → (b.col ≡ col) × (b.session ≡ session)
@@ -102,13 +103,13 @@ point_taken col session rows n d up h point e f = (before, after)
     before k x z l = elim (cases_lt k n) [
       | inl lt ↦ next_before col session (get_or rows k x) (point.0 k x z lt)
       | inr ge ↦ (let same : k ≡ n = omega arith in
-          let own : get_or rows k x ≡ get_or rows n d = ap (λ i. get_or rows i x) same ∙ same_default rows n x d h in
+          let own : get_or rows k x ≡ get_or rows n d = ap (λ i. get_or rows i x) same ∙ get_or_default rows n x d h in
           ap (is_before col (session + 1)) own ∙ next_at col session (get_or rows n d) e f)
     ]
 
     after : (k : ℕ) (x : BarRow) → n + 1 ≤ k → k < length rows → is_before col (session + 1) (get_or rows k x) ≡ false
     after k x g l =
-        let own : get_or rows n x ≡ get_or rows n d = same_default rows n x d h in
+        let own : get_or rows n x ≡ get_or rows n d = get_or_default rows n x d h in
         behind_next col session (get_or rows n x) (get_or rows k x) (up.ascend n k x (omega arith) l)
         (ap (λ (b : BarRow). b.col) own ∙ e) (ap (λ (b : BarRow). b.session) own ∙ f)
 
@@ -126,7 +127,7 @@ point_passed col session rows n d up point other = (before, after)
         elim (cases_lt n k) [
           | inl gt ↦ next_behind col session (get_or rows k x) (point.1 k x g l) (after_point col session rows n k x up point gt l)
           | inr le ↦ (let same : k ≡ n = omega arith in
-              let own : get_or rows k x ≡ get_or rows n d = ap (λ i. get_or rows i x) same ∙ same_default rows n x d inside in
+              let own : get_or rows k x ≡ get_or rows n d = ap (λ i. get_or rows i x) same ∙ get_or_default rows n x d inside in
               next_behind col session (get_or rows k x) (point.1 k x g l) (ap (is_at col session) own ∙ other inside))
         ]
 
@@ -190,15 +191,10 @@ IsCell-bar_cell v t = here (is_missing v) refl
     here true m = inl (value m)
     here false m = inr (small (second (is_missing v) (int_le (pos 0) v) (nat_le (unsigned_abs v) LIMIT) m t))
 
-past-end : (xs : List ℤ) (k : ℕ) (d : ℤ) → length xs ≤ k → get_or xs k d ≡ d
-past-end [] k d h = refl
-past-end (x ∷ xs) zero d h = absurd (omega arith)
-past-end (x ∷ xs) (suc k) d h = past-end xs k d (omega arith)
-
 cell_of-IsCell : (column : Column) (b : BarRow) → All (λ v. IsTrue (is_bar_cell v)) b.cells → IsCell (cell_of column b)
-cell_of-IsCell column b all = elim (cases_lt (place column) (length b.cells)) [
-  | inl lt ↦ IsCell-bar_cell (get_or b.cells (place column) (pos 0)) (all (place column) (pos 0) lt)
-  | inr ge ↦ (let zero_is : get_or b.cells (place column) (pos 0) ≡ pos 0 = past-end b.cells (place column) (pos 0) ge in rw zero_is nought)
+cell_of-IsCell column b all = elim (cases_lt (column_number column) (length b.cells)) [
+  | inl lt ↦ IsCell-bar_cell (get_or b.cells (column_number column) (pos 0)) (all (column_number column) (pos 0) lt)
+  | inr ge ↦ (let zero_is : get_or b.cells (column_number column) (pos 0) ≡ pos 0 = get_or_past b.cells (column_number column) (pos 0) ge in rw zero_is nought)
 ]
   where
     nought : IsCell (pos 0)

@@ -1,24 +1,12 @@
 -- A bit for each column and session.
-use Rattle.std.proofs.Common.{◌≡◌, ◌≢◌, ℕ, zero, suc, ◌+◌, ◌*◌, ◌/◌, ◌%◌, ◌^◌, ◌<◌, ◌==◌, ◌&&◌, ◌||◌, Bool, true, false, List, [], ◌∷◌, length, get_or, bit_or, refl, sym, ◌∙◌, ap, arith, w64}
+use Rattle.std.proofs.Common.{◌≡◌, ◌≢◌, ℕ, ◌+◌, ◌*◌, ◌/◌, ◌%◌, ◌^◌, ◌<◌, ◌==◌, ◌&&◌, ◌||◌, Bool, true, false, List, length, get_or, bit_or, refl, sym, ◌∙◌, ap, arith, w64, eq-eqb, eqb-true}
 use Rattle.std.specs.Int.{bit_at}
 use Rattle.std.proofs.Math.ListN.{set}
 use Rattle.std.proofs.lemmas.List.{get_or-set_same, get_or-set_other}
 use Rattle.std.proofs.lemmas.Nat.{div-mul-add}
 use Rattle.std.proofs.lemmas.Nat.Bits.{bit_at_set_same, bit_at_set_other}
-use Rattle.std.proofs.lemmas.Bool.Decides.{nat_tests}
+use Rattle.std.proofs.Math.Bool.{or-true, or-false}
 use Rattle.pl_bars.specs.BarSet.{bit_in}
-
-pub same_number : (a b : ℕ) → (a == b) ≡ true → a ≡ b
-same_number a b t = grind (arith, nat_tests)
-
-pub number_same : (a b : ℕ) → a ≡ b → (a == b) ≡ true
-number_same a b e = grind (arith, nat_tests)
-
--- inside a list the default doesn't matter
-pub same_default : {A : Type 0} (xs : List A) (n : ℕ) (x y : A) → n < length xs → get_or xs n x ≡ get_or xs n y
-same_default [] n x y h = absurd (omega arith)
-same_default (z ∷ zs) zero x y h = refl
-same_default (z ∷ zs) (suc n) x y h = same_default zs n x y (omega arith)
 
 -- ---- columns and sessions have places of their own
 
@@ -27,9 +15,6 @@ one_col n a b c d h l e = sym (div-mul-add a n b h) ∙ ap (λ x. x / n) e ∙ d
 
 one_session : (n a b c d : ℕ) → b < n → d < n → a * n + b ≡ c * n + d → b ≡ d
 one_session n a b c d h l e = let q : a * n ≡ c * n = ap (λ x. x * n) (one_col n a b c d h l e) in omega arith
-
-pub place_within : (cols n c s : ℕ) → c < cols → s < n → c * n + s < cols * n
-place_within cols n c s h l = grind arith
 
 pub same_place : (n col session c s : ℕ) → session < n → s < n → (col * n + session == c * n + s) ≡ (col == c && session == s)
 same_place n col session c s h l = here (col * n + session == c * n + s) refl
@@ -44,27 +29,19 @@ same_place n col session c s h l = here (col * n + session == c * n + s) refl
 
     here : (b : Bool) → (col * n + session == c * n + s) ≡ b → b ≡ (col == c && session == s)
     here true t =
-        let e : col * n + session ≡ c * n + s = same_number _ _ t in
-        joined (col == c) (session == s) (number_same _ _ (one_col n col session c s h l e)) (number_same _ _ (one_session n col session c s h l e))
+        let e : col * n + session ≡ c * n + s = eqb-true _ _ t in
+        joined (col == c) (session == s) (eq-eqb _ _ (one_col n col session c s h l e)) (eq-eqb _ _ (one_session n col session c s h l e))
     here false t =
         apart (col == c) (session == s) (λ a b.
-        let e : col ≡ c = same_number _ _ a in
-        let f : session ≡ s = same_number _ _ b in
+        let e : col ≡ c = eqb-true _ _ a in
+        let f : session ≡ s = eqb-true _ _ b in
         let same : col * n + session ≡ c * n + s = ap (λ x. x * n + session) e ∙ ap (λ x. c * n + x) f in
-        let yes_ : true ≡ false = sym (number_same _ _ same) ∙ t in absurd (let bad : true ≡ false = yes_ in cc))
+        let yes_ : true ≡ false = sym (eq-eqb _ _ same) ∙ t in absurd (let bad : true ≡ false = yes_ in cc))
 
 -- ---- one bit more
 
 with_bit : List ℕ → ℕ → List ℕ
 with_bit words k = set words (k / 64) (bit_or (get_or words (k / 64) 0) (1 * 2 ^ (k % 64) % 2 ^ 64))
-
-or_true : (b : Bool) → (b || true) ≡ true
-or_true true = refl
-or_true false = refl
-
-or_false : (b : Bool) → (b || false) ≡ b
-or_false true = refl
-or_false false = refl
 
 bit_in-same : (words : List ℕ) (k : ℕ) → k / 64 < length words → bit_in (with_bit words k) k ≡ true
 unfolding with_bit
@@ -87,14 +64,14 @@ bit_in-other words k j h ne = here (j / 64 == k / 64) refl
 
     here : (b : Bool) → (j / 64 == k / 64) ≡ b → bit_in (set words (k / 64) w) j ≡ bit_in words j
     here true t =
-        let e : j / 64 ≡ k / 64 = same_number _ _ t in
+        let e : j / 64 ≡ k / 64 = eqb-true _ _ t in
         let within : k % 64 < 64 = omega arith in
         let apart : j % 64 ≢ k % 64 = λ s. ne (omega arith) in
         let word : get_or (set words (k / 64) w) (j / 64) 0 ≡ w = ap (λ i. get_or (set words (k / 64) w) i 0) e ∙ get_or-set_same words (k / 64) w 0 h in
         ap (λ x. bit_at x (j % 64) == 1) word ∙ ap (λ b. b == 1) (bit_at_set_other w64 n (k % 64) within (j % 64) apart)
         ∙ ap (λ i. bit_at (get_or words i 0) (j % 64) == 1) (sym e)
     here false t =
-        let other : j / 64 ≢ k / 64 = λ e. absurd (let bad : true ≡ false = sym (number_same _ _ e) ∙ t in cc) in
+        let other : j / 64 ≢ k / 64 = λ e. absurd (let bad : true ≡ false = sym (eq-eqb _ _ e) ∙ t in cc) in
         ap (λ x. bit_at x (j % 64) == 1) (get_or-set_other words (k / 64) (j / 64) w 0 other)
 
 pub bit_in-with_bit : (words : List ℕ) (k j : ℕ) → k / 64 < length words
@@ -103,9 +80,9 @@ unfolding with_bit
 bit_in-with_bit words k j h = here (k == j) refl
   where
     here : (b : Bool) → (k == j) ≡ b → bit_in (with_bit words k) j ≡ (bit_in words j || b)
-    here true t = let e : k ≡ j = same_number _ _ t in ap (bit_in (with_bit words k)) (sym e) ∙ bit_in-same words k h ∙ sym (or_true (bit_in words j))
+    here true t = let e : k ≡ j = eqb-true _ _ t in ap (bit_in (with_bit words k)) (sym e) ∙ bit_in-same words k h ∙ sym (or-true (bit_in words j))
     here false t =
-        let ne : j ≢ k = λ e. absurd (let bad : true ≡ false = sym (number_same _ _ (sym e)) ∙ t in cc) in
-        bit_in-other words k j h ne ∙ sym (or_false (bit_in words j))
+        let ne : j ≢ k = λ e. absurd (let bad : true ≡ false = sym (eq-eqb _ _ (sym e)) ∙ t in cc) in
+        bit_in-other words k j h ne ∙ sym (or-false (bit_in words j))
 
 -- ---- the bars of rows

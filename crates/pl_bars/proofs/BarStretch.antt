@@ -1,15 +1,14 @@
 -- Bars of one column on sessions that follow on each other.
 use Rattle.std.proofs.Common.{◌≡◌, ℕ, zero, suc, ◌+◌, ◌-◌, ◌<◌, ◌≤◌, true, false, List, length, get_or, sym, ◌∙◌, ap, subst, arith, inl, inr, ℤ, pos}
 use Rattle.std.proofs.Math.ListN.{set}
-use Rattle.std.proofs.lemmas.List.{get_or-set_same, get_or-set_other}
+use Rattle.std.proofs.lemmas.List.{get_or-set_same, get_or-set_other, get_or_default}
 use Rattle.std.proofs.lemmas.Bool.{cases_lt}
 use Rattle.std.proofs.lemmas.Bool.Decides.{nat_tests}
 use Rattle.pl_spec.specs.declared.BarRow.{BarRow}
 use Rattle.pl_spec.specs.declared.Column.{Column}
 use Rattle.pl_bars.specs.Bars.{is_at, is_before, AreBars, cell_at, cell_of}
 use Rattle.pl_bars.specs.BarPoint.{BarPoint, IsStretch}
-use Rattle.pl_bars.proofs.BarSets.{same_default}
-use Rattle.pl_bars.proofs.BarSearch.{bar_found, cell_found, at_parts}
+use Rattle.pl_bars.proofs.BarSearch.{bar_found, cell_found, at_parts, at_true}
 use Rattle.pl_bars.proofs.BarOnward.{here_is_point}
 
 -- ---- two bars in order
@@ -25,9 +24,6 @@ col_after col session b t = grind (arith, nat_tests)
 
 session_after : (col session : ℕ) (b : BarRow) → is_before col session b ≡ false → b.col ≡ col → session ≤ b.session
 session_after col session b t e = grind (arith, nat_tests)
-
-at_from : (col session : ℕ) (b : BarRow) → b.col ≡ col → b.session ≡ session → is_at col session b ≡ true
-at_from col session b e f = grind (arith, nat_tests)
 
 -- ---- a bar later there is a session later at least
 
@@ -68,13 +64,13 @@ module _ (col : ℕ) (rows : List BarRow) (up : AreBars rows) (d : BarRow) where
       subst (λ i. (get_or rows (n + k) d).session + (m - k) ≤ (get_or rows i d).session) rest
       (sessions_apart (n + k) (m - k) (omega arith) own (ap (λ i. (get_or rows i d).col) rest ∙ top.0)) in
       let exact : (get_or rows (n + k) d).session ≡ first + k = omega (arith, low, up_to, from_it, top.1) in
-      at_from col (first + k) (get_or rows (n + k) d) own exact
+      at_true col (first + k) (get_or rows (n + k) d) own exact
 
 pub stretch_by_last : (col first : ℕ) (rows : List BarRow) (n m : ℕ) (d : BarRow) → AreBars rows → BarPoint col first rows n → n + m < length rows
     → is_at col (first + m) (get_or rows (n + m) d) ≡ true → IsStretch col first rows n (m + 1)
 stretch_by_last col first rows n m d up point inside last = record {
   within = omega arith;
-  each = λ k x h. stretch_at col rows up x first n m point inside (ap (is_at col (first + m)) (same_default rows (n + m) x d inside) ∙ last) k (omega arith);
+  each = λ k x h. stretch_at col rows up x first n m point inside (ap (is_at col (first + m)) (get_or_default rows (n + m) x d inside) ∙ last) k (omega arith);
 }
 
 -- ---- the cells of a stretch

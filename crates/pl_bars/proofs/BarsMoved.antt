@@ -1,5 +1,5 @@
 -- Records of bars in another order are read as the same bars.
-use Rattle.std.proofs.Common.{◌≡◌, ℕ, ◌<◌, ◌≤◌, ◌==◌, ◌&&◌, ◌↔◌, nat_le, Bool, true, false, ℤ, List, [], ◌∷◌, length, IsPermutation, Ok, refl, sym, ◌∙◌, ap, arith}
+use Rattle.std.proofs.Common.{◌≡◌, ℕ, ◌<◌, ◌≤◌, ◌==◌, ◌&&◌, ◌↔◌, nat_le, Bool, false, ℤ, List, [], ◌∷◌, length, IsPermutation, Ok, refl, sym, ◌∙◌, ap, arith}
 use Rattle.std.specs.List.{list_any}
 use Rattle.std.proofs.lemmas.Bool.Decides.{nat_tests}
 use Rattle.pl_spec.specs.Limits.{most_bars, most_sessions}

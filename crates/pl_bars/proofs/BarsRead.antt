@@ -1,5 +1,5 @@
 -- Bars that are read: what each test tells, and what is kept of all rows.
-use Rattle.std.proofs.Common.{◌≡◌, ℕ, zero, suc, ◌^◌, ◌==◌, ◌<◌, ◌≤◌, ◌||◌, nat_le, IsTrue, Bool, true, false, List, [], ◌∷◌, ◌++◌, length, get_or, length-append, All, Option, Some, None, option_map, option_and_then, Result, Ok, Err, refl, sym, ap, ◌∙◌, ℤ, pos, position, arith}
+use Rattle.std.proofs.Common.{◌≡◌, ℕ, zero, suc, ◌^◌, ◌==◌, ◌<◌, ◌≤◌, nat_le, IsTrue, true, false, List, [], ◌∷◌, ◌++◌, length, get_or, length-append, All, Option, Some, None, option_map, option_and_then, Result, Ok, Err, refl, sym, ap, ◌∙◌, ℤ, pos, position, arith}
 use Rattle.std.specs.List.{list_any, AllPairs}
 use Rattle.std.specs.Ordering.{int_eq}
 use Rattle.std.specs.Option.{ok_or}
@@ -7,6 +7,7 @@ use Rattle.std.proofs.lemmas.Bool.Decides.{nat_tests}
 use Rattle.std.proofs.lemmas.List.Quantifiers.{position-Some}
 use Rattle.std.proofs.lemmas.List.Elements.{All-append}
 use Rattle.std.proofs.lemmas.List.Sorted.{All-permutation}
+use Rattle.std.proofs.lemmas.Bool.{or_parts}
 use Rattle.pl_records.specs.Reading.{Record, Fault, ◌>>=◌}
 use Rattle.pl_records.specs.Sorted.{sorted_by, HasOwnKeys}
 use Rattle.pl_spec.specs.declared.AssetRow.{AssetRow}
@@ -106,14 +107,10 @@ says_bar-ok days assets before r b e =
 
 -- ---- what is kept of all rows
 
-or_none : (a b : Bool) → (a || b) ≡ false → (a ≡ false) × (b ≡ false)
-or_none true b e = absurd (let bad : true ≡ false = e in cc)
-or_none false b e = (refl, e)
-
 other_keys : (xs : List BarRow) (y : BarRow) → All (λ x. x.session < 2 ^ 32) xs → y.session < 2 ^ 32 → list_any (is_at y.col y.session) xs ≡ false → list_any (λ x. key_of x == key_of y) xs ≡ false
 other_keys [] y s h e = refl
 other_keys (x ∷ xs) y s h e =
-    let p = or_none (is_at y.col y.session x) (list_any (is_at y.col y.session) xs) e in
+    let p = or_parts (is_at y.col y.session x) (list_any (is_at y.col y.session) xs) e in
     let first : (key_of x == key_of y) ≡ false = same_place (2 ^ 32) x.col x.session y.col y.session (s 0 x (omega arith)) h ∙ p.0 in
     rw first (other_keys xs y (λ k d l. s (suc k) d (omega arith)) h p.1)
 

@@ -1,16 +1,16 @@
 -- What a record says of its bar, in plain words.
-use Rattle.std.proofs.Common.{◌≡◌, ◌≢◌, ℕ, ◌^◌, ◌<◌, ◌↔◌, ◌==◌, Bool, true, false, ℤ, ◌<ℤ◌, List, get_or, Option, Some, None, option_map, option_and_then, position, All, Any, Ok, Err, refl, sym, ◌∙◌, ap, arith, inl, inr}
+use Rattle.std.proofs.Common.{◌≡◌, ◌≢◌, ℕ, ◌^◌, ◌<◌, ◌↔◌, Bool, true, false, ℤ, ◌<ℤ◌, List, get_or, Option, Some, None, option_map, option_and_then, position, All, Any, Ok, Err, refl, sym, ◌∙◌, ap, arith, inl, inr}
 use Rattle.std.specs.List.{list_any, slice_get, AllPairs}
 use Rattle.std.specs.List.Sorted.{IsPermutation}
 use Rattle.std.specs.Ordering.{int_eq}
 use Rattle.std.specs.Bool.{Decides}
 use Rattle.std.proofs.lemmas.Int.{ints}
-use Rattle.std.proofs.lemmas.Bool.{cases_lt, and_parts}
+use Rattle.std.proofs.lemmas.Bool.{cases_lt}
 use Rattle.std.proofs.lemmas.Bool.Decides.{nat_tests}
 use Rattle.std.proofs.lemmas.List.Folds.{Any-from_list_any, list_any-from_Any}
 use Rattle.std.proofs.lemmas.List.Quantifiers.{position-Some}
 use Rattle.std.proofs.lemmas.List.Sorted.{All-permutation}
-use Rattle.std.proofs.lemmas.Option.{slice_get-get_or, slice_get_within}
+use Rattle.std.proofs.lemmas.Option.{slice_get-get_or, slice_get_within, get_or_from_slice_get}
 use Rattle.pl_records.specs.Reading.{Record, Fault, ◌>>=◌, rows_under, AreRowsUnder, Judges}
 use Rattle.pl_records.specs.RuleTable.{IsFirstBroken, KeepsAll}
 use Rattle.pl_records.specs.Sorted.{sorted_by}
@@ -21,38 +21,30 @@ use Rattle.pl_records.proofs.RuleTables.{and_then_some, map_some, lacks-tells, h
 use Rattle.pl_lifetimes.proofs.SidColumns.{sid_form}
 use Rattle.pl_records.proofs.Sorts.{sorted-are, sorted-fault}
 use Rattle.pl_spec.proofs.Places.{nowhere}
+use Rattle.pl_spec.proofs.Signed.{int_eq-true, int_eq-itself}
 use Rattle.pl_calendar.specs.Days.{AreDays}
 use Rattle.pl_lifetimes.specs.Assets.{sid_of, AreAssets}
 use Rattle.pl_bars.specs.declared.fields.Fields.{Fields}
-use Rattle.pl_bars.specs.Bars.{Rule, breaks, session_in, col_in, placed_at, bar_of, header, fields_in, is_negative, is_at, says_bar, key_of, rows_in, bars_of, is_before}
+use Rattle.pl_bars.specs.Bars.{Rule, breaks, session_in, col_in, placed_at, bar_of, header, fields_in, is_negative, is_at, says_bar, key_of, rows_in, bars_of}
 use Rattle.pl_bars.specs.Bars as rules
 use Rattle.pl_bars.specs.Rules.{IsBarRecord, IsNegative, IsRowRecord, IsBar, Breaks, AreBarsOf, IsBarsFault}
-use Rattle.pl_bars.proofs.BarSets.{same_number, number_same}
 use Rattle.pl_bars.proofs.BarFields.{fields_form, IsNegative-test, is_negative-test}
 use Rattle.pl_bars.proofs.BarsRead.{AreKept-read, ascend-from_keys, keys-from_ascend}
+use Rattle.pl_bars.proofs.BarSearch.{at_parts, at_true}
 
 -- ---- places that a test finds
-
-there : {A : Type 0} (xs : List A) (k : ℕ) (x : A) → slice_get xs k ≡ Some x → get_or xs k x ≡ x
-there xs k x e = let same : Some (get_or xs k x) ≡ Some x = sym (slice_get-get_or xs k x (slice_get_within xs k x e)) ∙ e in cc
 
 found : {A : Type 0} (p : A → Bool) (xs : List A) (k : ℕ) (d : A) → position p xs ≡ Some k → (slice_get xs k ≡ Some (get_or xs k d)) × (p (get_or xs k d) ≡ true)
 found p xs k d e = let it = position-Some p xs k d e in (slice_get-get_or xs k d it.0, it.1)
 
 found_nowhere : {A : Type 0} (p : A → Bool) (xs : List A) → position p xs ≡ None → (k : ℕ) (x : A) → slice_get xs k ≡ Some x → p x ≡ false
-found_nowhere p xs e k x s = ap p (sym (there xs k x s)) ∙ nowhere p xs e k x (slice_get_within xs k x s)
-
-same_day : (x day : ℤ) → int_eq x day ≡ true → x ≡ day
-same_day x day t = grind (arith, ints)
-
-day_same : (day : ℤ) → int_eq day day ≡ true
-day_same day = grind (arith, ints)
+found_nowhere p xs e k x s = ap p (sym (get_or_from_slice_get xs k x x s)) ∙ nowhere p xs e k x (slice_get_within xs k x s)
 
 session_found : (days : List ℤ) (day : ℤ) (s : ℕ) → position (λ d. int_eq d day) days ≡ Some s → slice_get days s ≡ Some day
-session_found days day s e = let it = found (λ d. int_eq d day) days s day e in it.0 ∙ ap Some (same_day (get_or days s day) day it.1)
+session_found days day s e = let it = found (λ d. int_eq d day) days s day e in it.0 ∙ ap Some (int_eq-true (get_or days s day) day it.1)
 
 no_session_found : (days : List ℤ) (day : ℤ) → position (λ d. int_eq d day) days ≡ None → (s : ℕ) → slice_get days s ≢ Some day
-no_session_found days day e s at = let t : int_eq day day ≡ false = found_nowhere (λ d. int_eq d day) days e s day at in let bad : true ≡ false = sym (day_same day) ∙ t in cc
+no_session_found days day e s at = let t : int_eq day day ≡ false = found_nowhere (λ d. int_eq d day) days e s day at in let bad : true ≡ false = sym (int_eq-itself day) ∙ t in cc
 
 -- a day has one session
 one_session : (days : List ℤ) → AreDays days → (s t : ℕ) (day : ℤ) → slice_get days s ≡ Some day → slice_get days t ≡ Some day → s ≡ t
@@ -70,7 +62,7 @@ one_session days up s t day e f = elim (cases_lt s t) [
     rising : (i j : ℕ) → i < j → slice_get days i ≡ Some day → slice_get days j ≡ Some day → day <ℤ day
     rising i j h p q =
         let lt : get_or days i day <ℤ get_or days j day = up.ascend i j day h (slice_get_within days j day q) in
-        rw (there days i day p, there days j day q) at lt
+        rw (get_or_from_slice_get days i day day p, get_or_from_slice_get days j day day q) at lt
 
 pub day_form : (days : List ℤ) → AreDays days → (day : ℤ) (session : ℕ) → (position (λ d. int_eq d day) days ≡ Some session) ↔ (slice_get days session ≡ Some day)
 day_form days up day session = (session_found days day session, back (position (λ d. int_eq d day) days) refl)
@@ -89,12 +81,6 @@ negative_tells f = (
   λ e. (let it = Any-from_list_any is_negative f.cells e in (it.0, it.1, it.2, it.3, IsNegative-test it.1 it.4)),
   λ any. list_any-from_Any is_negative f.cells (any.0, any.1, any.2, any.3, is_negative-test any.1 any.4),
 )
-
-at_parts : (col session : ℕ) (b : BarRow) → is_at col session b ≡ true → (b.col ≡ col) × (b.session ≡ session)
-at_parts col session b t = let p = and_parts (b.col == col) (b.session == session) t in (same_number _ _ p.0, same_number _ _ p.1)
-
-at_true : (col session : ℕ) (b : BarRow) → b.col ≡ col → b.session ≡ session → is_at col session b ≡ true
-at_true col session b e f = rw (number_same b.col col e, number_same b.session session f) refl
 
 place_tells : (before : List BarRow) (b : BarRow) → Decides (list_any (is_at b.col b.session) before) (Any (λ x. (x.col ≡ b.col) × (x.session ≡ b.session)) before)
 place_tells before b = (

@@ -5,7 +5,8 @@ use Rattle.std.specs.Str.{bytes_eq}
 use Rattle.std.proofs.lemmas.Slice.Eq.{bytes_eq-Decides}
 use Rattle.pl_spec.specs.declared.Column.{Column}
 use Rattle.pl_spec.specs.declared.Column.TheVariants.{OpenPrice, High, Low, Close, Volume}
-use Rattle.pl_bars.specs.ColumnNames.{column_in, column_name}
+use Rattle.pl_spec.specs.Names.{column_name}
+use Rattle.pl_bars.specs.ColumnNames.{column_in}
 
 -- what is found passes the test
 found : (p : Column → Bool) (cs : List Column) (c : Column) → find p cs ≡ Some c → p c ≡ true

@@ -19,6 +19,7 @@ use Rattle.pl_fixed.specs.Reading.{read}
 use Rattle.pl_lifetimes.specs.Assets.{sid_of}
 use Rattle.pl_bars.specs.declared.fields.Fields.{Fields}
 use Rattle.pl_spec.specs.Limits.{most_bars}
+use Rattle.pl_spec.specs.World.{column_number}
 
 -- what may be wrong with a file
 pub data Rule : Type 0 where
@@ -112,15 +113,8 @@ pub record AreBars (rows : List BarRow) : Type 0 where
 
 -- ---- their cells
 
-abbrev pub place : Column → ℕ
-place OpenPrice = 0
-place High = 1
-place Low = 2
-place Close = 3
-place Volume = 4
-
 abbrev pub cell_of : Column → BarRow → ℤ
-cell_of column b = slice_index_or b.cells (place column) (pos 0)
+cell_of column b = slice_index_or b.cells (column_number column) (pos 0)
 
 -- the cell of the bar of the column on the session, missing where there is none
 unfoldable pub cell_at : List BarRow → ℕ → Column → ℕ → ℤ

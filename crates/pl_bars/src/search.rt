@@ -2,7 +2,8 @@
 
 ghost use Rattle.std.specs.Prelude.{◌≡◌, ◌+◌, ◌<◌, ◌≤◌, length, position};
 ghost use Rattle.pl_spec.specs.Rounding.{IsCell};
-ghost use Rattle.pl_bars.specs.Bars.{AreBars, cell_at, cells_at, is_at, is_before, place};
+ghost use Rattle.pl_spec.specs.World.{column_number};
+ghost use Rattle.pl_bars.specs.Bars.{AreBars, cell_at, cells_at, is_at, is_before};
 ghost use Rattle.pl_bars.specs.BarPoint.{BarPoint};
 
 use pl_fixed::MISSING;
@@ -63,7 +64,7 @@ pub(crate) fn stands_before(row: &BarRow, col: usize, session: usize) -> bool
 
 // The place of a column's cell in a bar.
 pub(crate) fn place_of(column: Column) -> usize
-    ensures value { result ≡ place column }
+    ensures value { result ≡ column_number column }
     ensures few { result < 5 }
 {
     match column {

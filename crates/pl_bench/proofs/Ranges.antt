@@ -1,14 +1,15 @@
 -- The pipeline has a plan from session 252 on, whatever the days of the sessions are.
-use Rattle.std.proofs.Common.{◌≡◌, ℕ, zero, suc, ◌-◌, ℤ, pos, List, [], ◌∷◌, Some, None, slice_get, refl, sym, ap, subst, ◌∙◌, arith}
+use Rattle.std.proofs.Common.{◌≡◌, ℕ, zero, suc, ◌-◌, ℤ, pos, List, Some, slice_get, refl, subst, ◌∙◌, arith}
 use Rattle.std.proofs.lemmas.Int.{ints}
 use Rattle.pl_spec.specs.Window.{before}
-use Rattle.pl_spec.specs.Term.{Node, Input, TermInput}
+use Rattle.pl_spec.specs.Term.{Node, TermInput}
 use Rattle.pl_spec.specs.Graph.{reach, reads_at}
-use Rattle.pl_spec.specs.Lows.{Reads, input, mask, group, Needs, output, read, IsLow, least_reach}
+use Rattle.pl_spec.specs.Lows.{Reads, input, mask, group, Needs, output, read, least_reach}
+use Rattle.pl_spec.proofs.Windows.{before-zero}
 use Rattle.pl_terms.specs.Uses.{outputs}
 use Rattle.pl_planner.specs.declared.plans.PlanError.{PlanError}
 use Rattle.pl_planner.specs.declared.plans.PlanError.TheVariants.{TooEarly, TooDeep, Memory}
-use Rattle.pl_planner.specs.Plans.{IsPlanFault, IsDeepest}
+use Rattle.pl_planner.specs.Plans.{IsPlanFault}
 use Rattle.pl_bench.specs.Pipeline.{bench_pipeline, average_dollar_volume, top, returns, sector, rank}
 
 -- ---- the first session is late enough
@@ -23,9 +24,6 @@ reach-is days = refl
 abbrev IsPlain : Node → Type 0
 IsPlain n = (days : List ℤ) (i t : ℕ) (s : ℤ) → slice_get n.inputs i ≡ Some (TermInput t) → before (reads_at days n.kind s) (n.window - 1) ≡ s
 
-itself : (s : ℤ) → before s 0 ≡ s
-itself s = omega (arith, ints)
-
 reads-columns : IsPlain average_dollar_volume
 reads-columns days zero t s h = absurd (cc)
 reads-columns days (suc zero) t s h = absurd (cc)
@@ -38,10 +36,10 @@ reads-column days (suc i) t s h = absurd (cc)
 plain-node : (u : ℕ) (n : Node) → slice_get bench_pipeline.graph u ≡ Some n → IsPlain n
 unfolding bench_pipeline
 plain-node zero n h = let e : average_dollar_volume ≡ n = cc in subst IsPlain e reads-columns
-plain-node (suc zero) n h = let e : top ≡ n = cc in subst IsPlain e (λ days i t s at. itself s)
+plain-node (suc zero) n h = let e : top ≡ n = cc in subst IsPlain e (λ days i t s at. before-zero s)
 plain-node (suc (suc zero)) n h = let e : returns ≡ n = cc in subst IsPlain e reads-column
-plain-node (suc (suc (suc zero))) n h = let e : sector ≡ n = cc in subst IsPlain e (λ days i t s at. itself s)
-plain-node (suc (suc (suc (suc zero)))) n h = let e : rank ≡ n = cc in subst IsPlain e (λ days i t s at. itself s)
+plain-node (suc (suc (suc zero))) n h = let e : sector ≡ n = cc in subst IsPlain e (λ days i t s at. before-zero s)
+plain-node (suc (suc (suc (suc zero)))) n h = let e : rank ≡ n = cc in subst IsPlain e (λ days i t s at. before-zero s)
 plain-node (suc (suc (suc (suc (suc u))))) n h = absurd (cc)
 
 same-session : (days : List ℤ) (n : Node) (s : ℤ) (t : ℕ) (r : ℤ) → IsPlain n → Reads days n s t r → r ≡ s

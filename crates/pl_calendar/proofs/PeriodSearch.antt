@@ -1,13 +1,12 @@
 -- The first day of a period in days that ascend.
-use Rattle.std.proofs.Common.{◌≡◌, ℕ, ◌+◌, ◌<◌, ◌≤◌, true, false, ℤ, pos, ◌<ℤ◌, ◌≤ℤ◌, List, length, get_or, Some, refl, sym, ◌∙◌, ap, arith, option_map, unwrap_or, slice_get, inl, inr}
+use Rattle.std.proofs.Common.{◌≡◌, ℕ, ◌+◌, ◌<◌, ◌≤◌, true, false, ℤ, pos, ◌<ℤ◌, ◌≤ℤ◌, List, length, get_or, Some, sym, ap, arith, slice_get}
 use Rattle.std.specs.List.{position_or_len}
 use Rattle.std.specs.Int.RustNames.{int_lt}
 use Rattle.std.specs.Ordering.{int_eq}
-use Rattle.std.proofs.lemmas.Bool.{cases_lt}
 use Rattle.std.proofs.lemmas.Int.{ints}
 use Rattle.std.proofs.lemmas.Option.{slice_get-get_or}
 use Rattle.pl_spec.specs.declared.Frequency.{Frequency}
-use Rattle.pl_spec.specs.Periods.{period, same_period, first_session, period_start}
+use Rattle.pl_spec.specs.Periods.{period, same_period, period_start}
 use Rattle.pl_spec.proofs.Places.{first_at}
 use Rattle.pl_spec.proofs.PeriodsRise.{period-rises}
 use Rattle.pl_calendar.specs.Days.{AreDays}

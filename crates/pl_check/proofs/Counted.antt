@@ -12,19 +12,19 @@ use Rattle.pl_spec.specs.Term.{Term, absent, TermInput, Node, Graph, IsGraph, Me
 use Rattle.pl_terms.specs.Nodes.{Interned, interned}
 use Rattle.pl_terms.proofs.Interning.{Later, later-same, later-still, later-more, length-trees, IsPut, put, IsFull, refused}
 use Rattle.pl_check.specs.declared.operation.Operation.{Operation}
-use Rattle.pl_check.specs.declared.operation.Operation.TheVariants as op
-use Rattle.pl_check.specs.declared.operation.Parameter.TheVariants as parameter
-use Rattle.pl_check.specs.Values.{Value, Bars, Factor, Filter, Labels, Numbers, Number, Text, Bound, bound, given}
-use Rattle.pl_check.specs.Results.{constant, term_in, node_for, all_safe, like, result_for, names_after}
+use Rattle.pl_check.specs.Values.{Value, Bars, Factor, Filter, Labels, Numbers, Number, Text, Bound, bound}
+use Rattle.pl_check.specs.Results.{constant, node_for, result_for, names_after}
 use Rattle.pl_check.specs.Typed.{Terms, Found, found, constant_value, factor_value, asks_factor, place_value, option_bind, with_constants, with_node, node_made, made}
 use Rattle.pl_check.specs.Trees as by_tree
-use Rattle.pl_check.specs.Trees.{Meaning, Forest, After, after, with_trees, constant_tree, constant_of, factor_of, constant_in, settled, settled_trees, tree_for}
+use Rattle.pl_check.specs.Trees.{Meaning, Forest, After, with_trees, constant_tree, constant_of, factor_of, constant_in, settled, settled_trees, tree_for}
 use Rattle.pl_check.specs.Numbering.{AreFirsts, HasMany}
 use Rattle.pl_check.proofs.Extended.{many-later, IsOver}
 use Rattle.pl_check.proofs.Placing.{bind-some}
 use Rattle.pl_check.proofs.Few.{few-inputs}
 use Rattle.pl_check.proofs.Unnumbered.{unnumbered, bare, names-bare, result-bare}
 use Rattle.pl_check.proofs.Rooted.{tree_of, meaning_of, IsIn, AllIn, values, all-later, trees-later, all-append, tree-for, node-mentions}
+use Rattle.pl_check.proofs.Growing.{terms}
+use Rattle.pl_check.proofs.Sorted.{result-term}
 
 -- ---- one tree more
 
@@ -40,9 +40,6 @@ pub record Same (s : Terms) (f : Forest) : Type 0 where
   pub firsts : AreFirsts [] f.trees (trees s.graph)
   pub names : s.names ≡ f.names
   pub few : length s.graph ≤ most_terms
-
-abbrev pub terms : Graph → List (List ℕ) → Terms
-terms g names = record { graph = g; names = names }
 
 put-same : (s : Terms) (f : Forest) (n : Node) (i : Interned) (t : Term) → Same s f → IsPut s.graph n i → tree_over (trees s.graph) n ≡ t → Same (terms i.graph s.names) (with_trees f (t ∷ []))
 put-same s f n i t w p e = record {
@@ -272,16 +269,6 @@ pub record Means (s : Terms) (r : Found Value) (m : After Meaning) : Type 0 wher
   pub is : m.value ≡ meaning_of r.terms.graph r.value
   pub same : Same r.terms m.forest
 
-term-of-result : (o : Operation) (bs : List Bound) (t : ℕ) → term_in (result_for o bs t) ≡ Some t
-unfolding result_for
-term-of-result op.Downsample bs t = here (given bs parameter.AnyTerm)
-  where
-    here : (v : Option Value) → term_in (like v (all_safe bs) t) ≡ Some t
-    here None = refl
-    here (Some (Filter u)) = refl
-    here (Some v) = refl
-term-of-result o bs t = refl
-
 few-inputs-of : (o : Operation) (bs : List Bound) (names : List (List ℕ)) → length (node_for o bs names).inputs ≤ 3
 unfolding node_for
 few-inputs-of o bs names = few-inputs o bs
@@ -304,8 +291,8 @@ node-means o bs s f r (Some i) w k e h =
     let kept = put-same s f (node_for o bs s.names) i (tree_for o (map bare bs) ts f.names) w p tree in
     subst (λ (x : Found Value). Means s x (by_tree.with_node o (map bare bs) ts f)) same (record {
       later = p.later;
-      inside = λ x q. subst (λ y. y < length i.graph) (let y : Some i.number ≡ Some x = sym (term-of-result o bs i.number) ∙ q in let z : i.number ≡ x = cc in z) p.there;
-      is = meanings (result-bare o bs i.number) (ap Some (sym (p.tree ∙ tree)) ∙ sym (ap (option_map (term_at i.graph)) (term-of-result o bs i.number)));
+      inside = λ x q. subst (λ y. y < length i.graph) (let y : Some i.number ≡ Some x = sym (result-term o bs i.number) ∙ q in let z : i.number ≡ x = cc in z) p.there;
+      is = meanings (result-bare o bs i.number) (ap Some (sym (p.tree ∙ tree)) ∙ sym (ap (option_map (term_at i.graph)) (result-term o bs i.number)));
       same = record { graph = kept.graph; firsts = kept.firsts; names = sym (names-bare o bs s.names) ∙ ap (names_after o (map bare bs)) w.names; few = kept.few };
     })
 

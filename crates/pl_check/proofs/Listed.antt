@@ -1,7 +1,7 @@
 -- How long the lists of sids and of texts are.
 use Rattle.std.proofs.Common.{◌≡◌, ℕ, suc, ◌<◌, ◌≤◌, ◌==◌, nat_le, nat_lt, Bool, true, false, ◌&&◌, ◌||◌, cond, List, [], ◌∷◌, ◌++◌, length, map, filter, Option, Some, None, refl, sym, ap, subst, ◌∙◌, arith, bytes_eq, length-append}
 use Rattle.std.specs.Prelude.{is_some}
-use Rattle.std.proofs.lemmas.Bool.{and_parts}
+use Rattle.std.proofs.lemmas.Bool.{and_parts, and_from, or_right}
 use Rattle.std.proofs.lemmas.Bool.Decides.{nat_tests}
 use Rattle.std.proofs.lemmas.List.{length-map}
 use Rattle.pl_terms.specs.Sorts.{has_length}
@@ -16,15 +16,7 @@ use Rattle.pl_check.specs.Rules.{each, is_given, place_at, named_in, unless_give
 use Rattle.pl_check.specs.Results.{whole, with_sid, sorted_sids, values_given}
 use Rattle.pl_check.specs.Typed.{object_of}
 use Rattle.pl_check.specs.Standing.{Fits, has, is_few}
-use Rattle.pl_check.proofs.Lists.{same-one, true-false, needed}
-
-both-true : (a b : Bool) → a ≡ true → b ≡ true → (a && b) ≡ true
-both-true true b p q = q
-both-true false b p q = p
-
-or-right : (a b : Bool) → (a || b) ≡ true → a ≡ false → b ≡ true
-or-right true b h e = absurd (let no : true ≡ false = e in cc)
-or-right false b h e = h
+use Rattle.pl_check.proofs.Lists.{same-one, true-false, needed, or-right, same-self}
 
 -- ---- from the start
 
@@ -43,11 +35,6 @@ given-first : (b : Bound) (bs : List Bound) (p : Parameter) (a : Bool) → same_
 unfolding given
 given-first b bs p true h = rw h refl
 given-first b bs p false h = rw h refl
-
-same-self : (p : Parameter) → same_parameter p p ≡ true
-unfolding number_of
-same-self parameter.X = refl
-same-self p = refl
 
 behind-given : (bs : List Bound) (x : Bound) (p : Parameter) → is_given bs p ≡ true → is_given (bs ++ x ∷ []) p ≡ true
 unfolding given
@@ -146,10 +133,6 @@ element-place bs p v false true e f g h =
     (grind (arith, nat_tests), behind-given bs (bound p v) parameter.LabelClassifier (or-right (length bs == 0) (is_given bs parameter.LabelClassifier) g e))
 element-place bs p v false false e f g h = absurd (let no : None ≡ Some p = h in cc)
 
-or-yes : (a b : Bool) → b ≡ true → (a || b) ≡ true
-or-yes true b h = refl
-or-yes false b h = h
-
 elements-next : (begun : Bool) (bs : List Bound) (n : Option (List ℕ)) (p : Parameter) (v : Value) → is_few op.ElementOf bs ≡ true → parameter_of op.ElementOf begun bs n ≡ Some p
     → is_few op.ElementOf (bs ++ bound p v ∷ []) ≡ true
 unfolding place_at
@@ -158,13 +141,13 @@ elements-next begun bs (Some n) p v f h =
     let is = named-object n p y.0 in
     let r = and_parts (nat_le (length bs) 101) ((length bs == 0) || is_given bs parameter.LabelClassifier) f in
     let none = either (length bs) (is_given bs parameter.LabelClassifier) r.1 (ap (is_given bs) (sym is) ∙ y.1) in
-    both-true (nat_le (length (bs ++ bound p v ∷ [])) 101) _ (one-longer bs (bound p v) 101 (omega arith))
-    (or-yes (length (bs ++ bound p v ∷ []) == 0) _ (subst (λ q. is_given (bs ++ bound q v ∷ []) parameter.LabelClassifier ≡ true) (sym is) (last-given bs parameter.LabelClassifier v)))
+    and_from (nat_le (length (bs ++ bound p v ∷ [])) 101) _ (one-longer bs (bound p v) 101 (omega arith))
+    (or_right (length (bs ++ bound p v ∷ []) == 0) _ (subst (λ q. is_given (bs ++ bound q v ∷ []) parameter.LabelClassifier ≡ true) (sym is) (last-given bs parameter.LabelClassifier v)))
 elements-next true bs None p v f h = absurd (let no : None ≡ Some p = h in cc)
 elements-next false bs None p v f h =
     let r = and_parts (nat_le (length bs) 101) ((length bs == 0) || is_given bs parameter.LabelClassifier) f in
     let y = element-place bs p v (length bs == 0) (nat_lt (length bs) 101) refl refl r.1 h in
-    both-true (nat_le (length (bs ++ bound p v ∷ [])) 101) _ (one-longer bs (bound p v) 101 y.0) (or-yes (length (bs ++ bound p v ∷ []) == 0) _ y.1)
+    and_from (nat_le (length (bs ++ bound p v ∷ [])) 101) _ (one-longer bs (bound p v) 101 y.0) (or_right (length (bs ++ bound p v ∷ []) == 0) _ y.1)
 
 pub few-next : (o : Operation) (begun : Bool) (bs : List Bound) (n : Option (List ℕ)) (p : Parameter) (v : Value) → each (λ p v. has o p) bs ≡ true → is_few o bs ≡ true
     → parameter_of o begun bs n ≡ Some p → is_few o (bs ++ bound p v ∷ []) ≡ true
@@ -247,7 +230,7 @@ sids-some [] h = absurd (let no : 1 ≤ 0 = h in omega arith)
 sids-some (v ∷ vs) h = with-some (whole (number_in v)) (sorted_sids vs)
 
 between : (low high n : ℕ) → low ≤ n → n ≤ high → (nat_le low n && nat_le n high) ≡ true
-between low high n h k = both-true (nat_le low n) (nat_le n high) (grind (arith, nat_tests)) (grind (arith, nat_tests))
+between low high n h k = and_from (nat_le low n) (nat_le n high) (grind (arith, nat_tests)) (grind (arith, nat_tests))
 
 is-some : (o : Option Value) (v : Value) → o ≡ Some v → is_some o ≡ true
 is-some o v h = ap is_some h

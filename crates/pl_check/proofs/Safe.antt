@@ -2,6 +2,7 @@
 use Rattle.std.proofs.Common.{◌≡◌, ℕ, zero, suc, Bool, true, false, ◌&&◌, ◌||◌, not, cond, List, [], ◌∷◌, ◌++◌, map, Option, Some, None, slice_get, refl, sym, ap, subst, ◌∙◌, ◌⊎◌, inl, inr}
 use Rattle.std.specs.Prelude.{option_and_then}
 use Rattle.std.specs.List.{list_all, list_any, filter_map, cons_option}
+use Rattle.std.proofs.Math.Bool.{or-true, not-or_self}
 use Rattle.pl_spec.specs.declared.Column.{Column}
 use Rattle.pl_spec.specs.Kind.{Kind}
 use Rattle.pl_spec.specs.Term.{Graph, Node, Input, BarColumn, TermInput}
@@ -10,13 +11,13 @@ use Rattle.pl_check.specs.declared.operation.Operation.{Operation}
 use Rattle.pl_check.specs.declared.operation.Operation.TheVariants as op
 use Rattle.pl_check.specs.declared.operation.Parameter.{Parameter}
 use Rattle.pl_check.specs.declared.operation.Parameter.TheVariants as parameter
-use Rattle.pl_check.specs.Parameters.{number_of, same_parameter}
+use Rattle.pl_check.specs.Parameters.{same_parameter}
 use Rattle.pl_check.specs.Values.{Value, Bars, Factor, Filter, Labels, Numbers, Number, Text, Bound, given, is_safe, is_filter, is_bars}
 use Rattle.pl_check.specs.Operations.{parameters}
 use Rattle.pl_check.specs.Rules.{each, takes, is_safe_for}
 use Rattle.pl_check.specs.Results.{kind_for, result_for, columns_of, gives_input, input_in, input_for, inputs_for, all_safe}
 use Rattle.pl_check.specs.Standing.{Stands, AllStand}
-use Rattle.pl_check.proofs.Lists.{all-has, test-given, stand-given}
+use Rattle.pl_check.proofs.Lists.{all-has, test-given, stand-given, same-self}
 
 -- a value that is safe, as an input
 pub value-safe : (g : Graph) (v : Value) (j : ℕ) → Stands g v → is_safe v ≡ true → input_in v ≡ Some (TermInput j) → IsSafe g j
@@ -39,17 +40,8 @@ safe-kept g h k f (of_inputs n e s r) = of_inputs n (f k n e) s (λ i j q. safe-
 abbrev From : List Bound → List Parameter → ℕ → Type 0
 From bs ps j = (p : Parameter) × (v : Value) × (list_any (same_parameter p) ps ≡ true) × (gives_input p ≡ true) × (given bs p ≡ Some v) × (input_in v ≡ Some (TermInput j))
 
-same-self : (q : Parameter) → same_parameter q q ≡ true
-unfolding number_of
-same-self parameter.X = refl
-same-self q = refl
-
-or-one : (a : Bool) → (a || true) ≡ true
-or-one true = refl
-or-one false = refl
-
 later : (bs : List Bound) (q : Parameter) (ps : List Parameter) (j : ℕ) → From bs ps j → From bs (q ∷ ps) j
-later bs q ps j r = (r.0, r.1, ap (λ b. same_parameter r.0 q || b) r.2 ∙ or-one (same_parameter r.0 q), r.3, r.4, r.5)
+later bs q ps j r = (r.0, r.1, ap (λ b. same_parameter r.0 q || b) r.2 ∙ or-true (same_parameter r.0 q), r.3, r.4, r.5)
 
 given-input : (a : Bool) (o : Option Value) (j : ℕ) → cond a (option_and_then input_in o) None ≡ Some (TermInput j) → (a ≡ true) × ((v : Value) × (o ≡ Some v) × (input_in v ≡ Some (TermInput j)))
 given-input true (Some v) j h = (refl, (v, refl, h))
@@ -161,22 +153,18 @@ abbrev pub is_like : Operation → Bool
 is_like op.Downsample = true
 is_like o = false
 
-self-or : (a : Bool) → (not a || a) ≡ true
-self-or true = refl
-self-or false = refl
-
 result-called : (o : Operation) (bs : List Bound) (names : List (List ℕ)) (t : ℕ) → is_like o ≡ false → SafeResult (kind_for o bs names) (all_safe bs) (result_for o bs t)
 unfolding kind_for result_for is_safe_kind is_safe_over
-result-called op.Demean bs names t h = self-or (all_safe bs)
-result-called op.Add bs names t h = self-or (all_safe bs)
-result-called op.Sub bs names t h = self-or (all_safe bs)
-result-called op.Mul bs names t h = self-or (all_safe bs)
-result-called op.Div bs names t h = self-or (all_safe bs)
-result-called op.Neg bs names t h = self-or (all_safe bs)
-result-called op.Abs bs names t h = self-or (all_safe bs)
-result-called op.Clip bs names t h = self-or (all_safe bs)
-result-called op.FillNa bs names t h = self-or (all_safe bs)
-result-called op.IfElse bs names t h = self-or (all_safe bs)
+result-called op.Demean bs names t h = not-or_self (all_safe bs)
+result-called op.Add bs names t h = not-or_self (all_safe bs)
+result-called op.Sub bs names t h = not-or_self (all_safe bs)
+result-called op.Mul bs names t h = not-or_self (all_safe bs)
+result-called op.Div bs names t h = not-or_self (all_safe bs)
+result-called op.Neg bs names t h = not-or_self (all_safe bs)
+result-called op.Abs bs names t h = not-or_self (all_safe bs)
+result-called op.Clip bs names t h = not-or_self (all_safe bs)
+result-called op.FillNa bs names t h = not-or_self (all_safe bs)
+result-called op.IfElse bs names t h = not-or_self (all_safe bs)
 result-called op.Returns bs names t h = refl
 result-called op.PercentChange bs names t h = refl
 result-called op.RateOfChangePercentage bs names t h = refl

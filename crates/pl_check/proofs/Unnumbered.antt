@@ -1,7 +1,6 @@
 -- Rules, kinds, windows and sorts look at no number of a term.
 use Rattle.std.proofs.Common.{◌≡◌, ℕ, ℤ, Bool, true, false, ◌&&◌, ◌||◌, cond, List, [], ◌∷◌, ◌++◌, map, Option, Some, None, option_map, pos, refl, sym, ap, ◌∙◌}
 use Rattle.std.specs.Prelude.{filter, is_some, option_and_then}
-use Rattle.std.specs.List.{list_all}
 use Rattle.std.proofs.lemmas.List.{length-map, map-append}
 use Rattle.std.specs.Int.RustNames.{int_le}
 use Rattle.pl_spec.specs.Kind as kind
@@ -17,6 +16,7 @@ use Rattle.pl_check.specs.Operations.{parameters, equal_to, unequal_to, operator
 use Rattle.pl_check.specs.Rules.{Written, place_at, named_in, is_given, unless_given, parameter_of, has_all, form, takes, is_whole, is_percent, number_given, is_within, is_window, is_safe_for, each, broken}
 use Rattle.pl_check.specs.Results.{whole, percent_given, text_given, values_given, method_of, order_of, frequency_of, with_sid, sorted_sids, name_number, with_name, kind_for, names_after, window_without, window_for, all_safe, like, result_for}
 use Rattle.pl_check.specs.Typed.{first_of, object_of, second_of, operands_of, is_storable, is_term_filter}
+use Rattle.pl_check.proofs.Lists.{given-cons, all-same}
 
 -- a value whose term has the number 0
 abbrev pub unnumbered : Value → Value
@@ -106,13 +106,8 @@ safe-for-bare v q = refl
 
 -- ---- what a parameter is given
 
-given-first : (b : Bound) (bs : List Bound) (p : Parameter) (a : Bool) → same_parameter b.parameter p ≡ a → given (b ∷ bs) p ≡ cond a (Some b.value) (given bs p)
-unfolding given
-given-first b bs p true h = rw h refl
-given-first b bs p false h = rw h refl
-
 pub given-is : (b : Bound) (bs : List Bound) (p : Parameter) → given (b ∷ bs) p ≡ cond (same_parameter b.parameter p) (Some b.value) (given bs p)
-given-is b bs p = given-first b bs p (same_parameter b.parameter p) refl
+given-is b bs p = given-cons b bs p (same_parameter b.parameter p) refl
 
 pub given-bare : (bs : List Bound) (p : Parameter) → given (map bare bs) p ≡ option_map unnumbered (given bs p)
 unfolding given
@@ -285,10 +280,6 @@ is-given-bare bs p = ap is_some (given-bare bs p) ∙ here (given bs p)
     here : (o : Option Value) → is_some (option_map unnumbered o) ≡ is_some o
     here None = refl
     here (Some v) = refl
-
-all-same : (f g : Parameter → Bool) (ps : List Parameter) → ((p : Parameter) → f p ≡ g p) → list_all f ps ≡ list_all g ps
-all-same f g [] h = refl
-all-same f g (p ∷ ps) h = ap (λ a. a && list_all f ps) (h p) ∙ ap (λ a. g p && a) (all-same f g ps h)
 
 has-all-bare : (o : Operation) (bs : List Bound) → has_all o (map bare bs) ≡ has_all o bs
 has-all-bare o bs = all-same (λ p. is_optional p || is_given (map bare bs) p) (λ p. is_optional p || is_given bs p) (parameters o) (λ p. ap (λ a. is_optional p || a) (is-given-bare bs p))

@@ -69,11 +69,6 @@ same-derivation w v r p t u a b d k e f g h i =
 same-count : (w v : World) (p : Pipeline) (t a b d : ℕ) → w ≡ v → a ≡ b → length (facts_for w p (Worth t a (pos d))) ≡ length (facts_for v p (Worth t b (pos d)))
 same-count w v p t a b d e h = ap (λ x. length (facts_for x p (Worth t a (pos d)))) e ∙ ap (λ x. length (facts_for v p (Worth t x (pos d)))) h
 
--- a world that is lent
-pub lent-world : (v : lent.World) (o : OwnedWorld) → v.sessions.now ≡ o.sessions → v.assets.now ≡ o.assets → v.labels.now ≡ o.labels → v.bars.now ≡ o.bars → v.adjustments.now ≡ o.adjustments
-    → world_of v ≡ owned_world o
-lent-world v o s a l b x = rw (s, a, l, b, x) refl
-
 module _ (v : lent.World) (o : OwnedWorld) (p : Pipeline) (t col d : ℕ) (same : world_of v ≡ owned_world o) (assets : v.assets.now ≡ o.assets) where
   pub lent-lines : (r : Result (List Line) ExplainError) → IfOk r (λ ls. ls ≡ derivation (world_of v) p t (sid_at v.assets.now col) (pos d))
       → IfOk r (λ ls. ls ≡ derivation (owned_world o) p t (sid_at o.assets col) (pos d))

@@ -1,7 +1,7 @@
 -- From the end of a command to the status and the line of the program.
-use Rattle.std.proofs.Common.{◌≡◌, ◌⊎◌, inl, inr, ℕ, List, [], length, Bool, arith, IsTrue, IsSome, Option, Some, None, Result, Ok, Err, refl, subst, ◌∙◌, append-nil, MatchOption, IfSome, option_map, Bor}
+use Rattle.std.proofs.Common.{◌≡◌, ◌⊎◌, inl, inr, ℕ, List, [], length, Bool, arith, IsTrue, IsSome, Option, Some, None, Result, Ok, Err, refl, ◌∙◌, append-nil, MatchOption, option_map, Bor}
 use Rattle.std.specs.Option.{option_copied}
-use Rattle.pl_words.specs.Request.{Request, HasChunk, adjustments_of}
+use Rattle.pl_words.specs.Request.{Request, adjustments_of}
 use Rattle.pl_words.specs.Views.{request_of}
 use Rattle.pl_words.specs.declared.request.Request.{Request as Code}
 use Rattle.pl_judge.specs.declared.fault.Fault.{Fault}
@@ -165,10 +165,6 @@ pub asked-lent : (words : Option Request) (asked : Option Code) (lent : Option (
     → option_copied lent ≡ asked → words ≡ option_map (λ q. request_of q.now) lent
 asked-lent words asked None h e = let g = rw (← e) at h in g
 asked-lent words asked (Some r) h e = let g = rw (← e) at h in g
-
-pub chunk-lent : (words : Option Request) (asked : Option Code) (lent : Option (Bor Code)) → MatchOption asked (words ≡ None) (λ r. words ≡ Some (request_of r))
-    → option_copied lent ≡ asked → IfSome words HasChunk → IfSome (option_map (λ q. request_of q.now) lent) HasChunk
-chunk-lent words asked lent h e fits = subst (λ o. IfSome o HasChunk) (asked-lent words asked lent h e) fits
 
 -- ---- where memory ran out before the words were read
 

@@ -5,11 +5,11 @@ use Rattle.pl_spec.specs.World.{World}
 use Rattle.pl_spec.specs.Table.{Pipeline, Row, table, cells}
 use Rattle.pl_spec.specs.Text.{text}
 use Rattle.pl_spec.specs.Graph.{bound}
+use Rattle.pl_spec.specs.Limits.{cut}
 use Rattle.pl_terms.specs.Uses.{outputs}
 use Rattle.pl_plan_text.specs.Text.{plan_text}
 use Rattle.pl_syntax.specs.Canonical.{script_text}
 use Rattle.pl_planner.specs.Plans.{Planned, IsPlanOf}
-use Rattle.pl_exec.specs.Tasks.{cut}
 use Rattle.pl_bench.specs.Numbers.{TakesSteps as TakesBenchSteps, bench_line}
 use Rattle.pl_payouts.specs.Texts.{payouts_text}
 use Rattle.pl_derivation.specs.Texts as lines

@@ -1,20 +1,16 @@
 -- What the language allows is what the calls ask for.
-use Rattle.std.proofs.Common.{◌≡◌, ℕ, ◌≤◌, true, arith, nat_le}
+use Rattle.std.proofs.Common.{◌≡◌, ℕ, true, leb-true}
 use Rattle.std.proofs.lemmas.Bool.{and_parts}
-use Rattle.std.proofs.lemmas.Bool.Decides.{nat_tests}
 use Rattle.pl_spec.specs.Kind.{Kind}
 use Rattle.pl_spec.specs.Kind.Kind.{Constant, Label, StaticSids, Window, Point, LabelTest, Cross, Downsample}
 use Rattle.pl_spec.specs.Kind.CrossKind.{Rank, Demean, ZScore, Quantiles, Top, Bottom, PercentileBetween, PeerCount}
 use Rattle.pl_terms.specs.Sorts.{has_parameters}
 use Rattle.pl_cross.specs.Section.{HasParameters}
 
-at-most : (a b : ℕ) → nat_le a b ≡ true → a ≤ b
-at-most a b e = grind (arith, nat_tests)
-
 pub allowed-right : (k : Kind) (w names : ℕ) → has_parameters k w names ≡ true → HasParameters k
 unfolding has_parameters
-allowed-right (Cross (Quantiles bins)) w names e = let p = and_parts _ _ e in (at-most 2 bins p.0, at-most bins 100 p.1)
-allowed-right (Cross (PercentileBetween low high)) w names e = let p = and_parts _ _ e in (at-most low high p.0, at-most high 10000 p.1)
+allowed-right (Cross (Quantiles bins)) w names e = let p = and_parts _ _ e in (leb-true 2 bins p.0, leb-true bins 100 p.1)
+allowed-right (Cross (PercentileBetween low high)) w names e = let p = and_parts _ _ e in (leb-true low high p.0, leb-true high 10000 p.1)
 allowed-right (Cross (Rank method order)) w names e = tt
 allowed-right (Cross Demean) w names e = tt
 allowed-right (Cross ZScore) w names e = tt

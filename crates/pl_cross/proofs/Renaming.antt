@@ -1,8 +1,10 @@
 -- Places under other names that ascend as they do.
-use Rattle.std.proofs.Common.{◌≡◌, ℕ, suc, ◌*◌, ◌&&◌, ℤ, pos, List, [], ◌∷◌, length, map, refl, sym, ◌∙◌, ap, nat_lt, nat_le}
+use Rattle.std.proofs.Common.{◌≡◌, ℕ, ◌*◌, ◌&&◌, ℤ, pos, List, map, refl, sym, ◌∙◌, ap, nat_lt, nat_le}
 use Rattle.std.proofs.Math.Path.{fun_ext}
 use Rattle.std.specs.List.{count_by}
 use Rattle.std.specs.Ordering.{int_eq}
+use Rattle.std.proofs.lemmas.Simd.{map-map}
+use Rattle.std.proofs.lemmas.List.{length-map}
 use Rattle.pl_spec.specs.Rounding.{MILLION}
 use Rattle.pl_spec.specs.Formula.{truth}
 use Rattle.pl_spec.specs.declared.RankMethod.{RankMethod}
@@ -14,14 +16,6 @@ use Rattle.pl_spec.specs.Kind.CrossKind.{Rank, Demean, ZScore, Quantiles, Top, B
 use Rattle.pl_spec.specs.Cross.{Entry, values, earlier_same, ordinal, rank, cross}
 use Rattle.pl_spec.proofs.Counts.{count-map}
 
-pub map-twice : {X Y Z : Type 0} (f : Y → Z) (h : X → Y) (xs : List X) → map f (map h xs) ≡ map (λ x. f (h x)) xs
-map-twice f h [] = refl
-map-twice f h (x ∷ xs) = ap (λ l. f (h x) ∷ l) (map-twice f h xs)
-
-pub length-map : {X Y : Type 0} (f : X → Y) (xs : List X) → length (map f xs) ≡ length xs
-length-map f [] = refl
-length-map f (x ∷ xs) = ap suc (length-map f xs)
-
 -- the values of some places, each under its name
 abbrev pub named : (ℕ → ℕ) → (ℕ → ℤ) → List ℕ → List Entry
 named name f js = map (λ j. (name j, f j)) js
@@ -31,7 +25,7 @@ placed f js = named (λ j. j) f js
 
 module _ (name : ℕ → ℕ) (rising : (i j : ℕ) → nat_lt (name i) (name j) ≡ nat_lt i j) (f : ℕ → ℤ) (js : List ℕ) where
   values-named : values (named name f js) ≡ values (placed f js)
-  values-named = map-twice (λ (e : Entry). e.1) (λ j. (let e : Entry = (name j, f j) in e)) js ∙ sym (map-twice (λ (e : Entry). e.1) (λ j. (let e : Entry = (j, f j) in e)) js)
+  values-named = map-map (λ (e : Entry). e.1) (λ j. (let e : Entry = (name j, f j) in e)) js ∙ sym (map-map (λ (e : Entry). e.1) (λ j. (let e : Entry = (j, f j) in e)) js)
 
   earlier-named : (a : ℕ) (x : ℤ) → earlier_same (name a) x (named name f js) ≡ earlier_same a x (placed f js)
   earlier-named a x =
@@ -58,4 +52,4 @@ module _ (name : ℕ → ℕ) (rising : (i j : ℕ) → nat_lt (name i) (name j)
   cross-named (Top n) a x = ap (λ r. truth (nat_le r n)) (ordinal-named Descending a x)
   cross-named (Bottom n) a x = ap (λ r. truth (nat_le r n)) (ordinal-named Ascending a x)
   cross-named (PercentileBetween low high) a x = rw (values-named) refl
-  cross-named PeerCount a x = ap (λ n. pos (n * MILLION)) (length-map (λ j. (let e : Entry = (name j, f j) in e)) js ∙ sym (length-map (λ j. (let e : Entry = (j, f j) in e)) js))
+  cross-named PeerCount a x = ap (λ n. pos (n * MILLION)) (length-map js (λ j. (let e : Entry = (name j, f j) in e)) ∙ sym (length-map js (λ j. (let e : Entry = (j, f j) in e))))

@@ -1,9 +1,11 @@
 -- A cross-section over the arrays of a session is the cross-section of the definitions.
-use Rattle.std.proofs.Common.{◌≡◌, ◌⊎◌, ℕ, zero, suc, ◌+◌, ◌-◌, ◌*◌, ◌<◌, ◌≤◌, Bool, true, false, ◌&&◌, if◌then◌else◌, ℤ, pos, List, [], ◌∷◌, length, map, filter, get_or, Option, Some, None, refl, sym, ◌∙◌, ap, arith, nat_lt, ◌==◌, slice_get, inl, inr, AllPairs}
+use Rattle.std.proofs.Common.{◌≡◌, ◌⊎◌, ℕ, zero, suc, ◌+◌, ◌-◌, ◌*◌, ◌<◌, ◌≤◌, Bool, true, false, ◌&&◌, if◌then◌else◌, ℤ, pos, List, [], ◌∷◌, length, map, filter, get_or, Option, Some, None, refl, sym, ◌∙◌, ap, arith, nat_lt, ◌==◌, slice_get, inl, inr, AllPairs, le-ltb, lt-ltb}
 use Rattle.std.specs.List.{range_with_len, list_any}
 use Rattle.std.specs.Ordering.{int_eq}
 use Rattle.std.proofs.lemmas.Bool.{cases_lt, cases_eq}
 use Rattle.std.proofs.lemmas.Bool.Decides.{nat_tests}
+use Rattle.std.proofs.lemmas.Simd.{map-map}
+use Rattle.std.proofs.lemmas.List.{length-map}
 use Rattle.pl_spec.specs.Rounding.{MISSING, MILLION, is_present}
 use Rattle.pl_spec.specs.World.{World, exists}
 use Rattle.pl_spec.specs.Kind.{CrossKind}
@@ -19,29 +21,14 @@ use Rattle.pl_spec.specs.NodeValue.{meaning_of, input_part, number_part}
 use Rattle.pl_spec.specs.Table.{in_array}
 use Rattle.pl_spec.specs.Formula.{is_true}
 use Rattle.pl_spec.proofs.Unfolds.{value_at-node}
+use Rattle.pl_spec.proofs.Lists.{filter-map, filter-twice}
 use Rattle.pl_cross.specs.Listing.{labels_for, group_at}
 use Rattle.pl_cross.specs.Arrays.{sid_in, IsArray, IsNumbered, IsLabelled, IsGroupArray, HasNumbers, Columns, AreArrays, AreNodeArrays, empty_number, section_at, section_in}
 use Rattle.pl_cross.proofs.Members.{not-own}
-use Rattle.pl_cross.proofs.Renaming.{map-twice, length-map, named, placed, cross-named}
+use Rattle.pl_cross.proofs.Renaming.{named, placed, cross-named}
 use Rattle.pl_cross.proofs.Codes.{present_code, same_numbers, same_labels}
 
 -- ---- lists by their places
-
-filter-and : {X : Type 0} (p q : X → Bool) (xs : List X) → filter p (filter q xs) ≡ filter (λ x. q x && p x) xs
-filter-and p q [] = refl
-filter-and p q (x ∷ xs) = here (q x) refl (filter-and p q xs)
-  where
-    here : (b : Bool) → q x ≡ b → filter p (filter q xs) ≡ filter (λ x. q x && p x) xs → filter p (filter q (x ∷ xs)) ≡ filter (λ x. q x && p x) (x ∷ xs)
-    here true e ih = rw (e, ih) refl
-    here false e ih = rw (e, ih) refl
-
-filter-map : {X Y : Type 0} (p : Y → Bool) (f : X → Y) (xs : List X) → filter p (map f xs) ≡ map f (filter (λ x. p (f x)) xs)
-filter-map p f [] = refl
-filter-map p f (x ∷ xs) = here (p (f x)) refl (filter-map p f xs)
-  where
-    here : (b : Bool) → p (f x) ≡ b → filter p (map f xs) ≡ map f (filter (λ x. p (f x)) xs) → filter p (map f (x ∷ xs)) ≡ map f (filter (λ x. p (f x)) (x ∷ xs))
-    here true e ih = rw (e, ih) refl
-    here false e ih = rw (e, ih) refl
 
 -- what two filtered lists of places give is one where each place gives one
 map-filter-range : {X : Type 0} (f g : ℕ → X) (p q : ℕ → Bool) (low n : ℕ) → ((j : ℕ) → low ≤ j → j < low + n → (p j ≡ q j) × (f j ≡ g j))
@@ -92,12 +79,6 @@ last_most sids up j h = elim (cases_eq j (length sids - 1)) [
   | inr p ↦ (let l : get_or sids j 0 < get_or sids (length sids - 1) 0 = up j (length sids - 1) 0 (omega arith) (omega arith) in omega arith)
 ]
 
-lt_true : (a b : ℕ) → a < b → nat_lt a b ≡ true
-lt_true a b h = grind (arith, nat_tests)
-
-lt_false : (a b : ℕ) → b ≤ a → nat_lt a b ≡ false
-lt_false a b h = grind (arith, nat_tests)
-
 names_up : (sids : List ℕ) → AllPairs (λ a b. a < b) sids → (i j : ℕ) → i < j → name_at sids i < name_at sids j
 names_up sids up i j h = elim (cases_lt j (length sids)) [
   | inl p ↦ (let l : get_or sids i 0 < get_or sids j 0 = up i j 0 h p in let a = name_low sids i (omega arith) in let b = name_low sids j p in omega arith)
@@ -109,8 +90,8 @@ names_up sids up i j h = elim (cases_lt j (length sids)) [
 
 names_rise : (sids : List ℕ) → AllPairs (λ a b. a < b) sids → (i j : ℕ) → nat_lt (name_at sids i) (name_at sids j) ≡ nat_lt i j
 names_rise sids up i j = elim (cases_lt i j) [
-  | inl p ↦ lt_true (name_at sids i) (name_at sids j) (names_up sids up i j p) ∙ sym (lt_true i j p)
-  | inr p ↦ lt_false (name_at sids i) (name_at sids j) (no_more j i p) ∙ sym (lt_false i j p)
+  | inl p ↦ lt-ltb (name_at sids i) (name_at sids j) (names_up sids up i j p) ∙ sym (lt-ltb i j p)
+  | inr p ↦ le-ltb (name_at sids i) (name_at sids j) (no_more j i p) ∙ sym (le-ltb i j p)
 ]
   where
     no_more : (j i : ℕ) → j ≤ i → name_at sids j ≤ name_at sids i
@@ -195,10 +176,10 @@ module _ (w : World) (k : CrossKind) (x mask group : Part) (d : ℤ) (sids : Lis
       let sid : ℕ → ℕ = λ j. get_or sids (j - 0) 0 in
       let en : ℕ → Entry = entry x d in
       ap (λ l. map en (filter cf l)) s.all
-      ∙ ap (map en) (filter-and cf ex sids)
+      ∙ ap (map en) (filter-twice cf ex sids)
       ∙ ap (λ l. map en (filter (λ b. ex b && cf b) l)) (places sids 0)
       ∙ ap (map en) (filter-map (λ b. ex b && cf b) sid (range_with_len 0 (length sids)))
-      ∙ map-twice en sid (filter (λ j. ex (sid j) && cf (sid j)) (range_with_len 0 (length sids)))
+      ∙ map-map en sid (filter (λ j. ex (sid j) && cf (sid j)) (range_with_len 0 (length sids)))
       ∙ map-filter-range (λ j. en (sid j)) (λ j. (let e : Entry = (name_at sids j, numbers j) in e)) (λ j. ex (sid j) && cf (sid j)) (counts_at vs keep (labels_for k vs labels) i) 0 (length sids)
       (λ j l m.
       let j_is : j - 0 ≡ j = omega arith in
@@ -222,7 +203,7 @@ module _ (w : World) (k : CrossKind) (x mask group : Part) (d : ℤ) (sids : Lis
   unfolding cross
   crossed i h (inl peers) =
       ap (λ q. cross q (named (name_at sids) numbers (counting i)) (name_at sids i) (numbers i)) peers
-      ∙ ap (λ n. pos (n * MILLION)) (length-map (λ j. (let e : Entry = (name_at sids j, numbers j) in e)) (counting i) ∙ sym (length-map (λ j. (let e : Entry = (j, at vs j) in e)) (counting i)))
+      ∙ ap (λ n. pos (n * MILLION)) (length-map (counting i) (λ j. (let e : Entry = (name_at sids j, numbers j) in e)) ∙ sym (length-map (counting i) (λ j. (let e : Entry = (j, at vs j) in e))))
       ∙ ap (λ q. cross q (placed (at vs) (counting i)) i (at vs i)) (sym peers)
   crossed i h (inr numbered) =
       ap (λ l. cross k l (name_at sids i) (numbers i)) same_values

@@ -1,11 +1,12 @@
 -- Where a day begins a period, it is the first session of it; else that session stays.
-use Rattle.std.proofs.Common.{◌≡◌, ℕ, suc, ◌<◌, ◌-◌, true, false, not, ℤ, pos, ◌<ℤ◌, ◌≤ℤ◌, List, [], ◌∷◌, ◌++◌, length, get_or, Some, option_map, unwrap_or, slice_get, refl, sym, ◌∙◌, ap, arith, All}
+use Rattle.std.proofs.Common.{◌≡◌, ℕ, suc, ◌<◌, ◌-◌, true, false, not, ℤ, pos, ◌≤ℤ◌, List, [], ◌∷◌, ◌++◌, length, get_or, Some, option_map, unwrap_or, slice_get, refl, sym, ◌∙◌, ap, arith, All}
 use Rattle.std.proofs.lemmas.Bool.{true≢false}
 use Rattle.std.proofs.lemmas.Int.{ints}
 use Rattle.std.proofs.lemmas.List.{get_or_append_left}
 use Rattle.std.proofs.lemmas.List.Elements.{All-append, All-cons}
 use Rattle.std.specs.List.{position_or_len}
 use Rattle.std.specs.Ordering.{int_eq}
+use Rattle.std.specs.Int.Signed.{≤ℤ_refl}
 use Rattle.circular_buffer.proofs.Places.{slice_get-append_left, slice_get-append_right}
 use Rattle.pl_spec.specs.declared.Frequency.{Frequency}
 use Rattle.pl_spec.specs.Periods.{period, same_period, first_session, period_start}
@@ -14,7 +15,8 @@ use Rattle.pl_spec.specs.Term.{term_at}
 use Rattle.pl_spec.specs.Window.{before}
 use Rattle.pl_spec.proofs.Places.{first_at}
 use Rattle.pl_spec.proofs.PeriodsRise.{period-rises}
-use Rattle.pl_laws.proofs.Starts.{eq_self, start-same, start-within}
+use Rattle.pl_spec.proofs.Signed.{int_eq-itself, lt-is-le, eq-le}
+use Rattle.pl_laws.proofs.Starts.{start-same, start-within}
 use Rattle.pl_cross.specs.Arrays.{sid_in}
 use Rattle.pl_rings.specs.Days.{Start, FedDay, fed, days_of, last_day, last_session, IsStart, AreFed}
 use Rattle.pl_rings.proofs.Fed.{length-days, all_before}
@@ -23,6 +25,7 @@ use Rattle.pl_day_rows.specs.declared.turn.TermCells.{TermCells}
 use Rattle.pl_day_rows.specs.Rows.{sids_of}
 use Rattle.pl_day_rows.specs.Turns.{cell_on}
 use Rattle.pl_day_rows.specs.Held.{HoldsTerm}
+use Rattle.pl_day_rows.proofs.DayByDay.{fed_texts}
 use Rattle.pl_daily.specs.declared.starts.StartCells.{StartCells}
 use Rattle.pl_daily.specs.Terms.{HoldsStart, begins}
 
@@ -45,12 +48,6 @@ apart a b c h l t = grind (arith, ints)
 alike : (a b : ℤ) → not (int_eq a b) ≡ false → a ≡ b
 alike a b t = grind (arith, ints)
 
-not_after : (x y : ℤ) → x <ℤ y → x ≤ℤ y
-not_after x y h = omega (arith, ints)
-
-itself : (x : ℤ) → x ≤ℤ x
-itself x = omega (arith, ints)
-
 module _ (f : Frequency) (g : Start) (next now : FedDay) (earlier : List FedDay) (are : AreFed g (next ∷ now ∷ earlier)) where
   abbrev xs : List ℤ
   xs = days_of (now ∷ earlier)
@@ -62,19 +59,19 @@ module _ (f : Frequency) (g : Start) (next now : FedDay) (earlier : List FedDay)
   long = length-days (now ∷ earlier)
 
   up_to_now : All (λ x. x ≤ℤ now.day) xs
-  up_to_now = All-append (λ x. x ≤ℤ now.day) (days_of earlier) (now.day ∷ []) (λ k d l. not_after _ now.day ((all_before g earlier are.0.0 now.day are.0.1).0 k d l))
-      (All-cons (λ x. x ≤ℤ now.day) now.day [] (itself now.day) (λ k d l. absurd (omega (arith, l))))
+  up_to_now = All-append (λ x. x ≤ℤ now.day) (days_of earlier) (now.day ∷ []) (λ k d l. lt-is-le _ now.day ((all_before g earlier are.0.0 now.day are.0.1).0 k d l))
+      (All-cons (λ x. x ≤ℤ now.day) now.day [] (≤ℤ_refl now.day) (λ k d l. absurd (omega (arith, l))))
 
   is_other : not (same_period f now.day next.day) ≡ true → (k : ℕ) → k < length xs → same_period f next.day (get_or zs k (pos 0)) ≡ false
   is_other other k l =
       ap (same_period f next.day) (get_or_append_left xs (next.day ∷ []) (pos 0) k l)
-      ∙ apart (period f (get_or xs k (pos 0))) (period f now.day) (period f next.day) (period-rises f (get_or xs k (pos 0)) now.day (up_to_now k (pos 0) l)) (period-rises f now.day next.day (not_after now.day next.day are.1)) other
+      ∙ apart (period f (get_or xs k (pos 0))) (period f now.day) (period f next.day) (period-rises f (get_or xs k (pos 0)) now.day (up_to_now k (pos 0) l)) (period-rises f now.day next.day (lt-is-le now.day next.day are.1)) other
 
   pub begun_later : not (same_period f now.day next.day) ≡ true → period_start f zs (pos (suc (length earlier))) ≡ pos (suc (length earlier))
   begun_later other =
       let inside : length xs < length zs = (let e = long_by_one xs next.day in omega (arith, e)) in
       ap (λ n. period_start f zs (pos n)) (sym long) ∙ start_at_end f xs next.day
-      ∙ ap pos (first_at (same_period f next.day) zs (length xs) (pos 0) inside (ap (same_period f next.day) (got_at_end xs next.day) ∙ eq_self (period f next.day)) (is_other other))
+      ∙ ap pos (first_at (same_period f next.day) zs (length xs) (pos 0) inside (ap (same_period f next.day) (got_at_end xs next.day) ∙ int_eq-itself (period f next.day)) (is_other other))
       ∙ ap pos long
     where
       long_by_one : (ys : List ℤ) (y : ℤ) → length (ys ++ y ∷ []) ≡ suc (length ys)
@@ -89,7 +86,7 @@ module _ (f : Frequency) (g : Start) (next now : FedDay) (earlier : List FedDay)
 
   start_of_now : period_start f zs (pos (length earlier)) ≡ pos (first_session f zs now.day)
   unfolding period_start
-  start_of_now = ap (λ o. unwrap_or (option_map (λ day. pos (first_session f zs day)) o) (pos (length earlier))) (inside_now (length earlier) (itself (pos (length earlier))) ∙ now_is)
+  start_of_now = ap (λ o. unwrap_or (option_map (λ day. pos (first_session f zs day)) o) (pos (length earlier))) (inside_now (length earlier) (≤ℤ_refl (pos (length earlier))) ∙ now_is)
 
   by_period : (x y : ℤ) → period f x ≡ period f y → first_session f zs x ≡ first_session f zs y
   by_period x y e = ap (λ n. position_or_len (λ d. int_eq n (period f d)) zs) e
@@ -103,7 +100,7 @@ module _ (f : Frequency) (g : Start) (next now : FedDay) (earlier : List FedDay)
 
 pub start_is_next : (f : Frequency) (g : Start) (next : FedDay) (days : List FedDay) → AreFed g (next ∷ days) → begins f (last_day days) next.day ≡ true
     → period_start f (days_of (next ∷ days)) (pos (length days)) ≡ pos (length days)
-start_is_next f g next [] are is = start_at_end f [] next.day ∙ ap pos (first_at (same_period f next.day) (next.day ∷ []) 0 (pos 0) (omega arith) (eq_self (period f next.day)) (λ k l. absurd (omega (arith, l))))
+start_is_next f g next [] are is = start_at_end f [] next.day ∙ ap pos (first_at (same_period f next.day) (next.day ∷ []) 0 (pos 0) (omega arith) (int_eq-itself (period f next.day)) (λ k l. absurd (omega (arith, l))))
 start_is_next f g next (now ∷ earlier) are is = begun_later f g next now earlier are is
 
 pub start_stays : (f : Frequency) (g : Start) (next : FedDay) (days : List FedDay) → AreFed g (next ∷ days) → begins f (last_day days) next.day ≡ false
@@ -112,10 +109,6 @@ start_stays f g next [] are none = absurd (true≢false none)
 start_stays f g next (now ∷ earlier) are none = begun_before f g next now earlier are none
 
 -- ---- the cells
-
-fed_texts : (g : Start) (days : List FedDay) → (fed g days).texts ≡ g.texts
-unfolding fed
-fed_texts g days = refl
 
 pub days_are : (g : Start) (days : List FedDay) → (fed g days).days ≡ days_of days
 unfolding fed
@@ -135,9 +128,6 @@ cell_stays g next now earlier p u i s start are h =
     ∙ ap (λ texts. in_array texts (value_of (fed g days) p u (sid_in (sids_of g.assets) i) (before (pos (length earlier)) (length earlier - s)))) (fed_texts g (next ∷ days) ∙ sym (fed_texts g days))
     ∙ ap (cell_on (fed g days) p (sids_of g.assets) u i) back
 
-at_most : (a b c : ℤ) → a ≡ b → b ≤ℤ c → a ≤ℤ c
-at_most a b c e h = omega (arith, ints)
-
 -- where the day begins no period, what was held stands for the list with it
 pub held_on : (f : Frequency) (g : Start) (next : FedDay) (days : List FedDay) (p : Pipeline) (u : ℕ) (s : StartCells) → IsStart g → AreFed g (next ∷ days)
     → begins f (last_day days) next.day ≡ false → HoldsStart g days p f u s → HoldsStart g (next ∷ days) p f u s
@@ -145,7 +135,7 @@ held_on f g next [] p u s start are none hold = absurd (true≢false none)
 held_on f g next (now ∷ earlier) p u s start are none hold = record {
   session = λ some. hold.session (omega arith) ∙ sym (start_stays f g next (now ∷ earlier) are none);
   row = λ some i h. hold.row (omega arith) i h
-      ∙ sym (cell_stays g next now earlier p u i s.session start are (at_most _ _ _ (hold.session (omega arith)) (start-within f (days_of (now ∷ earlier)) (pos (length earlier)))));
+      ∙ sym (cell_stays g next now earlier p u i s.session start are (eq-le _ _ _ (hold.session (omega arith)) (start-within f (days_of (now ∷ earlier)) (pos (length earlier)))));
 }
 
 -- where it begins one, the cells of the day do

@@ -1,17 +1,18 @@
 -- What is held before the first day.
-use Rattle.std.proofs.Common.{◌≡◌, ℕ, zero, suc, ◌+◌, ◌<◌, ◌≤◌, true, false, pos, List, [], ◌∷◌, ◌++◌, length, get_or, set, take, replicate, Option, Some, None, option_map, slice_get, refl, sym, ◌∙◌, ap, subst, arith, inl, inr, All, get_or-set_same, get_or-set_other}
+use Rattle.std.proofs.Common.{◌≡◌, ℕ, zero, suc, ◌+◌, ◌<◌, ◌≤◌, true, false, pos, List, [], ◌∷◌, ◌++◌, length, get_or, set, replicate, Option, Some, None, option_map, slice_get, refl, sym, ◌∙◌, ap, subst, arith, inl, inr, All, get_or-set_same, get_or-set_other}
 use Rattle.std.specs.Prelude.{is_some, IfNone}
 use Rattle.std.proofs.lemmas.Bool.{cases_eq, true≢false}
 use Rattle.std.proofs.lemmas.List.{length-replicate, length-append, length-map}
 use Rattle.std.proofs.lemmas.List.Elements.{All-replicate}
-use Rattle.std.proofs.lemmas.Option.{slice_get_within, slice_get-map}
+use Rattle.std.proofs.lemmas.Option.{slice_get_within, slice_get-map, same_Some}
 use Rattle.circular_buffer.proofs.Places.{slice_get-append_left, slice_get-append_right, slice_get-some}
 use Rattle.pl_spec.specs.declared.Column.{Column}
 use Rattle.pl_spec.specs.declared.Frequency.{Frequency}
 use Rattle.pl_spec.specs.Kind.{Kind}
 use Rattle.pl_spec.specs.Kind.Kind.{Downsample}
-use Rattle.pl_spec.specs.Rounding.{IsCell, LIMIT}
+use Rattle.pl_spec.specs.Rounding.{IsCell}
 use Rattle.pl_spec.specs.Table.{Pipeline}
+use Rattle.pl_spec.proofs.Cells.{zero-cell}
 use Rattle.pl_terms.specs.Sorts.{is_downsampled}
 use Rattle.pl_terms.specs.Uses.{is_used}
 use Rattle.pl_values.specs.Arrays.{empty_cell}
@@ -25,18 +26,10 @@ use Rattle.pl_daily.specs.Capacities.{column_window, term_window}
 use Rattle.pl_daily.specs.Daily.{Held, Stands, start_in}
 use Rattle.pl_daily.specs.Room.{AreBegun, AreBegunStarts, HasColumns, IsBegun, no_session}
 use Rattle.pl_daily.specs.Terms.{AreStartCells, AreStarts, AreTerms, IsStartRoom, rooms}
-use Rattle.pl_daily.proofs.Downsampled.{some_is}
 use Rattle.pl_daily.proofs.Firsts.{none-first}
 use Rattle.pl_daily.proofs.Greatest.{column-window-in, term-window-in}
 
 -- ---- lists
-
-pub back : {X : Type 0} (new rest : List X) (n : ℕ) → length new ≡ n → take n (new ++ rest) ≡ new
-back [] [] zero e = refl
-back [] (r ∷ rest) zero e = refl
-back [] rest (suc n) e = absurd (omega (arith, e))
-back (x ∷ xs) rest zero e = absurd (omega (arith, e))
-back (x ∷ xs) rest (suc n) e = ap (λ l. x ∷ l) (back xs rest n (omega (arith, e)))
 
 pub one_more : (xs ys : List ℕ) (k x : ℕ) → ((j : ℕ) → j < k → get_or xs j 0 ≡ get_or ys j 0) → k < length xs → x ≡ get_or ys k 0
     → (j : ℕ) → j < k + 1 → get_or (set xs k x) j 0 ≡ get_or ys j 0
@@ -51,7 +44,7 @@ pub in_more : {X : Type 0} (P : ℕ → X → Type 0) (xs : List X) (x : X) (n :
 in_more P xs x n long each new k y e = elim (cases_eq k n) [
   | inl same ↦
       let at : slice_get (xs ++ x ∷ []) k ≡ Some x = slice_get-append_right xs (x ∷ []) k 0 (omega (arith, same, long)) in
-      let is : x ≡ y = some_is x y (sym at ∙ e) in
+      let is : x ≡ y = same_Some x y (sym at ∙ e) in
       subst (λ i. P i y) (sym same) (subst (P n) is new)
   | inr other ↦
       let within : k < length (xs ++ x ∷ []) = slice_get_within (xs ++ x ∷ []) k y e in
@@ -71,13 +64,10 @@ pub starts_begun : (assets : ℕ) (p : Pipeline) (k : ℕ) (starts made : List S
     → AreBegunStarts assets p (k + 1) made
 starts_begun assets p k starts made s e b is = rw e (record { many = long_more starts s k b.many; full = in_more (IsStartRoom assets p) starts s k b.many b.full is })
 
-zero_cell : IsCell (pos 0)
-zero_cell = let l : 0 ≤ LIMIT = omega arith in inr l
-
 pub start_full : (assets n : ℕ) (s : StartCells) → s.row.items ≡ replicate n (pos 0) → n ≡ assets → AreStartCells assets s
 start_full assets n s e is = record {
   row = ap length e ∙ length-replicate n (pos 0) ∙ is;
-  cells = subst (All IsCell) (sym e) (All-replicate IsCell n (pos 0) zero_cell);
+  cells = subst (All IsCell) (sym e) (All-replicate IsCell n (pos 0) zero-cell);
 }
 
 -- ---- all of it
@@ -95,7 +85,7 @@ windows_stay p old new same each u t e =
     let here : slice_get (rooms old) u ≡ Some t.rings.capacity = ap (λ ns. slice_get ns u) (sym same) ∙ slice_get-map room_of new u ∙ ap (option_map room_of) e in
     let within : u < length old = (let l = slice_get_within (rooms old) u t.rings.capacity here in let m = length-map old room_of in omega (arith, l, m)) in
     let x = slice_get-some old u within in
-    let is : (x.0).rings.capacity ≡ t.rings.capacity = some_is (x.0).rings.capacity t.rings.capacity (ap (option_map room_of) (sym x.1) ∙ sym (slice_get-map room_of old u) ∙ here) in
+    let is : (x.0).rings.capacity ≡ t.rings.capacity = same_Some (x.0).rings.capacity t.rings.capacity (ap (option_map room_of) (sym x.1) ∙ sym (slice_get-map room_of old u) ∙ here) in
     sym is ∙ each u x.0 x.1
 
 module _ (assets : ℕ) (p : Pipeline) (x : Capacities) (bars : BarRings) (terms : List TermCells) (starts : List StartCells)

@@ -1,10 +1,12 @@
 -- First sessions of terms, one session more.
-use Rattle.std.proofs.Common.{◌≡◌, ℕ, zero, suc, ◌+◌, ◌<◌, ◌≤◌, Bool, true, false, cond, ◌&&◌, ℤ, pos, ◌<ℤ◌, ◌≤ℤ◌, List, [], ◌∷◌, ◌++◌, length, map, get_or, set, AllPairs, Option, Some, None, option_map, inl, inr, refl, sym, ◌∙◌, ap, subst, arith, slice_get, filter, ◌==◌, length-append, length-set, get_or-set_same, get_or-set_other}
-use Rattle.std.specs.List.{list_all, range_with_len}
+use Rattle.std.proofs.Common.{◌≡◌, ℕ, zero, suc, ◌+◌, ◌<◌, ◌≤◌, Bool, true, false, ◌&&◌, ℤ, pos, ◌<ℤ◌, ◌≤ℤ◌, List, [], ◌∷◌, ◌++◌, length, map, get_or, set, AllPairs, Option, Some, None, option_map, inl, inr, refl, sym, ◌∙◌, ap, subst, arith, slice_get, ◌==◌, length-append, length-set, get_or-set_same, get_or-set_other}
+use Rattle.std.specs.List.{list_all}
 use Rattle.std.specs.Int.RustNames.{int_le}
-use Rattle.std.proofs.lemmas.Bool.{cases_lt, cases_eq, true≢false, or_cases, or_left, or_right, eq-eqb, eqb-true}
+use Rattle.std.proofs.lemmas.Bool.{cases_lt, cases_eq, true≢false, or_left, or_right, eq-eqb}
 use Rattle.std.proofs.lemmas.Int.{ints, by_lt_z}
 use Rattle.std.proofs.lemmas.Option.{slice_get_within}
+use Rattle.std.specs.Cmp.{both_ways}
+use Rattle.std.proofs.lemmas.List.Folds.{list_all-append}
 use Rattle.pl_spec.specs.declared.Frequency.{Frequency}
 use Rattle.pl_spec.specs.Periods.{period_start}
 use Rattle.pl_spec.specs.Term.{Term, Node, term_at, IsGraph}
@@ -13,19 +15,22 @@ use Rattle.pl_spec.specs.Graph.Used.{output, mentioned}
 use Rattle.pl_spec.specs.Lows.{least_reach}
 use Rattle.pl_spec.specs.Table.{Pipeline}
 use Rattle.pl_spec.proofs.Unfolds.{past}
+use Rattle.pl_spec.proofs.Signed.{le-int_le, int_le-true}
 use Rattle.pl_laws.proofs.Calendars.{reach-same}
 use Rattle.pl_laws.proofs.Reaches.{AllFrom, below_least}
 use Rattle.pl_laws.proofs.Starts.{start-same}
 use Rattle.pl_laws.proofs.Uses.{used_terms-sound, used_terms-complete}
+use Rattle.pl_laws.proofs.Lows.{least_above}
 use Rattle.pl_terms.specs.Checked.{IsChecked, columns_of}
 use Rattle.pl_terms.specs.declared.checked.NamedColumn.{NamedColumn}
 use Rattle.pl_terms.specs.declared.node.TermId.{TermId}
 use Rattle.pl_terms.specs.Uses.{outputs, is_used}
+use Rattle.pl_terms.proofs.Graphs.{used-within}
 use Rattle.pl_planner.proofs.Pipelines.{is-pipeline}
 use Rattle.pl_daily.specs.Reaches.{IsFirst, AreFirst, AreStarts, FollowFirst}
 use Rattle.pl_daily.specs.Ready.{read_up_to, is_node_ready, is_found_ready, is_used_ready, first_with, is_known, has_first}
-use Rattle.pl_daily.proofs.Greatest.{used-listed}
-use Rattle.pl_daily.proofs.NodeReaches.{all-at, at-all, least-above, on-first, node-on, on-node, reads-is}
+use Rattle.pl_daily.proofs.NodeReaches.{at-all, on-first, node-on, on-node, reads-is}
+use Rattle.pl_values.proofs.Operations.{all-at}
 
 -- ---- one day more
 
@@ -70,21 +75,6 @@ module _ (days : List ℤ) (day : ℤ) where
   now-first t is now = let long = long-more in (omega arith, now, λ d l. rw (sym (reach-more t d l)) (is d l))
 
 -- ---- the used terms
-
-in-range : (q : ℕ → Bool) (n a k : ℕ) → contains (filter q (range_with_len a n)) k ≡ true → k < a + n
-in-range q zero a k h = absurd (true≢false (sym h))
-in-range q (suc n) a k h = here (q a) h (λ e. let l : k < a + 1 + n = in-range q n (a + 1) k e in omega arith)
-  where
-    here : (b : Bool) → contains (cond b (a ∷ filter q (range_with_len (a + 1) n)) (filter q (range_with_len (a + 1) n))) k ≡ true
-        → (contains (filter q (range_with_len (a + 1) n)) k ≡ true → k < a + suc n) → k < a + suc n
-    here false h behind = behind h
-    here true h behind = elim (or_cases (a == k) (contains (filter q (range_with_len (a + 1) n)) k) h) [
-      | inl e ↦ (let same : a ≡ k = eqb-true a k e in omega arith)
-      | inr e ↦ behind e
-    ]
-
-pub used-in : (p : Pipeline) (k : ℕ) → is_used p k ≡ true → k < length p.graph
-used-in p k h = let l : k < 0 + length p.graph = in-range (is_used p) (length p.graph) 0 k (ap (λ ks. contains ks k) (sym (used-listed p)) ∙ h) in omega arith
 
 mentioned-used : (p : Pipeline) → IsGraph p.graph → (k u : ℕ) (n : Node) → slice_get p.graph k ≡ Some n → is_used p k ≡ true → u < k → contains (mentions n) u ≡ true → is_used p u ≡ true
 mentioned-used p ok k u n at used lower h =
@@ -182,7 +172,7 @@ module _ (p : Pipeline) (ok : IsChecked p) (starts : List ℕ) (s : ℕ) (old si
 
 pub all-taken : (p : Pipeline) (starts : List ℕ) (s k : ℕ) (old since : List (Option ℕ)) → length p.graph ≤ k → IsTaken p starts s old k since → FollowFirst p starts s old since
 all-taken p starts s k old since h taken days day rise count begins firsts j used =
-    taken.first days day rise count begins firsts j (let l : j < length p.graph = used-in p j used in omega arith) used
+    taken.first days day rise count begins firsts j (let l : j < length p.graph = used-within p j used in omega arith) used
 
 -- no days were fed, and no term has its first session
 pub none-first : (p : Pipeline) (since : List (Option ℕ)) → ((k : ℕ) → get_or since k None ≡ None) → AreFirst [] p since
@@ -190,19 +180,11 @@ none-first p since none k used = rw (none k) (λ d l. absurd (omega arith))
 
 -- ---- the outputs
 
-all-append : (f : ℕ → Bool) (xs ys : List ℕ) → list_all f (xs ++ ys) ≡ (list_all f xs && list_all f ys)
-all-append f [] ys = refl
-all-append f (x ∷ xs) ys = here (f x) (all-append f xs ys)
-  where
-    here : (b : Bool) → list_all f (xs ++ ys) ≡ (list_all f xs && list_all f ys) → (b && list_all f (xs ++ ys)) ≡ ((b && list_all f xs) && list_all f ys)
-    here true ih = ih
-    here false ih = refl
-
 pub both-ready : (f : ℕ → Bool) (xs ys : List ℕ) → list_all f xs ≡ true → list_all f (xs ++ ys) ≡ list_all f ys
-both-ready f xs ys h = all-append f xs ys ∙ ap (λ b. b && list_all f ys) h
+both-ready f xs ys h = list_all-append f xs ys ∙ ap (λ b. b && list_all f ys) h
 
 pub first-unready : (f : ℕ → Bool) (xs ys : List ℕ) → list_all f xs ≡ false → list_all f (xs ++ ys) ≡ false
-first-unready f xs ys h = all-append f xs ys ∙ ap (λ b. b && list_all f ys) h
+first-unready f xs ys h = list_all-append f xs ys ∙ ap (λ b. b && list_all f ys) h
 
 -- one that does not pass
 pub one-unready : (f : ℕ → Bool) (xs : List ℕ) (i x : ℕ) → slice_get xs i ≡ Some x → f x ≡ false → list_all f xs ≡ false
@@ -243,17 +225,6 @@ from-mapped low f [] all i t e = cc
 from-mapped low f (x ∷ xs) all zero t e = let same : x ≡ t = cc in rw (sym same) all.0
 from-mapped low f (x ∷ xs) all (suc i) t e = from-mapped low f xs all.1 i t e
 
-same-bool : (a b : Bool) → (a ≡ true → b ≡ true) → (b ≡ true → a ≡ true) → a ≡ b
-same-bool true b h l = sym (h refl)
-same-bool false true h l = absurd (true≢false (sym (l refl)))
-same-bool false false h l = refl
-
-le-int : (x y : ℤ) → x ≤ℤ y → int_le x y ≡ true
-le-int x y h = grind (arith, ints)
-
-int-le : (x y : ℤ) → int_le x y ≡ true → x ≤ℤ y
-int-le x y h = grind (arith, ints)
-
 known-from : (days : List ℤ) → AllPairs (λ a b. a <ℤ b) days → (t : Term) (o : Option ℕ) (d : ℕ) → length days ≡ d + 1 → IsFirst days t o → is_known o ≡ true → pos 0 ≤ℤ reach days t (pos d)
 known-from days rise t None d long is h = absurd (true≢false (sym h))
 known-from days rise t (Some s) d long is h = on-first days rise t s d is.1 (let l : s < length days = is.0 in omega arith)
@@ -270,13 +241,13 @@ module _ (p : Pipeline) (ok : IsChecked p) (since : List (Option ℕ)) (earlier 
   least = least_reach (earlier ++ day ∷ []) p.graph (outputs p) (pos (length earlier))
 
   all-ready : list_all (has_first since) (outputs p) ≡ true → int_le (pos 0) least ≡ true
-  all-ready all = le-int (pos 0) least (least-above (pos 0) (pos (length earlier)) (map reach_of (outputs p)) (omega (arith, ints)) (mapped-from (pos 0) reach_of (outputs p)
+  all-ready all = le-int_le (pos 0) least (least_above (pos 0) (pos (length earlier)) (map reach_of (outputs p)) (omega (arith, ints)) (mapped-from (pos 0) reach_of (outputs p)
       (λ i t e. known-from (earlier ++ day ∷ []) rise (term_at p.graph t) (get_or since t None) (length earlier) (long-more earlier day) (firsts t (output-used p ok i t e)) (all-at (has_first since) (outputs p) i t all e))))
 
   ready-all : int_le (pos 0) least ≡ true → list_all (has_first since) (outputs p) ≡ true
   ready-all h = at-all (has_first since) (outputs p)
       (λ i t e. from-known (earlier ++ day ∷ []) (term_at p.graph t) (get_or since t None) (length earlier) (long-more earlier day) (firsts t (output-used p ok i t e))
-      (from-mapped (pos 0) reach_of (outputs p) (below_least (pos 0) (pos (length earlier)) (map reach_of (outputs p)) (int-le (pos 0) least h)).1 i t e))
+      (from-mapped (pos 0) reach_of (outputs p) (below_least (pos 0) (pos (length earlier)) (map reach_of (outputs p)) (int_le-true (pos 0) least h)).1 i t e))
 
   pub ready-is : list_all (has_first since) (outputs p) ≡ int_le (pos 0) least
-  ready-is = same-bool (list_all (has_first since) (outputs p)) (int_le (pos 0) least) all-ready ready-all
+  ready-is = both_ways (list_all (has_first since) (outputs p)) (int_le (pos 0) least) all-ready ready-all

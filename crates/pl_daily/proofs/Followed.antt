@@ -2,7 +2,7 @@
 use Rattle.std.proofs.Common.{◌≡◌, ℕ, zero, suc, ◌+◌, ◌<◌, ◌≤◌, true, false, ℤ, List, [], ◌∷◌, length, set, length-set, Some, slice_get, refl, sym, ◌∙◌, ap, arith, subst, All, inl, inr}
 use Rattle.std.proofs.lemmas.Bool.{cases_eq, true≢false}
 use Rattle.std.proofs.Math.Seq.{map-set_same}
-use Rattle.std.proofs.lemmas.Option.{get_or_from_slice_get, slice_get_within}
+use Rattle.std.proofs.lemmas.Option.{get_or_from_slice_get, slice_get_within, same_Some}
 use Rattle.pl_spec.specs.declared.Frequency.{Frequency}
 use Rattle.pl_spec.specs.Rounding.{IsCell}
 use Rattle.pl_spec.specs.Table.{Pipeline}
@@ -15,11 +15,11 @@ use Rattle.pl_daily.specs.declared.starts.StartCells.{StartCells}
 use Rattle.pl_daily.specs.declared.terms.Lent.{Lent}
 use Rattle.pl_daily.specs.Terms.{AreStarts, AreTerms, Downsamples, FollowBelow, FollowStart, FollowTermAt, FollowTerms, HoldsStart, IsAt, IsPlaced, IsRowOf, IsStartOf, IsStartRoom, assets_at, begins, pipeline_at, rooms, start_at}
 use Rattle.pl_daily.proofs.Begins.{held_anew, held_on}
-use Rattle.pl_daily.proofs.Downsampled.{one_way, some_is}
+use Rattle.pl_daily.proofs.Downsampled.{one_way}
 
 set_there : {X : Type 0} (xs : List X) (k : ℕ) (y t : X) → k < length xs → slice_get (set xs k y) k ≡ Some t → y ≡ t
 set_there [] k y t h e = absurd (omega (arith, h))
-set_there (x ∷ xs) zero y t h e = some_is y t e
+set_there (x ∷ xs) zero y t h e = same_Some y t e
 set_there (x ∷ xs) (suc k) y t h e = set_there xs k y t (omega (arith, h)) e
 
 set_elsewhere : {X : Type 0} (xs : List X) (k u : ℕ) (y : X) → (u ≡ k → ⊥) → slice_get (set xs k y) u ≡ slice_get xs u

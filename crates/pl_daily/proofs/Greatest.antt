@@ -7,8 +7,9 @@ use Rattle.pl_spec.specs.declared.Column.{Column}
 use Rattle.pl_spec.specs.World.{column_number}
 use Rattle.pl_spec.specs.Term.{Input, Node}
 use Rattle.pl_spec.specs.Term.Input.{BarColumn, TermInput}
-use Rattle.pl_spec.specs.Graph.{contains, input_column, input_number, used_terms}
+use Rattle.pl_spec.specs.Graph.{contains, input_column, used_terms}
 use Rattle.pl_spec.specs.Table.{Pipeline}
+use Rattle.pl_spec.proofs.Contained.{input-in}
 use Rattle.pl_terms.specs.Checked.{IsChecked}
 use Rattle.pl_terms.specs.declared.node.Node as code
 use Rattle.pl_terms.specs.Nodes.{node_of}
@@ -79,15 +80,6 @@ column-listed (TermInput u ∷ is) zero c e = cc
 column-listed (BarColumn d ∷ is) (suc i) c e = or_right (column_number d == column_number c) (contains (filter_map input_column is) (column_number c)) (column-listed is i c e)
 column-listed (TermInput u ∷ is) (suc i) c e = column-listed is i c e
 
-pub term-listed : (is : List Input) (i t : ℕ) → slice_get is i ≡ Some (TermInput t) → contains (filter_map input_number is) t ≡ true
-term-listed [] i t e = cc
-term-listed (TermInput u ∷ is) zero t e =
-    let same : u ≡ t = cc in
-    or_left (u == t) (contains (filter_map input_number is) t) (eq-eqb u t same)
-term-listed (BarColumn c ∷ is) zero t e = cc
-term-listed (TermInput u ∷ is) (suc i) t e = or_right (u == t) (contains (filter_map input_number is) t) (term-listed is i t e)
-term-listed (BarColumn c ∷ is) (suc i) t e = term-listed is i t e
-
 -- the window of a used term is no longer than what is kept of the bar column that it reads
 pub column-window-in : (p : Pipeline) (k i : ℕ) (n : Node) (c : Column) → is_used p k ≡ true → slice_get p.graph k ≡ Some n → slice_get n.inputs i ≡ Some (BarColumn c) → n.window ≤ column_window p c
 unfolding column_window
@@ -96,12 +88,4 @@ column-window-in p k i n c used at input = greatest-in (reads_column c) p k n us
 -- and of the term that it reads
 pub term-window-in : (p : Pipeline) (k i t : ℕ) (n : Node) → is_used p k ≡ true → slice_get p.graph k ≡ Some n → is_windowed n.kind ≡ true → slice_get n.inputs i ≡ Some (TermInput t) → n.window ≤ term_window p t
 unfolding term_window
-term-window-in p k i t n used at windowed input = greatest-in (reads_term t) p k n used at (rw windowed (term-listed n.inputs i t input))
-
-pub column-window-few : (p : Pipeline) → IsChecked p → (c : Column) → column_window p c ≤ 1260
-unfolding column_window
-column-window-few p ok c = greatest-few (reads_column c) p ok
-
-pub term-window-few : (p : Pipeline) → IsChecked p → (t : ℕ) → term_window p t ≤ 1260
-unfolding term_window
-term-window-few p ok t = greatest-few (reads_term t) p ok
+term-window-in p k i t n used at windowed input = greatest-in (reads_term t) p k n used at (rw windowed (input-in n.inputs i t input))

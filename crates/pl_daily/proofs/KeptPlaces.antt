@@ -1,10 +1,9 @@
 -- The kept assets of the last day by their places.
-use Rattle.std.proofs.Common.{◌≡◌, ℕ, zero, suc, ◌+◌, ◌<◌, Bool, true, false, ◌&&◌, cond, if◌then◌else◌, ℤ, pos, List, [], ◌∷◌, ◌++◌, length, map, filter, get_or, Option, Some, None, option_map, unwrap_or, slice_get, subst, refl, sym, ◌∙◌, ap, arith, All, Bor}
+use Rattle.std.proofs.Common.{◌≡◌, ℕ, zero, suc, ◌+◌, ◌<◌, Bool, true, false, ◌&&◌, cond, ℤ, pos, List, [], ◌∷◌, length, map, filter, get_or, Option, Some, None, option_map, unwrap_or, slice_get, subst, refl, sym, ◌∙◌, ap, arith, All, Bor}
 use Rattle.std.specs.List.{range_with_len}
 use Rattle.std.specs.Option.{IfSome}
 use Rattle.std.proofs.lemmas.Int.{ints}
-use Rattle.std.proofs.lemmas.List.{append-nil}
-use Rattle.std.proofs.lemmas.List.Elements.{All-filter, filter-append}
+use Rattle.std.proofs.lemmas.List.Elements.{All-filter}
 use Rattle.std.proofs.lemmas.List.FromFn.{get_or-range_with_len, length-range_with_len}
 use Rattle.pl_spec.specs.declared.AssetRow.{AssetRow}
 use Rattle.pl_spec.specs.Formula.{is_true}
@@ -13,6 +12,7 @@ use Rattle.pl_spec.specs.Table.{Pipeline, value_of, is_kept, kept_sids}
 use Rattle.pl_spec.specs.Value.{holds}
 use Rattle.pl_spec.specs.Window.{before}
 use Rattle.pl_spec.specs.World.{World, day_of, living_sids, lives_on}
+use Rattle.pl_spec.proofs.Lists.{filter-map}
 use Rattle.std.proofs.lemmas.Option.{slice_get-get_or}
 use Rattle.pl_cross.specs.Arrays.{sid_in}
 use Rattle.pl_cross.specs.Listing.{labels_in}
@@ -47,36 +47,9 @@ listed day all (r ∷ rs) k h =
     choose true sid rest = ap (λ l. r.sid ∷ l) rest ∙ ap (λ x. x ∷ map (sid_at all) (filter (lives_at all day) (range_with_len (k + 1) (length rs)))) (sym sid)
     choose false sid rest = rest
 
-range-snoc : (a n : ℕ) → range_with_len a (suc n) ≡ range_with_len a n ++ (a + n) ∷ []
-range-snoc a zero = let e : a ≡ a + 0 = omega arith in ap (λ (k : ℕ). k ∷ []) e
-range-snoc a (suc n) =
-    let e : a + 1 + n ≡ a + suc n = omega arith in
-    ap (λ (ks : List ℕ). a ∷ ks) (range-snoc (a + 1) n ∙ ap (λ (k : ℕ). range_with_len (a + 1) n ++ k ∷ []) e)
-
-filter-next : (p : ℕ → Bool) (n : ℕ) → filter p (range_with_len 0 (n + 1)) ≡ filter p (range_with_len 0 n) ++ filter p (n ∷ [])
-filter-next p n =
-    let one : n + 1 ≡ suc n = omega arith in
-    let at : 0 + n ≡ n = omega arith in
-    ap (λ (k : ℕ). filter p (range_with_len 0 k)) one ∙ ap (filter p) (range-snoc 0 n ∙ ap (λ (k : ℕ). range_with_len 0 n ++ k ∷ []) at) ∙ filter-append p (range_with_len 0 n) (n ∷ [])
-
--- one place more
-pub filter-with : (p : ℕ → Bool) (n : ℕ) → p n ≡ true → filter p (range_with_len 0 (n + 1)) ≡ filter p (range_with_len 0 n) ++ n ∷ []
-filter-with p n e = filter-next p n ∙ ap (λ (b : Bool). filter p (range_with_len 0 n) ++ (if b then n ∷ [] else [])) e
-
-pub filter-without : (p : ℕ → Bool) (n : ℕ) → p n ≡ false → filter p (range_with_len 0 (n + 1)) ≡ filter p (range_with_len 0 n)
-filter-without p n e = filter-next p n ∙ ap (λ (b : Bool). filter p (range_with_len 0 n) ++ (if b then n ∷ [] else [])) e ∙ append-nil (filter p (range_with_len 0 n))
-
 filter-all : {X : Type 0} (xs : List X) → filter (λ x. true) xs ≡ xs
 filter-all [] = refl
 filter-all (x ∷ xs) = ap (λ l. x ∷ l) (filter-all xs)
-
-filter-over : {X Y : Type 0} (q : Y → Bool) (f : X → Y) (xs : List X) → filter q (map f xs) ≡ map f (filter (λ x. q (f x)) xs)
-filter-over q f [] = refl
-filter-over q f (x ∷ xs) = here (q (f x)) (filter-over q f xs)
-  where
-    here : (b : Bool) → filter q (map f xs) ≡ map f (filter (λ x. q (f x)) xs) → cond b (f x ∷ filter q (map f xs)) (filter q (map f xs)) ≡ map f (cond b (x ∷ filter (λ x. q (f x)) xs) (filter (λ x. q (f x)) xs))
-    here true e = ap (λ l. f x ∷ l) e
-    here false e = e
 
 filter-both : {X : Type 0} (p q r : X → Bool) (xs : List X) → All (λ x. r x ≡ (p x && q x)) xs → filter q (filter p xs) ≡ filter r xs
 filter-both p q r [] h = refl
@@ -134,7 +107,7 @@ module _ (g : Start) (next : FedDay) (days : List FedDay) (p : Pipeline) (ok : I
       let same : (i : ℕ) → i < length g.assets → is_true (get_or row i (pos 0)) ≡ test i
       = λ i l. ap is_true (h i l ∙ sym (number_is w p ok t numbered (sid_in (sids_of g.assets) i) d)) ∙ ap (λ a. holds (value_of w p t a d)) (sid_is g.assets i l) in
       sym (ap (filter (λ a. holds (value_of w p t a d))) living
-      ∙ filter-over (λ a. holds (value_of w p t a d)) (sid_at g.assets) (filter (lives_at g.assets next.day) (range_with_len 0 (length g.assets)))
+      ∙ filter-map (λ a. holds (value_of w p t a d)) (sid_at g.assets) (filter (lives_at g.assets next.day) (range_with_len 0 (length g.assets)))
       ∙ ap (map (sid_at g.assets)) (filter-both (lives_at g.assets next.day) test (is_kept_by g.assets next.day (Some row)) (range_with_len 0 (length g.assets))
       (λ k i l. ap (λ x. lives_at g.assets next.day (get_or (range_with_len 0 (length g.assets)) k i) && x) (same (get_or (range_with_len 0 (length g.assets)) k i) (places_within (length g.assets) k i l)))))
   by_screen None (Some row) e h = absurd h

@@ -1,10 +1,9 @@
 -- A node reaches no session before the first where what it reads does not.
-use Rattle.std.proofs.Common.{◌≡◌, ℕ, zero, suc, ◌+◌, ◌-◌, ◌<◌, ◌≤◌, Bool, true, false, ◌&&◌, ◌++◌, nat_le, ℤ, pos, ◌<ℤ◌, ◌≤ℤ◌, List, [], ◌∷◌, length, map, get_or, AllPairs, Option, Some, None, option_to_list, filter_map, inl, inr, refl, sym, ◌∙◌, ap, arith, slice_get, ◌==◌}
-use Rattle.std.specs.Int.{int_min}
+use Rattle.std.proofs.Common.{◌≡◌, ℕ, zero, suc, ◌+◌, ◌-◌, ◌<◌, ◌≤◌, Bool, true, ◌&&◌, ◌++◌, ℤ, pos, ◌<ℤ◌, ◌≤ℤ◌, List, [], ◌∷◌, length, map, get_or, AllPairs, Option, Some, None, option_to_list, filter_map, inl, inr, refl, sym, ◌∙◌, ap, arith, slice_get, ◌==◌, le-leb, leb-true}
 use Rattle.std.specs.List.{list_all}
-use Rattle.std.proofs.lemmas.Bool.{cases_lt, true≢false, and_parts, or_left, or_right, eq-eqb}
+use Rattle.std.proofs.lemmas.Bool.{cases_lt, true≢false, and_parts, or_left, or_right}
 use Rattle.std.proofs.lemmas.Bool.Decides.{nat_tests}
-use Rattle.std.proofs.lemmas.Int.{ints, int_min_is}
+use Rattle.std.proofs.lemmas.Int.{ints}
 use Rattle.std.proofs.lemmas.List.Folds.{list_any-append}
 use Rattle.std.proofs.lemmas.Option.{slice_get_within}
 use Rattle.pl_spec.specs.Kind.{Kind}
@@ -18,11 +17,12 @@ use Rattle.pl_spec.specs.Term.Input.{BarColumn, TermInput}
 use Rattle.pl_spec.specs.Graph.{input_number, mentions, contains, least_of, part_reach, reads_at, reach}
 use Rattle.pl_spec.proofs.Trees.{term_at-node}
 use Rattle.pl_spec.proofs.Unfolds.{past}
-use Rattle.pl_laws.proofs.Lows.{reach-rises, reaches-rise, reads_at-within}
+use Rattle.pl_spec.proofs.Contained.{option-in, input-in}
+use Rattle.pl_laws.proofs.Lows.{reach-rises, reaches-rise, reads_at-within, least_above}
 use Rattle.pl_laws.proofs.Reaches.{AllFrom, below_least, at_downward}
 use Rattle.pl_daily.specs.Reaches.{IsFirst}
-use Rattle.pl_daily.proofs.Greatest.{term-listed}
 use Rattle.pl_daily.specs.Ready.{is_since, is_input_ready, is_number_ready, read_up_to, is_node_ready}
+use Rattle.pl_values.proofs.Operations.{all-at}
 
 -- ---- tests
 
@@ -31,17 +31,6 @@ since-le first back s h = grind (arith, nat_tests)
 
 le-since : (first back s : ℕ) → first + back ≤ s → is_since (Some first) back s ≡ true
 le-since first back s h = grind (arith, nat_tests)
-
-pub le-test : (m n : ℕ) → m ≤ n → nat_le m n ≡ true
-le-test m n h = grind (arith, nat_tests)
-
-pub test-le : (m n : ℕ) → nat_le m n ≡ true → m ≤ n
-test-le m n h = grind (arith, nat_tests)
-
-pub all-at : {X : Type 0} (f : X → Bool) (xs : List X) (i : ℕ) (x : X) → list_all f xs ≡ true → slice_get xs i ≡ Some x → f x ≡ true
-all-at f [] i x h e = cc
-all-at f (y ∷ ys) zero x h e = let same : y ≡ x = cc in ap f (sym same) ∙ (and_parts (f y) (list_all f ys) h).0
-all-at f (y ∷ ys) (suc i) x h e = all-at f ys i x (and_parts (f y) (list_all f ys) h).1 e
 
 pub at-all : {X : Type 0} (f : X → Bool) (xs : List X) → ((i : ℕ) (x : X) → slice_get xs i ≡ Some x → f x ≡ true) → list_all f xs ≡ true
 at-all f [] h = refl
@@ -54,35 +43,25 @@ mention-input n i u e =
     list_any-append (λ x. x == u) (filter_map input_number n.inputs ++ option_to_list n.mask) (option_to_list n.group)
     ∙ or_left (contains (filter_map input_number n.inputs ++ option_to_list n.mask) u) (contains (option_to_list n.group) u)
     (list_any-append (λ x. x == u) (filter_map input_number n.inputs) (option_to_list n.mask)
-    ∙ or_left (contains (filter_map input_number n.inputs) u) (contains (option_to_list n.mask) u) (term-listed n.inputs i u e))
-
-own-number : (o : Option ℕ) (u : ℕ) → o ≡ Some u → contains (option_to_list o) u ≡ true
-own-number o u e = rw e (or_left (u == u) false (eq-eqb u u refl))
+    ∙ or_left (contains (filter_map input_number n.inputs) u) (contains (option_to_list n.mask) u) (input-in n.inputs i u e))
 
 mention-mask : (n : Node) (u : ℕ) → n.mask ≡ Some u → contains (mentions n) u ≡ true
 mention-mask n u e =
     list_any-append (λ x. x == u) (filter_map input_number n.inputs ++ option_to_list n.mask) (option_to_list n.group)
     ∙ or_left (contains (filter_map input_number n.inputs ++ option_to_list n.mask) u) (contains (option_to_list n.group) u)
     (list_any-append (λ x. x == u) (filter_map input_number n.inputs) (option_to_list n.mask)
-    ∙ or_right (contains (filter_map input_number n.inputs) u) (contains (option_to_list n.mask) u) (own-number n.mask u e))
+    ∙ or_right (contains (filter_map input_number n.inputs) u) (contains (option_to_list n.mask) u) (option-in n.mask u e))
 
 mention-group : (n : Node) (u : ℕ) → n.group ≡ Some u → contains (mentions n) u ≡ true
 mention-group n u e =
     list_any-append (λ x. x == u) (filter_map input_number n.inputs ++ option_to_list n.mask) (option_to_list n.group)
-    ∙ or_right (contains (filter_map input_number n.inputs ++ option_to_list n.mask) u) (contains (option_to_list n.group) u) (own-number n.group u e)
+    ∙ or_right (contains (filter_map input_number n.inputs ++ option_to_list n.mask) u) (contains (option_to_list n.group) u) (option-in n.group u e)
 
 -- ---- the least of sessions
-
-pub least-above : (low d : ℤ) (xs : List ℤ) → low ≤ℤ d → AllFrom low xs → low ≤ℤ least_of xs d
-least-above low d [] h all = h
-least-above low d (x ∷ xs) h all = least-above low (int_min d x) xs (grind (arith, ints, int_min_is d x, h, all.0)) all.1
 
 downward-at : (low : ℤ) (f : ℕ → ℤ) (size : ℕ) → ((i : ℕ) → i < size → low ≤ℤ f i) → AllFrom low (map f (downward size))
 downward-at low f zero h = tt
 downward-at low f (suc size) h = (h size (omega arith), downward-at low f size (λ i l. h i (omega arith)))
-
-itself : (z : ℤ) → z ≤ℤ z
-itself z = omega (arith, ints)
 
 -- ---- what stands in a place
 
@@ -135,7 +114,7 @@ module _ (days : List ℤ) (rise : AllPairs (λ a b. a <ℤ b) days) where
   on-window (node k n x y z m g) stands None is size s some h = absurd (true≢false (sym h))
   on-window (node k n x y z m g) stands (Some first) is size s some h =
       let far : first + (size - 1) ≤ s = since-le first (size - 1) s h in
-      least-above (pos 0) (pos s) (map (λ i. reach days (node k n x y z m g) (before (pos s) i)) (downward size)) (omega (arith, ints))
+      least_above (pos 0) (pos s) (map (λ i. reach days (node k n x y z m g) (before (pos s) i)) (downward size)) (omega (arith, ints))
       (downward-at (pos 0) (λ i. reach days (node k n x y z m g) (before (pos s) i)) size
       (λ i l. let back : before (pos s) i ≡ pos (s - i) = omega (arith, ints) in rw back (on-first (node k n x y z m g) first (s - i) is.1 (omega arith))))
 
@@ -162,7 +141,7 @@ module _ (days : List ℤ) (rise : AllPairs (λ a b. a <ℤ b) days) where
       place-on i s None e l h x f = cc
       place-on i s (Some (BarColumn c)) e l h x f =
           let is : BarColumn c ≡ x = cc in
-          rw (sym is) (le-test n.window s (omega (arith, ints, h)))
+          rw (sym is) (le-leb n.window s (omega (arith, ints, h)))
       place-on i s (Some (TermInput u)) e l h x f =
           let is : TermInput u ≡ x = cc in
           let lower : u < k = low.inputs i u e in
@@ -171,7 +150,7 @@ module _ (days : List ℤ) (rise : AllPairs (λ a b. a <ℤ b) days) where
       on-place : (i s : ℕ) (o : Option Input) → slice_get n.inputs i ≡ o → ((x : Input) → o ≡ Some x → is_input_ready since n.window s x ≡ true)
           → pos 0 ≤ℤ part_reach (input_tree (trees g) o) (reach days (input_tree (trees g) o)) n.window (pos s)
       on-place i s None e h = omega (arith, ints)
-      on-place i s (Some (BarColumn c)) e h = let l : n.window ≤ s = test-le n.window s (h (BarColumn c) refl) in omega (arith, ints, l)
+      on-place i s (Some (BarColumn c)) e h = let l : n.window ≤ s = leb-true n.window s (h (BarColumn c) refl) in omega (arith, ints, l)
       on-place i s (Some (TermInput u)) e h =
           let lower : u < k = low.inputs i u e in
           on-window (term_at g u) (is-node u (inside u lower)) (get_or since u None) (firsts u lower (mention-input n i u e)) n.window s wide (h (TermInput u) refl)
@@ -230,7 +209,7 @@ module _ (days : List ℤ) (rise : AllPairs (λ a b. a <ℤ b) days) where
         on-node h =
             let three = and_parts (list_all (is_input_ready since n.window last) n.inputs && is_number_ready since d n.mask) (is_number_ready since d n.group) h in
             let two = and_parts (list_all (is_input_ready since n.window last) n.inputs) (is_number_ready since d n.mask) three.0 in
-            rw reach-is (least-above (pos 0) (pos d) (parts (pos last)) (omega (arith, ints)) (
+            rw reach-is (least_above (pos 0) (pos d) (parts (pos last)) (omega (arith, ints)) (
               place two.0 0,
               (place two.0 1, (place two.0 2, (on-number d n.mask mask-own two.1, (on-number d n.group group-own three.1, tt)))),
             ))

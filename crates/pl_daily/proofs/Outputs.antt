@@ -1,14 +1,14 @@
 -- Outputs are used.
 use Rattle.std.proofs.Common.{◌≡◌, ℕ, ◌<◌, true, false, List, [], ◌∷◌, length, map, Some, option_map, option_to_list, slice_get, refl, sym, ◌∙◌, ap, arith}
 use Rattle.std.proofs.lemmas.List.{length-map}
-use Rattle.std.proofs.lemmas.Option.{slice_get_within, slice_get-map}
+use Rattle.std.proofs.lemmas.Option.{slice_get_within}
 use Rattle.circular_buffer.proofs.Places.{slice_get-append_left, slice_get-append_right}
 use Rattle.pl_spec.specs.declared.Frequency.{Frequency}
 use Rattle.pl_spec.specs.Kind.Kind.{Downsample}
 use Rattle.pl_spec.specs.Table.{Pipeline, NamedColumn}
 use Rattle.pl_spec.specs.Term.{Graph, Input, Node}
 use Rattle.pl_spec.specs.Term.Input.{BarColumn, TermInput}
-use Rattle.pl_terms.specs.Checked.{IsChecked, Parts, column_of, columns_of, pipeline_of}
+use Rattle.pl_terms.specs.Checked.{IsChecked, Parts, columns_of, pipeline_of}
 use Rattle.pl_terms.specs.declared.checked.NamedColumn as code
 use Rattle.pl_terms.specs.declared.node.TermId.{TermId}
 use Rattle.pl_terms.specs.Sorts.{all_fit, places}
@@ -24,23 +24,12 @@ screen-used p ok t e =
     output-used p ok (length p.columns) t
     (slice_get-append_right (map term_of p.columns) (option_to_list p.screen) (length p.columns) 0 (omega (arith, long)) ∙ ap (λ o. slice_get (option_to_list o) 0) e)
 
-pub column-used : (p : Pipeline) → IsChecked p → (i : ℕ) (c : NamedColumn) → slice_get p.columns i ≡ Some c → is_used p c.term ≡ true
-column-used p ok i c e =
-    let long : length (map term_of p.columns) ≡ length p.columns = length-map p.columns term_of in
-    let inside : i < length p.columns = slice_get_within p.columns i c e in
-    output-used p ok i c.term
-    (slice_get-append_left (map term_of p.columns) (option_to_list p.screen) i (omega (arith, long, inside)) ∙ slice_get-map term_of p.columns i ∙ ap (option_map term_of) e)
-
 pub column-term-used : (ps : Parts) → IsChecked (pipeline_of ps) → (i : ℕ) (t : TermId) → option_map (λ (c : code.NamedColumn). c.term) (slice_get ps.columns i) ≡ Some t → is_used (pipeline_of ps) t.0 ≡ true
 column-term-used ps ok i t e =
     let cs = columns_of ps.columns in
     let at = column-at ps.columns i t e in
     let inside : i < length (map term_of cs) = slice_get_within (map term_of cs) i t.0 at in
     output-used (pipeline_of ps) ok i t.0 (slice_get-append_left (map term_of cs) (option_to_list (pipeline_of ps).screen) i inside ∙ at)
-
-pub columns-count : (cs : List code.NamedColumn) → length (columns_of cs) ≡ length cs
-unfolding columns_of
-columns-count cs = length-map cs column_of
 
 -- a downsampled term has a term as its first input
 first-term : (g : Graph) (f : Frequency) (is : List Input) → all_fit g (places (Downsample f)) is ≡ true → (u : ℕ) × (slice_get is 0 ≡ Some (TermInput u))

@@ -1,15 +1,13 @@
 -- A used term on its day has what it reads.
 use Rattle.std.proofs.Common.{◌≡◌, ℕ, zero, suc, ◌<◌, ◌≤◌, true, ℤ, pos, ◌-ℤ◌, List, [], ◌∷◌, length, get_or, Some, slice_get, refl, sym, ◌∙◌, ap, arith, subst, All, Bor}
 use Rattle.std.proofs.lemmas.Int.{ints}
-use Rattle.std.proofs.lemmas.List.{get_or_default, length-map}
+use Rattle.std.proofs.lemmas.List.{get_or_default}
 use Rattle.std.proofs.lemmas.Option.{slice_get_within}
-use Rattle.pl_spec.specs.declared.AssetRow.{AssetRow}
 use Rattle.pl_spec.specs.declared.Column.{Column}
 use Rattle.pl_spec.specs.declared.Frequency.{Frequency}
 use Rattle.pl_spec.specs.Kind.Kind.{Downsample}
 use Rattle.pl_spec.specs.Periods.{period_start}
 use Rattle.pl_spec.specs.Rounding.{IsCell}
-use Rattle.pl_spec.specs.Parts.{sid_at}
 use Rattle.pl_spec.specs.Table.{Pipeline}
 use Rattle.pl_spec.specs.Term.{Node}
 use Rattle.pl_spec.specs.Term.Input.{BarColumn, TermInput}
@@ -19,11 +17,10 @@ use Rattle.pl_spec.specs.Graph.{Used, contains, mentions_at}
 use Rattle.pl_spec.specs.Lows.{Reads}
 use Rattle.pl_laws.proofs.Uses.{used_terms-sound, used_terms-complete, lower}
 use Rattle.pl_assets.specs.Labels.{AreLabels}
-use Rattle.pl_cross.specs.Arrays.{sid_in}
 use Rattle.pl_terms.specs.declared.node.Node as code
 use Rattle.pl_terms.specs.declared.node.TermId.{TermId}
 use Rattle.pl_terms.specs.Checked.{IsChecked}
-use Rattle.pl_terms.specs.Nodes.{graph_of, node_of}
+use Rattle.pl_terms.specs.Nodes.{node_of}
 use Rattle.pl_terms.specs.Uses.{is_used, outputs}
 use Rattle.pl_terms.specs.Sorts.{is_windowed}
 use Rattle.pl_planner.specs.Extra.{asks_of}
@@ -36,7 +33,7 @@ use Rattle.pl_rings.specs.Changes.{Ring, AreRings, ring_at}
 use Rattle.pl_rings.specs.Columns.{HoldColumns, rings_of}
 use Rattle.pl_day_rows.specs.declared.turn.TermCells.{TermCells}
 use Rattle.pl_day_rows.specs.declared.turn.Turn.{Turn}
-use Rattle.pl_day_rows.specs.Rows.{capacity_of, rings_in, row_of, sids_of}
+use Rattle.pl_day_rows.specs.Rows.{capacity_of, rings_in, row_of}
 use Rattle.pl_day_rows.specs.Turns.{Moment, IsAlways, IsTurn, IsDayIn, HoldsRow, HoldsRings, HoldsBars, HoldsStart, assets_at, node_at, pipeline_at, sids_at, cell_on, day_window_of}
 use Rattle.pl_day_rows.proofs.Sessions.{fed_days_are_sessions}
 use Rattle.pl_daily.specs.declared.starts.StartCells.{StartCells}
@@ -44,6 +41,7 @@ use Rattle.pl_daily.specs.declared.terms.Lent.{Lent}
 use Rattle.pl_daily.specs.Terms
 use Rattle.pl_daily.specs.Terms.{start_at, start_of, AreTerms, Downsamples, IsAt, IsRowOf, IsStartOf, IsStartRoom, IsTermRow, TermsHold}
 use Rattle.pl_daily.proofs.Begins.{days_are}
+use Rattle.pl_daily.proofs.KeptPlaces.{sid_is}
 
 some_at : {X : Type 0} (xs : List X) (i : ℕ) → i < length xs → (x : X) × (slice_get xs i ≡ Some x)
 some_at [] i h = absurd (omega (arith, h))
@@ -53,11 +51,6 @@ some_at (x ∷ xs) (suc i) h = some_at xs i (omega (arith, h))
 cell_is : (w : World) (p : Pipeline) (sids : List ℕ) (u i s : ℕ) → cell_of w p sids u i s ≡ cell_on w p sids u i (pos s)
 unfolding cell_of
 cell_is w p sids u i s = refl
-
-sid_is : (assets : List AssetRow) (i : ℕ) → i < length assets → sid_in (sids_of assets) i ≡ sid_at assets i
-sid_is [] i h = absurd (omega (arith, h))
-sid_is (a ∷ rest) zero h = refl
-sid_is (a ∷ rest) (suc i) h = sid_is rest i (omega (arith, h))
 
 -- what a used term mentions is used, and lower
 module _ (p : Pipeline) (checked : IsChecked p) (k : ℕ) (n : Node) (used : is_used p k ≡ true) (node : slice_get p.graph k ≡ Some n) where
@@ -78,10 +71,6 @@ module _ (p : Pipeline) (checked : IsChecked p) (k : ℕ) (n : Node) (used : is_
 -- so is the input of a downsampled term
 pub input_used : (p : Pipeline) (k : ℕ) (f : Frequency) (u : ℕ) → IsChecked p → Downsamples p k f u → (u < k) × (u < length p.graph) × (is_used p u ≡ true)
 input_used p k f u checked down = read_used p checked k down.node down.used down.at u _ (Reads.input 0 down.input)
-
-pub length-graph : (ns : List code.Node) → length (graph_of ns) ≡ length ns
-unfolding graph_of
-length-graph ns = length-map ns node_of
 
 module _ (t : Turn) (next : FedDay) (days : List FedDay) (s : StartCells)
     (start : IsStart (start_of t.assets.now t.labels.now)) (are_fed : AreFed (start_of t.assets.now t.labels.now) (next ∷ days)) (day : next.day ≡ t.day)

@@ -1,6 +1,6 @@
 -- The value of a column for an asset that is kept.
 use Rattle.std.proofs.Common.{◌≡◌, ℕ, ◌<◌, true, ℤ, pos, List, length, get_or, Some, option_map, slice_get, refl, sym, ◌∙◌, ap, subst, arith}
-use Rattle.std.proofs.lemmas.Option.{get_or_from_slice_get, slice_get-get_or, slice_get-map, slice_get_read}
+use Rattle.std.proofs.lemmas.Option.{get_or_from_slice_get, slice_get-get_or, slice_get-map, slice_get_read, same_Some}
 use Rattle.pl_spec.specs.Parts.{sid_at}
 use Rattle.pl_spec.specs.Rounding.{IsCell}
 use Rattle.pl_spec.specs.Table.{NamedColumn, Pipeline, in_array, value_of}
@@ -15,17 +15,13 @@ use Rattle.pl_rings.specs.Days.{Start, FedDay, fed, last_session}
 use Rattle.pl_day_rows.specs.declared.turn.TermCells.{TermCells}
 use Rattle.pl_day_rows.specs.Held.{AreTermCells}
 use Rattle.pl_day_rows.specs.Rows.{sids_of}
+use Rattle.pl_day_rows.proofs.DayByDay.{fed_texts}
 use Rattle.pl_daily.specs.declared.daily.Daily.TheInside.{Inside}
 use Rattle.pl_daily.specs.Daily.{Stands, start_in, world_in}
 use Rattle.pl_daily.specs.View.{IsInside, held_of}
-use Rattle.pl_daily.proofs.Downsampled.{some_is}
 use Rattle.pl_daily.proofs.Firsts.{column-at}
 use Rattle.pl_daily.proofs.KeptPlaces.{sid_is}
 use Rattle.pl_daily.proofs.Outputs.{column-term-used}
-
-texts_are : (g : Start) (days : List FedDay) → (fed g days).texts ≡ g.texts
-unfolding fed
-texts_are g days = refl
 
 module _ (d : Inside) (i : IsInside d) (column : ℕ) (t : TermId) (named : option_map (λ (c : code.NamedColumn). c.term) (slice_get d.checked.now.columns column) ≡ Some t) where
   abbrev p : Pipeline
@@ -61,10 +57,10 @@ module _ (d : Inside) (i : IsInside d) (column : ℕ) (t : TermId) (named : opti
             let g : Start = start_in (held_of d) in
             let w : World = fed g days in
             let term_of : NamedColumn → ℕ = λ x. x.term in
-            let same : t.0 ≡ c.term = some_is t.0 c.term (sym (column-at d.checked.now.columns column t named) ∙ slice_get-map term_of p.columns column ∙ ap (option_map term_of) at_c) in
+            let same : t.0 ≡ c.term = same_Some t.0 c.term (sym (column-at d.checked.now.columns column t named) ∙ slice_get-map term_of p.columns column ∙ ap (option_map term_of) at_c) in
             let here : col ≡ a = col_is ∙ get_or_from_slice_get d.kept.items k a col at_a in
             let first : get_or x.row.items col cell ≡ get_or x.row.items col (pos 0) = get_or_from_slice_get x.row.items col (get_or x.row.items col (pos 0)) cell (slice_get-get_or x.row.items col (pos 0) col_row) in
             cell_is ∙ first ∙ (stands.terms t.0 x used at).row col col_in
-            ∙ ap (λ texts. in_array texts (value_of w p t.0 (sid_in (sids_of d.assets.now) col) (last_session days))) (texts_are g days)
+            ∙ ap (λ texts. in_array texts (value_of w p t.0 (sid_in (sids_of d.assets.now) col) (last_session days))) (fed_texts g days)
             ∙ ap (λ s. in_array d.labels.now.texts (value_of w p t.0 s (last_session days))) (sid_is d.assets.now col col_in ∙ ap (sid_at d.assets.now) here)
             ∙ ap (λ u. in_array d.labels.now.texts (value_of w p u (sid_at d.assets.now a) (last_session days))) same

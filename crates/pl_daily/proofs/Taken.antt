@@ -3,7 +3,7 @@ use Rattle.std.proofs.Common.{◌≡◌, ℕ, suc, ◌+◌, ◌<◌, ◌≤◌, 
 use Rattle.std.specs.Int.RustNames.{int_le}
 use Rattle.std.proofs.lemmas.Bool.{ne_eqb}
 use Rattle.std.proofs.lemmas.Int.{ints}
-use Rattle.std.proofs.lemmas.List.{get_or-map, length-map}
+use Rattle.std.proofs.lemmas.List.{get_or-map, length-map, nil_from_length}
 use Rattle.std.proofs.lemmas.Option.{get_or_from_slice_get, slice_get_within}
 use Rattle.circular_buffer.proofs.Places.{slice_get-some}
 use Rattle.pl_spec.specs.Lows.{least_reach}
@@ -35,10 +35,6 @@ use Rattle.pl_daily.proofs.Outputs.{downsample-input, screen-used}
 use Rattle.pl_planner.proofs.Pipelines.{screen-in}
 
 -- ---- lists
-
-no_days : (days : List FedDay) → length days ≡ 0 → days ≡ []
-no_days [] e = refl
-no_days (d ∷ earlier) e = absurd (omega (arith, e))
 
 All-of : {X Y : Type 0} (P : Y → Type 0) (f : X → Y) (xs : List X) → All P (map f xs) → All (λ x. P (f x)) xs
 All-of P f xs all k d l = subst P (get_or-map f xs k d (f d) l) (all k (f d) (let e = length-map xs f in omega (arith, l, e)))
@@ -87,7 +83,7 @@ module _ (h : Held) (day : ℤ) (bars : List DayBar) (events : List DayEvent) (d
     ascend = may.bars_ascend;
     within = may.bars_in;
     cells = may.cells;
-    first = λ none. may.first_has_no_bars (no_days days (sym stands.fed ∙ none));
+    first = λ none. may.first_has_no_bars (nil_from_length days (sym stands.fed ∙ none));
     events_in = All-of (λ (x : ColumnAdjustment). x.col < length h.assets) column_event events may.events_in;
     put_cells = All-of (λ (x : ColumnAdjustment). PutsCell x.event) column_event events may.put_cells;
   }

@@ -26,7 +26,7 @@ steps_back : (days : List FedDay) (m : ℕ) → before (pos (length days)) (suc 
 steps_back [] m = below_first m ∙ sym (below_none m)
 steps_back (d ∷ earlier) m = let e : before (pos (suc (length earlier))) (suc m) ≡ before (pos (length earlier)) m = omega (arith, ints) in e
 
-fed_texts : (g : Start) (days : List FedDay) → (fed g days).texts ≡ g.texts
+pub fed_texts : (g : Start) (days : List FedDay) → (fed g days).texts ≡ g.texts
 unfolding fed
 fed_texts g days = refl
 

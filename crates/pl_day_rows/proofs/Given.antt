@@ -1,6 +1,6 @@
 -- What the term of a turn is worth, family by family.
-use Rattle.std.proofs.Common.{◌≡◌, ℕ, suc, ◌+◌, ◌-◌, ◌<◌, ◌≤◌, true, ◌&&◌, ℤ, pos, List, [], length, drop, get_or, Option, Some, None, slice_get, refl, sym, ◌∙◌, ap, subst, arith, All, unwrap_or, option_map, IfSome}
-use Rattle.std.proofs.lemmas.List.{length-map, get_or_default, length-drop, get_or-drop}
+use Rattle.std.proofs.Common.{◌≡◌, ℕ, suc, ◌-◌, ◌<◌, ◌≤◌, true, ◌&&◌, ℤ, pos, List, [], length, get_or, Option, Some, None, slice_get, refl, sym, ◌∙◌, ap, subst, arith, All, unwrap_or, option_map, IfSome}
+use Rattle.std.proofs.lemmas.List.{length-map, get_or_default}
 use Rattle.circular_buffer.specs.Buffer.{buffer, keep_last}
 use Rattle.pl_spec.specs.declared.AssetRow.{AssetRow}
 use Rattle.pl_spec.specs.Rounding.{IsCell, MISSING}
@@ -15,13 +15,15 @@ use Rattle.pl_spec.specs.Term.Input.{BarColumn, TermInput}
 use Rattle.pl_spec.specs.Table.{Pipeline}
 use Rattle.pl_spec.specs.Value.{sort_kind}
 use Rattle.pl_spec.specs.Window.{before, seen_cell}
+use Rattle.pl_spec.proofs.Cells.{empty-cell}
 use Rattle.pl_terms.specs.declared.node.TermId.{TermId}
 use Rattle.pl_terms.specs.Nodes.{number_of, graph_of}
-use Rattle.pl_terms.specs.declared.node.Node.{Node}
 use Rattle.pl_terms.specs.Sorts.{is_downsampled, is_windowed}
+use Rattle.pl_terms.proofs.Graphs.{graph-long}
 use Rattle.pl_cross.specs.Listing.{Fits, labels_in}
 use Rattle.std.specs.Borrow.{Bor}
 use Rattle.std.proofs.lemmas.Option.{slice_get_within, slice_get-get_or}
+use Rattle.std.proofs.lemmas.List.Elements.{All-drop}
 use Rattle.pl_cross.specs.Arrays.{sid_in, section_at}
 use Rattle.pl_cross.specs.Section.{is_section, HasParameters}
 use Rattle.pl_assets.specs.Labels.{label_on}
@@ -31,8 +33,8 @@ use Rattle.pl_values.specs.Families.{is_sids, is_point, is_label_test, sid_flag,
 use Rattle.pl_values.specs.Laws.{IsNode, IsGiven}
 use Rattle.pl_values.specs.Inputs.{IsInputRow, IsGroupRow, AreRows, AreSectionRows}
 use Rattle.pl_values.proofs.Given.{constant-cell, sid-cell, label-cell, label-test-cell, label-input, point-cell, point-operands, section-cell, section-input, downsampled-cell, downsampled-input}
-use Rattle.pl_values.proofs.KindFamilies.{sids_kind, point_kind, label_test_kind, section_kind, window_kind, downsampled_kind, chosen_cell, empty_is_cell}
 use Rattle.pl_values.proofs.Operations.{fills-all}
+use Rattle.pl_values.proofs.KindFamilies.{sids_kind, point_kind, label_test_kind, section_kind, window_kind, downsampled_kind}
 use Rattle.pl_rings.proofs.Moves.{ends}
 use Rattle.pl_rings.specs.Changes.{Ring, ring_at}
 use Rattle.pl_rings.specs.Columns.{rings_of}
@@ -42,15 +44,6 @@ use Rattle.pl_day_rows.specs.Rows.{Shows, is_kept_by, row_of, rings_in, capacity
 use Rattle.pl_day_rows.specs.Turns.{Moment, IsTurn, IsKept, IsOut, HoldsStart, assets_at, sids_at, node_at, pipeline_at, keeps, number_row, cell_on, day_window_of}
 use Rattle.pl_day_rows.specs.Windows.{window_at, windowed_by}
 use Rattle.pl_day_rows.proofs.DayWindows.{AreDayWindows, takes-day-windows, day-window-cell}
-
-All-drop : (P : ℤ → Type 0) (k : ℕ) (xs : List ℤ) → All P xs → All P (drop k xs)
-All-drop P k xs all j d h =
-    let long : length (drop k xs) ≡ length xs - k = length-drop k xs in
-    subst P (sym (get_or-drop k xs j d)) (all (k + j) d (omega (arith, h, long)))
-
-graph_long : (ns : List Node) → length (graph_of ns) ≡ length ns
-unfolding graph_of
-graph_long ns = length-map ns _
 
 module _ (t : Turn) (v : Moment) (is : IsTurn t v) where
   abbrev w : World
@@ -72,7 +65,7 @@ module _ (t : Turn) (v : Moment) (is : IsTurn t v) where
   node_is = record { checked = is.checked; node = is.node }
 
   pub none_cell : IsCell (empty_cell p t.term.0)
-  none_cell = empty_is_cell (sort_kind (spec.term_at p.graph t.term.0))
+  none_cell = empty-cell (sort_kind (spec.term_at p.graph t.term.0))
 
   pub sids_long : length sids ≡ assets_at t
   sids_long = length-map t.assets.now (λ (a : AssetRow). a.sid)
@@ -112,7 +105,7 @@ module _ (t : Turn) (v : Moment) (is : IsTurn t v) where
   kept_out f keep made out none kept empty size made_is cells given picked = out_is keep out none f kept empty (record {
     long = size ∙ sym kept.long;
     each = λ i h. shown i (omega (arith, h, kept.long));
-    cell = λ i h. subst IsCell (sym (shown i (omega (arith, h, kept.long)))) (chosen_cell (is_true (get_or keep i (pos 0))) (f i) none (cells i (omega (arith, h, kept.long))) (subst IsCell (sym empty) none_cell));
+    cell = λ i h. subst IsCell (sym (shown i (omega (arith, h, kept.long)))) (chosen-cell (is_true (get_or keep i (pos 0))) (f i) none (cells i (omega (arith, h, kept.long))) (subst IsCell (sym empty) none_cell));
   }) given
     where
       shown : (i : ℕ) → i < assets_at t → get_or out i (pos 0) ≡ kept_or none keep f i
@@ -307,7 +300,7 @@ module _ (t : Turn) (v : Moment) (is : IsTurn t v) where
       by_mask (Some u) f e = let same : m.now ≡ row_of (slice_get t.terms.now u) = cc in ap length same ∙ (is.mask u f).fills.long
 
   pub term_known : t.term.0 < length t.checked.now.graph
-  term_known = let l : length (graph_of t.checked.now.graph) ≡ length t.checked.now.graph = graph_long t.checked.now.graph in let h : t.term.0 < length (graph_of t.checked.now.graph) = slice_get_within p.graph t.term.0 n is.node in omega (arith, l, h)
+  term_known = let l : length (graph_of t.checked.now.graph) ≡ length t.checked.now.graph = graph-long t.checked.now.graph in let h : t.term.0 < length (graph_of t.checked.now.graph) = slice_get_within p.graph t.term.0 n is.node in omega (arith, l, h)
 
   -- the ring of a windowed input
   pub ring_there : (place u i : ℕ) → slice_get n.inputs place ≡ Some (TermInput u) → is_windowed n.kind ≡ true → i < assets_at t → (d : TermCells)

@@ -10,6 +10,7 @@ use Rattle.pl_spec.specs.declared.AssetRow.{AssetRow}
 use Rattle.pl_spec.specs.Parts.{sid_at}
 use Rattle.pl_spec.specs.Window.{before}
 use Rattle.pl_spec.specs.World.{World, day_of, exists, label_at, living_sids, lives_on}
+use Rattle.pl_spec.proofs.Columns.{no_asset}
 use Rattle.pl_assets.specs.Labels.{LabelTable, AreLabels, label_on}
 use Rattle.pl_assets.proofs.LabelWorlds.{labels_those}
 use Rattle.pl_cross.specs.Arrays.{sid_in, HasTexts}
@@ -19,10 +20,7 @@ use Rattle.pl_rings.specs.Days.{Start, FedDay, fed, days_of, bars_of, adjustment
 use Rattle.pl_rings.proofs.Moves.{days_are_fed}
 use Rattle.pl_day_rows.specs.Rows.{lives_at, sids_of}
 use Rattle.pl_day_rows.specs.Turns.{FedDaysAreSessions}
-use Rattle.pl_values.proofs.Among.{among-at, is_among}
-
-abbrev blank : AssetRow
-blank = record { sid = 0; start = pos 0; end = pos 0 }
+use Rattle.pl_lifetimes.proofs.Among.{among-at, is_among}
 
 sids_up : (assets : List AssetRow) → AllPairs (λ a b. a.sid < b.sid) assets → AllPairs (λ a b. a < b) (sids_of assets)
 sids_up assets up i j d l h =
@@ -63,8 +61,8 @@ module _ (g : Start) (table : LabelTable) (next : FedDay) (days : List FedDay) (
   at_place : (k : ℕ) (d : AssetRow) → k < length g.assets → is_among (lives_on next.day) g.assets (get_or g.assets k d).sid ≡ lives_on next.day (get_or g.assets k d)
   at_place k d h = among-at (lives_on next.day) g.assets k (get_or g.assets k d) start.sids_ascend (slice_get-get_or g.assets k d h)
 
-  sid_is : (i : ℕ) → i < length g.assets → sid_in (sids_of g.assets) i ≡ (get_or g.assets i blank).sid
-  sid_is i h = get_or-map (λ (a : AssetRow). a.sid) g.assets i blank 0 h
+  sid_is : (i : ℕ) → i < length g.assets → sid_in (sids_of g.assets) i ≡ (get_or g.assets i no_asset).sid
+  sid_is i h = get_or-map (λ (a : AssetRow). a.sid) g.assets i no_asset 0 h
 
   all_here : HasAll w (sids_of g.assets) (length days)
   all_here =
@@ -74,12 +72,12 @@ module _ (g : Start) (table : LabelTable) (next : FedDay) (days : List FedDay) (
   lives_here : (i : ℕ) → i < length g.assets → exists w (sid_in (sids_of g.assets) i) (pos (length days)) ≡ lives_at g.assets next.day i
   lives_here i h =
       ap (λ a. exists w a (pos (length days))) (sid_is i h)
-      ∙ among (get_or g.assets i blank).sid
-      ∙ at_place i blank h
-      ∙ sym (ap (λ o. unwrap_or (option_map (lives_on next.day) o) false) (slice_get-get_or g.assets i blank h))
+      ∙ among (get_or g.assets i no_asset).sid
+      ∙ at_place i no_asset h
+      ∙ sym (ap (λ o. unwrap_or (option_map (lives_on next.day) o) false) (slice_get-get_or g.assets i no_asset h))
 
-  sid_place : (i : ℕ) → i < length g.assets → sid_at g.assets i ≡ (get_or g.assets i blank).sid
-  sid_place i h = ap (λ o. unwrap_or (option_map (λ (a : AssetRow). a.sid) o) 0) (slice_get-get_or g.assets i blank h)
+  sid_place : (i : ℕ) → i < length g.assets → sid_at g.assets i ≡ (get_or g.assets i no_asset).sid
+  sid_place i h = ap (λ o. unwrap_or (option_map (λ (a : AssetRow). a.sid) o) 0) (slice_get-get_or g.assets i no_asset h)
 
   those : (name : List ℕ) (i : ℕ) → i < length g.assets → label_at w name (sid_at g.assets i) (pos (length days)) ≡ option_and_then (label_on g.labels name i) (day_of w (pos (length days)))
   unfolding fed

@@ -1,5 +1,5 @@
 -- Over the numbers of the world itself the single step of a value is the value.
-use Rattle.std.proofs.Common.{◌≡◌, ℕ, ◌+◌, ◌<◌, Bool, true, false, ◌&&◌, if◌then◌else◌, ℤ, List, [], ◌∷◌, ◌++◌, length, Option, Some, None, refl, sym, ap, arith, slice_get, get_or, ◌==◌, inl, inr, length-append}
+use Rattle.std.proofs.Common.{◌≡◌, ℕ, ◌+◌, ◌<◌, Bool, true, false, ◌&&◌, if◌then◌else◌, ℤ, List, [], ◌∷◌, length, Option, Some, None, refl, sym, ap, arith, slice_get, get_or, ◌==◌, inl, inr}
 use Rattle.std.specs.List.{list_any, position_or_len}
 use Rattle.std.specs.Str.{bytes_eq}
 use Rattle.std.proofs.Math.Path.{fun_ext}
@@ -14,7 +14,7 @@ use Rattle.pl_spec.specs.Window.{downward, seen_cell}
 use Rattle.pl_spec.specs.Periods.{period_start}
 use Rattle.pl_spec.specs.Kind.{Kind, WindowKind, LabelKind, CrossKind}
 use Rattle.pl_spec.specs.Kind.Kind.{Constant, Label, StaticSids, Window, Point, LabelTest, Cross, Downsample}
-use Rattle.pl_spec.specs.Term.{Term, Graph, Input, Node, IsGraph, tree_over, trees_after, trees, term_at}
+use Rattle.pl_spec.specs.Term.{Term, Graph, Input, Node, IsGraph, tree_over, trees, term_at}
 use Rattle.pl_spec.specs.Term.Term.{absent, column, node}
 use Rattle.pl_spec.specs.Term.Input.{BarColumn, TermInput}
 use Rattle.pl_spec.specs.Cross.{cross}
@@ -35,6 +35,7 @@ use Rattle.pl_derivation.specs.Facts.Fact.{Seen, Worth}
 use Rattle.pl_spec.proofs.Each.{map_each, each_all}
 use Rattle.pl_derivation.proofs.Finding.{place_within, is_place}
 use Rattle.pl_derivation.proofs.Steps.{before-twice}
+use Rattle.pl_terms.proofs.Interning.{trees-long}
 
 among : (texts : List (List ℕ)) (t : List ℕ) → In t texts → list_any (bytes_eq t) texts ≡ true
 among [] t i = absurd i
@@ -108,17 +109,10 @@ module _ (w : World) (known : HasTexts w) (names : List (List ℕ)) where
   kept (node (Downsample f) size x y z m g) a d =
       gate (sort_kind x) (is_open m a d) _ (now_kept x a (period_start f w.days d) (kept x a (period_start f w.days d)))
 
-trees-length : (ts : List Term) (g : Graph) → length (trees_after ts g) ≡ length ts + length g
-trees-length ts [] = omega arith
-trees-length ts (n ∷ g) =
-    let rest : length (trees_after (ts ++ tree_over ts n ∷ []) g) ≡ length (ts ++ tree_over ts n ∷ []) + length g = trees-length (ts ++ tree_over ts n ∷ []) g in
-    let more : length (ts ++ tree_over ts n ∷ []) ≡ length ts + 1 = length-append ts (tree_over ts n ∷ []) in
-    omega (arith, rest, more)
-
 no_term : (g : Graph) (t : ℕ) → slice_get g t ≡ None → term_at g t ≡ absent
 no_term g t e = elim (cases_lt t (length g)) [
   | inl l ↦ absurd (past g t l e)
-  | inr h ↦ (let long : length (trees g) ≡ 0 + length g = trees-length [] g in get_or_past (trees g) t absent (omega arith))
+  | inr h ↦ (let long : length (trees g) ≡ 0 + length g = trees-long [] g in get_or_past (trees g) t absent (omega arith))
 ]
 
 module _ (w : World) (p : Pipeline) (known : HasTexts w) (ok : IsGraph p.graph) where

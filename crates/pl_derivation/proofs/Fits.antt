@@ -1,10 +1,8 @@
 -- The premises of a fact that may stand in a derivation may stand in it too, and are of a lower depth.
-use Rattle.std.proofs.Common.{◌≡◌, ℕ, zero, suc, ◌<◌, ◌≤◌, Bool, true, false, if◌then◌else◌, cond, ℤ, pos, negsuc, ◌≤ℤ◌, ◌<ℤ◌, List, [], ◌∷◌, ◌++◌, length, map, filter, filter_map, Option, Some, None, option_map, unwrap_or, option_to_list, refl, ◌∙◌, arith, slice_get, ◌==◌, inl, inr}
+use Rattle.std.proofs.Common.{◌≡◌, ℕ, zero, suc, ◌<◌, ◌≤◌, Bool, true, false, if◌then◌else◌, cond, ℤ, pos, negsuc, ◌≤ℤ◌, ◌<ℤ◌, List, [], ◌∷◌, ◌++◌, length, map, filter, filter_map, Option, Some, None, option_map, unwrap_or, option_to_list, refl, arith, slice_get, ◌==◌}
 use Rattle.std.specs.List.{list_any}
-use Rattle.std.specs.Int.RustNames.{int_lt}
 use Rattle.std.proofs.lemmas.Int.{ints}
 use Rattle.std.proofs.lemmas.Bool.{or_left, or_right, and_from, and_parts, eq-eqb}
-use Rattle.std.proofs.lemmas.List.Folds.{list_any-append}
 use Rattle.std.proofs.lemmas.Option.{slice_get_within}
 use Rattle.pl_spec.specs.declared.Column.{Column}
 use Rattle.pl_spec.specs.declared.AssetRow.{AssetRow}
@@ -18,16 +16,19 @@ use Rattle.pl_spec.specs.Term.{Term, Graph, Input, Node, IsGraph, input_tree, nu
 use Rattle.pl_spec.specs.Term.Term.{absent, column, node}
 use Rattle.pl_spec.specs.Term.Input.{BarColumn, TermInput}
 use Rattle.pl_spec.specs.Value.{passes}
-use Rattle.pl_spec.specs.Graph.{part_reach, reads_at, reach, input_number, mentions, contains, used_terms}
+use Rattle.pl_spec.specs.Graph.{part_reach, reads_at, reach, input_number, mentions, contains}
 use Rattle.pl_spec.specs.Graph.Used.{mentioned}
 use Rattle.pl_spec.specs.Table.{Pipeline}
 use Rattle.pl_spec.proofs.Trees.{term_at-node}
 use Rattle.pl_spec.proofs.Unfolds.{past}
 use Rattle.pl_laws.proofs.Uses.{used_terms-sound, used_terms-complete}
-use Rattle.pl_laws.proofs.Reaches.{below_least, at_downward, before-zero}
+use Rattle.pl_laws.proofs.Reaches.{below_least, at_downward}
 use Rattle.pl_laws.proofs.Starts.{start-within}
 use Rattle.pl_terms.specs.Uses.{outputs, is_used}
 use Rattle.pl_spec.proofs.Each.{Each, each_both, each_in_map, each_in_flat, each_more}
+use Rattle.pl_spec.proofs.Signed.{lt-int_lt}
+use Rattle.pl_spec.proofs.Contained.{in-front, in-back, option-in, input-in}
+use Rattle.pl_spec.proofs.Windows.{before-zero, before-less}
 use Rattle.pl_derivation.specs.Facts.{Fact, Reading, window_facts, facts_now, number_facts, over_inputs, entry_facts, kind_facts, number_read, node_facts, premises}
 use Rattle.pl_derivation.specs.Facts.Fact.{Seen, Worth}
 use Rattle.pl_derivation.specs.Right.{has_sid, is_fitting}
@@ -59,12 +60,6 @@ start-from f days m = here (slice_get days m)
     here : (o : Option ℤ) → pos 0 ≤ℤ unwrap_or (option_map (λ day. pos (first_session f days day)) o) (pos m)
     here None = omega (arith, ints)
     here (Some day) = omega (arith, ints)
-
-earlier : (d : ℤ) (n : ℕ) → before d (suc n) <ℤ d
-earlier d n = omega (arith, ints)
-
-earlier_test : (x y : ℤ) → x <ℤ y → int_lt x y ≡ true
-earlier_test x y h = grind (arith, ints)
 
 before-least : (d : ℤ) (size n : ℕ) → n < size → pos 0 ≤ℤ before d size → pos 0 ≤ℤ before d (suc n)
 before-least d size n l h = omega (arith, ints)
@@ -115,25 +110,6 @@ living_known w d = on (day_of w d)
 
 -- ---- mentioned terms
 
-input_mentioned : (is : List Input) (i t : ℕ) → slice_get is i ≡ Some (TermInput t) → contains (filter_map input_number is) t ≡ true
-input_mentioned [] i t e = absurd (let bad : None ≡ Some (TermInput t) = e in cc)
-input_mentioned (BarColumn c ∷ is) zero t e = absurd (let bad : Some (BarColumn c) ≡ Some (TermInput t) = e in cc)
-input_mentioned (BarColumn c ∷ is) (suc i) t e = input_mentioned is i t e
-input_mentioned (TermInput u ∷ is) zero t e =
-    let same : Some (TermInput u) ≡ Some (TermInput t) = e in
-    let number : u ≡ t = cc in
-    or_left (u == t) (contains (filter_map input_number is) t) (eq-eqb u t number)
-input_mentioned (TermInput u ∷ is) (suc i) t e = or_right (u == t) (contains (filter_map input_number is) t) (input_mentioned is i t e)
-
-in_front : (xs ys : List ℕ) (k : ℕ) → contains xs k ≡ true → contains (xs ++ ys) k ≡ true
-in_front xs ys k h = list_any-append (λ x. x == k) xs ys ∙ or_left (contains xs k) (contains ys k) h
-
-in_back : (xs ys : List ℕ) (k : ℕ) → contains ys k ≡ true → contains (xs ++ ys) k ≡ true
-in_back xs ys k h = list_any-append (λ x. x == k) xs ys ∙ or_right (contains xs k) (contains ys k) h
-
-number_in_option : (o : Option ℕ) (t : ℕ) → o ≡ Some t → contains (option_to_list o) t ≡ true
-number_in_option o t e = rw e (or_left (t == t) false (eq-eqb t t refl))
-
 module _ (w : World) (p : Pipeline) (ok : IsGraph p.graph) (windows : HasSessions p.graph) where
   abbrev g : Graph
   g = p.graph
@@ -165,8 +141,8 @@ module _ (w : World) (p : Pipeline) (ok : IsGraph p.graph) (windows : HasSession
         record {
           below = l;
           read = used_too t l
-              (in_front (filter_map input_number n.inputs ++ option_to_list n.mask) (option_to_list n.group) t
-              (in_front (filter_map input_number n.inputs) (option_to_list n.mask) t (input_mentioned n.inputs i t e)));
+              (in-front (filter_map input_number n.inputs ++ option_to_list n.mask) (option_to_list n.group) t
+              (in-front (filter_map input_number n.inputs) (option_to_list n.mask) t (input-in n.inputs i t e)));
         }
 
     mask_lower : (t : ℕ) → n.mask ≡ Some t → Lower t
@@ -175,8 +151,8 @@ module _ (w : World) (p : Pipeline) (ok : IsGraph p.graph) (windows : HasSession
         record {
           below = l;
           read = used_too t l
-              (in_front (filter_map input_number n.inputs ++ option_to_list n.mask) (option_to_list n.group) t
-              (in_back (filter_map input_number n.inputs) (option_to_list n.mask) t (number_in_option n.mask t e)));
+              (in-front (filter_map input_number n.inputs ++ option_to_list n.mask) (option_to_list n.group) t
+              (in-back (filter_map input_number n.inputs) (option_to_list n.mask) t (option-in n.mask t e)));
         }
 
     group_lower : (t : ℕ) → n.group ≡ Some t → Lower t
@@ -184,7 +160,7 @@ module _ (w : World) (p : Pipeline) (ok : IsGraph p.graph) (windows : HasSession
         let l : t < k = (ok.lower k n at).group t e in
         record {
           below = l;
-          read = used_too t l (in_back (filter_map input_number n.inputs ++ option_to_list n.mask) (option_to_list n.group) t (number_in_option n.group t e));
+          read = used_too t l (in-back (filter_map input_number n.inputs ++ option_to_list n.mask) (option_to_list n.group) t (option-in n.group t e));
         }
 
     -- the reach of a term in a window
@@ -207,7 +183,7 @@ module _ (w : World) (p : Pipeline) (ok : IsGraph p.graph) (windows : HasSession
       worth_ready t s lower at_s low = let l : t < k = lower.below in ((and_from _ _ sid lower.read, at_s, low), omega arith)
 
       bar_ready : (c : Column) (s : ℤ) → s <ℤ d → pos 0 ≤ℤ s → Ready (suc k) (Seen c a s d)
-      bar_ready c s l low = ((and_from _ _ sid (earlier_test s d l), session_before w s d now low (omega (arith, ints)), now), omega arith)
+      bar_ready c s l low = ((and_from _ _ sid (lt-int_lt s d l), session_before w s d now low (omega (arith, ints)), now), omega arith)
 
       now_ready : (i : ℕ) (size : ℕ) → 1 ≤ size → pos 0 ≤ℤ part_reach (input_tree (trees g) (slice_get n.inputs i)) (reach w.days (input_tree (trees g) (slice_get n.inputs i))) size d
           → Each (Ready (suc k)) (facts_now a d (slice_get n.inputs i))
@@ -236,7 +212,7 @@ module _ (w : World) (p : Pipeline) (ok : IsGraph p.graph) (windows : HasSession
           found : (o : Option Input) → slice_get n.inputs i ≡ o → pos 0 ≤ℤ part_reach (input_tree (trees g) o) (reach w.days (input_tree (trees g) o)) size d → Each (Ready (suc k)) (window_facts size a d o)
           found None e low = tt
           found (Some (BarColumn c)) e low =
-              each_in_map (Ready (suc k)) _ (downward size) (each_downward _ size (λ j l. bar_ready c (before d (suc j)) (earlier d j) (before-least d size j l low)))
+              each_in_map (Ready (suc k)) _ (downward size) (each_downward _ size (λ j l. bar_ready c (before d (suc j)) (before-less d j) (before-least d size j l low)))
           found (Some (TermInput t)) e low =
               let lower : Lower t = input_lower i t e in
               each_in_map (Ready (suc k)) _ (downward size) (each_downward _ size (λ j l.

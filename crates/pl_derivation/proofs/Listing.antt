@@ -2,6 +2,7 @@
 use Rattle.std.proofs.Common.{◌≡◌, ℕ, suc, ◌+◌, ◌<◌, ◌≤◌, ◌==◌, true, false, nat_lt, List, [], ◌∷◌, ◌++◌, length, take, drop, position, Some, None, Result, Ok, Err, refl, sym, ◌∙◌, ap, arith, append_assoc, length-append, map}
 use Rattle.std.proofs.lemmas.List.{map-append}
 use Rattle.std.proofs.lemmas.Bool.Decides.{nat_tests}
+use Rattle.std.proofs.Math.Numerals.{suc-eq-add-one}
 use Rattle.pl_spec.specs.Limits.{most_lines}
 use Rattle.pl_derivation.specs.Lines.{Line}
 use Rattle.pl_derivation.specs.Texts.{Broken, pieces, line_in, with_line, line_judged, lines_from, lines_in, IsWritable, AreWritable}
@@ -30,9 +31,6 @@ from_more : (n : ℕ) (piece : List ℕ) (ps : List (List ℕ)) → 1 ≤ length
 from_more n piece [] h = absurd (omega arith)
 from_more n piece (q ∷ qs) h = refl
 
-next : (n : ℕ) → suc n ≡ n + 1
-next n = omega arith
-
 line_told : (ls : List Line) (l : Line) (r : Result (List Line) Broken) → lines_told ls (with_line l r) ≡ lines_told (ls ++ l ∷ []) r
 line_told ls l (Ok more) = ap Ok (sym (append_assoc ls (l ∷ []) more))
 line_told ls l (Err e) = refl
@@ -47,7 +45,7 @@ writable_more (m ∷ ls) l h i = (h.0, writable_more ls l h.1 i)
 
 module _ (bytes : List ℕ) (ls : List Line) (n : ℕ) (left : List ℕ) (told : lines_in bytes ≡ lines_told ls (lines_from (suc n) (pieces 10 left))) where
   pub no_end : 0 < length left → position (λ b. b == 10) left ≡ None → lines_in bytes ≡ Err (BadLine (n + 1))
-  no_end some e = told ∙ ap (λ ps. lines_told ls (lines_from (suc n) ps)) (cut_none 10 left e) ∙ here left some ∙ ap (λ k. Err (BadLine k)) (next n)
+  no_end some e = told ∙ ap (λ ps. lines_told ls (lines_from (suc n) ps)) (cut_none 10 left e) ∙ here left some ∙ ap (λ k. Err (BadLine k)) (suc-eq-add-one n)
     where
       here : (xs : List ℕ) → 0 < length xs → lines_told ls (lines_from (suc n) (xs ∷ [])) ≡ Err (BadLine (suc n))
       here [] some = absurd (omega arith)
@@ -63,12 +61,12 @@ module _ (bytes : List ℕ) (ls : List Line) (n : ℕ) (left : List ℕ) (told :
         ∙ ap (lines_told ls) (from_more (suc n) (take end left) (pieces 10 (drop (end + 1) left)) (some_piece 10 (drop (end + 1) left)))
 
     pub no_line : None ≡ line_in (take end left) → lines_in bytes ≡ Err (BadLine (n + 1))
-    no_line e = judged ∙ ap (λ o. lines_told ls (line_judged (suc n) o rest)) (sym e) ∙ ap (λ k. Err (BadLine k)) (next n)
+    no_line e = judged ∙ ap (λ o. lines_told ls (line_judged (suc n) o rest)) (sym e) ∙ ap (λ k. Err (BadLine k)) (suc-eq-add-one n)
 
     pub past_most : (l : Line) → Some l ≡ line_in (take end left) → n ≡ most_lines → lines_in bytes ≡ Err (TooMany (n + 1))
     past_most l e h =
         let many : nat_lt most_lines (suc n) ≡ true = grind (arith, nat_tests) in
-        judged ∙ ap (λ o. lines_told ls (line_judged (suc n) o rest)) (sym e) ∙ rw many (ap (λ k. Err (TooMany k)) (next n))
+        judged ∙ ap (λ o. lines_told ls (line_judged (suc n) o rest)) (sym e) ∙ rw many (ap (λ k. Err (TooMany k)) (suc-eq-add-one n))
 
     pub one_more : (l : Line) → Some l ≡ line_in (take end left) → n < most_lines → lines_in bytes ≡ lines_told (ls ++ l ∷ []) rest
     one_more l e h =

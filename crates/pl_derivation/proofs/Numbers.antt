@@ -89,10 +89,6 @@ plain_said text x other h e = here (is_missing x) refl x refl h
         let is : text ≡ 45 ∷ decimal (suc n) = rw s at shown in
         absurd (other (ap (λ t. get_or t 0 0) is))
 
-pub minus_front : (text : List ℕ) → 0 < length text → get_or text 0 0 ≡ 45 → text ≡ 45 ∷ drop 1 text
-minus_front [] some e = absurd (omega arith)
-minus_front (x ∷ xs) some e = let same : x ≡ 45 = e in rw same refl
-
 pub missing_said : (digits : List ℕ) (x : ℤ) → length digits ≡ 0 → IsCell x → 45 ∷ digits ≡ number_text x → Some MISSING ≡ Some x
 missing_said [] x none h e = one_number (45 ∷ []) MISSING x (inl refl) h refl e
 missing_said (d ∷ ds) x none h e = absurd (omega arith)

@@ -4,6 +4,7 @@ use Rattle.std.specs.List.{list_all}
 use Rattle.std.specs.Ordering.{int_eq}
 use Rattle.std.proofs.lemmas.Bool.{true≢false, or_cases, or_left}
 use Rattle.std.proofs.lemmas.List.Folds.{list_any-append}
+use Rattle.std.specs.Cmp.{both_ways}
 use Rattle.pl_spec.specs.World.{World}
 use Rattle.pl_spec.specs.Term.{IsGraph}
 use Rattle.pl_spec.specs.Table.{Pipeline}
@@ -19,11 +20,6 @@ use Rattle.pl_derivation.proofs.Steps.{fact_same}
 use Rattle.pl_derivation.proofs.Codes.{step_true}
 use Rattle.pl_derivation.proofs.Truths.{and3, fact_is, Tells, told_true, right_tells, no_map, none_wrong}
 
-same_truth : (a b : Bool) → (a ≡ true → b ≡ true) → (b ≡ true → a ≡ true) → a ≡ b
-same_truth true b f g = sym (f refl)
-same_truth false true f g = g refl
-same_truth false false f g = refl
-
 and3_from : (x y z : Bool) → x ≡ true → y ≡ true → z ≡ true → (x && y && z) ≡ true
 and3_from x y z h i j = rw (h, i, j) refl
 
@@ -38,7 +34,7 @@ module _ (w : World) (p : Pipeline) (known : HasTexts w) (ok : IsGraph p.graph) 
 
   about : (lines : List Line) → Each (Tells w p) lines → (l : Line) (f : Fact)
       → is_right_about w p lines l (Some f) ≡ (is_fitting w p f && stands lines f && tells_world w p l f)
-  about lines h l f = same_truth _ _ there back
+  about lines h l f = both_ways _ _ there back
     where
       there : is_right_about w p lines l (Some f) ≡ true → (is_fitting w p f && stands lines f && tells_world w p l f) ≡ true
       there e =

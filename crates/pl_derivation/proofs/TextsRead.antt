@@ -20,8 +20,9 @@ use Rattle.pl_spec.proofs.DatesWritten.{IsDate-date_text}
 use Rattle.pl_spec.proofs.SidsRead.{sid_in-decimal}
 use Rattle.pl_derivation.specs.Lines.{Line}
 use Rattle.pl_derivation.specs.Lines.Line.{SeenLine, ValueLine}
-use Rattle.pl_derivation.specs.Texts.{column_name, number_text, fields_of, body_of, text_of, pieces, column_in, number_of_text, numbers_in, line_in_fields, line_in, lines_from, lines_in, AreCells, IsWritable, AreWritable}
+use Rattle.pl_derivation.specs.Texts.{number_text, fields_of, body_of, text_of, pieces, column_in, number_of_text, numbers_in, line_in_fields, line_in, lines_from, lines_in, AreCells, IsWritable, AreWritable}
 use Rattle.pl_spec.proofs.Each.{Each, each_both, each_in_map, each_all, each_more}
+use Rattle.pl_spec.specs.Names.{column_name}
 
 -- ---- pieces
 

@@ -5,8 +5,8 @@ use Rattle.std.specs.Option.{option_and_then}
 use Rattle.std.specs.Fmt.{decimal, signed_decimal}
 use Rattle.std.specs.Str.Parse.{signed_digits_value}
 use Rattle.std.specs.Int.RustNames.{unsigned_abs}
-use Rattle.std.proofs.lemmas.Bool.{and_parts, eqb-true, cases_Bool}
-use Rattle.std.proofs.lemmas.Bool.Decides.{nat_tests, Decides-int_eq}
+use Rattle.std.proofs.lemmas.Bool.{and_parts, eqb-true}
+use Rattle.std.proofs.lemmas.Bool.Decides.{nat_tests}
 use Rattle.std.proofs.lemmas.Slice.Eq.{bytes_eq-Decides}
 use Rattle.pl_spec.specs.declared.Column.{Column}
 use Rattle.pl_spec.specs.declared.Column.TheVariants.{OpenPrice, High, Low, Close, Volume}
@@ -16,9 +16,11 @@ use Rattle.pl_spec.specs.Decimals.{sid_in}
 use Rattle.pl_spec.proofs.DatesRead.{IsDate-date_in}
 use Rattle.pl_spec.proofs.DatesWritten.{date_text-IsDate, IsDay-IsDate}
 use Rattle.pl_spec.proofs.SidsRead.{decimal-sid_in}
+use Rattle.pl_spec.proofs.Greatest.{missing-far}
+use Rattle.pl_spec.specs.Names.{column_name}
 use Rattle.pl_derivation.specs.Lines.{Line}
 use Rattle.pl_derivation.specs.Lines.Line.{SeenLine, ValueLine}
-use Rattle.pl_derivation.specs.Texts.{column_name, number_text, fields_of, body_of, in_first, pieces, column_in, number_of_text, numbers_in, seen_line, value_line, line_in_fields, line_in, AreCells, IsWritable}
+use Rattle.pl_derivation.specs.Texts.{number_text, fields_of, body_of, in_first, pieces, column_in, number_of_text, numbers_in, seen_line, value_line, line_in_fields, line_in, AreCells, IsWritable}
 
 -- ---- pieces put together again
 
@@ -80,12 +82,6 @@ column_said text c h = first (bytes_eq text (codes "open")) refl h
 date_said : (text : List ℕ) (day : ℤ) → date_in text ≡ Some day → (text ≡ date_text day) × IsDay day
 date_said text day h = let date = IsDate-date_in text day h in (date_text-IsDate text day date, IsDay-IsDate text day date)
 
-present_if_small : (x : ℤ) → unsigned_abs x ≤ LIMIT → is_missing x ≡ false
-present_if_small x l = elim (cases_Bool (is_missing x)) [
-  | inl m ↦ (let e : x ≡ MISSING = (Decides-int_eq x MISSING).0 m in let far : unsigned_abs MISSING ≤ LIMIT = rw e at l in absurd (omega arith))
-  | inr n ↦ n
-]
-
 pub number_said : (text : List ℕ) (x : ℤ) → number_of_text text ≡ Some x → (text ≡ number_text x) × IsCell x
 unfolding number_of_text
 number_said text x h = first (nat_le (unsigned_abs (signed_digits_value 10 text)) LIMIT && bytes_eq text (signed_decimal (signed_digits_value 10 text))) refl h
@@ -104,7 +100,7 @@ number_said text x h = first (nat_le (unsigned_abs (signed_digits_value 10 text)
         let le : nat_le (unsigned_abs x) LIMIT ≡ true = rw is at parts.0 in
         let small : unsigned_abs x ≤ LIMIT = grind (arith, nat_tests) in
         let spelled : text ≡ signed_decimal x = rw is at (same_text text _ parts.1) in
-        let present : is_missing x ≡ false = present_if_small x small in
+        let present : is_missing x ≡ false = missing-far x small in
         (spelled ∙ rw present refl, inr small)
     first false e h = second (bytes_eq text (45 ∷ [])) refl h
 

@@ -1,5 +1,5 @@
 -- Where no line is wrong, each tells the number that the world has.
-use Rattle.std.proofs.Common.{◌≡◌, ℕ, zero, suc, Bool, true, false, ◌&&◌, ℤ, pos, List, [], ◌∷◌, ◌++◌, fold, get_or, Option, Some, None, option_map, refl, sym, ◌∙◌, ap, slice_get, ◌==◌, inl, inr}
+use Rattle.std.proofs.Common.{◌≡◌, ℕ, suc, Bool, true, false, ◌&&◌, ℤ, pos, List, [], ◌∷◌, ◌++◌, fold, get_or, Option, Some, None, option_map, refl, sym, ◌∙◌, ap, slice_get, ◌==◌, inl, inr}
 use Rattle.std.specs.List.{list_any, list_all}
 use Rattle.std.specs.Option.{option_and_then, option_to_list}
 use Rattle.std.specs.Ordering.{int_eq}
@@ -9,7 +9,6 @@ use Rattle.std.proofs.lemmas.Bool.Decides.{Decides-int_eq}
 use Rattle.std.proofs.lemmas.Slice.Eq.{slice_eq-Decides}
 use Rattle.std.proofs.lemmas.Option.{slice_get-get_or}
 use Rattle.pl_spec.specs.declared.Column.{Column}
-use Rattle.pl_spec.specs.declared.Column.TheVariants.{OpenPrice, High, Low, Close, Volume}
 use Rattle.pl_spec.specs.Rounding.{MISSING}
 use Rattle.pl_spec.specs.World.{World, day_of, bar_cell, column_number}
 use Rattle.pl_spec.specs.Window.{Effect, changed, after_all, effects, seen_cell}
@@ -23,35 +22,16 @@ use Rattle.pl_derivation.specs.Lines.Line.{SeenLine, ValueLine}
 use Rattle.pl_cross.specs.Arrays.{HasTexts}
 use Rattle.pl_derivation.specs.Laws.{IsTrueLine}
 use Rattle.pl_spec.proofs.Each.{Each, each_both, each_more, each_list_all, each_at}
+use Rattle.pl_spec.proofs.Signed.{int_eq-true, int_eq-itself}
+use Rattle.pl_spec.proofs.Columns.{column_number-one}
 use Rattle.pl_derivation.proofs.Finding.{place_found}
 use Rattle.pl_derivation.proofs.Steps.{fact_same}
 use Rattle.pl_derivation.proofs.Codes.{step_true}
 
 -- ---- one fact
 
-column_at : ℕ → Column
-column_at zero = OpenPrice
-column_at (suc zero) = High
-column_at (suc (suc zero)) = Low
-column_at (suc (suc (suc zero))) = Close
-column_at (suc (suc (suc (suc n)))) = Volume
-
-column_back : (c : Column) → column_at (column_number c) ≡ c
-unfolding column_at
-column_back OpenPrice = refl
-column_back High = refl
-column_back Low = refl
-column_back Close = refl
-column_back Volume = refl
-
 pub column_same : (c c' : Column) → (column_number c == column_number c') ≡ true → c ≡ c'
-column_same c c' h = sym (column_back c) ∙ ap column_at (eqb-true (column_number c) (column_number c') h) ∙ column_back c'
-
-same_int : (x y : ℤ) → int_eq x y ≡ true → x ≡ y
-same_int x y h = (Decides-int_eq x y).0 h
-
-int_same : (x : ℤ) → int_eq x x ≡ true
-int_same x = (Decides-int_eq x x).1 refl
+column_same c c' h = column_number-one c c' (eqb-true (column_number c) (column_number c') h)
 
 nat_same : (x : ℕ) → (x == x) ≡ true
 nat_same x = eq-eqb x x refl
@@ -67,16 +47,16 @@ and4 false y z u h = absurd (true≢false (sym h))
 pub same_is : (f g : Fact) → same_fact f g ≡ true → f ≡ g
 same_is (Seen c a s d) (Seen c' a' s' d') h =
     let p = and4 (column_number c == column_number c') (a == a') (int_eq s s') (int_eq d d') h in
-    rw (column_same c c' p.0, eqb-true a a' p.1, same_int s s' p.2, same_int d d' p.3) refl
+    rw (column_same c c' p.0, eqb-true a a' p.1, int_eq-true s s' p.2, int_eq-true d d' p.3) refl
 same_is (Worth t a d) (Worth t' a' d') h =
     let p = and3 (t == t') (a == a') (int_eq d d') h in
-    rw (eqb-true t t' p.0, eqb-true a a' p.1, same_int d d' p.2) refl
+    rw (eqb-true t t' p.0, eqb-true a a' p.1, int_eq-true d d' p.2) refl
 same_is (Seen c a s d) (Worth t' a' d') h = absurd (true≢false (sym h))
 same_is (Worth t a d) (Seen c' a' s' d') h = absurd (true≢false (sym h))
 
 pub is_same : (f : Fact) → same_fact f f ≡ true
-is_same (Seen c a s d) = rw (nat_same (column_number c), nat_same a, int_same s, int_same d) refl
-is_same (Worth t a d) = rw (nat_same t, nat_same a, int_same d) refl
+is_same (Seen c a s d) = rw (nat_same (column_number c), nat_same a, int_eq-itself s, int_eq-itself d) refl
+is_same (Worth t a d) = rw (nat_same t, nat_same a, int_eq-itself d) refl
 
 -- ---- the fact of a line
 
@@ -97,7 +77,7 @@ is_fact w f l e = rw (e, is_same f) refl
 session_is : (w : World) (day : ℤ) (s : ℕ) → session_of w day ≡ Some s → day_of w (pos s) ≡ Some day
 session_is w day s e =
     let place = place_found (λ x. int_eq x day) w.days s (pos 0) e in
-    let same : get_or w.days s (pos 0) ≡ day = same_int (get_or w.days s (pos 0)) day place.1 in
+    let same : get_or w.days s (pos 0) ≡ day = int_eq-true (get_or w.days s (pos 0)) day place.1 in
     slice_get-get_or w.days s (pos 0) place.0 ∙ ap Some same
 
 seen_sessions : (c : Column) (a : ℕ) (f : Fact) (o q : Option ℕ) → option_and_then (λ s. option_map (λ d. Seen c a (pos s) (pos d)) q) o ≡ Some f
@@ -153,7 +133,7 @@ module _ (w : World) (p : Pipeline) where
       let same : cells ≡ seen_cells w a c s d = (slice_eq-Decides Decides-int_eq cells (seen_cells w a c s d) _ refl).0 h in
       ap last_cell same ∙ last_seen w a c s d
   tells_number r (SeenLine c' a' bar day cells) (Worth t a d) h = absurd (true≢false (sym h))
-  tells_number r (ValueLine t a day v) f h = same_int v (single_step w p r f) h
+  tells_number r (ValueLine t a day v) f h = int_eq-true v (single_step w p r f) h
 
   module _ (known : HasTexts w) (ok : IsGraph p.graph) where
     -- after true lines a right line is true

@@ -23,7 +23,7 @@ use Rattle.pl_derivation.specs.Laws.{IsAsked, IsDerivation}
 use Rattle.pl_spec.proofs.Each.{Each, each_both, each_more, each_in_map, list_all_each}
 use Rattle.pl_derivation.proofs.Steps.{fact_same}
 use Rattle.pl_derivation.proofs.Codes.{step_true}
-use Rattle.pl_derivation.proofs.Truths.{same_is, is_same, is_fact, last_seen, Tells, told_true}
+use Rattle.pl_derivation.proofs.Truths.{same_is, is_same, is_fact, last_seen, Tells, told_true, none_wrong}
 use Rattle.pl_derivation.proofs.Fits.{HasSessions, IsSession, Fits, Ready, premises_ready}
 
 not_equal : (x y : ℤ) → x <ℤ y → int_eq x y ≡ false
@@ -40,9 +40,6 @@ session_of_day w up n day e =
 
 date_is : (w : World) (d : ℤ) → (s : IsSession w d) → date_of w d ≡ s.1
 date_is w d s = rw (s.2, s.3) refl
-
-none_wrong : ◌≡◌ {A = Option ℕ} (Some 0) None → ⊥
-none_wrong h = cc
 
 module _ (w : World) (p : Pipeline) (ok : IsWorld w) (known : HasTexts w) (graph : IsGraph p.graph) (windows : HasSessions p.graph) where
   abbrev Fit : Fact → Type 0

@@ -10,17 +10,11 @@ use Rattle.pl_spec.specs.declared.Column.TheVariants.{OpenPrice, High, Low, Clos
 use Rattle.pl_spec.specs.Rounding.{LIMIT, MISSING, is_missing, IsCell}
 use Rattle.pl_spec.specs.Dates.{IsDay, date_text, date_in}
 use Rattle.pl_spec.specs.Decimals.{sid_in}
+use Rattle.pl_spec.specs.Names.{column_name}
 use Rattle.pl_derivation.specs.Lines.{Line}
 use Rattle.pl_derivation.specs.Lines.Line.{SeenLine, ValueLine}
 
 -- ---- writing
-
-abbrev pub column_name : Column → List ℕ
-column_name OpenPrice = codes "open"
-column_name High = codes "high"
-column_name Low = codes "low"
-column_name Close = codes "close"
-column_name Volume = codes "volume"
 
 -- a whole number, or - where it is missing
 abbrev pub number_text : ℤ → List ℕ

@@ -2,7 +2,8 @@
 
 ghost use Rattle.std.specs.Prelude.{◌≡◌, ◌++◌, ◌∷◌, [], IfOk, map, flat_map, decimal, codes};
 ghost use Rattle.pl_spec.specs.Dates.{IsDay, date_text};
-ghost use Rattle.pl_derivation.specs.Texts.{column_name, number_text, body_of, text_of, IsWritable};
+ghost use Rattle.pl_spec.specs.Names.{column_name};
+ghost use Rattle.pl_derivation.specs.Texts.{number_text, body_of, text_of, IsWritable};
 ghost use Rattle.pl_derivation.specs.Listed.{line_of};
 ghost use Rattle.pl_derivation.specs.Lines.Line.{SeenLine, ValueLine};
 

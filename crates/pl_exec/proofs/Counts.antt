@@ -1,35 +1,13 @@
 -- Numbers below a bound, counted.
-use Rattle.std.proofs.Common.{◌≡◌, ◌≢◌, ℕ, zero, suc, ◌+◌, ◌<◌, Bool, cond, max, [], ◌∷◌, ◌++◌, map, fold, refl, sym, ◌∙◌, ap, arith, inl, inr}
+use Rattle.std.proofs.Common.{◌≡◌, ◌≢◌, ℕ, zero, suc, ◌+◌, ◌<◌, Bool, [], ◌∷◌, ◌++◌, refl, sym, ◌∙◌, ap, arith, inl, inr}
 use Rattle.std.specs.List.{range_with_len, count_by}
 use Rattle.std.proofs.lemmas.Bool.{cases_eq}
-use Rattle.std.proofs.lemmas.List.{map-append}
-use Rattle.std.proofs.lemmas.List.Sums.{fold-append}
-
-abbrev pub one : Bool → ℕ
-one b = cond b 1 0
-
-range_more : (a n : ℕ) → range_with_len a (n + 1) ≡ range_with_len a n ++ (a + n) ∷ []
-range_more a zero = let e : a + 0 ≡ a = omega arith in ap (λ x. x ∷ []) (sym e)
-range_more a (suc n) =
-    let e : a + 1 + n ≡ a + suc n = omega arith in
-    let s : suc n + 1 ≡ suc (n + 1) = omega arith in
-    ap (range_with_len a) s ∙ ap (λ l. a ∷ l) (range_more (a + 1) n ∙ ap (λ x. range_with_len (a + 1) n ++ x ∷ []) e)
-
-pub range_next : (n : ℕ) → range_with_len 0 (n + 1) ≡ range_with_len 0 n ++ n ∷ []
-range_next n = let e : 0 + n ≡ n = omega arith in range_more 0 n ∙ ap (λ x. range_with_len 0 n ++ x ∷ []) e
+use Rattle.pl_spec.proofs.Ranges.{range-next}
+use Rattle.pl_planner.proofs.Counting.{count_suc}
+use Rattle.pl_planner.specs.Slotting.{one}
 
 pub range_suc : (n : ℕ) → range_with_len 0 (suc n) ≡ range_with_len 0 n ++ n ∷ []
-range_suc n = let e : suc n ≡ n + 1 = omega arith in ap (range_with_len 0) e ∙ range_next n
-
-pub count_more : (p : ℕ → Bool) (n : ℕ) → count_by p (range_with_len 0 (n + 1)) ≡ count_by p (range_with_len 0 n) + one (p n)
-count_more p n = ap (count_by p) (range_next n) ∙ fold-append (λ a x. a + cond (p x) 1 0) 0 (range_with_len 0 n) (n ∷ [])
-
-pub count_suc : (p : ℕ → Bool) (n : ℕ) → count_by p (range_with_len 0 (suc n)) ≡ count_by p (range_with_len 0 n) + one (p n)
-count_suc p n = let e : suc n ≡ n + 1 = omega arith in ap (λ m. count_by p (range_with_len 0 m)) e ∙ count_more p n
-
--- the greatest of one number more
-pub most_more : (f : ℕ → ℕ) (n : ℕ) → fold max 0 (map f (range_with_len 0 (n + 1))) ≡ max (fold max 0 (map f (range_with_len 0 n))) (f n)
-most_more f n = ap (λ l. fold max 0 (map f l)) (range_next n) ∙ ap (fold max 0) (map-append f (range_with_len 0 n) (n ∷ [])) ∙ fold-append max 0 (map f (range_with_len 0 n)) (f n ∷ [])
+range_suc n = let e : suc n ≡ n + 1 = omega arith in ap (range_with_len 0) e ∙ range-next n
 
 pub count_below : (p q : ℕ → Bool) (n : ℕ) → ((j : ℕ) → j < n → p j ≡ q j) → count_by p (range_with_len 0 n) ≡ count_by q (range_with_len 0 n)
 count_below p q zero h = refl

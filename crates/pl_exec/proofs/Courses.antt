@@ -1,10 +1,11 @@
 -- One term on all its sessions: its turns, the arrays that it reads there, and its cells asset by asset.
-use Rattle.std.proofs.Common.{◌≡◌, ℕ, zero, suc, ◌+◌, ◌-◌, ◌*◌, ◌<◌, ◌≤◌, Bool, ℤ, pos, List, [], ◌∷◌, length, take, drop, get_or, Option, Some, None, slice_get, refl, sym, ◌∙◌, ap, subst, arith}
+use Rattle.std.proofs.Common.{◌≡◌, ℕ, ◌+◌, ◌-◌, ◌*◌, ◌<◌, ◌≤◌, Bool, ℤ, pos, List, length, take, drop, get_or, Option, Some, None, slice_get, refl, sym, ◌∙◌, ap, subst, arith}
 use Rattle.std.proofs.lemmas.List.{get_or-take, get_or-drop, length-take-le, length-drop}
 use Rattle.std.proofs.Math.Nat.{mul_comm}
 use Rattle.pl_spec.specs.Rounding.{IsCell}
 use Rattle.pl_spec.specs.Term as spec
 use Rattle.pl_spec.specs.Term.Input.{BarColumn, TermInput}
+use Rattle.pl_spec.proofs.Places.{row-within}
 use borrow.Rule.Slice.PartMut.{put_mid}
 use Rattle.pl_bars.proofs.BarFilling.{part_within, part_written}
 use Rattle.pl_values.specs.Arrays.{Holds, Fills, is_kept}
@@ -15,7 +16,7 @@ use Rattle.pl_exec.specs.declared.turn.Turn.{Turn}
 use Rattle.pl_exec.specs.Tasks.{Task, IsArray, assets_in, cell_in, count_in, low_in, sids_in}
 use Rattle.pl_exec.specs.Jobs.{AreLanes, IsArrayOf, IsCourse, IsLent, IsMaskLent, IsOperand, IsReadFrom, IsTurn, node_at, node_in, task_at, task_in, turn_in}
 use Rattle.pl_exec.proofs.Held.{turn_is, held}
-use Rattle.pl_exec.proofs.Spans.{at_within, at_is, place_within}
+use Rattle.pl_exec.proofs.Spans.{at_within, at_is}
 
 pub course_turn : (c : Course) → IsCourse c → (j : ℕ) → j < c.count → IsTurn (turn_in c j)
 course_turn c is j h = turn_is (turn_in c j) is.job is.run is.node (let l = is.low in omega arith) (let e = is.end in omega arith) is.none
@@ -42,11 +43,6 @@ unmasked t None lent = refl
 unmasked t (Some u) lent = absurd lent
 
 -- ---- lanes
-
-pub one_taken : (xs : List ℕ) (i n : ℕ) → i < length xs → n ≡ 1 → take n (drop i xs) ≡ get_or xs i 0 ∷ []
-one_taken [] i n h e = absurd (omega arith)
-one_taken (x ∷ xs) zero n h e = rw e refl
-one_taken (x ∷ xs) (suc i) n h e = one_taken xs i n (omega arith) e
 
 pub none_laned : (f : ℕ → ℕ → ℤ) (low count : ℕ) (cells : List ℤ) → AreLanes f low count 0 cells
 none_laned f low count cells = record { each = λ i j a l. absurd (omega arith); cell = λ i j a l. absurd (omega arith) }
@@ -91,7 +87,7 @@ module _ (c : Course) (u : ℕ) (a : Array) (is : IsCourse c) (read : IsReadFrom
   lane_within =
       let some = is.some in
       let e = is.end in let f = read.array.end in let l = read.early in
-      let p = place_within i (assets_in (task_in c)) a.count (c.low - a.low + (c.count - 1)) asset (omega arith) in
+      let p = row-within i (assets_in (task_in c)) a.count (c.low - a.low + (c.count - 1)) asset (omega arith) in
       let r = read_held.room in
       omega arith
 

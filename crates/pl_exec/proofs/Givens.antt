@@ -1,27 +1,22 @@
 -- What the term of a turn is worth, family by family.
-use Rattle.std.proofs.Common.{◌≡◌, ℕ, ◌+◌, ◌<◌, Bool, true, false, if◌then◌else◌, ℤ, pos, List, [], length, get_or, set, Option, Some, slice_get, refl, sym, ◌∙◌, ap, subst, arith, All, inl, inr, unwrap_or}
-use Rattle.std.specs.List.{list_any}
+use Rattle.std.proofs.Common.{◌≡◌, ℕ, ◌+◌, ◌<◌, true, ℤ, pos, List, [], length, get_or, set, Option, Some, slice_get, sym, ◌∙◌, ap, subst, arith, All, unwrap_or}
 use Rattle.std.specs.Option.{option_and_then}
-use Rattle.std.proofs.lemmas.Bool.{true≢false}
 use Rattle.std.proofs.lemmas.List.{length-map, get_or_default}
-use Rattle.pl_spec.specs.Rounding.{MISSING, IsCell, is_missing}
+use Rattle.pl_spec.specs.Rounding.{MISSING, IsCell}
 use Rattle.pl_spec.specs.Parts.{sid_at}
 use Rattle.pl_spec.specs.World.{World, label_at}
-use Rattle.pl_spec.specs.Kind.{Kind, WindowKind, PointKind, LabelKind, CrossKind}
-use Rattle.pl_spec.specs.Kind.Kind.{Constant, Label, StaticSids, Window, Point, LabelTest, Cross, Downsample}
-use Rattle.pl_spec.specs.Formula.{is_true, truth}
-use Rattle.pl_spec.specs.Pointwise.{label_test}
+use Rattle.pl_spec.specs.Kind.{CrossKind}
+use Rattle.pl_spec.specs.Kind.Kind.{Constant, Label, Cross, Downsample}
+use Rattle.pl_spec.specs.Formula.{is_true}
 use Rattle.pl_spec.specs.Term as spec
 use Rattle.pl_spec.specs.Term.Input.{TermInput}
 use Rattle.pl_spec.specs.Table.{Pipeline}
-use Rattle.std.specs.Prelude.{unsigned_abs, ◌==◌}
-use Rattle.pl_spec.specs.Value.Value.{Number}
-use Rattle.pl_spec.specs.Value.{number_of, empty, is_filter, sort_kind, name_at}
+use Rattle.pl_spec.specs.Value.{sort_kind, name_at}
 use Rattle.std.proofs.lemmas.Int.{ints}
 use Rattle.pl_spec.specs.declared.Frequency.{Frequency}
 use Rattle.pl_spec.specs.Periods.{period_start}
 use Rattle.pl_values.proofs.Downsampled.{over}
-use Rattle.pl_terms.specs.Sorts.{is_windowed, is_downsampled}
+use Rattle.pl_terms.specs.Sorts.{is_downsampled}
 use Rattle.pl_cross.specs.Arrays.{sid_in, section_at}
 use Rattle.pl_cross.specs.Section.{is_section, HasParameters}
 use Rattle.pl_values.specs.Arrays.{cell_of, is_kept, chosen, Fills, IsKeep}
@@ -30,95 +25,17 @@ use Rattle.pl_values.specs.Laws.{IsNode, IsGiven}
 use Rattle.pl_values.proofs.Given.{constant-cell, sid-cell, label-cell, label-test-cell, label-input, downsampled-cell, point-cell, point-operands, section-cell, section-input}
 use Rattle.pl_values.proofs.Operations.{fills-all}
 use Rattle.pl_values.specs.Inputs.{IsInputRow, IsGroupRow, AreRows, AreSectionRows}
+use Rattle.pl_values.proofs.KindFamilies.{sids_kind, point_kind, label_test_kind, section_kind}
 use Rattle.pl_pointwise.specs.Operands.{IsOperation, AreOperands, operation}
 use Rattle.pl_assets.specs.Labels.{label_on}
 use Rattle.pl_assets.proofs.LabelWorlds.{labels_those}
 use Rattle.pl_exec.proofs.Places.{sid_of_place}
 use Rattle.pl_spec.specs.Cross.{at}
+use Rattle.pl_spec.proofs.Cells.{empty-cell, chosen-cell}
 use Rattle.pl_exec.specs.declared.turn.Turn.{Turn}
 use Rattle.pl_exec.specs.Tasks.{assets_in, cell_in, sids_in}
 use Rattle.pl_exec.specs.Jobs.{IsRead, IsTurn, IsKept, IsOut, Begins, task_at, node_at}
 use Rattle.pl_exec.proofs.Spans.{one_begun}
-
-pub sids_kind : (k : Kind) → is_sids k ≡ true → (own : List ℕ) × (k ≡ StaticSids own)
-sids_kind (StaticSids own) e = (own, refl)
-sids_kind (Constant x) e = absurd (true≢false (sym e))
-sids_kind (Label x) e = absurd (true≢false (sym e))
-sids_kind (Window x) e = absurd (true≢false (sym e))
-sids_kind (Point x) e = absurd (true≢false (sym e))
-sids_kind (LabelTest x) e = absurd (true≢false (sym e))
-sids_kind (Cross x) e = absurd (true≢false (sym e))
-sids_kind (Downsample x) e = absurd (true≢false (sym e))
-
-pub point_kind : (k : Kind) → is_point k ≡ true → (f : PointKind) × (k ≡ Point f)
-point_kind (Point f) e = (f, refl)
-point_kind (Constant x) e = absurd (true≢false (sym e))
-point_kind (Label x) e = absurd (true≢false (sym e))
-point_kind (StaticSids x) e = absurd (true≢false (sym e))
-point_kind (Window x) e = absurd (true≢false (sym e))
-point_kind (LabelTest x) e = absurd (true≢false (sym e))
-point_kind (Cross x) e = absurd (true≢false (sym e))
-point_kind (Downsample x) e = absurd (true≢false (sym e))
-
-pub label_test_kind : (k : Kind) → is_label_test k ≡ true → (f : LabelKind) × (k ≡ LabelTest f)
-label_test_kind (LabelTest f) e = (f, refl)
-label_test_kind (Constant x) e = absurd (true≢false (sym e))
-label_test_kind (Label x) e = absurd (true≢false (sym e))
-label_test_kind (StaticSids x) e = absurd (true≢false (sym e))
-label_test_kind (Window x) e = absurd (true≢false (sym e))
-label_test_kind (Point x) e = absurd (true≢false (sym e))
-label_test_kind (Cross x) e = absurd (true≢false (sym e))
-label_test_kind (Downsample x) e = absurd (true≢false (sym e))
-
-pub section_kind : (k : Kind) → is_section k ≡ true → (f : CrossKind) × (k ≡ Cross f)
-section_kind (Cross f) e = (f, refl)
-section_kind (Constant x) e = absurd (true≢false (sym e))
-section_kind (Label x) e = absurd (true≢false (sym e))
-section_kind (StaticSids x) e = absurd (true≢false (sym e))
-section_kind (Window x) e = absurd (true≢false (sym e))
-section_kind (Point x) e = absurd (true≢false (sym e))
-section_kind (LabelTest x) e = absurd (true≢false (sym e))
-section_kind (Downsample x) e = absurd (true≢false (sym e))
-
-pub window_kind : (k : Kind) → is_windowed k ≡ true → (f : WindowKind) × (k ≡ Window f)
-window_kind (Window f) e = (f, refl)
-window_kind (Constant x) e = absurd (true≢false (sym e))
-window_kind (Label x) e = absurd (true≢false (sym e))
-window_kind (StaticSids x) e = absurd (true≢false (sym e))
-window_kind (Point x) e = absurd (true≢false (sym e))
-window_kind (LabelTest x) e = absurd (true≢false (sym e))
-window_kind (Cross x) e = absurd (true≢false (sym e))
-window_kind (Downsample x) e = absurd (true≢false (sym e))
-
--- ---- cells
-
-pub zero_cell : IsCell (pos 0)
-zero_cell = inr (omega arith)
-
-pub truth_cell : (b : Bool) → IsCell (truth b)
-truth_cell true = inr (omega arith)
-truth_cell false = inr (omega arith)
-
-pub sid_flag_cell : (k : Kind) (a : ℕ) → is_sids k ≡ true → IsCell (sid_flag k a)
-sid_flag_cell k a e = let s = sids_kind k e in subst (λ x. IsCell (sid_flag x a)) (sym s.1) (truth_cell (list_any (λ b. b == a) s.0))
-
-pub code_flag_cell : (texts : List (List ℕ)) (k : Kind) (x : ℤ) → is_label_test k ≡ true → IsCell (code_flag texts k x)
-code_flag_cell texts k x e = let s = label_test_kind k e in subst (λ y. IsCell (code_flag texts y x)) (sym s.1) (here (is_missing x))
-  where
-    here : (b : Bool) → IsCell (if b then pos 0 else truth (label_test (label_test_kind k e).0 (get_or texts (unsigned_abs x) [])))
-    here true = zero_cell
-    here false = truth_cell _
-
-pub empty_is_cell : (k : Kind) → IsCell (number_of (empty k))
-empty_is_cell k = here (is_filter k)
-  where
-    here : (b : Bool) → IsCell (number_of (if b then Number (pos 0) else Number MISSING))
-    here true = zero_cell
-    here false = inl refl
-
-pub chosen_cell : (b : Bool) (x none : ℤ) → IsCell x → IsCell none → IsCell (chosen b x none)
-chosen_cell true x none h k = h
-chosen_cell false x none h k = k
 
 -- ---- the rows of a turn
 
@@ -139,7 +56,7 @@ module _ (t : Turn) (is : IsTurn t) where
   node_is = record { checked = is.job.task.checked; node = is.node }
 
   pub none_cell : IsCell t.none
-  none_cell = subst IsCell (sym is.none) (empty_is_cell (sort_kind (spec.term_at p.graph t.term.0)))
+  none_cell = subst IsCell (sym is.none) (empty-cell (sort_kind (spec.term_at p.graph t.term.0)))
 
   pub sids_long : length sids ≡ assets_in (task_at t)
   sids_long = length-map (task_at t).cols (sid_at w.assets)
@@ -150,7 +67,7 @@ module _ (t : Turn) (is : IsTurn t) where
     out_is = picked ∙ ap (λ b. chosen b x t.none) (kept.each i asset) ∙ ap (chosen (is_kept w p sids n.mask i t.session) x) is.none ∙ sym given
 
     pub out_cell : IsCell y
-    out_cell = subst IsCell (sym picked) (chosen_cell (is_true (get_or keep i (pos 0))) x t.none cell none_cell)
+    out_cell = subst IsCell (sym picked) (chosen-cell (is_true (get_or keep i (pos 0))) x t.none cell none_cell)
 
     -- one cell more of the row
     pub out_more : (out : List ℤ) → Begins (λ k. cell_in (task_at t) t.term.0 k t.session) (assets_in (task_at t)) i out

@@ -1,5 +1,5 @@
 -- The slot of one bar column, while the rest of a term is computed.
-use Rattle.std.proofs.Common.{◌≡◌, ℕ, zero, suc, ◌+◌, ◌*◌, ◌<◌, ◌≤◌, Bool, true, false, List, [], ◌∷◌, ◌++◌, length, take, drop, sum_by, Option, Some, None, slice_get, get_or, refl, sym, ◌∙◌, ap, subst, arith, ◌⊎◌, inl, inr, ℤ, ◌&&◌}
+use Rattle.std.proofs.Common.{◌≡◌, ℕ, zero, suc, ◌+◌, ◌*◌, ◌<◌, ◌≤◌, Bool, true, false, List, ◌++◌, length, take, drop, sum_by, Option, Some, None, slice_get, get_or, refl, sym, ◌∙◌, ap, subst, arith, ◌⊎◌, inl, inr, ℤ}
 use Rattle.std.specs.List.{list_all}
 use Rattle.std.proofs.lemmas.Int.{ints}
 use Rattle.std.proofs.lemmas.Bool.{true≢false}
@@ -13,8 +13,9 @@ use Rattle.pl_spec.specs.Term.Input.{BarColumn, TermInput}
 use Rattle.pl_spec.specs.Graph.{columns_at, contains}
 use Rattle.pl_spec.specs.Window.{applied_steps}
 use Rattle.pl_laws.specs.LowLaws.{HasBar}
-use Rattle.pl_terms.specs.Sorts.{Place, Own, Bar, Series, all_fit, fits, is_windowed, places, point_places, cross_places, takes_column}
+use Rattle.pl_terms.specs.Sorts.{Place, Own, Bar, Series, is_windowed, places, point_places, cross_places, takes_column}
 use Rattle.pl_values.proofs.Operations.{all-at}
+use Rattle.pl_values.proofs.Typed.{fit-at}
 use Rattle.pl_planner.specs.Plans.{column_slot}
 use Rattle.pl_planner.proofs.Pipelines.{is-pipeline}
 use Rattle.pl_workspace.specs.Slots.{Slots, Free, Begun, Live, slot_at, with_slot, live_count}
@@ -180,26 +181,11 @@ kinds_free (kind.LabelTest x) = inr refl
 kinds_free (kind.Cross f) = inr (crosses_free f)
 kinds_free (kind.Downsample x) = inr refl
 
-fit_at : (g : spec.Graph) (ps : List Place) (is : List spec.Input) (i : ℕ) (x : spec.Input) → all_fit g ps is ≡ true → slice_get is i ≡ Some x → (q : Place) × (slice_get ps i ≡ Some q) × (fits g q x ≡ true)
-fit_at g [] [] i x h e = absurd (let c : None ≡ Some x = e in cc)
-fit_at g [] (y ∷ is) i x h e = absurd (true≢false (sym h))
-fit_at g (q ∷ ps) [] i x h e = absurd (true≢false (sym h))
-fit_at g (q ∷ ps) (y ∷ is) zero x h e = (q, refl, (let s : y ≡ x = cc in ap (fits g q) (sym s) ∙ first (fits g q y) (all_fit g ps is) h))
-  where
-    first : (a b : Bool) → (a && b) ≡ true → a ≡ true
-    first true b e = refl
-    first false b e = absurd (true≢false (sym e))
-fit_at g (q ∷ ps) (y ∷ is) (suc i) x h e = fit_at g ps is i x (second (fits g q y) (all_fit g ps is) h) e
-  where
-    second : (a b : Bool) → (a && b) ≡ true → b ≡ true
-    second true b e = e
-    second false b e = absurd (true≢false (sym e))
-
 module _ (j : Job) (job : IsJob j) (k : ℕ) (n : spec.Node) (node : slice_get (graph_in (task_of j)) k ≡ Some n) where
   bar_windowed : (p : ℕ) (c : Column) → slice_get n.inputs p ≡ Some (BarColumn c) → is_windowed n.kind ≡ true
   bar_windowed p c e = elim (kinds_free n.kind) [
     | inl w ↦ w
-    | inr f ↦ (let x = fit_at (graph_in (task_of j)) (places n.kind) n.inputs p (BarColumn c) (job.task.checked.nodes k n node).inputs e in absurd (no_takes x.0 c (all-at no_column (places n.kind) p x.0 f x.1) x.2))
+    | inr f ↦ (let x = fit-at (graph_in (task_of j)) (places n.kind) n.inputs p (BarColumn c) (job.task.checked.nodes k n node).inputs e in absurd (no_takes x.0 c (all-at no_column (places n.kind) p x.0 f x.1) x.2))
   ]
 
   new_bar : (p : ℕ) (c : Column) → new_column n p ≡ Some c → slice_get n.inputs p ≡ Some (BarColumn c)

@@ -1,32 +1,17 @@
 -- The used terms as a choice among all numbers, what they hold at once, and their sums.
-use Rattle.std.proofs.Common.{◌≡◌, ◌≢◌, ℕ, zero, suc, ◌+◌, ◌-◌, ◌<◌, ◌≤◌, Bool, true, false, cond, ◌&&◌, ◌||◌, if◌then◌else◌, max, nat_le, List, [], ◌∷◌, ◌++◌, length, map, fold, filter, sum_by, Some, slice_get, refl, sym, ◌∙◌, ap, arith, inl, inr, ◌==◌}
+use Rattle.std.proofs.Common.{◌≡◌, ℕ, zero, suc, ◌+◌, ◌-◌, ◌<◌, ◌≤◌, Bool, true, false, cond, ◌&&◌, ◌||◌, if◌then◌else◌, max, nat_le, List, [], ◌∷◌, ◌++◌, length, map, fold, filter, sum_by, Some, slice_get, refl, sym, ◌∙◌, ap, arith, inl, inr, ◌==◌}
 use Rattle.std.specs.List.{range_with_len, count_by}
-use Rattle.std.proofs.lemmas.Bool.{true≢false, or_cases, or_left, or_right, eq-eqb, eqb-true}
+use Rattle.std.proofs.lemmas.Bool.{true≢false, or_cases, or_right, eqb-true}
 use Rattle.std.proofs.lemmas.List.Elements.{filter-append}
-use Rattle.std.proofs.lemmas.List.Sums.{length-filter, fold-append}
+use Rattle.std.proofs.lemmas.List.Sums.{length-filter, sum_by-append, sum_by-cons}
 use Rattle.std.proofs.lemmas.List.Folds.{list_any-append}
 use Rattle.pl_spec.specs.Term.{Graph, IsGraph}
 use Rattle.pl_spec.specs.Graph.{contains, mentions_at, Used, used_below, used_terms, is_live, live_terms, columns_at, bound}
+use Rattle.pl_spec.proofs.Lists.{filter-twice}
+use Rattle.pl_spec.proofs.Contained.{not-in-back, alone-in, not-in-alone}
 use Rattle.pl_laws.proofs.Uses.{lower}
-use Rattle.pl_planner.proofs.Counting.{count_cut, count_same, filter_twice, most_chosen, most_same}
+use Rattle.pl_planner.proofs.Counting.{count_cut, count_same, most_chosen, most_same}
 use Rattle.pl_exec.proofs.Counts.{range_suc}
-
-or_false : (b : Bool) → (b || false) ≡ b
-or_false true = refl
-or_false false = refl
-
-in_front : (xs ys : List ℕ) (k : ℕ) → contains ys k ≡ false → contains (xs ++ ys) k ≡ contains xs k
-in_front xs ys k h = list_any-append (λ x. x == k) xs ys ∙ ap (λ b. contains xs k || b) h ∙ or_false (contains xs k)
-
-not_alone : (n k : ℕ) → k ≢ n → contains (n ∷ []) k ≡ false
-not_alone n k ne = here (contains (n ∷ []) k) refl
-  where
-    here : (b : Bool) → contains (n ∷ []) k ≡ b → contains (n ∷ []) k ≡ false
-    here true e = elim (or_cases (n == k) false e) [ inl p ↦ absurd (ne (sym (eqb-true n k p))) | inr p ↦ absurd (true≢false (sym p)) ]
-    here false e = e
-
-alone : (n : ℕ) → contains (n ∷ []) n ≡ true
-alone n = or_left (n == n) false (eq-eqb n n refl)
 
 module _ (g : Graph) where
   low : (n : ℕ) (marks : List ℕ) (t : ℕ) → n ≤ t → contains (used_below g n marks) t ≡ false
@@ -35,8 +20,8 @@ module _ (g : Graph) where
     where
       here : (b : Bool) → contains marks n ≡ b → ((m : List ℕ) → contains (used_below g n m) t ≡ false)
           → contains (used_below g n (cond b (marks ++ mentions_at g n) marks) ++ cond b (n ∷ []) []) t ≡ false
-      here true e ih = in_front (used_below g n (marks ++ mentions_at g n)) (n ∷ []) t (not_alone n t (λ p. omega arith)) ∙ ih (marks ++ mentions_at g n)
-      here false e ih = in_front (used_below g n marks) [] t refl ∙ ih marks
+      here true e ih = not-in-back (used_below g n (marks ++ mentions_at g n)) (n ∷ []) t (not-in-alone n t (λ p. omega arith)) ∙ ih (marks ++ mentions_at g n)
+      here false e ih = not-in-back (used_below g n marks) [] t refl ∙ ih marks
 
   filtered : (q : ℕ → Bool) (n : ℕ) (marks : List ℕ) → ((t : ℕ) → t < n → q t ≡ contains (used_below g n marks) t) → used_below g n marks ≡ filter q (range_with_len 0 n)
   filtered q zero marks h = refl
@@ -50,13 +35,13 @@ module _ (g : Graph) where
           → used_below g n (cond b (marks ++ mentions_at g n) marks) ++ cond b (n ∷ []) [] ≡ filter q (range_with_len 0 (suc n))
       here true e h ih =
           let front : used_below g n (marks ++ mentions_at g n) ≡ filter q (range_with_len 0 n)
-          = ih (marks ++ mentions_at g n) (λ t l. h t (omega arith) ∙ in_front (used_below g n (marks ++ mentions_at g n)) (n ∷ []) t (not_alone n t (λ p. omega arith))) in
-          let own : q n ≡ true = h n (omega arith) ∙ list_any-append (λ x. x == n) (used_below g n (marks ++ mentions_at g n)) (n ∷ []) ∙ or_right (contains (used_below g n (marks ++ mentions_at g n)) n) (contains (n ∷ []) n) (alone n) in
+          = ih (marks ++ mentions_at g n) (λ t l. h t (omega arith) ∙ not-in-back (used_below g n (marks ++ mentions_at g n)) (n ∷ []) t (not-in-alone n t (λ p. omega arith))) in
+          let own : q n ≡ true = h n (omega arith) ∙ list_any-append (λ x. x == n) (used_below g n (marks ++ mentions_at g n)) (n ∷ []) ∙ or_right (contains (used_below g n (marks ++ mentions_at g n)) n) (contains (n ∷ []) n) (alone-in n) in
           let back : n ∷ [] ≡ filter q (n ∷ []) = rw own refl in
           ap (λ l. l ++ n ∷ []) front ∙ ap (λ l. filter q (range_with_len 0 n) ++ l) back ∙ sym split
       here false e h ih =
-          let front : used_below g n marks ≡ filter q (range_with_len 0 n) = ih marks (λ t l. h t (omega arith) ∙ in_front (used_below g n marks) [] t refl) in
-          let own : q n ≡ false = h n (omega arith) ∙ in_front (used_below g n marks) [] n refl ∙ low n marks n (omega arith) in
+          let front : used_below g n marks ≡ filter q (range_with_len 0 n) = ih marks (λ t l. h t (omega arith) ∙ not-in-back (used_below g n marks) [] t refl) in
+          let own : q n ≡ false = h n (omega arith) ∙ not-in-back (used_below g n marks) [] n refl ∙ low n marks n (omega arith) in
           let back : [] ≡ filter q (n ∷ []) = rw own refl in
           ap (λ l. l ++ []) front ∙ ap (λ l. filter q (range_with_len 0 n) ++ l) back ∙ sym split
 
@@ -116,7 +101,7 @@ module _ (g : Graph) (outputs : List ℕ) (used : ℕ → Bool) (reads : ℕ →
   live_count k h =
       let long : length g ≡ k + 1 + (length g - (k + 1)) = omega arith in
       ap (λ l. length (filter (is_live g outputs k) l)) (used_listed g outputs used is)
-      ∙ ap length (filter_twice (is_live g outputs k) used (range_with_len 0 (length g)))
+      ∙ ap length (filter-twice (is_live g outputs k) used (range_with_len 0 (length g)))
       ∙ length-filter (λ t. used t && is_live g outputs k t) (range_with_len 0 (length g))
       ∙ count_same (λ t. used t && is_live g outputs k t) (λ t. nat_le t k && (used t && reads k t)) (λ t. same_at k t h) (range_with_len 0 (length g))
       ∙ ap (λ n. count_by (λ t. nat_le t k && (used t && reads k t)) (range_with_len 0 n)) long
@@ -131,16 +116,6 @@ module _ (g : Graph) (outputs : List ℕ) (used : ℕ → Bool) (reads : ℕ →
 
 -- ---- sums over the used terms
 
-sum_from : {A : Type 0} (f : A → ℕ) (a : ℕ) (xs : List A) → fold (λ s x. s + f x) a xs ≡ a + fold (λ s x. s + f x) 0 xs
-sum_from f a [] = omega arith
-sum_from f a (x ∷ xs) = let i = sum_from f (a + f x) xs in let j = sum_from f (0 + f x) xs in omega arith
-
-pub sum_cons : {A : Type 0} (f : A → ℕ) (x : A) (xs : List A) → sum_by f (x ∷ xs) ≡ f x + sum_by f xs
-sum_cons f x xs = let i = sum_from f (0 + f x) xs in omega arith
-
-pub sum_append : {A : Type 0} (f : A → ℕ) (xs ys : List A) → sum_by f (xs ++ ys) ≡ sum_by f xs + sum_by f ys
-sum_append f xs ys = fold-append (λ s x. s + f x) 0 xs ys ∙ sum_from f (sum_by f xs) ys
-
 pub sum_filter : {A : Type 0} (f : A → ℕ) (q : A → Bool) (xs : List A) → sum_by f (filter q xs) ≡ sum_by (λ x. if q x then f x else 0) xs
 sum_filter f q [] = refl
 sum_filter f q (x ∷ xs) = here (q x) refl (sum_filter f q xs)
@@ -148,11 +123,11 @@ sum_filter f q (x ∷ xs) = here (q x) refl (sum_filter f q xs)
     here : (b : Bool) → q x ≡ b → sum_by f (filter q xs) ≡ sum_by (λ y. if q y then f y else 0) xs → sum_by f (filter q (x ∷ xs)) ≡ sum_by (λ y. if q y then f y else 0) (x ∷ xs)
     here true e ih =
         let s : filter q (x ∷ xs) ≡ x ∷ filter q xs = rw e refl in
-        ap (sum_by f) s ∙ sum_cons f x (filter q xs) ∙ ap (λ n. f x + n) ih ∙ ap (λ b. (if b then f x else 0) + sum_by (λ y. if q y then f y else 0) xs) (sym e) ∙ sym (sum_cons (λ y. if q y then f y else 0) x xs)
+        ap (sum_by f) s ∙ sum_by-cons f x (filter q xs) ∙ ap (λ n. f x + n) ih ∙ ap (λ b. (if b then f x else 0) + sum_by (λ y. if q y then f y else 0) xs) (sym e) ∙ sym (sum_by-cons (λ y. if q y then f y else 0) x xs)
     here false e ih =
         let s : filter q (x ∷ xs) ≡ filter q xs = rw e refl in
         ap (sum_by f) s ∙ ih ∙ (let z : sum_by (λ y. if q y then f y else 0) xs ≡ 0 + sum_by (λ y. if q y then f y else 0) xs = omega arith in z)
-        ∙ ap (λ b. (if b then f x else 0) + sum_by (λ y. if q y then f y else 0) xs) (sym e) ∙ sym (sum_cons (λ y. if q y then f y else 0) x xs)
+        ∙ ap (λ b. (if b then f x else 0) + sum_by (λ y. if q y then f y else 0) xs) (sym e) ∙ sym (sum_by-cons (λ y. if q y then f y else 0) x xs)
 
 pub sum_more : (f : ℕ → ℕ) (n : ℕ) → sum_by f (range_with_len 0 (n + 1)) ≡ sum_by f (range_with_len 0 n) + f n
-sum_more f n = let e : n + 1 ≡ suc n = omega arith in ap (λ m. sum_by f (range_with_len 0 m)) e ∙ ap (sum_by f) (range_suc n) ∙ sum_append f (range_with_len 0 n) (n ∷ []) ∙ ap (λ m. sum_by f (range_with_len 0 n) + m) (let z : 0 + f n ≡ f n = omega arith in z)
+sum_more f n = let e : n + 1 ≡ suc n = omega arith in ap (λ m. sum_by f (range_with_len 0 m)) e ∙ ap (sum_by f) (range_suc n) ∙ sum_by-append f (range_with_len 0 n) (n ∷ []) ∙ ap (λ m. sum_by f (range_with_len 0 n) + m) (let z : 0 + f n ≡ f n = omega arith in z)

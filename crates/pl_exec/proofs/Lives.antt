@@ -7,6 +7,7 @@ use Rattle.std.proofs.lemmas.Option.{slice_get-get_or}
 use Rattle.pl_spec.specs.declared.AssetRow.{AssetRow}
 use Rattle.pl_spec.specs.Parts.{sid_at}
 use Rattle.pl_spec.specs.World.{World, exists, lives_on}
+use Rattle.pl_spec.proofs.Columns.{no_asset}
 use Rattle.pl_cross.specs.Arrays.{sid_in}
 use Rattle.pl_values.specs.Arrays.{is_kept}
 use Rattle.pl_world.proofs.Lifetimes.{exists-at}
@@ -31,19 +32,16 @@ rises days up s d h inside = elim (cases_lt s d) [
   | inr p ↦ (let same : s ≡ d = omega (arith, h, p) in rw same (omega (arith, ints)))
 ]
 
-blank : AssetRow
-blank = record { sid = 0; start = pos 0; end = pos 0 }
-
 module _ (w : World) (up : AllPairs (λ x y. x.sid < y.sid) w.assets) (days : AllPairs (λ a b. a <ℤ b) w.days) (col : ℕ) (inside : col < length w.assets) where
-  lives_is : (s : ℕ) → s < length w.days → exists w (sid_at w.assets col) (pos s) ≡ lives_on (get_or w.days s (pos 0)) (get_or w.assets col blank)
+  lives_is : (s : ℕ) → s < length w.days → exists w (sid_at w.assets col) (pos s) ≡ lives_on (get_or w.days s (pos 0)) (get_or w.assets col no_asset)
   lives_is s h =
-      exists-at w col s (get_or w.days s (pos 0)) (lives_on (get_or w.days s (pos 0)) (get_or w.assets col blank)) up (slice_get-get_or w.days s (pos 0) h)
-      (ap (option_map (lives_on (get_or w.days s (pos 0)))) (slice_get-get_or w.assets col blank inside))
+      exists-at w col s (get_or w.days s (pos 0)) (lives_on (get_or w.days s (pos 0)) (get_or w.assets col no_asset)) up (slice_get-get_or w.days s (pos 0) h)
+      (ap (option_map (lives_on (get_or w.days s (pos 0)))) (slice_get-get_or w.assets col no_asset inside))
 
   lives_between : (a s b : ℕ) → a ≤ s → s ≤ b → b < length w.days → exists w (sid_at w.assets col) (pos a) ≡ true → exists w (sid_at w.assets col) (pos b) ≡ true → exists w (sid_at w.assets col) (pos s) ≡ true
   lives_between a s b low high within p q =
       lives_is s (omega (arith, high, within))
-      ∙ between (get_or w.assets col blank) (get_or w.days a (pos 0)) (get_or w.days s (pos 0)) (get_or w.days b (pos 0))
+      ∙ between (get_or w.assets col no_asset) (get_or w.days a (pos 0)) (get_or w.days s (pos 0)) (get_or w.days b (pos 0))
       (rises w.days days a s low (omega (arith, high, within))) (rises w.days days s b high within)
       (sym (lives_is a (omega (arith, low, high, within))) ∙ p) (sym (lives_is b within) ∙ q)
 

@@ -1,14 +1,17 @@
 -- One live term more, and one that is released.
-use Rattle.std.proofs.Common.{◌≡◌, ◌≢◌, ℕ, ◌+◌, ◌<◌, ◌≤◌, Bool, true, false, ◌&&◌, not, nat_le, nat_lt, ◌==◌, max, List, length, get_or, refl, sym, ◌∙◌, ap, arith, inl, inr, ℤ, Option, Some, None}
+use Rattle.std.proofs.Common.{◌≡◌, ◌≢◌, ℕ, ◌+◌, ◌<◌, ◌≤◌, Bool, true, false, ◌&&◌, not, nat_le, nat_lt, ◌==◌, max, List, length, get_or, refl, sym, ◌∙◌, ap, arith, inl, inr, ℤ, Option, Some, None, lt-ltb}
 use Rattle.std.specs.List.{range_with_len, count_by}
 use Rattle.std.proofs.lemmas.Bool.{cases_eq, cases_lt, true≢false, eqb-true}
 use Rattle.std.proofs.lemmas.Bool.Decides.{nat_tests}
 use Rattle.pl_workspace.specs.Slots.{Slots, Slot, Free, Begun, Live, slot_at, with_slot, live_count, in_use}
 use Rattle.std.proofs.lemmas.List.{get_or_default}
 use Rattle.std.proofs.lemmas.List.Sums.{sum_by-le}
+use Rattle.std.proofs.Math.Bool.{and-false, and-true}
 use Rattle.pl_exec.specs.Slotted.{AreLive, AreApart, kept, left, ends_at}
 use Rattle.pl_planner.specs.Plans.{is_read_by}
-use Rattle.pl_exec.proofs.Counts.{one, count_more, count_below, count_changed}
+use Rattle.pl_planner.proofs.Counting.{count_more}
+use Rattle.pl_planner.specs.Slotting.{one}
+use Rattle.pl_exec.proofs.Counts.{count_below, count_changed}
 use Rattle.pl_exec.proofs.Trips.{now_used, there, elsewhere, long, stay_count, in_second}
 
 module _ (slot : ℕ → ℕ) (fact : ℕ → List ℤ → Type 0) where
@@ -100,9 +103,6 @@ one_counted live k columns old new peak before own a b p =
 
 -- ---- from one term to the next, by last users
 
-le_self : (a : ℕ) → nat_le a a ≡ true
-le_self a = grind (arith, nat_tests)
-
 lt_self : (a : ℕ) → nat_lt a a ≡ false
 lt_self a = grind (arith, nat_tests)
 
@@ -111,9 +111,6 @@ lt_next a = grind (arith, nat_tests)
 
 lt_zero : (a : ℕ) → nat_lt a 0 ≡ false
 lt_zero a = grind (arith, nat_tests)
-
-lt_below : (a b : ℕ) → a < b → nat_lt a b ≡ true
-lt_below a b h = grind (arith, nat_tests)
 
 lt_same : (j t : ℕ) → j ≢ t → nat_lt j t ≡ nat_lt j (t + 1)
 lt_same j t ne = elim (cases_lt j t) [
@@ -143,17 +140,9 @@ ends_now : (o : Option ℕ) (k : ℕ) → ends_at o k ≡ true → is_read_by o 
 ends_now None k e = absurd (true≢false (sym e))
 ends_now (Some l) k e = let p = eqb-true l k e in let f : nat_le k l ≡ true = grind (arith, nat_tests) in f
 
-and_true : (b : Bool) → (b && true) ≡ b
-and_true true = refl
-and_true false = refl
-
-and_false : (a : Bool) → (a && false) ≡ false
-and_false true = refl
-and_false false = refl
-
 module _ (used : ℕ → Bool) (last : ℕ → Option ℕ) (k : ℕ) where
   pub left_at_first : (j : ℕ) → left used last k 0 j ≡ kept used last k j
-  left_at_first j = rw (lt_zero j) (and_true (kept used last k j))
+  left_at_first j = rw (lt_zero j) (and-true (kept used last k j))
 
   pub left_kept : (t j : ℕ) → left used last k t j ≡ true → left used last k 0 j ≡ true
   left_kept t j h = left_at_first j ∙ first (kept used last k j) (not (nat_lt j t && ends_at (last j) k)) h
@@ -204,5 +193,5 @@ module _ (used : ℕ → Bool) (last : ℕ → Option ℕ) (k : ℕ) where
     where
       here : (u : Bool) → used j ≡ u → (l : Bool) → ends_at (last j) k ≡ l → left used last k (k + 1) j ≡ kept used last (k + 1) j
       here false e l f = rw e refl
-      here true e true f = rw (e, lt_below j (k + 1) h, f, ends_on (last j) k f) (and_false (is_read_by (last j) k))
-      here true e false f = rw (e, lt_below j (k + 1) h, f) (and_true (is_read_by (last j) k) ∙ reads_on (last j) k f)
+      here true e true f = rw (e, lt-ltb j (k + 1) h, f, ends_on (last j) k f) (and-false (is_read_by (last j) k))
+      here true e false f = rw (e, lt-ltb j (k + 1) h, f) (and-true (is_read_by (last j) k) ∙ reads_on (last j) k f)

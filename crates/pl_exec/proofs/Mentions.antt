@@ -1,11 +1,12 @@
 -- What a used term mentions is there while it is computed, and in which slots.
 use Rattle.std.proofs.Common.{◌≡◌, ℕ, ◌+◌, ◌-◌, ◌<◌, ◌≤◌, Bool, true, false, ◌&&◌, nat_le, ℤ, pos, ◌-ℤ◌, ◌≤ℤ◌, List, length, Option, Some, None, slice_get, refl, sym, ◌∙◌, ap, subst, arith, ◌⊎◌, inl, inr}
-use Rattle.std.proofs.lemmas.Bool.{true≢false, cases_lt, eqb-true}
+use Rattle.std.proofs.lemmas.Bool.{true≢false, cases_lt, eqb-true, and_from}
 use Rattle.std.proofs.lemmas.Bool.Decides.{nat_tests}
 use Rattle.std.proofs.lemmas.Int.{ints}
+use Rattle.std.specs.Cmp.{first_so, second_so}
 use Rattle.pl_spec.specs.Window.{before}
 use Rattle.pl_spec.specs.Kind as kind
-use Rattle.pl_spec.specs.Kind.{Kind, WindowKind}
+use Rattle.pl_spec.specs.Kind.{Kind}
 use Rattle.pl_spec.specs.Term.{Graph, Node, Input}
 use Rattle.pl_spec.specs.Term.Input.{BarColumn, TermInput}
 use Rattle.pl_spec.specs.declared.Frequency.{Frequency}
@@ -16,13 +17,14 @@ use Rattle.pl_laws.proofs.Lows.{reads_at-within}
 use Rattle.pl_spec.specs.Lows.{Reads}
 use Rattle.pl_laws.specs.LowLaws.{HasBar}
 use Rattle.pl_laws.proofs.Uses.{lower, used_terms-sound, used_terms-complete}
-use Rattle.pl_terms.specs.Sorts.{Place, has_window, places, window_places}
+use Rattle.pl_terms.specs.Sorts.{Place, has_window, places}
 use Rattle.pl_terms.specs.Uses.{outputs}
 use Rattle.pl_planner.specs.Plans.{IsAsked, IsLive, AreLastUsers, is_read_by, is_used, last_user, low_at, slot_of, column_slot}
 use Rattle.pl_planner.specs.Laws.{IsCovered}
 use Rattle.pl_planner.proofs.Pipelines.{IsPipeline, is-pipeline}
 use Rattle.pl_planner.proofs.Covers.{reads-covered}
 use Rattle.pl_values.proofs.Typed.{has-input}
+use Rattle.pl_values.proofs.Formulas.{first-place}
 use Rattle.pl_workspace.specs.Slots.{Slots, Free, Begun, slot_at, with_slot}
 use Rattle.pl_exec.specs.Slotted.{AreApart, AreLive, ends_at}
 use Rattle.pl_exec.specs.Tasks.{Task, IsArray, graph_in, kept_in, low_in}
@@ -32,37 +34,9 @@ use Rattle.pl_exec.proofs.Trips.{still_free, still_held, long}
 
 -- ---- kinds over windows have an input
 
-window_first : (f : WindowKind) → (q : Place) × (slice_get (window_places f) 0 ≡ Some q)
-window_first kind.All = (_, refl)
-window_first kind.Any = (_, refl)
-window_first kind.AllPresent = (_, refl)
-window_first kind.Latest = (_, refl)
-window_first kind.SimpleMovingAverage = (_, refl)
-window_first kind.LinearWeightedMovingAverage = (_, refl)
-window_first kind.WindowSum = (_, refl)
-window_first kind.WindowMax = (_, refl)
-window_first kind.WindowMin = (_, refl)
-window_first kind.WindowStd = (_, refl)
-window_first kind.BollingerMiddle = (_, refl)
-window_first kind.Returns = (_, refl)
-window_first kind.PercentChange = (_, refl)
-window_first kind.RateOfChangePercentage = (_, refl)
-window_first kind.RSI = (_, refl)
-window_first kind.VWAP = (_, refl)
-window_first kind.AverageDollarVolume = (_, refl)
-window_first kind.WeightedAverageValue = (_, refl)
-window_first kind.FastStochasticOscillator = (_, refl)
-window_first kind.TrueRange = (_, refl)
-window_first kind.AroonUp = (_, refl)
-window_first kind.AroonDown = (_, refl)
-window_first (kind.BollingerLower k) = (_, refl)
-window_first (kind.BollingerUpper k) = (_, refl)
-window_first (kind.ExponentialWeightedMovingAverage decay) = (_, refl)
-window_first (kind.AtLeastN n) = (_, refl)
-
 window_or_one : (k : Kind) (w : ℕ) → has_window k w ≡ true → ((q : Place) × (slice_get (places k) 0 ≡ Some q)) ⊎ (w ≡ 1)
 unfolding has_window places
-window_or_one (kind.Window f) w e = inl (window_first f)
+window_or_one (kind.Window f) w e = inl (first-place f)
 window_or_one (kind.Constant x) w e = inr (eqb-true w 1 e)
 window_or_one (kind.Label x) w e = inr (eqb-true w 1 e)
 window_or_one (kind.StaticSids x) w e = inr (eqb-true w 1 e)
@@ -70,17 +44,6 @@ window_or_one (kind.Point x) w e = inr (eqb-true w 1 e)
 window_or_one (kind.LabelTest x) w e = inr (eqb-true w 1 e)
 window_or_one (kind.Cross x) w e = inr (eqb-true w 1 e)
 window_or_one (kind.Downsample x) w e = inr (eqb-true w 1 e)
-
-and_is : (a b : Bool) → a ≡ true → b ≡ true → (a && b) ≡ true
-and_is a b e f = rw (e, f) refl
-
-and_first : (a b : Bool) → (a && b) ≡ true → a ≡ true
-and_first true b e = refl
-and_first false b e = absurd (true≢false (sym e))
-
-and_second : (a b : Bool) → (a && b) ≡ true → b ≡ true
-and_second true b e = e
-and_second false b e = absurd (true≢false (sym e))
 
 module _ (t : Task) (is : IsTask t) where
   abbrev g : Graph
@@ -113,19 +76,19 @@ module _ (t : Task) (is : IsTask t) where
   pub live_kept : (k u : ℕ) → k < length g → IsLive t.pipeline k u → (u ≤ k) × (kept_in t k u ≡ true)
   live_kept k u h l =
       let e = is.plan.live k u h ∙ l in
-      let b = and_first (is_used t.plan u && nat_le u k) (is_read_by (last_user t.plan u) k) e in
-      let a = and_first (is_used t.plan u) (nat_le u k) b in
-      let low = and_second (is_used t.plan u) (nat_le u k) b in
-      ((let r : u ≤ k = grind (arith, nat_tests) in r), and_is _ _ a (and_second (is_used t.plan u && nat_le u k) (is_read_by (last_user t.plan u) k) e))
+      let b = first_so (is_used t.plan u && nat_le u k) (is_read_by (last_user t.plan u) k) e in
+      let a = first_so (is_used t.plan u) (nat_le u k) b in
+      let low = second_so (is_used t.plan u) (nat_le u k) b in
+      ((let r : u ≤ k = grind (arith, nat_tests) in r), and_from _ _ a (second_so (is_used t.plan u && nat_le u k) (is_read_by (last_user t.plan u) k) e))
 
   pub kept_live : (k u : ℕ) → k < length g → u ≤ k → kept_in t k u ≡ true → IsLive t.pipeline k u
   kept_live k u h low e =
       let l : nat_le u k ≡ true = grind (arith, nat_tests) in
-      sym (is.plan.live k u h) ∙ and_is _ _ (and_is _ _ (and_first (is_used t.plan u) (is_read_by (last_user t.plan u) k) e) l) (and_second (is_used t.plan u) (is_read_by (last_user t.plan u) k) e)
+      sym (is.plan.live k u h) ∙ and_from _ _ (and_from _ _ (first_so (is_used t.plan u) (is_read_by (last_user t.plan u) k) e) l) (second_so (is_used t.plan u) (is_read_by (last_user t.plan u) k) e)
 
   -- a used term is read by itself or later
   pub own_kept : (k : ℕ) → is_used t.plan k ≡ true → kept_in t k k ≡ true
-  own_kept k u = and_is _ _ u (here (last_user t.plan k) refl)
+  own_kept k u = and_from _ _ u (here (last_user t.plan k) refl)
     where
       here : (o : Option ℕ) → last_user t.plan k ≡ o → is_read_by (last_user t.plan k) k ≡ true
       here None e = rw e refl

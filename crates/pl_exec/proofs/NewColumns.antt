@@ -5,6 +5,7 @@ use Rattle.std.proofs.lemmas.List.{take_more, take_all, append-nil}
 use Rattle.std.proofs.lemmas.List.Elements.{filter_map-append}
 use Rattle.std.proofs.lemmas.List.Folds.{list_any-append}
 use Rattle.std.proofs.lemmas.Option.{slice_get_within}
+use Rattle.std.proofs.Math.Bool.{or-false}
 use Rattle.pl_spec.specs.declared.Column.{Column}
 use Rattle.pl_spec.specs.declared.Column.TheVariants.{OpenPrice, High, Low, Close, Volume}
 use Rattle.pl_spec.specs.World.{column_number}
@@ -16,12 +17,8 @@ use Rattle.pl_exec.specs.Jobs.{columns_before, new_column, one_new, place_among,
 use Rattle.pl_exec.proofs.Listed.{sum_filter}
 use Rattle.pl_exec.proofs.Places.{IsFirst, first_place, new_first}
 
-or_false : (b : Bool) → (b || false) ≡ b
-or_false true = refl
-or_false false = refl
-
 in_front : (ns : List ℕ) (k j : ℕ) → j ≢ k → contains (ns ++ k ∷ []) j ≡ contains ns j
-in_front ns k j ne = list_any-append (λ x. x == j) ns (k ∷ []) ∙ ap (λ b. contains ns j || b) (here (contains (k ∷ []) j) refl) ∙ or_false (contains ns j)
+in_front ns k j ne = list_any-append (λ x. x == j) ns (k ∷ []) ∙ ap (λ b. contains ns j || b) (here (contains (k ∷ []) j) refl) ∙ or-false (contains ns j)
   where
     here : (b : Bool) → contains (k ∷ []) j ≡ b → contains (k ∷ []) j ≡ false
     here true e = elim (or_cases (k == j) false e) [ inl p ↦ absurd (ne (sym (eqb-true k j p))) | inr p ↦ absurd (true≢false (sym p)) ]

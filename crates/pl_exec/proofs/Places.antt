@@ -1,34 +1,20 @@
 -- What nodes, places and masks are by the code.
-use Rattle.std.proofs.Common.{◌≡◌, ℕ, zero, suc, ◌+◌, ◌<◌, Bool, true, false, ◌&&◌, ◌||◌, filter_map, take, min, ℤ, pos, List, [], ◌∷◌, length, map, get_or, Some, None, option_map, unwrap_or, slice_get, refl, sym, ◌∙◌, ap, arith, subst, if◌then◌else◌}
+use Rattle.std.proofs.Common.{◌≡◌, ℕ, zero, suc, ◌+◌, ◌<◌, Bool, true, false, ◌&&◌, ◌||◌, filter_map, take, ℤ, pos, List, [], ◌∷◌, length, map, get_or, Some, None, option_map, unwrap_or, slice_get, refl, sym, ◌∙◌, ap, arith, subst, if◌then◌else◌}
 use Rattle.pl_spec.specs.declared.AssetRow.{AssetRow}
 use Rattle.pl_spec.specs.Parts.{sid_at}
-use Rattle.pl_spec.specs.Formula.{is_true, truth}
+use Rattle.pl_spec.specs.Formula.{is_true}
 use Rattle.pl_spec.specs.declared.Column.{Column}
 use Rattle.pl_spec.specs.World.{column_number}
 use Rattle.pl_spec.specs.Graph.{contains, input_column}
 use Rattle.pl_spec.specs.Term as spec
-use Rattle.pl_spec.specs.Term.{Graph}
 use Rattle.pl_terms.specs.declared.node.Input.{Input}
 use Rattle.pl_terms.specs.Nodes.{input_of}
 use Rattle.pl_exec.specs.Jobs.{is_column, place_among, new_column}
-use Rattle.pl_spec.specs.declared.Column.TheVariants.{OpenPrice, High, Low, Close, Volume}
+use Rattle.pl_spec.proofs.Columns.{column_number-one}
 use Rattle.std.proofs.lemmas.Bool.{true≢false, eqb-true, eq-eqb}
-use Rattle.pl_terms.specs.declared.node.Node.{Node}
-use Rattle.pl_terms.specs.Nodes.{graph_of, node_of}
 use Rattle.pl_lifetimes.specs.Assets.{sid_of}
 use Rattle.pl_cross.specs.Arrays.{sid_in}
 use Rattle.pl_values.specs.Arrays.{chosen}
-
-pub graph_at : (ns : List Node) (k : ℕ) (n : Node) → slice_get ns k ≡ Some n → slice_get (graph_of ns) k ≡ Some (node_of n)
-unfolding graph_of
-graph_at [] k n e = absurd (let c : None ≡ Some n = e in cc)
-graph_at (m ∷ ms) zero n e = ap (option_map node_of) e
-graph_at (m ∷ ms) (suc k) n e = graph_at ms k n e
-
-pub graph_long : (ns : List Node) → length (graph_of ns) ≡ length ns
-unfolding graph_of
-graph_long [] = refl
-graph_long (n ∷ ns) = ap suc (graph_long ns)
 
 -- the sid of a place is that of its column
 pub sid_of_place : (assets : List AssetRow) (cols : List ℕ) (i : ℕ) → i < length cols → sid_in (map (sid_at assets) cols) i ≡ sid_at assets (get_or cols i 0)
@@ -38,10 +24,6 @@ sid_of_place assets (c ∷ cs) (suc i) h = sid_of_place assets cs i (omega arith
 
 pub sid_told : (assets : List AssetRow) (cols : List ℕ) (i : ℕ) → i < length cols → (sid : ℕ) → option_map sid_of (slice_get assets (get_or cols i 0)) ≡ Some sid → sid_in (map (sid_at assets) cols) i ≡ sid
 sid_told assets cols i h sid e = sid_of_place assets cols i h ∙ ap (λ o. unwrap_or o 0) e
-
-pub truth_told : (b : Bool) → is_true (truth b) ≡ b
-truth_told true = refl
-truth_told false = refl
 
 -- who is kept and passes a mask
 pub both_told : (m : Bool) (k : ℤ) → is_true (chosen m k (pos 0)) ≡ (is_true k && m)
@@ -68,12 +50,6 @@ map-take f (suc p) [] = refl
 map-take f zero (x ∷ xs) = refl
 map-take f (suc p) (x ∷ xs) = ap (λ l. f x ∷ l) (map-take f p xs)
 
-pub take-min : {A : Type 0} (p : ℕ) (xs : List A) → take (min p (length xs)) xs ≡ take p xs
-take-min zero [] = refl
-take-min (suc p) [] = let e : min (suc p) 0 ≡ 0 = omega arith in ap (λ m. take m []) e
-take-min zero (x ∷ xs) = let e : min 0 (length (x ∷ xs)) ≡ 0 = omega arith in ap (λ m. take m (x ∷ xs)) e
-take-min (suc p) (x ∷ xs) = let e : min (suc p) (length (x ∷ xs)) ≡ suc (min p (length xs)) = omega arith in ap (λ m. take m (x ∷ xs)) e ∙ ap (λ l. x ∷ l) (take-min p xs)
-
 pub before_cut : (is : List Input) (p : ℕ) (c : Column) → contains (filter_map input_column (map input_of (take p is))) (column_number c) ≡ contains (filter_map input_column (take p (map input_of is))) (column_number c)
 before_cut is p c = ap (λ l. contains (filter_map input_column l) (column_number c)) (map-take input_of p is)
 
@@ -83,16 +59,8 @@ pub record IsFirst (is : List spec.Input) (c : Column) (q : ℕ) : Type 0 where
   pub here : slice_get is q ≡ Some (spec.BarColumn c)
   pub new : contains (filter_map input_column (take q is)) (column_number c) ≡ false
 
-column_back : (c d : Column) → column_number c ≡ column_number d → c ≡ d
-column_back OpenPrice OpenPrice h = refl
-column_back High High h = refl
-column_back Low Low h = refl
-column_back Close Close h = refl
-column_back Volume Volume h = refl
-column_back c d h = absurd (omega arith)
-
 same_column : (i : spec.Input) (c : Column) → is_column i c ≡ true → i ≡ spec.BarColumn c
-same_column (spec.BarColumn d) c e = ap spec.BarColumn (column_back d c (eqb-true (column_number d) (column_number c) e))
+same_column (spec.BarColumn d) c e = ap spec.BarColumn (column_number-one d c (eqb-true (column_number d) (column_number c) e))
 same_column (spec.TermInput u) c e = absurd (true≢false (sym e))
 
 own_column : (c : Column) → is_column (spec.BarColumn c) c ≡ true

@@ -15,10 +15,10 @@ use Rattle.pl_values.specs.Inputs.{IsInputRow}
 use Rattle.pl_values.specs.Families.{is_point}
 use Rattle.pl_values.specs.Laws.{IsNode, IsGiven}
 use Rattle.pl_values.proofs.Given.{point-cell, point-operands}
+use Rattle.pl_values.proofs.KindFamilies.{point_kind}
 use Rattle.pl_exec.specs.declared.course.Course.{Course}
 use Rattle.pl_exec.specs.Tasks.{sids_in}
 use Rattle.pl_exec.specs.Jobs.{AreGiven, IsCourse, IsOperandOf, node_in, task_in}
-use Rattle.pl_exec.proofs.Givens.{point_kind}
 
 -- ---- an asset alone
 

@@ -1,45 +1,37 @@
 -- What is released, and what is held with one term more.
 use Rattle.std.proofs.Common.{◌≡◌, ℕ, ◌+◌, ◌<◌, ◌≤◌, Bool, true, false, ◌&&◌, max, length, Option, Some, None, slice_get, refl, sym, ◌∙◌, ap, arith, if◌then◌else◌}
 use Rattle.std.specs.List.{range_with_len, count_by}
-use Rattle.std.proofs.lemmas.Bool.{true≢false}
+use Rattle.std.proofs.lemmas.Bool.{true≢false, and_from}
+use Rattle.std.specs.Cmp.{first_so, second_so}
 use Rattle.pl_spec.specs.Term as spec
 use Rattle.pl_spec.specs.Term.{IsGraph}
 use Rattle.pl_spec.specs.Graph.{columns_at}
+use Rattle.pl_spec.specs.Limits.{cut}
 use Rattle.pl_planner.specs.Plans.{is_used, last_user, slot_of}
+use Rattle.pl_planner.proofs.Counting.{count_more}
+use Rattle.pl_planner.specs.Slotting.{one}
 use Rattle.pl_workspace.specs.Slots.{Slots, Free, Live, live_count, with_slot}
 use Rattle.pl_workspace.proofs.Tables.{within}
 use Rattle.pl_exec.specs.Slotted.{AreLive, AreApart, ends_at, left}
-use Rattle.pl_exec.specs.Tasks.{Task, IsArray, graph_in, held_in, kept_in, cut}
+use Rattle.pl_exec.specs.Tasks.{Task, IsArray, graph_in, held_in, kept_in}
 use Rattle.pl_exec.specs.Jobs.{IsTask}
-use Rattle.pl_exec.proofs.Counts.{one, count_more}
 use Rattle.pl_exec.proofs.Living.{one_less, live_below, left_same, left_was, left_is, left_else, left_kept}
 use Rattle.pl_exec.proofs.Mentions.{own_kept}
 use Rattle.pl_exec.proofs.NewColumns.{columns_few}
 use Rattle.pl_exec.proofs.Trips.{release_peak}
 
-first : (a b : Bool) → (a && b) ≡ true → a ≡ true
-first true b e = refl
-first false b e = absurd (true≢false (sym e))
-
-second : (a b : Bool) → (a && b) ≡ true → b ≡ true
-second true b e = e
-second false b e = absurd (true≢false (sym e))
-
-both : (a b : Bool) → a ≡ true → b ≡ true → (a && b) ≡ true
-both a b e f = rw (e, f) refl
-
 module _ (t : Task) (k u : ℕ) (w : Slots) (low : u < k + 1) (live : AreLive (slot_of t.plan) (IsArray t) (left (is_used t.plan) (last_user t.plan) k u) (k + 1) w)
     (apart : AreApart (slot_of t.plan) (left (is_used t.plan) (last_user t.plan) k 0) (k + 1)) (counted : live_count w.slots ≤ w.peak) (b : Bool) (is : b ≡ (is_used t.plan u && ends_at (last_user t.plan u) k)) where
   pub not_released : b ≡ false → AreLive (slot_of t.plan) (IsArray t) (left (is_used t.plan) (last_user t.plan) k (u + 1)) (k + 1) w
   not_released off = live_below (slot_of t.plan) (IsArray t) (left (is_used t.plan) (last_user t.plan) k u) (left (is_used t.plan) (last_user t.plan) k (u + 1)) (k + 1) w
-      (λ j h. left_same (is_used t.plan) (last_user t.plan) k u (λ x y. true≢false (sym (both _ _ x y) ∙ sym is ∙ off)) j) live
+      (λ j h. left_same (is_used t.plan) (last_user t.plan) k u (λ x y. true≢false (sym (and_from _ _ x y) ∙ sym is ∙ off)) j) live
 
   module _ (on : b ≡ true) (s : ℕ) (slot : s ≡ slot_of t.plan u) (v : Slots) (gone : v ≡ with_slot w s Free) where
     used : is_used t.plan u ≡ true
-    used = first (is_used t.plan u) (ends_at (last_user t.plan u) k) (sym is ∙ on)
+    used = first_so (is_used t.plan u) (ends_at (last_user t.plan u) k) (sym is ∙ on)
 
     ending : ends_at (last_user t.plan u) k ≡ true
-    ending = second (is_used t.plan u) (ends_at (last_user t.plan u) k) (sym is ∙ on)
+    ending = second_so (is_used t.plan u) (ends_at (last_user t.plan u) k) (sym is ∙ on)
 
     was : left (is_used t.plan) (last_user t.plan) k u u ≡ true
     was = left_was (is_used t.plan) (last_user t.plan) k u used ending

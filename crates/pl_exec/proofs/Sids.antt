@@ -5,6 +5,7 @@ use Rattle.std.proofs.lemmas.List.{length-map, get_or_default}
 use Rattle.pl_spec.specs.declared.AssetRow.{AssetRow}
 use Rattle.pl_spec.specs.Parts.{sid_at}
 use Rattle.pl_spec.specs.Graph.{bound}
+use Rattle.pl_spec.proofs.Columns.{sid_at-row}
 use Rattle.pl_terms.specs.Uses.{outputs}
 use Rattle.pl_planner.specs.Plans.{is_used, last_user, is_read_by}
 use Rattle.pl_exec.specs.Tasks.{Task, chunk_steps, graph_in, held_in, steps_in, term_steps}
@@ -25,11 +26,6 @@ some_at [] i h = absurd (omega arith)
 some_at (a ∷ others) zero h = (a, refl)
 some_at (a ∷ others) (suc i) h = some_at others i (omega arith)
 
-sid_there : (assets : List AssetRow) (i : ℕ) (d : AssetRow) → i < length assets → sid_at assets i ≡ (get_or assets i d).sid
-sid_there [] i d h = absurd (omega arith)
-sid_there (a ∷ others) zero d h = refl
-sid_there (a ∷ others) (suc i) d h = sid_there others i d (omega arith)
-
 pub sids_up : (assets : List AssetRow) → AllPairs (λ a b. a.sid < b.sid) assets → (cols : List ℕ) → AllPairs (λ a b. a < b) cols → All (λ c. c < length assets) cols → AllPairs (λ a b. a < b) (map (sid_at assets) cols)
 sids_up assets rise cols up inside i j d l h =
     let n : length (map (sid_at assets) cols) ≡ length cols = length-map cols (sid_at assets) in
@@ -40,8 +36,8 @@ sids_up assets rise cols up inside i j d l h =
     let c : get_or cols i 0 < get_or cols j 0 = up i j 0 l jh in
     let a = some_at assets (get_or cols j 0) cj in
     let s : (get_or assets (get_or cols i 0) a.0).sid < (get_or assets (get_or cols j 0) a.0).sid = rise (get_or cols i 0) (get_or cols j 0) a.0 c cj in
-    let x : get_or (map (sid_at assets) cols) i d ≡ (get_or assets (get_or cols i 0) a.0).sid = get_or_default (map (sid_at assets) cols) i d 0 (omega arith) ∙ sid_of_place assets cols i ih ∙ sid_there assets (get_or cols i 0) a.0 ci in
-    let y : get_or (map (sid_at assets) cols) j d ≡ (get_or assets (get_or cols j 0) a.0).sid = get_or_default (map (sid_at assets) cols) j d 0 h ∙ sid_of_place assets cols j jh ∙ sid_there assets (get_or cols j 0) a.0 cj in
+    let x : get_or (map (sid_at assets) cols) i d ≡ (get_or assets (get_or cols i 0) a.0).sid = get_or_default (map (sid_at assets) cols) i d 0 (omega arith) ∙ sid_of_place assets cols i ih ∙ sid_at-row assets (get_or cols i 0) a.0 ci in
+    let y : get_or (map (sid_at assets) cols) j d ≡ (get_or assets (get_or cols j 0) a.0).sid = get_or_default (map (sid_at assets) cols) j d 0 h ∙ sid_of_place assets cols j jh ∙ sid_at-row assets (get_or cols j 0) a.0 cj in
     omega (arith, s, x, y)
 
 -- ---- all terms

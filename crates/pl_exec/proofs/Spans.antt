@@ -1,27 +1,19 @@
 -- Parts of an array, and one session of it written.
-use Rattle.std.proofs.Common.{◌≡◌, ℕ, zero, suc, ◌+◌, ◌-◌, ◌*◌, ◌<◌, ◌≤◌, ℤ, pos, List, length, map, take, drop, get_or, set, refl, sym, ◌∙◌, ap, arith, inl, inr, get_or-set_same, get_or-set_other, length-set}
-use Rattle.std.proofs.lemmas.Bool.{cases_lt, cases_eq}
+use Rattle.std.proofs.Common.{◌≡◌, ℕ, zero, suc, ◌+◌, ◌-◌, ◌*◌, ◌<◌, ◌≤◌, ℤ, pos, List, length, map, take, drop, get_or, set, sym, ◌∙◌, ap, arith, inl, inr, get_or-set_same, get_or-set_other, length-set}
+use Rattle.std.proofs.lemmas.Bool.{cases_eq}
 use Rattle.std.proofs.lemmas.List.{ext_get_or, get_or-take, get_or-drop, length-map, length-take-le, length-drop}
+use Rattle.std.proofs.lemmas.Nat.{same_from_place}
 use Rattle.pl_spec.specs.Rounding.{IsCell}
 use Rattle.pl_spec.specs.Window.{downward}
+use Rattle.pl_spec.proofs.Windows.{length-downward}
+use Rattle.pl_spec.proofs.Places.{row-within}
 use Rattle.pl_values.specs.Arrays.{Holds, Fills, IsRow, window_up_to}
 use Rattle.pl_exec.specs.Jobs.{Begins, IsWritten}
-
-pub long : (n : ℕ) → length (downward n) ≡ n
-long zero = refl
-long (suc n) = ap suc (long n)
 
 pub at_downward : {X : Type 0} (f : ℕ → X) (size j : ℕ) (d : X) → j < size → get_or (map f (downward size)) j d ≡ f (size - 1 - j)
 at_downward f zero j d h = absurd (omega arith)
 at_downward f (suc size) zero d h = let e : size ≡ suc size - 1 - 0 = omega arith in ap f e
 at_downward f (suc size) (suc j) d h = let e : size - 1 - j ≡ suc size - 1 - suc j = omega arith in at_downward f size j d (omega arith) ∙ ap f e
-
-pub place_within : (i assets count j : ℕ) → i < assets → j < count → i * count + j < assets * count
-place_within i (suc assets) count j h l = elim (cases_lt i assets) [
-  | inl p ↦ (let r = place_within i assets count j p l in let e : suc assets * count ≡ assets * count + count = omega arith in omega arith)
-  | inr p ↦ (let e : i ≡ assets = omega arith in let m = ap (λ n. n * count) e in let f : suc assets * count ≡ assets * count + count = omega arith in omega arith)
-]
-place_within i zero count j h l = absurd (omega arith)
 
 -- ---- a window of an array
 
@@ -31,7 +23,7 @@ module _ (cell : ℕ → ℕ → ℤ) (assets low count : ℕ) (cells : List ℤ
   end = i * count + (session - low) + 1
 
   pub end_within : end ≤ length cells
-  end_within = let p = place_within i assets count (session - low) asset (omega arith) in let r = holds.room in omega arith
+  end_within = let p = row-within i assets count (session - low) asset (omega arith) in let r = holds.room in omega arith
 
   pub size_within : size ≤ end
   size_within = omega arith
@@ -51,12 +43,12 @@ module _ (cell : ℕ → ℕ → ℤ) (assets low count : ℕ) (cells : List ℤ
       ∙ ap (cell i) s
 
   pub window_is : take size (drop (end - size) cells) ≡ window_up_to (cell i) size session
-  window_is = ext_get_or (pos 0) _ _ (part_long ∙ sym (length-map (downward size) (λ n. cell i (session - n)) ∙ long size))
+  window_is = ext_get_or (pos 0) _ _ (part_long ∙ sym (length-map (downward size) (λ n. cell i (session - n)) ∙ length-downward size))
       (λ j h. let l : j < size = omega (arith, part_long) in part_at j l ∙ sym (at_downward (λ n. cell i (session - n)) size j (pos 0) l))
 
   pub window_cells : (j : ℕ) (d : ℤ) → j < length (window_up_to (cell i) size session) → IsCell (get_or (window_up_to (cell i) size session) j d)
   window_cells j d h =
-      let n : length (window_up_to (cell i) size session) ≡ size = length-map (downward size) (λ n. cell i (session - n)) ∙ long size in
+      let n : length (window_up_to (cell i) size session) ≡ size = length-map (downward size) (λ n. cell i (session - n)) ∙ length-downward size in
       let l : j < size = omega arith in
       let s : low + ((session - low) - (size - 1 - j)) ≡ session - (size - 1 - j) = omega arith in
       rw (at_downward (λ n. cell i (session - n)) size j d l, ← s) (holds.cell i ((session - low) - (size - 1 - j)) asset (omega arith))
@@ -66,7 +58,7 @@ module _ (cell : ℕ → ℕ → ℤ) (assets low count : ℕ) (cells : List ℤ
 module _ (cell : ℕ → ℕ → ℤ) (assets low count : ℕ) (cells : List ℤ) (holds : Holds cell assets low count cells) (i session at : ℕ)
     (asset : i < assets) (early : low ≤ session) (late : session < low + count) (is : at ≡ session - low) where
   pub at_within : i * count + at < length cells
-  at_within = let p = place_within i assets count at asset (omega arith) in let r = holds.room in omega arith
+  at_within = let p = row-within i assets count at asset (omega arith) in let r = holds.room in omega arith
 
   pub at_is : get_or cells (i * count + at) (pos 0) ≡ cell i session
   at_is = let s : low + at ≡ session = omega arith in holds.each i at asset (omega arith) ∙ ap (cell i) s
@@ -75,9 +67,6 @@ module _ (cell : ℕ → ℕ → ℤ) (assets low count : ℕ) (cells : List ℤ
   at_cell = let s : low + at ≡ session = omega arith in rw (← s) (holds.cell i at asset (omega arith))
 
 -- ---- rows
-
-pub none_begun : (f : ℕ → ℤ) (n : ℕ) (row : List ℤ) → length row ≡ n → Begins f n 0 row
-none_begun f n row e = record { long = e; each = λ i h. absurd (omega arith); cell = λ i h. absurd (omega arith) }
 
 -- one cell more of a row
 pub one_begun : (f : ℕ → ℤ) (n done : ℕ) (row : List ℤ) (x : ℤ) → Begins f n done row → done < n → x ≡ f done → IsCell x → Begins f n (done + 1) (set row done x)
@@ -96,9 +85,6 @@ one_begun f n done row x b here e is_cell = record {
 pub all_begun : (f : ℕ → ℤ) (n done : ℕ) (row : List ℤ) → Begins f n done row → n ≤ done → Fills f n row
 all_begun f n done row b h = record { long = b.long; each = λ i l. b.each i (omega arith); cell = λ i l. b.cell i (omega arith) }
 
-pub fills_same : (f g : ℕ → ℤ) (n : ℕ) (row : List ℤ) → ((i : ℕ) → i < n → f i ≡ g i) → Fills f n row → Fills g n row
-fills_same f g n row same b = record { long = b.long; each = λ i h. b.each i h ∙ same i h; cell = λ i h. rw (← same i h) (b.cell i h) }
-
 -- ---- a row put into an array
 
 -- session j is written for the first n assets
@@ -108,43 +94,25 @@ pub record IsPut (f : ℕ → ℤ) (assets count j n : ℕ) (old new : List ℤ)
   pub cell : (i : ℕ) → i < n → IsCell (f i)
   pub others : (i t : ℕ) → i < assets → t < count → (t ≡ j → ⊥) → get_or new (i * count + t) (pos 0) ≡ get_or old (i * count + t) (pos 0)
 
-apart : (i k count j t : ℕ) → j < count → t < count → i * count + t ≡ k * count + j → (i ≡ k) × (t ≡ j)
-apart i k count j t h l e = elim (cases_lt i k) [
-  | inl p ↦ (let r = place_within i k count t p l in absurd (omega arith))
-  | inr p ↦ elim (cases_lt k i) [
-    | inl q ↦ (let r = place_within k i count j q h in absurd (omega arith))
-    | inr q ↦ (let s : i ≡ k = omega arith in let m = ap (λ n. n * count) s in (s, omega arith))
-  ]
-]
-
-pub none_put : (f : ℕ → ℤ) (assets count j : ℕ) (cells : List ℤ) → IsPut f assets count j 0 cells cells
-none_put f assets count j cells = record { size = refl; written = λ i h. absurd (omega arith); cell = λ i h. absurd (omega arith); others = λ i t h l ne. refl }
-
 pub one_put : (f : ℕ → ℤ) (assets count j n : ℕ) (old new : List ℤ) (x : ℤ) → IsPut f assets count j n old new → n < assets → j < count → assets * count ≤ length old → x ≡ f n → IsCell (f n)
     → IsPut f assets count j (n + 1) old (set new (n * count + j) x)
 one_put f assets count j n old new x b asset session room e is_cell = record {
   size = length-set new (n * count + j) x ∙ b.size;
   written = λ i h. elim (cases_eq i n) [
     | inl p ↦ (let m : i * count + j ≡ n * count + j = ap (λ k. k * count + j) p in ap (λ k. get_or (set new (n * count + j) x) k (pos 0)) m ∙ get_or-set_same new (n * count + j) x (pos 0) here ∙ e ∙ ap f (sym p))
-    | inr p ↦ get_or-set_other new (n * count + j) (i * count + j) x (pos 0) (λ q. p (apart i n count j j session session q).0) ∙ b.written i (omega arith)
+    | inr p ↦ get_or-set_other new (n * count + j) (i * count + j) x (pos 0) (λ q. p (same_from_place i j n j count session session q).0) ∙ b.written i (omega arith)
   ];
   cell = λ i h. elim (cases_eq i n) [
     | inl p ↦ rw p is_cell
     | inr p ↦ b.cell i (omega arith)
   ];
-  others = λ i t h l ne. get_or-set_other new (n * count + j) (i * count + t) x (pos 0) (λ q. ne (apart i n count j t session l q).1) ∙ b.others i t h l ne;
+  others = λ i t h l ne. get_or-set_other new (n * count + j) (i * count + t) x (pos 0) (λ q. ne (same_from_place i t n j count l session q).1) ∙ b.others i t h l ne;
 }
   where
     here : n * count + j < length new
-    here = let p = place_within n assets count j asset session in let s = b.size in omega arith
-
-pub all_put : (f : ℕ → ℤ) (assets count j n : ℕ) (old new : List ℤ) → IsPut f assets count j n old new → assets ≤ n → IsRow f assets count j old new
-all_put f assets count j n old new b h = record { size = b.size; written = λ i l. b.written i (omega arith); cell = λ i l. b.cell i (omega arith); others = b.others }
+    here = let p = row-within n assets count j asset session in let s = b.size in omega arith
 
 -- ---- session after session
-
-pub none_written : (f : ℕ → ℕ → ℤ) (assets low count : ℕ) (cells : List ℤ) → IsWritten f assets low count 0 cells cells
-none_written f assets low count cells = record { size = refl; each = λ i t a l. absurd (omega arith); cell = λ i t a l. absurd (omega arith) }
 
 pub more_written : (f : ℕ → ℕ → ℤ) (assets low count done : ℕ) (old cells new row : List ℤ) → IsWritten f assets low count done old cells → done < count
     → Fills (λ i. f i (low + done)) assets row → IsRow (λ i. get_or row i (pos 0)) assets count done cells new → IsWritten f assets low count (done + 1) old new

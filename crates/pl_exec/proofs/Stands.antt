@@ -1,18 +1,18 @@
 -- Where the traversals of a term stand, and what they count.
-use Rattle.std.proofs.Common.{◌≡◌, ℕ, zero, suc, ◌+◌, ◌-◌, ◌*◌, ◌<◌, ◌≤◌, true, false, sum_by, List, [], ◌∷◌, ◌++◌, length, take, get_or, Option, Some, None, refl, sym, ◌∙◌, ap, subst, arith, ◌==◌}
+use Rattle.std.proofs.Common.{◌≡◌, ℕ, zero, suc, ◌+◌, ◌-◌, ◌<◌, ◌≤◌, false, sum_by, List, [], ◌∷◌, ◌++◌, length, take, get_or, Option, Some, None, refl, sym, ◌∙◌, ap, subst, arith, ◌==◌, eq-eqb}
 use Rattle.std.proofs.lemmas.Bool.Decides.{nat_tests}
 use Rattle.std.proofs.lemmas.List.{take_more}
 use Rattle.std.proofs.lemmas.List.Sums.{fold-append}
 use Rattle.pl_spec.specs.declared.Column.{Column}
 use Rattle.pl_spec.specs.Window.{applied_steps}
 use Rattle.pl_spec.specs.Term as spec
-use Rattle.pl_spec.specs.Term.Input.{BarColumn, TermInput}
+use Rattle.pl_spec.specs.Limits.{cut}
 use Rattle.pl_adjarray.specs.Buffered.{Buffered, applied_at, row_count as applied_row}
 use Rattle.pl_adjarray.specs.Traversals.{Traversal, advances}
 use Rattle.pl_adjarray.proofs.Worlds.{whole_counts}
 use Rattle.pl_exec.specs.declared.job.Job.{Job}
 use Rattle.pl_exec.specs.declared.windows.Bars.{Bars}
-use Rattle.pl_exec.specs.Tasks.{cut, first_row, row_count, count_in, graph_in, low_in, sids_in, term_steps, columns_of, columns_of_term, window_of_term}
+use Rattle.pl_exec.specs.Tasks.{first_row, row_count, count_in, graph_in, low_in, sids_in, term_steps, columns_of, columns_of_term, window_of_term}
 use Rattle.pl_exec.specs.Jobs.{AreBars, GoesOn, HasBarsAt, HasBegun, IsColumnRun, advanced, buffer_at, buffer_for, buffered, counted, new_column, one_col, passed, stand_at, steps_at, steps_of, task_of, traversal_at}
 use Rattle.pl_workspace.specs.Slots.{Slots}
 use Rattle.pl_exec.proofs.NewColumns.{part, columns_sum}
@@ -20,11 +20,8 @@ use Rattle.pl_exec.proofs.NewColumns.{part, columns_sum}
 not_first : (a b : ℕ) → a < b → (b == a) ≡ false
 not_first a b h = grind (arith, nat_tests)
 
-same_first : (a : ℕ) → (a == a) ≡ true
-same_first a = grind (arith, nat_tests)
-
 stand_advances : (b : Buffered) (size m : ℕ) → 1 ≤ size → advances (record { array = b; window = size; session = stand_at b size m }) ≡ m
-stand_advances b size zero h = rw (same_first b.first) refl
+stand_advances b size zero h = rw (eq-eqb b.first b.first refl) refl
 stand_advances b size (suc i) h = let e = not_first b.first (b.first + size + i) (omega arith) in rw e (let r : b.first + size + i + 1 - (b.first + size) ≡ suc i = omega arith in r)
 
 module _ (j : Job) (w : Slots) (k : ℕ) (n : spec.Node) (run : IsColumnRun j w k n) (cols : List ℕ) where
@@ -153,14 +150,5 @@ module _ (j : Job) (w : Slots) (k : ℕ) (n : spec.Node) (run : IsColumnRun j w 
       let t : sum_by column_steps (columns_of_term (graph_in (task_of j)) k) ≡ sum_by column_steps (columns_of n) = rw run.node refl in
       omega (arith, a, c, d, s, t)
 
--- sums are cut once
-pub cut_sum : (a b c x y z s : ℕ) → x ≡ cut a → y ≡ cut b → z ≡ cut c → s ≡ cut (cut (x + y) + z) → s ≡ cut (a + b + c)
-cut_sum a b c x y z s e f g h = omega (arith, e, f, g, h)
-
 pub cut_two : (a b x y s : ℕ) → x ≡ cut a → y ≡ cut b → s ≡ cut (x + y) → s ≡ cut (a + b)
 cut_two a b x y s e f g = omega (arith, e, f, g)
-
--- the cells of one asset are among those of all
-pub row_within : (assets rows size : ℕ) → 0 < assets → assets * rows ≤ size → rows ≤ size
-row_within zero rows size h r = absurd (omega arith)
-row_within (suc assets) rows size h r = let e : suc assets * rows ≡ assets * rows + rows = omega arith in omega arith

@@ -1,5 +1,5 @@
 -- The values of a term for an asset on sessions in a row.
-use Rattle.std.proofs.Common.{◌≡◌, ℕ, zero, suc, ◌+◌, ◌-◌, ◌*◌, ◌<◌, ◌≤◌, true, ℤ, pos, List, [], ◌∷◌, ◌++◌, length, take, drop, get_or, get_or-set_same, get_or-set_other, set, Option, Some, slice_get, refl, sym, ◌∙◌, ap, subst, arith, All, inl, inr}
+use Rattle.std.proofs.Common.{◌≡◌, ℕ, ◌+◌, ◌-◌, ◌*◌, ◌<◌, ◌≤◌, true, ℤ, pos, List, ◌++◌, length, take, drop, get_or, get_or-set_same, get_or-set_other, set, Option, Some, slice_get, refl, sym, ◌∙◌, ap, subst, arith, All, inl, inr}
 use Rattle.std.proofs.lemmas.Bool.{cases_eq, cases_lt}
 use Rattle.std.proofs.lemmas.List.{ext_get_or, get_or-take, get_or-drop, get_or_append_left, length-map, length-take, length-drop}
 use borrow.Rule.Slice.PartMut.{put_mid, post_of}
@@ -7,6 +7,9 @@ use Rattle.pl_spec.specs.Rounding.{IsCell}
 use Rattle.pl_spec.specs.Kind.{Kind}
 use Rattle.pl_spec.specs.Term as spec
 use Rattle.pl_spec.specs.Window.{downward}
+use Rattle.pl_spec.proofs.Lists.{get_or-front, get_or-behind}
+use Rattle.pl_spec.proofs.Windows.{length-downward}
+use Rattle.pl_spec.proofs.Cells.{chosen-cell}
 use Rattle.pl_terms.specs.Sorts.{is_windowed}
 use Rattle.pl_factors.specs.Kinds.{formula_of}
 use Rattle.pl_running.specs.Lanes.{AreValues, TakesLanes, window_at}
@@ -17,25 +20,26 @@ use Rattle.pl_values.specs.Families.{TakesWindows as TakesGiven, windowed}
 use Rattle.pl_values.specs.Inputs.{input_window}
 use Rattle.pl_values.specs.Laws.{IsGiven}
 use Rattle.pl_values.proofs.Given.{window-cell}
+use Rattle.pl_values.proofs.KindFamilies.{window_kind}
 use Rattle.pl_exec.specs.declared.course.Course.{Course}
 use Rattle.pl_exec.specs.declared.turn.Turn.{Turn}
 use Rattle.pl_exec.specs.declared.job.Array.{Array}
 use Rattle.pl_exec.specs.Tasks.{assets_in, cell_in, low_in, sids_in}
 use Rattle.pl_exec.specs.Jobs.{IsCourse, IsGivenOn, IsLane, IsReach, IsTermLent, IsTurn, node_at, node_in, task_at, task_in, turn_in}
 use Rattle.pl_exec.proofs.Courses.{course_turn}
-use Rattle.pl_exec.proofs.Givens.{chosen_cell, node_is, none_cell, window_kind}
+use Rattle.pl_exec.proofs.Givens.{node_is, none_cell}
 use Rattle.pl_exec.proofs.Held.{read_cells, read_end, read_size, read_window}
-use Rattle.pl_exec.proofs.Spans.{at_downward, long}
+use Rattle.pl_exec.proofs.Spans.{at_downward}
 
 -- ---- the cells of a term
 
 -- a window among the cells up to a later session
 up_to_at : (f : ℕ → ℤ) (size more s m : ℕ) → m ≤ more → window_at size m (window_up_to f (size + more) (s + more)) ≡ window_up_to f size (s + m)
 up_to_at f size more s m h =
-    let whole : length (window_up_to f (size + more) (s + more)) ≡ size + more = length-map (downward (size + more)) (λ n. f (s + more - n)) ∙ long (size + more) in
+    let whole : length (window_up_to f (size + more) (s + more)) ≡ size + more = length-map (downward (size + more)) (λ n. f (s + more - n)) ∙ length-downward (size + more) in
     let part : length (window_at size m (window_up_to f (size + more) (s + more))) ≡ size
     = (let t = length-take size (drop m (window_up_to f (size + more) (s + more))) in let d = length-drop m (window_up_to f (size + more) (s + more)) in omega (arith, t, d, whole, h)) in
-    ext_get_or (pos 0) _ _ (part ∙ sym (length-map (downward size) (λ n. f (s + m - n)) ∙ long size))
+    ext_get_or (pos 0) _ _ (part ∙ sym (length-map (downward size) (λ n. f (s + m - n)) ∙ length-downward size))
     (λ k l.
     let inside : k < size = omega (arith, l, part) in
     let at : s + more - (size + more - 1 - (m + k)) ≡ s + m - (size - 1 - k) = omega (arith, inside, h) in
@@ -64,7 +68,7 @@ module _ (t : Turn) (is : IsTurn t) (i u : ℕ) (a : Array) (lent : IsTermLent t
   pub term_reached : IsReach t (Some (spec.TermInput u)) i more (take size (drop (i * a.count + (t.session + more - a.low) + 1 - size) a.cells.now))
   term_reached = record {
     windows = λ m h. ap (window_at (node_at t).window m) taken_is ∙ up_to_at (cell_in (task_at t) u i) (node_at t).window more t.session m h;
-    long = λ h. (let l = ap length taken_is ∙ length-map (downward ((node_at t).window + more)) (λ n. cell_in (task_at t) u i (t.session + more - n)) ∙ long ((node_at t).window + more) in omega (arith, l));
+    long = λ h. (let l = ap length taken_is ∙ length-map (downward ((node_at t).window + more)) (λ n. cell_in (task_at t) u i (t.session + more - n)) ∙ length-downward ((node_at t).window + more) in omega (arith, l));
   }
 
   pub reach_cells : All IsCell (take size (drop (i * a.count + (t.session + more - a.low) + 1 - size) a.cells.now))
@@ -137,28 +141,16 @@ module _ (c : Course) (is : IsCourse c) (i j n : ℕ) (within : j + n ≤ c.coun
 
 -- ---- a lane, stretch by stretch
 
-front : (xs zs : List ℤ) (a k : ℕ) (d : ℤ) → k < a → a ≤ length xs → get_or (take a xs ++ zs) k d ≡ get_or xs k d
-front xs zs zero k d h l = absurd (omega (arith, h))
-front [] zs (suc a) k d h l = absurd (omega (arith, l))
-front (x ∷ xs) zs (suc a) zero d h l = refl
-front (x ∷ xs) zs (suc a) (suc k) d h l = front xs zs a k d (omega (arith, h)) (omega (arith, l))
-
-behind : (xs zs : List ℤ) (a j k : ℕ) (d : ℤ) → j ≡ a + k → a ≤ length xs → get_or (take a xs ++ zs) j d ≡ get_or zs k d
-behind xs zs zero j k d e l = let same : j ≡ k = omega (arith, e) in ap (λ i. get_or zs i d) same
-behind [] zs (suc a) j k d e l = absurd (omega (arith, l))
-behind (x ∷ xs) zs (suc a) zero k d e l = absurd (omega (arith, e))
-behind (x ∷ xs) zs (suc a) (suc j) k d e l = behind xs zs a j k d (omega (arith, e)) (omega (arith, l))
-
 -- what holds of the cells before a part, and of the part that is written, holds of the cells so far
 pub more_given : (P : ℕ → ℤ → Type 0) (xs ys : List ℤ) (done n k : ℕ) → done ≤ length xs → length ys ≡ n → ((m : ℕ) → m < done → P m (get_or xs m (pos 0))) → ((m : ℕ) → m < n → P (done + m) (get_or ys m (pos 0)))
     → (m : ℕ) → m < done + n → P m (get_or (put_mid done k xs ys) m (pos 0))
 more_given P xs ys done n k within size so_far more m h = elim (cases_lt m done) [
-  | inl p ↦ subst (P m) (sym (front xs (ys ++ post_of done k xs) done m (pos 0) p within)) (so_far m p)
+  | inl p ↦ subst (P m) (sym (get_or-front xs (ys ++ post_of done k xs) done m (pos 0) p within)) (so_far m p)
   | inr p ↦ (
       let e : m ≡ done + (m - done) = omega (arith, p) in
       let inside : m - done < n = omega (arith, h, p) in
       let own : get_or (put_mid done k xs ys) m (pos 0) ≡ get_or ys (m - done) (pos 0)
-      = behind xs (ys ++ post_of done k xs) done m (m - done) (pos 0) e within ∙ get_or_append_left ys (post_of done k xs) (pos 0) (m - done) (omega (arith, inside, size)) in
+      = get_or-behind xs (ys ++ post_of done k xs) done m (m - done) (pos 0) e within ∙ get_or_append_left ys (post_of done k xs) (pos 0) (m - done) (omega (arith, inside, size)) in
       subst (P m) (sym own) (subst (λ x. P x (get_or ys (m - done) (pos 0))) (sym e) (more (m - done) inside)))
 ]
 
@@ -190,5 +182,5 @@ module _ (c : Course) (is : IsCourse c) (i : ℕ) (made out : List ℤ) (given :
   kept_lane size = record {
     long = size;
     each = cell_at;
-    cell = λ j h. subst IsCell (sym (kept j h) ∙ cell_at j h) (chosen_cell (is_kept (task_in c).world (task_in c).pipeline (sids_in (task_in c)) (node_in c).mask i (c.low + j)) (get_or made j (pos 0)) c.none (given j h).cell (none_cell (turn_in c j) (course_turn c is j h)));
+    cell = λ j h. subst IsCell (sym (kept j h) ∙ cell_at j h) (chosen-cell (is_kept (task_in c).world (task_in c).pipeline (sids_in (task_in c)) (node_in c).mask i (c.low + j)) (get_or made j (pos 0)) c.none (given j h).cell (none_cell (turn_in c j) (course_turn c is j h)));
   }

@@ -1,11 +1,12 @@
 -- A term that is computed while its bar columns are in slots.
 use Rattle.std.specs.Prelude.{◌≡◌, ℕ, ◌+◌, ◌-◌, ℤ, List, max}
+use Rattle.pl_spec.specs.Limits.{cut}
 use Rattle.pl_spec.specs.Term as spec
 use Rattle.pl_terms.specs.Nodes.{node_of}
 use Rattle.pl_workspace.specs.Slots.{Slots, live_count}
 use Rattle.pl_exec.specs.declared.compute.Filled.{Filled}
 use Rattle.pl_exec.specs.declared.compute.Term.{Term}
-use Rattle.pl_exec.specs.Tasks.{Task, IsArray, cut, term_steps}
+use Rattle.pl_exec.specs.Tasks.{Task, IsArray, term_steps}
 use Rattle.pl_exec.specs.Jobs.{HasRows, new_before, task_of}
 
 abbrev pub task_for : Term → Task

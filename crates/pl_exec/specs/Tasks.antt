@@ -1,5 +1,5 @@
 -- The work of one chunk, and what the arrays of its terms hold.
-use Rattle.std.specs.Prelude.{◌≡◌, ℕ, ◌+◌, ◌-◌, ◌*◌, ◌<◌, ◌≤◌, Bool, true, if◌then◌else◌, ℤ, List, [], ◌∷◌, length, map, filter, filter_map, take, sum_by, count_by, Option, Some, None, slice_get, All, AllPairs, min, ◌^◌}
+use Rattle.std.specs.Prelude.{◌≡◌, ℕ, ◌+◌, ◌-◌, ◌*◌, ◌<◌, ◌≤◌, Bool, true, if◌then◌else◌, ℤ, List, [], ◌∷◌, length, map, filter, filter_map, take, sum_by, count_by, Option, Some, None, slice_get, All, AllPairs}
 use Rattle.std.specs.List.{range_with_len}
 use Rattle.pl_spec.specs.declared.Column.{Column}
 use Rattle.pl_spec.specs.declared.Column.TheVariants.{OpenPrice, High, Low, Close, Volume}
@@ -94,10 +94,6 @@ steps_in t k = if is_used t.plan k then term_steps t k else 0
 -- the results and bar columns that are held while a used term is computed
 abbrev pub held_in : Task → ℕ → ℕ
 held_in t k = if is_used t.plan k then count_by (kept_in t k) (range_with_len 0 (k + 1)) + columns_at (graph_in t) k else 0
-
--- the number, or the greatest that 64 bits hold
-abbrev pub cut : ℕ → ℕ
-cut n = min n (2 ^ 64 - 1)
 
 -- ---- what the executor asks for, and what it leaves
 

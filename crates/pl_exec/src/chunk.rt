@@ -2,6 +2,7 @@
 ghost use Rattle.std.specs.Prelude.{◌≡◌, ◌+◌, ◌<◌, ◌≤◌, ◌&&◌, ℕ, true, length, max, fold, map, sum_by, option_map};
 ghost use Rattle.std.specs.List.{range_with_len};
 ghost use Rattle.pl_spec.specs.Graph.{bound, columns_at};
+ghost use Rattle.pl_spec.specs.Limits.{cut};
 ghost use Rattle.pl_terms.specs.Checked.{pipeline_of};
 ghost use Rattle.pl_terms.specs.Nodes.{number_of};
 ghost use Rattle.pl_terms.specs.Uses.{outputs};
@@ -9,7 +10,7 @@ ghost use Rattle.pl_world.specs.Worlds.{IsMade};
 ghost use Rattle.pl_planner.specs.Plans.{IsPlanOf, is_used, last_user, slot_of};
 ghost use Rattle.pl_workspace.specs.Slots.{Free, live_count, slot_at};
 ghost use Rattle.pl_exec.specs.Slotted.{AreApart, AreLive, ends_at, left};
-ghost use Rattle.pl_exec.specs.Tasks.{AreColumns, HasRoom, HoldsOutputs, IsArray, assets_in, chunk_steps, cut, graph_in, held_in, kept_in, steps_in, term_steps};
+ghost use Rattle.pl_exec.specs.Tasks.{AreColumns, HasRoom, HoldsOutputs, IsArray, assets_in, chunk_steps, graph_in, held_in, kept_in, steps_in, term_steps};
 ghost use Rattle.pl_exec.specs.Jobs.{IsJob, task_of};
 ghost use Rattle.pl_exec.specs.Chunks.{task};
 

@@ -3,10 +3,11 @@
 ghost use Rattle.std.specs.Prelude.{◌≡◌, ◌+◌, ◌*◌, ◌<◌, ◌≤◌, ℕ, true, false, pos, get_or, length, slice_set, [], ◌∷◌};
 ghost use Rattle.pl_spec.specs.Rounding.{IsCell};
 ghost use Rattle.pl_spec.specs.Graph.{columns_at};
+ghost use Rattle.pl_spec.specs.Limits.{cut};
 ghost use Rattle.pl_terms.specs.Sorts.{is_windowed};
 ghost use Rattle.pl_values.specs.Arrays.{IsRow};
 ghost use Rattle.pl_values.specs.Families.{IsOf};
-ghost use Rattle.pl_exec.specs.Tasks.{IsArray, assets_in, cut, graph_in, term_steps};
+ghost use Rattle.pl_exec.specs.Tasks.{IsArray, assets_in, graph_in, term_steps};
 ghost use Rattle.pl_exec.specs.Jobs.{AreBars, AreGiven, AreLent, HasNoBars, HasRows, IsColumnRun, IsCourse, IsLane, IsOut, IsTurn, buffer_at, by_rows, counted, node_at, node_in, one_col, steps_of, task_at, task_in};
 
 use crate::columns::new_column;

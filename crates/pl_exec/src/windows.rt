@@ -1,10 +1,11 @@
 //! The windows of a node's inputs: of its bar columns, which are traversed together, and of terms.
 ghost use Rattle.std.specs.Prelude.{◌≡◌, ◌+◌, ◌-◌, ◌<◌, ◌≤◌, ℕ, true, All, get_or, length, pos, slice_get};
 ghost use Rattle.pl_spec.specs.Rounding.{IsCell};
+ghost use Rattle.pl_spec.specs.Limits.{cut};
 ghost use Rattle.pl_adjarray.specs.Buffered.{applied_at};
 ghost use Rattle.pl_adjarray.specs.Stillness.{IsStill};
 ghost use Rattle.pl_terms.specs.Sorts.{is_windowed};
-ghost use Rattle.pl_exec.specs.Tasks.{assets_in, cut};
+ghost use Rattle.pl_exec.specs.Tasks.{assets_in};
 ghost use Rattle.pl_exec.specs.Jobs.{AreLent, AreStill, AreStillNow, GoesOn, HasBars, HasBegun, IsColumnAt, IsColumnReach, IsCourse, IsGivenOn, IsLent, IsLentAt, IsLentReach, IsMaskLent, IsTurn, advanced, bars_now, counted, node_at, node_in, one_col, passed, place_in, task_at, task_in};
 
 use crate::columns::place_of;

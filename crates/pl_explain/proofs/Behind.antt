@@ -22,6 +22,7 @@ use Rattle.pl_terms.specs.Uses.{is_used}
 use Rattle.pl_spec.specs.Kind.Kind.{Window}
 use Rattle.pl_terms.specs.Kinds.{kind_of}
 use Rattle.pl_terms.specs.Sorts.{is_windowed}
+use Rattle.pl_terms.proofs.Graphs.{graph-long, used-within}
 use Rattle.pl_world.proofs.Evaluated.{windowed-is}
 use Rattle.pl_explain.specs.Given.{facts_read}
 use Rattle.pl_derivation.specs.Facts.{Fact, number_in, premises, over_inputs, entry_facts, facts_now, number_facts, window_facts}
@@ -29,21 +30,17 @@ use Rattle.pl_derivation.specs.Facts.Fact.{Worth}
 use Rattle.pl_derivation.specs.Right.{has_sid}
 use Rattle.pl_derivation.proofs.Fits.{HasSessions, premises_ready}
 use Rattle.pl_spec.proofs.Each.{Each}
+use Rattle.pl_spec.proofs.Columns.{no_asset, sid-there}
 use Rattle.pl_explain.specs.declared.fact.Fact as code
 use Rattle.pl_explain.specs.Keys.{fact_of}
 use Rattle.pl_world.specs.declared.world.World.{World}
 use Rattle.pl_world.specs.Worlds.{world_of, IsMade}
 use Rattle.pl_world.specs.Evaluations.{IsAsked, IsAskedInput}
 use Rattle.pl_world.proofs.Asked.{inputs-at}
-use Rattle.pl_world.proofs.Sections.{blank, sid-there}
 use Rattle.pl_explain.specs.Reading.{ArePut, IsRoomy}
 use Rattle.pl_explain.specs.Walking.{CanStand, CanStandIn}
-use Rattle.pl_explain.proofs.Used.{used-within, graph-long}
 
 -- ---- putting
-
-pub put-none : (old : List code.Fact) → ArePut old old []
-put-none old = sym (append-nil (map fact_of old))
 
 pub put-both : (old mid new : List code.Fact) (fs gs : List Fact) → ArePut old mid fs → ArePut mid new gs → ArePut old new (fs ++ gs)
 put-both old mid new fs gs a b = b ∙ ap (λ l. l ++ gs) a ∙ append_assoc (map fact_of old) fs gs
@@ -120,8 +117,8 @@ module _ (g : ℕ → List Fact) (q : ℕ → Bool) (assets : List AssetRow) whe
   module _ (i : ℕ) (inside : i < length assets) where
     taken : entries_of (take (i + 1) assets) ≡ entries_of (take i assets) ++ flat_map g (cond (q (sid_at assets i)) (sid_at assets i ∷ []) [])
     taken =
-        ap entries_of (take_more assets i blank inside)
-        ∙ ap (λ l. flat_map g (filter q l)) (map-append (λ (a : AssetRow). a.sid) (take i assets) (get_or assets i blank ∷ []))
+        ap entries_of (take_more assets i no_asset inside)
+        ∙ ap (λ l. flat_map g (filter q l)) (map-append (λ (a : AssetRow). a.sid) (take i assets) (get_or assets i no_asset ∷ []))
         ∙ ap (λ a. flat_map g (filter q (map (λ (a : AssetRow). a.sid) (take i assets) ++ a ∷ []))) (sym (sid-there assets i inside))
         ∙ ap (flat_map g) (filter-more (map (λ (a : AssetRow). a.sid) (take i assets)) (sid_at assets i))
         ∙ flat-more (filter q (map (λ (a : AssetRow). a.sid) (take i assets))) (cond (q (sid_at assets i)) (sid_at assets i ∷ []) [])

@@ -1,9 +1,9 @@
 -- What the functions of a walk leave, from what those that they call leave.
-use Rattle.std.proofs.Common.{◌≡◌, ℕ, zero, suc, ◌+◌, ◌<◌, ◌≤◌, ◌==◌, Bool, true, false, ℤ, pos, ◌≤ℤ◌, All, List, [], ◌∷◌, ◌++◌, length, map, take, drop, get_or, Option, Some, None, option_map, unwrap_or, is_some, slice_get, Result, Ok, Err, refl, sym, ◌∙◌, ap, subst, arith, IsErrAnd}
+use Rattle.std.proofs.Common.{◌≡◌, ℕ, zero, suc, ◌+◌, ◌<◌, ◌≤◌, ◌==◌, Bool, true, false, ℤ, pos, ◌≤ℤ◌, All, List, [], ◌∷◌, ◌++◌, length, map, take, drop, get_or, Option, Some, option_map, unwrap_or, slice_get, Result, Ok, Err, refl, sym, ◌∙◌, ap, subst, arith, IsErrAnd}
 use Rattle.std.specs.List.{list_any}
 use Rattle.std.specs.Int.RustNames.{int_lt}
 use Rattle.std.proofs.lemmas.Int.{ints}
-use Rattle.std.proofs.lemmas.Bool.{true≢false, and_parts, and_from, or_left, or_right, eq-eqb}
+use Rattle.std.proofs.lemmas.Bool.{and_parts, and_from, or_left, or_right, eq-eqb}
 use Rattle.std.proofs.lemmas.List.{take_more, take-append-drop, map-append}
 use Rattle.std.proofs.lemmas.Option.{slice_get_within, slice_get-get_or, get_or_from_slice_get}
 use Rattle.pl_spec.specs.Limits.{most_lines}
@@ -17,11 +17,9 @@ use Rattle.pl_spec.specs.Term.{term_at}
 use Rattle.pl_spec.specs.Graph.{reach}
 use Rattle.pl_terms.specs.declared.node.Node.{Node}
 use Rattle.pl_terms.specs.Checked.{Parts, pipeline_of, IsChecked}
-use Rattle.pl_terms.specs.Kinds.{kind_of}
 use Rattle.pl_terms.specs.Nodes.{graph_of, number_of}
 use Rattle.pl_terms.specs.Uses.{is_used}
 use Rattle.pl_cross.specs.Arrays.{HasTexts}
-use Rattle.pl_cross.specs.Section.{is_section}
 use Rattle.pl_derivation.specs.declared.error.ExplainError.{ExplainError}
 use Rattle.pl_derivation.specs.declared.error.ExplainError.TheVariants.{Memory, TooLong}
 use Rattle.pl_derivation.specs.declared.line.Line.{Line}
@@ -41,10 +39,9 @@ use Rattle.pl_explain.specs.declared.fact.Fact as code
 use Rattle.pl_explain.specs.declared.told.Told.{Told}
 use Rattle.pl_explain.specs.declared.rows.Rows.{Rows}
 use Rattle.pl_explain.specs.Keys.{fact_of}
-use Rattle.pl_explain.specs.Looking.{row_at}
 use Rattle.pl_explain.specs.Given.{facts_read, given, has, has_all, mask_passes, KeepsRows}
 use Rattle.pl_explain.proofs.Given.{given-yes}
-use Rattle.pl_explain.proofs.Values.{premises-front, premises-kept, premises-barred, read-section}
+use Rattle.pl_explain.proofs.Values.{premises-front, premises-kept, premises-barred}
 use Rattle.pl_explain.specs.declared.walk.Walk.{Walk}
 use Rattle.pl_explain.specs.Judging.{IsTable}
 use Rattle.pl_explain.specs.Walking.{CanStand, CanStandIn, HasWalked, StandsIn, Finishes, IsPut, IsTooLong, IsWalkTo}
@@ -221,15 +218,6 @@ module _ (w : World) (c : Parts) (ok : IsChecked (pipeline_of c)) (t : ℕ) (n :
       finished = tt;
       long = λ i. subst (λ fs. IsTooLong w c (t + 1) old fs) (sym (premises-kept w c ok t n is a s known there passed)) (long-back w c (t + 1) old mid mask (facts_read w c t a s) first (h.long i));
     }
-
--- what a cross-section reads is told where its row is kept
-pub whole-told : (w : World) (c : Parts) (ok : IsChecked (pipeline_of c)) (t : ℕ) (n : Node) (is : slice_get c.graph t ≡ Some n) → is_section (kind_of n.kind) ≡ true
-    → (told : Told) (rows : Rows) → KeepsRows w c told rows → (s : ℕ) → is_some (row_at rows t s) ≡ true → (a : ℕ) → has_all told (facts_read w c t a s) ≡ true
-whole-told w c ok t n is section told rows kept s e a = here (row_at rows t s) refl e
-  where
-    here : (o : Option (List ℤ)) → row_at rows t s ≡ o → is_some o ≡ true → has_all told (facts_read w c t a s) ≡ true
-    here None at e = absurd (true≢false (sym e))
-    here (Some row) at e = ap (has_all told) (read-section w c ok t n is a s section) ∙ (kept t s row at).stand n is
 
 -- ---- the value that is asked for
 

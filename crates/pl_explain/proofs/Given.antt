@@ -1,6 +1,7 @@
 -- What is given where facts are told.
 use Rattle.std.proofs.Common.{◌≡◌, Bool, true, false, ◌&&◌, if◌then◌else◌, ℤ, List, [], ◌∷◌, ◌++◌, Option, Some, None, option_map, is_some, IfSome, IfNone, refl, sym, ◌∙◌, ap, subst}
 use Rattle.std.proofs.lemmas.List.Folds.{list_all-append}
+use Rattle.std.proofs.lemmas.Option.{same_Some}
 use Rattle.pl_spec.specs.Rounding.{IsCell}
 use Rattle.pl_spec.specs.World.{World}
 use Rattle.pl_spec.specs.Table.{Pipeline}
@@ -8,9 +9,6 @@ use Rattle.pl_derivation.specs.Facts.{Fact, number_in}
 use Rattle.pl_explain.specs.declared.told.Told.{Told}
 use Rattle.pl_explain.specs.Looking.{look}
 use Rattle.pl_explain.specs.Given.{has, has_all, given, TellsTruth}
-
-pub some-same : {X : Type 0} (x y : X) → Some x ≡ Some y → x ≡ y
-some-same x y e = cc
 
 pub none-of : {X : Type 0} (o : Option X) → ((x : X) → o ≡ Some x → ⊥) → o ≡ None
 none-of None h = refl
@@ -32,7 +30,7 @@ module _ (told : Told) where
   given-no fs x h = rw h refl
 
   some-given : {X : Type 0} (b : Bool) (v x : X) → Some x ≡ (if b then Some v else None) → (b ≡ true) × (x ≡ v)
-  some-given true v x e = (refl, some-same x v e)
+  some-given true v x e = (refl, same_Some x v e)
   some-given false v x e = absurd (let bad : Some x ≡ None = e in cc)
 
   none-given : {X : Type 0} (b : Bool) (v : X) → None ≡ (if b then Some v else None) → b ≡ false

@@ -2,6 +2,7 @@
 use Rattle.std.proofs.Common.{◌≡◌, ◌==◌, ◌&&◌, if◌then◌else◌, ℕ, Bool, true, ◌<◌, false, ℤ, pos, List, flat_map, length, get_or, Option, Some, None, IfNone, slice_get, refl, sym, ◌∙◌, ap, subst}
 use Rattle.std.proofs.lemmas.Bool.{and_from, and_parts, eq-eqb, eqb-true}
 use Rattle.std.proofs.lemmas.List.{get_or-map, length-map}
+use Rattle.std.proofs.lemmas.Option.{none-some}
 use Rattle.pl_spec.specs.declared.AssetRow.{AssetRow}
 use Rattle.pl_spec.specs.Parts.{sid_at}
 use Rattle.pl_spec.specs.World.{living_sids}
@@ -17,18 +18,10 @@ use Rattle.pl_explain.specs.Looking.{row_at}
 use Rattle.pl_world.specs.declared.world.World.{World}
 use Rattle.pl_world.specs.Worlds.{world_of}
 use Rattle.pl_world.specs.Evaluations.{HasKind, cell_in}
-use Rattle.pl_spec.proofs.Unfolds.{past}
-use Rattle.pl_world.proofs.Evaluated.{section-is}
-use Rattle.pl_world.proofs.Sections.{sid-there, blank}
+use Rattle.pl_spec.proofs.Columns.{no_asset, sid-there}
+use Rattle.pl_world.proofs.Evaluated.{section-is, code-node}
 use Rattle.pl_explain.specs.Given.{has_all, given, facts_read, IsKeptRow, KeepsAll}
 use Rattle.pl_explain.proofs.Given.{refused, accepted}
-
-node-in : (ns : List Node) (t : ℕ) → t < length ns → (n : Node) × (slice_get ns t ≡ Some n)
-node-in ns t h = here (slice_get ns t) refl
-  where
-    here : (o : Option Node) → slice_get ns t ≡ o → (n : Node) × (slice_get ns t ≡ Some n)
-    here None e = absurd (past ns t h e)
-    here (Some n) e = (n, e)
 
 module _ (w : World) (c : Parts) (told : Told) (t s : ℕ) where
   pub kept-long : (row : List ℤ) → IsKeptRow w c told t s row → length row ≡ length w.assets.now
@@ -46,20 +39,17 @@ module _ (w : World) (c : Parts) (told : Told) (t s : ℕ) where
 
     pub kept-cell : (row : List ℤ) (d : ℤ) → IsKeptRow w c told t s row → col < length w.assets.now → Some (get_or row col d) ≡ given told (facts_read w c t sid s) (cell_in w c t sid s)
     kept-cell row d kept inside =
-        let n = node-in c.graph t known in
-        let cell = ap (λ r. get_or r col d) kept.is ∙ get_or-map (λ (b : AssetRow). cell_in w c t b.sid s) w.assets.now col blank d inside ∙ ap (λ a. cell_in w c t a s) (sym (sid-there w.assets.now col inside)) in
+        let n = code-node c.graph t known in
+        let cell = ap (λ r. get_or r col d) kept.is ∙ get_or-map (λ (b : AssetRow). cell_in w c t b.sid s) w.assets.now col no_asset d inside ∙ ap (λ a. cell_in w c t a s) (sym (sid-there w.assets.now col inside)) in
         accepted told (entries n.0) (facts_read w c t sid s) (cell_in w c t sid s) (get_or row col d) (reads n.0 n.1) (kept.stand n.0 n.1) cell
 
     pub none-kept : {X : Type 0} (o : Option X) → o ≡ None → IfNone o ((n : Node) → slice_get c.graph t ≡ Some n → has_all told (entries n) ≡ false) → None ≡ given told (facts_read w c t sid s) (cell_in w c t sid s)
     none-kept o is lacks =
-        let n = node-in c.graph t known in
+        let n = code-node c.graph t known in
         let none = subst (λ p. IfNone p ((n : Node) → slice_get c.graph t ≡ Some n → has_all told (entries n) ≡ false)) is lacks in
         refused told (entries n.0) (facts_read w c t sid s) (cell_in w c t sid s) None (reads n.0 n.1) (none n.0 n.1) refl
 
 -- ---- rows that are kept
-
-none≢some : {X : Type 0} (x : X) → None ≡ Some x → ⊥
-none≢some x e = cc
 
 module _ (old new : Rows) (t s : ℕ) (row : List ℤ) (is : (u d : ℕ) → row_at new u d ≡ (if t == u && s == d then Some row else row_at old u d)) where
   pub row-now : row_at new t s ≡ Some row
@@ -69,5 +59,5 @@ module _ (old new : Rows) (t s : ℕ) (row : List ℤ) (is : (u d : ℕ) → row
   rows-stay none u d r e = here (t == u && s == d) refl
     where
       here : (b : Bool) → (t == u && s == d) ≡ b → row_at new u d ≡ Some r
-      here true f = let p = and_parts (t == u) (s == d) f in absurd (none≢some r (sym none ∙ ap (λ n. row_at old n s) (eqb-true t u p.0) ∙ ap (row_at old u) (eqb-true s d p.1) ∙ e))
+      here true f = let p = and_parts (t == u) (s == d) f in absurd (none-some r (sym none ∙ ap (λ n. row_at old n s) (eqb-true t u p.0) ∙ ap (row_at old u) (eqb-true s d p.1) ∙ e))
       here false f = is u d ∙ ap (λ b. if b then Some row else row_at old u d) f ∙ e

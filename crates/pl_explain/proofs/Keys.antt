@@ -5,10 +5,10 @@ use Rattle.std.proofs.lemmas.Bool.Decides.{nat_tests}
 use Rattle.pl_spec.specs.declared.Column.{Column}
 use Rattle.pl_spec.specs.declared.Column.TheVariants.{OpenPrice, High, Low, Close, Volume}
 use Rattle.pl_spec.specs.World.{column_number}
+use Rattle.pl_spec.proofs.Columns.{column_number-one}
 use Rattle.pl_derivation.specs.Facts.{Fact}
 use Rattle.pl_derivation.specs.Facts.Fact.{Seen, Worth}
-use Rattle.pl_derivation.proofs.Truths.{and3, column_same}
-use Rattle.std.proofs.lemmas.Bool.{eq-eqb}
+use Rattle.pl_derivation.proofs.Truths.{and3}
 use Rattle.pl_explain.specs.Keys.{is_small, packed, fact_key}
 
 pub small-is : (n : ℕ) → is_small n ≡ true → n < 4294967296
@@ -37,9 +37,6 @@ column-few Low = omega arith
 column-few Close = omega arith
 column-few Volume = omega arith
 
-column-is : (c k : Column) → column_number c ≡ column_number k → c ≡ k
-column-is c k h = column_same c k (eq-eqb (column_number c) (column_number k) h)
-
 seen-parts : (c : Column) (a s d k : ℕ) → fact_key (Seen c a (pos s) (pos d)) ≡ Some k → (a < 4294967296) × (s < 4294967296) × (d < 4294967296) × (packed (column_number c) a s d ≡ k)
 seen-parts c a s d k e =
     let both = some-if (is_small a && is_small s && is_small d) (packed (column_number c) a s d) k e in
@@ -57,7 +54,7 @@ key-same (Seen c a (pos s) (pos d)) (Seen h b (pos r) (pos e)) k x y =
     let p = seen-parts c a s d k x in
     let q = seen-parts h b r e k y in
     let same = packed-same (column_number c) a s d (column_number h) b r e p.0 p.1 p.2 q.0 q.1 q.2 (p.3 ∙ sym q.3) in
-    rw (column-is c h same.0, same.1, same.2, same.3) refl
+    rw (column_number-one c h same.0, same.1, same.2, same.3) refl
 key-same (Worth t a (pos d)) (Worth u b (pos e)) k x y =
     let p = worth-parts t a d k x in
     let q = worth-parts u b e k y in

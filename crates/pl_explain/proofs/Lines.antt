@@ -7,6 +7,7 @@ use Rattle.std.specs.Int.RustNames.{int_lt}
 use Rattle.std.specs.Cmp.Lexicographic.{pointwise}
 use Rattle.std.proofs.lemmas.Int.{ints}
 use Rattle.std.proofs.lemmas.Bool.{true≢false, and_from}
+use Rattle.std.proofs.Math.Bool.{and-false}
 use Rattle.pl_spec.specs.declared.Column.{Column}
 use Rattle.pl_spec.specs.World.{World}
 use Rattle.pl_spec.specs.Table.{Pipeline}
@@ -24,10 +25,6 @@ less-not s d h = grind (arith, ints)
 
 less-is : (s d : ℕ) → s < d → int_lt (pos s) (pos d) ≡ true
 less-is s d h = grind (arith, ints)
-
-and-no : (b : Bool) → (b && false) ≡ false
-and-no true = refl
-and-no false = refl
 
 module _ (w : World) (p : Pipeline) (told : Told) where
   module _ (c : Column) (sid : ℕ) (bar_day day : ℤ) (cells : List ℤ) where
@@ -54,7 +51,7 @@ module _ (w : World) (p : Pipeline) (told : Told) where
       bar-fact = rw (bar_is, day_is) refl
 
       pub bar-late : d ≤ s → false ≡ judged w p told (SeenLine c sid bar_day day cells)
-      bar-late l = sym (ap (judged_about w p told (SeenLine c sid bar_day day cells)) bar-fact ∙ rw (less-not s d l, and-no (has_sid w sid)) refl)
+      bar-late l = sym (ap (judged_about w p told (SeenLine c sid bar_day day cells)) bar-fact ∙ rw (less-not s d l, and-false (has_sid w sid)) refl)
 
       pub bar-fits : has_sid w sid ≡ true → s < d → is_fitting w p (Seen c sid (pos s) (pos d)) ≡ true
       bar-fits known l = and_from (has_sid w sid) (int_lt (pos s) (pos d)) known (less-is s d l)
@@ -84,7 +81,7 @@ module _ (w : World) (p : Pipeline) (told : Told) where
     value-unknown fits e = value-unfit fits (ap (λ b. b && is_used p t) e)
 
     pub value-unused : ((f : Fact) → has told f ≡ true → is_fitting w p f ≡ true) → is_used p t ≡ false → false ≡ judged w p told (ValueLine t sid day v)
-    value-unused fits e = value-unfit fits (ap (λ b. has_sid w sid && b) e ∙ and-no (has_sid w sid))
+    value-unused fits e = value-unfit fits (ap (λ b. has_sid w sid && b) e ∙ and-false (has_sid w sid))
 
     pub value-no-day : session_of w day ≡ None → false ≡ judged w p told (ValueLine t sid day v)
     value-no-day e = rw e refl

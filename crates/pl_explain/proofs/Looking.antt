@@ -3,6 +3,7 @@ use Rattle.std.proofs.Common.{◌≡◌, ℕ, ◌+◌, ◌*◌, Bool, true, fals
 use Rattle.std.specs.Option.{option_and_then}
 use Rattle.std.specs.HashMap.{get}
 use Rattle.std.proofs.lemmas.Bool.{true≢false, eqb-true, eq-eqb, and_parts, and_from}
+use Rattle.std.proofs.lemmas.Option.{none-some}
 use Rattle.pl_derivation.specs.Facts.{Fact, same_fact}
 use Rattle.pl_derivation.proofs.Truths.{same_is, is_same}
 use Rattle.pl_explain.specs.declared.told.Told.{Told}
@@ -11,9 +12,6 @@ use Rattle.pl_explain.specs.Keys.{is_small, fact_key}
 use Rattle.pl_explain.specs.Looking.{look, row_key, row_at}
 use Rattle.pl_explain.proofs.Keys.{small-is, digits, some-if, key-same}
 
-no-some : {X : Type 0} (x : X) → None ≡ Some x → ⊥
-no-some x e = cc
-
 pub told-more : (old new : Told) (f : Fact) (k : ℕ) (x : ℤ) → fact_key f ≡ Some k → ((q : ℕ) → get nat_eq new.numbers q ≡ cond (nat_eq k q) (Some x) (get nat_eq old.numbers q))
     → (g : Fact) → look new g ≡ (if same_fact f g then Some x else look old g)
 unfolding look
@@ -21,7 +19,7 @@ told-more old new f k x e updates g = here (fact_key g) refl
   where
     none : (b : Bool) → same_fact f g ≡ b → fact_key g ≡ None → None ≡ (if b then Some x else None)
     none false i h = refl
-    none true i h = let same : f ≡ g = same_is f g i in absurd (no-some k (sym h ∙ ap fact_key (sym same) ∙ e))
+    none true i h = let same : f ≡ g = same_is f g i in absurd (none-some k (sym h ∙ ap fact_key (sym same) ∙ e))
 
     some : (q : ℕ) → fact_key g ≡ Some q → (b c : Bool) → nat_eq k q ≡ b → same_fact f g ≡ c → cond b (Some x) (get nat_eq old.numbers q) ≡ (if c then Some x else get nat_eq old.numbers q)
     some q h true true i j = refl
@@ -63,7 +61,7 @@ row-more old new t d k x e updates u s = here (row_key u s) refl
 
     none : (b : Bool) → (t == u && d == s) ≡ b → row_key u s ≡ None → None ≡ (if b then Some x.items else None)
     none false i h = refl
-    none true i h = absurd (no-some k (sym h ∙ key-is true i refl))
+    none true i h = absurd (none-some k (sym h ∙ key-is true i refl))
 
     some : (q : ℕ) → row_key u s ≡ Some q → (b c : Bool) → nat_eq k q ≡ b → (t == u && d == s) ≡ c
         → option_map (λ v. v.items) (cond b (Some x) (get nat_eq old.rows q)) ≡ (if c then Some x.items else option_map (λ v. v.items) (get nat_eq old.rows q))

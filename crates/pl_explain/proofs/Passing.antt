@@ -6,13 +6,11 @@ use Rattle.pl_spec.specs.World.{World}
 use Rattle.pl_spec.specs.Table.{Pipeline}
 use Rattle.pl_derivation.specs.Lines.{Line}
 use Rattle.pl_derivation.specs.Right.{is_right, wrong_behind, first_wrong}
+use Rattle.pl_derivation.proofs.Truths.{none_wrong}
 
 no-map : (o : Option ℕ) → option_map suc o ≡ None → o ≡ None
 no-map None h = refl
 no-map (Some n) h = absurd (let bad : Some (suc n) ≡ None = h in cc)
-
-none-wrong : ◌≡◌ {A = Option ℕ} (Some 0) None → ⊥
-none-wrong h = cc
 
 module _ (w : World) (p : Pipeline) where
   one-more : (before ls : List Line) (l : Line) → wrong_behind w p before ls ≡ None → is_right w p (before ++ ls) l ≡ true → wrong_behind w p before (ls ++ l ∷ []) ≡ None
@@ -24,7 +22,7 @@ module _ (w : World) (p : Pipeline) where
           → (wrong_behind w p (before ++ m ∷ []) ls ≡ None → wrong_behind w p (before ++ m ∷ []) (ls ++ l ∷ []) ≡ None)
           → wrong_behind w p before (m ∷ (ls ++ l ∷ [])) ≡ None
       step true i h more = let rest : wrong_behind w p (before ++ m ∷ []) (ls ++ l ∷ []) ≡ None = more (no-map _ (rw i at h)) in rw (i, rest) refl
-      step false i h more = let bad : Some 0 ≡ None = rw i at h in absurd (none-wrong bad)
+      step false i h more = let bad : Some 0 ≡ None = rw i at h in absurd (none_wrong bad)
 
   one-wrong : (before ls : List Line) (l : Line) (rest : List Line) → wrong_behind w p before ls ≡ None → is_right w p (before ++ ls) l ≡ false
       → wrong_behind w p before (ls ++ l ∷ rest) ≡ Some (length ls)
@@ -36,7 +34,7 @@ module _ (w : World) (p : Pipeline) where
           → (wrong_behind w p (before ++ m ∷ []) ls ≡ None → wrong_behind w p (before ++ m ∷ []) (ls ++ l ∷ rest) ≡ Some (length ls))
           → wrong_behind w p before (m ∷ (ls ++ l ∷ rest)) ≡ Some (suc (length ls))
       step true i h more = let rest : wrong_behind w p (before ++ m ∷ []) (ls ++ l ∷ rest) ≡ Some (length ls) = more (no-map _ (rw i at h)) in rw (i, rest) refl
-      step false i h more = let bad : Some 0 ≡ None = rw i at h in absurd (none-wrong bad)
+      step false i h more = let bad : Some 0 ≡ None = rw i at h in absurd (none_wrong bad)
 
   -- the lines up to one
   pub taken-more : (lines : List Line) (i : ℕ) (l : Line) → slice_get lines i ≡ Some l → take (i + 1) lines ≡ take i lines ++ l ∷ []

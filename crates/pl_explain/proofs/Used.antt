@@ -1,45 +1,18 @@
 -- Used terms stand in the graph, and the sid of a column is known.
-use Rattle.std.proofs.Common.{◌≡◌, ℕ, zero, suc, ◌<◌, ◌≤◌, Bool, true, false, cond, List, [], ◌∷◌, ◌++◌, length, get_or, Option, Some, None, option_map, unwrap_or, refl, sym, ◌∙◌, ap, arith, ◌==◌, inl, inr, pos, IfSome, IfNone}
-use Rattle.std.proofs.lemmas.List.{length-map}
+use Rattle.std.proofs.Common.{◌≡◌, ℕ, zero, suc, ◌<◌, ◌≤◌, true, false, List, [], ◌∷◌, length, get_or, Option, Some, None, option_map, unwrap_or, refl, sym, ◌∙◌, ap, arith, ◌==◌, inl, inr, pos, IfSome, IfNone}
 use Rattle.std.specs.List.{list_any, position}
-use Rattle.std.proofs.lemmas.Bool.{true≢false, or_cases, or_right, eqb-true, cases_Bool}
-use Rattle.std.proofs.lemmas.List.Folds.{list_any-append}
+use Rattle.std.proofs.lemmas.Bool.{true≢false, or_right, eqb-true, cases_Bool}
 use Rattle.std.proofs.lemmas.Option.{slice_get-get_or}
 use Rattle.pl_spec.specs.declared.AssetRow.{AssetRow}
 use Rattle.pl_spec.specs.Parts.{sid_at}
-use Rattle.pl_spec.specs.Term.{Graph}
-use Rattle.pl_spec.specs.Graph.{contains, mentions_at, used_below}
 use Rattle.pl_spec.specs.Table.{Pipeline}
-use Rattle.pl_terms.specs.Uses.{outputs, is_used}
-use Rattle.pl_terms.specs.declared.node.Node.{Node}
-use Rattle.pl_terms.specs.Nodes.{graph_of, node_of}
+use Rattle.pl_terms.specs.Uses.{is_used}
+use Rattle.pl_terms.proofs.Graphs.{used-within}
 use Rattle.pl_world.specs.declared.world.World.{World}
 use Rattle.pl_world.specs.Worlds.{world_of}
 use Rattle.pl_derivation.specs.Right.{has_sid}
 use Rattle.pl_derivation.proofs.Finding.{place_found, is_place}
 use Rattle.pl_explain.specs.Judging.{IsPlace}
-
-below : (g : Graph) (n : ℕ) (marks : List ℕ) (t : ℕ) → contains (used_below g n marks) t ≡ true → t < n
-below g zero marks t h = absurd (true≢false (sym h))
-below g (suc n) marks t h = here (contains marks n) h (λ m. below g n m t)
-  where
-    here : (b : Bool) → contains (used_below g n (cond b (marks ++ mentions_at g n) marks) ++ cond b (n ∷ []) []) t ≡ true
-        → ((m : List ℕ) → contains (used_below g n m) t ≡ true → t < n) → t < suc n
-    here b e more =
-        elim (or_cases (contains (used_below g n (cond b (marks ++ mentions_at g n) marks)) t) (contains (cond b (n ∷ []) []) t) (sym (list_any-append (λ x. x == t) (used_below g n (cond b (marks ++ mentions_at g n) marks)) (cond b (n ∷ []) [])) ∙ e)) [
-          | inl i ↦ (let l : t < n = more (cond b (marks ++ mentions_at g n) marks) i in omega (arith, l))
-          | inr i ↦ own b i
-        ]
-      where
-        own : (b : Bool) → contains (cond b (n ∷ []) []) t ≡ true → t < suc n
-        own false i = absurd (true≢false (sym i))
-        own true i = elim (or_cases (n == t) false i) [
-          | inl e ↦ (let same : n ≡ t = eqb-true n t e in omega (arith, same))
-          | inr e ↦ absurd (true≢false (sym e))
-        ]
-
-pub used-within : (p : Pipeline) (t : ℕ) → is_used p t ≡ true → t < length p.graph
-used-within p t h = below p.graph (length p.graph) (outputs p) t h
 
 pub past-unused : (p : Pipeline) (t : ℕ) → length p.graph ≤ t → is_used p t ≡ false
 past-unused p t l = elim (cases_Bool (is_used p t)) [
@@ -81,7 +54,3 @@ found-place w sid (Some i) e =
 pub found-nowhere : (w : World) (sid : ℕ) (o : Option ℕ) → o ≡ position (λ a. a.sid == sid) w.assets.now → IfNone o (has_sid (world_of w) sid ≡ false)
 found-nowhere w sid None e = nowhere-unknown w.assets.now sid (sym e)
 found-nowhere w sid (Some i) e = tt
-
-pub graph-long : (ns : List Node) → length (graph_of ns) ≡ length ns
-unfolding graph_of
-graph-long ns = length-map ns node_of

@@ -19,12 +19,11 @@ use Rattle.pl_terms.specs.Kinds.{kind_of}
 use Rattle.pl_terms.specs.Nodes.{node_of, graph_of, input_of, number_of}
 use Rattle.pl_terms.specs.Checked.{Parts, pipeline_of, IsChecked}
 use Rattle.pl_terms.specs.Sorts.{is_windowed, places}
+use Rattle.pl_terms.proofs.Graphs.{graph-at}
 use Rattle.pl_cross.specs.Section.{is_section}
 use Rattle.pl_cross.specs.Arrays.{HasTexts}
 use Rattle.pl_values.specs.Families.{is_label_test, is_point, is_sids}
-use Rattle.pl_spec.proofs.Unfolds.{past}
 use Rattle.pl_values.specs.Arrays.{is_kept}
-use Rattle.pl_values.proofs.Empties.{node-there}
 use Rattle.pl_values.proofs.Cells.{keeps-is}
 use Rattle.pl_values.proofs.Typed.{no-input}
 use Rattle.pl_values.proofs.Given.{window-input}
@@ -34,7 +33,7 @@ use Rattle.pl_derivation.proofs.Codes.{from_code}
 use Rattle.pl_world.specs.declared.world.World.{World}
 use Rattle.pl_world.specs.Worlds.{world_of}
 use Rattle.pl_world.proofs.Asked.{inputs-at}
-use Rattle.pl_world.proofs.Evaluated.{kept-mask, windowed-is, point-is, label-test-is, section-is, sids-is}
+use Rattle.pl_world.proofs.Evaluated.{kept-mask, windowed-is, point-is, label-test-is, section-is, sids-is, code-node}
 use Rattle.pl_explain.specs.Given.{mask_passes, facts_read, IsEarly}
 use Rattle.pl_explain.proofs.Entries.{input-facts}
 
@@ -61,7 +60,7 @@ one-place kinds.PeerCount = (refl, refl)
 
 module _ (w : World) (c : Parts) (ok : IsChecked (pipeline_of c)) (t : ℕ) (n : Node) (is : slice_get c.graph t ≡ Some n) where
   there : slice_get (graph_of c.graph) t ≡ Some (node_of n)
-  there = node-there c.graph t n is
+  there = graph-at c.graph t n is
 
   module _ (a s : ℕ) where
     shown : premises (world_of w) (pipeline_of c) (number_in (world_of w) (pipeline_of c)) (Worth t a (pos s)) ≡ node_facts (world_of w) (pipeline_of c) (number_in (world_of w) (pipeline_of c)) (node_of n) a (pos s)
@@ -168,7 +167,7 @@ pub window-in-time : (c : Parts) (ok : IsChecked (pipeline_of c)) (t : ℕ) (n :
 unfolding node_of
 window-in-time c ok t n is s e early =
     let f = windowed-is (kind_of n.kind) e in
-    let x = window-input no_world (pipeline_of c) [] ok t (node_of n) (node-there c.graph t n is) f.0 f.1 in
+    let x = window-input no_world (pipeline_of c) [] ok t (node_of n) (graph-at c.graph t n is) f.0 f.1 in
     has-some (slice_get n.inputs 0) x.0 (sym (inputs-at n 0) ∙ x.1) n.window s early
   where
     no_world : SpecWorld
@@ -180,25 +179,22 @@ some-term : (o : Option TermId) (b : ℕ) → ((k : ℕ) → option_map number_o
 some-term None b h = tt
 some-term (Some u) b h = h u.0 refl
 
-code-within : (ns : List Node) (t : ℕ) (n : Node) → slice_get ns t ≡ Some n → t < length ns
-code-within ns t n e = slice_get_within ns t n e
-
 module _ (c : Parts) (ok : IsChecked (pipeline_of c)) (t : ℕ) (n : Node) (is : slice_get c.graph t ≡ Some n) where
   below : spec.MentionsBelow (node_of n) t
-  below = ok.graph.lower t (node_of n) (node-there c.graph t n is)
+  below = ok.graph.lower t (node_of n) (graph-at c.graph t n is)
 
   pub input-within : (u : TermId) → slice_get n.inputs 0 ≡ Some (input.Term u) → u.0 < length c.graph
   input-within u e =
       let l = below.inputs 0 u.0 (inputs-at n 0 ∙ ap (option_map input_of) e) in
-      omega (arith, l, code-within c.graph t n is)
+      omega (arith, l, slice_get_within c.graph t n is)
 
   pub mask-within : IfSome n.mask (λ u. u.0 < length c.graph)
   unfolding node_of
-  mask-within = some-term n.mask (length c.graph) (λ k e. omega (arith, below.mask k e, code-within c.graph t n is))
+  mask-within = some-term n.mask (length c.graph) (λ k e. omega (arith, below.mask k e, slice_get_within c.graph t n is))
 
   pub group-within : IfSome n.group (λ u. u.0 < length c.graph)
   unfolding node_of
-  group-within = some-term n.group (length c.graph) (λ k e. omega (arith, below.group k e, code-within c.graph t n is))
+  group-within = some-term n.group (length c.graph) (λ k e. omega (arith, below.group k e, slice_get_within c.graph t n is))
 
 -- the input of a cross-section, for all assets
 pub input-read : (w : World) (c : Parts) (ok : IsChecked (pipeline_of c)) (t : ℕ) (n : Node) → slice_get c.graph t ≡ Some n → (d : ℤ) → is_section (kind_of n.kind) ≡ true
@@ -221,16 +217,9 @@ one-node c t n is P h m e = let same : Some n ≡ Some m = sym is ∙ e in let o
 
 -- ---- the premises, mask first
 
-node-of : (ns : List Node) (t : ℕ) → t < length ns → (n : Node) × (slice_get ns t ≡ Some n)
-node-of ns t h = here (slice_get ns t) refl
-  where
-    here : (o : Option Node) → slice_get ns t ≡ o → (n : Node) × (slice_get ns t ≡ Some n)
-    here None e = absurd (past ns t h e)
-    here (Some n) e = (n, e)
-
 pub premises-lacks : (w : World) (c : Parts) → IsChecked (pipeline_of c) → (t a s : ℕ) → t < length c.graph → exists (world_of w) a (pos s) ≡ false
     → premises (world_of w) (pipeline_of c) (number_in (world_of w) (pipeline_of c)) (Worth t a (pos s)) ≡ []
-premises-lacks w c ok t a s h gone = let n = node-of c.graph t h in premises-none w c ok t n.0 n.1 a s gone
+premises-lacks w c ok t a s h gone = let n = code-node c.graph t h in premises-none w c ok t n.0 n.1 a s gone
 
 pub premises-front : (w : World) (c : Parts) (ok : IsChecked (pipeline_of c)) (t : ℕ) (n : Node) (is : slice_get c.graph t ≡ Some n) (a s : ℕ) → HasTexts (world_of w) → exists (world_of w) a (pos s) ≡ true
     → (rest : List Fact) × (premises (world_of w) (pipeline_of c) (number_in (world_of w) (pipeline_of c)) (Worth t a (pos s)) ≡ number_facts a (pos s) (option_map number_of n.mask) ++ rest)

@@ -1,5 +1,5 @@
 -- The cells at the ends of a window.
-use Rattle.std.proofs.Common.{◌≡◌, ℕ, zero, suc, ◌-◌, ◌<◌, ◌==◌, true, false, ℤ, List, [], ◌∷◌, length, get_or, refl, arith}
+use Rattle.std.proofs.Common.{◌≡◌, ℕ, ◌-◌, ◌<◌, ◌==◌, true, false, ℤ, List, [], ◌∷◌, length, get_or, refl, arith}
 use Rattle.std.proofs.lemmas.Bool.Decides.{nat_tests}
 use Rattle.pl_spec.specs.Rounding.{MISSING}
 
@@ -16,9 +16,3 @@ last-within xs e = let some = within (length xs) e in omega arith
 pub none-there : (xs : List ℤ) (i : ℕ) → (length xs == 0) ≡ true → MISSING ≡ get_or xs i MISSING
 none-there [] i e = refl
 none-there (x ∷ xs) i e = absurd (let none : length (x ∷ xs) ≡ 0 = grind (arith, nat_tests) in omega arith)
-
--- where there is a cell, no default is read
-pub cell-there : (xs : List ℤ) (i : ℕ) (d e : ℤ) → i < length xs → get_or xs i d ≡ get_or xs i e
-cell-there [] i d e h = absurd (omega arith)
-cell-there (x ∷ xs) zero d e h = refl
-cell-there (x ∷ xs) (suc i) d e h = cell-there xs i d e (omega arith)

@@ -1,12 +1,13 @@
 -- The world of the days that were fed, and the whole world: they are the same in all that was known.
-use Rattle.std.proofs.Common.{◌≡◌, ◌≢◌, ℕ, zero, suc, ◌<◌, ◌≤◌, ◌⊎◌, ◌==◌, ◌&&◌, Bool, true, false, ℤ, pos, negsuc, ◌<ℤ◌, ◌≤ℤ◌, List, [], ◌∷◌, ◌++◌, length, map, filter, find, All, Option, option_map, unwrap_or, refl, sym, ◌∙◌, ap, arith, inl, inr, slice_get}
+use Rattle.std.proofs.Common.{◌≡◌, ◌≢◌, ℕ, zero, suc, ◌<◌, ◌≤◌, ◌⊎◌, ◌==◌, Bool, true, false, ℤ, pos, negsuc, ◌<ℤ◌, ◌≤ℤ◌, List, [], ◌∷◌, ◌++◌, length, map, filter, find, All, Option, option_map, unwrap_or, refl, sym, ◌∙◌, ap, arith, inl, inr, slice_get}
 use Rattle.std.specs.List.{range_with_len, list_any}
 use Rattle.std.specs.Option.{option_or}
-use Rattle.std.proofs.lemmas.Bool.{cases_lt, eq-eqb, eqb-true, ne_eqb}
+use Rattle.std.proofs.lemmas.Bool.{cases_lt, eq-eqb, eqb-true, ne_eqb, and_from, and_left, and_right}
 use Rattle.std.proofs.lemmas.Int.{ints}
 use Rattle.std.proofs.lemmas.List.Elements.{All-map}
 use Rattle.std.proofs.lemmas.List.Folds.{find-append}
 use Rattle.std.proofs.lemmas.Option.{slice_get-get_or}
+use Rattle.std.proofs.lemmas.Simd.{map-map}
 use Rattle.pl_spec.specs.declared.AssetRow.{AssetRow}
 use Rattle.pl_spec.specs.declared.BarRow.{BarRow}
 use Rattle.pl_spec.specs.declared.Column.{Column}
@@ -15,8 +16,9 @@ use Rattle.pl_spec.specs.Agree.{Agree, is_known}
 use Rattle.pl_spec.specs.Parts.{AreFor, ColumnAdjustment, adjustment_of, bar_of, sid_at}
 use Rattle.pl_spec.specs.Rounding.{MISSING}
 use Rattle.pl_spec.specs.World.{Event, bar_cell, cell_in, day_of, events_of, exists, lives_on}
+use Rattle.pl_spec.proofs.Lists.{filter-filter}
 use Rattle.pl_laws.proofs.AsOf.{slice_get-take}
-use Rattle.pl_laws.proofs.Law.{filter-filter, labels-of_days}
+use Rattle.pl_laws.proofs.Law.{labels-of_days}
 use Rattle.pl_bars.specs.Bars.{cell_at, cell_of, is_at}
 use Rattle.pl_bars.proofs.BarWorlds.{cells_raw}
 use Rattle.pl_adjust.specs.Columns.{events_at}
@@ -24,7 +26,7 @@ use Rattle.pl_world.specs.declared.world.World.{World}
 use Rattle.pl_world.specs.Worlds.{world_of}
 use Rattle.pl_rings.specs.Days.{adjustments_of, bar_row, bars_of, days_of, fed}
 use Rattle.pl_rings.proofs.Fed.{find-miss, or-none, parts_fit, sessions_below}
-use Rattle.pl_rings.proofs.Moves.{events_at-append, map-map}
+use Rattle.pl_rings.proofs.Moves.{events_at-append}
 use Rattle.pl_rings.proofs.PartsWorld.{events_by-at}
 use Rattle.pl_feed.specs.Days.{bar_at, col_due, day_at, events_due, fed_day, fed_days, fed_world, start_of_world}
 use Rattle.pl_feed.proofs.Lists.{find-range}
@@ -72,16 +74,6 @@ own-cell rows s col Low = refl
 own-cell rows s col Close = refl
 own-cell rows s col Volume = refl
 
-other-session : (b t : Bool) → t ≡ false → (b && t) ≡ false
-other-session true t e = e
-other-session false t e = refl
-
-other-column : (b t : Bool) → b ≡ false → (b && t) ≡ false
-other-column b t e = rw e refl
-
-both : (b t : Bool) → b ≡ true → t ≡ true → (b && t) ≡ true
-both b t e f = rw (e, f) refl
-
 -- a bar that stands after others, or before them
 cell-front : (old new : List BarRow) (col : ℕ) (c : Column) (s : ℕ) → All (λ b. is_at col s b ≡ false) new → cell_at (old ++ new) col c s ≡ cell_at old col c s
 unfolding cell_at
@@ -102,8 +94,8 @@ new-cell : (rows : List BarRow) (assets n col : ℕ) (c : Column) → col < asse
 unfolding cell_at
 new-cell rows assets n col c h =
     ap (λ (o : Option BarRow). unwrap_or (option_map (cell_of c) o) MISSING)
-    (ap (find (is_at col n)) (map-map (bar_at rows n) (bar_row n) (range_with_len 0 assets))
-    ∙ find-range (is_at col n) (λ i. bar_row n (bar_at rows n i)) col (both (col == col) (n == n) (eq-eqb col col refl) (eq-eqb n n refl)) (λ i e. other-column (i == col) (n == n) (ne_eqb i col e)) 0 assets (omega arith) (omega arith))
+    (ap (find (is_at col n)) (map-map (bar_row n) (bar_at rows n) (range_with_len 0 assets))
+    ∙ find-range (is_at col n) (λ i. bar_row n (bar_at rows n i)) col (and_from (col == col) (n == n) (eq-eqb col col refl) (eq-eqb n n refl)) (λ i e. and_left (i == col) (n == n) (ne_eqb i col e)) 0 assets (omega arith) (omega arith))
     ∙ own-cell rows n col c
 
 module _ (w : World) (sound : AreSound w) where
@@ -129,11 +121,11 @@ module _ (w : World) (sound : AreSound w) where
       ∙ elim (cases_lt s n) [
         | inl earlier ↦
             cell-front (bars_of (fed_days w (suc n))) (session_bars w.bars.now count n) col c s (All-map (λ b. is_at col s b ≡ false) (bar_row n) (map (bar_at w.bars.now n) (range_with_len 0 count))
-            (λ k d i. other-session _ _ (ne_eqb n s (λ e. omega (arith, e, earlier)))))
+            (λ k d i. and_right _ _ (ne_eqb n s (λ e. omega (arith, e, earlier)))))
             ∙ fed-cell (suc n) (omega arith) col h c s (omega arith)
         | inr not_earlier ↦ (let same : n ≡ s = omega (arith, not_earlier) in
             cell-back (bars_of (fed_days w (suc n))) (session_bars w.bars.now count n) col c s
-            (λ k d i. let below = sessions_below (start_of_world w) (fed_day w n) (fed_days w n) (are_fed w sound n (omega arith)) k d i in other-session _ _ (ne_eqb _ s (λ e. omega (arith, e, below, many w n, same))))
+            (λ k d i. let below = sessions_below (start_of_world w) (fed_day w n) (fed_days w n) (are_fed w sound n (omega arith)) k d i in and_right _ _ (ne_eqb _ s (λ e. omega (arith, e, below, many w n, same))))
             ∙ ap (λ (k : ℕ). cell_at (session_bars w.bars.now count n) col c k) (sym same)
             ∙ new-cell w.bars.now count n col c h
             ∙ ap (cell_at w.bars.now col c) same)

@@ -4,12 +4,14 @@ use Rattle.std.specs.List.{range_with_len}
 use Rattle.std.specs.Int.RustNames.{int_lt, int_le}
 use Rattle.std.proofs.lemmas.Int.{ints}
 use Rattle.std.proofs.lemmas.List.{take_more}
-use Rattle.std.proofs.lemmas.List.Elements.{All-cons, All-map, All-filter, filter_passes}
+use Rattle.std.proofs.lemmas.List.Elements.{All-cons, All-map, All-filter, filter_passes, All-nil}
 use Rattle.std.proofs.lemmas.List.Kept.{AllPairs-filter}
 use Rattle.pl_spec.specs.declared.Column.TheVariants.{OpenPrice, High, Low, Close, Volume}
 use Rattle.pl_spec.specs.Parts.{ColumnAdjustment}
 use Rattle.pl_spec.specs.Rounding.{IsCell}
 use Rattle.pl_spec.specs.World.{Event}
+use Rattle.pl_spec.proofs.Ranges.{range-rises}
+use Rattle.pl_spec.proofs.Lists.{no-pairs}
 use Rattle.pl_calendar.specs.Days.{AreDays}
 use Rattle.pl_lifetimes.specs.Assets.{AreAssets}
 use Rattle.pl_bars.specs.Bars.{AreBars, cell_at}
@@ -23,7 +25,7 @@ use Rattle.pl_rings.specs.declared.day.DayBar.{DayBar}
 use Rattle.pl_rings.specs.Days.{IsStart, IsLaterThan, AreFed, MayFollow, days_of, last_day}
 use Rattle.pl_feed.specs.Feeds.{day_before, is_due}
 use Rattle.pl_feed.specs.Days.{bar_at, bars_due, col_due, day_at, events_due, fed_day, fed_days, in_col, start_of_world}
-use Rattle.pl_feed.proofs.Lists.{none-all, none-pairs, range-within, range-rises, AllPairs-map, flat-all, flat-pairs}
+use Rattle.pl_feed.proofs.Lists.{range-within, AllPairs-map, flat-all, flat-pairs}
 
 -- what the parts of a world keep by themselves
 pub record AreSound (w : World) : Type 0 where
@@ -70,15 +72,15 @@ module _ (w : World) (sound : AreSound w) where
   later (suc s) h = sound.days.ascend s (suc s) (pos 0) (omega arith) h
 
   bars-ascend : (s : ℕ) → AllPairs (λ (b c : DayBar). b.col < c.col) (bars_due w.bars.now count s)
-  bars-ascend zero = none-pairs (λ (b c : DayBar). b.col < c.col)
+  bars-ascend zero = no-pairs (λ (b c : DayBar). b.col < c.col)
   bars-ascend (suc s) = AllPairs-map (λ (b c : DayBar). b.col < c.col) (bar_at w.bars.now s) (range_with_len 0 count) (range-rises 0 count)
 
   bars-in : (s : ℕ) → All (λ (b : DayBar). b.col < count) (bars_due w.bars.now count s)
-  bars-in zero = none-all (λ (b : DayBar). b.col < count)
+  bars-in zero = All-nil (λ (b : DayBar). b.col < count)
   bars-in (suc s) = All-map (λ (b : DayBar). b.col < count) (bar_at w.bars.now s) (range_with_len 0 count) (λ i d l. let r = range-within 0 count i d l in omega (arith, r))
 
   bar-cells : (s : ℕ) → All (λ (b : DayBar). All IsCell b.cells) (bars_due w.bars.now count s)
-  bar-cells zero = none-all (λ (b : DayBar). All IsCell b.cells)
+  bar-cells zero = All-nil (λ (b : DayBar). All IsCell b.cells)
   bar-cells (suc s) = All-map (λ (b : DayBar). All IsCell b.cells) (bar_at w.bars.now s) (range_with_len 0 count) (λ i d l. five (get_or (range_with_len 0 count) i d))
     where
       five : (col : ℕ) → All IsCell (bar_at w.bars.now s col).cells
@@ -92,7 +94,7 @@ module _ (w : World) (sound : AreSound w) where
           (All-cons IsCell b (c ∷ d ∷ e ∷ []) (cell_at-IsCell w.bars.now col High s sound.bars)
           (All-cons IsCell c (d ∷ e ∷ []) (cell_at-IsCell w.bars.now col Low s sound.bars)
           (All-cons IsCell d (e ∷ []) (cell_at-IsCell w.bars.now col Close s sound.bars)
-          (All-cons IsCell e [] (cell_at-IsCell w.bars.now col Volume s sound.bars) (none-all IsCell)))))
+          (All-cons IsCell e [] (cell_at-IsCell w.bars.now col Volume s sound.bars) (All-nil IsCell)))))
 
   abbrev own : ℕ → ℕ → List Event
   own s col = col_due own_days told s col

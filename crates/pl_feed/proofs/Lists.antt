@@ -1,19 +1,14 @@
 -- Lists over the numbers of a range.
-use Rattle.std.proofs.Common.{◌≡◌, ◌≢◌, ℕ, zero, suc, ◌+◌, ◌<◌, ◌≤◌, ◌==◌, Bool, true, false, cond, List, [], ◌∷◌, ◌++◌, length, map, filter, find, get_or, All, AllPairs, Some, refl, sym, ◌∙◌, ap, arith, inl, inr, length-append, sum_by}
+use Rattle.std.proofs.Common.{◌≡◌, ◌≢◌, ℕ, zero, suc, ◌+◌, ◌<◌, ◌≤◌, ◌==◌, Bool, true, false, cond, List, [], ◌∷◌, length, map, filter, find, get_or, All, AllPairs, Some, refl, sym, ◌∙◌, ap, arith, inl, inr, length-append, sum_by}
 use Rattle.std.specs.Prelude.{flat_map}
 use Rattle.std.specs.List.{range_with_len}
 use Rattle.std.proofs.lemmas.Bool.{cases_lt, eq-eqb, ne_eqb}
-use Rattle.std.proofs.lemmas.List.Elements.{All-append, All-map, filter-append}
+use Rattle.std.proofs.lemmas.List.Elements.{All-append, All-map, filter-append, All-nil}
 use Rattle.std.proofs.lemmas.List.FromFn.{length-range_with_len, get_or-range_with_len}
 use Rattle.std.proofs.lemmas.List.Kept.{AllPairs-cons}
 use Rattle.std.proofs.lemmas.List.Sums.{sum_by-cons}
+use Rattle.pl_spec.proofs.Lists.{no-pairs}
 use Rattle.pl_rings.proofs.Fed.{AllPairs-append}
-
-pub none-all : {X : Type 0} (P : X → Type 0) → All P []
-none-all P k d l = absurd (omega arith)
-
-pub none-pairs : {X : Type 0} (R : X → X → Type 0) → AllPairs R []
-none-pairs R i j d l m = absurd (omega arith)
 
 pub range-within : (a n : ℕ) → All (λ k. k < a + n) (range_with_len a n)
 range-within a n i d l =
@@ -21,15 +16,8 @@ range-within a n i d l =
     let at : get_or (range_with_len a n) i d ≡ a + i = get_or-range_with_len a n i d (omega (arith, long)) in
     omega (arith, at, long)
 
-pub range-rises : (a n : ℕ) → AllPairs (λ j k. j < k) (range_with_len a n)
-range-rises a n i j d l m =
-    let long : length (range_with_len a n) ≡ n = length-range_with_len a n in
-    let first : get_or (range_with_len a n) i d ≡ a + i = get_or-range_with_len a n i d (omega (arith, long)) in
-    let second : get_or (range_with_len a n) j d ≡ a + j = get_or-range_with_len a n j d (omega (arith, long)) in
-    omega (arith, first, second)
-
 pub AllPairs-map : {X Y : Type 0} (R : X → X → Type 0) (f : Y → X) (ys : List Y) → AllPairs (λ a b. R (f a) (f b)) ys → AllPairs R (map f ys)
-AllPairs-map R f [] up = none-pairs R
+AllPairs-map R f [] up = no-pairs R
 AllPairs-map R f (y ∷ ys) up =
     AllPairs-cons R (f y) (map f ys) (All-map (R (f y)) f ys (λ k d l. up 0 (suc k) d (omega arith) (omega arith)))
     (AllPairs-map R f ys (λ i j d l m. up (suc i) (suc j) d (omega arith) (omega arith)))
@@ -37,12 +25,12 @@ AllPairs-map R f (y ∷ ys) up =
 -- ---- what the numbers of a range give, one after the other
 
 pub flat-all : {X : Type 0} (P : X → Type 0) (f : ℕ → List X) (a n : ℕ) → ((k : ℕ) → a ≤ k → k < a + n → All P (f k)) → All P (flat_map f (range_with_len a n))
-flat-all P f a zero h = none-all P
+flat-all P f a zero h = All-nil P
 flat-all P f a (suc n) h = All-append P (f a) (flat_map f (range_with_len (a + 1) n)) (h a (omega arith) (omega arith)) (flat-all P f (a + 1) n (λ k l m. h k (omega arith) (omega arith)))
 
 pub flat-pairs : {X : Type 0} (R : X → X → Type 0) (f : ℕ → List X) (a n : ℕ) → ((k : ℕ) → AllPairs R (f k)) → ((j k : ℕ) → j < k → All (λ x. All (R x) (f k)) (f j))
     → AllPairs R (flat_map f (range_with_len a n))
-flat-pairs R f a zero own across = none-pairs R
+flat-pairs R f a zero own across = no-pairs R
 flat-pairs R f a (suc n) own across =
     AllPairs-append R (f a) (flat_map f (range_with_len (a + 1) n)) (own a) (flat-pairs R f (a + 1) n own across)
     (λ i d l. flat-all (R (get_or (f a) i d)) f (a + 1) n (λ k p q. across a k (omega arith) i d l))
@@ -63,10 +51,6 @@ sum-same f g a (suc n) h =
     let rest = sum-same f g (a + 1) n (λ k l m. h k (omega arith) (omega arith)) in
     omega (arith, sum_by-cons f a (range_with_len (a + 1) n), sum_by-cons g a (range_with_len (a + 1) n), here, rest)
 
-pub sum-map : {X : Type 0} (f : X → ℕ) (g : ℕ → X) (xs : List ℕ) → sum_by f (map g xs) ≡ sum_by (λ k. f (g k)) xs
-sum-map f g [] = refl
-sum-map f g (x ∷ xs) = omega (arith, sum_by-cons f (g x) (map g xs), sum_by-cons (λ k. f (g k)) x xs, sum-map f g xs)
-
 pub filter-mapped : {X Y : Type 0} (q : Y → Bool) (f : X → Y) (xs : List X) → length (filter q (map f xs)) ≡ length (filter (λ x. q (f x)) xs)
 filter-mapped q f [] = refl
 filter-mapped q f (x ∷ xs) = here (q (f x)) (filter-mapped q f xs)
@@ -76,32 +60,10 @@ filter-mapped q f (x ∷ xs) = here (q (f x)) (filter-mapped q f xs)
     here true ih = ap suc ih
     here false ih = ih
 
-pub filter-few : {X : Type 0} (p : X → Bool) (xs : List X) → length (filter p xs) ≤ length xs
-filter-few p [] = omega arith
-filter-few p (x ∷ xs) = here (p x) (filter-few p xs)
-  where
-    here : (b : Bool) → length (filter p xs) ≤ length xs → length (cond b (x ∷ filter p xs) (filter p xs)) ≤ suc (length xs)
-    here true rest = omega arith
-    here false rest = omega arith
-
 pub flat-filter : {X : Type 0} (p : X → Bool) (f : ℕ → List X) (ks : List ℕ) → length (filter p (flat_map f ks)) ≡ sum_by (λ k. length (filter p (f k))) ks
 flat-filter p f [] = refl
 flat-filter p f (k ∷ ks) =
     omega (arith, ap length (filter-append p (f k) (flat_map f ks)), length-append (filter p (f k)) (filter p (flat_map f ks)), sum_by-cons (λ k. length (filter p (f k))) k ks, flat-filter p f ks)
-
-pub flat-long : {X : Type 0} (f : ℕ → List X) (ks : List ℕ) → length (flat_map f ks) ≡ sum_by (λ k. length (f k)) ks
-flat-long f [] = refl
-flat-long f (k ∷ ks) = omega (arith, length-append (f k) (flat_map f ks), sum_by-cons (λ k. length (f k)) k ks, flat-long f ks)
-
-pub range-split : (a m n : ℕ) → range_with_len a (m + n) ≡ range_with_len a m ++ range_with_len (a + m) n
-range-split a zero n = grind arith
-range-split a (suc m) n =
-    let count : suc m + n ≡ suc (m + n) = omega arith in
-    let start : a + 1 + m ≡ a + suc m = omega arith in
-    rw (count, range-split (a + 1) m n, start) refl
-
-pub range-more : (n : ℕ) → range_with_len 0 (n + 1) ≡ range_with_len 0 n ++ n ∷ []
-range-more n = let e : 0 + n ≡ n = omega arith in range-split 0 n 1 ∙ ap (λ (k : ℕ). range_with_len 0 n ++ k ∷ []) e
 
 pub sum-le : (f g : ℕ → ℕ) (a n : ℕ) → ((k : ℕ) → f k ≤ g k) → sum_by f (range_with_len a n) ≤ sum_by g (range_with_len a n)
 sum-le f g a zero h = omega arith

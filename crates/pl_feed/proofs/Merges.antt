@@ -10,6 +10,7 @@ use Rattle.pl_spec.specs.Agree.{is_known}
 use Rattle.pl_spec.specs.Parts.{ColumnAdjustment}
 use Rattle.pl_spec.specs.Window.{is_between}
 use Rattle.pl_spec.specs.World.{Event}
+use Rattle.pl_spec.proofs.Signed.{int_le-false}
 use Rattle.pl_adjust.specs.Columns.{events_at}
 use Rattle.pl_rings.proofs.Moves.{events_at-append}
 use Rattle.pl_feed.specs.Days.{in_col}
@@ -24,9 +25,6 @@ early_later low high e p = let q : int_lt low e.day ≡ false = grind (arith, in
 
 late : (low high : ℤ) (e : Event) → int_le e.day low ≡ false → is_between low high e ≡ is_known high e
 late low high e p = let q : int_lt low e.day ≡ true = grind (arith, ints) in rw q refl
-
-not_le : (x y : ℤ) → int_le x y ≡ false → y <ℤ x
-not_le x y h = grind (arith, ints)
 
 none_known : (low : ℤ) (es : List Event) → All (λ e. low <ℤ e.day) es → filter (is_known low) es ≡ []
 none_known low [] h = refl
@@ -49,7 +47,7 @@ known-split low high h (e ∷ es) order =
         → filter (is_known high) (e ∷ es) ≡ filter (is_known low) (e ∷ es) ++ filter (is_between low high) (e ∷ es)
     here true p rest = rw (p, early_later low high e p, early_whole low high h e p) (ap (λ l. e ∷ l) rest)
     here false p rest =
-        let q : low <ℤ e.day = not_le e.day low p in
+        let q : low <ℤ e.day = int_le-false e.day low p in
         rw (p, late low high e p)
         (pushed_behind (is_known high e) e _ _ _ rest
         (none_known low es (λ k d l.

@@ -6,9 +6,11 @@ use Rattle.std.specs.Int.RustNames.{int_lt, int_le}
 use Rattle.std.proofs.lemmas.Grind.{flat_map-append}
 use Rattle.std.proofs.lemmas.List.{append-nil, append_assoc, length-map, map-append, take_more}
 use Rattle.std.proofs.lemmas.Option.{get_or_from_slice_get}
-use Rattle.pl_spec.specs.declared.BarRow.{BarRow}
+use Rattle.std.proofs.lemmas.List.Concat.{length-flat_map}
 use Rattle.pl_spec.specs.Parts.{ColumnAdjustment}
 use Rattle.pl_spec.specs.World.{Event}
+use Rattle.pl_spec.proofs.Ranges.{range-next}
+use Rattle.pl_spec.proofs.Lists.{filter-few}
 use Rattle.pl_adjust.specs.declared.adjust.Adjust.{Adjust}
 use Rattle.pl_adjust.specs.Columns.{events_at}
 use Rattle.pl_adjust.specs.Events.{event_of}
@@ -17,18 +19,8 @@ use Rattle.pl_adjust.proofs.Runs.{filter-run}
 use Rattle.pl_rings.specs.declared.day.DayEvent.{DayEvent}
 use Rattle.pl_rings.specs.Changes.{column_event}
 use Rattle.pl_feed.specs.Feeds.{day_before, is_due}
-use Rattle.pl_feed.specs.Days.{bar_at, bars_due, col_due, day_at, events_due, in_col}
-use Rattle.pl_feed.proofs.Lists.{counted-once, filter-few, flat-long, range-more, sum-le}
-
--- ---- bars
-
-pub bars-later : (rows : List BarRow) (n s : ℕ) → 0 < s → map (bar_at rows (s - 1)) (range_with_len 0 n) ≡ bars_due rows n s
-bars-later rows n zero h = absurd (omega arith)
-bars-later rows n (suc s) h = let e : suc s - 1 ≡ s = omega arith in ap (λ (k : ℕ). map (bar_at rows k) (range_with_len 0 n)) e
-
-pub bars-first : (rows : List BarRow) (n s : ℕ) → (0 < s → ⊥) → [] ≡ bars_due rows n s
-bars-first rows n zero h = refl
-bars-first rows n (suc s) h = absurd (h (omega arith))
+use Rattle.pl_feed.specs.Days.{col_due, day_at, events_due, in_col}
+use Rattle.pl_feed.proofs.Lists.{counted-once, sum-le}
 
 -- ---- which adjustments
 
@@ -55,10 +47,6 @@ due-between days es (suc s) low high h before at =
     let second : get_or days (suc s) (pos 0) ≡ high = get_or_from_slice_get days (suc s) high (pos 0) at in
     ap (λ (x : ℤ). filter (is_due (Some x) high) es) (sym first) ∙ ap (λ (x : ℤ). filter (is_due (Some (get_or days s (pos 0))) x) es) (sym second)
 
-pub due-first : (days : List ℤ) (es : List Event) (s : ℕ) (high : ℤ) → s ≡ 0 → slice_get days s ≡ Some high → filter (is_due None high) es ≡ filter (is_due (day_before days s) (day_at days s)) es
-due-first days es zero high h at = ap (λ (x : ℤ). filter (is_due None x) es) (sym (get_or_from_slice_get days 0 high (pos 0) at))
-due-first days es (suc s) high h at = absurd (omega (arith, h))
-
 -- ---- events
 
 pub event-more : (col : ℕ) (old now : List DayEvent) (adjusts : List Adjust) (i : ℕ) (d : Adjust) (x : DayEvent) → i < length adjusts → column_event x ≡ in_col col (event_of (get_or adjusts i d))
@@ -82,12 +70,12 @@ module _ (days : List ℤ) (told : List ColumnAdjustment) (s : ℕ) where
   pub due-more : (n : ℕ) → due_below (n + 1) ≡ due_below n ++ map (in_col n) (col_due days told s n)
   due-more n =
       let f : ℕ → List ColumnAdjustment = λ col. map (in_col col) (col_due days told s col) in
-      ap (flat_map f) (range-more n) ∙ flat_map-append f (range_with_len 0 n) (n ∷ []) ∙ ap (λ (l : List ColumnAdjustment). flat_map f (range_with_len 0 n) ++ l) (append-nil (f n))
+      ap (flat_map f) (range-next n) ∙ flat_map-append f (range_with_len 0 n) (n ∷ []) ∙ ap (λ (l : List ColumnAdjustment). flat_map f (range_with_len 0 n) ++ l) (append-nil (f n))
 
   pub due-few : (n : ℕ) → length (due_below n) ≤ length told
   due-few n =
       let f : ℕ → List ColumnAdjustment = λ col. map (in_col col) (col_due days told s col) in
-      let long = flat-long f (range_with_len 0 n) in
+      let long = length-flat_map f (range_with_len 0 n) in
       let few = sum-le (λ k. length (f k)) (λ k. length (filter (λ (x : ColumnAdjustment). x.col == k) told)) 0 n
       (λ k. omega (arith, length-map (col_due days told s k) (in_col k), filter-few (is_due (day_before days s) (day_at days s)) (events_at told k), length-map (filter (λ (x : ColumnAdjustment). x.col == k) told) (λ x. x.event))) in
       omega (arith, long, few, counted-once (λ (x : ColumnAdjustment). x.col) told 0 n)

@@ -17,6 +17,7 @@ use Rattle.pl_spec.specs.Term.{Graph, term_at}
 use Rattle.pl_spec.specs.Text.{row_line}
 use Rattle.pl_spec.specs.World as worlds
 use Rattle.pl_spec.specs.World.{IsWorld}
+use Rattle.pl_spec.proofs.Signed.{min-rises}
 use Rattle.pl_laws.proofs.AsOf.{slice_get-take}
 use Rattle.pl_laws.proofs.Calendars.{least_reach-same}
 use Rattle.pl_laws.proofs.Law.{agree-seen, values_agree}
@@ -39,9 +40,6 @@ use Rattle.pl_feed.proofs.Following.{AreSound, are_fed, days-are, many, start}
 use Rattle.pl_feed.proofs.Agrees.{agree}
 
 -- ---- reaches
-
-min-rises : (a b x y : ℤ) → a ≤ℤ b → x ≤ℤ y → int_min a x ≤ℤ int_min b y
-min-rises a b x y h l = grind (arith, ints)
 
 least-rises : (f g : ℕ → ℤ) → ((t : ℕ) → f t ≤ℤ g t) → (ts : List ℕ) (d e : ℤ) → d ≤ℤ e → least_of (map f ts) d ≤ℤ least_of (map g ts) e
 least-rises f g up [] d e h = h

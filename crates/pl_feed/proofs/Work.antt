@@ -1,17 +1,15 @@
 -- The steps of a session, and of all sessions up to one.
-use Rattle.std.proofs.Common.{◌≡◌, ℕ, suc, ◌+◌, ◌-◌, ◌*◌, ◌<◌, ◌≤◌, List, [], ◌∷◌, length, map, filter, min, get_or, Option, option_map, unwrap_or, refl, sym, ◌∙◌, ap, arith, sum_by, pos}
+use Rattle.std.proofs.Common.{◌≡◌, ℕ, suc, ◌+◌, ◌-◌, ◌*◌, ◌≤◌, List, [], ◌∷◌, length, map, filter, min, refl, sym, ◌∙◌, ap, arith, sum_by}
 use Rattle.std.specs.List.{range_with_len}
-use Rattle.std.proofs.lemmas.List.{get_or-map, length-map}
-use Rattle.std.proofs.lemmas.List.FromFn.{fill_by_all}
 use Rattle.std.proofs.lemmas.List.Sums.{sum_by-append, sum_by-cons, sum_by_push}
-use Rattle.std.proofs.lemmas.Option.{slice_get-get_or}
-use Rattle.pl_spec.specs.declared.AssetRow.{AssetRow}
 use Rattle.pl_spec.specs.declared.Column.{Column}
 use Rattle.pl_spec.specs.declared.Column.TheVariants.{OpenPrice, High, Low, Close, Volume}
 use Rattle.pl_spec.specs.Parts.{ColumnAdjustment, sid_at}
 use Rattle.pl_spec.specs.Table.{Pipeline}
 use Rattle.pl_spec.specs.World as worlds
 use Rattle.pl_spec.specs.World.{Event}
+use Rattle.pl_spec.proofs.Ranges.{range-next, range-split}
+use Rattle.pl_spec.proofs.Columns.{sids-all}
 use Rattle.pl_world.specs.declared.world.World.{World}
 use Rattle.pl_world.specs.Worlds.{world_of}
 use Rattle.pl_world.proofs.Made.{events_of-at}
@@ -22,18 +20,9 @@ use Rattle.pl_daily.specs.Capacities.{column_window}
 use Rattle.pl_daily.specs.Daily.{day_work}
 use Rattle.pl_feed.specs.Feeds.{daily_steps, day_before, due_events, is_due, ratios_due, session_work}
 use Rattle.pl_feed.specs.Days.{col_due, day_at, events_due, in_col}
-use Rattle.pl_feed.proofs.Lists.{filter-mapped, flat-filter, range-more, range-split, sum-map, sum-same}
+use Rattle.pl_feed.proofs.Lists.{filter-mapped, flat-filter, sum-same}
 use Rattle.pl_feed.proofs.Following.{AreSound}
-
--- the sids of all columns, in whose order the assets stand
-sids-all : (assets : List AssetRow) → map (λ a. a.sid) assets ≡ map (sid_at assets) (range_with_len 0 (length assets))
-sids-all assets = fill_by_all (sid_at assets) (map (λ a. a.sid) assets) (length assets) 0 (length-map assets (λ (a : AssetRow). a.sid)) (λ k h. at k h)
-  where
-    none : AssetRow
-    none = record { sid = 0; start = pos 0; end = pos 0 }
-
-    at : (k : ℕ) → k < length assets → get_or (map (λ (a : AssetRow). a.sid) assets) k 0 ≡ sid_at assets k
-    at k h = get_or-map (λ (a : AssetRow). a.sid) assets k none 0 h ∙ ap (λ (o : Option AssetRow). unwrap_or (option_map (λ a. a.sid) o) 0) (sym (slice_get-get_or assets k none h))
+use Rattle.pl_cross.proofs.Centers.{sum-map}
 
 sum-each : {X : Type 0} (f g : X → ℕ) → ((x : X) → f x ≡ g x) → (xs : List X) → sum_by f xs ≡ sum_by g xs
 sum-each f g h [] = refl
@@ -75,7 +64,7 @@ unfolding daily_steps
 steps-all w p to = let e : suc to ≡ to + 1 = omega arith in ap (steps_below w p) e
 
 pub steps-next : (w : worlds.World) (p : Pipeline) (s : ℕ) → steps_below w p (s + 1) ≡ steps_below w p s + session_work w p s
-steps-next w p s = ap (sum_by (session_work w p)) (range-more s) ∙ sum_by_push (session_work w p) (range_with_len 0 s) s
+steps-next w p s = ap (sum_by (session_work w p)) (range-next s) ∙ sum_by_push (session_work w p) (range_with_len 0 s) s
 
 pub steps-few : (w : worlds.World) (p : Pipeline) (s t : ℕ) → s ≤ t → steps_below w p s ≤ steps_below w p t
 steps-few w p s t h =

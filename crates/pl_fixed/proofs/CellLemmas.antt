@@ -9,7 +9,7 @@ unfolding quot
 quot-below a (pos n) h = absurd (omega (arith, ints))
 quot-below a (negsuc n) h = refl
 
-is_missing-not : (a : ℤ) → FitsSigned w64 a → (of_z w64 a ≡ 2 ^ 63 → ⊥) → is_missing a ≡ false
+pub is_missing-not : (a : ℤ) → FitsSigned w64 a → (of_z w64 a ≡ 2 ^ 63 → ⊥) → is_missing a ≡ false
 is_missing-not a f h = grind (arith, ints)
 
 -- neither is missing, as the code tests it

@@ -1,10 +1,10 @@
 -- The code's quotient is the nearest number, and what follows of its size.
-use Rattle.std.proofs.Common.{◌≡◌, ℕ, zero, suc, ◌+◌, ◌-◌, ◌*◌, ◌/◌, ◌%◌, ◌<◌, ◌≤◌, ℤ, pos, negsuc, neg_ℤ, ◌+ℤ◌, ◌-ℤ◌, ◌<ℤ◌, ◌≤ℤ◌, unsigned_abs, arith, refl, ap, sym, ◌∙◌, FitsSigned}
+use Rattle.std.proofs.Common.{◌≡◌, ℕ, zero, suc, ◌+◌, ◌-◌, ◌*◌, ◌/◌, ◌%◌, ◌<◌, ◌≤◌, ℤ, pos, negsuc, neg_ℤ, ◌+ℤ◌, ◌-ℤ◌, ◌<ℤ◌, ◌≤ℤ◌, unsigned_abs, arith, refl, ap, sym, ◌∙◌, FitsSigned, div-lt_iff_lt-mul}
 use Rattle.std.specs.Int.{Width}
 use Rattle.std.specs.Int.RustNames.{int_div, int_rem}
 use Rattle.std.proofs.lemmas.Nat.{div-add-mod', div-mul-add, mod_below, mul-le}
 use Rattle.std.proofs.lemmas.Int.{ints}
-use Rattle.pl_spec.specs.Rounding.{div_round}
+use Rattle.pl_spec.specs.Rounding.{LIMIT, div_round}
 
 -- ---- from the quotient that is rounded toward 0, by its rest
 
@@ -65,6 +65,14 @@ unfolding div_round
 unsigned_abs-div_round (pos a) b = refl
 unsigned_abs-div_round (negsuc a) b = abs_neg _
 
+-- the rounded mean of so many cells is no farther from 0 than they are
+pub div_round-few : (t : ℤ) (n : ℕ) → 0 < n → unsigned_abs t ≤ n * LIMIT → unsigned_abs (div_round t n) ≤ LIMIT
+div_round-few t n some few =
+    let size : unsigned_abs (div_round t n) ≡ (2 * unsigned_abs t + n) / (2 * n) = unsigned_abs-div_round t n in
+    let bound : 2 * unsigned_abs t + n < suc LIMIT * (2 * n) = omega arith in
+    let less : (2 * unsigned_abs t + n) / (2 * n) < suc LIMIT = (div-lt_iff_lt-mul {k = 2 * n} {x = 2 * unsigned_abs t + n} {y = suc LIMIT} (omega arith)).1 bound in
+    omega arith
+
 by_factor : (q n b : ℕ) → 0 < b → 2 * (q * b) ≤ 2 * n + b → q ≤ n
 by_factor zero n b p h = omega arith
 by_factor (suc zero) n b p h = omega arith
@@ -94,7 +102,7 @@ div_small n b h = let e : 0 * b + n ≡ n = omega arith in rw e at (div-mul-add 
 multiple : (m b : ℕ) → 0 < b → (2 * (m * b) + b) / (2 * b) ≡ m
 multiple m b p = let e : 2 * (m * b) + b ≡ m * (2 * b) + b = omega arith in rw e (div-mul-add m (2 * b) b (omega arith))
 
-div_round-neg : (n b : ℕ) → 0 < b → div_round (neg_ℤ (pos n)) b ≡ neg_ℤ (pos ((2 * n + b) / (2 * b)))
+pub div_round-neg : (n b : ℕ) → 0 < b → div_round (neg_ℤ (pos n)) b ≡ neg_ℤ (pos ((2 * n + b) / (2 * b)))
 unfolding div_round
 div_round-neg zero b p = let none = div_small (2 * 0 + b) (2 * b) (omega arith) in rw none
 div_round-neg (suc n) b p = refl

@@ -1,28 +1,19 @@
 -- A cell times a ratio, by its size and its sign.
-use Rattle.std.proofs.Common.{◌≡◌, ℕ, zero, suc, ◌+◌, ◌*◌, ◌/◌, ◌<◌, ◌≤◌, false, ℤ, pos, negsuc, neg_ℤ, ◌*ℤ◌, unsigned_abs, refl, ap, ◌∙◌, sym, arith}
-use Rattle.std.proofs.lemmas.Nat.{div-mul-add}
+use Rattle.std.proofs.Common.{◌≡◌, ℕ, zero, suc, ◌+◌, ◌*◌, ◌/◌, ◌<◌, ◌≤◌, false, ℤ, pos, negsuc, ◌*ℤ◌, unsigned_abs, refl, ap, ◌∙◌, sym, arith}
 use Rattle.std.proofs.Math.IntN.{pos-*ℤ-pos, negsuc-*ℤ-pos}
 use Rattle.pl_spec.specs.Rounding.{Fraction, LIMIT, div_round, is_missing, scaled, to_cell}
 use Rattle.pl_spec.proofs.Means.{to_cell-within}
 use Rattle.pl_fixed.specs.Ratios.{signed}
+use Rattle.pl_fixed.proofs.RoundingLemmas.{div_round-neg}
 
 -- the size of a product, over the double of what divides it
 abbrev pub rounded_size : ℕ → ℕ → ℕ → ℕ
 rounded_size size num den = (2 * (size * num) + den) / (2 * den)
 
-none_rounded : (den : ℕ) → 0 < den → (2 * 0 + den) / (2 * den) ≡ 0
-none_rounded den p = let e : 0 * (2 * den) + (2 * 0 + den) ≡ 2 * 0 + den = omega arith in
-    let z = div-mul-add 0 (2 * den) (2 * 0 + den) (omega arith) in rw e at z
-
-below : (n den : ℕ) → 0 < den → div_round (neg_ℤ (pos n)) den ≡ neg_ℤ (pos ((2 * n + den) / (2 * den)))
-unfolding div_round
-below zero den p = let none = none_rounded den p in rw none
-below (suc n) den p = refl
-
 by_sign : (x : ℤ) (num den : ℕ) → 0 < den → div_round (x *ℤ pos num) den ≡ signed x (rounded_size (unsigned_abs x) num den)
 unfolding div_round
 by_sign (pos n) num den p = ap (λ x. div_round x den) (pos-*ℤ-pos n num)
-by_sign (negsuc n) num den p = ap (λ x. div_round x den) (negsuc-*ℤ-pos n num) ∙ below (suc n * num) den p
+by_sign (negsuc n) num den p = ap (λ x. div_round x den) (negsuc-*ℤ-pos n num) ∙ div_round-neg (suc n * num) den p
 
 signed_size : (x : ℤ) (n : ℕ) → unsigned_abs (signed x n) ≡ n
 signed_size (pos m) n = refl

@@ -8,11 +8,9 @@ use Rattle.std.proofs.lemmas.List.FromFn.{length-map-range_with_len, get_or-map-
 use Rattle.std.proofs.lemmas.List.Folds.{list_any_at}
 use Rattle.std.proofs.lemmas.List.Sums.{position_or_len_is}
 use Rattle.pl_spec.specs.declared.AssetRow.{AssetRow}
+use Rattle.pl_spec.proofs.Columns.{no_asset}
 use Rattle.pl_lifetimes.specs.Assets.{AreAssets, sid_of}
 use Rattle.pl_generate.specs.StatedWorld.{asset, stated_assets, stated_days}
-
-none : AssetRow
-none = record { sid = 0; start = pos 0; end = pos 0 }
 
 asset-at : (i : ℕ) (d : AssetRow) → i < 400 → get_or stated_assets i d ≡ asset i
 unfolding stated_assets
@@ -32,9 +30,9 @@ are_assets =
 
 pub col_of-sid : (i : ℕ) → i < 400 → position_or_len (λ a. sid_of a == i + 1) stated_assets ≡ i
 col_of-sid i h =
-    position_or_len_is (λ (a : AssetRow). sid_of a == i + 1) stated_assets i none (omega (arith, length-assets))
-    (λ k l. (let few : k < 400 = omega arith in rw (asset-at k none few) (grind (arith, nat_tests))))
-    (λ l. rw (asset-at i none h) (grind (arith, nat_tests)))
+    position_or_len_is (λ (a : AssetRow). sid_of a == i + 1) stated_assets i no_asset (omega (arith, length-assets))
+    (λ k l. (let few : k < 400 = omega arith in rw (asset-at k no_asset few) (grind (arith, nat_tests))))
+    (λ l. rw (asset-at i no_asset h) (grind (arith, nat_tests)))
 
 pub assets-all : map asset (range_with_len 0 400) ≡ stated_assets
 unfolding stated_assets
@@ -50,5 +48,5 @@ asset-from i days end first last same at a b =
 
 pub has-sid : (i : ℕ) → i < 400 → list_any (λ a. sid_of a == i + 1) stated_assets ≡ true
 has-sid i h =
-    list_any_at (λ (a : AssetRow). sid_of a == i + 1) stated_assets i none (omega (arith, length-assets))
-    (rw (asset-at i none h) (grind (arith, nat_tests)))
+    list_any_at (λ (a : AssetRow). sid_of a == i + 1) stated_assets i no_asset (omega (arith, length-assets))
+    (rw (asset-at i no_asset h) (grind (arith, nat_tests)))

@@ -7,9 +7,10 @@ use Rattle.std.proofs.lemmas.Int.{ints}
 use Rattle.std.proofs.lemmas.List.Elements.{All-map, All-filter, filter-append}
 use Rattle.std.proofs.lemmas.List.Kept.{AllPairs-filter}
 use Rattle.pl_spec.specs.Dates.{IsDay}
+use Rattle.pl_spec.proofs.Ranges.{range-more, range-rises}
 use Rattle.pl_calendar.specs.Days.{AreDays}
 use Rattle.pl_generate.specs.StatedWorld.{stated_days, is_weekday}
-use Rattle.pl_generate.proofs.Grids.{range-more, rising, within}
+use Rattle.pl_generate.proofs.Grids.{within}
 
 abbrev weekdays : List ℕ
 weekdays = filter is_weekday (range_with_len 18262 840)
@@ -39,7 +40,7 @@ are_days =
     rw (← are_weekdays) record {
       some = omega (arith, length-map weekdays pos, weekdays-count);
       dates = All-map IsDay pos weekdays (All-filter is_weekday (λ k. IsDay (pos k)) (range_with_len 18262 840) (within (λ k. IsDay (pos k)) 18262 840 is_date));
-      ascend = ascending weekdays (AllPairs-filter (λ x y. x < y) is_weekday (range_with_len 18262 840) (rising 18262 840));
+      ascend = ascending weekdays (AllPairs-filter (λ x y. x < y) is_weekday (range_with_len 18262 840) (range-rises 18262 840));
       few = omega (arith, length-map weekdays pos, weekdays-count);
     }
 

@@ -1,19 +1,11 @@
 -- Lists of one length, one after the other, and numbers in order.
 use Rattle.std.proofs.Common.{◌≡◌, ℕ, zero, suc, ◌+◌, ◌*◌, ◌<◌, ◌≤◌, List, [], ◌∷◌, ◌++◌, length, get_or, map, refl, ap, ◌∙◌, arith, length-append}
 use Rattle.std.specs.Prelude.{flat_map}
-use Rattle.std.specs.List.{range_with_len, All, AllPairs}
+use Rattle.std.specs.List.{range_with_len, All}
 use Rattle.std.proofs.lemmas.List.{append-nil, get_or_append_left, get_or-append-add}
 use Rattle.std.proofs.lemmas.List.Concat.{flat_map-append}
 use Rattle.std.proofs.lemmas.List.FromFn.{length-range_with_len, get_or-range_with_len, map-range_with_len_more}
-
-range-snoc : (a n : ℕ) → range_with_len a (suc n) ≡ range_with_len a n ++ (a + n) ∷ []
-range-snoc a zero = let e : a ≡ a + 0 = omega arith in ap (λ (k : ℕ). k ∷ []) e
-range-snoc a (suc n) =
-    let e : a + 1 + n ≡ a + suc n = omega arith in
-    ap (λ (ks : List ℕ). a ∷ ks) (range-snoc (a + 1) n ∙ ap (λ (k : ℕ). range_with_len (a + 1) n ++ k ∷ []) e)
-
-pub range-more : (a n : ℕ) → range_with_len a (n + 1) ≡ range_with_len a n ++ (a + n) ∷ []
-range-more a n = let e : n + 1 ≡ suc n = omega arith in ap (range_with_len a) e ∙ range-snoc a n
+use Rattle.pl_spec.proofs.Ranges.{range-more}
 
 pub map-more : {X : Type 0} (f : ℕ → X) (n : ℕ) → map f (range_with_len 0 (n + 1)) ≡ map f (range_with_len 0 n) ++ f n ∷ []
 map-more f n = map-range_with_len_more f 0 n n (omega arith)
@@ -47,11 +39,6 @@ get_or-grid f m e a (suc n) (suc k) j i d h l at =
     ∙ get_or-append-add (f a) (flat_map f (range_with_len (a + 1) n)) (k * m + j) d
     ∙ get_or-grid f m e (a + 1) n k j (k * m + j) d (omega arith) l refl
     ∙ ap (λ (p : ℕ). get_or (f p) j d) next
-
-pub rising : (a n : ℕ) → AllPairs (λ x y. x < y) (range_with_len a n)
-rising a n i j d h l =
-    let few : j < n = omega (arith, length-range_with_len a n) in
-    omega (arith, get_or-range_with_len a n i d (omega arith), get_or-range_with_len a n j d few)
 
 pub within : (P : ℕ → Type 0) (a n : ℕ) → ((k : ℕ) → a ≤ k → k < a + n → P k) → All P (range_with_len a n)
 within P a n all i d l =

@@ -1,13 +1,13 @@
 -- What the grammar derives, the machine reads.
 use Rattle.std.proofs.Common.{◌≡◌, ℕ, suc, ◌+◌, ◌≤◌, Bool, true, false, leb, List, [], ◌∷◌, ◌++◌, Option, Some, None, Result, Ok, refl, sym, ap, ◌∙◌, arith, append_assoc}
-use Rattle.std.proofs.lemmas.Bool.{le-leb}
+use Rattle.std.proofs.lemmas.Bool.{le-leb, cond-true}
 use Rattle.pl_grammar.specs.declared.Place.{Place}
 use Rattle.pl_grammar.specs.declared.BinarySign.{BinarySign}
 use Rattle.pl_grammar.specs.declared.PrefixSign.TheVariants.{Minus, Not}
 use Rattle.pl_grammar.specs.Tree.{Name, Number, Text, Operator, Dot, Open, Close, Comma, Assign, Lexeme, mark, Tree, number, text, name, call, member, method, Args, no_args, arg, sign_token, prefix_level, level, left_level}
 use Rattle.pl_grammar.specs.Grammar.{Derives, a_number, a_text, a_name, a_call, a_group, a_prefix, a_binary, a_member, a_method, ArgsDerive, none, some, OneArg, bare, named, MoreArgs, end, more}
 use Rattle.pl_grammar.specs.Machine.{Frame, Prefixed, Behind, Group, Call, Mode, Wanted, ArgWanted, Named, ArgNamed, Membered, Given, Dotted, State, Closed, Stop, Arg, Callee, function, method_of, operand, is_wanted, args_of, applied, asked, depth, close, closed, at, move, run, behind, operator_move, dot_move, close_move, comma_move, shut, next_arg}
-use Rattle.pl_grammar.proofs.Levels.{levels, prefix_most, stays, stays_at_dot, run_on, run_step, allowed_some, cond_true}
+use Rattle.pl_grammar.proofs.Levels.{levels, prefix_most, stays, stays_at_dot, run_on, run_step, allowed_some}
 
 -- an operand may begin here: anywhere, or at the beginning of an argument
 abbrev pub start : Bool → Mode
@@ -48,10 +48,10 @@ wanted_open true q fs = refl
 wanted_open false q fs = refl
 
 wanted_sign : (w : Bool) (p : Place) (s : _) (fs : List Frame) → asked fs ≤ prefix_level s → move (mark p (sign_token s)) (start w) fs ≡ Some (at Wanted (Prefixed p s ∷ fs))
-wanted_sign true p Minus fs h = cond_true (leb (asked fs) 7) _ _ (le-leb (asked fs) 7 h)
-wanted_sign false p Minus fs h = cond_true (leb (asked fs) 7) _ _ (le-leb (asked fs) 7 h)
-wanted_sign true p Not fs h = cond_true (leb (asked fs) 3) _ _ (le-leb (asked fs) 3 h)
-wanted_sign false p Not fs h = cond_true (leb (asked fs) 3) _ _ (le-leb (asked fs) 3 h)
+wanted_sign true p Minus fs h = cond-true (leb (asked fs) 7) _ _ (le-leb (asked fs) 7 h)
+wanted_sign false p Minus fs h = cond-true (leb (asked fs) 7) _ _ (le-leb (asked fs) 7 h)
+wanted_sign true p Not fs h = cond-true (leb (asked fs) 3) _ _ (le-leb (asked fs) 3 h)
+wanted_sign false p Not fs h = cond-true (leb (asked fs) 3) _ _ (le-leb (asked fs) 3 h)
 
 abbrev name_mode : Bool → Place → List ℕ → Mode
 name_mode true p n = Named p n
@@ -74,7 +74,7 @@ behind_operand : (p : Place) (o : BinarySign) (mode : Mode) (frames : List Frame
 behind_operand p o mode frames tree h e fs given same fits high =
     ap (λ x. operator_move p o x (is_wanted mode) frames) given
     ∙ (ap (behind p o) (same ∙ stays o h e fs fits)
-    ∙ cond_true (leb (left_level o) h) _ _ (le-leb (left_level o) h high))
+    ∙ cond-true (leb (left_level o) h) _ _ (le-leb (left_level o) h high))
 
 pub shut_operand : (q : Place) (mode : Mode) (frames : List Frame) (tree : Tree) (c : Closed) → operand mode ≡ Some tree → closed 0 tree frames ≡ c → move (mark q Close) mode frames ≡ shut c.tree c.frames
 shut_operand q mode frames tree c given same = ap (λ x. close_move x mode frames) given ∙ ap (λ (x : Closed). shut x.tree x.frames) same
@@ -155,7 +155,7 @@ mutual
         goes = run_step most (mark q (sign_token s)) ts _ (at Wanted (Prefixed q s ∷ fs)) _ (allowed_some most _ _ (wanted_sign w q s fs (omega arith)) (omega arith)) r.goes;
         given = r.given;
         high = p;
-        same = λ m h. r.same m (omega arith) ∙ cond_true (leb m (prefix_level s)) _ _ (le-leb m (prefix_level s) (omega arith));
+        same = λ m h. r.same m (omega arith) ∙ cond-true (leb m (prefix_level s)) _ _ (le-leb m (prefix_level s) (omega arith));
       }
   reads {l = l} (a_binary {d = d} {p = q} {xs = xs} {ys = ys} {a = a} {b = b} o p left right) most w fs fits low room =
       let lv = levels o in
@@ -176,7 +176,7 @@ mutual
             rb.goes);
         given = rb.given;
         high = p;
-        same = λ m h. rb.same m (omega arith) ∙ cond_true (leb m (level o)) _ _ (le-leb m (level o) (omega arith));
+        same = λ m h. rb.same m (omega arith) ∙ cond-true (leb m (level o)) _ _ (le-leb m (level o) (omega arith));
       }
   reads {l = l} (a_member {p = p} q {n = n} {ts = ts} {e = e} h object) most w fs fits low room =
       let r = object_of most _ ts e fs (reads object most w fs (omega arith) (omega arith) room) in

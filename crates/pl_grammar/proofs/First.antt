@@ -1,24 +1,16 @@
 -- The verdict is the script that the tokens spell, or their first fault.
-use Rattle.std.proofs.Common.{◌≡◌, ℕ, ◌≤◌, ◌<◌, Bool, true, false, cond, leb, List, [], ◌∷◌, ◌++◌, Option, Some, None, Result, Ok, Err, refl, sym, ap, subst, ◌∙◌, arith, append_assoc, append-nil}
-use Rattle.std.proofs.lemmas.Bool.{le-leb, leb-true}
-use Rattle.std.proofs.lemmas.Bool.Decides.{nat_tests}
+use Rattle.std.proofs.Common.{◌≡◌, ℕ, ◌≤◌, ◌<◌, Bool, true, false, cond, leb, List, [], ◌∷◌, ◌++◌, Option, Some, None, Result, Ok, Err, refl, sym, ap, subst, ◌∙◌, arith, append_assoc, append-nil, leb-false}
+use Rattle.std.proofs.lemmas.Bool.{le-leb, leb-true, cond-false, cond-true, lt-leb}
 use Rattle.pl_grammar.specs.declared.Place.{Place}
 use Rattle.pl_grammar.specs.Tree.{Lexeme, mark, Semicolon}
 use Rattle.pl_grammar.specs.Machine.{Stop, Stuck, Deep}
 use Rattle.pl_grammar.specs.Script.{Statement, Script, Viable, Stage, Opening, Between, script_move, stage_depth, stage_allowed, script_step, script_then, script_run, script_finish}
 use Rattle.pl_grammar.specs.Faults.{Tail, AtEnd, AtBad, Kind, NumberTooLarge, LongStatement, place_of, most_depth, most_tokens, too_large, counted, since, IsShort, IsFine, Never, IsFault, is_long, is_large, is_unexpected, is_deep, IsFirst, at_bad, at_end, at_token, Spelled, Verdict, Good, Fault, finish_verdict, end_verdict, step_verdict, verdict}
-use Rattle.pl_grammar.proofs.Levels.{cond_true, cond_false, lt-leb-false}
-use Rattle.pl_grammar.proofs.ScriptRead.{script_on, script_viable, viable_script, bound_stage, same_stage, no_stage, script_reads, script_derives}
+use Rattle.pl_grammar.proofs.ScriptRead.{script_on, script_viable, viable_script, bound_stage, same_stage, no_stage, script_reads, script_derives, unstaged}
 use Rattle.pl_grammar.proofs.Judged.{stuck_never, deep_viable, unfinished}
 
-abbrev stop_result : Stop → Result Stage Stop
-stop_result e = Err e
-
-same_stop : {a b : Stop} → stop_result a ≡ stop_result b → a ≡ b
+same_stop : {a b : Stop} → unstaged a ≡ unstaged b → a ≡ b
 same_stop h = cc
-
-over : (a b : ℕ) → leb a b ≡ false → b < a
-over a b h = grind (arith, nat_tests)
 
 -- the counts never pass the limit
 since_most : (n : ℕ) (ts : List Lexeme) → n ≤ most_tokens → IsShort n ts → since n ts ≤ most_tokens
@@ -61,7 +53,7 @@ refused front t s e h k = of_move (script_move t s) refl k
   where
     by_test : (x : Stage) → script_move t s ≡ Some x → (b : Bool) → leb (stage_depth x) most_depth ≡ b → cond b (Ok x) (Err Deep) ≡ Err e → Refused front t e
     by_test x m true q k = absurd (no_stage (sym k))
-    by_test x m false q k = subst (λ z. Refused front t z) (same_stop k) (deep_viable most_depth front t s x h m (over (stage_depth x) most_depth q))
+    by_test x m false q k = subst (λ z. Refused front t z) (same_stop k) (deep_viable most_depth front t s x h m (leb-false (stage_depth x) most_depth q))
 
     of_move : (o : Option Stage) → script_move t s ≡ o → stage_allowed most_depth o ≡ Err e → Refused front t e
     of_move (Some x) m k = by_test x m (leb (stage_depth x) most_depth) refl k
@@ -104,7 +96,7 @@ right (t ∷ ts) tail front s h k =
 
     by_length : (b : Bool) → leb most_tokens (since 0 front) ≡ b → (since 0 front < most_tokens → Right (cond (too_large t) (Fault NumberTooLarge (place_of t)) (step_verdict (place_of t) (script_step most_depth t s) (λ s. verdict (counted (since 0 front) t) s ts tail))) (front ++ (t ∷ ts)) tail) → Right (cond b (Fault LongStatement (place_of t)) (cond (too_large t) (Fault NumberTooLarge (place_of t)) (step_verdict (place_of t) (script_step most_depth t s) (λ s. verdict (counted (since 0 front) t) s ts tail)))) (front ++ (t ∷ ts)) tail
     by_length true e f = at_token front t ts (fine front s h k) (is_long (omega (arith, since_most 0 front (omega arith) k, leb-true most_tokens (since 0 front) e)))
-    by_length false e f = f (over most_tokens (since 0 front) e)
+    by_length false e f = f (leb-false most_tokens (since 0 front) e)
 
 -- what is spelled, and what is the first fault, is the verdict
 
@@ -114,8 +106,8 @@ unfolding script_run IsShort since verdict
 goes_over [] rest tail n a s h k = ap (λ z. verdict n z rest tail) (same_stage h)
 goes_over (t ∷ front) rest tail n a s h k =
     let b = bound_stage (script_run most_depth front) (script_step most_depth t a) s h in
-    cond_false (leb most_tokens n) _ _ (lt-leb-false most_tokens n k.0)
-    ∙ (cond_false (too_large t) _ _ k.1
+    cond-false (leb most_tokens n) _ _ (lt-leb most_tokens n k.0)
+    ∙ (cond-false (too_large t) _ _ k.1
     ∙ (ap (λ r. step_verdict (place_of t) r (λ s. verdict (counted n t) s (front ++ rest) tail)) b.1
     ∙ goes_over front rest tail (counted n t) b.0 s b.2 k.2))
 
@@ -151,13 +143,13 @@ deep_there front t s h d v none = of_step (script_step most_depth t s) refl
 
 at_fault : (front : List Lexeme) (t : Lexeme) (rest : List Lexeme) (tail : Tail) (k : Kind) (s : Stage) → script_run most_depth front Opening ≡ Ok s → IsFault front t k → verdict (since 0 front) s (t ∷ rest) tail ≡ Fault k (place_of t)
 unfolding verdict
-at_fault front t rest tail _ s h (is_long e) = cond_true (leb most_tokens (since 0 front)) _ _ (le-leb most_tokens (since 0 front) (omega (arith, e)))
-at_fault front t rest tail _ s h (is_large lt e) = cond_false (leb most_tokens (since 0 front)) _ _ (lt-leb-false most_tokens (since 0 front) lt) ∙ cond_true (too_large t) _ _ e
+at_fault front t rest tail _ s h (is_long e) = cond-true (leb most_tokens (since 0 front)) _ _ (le-leb most_tokens (since 0 front) (omega (arith, e)))
+at_fault front t rest tail _ s h (is_large lt e) = cond-false (leb most_tokens (since 0 front)) _ _ (lt-leb most_tokens (since 0 front) lt) ∙ cond-true (too_large t) _ _ e
 at_fault front t rest tail _ s h (is_unexpected lt e never) =
-    cond_false (leb most_tokens (since 0 front)) _ _ (lt-leb-false most_tokens (since 0 front) lt) ∙ (cond_false (too_large t) _ _ e
+    cond-false (leb most_tokens (since 0 front)) _ _ (lt-leb most_tokens (since 0 front) lt) ∙ (cond-false (too_large t) _ _ e
     ∙ ap (λ r. step_verdict (place_of t) r (λ s. verdict (counted (since 0 front) t) s rest tail)) (stuck_there front t s h never))
 at_fault front t rest tail _ s h (is_deep lt e d v none) =
-    cond_false (leb most_tokens (since 0 front)) _ _ (lt-leb-false most_tokens (since 0 front) lt) ∙ (cond_false (too_large t) _ _ e
+    cond-false (leb most_tokens (since 0 front)) _ _ (lt-leb most_tokens (since 0 front) lt) ∙ (cond-false (too_large t) _ _ e
     ∙ ap (λ r. step_verdict (place_of t) r (λ s. verdict (counted (since 0 front) t) s rest tail)) (deep_there front t s h d v none))
 
 pub first_only : {ts : List Lexeme} {tail : Tail} {k : Kind} {p : Place} → IsFirst ts tail k p → verdict 0 Opening ts tail ≡ Fault k p

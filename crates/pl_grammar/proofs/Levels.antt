@@ -1,7 +1,6 @@
 -- What holds of the levels, by cases on the signs; runs of the machine, joined.
-use Rattle.std.proofs.Common.{◌≡◌, ℕ, suc, ◌≤◌, ◌<◌, Bool, true, false, cond, leb, List, [], ◌∷◌, ◌++◌, Option, Some, Result, Ok, Err, refl, ap, ◌∙◌, arith}
-use Rattle.std.proofs.lemmas.Bool.{le-leb}
-use Rattle.std.proofs.lemmas.Bool.Decides.{nat_tests}
+use Rattle.std.proofs.Common.{◌≡◌, ℕ, suc, ◌≤◌, ◌<◌, leb, List, [], ◌∷◌, ◌++◌, Option, Some, Result, Ok, Err, refl, ap, ◌∙◌, arith}
+use Rattle.std.proofs.lemmas.Bool.{le-leb, cond-false, cond-true, lt-leb}
 use Rattle.pl_grammar.specs.declared.PrefixSign.{PrefixSign}
 use Rattle.pl_grammar.specs.declared.BinarySign.{BinarySign}
 use Rattle.pl_grammar.specs.declared.PrefixSign.TheVariants.{Minus, Not}
@@ -54,28 +53,19 @@ pub prefix_most : (s : PrefixSign) → prefix_level s ≤ 7
 prefix_most Minus = omega arith
 prefix_most Not = omega arith
 
-pub lt-leb-false : (a b : ℕ) → b < a → leb a b ≡ false
-lt-leb-false a b h = grind (arith, nat_tests)
-
-pub cond_true {ℓ} : {A : Type ℓ} (b : Bool) (x y : A) → b ≡ true → cond b x y ≡ x
-cond_true b x y h = rw h refl
-
-pub cond_false {ℓ} : {A : Type ℓ} (b : Bool) (x y : A) → b ≡ false → cond b x y ≡ y
-cond_false b x y h = rw h refl
-
 -- an operator of a level that its place allows ends nothing of its surroundings
 pub stays : (o : BinarySign) (h : ℕ) (e : Tree) (fs : List Frame) → asked fs ≤ level o → close (level o) h e fs ≡ record { height = h; tree = e; frames = fs }
 stays o h e [] p = refl
-stays o h e (Prefixed q s ∷ fs) p = cond_false (leb (level o) (prefix_level s)) _ _ (lt-leb-false (level o) (prefix_level s) (apart s o p))
-stays o h e (Behind r q a ∷ fs) p = cond_false (leb (level o) (level q)) _ _ (lt-leb-false (level o) (level q) (omega (arith, (levels q).right)))
+stays o h e (Prefixed q s ∷ fs) p = cond-false (leb (level o) (prefix_level s)) _ _ (lt-leb (level o) (prefix_level s) (apart s o p))
+stays o h e (Behind r q a ∷ fs) p = cond-false (leb (level o) (level q)) _ _ (lt-leb (level o) (level q) (omega (arith, (levels q).right)))
 stays o h e (Group ∷ fs) p = refl
 stays o h e (Call c ps n ∷ fs) p = refl
 
 -- a dot ends nothing
 pub stays_at_dot : (h : ℕ) (e : Tree) (fs : List Frame) → close 8 h e fs ≡ record { height = h; tree = e; frames = fs }
 stays_at_dot h e [] = refl
-stays_at_dot h e (Prefixed p s ∷ fs) = cond_false (leb 8 (prefix_level s)) _ _ (lt-leb-false 8 (prefix_level s) (omega (arith, prefix_most s)))
-stays_at_dot h e (Behind p q a ∷ fs) = cond_false (leb 8 (level q)) _ _ (lt-leb-false 8 (level q) (omega (arith, (levels q).right, (levels q).most)))
+stays_at_dot h e (Prefixed p s ∷ fs) = cond-false (leb 8 (prefix_level s)) _ _ (lt-leb 8 (prefix_level s) (omega (arith, prefix_most s)))
+stays_at_dot h e (Behind p q a ∷ fs) = cond-false (leb 8 (level q)) _ _ (lt-leb 8 (level q) (omega (arith, (levels q).right, (levels q).most)))
 stays_at_dot h e (Group ∷ fs) = refl
 stays_at_dot h e (Call c ps n ∷ fs) = refl
 
@@ -98,4 +88,4 @@ unfolding run
 run_step most x ys s t r h k = ap (then_run (run most ys)) h ∙ k
 
 pub allowed_some : (most : ℕ) (o : Option State) (t : State) → o ≡ Some t → depth t.frames ≤ most → allowed most o ≡ Ok t
-allowed_some most o t h k = ap (allowed most) h ∙ cond_true (leb (depth t.frames) most) _ _ (le-leb (depth t.frames) most k)
+allowed_some most o t h k = ap (allowed most) h ∙ cond-true (leb (depth t.frames) most) _ _ (le-leb (depth t.frames) most k)

@@ -1,17 +1,16 @@
 -- Scripts: what the grammar derives the machine reads, what it reads the grammar derives, and it goes on
 -- exactly while some continuation is a script.
 use Rattle.std.proofs.Common.{◌≡◌, ℕ, zero, suc, ℤ, pos, ◌≤◌, ◌==◌, Bool, true, false, cond, leb, List, [], ◌∷◌, ◌++◌, Option, Some, None, Result, Ok, Err, refl, sym, ap, subst, ◌∙◌, arith, append_assoc, append-nil}
-use Rattle.std.proofs.lemmas.Bool.{le-leb, leb-true}
+use Rattle.std.proofs.lemmas.Bool.{le-leb, leb-true, cond-true}
 use Rattle.std.proofs.lemmas.Bool.Decides.{nat_tests}
-use Rattle.std.specs.Ordering.{int_eq}
 use Rattle.pl_grammar.specs.declared.Place.{Place}
 use Rattle.pl_grammar.specs.Tree.{Token, Name, Number, Assign, Semicolon, PipelineWord, LetWord, ColumnWord, ScreenWord, Lexeme, mark, Tree}
 use Rattle.pl_grammar.specs.Grammar.{Derives}
 use Rattle.pl_grammar.specs.Machine.{State, Stop, Deep, first, move, depth, step, run, allowed, finish}
 use Rattle.pl_grammar.specs.Script.{Head, LetHead, ColumnHead, ScreenHead, Statement, HeadRead, let_read, column_read, screen_read, Statements, no_statement, statement, version_of, is_known, is_version, version_or, version_told, Script, script, Viable, Stage, Opening, VersionWanted, VersionGiven, Between, LetWanted, ColumnWanted, AssignWanted, Within, if_version, opening_move, version_move, given_move, between_move, name_move, assign_head, ended, within_move, script_move, stage_depth, stage_allowed, script_step, script_then, script_run, script_finish}
-use Rattle.pl_grammar.proofs.Levels.{cond_true}
 use Rattle.pl_grammar.proofs.Sound.{Has, move_keeps, Keeps}
-use Rattle.pl_grammar.proofs.Viable.{some_name, derives_finish, CanEnd, can_end, has_finish, nowhere, nothing_read, same_state, bound_ok, no_ok}
+use Rattle.pl_grammar.proofs.Viable.{some_name, derives_finish, CanEnd, can_end, has_finish, nothing_read, same_state, bound_ok, no_ok}
+use Rattle.pl_grammar.specs.Printed.{nowhere}
 
 abbrev pub staged : Stage → Result Stage Stop
 staged s = Ok s
@@ -52,7 +51,7 @@ pub script_next : (most : ℕ) (x : Lexeme) (ys : List Lexeme) (s t : Stage) (r 
 unfolding script_run
 script_next most x ys s t r h room k =
     ap (λ o. script_then (script_run most ys) (stage_allowed most o)) h
-    ∙ (ap (script_then (script_run most ys)) (cond_true (leb (stage_depth t) most) _ _ (le-leb (stage_depth t) most room)) ∙ k)
+    ∙ (ap (script_then (script_run most ys)) (cond-true (leb (stage_depth t) most) _ _ (le-leb (stage_depth t) most room)) ∙ k)
 
 -- a run of the expression's machine is a run within the statement
 

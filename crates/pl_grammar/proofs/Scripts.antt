@@ -1,6 +1,6 @@
 -- Whole scripts: what is read has a canonical text within the limits, and that text derives it.
 use Rattle.std.proofs.Common.{◌≡◌, ℕ, zero, suc, ◌+◌, ◌≤◌, ◌==◌, Bool, true, false, ◌&&◌, leb, List, [], ◌∷◌, ◌++◌, length, refl, sym, ap, ap₂, subst, ◌∙◌, arith, length-append}
-use Rattle.std.proofs.lemmas.Bool.{le-leb, leb-true}
+use Rattle.std.proofs.lemmas.Bool.{le-leb, leb-true, and_from, and_parts}
 use Rattle.std.proofs.lemmas.Bool.Decides.{nat_tests}
 use Rattle.pl_grammar.specs.Tree.{Token, Name, Number, LargeNumber, Assign, Semicolon, PipelineWord, LetWord, ColumnWord, Lexeme, mark, Tree}
 use Rattle.pl_grammar.specs.Script.{Head, LetHead, ColumnHead, ScreenHead, Statement, HeadRead, let_read, column_read, screen_read, Statements, no_statement, statement, version_of, is_known, token_version, version_or, version_told, Script, script}
@@ -12,7 +12,7 @@ use Rattle.pl_grammar.proofs.Sound.{weaken}
 use Rattle.pl_grammar.proofs.Reprint.{level_least}
 use Rattle.pl_grammar.proofs.Canonical.{canonical, shallow, least_place}
 use Rattle.pl_grammar.proofs.Replace.{cut, next_of, replaced}
-use Rattle.pl_grammar.proofs.Fewest.{is_inner, inner, passes, fewest, own_size, part, both, and_true}
+use Rattle.pl_grammar.proofs.Fewest.{is_inner, inner, passes, fewest, own_size, part}
 
 -- counting
 
@@ -28,7 +28,7 @@ short_part : (n : ℕ) (xs ys : List Lexeme) → tokens_pass is_inner xs ≡ tru
 unfolding IsShort tokens_pass
 short_part n [] ys h k = let e : n ≡ n + 0 = omega arith in subst (λ m. IsShort m ys) e k
 short_part n (mark q t ∷ xs) ys h k =
-    let b = both (is_inner t) (tokens_pass is_inner xs) h in
+    let b = and_parts (is_inner t) (tokens_pass is_inner xs) h in
     let e : suc n + length xs ≡ n + suc (length xs) = omega arith in
     subst (λ m. IsShort m ys) e (short_part (suc n) xs ys b.1 (subst (λ m. IsShort m (xs ++ ys)) (counted_inner n t b.0) k.2))
 
@@ -36,7 +36,7 @@ short_join : (n : ℕ) (xs ys : List Lexeme) → tokens_pass is_inner xs ≡ tru
 unfolding IsShort tokens_pass
 short_join n [] ys h few k = let e : n + 0 ≡ n = omega arith in subst (λ m. IsShort m ys) e k
 short_join n (mark q t ∷ xs) ys h few k =
-    let b = both (is_inner t) (tokens_pass is_inner xs) h in
+    let b = and_parts (is_inner t) (tokens_pass is_inner xs) h in
     let e : n + suc (length xs) ≡ suc n + length xs = omega arith in
     (omega arith, inner_small t b.0, subst (λ m. IsShort m (xs ++ ys)) (sym (counted_inner n t b.0)) (short_join (suc n) xs ys b.1 (omega arith) (subst (λ m. IsShort m ys) e k)))
 
@@ -58,8 +58,8 @@ head_is_read (ScreenHead p) = screen_read
 
 head_passes_read : (p : Token → Bool) {hs : List Lexeme} {h : Head} → HeadRead hs h → tokens_pass p hs ≡ true → head_passes p h ≡ true
 unfolding tokens_pass
-head_passes_read p (let_read {n = n}) k = let a = both (p LetWord) (p (Name n) && (p Assign && true)) k in (both (p (Name n)) (p Assign && true) a.1).0
-head_passes_read p (column_read {n = n}) k = let a = both (p ColumnWord) (p (Name n) && (p Assign && true)) k in (both (p (Name n)) (p Assign && true) a.1).0
+head_passes_read p (let_read {n = n}) k = let a = and_parts (p LetWord) (p (Name n) && (p Assign && true)) k in (and_parts (p (Name n)) (p Assign && true) a.1).0
+head_passes_read p (column_read {n = n}) k = let a = and_parts (p ColumnWord) (p (Name n) && (p Assign && true)) k in (and_parts (p (Name n)) (p Assign && true) a.1).0
 head_passes_read p screen_read k = refl
 
 -- what is read is sound
@@ -70,20 +70,20 @@ statements_sound p no_statement short k = refl
 statements_sound p (statement q {hs = hs} {ts = xs} {us = us} {h = h} {e = e} {ss = ss} head x rest) short k =
     let a = part p hs (xs ++ (mark q Semicolon ∷ us)) k in
     let b = part p xs (mark q Semicolon ∷ us) a.1 in
-    let c = both (p Semicolon) (tokens_pass p us) b.1 in
+    let c = and_parts (p Semicolon) (tokens_pass p us) b.1 in
     let s = short_part (0 + length hs) xs (mark q Semicolon ∷ us) (inner x) (short_part 0 hs (xs ++ (mark q Semicolon ∷ us)) (head_inner head) short) in
     let deep : leb (tree_depth e) most_depth ≡ true = le-leb (tree_depth e) most_depth (omega (arith, shallow x, least_place (leb 1 (tree_level e)) (tree_depth e))) in
     let few : leb (suc (length (head_tokens h ++ tokens e))) most_tokens ≡ true = le-leb (suc (length (head_tokens h ++ tokens e))) most_tokens (omega (arith, s.0, head_size head, own_size 1 e (level_least e), fewest x, length-append (head_tokens h) (tokens e))) in
-    and_true (is_sound p (record { head = h; tree = e })) (are_sound p ss)
-    (and_true (head_passes p h) _ (head_passes_read p head a.0) (and_true (tree_passes p e) _ (passes p x b.0) (and_true _ _ deep few)))
+    and_from (is_sound p (record { head = h; tree = e })) (are_sound p ss)
+    (and_from (head_passes p h) _ (head_passes_read p head a.0) (and_from (tree_passes p e) _ (passes p x b.0) (and_from _ _ deep few)))
     (statements_sound p rest s.2 c.1)
 
 pub script_sound : (p : Token → Bool) {ts : List Lexeme} {ss : List Statement} → Script most_depth ts ss → IsShort 0 ts → tokens_pass p ts ≡ true → are_sound p ss ≡ true
 unfolding IsShort tokens_pass
 script_sound p (script {v = v} {ts = ts} h x) short k =
-    let a = both (p PipelineWord) (p (Number v) && (p Semicolon && tokens_pass p ts)) k in
-    let b = both (p (Number v)) (p Semicolon && tokens_pass p ts) a.1 in
-    let c = both (p Semicolon) (tokens_pass p ts) b.1 in
+    let a = and_parts (p PipelineWord) (p (Number v) && (p Semicolon && tokens_pass p ts)) k in
+    let b = and_parts (p (Number v)) (p Semicolon && tokens_pass p ts) a.1 in
+    let c = and_parts (p Semicolon) (tokens_pass p ts) b.1 in
     statements_sound p x short.2.2.2 c.1
 
 -- what is sound is derived by its canonical tokens, within the limits
@@ -96,16 +96,16 @@ pub record Parts (p : Token → Bool) (s : Statement) : Type 0 where
 
 pub parts : (p : Token → Bool) (s : Statement) → is_sound p s ≡ true → Parts p s
 parts p s h =
-    let a = both (head_passes p s.head) _ h in
-    let b = both (tree_passes p s.tree) _ a.1 in
-    let c = both (leb (tree_depth s.tree) most_depth) _ b.1 in
+    let a = and_parts (head_passes p s.head) _ h in
+    let b = and_parts (tree_passes p s.tree) _ a.1 in
+    let c = and_parts (leb (tree_depth s.tree) most_depth) _ b.1 in
     record { head = a.0; tree = b.0; depth = leb-true (tree_depth s.tree) most_depth c.0; few = leb-true (suc (length (head_tokens s.head ++ tokens s.tree))) most_tokens c.1 }
 
 statements_derive : (p : Token → Bool) (ss : List Statement) → are_sound p ss ≡ true → Statements most_depth (statements_tokens ss) ss
 unfolding statements_tokens are_sound
 statements_derive p [] h = no_statement
 statements_derive p (s ∷ ss) h =
-    let a = both (is_sound p s) (are_sound p ss) h in
+    let a = and_parts (is_sound p s) (are_sound p ss) h in
     let x = parts p s a.0 in
     statement nowhere (head_is_read s.head) (weaken (canonical s.tree most_depth x.depth) 1 (level_least s.tree)) (statements_derive p ss a.1)
 
@@ -135,7 +135,7 @@ statements_short : (p : Token → Bool) (ss : List Statement) → are_sound p ss
 unfolding statements_tokens are_sound IsShort
 statements_short p [] h = tt
 statements_short p (s ∷ ss) h =
-    let a = both (is_sound p s) (are_sound p ss) h in
+    let a = and_parts (is_sound p s) (are_sound p ss) h in
     let x = parts p s a.0 in
     let hs = head_tokens s.head in
     let xs = tokens s.tree in

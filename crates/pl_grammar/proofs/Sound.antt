@@ -1,7 +1,6 @@
 -- What the machine reads, the grammar derives.
-use Rattle.std.proofs.Common.{◌≡◌, ℕ, zero, suc, ◌+◌, ◌≤◌, ◌<◌, Bool, true, false, cond, leb, List, [], ◌∷◌, ◌++◌, Option, Some, None, Result, Ok, Err, refl, sym, ap, subst, ◌∙◌, arith, append_assoc, append-nil}
+use Rattle.std.proofs.Common.{◌≡◌, ℕ, zero, suc, ◌+◌, ◌≤◌, ◌<◌, Bool, true, false, cond, leb, List, [], ◌∷◌, ◌++◌, Option, Some, None, Result, Ok, Err, refl, sym, ap, subst, ◌∙◌, arith, append_assoc, append-nil, leb-false}
 use Rattle.std.proofs.lemmas.Bool.{leb-true}
-use Rattle.std.proofs.lemmas.Bool.Decides.{nat_tests}
 use Rattle.pl_grammar.specs.declared.Place.{Place}
 use Rattle.pl_grammar.specs.declared.PrefixSign.{PrefixSign}
 use Rattle.pl_grammar.specs.declared.BinarySign.{BinarySign}
@@ -9,7 +8,7 @@ use Rattle.pl_grammar.specs.declared.PrefixSign.TheVariants.{Minus, Not}
 use Rattle.pl_grammar.specs.declared.BinarySign.TheVariants.{Or, And, Less, LessEqual, Greater, GreaterEqual, Equal, NotEqual, Add, Sub, Mul, Div}
 use Rattle.pl_grammar.specs.Tree.{Name, Number, LargeNumber, Text, Operator, Tilde, Dot, Open, Close, Comma, Assign, Semicolon, PipelineWord, LetWord, ColumnWord, ScreenWord, Lexeme, mark, Tree, number, text, prefix, binary, method, sign_token, prefix_level, level, left_level, right_level}
 use Rattle.pl_grammar.specs.Grammar.{Derives, a_number, a_text, a_name, a_call, a_group, a_prefix, a_binary, a_member, a_method, ArgsDerive, none, some, OneArg, bare, named, MoreArgs, end, more}
-use Rattle.pl_grammar.specs.Machine.{Frame, Prefixed, Behind, Group, Call, Mode, Wanted, ArgWanted, Named, ArgNamed, Membered, Given, Dotted, State, Closed, Stop, Deep, Arg, Callee, function, method_of, operand, is_wanted, callee, args_of, applied, asked, depth, close, move, step, then_run, run, allowed, literal, named_move, sign_move, minus_move, operator_move, dot_move, open_move, close_move, comma_move, assign_move, shut, shut_empty, next_arg}
+use Rattle.pl_grammar.specs.Machine.{Frame, Prefixed, Behind, Group, Call, Mode, Wanted, ArgWanted, Named, ArgNamed, Membered, Given, Dotted, State, Closed, Stop, Deep, Arg, Callee, function, method_of, operand, is_wanted, callee, args_of, applied, asked, depth, close, move, allowed, literal, named_move, sign_move, minus_move, operator_move, dot_move, open_move, close_move, comma_move, assign_move, shut, shut_empty, next_arg}
 use Rattle.pl_grammar.proofs.Levels.{levels, prefix_most}
 
 pub weaken : {d k : ℕ} {ts : List Lexeme} {e : Tree} → Derives d k ts e → (l : ℕ) → l ≤ k → Derives d l ts e
@@ -90,9 +89,6 @@ pub record HasClosed (most m : ℕ) (c : Closed) (us : List Lexeme) : Type 0 whe
 cond_has : {most m : ℕ} {x y : Closed} {us : List Lexeme} (b : Bool) → (b ≡ true → HasClosed most m x us) → (b ≡ false → HasClosed most m y us) → HasClosed most m (cond b x y) us
 cond_has true h k = h refl
 cond_has false h k = k refl
-
-leb-false : (a b : ℕ) → leb a b ≡ false → b < a
-leb-false a b h = grind (arith, nat_tests)
 
 pub close_has : {most d : ℕ} {fs : List Frame} {ts : List Lexeme} → Opens most d fs ts → (m h : ℕ) (e : Tree) (xs us : List Lexeme) → Derives d h xs e → asked fs ≤ h → us ≡ ts ++ xs → HasClosed most m (close m h e fs) us
 close_has {d = d} {ts = ts} (opens_nothing p q) m h e xs us x fits whole =
@@ -373,12 +369,3 @@ allowed_keeps most (Some s) us k = by_test (leb (depth s.frames) most) (λ t. k 
     by_test : (b : Bool) → (b ≡ true → Has most s.mode s.frames us) → IfRun (cond b (Ok s) (Err Deep)) (λ s. Has most s.mode s.frames us)
     by_test true f = f refl
     by_test false f = tt
-
-pub run_has : (most : ℕ) (ts : List Lexeme) (s : State) (us : List Lexeme) → Has most s.mode s.frames us → IfRun (run most ts s) (λ s. Has most s.mode s.frames (us ++ ts))
-unfolding run
-run_has most [] s us h = subst (λ z. Has most s.mode s.frames z) (sym (append-nil us)) h
-run_has most (t ∷ ts) s us h = on_step (step most t s) (allowed_keeps most (move t s.mode s.frames) (us ++ (t ∷ [])) (move_keeps t h)) (λ x k. run_has most ts x (us ++ (t ∷ [])) k)
-  where
-    on_step : (r : Result State Stop) → IfRun r (λ s. Has most s.mode s.frames (us ++ (t ∷ []))) → ((x : State) → Has most x.mode x.frames (us ++ (t ∷ [])) → IfRun (run most ts x) (λ s. Has most s.mode s.frames ((us ++ (t ∷ [])) ++ ts))) → IfRun (then_run (run most ts) r) (λ s. Has most s.mode s.frames (us ++ (t ∷ ts)))
-    on_step (Ok x) k f = subst (λ z. IfRun (run most ts x) (λ s. Has most s.mode s.frames z)) (append_assoc us (t ∷ []) ts) (f x k)
-    on_step (Err e) k f = tt

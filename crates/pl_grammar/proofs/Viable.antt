@@ -1,13 +1,13 @@
 -- The machine goes on exactly while some continuation is an expression.
 use Rattle.std.proofs.Common.{◌≡◌, ℕ, ◌≤◌, true, leb, List, [], ◌∷◌, ◌++◌, Option, Some, None, Result, Ok, Err, refl, sym, ap, subst, ◌∙◌, arith}
-use Rattle.std.proofs.lemmas.Bool.{le-leb}
-use Rattle.pl_grammar.specs.declared.Place.{Place}
+use Rattle.std.proofs.lemmas.Bool.{le-leb, cond-true}
 use Rattle.pl_grammar.specs.Tree.{Name, Close, Lexeme, mark, Tree, name, prefix, binary, member, prefix_level, level}
-use Rattle.pl_grammar.specs.Grammar.{Derives, Viable}
+use Rattle.pl_grammar.specs.Grammar.{Derives}
 use Rattle.pl_grammar.specs.Machine.{Frame, Prefixed, Behind, Group, Call, Mode, Wanted, ArgWanted, Named, ArgNamed, Membered, Given, Dotted, State, Closed, Stop, operand, applied, asked, depth, close, closed, at, move, step, then_run, run, first, outermost, finish, finished}
-use Rattle.pl_grammar.proofs.Levels.{run-append, run_on, run_step, allowed_some, cond_true}
+use Rattle.pl_grammar.proofs.Levels.{run_step, allowed_some}
 use Rattle.pl_grammar.proofs.Complete.{reads, shut_operand}
-use Rattle.pl_grammar.proofs.Sound.{Opens, opens_nothing, opens_prefix, opens_behind, opens_group, opens_call, Has, has_wanted, has_arg_wanted, has_named, has_arg_named, has_member, has_given, has_dotted, IfOperand, has_operand, close_has, asked_most, budget, IfRun, run_has, weaken}
+use Rattle.pl_grammar.proofs.Sound.{Opens, opens_nothing, opens_prefix, opens_behind, opens_group, opens_call, Has, has_wanted, has_arg_wanted, has_named, has_arg_named, has_member, has_given, has_dotted, IfOperand, has_operand, close_has, asked_most, budget, weaken}
+use Rattle.pl_grammar.specs.Printed.{nowhere}
 
 -- the tokens from s on end an expression
 pub record Ends (most : ℕ) (ts : List Lexeme) (s : State) : Type 0 where
@@ -52,10 +52,6 @@ nothing_read most = has_wanted (opens_nothing refl refl)
 pub has_finish : (most : ℕ) (s : State) (ts : List Lexeme) (e : Tree) → Has most s.mode s.frames ts → finish s ≡ Some e → Derives most 1 ts e
 has_finish most s ts e h done = finished_derives most (operand s.mode) s.frames ts e (has_operand h) done
 
--- what closes the frames
-abbrev pub nowhere : Place
-nowhere = record { line = 0; col = 0 }
-
 abbrev closing : List Frame → List Lexeme
 closing [] = []
 closing (Prefixed p s ∷ fs) = closing fs
@@ -71,9 +67,9 @@ unfolding run
 closes most [] m frames tree h e given same room =
     record { last = at m frames; tree = e; goes = refl; done = ap (λ y. finished y frames) given ∙ ap (λ (c : Closed). outermost c.tree c.frames) same }
 closes most (Prefixed p s ∷ fs) m frames tree h e given same room =
-    closes most fs m frames tree (prefix_level s) (prefix p s e) given (same ∙ cond_true (leb 0 (prefix_level s)) _ _ (le-leb 0 (prefix_level s) (omega arith))) (omega arith)
+    closes most fs m frames tree (prefix_level s) (prefix p s e) given (same ∙ cond-true (leb 0 (prefix_level s)) _ _ (le-leb 0 (prefix_level s) (omega arith))) (omega arith)
 closes most (Behind p o a ∷ fs) m frames tree h e given same room =
-    closes most fs m frames tree (level o) (binary p o a e) given (same ∙ cond_true (leb 0 (level o)) _ _ (le-leb 0 (level o) (omega arith))) (omega arith)
+    closes most fs m frames tree (level o) (binary p o a e) given (same ∙ cond-true (leb 0 (level o)) _ _ (le-leb 0 (level o) (omega arith))) (omega arith)
 closes most (Group ∷ fs) m frames tree h e given same room =
     joined (allowed_some most _ _ (shut_operand nowhere m frames tree _ given same) (omega arith)) (closes most fs (Given e) fs e 8 e refl refl (omega arith))
 closes most (Call c acc n ∷ fs) m frames tree h e given same room =

@@ -1,18 +1,14 @@
 -- The cell that is asked for, and its faults.
-use Rattle.std.proofs.Common.{◌≡◌, ◌∙◌, inl, inr, ℕ, zero, suc, ◌+◌, ◌<◌, ◌≤◌, ◌==◌, true, false, ℤ, pos, ◌≤ℤ◌, ◌<ℤ◌, List, [], ◌∷◌, length, map, get_or, unwrap_or, Option, Some, None, slice_get, option_map, option_to_list, refl, sym, ap, arith}
+use Rattle.std.proofs.Common.{◌≡◌, ◌∙◌, ℕ, zero, suc, ◌<◌, ◌≤◌, ◌==◌, true, false, ℤ, pos, ◌≤ℤ◌, ◌<ℤ◌, List, [], ◌∷◌, length, get_or, unwrap_or, Option, Some, None, slice_get, option_map, refl, sym, ap, arith, le-ltb, lt-ltb}
 use lib.Signed.{lt_z}
 use Rattle.std.proofs.lemmas.Int.{ints}
 use Rattle.std.specs.Prelude.{bytes_eq, find, nat_lt}
-use Rattle.std.proofs.lemmas.Bool.Decides.{nat_tests}
-use Rattle.std.proofs.lemmas.Bool.{or_left, or_right, eq-eqb, eqb-true, cases_lt}
-use Rattle.std.proofs.lemmas.List.{length-map}
-use Rattle.std.proofs.lemmas.List.Folds.{list_any-append}
+use Rattle.std.proofs.lemmas.Bool.{eqb-true}
 use Rattle.std.proofs.lemmas.List.Quantifiers.{position-Some}
 use Rattle.std.proofs.lemmas.Option.{slice_get-get_or}
 use Rattle.pl_spec.specs.Limits.{most_lines}
 use Rattle.pl_spec.specs.declared.AssetRow.{AssetRow}
 use Rattle.pl_spec.specs.Parts.{sid_at}
-use Rattle.pl_spec.specs.Graph.{contains}
 use Rattle.pl_spec.specs.Graph.Used.{output}
 use Rattle.pl_spec.specs.Table.{Pipeline, NamedColumn}
 use Rattle.pl_spec.specs.World.{World}
@@ -22,9 +18,9 @@ use Rattle.pl_laws.proofs.Uses.{used_terms-complete}
 use Rattle.pl_terms.specs.declared.node.TermId.{TermId}
 use Rattle.pl_terms.specs.declared.checked.NamedColumn as code
 use Rattle.pl_terms.specs.Checked.{IsChecked, Parts, columns_of, column_of, pipeline_of}
-use Rattle.pl_terms.specs.declared.node.Node.{Node}
-use Rattle.pl_terms.specs.Nodes.{graph_of, node_of, number_of}
+use Rattle.pl_terms.specs.Nodes.{number_of}
 use Rattle.pl_terms.specs.Uses.{outputs, is_used}
+use Rattle.pl_terms.proofs.Graphs.{graph-long, column-there, column-output}
 use Rattle.pl_words.specs.declared.request.RangeDate.TheVariants.{At}
 use Rattle.pl_words.specs.Request.{ExplainRequest}
 use Rattle.pl_judge.specs.declared.fault.Fault.TheVariants.{NotSession, UnknownSid, UnknownColumn, TooEarly, Passed}
@@ -53,10 +49,6 @@ first-named name [] n c e t h = absurd (let bad : None ≡ Some c = e in cc)
 first-named name (d ∷ cs) zero c e t h = let is : d ≡ c = cc in rw (is, t) refl
 first-named name (d ∷ cs) (suc n) c e t h = rw (h 0 d (omega arith) refl) (first-named name cs n c e t (λ k x l f. h (suc k) x (omega (arith, l)) f))
 
-graph-long : (ns : List Node) → length (graph_of ns) ≡ length ns
-unfolding graph_of
-graph-long ns = length-map ns node_of
-
 -- the column of a name and a term
 named-there : (cs : List code.NamedColumn) (i : ℕ) (name : List ℕ) (t : TermId) → option_map (λ c. c.name) (slice_get cs i) ≡ Some name → option_map (λ c. c.term) (slice_get cs i) ≡ Some t
     → (c : code.NamedColumn) × (slice_get cs i ≡ Some c) × (c.name ≡ name) × (c.term ≡ t)
@@ -66,32 +58,6 @@ named-there cs i name t n e = here (slice_get cs i) refl n e
         → (c : code.NamedColumn) × (slice_get cs i ≡ Some c) × (c.name ≡ name) × (c.term ≡ t)
     here None is n e = absurd (let bad : None ≡ Some t = e in cc)
     here (Some c) is n e = (c, is, (cc), (cc))
-
-pub none-yet : (name : List ℕ) (cs : List code.NamedColumn) → NoneNamed name cs 0
-none-yet name cs k c l e = absurd (omega (arith, l))
-
-pub none-more : (name : List ℕ) (cs : List code.NamedColumn) (i : ℕ) (own : List ℕ) → NoneNamed name cs i → option_map (λ c. c.name) (slice_get cs i) ≡ Some own
-    → bytes_eq own name ≡ false → NoneNamed name cs (i + 1)
-none-more name cs i own h n f k c l e = elim (cases_lt k i) [
-  | inl b ↦ h k c b e
-  | inr b ↦ (let same : k ≡ i = omega (arith, l, b) in let at = rw (← same) at n in let is : c.name ≡ own = (let both : option_map (λ (c : code.NamedColumn). c.name) (Some c) ≡ Some own = (rw e at at) in cc) in rw is f)
-]
-
-in-columns : (cs : List NamedColumn) (i : ℕ) (c : NamedColumn) → slice_get cs i ≡ Some c → contains (map (λ (x : NamedColumn). x.term) cs) c.term ≡ true
-in-columns [] i c e = absurd (let bad : None ≡ Some c = e in cc)
-in-columns (d ∷ cs) zero c e = let is : d ≡ c = cc in or_left (d.term == c.term) (contains (map (λ (x : NamedColumn). x.term) cs) c.term) (eq-eqb d.term c.term (ap (λ (x : NamedColumn). x.term) is))
-in-columns (d ∷ cs) (suc i) c e = or_right (d.term == c.term) (contains (map (λ (x : NamedColumn). x.term) cs) c.term) (in-columns cs i c e)
-
-column-output : (p : Pipeline) (i : ℕ) (c : NamedColumn) → slice_get p.columns i ≡ Some c → contains (outputs p) c.term ≡ true
-column-output p i c e =
-    list_any-append (λ (x : ℕ). x == c.term) (map (λ (x : NamedColumn). x.term) p.columns) (option_to_list p.screen)
-    ∙ or_left (contains (map (λ (x : NamedColumn). x.term) p.columns) c.term) (contains (option_to_list p.screen) c.term) (in-columns p.columns i c e)
-
-column-there : (cs : List code.NamedColumn) (i : ℕ) (c : code.NamedColumn) → slice_get cs i ≡ Some c → slice_get (columns_of cs) i ≡ Some (column_of c)
-unfolding columns_of
-column-there [] i c e = absurd (let bad : None ≡ Some c = e in cc)
-column-there (d ∷ cs) zero c e = let is : d ≡ c = cc in ap (λ (x : code.NamedColumn). Some (column_of x)) is
-column-there (d ∷ cs) (suc i) c e = column-there cs i c e
 
 module _ (x : Parts) (name : List ℕ) where
   pub no-term : (n : ℕ) → n ≡ length x.columns → NoneNamed name x.columns n → None ≡ column_term (pipeline_of x) name
@@ -163,17 +129,11 @@ module _ (p : Pipeline) (days : List ℤ) (assets : List AssetRow) (q : ExplainR
 abbrev counted : ℕ → Step
 counted n = rule (when (nat_lt most_lines n) (Passed limits.Derivation))
 
-is-below : (m n : ℕ) → m < n → nat_lt m n ≡ true
-is-below m n l = grind (arith, nat_tests)
-
-not-below : (m n : ℕ) → n ≤ m → nat_lt m n ≡ false
-not-below m n l = grind (arith, nat_tests)
-
 past : (n : ℕ) → most_lines < n → first_fault (counted n ∷ []) ≡ Some (Passed limits.Derivation)
-past n l = rw (is-below most_lines n l) refl
+past n l = rw (lt-ltb most_lines n l) refl
 
 within : (n : ℕ) → n ≤ most_lines → first_fault (counted n ∷ []) ≡ None
-within n l = rw (not-below most_lines n l) refl
+within n l = rw (le-ltb most_lines n l) refl
 
 module _ (w : World) (p : Pipeline) (q : ExplainRequest) (t d : ℕ) (is : column_term p q.column ≡ Some t) (on : session_of w.days q.date.day ≡ Some d) where
   pub too-long : most_lines < length (facts_for w p (Worth t q.sid (pos d))) → first_fault (lines_step w p q ∷ []) ≡ Some (Passed limits.Derivation)

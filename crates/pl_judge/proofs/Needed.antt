@@ -7,6 +7,7 @@ use Rattle.pl_spec.specs.Term.{Input, Node, Graph, MentionsBelow, IsGraph}
 use Rattle.pl_spec.specs.Term.Input.{BarColumn, TermInput}
 use Rattle.pl_spec.specs.Graph.{contains, input_number, reads_at}
 use Rattle.pl_spec.specs.Lows.{Reads, Needs}
+use Rattle.pl_spec.proofs.Contained.{input-in}
 use Rattle.pl_judge.specs.Planning.{Need, all_on, node_reads, sessions_of, needs_below, needs}
 
 -- ---- members
@@ -88,13 +89,6 @@ in-flat f t r (x ∷ xs) h = elim (in-either t r (f x) (flat_map f xs) h) [
   | inr q ↦ (let i = in-flat f t r xs q in (i.0, (inr i.1.0, i.1.1)))
 ]
 
-number-in : (is : List Input) (i t : ℕ) → slice_get is i ≡ Some (TermInput t) → contains (filter_map input_number is) t ≡ true
-number-in [] i t e = cc
-number-in (BarColumn c ∷ is) zero t e = cc
-number-in (BarColumn c ∷ is) (suc i) t e = number-in is i t e
-number-in (TermInput k ∷ is) zero t e = let same : k ≡ t = cc in or_left (k == t) (contains (filter_map input_number is) t) (eq-eqb k t same)
-number-in (TermInput k ∷ is) (suc i) t e = or_right (k == t) (contains (filter_map input_number is) t) (number-in is i t e)
-
 in-number : (is : List Input) (t : ℕ) → contains (filter_map input_number is) t ≡ true → (i : ℕ) × (slice_get is i ≡ Some (TermInput t))
 in-number [] t h = absurd (true≢false (sym h))
 in-number (BarColumn c ∷ is) t h = let r = in-number is t h in (suc r.0, r.1)
@@ -130,7 +124,7 @@ module _ (days : List ℤ) (n : Node) (s : ℤ) where
   start = before (reads_at days n.kind s) (n.window - 1)
 
   read-in : (t : ℕ) (r : ℤ) → Reads days n s t r → IsIn t r (node_reads days (Some n) s)
-  read-in t r (Reads.input i e) = in-front t start (all_on start inputs) (all_on s (both n.mask n.group)) (on-all t start inputs (number-in n.inputs i t e))
+  read-in t r (Reads.input i e) = in-front t start (all_on start inputs) (all_on s (both n.mask n.group)) (on-all t start inputs (input-in n.inputs i t e))
   read-in t r (Reads.mask e) = in-behind t s (all_on start inputs) (all_on s (both n.mask n.group)) (on-all t s (both n.mask n.group) (mask-in n.mask n.group t e))
   read-in t r (Reads.group e) = in-behind t s (all_on start inputs) (all_on s (both n.mask n.group)) (on-all t s (both n.mask n.group) (group-in n.mask n.group t e))
 

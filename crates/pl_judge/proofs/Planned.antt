@@ -8,10 +8,12 @@ use Rattle.std.proofs.lemmas.Bool.Decides.{nat_tests}
 use Rattle.std.proofs.lemmas.Int.{ints}
 use Rattle.std.proofs.lemmas.List.Folds.{list_any_at}
 use Rattle.std.proofs.lemmas.List.FromFn.{get_or-range_with_len, length-range_with_len}
+use Rattle.std.specs.Int.Signed.{≤ℤ_refl}
 use Rattle.pl_spec.specs.Limits.{most_extra_rows}
 use Rattle.pl_spec.specs.Graph.{contains, least_of, Used}
 use Rattle.pl_spec.specs.Lows.{Needs, IsLow}
 use Rattle.pl_spec.specs.Table.{Pipeline}
+use Rattle.pl_spec.proofs.Signed.{le-both}
 use Rattle.pl_laws.proofs.Reaches.{AllFrom, below_least}
 use Rattle.pl_laws.proofs.Uses.{lower, used_terms-complete}
 use Rattle.pl_terms.specs.Checked.{IsChecked}
@@ -28,11 +30,8 @@ each-from : (low : ℤ) (ss : List ℤ) (s : ℤ) → AllFrom low ss → IsSessi
 each-from low [] s h i = absurd i
 each-from low (x ∷ xs) s h i = elim i [ inl p ↦ subst (λ z. low ≤ℤ z) p h.0 | inr q ↦ each-from low xs s h.1 q ]
 
-itself : (z : ℤ) → z ≤ℤ z
-itself z = omega (arith, ints)
-
 least-below : (ss : List ℤ) (d s : ℤ) → IsSession s ss → least_of ss d ≤ℤ s
-least-below ss d s h = each-from (least_of ss d) ss s (below_least (least_of ss d) d ss (itself (least_of ss d))).1 h
+least-below ss d s h = each-from (least_of ss d) ss s (below_least (least_of ss d) d ss (≤ℤ_refl (least_of ss d))).1 h
 
 min-above : (low x y : ℤ) → low ≤ℤ x → low ≤ℤ y → low ≤ℤ int_min x y
 min-above low x y h l = grind (arith, ints, h, l)
@@ -40,9 +39,6 @@ min-above low x y h l = grind (arith, ints, h, l)
 least-above : (low d : ℤ) (ss : List ℤ) → low ≤ℤ d → ((s : ℤ) → IsSession s ss → low ≤ℤ s) → low ≤ℤ least_of ss d
 least-above low d [] h all = h
 least-above low d (x ∷ xs) h all = least-above low (int_min d x) xs (min-above low d x h (all x (inl refl))) (λ s i. all s (inr i))
-
-meet : (a b : ℤ) → a ≤ℤ b → b ≤ℤ a → a ≡ b
-meet a b h l = omega (arith, ints)
 
 -- ---- needed terms are used
 
@@ -83,7 +79,7 @@ module _ (p : Pipeline) (checked : IsChecked p) where
     -- the first session of a term is its low
     first-is : (d : ℤ) (t : ℕ) (low : ℤ) → IsLow days p.graph outs d t low → low ≤ℤ d → first_of days p t d ≡ low
     first-is d t low is l =
-        meet (first_of days p t d) low
+        le-both (first_of days p t d) low
         (least-below (sessions_of (list d) t) d low (of-term t low (list d) (to-list d t low is.needed)))
         (least-above low d (sessions_of (list d) t) l (λ s i. is.least s (of-list d t s (term-of t s (list d) i))))
 

@@ -1,15 +1,11 @@
 -- How the ends of the stages make the end of the work.
-use Rattle.std.proofs.Common.{◌≡◌, inl, inr, List, [], ◌∷◌, ◌++◌, Bool, true, IsTrue, Option, Some, None, Result, Ok, Err, refl, subst, ◌∙◌}
+use Rattle.std.proofs.Common.{◌≡◌, inl, inr, List, [], ◌∷◌, ◌++◌, Bool, true, IsTrue, Option, Some, None, Result, Ok, Err, refl, subst}
 use Rattle.std.specs.Option.{option_or}
 use Rattle.pl_judge.specs.declared.fault.Fault.{Fault}
 use Rattle.pl_judge.specs.declared.fault.Fault.TheVariants.{Usage, Unread, Unloaded, Unwritten, Memory}
 use Rattle.pl_judge.specs.Steps.{Source, Step, first_fault, ReachesRead}
 use Rattle.pl_judge.specs.Steps.Source.{Input, Load}
 use Rattle.pl_judge.specs.Stages.{StopsOutside, IsStop, IsRisen, StageEnds}
-
-or-some : {A : Type 0} (o p : Option A) (x : A) → o ≡ Some x → option_or o p ≡ Some x
-or-some None p x h = absurd (cc)
-or-some (Some y) p x h = h
 
 or-none : {A : Type 0} (o p : Option A) → option_or o p ≡ None → (o ≡ None) × (p ≡ None)
 or-none None p h = (refl, h)
@@ -72,9 +68,6 @@ stage-goes_on {shelf = shelf} {keeper = keeper} {ss = ss} {ts = ts} {r = Err sto
 pub stage-done : {T U : Type 0} {shelf keeper s k : Bool} {ss : List Step} {x : T} {y : U} → StageEnds s k ss (Ok x) → StageEnds shelf keeper ss (Ok y)
 stage-done h = record { passed = h.passed; stopped = tt }
 
-pub stage-fails : {T U : Type 0} {shelf keeper : Bool} {ss : List Step} {stop : Fault} → StageEnds {T = T} shelf keeper ss (Err stop) → StageEnds {T = U} shelf keeper ss (Err stop)
-stage-fails h = record { passed = tt; stopped = h.stopped }
-
 -- the parts are sound where those of the stage are; a stage that doesn't use a part speaks of a sound one
 outside-weaker : (shelf keeper s k : Bool) (ss : List Step) (f : Fault) → (IsTrue shelf → IsTrue s) → (IsTrue keeper → IsTrue k) → StopsOutside s k ss f → StopsOutside shelf keeper ss f
 outside-weaker shelf keeper s k ss (Unread file) a b h = (h.0, λ t. h.1 (a t))
@@ -88,9 +81,6 @@ stop-weaker shelf keeper s k ss f a b h = elim h [ inl p ↦ inl p | inr q ↦ i
 pub stage-weaker : {T U : Type 0} {shelf keeper s k : Bool} {ss : List Step} {stop : Fault} → (IsTrue shelf → IsTrue s) → (IsTrue keeper → IsTrue k)
     → StageEnds {T = T} s k ss (Err stop) → StageEnds {T = U} shelf keeper ss (Err stop)
 stage-weaker {shelf = shelf} {keeper = keeper} {s = s} {k = k} {ss = ss} {stop = stop} a b h = record { passed = tt; stopped = stop-weaker shelf keeper s k ss stop a b h.stopped }
-
-pub stays-sound : {s t : Bool} → s ≡ t → IsTrue t → IsTrue s
-stays-sound e h = e ∙ h
 
 pub always : {t : Bool} → IsTrue t → IsTrue true
 always h = refl

@@ -1,10 +1,10 @@
 -- The world as of a session agrees with the whole.
-use Rattle.std.proofs.Common.{◌≡◌, ℕ, zero, suc, ◌<◌, Bool, true, false, ◌&&◌, cond, ℤ, pos, negsuc, ◌<ℤ◌, ◌≤ℤ◌, List, [], ◌∷◌, length, map, filter, find, take, get_or, All, AllPairs, Option, Some, None, option_map, option_and_then, unwrap_or, refl, sym, ◌∙◌, ap, arith, slice_get, ◌==◌, nat_lt, min}
+use Rattle.std.proofs.Common.{◌≡◌, ℕ, zero, suc, ◌<◌, Bool, true, false, ◌&&◌, cond, ℤ, pos, negsuc, ◌<ℤ◌, ◌≤ℤ◌, List, [], ◌∷◌, length, map, filter, find, take, get_or, AllPairs, Option, Some, None, option_map, option_and_then, unwrap_or, refl, sym, ◌∙◌, ap, arith, slice_get, ◌==◌, nat_lt, min, ltb-true}
 use Rattle.std.specs.Int.RustNames.{int_le}
 use Rattle.std.proofs.lemmas.Bool.Decides.{nat_tests}
 use Rattle.std.proofs.lemmas.Int.{ints}
 use Rattle.std.proofs.lemmas.List.{get_or-take, length-take}
-use Rattle.std.proofs.lemmas.List.Elements.{All-filter}
+use Rattle.std.proofs.lemmas.List.Elements.{All-filter, filter_passes}
 use Rattle.std.proofs.lemmas.List.Kept.{AllPairs-filter}
 use Rattle.std.proofs.lemmas.Option.{slice_get_within}
 use Rattle.pl_spec.specs.declared.AssetRow.{AssetRow}
@@ -15,8 +15,9 @@ use Rattle.pl_spec.specs.World.{World, IsWorld, Bar, LabelRow, Adjustment, event
 use Rattle.pl_spec.specs.Agree.{Agree, is_known}
 use Rattle.pl_spec.specs.Parts.{ColumnLabel, ColumnAdjustment, bar_of, label_of, adjustment_of}
 use Rattle.pl_spec.specs.AsOf.{as_of, has_started, bars_before, adjustments_by}
+use Rattle.pl_spec.proofs.Lists.{filter-map, filter-filter}
 use Rattle.pl_laws.specs.AsOfLaws.{PartsOf}
-use Rattle.pl_laws.proofs.Law.{filter-filter, day_by, labels-of_days}
+use Rattle.pl_laws.proofs.Law.{day_by, labels-of_days}
 
 -- ---- lists
 
@@ -31,14 +32,6 @@ find-filter p q h (x ∷ xs) = here (p x) (q x) refl refl (find-filter p q h xs)
     here false true e f rest = rw e rest
     here false false e f rest = rw e rest
 
-pub filter-map : {X Y : Type 0} (p : Y → Bool) (f : X → Y) (xs : List X) → filter p (map f xs) ≡ map f (filter (λ x. p (f x)) xs)
-filter-map p f [] = refl
-filter-map {X} {Y} p f (x ∷ xs) = here (p (f x)) (filter-map p f xs)
-  where
-    here : (b : Bool) → filter p (map f xs) ≡ map f (filter (λ x. p (f x)) xs) → cond b (f x ∷ filter p (map f xs)) (filter p (map f xs)) ≡ map f (cond b (x ∷ filter (λ x. p (f x)) xs) (filter (λ x. p (f x)) xs))
-    here true e = ap (λ l. f x ∷ l) e
-    here false e = e
-
 pub filter-swap : {X : Type 0} (p q : X → Bool) (xs : List X) → filter p (filter q xs) ≡ filter q (filter p xs)
 filter-swap p q [] = refl
 filter-swap p q (x ∷ xs) = here (p x) (q x) refl refl (filter-swap p q xs)
@@ -49,18 +42,6 @@ filter-swap p q (x ∷ xs) = here (p x) (q x) refl refl (filter-swap p q xs)
     here true false e f rest = rw f rest
     here false true e f rest = rw e rest
     here false false e f rest = rest
-
-pub all_pass : {X : Type 0} (p : X → Bool) (xs : List X) → All (λ x. p x ≡ true) (filter p xs)
-all_pass p [] = λ k d l. absurd (omega arith)
-all_pass {X} p (x ∷ xs) = here (p x) refl (all_pass p xs)
-  where
-    here : (b : Bool) → p x ≡ b → All (λ x. p x ≡ true) (filter p xs) → All (λ x. p x ≡ true) (cond b (x ∷ filter p xs) (filter p xs))
-    here true e rest = λ k d l. first k d l e rest
-      where
-        first : (k : ℕ) (d : X) → k < length (x ∷ filter p xs) → p x ≡ true → All (λ x. p x ≡ true) (filter p xs) → p (get_or (x ∷ filter p xs) k d) ≡ true
-        first zero d l e rest = e
-        first (suc k) d l e rest = rest k d (omega arith)
-    here false e rest = rest
 
 pub slice_get-take : {X : Type 0} (xs : List X) (n i : ℕ) → i < n → slice_get (take n xs) i ≡ slice_get xs i
 slice_get-take [] zero i h = absurd (omega arith)
@@ -137,9 +118,6 @@ module _ (w : World) (d : ℕ) (day : ℤ) where
 
 -- ---- the parts
 
-below : (m n : ℕ) → nat_lt m n ≡ true → m < n
-below m n e = grind (arith, nat_tests)
-
 module _ (days : List ℤ) (assets : List AssetRow) (labels : List ColumnLabel) (texts : List (List ℕ)) (bars : List BarRow) (adjustments : List ColumnAdjustment) (d : ℕ) (day : ℤ) where
   abbrev Made : List LabelRow → List Bar → List Adjustment → World
   Made ls bs xs = record { days = take (suc d) days; assets = assets; labels = ls; texts = texts; bars = bs; adjustments = xs }
@@ -158,7 +136,7 @@ module _ (days : List ℤ) (assets : List AssetRow) (labels : List ColumnLabel) 
       labels_in = All-filter (λ r. int_le r.start day) (λ r. r.col < length assets) labels made.labels_in;
       bars_in = All-filter (λ b. nat_lt b.session d) (λ b. b.col < length assets) bars made.bars_in;
       sessions_in = λ k e l.
-          let before_d : (get_or (bars_before d bars) k e).session < d = below _ d (all_pass (λ (b : BarRow). nat_lt b.session d) bars k e l) in
+          let before_d : (get_or (bars_before d bars) k e).session < d = ltb-true _ d (filter_passes (λ (b : BarRow). nat_lt b.session d) bars k e l) in
           let long : length (take (suc d) days) ≡ min (suc d) (length days) = length-take (suc d) days in
           let there : d < length days = slice_get_within days d day at_d in
           omega (arith, before_d, long, there);

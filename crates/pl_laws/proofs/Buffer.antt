@@ -7,9 +7,7 @@ use Rattle.std.specs.Int.RustNames.{int_lt, int_le}
 use Rattle.pl_spec.specs.World.{World, IsWorld, Event, day_of, bar_cell, events_of}
 use Rattle.pl_spec.specs.declared.Column.{Column}
 use Rattle.pl_spec.specs.Window.{effect, changed, is_between, effects_in, after_all, seen_cell}
-
-is_lt : (x y : ℤ) → int_le x y ≡ false → y <ℤ x
-is_lt x y h = grind (arith, ints)
+use Rattle.pl_spec.proofs.Signed.{int_le-false}
 
 -- ---- the tests of one event, by whether it acts up to the day mid
 
@@ -65,7 +63,7 @@ split low mid high l h (e ∷ es) order =
         rw (early_whole low mid high l h e p, early_later low mid high l h e p)
         (pushed (is_between low mid e) e _ _ _ rest)
     here false p rest =
-        let q : mid <ℤ e.day = is_lt e.day mid p in
+        let q : mid <ℤ e.day = int_le-false e.day mid p in
         rw (late_early low mid high l h e p, late_whole low mid high l h e p)
         (pushed_behind (is_between mid high e) e _ _ _ rest
         (λ t. none_yet low mid es (λ k d in_list.

@@ -19,27 +19,13 @@ use Rattle.pl_laws.proofs.Starts.{start-same, start-within}
 use Rattle.pl_spec.specs.Term.{Term}
 use Rattle.pl_spec.specs.Term.Term.{absent, column, node}
 use Rattle.pl_spec.specs.Value.{Meaning, part_of, number_of, holds, now, window_of, passes, in_group, entry, counts_for, eligible, group_of, label_value, name_at, test_value, step, value}
-
--- ---- lists
-
--- what passes p passes q, so it doesn't matter whether q was tested first
-pub filter-filter : {X : Type 0} (p q : X → Bool) → ((x : X) → p x ≡ true → q x ≡ true) → (xs : List X) → filter p (filter q xs) ≡ filter p xs
-filter-filter p q h [] = refl
-filter-filter p q h (x ∷ xs) = here (p x) (q x) refl refl (filter-filter p q h xs)
-  where
-    here : (b c : Bool) → p x ≡ b → q x ≡ c → filter p (filter q xs) ≡ filter p xs → filter p (cond c (x ∷ filter q xs) (filter q xs)) ≡ cond b (x ∷ filter p xs) (filter p xs)
-    here true true e f rest = rw e (ap (λ l. x ∷ l) rest)
-    here true false e f rest = let t : q x ≡ true = h x e in cc
-    here false true e f rest = rw e rest
-    here false false e f rest = rest
+use Rattle.pl_spec.proofs.Lists.{filter-filter}
+use Rattle.pl_spec.proofs.Windows.{before-less}
 
 -- ---- tests
 
 event_known : (low high day : ℤ) → high ≤ℤ day → (e : Event) → is_between low high e ≡ true → is_known day e ≡ true
 event_known low high day h e p = grind (arith, ints)
-
-before_above : (s : ℤ) (n : ℕ) → before s (suc n) <ℤ s
-before_above s n = omega (arith, ints)
 
 before_below : (s : ℤ) (n : ℕ) (d : ℤ) → s ≤ℤ d → before s n ≤ℤ d
 before_below s n d h = omega (arith, ints)
@@ -221,7 +207,7 @@ module _ (w v : World) (d day : ℤ) (ok : IsWorld w) (ok' : IsWorld v) (agree :
 
   window_same : (t : Term) (f g : Meaning) (size : ℕ) → SameBy f g → (a : ℕ) (s : ℤ) → s ≤ℤ d → window_of w size (part_of t f) a s ≡ window_of v size (part_of t g) a s
   window_same absent f g size h a s l = refl
-  window_same (column c) f g size h a s l = ap (λ e. map e (downward size)) (fun_ext (λ n. seen_same a c (before s (suc n)) s (before_above s n) l))
+  window_same (column c) f g size h a s l = ap (λ e. map e (downward size)) (fun_ext (λ n. seen_same a c (before s (suc n)) s (before-less s n) l))
   window_same (node k n x y z m p) f g size h a s l = ap (λ e. map e (downward size)) (fun_ext (λ n. ap number_of (h a (before s n) (before_below s n d l))))
 
   passes_same : (t : Term) (f g : Meaning) → SameBy f g → (a : ℕ) (s : ℤ) → s ≤ℤ d → passes (part_of t f) a s ≡ passes (part_of t g) a s

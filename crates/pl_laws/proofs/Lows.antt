@@ -3,9 +3,10 @@ use Rattle.std.proofs.Common.{◌≡◌, ◌==◌, ℕ, zero, suc, ◌-◌, ◌<
 use Rattle.std.specs.List.{list_any}
 use Rattle.std.proofs.lemmas.Bool.{eqb-true, or_cases, true≢false}
 use Rattle.std.specs.Int.{int_min}
-use Rattle.std.proofs.lemmas.Int.{ints, by_lt_z, int_min_is}
+use Rattle.std.proofs.lemmas.Int.{ints, int_min_is}
 use Rattle.std.proofs.lemmas.List.Sums.{passes_at_first}
 use Rattle.std.proofs.lemmas.Option.{slice_get-get_or, slice_get_within}
+use Rattle.std.specs.Int.Signed.{≤ℤ_refl}
 use Rattle.pl_spec.specs.declared.Frequency.{Frequency}
 use Rattle.pl_spec.specs.Periods.{period, same_period, first_session, period_start}
 use Rattle.pl_spec.specs.Kind.{Kind}
@@ -19,11 +20,13 @@ use Rattle.pl_spec.specs.Term.Input.{BarColumn, TermInput}
 use Rattle.pl_spec.specs.declared.Column.{Column}
 use Rattle.pl_spec.specs.Lows.{Reads, Needs, least_reach}
 use Rattle.pl_laws.specs.LowLaws.{bar_from, own_from, LowsCover, ReachCovers, StartsAreFirst, ReachesRise}
-use Rattle.pl_laws.proofs.Starts.{eq_self, first_within, start-within}
-use Rattle.pl_laws.proofs.Rises.{is_eq, eq_is, start-rises}
-use Rattle.pl_laws.proofs.Reaches.{AllFrom, below_least, at_downward, before-zero}
+use Rattle.pl_laws.proofs.Starts.{first_within, start-within}
+use Rattle.pl_laws.proofs.Rises.{start-rises}
+use Rattle.pl_laws.proofs.Reaches.{AllFrom, below_least, at_downward}
 use Rattle.pl_spec.proofs.Trees.{term_at-node}
 use Rattle.pl_spec.proofs.Unfolds.{past}
+use Rattle.pl_spec.proofs.Signed.{int_eq-true, eq-int_eq, int_eq-itself, le-both, min-rises, min-either}
+use Rattle.pl_spec.proofs.Windows.{before-zero}
 
 -- ---- the first session of a period
 
@@ -35,16 +38,16 @@ pub starts-first : StartsAreFirst
 starts-first = record {
   within = start-within;
   start = λ f days d day e.
-      let here : first_session f days day ≤ d = first_within (same_period f day) days d day e (eq_self (period f day)) in
+      let here : first_session f days day ≤ d = first_within (same_period f day) days d day e (int_eq-itself (period f day)) in
       let there = slice_get_within days d day e in (
         first_session f days day,
         get_or_first f days day,
         start-is f days d day e,
         slice_get-get_or days (first_session f days day) (pos 0) (omega (arith, here, there)),
-        sym (is_eq _ _ (passes_at_first (same_period f day) days (pos 0) (omega (arith, here, there)))),
+        sym (int_eq-true _ _ (passes_at_first (same_period f day) days (pos 0) (omega (arith, here, there)))),
       );
   least = λ f days d i day x e at_i same.
-      let l : first_session f days day ≤ i = first_within (same_period f day) days i x at_i (eq_is _ _ (sym same)) in
+      let l : first_session f days day ≤ i = first_within (same_period f day) days i x at_i (eq-int_eq _ _ (sym same)) in
       rw (start-is f days d day e) (omega (arith, ints));
   rises = start-rises;
 }
@@ -60,9 +63,6 @@ AreEarlier [] [] = Unit {0}
 AreEarlier [] (y ∷ ys) = ⊥
 AreEarlier (x ∷ xs) [] = ⊥
 AreEarlier (x ∷ xs) (y ∷ ys) = (x ≤ℤ y) × AreEarlier xs ys
-
-min-rises : (a b x y : ℤ) → a ≤ℤ b → x ≤ℤ y → int_min a x ≤ℤ int_min b y
-min-rises a b x y h l = grind (arith, ints)
 
 least-rises : (xs ys : List ℤ) (d e : ℤ) → AreEarlier xs ys → d ≤ℤ e → least_of xs d ≤ℤ least_of ys e
 unfolding AreEarlier
@@ -119,10 +119,7 @@ reach-within : (days : List ℤ) (t : Term) (d : ℤ) → reach days t d ≤ℤ 
 unfolding reach
 reach-within days absent d = omega (arith, ints)
 reach-within days (column c) d = omega (arith, ints)
-reach-within days (node k size x y z m g) d = (below_least (reach days (node k size x y z m g) d) d (reaches_of days k size x y z m g d) (itself (reach days (node k size x y z m g) d))).0
-  where
-    itself : (z : ℤ) → z ≤ℤ z
-    itself z = omega (arith, ints)
+reach-within days (node k size x y z m g) d = (below_least (reach days (node k size x y z m g) d) d (reaches_of days k size x y z m g d) (≤ℤ_refl (reach days (node k size x y z m g) d))).0
 
 pub reaches-rise : ReachesRise
 reaches-rise = record { within = reach-within; rises = reach-rises }
@@ -144,9 +141,6 @@ lows-cover days rise g outputs from u t n low_u low_t s r is_u is_t at_u h reads
     let l : first.0 ≤ℤ r = first.2 in omega (arith, ints, low, l)
 
 -- ---- the least reach
-
-itself : (z : ℤ) → z ≤ℤ z
-itself z = omega (arith, ints)
 
 among : (low : ℤ) (f : ℕ → ℤ) (ks : List ℕ) → AllFrom low (map f ks) → (k : ℕ) → contains ks k ≡ true → low ≤ℤ f k
 among low f [] all k e = absurd (true≢false (sym e))
@@ -214,7 +208,7 @@ module _ (days : List ℤ) (g : Graph) (ok : IsGraph g) (wide : (k : ℕ) (n : N
     covered : (t : ℕ) (s : ℤ) → Needs days g outputs from t s → least_reach days g outputs from ≤ℤ reach days (term_at g t) s
     covered t s (Needs.output e) =
         among (least_reach days g outputs from) (λ k. reach days (term_at g k) from) outputs
-        (below_least (least_reach days g outputs from) from (map (λ k. reach days (term_at g k) from) outputs) (itself (least_reach days g outputs from))).1 t e
+        (below_least (least_reach days g outputs from) from (map (λ k. reach days (term_at g k) from) outputs) (≤ℤ_refl (least_reach days g outputs from))).1 t e
     covered t r (Needs.read u n s needs at reads) = read-later u t n s r (least_reach days g outputs from) at reads (covered u s needs)
 
     pub reach-covers : ReachCovers days g outputs from
@@ -239,15 +233,12 @@ Among : ℤ → List ℤ → Type 0
 Among r [] = ⊥
 Among r (x ∷ xs) = (r ≡ x) ⊎ Among r xs
 
-min_one : (x y : ℤ) → (int_min x y ≡ x) ⊎ (int_min x y ≡ y)
-min_one x y = by_lt_z x y (λ l. inl (omega (arith, ints, int_min_is x y))) (λ l. inr (omega (arith, ints, int_min_is x y)))
-
 least_among : (xs : List ℤ) (d : ℤ) → (least_of xs d ≡ d) ⊎ Among (least_of xs d) xs
 unfolding Among
 least_among [] d = inl refl
 least_among (x ∷ xs) d = elim (least_among xs (int_min d x)) [
   | inr there ↦ inr (inr there)
-  | inl here ↦ elim (min_one d x) [
+  | inl here ↦ elim (min-either d x) [
     | inl e ↦ inl (here ∙ e)
     | inr e ↦ inr (inl (here ∙ e))
   ]
@@ -259,20 +250,17 @@ among_later f up s m zero r h all = absurd all
 among_later f up s m (suc n) r h (inl here) = let l : f (before s m) ≤ℤ f (before s n) = up (before s m) (before s n) (omega (arith, ints)) in rw here l
 among_later f up s m (suc n) r h (inr there) = among_later f up s m n r (omega arith) there
 
-equal : (a b : ℤ) → a ≤ℤ b → b ≤ℤ a → a ≡ b
-equal a b h l = omega (arith, ints)
-
 -- a window's least reach is that of its first session
 window_least : (f : ℤ → ℤ) → ((d e : ℤ) → d ≤ℤ e → f d ≤ℤ f e) → (s : ℤ) (size : ℕ) → Among (least_of (map (λ i. f (before s i)) (downward (suc size))) s) (map (λ i. f (before s i)) (downward (suc size)))
     → least_of (map (λ i. f (before s i)) (downward (suc size))) s ≡ f (before s size)
 window_least f up s size all =
-    equal _ _
-    (below_least (least_of (map (λ i. f (before s i)) (downward (suc size))) s) s (map (λ i. f (before s i)) (downward (suc size))) (itself (least_of (map (λ i. f (before s i)) (downward (suc size))) s))).1.0
+    le-both _ _
+    (below_least (least_of (map (λ i. f (before s i)) (downward (suc size))) s) s (map (λ i. f (before s i)) (downward (suc size))) (≤ℤ_refl (least_of (map (λ i. f (before s i)) (downward (suc size))) s))).1.0
     (among_later f up s size (suc size) (least_of (map (λ i. f (before s i)) (downward (suc size))) s) (omega arith) all)
 
 -- ---- what a node itself reads
 
-least_above : (low d : ℤ) (xs : List ℤ) → low ≤ℤ d → AllFrom low xs → low ≤ℤ least_of xs d
+pub least_above : (low d : ℤ) (xs : List ℤ) → low ≤ℤ d → AllFrom low xs → low ≤ℤ least_of xs d
 least_above low d [] h all = h
 least_above low d (x ∷ xs) h all = least_above low (int_min d x) xs (grind (arith, ints, int_min_is d x, h, all.0)) all.1
 
@@ -300,13 +288,13 @@ part_within (column c) f size s low h = omega (arith, ints)
 part_within (node k n x y z m g) f size s low h = (below_least low s (map (λ i. f (before s i)) (downward size)) h).0
 
 pub reads_at-within : (days : List ℤ) (k : Kind) (d : ℤ) → reads_at days k d ≤ℤ d
-reads_at-within days (Constant cell) d = itself d
-reads_at-within days (Label n) d = itself d
-reads_at-within days (StaticSids sids) d = itself d
-reads_at-within days (Window k) d = itself d
-reads_at-within days (Point k) d = itself d
-reads_at-within days (LabelTest k) d = itself d
-reads_at-within days (Cross k) d = itself d
+reads_at-within days (Constant cell) d = ≤ℤ_refl d
+reads_at-within days (Label n) d = ≤ℤ_refl d
+reads_at-within days (StaticSids sids) d = ≤ℤ_refl d
+reads_at-within days (Window k) d = ≤ℤ_refl d
+reads_at-within days (Point k) d = ≤ℤ_refl d
+reads_at-within days (LabelTest k) d = ≤ℤ_refl d
+reads_at-within days (Cross k) d = ≤ℤ_refl d
 reads_at-within days (Downsample f) d = start-within f days d
 
 module _ (days : List ℤ) (rise : AllPairs (λ a b. a <ℤ b) days) (g : Graph) (ok : IsGraph g) (wide : (k : ℕ) (n : Node) → slice_get g k ≡ Some n → 1 ≤ n.window) (outputs : List ℕ) (from : ℤ) where
@@ -346,19 +334,19 @@ module _ (days : List ℤ) (rise : AllPairs (λ a b. a <ℤ b) days) (g : Graph)
     by_start : reach_of t s ≤ℤ start
     by_start =
         part_within (input_tree (trees g) (slice_get n.inputs 0)) (reach days (input_tree (trees g) (slice_get n.inputs 0))) n.window start (reach_of t s)
-        (place days g ok wide t n s (reach_of t s) at (itself (reach_of t s)) 0 (omega arith))
+        (place days g ok wide t n s (reach_of t s) at (≤ℤ_refl (reach_of t s)) 0 (omega arith))
 
     own_above : reach_of t s ≤ℤ own_from days n s
     own_above =
         least_above (reach_of t s) start bars by_start
-        (bars_above (reach_of t s) start n.window n.inputs (λ i c e. rw e at (place days g ok wide t n s (reach_of t s) at (itself (reach_of t s)) i (before_three i (BarColumn c) e))))
+        (bars_above (reach_of t s) start n.window n.inputs (λ i c e. rw e at (place days g ok wide t n s (reach_of t s) at (≤ℤ_refl (reach_of t s)) i (before_three i (BarColumn c) e))))
 
     own_below : (own_from days n s ≤ℤ start) × AllFrom (own_from days n s) bars
-    own_below = below_least (own_from days n s) start bars (itself (own_from days n s))
+    own_below = below_least (own_from days n s) start bars (≤ℤ_refl (own_from days n s))
 
     module _ (needs : Needs days g outputs from t s) (lower : (u : ℕ) (q : ℤ) → u < t → Needs days g outputs from u q → Met (reach_of u q)) where
       of_own : own_from days n s ≤ℤ reach_of t s → Met (reach_of t s)
-      of_own h = (t, n, s, needs, at, equal (own_from days n s) (reach_of t s) h own_above)
+      of_own h = (t, n, s, needs, at, le-both (own_from days n s) (reach_of t s) h own_above)
 
       of_start : start ≤ℤ reach_of t s → Met (reach_of t s)
       of_start h = of_own (let l : own_from days n s ≤ℤ start = own_below.0 in omega (arith, ints, h, l))

@@ -8,12 +8,13 @@ use Rattle.std.proofs.lemmas.Bool.Decides.{nat_tests}
 use Rattle.std.proofs.lemmas.Int.{ints}
 use Rattle.std.proofs.lemmas.List.Sorted.{IsPermutation-refl, IsPermutation-cons, IsPermutation-map, IsPermutation-trans, IsPermutation-sym, IsPermutation-middle, sum_by-IsPermutation}
 use Rattle.std.proofs.lemmas.List.Sums.{count_by-le-length}
-use Rattle.std.proofs.lemmas.Option.{slice_get_within}
+use Rattle.std.proofs.lemmas.Option.{slice_get_within, get_or_from_slice_get}
+use Rattle.std.proofs.lemmas.Simd.{map-map}
 use Rattle.pl_spec.specs.declared.RankOrder.{RankOrder}
 use Rattle.pl_spec.specs.declared.RankOrder.TheVariants.{Ascending, Descending}
 use Rattle.pl_spec.specs.Cross.{Entry, values, precedes, preceding, earlier_same, ordinal}
 use Rattle.pl_laws.specs.ListLaws.{StandsBefore}
-use Rattle.pl_spec.proofs.Counts.{count-cons, count-within, count-fewer, map-agree, map-map}
+use Rattle.pl_spec.proofs.Counts.{count-cons, count-within, count-fewer, map-agree}
 use Rattle.pl_spec.proofs.Members.{In, in-contains}
 
 -- ---- numbers with a gap
@@ -172,11 +173,6 @@ same_value : (b c d : Bool) → c ≡ true → d ≡ true → (b || (c && d)) �
 same_value true c d e f = refl
 same_value false c d e f = rw (e, f) refl
 
-got : {A : Type 0} (xs : List A) (i : ℕ) (x : A) → slice_get xs i ≡ Some x → get_or xs i x ≡ x
-got [] i x at = refl
-got (y ∷ ys) zero x at = cc
-got (y ∷ ys) (suc i) x at = got ys i x at
-
 stands : (order : RankOrder) (e f : Entry) → StandsBefore order e f → comes_before order e f ≡ true
 unfolding comes_before
 stands order e f (inl t) = rw t refl
@@ -200,7 +196,7 @@ place-in_order order (f ∷ fs) up zero e at =
 place-in_order order (f ∷ fs) up (suc i) e at =
     let within : i < length fs = slice_get_within fs i e at in
     let first : StandsBefore order f (get_or fs i e) = up 0 (suc i) e (omega arith) (omega arith) in
-    let yes : comes_before order f e ≡ true = subst (λ (g : Entry). comes_before order f g ≡ true) (got fs i e at) (stands order f (get_or fs i e) first) in
+    let yes : comes_before order f e ≡ true = subst (λ (g : Entry). comes_before order f g ≡ true) (get_or_from_slice_get fs i e e at) (stands order f (get_or fs i e) first) in
     rw (count-cons (λ h. comes_before order h e) f fs, yes)
     (omega (arith, place-in_order order fs (λ i j d l m. up (suc i) (suc j) d (omega arith) (omega arith)) i e at))
 

@@ -4,11 +4,11 @@ use Rattle.std.specs.List.{list_any, list_all}
 use Rattle.std.specs.Int.RustNames.{int_le}
 use Rattle.std.specs.Ordering.{int_eq}
 use Rattle.std.proofs.Math.Path.{fun_ext}
-use Rattle.std.proofs.lemmas.Int.{ints}
 use Rattle.std.proofs.lemmas.Bool.{and_parts, eqb-true}
 use Rattle.std.proofs.lemmas.List.{get_or-map, length-map}
 use Rattle.std.proofs.lemmas.List.Kept.{AllPairs-filter}
 use Rattle.std.proofs.lemmas.List.Sorted.{IsPermutation-map, list_any-IsPermutation}
+use Rattle.std.proofs.lemmas.List.Elements.{filter_passes}
 use Rattle.pl_spec.specs.declared.Column.{Column}
 use Rattle.pl_spec.specs.Rounding.{MISSING}
 use Rattle.pl_spec.specs.World.{World, IsWorld, Bar, LabelRow, Event, Adjustment, events_of, day_of, lives_on, exists, cell_of, bar_cell, last_started, nonempty, is_label_of, label_at}
@@ -19,17 +19,12 @@ use Rattle.pl_spec.specs.Permuted.{EventsHaveOwnDays, events_on}
 use Rattle.pl_spec.proofs.ByDay.{by_day_is_one}
 use Rattle.pl_spec.proofs.Finds as finds
 use Rattle.pl_spec.proofs.Permuted.{filter-permuted, find-permuted, list_all-permuted, one-permuted}
+use Rattle.pl_spec.proofs.Signed.{int_eq-true, int_le-true, le-both}
+use Rattle.pl_spec.proofs.Lists.{filter-map}
 use Rattle.pl_laws.specs.PermutedLaws.{OrderChangesNothing}
 use Rattle.pl_laws.proofs.Alike.{day_of-days}
-use Rattle.pl_laws.proofs.AsOf.{all_pass, filter-map}
 
 -- ---- labels
-
-not_later : (x y : ℤ) → int_le x y ≡ true → x ≤ℤ y
-not_later x y e = grind (arith, ints)
-
-one_start : (x y : ℤ) → x ≤ℤ y → y ≤ℤ x → x ≡ y
-one_start x y h g = omega (arith, ints)
 
 abbrev is_last : List LabelRow → LabelRow → Bool
 is_last rows r = list_all (λ q. int_le q.start r.start) rows
@@ -56,9 +51,9 @@ module _ (w v : World) (once : LabelsOnce w) (moved : IsPermutation w.labels v.l
           let row_y = finds.filter-contains (is_label_of name a day) w.labels y in_y in
           let of_x = finds.label_of name a day x row_x.1 in
           let of_y = finds.label_of name a day y row_y.1 in
-          let below : y.start ≤ℤ x.start = not_later y.start x.start (finds.all-contains (λ q. int_le q.start x.start) (us day) last_x y in_y) in
-          let above : x.start ≤ℤ y.start = not_later x.start y.start (finds.all-contains (λ q. int_le q.start y.start) (us day) last_y x in_x) in
-          once x y row_x.0 row_y.0 (of_x.0 ∙ sym of_y.0) (of_x.1 ∙ sym of_y.1) (one_start x.start y.start above below)
+          let below : y.start ≤ℤ x.start = int_le-true y.start x.start (finds.all-contains (λ q. int_le q.start x.start) (us day) last_x y in_y) in
+          let above : x.start ≤ℤ y.start = int_le-true x.start y.start (finds.all-contains (λ q. int_le q.start y.start) (us day) last_y x in_x) in
+          once x y row_x.0 row_y.0 (of_x.0 ∙ sym of_y.0) (of_x.1 ∙ sym of_y.1) (le-both x.start y.start above below)
 
   label_same : w.days ≡ v.days → (s : ℤ) → label_at w name a s ≡ label_at v name a s
   label_same days s =
@@ -110,20 +105,17 @@ events_same w v ok ok' a same =
     ∙ sym (by_day_is_one (map as_adjustment fs) (map as_adjustment fs) (stand_by_day fs fs (ok'.events_in_order a) (λ day. refl))))
     ∙ event_again fs
 
-on_day : (x day : ℤ) → int_eq x day ≡ true → x ≡ day
-on_day x day e = grind (arith, ints)
-
 one_of_a_day : (day : ℤ) (es : List Event) → AllPairs (λ e f. e.day ≢ f.day) es → All (λ e. int_eq e.day day ≡ true) es → length es ≤ 1
 one_of_a_day day [] apart on = omega arith
 one_of_a_day day (e ∷ []) apart on = omega arith
 one_of_a_day day (e ∷ f ∷ es) apart on =
-    absurd (apart 0 1 e (omega arith) (omega arith) (on_day e.day day (on 0 e (omega arith)) ∙ sym (on_day f.day day (on 1 e (omega arith)))))
+    absurd (apart 0 1 e (omega arith) (omega arith) (int_eq-true e.day day (on 0 e (omega arith)) ∙ sym (int_eq-true f.day day (on 1 e (omega arith)))))
 
 own_days : (w v : World) → EventsHaveOwnDays w → IsPermutation w.adjustments v.adjustments → (a : ℕ) (day : ℤ) → events_on w a day ≡ events_on v a day
 own_days w v apart moved a day =
     let p : Event → Bool = λ e. int_eq e.day day in
     one-permuted (filter p (events_of w a)) (filter p (events_of v a))
-    (one_of_a_day day (filter p (events_of w a)) (AllPairs-filter (λ e f. e.day ≢ f.day) p (events_of w a) (apart a)) (all_pass p (events_of w a)))
+    (one_of_a_day day (filter p (events_of w a)) (AllPairs-filter (λ e f. e.day ≢ f.day) p (events_of w a) (apart a)) (filter_passes p (events_of w a)))
     (filter-permuted p (events_of w a) (events_of v a)
     (IsPermutation-map (λ (x : Adjustment). x.event) (filter (λ x. x.sid == a) w.adjustments) (filter (λ x. x.sid == a) v.adjustments)
     (filter-permuted (λ x. x.sid == a) w.adjustments v.adjustments moved)))

@@ -17,6 +17,7 @@ use Rattle.pl_spec.specs.Value.{Meaning, part_of, number_of, holds, now, window_
 use Rattle.pl_spec.specs.Graph.{least_of, part_reach, reads_at, reach}
 use Rattle.pl_spec.specs.Periods.{period_start}
 use Rattle.pl_spec.specs.Reaching.{HasWindows, SameBarsFrom}
+use Rattle.pl_spec.proofs.Windows.{map-downward, before-zero}
 
 -- ---- the least of sessions
 
@@ -43,16 +44,6 @@ at_downward low f (suc size) h n l = elim (cases_lt n size) [
   | inr last ↦ let same : size ≡ n = omega arith in rw same at h.0
 ]
 at_downward low f zero h n l = absurd (omega arith)
-
-map-downward : {X : Type 0} (p q : ℕ → X) (size : ℕ) → ((n : ℕ) → n < size → p n ≡ q n) → map p (downward size) ≡ map q (downward size)
-map-downward p q zero h = refl
-map-downward p q (suc size) h =
-    let front : p size ≡ q size = h size (omega arith) in
-    let rest : map p (downward size) ≡ map q (downward size) = map-downward p q size (λ n l. h n (omega arith)) in
-    rw (front, rest) refl
-
-pub before-zero : (d : ℤ) → before d 0 ≡ d
-before-zero d = omega (arith, ints)
 
 -- a part that is read on the session itself reaches no farther than its window
 reach_now : (days : List ℤ) (low : ℤ) (x : Term) (size : ℕ) (d : ℤ) → 1 ≤ size → low ≤ℤ part_reach x (reach days x) size d → low ≤ℤ reach days x d

@@ -1,6 +1,5 @@
 -- Later sessions are of later starts, and a term reaches no farther back for a later session.
 use Rattle.std.proofs.Common.{◌≡◌, ℕ, zero, suc, ◌<◌, ◌≤◌, true, false, ℤ, pos, negsuc, ◌<ℤ◌, ◌≤ℤ◌, List, [], ◌∷◌, length, get_or, AllPairs, Option, Some, None, option_map, unwrap_or, refl, sym, ◌∙◌, arith, inl, inr, slice_get}
-use Rattle.std.specs.Ordering.{int_eq}
 use Rattle.std.proofs.lemmas.Bool.{cases_lt}
 use Rattle.std.proofs.lemmas.Int.{ints}
 use Rattle.std.proofs.lemmas.List.Sums.{fails_before_first, passes_at_first}
@@ -8,13 +7,8 @@ use Rattle.std.proofs.lemmas.Option.{get_or_from_slice_get, slice_get_within}
 use Rattle.pl_spec.specs.declared.Frequency.{Frequency}
 use Rattle.pl_spec.specs.Periods.{period, same_period, first_session, period_start}
 use Rattle.pl_spec.proofs.PeriodsRise.{period-rises}
-use Rattle.pl_laws.proofs.Starts.{eq_self, first_within, start-within}
-
-pub is_eq : (x y : ℤ) → int_eq x y ≡ true → x ≡ y
-is_eq x y h = grind (arith, ints)
-
-pub eq_is : (x y : ℤ) → x ≡ y → int_eq x y ≡ true
-eq_is x y h = grind (arith, ints)
+use Rattle.pl_spec.proofs.Signed.{int_eq-true, eq-int_eq, int_eq-itself}
+use Rattle.pl_laws.proofs.Starts.{first_within, start-within}
 
 -- after no session there is none
 gone : (d e : ℕ) (days : List ℤ) (y : ℤ) → d ≤ e → slice_get days d ≡ None → slice_get days e ≡ Some y → ⊥
@@ -41,20 +35,20 @@ module _ (f : Frequency) (days : List ℤ) (rise : AllPairs (λ a b. a <ℤ b) d
     | inl less ↦
         let in_d : d < length days = slice_get_within days d x at_d in
         let in_e : e < length days = slice_get_within days e y at_e in
-        let i_d : first_session f days x ≤ d = first_within (same_period f x) days d x at_d (eq_self (period f x)) in
+        let i_d : first_session f days x ≤ d = first_within (same_period f x) days d x at_d (int_eq-itself (period f x)) in
         let is_x : get_or days d (pos 0) ≡ x = get_or_from_slice_get days d x (pos 0) at_d in
         let is_y : get_or days e (pos 0) ≡ y = get_or_from_slice_get days e y (pos 0) at_e in
         let j : ℕ = first_session f days y in
         let z : ℤ = get_or days j (pos 0) in
         let inside : first_session f days y < length days = omega arith in
-        let of_y : period f y ≡ period f z = is_eq _ _ (passes_at_first (same_period f y) days (pos 0) inside) in
+        let of_y : period f y ≡ period f z = int_eq-true _ _ (passes_at_first (same_period f y) days (pos 0) inside) in
         let z_x : z ≤ℤ x = before_x j less i_d in_d is_x in
         let x_y : x ≤ℤ y = before_y in_e is_x is_y in
         let p : period f z ≤ℤ period f x = period-rises f z x z_x in
         let q : period f x ≤ℤ period f y = period-rises f x y x_y in
         let r : period f y ≤ℤ period f z = at_most (period f y) (period f z) of_y in
         let equal : period f x ≡ period f z = meets (period f x) (period f y) (period f z) p q r in
-        let yes : same_period f x z ≡ true = eq_is _ _ equal in
+        let yes : same_period f x z ≡ true = eq-int_eq _ _ equal in
         let no : same_period f x z ≡ false = fails_before_first (same_period f x) days j (pos 0) less in
         let bad : true ≡ false = sym yes ∙ no in cc
   ]
@@ -88,4 +82,4 @@ module _ (f : Frequency) (days : List ℤ) (rise : AllPairs (λ a b. a <ℤ b) d
       here None (Some y) at_d at_e w = absurd (gone d e days y (omega (arith, ints)) at_d at_e)
       here None None at_d at_e w = h
       here (Some x) None at_d at_e w =
-          let l : first_session f days x ≤ d = first_within (same_period f x) days d x at_d (eq_self (period f x)) in omega (arith, ints)
+          let l : first_session f days x ≤ d = first_within (same_period f x) days d x at_d (int_eq-itself (period f x)) in omega (arith, ints)

@@ -2,13 +2,10 @@
 -- change it.
 use Rattle.std.proofs.Common.{◌≡◌, ℕ, zero, suc, ◌+◌, ◌≤◌, Bool, true, false, cond, not, ℤ, pos, negsuc, ◌≤ℤ◌, List, [], ◌∷◌, Option, Some, None, option_map, unwrap_or, refl, sym, ◌∙◌, ap, arith, slice_get}
 use Rattle.std.specs.List.{position_or_len}
-use Rattle.std.specs.Ordering.{int_eq}
 use Rattle.std.proofs.lemmas.Int.{ints}
 use Rattle.pl_spec.specs.declared.Frequency.{Frequency}
 use Rattle.pl_spec.specs.Periods.{period, same_period, first_session, period_start}
-
-pub eq_self : (x : ℤ) → int_eq x x ≡ true
-eq_self x = grind (arith, ints)
+use Rattle.pl_spec.proofs.Signed.{int_eq-itself}
 
 -- what passes at place d has its first place no later
 pub first_within : (p : ℤ → Bool) (xs : List ℤ) (d : ℕ) (x : ℤ) → slice_get xs d ≡ Some x → p x ≡ true → position_or_len p xs ≤ d
@@ -45,7 +42,7 @@ start-within f days (pos d) = here (slice_get days d) refl
   where
     here : (o : Option ℤ) → slice_get days d ≡ o → unwrap_or (option_map (λ day. pos (first_session f days day)) o) (pos d) ≤ℤ pos d
     here None e = omega (arith, ints)
-    here (Some day) e = let within : first_session f days day ≤ d = first_within (same_period f day) days d day e (eq_self (period f day)) in omega (arith, ints)
+    here (Some day) e = let within : first_session f days day ≤ d = first_within (same_period f day) days d day e (int_eq-itself (period f day)) in omega (arith, ints)
 
 pub start-same : (f : Frequency) (days other : List ℤ) (d : ℤ) → ((i : ℕ) → pos i ≤ℤ d → slice_get days i ≡ slice_get other i)
     → period_start f days d ≡ period_start f other d
@@ -56,4 +53,4 @@ start-same f days other (pos d) same = here (slice_get days d) refl ∙ ap (λ o
     here : (o : Option ℤ) → slice_get days d ≡ o
         → unwrap_or (option_map (λ day. pos (first_session f days day)) o) (pos d) ≡ unwrap_or (option_map (λ day. pos (first_session f other day)) o) (pos d)
     here None e = refl
-    here (Some day) e = ap pos (first_same (same_period f day) days other d day (λ i l. same i (omega (arith, ints))) e (eq_self (period f day)))
+    here (Some day) e = ap pos (first_same (same_period f day) days other d day (λ i l. same i (omega (arith, ints))) e (int_eq-itself (period f day)))

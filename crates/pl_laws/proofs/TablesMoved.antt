@@ -1,11 +1,9 @@
 -- Rows of adjustment tables in another order are the same adjustments of each asset.
-use Rattle.std.proofs.Common.{◌≡◌, ◌≢◌, ℕ, ◌<◌, ◌≤◌, ◌==◌, Bool, true, ℤ, ◌≤ℤ◌, List, [], ◌∷◌, ◌++◌, length, map, filter, All, AllPairs, IsPermutation, refl, sym, ◌∙◌, ap, arith}
-use Rattle.std.proofs.lemmas.Int.{ints}
+use Rattle.std.proofs.Common.{◌≡◌, ◌≢◌, ℕ, ◌≤◌, ◌==◌, Bool, true, ℤ, ◌≤ℤ◌, List, [], ◌∷◌, ◌++◌, length, filter, All, AllPairs, IsPermutation, refl, sym, ◌∙◌, ap, arith}
 use Rattle.std.proofs.lemmas.Bool.{eqb-true}
-use Rattle.std.proofs.lemmas.List.Elements.{All-filter, filter-append}
+use Rattle.std.proofs.lemmas.List.Elements.{All-filter, filter-append, filter_passes}
 use Rattle.std.proofs.lemmas.List.Kept.{AllPairs-filter}
 use Rattle.std.proofs.lemmas.List.Sorted.{IsPermutation-map}
-use Rattle.std.specs.Ordering.{int_eq}
 use Rattle.pl_spec.specs.declared.AdjustmentKind.{AdjustmentKind}
 use Rattle.pl_spec.specs.declared.AdjustmentKind.TheVariants.{Split, Merger, Dividend}
 use Rattle.pl_spec.specs.declared.AssetRow.{AssetRow}
@@ -14,11 +12,9 @@ use Rattle.pl_spec.specs.World.{Adjustment}
 use Rattle.pl_spec.specs.Order.{IsByDay, acts_at, adjustment_in, by_day, is_of, of_table}
 use Rattle.pl_spec.proofs.ByDay.{by_day-is_by_day, by_day_is_one}
 use Rattle.pl_spec.proofs.Permuted.{filter-permuted, one-permuted}
+use Rattle.pl_spec.proofs.Signed.{int_eq-true}
 use Rattle.pl_laws.specs.PermutedLaws.{RowsHaveOwnDays, TableRowsInAnyOrder}
-use Rattle.pl_laws.proofs.AsOf.{all_pass, filter-swap}
-
-on_day : (x day : ℤ) → int_eq x day ≡ true → x ≡ day
-on_day x day e = grind (arith, ints)
+use Rattle.pl_laws.proofs.AsOf.{filter-swap}
 
 module _ (a : ℕ) where
   abbrev own : Adjustment → Bool
@@ -36,7 +32,7 @@ module _ (a : ℕ) where
   at_most_one day (x ∷ []) apart ours on = omega arith
   at_most_one day (x ∷ y ∷ xs) apart ours on =
       let same_sid : x.sid ≡ y.sid = eqb-true x.sid a (ours 0 x (omega arith)) ∙ sym (eqb-true y.sid a (ours 1 x (omega arith))) in
-      let same_day : x.event.day ≡ y.event.day = on_day x.event.day day (on 0 x (omega arith)) ∙ sym (on_day y.event.day day (on 1 x (omega arith))) in
+      let same_day : x.event.day ≡ y.event.day = int_eq-true x.event.day day (on 0 x (omega arith)) ∙ sym (int_eq-true y.event.day day (on 1 x (omega arith))) in
       absurd (apart 0 1 x (omega arith) (omega arith) same_sid same_day)
 
   table_same : (assets : List AssetRow) (kind : AdjustmentKind) (rows others : List RawAdjust) → RowsHaveOwnDays assets kind rows → IsPermutation rows others
@@ -47,7 +43,7 @@ module _ (a : ℕ) where
       let still : IsPermutation xs ys = IsPermutation-map (adjustment_in kind) (filter (is_of assets) rows) (filter (is_of assets) others) (filter-permuted (is_of assets) rows others moved) in
       one-permuted (acting day xs) (acting day ys)
       (at_most_one day (acting day xs) (AllPairs-filter Apart (acts_at day) (filter own xs) (AllPairs-filter Apart own xs apart))
-      (All-filter (acts_at day) (λ x. own x ≡ true) (filter own xs) (all_pass own xs)) (all_pass (acts_at day) (filter own xs)))
+      (All-filter (acts_at day) (λ x. own x ≡ true) (filter own xs) (filter_passes own xs)) (filter_passes (acts_at day) (filter own xs)))
       (filter-permuted (acts_at day) (filter own xs) (filter own ys) (filter-permuted own xs ys still))
 
   acting-append : (day : ℤ) (xs ys : List Adjustment) → acting day (xs ++ ys) ≡ acting day xs ++ acting day ys

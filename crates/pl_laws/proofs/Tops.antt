@@ -1,14 +1,15 @@
 -- How many entries stand among the first.
-use Rattle.std.proofs.Common.{◌≡◌, ◌≢◌, ℕ, zero, suc, ◌+◌, ◌-◌, min, Bool, true, false, cond, nat_le, List, length, map, refl, sym, ◌∙◌, arith}
+use Rattle.std.proofs.Common.{◌≡◌, ◌≢◌, ℕ, zero, suc, ◌+◌, ◌-◌, min, cond, nat_le, List, length, map, sym, ◌∙◌, arith}
 use Rattle.std.specs.List.{AllPairs, count_by, range_with_len}
 use Rattle.std.proofs.lemmas.Bool.Decides.{nat_tests}
 use Rattle.std.proofs.lemmas.List.Sorted.{sum_by-IsPermutation}
 use Rattle.pl_spec.specs.declared.RankOrder.{RankOrder}
 use Rattle.pl_spec.specs.declared.RankOrder.TheVariants.{Ascending, Descending}
-use Rattle.pl_spec.specs.Formula.{truth, is_true}
+use Rattle.pl_spec.specs.Formula.{is_true}
 use Rattle.pl_spec.specs.Kind.CrossKind.{Top, Bottom}
 use Rattle.pl_spec.specs.Cross.{Entry, ordinal, cross}
 use Rattle.pl_spec.proofs.Counts.{count-cons, count-agree, count-map}
+use Rattle.pl_spec.proofs.Cells.{is_true-truth}
 use Rattle.pl_laws.proofs.Ordinals.{ordinals-numbers}
 
 -- how many of the m numbers from a on are at most n
@@ -20,10 +21,6 @@ upto n a (suc m) =
   where
     one_more : (n a m c : ℕ) → c ≡ min (n + 1 - (a + 1)) m → cond (nat_le a n) 1 0 + c ≡ min (n + 1 - a) (suc m)
     one_more n a m c e = grind (arith, nat_tests)
-
-is_true-truth : (b : Bool) → is_true (truth b) ≡ b
-is_true-truth true = refl
-is_true-truth false = refl
 
 among_first : (order : RankOrder) (n : ℕ) (list : List Entry) → AllPairs (λ e f. e.0 ≢ f.0) list → count_by (λ (e : Entry). nat_le (ordinal order list e.0 e.1) n) list ≡ min n (length list)
 among_first order n list h =

@@ -1,6 +1,5 @@
 -- Records of assets in another order are read as the same assets.
-use Rattle.std.proofs.Common.{◌≡◌, ℕ, ◌<◌, ◌==◌, ◌↔◌, nat_le, Bool, true, false, List, ◌∷◌, length, IsPermutation, Some, Ok, refl, arith}
-use Rattle.std.specs.List.{list_any}
+use Rattle.std.proofs.Common.{◌≡◌, ℕ, ◌<◌, ◌==◌, ◌↔◌, nat_le, Bool, false, List, ◌∷◌, length, IsPermutation, Some, Ok, refl, arith}
 use Rattle.std.specs.Int.RustNames.{int_lt}
 use Rattle.std.proofs.lemmas.Bool.Decides.{nat_tests}
 use Rattle.pl_spec.specs.Limits.{most_assets}

@@ -1,3 +1,4 @@
+pub mod Among
 pub mod Filters
 pub mod Columns
 pub mod AssetsRead

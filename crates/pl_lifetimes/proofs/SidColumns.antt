@@ -1,31 +1,19 @@
 -- The column of the asset that has a sid.
-use Rattle.std.proofs.Common.{◌≡◌, ◌↔◌, ℕ, ◌<◌, ◌==◌, true, false, pos, List, length, get_or, Option, Some, None, option_map, position, refl, sym, ◌∙◌, ap, arith, inl, inr}
+use Rattle.std.proofs.Common.{◌≡◌, ◌↔◌, ℕ, ◌<◌, ◌==◌, false, List, length, get_or, Option, Some, None, option_map, position, refl, sym, ◌∙◌, ap, arith, inl, inr, eq-eqb, eqb-true}
 use Rattle.std.specs.List.{slice_get}
 use Rattle.std.proofs.lemmas.Bool.{cases_lt, true≢false}
-use Rattle.std.proofs.lemmas.Bool.Decides.{nat_tests}
 use Rattle.std.proofs.lemmas.List.Quantifiers.{position-Some}
-use Rattle.std.proofs.lemmas.Option.{slice_get-get_or, slice_get_within}
+use Rattle.std.proofs.lemmas.Option.{slice_get-get_or, slice_get_within, get_or_from_slice_get}
 use Rattle.pl_spec.specs.declared.AssetRow.{AssetRow}
 use Rattle.pl_spec.proofs.Places.{nowhere}
+use Rattle.pl_spec.proofs.Columns.{no_asset}
 use Rattle.pl_lifetimes.specs.Assets.{sid_of, AreAssets}
 use Rattle.pl_lifetimes.specs.Assets.{HasSid}
 
-blank : AssetRow
-blank = record { sid = 0; start = pos 0; end = pos 0 }
-
-there : {A : Type 0} (xs : List A) (k : ℕ) (x : A) → slice_get xs k ≡ Some x → get_or xs k x ≡ x
-there xs k x e = let same : Some (get_or xs k x) ≡ Some x = sym (slice_get-get_or xs k x (slice_get_within xs k x e)) ∙ e in cc
-
-same_number : (a b : ℕ) → (a == b) ≡ true → a ≡ b
-same_number a b t = grind (arith, nat_tests)
-
-number_same : (a b : ℕ) → a ≡ b → (a == b) ≡ true
-number_same a b e = grind (arith, nat_tests)
-
 col_found : (assets : List AssetRow) (sid col : ℕ) → position (λ a. sid_of a == sid) assets ≡ Some col → HasSid assets col sid
 col_found assets sid col e =
-    let it = position-Some (λ a. sid_of a == sid) assets col blank e in
-    ap (option_map sid_of) (slice_get-get_or assets col blank it.0) ∙ ap Some (same_number (sid_of (get_or assets col blank)) sid it.1)
+    let it = position-Some (λ a. sid_of a == sid) assets col no_asset e in
+    ap (option_map sid_of) (slice_get-get_or assets col no_asset it.0) ∙ ap Some (eqb-true (sid_of (get_or assets col no_asset)) sid it.1)
 
 some_sid : (a : AssetRow) (sid : ℕ) → option_map sid_of (Some a) ≡ Some sid → sid_of a ≡ sid
 some_sid a sid e = let u : Some (sid_of a) ≡ Some sid = e in cc
@@ -41,8 +29,8 @@ asset_of assets col sid h = here (slice_get assets col) refl h
 pub no_col_found : (assets : List AssetRow) (sid : ℕ) → position (λ a. sid_of a == sid) assets ≡ None → (col : ℕ) → HasSid assets col sid → ⊥
 no_col_found assets sid e col h =
     let it = asset_of assets col sid h in
-    let test : (sid_of it.0 == sid) ≡ false = ap (λ a. sid_of a == sid) (sym (there assets col it.0 it.1)) ∙ nowhere (λ a. sid_of a == sid) assets e col it.0 (slice_get_within assets col it.0 it.1) in
-    true≢false (sym (number_same (sid_of it.0) sid it.2) ∙ test)
+    let test : (sid_of it.0 == sid) ≡ false = ap (λ a. sid_of a == sid) (sym (get_or_from_slice_get assets col it.0 it.0 it.1)) ∙ nowhere (λ a. sid_of a == sid) assets e col it.0 (slice_get_within assets col it.0 it.1) in
+    true≢false (sym (eq-eqb (sid_of it.0) sid it.2) ∙ test)
 
 one_col : (assets : List AssetRow) → AreAssets assets → (c d : ℕ) (sid : ℕ) → HasSid assets c sid → HasSid assets d sid → c ≡ d
 one_col assets up c d sid h l =
@@ -60,7 +48,7 @@ one_col assets up c d sid h l =
     rising i j a b h p q e =
         let within : j < length assets = slice_get_within assets j b q in
         let lt : (get_or assets i a).sid < (get_or assets j a).sid = up.ascend i j a h within in
-        let left : (get_or assets i a).sid ≡ a.sid = ap (λ (x : AssetRow). x.sid) (there assets i a p) in
+        let left : (get_or assets i a).sid ≡ a.sid = ap (λ (x : AssetRow). x.sid) (get_or_from_slice_get assets i a a p) in
         let right : get_or assets j a ≡ b = (let same : Some (get_or assets j a) ≡ Some b = sym (slice_get-get_or assets j a within) ∙ q in cc) in
         let right' : (get_or assets j a).sid ≡ b.sid = ap (λ (x : AssetRow). x.sid) right in omega arith
 

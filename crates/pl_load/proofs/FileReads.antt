@@ -83,7 +83,7 @@ long-is-one : (tells : Option Files) (name : List ℕ) (cap : ℕ) → cap < len
 long-is-one None name cap l h = l
 long-is-one (Some files) name cap l h = h files refl
 
-alone : (o : Option Fault) (f : Fault) → o ≡ Some f → option_or o None ≡ Some f
+pub alone : (o : Option Fault) (f : Fault) → o ≡ Some f → option_or o None ≡ Some f
 alone o f e = rw e refl
 
 too-long : (f : InputFile) (o : Option (List ℕ)) → IsSomeAnd o (λ bytes. cap_of f < length bytes) → file_fault f no_rule o ≡ Some (Passed (limit_of f))
@@ -112,7 +112,7 @@ is-too-long {c = c} f name Means h begun kept =
 
 -- ---- what was read, and its rule
 
-none-alone : (o : Option Fault) → o ≡ None → option_or o None ≡ None
+pub none-alone : (o : Option Fault) → o ≡ None → option_or o None ≡ None
 none-alone o e = rw e refl
 
 ruled : (f : InputFile) (rule : List ℕ → Option Fault) (file : Option (List ℕ)) (bytes : List ℕ) → file ≡ Some bytes → length bytes ≤ cap_of f → file_fault f rule file ≡ rule bytes

@@ -1,5 +1,5 @@
 -- What is known of a world by a session.
-use Rattle.std.proofs.Common.{◌≡◌, ℕ, suc, ◌<◌, ◌≤◌, ℤ, pos, List, length, take, Option, Some, None, IfSome, option_map, unwrap_or, slice_get, refl, sym, ◌∙◌, ap, arith}
+use Rattle.std.proofs.Common.{◌≡◌, ℕ, suc, ◌<◌, ◌≤◌, ℤ, pos, List, length, take, Option, Some, None, IfSome, option_map, unwrap_or, refl, sym, ◌∙◌, ap, arith}
 use Rattle.std.proofs.lemmas.Int.{ints}
 use Rattle.std.proofs.lemmas.List.{length-take}
 use Rattle.pl_spec.specs.AsOf.{as_of}
@@ -9,14 +9,14 @@ use Rattle.pl_laws.proofs.AsOf.{slice_get-take}
 use Rattle.pl_laws.proofs.Calendars.{SameDays}
 use Rattle.pl_world.specs.Known.{ShowsSame}
 use Rattle.pl_world.specs.Known as model
-use Rattle.pl_world.specs.Worlds.{owned_world, world_of}
+use Rattle.pl_world.specs.Worlds.{owned_world}
 use Rattle.pl_world.specs.declared.owned.OwnedWorld.{OwnedWorld}
 use Rattle.pl_world.specs.declared.world.World as lent
 use Rattle.pl_planner.specs.Plans.{Planned, IsPlanOf}
 use Rattle.pl_planner.proofs.Calendars.{plan-same}
 use Rattle.pl_words.specs.Request.{Dated, RunRequest, ExplainRequest, VerifyRequest, Run, Explain, Verify}
 use Rattle.pl_judge.specs.Range.{IsDateOf, index_asked, index_of}
-use Rattle.pl_load.specs.Loads.{AsksWorld, IsKnown, IsKnownBy}
+use Rattle.pl_load.specs.Loads.{AsksWorld, IsKnown}
 
 -- the world as of a date, of contents that are those of the parts
 pub world-known : (date : Option Dated) (days : List ℤ) (held : World) (w v : OwnedWorld) (session : Option ℕ) → days ≡ w.sessions → held ≡ owned_world w
@@ -42,16 +42,6 @@ plan-known w v (Some d) p plan last known is =
     let within : plan.to < length (take (suc d) w.sessions) = (let inside = is.within in omega (arith, length-take (suc d) w.sessions)) in
     let same : SameDays w.sessions (take (suc d) w.sessions) (pos d) = λ i l. sym (slice_get-take w.sessions (suc d) i (omega (arith, ints))) in
     rw days (plan-same w.sessions (take (suc d) w.sessions) d p plan same last within is)
-
--- what is known of lent parts, of those that own them
-pub of-lent : (w : OwnedWorld) (l : lent.World) (d : ℕ) (v : OwnedWorld) → l.sessions.now ≡ w.sessions → world_of l ≡ owned_world w → model.IsKnown l d v → model.ShowsSameUpTo l d v → IsKnownBy w d v
-of-lent w l d v days same known shows =
-    record {
-      day = known.day;
-      is_day = ap (λ xs. slice_get xs d) (sym days) ∙ known.is_day;
-      world = known.world ∙ ap (λ x. as_of x d known.day) same;
-      same = λ p from to h. rw (← same) (shows p from to h);
-    }
 
 -- ---- the names of a world are those of the command
 

@@ -1,6 +1,6 @@
 -- The tables of adjustments that were loaded.
 use Rattle.std.proofs.Common.{◌≡◌, ◌⊎◌, inl, inr, ℕ, ◌≤◌, Bool, true, List, [], ◌∷◌, Option, Some, None, IfSome, Ok, Err, refl, sym, ap, ◌∙◌, arith}
-use Rattle.std.specs.Option.{ForSome, option_or}
+use Rattle.std.specs.Option.{ForSome}
 use Rattle.pl_spec.specs.declared.AssetRow.{AssetRow}
 use Rattle.pl_spec.specs.declared.RawAdjust.{RawAdjust}
 use Rattle.pl_spec.specs.Parts.{ColumnAdjustment}
@@ -25,6 +25,7 @@ use Rattle.pl_judge.proofs.StepsRead.{quiet, read-all}
 use Rattle.pl_load.specs.Reads.{AreLoaded, IsUnloaded}
 use Rattle.pl_load.specs.Views.{KeeperView, Change, change, KeeperLeft, KeeperAlone}
 use Rattle.pl_load.proofs.Calls.{keeper-same, alone-same, plus-none}
+use Rattle.pl_load.proofs.FileReads.{alone, none-alone}
 
 -- ---- rows of which nothing is known but what the keeper tells
 
@@ -136,12 +137,6 @@ three-told tells mid late name splits mergers dividends e k s m d Dividends = λ
 
 abbrev AreTold : Option Lists → List ℕ → (Table → List RawAdjust) → Type 0
 AreTold tells name rows = (table : Table) → ForSome (Some name) (λ n. ForSome tells (λ lists. rows table ≡ lists n table))
-
-none-alone : (o : Option Fault) → o ≡ None → option_or o None ≡ None
-none-alone o e = rw e refl
-
-alone : (o : Option Fault) (f : Fault) → o ≡ Some f → option_or o None ≡ Some f
-alone o f e = rw e refl
 
 pub rows-pass : {c : Change KeeperView} (name : List ℕ) (assets : List AssetRow) (splits mergers dividends : List RawAdjust) (xs : List ColumnAdjustment)
     → AreTold c.before.lists name (by_table splits mergers dividends) → adjustments_in assets splits mergers dividends ≡ Ok xs → c.after.calls ≡ count_plus c.before.calls 3 → KeeperLeft c

@@ -22,14 +22,14 @@ use Rattle.pl_terms.specs.declared.node.Node.{Node}
 use Rattle.pl_terms.specs.Kinds.{kind_of}
 use Rattle.pl_terms.specs.Nodes.{node_of, graph_of, input_of, number_of}
 use Rattle.pl_terms.specs.Checked.{Parts, pipeline_of, IsChecked}
+use Rattle.pl_terms.proofs.Graphs.{graph-long, graph-at}
 use Rattle.pl_values.specs.Arrays.{is_kept}
 use Rattle.pl_values.proofs.Cells.{keeps-is}
-use Rattle.pl_values.proofs.Empties.{node-there}
 use Rattle.pl_world.specs.declared.world.World.{World}
 use Rattle.pl_world.specs.Worlds.{world_of}
 use Rattle.pl_world.specs.Evaluations.{as_input, IsAsked, IsAskedInput}
 use Rattle.pl_model.specs.Costs.{Cost, cost, window_cost, session_cost, kind_cost, cost_in, input_cost_in, input_cost_at, window_cost_in, input_row_cost_in, optional_cost_in, given_cost_of, given_cost_in}
-use Rattle.pl_world.proofs.Asked.{inputs-at, has-node, long-graph, first-asked, second-asked, third-asked}
+use Rattle.pl_world.proofs.Asked.{inputs-at, has-node, first-asked, second-asked, third-asked}
 
 -- ---- sums
 
@@ -69,7 +69,7 @@ mask-part w names g (Some k) ok h = let m = has-node g k (h k refl) in part-node
 
 module _ (w : World) (c : Parts) (ok : IsChecked (pipeline_of c)) (t s : ℕ) (asked : IsAsked w c t s) (n : Node) (is : slice_get c.graph t ≡ Some n) (a : ℕ) where
   there : slice_get (graph_of c.graph) t ≡ Some (node_of n)
-  there = node-there c.graph t n is
+  there = graph-at c.graph t n is
 
   abbrev tree_cost : Term → Cost
   tree_cost x = cost (world_of w) (pipeline_of c).names x
@@ -120,7 +120,7 @@ module _ (w : World) (c : Parts) (ok : IsChecked (pipeline_of c)) (t s : ℕ) (a
   low-input j u e =
       let l = (ok.graph.lower t (node_of n) there).inputs j u.0 (inputs-at n j ∙ ap (option_map input_of) e) in
       let r = asked.term in
-      omega (arith, l, r, long-graph c.graph)
+      omega (arith, l, r, graph-long c.graph)
 
   abbrev place : ℕ → Term
   place j = input_tree (trees (graph_of c.graph)) (slice_get (node_of n).inputs j)
@@ -169,7 +169,7 @@ module _ (w : World) (c : Parts) (ok : IsChecked (pipeline_of c)) (t s : ℕ) (a
       ∙ ap (λ k. k + (if exists (world_of w) a (pos s) && passes (part_of (number_tree (trees (graph_of c.graph)) (option_map number_of n.mask)) (value (world_of w) (pipeline_of c).names (number_tree (trees (graph_of c.graph)) (option_map number_of n.mask)))) a (pos s) then kind_costs (kind_of n.kind) else 0)) (mask-cost n.mask)
       ∙ ap (λ q. input_cost_in w c (as_input n.mask) a s + (if exists (world_of w) a (pos s) && passes q a (pos s) then kind_costs (kind_of n.kind) else 0))
       (mask-part (world_of w) (pipeline_of c).names (graph_of c.graph) (option_map number_of n.mask) ok.graph
-      (λ k e. let l = (ok.graph.lower t (node_of n) there).mask k e in let r = asked.term in omega (arith, l, r, long-graph c.graph)))
+      (λ k e. let l = (ok.graph.lower t (node_of n) there).mask k e in let r = asked.term in omega (arith, l, r, graph-long c.graph)))
       ∙ ap (λ b. input_cost_in w c (as_input n.mask) a s + (if b then kind_costs (kind_of n.kind) else 0)) (keeps-is (world_of w) (pipeline_of c) (a ∷ []) ok t (node_of n) there 0 s)
       ∙ ap (λ k. input_cost_in w c (as_input n.mask) a s + (if is_kept (world_of w) (pipeline_of c) (a ∷ []) (option_map number_of n.mask) 0 s then k else 0)) (kind-is (kind_of n.kind) ∙ sym given-is)
 

@@ -1,14 +1,13 @@
 -- What each call of an evaluation may ask for, why it ends, and that what is given is a cell.
-use Rattle.std.proofs.Common.{◌≡◌, ℕ, ◌+◌, ◌-◌, ◌*◌, ◌<◌, ◌≤◌, Bool, true, false, if◌then◌else◌, ℤ, pos, List, [], get_or, Option, Some, slice_get, Result, Ok, Err, IfOk, refl, sym, ap, subst, arith, inl, inr, ◌==◌}
+use Rattle.std.proofs.Common.{◌≡◌, ℕ, ◌+◌, ◌-◌, ◌*◌, ◌<◌, ◌≤◌, ℤ, pos, List, [], get_or, Option, Some, slice_get, Result, Ok, Err, IfOk, sym, ap, subst, arith, ◌==◌}
 use Rattle.std.specs.List.{list_any}
 use Rattle.std.specs.Int.RustNames.{unsigned_abs}
-use Rattle.pl_spec.specs.Rounding.{IsCell, MISSING, is_missing}
+use Rattle.pl_spec.specs.Rounding.{IsCell, is_missing}
 use Rattle.pl_spec.specs.Formula.{truth}
 use Rattle.pl_spec.specs.Kind as kinds
 use Rattle.pl_spec.specs.Kind.{Kind}
 use Rattle.pl_spec.specs.Pointwise.{label_test}
-use Rattle.pl_spec.specs.Value.Value.{Number}
-use Rattle.pl_spec.specs.Value.{number_of, empty, is_filter}
+use Rattle.pl_spec.proofs.Cells.{zero-cell, truth-cell, chosen-cell}
 use Rattle.pl_terms.specs.declared.node.TermId.{TermId}
 use Rattle.pl_terms.specs.declared.node.Input.{Input}
 use Rattle.pl_terms.specs.declared.node.Input.TheVariants as input
@@ -63,27 +62,6 @@ module _ (w : World) (p : Parts) (ok : IsChecked (pipeline_of p)) (t s : ℕ) (a
       (subst (IsAsked w p u.0) now (first.1 0 least), lower)
 
 -- ---- cells
-
-chosen-cell : (b : Bool) (x y : ℤ) → IsCell x → IsCell y → IsCell (if b then x else y)
-chosen-cell true x y f g = f
-chosen-cell false x y f g = g
-
-no-cell : IsCell MISSING
-no-cell = inl refl
-
-zero-cell : IsCell (pos 0)
-zero-cell = inr (omega arith)
-
-truth-cell : (b : Bool) → IsCell (truth b)
-truth-cell b = chosen-cell b (pos 1) (pos 0) (inr (omega arith)) zero-cell
-
--- what stands in the place of a value
-pub empty-cell : (k : Kind) → IsCell (number_of (empty k))
-empty-cell k = here (is_filter k)
-  where
-    here : (b : Bool) → IsCell (number_of (if b then Number (pos 0) else Number MISSING))
-    here true = zero-cell
-    here false = no-cell
 
 -- whether a sid is among a filter's
 pub sid-cell : (k : Kind) (a : ℕ) → IsCell (sid_flag k a)

@@ -1,26 +1,22 @@
 -- Windows of cells as they are seen, and their steps, by session.
-use Rattle.std.proofs.Common.{◌≡◌, ℕ, zero, suc, ◌+◌, ◌-◌, ◌≤◌, ℤ, pos, negsuc, List, [], map, sum_by, Option, Some, None, inl, inr, refl, sym, ◌∙◌, ap, arith, zero-add}
+use Rattle.std.proofs.Common.{◌≡◌, ℕ, zero, suc, ◌+◌, ◌-◌, ◌≤◌, ℤ, pos, negsuc, List, [], map, sum_by, inl, inr, refl, sym, ◌∙◌, ap, arith, zero-add}
 use Rattle.std.specs.List.{range_with_len}
 use Rattle.std.proofs.lemmas.Bool.{cases_lt}
 use Rattle.std.proofs.lemmas.Int.{ints}
 use Rattle.std.proofs.lemmas.List.FromFn.{sum_by-map-range_with_len_more}
 use Rattle.std.proofs.lemmas.List.Sums.{sum_by-cons}
 use Rattle.pl_spec.specs.declared.Column.{Column}
-use Rattle.pl_spec.specs.World.{World, Event, day_of, events_of}
-use Rattle.pl_spec.specs.Window.{before, downward, effects, effects_from, seen_cell, step_count}
-use Rattle.pl_spec.proofs.Windows.{before-pos}
+use Rattle.pl_spec.specs.World.{World, day_of, events_of}
+use Rattle.pl_spec.specs.Window.{before, downward, effects, seen_cell, step_count}
+use Rattle.pl_spec.proofs.Windows.{before-pos, no-effects}
 use Rattle.pl_model.specs.WindowSteps.{window_steps}
-
-no_effects : (c : Column) (high : Option ℤ) (es : List Event) → effects_from c None high es ≡ []
-no_effects c (Some high) es = refl
-no_effects c None es = refl
 
 early-before : (d n : ℕ) → d ≤ n → before (pos d) (suc n) ≡ negsuc (n - d)
 early-before d n h = omega (arith, ints)
 
 -- before the first session there is nothing
 early-effects : (w : World) (a : ℕ) (c : Column) (d n : ℕ) → d ≤ n → effects w a c (before (pos d) (suc n)) (pos d) ≡ []
-early-effects w a c d n h = rw (early-before d n h) (no_effects c (day_of w (pos d)) (events_of w a))
+early-effects w a c d n h = rw (early-before d n h) (no-effects c (day_of w (pos d)) (events_of w a))
 
 module _ (w : World) (a : ℕ) (c : Column) (d : ℕ) where
   -- the cells of n sessions from one on, as they are seen

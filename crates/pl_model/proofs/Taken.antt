@@ -4,6 +4,7 @@ use Rattle.std.proofs.lemmas.List.{get_or-map, length-map}
 use Rattle.pl_spec.specs.Kind as kinds
 use Rattle.pl_spec.specs.declared.AssetRow.{AssetRow}
 use Rattle.pl_spec.specs.Parts.{sid_at}
+use Rattle.pl_spec.proofs.Columns.{no_asset, sid-there}
 use Rattle.pl_terms.specs.declared.node.TermId.{TermId}
 use Rattle.pl_terms.specs.declared.node.Input.{Input}
 use Rattle.pl_terms.specs.declared.node.Input.TheVariants as input
@@ -15,7 +16,6 @@ use Rattle.pl_cross.specs.Section.{is_section}
 use Rattle.pl_values.specs.Families.{is_sids, is_point, is_label_test}
 use Rattle.pl_world.specs.declared.world.World.{World}
 use Rattle.pl_world.proofs.Evaluated.{windowed-is, point-is, label-test-is, section-is, sids-is}
-use Rattle.pl_world.proofs.Sections.{sid-there, blank}
 use Rattle.pl_model.specs.Costs.{input_cost_in, window_cost_in, row_cost_in, input_row_cost_in, optional_cost_in, given_cost_of, given_cost_in}
 
 pub always : {X E : Type 0} (r : Result X E) (P : Type 0) → P → OnOk r P
@@ -24,7 +24,7 @@ always (Err e) P h = tt
 
 -- the cell of a row for all assets
 pub row-cell : (f : ℕ → ℤ) (assets : List AssetRow) (row : List ℤ) (i : ℕ) (d : ℤ) → row ≡ map (λ b. f b.sid) assets → i < length assets → get_or row i d ≡ f (sid_at assets i)
-row-cell f assets row i d e h = ap (λ r. get_or r i d) e ∙ get_or-map (λ (b : AssetRow). f b.sid) assets i blank d h ∙ ap f (sym (sid-there assets i h))
+row-cell f assets row i d e h = ap (λ r. get_or r i d) e ∙ get_or-map (λ (b : AssetRow). f b.sid) assets i no_asset d h ∙ ap f (sym (sid-there assets i h))
 
 pub row-long : (f : ℕ → ℤ) (assets : List AssetRow) (row : List ℤ) → row ≡ map (λ b. f b.sid) assets → length row ≡ length assets
 row-long f assets row e = ap (λ (r : List ℤ). length r) e ∙ length-map assets (λ (b : AssetRow). f b.sid)

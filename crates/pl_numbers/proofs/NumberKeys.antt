@@ -1,26 +1,28 @@
 -- The keys of rows of numbers tell their names, columns and days.
-use Rattle.std.proofs.Common.{◌≡◌, ◌≢◌, ℕ, zero, suc, ◌+◌, ◌-◌, ◌<◌, ◌≤◌, ◌^◌, ◌==◌, ◌&&◌, ◌||◌, not, nat_eq, nat_lt, cond, Bool, true, false, ℤ, pos, List, [], ◌∷◌, ◌++◌, length, length-append, map, take, get_or, All, AllPairs, Option, Some, None, FitsSigned, w32, refl, sym, ap, ◌∙◌, arith, inl, inr, IsPermutation}
-use Rattle.std.specs.List.{list_any, position, position_or_len}
+use Rattle.std.proofs.Common.{◌≡◌, ◌≢◌, ℕ, ◌+◌, ◌-◌, ◌<◌, ◌^◌, ◌==◌, ◌&&◌, ◌||◌, not, nat_eq, nat_lt, cond, Bool, true, false, ℤ, List, [], ◌∷◌, ◌++◌, length, length-append, get_or, Option, Some, None, FitsSigned, w32, refl, sym, ap, ◌∙◌, arith, inl, inr, eq-eqb, eqb-true}
+use Rattle.std.specs.List.{list_any, position_or_len}
 use Rattle.std.specs.List.Sorted.{IsNonDecreasingBy}
 use Rattle.std.specs.HashSet.{HashSet, contains}
 use Rattle.std.specs.Option.{is_some}
 use Rattle.std.specs.Str.{bytes_eq}
+use Rattle.std.specs.Cmp.{both_ways}
 use Rattle.std.specs.Ordering.{int_eq}
 use Rattle.std.proofs.lemmas.Bool.{and_parts, cases_lt, true≢false}
 use Rattle.std.proofs.lemmas.Bool.Decides.{nat_tests}
-use Rattle.std.proofs.lemmas.List.{get_or_append_left, length-map}
+use Rattle.std.proofs.lemmas.List.{get_or_append_left}
 use Rattle.std.proofs.lemmas.List.Folds.{list_any_none}
 use Rattle.std.proofs.lemmas.List.Sorted.{IsPermutation-refl}
+use Rattle.pl_spec.proofs.Signed.{int_eq-true, eq-int_eq}
+use Rattle.pl_spec.proofs.Lists.{any-push}
 use Rattle.pl_records.specs.Sorted.{sorted_by, HasOwnKeys}
 use Rattle.pl_records.proofs.Sorts.{sorted-is}
 use Rattle.pl_assets.specs.Labels.{with_text}
 use Rattle.pl_assets.specs.LabelPlaces.{key}
 use Rattle.pl_assets.proofs.FirstSeen.{Once, place_of_text, same_text, equal_text, text_placed, text_stays}
-use Rattle.pl_assets.proofs.LabelKeys.{any-behind, both_false, same_number, number_same, same_day, day_same}
 use Rattle.pl_assets.proofs.LabelOrder.{same_key}
 use Rattle.pl_assets.proofs.TextLists.{any-map, place_there}
 use Rattle.pl_lifetimes.proofs.Filters.{any-same}
-use Rattle.pl_bars.proofs.BarSets.{same_default}
+use Rattle.std.proofs.lemmas.List.{get_or_default}
 use Rattle.pl_numbers.specs.Numbers.{ColumnNumber, is_from}
 use Rattle.pl_numbers.specs.NumberPlaces.{AreKeys, AreNumbered, AreSeen, IsPlace, Rise, key_of, row_at, shown_rows}
 use Rattle.pl_numbers.specs.declared.rows.Place.{Place}
@@ -31,10 +33,10 @@ pub from_parts : (name : List ℕ) (col : ℕ) (day : ℤ) (r : ColumnNumber) �
 from_parts name col day r t =
     let front = and_parts (bytes_eq r.name name) (r.col == col && int_eq r.known day) t in
     let back = and_parts (r.col == col) (int_eq r.known day) front.1 in
-    (same_text r.name name front.0, same_number r.col col back.0, same_day r.known day back.1)
+    (same_text r.name name front.0, eqb-true r.col col back.0, int_eq-true r.known day back.1)
 
 pub parts_from : (name : List ℕ) (col : ℕ) (day : ℤ) (r : ColumnNumber) → r.name ≡ name → r.col ≡ col → r.known ≡ day → is_from name col day r ≡ true
-parts_from name col day r e f g = rw (e, f, g, equal_text name, number_same col col refl, day_same day day refl) refl
+parts_from name col day r e f g = rw (e, f, g, equal_text name, eq-eqb col col refl, eq-int_eq day day refl) refl
 
 -- ---- names and their numbers
 
@@ -56,24 +58,24 @@ is_known t name number col day h e small fits =
   where
     there : (p : Place) → IsPlace t.names p → (key_of p == key number col day) ≡ true → is_from name col day (row_at t.names p) ≡ true
     there p q u =
-        let parts = same_key p.name p.col p.known number col day q.col small q.day fits (same_number _ _ u) in
+        let parts = same_key p.name p.col p.known number col day q.col small q.day fits (eqb-true _ _ u) in
         parts_from name col day (row_at t.names p) (text_of t.names name p.name (parts.0 ∙ e) q.name) parts.1 parts.2
 
     back : (p : Place) → IsPlace t.names p → is_from name col day (row_at t.names p) ≡ true → (key_of p == key number col day) ≡ true
     back p q u =
         let parts = from_parts name col day (row_at t.names p) u in
         let n : p.name ≡ number = sym (place_of t.names p.name (once_named t h) q.name) ∙ ap (λ x. position_or_len (bytes_eq x) t.names) parts.0 ∙ sym e in
-        number_same _ _ (ap (λ m. key m p.col p.known) n ∙ ap (λ c. key number c p.known) parts.1 ∙ ap (key number col) parts.2)
+        eq-eqb _ _ (ap (λ m. key m p.col p.known) n ∙ ap (λ c. key number c p.known) parts.1 ∙ ap (key number col) parts.2)
 
     same : (p : Place) → IsPlace t.names p → (key_of p == key number col day) ≡ is_from name col day (row_at t.names p)
-    same p q = both_false _ _ (there p q) (back p q)
+    same p q = both_ways _ _ (there p q) (back p q)
 
 -- ---- the set of keys
 
 pub AreKeys-more : {S : Type 0} (old new : HashSet ℕ S) (places : List Place) (p : Place) (k : ℕ) → k ≡ key_of p → AreKeys old places
     → ((j : ℕ) → contains nat_eq new j ≡ cond (nat_eq k j) true (contains nat_eq old j)) → AreKeys new (places ++ p ∷ [])
 AreKeys-more old new places p k same h e =
-    record { each = λ j. e j ∙ either (nat_eq k j) (contains nat_eq old j) ∙ ap (λ b. nat_eq k j || b) (h.each j) ∙ ap (λ i. nat_eq i j || list_any (λ q. key_of q == j) places) same ∙ sym (any-behind (λ q. key_of q == j) places p) }
+    record { each = λ j. e j ∙ either (nat_eq k j) (contains nat_eq old j) ∙ ap (λ b. nat_eq k j || b) (h.each j) ∙ ap (λ i. nat_eq i j || list_any (λ q. key_of q == j) places) same ∙ sym (any-push (λ q. key_of q == j) places p) }
   where
     either : (b c : Bool) → cond b true c ≡ (b || c)
     either true c = refl
@@ -97,10 +99,10 @@ all_below places k up n d e t i x h =
     let last : key_of (get_or places n d) < k = grind (arith, nat_tests) in
     elim (cases_lt i n) [
       | inl lt ↦ (let it : key_of (get_or places i d) < key_of (get_or places n d) = up i n d lt (omega arith) in
-          let own : get_or places i x ≡ get_or places i d = same_default places i x d h in
+          let own : get_or places i x ≡ get_or places i d = get_or_default places i x d h in
           rw own (omega arith))
       | inr ge ↦ (let same : i ≡ n = omega arith in
-          let own : get_or places i x ≡ get_or places n d = ap (λ j. get_or places j x) same ∙ same_default places n x d (omega arith) in
+          let own : get_or places i x ≡ get_or places n d = ap (λ j. get_or places j x) same ∙ get_or_default places n x d (omega arith) in
           rw own last)
     ]
 

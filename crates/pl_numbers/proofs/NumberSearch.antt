@@ -1,5 +1,5 @@
 -- The number of a column on a day, found by keys.
-use Rattle.std.proofs.Common.{◌≡◌, ℕ, zero, suc, ◌+◌, ◌-◌, ◌<◌, ◌≤◌, ◌^◌, ◌==◌, nat_le, Bool, true, false, ℤ, pos, negsuc, ◌≤ℤ◌, ◌<ℤ◌, List, [], ◌∷◌, length, map, get_or, All, AllPairs, Some, slice_get, neg_ℤ, FitsSigned, w32, refl, sym, subst, ap, ◌∙◌, arith, inl, inr}
+use Rattle.std.proofs.Common.{◌≡◌, ℕ, ◌-◌, ◌<◌, ◌≤◌, ◌^◌, ◌==◌, nat_le, true, false, ℤ, pos, negsuc, ◌≤ℤ◌, ◌<ℤ◌, List, [], length, map, get_or, Some, slice_get, neg_ℤ, FitsSigned, w32, refl, sym, ap, ◌∙◌, arith, inl, inr}
 use Rattle.std.specs.Prelude.{Contains}
 use Rattle.std.specs.List.Sorted.{IsPartitionedBy}
 use Rattle.std.specs.Int.RustNames.{int_le}
@@ -10,14 +10,14 @@ use Rattle.std.proofs.lemmas.Option.{get_or_from_slice_get, slice_get_within}
 use Rattle.pl_calendar.specs.Days.{AreDays}
 use Rattle.pl_spec.specs.Dates.{IsDay}
 use Rattle.pl_spec.specs.Numbers.{NumberRow, NumbersOnce, is_number_of}
-use Rattle.pl_spec.specs.Rounding.{IsCell, MISSING}
+use Rattle.pl_spec.specs.Rounding.{MISSING}
 use Rattle.pl_spec.proofs.Numbers.{numbers_are_found}
 use Rattle.pl_spec.proofs.Places.{rising_at}
 use Rattle.pl_assets.specs.LabelPlaces.{key}
 use Rattle.pl_assets.proofs.FirstSeen.{one_place, same_text, equal_text}
 use Rattle.pl_assets.proofs.LabelOrder.{keys_back, keys_between, keys_rise}
 use Rattle.pl_assets.proofs.LabelSearch.{contains_mapped, mapped_contains}
-use Rattle.pl_bars.proofs.BarSets.{same_default}
+use Rattle.std.proofs.lemmas.List.{get_or_default}
 use Rattle.pl_numbers.specs.Numbers.{ColumnNumber, by_column, number_on}
 use Rattle.pl_numbers.specs.NumberPlaces.{AllLow, IsPlace, IsTable, KeyPoint, Rise, key_of, row_at, shown_rows}
 use Rattle.pl_numbers.specs.declared.rows.Place.{Place}
@@ -47,7 +47,7 @@ one_of_key places up p q h g e =
     ]
   where
     later : (k : ℕ) (x d : Place) → k < length places → get_or places k x ≡ x → get_or places k d ≡ x
-    later k x d l at = same_default places k d x l ∙ at
+    later k x d l at = get_or_default places k d x l ∙ at
 
     apart : (i j : ℕ) (x y : Place) → i < j → j < length places → get_or places i x ≡ x → get_or places j x ≡ y → key_of x ≡ key_of y → ⊥
     apart i j x y lt l a b same =
@@ -172,7 +172,7 @@ module _ (t : NumberRows) (table : IsTable t) where
         not_after q h s =
             let it = before_point q h s in
             let le : key_of (get_or t.places.items it.0 p) ≤ key_of (get_or t.places.items (n - 1) p) = rising_at key_of t.places.items table.rise it.0 (n - 1) p (omega (arith, it.1)) (omega arith) in
-            let low : get_or t.places.items it.0 p ≡ q = same_default t.places.items it.0 p q (omega (arith, it.1, within)) ∙ it.2 in
+            let low : get_or t.places.items it.0 p ≡ q = get_or_default t.places.items it.0 p q (omega (arith, it.1, within)) ∙ it.2 in
             rw (low, at) at le
 
         pub other_before : (p.name ≡ number → p.col ≡ col → ⊥) → (q : Place) → Contains t.places.items q → WasKnown q → ⊥
@@ -213,7 +213,7 @@ module _ (t : NumberRows) (table : IsTable t) where
 pub point_here : (places : List Place) (k n : ℕ) (d : Place) → Rise places → AllLow places k n → n < length places → nat_le (key_of (get_or places n d)) k ≡ false → KeyPoint places k n
 point_here places k n d up low inside high = (
   λ i x z l. (let le : key_of (get_or places i x) ≤ k = low i x l in grind (arith, nat_tests)),
-  λ i x g l. (let first : nat_le (key_of (get_or places n x)) k ≡ false = ap (λ p. nat_le (key_of p) k) (same_default places n x d inside) ∙ high in
+  λ i x g l. (let first : nat_le (key_of (get_or places n x)) k ≡ false = ap (λ p. nat_le (key_of p) k) (get_or_default places n x d inside) ∙ high in
       let le : key_of (get_or places n x) ≤ key_of (get_or places i x) = rising_at key_of places up n i x g l in
       grind (arith, nat_tests)),
 )

@@ -1,31 +1,27 @@
 -- Tables of numbers: rows that were read, in the order of their keys.
-use Rattle.std.proofs.Common.{◌≡◌, ◌≢◌, ℕ, zero, suc, ◌==◌, ◌<◌, ◌≤◌, ◌^◌, nat_le, Bool, true, false, cond, ℤ, pos, ◌+◌, List, [], ◌∷◌, length, map, get_or, All, AllPairs, Contains, IsPermutation, Result, Ok, Err, FitsSigned, w32, refl, sym, subst, ap, ◌∙◌, arith, inl, inr}
-use Rattle.std.specs.List.{count_by, position_or_len}
-use Rattle.std.specs.Str.{bytes_eq}
-use Rattle.std.proofs.lemmas.Bool.{cases_lt, true≢false}
+use Rattle.std.proofs.Common.{◌≡◌, ◌≢◌, ℕ, suc, ◌==◌, ◌<◌, ◌≤◌, ◌^◌, nat_le, Bool, true, false, cond, pos, ◌+◌, List, [], ◌∷◌, length, map, get_or, All, AllPairs, Contains, IsPermutation, refl, sym, subst, ap, ◌∙◌, arith}
+use Rattle.std.specs.List.{count_by}
+use Rattle.std.proofs.lemmas.Bool.{true≢false}
 use Rattle.std.proofs.lemmas.Bool.Decides.{nat_tests}
 use Rattle.std.proofs.lemmas.List.{length-map, get_or-map}
 use Rattle.std.proofs.lemmas.List.Elements.{All-map}
-use Rattle.std.proofs.lemmas.List.Folds.{list_any_none}
 use Rattle.std.proofs.lemmas.List.Sorted.{All-permutation, IsPermutation-map}
-use Rattle.pl_records.specs.Reading.{Record, Fault, ◌>>=◌}
 use Rattle.pl_records.specs.Sorted.{HasOwnKeys, insert_by, sorted_by}
-use Rattle.pl_records.proofs.Sorts.{OwnKeys-none, OwnKeys-more, sorted-rises, sorted-permutes, length-sorted_by}
-use Rattle.pl_spec.specs.Limits.{most_numbers}
+use Rattle.pl_records.proofs.Sorts.{sorted-rises, sorted-permutes, length-sorted_by}
 use Rattle.pl_spec.proofs.Counts.{count-cons}
 use Rattle.pl_spec.specs.Rounding.{IsCell}
 use Rattle.pl_spec.specs.declared.AssetRow.{AssetRow}
 use Rattle.pl_assets.specs.LabelPlaces.{key}
 use Rattle.pl_assets.proofs.FirstSeen.{one_place}
 use Rattle.pl_assets.proofs.LabelOrder.{same_key}
-use Rattle.pl_bars.proofs.BarSets.{same_default}
-use Rattle.pl_numbers.specs.Numbers.{AreNumbers, ColumnNumber, NumberTable, is_from, key_in, names_of, number_rows_in, numbers_of, table_of}
-use Rattle.pl_numbers.specs.NumberPlaces.{AreNumbered, IsPlace, IsTable, Rise, key_of, row_at, shown_rows, table_in}
+use Rattle.std.proofs.lemmas.List.{get_or_default}
+use Rattle.pl_numbers.specs.Numbers.{AreNumbers, ColumnNumber, is_from, key_in, table_of}
+use Rattle.pl_numbers.specs.NumberPlaces.{AreNumbered, IsPlace, IsTable, key_of, row_at, shown_rows, table_in}
 use Rattle.pl_numbers.specs.declared.rows.Place.{Place}
 use Rattle.pl_numbers.specs.declared.rows.NumberRows.{NumberRows}
 use Rattle.pl_numbers.proofs.NumberKeys.{from_parts, parts_from, place_of}
 use Rattle.pl_numbers.proofs.NumberRowsMade.{few_names, once_named}
-use Rattle.pl_numbers.proofs.NumbersRead.{AreRead, AreRead-read}
+use Rattle.pl_numbers.proofs.NumbersRead.{AreRead}
 
 -- ---- keys of rows that differ
 
@@ -148,7 +144,7 @@ are_numbers t h =
     record {
       names = h.names;
       named = All-map (λ (r : ColumnNumber). Contains t.names r.name) (row_at t.names) t.places.items (λ k d l.
-          let p : Place = get_or t.places.items k d in (p.name, (h.places k d l).name, same_default t.names p.name (get_or t.names p.name []) [] (h.places k d l).name));
+          let p : Place = get_or t.places.items k d in (p.name, (h.places k d l).name, get_or_default t.names p.name (get_or t.names p.name []) [] (h.places k d l).name));
       once = once;
       few = omega (arith, h.few, length-map t.places.items (row_at t.names));
       cells = All-map (λ (r : ColumnNumber). IsCell r.value) (row_at t.names) t.places.items h.cells;

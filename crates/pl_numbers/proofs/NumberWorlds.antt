@@ -1,15 +1,14 @@
 -- The numbers of a table are those of the rows of its assets' sids.
-use Rattle.std.proofs.Common.{◌≡◌, ℕ, ◌<◌, ◌&&◌, Bool, true, false, cond, ℤ, List, [], ◌∷◌, length, get_or, map, filter, find, All, Option, Some, None, option_map, unwrap_or, bytes_eq, refl, sym, ◌∙◌, ap}
-use Rattle.std.specs.List.{AllPairs, list_all}
+use Rattle.std.proofs.Common.{◌≡◌, ◌&&◌, Bool, ℤ, List, [], ◌∷◌, get_or, map, filter, find, Option, Some, None, option_map, unwrap_or, bytes_eq, refl, sym, ◌∙◌, ap}
+use Rattle.std.specs.List.{list_all}
 use Rattle.std.specs.Int.RustNames.{int_le}
 use Rattle.std.proofs.lemmas.List.Folds.{list_all-map}
-use Rattle.pl_spec.specs.Numbers.{NumberRow, is_number_of, last_known, number_at}
+use Rattle.pl_spec.specs.Numbers.{NumberRow, is_number_of, last_known}
 use Rattle.pl_spec.specs.Parts.{sid_at}
 use Rattle.pl_spec.specs.Rounding.{MISSING}
-use Rattle.pl_spec.specs.declared.AssetRow.{AssetRow}
 use Rattle.pl_assets.proofs.LabelWorlds.{find-mapped, find-same}
 use Rattle.pl_lifetimes.proofs.Columns.{same_col}
-use Rattle.pl_lifetimes.proofs.Filters.{filter-map, filter-same}
+use Rattle.pl_spec.proofs.Lists.{filter-map, filter-same}
 use Rattle.pl_numbers.specs.Numbers.{ColumnNumber, by_column, number_on}
 use Rattle.pl_numbers.specs.NumberLaws.{NumbersAreThose, number_of}
 

@@ -1,11 +1,11 @@
 -- The last session before a day.
 use Rattle.std.proofs.Common.{◌≡◌, ℕ, zero, suc, ◌<◌, ◌≤◌, Bool, true, false, ℤ, ◌<ℤ◌, ◌≤ℤ◌, List, [], ◌∷◌, length, filter, get_or, Option, Some, None, unwrap_or, position, refl, sym, ◌∙◌, ap, arith, inl, inr}
-use Rattle.std.specs.List.{slice_get, AllPairs}
+use Rattle.std.specs.List.{AllPairs}
 use Rattle.std.specs.Int.RustNames.{int_lt, int_le}
 use Rattle.std.proofs.lemmas.Int.{ints}
 use Rattle.std.proofs.lemmas.Bool.{cases_lt}
 use Rattle.std.proofs.lemmas.List.Quantifiers.{position-Some}
-use Rattle.std.proofs.lemmas.Option.{slice_get-get_or, slice_get_within}
+use Rattle.std.proofs.lemmas.Option.{slice_get-get_or, slice_get_within, get_or_from_slice_get}
 use Rattle.pl_spec.proofs.Places.{nowhere}
 use Rattle.pl_payouts.specs.Ratios.{last_of, last_before}
 use Rattle.pl_payouts.specs.RatioRules.{IsLastBefore}
@@ -57,9 +57,6 @@ sessions-before days ex up o e = length-filter (λ d. int_lt d ex) days (unwrap_
 
 -- ---- in plain words
 
-there : (xs : List ℤ) (k : ℕ) (x d : ℤ) → slice_get xs k ≡ Some x → get_or xs k d ≡ x
-there xs k x d e = let same : Some (get_or xs k d) ≡ Some x = sym (slice_get-get_or xs k d (slice_get_within xs k x e)) ∙ e in cc
-
 module _ (days : List ℤ) (ex : ℤ) (up : AllPairs (λ a b. a <ℤ b) days) where
   parts : Parts (λ d. int_lt d ex) days (length (filter (λ d. int_lt d ex) days))
   parts =
@@ -88,7 +85,7 @@ module _ (days : List ℤ) (ex : ℤ) (up : AllPairs (λ a b. a <ℤ b) days) wh
             day = get_or days s ex;
             there = slice_get-get_or days s ex inside;
             before = lt_if (get_or days s ex) (h.front s ex (omega arith));
-            last = λ t later l at. le_if later (ap (λ d. int_lt d ex) (sym (there days t later ex at)) ∙ h.back t ex (omega arith) (slice_get_within days t later at));
+            last = λ t later l at. le_if later (ap (λ d. int_lt d ex) (sym (get_or_from_slice_get days t later ex at)) ∙ h.back t ex (omega arith) (slice_get_within days t later at));
           }
 
   pub last-none : last_before days ex ≡ None → (s : ℕ) → ¬ IsLastBefore days ex s
@@ -97,7 +94,7 @@ module _ (days : List ℤ) (ex : ℤ) (up : AllPairs (λ a b. a <ℤ b) days) wh
     where
       here : (n : ℕ) → Parts (λ d. int_lt d ex) days n → last_of n ≡ None → ⊥
       here zero h e =
-          not_both is.day is.before (le_if is.day (ap (λ d. int_lt d ex) (sym (there days s is.day ex is.there)) ∙ h.back s ex (omega arith) (slice_get_within days s is.day is.there)))
+          not_both is.day is.before (le_if is.day (ap (λ d. int_lt d ex) (sym (get_or_from_slice_get days s is.day ex is.there)) ∙ h.back s ex (omega arith) (slice_get_within days s is.day is.there)))
       here (suc n) h e = let bad : Some n ≡ None = e in cc
 
   pub last-one : (s t : ℕ) → IsLastBefore days ex s → IsLastBefore days ex t → s ≡ t

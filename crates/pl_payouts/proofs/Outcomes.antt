@@ -13,7 +13,8 @@ use Rattle.pl_spec.specs.Dates.{IsDay}
 use Rattle.pl_spec.specs.declared.AssetRow.{AssetRow}
 use Rattle.pl_spec.specs.declared.BarRow.{BarRow}
 use Rattle.pl_spec.specs.declared.RawAdjust.{RawAdjust}
-use Rattle.pl_fixed.proofs.RoundingLemmas.{div_round-multiple}
+use Rattle.pl_spec.proofs.Signed.{le-int_le, lt-int_le, int_le-true, int_le-false}
+use Rattle.pl_fixed.proofs.RoundingLemmas.{div_round-multiple, above_zero}
 use Rattle.pl_adjust.specs.Rules.{IsEffective}
 use Rattle.pl_payouts.specs.declared.Payout.{Payout}
 use Rattle.pl_payouts.specs.declared.ratio.Skip.{Skip}
@@ -57,27 +58,11 @@ some_close close none = here (is_missing close || int_eq close (pos 0)) refl
 is_some_close : (close : ℤ) → (is_missing close || int_eq close (pos 0)) ≡ false → ¬ IsNoClose close
 is_some_close close t none = let bad : true ≡ false = sym ((no_close close).1 none) ∙ t in cc
 
-not_below : (close amount : ℤ) → close ≤ℤ amount → int_le close amount ≡ true
-not_below close amount h = grind (arith, ints)
-
-is_not_below : (close amount : ℤ) → int_le close amount ≡ true → close ≤ℤ amount
-is_not_below close amount t = grind (arith, ints)
-
-below : (close amount : ℤ) → amount <ℤ close → int_le close amount ≡ false
-below close amount h = grind (arith, ints)
-
-is_below : (close amount : ℤ) → int_le close amount ≡ false → amount <ℤ close
-is_below close amount t = grind (arith, ints)
-
 -- ---- numbers above 0
 
 natural : (v : ℤ) → pos 0 <ℤ v → v ≡ pos (unsigned_abs v)
 natural (pos n) h = refl
 natural (negsuc n) h = absurd (omega (arith, ints))
-
-above_0 : (v : ℤ) → pos 0 <ℤ v → 0 < unsigned_abs v
-above_0 (pos n) h = omega (arith, ints)
-above_0 (negsuc n) h = absurd (omega (arith, ints))
 
 more_above : (x y : ℤ) → pos 0 <ℤ x → x <ℤ y → pos 0 <ℤ y
 more_above x y h l = omega (arith, ints)
@@ -115,10 +100,10 @@ module _ (p : Payout) (close : ℤ) (is : IsPayout p) (up : p.amount <ℤ close)
   whole-is = natural close (more_above p.amount close is.above up)
 
   rest-pos : 0 < unsigned_abs (close -ℤ p.amount)
-  rest-pos = above_0 (close -ℤ p.amount) (less_above p.amount close up)
+  rest-pos = above_zero (close -ℤ p.amount) (less_above p.amount close up)
 
   whole-pos : 0 < unsigned_abs close
-  whole-pos = above_0 close (more_above p.amount close is.above up)
+  whole-pos = above_zero close (more_above p.amount close is.above up)
 
   abbrev in_lowest : Fraction
   in_lowest = lowest (unsigned_abs (close -ℤ p.amount)) (unsigned_abs close)
@@ -213,13 +198,13 @@ module _ (p : Payout) (close : ℤ) (is : IsPayout p) where
     where
       here : (a b t : Bool) → (is_missing close || int_eq close (pos 0)) ≡ a → int_le close p.amount ≡ b → fine ≡ t → Leaves p close (of_tests a b t)
       here true b t u v w = (no_close close).0 u
-      here false true t u v w = (is_some_close close u, is_not_below close p.amount v)
+      here false true t u v w = (is_some_close close u, int_le-true close p.amount v)
       here false false true u v w =
-          let up = is_below close p.amount v in
+          let up = int_le-false close p.amount v in
           let f = lowest (unsigned_abs (close -ℤ p.amount)) (unsigned_abs close) in
           (record { some = is_some_close close u; above = up }, record { num = f.num; den = f.den; ratio = lowest-is p close is up; fine = is_fine f.num f.den w })
       here false false false u v w =
-          let up = is_below close p.amount v in
+          let up = int_le-false close p.amount v in
           let f = lowest (unsigned_abs (close -ℤ p.amount)) (unsigned_abs close) in
           let ratio : IsLowest p close f.num f.den = lowest-is p close is up in
           let n : 0 < f.num = num-pos p close is up f.num f.den ratio in
@@ -245,13 +230,13 @@ module _ (p : Payout) (close : ℤ) (is : IsPayout p) where
   unfolding ratio_over
   leaves-from (Err NoSession) h = absurd h
   leaves-from (Err NoClose) h = rw ((no_close close).1 h) refl
-  leaves-from (Err NotBelow) h = rw (some_close close h.0, not_below close p.amount h.1) refl
+  leaves-from (Err NotBelow) h = rw (some_close close h.0, le-int_le close p.amount h.1) refl
   leaves-from (Err TooFine) h =
       let f = lowest (unsigned_abs (close -ℤ p.amount)) (unsigned_abs close) in
       let num : h.1.num ≡ f.num = same-num p close is h.0.above h.1.num h.1.den h.1.ratio in
       let den : h.1.den ≡ f.den = same-den p close is h.0.above h.1.num h.1.den h.1.ratio in
       let t : is_too_fine f ≡ true = too_fine f.num f.den (rw (num, den) at h.1.fine) in
-      rw (some_close close h.0.some, below close p.amount h.0.above, t) refl
+      rw (some_close close h.0.some, lt-int_le close p.amount h.0.above, t) refl
   leaves-from (Ok r) h =
       let f = lowest (unsigned_abs (close -ℤ p.amount)) (unsigned_abs close) in
       let row = h.1 in
@@ -260,7 +245,7 @@ module _ (p : Payout) (close : ℤ) (is : IsPayout p) where
       let n : pos f.num ≤ℤ pos 1000000000 = rw (row.num_is, num) at row.in_parts.num.1 in
       let d : pos f.den ≤ℤ pos 1000000000 = rw (row.den_is, den) at row.in_parts.den.1 in
       let t : is_too_fine f ≡ false = not_fine f.num f.den (omega (arith, ints)) (omega (arith, ints)) in
-      rw (some_close close h.0.some, below close p.amount h.0.above, t)
+      rw (some_close close h.0.some, lt-int_le close p.amount h.0.above, t)
       (ap Ok (row-is p f row.num row.den r row.id row.sid row.effective row.num_is row.den_is num den))
 
 -- ---- over the sessions

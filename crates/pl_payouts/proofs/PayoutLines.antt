@@ -7,9 +7,10 @@ use Rattle.pl_spec.specs.declared.AssetRow.{AssetRow}
 use Rattle.pl_spec.specs.declared.BarRow.{BarRow}
 use Rattle.pl_payouts.specs.declared.Payout.{Payout}
 use Rattle.pl_payouts.specs.declared.reading.Dividend.{Dividend}
-use Rattle.pl_payouts.specs.Payouts.{AreKnown, IsKnown, numbered}
+use Rattle.pl_payouts.specs.Payouts.{AreKnown, numbered}
 use Rattle.pl_payouts.specs.Ratios.{ratio_in}
 use Rattle.pl_payouts.specs.Texts.{header_line, payout_line, numbered_from, lines_of, kept_of, payouts_text, payouts_kept}
+use Rattle.pl_adjust.specs.Revised.{IsKnown}
 
 drop-at : (rows : List Dividend) (i : ℕ) (d : Dividend) → slice_get rows i ≡ Some d → drop i rows ≡ d ∷ drop (i + 1) rows
 drop-at rows i d e =

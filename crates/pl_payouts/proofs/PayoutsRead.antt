@@ -17,10 +17,11 @@ use Rattle.pl_lifetimes.specs.Assets.{HasSid}
 use Rattle.pl_lifetimes.proofs.SidColumns.{sid_form}
 use Rattle.pl_payouts.specs.declared.reading.Dividend.{Dividend}
 use Rattle.pl_spec.specs.Limits.{most_payouts}
-use Rattle.pl_payouts.specs.Payouts.{Rule, breaks, col_in, dividend_in, header, is_above_0, says_dividend, payouts_of, ArePayouts, AreKnown, IsKnown, IsPaid}
+use Rattle.pl_payouts.specs.Payouts.{Rule, breaks, col_in, dividend_in, header, is_above_0, says_dividend, payouts_of, ArePayouts, AreKnown, IsPaid}
 use Rattle.pl_payouts.specs.Payouts as rules
 use Rattle.pl_payouts.specs.Rules.{IsDividendRecord, IsDividend, Breaks, ArePayoutsOf, IsPayoutsFault}
 use Rattle.pl_payouts.proofs.DividendFields.{dividend_form}
+use Rattle.pl_adjust.specs.Revised.{IsKnown}
 
 -- ---- the tests
 

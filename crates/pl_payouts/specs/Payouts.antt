@@ -11,10 +11,10 @@ use Rattle.pl_spec.specs.Decimals.{sid_in}
 use Rattle.pl_spec.specs.declared.AssetRow.{AssetRow}
 use Rattle.pl_fixed.specs.Reading.{read}
 use Rattle.pl_lifetimes.specs.Assets.{sid_of}
-use Rattle.pl_lifetimes.specs.Assets.{HasSid}
 use Rattle.pl_payouts.specs.declared.Payout.{Payout}
 use Rattle.pl_payouts.specs.declared.reading.Dividend.{Dividend}
 use Rattle.pl_spec.specs.Limits.{most_payouts}
+use Rattle.pl_adjust.specs.Revised.{IsKnown}
 
 -- what may be wrong with a file
 pub data Rule : Type 0 where
@@ -79,10 +79,6 @@ IsPayout p = IsPaid p.ex p.amount
 pub record ArePayouts (rows : List Dividend) : Type 0 where
   pub few : length rows ≤ most_payouts
   pub paid : All (λ d. IsPaid d.ex d.amount) rows
-
--- an asset has the sid
-abbrev pub IsKnown : List AssetRow → ℕ → Type 0
-IsKnown assets sid = (col : ℕ) × HasSid assets col sid
 
 abbrev pub AreKnown : List AssetRow → List Dividend → Type 0
 AreKnown assets rows = All (λ d. IsKnown assets d.sid) rows

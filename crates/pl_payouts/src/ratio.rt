@@ -7,7 +7,8 @@ ghost use Rattle.std.specs.Ordering.{int_eq};
 ghost use Rattle.pl_spec.specs.Rounding.{IsCell, Fraction, is_missing};
 ghost use Rattle.pl_spec.specs.declared.RawAdjust.{RawAdjust};
 ghost use Rattle.pl_payouts.specs.declared.ratio.Skip.{Skip};
-ghost use Rattle.pl_payouts.specs.Payouts.{IsKnown, IsPayout};
+ghost use Rattle.pl_payouts.specs.Payouts.{IsPayout};
+ghost use Rattle.pl_adjust.specs.Revised.{IsKnown};
 ghost use Rattle.pl_payouts.specs.Ratios.{close_before, effective_of, last_before, lowest, ratio_in, ratio_over, row_unless_fine};
 ghost use Rattle.pl_payouts.specs.RatioRules.{ComesTo};
 

@@ -5,8 +5,8 @@ use Rattle.std.proofs.lemmas.List.Elements.{filter-append}
 use Rattle.std.proofs.lemmas.Grind.{flat_map-append}
 use Rattle.pl_spec.specs.Term.{Node}
 use Rattle.pl_spec.specs.Table.{Pipeline}
+use Rattle.pl_spec.proofs.Ranges.{range-next}
 use Rattle.pl_terms.specs.Uses.{outputs, is_used, uses}
-use Rattle.pl_planner.proofs.Counting.{range_from_zero}
 use Rattle.pl_planner.proofs.Live.{filtered}
 use Rattle.pl_plan_text.specs.Text.{line_at, used_line, term_line, lines_text}
 
@@ -15,7 +15,7 @@ module _ (p : Pipeline) (extra : ℕ → ℕ) where
   lines_below n = flat_map (line_at p extra) (filter (is_used p) (range_with_len 0 n))
 
   next : (k : ℕ) → filter (is_used p) (range_with_len 0 (k + 1)) ≡ filter (is_used p) (range_with_len 0 k) ++ filter (is_used p) (k ∷ [])
-  next k = ap (filter (is_used p)) (range_from_zero k) ∙ filter-append (is_used p) (range_with_len 0 k) (k ∷ [])
+  next k = ap (filter (is_used p)) (range-next k) ∙ filter-append (is_used p) (range_with_len 0 k) (k ∷ [])
 
   append-nil : (xs : List ℕ) → xs ++ [] ≡ xs
   append-nil [] = refl

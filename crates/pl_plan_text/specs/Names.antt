@@ -1,18 +1,9 @@
 -- The names under which the text of a plan has bar columns and kinds.
 use Rattle.std.specs.Prelude.{ℕ, List, codes}
-use Rattle.pl_spec.specs.declared.Column.{Column}
-use Rattle.pl_spec.specs.declared.Column.TheVariants.{OpenPrice, High, Low, Close, Volume}
 use Rattle.pl_spec.specs.declared.Compare.{Compare}
 use Rattle.pl_spec.specs.declared.Compare.TheVariants.{Less, LessEqual, Greater, GreaterEqual, Equal, NotEqual}
 use Rattle.pl_spec.specs.Kind as kind
 use Rattle.pl_spec.specs.Kind.{Kind, WindowKind, PointKind, LabelKind, CrossKind}
-
-abbrev pub column_name : Column → List ℕ
-column_name OpenPrice = codes "open"
-column_name High = codes "high"
-column_name Low = codes "low"
-column_name Close = codes "close"
-column_name Volume = codes "volume"
 
 abbrev pub window_name : WindowKind → List ℕ
 window_name kind.Latest = codes "Latest"

@@ -6,8 +6,9 @@ use Rattle.std.specs.Fmt.{signed_decimal}
 use Rattle.pl_spec.specs.Graph.{used_terms, bound}
 use Rattle.pl_spec.specs.Lows.{IsLow, least_reach}
 use Rattle.pl_spec.specs.Table.{Pipeline}
+use Rattle.pl_spec.specs.Names.{column_name}
 use Rattle.pl_terms.specs.Uses.{outputs, is_used, uses}
-use Rattle.pl_plan_text.specs.Names.{column_name, kind_name}
+use Rattle.pl_plan_text.specs.Names.{kind_name}
 
 -- a bar column by its name, a term by its number
 abbrev pub input_text : Input → List ℕ

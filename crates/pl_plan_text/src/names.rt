@@ -1,8 +1,9 @@
 //! The names under which the text of a plan has bar columns and kinds.
 
 ghost use Rattle.std.specs.Prelude.{◌≡◌};
+ghost use Rattle.pl_spec.specs.Names.{column_name};
 ghost use Rattle.pl_terms.specs.Kinds.{kind_of};
-ghost use Rattle.pl_plan_text.specs.Names.{column_name, kind_name};
+ghost use Rattle.pl_plan_text.specs.Names.{kind_name};
 
 use pl_spec::Column;
 use pl_terms::TermKind;

@@ -1,5 +1,5 @@
 -- What one term asks of those that it mentions.
-use Rattle.std.proofs.Common.{◌≡◌, ◌≢◌, ℕ, zero, suc, ◌+◌, ◌<◌, ◌≤◌, Bool, true, false, max, ℤ, List, [], ◌∷◌, ◌++◌, length, map, take, Option, Some, None, option_map, refl, sym, ◌∙◌, ap, arith, inl, inr, slice_get, get_or, filter_map, option_to_list, length-set, get_or-set_same, get_or-set_other}
+use Rattle.std.proofs.Common.{◌≡◌, ◌≢◌, ℕ, zero, suc, ◌+◌, ◌<◌, ◌≤◌, Bool, true, false, max, ℤ, List, [], ◌∷◌, ◌++◌, length, map, take, Some, option_map, refl, sym, ◌∙◌, ap, arith, inl, inr, slice_get, get_or, filter_map, option_to_list, length-set, get_or-set_same, get_or-set_other}
 use Rattle.std.proofs.lemmas.Bool.{cases_lt, cases_eq}
 use Rattle.std.proofs.lemmas.List.{take_more, map-append}
 use Rattle.std.proofs.lemmas.List.Elements.{filter_map-append}
@@ -12,13 +12,7 @@ use Rattle.pl_terms.specs.declared.node.Node as code_node
 use Rattle.pl_planner.specs.declared.uses.Use.{Use}
 use Rattle.pl_planner.specs.Extra.{Ask, IsBelow, back_from, input_ask, number_asks, asks}
 use Rattle.pl_planner.specs.Uses.{unused, use_at, raised, asked, all_asked}
-
-one_more : {X Y : Type 0} (f : X → Option Y) (x : X) → filter_map f (x ∷ []) ≡ option_to_list (f x)
-one_more f x = here (f x) refl
-  where
-    here : (o : Option _) → f x ≡ o → filter_map f (x ∷ []) ≡ option_to_list (f x)
-    here None e = rw e refl
-    here (Some y) e = rw e refl
+use Rattle.pl_planner.proofs.Depths.{one_more}
 
 pub more_asked : (us : List Use) (by back w : ℕ) (items : List code.Input) (i : ℕ) (d : code.Input) → i < length items
     → all_asked (all_asked us by (filter_map (input_ask back w) (map input_of (take i items)))) by (option_to_list (input_ask back w (input_of (get_or items i d))))

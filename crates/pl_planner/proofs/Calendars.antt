@@ -1,5 +1,5 @@
 -- A plan over a calendar is one over each other that has the same sessions up to its last one.
-use Rattle.std.proofs.Common.{◌≡◌, ℕ, ◌<◌, ◌≤◌, ℤ, pos, List, length, ◌∙◌, arith}
+use Rattle.std.proofs.Common.{ℕ, ◌<◌, ◌≤◌, ℤ, pos, List, length, ◌∙◌, arith}
 use Rattle.std.proofs.lemmas.Int.{ints}
 use Rattle.pl_spec.specs.Table.{Pipeline}
 use Rattle.pl_laws.proofs.Calendars.{SameDays, least_reach-same, lows-same}

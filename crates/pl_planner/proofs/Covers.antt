@@ -1,7 +1,7 @@
 -- What a plan says is what the definitions say.
-use Rattle.std.proofs.Common.{◌≡◌, ℕ, zero, suc, ◌+◌, ◌-◌, ◌*◌, ◌<◌, ◌≤◌, Bool, true, false, ◌&&◌, max, nat_le, nat_lt, if◌then◌else◌, ℤ, pos, negsuc, ◌-ℤ◌, ◌≤ℤ◌, ◌<ℤ◌, List, [], ◌∷◌, length, map, fold, filter, AllPairs, Option, Some, None, refl, sym, ◌∙◌, ap, subst, arith, inl, inr, ◌⊎◌, slice_get, get_or, ◌==◌}
+use Rattle.std.proofs.Common.{◌≡◌, ℕ, zero, suc, ◌+◌, ◌-◌, ◌*◌, ◌<◌, ◌≤◌, Bool, true, false, ◌&&◌, max, nat_le, nat_lt, if◌then◌else◌, ℤ, pos, negsuc, ◌-ℤ◌, ◌≤ℤ◌, ◌<ℤ◌, List, [], ◌∷◌, length, map, fold, filter, AllPairs, Option, Some, None, refl, sym, ◌∙◌, ap, subst, arith, inl, inr, ◌⊎◌, slice_get, get_or, ◌==◌, leb-true}
 use Rattle.std.specs.List.{list_any, range_with_len, count_by}
-use Rattle.std.proofs.lemmas.Bool.{true≢false, cases_lt, or_right, eqb-true}
+use Rattle.std.proofs.lemmas.Bool.{true≢false, cases_lt, or_right, eqb-true, and_from, and_parts}
 use Rattle.std.proofs.lemmas.Bool.Decides.{nat_tests}
 use Rattle.std.proofs.lemmas.Int.{ints}
 use Rattle.std.proofs.lemmas.Option.{slice_get_within}
@@ -24,12 +24,12 @@ use Rattle.pl_planner.specs.Columns.{held_at}
 use Rattle.pl_planner.specs.Rows.{extra_at, IsRow, AreRows, most_extra}
 use Rattle.pl_planner.specs.Slotting.{slots_at, own_slot, kept_below, one, IsHad, IsLowest, IsSlotted, AreSlotted}
 use Rattle.pl_planner.specs.Plans as plans
-use Rattle.pl_planner.specs.Plans.{Planned, is_used, low_at, last_user, is_read_by, slot_of, column_slot, IsAsked, AreLows, IsLastUser, AreLastUsers, IsLive, HasSlot, HasColumn, AreSlots, IsPlanOf, IsDeepest, KeepsLimits}
+use Rattle.pl_planner.specs.Plans.{Planned, is_used, low_at, last_user, is_read_by, slot_of, column_slot, AreLows, AreLastUsers, IsLive, HasSlot, HasColumn, IsPlanOf, IsDeepest, KeepsLimits}
 use Rattle.pl_planner.specs.Laws.{ReadsAreCovered}
 use Rattle.pl_planner.proofs.Pipelines.{IsPipeline, is-pipeline}
 use Rattle.pl_planner.proofs.Gathers.{mention_of_ask}
 use Rattle.pl_planner.proofs.Counting.{count_more, most_in, columns-few}
-use Rattle.pl_planner.proofs.Live.{some_holds, and_true, both, le_of, used_within, live_is, bound_is}
+use Rattle.pl_planner.proofs.Live.{some_holds, used_within, live_is, bound_is}
 use Rattle.pl_planner.proofs.Lows.{Asked, asked-of, Back, needs-back, low-is, back-used, needs-rise}
 use Rattle.pl_planner.proofs.Tables.{ReachedAt, most-at, most-in, extra-used, extra-some}
 
@@ -50,7 +50,7 @@ contains-filter f (x ∷ xs) t = here (f x) refl (contains-filter f xs t) (x == 
     here false h ih false q = rw (h, q) ih
 
 pub live-intro : (p : Pipeline) (k t : ℕ) → is_live p.graph (outputs p) k t ≡ true → contains (used_terms p.graph (outputs p)) t ≡ true → IsLive p k t
-live-intro p k t a b = contains-filter (is_live p.graph (outputs p) k) (used_terms p.graph (outputs p)) t ∙ and_true _ _ a b
+live-intro p k t a b = contains-filter (is_live p.graph (outputs p) k) (used_terms p.graph (outputs p)) t ∙ and_from _ _ a b
 
 -- ---- what a used term reads is computed, and live
 
@@ -83,11 +83,11 @@ reads-covered days rise p checked plan is k t c n s r asked e low reads =
     let first : nat_le t k ≡ true = grind (arith, nat_tests) in
     let itself : nat_le k k ≡ true = grind (arith, nat_tests) in
     let any : list_any (λ u. nat_le k u && contains (mentions_at p.graph u) t) (used_terms p.graph (outputs p)) ≡ true
-    = some_holds (λ u. nat_le k u && contains (mentions_at p.graph u) t) (used_terms p.graph (outputs p)) k listed (and_true _ _ itself mention) in
+    = some_holds (λ u. nat_le k u && contains (mentions_at p.graph u) t) (used_terms p.graph (outputs p)) k listed (and_from _ _ itself mention) in
     record {
       used = used;
       lower = below;
-      live = live-intro p k t (and_true _ _ first (or_right (contains (outputs p) t) _ any)) listed_t;
+      live = live-intro p k t (and_from _ _ first (or_right (contains (outputs p) t) _ any)) listed_t;
       computed = lows-cover days rise p.graph (outputs p) (pos c) k t n (pos (low_at plan k c)) (pos (low_at plan t c)) s r (is.lows.exact k c asked) (is.lows.exact t c (used, asked.1)) e low reads;
     }
 
@@ -306,10 +306,10 @@ module _ (days : List ℤ) (rise : AllPairs (λ a b. a <ℤ b) days) (p : Pipeli
 
     kept-later : (k m t : ℕ) → m ≤ k → kept k t ≡ true → kept m t ≡ true
     kept-later k m t h e =
-        let two = both (use_at uses t).used (nat_le k (last_of t)) e in
-        let l : k ≤ last_of t = le_of k (last_of t) two.1 in
+        let two = and_parts (use_at uses t).used (nat_le k (last_of t)) e in
+        let l : k ≤ last_of t = leb-true k (last_of t) two.1 in
         let r : nat_le m (last_of t) ≡ true = (let n : m ≤ last_of t = omega arith in grind (arith, nat_tests)) in
-        and_true _ _ two.0 r
+        and_from _ _ two.0 r
 
     -- a term is kept at least until it is computed
     kept-self : (k : ℕ) → (use_at uses k).used ≡ true → kept k k ≡ true
@@ -325,17 +325,17 @@ module _ (days : List ℤ) (rise : AllPairs (λ a b. a <ℤ b) days) (p : Pipeli
         inside = used_within g outs ok.graph are k used
 
         at-most : k ≤ last_of k → kept k k ≡ true
-        at-most l = let r : nat_le k (last_of k) ≡ true = grind (arith, nat_tests) in and_true _ _ h r
+        at-most l = let r : nat_le k (last_of k) ≡ true = grind (arith, nat_tests) in and_from _ _ h r
 
         here : (b : Bool) → contains outs k ≡ b → kept k k ≡ true
         here true e = let l = is.output e in let i = inside in at-most (omega arith)
         here false e = let r = is.reader e in let l = lower g outs ok.graph (last_of k) k r.1 in at-most (omega arith)
 
     live-of : (k t : ℕ) → k < length g → t ≤ k → kept k t ≡ true → IsLive p k t
-    live-of k t h l e = live-kept k t h ∙ and_true _ _ (let r : nat_le t k ≡ true = grind (arith, nat_tests) in r) e
+    live-of k t h l e = live-kept k t h ∙ and_from _ _ (let r : nat_le t k ≡ true = grind (arith, nat_tests) in r) e
 
     of-live : (k t : ℕ) → k < length g → IsLive p k t → (t ≤ k) × (kept k t ≡ true)
-    of-live k t h e = let two = both (nat_le t k) (kept k t) (sym (live-kept k t h) ∙ e) in (le_of t k two.0, two.1)
+    of-live k t h e = let two = and_parts (nat_le t k) (kept k t) (sym (live-kept k t h) ∙ e) in (leb-true t k two.0, two.1)
 
     slot-is : (t : ℕ) → slot_of plan t ≡ own_slot slots t
     unfolding slot_of
@@ -448,7 +448,7 @@ module _ (days : List ℤ) (rise : AllPairs (λ a b. a <ℤ b) days) (p : Pipeli
     apart-below k t u h l a b e =
         let ta = of-live k t h a in
         let ub = of-live k u h b in
-        let used : (use_at uses u).used ≡ true = (both (use_at uses u).used (nat_le k (last_of u)) ub.1).0 in
+        let used : (use_at uses u).used ≡ true = (and_parts (use_at uses u).used (nat_le k (last_of u)) ub.1).0 in
         (slotted-here u used).own.free (record { term = t; below = l; kept = kept-later k u t ub.0 ta.1; has = sym (slot-is t) ∙ e ∙ slot-is u })
 
     apart : (k t u : ℕ) → (use_at uses k).used ≡ true → IsLive p k t → IsLive p k u → slot_of plan t ≡ slot_of plan u → t ≡ u

@@ -2,12 +2,13 @@
 use Rattle.std.proofs.Common.{◌≡◌, ℕ, zero, suc, ◌+◌, ◌-◌, ◌*◌, ◌<◌, ◌≤◌, Bool, true, false, max, ℤ, pos, ◌≤ℤ◌, ◌<ℤ◌, List, [], ◌∷◌, ◌++◌, length, map, take, filter_map, AllPairs, Option, Some, None, get_or, slice_get, slice_set, replicate, refl, sym, ◌∙◌, ap, subst, arith, inl, inr, ◌⊎◌, option_to_list}
 use Rattle.std.specs.List.{list_any}
 use Rattle.std.specs.Int.{int_min}
-use Rattle.std.proofs.lemmas.Int.{ints, int_min_is, by_lt_z}
-use Rattle.std.proofs.lemmas.Bool.{cases_lt}
+use Rattle.std.proofs.lemmas.Int.{ints}
+use Rattle.std.proofs.lemmas.Bool.{cases_lt, cases_eq}
 use Rattle.std.proofs.lemmas.List.{length-set, get_or-set_same, get_or-set_other, length-replicate, take_more, map-append}
 use Rattle.std.proofs.lemmas.List.Elements.{filter_map-append}
 use Rattle.std.proofs.lemmas.List.Sums.{fold-append}
 use Rattle.std.proofs.lemmas.Option.{slice_get_within}
+use Rattle.std.specs.Int.Signed.{≤ℤ_refl}
 use Rattle.pl_spec.specs.declared.Column.{Column}
 use Rattle.pl_spec.specs.Window.{before, downward}
 use Rattle.pl_spec.specs.Term.{Input, Node, Graph, IsGraph, MentionsBelow, input_tree, number_tree, trees, term_at}
@@ -19,9 +20,13 @@ use Rattle.pl_laws.proofs.Reaches.{AllFrom, below_least, at_downward}
 use Rattle.pl_laws.proofs.Lows.{reaches-rise, reads_at-within}
 use Rattle.pl_planner.proofs.Pipelines.{ReadsTerms}
 use Rattle.pl_spec.proofs.Each.{Each, each_at, each_both, each_more}
+use Rattle.pl_spec.proofs.Signed.{le-eq, min-either}
+use Rattle.pl_spec.proofs.Windows.{before-zero}
 use Rattle.pl_terms.specs.Nodes.{input_of}
 use Rattle.pl_terms.specs.declared.node.Input as code
-use Rattle.pl_planner.specs.Reaching.{Ask, input_ask, number_asks, asks, is_bar, own_depth, deeper, asked, all_asked}
+use Rattle.pl_planner.specs.Reaching.{asks, own_depth, deeper, asked, all_asked}
+use Rattle.pl_planner.specs.Extra.{Ask, input_ask, number_asks}
+use Rattle.pl_planner.specs.Columns.{is_bar}
 
 -- ---- what is asked of the terms
 
@@ -51,15 +56,9 @@ asked-own ds a l = get_or-set_same ds a.0 (Some (deeper (get_or ds a.0 None) a.1
 asked-other : (ds : Depths) (a : Ask) (j : ℕ) → (j ≡ a.0 → ⊥) → get_or (asked ds a) j None ≡ get_or ds j None
 asked-other ds a j n = get_or-set_other ds a.0 j (Some (deeper (get_or ds a.0 None) a.1)) None n
 
-same_or_not : (i j : ℕ) → (i ≡ j) ⊎ (i ≡ j → ⊥)
-same_or_not i j = elim (cases_lt i j) [
-  | inl l ↦ inr (λ e. omega (arith, l, e))
-  | inr l ↦ elim (cases_lt j i) [ inl m ↦ inr (λ e. omega (arith, m, e)) | inr m ↦ inl (omega (arith, l, m)) ]
-]
-
 -- what was read is read, at least as far
 kept-one : (ds : Depths) (a : Ask) (j x : ℕ) → a.0 < length ds → get_or ds j None ≡ Some x → AtLeast (asked ds a) j x
-kept-one ds a j x l e = elim (same_or_not j a.0) [
+kept-one ds a j x l e = elim (cases_eq j a.0) [
   | inr n ↦ (x, omega arith, asked-other ds a j n ∙ e)
   | inl same ↦
       (let at : get_or (asked ds a) j None ≡ Some (deeper (get_or ds j None) a.1) = subst (λ k. get_or (asked ds a) k None ≡ Some (deeper (get_or ds k None) a.1)) (sym same) (asked-own ds a l) in
@@ -70,7 +69,7 @@ told-one : (ds : Depths) (a : Ask) → a.0 < length ds → AtLeast (asked ds a) 
 told-one ds a l = (deeper (get_or ds a.0 None) a.1, deeper-least (get_or ds a.0 None) a.1, asked-own ds a l)
 
 came-one : (ds : Depths) (a : Ask) (j x : ℕ) → a.0 < length ds → get_or (asked ds a) j None ≡ Some x → (get_or ds j None ≡ Some x) ⊎ ((j ≡ a.0) × (x ≡ a.1))
-came-one ds a j x l e = elim (same_or_not j a.0) [
+came-one ds a j x l e = elim (cases_eq j a.0) [
   | inr n ↦ inl (sym (asked-other ds a j n) ∙ e)
   | inl same ↦
       (let at : get_or (asked ds a) j None ≡ Some (deeper (get_or ds j None) a.1) = subst (λ k. get_or (asked ds a) k None ≡ Some (deeper (get_or ds k None) a.1)) (sym same) (asked-own ds a l) in
@@ -170,10 +169,10 @@ bar-found (TermInput u ∷ is) (suc i) c e = bar-found is i c e
 own-bars : (c b : ℕ) (n : Node) → list_any is_bar n.inputs ≡ true → own_depth c b n ≡ c + n.window
 own-bars c b n e = rw e refl
 
-bar-there : (is : List Input) → list_any is_bar is ≡ true → (i : ℕ) × (c : Column) × (slice_get is i ≡ Some (BarColumn c))
-bar-there [] e = absurd (let bad : false ≡ true = e in cc)
-bar-there (BarColumn c ∷ is) e = (0, c, refl)
-bar-there (TermInput u ∷ is) e = let r = bar-there is e in (suc r.0, r.1, r.2)
+pub has-bar : (is : List Input) → list_any is_bar is ≡ true → (i : ℕ) × (c : Column) × (slice_get is i ≡ Some (BarColumn c))
+has-bar [] e = absurd (let bad : false ≡ true = e in cc)
+has-bar (BarColumn c ∷ is) e = (0, c, refl)
+has-bar (TermInput u ∷ is) e = let r = has-bar is e in (suc r.0, r.1, r.2)
 
 none-there : (n j : ℕ) → get_or (replicate n (let o : Option ℕ = None in o)) j None ≡ None
 none-there zero j = refl
@@ -187,14 +186,11 @@ past-end (o ∷ ds) (suc k) h = past-end ds k (omega arith)
 
 -- ---- the least of some sessions is one of them
 
-min-is : (x y : ℤ) → (int_min x y ≡ x) ⊎ (int_min x y ≡ y)
-min-is x y = by_lt_z x y (λ l. inl (omega (arith, ints, int_min_is x y, l))) (λ l. inr (omega (arith, ints, int_min_is x y, l)))
-
 least-attained : (ss : List ℤ) (d : ℤ) → (least_of ss d ≡ d) ⊎ ((i : ℕ) × (x : ℤ) × (slice_get ss i ≡ Some x) × (least_of ss d ≡ x))
 least-attained [] d = inl refl
 least-attained (s ∷ ss) d = elim (least-attained ss (int_min d s)) [
   | inr r ↦ inr (suc r.0, r.1, r.2, r.3)
-  | inl e ↦ elim (min-is d s) [ inl f ↦ inl (e ∙ f) | inr f ↦ inr (0, s, refl, e ∙ f) ]
+  | inl e ↦ elim (min-either d s) [ inl f ↦ inl (e ∙ f) | inr f ↦ inr (0, s, refl, e ∙ f) ]
 ]
 
 downward-attained : (f : ℕ → ℤ) (size i : ℕ) (x : ℤ) → slice_get (map f (downward size)) i ≡ Some x → (n : ℕ) × (n < size) × (x ≡ f n)
@@ -202,17 +198,8 @@ downward-attained f zero i x e = cc
 downward-attained f (suc size) zero x e = let same : f size ≡ x = cc in (size, omega arith, sym same)
 downward-attained f (suc size) (suc i) x e = let r = downward-attained f size i x e in let l : r.0 < size = r.1 in (r.0, omega arith, r.2)
 
-itself : (z : ℤ) → z ≤ℤ z
-itself z = omega (arith, ints)
-
-less-same : (x y z : ℤ) → x ≤ℤ y → y ≡ z → x ≤ℤ z
-less-same x y z l e = subst (λ v. x ≤ℤ v) e l
-
 before-more : (d : ℤ) (b m : ℕ) → before (before d b) m ≡ before d (b + m)
 before-more d b m = omega (arith, ints)
-
-before-none : (d : ℤ) → before d 0 ≡ d
-before-none d = omega (arith, ints)
 
 before-falls : (d : ℤ) (m n : ℕ) → m ≤ n → before d n ≤ℤ before d m
 before-falls d m n l = omega (arith, ints, l)
@@ -271,12 +258,12 @@ module _ (days : List ℤ) (up : AllPairs (λ a b. a <ℤ b) days) (g : Graph) (
     -- ---- no part lies lower
 
     froms : (s : ℤ) → (R k s ≤ℤ s) × AllFrom (R k s) (parts (on s) s)
-    froms s = below_least (R k s) s (parts (on s) s) (less-same (R k s) (R k s) (least_of (parts (on s) s) s) (itself (R k s)) (whole s))
+    froms s = below_least (R k s) s (parts (on s) s) (le-eq (R k s) (R k s) (least_of (parts (on s) s) s) (≤ℤ_refl (R k s)) (whole s))
 
     term-from : (u size : ℕ) (s z : ℤ) → 1 ≤ size → u < k → R k s ≤ℤ part_reach (term_at g u) (R u) size z → R k s ≤ℤ R u (before z (size - 1))
     term-from u size s z some l h =
         at_downward (R k s) (λ i. R u (before z i)) size
-        (below_least (R k s) z (map (λ i. R u (before z i)) (downward size)) (less-same _ _ _ h (node-part u size z (below u l)))).1 (size - 1) (omega arith)
+        (below_least (R k s) z (map (λ i. R u (before z i)) (downward size)) (le-eq _ _ _ h (node-part u size z (below u l)))).1 (size - 1) (omega arith)
 
     input-from : (s : ℤ) (i : ℕ) (x : Input) → slice_get n.inputs i ≡ Some x → R k s ≤ℤ input_reach (slice_get n.inputs i) (on s)
     input-from s zero x e = (froms s).1.0
@@ -300,18 +287,18 @@ module _ (days : List ℤ) (up : AllPairs (λ a b. a <ℤ b) days) (g : Graph) (
 
     term-attained : (u size : ℕ) (s z : ℤ) → 1 ≤ size → u < k → R k s ≡ part_reach (term_at g u) (R u) size z → R u (before z (size - 1)) ≤ℤ R k s
     term-attained u size s z some l e = elim (least-attained (map (λ i. R u (before z i)) (downward size)) z) [
-      | inl own ↦ less-same _ _ _ (within u size z) (sym (e ∙ node-part u size z (below u l) ∙ own))
+      | inl own ↦ le-eq _ _ _ (within u size z) (sym (e ∙ node-part u size z (below u l) ∙ own))
       | inr r ↦
           (let m = downward-attained (λ i. R u (before z i)) size r.0 r.1 r.2 in
           let is : R k s ≡ R u (before z m.0) = e ∙ node-part u size z (below u l) ∙ r.3 ∙ m.2 in
           let lower : m.0 < size = m.1 in
-          less-same _ _ _ (rises u (before z (size - 1)) (before z m.0) (before-falls z m.0 (size - 1) (omega arith))) (sym is))
+          le-eq _ _ _ (rises u (before z (size - 1)) (before z m.0) (before-falls z m.0 (size - 1) (omega arith))) (sym is))
     ]
 
     input-attained : (s : ℤ) (i : ℕ) (o : Option Input) → slice_get n.inputs i ≡ o → R k s ≡ input_reach o (on s) → Reached s
     input-attained s i None e f = elim (reads k n at) [
       | inl now ↦ inl (f ∙ now days s)
-      | inr r ↦ inr (inr (inl (0, r.0, r.1, less-same _ _ _ (within r.0 n.window (on s)) (sym f))))
+      | inr r ↦ inr (inr (inl (0, r.0, r.1, le-eq _ _ _ (within r.0 n.window (on s)) (sym f))))
     ]
     input-attained s i (Some (BarColumn c)) e f = inr (inl (i, c, e, f))
     input-attained s i (Some (TermInput u)) e f = inr (inr (inl (i, u, e, term-attained u n.window s (on s) (sizes k n at).0 ((ok.lower k n at).inputs i u e) f)))
@@ -320,7 +307,7 @@ module _ (days : List ℤ) (up : AllPairs (λ a b. a <ℤ b) days) (g : Graph) (
     number-attained s None h f = inl f
     number-attained s (Some u) h f =
         let l = h u refl in
-        inr (inr (inr (u, l.1, subst (λ z. R u z ≤ℤ R k s) (before-none s) (term-attained u 1 s s (omega arith) l.0 f))))
+        inr (inr (inr (u, l.1, subst (λ z. R u z ≤ℤ R k s) (before-zero s) (term-attained u 1 s s (omega arith) l.0 f))))
 
     reached : (s : ℤ) → Reached s
     reached s = elim (least-attained (parts (on s) s) s) [
@@ -360,11 +347,11 @@ module _ (days : List ℤ) (up : AllPairs (λ a b. a <ℤ b) days) (g : Graph) (
           (λ u e.
           let l : u < k = (ok.lower k n at).mask u e in
           let h : R k (before d b) ≤ℤ number_reach (Some u) (before d b) = subst (λ o. R k (before d b) ≤ℤ number_reach o (before d b)) e (froms (before d b)).1.1.1.1.0 in
-          (l, omega (arith, later), subst (λ z. R k (before d b) ≤ℤ R u z) (before-none (before d b)) (term-from u 1 (before d b) (before d b) (omega arith) l h)))
+          (l, omega (arith, later), subst (λ z. R k (before d b) ≤ℤ R u z) (before-zero (before d b)) (term-from u 1 (before d b) (before d b) (omega arith) l h)))
           (λ u e.
           let l : u < k = (ok.lower k n at).group u e in
           let h : R k (before d b) ≤ℤ number_reach (Some u) (before d b) = subst (λ o. R k (before d b) ≤ℤ number_reach o (before d b)) e (froms (before d b)).1.1.1.1.1.0 in
-          (l, omega (arith, later), subst (λ z. R k (before d b) ≤ℤ R u z) (before-none (before d b)) (term-from u 1 (before d b) (before d b) (omega arith) l h)))
+          (l, omega (arith, later), subst (λ z. R k (before d b) ≤ℤ R u z) (before-zero (before d b)) (term-from u 1 (before d b) (before d b) (omega arith) l h)))
 
       own-low : R k (before d b) ≤ℤ before d (own_depth c b n)
       own-low = here (list_any is_bar n.inputs) refl
@@ -372,9 +359,9 @@ module _ (days : List ℤ) (up : AllPairs (λ a b. a <ℤ b) days) (g : Graph) (
           here : (t : Bool) → list_any is_bar n.inputs ≡ t → R k (before d b) ≤ℤ before d (own_depth c b n)
           here false e = rw e (froms (before d b)).0
           here true e =
-              let r = bar-there n.inputs e in
+              let r = has-bar n.inputs e in
               let h : R k (before d b) ≤ℤ before (on (before d b)) n.window = subst (λ o. R k (before d b) ≤ℤ input_reach o (on (before d b))) r.2 (input-from (before d b) r.0 (BarColumn r.1) r.2) in
-              rw e (less-same _ _ _ h (ap (λ z. before z n.window) moved ∙ before-more d c n.window))
+              rw e (le-eq _ _ _ h (ap (λ z. before z n.window) moved ∙ before-more d c n.window))
 
       abbrev Attains : Type 0
       Attains = (before d (own_depth c b n) ≤ℤ R k (before d b)) ⊎ ((u x : ℕ) × Found (asks c b n) u x × (R u (before d x) ≤ℤ R k (before d b)))
@@ -406,11 +393,11 @@ module _ (days : List ℤ) (up : AllPairs (λ a b. a <ℤ b) days) (g : Graph) (
 
       attains : Attains
       attains = elim (reached (before d b)) [
-        | inl e ↦ inl (less-same _ _ _ (before-falls d b (own_depth c b n) own-more) (sym e))
+        | inl e ↦ inl (le-eq _ _ _ (before-falls d b (own_depth c b n) own-more) (sym e))
         | inr (inl r) ↦
             (let e : own_depth c b n ≡ c + n.window = own-bars c b n (bar-found n.inputs r.0 r.1 r.2) in
             let same : before d (own_depth c b n) ≡ R k (before d b) = ap (before d) e ∙ sym (ap (λ z. before z n.window) moved ∙ before-more d c n.window) ∙ sym r.3 in
-            inl (less-same _ _ _ (itself (before d (own_depth c b n))) same))
+            inl (le-eq _ _ _ (≤ℤ_refl (before d (own_depth c b n))) same))
         | inr (inr (inl r)) ↦ inr (r.1, c + (n.window - 1), found-input r.0 r.1 r.2, subst (λ z. R r.1 z ≤ℤ R k (before d b)) (ap (λ z. before z (n.window - 1)) moved ∙ before-more d c (n.window - 1)) r.3)
         | inr (inr (inr r)) ↦ inr (r.0, b, found-number r.0 r.1, r.2)
       ]
@@ -424,9 +411,9 @@ module _ (days : List ℤ) (up : AllPairs (λ a b. a <ℤ b) days) (g : Graph) (
     pub begun : (ds : Depths) → ds ≡ slice_set (replicate (t + 1) None) t (Some 0) → Covers days g t d ds (t + 1) 0
     begun ds e = record {
       long = size;
-      own = less-same _ _ _ (reaches-rise.within days (term_at g t) (pos d)) (sym (before-none (pos d)));
-      marked = λ j b f. let is = one j b f in subst (λ s. R t (pos d) ≤ℤ s) (same j b is.0 is.1) (itself (R t (pos d)));
-      met = inr (t, 0, omega arith, at, subst (λ s. R t s ≤ℤ R t (pos d)) (sym (before-none (pos d))) (itself (R t (pos d))));
+      own = le-eq _ _ _ (reaches-rise.within days (term_at g t) (pos d)) (sym (before-zero (pos d)));
+      marked = λ j b f. let is = one j b f in subst (λ s. R t (pos d) ≤ℤ s) (same j b is.0 is.1) (≤ℤ_refl (R t (pos d)));
+      met = inr (t, 0, omega arith, at, subst (λ s. R t s ≤ℤ R t (pos d)) (sym (before-zero (pos d))) (≤ℤ_refl (R t (pos d))));
       room = λ j b f. let is = one j b f in let x : j ≡ t = is.0 in let y : b ≡ 0 = is.1 in omega (arith, x, y);
       room_own = omega arith;
     }
@@ -444,13 +431,13 @@ module _ (days : List ℤ) (up : AllPairs (λ a b. a <ℤ b) days) (g : Graph) (
         at = ap (λ (l : Depths). get_or l t None) e ∙ get_or-set_same (replicate (t + 1) None) t (Some 0) None (omega (arith, long-none))
 
         one : (j b : ℕ) → get_or ds j None ≡ Some b → (j ≡ t) × (b ≡ 0)
-        one j b f = elim (same_or_not j t) [
+        one j b f = elim (cases_eq j t) [
           | inl s ↦ (s, let x : Some b ≡ Some 0 = sym f ∙ ap (λ i. get_or ds i None) s ∙ at in cc)
           | inr n ↦ absurd (let x : None ≡ Some b = sym (none-there (t + 1) j) ∙ sym (get_or-set_other (replicate (t + 1) None) t j (Some 0) None n) ∙ sym (ap (λ (l : Depths). get_or l j None) e) ∙ f in cc)
         ]
 
         same : (j b : ℕ) → j ≡ t → b ≡ 0 → R t (pos d) ≡ R j (before (pos d) b)
-        same j b x y = rw (x, y) (ap (R t) (sym (before-none (pos d))))
+        same j b x y = rw (x, y) (ap (R t) (sym (before-zero (pos d))))
 
     max-own : (x : ℤ) (m n : ℕ) → x ≤ℤ before (pos d) m → x ≤ℤ before (pos d) n → x ≤ℤ before (pos d) (max m n)
     max-own x m n h i = elim (cases_lt m n) [
@@ -462,7 +449,7 @@ module _ (days : List ℤ) (up : AllPairs (λ a b. a <ℤ b) days) (g : Graph) (
         → more ≡ max deepest (own_depth c b n) → Covers days g t d new k more
     stepped ds new k deepest more b c n moved near h at is made grown = record {
       long = ap (λ (l : Depths). length l) made ∙ long-asked (asks c b n) ds ∙ h.long;
-      own = less-same _ _ _ (max-own (R t (pos d)) deepest (own_depth c b n) h.own (through (before (pos d) (own_depth c b n)) (own-low k n at (pos d) b c moved))) (ap (before (pos d)) (sym grown));
+      own = le-eq _ _ _ (max-own (R t (pos d)) deepest (own_depth c b n) h.own (through (before (pos d) (own_depth c b n)) (own-low k n at (pos d) b c moved))) (ap (before (pos d)) (sym grown));
       marked = λ j x e. elim (came-all (asks c b n) ds inside j x (sym (ap (λ (l : Depths). get_or l j None) made) ∙ e)) [
         | inl old ↦ h.marked j x old
         | inr f ↦ through (R j (before (pos d) x)) (asked-is j x f).2
@@ -540,7 +527,7 @@ module _ (days : List ℤ) (up : AllPairs (λ a b. a <ℤ b) days) (g : Graph) (
         here (inl l) = (let m = h.own in omega (arith, ints, l, m))
         here (inr r) = absurd (omega (arith, r.2))
 
-one_more : {X Y : Type 0} (f : X → Option Y) (x : X) → filter_map f (x ∷ []) ≡ option_to_list (f x)
+pub one_more : {X Y : Type 0} (f : X → Option Y) (x : X) → filter_map f (x ∷ []) ≡ option_to_list (f x)
 one_more f x = here (f x) refl
   where
     here : (o : Option _) → f x ≡ o → filter_map f (x ∷ []) ≡ option_to_list (f x)

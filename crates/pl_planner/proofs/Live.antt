@@ -1,37 +1,23 @@
 -- The terms that are live with a term, by their last readers.
-use Rattle.std.proofs.Common.{◌≡◌, ◌≢◌, ℕ, zero, suc, ◌+◌, ◌-◌, ◌<◌, ◌≤◌, Bool, true, false, cond, ◌&&◌, ◌||◌, max, nat_le, List, [], ◌∷◌, ◌++◌, length, map, fold, filter, refl, sym, ◌∙◌, ap, arith, inl, inr, ◌==◌, if◌then◌else◌}
+use Rattle.std.proofs.Common.{◌≡◌, ℕ, zero, suc, ◌+◌, ◌-◌, ◌<◌, ◌≤◌, Bool, true, false, cond, ◌&&◌, ◌||◌, max, nat_le, List, [], ◌∷◌, ◌++◌, length, map, fold, filter, refl, sym, ◌∙◌, ap, arith, inl, inr, ◌==◌, if◌then◌else◌, leb-true}
 use Rattle.std.specs.List.{range_with_len, count_by, list_any}
 use Rattle.std.proofs.lemmas.Bool.Decides.{nat_tests}
-use Rattle.std.proofs.lemmas.Bool.{cases_lt, true≢false, or_cases, or_left, or_right, eq-eqb, eqb-true}
+use Rattle.std.proofs.lemmas.Bool.{cases_lt, true≢false, or_cases, or_left, or_right, eq-eqb, eqb-true, and_from, and_parts}
 use Rattle.std.proofs.lemmas.List.Elements.{filter-append}
 use Rattle.std.proofs.lemmas.List.Sums.{length-filter}
 use Rattle.std.proofs.lemmas.List.Folds.{list_any-append}
 use Rattle.pl_spec.specs.Term.{Graph, IsGraph}
 use Rattle.pl_spec.specs.Graph.{contains, mentions_at, Used, used_below, used_terms, is_live, live_terms, columns_at, bound}
+use Rattle.pl_spec.proofs.Ranges.{range-next}
+use Rattle.pl_spec.proofs.Lists.{filter-twice}
+use Rattle.pl_spec.proofs.Contained.{not-in-back, alone-in, not-in-alone}
 use Rattle.pl_laws.proofs.Uses.{used_terms-sound, used_terms-complete}
 use Rattle.pl_planner.specs.declared.uses.Use.{Use}
 use Rattle.pl_planner.specs.Uses.{unused, use_at, is_kept, AreUses, IsLast}
 use Rattle.pl_planner.specs.Columns.{held_at}
-use Rattle.pl_planner.proofs.Counting.{range_from_zero, count_cut, count_same, filter_twice, most_chosen, most_same}
+use Rattle.pl_planner.proofs.Counting.{count_cut, count_same, most_chosen, most_same}
 
 -- ---- the used terms are a filter of all terms
-
-in_front : (xs ys : List ℕ) (k : ℕ) → contains ys k ≡ false → contains (xs ++ ys) k ≡ contains xs k
-in_front xs ys k h = list_any-append (λ x. x == k) xs ys ∙ ap (λ b. contains xs k || b) h ∙ or_false (contains xs k)
-  where
-    or_false : (b : Bool) → (b || false) ≡ b
-    or_false true = refl
-    or_false false = refl
-
-not_alone : (n k : ℕ) → k ≢ n → contains (n ∷ []) k ≡ false
-not_alone n k ne = here (contains (n ∷ []) k) refl
-  where
-    here : (b : Bool) → contains (n ∷ []) k ≡ b → contains (n ∷ []) k ≡ false
-    here true e = elim (or_cases (n == k) false e) [ inl p ↦ absurd (ne (sym (eqb-true n k p))) | inr p ↦ absurd (true≢false (sym p)) ]
-    here false e = e
-
-alone : (n : ℕ) → contains (n ∷ []) n ≡ true
-alone n = or_left (n == n) false (eq-eqb n n refl)
 
 module _ (g : Graph) where
   low : (n : ℕ) (marks : List ℕ) (t : ℕ) → n ≤ t → contains (used_below g n marks) t ≡ false
@@ -40,28 +26,28 @@ module _ (g : Graph) where
     where
       here : (b : Bool) → contains marks n ≡ b → ((m : List ℕ) → contains (used_below g n m) t ≡ false)
           → contains (used_below g n (cond b (marks ++ mentions_at g n) marks) ++ cond b (n ∷ []) []) t ≡ false
-      here true e ih = in_front (used_below g n (marks ++ mentions_at g n)) (n ∷ []) t (not_alone n t (λ p. omega arith)) ∙ ih (marks ++ mentions_at g n)
-      here false e ih = in_front (used_below g n marks) [] t refl ∙ ih marks
+      here true e ih = not-in-back (used_below g n (marks ++ mentions_at g n)) (n ∷ []) t (not-in-alone n t (λ p. omega arith)) ∙ ih (marks ++ mentions_at g n)
+      here false e ih = not-in-back (used_below g n marks) [] t refl ∙ ih marks
 
   pub filtered : (q : ℕ → Bool) (n : ℕ) (marks : List ℕ) → ((t : ℕ) → t < n → q t ≡ contains (used_below g n marks) t) → used_below g n marks ≡ filter q (range_with_len 0 n)
   filtered q zero marks h = refl
   filtered q (suc n) marks h = here (contains marks n) refl h (λ m k. filtered q n m k)
     where
       split : filter q (range_with_len 0 (suc n)) ≡ filter q (range_with_len 0 n) ++ filter q (n ∷ [])
-      split = let e : suc n ≡ n + 1 = omega arith in ap (λ m. filter q (range_with_len 0 m)) e ∙ ap (filter q) (range_from_zero n) ∙ filter-append q (range_with_len 0 n) (n ∷ [])
+      split = let e : suc n ≡ n + 1 = omega arith in ap (λ m. filter q (range_with_len 0 m)) e ∙ ap (filter q) (range-next n) ∙ filter-append q (range_with_len 0 n) (n ∷ [])
 
       here : (b : Bool) → contains marks n ≡ b → ((t : ℕ) → t < suc n → q t ≡ contains (used_below g n (cond b (marks ++ mentions_at g n) marks) ++ cond b (n ∷ []) []) t)
           → ((m : List ℕ) → ((t : ℕ) → t < n → q t ≡ contains (used_below g n m) t) → used_below g n m ≡ filter q (range_with_len 0 n))
           → used_below g n (cond b (marks ++ mentions_at g n) marks) ++ cond b (n ∷ []) [] ≡ filter q (range_with_len 0 (suc n))
       here true e h ih =
           let front : used_below g n (marks ++ mentions_at g n) ≡ filter q (range_with_len 0 n)
-          = ih (marks ++ mentions_at g n) (λ t l. h t (omega arith) ∙ in_front (used_below g n (marks ++ mentions_at g n)) (n ∷ []) t (not_alone n t (λ p. omega arith))) in
-          let own : q n ≡ true = h n (omega arith) ∙ list_any-append (λ x. x == n) (used_below g n (marks ++ mentions_at g n)) (n ∷ []) ∙ or_right (contains (used_below g n (marks ++ mentions_at g n)) n) (contains (n ∷ []) n) (alone n) in
+          = ih (marks ++ mentions_at g n) (λ t l. h t (omega arith) ∙ not-in-back (used_below g n (marks ++ mentions_at g n)) (n ∷ []) t (not-in-alone n t (λ p. omega arith))) in
+          let own : q n ≡ true = h n (omega arith) ∙ list_any-append (λ x. x == n) (used_below g n (marks ++ mentions_at g n)) (n ∷ []) ∙ or_right (contains (used_below g n (marks ++ mentions_at g n)) n) (contains (n ∷ []) n) (alone-in n) in
           let back : n ∷ [] ≡ filter q (n ∷ []) = rw own refl in
           ap (λ l. l ++ n ∷ []) front ∙ ap (λ l. filter q (range_with_len 0 n) ++ l) back ∙ sym split
       here false e h ih =
-          let front : used_below g n marks ≡ filter q (range_with_len 0 n) = ih marks (λ t l. h t (omega arith) ∙ in_front (used_below g n marks) [] t refl) in
-          let own : q n ≡ false = h n (omega arith) ∙ in_front (used_below g n marks) [] n refl ∙ low n marks n (omega arith) in
+          let front : used_below g n marks ≡ filter q (range_with_len 0 n) = ih marks (λ t l. h t (omega arith) ∙ not-in-back (used_below g n marks) [] t refl) in
+          let own : q n ≡ false = h n (omega arith) ∙ not-in-back (used_below g n marks) [] n refl ∙ low n marks n (omega arith) in
           let back : [] ≡ filter q (n ∷ []) = rw own refl in
           ap (λ l. l ++ []) front ∙ ap (λ l. filter q (range_with_len 0 n) ++ l) back ∙ sym split
 
@@ -85,16 +71,6 @@ some_holds f (x ∷ xs) t h e = elim (or_cases (x == t) (contains xs t) h) [
   | inl p ↦ or_left (f x) (list_any f xs) (ap f (eqb-true x t p) ∙ e)
   | inr p ↦ or_right (f x) (list_any f xs) (some_holds f xs t p e)
 ]
-
-pub both : (a b : Bool) → (a && b) ≡ true → (a ≡ true) × (b ≡ true)
-both true b h = (refl, h)
-both false b h = absurd (true≢false (sym h))
-
-pub and_true : (a b : Bool) → a ≡ true → b ≡ true → (a && b) ≡ true
-and_true a b e f = rw (e, f) refl
-
-pub le_of : (a b : ℕ) → nat_le a b ≡ true → a ≤ b
-le_of a b h = grind (arith, nat_tests)
 
 le_not : (a b : ℕ) → nat_le a b ≡ false → a ≤ b → ⊥
 le_not a b h l = grind (arith, nat_tests)
@@ -141,7 +117,7 @@ module _ (g : Graph) (outputs : List ℕ) (uses : List Use) (ok : IsGraph g) (ar
           last true e false o =
               let r = is.reader o in
               let within : (use_at uses t).last < length g = used_within g outputs ok are (use_at uses t).last r.0 in
-              rw (e, o) (some_holds (λ u. nat_le k u && contains (mentions_at g u) t) (used_terms g outputs) (use_at uses t).last (used_terms-complete g outputs ok (use_at uses t).last within r.0) (and_true _ _ e r.1))
+              rw (e, o) (some_holds (λ u. nat_le k u && contains (mentions_at g u) t) (used_terms g outputs) (use_at uses t).last (used_terms-complete g outputs ok (use_at uses t).last within r.0) (and_from _ _ e r.1))
           last false e true o = let z = is.output o in absurd (le_not k (use_at uses t).last e (omega arith))
           last false e false o = rw (e, o) (none (list_any (λ u. nat_le k u && contains (mentions_at g u) t) (used_terms g outputs)) refl)
             where
@@ -149,13 +125,13 @@ module _ (g : Graph) (outputs : List ℕ) (uses : List Use) (ok : IsGraph g) (ar
               none false f = f
               none true f =
                   let r = find_some (λ u. nat_le k u && contains (mentions_at g u) t) (used_terms g outputs) f in
-                  let two = both (nat_le k r.it) (contains (mentions_at g r.it) t) r.holds in
-                  let later : k ≤ r.it = le_of k r.it two.0 in
+                  let two = and_parts (nat_le k r.it) (contains (mentions_at g r.it) t) r.holds in
+                  let later : k ≤ r.it = leb-true k r.it two.0 in
                   let most = is.most r.it (used_terms-sound g outputs ok r.it r.in_list) two.1 in
                   absurd (le_not k (use_at uses t).last e (omega arith))
 
       here : (b : Bool) → used t ≡ b → (l : Bool) → nat_le t k ≡ l → (used t && is_live g outputs k t) ≡ (nat_le t k && is_kept uses k t)
-      here true e true l = rw (e, l) (kept ((are.used t).0 e) (le_of t k l))
+      here true e true l = rw (e, l) (kept ((are.used t).0 e) (leb-true t k l))
       here true e false l = rw (e, l) refl
       here false e true l = rw (e, l) refl
       here false e false l = rw (e, l) refl
@@ -164,7 +140,7 @@ module _ (g : Graph) (outputs : List ℕ) (uses : List Use) (ok : IsGraph g) (ar
   live_count k h =
       let long : length g ≡ k + 1 + (length g - (k + 1)) = omega arith in
       ap (λ l. length (filter (is_live g outputs k) l)) used_listed
-      ∙ ap length (filter_twice (is_live g outputs k) used (range_with_len 0 (length g)))
+      ∙ ap length (filter-twice (is_live g outputs k) used (range_with_len 0 (length g)))
       ∙ length-filter (λ t. used t && is_live g outputs k t) (range_with_len 0 (length g))
       ∙ count_same (λ t. used t && is_live g outputs k t) (λ t. nat_le t k && is_kept uses k t) (λ t. live_is k t h) (range_with_len 0 (length g))
       ∙ ap (λ n. count_by (λ t. nat_le t k && is_kept uses k t) (range_with_len 0 n)) long

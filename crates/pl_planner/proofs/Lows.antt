@@ -1,18 +1,16 @@
 -- Lows by the definitions, from the numbers of sessions that terms are read back; and the least reach.
 use Rattle.std.proofs.Common.{◌≡◌, ℕ, zero, suc, ◌+◌, ◌-◌, ◌<◌, ◌≤◌, Bool, true, false, max, ℤ, pos, ◌-ℤ◌, ◌≤ℤ◌, ◌<ℤ◌, List, [], ◌∷◌, ◌++◌, length, map, filter_map, AllPairs, Option, Some, None, refl, sym, ◌∙◌, ap, subst, arith, inl, inr, slice_get, ◌==◌}
-use Rattle.std.specs.Int.{int_min}
 use Rattle.std.specs.List.{list_any}
 use Rattle.std.proofs.lemmas.Bool.{true≢false, cases_lt, or_cases, eqb-true, eq-eqb, or_left, or_right}
 use Rattle.std.proofs.lemmas.Int.{ints}
-use Rattle.pl_spec.specs.declared.Column.{Column}
 use Rattle.pl_spec.specs.Window.{before}
 use Rattle.pl_spec.specs.Term.{Input, Node, Graph, term_at}
 use Rattle.pl_spec.specs.Term.Input.{BarColumn, TermInput}
-use Rattle.pl_spec.specs.Graph.{contains, reads_at, reach, least_of, Used}
+use Rattle.pl_spec.specs.Graph.{contains, reads_at, reach, Used}
 use Rattle.pl_spec.specs.Lows.{Reads, Needs, IsLow, least_reach}
-use Rattle.pl_laws.specs.LowLaws.{HasBar, ReachCovers, bar_from, own_from}
+use Rattle.pl_laws.specs.LowLaws.{ReachCovers, bar_from, own_from}
 use Rattle.pl_laws.proofs.Reaches.{AllFrom, below_least}
-use Rattle.pl_laws.proofs.Lows.{reach-covers, reaches-meet, reads-rise}
+use Rattle.pl_laws.proofs.Lows.{reach-covers, reaches-meet, reads-rise, least_above}
 use Rattle.pl_planner.specs.declared.uses.Use.{Use}
 use Rattle.pl_planner.specs.Extra.{Ask, back_from, input_ask, number_asks, asks, asks_of, asks_at, IsBack, IsExtra}
 use Rattle.pl_planner.specs.Uses.{use_at, AreUses, HaveExtras}
@@ -21,6 +19,7 @@ use Rattle.pl_planner.proofs.Pipelines.{IsPipeline}
 use Rattle.pl_planner.proofs.Gathers.{mention_of_ask, back-of, back-rises}
 use Rattle.pl_planner.proofs.Counting.{most_in, most_more}
 use Rattle.pl_planner.proofs.Live.{used_within}
+use Rattle.pl_planner.proofs.Depths.{has-bar}
 
 -- ---- what a node asks for is what it reads
 
@@ -165,27 +164,6 @@ needs-rise days rise g outs d e h t r (Needs.read u n s needs at reads) =
 
 -- ---- how far back bars are read
 
-has-bar : (is : List Input) → list_any is_bar is ≡ true → (i : ℕ) × (c : Column) × (slice_get is i ≡ Some (BarColumn c))
-has-bar [] h = absurd (true≢false (sym h))
-has-bar (BarColumn c ∷ is) h = (0, c, refl)
-has-bar (TermInput k ∷ is) h = let r = has-bar is h in (suc r.0, r.1, r.2)
-
-any-bar : (is : List Input) (i : ℕ) (c : Column) → slice_get is i ≡ Some (BarColumn c) → list_any is_bar is ≡ true
-any-bar [] i c e = cc
-any-bar (BarColumn d ∷ is) i c e = refl
-any-bar (TermInput k ∷ is) zero c e = cc
-any-bar (TermInput k ∷ is) (suc i) c e = any-bar is i c e
-
-pub bars-back-is : (n : Node) → HasBar n → bars_back n ≡ n.window
-bars-back-is n h = rw (any-bar n.inputs h.0 h.1 h.2) refl
-
-least-above : (low d : ℤ) (xs : List ℤ) → low ≤ℤ d → AllFrom low xs → low ≤ℤ least_of xs d
-least-above low d [] h all = h
-least-above low d (x ∷ xs) h all = least-above low (int_min d x) xs (min-above low d x h all.0) all.1
-  where
-    min-above : (low x y : ℤ) → low ≤ℤ x → low ≤ℤ y → low ≤ℤ int_min x y
-    min-above low x y h l = grind (arith, ints, h, l)
-
 bars-above : (low s : ℤ) (w : ℕ) (is : List Input) → (list_any is_bar is ≡ true → low ≤ℤ before s w) → AllFrom low (filter_map (bar_from w s) is)
 bars-above low s w [] h = tt
 bars-above low s w (BarColumn c ∷ is) h = (h refl, bars-above low s w is (λ e. h refl))
@@ -196,7 +174,7 @@ own-above days s n m =
     let e = back-of days s n.kind m in
     let low : ℤ = pos s -ℤ pos (back_from days s n.kind m + bars_back n) in
     let start : ℤ = reads_at days n.kind (pos s -ℤ pos m) in
-    least-above low start (filter_map (bar_from n.window start) n.inputs) (omega (arith, ints))
+    least_above low start (filter_map (bar_from n.window start) n.inputs) (omega (arith, ints))
     (bars-above low start n.window n.inputs (λ f. let w : bars_back n ≡ n.window = rw f refl in omega (arith, ints)))
 
 -- ---- the most that used terms read back
@@ -266,7 +244,7 @@ module _ (days : List ℤ) (rise : AllPairs (λ a b. a <ℤ b) days) (g : Graph)
   all-above (o ∷ os) h = (h o (or_left (o == o) (contains os o) (eq-eqb o o refl)), all-above os (λ t e. h t (or_right (o == t) (contains os t) e)))
 
   least-high : (pos s -ℤ pos most) ≤ℤ least_reach days g outs (pos s)
-  least-high = least-above (pos s -ℤ pos most) (pos s) (map (λ t. reach days (term_at g t) (pos s)) outs) (omega (arith, ints)) (all-above outs reach-above)
+  least-high = least_above (pos s -ℤ pos most) (pos s) (map (λ t. reach days (term_at g t) (pos s)) outs) (omega (arith, ints)) (all-above outs reach-above)
 
   itself : (z : ℤ) → z ≤ℤ z
   itself z = omega (arith, ints)

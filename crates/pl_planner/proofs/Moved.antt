@@ -1,5 +1,5 @@
 -- Sessions that are read by the calendar stay in it, or before it.
-use Rattle.std.proofs.Common.{◌≡◌, ℕ, ℤ, pos, negsuc, ◌<ℤ◌, ◌≤ℤ◌, List, Option, Some, None, option_map, unwrap_or, refl, arith, slice_get}
+use Rattle.std.proofs.Common.{◌≡◌, ℤ, pos, negsuc, ◌<ℤ◌, ◌≤ℤ◌, List, Option, Some, None, option_map, unwrap_or, refl, arith, slice_get}
 use Rattle.std.proofs.lemmas.Int.{ints}
 use Rattle.pl_spec.specs.declared.Frequency.{Frequency}
 use Rattle.pl_spec.specs.Periods.{first_session, period_start}

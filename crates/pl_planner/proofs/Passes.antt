@@ -1,5 +1,5 @@
 -- The pass from the last term to the first over the pipelines of the language.
-use Rattle.std.proofs.Common.{◌≡◌, ℕ, zero, suc, ◌+◌, ◌*◌, ◌-◌, ◌<◌, ◌≤◌, Bool, true, false, max, ℤ, ◌<ℤ◌, AllPairs, List, [], ◌∷◌, length, Some, refl, sym, ap, subst, arith, inl, inr, slice_get, ◌==◌, replicate}
+use Rattle.std.proofs.Common.{◌≡◌, ℕ, zero, suc, ◌+◌, ◌*◌, ◌-◌, ◌<◌, ◌≤◌, Bool, true, false, ℤ, ◌<ℤ◌, AllPairs, List, [], ◌∷◌, length, Some, refl, sym, ap, subst, arith, inl, inr, slice_get, ◌==◌, replicate}
 use Rattle.std.specs.List.{list_any}
 use Rattle.std.proofs.lemmas.Bool.{true≢false, or_cases, eqb-true}
 use Rattle.std.proofs.lemmas.Option.{slice_get_within}

@@ -12,14 +12,19 @@ use Rattle.pl_spec.specs.Periods.{period_start}
 use Rattle.pl_spec.specs.Term.{Graph, Node, Input, IsGraph}
 use Rattle.pl_spec.specs.Term.Input.{BarColumn, TermInput}
 use Rattle.pl_spec.specs.Graph.{contains, reads_at}
+use Rattle.pl_spec.specs.Graph.Used.{output}
+use Rattle.pl_spec.proofs.Contained.{place-of}
 use Rattle.pl_terms.specs.Sorts.{has_window, window_fits, is_window_from, sort_at, Filters, places, all_fit, AnyTerm, is_downsampled}
 use Rattle.pl_terms.specs.Checked.{IsChecked}
 use Rattle.pl_terms.specs.Uses.{outputs}
 use Rattle.pl_terms.specs.Nodes.{graph_of, node_of}
 use Rattle.pl_terms.specs.Kinds.{kind_of}
+use Rattle.pl_terms.proofs.Graphs.{graph-long}
 use Rattle.pl_terms.specs.declared.node.Node as code
 use Rattle.pl_planner.specs.Extra.{back_from}
 use Rattle.pl_planner.proofs.Moved.{early-still}
+use Rattle.pl_planner.specs.Plans.{Planned, IsPlanOf, is_used}
+use Rattle.pl_laws.proofs.Uses.{used_terms-complete}
 
 abbrev Fits : ℕ → Type 0
 Fits w = (1 ≤ w) × (w ≤ 1260)
@@ -108,18 +113,12 @@ is-pipeline p c = record {
   reads = λ k n e. reads-terms p.graph n.kind n.inputs (c.nodes k n e).inputs;
 }
 
+pub output-used : (days : List ℤ) (p : Pipeline) (plan : Planned) → IsChecked p → IsPlanOf days p plan → (t : ℕ) → contains (outputs p) t ≡ true → is_used plan t ≡ true
+output-used days p plan ok is t h =
+    let at = place-of (outputs p) t h in
+    is.used t ∙ used_terms-complete p.graph (outputs p) ok.graph t ((is-pipeline p ok).outputs_in at.0 t at.1) (output h)
+
 -- ---- the nodes of the code
-
-pub graph-long : (ns : List code.Node) → length (graph_of ns) ≡ length ns
-unfolding graph_of
-graph-long [] = refl
-graph-long (n ∷ ns) = ap suc (graph-long ns)
-
-pub graph-at : (ns : List code.Node) (k : ℕ) (n : code.Node) → slice_get ns k ≡ Some n → slice_get (graph_of ns) k ≡ Some (node_of n)
-unfolding graph_of
-graph-at [] k n e = cc
-graph-at (m ∷ ns) zero n e = let is : m ≡ n = cc in ap (λ x. Some (node_of x)) is
-graph-at (m ∷ ns) (suc k) n e = graph-at ns k n e
 
 pub column-in : (p : Pipeline) → IsChecked p → (i : ℕ) (c : NamedColumn) → slice_get p.columns i ≡ Some c → c.term < length p.graph
 column-in p k i c e = k.columns i c e

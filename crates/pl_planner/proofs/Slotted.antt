@@ -1,13 +1,14 @@
 -- Slots that are taken, and the lowest free one.
 use Rattle.std.proofs.Common.{◌≡◌, ◌≢◌, ℕ, zero, suc, ◌+◌, ◌<◌, ◌≤◌, ◌⊎◌, Bool, true, false, ◌||◌, List, [], ◌∷◌, ◌++◌, length, get_or, set, replicate, sum_by, fold, refl, sym, ◌∙◌, ap, subst, arith, inl, inr, get_or-set_same, get_or-set_other, length-set}
 use Rattle.std.specs.List.{range_with_len, count_by}
-use Rattle.std.proofs.lemmas.Bool.{cases_lt, cases_eq, true≢false, or_cases}
+use Rattle.std.proofs.lemmas.Bool.{cases_lt, cases_eq, true≢false, or_cases, or_left, or_right}
 use Rattle.std.proofs.lemmas.List.Sums.{sum_by-set}
+use Rattle.std.proofs.lemmas.List.{length_push}
 use Rattle.pl_planner.specs.declared.uses.Use.{Use}
 use Rattle.pl_planner.specs.declared.slots.TermSlots.{TermSlots}
 use Rattle.pl_planner.specs.Uses.{is_kept}
 use Rattle.pl_planner.specs.Slotting.{no_slots, slots_at, own_slot, kept_below, one, IsHad, IsLowest, IsSlotted, AreSlotted, Tells, IsTaken}
-use Rattle.pl_planner.proofs.Counting.{count_more}
+use Rattle.pl_planner.proofs.Counting.{count_more, one-or}
 
 none_in : (n : ℕ) → sum_by one (replicate n false) ≡ 0
 none_in zero = refl
@@ -32,18 +33,6 @@ none_taken uses slots k taken e = record {
   few = (let z : sum_by one taken ≡ 0 = ap (sum_by one) e ∙ none_in 260 in omega arith);
 }
 
-one_or : (a b : Bool) → one (a || b) ≤ one a + one b
-one_or true b = omega arith
-one_or false true = omega arith
-one_or false false = omega arith
-
-or_true : (a b : Bool) → a ≡ true → (a || b) ≡ true
-or_true a b e = rw e refl
-
-true_or : (a b : Bool) → b ≡ true → (a || b) ≡ true
-true_or true b e = refl
-true_or false b e = e
-
 module _ (uses : List Use) (slots : List TermSlots) (k t : ℕ) (taken : List Bool) (so_far : IsTaken uses slots k t taken) (low : own_slot slots t ≤ 256) where
   abbrev told : Bool
   told = get_or taken (own_slot slots t) false || is_kept uses k t
@@ -62,8 +51,8 @@ module _ (uses : List Use) (slots : List TermSlots) (k t : ℕ) (taken : List Bo
 
       both : s ≡ own_slot slots t → told ≡ true
       both e = elim (cases_lt h.term t) [
-        | inl p ↦ or_true _ _ (so_far.tells.yes (own_slot slots t) (record { term = h.term; below = p; kept = h.kept; has = h.has ∙ e }))
-        | inr p ↦ (let i : h.term ≡ t = omega arith in true_or _ _ (ap (is_kept uses k) (sym i) ∙ h.kept))
+        | inl p ↦ or_left _ _ (so_far.tells.yes (own_slot slots t) (record { term = h.term; below = p; kept = h.kept; has = h.has ∙ e }))
+        | inr p ↦ (let i : h.term ≡ t = omega arith in or_right _ _ (ap (is_kept uses k) (sym i) ∙ h.kept))
       ]
 
       earlier : s ≢ own_slot slots t → IsHad uses slots k t s
@@ -91,7 +80,7 @@ module _ (uses : List Use) (slots : List TermSlots) (k t : ℕ) (taken : List Bo
     few = (let s : sum_by one (set taken (own_slot slots t) told) + one (get_or taken (own_slot slots t) false) ≡ sum_by one taken + one told = sum_by-set one taken (own_slot slots t) told false here in
         let c : count_by (is_kept uses k) (range_with_len 0 (t + 1)) ≡ count_by (is_kept uses k) (range_with_len 0 t) + one (is_kept uses k t) = count_more (is_kept uses k) t in
         let f = so_far.few in
-        let o : one told ≤ one (get_or taken (own_slot slots t) false) + one (is_kept uses k t) = one_or (get_or taken (own_slot slots t) false) (is_kept uses k t) in
+        let o : one told ≤ one (get_or taken (own_slot slots t) false) + one (is_kept uses k t) = one-or (get_or taken (own_slot slots t) false) (is_kept uses k t) in
         omega arith);
   }
 
@@ -228,10 +217,6 @@ past_end [] t h = refl
 past_end (x ∷ xs) zero h = absurd (omega arith)
 past_end (x ∷ xs) (suc t) h = past_end xs t (omega arith)
 
-pub long_more : (slots : List TermSlots) (new : TermSlots) → length (slots ++ new ∷ []) ≡ length slots + 1
-long_more [] new = refl
-long_more (x ∷ xs) new = let ih : length (xs ++ new ∷ []) ≡ length xs + 1 = long_more xs new in omega (arith, ih)
-
 module _ (uses : List Use) (slots : List TermSlots) (new : TermSlots) where
   had : (k s : ℕ) → k ≤ length slots → IsHad uses slots k k s → IsHad uses (slots ++ new ∷ []) k k s
   had k s h i = record { term = i.term; below = i.below; kept = i.kept; has = ap (λ (x : TermSlots). x.own) (at_front slots new i.term (let l = i.below in omega arith)) ∙ i.has }
@@ -266,17 +251,14 @@ module _ (uses : List Use) (slots : List TermSlots) (new : TermSlots) where
   more_slotted few so_far is = record {
     each = λ k h. elim (cases_lt k (length slots)) [
       | inl p ↦ subst (IsSlotted uses (slots ++ new ∷ []) k) (sym (at_front slots new k p)) (still_slotted k (slots_at slots k) (omega arith) (so_far.each k p))
-      | inr p ↦ (let e : k ≡ length slots = (let l = long_more slots new in omega arith) in
+      | inr p ↦ (let e : k ≡ length slots = (let l = length_push slots new in omega arith) in
           subst (λ j. IsSlotted uses (slots ++ new ∷ []) j (slots_at (slots ++ new ∷ []) j)) (sym e) (subst (IsSlotted uses (slots ++ new ∷ []) (length slots)) (sym (at_end slots new)) (still_slotted (length slots) new (omega arith) is)))
     ];
     few = λ t. elim (cases_lt t (length slots)) [
       | inl p ↦ (let e : own_slot (slots ++ new ∷ []) t ≡ own_slot slots t = ap (λ (x : TermSlots). x.own) (at_front slots new t p) in let l = so_far.few t in omega arith)
       | inr p ↦ elim (cases_eq t (length slots)) [
         | inl q ↦ (let e : own_slot (slots ++ new ∷ []) t ≡ new.own = ap (own_slot (slots ++ new ∷ [])) q ∙ ap (λ (x : TermSlots). x.own) (at_end slots new) in let l = is.below in let m = count_few uses (length slots) (length slots) in omega arith)
-        | inr q ↦ (let e : own_slot (slots ++ new ∷ []) t ≡ 0 = ap (λ (x : TermSlots). x.own) (past_end (slots ++ new ∷ []) t (let l = long_more slots new in omega arith)) in omega arith)
+        | inr q ↦ (let e : own_slot (slots ++ new ∷ []) t ≡ 0 = ap (λ (x : TermSlots). x.own) (past_end (slots ++ new ∷ []) t (let l = length_push slots new in omega arith)) in omega arith)
       ]
     ];
   }
-
-pub none_slotted : (uses : List Use) → AreSlotted uses []
-none_slotted uses = record { each = λ k h. absurd (omega arith); few = λ t. omega arith }

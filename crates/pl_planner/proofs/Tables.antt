@@ -4,17 +4,12 @@ use Rattle.std.proofs.lemmas.Bool.{cases_lt}
 use Rattle.std.proofs.lemmas.Nat.{mul-le, div-add-mod'}
 use Rattle.std.proofs.lemmas.List.{get_or_append_left, get_or-append-add}
 use Rattle.pl_spec.specs.Term.{Graph}
+use Rattle.pl_spec.proofs.Places.{row-within}
 use Rattle.pl_planner.specs.declared.uses.Use.{Use}
 use Rattle.pl_planner.specs.Uses.{use_at, AreUses, HaveExtras}
-use Rattle.pl_planner.specs.Rows.{extra_in, extra_at, IsRow, AreRows, most_extra}
+use Rattle.pl_planner.specs.Rows.{extra_in, extra_at, AreRows, most_extra}
 
 -- ---- places
-
-pub place-within : (i c t n : ℕ) → i < c → t < n → i * n + t < c * n
-place-within i c t n h l =
-    let whole : (i + 1) * n ≤ c * n = mul-le (i + 1) n c n (omega arith) (omega arith) in
-    let more : (i + 1) * n ≡ i * n + n = omega arith in
-    omega arith
 
 row-long : (us : List Use) → length (map extra_in us) ≡ length us
 row-long [] = refl
@@ -42,7 +37,7 @@ module _ (days : List ℤ) (g : Graph) (outs : List ℕ) (from : ℕ) where
             uses = r.uses;
             are = r.are;
             have = r.have;
-            is = λ t l. (let inside = place-within i n t (length g) p l in let a = rows.size in
+            is = λ t l. (let inside = row-within i n (length g) t p l in let a = rows.size in
                 ap (λ xs. get_or xs (i * length g + t) 0) e ∙ get_or_append_left extras (map extra_in uses) 0 (i * length g + t) (omega arith) ∙ r.is t l);
           })
           | inr p ↦ (let same : i ≡ n = omega arith in record {
@@ -118,7 +113,7 @@ most-at extras count terms size h =
         }
 
 pub most-in : (extras : List ℕ) (count terms i t : ℕ) → length extras ≡ count * terms → i < count → t < terms → extra_at extras terms i t ≤ most_extra extras
-most-in extras count terms i t size h l = most-each extras 0 (i * terms + t) (let w = place-within i count t terms h l in omega arith)
+most-in extras count terms i t size h l = most-each extras 0 (i * terms + t) (let w = row-within i count terms t h l in omega arith)
 
 -- a used term's number
 pub extra-used : (u : Use) → u.used ≡ true → extra_in u ≡ u.extra

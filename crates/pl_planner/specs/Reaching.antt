@@ -1,28 +1,13 @@
 -- How far back terms are read for the value of one, by number.
-use Rattle.std.specs.Prelude.{ℕ, ◌+◌, ◌-◌, Bool, true, false, if◌then◌else◌, max, List, [], ◌∷◌, ◌++◌, fold, filter_map, get_or, slice_set, Option, Some, None}
+use Rattle.std.specs.Prelude.{ℕ, ◌+◌, if◌then◌else◌, max, List, ◌++◌, fold, filter_map, get_or, slice_set, Option, Some, None}
 use Rattle.std.specs.List.{list_any}
-use Rattle.pl_spec.specs.Term.{Input, Node}
-use Rattle.pl_spec.specs.Term.Input.{BarColumn, TermInput}
-
--- a term and so many sessions before the one that is asked for
-abbrev pub Ask : Type 0
-Ask = ℕ × ℕ
-
-abbrev pub input_ask : ℕ → ℕ → Input → Option Ask
-input_ask depth size (BarColumn c) = None
-input_ask depth size (TermInput k) = Some (k, depth + (size - 1))
-
-abbrev pub number_asks : ℕ → Option ℕ → List Ask
-number_asks depth None = []
-number_asks depth (Some k) = (k, depth) ∷ []
+use Rattle.pl_spec.specs.Term.{Node}
+use Rattle.pl_planner.specs.Extra.{Ask, input_ask, number_asks}
+use Rattle.pl_planner.specs.Columns.{is_bar}
 
 -- what a node reads for a session so many before, its inputs up to one that may be earlier
 abbrev pub asks : ℕ → ℕ → Node → List Ask
 asks back depth n = number_asks depth n.mask ++ number_asks depth n.group ++ filter_map (input_ask back n.window) n.inputs
-
-abbrev pub is_bar : Input → Bool
-is_bar (BarColumn c) = true
-is_bar (TermInput k) = false
 
 -- where its own bars begin
 abbrev pub own_depth : ℕ → ℕ → Node → ℕ

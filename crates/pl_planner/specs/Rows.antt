@@ -1,5 +1,5 @@
 -- The extra sessions of all terms for each session of a range.
-use Rattle.std.specs.Prelude.{◌≡◌, ℕ, ◌+◌, ◌*◌, ◌<◌, if◌then◌else◌, max, ℤ, List, length, map, fold, get_or}
+use Rattle.std.specs.Prelude.{◌≡◌, ℕ, ◌+◌, ◌*◌, ◌<◌, if◌then◌else◌, max, ℤ, List, length, fold, get_or}
 use Rattle.pl_spec.specs.Term.{Graph}
 use Rattle.pl_planner.specs.declared.uses.Use.{Use}
 use Rattle.pl_planner.specs.Uses.{use_at, AreUses, HaveExtras}

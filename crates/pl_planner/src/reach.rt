@@ -5,8 +5,9 @@ ghost use Rattle.pl_spec.specs.Graph.{reach};
 ghost use Rattle.pl_spec.specs.Term.{MentionsBelow, term_at};
 ghost use Rattle.pl_spec.specs.Window.{before};
 ghost use Rattle.pl_terms.specs.Nodes.{graph_of, input_of, node_of, number_of};
-ghost use Rattle.pl_planner.specs.Extra.{IsBelow};
-ghost use Rattle.pl_planner.specs.Reaching.{all_asked, asks, deeper, input_ask, is_bar, number_asks, own_depth};
+ghost use Rattle.pl_planner.specs.Extra.{IsBelow, input_ask, number_asks};
+ghost use Rattle.pl_planner.specs.Reaching.{all_asked, asks, deeper, own_depth};
+ghost use Rattle.pl_planner.specs.Columns.{is_bar};
 
 use crate::uses::back_from;
 use pl_calendar::Sessions;

@@ -1,39 +1,21 @@
 -- What an operation gives is a cell, and 0 or 1 where it is a filter.
-use Rattle.std.proofs.Common.{◌≡◌, ◌<◌, ℕ, ℤ, pos, negsuc, zero, suc, Bool, true, false, ◌||◌, if◌then◌else◌, nat_le, neg_ℤ, List, length, get_or, IsTrue, inl, inr, arith, refl}
+use Rattle.std.proofs.Common.{◌≡◌, ◌<◌, ℕ, ℤ, pos, Bool, true, false, ◌||◌, if◌then◌else◌, List, length, get_or, IsTrue, inl, inr, arith, refl}
 use Rattle.std.specs.List.{All}
 use Rattle.std.specs.Int.RustNames.{unsigned_abs, int_lt}
 use Rattle.std.specs.Int.{int_min}
-use Rattle.std.proofs.lemmas.Bool.Decides.{nat_tests}
 use Rattle.std.proofs.lemmas.List.Elements.{All-from_get_or}
-use Rattle.pl_spec.specs.Rounding.{IsCell, MISSING, LIMIT, to_cell, quot, of_both, add, sub, mul, div, neg, is_missing}
+use Rattle.pl_spec.specs.Rounding.{IsCell, MISSING, of_both, add, mul, div, neg, is_missing}
 use Rattle.pl_spec.specs.Formula.{truth}
 use Rattle.pl_spec.specs.Kind.{Kind, PointKind}
 use Rattle.pl_spec.specs.Kind.Kind.{Point}
 use Rattle.pl_spec.specs.Kind.PointKind.{Add, Sub, Mul, Div, Neg, Comparison, And, Or, Not, Abs, Clip, FillNa, IsNull, NotNull, IfElse, NumberIs, NumberIsNot}
 use Rattle.pl_spec.specs.Pointwise.{pointwise}
 use Rattle.pl_spec.specs.Value.{is_filter, is_point_filter}
+use Rattle.pl_spec.proofs.Signed.{unsigned_abs-neg}
+use Rattle.pl_spec.proofs.Cells.{chosen-has, to_cell-cell, quot-cell, sub-cell}
 use Rattle.pl_lanes.specs.Flags.{IsFlag}
 use Rattle.pl_lanes.proofs.Cells.{is_within}
 use Rattle.pl_pointwise.specs.Operands.{HasCells, IsOperation, AreCells, AreFlags, AreOperands, AreOperandsOf, operation}
-
--- either value has the property, so what a test chooses has it
-chosen-has : (P : ℤ → Type 0) (b : Bool) (x y : ℤ) → P x → P y → P (if b then x else y)
-chosen-has P true x y p q = p
-chosen-has P false x y p q = q
-
-tested-cell : (b : Bool) (v : ℤ) → nat_le (unsigned_abs v) LIMIT ≡ b → IsCell (if b then v else MISSING)
-tested-cell true v e = inr (grind (arith, nat_tests))
-tested-cell false v e = inl refl
-
-to_cell-cell : (v : ℤ) → IsCell (to_cell v)
-unfolding to_cell
-to_cell-cell v = tested-cell (nat_le (unsigned_abs v) LIMIT) v refl
-
-quot-cell : (a b : ℤ) → IsCell (quot a b)
-unfolding quot
-quot-cell a (pos zero) = inl refl
-quot-cell a (pos (suc b)) = to_cell-cell _
-quot-cell a (negsuc b) = to_cell-cell _
 
 of_both-cell : (x y v : ℤ) → IsCell v → IsCell (of_both x y v)
 of_both-cell x y v h = chosen-has IsCell (is_missing x || is_missing y) MISSING v (inl refl) h
@@ -41,10 +23,6 @@ of_both-cell x y v h = chosen-has IsCell (is_missing x || is_missing y) MISSING 
 add-cell : (x y : ℤ) → IsCell (add x y)
 unfolding add
 add-cell x y = of_both-cell x y _ (to_cell-cell _)
-
-sub-cell : (x y : ℤ) → IsCell (sub x y)
-unfolding sub
-sub-cell x y = of_both-cell x y _ (to_cell-cell _)
 
 mul-cell : (x y : ℤ) → IsCell (mul x y)
 unfolding mul
@@ -54,16 +32,11 @@ div-cell : (x y : ℤ) → IsCell (div x y)
 unfolding div
 div-cell x y = of_both-cell x y _ (quot-cell _ _)
 
-neg_ℤ-within : (x : ℤ) → unsigned_abs (neg_ℤ x) ≡ unsigned_abs x
-neg_ℤ-within (pos zero) = refl
-neg_ℤ-within (pos (suc n)) = refl
-neg_ℤ-within (negsuc n) = refl
-
 tested-size : (b : Bool) (x v : ℤ) → is_missing x ≡ b → unsigned_abs v ≡ unsigned_abs x → IsCell x → IsCell (if b then MISSING else v)
 tested-size true x v e same h = inl refl
 tested-size false x v e same h = inr (omega (arith, same, is_within x h e))
 
-truth-flag : (b : Bool) → IsFlag (truth b)
+pub truth-flag : (b : Bool) → IsFlag (truth b)
 truth-flag true = inr refl
 truth-flag false = inl refl
 
@@ -86,7 +59,7 @@ result-cell Add a b c n i h o p = add-cell _ _
 result-cell Sub a b c n i h o p = sub-cell _ _
 result-cell Mul a b c n i h o p = mul-cell _ _
 result-cell Div a b c n i h o p = div-cell _ _
-result-cell Neg a b c n i h o p = tested-size _ _ _ refl (neg_ℤ-within (get_or a i (pos 0))) (at a n i o p)
+result-cell Neg a b c n i h o p = tested-size _ _ _ refl (unsigned_abs-neg (get_or a i (pos 0))) (at a n i o p)
 result-cell Abs a b c n i h o p = tested-size _ _ _ refl refl (at a n i o p)
 result-cell (Clip low high) a b c n i h o p =
     let x = get_or a i (pos 0) in

@@ -1,9 +1,9 @@
 -- Records in another order are read as rows in another order.
-use Rattle.std.proofs.Common.{◌≡◌, ℕ, ◌+◌, ◌<◌, ◌↔◌, ◌||◌, Bool, true, false, List, [], ◌∷◌, ◌++◌, length, drop, AllPairs, IsPermutation, Result, Ok, Err, refl, sym, ◌∙◌, ap, subst, arith, append_assoc, length-append}
+use Rattle.std.proofs.Common.{◌≡◌, ℕ, ◌+◌, ◌<◌, ◌↔◌, ◌||◌, Bool, true, false, List, [], ◌∷◌, ◌++◌, length, IsPermutation, Result, Ok, Err, refl, sym, ◌∙◌, subst, arith, append_assoc, length-append}
 use Rattle.std.specs.List.{list_any}
 use Rattle.std.proofs.lemmas.List.Folds.{list_any-append}
 use Rattle.std.proofs.lemmas.List.Sorted.{IsPermutation-refl, IsPermutation-sym, IsPermutation-trans, IsPermutation-append, IsPermutation-append_left, length_permutation, list_any-IsPermutation}
-use Rattle.pl_records.specs.Reading.{Record, Fault, ◌>>=◌, at_line, rows_behind, rows_of, rows_under, has_header}
+use Rattle.pl_records.specs.Reading.{Record, ◌>>=◌, at_line, rows_behind, rows_under, has_header}
 use Rattle.pl_records.specs.Sorted.{sorted_by, HasOwnKeys}
 use Rattle.pl_records.proofs.Readings.{under_ok}
 use Rattle.pl_records.proofs.Sorts.{sorted-are}

@@ -5,7 +5,7 @@ use Rattle.std.specs.Bool.{Decides, if◌then◌else◌}
 use Rattle.std.proofs.lemmas.Slice.Eq.{bytes_eq-Decides}
 use lib.Pointwise.{pointwise, pointwise_decides}
 use Rattle.std.proofs.lemmas.Bool.{cases_lt}
-use Rattle.std.proofs.lemmas.List.{take-append-le}
+use Rattle.std.proofs.lemmas.List.{take-append-le, append-nil, take_all}
 use Rattle.std.proofs.lemmas.Option.{slice_get_within}
 use Rattle.std.proofs.Math.Seq.{take-append_seam}
 use Rattle.pl_records.specs.Reading.{rows_under, has_header, Record, field, Fault, ◌>>=◌, at_line, rows_behind, rows_of, AreRows, IsFirstFault, Judges, AreRowsUnder, IsFaultUnder}
@@ -41,23 +41,10 @@ at_seam : {A : Type 0} (xs : List A) (y : A) (ys : List A) → slice_get (xs ++ 
 at_seam [] y ys = refl
 at_seam (x ∷ xs) y ys = at_seam xs y ys
 
-take_front : {A : Type 0} (xs ys : List A) (k : ℕ) → k ≤ length xs → take k (xs ++ ys) ≡ take k xs
-take_front xs ys k h = take-append-le k xs ys h
-
 take_one_more : {A : Type 0} (xs : List A) (k : ℕ) (x : A) → slice_get xs k ≡ Some x → take (suc k) xs ≡ take k xs ++ x ∷ []
 take_one_more [] k x e = absurd (cc)
 take_one_more (y ∷ ys) zero x e = let same : y ≡ x = cc in ap (λ z. z ∷ []) same
 take_one_more (y ∷ ys) (suc k) x e = ap (λ zs. y ∷ zs) (take_one_more ys k x e)
-
-take_all : {A : Type 0} (xs : List A) (n : ℕ) → length xs ≤ n → take n xs ≡ xs
-take_all [] zero h = refl
-take_all [] (suc n) h = refl
-take_all (x ∷ xs) zero h = absurd (omega arith)
-take_all (x ∷ xs) (suc n) h = ap (λ ys. x ∷ ys) (take_all xs n (omega arith))
-
-nothing_behind : {A : Type 0} (xs : List A) → xs ++ [] ≡ xs
-nothing_behind [] = refl
-nothing_behind (x ∷ xs) = ap (λ ys. x ∷ ys) (nothing_behind xs)
 
 -- ---- rows and their records
 
@@ -85,7 +72,7 @@ AreRows-more {Row} {R} says records rows r row h e =
       | inl lt ↦
           let within : k < length rows = omega (arith, h.as_many) in
           let old = h.each k q (sym (at_front records (r ∷ []) k lt) ∙ at) in
-          (old.0, at_front rows (row ∷ []) k within ∙ old.1, rw (take_front rows (row ∷ []) k (omega arith)) old.2)
+          (old.0, at_front rows (row ∷ []) k within ∙ old.1, rw (take-append-le k rows (row ∷ []) (omega arith)) old.2)
       | inr ge ↦
           let all : k < length (records ++ r ∷ []) = slice_get_within (records ++ r ∷ []) k q at in
           let last : k ≡ length records = omega (arith, length-append records (r ∷ [])) in
@@ -100,7 +87,7 @@ reads : {Row R : Type 0} (first : ℕ) (says : List Row → Record → Result Ro
     → AreRows (Says says) done before → rows_behind first says before rest ≡ Ok rows → AreRows (Says says) (done ++ rest) rows
 unfolding rows_behind
 reads first says [] done before rows h e =
-    let same : before ≡ rows = cc in rw (nothing_behind done, ← same) h
+    let same : before ≡ rows = cc in rw (append-nil done, ← same) h
 reads {Row} {R} first says (r ∷ rs) done before rows h e =
     here (says before r) refl (λ row. reads first says rs (done ++ r ∷ []) (before ++ row ∷ []) rows) e
   where
@@ -139,8 +126,8 @@ read_back : {Row R : Type 0} (first : ℕ) (says : List Row → Record → Resul
     → AreRows (Says says) (done ++ rest) rows → take (length done) rows ≡ before → rows_behind first says before rest ≡ Ok rows
 unfolding rows_behind
 read_back first says [] done before rows h e =
-    let n : length rows ≤ length done = omega (arith, h.as_many, ap length (nothing_behind done)) in
-    ap Ok (sym e ∙ take_all rows (length done) n)
+    let n : length rows ≤ length done = omega (arith, h.as_many, ap length (append-nil done)) in
+    ap Ok (sym e ∙ take_all (length done) rows n)
 read_back {Row} {R} first says (r ∷ rs) done before rows h e =
     let it = h.each (length done) r (at_seam done r rs) in
     let was : says before r ≡ Ok it.0 = rw e at it.2 in

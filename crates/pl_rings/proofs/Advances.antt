@@ -11,11 +11,12 @@ use Rattle.pl_spec.specs.Rounding.{IsCell}
 use Rattle.pl_rings.specs.declared.day.DayBar.{DayBar}
 use Rattle.pl_rings.specs.declared.day.DayEvent.{DayEvent}
 use Rattle.pl_rings.specs.declared.rings.Rings.{Rings}
-use Rattle.pl_rings.specs.Days.{Start, FedDay, IsStart, AreFed, cell_brought, events_at, day_back, day_window}
+use Rattle.pl_rings.specs.Days.{Start, FedDay, IsStart, AreFed, cell_brought, day_back, day_window}
 use Rattle.pl_rings.specs.Rings.{bar_ring, changed_cells, known_days}
 use Rattle.pl_rings.specs.Changes.{Ring, AreRings, IsRing, ring_at, pushed, changed, column_event, HoldBars, Brings, FollowBars, IsHandedIn}
 use Rattle.pl_rings.proofs.Moves.{bars_move, slides, ends}
 use Rattle.pl_rings.proofs.Cells.{length-known}
+use Rattle.pl_adjust.specs.Columns.{events_at}
 
 -- the cells of a ring after which one more was put
 pushed_at : (xs : List ℤ) (n : ℕ) (x : ℤ) (j : ℕ) → length xs ≡ n → j < n → get_or (keep_last n (xs ++ x ∷ [])) j (pos 0) ≡ get_or (xs ++ x ∷ []) (1 + j) (pos 0)

@@ -4,7 +4,7 @@ use Rattle.std.specs.Option.{option_or}
 use Rattle.std.proofs.Math.Nat.{add-mul}
 use Rattle.std.proofs.lemmas.Bool.{cases_eq, eq-eqb, eqb-true, ne_eqb}
 use Rattle.std.proofs.lemmas.Bool.Decides.{nat_tests}
-use Rattle.std.proofs.lemmas.List.{ext_get_or, map-append, append-nil, take_more, get_or-take, length-take-le, get_or-set_same, get_or-set_other, length-set}
+use Rattle.std.proofs.lemmas.List.{ext_get_or, map-append, append-nil, take_more, get_or-take, length-take-le, get_or-set_same, get_or-set_other, length-set, get_or_default}
 use Rattle.std.proofs.lemmas.List.Elements.{filter-append, filter_map-append}
 use Rattle.std.proofs.lemmas.List.Folds.{find-append}
 use Rattle.std.proofs.lemmas.List.Sums.{fold-append}
@@ -17,18 +17,14 @@ use Rattle.pl_spec.specs.World.{Event, Change}
 use Rattle.pl_spec.specs.World.Change.{Scale, Overwrite}
 use Rattle.pl_bars.specs.Bars.{cell_of}
 use Rattle.pl_adjust.specs.Events.{event_of}
+use Rattle.pl_adjust.specs.Columns.{events_at}
 use Rattle.pl_rings.specs.declared.day.DayBar.{DayBar}
 use Rattle.pl_rings.specs.declared.day.DayEvent.{DayEvent}
-use Rattle.pl_rings.specs.Days.{bar_row, cell_brought, events_at}
+use Rattle.pl_rings.specs.Days.{bar_row, cell_brought}
 use Rattle.pl_rings.specs.Rings.{acting, changed_cells, known_days, scales, scaling}
 use Rattle.pl_rings.specs.Changes.{Ring, AreRings, IsRing, ring_at, changed, column_event}
 use Rattle.pl_rings.proofs.Fed.{find-miss, or-none}
 use Rattle.pl_rings.proofs.Moves.{events_at-append}
-
-pub get_or-default : {X : Type 0} (xs : List X) (k : ℕ) (d e : X) → k < length xs → get_or xs k d ≡ get_or xs k e
-get_or-default [] k d e h = absurd (omega arith)
-get_or-default (x ∷ xs) zero d e h = refl
-get_or-default (x ∷ xs) (suc k) d e h = get_or-default xs k d e (omega arith)
 
 pub set_at : {X : Type 0} (xs : List X) (i j : ℕ) (x d : X) → i < length xs → get_or (slice_set xs i x) j d ≡ (if i == j then x else get_or xs j d)
 set_at xs i j x d h = elim (cases_eq i j) [
@@ -244,7 +240,7 @@ brought_more c bars k b i up inside is =
         let short : length (take k bars) ≡ k = length-take-le k bars (omega (arith, inside)) in
         let same : get_or (take k bars) j d ≡ get_or bars j d = get_or-take k bars j d (omega (arith, h, short)) in
         let less : (get_or bars j d).col < (get_or bars k d).col = up j k d (omega (arith, h, short)) inside in
-        let at : get_or bars k d ≡ get_or bars k b = get_or-default bars k d b inside in
+        let at : get_or bars k d ≡ get_or bars k b = get_or_default bars k d b inside in
         let equal : (get_or bars k d).col ≡ b.col = ap (λ (x : DayBar). x.col) (at ∙ sym is) in
         rw same (omega (arith, less, equal))
 
@@ -266,7 +262,7 @@ brought_set c bars k blank i row x n up inside long col is so_far h =
     set_at row b.col i x (pos 0) (omega (arith, col, long))
     ∙ ap (λ y. if b.col == i then y else get_or row i (pos 0)) is
     ∙ ap (λ y. if b.col == i then cell_of c (bar_row 0 b) else y) (so_far i h)
-    ∙ sym (brought_more c bars k b i up inside (get_or-default bars k blank b inside))
+    ∙ sym (brought_more c bars k b i up inside (get_or_default bars k blank b inside))
 
 pub cost_more : (s0 s1 s2 a b n m k : ℕ) → s2 ≡ s1 + b * k → s1 ≡ s0 + a * m → n ≡ a + b → k ≡ m → s2 ≡ s0 + n * m
 cost_more s0 s1 s2 a b n m k first before count same =

@@ -7,7 +7,7 @@ use Rattle.std.proofs.lemmas.Bool.{eqb-true, ne_eqb}
 use Rattle.std.proofs.lemmas.List.{map-append, append-nil}
 use Rattle.circular_buffer.proofs.Places.{slice_get-append_left, slice_get-append_right}
 use Rattle.std.proofs.lemmas.List.Kept.{AllPairs-cons, AllPairs-filter}
-use Rattle.std.proofs.lemmas.List.Elements.{All-append, All-cons, All-map, filter-append, filter_passes}
+use Rattle.std.proofs.lemmas.List.Elements.{All-append, All-cons, All-map, filter-append, filter_passes, All-nil}
 use Rattle.std.proofs.lemmas.List.Folds.{find-append}
 use Rattle.pl_spec.specs.declared.BarRow.{BarRow}
 use Rattle.pl_spec.specs.declared.Column.{Column}
@@ -15,6 +15,8 @@ use Rattle.pl_spec.specs.Agree.{Agree, is_known}
 use Rattle.pl_spec.specs.Parts.{ColumnAdjustment, AreFor, bar_of, adjustment_of, sid_at}
 use Rattle.pl_spec.specs.Rounding.{MISSING}
 use Rattle.pl_spec.specs.World.{Bar, Event, cell_of, bar_cell, events_of, day_of, exists, lives_on}
+use Rattle.pl_spec.proofs.Signed.{lt-is-le, le-lt}
+use Rattle.pl_spec.proofs.Lists.{no-pairs}
 use Rattle.pl_laws.proofs.Law.{labels-of_days}
 use Rattle.pl_rings.proofs.PartsWorld.{parts_are_a_world}
 use Rattle.pl_rings.specs.Days.{Start, FedDay, fed, bar_row, bars_behind, days_of, bars_of, adjustments_of, last_day, IsStart, IsLaterThan, AreFed}
@@ -28,66 +30,44 @@ AllPairs-append R (x ∷ xs) ys p q across =
     AllPairs-cons R x (xs ++ ys) (All-append (R x) xs ys (λ k d l. p 0 (suc k) d (omega arith) (omega arith)) (across 0 x (omega arith)))
     (AllPairs-append R xs ys (λ i j d l m. p (suc i) (suc j) d (omega arith) (omega arith)) q (λ k d l. across (suc k) d (omega arith)))
 
-pub All-implies : {X : Type 0} (P Q : X → Type 0) (xs : List X) → ((x : X) → P x → Q x) → All P xs → All Q xs
-All-implies P Q xs h all k d l = h (get_or xs k d) (all k d l)
-
 -- ---- what the parts have
-
--- the lesser of two days
-earlier_still : (x y z : ℤ) → x <ℤ y → y ≤ℤ z → x ≤ℤ z
-earlier_still x y z h l = omega (arith, ints)
-
-before_later : (x y z : ℤ) → x ≤ℤ y → y <ℤ z → x <ℤ z
-before_later x y z h l = omega (arith, ints)
-
-same_or_before : (x : ℤ) → x ≤ℤ x
-same_or_before x = omega (arith, ints)
-
-less_is_le : (x y : ℤ) → x <ℤ y → x ≤ℤ y
-less_is_le x y h = omega (arith, ints)
 
 pub length-days : (days : List FedDay) → length (days_of days) ≡ length days
 length-days [] = refl
 length-days (d ∷ earlier) = let l = length-append (days_of earlier) (d.day ∷ []) in let r = length-days earlier in omega (arith, l, r)
 
-none-pairs : {X : Type 0} (R : X → X → Type 0) → AllPairs R []
-none-pairs R i j d l m = absurd (omega arith)
-
-none-all : {X : Type 0} (P : X → Type 0) → All P []
-none-all P k d l = absurd (omega arith)
-
 one-all : {X : Type 0} (P : X → Type 0) (x : X) → P x → All P (x ∷ [])
-one-all P x p = All-cons P x [] p (none-all P)
+one-all P x p = All-cons P x [] p (All-nil P)
 
 module _ (g : Start) where
   -- whatever is later than the last day is later than all that was fed
   pub all_before : (days : List FedDay) → AreFed g days → (day : ℤ) → IsLaterThan (last_day days) day
       → All (λ x. x <ℤ day) (days_of days) × All (λ x. x.event.day <ℤ day) (adjustments_of days)
-  all_before [] are day later = (none-all (λ x. x <ℤ day), none-all (λ x. x.event.day <ℤ day))
+  all_before [] are day later = (All-nil (λ x. x <ℤ day), All-nil (λ x. x.event.day <ℤ day))
   all_before (d ∷ earlier) are day later =
       let before = all_before earlier are.0 d.day are.1 in (
-        All-append (λ x. x <ℤ day) (days_of earlier) (d.day ∷ []) (λ k e l. before_later _ d.day day (less_is_le _ _ (before.0 k e l)) later) (one-all (λ x. x <ℤ day) d.day later),
+        All-append (λ x. x <ℤ day) (days_of earlier) (d.day ∷ []) (λ k e l. le-lt _ d.day day (lt-is-le _ _ (before.0 k e l)) later) (one-all (λ x. x <ℤ day) d.day later),
         All-append (λ (x : ColumnAdjustment). x.event.day <ℤ day) (adjustments_of earlier) d.events
-            (λ k e l. before_later _ d.day day (less_is_le _ _ (before.1 k e l)) later) (λ k e l. before_later _ d.day day (are.2.due k e l) later),
+            (λ k e l. le-lt _ d.day day (lt-is-le _ _ (before.1 k e l)) later) (λ k e l. le-lt _ d.day day (are.2.due k e l) later),
       )
 
   days_up : (days : List FedDay) → AreFed g days → AllPairs (λ a b. a <ℤ b) (days_of days)
-  days_up [] are = none-pairs (λ a b. a <ℤ b)
+  days_up [] are = no-pairs (λ a b. a <ℤ b)
   days_up (d ∷ earlier) are =
       AllPairs-append (λ a b. a <ℤ b) (days_of earlier) (d.day ∷ []) (days_up earlier are.0) (λ i j e l m. absurd (omega arith))
       (λ k e l. one-all (λ y. get_or (days_of earlier) k e <ℤ y) d.day ((all_before earlier are.0 d.day are.1).0 k e l))
 
   bars_known : (days : List FedDay) → AreFed g days → All (λ b. b.col < length g.assets) (bars_of days)
-  bars_known [] are = none-all (λ (b : BarRow). b.col < length g.assets)
+  bars_known [] are = All-nil (λ (b : BarRow). b.col < length g.assets)
   bars_known (d ∷ earlier) are =
       All-append (λ (b : BarRow). b.col < length g.assets) (bars_of earlier) (bars_behind earlier d.bars) (bars_known earlier are.0) (new earlier)
     where
       new : (earlier : List FedDay) → All (λ b. b.col < length g.assets) (bars_behind earlier d.bars)
-      new [] = none-all (λ (b : BarRow). b.col < length g.assets)
+      new [] = All-nil (λ (b : BarRow). b.col < length g.assets)
       new (e ∷ es) = All-map (λ (b : BarRow). b.col < length g.assets) (bar_row (length es)) d.bars are.2.bars_in
 
   sessions_known : (days : List FedDay) → AreFed g days → All (λ b. b.session < length (days_of days)) (bars_of days)
-  sessions_known [] are = none-all (λ (b : BarRow). b.session < 0)
+  sessions_known [] are = All-nil (λ (b : BarRow). b.session < 0)
   sessions_known (d ∷ earlier) are =
       let more : length (days_of earlier ++ d.day ∷ []) ≡ length (days_of earlier) + 1 = length-append (days_of earlier) (d.day ∷ []) in
       let long : length (days_of earlier) ≡ length earlier = length-days earlier in
@@ -96,12 +76,12 @@ module _ (g : Start) where
       (new earlier (length (days_of earlier ++ d.day ∷ [])) (omega (arith, more, long)))
     where
       new : (earlier : List FedDay) (n : ℕ) → length earlier < n → All (λ b. b.session < n) (bars_behind earlier d.bars)
-      new [] n h = none-all (λ (b : BarRow). b.session < n)
+      new [] n h = All-nil (λ (b : BarRow). b.session < n)
       new (e ∷ es) n h = All-map (λ (b : BarRow). b.session < n) (bar_row (length es)) d.bars (λ k d' l. omega arith)
 
   -- the bars handed in up to a day are of earlier sessions
   pub sessions_below : (d : FedDay) (earlier : List FedDay) → AreFed g earlier → All (λ b. b.session < length earlier) (bars_of (d ∷ earlier))
-  sessions_below d [] are = none-all (λ (b : BarRow). b.session < 0)
+  sessions_below d [] are = All-nil (λ (b : BarRow). b.session < 0)
   sessions_below d (e ∷ es) are =
       let long : length (days_of (e ∷ es)) ≡ length (e ∷ es) = length-days (e ∷ es) in
       All-append (λ (b : BarRow). b.session < suc (length es)) (bars_of (e ∷ es)) (map (bar_row (length es)) d.bars)
@@ -109,15 +89,15 @@ module _ (g : Start) where
       (All-map (λ (b : BarRow). b.session < suc (length es)) (bar_row (length es)) d.bars (λ k f l. omega arith))
 
   events_known : (days : List FedDay) → AreFed g days → All (λ x. x.col < length g.assets) (adjustments_of days)
-  events_known [] are = none-all (λ (x : ColumnAdjustment). x.col < length g.assets)
+  events_known [] are = All-nil (λ (x : ColumnAdjustment). x.col < length g.assets)
   events_known (d ∷ earlier) are =
       All-append (λ (x : ColumnAdjustment). x.col < length g.assets) (adjustments_of earlier) d.events (events_known earlier are.0) are.2.events_in
 
   events_up : (days : List FedDay) → AreFed g days → AllPairs (λ x y. x.col ≡ y.col → x.event.day ≤ℤ y.event.day) (adjustments_of days)
-  events_up [] are = none-pairs (λ (x y : ColumnAdjustment). x.col ≡ y.col → x.event.day ≤ℤ y.event.day)
+  events_up [] are = no-pairs (λ (x y : ColumnAdjustment). x.col ≡ y.col → x.event.day ≤ℤ y.event.day)
   events_up (d ∷ earlier) are =
       AllPairs-append (λ (x y : ColumnAdjustment). x.col ≡ y.col → x.event.day ≤ℤ y.event.day) (adjustments_of earlier) d.events (events_up earlier are.0) are.2.by_day
-      (λ k e l k' e' l' same. less_is_le _ _ ((all_before earlier are.0 (get_or d.events k' e').event.day (are.2.new k' e' l')).1 k e l))
+      (λ k e l k' e' l' same. lt-is-le _ _ ((all_before earlier are.0 (get_or d.events k' e').event.day (are.2.new k' e' l')).1 k e l))
 
   of_column : (xs : List ColumnAdjustment) → AllPairs (λ x y. x.col ≡ y.col → x.event.day ≤ℤ y.event.day) xs
       → (col : ℕ) → AllPairs (λ x y. x.event.day ≤ℤ y.event.day) (filter (λ x. x.col == col) xs)

@@ -5,7 +5,7 @@ use Rattle.circular_buffer.specs.Buffer.{buffer}
 use Rattle.pl_spec.specs.Rounding.{IsCell}
 use Rattle.pl_rings.specs.Changes.{Ring, AreRings, IsRing, ring_at}
 
-all_one : (n : ℕ) (x : ℤ) → IsCell x → All IsCell (replicate n x)
+pub all_one : (n : ℕ) (x : ℤ) → IsCell x → All IsCell (replicate n x)
 all_one n x cell k d h =
     let long : length (replicate n x) ≡ n = length-replicate n x in
     subst IsCell (sym (get_or-replicate n k x d (omega (arith, h, long)))) cell

@@ -5,7 +5,7 @@ use Rattle.std.specs.Int.RustNames.{int_le, int_lt}
 use Rattle.std.proofs.Math.Path.{fun_ext}
 use Rattle.std.proofs.lemmas.Int.{ints}
 use Rattle.std.proofs.lemmas.Bool.{eq-eqb, ne_eqb}
-use Rattle.std.proofs.lemmas.List.{map-append, length-map, drop-map}
+use Rattle.std.proofs.lemmas.List.{map-append, length-map}
 use Rattle.std.proofs.lemmas.Option.{slice_get-get_or}
 use Rattle.std.proofs.lemmas.List.Elements.{All-map, All-filter, filter-append, filter_map-append}
 use Rattle.std.proofs.lemmas.List.Folds.{find-append}
@@ -17,31 +17,20 @@ use Rattle.pl_spec.specs.Agree.{Agree}
 use Rattle.pl_spec.specs.Parts.{ColumnAdjustment, sid_at}
 use Rattle.pl_spec.specs.Rounding.{MISSING}
 use Rattle.pl_spec.specs.World.{World, Event, bar_cell, events_of, day_of}
-use Rattle.pl_spec.specs.Window.{effect, changed, is_between, after_all, before, downward, effects_in, effects_from, seen_cell}
+use Rattle.pl_spec.specs.Window.{effect, changed, is_between, after_all, before, downward, effects_in, seen_cell}
+use Rattle.pl_spec.proofs.Lists.{filter-same}
+use Rattle.pl_spec.proofs.Windows.{length-downward, no-effects}
 use Rattle.pl_bars.specs.Bars.{cell_of, is_at, cell_at}
 use Rattle.pl_bars.proofs.BarWorlds.{cells_raw}
 use Rattle.pl_rings.specs.declared.day.DayBar.{DayBar}
-use Rattle.pl_rings.specs.Days.{Start, FedDay, fed, bar_row, days_of, bars_of, adjustments_of, IsStart, AreFed, cell_brought, events_at, day_back, day_window}
+use Rattle.pl_rings.specs.Days.{Start, FedDay, fed, bar_row, days_of, bars_of, adjustments_of, IsStart, AreFed, cell_brought, day_back, day_window}
 use Rattle.pl_rings.specs.Rings.{acting, bar_ring, changed_cells}
 use Rattle.pl_rings.specs.Laws.{BarRingsMove, DaysAreFed}
 use Rattle.pl_rings.proofs.Fed.{all_before, parts_fit, agrees, length-days, sessions_below, find-miss}
 use Rattle.pl_rings.proofs.PartsWorld.{events_by-at}
+use Rattle.pl_adjust.specs.Columns.{events_at}
 
 -- ---- lists
-
-filter-same : {X : Type 0} (p q : X → Bool) (xs : List X) → All (λ x. p x ≡ q x) xs → filter p xs ≡ filter q xs
-filter-same p q [] h = refl
-filter-same p q (x ∷ xs) h =
-    let first : p x ≡ q x = h 0 x (omega arith) in
-    rw first (here (q x) (filter-same p q xs (λ k d l. h (suc k) d (omega arith))))
-  where
-    here : (b : Bool) → filter p xs ≡ filter q xs → cond b (x ∷ filter p xs) (filter p xs) ≡ cond b (x ∷ filter q xs) (filter q xs)
-    here true e = ap (λ l. x ∷ l) e
-    here false e = e
-
-pub length-downward : (size : ℕ) → length (downward size) ≡ size
-length-downward zero = refl
-length-downward (suc size) = ap suc (length-downward size)
 
 snoc : {X : Type 0} (f : ℕ → X) (n : ℕ) → map f (downward (suc n)) ≡ map (λ m. f (suc m)) (downward n) ++ f 0 ∷ []
 snoc f zero = refl
@@ -70,16 +59,9 @@ ends f small size h =
         let more : suc (k + small) - small ≡ suc (k + small - small) = omega arith in
         rw (is, more) (here k (k + small) small refl)
 
-pub keep_last-map : {X Y : Type 0} (h : X → Y) (n : ℕ) (xs : List X) → keep_last n (map h xs) ≡ map h (keep_last n xs)
-keep_last-map h n xs = ap (λ k. drop (k - n) (map h xs)) (length-map xs h) ∙ drop-map h (length xs - n) xs
-
 pub constant : {X : Type 0} (f : ℕ → X) (x : X) (size : ℕ) → ((n : ℕ) → f n ≡ x) → map f (downward size) ≡ replicate size x
 constant f x zero h = refl
 constant f x (suc size) h = ap (λ y. y ∷ map f (downward size)) (h size) ∙ ap (λ l. x ∷ l) (constant f x size h)
-
-pub map-map : {X Y Z : Type 0} (f : X → Y) (h : Y → Z) (xs : List X) → map h (map f xs) ≡ map (λ x. h (f x)) xs
-map-map f h [] = refl
-map-map f h (x ∷ xs) = ap (λ l. h (f x) ∷ l) (map-map f h xs)
 
 -- a window that has moved on by one, as one over the numbers below its size
 abbrev pub with_newest : {X : Type 0} → X → (ℕ → X) → ℕ → X
@@ -106,13 +88,9 @@ moves_on c es days size f g x e h =
 
 -- ---- below session 0
 
-no_effects : (c : Column) (high : Option ℤ) (es : List Event) → effects_from c None high es ≡ []
-no_effects c (Some high) es = refl
-no_effects c None es = refl
-
 seen_below : (w : World) (a : ℕ) (c : Column) (s : ℕ) (d : ℤ) → seen_cell w a c (negsuc s) d ≡ MISSING
 unfolding seen_cell
-seen_below w a c s d = ap (after_all MISSING) (no_effects c (day_of w d) (events_of w a))
+seen_below w a c s d = ap (after_all MISSING) (no-effects c (day_of w d) (events_of w a))
 
 pub below_first : (n : ℕ) → before (pos 0) (suc n) ≡ negsuc n
 below_first n = omega (arith, ints)

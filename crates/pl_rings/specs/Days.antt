@@ -1,6 +1,6 @@
 -- Days as they are fed, one after the other, and the world that they make. A list of days has the latest in
 -- front.
-use Rattle.std.specs.Prelude.{◌≡◌, ℕ, ◌<◌, ℤ, pos, negsuc, ◌<ℤ◌, ◌≤ℤ◌, List, [], ◌∷◌, ◌++◌, length, map, filter, find, All, AllPairs, Option, Some, None, slice_get, option_map, unwrap_or, ◌==◌}
+use Rattle.std.specs.Prelude.{◌≡◌, ℕ, ◌<◌, ℤ, pos, negsuc, ◌<ℤ◌, ◌≤ℤ◌, List, [], ◌∷◌, ◌++◌, length, map, find, All, AllPairs, Option, Some, None, slice_get, option_map, unwrap_or, ◌==◌}
 use Rattle.pl_spec.specs.declared.AssetRow.{AssetRow}
 use Rattle.pl_spec.specs.declared.BarRow.{BarRow}
 use Rattle.pl_spec.specs.declared.Column.{Column}
@@ -8,7 +8,7 @@ use Rattle.pl_spec.specs.Dates.{IsDay}
 use Rattle.pl_spec.specs.Rounding.{IsCell, MISSING}
 use Rattle.pl_spec.specs.Parts.{ColumnLabel, ColumnAdjustment, world_of}
 use Rattle.pl_spec.specs.Window.{downward}
-use Rattle.pl_spec.specs.World.{World, Event}
+use Rattle.pl_spec.specs.World.{World}
 use Rattle.pl_bars.specs.Bars.{cell_of}
 use Rattle.pl_adjust.specs.Events.{PutsCell}
 use Rattle.pl_rings.specs.declared.day.DayBar.{DayBar}
@@ -103,6 +103,3 @@ AreFed g (d ∷ earlier) = AreFed g earlier × IsLaterThan (last_day earlier) d.
 -- the cell that a day brings for a column, missing where it brings no bar
 unfoldable pub cell_brought : Column → List DayBar → ℕ → ℤ
 cell_brought c bars col = unwrap_or (option_map (λ (b : DayBar). cell_of c (bar_row 0 b)) (find (λ b. b.col == col) bars)) MISSING
-
-abbrev pub events_at : List ColumnAdjustment → ℕ → List Event
-events_at xs col = map (λ x. x.event) (filter (λ x. x.col == col) xs)

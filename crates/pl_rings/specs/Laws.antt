@@ -8,8 +8,9 @@ use Rattle.pl_spec.specs.Term.{Term}
 use Rattle.pl_spec.specs.Value.{value}
 use Rattle.pl_spec.specs.World.{World, IsWorld, day_of}
 use Rattle.pl_spec.specs.Window.{before, bar_window}
-use Rattle.pl_rings.specs.Days.{Start, FedDay, fed, IsStart, AreFed, cell_brought, events_at, day_back, day_window, last_session}
+use Rattle.pl_rings.specs.Days.{Start, FedDay, fed, IsStart, AreFed, cell_brought, day_back, day_window, last_session}
 use Rattle.pl_rings.specs.Rings.{bar_ring, changed_cells}
+use Rattle.pl_adjust.specs.Columns.{events_at}
 
 abbrev pub FedIsAWorld : Type 0
 FedIsAWorld = (g : Start) (days : List FedDay) → IsStart g → AreFed g days → IsWorld (fed g days)

@@ -3,7 +3,7 @@ ghost use Rattle.std.specs.Prelude.{◌≡◌, ℕ, ◌+◌, ◌*◌, ◌<◌, [
 ghost use Rattle.pl_spec.specs.Rounding.{IsCell};
 ghost use Rattle.pl_spec.specs.Window.{after_all, changed as change, effect, step_count, step_of};
 ghost use Rattle.pl_adjust.specs.Events.{IsPut, PutsCell, effect_of, event_of};
-ghost use Rattle.pl_rings.specs.Days.{events_at};
+ghost use Rattle.pl_adjust.specs.Columns.{events_at};
 ghost use Rattle.pl_rings.specs.Rings.{changed_cells, known_days, scaling};
 ghost use Rattle.pl_rings.specs.Changes.{AreRings, IsRing, changed, column_event, ring_at};
 

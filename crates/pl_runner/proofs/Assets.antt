@@ -1,5 +1,5 @@
 -- The assets of a chunk: each that exists on a session on which a used term is computed, and no other.
-use Rattle.std.proofs.Common.{◌≡◌, ℕ, suc, ◌<◌, ◌≤◌, Bool, true, false, ◌==◌, ℤ, pos, List, [], ◌∷◌, length, map, get_or, Option, Some, None, option_map, unwrap_or, slice_get, refl, sym, ap, ◌∙◌, arith}
+use Rattle.std.proofs.Common.{◌≡◌, ℕ, ◌<◌, ◌≤◌, Bool, true, false, ◌==◌, ℤ, pos, List, length, map, get_or, refl, sym, ap, ◌∙◌, arith, ◌-◌}
 use Rattle.std.specs.Prelude.{filter}
 use Rattle.std.specs.List.{range_with_len, All, AllPairs}
 use Rattle.std.proofs.Math.Path.{fun_ext}
@@ -8,84 +8,27 @@ use Rattle.std.proofs.lemmas.List.Sums.{length-filter, count_by-le-length}
 use Rattle.std.proofs.lemmas.List.Elements.{All-filter}
 use Rattle.std.proofs.lemmas.List.Kept.{AllPairs-filter}
 use Rattle.std.proofs.lemmas.List.Folds.{list_any_at, list_any_none, Any-from_list_any}
-use Rattle.std.proofs.lemmas.List.{get_or-map, length-map}
-use Rattle.std.proofs.lemmas.Option.{slice_get-get_or}
-use Rattle.std.proofs.lemmas.List.FromFn.{length-range_with_len, get_or-range_with_len, fill_by_all}
-use Rattle.pl_spec.specs.declared.AssetRow.{AssetRow}
+use Rattle.std.proofs.lemmas.List.FromFn.{length-range_with_len, get_or-range_with_len}
 use Rattle.pl_spec.specs.Parts.{sid_at}
 use Rattle.pl_spec.specs.Graph.{used_terms}
 use Rattle.pl_spec.specs.Table.{Pipeline}
-use Rattle.pl_spec.specs.World.{World, exists, lives_on, day_of}
-use Rattle.pl_world.proofs.Lifetimes.{among-at, is_among}
+use Rattle.pl_spec.specs.World.{World, exists}
+use Rattle.pl_spec.proofs.Ranges.{range-rises}
+use Rattle.pl_spec.proofs.Lists.{filter-map, filter-filter}
+use Rattle.pl_spec.proofs.Columns.{sids-all}
 use Rattle.pl_terms.specs.Uses.{outputs}
 use Rattle.pl_planner.specs.Plans.{Planned, IsPlanOf, is_used, low_at}
 use Rattle.pl_values.specs.Arrays.{HasAll}
 use Rattle.pl_exec.specs.declared.chunk.Chunk.{Chunk}
 use Rattle.pl_runner.specs.Chunks.{IsLeast, lives_within, is_met, columns_of}
 use Rattle.pl_runner.proofs.Living.{lives-some, lives-found}
-
--- ---- all assets have those that exist
-
-none_kept : (q : ℕ → Bool) (xs : List ℕ) → ((b : ℕ) → q b ≡ false) → [] ≡ filter q xs
-none_kept q [] h = refl
-none_kept q (x ∷ xs) h = rw (h x) (none_kept q xs h)
-
-kept_ones : (p : AssetRow → Bool) (q : ℕ → Bool) (xs : List AssetRow) → ((i : ℕ) (a : AssetRow) → slice_get xs i ≡ Some a → q a.sid ≡ p a) → map (λ a. a.sid) (filter p xs) ≡ filter q (map (λ a. a.sid) xs)
-kept_ones p q [] h = refl
-kept_ones p q (x ∷ xs) h = here (p x) refl (kept_ones p q xs (λ i a e. h (suc i) a e))
-  where
-    here : (b : Bool) → p x ≡ b → map (λ a. a.sid) (filter p xs) ≡ filter q (map (λ a. a.sid) xs) → map (λ a. a.sid) (filter p (x ∷ xs)) ≡ filter q (map (λ a. a.sid) (x ∷ xs))
-    here true e ih = let f : q x.sid ≡ true = h 0 x refl ∙ e in rw (e, f, ih) refl
-    here false e ih = let f : q x.sid ≡ false = h 0 x refl ∙ e in rw (e, f, ih) refl
-
-all_there : (w : World) (s : ℕ) → AllPairs (λ x y. x.sid < y.sid) w.assets → HasAll w (map (λ a. a.sid) w.assets) s
-all_there w s up = here (day_of w (pos s)) refl
-  where
-    here : (o : Option ℤ) → day_of w (pos s) ≡ o → HasAll w (map (λ a. a.sid) w.assets) s
-    here None e = rw e (none_kept (λ b. false) (map (λ a. a.sid) w.assets) (λ b. refl))
-    here (Some day) e = rw e (kept_ones (lives_on day) (is_among (lives_on day) w.assets) w.assets (λ i a f. among-at (lives_on day) w.assets i a up f))
-
--- the sids of all columns, in whose order the assets stand
-sids-all : (assets : List AssetRow) → map (λ a. a.sid) assets ≡ map (sid_at assets) (range_with_len 0 (length assets))
-sids-all assets = fill_by_all (sid_at assets) (map (λ a. a.sid) assets) (length assets) 0 (length-map assets (λ (a : AssetRow). a.sid)) (λ k h. at k h)
-  where
-    none : AssetRow
-    none = record { sid = 0; start = pos 0; end = pos 0 }
-
-    at : (k : ℕ) → k < length assets → get_or (map (λ (a : AssetRow). a.sid) assets) k 0 ≡ sid_at assets k
-    at k h = get_or-map (λ (a : AssetRow). a.sid) assets k none 0 h ∙ ap (λ (o : Option AssetRow). unwrap_or (option_map (λ a. a.sid) o) 0) (sym (slice_get-get_or assets k none h))
-
--- ---- filters
-
-filter-map : (p : ℕ → Bool) (f : ℕ → ℕ) (xs : List ℕ) → filter p (map f xs) ≡ map f (filter (λ x. p (f x)) xs)
-filter-map p f [] = refl
-filter-map p f (x ∷ xs) = here (p (f x)) refl (filter-map p f xs)
-  where
-    here : (b : Bool) → p (f x) ≡ b → filter p (map f xs) ≡ map f (filter (λ y. p (f y)) xs) → filter p (map f (x ∷ xs)) ≡ map f (filter (λ y. p (f y)) (x ∷ xs))
-    here true e ih = rw (e, ih) refl
-    here false e ih = rw (e, ih) refl
-
--- a filter that lets through all that another one does changes nothing before it
-filter-loose : (p q : ℕ → Bool) (xs : List ℕ) → ((x : ℕ) → p x ≡ true → q x ≡ true) → filter p (filter q xs) ≡ filter p xs
-filter-loose p q [] h = refl
-filter-loose p q (x ∷ xs) h = here (p x) refl (q x) refl (filter-loose p q xs h)
-  where
-    here : (b : Bool) → p x ≡ b → (d : Bool) → q x ≡ d → filter p (filter q xs) ≡ filter p xs → filter p (filter q (x ∷ xs)) ≡ filter p (x ∷ xs)
-    here true e true f ih = rw (e, f, e, ih) refl
-    here true e false f ih = absurd (true≢false (sym (h x e) ∙ f))
-    here false e true f ih = rw (e, f, e, ih) refl
-    here false e false f ih = rw (e, f, ih) refl
+use Rattle.pl_world.proofs.Sections.{all_there}
 
 -- ---- the assets of a chunk
 
 -- the columns of assets that exist on a session of a range
 abbrev pub living_columns : World → ℕ → ℕ → List ℕ
 living_columns w low to = filter (lives_within w low to) (range_with_len 0 (length w.assets))
-
-rising : (a n : ℕ) → AllPairs (λ x y. x < y) (range_with_len a n)
-rising a n i j d h l =
-    let few : j < n = omega (arith, length-range_with_len a n) in
-    omega (arith, get_or-range_with_len a n i d (omega arith), get_or-range_with_len a n j d few)
 
 pub columns_of-few : (w : World) (p : Pipeline) (plan : Planned) (chunk : Chunk) → length (columns_of w p plan chunk) ≤ length w.assets
 unfolding columns_of
@@ -144,12 +87,12 @@ module _ (days : List ℤ) (w : World) (p : Pipeline) (plan : Planned) (chunk : 
       all_there w s up
       ∙ ap (filter ex) (sids-all w.assets)
       ∙ filter-map ex (sid_at w.assets) (range_with_len 0 (length w.assets))
-      ∙ ap (map (sid_at w.assets)) (sym (filter-loose here (is_met w p plan chunk) (range_with_len 0 (length w.assets)) (λ col e. met-some col k s used a b e)))
+      ∙ ap (map (sid_at w.assets)) (sym (filter-filter here (is_met w p plan chunk) (λ col e. met-some col k s used a b e) (range_with_len 0 (length w.assets))))
       ∙ sym (filter-map ex (sid_at w.assets) (filter (is_met w p plan chunk) (range_with_len 0 (length w.assets))))
 
 pub columns_of-ascend : (w : World) (p : Pipeline) (plan : Planned) (chunk : Chunk) → AllPairs (λ a b. a < b) (columns_of w p plan chunk)
 unfolding columns_of
-columns_of-ascend w p plan chunk = AllPairs-filter (λ a b. a < b) (is_met w p plan chunk) (range_with_len 0 (length w.assets)) (rising 0 (length w.assets))
+columns_of-ascend w p plan chunk = AllPairs-filter (λ a b. a < b) (is_met w p plan chunk) (range_with_len 0 (length w.assets)) (range-rises 0 (length w.assets))
 
 pub columns_of-within : (w : World) (p : Pipeline) (plan : Planned) (chunk : Chunk) → All (λ c. c < length w.assets) (columns_of w p plan chunk)
 unfolding columns_of

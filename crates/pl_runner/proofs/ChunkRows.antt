@@ -7,14 +7,13 @@ use Rattle.std.proofs.lemmas.Nat.{mul-le}
 use Rattle.std.proofs.Math.Nat.{div-mul-le_self, lt-div-mul-add}
 use Rattle.pl_spec.specs.World.{World}
 use Rattle.pl_spec.specs.Table.{Pipeline, Row, session_rows, table}
+use Rattle.pl_spec.proofs.Ranges.{range-split}
 use Rattle.pl_planner.specs.Plans.{Planned}
 use Rattle.pl_table.specs.Outcomes.{rows_of_sessions}
 use Rattle.pl_exec.specs.declared.chunk.Chunk.{Chunk}
 use Rattle.pl_runner.specs.Chunks.{chunk_at, chunk_count}
+use Rattle.pl_table.proofs.SessionRows.{times-more}
 use Rattle.pl_runner.specs.Runs.{run_steps, steps_of_chunk}
-
-pub times-more : (n m : ℕ) → (n + 1) * m ≡ n * m + m
-times-more n m = omega arith
 
 -- ---- sessions
 
@@ -34,13 +33,6 @@ start-past from to size i order some h =
     let more = times-more ((to - from) / size) size in
     let few = mul-le ((to - from) / size + 1) size i size h (omega arith) in
     omega (arith, whole, more, few)
-
-range-split : (a m n : ℕ) → range_with_len a (m + n) ≡ range_with_len a m ++ range_with_len (a + m) n
-range-split a zero n = grind arith
-range-split a (suc m) n =
-    let count : suc m + n ≡ suc (m + n) = omega arith in
-    let start : a + 1 + m ≡ a + suc m = omega arith in
-    rw (count, range-split (a + 1) m n, start) refl
 
 -- the rows of m sessions, and then those of n more
 rows-split : (w : World) (p : Pipeline) (s m n : ℕ) → rows_of_sessions w p s (m + n) ≡ rows_of_sessions w p s m ++ rows_of_sessions w p (s + m) n

@@ -10,14 +10,14 @@ use Rattle.pl_spec.specs.Term.{Node}
 use Rattle.pl_spec.specs.Table.{Pipeline}
 use Rattle.pl_terms.specs.Checked.{IsChecked}
 use Rattle.pl_planner.specs.Plans.{Planned, IsPlanOf, is_used, low_at}
-use Rattle.pl_planner.proofs.Pipelines.{is-pipeline}
+use Rattle.pl_planner.proofs.Pipelines.{is-pipeline, output-used}
 use Rattle.pl_values.specs.Arrays.{HasAll}
 use Rattle.pl_exec.specs.declared.chunk.Chunk.{Chunk}
 use Rattle.pl_runner.specs.Chunks.{columns_of}
 use Rattle.pl_runner.specs.Room as chunks
 use Rattle.pl_runner.specs.Room.{rows_at}
 use Rattle.pl_runner.proofs.Assets.{columns-have, columns_of-ascend, columns_of-within, columns_of-few}
-use Rattle.pl_runner.proofs.Terms.{used-within, output-used}
+use Rattle.pl_runner.proofs.Terms.{used-within}
 use Rattle.pl_exec.specs.Tasks.{Task, AreColumns, HasRoom, window_of_term}
 
 -- the task of a chunk

@@ -9,9 +9,10 @@ use Rattle.pl_spec.specs.Table.{Pipeline}
 use Rattle.pl_terms.specs.Checked.{IsChecked}
 use Rattle.pl_terms.specs.Uses.{outputs}
 use Rattle.pl_planner.specs.Plans.{Planned, IsPlanOf, IsLive, AreLastUsers, is_live, is_read_by, is_used, last_user, slot_of}
+use Rattle.pl_planner.proofs.Pipelines.{output-used}
 use Rattle.pl_workspace.specs.Slots.{Slots, Free, Begun, Live, slot_at, with_slot}
 use Rattle.pl_workspace.specs.Slots as slots
-use Rattle.pl_runner.proofs.Terms.{output-used, used-within}
+use Rattle.pl_runner.proofs.Terms.{used-within}
 use Rattle.pl_runner.specs.Releases.{HoldOnly}
 
 pub not-output : (days : List ℤ) (p : Pipeline) (plan : Planned) → IsChecked p → IsPlanOf days p plan → (t : ℕ) → is_used plan t ≡ false → false ≡ contains (outputs p) t

@@ -8,12 +8,13 @@ use Rattle.pl_spec.specs.Term.{Node}
 use Rattle.pl_spec.specs.Table.{Pipeline}
 use Rattle.pl_terms.specs.declared.node.Node as code
 use Rattle.pl_terms.specs.Nodes.{graph_of, node_of}
-use Rattle.pl_planner.proofs.Pipelines.{graph-at, window-is}
+use Rattle.pl_planner.proofs.Pipelines.{window-is}
 use Rattle.pl_planner.specs.Plans.{Planned, IsPlanOf, is_used}
 use Rattle.pl_exec.specs.declared.chunk.Chunk.{Chunk}
 use Rattle.pl_runner.specs.Chunks.{columns_of, chunk_at}
 use Rattle.pl_runner.specs.Room.{IsMost, IsOfTerm, HasRoom, rows_at}
 use Rattle.pl_runner.proofs.Terms.{used-within}
+use Rattle.pl_terms.proofs.Graphs.{graph-at}
 
 pub most-none : (p : Pipeline) (plan : Planned) (chunk : Chunk) → IsMost p plan chunk 0 0
 most-none p plan chunk = record { each = λ k m h u e. absurd (omega arith); some = inl refl }

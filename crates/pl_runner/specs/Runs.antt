@@ -3,11 +3,12 @@ use Rattle.std.specs.Prelude.{◌≡◌, ℕ, pos, length, sum_by}
 use Rattle.pl_spec.specs.World.{World}
 use Rattle.pl_spec.specs.Graph.{bound}
 use Rattle.pl_spec.specs.Table.{Pipeline, table, cells}
+use Rattle.pl_spec.specs.Limits.{cut}
 use Rattle.pl_terms.specs.Uses.{outputs}
 use Rattle.pl_planner.specs.Plans.{Planned}
 use Rattle.pl_exec.specs.declared.chunk.Chunk.{Chunk}
 use Rattle.pl_runner.specs.Chunks.{chunks_of, columns_of}
-use Rattle.pl_exec.specs.Tasks.{Task, chunk_steps, cut}
+use Rattle.pl_exec.specs.Tasks.{Task, chunk_steps}
 use Rattle.pl_runner.specs.declared.run.RunReport.{RunReport}
 
 -- the work of a chunk

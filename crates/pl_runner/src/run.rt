@@ -3,6 +3,7 @@ ghost use Rattle.std.specs.Prelude.{◌≡◌, ◌≤◌, ◌<◌, ◌+◌, ◌-
 ghost use Rattle.pl_spec.specs.Graph.{bound};
 ghost use Rattle.pl_spec.specs.Table.{table};
 ghost use Rattle.pl_spec.specs.Text.{text};
+ghost use Rattle.pl_spec.specs.Limits.{cut};
 ghost use Rattle.pl_outside.specs.Taken.{IsWrittenIn, Writes};
 ghost use Rattle.pl_world.specs.Worlds.{IsMade, world_of};
 ghost use Rattle.pl_terms.specs.Checked.{pipeline_of};
@@ -11,7 +12,6 @@ ghost use Rattle.pl_planner.specs.Plans.{IsPlanOf};
 ghost use Rattle.pl_table.specs.Outcomes.{lines, rows_of_sessions};
 ghost use Rattle.pl_table.specs.Sums.{rows_sum};
 ghost use Rattle.pl_exec.specs.declared.chunk.Chunk.{Chunk};
-ghost use Rattle.pl_exec.specs.Tasks.{cut};
 ghost use Rattle.pl_runner.specs.Desks.{IsDesk, IsDeskFor};
 ghost use Rattle.pl_runner.specs.Runs.{IsReport, run_steps, steps_of_chunk};
 ghost use Rattle.pl_table.specs.declared.error.RunError.TheVariants as RunError;

@@ -10,6 +10,7 @@ use Rattle.std.proofs.lemmas.List.Folds.{position_or_len_push}
 use Rattle.std.proofs.lemmas.List.Elements.{All-take, All-tail}
 use Rattle.pl_spec.specs.Rounding.{MISSING, IsCell}
 use Rattle.pl_spec.specs.Formula.{greatest, least}
+use Rattle.pl_spec.proofs.Signed.{int_eq-itself}
 use Rattle.pl_lanes.specs.Heights.{height, depth, peak}
 use Rattle.pl_lanes.proofs.Heights.{height-missing, depth-missing, greatest-height, least-depth}
 use Rattle.pl_running.specs.Kept.{first_place}
@@ -38,14 +39,11 @@ ahead-next : (x z : ℤ) (l : List ℤ) → int_eq z x ≡ false → ahead x (z 
 unfolding ahead
 ahead-next x z l e = rw e (omega arith)
 
-same-eq : (x : ℤ) → int_eq x x ≡ true
-same-eq x = grind (arith, ints)
-
 unlike-eq : (x y : ℤ) → x ≢ y → int_eq x y ≡ false
 unlike-eq x y h = grind (arith, ints)
 
 place-first : (x : ℤ) (l : List ℤ) → first_place x (x ∷ l) ≡ 0
-place-first x l = let e = ahead-here x x l (same-eq x) in place-in x (x ∷ l) (omega arith) ∙ e
+place-first x l = let e = ahead-here x x l (int_eq-itself x) in place-in x (x ∷ l) (omega arith) ∙ e
 
 ahead-push : (x y : ℤ) (l : List ℤ) → ahead x l < length l → ahead x (l ++ y ∷ []) ≡ ahead x l
 unfolding ahead
@@ -57,7 +55,7 @@ ahead-new : (y : ℤ) (l : List ℤ) → ahead y l ≡ length l → ahead y (l +
 unfolding ahead
 ahead-new y l h =
     let t : eqb (ahead y l) (length l) ≡ true = grind (arith, nat_tests) in
-    let s = same-eq y in
+    let s = int_eq-itself y in
     position_or_len_push (λ z. int_eq z y) l y ∙ rw (t, s) (omega arith)
 
 -- where it is not the first cell, it comes one place nearer

@@ -18,9 +18,6 @@ pub terms-slide : (f : ℕ → ℤ) (n : ℕ) → sum_terms (λ i. f (suc i)) n 
 unfolding sum_terms
 terms-slide f n = omega (arith, ints, terms-first f n)
 
-product-step : (n : ℕ) (x : ℤ) → pos (suc n + 1) *ℤ x ≡ (pos (n + 1) *ℤ x) +ℤ x
-product-step n x = omega (arith, ints)
-
 place-step : (n : ℕ) (x : ℤ) → pos (n + 1) *ℤ x ≡ (pos n *ℤ x) +ℤ x
 place-step n x = omega (arith, ints)
 

@@ -2,11 +2,8 @@
 use Rattle.std.proofs.Common.{◌≡◌, ◌<◌, ◌-◌, ℕ, zero, suc, ℤ, ◌∷◌, length, map, take, refl, ap, ap₂, arith, ◌∙◌}
 use Rattle.std.proofs.lemmas.List.{length-map}
 use Rattle.pl_spec.specs.Window.{downward}
+use Rattle.pl_spec.proofs.Windows.{length-downward}
 use Rattle.pl_running.specs.Laws.{WindowsSlide}
-
-length-downward : (n : ℕ) → length (downward n) ≡ n
-length-downward zero = refl
-length-downward (suc n) = ap suc (length-downward n)
 
 take-downward : (f g : ℕ → ℤ) (size : ℕ) → ((n : ℕ) → n < size → f (suc n) ≡ g n) → take size (map f (downward (suc size))) ≡ map g (downward size)
 take-downward f g zero h = refl

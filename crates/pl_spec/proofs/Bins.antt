@@ -1,17 +1,14 @@
 -- Quantiles have their number of bins, and these grow with the value.
-use Rattle.std.proofs.Common.{◌≡◌, ℕ, zero, suc, ◌+◌, ◌-◌, ◌*◌, ◌≤◌, true, ℤ, pos, ◌*ℤ◌, ◌≤ℤ◌, List, length, refl, ap, arith}
+use Rattle.std.proofs.Common.{◌≡◌, ℕ, ◌+◌, ◌-◌, ◌*◌, ◌≤◌, true, ℤ, pos, ◌*ℤ◌, ◌≤ℤ◌, List, length, arith}
 use Rattle.std.specs.List.{range_with_len}
 use Rattle.std.specs.Int.RustNames.{int_lt}
 use Rattle.std.proofs.lemmas.Int.{ints}
 use Rattle.std.proofs.lemmas.List.Sums.{count_by-le-length}
 use Rattle.std.proofs.lemmas.Nat.{mul-le}
+use Rattle.std.proofs.lemmas.List.FromFn.{length-range_with_len}
 use borrow.Author.Differences.{up, down}
 use Rattle.pl_spec.specs.Cross.{edge, bin_of}
 use Rattle.pl_spec.proofs.Counts.{count-within}
-
-pub length-range : (a n : ℕ) → length (range_with_len a n) ≡ n
-length-range a zero = refl
-length-range a (suc n) = ap suc (length-range (a + 1) n)
 
 pub times-le : (x y : ℤ) (n : ℕ) → x ≤ℤ y → (x *ℤ pos n) ≤ℤ (y *ℤ pos n)
 times-le x y n h =
@@ -24,7 +21,7 @@ below-more e x y h t = grind (arith, ints)
 
 pub bins-few : (bins : ℕ) (vs : List ℤ) (x y : ℤ) → (bin_of bins vs x ≤ bins - 1) × (x ≤ℤ y → bin_of bins vs x ≤ bin_of bins vs y)
 bins-few bins vs x y = (
-  omega (arith, count_by-le-length (λ k. int_lt (edge vs (k * (length vs - 1)) bins) (x *ℤ pos bins)) (range_with_len 1 (bins - 1)), length-range 1 (bins - 1)),
+  omega (arith, count_by-le-length (λ k. int_lt (edge vs (k * (length vs - 1)) bins) (x *ℤ pos bins)) (range_with_len 1 (bins - 1)), length-range_with_len 1 (bins - 1)),
   λ h. count-within (λ k. int_lt (edge vs (k * (length vs - 1)) bins) (x *ℤ pos bins)) (λ k. int_lt (edge vs (k * (length vs - 1)) bins) (y *ℤ pos bins)) (range_with_len 1 (bins - 1))
       (λ k i. below-more (edge vs (k * (length vs - 1)) bins) (x *ℤ pos bins) (y *ℤ pos bins) (times-le x y bins h)),
 )

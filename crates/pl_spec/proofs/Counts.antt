@@ -44,10 +44,6 @@ pub map-agree : {A B : Type 0} (f g : A → B) (xs : List A) → ((y : A) → In
 map-agree f g [] h = refl
 map-agree f g (x ∷ xs) h = ap (λ y. y ∷ map f xs) (h x (inl refl)) ∙ ap (λ ys. g x ∷ ys) (map-agree f g xs (λ y i. h y (inr i)))
 
-pub map-map : {A B C : Type 0} (f : B → C) (g : A → B) (xs : List A) → map f (map g xs) ≡ map (λ x. f (g x)) xs
-map-map f g [] = refl
-map-map f g (x ∷ xs) = ap (λ l. f (g x) ∷ l) (map-map f g xs)
-
 pub count-agree : {A : Type 0} (p q : A → Bool) (xs : List A) → ((y : A) → In y xs → p y ≡ q y) → count_by p xs ≡ count_by q xs
 count-agree p q [] h = refl
 count-agree p q (x ∷ xs) h =

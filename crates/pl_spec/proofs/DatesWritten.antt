@@ -10,6 +10,7 @@ use Rattle.jiff_core.proofs.CalendarLemmas.{day_count-epoch, day_count-day_of_ye
 use Rattle.jiff_core.proofs.MarchLemmas.{day_count-early}
 use Rattle.jiff_core.proofs.SignedLemmas.{unsigned_abs-parts}
 use Rattle.pl_spec.specs.Dates.{IsDate, IsDay, date_spelling, days_before_year, day_number, year_of, month_of, date_text}
+use Rattle.pl_spec.proofs.Signed.{le-int_le, lt-int_le}
 
 -- ---- the day of a date, as the calendar of jiff counts it
 
@@ -49,12 +50,6 @@ counted p a (suc n) (suc k) h passing failing =
     rw (passing a (omega arith) (omega arith))
     (ap suc (counted p (a + 1) n k (omega arith) (λ x l m. passing x (omega arith) (omega arith)) (λ x l m. failing x (omega arith) (omega arith))))
 
-int_le-true : (a b : ℤ) → a ≤ℤ b → int_le a b ≡ true
-int_le-true a b h = grind (arith, ints)
-
-int_le-false : (a b : ℤ) → b <ℤ a → int_le a b ≡ false
-int_le-false a b h = grind (arith, ints)
-
 -- days compare as their counts
 civil-le : (y m d y₂ m₂ d₂ : ℕ) → day_count (pos y) m d ≤ day_count (pos y₂) m₂ d₂
     → days_from_civil (pos y) m d ≤ℤ days_from_civil (pos y₂) m₂ d₂
@@ -69,12 +64,12 @@ civil-lt y m d y₂ m₂ d₂ h = omega (arith, ints)
 begun : (y m y₂ m₂ d₂ : ℕ) → 1 ≤ y → day_count (pos y) m 1 ≤ day_count (pos y₂) m₂ d₂
     → int_le (day_number y m 1) (days_from_civil (pos y₂) m₂ d₂) ≡ true
 begun y m y₂ m₂ d₂ hy h =
-    ap (λ z. int_le z (days_from_civil (pos y₂) m₂ d₂)) (day_number-civil y m 1 hy (omega arith)) ∙ int_le-true _ _ (civil-le y m 1 y₂ m₂ d₂ h)
+    ap (λ z. int_le z (days_from_civil (pos y₂) m₂ d₂)) (day_number-civil y m 1 hy (omega arith)) ∙ le-int_le _ _ (civil-le y m 1 y₂ m₂ d₂ h)
 
 not_begun : (y m y₂ m₂ d₂ : ℕ) → 1 ≤ y → day_count (pos y₂) m₂ d₂ < day_count (pos y) m 1
     → int_le (day_number y m 1) (days_from_civil (pos y₂) m₂ d₂) ≡ false
 not_begun y m y₂ m₂ d₂ hy h =
-    ap (λ z. int_le z (days_from_civil (pos y₂) m₂ d₂)) (day_number-civil y m 1 hy (omega arith)) ∙ int_le-false _ _ (civil-lt y₂ m₂ d₂ y m 1 h)
+    ap (λ z. int_le z (days_from_civil (pos y₂) m₂ d₂)) (day_number-civil y m 1 hy (omega arith)) ∙ lt-int_le _ _ (civil-lt y₂ m₂ d₂ y m 1 h)
 
 -- ---- the year, the month and the date of a day
 

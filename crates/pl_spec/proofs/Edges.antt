@@ -8,14 +8,16 @@ use Rattle.std.proofs.lemmas.Int.{ints, by_lt_z}
 use Rattle.std.proofs.lemmas.List.Sums.{count_by-le-length}
 use Rattle.std.proofs.lemmas.Nat.{mul-le, div-mul-add}
 use Rattle.std.proofs.Math.Nat.{div-mul-le_self, lt-div-mul-add}
+use Rattle.std.proofs.lemmas.List.FromFn.{length-range_with_len}
 use Rattle.pl_spec.specs.Formula.{truth}
 use Rattle.pl_spec.specs.Kind.CrossKind.{PercentileBetween}
-use Rattle.pl_spec.specs.Cross.{Entry, values, below, same, value_at, edge, bin_of, is_between, cross}
+use Rattle.pl_spec.specs.Cross.{Entry, values, below, same, value_at, edge, bin_of, is_percentile_between, cross}
 use Rattle.pl_spec.specs.CrossFacts.{edge_of}
-use Rattle.pl_spec.proofs.Bins.{length-range, times-le, bins-few}
+use Rattle.pl_spec.proofs.Bins.{times-le, bins-few}
 use Rattle.pl_spec.proofs.Counts.{count-cons, count-fewer}
 use Rattle.pl_spec.proofs.Members.{In, contains-in}
 use Rattle.pl_spec.proofs.SortedValues.{at_most-below, value_at-counted, value_at-le}
+use Rattle.pl_spec.proofs.Signed.{le-int_le}
 
 -- ---- edges
 
@@ -110,7 +112,7 @@ unfolding Falls
 front Q a zero fall = record { last = λ h. absurd (omega arith); next = λ h. absurd (omega arith) }
 front Q a (suc n) fall =
     let c : ℕ = count_by Q (range_with_len (a + 1) n) in
-    let few : c ≤ n = omega (arith, count_by-le-length Q (range_with_len (a + 1) n), length-range (a + 1) n) in
+    let few : c ≤ n = omega (arith, count_by-le-length Q (range_with_len (a + 1) n), length-range_with_len (a + 1) n) in
     here (Q a) refl c few (count-cons Q a (range_with_len (a + 1) n)) (front Q (a + 1) n (λ i j l m o t. fall i j (omega arith) m (omega arith) t))
   where
     here : (b : Bool) → Q a ≡ b → (c : ℕ) → c ≤ n → count_by Q (range_with_len a (suc n)) ≡ cond (Q a) 1 0 + c → IsFront Q (a + 1) n c → IsFront Q a (suc n) (count_by Q (range_with_len a (suc n)))
@@ -203,7 +205,7 @@ module _ (bins : ℕ) (vs : List ℤ) (x : ℤ) where
 
 -- ---- the whole range
 
-same-some : (x : ℤ) (vs : List ℤ) → In x vs → 0 < same x vs
+pub same-some : (x : ℤ) (vs : List ℤ) → In x vs → 0 < same x vs
 same-some x vs i =
     let one : int_eq x x ≡ true = grind (arith, ints) in
     omega (arith, count-fewer (λ u. false) (int_eq x) vs x i refl one (λ y j t. absurd (let bad : false ≡ true = t in cc)))
@@ -230,17 +232,14 @@ edge-on vs n i p h e =
     on_one : (a b : ℤ) (n m : ℕ) → m ≡ n → ((a *ℤ pos m) +ℤ (b *ℤ pos 0)) ≡ a *ℤ pos n
     on_one a b n m e = rw e (omega (arith, ints))
 
-is-le : (x y : ℤ) → x ≤ℤ y → int_le x y ≡ true
-is-le x y h = grind (arith, ints)
-
-whole : (vs : List ℤ) (x : ℤ) → In x vs → 0 < length vs → is_between 0 10000 vs x ≡ true
+whole : (vs : List ℤ) (x : ℤ) → In x vs → 0 < length vs → is_percentile_between 0 10000 vs x ≡ true
 whole vs x i h =
     let low : edge vs (0 * (length vs - 1)) 10000 ≡ value_at vs 0 *ℤ pos 10000 = edge-on vs 10000 0 (0 * (length vs - 1)) (omega arith) (omega arith) in
     let high : edge vs (10000 * (length vs - 1)) 10000 ≡ value_at vs (length vs - 1) *ℤ pos 10000 = edge-on vs 10000 (length vs - 1) (10000 * (length vs - 1)) (omega arith) (omega arith) in
     let over : int_le (edge vs (0 * (length vs - 1)) 10000) (x *ℤ pos 10000) ≡ true =
-    ap (λ z. int_le z (x *ℤ pos 10000)) low ∙ is-le (value_at vs 0 *ℤ pos 10000) (x *ℤ pos 10000) (times-le (value_at vs 0) x 10000 (least-le vs x i h)) in
+    ap (λ z. int_le z (x *ℤ pos 10000)) low ∙ le-int_le (value_at vs 0 *ℤ pos 10000) (x *ℤ pos 10000) (times-le (value_at vs 0) x 10000 (least-le vs x i h)) in
     let under : int_le (x *ℤ pos 10000) (edge vs (10000 * (length vs - 1)) 10000) ≡ true =
-    ap (λ z. int_le (x *ℤ pos 10000) z) high ∙ is-le (x *ℤ pos 10000) (value_at vs (length vs - 1) *ℤ pos 10000) (times-le x (value_at vs (length vs - 1)) 10000 (le-greatest vs x i h)) in
+    ap (λ z. int_le (x *ℤ pos 10000) z) high ∙ le-int_le (x *ℤ pos 10000) (value_at vs (length vs - 1) *ℤ pos 10000) (times-le x (value_at vs (length vs - 1)) 10000 (le-greatest vs x i h)) in
     ap (λ b. b && int_le (x *ℤ pos 10000) (edge vs (10000 * (length vs - 1)) 10000)) over ∙ under
 
 some-length : (vs : List ℤ) (x : ℤ) → In x vs → 0 < length vs

@@ -3,13 +3,13 @@ use Rattle.std.proofs.Common.{◌≡◌, ℕ, zero, suc, ◌<◌, Bool, true, fa
 use Rattle.std.specs.Prelude.{Contains, ◌⊎◌}
 use Rattle.std.specs.List.{list_all}
 use Rattle.std.specs.Int.RustNames.{int_le}
-use Rattle.std.proofs.lemmas.Int.{ints}
 use Rattle.std.proofs.lemmas.Bool.{eq-eqb, eqb-true, and_parts, true≢false}
 use Rattle.std.proofs.lemmas.Slice.Eq.{bytes_eq-Decides}
 use Rattle.pl_spec.specs.declared.Column.{Column}
 use Rattle.pl_spec.specs.Rounding.{MISSING}
 use Rattle.pl_spec.specs.World.{World, Bar, LabelRow, day_of, cell_of, bar_cell, last_started, nonempty, is_label_of, label_at}
 use Rattle.pl_spec.specs.Lookups.{BarsOnce, LabelsOnce, BarsAreFound, LabelsAreFound}
+use Rattle.pl_spec.proofs.Signed.{le-int_le, int_le-true, le-both}
 
 -- ---- lists
 
@@ -113,15 +113,6 @@ label_of name a day r e =
     let front = and_parts _ _ (and_parts _ _ e).0 in
     ((bytes_eq-Decides r.name name).0 front.0, eqb-true r.sid a front.1)
 
-not_later : (x y : ℤ) → int_le x y ≡ true → x ≤ℤ y
-not_later x y e = grind (arith, ints)
-
-is_not_later : (x y : ℤ) → x ≤ℤ y → int_le x y ≡ true
-is_not_later x y h = grind (arith, ints)
-
-one_start : (x y : ℤ) → x ≤ℤ y → y ≤ℤ x → x ≡ y
-one_start x y h g = omega (arith, ints)
-
 module _ (w : World) (name : List ℕ) (a : ℕ) (day : ℤ) where
   started : List LabelRow
   started = filter (is_label_of name a day) w.labels
@@ -139,15 +130,15 @@ module _ (w : World) (name : List ℕ) (a : ℕ) (day : ℤ) where
       is_last : last r ≡ true
       is_last =
           contains-all (λ q. int_le q.start r.start) started
-          (λ q in_started. let place = filter-contains (is_label_of name a day) w.labels q in_started in is_not_later q.start r.start (latest q place.0 place.1))
+          (λ q in_started. let place = filter-contains (is_label_of name a day) w.labels q in_started in le-int_le q.start r.start (latest q place.0 place.1))
 
       one : (y : LabelRow) → Contains started y → last y ≡ true → y ≡ r
       one y in_started f =
           let place = filter-contains (is_label_of name a day) w.labels y in_started in
           let own = label_of name a day y place.1 in
           let its = label_of name a day r e in
-          let above : r.start ≤ℤ y.start = not_later r.start y.start (all-contains (λ q. int_le q.start y.start) started f r (contains-filter (is_label_of name a day) w.labels r h e)) in
-          once y r place.0 h (own.0 ∙ sym its.0) (own.1 ∙ sym its.1) (one_start y.start r.start (latest y place.0 place.1) above)
+          let above : r.start ≤ℤ y.start = int_le-true r.start y.start (all-contains (λ q. int_le q.start y.start) started f r (contains-filter (is_label_of name a day) w.labels r h e)) in
+          once y r place.0 h (own.0 ∙ sym its.0) (own.1 ∙ sym its.1) (le-both y.start r.start (latest y place.0 place.1) above)
 
   none-started : ((q : LabelRow) → Contains w.labels q → is_label_of name a day q ≡ true → ⊥) → last_started started ≡ None
   unfolding last started

@@ -1,5 +1,5 @@
 -- Later days are of later periods.
-use Rattle.std.proofs.Common.{◌≡◌, ℕ, suc, ◌+◌, ◌-◌, ◌*◌, ◌/◌, ◌<◌, ◌≤◌, Bool, true, false, cond, ℤ, pos, negsuc, ◌≤ℤ◌, ◌+ℤ◌, List, [], ◌∷◌, length, filter, refl, sym, ◌∙◌, arith, inl, inr}
+use Rattle.std.proofs.Common.{◌≡◌, ℕ, ◌+◌, ◌-◌, ◌*◌, ◌/◌, ◌<◌, ◌≤◌, Bool, true, false, cond, ℤ, pos, negsuc, ◌≤ℤ◌, ◌+ℤ◌, List, [], ◌∷◌, length, filter, refl, sym, ◌∙◌, arith, inl, inr}
 use Rattle.std.specs.List.{range_with_len}
 use Rattle.std.specs.Int.{int_div_euclid}
 use Rattle.std.specs.Int.RustNames.{int_le}
@@ -9,6 +9,7 @@ use Rattle.pl_spec.specs.declared.Frequency.{Frequency}
 use Rattle.pl_spec.specs.declared.Frequency.TheVariants.{YearStart, QuarterStart, MonthStart, WeekStart}
 use Rattle.pl_spec.specs.Dates.{day_number}
 use Rattle.pl_spec.specs.Periods.{month_number, period}
+use Rattle.pl_spec.proofs.Lists.{filter-few}
 
 more_pass : {X : Type 0} (p q : X → Bool) → ((x : X) → p x ≡ true → q x ≡ true) → (xs : List X) → length (filter p xs) ≤ length (filter q xs)
 more_pass p q h [] = omega arith
@@ -19,14 +20,6 @@ more_pass p q h (x ∷ xs) = here (p x) (q x) refl refl (more_pass p q h xs)
     here true false e f rest = let t : q x ≡ true = h x e in let bad : true ≡ false = sym t ∙ f in cc
     here false true e f rest = omega arith
     here false false e f rest = rest
-
-few_pass : {X : Type 0} (p : X → Bool) (xs : List X) → length (filter p xs) ≤ length xs
-few_pass p [] = omega arith
-few_pass p (x ∷ xs) = here (p x) (few_pass p xs)
-  where
-    here : (b : Bool) → length (filter p xs) ≤ length xs → length (cond b (x ∷ filter p xs) (filter p xs)) ≤ suc (length xs)
-    here true rest = omega arith
-    here false rest = omega arith
 
 later_too : (n x y : ℤ) → x ≤ℤ y → int_le n x ≡ true → int_le n y ≡ true
 later_too n x y h e = grind (arith, ints)
@@ -48,7 +41,7 @@ months-rise n x y h = more_pass _ _ (λ m e. later_too (day_number n m 1) x y h 
 
 months-few : (n : ℕ) (x : ℤ) → months n x ≤ 11
 unfolding months
-months-few n x = few_pass (λ m. int_le (day_number n m 1) x) (range_with_len 2 11)
+months-few n x = filter-few (λ m. int_le (day_number n m 1) x) (range_with_len 2 11)
 
 month_number-is : (x : ℤ) → month_number x ≡ 12 * (1900 + years x) + ((1 + months (1900 + years x) x) - 1)
 unfolding month_number years months

@@ -1,9 +1,14 @@
 -- Places in lists.
-use Rattle.std.proofs.Common.{◌≡◌, ◌≢◌, ℕ, zero, suc, ◌+◌, ◌<◌, ◌≤◌, ◌==◌, Bool, true, false, not, cond, List, [], ◌∷◌, length, get_or, Some, None, refl, ◌∙◌, ap, arith, nat_lt, inl, inr}
+use Rattle.std.proofs.Common.{◌≡◌, ◌≢◌, ℕ, zero, suc, ◌+◌, ◌<◌, ◌≤◌, ◌==◌, Bool, true, false, not, cond, List, [], ◌∷◌, length, get_or, Some, None, refl, ◌∙◌, ap, arith, nat_lt, inl, inr, ◌*◌}
 use Rattle.std.specs.List.{prefix_len, position, position_or_len, AllPairs}
 use Rattle.std.specs.List.Sorted.{IsPartitionPoint, IsPartitionedBy}
 use Rattle.std.proofs.lemmas.Bool.{cases_lt}
 use Rattle.std.proofs.lemmas.Bool.Decides.{nat_tests}
+use Rattle.std.proofs.lemmas.Nat.{mul-le}
+
+-- the place of row i and column j is one of the n rows of m places
+pub row-within : (i n m j : ℕ) → i < n → j < m → i * m + j < n * m
+row-within i n m j h l = let r = mul-le (i + 1) m n m (omega arith) (omega arith) in let e : (i + 1) * m ≡ i * m + m = omega arith in omega (arith, r, e)
 
 pub prefix_from_point : {A : Type 0} (p : A → Bool) (xs : List A) (n : ℕ) → n ≤ length xs → IsPartitionPoint (λ y. p y ≡ true) (λ y. p y ≡ false) xs n → prefix_len p xs ≡ n
 prefix_from_point p [] n h point = omega arith

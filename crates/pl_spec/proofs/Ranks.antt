@@ -5,18 +5,16 @@ use Rattle.std.specs.Int.RustNames.{int_lt}
 use Rattle.std.specs.Ordering.{int_eq}
 use Rattle.std.proofs.lemmas.Bool.Decides.{nat_tests}
 use Rattle.std.proofs.lemmas.Int.{ints}
+use Rattle.std.specs.Cmp.{first_so}
+use Rattle.std.proofs.lemmas.Simd.{map-map}
 use Rattle.pl_spec.specs.declared.RankMethod.{RankMethod}
 use Rattle.pl_spec.specs.declared.RankMethod.TheVariants.{Ordinal, Min, Max, Dense, Average}
 use Rattle.pl_spec.specs.declared.RankOrder.{RankOrder}
 use Rattle.pl_spec.specs.declared.RankOrder.TheVariants.{Ascending, Descending}
 use Rattle.pl_spec.specs.Cross.{Entry, values, precedes, preceding, same, earlier_same, distinct_values, rank}
 use Rattle.pl_spec.specs.CrossFacts.{AreRanks, negated}
-use Rattle.pl_spec.proofs.Counts.{count-cons, count-fewer, count-agree, count-map, map-map}
+use Rattle.pl_spec.proofs.Counts.{count-cons, count-fewer, count-agree, count-map}
 use Rattle.pl_spec.proofs.Members.{contains-in}
-
-first_true : (b c : Bool) → (b && c) ≡ true → b ≡ true
-first_true true c t = refl
-first_true false c t = t
 
 -- an entry is no earlier one than itself
 earlier-fewer : (a : ℕ) (x : ℤ) (list : List Entry) → Contains list (a, x) → earlier_same a x list + 1 ≤ same x (values list)
@@ -24,7 +22,7 @@ earlier-fewer a x list c =
     let self : nat_lt a a ≡ false = grind (arith, nat_tests) in
     let one : int_eq x x ≡ true = grind (arith, ints) in
     let fewer = count-fewer (λ (e : Entry). int_eq x e.1 && nat_lt e.0 a) (λ (e : Entry). int_eq x e.1) list (a, x) (contains-in list (a, x) c)
-    (both_false (int_eq x x) (nat_lt a a) self) one (λ e i. first_true (int_eq x e.1) (nat_lt e.0 a)) in
+    (both_false (int_eq x x) (nat_lt a a) self) one (λ e i. first_so (int_eq x e.1) (nat_lt e.0 a)) in
     omega (arith, fewer, count-map (int_eq x) (λ (e : Entry). e.1) list)
   where
     both_false : (b c : Bool) → c ≡ false → (b && c) ≡ false

@@ -71,8 +71,8 @@ bin_of bins vs x =
     count_by (λ k. int_lt (edge vs (k * (length vs - 1)) bins) (x *ℤ pos bins)) (range_with_len 1 (bins - 1))
 
 -- x is not below the low edge and not above the high one
-abbrev pub is_between : ℕ → ℕ → List ℤ → ℤ → Bool
-is_between low high vs x =
+abbrev pub is_percentile_between : ℕ → ℕ → List ℤ → ℤ → Bool
+is_percentile_between low high vs x =
     int_le (edge vs (low * (length vs - 1)) 10000) (x *ℤ pos 10000)
     && int_le (x *ℤ pos 10000) (edge vs (high * (length vs - 1)) 10000)
 
@@ -87,7 +87,7 @@ cross ZScore list a x = quot ((x -ℤ center (values list)) *ℤ pos MILLION) (p
 cross (Quantiles bins) list a x = pos (bin_of bins (values list) x)
 cross (Top n) list a x = truth (nat_le (ordinal Descending list a x) n)
 cross (Bottom n) list a x = truth (nat_le (ordinal Ascending list a x) n)
-cross (PercentileBetween low high) list a x = truth (is_between low high (values list) x)
+cross (PercentileBetween low high) list a x = truth (is_percentile_between low high (values list) x)
 cross PeerCount list a x = pos (length list * MILLION)
 
 -- ---- one session's cross-section as arrays have it, asset by asset

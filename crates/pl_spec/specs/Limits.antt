@@ -1,5 +1,5 @@
 -- The greatest sizes of what is read, computed and written.
-use Rattle.std.specs.Prelude.{ℕ}
+use Rattle.std.specs.Prelude.{ℕ, ◌-◌, ◌^◌, min}
 
 -- ---- files, in bytes
 
@@ -64,3 +64,9 @@ most_extra_rows = 4096
 -- sessions of a chunk
 abbrev pub most_chunk : ℕ
 most_chunk = 4096
+
+-- ---- steps
+
+-- the number, or the greatest that 64 bits hold
+abbrev pub cut : ℕ → ℕ
+cut n = min n (2 ^ 64 - 1)

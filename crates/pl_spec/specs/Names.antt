@@ -1,6 +1,8 @@
 -- The names of the pipeline language, which columns, terms and labels have.
 use Rattle.std.specs.Prelude.{ℕ, Bool, false, ◌&&◌, ◌||◌, not, nat_le, nat_lt, ◌==◌, List, [], ◌∷◌, length, codes, bytes_eq}
 use Rattle.std.specs.List.{list_all}
+use Rattle.pl_spec.specs.declared.Column.{Column}
+use Rattle.pl_spec.specs.declared.Column.TheVariants.{OpenPrice, High, Low, Close, Volume}
 
 abbrev pub is_digit : ℕ → Bool
 is_digit b = nat_le 48 b && nat_le b 57
@@ -19,3 +21,11 @@ is_keyword w = bytes_eq w (codes "pipeline") || (bytes_eq w (codes "let") || (by
 abbrev pub is_name : List ℕ → Bool
 is_name [] = false
 is_name (c ∷ cs) = (starts_word c && (list_all is_word_byte cs && nat_lt (length cs) 32)) && not (is_keyword (c ∷ cs))
+
+-- the name of a bar column
+abbrev pub column_name : Column → List ℕ
+column_name OpenPrice = codes "open"
+column_name High = codes "high"
+column_name Low = codes "low"
+column_name Close = codes "close"
+column_name Volume = codes "volume"

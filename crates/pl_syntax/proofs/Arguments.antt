@@ -1,6 +1,7 @@
 -- The text of arguments, one after another.
-use Rattle.std.proofs.Common.{◌≡◌, ℕ, zero, suc, ◌+◌, ◌<◌, ◌≤◌, Bool, true, false, List, [], ◌∷◌, ◌++◌, length, drop, get_or, refl, sym, ap, ◌∙◌, arith, append_assoc, drop-cons}
+use Rattle.std.proofs.Common.{◌≡◌, ℕ, suc, ◌+◌, ◌<◌, ◌≤◌, Bool, true, false, List, [], ◌∷◌, ◌++◌, length, drop, get_or, refl, sym, ap, ◌∙◌, arith, append_assoc, drop-cons}
 use Rattle.std.specs.Prelude.{codes}
+use Rattle.std.proofs.lemmas.List.{drop_all}
 use Rattle.pl_grammar.specs.Machine as m
 use Rattle.pl_syntax.specs.Frames.{args_list}
 use Rattle.pl_syntax.specs.Plain.{plain, args_tree}
@@ -43,11 +44,5 @@ begun_text l xs before out e k =
     ∙ (append_assoc before (codes "(") (items_text true xs ++ codes ")")
     ∙ ap (λ y. before ++ (codes "(" ++ (list_text true y ++ codes ")"))) (ap (λ z. m.args_of (args_list z)) e ∙ sym (list_tree l)))
 
-past : (xs : List Arg) (i : ℕ) → length xs ≤ i → drop i xs ≡ []
-past [] zero h = refl
-past [] (suc i) h = refl
-past (x ∷ xs) zero h = absurd (omega arith)
-past (x ∷ xs) (suc i) h = past xs i (omega arith)
-
 pub ended_text : (first : Bool) (xs : List Arg) (i : ℕ) (out end all : List ℕ) → length xs ≤ i → out ++ (items_text first (drop i xs) ++ end) ≡ all → out ++ end ≡ all
-ended_text first xs i out end all h k = ap (λ z. out ++ (z ++ end)) (sym (ap (items_text first) (past xs i h) ∙ no_text first)) ∙ k
+ended_text first xs i out end all h k = ap (λ z. out ++ (z ++ end)) (sym (ap (items_text first) (drop_all i xs h) ∙ no_text first)) ∙ k

@@ -1,5 +1,5 @@
 -- Where trees are the same, places aside, their nodes are of one kind.
-use Rattle.std.proofs.Common.{◌≡◌, Box, Global, List, Option, Some, None, refl, sym, ap, ◌∙◌, subst}
+use Rattle.std.proofs.Common.{◌≡◌, Box, Global, Option, Some, None, refl, sym, ap, ◌∙◌, subst}
 use lib.IntN.{ℤ}
 use Rattle.pl_grammar.specs.declared.Place.{Place}
 use Rattle.pl_grammar.specs.declared.PrefixSign.{PrefixSign}

@@ -3,7 +3,7 @@ use Rattle.std.proofs.Common.{◌≡◌, ℕ, zero, suc, ◌+◌, ◌<◌, ◌�
 use Rattle.std.specs.Prelude.{codes}
 use Rattle.std.proofs.lemmas.Fmt.{decimal_digit}
 use Rattle.std.proofs.lemmas.Bool.Decides.{nat_tests}
-use Rattle.pl_grammar.specs.Script as g
+use Rattle.std.proofs.lemmas.List.{drop_all}
 use Rattle.pl_grammar.specs.Script.{is_known}
 use Rattle.pl_syntax.specs.Statements.{statement_of, statements_of}
 use Rattle.pl_syntax.specs.Canonical.{statement_text, statements_text, version_text, script_text}
@@ -41,11 +41,5 @@ more_lines xs i x before after all h e t k =
     let line : lines_text (drop i xs) ≡ statement_text (statement_of x) ++ lines_text (drop (i + 1) xs) = ap lines_text (drop-cons xs i x h) ∙ (ap (λ z. lines_text (z ∷ drop (suc i) xs)) (sym e) ∙ (ap (λ m. lines_text (x ∷ drop m xs)) n ∙ one_line x (drop (i + 1) xs))) in
     ap (λ z. z ++ lines_text (drop (i + 1) xs)) t ∙ (append_assoc before (statement_text (statement_of x)) (lines_text (drop (i + 1) xs)) ∙ (ap (λ z. before ++ z) (sym line) ∙ k))
 
-past : (xs : List Statement) (i : ℕ) → length xs ≤ i → drop i xs ≡ []
-past [] zero h = refl
-past [] (suc i) h = refl
-past (x ∷ xs) zero h = absurd (omega arith)
-past (x ∷ xs) (suc i) h = past xs i (omega arith)
-
 pub ended_lines : (xs : List Statement) (i : ℕ) (out all : List ℕ) → length xs ≤ i → out ++ lines_text (drop i xs) ≡ all → out ≡ all
-ended_lines xs i out all h k = sym (append-nil out) ∙ (ap (λ z. out ++ z) (sym (ap lines_text (past xs i h) ∙ no_line)) ∙ k)
+ended_lines xs i out all h k = sym (append-nil out) ∙ (ap (λ z. out ++ z) (sym (ap lines_text (drop_all i xs h) ∙ no_line)) ∙ k)

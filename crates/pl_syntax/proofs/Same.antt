@@ -1,7 +1,8 @@
 -- Lists that are the same, places aside, compared one after another.
-use Rattle.std.proofs.Common.{◌≡◌, ◌↔◌, ℕ, zero, suc, ◌+◌, ◌-◌, ◌<◌, ◌≤◌, Bool, true, false, List, [], ◌∷◌, length, drop, take, get_or, refl, sym, ap, ◌∙◌, subst, arith, drop-cons}
+use Rattle.std.proofs.Common.{◌≡◌, ◌↔◌, ℕ, suc, ◌+◌, ◌-◌, ◌<◌, ◌≤◌, Bool, true, false, List, [], ◌∷◌, length, drop, take, get_or, refl, sym, ap, ◌∙◌, subst, arith, drop-cons}
 use Rattle.std.specs.Prelude.{◌==◌}
 use Rattle.std.proofs.lemmas.Bool.Decides.{nat_tests}
+use Rattle.std.proofs.lemmas.List.{drop_all}
 use Rattle.pl_grammar.specs.Machine as m
 use Rattle.pl_grammar.specs.Places.{bare, bare_args}
 use Rattle.pl_grammar.specs.Whole.{bare_statement, bare_script}
@@ -27,12 +28,6 @@ whole {A} y ys = let n : length (y ∷ ys) - 1 ≡ length ys = omega arith in ap
     all : (ys : List A) → take (length ys) ys ≡ ys
     all [] = refl
     all (y ∷ ys) = ap (λ z. y ∷ z) (all ys)
-
-past : {A : Type 0} (xs : List A) (i : ℕ) → length xs ≤ i → drop i xs ≡ []
-past [] zero h = refl
-past [] (suc i) h = refl
-past (x ∷ xs) zero h = absurd (omega arith)
-past (x ∷ xs) (suc i) h = past xs i (omega arith)
 
 unequal : false ≡ true → ⊥
 unequal e = cc
@@ -67,8 +62,8 @@ module _ {A : Type 0} {S : A → A → Type 0} {R : List A → List A → Type 0
   short P xs (y ∷ ys) i x h k p = absurd (omega arith)
 
   pub ended : (P : Type 0) (xs ys : List A) (i : ℕ) (b : Bool) → length xs ≤ i → b ≡ (length ys == 0) → P ↔ R (drop i xs) ys → (b ≡ true) ↔ P
-  ended P xs [] i b h e p = (λ g. p.1 (subst (λ l. R l []) (sym (past xs i h)) r.none), λ g. e)
-  ended P xs (y ∷ ys) i b h e p = subst (λ z. (z ≡ true) ↔ P) (sym (e ∙ some_length y ys)) (never (λ g. r.longer y ys (subst (λ l. R l (y ∷ ys)) (past xs i h) (p.0 g))))
+  ended P xs [] i b h e p = (λ g. p.1 (subst (λ l. R l []) (sym (drop_all i xs h)) r.none), λ g. e)
+  ended P xs (y ∷ ys) i b h e p = subst (λ z. (z ≡ true) ↔ P) (sym (e ∙ some_length y ys)) (never (λ g. r.longer y ys (subst (λ l. R l (y ∷ ys)) (drop_all i xs h) (p.0 g))))
 
 -- arguments
 

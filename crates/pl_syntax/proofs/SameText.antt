@@ -1,16 +1,14 @@
 -- Scripts are the same, places aside, exactly where their canonical texts are.
 use Rattle.std.proofs.Common.{◌≡◌, ℕ, Bool, true, false, List, [], ◌∷◌, ◌++◌, refl, sym, ap, ◌∙◌, subst}
-use Rattle.std.specs.Prelude.{nat_le, codes, decimal}
+use Rattle.std.specs.Prelude.{nat_le, codes}
 use Rattle.std.specs.Str.{bytes_eq}
 use Rattle.std.specs.Bool.{Decides}
 use Rattle.std.proofs.lemmas.Slice.Eq.{bytes_eq-Decides}
-use Rattle.pl_grammar.specs.declared.Place.{Place}
 use Rattle.pl_grammar.specs.Tree.{Tree, number, text, name, call, prefix, binary, member, method, Args, no_args, arg, prefix_level, left_level, right_level}
 use Rattle.pl_grammar.specs.Printed.{tree_level}
 use Rattle.pl_grammar.specs.Places.{bare, bare_args}
 use Rattle.pl_grammar.specs.Script.{Head, LetHead, ColumnHead, ScreenHead, Statement}
-use Rattle.pl_grammar.specs.Whole.{are_sound, bare_head, bare_script}
-use Rattle.pl_tokens.specs.Sound.{is_written}
+use Rattle.pl_grammar.specs.Whole.{bare_head, bare_script}
 use Rattle.pl_syntax.specs.Canonical.{prefix_text, binary_text, placed_text, comma_text, name_text, in_parentheses, tree_text, list_text, head_text, statement_text, statements_text, version_text, script_text}
 use Rattle.pl_syntax.specs.Scripts.{version_in, statements_in, parsed, printed_text}
 use Rattle.pl_syntax.specs.Spells.{SameScript, Spells}

@@ -7,6 +7,7 @@ use Rattle.std.specs.Char.{digit_value}
 use Rattle.std.proofs.lemmas.Bool.Decides.{nat_tests}
 use Rattle.std.proofs.lemmas.Fmt.{decimal_digit, decimal_is_IsNumeral}
 use Rattle.std.proofs.lemmas.Str.Parse.{digit_from_value}
+use Rattle.std.proofs.lemmas.Bool.{and_parts}
 use Rattle.pl_spec.specs.Rounding.{LIMIT, MILLION}
 use Rattle.pl_grammar.specs.declared.Place.{Place}
 use Rattle.pl_grammar.specs.declared.PrefixSign.{PrefixSign}
@@ -18,7 +19,6 @@ use Rattle.pl_grammar.specs.Tree.{Lexeme, mark, Tree, number, text, name, call, 
 use Rattle.pl_grammar.specs.Printed.{here, tree_level, placed, name_tokens, tokens, args_tokens, more_tokens}
 use Rattle.pl_grammar.specs.Script.{Head, LetHead, ColumnHead, ScreenHead, Statement, is_known}
 use Rattle.pl_grammar.specs.Whole.{version_number, tree_passes, args_pass, name_passes, head_passes, head_tokens, statements_tokens, script_tokens, is_sound, are_sound}
-use Rattle.pl_grammar.proofs.Fewest.{both}
 use Rattle.pl_grammar.proofs.Scripts.{parts}
 use Rattle.pl_tokens.specs.Bytes.{Stops}
 use Rattle.pl_spec.specs.Names.{is_digit, starts_word, is_word_byte, is_name}
@@ -49,11 +49,11 @@ digit_no_equals c h = let p = digit_from_value c h in grind (arith, nat_tests)
 
 name_begins : (w rest : List ℕ) → is_name w ≡ true → Stops is_digit (w ++ rest)
 name_begins [] rest h = cc
-name_begins (c ∷ cs) rest h = letter_no_digit c (both (starts_word c) _ (both _ _ h).0).0
+name_begins (c ∷ cs) rest h = letter_no_digit c (and_parts (starts_word c) _ (and_parts _ _ h).0).0
 
 name_no_equals : (w rest : List ℕ) → is_name w ≡ true → Stops (λ b. b == 61) (w ++ rest)
 name_no_equals [] rest h = cc
-name_no_equals (c ∷ cs) rest h = letter_no_equals c (both (starts_word c) _ (both _ _ h).0).0
+name_no_equals (c ∷ cs) rest h = letter_no_equals c (and_parts (starts_word c) _ (and_parts _ _ h).0).0
 
 digits_no_equals : (ws rest : List ℕ) → 0 < length ws → AllDigits 10 ws → Stops (λ b. b == 61) (ws ++ rest)
 digits_no_equals [] rest some h = absurd (omega arith)
@@ -80,21 +80,21 @@ unfolding tree_text tree_passes
 tree_no_equals (number p v) h rest = number_no_equals v rest h
 tree_no_equals (text p x) h rest = refl
 tree_no_equals (name p n) h rest = name_no_equals n rest h
-tree_no_equals (call p n ps) h rest = let a = both (is_name n) _ h in subst (λ z. Stops (λ b. b == 61) z) (sym (append_assoc n (in_parentheses (list_text true ps)) rest)) (name_no_equals n _ a.0)
+tree_no_equals (call p n ps) h rest = let a = and_parts (is_name n) _ h in subst (λ z. Stops (λ b. b == 61) z) (sym (append_assoc n (in_parentheses (list_text true ps)) rest)) (name_no_equals n _ a.0)
 tree_no_equals (prefix p Minus e) h rest = refl
 tree_no_equals (prefix p Not e) h rest = refl
 tree_no_equals (binary p o a b) h rest =
     let x = placed_text (leb (left_level o) (tree_level a)) (tree_text a) in
     let y = binary_text o ++ placed_text (leb (right_level o) (tree_level b)) (tree_text b) in
-    subst (λ z. Stops (λ c. c == 61) z) (sym (append_assoc x y rest)) (placed_no_equals (leb (left_level o) (tree_level a)) (tree_text a) (y ++ rest) (tree_no_equals a (both (tree_passes is_written a) _ h).0))
+    subst (λ z. Stops (λ c. c == 61) z) (sym (append_assoc x y rest)) (placed_no_equals (leb (left_level o) (tree_level a)) (tree_text a) (y ++ rest) (tree_no_equals a (and_parts (tree_passes is_written a) _ h).0))
 tree_no_equals (member p e n) h rest =
     let x = placed_text (leb 8 (tree_level e)) (tree_text e) in
     let y = codes "." ++ n in
-    subst (λ z. Stops (λ c. c == 61) z) (sym (append_assoc x y rest)) (placed_no_equals (leb 8 (tree_level e)) (tree_text e) (y ++ rest) (tree_no_equals e (both (tree_passes is_written e) _ h).0))
+    subst (λ z. Stops (λ c. c == 61) z) (sym (append_assoc x y rest)) (placed_no_equals (leb 8 (tree_level e)) (tree_text e) (y ++ rest) (tree_no_equals e (and_parts (tree_passes is_written e) _ h).0))
 tree_no_equals (method p e n ps) h rest =
     let x = placed_text (leb 8 (tree_level e)) (tree_text e) in
     let y = codes "." ++ (n ++ in_parentheses (list_text true ps)) in
-    subst (λ z. Stops (λ c. c == 61) z) (sym (append_assoc x y rest)) (placed_no_equals (leb 8 (tree_level e)) (tree_text e) (y ++ rest) (tree_no_equals e (both (tree_passes is_written e) _ h).0))
+    subst (λ z. Stops (λ c. c == 61) z) (sym (append_assoc x y rest)) (placed_no_equals (leb 8 (tree_level e)) (tree_text e) (y ++ rest) (tree_no_equals e (and_parts (tree_passes is_written e) _ h).0))
 
 -- signs
 
@@ -237,29 +237,29 @@ mutual
   tree_shows (number p v) h = λ rest us c k. number_shows v rest us p h c.1 k
   tree_shows (text p x) h = quoted_shows p x h
   tree_shows (name p n) h = λ rest us c k. name_shows n rest us p h c.0 k
-  tree_shows (call p n ps) h = let a = both (is_name n) _ h in call_shows p n (list_text true ps) (args_tokens ps) a.0 (list_shows true ps a.1)
+  tree_shows (call p n ps) h = let a = and_parts (is_name n) _ h in call_shows p n (list_text true ps) (args_tokens ps) a.0 (list_shows true ps a.1)
   tree_shows (prefix p s e) h = prefixed_shows s p _ _ (placed_shows (leb (prefix_level s) (tree_level e)) (tree_text e) (tokens e) (tree_shows e h))
   tree_shows (binary p o a b) h =
-      let x = both (tree_passes is_written a) (tree_passes is_written b) h in
+      let x = and_parts (tree_passes is_written a) (tree_passes is_written b) h in
       binary_shows o p _ _ _ _ (placed_shows (leb (left_level o) (tree_level a)) (tree_text a) (tokens a) (tree_shows a x.0)) (placed_shows (leb (right_level o) (tree_level b)) (tree_text b) (tokens b) (tree_shows b x.1))
   tree_shows (member p e n) h =
-      let x = both (tree_passes is_written e) (is_name n) h in
+      let x = and_parts (tree_passes is_written e) (is_name n) h in
       member_shows _ _ p n (placed_shows (leb 8 (tree_level e)) (tree_text e) (tokens e) (tree_shows e x.0)) x.1
   tree_shows (method p e n ps) h =
-      let x = both (tree_passes is_written e) _ h in
-      let y = both (is_name n) _ x.1 in
+      let x = and_parts (tree_passes is_written e) _ h in
+      let y = and_parts (is_name n) _ x.1 in
       method_shows _ (list_text true ps) _ (args_tokens ps) p n (placed_shows (leb 8 (tree_level e)) (tree_text e) (tokens e) (tree_shows e x.0)) y.0 (list_shows true ps y.1)
 
   list_shows : (first : Bool) (ps : Args) → args_pass is_written ps ≡ true → Operand (list_text first ps) (list_tokens first ps)
   list_shows true no_args h = λ rest us c k. k
   list_shows false no_args h = λ rest us c k. k
   list_shows true (arg n e ps) h =
-      let x = both (name_passes is_written n) _ h in
-      let y = both (tree_passes is_written e) _ x.1 in
+      let x = and_parts (name_passes is_written n) _ h in
+      let y = and_parts (tree_passes is_written e) _ x.1 in
       args_show true n (tree_text e) (list_text false ps) (tokens e) (more_tokens ps) (clear_more ps) (named_shows n (tree_text e) (tokens e) x.0 (tree_no_equals e y.0) (tree_shows e y.0)) (list_shows false ps y.1)
   list_shows false (arg n e ps) h =
-      let x = both (name_passes is_written n) _ h in
-      let y = both (tree_passes is_written e) _ x.1 in
+      let x = and_parts (name_passes is_written n) _ h in
+      let y = and_parts (tree_passes is_written e) _ x.1 in
       args_show false n (tree_text e) (list_text false ps) (tokens e) (more_tokens ps) (clear_more ps) (named_shows n (tree_text e) (tokens e) x.0 (tree_no_equals e y.0) (tree_shows e y.0)) (list_shows false ps y.1)
 
 -- statements and scripts
@@ -278,7 +278,7 @@ statements_show : (ss : List Statement) → are_sound is_written ss ≡ true →
 unfolding are_sound statements_text statements_tokens
 statements_show [] h = end_shows
 statements_show (s ∷ ss) h =
-    let a = both (is_sound is_written s) (are_sound is_written ss) h in
+    let a = and_parts (is_sound is_written s) (are_sound is_written ss) h in
     let x = parts is_written s a.0 in
     let rest = statements_text ss in
     let us = statements_tokens ss in

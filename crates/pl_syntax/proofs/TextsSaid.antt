@@ -1,9 +1,9 @@
 -- What a text says is what it spells, or its first fault.
-use Rattle.std.proofs.Common.{◌≡◌, ◌↔◌, ℕ, List, refl, sym, ap, ap₂, subst, ◌∙◌}
+use Rattle.std.proofs.Common.{◌≡◌, ℕ, List, refl, sym, ap, subst, ◌∙◌}
 use Rattle.pl_grammar.specs.declared.Place.{Place}
 use Rattle.pl_grammar.specs.Tree.{Lexeme}
 use Rattle.pl_grammar.specs.Script as g
-use Rattle.pl_grammar.specs.Faults.{Kind, Tail, AtEnd, AtBad, Verdict, Good, Fault, IsFirst, verdict}
+use Rattle.pl_grammar.specs.Faults.{Kind, Tail, AtEnd, AtBad, Verdict, Good, Fault, verdict}
 use Rattle.pl_grammar.proofs.First.{Right, right_of, spelled_only, first_only}
 use Rattle.pl_tokens.specs.Text.{start, Read}
 use Rattle.pl_tokens.specs.Reading.{Whole, whole}

@@ -1,12 +1,8 @@
 -- Columns and screen are outputs, and outputs are used.
-use Rattle.std.proofs.Common.{◌≡◌, ℕ, zero, suc, ◌+◌, ◌<◌, ◌==◌, true, false, ℤ, pos, List, [], ◌∷◌, ◌++◌, length, map, take, get_or, append_assoc, Option, Some, None, slice_get, option_to_list, option_map, refl, sym, ap, ◌∙◌, arith}
+use Rattle.std.proofs.Common.{◌≡◌, ℕ, ◌+◌, ◌<◌, pos, List, [], ◌∷◌, ◌++◌, length, map, take, get_or, append_assoc, Option, Some, None, slice_get, option_map, refl, sym, ap, ◌∙◌, arith}
 use Rattle.std.specs.Prelude.{flat_map}
 use Rattle.std.proofs.lemmas.Grind.{flat_map-append}
-use Rattle.std.proofs.lemmas.Bool.{or_left, or_right, eqb-true, eq-eqb}
-use Rattle.std.proofs.lemmas.List.Folds.{Any-from_list_any, list_any-append}
 use Rattle.std.proofs.lemmas.Option.{slice_get-get_or, slice_get_within, get_or_from_slice_get}
-use Rattle.pl_spec.specs.Graph.{contains}
-use Rattle.pl_spec.specs.Graph.Used.{output}
 use Rattle.std.proofs.lemmas.List.{get_or-map, take_more, append-nil}
 use Rattle.pl_spec.specs.declared.AssetRow.{AssetRow}
 use Rattle.pl_spec.specs.declared.Format.{Format}
@@ -16,53 +12,11 @@ use Rattle.pl_spec.specs.World.{World}
 use Rattle.pl_spec.specs.Table.{Pipeline, NamedColumn, value_of, in_array}
 use Rattle.pl_cross.specs.Arrays.{sid_in}
 use Rattle.pl_values.specs.Arrays.{cell_of}
-use Rattle.pl_laws.proofs.Uses.{used_terms-complete}
 use Rattle.pl_terms.specs.declared.node.TermId.{TermId}
 use Rattle.pl_terms.specs.declared.checked.NamedColumn as code
 use Rattle.pl_terms.specs.Nodes.{number_of}
-use Rattle.pl_terms.specs.Checked.{IsChecked, columns_of, column_of}
-use Rattle.pl_terms.specs.Uses.{outputs}
-use Rattle.pl_planner.specs.Plans.{Planned, IsPlanOf, is_used}
-use Rattle.pl_planner.proofs.Pipelines.{is-pipeline}
-
-among : (xs : List ℕ) (t : ℕ) → contains xs t ≡ true → (i : ℕ) × (slice_get xs i ≡ Some t)
-among xs t h =
-    let any = Any-from_list_any (λ (x : ℕ). x == t) xs h in
-    let is : any.1 ≡ t = eqb-true any.1 t any.4 in
-    (any.0, slice_get-get_or xs any.0 any.1 any.2 ∙ ap Some (any.3 ∙ is))
-
-pub output-used : (days : List ℤ) (p : Pipeline) (plan : Planned) → IsChecked p → IsPlanOf days p plan → (t : ℕ) → contains (outputs p) t ≡ true → is_used plan t ≡ true
-output-used days p plan ok is t h =
-    let at = among (outputs p) t h in
-    is.used t ∙ used_terms-complete p.graph (outputs p) ok.graph t ((is-pipeline p ok).outputs_in at.0 t at.1) (output h)
-
-in-columns : (cs : List NamedColumn) (i : ℕ) (c : NamedColumn) → slice_get cs i ≡ Some c → contains (map (λ (x : NamedColumn). x.term) cs) c.term ≡ true
-in-columns [] i c e = absurd (let bad : None ≡ Some c = e in cc)
-in-columns (d ∷ cs) zero c e = let is : d ≡ c = cc in or_left (d.term == c.term) (contains (map (λ (x : NamedColumn). x.term) cs) c.term) (eq-eqb d.term c.term (ap (λ (x : NamedColumn). x.term) is))
-in-columns (d ∷ cs) (suc i) c e = or_right (d.term == c.term) (contains (map (λ (x : NamedColumn). x.term) cs) c.term) (in-columns cs i c e)
-
-pub column-output : (p : Pipeline) (i : ℕ) (c : NamedColumn) → slice_get p.columns i ≡ Some c → contains (outputs p) c.term ≡ true
-column-output p i c e =
-    list_any-append (λ (x : ℕ). x == c.term) (map (λ (x : NamedColumn). x.term) p.columns) (option_to_list p.screen)
-    ∙ or_left (contains (map (λ (x : NamedColumn). x.term) p.columns) c.term) (contains (option_to_list p.screen) c.term) (in-columns p.columns i c e)
-
-pub screen-output : (p : Pipeline) (t : ℕ) → p.screen ≡ Some t → contains (outputs p) t ≡ true
-screen-output p t e =
-    let own : contains (option_to_list p.screen) t ≡ true = rw e (or_left (t == t) false (eq-eqb t t refl)) in
-    list_any-append (λ (x : ℕ). x == t) (map (λ (x : NamedColumn). x.term) p.columns) (option_to_list p.screen)
-    ∙ or_right (contains (map (λ (x : NamedColumn). x.term) p.columns) t) (contains (option_to_list p.screen) t) own
-
--- a column of the code and of the definitions
-pub column-there : (cs : List code.NamedColumn) (i : ℕ) (c : code.NamedColumn) → slice_get cs i ≡ Some c → slice_get (columns_of cs) i ≡ Some (column_of c)
-unfolding columns_of
-column-there [] i c e = absurd (let bad : None ≡ Some c = e in cc)
-column-there (d ∷ cs) zero c e = let is : d ≡ c = cc in ap (λ (x : code.NamedColumn). Some (column_of x)) is
-column-there (d ∷ cs) (suc i) c e = column-there cs i c e
-
-pub columns-long : (cs : List code.NamedColumn) → length (columns_of cs) ≡ length cs
-unfolding columns_of
-columns-long [] = refl
-columns-long (c ∷ cs) = ap suc (columns-long cs)
+use Rattle.pl_terms.specs.Checked.{columns_of, column_of}
+use Rattle.pl_terms.proofs.Graphs.{columns-long, column-there}
 
 pub term-there : (cs : List code.NamedColumn) (i : ℕ) (t : TermId) → option_map (λ (c : code.NamedColumn). c.term) (slice_get cs i) ≡ Some t
     → (d : NamedColumn) → slice_get (columns_of cs) i ≡ Some d → d.term ≡ t.0

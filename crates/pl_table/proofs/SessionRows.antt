@@ -1,5 +1,5 @@
 -- The rows of a session, place by place.
-use Rattle.std.proofs.Common.{◌≡◌, ℕ, suc, ◌+◌, ◌-◌, ◌*◌, ◌<◌, ◌≤◌, Bool, true, false, ◌&&◌, if◌then◌else◌, pos, List, [], ◌∷◌, ◌++◌, length, map, drop, get_or, drop-cons, refl, sym, ◌∙◌, ap, arith}
+use Rattle.std.proofs.Common.{◌≡◌, ℕ, suc, ◌+◌, ◌-◌, ◌*◌, ◌<◌, ◌≤◌, Bool, true, false, if◌then◌else◌, pos, List, [], ◌∷◌, ◌++◌, length, map, drop, get_or, drop-cons, sym, ◌∙◌, ap, arith}
 use Rattle.std.specs.Prelude.{filter}
 use Rattle.std.proofs.lemmas.List.{drop_all}
 use Rattle.std.proofs.lemmas.Grind.{flat_map-append}
@@ -7,22 +7,10 @@ use Rattle.pl_spec.specs.declared.Format.{Format}
 use Rattle.pl_spec.specs.World.{World, exists}
 use Rattle.pl_spec.specs.Table.{Pipeline, Row, is_kept, row, session_rows}
 use Rattle.pl_spec.specs.Text.{row_line}
+use Rattle.pl_spec.proofs.Lists.{filter-twice}
 use Rattle.pl_values.specs.Arrays.{HasAll}
 use Rattle.pl_table.specs.Outcomes.{lines, rows_of_sessions}
 use Rattle.pl_table.specs.Rows.{has_row}
-
-filter_twice : (p q : ℕ → Bool) (xs : List ℕ) → filter p (filter q xs) ≡ filter (λ x. q x && p x) xs
-filter_twice p q [] = refl
-filter_twice p q (x ∷ xs) = here (q x) refl (filter_twice p q xs)
-  where
-    here : (b : Bool) → q x ≡ b → filter p (filter q xs) ≡ filter (λ y. q y && p y) xs → filter p (filter q (x ∷ xs)) ≡ filter (λ y. q y && p y) (x ∷ xs)
-    here false e ih = rw e ih
-    here true e ih = rw e (chosen (p x) ih)
-      where
-        chosen : (b : Bool) → filter p (filter q xs) ≡ filter (λ y. q y && p y) xs
-            → (if b then x ∷ filter p (filter q xs) else filter p (filter q xs)) ≡ (if b then x ∷ filter (λ y. q y && p y) xs else filter (λ y. q y && p y) xs)
-        chosen true ih = ap (λ (l : List ℕ). x ∷ l) ih
-        chosen false ih = ih
 
 -- the rows of some sids
 abbrev pub rows_of : World → Pipeline → ℕ → List ℕ → List Row
@@ -31,7 +19,7 @@ rows_of w p s sids = map (row w p (pos s)) (filter (has_row w p s) sids)
 pub rows_of_session : (w : World) (p : Pipeline) (sids : List ℕ) (s : ℕ) → HasAll w sids s → rows_of w p s sids ≡ session_rows w p (pos s)
 rows_of_session w p sids s all =
     sym (ap (λ (l : List ℕ). map (row w p (pos s)) (filter (is_kept w p p.screen (pos s)) l)) all
-    ∙ ap (map (row w p (pos s))) (filter_twice (is_kept w p p.screen (pos s)) (λ b. exists w b (pos s)) sids))
+    ∙ ap (map (row w p (pos s))) (filter-twice (is_kept w p p.screen (pos s)) (λ b. exists w b (pos s)) sids))
 
 drop-from : (xs : List ℕ) (i : ℕ) → i < length xs → drop i xs ≡ get_or xs i 0 ∷ drop (i + 1) xs
 drop-from xs i h = let e : suc i ≡ i + 1 = omega arith in drop-cons xs i 0 h ∙ ap (λ (n : ℕ). get_or xs i 0 ∷ drop n xs) e

@@ -1,17 +1,12 @@
 -- What a term's sort says of its values and of how they are written.
-use Rattle.std.proofs.Common.{arith, ◌≡◌, inl, inr, ℕ, ◌<◌, Bool, true, false, if◌then◌else◌, ℤ, pos, List, [], get_or, length, Option, Some, None, slice_get, option_map, unwrap_or, position, bytes_eq, Contains, refl, sym, ap, subst, ◌∙◌, true≢false}
-use Rattle.std.proofs.lemmas.Slice.Eq.{bytes_eq-Decides}
-use Rattle.std.proofs.lemmas.List.Quantifiers.{position-Some}
-use Rattle.pl_spec.proofs.Places.{nowhere}
+use Rattle.std.proofs.Common.{arith, ◌≡◌, inl, inr, ℕ, ◌<◌, Bool, true, false, if◌then◌else◌, ℤ, pos, List, [], length, Option, Some, None, slice_get, option_map, position, bytes_eq, refl, sym, ap, subst, ◌∙◌}
 use Rattle.pl_spec.specs.declared.Format.{Format}
-use Rattle.std.proofs.lemmas.List.{length-map}
 use Rattle.pl_spec.specs.Rounding.{MISSING, is_missing}
 use Rattle.pl_spec.specs.Decimals.{cell_text}
 use Rattle.pl_spec.specs.Formula.{is_true}
 use Rattle.pl_spec.specs.World.{World}
 use Rattle.pl_spec.specs.Kind as kind
 use Rattle.pl_spec.specs.Kind.{Kind, WindowKind, PointKind, CrossKind}
-use Rattle.pl_spec.specs.Term.{Term, Graph, term_at}
 use Rattle.pl_spec.specs.Term as spec
 use Rattle.pl_spec.specs.Value.{Value, is_filter, is_window_filter, is_point_filter, is_cross_filter, holds}
 use Rattle.pl_spec.specs.Table.{Pipeline, value_of, in_array, is_kept}
@@ -21,22 +16,20 @@ use Rattle.pl_values.specs.Arrays.{cell_of}
 use Rattle.pl_table.proofs.Outputs.{cell-is}
 use Rattle.pl_spec.specs.Text.{field, kind_at, label_text, number_text, is_numbered}
 use Rattle.pl_terms.specs.declared.node.Node.{Node}
-use Rattle.pl_terms.specs.Nodes.{node_of, graph_of}
+use Rattle.pl_terms.specs.Nodes.{graph_of}
 use Rattle.pl_terms.specs.Checked.{IsChecked}
 use Rattle.pl_terms.specs.Sorts.{Sort, Factors, Filters, Labels, Numbers, sort_at, sort_of, window_sort, point_sort, cross_sort}
 use Rattle.pl_cross.specs.Arrays.{HasTexts}
 use Rattle.pl_cross.proofs.Codes.{IsCoded}
 use Rattle.pl_values.specs.Families.{IsCode}
 use Rattle.pl_terms.proofs.TermSorts.{sorted-there}
+use Rattle.pl_terms.proofs.Graphs.{graph-long}
 use Rattle.pl_spec.proofs.Unfolds.{past}
 use Rattle.pl_values.proofs.Numbers.{numbered-sort, coded-sort}
+use Rattle.pl_values.proofs.Plain.{placed, coded-code}
 use Rattle.pl_table.specs.declared.writing.Writing.{Writing}
 use Rattle.pl_table.specs.declared.writing.Writing.TheVariants.{Cell, Truth, Whole, Label}
 use Rattle.pl_table.specs.Fields.{cell_field, sort_written}
-
-graph-long : (nodes : List Node) → length (graph_of nodes) ≡ length nodes
-unfolding graph_of
-graph-long nodes = length-map nodes node_of
 
 -- the sort of a term that is there
 pub sort-there : (nodes : List Node) (t : ℕ) (k : Kind) (r : Sort) → t < length nodes → k ≡ kind_at (graph_of nodes) t → sort_of k ≡ r → sort_at (graph_of nodes) t ≡ Some r
@@ -150,21 +143,9 @@ number-field format texts k Whole x s other =
     let f = filters-are k ∙ ap is_filters s in let n = numbers-are k ∙ ap is_numbers s in rw (f, n) refl
 number-field format texts k Label x s other = absurd (other refl)
 
--- after a text's code stands the text
-abbrev HasPlace : List (List ℕ) → List ℕ → Option ℕ → Type 0
-HasPlace texts t o = (unwrap_or o 0 < length texts) × (get_or texts (unwrap_or o 0) [] ≡ t)
-
-placed : (texts : List (List ℕ)) (t : List ℕ) → Contains texts t → (o : Option ℕ) → position (bytes_eq t) texts ≡ o → HasPlace texts t o
-placed texts t own None e = absurd (true≢false (sym ((bytes_eq-Decides t (get_or texts own.0 t)).1 (sym own.2)) ∙ nowhere (bytes_eq t) texts e own.0 t own.1))
-placed texts t own (Some n) e = let it = position-Some (bytes_eq t) texts n [] e in (it.0, sym ((bytes_eq-Decides t (get_or texts n [])).0 it.1))
-
 coded-field : (format : Format) (texts : List (List ℕ)) (k : Kind) (v : Value) → IsCoded texts v → field format k v ≡ cell_field format texts Label (in_array texts v)
 coded-field format texts k v (inl e) = rw e refl
 coded-field format texts k v (inr t) = rw t.1 (ap (label_text format) (sym (placed texts t.0 t.2 (position (bytes_eq t.0) texts) refl).1))
-
-code-of : (texts : List (List ℕ)) (v : Value) → IsCoded texts v → IsCode texts (in_array texts v)
-code-of texts v (inl e) = inl (ap (in_array texts) e)
-code-of texts v (inr t) = inr (unwrap_or (position (bytes_eq t.0) texts) 0, ap (in_array texts) t.1, (placed texts t.0 t.2 (position (bytes_eq t.0) texts) refl).0)
 
 module _ (w : World) (p : Pipeline) (ok : IsChecked p) (texts : HasTexts w) (t a : ℕ) (d : ℤ) (format : Format) where
   numbered-field : (r : Writing) → sort_at p.graph t ≡ Some (sort_written r) → (sort_written r ≡ Labels → ⊥)
@@ -183,7 +164,7 @@ module _ (w : World) (p : Pipeline) (ok : IsChecked p) (texts : HasTexts w) (t a
   field-is Whole s = numbered-field Whole s (λ e. let bad : Numbers ≡ Labels = e in cc)
 
   pub code-is : sort_at p.graph t ≡ Some Labels → IsCode w.texts (in_array w.texts (value_of w p t a d))
-  code-is s = code-of w.texts (value_of w p t a d) (coded-sort w p ok t texts s a d)
+  code-is s = coded-code w.texts (value_of w p t a d) (coded-sort w p ok t texts s a d)
 
   -- a screen keeps where its array has 1
   pub holds-is : sort_at p.graph t ≡ Some Filters → holds (value_of w p t a d) ≡ is_true (in_array w.texts (value_of w p t a d))

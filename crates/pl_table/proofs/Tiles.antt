@@ -1,13 +1,15 @@
 -- The rows of a tile, number by number.
-use Rattle.std.proofs.Common.{◌≡◌, ℕ, ◌+◌, ◌-◌, ◌*◌, ◌<◌, ◌≤◌, Bool, true, false, ℤ, pos, List, [], length, get_or, set, take, drop, Some, option_map, slice_get, refl, sym, ap, ◌∙◌, arith, inl, inr, get_or-set_same, get_or-set_other, length-set, FitsSigned, w64, of_z}
-use Rattle.std.proofs.lemmas.Bool.{cases_lt, cases_eq}
-use Rattle.std.proofs.lemmas.Nat.{mul-le}
+use Rattle.std.proofs.Common.{◌≡◌, ℕ, ◌+◌, ◌-◌, ◌*◌, ◌<◌, ◌≤◌, true, false, ℤ, pos, List, [], length, get_or, set, take, drop, Some, option_map, slice_get, refl, sym, ap, ◌∙◌, arith, inl, inr, get_or-set_same, get_or-set_other, length-set, FitsSigned, w64, of_z}
+use Rattle.std.proofs.lemmas.Bool.{cases_eq}
+use Rattle.std.proofs.lemmas.Nat.{mul-le, same_from_place}
 use Rattle.std.proofs.lemmas.Bool.{true≢false}
 use Rattle.std.proofs.lemmas.Option.{slice_get-get_or, slice_get_within}
 use Rattle.pl_spec.specs.Rounding.{IsCell}
 use Rattle.pl_spec.specs.Formula.{is_true, truth}
 use Rattle.pl_spec.specs.Graph.{contains}
 use Rattle.pl_spec.specs.Table.{NamedColumn}
+use Rattle.pl_spec.proofs.Cells.{is_true-truth}
+use Rattle.pl_spec.proofs.Places.{row-within}
 use Rattle.pl_cross.specs.Arrays.{sid_in}
 use Rattle.pl_terms.specs.declared.node.TermId.{TermId}
 use Rattle.pl_terms.specs.declared.checked.NamedColumn as code
@@ -17,23 +19,22 @@ use Rattle.pl_table.specs.Outcomes.{HasCells, IsOutcome, pipeline_in, sids_in, w
 use Rattle.pl_table.specs.Rows.{has_row}
 use Rattle.pl_table.specs.Tiles.{tile_at, in_row, IsTileRow, HasRows, IsStrip, IsPlace, sessions_in}
 use Rattle.pl_terms.specs.Uses.{outputs}
+use Rattle.pl_terms.proofs.Graphs.{columns-long}
 use Rattle.pl_planner.specs.Plans.{low_at, slot_of}
+use Rattle.pl_planner.proofs.Pipelines.{output-used}
 use Rattle.pl_workspace.specs.Slots.{Live, slot_at}
 use Rattle.std.proofs.lemmas.List.{get_or-take, get_or-drop, length-take-le, length-drop}
 use Rattle.pl_table.proofs.Lengths.{one-true, one-false}
-use Rattle.pl_table.proofs.Outputs.{columns-long, has-column, term-there, output-used}
+use Rattle.pl_table.proofs.Outputs.{has-column, term-there}
 
 -- ---- places in a tile
 
 abbrev pub places_of : Outcome → ℕ
 places_of o = length o.cols.now
 
-pub row_within : (i n m j : ℕ) → i < n → j < m → i * m + j < n * m
-row_within i n m j h l = let r = mul-le (i + 1) m n m (omega arith) (omega arith) in let e : (i + 1) * m ≡ i * m + m = omega arith in omega (arith, r, e)
-
 pub start_within : (places width j i : ℕ) → j < 8 → i < places → (j * places + i) * width + width ≤ 8 * places * width
 start_within places width j i h l =
-    let r : j * places + i < 8 * places = row_within j 8 places i h l in
+    let r : j * places + i < 8 * places = row-within j 8 places i h l in
     let m = mul-le (j * places + i + 1) width (8 * places) width (omega arith) (omega arith) in
     let e : (j * places + i + 1) * width ≡ (j * places + i) * width + width = omega arith in
     omega (arith, m, e)
@@ -44,20 +45,11 @@ number_within places width j i c at len e h l k room = let w = start_within plac
 pub session_within : (places width len : ℕ) → 8 * places * width ≤ len → places * width ≤ len
 session_within places width len room = let e : 8 * places * width ≡ 8 * (places * width) = omega arith in omega arith
 
-apart : (i k m j t : ℕ) → j < m → t < m → i * m + t ≡ k * m + j → (i ≡ k) × (t ≡ j)
-apart i k m j t h l e = elim (cases_lt i k) [
-  | inl p ↦ (let r = row_within i k m t p l in absurd (omega arith))
-  | inr p ↦ elim (cases_lt k i) [
-    | inl q ↦ (let r = row_within k i m j q h in absurd (omega arith))
-    | inr q ↦ (let s : i ≡ k = omega arith in let n = ap (λ (x : ℕ). x * m) s in (s, omega arith))
-  ]
-]
-
 -- two numbers of a tile that stand in one place are one
 one_place : (places width j i c k t d : ℕ) → i < places → t < places → c < width → d < width → tile_at places width j i c ≡ tile_at places width k t d → (j ≡ k) × (i ≡ t) × (c ≡ d)
 one_place places width j i c k t d hi ht hc hd e =
-    let outer = apart (j * places + i) (k * places + t) width d c hd hc e in
-    let inner = apart j k places t i ht hi outer.0 in
+    let outer = same_from_place (j * places + i) c (k * places + t) d width hc hd e in
+    let inner = same_from_place j i k t places hi ht outer.0 in
     (inner.0, inner.1, outer.1)
 
 -- the same number of the same place on the next session
@@ -144,10 +136,6 @@ marked o first place j = truth (has_row (world_in o) (pipeline_in o) (first + j)
 abbrev pub copied : Outcome → ℕ → ℕ → ℕ → ℕ → ℤ
 copied o first place t j = cell_of (world_in o) (pipeline_in o) (sids_in o) t place (first + j)
 
-truth-is : (b : Bool) → is_true (truth b) ≡ b
-truth-is true = refl
-truth-is false = refl
-
 pub column-few : (o : Outcome) (k : ℕ) (c : NamedColumn) → slice_get (pipeline_in o).columns k ≡ Some c → k < length (pipeline_in o).columns
 column-few o k c e = slice_get_within (pipeline_in o).columns k c e
 
@@ -192,7 +180,7 @@ pub rows-of-place : (o : Outcome) (first place n : ℕ) (old new : List ℤ) →
 rows-of-place o first place n old new begun all whole j h within =
     let few : j < sessions_in first o.to = omega arith in
     record {
-      mark = ap is_true (begun.marks j few) ∙ truth-is (has_row (world_in o) (pipeline_in o) (first + j) (sid_in (sids_in o) place));
+      mark = ap is_true (begun.marks j few) ∙ is_true-truth (has_row (world_in o) (pipeline_in o) (first + j) (sid_in (sids_in o) place));
       each = λ is k c at. (let w = column-few o k c at in begun.cells j k c few (omega arith) at);
       cell = λ is k hk. (let d = has-column o.checked.now.columns k (omega (arith, columns-long o.checked.now.columns)) in rw (begun.cells j k d.0 few (omega arith) d.1) (whole k (first + j) d.0 d.1 (omega arith) within));
     }
@@ -203,7 +191,7 @@ pub no-rows-of-place : (o : Outcome) (first place : ℕ) (old new : List ℤ) �
     → (j : ℕ) → j < 8 → first + j ≤ o.to → IsTileRow o (first + j) place (in_row o new j place)
 no-rows-of-place o first place old new begun none j h within =
     let few : j < sessions_in first o.to = omega arith in
-    let mark = ap is_true (begun.marks j few) ∙ truth-is (has_row (world_in o) (pipeline_in o) (first + j) (sid_in (sids_in o) place)) in
+    let mark = ap is_true (begun.marks j few) ∙ is_true-truth (has_row (world_in o) (pipeline_in o) (first + j) (sid_in (sids_in o) place)) in
     let never : is_true (in_row o new j place 0) ≡ true → ⊥ = λ is. true≢false (sym is ∙ mark ∙ none j few) in
     record {
       mark = mark;

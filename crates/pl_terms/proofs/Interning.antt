@@ -22,7 +22,7 @@ trees-more : (ts : List Term) (g : Graph) (n : Node) → trees_after ts (g ++ n 
 trees-more ts [] n = refl
 trees-more ts (m ∷ ms) n = trees-more (ts ++ tree_over ts m ∷ []) ms n
 
-trees-long : (ts : List Term) (g : Graph) → length (trees_after ts g) ≡ length ts + length g
+pub trees-long : (ts : List Term) (g : Graph) → length (trees_after ts g) ≡ length ts + length g
 trees-long ts [] = omega arith
 trees-long ts (n ∷ g) =
     let rest = trees-long (ts ++ tree_over ts n ∷ []) g in

@@ -10,12 +10,12 @@ use Rattle.pl_spec.specs.Term.{IsGraph, Term, Graph, Node, Input, BarColumn, Ter
 use Rattle.pl_spec.specs.Term.Term.{absent}
 use Rattle.pl_spec.specs.Value.{sort_over, sort_kind}
 use Rattle.pl_spec.specs.Text.{kind_at}
-use Rattle.std.proofs.Common.{map}
 use Rattle.pl_terms.specs.declared.node.Node as code
 use Rattle.pl_terms.specs.declared.node.TermId.{TermId}
 use Rattle.pl_terms.specs.Kinds.{kind_of}
 use Rattle.pl_terms.specs.Nodes.{node_of, graph_of, number_of}
 use Rattle.pl_terms.specs.Sorts.{Sort, sort_of, sort_at, is_downsampled, first_term}
+use Rattle.pl_terms.proofs.Graphs.{graph-at}
 
 -- ---- trees one after another
 
@@ -146,15 +146,6 @@ sort-kept g h k x f s =
 
 -- ---- the nodes of the code
 
-slice-map : {A B : Type 0} (f : A → B) (xs : List A) (k : ℕ) (x : A) → slice_get xs k ≡ Some x → slice_get (map f xs) k ≡ Some (f x)
-slice-map f [] k x e = cc
-slice-map f (y ∷ ys) zero x e = let same : y ≡ x = cc in ap (λ z. Some (f z)) same
-slice-map f (y ∷ ys) (suc k) x e = slice-map f ys k x e
-
-pub node-there : (ns : List code.Node) (t : ℕ) (n : code.Node) → slice_get ns t ≡ Some n → slice_get (graph_of ns) t ≡ Some (node_of n)
-unfolding graph_of
-node-there ns t n e = slice-map node_of ns t n e
-
 first-there : (is : List Input) (u : ℕ) → first_term is ≡ Some u → slice_get is 0 ≡ Some (TermInput u)
 first-there [] u f = absurd (let no : None ≡ Some u = f in cc)
 first-there (BarColumn c ∷ is) u f = absurd (let no : None ≡ Some u = f in cc)
@@ -162,7 +153,7 @@ first-there (TermInput j ∷ is) u f = let same : j ≡ u = (let x : Some j ≡ 
 
 module _ (ns : List code.Node) (t : ℕ) (n : code.Node) (at : slice_get ns t ≡ Some n) where
   there : slice_get (graph_of ns) t ≡ Some (node_of n)
-  there = node-there ns t n at
+  there = graph-at ns t n at
 
   pub own-there : is_downsampled (kind_of n.kind) ≡ false → kind_of n.kind ≡ kind_at (graph_of ns) t
   unfolding node_of

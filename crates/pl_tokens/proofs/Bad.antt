@@ -2,6 +2,7 @@
 use Rattle.std.proofs.Common.{◌≡◌, ℕ, suc, ◌+◌, ◌<◌, ◌≤◌, Bool, true, false, ◌&&◌, List, [], ◌∷◌, ◌++◌, length, drop, refl, ap, ◌∙◌, arith, length-append}
 use Rattle.std.specs.Prelude.{◌==◌, nat_le}
 use Rattle.std.proofs.lemmas.Bool.Decides.{nat_tests}
+use Rattle.std.proofs.lemmas.Bool.{or_left, cond-false, cond-true, lt-leb}
 use Rattle.pl_tokens.specs.declared.front.Form.{Form}
 use Rattle.pl_tokens.specs.declared.front.Found.TheVariants.{Bad}
 use Rattle.pl_tokens.specs.Bytes.{Stops, is_text_byte, pairs, is_sign, begins_gap}
@@ -9,7 +10,7 @@ use Rattle.pl_spec.specs.Names.{is_word_byte, is_digit, starts_word}
 use Rattle.pl_tokens.specs.Tokens.{Front, a_word, a_whole, a_decimal, a_text, a_pair, a_sign}
 use Rattle.pl_tokens.specs.Front.{word_front, text_end, sign_front, front}
 use Rattle.pl_tokens.specs.Text.{IsBad, bad_word, bad_text, bad_sign, IsUnquoted}
-use Rattle.pl_tokens.proofs.Longest.{longest, run_length, or_true, cond_true, cond_false, drop_front, above}
+use Rattle.pl_tokens.proofs.Longest.{longest, run_length, drop_front}
 
 word_no_gap : (c : ℕ) → starts_word c ≡ true → begins_gap c ≡ false
 word_no_gap c h = grind (arith, nat_tests)
@@ -53,11 +54,11 @@ bad_within (bad_sign c rest g u v w x y) = (omega arith, omega arith)
 
 unquoted : (n : ℕ) (rest : List ℕ) → IsUnquoted rest → text_end n rest ≡ Bad n
 unquoted n [] q = refl
-unquoted n (b ∷ bs) q = cond_false (b == 34) _ _ q
+unquoted n (b ∷ bs) q = cond-false (b == 34) _ _ q
 
 no_pair : (c : ℕ) (rest : List ℕ) → is_sign c ≡ false → (pairs c ≡ true → Stops (λ b. b == 61) rest) → sign_front c rest ≡ Bad 0
-no_pair c [] x y = cond_false (is_sign c) _ _ x
-no_pair c (b ∷ bs) x y = cond_false (pairs c && (b == 61)) _ _ (apart (pairs c) (b == 61) y) ∙ cond_false (is_sign c) _ _ x
+no_pair c [] x y = cond-false (is_sign c) _ _ x
+no_pair c (b ∷ bs) x y = cond-false (pairs c && (b == 61)) _ _ (apart (pairs c) (b == 61) y) ∙ cond-false (is_sign c) _ _ x
   where
     apart : (t u : Bool) → (t ≡ true → u ≡ false) → (t && u) ≡ false
     apart true u g = g refl
@@ -66,10 +67,10 @@ no_pair c (b ∷ bs) x y = cond_false (pairs c && (b == 61)) _ _ (apart (pairs c
 pub bad_only : {bs : List ℕ} {k : ℕ} → IsBad bs k → front bs ≡ Bad k
 unfolding front
 bad_only (bad_word c cs rest h all s many) =
-    cond_true (starts_word c) _ _ h ∙ (ap word_front (run_length is_word_byte c cs rest (or_true (starts_word c) (is_digit c) h) all s)
-    ∙ cond_false (nat_le (suc (length cs)) 32) _ _ (above (suc (length cs)) 32 (omega arith)))
+    cond-true (starts_word c) _ _ h ∙ (ap word_front (run_length is_word_byte c cs rest (or_left (starts_word c) (is_digit c) h) all s)
+    ∙ cond-false (nat_le (suc (length cs)) 32) _ _ (lt-leb (suc (length cs)) 32 (omega arith)))
 bad_only (bad_text cs rest all s q) =
     ap (λ n. text_end (length n + 1) (drop (length n) (cs ++ rest))) (longest is_text_byte cs rest all s)
     ∙ (ap (text_end (length cs + 1)) (drop_front cs rest) ∙ unquoted (length cs + 1) rest q)
 bad_only (bad_sign c rest g u v w x y) =
-    cond_false (starts_word c) _ _ u ∙ (cond_false (is_digit c) _ _ v ∙ (cond_false (c == 34) _ _ w ∙ no_pair c rest x y))
+    cond-false (starts_word c) _ _ u ∙ (cond-false (is_digit c) _ _ v ∙ (cond-false (c == 34) _ _ w ∙ no_pair c rest x y))

@@ -1,10 +1,12 @@
 -- A token's form decides what is found at the front of a text, and what is found there has its form.
-use Rattle.std.proofs.Common.{◌≡◌, ℕ, suc, ◌+◌, ◌≤◌, ◌<◌, Bool, true, false, cond, ◌&&◌, ◌||◌, List, [], ◌∷◌, ◌++◌, length, drop, refl, sym, ap, ap₂, ◌∙◌, arith, append_assoc, subst}
+use Rattle.std.proofs.Common.{◌≡◌, ℕ, suc, ◌+◌, ◌<◌, Bool, true, false, cond, ◌&&◌, ◌||◌, List, [], ◌∷◌, ◌++◌, length, drop, refl, sym, ap, ap₂, ◌∙◌, arith, append_assoc, subst, leb-false, leb-true}
 use Rattle.std.specs.List.{take_while, list_all}
 use Rattle.std.proofs.lemmas.List.Sums.{take_while-cons}
 use Rattle.std.proofs.lemmas.Bool.Decides.{nat_tests}
 use Rattle.std.proofs.Math.Seq.{drop-append_seam}
 use Rattle.std.specs.Prelude.{◌==◌, nat_le}
+use Rattle.std.specs.Cmp.{first_so, second_so}
+use Rattle.std.proofs.lemmas.Bool.{or_left, cond-false, cond-true}
 use Rattle.pl_tokens.specs.declared.front.Form.{Form}
 use Rattle.pl_tokens.specs.declared.front.Form.TheVariants.{Word, Number, Text, One, Two}
 use Rattle.pl_tokens.specs.declared.front.Found.{Found}
@@ -35,16 +37,6 @@ all_of p c cs h k = ap₂ (λ a b. a && b) h k
 
 pub run_length : (p : ℕ → Bool) (c : ℕ) (cs rest : List ℕ) → p c ≡ true → list_all p cs ≡ true → Stops p rest → length (take_while p (c ∷ (cs ++ rest))) ≡ suc (length cs)
 run_length p c cs rest h k s = ap length (longest p (c ∷ cs) rest (all_of p c cs h k) s)
-
-pub or_true : (a b : Bool) → a ≡ true → (a || b) ≡ true
-or_true true b h = refl
-or_true false b h = cc
-
-pub cond_true : {A : Type 0} (b : Bool) (x y : A) → b ≡ true → cond b x y ≡ x
-cond_true b x y h = rw h refl
-
-pub cond_false : {A : Type 0} (b : Bool) (x y : A) → b ≡ false → cond b x y ≡ y
-cond_false b x y h = rw h refl
 
 digit_starts_none : (c : ℕ) → is_digit c ≡ true → starts_word c ≡ false
 digit_starts_none c h = grind (arith, nat_tests)
@@ -79,16 +71,13 @@ whole_only n (b ∷ bs) h = by_test (b == 46) (λ k. no_digits bs (h.1 (byte_is 
 at_most : (a b : ℕ) → a < b → nat_le (suc a) b ≡ true
 at_most a b h = grind (arith, nat_tests)
 
-pub above : (a b : ℕ) → b < a → nat_le a b ≡ false
-above a b h = grind (arith, nat_tests)
-
 pub front_only : {xs rest : List ℕ} {f : Form} → Front xs rest f → front (xs ++ rest) ≡ Token f
 unfolding front
 front_only {rest = rest} (a_word c cs h k s few) =
-    cond_true (starts_word c) _ _ h ∙ (ap word_front (run_length is_word_byte c cs rest (or_true (starts_word c) (is_digit c) h) k s)
-    ∙ cond_true (nat_le (suc (length cs)) 32) _ _ (at_most (length cs) 32 few))
+    cond-true (starts_word c) _ _ h ∙ (ap word_front (run_length is_word_byte c cs rest (or_left (starts_word c) (is_digit c) h) k s)
+    ∙ cond-true (nat_le (suc (length cs)) 32) _ _ (at_most (length cs) 32 few))
 front_only {rest = rest} (a_whole c cs h k s) =
-    cond_false (starts_word c) _ _ (digit_starts_none c h) ∙ (cond_true (is_digit c) _ _ h
+    cond-false (starts_word c) _ _ (digit_starts_none c h) ∙ (cond-true (is_digit c) _ _ h
     ∙ (ap (λ n. fraction_behind n (drop n (c ∷ (cs ++ rest)))) (run_length is_digit c cs rest h k (stops_at rest s))
     ∙ (ap (fraction_behind (suc (length cs))) (drop_front (c ∷ cs) rest) ∙ whole_only (suc (length cs)) rest s)))
   where
@@ -99,7 +88,7 @@ front_only {rest = rest} (a_decimal c cs f fs h k h' k' s) =
     let behind : List ℕ = 46 ∷ (f ∷ (fs ++ rest)) in
     let regrouped : (cs ++ (46 ∷ (f ∷ fs))) ++ rest ≡ cs ++ behind = append_assoc cs (46 ∷ (f ∷ fs)) rest in
     ap (λ z. front (c ∷ z)) regrouped
-    ∙ (cond_false (starts_word c) _ _ (digit_starts_none c h) ∙ (cond_true (is_digit c) _ _ h
+    ∙ (cond-false (starts_word c) _ _ (digit_starts_none c h) ∙ (cond-true (is_digit c) _ _ h
     ∙ (ap (λ n. fraction_behind n (drop n (c ∷ (cs ++ behind)))) (run_length is_digit c cs behind h k refl)
     ∙ (ap (fraction_behind (suc (length cs))) (drop_front (c ∷ cs) behind)
     ∙ ap (λ n. Token (Number (suc (length cs)) n)) (run_length is_digit f fs rest h' k' s)))))
@@ -111,11 +100,11 @@ front_only {rest = rest} (a_text cs k) =
     ∙ (ap (text_end (length cs + 1)) (drop_front cs behind) ∙ ap (λ n. Token (Text n)) (omega arith)))
 front_only {rest = rest} (a_pair c k) =
     let apart = pairs_apart c k in
-    cond_false (starts_word c) _ _ apart.0 ∙ (cond_false (is_digit c) _ _ apart.1 ∙ (cond_false (c == 34) _ _ apart.2
-    ∙ cond_true (pairs c && true) _ _ (ap (λ t. t && true) k)))
+    cond-false (starts_word c) _ _ apart.0 ∙ (cond-false (is_digit c) _ _ apart.1 ∙ (cond-false (c == 34) _ _ apart.2
+    ∙ cond-true (pairs c && true) _ _ (ap (λ t. t && true) k)))
 front_only {rest = rest} (a_sign c h k) =
     let apart = sign_apart c h in
-    cond_false (starts_word c) _ _ apart.0 ∙ (cond_false (is_digit c) _ _ apart.1 ∙ (cond_false (c == 34) _ _ apart.2
+    cond-false (starts_word c) _ _ apart.0 ∙ (cond-false (is_digit c) _ _ apart.1 ∙ (cond-false (c == 34) _ _ apart.2
     ∙ one rest k))
   where
     alone : (t u : Bool) → ((t ≡ true) → u ≡ false) → (t && u) ≡ false
@@ -127,18 +116,10 @@ front_only {rest = rest} (a_sign c h k) =
     no_bang false u g = g
 
     one : (rest : List ℕ) → (may_pair c ≡ true → Stops (λ b. b == 61) rest) → sign_front c rest ≡ Token (One c)
-    one [] g = cond_true (is_sign c) _ _ h
+    one [] g = cond-true (is_sign c) _ _ h
     one (b ∷ bs) g =
-        cond_false (pairs c && (b == 61)) _ _ (ap (λ t. t && (b == 61)) (no_bang (may_pair c) (c == 33) (bang_no_sign c h)) ∙ alone (may_pair c) (b == 61) g)
-        ∙ cond_true (is_sign c) _ _ h
-
-first_all : (a b : Bool) → (a && b) ≡ true → a ≡ true
-first_all true b k = refl
-first_all false b k = cc
-
-rest_all : (a b : Bool) → (a && b) ≡ true → b ≡ true
-rest_all true b k = k
-rest_all false b k = cc
+        cond-false (pairs c && (b == 61)) _ _ (ap (λ t. t && (b == 61)) (no_bang (may_pair c) (c == 33) (bang_no_sign c h)) ∙ alone (may_pair c) (b == 61) g)
+        ∙ cond-true (is_sign c) _ _ h
 
 quote_is : (b : ℕ) → (b == 34) ≡ true → b ≡ 34
 quote_is b k = grind (arith, nat_tests)
@@ -191,21 +172,15 @@ FoundAt bs End = bs ≡ []
 FoundAt bs (Bad k) = IsBad bs k
 FoundAt bs (Token f) = TokenAt bs f
 
-over : (a b : ℕ) → nat_le a b ≡ false → b < a
-over a b h = grind (arith, nat_tests)
-
-within : (a b : ℕ) → nat_le a b ≡ true → a ≤ b
-within a b h = grind (arith, nat_tests)
-
 word_found : (c : ℕ) (bs : List ℕ) → starts_word c ≡ true → FoundAt (c ∷ bs) (word_front (length (take_while is_word_byte (c ∷ bs))))
 word_found c bs h =
     let r = run_of is_word_byte bs in
-    let n : length (take_while is_word_byte (c ∷ bs)) ≡ suc (length r.own) = ap length (take_while-cons is_word_byte c bs ∙ (ap (λ t. cond t (c ∷ take_while is_word_byte bs) []) (or_true (starts_word c) (is_digit c) h) ∙ ap (λ z. c ∷ z) r.taken)) in
+    let n : length (take_while is_word_byte (c ∷ bs)) ≡ suc (length r.own) = ap length (take_while-cons is_word_byte c bs ∙ (ap (λ t. cond t (c ∷ take_while is_word_byte bs) []) (or_left (starts_word c) (is_digit c) h) ∙ ap (λ z. c ∷ z) r.taken)) in
     subst (λ k. FoundAt (c ∷ bs) (word_front k)) (sym n) (subst (λ z. FoundAt (c ∷ z) (word_front (suc (length r.own)))) (sym r.whole) (by_length r.own r.rest r.all r.stops (nat_le (suc (length r.own)) 32) refl))
   where
     by_length : (own rest : List ℕ) → list_all is_word_byte own ≡ true → Stops is_word_byte rest → (t : Bool) → nat_le (suc (length own)) 32 ≡ t → FoundAt (c ∷ (own ++ rest)) (cond t (Token (Word (suc (length own)))) (Bad 32))
-    by_length own rest k s true e = record { own = c ∷ own; rest = rest; whole = refl; form = a_word c own h k s (omega (arith, within (suc (length own)) 32 e)) }
-    by_length own rest k s false e = bad_word c own rest h k s (omega (arith, over (suc (length own)) 32 e))
+    by_length own rest k s true e = record { own = c ∷ own; rest = rest; whole = refl; form = a_word c own h k s (omega (arith, leb-true (suc (length own)) 32 e)) }
+    by_length own rest k s false e = bad_word c own rest h k s (omega (arith, leb-false (suc (length own)) 32 e))
 
 fraction_found : (c : ℕ) (cs rest : List ℕ) → is_digit c ≡ true → list_all is_digit cs ≡ true → Stops is_digit rest → FoundAt (c ∷ (cs ++ rest)) (fraction_behind (suc (length cs)) rest)
 fraction_found c cs [] h k s = record { own = c ∷ cs; rest = []; whole = refl; form = a_whole c cs h k tt }
@@ -219,7 +194,7 @@ fraction_found c cs (b ∷ bs) h k s = by_point (b == 46) refl
           own = c ∷ (cs ++ (46 ∷ (f ∷ fs)));
           rest = r.rest;
           whole = ap (λ z. c ∷ (cs ++ z)) (ap₂ (λ x y. x ∷ y) p (r.whole ∙ ap (λ z. z ++ r.rest) e)) ∙ ap (λ z. c ∷ z) (sym (append_assoc cs (46 ∷ (f ∷ fs)) r.rest));
-          form = a_decimal c cs f fs h k (first_all (is_digit f) (list_all is_digit fs) all) (rest_all (is_digit f) (list_all is_digit fs) all) r.stops;
+          form = a_decimal c cs f fs h k (first_so (is_digit f) (list_all is_digit fs) all) (second_so (is_digit f) (list_all is_digit fs) all) r.stops;
         }
 
     by_point : (t : Bool) → (b == 46) ≡ t → FoundAt (c ∷ (cs ++ (b ∷ bs))) (cond t (Token (Number (suc (length cs)) (length (take_while is_digit bs)))) (Token (Number (suc (length cs)) 0)))
@@ -255,11 +230,11 @@ sign_found c [] g u v w = by_sign (is_sign c) refl
 sign_found c (b ∷ bs) g u v w = by_pair (pairs c && (b == 61)) refl
   where
     by_sign : (t : Bool) → is_sign c ≡ t → (pairs c && (b == 61)) ≡ false → FoundAt (c ∷ (b ∷ bs)) (cond t (Token (One c)) (Bad 0))
-    by_sign true e q = record { own = c ∷ []; rest = b ∷ bs; whole = refl; form = a_sign c e (λ m. not_both (may_pair c) (c == 33) (b == 61) q (or_true (may_pair c) (c == 33) m)) }
+    by_sign true e q = record { own = c ∷ []; rest = b ∷ bs; whole = refl; form = a_sign c e (λ m. not_both (may_pair c) (c == 33) (b == 61) q (or_left (may_pair c) (c == 33) m)) }
     by_sign false e q = bad_sign c (b ∷ bs) g u v w e (λ m. not_both (may_pair c) (c == 33) (b == 61) q m)
 
     by_pair : (t : Bool) → (pairs c && (b == 61)) ≡ t → FoundAt (c ∷ (b ∷ bs)) (cond t (Token (Two c)) (cond (is_sign c) (Token (One c)) (Bad 0)))
-    by_pair true e = record { own = c ∷ (61 ∷ []); rest = bs; whole = ap (λ z. c ∷ (z ∷ bs)) (equals_is b (rest_all (pairs c) (b == 61) e)); form = a_pair c (first_all (pairs c) (b == 61) e) }
+    by_pair true e = record { own = c ∷ (61 ∷ []); rest = bs; whole = ap (λ z. c ∷ (z ∷ bs)) (equals_is b (second_so (pairs c) (b == 61) e)); form = a_pair c (first_so (pairs c) (b == 61) e) }
     by_pair false e = by_sign (is_sign c) refl e
 
 pub front_found : (bs : List ℕ) → Stops begins_gap bs → FoundAt bs (front bs)

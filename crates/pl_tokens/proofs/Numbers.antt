@@ -1,5 +1,5 @@
 -- The text of a number is a decimal without a sign, and reading it gives its token.
-use Rattle.std.proofs.Common.{◌≡◌, ℕ, ℤ, suc, ◌+◌, ◌<◌, Bool, true, false, cond, ◌&&◌, ◌||◌, List, [], ◌∷◌, ◌++◌, length, take, drop, append-nil, Result, Ok, Err, refl, sym, ap, ◌∙◌, arith, subst, ◌⊎◌, inl, inr}
+use Rattle.std.proofs.Common.{◌≡◌, ℕ, ℤ, suc, ◌+◌, ◌<◌, Bool, true, false, cond, ◌||◌, List, [], ◌∷◌, ◌++◌, length, take, drop, append-nil, Result, Ok, Err, refl, sym, ap, ◌∙◌, arith, subst, ◌⊎◌, inl, inr}
 use Rattle.std.specs.Prelude.{nat_lt}
 use Rattle.std.specs.List.{list_all}
 use Rattle.std.specs.Char.{digit_value}
@@ -7,6 +7,7 @@ use Rattle.std.specs.Str.Parse.{AllDigits}
 use Rattle.std.specs.Int.RustNames.{unsigned_abs}
 use Rattle.std.proofs.lemmas.Bool.Decides.{nat_tests}
 use Rattle.std.proofs.Math.Seq.{take-append_seam, take-length}
+use Rattle.std.proofs.lemmas.Bool.{and_parts}
 use Rattle.pl_spec.specs.Rounding.{LIMIT}
 use Rattle.pl_spec.specs.Decimals.{Decimal, IsDecimal, millionths}
 use Rattle.pl_fixed.specs.Reading.{read, judged, in_range}
@@ -25,13 +26,9 @@ use Rattle.pl_tokens.specs.Tokens.{Front, a_word, a_whole, a_decimal, a_text, a_
 digit_below : (c : ℕ) → is_digit c ≡ true → digit_value c < 10
 digit_below c h = grind (arith, nat_tests)
 
-both : (a b : Bool) → (a && b) ≡ true → (a ≡ true) × (b ≡ true)
-both true b h = (refl, h)
-both false b h = cc
-
 pub all_digits : (ds : List ℕ) → list_all is_digit ds ≡ true → AllDigits 10 ds
 all_digits [] h = tt
-all_digits (c ∷ cs) h = let p = both (is_digit c) (list_all is_digit cs) h in (digit_below c p.0, all_digits cs p.1)
+all_digits (c ∷ cs) h = let p = and_parts (is_digit c) (list_all is_digit cs) h in (digit_below c p.0, all_digits cs p.1)
 
 -- the decimal of a number's text
 abbrev pub decimal_of : ℕ → List ℕ → Decimal

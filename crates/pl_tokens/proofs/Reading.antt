@@ -1,12 +1,12 @@
 -- Each text is read, and in one way.
-use Rattle.std.proofs.Common.{◌≡◌, ℕ, zero, suc, ◌+◌, ◌<◌, Bool, true, false, cond, ◌||◌, List, [], ◌∷◌, ◌++◌, length, take, drop, refl, sym, ap, ap₂, ◌∙◌, arith, length-append, subst}
+use Rattle.std.proofs.Common.{◌≡◌, ℕ, zero, suc, ◌+◌, ◌<◌, Bool, true, false, ◌||◌, List, [], ◌∷◌, ◌++◌, length, take, drop, refl, sym, ap, ap₂, ◌∙◌, arith, length-append, subst}
 use Rattle.std.specs.Prelude.{◌==◌}
-use Rattle.std.specs.List.{list_all, take_while}
+use Rattle.std.specs.List.{list_all}
 use Rattle.std.proofs.lemmas.Bool.Decides.{nat_tests}
 use Rattle.std.proofs.Math.Seq.{take-append_seam}
+use Rattle.std.proofs.lemmas.Bool.{or_parts, cond-false, cond-true}
 use Rattle.pl_grammar.specs.declared.Place.{Place}
 use Rattle.pl_grammar.specs.Tree.{Lexeme, mark}
-use Rattle.pl_grammar.specs.Tree as t
 use Rattle.pl_grammar.specs.Faults.{Tail, AtEnd, AtBad}
 use Rattle.pl_tokens.specs.declared.front.Form.{Form}
 use Rattle.pl_tokens.specs.declared.front.Found.{Found}
@@ -16,7 +16,7 @@ use Rattle.pl_tokens.specs.Tokens.{Front, a_word, a_whole, a_decimal, a_text, a_
 use Rattle.pl_tokens.specs.Front.{front}
 use Rattle.pl_tokens.specs.Text.{start, after, after_byte, Read, at_text_end, at_bad_byte, a_blank, a_comment, a_token}
 use Rattle.pl_tokens.specs.Reading.{Whole, with_token, at_found, reading, whole}
-use Rattle.pl_tokens.proofs.Longest.{longest, cond_true, cond_false, drop_front, front_only, front_found, FoundAt, run_of}
+use Rattle.pl_tokens.proofs.Longest.{longest, drop_front, front_only, front_found, FoundAt, run_of}
 use Rattle.pl_tokens.proofs.Bad.{front_no_gap, front_some, bad_no_gap, bad_within, bad_only}
 
 pub form_whole : {xs rest : List ℕ} {f : Form} → Front xs rest f → form_length f ≡ length xs
@@ -27,16 +27,12 @@ form_whole (a_text cs h) = omega (arith, length-append cs (34 ∷ []))
 form_whole (a_pair c h) = refl
 form_whole (a_sign c h s) = refl
 
-neither : (a b : Bool) → (a || b) ≡ false → (a ≡ false) × (b ≡ false)
-neither true b h = cc
-neither false b h = (refl, h)
-
 -- without a gap it is what is found at the front
 at_front : (n : ℕ) (p : Place) (bs : List ℕ) → 0 < length bs → Stops begins_gap bs → reading (suc n) p bs ≡ at_found p bs (reading n) (front bs)
 unfolding reading
 at_front n p [] some gap = absurd (omega arith)
 at_front n p (b ∷ bs) some gap =
-    let k = neither (is_blank b) (b == 35) gap in cond_false (is_blank b) _ _ k.0 ∙ cond_false (b == 35) _ _ k.1
+    let k = or_parts (is_blank b) (b == 35) gap in cond-false (is_blank b) _ _ k.0 ∙ cond-false (b == 35) _ _ k.1
 
 token_step : (n : ℕ) (p : Place) (xs bs : List ℕ) (f : Form) → Front xs bs f → reading (suc n) p (xs ++ bs) ≡ with_token p (token_in f xs) (reading n (after xs p) bs)
 token_step n p xs bs f x =
@@ -59,7 +55,7 @@ read_only zero x few = absurd (omega arith)
 read_only (suc n) at_text_end few = refl
 read_only (suc n) {p = p} {bs = bs} (at_bad_byte k x) few =
     at_front n p bs (bad_within x).0 (bad_no_gap x) ∙ ap (at_found p bs (reading n)) (bad_only x)
-read_only (suc n) {p = p} (a_blank {b = b} {bs = bs} h x) few = cond_true (is_blank b) _ _ h ∙ read_only n x (omega arith)
+read_only (suc n) {p = p} (a_blank {b = b} {bs = bs} h x) few = cond-true (is_blank b) _ _ h ∙ read_only n x (omega arith)
 read_only (suc n) {p = p} (a_comment cs bs all s x) few =
     comment_step n p cs bs all s ∙ read_only n x (omega (arith, length-append cs bs))
 read_only (suc n) {p = p} (a_token xs bs {f = f} y x) few =

@@ -1,19 +1,19 @@
 -- A text that is written token by token is read as these tokens, at whatever places they come to stand.
-use Rattle.std.proofs.Common.{◌≡◌, ℕ, ℤ, pos, negsuc, zero, suc, ◌+◌, ◌-◌, ◌*◌, ◌/◌, ◌%◌, ◌^◌, ◌<◌, ◌≤◌, Bool, true, false, cond, ◌&&◌, ◌||◌, List, [], ◌∷◌, ◌++◌, length, take, reverse, refl, sym, ap, ap₂, ◌∙◌, arith, subst, append_assoc, append-nil, length-append}
+use Rattle.std.proofs.Common.{◌≡◌, ℕ, ℤ, pos, negsuc, suc, ◌+◌, ◌-◌, ◌*◌, ◌/◌, ◌%◌, ◌^◌, ◌<◌, ◌≤◌, Bool, true, false, cond, ◌&&◌, ◌||◌, List, [], ◌∷◌, ◌++◌, length, take, reverse, refl, sym, ap, ap₂, ◌∙◌, arith, subst, append_assoc, append-nil, length-append, ltb-true}
 use Rattle.std.specs.Prelude.{◌==◌, not, nat_lt, nat_le, codes, bytes_eq, unsigned_abs}
 use Rattle.std.specs.List.{list_all}
 use Rattle.std.specs.Fmt.{decimal}
 use Rattle.std.specs.Char.{digit_value}
 use Rattle.std.specs.Str.Parse.{AllDigits, digits_value, digits_value_after}
-use Rattle.std.proofs.Math.Nat.{pow-suc, mul_assoc}
+use Rattle.std.proofs.Math.Nat.{mul_assoc}
 use Rattle.std.proofs.Math.Seq.{take-append_seam, take-length}
 use Rattle.std.proofs.lemmas.Bool.Decides.{nat_tests}
 use Rattle.std.proofs.lemmas.Fmt.{decimal_is_IsNumeral}
-use Rattle.std.proofs.lemmas.Int.Digits.{digits_value_push, digits_push}
 use Rattle.std.proofs.lemmas.List.{reverse-append, reverse-reverse, length-reverse}
 use Rattle.std.proofs.lemmas.List.Folds.{list_all-append}
-use Rattle.std.proofs.lemmas.Nat.{div-add-mod', mod_below, div_below, pow-add}
+use Rattle.std.proofs.lemmas.Nat.{div-add-mod', mod_below, pow-add}
 use Rattle.std.proofs.lemmas.Str.Parse.{digit_from_value}
+use Rattle.std.proofs.lemmas.Bool.{and_parts}
 use Rattle.pl_spec.specs.Rounding.{LIMIT, MILLION, div_round}
 use Rattle.pl_spec.specs.Dates.{digits}
 use Rattle.pl_spec.specs.Decimals.{point_text}
@@ -59,10 +59,6 @@ blank_shows b rest us h k = record { from = λ q. let r = k.from (after (b ∷ [
 pub sign_shows : (c : ℕ) (rest : List ℕ) (us : List Lexeme) (p : Place) → is_sign c ≡ true → (may_pair c ≡ true → Stops (λ b. b == 61) rest) → Shows rest us → Shows (c ∷ rest) (mark p (one_token c) ∷ us)
 sign_shows c rest us p h s k = token_shows (c ∷ []) rest _ us p (one_token c) (a_sign c h s) refl k
 
-both : (a b : Bool) → (a && b) ≡ true → (a ≡ true) × (b ≡ true)
-both true b h = (refl, h)
-both false b h = cc
-
 not_keyword : (p l o s : Bool) (w : List ℕ) → not (p || (l || (o || s))) ≡ true → cond p t.PipelineWord (cond l t.LetWord (cond o t.ColumnWord (cond s t.ScreenWord (t.Name w)))) ≡ t.Name w
 not_keyword true l o s w h = cc
 not_keyword false true o s w h = cc
@@ -70,16 +66,13 @@ not_keyword false false true s w h = cc
 not_keyword false false false true w h = cc
 not_keyword false false false false w h = refl
 
-small : (a b : ℕ) → nat_lt a b ≡ true → a < b
-small a b h = grind (arith, nat_tests)
-
 pub name_shows : (w rest : List ℕ) (us : List Lexeme) (p : Place) → is_name w ≡ true → Stops is_word_byte rest → Shows rest us → Shows (w ++ rest) (mark p (t.Name w) ∷ us)
 name_shows [] rest us p h s k = cc
 name_shows (c ∷ cs) rest us p h s k =
-    let a = both (starts_word c && (list_all is_word_byte cs && nat_lt (length cs) 32)) _ h in
-    let b = both (starts_word c) _ a.0 in
-    let d = both (list_all is_word_byte cs) _ b.1 in
-    token_shows (c ∷ cs) rest _ us p (t.Name (c ∷ cs)) (a_word c cs b.0 d.0 s (small (length cs) 32 d.1)) (not_keyword (bytes_eq (c ∷ cs) (codes "pipeline")) (bytes_eq (c ∷ cs) (codes "let")) (bytes_eq (c ∷ cs) (codes "column")) (bytes_eq (c ∷ cs) (codes "screen")) (c ∷ cs) a.1) k
+    let a = and_parts (starts_word c && (list_all is_word_byte cs && nat_lt (length cs) 32)) _ h in
+    let b = and_parts (starts_word c) _ a.0 in
+    let d = and_parts (list_all is_word_byte cs) _ b.1 in
+    token_shows (c ∷ cs) rest _ us p (t.Name (c ∷ cs)) (a_word c cs b.0 d.0 s (ltb-true (length cs) 32 d.1)) (not_keyword (bytes_eq (c ∷ cs) (codes "pipeline")) (bytes_eq (c ∷ cs) (codes "let")) (bytes_eq (c ∷ cs) (codes "column")) (bytes_eq (c ∷ cs) (codes "screen")) (c ∷ cs) a.1) k
 
 pub text_shows : (cs rest : List ℕ) (us : List Lexeme) (p : Place) → list_all is_text_byte cs ≡ true → Shows rest us → Shows (34 ∷ (cs ++ (34 ∷ rest))) (mark p (t.Text cs) ∷ us)
 text_shows cs rest us p h k =
@@ -92,7 +85,7 @@ text_shows cs rest us p h k =
 zero_value : (zs : List ℕ) → list_all is_zero zs ≡ true → digits_value_after 10 0 zs ≡ 0
 zero_value [] h = refl
 zero_value (z ∷ zs) h =
-    let a = both (is_zero z) (list_all is_zero zs) h in
+    let a = and_parts (is_zero z) (list_all is_zero zs) h in
     let e : 0 * 10 + digit_value z ≡ 0 = zero_digit z a.0 in
     ap (λ n. digits_value_after 10 n zs) e ∙ zero_value zs a.1
   where
@@ -102,7 +95,7 @@ zero_value (z ∷ zs) h =
 zeros_reverse : (zs : List ℕ) → list_all is_zero zs ≡ true → list_all is_zero (reverse zs) ≡ true
 zeros_reverse [] h = refl
 zeros_reverse (z ∷ zs) h =
-    let a = both (is_zero z) (list_all is_zero zs) h in
+    let a = and_parts (is_zero z) (list_all is_zero zs) h in
     ap (list_all is_zero) (reverse-append (z ∷ []) zs) ∙ (list_all-append is_zero (reverse zs) (z ∷ []) ∙ ap₂ (λ x y. x && y) (zeros_reverse zs a.1) (ap (λ b. b && true) a.0))
 
 record Trim (ds : List ℕ) : Type 0 where

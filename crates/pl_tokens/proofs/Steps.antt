@@ -1,10 +1,10 @@
 -- Steps over a text: places after bytes, and gaps.
-use Rattle.std.proofs.Common.{◌≡◌, ℕ, suc, ◌+◌, ◌-◌, ◌<◌, ◌≤◌, Bool, true, false, cond, ◌||◌, List, [], ◌∷◌, ◌++◌, length, take, drop, get_or, refl, sym, ap, ap₂, ◌∙◌, arith, length-append, length-take, length-drop, subst}
+use Rattle.std.proofs.Common.{◌≡◌, ℕ, suc, ◌+◌, ◌<◌, ◌≤◌, Bool, true, false, cond, ◌||◌, List, [], ◌∷◌, ◌++◌, length, take, drop, get_or, refl, sym, ap, ap₂, ◌∙◌, arith, length-append, length-take, length-drop, subst}
 use Rattle.std.specs.Prelude.{◌==◌}
 use Rattle.std.specs.List.{take_while}
 use Rattle.std.proofs.lemmas.Bool.Decides.{nat_tests}
 use Rattle.std.proofs.lemmas.List.{take_more, take-append-drop}
-use Rattle.std.proofs.Math.Seq.{take-append_seam, drop-append_seam, take-length}
+use Rattle.std.proofs.Math.Seq.{take-append_seam, drop-append_seam}
 use Rattle.pl_grammar.specs.declared.Place.{Place}
 use Rattle.pl_grammar.specs.Tree.{Lexeme, mark}
 use Rattle.pl_grammar.specs.Faults.{Tail, AtEnd}
@@ -55,10 +55,6 @@ room_behind p bs n h k = record {
   line = omega (arith, after_line (take n bs) p, h.line, length-take n bs, length-drop n bs);
   col = omega (arith, after_col (take n bs) p, h.col, length-take n bs, length-drop n bs);
 }
-
--- what a slice from n on is
-pub rest_from : (bs : List ℕ) (n : ℕ) → take (length bs - n) (drop n bs) ≡ drop n bs
-rest_from bs n = ap (λ m. take m (drop n bs)) (sym (length-drop n bs)) ∙ take-length (drop n bs)
 
 -- gaps
 

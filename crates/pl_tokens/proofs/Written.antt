@@ -1,5 +1,5 @@
 -- What is read as tokens can be written as tokens.
-use Rattle.std.proofs.Common.{◌≡◌, ℕ, pos, suc, ◌+◌, ◌-◌, ◌*◌, ◌/◌, ◌^◌, ◌<◌, Bool, true, false, cond, ◌&&◌, ◌||◌, List, [], ◌∷◌, ◌++◌, length, take, drop, refl, ap, ap₂, ◌∙◌, arith}
+use Rattle.std.proofs.Common.{◌≡◌, ℕ, pos, suc, ◌+◌, ◌-◌, ◌*◌, ◌/◌, ◌^◌, ◌<◌, Bool, true, false, cond, ◌&&◌, ◌||◌, List, [], ◌∷◌, ◌++◌, length, take, drop, refl, ap, ap₂, ◌∙◌, arith, lt-ltb}
 use Rattle.std.specs.Prelude.{◌==◌, not, nat_lt, nat_le, codes, bytes_eq}
 use Rattle.std.specs.List.{list_all}
 use Rattle.std.specs.Str.Parse.{digits_value}
@@ -32,9 +32,6 @@ one_written c =
 two_written : (c : ℕ) → is_written (two_token c) ≡ true
 two_written c = choose (c == 60) (t.Operator LessEqual) _ refl (choose (c == 61) (t.Operator Equal) _ refl (choose (c == 62) (t.Operator GreaterEqual) (t.Operator NotEqual) refl refl))
 
-below : (a b : ℕ) → a < b → nat_lt a b ≡ true
-below a b h = grind (arith, nat_tests)
-
 not_above : (a b : ℕ) → nat_lt b a ≡ false → nat_le a b ≡ true
 not_above a b h = grind (arith, nat_tests)
 
@@ -42,7 +39,7 @@ word_written : (c : ℕ) (cs : List ℕ) → starts_word c ≡ true → list_all
 word_written c cs h k few = by_tests (bytes_eq (c ∷ cs) (codes "pipeline")) (bytes_eq (c ∷ cs) (codes "let")) (bytes_eq (c ∷ cs) (codes "column")) (bytes_eq (c ∷ cs) (codes "screen")) refl
   where
     front : (starts_word c && (list_all is_word_byte cs && nat_lt (length cs) 32)) ≡ true
-    front = ap₂ (λ x y. x && y) h (ap₂ (λ x y. x && y) k (below (length cs) 32 few))
+    front = ap₂ (λ x y. x && y) h (ap₂ (λ x y. x && y) k (lt-ltb (length cs) 32 few))
 
     by_tests : (p l o s : Bool) → is_keyword (c ∷ cs) ≡ (p || (l || (o || s))) → is_written (cond p t.PipelineWord (cond l t.LetWord (cond o t.ColumnWord (cond s t.ScreenWord (t.Name (c ∷ cs)))))) ≡ true
     by_tests true l o s e = refl

@@ -1,12 +1,11 @@
 -- What a cross-section gives is a cell.
-use Rattle.std.proofs.Common.{◌≡◌, ℕ, zero, suc, ◌+◌, ◌-◌, ◌*◌, ◌/◌, ◌≤◌, ◌==◌, Bool, true, false, ◌&&◌, ◌||◌, if◌then◌else◌, nat_le, nat_lt, ℤ, pos, negsuc, ◌-ℤ◌, List, [], ◌∷◌, length, filter, refl, ap, arith, inl, inr, unsigned_abs}
+use Rattle.std.proofs.Common.{◌≡◌, ℕ, suc, ◌+◌, ◌-◌, ◌*◌, ◌/◌, ◌≤◌, ◌==◌, Bool, true, false, ◌&&◌, if◌then◌else◌, nat_lt, ℤ, pos, List, [], ◌∷◌, length, filter, refl, arith, inl, inr}
 use Rattle.std.specs.List.{list_any, range_with_len}
 use Rattle.std.specs.Ordering.{int_eq}
-use Rattle.std.proofs.lemmas.Bool.Decides.{nat_tests}
 use Rattle.std.proofs.lemmas.List.{length-map}
 use Rattle.std.proofs.lemmas.List.Sums.{count_by-le-length, length-filter}
-use Rattle.pl_spec.specs.Rounding.{MISSING, MILLION, LIMIT, IsCell, is_missing, to_cell, quot, sub}
-use Rattle.pl_spec.specs.Formula.{truth}
+use Rattle.std.proofs.lemmas.List.FromFn.{length-range_with_len}
+use Rattle.pl_spec.specs.Rounding.{MISSING, MILLION, LIMIT, IsCell}
 use Rattle.pl_spec.specs.Kind.{CrossKind}
 use Rattle.pl_spec.specs.Kind.CrossKind.{Rank, Demean, ZScore, Quantiles, Top, Bottom, PercentileBetween, PeerCount}
 use Rattle.pl_spec.specs.declared.RankMethod.{RankMethod}
@@ -14,35 +13,10 @@ use Rattle.pl_spec.specs.declared.RankMethod.TheVariants.{Ordinal, Min, Max, Den
 use Rattle.pl_spec.specs.declared.RankOrder.{RankOrder}
 use Rattle.pl_spec.specs.Cross.{Entry, values, precedes, preceding, same, earlier_same, distinct_values, rank, bin_of, cross, counts_at, entries_for, at}
 use Rattle.pl_spec.specs.Value.{is_cross_filter}
+use Rattle.pl_spec.proofs.Cells.{truth-cell, chosen-has, quot-cell, sub-cell}
 use Rattle.pl_cross.specs.Section.{IsRight}
 use Rattle.pl_cross.specs.Listing.{labels_for}
 use Rattle.pl_cross.specs.Arrays.{section_at, empty_number}
-
-chosen-has : (P : ℤ → Type 0) (b : Bool) (x y : ℤ) → P x → P y → P (if b then x else y)
-chosen-has P true x y p q = p
-chosen-has P false x y p q = q
-
-tested-cell : (b : Bool) (v : ℤ) → nat_le (unsigned_abs v) LIMIT ≡ b → IsCell (if b then v else MISSING)
-tested-cell true v e = inr (grind (arith, nat_tests))
-tested-cell false v e = inl refl
-
-to_cell-cell : (v : ℤ) → IsCell (to_cell v)
-unfolding to_cell
-to_cell-cell v = tested-cell (nat_le (unsigned_abs v) LIMIT) v refl
-
-quot-cell : (a b : ℤ) → IsCell (quot a b)
-unfolding quot
-quot-cell a (pos zero) = inl refl
-quot-cell a (pos (suc b)) = to_cell-cell _
-quot-cell a (negsuc b) = to_cell-cell _
-
-sub-cell : (x y : ℤ) → IsCell (sub x y)
-unfolding sub
-sub-cell x y = chosen-has IsCell (is_missing x || is_missing y) MISSING (to_cell (x -ℤ y)) (inl refl) (to_cell-cell _)
-
-truth-cell : (b : Bool) → IsCell (truth b)
-truth-cell true = let l : 1 ≤ LIMIT = omega arith in inr l
-truth-cell false = let l : 0 ≤ LIMIT = omega arith in inr l
 
 small-cell : (n : ℕ) → n ≤ LIMIT → IsCell (pos n)
 small-cell n h = inr h
@@ -54,10 +28,6 @@ distinct-few (v ∷ vs) = here (list_any (int_eq v) vs) (distinct-few vs)
     here : (b : Bool) → length (distinct_values vs) ≤ length vs → length (if b then distinct_values vs else v ∷ distinct_values vs) ≤ suc (length vs)
     here true h = omega arith
     here false h = omega arith
-
-range-long : (low n : ℕ) → length (range_with_len low n) ≡ n
-range-long low zero = refl
-range-long low (suc n) = ap suc (range-long (low + 1) n)
 
 module _ (list : List Entry) (a : ℕ) (x : ℤ) (few : length list ≤ 8000) where
   long : length (values list) ≡ length list
@@ -92,7 +62,7 @@ module _ (list : List Entry) (a : ℕ) (x : ℤ) (few : length list ≤ 8000) wh
   bin-cell : (bins : ℕ) → bins ≤ 100 → IsCell (pos (bin_of bins (values list) x))
   bin-cell bins h =
       let c : bin_of bins (values list) x ≤ length (range_with_len 1 (bins - 1)) = count_by-le-length _ (range_with_len 1 (bins - 1)) in
-      let r = range-long 1 (bins - 1) in
+      let r = length-range_with_len 1 (bins - 1) in
       let l : bin_of bins (values list) x ≤ LIMIT = omega arith in
       small-cell _ l
 
@@ -115,7 +85,7 @@ entries-few vs keep labels i =
     let m = length-map (filter (counts_at vs keep labels i) (range_with_len 0 (length vs))) (λ j. (let e : Entry = (j, at vs j) in e)) in
     let f = length-filter (counts_at vs keep labels i) (range_with_len 0 (length vs)) in
     let c = count_by-le-length (counts_at vs keep labels i) (range_with_len 0 (length vs)) in
-    let r = range-long 0 (length vs) in
+    let r = length-range_with_len 0 (length vs) in
     omega (arith, m, f, c, r)
 
 pub section-is-cell : (k : CrossKind) (vs keep : List ℤ) (labels : _) (i : ℕ) → IsRight k → length vs ≤ 8000 → IsCell (section_at k vs keep labels i)

@@ -1,5 +1,5 @@
 -- Cross-sections.
-use Rattle.std.proofs.Common.{◌≡◌, ◌⊎◌, ℕ, ◌<◌, Bool, true, false, ◌&&◌, ℤ, pos, List, Option, Some, None, length, refl, sym, ◌∙◌, ap, arith, slice_get, subst, inl, inr}
+use Rattle.std.proofs.Common.{◌≡◌, ◌⊎◌, ℕ, ◌<◌, true, false, ◌&&◌, ℤ, pos, List, Option, Some, None, length, refl, sym, ◌∙◌, ap, arith, slice_get, subst, inl, inr}
 use Rattle.std.proofs.lemmas.List.{get_or_default}
 use Rattle.pl_spec.specs.Rounding.{MISSING}
 use Rattle.pl_spec.specs.World.{World, exists}
@@ -31,10 +31,6 @@ use Rattle.pl_values.proofs.Cells.{keeps-is}
 places-of : (k : Kind) (f : CrossKind) → k ≡ Cross f → places k ≡ cross_places f
 unfolding places
 places-of k f e = rw e refl
-
-abbrev is_peers : CrossKind → Bool
-is_peers PeerCount = true
-is_peers k = false
 
 abbrev first_place : CrossKind → Place
 first_place PeerCount = Classifier

@@ -4,7 +4,7 @@ use Rattle.pl_spec.specs.declared.Frequency.{Frequency}
 use Rattle.pl_spec.specs.World.{World, exists}
 use Rattle.pl_spec.specs.Periods.{period_start}
 use Rattle.pl_spec.specs.Kind.{Kind}
-use Rattle.pl_spec.specs.Kind.Kind.{Constant, Downsample}
+use Rattle.pl_spec.specs.Kind.Kind.{Downsample}
 use Rattle.pl_spec.specs.Term.{Node, Input, input_tree, trees}
 use Rattle.pl_spec.specs.Term.Input.{BarColumn, TermInput}
 use Rattle.pl_spec.specs.Text.{kind_at}
@@ -17,11 +17,7 @@ use Rattle.pl_terms.specs.Checked.{IsChecked}
 use Rattle.pl_terms.specs.Sorts.{Sort, AnyTerm, sort_of, sort_at, is_downsampled, first_term, places, fits, takes_sort}
 use Rattle.pl_terms.proofs.TermSorts.{kind-own, sort-input, sorted-there}
 use Rattle.pl_values.proofs.Typed.{has-input}
-
-frequency-in : (k : Kind) → is_downsampled k ≡ true → (f : Frequency) × (k ≡ Downsample f)
-frequency-in (Downsample f) h = (f, refl)
-frequency-in (Constant c) h = absurd (let bad : false ≡ true = h in cc)
-frequency-in k h = absurd (let bad : false ≡ true = h in cc)
+use Rattle.pl_values.proofs.KindFamilies.{downsampled_kind}
 
 any-place : (k : Kind) (f : Frequency) → k ≡ Downsample f → slice_get (places k) 0 ≡ Some AnyTerm
 unfolding places
@@ -31,7 +27,7 @@ any-sort : (o : Option Sort) → takes_sort AnyTerm o ≡ true → (x : Sort) ×
 any-sort (Some x) h = (x, refl)
 any-sort None h = absurd (let bad : false ≡ true = h in cc)
 
-first-of : (is : List Input) (u : ℕ) → slice_get is 0 ≡ Some (TermInput u) → first_term is ≡ Some u
+pub first-of : (is : List Input) (u : ℕ) → slice_get is 0 ≡ Some (TermInput u) → first_term is ≡ Some u
 first-of [] u e = absurd (let bad : None ≡ Some (TermInput u) = e in cc)
 first-of (i ∷ is) u e = let same : i ≡ TermInput u = cc in ap (λ x. first_term (x ∷ is)) same
 
@@ -47,7 +43,7 @@ module _ (p : Pipeline) (ok : IsChecked p) where
 
   pub over : (t : ℕ) (m : Node) → slice_get p.graph t ≡ Some m → is_downsampled m.kind ≡ true → IsOver t m
   over t m e h =
-      let k = frequency-in m.kind h in
+      let k = downsampled_kind m.kind h in
       let x = has-input p.graph (places m.kind) m.inputs 0 AnyTerm (ok.nodes t m e).inputs (any-place m.kind k.0 k.1) in
       here k.0 k.1 x.0 x.1 x.2
     where

@@ -1,5 +1,5 @@
 -- A filter is worth 0 or 1.
-use Rattle.std.proofs.Common.{◌≡◌, ℕ, Bool, true, false, if◌then◌else◌, ℤ, pos, List, [], Some, refl, ◌∙◌, slice_get, ◌==◌, inl, inr, ◌&&◌}
+use Rattle.std.proofs.Common.{◌≡◌, ℕ, Bool, true, false, if◌then◌else◌, ℤ, pos, List, [], Some, refl, ◌∙◌, slice_get, ◌==◌, ◌&&◌}
 use Rattle.std.specs.List.{list_any}
 use Rattle.pl_spec.specs.World.{World, exists}
 use Rattle.pl_spec.specs.Kind.{Kind, WindowKind, PointKind, LabelKind, CrossKind}
@@ -22,6 +22,7 @@ use Rattle.pl_cross.specs.Arrays.{sid_in}
 use Rattle.pl_values.specs.Arrays.{cell_of}
 use Rattle.pl_values.specs.Laws.{FilterCells}
 use Rattle.pl_values.proofs.Downsampled.{value-node, values-of-sort}
+use Rattle.pl_pointwise.proofs.ResultLemmas.{truth-flag}
 
 abbrev IsTruth : Value → Type 0
 IsTruth v = (b : Bool) × (v ≡ Number (truth b))
@@ -57,9 +58,6 @@ point_truth (NumberIsNot n) x y z e = (_, refl)
 either_truth : (b : Bool) (v u : Value) → IsTruth v → IsTruth u → IsTruth (if b then v else u)
 either_truth true v u h k = h
 either_truth false v u h k = k
-
-none_truth : (v : Value) → v ≡ Number (pos 0) → IsTruth v
-none_truth v e = (false, e)
 
 cross_truth : (k : CrossKind) (list : _) (a : ℕ) (x : ℤ) → cross_sort k ≡ Filters → IsTruth (Number (cross k list a x)) × IsTruth (empty (Cross k))
 unfolding cross
@@ -122,12 +120,8 @@ over_truth (Downsample f) i h = absurd (let bad : Factors ≡ Filters = h in cc)
 over_truth (Constant c) i h = empty_truth (Constant c) h
 over_truth k i h = empty_truth k h
 
-truth_flag : (b : Bool) → IsFlag (truth b)
-truth_flag true = inr refl
-truth_flag false = inl refl
-
 value_flag : (texts : List (List ℕ)) (v : Value) → IsTruth v → IsFlag (in_array texts v)
-value_flag texts v t = let e = t.1 in rw e (truth_flag t.0)
+value_flag texts v t = let e = t.1 in rw e (truth-flag t.0)
 
 node_truth : (w : World) (p : Pipeline) (ok : IsChecked p) (t : ℕ) (n : Node) → slice_get p.graph t ≡ Some n → sort_of n.kind ≡ Filters → (a : ℕ) (d : ℤ) → IsTruth (value_of w p t a d)
 node_truth w p ok t n is s a d =

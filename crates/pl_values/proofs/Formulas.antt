@@ -3,7 +3,7 @@ use Rattle.std.proofs.Common.{◌≡◌, ℕ, zero, suc, ◌+◌, ◌-◌, ◌<�
 use Rattle.std.specs.List.{list_all}
 use Rattle.std.specs.Int.RustNames.{int_lt}
 use Rattle.std.proofs.lemmas.Int.{ints}
-use Rattle.std.proofs.lemmas.Bool.{and_parts}
+use Rattle.std.proofs.lemmas.Bool.{and_parts, and_from}
 use Rattle.std.proofs.lemmas.Bool.Decides.{nat_tests}
 use Rattle.pl_spec.specs.Rounding.{MILLION, IsCell}
 use Rattle.pl_spec.specs.World.{World}
@@ -17,7 +17,7 @@ use Rattle.pl_spec.specs.Term.Input.{BarColumn, TermInput}
 use Rattle.pl_spec.specs.Value.{number_of, window_of, step}
 use Rattle.pl_spec.specs.NodeValue.{input_part}
 use Rattle.pl_spec.specs.Table.{Pipeline, value_of}
-use Rattle.pl_spec.proofs.Windows.{before-pos}
+use Rattle.pl_spec.proofs.Windows.{before-pos, map-downward}
 use Rattle.pl_terms.specs.Checked.{IsChecked}
 use Rattle.pl_terms.specs.Sorts.{Sort, Factors, Filters, Place, Own, Bar, Series, Filter, sort_at, places, window_places, window_fits, fits, all_fit, takes_sort, has_window, has_parameters, is_limited}
 use Rattle.pl_lanes.specs.Flags.{IsFlag}
@@ -31,16 +31,9 @@ use Rattle.pl_values.proofs.Typed.{fit-at, has-input, filter-sort}
 use Rattle.pl_values.proofs.Numbers.{plain_sort, plain-number, IsNumberedTerm}
 use Rattle.pl_values.proofs.Cells.{gated, cell-number}
 use Rattle.pl_values.proofs.Flags.{filter-cell}
-use Rattle.pl_values.proofs.Operations.{all-at, both-true, limited-cell}
+use Rattle.pl_values.proofs.Operations.{all-at, limited-cell}
 
 -- ---- lists over the numbers below one, the greatest first
-
-map-below : {X : Type 0} (f g : ℕ → X) (size : ℕ) → ((n : ℕ) → n < size → f n ≡ g n) → map f (downward size) ≡ map g (downward size)
-map-below f g zero h = refl
-map-below f g (suc size) h =
-    let front : f size ≡ g size = h size (omega arith) in
-    let rest : map f (downward size) ≡ map g (downward size) = map-below f g size (λ n l. h n (omega arith)) in
-    rw (front, rest) refl
 
 pub length-below : {X : Type 0} (f : ℕ → X) (size : ℕ) → length (map f (downward size)) ≡ size
 length-below f zero = refl
@@ -67,7 +60,7 @@ pub windows-plain : (f : WindowKind) → list_all window_place (window_places f)
 windows-plain Latest = refl
 windows-plain f = refl
 
-first-place : (f : WindowKind) → (q : Place) × (slice_get (window_places f) 0 ≡ Some q)
+pub first-place : (f : WindowKind) → (q : Place) × (slice_get (window_places f) 0 ≡ Some q)
 first-place Latest = (_, refl)
 first-place f = (_, refl)
 
@@ -116,14 +109,14 @@ module _ (w : World) (p : Pipeline) (sids : List ℕ) (ok : IsChecked p) (k : �
   pub term-numbered : (j t : ℕ) → slice_get n.inputs j ≡ Some (TermInput t) → IsNumberedTerm w p ok t
   term-numbered j t h =
       let q = fit-at p.graph (window_places f) n.inputs j (TermInput t) fit h in
-      plain-number w p ok t (sort_at p.graph t) refl (takes-plain q.0 (sort_at p.graph t) (both-true (window_place q.0) _ (all-at window_place (window_places f) j q.0 (windows-plain f) q.1) q.2))
+      plain-number w p ok t (sort_at p.graph t) refl (takes-plain q.0 (sort_at p.graph t) (and_from (window_place q.0) _ (all-at window_place (window_places f) j q.0 (windows-plain f) q.1) q.2))
 
   module _ (i s : ℕ) (early : n.window ≤ s + 1) where
     window-same : (j : ℕ) (o : Option Input) → slice_get n.inputs j ≡ o → window_of w n.window (input_part w p.names p.graph o) (sid_in sids i) (pos s) ≡ input_window w p sids n.window o i s
     window-same j None h = refl
     window-same j (Some (BarColumn c)) h = refl
     window-same j (Some (TermInput t)) h =
-        map-below (λ m. number_of (value_of w p t (sid_in sids i) (before (pos s) m))) (λ m. cell_of w p sids t i (s - m)) n.window
+        map-downward (λ m. number_of (value_of w p t (sid_in sids i) (before (pos s) m))) (λ m. cell_of w p sids t i (s - m)) n.window
         (λ m l. ap (λ d. number_of (value_of w p t (sid_in sids i) d)) (before-pos s m (omega arith)) ∙ cell-number w p sids ok t (term-numbered j t h) i (s - m))
 
     window-long : (o : Option Input) → length (input_window w p sids n.window o i s) ≤ n.window

@@ -5,11 +5,11 @@ use Rattle.std.proofs.lemmas.List.Quantifiers.{position-Some}
 use Rattle.pl_spec.specs.Rounding.{MISSING}
 use Rattle.pl_spec.specs.World.{is_label_of}
 use Rattle.pl_spec.specs.Parts.{ColumnLabel}
-use Rattle.pl_spec.proofs.Members.{In, in-contains}
+use Rattle.pl_spec.proofs.Members.{In, in-contains, map-in}
 use Rattle.pl_spec.proofs.Places.{nowhere}
 use Rattle.pl_assets.specs.Labels.{label_on, by_column, names_of}
 use Rattle.pl_values.specs.Families.{label_code, code_cell}
-use Rattle.pl_values.proofs.Texts.{map-in, seen-in}
+use Rattle.pl_values.proofs.Texts.{seen-in}
 
 -- a name that no row has
 unnamed : (name : List ℕ) (col : ℕ) (day : ℤ) (rows : List ColumnLabel) → ((r : ColumnLabel) → In r rows → bytes_eq r.name name ≡ false)

@@ -19,11 +19,8 @@ use Rattle.pl_terms.specs.Checked.{IsChecked}
 use Rattle.pl_terms.specs.Sorts.{Sort, Factors, Filters, Labels, Numbers, sort_of, sort_at, window_sort, point_sort, cross_sort, is_downsampled}
 use Rattle.pl_cross.specs.Arrays.{HasTexts}
 use Rattle.pl_cross.proofs.LabelCodes.{labels-coded}
-use Rattle.pl_cross.proofs.Codes.{IsCoded}
+use Rattle.pl_cross.proofs.Codes.{IsCoded, IsNumber}
 use Rattle.pl_values.proofs.Downsampled.{value-node, values-of-sort}
-
-abbrev pub IsNumber : Value → Type 0
-IsNumber v = (x : ℤ) × (v ≡ Number x)
 
 -- an empty value is a number
 pub empty_is : (k : Kind) → empty k ≡ Number (number_of (empty k))

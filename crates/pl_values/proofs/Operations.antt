@@ -1,8 +1,8 @@
 -- Operations on the values of one place.
-use Rattle.std.proofs.Common.{◌≡◌, ℕ, zero, suc, ◌<◌, ◌≤◌, Bool, true, false, ◌&&◌, if◌then◌else◌, ℤ, pos, List, [], ◌∷◌, Option, Some, None, length, refl, sym, ◌∙◌, ap, arith, slice_get, get_or, nat_lt, All, subst, inr, unsigned_abs}
+use Rattle.std.proofs.Common.{◌≡◌, ℕ, zero, suc, ◌<◌, ◌≤◌, Bool, true, false, ◌&&◌, if◌then◌else◌, ℤ, pos, List, [], ◌∷◌, Option, Some, length, refl, sym, ◌∙◌, ap, arith, slice_get, get_or, nat_lt, All, subst, inr, unsigned_abs}
 use Rattle.std.specs.Int.RustNames.{int_le}
 use Rattle.std.proofs.lemmas.Bool.Decides.{nat_tests}
-use Rattle.std.proofs.lemmas.Bool.{and_parts}
+use Rattle.std.proofs.lemmas.Bool.{and_parts, and_from}
 use Rattle.std.specs.List.{list_all}
 use Rattle.std.proofs.lemmas.List.{get_or_default}
 use Rattle.pl_spec.specs.Rounding.{MISSING, LIMIT, IsCell}
@@ -91,10 +91,10 @@ term_place FactorOrClassifier = true
 term_place NumberedClassifier = true
 term_place q = false
 
-pub all-at : (t : Place → Bool) (ps : List Place) (j : ℕ) (q : Place) → list_all t ps ≡ true → slice_get ps j ≡ Some q → t q ≡ true
-all-at t [] j q h e = absurd (let bad : None ≡ Some q = e in cc)
-all-at t (r ∷ ps) zero q h e = let same : r ≡ q = cc in ap t (sym same) ∙ (and_parts (t r) (list_all t ps) h).0
-all-at t (r ∷ ps) (suc j) q h e = all-at t ps j q (and_parts (t r) (list_all t ps) h).1 e
+pub all-at : {X : Type 0} (f : X → Bool) (xs : List X) (i : ℕ) (x : X) → list_all f xs ≡ true → slice_get xs i ≡ Some x → f x ≡ true
+all-at f [] i x h e = cc
+all-at f (y ∷ ys) zero x h e = let same : y ≡ x = cc in ap f (sym same) ∙ (and_parts (f y) (list_all f ys) h).0
+all-at f (y ∷ ys) (suc i) x h e = all-at f ys i x (and_parts (f y) (list_all f ys) h).1 e
 
 points-plain : (f : PointKind) → is_asked f ≡ false → list_all plain_place (point_places f) ≡ true
 points-plain IsNull h = absurd (let bad : true ≡ false = h in cc)
@@ -114,10 +114,6 @@ takes-plain q o h = absurd (let bad : false ≡ true = h in cc)
 takes-no-bar : (q : Place) (c : _) → (term_place q && takes_column q c) ≡ true → ⊥
 takes-no-bar Factor c h = let bad : false ≡ true = h in absurd (let worse : false ≡ true = bad in cc)
 takes-no-bar q c h = absurd (let bad : false ≡ true = h in cc)
-
-pub both-true : (a b : Bool) → a ≡ true → b ≡ true → (a && b) ≡ true
-both-true true b p q = q
-both-true false b p q = p
 
 place-at : (ps : List Place) (j : ℕ) → nat_lt j (length ps) ≡ true → (q : Place) × (slice_get ps j ≡ Some q)
 place-at [] j h = let l : j < 0 = grind (arith, nat_tests) in absurd (omega (arith, l))
@@ -143,7 +139,7 @@ module _ (w : World) (p : Pipeline) (sids : List ℕ) (ok : IsChecked p) (k : �
     where
       here : (x : Input) → slice_get n.inputs j ≡ Some x → fits p.graph q x ≡ true → (t : ℕ) × (slice_get n.inputs j ≡ Some (TermInput t)) × (takes_sort q (sort_at p.graph t) ≡ true)
       here (TermInput t) g l = (t, g, l)
-      here (BarColumn c) g l = absurd (takes-no-bar q c (both-true (term_place q) _ (all-at term_place (point_places f) j q (points-terms f) h) l))
+      here (BarColumn c) g l = absurd (takes-no-bar q c (and_from (term_place q) _ (all-at term_place (point_places f) j q (points-terms f) h) l))
 
   row-is : (j t s size : ℕ) (row : List ℤ) → slice_get n.inputs j ≡ Some (TermInput t) → IsInputRow w p sids size (slice_get n.inputs j) s row → Fills (λ i. cell_of w p sids t i s) size row
   row-is j t s size row g r = rw g at r
@@ -160,7 +156,7 @@ module _ (w : World) (p : Pipeline) (sids : List ℕ) (ok : IsChecked p) (k : �
             let q = place-at (point_places f) j g in
             let x = term-at j q.0 q.1 in
             let plain = all-at plain_place (point_places f) j q.0 (points-plain f h) q.1 in
-            let numbered = plain-number w p ok x.0 (sort_at p.graph x.0) refl (takes-plain q.0 (sort_at p.graph x.0) (both-true _ _ plain x.2)) in
+            let numbered = plain-number w p ok x.0 (sort_at p.graph x.0) refl (takes-plain q.0 (sort_at p.graph x.0) (and_from _ _ plain x.2)) in
             let row_cell : get_or row i (pos 0) ≡ cell_of w p sids x.0 i s = (row-is j x.0 s size row x.1 r).each i inside in
             let value_cell : number_of (now (input_part w p.names p.graph (slice_get n.inputs j)) (sid_in sids i) (pos s)) ≡ cell_of w p sids x.0 i s =
             ap (λ (o : Option Input). number_of (now (input_part w p.names p.graph o) (sid_in sids i) (pos s))) x.1 ∙ cell-number w p sids ok x.0 numbered i s in

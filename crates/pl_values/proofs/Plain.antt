@@ -1,11 +1,10 @@
 -- Constants, lists of sids, labels and tests of labels.
-use Rattle.std.proofs.Common.{◌≡◌, ℕ, ◌<◌, ◌≤◌, true, false, ℤ, pos, List, [], Option, Some, None, length, refl, sym, ◌∙◌, ap, arith, slice_get, get_or, inl, inr, nat_lt, position, unwrap_or, bytes_eq, Contains, unsigned_abs}
+use Rattle.std.proofs.Common.{◌≡◌, ℕ, ◌<◌, true, false, ℤ, pos, List, [], Option, Some, None, length, refl, sym, ◌∙◌, ap, arith, slice_get, get_or, inl, inr, nat_lt, position, unwrap_or, bytes_eq, Contains}
 use Rattle.std.proofs.Common.{true≢false}
 use Rattle.std.proofs.lemmas.Bool.Decides.{nat_tests}
 use Rattle.std.proofs.lemmas.Slice.Eq.{bytes_eq-Decides}
 use Rattle.std.proofs.lemmas.List.Quantifiers.{position-Some}
 use Rattle.pl_spec.proofs.Places.{nowhere}
-use Rattle.pl_spec.specs.Rounding.{LIMIT, IsCell}
 use Rattle.pl_spec.specs.World.{label_at}
 use Rattle.pl_spec.specs.Kind.{Kind, LabelKind}
 use Rattle.pl_spec.specs.declared.Frequency.{Frequency}
@@ -27,12 +26,10 @@ use Rattle.pl_values.proofs.Typed.{has-input, label-sort}
 use Rattle.pl_values.proofs.Downsampled.{over}
 use Rattle.pl_values.proofs.Numbers.{coded-sort}
 use Rattle.pl_values.proofs.Cells.{gated, ungated}
+use Rattle.pl_values.proofs.Operations.{limited-cell}
 
 pub unkept-cell : UnkeptCells
 unkept-cell w p sids k n i s own h = ungated w p sids own.checked k n own.node i s h
-
-limited-cell : (x : ℤ) → is_limited x ≡ true → IsCell x
-limited-cell x h = let l : unsigned_abs x ≤ LIMIT = grind (arith, nat_tests) in inr l
 
 constant-limited : (k : Kind) (w names : ℕ) (value : ℤ) → k ≡ Constant value → has_parameters k w names ≡ true → is_limited value ≡ true
 unfolding has_parameters
@@ -61,17 +58,17 @@ label-cell w p sids k n i s own name e = (
 -- ---- tests of labels
 
 -- a text of the list has a code, after which it stands
-abbrev HasPlace : List (List ℕ) → List ℕ → Option ℕ → Type 0
+abbrev pub HasPlace : List (List ℕ) → List ℕ → Option ℕ → Type 0
 HasPlace texts t o = (unwrap_or o 0 < length texts) × (get_or texts (unwrap_or o 0) [] ≡ t)
 
-placed : (texts : List (List ℕ)) (t : List ℕ) → Contains texts t → (o : Option ℕ) → position (bytes_eq t) texts ≡ o → HasPlace texts t o
+pub placed : (texts : List (List ℕ)) (t : List ℕ) → Contains texts t → (o : Option ℕ) → position (bytes_eq t) texts ≡ o → HasPlace texts t o
 placed texts t own None e = absurd (true≢false (sym ((bytes_eq-Decides t (get_or texts own.0 t)).1 (sym own.2)) ∙ nowhere (bytes_eq t) texts e own.0 t own.1))
 placed texts t own (Some n) e = let it = position-Some (bytes_eq t) texts n [] e in (it.0, sym ((bytes_eq-Decides t (get_or texts n [])).0 it.1))
 
 has-place : (texts : List (List ℕ)) (t : List ℕ) → Contains texts t → HasPlace texts t (position (bytes_eq t) texts)
 has-place texts t own = placed texts t own (position (bytes_eq t) texts) refl
 
-coded-code : (texts : List (List ℕ)) (v : Value) → IsCoded texts v → IsCode texts (in_array texts v)
+pub coded-code : (texts : List (List ℕ)) (v : Value) → IsCoded texts v → IsCode texts (in_array texts v)
 coded-code texts v (inl e) = inl (ap (in_array texts) e)
 coded-code texts v (inr t) = inr (unwrap_or (position (bytes_eq t.0) texts) 0, ap (in_array texts) t.1, (has-place texts t.0 t.2).0)
 

@@ -1,31 +1,11 @@
 -- The texts of a table of labels.
-use Rattle.std.proofs.Common.{◌≡◌, ◌≢◌, ◌⊎◌, ℕ, Bool, true, false, not, List, [], ◌∷◌, map, filter, IfSome, refl, sym, ◌∙◌, ap, subst, inl, inr, bytes_eq, true≢false, Contains}
+use Rattle.std.proofs.Common.{◌≡◌, ◌≢◌, ◌⊎◌, ℕ, Bool, true, false, not, List, [], ◌∷◌, map, filter, IfSome, refl, sym, ◌∙◌, ap, subst, inl, inr, bytes_eq, Contains}
 use Rattle.std.proofs.lemmas.Slice.Eq.{bytes_eq-Decides}
 use Rattle.pl_spec.specs.World.{LabelRow, nonempty}
 use Rattle.pl_spec.specs.Parts.{ColumnLabel, label_of}
-use Rattle.pl_spec.proofs.Members.{In, in-contains, contains-in}
+use Rattle.pl_spec.proofs.Members.{In, in-contains, contains-in, in-map, filter-in}
 use Rattle.pl_assets.specs.Labels.{first_seen}
 use Rattle.pl_values.specs.Laws.{TextsHaveCodes}
-
-in-map : {A B : Type 0} (f : A → B) (xs : List A) (y : B) → In y (map f xs) → (x : A) × In x xs × (y ≡ f x)
-in-map f [] y i = absurd i
-in-map f (x ∷ xs) y (inl e) = (x, inl refl, e)
-in-map f (x ∷ xs) y (inr i) = let r = in-map f xs y i in (r.0, inr r.1, r.2)
-
-pub map-in : {A B : Type 0} (f : A → B) (xs : List A) (x : A) → In x xs → In (f x) (map f xs)
-map-in f [] x i = absurd i
-map-in f (y ∷ xs) x (inl e) = inl (ap f e)
-map-in f (y ∷ xs) x (inr i) = inr (map-in f xs x i)
-
-filter-in : {A : Type 0} (p : A → Bool) (xs : List A) (x : A) → In x xs → p x ≡ true → In x (filter p xs)
-filter-in p [] x i h = absurd i
-filter-in {A} p (y ∷ ys) x i h = here (p y) refl i (λ j. filter-in p ys x j h)
-  where
-    here : (b : Bool) → p y ≡ b → In x (y ∷ ys) → (In x ys → In x (filter p ys)) → In x (filter p (y ∷ ys))
-    here true e (inl g) more = rw e (inl g)
-    here true e (inr j) more = rw e (inr (more j))
-    here false e (inl g) more = absurd (true≢false (sym h ∙ ap p g ∙ e))
-    here false e (inr j) more = rw e (more j)
 
 -- a text is among those that each stand once
 pub seen-in : (xs : List (List ℕ)) (x : List ℕ) → In x xs → In x (first_seen xs)

@@ -1,5 +1,6 @@
 -- From clap's answer to the parts.
 use Rattle.std.proofs.Common.{◌≡◌, ◌∙◌, ◌+◌, ◌<◌, ◌≤◌, inl, inr, ℕ, zero, suc, true, false, refl, sym, ap, subst, arith, List, [], ◌∷◌, ◌++◌, map, length, take, Option, Some, None, Result, Ok, Err, IfOk, slice_index_or}
+use Rattle.std.proofs.lemmas.List.{get_or_default, take_all}
 use Rattle.clap.specs.Words.{AddsArg, App, HasKind, HasMatchesOf, IsAmong, Kinds, Rule, app_of, fault_of, found_of, is_simple, is_simple_and_free, kind_of, matches_of, rows_of, rule_of, with_rule}
 use Rattle.clap.specs.declared.builder.arg.Arg.{Arg}
 use Rattle.clap.specs.declared.builder.command.Command.{Command}
@@ -28,27 +29,16 @@ app_more xs i x a b lt at is more =
     let next : i + 1 ≡ suc i = omega arith in
     more ∙ ap (λ (c : App). with_rule c (option_rule x)) is ∙ ap (λ rs. app_with (names_rule ∷ rs)) (take_more xs i x lt at) ∙ ap (λ n. app_with (names_rule ∷ map option_rule (take n xs))) (sym next)
 
-same_at : (xs : List OptionName) (i : ℕ) (d e : OptionName) → i < length xs → slice_index_or xs i d ≡ slice_index_or xs i e
-same_at [] i d e lt = absurd (omega arith)
-same_at (x ∷ xs) zero d e lt = refl
-same_at (x ∷ xs) (suc i) d e lt = same_at xs i d e (omega arith)
-
 pub app_next : (xs : List OptionName) (i : ℕ) (d : OptionName) (a b : App) → i < length xs → a ≡ app_with (names_rule ∷ map option_rule (take i xs))
     → b ≡ with_rule a (option_rule (slice_index_or xs i d)) → b ≡ app_with (names_rule ∷ map option_rule (take (i + 1) xs))
-app_next xs i d a b lt is more = app_more xs i (slice_index_or xs i d) a b lt (same_at xs i d (slice_index_or xs i d) lt) is more
+app_next xs i d a b lt is more = app_more xs i (slice_index_or xs i d) a b lt (get_or_default xs i d (slice_index_or xs i d) lt) is more
 
 pub adds_rule : (a b : Command) (x : Arg) (r : Rule) → AddsArg a x b → x.global ≡ false → rule_of x ≡ r → app_of b ≡ with_rule (app_of a) r
 adds_rule a b x r more local is = more.shape local ∙ ap (λ (q : Rule). with_rule (app_of a) q) is
 
-take_end : (xs : List OptionName) (i : ℕ) → length xs ≤ i → take i xs ≡ xs
-take_end [] zero h = refl
-take_end [] (suc i) h = refl
-take_end (x ∷ xs) zero h = absurd (omega arith)
-take_end (x ∷ xs) (suc i) h = ap (λ ys. x ∷ ys) (take_end xs i (omega arith))
-
 pub app_end : (xs : List OptionName) (i : ℕ) (a : App) → length xs ≤ i → a ≡ app_with (names_rule ∷ map option_rule (take i xs)) → a ≡ app_for xs
 unfolding app_for
-app_end xs i a h is = is ∙ ap (λ ys. app_with (names_rule ∷ map option_rule ys)) (take_end xs i h)
+app_end xs i a h is = is ∙ ap (λ ys. app_with (names_rule ∷ map option_rule ys)) (take_all i xs h)
 
 -- ---- clap's clauses at it
 

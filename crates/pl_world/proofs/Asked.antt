@@ -3,14 +3,12 @@ use Rattle.std.proofs.Common.{◌≡◌, ℕ, zero, suc, ◌+◌, ◌-◌, ◌<�
 use Rattle.std.specs.Int.{int_min}
 use Rattle.std.proofs.lemmas.Int.{ints, int_min_is}
 use Rattle.std.proofs.lemmas.Bool.Decides.{nat_tests}
-use Rattle.std.proofs.lemmas.List.{length-map}
 use Rattle.std.proofs.lemmas.Option.{slice_get-map}
 use Rattle.pl_spec.specs.Window.{before, downward}
 use Rattle.pl_spec.specs.Kind as kinds
 use Rattle.pl_spec.specs.Kind.{Kind}
 use Rattle.pl_spec.specs.Term as spec
 use Rattle.pl_spec.specs.Term.{Term, Graph, input_tree, number_tree, trees, term_at, IsGraph}
-use Rattle.pl_spec.specs.Term.Term.{absent, column, node}
 use Rattle.pl_spec.specs.Graph.{least_of, part_reach, reads_at, reach}
 use Rattle.pl_spec.proofs.Trees.{term_at-node}
 use Rattle.pl_spec.proofs.Unfolds.{past}
@@ -26,7 +24,7 @@ use Rattle.pl_terms.specs.Kinds.{kind_of}
 use Rattle.pl_terms.specs.Nodes.{node_of, graph_of, input_of, number_of}
 use Rattle.pl_terms.specs.Checked.{Parts, pipeline_of, IsChecked}
 use Rattle.pl_terms.specs.Sorts.{has_window, is_windowed}
-use Rattle.pl_values.proofs.Empties.{node-there}
+use Rattle.pl_terms.proofs.Graphs.{graph-long, graph-at}
 use Rattle.pl_world.specs.declared.world.World.{World}
 use Rattle.pl_world.specs.Evaluations.{IsAsked, IsAskedInput, IsAskedOption, as_input, above, above_option}
 
@@ -96,10 +94,6 @@ own-low : (days : List ℤ) (g : Graph) (u : ℕ) (m : spec.Node) (d : ℤ) → 
 unfolding reach
 own-low days g u m d ok e h = (least-low (reach_list days g m (reads_at days m.kind d) d) d (subst (λ x. pos 0 ≤ℤ reach days x d) (term_at-node g u m ok e) h)).0
 
-pub long-graph : (ns : List Node) → length (graph_of ns) ≡ length ns
-unfolding graph_of
-long-graph ns = length-map ns node_of
-
 pub inputs-at : (n : Node) (j : ℕ) → slice_get (node_of n).inputs j ≡ option_map input_of (slice_get n.inputs j)
 unfolding node_of
 inputs-at n j = slice_get-map input_of n.inputs j
@@ -123,7 +117,7 @@ module _ (w : World) (c : Parts) (ok : IsChecked (pipeline_of c)) (t session : �
   term-asked : (u size r : ℕ) → r ≤ session → u < length c.graph → pos 0 ≤ℤ part_reach (term_at (graph_of c.graph) u) (reach w.sessions.now (term_at (graph_of c.graph) u)) size (pos r) → AskedUp u size r
   unfolding AskedUp
   term-asked u size r up h low =
-      let m = has-node (graph_of c.graph) u (omega (arith, h, long-graph c.graph)) in
+      let m = has-node (graph_of c.graph) u (omega (arith, h, graph-long c.graph)) in
       let f = reach w.sessions.now (term_at (graph_of c.graph) u) in
       let all = least-low (map (λ i. f (before (pos r) i)) (downward size)) (pos r) (subst (λ x. pos 0 ≤ℤ x) (part-node (graph_of c.graph) u size m.0 f (pos r) ok.graph m.1) low) in
       let each : (n : ℕ) → n < size → pos 0 ≤ℤ f (before (pos r) n) = λ n l. below-low (λ i. f (before (pos r) i)) size n all.1 l in
@@ -159,7 +153,7 @@ module _ (w : World) (c : Parts) (ok : IsChecked (pipeline_of c)) (t session : �
 
   module _ (n : Node) (is : slice_get c.graph t ≡ Some n) where
     there : slice_get (graph_of c.graph) t ≡ Some (node_of n)
-    there = node-there c.graph t n is
+    there = graph-at c.graph t n is
 
     abbrev read_on : ℤ
     read_on = reads_at w.sessions.now (node_of n).kind (pos session)
@@ -187,7 +181,7 @@ module _ (w : World) (c : Parts) (ok : IsChecked (pipeline_of c)) (t session : �
     -- of a term no session before the first is asked for
     term-late : (j : ℕ) (u : TermId) (s : ℤ) → slice_get n.inputs j ≡ Some (input.Term u) → InputLow j s → pos 0 ≤ℤ s
     term-late j u s e low =
-        let m = has-node (graph_of c.graph) u.0 (omega (arith, term-below j u e, long-graph c.graph)) in
+        let m = has-node (graph_of c.graph) u.0 (omega (arith, term-below j u e, graph-long c.graph)) in
         let f = reach w.sessions.now (term_at (graph_of c.graph) u.0) in
         (least-low (map (λ i. f (before s i)) (downward n.window)) s (subst (λ x. pos 0 ≤ℤ x) (part-node (graph_of c.graph) u.0 n.window m.0 f s ok.graph m.1) (at-input j (Some (input.Term u)) s e low))).0
 

@@ -1,5 +1,5 @@
 -- What the calls of an evaluation give is the value of the term.
-use Rattle.std.proofs.Common.{◌≡◌, ℕ, ◌+◌, ◌<◌, ◌≤◌, Bool, true, false, ℤ, pos, List, [], ◌∷◌, length, get_or, Option, Some, None, option_map, slice_get, All, ◌⊎◌, inl, inr, Result, Ok, Err, OnOk, unwrap_or, refl, sym, ◌∙◌, ap, subst, arith}
+use Rattle.std.proofs.Common.{◌≡◌, ℕ, ◌+◌, ◌<◌, ◌≤◌, Bool, true, false, ℤ, pos, List, [], ◌∷◌, length, get_or, Option, Some, None, option_map, slice_get, All, ◌⊎◌, inl, inr, unwrap_or, refl, sym, ◌∙◌, ap, subst, arith}
 use Rattle.pl_spec.specs.Rounding.{IsCell}
 use Rattle.pl_spec.specs.World.{World as SpecWorld, exists}
 use Rattle.pl_spec.specs.Parts.{sid_at}
@@ -22,6 +22,7 @@ use Rattle.pl_terms.specs.Kinds.{kind_of}
 use Rattle.pl_terms.specs.Nodes.{node_of, graph_of, input_of, number_of}
 use Rattle.pl_terms.specs.Checked.{Parts, pipeline_of, IsChecked}
 use Rattle.pl_terms.specs.Sorts.{is_windowed}
+use Rattle.pl_terms.proofs.Graphs.{graph-at}
 use Rattle.pl_pointwise.specs.Operands.{IsOperation, AreOperands, operation}
 use Rattle.pl_cross.specs.Section.{is_section}
 use Rattle.pl_cross.specs.Arrays.{HasTexts}
@@ -29,7 +30,6 @@ use Rattle.pl_values.specs.Arrays.{cell_of, empty_cell, is_kept, chosen}
 use Rattle.pl_values.specs.Inputs.{input_window, AreWindows, IsInputRow, AreRows}
 use Rattle.pl_values.specs.Families.{windowed, TakesWindows, sid_flag, label_code, IsCode, code_flag, is_sids, is_point, is_label_test}
 use Rattle.pl_values.specs.Laws.{IsNode}
-use Rattle.pl_values.proofs.Empties.{node-there}
 use Rattle.pl_values.proofs.Given.{unkept-cell, constant-cell, window-cell, point-cell, point-operands, sid-cell, label-cell, label-test-cell, label-input, section-input, window-input, downsampled-cell, downsampled-input}
 use Rattle.pl_world.specs.declared.world.World.{World}
 use Rattle.pl_world.specs.Worlds.{world_of}
@@ -100,7 +100,7 @@ no_world = record { days = []; assets = []; labels = []; texts = []; bars = []; 
 
 module _ (c : Parts) (ok : IsChecked (pipeline_of c)) (t : ℕ) (n : Node) (is : slice_get c.graph t ≡ Some n) where
   there : slice_get (graph_of c.graph) t ≡ Some (node_of n)
-  there = node-there c.graph t n is
+  there = graph-at c.graph t n is
 
   -- the input of a cross-section, and that of a label's test
   pub section-term : is_section (kind_of n.kind) ≡ true → (u : TermId) × (slice_get n.inputs 0 ≡ Some (input.Term u))
@@ -132,7 +132,7 @@ module _ (c : Parts) (ok : IsChecked (pipeline_of c)) (t : ℕ) (n : Node) (is :
       here (Some (input.Column k)) y e asked = omega (arith, asked)
       here (Some (input.Term u)) y e asked = asked.0
 
-code-node : (ns : List Node) (t : ℕ) → t < length ns → (n : Node) × (slice_get ns t ≡ Some n)
+pub code-node : (ns : List Node) (t : ℕ) → t < length ns → (n : Node) × (slice_get ns t ≡ Some n)
 code-node ns t h = here (slice_get ns t) refl
   where
     here : (o : Option Node) → slice_get ns t ≡ o → (n : Node) × (slice_get ns t ≡ Some n)
@@ -287,10 +287,6 @@ pub lacks-value : (w : World) (c : Parts) (ok : IsChecked (pipeline_of c)) (t s 
 lacks-value w c ok t s a ns e h x =
     let n = code-node c.graph t h in
     ap (λ m. number_in (empty (sort_kind (term_at (graph_of m) t)))) e ∙ sym (cell-lacks w c ok t n.0 n.1 a s x)
-
-pub on-ok : {X E : Type 0} (r : Result X E) (P Q : Type 0) → (P → Q) → OnOk r P → OnOk r Q
-on-ok (Ok x) P Q f h = f h
-on-ok (Err e) P Q f h = h
 
 -- the sid of a column
 pub sid-of : (assets : List AssetRow) (col x : ℕ) → option_map sid_of (slice_get assets col) ≡ Some x → x ≡ sid_at assets col

@@ -1,5 +1,5 @@
 -- The world that parts make: its adjustments by sid, and its cells as they are seen.
-use Rattle.std.proofs.Common.{◌≡◌, ℕ, suc, ◌<◌, ◌==◌, Bool, true, false, IsTrue, ℤ, pos, ◌<ℤ◌, ◌≤ℤ◌, ◌⊎◌, inl, inr, List, [], ◌∷◌, map, filter, length, get_or, All, slice_get, Some, refl, sym, ◌∙◌, ap, arith}
+use Rattle.std.proofs.Common.{◌≡◌, ℕ, ◌<◌, false, IsTrue, ℤ, pos, ◌<ℤ◌, inl, inr, List, [], ◌∷◌, map, length, get_or, slice_get, Some, sym, ◌∙◌, ap, arith}
 use Rattle.std.specs.List.{AllPairs, Contains}
 use Rattle.std.proofs.lemmas.Bool.{cases_lt, true≢false}
 use Rattle.std.proofs.lemmas.Bool.Decides.{nat_tests}
@@ -10,14 +10,15 @@ use Rattle.pl_spec.specs.declared.BarRow.{BarRow}
 use Rattle.pl_spec.specs.declared.Column.{Column}
 use Rattle.pl_spec.specs.Lookups.{BarsOnce, LabelsOnce}
 use Rattle.pl_spec.specs.Parts as parts
-use Rattle.pl_spec.specs.Parts.{ColumnAdjustment, ColumnLabel, adjustment_of, bar_of, label_of, sid_at}
+use Rattle.pl_spec.specs.Parts.{ColumnAdjustment, ColumnLabel, bar_of, label_of, sid_at}
 use Rattle.pl_spec.specs.World as spec
-use Rattle.pl_spec.specs.World.{Event, IsWorld, events_of}
+use Rattle.pl_spec.specs.World.{IsWorld, events_of}
 use Rattle.pl_spec.specs.Window.{after_all, effects, effects_in, seen_cell}
+use Rattle.pl_spec.proofs.Columns.{sid-found, events-by-day, no_asset, sid_at-row}
 use Rattle.pl_calendar.specs.Days.{AreDays}
 use Rattle.pl_lifetimes.specs.Assets.{AreAssets}
 use Rattle.pl_assets.specs.Labels.{AreLabels, is_from}
-use Rattle.pl_lifetimes.proofs.Columns.{one_col, sid_there}
+use Rattle.pl_lifetimes.proofs.Columns.{one_col}
 use Rattle.pl_assets.proofs.LabelKeys.{parts_from}
 use Rattle.pl_bars.specs.Bars.{AreBars, cell_at, is_before}
 use Rattle.pl_bars.proofs.BarWorlds.{cells_raw}
@@ -26,16 +27,13 @@ use Rattle.pl_adjust.proofs.Sids.{column_events}
 use Rattle.pl_world.specs.declared.world.World.{World}
 use Rattle.pl_world.specs.Worlds.{world_of, AreMadeFor, IsMade, PartsMakeAWorld}
 
-blank : AssetRow
-blank = record { sid = 0; start = pos 0; end = pos 0 }
-
 module _ (w : World) (made : IsMade w) (assets : AreAssets w.assets.now) (col : ℕ) (inside : col < length w.assets.now) where
   -- the adjustments of the asset in a column
   pub events_of-at : events_of (world_of w) (sid_at w.assets.now col) ≡ events_at w.adjustments.now col
   events_of-at =
-      ap (events_of (world_of w)) (sid_there w.assets.now col blank inside)
+      ap (events_of (world_of w)) (sid_at-row w.assets.now col no_asset inside)
       ∙ column_events w.sessions.now w.assets.now w.labels.now.rows w.labels.now.texts w.bars.now w.adjustments.now assets.ascend made.adjustments_in
-      col (get_or w.assets.now col blank) (slice_get-get_or w.assets.now col blank inside)
+      col (get_or w.assets.now col no_asset) (slice_get-get_or w.assets.now col no_asset inside)
 
   pub effects-at : (c : Column) (s d : ℕ) (low high : ℤ) → slice_get w.sessions.now s ≡ Some low → slice_get w.sessions.now d ≡ Some high
       → effects (world_of w) (sid_at w.assets.now col) c (pos s) (pos d) ≡ effects_in c low low high (events_at w.adjustments.now col)
@@ -49,31 +47,6 @@ module _ (w : World) (made : IsMade w) (assets : AreAssets w.assets.now) (col : 
       ap (after_all _) (effects-at c s d low high at_s at_d)
       ∙ ap (λ x. after_all x (effects_in c low low high (events_at w.adjustments.now col)))
       (sym (cells_raw w.sessions.now w.assets.now w.labels.now.rows w.labels.now.texts w.bars.now w.adjustments.now assets.ascend made.bars_in col c s inside))
-
--- ---- the world is one
-
-abbrev events_by : List AssetRow → List ColumnAdjustment → ℕ → List Event
-events_by assets xs a = map (λ x. x.event) (filter (λ x. x.sid == a) (map (adjustment_of assets) xs))
-
--- a sid without an adjustment, or that of a column
-found : (assets : List AssetRow) (xs : List ColumnAdjustment) (a : ℕ) → All (λ x. x.col < length assets) xs
-    → (events_by assets xs a ≡ []) ⊎ ((col : ℕ) × (col < length assets) × (sid_at assets col ≡ a))
-found assets [] a all = inl refl
-found assets (x ∷ xs) a all = here (sid_at assets x.col == a) refl (found assets xs a (λ k d l. all (suc k) d (omega arith)))
-  where
-    here : (b : Bool) → (sid_at assets x.col == a) ≡ b → (events_by assets xs a ≡ []) ⊎ ((col : ℕ) × (col < length assets) × (sid_at assets col ≡ a))
-        → (events_by assets (x ∷ xs) a ≡ []) ⊎ ((col : ℕ) × (col < length assets) × (sid_at assets col ≡ a))
-    here true t rest = inr (x.col, all 0 x (omega arith), grind (arith, nat_tests))
-    here false t (inl none) = inl (rw t none)
-    here false t (inr col) = inr col
-
-by_day : (xs : List ColumnAdjustment) → AllPairs (λ x y. x.event.day ≤ℤ y.event.day) xs → AllPairs (λ e f. e.day ≤ℤ f.day) (map (λ (x : ColumnAdjustment). x.event) xs)
-by_day xs up i j d before within =
-    let e : ColumnAdjustment = record { col = 0; event = d } in
-    let long : length (map (λ (x : ColumnAdjustment). x.event) xs) ≡ length xs = length-map xs (λ x. x.event) in
-    let first : get_or (map (λ (x : ColumnAdjustment). x.event) xs) i d ≡ (get_or xs i e).event = get_or-map (λ x. x.event) xs i e d (omega arith) in
-    let second : get_or (map (λ (x : ColumnAdjustment). x.event) xs) j d ≡ (get_or xs j e).event = get_or-map (λ x. x.event) xs j e d (omega arith) in
-    rw (first, second) (up i j e before (omega arith))
 
 -- ---- each bar and each label row stands once
 
@@ -136,16 +109,16 @@ module _ (days : List ℤ) (assets : List AssetRow) (labels : List ColumnLabel) 
 
   events_in : (col : ℕ) → col < length assets → events_of whole (sid_at assets col) ≡ events_at adjustments col
   events_in col inside =
-      ap (events_of whole) (sid_there assets col blank inside)
-      ∙ column_events days assets labels texts bars adjustments sids_up made.adjustments_in col (get_or assets col blank) (slice_get-get_or assets col blank inside)
+      ap (events_of whole) (sid_at-row assets col no_asset inside)
+      ∙ column_events days assets labels texts bars adjustments sids_up made.adjustments_in col (get_or assets col no_asset) (slice_get-get_or assets col no_asset inside)
 
   pub is_world : IsWorld whole
   is_world = record {
     days_ascend = days_up;
     sids_ascend = sids_up;
-    events_in_order = λ a. elim (found assets adjustments a made.adjustments_in) [
+    events_in_order = λ a. elim (sid-found assets adjustments a made.adjustments_in) [
       | inl none ↦ rw none (λ i j d l m. absurd (omega arith))
-      | inr at ↦ rw (← at.2, events_in at.0 at.1) (by_day _ (in_order at.0))
+      | inr at ↦ rw (← at.2, events_in at.0 at.1) (events-by-day _ (in_order at.0))
     ];
   }
 

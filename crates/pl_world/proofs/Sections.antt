@@ -1,11 +1,10 @@
 -- The rows of a session for all assets, and the cross-section over them.
-use Rattle.std.proofs.Common.{◌≡◌, ℕ, suc, ◌+◌, ◌<◌, Bool, true, false, ◌&&◌, ℤ, pos, List, [], ◌∷◌, ◌++◌, map, filter, length, length-append, take, inl, inr, get_or, Option, Some, None, option_map, slice_get, All, IfSome, refl, sym, ◌∙◌, ap, subst, arith}
+use Rattle.std.proofs.Common.{◌≡◌, ℕ, suc, ◌+◌, ◌<◌, Bool, true, false, ◌&&◌, ℤ, pos, List, [], ◌∷◌, ◌++◌, map, filter, length, length-append, inl, inr, get_or, Option, Some, None, option_map, slice_get, All, IfSome, refl, sym, ◌∙◌, ap, subst, arith}
 use Rattle.std.specs.List.{AllPairs}
 use Rattle.std.proofs.lemmas.Bool.{cases_lt}
 use Rattle.std.proofs.Math.ListN.{get_or-append}
 use Rattle.std.proofs.Math.Seq.{get_or-append_seam}
 use Rattle.std.proofs.lemmas.List.{get_or-map, length-map, ext_get_or}
-use Rattle.std.proofs.lemmas.Option.{slice_get-get_or}
 use Rattle.pl_spec.specs.declared.AssetRow.{AssetRow}
 use Rattle.pl_spec.specs.Rounding.{IsCell}
 use Rattle.pl_spec.specs.Formula.{is_true}
@@ -13,33 +12,31 @@ use Rattle.pl_spec.specs.Parts.{sid_at}
 use Rattle.pl_spec.specs.World.{World as SpecWorld, exists, day_of, lives_on}
 use Rattle.pl_spec.specs.Kind as kinds
 use Rattle.pl_spec.specs.Kind.{CrossKind}
+use Rattle.pl_spec.proofs.Lists.{filter-none}
+use Rattle.pl_spec.proofs.Columns.{no_asset, sid-there}
 use Rattle.pl_terms.specs.declared.node.TermId.{TermId}
 use Rattle.pl_terms.specs.declared.node.Node.{Node}
 use Rattle.pl_terms.specs.Kinds.{kind_of}
 use Rattle.pl_terms.specs.Nodes.{node_of, graph_of, input_of, number_of}
 use Rattle.pl_terms.specs.Checked.{Parts, pipeline_of, IsChecked}
+use Rattle.pl_terms.proofs.Graphs.{graph-at}
 use Rattle.pl_cross.specs.Section.{HasParameters, is_section}
 use Rattle.pl_cross.specs.Arrays.{sid_in, section_at, HasTexts}
 use Rattle.pl_cross.specs.Listing.{Fits}
 use Rattle.pl_cross.proofs.Allowed.{allowed-right}
 use Rattle.pl_lifetimes.specs.Assets.{AreAssets}
+use Rattle.pl_lifetimes.proofs.Among.{among-at, is_among}
 use Rattle.pl_values.specs.Arrays.{cell_of, is_kept, HasAll, Fills}
 use Rattle.pl_values.specs.Inputs.{IsInputRow, IsGroupRow, AreSectionRows}
-use Rattle.pl_values.proofs.Empties.{node-there}
 use Rattle.pl_values.proofs.Given.{section-cell}
 use Rattle.pl_world.specs.declared.world.World.{World}
 use Rattle.pl_world.specs.Worlds.{world_of}
 use Rattle.pl_world.specs.Evaluations.{cell_in, row_in, optional_row_in, lets_pass_at, IsKeepRow, AreRowsOf}
-use Rattle.pl_world.proofs.Lifetimes.{among-at, is_among}
 use Rattle.pl_world.proofs.Asked.{inputs-at}
 
 -- ---- the sids of all assets have those that exist
 
-none_kept : (q : ℕ → Bool) (xs : List ℕ) → ((b : ℕ) → q b ≡ false) → [] ≡ filter q xs
-none_kept q [] h = refl
-none_kept q (x ∷ xs) h = rw (h x) (none_kept q xs h)
-
-kept_ones : (p : AssetRow → Bool) (q : ℕ → Bool) (xs : List AssetRow) → ((i : ℕ) (a : AssetRow) → slice_get xs i ≡ Some a → q a.sid ≡ p a) → map (λ a. a.sid) (filter p xs) ≡ filter q (map (λ a. a.sid) xs)
+pub kept_ones : (p : AssetRow → Bool) (q : ℕ → Bool) (xs : List AssetRow) → ((i : ℕ) (a : AssetRow) → slice_get xs i ≡ Some a → q a.sid ≡ p a) → map (λ a. a.sid) (filter p xs) ≡ filter q (map (λ a. a.sid) xs)
 kept_ones p q [] h = refl
 kept_ones p q (x ∷ xs) h = here (p x) refl (kept_ones p q xs (λ i a e. h (suc i) a e))
   where
@@ -51,11 +48,8 @@ pub all_there : (w : SpecWorld) (s : ℕ) → AllPairs (λ x y. x.sid < y.sid) w
 all_there w s up = here (day_of w (pos s)) refl
   where
     here : (o : Option ℤ) → day_of w (pos s) ≡ o → HasAll w (map (λ a. a.sid) w.assets) s
-    here None e = rw e (none_kept (λ b. false) (map (λ a. a.sid) w.assets) (λ b. refl))
+    here None e = rw e (filter-none (λ b. false) (map (λ a. a.sid) w.assets) (λ b. refl))
     here (Some day) e = rw e (kept_ones (lives_on day) (is_among (lives_on day) w.assets) w.assets (λ i a f. among-at (lives_on day) w.assets i a up f))
-
-abbrev pub blank : AssetRow
-blank = record { sid = 0; start = pos 0; end = pos 0 }
 
 abbrev pub sids_of : List AssetRow → List ℕ
 sids_of assets = map (λ a. a.sid) assets
@@ -66,16 +60,13 @@ sids-long assets = length-map assets (λ (a : AssetRow). a.sid)
 sids-up : (assets : List AssetRow) → AllPairs (λ x y. x.sid < y.sid) assets → AllPairs (λ x y. x < y) (sids_of assets)
 sids-up assets up i j d before within =
     let long = sids-long assets in
-    let first : get_or (sids_of assets) i d ≡ (get_or assets i blank).sid = get_or-map (λ (a : AssetRow). a.sid) assets i blank d (omega arith) in
-    let second : get_or (sids_of assets) j d ≡ (get_or assets j blank).sid = get_or-map (λ (a : AssetRow). a.sid) assets j blank d (omega arith) in
-    rw (first, second) (up i j blank before (omega arith))
+    let first : get_or (sids_of assets) i d ≡ (get_or assets i no_asset).sid = get_or-map (λ (a : AssetRow). a.sid) assets i no_asset d (omega arith) in
+    let second : get_or (sids_of assets) j d ≡ (get_or assets j no_asset).sid = get_or-map (λ (a : AssetRow). a.sid) assets j no_asset d (omega arith) in
+    rw (first, second) (up i j no_asset before (omega arith))
 
 -- the sid of a column
-sid-is : (assets : List AssetRow) (i : ℕ) → i < length assets → sid_in (sids_of assets) i ≡ (get_or assets i blank).sid
-sid-is assets i h = get_or-map (λ (a : AssetRow). a.sid) assets i blank 0 h
-
-pub sid-there : (assets : List AssetRow) (i : ℕ) → i < length assets → sid_at assets i ≡ (get_or assets i blank).sid
-sid-there assets i h = let e = slice_get-get_or assets i blank h in rw e refl
+sid-is : (assets : List AssetRow) (i : ℕ) → i < length assets → sid_in (sids_of assets) i ≡ (get_or assets i no_asset).sid
+sid-is assets i h = get_or-map (λ (a : AssetRow). a.sid) assets i no_asset 0 h
 
 module _ (w : World) (c : Parts) (ok : IsChecked (pipeline_of c)) (assets : AreAssets w.assets.now) (s : ℕ) where
   abbrev sids : List ℕ
@@ -84,7 +75,7 @@ module _ (w : World) (c : Parts) (ok : IsChecked (pipeline_of c)) (assets : AreA
   -- what the row of a term has for a column
   row-cell : (u i : ℕ) → i < length w.assets.now → get_or (row_in w c u s) i (pos 0) ≡ cell_of (world_of w) (pipeline_of c) (sids_of w.assets.now) u i s
   unfolding cell_of
-  row-cell u i h = get_or-map (λ (b : AssetRow). cell_in w c u b.sid s) w.assets.now i blank (pos 0) h ∙ ap (λ a. cell_in w c u a s) (sym (sid-is w.assets.now i h))
+  row-cell u i h = get_or-map (λ (b : AssetRow). cell_in w c u b.sid s) w.assets.now i no_asset (pos 0) h ∙ ap (λ a. cell_in w c u a s) (sym (sid-is w.assets.now i h))
 
   row-long : (u : ℕ) → length (row_in w c u s) ≡ length w.assets.now
   row-long u = length-map w.assets.now (λ (b : AssetRow). cell_in w c u b.sid s)
@@ -117,7 +108,7 @@ module _ (w : World) (c : Parts) (ok : IsChecked (pipeline_of c)) (assets : AreA
 
   module _ (t : ℕ) (n : Node) (is : slice_get c.graph t ≡ Some n) (section : is_section (kind_of n.kind) ≡ true) (texts : HasTexts (world_of w)) where
     there : slice_get (graph_of c.graph) t ≡ Some (node_of n)
-    there = node-there c.graph t n is
+    there = graph-at c.graph t n is
 
     -- the parameters are right
     pub right : HasParameters (kind_of n.kind)
@@ -198,19 +189,4 @@ row-whole w c t s row none long each =
     let size : length (row_in w c t s) ≡ length w.assets.now = length-map w.assets.now (λ (b : AssetRow). cell_in w c t b.sid s) in
     ext_get_or none row (row_in w c t s) (long ∙ sym size)
     (λ i h. let l : i < length w.assets.now = omega (arith, h, long) in
-    each i l ∙ ap (λ a. cell_in w c t a s) (sid-there w.assets.now i l) ∙ sym (get_or-map (λ (b : AssetRow). cell_in w c t b.sid s) w.assets.now i blank none l))
-
--- one cell of it
-pub row-at : (w : World) (c : Parts) (t s i : ℕ) (row : List ℤ) → row ≡ row_in w c t s → i < length w.assets.now → get_or row i (pos 0) ≡ cell_in w c t (sid_at w.assets.now i) s
-row-at w c t s i row e h =
-    ap (λ r. get_or r i (pos 0)) e ∙ get_or-map (λ (b : AssetRow). cell_in w c t b.sid s) w.assets.now i blank (pos 0) h ∙ ap (λ a. cell_in w c t a s) (sym (sid-there w.assets.now i h))
-
-pub row-length : (w : World) (c : Parts) (t s : ℕ) (row : List ℤ) → row ≡ row_in w c t s → length row ≡ length w.assets.now
-row-length w c t s row e = ap (λ (l : List ℤ). length l) e ∙ length-map w.assets.now (λ (b : AssetRow). cell_in w c t b.sid s)
-
--- the front of a list
-pub front-taken : (n : ℕ) (xs ys : List ℤ) → length xs ≡ n → take n (xs ++ ys) ≡ xs
-front-taken n [] ys h = let z : n ≡ 0 = omega (arith, h) in rw z refl
-front-taken n (x ∷ xs) ys h =
-    let z : n ≡ suc (length xs) = omega (arith, h) in
-    rw z (ap (λ l. x ∷ l) (front-taken (length xs) xs ys refl))
+    each i l ∙ ap (λ a. cell_in w c t a s) (sid-there w.assets.now i l) ∙ sym (get_or-map (λ (b : AssetRow). cell_in w c t b.sid s) w.assets.now i no_asset none l))

@@ -1,8 +1,9 @@
 use Rattle.std.proofs.Common.{◌≡◌, ℕ, ℤ, ◌+◌, ◌*◌, ◌<◌, ◌≤◌, drop, slice_get, Some}
 use Rattle.pl_spec.specs.Rounding.{IsCell}
 use Rattle.pl_spec.specs.Window.{after_all, step_count}
+use Rattle.pl_spec.specs.Limits.{cut}
 use Rattle.pl_adjust.specs.Events.{effects_of}
-use Rattle.pl_adjarray.specs.Buffered.{cell_at, cut}
+use Rattle.pl_adjarray.specs.Buffered.{cell_at}
 use Rattle.pl_adjarray.proofs.sliding.slide.Given as goal
 
 -- the events that are left make of the cells so far what all make of the first cells, in as many steps as are

@@ -3,9 +3,9 @@ use Rattle.std.specs.Int.RustNames.{int_lt, int_le}
 use Rattle.std.proofs.lemmas.Int.{to_z-of_z}
 use Rattle.std.proofs.lemmas.List.Elements.{All-filter}
 use Rattle.pl_spec.specs.World.{Event}
+use Rattle.pl_spec.proofs.Lists.{filter-map}
 use Rattle.pl_adjust.specs.Events.{PutCells, PutsCell, event_of}
 use Rattle.pl_adjust.specs.Columns.{events_at}
-use Rattle.pl_lifetimes.proofs.Filters.{filter-map}
 use Rattle.pl_adjust.proofs.Adjustments.events_between.Goals as goal
 
 pub returns-clause-events : goal.returns-clause-events

@@ -1,5 +1,6 @@
 use Rattle.pl_terms.specs.Checked.{pipeline_of}
-use Rattle.pl_cli.proofs.Explained.{lent-world, lent-lines, lent-count}
+use Rattle.pl_cli.proofs.Explained.{lent-lines, lent-count}
+use Rattle.pl_bench.proofs.Lines.{lent-world}
 use Rattle.pl_cli.proofs.cells.lines_of.Goals as goal
 
 pub returns-clause-exact : goal.returns-clause-exact

@@ -3,7 +3,8 @@ use Rattle.pl_outside.proofs.Pieces.{writes-over}
 use Rattle.pl_terms.specs.declared.node.Node.{Node}
 use Rattle.pl_terms.specs.Nodes.{graph_of}
 use Rattle.pl_terms.specs.Checked.{columns_of}
-use Rattle.pl_cli.proofs.Counts.{graph-long, columns-long, pieces-are}
+use Rattle.pl_terms.proofs.Graphs.{graph-long, columns-long}
+use Rattle.pl_cli.proofs.Counts.{pieces-are}
 use Rattle.pl_cli.proofs.commands.write_counts.Goals as goal
 
 pub returns : goal.returns

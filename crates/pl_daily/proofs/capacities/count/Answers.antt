@@ -1,5 +1,5 @@
 use Rattle.std.proofs.Common.{ap, ◌∙◌, sym, length}
-use Rattle.pl_planner.proofs.Pipelines.{graph-long}
+use Rattle.pl_terms.proofs.Graphs.{graph-long}
 use Rattle.pl_daily.proofs.capacities.count.Goals as goal
 
 pub returns-clause-count : goal.returns-clause-count

@@ -1,5 +1,5 @@
 use Rattle.std.proofs.Common.{arith}
-use Rattle.pl_planner.proofs.Pipelines.{graph-long}
+use Rattle.pl_terms.proofs.Graphs.{graph-long}
 use Rattle.pl_daily.proofs.capacities.is_used.Goals as goal
 
 pub is_used-requires : goal.is_used-requires

@@ -2,9 +2,9 @@ use Rattle.std.proofs.Common.{◌≡◌, length, ap, arith, ◌∙◌, rules, Fi
 use Rattle.std.proofs.lemmas.Int.{to_z-of_z}
 use Rattle.pl_spec.specs.Term.{term_at}
 use Rattle.pl_spec.specs.Value.{empty, number_of, sort_kind}
+use Rattle.pl_spec.proofs.Cells.{empty-cell}
 use Rattle.pl_terms.specs.Nodes.{graph_of}
-use Rattle.pl_planner.proofs.Pipelines.{graph-long}
-use Rattle.pl_values.proofs.KindFamilies.{empty_is_cell}
+use Rattle.pl_terms.proofs.Graphs.{graph-long}
 use Rattle.pl_daily.proofs.room.none_of.Goals as goal
 
 pub empty_value-requires : goal.empty_value-requires
@@ -21,4 +21,4 @@ returns-clause-value c =
 pub returns-clause-cell : goal.returns-clause-cell
 returns-clause-cell c =
     let fr : FitsSigned w64 c.empty_value.result = search rules in
-    rw (to_z-of_z w64 _ fr, c.empty_value.ensures) (empty_is_cell (sort_kind (term_at (graph_of c.graph.result.now) c.args.k)))
+    rw (to_z-of_z w64 _ fr, c.empty_value.ensures) (empty-cell (sort_kind (term_at (graph_of c.graph.result.now) c.args.k)))

@@ -4,7 +4,7 @@ use Rattle.pl_spec.specs.declared.Frequency.{Frequency}
 use Rattle.pl_spec.specs.Kind.Kind.{Downsample}
 use Rattle.pl_terms.specs.Nodes.{node_of, number_of}
 use Rattle.pl_terms.specs.Sorts.{is_downsampled}
-use Rattle.pl_planner.proofs.Pipelines.{graph-at}
+use Rattle.pl_terms.proofs.Graphs.{graph-at}
 use Rattle.pl_daily.specs.Terms.{Downsamples, begins, pipeline_at}
 use Rattle.pl_daily.proofs.Downsampled.{by_frequency, if_none, if_some, is_downsampled_by, kind_is, no_input, no_kind, none_is}
 use Rattle.pl_daily.proofs.Placed.{input_used}

@@ -3,17 +3,17 @@ use Rattle.std.proofs.lemmas.Option.{slice_get-get_or}
 use Rattle.pl_day_rows.specs.declared.turn.TermCells.{TermCells}
 use Rattle.pl_daily.specs.Terms.{assets_at}
 use Rattle.pl_daily.proofs.Followed.{start_fills, start_kept, start_taken}
-use Rattle.pl_daily.proofs.Placed.{length-graph}
+use Rattle.pl_terms.proofs.Graphs.{graph-long}
 use Rattle.pl_daily.proofs.starts.take_start.Goals as goal
 
 pub bounds-terms-input : goal.bounds-terms-input
-bounds-terms-input c = omega (arith, c.in-Some.ensures.below.0, c.requires.known, c.requires.terms.many, length-graph c.args.lent.now.checked.now.graph)
+bounds-terms-input c = omega (arith, c.in-Some.ensures.below.0, c.requires.known, c.requires.terms.many, graph-long c.args.lent.now.checked.now.graph)
 
 pub copy_from_slice-requires : goal.copy_from_slice-requires
 copy_from_slice-requires c =
     let terms = c.args.terms.now in
     let u = c.in-Some.input.0 in
-    let inside : u < length terms = omega (arith, c.in-Some.ensures.below.0, c.requires.known, c.requires.terms.many, length-graph c.args.lent.now.checked.now.graph) in
+    let inside : u < length terms = omega (arith, c.in-Some.ensures.below.0, c.requires.known, c.requires.terms.many, graph-long c.args.lent.now.checked.now.graph) in
     let t : TermCells = get_or terms u c.index-terms-input.result in
     let full = c.requires.terms.full u t c.in-Some.ensures.below.1 (slice_get-get_or terms u c.index-terms-input.result inside) in
     let down = c.in-Some.ensures.some in
@@ -26,7 +26,7 @@ returns-in-Some-clause-follow c =
     let l = c.args.lent.now in
     let terms = c.args.terms.now in
     let u = c.in-Some.input.0 in
-    let inside : u < length terms = omega (arith, c.in-Some.ensures.below.0, c.requires.known, c.requires.terms.many, length-graph c.args.lent.now.checked.now.graph) in
+    let inside : u < length terms = omega (arith, c.in-Some.ensures.below.0, c.requires.known, c.requires.terms.many, graph-long c.args.lent.now.checked.now.graph) in
     let t : TermCells = get_or terms u c.index-terms-input.result in
     let is = slice_get-get_or terms u c.index-terms-input.result inside in
     let down = c.in-Some.ensures.some in
@@ -39,7 +39,7 @@ returns-in-Some-clause-start c =
     let l = c.args.lent.now in
     let terms = c.args.terms.now in
     let u = c.in-Some.input.0 in
-    let inside : u < length terms = omega (arith, c.in-Some.ensures.below.0, c.requires.known, c.requires.terms.many, length-graph c.args.lent.now.checked.now.graph) in
+    let inside : u < length terms = omega (arith, c.in-Some.ensures.below.0, c.requires.known, c.requires.terms.many, graph-long c.args.lent.now.checked.now.graph) in
     let t : TermCells = get_or terms u c.index-terms-input.result in
     let is = slice_get-get_or terms u c.index-terms-input.result inside in
     let row = c.copy_from_slice.ensures.items ∙ c.deref.ensures.value in

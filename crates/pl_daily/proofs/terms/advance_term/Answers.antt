@@ -4,17 +4,17 @@ use Rattle.pl_day_rows.specs.declared.turn.TermCells.{TermCells}
 use Rattle.pl_day_rows.specs.Held.{AreTermCells}
 use Rattle.pl_daily.specs.Terms.{assets_at, pipeline_at}
 use Rattle.pl_daily.proofs.Followed.{rooms_stay, term_followed, terms_more}
-use Rattle.pl_daily.proofs.Placed.{length-graph}
+use Rattle.pl_terms.proofs.Graphs.{graph-long}
 use Rattle.pl_daily.proofs.terms.advance_term.Goals as goal
 
 pub bounds-terms-term : goal.bounds-terms-term
-bounds-terms-term c = omega (arith, c.requires.known, c.requires.terms.many, length-graph c.args.lent.now.checked.now.graph)
+bounds-terms-term c = omega (arith, c.requires.known, c.requires.terms.many, graph-long c.args.lent.now.checked.now.graph)
 
 pub put_term-requires-clause-cells : goal.put_term-requires-clause-cells
 put_term-requires-clause-cells c =
     let terms = c.args.terms.now in
     let k = c.args.term.0 in
-    let inside : k < length terms = omega (arith, c.requires.known, c.requires.terms.many, length-graph c.args.lent.now.checked.now.graph) in
+    let inside : k < length terms = omega (arith, c.requires.known, c.requires.terms.many, graph-long c.args.lent.now.checked.now.graph) in
     let was : TermCells = get_or terms k c.index-terms-term.result in
     let is = slice_get-get_or terms k c.index-terms-term.result inside in
     subst (λ n. AreTermCells n was) (sym (c.term_row.ensures.out ∙ c.requires.out)) (c.requires.terms.full k was c.requires.used is)
@@ -23,7 +23,7 @@ pub returns-clause-follow : goal.returns-clause-follow
 returns-clause-follow c =
     let terms = c.args.terms.now in
     let k = c.args.term.0 in
-    let inside : k < length terms = omega (arith, c.requires.known, c.requires.terms.many, length-graph c.args.lent.now.checked.now.graph) in
+    let inside : k < length terms = omega (arith, c.requires.known, c.requires.terms.many, graph-long c.args.lent.now.checked.now.graph) in
     let was : TermCells = get_or terms k c.index-terms-term.result in
     let is = slice_get-get_or terms k c.index-terms-term.result inside in
     term_followed c.args.lent.now k terms c.args.start.now c.take_start.new.start was c.put_term.new.cells c.term_row.new.out is inside c.requires.used c.put_term.ensures.follow
@@ -34,7 +34,7 @@ returns-clause-terms c =
     let l = c.args.lent.now in
     let terms = c.args.terms.now in
     let k = c.args.term.0 in
-    let inside : k < length terms = omega (arith, c.requires.known, c.requires.terms.many, length-graph c.args.lent.now.checked.now.graph) in
+    let inside : k < length terms = omega (arith, c.requires.known, c.requires.terms.many, graph-long c.args.lent.now.checked.now.graph) in
     let was : TermCells = get_or terms k c.index-terms-term.result in
     let is = slice_get-get_or terms k c.index-terms-term.result inside in
     terms_more (assets_at l) (pipeline_at l) l.bars.now terms k was c.put_term.new.cells c.requires.terms is inside
@@ -44,6 +44,6 @@ pub returns-clause-room : goal.returns-clause-room
 returns-clause-room c =
     let terms = c.args.terms.now in
     let k = c.args.term.0 in
-    let inside : k < length terms = omega (arith, c.requires.known, c.requires.terms.many, length-graph c.args.lent.now.checked.now.graph) in
+    let inside : k < length terms = omega (arith, c.requires.known, c.requires.terms.many, graph-long c.args.lent.now.checked.now.graph) in
     let was : TermCells = get_or terms k c.index-terms-term.result in
     rooms_stay terms k was c.put_term.new.cells (slice_get-get_or terms k c.index-terms-term.result inside) c.put_term.ensures.capacity

@@ -3,18 +3,18 @@ use Rattle.std.proofs.lemmas.Option.{slice_get-get_or}
 use Rattle.pl_daily.specs.declared.starts.StartCells.{StartCells}
 use Rattle.pl_daily.specs.Terms.{assets_at, pipeline_at}
 use Rattle.pl_daily.proofs.Followed.{all_done, comes_to, none_more, one_more, starts_more}
-use Rattle.pl_daily.proofs.Placed.{length-graph}
 use Rattle.pl_daily.proofs.terms.advance_terms.Goals as goal
 use Rattle.pl_daily.proofs.terms.advance_terms.Goals.{then-is_used, else-is_used}
+use Rattle.pl_terms.proofs.Graphs.{graph-long}
 
 pub bounds-starts-k : goal.bounds-starts-k
 bounds-starts-k c =
-    let many = c.len-k-end.ensures.value ∙ ap length c.graph-graph.ensures.value ∙ sym (length-graph c.args.lent.now.checked.now.graph) in
+    let many = c.len-k-end.ensures.value ∙ ap length c.graph-graph.ensures.value ∙ sym (graph-long c.args.lent.now.checked.now.graph) in
     omega (arith, c.loop-k-test.true, many, c.loop-k.invariant.starts.many)
 
 pub advance_term-requires-clause-placed : goal.advance_term-requires-clause-placed
 advance_term-requires-clause-placed c =
-    let many = c.len-k-end.ensures.value ∙ ap length c.graph-graph.ensures.value ∙ sym (length-graph c.args.lent.now.checked.now.graph) in
+    let many = c.len-k-end.ensures.value ∙ ap length c.graph-graph.ensures.value ∙ sym (graph-long c.args.lent.now.checked.now.graph) in
     let starts = c.loop-k.starts in
     let k = c.loop-k.k in
     let inside : k < length starts = omega (arith, c.loop-k-test.true, many, c.loop-k.invariant.starts.many) in
@@ -26,7 +26,7 @@ advance_term-requires-clause-placed c =
 
 pub advance_term-requires-clause-start : goal.advance_term-requires-clause-start
 advance_term-requires-clause-start c =
-    let many = c.len-k-end.ensures.value ∙ ap length c.graph-graph.ensures.value ∙ sym (length-graph c.args.lent.now.checked.now.graph) in
+    let many = c.len-k-end.ensures.value ∙ ap length c.graph-graph.ensures.value ∙ sym (graph-long c.args.lent.now.checked.now.graph) in
     let starts = c.loop-k.starts in
     let k = c.loop-k.k in
     let inside : k < length starts = omega (arith, c.loop-k-test.true, many, c.loop-k.invariant.starts.many) in
@@ -36,7 +36,7 @@ pub loop-k-preserved : goal.loop-k-preserved
 loop-k-preserved c =
     let l = c.args.lent.now in
     let i = c.loop-k.invariant in
-    let many = c.len-k-end.ensures.value ∙ ap length c.graph-graph.ensures.value ∙ sym (length-graph c.args.lent.now.checked.now.graph) in
+    let many = c.len-k-end.ensures.value ∙ ap length c.graph-graph.ensures.value ∙ sym (graph-long c.args.lent.now.checked.now.graph) in
     let starts = c.loop-k.starts in
     let k = c.loop-k.k in
     let inside : k < length starts = omega (arith, c.loop-k-test.true, many, i.starts.many) in
@@ -76,5 +76,5 @@ loop-k-preserved c =
 pub returns-clause-follow : goal.returns-clause-follow
 returns-clause-follow c =
     let i = c.loop-k.invariant in
-    let many = c.len-k-end.ensures.value ∙ ap length c.graph-graph.ensures.value ∙ sym (length-graph c.args.lent.now.checked.now.graph) in
+    let many = c.len-k-end.ensures.value ∙ ap length c.graph-graph.ensures.value ∙ sym (graph-long c.args.lent.now.checked.now.graph) in
     all_done c.args.lent.now c.args.terms.now c.args.starts.now c.loop-k.terms c.loop-k.starts c.loop-k.k i.follow (omega (arith, c.loop-k-test.false, many, i.terms.many)) (omega (arith, c.loop-k-test.false, many, i.starts.many))

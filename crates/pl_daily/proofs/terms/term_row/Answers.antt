@@ -1,7 +1,8 @@
 use Rattle.std.proofs.Common.{rules, ◌≤◌, ◌∙◌, sym, ap, arith, slice_get, FitsSigned, w32}
 use Rattle.std.proofs.lemmas.Int.{to_z-of_z}
 use Rattle.pl_terms.specs.Nodes.{node_of}
-use Rattle.pl_planner.proofs.Pipelines.{graph-at, is-pipeline}
+use Rattle.pl_terms.proofs.Graphs.{graph-at}
+use Rattle.pl_planner.proofs.Pipelines.{is-pipeline}
 use Rattle.pl_daily.specs.Terms.{pipeline_at}
 use Rattle.pl_daily.proofs.Placed.{cells_at, moment_of, row_at, stands_at}
 use Rattle.pl_daily.proofs.terms.term_row.Goals as goal

@@ -1,16 +1,12 @@
-use Rattle.std.proofs.Common.{◌≡◌, ◌<◌, ℕ, ℤ, ◌∙◌, ap, sym, subst, arith, length, replicate, All, FitsSigned, w64}
-use Rattle.std.proofs.lemmas.List.{get_or-replicate, length-replicate}
+use Rattle.std.proofs.Common.{◌<◌, ◌∙◌, ap, sym, subst, arith, length, replicate, All, FitsSigned, w64}
+use Rattle.std.proofs.lemmas.List.{length-replicate}
 use Rattle.std.proofs.lemmas.Int.{to_z-of_z}
 use Rattle.circular_buffer.specs.Buffer.{buffer}
 use Rattle.pl_spec.specs.Rounding.{IsCell}
 use Rattle.pl_rings.specs.Changes.{AreRings}
+use Rattle.pl_rings.proofs.Full.{all_one}
 use Rattle.pl_day_rows.proofs.DayByDay.{begin_term}
 use Rattle.pl_day_rows.proofs.held.begin_term.Goals as goal
-
-replicated : (n : ℕ) (x : ℤ) → IsCell x → All IsCell (replicate n x)
-replicated n x cell k d h =
-    let long : length (replicate n x) ≡ n = length-replicate n x in
-    subst IsCell (sym (get_or-replicate n k x d (omega (arith, h, long)))) cell
 
 pub returns-clause-cells : goal.returns-clause-cells
 returns-clause-cells c =
@@ -18,7 +14,7 @@ returns-clause-cells c =
     let row = simp to_z-of_z at (c.in_ok-row.ensures.items_if_clones_equal (λ y same. same)) in
     record {
       row = ap length row ∙ length-replicate c.args.assets c.args.none;
-      cells = subst (All IsCell) (sym row) (replicated c.args.assets c.args.none c.requires);
+      cells = subst (All IsCell) (sym row) (all_one c.args.assets c.args.none c.requires);
       rings = λ some.
           let has : 0 < c.args.capacity = omega (arith, some, c.in_ok-rings.ensures.capacity) in
           subst (λ n. AreRings c.args.assets n c.in_ok-rings.rings.rings.items) (sym c.in_ok-rings.ensures.capacity)

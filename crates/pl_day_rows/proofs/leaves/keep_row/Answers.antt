@@ -1,9 +1,9 @@
 use Rattle.std.proofs.Common.{◌≡◌, ◌+◌, ◌<◌, ℕ, ℤ, List, set, get_or, pos, length, rules, arith, ap, sym, subst, ◌∙◌, length-set, FitsSigned, w64, w32, to_z, of_z}
 use Rattle.std.proofs.lemmas.Int.{to_z-of_z}
 use Rattle.pl_spec.specs.Formula.{is_true}
+use Rattle.pl_spec.proofs.Cells.{is_true-truth}
 use Rattle.pl_cross.specs.Listing.{labels_in}
 use Rattle.pl_day_rows.specs.Rows.{is_kept_by}
-use Rattle.pl_values.proofs.KindFamilies.{truth_told}
 use Rattle.pl_values.proofs.Written.{one_given}
 use Rattle.pl_day_rows.proofs.Shown.{mask_within}
 use Rattle.pl_day_rows.proofs.leaves.keep_row.Goals as goal
@@ -23,7 +23,7 @@ loop-i-preserved c =
     let before : IsSoFar c.args.day i c.loop-i.keep = subst (λ d. IsSoFar d i c.loop-i.keep) day c.loop-i.invariant.each in
     let after : IsSoFar c.args.day (i + 1) (set c.loop-i.keep i c.truth_of.result) =
     one_given (λ k x. is_true x ≡ is_kept_by c.args.assets.now c.args.day (labels_in c.args.mask) k) i c.loop-i.keep c.truth_of.result before
-    (omega (arith, c.loop-i-test.true, c.loop-i.invariant.long)) (ap is_true c.truth_of.ensures ∙ truth_told c.is_kept.result ∙ kept) in
+    (omega (arith, c.loop-i-test.true, c.loop-i.invariant.long)) (ap is_true c.truth_of.ensures ∙ is_true-truth c.is_kept.result ∙ kept) in
     record {
       long = length-set c.loop-i.keep i _ ∙ c.loop-i.invariant.long;
       each = subst (λ d. IsSoFar d (i + 1) (set c.loop-i.keep i (to_z w64 (of_z w64 c.truth_of.result)))) (sym day) (subst (λ x. IsSoFar c.args.day (i + 1) (set c.loop-i.keep i x)) (sym cast) after);

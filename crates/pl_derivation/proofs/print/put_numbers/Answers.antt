@@ -1,4 +1,4 @@
-use Rattle.std.proofs.Common.{◌++◌, ◌∷◌, [], List, ℤ, pos, get_or, take, sym, ap, ◌∙◌, append-nil, rules, FitsSigned, w64}
+use Rattle.std.proofs.Common.{◌++◌, ◌∷◌, [], List, ℤ, pos, get_or, sym, ap, ◌∙◌, append-nil, rules, FitsSigned, w64}
 use Rattle.std.specs.List.{flat_map}
 use Rattle.std.proofs.lemmas.Int.{to_z-of_z}
 use Rattle.std.proofs.lemmas.List.{take_all}

@@ -1,5 +1,4 @@
 use Rattle.std.proofs.Common.{length, map, sym, ◌∙◌, ap, arith, Err}
-use Rattle.pl_spec.specs.Limits.{most_lines}
 use Rattle.pl_derivation.specs.Texts.Broken.{BadLine, TooMany}
 use Rattle.pl_derivation.specs.Listed.{line_of}
 use Rattle.pl_derivation.proofs.Listing.{nothing_said, no_end, no_line, past_most, loop_more, loop_begun}

@@ -1,15 +1,16 @@
 use Rattle.std.proofs.Common.{◌+◌, ap, ◌∙◌, arith, max, length}
 use Rattle.pl_spec.specs.Graph.{contains}
+use Rattle.pl_spec.specs.Limits.{cut}
 use Rattle.pl_terms.specs.Uses.{outputs}
+use Rattle.pl_terms.proofs.Graphs.{graph-long}
 use Rattle.pl_planner.specs.Plans.{slot_of}
 use Rattle.pl_values.proofs.Given.{texts-coded}
 use Rattle.pl_exec.specs.Chunks.{task}
-use Rattle.pl_exec.specs.Tasks.{IsArray, cut, graph_in, kept_in}
+use Rattle.pl_exec.specs.Tasks.{IsArray, graph_in, kept_in}
 use Rattle.pl_exec.specs.Jobs.{IsTask}
 use Rattle.pl_exec.proofs.ArrayLists.{array_is}
 use Rattle.pl_exec.proofs.Living.{live_below, none_yet, none_counted}
 use Rattle.pl_exec.proofs.Mentions.{live_at_last, output_known}
-use Rattle.pl_exec.proofs.Places.{graph_long}
 use Rattle.pl_exec.proofs.Sids.{few_cols, sids_up, held_most, steps_sum}
 use Rattle.pl_exec.proofs.chunk.execute_chunk.Goals as goal
 
@@ -19,7 +20,7 @@ run_terms-requires-clause-job g c = record {
   labels = c.len-labels.ensures.labels;
   few = (let f = few_cols c.args.cols.now (length c.args.world.now.assets.now) c.requires.cols.ascend c.requires.cols.within in omega (arith, f, c.len-assets.ensures.length, c.len-assets.ensures.few));
   fits = omega (arith, c.requires.to, c.requires.plan.within, c.len-sessions.ensures.length, c.len-sessions.ensures.few);
-  terms = (let l = graph_long c.args.checked.now.graph in let e = ap (λ g. length g) c.graph.ensures.value in omega (arith, l, e, c.len-terms.ensures.value, c.len-terms.ensures.few));
+  terms = (let l = graph-long c.args.checked.now.graph in let e = ap (λ g. length g) c.graph.ensures.value in omega (arith, l, e, c.len-terms.ensures.value, c.len-terms.ensures.few));
   task = (record {
     checked = c.graph.ensures.checked;
     plan = c.requires.plan;

@@ -1,9 +1,9 @@
 use Rattle.std.proofs.Common.{ap, ◌∙◌, sym, arith, max}
 use Rattle.pl_exec.specs.Tasks.{held_in, steps_in}
 use Rattle.pl_exec.specs.Jobs.{task_of}
-use Rattle.pl_exec.proofs.Counts.{most_more}
 use Rattle.pl_exec.proofs.Listed.{sum_more}
 use Rattle.pl_exec.proofs.Releases.{cut_more, most_three}
+use Rattle.pl_planner.proofs.Counting.{most_more}
 use Rattle.pl_exec.proofs.chunk.run_terms.Goals as goal
 
 pub loop-k-preserved : goal.loop-k-preserved

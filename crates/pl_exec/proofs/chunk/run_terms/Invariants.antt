@@ -1,9 +1,10 @@
 use Rattle.std.proofs.Common.{◌≡◌, ◌+◌, ◌≤◌, length, max, fold, map, sum_by}
 use Rattle.std.specs.List.{range_with_len}
+use Rattle.pl_spec.specs.Limits.{cut}
 use Rattle.pl_workspace.specs.Slots.{live_count}
 use Rattle.pl_planner.specs.Plans.{slot_of}
 use Rattle.pl_exec.specs.Slotted.{AreLive}
-use Rattle.pl_exec.specs.Tasks.{IsArray, cut, held_in, kept_in, steps_in}
+use Rattle.pl_exec.specs.Tasks.{IsArray, held_in, kept_in, steps_in}
 use Rattle.pl_exec.specs.Jobs.{task_of}
 use Rattle.pl_exec.proofs.chunk.run_terms.Given as goal
 

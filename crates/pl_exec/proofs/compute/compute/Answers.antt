@@ -1,8 +1,9 @@
 use Rattle.std.proofs.Common.{◌≡◌, ◌∙◌, refl, ap, sym, subst, arith, length}
 use Rattle.pl_spec.specs.Graph.{columns_at}
+use Rattle.pl_spec.specs.Limits.{cut}
 use Rattle.pl_terms.specs.Nodes.{node_of}
 use Rattle.pl_exec.specs.declared.course.Course.{Course}
-use Rattle.pl_exec.specs.Tasks.{IsArray, cut, graph_in}
+use Rattle.pl_exec.specs.Tasks.{IsArray, graph_in}
 use Rattle.pl_exec.specs.Jobs.{new_before, task_in, task_of}
 use Rattle.pl_exec.proofs.Levels.{column_run, count_is, filled_as, no_steps, rows_begin, whole_written}
 use Rattle.pl_exec.proofs.compute.compute.Goals as goal

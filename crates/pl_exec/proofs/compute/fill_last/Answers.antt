@@ -1,6 +1,7 @@
 use Rattle.std.proofs.Common.{◌≡◌, ◌≤◌, ◌+◌, ◌*◌, sym, subst, refl, length, arith}
+use Rattle.pl_spec.specs.Limits.{cut}
 use Rattle.pl_exec.specs.declared.course.Course.{Course}
-use Rattle.pl_exec.specs.Tasks.{IsArray, assets_in, cut, term_steps}
+use Rattle.pl_exec.specs.Tasks.{IsArray, assets_in, term_steps}
 use Rattle.pl_exec.specs.Jobs.{HasRows, IsColumnRun, node_in, task_in}
 use Rattle.pl_exec.proofs.compute.fill_last.Goals as goal
 

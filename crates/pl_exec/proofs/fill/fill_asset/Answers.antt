@@ -1,6 +1,6 @@
 use Rattle.std.proofs.Common.{◌≤◌, ◌+◌, ap, ◌∙◌, sym, arith, subst}
+use Rattle.pl_spec.specs.Limits.{cut}
 use Rattle.pl_adjarray.specs.Buffered.{Buffered}
-use Rattle.pl_exec.specs.Tasks.{cut}
 use Rattle.pl_exec.specs.Jobs.{AreBars, node_in, one_col}
 use Rattle.pl_exec.proofs.Courses.{count_of}
 use Rattle.pl_exec.proofs.Stands.{window_few, counted_is}

@@ -1,6 +1,7 @@
 use Rattle.std.proofs.Common.{◌≤◌, ◌*◌, ◌+◌, ◌∙◌, ap, sym, length, arith}
 use Rattle.std.proofs.lemmas.List.{take_all}
-use Rattle.pl_exec.specs.Tasks.{assets_in, cell_in, cut}
+use Rattle.pl_spec.specs.Limits.{cut}
+use Rattle.pl_exec.specs.Tasks.{assets_in, cell_in}
 use Rattle.pl_exec.specs.Jobs.{node_in, steps_of, task_in}
 use Rattle.pl_exec.proofs.Courses.{all_laned, course_array, lane_room, none_laned, one_laned}
 use Rattle.pl_exec.proofs.Stands.{cut_two, steps_all, steps_more, steps_none}

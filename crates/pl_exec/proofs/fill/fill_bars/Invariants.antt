@@ -1,5 +1,6 @@
 use Rattle.std.proofs.Common.{◌≡◌, ◌+◌, take}
-use Rattle.pl_exec.specs.Tasks.{cell_in, cut}
+use Rattle.pl_spec.specs.Limits.{cut}
+use Rattle.pl_exec.specs.Tasks.{cell_in}
 use Rattle.pl_exec.specs.Jobs.{AreLanes, node_in, steps_of, task_in}
 use Rattle.pl_exec.proofs.fill.fill_bars.Given as goal
 

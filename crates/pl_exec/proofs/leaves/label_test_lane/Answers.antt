@@ -1,9 +1,10 @@
 use Rattle.std.proofs.Common.{rules, ◌<◌, ◌∙◌, arith, ap, sym, subst, get_or, pos, w64, FitsSigned}
 use Rattle.std.proofs.lemmas.Int.{to_z-of_z}
 use Rattle.pl_values.specs.Families.{IsCode, code_flag}
+use Rattle.pl_values.proofs.KindFamilies.{code_flag_cell}
 use Rattle.pl_exec.specs.Jobs.{IsGivenOn, IsOperand, IsOperandOf, node_in, turn_in}
 use Rattle.pl_exec.proofs.Courses.{course_turn}
-use Rattle.pl_exec.proofs.Givens.{code_flag_cell, label_test_given, label_test_input}
+use Rattle.pl_exec.proofs.Givens.{label_test_given, label_test_input}
 use Rattle.pl_exec.proofs.Stretches.{given_by, one_given}
 use Rattle.pl_exec.proofs.leaves.label_test_lane.Goals as goal
 

@@ -2,10 +2,11 @@ use Rattle.std.proofs.Common.{rules, ◌≡◌, ◌∙◌, arith, ap, sym, w64, 
 use Rattle.std.proofs.lemmas.Int.{to_z-of_z}
 use Rattle.pl_cross.specs.Arrays.{sid_in}
 use Rattle.pl_values.specs.Families.{sid_flag}
+use Rattle.pl_values.proofs.KindFamilies.{sid_flag_cell}
 use Rattle.pl_exec.specs.Tasks.{sids_in}
 use Rattle.pl_exec.specs.Jobs.{node_in, task_in, turn_in}
 use Rattle.pl_exec.proofs.Courses.{course_turn}
-use Rattle.pl_exec.proofs.Givens.{sid_flag_cell, sid_given}
+use Rattle.pl_exec.proofs.Givens.{sid_given}
 use Rattle.pl_exec.proofs.Places.{sid_told}
 use Rattle.pl_exec.proofs.Stretches.{given_by}
 use Rattle.pl_exec.proofs.leaves.sids_lane.Goals as goal

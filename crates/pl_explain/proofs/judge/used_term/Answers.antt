@@ -1,7 +1,8 @@
 use Rattle.std.proofs.Common.{length, List, ap, arith}
 use Rattle.pl_terms.specs.declared.node.Node.{Node}
 use Rattle.pl_terms.specs.Checked.{pipeline_of}
-use Rattle.pl_explain.proofs.Used.{past-unused, graph-long}
+use Rattle.pl_terms.proofs.Graphs.{graph-long}
+use Rattle.pl_explain.proofs.Used.{past-unused}
 use Rattle.pl_explain.proofs.judge.used_term.Goals as goal
 
 pub returns-then-term-len-clause-none : goal.returns-then-term-len-clause-none

@@ -2,11 +2,12 @@ use Rattle.std.proofs.Common.{◌≡◌, ◌<◌, ◌≤◌, ◌++◌, ◌∷◌
 use Rattle.pl_spec.specs.Rounding.{IsCell}
 use Rattle.pl_spec.specs.Parts.{sid_at}
 use Rattle.pl_spec.specs.World.{exists, living_sids}
+use Rattle.pl_spec.proofs.Columns.{no_asset, sid-there}
 use Rattle.pl_derivation.specs.Facts.Fact.{Worth}
 use Rattle.pl_world.specs.Worlds.{world_of}
 use Rattle.pl_world.specs.Evaluations.{cell_in, row_in}
 use Rattle.pl_world.proofs.Windowing.{all-more, row-more, row-all}
-use Rattle.pl_world.proofs.Sections.{all_there, sid-there, blank}
+use Rattle.pl_world.proofs.Sections.{all_there}
 use Rattle.pl_explain.specs.Given.{has_all, living_facts}
 use Rattle.pl_explain.proofs.Given.{given-some, given-none, refused, accepted}
 use Rattle.pl_explain.proofs.Entries.{living-told, living-lacks, next-place}
@@ -38,7 +39,7 @@ loop-col-preserved c =
     let pushed : c.push.new.self.items ≡ c.loop-col.row.items ++ c.in-Some.cell ∷ [] = search rules in
     let sid = sid-there w.assets.now col inside in
     record {
-      cells = row-more (λ b. cell_in w p c.args.u.0 b.sid s) (λ b. 0) w.assets.now col blank inside c.loop-col.row.items c.push.new.self.items c.in-Some.cell pushed so_far.cells (got.1 ∙ ap (λ a. cell_in w p c.args.u.0 a s) sid);
+      cells = row-more (λ b. cell_in w p c.args.u.0 b.sid s) (λ b. 0) w.assets.now col no_asset inside c.loop-col.row.items c.push.new.self.items c.in-Some.cell pushed so_far.cells (got.1 ∙ ap (λ a. cell_in w p c.args.u.0 a s) sid);
       all = all-more IsCell c.loop-col.row.items c.push.new.self.items c.in-Some.cell pushed so_far.all c.in-Some.ensures.cell;
       told = next-place (λ i. has_all told (living_facts (world_of w) c.args.u.0 (sid_at w.assets.now i) (pos s))) col so_far.told got.0;
     }

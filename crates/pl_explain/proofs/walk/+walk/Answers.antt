@@ -2,7 +2,7 @@ use Rattle.std.proofs.Common.{rules, arith, ◌≡◌, ◌<◌, ◌≤◌, ◌+�
 use Rattle.std.proofs.lemmas.Bool.{true≢false}
 use Rattle.std.proofs.lemmas.Int.{to_z-of_z}
 use Rattle.std.proofs.lemmas.List.{take_all}
-use Rattle.std.proofs.lemmas.Option.{slice_get-get_or}
+use Rattle.std.proofs.lemmas.Option.{slice_get-get_or, same_Some}
 use Rattle.std.proofs.lemmas.Result.{err_from_is_err_and}
 use Rattle.pl_spec.specs.Dates.{IsDay}
 use Rattle.pl_spec.specs.Rounding.{IsCell}
@@ -23,7 +23,7 @@ use Rattle.pl_world.proofs.Evaluated.{sid-of}
 use Rattle.pl_explain.specs.declared.fact.Fact.{Fact}
 use Rattle.pl_explain.specs.Keys.{fact_of}
 use Rattle.pl_explain.specs.Given.{facts_read, has_all, mask_passes}
-use Rattle.pl_explain.proofs.Given.{some-same, none-holds}
+use Rattle.pl_explain.proofs.Given.{none-holds}
 use Rattle.pl_explain.specs.Walking.{CanStand, CanStandIn, Finishes, IsTooLong, IsWalkTo}
 use Rattle.pl_explain.proofs.Behind.{worth-within, worth-day, worth-sid, worth-asked}
 use Rattle.pl_explain.proofs.Values.{premises-lacks}
@@ -316,7 +316,7 @@ finish_premises-finish_kind-requires g t c =
     let mid = c.finish_all.new.walk in
     let first : Finishes w p (t0 + 1) walk mid mask = subst (λ fs. Finishes w p (t0 + 1) walk mid fs) mask_is c.in_ok-finish_all.ensures.finished in
     let read : c.mask_told.result ≡ Some (mask_passes w p n.mask a s) = mask-read w p ok t0 n is a s texts there walk mid first c.requires.stands c.mask_told.result c.mask_told.ensures in
-    let passed : mask_passes w p n.mask a s ≡ true = sym (some-same c.in-Some-true.field-0 (mask_passes w p n.mask a s) (sym c.in-Some-true.is ∙ read)) ∙ c.in-Some-true.field-0-test in
+    let passed : mask_passes w p n.mask a s ≡ true = sym (same_Some c.in-Some-true.field-0 (mask_passes w p n.mask a s) (sym c.in-Some-true.is ∙ read)) ∙ c.in-Some-true.field-0-test in
     let facts : Each (CanStandIn w p (t0 + 1)) (facts_read w p t0 a s) = facts-stand w p ok t0 n is a s texts there passed c.requires.fact in
     let smaller : 8 * (t0 + 2) + 1 < 8 * (t0 + 2) + 2 = omega arith in
     search rules
@@ -339,7 +339,7 @@ finish_premises-returns-in-Some-true g t c =
     let mid = c.finish_all.new.walk in
     let first : Finishes w p (t0 + 1) walk mid mask = subst (λ fs. Finishes w p (t0 + 1) walk mid fs) mask_is c.in_ok-finish_all.ensures.finished in
     let read : c.mask_told.result ≡ Some (mask_passes w p n.mask a s) = mask-read w p ok t0 n is a s texts there walk mid first c.requires.stands c.mask_told.result c.mask_told.ensures in
-    let passed : mask_passes w p n.mask a s ≡ true = sym (some-same c.in-Some-true.field-0 (mask_passes w p n.mask a s) (sym c.in-Some-true.is ∙ read)) ∙ c.in-Some-true.field-0-test in
+    let passed : mask_passes w p n.mask a s ≡ true = sym (same_Some c.in-Some-true.field-0 (mask_passes w p n.mask a s) (sym c.in-Some-true.is ∙ read)) ∙ c.in-Some-true.field-0-test in
     passed-walked w p ok t0 n is a s texts there walk mid first passed c.finish_kind.new.walk c.finish_kind.result c.finish_kind.ensures
 
 pub finish_premises-returns-in-Some-false : goal.finish_premises-returns-in-Some-false
@@ -360,7 +360,7 @@ finish_premises-returns-in-Some-false g t c =
     let mid = c.finish_all.new.walk in
     let first : Finishes w p (t0 + 1) walk mid mask = subst (λ fs. Finishes w p (t0 + 1) walk mid fs) mask_is c.in_ok-finish_all.ensures.finished in
     let read : c.mask_told.result ≡ Some (mask_passes w p n.mask a s) = mask-read w p ok t0 n is a s texts there walk mid first c.requires.stands c.mask_told.result c.mask_told.ensures in
-    let barred : mask_passes w p n.mask a s ≡ false = sym (some-same c.in-Some-false.field-0 (mask_passes w p n.mask a s) (sym c.in-Some-false.is ∙ read)) ∙ c.in-Some-false.field-0-test in
+    let barred : mask_passes w p n.mask a s ≡ false = sym (same_Some c.in-Some-false.field-0 (mask_passes w p n.mask a s) (sym c.in-Some-false.is ∙ read)) ∙ c.in-Some-false.field-0-test in
     record {
       stands = c.in_ok-finish_all.ensures.stands;
       finished = stopped-finished w p ok t0 n is a s texts there walk mid first barred;

@@ -2,8 +2,9 @@ use Rattle.std.proofs.Common.{rules, arith, ap, ap₂, ◌∙◌, pos, ◌-ℤ�
 use Rattle.std.specs.Int.{w128}
 use Rattle.std.proofs.lemmas.Int.{to_z-of_z}
 use Rattle.pl_spec.specs.Rounding.{quot}
-use Rattle.pl_lanes.proofs.Cells.{is_there, is_within}
+use Rattle.pl_lanes.proofs.Cells.{is_within}
 use Rattle.pl_factors.proofs.Casts.{difference-wide, scaled-fits, apart}
+use Rattle.pl_fixed.proofs.CellLemmas.{is_missing-not}
 use Rattle.pl_factors.proofs.ranges.stochastic_of.Goals as goal
 
 pub returns-clause-value : goal.returns-clause-value
@@ -15,9 +16,9 @@ returns-clause-value c =
     let fl : FitsSigned w64 c.args.low = c.ranges.low in
     let fh : FitsSigned w64 c.args.high = c.ranges.high in
     let fr : FitsSigned w64 c.quot.result = search rules in
-    let tx = is_there x fx c.if-close-eq-MISSING.false in
-    let tl = is_there l fl c.if-low-eq-MISSING.false in
-    let th = is_there h fh c.if-high-eq-MISSING.false in
+    let tx = is_missing-not x fx c.if-close-eq-MISSING.false in
+    let tl = is_missing-not l fl c.if-low-eq-MISSING.false in
+    let th = is_missing-not h fh c.if-high-eq-MISSING.false in
     let small = apart l x (is_within l c.requires.low tl) (is_within x c.requires.close tx) in
     let s = scaled-fits (x -ℤ l) (pos 100000000) small (omega arith) in
     rw (tx, tl, th) (to_z-of_z w64 _ fr ∙ c.quot.ensures.value ∙ ap₂ quot

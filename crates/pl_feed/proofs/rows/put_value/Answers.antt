@@ -4,11 +4,12 @@ use Rattle.pl_spec.specs.Rounding.{is_missing}
 use Rattle.pl_terms.specs.declared.node.Node.{Node}
 use Rattle.pl_terms.specs.Nodes.{graph_of}
 use Rattle.pl_terms.specs.Sorts.{sort_at}
+use Rattle.pl_terms.proofs.Graphs.{graph-long, columns-long}
 use Rattle.pl_values.specs.Arrays.{cell_of}
 use Rattle.pl_values.specs.Families.{IsCode}
-use Rattle.pl_planner.proofs.Pipelines.{column-in, graph-long}
+use Rattle.pl_planner.proofs.Pipelines.{column-in}
 use Rattle.pl_table.specs.Fields.{cell_field, field_part, sort_written}
-use Rattle.pl_table.proofs.Outputs.{columns-long, has-column, term-there}
+use Rattle.pl_table.proofs.Outputs.{has-column, term-there}
 use Rattle.pl_table.proofs.Sorted.{code-of-cell}
 use Rattle.pl_table.proofs.Puts.{put-is}
 use Rattle.pl_feed.specs.Mornings.{pipeline_in, sids_in, world_in}

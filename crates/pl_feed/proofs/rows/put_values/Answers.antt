@@ -3,9 +3,10 @@ use Rattle.std.proofs.lemmas.List.{take_all}
 use Rattle.std.proofs.lemmas.Option.{slice_get_within}
 use Rattle.pl_spec.specs.Table.{NamedColumn}
 use Rattle.pl_table.specs.Rows.{value_fields}
-use Rattle.pl_table.proofs.Outputs.{columns-long, has-column, parts-more}
+use Rattle.pl_table.proofs.Outputs.{has-column, parts-more}
 use Rattle.pl_table.proofs.RowLines.{fields-more}
 use Rattle.pl_feed.specs.Mornings.{pipeline_in, sid_of, world_in}
+use Rattle.pl_terms.proofs.Graphs.{columns-long}
 use Rattle.pl_feed.proofs.rows.put_values.Goals as goal
 
 pub put_value-requires-clause-column : goal.put_value-requires-clause-column

@@ -13,6 +13,8 @@ use Rattle.pl_values.specs.Families.{IsOf, IsCode, sid_flag}
 use Rattle.pl_values.specs.declared.family.Family.TheVariants as family
 use Rattle.pl_values.specs.Arrays.{cell_of}
 use Rattle.pl_spec.specs.Value.{number_of as number_in, empty, sort_kind}
+use Rattle.pl_spec.proofs.Columns.{no_asset, sid-there}
+use Rattle.pl_spec.proofs.Cells.{empty-cell}
 use Rattle.pl_values.proofs.Texts.{texts-coded}
 use Rattle.pl_world.specs.Worlds.{world_of}
 use Rattle.pl_world.specs.Evaluations.{IsAsked, IsAskedInput, as_input, lets_pass, above, cell_in, input_cell_in, window_in}
@@ -20,10 +22,9 @@ use Rattle.pl_model.specs.Costs.{cost_in, input_cost_in}
 use Rattle.pl_world.proofs.Asked.{first-asked, second-asked, third-asked, input-below, window-one, start-asked}
 use Rattle.pl_world.proofs.Evaluated.{lacks-value, cell-barred, cell-kept, kept-mask, mask-passed, sid-of, not-windowed, constant-given, sid-given, label-named, label-given, label-test-given, window-early, windows-given, point-given, start-given, downsampled-plain}
 use Rattle.pl_model.proofs.Costs.{cost-lacks, cost-barred, cost-kept, start-cost}
-use Rattle.pl_model.proofs.Ready.{input-ready, mask-ready, mask-row-ready, group-row-ready, section-ready, empty-cell, sid-cell, code-cell, cell-after, in-turn}
+use Rattle.pl_model.proofs.Ready.{input-ready, mask-ready, mask-row-ready, group-row-ready, section-ready, sid-cell, code-cell, cell-after, in-turn}
 use Rattle.pl_model.proofs.Taken.{constant-free, label-free, static-free, test-taken, windows-taken, points-taken, rows-taken}
 use Rattle.pl_world.proofs.Windowing.{cells-more, steps-more, cells-all, steps-all, all-more, row-more, row-steps-more, row-all, row-steps-all}
-use Rattle.pl_world.proofs.Sections.{sid-there, blank}
 use Rattle.pl_model.proofs.evaluation.+evaluation.Goals as goal
 
 pub cell-returns-then-not-exists : goal.cell-returns-then-not-exists
@@ -573,9 +574,9 @@ term_row-loop-col-preserved g t c =
     let pushed : c.push.new.self.items ≡ c.loop-col.row.items ++ c.in_ok-cell.field-0 ∷ [] = search rules in
     let sid = sid-there w.assets.now i inside in
     record {
-      cells = row-more (λ b. cell_in w p c.args.u.0 b.sid c.args.session) (λ b. cost_in w p c.args.u.0 b.sid c.args.session) w.assets.now i blank inside c.loop-col.row.items c.push.new.self.items c.in_ok-cell.field-0
+      cells = row-more (λ b. cell_in w p c.args.u.0 b.sid c.args.session) (λ b. cost_in w p c.args.u.0 b.sid c.args.session) w.assets.now i no_asset inside c.loop-col.row.items c.push.new.self.items c.in_ok-cell.field-0
           pushed so_far.cells (c.in_ok-cell.ensures.value ∙ ap (λ a. cell_in w p c.args.u.0 a c.args.session) sid);
       all = all-more IsCell c.loop-col.row.items c.push.new.self.items c.in_ok-cell.field-0 pushed so_far.all c.in_ok-cell.ensures.cell;
-      cost = row-steps-more (λ b. cell_in w p c.args.u.0 b.sid c.args.session) (λ b. cost_in w p c.args.u.0 b.sid c.args.session) w.assets.now i blank inside c.args.steps.now c.loop-col.steps c.cell.new.steps so_far.cost
+      cost = row-steps-more (λ b. cell_in w p c.args.u.0 b.sid c.args.session) (λ b. cost_in w p c.args.u.0 b.sid c.args.session) w.assets.now i no_asset inside c.args.steps.now c.loop-col.steps c.cell.new.steps so_far.cost
           (c.in_ok-cell.ensures.cost ∙ ap (λ a. c.loop-col.steps + cost_in w p c.args.u.0 a c.args.session) sid);
     }

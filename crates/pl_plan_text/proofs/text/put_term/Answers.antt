@@ -1,9 +1,9 @@
 use Rattle.std.proofs.Common.{◌≡◌, ◌++◌, true, slice_get, OnOk, subst, ap, sym, ◌∙◌, rules}
 use Rattle.pl_terms.specs.Checked.{pipeline_of}
 use Rattle.pl_terms.specs.Nodes.{node_of}
+use Rattle.pl_terms.proofs.Graphs.{graph-at}
 use Rattle.pl_terms.specs.Uses as pipeline
 use Rattle.pl_planner.specs.Plans as plans
-use Rattle.pl_planner.proofs.Pipelines.{graph-at}
 use Rattle.pl_plan_text.specs.Text.{term_line}
 use Rattle.pl_plan_text.proofs.Lines.{line-is}
 use Rattle.pl_plan_text.proofs.text.put_term.Goals as goal

@@ -1,8 +1,8 @@
 use Rattle.std.proofs.Common.{◌≡◌, ◌++◌, length, ap, ◌∙◌, arith}
 use Rattle.std.proofs.lemmas.List.{append_assoc}
 use Rattle.pl_terms.specs.Checked.{pipeline_of}
+use Rattle.pl_terms.proofs.Graphs.{graph-long}
 use Rattle.pl_planner.specs.Plans.{extra}
-use Rattle.pl_planner.proofs.Pipelines.{graph-long}
 use Rattle.pl_plan_text.specs.Text.{used_line}
 use Rattle.pl_plan_text.proofs.Lines.{lines_below, one-more, all-lines}
 use Rattle.pl_plan_text.proofs.text.put_terms.Goals as goal

@@ -1,5 +1,6 @@
 use Rattle.std.proofs.Common.{◌≡◌, ◌<◌, ap, ◌∙◌, sym, length, arith, slice_get, rules}
-use Rattle.pl_planner.proofs.Pipelines.{graph-long, graph-at, graph-few}
+use Rattle.pl_planner.proofs.Pipelines.{graph-few}
+use Rattle.pl_terms.proofs.Graphs.{graph-long, graph-at}
 use Rattle.pl_planner.proofs.pipeline.node_at.Goals as goal
 
 pub overflow_cast-k : goal.overflow_cast-k

@@ -3,7 +3,8 @@ use Rattle.pl_spec.specs.Term.{Node}
 use Rattle.pl_spec.specs.Graph.{reads_at}
 use Rattle.pl_terms.specs.Nodes.{graph_of, node_of}
 use Rattle.pl_terms.specs.Checked.{Parts, pipeline_of, IsChecked}
-use Rattle.pl_planner.proofs.Pipelines.{ReadsTerms, is-pipeline, graph-at, window-is}
+use Rattle.pl_terms.proofs.Graphs.{graph-at}
+use Rattle.pl_planner.proofs.Pipelines.{ReadsTerms, is-pipeline, window-is}
 use Rattle.pl_planner.proofs.Gathers.{back-of, back-few}
 use Rattle.pl_planner.specs.Extra.{back_from}
 use Rattle.pl_spec.specs.Kind.{Kind}

@@ -2,9 +2,10 @@ use Rattle.std.proofs.Common.{ap, ◌∙◌, rules, get_or, option_to_list}
 use Rattle.pl_spec.specs.declared.Column.TheVariants.{OpenPrice}
 use Rattle.pl_terms.specs.Nodes.{input_of}
 use Rattle.pl_terms.specs.declared.node.Input.TheVariants as inputs
-use Rattle.pl_planner.specs.Reaching.{all_asked, input_ask}
+use Rattle.pl_planner.specs.Reaching.{all_asked}
 use Rattle.pl_planner.proofs.Asking.{below_at}
 use Rattle.pl_planner.proofs.Depths.{more-asked}
+use Rattle.pl_planner.specs.Extra.{input_ask}
 use Rattle.pl_planner.proofs.reach.read_inputs.Goals as goal
 
 pub read_input-requires-clause-lower : goal.read_input-requires-clause-lower

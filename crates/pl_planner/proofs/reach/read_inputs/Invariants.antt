@@ -1,6 +1,7 @@
 use Rattle.std.proofs.Common.{◌≡◌, length, map, take, filter_map}
 use Rattle.pl_terms.specs.Nodes.{input_of}
-use Rattle.pl_planner.specs.Reaching.{all_asked, input_ask}
+use Rattle.pl_planner.specs.Reaching.{all_asked}
+use Rattle.pl_planner.specs.Extra.{input_ask}
 use Rattle.pl_planner.proofs.reach.read_inputs.Given as goal
 
 abbrev pub invariant-loop-input : goal.invariant-loop-input

@@ -1,5 +1,3 @@
-use Rattle.std.proofs.Common.{◌∙◌, sym, ap}
-use Rattle.pl_planner.specs.Extra.{back_from}
 use Rattle.pl_planner.proofs.Pipelines.{back-own}
 use Rattle.pl_planner.proofs.uses.back_from.Goals as goal
 

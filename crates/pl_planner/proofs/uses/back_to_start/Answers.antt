@@ -1,4 +1,4 @@
-use Rattle.std.proofs.Common.{◌≤◌, ◌-◌, arith}
+use Rattle.std.proofs.Common.{arith}
 use Rattle.pl_planner.proofs.Pipelines.{back-early, back-start}
 use Rattle.pl_planner.proofs.uses.back_to_start.Goals as goal
 

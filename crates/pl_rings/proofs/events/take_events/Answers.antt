@@ -1,9 +1,10 @@
 use Rattle.std.proofs.Common.{◌≡◌, ◌<◌, min, length, [], ◌∷◌, rules, arith, refl, sym, ◌∙◌, ap, get_or}
+use Rattle.std.proofs.lemmas.List.{get_or_default}
 use Rattle.circular_buffer.specs.Buffer.{buffer}
 use Rattle.pl_adjust.specs.Events.{event_of}
 use Rattle.pl_rings.specs.Rings.{known_days}
 use Rattle.pl_rings.specs.Changes.{changed, ring_at}
-use Rattle.pl_rings.proofs.Cells.{changed_nothing, count_more, ring_set, rings_set, get_or-default, length-known, cost_more}
+use Rattle.pl_rings.proofs.Cells.{changed_nothing, count_more, ring_set, rings_set, length-known, cost_more}
 use Rattle.pl_rings.proofs.events.take_events.Goals as goal
 
 pub loop-event-init : goal.loop-event-init
@@ -19,7 +20,7 @@ take_event-requires-clause-ring g c =
     let blank = c.index-rings-event.result in
     let within : event.col < length c.args.rings.now = search rules in
     let here : event.col < length c.loop-event.rings = omega (arith, within, c.loop-event.invariant.rings.count) in
-    let same : get_or c.loop-event.rings event.col blank ≡ ring_at c.loop-event.rings event.col = get_or-default c.loop-event.rings event.col blank (buffer [] 0) here in
+    let same : get_or c.loop-event.rings event.col blank ≡ ring_at c.loop-event.rings event.col = get_or_default c.loop-event.rings event.col blank (buffer [] 0) here in
     rw same (c.loop-event.invariant.rings.each event.col within)
 
 pub loop-event-preserved : goal.loop-event-preserved
@@ -30,7 +31,7 @@ loop-event-preserved g c =
     let days = known_days c.args.fed c.args.days.now in
     let within : event.col < length c.args.rings.now = search rules in
     let here : event.col < length c.loop-event.rings = omega (arith, within, c.loop-event.invariant.rings.count) in
-    let same : get_or c.loop-event.rings event.col blank ≡ ring_at c.loop-event.rings event.col = get_or-default c.loop-event.rings event.col blank (buffer [] 0) here in
+    let same : get_or c.loop-event.rings event.col blank ≡ ring_at c.loop-event.rings event.col = get_or_default c.loop-event.rings event.col blank (buffer [] 0) here in
     let value = c.take_event.ensures.value ∙ ap (changed c.args.column (event_of event.adjust ∷ []) days) same in
     record {
       rings = rings_set (length c.args.rings.now) (length c.args.days.now) event.col c.loop-event.rings c.take_event.new.ring c.loop-event.invariant.rings c.take_event.ensures.ring within;

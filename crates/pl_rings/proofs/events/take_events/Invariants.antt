@@ -1,7 +1,7 @@
 use Rattle.std.proofs.Common.{◌≡◌, ℕ, ◌+◌, ◌*◌, ◌<◌, min, map, length, take}
-use Rattle.pl_rings.specs.Days.{events_at}
 use Rattle.pl_rings.specs.Rings.{known_days, scaling}
 use Rattle.pl_rings.specs.Changes.{AreRings, changed, column_event, ring_at}
+use Rattle.pl_adjust.specs.Columns.{events_at}
 use Rattle.pl_rings.proofs.events.take_events.Given as goal
 
 abbrev pub invariant-loop-event : goal.invariant-loop-event

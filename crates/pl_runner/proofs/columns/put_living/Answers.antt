@@ -1,7 +1,7 @@
-use Rattle.std.proofs.Common.{◌++◌, ◌∷◌, [], ◌∙◌, ap, sym, ℕ, List, arith}
+use Rattle.std.proofs.Common.{◌++◌, ◌∷◌, [], ◌∙◌, ap, sym, ℕ, List, arith, ◌+◌}
+use Rattle.pl_spec.proofs.Ranges.{filter-with, filter-without}
 use Rattle.pl_world.specs.Worlds.{world_of}
 use Rattle.pl_runner.specs.Chunks.{lives_within}
-use Rattle.pl_runner.proofs.Living.{filter-with, filter-without}
 use Rattle.pl_runner.proofs.columns.put_living.Goals as goal
 use Rattle.pl_runner.proofs.columns.put_living.Goals.{then-lives_within, else-lives_within}
 

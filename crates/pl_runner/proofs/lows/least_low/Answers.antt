@@ -1,6 +1,6 @@
 use Rattle.std.proofs.Common.{rules, ◌≡◌, ◌≤◌, ◌∙◌, min, length, sym, ap, arith}
-use Rattle.pl_planner.proofs.Pipelines.{graph-long}
 use Rattle.pl_terms.specs.Checked.{pipeline_of}
+use Rattle.pl_terms.proofs.Graphs.{graph-long}
 use Rattle.pl_runner.proofs.Terms.{so-far-none, so-far-end, so-far-same, so-far-more}
 use Rattle.pl_runner.proofs.lows.least_low.Goals as goal
 use Rattle.pl_runner.proofs.lows.least_low.Goals.{then-is_used, else-is_used}

@@ -1,10 +1,10 @@
 use Rattle.std.proofs.Common.{subst, ◌+◌, ◌≤◌, ◌∙◌, sym, ap, length, ℕ, arith}
 use Rattle.pl_terms.specs.Checked.{pipeline_of}
-use Rattle.pl_planner.proofs.Pipelines.{graph-long}
+use Rattle.pl_terms.proofs.Graphs.{graph-long}
 use Rattle.pl_workspace.specs.Slots.{Slots, Free, IsLive, slot_at, with_slot}
 use Rattle.pl_planner.specs.Plans.{slot_of}
+use Rattle.pl_planner.proofs.Pipelines.{output-used}
 use Rattle.pl_runner.specs.Releases.{HoldOnly}
-use Rattle.pl_runner.proofs.Terms.{output-used}
 use Rattle.pl_runner.proofs.Released.{live-inside, released, passed, all-released, slots-long}
 use Rattle.pl_runner.proofs.release.release_outputs.Goals as goal
 use Rattle.pl_runner.proofs.release.release_outputs.Goals.{then-is_output, else-is_output}

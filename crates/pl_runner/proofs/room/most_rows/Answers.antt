@@ -1,6 +1,6 @@
 use Rattle.std.proofs.Common.{rules, ◌≡◌, ◌<◌, ◌∙◌, max, length, sym, ap, subst, ℕ, arith}
 use Rattle.pl_terms.specs.Checked.{pipeline_of}
-use Rattle.pl_planner.proofs.Pipelines.{graph-long}
+use Rattle.pl_terms.proofs.Graphs.{graph-long}
 use Rattle.pl_runner.specs.Room.{IsMost}
 use Rattle.pl_runner.proofs.Rooms.{most-none, most-same, most-more}
 use Rattle.pl_runner.proofs.room.most_rows.Goals as goal

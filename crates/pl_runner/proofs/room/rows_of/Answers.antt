@@ -2,10 +2,10 @@ use Rattle.std.proofs.Common.{◌≡◌, length, ap, subst, List, Some, arith}
 use Rattle.std.specs.Prelude.{slice_get}
 use Rattle.pl_terms.specs.declared.node.Node.{Node}
 use Rattle.pl_terms.specs.Checked.{pipeline_of}
-use Rattle.pl_planner.proofs.Pipelines.{graph-long}
 use Rattle.pl_runner.proofs.Terms.{used-within}
 use Rattle.pl_runner.proofs.Rooms.{window-of}
 use Rattle.pl_runner.proofs.room.rows_of.Goals as goal
+use Rattle.pl_terms.proofs.Graphs.{graph-long}
 
 pub node-requires : goal.node-requires
 node-requires c =

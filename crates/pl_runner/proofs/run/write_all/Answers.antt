@@ -5,16 +5,16 @@ use Rattle.std.proofs.lemmas.Nat.{mul-le}
 use Rattle.std.proofs.lemmas.Result.{err_from_is_err_and}
 use Rattle.pl_outside.proofs.Pieces.{writing-start, writing-more, writing-end, writing-stop, writing-over, written-none, written-more}
 use Rattle.pl_spec.specs.Table.{table}
+use Rattle.pl_spec.specs.Limits.{cut}
 use Rattle.pl_world.specs.Worlds.{world_of}
 use Rattle.pl_terms.specs.Checked.{pipeline_of}
 use Rattle.pl_table.specs.Outcomes.{lines, rows_of_sessions}
 use Rattle.pl_table.specs.Sums.{rows_sum}
 use Rattle.pl_table.proofs.RowSums.{rows_sum-append}
-use Rattle.pl_table.proofs.SessionRows.{lines-append}
+use Rattle.pl_table.proofs.SessionRows.{lines-append, times-more}
 use Rattle.pl_runner.specs.Chunks.{chunk_at, chunk_count}
-use Rattle.pl_exec.specs.Tasks.{cut}
 use Rattle.pl_runner.specs.Runs.{run_steps, steps_of_chunk}
-use Rattle.pl_runner.proofs.ChunkRows.{start_of, rows-next, rows-end, rows-all, chunk-few, steps-next, steps-end, steps-all, times-more}
+use Rattle.pl_runner.proofs.ChunkRows.{start_of, rows-next, rows-end, rows-all, chunk-few, steps-next, steps-end, steps-all}
 use Rattle.pl_runner.proofs.run.write_all.Goals as goal
 
 pub loop-i-init : goal.loop-i-init

@@ -1,6 +1,7 @@
 use Rattle.std.proofs.Common.{◌≡◌, ℕ, ◌≤◌, ◌<◌, ◌+◌, ◌-◌, ◌*◌, ◌++◌, ◌+ℤ◌, length}
 use Rattle.pl_spec.specs.Graph.{bound}
 use Rattle.pl_spec.specs.Table.{table}
+use Rattle.pl_spec.specs.Limits.{cut}
 use Rattle.pl_outside.specs.Taken.{IsWrittenIn}
 use Rattle.pl_outside.proofs.Pieces.{Writing}
 use Rattle.pl_world.specs.Worlds.{world_of}
@@ -9,7 +10,6 @@ use Rattle.pl_terms.specs.Uses.{outputs}
 use Rattle.pl_table.specs.Outcomes.{lines, rows_of_sessions}
 use Rattle.pl_table.specs.Sums.{rows_sum}
 use Rattle.pl_runner.specs.Chunks.{chunk_count}
-use Rattle.pl_exec.specs.Tasks.{cut}
 use Rattle.pl_runner.specs.Desks.{IsDesk}
 use Rattle.pl_runner.specs.Runs.{run_steps}
 use Rattle.pl_runner.proofs.ChunkRows.{start_of, steps_from}

@@ -4,10 +4,10 @@ use Rattle.std.proofs.lemmas.Int.{to_z-of_z, to_z_pos}
 use Rattle.pl_spec.specs.Rounding.{div_round, isqrt, to_cell}
 use Rattle.pl_spec.specs.Formula.{present_values, total, count, square, spread}
 use Rattle.pl_lanes.proofs.Cells.{few-present, total-few}
-use Rattle.pl_factors.proofs.Squares.{mean-within}
 use Rattle.pl_running.specs.Kept.{Kept}
 use Rattle.pl_running.proofs.Bounds.{sum-within}
 use Rattle.pl_running.proofs.Exact.{same}
+use Rattle.pl_fixed.proofs.RoundingLemmas.{div_round-few}
 use Rattle.pl_running.proofs.deviations.deviation.Goals as goal
 
 -- the middle that the code computes
@@ -28,7 +28,7 @@ squares_about-squares-requires-clause-middle c =
     let n : c.kept.inside.number ≡ count xs = ap (λ (k : Kept). k.number) (c.kept.view_is ∙ c.requires.stands) in
     let none = c.if-kept-eq0.false in
     let some : 0 < count xs = omega arith in
-    rw (to_z-of_z w128 _ fd, middle c) (mean-within (total (present_values xs)) (count xs) some (total-few xs c.requires.cells))
+    rw (to_z-of_z w128 _ fd, middle c) (div_round-few (total (present_values xs)) (count xs) some (total-few xs c.requires.cells))
 
 pub returns-clause-value : goal.returns-clause-value
 returns-clause-value c =

@@ -3,8 +3,8 @@ use Rattle.std.specs.Int.{w128}
 use Rattle.std.proofs.lemmas.Int.{to_z-of_z, to_z_pos}
 use Rattle.pl_spec.specs.Rounding.{quot, is_missing}
 use Rattle.pl_spec.specs.Formula.{HUNDRED, count}
-use Rattle.pl_lanes.proofs.Cells.{is_there}
 use Rattle.pl_running.specs.Kept.{first_place}
+use Rattle.pl_fixed.proofs.CellLemmas.{is_missing-not}
 use Rattle.pl_running.proofs.places.hundredths.Goals as goal
 
 scaled : (n : ℕ) → n < 2 ^ 64 → to_z w128 (of_z w128 (to_z w128 n *ℤ pos 100000000)) ≡ pos n *ℤ HUNDRED
@@ -18,7 +18,7 @@ returns-clause-value c =
     let xs = c.args.a.now in
     let fx : FitsSigned w64 c.args.x = c.ranges.x in
     let fr : FitsSigned w64 c.quot.result = search rules in
-    let there = is_there c.args.x fx c.if-x-eq-MISSING.false in
+    let there = is_missing-not c.args.x fx c.if-x-eq-MISSING.false in
     let some : nat_eq (count xs) 0 ≡ false = ne_eqb _ _ (λ z. let m : is_missing c.args.x ≡ true = c.requires.known.1 z in cc) in
     let last : to_z w128 c.saturating_sub.result ≡ pos (length xs - 1) = to_z_pos w128 _ (omega arith) ∙ ap pos c.saturating_sub.ensures in
     rw some (to_z-of_z w64 _ fr ∙ c.quot.ensures.value ∙ ap₂ quot (scaled c.args.place (omega arith) ∙ ap (λ n. pos n *ℤ HUNDRED) c.requires.place) last)

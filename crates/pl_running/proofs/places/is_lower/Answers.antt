@@ -1,7 +1,8 @@
 use Rattle.std.proofs.Common.{FitsSigned, w64, arith}
 use Rattle.std.proofs.lemmas.Int.{to_z-of_z}
-use Rattle.pl_lanes.proofs.Cells.{is_gone, is_there, is_within}
+use Rattle.pl_lanes.proofs.Cells.{is_gone, is_within}
 use Rattle.pl_running.proofs.Peaks.{lower-is, depth-some, depth-none}
+use Rattle.pl_fixed.proofs.CellLemmas.{is_missing-not}
 use Rattle.pl_running.proofs.places.is_lower.Goals as goal
 
 pub returns-then-x-eq-MISSING-clause-no : goal.returns-then-x-eq-MISSING-clause-no
@@ -10,21 +11,21 @@ returns-then-x-eq-MISSING-clause-no c = λ _. let z = depth-none c.args.x (is_go
 pub returns-then-best-eq-MISSING-clause-yes : goal.returns-then-best-eq-MISSING-clause-yes
 returns-then-best-eq-MISSING-clause-yes c = λ _.
     let z = depth-none c.args.best (is_gone c.args.best c.ranges.best c.if-best-eq-MISSING.true) in
-    let s = depth-some c.args.x (is_within c.args.x c.requires.cell (is_there c.args.x c.ranges.x c.if-x-eq-MISSING.false)) in
+    let s = depth-some c.args.x (is_within c.args.x c.requires.cell (is_missing-not c.args.x c.ranges.x c.if-x-eq-MISSING.false)) in
     omega (arith, z, s)
 
 pub returns-else-best-eq-MISSING-clause-yes : goal.returns-else-best-eq-MISSING-clause-yes
 returns-else-best-eq-MISSING-clause-yes c =
     let fx : FitsSigned w64 c.args.x = c.ranges.x in
     let fb : FitsSigned w64 c.args.best = c.ranges.best in
-    let x = is_within c.args.x c.requires.cell (is_there c.args.x fx c.if-x-eq-MISSING.false) in
-    let g = is_within c.args.best c.requires.best (is_there c.args.best fb c.if-best-eq-MISSING.false) in
+    let x = is_within c.args.x c.requires.cell (is_missing-not c.args.x fx c.if-x-eq-MISSING.false) in
+    let g = is_within c.args.best c.requires.best (is_missing-not c.args.best fb c.if-best-eq-MISSING.false) in
     rw (to_z-of_z w64 c.args.best fb, to_z-of_z w64 c.args.x fx) (lower-is c.args.x c.args.best x g).0
 
 pub returns-else-best-eq-MISSING-clause-no : goal.returns-else-best-eq-MISSING-clause-no
 returns-else-best-eq-MISSING-clause-no c =
     let fx : FitsSigned w64 c.args.x = c.ranges.x in
     let fb : FitsSigned w64 c.args.best = c.ranges.best in
-    let x = is_within c.args.x c.requires.cell (is_there c.args.x fx c.if-x-eq-MISSING.false) in
-    let g = is_within c.args.best c.requires.best (is_there c.args.best fb c.if-best-eq-MISSING.false) in
+    let x = is_within c.args.x c.requires.cell (is_missing-not c.args.x fx c.if-x-eq-MISSING.false) in
+    let g = is_within c.args.best c.requires.best (is_missing-not c.args.best fb c.if-best-eq-MISSING.false) in
     rw (to_z-of_z w64 c.args.best fb, to_z-of_z w64 c.args.x fx) (lower-is c.args.x c.args.best x g).1

@@ -1,4 +1,4 @@
-use Rattle.std.proofs.Common.{refl, arith, ◌≡◌, ℕ}
+use Rattle.std.proofs.Common.{refl, arith, ◌≡◌}
 use Rattle.pl_syntax.proofs.Lines.{first_line}
 use Rattle.pl_syntax.proofs.writer.version_line.Goals as goal
 

@@ -3,9 +3,10 @@ use Rattle.std.specs.Prelude.{flat_map}
 use Rattle.std.proofs.lemmas.List.{take_all}
 use Rattle.pl_spec.specs.Table.{NamedColumn}
 use Rattle.pl_terms.specs.Checked.{pipeline_of}
+use Rattle.pl_terms.proofs.Graphs.{columns-long}
 use Rattle.pl_table.specs.Fields.{date_part, sid_part, field_part}
 use Rattle.pl_table.proofs.Lines.{header-is}
-use Rattle.pl_table.proofs.Outputs.{columns-long, names-more, parts-more}
+use Rattle.pl_table.proofs.Outputs.{names-more, parts-more}
 use Rattle.pl_table.proofs.header.make_header.Goals as goal
 
 pub loop-column-preserved : goal.loop-column-preserved

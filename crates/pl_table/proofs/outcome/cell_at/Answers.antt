@@ -1,5 +1,5 @@
 use Rattle.pl_table.specs.Outcomes.{pipeline_in}
-use Rattle.pl_table.proofs.Outputs.{output-used}
+use Rattle.pl_planner.proofs.Pipelines.{output-used}
 use Rattle.pl_table.proofs.outcome.cell_at.Goals as goal
 
 pub low_at-low-requires-clause-used : goal.low_at-low-requires-clause-used

@@ -1,7 +1,7 @@
 use Rattle.std.proofs.Common.{◌≡◌, ◌+◌, ◌-◌, ◌*◌, ◌∙◌, ap, sym, ℕ, pos, get_or, take, drop, arith}
 use Rattle.pl_table.specs.Outcomes.{pipeline_in}
-use Rattle.pl_table.proofs.Outputs.{output-used}
 use Rattle.pl_workspace.specs.Slots.{slot_at}
+use Rattle.pl_planner.proofs.Pipelines.{output-used}
 use Rattle.pl_table.proofs.Tiles as tiles
 use Rattle.pl_table.proofs.outcome.cells_from.Goals as goal
 

@@ -10,11 +10,12 @@ use Rattle.pl_cross.specs.Arrays.{sid_in}
 use Rattle.pl_table.specs.Outcomes.{pipeline_in, sids_in, world_in}
 use Rattle.pl_table.specs.Rows.{row_values, value_fields}
 use Rattle.pl_table.specs.Sums.{values_sum}
-use Rattle.pl_table.proofs.Outputs.{columns-long, has-column, parts-more}
+use Rattle.pl_table.proofs.Outputs.{has-column, parts-more}
 use Rattle.pl_table.proofs.RowLines.{fields-more}
 use Rattle.pl_table.proofs.RowSums.{values_sum-more, sum-grows}
 use Rattle.pl_table.proofs.rows.put_values.Goals as goal
 use Rattle.pl_table.proofs.rows.put_values.Goals.{After-loop-column}
+use Rattle.pl_terms.proofs.Graphs.{columns-long}
 
 pub put_value-sum-requires-clause-column : goal.put_value-sum-requires-clause-column
 put_value-sum-requires-clause-column c = omega (arith, c.columns-column-end.ensures, columns-long c.args.cells.now.outcome.now.checked.now.columns)

@@ -2,9 +2,10 @@ use Rattle.std.proofs.Common.{rules, ◌≡◌, ◌≤◌, ◌+◌, ◌*◌, ◌
 use Rattle.std.proofs.lemmas.Int.{to_z-of_z}
 use Rattle.pl_spec.specs.Graph.{contains}
 use Rattle.pl_terms.specs.Uses.{outputs}
+use Rattle.pl_terms.proofs.Graphs.{columns-long, column-output}
 use Rattle.pl_table.specs.Outcomes.{pipeline_in}
 use Rattle.pl_table.specs.Tiles.{sessions_in}
-use Rattle.pl_table.proofs.Outputs.{columns-long, has-column, term-there, column-output}
+use Rattle.pl_table.proofs.Outputs.{has-column, term-there}
 use Rattle.pl_table.proofs.Tiles as tiles
 use Rattle.pl_table.proofs.tile.copy_cells.Goals as goal
 

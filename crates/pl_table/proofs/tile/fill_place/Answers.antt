@@ -1,6 +1,6 @@
 use Rattle.std.proofs.Common.{◌≤◌, length, arith}
 use Rattle.pl_table.specs.Outcomes.{pipeline_in}
-use Rattle.pl_table.proofs.Outputs.{columns-long, column-output}
+use Rattle.pl_terms.proofs.Graphs.{columns-long, column-output}
 use Rattle.pl_table.proofs.Tiles as tiles
 use Rattle.pl_table.proofs.tile.fill_place.Goals as goal
 

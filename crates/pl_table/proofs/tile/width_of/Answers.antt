@@ -1,5 +1,5 @@
 use Rattle.std.proofs.Common.{arith}
-use Rattle.pl_table.proofs.Outputs.{columns-long}
+use Rattle.pl_terms.proofs.Graphs.{columns-long}
 use Rattle.pl_table.proofs.tile.width_of.Goals as goal
 
 pub overflow_add-result : goal.overflow_add-result

@@ -1,5 +1,6 @@
 use Rattle.std.proofs.Common.{◌≡◌, ℤ, List, Some, All, slice_get, ◌∙◌, sym, ap, length, option_map, subst, arith}
 use Rattle.std.proofs.lemmas.Grind.{common_steps}
+use Rattle.std.proofs.lemmas.List.{take_at}
 use Rattle.pl_spec.specs.Rounding.{IsCell, MISSING}
 use Rattle.pl_spec.specs.Cross.{at}
 use Rattle.pl_cross.specs.Listing.{labels_in, Fits}
@@ -8,7 +9,7 @@ use Rattle.pl_values.proofs.Texts.{texts-coded}
 use Rattle.pl_terms.specs.Kinds.{kind_of}
 use Rattle.pl_world.specs.Worlds.{world_of}
 use Rattle.pl_world.proofs.Evaluated.{section-is}
-use Rattle.pl_world.proofs.Sections.{right, section-given, groups-fit, mask-fits, some-mapped, section-end, values-long, row-whole, front-taken}
+use Rattle.pl_world.proofs.Sections.{right, section-given, groups-fit, mask-fits, some-mapped, section-end, values-long, row-whole}
 use Rattle.pl_world.proofs.parts.section_row.Goals as goal
 
 pub keep_row-requires-clause-mask : goal.keep_row-requires-clause-mask
@@ -49,7 +50,7 @@ returns-clause-row c =
     let assets = c.len-assets.ensures.assets in
     let long : length c.section_values.new.out ≡ c.in_ok-out.out.len = grind (arith, common_steps, c.section_values.ensures.length, c.deref_mut.ensures.value, c.in_ok-out.out.ok) in
     let size : length c.section_values.new.out ≡ length w.assets.now = grind (arith, common_steps, c.section_values.ensures.length, c.deref_mut.ensures.len, c.in_ok-out.ensures.len, c.len-assets.ensures.length) in
-    let got = front-taken c.in_ok-out.out.len c.section_values.new.out _ long in
+    let got = take_at c.section_values.new.out _ c.in_ok-out.out.len long in
     let given = section-given w p ok assets c.args.session c.args.t.0 n is (c.requires.kind n is) texts c.args.values.now _ _ c.requires.rows c.in_ok-keep.keep.items c.in_ok-keep.ensures f.0 f.1 in
     let wide = values-long w p ok assets c.args.session c.args.t.0 n is (c.requires.kind n is) texts c.args.values.now _ _ c.requires.rows in
     got ∙ row-whole w p c.args.t.0 c.args.session c.section_values.new.out MISSING size
@@ -59,4 +60,4 @@ returns-clause-row c =
 pub returns-clause-cells : goal.returns-clause-cells
 returns-clause-cells c =
     let long : length c.section_values.new.out ≡ c.in_ok-out.out.len = grind (arith, common_steps, c.section_values.ensures.length, c.deref_mut.ensures.value, c.in_ok-out.out.ok) in
-    subst (All IsCell) (sym (front-taken c.in_ok-out.out.len c.section_values.new.out _ long)) c.section_values.ensures.cells
+    subst (All IsCell) (sym (take_at c.section_values.new.out _ c.in_ok-out.out.len long)) c.section_values.ensures.cells

@@ -1,5 +1,6 @@
 use Rattle.std.proofs.Common.{inl, ◌≡◌, ◌+◌, length, subst, ap, ◌∙◌, sym, arith}
-use Rattle.pl_adjarray.specs.Buffered.{Buffered, AreSeen, HasCells, applied_at, cut}
+use Rattle.pl_spec.specs.Limits.{cut}
+use Rattle.pl_adjarray.specs.Buffered.{Buffered, AreSeen, HasCells, applied_at}
 use Rattle.pl_adjarray.specs.Inside.{IsReady, buffered_of}
 use Rattle.pl_adjarray.proofs.ColumnWorlds.{own_cell}
 use Rattle.pl_adjarray.proofs.Slides.{raw_at_first, none_applied}

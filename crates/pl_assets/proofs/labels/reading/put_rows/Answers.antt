@@ -1,16 +1,15 @@
-use Rattle.std.proofs.Common.{◌≡◌, ◌∙◌, ap, sym, ◌<◌, length, arith, rules, length-append, ◌∷◌, ◌++◌, [], FitsSigned, w32}
+use Rattle.std.proofs.Common.{◌≡◌, ◌<◌, length, arith, rules, length-append, ◌∷◌, ◌++◌, [], FitsSigned, w32}
 use Rattle.std.proofs.lemmas.Int.{to_z-of_z}
 use Rattle.std.proofs.lemmas.Result.{err_from_is_err_and}
 use Rattle.pl_records.specs.Reading.{rows_of}
 use Rattle.pl_records.proofs.Readings.{goes_on, stops, is_done}
 use Rattle.pl_spec.specs.Limits.{most_labels}
-use Rattle.pl_assets.specs.Labels.{says_label, texts_of}
+use Rattle.pl_assets.specs.Labels.{says_label}
 use Rattle.pl_assets.specs.LabelFaults.{fault_of}
 use Rattle.pl_assets.specs.LabelPlaces.{shown_rows}
 use Rattle.pl_assets.specs.LabelStarts.{row_from}
-use Rattle.pl_assets.proofs.LabelKeys.{AreKeys-more, AreKeys-none}
-use Rattle.pl_assets.proofs.LabelRowsMade.{no_rows, no_numbers}
-use Rattle.pl_assets.proofs.FirstSeen.{no_texts, texts_next}
+use Rattle.pl_assets.proofs.LabelKeys.{AreKeys-more}
+use Rattle.pl_assets.proofs.FirstSeen.{texts_next}
 use Rattle.pl_assets.proofs.labels.reading.put_rows.Goals as goal
 
 pub rows-init : goal.rows-init

@@ -3,9 +3,9 @@ use Rattle.std.proofs.lemmas.Int.{to_z-of_z}
 use Rattle.pl_spec.specs.Parts.{sid_at}
 use Rattle.pl_spec.specs.Table.{in_array, value_of}
 use Rattle.pl_terms.specs.Checked.{columns_of}
+use Rattle.pl_terms.proofs.Graphs.{columns-long}
 use Rattle.pl_rings.specs.Days.{last_session}
 use Rattle.pl_daily.specs.Daily.{Held, Stands, world_in}
-use Rattle.pl_daily.proofs.Outputs.{columns-count}
 use Rattle.pl_daily.proofs.Shown.{col_row, is_cell, is_value, term_in}
 use Rattle.pl_daily.proofs.daily.Daily.value.Goals as goal
 
@@ -13,7 +13,7 @@ pub column_term-term-requires : goal.column_term-term-requires
 column_term-term-requires c =
     let cs = c.self.inside.checked.now.columns in
     let r : c.args.column < length (columns_of cs) = subst (λ (h : Held). c.args.column < length h.pipeline.columns) (sym c.self.view_is) c.requires.column in
-    let e = columns-count cs in
+    let e = columns-long cs in
     omega (arith, r, e)
 
 pub index-requires : goal.index-requires

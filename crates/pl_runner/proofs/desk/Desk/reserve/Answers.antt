@@ -3,9 +3,9 @@ use Rattle.std.proofs.lemmas.List.{length-replicate, get_or-replicate}
 use Rattle.pl_workspace.specs.Slots.{Slots, Free, Begun, fresh, slot_at}
 use Rattle.pl_world.specs.Worlds.{world_of}
 use Rattle.pl_terms.specs.Checked.{pipeline_of}
+use Rattle.pl_terms.proofs.Graphs.{columns-long}
 use Rattle.pl_runner.specs.Chunks.{chunk_at}
 use Rattle.pl_runner.specs.Room.{HasRoom}
-use Rattle.pl_table.proofs.Outputs.{columns-long}
 use Rattle.pl_runner.proofs.desk.Desk.reserve.Goals as goal
 
 fresh-many : (w : Slots) (n len : ℕ) → w ≡ fresh n len → length w.slots ≡ n

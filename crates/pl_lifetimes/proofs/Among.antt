@@ -1,4 +1,4 @@
--- Which assets exist, by their places.
+-- Which sids are those of assets that pass a test.
 use Rattle.std.proofs.Common.{◌≡◌, ℕ, zero, suc, ◌<◌, ◌==◌, Bool, true, false, List, [], ◌∷◌, length, map, filter, get_or, slice_get, Some, None, refl, ap, arith}
 use Rattle.std.specs.List.{list_any, AllPairs}
 use Rattle.std.proofs.lemmas.Bool.Decides.{nat_tests}
