@@ -31,7 +31,7 @@ use Rattle.pl_records.proofs.RuleTables.{told_ok, ok_or-Ok}
 use Rattle.std.specs.Option.{ok_or}
 use Rattle.pl_calendar.specs.Days.{AreDays}
 use Rattle.pl_lifetimes.specs.Assets.{AreAssets}
-use Rattle.pl_spec.proofs.Lists.{filter-map}
+use Rattle.pl_spec.proofs.Lists.{filter-map, filter-swap}
 use Rattle.pl_bars.specs.Bars.{is_negative}
 use Rattle.pl_adjust.specs.declared.revisions.Revision.{Revision}
 use Rattle.pl_adjust.specs.Columns.{StandByDay, by_place, in_column}
@@ -162,17 +162,6 @@ picked at xs = map (λ x. x.event) (filter (λ x. at x.col) xs)
 -- they do the same to each cell, whichever columns are picked
 abbrev pub PickedAlike : List ColumnAdjustment → List ColumnAdjustment → Type 0
 PickedAlike xs ys = (at : ℕ → Bool) (c : Column) (bar low high : ℤ) → effects_in c bar low high (picked at xs) ≡ effects_in c bar low high (picked at ys)
-
-filter-swap : {A : Type 0} (p q : A → Bool) (xs : List A) → filter p (filter q xs) ≡ filter q (filter p xs)
-filter-swap p q [] = refl
-filter-swap {A} p q (x ∷ xs) = here (p x) (q x) refl refl (filter-swap p q xs)
-  where
-    here : (b c : Bool) → p x ≡ b → q x ≡ c → filter p (filter q xs) ≡ filter q (filter p xs)
-        → filter p (cond c (x ∷ filter q xs) (filter q xs)) ≡ filter q (cond b (x ∷ filter p xs) (filter p xs))
-    here true true e f rest = rw (e, f) (ap (λ l. x ∷ l) rest)
-    here true false e f rest = rw f rest
-    here false true e f rest = rw e rest
-    here false false e f rest = rest
 
 -- what does nothing may be left out
 kept : {A B : Type 0} (f : A → Option B) (p : A → Bool) (xs : List A) → filter_map f (filter p xs) ≡ filter_map f (filter p (filter (λ x. is_some (f x)) xs))

@@ -15,7 +15,7 @@ use Rattle.pl_spec.specs.World.{World, IsWorld, Bar, LabelRow, Adjustment, event
 use Rattle.pl_spec.specs.Agree.{Agree, is_known}
 use Rattle.pl_spec.specs.Parts.{ColumnLabel, ColumnAdjustment, bar_of, label_of, adjustment_of}
 use Rattle.pl_spec.specs.AsOf.{as_of, has_started, bars_before, adjustments_by}
-use Rattle.pl_spec.proofs.Lists.{filter-map, filter-filter}
+use Rattle.pl_spec.proofs.Lists.{filter-map, filter-filter, filter-swap}
 use Rattle.pl_laws.specs.AsOfLaws.{PartsOf}
 use Rattle.pl_laws.proofs.Law.{day_by, labels-of_days}
 
@@ -31,17 +31,6 @@ find-filter p q h (x ∷ xs) = here (p x) (q x) refl refl (find-filter p q h xs)
     here true false e f rest = let t : q x ≡ true = h x e in let bad : true ≡ false = sym t ∙ f in cc
     here false true e f rest = rw e rest
     here false false e f rest = rw e rest
-
-pub filter-swap : {X : Type 0} (p q : X → Bool) (xs : List X) → filter p (filter q xs) ≡ filter q (filter p xs)
-filter-swap p q [] = refl
-filter-swap p q (x ∷ xs) = here (p x) (q x) refl refl (filter-swap p q xs)
-  where
-    here : (b c : Bool) → p x ≡ b → q x ≡ c → filter p (filter q xs) ≡ filter q (filter p xs)
-        → filter p (cond c (x ∷ filter q xs) (filter q xs)) ≡ filter q (cond b (x ∷ filter p xs) (filter p xs))
-    here true true e f rest = rw (e, f) (ap (λ l. x ∷ l) rest)
-    here true false e f rest = rw f rest
-    here false true e f rest = rw e rest
-    here false false e f rest = rest
 
 pub slice_get-take : {X : Type 0} (xs : List X) (n i : ℕ) → i < n → slice_get (take n xs) i ≡ slice_get xs i
 slice_get-take [] zero i h = absurd (omega arith)

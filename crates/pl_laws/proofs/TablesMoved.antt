@@ -13,8 +13,8 @@ use Rattle.pl_spec.specs.Order.{IsByDay, acts_at, adjustment_in, by_day, is_of, 
 use Rattle.pl_spec.proofs.ByDay.{by_day-is_by_day, by_day_is_one}
 use Rattle.pl_spec.proofs.Permuted.{filter-permuted, one-permuted}
 use Rattle.pl_spec.proofs.Signed.{int_eq-true}
+use Rattle.pl_spec.proofs.Lists.{filter-swap}
 use Rattle.pl_laws.specs.PermutedLaws.{RowsHaveOwnDays, TableRowsInAnyOrder}
-use Rattle.pl_laws.proofs.AsOf.{filter-swap}
 
 module _ (a : ℕ) where
   abbrev own : Adjustment → Bool

@@ -21,6 +21,17 @@ filter-filter p q h (x ∷ xs) = here (p x) (q x) refl refl (filter-filter p q h
     here false true e f rest = rw e rest
     here false false e f rest = rest
 
+pub filter-swap : {X : Type 0} (p q : X → Bool) (xs : List X) → filter p (filter q xs) ≡ filter q (filter p xs)
+filter-swap p q [] = refl
+filter-swap p q (x ∷ xs) = here (p x) (q x) refl refl (filter-swap p q xs)
+  where
+    here : (b c : Bool) → p x ≡ b → q x ≡ c → filter p (filter q xs) ≡ filter q (filter p xs)
+        → filter p (cond c (x ∷ filter q xs) (filter q xs)) ≡ filter q (cond b (x ∷ filter p xs) (filter p xs))
+    here true true e f rest = rw (e, f) (ap (λ l. x ∷ l) rest)
+    here true false e f rest = rw f rest
+    here false true e f rest = rw e rest
+    here false false e f rest = rest
+
 pub filter-twice : {X : Type 0} (p q : X → Bool) (xs : List X) → filter p (filter q xs) ≡ filter (λ x. q x && p x) xs
 filter-twice p q [] = refl
 filter-twice p q (x ∷ xs) = here (q x) refl (filter-twice p q xs)

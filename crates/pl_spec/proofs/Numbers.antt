@@ -1,24 +1,17 @@
 -- Numbers are found by what was known, whatever comes later, and in whatever order.
-use Rattle.std.proofs.Common.{◌≡◌, ℕ, Bool, true, false, cond, ℤ, ◌≤ℤ◌, List, [], ◌∷◌, filter, find, Option, Some, None, option_map, unwrap_or, Contains, IsPermutation, refl, sym, ◌∙◌, ap, arith}
+use Rattle.std.proofs.Common.{◌≡◌, ℕ, Bool, true, ℤ, ◌≤ℤ◌, List, filter, find, option_map, unwrap_or, Contains, IsPermutation, sym, ◌∙◌, ap, arith}
 use Rattle.std.specs.List.{list_all}
 use Rattle.std.specs.Int.RustNames.{int_le}
 use Rattle.std.proofs.Math.Path.{fun_ext}
 use Rattle.std.proofs.lemmas.Int.{ints}
-use Rattle.std.proofs.lemmas.Bool.{eqb-true, and_parts, true≢false}
+use Rattle.std.proofs.lemmas.Bool.{eqb-true, and_parts}
 use Rattle.std.proofs.lemmas.Slice.Eq.{bytes_eq-Decides}
 use Rattle.pl_spec.specs.Rounding.{MISSING}
 use Rattle.pl_spec.specs.Numbers.{NumberRow, last_known, is_number_of, number_at, numbers_by, NumbersOnce, NumbersAreFound, NumbersLookBack}
+use Rattle.pl_spec.proofs.Signed.{int_le-true, le-int_le, le-both}
+use Rattle.pl_spec.proofs.Lists.{filter-filter}
 use Rattle.pl_spec.proofs.Finds.{find-one, find-none, contains-filter, filter-contains, all-contains, contains-all}
 use Rattle.pl_spec.proofs.Permuted.{filter-permuted, find-permuted, list_all-permuted}
-
-not_later : (x y : ℤ) → int_le x y ≡ true → x ≤ℤ y
-not_later x y e = grind (arith, ints)
-
-is_not_later : (x y : ℤ) → x ≤ℤ y → int_le x y ≡ true
-is_not_later x y h = grind (arith, ints)
-
-one_day : (x y : ℤ) → x ≤ℤ y → y ≤ℤ x → x ≡ y
-one_day x y h g = omega (arith, ints)
 
 abbrev is_last : List NumberRow → NumberRow → Bool
 is_last rows r = list_all (λ q. int_le q.known r.known) rows
@@ -37,9 +30,9 @@ one_last rows once name a day x y in_x in_y last_x last_y =
     let row_y = filter-contains (is_number_of name a day) rows y in_y in
     let of_x = number_of name a day x row_x.1 in
     let of_y = number_of name a day y row_y.1 in
-    let below : y.known ≤ℤ x.known = not_later y.known x.known (all-contains (λ q. int_le q.known x.known) (filter (is_number_of name a day) rows) last_x y in_y) in
-    let above : x.known ≤ℤ y.known = not_later x.known y.known (all-contains (λ q. int_le q.known y.known) (filter (is_number_of name a day) rows) last_y x in_x) in
-    once x y row_x.0 row_y.0 (of_x.0 ∙ sym of_y.0) (of_x.1 ∙ sym of_y.1) (one_day x.known y.known above below)
+    let below : y.known ≤ℤ x.known = int_le-true y.known x.known (all-contains (λ q. int_le q.known x.known) (filter (is_number_of name a day) rows) last_x y in_y) in
+    let above : x.known ≤ℤ y.known = int_le-true x.known y.known (all-contains (λ q. int_le q.known y.known) (filter (is_number_of name a day) rows) last_y x in_x) in
+    once x y row_x.0 row_y.0 (of_x.0 ∙ sym of_y.0) (of_x.1 ∙ sym of_y.1) (le-both x.known y.known above below)
 
 number-found : (rows : List NumberRow) → NumbersOnce rows → (name : List ℕ) (a : ℕ) (day : ℤ) → (r : NumberRow) → Contains rows r → is_number_of name a day r ≡ true
     → ((q : NumberRow) → Contains rows q → is_number_of name a day q ≡ true → q.known ≤ℤ r.known) → number_at rows name a day ≡ r.value
@@ -54,7 +47,7 @@ number-found rows once name a day r h e latest = ap (λ o. unwrap_or (option_map
     is_last_one : is_last us r ≡ true
     is_last_one =
         contains-all (λ q. int_le q.known r.known) (filter (is_number_of name a day) rows)
-        (λ q in_us. let place = filter-contains (is_number_of name a day) rows q in_us in is_not_later q.known r.known (latest q place.0 place.1))
+        (λ q in_us. let place = filter-contains (is_number_of name a day) rows q in_us in le-int_le q.known r.known (latest q place.0 place.1))
 
     one : (y : NumberRow) → Contains us y → is_last us y ≡ true → y ≡ r
     one y in_us last = one_last rows once name a day y r in_us here last is_last_one
@@ -66,16 +59,6 @@ number-none rows name a day none =
     (λ y in_us e. let place = filter-contains (is_number_of name a day) rows y in_us in none y place.0 place.1))
 
 -- ---- what comes later
-
-filter-filter : {X : Type 0} (p q : X → Bool) → ((x : X) → p x ≡ true → q x ≡ true) → (xs : List X) → filter p (filter q xs) ≡ filter p xs
-filter-filter p q asked [] = refl
-filter-filter p q asked (x ∷ xs) = here (p x) (q x) refl refl (filter-filter p q asked xs)
-  where
-    here : (b c : Bool) → p x ≡ b → q x ≡ c → filter p (filter q xs) ≡ filter p xs → filter p (cond c (x ∷ filter q xs) (filter q xs)) ≡ cond b (x ∷ filter p xs) (filter p xs)
-    here true true e f rest = rw e (ap (λ l. x ∷ l) rest)
-    here true false e f rest = absurd (true≢false (sym (asked x e) ∙ f))
-    here false true e f rest = rw e rest
-    here false false e f rest = rest
 
 known_by : (name : List ℕ) (a : ℕ) (d day : ℤ) → d ≤ℤ day → (r : NumberRow) → is_number_of name a d r ≡ true → int_le r.known day ≡ true
 known_by name a d day h r p = grind (arith, ints)
