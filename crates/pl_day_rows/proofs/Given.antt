@@ -15,7 +15,7 @@ use Rattle.pl_spec.specs.Term.Input.{BarColumn, TermInput}
 use Rattle.pl_spec.specs.Table.{Pipeline}
 use Rattle.pl_spec.specs.Value.{sort_kind}
 use Rattle.pl_spec.specs.Window.{before, seen_cell}
-use Rattle.pl_spec.proofs.Cells.{empty-cell}
+use Rattle.pl_spec.proofs.Cells.{chosen-cell, empty-cell}
 use Rattle.pl_terms.specs.declared.node.TermId.{TermId}
 use Rattle.pl_terms.specs.Nodes.{number_of, graph_of}
 use Rattle.pl_terms.specs.Sorts.{is_downsampled, is_windowed}
