@@ -1,5 +1,6 @@
 //! The rows of sessions.
 ghost use Rattle.std.specs.Prelude.{◌≡◌, ◌≤◌, ◌<◌, ◌+◌, ◌-◌, ◌*◌, ◌++◌, ◌^◌, pos, ◌+ℤ◌, length, slice_get, unsigned_abs, Some, OnOk};
+ghost use Rattle.pl_spec.specs.Limits.{most_columns};
 ghost use Rattle.pl_spec.specs.Rounding.{LIMIT};
 ghost use Rattle.pl_spec.specs.World.{exists};
 ghost use Rattle.pl_spec.specs.Table.{NamedColumn, is_kept, row, session_rows};
@@ -167,7 +168,7 @@ fn put_values(cells: &Cells<'_>, format: Format, line: &mut Line) -> i128
         (row_values (world_in cells.now.outcome.now) (pipeline_in cells.now.outcome.now)
         (sid_in (sids_in cells.now.outcome.now) cells.now.place) (pos cells.now.session)
         (pipeline_in cells.now.outcome.now).columns) }
-    ensures small { unsigned_abs result ≤ 64 * LIMIT }
+    ensures small { unsigned_abs result ≤ most_columns * LIMIT }
 {
     let checked = cells.outcome.checked;
     let mut sum = 0i128;

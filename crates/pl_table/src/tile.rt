@@ -3,6 +3,7 @@
 
 ghost use Rattle.std.specs.Prelude.{◌≡◌, ◌≤◌, ◌<◌, ◌+◌, ◌-◌, ◌*◌, ◌^◌, ℕ, true, false, pos, length, get_or, slice_get, Some, IfSome, IfNone};
 ghost use Rattle.pl_spec.specs.Formula.{truth};
+ghost use Rattle.pl_spec.specs.Limits.{most_columns};
 ghost use Rattle.pl_spec.specs.Table.{NamedColumn};
 ghost use Rattle.pl_cross.specs.Arrays.{sid_in};
 ghost use Rattle.pl_values.specs.Arrays.{cell_of};
@@ -20,7 +21,7 @@ const HEIGHT: usize = 8;
 /// cells.
 pub fn tile_len(assets: usize, columns: usize) -> usize
     requires assets { assets < 2 ^ 32 }
-    requires columns { columns ≤ 64 }
+    requires columns { columns ≤ most_columns }
     ensures { result ≡ tile_len assets columns }
 {
     HEIGHT * assets * (columns + 1)
