@@ -1,24 +1,26 @@
 //! What an evaluation reads besides the values of other terms.
 
-ghost use Rattle.std.specs.Prelude.{◌≡◌, ◌<◌, ◌&&◌, All, IfOk, IfSome, Some, length, option_map, pos, slice_get};
+ghost use Rattle.std.specs.Prelude.{◌≡◌, ◌<◌, ◌≤◌, ◌&&◌, true, All, IfOk, IfSome, Some, length, option_map, pos, slice_get};
 ghost use Rattle.pl_spec.specs.Parts.{sid_at};
 ghost use Rattle.pl_spec.specs.Rounding.{IsCell};
 ghost use Rattle.pl_spec.specs.Value.{name_at};
 ghost use Rattle.pl_spec.specs.Formula.{is_true};
 ghost use Rattle.pl_spec.specs.World.{exists, label_at};
 ghost use Rattle.pl_terms.specs.Checked.{pipeline_of};
-ghost use Rattle.pl_cross.specs.Listing.{labels_in};
-ghost use Rattle.pl_cross.specs.Section.{is_section};
+ghost use Rattle.pl_cross.specs.Listing.{Fits, labels_in};
+ghost use Rattle.pl_cross.specs.Section.{HasParameters, is_section};
+ghost use Rattle.pl_spec.specs.Limits.{most_assets};
+ghost use Rattle.pl_terms.specs.Kinds.{kind_of};
 ghost use Rattle.pl_values.specs.Families.{label_code};
 ghost use Rattle.pl_world.specs.Worlds.{world_of, IsMade};
 ghost use Rattle.pl_world.specs.Evaluations as spec;
-ghost use Rattle.pl_world.specs.Evaluations.{HasKind, row_in, AreRowsOf, IsKeepRow};
+ghost use Rattle.pl_world.specs.Evaluations.{HasKind, row_in, AreRowsOf, AreSectionCells, IsKeepRow};
 
 use crate::cell::exists;
 use crate::world::World;
 use pl_cross::Cross;
 use pl_fixed::Memory;
-use pl_terms::{Checked, Input, Node, TermId};
+use pl_terms::{Checked, Input, Node, TermId, TermKind};
 use pl_values::{label_value, section_values};
 use std::alloc::Global;
 
@@ -117,12 +119,32 @@ pub fn section_row(
     ensures cells { IfOk result (λ v. All IsCell v.items) }
 {
     let kind = &checked.graph().node(t).kind;
-    let assets = world.assets.len();
+    let _assets = world.assets.len();
     let _rows = world.labels.len();
     let keep = keep_row(alloc, world, session, mask)?;
-    let mut cross = Cross::reserve(alloc, assets)?;
-    let mut out = vec![in alloc; 0; assets]?;
-    section_values(kind, &mut cross, values, &keep, lent(groups), &mut out);
+    section_cells(alloc, kind, values, &keep, lent(groups))
+}
+
+// The cells of a cross-section over the rows of its input, of who is kept, and of its group.
+fn section_cells(
+    alloc: Global,
+    kind: &TermKind,
+    values: &[i64],
+    keep: &[i64],
+    groups: Option<&[i64]>,
+) -> Result<Vec<i64>, Memory>
+    requires kind { is_section (kind_of kind.now) ≡ true }
+    requires parameters { HasParameters (kind_of kind.now) }
+    requires few { length values.now ≤ most_assets }
+    requires cells { All IsCell values.now }
+    requires keep { length keep.now ≡ length values.now }
+    requires groups { Fits (length values.now) (labels_in groups) }
+    ensures { IfOk result (λ v. AreSectionCells (kind_of kind.now) values.now keep.now
+        (labels_in groups.entry) v.items) }
+{
+    let mut cross = Cross::reserve(alloc, values.len())?;
+    let mut out = vec![in alloc; 0; values.len()]?;
+    section_values(kind, &mut cross, values, keep, groups, &mut out);
     Ok(out)
 }
 
