@@ -1,16 +1,8 @@
--- Texts that are put one behind another.
-use Rattle.std.proofs.Common.{◌≡◌, ℕ, ◌+◌, ◌≤◌, List, ◌++◌, length, take, drop, ap, sym, ◌∙◌, arith, append_assoc, length-append, length-take-le, length-drop, take-add, take-take, take_at, drop_at}
+-- A text that is put in front of a part of a line.
+use Rattle.std.proofs.Common.{◌≡◌, ℕ, ◌+◌, ◌≤◌, List, ◌++◌, length, take, drop, ap, sym, ◌∙◌, arith, length-take-le, length-drop, take-add, take-take, take_at, drop_at}
 use Rattle.std.proofs.lemmas.Slice.{take-put_mid}
 use borrow.Rule.Slice.PartMut.{put_mid, same_len_mid}
 use Rattle.pl_table.specs.Places.{IsPlaced}
-
--- a second text that begins where the first ended
-pub placed-then : {a b c s t : List ℕ} {i j k : ℕ} → IsPlaced a b i s j → IsPlaced b c j t k → IsPlaced a c i (s ++ t) k
-placed-then {a} {b} {c} {s} {t} {i} p q = record {
-  bytes = q.bytes ∙ ap (λ l. l ++ t) p.bytes ∙ append_assoc (take i a) s t;
-  moved = omega (arith, p.moved, q.moved, length-append s t);
-  long = q.long ∙ p.long;
-}
 
 -- of what was put the first n bytes count
 placed-less : {a b s : List ℕ} {i j : ℕ} (n : ℕ) → i ≤ length a → n ≤ length s → IsPlaced a b i s j → IsPlaced a b i (take n s) (i + n)

@@ -1,5 +1,5 @@
 -- The rows of a tile, number by number.
-use Rattle.std.proofs.Common.{◌≡◌, ℕ, ◌+◌, ◌-◌, ◌*◌, ◌<◌, ◌≤◌, true, false, ℤ, pos, List, [], length, get_or, set, take, drop, Some, option_map, slice_get, refl, sym, ap, ◌∙◌, arith, inl, inr, get_or-set_same, get_or-set_other, length-set, FitsSigned, w64, of_z}
+use Rattle.std.proofs.Common.{◌≡◌, ℕ, ◌+◌, ◌-◌, ◌*◌, ◌<◌, ◌≤◌, true, false, ℤ, pos, List, [], length, get_or, set, take, drop, Some, slice_get, refl, sym, ap, ◌∙◌, arith, inl, inr, get_or-set_same, get_or-set_other, length-set, FitsSigned, w64, of_z}
 use Rattle.std.proofs.lemmas.Bool.{cases_eq}
 use Rattle.std.proofs.lemmas.Nat.{mul-le, same_from_place}
 use Rattle.std.proofs.lemmas.Bool.{true≢false}
@@ -11,8 +11,6 @@ use Rattle.pl_spec.specs.Table.{NamedColumn}
 use Rattle.pl_spec.proofs.Cells.{is_true-truth}
 use Rattle.pl_spec.proofs.Places.{row-within}
 use Rattle.pl_cross.specs.Arrays.{sid_in}
-use Rattle.pl_terms.specs.declared.node.TermId.{TermId}
-use Rattle.pl_terms.specs.declared.checked.NamedColumn as code
 use Rattle.pl_values.specs.Arrays.{cell_of}
 use Rattle.pl_table.specs.declared.outcome.Outcome.{Outcome}
 use Rattle.pl_table.specs.Outcomes.{HasCells, IsOutcome, pipeline_in, sids_in, world_in}
@@ -25,7 +23,7 @@ use Rattle.pl_planner.proofs.Pipelines.{output-used}
 use Rattle.pl_workspace.specs.Slots.{Live, slot_at}
 use Rattle.std.proofs.lemmas.List.{get_or-take, get_or-drop, length-take-le, length-drop}
 use Rattle.pl_table.proofs.Lengths.{one-true, one-false}
-use Rattle.pl_table.proofs.Outputs.{has-column, term-there}
+use Rattle.pl_table.proofs.Outputs.{has-column}
 
 -- ---- places in a tile
 
@@ -245,12 +243,3 @@ module _ (o : Outcome) (tile : List ℤ) (j i at m session : ℕ) (is : at ≡ (
         each = λ k c e. cell k (column-few o k c e) ∙ row.each is_there k c e;
         cell = λ k h. rw (cell k h) (row.cell is_there k h);
       }
-
--- the cell of a column of the code
-pub cell-there : (o : Outcome) (place session : ℕ) (values : List ℤ) → HasCells o place session values
-    → (i : ℕ) (t : TermId) → i < length (pipeline_in o).columns → option_map (λ (c : code.NamedColumn). c.term) (slice_get o.checked.now.columns i) ≡ Some t
-    → get_or values i (pos 0) ≡ cell_of (world_in o) (pipeline_in o) (sids_in o) t.0 place session
-cell-there o place session values has i t h e =
-    let d = has-column o.checked.now.columns i (omega (arith, columns-long o.checked.now.columns)) in
-    has.each i d.0 d.1
-    ∙ ap (λ (u : ℕ). cell_of (world_in o) (pipeline_in o) (sids_in o) u place session) (term-there o.checked.now.columns i t e d.0 d.1)

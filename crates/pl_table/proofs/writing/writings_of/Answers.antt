@@ -2,7 +2,6 @@ use Rattle.std.proofs.Common.{◌≡◌, ◌∙◌, ap, sym, subst, arith, inl, 
 use Rattle.std.specs.Prelude.{slice_get}
 use Rattle.std.proofs.lemmas.Bool.{cases_eq}
 use Rattle.std.proofs.lemmas.Option.{slice_get_within}
-use Rattle.pl_spec.specs.Table.{NamedColumn}
 use Rattle.pl_terms.specs.declared.node.Node.{Node}
 use Rattle.pl_terms.specs.Nodes.{graph_of}
 use Rattle.pl_terms.specs.Checked.{pipeline_of}
