@@ -3,7 +3,7 @@ use Rattle.std.proofs.lemmas.List.{take_at}
 use Rattle.std.proofs.lemmas.Nat.{mul-le}
 use Rattle.pl_spec.specs.Limits.{cut}
 use Rattle.pl_values.proofs.Texts.{texts-coded}
-use Rattle.pl_table.specs.Tiles.{tile_len}
+use Rattle.pl_table.specs.Tiles.{height, tile_len}
 use Rattle.pl_runner.specs.Chunks.{columns_of}
 use Rattle.pl_runner.specs.Room.{HasRoom}
 use Rattle.pl_world.specs.Worlds.{world_of}
@@ -75,7 +75,7 @@ write_rows-requires-clause-room g c =
     let w = world_of c.args.world.now in
     let p = pipeline_of c.args.checked.now in
     let few = work.few-columns c.args.world.now.sessions.now w p c.args.plan.now c.args.chunk c.graph-checked.ensures.checked c.requires.plan c.requires.from c.requires.order c.requires.to c.deref-2.result.now (c.deref-2.ensures.value ∙ c.put_columns.ensures.cols) in
-    let m = mul-le (8 * length c.deref-2.result.now) (length p.columns + 1) (8 * length w.assets) (length p.columns + 1) (omega (arith, few)) (omega arith) in
+    let m = mul-le (height * length c.deref-2.result.now) (length p.columns + 1) (height * length w.assets) (length p.columns + 1) (omega (arith, few)) (omega arith) in
     let own = ap (λ (l : List ℤ). length l) c.deref_mut.ensures.value in
     omega (arith, m, own, c.requires.desk.tile)
 
