@@ -15,7 +15,8 @@ use Rattle.pl_assets.specs.LabelPlaces.{key}
 use Rattle.pl_assets.proofs.FirstSeen.{one_place}
 use Rattle.pl_assets.proofs.LabelOrder.{same_key}
 use Rattle.std.proofs.lemmas.List.{get_or_default}
-use Rattle.pl_numbers.specs.Numbers.{AreNumbers, ColumnNumber, is_from, key_in, table_of}
+use Rattle.pl_spec.specs.Parts.{ColumnNumber}
+use Rattle.pl_numbers.specs.Numbers.{AreNumbers, is_from, key_in, table_of}
 use Rattle.pl_numbers.specs.NumberPlaces.{AreNumbered, IsPlace, IsTable, key_of, row_at, shown_rows, table_in}
 use Rattle.pl_numbers.specs.declared.rows.Place.{Place}
 use Rattle.pl_numbers.specs.declared.rows.NumberRows.{NumberRows}

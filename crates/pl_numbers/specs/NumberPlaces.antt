@@ -9,7 +9,8 @@ use Rattle.pl_spec.specs.Numbers.{NumberRow}
 use Rattle.pl_spec.specs.Rounding.{IsCell}
 use Rattle.pl_records.specs.Reading.{Record, field}
 use Rattle.pl_assets.specs.LabelPlaces.{key}
-use Rattle.pl_numbers.specs.Numbers.{ColumnNumber, NumberTable, names_of}
+use Rattle.pl_spec.specs.Parts.{ColumnNumber}
+use Rattle.pl_numbers.specs.Numbers.{NumberTable, names_of}
 use Rattle.pl_numbers.specs.declared.rows.Place.{Place}
 use Rattle.pl_numbers.specs.declared.rows.NumberRows.{NumberRows}
 use Rattle.pl_numbers.specs.declared.reading.Fields.{Fields}
