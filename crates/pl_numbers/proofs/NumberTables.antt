@@ -123,7 +123,7 @@ module _ (t new : NumberRows) (numbered : AreNumbered t) (names : new.names ≡ 
         names = rw names (once_named t numbered);
         rise = rw places (sorted-rises key_of t.places.items (own_keys t numbered read.once));
         few = rw places (omega (arith, length-sorted_by key_of t.places.items, read.few, length-map t.places.items (row_at t.names)));
-        few_names = rw (places, names) (omega (arith, length-sorted_by key_of t.places.items, few_names t numbered));
+        few_names = rw names (omega (arith, few_names t numbered, read.few, length-map t.places.items (row_at t.names)));
         cells = All-permutation (λ (p : Place). IsCell p.value) t.places.items new.places.items moved cells;
       }
     where
