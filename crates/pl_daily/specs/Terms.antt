@@ -1,5 +1,5 @@
 -- All terms from day to day.
-use Rattle.std.specs.Prelude.{◌≡◌, ℕ, ◌<◌, ◌≤◌, ◌+◌, Bool, true, not, ℤ, pos, List, ◌∷◌, length, map, Option, Some, None, slice_get, get_or, All}
+use Rattle.std.specs.Prelude.{◌≡◌, ℕ, ◌<◌, ◌≤◌, ◌+◌, Bool, true, not, ℤ, pos, List, [], ◌∷◌, length, map, Option, Some, None, slice_get, get_or, All}
 use Rattle.pl_spec.specs.declared.AssetRow.{AssetRow}
 use Rattle.pl_spec.specs.declared.Column.{Column}
 use Rattle.pl_spec.specs.declared.Frequency.{Frequency}
@@ -27,7 +27,7 @@ use Rattle.pl_daily.specs.declared.terms.Lent.{Lent}
 
 -- what stands from the start, of the lent parts
 abbrev pub start_of : List AssetRow → LabelTable → Start
-start_of assets table = record { assets = assets; labels = table.rows; texts = table.texts }
+start_of assets table = record { assets = assets; labels = table.rows; texts = table.texts; numbers = [] }
 
 abbrev pub start_at : Lent → Start
 start_at l = start_of l.assets.now l.labels.now

@@ -81,7 +81,7 @@ module _ (g : Start) (table : LabelTable) (next : FedDay) (days : List FedDay) (
 
   those : (name : List ℕ) (i : ℕ) → i < length g.assets → label_at w name (sid_at g.assets i) (pos (length days)) ≡ option_and_then (label_on g.labels name i) (day_of w (pos (length days)))
   unfolding fed
-  those name i h = labels_those (days_of (next ∷ days)) g.assets g.labels g.texts (bars_of (next ∷ days)) (adjustments_of (next ∷ days)) start.sids_ascend start.labels_in name i (pos (length days)) h
+  those name i h = labels_those (days_of (next ∷ days)) g.assets g.labels g.texts (bars_of (next ∷ days)) (adjustments_of (next ∷ days)) g.numbers start.sids_ascend start.labels_in name i (pos (length days)) h
 
   labels_here : (name : List ℕ) (i : ℕ) → i < length g.assets → label_at w name (sid_in (sids_of g.assets) i) (pos (length days)) ≡ label_on g.labels name i next.day
   labels_here name i h =
@@ -92,7 +92,7 @@ module _ (g : Start) (table : LabelTable) (next : FedDay) (days : List FedDay) (
   coded_here : AreLabels table → g.labels ≡ table.rows → g.texts ≡ table.texts → HasTexts w
   unfolding fed
   coded_here are_labels rows texts =
-      rw (rows, texts) (texts-coded (days_of (next ∷ days)) g.assets table (bars_of (next ∷ days)) (adjustments_of (next ∷ days)) are_labels)
+      rw (rows, texts) (texts-coded (days_of (next ∷ days)) g.assets table (bars_of (next ∷ days)) (adjustments_of (next ∷ days)) g.numbers are_labels)
 
   texts_here : w.texts ≡ g.texts
   unfolding fed

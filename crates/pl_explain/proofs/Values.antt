@@ -171,7 +171,7 @@ window-in-time c ok t n is s e early =
     has-some (slice_get n.inputs 0) x.0 (sym (inputs-at n 0) ∙ x.1) n.window s early
   where
     no_world : SpecWorld
-    no_world = record { days = []; assets = []; labels = []; texts = []; bars = []; adjustments = [] }
+    no_world = record { days = []; assets = []; labels = []; texts = []; bars = []; adjustments = []; numbers = [] }
 
 -- ---- what a node mentions stands in the graph
 

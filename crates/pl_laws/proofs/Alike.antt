@@ -41,7 +41,7 @@ empty_there w names (node k size x y z m g) a s e = rw (not_there w a s e) refl
 no_rows : (w : World) (p : Pipeline) (s : ℤ) → day_of w s ≡ None → session_rows w p s ≡ []
 no_rows w p s e = ap (λ l. map (row w p s) (filter (is_kept w p p.screen s) l)) (none_living w s e)
 
--- The worlds show the same on each session: whatever is looked up is the same, and of adjustments what they
+-- The worlds show the same on each session: whatever terms look up is the same, and of adjustments what they
 -- do to each cell.
 pub record SeenInAll (w v : World) : Type 0 where
   pub days : w.days ≡ v.days

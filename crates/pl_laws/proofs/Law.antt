@@ -143,7 +143,8 @@ labels-of_days w v rows name a s days =
 
 -- ---- what worlds show up to a session
 
--- The same as that the worlds agree, but of adjustments only what they do to each cell has to be the same.
+-- The same as that the worlds agree, but of adjustments only what they do to each cell has to be the same, and
+-- of numbers nothing, since no term reads them yet.
 pub record SeenAlike (w v : World) (d day : ℤ) : Type 0 where
   pub is_day : day_of w d ≡ Some day
   pub days : (s : ℤ) → s ≤ℤ d → day_of w s ≡ day_of v s

@@ -1,5 +1,5 @@
 -- What the data of a world means.
-use Rattle.std.proofs.Common.{◌≡◌, ◌∙◌, ℤ, List, false, refl, ap}
+use Rattle.std.proofs.Common.{◌≡◌, ◌∙◌, ℤ, List, false, refl, ap, []}
 use Rattle.pl_spec.specs.declared.AssetRow.{AssetRow}
 use Rattle.pl_spec.specs.declared.BarRow.{BarRow}
 use Rattle.pl_spec.specs.World.{World}
@@ -26,7 +26,7 @@ world_over q days held =
     let assets = assets_held held in
     let labels = labels_asked assets q.labels (held.file Labels) in
     world_of days assets labels.rows labels.texts (bars_in days assets (held.file Bars))
-    (revised_asked days assets (adjustments_asked assets q.adjustments held.rows) q.revisions (held.file Revisions))
+    (revised_asked days assets (adjustments_asked assets q.adjustments held.rows) q.revisions (held.file Revisions)) []
 
 abbrev pub with_rows : List ℤ → List AssetRow → WorldRows → OwnedWorld
 with_rows days assets r = record { sessions = days; assets = assets; labels = r.labels; bars = r.bars; adjustments = r.adjustments }

@@ -3,6 +3,7 @@ pub mod NumberKeys
 pub mod NumberFields
 pub mod NumbersRead
 pub mod NumberTables
+pub mod NumberCuts
 pub mod NumberSearch
 pub mod NumbersSaid
 pub mod NumbersMoved

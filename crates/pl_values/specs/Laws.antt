@@ -7,7 +7,7 @@ use Rattle.pl_spec.specs.Kind as spec
 use Rattle.pl_spec.specs.Kind.{WindowKind, PointKind, LabelKind, CrossKind}
 use Rattle.pl_spec.specs.Periods.{period_start}
 use Rattle.pl_spec.specs.declared.Frequency.{Frequency}
-use Rattle.pl_spec.specs.Parts.{ColumnAdjustment, world_of}
+use Rattle.pl_spec.specs.Parts.{ColumnAdjustment, ColumnNumber, world_of}
 use Rattle.pl_spec.specs.Term.{Node}
 use Rattle.pl_spec.specs.Term.Input.{TermInput}
 use Rattle.pl_spec.specs.Table.{Pipeline}
@@ -97,5 +97,6 @@ FilterCells = (w : World) (p : Pipeline) (sids : List ℕ) (t i s : ℕ) → IsC
 
 -- in the world of a table of labels each text has a code
 abbrev pub TextsHaveCodes : Type 0
-TextsHaveCodes = (days : List ℤ) (assets : List AssetRow) (t : LabelTable) (bars : List BarRow) (adjustments : List ColumnAdjustment)
-    → AreLabels t → HasTexts (world_of days assets t.rows t.texts bars adjustments)
+TextsHaveCodes = (days : List ℤ) (assets : List AssetRow) (t : LabelTable) (bars : List BarRow)
+    (adjustments : List ColumnAdjustment) (numbers : List ColumnNumber)
+    → AreLabels t → HasTexts (world_of days assets t.rows t.texts bars adjustments numbers)

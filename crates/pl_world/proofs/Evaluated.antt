@@ -96,7 +96,7 @@ term-input (Some (input.Term u)) t e = (u, refl, let same : Some (spec.TermInput
 
 -- a world with nothing in it
 no_world : SpecWorld
-no_world = record { days = []; assets = []; labels = []; texts = []; bars = []; adjustments = [] }
+no_world = record { days = []; assets = []; labels = []; texts = []; bars = []; adjustments = []; numbers = [] }
 
 module _ (c : Parts) (ok : IsChecked (pipeline_of c)) (t : ℕ) (n : Node) (is : slice_get c.graph t ≡ Some n) where
   there : slice_get (graph_of c.graph) t ≡ Some (node_of n)

@@ -1,5 +1,5 @@
 -- The parts that are known by a session.
-use Rattle.std.proofs.Common.{◌≡◌, ℕ, suc, ◌+◌, ℤ, pos, take, Some, slice_get, ◌∙◌, ap, arith}
+use Rattle.std.proofs.Common.{◌≡◌, ℕ, suc, ◌+◌, ℤ, pos, take, Some, slice_get, ◌∙◌, ap, arith, []}
 use Rattle.pl_spec.specs.AsOf.{as_of, sessions_to, labels_by, bars_before, adjustments_by}
 use Rattle.pl_laws.proofs.AsOf.{agrees, is-world, parts-of}
 use Rattle.pl_laws.proofs.Law.{agree-seen}
@@ -29,7 +29,7 @@ module _ (w : World) (d : ℕ) (day : ℤ) (v : OwnedWorld) (are : AreCut w d da
   world_is : owned_world v ≡ as_of (world_of w) d day
   world_is =
       rw (sessions_are, are.assets, are.labels, are.texts, are.bars, are.adjustments)
-      (parts-of w.sessions.now w.assets.now w.labels.now.rows w.labels.now.texts w.bars.now w.adjustments.now d day).world
+      (parts-of w.sessions.now w.assets.now w.labels.now.rows w.labels.now.texts w.bars.now w.adjustments.now [] d day).world
 
   pub is_known : IsKnown w d v
   is_known =
@@ -48,7 +48,7 @@ module _ (w : World) (d : ℕ) (day : ℤ) (v : OwnedWorld) (are : AreCut w d da
 
   pub is_owned : IsOwned v
   is_owned =
-      let parts = (parts-of w.sessions.now w.assets.now w.labels.now.rows w.labels.now.texts w.bars.now w.adjustments.now d day).parts made.parts are.is_day in
+      let parts = (parts-of w.sessions.now w.assets.now w.labels.now.rows w.labels.now.texts w.bars.now w.adjustments.now [] d day).parts made.parts are.is_day in
       rw (sessions_are, are.assets, are.labels, are.bars, are.adjustments)
       record { labels_in = parts.labels_in; bars_in = parts.bars_in; sessions_in = parts.sessions_in; adjustments_in = parts.adjustments_in }
 

@@ -10,7 +10,7 @@ use Rattle.pl_spec.specs.declared.BarRow.{BarRow}
 use Rattle.pl_spec.specs.declared.Column.{Column}
 use Rattle.pl_spec.specs.Lookups.{BarsOnce, LabelsOnce}
 use Rattle.pl_spec.specs.Parts as parts
-use Rattle.pl_spec.specs.Parts.{ColumnAdjustment, ColumnLabel, bar_of, label_of, sid_at}
+use Rattle.pl_spec.specs.Parts.{ColumnAdjustment, ColumnLabel, ColumnNumber, bar_of, label_of, sid_at}
 use Rattle.pl_spec.specs.World as spec
 use Rattle.pl_spec.specs.World.{IsWorld, events_of}
 use Rattle.pl_spec.specs.Window.{after_all, effects, effects_in, seen_cell}
@@ -32,7 +32,7 @@ module _ (w : World) (made : IsMade w) (assets : AreAssets w.assets.now) (col : 
   pub events_of-at : events_of (world_of w) (sid_at w.assets.now col) ≡ events_at w.adjustments.now col
   events_of-at =
       ap (events_of (world_of w)) (sid_at-row w.assets.now col no_asset inside)
-      ∙ column_events w.sessions.now w.assets.now w.labels.now.rows w.labels.now.texts w.bars.now w.adjustments.now assets.ascend made.adjustments_in
+      ∙ column_events w.sessions.now w.assets.now w.labels.now.rows w.labels.now.texts w.bars.now w.adjustments.now [] assets.ascend made.adjustments_in
       col (get_or w.assets.now col no_asset) (slice_get-get_or w.assets.now col no_asset inside)
 
   pub effects-at : (c : Column) (s d : ℕ) (low high : ℤ) → slice_get w.sessions.now s ≡ Some low → slice_get w.sessions.now d ≡ Some high
@@ -46,7 +46,7 @@ module _ (w : World) (made : IsMade w) (assets : AreAssets w.assets.now) (col : 
   seen-at c s d low high at_s at_d =
       ap (after_all _) (effects-at c s d low high at_s at_d)
       ∙ ap (λ x. after_all x (effects_in c low low high (events_at w.adjustments.now col)))
-      (sym (cells_raw w.sessions.now w.assets.now w.labels.now.rows w.labels.now.texts w.bars.now w.adjustments.now assets.ascend made.bars_in col c s inside))
+      (sym (cells_raw w.sessions.now w.assets.now w.labels.now.rows w.labels.now.texts w.bars.now w.adjustments.now [] assets.ascend made.bars_in col c s inside))
 
 -- ---- each bar and each label row stands once
 
@@ -77,12 +77,12 @@ once-mapped {A} {B} f Same back (x ∷ xs) differ b c first second same = elim (
     at_second : c ≡ f (get_or (x ∷ xs) second.0 x)
     at_second = sym second.2 ∙ get_or-map f (x ∷ xs) second.0 x c in_second
 
-module _ (days : List ℤ) (assets : List AssetRow) (labels : List ColumnLabel) (texts : List (List ℕ)) (bars : List BarRow) (adjustments : List ColumnAdjustment)
+module _ (days : List ℤ) (assets : List AssetRow) (labels : List ColumnLabel) (texts : List (List ℕ)) (bars : List BarRow) (adjustments : List ColumnAdjustment) (numbers : List ColumnNumber)
     (made : AreMadeFor days assets labels bars adjustments) (days_up : AllPairs (λ a b. a <ℤ b) days) (sids_up : AllPairs (λ a b. a.sid < b.sid) assets)
     (starts_own : AllPairs (λ r q. is_from r.name r.col r.start q ≡ false) labels) (bars_up : AllPairs (λ a b. IsTrue (is_before b.col b.session a)) bars)
     (in_order : StandByDay adjustments) where
   abbrev whole : spec.World
-  whole = parts.world_of days assets labels texts bars adjustments
+  whole = parts.world_of days assets labels texts bars adjustments numbers
 
   pub bars_once : BarsOnce whole
   bars_once b c first second sids sessions =
@@ -110,7 +110,7 @@ module _ (days : List ℤ) (assets : List AssetRow) (labels : List ColumnLabel) 
   events_in : (col : ℕ) → col < length assets → events_of whole (sid_at assets col) ≡ events_at adjustments col
   events_in col inside =
       ap (events_of whole) (sid_at-row assets col no_asset inside)
-      ∙ column_events days assets labels texts bars adjustments sids_up made.adjustments_in col (get_or assets col no_asset) (slice_get-get_or assets col no_asset inside)
+      ∙ column_events days assets labels texts bars adjustments numbers sids_up made.adjustments_in col (get_or assets col no_asset) (slice_get-get_or assets col no_asset inside)
 
   pub is_world : IsWorld whole
   is_world = record {
@@ -136,8 +136,10 @@ parts_make_a_world w made days assets labels bars in_order =
         sessions_in = made.sessions_in;
         adjustments_in = made.adjustments_in;
         events_in_order = in_order;
+        numbers_in = λ k d l. absurd (omega arith);
       };
-      world = is_world w.sessions.now w.assets.now rows texts w.bars.now w.adjustments.now made days.ascend assets.ascend labels.once bars.ascend in_order;
-      bars_once = bars_once w.sessions.now w.assets.now rows texts w.bars.now w.adjustments.now made days.ascend assets.ascend labels.once bars.ascend in_order;
-      labels_once = labels_once w.sessions.now w.assets.now rows texts w.bars.now w.adjustments.now made days.ascend assets.ascend labels.once bars.ascend in_order;
+      world = is_world w.sessions.now w.assets.now rows texts w.bars.now w.adjustments.now [] made days.ascend assets.ascend labels.once bars.ascend in_order;
+      bars_once = bars_once w.sessions.now w.assets.now rows texts w.bars.now w.adjustments.now [] made days.ascend assets.ascend labels.once bars.ascend in_order;
+      labels_once = labels_once w.sessions.now w.assets.now rows texts w.bars.now w.adjustments.now [] made days.ascend assets.ascend labels.once bars.ascend in_order;
+      numbers_once = λ r q h. absurd (omega (arith, h.1));
     }
