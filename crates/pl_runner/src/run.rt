@@ -2,6 +2,7 @@
 ghost use Rattle.std.specs.Prelude.{◌≡◌, ◌≤◌, ◌<◌, ◌+◌, ◌-◌, ◌*◌, ◌^◌, ◌++◌, ◌⊎◌, length, max, IfOk, OnOk, IsErrOf};
 ghost use Rattle.pl_spec.specs.Table.{table};
 ghost use Rattle.pl_spec.specs.Text.{text};
+ghost use Rattle.pl_spec.specs.Limits.{cut, most_chunk};
 ghost use Rattle.pl_outside.specs.Taken.{IsWrittenIn, Writes};
 ghost use Rattle.pl_world.specs.Worlds.{IsMade, world_of};
 ghost use Rattle.pl_terms.specs.Checked.{pipeline_of};
@@ -56,7 +57,7 @@ pub fn run_table<O: Sink, L: Ledger>(
     requires made { IsMade world.now }
     requires plan { IsPlanOf world.now.sessions.now (pipeline_of checked.now) plan.now }
     requires some { 1 ≤ chunk }
-    requires most { chunk ≤ 4096 }
+    requires most { chunk ≤ most_chunk }
     // Where memory ran out nothing was written; else the text of the table is.
     ensures writes { IsErrOf result RunError.Memory ⊎ Writes O.taken O.faults O.sound O.room out.old out.new
         (text (world_of world.now) (pipeline_of checked.now) format
@@ -95,7 +96,7 @@ fn write_all<O: Sink, L: Ledger>(
     requires made { IsMade world.now }
     requires plan { IsPlanOf world.now.sessions.now (pipeline_of checked.now) plan.now }
     requires some { 1 ≤ size }
-    requires few { size ≤ 4096 }
+    requires few { size ≤ most_chunk }
     requires desk { IsDesk (world_of world.now) (pipeline_of checked.now) plan.now size desk.old }
     ensures writes { Writes O.taken O.faults O.sound O.room out.old out.new
         (header.now ++ lines (world_of world.now) (pipeline_of checked.now) format
