@@ -28,8 +28,8 @@ steps_of_chunk w p plan chunk = chunk_steps (task_of w p plan chunk)
 unfoldable pub run_steps : World → Pipeline → Planned → ℕ → ℕ
 run_steps w p plan size = sum_by (steps_of_chunk w p plan) (chunks_of plan.from plan.to size)
 
--- A chunk was computed and its rows were written: they are counted and summed up beside those before, the desk
--- is again as free as it was, and the work of the chunk is told.
+-- A chunk was computed and its rows were written: they are counted and summed up beside those before, the
+-- desk is again as free as it was, and the work of the chunk is told.
 pub record IsChunkDone (w : World) (p : Pipeline) (plan : Planned) (chunk : Chunk) (old new : Totals) (before after : Desk) (r : ChunkReport) : Type 0 where
   pub rows : new.rows ≡ old.rows + length (rows_of_sessions w p chunk.from (chunk.to + 1 - chunk.from))
   pub sum : new.sum ≡ old.sum +ℤ rows_sum w.texts (rows_of_sessions w p chunk.from (chunk.to + 1 - chunk.from))
