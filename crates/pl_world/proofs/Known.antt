@@ -1,5 +1,5 @@
 -- The parts that are known by a session.
-use Rattle.std.proofs.Common.{◌≡◌, ℕ, suc, ◌+◌, ℤ, pos, take, Some, slice_get, ◌∙◌, ap, arith, []}
+use Rattle.std.proofs.Common.{◌≡◌, ℕ, suc, ◌+◌, ℤ, pos, take, Some, slice_get, ◌∙◌, ap, arith}
 use Rattle.pl_spec.specs.AsOf.{as_of, sessions_to, labels_by, bars_before, adjustments_by, column_numbers_by}
 use Rattle.pl_laws.proofs.AsOf.{agrees, is-world, parts-of}
 use Rattle.pl_laws.proofs.Law.{agree-seen}

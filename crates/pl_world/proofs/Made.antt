@@ -95,7 +95,7 @@ numbers-once assets rows up inside once r q first second names sids days =
     r q first second (names, sids, days)
 
 module _ (days : List ℤ) (assets : List AssetRow) (labels : List ColumnLabel) (texts : List (List ℕ)) (bars : List BarRow) (adjustments : List ColumnAdjustment) (numbers : List ColumnNumber)
-    (made : AreMadeFor days assets labels bars adjustments numbers) (days_up : AllPairs (λ a b. a <ℤ b) days) (sids_up : AllPairs (λ a b. a.sid < b.sid) assets)
+    (made : AreMadeFor days assets labels bars adjustments []) (days_up : AllPairs (λ a b. a <ℤ b) days) (sids_up : AllPairs (λ a b. a.sid < b.sid) assets)
     (starts_own : AllPairs (λ r q. is_from r.name r.col r.start q ≡ false) labels) (bars_up : AllPairs (λ a b. IsTrue (is_before b.col b.session a)) bars)
     (in_order : StandByDay adjustments) where
   abbrev whole : spec.World
@@ -144,6 +144,8 @@ pub parts_make_a_world : (w : World) → IsMade w → AreDays w.sessions.now →
 parts_make_a_world w made days assets labels bars in_order own =
     let rows = w.labels.now.rows in
     let texts = w.labels.now.texts in
+    let bare : AreMadeFor w.sessions.now w.assets.now rows w.bars.now w.adjustments.now [] =
+    record { labels_in = made.labels_in; bars_in = made.bars_in; sessions_in = made.sessions_in; adjustments_in = made.adjustments_in; numbers_in = λ k d l. absurd (omega arith) } in
     record {
       parts = record {
         days_ascend = days.ascend;
@@ -155,8 +157,8 @@ parts_make_a_world w made days assets labels bars in_order own =
         events_in_order = in_order;
         numbers_in = made.numbers_in;
       };
-      world = is_world w.sessions.now w.assets.now rows texts w.bars.now w.adjustments.now w.numbers.now.rows made days.ascend assets.ascend labels.once bars.ascend in_order;
-      bars_once = bars_once w.sessions.now w.assets.now rows texts w.bars.now w.adjustments.now w.numbers.now.rows made days.ascend assets.ascend labels.once bars.ascend in_order;
-      labels_once = labels_once w.sessions.now w.assets.now rows texts w.bars.now w.adjustments.now w.numbers.now.rows made days.ascend assets.ascend labels.once bars.ascend in_order;
+      world = is_world w.sessions.now w.assets.now rows texts w.bars.now w.adjustments.now w.numbers.now.rows bare days.ascend assets.ascend labels.once bars.ascend in_order;
+      bars_once = bars_once w.sessions.now w.assets.now rows texts w.bars.now w.adjustments.now w.numbers.now.rows bare days.ascend assets.ascend labels.once bars.ascend in_order;
+      labels_once = labels_once w.sessions.now w.assets.now rows texts w.bars.now w.adjustments.now w.numbers.now.rows bare days.ascend assets.ascend labels.once bars.ascend in_order;
       numbers_once = numbers-once w.assets.now w.numbers.now.rows assets.ascend made.numbers_in own.once;
     }

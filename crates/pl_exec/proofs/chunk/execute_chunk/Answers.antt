@@ -1,4 +1,4 @@
-use Rattle.std.proofs.Common.{◌+◌, ap, ◌∙◌, arith, max, length, []}
+use Rattle.std.proofs.Common.{◌+◌, ap, ◌∙◌, arith, max, length}
 use Rattle.pl_spec.specs.Graph.{contains}
 use Rattle.pl_spec.specs.Limits.{cut}
 use Rattle.pl_terms.specs.Uses.{outputs}

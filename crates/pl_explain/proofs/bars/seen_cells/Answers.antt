@@ -1,4 +1,4 @@
-use Rattle.std.proofs.Common.{◌∙◌, ◌+◌, sym, ap, filter_map, rules, pos, w32, w64, FitsSigned, []}
+use Rattle.std.proofs.Common.{◌∙◌, ◌+◌, sym, ap, filter_map, rules, pos, w32, w64, FitsSigned}
 use Rattle.std.proofs.lemmas.Result.{IfOk-weaker, on_ok_weaker}
 use Rattle.std.proofs.lemmas.Int.{to_z-of_z}
 use Rattle.pl_spec.specs.Parts.{sid_at}

@@ -1,4 +1,4 @@
-use Rattle.std.proofs.Common.{◌≤◌, ◌∙◌, take, length, ap, sym, arith, []}
+use Rattle.std.proofs.Common.{◌≤◌, ◌∙◌, take, length, ap, sym, arith}
 use Rattle.pl_terms.specs.Checked.{pipeline_of}
 use Rattle.pl_cross.specs.Arrays.{HasTexts}
 use Rattle.pl_values.proofs.Texts.{texts-coded}

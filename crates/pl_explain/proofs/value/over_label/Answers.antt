@@ -1,4 +1,4 @@
-use Rattle.std.proofs.Common.{◌≡◌, None, Some, pos, option_map, slice_get, ap, sym, refl, subst, ◌∙◌, rules, w64, FitsSigned, []}
+use Rattle.std.proofs.Common.{◌≡◌, None, Some, pos, option_map, slice_get, ap, sym, refl, subst, ◌∙◌, rules, w64, FitsSigned}
 use Rattle.std.proofs.lemmas.Int.{to_z-of_z}
 use Rattle.pl_spec.specs.Parts.{sid_at}
 use Rattle.pl_terms.specs.Nodes.{input_of}

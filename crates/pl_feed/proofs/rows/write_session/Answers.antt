@@ -1,4 +1,4 @@
-use Rattle.std.proofs.Common.{◌≤◌, ◌<◌, ap, refl, sym, length, map, pos, arith, []}
+use Rattle.std.proofs.Common.{◌≤◌, ◌<◌, ap, refl, sym, length, map, pos, arith}
 use Rattle.std.proofs.lemmas.List.{length-map}
 use Rattle.std.proofs.lemmas.Result.{err_from_is_err_and}
 use Rattle.pl_outside.proofs.Pieces.{writing-start, writing-more, writing-end, writing-stop, writing-over, writes-over, written-none, written-more}

@@ -1,4 +1,4 @@
-use Rattle.std.proofs.Common.{◌≡◌, ◌*◌, ℤ, List, ap, ◌+◌, ◌-◌, length, sym, ◌∙◌, subst, arith, []}
+use Rattle.std.proofs.Common.{◌≡◌, ◌*◌, ℤ, List, ap, ◌+◌, ◌-◌, length, sym, ◌∙◌, subst, arith}
 use Rattle.std.proofs.lemmas.Nat.{mul-le}
 use Rattle.pl_values.proofs.Texts.{texts-coded}
 use Rattle.pl_runner.specs.Chunks.{columns_of}

@@ -1,4 +1,4 @@
-use Rattle.std.proofs.Common.{◌≡◌, ℤ, List, Some, All, slice_get, ◌∙◌, sym, ap, length, option_map, subst, arith, []}
+use Rattle.std.proofs.Common.{◌≡◌, ℤ, List, Some, All, slice_get, ◌∙◌, sym, ap, length, option_map, subst, arith}
 use Rattle.std.proofs.lemmas.Grind.{common_steps}
 use Rattle.std.proofs.lemmas.List.{take_at}
 use Rattle.pl_spec.specs.Rounding.{IsCell, MISSING}
