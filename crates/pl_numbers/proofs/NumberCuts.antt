@@ -1,5 +1,5 @@
 -- Tables of no rows, and of those that were known by a day.
-use Rattle.std.proofs.Common.{◌≡◌, ◌<◌, ℤ, List, [], All, filter, sym, arith}
+use Rattle.std.proofs.Common.{◌≡◌, ◌<◌, ℤ, [], sym, arith}
 use Rattle.std.specs.Int.RustNames.{int_le}
 use Rattle.std.proofs.lemmas.List.Elements.{All-filter}
 use Rattle.std.proofs.lemmas.List.Kept.{AllPairs-filter}

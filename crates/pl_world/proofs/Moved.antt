@@ -1,5 +1,5 @@
 -- Files whose records stand in another order show the same.
-use Rattle.std.proofs.Common.{◌≡◌, ◌<◌, ℤ, List, [], ◌∷◌, length, All, IsPermutation, Result, Ok, Err, refl}
+use Rattle.std.proofs.Common.{◌≡◌, ◌<◌, ℤ, List, [], ◌∷◌, length, All, IsPermutation, Result, Ok, Err, refl, arith}
 use Rattle.std.proofs.lemmas.List.Sorted.{IsPermutation-map}
 use Rattle.pl_records.specs.Reading.{Record, Fault, ◌>>=◌}
 use Rattle.pl_spec.specs.declared.AssetRow.{AssetRow}
@@ -66,8 +66,8 @@ module _ (days : List ℤ) (assets : List AssetRow) (labels other : LabelTable) 
   abbrev v : World
   v = parts.world_of days assets other.rows other.texts bars adjustments numbers
 
-  made : (rows : List ColumnLabel) → AreRead assets rows → AreMadeFor days assets rows bars adjustments
-  made rows are = record { labels_in = are.cols; bars_in = bars_in; sessions_in = sessions_in; adjustments_in = adjustments_in }
+  made : (rows : List ColumnLabel) → AreRead assets rows → AreMadeFor days assets rows bars adjustments []
+  made rows are = record { labels_in = are.cols; bars_in = bars_in; sessions_in = sessions_in; adjustments_in = adjustments_in; numbers_in = λ k d l. absurd (omega arith) }
 
   w_is : IsWorld w
   w_is = is_world days assets labels.rows labels.texts bars adjustments numbers (made labels.rows labels_are) days_are.ascend assets_are.ascend labels_are.once bars_are.ascend in_order

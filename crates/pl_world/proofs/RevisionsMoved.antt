@@ -1,5 +1,5 @@
 -- Revisions whose records stand in another order show the same tables.
-use Rattle.std.proofs.Common.{◌≡◌, ◌<◌, ◌==◌, ℤ, List, [], ◌∷◌, length, All, Ok, refl, sym, ◌∙◌, ap}
+use Rattle.std.proofs.Common.{◌≡◌, ◌<◌, ◌==◌, ℤ, List, [], ◌∷◌, length, All, Ok, refl, sym, ◌∙◌, ap, arith}
 use Rattle.pl_records.specs.Reading.{Record}
 use Rattle.pl_spec.specs.declared.AssetRow.{AssetRow}
 use Rattle.pl_spec.specs.declared.BarRow.{BarRow}
@@ -40,7 +40,7 @@ module _ (days : List ℤ) (assets : List AssetRow) (labels : LabelTable) (bars 
   made : (xs : List ColumnAdjustment) → All (λ x. x.col < length assets) xs × StandByDay xs → IsWorld (whole xs)
   made xs kept =
       is_world days assets labels.rows labels.texts bars xs numbers
-      (record { labels_in = labels_are.cols; bars_in = bars_in; sessions_in = sessions_in; adjustments_in = kept.0 })
+      (record { labels_in = labels_are.cols; bars_in = bars_in; sessions_in = sessions_in; adjustments_in = kept.0; numbers_in = λ k d l. absurd (omega arith) })
       days_are.ascend assets_are.ascend labels_are.once bars_are.ascend kept.1
 
   seen : (xs ys : List ColumnAdjustment) → PickedAlike xs ys → SeenInAll (whole xs) (whole ys)

@@ -1,4 +1,4 @@
-use Rattle.std.proofs.Common.{◌∙◌, ◌+◌, sym, ap, filter_map, rules, pos, w32, w64, FitsSigned, []}
+use Rattle.std.proofs.Common.{◌∙◌, ◌+◌, sym, ap, filter_map, rules, pos, w32, w64, FitsSigned}
 use Rattle.std.proofs.lemmas.Result.{IfOk-weaker, on_ok_weaker}
 use Rattle.std.proofs.lemmas.Int.{to_z-of_z}
 use Rattle.pl_spec.specs.Parts.{sid_at}
@@ -20,7 +20,7 @@ returns-clause-value g c =
     let high = c.day-day.result in
     let made = c.requires.made in
     let assets = c.len-assets.ensures.assets in
-    let raw = cells_raw w.sessions.now w.assets.now w.labels.now.rows w.labels.now.texts w.bars.now w.adjustments.now [] assets.ascend made.bars_in c.args.col c.args.column c.args.bar c.requires.col in
+    let raw = cells_raw w.sessions.now w.assets.now w.labels.now.rows w.labels.now.texts w.bars.now w.adjustments.now w.numbers.now.rows assets.ascend made.bars_in c.args.col c.args.column c.args.bar c.requires.col in
     let list = ap (filter_map (effect c.args.column low)) (simp to_z-of_z at c.events_between-list.ensures.events) in
     let all = effects-at w made assets c.args.col c.requires.col c.args.column c.args.bar c.args.session low high c.day-bar_day.ensures.exact c.day-day.ensures.exact in
     let given = simp to_z-of_z at c.after_each.ensures.value in

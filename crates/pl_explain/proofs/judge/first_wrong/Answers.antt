@@ -1,4 +1,4 @@
-use Rattle.std.proofs.Common.{◌≤◌, ◌∙◌, take, length, ap, sym, arith, []}
+use Rattle.std.proofs.Common.{◌≤◌, ◌∙◌, take, length, ap, sym, arith}
 use Rattle.pl_terms.specs.Checked.{pipeline_of}
 use Rattle.pl_cross.specs.Arrays.{HasTexts}
 use Rattle.pl_values.proofs.Texts.{texts-coded}
@@ -15,7 +15,7 @@ returns-then-not-branch-clause-exact g c =
     let w = c.args.world.now in
     let p = c.args.checked.now in
     let lines = c.args.derivation.now in
-    let texts : HasTexts (world_of w) = texts-coded w.sessions.now w.assets.now w.labels.now w.bars.now w.adjustments.now [] c.len-rows.ensures.labels in
+    let texts : HasTexts (world_of w) = texts-coded w.sessions.now w.assets.now w.labels.now w.bars.now w.adjustments.now w.numbers.now.rows c.len-rows.ensures.labels in
     let so_far = c.loop-i.invariant in
     let l = line_of c.line-line.result.now in
     let judged = judged-right (world_of w) (pipeline_of p) texts c.graph-terms.ensures.checked.graph c.loop-i.told (take c.loop-i.i lines) so_far.none so_far.told l in
@@ -26,7 +26,7 @@ loop-i-preserved g c =
     let w = c.args.world.now in
     let p = c.args.checked.now in
     let lines = c.args.derivation.now in
-    let texts : HasTexts (world_of w) = texts-coded w.sessions.now w.assets.now w.labels.now w.bars.now w.adjustments.now [] c.len-rows.ensures.labels in
+    let texts : HasTexts (world_of w) = texts-coded w.sessions.now w.assets.now w.labels.now w.bars.now w.adjustments.now w.numbers.now.rows c.len-rows.ensures.labels in
     let so_far = c.loop-i.invariant in
     let i = c.loop-i.i in
     let l = line_of c.line-line.result.now in
@@ -43,6 +43,6 @@ returns-clause-truth g c =
     let w = c.args.world.now in
     let p = c.args.checked.now in
     let lines = c.args.derivation.now in
-    let texts : HasTexts (world_of w) = texts-coded w.sessions.now w.assets.now w.labels.now w.bars.now w.adjustments.now [] c.len-rows.ensures.labels in
+    let texts : HasTexts (world_of w) = texts-coded w.sessions.now w.assets.now w.labels.now w.bars.now w.adjustments.now w.numbers.now.rows c.len-rows.ensures.labels in
     let end : length lines ≤ c.loop-i.i = omega (arith, c.loop-i-test.false, c.len-i-end.ensures.length) in
     λ _ i l at. sound (world_of w) (pipeline_of p) texts c.graph-terms.ensures.checked.graph lines (whole (world_of w) (pipeline_of p) lines c.loop-i.i end c.loop-i.invariant.none) i l at

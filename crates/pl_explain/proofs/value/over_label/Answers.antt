@@ -1,4 +1,4 @@
-use Rattle.std.proofs.Common.{◌≡◌, None, Some, pos, option_map, slice_get, ap, sym, refl, subst, ◌∙◌, rules, w64, FitsSigned, []}
+use Rattle.std.proofs.Common.{◌≡◌, None, Some, pos, option_map, slice_get, ap, sym, refl, subst, ◌∙◌, rules, w64, FitsSigned}
 use Rattle.std.proofs.lemmas.Int.{to_z-of_z}
 use Rattle.pl_spec.specs.Parts.{sid_at}
 use Rattle.pl_terms.specs.Nodes.{input_of}
@@ -25,7 +25,7 @@ returns-in_err-code-clause-value c =
     let ok = c.graph.ensures.checked in
     let n = c.node-node.result.now in
     let is : slice_get p.graph t0 ≡ Some n = ap (λ ns. slice_get ns c.args.t.0) (sym c.graph.ensures.value) ∙ c.node-node.ensures in
-    let texts : HasTexts (world_of w) = texts-coded w.sessions.now w.assets.now w.labels.now w.bars.now w.adjustments.now [] c.len-rows.ensures.labels in
+    let texts : HasTexts (world_of w) = texts-coded w.sessions.now w.assets.now w.labels.now w.bars.now w.adjustments.now w.numbers.now.rows c.len-rows.ensures.labels in
     let same : option_map input_of c.input_at-first.result ≡ option_map input_of (slice_get n.inputs 0) = ap (option_map input_of) c.input_at-first.ensures in
     let read = read-label-test w p ok t0 n is a s (c.requires.kind n is) ∙ ap (facts_now a (pos s)) (sym same) in
     let lacks = given-none told (facts_now a (pos s) (option_map input_of c.input_at-first.result)) _ None c.in_err-code.ensures.value refl in
@@ -42,7 +42,7 @@ label_test_value-requires-clause-code c =
     let ok = c.graph.ensures.checked in
     let n = c.node-node.result.now in
     let is : slice_get p.graph t0 ≡ Some n = ap (λ ns. slice_get ns c.args.t.0) (sym c.graph.ensures.value) ∙ c.node-node.ensures in
-    let texts : HasTexts (world_of w) = texts-coded w.sessions.now w.assets.now w.labels.now w.bars.now w.adjustments.now [] c.len-rows.ensures.labels in
+    let texts : HasTexts (world_of w) = texts-coded w.sessions.now w.assets.now w.labels.now w.bars.now w.adjustments.now w.numbers.now.rows c.len-rows.ensures.labels in
     let fits : FitsSigned w64 c.in_ok-code.code = search rules in
     let got = given-some told (facts_now a (pos s) (option_map input_of c.input_at-first.result)) _ c.in_ok-code.code (Some c.in_ok-code.code) c.in_ok-code.ensures.value refl in
     let code = got.1 ∙ ap (λ o. input_cell_in w p o a s) c.input_at-first.ensures in
@@ -60,7 +60,7 @@ returns-clause-value c =
     let ok = c.graph.ensures.checked in
     let n = c.node-node.result.now in
     let is : slice_get p.graph t0 ≡ Some n = ap (λ ns. slice_get ns c.args.t.0) (sym c.graph.ensures.value) ∙ c.node-node.ensures in
-    let texts : HasTexts (world_of w) = texts-coded w.sessions.now w.assets.now w.labels.now w.bars.now w.adjustments.now [] c.len-rows.ensures.labels in
+    let texts : HasTexts (world_of w) = texts-coded w.sessions.now w.assets.now w.labels.now w.bars.now w.adjustments.now w.numbers.now.rows c.len-rows.ensures.labels in
     let same : option_map input_of c.input_at-first.result ≡ option_map input_of (slice_get n.inputs 0) = ap (option_map input_of) c.input_at-first.ensures in
     let read = read-label-test w p ok t0 n is a s (c.requires.kind n is) ∙ ap (facts_now a (pos s)) (sym same) in
     let got = given-some told (facts_now a (pos s) (option_map input_of c.input_at-first.result)) _ c.in_ok-code.code (Some c.in_ok-code.code) c.in_ok-code.ensures.value refl in
