@@ -1,5 +1,6 @@
 -- What the code has of a chunk's work, and what is there when a term is computed.
 use Rattle.std.specs.Prelude.{◌≡◌, ◌≢◌, ℕ, zero, suc, ◌+◌, ◌<◌, ◌≤◌, ◌*◌, ◌^◌, Bool, true, false, if◌then◌else◌, ◌==◌, ℤ, pos, ◌<ℤ◌, ◌≤ℤ◌, List, [], ◌∷◌, length, filter_map, take, get_or, Option, Some, None, slice_get, AllPairs}
+use Rattle.pl_spec.specs.Limits.{most_assets, most_terms}
 use Rattle.pl_spec.specs.Rounding.{IsCell}
 use Rattle.pl_spec.specs.declared.Column.{Column}
 use Rattle.pl_spec.specs.declared.Column.TheVariants.{Close}
@@ -60,9 +61,9 @@ task_of j = record { world = world_of j.world; pipeline = pipeline_of j.checked.
 pub record IsJob (j : Job) : Type 0 where
   pub made : PartsMakeAWorld j.world
   pub labels : AreLabels j.world.labels.now
-  pub few : length j.cols.now ≤ 8000
+  pub few : length j.cols.now ≤ most_assets
   pub fits : j.to < 2 ^ 63
-  pub terms : length (graph_in (task_of j)) ≤ 256
+  pub terms : length (graph_in (task_of j)) ≤ most_terms
   pub task : IsTask (task_of j)
 
 -- ---- what is read
