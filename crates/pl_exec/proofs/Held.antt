@@ -8,11 +8,12 @@ use Rattle.pl_spec.specs.World.{World, exists}
 use Rattle.pl_spec.specs.Table.{Pipeline}
 use Rattle.pl_spec.specs.Formula.{is_true}
 use Rattle.pl_cross.specs.Arrays.{sid_in}
-use Rattle.pl_values.specs.Arrays.{Holds, Fills, IsKeep, window_up_to, is_kept, cell_of, empty_cell}
+use Rattle.pl_values.specs.Arrays.{Holds, Fills, IsKeep, window_up_to, is_kept, kept_or, cell_of, empty_cell}
 use Rattle.pl_workspace.specs.Slots.{Slots}
 use Rattle.pl_exec.specs.Tasks.{Task, graph_in, assets_in, cell_in, count_in, low_in}
 use Rattle.pl_exec.specs.declared.turn.Turn.{Turn}
 use Rattle.pl_exec.specs.Jobs.{IsJob, IsRead, IsReady, IsRun, IsTurn, Begins, node_at, task_at}
+use Rattle.pl_exec.proofs.Places.{both_told}
 use Rattle.pl_exec.proofs.Spans.{end_within, size_within, window_is, window_cells, one_begun, at_is, at_cell}
 
 pub read_less : (t : Task) (w : Slots) (s size u : ℕ) → IsRead t w s size u → IsRead t w s 1 u
@@ -71,9 +72,10 @@ module _ (t : Task) (u low count : ℕ) (cells : List ℤ) (holds : Holds (cell_
 
 -- who exists and passes the mask
 pub kept_masked : (w : World) (p : Pipeline) (sids : List ℕ) (m n s : ℕ) (old new mask : List ℤ) → IsKeep (λ i. exists w (sid_in sids i) (pos s)) n old → Fills (λ i. cell_of w p sids m i s) n mask
-    → length new ≡ length old → ((i : ℕ) → i < length old → is_true (get_or new i (pos 0)) ≡ (is_true (get_or old i (pos 0)) && is_true (get_or mask i (pos 0))))
+    → length new ≡ length old → ((i : ℕ) → i < length old → get_or new i (pos 0) ≡ kept_or (pos 0) mask (λ j. get_or old j (pos 0)) i)
     → IsKeep (λ i. is_kept w p sids (Some m) i s) n new
 kept_masked w p sids m n s old new mask k f long each = record {
   long = long ∙ k.long;
-  each = λ i h. each i (let l = k.long in omega arith) ∙ ap (λ b. b && is_true (get_or mask i (pos 0))) (k.each i h) ∙ ap (λ x. exists w (sid_in sids i) (pos s) && is_true x) (f.each i h);
+  each = λ i h. ap is_true (each i (let l = k.long in omega arith)) ∙ both_told (is_true (get_or mask i (pos 0))) (get_or old i (pos 0))
+      ∙ ap (λ b. b && is_true (get_or mask i (pos 0))) (k.each i h) ∙ ap (λ x. exists w (sid_in sids i) (pos s) && is_true x) (f.each i h);
 }

@@ -1,6 +1,6 @@
 -- The values of a term for an asset on sessions in a row.
-use Rattle.std.proofs.Common.{◌≡◌, ℕ, ◌+◌, ◌-◌, ◌*◌, ◌<◌, ◌≤◌, true, ℤ, pos, List, ◌++◌, length, take, drop, get_or, get_or-set_same, get_or-set_other, set, Option, Some, slice_get, refl, sym, ◌∙◌, ap, subst, arith, All, inl, inr}
-use Rattle.std.proofs.lemmas.Bool.{cases_eq, cases_lt}
+use Rattle.std.proofs.Common.{◌≡◌, ℕ, ◌+◌, ◌-◌, ◌*◌, ◌<◌, ◌≤◌, true, ℤ, pos, List, ◌++◌, length, take, drop, get_or, Option, Some, slice_get, refl, sym, ◌∙◌, ap, subst, arith, All, inl, inr}
+use Rattle.std.proofs.lemmas.Bool.{cases_lt}
 use Rattle.std.proofs.lemmas.List.{ext_get_or, get_or-take, get_or-drop, get_or_append_left, length-map, length-take, length-drop}
 use borrow.Rule.Slice.PartMut.{put_mid, post_of}
 use Rattle.pl_spec.specs.Rounding.{IsCell}
@@ -152,14 +152,6 @@ more_given P xs ys done n k within size so_far more m h = elim (cases_lt m done)
       let own : get_or (put_mid done k xs ys) m (pos 0) ≡ get_or ys (m - done) (pos 0)
       = get_or-behind xs (ys ++ post_of done k xs) done m (m - done) (pos 0) e within ∙ get_or_append_left ys (post_of done k xs) (pos 0) (m - done) (omega (arith, inside, size)) in
       subst (P m) (sym own) (subst (λ x. P x (get_or ys (m - done) (pos 0))) (sym e) (more (m - done) inside)))
-]
-
--- one cell more
-pub one_given : (P : ℕ → ℤ → Type 0) (done : ℕ) (out : List ℤ) (x : ℤ) → ((m : ℕ) → m < done → P m (get_or out m (pos 0))) → done < length out → P done x
-    → (m : ℕ) → m < done + 1 → P m (get_or (set out done x) m (pos 0))
-one_given P done out x so_far room here m h = elim (cases_eq m done) [
-  | inl p ↦ subst (P m) (sym (ap (λ k. get_or (set out done x) k (pos 0)) p ∙ get_or-set_same out done x (pos 0) room)) (subst (λ k. P k x) (sym p) here)
-  | inr p ↦ subst (P m) (sym (get_or-set_other out done m x (pos 0) p)) (so_far m (omega (arith, h, p)))
 ]
 
 -- a cell that is said otherwise

@@ -12,7 +12,6 @@ ghost use Rattle.pl_exec.specs.Jobs.{AreBars, AreGiven, AreLent, HasNoBars, HasR
 
 use crate::columns::new_column;
 use crate::course::{Course, turn_on};
-use crate::job::{kind_of, window_of};
 use crate::keep::keep_lane;
 use crate::kinds::{is_by_rows, kind_row};
 use crate::leaves::{constant_lane, label_lane, label_test_lane, sids_lane};
@@ -23,7 +22,7 @@ use crate::windows::{Bars, Sources, advance_all, applied, fill_stretch, pass, so
 use pl_adjarray::AdjustedArray;
 use pl_cross::Cross;
 use pl_fixed::{Column, Steps};
-use pl_values::{Family, family_of};
+use pl_values::{Family, family_of, kind_of, window_of};
 use std::sync::ledger::Ledger;
 
 fn put(cells: &mut [i64], place: usize, cell: i64)

@@ -1,24 +1,14 @@
 //! Constants, sids, labels and tests of labels, for an asset on all sessions at once, kept or not.
-ghost use Rattle.std.specs.Prelude.{◌≡◌, ◌<◌, ℕ, true, get_or, length, pos};
+ghost use Rattle.std.specs.Prelude.{◌≡◌, ◌<◌, true, length};
 ghost use Rattle.pl_spec.specs.Kind.Kind.{Constant, Label};
 ghost use Rattle.pl_values.specs.Families.{is_label_test, is_sids};
 ghost use Rattle.pl_exec.specs.Tasks.{assets_in};
 ghost use Rattle.pl_exec.specs.Jobs.{AreGiven, AreLent, IsCourse, node_in, task_in};
 
 use crate::course::Course;
-use crate::job::kind_of;
 use crate::points::operand;
 use crate::windows::Sources;
-use pl_values::{label_test_value, label_value, sids_value};
-
-// One cell on all sessions.
-fn fill_same(cell: i64, out: &mut [i64])
-    ensures { (j : ℕ) → j < length out.old → get_or out.new j (pos 0) ≡ cell }
-{
-    for j in 0..out.len() {
-        out[j] = cell;
-    }
-}
+use pl_values::{kind_of, label_test_values, label_value, sids_value};
 
 /// A constant.
 pub(crate) fn constant_lane(course: &Course<'_>, value: i64, i: usize, out: &mut [i64])
@@ -27,7 +17,7 @@ pub(crate) fn constant_lane(course: &Course<'_>, value: i64, i: usize, out: &mut
     requires long { length out.old ≡ course.now.count }
     ensures { AreGiven course.now i out.new }
 {
-    fill_same(value, out);
+    out.fill(value);
 }
 
 /// Whether the asset's sid is listed.
@@ -40,7 +30,7 @@ pub(crate) fn sids_lane(course: &Course<'_>, i: usize, out: &mut [i64])
 {
     let job = course.job;
     let sid = job.world.assets.sid(job.cols[i] as usize);
-    fill_same(sids_value(kind_of(course.node), sid), out);
+    out.fill(sids_value(kind_of(course.node), sid));
 }
 
 /// The asset's labels by their codes; `name` is the number of the label's name.
@@ -73,9 +63,5 @@ pub(crate) fn label_test_lane(course: &Course<'_>, sources: &Sources<'_>, i: usi
 {
     let codes = operand(course, &sources.first, 0, i);
     let job = course.job;
-    let labels = job.world.labels;
-    let kind = kind_of(course.node);
-    for j in 0..out.len() {
-        out[j] = label_test_value(kind, labels, codes[j]);
-    }
+    label_test_values(kind_of(course.node), job.world.labels, codes, out);
 }

@@ -5,9 +5,10 @@ ghost use Rattle.pl_exec.specs.Tasks.{assets_in};
 ghost use Rattle.pl_exec.specs.Jobs.{AreGiven, AreLent, IsCourse, IsLent, IsOperand, IsOperandOf, IsReadFrom, node_in, task_in};
 
 use crate::course::Course;
-use crate::job::{Array, cells_from, kind_of};
+use crate::job::{Array, cells_from};
 use crate::windows::{Source, Sources};
 use pl_pointwise::pointwise;
+use pl_values::kind_of;
 
 // The cells of an array for an asset, on the sessions of the course.
 fn lane_of<'t>(course: &Course<'_>, array: &Array<'t>, i: usize) -> &'t [i64]

@@ -10,12 +10,13 @@ ghost use Rattle.pl_exec.specs.Jobs.{AreLent, AreStill, AreStillNow, GoesOn, Has
 
 use crate::columns::place_of;
 use crate::course::{Course, turn_on};
-use crate::job::{Array, array_of, input_at, kind_of, mask_of, window_of};
+use crate::job::{Array, array_of};
 use crate::turn::{Turn, term_reach};
 use pl_adjarray::Windows;
 use pl_fixed::Steps;
 use pl_running::fill_values;
 use pl_terms::Input;
+use pl_values::{input_at, kind_of, mask_of, window_of};
 use std::sync::ledger::Ledger;
 
 /// A traversal for each place of an input; where the input is no bar column, or one that an input before it

@@ -2,10 +2,11 @@ use Rattle.std.proofs.Common.{rules, ◌<◌, ◌∙◌, arith, ap, sym, subst, 
 use Rattle.std.proofs.lemmas.Int.{to_z-of_z}
 use Rattle.pl_spec.specs.Rounding.{IsCell}
 use Rattle.pl_values.specs.Families.{label_code}
+use Rattle.pl_values.proofs.Written.{one_given}
 use Rattle.pl_exec.specs.Jobs.{IsGivenOn, turn_in}
 use Rattle.pl_exec.proofs.Courses.{course_turn}
 use Rattle.pl_exec.proofs.Givens.{label_given, label_here}
-use Rattle.pl_exec.proofs.Stretches.{given_by, one_given}
+use Rattle.pl_exec.proofs.Stretches.{given_by}
 use Rattle.pl_exec.proofs.leaves.label_lane.Goals as goal
 
 pub label_name-name-requires : goal.label_name-name-requires
