@@ -15,7 +15,7 @@ use Rattle.pl_factors.specs.Kinds.{formula_of}
 use Rattle.pl_running.specs.Lanes.{AreValues, TakesLanes, window_at}
 use Rattle.pl_running.specs.Spans.{TakesWindows}
 use Rattle.pl_running.proofs.Following.{cells_at}
-use Rattle.pl_values.specs.Arrays.{chosen, is_kept, window_up_to}
+use Rattle.pl_values.specs.Arrays.{Holds, chosen, is_kept, window_up_to}
 use Rattle.pl_values.specs.Families.{TakesWindows as TakesGiven, windowed}
 use Rattle.pl_values.specs.Inputs.{input_window}
 use Rattle.pl_values.specs.Laws.{IsGiven}
@@ -24,12 +24,12 @@ use Rattle.pl_values.proofs.KindFamilies.{window_kind}
 use Rattle.pl_exec.specs.declared.course.Course.{Course}
 use Rattle.pl_exec.specs.declared.turn.Turn.{Turn}
 use Rattle.pl_exec.specs.declared.job.Array.{Array}
-use Rattle.pl_exec.specs.Tasks.{assets_in, cell_in, low_in, sids_in}
+use Rattle.pl_exec.specs.Tasks.{assets_in, cell_in, sids_in}
 use Rattle.pl_exec.specs.Jobs.{IsCourse, IsGivenOn, IsLane, IsReach, IsTermLent, IsTurn, node_at, node_in, task_at, task_in, turn_in}
 use Rattle.pl_exec.proofs.Courses.{course_turn}
 use Rattle.pl_exec.proofs.Givens.{node_is, none_cell}
-use Rattle.pl_exec.proofs.Held.{read_cells, read_end, read_size, read_window}
-use Rattle.pl_exec.proofs.Spans.{at_downward}
+use Rattle.pl_exec.proofs.Held.{held}
+use Rattle.pl_exec.proofs.Spans.{at_downward, end_within, size_within, window_cells, window_is}
 
 -- ---- the cells of a term
 
@@ -50,20 +50,27 @@ up_to_at f size more s m h =
     ∙ sym (at_downward (λ n. f (s + m - n)) size k (pos 0) inside))
 
 module _ (t : Turn) (is : IsTurn t) (i u : ℕ) (a : Array) (lent : IsTermLent t u a) (asset : i < assets_in (task_at t)) (more size : ℕ) (same : size ≡ (node_at t).window + more) (late : t.session + more ≤ t.job.now.to) where
-  some : 1 ≤ (node_at t).window + more
-  some = let s = lent.read.some in omega (arith, s)
+  own : Holds (cell_in (task_at t) u) (assets_in (task_at t)) a.low a.count a.cells.now
+  own = held (task_at t) u a lent.array
 
-  early : low_in (task_at t) u + ((node_at t).window + more) ≤ t.session + more + 1
-  early = let e = lent.read.early in omega (arith, e)
+  some : 1 ≤ size
+  some = let s = lent.read.some in omega (arith, s, same)
+
+  early : a.low + size ≤ t.session + more + 1
+  early = let e = lent.read.early in let l = lent.array.low in omega (arith, e, l, same)
+
+  last : t.session + more < a.low + a.count
+  last = let e = lent.array.end in omega (arith, e, late)
 
   pub reach_end : i * a.count + (t.session + more - a.low) + 1 ≤ length a.cells.now
-  reach_end = read_end (task_at t) u a.low a.count a.cells.now lent.holds lent.low lent.end (t.session + more) size ((node_at t).window + more) i same asset some early late
+  reach_end = end_within (cell_in (task_at t) u) (assets_in (task_at t)) a.low a.count a.cells.now own i (t.session + more) size asset some early last
 
   pub reach_size : size ≤ i * a.count + (t.session + more - a.low) + 1
-  reach_size = read_size (task_at t) u a.low a.count a.cells.now lent.holds lent.low lent.end (t.session + more) size ((node_at t).window + more) i same asset some early late
+  reach_size = size_within (cell_in (task_at t) u) (assets_in (task_at t)) a.low a.count a.cells.now own i (t.session + more) size asset some early last
 
   taken_is : take size (drop (i * a.count + (t.session + more - a.low) + 1 - size) a.cells.now) ≡ window_up_to (cell_in (task_at t) u i) ((node_at t).window + more) (t.session + more)
-  taken_is = read_window (task_at t) u a.low a.count a.cells.now lent.holds lent.low lent.end (t.session + more) size ((node_at t).window + more) i same asset some early late
+  taken_is = window_is (cell_in (task_at t) u) (assets_in (task_at t)) a.low a.count a.cells.now own i (t.session + more) size asset some early last
+      ∙ ap (λ n. window_up_to (cell_in (task_at t) u i) n (t.session + more)) same
 
   pub term_reached : IsReach t (Some (spec.TermInput u)) i more (take size (drop (i * a.count + (t.session + more - a.low) + 1 - size) a.cells.now))
   term_reached = record {
@@ -72,7 +79,8 @@ module _ (t : Turn) (is : IsTurn t) (i u : ℕ) (a : Array) (lent : IsTermLent t
   }
 
   pub reach_cells : All IsCell (take size (drop (i * a.count + (t.session + more - a.low) + 1 - size) a.cells.now))
-  reach_cells = subst (All IsCell) (sym taken_is) (read_cells (task_at t) u a.low a.count a.cells.now lent.holds lent.low lent.end (t.session + more) size ((node_at t).window + more) i same asset some early late)
+  reach_cells = subst (All IsCell) (sym (window_is (cell_in (task_at t) u) (assets_in (task_at t)) a.low a.count a.cells.now own i (t.session + more) size asset some early last))
+      (window_cells (cell_in (task_at t) u) (assets_in (task_at t)) a.low a.count a.cells.now own i (t.session + more) size asset some early last)
 
 -- ---- what a formula gives
 

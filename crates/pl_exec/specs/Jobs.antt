@@ -145,22 +145,10 @@ turn_in c j = record { job = c.job; term = c.term; node = c.node; session = c.lo
 abbrev pub IsLane : Course → ℕ → List ℤ → Type 0
 IsLane c i row = Fills (λ j. cell_in (task_in c) c.term.0 i (c.low + j)) c.count row
 
--- the array is written for the first assets
-pub record AreLanes (f : ℕ → ℕ → ℤ) (low count done : ℕ) (cells : List ℤ) : Type 0 where
-  pub each : (i j : ℕ) → i < done → j < count → get_or cells (i * count + j) (pos 0) ≡ f i (low + j)
-  pub cell : (i j : ℕ) → i < done → j < count → IsCell (f i (low + j))
-
--- a row of n cells of which the first ones are written
-pub record Begins (f : ℕ → ℤ) (n done : ℕ) (row : List ℤ) : Type 0 where
-  pub long : length row ≡ n
-  pub each : (i : ℕ) → i < done → get_or row i (pos 0) ≡ f i
-  pub cell : (i : ℕ) → i < done → IsCell (f i)
-
--- the array is written for the first sessions
-pub record IsWritten (f : ℕ → ℕ → ℤ) (assets low count done : ℕ) (old cells : List ℤ) : Type 0 where
-  pub size : length cells ≡ length old
-  pub each : (i t : ℕ) → i < assets → t < done → get_or cells (i * count + t) (pos 0) ≡ f i (low + t)
-  pub cell : (i t : ℕ) → i < assets → t < done → IsCell (f i (low + t))
+-- the array, of count sessions from low on, is written for the first assets and sessions
+pub record IsWritten (f : ℕ → ℕ → ℤ) (low count assets sessions : ℕ) (cells : List ℤ) : Type 0 where
+  pub each : (i j : ℕ) → i < assets → j < sessions → get_or cells (i * count + j) (pos 0) ≡ f i (low + j)
+  pub cell : (i j : ℕ) → i < assets → j < sessions → IsCell (f i (low + j))
 
 -- ---- bar columns
 
@@ -292,18 +280,16 @@ AreStillNow (Some b) n = AreStill b n
 abbrev pub column_traversal : Turn → ℕ → Column → Traversal
 column_traversal t i c = record { array = buffered t.job.now t.term.0 c (one_col t.job.now i); window = (node_at t).window; session = t.session }
 
--- in the array of its term
-pub record IsTermLent (t : Turn) (u : ℕ) (a : Array) : Type 0 where
-  pub read : IsRead (task_at t) t.workspace.now t.session (node_at t).window u
-  pub holds : IsArray (task_at t) u a.cells.now
-  pub low : a.low ≡ low_in (task_at t) u
-  pub end : a.low + a.count ≡ t.job.now.to + 1
-
 -- the array of term u, as the code has it
 pub record IsArrayOf (t : Task) (u : ℕ) (a : Array) : Type 0 where
   pub holds : IsArray t u a.cells.now
   pub low : a.low ≡ low_in t u
   pub end : a.low + a.count ≡ t.to + 1
+
+-- in the array of its term
+pub record IsTermLent (t : Turn) (u : ℕ) (a : Array) : Type 0 where
+  pub read : IsRead (task_at t) t.workspace.now t.session (node_at t).window u
+  pub array : IsArrayOf (task_at t) u a
 
 -- where the windows of the input in place p lie
 abbrev pub IsLent : Task → spec.Node → Option spec.Input → Source → Type 0

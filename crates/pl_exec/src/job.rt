@@ -5,7 +5,7 @@ ghost use Rattle.pl_planner.specs.Plans.{is_used, slot_of};
 ghost use Rattle.pl_workspace.specs.Slots.{Live, slot_at};
 ghost use Rattle.pl_exec.specs.Slotted.{IsHeld};
 ghost use Rattle.pl_exec.specs.Tasks.{IsArray, graph_in, low_in};
-ghost use Rattle.pl_exec.specs.Jobs.{IsJob, task_of};
+ghost use Rattle.pl_exec.specs.Jobs.{IsArrayOf, IsJob, task_of};
 
 use pl_planner::Plan;
 use pl_terms::{Checked, Node, TermId};
@@ -55,9 +55,7 @@ pub(crate) fn array_of<'a>(job: &Job<'_>, workspace: &'a Workspace, term: TermId
     requires used { is_used job.now.plan.now term.0 ≡ true }
     requires held { IsHeld (IsArray (task_of job.now) term.0) workspace.now
         (slot_of job.now.plan.now term.0) }
-    ensures holds { IsArray (task_of job.now) term.0 result.cells.now }
-    ensures low { result.low ≡ low_in (task_of job.now) term.0 }
-    ensures end { result.low + result.count ≡ job.now.to + 1 }
+    ensures { IsArrayOf (task_of job.now) term.0 result }
 {
     let low = low_of(job, term);
     Array {

@@ -12,7 +12,7 @@ loop-j-preserved c =
     let row = subst (λ (t : Turn). IsOut t c.row_on.new.out) c.turn_on-turn.ensures.is c.row_on.ensures.out in
     let size : length c.row_on.new.out ≡ assets_in (task_in c.args.course.now) = row.long in
     record {
-      written = more_written (cell_in (task_in c.args.course.now) c.args.course.now.term.0) (assets_in (task_in c.args.course.now)) c.args.course.now.low c.args.course.now.count c.loop-j.j c.args.own.now c.loop-j.own c.put_row.new.cells c.row_on.new.out
+      written = more_written (cell_in (task_in c.args.course.now) c.args.course.now.term.0) c.args.course.now.low c.args.course.now.count (assets_in (task_in c.args.course.now)) c.loop-j.j c.loop-j.own c.put_row.new.cells c.row_on.new.out
           c.loop-j.invariant.written c.loop-j-test.true row (subst (λ m. IsRow (λ i. get_or c.row_on.new.out i (pos 0)) m c.args.course.now.count c.loop-j.j c.loop-j.own c.put_row.new.cells) size c.put_row.ensures);
       cross = c.row_on.ensures.cross ∙ c.loop-j.invariant.cross;
     }
@@ -20,4 +20,4 @@ loop-j-preserved c =
 pub returns-clause-array : goal.returns-clause-array
 returns-clause-array c =
     course_array c.args.course.now c.requires.course c.loop-j.own
-    (all_written (cell_in (task_in c.args.course.now) c.args.course.now.term.0) (assets_in (task_in c.args.course.now)) c.args.course.now.low c.args.course.now.count c.loop-j.j c.args.own.now c.loop-j.own c.loop-j.invariant.written (omega (arith, c.loop-j-test.false)) c.requires.room)
+    (all_written (cell_in (task_in c.args.course.now) c.args.course.now.term.0) c.args.course.now.low c.args.course.now.count (assets_in (task_in c.args.course.now)) (assets_in (task_in c.args.course.now)) c.loop-j.j c.loop-j.own c.loop-j.invariant.written (omega arith) (omega (arith, c.loop-j-test.false)) (omega (arith, c.requires.room, c.loop-j.auto.own)))
