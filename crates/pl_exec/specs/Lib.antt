@@ -1,4 +1,3 @@
-pub mod Chunks
 pub mod Filling
 pub mod Jobs
 pub mod RowsInside
