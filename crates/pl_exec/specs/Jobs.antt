@@ -210,11 +210,15 @@ stand_at b size (suc n) = b.first + size + n
 abbrev pub traversal_at : Job → ℕ → spec.Node → List ℕ → ℕ → ℕ → Traversal
 traversal_at j k n cols p m = record { array = buffer_at j k n cols p; window = n.window; session = stand_at (buffer_at j k n cols p) n.window m }
 
+-- what holds of the traversal of each place
+pub record OfEach (P : ℕ → Traversal → Type 0) (b : Bars) : Type 0 where
+  pub first : P 0 b.first
+  pub second : P 1 b.second
+  pub third : P 2 b.third
+
 -- the traversals of the places after so many advances
-pub record AreBars (j : Job) (k : ℕ) (n : spec.Node) (cols : List ℕ) (m : ℕ) (b : Bars) : Type 0 where
-  pub first : b.first ≡ traversal_at j k n cols 0 m
-  pub second : b.second ≡ traversal_at j k n cols 1 m
-  pub third : b.third ≡ traversal_at j k n cols 2 m
+abbrev pub AreBars : Job → ℕ → spec.Node → List ℕ → ℕ → Bars → Type 0
+AreBars j k n cols m b = OfEach (λ p v. v ≡ traversal_at j k n cols p m) b
 
 -- the steps of whole traversals
 abbrev pub steps_at : Job → ℕ → spec.Node → List ℕ → ℕ → ℕ
@@ -239,17 +243,27 @@ passed v more = record { array = v.array; window = v.window; session = v.session
 abbrev pub HasBegun : Traversal → Type 0
 HasBegun v = v.array.first + v.window ≤ v.session
 
+abbrev pub HaveBegun : Bars → Type 0
+HaveBegun b = OfEach (λ p v. HasBegun v) b
+
 -- nothing changes in the traversals on so many sessions
-pub record AreStill (b : Bars) (n : ℕ) : Type 0 where
-  pub first : IsStill b.first.array b.first.session n
-  pub second : IsStill b.second.array b.second.session n
-  pub third : IsStill b.third.array b.third.session n
+abbrev pub AreStill : Bars → ℕ → Type 0
+AreStill b n = OfEach (λ p v. IsStill v.array v.session n) b
+
+-- each traversal comes so from the one before
+pub record AreMoved (move : Traversal → Traversal) (old new : Bars) : Type 0 where
+  pub first : new.first ≡ move old.first
+  pub second : new.second ≡ move old.second
+  pub third : new.third ≡ move old.third
 
 abbrev pub counted : Bars → ℕ
 counted b = applied_at b.first.array b.first.session + applied_at b.second.array b.second.session + applied_at b.third.array b.third.session
 
 abbrev pub GoesOn : Traversal → Type 0
 GoesOn v = advances v + v.window ≤ v.array.rows
+
+abbrev pub GoOn : Bars → Type 0
+GoOn b = OfEach (λ p v. GoesOn v) b
 
 pub record HasBarsAt (j : Job) (k : ℕ) (n : spec.Node) (cols : List ℕ) (s : ℕ) (b : Bars) : Type 0 where
   pub advances : ℕ

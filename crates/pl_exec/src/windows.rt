@@ -6,7 +6,7 @@ ghost use Rattle.pl_adjarray.specs.Buffered.{applied_at};
 ghost use Rattle.pl_adjarray.specs.Stillness.{IsStill};
 ghost use Rattle.pl_terms.specs.Sorts.{is_windowed};
 ghost use Rattle.pl_exec.specs.Tasks.{assets_in};
-ghost use Rattle.pl_exec.specs.Jobs.{AreLent, AreStill, AreStillNow, GoesOn, HasBars, HasBegun, IsColumnAt, IsColumnReach, IsCourse, IsGivenOn, IsLent, IsLentAt, IsLentReach, IsMaskLent, IsTurn, advanced, bars_now, counted, node_at, node_in, one_col, passed, place_in, task_at, task_in};
+ghost use Rattle.pl_exec.specs.Jobs.{AreLent, AreMoved, AreStill, AreStillNow, GoOn, GoesOn, HasBars, HasBegun, HaveBegun, IsColumnAt, IsColumnReach, IsCourse, IsGivenOn, IsLent, IsLentAt, IsLentReach, IsMaskLent, IsTurn, advanced, bars_now, counted, node_at, node_in, one_col, passed, place_in, task_at, task_in};
 
 use crate::columns::place_of;
 use crate::course::{Course, turn_on};
@@ -39,12 +39,8 @@ fn advance<L: Ledger>(windows: &mut Windows<'_>, steps: &mut Steps<L>)
 
 /// All traversals go on to the next session.
 pub(crate) fn advance_all<L: Ledger>(bars: &mut Bars<'_>, steps: &mut Steps<L>)
-    requires first { GoesOn bars.old.first }
-    requires second { GoesOn bars.old.second }
-    requires third { GoesOn bars.old.third }
-    ensures first { bars.new.first ≡ advanced bars.old.first }
-    ensures second { bars.new.second ≡ advanced bars.old.second }
-    ensures third { bars.new.third ≡ advanced bars.old.third }
+    requires { GoOn bars.old }
+    ensures next { AreMoved advanced bars.old bars.new }
     ensures cost { steps.new + counted bars.old ≡ steps.old + counted bars.new }
 {
     advance(&mut bars.first, steps);
@@ -74,13 +70,9 @@ fn pass_one(windows: &mut Windows<'_>, more: usize)
 
 /// All traversals go on by so many sessions on which nothing changes.
 pub(crate) fn pass(bars: &mut Bars<'_>, more: usize)
-    requires first { HasBegun bars.old.first }
-    requires second { HasBegun bars.old.second }
-    requires third { HasBegun bars.old.third }
+    requires begun { HaveBegun bars.old }
     requires still { AreStill bars.old more }
-    ensures first { bars.new.first ≡ passed bars.old.first more }
-    ensures second { bars.new.second ≡ passed bars.old.second more }
-    ensures third { bars.new.third ≡ passed bars.old.third more }
+    ensures next { AreMoved (λ v. passed v more) bars.old bars.new }
     ensures cost { counted bars.new ≡ counted bars.old }
 {
     pass_one(&mut bars.first, more);
