@@ -1,5 +1,5 @@
 -- Parts of an array, and one session of it written.
-use Rattle.std.proofs.Common.{◌≡◌, ℕ, zero, suc, ◌+◌, ◌-◌, ◌*◌, ◌<◌, ◌≤◌, ℤ, pos, List, length, map, take, drop, get_or, set, sym, ◌∙◌, ap, arith, inl, inr, get_or-set_same, get_or-set_other, length-set}
+use Rattle.std.proofs.Common.{◌≡◌, ℕ, zero, suc, ◌+◌, ◌-◌, ◌*◌, ◌<◌, ◌≤◌, ℤ, pos, List, length, map, take, drop, get_or, set, sym, ◌∙◌, ap, subst, arith, inl, inr, get_or-set_same, get_or-set_other, length-set}
 use Rattle.std.proofs.lemmas.Bool.{cases_eq}
 use Rattle.std.proofs.lemmas.List.{ext_get_or, get_or-take, get_or-drop, length-map, length-take-le, length-drop}
 use Rattle.std.proofs.lemmas.Nat.{same_from_place}
@@ -80,17 +80,22 @@ one_put f assets count j n old new x b asset session room e is_cell = record {
     here : n * count + j < length new
     here = let p = row-within n assets count j asset session in let s = b.size in omega arith
 
+pub row_put : (f : ℕ → ℤ) (assets count j : ℕ) (row old new : List ℤ) → Fills f assets row → IsRow (λ i. get_or row i (pos 0)) (length row) count j old new → IsRow f assets count j old new
+row_put f assets count j row old new filled put =
+    let p = subst (λ m. IsRow (λ i. get_or row i (pos 0)) m count j old new) filled.long put in
+    record { size = p.size; written = λ i h. p.written i h ∙ filled.each i h; cell = filled.cell; others = p.others }
+
 -- ---- session after session
 
-pub more_written : (f : ℕ → ℕ → ℤ) (low count assets done : ℕ) (cells new row : List ℤ) → IsWritten f low count assets done cells → done < count
-    → Fills (λ i. f i (low + done)) assets row → IsRow (λ i. get_or row i (pos 0)) assets count done cells new → IsWritten f low count assets (done + 1) new
-more_written f low count assets done cells new row so_far h filled put = record {
+pub more_written : (f : ℕ → ℕ → ℤ) (low count assets done : ℕ) (cells new : List ℤ) → IsWritten f low count assets done cells → done < count → IsRow (λ i. f i (low + done)) assets count done cells new
+    → IsWritten f low count assets (done + 1) new
+more_written f low count assets done cells new so_far h row = record {
   each = λ i t a l. elim (cases_eq t done) [
-    | inl e ↦ rw e (put.written i a ∙ filled.each i a)
-    | inr ne ↦ put.others i t a (omega arith) ne ∙ so_far.each i t a (omega arith)
+    | inl e ↦ rw e (row.written i a)
+    | inr ne ↦ row.others i t a (omega arith) ne ∙ so_far.each i t a (omega arith)
   ];
   cell = λ i t a l. elim (cases_eq t done) [
-    | inl e ↦ rw e (filled.cell i a)
+    | inl e ↦ rw e (row.cell i a)
     | inr ne ↦ so_far.cell i t a (omega arith)
   ];
 }

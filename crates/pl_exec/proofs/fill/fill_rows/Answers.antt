@@ -1,21 +1,20 @@
-use Rattle.std.proofs.Common.{◌≡◌, ◌∙◌, length, subst, arith, get_or, pos}
+use Rattle.std.proofs.Common.{◌∙◌, subst, arith}
 use Rattle.pl_values.specs.Arrays.{IsRow}
 use Rattle.pl_exec.specs.declared.turn.Turn.{Turn}
 use Rattle.pl_exec.specs.Tasks.{assets_in, cell_in}
-use Rattle.pl_exec.specs.Jobs.{IsOut, task_in}
+use Rattle.pl_exec.specs.Jobs.{task_at, task_in}
 use Rattle.pl_exec.proofs.Courses.{course_array}
 use Rattle.pl_exec.proofs.Spans.{more_written, all_written}
 use Rattle.pl_exec.proofs.fill.fill_rows.Goals as goal
 
 pub loop-j-preserved : goal.loop-j-preserved
-loop-j-preserved c =
-    let row = subst (λ (t : Turn). IsOut t c.row_on.new.out) c.turn_on-turn.ensures.is c.row_on.ensures.out in
-    let size : length c.row_on.new.out ≡ assets_in (task_in c.args.course.now) = row.long in
-    record {
-      written = more_written (cell_in (task_in c.args.course.now) c.args.course.now.term.0) c.args.course.now.low c.args.course.now.count (assets_in (task_in c.args.course.now)) c.loop-j.j c.loop-j.own c.put_row.new.cells c.row_on.new.out
-          c.loop-j.invariant.written c.loop-j-test.true row (subst (λ m. IsRow (λ i. get_or c.row_on.new.out i (pos 0)) m c.args.course.now.count c.loop-j.j c.loop-j.own c.put_row.new.cells) size c.put_row.ensures);
-      cross = c.row_on.ensures.cross ∙ c.loop-j.invariant.cross;
-    }
+loop-j-preserved c = record {
+  written = more_written (cell_in (task_in c.args.course.now) c.args.course.now.term.0) c.args.course.now.low c.args.course.now.count (assets_in (task_in c.args.course.now)) c.loop-j.j c.loop-j.own c.fill_row.new.own
+      c.loop-j.invariant.written c.loop-j-test.true
+      (subst (λ (t : Turn). IsRow (λ i. cell_in (task_at t) t.term.0 i t.session) (assets_in (task_at t)) c.args.course.now.count c.loop-j.j c.loop-j.own c.fill_row.new.own) c.turn_on-turn.ensures.is c.fill_row.ensures.row);
+  cross = c.fill_row.ensures.cross ∙ c.loop-j.invariant.cross;
+  rows = c.fill_row.ensures.rows ∙ c.loop-j.invariant.rows;
+}
 
 pub returns-clause-array : goal.returns-clause-array
 returns-clause-array c =

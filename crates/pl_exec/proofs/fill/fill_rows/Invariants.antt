@@ -7,4 +7,5 @@ abbrev pub invariant-loop-j : goal.invariant-loop-j
 invariant-loop-j l = record {
   written : IsWritten (cell_in (task_in l.course) l.course.term.0) l.course.low l.course.count (assets_in (task_in l.course)) l.j l.own;
   cross : l.cross ≡ l.fn.cross;
+  rows : l.rows ≡ l.fn.rows;
 }
