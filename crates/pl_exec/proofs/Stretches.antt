@@ -25,7 +25,7 @@ use Rattle.pl_exec.specs.declared.course.Course.{Course}
 use Rattle.pl_exec.specs.declared.turn.Turn.{Turn}
 use Rattle.pl_exec.specs.declared.job.Array.{Array}
 use Rattle.pl_exec.specs.Tasks.{assets_in, cell_in, sids_in}
-use Rattle.pl_exec.specs.Jobs.{IsCourse, IsGivenOn, IsLane, IsReach, IsTermLent, IsTurn, node_at, node_in, task_at, task_in, turn_in}
+use Rattle.pl_exec.specs.Jobs.{IsCourse, IsGivenOn, FillsLane, IsReach, IsTermLent, IsTurn, node_at, node_in, task_at, task_in, turn_in}
 use Rattle.pl_exec.proofs.Courses.{course_turn}
 use Rattle.pl_exec.proofs.Givens.{node_is, none_cell}
 use Rattle.pl_exec.proofs.Held.{held}
@@ -178,7 +178,7 @@ module _ (c : Course) (is : IsCourse c) (i : ℕ) (made out : List ℤ) (given :
       ∙ ap (chosen (is_kept (task_in c).world (task_in c).pipeline (sids_in (task_in c)) (node_in c).mask i (c.low + j)) (get_or made j (pos 0))) is.none
       ∙ sym (given j h).given
 
-  pub kept_lane : length out ≡ c.count → IsLane c i out
+  pub kept_lane : length out ≡ c.count → FillsLane c i out
   kept_lane size = record {
     long = size;
     each = cell_at;

@@ -34,6 +34,7 @@ use Rattle.pl_workspace.specs.Slots.{Slots, Free, slot_at}
 use Rattle.std.specs.Borrow.{Bor}
 use Rattle.pl_exec.specs.declared.job.Job.{Job}
 use Rattle.pl_exec.specs.declared.course.Course.{Course}
+use Rattle.pl_exec.specs.declared.course.Lane.{Lane}
 use Rattle.pl_exec.specs.declared.turn.Turn.{Turn}
 use Rattle.pl_exec.specs.declared.windows.Bars.{Bars}
 use Rattle.pl_exec.specs.declared.job.Array.{Array}
@@ -142,8 +143,8 @@ abbrev pub turn_in : Course → ℕ → Turn
 turn_in c j = record { job = c.job; term = c.term; node = c.node; session = c.low + j; workspace = c.workspace; none = c.none }
 
 -- the cells of an asset
-abbrev pub IsLane : Course → ℕ → List ℤ → Type 0
-IsLane c i row = Fills (λ j. cell_in (task_in c) c.term.0 i (c.low + j)) c.count row
+abbrev pub FillsLane : Course → ℕ → List ℤ → Type 0
+FillsLane c i row = Fills (λ j. cell_in (task_in c) c.term.0 i (c.low + j)) c.count row
 
 -- the array, of count sessions from low on, is written for the first assets and sessions
 pub record IsWritten (f : ℕ → ℕ → ℤ) (low count assets sessions : ℕ) (cells : List ℤ) : Type 0 where
@@ -379,6 +380,12 @@ pub record AreLent (t : Task) (n : spec.Node) (s : Sources) : Type 0 where
   pub second : IsLent t n (slice_get n.inputs 1) s.second
   pub third : IsLent t n (slice_get n.inputs 2) s.third
   pub mask : IsMaskLent t n.mask s.mask
+
+-- an asset on the sessions of a course
+pub record IsLane (l : Lane) : Type 0 where
+  pub course : IsCourse l.course.now
+  pub lent : AreLent (task_in l.course.now) (node_in l.course.now) l.sources.now
+  pub asset : l.i < assets_in (task_in l.course.now)
 
 -- ---- the slots of bar columns
 

@@ -8,17 +8,17 @@ ghost use Rattle.pl_terms.specs.Sorts.{is_windowed};
 ghost use Rattle.pl_values.specs.Arrays.{IsRow};
 ghost use Rattle.pl_values.specs.Families.{IsOf};
 ghost use Rattle.pl_exec.specs.Tasks.{IsArray, assets_in, cell_in, graph_in, term_steps};
-ghost use Rattle.pl_exec.specs.Jobs.{AreBars, AreGiven, AreLent, HasNoBars, HasRows, IsColumnRun, IsCourse, IsLane, IsOut, IsTurn, buffer_at, by_rows, counted, node_at, node_in, one_col, steps_of, task_at, task_in};
+ghost use Rattle.pl_exec.specs.Jobs.{AreBars, AreGiven, FillsLane, HasNoBars, HasRows, IsColumnRun, IsCourse, IsLane, IsOut, IsTurn, buffer_at, by_rows, counted, node_at, node_in, one_col, steps_of, task_at, task_in};
 
 use crate::columns::new_column;
-use crate::course::{Course, turn_on};
+use crate::course::{Course, Lane, turn_on};
 use crate::keep::keep_lane;
 use crate::kinds::{is_by_rows, kind_row};
 use crate::leaves::{constant_lane, label_lane, label_test_lane, sids_lane};
 use crate::points::point_lane;
 use crate::rows::Rows;
 use crate::turn::{Turn, keep_row};
-use crate::windows::{Bars, Sources, advance_all, applied, fill_stretch, pass, sources_of, still};
+use crate::windows::{Bars, advance_all, applied, fill_stretch, pass, sources_of, still};
 use pl_adjarray::AdjustedArray;
 use pl_cross::Cross;
 use pl_fixed::{Column, Steps};
@@ -134,53 +134,37 @@ fn fill_rows<'x>(
 }
 
 // What a term that reads no bar columns is worth for an asset, whether that is kept or not.
-fn given_lane<'x>(
-    course: &Course<'x>,
-    sources: &Sources<'x>,
-    family: Family,
-    i: usize,
-    out: &mut [i64],
-)
-    requires course { IsCourse course.now }
-    requires sources { AreLent (task_in course.now) (node_in course.now) sources.now }
-    requires family { IsOf (node_in course.now).kind family }
+fn given_lane(lane: &Lane<'_>, family: Family, out: &mut [i64])
+    requires lane { IsLane lane.now }
+    requires family { IsOf (node_in lane.now.course.now).kind family }
     requires lanes { by_rows family ≡ false }
-    requires none { HasNoBars (node_in course.now) }
-    requires asset { i < assets_in (task_in course.now) }
-    requires long { length out.old ≡ course.now.count }
-    ensures { AreGiven course.now i out.new }
+    requires none { HasNoBars (node_in lane.now.course.now) }
+    requires long { length out.old ≡ lane.now.course.now.count }
+    ensures { AreGiven lane.now.course.now lane.now.i out.new }
 {
     match family {
-        Family::Constant(value) => constant_lane(course, value, i, out),
-        Family::Label(name) => label_lane(course, name, i, out),
-        Family::Sids => sids_lane(course, i, out),
-        Family::LabelTest => label_test_lane(course, sources, i, out),
-        Family::Point => point_lane(course, sources, i, out),
-        Family::Window => fill_stretch(course, sources, None, i, 0, out),
+        Family::Constant(value) => constant_lane(lane, value, out),
+        Family::Label(name) => label_lane(lane, name, out),
+        Family::Sids => sids_lane(lane, out),
+        Family::LabelTest => label_test_lane(lane, out),
+        Family::Point => point_lane(lane, out),
+        Family::Window => fill_stretch(lane, None, 0, out),
         Family::Section => unreachable!(),
         Family::Downsample(_) => unreachable!(),
     }
 }
 
 // The cells of an asset of a term that reads no bar columns.
-fn plain_lane<'x>(
-    course: &Course<'x>,
-    sources: &Sources<'x>,
-    family: Family,
-    i: usize,
-    out: &mut [i64],
-)
-    requires course { IsCourse course.now }
-    requires sources { AreLent (task_in course.now) (node_in course.now) sources.now }
-    requires family { IsOf (node_in course.now).kind family }
+fn plain_lane(lane: &Lane<'_>, family: Family, out: &mut [i64])
+    requires lane { IsLane lane.now }
+    requires family { IsOf (node_in lane.now.course.now).kind family }
     requires lanes { by_rows family ≡ false }
-    requires none { columns_at (graph_in (task_in course.now)) course.now.term.0 ≡ 0 }
-    requires asset { i < assets_in (task_in course.now) }
-    requires long { length out.old ≡ course.now.count }
-    ensures { IsLane course.now i out.new }
+    requires none { columns_at (graph_in (task_in lane.now.course.now)) lane.now.course.now.term.0 ≡ 0 }
+    requires long { length out.old ≡ lane.now.course.now.count }
+    ensures { FillsLane lane.now.course.now lane.now.i out.new }
 {
-    given_lane(course, sources, family, i, out);
-    keep_lane(course, sources, i, out);
+    given_lane(lane, family, out);
+    keep_lane(lane, out);
 }
 
 // The array of a term whose cells come asset by asset, and which reads no bar columns.
@@ -197,8 +181,12 @@ fn fill_lanes<'x>(course: &Course<'x>, family: Family, own: &mut [i64])
     let job = course.job;
     for i in 0..job.cols.len() {
         let start = start_in(own, i, count);
-        let lane = &mut own[start..start + count];
-        plain_lane(course, &sources, family, i, lane);
+        let lane = Lane {
+            course,
+            sources: &sources,
+            i,
+        };
+        plain_lane(&lane, family, &mut own[start..start + count]);
     }
 }
 
@@ -282,26 +270,18 @@ fn cells_for(course: &Course<'_>, place: usize, cols: &[u32], cells: &[i64]) -> 
 
 // The cells of an asset, by traversals of its bars that begin: from one change of the bars to the next at
 // once.
-fn walk_bars<'x, L: Ledger>(
-    course: &Course<'x>,
-    sources: &Sources<'x>,
-    i: usize,
-    out: &mut [i64],
-    bars: &mut Bars<'_>,
-    steps: &mut Steps<L>,
-)
-    requires run { IsColumnRun course.now.job.now course.now.workspace.now course.now.term.0
-        (node_in course.now) }
-    requires course { IsCourse course.now }
-    requires sources { AreLent (task_in course.now) (node_in course.now) sources.now }
-    requires asset { i < assets_in (task_in course.now) }
-    requires long { length out.old ≡ course.now.count }
-    requires bars { AreBars course.now.job.now course.now.term.0 (node_in course.now)
-        (one_col course.now.job.now i) 0 bars.old }
+fn walk_bars<L: Ledger>(lane: &Lane<'_>, out: &mut [i64], bars: &mut Bars<'_>, steps: &mut Steps<L>)
+    requires run { IsColumnRun lane.now.course.now.job.now lane.now.course.now.workspace.now
+        lane.now.course.now.term.0 (node_in lane.now.course.now) }
+    requires lane { IsLane lane.now }
+    requires long { length out.old ≡ lane.now.course.now.count }
+    requires bars { AreBars lane.now.course.now.job.now lane.now.course.now.term.0
+        (node_in lane.now.course.now) (one_col lane.now.course.now.job.now lane.now.i) 0 bars.old }
     requires none { counted bars.old ≡ 0 }
-    ensures out { IsLane course.now i out.new }
-    ensures bars { AreBars course.now.job.now course.now.term.0 (node_in course.now)
-        (one_col course.now.job.now i) course.now.count bars.new }
+    ensures out { FillsLane lane.now.course.now lane.now.i out.new }
+    ensures bars { AreBars lane.now.course.now.job.now lane.now.course.now.term.0
+        (node_in lane.now.course.now) (one_col lane.now.course.now.job.now lane.now.i)
+        lane.now.course.now.count bars.new }
     ensures cost { steps.new ≡ steps.old + counted bars.new }
 {
     let mut done = 0;
@@ -309,41 +289,41 @@ fn walk_bars<'x, L: Ledger>(
         advance_all(bars, steps);
         let more = still(bars, out.len() - 1 - done);
         let end = done + more + 1;
-        fill_stretch(course, sources, Some(bars), i, done, &mut out[done..end]);
+        fill_stretch(lane, Some(bars), done, &mut out[done..end]);
         pass(bars, more);
         done = end;
     }
-    keep_lane(course, sources, i, out);
+    keep_lane(lane, out);
 }
 
 // The cells of an asset, whose bars are traversed in the cells that are given.
-fn fill_asset<'x, L: Ledger>(
-    course: &Course<'x>,
-    sources: &Sources<'x>,
-    i: usize,
+fn fill_asset<L: Ledger>(
+    lane: &Lane<'_>,
     out: &mut [i64],
     first: &mut [i64],
     second: &mut [i64],
     third: &mut [i64],
     steps: &mut Steps<L>,
 ) -> u64
-    requires run { IsColumnRun course.now.job.now course.now.workspace.now course.now.term.0
-        (node_in course.now) }
-    requires course { IsCourse course.now }
-    requires sources { AreLent (task_in course.now) (node_in course.now) sources.now }
-    requires asset { i < assets_in (task_in course.now) }
-    requires long { length out.old ≡ course.now.count }
-    requires first { HasRows (task_in course.now) course.now.term.0 (node_in course.now) 0 first.old }
-    requires second { HasRows (task_in course.now) course.now.term.0 (node_in course.now) 1 second.old }
-    requires third { HasRows (task_in course.now) course.now.term.0 (node_in course.now) 2 third.old }
-    ensures out { IsLane course.now i out.new }
-    ensures cost { steps.new ≡ steps.old + steps_of course.now.job.now course.now.term.0
-        (node_in course.now) (one_col course.now.job.now i) }
-    ensures applied { result ≡ cut (steps_of course.now.job.now course.now.term.0
-        (node_in course.now) (one_col course.now.job.now i)) }
+    requires run { IsColumnRun lane.now.course.now.job.now lane.now.course.now.workspace.now
+        lane.now.course.now.term.0 (node_in lane.now.course.now) }
+    requires lane { IsLane lane.now }
+    requires long { length out.old ≡ lane.now.course.now.count }
+    requires first { HasRows (task_in lane.now.course.now) lane.now.course.now.term.0
+        (node_in lane.now.course.now) 0 first.old }
+    requires second { HasRows (task_in lane.now.course.now) lane.now.course.now.term.0
+        (node_in lane.now.course.now) 1 second.old }
+    requires third { HasRows (task_in lane.now.course.now) lane.now.course.now.term.0
+        (node_in lane.now.course.now) 2 third.old }
+    ensures out { FillsLane lane.now.course.now lane.now.i out.new }
+    ensures cost { steps.new ≡ steps.old + steps_of lane.now.course.now.job.now lane.now.course.now.term.0
+        (node_in lane.now.course.now) (one_col lane.now.course.now.job.now lane.now.i) }
+    ensures applied { result ≡ cut (steps_of lane.now.course.now.job.now lane.now.course.now.term.0
+        (node_in lane.now.course.now) (one_col lane.now.course.now.job.now lane.now.i)) }
 {
+    let course = lane.course;
     let job = course.job;
-    let cols = one_of(job.cols, i);
+    let cols = one_of(job.cols, lane.i);
     let first_array = column_array(course, 0, cols);
     let second_array = column_array(course, 1, cols);
     let third_array = column_array(course, 2, cols);
@@ -356,7 +336,7 @@ fn fill_asset<'x, L: Ledger>(
         second: second_array.traverse(size, &mut second[..second_cells]),
         third: third_array.traverse(size, &mut third[..third_cells]),
     };
-    walk_bars(course, sources, i, out, &mut bars, steps);
+    walk_bars(lane, out, &mut bars, steps);
     applied(&bars)
 }
 
@@ -388,8 +368,13 @@ pub(crate) fn fill_bars<'x, L: Ledger>(
     let mut applied = 0u64;
     for i in 0..job.cols.len() {
         let start = start_in(own, i, count);
-        let lane = &mut own[start..start + count];
-        let more = fill_asset(course, &sources, i, lane, first, second, third, steps);
+        let lane = Lane {
+            course,
+            sources: &sources,
+            i,
+        };
+        let out = &mut own[start..start + count];
+        let more = fill_asset(&lane, out, first, second, third, steps);
         applied = applied.saturating_add(more);
     }
     applied

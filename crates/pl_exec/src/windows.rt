@@ -6,10 +6,10 @@ ghost use Rattle.pl_adjarray.specs.Buffered.{applied_at};
 ghost use Rattle.pl_adjarray.specs.Stillness.{IsStill};
 ghost use Rattle.pl_terms.specs.Sorts.{is_windowed};
 ghost use Rattle.pl_exec.specs.Tasks.{assets_in};
-ghost use Rattle.pl_exec.specs.Jobs.{AreLent, AreMoved, AreStill, AreStillNow, GoOn, GoesOn, HasBars, HasBegun, HaveBegun, IsColumnAt, IsColumnReach, IsCourse, IsGivenOn, IsLent, IsLentAt, IsLentReach, IsMaskLent, IsTurn, advanced, bars_now, counted, node_at, node_in, one_col, passed, place_in, task_at, task_in};
+ghost use Rattle.pl_exec.specs.Jobs.{AreLent, AreMoved, AreStill, AreStillNow, GoOn, GoesOn, HasBars, HasBegun, HaveBegun, IsColumnAt, IsColumnReach, IsCourse, IsGivenOn, IsLane, IsLent, IsLentAt, IsLentReach, IsMaskLent, IsTurn, advanced, bars_now, counted, node_at, node_in, one_col, passed, place_in, task_at, task_in};
 
 use crate::columns::place_of;
-use crate::course::{Course, turn_on};
+use crate::course::{Course, Lane, turn_on};
 use crate::job::{Array, array_of};
 use crate::turn::{Turn, term_reach};
 use pl_adjarray::Windows;
@@ -208,32 +208,24 @@ fn reach_in<'t>(
 
 /// What a formula or a filter gives over the windows of an asset on some sessions in a row, from session `j`
 /// of the course on, on which nothing changes in the traversals.
-pub(crate) fn fill_stretch<'t>(
-    course: &Course<'t>,
-    sources: &Sources<'t>,
-    bars: Option<&Bars<'_>>,
-    i: usize,
-    j: usize,
-    out: &mut [i64],
-)
-    requires course { IsCourse course.now }
-    requires kind { is_windowed (node_in course.now).kind ≡ true }
-    requires bars { HasBars course.now.job.now course.now.term.0 (node_in course.now)
-        (one_col course.now.job.now i) (course.now.low + j) (bars_now bars) }
+pub(crate) fn fill_stretch(lane: &Lane<'_>, bars: Option<&Bars<'_>>, j: usize, out: &mut [i64])
+    requires lane { IsLane lane.now }
+    requires kind { is_windowed (node_in lane.now.course.now).kind ≡ true }
+    requires bars { HasBars lane.now.course.now.job.now lane.now.course.now.term.0
+        (node_in lane.now.course.now) (one_col lane.now.course.now.job.now lane.now.i)
+        (lane.now.course.now.low + j) (bars_now bars) }
     requires still { AreStillNow (bars_now bars) (length out.old - 1) }
-    requires asset { i < assets_in (task_in course.now) }
-    requires lent { AreLent (task_in course.now) (node_in course.now) sources.now }
     requires some { 0 < length out.old }
-    requires within { j + length out.old ≤ course.now.count }
+    requires within { j + length out.old ≤ lane.now.course.now.count }
     ensures long { length out.new ≡ length out.old }
     ensures values { (m : ℕ) → m < length out.old
-        → IsGivenOn course.now i (j + m) (get_or out.new m (pos 0)) }
+        → IsGivenOn lane.now.course.now lane.now.i (j + m) (get_or out.new m (pos 0)) }
 {
-    let turn = turn_on(course, j);
+    let turn = turn_on(lane.course, j);
     let more = out.len() - 1;
-    let first = reach_in(&turn, &sources.first, bars, i, more);
-    let second = reach_in(&turn, &sources.second, bars, i, more);
-    let third = reach_in(&turn, &sources.third, bars, i, more);
+    let first = reach_in(&turn, &lane.sources.first, bars, lane.i, more);
+    let second = reach_in(&turn, &lane.sources.second, bars, lane.i, more);
+    let third = reach_in(&turn, &lane.sources.third, bars, lane.i, more);
     let kind = kind_of(turn.node);
     fill_values(kind, window_of(turn.node), first, second, third, out);
 }

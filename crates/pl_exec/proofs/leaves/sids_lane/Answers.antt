@@ -17,7 +17,7 @@ returns c j h =
     let value : FitsSigned w64 c.sids_value.result = search rules in
     let filled = simp to_z-of_z at (c.fill.ensures.after (λ y same. same)) in
     let same = ap (λ (l : List ℤ). get_or l j (pos 0)) filled ∙ get_or-replicate (length c.args.out.now) j c.sids_value.result (pos 0) (omega (arith, h, c.requires.long)) in
-    let sid = sid_told c.args.course.now.job.now.world.assets.now c.args.course.now.job.now.cols.now c.args.i c.requires.asset c.sid-sid.result c.sid-sid.ensures in
-    let flag : c.sids_value.result ≡ sid_flag (node_in c.args.course.now).kind (sid_in (sids_in (task_in c.args.course.now)) c.args.i)
-    = c.sids_value.ensures ∙ ap (λ q. sid_flag q c.sid-sid.result) c.kind_of.ensures ∙ ap (sid_flag (node_in c.args.course.now).kind) (sym sid) in
-    given_by c.args.course.now c.args.i j _ _ (same ∙ flag) (sid_given (turn_in c.args.course.now j) (course_turn c.args.course.now c.requires.course j h) c.args.i c.requires.kind) (sid_flag_cell _ _ c.requires.kind)
+    let sid = sid_told c.args.lane.now.course.now.job.now.world.assets.now c.args.lane.now.course.now.job.now.cols.now c.args.lane.now.i c.requires.lane.asset c.sid-sid.result c.sid-sid.ensures in
+    let flag : c.sids_value.result ≡ sid_flag (node_in c.args.lane.now.course.now).kind (sid_in (sids_in (task_in c.args.lane.now.course.now)) c.args.lane.now.i)
+    = c.sids_value.ensures ∙ ap (λ q. sid_flag q c.sid-sid.result) c.kind_of.ensures ∙ ap (sid_flag (node_in c.args.lane.now.course.now).kind) (sym sid) in
+    given_by c.args.lane.now.course.now c.args.lane.now.i j _ _ (same ∙ flag) (sid_given (turn_in c.args.lane.now.course.now j) (course_turn c.args.lane.now.course.now c.requires.lane.course j h) c.args.lane.now.i c.requires.kind) (sid_flag_cell _ _ c.requires.kind)
