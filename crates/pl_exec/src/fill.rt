@@ -7,7 +7,7 @@ ghost use Rattle.pl_spec.specs.Limits.{cut};
 ghost use Rattle.pl_terms.specs.Sorts.{is_windowed};
 ghost use Rattle.pl_values.specs.Arrays.{IsRow};
 ghost use Rattle.pl_values.specs.Families.{IsOf};
-ghost use Rattle.pl_exec.specs.Tasks.{IsArray, assets_in, cell_in, graph_in, term_steps};
+ghost use Rattle.pl_exec.specs.Tasks.{IsArray, assets_in, graph_in, term_steps};
 ghost use Rattle.pl_exec.specs.Jobs.{AreBars, AreGiven, FillsLane, HasNoBars, HasRows, IsColumnRun, IsCourse, IsLane, IsOut, IsTurn, buffer_at, by_rows, counted, node_at, node_in, one_col, steps_of, task_at, task_in};
 
 use crate::columns::new_column;
@@ -78,61 +78,6 @@ fn row_on(
     kind_row(turn, family, cross, first, second, keep, out);
 }
 
-// A session of the array of a term whose cells come row by row.
-fn fill_row(
-    turn: &Turn<'_>,
-    family: Family,
-    own: &mut [i64],
-    count: usize,
-    session: usize,
-    cross: &mut Cross,
-    rows: &mut Rows,
-)
-    requires turn { IsTurn turn.now }
-    requires family { IsOf (node_at turn.now).kind family }
-    requires kinds { by_rows family ≡ true }
-    requires within { session < count }
-    requires room { assets_in (task_at turn.now) * count ≤ length own.old }
-    requires cross { assets_in (task_at turn.now) ≤ cross.old }
-    requires rows { assets_in (task_at turn.now) ≤ rows.old }
-    ensures row { IsRow (λ i. cell_in (task_at turn.now) turn.now.term.0 i turn.now.session)
-        (assets_in (task_at turn.now)) count session own.old own.new }
-    ensures cross { cross.new ≡ cross.old }
-    ensures rows { rows.new ≡ rows.old }
-{
-    let assets = turn.job.cols.len();
-    let first = &mut rows.first.as_mut_slice()[..assets];
-    let second = &mut rows.second.as_mut_slice()[..assets];
-    let keep = &mut rows.keep.as_mut_slice()[..assets];
-    let out = &mut rows.results.as_mut_slice()[..assets];
-    row_on(turn, family, cross, first, second, keep, out);
-    put_row(out, own, count, session);
-}
-
-// The array of a term whose cells come row by row.
-fn fill_rows<'x>(
-    course: &Course<'x>,
-    family: Family,
-    own: &mut [i64],
-    cross: &mut Cross,
-    rows: &mut Rows,
-)
-    requires course { IsCourse course.now }
-    requires family { IsOf (node_in course.now).kind family }
-    requires kinds { by_rows family ≡ true }
-    requires room { assets_in (task_in course.now) * course.now.count ≤ length own.old }
-    requires cross { assets_in (task_in course.now) ≤ cross.old }
-    requires rows { assets_in (task_in course.now) ≤ rows.old }
-    ensures array { IsArray (task_in course.now) course.now.term.0 own.new }
-    ensures cross { cross.new ≡ cross.old }
-    ensures rows { rows.new ≡ rows.old }
-{
-    for j in 0..course.count {
-        let turn = turn_on(course, j);
-        fill_row(&turn, family, own, course.count, j, cross, rows);
-    }
-}
-
 // What a term that reads no bar columns is worth for an asset, whether that is kept or not.
 fn given_lane(lane: &Lane<'_>, family: Family, out: &mut [i64])
     requires lane { IsLane lane.now }
@@ -182,11 +127,53 @@ fn fill_lanes<'x>(course: &Course<'x>, family: Family, own: &mut [i64])
     for i in 0..job.cols.len() {
         let start = start_in(own, i, count);
         let lane = Lane {
-            course,
+            course: &*course,
             sources: &sources,
             i,
         };
         plain_lane(&lane, family, &mut own[start..start + count]);
+    }
+}
+
+// The array of a term that reads no bar columns, over rows that have room for its assets.
+fn fill_over(
+    course: &Course<'_>,
+    own: &mut [i64],
+    cross: &mut Cross,
+    first: &mut [i64],
+    second: &mut [i64],
+    keep: &mut [i64],
+    out: &mut [i64],
+)
+    requires course { IsCourse course.now }
+    requires none { columns_at (graph_in (task_in course.now)) course.now.term.0 ≡ 0 }
+    requires room { assets_in (task_in course.now) * course.now.count ≤ length own.old }
+    requires cross { assets_in (task_in course.now) ≤ cross.old }
+    requires first { assets_in (task_in course.now) ≤ length first.old }
+    requires second { assets_in (task_in course.now) ≤ length second.old }
+    requires keep { assets_in (task_in course.now) ≤ length keep.old }
+    requires out { assets_in (task_in course.now) ≤ length out.old }
+    ensures array { IsArray (task_in course.now) course.now.term.0 own.new }
+    ensures cross { cross.new ≡ cross.old }
+{
+    let family = family_of(kind_of(course.node));
+    if !is_by_rows(family) {
+        return fill_lanes(course, family, own);
+    }
+    let assets = course.job.cols.len();
+    for j in 0..course.count {
+        let turn = turn_on(course, j);
+        let row = &mut out[..assets];
+        row_on(
+            &turn,
+            family,
+            cross,
+            &mut first[..assets],
+            &mut second[..assets],
+            &mut keep[..assets],
+            row,
+        );
+        put_row(row, own, course.count, j);
     }
 }
 
@@ -201,12 +188,11 @@ pub(crate) fn fill_plain(course: &Course<'_>, own: &mut [i64], cross: &mut Cross
     ensures cross { cross.new ≡ cross.old }
     ensures rows { rows.new ≡ rows.old }
 {
-    let family = family_of(kind_of(course.node));
-    if is_by_rows(family) {
-        fill_rows(course, family, own, cross, rows);
-    } else {
-        fill_lanes(course, family, own);
-    }
+    let first = rows.first.as_mut_slice();
+    let second = rows.second.as_mut_slice();
+    let keep = rows.keep.as_mut_slice();
+    let out = rows.results.as_mut_slice();
+    fill_over(course, own, cross, first, second, keep, out);
 }
 
 // The column of one asset.
@@ -369,7 +355,7 @@ pub(crate) fn fill_bars<'x, L: Ledger>(
     for i in 0..job.cols.len() {
         let start = start_in(own, i, count);
         let lane = Lane {
-            course,
+            course: &*course,
             sources: &sources,
             i,
         };

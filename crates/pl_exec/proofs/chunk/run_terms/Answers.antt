@@ -29,25 +29,25 @@ loop-k-preserved g c =
 
 pub returns-clause-outputs : goal.returns-clause-outputs
 returns-clause-outputs g c =
-    let all : c.loop-k.k ≡ length (graph_in (task_of c.args.job.now)) = omega (arith, c.loop-k-test.false, c.loop-k.auto.k-end, c.term_count.ensures) in
+    let all : c.loop-k.k ≡ length (graph_in (task_of c.args.job.now)) = omega (arith, c.loop-k-test.false, c.loop-k.auto.k-end, c.term_count-k-end.ensures) in
     outputs_held (task_of c.args.job.now) c.requires.job.task c.loop-k.k all c.loop-k.workspace c.loop-k.invariant.live
 
 pub returns-clause-workspace : goal.returns-clause-workspace
 returns-clause-workspace g c =
-    let all : c.loop-k.k ≡ length (graph_in (task_of c.args.job.now)) = omega (arith, c.loop-k-test.false, c.loop-k.auto.k-end, c.term_count.ensures) in
+    let all : c.loop-k.k ≡ length (graph_in (task_of c.args.job.now)) = omega (arith, c.loop-k-test.false, c.loop-k.auto.k-end, c.term_count-k-end.ensures) in
     c.loop-k.invariant.most ∙ ap (max c.args.workspace.now.peak) (held_most (task_of c.args.job.now) c.requires.job.task c.loop-k.k all)
 
 pub returns-clause-peak : goal.returns-clause-peak
 returns-clause-peak g c =
-    let all : c.loop-k.k ≡ length (graph_in (task_of c.args.job.now)) = omega (arith, c.loop-k-test.false, c.loop-k.auto.k-end, c.term_count.ensures) in
+    let all : c.loop-k.k ≡ length (graph_in (task_of c.args.job.now)) = omega (arith, c.loop-k-test.false, c.loop-k.auto.k-end, c.term_count-k-end.ensures) in
     c.loop-k.invariant.held ∙ held_most (task_of c.args.job.now) c.requires.job.task c.loop-k.k all
 
 pub returns-clause-applied : goal.returns-clause-applied
 returns-clause-applied g c =
-    let all : c.loop-k.k ≡ length (graph_in (task_of c.args.job.now)) = omega (arith, c.loop-k-test.false, c.loop-k.auto.k-end, c.term_count.ensures) in
+    let all : c.loop-k.k ≡ length (graph_in (task_of c.args.job.now)) = omega (arith, c.loop-k-test.false, c.loop-k.auto.k-end, c.term_count-k-end.ensures) in
     c.loop-k.invariant.applied ∙ ap cut (steps_sum (task_of c.args.job.now) c.requires.job.task c.loop-k.k all)
 
 pub returns-clause-cost : goal.returns-clause-cost
 returns-clause-cost g c =
-    let all : c.loop-k.k ≡ length (graph_in (task_of c.args.job.now)) = omega (arith, c.loop-k-test.false, c.loop-k.auto.k-end, c.term_count.ensures) in
+    let all : c.loop-k.k ≡ length (graph_in (task_of c.args.job.now)) = omega (arith, c.loop-k-test.false, c.loop-k.auto.k-end, c.term_count-k-end.ensures) in
     c.loop-k.invariant.cost ∙ ap (λ m. c.args.steps.now + m) (steps_sum (task_of c.args.job.now) c.requires.job.task c.loop-k.k all)
