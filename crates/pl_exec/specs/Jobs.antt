@@ -387,6 +387,10 @@ pub record IsLane (l : Lane) : Type 0 where
   pub lent : AreLent (task_in l.course.now) (node_in l.course.now) l.sources.now
   pub asset : l.i < assets_in (task_in l.course.now)
 
+-- the rows of the input in a place for an asset alone
+abbrev pub rows_at : Lane → ℕ → Buffered
+rows_at l p = buffer_at l.course.now.job.now l.course.now.term.0 (node_in l.course.now) (one_col l.course.now.job.now l.i) p
+
 -- ---- the slots of bar columns
 
 abbrev pub one_new : Option Column → ℕ

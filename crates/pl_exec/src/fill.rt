@@ -4,11 +4,11 @@ ghost use Rattle.std.specs.Prelude.{◌≡◌, ◌+◌, ◌*◌, ◌<◌, ◌≤
 ghost use Rattle.pl_spec.specs.Rounding.{IsCell};
 ghost use Rattle.pl_spec.specs.Graph.{columns_at};
 ghost use Rattle.pl_spec.specs.Limits.{cut};
-ghost use Rattle.pl_terms.specs.Sorts.{is_windowed};
+ghost use Rattle.pl_adjarray.specs.Buffered.{applied_at};
 ghost use Rattle.pl_values.specs.Arrays.{IsRow};
 ghost use Rattle.pl_values.specs.Families.{IsOf};
 ghost use Rattle.pl_exec.specs.Tasks.{IsArray, assets_in, graph_in, term_steps};
-ghost use Rattle.pl_exec.specs.Jobs.{AreBars, AreGiven, FillsLane, HasNoBars, HasRows, IsColumnRun, IsCourse, IsLane, IsOut, IsTurn, buffer_at, by_rows, counted, node_at, node_in, one_col, steps_of, task_at, task_in};
+ghost use Rattle.pl_exec.specs.Jobs.{AreBars, AreGiven, FillsLane, HasNoBars, HasRows, IsColumnRun, IsCourse, IsLane, IsOut, IsTurn, buffer_at, by_rows, counted, node_at, node_in, one_col, rows_at, steps_of, task_at, task_in, traversal_at};
 
 use crate::columns::new_column;
 use crate::course::{Course, Lane, turn_on};
@@ -19,7 +19,7 @@ use crate::points::point_lane;
 use crate::rows::Rows;
 use crate::turn::{Turn, keep_row};
 use crate::windows::{Bars, advance_all, applied, fill_stretch, pass, sources_of, still};
-use pl_adjarray::AdjustedArray;
+use pl_adjarray::{AdjustedArray, Windows};
 use pl_cross::Cross;
 use pl_fixed::{Column, Steps};
 use pl_values::{Family, family_of, kind_of, window_of};
@@ -238,20 +238,39 @@ fn column_array<'a>(course: &Course<'a>, place: usize, cols: &'a [u32]) -> Adjus
 
 // How many cells the traversal of a place is given for one asset: those of its rows, none where it is no new
 // column.
-fn cells_for(course: &Course<'_>, place: usize, cols: &[u32], cells: &[i64]) -> usize
-    requires course { IsCourse course.now }
-    requires one { length cols.now ≡ 1 }
-    requires some { 0 < assets_in (task_in course.now) }
-    requires has { HasRows (task_in course.now) course.now.term.0 (node_in course.now) place cells.now }
-    ensures value { result
-        ≡ (buffer_at course.now.job.now course.now.term.0 (node_in course.now) cols.now place).rows
-        * length (buffer_at course.now.job.now course.now.term.0 (node_in course.now) cols.now place).cols }
+fn cells_for(lane: &Lane<'_>, place: usize, cells: &[i64]) -> usize
+    requires lane { IsLane lane.now }
+    requires has { HasRows (task_in lane.now.course.now) lane.now.course.now.term.0
+        (node_in lane.now.course.now) place cells.now }
+    ensures value { result ≡ (rows_at lane.now place).rows * length (rows_at lane.now place).cols }
     ensures within { result ≤ length cells.now }
 {
+    let course = lane.course;
     match new_column(course.node, place) {
         Some(_) => course.job.to - course.low + window_of(course.node),
         None => 0,
     }
+}
+
+// The traversal of a place for an asset, in the front of the cells that are given; it begins.
+fn begin_bars<'s>(
+    lane: &Lane<'_>,
+    place: usize,
+    array: &'s AdjustedArray<'_>,
+    cells: &'s mut [i64],
+) -> Windows<'s>
+    requires run { IsColumnRun lane.now.course.now.job.now lane.now.course.now.workspace.now
+        lane.now.course.now.term.0 (node_in lane.now.course.now) }
+    requires lane { IsLane lane.now }
+    requires array { array.now ≡ rows_at lane.now place }
+    requires has { HasRows (task_in lane.now.course.now) lane.now.course.now.term.0
+        (node_in lane.now.course.now) place cells.old }
+    ensures begins { result ≡ traversal_at lane.now.course.now.job.now lane.now.course.now.term.0
+        (node_in lane.now.course.now) (one_col lane.now.course.now.job.now lane.now.i) place 0 }
+    ensures none { applied_at result.array result.session ≡ 0 }
+{
+    let many = cells_for(lane, place, cells);
+    array.traverse(window_of(lane.course.node), &mut cells[..many])
 }
 
 // The cells of an asset, by traversals of its bars that begin: from one change of the bars to the next at
@@ -313,14 +332,10 @@ fn fill_asset<L: Ledger>(
     let first_array = column_array(course, 0, cols);
     let second_array = column_array(course, 1, cols);
     let third_array = column_array(course, 2, cols);
-    let first_cells = cells_for(course, 0, cols, first);
-    let second_cells = cells_for(course, 1, cols, second);
-    let third_cells = cells_for(course, 2, cols, third);
-    let size = window_of(course.node);
     let mut bars = Bars {
-        first: first_array.traverse(size, &mut first[..first_cells]),
-        second: second_array.traverse(size, &mut second[..second_cells]),
-        third: third_array.traverse(size, &mut third[..third_cells]),
+        first: begin_bars(lane, 0, &first_array, first),
+        second: begin_bars(lane, 1, &second_array, second),
+        third: begin_bars(lane, 2, &third_array, third),
     };
     walk_bars(lane, out, &mut bars, steps);
     applied(&bars)

@@ -1,18 +1,9 @@
-use Rattle.std.proofs.Common.{◌≤◌, ◌+◌, ap, ◌∙◌, sym, arith, subst}
+use Rattle.std.proofs.Common.{◌+◌, ap, ◌∙◌, subst}
 use Rattle.pl_spec.specs.Limits.{cut}
-use Rattle.pl_adjarray.specs.Buffered.{Buffered}
 use Rattle.pl_exec.specs.Jobs.{AreBars, node_in, one_col}
 use Rattle.pl_exec.proofs.Courses.{count_of}
-use Rattle.pl_exec.proofs.Stands.{window_few, counted_is}
+use Rattle.pl_exec.proofs.Stands.{counted_is}
 use Rattle.pl_exec.proofs.fill.fill_asset.Goals as goal
-
-pub traverse-requires-2-clause-most : goal.traverse-requires-2-clause-most
-traverse-requires-2-clause-most g c =
-    subst (λ (b : Buffered). c.window_of-size.result ≤ b.rows) (sym c.column_array-second_array.ensures) (let f = window_few c.args.lane.now.course.now.job.now c.args.lane.now.course.now.workspace.now c.args.lane.now.course.now.term.0 (node_in c.args.lane.now.course.now) c.requires.run c.one_of-cols.result.now 1 in omega (arith, f, c.window_of-size.ensures))
-
-pub traverse-requires-3-clause-most : goal.traverse-requires-3-clause-most
-traverse-requires-3-clause-most g c =
-    subst (λ (b : Buffered). c.window_of-size.result ≤ b.rows) (sym c.column_array-third_array.ensures) (let f = window_few c.args.lane.now.course.now.job.now c.args.lane.now.course.now.workspace.now c.args.lane.now.course.now.term.0 (node_in c.args.lane.now.course.now) c.requires.run c.one_of-cols.result.now 2 in omega (arith, f, c.window_of-size.ensures))
 
 pub returns-clause-cost : goal.returns-clause-cost
 returns-clause-cost g c =
