@@ -1,3 +1,4 @@
+pub mod Chunks
 pub mod Filling
 pub mod Jobs
 pub mod RowsInside

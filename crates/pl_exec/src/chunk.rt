@@ -11,14 +11,17 @@ ghost use Rattle.pl_workspace.specs.Slots.{Free, live_count, slot_at};
 ghost use Rattle.pl_exec.specs.Slotted.{AreApart, AreLive, ends_at, left};
 ghost use Rattle.pl_exec.specs.Tasks.{AreColumns, HasRoom, HoldsOutputs, IsArray, assets_in, chunk_steps, graph_in, held_in, kept_in, steps_in, term_steps};
 ghost use Rattle.pl_exec.specs.Jobs.{IsJob, task_of};
+ghost use Rattle.pl_exec.specs.Chunks.{task};
 
 use crate::compute::{Filled, compute};
 use crate::job::Job;
 use crate::rows::Rows;
 use pl_cross::Cross;
 use pl_fixed::Steps;
-use pl_terms::TermId;
+use pl_planner::Plan;
+use pl_terms::{Checked, TermId};
 use pl_workspace::Workspace;
+use pl_world::World;
 use pl_world::laws::parts_make_a_world;
 use std::sync::ledger::Ledger;
 
@@ -242,39 +245,53 @@ fn term_count(job: &Job<'_>) -> usize
 /// each into its planned slot, and its bar columns into theirs; a result is released after its last user.
 /// Then each output is in its slot, asset by asset, from its first computed session to the chunk's last. It
 /// takes no memory and cannot fail.
-pub fn execute_chunk<'x, L: Ledger>(
-    job: &'x Job<'x>,
+pub fn execute_chunk<L: Ledger>(
+    world: &World,
+    checked: &Checked,
+    plan: &Plan,
+    chunk: &Chunk,
+    cols: &[u32],
     workspace: &mut Workspace,
     cross: &mut Cross,
     rows: &mut Rows,
     steps: &mut Steps<L>,
 ) -> ChunkReport
-    requires made { IsMade job.now.world }
-    requires plan { IsPlanOf job.now.world.sessions.now (pipeline_of job.now.checked.now) job.now.plan.now }
-    requires from { job.now.plan.now.from ≤ job.now.from }
-    requires order { job.now.from ≤ job.now.to }
-    requires to { job.now.to ≤ job.now.plan.now.to }
-    requires cols { AreColumns (task_of job.now) }
-    requires cross { assets_in (task_of job.now) ≤ cross.old }
-    requires rows { assets_in (task_of job.now) ≤ rows.old }
+    requires made { IsMade world.now }
+    requires plan { IsPlanOf world.now.sessions.now (pipeline_of checked.now) plan.now }
+    requires from { plan.now.from ≤ chunk.now.from }
+    requires order { chunk.now.from ≤ chunk.now.to }
+    requires to { chunk.now.to ≤ plan.now.to }
+    requires cols { AreColumns (task world.now checked.now plan.now chunk.now cols.now) }
+    requires cross { length cols.now ≤ cross.old }
+    requires rows { length cols.now ≤ rows.old }
     requires free { (s : ℕ) → s < length workspace.old.slots → slot_at workspace.old s ≡ Free }
-    requires slots { job.now.plan.now.bound ≤ length workspace.old.slots }
-    requires room { HasRoom (task_of job.now) workspace.old.len }
-    ensures outputs { HoldsOutputs (task_of job.now) workspace.new }
+    requires slots { plan.now.bound ≤ length workspace.old.slots }
+    requires room { HasRoom (task world.now checked.now plan.now chunk.now cols.now) workspace.old.len }
+    ensures outputs { HoldsOutputs (task world.now checked.now plan.now chunk.now cols.now) workspace.new }
     ensures workspace { workspace.new.peak ≡ max workspace.old.peak
-        (bound (graph_in (task_of job.now)) (outputs (task_of job.now).pipeline)) }
-    ensures peak { result.peak ≡ bound (graph_in (task_of job.now)) (outputs (task_of job.now).pipeline) }
-    ensures applied { result.applied ≡ cut (chunk_steps (task_of job.now)) }
-    ensures cost { steps.new ≡ steps.old + chunk_steps (task_of job.now) }
+        (bound (pipeline_of checked.now).graph (outputs (pipeline_of checked.now))) }
+    ensures peak { result.peak ≡ bound (pipeline_of checked.now).graph (outputs (pipeline_of checked.now)) }
+    ensures applied { result.applied ≡ cut (chunk_steps
+        (task world.now checked.now plan.now chunk.now cols.now)) }
+    ensures cost { steps.new ≡ steps.old + chunk_steps
+        (task world.now checked.now plan.now chunk.now cols.now) }
     ensures len { workspace.new.len ≡ workspace.old.len }
     ensures slots { length workspace.new.slots ≡ length workspace.old.slots }
     ensures cross { cross.new ≡ cross.old }
     ensures rows { rows.new ≡ rows.old }
 {
-    parts_make_a_world(&job.world);
-    let _sessions = job.world.sessions.len();
-    let _labels = job.world.labels.len();
-    let _assets = job.world.assets.len();
-    let _terms = job.checked.graph().len();
-    run_terms(job, workspace, cross, rows, steps)
+    parts_make_a_world(world);
+    let _sessions = world.sessions.len();
+    let _labels = world.labels.len();
+    let _assets = world.assets.len();
+    let _terms = checked.graph().len();
+    let job = Job {
+        world: *world,
+        checked,
+        plan,
+        cols,
+        from: chunk.from,
+        to: chunk.to,
+    };
+    run_terms(&job, workspace, cross, rows, steps)
 }

@@ -14,13 +14,13 @@ use pl_world::World;
 
 /// The sessions from one to another of a planned pipeline, for the assets in some columns.
 #[derive(Clone, Copy)]
-pub struct Job<'a> {
-    pub world: World<'a>,
-    pub checked: &'a Checked,
-    pub plan: &'a Plan,
-    pub cols: &'a [u32],
-    pub from: usize,
-    pub to: usize,
+pub(crate) struct Job<'a> {
+    pub(crate) world: World<'a>,
+    pub(crate) checked: &'a Checked,
+    pub(crate) plan: &'a Plan,
+    pub(crate) cols: &'a [u32],
+    pub(crate) from: usize,
+    pub(crate) to: usize,
 }
 
 /// A finished array: the cells of `count` sessions from `low` on, asset by asset.

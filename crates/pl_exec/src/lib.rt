@@ -17,6 +17,5 @@ mod turn;
 mod windows;
 
 pub use chunk::{Chunk, ChunkReport, execute_chunk};
-pub use job::Job;
 pub use pl_spec::Format;
 pub use rows::Rows;

@@ -52,7 +52,7 @@ pub mod pipelines {
 pub mod engine {
     pub use pl_adjarray::{AdjustedArray, Windows};
     pub use pl_cross::{Cross, RankMethod, RankOrder, cross_into, select_into};
-    pub use pl_exec::{Chunk, ChunkReport, Job, Rows, execute_chunk};
+    pub use pl_exec::{Chunk, ChunkReport, Rows, execute_chunk};
     pub use pl_factors::formula;
     pub use pl_filters::{label_test, window_filter};
     pub use pl_lanes::{

@@ -20,7 +20,7 @@ use crate::columns::put_columns;
 use crate::desk::Desk;
 use crate::pieces::{chunk_at, chunk_count};
 use crate::release::release_outputs;
-use pl_exec::{Chunk, ChunkReport, Job, execute_chunk};
+use pl_exec::{Chunk, ChunkReport, execute_chunk};
 use pl_fixed::Steps;
 use pl_outside::{Failed, Sink, write_bytes};
 use pl_planner::Plan;
@@ -194,16 +194,12 @@ fn write_chunk<O: Sink, L: Ledger>(
     let _sessions = world.sessions.len();
     let _checked = checked.graph();
     put_columns(world, checked, plan, chunk, &mut desk.cols);
-    let job = Job {
-        world: *world,
+    let report = execute_chunk(
+        world,
         checked,
         plan,
-        cols: &desk.cols,
-        from: chunk.from,
-        to: chunk.to,
-    };
-    let report = execute_chunk(
-        &job,
+        &chunk,
+        &desk.cols,
         &mut desk.workspace,
         &mut desk.cross,
         &mut desk.rows,
