@@ -135,7 +135,7 @@ module _ (t : Turn) (next : FedDay) (days : List FedDay) (s : StartCells)
   }
 
   here_is : IsDayIn t.assets.now t.labels.now t.day v
-  here_is = subst (λ d. IsDayIn t.assets.now t.labels.now d v) day (fed_days_are_sessions g t.labels.now next days start labels refl refl are_fed)
+  here_is = subst (λ d. IsDayIn t.assets.now t.labels.now d v) day (fed_days_are_sessions g t.labels.now next days start labels refl refl refl are_fed)
 
   start_held : (f : Frequency) (u : ℕ) → n.kind ≡ Downsample f → slice_get n.inputs 0 ≡ Some (TermInput u) → HoldsStart t v f u
   start_held f u kind input =

@@ -4,16 +4,16 @@ use Rattle.std.proofs.lemmas.List.{length-map, get_or_default}
 use Rattle.circular_buffer.specs.Buffer.{buffer, keep_last}
 use Rattle.pl_spec.specs.declared.AssetRow.{AssetRow}
 use Rattle.pl_spec.specs.Rounding.{IsCell, MISSING}
-use Rattle.pl_spec.specs.World.{World, label_at}
+use Rattle.pl_spec.specs.World.{World, label_at, known_number}
 use Rattle.pl_spec.specs.Kind.{CrossKind}
-use Rattle.pl_spec.specs.Kind.Kind.{Constant, Label, Cross, Downsample}
+use Rattle.pl_spec.specs.Kind.Kind.{Constant, Label, Number, Cross, Downsample}
 use Rattle.pl_spec.specs.declared.Frequency.{Frequency}
 use Rattle.pl_spec.specs.Formula.{is_true}
 use Rattle.pl_spec.specs.Cross.{at}
 use Rattle.pl_spec.specs.Term as spec
 use Rattle.pl_spec.specs.Term.Input.{BarColumn, TermInput}
 use Rattle.pl_spec.specs.Table.{Pipeline}
-use Rattle.pl_spec.specs.Value.{sort_kind}
+use Rattle.pl_spec.specs.Value.{sort_kind, name_at}
 use Rattle.pl_spec.specs.Window.{before, seen_cell}
 use Rattle.pl_spec.proofs.Cells.{chosen-cell, empty-cell}
 use Rattle.pl_terms.specs.declared.node.TermId.{TermId}
@@ -32,7 +32,7 @@ use Rattle.pl_values.specs.Arrays.{cell_of, empty_cell, is_kept, chosen, kept_or
 use Rattle.pl_values.specs.Families.{is_sids, is_point, is_label_test, sid_flag, code_flag, label_code, IsCode, TakesWindows}
 use Rattle.pl_values.specs.Laws.{IsNode, IsGiven}
 use Rattle.pl_values.specs.Inputs.{IsInputRow, IsGroupRow, AreRows, AreSectionRows}
-use Rattle.pl_values.proofs.Given.{constant-cell, sid-cell, label-cell, label-test-cell, label-input, point-cell, point-operands, section-cell, section-input, downsampled-cell, downsampled-input}
+use Rattle.pl_values.proofs.Given.{constant-cell, sid-cell, label-cell, number-cell, label-test-cell, label-input, point-cell, point-operands, section-cell, section-input, downsampled-cell, downsampled-input}
 use Rattle.pl_values.proofs.Operations.{fills-all}
 use Rattle.pl_values.proofs.KindFamilies.{sids_kind, point_kind, label_test_kind, section_kind, window_kind, downsampled_kind}
 use Rattle.pl_rings.proofs.Moves.{ends}
@@ -129,6 +129,11 @@ module _ (t : Turn) (v : Moment) (is : IsTurn t v) where
 
   pub label_known : (number : ℕ) → n.kind ≡ Label number → number < length p.names
   label_known number e = (label-cell w p sids t.term.0 n 0 s node_is number e).0
+
+  -- no number is known
+  pub number_given : (name i : ℕ) → n.kind ≡ Number name → i < assets_at t → IsGiven w p sids t.term.0 n i s MISSING
+  number_given name i e h =
+      subst (IsGiven w p sids t.term.0 n i s) (is.here.numbers (name_at p.names name) i h) (number-cell w p sids t.term.0 n i s node_is name e).1
 
   -- a downsampled term has the cells that its input had on the first session of the period
   start_held : is_downsampled n.kind ≡ true → (f : Frequency) × (n.kind ≡ Downsample f) × (u : ℕ) × (slice_get n.inputs 0 ≡ Some (TermInput u)) × HoldsStart t v f u

@@ -9,7 +9,8 @@ use Rattle.pl_spec.specs.Term.Input.{BarColumn, TermInput}
 use Rattle.pl_spec.specs.declared.Column.{Column}
 use Rattle.pl_spec.specs.Table.{Pipeline, value_of, in_array}
 use Rattle.pl_spec.specs.Window.{before, downward, bar_window}
-use Rattle.pl_spec.specs.World.{World, exists, label_at}
+use Rattle.pl_spec.specs.Rounding.{MISSING}
+use Rattle.pl_spec.specs.World.{World, exists, label_at, known_number}
 use Rattle.pl_spec.specs.declared.AssetRow.{AssetRow}
 use Rattle.pl_assets.specs.Labels.{LabelTable, AreLabels, label_on}
 use Rattle.pl_cross.specs.Arrays.{sid_in, HasTexts}
@@ -89,7 +90,7 @@ pub record HoldsStart (t : Turn) (v : Moment) (f : Frequency) (u : ℕ) : Type 0
   pub fills : Fills (λ i. cell_of v.world (pipeline_at t) (sids_at t) u i first) (assets_at t) t.start.now
 
 -- The day is the session in the world, whose assets and labels are the given ones; each label text has a
--- code.
+-- code. Numbers are not given yet, and none is known.
 pub record IsDayIn (assets : List AssetRow) (table : LabelTable) (day : ℤ) (v : Moment) : Type 0 where
   pub up : AllPairs (λ a b. a < b) (sids_of assets)
   pub all : HasAll v.world (sids_of assets) v.session
@@ -97,6 +98,7 @@ pub record IsDayIn (assets : List AssetRow) (table : LabelTable) (day : ℤ) (v 
   pub texts : v.world.texts ≡ table.texts
   pub lives : (i : ℕ) → i < length assets → exists v.world (sid_in (sids_of assets) i) (pos v.session) ≡ lives_at assets day i
   pub labels : (name : List ℕ) (i : ℕ) → i < length assets → label_at v.world name (sid_in (sids_of assets) i) (pos v.session) ≡ label_on table.rows name i day
+  pub numbers : (name : List ℕ) (i : ℕ) → i < length assets → known_number v.world name (sid_in (sids_of assets) i) (pos v.session) ≡ MISSING
 
 -- the day is the session, and what the node mentions is held for it
 pub record IsTurn (t : Turn) (v : Moment) : Type 0 where
@@ -119,7 +121,7 @@ IsOut t v row = Fills (λ i. cell_of v.world (pipeline_at t) (sids_at t) t.term.
 abbrev pub IsAlways : Turn → List ℤ → Type 0
 IsAlways t row = (v : Moment) → IsTurn t v → IsOut t v row
 
--- the last of days that were fed is a session of their world
+-- the last of days that were fed without numbers is a session of their world
 abbrev pub FedDaysAreSessions : Type 0
-FedDaysAreSessions = (g : Start) (table : LabelTable) (next : FedDay) (days : List FedDay) → IsStart g → AreLabels table → g.labels ≡ table.rows → g.texts ≡ table.texts
+FedDaysAreSessions = (g : Start) (table : LabelTable) (next : FedDay) (days : List FedDay) → IsStart g → AreLabels table → g.labels ≡ table.rows → g.texts ≡ table.texts → g.numbers ≡ []
     → AreFed g (next ∷ days) → IsDayIn g.assets table next.day (record { world = fed g (next ∷ days); session = length days })

@@ -6,7 +6,7 @@ use Rattle.pl_spec.specs.Rounding.{MISSING, IsCell}
 use Rattle.pl_spec.specs.Parts.{sid_at}
 use Rattle.pl_spec.specs.World.{World, label_at}
 use Rattle.pl_spec.specs.Kind.{CrossKind}
-use Rattle.pl_spec.specs.Kind.Kind.{Constant, Label, Cross, Downsample}
+use Rattle.pl_spec.specs.Kind.Kind.{Constant, Label, Number, Cross, Downsample}
 use Rattle.pl_spec.specs.Formula.{is_true}
 use Rattle.pl_spec.specs.Term as spec
 use Rattle.pl_spec.specs.Term.Input.{TermInput}
@@ -22,7 +22,7 @@ use Rattle.pl_cross.specs.Section.{is_section, HasParameters}
 use Rattle.pl_values.specs.Arrays.{cell_of, is_kept, chosen, Fills, IsKeep}
 use Rattle.pl_values.specs.Families.{is_sids, is_point, is_label_test, sid_flag, code_flag, label_code, IsCode}
 use Rattle.pl_values.specs.Laws.{IsNode, IsGiven}
-use Rattle.pl_values.proofs.Given.{constant-cell, sid-cell, label-cell, label-test-cell, label-input, downsampled-cell, point-cell, point-operands, section-cell, section-input}
+use Rattle.pl_values.proofs.Given.{constant-cell, sid-cell, label-cell, number-cell, no-numbers, label-test-cell, label-input, downsampled-cell, point-cell, point-operands, section-cell, section-input}
 use Rattle.pl_values.proofs.Operations.{fills-all}
 use Rattle.pl_values.specs.Inputs.{IsInputRow, IsGroupRow, AreRows, AreSectionRows}
 use Rattle.pl_values.proofs.KindFamilies.{sids_kind, point_kind, label_test_kind, section_kind}
@@ -82,6 +82,13 @@ module _ (t : Turn) (is : IsTurn t) where
 
   pub label_given : (name i : ℕ) → n.kind ≡ Label name → (name < length p.names) × IsGiven w p sids t.term.0 n i t.session (label_code w.texts (label_at w (name_at p.names name) (sid_in sids i) (pos t.session)))
   label_given name i e = label-cell w p sids t.term.0 n i t.session node_is name e
+
+  -- no number is known, since the world has none
+  pub number_given : (name i : ℕ) → n.kind ≡ Number name → IsGiven w p sids t.term.0 n i t.session MISSING
+  number_given name i e =
+      subst (IsGiven w p sids t.term.0 n i t.session)
+      (no-numbers w refl (name_at p.names name) (sid_in sids i) (pos t.session))
+      (number-cell w p sids t.term.0 n i t.session node_is name e).1
 
   pub label_test_given : (i u : ℕ) → is_label_test n.kind ≡ true → slice_get n.inputs 0 ≡ Some (TermInput u)
       → IsCode w.texts (cell_of w p sids u i t.session) × IsGiven w p sids t.term.0 n i t.session (code_flag w.texts n.kind (cell_of w p sids u i t.session))

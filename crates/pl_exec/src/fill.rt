@@ -15,7 +15,7 @@ use crate::course::{Course, turn_on};
 use crate::job::{kind_of, window_of};
 use crate::keep::keep_lane;
 use crate::kinds::{is_by_rows, kind_row};
-use crate::leaves::{constant_lane, label_lane, label_test_lane, sids_lane};
+use crate::leaves::{constant_lane, label_lane, label_test_lane, number_lane, sids_lane};
 use crate::points::point_lane;
 use crate::rows::Rows;
 use crate::turn::{Turn, keep_row};
@@ -129,6 +129,7 @@ fn given_lane<'x>(
     match family {
         Family::Constant(value) => constant_lane(course, value, i, out),
         Family::Label(name) => label_lane(course, name, i, out),
+        Family::Number(name) => number_lane(course, name, i, out),
         Family::Sids => sids_lane(course, i, out),
         Family::LabelTest => label_test_lane(course, sources, i, out),
         Family::Point => point_lane(course, sources, i, out),

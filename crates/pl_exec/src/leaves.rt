@@ -1,6 +1,6 @@
-//! Constants, sids, labels and tests of labels, for an asset on all sessions at once, kept or not.
+//! Constants, sids, labels, numbers and tests of labels, for an asset on all sessions at once, kept or not.
 ghost use Rattle.std.specs.Prelude.{◌≡◌, ◌<◌, ℕ, true, get_or, length, pos};
-ghost use Rattle.pl_spec.specs.Kind.Kind.{Constant, Label};
+ghost use Rattle.pl_spec.specs.Kind.Kind.{Constant, Label, Number};
 ghost use Rattle.pl_values.specs.Families.{is_label_test, is_sids};
 ghost use Rattle.pl_exec.specs.Tasks.{assets_in};
 ghost use Rattle.pl_exec.specs.Jobs.{AreGiven, AreLent, IsCourse, node_in, task_in};
@@ -9,6 +9,7 @@ use crate::course::Course;
 use crate::job::kind_of;
 use crate::points::operand;
 use crate::windows::Sources;
+use pl_fixed::MISSING;
 use pl_values::{label_test_value, label_value, sids_value};
 
 // One cell on all sessions.
@@ -60,6 +61,17 @@ pub(crate) fn label_lane(course: &Course<'_>, name: u32, i: usize, out: &mut [i6
         let day = job.world.sessions.day(course.low + j);
         out[j] = label_value(labels, name, number, col, day);
     }
+}
+
+/// The asset's numbers; `name` is the number of their name. Worlds have no numbers yet, so all are missing.
+pub(crate) fn number_lane(course: &Course<'_>, name: u32, i: usize, out: &mut [i64])
+    requires course { IsCourse course.now }
+    requires kind { (node_in course.now).kind ≡ Number name }
+    requires asset { i < assets_in (task_in course.now) }
+    requires long { length out.old ≡ course.now.count }
+    ensures { AreGiven course.now i out.new }
+{
+    fill_same(MISSING, out);
 }
 
 /// What the test says of the asset's labels, which are the first input.

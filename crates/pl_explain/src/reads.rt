@@ -60,7 +60,9 @@ pub(crate) fn facts_read(
     let node = checked.graph().node(t);
     let sid = world.assets.sid(col);
     match family_of(&node.kind) {
-        Family::Constant(_) | Family::Label(_) | Family::Sids => Ok(Vec::new(alloc)),
+        Family::Constant(_) | Family::Label(_) | Family::Number(_) | Family::Sids => {
+            Ok(Vec::new(alloc))
+        }
         Family::Window => windows_read(alloc, world, node, sid, session),
         Family::Point | Family::LabelTest => inputs_read(alloc, world, node, sid, session),
         Family::Section => section_read(alloc, world, node, session),

@@ -22,7 +22,7 @@ use pl_terms::{Checked, TermId};
 use pl_values::{
     Family, empty_value, family_of, label_test_value, point_value, sids_value, window_value,
 };
-use pl_world::{World, exists, input_at, label_cell};
+use pl_world::{World, exists, input_at, label_cell, number_cell};
 use std::alloc::Global;
 
 /// The value of a term for the asset in a column on a session by the numbers of its premises, as arrays hold
@@ -92,6 +92,7 @@ fn kept_told(
     match family_of(&node.kind) {
         Family::Constant(value) => Ok(Some(value)),
         Family::Label(name) => Ok(Some(label_cell(world, checked, name, col, session))),
+        Family::Number(name) => Ok(Some(number_cell(world, checked, name, col, session))),
         Family::Sids => Ok(Some(sids_value(&node.kind, world.assets.sid(col)))),
         Family::Window => over_windows(alloc, world, checked, told, t, col, session),
         Family::Point => Ok(over_operands(world, checked, told, t, col, session)),

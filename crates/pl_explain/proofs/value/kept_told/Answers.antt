@@ -6,10 +6,10 @@ use Rattle.pl_terms.specs.Kinds.{kind_of}
 use Rattle.pl_values.specs.Families.{IsOf, sid_flag}
 use Rattle.pl_values.specs.declared.family.Family.TheVariants as family
 use Rattle.pl_world.specs.Evaluations.{cell_in}
-use Rattle.pl_world.proofs.Evaluated.{sid-of, constant-given, sid-given, label-named, label-given}
+use Rattle.pl_world.proofs.Evaluated.{sid-of, constant-given, sid-given, label-named, label-given, number-named, number-given}
 use Rattle.pl_explain.specs.Given.{facts_read}
 use Rattle.pl_explain.proofs.Given.{accepted}
-use Rattle.pl_explain.proofs.Values.{read-constant, read-label, read-sids}
+use Rattle.pl_explain.proofs.Values.{read-constant, read-label, read-number, read-sids}
 use Rattle.pl_explain.proofs.value.kept_told.Goals as goal
 
 pub label_cell-requires-clause-name : goal.label_cell-requires-clause-name
@@ -25,6 +25,20 @@ label_cell-requires-clause-name c =
     let told = c.args.told.now in
     let kind : IsOf (kind_of n.kind) (family.Label c.in-Label.name) = subst (IsOf (kind_of n.kind)) c.in-Label.is c.family_of.ensures in
     label-named w p ok t0 n is a s c.requires.kept c.in-Label.name kind
+
+pub number_cell-requires-clause-name : goal.number_cell-requires-clause-name
+number_cell-requires-clause-name c =
+    let w = c.args.world.now in
+    let p = c.args.checked.now in
+    let t0 = c.args.t.0 in
+    let s = c.args.session in
+    let ok = c.graph.ensures.checked in
+    let n = c.node-node.result.now in
+    let is : slice_get p.graph t0 ≡ Some n = ap (λ ns. slice_get ns c.args.t.0) (sym c.graph.ensures.value) ∙ c.node-node.ensures in
+    let a = sid_at c.args.world.now.assets.now c.args.col in
+    let told = c.args.told.now in
+    let kind : IsOf (kind_of n.kind) (family.Number c.in-Number.name) = subst (IsOf (kind_of n.kind)) c.in-Number.is c.family_of.ensures in
+    number-named w p ok t0 n is a s c.requires.kept c.in-Number.name kind
 
 pub returns-in-Constant-clause-value : goal.returns-in-Constant-clause-value
 returns-in-Constant-clause-value c =
@@ -72,6 +86,22 @@ returns-in-Label-clause-value c =
     let fits : FitsSigned w64 c.label_cell.result = search rules in
     accepted told [] (facts_read w p t0 a s) (cell_in w p t0 a s) _ (read-label w p ok t0 n is a s c.in-Label.name kind) refl
     (to_z-of_z w64 _ fits ∙ c.label_cell.ensures.value ∙ label-given w p ok t0 n is a s c.requires.kept c.in-Label.name kind)
+
+pub returns-in-Number-clause-value : goal.returns-in-Number-clause-value
+returns-in-Number-clause-value c =
+    let w = c.args.world.now in
+    let p = c.args.checked.now in
+    let t0 = c.args.t.0 in
+    let s = c.args.session in
+    let ok = c.graph.ensures.checked in
+    let n = c.node-node.result.now in
+    let is : slice_get p.graph t0 ≡ Some n = ap (λ ns. slice_get ns c.args.t.0) (sym c.graph.ensures.value) ∙ c.node-node.ensures in
+    let a = sid_at c.args.world.now.assets.now c.args.col in
+    let told = c.args.told.now in
+    let kind : IsOf (kind_of n.kind) (family.Number c.in-Number.name) = subst (IsOf (kind_of n.kind)) c.in-Number.is c.family_of.ensures in
+    let fits : FitsSigned w64 c.number_cell.result = search rules in
+    accepted told [] (facts_read w p t0 a s) (cell_in w p t0 a s) _ (read-number w p ok t0 n is a s c.in-Number.name kind) refl
+    (to_z-of_z w64 _ fits ∙ c.number_cell.ensures.value ∙ number-given w p ok t0 n is a s c.requires.kept c.in-Number.name kind)
 
 pub returns-in-Sids-clause-value : goal.returns-in-Sids-clause-value
 returns-in-Sids-clause-value c =
