@@ -1,5 +1,5 @@
 -- What the term of a turn is worth, family by family.
-use Rattle.std.proofs.Common.{◌≡◌, ℕ, ◌+◌, ◌<◌, true, ℤ, pos, List, [], length, get_or, set, Option, Some, slice_get, sym, ◌∙◌, ap, subst, arith, All, unwrap_or}
+use Rattle.std.proofs.Common.{◌≡◌, ℕ, ◌+◌, ◌<◌, true, ℤ, pos, List, [], length, get_or, set, Option, Some, slice_get, refl, sym, ◌∙◌, ap, subst, arith, All, unwrap_or}
 use Rattle.std.specs.Option.{option_and_then}
 use Rattle.std.proofs.lemmas.List.{length-map, get_or_default}
 use Rattle.pl_spec.specs.Rounding.{MISSING, IsCell}
