@@ -73,7 +73,7 @@ module _ (t : Turn) (is : IsTurn t) (i : ℕ) (asset : i < assets_in (task_at t)
       let own = subst (λ (v : Traversal). (m : ℕ) → m ≤ more → IsWindow v.array v.window 0 (v.session + m) (take v.window (drop m cells))) column_at w in
       let size = subst (λ (v : Traversal). length cells ≡ v.window + more) column_at long in
       record {
-        windows = λ m l. own m l t.job.now.world.assets.now t.job.now.world.labels.now.rows t.job.now.world.labels.now.texts [] is.job.made.parts (is.job.task.columns.within i 0 asset)
+        windows = λ m l. own m l t.job.now.world.assets.now t.job.now.world.labels.now.rows t.job.now.world.labels.now.texts t.job.now.world.numbers.now.rows is.job.made.parts (is.job.task.columns.within i 0 asset)
             ∙ ap (λ a. bar_window (task_at t).world c (node_at t).window a (pos (t.session + m))) (sym (sid_of_place t.job.now.world.assets.now t.job.now.cols.now i asset));
         long = λ some. omega (arith, size);
       }

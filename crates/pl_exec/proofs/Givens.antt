@@ -117,7 +117,7 @@ module _ (t : Turn) (is : IsTurn t) where
       let parts = is.job.made.parts in
       ap (λ nm. label_at w nm (sid_in sids i) (pos t.session)) (ap (λ o. unwrap_or o []) named)
       ∙ ap (λ a. label_at w name a (pos t.session)) (sid_of_place t.job.now.world.assets.now t.job.now.cols.now i asset)
-      ∙ labels_those t.job.now.world.sessions.now t.job.now.world.assets.now t.job.now.world.labels.now.rows t.job.now.world.labels.now.texts t.job.now.world.bars.now t.job.now.world.adjustments.now []
+      ∙ labels_those t.job.now.world.sessions.now t.job.now.world.assets.now t.job.now.world.labels.now.rows t.job.now.world.labels.now.texts t.job.now.world.bars.now t.job.now.world.adjustments.now t.job.now.world.numbers.now.rows
       parts.sids_ascend parts.labels_in name (get_or t.job.now.cols.now i 0) (pos t.session) (is.job.task.columns.within i 0 asset)
       ∙ ap (option_and_then (label_on t.job.now.world.labels.now.rows name (get_or t.job.now.cols.now i 0))) dated
 

@@ -137,7 +137,7 @@ module _ (j : Job) (w : Slots) (k : ℕ) (n : spec.Node) (run : IsColumnRun j w 
   part_counted : (o : Option Column) → applied_at (buffer_for j k j.cols.now o) (first_row (task_of j) k + row_count (task_of j) k) ≡ part column_steps o
   part_counted None = refl
   part_counted (Some c) =
-      whole_counts (buffered j k c j.cols.now) j.world.assets.now j.world.labels.now.rows j.world.labels.now.texts [] run.job.made.parts run.job.task.columns.within
+      whole_counts (buffered j k c j.cols.now) j.world.assets.now j.world.labels.now.rows j.world.labels.now.texts j.world.numbers.now.rows run.job.made.parts run.job.task.columns.within
 
   pub steps_all : steps_of j k n j.cols.now ≡ term_steps (task_of j) k
   unfolding term_steps

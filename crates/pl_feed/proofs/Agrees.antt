@@ -15,10 +15,11 @@ use Rattle.pl_spec.specs.declared.Column.TheVariants.{OpenPrice, High, Low, Clos
 use Rattle.pl_spec.specs.Agree.{Agree, is_known}
 use Rattle.pl_spec.specs.Parts.{AreFor, ColumnAdjustment, adjustment_of, bar_of, sid_at}
 use Rattle.pl_spec.specs.Rounding.{MISSING}
+use Rattle.pl_spec.specs.World as worlds
 use Rattle.pl_spec.specs.World.{Event, bar_cell, cell_in, day_of, events_of, exists, lives_on}
 use Rattle.pl_spec.proofs.Lists.{filter-filter}
 use Rattle.pl_laws.proofs.AsOf.{slice_get-take}
-use Rattle.pl_laws.proofs.Law.{labels-of_days}
+use Rattle.pl_laws.proofs.Law.{SeenAlike, agree-seen, labels-of_days}
 use Rattle.pl_bars.specs.Bars.{cell_at, cell_of, is_at}
 use Rattle.pl_bars.proofs.BarWorlds.{cells_raw}
 use Rattle.pl_adjust.specs.Columns.{events_at}
@@ -186,7 +187,11 @@ module _ (w : World) (sound : AreSound w) where
     same-lives a s below =
         ap (λ o. list_any (λ x. x == a) (unwrap_or (option_map (λ day. map (λ a. a.sid) (filter (lives_on day) w.assets.now)) o) [])) (same-days s below)
 
-    pub agree : Agree (fed_world w (suc n)) (world_of w) (pos n) (day_at own_days n)
+    -- the world with no numbers, as a daily evaluation has none
+    abbrev bare : worlds.World
+    bare = record (world_of w) { numbers = [] }
+
+    agree : Agree (fed_world w (suc n)) bare (pos n) (day_at own_days n)
     unfolding fed
     agree =
         record {
@@ -195,6 +200,12 @@ module _ (w : World) (sound : AreSound w) where
           bars = same-bars;
           adjustments = same-events;
           lifetimes = same-lives;
-          labels = λ name a s below. labels-of_days (fed_world w (suc n)) (world_of w) refl name a s (same-days s below);
+          labels = λ name a s below. labels-of_days (fed_world w (suc n)) bare refl name a s (same-days s below);
           numbers = λ name a x below. refl;
         }
+
+    -- no term reads numbers yet, so the whole world shows the same
+    pub seen : SeenAlike (fed_world w (suc n)) (world_of w) (pos n) (day_at own_days n)
+    seen =
+        let same = agree-seen (fed_world w (suc n)) bare (pos n) (day_at own_days n) agree in
+        record { is_day = same.is_day; days = same.days; bars = same.bars; changes = same.changes; lifetimes = same.lifetimes; labels = same.labels }

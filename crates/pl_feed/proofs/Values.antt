@@ -20,7 +20,7 @@ use Rattle.pl_spec.specs.World.{IsWorld}
 use Rattle.pl_spec.proofs.Signed.{min-rises}
 use Rattle.pl_laws.proofs.AsOf.{slice_get-take}
 use Rattle.pl_laws.proofs.Calendars.{least_reach-same}
-use Rattle.pl_laws.proofs.Law.{agree-seen, values_agree}
+use Rattle.pl_laws.proofs.Law.{values_agree}
 use Rattle.pl_laws.proofs.Lows.{reach-rises}
 use Rattle.pl_laws.proofs.TableLaw.{rows_same}
 use Rattle.pl_world.specs.declared.world.World.{World}
@@ -37,7 +37,7 @@ use Rattle.pl_daily.specs.Daily.{Held}
 use Rattle.pl_daily.specs.Terms.{start_of}
 use Rattle.pl_feed.specs.Days.{IsFed, day_at, fed_days, fed_world, start_of_world}
 use Rattle.pl_feed.proofs.Following.{AreSound, are_fed, days-are, many, start}
-use Rattle.pl_feed.proofs.Agrees.{agree}
+use Rattle.pl_feed.proofs.Agrees.{seen}
 
 -- ---- reaches
 
@@ -117,7 +117,7 @@ module _ (w : World) (sound : AreSound w) (p : Pipeline) (s : ℕ) (within : s <
 
     same-values : (t a : ℕ) → value_of (fed_world w (suc s)) p t a (pos s) ≡ value_of (world_of w) p t a (pos s)
     same-values t a =
-        values_agree (fed_world w (suc s)) (world_of w) (pos s) (day_at w.sessions.now s) own-world ok (agree-seen (fed_world w (suc s)) (world_of w) (pos s) (day_at w.sessions.now s) (agree w sound s within)) p.names (term_at p.graph t) a (pos s) (omega (arith, ints))
+        values_agree (fed_world w (suc s)) (world_of w) (pos s) (day_at w.sessions.now s) own-world ok (seen w sound s within) p.names (term_at p.graph t) a (pos s) (omega (arith, ints))
 
     pub values : (t a : ℕ) → value_of (fed_world w (s + 1)) p t a (pos s) ≡ value_of (world_of w) p t a (pos s)
     values t a = let e : s + 1 ≡ suc s = omega arith in ap (λ (n : ℕ). value_of (fed_world w n) p t a (pos s)) e ∙ same-values t a
@@ -126,7 +126,7 @@ module _ (w : World) (sound : AreSound w) (p : Pipeline) (s : ℕ) (within : s <
     pub session-rows : (h : Held) → IsFed w p (s + 1) h → h.answered ≡ true → session_rows (world_of w) p (pos s) ≡ map (row (world_of w) p (pos s)) (map (sid_at w.assets.now) h.kept)
     session-rows h fed_so answered =
         let own = at-suc w p s h fed_so in
-        let rows = rows_same (fed_world w (suc s)) (world_of w) (pos s) (day_at w.sessions.now s) own-world ok (agree-seen (fed_world w (suc s)) (world_of w) (pos s) (day_at w.sessions.now s) (agree w sound s within)) p (pos s) (omega (arith, ints)) in
+        let rows = rows_same (fed_world w (suc s)) (world_of w) (pos s) (day_at w.sessions.now s) own-world ok (seen w sound s within) p (pos s) (omega (arith, ints)) in
         ap (map (row (world_of w) p (pos s))) (sym (kept-sids (fed_world w (suc s)) (world_of w) p (pos s) rows)
         ∙ sym (kept-is h own answered))
       where

@@ -149,3 +149,4 @@ pub record IsStated (number : ℕ) (w : OwnedWorld) : Type 0 where
   pub labels : w.labels ≡ stated_labels number
   pub bars : w.bars ≡ stated_bars number
   pub adjustments : w.adjustments ≡ stated_adjustments number
+  pub numbers : w.numbers.rows ≡ []

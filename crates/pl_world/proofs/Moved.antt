@@ -59,15 +59,15 @@ labels-read assets (r ∷ rs) (q ∷ qs) m table e = rw m.0 at (labels-moved ass
 module _ (days : List ℤ) (assets : List AssetRow) (labels other : LabelTable) (bars : List BarRow) (adjustments : List ColumnAdjustment) (numbers : List ColumnNumber)
     (days_are : AreDays days) (assets_are : AreAssets assets) (bars_are : AreBars bars) (labels_are : AreRead assets labels.rows) (others_are : AreRead assets other.rows)
     (bars_in : All (λ b. b.col < length assets) bars) (sessions_in : All (λ b. b.session < length days) bars)
-    (adjustments_in : All (λ x. x.col < length assets) adjustments) (in_order : StandByDay adjustments) (moved : IsPermutation labels.rows other.rows) where
+    (adjustments_in : All (λ x. x.col < length assets) adjustments) (in_order : StandByDay adjustments) (numbers_in : All (λ r. r.col < length assets) numbers) (moved : IsPermutation labels.rows other.rows) where
   abbrev w : World
   w = parts.world_of days assets labels.rows labels.texts bars adjustments numbers
 
   abbrev v : World
   v = parts.world_of days assets other.rows other.texts bars adjustments numbers
 
-  made : (rows : List ColumnLabel) → AreRead assets rows → AreMadeFor days assets rows bars adjustments
-  made rows are = record { labels_in = are.cols; bars_in = bars_in; sessions_in = sessions_in; adjustments_in = adjustments_in }
+  made : (rows : List ColumnLabel) → AreRead assets rows → AreMadeFor days assets rows bars adjustments numbers
+  made rows are = record { labels_in = are.cols; bars_in = bars_in; sessions_in = sessions_in; adjustments_in = adjustments_in; numbers_in = numbers_in }
 
   w_is : IsWorld w
   w_is = is_world days assets labels.rows labels.texts bars adjustments numbers (made labels.rows labels_are) days_are.ascend assets_are.ascend labels_are.once bars_are.ascend in_order
@@ -105,6 +105,6 @@ records-in-any-order files others m days assets labels bars are =
         bars_read = bars-read days assets days_are files.bars others.bars m.bars bars are.bars_read;
       },
       found.2,
-      λ adjustments adjustments_in in_order numbers. shown days assets labels found.0 bars adjustments numbers days_are assets_are bars_are
-          (AreRead-labels assets files.labels labels are.labels_read) (AreRead-labels assets others.labels found.0 found.1) inside.cols inside.sessions adjustments_in in_order found.2,
+      λ adjustments adjustments_in in_order numbers numbers_in. shown days assets labels found.0 bars adjustments numbers days_are assets_are bars_are
+          (AreRead-labels assets files.labels labels are.labels_read) (AreRead-labels assets others.labels found.0 found.1) inside.cols inside.sessions adjustments_in in_order numbers_in found.2,
     )

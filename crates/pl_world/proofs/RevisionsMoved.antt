@@ -33,14 +33,14 @@ others-read days assets ud ua (r ∷ rs) (q ∷ qs) m old xs e = rw m.0 at (pick
 
 module _ (days : List ℤ) (assets : List AssetRow) (labels : LabelTable) (bars : List BarRow) (days_are : AreDays days) (assets_are : AreAssets assets) (bars_are : AreBars bars)
     (labels_are : AreRead assets labels.rows) (bars_in : All (λ b. b.col < length assets) bars) (sessions_in : All (λ b. b.session < length days) bars)
-    (numbers : List ColumnNumber) where
+    (numbers : List ColumnNumber) (numbers_in : All (λ r. r.col < length assets) numbers) where
   abbrev whole : List ColumnAdjustment → World
   whole xs = parts.world_of days assets labels.rows labels.texts bars xs numbers
 
   made : (xs : List ColumnAdjustment) → All (λ x. x.col < length assets) xs × StandByDay xs → IsWorld (whole xs)
   made xs kept =
       is_world days assets labels.rows labels.texts bars xs numbers
-      (record { labels_in = labels_are.cols; bars_in = bars_in; sessions_in = sessions_in; adjustments_in = kept.0 })
+      (record { labels_in = labels_are.cols; bars_in = bars_in; sessions_in = sessions_in; adjustments_in = kept.0; numbers_in = numbers_in })
       days_are.ascend assets_are.ascend labels_are.once bars_are.ascend kept.1
 
   seen : (xs ys : List ColumnAdjustment) → PickedAlike xs ys → SeenInAll (whole xs) (whole ys)
@@ -76,7 +76,7 @@ revisions-in-any-order files days assets labels bars are records others m old xs
     let second = kept-revised days assets days_are assets_are others old it.0 cols it.1 in (
       it.0,
       it.1,
-      λ numbers.
-          let is = made days assets labels bars days_are assets_are bars_are labels_are inside.cols inside.sessions numbers in
-          same days assets labels bars days_are assets_are bars_are labels_are inside.cols inside.sessions numbers xs it.0 (is xs first) (is it.0 second) it.2,
+      λ numbers numbers_in.
+          let is = made days assets labels bars days_are assets_are bars_are labels_are inside.cols inside.sessions numbers numbers_in in
+          same days assets labels bars days_are assets_are bars_are labels_are inside.cols inside.sessions numbers numbers_in xs it.0 (is xs first) (is it.0 second) it.2,
     )

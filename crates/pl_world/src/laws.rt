@@ -22,6 +22,7 @@ pub fn parts_make_a_world(world: &World)
     let _labels = world.labels.len();
     let _bars = world.bars.len();
     let _adjustments = world.adjustments.len();
+    let _numbers = world.numbers.len();
 }
 
 /// The order of rows changes nothing: worlds with the same assets, label rows, bars, numbers and adjustments

@@ -30,7 +30,7 @@ run_terms-requires-clause-job g c = record {
     columns = c.requires.cols;
     up = sids_up c.args.world.now.assets.now c.parts_make_a_world.ensures.parts.sids_ascend c.args.cols.now c.requires.cols.ascend c.requires.cols.within;
     days = c.parts_make_a_world.ensures.parts.days_ascend;
-    texts = texts-coded c.args.world.now.sessions.now c.args.world.now.assets.now c.args.world.now.labels.now c.args.world.now.bars.now c.args.world.now.adjustments.now [] c.len-labels.ensures.labels;
+    texts = texts-coded c.args.world.now.sessions.now c.args.world.now.assets.now c.args.world.now.labels.now c.args.world.now.bars.now c.args.world.now.adjustments.now c.args.world.now.numbers.now.rows c.len-labels.ensures.labels;
   });
 }
 
@@ -52,7 +52,7 @@ returns-clause-outputs g c =
       columns = c.requires.cols;
       up = sids_up c.args.world.now.assets.now c.parts_make_a_world.ensures.parts.sids_ascend c.args.cols.now c.requires.cols.ascend c.requires.cols.within;
       days = c.parts_make_a_world.ensures.parts.days_ascend;
-      texts = texts-coded c.args.world.now.sessions.now c.args.world.now.assets.now c.args.world.now.labels.now c.args.world.now.bars.now c.args.world.now.adjustments.now [] c.len-labels.ensures.labels;
+      texts = texts-coded c.args.world.now.sessions.now c.args.world.now.assets.now c.args.world.now.labels.now c.args.world.now.bars.now c.args.world.now.adjustments.now c.args.world.now.numbers.now.rows c.len-labels.ensures.labels;
     }) in
     let only = live_below (slot_of c.args.plan.now) (IsArray (task c.args.world.now c.args.checked.now c.args.plan.now c.args.chunk.now c.args.cols.now)) (kept_in (task c.args.world.now c.args.checked.now c.args.plan.now c.args.chunk.now c.args.cols.now) (length (graph_in (task c.args.world.now c.args.checked.now c.args.plan.now c.args.chunk.now c.args.cols.now)))) (contains (outputs ((task c.args.world.now c.args.checked.now c.args.plan.now c.args.chunk.now c.args.cols.now)).pipeline)) (length (graph_in (task c.args.world.now c.args.checked.now c.args.plan.now c.args.chunk.now c.args.cols.now))) c.run_terms.new.workspace
     (live_at_last (task c.args.world.now c.args.checked.now c.args.plan.now c.args.chunk.now c.args.cols.now) is) c.run_terms.ensures.live in
@@ -73,7 +73,7 @@ returns-clause-workspace g c =
       columns = c.requires.cols;
       up = sids_up c.args.world.now.assets.now c.parts_make_a_world.ensures.parts.sids_ascend c.args.cols.now c.requires.cols.ascend c.requires.cols.within;
       days = c.parts_make_a_world.ensures.parts.days_ascend;
-      texts = texts-coded c.args.world.now.sessions.now c.args.world.now.assets.now c.args.world.now.labels.now c.args.world.now.bars.now c.args.world.now.adjustments.now [] c.len-labels.ensures.labels;
+      texts = texts-coded c.args.world.now.sessions.now c.args.world.now.assets.now c.args.world.now.labels.now c.args.world.now.bars.now c.args.world.now.adjustments.now c.args.world.now.numbers.now.rows c.len-labels.ensures.labels;
     }) in
     c.run_terms.ensures.peak ∙ ap (max c.args.workspace.now.peak) (held_most (task c.args.world.now c.args.checked.now c.args.plan.now c.args.chunk.now c.args.cols.now) is)
 
@@ -88,7 +88,7 @@ returns-clause-peak g c =
       columns = c.requires.cols;
       up = sids_up c.args.world.now.assets.now c.parts_make_a_world.ensures.parts.sids_ascend c.args.cols.now c.requires.cols.ascend c.requires.cols.within;
       days = c.parts_make_a_world.ensures.parts.days_ascend;
-      texts = texts-coded c.args.world.now.sessions.now c.args.world.now.assets.now c.args.world.now.labels.now c.args.world.now.bars.now c.args.world.now.adjustments.now [] c.len-labels.ensures.labels;
+      texts = texts-coded c.args.world.now.sessions.now c.args.world.now.assets.now c.args.world.now.labels.now c.args.world.now.bars.now c.args.world.now.adjustments.now c.args.world.now.numbers.now.rows c.len-labels.ensures.labels;
     }) in
     c.run_terms.ensures.held ∙ held_most (task c.args.world.now c.args.checked.now c.args.plan.now c.args.chunk.now c.args.cols.now) is
 
@@ -103,7 +103,7 @@ returns-clause-applied g c =
       columns = c.requires.cols;
       up = sids_up c.args.world.now.assets.now c.parts_make_a_world.ensures.parts.sids_ascend c.args.cols.now c.requires.cols.ascend c.requires.cols.within;
       days = c.parts_make_a_world.ensures.parts.days_ascend;
-      texts = texts-coded c.args.world.now.sessions.now c.args.world.now.assets.now c.args.world.now.labels.now c.args.world.now.bars.now c.args.world.now.adjustments.now [] c.len-labels.ensures.labels;
+      texts = texts-coded c.args.world.now.sessions.now c.args.world.now.assets.now c.args.world.now.labels.now c.args.world.now.bars.now c.args.world.now.adjustments.now c.args.world.now.numbers.now.rows c.len-labels.ensures.labels;
     }) in
     c.run_terms.ensures.applied ∙ ap cut (steps_sum (task c.args.world.now c.args.checked.now c.args.plan.now c.args.chunk.now c.args.cols.now) is)
 
@@ -118,6 +118,6 @@ returns-clause-cost g c =
       columns = c.requires.cols;
       up = sids_up c.args.world.now.assets.now c.parts_make_a_world.ensures.parts.sids_ascend c.args.cols.now c.requires.cols.ascend c.requires.cols.within;
       days = c.parts_make_a_world.ensures.parts.days_ascend;
-      texts = texts-coded c.args.world.now.sessions.now c.args.world.now.assets.now c.args.world.now.labels.now c.args.world.now.bars.now c.args.world.now.adjustments.now [] c.len-labels.ensures.labels;
+      texts = texts-coded c.args.world.now.sessions.now c.args.world.now.assets.now c.args.world.now.labels.now c.args.world.now.bars.now c.args.world.now.adjustments.now c.args.world.now.numbers.now.rows c.len-labels.ensures.labels;
     }) in
     c.run_terms.ensures.cost ∙ ap (λ m. c.args.steps.now + m) (steps_sum (task c.args.world.now c.args.checked.now c.args.plan.now c.args.chunk.now c.args.cols.now) is)

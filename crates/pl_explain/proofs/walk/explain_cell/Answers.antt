@@ -74,6 +74,6 @@ returns-clause-right g c =
     let done = subst (λ k. Finishes w p k walk c.finish.new.walk (Worth t0 a (pos d) ∷ [])) deep c.in_ok-finish.ensures.finished in
     let exact = c.of.ensures ∙ derived w p walk c.new.ensures c.new-2.ensures c.new-3.ensures.items t0 a d c.finish.new.walk done
     ∙ ap (λ b. derivation (world_of w) (pipeline_of p) t0 b (pos d)) same in
-    let texts : HasTexts (world_of w) = texts-coded w.sessions.now w.assets.now w.labels.now w.bars.now w.adjustments.now [] c.len-rows.ensures.labels in
+    let texts : HasTexts (world_of w) = texts-coded w.sessions.now w.assets.now w.labels.now w.bars.now w.adjustments.now w.numbers.now.rows c.len-rows.ensures.labels in
     subst (λ ls. IsDerivation (world_of w) (pipeline_of p) t0 (sid_at w.assets.now c.args.col) d ls) (sym exact)
     (asked-right w p t0 c.args.col d c.requires.used c.requires.col c.requires.session c.requires.reach c.graph-terms.ensures.checked texts c.parts_make_a_world.ensures)

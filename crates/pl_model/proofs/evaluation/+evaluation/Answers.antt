@@ -244,7 +244,7 @@ given-label_test_value-requires-clause-code g t c =
     let kind : IsOf (kind_of n.kind) family.LabelTest = subst (IsOf (kind_of n.kind)) c.in-LabelTest.is c.family_of.ensures in
     let fx : FitsSigned w64 c.in_ok-code-in-LabelTest.code = search rules in
     let code = c.in_ok-code-in-LabelTest.code in
-    let texts : HasTexts (world_of w) = texts-coded w.sessions.now w.assets.now w.labels.now w.bars.now w.adjustments.now [] c.len-rows.ensures.labels in
+    let texts : HasTexts (world_of w) = texts-coded w.sessions.now w.assets.now w.labels.now w.bars.now w.adjustments.now w.numbers.now.rows c.len-rows.ensures.labels in
     let read : code ≡ input_cell_in w p (slice_get n.inputs 0) a s = c.in_ok-code-in-LabelTest.ensures.value ∙ ap (λ o. input_cell_in w p o a s) c.input_at-input.ensures in
     let given = label-test-given w p ok t0 n is a s c.requires.kept texts kind code read in
     subst (IsCode w.labels.now.texts) (sym (to_z-of_z w64 _ fx)) given.0
@@ -262,7 +262,7 @@ given-returns-in_ok-code-in-LabelTest g t c =
     let kind : IsOf (kind_of n.kind) family.LabelTest = subst (IsOf (kind_of n.kind)) c.in-LabelTest.is c.family_of.ensures in
     let fx : FitsSigned w64 c.in_ok-code-in-LabelTest.code = search rules in
     let code = c.in_ok-code-in-LabelTest.code in
-    let texts : HasTexts (world_of w) = texts-coded w.sessions.now w.assets.now w.labels.now w.bars.now w.adjustments.now [] c.len-rows.ensures.labels in
+    let texts : HasTexts (world_of w) = texts-coded w.sessions.now w.assets.now w.labels.now w.bars.now w.adjustments.now w.numbers.now.rows c.len-rows.ensures.labels in
     let read : code ≡ input_cell_in w p (slice_get n.inputs 0) a s = c.in_ok-code-in-LabelTest.ensures.value ∙ ap (λ o. input_cell_in w p o a s) c.input_at-input.ensures in
     let given = label-test-given w p ok t0 n is a s c.requires.kept texts kind code read in
     let fits : FitsSigned w64 c.label_test_value.result = search rules in

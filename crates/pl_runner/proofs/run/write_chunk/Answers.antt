@@ -54,7 +54,7 @@ write_rows-requires-clause-outcome g c =
       fits = omega (arith, c.requires.to, c.requires.plan.within, c.len-sessions.ensures.length, c.len-sessions.ensures.few);
       cols = cols.within;
       all = there;
-      texts = texts-coded world.sessions.now world.assets.now world.labels.now world.bars.now world.adjustments.now [] c.len-labels.ensures.labels;
+      texts = texts-coded world.sessions.now world.assets.now world.labels.now world.bars.now world.adjustments.now world.numbers.now.rows c.len-labels.ensures.labels;
       arrays = λ t out. let a = outputs.arrays t out in record { cells = a.cells; live = a.is; holds = a.holds };
     }
 
