@@ -13,7 +13,7 @@ use Rattle.pl_spec.specs.Cross.{at}
 use Rattle.pl_spec.specs.Term as spec
 use Rattle.pl_spec.specs.Term.Input.{BarColumn, TermInput}
 use Rattle.pl_spec.specs.Table.{Pipeline}
-use Rattle.pl_spec.specs.Value.{sort_kind, name_at}
+use Rattle.pl_spec.specs.Value.{sort_kind}
 use Rattle.pl_spec.specs.Window.{before, seen_cell}
 use Rattle.pl_spec.proofs.Cells.{chosen-cell, empty-cell}
 use Rattle.pl_terms.specs.declared.node.TermId.{TermId}
@@ -27,6 +27,7 @@ use Rattle.std.proofs.lemmas.List.Elements.{All-drop}
 use Rattle.pl_cross.specs.Arrays.{sid_in, section_at}
 use Rattle.pl_cross.specs.Section.{is_section, HasParameters}
 use Rattle.pl_assets.specs.Labels.{label_on}
+use Rattle.pl_numbers.specs.Numbers.{number_on}
 use Rattle.pl_pointwise.specs.Operands.{IsOperation, AreOperands, operation}
 use Rattle.pl_values.specs.Arrays.{cell_of, empty_cell, is_kept, chosen, kept_or, Fills, IsKeep}
 use Rattle.pl_values.specs.Families.{is_sids, is_point, is_label_test, sid_flag, code_flag, label_code, IsCode, TakesWindows}
@@ -130,10 +131,16 @@ module _ (t : Turn) (v : Moment) (is : IsTurn t v) where
   pub label_known : (number : ℕ) → n.kind ≡ Label number → number < length p.names
   label_known number e = (label-cell w p sids t.term.0 n 0 s node_is number e).0
 
-  -- no number is known
-  pub number_given : (name i : ℕ) → n.kind ≡ Number name → i < assets_at t → IsGiven w p sids t.term.0 n i s MISSING
-  number_given name i e h =
-      subst (IsGiven w p sids t.term.0 n i s) (is.here.numbers (name_at p.names name) i h) (number-cell w p sids t.term.0 n i s node_is name e).1
+  -- a number is that of the column
+  pub number_given : (number i : ℕ) (name : List ℕ) → n.kind ≡ Number number → slice_get p.names number ≡ Some name → i < assets_at t
+      → IsGiven w p sids t.term.0 n i s (number_on t.numbers.now.rows name i t.day)
+  number_given number i name e named h =
+      subst (IsGiven w p sids t.term.0 n i s)
+      (ap (λ m. known_number w m (sid_in sids i) (pos s)) (ap (λ o. unwrap_or o []) named) ∙ is.here.known name i h)
+      (number-cell w p sids t.term.0 n i s node_is number e).1
+
+  pub number_known : (number : ℕ) → n.kind ≡ Number number → number < length p.names
+  number_known number e = (number-cell w p sids t.term.0 n 0 s node_is number e).0
 
   -- a downsampled term has the cells that its input had on the first session of the period
   start_held : is_downsampled n.kind ≡ true → (f : Frequency) × (n.kind ≡ Downsample f) × (u : ℕ) × (slice_get n.inputs 0 ≡ Some (TermInput u)) × HoldsStart t v f u

@@ -11,11 +11,10 @@ ghost use Rattle.pl_day_rows.specs.Rows.{input_row};
 ghost use Rattle.pl_day_rows.specs.Turns.{IsAlways, IsKept, IsTurn, Moment, assets_at, node_at};
 ghost use Rattle.pl_day_rows.specs.Turns.{number_row, pipeline_at};
 
-use crate::leaves::{label_row, sids_row};
+use crate::leaves::{known_row, label_row, sids_row};
 use crate::turn::Turn;
 use crate::windows::window_row;
 use pl_cross::Cross;
-use pl_fixed::MISSING;
 use pl_pointwise::pointwise;
 use pl_terms::{Input, TermId};
 use pl_values::{group_of, input_at, keep_values, kind_of, label_test_values, section_values};
@@ -79,7 +78,7 @@ pub(crate) fn label(turn: &Turn<'_>, name: u32, none: i64, keep: &[i64], out: &m
     keep_values(keep, none, out);
 }
 
-// Numbers; `name` is the number of their name. Days bring no numbers yet, so all are missing.
+// Numbers; `name` is the number of their name.
 pub(crate) fn number(turn: &Turn<'_>, name: u32, none: i64, keep: &[i64], out: &mut [i64])
     requires turn { (v : Moment) × IsTurn turn.now v }
     requires kind { (node_at turn.now).kind ≡ Number name }
@@ -88,7 +87,7 @@ pub(crate) fn number(turn: &Turn<'_>, name: u32, none: i64, keep: &[i64], out: &
     requires long { length out.old ≡ assets_at turn.now }
     ensures { IsAlways turn.now out.new }
 {
-    out.fill(MISSING);
+    known_row(turn.numbers, turn.checked.label_name(name), turn.day, out);
     keep_values(keep, none, out);
 }
 
