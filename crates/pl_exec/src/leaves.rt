@@ -9,7 +9,6 @@ use crate::course::Course;
 use crate::job::kind_of;
 use crate::points::operand;
 use crate::windows::Sources;
-use pl_fixed::MISSING;
 use pl_values::{label_test_value, label_value, sids_value};
 
 // One cell on all sessions.
@@ -63,7 +62,7 @@ pub(crate) fn label_lane(course: &Course<'_>, name: u32, i: usize, out: &mut [i6
     }
 }
 
-/// The asset's numbers; `name` is the number of their name. Worlds have no numbers yet, so all are missing.
+/// The asset's numbers; `name` is the number of their name.
 pub(crate) fn number_lane(course: &Course<'_>, name: u32, i: usize, out: &mut [i64])
     requires course { IsCourse course.now }
     requires kind { (node_in course.now).kind ≡ Number name }
@@ -71,7 +70,12 @@ pub(crate) fn number_lane(course: &Course<'_>, name: u32, i: usize, out: &mut [i
     requires long { length out.old ≡ course.now.count }
     ensures { AreGiven course.now i out.new }
 {
-    fill_same(MISSING, out);
+    let job = course.job;
+    let name = job.checked.label_name(name);
+    let col = job.cols[i] as usize;
+    job.world
+        .numbers
+        .fill_under(name, col, job.world.sessions, course.low, out);
 }
 
 /// What the test says of the asset's labels, which are the first input.

@@ -17,7 +17,7 @@ ghost use Rattle.pl_world.specs.Evaluations.{HasKind, row_in, AreRowsOf, IsKeepR
 use crate::cell::exists;
 use crate::world::World;
 use pl_cross::Cross;
-use pl_fixed::{MISSING, Memory};
+use pl_fixed::Memory;
 use pl_terms::{Checked, Input, Node, TermId};
 use pl_values::{label_value, section_values};
 use std::alloc::Global;
@@ -48,7 +48,7 @@ pub fn label_cell(world: &World, checked: &Checked, name: u32, col: usize, sessi
 }
 
 /// The number of the asset on a session, under the name of that number in the pipeline; `MISSING` where there
-/// is none. Worlds have no numbers yet.
+/// is none.
 pub fn number_cell(world: &World, checked: &Checked, name: u32, col: usize, session: usize) -> i64
     requires made { IsMade world.now }
     requires name { name < length checked.now.names }
@@ -58,7 +58,12 @@ pub fn number_cell(world: &World, checked: &Checked, name: u32, col: usize, sess
         (sid_at world.now.assets.now col) (pos session) }
     ensures cell { IsCell result }
 {
-    MISSING
+    let _assets = world.assets.len();
+    let day = world.sessions.day(session);
+    let text = checked.label_name(name);
+    world
+        .numbers
+        .number_under(text, world.numbers.name_of(text), col, day)
 }
 
 /// The input of a cross-section, which is a term.

@@ -1,15 +1,26 @@
-use Rattle.std.proofs.Common.{arith, sym, subst}
-use Rattle.std.proofs.lemmas.Int.{to_z-of_z}
-use Rattle.pl_spec.specs.Rounding.{MISSING}
-use Rattle.pl_spec.proofs.Cells.{missing-cell}
+use Rattle.std.proofs.Common.{◌+◌, ◌<◌, ◌∙◌, arith, sym, subst, length, pos}
+use Rattle.std.proofs.lemmas.Option.{slice_get-get_or}
+use Rattle.pl_spec.specs.Rounding.{IsCell}
 use Rattle.pl_exec.specs.Jobs.{turn_in}
 use Rattle.pl_exec.proofs.Courses.{course_turn}
-use Rattle.pl_exec.proofs.Givens.{number_given}
+use Rattle.pl_exec.proofs.Givens.{number_given, number_here}
 use Rattle.pl_exec.proofs.Stretches.{given_by}
 use Rattle.pl_exec.proofs.leaves.number_lane.Goals as goal
 
+pub label_name-name-requires : goal.label_name-name-requires
+label_name-name-requires c = (number_given (turn_in c.args.course.now 0) (course_turn c.args.course.now c.requires.course 0 c.requires.course.some) c.args.name 0 c.requires.kind).0
+
 pub returns : goal.returns
 returns c j h =
-    let same = c.fill_same.ensures j (omega (arith, h, c.requires.long)) in
-    let g = number_given (turn_in c.args.course.now j) (course_turn c.args.course.now c.requires.course j h) c.args.name c.args.i c.requires.kind in
-    given_by c.args.course.now c.args.i j MISSING _ same g missing-cell
+    let days = c.args.course.now.job.now.world.sessions.now in
+    let room : j < length c.args.out.now = omega (arith, h, c.requires.long) in
+    let turn = course_turn c.args.course.now c.requires.course j h in
+    let is = c.requires.course in
+    let end = is.end in
+    let to = is.job.task.to in
+    let within = is.job.task.plan.within in
+    let dated = slice_get-get_or days (c.args.course.now.low + j) (pos 0) (omega (arith, h, end, to, within)) in
+    let said = number_here (turn_in c.args.course.now j) turn c.args.i c.args.name c.label_name-name.result.now _ c.requires.asset c.label_name-name.ensures dated in
+    let g = (number_given (turn_in c.args.course.now j) turn c.args.name c.args.i c.requires.kind).1 in
+    let same = c.fill_under.ensures.values j room ∙ sym said in
+    given_by c.args.course.now c.args.i j _ _ same g (subst IsCell same (c.fill_under.ensures.cells j room))
