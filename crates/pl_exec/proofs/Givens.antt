@@ -1,12 +1,13 @@
 -- What the term of a turn is worth, family by family.
-use Rattle.std.proofs.Common.{◌≡◌, ℕ, ◌<◌, true, ℤ, pos, List, [], length, get_or, Option, Some, slice_get, sym, ◌∙◌, ap, subst, arith, All, unwrap_or}
+use Rattle.std.proofs.Common.{◌≡◌, ℕ, ◌<◌, true, ℤ, pos, List, [], length, get_or, Option, Some, slice_get, sym, ◌∙◌, ap, subst, arith, All, unwrap_or, option_map}
 use Rattle.std.specs.Option.{option_and_then}
 use Rattle.std.proofs.lemmas.List.{length-map, get_or_default}
 use Rattle.pl_spec.specs.Rounding.{MISSING, IsCell}
 use Rattle.pl_spec.specs.Parts.{sid_at}
-use Rattle.pl_spec.specs.World.{World, label_at}
+use Rattle.pl_spec.specs.Numbers.{number_at}
+use Rattle.pl_spec.specs.World.{World, label_at, known_number}
 use Rattle.pl_spec.specs.Kind.{CrossKind}
-use Rattle.pl_spec.specs.Kind.Kind.{Constant, Label, Cross, Downsample}
+use Rattle.pl_spec.specs.Kind.Kind.{Constant, Label, Number, Cross, Downsample}
 use Rattle.pl_spec.specs.Formula.{is_true}
 use Rattle.pl_spec.specs.Term as spec
 use Rattle.pl_spec.specs.Term.Input.{TermInput}
@@ -22,12 +23,14 @@ use Rattle.pl_cross.specs.Section.{is_section, HasParameters}
 use Rattle.pl_values.specs.Arrays.{cell_of, empty_cell, is_kept, chosen, kept_or, Fills, IsKeep}
 use Rattle.pl_values.specs.Families.{is_sids, sid_flag, label_code}
 use Rattle.pl_values.specs.Laws.{IsNode, IsGiven}
-use Rattle.pl_values.proofs.Given.{constant-cell, sid-cell, label-cell, downsampled-cell, section-cell, section-input}
+use Rattle.pl_values.proofs.Given.{constant-cell, sid-cell, label-cell, number-cell, downsampled-cell, section-cell, section-input}
 use Rattle.pl_values.proofs.Operations.{fills-all}
 use Rattle.pl_values.specs.Inputs.{IsInputRow, IsGroupRow, AreSectionRows}
 use Rattle.pl_values.proofs.KindFamilies.{sids_kind, section_kind}
 use Rattle.pl_assets.specs.Labels.{label_on}
 use Rattle.pl_assets.proofs.LabelWorlds.{labels_those}
+use Rattle.pl_numbers.specs.Numbers.{number_on}
+use Rattle.pl_numbers.proofs.NumberWorlds.{numbers_those}
 use Rattle.pl_exec.proofs.Places.{sid_of_place}
 use Rattle.pl_spec.specs.Cross.{at}
 use Rattle.pl_spec.proofs.Cells.{empty-cell, chosen-cell}
@@ -68,6 +71,9 @@ module _ (t : Turn) (is : IsTurn t) where
   pub label_given : (name i : ℕ) → n.kind ≡ Label name → (name < length p.names) × IsGiven w p sids t.term.0 n i t.session (label_code w.texts (label_at w (name_at p.names name) (sid_in sids i) (pos t.session)))
   label_given name i e = label-cell w p sids t.term.0 n i t.session node_is name e
 
+  pub number_given : (name i : ℕ) → n.kind ≡ Number name → (name < length p.names) × IsGiven w p sids t.term.0 n i t.session (known_number w (name_at p.names name) (sid_in sids i) (pos t.session))
+  number_given name i e = number-cell w p sids t.term.0 n i t.session node_is name e
+
   -- the input of a downsampled term, and its cells of the first session of the period
   pub start_input : is_downsampled n.kind ≡ true → (u : ℕ) × (slice_get n.inputs 0 ≡ Some (TermInput u))
   start_input e = let o = over p is.job.task.checked t.term.0 n is.node e in (o.input, o.first)
@@ -91,6 +97,16 @@ module _ (t : Turn) (is : IsTurn t) where
       ∙ labels_those t.job.now.world.sessions.now t.job.now.world.assets.now t.job.now.world.labels.now.rows t.job.now.world.labels.now.texts t.job.now.world.bars.now t.job.now.world.adjustments.now t.job.now.world.numbers.now.rows
       parts.sids_ascend parts.labels_in name (get_or t.job.now.cols.now i 0) (pos t.session) (is.job.task.columns.within i 0 asset)
       ∙ ap (option_and_then (label_on t.job.now.world.labels.now.rows name (get_or t.job.now.cols.now i 0))) dated
+
+  -- so is the number
+  pub number_here : (i number : ℕ) (name : List ℕ) (day : ℤ) → i < assets_in (task_at t) → slice_get p.names number ≡ Some name → slice_get w.days t.session ≡ Some day
+      → known_number w (name_at p.names number) (sid_in sids i) (pos t.session) ≡ number_on t.job.now.world.numbers.now.rows name (get_or t.job.now.cols.now i 0) day
+  number_here i number name day asset named dated =
+      let parts = is.job.made.parts in
+      ap (λ nm. known_number w nm (sid_in sids i) (pos t.session)) (ap (λ o. unwrap_or o []) named)
+      ∙ ap (λ a. known_number w name a (pos t.session)) (sid_of_place t.job.now.world.assets.now t.job.now.cols.now i asset)
+      ∙ ap (λ o. unwrap_or (option_map (number_at w.numbers name (sid_at w.assets (get_or t.job.now.cols.now i 0))) o) MISSING) dated
+      ∙ numbers_those t.job.now.world.assets.now t.job.now.world.numbers.now.rows parts.sids_ascend parts.numbers_in name (get_or t.job.now.cols.now i 0) day (is.job.task.columns.within i 0 asset)
 
   -- ---- rows of inputs
 

@@ -39,6 +39,7 @@ unfolding has_window places
 window_or_one (kind.Window f) w e = inl (first-place f)
 window_or_one (kind.Constant x) w e = inr (eqb-true w 1 e)
 window_or_one (kind.Label x) w e = inr (eqb-true w 1 e)
+window_or_one (kind.Number x) w e = inr (eqb-true w 1 e)
 window_or_one (kind.StaticSids x) w e = inr (eqb-true w 1 e)
 window_or_one (kind.Point x) w e = inr (eqb-true w 1 e)
 window_or_one (kind.LabelTest x) w e = inr (eqb-true w 1 e)

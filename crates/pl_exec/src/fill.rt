@@ -14,7 +14,7 @@ use crate::columns::new_column;
 use crate::course::{Course, Lane, turn_on};
 use crate::keep::keep_lane;
 use crate::kinds::{is_by_rows, kind_row};
-use crate::leaves::{constant_lane, label_lane, label_test_lane, sids_lane};
+use crate::leaves::{constant_lane, label_lane, label_test_lane, number_lane, sids_lane};
 use crate::points::point_lane;
 use crate::rows::Rows;
 use crate::turn::{Turn, keep_row};
@@ -90,6 +90,7 @@ fn given_lane(lane: &Lane<'_>, family: Family, out: &mut [i64])
     match family {
         Family::Constant(value) => constant_lane(lane, value, out),
         Family::Label(name) => label_lane(lane, name, out),
+        Family::Number(name) => number_lane(lane, name, out),
         Family::Sids => sids_lane(lane, out),
         Family::LabelTest => label_test_lane(lane, out),
         Family::Point => point_lane(lane, out),

@@ -1,6 +1,6 @@
-//! Constants, sids, labels and tests of labels, for an asset on all sessions at once, kept or not.
+//! Constants, sids, labels, numbers and tests of labels, for an asset on all sessions at once, kept or not.
 ghost use Rattle.std.specs.Prelude.{◌≡◌, true, length};
-ghost use Rattle.pl_spec.specs.Kind.Kind.{Constant, Label};
+ghost use Rattle.pl_spec.specs.Kind.Kind.{Constant, Label, Number};
 ghost use Rattle.pl_values.specs.Families.{is_label_test, is_sids};
 ghost use Rattle.pl_exec.specs.Jobs.{AreGiven, IsLane, node_in};
 
@@ -46,6 +46,21 @@ pub(crate) fn label_lane(lane: &Lane<'_>, name: u32, out: &mut [i64])
         let day = job.world.sessions.day(lane.course.low + j);
         out[j] = label_value(labels, name, number, col, day);
     }
+}
+
+/// The asset's numbers; `name` is the number of their name.
+pub(crate) fn number_lane(lane: &Lane<'_>, name: u32, out: &mut [i64])
+    requires lane { IsLane lane.now }
+    requires kind { (node_in lane.now.course.now).kind ≡ Number name }
+    requires long { length out.old ≡ lane.now.course.now.count }
+    ensures { AreGiven lane.now.course.now lane.now.i out.new }
+{
+    let job = lane.course.job;
+    let name = job.checked.label_name(name);
+    let col = job.cols[lane.i] as usize;
+    job.world
+        .numbers
+        .fill_under(name, col, job.world.sessions, lane.course.low, out);
 }
 
 /// What the test says of the asset's labels, which are the first input.

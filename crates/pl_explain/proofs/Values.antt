@@ -129,6 +129,9 @@ module _ (w : World) (c : Parts) (ok : IsChecked (pipeline_of c)) (t : ℕ) (n :
     pub read-label : (l : ℕ) → kind_of n.kind ≡ kinds.Label l → facts_read w c t a s ≡ []
     read-label l e = read-kind (kinds.Label l) e
 
+    pub read-number : (l : ℕ) → kind_of n.kind ≡ kinds.Number l → facts_read w c t a s ≡ []
+    read-number l e = read-kind (kinds.Number l) e
+
     pub read-sids : is_sids (kind_of n.kind) ≡ true → facts_read w c t a s ≡ []
     read-sids e = let f = sids-is (kind_of n.kind) e in read-kind (kinds.StaticSids f.0) f.1
 

@@ -2,7 +2,7 @@
 use Rattle.std.proofs.Common.{◌≡◌, ℕ, ◌+◌, ◌<◌, ◌≤◌, true, false, ℤ, pos, List, [], ◌∷◌, All, Option, Some, None, option_map, slice_get, length, refl, sym, ◌∙◌, ap, subst, arith, inl, inr}
 use Rattle.std.proofs.lemmas.Bool.{true≢false, cases_lt}
 use Rattle.pl_spec.specs.Rounding.{IsCell}
-use Rattle.pl_spec.specs.World.{World as SpecWorld, label_at}
+use Rattle.pl_spec.specs.World.{World as SpecWorld, known_number, label_at}
 use Rattle.pl_spec.specs.declared.Frequency.{Frequency}
 use Rattle.pl_spec.specs.Periods.{period_start}
 use Rattle.pl_spec.specs.Value.{name_at}
@@ -22,14 +22,14 @@ use Rattle.pl_derivation.specs.Facts.{over_inputs, facts_now, window_facts}
 use Rattle.pl_world.specs.Worlds.{world_of}
 use Rattle.pl_world.specs.Evaluations.{input_cell_in, window_in}
 use Rattle.pl_world.proofs.Asked.{inputs-at}
-use Rattle.pl_world.proofs.Evaluated.{windowed-is, constant-given, sid-given, label-given, label-test-given, start-given, windows-given, point-given}
+use Rattle.pl_world.proofs.Evaluated.{windowed-is, constant-given, sid-given, label-given, number-given, label-test-given, start-given, windows-given, point-given}
 use Rattle.pl_explain.specs.declared.basis.Basis.{Basis}
 use Rattle.pl_explain.specs.declared.told.Told.{Told}
 use Rattle.pl_explain.specs.Given.{facts_in, given, has_all, sid_in, value_in, IsGiven, IsKeptAt}
 use Rattle.pl_explain.specs.Reading.{end_of}
 use Rattle.pl_explain.proofs.Given.{got, lacked, refused, accepted}
 use Rattle.pl_explain.proofs.Facts.{end-near, window-early}
-use Rattle.pl_explain.proofs.Values.{read-constant, read-label, read-sids, read-windows, read-point, read-label-test, read-period, inputs-told, input-lacks, same-told}
+use Rattle.pl_explain.proofs.Values.{read-constant, read-label, read-number, read-sids, read-windows, read-point, read-label-test, read-period, inputs-told, input-lacks, same-told}
 
 -- a window that is told begins at no session below 0
 in-time : (told : Told) (o : Option Input) (i : spec.Input) → option_map input_of o ≡ Some i → (size a s : ℕ) → has_all told (window_facts size a (pos s) (option_map input_of o)) ≡ true → size ≤ s + 1
@@ -63,6 +63,11 @@ module _ {b : Basis} {t col s : ℕ} (k : IsKeptAt b t col s) (n : Node) (is : s
   label-told l e x same cell =
       accepted b.told.now [] (facts_in b t col s) (value_in b t col s) x (read-label b.world b.checked.now k.at.on.ready.checked t n is (sid_in b col) s l e) refl
       (same ∙ label-given b.world b.checked.now k.at.on.ready.checked t n is (sid_in b col) s k.kept l e) cell
+
+  pub number-told : (l : ℕ) → kind_of n.kind ≡ kinds.Number l → (x : ℤ) → x ≡ known_number (world_of b.world) (name_at (pipeline_of b.checked.now).names l) (sid_in b col) (pos s) → IsCell x → IsValue (Some x)
+  number-told l e x same cell =
+      accepted b.told.now [] (facts_in b t col s) (value_in b t col s) x (read-number b.world b.checked.now k.at.on.ready.checked t n is (sid_in b col) s l e) refl
+      (same ∙ number-given b.world b.checked.now k.at.on.ready.checked t n is (sid_in b col) s k.kept l e) cell
 
   pub sids-told : is_sids (kind_of n.kind) ≡ true → (x : ℤ) → x ≡ sid_flag (kind_of n.kind) (sid_in b col) → IsCell x → IsValue (Some x)
   sids-told e x same cell =

@@ -52,7 +52,9 @@ pub(crate) fn facts_read(
     let node = node_in(checked, t);
     let sid = world.assets.sid(col);
     match family_of(&node.kind) {
-        Family::Constant(_) | Family::Label(_) | Family::Sids => Ok(Vec::new(alloc)),
+        Family::Constant(_) | Family::Label(_) | Family::Number(_) | Family::Sids => {
+            Ok(Vec::new(alloc))
+        }
         Family::Window => windows_read(alloc, node, sid, session as u32),
         Family::Point | Family::LabelTest => inputs_read(alloc, node, sid, session as u32),
         Family::Section => section_read(alloc, world, node, session),

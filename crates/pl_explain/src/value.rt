@@ -17,7 +17,7 @@ use pl_terms::TermId;
 use pl_values::{
     Family, empty_value, family_of, label_test_value, point_value, sids_value, window_value,
 };
-use pl_world::{exists, input_at, label_cell};
+use pl_world::{exists, input_at, label_cell, number_cell};
 use std::alloc::Global;
 
 /// The value of a term for the asset in a column on a session by the numbers of its premises, as arrays hold
@@ -70,6 +70,7 @@ fn kept_told(
     match family_of(&node.kind) {
         Family::Constant(value) => Ok(Some(value)),
         Family::Label(name) => Ok(Some(label_cell(world, basis.checked, name, col, session))),
+        Family::Number(name) => Ok(Some(number_cell(world, basis.checked, name, col, session))),
         Family::Sids => Ok(Some(sids_value(&node.kind, world.assets.sid(col)))),
         Family::Window => over_windows(alloc, basis, t, col, session),
         Family::Point => Ok(over_operands(basis, t, col, session)),

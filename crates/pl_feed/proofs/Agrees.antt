@@ -15,11 +15,10 @@ use Rattle.pl_spec.specs.declared.Column.TheVariants.{OpenPrice, High, Low, Clos
 use Rattle.pl_spec.specs.Agree.{Agree, is_known}
 use Rattle.pl_spec.specs.Parts.{AreFor, ColumnAdjustment, adjustment_of, bar_of, sid_at}
 use Rattle.pl_spec.specs.Rounding.{MISSING}
-use Rattle.pl_spec.specs.World as worlds
 use Rattle.pl_spec.specs.World.{Event, bar_cell, cell_in, day_of, events_of, exists, lives_on}
 use Rattle.pl_spec.proofs.Lists.{filter-filter}
 use Rattle.pl_laws.proofs.AsOf.{slice_get-take}
-use Rattle.pl_laws.proofs.Law.{SeenAlike, agree-seen, labels-of_days}
+use Rattle.pl_laws.proofs.Law.{labels-of_days}
 use Rattle.pl_bars.specs.Bars.{cell_at, cell_of, is_at}
 use Rattle.pl_bars.proofs.BarWorlds.{cells_raw}
 use Rattle.pl_adjust.specs.Columns.{events_at}
@@ -150,7 +149,7 @@ module _ (w : World) (sound : AreSound w) where
     abbrev fed_bars : List BarRow
     fed_bars = bars_of (fed_days w (suc n))
 
-    fits : AreFor (days_of (fed_days w (suc n))) w.assets.now w.labels.now.rows fed_bars (adjustments_of (fed_days w (suc n))) []
+    fits : AreFor (days_of (fed_days w (suc n))) w.assets.now w.labels.now.rows fed_bars (adjustments_of (fed_days w (suc n))) w.numbers.now.rows
     fits = parts_fit (start_of_world w) (start w sound) (fed_days w (suc n)) (are_fed w sound (suc n) (omega arith))
 
     same-days : (s : ℤ) → s ≤ℤ pos n → day_of (fed_world w (suc n)) s ≡ day_of (world_of w) s
@@ -164,8 +163,8 @@ module _ (w : World) (sound : AreSound w) where
     same-bars a c (pos s) below = elim (of_column w.assets.now a) [
       | inr none ↦ no-bar w.assets.now fed_bars a c s fits.bars_in none ∙ sym (no-bar w.assets.now w.bars.now a c s sound.made.bars_in none)
       | inl at ↦ (
-          let fed_is = cells_raw (days_of (fed_days w (suc n))) w.assets.now w.labels.now.rows w.labels.now.texts fed_bars (adjustments_of (fed_days w (suc n))) [] sound.assets.ascend fits.bars_in at.0 c s at.1 in
-          let own_is = cells_raw w.sessions.now w.assets.now w.labels.now.rows w.labels.now.texts w.bars.now w.adjustments.now [] sound.assets.ascend sound.made.bars_in at.0 c s at.1 in
+          let fed_is = cells_raw (days_of (fed_days w (suc n))) w.assets.now w.labels.now.rows w.labels.now.texts fed_bars (adjustments_of (fed_days w (suc n))) w.numbers.now.rows sound.assets.ascend fits.bars_in at.0 c s at.1 in
+          let own_is = cells_raw w.sessions.now w.assets.now w.labels.now.rows w.labels.now.texts w.bars.now w.adjustments.now w.numbers.now.rows sound.assets.ascend sound.made.bars_in at.0 c s at.1 in
           rw (← at.2) (sym fed_is ∙ fed-cell (suc n) (omega arith) at.0 at.1 c s (omega (arith, ints, below)) ∙ own_is))
     ]
 
@@ -187,11 +186,7 @@ module _ (w : World) (sound : AreSound w) where
     same-lives a s below =
         ap (λ o. list_any (λ x. x == a) (unwrap_or (option_map (λ day. map (λ a. a.sid) (filter (lives_on day) w.assets.now)) o) [])) (same-days s below)
 
-    -- the world with no numbers, as a daily evaluation has none
-    abbrev bare : worlds.World
-    bare = record (world_of w) { numbers = [] }
-
-    agree : Agree (fed_world w (suc n)) bare (pos n) (day_at own_days n)
+    pub agree : Agree (fed_world w (suc n)) (world_of w) (pos n) (day_at own_days n)
     unfolding fed
     agree =
         record {
@@ -200,12 +195,6 @@ module _ (w : World) (sound : AreSound w) where
           bars = same-bars;
           adjustments = same-events;
           lifetimes = same-lives;
-          labels = λ name a s below. labels-of_days (fed_world w (suc n)) bare refl name a s (same-days s below);
+          labels = λ name a s below. labels-of_days (fed_world w (suc n)) (world_of w) refl name a s (same-days s below);
           numbers = λ name a x below. refl;
         }
-
-    -- no term reads numbers yet, so the whole world shows the same
-    pub seen : SeenAlike (fed_world w (suc n)) (world_of w) (pos n) (day_at own_days n)
-    seen =
-        let same = agree-seen (fed_world w (suc n)) bare (pos n) (day_at own_days n) agree in
-        record { is_day = same.is_day; days = same.days; bars = same.bars; changes = same.changes; lifetimes = same.lifetimes; labels = same.labels }

@@ -11,7 +11,7 @@ use Rattle.pl_spec.specs.declared.AssetRow.{AssetRow}
 use Rattle.pl_spec.specs.declared.Format.{Format}
 use Rattle.pl_spec.specs.Graph.{least_of, reach}
 use Rattle.pl_spec.specs.Lows.{least_reach}
-use Rattle.pl_spec.specs.Parts.{sid_at}
+use Rattle.pl_spec.specs.Parts.{ColumnNumber, sid_at}
 use Rattle.pl_spec.specs.Table.{Pipeline, Row, kept_sids, row, session_rows, table, value_of}
 use Rattle.pl_spec.specs.Term.{Graph, term_at}
 use Rattle.pl_spec.specs.Text.{row_line}
@@ -20,7 +20,7 @@ use Rattle.pl_spec.specs.World.{IsWorld}
 use Rattle.pl_spec.proofs.Signed.{min-rises}
 use Rattle.pl_laws.proofs.AsOf.{slice_get-take}
 use Rattle.pl_laws.proofs.Calendars.{least_reach-same}
-use Rattle.pl_laws.proofs.Law.{values_agree}
+use Rattle.pl_laws.proofs.Law.{agree-seen, values_agree}
 use Rattle.pl_laws.proofs.Lows.{reach-rises}
 use Rattle.pl_laws.proofs.TableLaw.{rows_same}
 use Rattle.pl_world.specs.declared.world.World.{World}
@@ -37,7 +37,7 @@ use Rattle.pl_daily.specs.Daily.{Held}
 use Rattle.pl_daily.specs.Terms.{start_of}
 use Rattle.pl_feed.specs.Days.{IsFed, day_at, fed_days, fed_world, start_of_world}
 use Rattle.pl_feed.proofs.Following.{AreSound, are_fed, days-are, many, start}
-use Rattle.pl_feed.proofs.Agrees.{seen}
+use Rattle.pl_feed.proofs.Agrees.{agree}
 
 -- ---- reaches
 
@@ -117,7 +117,7 @@ module _ (w : World) (sound : AreSound w) (p : Pipeline) (s : ℕ) (within : s <
 
     same-values : (t a : ℕ) → value_of (fed_world w (suc s)) p t a (pos s) ≡ value_of (world_of w) p t a (pos s)
     same-values t a =
-        values_agree (fed_world w (suc s)) (world_of w) (pos s) (day_at w.sessions.now s) own-world ok (seen w sound s within) p.names (term_at p.graph t) a (pos s) (omega (arith, ints))
+        values_agree (fed_world w (suc s)) (world_of w) (pos s) (day_at w.sessions.now s) own-world ok (agree-seen (fed_world w (suc s)) (world_of w) (pos s) (day_at w.sessions.now s) (agree w sound s within)) p.names (term_at p.graph t) a (pos s) (omega (arith, ints))
 
     pub values : (t a : ℕ) → value_of (fed_world w (s + 1)) p t a (pos s) ≡ value_of (world_of w) p t a (pos s)
     values t a = let e : s + 1 ≡ suc s = omega arith in ap (λ (n : ℕ). value_of (fed_world w n) p t a (pos s)) e ∙ same-values t a
@@ -126,7 +126,7 @@ module _ (w : World) (sound : AreSound w) (p : Pipeline) (s : ℕ) (within : s <
     pub session-rows : (h : Held) → IsFed w p (s + 1) h → h.answered ≡ true → session_rows (world_of w) p (pos s) ≡ map (row (world_of w) p (pos s)) (map (sid_at w.assets.now) h.kept)
     session-rows h fed_so answered =
         let own = at-suc w p s h fed_so in
-        let rows = rows_same (fed_world w (suc s)) (world_of w) (pos s) (day_at w.sessions.now s) own-world ok (seen w sound s within) p (pos s) (omega (arith, ints)) in
+        let rows = rows_same (fed_world w (suc s)) (world_of w) (pos s) (day_at w.sessions.now s) own-world ok (agree-seen (fed_world w (suc s)) (world_of w) (pos s) (day_at w.sessions.now s) (agree w sound s within)) p (pos s) (omega (arith, ints)) in
         ap (map (row (world_of w) p (pos s))) (sym (kept-sids (fed_world w (suc s)) (world_of w) p (pos s) rows)
         ∙ sym (kept-is h own answered))
       where
@@ -135,8 +135,9 @@ module _ (w : World) (sound : AreSound w) (p : Pipeline) (s : ℕ) (within : s <
             let days = fed_days w (suc s) in
             ap (λ (xs : List AssetRow). map (sid_at xs) h.kept) (sym own.assets)
             ∙ own.stands.kept answered
-            ∙ ap (λ (xs : List AssetRow). kept_sids (fed (start_of xs h.labels) days) h.pipeline (last_session days)) own.assets
-            ∙ ap (λ (t : LabelTable). kept_sids (fed (start_of w.assets.now t) days) h.pipeline (last_session days)) own.labels
+            ∙ ap (λ (xs : List AssetRow). kept_sids (fed (start_of xs h.labels h.numbers) days) h.pipeline (last_session days)) own.assets
+            ∙ ap (λ (t : LabelTable). kept_sids (fed (start_of w.assets.now t h.numbers) days) h.pipeline (last_session days)) own.labels
+            ∙ ap (λ (ns : List ColumnNumber). kept_sids (fed (start_of w.assets.now w.labels.now ns) days) h.pipeline (last_session days)) own.numbers
             ∙ ap (λ (q : Pipeline). kept_sids (fed_world w (suc s)) q (last_session days)) own.pipeline
             ∙ ap (kept_sids (fed_world w (suc s)) p) fed-session
 

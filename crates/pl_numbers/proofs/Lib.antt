@@ -5,6 +5,7 @@ pub mod NumbersRead
 pub mod NumberTables
 pub mod NumberCuts
 pub mod NumberSearch
+pub mod NumberNames
 pub mod NumbersSaid
 pub mod NumbersMoved
 pub mod NumberWorlds

@@ -2,7 +2,7 @@
 -- any checked pipeline.
 use Rattle.std.specs.Prelude.{◌≡◌, ℕ, ◌+◌, ◌<◌, ◌≤◌, false, ℤ, pos, List, length, Option, Some, slice_get, get_or}
 use Rattle.pl_spec.specs.Rounding.{IsCell}
-use Rattle.pl_spec.specs.World.{World, label_at}
+use Rattle.pl_spec.specs.World.{World, label_at, known_number}
 use Rattle.pl_spec.specs.Kind as spec
 use Rattle.pl_spec.specs.Kind.{WindowKind, PointKind, LabelKind, CrossKind}
 use Rattle.pl_spec.specs.Periods.{period_start}
@@ -72,6 +72,11 @@ SidCells = OfNodes (λ w p sids k n i s. (own : List ℕ) → n.kind ≡ spec.St
 abbrev pub LabelCells : Type 0
 LabelCells = OfNodes (λ w p sids k n i s. (name : ℕ) → n.kind ≡ spec.Label name
     → (name < length p.names) × IsGiven w p sids k n i s (label_code w.texts (label_at w (name_at p.names name) (sid_in sids i) (pos s))))
+
+-- so is the name of a number, which is as given
+abbrev pub NumberCells : Type 0
+NumberCells = OfNodes (λ w p sids k n i s. (name : ℕ) → n.kind ≡ spec.Number name
+    → (name < length p.names) × IsGiven w p sids k n i s (known_number w (name_at p.names name) (sid_in sids i) (pos s)))
 
 -- a test of the label that a code stands for
 abbrev pub LabelTestCells : Type 0

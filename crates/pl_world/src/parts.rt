@@ -5,7 +5,7 @@ ghost use Rattle.pl_spec.specs.Parts.{sid_at};
 ghost use Rattle.pl_spec.specs.Rounding.{IsCell};
 ghost use Rattle.pl_spec.specs.Value.{name_at};
 ghost use Rattle.pl_spec.specs.Formula.{is_true};
-ghost use Rattle.pl_spec.specs.World.{exists, label_at};
+ghost use Rattle.pl_spec.specs.World.{exists, known_number, label_at};
 ghost use Rattle.pl_terms.specs.Checked.{pipeline_of};
 ghost use Rattle.pl_cross.specs.Listing.{Fits, labels_in};
 ghost use Rattle.pl_cross.specs.Section.{HasParameters, is_section};
@@ -47,6 +47,25 @@ pub fn label_cell(world: &World, checked: &Checked, name: u32, col: usize, sessi
     let day = world.sessions.day(session);
     let text = checked.label_name(name);
     label_value(world.labels, text, world.labels.name_of(text), col, day)
+}
+
+/// The number of the asset on a session, under the name of that number in the pipeline; `MISSING` where there
+/// is none.
+pub fn number_cell(world: &World, checked: &Checked, name: u32, col: usize, session: usize) -> i64
+    requires made { IsMade world.now }
+    requires name { name < length checked.now.names }
+    requires col { col < length world.now.assets.now }
+    requires session { session < length world.now.sessions.now }
+    ensures value { result ≡ known_number (world_of world.now) (name_at (pipeline_of checked.now).names name)
+        (sid_at world.now.assets.now col) (pos session) }
+    ensures cell { IsCell result }
+{
+    let _assets = world.assets.len();
+    let day = world.sessions.day(session);
+    let text = checked.label_name(name);
+    world
+        .numbers
+        .number_under(text, world.numbers.name_of(text), col, day)
 }
 
 /// The input of a cross-section, which is a term.
