@@ -19,13 +19,8 @@ use Rattle.pl_terms.specs.declared.node.Node.{Node}
 use Rattle.pl_terms.specs.Checked.{Parts, pipeline_of, IsChecked}
 use Rattle.pl_terms.specs.Nodes.{node_of, input_of, number_of}
 use Rattle.pl_terms.specs.Uses.{is_used}
-use Rattle.pl_spec.specs.Kind.Kind.{Window}
-use Rattle.pl_terms.specs.Kinds.{kind_of}
-use Rattle.pl_terms.specs.Sorts.{is_windowed}
 use Rattle.pl_terms.proofs.Graphs.{graph-long, used-within}
-use Rattle.pl_world.proofs.Evaluated.{windowed-is}
-use Rattle.pl_explain.specs.Given.{facts_read}
-use Rattle.pl_derivation.specs.Facts.{Fact, number_in, premises, over_inputs, entry_facts, facts_now, number_facts, window_facts}
+use Rattle.pl_derivation.specs.Facts.{Fact, number_in, premises, over_inputs, entry_facts, facts_now, number_facts}
 use Rattle.pl_derivation.specs.Facts.Fact.{Worth}
 use Rattle.pl_derivation.specs.Right.{has_sid}
 use Rattle.pl_derivation.proofs.Fits.{HasSessions, premises_ready}

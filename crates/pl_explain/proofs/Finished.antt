@@ -48,7 +48,7 @@ use Rattle.pl_explain.specs.Judging.{IsTable}
 use Rattle.pl_explain.specs.Walking.{CanStand, CanStandIn, HasWalked, StandsIn, Finishes, IsPut, IsTooLong, IsWalkTo}
 use Rattle.pl_explain.proofs.Behind.{premises-stand, sessions-held}
 use Rattle.pl_explain.proofs.Standing.{stands-more}
-use Rattle.pl_explain.proofs.Walks.{walk-none, walk-both, walk-tells, walk-more, long-front, long-back, long-first, long-last, deeper, deeper-long}
+use Rattle.pl_explain.proofs.Walks.{walk-both, walk-tells, walk-more, long-front, long-back, long-first, long-last, deeper, deeper-long}
 
 -- want of memory says nothing of the lines
 pub no-memory : {T : Type 0} (w : World) (c : Parts) (most : ℕ) (fs : List Fact) (old new : Walk) (r : Result T ExplainError) → IsErrAnd r (λ e. e ≡ Memory) → IsWalkTo w c most fs old new r

@@ -16,7 +16,7 @@ use Rattle.pl_terms.specs.Checked.{Parts, pipeline_of}
 use Rattle.pl_terms.specs.Uses.{is_used}
 use Rattle.pl_derivation.specs.Lines.{Line}
 use Rattle.pl_derivation.specs.Lines.Line.{SeenLine, ValueLine}
-use Rattle.pl_derivation.specs.Facts.{Fact, number_in}
+use Rattle.pl_derivation.specs.Facts.{number_in}
 use Rattle.pl_derivation.specs.Facts.Fact.{Seen, Worth}
 use Rattle.pl_derivation.specs.Right.{session_of, fact_of, has_sid, is_fitting, seen_cells, last_cell}
 use Rattle.pl_world.specs.declared.world.World.{World}

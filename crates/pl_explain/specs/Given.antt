@@ -1,5 +1,5 @@
 -- What is given where facts are told.
-use Rattle.std.specs.Prelude.{◌≡◌, ℕ, ◌+◌, ◌<◌, ◌≤◌, Bool, true, if◌then◌else◌, ℤ, pos, ◌<ℤ◌, List, [], ◌∷◌, ◌++◌, length, flat_map, Option, Some, None, option_map, unwrap_or, is_some, slice_get, All, AllPairs, IfSome}
+use Rattle.std.specs.Prelude.{◌≡◌, ℕ, ◌<◌, ◌≤◌, Bool, true, if◌then◌else◌, ℤ, pos, ◌<ℤ◌, List, [], ◌∷◌, ◌++◌, length, flat_map, Option, Some, None, option_map, unwrap_or, is_some, slice_get, All, AllPairs, IfSome}
 use Rattle.std.specs.List.{list_all}
 use Rattle.pl_spec.specs.Limits.{most_sessions}
 use Rattle.pl_spec.specs.Rounding.{IsCell}

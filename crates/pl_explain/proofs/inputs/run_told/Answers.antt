@@ -1,4 +1,4 @@
-use Rattle.std.proofs.Common.{◌≡◌, ℕ, ◌-◌, ◌+◌, ◌<◌, ◌≤◌, ◌++◌, ◌∷◌, [], ◌∙◌, None, Some, pos, map, ap, sym, refl, subst, arith, rules, w64, FitsSigned}
+use Rattle.std.proofs.Common.{◌≡◌, ℕ, ◌-◌, ◌<◌, ◌≤◌, ◌++◌, ◌∷◌, [], ◌∙◌, None, Some, pos, map, ap, sym, refl, subst, arith, rules, w64, FitsSigned}
 use Rattle.std.specs.List.{range_with_len}
 use Rattle.pl_spec.specs.Rounding.{IsCell}
 use Rattle.pl_terms.specs.Checked.{pipeline_of}

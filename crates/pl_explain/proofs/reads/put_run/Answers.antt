@@ -1,4 +1,4 @@
-use Rattle.std.proofs.Common.{◌≡◌, ℕ, ◌-◌, ◌+◌, ◌≤◌, ◌++◌, ◌∷◌, [], ◌∙◌, pos, map, ap, sym, subst, Some, arith, rules}
+use Rattle.std.proofs.Common.{◌≡◌, ℕ, ◌-◌, ◌≤◌, ◌++◌, ◌∷◌, [], ◌∙◌, pos, map, ap, sym, subst, Some, arith, rules}
 use Rattle.std.specs.List.{range_with_len}
 use Rattle.pl_terms.specs.Nodes.{input_of}
 use Rattle.pl_derivation.specs.Facts.{window_facts}

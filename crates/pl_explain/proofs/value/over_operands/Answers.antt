@@ -1,4 +1,4 @@
-use Rattle.std.proofs.Common.{◌≡◌, Some, refl, arith, rules, ◌∙◌, sym, subst, w64, FitsSigned}
+use Rattle.std.proofs.Common.{arith, rules, ◌∙◌, sym, subst, w64, FitsSigned}
 use Rattle.std.proofs.lemmas.Int.{to_z-of_z}
 use Rattle.pl_spec.specs.Rounding.{IsCell}
 use Rattle.pl_explain.proofs.Worths.{point-lacks, point-told}

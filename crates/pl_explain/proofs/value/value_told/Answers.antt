@@ -1,9 +1,6 @@
-use Rattle.std.proofs.Common.{◌≡◌, true, false, Some, pos, ap, sym, ◌∙◌, rules, w64, FitsSigned}
+use Rattle.std.proofs.Common.{Some, ap, sym, ◌∙◌, rules, w64, FitsSigned}
 use Rattle.std.proofs.lemmas.Int.{to_z-of_z}
 use Rattle.std.proofs.lemmas.Result.{IfOk-weaker}
-use Rattle.pl_spec.specs.World.{exists}
-use Rattle.pl_world.specs.Worlds.{world_of}
-use Rattle.pl_explain.specs.Given.{sid_in}
 use Rattle.pl_explain.proofs.Values.{gone-told, barred-told, mask-lacks, passed-kept, passed-told}
 use Rattle.pl_explain.proofs.value.value_told.Goals as goal
 
