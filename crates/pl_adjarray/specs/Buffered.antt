@@ -37,7 +37,15 @@ column_adjustment x = record { sid = x.col; event = x.event }
 
 abbrev pub column_world : List ℤ → List BarRow → List ColumnAdjustment → World
 column_world days bars adjustments =
-    record { days = days; assets = []; labels = []; texts = []; bars = map column_bar bars; adjustments = map column_adjustment adjustments }
+    record {
+      days = days;
+      assets = [];
+      labels = [];
+      texts = [];
+      bars = map column_bar bars;
+      adjustments = map column_adjustment adjustments;
+      numbers = [];
+    }
 
 abbrev pub world_of : Buffered → World
 world_of b = column_world b.days b.bars b.adjustments

@@ -12,7 +12,7 @@ use Rattle.pl_spec.specs.declared.AssetRow.{AssetRow}
 use Rattle.pl_spec.specs.declared.BarRow.{BarRow}
 use Rattle.pl_spec.specs.declared.RawAdjust.{RawAdjust}
 use Rattle.pl_spec.specs.Order.{adjustments_of, by_day, with_revisions}
-use Rattle.pl_spec.specs.Parts.{ColumnAdjustment, ColumnLabel, sid_at, world_of}
+use Rattle.pl_spec.specs.Parts.{ColumnAdjustment, ColumnLabel, ColumnNumber, sid_at, world_of}
 use Rattle.pl_spec.specs.World.{Adjustment, events_of}
 use Rattle.pl_records.specs.Reading.{Record, Fault}
 use Rattle.pl_lifetimes.specs.Assets.{sid_of}
@@ -92,17 +92,17 @@ revised_is assets first more =
     ∙ sym (filter-sorted_by (λ (x : ColumnAdjustment). x.col) (ties in_front z) (one_key z) (map (in_column assets) (by_day (first ++ more)))))
 
 pub revised_events : (days : List ℤ) (assets : List AssetRow) (labels : List ColumnLabel) (texts : List (List ℕ)) (bars : List BarRow) (splits mergers dividends : List RawAdjust) (xs : List ColumnAdjustment)
-    (revisions : List Revision)
+    (revisions : List Revision) (numbers : List ColumnNumber)
     → AllPairs (λ a b. a.sid < b.sid) assets → adjustments_in assets splits mergers dividends ≡ Ok xs → AreKnown assets revisions → (sid : ℕ)
-    → events_of (world_of days assets labels texts bars (revised_by assets xs revisions)) sid
+    → events_of (world_of days assets labels texts bars (revised_by assets xs revisions) numbers) sid
     ≡ map (λ x. x.event) (filter (λ x. x.sid == sid) (with_revisions (adjustments_of assets splits mergers dividends) (map revised revisions)))
-revised_events days assets labels texts bars splits mergers dividends xs revisions up e known sid =
+revised_events days assets labels texts bars splits mergers dividends xs revisions numbers up e known sid =
     let first = adjustments_of assets splits mergers dividends in
     let more = map revised revisions in
     let made : xs ≡ by_column (map (in_column assets) first) = made_is assets splits mergers dividends xs e in
     let is : revised_by assets xs revisions ≡ by_column (map (in_column assets) (by_day (first ++ more))) = ap (λ l. revised_by assets l revisions) made ∙ revised_is assets first more in
     let all : All (Known assets) (by_day (first ++ more)) = All-by_day (Known assets) (first ++ more) (All-append (Known assets) first more (tables_known assets splits mergers dividends) (revised_known assets revisions known)) in
-    parts_events days assets labels texts bars (revised_by assets xs revisions) up sid
+    parts_events days assets labels texts bars (revised_by assets xs revisions) numbers up sid
     ∙ ap (λ l. map (λ (x : ColumnAdjustment). x.event) (filter (λ x. sid_at assets x.col == sid) l)) is
     ∙ by_sid assets up (by_day (first ++ more)) all sid
 

@@ -14,7 +14,7 @@ use Rattle.pl_spec.specs.declared.AssetRow.{AssetRow}
 use Rattle.pl_spec.specs.declared.BarRow.{BarRow}
 use Rattle.pl_spec.specs.declared.RawAdjust.{RawAdjust}
 use Rattle.pl_spec.specs.Order.{adjustment_in, adjustments_of, by_day, insert_by_day, is_of, of_table}
-use Rattle.pl_spec.specs.Parts.{ColumnAdjustment, ColumnLabel, adjustment_of, sid_at, world_of}
+use Rattle.pl_spec.specs.Parts.{ColumnAdjustment, ColumnLabel, ColumnNumber, adjustment_of, sid_at, world_of}
 use Rattle.pl_spec.specs.World.{Adjustment, events_of}
 use Rattle.pl_spec.proofs.Lists.{filter-map, filter-same}
 use Rattle.pl_records.proofs.Sorts.{sorted-permutes}
@@ -32,13 +32,13 @@ events-adjustment_of : (assets : List AssetRow) (xs : List ColumnAdjustment) →
 events-adjustment_of assets [] = refl
 events-adjustment_of assets (x ∷ xs) = ap (λ l. x.event ∷ l) (events-adjustment_of assets xs)
 
-module _ (days : List ℤ) (assets : List AssetRow) (labels : List ColumnLabel) (texts : List (List ℕ)) (bars : List BarRow) (xs : List ColumnAdjustment) (up : AllPairs (λ a b. a.sid < b.sid) assets) where
-  pub parts_events : (sid : ℕ) → events_of (world_of days assets labels texts bars xs) sid ≡ map (λ x. x.event) (filter (λ x. sid_at assets x.col == sid) xs)
+module _ (days : List ℤ) (assets : List AssetRow) (labels : List ColumnLabel) (texts : List (List ℕ)) (bars : List BarRow) (xs : List ColumnAdjustment) (numbers : List ColumnNumber) (up : AllPairs (λ a b. a.sid < b.sid) assets) where
+  pub parts_events : (sid : ℕ) → events_of (world_of days assets labels texts bars xs numbers) sid ≡ map (λ x. x.event) (filter (λ x. sid_at assets x.col == sid) xs)
   parts_events sid =
       ap (map (λ (x : Adjustment). x.event)) (filter-map (λ (x : Adjustment). x.sid == sid) (adjustment_of assets) xs)
       ∙ events-adjustment_of assets (filter (λ x. sid_at assets x.col == sid) xs)
 
-  pub column_events : All (λ x. x.col < length assets) xs → (col : ℕ) (a : AssetRow) → slice_get assets col ≡ Some a → events_of (world_of days assets labels texts bars xs) a.sid ≡ events_at xs col
+  pub column_events : All (λ x. x.col < length assets) xs → (col : ℕ) (a : AssetRow) → slice_get assets col ≡ Some a → events_of (world_of days assets labels texts bars xs numbers) a.sid ≡ events_at xs col
   column_events all col a e =
       let col_in : col < length assets = slice_get_within assets col a e in
       let sid : a.sid ≡ sid_at assets col = sym (ap (λ o. unwrap_or (option_map (λ (b : AssetRow). b.sid) o) 0) e) in
@@ -147,9 +147,10 @@ module _ (assets : List AssetRow) where
       ∙ events-in_column (filter (λ (x : Adjustment). x.sid == sid) zs)
 
 pub table_events : (days : List ℤ) (assets : List AssetRow) (labels : List ColumnLabel) (texts : List (List ℕ)) (bars : List BarRow) (splits mergers dividends : List RawAdjust) (xs : List ColumnAdjustment)
+    (numbers : List ColumnNumber)
     → AllPairs (λ a b. a.sid < b.sid) assets → adjustments_in assets splits mergers dividends ≡ Ok xs → (sid : ℕ)
-    → events_of (world_of days assets labels texts bars xs) sid ≡ map (λ x. x.event) (filter (λ x. x.sid == sid) (adjustments_of assets splits mergers dividends))
-table_events days assets labels texts bars splits mergers dividends xs up e sid =
-    parts_events days assets labels texts bars xs up sid
+    → events_of (world_of days assets labels texts bars xs numbers) sid ≡ map (λ x. x.event) (filter (λ x. x.sid == sid) (adjustments_of assets splits mergers dividends))
+table_events days assets labels texts bars splits mergers dividends xs numbers up e sid =
+    parts_events days assets labels texts bars xs numbers up sid
     ∙ ap (λ l. map (λ (x : ColumnAdjustment). x.event) (filter (λ x. sid_at assets x.col == sid) l)) (made_is assets splits mergers dividends xs e)
     ∙ by_sid assets up (adjustments_of assets splits mergers dividends) (tables_known assets splits mergers dividends) sid

@@ -7,7 +7,7 @@ ghost use Rattle.pl_spec.specs.declared.AssetRow.{AssetRow};
 ghost use Rattle.pl_spec.specs.declared.BarRow.{BarRow};
 ghost use Rattle.pl_spec.specs.declared.RawAdjust.{RawAdjust};
 ghost use Rattle.pl_spec.specs.Order.{adjustments_of, with_revisions};
-ghost use Rattle.pl_spec.specs.Parts.{ColumnAdjustment, ColumnLabel, world_of};
+ghost use Rattle.pl_spec.specs.Parts.{ColumnAdjustment, ColumnLabel, ColumnNumber, world_of};
 ghost use Rattle.pl_spec.specs.World.{events_of};
 ghost use Rattle.pl_records.specs.Reading as reading;
 ghost use Rattle.pl_records.specs.Reading.{Judges, Record};
@@ -39,9 +39,10 @@ pub fn tables_in_plain_words()
 pub fn columns_are_sids()
     ensures { (days : List ℤ) (assets : List AssetRow) (labels : List ColumnLabel)
         (texts : List (List ℕ)) (bars : List BarRow) (xs : List ColumnAdjustment)
+        (numbers : List ColumnNumber)
         → AllPairs (λ a b. a.sid < b.sid) assets → All (λ x. x.col < length assets) xs
         → (col : ℕ) (a : AssetRow) → slice_get assets col ≡ Some a
-        → events_of (world_of days assets labels texts bars xs) a.sid ≡ events_at xs col }
+        → events_of (world_of days assets labels texts bars xs numbers) a.sid ≡ events_at xs col }
 {}
 
 /// In a world of parts whose adjustments are those of three tables, each sid has the adjustments of
@@ -49,10 +50,10 @@ pub fn columns_are_sids()
 pub fn tables_are_kept()
     ensures { (days : List ℤ) (assets : List AssetRow) (labels : List ColumnLabel)
         (texts : List (List ℕ)) (bars : List BarRow)
-        (splits mergers dividends : List RawAdjust) (xs : List ColumnAdjustment)
+        (splits mergers dividends : List RawAdjust) (xs : List ColumnAdjustment) (numbers : List ColumnNumber)
         → AllPairs (λ a b. a.sid < b.sid) assets
         → adjustments_in assets splits mergers dividends ≡ Ok xs
-        → (sid : ℕ) → events_of (world_of days assets labels texts bars xs) sid
+        → (sid : ℕ) → events_of (world_of days assets labels texts bars xs numbers) sid
         ≡ map (λ x. x.event)
         (filter (λ x. x.sid == sid) (adjustments_of assets splits mergers dividends)) }
 {}
@@ -63,11 +64,11 @@ pub fn revisions_are_kept()
     ensures { (days : List ℤ) (assets : List AssetRow) (labels : List ColumnLabel)
         (texts : List (List ℕ)) (bars : List BarRow)
         (splits mergers dividends : List RawAdjust) (xs : List ColumnAdjustment)
-        (revisions : List Revision)
+        (revisions : List Revision) (numbers : List ColumnNumber)
         → AllPairs (λ a b. a.sid < b.sid) assets
         → adjustments_in assets splits mergers dividends ≡ Ok xs → AreKnown assets revisions
         → (sid : ℕ)
-        → events_of (world_of days assets labels texts bars (revised_by assets xs revisions)) sid
+        → events_of (world_of days assets labels texts bars (revised_by assets xs revisions) numbers) sid
         ≡ map (λ x. x.event) (filter (λ x. x.sid == sid)
         (with_revisions (adjustments_of assets splits mergers dividends) (map revised revisions))) }
 {}

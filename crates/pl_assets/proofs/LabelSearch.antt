@@ -53,7 +53,7 @@ rows_coded t numbered =
 -- ---- a world of labels alone
 
 abbrev world : List ColumnLabel → ℤ → World
-world rows day = record { days = day ∷ []; assets = []; labels = map by_column rows; texts = []; bars = []; adjustments = [] }
+world rows day = record { days = day ∷ []; assets = []; labels = map by_column rows; texts = []; bars = []; adjustments = []; numbers = [] }
 
 blank_row : ColumnLabel
 blank_row = record { name = []; col = 0; start = pos 0; text = [] }

@@ -61,7 +61,7 @@ on_day assets rows up inside name col day h =
     ∙ sym (label-mapped by_column (λ r. refl) (λ r. refl) (is_label_of name col day) rows)
 
 pub labels_those : LabelsAreThose
-labels_those days assets rows texts bars adjustments up inside name col d h = here (day_of (world_of days assets rows texts bars adjustments) d)
+labels_those days assets rows texts bars adjustments numbers up inside name col d h = here (day_of (world_of days assets rows texts bars adjustments numbers) d)
   where
     here : (o : Option ℤ) → option_and_then (λ day. option_and_then (λ r. nonempty r.text) (last_started (filter (is_label_of name (sid_at assets col) day) (map (label_of assets) rows)))) o ≡ option_and_then (label_on rows name col) o
     here None = refl

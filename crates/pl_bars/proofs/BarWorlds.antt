@@ -38,4 +38,4 @@ cells assets up (b ∷ bars) inside col which session h =
 
 pub cells_raw : CellsAreRaw
 unfolding cell_at
-cells_raw days assets labels texts bars adjustments up inside col column session h = cells assets up bars inside col column session h
+cells_raw days assets labels texts bars adjustments numbers up inside col column session h = cells assets up bars inside col column session h

@@ -70,7 +70,7 @@ pub(crate) fn likely_point(bars: &[BarRow], starts: &Starts, col: usize, session
     ensures within { result ≤ length bars.now }
     ensures point { BarPoint col session bars.now result }
 {
-    let place = starts.likely_place(bars, col, session);
+    let place = starts.likely_place(col, session);
     if is_point(bars, col, session, place) {
         place
     } else {

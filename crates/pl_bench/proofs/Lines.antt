@@ -42,8 +42,8 @@ numbers-of number w p plan chunk r most is means planned report held =
 
 -- a world that is lent
 pub lent-world : (v : lent.World) (o : OwnedWorld) → v.sessions.now ≡ o.sessions → v.assets.now ≡ o.assets → v.labels.now ≡ o.labels → v.bars.now ≡ o.bars → v.adjustments.now ≡ o.adjustments
-    → world_of v ≡ owned_world o
-lent-world v o s a l b x = rw (s, a, l, b, x) refl
+    → v.numbers.now ≡ o.numbers → world_of v ≡ owned_world o
+lent-world v o s a l b x n = rw (s, a, l, b, x, n) refl
 
 -- the steps of a run over the stated world
 pub steps-of : (number : ℕ) (w : World) (p : Pipeline) (plan : Planned) (chunk before now : ℕ) → w ≡ stated_world number → p ≡ bench_pipeline → IsBenchPlan plan

@@ -1,5 +1,6 @@
 //! The run, and the line of its numbers.
 ghost use Rattle.std.specs.Prelude.{◌≡◌, ◌≤◌, ◌+◌, ◌⊎◌, ℕ, IfOk, OnOk, OnErr, IsErrOf};
+ghost use Rattle.pl_spec.specs.Limits.{most_chunk};
 ghost use Rattle.pl_outside.specs.Taken.{Writes};
 ghost use Rattle.pl_terms.specs.Checked.{pipeline_of};
 ghost use Rattle.pl_world.specs.Worlds.{owned_world, IsOwned};
@@ -30,7 +31,7 @@ pub fn bench<O: Sink, L: Ledger>(
     steps: &mut Steps<L>,
 ) -> Result<(), RunError>
     requires some { 1 ≤ chunk }
-    requires most { chunk ≤ 4096 }
+    requires most { chunk ≤ most_chunk }
     // Where memory ran out nothing was written, and no step is counted.
     ensures writes { IsErrOf result RunError.Memory
         ⊎ Writes O.taken O.faults O.sound O.room out.old out.new (bench_line number) result }
@@ -52,7 +53,7 @@ fn run<L: Ledger>(
     steps: &mut Steps<L>,
 ) -> Result<Numbers, Memory>
     requires some { 1 ≤ chunk }
-    requires most { chunk ≤ 4096 }
+    requires most { chunk ≤ most_chunk }
     ensures numbers { IfOk result (AreNumbers number) }
     ensures cost { OnOk result (TakesSteps number chunk (λ n. steps.new ≡ steps.old + n)) }
     ensures memory { OnErr result (steps.new ≡ steps.old) }
@@ -71,7 +72,7 @@ fn run_over<L: Ledger>(
     steps: &mut Steps<L>,
 ) -> Result<Numbers, Memory>
     requires some { 1 ≤ chunk }
-    requires most { chunk ≤ 4096 }
+    requires most { chunk ≤ most_chunk }
     requires checked { pipeline_of checked.now ≡ bench_pipeline }
     requires sessions { stated.now.sessions ≡ stated_days }
     requires made { IsOwned stated.now }

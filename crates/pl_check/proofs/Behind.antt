@@ -55,19 +55,10 @@ module _ (v : ℕ) (ds : List Definition) (p : Place) (s : Terms) where
   unfolding worth
   member-is x m a t h = ap (λ o. o >>= λ r. member_named_of v p r.value m r.terms) h
 
-  list-is : (x : Box Expr Global) (m : List ℕ) (ps : ArgList) (a : Value) (t : Terms) → worth v ds (plain x.value) s ≡ Ok (found a t)
+  pub list-is : (x : Box Expr Global) (m : List ℕ) (ps : ArgList) (a : Value) (t : Terms) → worth v ds (plain x.value) s ≡ Ok (found a t)
       → worth v ds (tree_of (node.Member x m (Some ps)) p) s ≡ (args_worth v ds [] (args_tree ps) t >>= λ q. method_named_of v p a m q.value q.terms)
   unfolding worth
   list-is x m ps a t h = ap (λ o. o >>= λ r. args_worth v ds [] (args_tree ps) r.terms >>= λ q. method_named_of v p r.value m q.value q.terms) h
-
-  pub list-fails : (e : CheckError) (x : Box Expr Global) (m : List ℕ) (ps : ArgList) (a : Value) (t : Terms) → worth v ds (plain x.value) s ≡ Ok (found a t) → Fails e (args_worth v ds [] (args_tree ps) t)
-      → Fails e (worth v ds (tree_of (node.Member x m (Some ps)) p) s)
-  list-fails e x m ps a t hx h =
-      subst (λ (o : Result (Found Value) Broken). Fails e o) (sym (list-is x m ps a t hx)) (fails-then e (args_worth v ds [] (args_tree ps) t) (λ q. method_named_of v p a m q.value q.terms) h)
-
-  pub method-is : (x : Box Expr Global) (m : List ℕ) (ps : ArgList) (a : Value) (ws : List Written) (t u : Terms) → worth v ds (plain x.value) s ≡ Ok (found a t) → args_worth v ds [] (args_tree ps) t ≡ Ok (found ws u)
-      → worth v ds (tree_of (node.Member x m (Some ps)) p) s ≡ method_named_of v p a m ws u
-  method-is x m ps a ws t u hx hs = list-is x m ps a t hx ∙ ap (λ o. o >>= λ q. method_named_of v p a m q.value q.terms) hs
 
   pub call-fails : (e : CheckError) (f : List ℕ) (ps : Args) → Fails e (args_worth v ds [] ps s) → Fails e (worth v ds (call p f ps) s)
   unfolding worth

@@ -2,7 +2,7 @@
 use Rattle.std.proofs.Common.{◌≡◌, ℕ, true, leb-true}
 use Rattle.std.proofs.lemmas.Bool.{and_parts}
 use Rattle.pl_spec.specs.Kind.{Kind}
-use Rattle.pl_spec.specs.Kind.Kind.{Constant, Label, StaticSids, Window, Point, LabelTest, Cross, Downsample}
+use Rattle.pl_spec.specs.Kind.Kind.{Constant, Label, Number, StaticSids, Window, Point, LabelTest, Cross, Downsample}
 use Rattle.pl_spec.specs.Kind.CrossKind.{Rank, Demean, ZScore, Quantiles, Top, Bottom, PercentileBetween, PeerCount}
 use Rattle.pl_terms.specs.Sorts.{has_parameters}
 use Rattle.pl_cross.specs.Section.{HasParameters}
@@ -19,6 +19,7 @@ allowed-right (Cross (Bottom n)) w names e = tt
 allowed-right (Cross PeerCount) w names e = tt
 allowed-right (Constant cell) w names e = tt
 allowed-right (Label n) w names e = tt
+allowed-right (Number n) w names e = tt
 allowed-right (StaticSids sids) w names e = tt
 allowed-right (Window k) w names e = tt
 allowed-right (Point k) w names e = tt

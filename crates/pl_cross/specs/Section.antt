@@ -44,7 +44,7 @@ abbrev pub HasParameters : Kind → Type 0
 HasParameters (Cross k) = IsRight k
 HasParameters k = Unit {0}
 
--- the nodes of a checked pipeline have them, whatever their window and the number of label names
+-- the nodes of a checked pipeline have them, whatever their window and how many names it has
 abbrev pub AllowedParametersAreRight : Type 0
 AllowedParametersAreRight = (k : Kind) (w names : ℕ) → has_parameters k w names ≡ true → HasParameters k
 

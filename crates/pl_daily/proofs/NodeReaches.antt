@@ -7,7 +7,7 @@ use Rattle.std.proofs.lemmas.Int.{ints}
 use Rattle.std.proofs.lemmas.List.Folds.{list_any-append}
 use Rattle.std.proofs.lemmas.Option.{slice_get_within}
 use Rattle.pl_spec.specs.Kind.{Kind}
-use Rattle.pl_spec.specs.Kind.Kind.{Constant, Label, StaticSids, Window, Point, LabelTest, Cross, Downsample}
+use Rattle.pl_spec.specs.Kind.Kind.{Constant, Label, Number, StaticSids, Window, Point, LabelTest, Cross, Downsample}
 use Rattle.pl_spec.specs.declared.Frequency.{Frequency}
 use Rattle.pl_spec.specs.Periods.{period_start}
 use Rattle.pl_spec.specs.Window.{before, downward}
@@ -223,6 +223,7 @@ pub reads-is : (days : List ℤ) (k : Kind) (start d : ℕ) → ((f : Frequency)
 reads-is days (Downsample f) start d h = h f refl
 reads-is days (Constant x) start d h = refl
 reads-is days (Label x) start d h = refl
+reads-is days (Number x) start d h = refl
 reads-is days (StaticSids x) start d h = refl
 reads-is days (Window x) start d h = refl
 reads-is days (Point x) start d h = refl

@@ -5,7 +5,7 @@ use Rattle.pl_spec.specs.declared.AssetRow.{AssetRow}
 use Rattle.pl_spec.specs.declared.Column.{Column}
 use Rattle.pl_spec.specs.declared.Column.TheVariants.{OpenPrice, High, Low, Close, Volume}
 use Rattle.pl_spec.specs.Lows.{least_reach}
-use Rattle.pl_spec.specs.Parts.{sid_at}
+use Rattle.pl_spec.specs.Parts.{ColumnNumber, sid_at}
 use Rattle.pl_spec.specs.Table.{Pipeline, kept_sids}
 use Rattle.pl_spec.specs.World.{World}
 use Rattle.pl_assets.specs.Labels.{LabelTable}
@@ -24,12 +24,13 @@ use Rattle.pl_daily.specs.Reaches.{AreFirst}
 use Rattle.pl_daily.specs.Terms.{start_of, HoldStarts}
 use Rattle.pl_daily.specs.declared.starts.StartCells.{StartCells}
 
--- a pipeline, assets and labels, how many days were fed and the last of them, whether it had values, the
+-- a pipeline, assets, labels and numbers, how many days were fed and the last of them, whether it had values, the
 -- columns of the assets that it keeps, and what is held of bars and terms
 pub record Held : Type 0 where
   pub pipeline : Pipeline
   pub assets : List AssetRow
   pub labels : LabelTable
+  pub numbers : List ColumnNumber
   pub fed : ℕ
   pub last : ℤ
   pub answered : Bool
@@ -39,9 +40,9 @@ pub record Held : Type 0 where
   pub starts : List StartCells
   pub since : List (Option ℕ)
 
--- the assets and labels that stand from the start
+-- the assets, labels and numbers that stand from the start
 abbrev pub start_in : Held → Start
-start_in h = start_of h.assets h.labels
+start_in h = start_of h.assets h.labels h.numbers
 
 -- the world of the days that were fed
 abbrev pub world_in : Held → List FedDay → World

@@ -4,6 +4,7 @@ use Rattle.pl_spec.specs.declared.AssetRow.{AssetRow}
 use Rattle.pl_spec.specs.declared.Column.{Column}
 use Rattle.pl_spec.specs.declared.Frequency.{Frequency}
 use Rattle.pl_spec.specs.Kind.Kind.{Downsample}
+use Rattle.pl_spec.specs.Parts.{ColumnNumber}
 use Rattle.pl_spec.specs.Periods.{period_start, same_period}
 use Rattle.pl_spec.specs.Rounding.{IsCell}
 use Rattle.pl_spec.specs.Table.{Pipeline}
@@ -26,11 +27,11 @@ use Rattle.pl_daily.specs.declared.terms.Lent.{Lent}
 -- ---- what is lent
 
 -- what stands from the start, of the lent parts
-abbrev pub start_of : List AssetRow → LabelTable → Start
-start_of assets table = record { assets = assets; labels = table.rows; texts = table.texts }
+abbrev pub start_of : List AssetRow → LabelTable → List ColumnNumber → Start
+start_of assets table numbers = record { assets = assets; labels = table.rows; texts = table.texts; numbers = numbers }
 
 abbrev pub start_at : Lent → Start
-start_at l = start_of l.assets.now l.labels.now
+start_at l = start_of l.assets.now l.labels.now l.numbers.now.rows
 
 abbrev pub pipeline_at : Lent → Pipeline
 pipeline_at l = pipeline_of l.checked.now

@@ -16,6 +16,7 @@ held_of d =
       pipeline = pipeline_of d.checked.now;
       assets = d.assets.now;
       labels = d.labels.now;
+      numbers = d.numbers.now.rows;
       fed = d.fed;
       last = d.last;
       answered = d.answered;

@@ -1,6 +1,6 @@
 //! How many sessions the windows of a pipeline read of a bar column and of a term.
 ghost use Rattle.std.specs.Prelude.{◌≡◌, ◌<◌, ◌≤◌, Some, filter_map, length, map, slice_get};
-ghost use Rattle.pl_spec.specs.Limits.{most_window};
+ghost use Rattle.pl_spec.specs.Limits.{most_terms, most_window};
 ghost use Rattle.pl_spec.specs.World.{column_number};
 ghost use Rattle.pl_spec.specs.Graph.{contains, input_column, input_number};
 ghost use Rattle.pl_terms.specs.Checked.{IsChecked, pipeline_of};
@@ -18,7 +18,7 @@ use pl_values::{Family, family_of};
 /// How many terms there are.
 pub(crate) fn count(checked: &Checked) -> usize
     ensures count { result ≡ length (pipeline_of checked.now).graph }
-    ensures few { result ≤ 256 }
+    ensures few { result ≤ most_terms }
     ensures checked { IsChecked (pipeline_of checked.now) }
 {
     checked.graph().len()
@@ -28,7 +28,7 @@ pub(crate) fn count(checked: &Checked) -> usize
 pub(crate) fn node_at(checked: &Checked, k: usize) -> &Node
     requires { k < length (pipeline_of checked.now).graph }
     ensures node { slice_get (pipeline_of checked.now).graph k ≡ Some (node_of result.now) }
-    ensures few { length (pipeline_of checked.now).graph ≤ 256 }
+    ensures few { length (pipeline_of checked.now).graph ≤ most_terms }
     ensures checked { IsChecked (pipeline_of checked.now) }
 {
     let graph = checked.graph();

@@ -27,6 +27,7 @@ use crate::terms::Lent;
 use pl_assets::{Assets, Labels};
 use pl_day_rows::TermCells;
 use pl_fixed::{Column, Memory, Steps};
+use pl_numbers::Numbers;
 use pl_rings::{BarRings, Day, begin_rings};
 use pl_terms::{Checked, TermId};
 use std::alloc::Global;
@@ -47,6 +48,7 @@ pub struct Daily<'a> {
     checked: &'a Checked,
     assets: &'a Assets,
     labels: &'a Labels,
+    numbers: &'a Numbers,
     fed: usize,
     last: i32,
     answered: bool,
@@ -65,6 +67,7 @@ impl<'a> Drop for Daily<'a> {
             checked: _checked,
             assets: _assets,
             labels: _labels,
+            numbers: _numbers,
             fed: _fed,
             last: _last,
             answered: _answered,
@@ -90,18 +93,21 @@ impl<'a> Model for Daily<'a> {
 }
 
 impl<'a> Daily<'a> {
-    /// An evaluation of the pipeline over these assets and labels, which stay lent to it; no day was taken
-    /// in. The only error is want of memory.
+    /// An evaluation of the pipeline over these assets, labels and numbers, which stay lent to it; no day was
+    /// taken in. The only error is want of memory.
     pub fn new(
         alloc: Global,
         checked: &'a Checked,
         assets: &'a Assets,
         labels: &'a Labels,
+        numbers: &'a Numbers,
     ) -> Result<Daily<'a>, Memory>
         requires labels { All (λ r. r.col < length assets.now) labels.now.rows }
+        requires numbers { All (λ r. r.col < length assets.now) numbers.now.rows }
         ensures pipeline { IfOk result (λ d. d.pipeline ≡ pipeline_of checked.entry.now) }
         ensures assets { IfOk result (λ d. d.assets ≡ assets.entry.now) }
         ensures labels { IfOk result (λ d. d.labels ≡ labels.entry.now) }
+        ensures numbers { IfOk result (λ d. d.numbers ≡ numbers.entry.now.rows) }
         ensures none { IfOk result (λ d. d.fed ≡ 0) }
         ensures stands { IfOk result (λ d. Stands d []) }
     {
@@ -111,6 +117,7 @@ impl<'a> Daily<'a> {
             checked,
             assets,
             labels,
+            numbers,
             fed: 0,
             last: 0,
             answered: false,
@@ -164,6 +171,7 @@ impl<'a> Daily<'a> {
             checked: self.checked,
             assets: self.assets,
             labels: self.labels,
+            numbers: self.numbers,
             bars: &self.bars,
             day: day.day,
             last,
@@ -234,6 +242,7 @@ impl<'a> Daily<'a> {
         ensures pipeline { self.new.pipeline ≡ self.old.pipeline }
         ensures assets { self.new.assets ≡ self.old.assets }
         ensures labels { self.new.labels ≡ self.old.labels }
+        ensures numbers { self.new.numbers ≡ self.old.numbers }
     {
         if !self.is_later(day) {
             return Err(NotLater { last: self.last });

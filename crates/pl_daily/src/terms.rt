@@ -11,17 +11,19 @@ use crate::starts::{StartCells, take_start};
 use pl_assets::{Assets, Labels};
 use pl_cross::Cross;
 use pl_day_rows::{TermCells, Turn, fill_row, put_term};
+use pl_numbers::Numbers;
 use pl_rings::BarRings;
 use pl_terms::{Checked, TermId};
 
-/// What the terms of a day are computed from: the pipeline, the assets and their labels, the rings of bars
-/// with the day, the day itself, the one before it, if there is one, and how many there are before it. Days
+/// What the terms of a day are computed from: the pipeline, the assets, their labels and numbers, the rings
+/// of bars with the day, the day itself, the one before it, if there is one, and how many there are before it. Days
 /// are counted from 1970-01-01.
 #[derive(Clone, Copy)]
 pub struct Lent<'t> {
     pub checked: &'t Checked,
     pub assets: &'t Assets,
     pub labels: &'t Labels,
+    pub numbers: &'t Numbers,
     pub bars: &'t BarRings,
     pub day: i32,
     pub last: Option<i32>,
@@ -69,6 +71,7 @@ fn term_row(
         checked: lent.checked,
         assets: lent.assets,
         labels: lent.labels,
+        numbers: lent.numbers,
         bars: lent.bars,
         terms,
         term,

@@ -4,9 +4,9 @@ use Rattle.std.proofs.lemmas.List.{length-map, get_or_default}
 use Rattle.circular_buffer.specs.Buffer.{buffer, keep_last}
 use Rattle.pl_spec.specs.declared.AssetRow.{AssetRow}
 use Rattle.pl_spec.specs.Rounding.{IsCell, MISSING}
-use Rattle.pl_spec.specs.World.{World, label_at}
+use Rattle.pl_spec.specs.World.{World, label_at, known_number}
 use Rattle.pl_spec.specs.Kind.{CrossKind}
-use Rattle.pl_spec.specs.Kind.Kind.{Constant, Label, Cross, Downsample}
+use Rattle.pl_spec.specs.Kind.Kind.{Constant, Label, Number, Cross, Downsample}
 use Rattle.pl_spec.specs.declared.Frequency.{Frequency}
 use Rattle.pl_spec.specs.Formula.{is_true}
 use Rattle.pl_spec.specs.Cross.{at}
@@ -27,12 +27,13 @@ use Rattle.std.proofs.lemmas.List.Elements.{All-drop}
 use Rattle.pl_cross.specs.Arrays.{sid_in, section_at}
 use Rattle.pl_cross.specs.Section.{is_section, HasParameters}
 use Rattle.pl_assets.specs.Labels.{label_on}
+use Rattle.pl_numbers.specs.Numbers.{number_on}
 use Rattle.pl_pointwise.specs.Operands.{IsOperation, AreOperands, operation}
 use Rattle.pl_values.specs.Arrays.{cell_of, empty_cell, is_kept, chosen, kept_or, Fills, IsKeep}
 use Rattle.pl_values.specs.Families.{is_sids, is_point, is_label_test, sid_flag, code_flag, label_code, IsCode, TakesWindows}
 use Rattle.pl_values.specs.Laws.{IsNode, IsGiven}
 use Rattle.pl_values.specs.Inputs.{IsInputRow, IsGroupRow, AreRows, AreSectionRows}
-use Rattle.pl_values.proofs.Given.{constant-cell, sid-cell, label-cell, label-test-cell, label-input, point-cell, point-operands, section-cell, section-input, downsampled-cell, downsampled-input}
+use Rattle.pl_values.proofs.Given.{constant-cell, sid-cell, label-cell, number-cell, label-test-cell, label-input, point-cell, point-operands, section-cell, section-input, downsampled-cell, downsampled-input}
 use Rattle.pl_values.proofs.Operations.{fills-all}
 use Rattle.pl_values.proofs.KindFamilies.{sids_kind, point_kind, label_test_kind, section_kind, window_kind, downsampled_kind}
 use Rattle.pl_rings.proofs.Moves.{ends}
@@ -129,6 +130,17 @@ module _ (t : Turn) (v : Moment) (is : IsTurn t v) where
 
   pub label_known : (number : ℕ) → n.kind ≡ Label number → number < length p.names
   label_known number e = (label-cell w p sids t.term.0 n 0 s node_is number e).0
+
+  -- a number is that of the column
+  pub number_given : (number i : ℕ) (name : List ℕ) → n.kind ≡ Number number → slice_get p.names number ≡ Some name → i < assets_at t
+      → IsGiven w p sids t.term.0 n i s (number_on t.numbers.now.rows name i t.day)
+  number_given number i name e named h =
+      subst (IsGiven w p sids t.term.0 n i s)
+      (ap (λ m. known_number w m (sid_in sids i) (pos s)) (ap (λ o. unwrap_or o []) named) ∙ is.here.known name i h)
+      (number-cell w p sids t.term.0 n i s node_is number e).1
+
+  pub number_known : (number : ℕ) → n.kind ≡ Number number → number < length p.names
+  number_known number e = (number-cell w p sids t.term.0 n 0 s node_is number e).0
 
   -- a downsampled term has the cells that its input had on the first session of the period
   start_held : is_downsampled n.kind ≡ true → (f : Frequency) × (n.kind ≡ Downsample f) × (u : ℕ) × (slice_get n.inputs 0 ≡ Some (TermInput u)) × HoldsStart t v f u

@@ -7,12 +7,16 @@ use Rattle.std.proofs.lemmas.Int.{ints}
 use Rattle.std.proofs.lemmas.List.{get_or-map, length-map}
 use Rattle.std.proofs.lemmas.Option.{slice_get-get_or}
 use Rattle.pl_spec.specs.declared.AssetRow.{AssetRow}
+use Rattle.pl_spec.specs.Numbers.{number_at}
 use Rattle.pl_spec.specs.Parts.{sid_at}
 use Rattle.pl_spec.specs.Window.{before}
-use Rattle.pl_spec.specs.World.{World, day_of, exists, label_at, living_sids, lives_on}
+use Rattle.pl_spec.specs.Rounding.{MISSING}
+use Rattle.pl_spec.specs.World.{World, day_of, exists, label_at, known_number, living_sids, lives_on}
 use Rattle.pl_spec.proofs.Columns.{no_asset}
 use Rattle.pl_assets.specs.Labels.{LabelTable, AreLabels, label_on}
 use Rattle.pl_assets.proofs.LabelWorlds.{labels_those}
+use Rattle.pl_numbers.specs.Numbers.{number_on}
+use Rattle.pl_numbers.proofs.NumberWorlds.{numbers_those}
 use Rattle.pl_cross.specs.Arrays.{sid_in, HasTexts}
 use Rattle.pl_values.specs.Arrays.{HasAll}
 use Rattle.pl_values.proofs.Texts.{texts-coded}
@@ -81,7 +85,7 @@ module _ (g : Start) (table : LabelTable) (next : FedDay) (days : List FedDay) (
 
   those : (name : List ℕ) (i : ℕ) → i < length g.assets → label_at w name (sid_at g.assets i) (pos (length days)) ≡ option_and_then (label_on g.labels name i) (day_of w (pos (length days)))
   unfolding fed
-  those name i h = labels_those (days_of (next ∷ days)) g.assets g.labels g.texts (bars_of (next ∷ days)) (adjustments_of (next ∷ days)) start.sids_ascend start.labels_in name i (pos (length days)) h
+  those name i h = labels_those (days_of (next ∷ days)) g.assets g.labels g.texts (bars_of (next ∷ days)) (adjustments_of (next ∷ days)) g.numbers start.sids_ascend start.labels_in name i (pos (length days)) h
 
   labels_here : (name : List ℕ) (i : ℕ) → i < length g.assets → label_at w name (sid_in (sids_of g.assets) i) (pos (length days)) ≡ label_on g.labels name i next.day
   labels_here name i h =
@@ -92,11 +96,18 @@ module _ (g : Start) (table : LabelTable) (next : FedDay) (days : List FedDay) (
   coded_here : AreLabels table → g.labels ≡ table.rows → g.texts ≡ table.texts → HasTexts w
   unfolding fed
   coded_here are_labels rows texts =
-      rw (rows, texts) (texts-coded (days_of (next ∷ days)) g.assets table (bars_of (next ∷ days)) (adjustments_of (next ∷ days)) are_labels)
+      rw (rows, texts) (texts-coded (days_of (next ∷ days)) g.assets table (bars_of (next ∷ days)) (adjustments_of (next ∷ days)) g.numbers are_labels)
 
   texts_here : w.texts ≡ g.texts
   unfolding fed
   texts_here = refl
+
+  numbers_here : (name : List ℕ) (i : ℕ) → i < length g.assets → known_number w name (sid_in (sids_of g.assets) i) (pos (length days)) ≡ number_on g.numbers name i next.day
+  unfolding fed
+  numbers_here name i h =
+      ap (λ a. known_number w name a (pos (length days))) (sid_is i h ∙ sym (sid_place i h))
+      ∙ ap (λ o. unwrap_or (option_map (number_at w.numbers name (sid_at g.assets i)) o) MISSING) last_is
+      ∙ numbers_those g.assets g.numbers start.sids_ascend start.numbers_in name i next.day h
 
 pub fed_days_are_sessions : FedDaysAreSessions
 fed_days_are_sessions g table next days start labels rows texts are = record {
@@ -106,4 +117,5 @@ fed_days_are_sessions g table next days start labels rows texts are = record {
   texts = texts_here g table next days start are ∙ texts;
   lives = lives_here g table next days start are;
   labels = λ name i h. labels_here g table next days start are name i h ∙ ap (λ l. label_on l name i next.day) rows;
+  known = numbers_here g table next days start are;
 }

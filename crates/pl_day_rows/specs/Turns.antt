@@ -9,9 +9,11 @@ use Rattle.pl_spec.specs.Term.Input.{BarColumn, TermInput}
 use Rattle.pl_spec.specs.declared.Column.{Column}
 use Rattle.pl_spec.specs.Table.{Pipeline, value_of, in_array}
 use Rattle.pl_spec.specs.Window.{before, downward, bar_window}
-use Rattle.pl_spec.specs.World.{World, exists, label_at}
+use Rattle.pl_spec.specs.Parts.{ColumnNumber}
+use Rattle.pl_spec.specs.World.{World, exists, label_at, known_number}
 use Rattle.pl_spec.specs.declared.AssetRow.{AssetRow}
 use Rattle.pl_assets.specs.Labels.{LabelTable, AreLabels, label_on}
+use Rattle.pl_numbers.specs.Numbers.{number_on}
 use Rattle.pl_cross.specs.Arrays.{sid_in, HasTexts}
 use Rattle.pl_terms.specs.Checked.{IsChecked, pipeline_of}
 use Rattle.pl_terms.specs.Nodes.{node_of}
@@ -88,22 +90,23 @@ pub record HoldsStart (t : Turn) (v : Moment) (f : Frequency) (u : ℕ) : Type 0
   pub is : pos first ≡ period_start f v.world.days (pos v.session)
   pub fills : Fills (λ i. cell_of v.world (pipeline_at t) (sids_at t) u i first) (assets_at t) t.start.now
 
--- The day is the session in the world, whose assets and labels are the given ones; each label text has a
--- code.
-pub record IsDayIn (assets : List AssetRow) (table : LabelTable) (day : ℤ) (v : Moment) : Type 0 where
+-- The day is the session in the world, whose assets, labels and numbers are the given ones; each label text
+-- has a code.
+pub record IsDayIn (assets : List AssetRow) (table : LabelTable) (numbers : List ColumnNumber) (day : ℤ) (v : Moment) : Type 0 where
   pub up : AllPairs (λ a b. a < b) (sids_of assets)
   pub all : HasAll v.world (sids_of assets) v.session
   pub coded : HasTexts v.world
   pub texts : v.world.texts ≡ table.texts
   pub lives : (i : ℕ) → i < length assets → exists v.world (sid_in (sids_of assets) i) (pos v.session) ≡ lives_at assets day i
   pub labels : (name : List ℕ) (i : ℕ) → i < length assets → label_at v.world name (sid_in (sids_of assets) i) (pos v.session) ≡ label_on table.rows name i day
+  pub known : (name : List ℕ) (i : ℕ) → i < length assets → known_number v.world name (sid_in (sids_of assets) i) (pos v.session) ≡ number_on numbers name i day
 
 -- the day is the session, and what the node mentions is held for it
 pub record IsTurn (t : Turn) (v : Moment) : Type 0 where
   pub checked : IsChecked (pipeline_at t)
   pub node : slice_get (pipeline_at t).graph t.term.0 ≡ Some (node_at t)
   pub few : assets_at t ≤ most_assets
-  pub here : IsDayIn t.assets.now t.labels.now t.day v
+  pub here : IsDayIn t.assets.now t.labels.now t.numbers.now.rows t.day v
   pub rows : (place u : ℕ) → slice_get (node_at t).inputs place ≡ Some (TermInput u) → HoldsRow t v u
   pub mask : (u : ℕ) → (node_at t).mask ≡ Some u → HoldsRow t v u
   pub group : (u : ℕ) → (node_at t).group ≡ Some u → HoldsRow t v u
@@ -122,4 +125,4 @@ IsAlways t row = (v : Moment) → IsTurn t v → IsOut t v row
 -- the last of days that were fed is a session of their world
 abbrev pub FedDaysAreSessions : Type 0
 FedDaysAreSessions = (g : Start) (table : LabelTable) (next : FedDay) (days : List FedDay) → IsStart g → AreLabels table → g.labels ≡ table.rows → g.texts ≡ table.texts
-    → AreFed g (next ∷ days) → IsDayIn g.assets table next.day (record { world = fed g (next ∷ days); session = length days })
+    → AreFed g (next ∷ days) → IsDayIn g.assets table g.numbers next.day (record { world = fed g (next ∷ days); session = length days })

@@ -1,6 +1,6 @@
 //! The row of a term by the family of its kind.
 ghost use Rattle.std.specs.Prelude.{◌≡◌, ◌≤◌, ◌<◌, true, length, slice_get, option_map, IfSome};
-ghost use Rattle.pl_spec.specs.Kind.Kind.{Constant, Label};
+ghost use Rattle.pl_spec.specs.Kind.Kind.{Constant, Label, Number};
 ghost use Rattle.pl_terms.specs.Nodes.{number_of};
 ghost use Rattle.pl_terms.specs.Sorts.{is_downsampled, is_windowed};
 ghost use Rattle.pl_cross.specs.Section.{is_section};
@@ -11,7 +11,7 @@ ghost use Rattle.pl_day_rows.specs.Rows.{input_row};
 ghost use Rattle.pl_day_rows.specs.Turns.{IsAlways, IsKept, IsTurn, Moment, assets_at, node_at};
 ghost use Rattle.pl_day_rows.specs.Turns.{number_row, pipeline_at};
 
-use crate::leaves::{label_row, sids_row};
+use crate::leaves::{known_row, label_row, sids_row};
 use crate::turn::Turn;
 use crate::windows::window_row;
 use pl_cross::Cross;
@@ -75,6 +75,19 @@ pub(crate) fn label(turn: &Turn<'_>, name: u32, none: i64, keep: &[i64], out: &m
     ensures { IsAlways turn.now out.new }
 {
     label_row(turn.labels, turn.checked.label_name(name), turn.day, out);
+    keep_values(keep, none, out);
+}
+
+// Numbers; `name` is the number of their name.
+pub(crate) fn number(turn: &Turn<'_>, name: u32, none: i64, keep: &[i64], out: &mut [i64])
+    requires turn { (v : Moment) × IsTurn turn.now v }
+    requires kind { (node_at turn.now).kind ≡ Number name }
+    requires none { none ≡ empty_cell (pipeline_at turn.now) turn.now.term.0 }
+    requires keep { IsKept turn.now keep.now }
+    requires long { length out.old ≡ assets_at turn.now }
+    ensures { IsAlways turn.now out.new }
+{
+    known_row(turn.numbers, turn.checked.label_name(name), turn.day, out);
     keep_values(keep, none, out);
 }
 

@@ -4,7 +4,7 @@ ghost use Rattle.pl_values.specs.Arrays.{empty_cell};
 ghost use Rattle.pl_day_rows.specs.Turns.{IsAlways, IsKept, IsTurn, Moment, assets_at, node_at, pipeline_at};
 
 use crate::families::{
-    constant, downsampled, label, label_test, number_row, point, section, sids, window,
+    constant, downsampled, label, label_test, number, number_row, point, section, sids, window,
 };
 use crate::leaves::keep_row;
 use crate::turn::Turn;
@@ -39,6 +39,7 @@ fn kind_row(
     match family_of(kind_of(turn.node)) {
         Family::Constant(value) => constant(turn, value, none, keep, out),
         Family::Label(name) => label(turn, name, none, keep, out),
+        Family::Number(name) => number(turn, name, none, keep, out),
         Family::Sids => sids(turn, none, keep, out),
         Family::Window => window(turn, first, second, third, none, keep, out),
         Family::Point => point(turn, none, keep, out),

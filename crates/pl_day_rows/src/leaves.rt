@@ -3,6 +3,7 @@ ghost use Rattle.std.specs.Prelude.{◌≡◌, ◌<◌, ℕ, true, pos, get_or, 
 ghost use Rattle.pl_spec.specs.Rounding.{IsCell};
 ghost use Rattle.pl_terms.specs.Kinds.{kind_of};
 ghost use Rattle.pl_assets.specs.Labels.{label_on};
+ghost use Rattle.pl_numbers.specs.Numbers.{number_on};
 ghost use Rattle.pl_cross.specs.Arrays.{sid_in};
 ghost use Rattle.pl_cross.specs.Listing.{labels_in};
 ghost use Rattle.pl_values.specs.Arrays.{IsKeep};
@@ -10,6 +11,7 @@ ghost use Rattle.pl_values.specs.Families.{is_sids, label_code, sid_flag};
 ghost use Rattle.pl_day_rows.specs.Rows.{is_kept_by, sids_of};
 
 use pl_assets::{Assets, Labels};
+use pl_numbers::Numbers;
 use pl_terms::TermKind;
 use pl_values::{is_one, label_value, sids_value, truth_of};
 
@@ -61,5 +63,18 @@ pub(crate) fn label_row(labels: &Labels, name: &[u8], day: i32, out: &mut [i64])
     let number = labels.name_of(name);
     for i in 0..out.len() {
         out[i] = label_value(labels, name, number, i, day);
+    }
+}
+
+/// Numbers under a name.
+pub(crate) fn known_row(numbers: &Numbers, name: &[u8], day: i32, out: &mut [i64])
+    ensures length { length out.new ≡ length out.old }
+    ensures each { (i : ℕ) → i < length out.old
+        → get_or out.new i (pos 0) ≡ number_on numbers.now.rows name.now i day }
+    ensures cells { (i : ℕ) → i < length out.old → IsCell (get_or out.new i (pos 0)) }
+{
+    let number = numbers.name_of(name);
+    for i in 0..out.len() {
+        out[i] = numbers.number_under(name, number, i, day);
     }
 }

@@ -1,5 +1,6 @@
 //! One term on one day: what it is computed from.
 use pl_assets::{Assets, Labels};
+use pl_numbers::Numbers;
 use pl_rings::{BarRings, Rings};
 use pl_terms::{Checked, Node, TermId};
 
@@ -19,6 +20,7 @@ pub struct Turn<'t> {
     pub checked: &'t Checked,
     pub assets: &'t Assets,
     pub labels: &'t Labels,
+    pub numbers: &'t Numbers,
     pub bars: &'t BarRings,
     pub terms: &'t [TermCells],
     pub term: TermId,

@@ -12,6 +12,7 @@ use Rattle.pl_spec.specs.declared.Column.{Column}
 use Rattle.pl_spec.specs.World.{World, exists}
 use Rattle.pl_spec.specs.Window.{downward, seen_cell}
 use Rattle.pl_spec.specs.Periods.{period_start}
+use Rattle.pl_spec.specs.Kind as kinds
 use Rattle.pl_spec.specs.Kind.{Kind, WindowKind, LabelKind, CrossKind}
 use Rattle.pl_spec.specs.Kind.Kind.{Constant, Label, StaticSids, Window, Point, LabelTest, Cross, Downsample}
 use Rattle.pl_spec.specs.Term.{Term, Graph, Input, Node, IsGraph, tree_over, trees, term_at}
@@ -60,6 +61,7 @@ kept_if texts k false v u h i = i
 empty_kept : (texts : List (List ℕ)) (k : Kind) → IsKept texts k (empty k)
 empty_kept texts (Constant x) = refl
 empty_kept texts (Label n) = refl
+empty_kept texts (kinds.Number n) = refl
 empty_kept texts (StaticSids sids) = refl
 empty_kept texts (Window k) = kept_if texts (Window k) (is_window_filter k) _ _ refl refl
 empty_kept texts (Point k) = kept_if texts (Point k) (is_point_filter k) _ _ refl refl
@@ -100,6 +102,7 @@ module _ (w : World) (known : HasTexts w) (names : List (List ℕ)) where
   kept (column c) a d = refl
   kept (node (Constant c) size x y z m g) a d = gate (Constant c) (is_open m a d) _ refl
   kept (node (Label n) size x y z m g) a d = label_kept w.texts n _ (labels-coded w known names n size x y z m g a d)
+  kept (node (kinds.Number n) size x y z m g) a d = gate (kinds.Number n) (is_open m a d) _ refl
   kept (node (StaticSids sids) size x y z m g) a d = gate (StaticSids sids) (is_open m a d) _ refl
   kept (node (Window k) size x y z m g) a d = gate (Window k) (is_open m a d) _ refl
   kept (node (Point k) size x y z m g) a d = gate (Point k) (is_open m a d) _ refl
@@ -152,6 +155,7 @@ module _ (w : World) (p : Pipeline) (known : HasTexts w) (ok : IsGraph p.graph) 
     unfolding step
     step_is (Constant c) = refl
     step_is (Label l) = refl
+    step_is (kinds.Number l) = refl
     step_is (StaticSids sids) = refl
     step_is (Window k) = rw (window_is k n.window a d (input 0), window_is k n.window a d (input 1), window_is k n.window a d (input 2)) refl
     step_is (Point k) = rw (input_is (Point k) d (λ c. refl) (input 0), input_is (Point k) d (λ c. refl) (input 1), input_is (Point k) d (λ c. refl) (input 2)) refl

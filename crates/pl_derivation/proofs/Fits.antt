@@ -11,7 +11,7 @@ use Rattle.pl_spec.specs.World.{World, day_of, lives_on, living_sids, exists}
 use Rattle.pl_spec.specs.Window.{before, downward}
 use Rattle.pl_spec.specs.Periods.{first_session, period_start}
 use Rattle.pl_spec.specs.Kind.{Kind}
-use Rattle.pl_spec.specs.Kind.Kind.{Constant, Label, StaticSids, Window, Point, LabelTest, Cross, Downsample}
+use Rattle.pl_spec.specs.Kind.Kind.{Constant, Label, Number, StaticSids, Window, Point, LabelTest, Cross, Downsample}
 use Rattle.pl_spec.specs.Term.{Term, Graph, Input, Node, IsGraph, input_tree, number_tree, tree_over, trees, term_at}
 use Rattle.pl_spec.specs.Term.Term.{absent, column, node}
 use Rattle.pl_spec.specs.Term.Input.{BarColumn, TermInput}
@@ -281,6 +281,7 @@ module _ (w : World) (p : Pipeline) (ok : IsGraph p.graph) (windows : HasSession
       kind_ready : (kind : Kind) → Reached (reads_at w.days kind d) d → (a : ℕ) → has_sid w a ≡ true → Each (Ready (suc k)) (kind_facts w n kind a d)
       kind_ready (Constant c) far a sid = tt
       kind_ready (Label l) far a sid = tt
+      kind_ready (Number l) far a sid = tt
       kind_ready (StaticSids sids) far a sid = tt
       kind_ready (Window f) far a sid = windows_ready far a sid
       kind_ready (Point f) far a sid = inputs_ready d d now far a sid

@@ -5,7 +5,7 @@ use Rattle.pl_spec.specs.declared.Column.{Column}
 use Rattle.pl_spec.specs.World.{World, exists, living_sids}
 use Rattle.pl_spec.specs.Window.{before, downward}
 use Rattle.pl_spec.specs.Kind.{Kind, WindowKind, CrossKind}
-use Rattle.pl_spec.specs.Kind.Kind.{Constant, Label, StaticSids, Window, Point, LabelTest, Cross, Downsample}
+use Rattle.pl_spec.specs.Kind.Kind.{Constant, Label, Number, StaticSids, Window, Point, LabelTest, Cross, Downsample}
 use Rattle.pl_spec.specs.Periods.{period_start}
 use Rattle.pl_spec.specs.Kind.CrossKind.{PeerCount}
 use Rattle.pl_spec.specs.Term.{Input, Node}
@@ -160,6 +160,7 @@ module _ (w : World) (p : Pipeline) (r q : Reading) where
     unfolding step
     step_same (Constant x) e h = refl
     step_same (Label x) e h = refl
+    step_same (Number x) e h = refl
     step_same (StaticSids x) e h = refl
     step_same (Window k) e h =
         rw (

@@ -73,7 +73,7 @@ module _ (t : Turn) (is : IsTurn t) (i : ℕ) (asset : i < assets_in (task_at t)
       let own = subst (λ (v : Traversal). (m : ℕ) → m ≤ more → IsWindow v.array v.window 0 (v.session + m) (take v.window (drop m cells))) column_at w in
       let size = subst (λ (v : Traversal). length cells ≡ v.window + more) column_at long in
       record {
-        windows = λ m l. own m l t.job.now.world.assets.now t.job.now.world.labels.now.rows t.job.now.world.labels.now.texts is.job.made.parts (is.job.task.columns.within i 0 asset)
+        windows = λ m l. own m l t.job.now.world.assets.now t.job.now.world.labels.now.rows t.job.now.world.labels.now.texts t.job.now.world.numbers.now.rows is.job.made.parts (is.job.task.columns.within i 0 asset)
             ∙ ap (λ a. bar_window (task_at t).world c (node_at t).window a (pos (t.session + m))) (sym (sid_of_place t.job.now.world.assets.now t.job.now.cols.now i asset));
         long = λ some. omega (arith, size);
       }
@@ -106,7 +106,7 @@ module _ (t : Turn) (is : IsTurn t) (i more : ℕ) (cells : List ℤ) where
       here : (o : Option spec.Input) → slice_get (node_at t).inputs p ≡ o → IsLent (task_at t) (node_at t) o (InTerm a) → IsReach t o i more cells
       here None e l = absurd l
       here (Some (spec.BarColumn c)) e l = absurd l
-      here (Some (spec.TermInput u)) e l = w u (record { read = is.ready.inputs p u e; holds = l.holds; low = l.low; end = l.end })
+      here (Some (spec.TermInput u)) e l = w u (record { read = is.ready.inputs p u e; array = l })
 
 -- the input whose windows lie in a traversal or in an array
 pub column_of : (t : Turn) (q : ℕ) → IsLentAt t (InColumn q) → IsColumnAt t q
@@ -123,4 +123,4 @@ term_of t is a lent = here (slice_get (node_at t).inputs lent.0) refl lent.1
     here : (o : Option spec.Input) → slice_get (node_at t).inputs lent.0 ≡ o → IsLent (task_at t) (node_at t) o (InTerm a) → (u : ℕ) × IsTermLent t u a
     here None e l = absurd l
     here (Some (spec.BarColumn c)) e l = absurd l
-    here (Some (spec.TermInput u)) e l = (u, record { read = is.ready.inputs lent.0 u e; holds = l.holds; low = l.low; end = l.end })
+    here (Some (spec.TermInput u)) e l = (u, record { read = is.ready.inputs lent.0 u e; array = l })

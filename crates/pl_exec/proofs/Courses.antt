@@ -14,24 +14,11 @@ use Rattle.pl_exec.specs.declared.course.Course.{Course}
 use Rattle.pl_exec.specs.declared.windows.Source.TheVariants.{InTerm}
 use Rattle.pl_exec.specs.declared.turn.Turn.{Turn}
 use Rattle.pl_exec.specs.Tasks.{Task, IsArray, assets_in, cell_in, count_in, low_in, sids_in}
-use Rattle.pl_exec.specs.Jobs.{AreLanes, IsArrayOf, IsCourse, IsLent, IsMaskLent, IsOperand, IsReadFrom, IsTurn, node_at, node_in, task_at, task_in, turn_in}
+use Rattle.pl_exec.specs.Jobs.{IsArrayOf, IsCourse, IsLent, IsMaskLent, IsOperand, IsReadFrom, IsTurn, IsWritten, node_at, node_in, task_at, task_in, turn_in}
 use Rattle.pl_exec.proofs.Held.{turn_is, held}
-use Rattle.pl_exec.proofs.Spans.{at_within, at_is}
 
 pub course_turn : (c : Course) → IsCourse c → (j : ℕ) → j < c.count → IsTurn (turn_in c j)
 course_turn c is j h = turn_is (turn_in c j) is.job is.run is.node (let l = is.low in omega arith) (let e = is.end in omega arith) is.none
-
--- ---- one cell of an array that is there
-
-module _ (t : Task) (u : ℕ) (a : Array) (is : IsArrayOf t u a) (i s : ℕ) (asset : i < assets_in t) (early : low_in t u ≤ s) (late : s ≤ t.to) where
-  array_held : Holds (cell_in t u) (assets_in t) a.low a.count a.cells.now
-  array_held = held t u a.low a.count a.cells.now is.holds is.low is.end
-
-  pub cell_within : i * a.count + (s - a.low) < length a.cells.now
-  cell_within = at_within (cell_in t u) (assets_in t) a.low a.count a.cells.now array_held i s (s - a.low) asset (let l = is.low in omega arith) (let e = is.end in omega arith) refl
-
-  pub cell_is : get_or a.cells.now (i * a.count + (s - a.low)) (pos 0) ≡ cell_in t u i s
-  cell_is = at_is (cell_in t u) (assets_in t) a.low a.count a.cells.now array_held i s (s - a.low) asset (let l = is.low in omega arith) (let e = is.end in omega arith) refl
 
 -- the mask that is there
 pub masked_by : (t : Task) (m : Option ℕ) (a : Array) → IsMaskLent t m (Some a) → (u : ℕ) × ((m ≡ Some u) × IsArrayOf t u a)
@@ -44,19 +31,16 @@ unmasked t (Some u) lent = absurd lent
 
 -- ---- lanes
 
-pub none_laned : (f : ℕ → ℕ → ℤ) (low count : ℕ) (cells : List ℤ) → AreLanes f low count 0 cells
+pub none_laned : (f : ℕ → ℕ → ℤ) (low count : ℕ) (cells : List ℤ) → IsWritten f low count 0 count cells
 none_laned f low count cells = record { each = λ i j a l. absurd (omega arith); cell = λ i j a l. absurd (omega arith) }
 
-pub one_laned : (f : ℕ → ℕ → ℤ) (low count i n : ℕ) (xs ys : List ℤ) → (i + 1) * count ≤ length xs → AreLanes f low count i xs → Fills (λ j. f i (low + j)) count ys
-    → AreLanes f low count (i + 1) (put_mid (i * count) n xs ys)
+pub one_laned : (f : ℕ → ℕ → ℤ) (low count i n : ℕ) (xs ys : List ℤ) → (i + 1) * count ≤ length xs → IsWritten f low count i count xs → Fills (λ j. f i (low + j)) count ys
+    → IsWritten f low count (i + 1) count (put_mid (i * count) n xs ys)
 one_laned f low count i n xs ys within so_far row = record {
   each = part_written (λ a j v. v ≡ f a (low + j)) xs ys i count n within row.long so_far.each row.each;
   cell = λ a j h l. subst IsCell (part_written (λ b k v. v ≡ f b (low + k)) xs ys i count n within row.long so_far.each row.each a j h l)
       (part_written (λ b k v. IsCell v) xs ys i count n within row.long (λ b k x y. subst IsCell (sym (so_far.each b k x y)) (so_far.cell b k x y)) (λ k y. subst IsCell (sym (row.each k y)) (row.cell k y)) a j h l);
 }
-
-pub all_laned : (f : ℕ → ℕ → ℤ) (assets low count done : ℕ) (cells : List ℤ) → AreLanes f low count done cells → assets ≤ done → assets * count ≤ length cells → Holds f assets low count cells
-all_laned f assets low count done cells lanes all room = record { room = room; each = λ i j a l. lanes.each i j (omega arith) l; cell = λ i j a l. lanes.cell i j (omega arith) l }
 
 pub lane_room : (i assets count size : ℕ) → i < assets → assets * count ≤ size → (i + 1) * count ≤ size
 lane_room i assets count size h r = let p = part_within i assets count h in let m = mul_comm count assets in omega (arith, p, m, r)
@@ -81,7 +65,7 @@ module _ (c : Course) (u : ℕ) (a : Array) (is : IsCourse c) (read : IsReadFrom
   start = i * a.count + (c.low - a.low)
 
   read_held : Holds (cell_in (task_in c) u) (assets_in (task_in c)) a.low a.count a.cells.now
-  read_held = held (task_in c) u a.low a.count a.cells.now read.array.holds read.array.low read.array.end
+  read_held = held (task_in c) u a read.array
 
   pub lane_within : start + c.count ≤ length a.cells.now
   lane_within =

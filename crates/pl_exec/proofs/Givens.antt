@@ -1,12 +1,13 @@
 -- What the term of a turn is worth, family by family.
-use Rattle.std.proofs.Common.{◌≡◌, ℕ, ◌+◌, ◌<◌, true, ℤ, pos, List, [], length, get_or, set, Option, Some, slice_get, sym, ◌∙◌, ap, subst, arith, All, unwrap_or}
+use Rattle.std.proofs.Common.{◌≡◌, ℕ, ◌<◌, true, ℤ, pos, List, [], length, get_or, Option, Some, slice_get, sym, ◌∙◌, ap, subst, arith, All, unwrap_or, option_map}
 use Rattle.std.specs.Option.{option_and_then}
 use Rattle.std.proofs.lemmas.List.{length-map, get_or_default}
 use Rattle.pl_spec.specs.Rounding.{MISSING, IsCell}
 use Rattle.pl_spec.specs.Parts.{sid_at}
-use Rattle.pl_spec.specs.World.{World, label_at}
+use Rattle.pl_spec.specs.Numbers.{number_at}
+use Rattle.pl_spec.specs.World.{World, label_at, known_number}
 use Rattle.pl_spec.specs.Kind.{CrossKind}
-use Rattle.pl_spec.specs.Kind.Kind.{Constant, Label, Cross, Downsample}
+use Rattle.pl_spec.specs.Kind.Kind.{Constant, Label, Number, Cross, Downsample}
 use Rattle.pl_spec.specs.Formula.{is_true}
 use Rattle.pl_spec.specs.Term as spec
 use Rattle.pl_spec.specs.Term.Input.{TermInput}
@@ -19,23 +20,23 @@ use Rattle.pl_values.proofs.Downsampled.{over}
 use Rattle.pl_terms.specs.Sorts.{is_downsampled}
 use Rattle.pl_cross.specs.Arrays.{sid_in, section_at}
 use Rattle.pl_cross.specs.Section.{is_section, HasParameters}
-use Rattle.pl_values.specs.Arrays.{cell_of, is_kept, chosen, Fills, IsKeep}
-use Rattle.pl_values.specs.Families.{is_sids, is_point, is_label_test, sid_flag, code_flag, label_code, IsCode}
+use Rattle.pl_values.specs.Arrays.{cell_of, empty_cell, is_kept, chosen, kept_or, Fills, IsKeep}
+use Rattle.pl_values.specs.Families.{is_sids, sid_flag, label_code}
 use Rattle.pl_values.specs.Laws.{IsNode, IsGiven}
-use Rattle.pl_values.proofs.Given.{constant-cell, sid-cell, label-cell, label-test-cell, label-input, downsampled-cell, point-cell, point-operands, section-cell, section-input}
+use Rattle.pl_values.proofs.Given.{constant-cell, sid-cell, label-cell, number-cell, downsampled-cell, section-cell, section-input}
 use Rattle.pl_values.proofs.Operations.{fills-all}
-use Rattle.pl_values.specs.Inputs.{IsInputRow, IsGroupRow, AreRows, AreSectionRows}
-use Rattle.pl_values.proofs.KindFamilies.{sids_kind, point_kind, label_test_kind, section_kind}
-use Rattle.pl_pointwise.specs.Operands.{IsOperation, AreOperands, operation}
+use Rattle.pl_values.specs.Inputs.{IsInputRow, IsGroupRow, AreSectionRows}
+use Rattle.pl_values.proofs.KindFamilies.{sids_kind, section_kind}
 use Rattle.pl_assets.specs.Labels.{label_on}
 use Rattle.pl_assets.proofs.LabelWorlds.{labels_those}
+use Rattle.pl_numbers.specs.Numbers.{number_on}
+use Rattle.pl_numbers.proofs.NumberWorlds.{numbers_those}
 use Rattle.pl_exec.proofs.Places.{sid_of_place}
 use Rattle.pl_spec.specs.Cross.{at}
 use Rattle.pl_spec.proofs.Cells.{empty-cell, chosen-cell}
 use Rattle.pl_exec.specs.declared.turn.Turn.{Turn}
 use Rattle.pl_exec.specs.Tasks.{assets_in, cell_in, sids_in}
-use Rattle.pl_exec.specs.Jobs.{IsRead, IsTurn, IsKept, IsOut, Begins, task_at, node_at}
-use Rattle.pl_exec.proofs.Spans.{one_begun}
+use Rattle.pl_exec.specs.Jobs.{IsRead, IsTurn, IsKept, IsOut, task_at, node_at}
 
 -- ---- the rows of a turn
 
@@ -61,19 +62,6 @@ module _ (t : Turn) (is : IsTurn t) where
   pub sids_long : length sids ≡ assets_in (task_at t)
   sids_long = length-map (task_at t).cols (sid_at w.assets)
 
-  module _ (keep : List ℤ) (kept : IsKept t keep) (i : ℕ) (asset : i < assets_in (task_at t)) (x y : ℤ) (given : IsGiven w p sids t.term.0 n i t.session x) (cell : IsCell x)
-      (picked : y ≡ chosen (is_true (get_or keep i (pos 0))) x t.none) where
-    pub out_is : y ≡ cell_in (task_at t) t.term.0 i t.session
-    out_is = picked ∙ ap (λ b. chosen b x t.none) (kept.each i asset) ∙ ap (chosen (is_kept w p sids n.mask i t.session) x) is.none ∙ sym given
-
-    pub out_cell : IsCell y
-    out_cell = subst IsCell (sym picked) (chosen-cell (is_true (get_or keep i (pos 0))) x t.none cell none_cell)
-
-    -- one cell more of the row
-    pub out_more : (out : List ℤ) → Begins (λ k. cell_in (task_at t) t.term.0 k t.session) (assets_in (task_at t)) i out
-        → Begins (λ k. cell_in (task_at t) t.term.0 k t.session) (assets_in (task_at t)) (i + 1) (set out i y)
-    out_more out b = one_begun (λ k. cell_in (task_at t) t.term.0 k t.session) (assets_in (task_at t)) i out y b asset out_is out_cell
-
   pub constant_given : (value : ℤ) (i : ℕ) → n.kind ≡ Constant value → IsCell value × IsGiven w p sids t.term.0 n i t.session value
   constant_given value i e = constant-cell w p sids t.term.0 n i t.session node_is value e
 
@@ -83,9 +71,8 @@ module _ (t : Turn) (is : IsTurn t) where
   pub label_given : (name i : ℕ) → n.kind ≡ Label name → (name < length p.names) × IsGiven w p sids t.term.0 n i t.session (label_code w.texts (label_at w (name_at p.names name) (sid_in sids i) (pos t.session)))
   label_given name i e = label-cell w p sids t.term.0 n i t.session node_is name e
 
-  pub label_test_given : (i u : ℕ) → is_label_test n.kind ≡ true → slice_get n.inputs 0 ≡ Some (TermInput u)
-      → IsCode w.texts (cell_of w p sids u i t.session) × IsGiven w p sids t.term.0 n i t.session (code_flag w.texts n.kind (cell_of w p sids u i t.session))
-  label_test_given i u e input = let s = label_test_kind n.kind e in label-test-cell w p sids t.term.0 n i t.session node_is s.0 u is.job.task.texts s.1 input
+  pub number_given : (name i : ℕ) → n.kind ≡ Number name → (name < length p.names) × IsGiven w p sids t.term.0 n i t.session (known_number w (name_at p.names name) (sid_in sids i) (pos t.session))
+  number_given name i e = number-cell w p sids t.term.0 n i t.session node_is name e
 
   -- the input of a downsampled term, and its cells of the first session of the period
   pub start_input : is_downsampled n.kind ≡ true → (u : ℕ) × (slice_get n.inputs 0 ≡ Some (TermInput u))
@@ -100,9 +87,6 @@ module _ (t : Turn) (is : IsTurn t) where
       let a = is.ready.start f u e input in
       record { known = x.known; used = x.used; held = x.held; some = omega arith; early = omega (arith, ints, a, h) }
 
-  pub label_test_input : is_label_test n.kind ≡ true → (u : ℕ) × (slice_get n.inputs 0 ≡ Some (TermInput u))
-  label_test_input e = let s = label_test_kind n.kind e in let x = label-input p is.job.task.checked t.term.0 n is.node s.0 s.1 in (x.0, x.1)
-
   -- the label of a place is that of its column
   pub label_here : (i number : ℕ) (name : List ℕ) (day : ℤ) → i < assets_in (task_at t) → slice_get p.names number ≡ Some name → slice_get w.days t.session ≡ Some day
       → label_at w (name_at p.names number) (sid_in sids i) (pos t.session) ≡ label_on t.job.now.world.labels.now.rows name (get_or t.job.now.cols.now i 0) day
@@ -110,9 +94,19 @@ module _ (t : Turn) (is : IsTurn t) where
       let parts = is.job.made.parts in
       ap (λ nm. label_at w nm (sid_in sids i) (pos t.session)) (ap (λ o. unwrap_or o []) named)
       ∙ ap (λ a. label_at w name a (pos t.session)) (sid_of_place t.job.now.world.assets.now t.job.now.cols.now i asset)
-      ∙ labels_those t.job.now.world.sessions.now t.job.now.world.assets.now t.job.now.world.labels.now.rows t.job.now.world.labels.now.texts t.job.now.world.bars.now t.job.now.world.adjustments.now
+      ∙ labels_those t.job.now.world.sessions.now t.job.now.world.assets.now t.job.now.world.labels.now.rows t.job.now.world.labels.now.texts t.job.now.world.bars.now t.job.now.world.adjustments.now t.job.now.world.numbers.now.rows
       parts.sids_ascend parts.labels_in name (get_or t.job.now.cols.now i 0) (pos t.session) (is.job.task.columns.within i 0 asset)
       ∙ ap (option_and_then (label_on t.job.now.world.labels.now.rows name (get_or t.job.now.cols.now i 0))) dated
+
+  -- so is the number
+  pub number_here : (i number : ℕ) (name : List ℕ) (day : ℤ) → i < assets_in (task_at t) → slice_get p.names number ≡ Some name → slice_get w.days t.session ≡ Some day
+      → known_number w (name_at p.names number) (sid_in sids i) (pos t.session) ≡ number_on t.job.now.world.numbers.now.rows name (get_or t.job.now.cols.now i 0) day
+  number_here i number name day asset named dated =
+      let parts = is.job.made.parts in
+      ap (λ nm. known_number w nm (sid_in sids i) (pos t.session)) (ap (λ o. unwrap_or o []) named)
+      ∙ ap (λ a. known_number w name a (pos t.session)) (sid_of_place t.job.now.world.assets.now t.job.now.cols.now i asset)
+      ∙ ap (λ o. unwrap_or (option_map (number_at w.numbers name (sid_at w.assets (get_or t.job.now.cols.now i 0))) o) MISSING) dated
+      ∙ numbers_those t.job.now.world.assets.now t.job.now.world.numbers.now.rows parts.sids_ascend parts.numbers_in name (get_or t.job.now.cols.now i 0) day (is.job.task.columns.within i 0 asset)
 
   -- ---- rows of inputs
 
@@ -123,25 +117,14 @@ module _ (t : Turn) (is : IsTurn t) where
       → Fills (λ i. cell_of w p sids u i t.session) (assets_in (task_at t)) row
   input_fills place u row e r = subst (λ o. IsInputRow w p sids (assets_in (task_at t)) o t.session row) e r
 
-  module _ (a b c : List ℤ) (ra : IsInputRow w p sids (assets_in (task_at t)) (slice_get n.inputs 0) t.session a) (rb : IsInputRow w p sids (assets_in (task_at t)) (slice_get n.inputs 1) t.session b)
-      (rc : IsInputRow w p sids (assets_in (task_at t)) (slice_get n.inputs 2) t.session c) (e : is_point n.kind ≡ true) where
-    rows : AreRows w p sids n t.session (assets_in (task_at t)) a b c
-    rows = record { first = ra; second = rb; third = rc }
-
-    pub point_asks : IsOperation n.kind × AreOperands n.kind a b c (assets_in (task_at t))
-    point_asks = let s = point_kind n.kind e in point-operands w p sids t.term.0 n 0 t.session node_is s.0 (assets_in (task_at t)) a b c s.1 rows
-
-    pub point_given : (i : ℕ) → i < assets_in (task_at t) → IsGiven w p sids t.term.0 n i t.session (operation n.kind (get_or a i (pos 0)) (get_or b i (pos 0)) (get_or c i (pos 0)))
-    point_given i h = let s = point_kind n.kind e in point-cell w p sids t.term.0 n i t.session node_is s.0 (assets_in (task_at t)) a b c s.1 rows h
-
   -- what is computed for all assets, and then put away where they are not kept
-  pub kept_out : (keep made out : List ℤ) → IsKept t keep → length out ≡ assets_in (task_at t) → ((i : ℕ) → i < assets_in (task_at t) → IsGiven w p sids t.term.0 n i t.session (get_or made i (pos 0)))
-      → ((i : ℕ) → i < assets_in (task_at t) → IsCell (get_or made i (pos 0))) → ((i : ℕ) → i < assets_in (task_at t) → get_or out i (pos 0) ≡ chosen (is_true (get_or keep i (pos 0))) (get_or made i (pos 0)) t.none)
-      → IsOut t out
-  kept_out keep made out kept size given cells picked = record {
+  pub kept_out : (f : ℕ → ℤ) (keep made out : List ℤ) → IsKept t keep → Fills f (assets_in (task_at t)) made → length out ≡ assets_in (task_at t) → ((i : ℕ) → IsGiven w p sids t.term.0 n i t.session (f i))
+      → ((i : ℕ) → i < assets_in (task_at t) → get_or out i (pos 0) ≡ kept_or t.none keep (λ j. get_or made j (pos 0)) i) → IsOut t out
+  kept_out f keep made out kept filled size given picked = record {
     long = size;
-    each = λ i h. out_is keep kept i h (get_or made i (pos 0)) (get_or out i (pos 0)) (given i h) (cells i h) (picked i h);
-    cell = λ i h. subst IsCell (out_is keep kept i h (get_or made i (pos 0)) (get_or out i (pos 0)) (given i h) (cells i h) (picked i h)) (out_cell keep kept i h (get_or made i (pos 0)) (get_or out i (pos 0)) (given i h) (cells i h) (picked i h));
+    each = λ i h. picked i h ∙ ap (λ x. chosen (is_true (get_or keep i (pos 0))) x t.none) (filled.each i h) ∙ ap (λ b. chosen b (f i) t.none) (kept.each i h)
+        ∙ ap (chosen (is_kept w p sids n.mask i t.session) (f i)) is.none ∙ sym (given i);
+    cell = λ i h. subst IsCell (sym (given i)) (chosen-cell (is_kept w p sids n.mask i t.session) (f i) (empty_cell p t.term.0) (filled.cell i h) (subst IsCell is.none none_cell));
   }
 
   -- ---- cross-sections

@@ -1,19 +1,20 @@
 -- What is read of the arrays that are there.
-use Rattle.std.proofs.Common.{◌≡◌, ℕ, ◌+◌, ◌-◌, ◌*◌, ◌<◌, ◌≤◌, ◌&&◌, ℤ, pos, List, length, take, drop, get_or, set, Some, sym, ◌∙◌, ap, subst, arith, All, slice_get}
-use Rattle.std.proofs.Common.{AllPairs, ◌<ℤ◌}
+use Rattle.std.proofs.Common.{◌≡◌, ℕ, ◌+◌, ◌-◌, ◌*◌, ◌<◌, ◌≤◌, ◌&&◌, ℤ, pos, List, length, get_or, Some, sym, ◌∙◌, ap, subst, arith, AllPairs, ◌<ℤ◌, slice_get}
 use Rattle.std.proofs.lemmas.Int.{ints}
 use Rattle.pl_laws.proofs.Rises.{start-rises}
 use Rattle.pl_spec.specs.Rounding.{IsCell}
+use Rattle.pl_spec.proofs.Places.{row-within}
 use Rattle.pl_spec.specs.World.{World, exists}
 use Rattle.pl_spec.specs.Table.{Pipeline}
 use Rattle.pl_spec.specs.Formula.{is_true}
 use Rattle.pl_cross.specs.Arrays.{sid_in}
-use Rattle.pl_values.specs.Arrays.{Holds, Fills, IsKeep, window_up_to, is_kept, cell_of, empty_cell}
+use Rattle.pl_values.specs.Arrays.{Holds, Fills, IsKeep, is_kept, kept_or, cell_of, empty_cell}
 use Rattle.pl_workspace.specs.Slots.{Slots}
 use Rattle.pl_exec.specs.Tasks.{Task, graph_in, assets_in, cell_in, count_in, low_in}
+use Rattle.pl_exec.specs.declared.job.Array.{Array}
 use Rattle.pl_exec.specs.declared.turn.Turn.{Turn}
-use Rattle.pl_exec.specs.Jobs.{IsJob, IsRead, IsReady, IsRun, IsTurn, Begins, node_at, task_at}
-use Rattle.pl_exec.proofs.Spans.{end_within, size_within, window_is, window_cells, one_begun, at_is, at_cell}
+use Rattle.pl_exec.specs.Jobs.{IsArrayOf, IsJob, IsRead, IsReady, IsRun, IsTurn, node_at, task_at}
+use Rattle.pl_exec.proofs.Places.{both_told}
 
 pub read_less : (t : Task) (w : Slots) (s size u : ℕ) → IsRead t w s size u → IsRead t w s 1 u
 read_less t w s size u r = record { known = r.known; used = r.used; held = r.held; some = omega arith; early = (let e = r.early in let o = r.some in omega arith) }
@@ -42,38 +43,36 @@ turn_is t job run node low late none = record {
   none = none;
 }
 
--- the array of term u, as the code has it
-module _ (t : Task) (u low count : ℕ) (cells : List ℤ) (holds : Holds (cell_in t u) (assets_in t) (low_in t u) (count_in t u) cells) (is_low : low ≡ low_in t u) (end : low + count ≡ t.to + 1) where
-  pub held : Holds (cell_in t u) (assets_in t) low count cells
+-- the array of term u, as the code has it, and its cell for an asset on a session
+module _ (t : Task) (u : ℕ) (a : Array) (is : IsArrayOf t u a) where
+  pub held : Holds (cell_in t u) (assets_in t) a.low a.count a.cells.now
   held =
-      let e : count_in t u ≡ count = omega arith in
-      subst (λ n. Holds (cell_in t u) (assets_in t) low n cells) e (subst (λ l. Holds (cell_in t u) (assets_in t) l (count_in t u) cells) (sym is_low) holds)
+      let low = is.low in let end = is.end in
+      let e : count_in t u ≡ a.count = omega (arith, low, end) in
+      subst (λ n. Holds (cell_in t u) (assets_in t) a.low n a.cells.now) e (subst (λ l. Holds (cell_in t u) (assets_in t) l (count_in t u) a.cells.now) (sym is.low) is.holds)
 
-  module _ (s size w i : ℕ) (same : size ≡ w) (asset : i < assets_in t) (some : 1 ≤ w) (early : low_in t u + w ≤ s + 1) (late : s ≤ t.to) where
-    pub read_end : i * count + (s - low) + 1 ≤ length cells
-    read_end = end_within (cell_in t u) (assets_in t) low count cells held i s size asset (omega arith) (omega arith) (omega arith)
+  module _ (i s : ℕ) (asset : i < assets_in t) (early : low_in t u ≤ s) (late : s ≤ t.to) where
+    inside : s - a.low < a.count
+    inside = let low = is.low in let end = is.end in omega (arith, low, end, early, late)
 
-    pub read_size : size ≤ i * count + (s - low) + 1
-    read_size = size_within (cell_in t u) (assets_in t) low count cells held i s size asset (omega arith) (omega arith) (omega arith)
+    there : a.low + (s - a.low) ≡ s
+    there = let low = is.low in omega (arith, low, early)
 
-    pub read_window : take size (drop (i * count + (s - low) + 1 - size) cells) ≡ window_up_to (cell_in t u i) w s
-    read_window = window_is (cell_in t u) (assets_in t) low count cells held i s size asset (omega arith) (omega arith) (omega arith) ∙ ap (λ n. window_up_to (cell_in t u i) n s) same
+    pub cell_within : i * a.count + (s - a.low) < length a.cells.now
+    cell_within = let p = row-within i (assets_in t) a.count (s - a.low) asset inside in let r = held.room in omega (arith, p, r)
 
-    pub read_cells : All IsCell (window_up_to (cell_in t u i) w s)
-    read_cells = window_cells (cell_in t u) (assets_in t) low count cells held i s w asset some (omega arith) (omega arith)
+    pub cell_is : get_or a.cells.now (i * a.count + (s - a.low)) (pos 0) ≡ cell_in t u i s
+    cell_is = held.each i (s - a.low) asset inside ∙ ap (cell_in t u i) there
 
-  -- one cell more of a session's row
-  pub row_more : (s i at : ℕ) (row : List ℤ) → low ≤ s → s ≤ t.to → at ≡ s - low → i < assets_in t → Begins (λ k. cell_in t u k s) (assets_in t) i row
-      → Begins (λ k. cell_in t u k s) (assets_in t) (i + 1) (set row i (get_or cells (i * count + at) (pos 0)))
-  row_more s i at row early late is asset b =
-      let e = at_is (cell_in t u) (assets_in t) low count cells held i s at asset early (omega arith) is in
-      one_begun (λ k. cell_in t u k s) (assets_in t) i row _ b asset e (rw e (at_cell (cell_in t u) (assets_in t) low count cells held i s at asset early (omega arith) is))
+    pub is_cell : IsCell (cell_in t u i s)
+    is_cell = subst (λ d. IsCell (cell_in t u i d)) there (held.cell i (s - a.low) asset inside)
 
 -- who exists and passes the mask
 pub kept_masked : (w : World) (p : Pipeline) (sids : List ℕ) (m n s : ℕ) (old new mask : List ℤ) → IsKeep (λ i. exists w (sid_in sids i) (pos s)) n old → Fills (λ i. cell_of w p sids m i s) n mask
-    → length new ≡ length old → ((i : ℕ) → i < length old → is_true (get_or new i (pos 0)) ≡ (is_true (get_or old i (pos 0)) && is_true (get_or mask i (pos 0))))
+    → length new ≡ length old → ((i : ℕ) → i < length old → get_or new i (pos 0) ≡ kept_or (pos 0) mask (λ j. get_or old j (pos 0)) i)
     → IsKeep (λ i. is_kept w p sids (Some m) i s) n new
 kept_masked w p sids m n s old new mask k f long each = record {
   long = long ∙ k.long;
-  each = λ i h. each i (let l = k.long in omega arith) ∙ ap (λ b. b && is_true (get_or mask i (pos 0))) (k.each i h) ∙ ap (λ x. exists w (sid_in sids i) (pos s) && is_true x) (f.each i h);
+  each = λ i h. ap is_true (each i (let l = k.long in omega arith)) ∙ both_told (is_true (get_or mask i (pos 0))) (get_or old i (pos 0))
+      ∙ ap (λ b. b && is_true (get_or mask i (pos 0))) (k.each i h) ∙ ap (λ x. exists w (sid_in sids i) (pos s) && is_true x) (f.each i h);
 }

@@ -175,6 +175,7 @@ unfolding places
 kinds_free (kind.Window f) = inl refl
 kinds_free (kind.Constant x) = inr refl
 kinds_free (kind.Label x) = inr refl
+kinds_free (kind.Number x) = inr refl
 kinds_free (kind.StaticSids x) = inr refl
 kinds_free (kind.Point f) = inr (points_free f)
 kinds_free (kind.LabelTest x) = inr refl

@@ -39,6 +39,7 @@ unfolding has_window places
 window_or_one (kind.Window f) w e = inl (first-place f)
 window_or_one (kind.Constant x) w e = inr (eqb-true w 1 e)
 window_or_one (kind.Label x) w e = inr (eqb-true w 1 e)
+window_or_one (kind.Number x) w e = inr (eqb-true w 1 e)
 window_or_one (kind.StaticSids x) w e = inr (eqb-true w 1 e)
 window_or_one (kind.Point x) w e = inr (eqb-true w 1 e)
 window_or_one (kind.LabelTest x) w e = inr (eqb-true w 1 e)
@@ -168,6 +169,16 @@ module _ (t : Task) (is : IsTask t) where
         here (BarColumn c) e = let d = bars_deep (0, c, e) in omega arith
         here (TermInput u) e = let r = (input_read 0 u e).early in omega arith
 
+  -- a free slot is begun
+  pub run_still : (w v : Slots) (k s : ℕ) → IsRun t w k → slot_at w s ≡ Free → v ≡ with_slot w s Begun → IsRun t v k
+  run_still w v k s r free e = record { known = r.known; used = r.used; ready = λ n x. again n (r.ready n x); deep = r.deep }
+    where
+      once : (size first u : ℕ) → IsRead t w first size u → IsRead t v first size u
+      once size first u x = record { known = x.known; used = x.used; held = still_held w v (slot_of t.plan u) s x.held free e; some = x.some; early = x.early }
+
+      again : (n : Node) → IsReady t w (low_in t k) n → IsReady t v (low_in t k) n
+      again n x = record { inputs = λ i u y. once n.window _ u (x.inputs i u y); mask = λ u y. once 1 _ u (x.mask u y); group = λ u y. once 1 _ u (x.group u y); start = x.start }
+
   -- ---- term k is begun
 
   module _ (w : Slots) (k : ℕ) (live : AreLive (slot_of t.plan) (IsArray t) (kept_in t k) k w) (used : is_used t.plan k ≡ true) (room : t.plan.bound ≤ length w.slots) where
@@ -185,14 +196,8 @@ module _ (t : Task) (is : IsTask t) where
     pub own_free : slot_at w (slot_of t.plan k) ≡ Free
     own_free = live.free (slot_of t.plan k) slot_within (λ u h l e. let i : u ≡ k = apart_at k used u k (omega arith) (omega arith) l (own_kept k used) e in omega arith)
 
-    still_ready : (v : Slots) (s low : ℕ) (n : Node) → slot_at w s ≡ Free → v ≡ with_slot w s Begun → IsReady t w low n → IsReady t v low n
-    still_ready v s low n free e r = record { inputs = λ i u x. again n.window u (r.inputs i u x); mask = λ u x. again 1 u (r.mask u x); group = λ u x. again 1 u (r.group u x); start = r.start }
-      where
-        again : (size u : ℕ) → IsRead t w low size u → IsRead t v low size u
-        again size u x = record { known = x.known; used = x.used; held = still_held w v (slot_of t.plan u) s x.held free e; some = x.some; early = x.early }
-
     pub run_begun : (v : Slots) → v ≡ with_slot w (slot_of t.plan k) Begun → IsRun t v k
-    run_begun v e = record { known = run_before.known; used = used; ready = λ n x. still_ready v (slot_of t.plan k) _ n own_free e (run_before.ready n x); deep = run_before.deep }
+    run_begun v e = run_still w v k (slot_of t.plan k) run_before own_free e
 
     pub columns_free : (v : Slots) → v ≡ with_slot w (slot_of t.plan k) Begun → columns_at g k ≤ 3 → AreFree t v k 0
     columns_free v e few m from below =
@@ -202,16 +207,6 @@ module _ (t : Task) (is : IsTask t) where
         let never : (u : ℕ) → u < k + 1 → kept_in t k u ≡ true → slot_of t.plan u ≡ column_slot t.plan k m → ⊥ = λ u h l' s. lowest.free (inl (record { term = u; below = h; live = kept_live k u (used_known k used) (omega arith) l'; has = s })) in
         let inside : column_slot t.plan k m < length w.slots = omega arith in
         (omega arith, still_free w v (slot_of t.plan k) (column_slot t.plan k m) e (live.free (column_slot t.plan k m) inside (λ u h l' s. never u (omega arith) l' s)) (λ s. never k (omega arith) (own_kept k used) (sym s)))
-
-  -- one column's slot is begun
-  pub run_still : (w v : Slots) (k s : ℕ) → IsRun t w k → slot_at w s ≡ Free → v ≡ with_slot w s Begun → IsRun t v k
-  run_still w v k s r free e = record { known = r.known; used = r.used; ready = λ n x. again n (r.ready n x); deep = r.deep }
-    where
-      once : (size first u : ℕ) → IsRead t w first size u → IsRead t v first size u
-      once size first u x = record { known = x.known; used = x.used; held = still_held w v (slot_of t.plan u) s x.held free e; some = x.some; early = x.early }
-
-      again : (n : Node) → IsReady t w (low_in t k) n → IsReady t v (low_in t k) n
-      again n x = record { inputs = λ i u y. once n.window _ u (x.inputs i u y); mask = λ u y. once 1 _ u (x.mask u y); group = λ u y. once 1 _ u (x.group u y); start = x.start }
 
   pub free_still : (w v : Slots) (k i : ℕ) → is_used t.plan k ≡ true → columns_at g k ≤ 3 → i < columns_at g k → AreFree t w k i → v ≡ with_slot w (column_slot t.plan k i) Begun → AreFree t v k (i + 1)
   free_still w v k i used few h free e m from below =

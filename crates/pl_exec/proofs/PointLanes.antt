@@ -1,5 +1,5 @@
--- Operations for an asset on all the sessions of a course.
-use Rattle.std.proofs.Common.{◌≡◌, ℕ, ◌+◌, ◌<◌, true, ℤ, pos, List, [], ◌∷◌, get_or, Option, Some, None, slice_get, refl, sym, ◌∙◌, ap, subst, arith}
+-- Operations and tests of labels for an asset on all the sessions of a course.
+use Rattle.std.proofs.Common.{◌≡◌, ℕ, ◌+◌, ◌<◌, true, ℤ, pos, List, [], ◌∷◌, length, get_or, Option, Some, None, slice_get, refl, sym, ◌∙◌, ap, subst, arith}
 use Rattle.std.proofs.lemmas.List.{get_or_default}
 use Rattle.pl_spec.specs.Rounding.{IsCell}
 use Rattle.pl_spec.specs.World.{World}
@@ -12,13 +12,13 @@ use Rattle.pl_pointwise.specs.Operands.{IsOperation, AreOperands, AreOperandsOf,
 use Rattle.pl_cross.specs.Arrays.{sid_in}
 use Rattle.pl_values.specs.Arrays.{cell_of, empty_cell, is_kept, chosen, Fills}
 use Rattle.pl_values.specs.Inputs.{IsInputRow}
-use Rattle.pl_values.specs.Families.{is_point}
+use Rattle.pl_values.specs.Families.{is_point, is_label_test, code_flag, IsCode}
 use Rattle.pl_values.specs.Laws.{IsNode, IsGiven}
-use Rattle.pl_values.proofs.Given.{point-cell, point-operands}
-use Rattle.pl_values.proofs.KindFamilies.{point_kind}
+use Rattle.pl_values.proofs.Given.{label-input, label-test-cell, point-cell, point-operands}
+use Rattle.pl_values.proofs.KindFamilies.{label_test_kind, point_kind}
 use Rattle.pl_exec.specs.declared.course.Course.{Course}
 use Rattle.pl_exec.specs.Tasks.{sids_in}
-use Rattle.pl_exec.specs.Jobs.{AreGiven, IsCourse, IsOperandOf, node_in, task_in}
+use Rattle.pl_exec.specs.Jobs.{AreGiven, IsCourse, IsOperand, IsOperandOf, node_in, task_in}
 
 -- ---- an asset alone
 
@@ -143,3 +143,21 @@ module _ (c : Course) (is : IsCourse c) (i : ℕ) where
         given = subst (IsGiven w p (sids_in (task_in c)) c.term.0 n i (c.low + j)) (sym (values j h)) (point_given_at j h);
         cell = cells j h;
       }
+
+  -- ---- tests of labels
+
+  module _ (codes : List ℤ) (read : IsOperandOf c (slice_get n.inputs 0) i codes) (e : is_label_test n.kind ≡ true) where
+    tested : (u : ℕ) × (slice_get n.inputs 0 ≡ Some (TermInput u)) × (IsOperand c u i codes)
+    tested =
+        let k = label_test_kind n.kind e in
+        let x = label-input p is.job.task.checked c.term.0 n is.node k.0 k.1 in
+        (x.0, x.1, subst (λ o. IsOperandOf c o i codes) x.1 read)
+
+    pub codes_long : length codes ≡ c.count
+    codes_long = tested.2.long
+
+    pub code_given : (j : ℕ) → j < c.count → IsCode w.texts (get_or codes j (pos 0)) × IsGiven w p (sids_in (task_in c)) c.term.0 n i (c.low + j) (code_flag w.texts n.kind (get_or codes j (pos 0)))
+    code_given j h =
+        let k = label_test_kind n.kind e in
+        let law = label-test-cell w p (sids_in (task_in c)) c.term.0 n i (c.low + j) node_is k.0 tested.0 is.job.task.texts k.1 tested.1 in
+        rw (tested.2.each j h) law

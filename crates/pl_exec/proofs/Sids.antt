@@ -1,15 +1,20 @@
 -- The columns of a chunk, and their sids.
-use Rattle.std.proofs.Common.{◌≡◌, ℕ, zero, suc, ◌<◌, ◌≤◌, List, [], ◌∷◌, length, map, get_or, Some, slice_get, refl, sym, ◌∙◌, ap, arith, All, AllPairs, sum_by, max, fold}
+use Rattle.std.proofs.Common.{◌≡◌, ℕ, zero, suc, ◌<◌, ◌≤◌, List, [], ◌∷◌, length, map, get_or, Some, slice_get, refl, sym, ◌∙◌, ap, subst, arith, All, AllPairs, sum_by, max, fold}
 use Rattle.std.specs.List.{range_with_len}
 use Rattle.std.proofs.lemmas.List.{length-map, get_or_default}
 use Rattle.pl_spec.specs.declared.AssetRow.{AssetRow}
 use Rattle.pl_spec.specs.Parts.{sid_at}
-use Rattle.pl_spec.specs.Graph.{bound}
+use Rattle.pl_spec.specs.Graph.{bound, contains}
 use Rattle.pl_spec.proofs.Columns.{sid_at-row}
 use Rattle.pl_terms.specs.Uses.{outputs}
-use Rattle.pl_planner.specs.Plans.{is_used, last_user, is_read_by}
-use Rattle.pl_exec.specs.Tasks.{Task, chunk_steps, graph_in, held_in, steps_in, term_steps}
+use Rattle.pl_planner.specs.Plans.{is_used, last_user, is_read_by, slot_of}
+use Rattle.pl_workspace.specs.Slots.{Slots}
+use Rattle.pl_exec.specs.Slotted.{AreLive}
+use Rattle.pl_exec.specs.Tasks.{Task, HoldsOutputs, IsArray, chunk_steps, graph_in, held_in, kept_in, steps_in, term_steps}
 use Rattle.pl_exec.specs.Jobs.{IsTask}
+use Rattle.pl_exec.proofs.ArrayLists.{array_is}
+use Rattle.pl_exec.proofs.Living.{live_below}
+use Rattle.pl_exec.proofs.Mentions.{live_at_last, output_known}
 use Rattle.pl_exec.proofs.Listed.{held_bound, sum_filter, used_listed}
 use Rattle.pl_exec.proofs.Places.{sid_of_place}
 
@@ -42,9 +47,21 @@ sids_up assets rise cols up inside i j d l h =
 
 -- ---- all terms
 
-module _ (t : Task) (is : IsTask t) where
-  pub held_most : fold max 0 (map (held_in t) (range_with_len 0 (length (graph_in t)))) ≡ bound (graph_in t) (outputs t.pipeline)
-  held_most = held_bound (graph_in t) (outputs t.pipeline) (is_used t.plan) (λ k u. is_read_by (last_user t.plan u) k) is.plan.used (λ k u h. is.plan.live k u h)
+module _ (t : Task) (is : IsTask t) (k : ℕ) (all : k ≡ length (graph_in t)) where
+  pub held_most : fold max 0 (map (held_in t) (range_with_len 0 k)) ≡ bound (graph_in t) (outputs t.pipeline)
+  held_most = ap (λ m. fold max 0 (map (held_in t) (range_with_len 0 m))) all
+      ∙ held_bound (graph_in t) (outputs t.pipeline) (is_used t.plan) (λ n u. is_read_by (last_user t.plan u) n) is.plan.used (λ n u h. is.plan.live n u h)
 
-  pub steps_sum : sum_by (steps_in t) (range_with_len 0 (length (graph_in t))) ≡ chunk_steps t
-  steps_sum = sym (ap (sum_by (term_steps t)) (used_listed (graph_in t) (outputs t.pipeline) (is_used t.plan) is.plan.used) ∙ sum_filter (term_steps t) (is_used t.plan) (range_with_len 0 (length (graph_in t))))
+  pub steps_sum : sum_by (steps_in t) (range_with_len 0 k) ≡ chunk_steps t
+  steps_sum = ap (λ m. sum_by (steps_in t) (range_with_len 0 m)) all
+      ∙ sym (ap (sum_by (term_steps t)) (used_listed (graph_in t) (outputs t.pipeline) (is_used t.plan) is.plan.used) ∙ sum_filter (term_steps t) (is_used t.plan) (range_with_len 0 (length (graph_in t))))
+
+  pub outputs_held : (w : Slots) → AreLive (slot_of t.plan) (IsArray t) (kept_in t k) k w → HoldsOutputs t w
+  outputs_held w live =
+      let only = live_below (slot_of t.plan) (IsArray t) (kept_in t (length (graph_in t))) (contains (outputs t.pipeline)) (length (graph_in t)) w (live_at_last t is)
+      (subst (λ m. AreLive (slot_of t.plan) (IsArray t) (kept_in t m) m w) all live) in
+      record {
+        arrays = λ u e. only.held u (output_known t is u e) e;
+        values = λ u e. (let h = only.held u (output_known t is u e) e in record { cells = h.cells; is = h.is; holds = array_is t u h.cells h.holds });
+        only = only;
+      }

@@ -1,5 +1,5 @@
 -- Parts of an array, and one session of it written.
-use Rattle.std.proofs.Common.{◌≡◌, ℕ, zero, suc, ◌+◌, ◌-◌, ◌*◌, ◌<◌, ◌≤◌, ℤ, pos, List, length, map, take, drop, get_or, set, sym, ◌∙◌, ap, arith, inl, inr, get_or-set_same, get_or-set_other, length-set}
+use Rattle.std.proofs.Common.{◌≡◌, ℕ, zero, suc, ◌+◌, ◌-◌, ◌*◌, ◌<◌, ◌≤◌, ℤ, pos, List, length, map, take, drop, get_or, set, sym, ◌∙◌, ap, subst, arith, inl, inr, get_or-set_same, get_or-set_other, length-set}
 use Rattle.std.proofs.lemmas.Bool.{cases_eq}
 use Rattle.std.proofs.lemmas.List.{ext_get_or, get_or-take, get_or-drop, length-map, length-take-le, length-drop}
 use Rattle.std.proofs.lemmas.Nat.{same_from_place}
@@ -8,7 +8,7 @@ use Rattle.pl_spec.specs.Window.{downward}
 use Rattle.pl_spec.proofs.Windows.{length-downward}
 use Rattle.pl_spec.proofs.Places.{row-within}
 use Rattle.pl_values.specs.Arrays.{Holds, Fills, IsRow, window_up_to}
-use Rattle.pl_exec.specs.Jobs.{Begins, IsWritten}
+use Rattle.pl_exec.specs.Jobs.{IsWritten}
 
 pub at_downward : {X : Type 0} (f : ℕ → X) (size j : ℕ) (d : X) → j < size → get_or (map f (downward size)) j d ≡ f (size - 1 - j)
 at_downward f zero j d h = absurd (omega arith)
@@ -53,38 +53,6 @@ module _ (cell : ℕ → ℕ → ℤ) (assets low count : ℕ) (cells : List ℤ
       let s : low + ((session - low) - (size - 1 - j)) ≡ session - (size - 1 - j) = omega arith in
       rw (at_downward (λ n. cell i (session - n)) size j d l, ← s) (holds.cell i ((session - low) - (size - 1 - j)) asset (omega arith))
 
--- ---- one cell of an array
-
-module _ (cell : ℕ → ℕ → ℤ) (assets low count : ℕ) (cells : List ℤ) (holds : Holds cell assets low count cells) (i session at : ℕ)
-    (asset : i < assets) (early : low ≤ session) (late : session < low + count) (is : at ≡ session - low) where
-  pub at_within : i * count + at < length cells
-  at_within = let p = row-within i assets count at asset (omega arith) in let r = holds.room in omega arith
-
-  pub at_is : get_or cells (i * count + at) (pos 0) ≡ cell i session
-  at_is = let s : low + at ≡ session = omega arith in holds.each i at asset (omega arith) ∙ ap (cell i) s
-
-  pub at_cell : IsCell (cell i session)
-  at_cell = let s : low + at ≡ session = omega arith in rw (← s) (holds.cell i at asset (omega arith))
-
--- ---- rows
-
--- one cell more of a row
-pub one_begun : (f : ℕ → ℤ) (n done : ℕ) (row : List ℤ) (x : ℤ) → Begins f n done row → done < n → x ≡ f done → IsCell x → Begins f n (done + 1) (set row done x)
-one_begun f n done row x b here e is_cell = record {
-  long = length-set row done x ∙ b.long;
-  each = λ i h. elim (cases_eq i done) [
-    | inl p ↦ ap (λ k. get_or (set row done x) k (pos 0)) p ∙ get_or-set_same row done x (pos 0) (let l = b.long in omega arith) ∙ e ∙ ap f (sym p)
-    | inr p ↦ get_or-set_other row done i x (pos 0) p ∙ b.each i (omega arith)
-  ];
-  cell = λ i h. elim (cases_eq i done) [
-    | inl p ↦ rw (p, ← e) is_cell
-    | inr p ↦ b.cell i (omega arith)
-  ];
-}
-
-pub all_begun : (f : ℕ → ℤ) (n done : ℕ) (row : List ℤ) → Begins f n done row → n ≤ done → Fills f n row
-all_begun f n done row b h = record { long = b.long; each = λ i l. b.each i (omega arith); cell = λ i l. b.cell i (omega arith) }
-
 -- ---- a row put into an array
 
 -- session j is written for the first n assets
@@ -112,25 +80,26 @@ one_put f assets count j n old new x b asset session room e is_cell = record {
     here : n * count + j < length new
     here = let p = row-within n assets count j asset session in let s = b.size in omega arith
 
+pub row_put : (f : ℕ → ℤ) (assets count j : ℕ) (row old new : List ℤ) → Fills f assets row → IsRow (λ i. get_or row i (pos 0)) (length row) count j old new → IsRow f assets count j old new
+row_put f assets count j row old new filled put =
+    let p = subst (λ m. IsRow (λ i. get_or row i (pos 0)) m count j old new) filled.long put in
+    record { size = p.size; written = λ i h. p.written i h ∙ filled.each i h; cell = filled.cell; others = p.others }
+
 -- ---- session after session
 
-pub more_written : (f : ℕ → ℕ → ℤ) (assets low count done : ℕ) (old cells new row : List ℤ) → IsWritten f assets low count done old cells → done < count
-    → Fills (λ i. f i (low + done)) assets row → IsRow (λ i. get_or row i (pos 0)) assets count done cells new → IsWritten f assets low count (done + 1) old new
-more_written f assets low count done old cells new row so_far h filled put = record {
-  size = put.size ∙ so_far.size;
+pub more_written : (f : ℕ → ℕ → ℤ) (low count assets done : ℕ) (cells new : List ℤ) → IsWritten f low count assets done cells → done < count → IsRow (λ i. f i (low + done)) assets count done cells new
+    → IsWritten f low count assets (done + 1) new
+more_written f low count assets done cells new so_far h row = record {
   each = λ i t a l. elim (cases_eq t done) [
-    | inl e ↦ rw e (put.written i a ∙ filled.each i a)
-    | inr ne ↦ put.others i t a (omega arith) ne ∙ so_far.each i t a (omega arith)
+    | inl e ↦ rw e (row.written i a)
+    | inr ne ↦ row.others i t a (omega arith) ne ∙ so_far.each i t a (omega arith)
   ];
   cell = λ i t a l. elim (cases_eq t done) [
-    | inl e ↦ rw e (filled.cell i a)
+    | inl e ↦ rw e (row.cell i a)
     | inr ne ↦ so_far.cell i t a (omega arith)
   ];
 }
 
-pub all_written : (f : ℕ → ℕ → ℤ) (assets low count done : ℕ) (old cells : List ℤ) → IsWritten f assets low count done old cells → count ≤ done → assets * count ≤ length old → Holds f assets low count cells
-all_written f assets low count done old cells b e room = record {
-  room = (let s = b.size in omega arith);
-  each = λ i t a l. b.each i t a (omega arith);
-  cell = λ i t a l. b.cell i t a (omega arith);
-}
+pub all_written : (f : ℕ → ℕ → ℤ) (low count assets done sessions : ℕ) (cells : List ℤ) → IsWritten f low count done sessions cells → assets ≤ done → count ≤ sessions → assets * count ≤ length cells
+    → Holds f assets low count cells
+all_written f low count assets done sessions cells b all e room = record { room = room; each = λ i j a l. b.each i j (omega arith) (omega arith); cell = λ i j a l. b.cell i j (omega arith) (omega arith) }

@@ -13,7 +13,7 @@ use Rattle.pl_adjarray.proofs.Worlds.{whole_counts}
 use Rattle.pl_exec.specs.declared.job.Job.{Job}
 use Rattle.pl_exec.specs.declared.windows.Bars.{Bars}
 use Rattle.pl_exec.specs.Tasks.{first_row, row_count, count_in, graph_in, low_in, sids_in, term_steps, columns_of, columns_of_term, window_of_term}
-use Rattle.pl_exec.specs.Jobs.{AreBars, GoesOn, HasBarsAt, HasBegun, IsColumnRun, advanced, buffer_at, buffer_for, buffered, counted, new_column, one_col, passed, stand_at, steps_at, steps_of, task_of, traversal_at}
+use Rattle.pl_exec.specs.Jobs.{AreBars, AreMoved, GoOn, GoesOn, HasBarsAt, HasBegun, HaveBegun, IsColumnRun, advanced, buffer_at, buffer_for, buffered, counted, new_column, one_col, passed, stand_at, steps_at, steps_of, task_of, traversal_at}
 use Rattle.pl_workspace.specs.Slots.{Slots}
 use Rattle.pl_exec.proofs.NewColumns.{part, columns_sum}
 
@@ -41,24 +41,27 @@ module _ (j : Job) (w : Slots) (k : ℕ) (n : spec.Node) (run : IsColumnRun j w 
       let l = (run.job.task.plan.lows.few k j.from (run.run.used, (run.job.task.from, (let a = run.job.task.order in let b = run.job.task.to in omega arith)))).0 in
       let o = run.job.task.order in omega arith
 
-  pub stands_on : (p m : ℕ) → m < count_in (task_of j) k → (v : Traversal) → v ≡ traversal_at j k n cols p m → GoesOn v
+  stands_on : (p m : ℕ) → m < count_in (task_of j) k → (v : Traversal) → v ≡ traversal_at j k n cols p m → GoesOn v
   stands_on p m h v e =
       let r = rows_of (new_column n p) in let s = window_is in let a = stand_advances (buffer_at j k n cols p) n.window m run.some in
       subst GoesOn (sym e) (let c = some_count in omega arith)
 
-  pub stands_next : (p m : ℕ) (v u : Traversal) → v ≡ traversal_at j k n cols p m → u ≡ advanced v → u ≡ traversal_at j k n cols p (suc m)
+  stands_next : (p m : ℕ) (v u : Traversal) → v ≡ traversal_at j k n cols p m → u ≡ advanced v → u ≡ traversal_at j k n cols p (suc m)
   stands_next p m v u e f =
       f ∙ ap advanced e ∙ ap (λ i. record { array = buffer_at j k n cols p; window = n.window; session = (buffer_at j k n cols p).first + n.window + i }) (stand_advances (buffer_at j k n cols p) n.window m run.some)
 
-  pub bars_next : (m : ℕ) (b c : Bars) → AreBars j k n cols m b → c.first ≡ advanced b.first → c.second ≡ advanced b.second → c.third ≡ advanced b.third → AreBars j k n cols (suc m) c
-  bars_next m b c are f s t = record { first = stands_next 0 m b.first c.first are.first f; second = stands_next 1 m b.second c.second are.second s; third = stands_next 2 m b.third c.third are.third t }
+  pub bars_go_on : (m : ℕ) → m < count_in (task_of j) k → (b : Bars) → AreBars j k n cols m b → GoOn b
+  bars_go_on m h b are = record { first = stands_on 0 m h b.first are.first; second = stands_on 1 m h b.second are.second; third = stands_on 2 m h b.third are.third }
+
+  pub bars_next : (m : ℕ) (b c : Bars) → AreBars j k n cols m b → AreMoved advanced b c → AreBars j k n cols (suc m) c
+  bars_next m b c are to = record { first = stands_next 0 m b.first c.first are.first to.first; second = stands_next 1 m b.second c.second are.second to.second; third = stands_next 2 m b.third c.third are.third to.third }
 
   -- after one advance the traversals have begun, and go on by sessions on which nothing changes
   has_begun : (p m : ℕ) (v : Traversal) → v ≡ traversal_at j k n cols p (suc m) → HasBegun v
   has_begun p m v e = subst HasBegun (sym e) (omega arith)
 
-  pub bars_begun : (m : ℕ) (b : Bars) → AreBars j k n cols (suc m) b → (HasBegun b.first × HasBegun b.second × HasBegun b.third)
-  bars_begun m b are = (has_begun 0 m b.first are.first, has_begun 1 m b.second are.second, has_begun 2 m b.third are.third)
+  pub bars_begun : (m : ℕ) (b : Bars) → AreBars j k n cols (suc m) b → HaveBegun b
+  bars_begun m b are = record { first = has_begun 0 m b.first are.first; second = has_begun 1 m b.second are.second; third = has_begun 2 m b.third are.third }
 
   stands_later : (p m more : ℕ) (v u : Traversal) → v ≡ traversal_at j k n cols p (suc m) → u ≡ passed v more → u ≡ traversal_at j k n cols p (m + more + 1)
   stands_later p m more v u e f =
@@ -68,8 +71,8 @@ module _ (j : Job) (w : Slots) (k : ℕ) (n : spec.Node) (run : IsColumnRun j w 
       ∙ ap (λ x. record { array = buffer_at j k n cols p; window = n.window; session = x }) s
       ∙ ap (traversal_at j k n cols p) t
 
-  pub bars_later : (m more : ℕ) (b c : Bars) → AreBars j k n cols (suc m) b → c.first ≡ passed b.first more → c.second ≡ passed b.second more → c.third ≡ passed b.third more → AreBars j k n cols (m + more + 1) c
-  bars_later m more b c are f s t = record { first = stands_later 0 m more b.first c.first are.first f; second = stands_later 1 m more b.second c.second are.second s; third = stands_later 2 m more b.third c.third are.third t }
+  pub bars_later : (m more : ℕ) (b c : Bars) → AreBars j k n cols (suc m) b → AreMoved (λ v. passed v more) b c → AreBars j k n cols (m + more + 1) c
+  bars_later m more b c are to = record { first = stands_later 0 m more b.first c.first are.first to.first; second = stands_later 1 m more b.second c.second are.second to.second; third = stands_later 2 m more b.third c.third are.third to.third }
 
   pub bars_here : (m s : ℕ) (b : Bars) → AreBars j k n cols (suc m) b → s ≡ low_in (task_of j) k + m → HasBarsAt j k n cols s b
   bars_here m s b are e = record { advances = m; bars = are; at = e; deep = run.deep }
@@ -137,7 +140,7 @@ module _ (j : Job) (w : Slots) (k : ℕ) (n : spec.Node) (run : IsColumnRun j w 
   part_counted : (o : Option Column) → applied_at (buffer_for j k j.cols.now o) (first_row (task_of j) k + row_count (task_of j) k) ≡ part column_steps o
   part_counted None = refl
   part_counted (Some c) =
-      whole_counts (buffered j k c j.cols.now) j.world.assets.now j.world.labels.now.rows j.world.labels.now.texts run.job.made.parts run.job.task.columns.within
+      whole_counts (buffered j k c j.cols.now) j.world.assets.now j.world.labels.now.rows j.world.labels.now.texts j.world.numbers.now.rows run.job.made.parts run.job.task.columns.within
 
   pub steps_all : steps_of j k n j.cols.now ≡ term_steps (task_of j) k
   unfolding term_steps

@@ -1,6 +1,6 @@
 -- The values of a term for an asset on sessions in a row.
-use Rattle.std.proofs.Common.{◌≡◌, ℕ, ◌+◌, ◌-◌, ◌*◌, ◌<◌, ◌≤◌, true, ℤ, pos, List, ◌++◌, length, take, drop, get_or, get_or-set_same, get_or-set_other, set, Option, Some, slice_get, refl, sym, ◌∙◌, ap, subst, arith, All, inl, inr}
-use Rattle.std.proofs.lemmas.Bool.{cases_eq, cases_lt}
+use Rattle.std.proofs.Common.{◌≡◌, ℕ, ◌+◌, ◌-◌, ◌*◌, ◌<◌, ◌≤◌, true, ℤ, pos, List, ◌++◌, length, take, drop, get_or, Option, Some, slice_get, refl, sym, ◌∙◌, ap, subst, arith, All, inl, inr}
+use Rattle.std.proofs.lemmas.Bool.{cases_lt}
 use Rattle.std.proofs.lemmas.List.{ext_get_or, get_or-take, get_or-drop, get_or_append_left, length-map, length-take, length-drop}
 use borrow.Rule.Slice.PartMut.{put_mid, post_of}
 use Rattle.pl_spec.specs.Rounding.{IsCell}
@@ -15,7 +15,7 @@ use Rattle.pl_factors.specs.Kinds.{formula_of}
 use Rattle.pl_running.specs.Lanes.{AreValues, TakesLanes, window_at}
 use Rattle.pl_running.specs.Spans.{TakesWindows}
 use Rattle.pl_running.proofs.Following.{cells_at}
-use Rattle.pl_values.specs.Arrays.{chosen, is_kept, window_up_to}
+use Rattle.pl_values.specs.Arrays.{Holds, chosen, is_kept, window_up_to}
 use Rattle.pl_values.specs.Families.{TakesWindows as TakesGiven, windowed}
 use Rattle.pl_values.specs.Inputs.{input_window}
 use Rattle.pl_values.specs.Laws.{IsGiven}
@@ -24,12 +24,12 @@ use Rattle.pl_values.proofs.KindFamilies.{window_kind}
 use Rattle.pl_exec.specs.declared.course.Course.{Course}
 use Rattle.pl_exec.specs.declared.turn.Turn.{Turn}
 use Rattle.pl_exec.specs.declared.job.Array.{Array}
-use Rattle.pl_exec.specs.Tasks.{assets_in, cell_in, low_in, sids_in}
-use Rattle.pl_exec.specs.Jobs.{IsCourse, IsGivenOn, IsLane, IsReach, IsTermLent, IsTurn, node_at, node_in, task_at, task_in, turn_in}
+use Rattle.pl_exec.specs.Tasks.{assets_in, cell_in, sids_in}
+use Rattle.pl_exec.specs.Jobs.{IsCourse, IsGivenOn, FillsLane, IsReach, IsTermLent, IsTurn, node_at, node_in, task_at, task_in, turn_in}
 use Rattle.pl_exec.proofs.Courses.{course_turn}
 use Rattle.pl_exec.proofs.Givens.{node_is, none_cell}
-use Rattle.pl_exec.proofs.Held.{read_cells, read_end, read_size, read_window}
-use Rattle.pl_exec.proofs.Spans.{at_downward}
+use Rattle.pl_exec.proofs.Held.{held}
+use Rattle.pl_exec.proofs.Spans.{at_downward, end_within, size_within, window_cells, window_is}
 
 -- ---- the cells of a term
 
@@ -50,20 +50,27 @@ up_to_at f size more s m h =
     ∙ sym (at_downward (λ n. f (s + m - n)) size k (pos 0) inside))
 
 module _ (t : Turn) (is : IsTurn t) (i u : ℕ) (a : Array) (lent : IsTermLent t u a) (asset : i < assets_in (task_at t)) (more size : ℕ) (same : size ≡ (node_at t).window + more) (late : t.session + more ≤ t.job.now.to) where
-  some : 1 ≤ (node_at t).window + more
-  some = let s = lent.read.some in omega (arith, s)
+  own : Holds (cell_in (task_at t) u) (assets_in (task_at t)) a.low a.count a.cells.now
+  own = held (task_at t) u a lent.array
 
-  early : low_in (task_at t) u + ((node_at t).window + more) ≤ t.session + more + 1
-  early = let e = lent.read.early in omega (arith, e)
+  some : 1 ≤ size
+  some = let s = lent.read.some in omega (arith, s, same)
+
+  early : a.low + size ≤ t.session + more + 1
+  early = let e = lent.read.early in let l = lent.array.low in omega (arith, e, l, same)
+
+  last : t.session + more < a.low + a.count
+  last = let e = lent.array.end in omega (arith, e, late)
 
   pub reach_end : i * a.count + (t.session + more - a.low) + 1 ≤ length a.cells.now
-  reach_end = read_end (task_at t) u a.low a.count a.cells.now lent.holds lent.low lent.end (t.session + more) size ((node_at t).window + more) i same asset some early late
+  reach_end = end_within (cell_in (task_at t) u) (assets_in (task_at t)) a.low a.count a.cells.now own i (t.session + more) size asset some early last
 
   pub reach_size : size ≤ i * a.count + (t.session + more - a.low) + 1
-  reach_size = read_size (task_at t) u a.low a.count a.cells.now lent.holds lent.low lent.end (t.session + more) size ((node_at t).window + more) i same asset some early late
+  reach_size = size_within (cell_in (task_at t) u) (assets_in (task_at t)) a.low a.count a.cells.now own i (t.session + more) size asset some early last
 
   taken_is : take size (drop (i * a.count + (t.session + more - a.low) + 1 - size) a.cells.now) ≡ window_up_to (cell_in (task_at t) u i) ((node_at t).window + more) (t.session + more)
-  taken_is = read_window (task_at t) u a.low a.count a.cells.now lent.holds lent.low lent.end (t.session + more) size ((node_at t).window + more) i same asset some early late
+  taken_is = window_is (cell_in (task_at t) u) (assets_in (task_at t)) a.low a.count a.cells.now own i (t.session + more) size asset some early last
+      ∙ ap (λ n. window_up_to (cell_in (task_at t) u i) n (t.session + more)) same
 
   pub term_reached : IsReach t (Some (spec.TermInput u)) i more (take size (drop (i * a.count + (t.session + more - a.low) + 1 - size) a.cells.now))
   term_reached = record {
@@ -72,7 +79,8 @@ module _ (t : Turn) (is : IsTurn t) (i u : ℕ) (a : Array) (lent : IsTermLent t
   }
 
   pub reach_cells : All IsCell (take size (drop (i * a.count + (t.session + more - a.low) + 1 - size) a.cells.now))
-  reach_cells = subst (All IsCell) (sym taken_is) (read_cells (task_at t) u a.low a.count a.cells.now lent.holds lent.low lent.end (t.session + more) size ((node_at t).window + more) i same asset some early late)
+  reach_cells = subst (All IsCell) (sym (window_is (cell_in (task_at t) u) (assets_in (task_at t)) a.low a.count a.cells.now own i (t.session + more) size asset some early last))
+      (window_cells (cell_in (task_at t) u) (assets_in (task_at t)) a.low a.count a.cells.now own i (t.session + more) size asset some early last)
 
 -- ---- what a formula gives
 
@@ -154,14 +162,6 @@ more_given P xs ys done n k within size so_far more m h = elim (cases_lt m done)
       subst (P m) (sym own) (subst (λ x. P x (get_or ys (m - done) (pos 0))) (sym e) (more (m - done) inside)))
 ]
 
--- one cell more
-pub one_given : (P : ℕ → ℤ → Type 0) (done : ℕ) (out : List ℤ) (x : ℤ) → ((m : ℕ) → m < done → P m (get_or out m (pos 0))) → done < length out → P done x
-    → (m : ℕ) → m < done + 1 → P m (get_or (set out done x) m (pos 0))
-one_given P done out x so_far room here m h = elim (cases_eq m done) [
-  | inl p ↦ subst (P m) (sym (ap (λ k. get_or (set out done x) k (pos 0)) p ∙ get_or-set_same out done x (pos 0) room)) (subst (λ k. P k x) (sym p) here)
-  | inr p ↦ subst (P m) (sym (get_or-set_other out done m x (pos 0) p)) (so_far m (omega (arith, h, p)))
-]
-
 -- a cell that is said otherwise
 pub given_by : (c : Course) (i j : ℕ) (x y : ℤ) → y ≡ x → IsGiven (task_in c).world (task_in c).pipeline (sids_in (task_in c)) c.term.0 (node_in c) i (c.low + j) x → IsCell x → IsGivenOn c i j y
 given_by c i j x y e given cell = record {
@@ -178,7 +178,7 @@ module _ (c : Course) (is : IsCourse c) (i : ℕ) (made out : List ℤ) (given :
       ∙ ap (chosen (is_kept (task_in c).world (task_in c).pipeline (sids_in (task_in c)) (node_in c).mask i (c.low + j)) (get_or made j (pos 0))) is.none
       ∙ sym (given j h).given
 
-  pub kept_lane : length out ≡ c.count → IsLane c i out
+  pub kept_lane : length out ≡ c.count → FillsLane c i out
   kept_lane size = record {
     long = size;
     each = cell_at;

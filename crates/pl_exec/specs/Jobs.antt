@@ -1,5 +1,6 @@
 -- What the code has of a chunk's work, and what is there when a term is computed.
 use Rattle.std.specs.Prelude.{◌≡◌, ◌≢◌, ℕ, zero, suc, ◌+◌, ◌<◌, ◌≤◌, ◌*◌, ◌^◌, Bool, true, false, if◌then◌else◌, ◌==◌, ℤ, pos, ◌<ℤ◌, ◌≤ℤ◌, List, [], ◌∷◌, length, filter_map, take, get_or, Option, Some, None, slice_get, AllPairs}
+use Rattle.pl_spec.specs.Limits.{most_assets, most_terms}
 use Rattle.pl_spec.specs.Rounding.{IsCell}
 use Rattle.pl_spec.specs.declared.Column.{Column}
 use Rattle.pl_spec.specs.declared.Column.TheVariants.{Close}
@@ -33,6 +34,7 @@ use Rattle.pl_workspace.specs.Slots.{Slots, Free, slot_at}
 use Rattle.std.specs.Borrow.{Bor}
 use Rattle.pl_exec.specs.declared.job.Job.{Job}
 use Rattle.pl_exec.specs.declared.course.Course.{Course}
+use Rattle.pl_exec.specs.declared.course.Lane.{Lane}
 use Rattle.pl_exec.specs.declared.turn.Turn.{Turn}
 use Rattle.pl_exec.specs.declared.windows.Bars.{Bars}
 use Rattle.pl_exec.specs.declared.job.Array.{Array}
@@ -60,9 +62,9 @@ task_of j = record { world = world_of j.world; pipeline = pipeline_of j.checked.
 pub record IsJob (j : Job) : Type 0 where
   pub made : PartsMakeAWorld j.world
   pub labels : AreLabels j.world.labels.now
-  pub few : length j.cols.now ≤ 8000
+  pub few : length j.cols.now ≤ most_assets
   pub fits : j.to < 2 ^ 63
-  pub terms : length (graph_in (task_of j)) ≤ 256
+  pub terms : length (graph_in (task_of j)) ≤ most_terms
   pub task : IsTask (task_of j)
 
 -- ---- what is read
@@ -141,25 +143,13 @@ abbrev pub turn_in : Course → ℕ → Turn
 turn_in c j = record { job = c.job; term = c.term; node = c.node; session = c.low + j; workspace = c.workspace; none = c.none }
 
 -- the cells of an asset
-abbrev pub IsLane : Course → ℕ → List ℤ → Type 0
-IsLane c i row = Fills (λ j. cell_in (task_in c) c.term.0 i (c.low + j)) c.count row
+abbrev pub FillsLane : Course → ℕ → List ℤ → Type 0
+FillsLane c i row = Fills (λ j. cell_in (task_in c) c.term.0 i (c.low + j)) c.count row
 
--- the array is written for the first assets
-pub record AreLanes (f : ℕ → ℕ → ℤ) (low count done : ℕ) (cells : List ℤ) : Type 0 where
-  pub each : (i j : ℕ) → i < done → j < count → get_or cells (i * count + j) (pos 0) ≡ f i (low + j)
-  pub cell : (i j : ℕ) → i < done → j < count → IsCell (f i (low + j))
-
--- a row of n cells of which the first ones are written
-pub record Begins (f : ℕ → ℤ) (n done : ℕ) (row : List ℤ) : Type 0 where
-  pub long : length row ≡ n
-  pub each : (i : ℕ) → i < done → get_or row i (pos 0) ≡ f i
-  pub cell : (i : ℕ) → i < done → IsCell (f i)
-
--- the array is written for the first sessions
-pub record IsWritten (f : ℕ → ℕ → ℤ) (assets low count done : ℕ) (old cells : List ℤ) : Type 0 where
-  pub size : length cells ≡ length old
-  pub each : (i t : ℕ) → i < assets → t < done → get_or cells (i * count + t) (pos 0) ≡ f i (low + t)
-  pub cell : (i t : ℕ) → i < assets → t < done → IsCell (f i (low + t))
+-- the array, of count sessions from low on, is written for the first assets and sessions
+pub record IsWritten (f : ℕ → ℕ → ℤ) (low count assets sessions : ℕ) (cells : List ℤ) : Type 0 where
+  pub each : (i j : ℕ) → i < assets → j < sessions → get_or cells (i * count + j) (pos 0) ≡ f i (low + j)
+  pub cell : (i j : ℕ) → i < assets → j < sessions → IsCell (f i (low + j))
 
 -- ---- bar columns
 
@@ -221,11 +211,15 @@ stand_at b size (suc n) = b.first + size + n
 abbrev pub traversal_at : Job → ℕ → spec.Node → List ℕ → ℕ → ℕ → Traversal
 traversal_at j k n cols p m = record { array = buffer_at j k n cols p; window = n.window; session = stand_at (buffer_at j k n cols p) n.window m }
 
+-- what holds of the traversal of each place
+pub record OfEach (P : ℕ → Traversal → Type 0) (b : Bars) : Type 0 where
+  pub first : P 0 b.first
+  pub second : P 1 b.second
+  pub third : P 2 b.third
+
 -- the traversals of the places after so many advances
-pub record AreBars (j : Job) (k : ℕ) (n : spec.Node) (cols : List ℕ) (m : ℕ) (b : Bars) : Type 0 where
-  pub first : b.first ≡ traversal_at j k n cols 0 m
-  pub second : b.second ≡ traversal_at j k n cols 1 m
-  pub third : b.third ≡ traversal_at j k n cols 2 m
+abbrev pub AreBars : Job → ℕ → spec.Node → List ℕ → ℕ → Bars → Type 0
+AreBars j k n cols m b = OfEach (λ p v. v ≡ traversal_at j k n cols p m) b
 
 -- the steps of whole traversals
 abbrev pub steps_at : Job → ℕ → spec.Node → List ℕ → ℕ → ℕ
@@ -250,17 +244,27 @@ passed v more = record { array = v.array; window = v.window; session = v.session
 abbrev pub HasBegun : Traversal → Type 0
 HasBegun v = v.array.first + v.window ≤ v.session
 
+abbrev pub HaveBegun : Bars → Type 0
+HaveBegun b = OfEach (λ p v. HasBegun v) b
+
 -- nothing changes in the traversals on so many sessions
-pub record AreStill (b : Bars) (n : ℕ) : Type 0 where
-  pub first : IsStill b.first.array b.first.session n
-  pub second : IsStill b.second.array b.second.session n
-  pub third : IsStill b.third.array b.third.session n
+abbrev pub AreStill : Bars → ℕ → Type 0
+AreStill b n = OfEach (λ p v. IsStill v.array v.session n) b
+
+-- each traversal comes so from the one before
+pub record AreMoved (move : Traversal → Traversal) (old new : Bars) : Type 0 where
+  pub first : new.first ≡ move old.first
+  pub second : new.second ≡ move old.second
+  pub third : new.third ≡ move old.third
 
 abbrev pub counted : Bars → ℕ
 counted b = applied_at b.first.array b.first.session + applied_at b.second.array b.second.session + applied_at b.third.array b.third.session
 
 abbrev pub GoesOn : Traversal → Type 0
 GoesOn v = advances v + v.window ≤ v.array.rows
+
+abbrev pub GoOn : Bars → Type 0
+GoOn b = OfEach (λ p v. GoesOn v) b
 
 pub record HasBarsAt (j : Job) (k : ℕ) (n : spec.Node) (cols : List ℕ) (s : ℕ) (b : Bars) : Type 0 where
   pub advances : ℕ
@@ -291,18 +295,16 @@ AreStillNow (Some b) n = AreStill b n
 abbrev pub column_traversal : Turn → ℕ → Column → Traversal
 column_traversal t i c = record { array = buffered t.job.now t.term.0 c (one_col t.job.now i); window = (node_at t).window; session = t.session }
 
--- in the array of its term
-pub record IsTermLent (t : Turn) (u : ℕ) (a : Array) : Type 0 where
-  pub read : IsRead (task_at t) t.workspace.now t.session (node_at t).window u
-  pub holds : IsArray (task_at t) u a.cells.now
-  pub low : a.low ≡ low_in (task_at t) u
-  pub end : a.low + a.count ≡ t.job.now.to + 1
-
 -- the array of term u, as the code has it
 pub record IsArrayOf (t : Task) (u : ℕ) (a : Array) : Type 0 where
   pub holds : IsArray t u a.cells.now
   pub low : a.low ≡ low_in t u
   pub end : a.low + a.count ≡ t.to + 1
+
+-- in the array of its term
+pub record IsTermLent (t : Turn) (u : ℕ) (a : Array) : Type 0 where
+  pub read : IsRead (task_at t) t.workspace.now t.session (node_at t).window u
+  pub array : IsArrayOf (task_at t) u a
 
 -- where the windows of the input in place p lie
 abbrev pub IsLent : Task → spec.Node → Option spec.Input → Source → Type 0
@@ -378,6 +380,16 @@ pub record AreLent (t : Task) (n : spec.Node) (s : Sources) : Type 0 where
   pub second : IsLent t n (slice_get n.inputs 1) s.second
   pub third : IsLent t n (slice_get n.inputs 2) s.third
   pub mask : IsMaskLent t n.mask s.mask
+
+-- an asset on the sessions of a course
+pub record IsLane (l : Lane) : Type 0 where
+  pub course : IsCourse l.course.now
+  pub lent : AreLent (task_in l.course.now) (node_in l.course.now) l.sources.now
+  pub asset : l.i < assets_in (task_in l.course.now)
+
+-- the rows of the input in a place for an asset alone
+abbrev pub rows_at : Lane → ℕ → Buffered
+rows_at l p = buffer_at l.course.now.job.now l.course.now.term.0 (node_in l.course.now) (one_col l.course.now.job.now l.i) p
 
 -- ---- the slots of bar columns
 

@@ -1,6 +1,5 @@
 //! The used terms of a chunk, one after the other, each in its planned slot.
-ghost use Rattle.std.specs.Prelude.{◌≡◌, ◌+◌, ◌<◌, ◌≤◌, ◌&&◌, ℕ, true, length, max, fold, map, sum_by, option_map};
-ghost use Rattle.std.specs.List.{range_with_len};
+ghost use Rattle.std.specs.Prelude.{◌≡◌, ◌+◌, ◌<◌, ◌≤◌, ◌&&◌, ℕ, true, length, max, option_map};
 ghost use Rattle.pl_spec.specs.Graph.{bound, columns_at};
 ghost use Rattle.pl_spec.specs.Limits.{cut};
 ghost use Rattle.pl_terms.specs.Checked.{pipeline_of};
@@ -203,18 +202,12 @@ fn run_terms<'x, L: Ledger>(
     requires room { HasRoom (task_of job.now) workspace.old.len }
     requires cross { assets_in (task_of job.now) ≤ cross.old }
     requires rows { assets_in (task_of job.now) ≤ rows.old }
-    ensures live { AreLive (slot_of job.now.plan.now) (IsArray (task_of job.now))
-        (kept_in (task_of job.now) (length (graph_in (task_of job.now))))
-        (length (graph_in (task_of job.now))) workspace.new }
-    ensures peak { workspace.new.peak ≡ max workspace.old.peak
-        (fold max 0 (map (held_in (task_of job.now))
-        (range_with_len 0 (length (graph_in (task_of job.now)))))) }
-    ensures held { result.peak ≡ fold max 0 (map (held_in (task_of job.now))
-        (range_with_len 0 (length (graph_in (task_of job.now))))) }
-    ensures cost { steps.new ≡ steps.old + sum_by (steps_in (task_of job.now))
-        (range_with_len 0 (length (graph_in (task_of job.now)))) }
-    ensures applied { result.applied ≡ cut (sum_by (steps_in (task_of job.now))
-        (range_with_len 0 (length (graph_in (task_of job.now))))) }
+    ensures outputs { HoldsOutputs (task_of job.now) workspace.new }
+    ensures workspace { workspace.new.peak ≡ max workspace.old.peak
+        (bound (graph_in (task_of job.now)) (outputs (task_of job.now).pipeline)) }
+    ensures peak { result.peak ≡ bound (graph_in (task_of job.now)) (outputs (task_of job.now).pipeline) }
+    ensures applied { result.applied ≡ cut (chunk_steps (task_of job.now)) }
+    ensures cost { steps.new ≡ steps.old + chunk_steps (task_of job.now) }
     ensures len { workspace.new.len ≡ workspace.old.len }
     ensures slots { length workspace.new.slots ≡ length workspace.old.slots }
     ensures cross { cross.new ≡ cross.old }

@@ -5,9 +5,9 @@ ghost use Rattle.pl_spec.specs.Graph.{contains, input_column};
 ghost use Rattle.pl_terms.specs.Nodes.{input_of, node_of};
 ghost use Rattle.pl_exec.specs.Jobs as spec;
 
-use crate::job::{input_at, inputs_of};
 use pl_fixed::Column;
 use pl_terms::{Input, Node};
+use pl_values::{input_at, inputs_of};
 
 fn column_number(column: Column) -> u8
     ensures { result ≡ column_number column }

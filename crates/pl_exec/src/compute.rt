@@ -125,6 +125,31 @@ fn fill_from<L: Ledger>(
     filled
 }
 
+// The array of a term over bar columns, with these in their slots while it is computed.
+fn fill_columns<L: Ledger>(
+    term: &Term<'_>,
+    workspace: &mut Workspace,
+    own: &mut [i64],
+    steps: &mut Steps<L>,
+) -> Filled
+    requires run { IsColumnRun term.now.job.now workspace.old term.now.id.0 (node_for term.now) }
+    requires free { AreFree (task_for term.now) workspace.old term.now.id.0 0 }
+    requires counted { live_count workspace.old.slots ≤ workspace.old.peak }
+    requires columns { assets_in (task_for term.now) * row_count (task_for term.now) term.now.id.0
+        ≤ workspace.old.len }
+    requires room { assets_in (task_for term.now) * count_in (task_for term.now) term.now.id.0
+        ≤ length own.old }
+    ensures { IsFilled (task_for term.now) term.now.id.0 (new_from (node_for term.now) 0) workspace.old
+        workspace.new own.new steps.old steps.new result }
+{
+    let cells = Cells {
+        first: &mut [],
+        second: &mut [],
+        third: &mut [],
+    };
+    fill_from(term, 0, workspace, own, cells, steps)
+}
+
 /// The array of a term, with its bar columns in their slots while it is computed.
 pub(crate) fn compute<'x, L: Ledger>(
     job: &'x Job<'x>,
@@ -153,12 +178,7 @@ pub(crate) fn compute<'x, L: Ledger>(
     let node = node_of(job, id);
     if new_count(node, 3) > 0 {
         let term = Term { job, id, node };
-        let cells = Cells {
-            first: &mut [],
-            second: &mut [],
-            third: &mut [],
-        };
-        return fill_from(&term, 0, workspace, own.cells_mut(), cells, steps);
+        return fill_columns(&term, workspace, own.cells_mut(), steps);
     }
     let held = workspace.live();
     let course = course_of(job, id, node, workspace);

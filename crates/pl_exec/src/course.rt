@@ -7,6 +7,7 @@ ghost use Rattle.pl_exec.specs.Jobs.{IsCourse, IsJob, IsRun, IsTurn, course_at, 
 
 use crate::job::{Job, low_of};
 use crate::turn::Turn;
+use crate::windows::Sources;
 use pl_terms::{Node, TermId};
 use pl_values::empty_value;
 use pl_workspace::Workspace;
@@ -21,6 +22,14 @@ pub(crate) struct Course<'t> {
     pub(crate) none: i64,
     pub(crate) low: usize,
     pub(crate) count: usize,
+}
+
+/// The asset in a place on all the sessions of a course, and where the windows of the inputs lie.
+#[derive(Clone, Copy)]
+pub(crate) struct Lane<'t> {
+    pub(crate) course: &'t Course<'t>,
+    pub(crate) sources: &'t Sources<'t>,
+    pub(crate) i: usize,
 }
 
 // The empty value of a term.

@@ -4,26 +4,25 @@ ghost use Rattle.std.specs.Prelude.{◌≡◌, ◌+◌, ◌*◌, ◌<◌, ◌≤
 ghost use Rattle.pl_spec.specs.Rounding.{IsCell};
 ghost use Rattle.pl_spec.specs.Graph.{columns_at};
 ghost use Rattle.pl_spec.specs.Limits.{cut};
-ghost use Rattle.pl_terms.specs.Sorts.{is_windowed};
+ghost use Rattle.pl_adjarray.specs.Buffered.{applied_at};
 ghost use Rattle.pl_values.specs.Arrays.{IsRow};
 ghost use Rattle.pl_values.specs.Families.{IsOf};
 ghost use Rattle.pl_exec.specs.Tasks.{IsArray, assets_in, graph_in, term_steps};
-ghost use Rattle.pl_exec.specs.Jobs.{AreBars, AreGiven, AreLent, HasNoBars, HasRows, IsColumnRun, IsCourse, IsLane, IsOut, IsTurn, buffer_at, by_rows, counted, node_at, node_in, one_col, steps_of, task_at, task_in};
+ghost use Rattle.pl_exec.specs.Jobs.{AreBars, AreGiven, FillsLane, HasNoBars, HasRows, IsColumnRun, IsCourse, IsLane, IsOut, IsTurn, buffer_at, by_rows, counted, node_at, node_in, one_col, rows_at, steps_of, task_at, task_in, traversal_at};
 
 use crate::columns::new_column;
-use crate::course::{Course, turn_on};
-use crate::job::{kind_of, window_of};
+use crate::course::{Course, Lane, turn_on};
 use crate::keep::keep_lane;
 use crate::kinds::{is_by_rows, kind_row};
-use crate::leaves::{constant_lane, label_lane, label_test_lane, sids_lane};
+use crate::leaves::{constant_lane, label_lane, label_test_lane, number_lane, sids_lane};
 use crate::points::point_lane;
 use crate::rows::Rows;
 use crate::turn::{Turn, keep_row};
-use crate::windows::{Bars, Sources, advance_all, applied, fill_stretch, pass, sources_of, still};
-use pl_adjarray::AdjustedArray;
+use crate::windows::{Bars, advance_all, applied, fill_stretch, pass, sources_of, still};
+use pl_adjarray::{AdjustedArray, Windows};
 use pl_cross::Cross;
 use pl_fixed::{Column, Steps};
-use pl_values::{Family, family_of};
+use pl_values::{Family, family_of, kind_of, window_of};
 use std::sync::ledger::Ledger;
 
 fn put(cells: &mut [i64], place: usize, cell: i64)
@@ -79,84 +78,39 @@ fn row_on(
     kind_row(turn, family, cross, first, second, keep, out);
 }
 
-// The array of a term whose cells come row by row.
-fn fill_rows<'x>(
-    course: &Course<'x>,
-    family: Family,
-    own: &mut [i64],
-    cross: &mut Cross,
-    first: &mut [i64],
-    second: &mut [i64],
-    keep: &mut [i64],
-    out: &mut [i64],
-)
-    requires course { IsCourse course.now }
-    requires family { IsOf (node_in course.now).kind family }
-    requires rows { by_rows family ≡ true }
-    requires room { assets_in (task_in course.now) * course.now.count ≤ length own.old }
-    requires cross { assets_in (task_in course.now) ≤ cross.old }
-    requires first { length first.old ≡ assets_in (task_in course.now) }
-    requires second { length second.old ≡ assets_in (task_in course.now) }
-    requires keep { length keep.old ≡ assets_in (task_in course.now) }
-    requires long { length out.old ≡ assets_in (task_in course.now) }
-    ensures array { IsArray (task_in course.now) course.now.term.0 own.new }
-    ensures cross { cross.new ≡ cross.old }
-{
-    for j in 0..course.count {
-        let turn = turn_on(course, j);
-        row_on(&turn, family, cross, first, second, keep, out);
-        put_row(out, own, course.count, j);
-    }
-}
-
 // What a term that reads no bar columns is worth for an asset, whether that is kept or not.
-fn given_lane<'x>(
-    course: &Course<'x>,
-    sources: &Sources<'x>,
-    family: Family,
-    i: usize,
-    out: &mut [i64],
-)
-    requires course { IsCourse course.now }
-    requires sources { AreLent (task_in course.now) (node_in course.now) sources.now }
-    requires family { IsOf (node_in course.now).kind family }
+fn given_lane(lane: &Lane<'_>, family: Family, out: &mut [i64])
+    requires lane { IsLane lane.now }
+    requires family { IsOf (node_in lane.now.course.now).kind family }
     requires lanes { by_rows family ≡ false }
-    requires none { HasNoBars (node_in course.now) }
-    requires asset { i < assets_in (task_in course.now) }
-    requires long { length out.old ≡ course.now.count }
-    ensures { AreGiven course.now i out.new }
+    requires none { HasNoBars (node_in lane.now.course.now) }
+    requires long { length out.old ≡ lane.now.course.now.count }
+    ensures { AreGiven lane.now.course.now lane.now.i out.new }
 {
     match family {
-        Family::Constant(value) => constant_lane(course, value, i, out),
-        Family::Label(name) => label_lane(course, name, i, out),
-        Family::Sids => sids_lane(course, i, out),
-        Family::LabelTest => label_test_lane(course, sources, i, out),
-        Family::Point => point_lane(course, sources, i, out),
-        Family::Window => fill_stretch(course, sources, None, i, 0, out),
+        Family::Constant(value) => constant_lane(lane, value, out),
+        Family::Label(name) => label_lane(lane, name, out),
+        Family::Number(name) => number_lane(lane, name, out),
+        Family::Sids => sids_lane(lane, out),
+        Family::LabelTest => label_test_lane(lane, out),
+        Family::Point => point_lane(lane, out),
+        Family::Window => fill_stretch(lane, None, 0, out),
         Family::Section => unreachable!(),
         Family::Downsample(_) => unreachable!(),
     }
 }
 
 // The cells of an asset of a term that reads no bar columns.
-fn plain_lane<'x>(
-    course: &Course<'x>,
-    sources: &Sources<'x>,
-    family: Family,
-    i: usize,
-    out: &mut [i64],
-)
-    requires course { IsCourse course.now }
-    requires sources { AreLent (task_in course.now) (node_in course.now) sources.now }
-    requires family { IsOf (node_in course.now).kind family }
+fn plain_lane(lane: &Lane<'_>, family: Family, out: &mut [i64])
+    requires lane { IsLane lane.now }
+    requires family { IsOf (node_in lane.now.course.now).kind family }
     requires lanes { by_rows family ≡ false }
-    requires none { columns_at (graph_in (task_in course.now)) course.now.term.0 ≡ 0 }
-    requires asset { i < assets_in (task_in course.now) }
-    requires long { length out.old ≡ course.now.count }
-    ensures { IsLane course.now i out.new }
+    requires none { columns_at (graph_in (task_in lane.now.course.now)) lane.now.course.now.term.0 ≡ 0 }
+    requires long { length out.old ≡ lane.now.course.now.count }
+    ensures { FillsLane lane.now.course.now lane.now.i out.new }
 {
-    given_lane(course, sources, family, i, out);
-    keep_lane(course, sources, i, out);
+    given_lane(lane, family, out);
+    keep_lane(lane, out);
 }
 
 // The array of a term whose cells come asset by asset, and which reads no bar columns.
@@ -173,12 +127,16 @@ fn fill_lanes<'x>(course: &Course<'x>, family: Family, own: &mut [i64])
     let job = course.job;
     for i in 0..job.cols.len() {
         let start = start_in(own, i, count);
-        let lane = &mut own[start..start + count];
-        plain_lane(course, &sources, family, i, lane);
+        let lane = Lane {
+            course: &*course,
+            sources: &sources,
+            i,
+        };
+        plain_lane(&lane, family, &mut own[start..start + count]);
     }
 }
 
-// The same over rows that have room for its assets.
+// The array of a term that reads no bar columns, over rows that have room for its assets.
 fn fill_over(
     course: &Course<'_>,
     own: &mut [i64],
@@ -204,16 +162,20 @@ fn fill_over(
         return fill_lanes(course, family, own);
     }
     let assets = course.job.cols.len();
-    fill_rows(
-        course,
-        family,
-        own,
-        cross,
-        &mut first[..assets],
-        &mut second[..assets],
-        &mut keep[..assets],
-        &mut out[..assets],
-    );
+    for j in 0..course.count {
+        let turn = turn_on(course, j);
+        let row = &mut out[..assets];
+        row_on(
+            &turn,
+            family,
+            cross,
+            &mut first[..assets],
+            &mut second[..assets],
+            &mut keep[..assets],
+            row,
+        );
+        put_row(row, own, course.count, j);
+    }
 }
 
 /// The array of a term that reads no bar columns.
@@ -277,44 +239,55 @@ fn column_array<'a>(course: &Course<'a>, place: usize, cols: &'a [u32]) -> Adjus
 
 // How many cells the traversal of a place is given for one asset: those of its rows, none where it is no new
 // column.
-fn cells_for(course: &Course<'_>, place: usize, cols: &[u32], cells: &[i64]) -> usize
-    requires course { IsCourse course.now }
-    requires one { length cols.now ≡ 1 }
-    requires some { 0 < assets_in (task_in course.now) }
-    requires has { HasRows (task_in course.now) course.now.term.0 (node_in course.now) place cells.now }
-    ensures value { result
-        ≡ (buffer_at course.now.job.now course.now.term.0 (node_in course.now) cols.now place).rows
-        * length (buffer_at course.now.job.now course.now.term.0 (node_in course.now) cols.now place).cols }
+fn cells_for(lane: &Lane<'_>, place: usize, cells: &[i64]) -> usize
+    requires lane { IsLane lane.now }
+    requires has { HasRows (task_in lane.now.course.now) lane.now.course.now.term.0
+        (node_in lane.now.course.now) place cells.now }
+    ensures value { result ≡ (rows_at lane.now place).rows * length (rows_at lane.now place).cols }
     ensures within { result ≤ length cells.now }
 {
+    let course = lane.course;
     match new_column(course.node, place) {
         Some(_) => course.job.to - course.low + window_of(course.node),
         None => 0,
     }
 }
 
+// The traversal of a place for an asset, in the front of the cells that are given; it begins.
+fn begin_bars<'s>(
+    lane: &Lane<'_>,
+    place: usize,
+    array: &'s AdjustedArray<'_>,
+    cells: &'s mut [i64],
+) -> Windows<'s>
+    requires run { IsColumnRun lane.now.course.now.job.now lane.now.course.now.workspace.now
+        lane.now.course.now.term.0 (node_in lane.now.course.now) }
+    requires lane { IsLane lane.now }
+    requires array { array.now ≡ rows_at lane.now place }
+    requires has { HasRows (task_in lane.now.course.now) lane.now.course.now.term.0
+        (node_in lane.now.course.now) place cells.old }
+    ensures begins { result ≡ traversal_at lane.now.course.now.job.now lane.now.course.now.term.0
+        (node_in lane.now.course.now) (one_col lane.now.course.now.job.now lane.now.i) place 0 }
+    ensures none { applied_at result.array result.session ≡ 0 }
+{
+    let many = cells_for(lane, place, cells);
+    array.traverse(window_of(lane.course.node), &mut cells[..many])
+}
+
 // The cells of an asset, by traversals of its bars that begin: from one change of the bars to the next at
 // once.
-fn walk_bars<'x, L: Ledger>(
-    course: &Course<'x>,
-    sources: &Sources<'x>,
-    i: usize,
-    out: &mut [i64],
-    bars: &mut Bars<'_>,
-    steps: &mut Steps<L>,
-)
-    requires run { IsColumnRun course.now.job.now course.now.workspace.now course.now.term.0
-        (node_in course.now) }
-    requires course { IsCourse course.now }
-    requires sources { AreLent (task_in course.now) (node_in course.now) sources.now }
-    requires asset { i < assets_in (task_in course.now) }
-    requires long { length out.old ≡ course.now.count }
-    requires bars { AreBars course.now.job.now course.now.term.0 (node_in course.now)
-        (one_col course.now.job.now i) 0 bars.old }
+fn walk_bars<L: Ledger>(lane: &Lane<'_>, out: &mut [i64], bars: &mut Bars<'_>, steps: &mut Steps<L>)
+    requires run { IsColumnRun lane.now.course.now.job.now lane.now.course.now.workspace.now
+        lane.now.course.now.term.0 (node_in lane.now.course.now) }
+    requires lane { IsLane lane.now }
+    requires long { length out.old ≡ lane.now.course.now.count }
+    requires bars { AreBars lane.now.course.now.job.now lane.now.course.now.term.0
+        (node_in lane.now.course.now) (one_col lane.now.course.now.job.now lane.now.i) 0 bars.old }
     requires none { counted bars.old ≡ 0 }
-    ensures out { IsLane course.now i out.new }
-    ensures bars { AreBars course.now.job.now course.now.term.0 (node_in course.now)
-        (one_col course.now.job.now i) course.now.count bars.new }
+    ensures out { FillsLane lane.now.course.now lane.now.i out.new }
+    ensures bars { AreBars lane.now.course.now.job.now lane.now.course.now.term.0
+        (node_in lane.now.course.now) (one_col lane.now.course.now.job.now lane.now.i)
+        lane.now.course.now.count bars.new }
     ensures cost { steps.new ≡ steps.old + counted bars.new }
 {
     let mut done = 0;
@@ -322,54 +295,50 @@ fn walk_bars<'x, L: Ledger>(
         advance_all(bars, steps);
         let more = still(bars, out.len() - 1 - done);
         let end = done + more + 1;
-        fill_stretch(course, sources, Some(bars), i, done, &mut out[done..end]);
+        fill_stretch(lane, Some(bars), done, &mut out[done..end]);
         pass(bars, more);
         done = end;
     }
-    keep_lane(course, sources, i, out);
+    keep_lane(lane, out);
 }
 
 // The cells of an asset, whose bars are traversed in the cells that are given.
-fn fill_asset<'x, L: Ledger>(
-    course: &Course<'x>,
-    sources: &Sources<'x>,
-    i: usize,
+fn fill_asset<L: Ledger>(
+    lane: &Lane<'_>,
     out: &mut [i64],
     first: &mut [i64],
     second: &mut [i64],
     third: &mut [i64],
     steps: &mut Steps<L>,
 ) -> u64
-    requires run { IsColumnRun course.now.job.now course.now.workspace.now course.now.term.0
-        (node_in course.now) }
-    requires course { IsCourse course.now }
-    requires sources { AreLent (task_in course.now) (node_in course.now) sources.now }
-    requires asset { i < assets_in (task_in course.now) }
-    requires long { length out.old ≡ course.now.count }
-    requires first { HasRows (task_in course.now) course.now.term.0 (node_in course.now) 0 first.old }
-    requires second { HasRows (task_in course.now) course.now.term.0 (node_in course.now) 1 second.old }
-    requires third { HasRows (task_in course.now) course.now.term.0 (node_in course.now) 2 third.old }
-    ensures out { IsLane course.now i out.new }
-    ensures cost { steps.new ≡ steps.old + steps_of course.now.job.now course.now.term.0
-        (node_in course.now) (one_col course.now.job.now i) }
-    ensures applied { result ≡ cut (steps_of course.now.job.now course.now.term.0
-        (node_in course.now) (one_col course.now.job.now i)) }
+    requires run { IsColumnRun lane.now.course.now.job.now lane.now.course.now.workspace.now
+        lane.now.course.now.term.0 (node_in lane.now.course.now) }
+    requires lane { IsLane lane.now }
+    requires long { length out.old ≡ lane.now.course.now.count }
+    requires first { HasRows (task_in lane.now.course.now) lane.now.course.now.term.0
+        (node_in lane.now.course.now) 0 first.old }
+    requires second { HasRows (task_in lane.now.course.now) lane.now.course.now.term.0
+        (node_in lane.now.course.now) 1 second.old }
+    requires third { HasRows (task_in lane.now.course.now) lane.now.course.now.term.0
+        (node_in lane.now.course.now) 2 third.old }
+    ensures out { FillsLane lane.now.course.now lane.now.i out.new }
+    ensures cost { steps.new ≡ steps.old + steps_of lane.now.course.now.job.now lane.now.course.now.term.0
+        (node_in lane.now.course.now) (one_col lane.now.course.now.job.now lane.now.i) }
+    ensures applied { result ≡ cut (steps_of lane.now.course.now.job.now lane.now.course.now.term.0
+        (node_in lane.now.course.now) (one_col lane.now.course.now.job.now lane.now.i)) }
 {
+    let course = lane.course;
     let job = course.job;
-    let cols = one_of(job.cols, i);
+    let cols = one_of(job.cols, lane.i);
     let first_array = column_array(course, 0, cols);
     let second_array = column_array(course, 1, cols);
     let third_array = column_array(course, 2, cols);
-    let first_cells = cells_for(course, 0, cols, first);
-    let second_cells = cells_for(course, 1, cols, second);
-    let third_cells = cells_for(course, 2, cols, third);
-    let size = window_of(course.node);
     let mut bars = Bars {
-        first: first_array.traverse(size, &mut first[..first_cells]),
-        second: second_array.traverse(size, &mut second[..second_cells]),
-        third: third_array.traverse(size, &mut third[..third_cells]),
+        first: begin_bars(lane, 0, &first_array, first),
+        second: begin_bars(lane, 1, &second_array, second),
+        third: begin_bars(lane, 2, &third_array, third),
     };
-    walk_bars(course, sources, i, out, &mut bars, steps);
+    walk_bars(lane, out, &mut bars, steps);
     applied(&bars)
 }
 
@@ -401,8 +370,13 @@ pub(crate) fn fill_bars<'x, L: Ledger>(
     let mut applied = 0u64;
     for i in 0..job.cols.len() {
         let start = start_in(own, i, count);
-        let lane = &mut own[start..start + count];
-        let more = fill_asset(course, &sources, i, lane, first, second, third, steps);
+        let lane = Lane {
+            course: &*course,
+            sources: &sources,
+            i,
+        };
+        let out = &mut own[start..start + count];
+        let more = fill_asset(&lane, out, first, second, third, steps);
         applied = applied.saturating_add(more);
     }
     applied

@@ -1,15 +1,14 @@
 //! What a chunk is computed from.
-ghost use Rattle.std.specs.Prelude.{◌≡◌, ◌+◌, ◌-◌, ◌*◌, ◌<◌, ◌≤◌, true, drop, get_or, length, map, option_map, pos, slice_get, take, Some};
-ghost use Rattle.pl_terms.specs.Kinds.{kind_of};
-ghost use Rattle.pl_terms.specs.Nodes.{input_of, node_of, number_of};
+ghost use Rattle.std.specs.Prelude.{◌≡◌, ◌+◌, ◌-◌, ◌*◌, ◌<◌, ◌≤◌, true, drop, get_or, length, pos, slice_get, take, Some};
+ghost use Rattle.pl_terms.specs.Nodes.{node_of};
 ghost use Rattle.pl_planner.specs.Plans.{is_used, slot_of};
 ghost use Rattle.pl_workspace.specs.Slots.{Live, slot_at};
 ghost use Rattle.pl_exec.specs.Slotted.{IsHeld};
 ghost use Rattle.pl_exec.specs.Tasks.{IsArray, graph_in, low_in};
-ghost use Rattle.pl_exec.specs.Jobs.{IsJob, task_of};
+ghost use Rattle.pl_exec.specs.Jobs.{IsArrayOf, IsJob, task_of};
 
 use pl_planner::Plan;
-use pl_terms::{Checked, Input, Node, TermId, TermKind};
+use pl_terms::{Checked, Node, TermId};
 use pl_workspace::Workspace;
 use pl_world::World;
 
@@ -40,60 +39,6 @@ pub(crate) fn node_of<'a>(job: &Job<'a>, term: TermId) -> &'a Node
     job.checked.graph().node(term)
 }
 
-/// What a node computes.
-#[tactic(auto, unfolding(pl_terms::specs::Nodes::node_of))]
-pub(crate) fn kind_of(node: &Node) -> &TermKind
-    ensures { kind_of result.now ≡ (node_of node.now).kind }
-{
-    &node.kind
-}
-
-/// Its mask.
-#[tactic(auto, unfolding(pl_terms::specs::Nodes::node_of))]
-pub(crate) fn mask_of(node: &Node) -> Option<TermId>
-    ensures { option_map number_of result ≡ (node_of node.now).mask }
-{
-    node.mask
-}
-
-/// Its group.
-#[tactic(auto, unfolding(pl_terms::specs::Nodes::node_of))]
-pub(crate) fn group_of(node: &Node) -> Option<TermId>
-    ensures { option_map number_of result ≡ (node_of node.now).group }
-{
-    node.group
-}
-
-/// The length of its windows.
-#[tactic(auto, unfolding(pl_terms::specs::Nodes::node_of))]
-pub(crate) fn window_of(node: &Node) -> usize
-    ensures { result ≡ (node_of node.now).window }
-{
-    node.window as usize
-}
-
-/// Its inputs.
-#[tactic(auto, unfolding(pl_terms::specs::Nodes::node_of))]
-pub(crate) fn inputs_of(node: &Node) -> &[Input]
-    ensures value { map input_of result.now ≡ (node_of node.now).inputs }
-    ensures few { length result.now ≤ 3 }
-{
-    node.inputs.as_slice()
-}
-
-/// The input of a node in a place, if there is one.
-#[tactic(auto, unfolding(pl_terms::specs::Nodes::node_of))]
-pub(crate) fn input_at(node: &Node, place: usize) -> Option<Input>
-    ensures { option_map input_of result ≡ slice_get (node_of node.now).inputs place }
-{
-    let inputs = node.inputs.as_slice();
-    if place < inputs.len() {
-        Some(inputs[place])
-    } else {
-        None
-    }
-}
-
 /// The first session on which a used term is computed.
 pub(crate) fn low_of(job: &Job<'_>, term: TermId) -> usize
     requires job { IsJob job.now }
@@ -110,9 +55,7 @@ pub(crate) fn array_of<'a>(job: &Job<'_>, workspace: &'a Workspace, term: TermId
     requires used { is_used job.now.plan.now term.0 ≡ true }
     requires held { IsHeld (IsArray (task_of job.now) term.0) workspace.now
         (slot_of job.now.plan.now term.0) }
-    ensures holds { IsArray (task_of job.now) term.0 result.cells.now }
-    ensures low { result.low ≡ low_in (task_of job.now) term.0 }
-    ensures end { result.low + result.count ≡ job.now.to + 1 }
+    ensures { IsArrayOf (task_of job.now) term.0 result }
 {
     let low = low_of(job, term);
     Array {

@@ -1,22 +1,18 @@
 //! The cells of one term on one session, family by family of kinds.
-ghost use Rattle.std.specs.Prelude.{◌≡◌, ◌+◌, ◌<◌, ◌≤◌, ℕ, true, All, Some, length, option_map, pos, get_or, slice_get};
-ghost use Rattle.pl_spec.specs.Rounding.{IsCell};
-ghost use Rattle.pl_spec.specs.Kind.{Kind};
+ghost use Rattle.std.specs.Prelude.{◌≡◌, ◌+◌, ◌<◌, ◌≤◌, true, Some, length, slice_get};
 ghost use Rattle.pl_spec.specs.Kind.Kind.{Downsample};
 ghost use Rattle.pl_spec.specs.Term.Input.{TermInput};
 ghost use Rattle.pl_terms.specs.Sorts.{is_downsampled};
-ghost use Rattle.pl_terms.specs.Kinds.{kind_of};
 ghost use Rattle.pl_cross.specs.Section.{is_section};
 ghost use Rattle.pl_values.specs.Families.{IsOf};
 ghost use Rattle.pl_exec.specs.Tasks.{assets_in};
 ghost use Rattle.pl_exec.specs.Jobs.{IsKept, IsOut, IsTurn, by_rows, node_at, task_at};
 
-use crate::job::{group_of, input_at, kind_of};
-use crate::turn::{Turn, cells_on, input_row, pick, term_row};
+use crate::turn::{Turn, cells_on, input_row, term_row};
 use pl_cross::Cross;
 use pl_fixed::Frequency;
 use pl_terms::{Input, TermId};
-use pl_values::{Family, section_values};
+use pl_values::{Family, group_of, input_at, keep_values, kind_of, section_values};
 
 fn section_row(
     turn: &Turn<'_>,
@@ -60,26 +56,17 @@ fn downsampled_input(turn: &Turn<'_>) -> TermId
 }
 
 // The cells that the input has on the first session of the period.
-fn downsampled_row(
-    turn: &Turn<'_>,
-    frequency: Frequency,
-    cells: &mut [i64],
-    keep: &[i64],
-    out: &mut [i64],
-)
+fn downsampled_row(turn: &Turn<'_>, frequency: Frequency, keep: &[i64], out: &mut [i64])
     requires turn { IsTurn turn.now }
     requires kind { (node_at turn.now).kind ≡ Downsample frequency }
-    requires cells { length cells.old ≡ assets_in (task_at turn.now) }
     requires keep { IsKept turn.now keep.now }
     requires long { length out.old ≡ assets_in (task_at turn.now) }
     ensures { IsOut turn.now out.new }
 {
     let job = turn.job;
     let start = job.world.sessions.period_start(frequency, turn.session);
-    cells_on(turn, downsampled_input(turn), start, cells);
-    for i in 0..out.len() {
-        out[i] = pick(keep[i], cells[i], turn.none);
-    }
+    cells_on(turn, downsampled_input(turn), start, out);
+    keep_values(keep, turn.none, out);
 }
 
 /// Do the cells of the family's kinds come row by row? Those of the others come asset by asset.
@@ -116,7 +103,7 @@ pub(crate) fn kind_row(
 {
     match family {
         Family::Section => section_row(turn, cross, first, second, keep, out),
-        Family::Downsample(frequency) => downsampled_row(turn, frequency, first, keep, out),
+        Family::Downsample(frequency) => downsampled_row(turn, frequency, keep, out),
         _ => unreachable!(),
     }
 }

@@ -1,56 +1,49 @@
 //! Operations on the values of one place, for an asset on all sessions at once.
-ghost use Rattle.std.specs.Prelude.{◌≡◌, ◌<◌, ℕ, true, length, slice_get};
+ghost use Rattle.std.specs.Prelude.{◌≡◌, ℕ, true, length, slice_get};
 ghost use Rattle.pl_values.specs.Families.{is_point};
-ghost use Rattle.pl_exec.specs.Tasks.{assets_in};
-ghost use Rattle.pl_exec.specs.Jobs.{AreGiven, AreLent, IsCourse, IsLent, IsOperand, IsOperandOf, IsReadFrom, node_in, task_in};
+ghost use Rattle.pl_exec.specs.Jobs.{AreGiven, IsLane, IsLent, IsOperand, IsOperandOf, IsReadFrom, node_in, task_in};
 
-use crate::course::Course;
-use crate::job::{Array, cells_from, kind_of};
-use crate::windows::{Source, Sources};
+use crate::course::Lane;
+use crate::job::{Array, cells_from};
+use crate::windows::Source;
 use pl_pointwise::pointwise;
+use pl_values::kind_of;
 
 // The cells of an array for an asset, on the sessions of the course.
-fn lane_of<'t>(course: &Course<'_>, array: &Array<'t>, i: usize) -> &'t [i64]
-    requires course { IsCourse course.now }
-    requires asset { i < assets_in (task_in course.now) }
-    requires read { (u : ℕ) × IsReadFrom course.now u array.now }
-    ensures { (u : ℕ) → IsReadFrom course.now u array.now → IsOperand course.now u i result.now }
+fn lane_of<'t>(lane: &Lane<'_>, array: &Array<'t>) -> &'t [i64]
+    requires lane { IsLane lane.now }
+    requires read { (u : ℕ) × IsReadFrom lane.now.course.now u array.now }
+    ensures { (u : ℕ) → IsReadFrom lane.now.course.now u array.now
+        → IsOperand lane.now.course.now u lane.now.i result.now }
 {
-    let after = course.low - array.low;
-    cells_from(array, i, after, course.count)
+    let after = lane.course.low - array.low;
+    cells_from(array, lane.i, after, lane.course.count)
 }
 
 /// The cells of an input that is a term; any other is of no matter.
-pub(crate) fn operand<'t>(
-    course: &Course<'_>,
-    source: &Source<'t>,
-    place: usize,
-    i: usize,
-) -> &'t [i64]
-    requires course { IsCourse course.now }
-    requires asset { i < assets_in (task_in course.now) }
-    requires lent { IsLent (task_in course.now) (node_in course.now)
-        (slice_get (node_in course.now).inputs place) source.now }
-    ensures { IsOperandOf course.now (slice_get (node_in course.now).inputs place) i result.now }
+pub(crate) fn operand<'t>(lane: &Lane<'_>, source: &Source<'t>, place: usize) -> &'t [i64]
+    requires lane { IsLane lane.now }
+    requires lent { IsLent (task_in lane.now.course.now) (node_in lane.now.course.now)
+        (slice_get (node_in lane.now.course.now).inputs place) source.now }
+    ensures { IsOperandOf lane.now.course.now (slice_get (node_in lane.now.course.now).inputs place)
+        lane.now.i result.now }
 {
     match source {
-        Source::InTerm(array) => lane_of(course, array, i),
+        Source::InTerm(array) => lane_of(lane, array),
         Source::InColumn(_) => &[],
         Source::InNone => &[],
     }
 }
 
 /// What the operation gives for an asset, whether it is kept or not.
-pub(crate) fn point_lane(course: &Course<'_>, sources: &Sources<'_>, i: usize, out: &mut [i64])
-    requires course { IsCourse course.now }
-    requires sources { AreLent (task_in course.now) (node_in course.now) sources.now }
-    requires kind { is_point (node_in course.now).kind ≡ true }
-    requires asset { i < assets_in (task_in course.now) }
-    requires long { length out.old ≡ course.now.count }
-    ensures { AreGiven course.now i out.new }
+pub(crate) fn point_lane(lane: &Lane<'_>, out: &mut [i64])
+    requires lane { IsLane lane.now }
+    requires kind { is_point (node_in lane.now.course.now).kind ≡ true }
+    requires long { length out.old ≡ lane.now.course.now.count }
+    ensures { AreGiven lane.now.course.now lane.now.i out.new }
 {
-    let first = operand(course, &sources.first, 0, i);
-    let second = operand(course, &sources.second, 1, i);
-    let third = operand(course, &sources.third, 2, i);
-    pointwise(kind_of(course.node), first, second, third, out);
+    let first = operand(lane, &lane.sources.first, 0);
+    let second = operand(lane, &lane.sources.second, 1);
+    let third = operand(lane, &lane.sources.third, 2);
+    pointwise(kind_of(lane.course.node), first, second, third, out);
 }

@@ -1,18 +1,17 @@
 //! One term on one session: what it reads there, and for whom it is computed.
-ghost use Rattle.std.specs.Prelude.{◌≡◌, ◌+◌, ◌<◌, ◌≤◌, ◌&&◌, ℕ, All, Some, length, option_map, pos, get_or, slice_get};
+ghost use Rattle.std.specs.Prelude.{◌≡◌, ◌+◌, ◌<◌, ◌≤◌, ℕ, All, Some, length, pos, get_or, slice_get};
 ghost use Rattle.pl_spec.specs.Rounding.{IsCell};
-ghost use Rattle.pl_spec.specs.Formula.{is_true, truth};
 ghost use Rattle.pl_spec.specs.World.{exists};
 ghost use Rattle.pl_spec.specs.Term.Input.{TermInput};
-ghost use Rattle.pl_terms.specs.Nodes.{input_of};
 ghost use Rattle.pl_cross.specs.Arrays.{sid_in};
 ghost use Rattle.pl_values.specs.Arrays.{Fills, IsKeep, chosen, is_kept};
 ghost use Rattle.pl_values.specs.Inputs.{IsInputRow};
 ghost use Rattle.pl_exec.specs.Tasks.{assets_in, cell_in, sids_in};
 ghost use Rattle.pl_exec.specs.Jobs.{IsKept, IsMaskLent, IsReach, IsRead, IsTermLent, IsTurn, node_at, passes, task_at};
 
-use crate::job::{Array, Job, array_of, cell_at, cells_up_to, input_at, mask_of, window_of};
+use crate::job::{Array, Job, array_of, cell_at, cells_up_to};
 use pl_terms::{Input, Node, TermId};
+use pl_values::{input_at, is_one, keep_values, mask_of, truth_of, window_of};
 use pl_workspace::Workspace;
 
 /// Term `term`, which is `node`, on a session; `none` is its empty value.
@@ -26,32 +25,11 @@ pub(crate) struct Turn<'t> {
     pub(crate) none: i64,
 }
 
-/// A term's cell where an asset is kept, and else the empty value.
-pub(crate) fn pick(keep: i64, cell: i64, none: i64) -> i64
-    ensures { result ≡ chosen (is_true keep) cell none }
-{
-    if keep == 1 { cell } else { none }
-}
-
 /// A cell where an asset is kept, and else the empty value.
 pub(crate) fn choose(keep: bool, cell: i64, none: i64) -> i64
     ensures { result ≡ chosen keep cell none }
 {
     if keep { cell } else { none }
-}
-
-/// Is a cell 1?
-pub(crate) fn is_one(cell: i64) -> bool
-    ensures { result ≡ is_true cell }
-{
-    cell == 1
-}
-
-/// 1 for true, 0 for false.
-fn truth_of(holds: bool) -> i64
-    ensures { result ≡ truth holds }
-{
-    if holds { 1 } else { 0 }
 }
 
 // Does the asset in a place exist on the session of the day?
@@ -120,18 +98,6 @@ fn existing_row(turn: &Turn<'_>, keep: &mut [i64])
     }
 }
 
-// Who passes a mask too.
-fn masked_row(mask: &[i64], keep: &mut [i64])
-    requires { length mask.now ≡ length keep.old }
-    ensures length { length keep.new ≡ length keep.old }
-    ensures each { (i : ℕ) → i < length keep.old → is_true (get_or keep.new i (pos 0))
-        ≡ (is_true (get_or keep.old i (pos 0)) && is_true (get_or mask.now i (pos 0))) }
-{
-    for i in 0..keep.len() {
-        keep[i] = pick(mask[i], keep[i], 0);
-    }
-}
-
 /// The cells of a term on a session that its array has.
 pub(crate) fn cells_on(turn: &Turn<'_>, term: TermId, session: usize, row: &mut [i64])
     requires turn { IsTurn turn.now }
@@ -170,7 +136,7 @@ pub(crate) fn keep_row(turn: &Turn<'_>, mask: &mut [i64], keep: &mut [i64])
     existing_row(turn, keep);
     if let Some(term) = mask_of(turn.node) {
         term_row(turn, term, mask);
-        masked_row(mask, keep);
+        keep_values(mask, 0, keep);
     }
 }
 

@@ -6,16 +6,17 @@ ghost use Rattle.pl_adjarray.specs.Buffered.{applied_at};
 ghost use Rattle.pl_adjarray.specs.Stillness.{IsStill};
 ghost use Rattle.pl_terms.specs.Sorts.{is_windowed};
 ghost use Rattle.pl_exec.specs.Tasks.{assets_in};
-ghost use Rattle.pl_exec.specs.Jobs.{AreLent, AreStill, AreStillNow, GoesOn, HasBars, HasBegun, IsColumnAt, IsColumnReach, IsCourse, IsGivenOn, IsLent, IsLentAt, IsLentReach, IsMaskLent, IsTurn, advanced, bars_now, counted, node_at, node_in, one_col, passed, place_in, task_at, task_in};
+ghost use Rattle.pl_exec.specs.Jobs.{AreLent, AreMoved, AreStill, AreStillNow, GoOn, GoesOn, HasBars, HasBegun, HaveBegun, IsColumnAt, IsColumnReach, IsCourse, IsGivenOn, IsLane, IsLent, IsLentAt, IsLentReach, IsMaskLent, IsTurn, advanced, bars_now, counted, node_at, node_in, one_col, passed, place_in, task_at, task_in};
 
 use crate::columns::place_of;
-use crate::course::{Course, turn_on};
-use crate::job::{Array, array_of, input_at, kind_of, mask_of, window_of};
+use crate::course::{Course, Lane, turn_on};
+use crate::job::{Array, array_of};
 use crate::turn::{Turn, term_reach};
 use pl_adjarray::Windows;
 use pl_fixed::Steps;
 use pl_running::fill_values;
 use pl_terms::Input;
+use pl_values::{input_at, kind_of, mask_of, window_of};
 use std::sync::ledger::Ledger;
 
 /// A traversal for each place of an input; where the input is no bar column, or one that an input before it
@@ -38,12 +39,8 @@ fn advance<L: Ledger>(windows: &mut Windows<'_>, steps: &mut Steps<L>)
 
 /// All traversals go on to the next session.
 pub(crate) fn advance_all<L: Ledger>(bars: &mut Bars<'_>, steps: &mut Steps<L>)
-    requires first { GoesOn bars.old.first }
-    requires second { GoesOn bars.old.second }
-    requires third { GoesOn bars.old.third }
-    ensures first { bars.new.first ≡ advanced bars.old.first }
-    ensures second { bars.new.second ≡ advanced bars.old.second }
-    ensures third { bars.new.third ≡ advanced bars.old.third }
+    requires { GoOn bars.old }
+    ensures next { AreMoved advanced bars.old bars.new }
     ensures cost { steps.new + counted bars.old ≡ steps.old + counted bars.new }
 {
     advance(&mut bars.first, steps);
@@ -73,13 +70,9 @@ fn pass_one(windows: &mut Windows<'_>, more: usize)
 
 /// All traversals go on by so many sessions on which nothing changes.
 pub(crate) fn pass(bars: &mut Bars<'_>, more: usize)
-    requires first { HasBegun bars.old.first }
-    requires second { HasBegun bars.old.second }
-    requires third { HasBegun bars.old.third }
+    requires begun { HaveBegun bars.old }
     requires still { AreStill bars.old more }
-    ensures first { bars.new.first ≡ passed bars.old.first more }
-    ensures second { bars.new.second ≡ passed bars.old.second more }
-    ensures third { bars.new.third ≡ passed bars.old.third more }
+    ensures next { AreMoved (λ v. passed v more) bars.old bars.new }
     ensures cost { counted bars.new ≡ counted bars.old }
 {
     pass_one(&mut bars.first, more);
@@ -215,32 +208,24 @@ fn reach_in<'t>(
 
 /// What a formula or a filter gives over the windows of an asset on some sessions in a row, from session `j`
 /// of the course on, on which nothing changes in the traversals.
-pub(crate) fn fill_stretch<'t>(
-    course: &Course<'t>,
-    sources: &Sources<'t>,
-    bars: Option<&Bars<'_>>,
-    i: usize,
-    j: usize,
-    out: &mut [i64],
-)
-    requires course { IsCourse course.now }
-    requires kind { is_windowed (node_in course.now).kind ≡ true }
-    requires bars { HasBars course.now.job.now course.now.term.0 (node_in course.now)
-        (one_col course.now.job.now i) (course.now.low + j) (bars_now bars) }
+pub(crate) fn fill_stretch(lane: &Lane<'_>, bars: Option<&Bars<'_>>, j: usize, out: &mut [i64])
+    requires lane { IsLane lane.now }
+    requires kind { is_windowed (node_in lane.now.course.now).kind ≡ true }
+    requires bars { HasBars lane.now.course.now.job.now lane.now.course.now.term.0
+        (node_in lane.now.course.now) (one_col lane.now.course.now.job.now lane.now.i)
+        (lane.now.course.now.low + j) (bars_now bars) }
     requires still { AreStillNow (bars_now bars) (length out.old - 1) }
-    requires asset { i < assets_in (task_in course.now) }
-    requires lent { AreLent (task_in course.now) (node_in course.now) sources.now }
     requires some { 0 < length out.old }
-    requires within { j + length out.old ≤ course.now.count }
+    requires within { j + length out.old ≤ lane.now.course.now.count }
     ensures long { length out.new ≡ length out.old }
     ensures values { (m : ℕ) → m < length out.old
-        → IsGivenOn course.now i (j + m) (get_or out.new m (pos 0)) }
+        → IsGivenOn lane.now.course.now lane.now.i (j + m) (get_or out.new m (pos 0)) }
 {
-    let turn = turn_on(course, j);
+    let turn = turn_on(lane.course, j);
     let more = out.len() - 1;
-    let first = reach_in(&turn, &sources.first, bars, i, more);
-    let second = reach_in(&turn, &sources.second, bars, i, more);
-    let third = reach_in(&turn, &sources.third, bars, i, more);
+    let first = reach_in(&turn, &lane.sources.first, bars, lane.i, more);
+    let second = reach_in(&turn, &lane.sources.second, bars, lane.i, more);
+    let third = reach_in(&turn, &lane.sources.third, bars, lane.i, more);
     let kind = kind_of(turn.node);
     fill_values(kind, window_of(turn.node), first, second, third, out);
 }

@@ -19,13 +19,8 @@ use Rattle.pl_terms.specs.declared.node.Node.{Node}
 use Rattle.pl_terms.specs.Checked.{Parts, pipeline_of, IsChecked}
 use Rattle.pl_terms.specs.Nodes.{node_of, input_of, number_of}
 use Rattle.pl_terms.specs.Uses.{is_used}
-use Rattle.pl_spec.specs.Kind.Kind.{Window}
-use Rattle.pl_terms.specs.Kinds.{kind_of}
-use Rattle.pl_terms.specs.Sorts.{is_windowed}
 use Rattle.pl_terms.proofs.Graphs.{graph-long, used-within}
-use Rattle.pl_world.proofs.Evaluated.{windowed-is}
-use Rattle.pl_explain.specs.Given.{facts_read}
-use Rattle.pl_derivation.specs.Facts.{Fact, number_in, premises, over_inputs, entry_facts, facts_now, number_facts, window_facts}
+use Rattle.pl_derivation.specs.Facts.{Fact, number_in, premises, over_inputs, entry_facts, facts_now, number_facts}
 use Rattle.pl_derivation.specs.Facts.Fact.{Worth}
 use Rattle.pl_derivation.specs.Right.{has_sid}
 use Rattle.pl_derivation.proofs.Fits.{HasSessions, premises_ready}
@@ -36,9 +31,9 @@ use Rattle.pl_explain.specs.Keys.{fact_of}
 use Rattle.pl_world.specs.declared.world.World.{World}
 use Rattle.pl_world.specs.Worlds.{world_of, IsMade}
 use Rattle.pl_world.specs.Evaluations.{IsAsked, IsAskedInput}
-use Rattle.pl_world.proofs.Asked.{inputs-at}
 use Rattle.pl_explain.specs.Reading.{ArePut, IsRoomy}
 use Rattle.pl_explain.specs.Walking.{CanStand, CanStandIn}
+use Rattle.pl_explain.proofs.Values.{over-read}
 
 -- ---- putting
 
@@ -50,12 +45,6 @@ put-one old new f e = ap (map fact_of) e ∙ map-append fact_of old (f ∷ [])
 
 pub put-three : (a b c d : List code.Fact) (fs gs hs : List Fact) → ArePut a b fs → ArePut b c gs → ArePut c d hs → ArePut a d (fs ++ gs ++ hs)
 put-three a b c d fs gs hs x y z = put-both a c d (fs ++ gs) hs (put-both a b c fs gs x y) z
-
--- over the inputs of a node
-pub over-read : (n : Node) (f : Option spec.Input → List Fact) → over_inputs f (node_of n)
-    ≡ f (option_map input_of (slice_get n.inputs 0)) ++ f (option_map input_of (slice_get n.inputs 1)) ++ f (option_map input_of (slice_get n.inputs 2))
-unfolding node_of
-over-read n f = rw (inputs-at n 0, inputs-at n 1, inputs-at n 2) refl
 
 -- those of its inputs, one after the other
 pub inputs-put : (n : Node) (f : Option spec.Input → List Fact) (o p q : Option Input) (a b c d : List code.Fact) → o ≡ slice_get n.inputs 0 → p ≡ slice_get n.inputs 1 → q ≡ slice_get n.inputs 2
@@ -72,14 +61,6 @@ pub entry-put : (n : Node) (b : ℕ) (d : ℤ) (x y z u : List code.Fact) → Ar
     → ArePut z u (over_inputs (facts_now b d) (node_of n)) → ArePut x u (entry_facts (node_of n) d b)
 unfolding node_of
 entry-put n b d x y z u h k l = put-three x y z u (number_facts b d (option_map number_of n.mask)) (number_facts b d (option_map number_of n.group)) (over_inputs (facts_now b d) (node_of n)) h k l
-
--- what a kind over windows reads
-pub windows-read : (w : World) (c : Parts) (t a s : ℕ) (n : Node) → slice_get c.graph t ≡ Some n → is_windowed (kind_of n.kind) ≡ true → over_inputs (window_facts n.window a (pos s)) (node_of n) ≡ facts_read w c t a s
-unfolding node_of
-windows-read w c t a s n is e =
-    let f = windowed-is (kind_of n.kind) e in
-    let kind : kind_of n.kind ≡ Window f.0 = f.1 in
-    sym (rw (is, kind) refl)
 
 -- one more of a row
 pub run-more : (f : ℕ → Fact) (first s : ℕ) → first ≤ s → (old now new : List code.Fact) → ArePut old now (map f (range_with_len first (s - first))) → ArePut now new (f s ∷ [])

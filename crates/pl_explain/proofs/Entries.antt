@@ -1,17 +1,24 @@
 -- What a cross-section rests on: its mask, its group and its input, each for all assets that exist.
-use Rattle.std.proofs.Common.{◌≡◌, ℕ, zero, suc, ◌+◌, ◌<◌, Bool, true, false, ◌&&◌, if◌then◌else◌, cond, ℤ, List, [], ◌∷◌, ◌++◌, map, flat_map, filter, length, Some, None, slice_get, refl, sym, ◌∙◌, ap, arith, inl, inr}
+use Rattle.std.proofs.Common.{◌≡◌, ℕ, zero, suc, ◌+◌, ◌<◌, Bool, true, false, ◌&&◌, if◌then◌else◌, cond, ℤ, All, List, [], ◌∷◌, ◌++◌, map, flat_map, filter, length, Option, Some, None, option_map, slice_get, IfSome, pos, refl, sym, ◌∙◌, ap, arith, inl, inr}
 use Rattle.std.specs.List.{list_all}
 use Rattle.std.proofs.lemmas.Bool.{cases_lt}
 use Rattle.std.proofs.lemmas.List.Folds.{list_all-append}
 use Rattle.pl_spec.specs.declared.AssetRow.{AssetRow}
 use Rattle.pl_spec.specs.Parts.{sid_at}
-use Rattle.pl_spec.specs.World.{World, exists}
+use Rattle.pl_spec.specs.Rounding.{IsCell}
+use Rattle.pl_spec.specs.World.{exists, living_sids}
 use Rattle.pl_spec.specs.Term.{Node}
 use Rattle.pl_spec.specs.Term.Input.{TermInput}
 use Rattle.pl_derivation.specs.Facts.{Fact, number_facts, facts_now, over_inputs, entry_facts}
 use Rattle.pl_derivation.specs.Facts.Fact.{Worth}
 use Rattle.pl_explain.specs.declared.told.Told.{Told}
-use Rattle.pl_explain.specs.Given.{has, has_all, given, living_facts}
+use Rattle.pl_explain.specs.declared.basis.Basis.{Basis}
+use Rattle.pl_terms.specs.declared.node.TermId.{TermId}
+use Rattle.pl_terms.specs.Nodes.{number_of}
+use Rattle.pl_world.specs.Worlds.{world_of}
+use Rattle.pl_world.specs.Evaluations.{optional_row_in, row_in}
+use Rattle.pl_explain.specs.Given.{has, has_all, living_facts, sid_in, value_in, IsGiven}
+use Rattle.pl_explain.proofs.Given.{got, lacked, refused, accepted}
 
 -- ---- three lists for each
 
@@ -151,9 +158,37 @@ module _ (told : Told) (q : ℕ → Bool) (f : ℕ → Fact) where
       ap (has_all told) (kept-first (q a.sid) a.sid (filter q (sids assets)))
       ∙ other (q a.sid) (f a.sid) (map f (filter q (sids assets))) (living-lacks assets i (omega (arith, l)) h)
 
--- of an asset that does not exist nothing has to be told
-pub living-none : {X : Type 0} (told : Told) (w : World) (t a : ℕ) (d : ℤ) (x v : X) → exists w a d ≡ false → x ≡ v → Some x ≡ given told (living_facts w t a d) v
-living-none told w t a d x v e h = rw (e, h) refl
+module _ (b : Basis) where
+  -- of an asset that does not exist nothing has to be told
+  pub living-none : (t col s : ℕ) (x : ℤ) → exists (world_of b.world) (sid_in b col) (pos s) ≡ false → x ≡ value_in b t col s → IsCell x
+      → IsGiven IsCell b.told.now (living_facts (world_of b.world) t (sid_in b col) (pos s)) (value_in b t col s) (Some x)
+  living-none t col s x e h cell = record { value = rw (e, h) refl; such = cell }
+
+  -- ---- the row of what may not be there
+
+  module _ (s : ℕ) (u : Option TermId) where
+    abbrev bs : List ℕ
+    bs = living_sids (world_of b.world) (pos s)
+
+    abbrev facts : Option TermId → List Fact
+    facts o = flat_map (λ a. number_facts a (pos s) (option_map number_of o)) bs
+
+    abbrev row : Option TermId → Option (List ℤ)
+    row o = optional_row_in b.world b.checked.now o s
+
+    abbrev IsRow : Option (Option (List ℤ)) → Type 0
+    IsRow o = IsGiven (λ r. IfSome r (All IsCell)) b.told.now (facts u) (row u) o
+
+    pub no-row : u ≡ None → IsRow (Some None)
+    no-row gone = accepted b.told.now [] (facts u) (row u) None (ap facts gone ∙ no-facts (pos s) bs) refl (sym (ap row gone)) tt
+
+    pub one-row : (x : TermId) → u ≡ Some x → (r : Option (List ℤ)) → IsGiven (All IsCell) b.told.now (map (λ a. Worth x.0 a (pos s)) bs) (row_in b.world b.checked.now x.0 s) r
+        → IsRow (option_map Some r)
+    one-row x is None h =
+        refused b.told.now (map (λ a. Worth x.0 a (pos s)) bs) (facts u) (row u) None (ap facts is ∙ term-facts x.0 (pos s) bs) (lacked b.told.now None h refl) refl
+    one-row x is (Some xs) h =
+        let both = got b.told.now (Some xs) xs h refl in
+        accepted b.told.now (map (λ a. Worth x.0 a (pos s)) bs) (facts u) (row u) (Some xs) (ap facts is ∙ term-facts x.0 (pos s) bs) both.0 (ap Some both.1 ∙ sym (ap row is)) both.2
 
 -- one place more
 pub next-place : (g : ℕ → Bool) (at : ℕ) → ((i : ℕ) → i < at → g i ≡ true) → g at ≡ true → (i : ℕ) → i < at + 1 → g i ≡ true

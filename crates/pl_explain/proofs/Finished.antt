@@ -1,11 +1,11 @@
 -- What the functions of a walk leave, from what those that they call leave.
-use Rattle.std.proofs.Common.{◌≡◌, ℕ, zero, suc, ◌+◌, ◌<◌, ◌≤◌, ◌==◌, Bool, true, false, ℤ, pos, ◌≤ℤ◌, All, List, [], ◌∷◌, ◌++◌, length, map, take, drop, get_or, Option, Some, option_map, unwrap_or, slice_get, Result, Ok, Err, refl, sym, ◌∙◌, ap, subst, arith, IsErrAnd}
+use Rattle.std.proofs.Common.{◌≡◌, ℕ, zero, suc, ◌+◌, ◌<◌, ◌≤◌, ◌==◌, Bool, true, false, ℤ, pos, ◌≤ℤ◌, All, List, [], ◌∷◌, ◌++◌, length, map, take, drop, append-nil, get_or, Option, Some, None, option_map, unwrap_or, slice_get, Result, Ok, Err, refl, sym, ◌∙◌, ap, subst, arith, IsErrAnd}
 use Rattle.std.specs.List.{list_any}
 use Rattle.std.specs.Int.RustNames.{int_lt}
 use Rattle.std.proofs.lemmas.Int.{ints}
 use Rattle.std.proofs.lemmas.Bool.{and_parts, and_from, or_left, or_right, eq-eqb}
 use Rattle.std.proofs.lemmas.List.{take_more, take-append-drop, map-append}
-use Rattle.std.proofs.lemmas.Option.{slice_get_within, slice_get-get_or, get_or_from_slice_get}
+use Rattle.std.proofs.lemmas.Option.{slice_get_within, slice_get-get_or, get_or_from_slice_get, same_Some}
 use Rattle.pl_spec.specs.Limits.{most_lines}
 use Rattle.pl_spec.specs.declared.AssetRow.{AssetRow}
 use Rattle.pl_spec.specs.declared.Column.{Column}
@@ -35,11 +35,12 @@ use Rattle.pl_derivation.specs.Walks.{is_in, line_for, depth_of, derivation}
 use Rattle.pl_derivation.proofs.Walking.{complete}
 use Rattle.pl_world.specs.declared.world.World.{World}
 use Rattle.pl_world.specs.Worlds.{world_of, PartsMakeAWorld}
+use Rattle.pl_terms.specs.declared.node.TermId.{TermId}
 use Rattle.pl_explain.specs.declared.fact.Fact as code
 use Rattle.pl_explain.specs.declared.told.Told.{Told}
 use Rattle.pl_explain.specs.declared.rows.Rows.{Rows}
 use Rattle.pl_explain.specs.Keys.{fact_of}
-use Rattle.pl_explain.specs.Given.{facts_read, given, has, has_all, mask_passes, KeepsRows}
+use Rattle.pl_explain.specs.Given.{facts_read, given, has, has_all, mask_passes, own_facts, KeepsRows}
 use Rattle.pl_explain.proofs.Given.{given-yes}
 use Rattle.pl_explain.proofs.Values.{premises-front, premises-kept, premises-barred}
 use Rattle.pl_explain.specs.declared.walk.Walk.{Walk}
@@ -47,7 +48,7 @@ use Rattle.pl_explain.specs.Judging.{IsTable}
 use Rattle.pl_explain.specs.Walking.{CanStand, CanStandIn, HasWalked, StandsIn, Finishes, IsPut, IsTooLong, IsWalkTo}
 use Rattle.pl_explain.proofs.Behind.{premises-stand, sessions-held}
 use Rattle.pl_explain.proofs.Standing.{stands-more}
-use Rattle.pl_explain.proofs.Walks.{walk-none, walk-both, walk-tells, walk-more, long-front, long-back, long-first, long-last, deeper, deeper-long}
+use Rattle.pl_explain.proofs.Walks.{walk-both, walk-tells, walk-more, long-front, long-back, long-first, long-last, deeper, deeper-long}
 
 -- want of memory says nothing of the lines
 pub no-memory : {T : Type 0} (w : World) (c : Parts) (most : ℕ) (fs : List Fact) (old new : Walk) (r : Result T ExplainError) → IsErrAnd r (λ e. e ≡ Memory) → IsWalkTo w c most fs old new r
@@ -71,19 +72,19 @@ module _ (facts : List code.Fact) (i : ℕ) (f : code.Fact) (at : slice_get fact
       ap (map fact_of) (sym (take-append-drop (i + 1) facts)) ∙ map-append fact_of (take (i + 1) facts) (drop (i + 1) facts)
       ∙ ap (λ l. l ++ map fact_of (drop (i + 1) facts)) passed-more
 
-  module _ (w : World) (c : Parts) (most : ℕ) where
-    pub all-stand : Each (CanStandIn w c most) (map fact_of facts) → CanStandIn w c most (fact_of f)
-    all-stand h = each_at (λ x. CanStandIn w c most (fact_of x)) facts i f (each_of_map (CanStandIn w c most) fact_of facts h) at
+  module _ (w : World) (c : Parts) (most : ℕ) (stand : Each (CanStandIn w c most) (map fact_of facts)) where
+    pub all-stand : CanStandIn w c most (fact_of f)
+    all-stand = each_at (λ x. CanStandIn w c most (fact_of x)) facts i f (each_of_map (CanStandIn w c most) fact_of facts stand) at
 
-    module _ (old mid : Walk) (low : depth_of (fact_of f) ≤ most) (first : Finishes w c most old mid (map fact_of (take i facts))) where
+    module _ (old mid : Walk) (first : Finishes w c most old mid (map fact_of (take i facts))) where
       pub all-more : (new : Walk) → Finishes w c (depth_of (fact_of f)) mid new (fact_of f ∷ []) → Finishes w c most old new (map fact_of (take (i + 1) facts))
       all-more new next = subst (λ fs. Finishes w c most old new fs) (sym passed-more)
-          (walk-both w c most old mid new (map fact_of (take i facts)) (fact_of f ∷ []) first (deeper w c (depth_of (fact_of f)) most mid new (fact_of f ∷ []) low next))
+          (walk-both w c most old mid new (map fact_of (take i facts)) (fact_of f ∷ []) first (deeper w c (depth_of (fact_of f)) most mid new (fact_of f ∷ []) all-stand.1 next))
 
       pub all-long : IsTooLong w c (depth_of (fact_of f)) mid (fact_of f ∷ []) → IsTooLong w c most old (map fact_of facts)
       all-long long = subst (λ fs. IsTooLong w c most old fs) (sym passed-rest)
           (long-front w c most old (map fact_of (take i facts) ++ fact_of f ∷ []) (map fact_of (drop (i + 1) facts))
-          (long-back w c most old mid (map fact_of (take i facts)) (fact_of f ∷ []) first (deeper-long w c (depth_of (fact_of f)) most mid (fact_of f ∷ []) low long)))
+          (long-back w c most old mid (map fact_of (take i facts)) (fact_of f ∷ []) first (deeper-long w c (depth_of (fact_of f)) most mid (fact_of f ∷ []) all-stand.1 long)))
 
 -- ---- lines
 
@@ -144,7 +145,7 @@ module _ (w : World) (c : Parts) (mid new : Walk) (same : new.told ≡ mid.told)
   other-stands h kept = record {
     facts = h.facts;
     walked = other-walked h.facts h.walked;
-    table = subst (λ (t : Told). IsTable w c t new.rows) (sym same) (record { truth = h.table.truth; fits = h.table.fits; kept = kept });
+    table = subst (λ (t : Told). IsTable w c t new.rows) (sym same) (record { ready = h.table.ready; truth = h.table.truth; fits = h.table.fits; kept = kept });
     writable = subst (λ (ls : List Line). AreWritable (map line_of ls)) (sym items) h.writable;
     few = subst (λ (ls : List Line). length ls ≤ most_lines) (sym items) h.few;
   }
@@ -177,46 +178,59 @@ module _ (w : World) (c : Parts) (t a d : ℕ) (old : Walk) (fresh : has old.tol
 
 -- ---- premises
 
-module _ (w : World) (c : Parts) (ok : IsChecked (pipeline_of c)) (t : ℕ) (n : Node) (is : slice_get c.graph t ≡ Some n) (a s : ℕ) (known : HasTexts (world_of w))
-    (there : exists (world_of w) a (pos s) ≡ true) where
+-- the mask that was read
+pub mask-is : (m : Option TermId) (s sid a : ℕ) (xs ys : List code.Fact) → xs ≡ ys → map fact_of ys ≡ number_facts sid (pos s) (option_map number_of m) → sid ≡ a → map fact_of xs ≡ number_facts a (pos s) (option_map number_of m)
+mask-is m s sid a xs ys e h same = ap (map fact_of) e ∙ h ∙ ap (λ b. number_facts b (pos s) (option_map number_of m)) same
+
+module _ {w : World} {c : Parts} {old : Walk} (from : StandsIn w c old) (t : ℕ) (n : Node) (is : slice_get c.graph t ≡ Some n) (a s : ℕ) (there : exists (world_of w) a (pos s) ≡ true)
+    (read : List Fact) (same : read ≡ number_facts a (pos s) (option_map number_of n.mask)) where
   abbrev own : List Fact
-  own = own_of w c (Worth t a (pos s))
+  own = own_facts w c t a s
 
-  abbrev mask : List Fact
-  mask = number_facts a (pos s) (option_map number_of n.mask)
+  front : (rest : List Fact) × (own ≡ read ++ rest)
+  front =
+      let f = premises-front w c from.table.ready.checked t n is a s from.table.ready.texts there in
+      (f.0, f.1 ∙ ap (λ l. l ++ f.0) (sym same))
 
-  front : (rest : List Fact) × (own ≡ mask ++ rest)
-  front = premises-front w c ok t n is a s known there
+  kept : mask_passes w c n.mask a s ≡ true → own ≡ read ++ facts_read w c t a s
+  kept passed = premises-kept w c from.table.ready.checked t n is a s from.table.ready.texts there passed ∙ ap (λ l. l ++ facts_read w c t a s) (sym same)
 
-  pub mask-stands : CanStand w c (Worth t a (pos s)) → Each (CanStandIn w c (t + 1)) mask
-  mask-stands h = each_front (CanStandIn w c (t + 1)) mask front.0 (subst (λ fs. Each (CanStandIn w c (t + 1)) fs) front.1 (premises-stand w c ok t a s h))
+  pub mask-stands : CanStand w c (Worth t a (pos s)) → Each (CanStandIn w c (t + 1)) read
+  mask-stands h = each_front (CanStandIn w c (t + 1)) read front.0 (subst (λ fs. Each (CanStandIn w c (t + 1)) fs) front.1 (premises-stand w c from.table.ready.checked t a s h))
 
-  pub mask-long : (old : Walk) → IsTooLong w c (t + 1) old mask → IsTooLong w c (t + 1) old own
-  mask-long old long = subst (λ fs. IsTooLong w c (t + 1) old fs) (sym front.1) (long-front w c (t + 1) old mask front.0 long)
+  pub mask-long : IsTooLong w c (t + 1) old read → IsTooLong w c (t + 1) old own
+  mask-long long = subst (λ fs. IsTooLong w c (t + 1) old fs) (sym front.1) (long-front w c (t + 1) old read front.0 long)
 
-  pub facts-stand : mask_passes w c n.mask a s ≡ true → CanStand w c (Worth t a (pos s)) → Each (CanStandIn w c (t + 1)) (facts_read w c t a s)
-  facts-stand passed h =
-      each_back (CanStandIn w c (t + 1)) mask (facts_read w c t a s)
-      (subst (λ fs. Each (CanStandIn w c (t + 1)) fs) (premises-kept w c ok t n is a s known there passed) (premises-stand w c ok t a s h))
+  module _ (mid : Walk) (first : Finishes w c (t + 1) old mid read) (o : Option Bool) (told : o ≡ given mid.told (number_facts a (pos s) (option_map number_of n.mask)) (mask_passes w c n.mask a s)) where
+    known : o ≡ Some (mask_passes w c n.mask a s)
+    known = told ∙ given-yes mid.told (number_facts a (pos s) (option_map number_of n.mask)) (mask_passes w c n.mask a s) (ap (has_all mid.told) (sym same) ∙ told-now w c t old mid read from first)
 
-  module _ (old mid : Walk) (first : Finishes w c (t + 1) old mid mask) where
-    pub mask-read : (from : StandsIn w c old) (o : Option Bool) → o ≡ given mid.told mask (mask_passes w c n.mask a s) → o ≡ Some (mask_passes w c n.mask a s)
-    mask-read from o e = e ∙ given-yes mid.told mask (mask_passes w c n.mask a s) (told-now w c t old mid mask from first)
+    passed : (b : Bool) → o ≡ Some b → mask_passes w c n.mask a s ≡ b
+    passed b e = sym (same_Some b (mask_passes w c n.mask a s) (sym e ∙ known))
 
-    pub stopped-finished : mask_passes w c n.mask a s ≡ false → Finishes w c (t + 1) old mid own
-    stopped-finished barred = subst (λ fs. Finishes w c (t + 1) old mid fs) (sym (premises-barred w c ok t n is a s known there barred)) (walk-both w c (t + 1) old mid mid mask [] first (walk-none w c (t + 1) mid))
+    pub mask-known : o ≡ None → ⊥
+    mask-known e = let bad : None ≡ Some (mask_passes w c n.mask a s) = sym e ∙ known in cc
 
-    pub passed-walked : mask_passes w c n.mask a s ≡ true → (new : Walk) → {T : Type 0} (r : Result T ExplainError)
-        → IsWalkTo w c (t + 1) (facts_read w c t a s) mid new r → IsWalkTo w c (t + 1) own old new r
-    passed-walked passed new (Ok u) h = record {
+    pub facts-stand : o ≡ Some true → CanStand w c (Worth t a (pos s)) → Each (CanStandIn w c (t + 1)) (facts_read w c t a s)
+    facts-stand e h =
+        each_back (CanStandIn w c (t + 1)) read (facts_read w c t a s)
+        (subst (λ fs. Each (CanStandIn w c (t + 1)) fs) (kept (passed true e)) (premises-stand w c from.table.ready.checked t a s h))
+
+    pub stopped-finished : o ≡ Some false → Finishes w c (t + 1) old mid own
+    stopped-finished e =
+        let barred = premises-barred w c from.table.ready.checked t n is a s from.table.ready.texts there (passed false e) in
+        subst (λ fs. Finishes w c (t + 1) old mid fs) (sym (barred ∙ ap (λ l. l ++ []) (sym same) ∙ append-nil read)) first
+
+    pub passed-walked : o ≡ Some true → {T : Type 0} (new : Walk) (r : Result T ExplainError) → IsWalkTo w c (t + 1) (facts_read w c t a s) mid new r → IsWalkTo w c (t + 1) own old new r
+    passed-walked e new (Ok u) h = record {
       stands = h.stands;
-      finished = subst (λ fs. Finishes w c (t + 1) old new fs) (sym (premises-kept w c ok t n is a s known there passed)) (walk-both w c (t + 1) old mid new mask (facts_read w c t a s) first h.finished);
+      finished = subst (λ fs. Finishes w c (t + 1) old new fs) (sym (kept (passed true e))) (walk-both w c (t + 1) old mid new read (facts_read w c t a s) first h.finished);
       long = tt;
     }
-    passed-walked passed new (Err e) h = record {
+    passed-walked e new (Err x) h = record {
       stands = tt;
       finished = tt;
-      long = λ i. subst (λ fs. IsTooLong w c (t + 1) old fs) (sym (premises-kept w c ok t n is a s known there passed)) (long-back w c (t + 1) old mid mask (facts_read w c t a s) first (h.long i));
+      long = λ i. subst (λ fs. IsTooLong w c (t + 1) old fs) (sym (kept (passed true e))) (long-back w c (t + 1) old mid read (facts_read w c t a s) first (h.long i));
     }
 
 -- ---- the value that is asked for

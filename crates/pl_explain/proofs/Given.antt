@@ -1,5 +1,5 @@
 -- What is given where facts are told.
-use Rattle.std.proofs.Common.{◌≡◌, Bool, true, false, ◌&&◌, if◌then◌else◌, ℤ, List, [], ◌∷◌, ◌++◌, Option, Some, None, option_map, is_some, IfSome, IfNone, refl, sym, ◌∙◌, ap, subst}
+use Rattle.std.proofs.Common.{◌≡◌, Bool, true, false, ◌&&◌, if◌then◌else◌, ℤ, List, [], ◌∷◌, ◌++◌, Option, Some, None, option_map, IfSome, IfNone, refl, sym, ◌∙◌, ap, subst}
 use Rattle.std.proofs.lemmas.List.Folds.{list_all-append}
 use Rattle.std.proofs.lemmas.Option.{same_Some}
 use Rattle.pl_spec.specs.Rounding.{IsCell}
@@ -8,7 +8,7 @@ use Rattle.pl_spec.specs.Table.{Pipeline}
 use Rattle.pl_derivation.specs.Facts.{Fact, number_in}
 use Rattle.pl_explain.specs.declared.told.Told.{Told}
 use Rattle.pl_explain.specs.Looking.{look}
-use Rattle.pl_explain.specs.Given.{has, has_all, given, TellsTruth}
+use Rattle.pl_explain.specs.Given.{has, has_all, given, IsGiven, TellsTruth}
 
 pub none-of : {X : Type 0} (o : Option X) → ((x : X) → o ≡ Some x → ⊥) → o ≡ None
 none-of None h = refl
@@ -21,6 +21,9 @@ none-holds (Some x) f h = absurd (f x refl)
 
 pub some-holds : {X : Type 0} (P : X → Type 0) (o : Option X) (x : X) → o ≡ Some x → IfSome o P → P x
 some-holds P o x e h = subst (λ p. IfSome p P) e h
+
+pub as-read : {X : Type 0} {Such : X → Type 0} {told : Told} {fs : List Fact} {v : X} {o q : Option X} → IsGiven Such told fs v o → o ≡ q → IsGiven Such told fs v q
+as-read {X} {Such} {told} {fs} {v} h is = subst (λ p. IsGiven Such told fs v p) is h
 
 module _ (told : Told) where
   pub given-yes : {X : Type 0} (fs : List Fact) (x : X) → has_all told fs ≡ true → given told fs x ≡ Some x
@@ -43,31 +46,32 @@ module _ (told : Told) where
   pub given-none : {X : Type 0} (fs : List Fact) (v : X) (o : Option X) → o ≡ given told fs v → o ≡ None → has_all told fs ≡ false
   given-none fs v o e is = none-given (has_all told fs) v (sym is ∙ e)
 
-  -- the same of what is read through a function
-  pub given-read : {X Y : Type 0} (f : Y → X) (fs : List Fact) (v : X) (y : Y) (o : Option Y) → option_map f o ≡ given told fs v → o ≡ Some y → (has_all told fs ≡ true) × (f y ≡ v)
-  given-read f fs v y o e is = given-some fs v (f y) (option_map f o) e (ap (option_map f) is)
-
-  pub given-unread : {X Y : Type 0} (f : Y → X) (fs : List Fact) (v : X) (o : Option Y) → option_map f o ≡ given told fs v → o ≡ None → has_all told fs ≡ false
-  given-unread f fs v o e is = given-none fs v (option_map f o) e (ap (option_map f) is)
-
   -- where one of some facts is not told, nothing is given
-  pub refused : {X : Type 0} (fs gs : List Fact) (v : X) (o : Option X) → gs ≡ fs → has_all told fs ≡ false → o ≡ None → o ≡ given told gs v
-  refused fs gs v o e h is = is ∙ sym (given-no gs v (ap (has_all told) e ∙ h))
+  pub refused : {X : Type 0} {Such : X → Type 0} (fs gs : List Fact) (v : X) (o : Option X) → gs ≡ fs → has_all told fs ≡ false → o ≡ None → IsGiven Such told gs v o
+  refused {X} {Such} fs gs v o e h is = record { value = is ∙ sym (given-no gs v (ap (has_all told) e ∙ h)); such = subst (λ p. IfSome p Such) (sym is) tt }
 
   -- and where all are, all is
-  pub accepted : {X : Type 0} (fs gs : List Fact) (v x : X) → gs ≡ fs → has_all told fs ≡ true → x ≡ v → Some x ≡ given told gs v
-  accepted fs gs v x e h is = ap Some is ∙ sym (given-yes gs v (ap (has_all told) e ∙ h))
+  pub accepted : {X : Type 0} {Such : X → Type 0} (fs gs : List Fact) (v x : X) → gs ≡ fs → has_all told fs ≡ true → x ≡ v → Such x → IsGiven Such told gs v (Some x)
+  accepted fs gs v x e h is such = record { value = ap Some is ∙ sym (given-yes gs v (ap (has_all told) e ∙ h)); such = such }
 
-  and-true : (b : Bool) → (b && true) ≡ b
-  and-true true = refl
-  and-true false = refl
+  module _ {X : Type 0} {Such : X → Type 0} {fs : List Fact} {v : X} where
+    pub got : (o : Option X) (x : X) → IsGiven Such told fs v o → o ≡ Some x → (has_all told fs ≡ true) × (x ≡ v) × Such x
+    got o x h is = let both = given-some fs v x o h.value is in (both.0, both.1, some-holds Such o x is h.such)
 
-  -- of one fact
-  pub one-told : {X : Type 0} (f : Fact) (v x : X) (o : Option X) → o ≡ given told (f ∷ []) v → o ≡ Some x → (has told f ≡ true) × (x ≡ v)
-  one-told f v x o e is = let both = given-some (f ∷ []) v x o e is in (sym (and-true (has told f)) ∙ both.0, both.1)
+    pub lacked : (o : Option X) → IsGiven Such told fs v o → o ≡ None → has_all told fs ≡ false
+    lacked o h is = given-none fs v o h.value is
 
-  pub one-lacks : {X : Type 0} (f : Fact) (v : X) (o : Option X) → o ≡ given told (f ∷ []) v → o ≡ None → has told f ≡ false
-  one-lacks f v o e is = sym (and-true (has told f)) ∙ given-none (f ∷ []) v o e is
+    -- the same of what is read through a function
+    module _ {Y : Type 0} (f : Y → X) (o : Option Y) (h : IsGiven Such told fs v (option_map f o)) where
+      pub lacked-by : o ≡ None → has_all told fs ≡ false
+      lacked-by is = lacked (option_map f o) h (ap (option_map f) is)
+
+      pub read-as : (q : Option Y) → o ≡ q → IsGiven Such told fs v (option_map f q)
+      read-as q is = subst (λ p. IsGiven Such told fs v (option_map f p)) is h
+
+      -- what was read is lent
+      pub lent : (y : Y) (x : X) → o ≡ Some y → x ≡ f y → IsGiven Such told fs v (Some x)
+      lent y x is e = subst (λ q. IsGiven Such told fs v q) (ap (option_map f) is ∙ ap Some (sym e)) h
 
   -- ---- lists of facts in a row
 
@@ -115,16 +119,9 @@ module _ (told : Told) where
   has-none f e = rw e refl
 
   module _ (w : World) (p : Pipeline) (truth : TellsTruth w p told) where
-    pub given-one : (f : Fact) → look told f ≡ given told (f ∷ []) (number_in w p f)
-    given-one f = here (look told f) refl
+    pub told-one : (f : Fact) (o : Option ℤ) → o ≡ look told f → IsGiven IsCell told (f ∷ []) (number_in w p f) o
+    told-one f o e = subst (λ q. IsGiven IsCell told (f ∷ []) (number_in w p f) q) (sym e) (here (look told f) refl)
       where
-        here : (o : Option ℤ) → look told f ≡ o → o ≡ (if is_some o && true then Some (number_in w p f) else None)
-        here None e = refl
-        here (Some x) e = ap Some (truth f x e).0
-
-    pub told-cell : (f : Fact) (x : ℤ) (o : Option ℤ) → o ≡ look told f → o ≡ Some x → IsCell x
-    told-cell f x o e is = (truth f x (sym e ∙ is)).1
-
-    pub told-cells : (f : Fact) (o : Option ℤ) → o ≡ look told f → IfSome o IsCell
-    told-cells f None e = tt
-    told-cells f (Some x) e = (truth f x (sym e)).1
+        here : (o : Option ℤ) → look told f ≡ o → IsGiven IsCell told (f ∷ []) (number_in w p f) o
+        here None e = refused (f ∷ []) (f ∷ []) (number_in w p f) None refl (rw e refl) refl
+        here (Some x) e = let true_cell = truth f x e in accepted (f ∷ []) (f ∷ []) (number_in w p f) x refl (rw e refl) true_cell.0 true_cell.1

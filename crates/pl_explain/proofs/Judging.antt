@@ -110,6 +110,7 @@ module _ (f : Fact) (x : ℤ) (old new : Told) (tells : IsTellingOf f x old new)
 
   pub table-more : (w : World) (c : Parts) (rows : Rows) → IsTable w c old rows → x ≡ number_in (world_of w) (pipeline_of c) f → IsCell x → is_fitting (world_of w) (pipeline_of c) f ≡ true → IsTable w c new rows
   table-more w c rows t is cell fits = record {
+    ready = t.ready;
     truth = λ g y e. truth g y (same_fact f g) refl (sym (tells g) ∙ e);
     fits = λ g e. elim (or_cases (has old g) (same_fact g f) (sym (has-more g) ∙ e)) [
       | inl h ↦ t.fits g h
@@ -151,7 +152,4 @@ tells-again w told l f e h g = here (same_fact g f) refl
 
 -- other rows that are kept
 pub other-rows : (w : World) (c : Parts) (told : Told) (old new : Rows) → IsTable w c told old → KeepsRows w c told new → IsTable w c told new
-other-rows w c told old new t k = record { truth = t.truth; fits = t.fits; kept = k }
-
-pub told-at : (f g : Fact) (x : ℤ) (old new : Told) → f ≡ g → IsTellingOf f x old new → IsTellingOf g x old new
-told-at f g x old new e h = subst (λ k. IsTellingOf k x old new) e h
+other-rows w c told old new t k = record { ready = t.ready; truth = t.truth; fits = t.fits; kept = k }

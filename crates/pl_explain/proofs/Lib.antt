@@ -4,6 +4,7 @@ mod Given
 mod Facts
 mod Entries
 mod Values
+mod Worths
 mod Growing
 mod Kept
 mod Passing

@@ -1,24 +1,34 @@
 -- What is judged of a line of a bar, and of one of a value.
-use Rattle.std.proofs.Common.{◌≡◌, ℕ, ◌<◌, ◌≤◌, Bool, true, false, ◌&&◌, if◌then◌else◌, ℤ, pos, List, Option, Some, None, option_map, refl, sym, ◌∙◌, ap, arith, [], ◌∷◌, suc, fold, All, inl}
-use Rattle.pl_spec.specs.Rounding.{IsCell, MISSING}
+use Rattle.std.proofs.Common.{◌≡◌, ℕ, ◌<◌, ◌≤◌, Bool, true, false, ◌&&◌, if◌then◌else◌, ℤ, pos, List, Option, Some, None, option_map, refl, sym, ◌∙◌, ap, subst, arith, [], ◌∷◌, suc, fold, All, inl}
 use Rattle.std.specs.Option.{option_and_then}
 use Rattle.std.specs.Ordering.{int_eq}
 use Rattle.std.specs.Int.RustNames.{int_lt}
 use Rattle.std.specs.Cmp.Lexicographic.{pointwise}
 use Rattle.std.proofs.lemmas.Int.{ints}
 use Rattle.std.proofs.lemmas.Bool.{true≢false, and_from}
+use Rattle.std.proofs.lemmas.Bool.Decides.{Decides-int_eq}
 use Rattle.std.proofs.Math.Bool.{and-false}
+use Rattle.pl_spec.specs.Rounding.{IsCell, MISSING}
 use Rattle.pl_spec.specs.declared.Column.{Column}
-use Rattle.pl_spec.specs.World.{World}
+use Rattle.pl_spec.specs.World.{World as SpecWorld}
 use Rattle.pl_spec.specs.Table.{Pipeline}
+use Rattle.pl_terms.specs.Checked.{Parts, pipeline_of}
 use Rattle.pl_terms.specs.Uses.{is_used}
+use Rattle.pl_derivation.specs.Lines.{Line}
 use Rattle.pl_derivation.specs.Lines.Line.{SeenLine, ValueLine}
-use Rattle.pl_derivation.specs.Facts.{Fact, number_in, premises}
+use Rattle.pl_derivation.specs.Facts.{number_in}
 use Rattle.pl_derivation.specs.Facts.Fact.{Seen, Worth}
 use Rattle.pl_derivation.specs.Right.{session_of, fact_of, has_sid, is_fitting, seen_cells, last_cell}
+use Rattle.pl_world.specs.declared.world.World.{World}
+use Rattle.pl_world.specs.Worlds.{world_of}
+use Rattle.pl_world.specs.Evaluations.{cell_in}
 use Rattle.pl_explain.specs.declared.told.Told.{Told}
-use Rattle.pl_explain.specs.Given.{has, has_all}
-use Rattle.pl_explain.specs.Judging.{judged_about, judged}
+use Rattle.pl_explain.specs.declared.rows.Rows.{Rows}
+use Rattle.pl_explain.specs.Looking.{look, IsTellingOf}
+use Rattle.pl_explain.specs.Given.{has, has_all, own_facts, IsGiven, KeepsRows}
+use Rattle.pl_explain.specs.Judging.{judged_about, judged, IsJudgement, IsTable}
+use Rattle.pl_explain.proofs.Given.{got, lacked, has-none, has-some}
+use Rattle.pl_explain.proofs.Judging.{not-right, table-more, tells-again, tells-line, other-rows}
 
 less-not : (s d : ℕ) → d ≤ s → int_lt (pos s) (pos d) ≡ false
 less-not s d h = grind (arith, ints)
@@ -26,87 +36,152 @@ less-not s d h = grind (arith, ints)
 less-is : (s d : ℕ) → s < d → int_lt (pos s) (pos d) ≡ true
 less-is s d h = grind (arith, ints)
 
-module _ (w : World) (p : Pipeline) (told : Told) where
-  module _ (c : Column) (sid : ℕ) (bar_day day : ℤ) (cells : List ℤ) where
-    pub bar-unknown : has_sid w sid ≡ false → false ≡ judged w p told (SeenLine c sid bar_day day cells)
-    bar-unknown e = here (session_of w bar_day) (session_of w day)
+module _ {w : World} {c : Parts} {told : Told} {rows : Rows} (table : IsTable w c told rows) where
+  abbrev v : SpecWorld
+  v = world_of w
+
+  abbrev p : Pipeline
+  p = pipeline_of c
+
+  -- ---- a bar
+
+  module _ (k : Column) (sid : ℕ) (bar_day day : ℤ) (cells : List ℤ) where
+    abbrev bar : Line
+    bar = SeenLine k sid bar_day day cells
+
+    wrong : false ≡ judged v p told bar → IsJudgement w c bar told told rows false
+    wrong e = not-right w c bar told rows table e
+
+    pub bar-unknown : has_sid v sid ≡ false → IsJudgement w c bar told told rows false
+    bar-unknown e = wrong (here (session_of v bar_day) (session_of v day))
       where
-        here : (o q : Option ℕ) → false ≡ judged_about w p told (SeenLine c sid bar_day day cells) (option_and_then (λ s. option_map (λ d. Seen c sid (pos s) (pos d)) q) o)
+        here : (o q : Option ℕ) → false ≡ judged_about v p told bar (option_and_then (λ s. option_map (λ d. Seen k sid (pos s) (pos d)) q) o)
         here None q = refl
         here (Some s) None = refl
         here (Some s) (Some d) = rw e refl
 
-    pub bar-no-session : session_of w bar_day ≡ None → false ≡ judged w p told (SeenLine c sid bar_day day cells)
-    bar-no-session e = rw e refl
+    pub bar-no-session : session_of v bar_day ≡ None → IsJudgement w c bar told told rows false
+    bar-no-session e = wrong (rw e refl)
 
-    pub bar-no-day : session_of w day ≡ None → false ≡ judged w p told (SeenLine c sid bar_day day cells)
-    bar-no-day e = here (session_of w bar_day)
+    pub bar-no-day : session_of v day ≡ None → IsJudgement w c bar told told rows false
+    bar-no-day e = wrong (here (session_of v bar_day))
       where
-        here : (o : Option ℕ) → false ≡ judged_about w p told (SeenLine c sid bar_day day cells) (option_and_then (λ s. option_map (λ d. Seen c sid (pos s) (pos d)) (session_of w day)) o)
+        here : (o : Option ℕ) → false ≡ judged_about v p told bar (option_and_then (λ s. option_map (λ d. Seen k sid (pos s) (pos d)) (session_of v day)) o)
         here None = refl
         here (Some s) = rw e refl
 
-    module _ (s d : ℕ) (bar_is : session_of w bar_day ≡ Some s) (day_is : session_of w day ≡ Some d) where
-      pub bar-fact : fact_of w (SeenLine c sid bar_day day cells) ≡ Some (Seen c sid (pos s) (pos d))
+    module _ (s d : ℕ) (bar_is : session_of v bar_day ≡ Some s) (day_is : session_of v day ≡ Some d) where
+      bar-fact : fact_of v bar ≡ Some (Seen k sid (pos s) (pos d))
       bar-fact = rw (bar_is, day_is) refl
 
-      pub bar-late : d ≤ s → false ≡ judged w p told (SeenLine c sid bar_day day cells)
-      bar-late l = sym (ap (judged_about w p told (SeenLine c sid bar_day day cells)) bar-fact ∙ rw (less-not s d l, and-false (has_sid w sid)) refl)
+      pub bar-late : d ≤ s → IsJudgement w c bar told told rows false
+      bar-late l = wrong (sym (ap (judged_about v p told bar) bar-fact ∙ rw (less-not s d l, and-false (has_sid v sid)) refl))
 
-      pub bar-fits : has_sid w sid ≡ true → s < d → is_fitting w p (Seen c sid (pos s) (pos d)) ≡ true
-      bar-fits known l = and_from (has_sid w sid) (int_lt (pos s) (pos d)) known (less-is s d l)
+      module _ (known : has_sid v sid ≡ true) (early : s < d) where
+        exact : (b : Bool) → b ≡ pointwise int_eq cells (seen_cells v sid k (pos s) (pos d)) → b ≡ judged v p told bar
+        exact b e = e ∙ sym (ap (judged_about v p told bar) bar-fact ∙ step)
+          where
+            step : judged_about v p told bar (Some (Seen k sid (pos s) (pos d))) ≡ pointwise int_eq cells (seen_cells v sid k (pos s) (pos d))
+            step = rw (known, less-is s d early) refl
 
-      pub bar-judged : has_sid w sid ≡ true → s < d → (b : Bool) → b ≡ pointwise int_eq cells (seen_cells w sid c (pos s) (pos d)) → b ≡ judged w p told (SeenLine c sid bar_day day cells)
-      bar-judged known l b e = e ∙ sym (ap (judged_about w p told (SeenLine c sid bar_day day cells)) bar-fact ∙ step)
-        where
-          step : judged_about w p told (SeenLine c sid bar_day day cells) (Some (Seen c sid (pos s) (pos d))) ≡ pointwise int_eq cells (seen_cells w sid c (pos s) (pos d))
-          step = rw (known, less-is s d l) refl
+        pub bar-other : false ≡ pointwise int_eq cells (seen_cells v sid k (pos s) (pos d)) → IsJudgement w c bar told told rows false
+        bar-other e = wrong (exact false e)
 
-  module _ (t sid : ℕ) (day v : ℤ) where
+        pub bar-right : true ≡ pointwise int_eq cells (seen_cells v sid k (pos s) (pos d)) → (x : ℤ) (new : Told) → IsTellingOf (Seen k sid (pos s) (pos d)) x told new
+            → x ≡ number_in v p (Seen k sid (pos s) (pos d)) → IsCell x → IsJudgement w c bar told new rows true
+        bar-right e x new tells number cell = record {
+          exact = exact true e;
+          table = table-more (Seen k sid (pos s) (pos d)) x told new tells w c rows table number cell (and_from (has_sid v sid) (int_lt (pos s) (pos d)) known (less-is s d early));
+          told = λ _. tells-line (Seen k sid (pos s) (pos d)) x told new tells v bar bar-fact;
+        }
+
+  -- ---- a value
+
+  module _ (t sid : ℕ) (day x : ℤ) where
+    abbrev value : Line
+    value = ValueLine t sid day x
+
     -- a fact that fits nowhere is not told either
-    value-unfit : ((f : Fact) → has told f ≡ true → is_fitting w p f ≡ true) → (has_sid w sid && is_used p t) ≡ false → false ≡ judged w p told (ValueLine t sid day v)
-    value-unfit fits e = here (session_of w day)
+    unfit : (has_sid v sid && is_used p t) ≡ false → IsJudgement w c value told told rows false
+    unfit e = not-right w c value told rows table (here (session_of v day))
       where
         there : (d : ℕ) (b : Bool) → has told (Worth t sid (pos d)) ≡ b
-            → false ≡ (if b then int_eq v (number_in w p (Worth t sid (pos d)))
-            else is_fitting w p (Worth t sid (pos d)) && has_all told (premises w p (number_in w p) (Worth t sid (pos d))) && int_eq v (number_in w p (Worth t sid (pos d))))
-        there d true h = absurd (true≢false (sym (fits (Worth t sid (pos d)) h) ∙ e))
+            → false ≡ (if b then int_eq x (number_in v p (Worth t sid (pos d)))
+            else is_fitting v p (Worth t sid (pos d)) && has_all told (own_facts w c t sid d) && int_eq x (number_in v p (Worth t sid (pos d))))
+        there d true h = absurd (true≢false (sym (table.fits (Worth t sid (pos d)) h) ∙ e))
         there d false h = rw e refl
 
-        here : (o : Option ℕ) → false ≡ judged_about w p told (ValueLine t sid day v) (option_map (λ d. Worth t sid (pos d)) o)
+        here : (o : Option ℕ) → false ≡ judged_about v p told value (option_map (λ d. Worth t sid (pos d)) o)
         here None = refl
         here (Some d) = there d (has told (Worth t sid (pos d))) refl
 
-    pub value-unknown : ((f : Fact) → has told f ≡ true → is_fitting w p f ≡ true) → has_sid w sid ≡ false → false ≡ judged w p told (ValueLine t sid day v)
-    value-unknown fits e = value-unfit fits (ap (λ b. b && is_used p t) e)
+    pub value-unknown : has_sid v sid ≡ false → IsJudgement w c value told told rows false
+    value-unknown e = unfit (ap (λ b. b && is_used p t) e)
 
-    pub value-unused : ((f : Fact) → has told f ≡ true → is_fitting w p f ≡ true) → is_used p t ≡ false → false ≡ judged w p told (ValueLine t sid day v)
-    value-unused fits e = value-unfit fits (ap (λ b. has_sid w sid && b) e ∙ and-false (has_sid w sid))
+    pub value-unused : is_used p t ≡ false → IsJudgement w c value told told rows false
+    value-unused e = unfit (ap (λ b. has_sid v sid && b) e ∙ and-false (has_sid v sid))
 
-    pub value-no-day : session_of w day ≡ None → false ≡ judged w p told (ValueLine t sid day v)
-    value-no-day e = rw e refl
+    pub value-no-day : session_of v day ≡ None → IsJudgement w c value told told rows false
+    value-no-day e = not-right w c value told rows table (rw e refl)
 
-    module _ (d : ℕ) (day_is : session_of w day ≡ Some d) where
-      pub value-fact : fact_of w (ValueLine t sid day v) ≡ Some (Worth t sid (pos d))
-      value-fact = rw day_is refl
+    -- of the session, and of a term and an asset that are the line's own
+    module _ (d : ℕ) (day_is : session_of v day ≡ Some d) (u a : ℕ) (term : u ≡ t) where
+      fact-is : fact_of v value ≡ Some (Worth t sid (pos d))
+      fact-is = rw day_is refl
 
-      -- told already
-      pub value-repeat : has told (Worth t sid (pos d)) ≡ true → (b : Bool) → b ≡ int_eq v (number_in w p (Worth t sid (pos d))) → b ≡ judged w p told (ValueLine t sid day v)
-      value-repeat h b e = e ∙ sym (ap (judged_about w p told (ValueLine t sid day v)) value-fact
-          ∙ ap (λ r. if r then int_eq v (number_in w p (Worth t sid (pos d)))
-          else is_fitting w p (Worth t sid (pos d)) && has_all told (premises w p (number_in w p) (Worth t sid (pos d))) && int_eq v (number_in w p (Worth t sid (pos d)))) h)
+      -- what the judgement computes to, where the fact is told already and where not
+      judged-as : (b : Bool) → has told (Worth t sid (pos d)) ≡ b
+          → judged v p told value ≡ (if b then int_eq x (number_in v p (Worth t sid (pos d)))
+          else is_fitting v p (Worth t sid (pos d)) && has_all told (own_facts w c t sid d) && int_eq x (number_in v p (Worth t sid (pos d))))
+      judged-as b h = ap (judged_about v p told value) fact-is
+          ∙ ap (λ r. if r then int_eq x (number_in v p (Worth t sid (pos d)))
+          else is_fitting v p (Worth t sid (pos d)) && has_all told (own_facts w c t sid d) && int_eq x (number_in v p (Worth t sid (pos d)))) h
 
-      pub value-fits : has_sid w sid ≡ true → is_used p t ≡ true → is_fitting w p (Worth t sid (pos d)) ≡ true
-      value-fits known used = and_from (has_sid w sid) (is_used p t) known used
+      pub value-repeat : (y : ℤ) → look told (Worth u sid (pos d)) ≡ Some y → (b : Bool) → b ≡ int_eq x y → IsJudgement w c value told told rows b
+      value-repeat y at b e =
+          let own : look told (Worth t sid (pos d)) ≡ Some y = ap (λ t. look told (Worth t sid (pos d))) (sym term) ∙ at in
+          let there = has-some told (Worth t sid (pos d)) y own in
+          record {
+            exact = e ∙ ap (int_eq x) (table.truth (Worth t sid (pos d)) y own).0 ∙ sym (judged-as true there);
+            table = table;
+            told = λ _. tells-again v told value (Worth t sid (pos d)) fact-is there;
+          }
 
-      -- not told yet
-      pub value-judged : has told (Worth t sid (pos d)) ≡ false → has_sid w sid ≡ true → is_used p t ≡ true → (b q : Bool) → has_all told (premises w p (number_in w p) (Worth t sid (pos d))) ≡ q
-          → b ≡ (q && int_eq v (number_in w p (Worth t sid (pos d)))) → b ≡ judged w p told (ValueLine t sid day v)
-      value-judged h known used b q all e = e ∙ sym (ap (judged_about w p told (ValueLine t sid day v)) value-fact
-          ∙ ap (λ r. if r then int_eq v (number_in w p (Worth t sid (pos d)))
-          else is_fitting w p (Worth t sid (pos d)) && has_all told (premises w p (number_in w p) (Worth t sid (pos d))) && int_eq v (number_in w p (Worth t sid (pos d)))) h
-          ∙ ap (λ r. r && has_all told (premises w p (number_in w p) (Worth t sid (pos d))) && int_eq v (number_in w p (Worth t sid (pos d)))) (value-fits known used)
-          ∙ ap (λ r. r && int_eq v (number_in w p (Worth t sid (pos d)))) all)
+      module _ (fresh : look told (Worth u sid (pos d)) ≡ None) (place : a ≡ sid) (known : has_sid v sid ≡ true) (used : is_used p t ≡ true) (after : Rows) (kept : KeepsRows w c told after) where
+        fits : is_fitting v p (Worth t sid (pos d)) ≡ true
+        fits = and_from (has_sid v sid) (is_used p t) known used
+
+        judged-anew : judged v p told value ≡ (has_all told (own_facts w c u a d) && int_eq x (number_in v p (Worth t sid (pos d))))
+        judged-anew =
+            let none : look told (Worth t sid (pos d)) ≡ None = ap (λ t. look told (Worth t sid (pos d))) (sym term) ∙ fresh in
+            judged-as false (has-none told (Worth t sid (pos d)) none)
+            ∙ ap (λ r. r && has_all told (own_facts w c t sid d) && int_eq x (number_in v p (Worth t sid (pos d)))) fits
+            ∙ ap (λ a. has_all told (own_facts w c t a d) && int_eq x (number_in v p (Worth t sid (pos d)))) (sym place)
+            ∙ ap (λ t'. has_all told (own_facts w c t' a d) && int_eq x (number_in v p (Worth t sid (pos d)))) (sym term)
+
+        -- one of its premises is not told
+        pub value-lacks : IsGiven IsCell told (own_facts w c u a d) (cell_in w c u a d) None → IsJudgement w c value told told after false
+        value-lacks h = not-right w c value told after (other-rows w c told rows after table kept)
+            (sym (judged-anew ∙ ap (λ r. r && int_eq x (number_in v p (Worth t sid (pos d)))) (lacked told None h refl)))
+
+        module _ (y : ℤ) (h : IsGiven IsCell told (own_facts w c u a d) (cell_in w c u a d) (Some y)) where
+          is : y ≡ number_in v p (Worth t sid (pos d))
+          is = (got told (Some y) y h refl).1 ∙ ap (λ t. number_in v p (Worth t a (pos d))) term ∙ ap (λ a. number_in v p (Worth t a (pos d))) place
+
+          exact-as : (b : Bool) → b ≡ int_eq x y → b ≡ judged v p told value
+          exact-as b e = e ∙ ap (int_eq x) is ∙ sym (judged-anew ∙ ap (λ r. r && int_eq x (number_in v p (Worth t sid (pos d)))) (got told (Some y) y h refl).0)
+
+          pub value-other : false ≡ int_eq x y → IsJudgement w c value told told after false
+          value-other e = not-right w c value told after (other-rows w c told rows after table kept) (exact-as false e)
+
+          pub value-right : true ≡ int_eq x y → IsCell x → (new : Told) → IsTellingOf (Worth u sid (pos d)) x told new → IsJudgement w c value told new after true
+          value-right e cell new tells =
+              let own : IsTellingOf (Worth t sid (pos d)) x told new = subst (λ t. IsTellingOf (Worth t sid (pos d)) x told new) term tells in
+              record {
+                exact = exact-as true e;
+                table = table-more (Worth t sid (pos d)) x told new own w c after (other-rows w c told rows after table kept) ((Decides-int_eq x y).0 (sym e) ∙ is) cell fits;
+                told = λ _. tells-line (Worth t sid (pos d)) x told new own v value fact-is;
+              }
 
 last-from : (z : ℤ) → IsCell z → (xs : List ℤ) → All IsCell xs → IsCell (fold (λ x y. y) z xs)
 last-from z h [] all = h

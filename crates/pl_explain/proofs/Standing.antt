@@ -14,7 +14,7 @@ use Rattle.pl_derivation.specs.Facts.Fact.{Worth}
 use Rattle.pl_derivation.specs.Right.{is_fitting}
 use Rattle.pl_derivation.specs.Walks.{finish, facts_for, line_for, derivation}
 use Rattle.pl_explain.specs.Looking.{look, row_at, IsTellingOf}
-use Rattle.pl_explain.specs.Given.{has}
+use Rattle.pl_explain.specs.Given.{has, IsReady}
 use Rattle.pl_explain.specs.declared.walk.Walk.{Walk}
 use Rattle.pl_explain.specs.Judging.{IsTable}
 use Rattle.pl_explain.specs.Walking.{HasWalked, StandsIn, Finishes, IsTooLong}
@@ -42,11 +42,12 @@ module _ (w : World) (c : Parts) where
     pub walked-none : HasWalked w c walk []
     walked-none = record { told = λ f. ap is_some (told f); lines = ap (map line_of) none }
 
-    pub stands-first : StandsIn w c walk
-    stands-first = record {
+    pub stands-first : IsReady w c → StandsIn w c walk
+    stands-first ready = record {
       facts = [];
       walked = walked-none;
       table = record {
+        ready = ready;
         truth = λ f x e. absurd (let bad = sym (told f) ∙ e in cc);
         fits = λ f e. absurd (let bad = sym (ap is_some (told f)) ∙ e in cc);
         kept = λ t d row e. absurd (let bad = sym (rows t d) ∙ e in cc);

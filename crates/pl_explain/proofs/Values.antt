@@ -1,16 +1,18 @@
 -- The premises of a value, and what its kind reads.
-use Rattle.std.proofs.Common.{◌≡◌, ℕ, ◌+◌, ◌<◌, ◌≤◌, Bool, true, false, ◌&&◌, ℤ, pos, List, [], ◌∷◌, ◌++◌, map, flat_map, length, Option, Some, None, option_map, unwrap_or, slice_get, refl, sym, ◌∙◌, ap, subst, arith, append-nil, IfSome}
+use Rattle.std.proofs.Common.{◌≡◌, ℕ, zero, suc, ◌<◌, Bool, true, false, ◌&&◌, ℤ, pos, List, [], ◌∷◌, ◌++◌, length, Option, Some, None, option_map, unwrap_or, slice_get, refl, sym, ◌∙◌, ap, subst, arith, append-nil, IfSome}
 use Rattle.std.proofs.lemmas.Option.{slice_get_within}
-use Rattle.pl_spec.specs.World.{World as SpecWorld, exists, living_sids}
+use Rattle.pl_spec.specs.Rounding.{IsCell}
+use Rattle.pl_spec.specs.World.{World as SpecWorld, exists}
 use Rattle.pl_spec.specs.declared.Frequency.{Frequency}
 use Rattle.pl_spec.specs.Periods.{period_start}
 use Rattle.pl_spec.specs.Kind as kinds
 use Rattle.pl_spec.specs.Kind.{Kind}
 use Rattle.pl_spec.specs.Term as spec
-use Rattle.pl_spec.specs.Value.{passes, holds}
+use Rattle.pl_spec.specs.Value.{passes, holds, number_of as number_in_value, empty, sort_kind}
 use Rattle.pl_spec.specs.NodeValue.{number_part}
 use Rattle.pl_spec.specs.Table.{Pipeline}
-use Rattle.pl_spec.specs.Term.{IsGraph}
+use Rattle.pl_spec.specs.Term.{IsGraph, term_at}
+use Rattle.pl_spec.proofs.Cells.{empty-cell}
 use Rattle.pl_terms.specs.declared.node.TermId.{TermId}
 use Rattle.pl_terms.specs.declared.node.Input.{Input}
 use Rattle.pl_terms.specs.declared.node.Input.TheVariants as input
@@ -26,16 +28,16 @@ use Rattle.pl_values.specs.Families.{is_label_test, is_point, is_sids}
 use Rattle.pl_values.specs.Arrays.{is_kept}
 use Rattle.pl_values.proofs.Cells.{keeps-is}
 use Rattle.pl_values.proofs.Typed.{no-input}
-use Rattle.pl_values.proofs.Given.{window-input}
-use Rattle.pl_derivation.specs.Facts.{Fact, number_in, number_facts, number_read, over_inputs, facts_now, window_facts, entry_facts, kind_facts, node_facts, premises}
-use Rattle.pl_derivation.specs.Facts.Fact.{Worth}
+use Rattle.pl_derivation.specs.Facts.{Fact, number_in, number_facts, number_read, over_inputs, facts_now, window_facts, kind_facts, node_facts}
 use Rattle.pl_derivation.proofs.Codes.{from_code}
 use Rattle.pl_world.specs.declared.world.World.{World}
 use Rattle.pl_world.specs.Worlds.{world_of}
 use Rattle.pl_world.proofs.Asked.{inputs-at}
-use Rattle.pl_world.proofs.Evaluated.{kept-mask, windowed-is, point-is, label-test-is, section-is, sids-is, code-node}
-use Rattle.pl_explain.specs.Given.{mask_passes, facts_read, IsEarly}
-use Rattle.pl_explain.proofs.Entries.{input-facts}
+use Rattle.pl_world.proofs.Evaluated.{lacks-value, cell-kept, cell-barred, kept-mask, windowed-is, point-is, label-test-is, section-is, sids-is, code-node}
+use Rattle.pl_explain.specs.declared.basis.Basis.{Basis}
+use Rattle.pl_explain.specs.declared.told.Told.{Told}
+use Rattle.pl_explain.specs.Given.{facts_in, facts_read, given, has_all, mask_passes, own_facts, sid_in, value_in, IsAskedAt, IsGiven, IsKeptAt}
+use Rattle.pl_explain.proofs.Given.{given-some, given-none, given-behind, refused, accepted, both-told, front-lacks, three-told, first-lacks, second-lacks, third-lacks}
 
 -- a mask that is read is the mask
 mask-read : (w : SpecWorld) (p : Pipeline) → HasTexts w → IsGraph p.graph → (o : Option ℕ) (a : ℕ) (d : ℤ) → passes (number_read w p (number_in w p) o) a d ≡ passes (number_part w p.names p.graph o) a d
@@ -58,16 +60,41 @@ one-place (kinds.Bottom n) = (refl, refl)
 one-place (kinds.PercentileBetween l h) = (refl, refl)
 one-place kinds.PeerCount = (refl, refl)
 
+-- ---- over the inputs of a node
+
+pub over-read : (n : Node) (f : Option spec.Input → List Fact) → over_inputs f (node_of n)
+    ≡ f (option_map input_of (slice_get n.inputs 0)) ++ f (option_map input_of (slice_get n.inputs 1)) ++ f (option_map input_of (slice_get n.inputs 2))
+unfolding node_of
+over-read n f = rw (inputs-at n 0, inputs-at n 1, inputs-at n 2) refl
+
+module _ (told : Told) (n : Node) (f : Option spec.Input → List Fact) where
+  abbrev part : ℕ → List Fact
+  part k = f (option_map input_of (slice_get n.inputs k))
+
+  pub same-told : (k : ℕ) (o : Option Input) (b : Bool) → o ≡ slice_get n.inputs k → has_all told (f (option_map input_of o)) ≡ b → has_all told (part k) ≡ b
+  same-told k o b at h = ap (λ o. has_all told (f (option_map input_of o))) (sym at) ∙ h
+
+  pub inputs-told : has_all told (part 0) ≡ true → has_all told (part 1) ≡ true → has_all told (part 2) ≡ true → has_all told (over_inputs f (node_of n)) ≡ true
+  inputs-told x y z = ap (has_all told) (over-read n f) ∙ three-told told (part 0) (part 1) (part 2) x y z
+
+  pub input-lacks : (k : ℕ) → k < 3 → has_all told (part k) ≡ false → has_all told (over_inputs f (node_of n)) ≡ false
+  input-lacks zero l h = ap (has_all told) (over-read n f) ∙ first-lacks told (part 0) (part 1) (part 2) h
+  input-lacks (suc zero) l h = ap (has_all told) (over-read n f) ∙ second-lacks told (part 0) (part 1) (part 2) h
+  input-lacks (suc (suc zero)) l h = ap (has_all told) (over-read n f) ∙ third-lacks told (part 0) (part 1) (part 2) h
+  input-lacks (suc (suc (suc k))) l h = absurd (omega (arith, l))
+
+-- ---- premises
+
 module _ (w : World) (c : Parts) (ok : IsChecked (pipeline_of c)) (t : ℕ) (n : Node) (is : slice_get c.graph t ≡ Some n) where
   there : slice_get (graph_of c.graph) t ≡ Some (node_of n)
   there = graph-at c.graph t n is
 
   module _ (a s : ℕ) where
-    shown : premises (world_of w) (pipeline_of c) (number_in (world_of w) (pipeline_of c)) (Worth t a (pos s)) ≡ node_facts (world_of w) (pipeline_of c) (number_in (world_of w) (pipeline_of c)) (node_of n) a (pos s)
+    shown : own_facts w c t a s ≡ node_facts (world_of w) (pipeline_of c) (number_in (world_of w) (pipeline_of c)) (node_of n) a (pos s)
     shown = ap (λ o. unwrap_or (option_map (λ m. node_facts (world_of w) (pipeline_of c) (number_in (world_of w) (pipeline_of c)) m a (pos s)) o) []) there
 
     -- an asset that does not exist has none
-    pub premises-none : exists (world_of w) a (pos s) ≡ false → premises (world_of w) (pipeline_of c) (number_in (world_of w) (pipeline_of c)) (Worth t a (pos s)) ≡ []
+    pub premises-none : exists (world_of w) a (pos s) ≡ false → own_facts w c t a s ≡ []
     premises-none e = shown ∙ rw e refl
 
     mask-is : HasTexts (world_of w) → (b : Bool) → exists (world_of w) a (pos s) ≡ true → mask_passes w c n.mask a s ≡ b
@@ -81,22 +108,17 @@ module _ (w : World) (c : Parts) (ok : IsChecked (pipeline_of c)) (t : ℕ) (n :
 
     -- the mask alone
     pub premises-barred : HasTexts (world_of w) → exists (world_of w) a (pos s) ≡ true → mask_passes w c n.mask a s ≡ false
-        → premises (world_of w) (pipeline_of c) (number_in (world_of w) (pipeline_of c)) (Worth t a (pos s)) ≡ number_facts a (pos s) (option_map number_of n.mask) ++ []
+        → own_facts w c t a s ≡ number_facts a (pos s) (option_map number_of n.mask) ++ []
     unfolding node_of
     premises-barred known e h = shown ∙ rw (e, mask-is known false e h) refl
 
     -- the mask, and what the kind reads
     pub premises-kept : HasTexts (world_of w) → exists (world_of w) a (pos s) ≡ true → mask_passes w c n.mask a s ≡ true
-        → premises (world_of w) (pipeline_of c) (number_in (world_of w) (pipeline_of c)) (Worth t a (pos s)) ≡ number_facts a (pos s) (option_map number_of n.mask) ++ facts_read w c t a s
+        → own_facts w c t a s ≡ number_facts a (pos s) (option_map number_of n.mask) ++ facts_read w c t a s
     unfolding node_of
     premises-kept known e h = shown ∙ rw (e, mask-is known true e h, is) refl
 
     -- ---- what the kind reads
-
-    over-read : (f : Option spec.Input → List Fact) → over_inputs f (node_of n)
-        ≡ f (option_map input_of (slice_get n.inputs 0)) ++ f (option_map input_of (slice_get n.inputs 1)) ++ f (option_map input_of (slice_get n.inputs 2))
-    unfolding node_of
-    over-read f = rw (inputs-at n 0, inputs-at n 1, inputs-at n 2) refl
 
     read-kind : (k : Kind) → kind_of n.kind ≡ k → facts_read w c t a s ≡ kind_facts (world_of w) (node_of n) k a (pos s)
     read-kind k e = rw (is, e) refl
@@ -107,17 +129,18 @@ module _ (w : World) (c : Parts) (ok : IsChecked (pipeline_of c)) (t : ℕ) (n :
     pub read-label : (l : ℕ) → kind_of n.kind ≡ kinds.Label l → facts_read w c t a s ≡ []
     read-label l e = read-kind (kinds.Label l) e
 
+    pub read-number : (l : ℕ) → kind_of n.kind ≡ kinds.Number l → facts_read w c t a s ≡ []
+    read-number l e = read-kind (kinds.Number l) e
+
     pub read-sids : is_sids (kind_of n.kind) ≡ true → facts_read w c t a s ≡ []
     read-sids e = let f = sids-is (kind_of n.kind) e in read-kind (kinds.StaticSids f.0) f.1
 
-    pub read-windows : is_windowed (kind_of n.kind) ≡ true → facts_read w c t a s
-        ≡ window_facts n.window a (pos s) (option_map input_of (slice_get n.inputs 0)) ++ window_facts n.window a (pos s) (option_map input_of (slice_get n.inputs 1)) ++ window_facts n.window a (pos s) (option_map input_of (slice_get n.inputs 2))
+    pub read-windows : is_windowed (kind_of n.kind) ≡ true → facts_read w c t a s ≡ over_inputs (window_facts n.window a (pos s)) (node_of n)
     unfolding node_of
-    read-windows e = let f = windowed-is (kind_of n.kind) e in read-kind (kinds.Window f.0) f.1 ∙ over-read (window_facts n.window a (pos s))
+    read-windows e = let f = windowed-is (kind_of n.kind) e in read-kind (kinds.Window f.0) f.1
 
-    pub read-point : is_point (kind_of n.kind) ≡ true → facts_read w c t a s
-        ≡ facts_now a (pos s) (option_map input_of (slice_get n.inputs 0)) ++ facts_now a (pos s) (option_map input_of (slice_get n.inputs 1)) ++ facts_now a (pos s) (option_map input_of (slice_get n.inputs 2))
-    read-point e = let f = point-is (kind_of n.kind) e in read-kind (kinds.Point f.0) f.1 ∙ over-read (facts_now a (pos s))
+    pub read-point : is_point (kind_of n.kind) ≡ true → facts_read w c t a s ≡ over_inputs (facts_now a (pos s)) (node_of n)
+    read-point e = let f = point-is (kind_of n.kind) e in read-kind (kinds.Point f.0) f.1
 
     -- a kind of one place has no further input
     alone : (k : ℕ) → slice_get (places (kind_of n.kind)) k ≡ None → option_map input_of (slice_get n.inputs k) ≡ None
@@ -130,7 +153,7 @@ module _ (w : World) (c : Parts) (ok : IsChecked (pipeline_of c)) (t : ℕ) (n :
         let f = label-test-is (kind_of n.kind) e in
         let second : slice_get (places (kind_of n.kind)) 1 ≡ None = rw f.1 refl in
         let third : slice_get (places (kind_of n.kind)) 2 ≡ None = rw f.1 refl in
-        read-kind (kinds.LabelTest f.0) f.1 ∙ over-read (facts_now a (pos s))
+        read-kind (kinds.LabelTest f.0) f.1 ∙ over-read n (facts_now a (pos s))
         ∙ rw (alone 1 second, alone 2 third) (append-nil _ ∙ append-nil _)
 
     -- the input on the first session of the period
@@ -140,12 +163,9 @@ module _ (w : World) (c : Parts) (ok : IsChecked (pipeline_of c)) (t : ℕ) (n :
     read-period f start e h =
         let second : slice_get (places (kind_of n.kind)) 1 ≡ None = rw e refl in
         let third : slice_get (places (kind_of n.kind)) 2 ≡ None = rw e refl in
-        read-kind (kinds.Downsample f) e ∙ over-read (facts_now a (period_start f w.sessions.now (pos s)))
+        read-kind (kinds.Downsample f) e ∙ over-read n (facts_now a (period_start f w.sessions.now (pos s)))
         ∙ rw (alone 1 second, alone 2 third) (append-nil _ ∙ append-nil _)
         ∙ ap (λ z. facts_now a z (option_map input_of (slice_get n.inputs 0))) (sym h)
-
-    pub read-section : is_section (kind_of n.kind) ≡ true → facts_read w c t a s ≡ flat_map (entry_facts (node_of n) (pos s)) (living_sids (world_of w) (pos s))
-    read-section e = let f = section-is (kind_of n.kind) e in read-kind (kinds.Cross f.0) f.1
 
     -- a cross-section has one input
     pub section-alone : is_section (kind_of n.kind) ≡ true → (slice_get (node_of n).inputs 1 ≡ None) × (slice_get (node_of n).inputs 2 ≡ None)
@@ -154,24 +174,6 @@ module _ (w : World) (c : Parts) (ok : IsChecked (pipeline_of c)) (t : ℕ) (n :
         let f = section-is (kind_of n.kind) e in
         let all = (ok.nodes t (node_of n) there).inputs in
         (no-input (graph_of c.graph) (places (kind_of n.kind)) (node_of n).inputs 1 all (rw f.1 (one-place f.0).0), no-input (graph_of c.graph) (places (kind_of n.kind)) (node_of n).inputs 2 all (rw f.1 (one-place f.0).1))
-
--- ---- windows
-
-has-some : (o : Option Input) (y : spec.Input) → option_map input_of o ≡ Some y → (w s : ℕ) → IsEarly o w s → w ≤ s + 1
-has-some None y e w s h = absurd (let bad : None ≡ Some y = e in cc)
-has-some (Some i) y e w s h = h
-
--- the first window is not early, so none is
-pub window-in-time : (c : Parts) (ok : IsChecked (pipeline_of c)) (t : ℕ) (n : Node) → slice_get c.graph t ≡ Some n → (s : ℕ) → is_windowed (kind_of n.kind) ≡ true
-    → IsEarly (slice_get n.inputs 0) n.window s → n.window ≤ s + 1
-unfolding node_of
-window-in-time c ok t n is s e early =
-    let f = windowed-is (kind_of n.kind) e in
-    let x = window-input no_world (pipeline_of c) [] ok t (node_of n) (graph-at c.graph t n is) f.0 f.1 in
-    has-some (slice_get n.inputs 0) x.0 (sym (inputs-at n 0) ∙ x.1) n.window s early
-  where
-    no_world : SpecWorld
-    no_world = record { days = []; assets = []; labels = []; texts = []; bars = []; adjustments = [] }
 
 -- ---- what a node mentions stands in the graph
 
@@ -196,36 +198,75 @@ module _ (c : Parts) (ok : IsChecked (pipeline_of c)) (t : ℕ) (n : Node) (is :
   unfolding node_of
   group-within = some-term n.group (length c.graph) (λ k e. omega (arith, below.group k e, slice_get_within c.graph t n is))
 
--- the input of a cross-section, for all assets
-pub input-read : (w : World) (c : Parts) (ok : IsChecked (pipeline_of c)) (t : ℕ) (n : Node) → slice_get c.graph t ≡ Some n → (d : ℤ) → is_section (kind_of n.kind) ≡ true
-    → (u : TermId) → slice_get n.inputs 0 ≡ Some (input.Term u) → (bs : List ℕ) → flat_map (λ b. over_inputs (facts_now b d) (node_of n)) bs ≡ map (λ b. Worth u.0 b d) bs
-input-read w c ok t n is d section u e bs =
-    let none = section-alone w c ok t n is 0 0 section in
-    input-facts (node_of n) u.0 d (inputs-at n 0 ∙ ap (option_map input_of) e) none.0 none.1 bs
-
-pub masks-are : (n : Node) (d : ℤ) (bs : List ℕ) → flat_map (λ b. number_facts b d (node_of n).mask) bs ≡ flat_map (λ b. number_facts b d (option_map number_of n.mask)) bs
-unfolding node_of
-masks-are n d bs = refl
-
-pub groups-are : (n : Node) (d : ℤ) (bs : List ℕ) → flat_map (λ b. number_facts b d (node_of n).group) bs ≡ flat_map (λ b. number_facts b d (option_map number_of n.group)) bs
-unfolding node_of
-groups-are n d bs = refl
-
--- there is one node of a number
-pub one-node : (c : Parts) (t : ℕ) (n : Node) → slice_get c.graph t ≡ Some n → (P : Node → Type 0) → P n → (m : Node) → slice_get c.graph t ≡ Some m → P m
-one-node c t n is P h m e = let same : Some n ≡ Some m = sym is ∙ e in let one : n ≡ m = cc in subst P one h
-
 -- ---- the premises, mask first
 
 pub premises-lacks : (w : World) (c : Parts) → IsChecked (pipeline_of c) → (t a s : ℕ) → t < length c.graph → exists (world_of w) a (pos s) ≡ false
-    → premises (world_of w) (pipeline_of c) (number_in (world_of w) (pipeline_of c)) (Worth t a (pos s)) ≡ []
+    → own_facts w c t a s ≡ []
 premises-lacks w c ok t a s h gone = let n = code-node c.graph t h in premises-none w c ok t n.0 n.1 a s gone
 
 pub premises-front : (w : World) (c : Parts) (ok : IsChecked (pipeline_of c)) (t : ℕ) (n : Node) (is : slice_get c.graph t ≡ Some n) (a s : ℕ) → HasTexts (world_of w) → exists (world_of w) a (pos s) ≡ true
-    → (rest : List Fact) × (premises (world_of w) (pipeline_of c) (number_in (world_of w) (pipeline_of c)) (Worth t a (pos s)) ≡ number_facts a (pos s) (option_map number_of n.mask) ++ rest)
+    → (rest : List Fact) × (own_facts w c t a s ≡ number_facts a (pos s) (option_map number_of n.mask) ++ rest)
 premises-front w c ok t n is a s known there = here (mask_passes w c n.mask a s) refl
   where
     here : (b : Bool) → mask_passes w c n.mask a s ≡ b
-        → (rest : List Fact) × (premises (world_of w) (pipeline_of c) (number_in (world_of w) (pipeline_of c)) (Worth t a (pos s)) ≡ number_facts a (pos s) (option_map number_of n.mask) ++ rest)
+        → (rest : List Fact) × (own_facts w c t a s ≡ number_facts a (pos s) (option_map number_of n.mask) ++ rest)
     here true e = (facts_read w c t a s, premises-kept w c ok t n is a s known there e)
     here false e = ([], premises-barred w c ok t n is a s known there e)
+
+-- ---- what is given of a value
+
+module _ {b : Basis} {t col s : ℕ} (asked : IsAskedAt b col s) (term : t < length b.checked.now.graph) where
+  abbrev cell : ℤ
+  cell = value_in b t col s
+
+  abbrev own : List Fact
+  own = own_facts b.world b.checked.now t (sid_in b col) s
+
+  abbrev IsOwn : Option ℤ → Type 0
+  IsOwn o = IsGiven IsCell b.told.now own cell o
+
+  -- of an asset that does not exist
+  module _ (ns : List Node) (same : ns ≡ b.checked.now.graph) (v : ℤ) (e : v ≡ number_in_value (empty (sort_kind (term_at (graph_of ns) t)))) where
+    none : IsCell v
+    none = subst IsCell (sym e) (empty-cell (sort_kind (term_at (graph_of ns) t)))
+
+    pub gone-told : exists (world_of b.world) (sid_in b col) (pos s) ≡ false → IsOwn (Some v)
+    gone-told gone =
+        accepted b.told.now [] own cell v (premises-lacks b.world b.checked.now asked.on.ready.checked t (sid_in b col) s term gone) refl
+        (e ∙ lacks-value b.world b.checked.now asked.on.ready.checked t s (sid_in b col) ns same term gone) none
+
+    -- or does not pass the mask
+    pub barred-told : (n : Node) → slice_get b.checked.now.graph t ≡ Some n → exists (world_of b.world) (sid_in b col) (pos s) ≡ true
+        → (o : Option Bool) → o ≡ given b.told.now (number_facts (sid_in b col) (pos s) (option_map number_of n.mask)) (mask_passes b.world b.checked.now n.mask (sid_in b col) s) → o ≡ Some false → IsOwn (Some v)
+    barred-told n is there o h f =
+        let mask = number_facts (sid_in b col) (pos s) (option_map number_of n.mask) in
+        let read = given-some b.told.now mask (mask_passes b.world b.checked.now n.mask (sid_in b col) s) false o h f in
+        accepted b.told.now (mask ++ []) own cell v (premises-barred b.world b.checked.now asked.on.ready.checked t n is (sid_in b col) s asked.on.ready.texts there (sym read.1))
+        (both-told b.told.now mask [] read.0 refl)
+        (e ∙ ap (λ m. number_in_value (empty (sort_kind (term_at (graph_of m) t)))) same ∙ sym (cell-barred b.world b.checked.now asked.on.ready.checked t n is (sid_in b col) s there (sym read.1))) none
+
+  module _ (n : Node) (is : slice_get b.checked.now.graph t ≡ Some n) (there : exists (world_of b.world) (sid_in b col) (pos s) ≡ true) (o : Option Bool)
+      (h : o ≡ given b.told.now (number_facts (sid_in b col) (pos s) (option_map number_of n.mask)) (mask_passes b.world b.checked.now n.mask (sid_in b col) s)) where
+    abbrev mask : List Fact
+    mask = number_facts (sid_in b col) (pos s) (option_map number_of n.mask)
+
+    -- where the mask is not told
+    pub mask-lacks : o ≡ None → IsOwn None
+    mask-lacks f =
+        let front = premises-front b.world b.checked.now asked.on.ready.checked t n is (sid_in b col) s asked.on.ready.texts there in
+        refused b.told.now (mask ++ front.0) own cell None front.1 (front-lacks b.told.now mask front.0 (given-none b.told.now mask (mask_passes b.world b.checked.now n.mask (sid_in b col) s) o h f)) refl
+
+    -- where the asset passes it
+    pub passed-kept : o ≡ Some true → IsKeptAt b t col s
+    passed-kept f =
+        let read = given-some b.told.now mask (mask_passes b.world b.checked.now n.mask (sid_in b col) s) true o h f in
+        record { at = asked; term = term; kept = cell-kept b.world b.checked.now asked.on.ready.checked t n is (sid_in b col) s there (sym read.1) }
+
+    pub passed-told : o ≡ Some true → (q : Option ℤ) → IsGiven IsCell b.told.now (facts_in b t col s) cell q → IsOwn q
+    passed-told f q k =
+        let read = given-some b.told.now mask (mask_passes b.world b.checked.now n.mask (sid_in b col) s) true o h f in
+        let all = premises-kept b.world b.checked.now asked.on.ready.checked t n is (sid_in b col) s asked.on.ready.texts there (sym read.1) in
+        record {
+          value = k.value ∙ given-behind b.told.now mask (facts_in b t col s) cell read.0 ∙ ap (λ fs. given b.told.now fs cell) (sym all);
+          such = k.such;
+        }

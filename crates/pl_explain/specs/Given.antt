@@ -1,25 +1,31 @@
 -- What is given where facts are told.
-use Rattle.std.specs.Prelude.{◌≡◌, ℕ, ◌+◌, ◌≤◌, Bool, true, if◌then◌else◌, ℤ, pos, List, [], ◌∷◌, ◌++◌, flat_map, Option, Some, None, option_map, unwrap_or, is_some, slice_get, All}
+use Rattle.std.specs.Prelude.{◌≡◌, ℕ, ◌<◌, ◌≤◌, Bool, true, if◌then◌else◌, ℤ, pos, ◌<ℤ◌, List, [], ◌∷◌, ◌++◌, length, flat_map, Option, Some, None, option_map, unwrap_or, is_some, slice_get, All, AllPairs, IfSome}
 use Rattle.std.specs.List.{list_all}
+use Rattle.pl_spec.specs.Limits.{most_sessions}
 use Rattle.pl_spec.specs.Rounding.{IsCell}
+use Rattle.pl_spec.specs.Parts.{sid_at}
 use Rattle.pl_spec.specs.World as spec
 use Rattle.pl_spec.specs.World.{living_sids, exists}
 use Rattle.pl_spec.specs.Window.{Effect, changed}
 use Rattle.pl_spec.specs.Table.{Pipeline}
-use Rattle.pl_terms.specs.declared.node.Input.{Input}
 use Rattle.pl_terms.specs.declared.node.TermId.{TermId}
 use Rattle.pl_terms.specs.declared.node.Node.{Node}
 use Rattle.pl_terms.specs.Kinds.{kind_of}
 use Rattle.pl_terms.specs.Nodes.{node_of}
-use Rattle.pl_terms.specs.Checked.{Parts}
+use Rattle.pl_terms.specs.Checked.{Parts, pipeline_of, IsChecked}
+use Rattle.pl_cross.specs.Arrays.{HasTexts}
+use Rattle.pl_lifetimes.specs.Assets.{AreAssets}
 use Rattle.pl_world.specs.declared.world.World.{World}
-use Rattle.pl_world.specs.Worlds.{world_of}
-use Rattle.pl_world.specs.Evaluations.{row_in, as_input, input_cell_in, lets_pass}
-use Rattle.pl_derivation.specs.Facts.{Fact, number_in, entry_facts, kind_facts}
+use Rattle.pl_world.specs.Worlds.{world_of, IsMade}
+use Rattle.pl_world.specs.Evaluations.{row_in, as_input, cell_in, input_cell_in, lets_pass, IsKept}
+use Rattle.pl_derivation.specs.Facts.{Fact, number_in, entry_facts, kind_facts, premises}
 use Rattle.pl_derivation.specs.Facts.Fact.{Worth}
+use Rattle.pl_explain.specs.declared.basis.Basis.{Basis}
 use Rattle.pl_explain.specs.declared.told.Told.{Told}
 use Rattle.pl_explain.specs.declared.rows.Rows.{Rows}
 use Rattle.pl_explain.specs.Looking.{look, row_at}
+
+-- ---- what is told
 
 -- something is told of the fact
 abbrev pub has : Told → Fact → Bool
@@ -32,9 +38,74 @@ has_all told fs = list_all (has told) fs
 abbrev pub given : {X : Type 0} → Told → List Fact → X → Option X
 given told fs x = if has_all told fs then Some x else None
 
+-- where the facts are told, x is given, which is such a one
+pub record IsGiven {X : Type 0} (Such : X → Type 0) (told : Told) (fs : List Fact) (x : X) (o : Option X) : Type 0 where
+  pub value : o ≡ given told fs x
+  pub such : IfSome o Such
+
 -- what is told of facts is what the world has
 abbrev pub TellsTruth : spec.World → Pipeline → Told → Type 0
 TellsTruth w p told = (f : Fact) (x : ℤ) → look told f ≡ Some x → (x ≡ number_in w p f) × IsCell x
+
+-- ---- what is asked
+
+-- What the parts of a world and a checked pipeline keep, where the parts were made for the world's own
+-- sessions and assets.
+pub record IsReady (w : World) (c : Parts) : Type 0 where
+  pub made : IsMade w
+  pub days : AllPairs (λ a b. a <ℤ b) w.sessions.now
+  pub few : length w.sessions.now ≤ most_sessions
+  pub assets : AreAssets w.assets.now
+  pub texts : HasTexts (world_of w)
+  pub checked : IsChecked (pipeline_of c)
+
+-- a session of a world of which what is told is true
+pub record IsAskedOn (b : Basis) (s : ℕ) : Type 0 where
+  pub ready : IsReady b.world b.checked.now
+  pub truth : TellsTruth (world_of b.world) (pipeline_of b.checked.now) b.told.now
+  pub session : s < length b.world.sessions.now
+
+-- and an asset
+pub record IsAskedAt (b : Basis) (col s : ℕ) : Type 0 where
+  pub on : IsAskedOn b s
+  pub column : col < length b.world.assets.now
+
+-- the sid of the asset in a column
+abbrev pub sid_in : Basis → ℕ → ℕ
+sid_in b col = sid_at b.world.assets.now col
+
+-- and a term whose mask the asset passes
+pub record IsKeptAt (b : Basis) (t col s : ℕ) : Type 0 where
+  pub at : IsAskedAt b col s
+  pub term : t < length b.checked.now.graph
+  pub kept : IsKept b.world b.checked.now t (sid_in b col) s
+
+-- the value of a term for the asset in a column on a session, as arrays hold it
+abbrev pub value_in : Basis → ℕ → ℕ → ℕ → ℤ
+value_in b t col s = cell_in b.world b.checked.now t (sid_in b col) s
+
+-- ---- facts
+
+-- what the kind of term t reads for asset a on session s
+abbrev pub facts_read : World → Parts → ℕ → ℕ → ℕ → List Fact
+facts_read w c t a s = unwrap_or (option_map (λ n. kind_facts (world_of w) (node_of n) (kind_of n.kind) a (pos s)) (slice_get c.graph t)) []
+
+abbrev pub facts_in : Basis → ℕ → ℕ → ℕ → List Fact
+facts_in b t col s = facts_read b.world b.checked.now t (sid_in b col) s
+
+-- what the value of term t for asset a on session s rests on
+abbrev pub own_facts : World → Parts → ℕ → ℕ → ℕ → List Fact
+own_facts w c t a s = premises (world_of w) (pipeline_of c) (number_in (world_of w) (pipeline_of c)) (Worth t a (pos s))
+
+-- the value of a term for an asset that exists; of another there is nothing to be told
+abbrev pub living_facts : spec.World → ℕ → ℕ → ℤ → List Fact
+living_facts w t a d = if exists w a d then Worth t a d ∷ [] else []
+
+-- whether an asset passes a mask of the code
+abbrev pub mask_passes : World → Parts → Option TermId → ℕ → ℕ → Bool
+mask_passes w c m a s = lets_pass (as_input m) (input_cell_in w c (as_input m) a s)
+
+-- ---- rows
 
 -- a row has the cells of a cross-section, and what these rest on is told
 pub record IsKeptRow (w : World) (c : Parts) (told : Told) (t d : ℕ) (row : List ℤ) : Type 0 where
@@ -45,6 +116,10 @@ pub record IsKeptRow (w : World) (c : Parts) (told : Told) (t d : ℕ) (row : Li
 abbrev pub KeepsRows : World → Parts → Told → Rows → Type 0
 KeepsRows w c told rows = (t d : ℕ) (row : List ℤ) → row_at rows t d ≡ Some row → IsKeptRow w c told t d row
 
+-- the same of a basis
+abbrev pub KeepsRowsOf : Basis → Rows → Type 0
+KeepsRowsOf b rows = KeepsRows b.world b.checked.now b.told.now rows
+
 -- the row of a term on a session is kept
 abbrev pub HasRow : ℕ → ℕ → Rows → Type 0
 HasRow t d rows = (row : List ℤ) × (row_at rows t d ≡ Some row)
@@ -53,22 +128,7 @@ HasRow t d rows = (row : List ℤ) × (row_at rows t d ≡ Some row)
 abbrev pub KeepsAll : Rows → Rows → Type 0
 KeepsAll old new = (t d : ℕ) (row : List ℤ) → row_at old t d ≡ Some row → row_at new t d ≡ Some row
 
--- an input's window begins at no session below 0
-abbrev pub IsEarly : Option Input → ℕ → ℕ → Type 0
-IsEarly None size s = Unit {0}
-IsEarly (Some i) size s = size ≤ s + 1
-
--- whether an asset passes a mask of the code
-abbrev pub mask_passes : World → Parts → Option TermId → ℕ → ℕ → Bool
-mask_passes w c m a s = lets_pass (as_input m) (input_cell_in w c (as_input m) a s)
-
--- what the kind of term t reads for asset a on session s
-abbrev pub facts_read : World → Parts → ℕ → ℕ → ℕ → List Fact
-facts_read w c t a s = unwrap_or (option_map (λ n. kind_facts (world_of w) (node_of n) (kind_of n.kind) a (pos s)) (slice_get c.graph t)) []
-
--- the value of a term for an asset that exists; of another there is nothing to be told
-abbrev pub living_facts : spec.World → ℕ → ℕ → ℤ → List Fact
-living_facts w t a d = if exists w a d then Worth t a d ∷ [] else []
+-- ---- bars
 
 -- some cells with what a cell is after an effect after them, where there is one
 abbrev pub GrowsBy : ℤ → Option Effect → List ℤ → List ℤ → ℤ → Type 0

@@ -14,7 +14,7 @@ use Rattle.pl_derivation.specs.Right.{fact_of, has_sid, is_about, is_fitting}
 use Rattle.pl_derivation.specs.Laws.{tells_world}
 use Rattle.pl_explain.specs.declared.told.Told.{Told}
 use Rattle.pl_explain.specs.declared.rows.Rows.{Rows}
-use Rattle.pl_explain.specs.Given.{has, has_all, TellsTruth, KeepsRows}
+use Rattle.pl_explain.specs.Given.{has, has_all, IsReady, TellsTruth, KeepsRows}
 
 -- a value of which something is told already
 abbrev pub is_repeat : Told → Fact → Bool
@@ -33,6 +33,7 @@ judged w p told l = judged_about w p told l (fact_of w l)
 
 -- What is told is the world's, of facts that may stand in a derivation; and so are the rows.
 pub record IsTable (w : World) (c : Parts) (told : Told) (rows : Rows) : Type 0 where
+  pub ready : IsReady w c
   pub truth : TellsTruth (world_of w) (pipeline_of c) told
   pub fits : (f : Fact) → has told f ≡ true → is_fitting (world_of w) (pipeline_of c) f ≡ true
   pub kept : KeepsRows w c told rows

@@ -5,6 +5,7 @@ ghost use Rattle.pl_spec.specs.Parts.{sid_at};
 ghost use Rattle.pl_spec.specs.Window.{changed, effect, effects, step_count, step_of};
 ghost use Rattle.pl_adjust.specs.Events.{IsPut, PutCells, PutsCell, effect_of, effects_of, event_of};
 ghost use Rattle.pl_derivation.specs.Right.{after_each, seen_cells};
+ghost use Rattle.pl_lifetimes.specs.Assets.{AreAssets};
 ghost use Rattle.pl_world.specs.Worlds.{world_of, IsMade};
 ghost use Rattle.pl_explain.specs.Given.{GrowsBy};
 
@@ -27,6 +28,7 @@ pub(crate) fn seen_cells<L: Ledger>(
     steps: &mut Steps<L>,
 ) -> Result<Vec<i64>, Memory>
     requires made { IsMade world.now }
+    requires assets { AreAssets world.now.assets.now }
     requires col { col < length world.now.assets.now }
     requires bar { bar < session }
     requires session { session < length world.now.sessions.now }
@@ -36,7 +38,6 @@ pub(crate) fn seen_cells<L: Ledger>(
     ensures cost { OnOk result (steps.new ≡ steps.old + step_count (effects (world_of world.now)
         (sid_at world.now.assets.now col) column (pos bar) (pos session))) }
 {
-    let _assets = world.assets.len();
     let bar_day = world.sessions.day(bar);
     let day = world.sessions.day(session);
     let cell = world.bars.get(col, bar, column);

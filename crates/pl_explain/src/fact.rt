@@ -1,10 +1,13 @@
 //! Facts, and the keys by which they are found.
 
-ghost use Rattle.std.specs.Prelude.{◌≡◌, ◌<◌, Some};
+ghost use Rattle.std.specs.Prelude.{◌≡◌, ◌+◌, ◌<◌, ◌≤◌, pos, Some};
 ghost use Rattle.pl_spec.specs.World.{column_number};
+ghost use Rattle.pl_terms.specs.Nodes.{input_of};
 ghost use Rattle.pl_explain.specs.Keys.{fact_key, fact_of, packed};
+ghost use Rattle.pl_explain.specs.Reading.{end_of, fact_at};
 
 use pl_spec::Column;
+use pl_terms::Input;
 
 /// What a line of a derivation is about: the bar of a session of an asset as it is seen on a later session,
 /// or the value of a term for an asset on a session. Sessions are counted from 0.
@@ -57,5 +60,36 @@ pub(crate) fn key(fact: Fact) -> u128
             session,
         } => packed(column_number(column), sid, bar, session),
         Fact::Worth { term, sid, session } => packed(5 + term as u32, sid, 0, session),
+    }
+}
+
+/// What a window over an input has of a session, where it is read on another.
+pub(crate) fn fact_at(input: Input, sid: u32, at: u32, session: u32) -> Fact
+    ensures { fact_of result ≡ fact_at (input_of input) sid (pos at) (pos session) }
+{
+    match input {
+        Input::Column(column) => Fact::Seen {
+            column,
+            sid,
+            bar: at,
+            session,
+        },
+        Input::Term(u) => Fact::Worth {
+            term: u.0,
+            sid,
+            session: at,
+        },
+    }
+}
+
+/// The session before which a window over an input ends that is read on a session: it has the bars before
+/// that one, or the values up to it.
+pub(crate) fn end_of(input: Input, session: u32) -> usize
+    ensures end { result ≡ end_of (input_of input) session }
+    ensures near { result ≤ session + 1 }
+{
+    match input {
+        Input::Column(_) => session as usize,
+        Input::Term(_) => session as usize + 1,
     }
 }

@@ -15,6 +15,7 @@ ghost use Rattle.pl_terms.specs.Checked.{pipeline_of};
 ghost use Rattle.pl_explain.specs.Judging.{IsJudgement, IsPlace, IsTable, IsUsedTerm};
 
 use crate::bars::seen_cells;
+use crate::basis::{Basis, parts_are_ready};
 use crate::fact::Fact;
 use crate::rows::Rows;
 use crate::told::Told;
@@ -45,8 +46,7 @@ pub fn first_wrong<L: Ledger>(
     ensures truth { IfOk result (λ r. r ≡ None → (i : _) → (l : _) → slice_get derivation.now i ≡ Some l
         → IsTrueLine (world_of world.now) (pipeline_of checked.now) l) }
 {
-    let _rows = world.labels.len();
-    let _terms = checked.graph();
+    parts_are_ready(world, checked);
     let mut told = Told::new(alloc);
     let mut rows = Rows::new(alloc);
     for i in 0..derivation.len() {
@@ -68,7 +68,6 @@ fn is_right<L: Ledger>(
     line: &Line,
     steps: &mut Steps<L>,
 ) -> Result<bool, Memory>
-    requires made { IsMade world.now }
     requires table { IsTable world.now checked.now told.old rows.old }
     requires writable { IsWritable (line_of line.now) }
     ensures { IfOk result
@@ -110,12 +109,10 @@ fn is_right_bar<L: Ledger>(
     cells: &[i64],
     steps: &mut Steps<L>,
 ) -> Result<bool, Memory>
-    requires made { IsMade world.now }
     requires table { IsTable world.now checked.now told.old rows.now }
     ensures { IfOk result (IsJudgement world.now checked.now (SeenLine column sid bar_day day cells.now)
         told.old told.new rows.now) }
 {
-    let _sessions = world.sessions.len();
     let Some(col) = col_of(world, sid) else {
         return Ok(false);
     };
@@ -154,13 +151,11 @@ fn is_right_value(
     day: i32,
     value: i64,
 ) -> Result<bool, Memory>
-    requires made { IsMade world.now }
     requires table { IsTable world.now checked.now told.old rows.old }
     requires cell { IsCell value }
     ensures { IfOk result (IsJudgement world.now checked.now (ValueLine term sid day value)
         told.old told.new rows.new) }
 {
-    let _sessions = world.sessions.len();
     let Some(col) = col_of(world, sid) else {
         return Ok(false);
     };
@@ -178,7 +173,12 @@ fn is_right_value(
     if let Some(number) = told.number(fact) {
         return Ok(same_number(value, number));
     }
-    let Some(number) = value_told(alloc, world, checked, told, rows, t, col, session)? else {
+    let basis = Basis {
+        world: *world,
+        checked,
+        told,
+    };
+    let Some(number) = value_told(alloc, &basis, rows, t, col, session)? else {
         return Ok(false);
     };
     if !same_number(value, number) {

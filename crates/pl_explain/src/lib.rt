@@ -3,6 +3,7 @@
 #![tactic(auto)]
 
 mod bars;
+mod basis;
 mod fact;
 mod inputs;
 mod judge;

@@ -1,45 +1,36 @@
 //! The facts that a value rests on, in order.
-ghost use Rattle.std.specs.Prelude.{◌≡◌, ◌+◌, ◌<◌, ◌≤◌, IfOk, OnOk, flat_map, length, map, option_map, pos, Some, slice_get};
+ghost use Rattle.std.specs.Prelude.{◌≡◌, ◌<◌, ◌≤◌, IfOk, OnOk, flat_map, length, map, option_map, pos, Some, slice_get};
+ghost use Rattle.pl_spec.specs.Limits.{most_sessions};
 ghost use Rattle.pl_spec.specs.Parts.{sid_at};
-ghost use Rattle.pl_spec.specs.Term.Input.{BarColumn, TermInput};
 ghost use Rattle.pl_spec.specs.World.{living_sids};
 ghost use Rattle.pl_terms.specs.Nodes.{input_of, node_of, number_of};
 ghost use Rattle.pl_derivation.specs.Facts.{entry_facts, facts_now, number_facts, over_inputs, window_facts};
 ghost use Rattle.pl_world.specs.Worlds.{world_of};
 ghost use Rattle.pl_world.specs.Evaluations.{IsAsked};
-ghost use Rattle.pl_explain.specs.Given.{facts_read};
+ghost use Rattle.pl_explain.specs.Given.{facts_read, IsReady};
 ghost use Rattle.pl_explain.specs.Keys.{fact_of};
-ghost use Rattle.pl_explain.specs.Reading.{ArePut, IsRoomy};
+ghost use Rattle.pl_explain.specs.Reading.{end_of, ArePut, IsRoomy};
 
-use crate::fact::Fact;
-use pl_fixed::{Column, Memory};
+use crate::basis::node_in;
+use crate::fact::{Fact, end_of, fact_at};
+use pl_fixed::Memory;
 use pl_terms::{Checked, Input, Node, TermId};
 use pl_values::{Family, family_of};
 use pl_world::{World, exists, input_at};
 use std::alloc::Global;
 
-/// The mask of a term for an asset on a session, where it has one.
+/// The mask of a node for an asset on a session, where it has one.
 pub(crate) fn mask_read(
     alloc: Global,
-    world: &World,
-    checked: &Checked,
-    t: TermId,
+    node: &Node,
     sid: u32,
-    session: usize,
+    session: u32,
 ) -> Result<Vec<Fact>, Memory>
-    requires term { t.0 < length checked.now.graph }
-    requires session { session < length world.now.sessions.now }
-    ensures { IfOk result (λ v. (n : _) → slice_get checked.now.graph t.0 ≡ Some n
-        → map fact_of v.items ≡ number_facts sid (pos session) (option_map number_of n.mask)) }
+    ensures { IfOk result (λ v. map fact_of v.items
+        ≡ number_facts sid (pos session) (option_map number_of node.now.mask)) }
 {
     let mut facts = Vec::new(alloc);
-    put_number(
-        world,
-        checked.graph().node(t).mask,
-        sid,
-        session,
-        &mut facts,
-    )?;
+    put_number(node.mask, sid, session, &mut facts)?;
     Ok(facts)
 }
 
@@ -52,62 +43,51 @@ pub(crate) fn facts_read(
     col: usize,
     session: usize,
 ) -> Result<Vec<Fact>, Memory>
+    requires ready { IsReady world.now checked.now }
     requires asked { IsAsked world.now checked.now t.0 session }
     requires col { col < length world.now.assets.now }
     ensures { IfOk result (λ v. map fact_of v.items
         ≡ facts_read world.now checked.now t.0 (sid_at world.now.assets.now col) session) }
 {
-    let node = checked.graph().node(t);
+    let node = node_in(checked, t);
     let sid = world.assets.sid(col);
     match family_of(&node.kind) {
-        Family::Constant(_) | Family::Label(_) | Family::Sids => Ok(Vec::new(alloc)),
-        Family::Window => windows_read(alloc, world, node, sid, session),
-        Family::Point | Family::LabelTest => inputs_read(alloc, world, node, sid, session),
+        Family::Constant(_) | Family::Label(_) | Family::Number(_) | Family::Sids => {
+            Ok(Vec::new(alloc))
+        }
+        Family::Window => windows_read(alloc, node, sid, session as u32),
+        Family::Point | Family::LabelTest => inputs_read(alloc, node, sid, session as u32),
         Family::Section => section_read(alloc, world, node, session),
         Family::Downsample(frequency) => {
             let start = world.sessions.period_start(frequency, session);
-            inputs_read(alloc, world, node, sid, start)
+            inputs_read(alloc, node, sid, start as u32)
         }
     }
 }
 
 // The windows of the inputs.
-fn windows_read(
-    alloc: Global,
-    world: &World,
-    node: &Node,
-    sid: u32,
-    session: usize,
-) -> Result<Vec<Fact>, Memory>
+fn windows_read(alloc: Global, node: &Node, sid: u32, session: u32) -> Result<Vec<Fact>, Memory>
     requires first { IsRoomy (slice_get node.now.inputs 0) node.now.window session }
     requires second { IsRoomy (slice_get node.now.inputs 1) node.now.window session }
     requires third { IsRoomy (slice_get node.now.inputs 2) node.now.window session }
-    requires session { session < length world.now.sessions.now }
     ensures { IfOk result (λ v. map fact_of v.items
         ≡ over_inputs (window_facts node.now.window sid (pos session)) (node_of node.now)) }
 {
     let size = node.window as usize;
     let mut facts = Vec::new(alloc);
-    put_window(world, input_at(node, 0), size, sid, session, &mut facts)?;
-    put_window(world, input_at(node, 1), size, sid, session, &mut facts)?;
-    put_window(world, input_at(node, 2), size, sid, session, &mut facts)?;
+    put_window(input_at(node, 0), size, sid, session, &mut facts)?;
+    put_window(input_at(node, 1), size, sid, session, &mut facts)?;
+    put_window(input_at(node, 2), size, sid, session, &mut facts)?;
     Ok(facts)
 }
 
 // The inputs on the session.
-fn inputs_read(
-    alloc: Global,
-    world: &World,
-    node: &Node,
-    sid: u32,
-    session: usize,
-) -> Result<Vec<Fact>, Memory>
-    requires session { session < length world.now.sessions.now }
+fn inputs_read(alloc: Global, node: &Node, sid: u32, session: u32) -> Result<Vec<Fact>, Memory>
     ensures { IfOk result (λ v. map fact_of v.items
         ≡ over_inputs (facts_now sid (pos session)) (node_of node.now)) }
 {
     let mut facts = Vec::new(alloc);
-    put_inputs(world, node, sid, session, &mut facts)?;
+    put_inputs(node, sid, session, &mut facts)?;
     Ok(facts)
 }
 
@@ -119,6 +99,7 @@ fn section_read(
     session: usize,
 ) -> Result<Vec<Fact>, Memory>
     requires session { session < length world.now.sessions.now }
+    requires few { length world.now.sessions.now ≤ most_sessions }
     ensures { IfOk result (λ v. map fact_of v.items
         ≡ flat_map (entry_facts (node_of node.now) (pos session))
         (living_sids (world_of world.now) (pos session))) }
@@ -126,163 +107,106 @@ fn section_read(
     let mut facts = Vec::new(alloc);
     for col in 0..world.assets.len() {
         if exists(world, col, session) {
-            put_entry(world, node, world.assets.sid(col), session, &mut facts)?;
+            put_entry(node, world.assets.sid(col), session as u32, &mut facts)?;
         }
     }
     Ok(facts)
 }
 
-fn put_entry(
-    world: &World,
-    node: &Node,
-    sid: u32,
-    session: usize,
-    facts: &mut Vec<Fact>,
-) -> Result<(), Memory>
-    requires session { session < length world.now.sessions.now }
+fn put_entry(node: &Node, sid: u32, session: u32, facts: &mut Vec<Fact>) -> Result<(), Memory>
     ensures { OnOk result (ArePut facts.old.items facts.new.items
         (entry_facts (node_of node.now) (pos session) sid)) }
 {
-    put_number(world, node.mask, sid, session, facts)?;
-    put_number(world, node.group, sid, session, facts)?;
-    put_inputs(world, node, sid, session, facts)
+    put_number(node.mask, sid, session, facts)?;
+    put_number(node.group, sid, session, facts)?;
+    put_inputs(node, sid, session, facts)
 }
 
 fn put_number(
-    world: &World,
     number: Option<TermId>,
     sid: u32,
-    session: usize,
+    session: u32,
     facts: &mut Vec<Fact>,
 ) -> Result<(), Memory>
-    requires session { session < length world.now.sessions.now }
     ensures { OnOk result (ArePut facts.old.items facts.new.items
         (number_facts sid (pos session) (option_map number_of number))) }
 {
     match number {
         None => Ok(()),
-        Some(u) => put_value(world, u, sid, session, facts),
+        Some(u) => put_value(u, sid, session, facts),
     }
 }
 
-fn put_inputs(
-    world: &World,
-    node: &Node,
-    sid: u32,
-    session: usize,
-    facts: &mut Vec<Fact>,
-) -> Result<(), Memory>
-    requires session { session < length world.now.sessions.now }
+fn put_inputs(node: &Node, sid: u32, session: u32, facts: &mut Vec<Fact>) -> Result<(), Memory>
     ensures { OnOk result (ArePut facts.old.items facts.new.items
         (over_inputs (facts_now sid (pos session)) (node_of node.now))) }
 {
-    put_input(world, input_at(node, 0), sid, session, facts)?;
-    put_input(world, input_at(node, 1), sid, session, facts)?;
-    put_input(world, input_at(node, 2), sid, session, facts)
+    put_input(input_at(node, 0), sid, session, facts)?;
+    put_input(input_at(node, 1), sid, session, facts)?;
+    put_input(input_at(node, 2), sid, session, facts)
 }
 
 // An input on the session; a bar column has nothing there.
 fn put_input(
-    world: &World,
     input: Option<Input>,
     sid: u32,
-    session: usize,
+    session: u32,
     facts: &mut Vec<Fact>,
 ) -> Result<(), Memory>
-    requires session { session < length world.now.sessions.now }
     ensures { OnOk result (ArePut facts.old.items facts.new.items
         (facts_now sid (pos session) (option_map input_of input))) }
 {
     match input {
         None | Some(Input::Column(_)) => Ok(()),
-        Some(Input::Term(u)) => put_value(world, u, sid, session, facts),
+        Some(Input::Term(u)) => put_value(u, sid, session, facts),
     }
 }
 
-fn put_value(
-    world: &World,
-    u: TermId,
-    sid: u32,
-    session: usize,
-    facts: &mut Vec<Fact>,
-) -> Result<(), Memory>
-    requires session { session < length world.now.sessions.now }
+fn put_value(u: TermId, sid: u32, session: u32, facts: &mut Vec<Fact>) -> Result<(), Memory>
     ensures { OnOk result (ArePut facts.old.items facts.new.items
         (number_facts sid (pos session) (Some u.0))) }
 {
-    let _sessions = world.sessions.len();
     facts.push(Fact::Worth {
         term: u.0,
         sid,
-        session: session as u32,
+        session,
     })?;
     Ok(())
 }
 
 // The window of an input, oldest first.
 fn put_window(
-    world: &World,
     input: Option<Input>,
     size: usize,
     sid: u32,
-    session: usize,
+    session: u32,
     facts: &mut Vec<Fact>,
 ) -> Result<(), Memory>
-    requires room { IsRoomy input size session }
-    requires session { session < length world.now.sessions.now }
+    requires { IsRoomy input size session }
     ensures { OnOk result (ArePut facts.old.items facts.new.items
         (window_facts size sid (pos session) (option_map input_of input))) }
 {
     match input {
         None => Ok(()),
-        Some(Input::Column(column)) => put_bars(world, column, size, sid, session, facts),
-        Some(Input::Term(u)) => put_values(world, u, size, sid, session, facts),
+        Some(input) => put_run(input, size, sid, session, facts),
     }
 }
 
-// The bars of the sessions before this one.
-fn put_bars(
-    world: &World,
-    column: Column,
+// The bars before the session, or a term on the sessions up to it.
+fn put_run(
+    input: Input,
     size: usize,
     sid: u32,
-    session: usize,
+    session: u32,
     facts: &mut Vec<Fact>,
 ) -> Result<(), Memory>
-    requires room { size ≤ session }
-    requires session { session < length world.now.sessions.now }
+    requires { size ≤ end_of (input_of input) session }
     ensures { OnOk result (ArePut facts.old.items facts.new.items
-        (window_facts size sid (pos session) (Some (BarColumn column)))) }
+        (window_facts size sid (pos session) (Some (input_of input)))) }
 {
-    let _sessions = world.sessions.len();
-    for bar in session - size..session {
-        facts.push(Fact::Seen {
-            column,
-            sid,
-            bar: bar as u32,
-            session: session as u32,
-        })?;
-    }
-    Ok(())
-}
-
-// A term on the sessions up to this one.
-fn put_values(
-    world: &World,
-    u: TermId,
-    size: usize,
-    sid: u32,
-    session: usize,
-    facts: &mut Vec<Fact>,
-) -> Result<(), Memory>
-    requires room { size ≤ session + 1 }
-    requires session { session < length world.now.sessions.now }
-    ensures { OnOk result (ArePut facts.old.items facts.new.items
-        (window_facts size sid (pos session) (Some (TermInput u.0)))) }
-{
-    let _sessions = world.sessions.len();
-    for earlier in session + 1 - size..session + 1 {
-        put_value(world, u, sid, earlier, facts)?;
+    let end = end_of(input, session);
+    for earlier in end - size..end {
+        facts.push(fact_at(input, sid, earlier as u32, session))?;
     }
     Ok(())
 }

@@ -7,7 +7,6 @@ ghost use Rattle.pl_spec.specs.Rounding.{IsCell};
 ghost use Rattle.pl_spec.specs.Term.{term_at};
 ghost use Rattle.pl_spec.specs.World.{exists};
 ghost use Rattle.pl_cross.specs.Section.{is_section};
-ghost use Rattle.pl_derivation.specs.Facts.{number_in, premises};
 ghost use Rattle.pl_derivation.specs.Facts.Fact.{Seen, Worth};
 ghost use Rattle.pl_derivation.specs.Laws.{IsDerivation};
 ghost use Rattle.pl_derivation.specs.Walks.{depth_of, derivation, facts_for};
@@ -18,12 +17,13 @@ ghost use Rattle.pl_world.specs.Evaluations.{cell_in, HasKind};
 ghost use Rattle.pl_terms.specs.Checked.{pipeline_of};
 ghost use Rattle.pl_terms.specs.Nodes.{graph_of};
 ghost use Rattle.pl_terms.specs.Uses.{is_used};
-ghost use Rattle.pl_explain.specs.Given.{facts_read, has, has_all, HasRow, KeepsRows};
+ghost use Rattle.pl_explain.specs.Given.{facts_read, has, has_all, own_facts, HasRow, KeepsRows};
 ghost use Rattle.pl_explain.specs.Keys.{fact_of};
 ghost use Rattle.pl_derivation.specs.declared.error.ExplainError.TheVariants.{TooLong};
 ghost use Rattle.pl_explain.specs.Walking.{CanStand, CanStandIn, IsPut, IsWalkTo, StandsIn};
 
 use crate::bars::seen_cells;
+use crate::basis::{Basis, node_in, parts_are_ready};
 use crate::fact::Fact;
 use crate::inputs::mask_told;
 use crate::judge::{col_of, last_of};
@@ -76,9 +76,7 @@ pub fn explain_cell<L: Ledger>(
     ensures right { IfOk result (IsDerivation (world_of world.now) (pipeline_of checked.now) t.0
         (sid_at world.now.assets.now col) session) }
 {
-    let _rows = world.labels.len();
-    let _sessions = world.sessions.len();
-    let _terms = checked.graph();
+    parts_are_ready(world, checked);
     parts_make_a_world(world);
     let fact = Fact::Worth {
         term: t.0,
@@ -104,7 +102,6 @@ fn finish<L: Ledger>(
     fact: Fact,
     steps: &mut Steps<L>,
 ) -> Result<(), ExplainError>
-    requires made { IsMade world.now }
     requires stands { StandsIn world.now checked.now walk.old }
     requires fact { CanStand world.now checked.now (fact_of fact) }
     ensures { IsWalkTo world.now checked.now (depth_of (fact_of fact)) (fact_of fact ∷ [])
@@ -139,7 +136,6 @@ fn finish_all<L: Ledger>(
     facts: &[Fact],
     steps: &mut Steps<L>,
 ) -> Result<(), ExplainError>
-    requires made { IsMade world.now }
     requires stands { StandsIn world.now checked.now walk.old }
     requires facts { Each (CanStandIn world.now checked.now (t.0 + 1)) (map fact_of facts.now) }
     ensures { IsWalkTo world.now checked.now (t.0 + 1) (map fact_of facts.now) walk.old walk.new result }
@@ -162,14 +158,12 @@ fn finish_value<L: Ledger>(
     session: u32,
     steps: &mut Steps<L>,
 ) -> Result<(), ExplainError>
-    requires made { IsMade world.now }
     requires stands { StandsIn world.now checked.now walk.old }
     requires fact { CanStand world.now checked.now (Worth term sid (pos session)) }
     requires fresh { has walk.old.told (Worth term sid (pos session)) ≡ false }
     ensures { IsWalkTo world.now checked.now (term + 2) (Worth term sid (pos session) ∷ [])
         walk.old walk.new result }
 {
-    let _terms = checked.graph();
     let Some(col) = col_of(world, sid) else {
         unreachable!();
     };
@@ -197,25 +191,26 @@ fn finish_premises<L: Ledger>(
     session: usize,
     steps: &mut Steps<L>,
 ) -> Result<(), ExplainError>
-    requires made { IsMade world.now }
     requires stands { StandsIn world.now checked.now walk.old }
     requires col { col < length world.now.assets.now }
     requires session { session < length world.now.sessions.now }
     requires fact { CanStand world.now checked.now
         (Worth t.0 (sid_at world.now.assets.now col) (pos session)) }
     ensures { IsWalkTo world.now checked.now (t.0 + 1)
-        (premises (world_of world.now) (pipeline_of checked.now)
-        (number_in (world_of world.now) (pipeline_of checked.now))
-        (Worth t.0 (sid_at world.now.assets.now col) (pos session))) walk.old walk.new result }
+        (own_facts world.now checked.now t.0 (sid_at world.now.assets.now col) session) walk.old walk.new result }
 {
-    let _rows = world.labels.len();
-    let node = checked.graph().node(t);
+    let node = node_in(checked, t);
     if !exists(world, col, session) {
         return Ok(());
     }
-    let mask = mask_read(alloc, world, checked, t, world.assets.sid(col), session)?;
+    let mask = mask_read(alloc, node, world.assets.sid(col), session as u32)?;
     finish_all(alloc, world, checked, walk, t, &mask, steps)?;
-    match mask_told(world, checked, &walk.told, node.mask, col, session) {
+    let basis = Basis {
+        world: *world,
+        checked,
+        told: &walk.told,
+    };
+    match mask_told(&basis, node.mask, col, session) {
         Some(true) => finish_kind(alloc, world, checked, walk, t, col, session, steps),
         Some(false) => Ok(()),
         None => unreachable!(),
@@ -234,7 +229,6 @@ fn finish_kind<L: Ledger>(
     session: usize,
     steps: &mut Steps<L>,
 ) -> Result<(), ExplainError>
-    requires made { IsMade world.now }
     requires stands { StandsIn world.now checked.now walk.old }
     requires col { col < length world.now.assets.now }
     requires session { session < length world.now.sessions.now }
@@ -246,8 +240,6 @@ fn finish_kind<L: Ledger>(
         (facts_read world.now checked.now t.0 (sid_at world.now.assets.now col) session)
         walk.old walk.new result }
 {
-    let _sessions = world.sessions.len();
-    let _terms = checked.graph();
     if is_whole(world, checked, walk, t, session) {
         return Ok(());
     }
@@ -264,8 +256,7 @@ fn is_whole(world: &World, checked: &Checked, walk: &Walk, t: TermId, session: u
         → has_all walk.now.told (facts_read world.now checked.now t.0 a session) ≡ true }
     ensures whole { HasKind checked.now t.0 is_section → HasRow t.0 session walk.now.rows → result ≡ true }
 {
-    let _sessions = world.sessions.len();
-    match family_of(&checked.graph().node(t).kind) {
+    match family_of(&node_in(checked, t).kind) {
         Family::Section => walk.rows.row(t.0, session as u32).is_some(),
         _ => false,
     }
@@ -281,14 +272,11 @@ fn value_now(
     col: usize,
     session: usize,
 ) -> Result<i64, Memory>
-    requires made { IsMade world.now }
     requires stands { StandsIn world.now checked.now walk.old }
     requires term { t.0 < length checked.now.graph }
     requires col { col < length world.now.assets.now }
     requires session { session < length world.now.sessions.now }
-    requires premises { has_all walk.old.told (premises (world_of world.now) (pipeline_of checked.now)
-        (number_in (world_of world.now) (pipeline_of checked.now))
-        (Worth t.0 (sid_at world.now.assets.now col) (pos session))) ≡ true }
+    requires premises { has_all walk.old.told (own_facts world.now checked.now t.0 (sid_at world.now.assets.now col) session) ≡ true }
     ensures value { IfOk result (λ x. x ≡ cell_in world.now checked.now t.0
         (sid_at world.now.assets.now col) session) }
     ensures cell { IfOk result IsCell }
@@ -296,16 +284,12 @@ fn value_now(
     ensures lines { walk.new.lines ≡ walk.old.lines }
     ensures rows { OnOk result (KeepsRows world.now checked.now walk.old.told walk.new.rows) }
 {
-    match value_told(
-        alloc,
-        world,
+    let basis = Basis {
+        world: *world,
         checked,
-        &walk.told,
-        &mut walk.rows,
-        t,
-        col,
-        session,
-    )? {
+        told: &walk.told,
+    };
+    match value_told(alloc, &basis, &mut walk.rows, t, col, session)? {
         Some(value) => Ok(value),
         None => unreachable!(),
     }
@@ -323,7 +307,6 @@ fn finish_bar<L: Ledger>(
     session: u32,
     steps: &mut Steps<L>,
 ) -> Result<(), ExplainError>
-    requires made { IsMade world.now }
     requires stands { StandsIn world.now checked.now walk.old }
     requires fact { CanStand world.now checked.now (Seen column sid (pos bar) (pos session)) }
     requires fresh { has walk.old.told (Seen column sid (pos bar) (pos session)) ≡ false }

@@ -149,7 +149,7 @@ module _ (w : World) (sound : AreSound w) where
     abbrev fed_bars : List BarRow
     fed_bars = bars_of (fed_days w (suc n))
 
-    fits : AreFor (days_of (fed_days w (suc n))) w.assets.now w.labels.now.rows fed_bars (adjustments_of (fed_days w (suc n)))
+    fits : AreFor (days_of (fed_days w (suc n))) w.assets.now w.labels.now.rows fed_bars (adjustments_of (fed_days w (suc n))) w.numbers.now.rows
     fits = parts_fit (start_of_world w) (start w sound) (fed_days w (suc n)) (are_fed w sound (suc n) (omega arith))
 
     same-days : (s : ℤ) → s ≤ℤ pos n → day_of (fed_world w (suc n)) s ≡ day_of (world_of w) s
@@ -163,8 +163,8 @@ module _ (w : World) (sound : AreSound w) where
     same-bars a c (pos s) below = elim (of_column w.assets.now a) [
       | inr none ↦ no-bar w.assets.now fed_bars a c s fits.bars_in none ∙ sym (no-bar w.assets.now w.bars.now a c s sound.made.bars_in none)
       | inl at ↦ (
-          let fed_is = cells_raw (days_of (fed_days w (suc n))) w.assets.now w.labels.now.rows w.labels.now.texts fed_bars (adjustments_of (fed_days w (suc n))) sound.assets.ascend fits.bars_in at.0 c s at.1 in
-          let own_is = cells_raw w.sessions.now w.assets.now w.labels.now.rows w.labels.now.texts w.bars.now w.adjustments.now sound.assets.ascend sound.made.bars_in at.0 c s at.1 in
+          let fed_is = cells_raw (days_of (fed_days w (suc n))) w.assets.now w.labels.now.rows w.labels.now.texts fed_bars (adjustments_of (fed_days w (suc n))) w.numbers.now.rows sound.assets.ascend fits.bars_in at.0 c s at.1 in
+          let own_is = cells_raw w.sessions.now w.assets.now w.labels.now.rows w.labels.now.texts w.bars.now w.adjustments.now w.numbers.now.rows sound.assets.ascend sound.made.bars_in at.0 c s at.1 in
           rw (← at.2) (sym fed_is ∙ fed-cell (suc n) (omega arith) at.0 at.1 c s (omega (arith, ints, below)) ∙ own_is))
     ]
 
@@ -196,4 +196,5 @@ module _ (w : World) (sound : AreSound w) where
           adjustments = same-events;
           lifetimes = same-lives;
           labels = λ name a s below. labels-of_days (fed_world w (suc n)) (world_of w) refl name a s (same-days s below);
+          numbers = λ name a x below. refl;
         }

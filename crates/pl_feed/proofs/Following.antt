@@ -61,7 +61,7 @@ module _ (w : World) (sound : AreSound w) where
   told = w.adjustments.now
 
   pub start : IsStart (start_of_world w)
-  start = record { sids_ascend = sound.assets.ascend; labels_in = sound.made.labels_in }
+  start = record { sids_ascend = sound.assets.ascend; labels_in = sound.made.labels_in; numbers_in = sound.made.numbers_in }
 
   pub last-is : (s : ℕ) → last_day (fed_days w s) ≡ day_before own_days s
   last-is zero = refl

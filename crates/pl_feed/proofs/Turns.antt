@@ -2,7 +2,7 @@
 use Rattle.std.proofs.Common.{◌≡◌, ℕ, suc, ◌+◌, ◌<◌, ℤ, pos, List, ◌∷◌, length, map, get_or, Some, sym, ◌∙◌, ap, subst, arith, slice_get}
 use Rattle.std.proofs.lemmas.Option.{slice_get-get_or}
 use Rattle.pl_spec.specs.declared.AssetRow.{AssetRow}
-use Rattle.pl_spec.specs.Parts.{ColumnAdjustment, sid_at}
+use Rattle.pl_spec.specs.Parts.{ColumnAdjustment, ColumnNumber, sid_at}
 use Rattle.pl_spec.specs.Table.{NamedColumn, Pipeline, in_array, value_of}
 use Rattle.pl_assets.specs.Labels.{LabelTable}
 use Rattle.pl_values.specs.Arrays.{cell_of}
@@ -29,7 +29,9 @@ handed-is w s d day bars events =
 
 module _ (w : World) (p : Pipeline) (s : ℕ) (h : Held) (is : IsFed w p s h) where
   start-is : start_in h ≡ start_of_world w
-  start-is = ap (λ (xs : List AssetRow). start_of xs h.labels) is.assets ∙ ap (λ (t : LabelTable). start_of w.assets.now t) is.labels
+  start-is =
+      ap (λ (xs : List AssetRow). start_of xs h.labels h.numbers) is.assets ∙ ap (λ (t : LabelTable). start_of w.assets.now t h.numbers) is.labels
+      ∙ ap (start_of w.assets.now w.labels.now) is.numbers
 
   module _ (sound : AreSound w) (within : s < length w.sessions.now) where
     pub next-follows : (d : FedDay) → d ≡ fed_day w s → MayFollow (start_in h) (fed_days w s) d
@@ -40,14 +42,15 @@ module _ (w : World) (p : Pipeline) (s : ℕ) (h : Held) (is : IsFed w p s h) wh
     next-later day e =
         subst (λ o. IsLaterThan o day) (sym is.stands.last) (subst (λ (x : ℤ). IsLaterThan (last_day (fed_days w s)) x) (sym e) (later w sound s within))
 
-  pub next-fed : (new : Held) (d : FedDay) → d ≡ fed_day w s → new.pipeline ≡ h.pipeline → new.assets ≡ h.assets → new.labels ≡ h.labels → new.fed ≡ h.fed + 1
+  pub next-fed : (new : Held) (d : FedDay) → d ≡ fed_day w s → new.pipeline ≡ h.pipeline → new.assets ≡ h.assets → new.labels ≡ h.labels → new.numbers ≡ h.numbers → new.fed ≡ h.fed + 1
       → Stands new (d ∷ fed_days w s) → IsFed w h.pipeline (s + 1) new
-  next-fed new d e pipeline assets labels count stands =
+  next-fed new d e pipeline assets labels numbers count stands =
       at-more w h.pipeline s new
       (record {
         pipeline = pipeline;
         assets = assets ∙ is.assets;
         labels = labels ∙ is.labels;
+        numbers = numbers ∙ is.numbers;
         count = omega (arith, count, is.count);
         stands = subst (λ (x : FedDay). Stands new (x ∷ fed_days w s)) e stands;
       })
@@ -68,8 +71,9 @@ cell-here w p s h is same column i x gives inside c at =
     let a = get_or h.kept i 0 in
     let more : suc s ≡ s + 1 = omega arith in
     gives days c a own.stands (ap (λ (q : Pipeline). slice_get q.columns column) own.pipeline ∙ at) (slice_get-get_or h.kept i 0 inside)
-    ∙ ap (λ (xs : List AssetRow). in_array h.labels.texts (value_of (fed (start_of xs h.labels) days) h.pipeline c.term (sid_at xs a) (last_session days))) own.assets
-    ∙ ap (λ (t : LabelTable). in_array t.texts (value_of (fed (start_of w.assets.now t) days) h.pipeline c.term (sid_at w.assets.now a) (last_session days))) own.labels
+    ∙ ap (λ (xs : List AssetRow). in_array h.labels.texts (value_of (fed (start_of xs h.labels h.numbers) days) h.pipeline c.term (sid_at xs a) (last_session days))) own.assets
+    ∙ ap (λ (t : LabelTable). in_array t.texts (value_of (fed (start_of w.assets.now t h.numbers) days) h.pipeline c.term (sid_at w.assets.now a) (last_session days))) own.labels
+    ∙ ap (λ (ns : List ColumnNumber). in_array w.labels.now.texts (value_of (fed (start_of w.assets.now w.labels.now ns) days) h.pipeline c.term (sid_at w.assets.now a) (last_session days))) own.numbers
     ∙ ap (λ (q : Pipeline). in_array w.labels.now.texts (value_of (fed_world w (suc s)) q c.term (sid_at w.assets.now a) (last_session days))) own.pipeline
     ∙ ap (λ (n : ℕ). in_array w.labels.now.texts (value_of (fed_world w (suc s)) p c.term (sid_at w.assets.now a) (pos n))) (many w s)
     ∙ ap (λ (n : ℕ). in_array w.labels.now.texts (value_of (fed_world w n) p c.term (sid_at w.assets.now a) (pos s))) more

@@ -11,7 +11,7 @@ use Rattle.pl_spec.specs.declared.AssetRow.{AssetRow}
 use Rattle.pl_spec.specs.declared.Format.{Format}
 use Rattle.pl_spec.specs.Graph.{least_of, reach}
 use Rattle.pl_spec.specs.Lows.{least_reach}
-use Rattle.pl_spec.specs.Parts.{sid_at}
+use Rattle.pl_spec.specs.Parts.{ColumnNumber, sid_at}
 use Rattle.pl_spec.specs.Table.{Pipeline, Row, kept_sids, row, session_rows, table, value_of}
 use Rattle.pl_spec.specs.Term.{Graph, term_at}
 use Rattle.pl_spec.specs.Text.{row_line}
@@ -135,8 +135,9 @@ module _ (w : World) (sound : AreSound w) (p : Pipeline) (s : ℕ) (within : s <
             let days = fed_days w (suc s) in
             ap (λ (xs : List AssetRow). map (sid_at xs) h.kept) (sym own.assets)
             ∙ own.stands.kept answered
-            ∙ ap (λ (xs : List AssetRow). kept_sids (fed (start_of xs h.labels) days) h.pipeline (last_session days)) own.assets
-            ∙ ap (λ (t : LabelTable). kept_sids (fed (start_of w.assets.now t) days) h.pipeline (last_session days)) own.labels
+            ∙ ap (λ (xs : List AssetRow). kept_sids (fed (start_of xs h.labels h.numbers) days) h.pipeline (last_session days)) own.assets
+            ∙ ap (λ (t : LabelTable). kept_sids (fed (start_of w.assets.now t h.numbers) days) h.pipeline (last_session days)) own.labels
+            ∙ ap (λ (ns : List ColumnNumber). kept_sids (fed (start_of w.assets.now w.labels.now ns) days) h.pipeline (last_session days)) own.numbers
             ∙ ap (λ (q : Pipeline). kept_sids (fed_world w (suc s)) q (last_session days)) own.pipeline
             ∙ ap (kept_sids (fed_world w (suc s)) p) fed-session
 

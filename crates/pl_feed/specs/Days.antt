@@ -56,7 +56,7 @@ fed_days w zero = []
 fed_days w (suc s) = fed_day w s ∷ fed_days w s
 
 abbrev pub start_of_world : World → Start
-start_of_world w = start_of w.assets.now w.labels.now
+start_of_world w = start_of w.assets.now w.labels.now w.numbers.now.rows
 
 -- the world of those days
 abbrev pub fed_world : World → ℕ → worlds.World
@@ -67,5 +67,6 @@ pub record IsFed (w : World) (p : Pipeline) (s : ℕ) (h : Held) : Type 0 where
   pub pipeline : h.pipeline ≡ p
   pub assets : h.assets ≡ w.assets.now
   pub labels : h.labels ≡ w.labels.now
+  pub numbers : h.numbers ≡ w.numbers.now.rows
   pub count : h.fed ≡ s
   pub stands : Stands h (fed_days w s)

@@ -6,3 +6,4 @@ pub mod WritingLemmas
 pub mod SidLemmas
 pub mod DayLemmas
 pub mod ScaledCells
+pub mod PairTable

@@ -13,6 +13,10 @@ use crate::day::pair_at;
 // The greatest number that `value_up_to` counts to: one digit more still fits 64 bits.
 pub(crate) const MOST_VALUE: u64 = 1_000_000_000_000_000_000;
 
+// The numbers of two digits, one after the other.
+static PAIRS: [u8; 200] =
+    *b"00010203040506070809101112131415161718192021222324252627282930313233343536373839404142434445464748495051525354555657585960616263646566676869707172737475767778798081828384858687888990919293949596979899";
+
 // How many digits stand in front.
 pub(crate) fn count_digits(b: &[u8]) -> usize
     ensures { result ≡ length (front_digits b.now) }
@@ -104,15 +108,17 @@ pub(crate) fn put(byte: u8, out: &mut [u8], at: usize) -> usize
     at + 1
 }
 
-// Writes two digits.
+// Writes two digits, as they stand in the table.
 pub(crate) fn put_pair(n: u64, out: &mut [u8], at: usize) -> usize
     requires small { n < 100 }
     requires room { at + 2 ≤ length out.old }
     ensures end { result ≡ at + 2 }
     ensures text { take result out.new ≡ take at out.old ++ digits 2 n }
 {
-    let next = put(b'0' + (n / 10) as u8, out, at);
-    put(b'0' + (n % 10) as u8, out, next)
+    let place = n as usize * 2;
+    let (tens, ones) = (PAIRS[place], PAIRS[place + 1]);
+    let next = put(tens, out, at);
+    put(ones, out, next)
 }
 
 // Writes the digits of `n`, without zeros in front, two at a time.

@@ -1,5 +1,5 @@
 -- The world of the parts.
-use Rattle.std.proofs.Common.{◌≡◌, ℕ, ◌<◌, length, refl}
+use Rattle.std.proofs.Common.{◌≡◌, ℕ, ◌<◌, length, refl, arith}
 use Rattle.std.specs.Prelude.{All}
 use Rattle.pl_world.specs.declared.owned.OwnedWorld.{OwnedWorld}
 use Rattle.pl_world.specs.Worlds.{owned_world, IsOwned}
@@ -12,7 +12,7 @@ use Rattle.pl_generate.proofs.BarRows.{cols-in, sessions-in}
 
 pub world-is : (number : ℕ) (w : OwnedWorld) → IsStated number w → owned_world w ≡ stated_world number
 unfolding stated_world
-world-is number w is = rw (is.sessions, is.assets, is.labels, is.bars, is.adjustments) refl
+world-is number w is = rw (is.sessions, is.assets, is.labels, is.bars, is.adjustments, is.numbers) refl
 
 pub made-for : (number : ℕ) (w : OwnedWorld) → IsStated number w → All (λ x. x.col < length w.assets) w.adjustments
     → IsOwned w
@@ -24,4 +24,5 @@ made-for number w is cols =
       bars_in = rw (many, is.bars) (cols-in (behind number 400));
       sessions_in = rw (long, is.bars) (sessions-in (behind number 400));
       adjustments_in = cols;
+      numbers_in = rw is.numbers (λ k d l. absurd (omega arith));
     }

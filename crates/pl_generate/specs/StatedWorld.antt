@@ -140,7 +140,7 @@ stated_adjustments number = adjustments_from (behind number 480800)
 unfoldable pub stated_world : ℕ → World
 stated_world number =
     world_of stated_days stated_assets (stated_labels number).rows (stated_labels number).texts
-    (stated_bars number) (stated_adjustments number)
+    (stated_bars number) (stated_adjustments number) []
 
 -- the parts are those of the stated world of the number
 pub record IsStated (number : ℕ) (w : OwnedWorld) : Type 0 where
@@ -149,3 +149,4 @@ pub record IsStated (number : ℕ) (w : OwnedWorld) : Type 0 where
   pub labels : w.labels ≡ stated_labels number
   pub bars : w.bars ≡ stated_bars number
   pub adjustments : w.adjustments ≡ stated_adjustments number
+  pub numbers : w.numbers.rows ≡ []

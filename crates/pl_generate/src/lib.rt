@@ -23,6 +23,7 @@ use pl_assets::{Assets, Labels};
 use pl_bars::Bars;
 use pl_calendar::Sessions;
 use pl_fixed::Memory;
+use pl_numbers::Numbers;
 use pl_world::OwnedWorld;
 use std::alloc::Global;
 
@@ -72,11 +73,13 @@ pub fn make_world(alloc: Global, number: u32) -> Result<OwnedWorld, Memory>
     let sessions = sessions::make_sessions(alloc)?;
     let assets = sessions::make_assets(alloc, &sessions)?;
     let drawn = draw(alloc, number, &sessions, &assets)?;
+    let numbers = Numbers::none(alloc);
     Ok(OwnedWorld {
         sessions,
         assets,
         labels: drawn.labels,
         bars: drawn.bars,
         adjustments: drawn.adjustments,
+        numbers,
     })
 }

@@ -125,4 +125,4 @@ abbrev pub world_held : Contents → WorldNames → World
 world_held held q =
     let assets = assets_held held in
     let labels = labels_asked assets q.labels (held.file Labels) in
-    world_of (days_held held) assets labels.rows labels.texts (bars_held held) (adjustments_held held q)
+    world_of (days_held held) assets labels.rows labels.texts (bars_held held) (adjustments_held held q) []

@@ -6,6 +6,7 @@ use Rattle.std.proofs.Math.Path.{fun_ext}
 use Rattle.std.proofs.lemmas.Int.{ints}
 use Rattle.pl_spec.specs.declared.Format.{Format}
 use Rattle.pl_spec.specs.declared.Column.{Column}
+use Rattle.pl_spec.specs.Numbers.{number_at}
 use Rattle.pl_spec.specs.Permuted.{AgreeInAll}
 use Rattle.pl_spec.specs.Window.{effects_in}
 use Rattle.pl_spec.specs.World.{World, IsWorld, bar_cell, day_of, events_of, exists, label_at, living_sids, lives_on}
@@ -49,6 +50,8 @@ pub record SeenInAll (w v : World) : Type 0 where
   pub changes : (a : ℕ) (c : Column) (bar low high : ℤ) → effects_in c bar low high (events_of w a) ≡ effects_in c bar low high (events_of v a)
   pub lifetimes : (a : ℕ) (s : ℤ) → exists w a s ≡ exists v a s
   pub labels : (name : List ℕ) (a : ℕ) (s : ℤ) → label_at w name a s ≡ label_at v name a s
+  pub numbers : (name : List ℕ) (a : ℕ) (day : ℤ)
+      → number_at w.numbers name a day ≡ number_at v.numbers name a day
 
 agree-all : (w v : World) → AgreeInAll w v → SeenInAll w v
 agree-all w v all =
@@ -58,6 +61,7 @@ agree-all w v all =
       changes = λ a c bar low high. ap (effects_in c bar low high) (all.adjustments a);
       lifetimes = all.lifetimes;
       labels = all.labels;
+      numbers = all.numbers;
     }
 
 module _ (w v : World) (ok : IsWorld w) (ok' : IsWorld v) (all : SeenInAll w v) where
@@ -72,6 +76,7 @@ module _ (w v : World) (ok : IsWorld w) (ok' : IsWorld v) (all : SeenInAll w v) 
     changes = λ a c bar low high h. all.changes a c bar low high;
     lifetimes = λ a s l. all.lifetimes a s;
     labels = λ name a s l. all.labels name a s;
+    numbers = λ name a x l. all.numbers name a x;
   }
 
   here : (s : ℤ) → s ≤ℤ s

@@ -13,9 +13,11 @@ use Rattle.pl_spec.specs.declared.Column.{Column}
 use Rattle.pl_spec.specs.Rounding.{MISSING}
 use Rattle.pl_spec.specs.World.{World, IsWorld, Bar, LabelRow, Adjustment, events_of, day_of, bar_cell, cell_of, exists, nonempty, last_started, is_label_of, label_at}
 use Rattle.pl_spec.specs.Agree.{Agree, is_known}
-use Rattle.pl_spec.specs.Parts.{ColumnLabel, ColumnAdjustment, bar_of, label_of, adjustment_of}
-use Rattle.pl_spec.specs.AsOf.{as_of, has_started, bars_before, adjustments_by}
+use Rattle.pl_spec.specs.Numbers.{NumberRow}
+use Rattle.pl_spec.specs.Parts.{ColumnLabel, ColumnAdjustment, ColumnNumber, bar_of, label_of, adjustment_of, number_of}
+use Rattle.pl_spec.specs.AsOf.{as_of, has_started, bars_before, adjustments_by, column_numbers_by}
 use Rattle.pl_spec.proofs.Lists.{filter-map, filter-filter, filter-swap}
+use Rattle.pl_spec.proofs.Numbers.{numbers_look_back}
 use Rattle.pl_laws.specs.AsOfLaws.{PartsOf}
 use Rattle.pl_laws.proofs.Law.{day_by, labels-of_days}
 
@@ -103,22 +105,26 @@ module _ (w : World) (d : ℕ) (day : ℤ) where
     adjustments = λ a. ap (filter (is_known day)) (events-by a) ∙ filter-filter (is_known day) (is_known day) (λ e p. p) (events_of w a);
     lifetimes = exists-kept;
     labels = label_at-kept ok at_d;
+    numbers = λ name a x h. numbers_look_back.without w.numbers day name a x h;
   }
 
 -- ---- the parts
 
-module _ (days : List ℤ) (assets : List AssetRow) (labels : List ColumnLabel) (texts : List (List ℕ)) (bars : List BarRow) (adjustments : List ColumnAdjustment) (d : ℕ) (day : ℤ) where
-  abbrev Made : List LabelRow → List Bar → List Adjustment → World
-  Made ls bs xs = record { days = take (suc d) days; assets = assets; labels = ls; texts = texts; bars = bs; adjustments = xs }
+module _ (days : List ℤ) (assets : List AssetRow) (labels : List ColumnLabel) (texts : List (List ℕ)) (bars : List BarRow) (adjustments : List ColumnAdjustment) (numbers : List ColumnNumber) (d : ℕ) (day : ℤ) where
+  abbrev Made : List LabelRow → List Bar → List Adjustment → List NumberRow → World
+  Made ls bs xs ns = record { days = take (suc d) days; assets = assets; labels = ls; texts = texts; bars = bs; adjustments = xs; numbers = ns }
 
-  pub parts-of : PartsOf days assets labels texts bars adjustments d day
+  pub parts-of : PartsOf days assets labels texts bars adjustments numbers d day
   parts-of = record {
     world =
-        ap (λ ls. Made ls (map (bar_of assets) (bars_before d bars)) (map (adjustment_of assets) (adjustments_by day adjustments))) (sym (filter-map (has_started day) (label_of assets) labels))
-        ∙ ap (λ bs. Made (filter (has_started day) (map (label_of assets) labels)) bs (map (adjustment_of assets) (adjustments_by day adjustments)))
+        ap (λ ls. Made ls (map (bar_of assets) (bars_before d bars)) (map (adjustment_of assets) (adjustments_by day adjustments)) (map (number_of assets) (column_numbers_by day numbers)))
+        (sym (filter-map (has_started day) (label_of assets) labels))
+        ∙ ap (λ bs. Made (filter (has_started day) (map (label_of assets) labels)) bs (map (adjustment_of assets) (adjustments_by day adjustments)) (map (number_of assets) (column_numbers_by day numbers)))
         (sym (filter-map (λ b. nat_lt b.session d) (bar_of assets) bars))
-        ∙ ap (λ xs. Made (filter (has_started day) (map (label_of assets) labels)) (filter (λ b. nat_lt b.session d) (map (bar_of assets) bars)) xs)
-        (sym (filter-map (λ (x : Adjustment). is_known day x.event) (adjustment_of assets) adjustments));
+        ∙ ap (λ xs. Made (filter (has_started day) (map (label_of assets) labels)) (filter (λ b. nat_lt b.session d) (map (bar_of assets) bars)) xs (map (number_of assets) (column_numbers_by day numbers)))
+        (sym (filter-map (λ (x : Adjustment). is_known day x.event) (adjustment_of assets) adjustments))
+        ∙ ap (λ ns. Made (filter (has_started day) (map (label_of assets) labels)) (filter (λ b. nat_lt b.session d) (map (bar_of assets) bars)) (filter (λ x. is_known day x.event) (map (adjustment_of assets) adjustments)) ns)
+        (sym (filter-map (λ (r : NumberRow). int_le r.known day) (number_of assets) numbers));
     parts = λ made at_d. record {
       days_ascend = days_kept days (suc d) made.days_ascend;
       sids_ascend = made.sids_ascend;
@@ -133,5 +139,6 @@ module _ (days : List ℤ) (assets : List AssetRow) (labels : List ColumnLabel) 
       events_in_order = λ col.
           rw (filter-swap (λ x. x.col == col) (λ x. int_le x.event.day day) adjustments)
           (AllPairs-filter (λ x y. x.event.day ≤ℤ y.event.day) (λ x. int_le x.event.day day) (filter (λ x. x.col == col) adjustments) (made.events_in_order col));
+      numbers_in = All-filter (λ r. int_le r.known day) (λ r. r.col < length assets) numbers made.numbers_in;
     };
   }

@@ -4,7 +4,7 @@ use Rattle.std.proofs.Common.{◌≡◌, ℕ, ◌-◌, ℤ, pos, ◌≤ℤ◌, L
 use Rattle.std.proofs.lemmas.Int.{ints}
 use Rattle.pl_spec.specs.Window.{before, downward}
 use Rattle.pl_spec.specs.Kind.{Kind}
-use Rattle.pl_spec.specs.Kind.Kind.{Constant, Label, StaticSids, Window, Point, LabelTest, Cross, Downsample}
+use Rattle.pl_spec.specs.Kind.Kind.{Constant, Label, Number, StaticSids, Window, Point, LabelTest, Cross, Downsample}
 use Rattle.pl_spec.specs.Term.{Term, Node, Graph, term_at}
 use Rattle.pl_spec.specs.Term.Term.{absent, column, node}
 use Rattle.pl_spec.specs.Graph.{least_of, part_reach, reads_at, reach}
@@ -21,6 +21,7 @@ module _ (days other : List ℤ) (k : ℤ) (same : SameDays days other k) where
   reads_at-same : (q : Kind) (d : ℤ) → d ≤ℤ k → reads_at days q d ≡ reads_at other q d
   reads_at-same (Constant x) d h = refl
   reads_at-same (Label x) d h = refl
+  reads_at-same (Number x) d h = refl
   reads_at-same (StaticSids x) d h = refl
   reads_at-same (Window x) d h = refl
   reads_at-same (Point x) d h = refl
@@ -31,6 +32,7 @@ module _ (days other : List ℤ) (k : ℤ) (same : SameDays days other k) where
   reads_at-within : (q : Kind) (d : ℤ) → reads_at days q d ≤ℤ d
   reads_at-within (Constant x) d = omega (arith, ints)
   reads_at-within (Label x) d = omega (arith, ints)
+  reads_at-within (Number x) d = omega (arith, ints)
   reads_at-within (StaticSids x) d = omega (arith, ints)
   reads_at-within (Window x) d = omega (arith, ints)
   reads_at-within (Point x) d = omega (arith, ints)

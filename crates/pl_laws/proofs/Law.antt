@@ -5,19 +5,22 @@ use Rattle.std.specs.List.{list_any}
 use Rattle.std.proofs.lemmas.Int.{ints}
 use Rattle.std.proofs.lemmas.Bool.{eqb-true, eq-eqb, ne_eqb, or_cases, or_left, true≢false, false_from_ne_true, cases_eq}
 use Rattle.std.proofs.lemmas.Option.{get_or_from_slice_get, slice_get_within}
-use Rattle.pl_spec.specs.Rounding.{is_present}
-use Rattle.pl_spec.specs.World.{World, IsWorld, Event, events_of, day_of, bar_cell, exists, living_sids, label_at, is_label_of, last_started, nonempty, lives_on}
+use Rattle.pl_spec.specs.Rounding.{MISSING, is_present}
+use Rattle.pl_spec.specs.World.{World, IsWorld, Event, events_of, day_of, bar_cell, exists, living_sids, label_at, is_label_of, last_started, nonempty, lives_on, known_number}
 use Rattle.pl_spec.specs.declared.AssetRow.{AssetRow}
 use Rattle.pl_spec.specs.declared.Column.{Column}
 use Rattle.pl_spec.specs.Window.{effect, is_between, effects_from, effects_in, effects, after_all, seen_cell, before, downward}
 use Rattle.pl_spec.specs.Agree.{Agree, is_known}
 use Rattle.pl_spec.specs.Kind.{Kind, CrossKind}
+use Rattle.pl_spec.specs.Kind as kinds
+use Rattle.pl_spec.specs.Numbers.{number_at}
 use Rattle.pl_spec.specs.Kind.Kind.{Constant, Label, StaticSids, Window, Point, LabelTest, Cross, Downsample}
 use Rattle.pl_spec.specs.Kind.CrossKind.{PeerCount}
 use Rattle.pl_spec.specs.Periods.{period_start}
 use Rattle.pl_laws.proofs.Starts.{start-same, start-within}
 use Rattle.pl_spec.specs.Term.{Term}
 use Rattle.pl_spec.specs.Term.Term.{absent, column, node}
+use Rattle.pl_spec.specs.Value.Value.{Number}
 use Rattle.pl_spec.specs.Value.{Meaning, part_of, number_of, holds, now, window_of, passes, in_group, entry, counts_for, eligible, group_of, label_value, name_at, test_value, step, value}
 use Rattle.pl_spec.proofs.Lists.{filter-filter}
 use Rattle.pl_spec.proofs.Windows.{before-less}
@@ -151,6 +154,8 @@ pub record SeenAlike (w v : World) (d day : ℤ) : Type 0 where
   pub changes : (a : ℕ) (c : Column) (bar low high : ℤ) → high ≤ℤ day → effects_in c bar low high (events_of w a) ≡ effects_in c bar low high (events_of v a)
   pub lifetimes : (a : ℕ) (s : ℤ) → s ≤ℤ d → exists w a s ≡ exists v a s
   pub labels : (name : List ℕ) (a : ℕ) (s : ℤ) → s ≤ℤ d → label_at w name a s ≡ label_at v name a s
+  pub numbers : (name : List ℕ) (a : ℕ) (x : ℤ) → x ≤ℤ day
+      → number_at w.numbers name a x ≡ number_at v.numbers name a x
 
 pub agree-seen : (w v : World) (d day : ℤ) → Agree w v d day → SeenAlike w v d day
 agree-seen w v d day agree =
@@ -161,6 +166,7 @@ agree-seen w v d day agree =
       changes = λ a c bar low high h. ap (filter_map (effect c bar)) (events_same a low high h);
       lifetimes = agree.lifetimes;
       labels = agree.labels;
+      numbers = agree.numbers;
     }
   where
     events_same : (a : ℕ) (low high : ℤ) → high ≤ℤ day → filter (is_between low high) (events_of w a) ≡ filter (is_between low high) (events_of v a)
@@ -190,6 +196,16 @@ module _ (w v : World) (d day : ℤ) (ok : IsWorld w) (ok' : IsWorld v) (agree :
       between_same a c (day_of w s) (day_of w e) (λ x at_e. day_before e x by_d at_e)
       ∙ ap (λ o. effects_from c o (day_of w e) (events_of v a)) day_s ∙ ap (λ o. effects_from c (day_of v s) o (events_of v a)) day_e in
       ap (λ x. after_all x (effects w a c s e)) bars ∙ ap (after_all (bar_cell v a c s)) rows
+
+  number_same : (name : List ℕ) (a : ℕ) (s : ℤ) → s ≤ℤ d → known_number w name a s ≡ known_number v name a s
+  number_same name a s l =
+      on_day (day_of w s) refl
+      ∙ ap (λ o. unwrap_or (option_map (number_at v.numbers name a) o) MISSING) (agree.days s l)
+    where
+      on_day : (o : Option ℤ) → day_of w s ≡ o
+          → unwrap_or (option_map (number_at w.numbers name a) o) MISSING ≡ unwrap_or (option_map (number_at v.numbers name a) o) MISSING
+      on_day None e = refl
+      on_day (Some x) e = agree.numbers name a x (day_before s x l e)
 
   pub living_same : (s : ℤ) → s ≤ℤ d → living_sids w s ≡ living_sids v s
   living_same s h = rising_is_one (living_sids w s) (living_sids v s) (living_rise w ok (day_of w s)) (living_rise v ok' (day_of v s)) (λ a. agree.lifetimes a s h)
@@ -251,6 +267,7 @@ module _ (w v : World) (d day : ℤ) (ok : IsWorld w) (ok' : IsWorld v) (agree :
   unfolding step
   step_same names (Constant cell) size x y z m p f f' g g' h h' q q' e e' hf hg hh hq he a s l = refl
   step_same names (Label n) size x y z m p f f' g g' h h' q q' e e' hf hg hh hq he a s l = ap label_value (agree.labels (name_at names n) a s l)
+  step_same names (kinds.Number n) size x y z m p f f' g g' h h' q q' e e' hf hg hh hq he a s l = ap Number (number_same (name_at names n) a s l)
   step_same names (StaticSids sids) size x y z m p f f' g g' h h' q q' e e' hf hg hh hq he a s l = refl
   step_same names (Window k) size x y z m p f f' g g' h h' q q' e e' hf hg hh hq he a s l =
       rw (window_same x f f' size hf a s l, window_same y g g' size hg a s l, window_same z h h' size hh a s l) refl

@@ -4,6 +4,7 @@ use Rattle.std.specs.List.{list_any}
 use Rattle.std.proofs.lemmas.Bool.{eq-eqb, or_left, or_right}
 use Rattle.pl_spec.specs.Rounding.{is_present}
 use Rattle.pl_spec.specs.World.{World, exists, living_sids}
+use Rattle.pl_spec.specs.Kind as kinds
 use Rattle.pl_spec.specs.Kind.{Kind, CrossKind}
 use Rattle.pl_spec.specs.Kind.Kind.{Constant, Label, StaticSids, Window, Point, LabelTest, Cross, Downsample}
 use Rattle.pl_spec.specs.Cross.{Entry, cross}
@@ -37,6 +38,7 @@ module _ (w : World) (names : List (List ℕ)) (mask : Part) (d : ℤ) (open_to_
   unfolding step
   step-open (Constant cell) size x y z group a = refl
   step-open (Label n) size x y z group a = refl
+  step-open (kinds.Number n) size x y z group a = refl
   step-open (StaticSids sids) size x y z group a = refl
   step-open (Window k) size x y z group a = refl
   step-open (Point k) size x y z group a = refl

@@ -21,6 +21,7 @@ use Rattle.pl_spec.proofs.Finds as finds
 use Rattle.pl_spec.proofs.Permuted.{filter-permuted, find-permuted, list_all-permuted, one-permuted}
 use Rattle.pl_spec.proofs.Signed.{int_eq-true, int_le-true, le-both}
 use Rattle.pl_spec.proofs.Lists.{filter-map}
+use Rattle.pl_spec.proofs.Numbers.{numbers_look_back}
 use Rattle.pl_laws.specs.PermutedLaws.{OrderChangesNothing}
 use Rattle.pl_laws.proofs.Alike.{day_of-days}
 
@@ -141,11 +142,13 @@ order-changes-nothing = record {
   adjustments = events_same;
   own_days = own_days;
   assets = alive_same;
-  all = λ w v ok ok' bars_once labels_once same. record {
+  numbers = λ w v once moved. numbers_look_back.in_any_order w.numbers v.numbers once moved;
+  all = λ w v ok ok' bars_once labels_once numbers_once same. record {
     days = same.days;
     bars = bar_same w v bars_once same.bars;
     adjustments = λ a. events_same w v ok ok' a (same.adjustments a);
     lifetimes = alive_same w v same.days same.assets;
     labels = λ name a s. label_same w v labels_once same.labels name a same.days s;
+    numbers = numbers_look_back.in_any_order w.numbers v.numbers numbers_once same.numbers;
   };
 }

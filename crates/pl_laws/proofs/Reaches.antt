@@ -9,7 +9,7 @@ use Rattle.pl_spec.specs.Rounding.{is_present}
 use Rattle.pl_spec.specs.World.{World, Bar}
 use Rattle.pl_spec.specs.Window.{effects, after_all, seen_cell, before, downward}
 use Rattle.pl_spec.specs.Kind.{Kind, CrossKind}
-use Rattle.pl_spec.specs.Kind.Kind.{Constant, Label, StaticSids, Window, Point, LabelTest, Cross, Downsample}
+use Rattle.pl_spec.specs.Kind.Kind.{Constant, Label, Number, StaticSids, Window, Point, LabelTest, Cross, Downsample}
 use Rattle.pl_spec.specs.Kind.CrossKind.{PeerCount}
 use Rattle.pl_spec.specs.Term.{Term}
 use Rattle.pl_spec.specs.Term.Term.{absent, column, node}
@@ -126,6 +126,7 @@ module _ (w : World) (bars : List Bar) (low : ℤ) (same : SameBarsFrom w (recor
   unfolding step
   step_same names (Constant cell) size x y z m p f f' g g' h h' q q' e e' d some hf hg hh hq he rx ry rz rm rp a = refl
   step_same names (Label n) size x y z m p f f' g g' h h' q q' e e' d some hf hg hh hq he rx ry rz rm rp a = refl
+  step_same names (Number n) size x y z m p f f' g g' h h' q q' e e' d some hf hg hh hq he rx ry rz rm rp a = refl
   step_same names (StaticSids sids) size x y z m p f f' g g' h h' q q' e e' d some hf hg hh hq he rx ry rz rm rp a = refl
   step_same names (Window k) size x y z m p f f' g g' h h' q q' e e' d some hf hg hh hq he rx ry rz rm rp a =
       rw (window_same x f f' size d hf rx a, window_same y g g' size d hg ry a, window_same z h h' size d hh rz a) refl

@@ -6,6 +6,7 @@ pub mod Windows
 pub mod Pointwise
 pub mod Crossing
 pub mod Labels
+pub mod Known
 pub mod Tables
 pub mod Planning
 pub mod Periods

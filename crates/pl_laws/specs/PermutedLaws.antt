@@ -8,6 +8,7 @@ use Rattle.pl_spec.specs.declared.Format.{Format}
 use Rattle.pl_spec.specs.declared.RawAdjust.{RawAdjust}
 use Rattle.pl_spec.specs.World.{World, IsWorld, bar_cell, events_of, exists, label_at}
 use Rattle.pl_spec.specs.Lookups.{BarsOnce, LabelsOnce}
+use Rattle.pl_spec.specs.Numbers.{NumbersOnce, number_at}
 use Rattle.pl_spec.specs.Order.{of_table, adjustments_of}
 use Rattle.pl_spec.specs.Permuted.{AgreeInAll, HaveSameRows, EventsHaveOwnDays, events_on}
 use Rattle.pl_spec.specs.Term.{Term}
@@ -25,9 +26,9 @@ pub record AgreeingWorldsAreAlike : Type 0 where
   pub texts : (w v : World) → IsWorld w → IsWorld v → AgreeInAll w v → (p : Pipeline) (format : Format)
       → (from to : ℕ) → text w p format (table w p from to) ≡ text v p format (table v p from to)
 
--- Rows that change places change nothing that is looked up: label rows and bars, where each is there once,
--- assets, and adjustments, where those of one asset and day keep their order. Where they are of distinct days
--- the adjustments may be in any order.
+-- Rows that change places change nothing that is looked up: label rows, bars and numbers, where each is there
+-- once, assets, and adjustments, where those of one asset and day keep their order. Where they are of
+-- distinct days the adjustments may be in any order.
 pub record OrderChangesNothing : Type 0 where
   pub labels : (w v : World) → LabelsOnce w → w.days ≡ v.days → IsPermutation w.labels v.labels
       → (name : List ℕ) (a : ℕ) (s : ℤ) → label_at w name a s ≡ label_at v name a s
@@ -39,7 +40,9 @@ pub record OrderChangesNothing : Type 0 where
       → (a : ℕ) (day : ℤ) → events_on w a day ≡ events_on v a day
   pub assets : (w v : World) → w.days ≡ v.days → IsPermutation w.assets v.assets
       → (a : ℕ) (s : ℤ) → exists w a s ≡ exists v a s
-  pub all : (w v : World) → IsWorld w → IsWorld v → BarsOnce w → LabelsOnce w
+  pub numbers : (w v : World) → NumbersOnce w.numbers → IsPermutation w.numbers v.numbers
+      → (name : List ℕ) (a : ℕ) (day : ℤ) → number_at w.numbers name a day ≡ number_at v.numbers name a day
+  pub all : (w v : World) → IsWorld w → IsWorld v → BarsOnce w → LabelsOnce w → NumbersOnce w.numbers
       → HaveSameRows w v → AgreeInAll w v
 
 -- no two rows of a table are of one asset and one day

@@ -32,6 +32,7 @@ pub mod world {
     pub use pl_bars::{BarRow, Bars, BarsError};
     pub use pl_calendar::{CalendarError, Sessions};
     pub use pl_model::{OwnedWorld, World, asof_world, cell_now};
+    pub use pl_numbers::{Numbers, NumbersError};
 }
 
 /// Pipelines: texts, terms, and the plan of a range.

@@ -1,6 +1,6 @@
 //! What a run reads and judges before its first row.
 
-ghost use Rattle.std.specs.Prelude.{◌≡◌, ◌<◌, length, All, IfOk, IfErr, IfSome};
+ghost use Rattle.std.specs.Prelude.{◌≡◌, ◌<◌, [], length, All, IfOk, IfErr, IfSome};
 ghost use Rattle.pl_terms.specs.Checked.{pipeline_of};
 ghost use Rattle.pl_planner.specs.Plans.{IsPlanOf};
 ghost use Rattle.pl_words.specs.Views.{run_of, world_names_of};
@@ -19,6 +19,7 @@ use pl_assets::{Assets, Labels};
 use pl_bars::Bars;
 use pl_calendar::Sessions;
 use pl_judge::{Fault, judge_dates, judge_plan};
+use pl_numbers::Numbers;
 use pl_outside::{AdjustKeeper, Shelf};
 use pl_planner::Plan;
 use pl_terms::Checked;
@@ -149,12 +150,14 @@ pub(crate) fn read_world<S: Shelf, K: AdjustKeeper>(
         bars,
         adjustments,
     } = rows;
+    let numbers = Numbers::none(alloc);
     Ok(OwnedWorld {
         sessions,
         assets,
         labels,
         bars,
         adjustments,
+        numbers,
     })
 }
 
@@ -170,7 +173,8 @@ fn read_rows<S: Shelf, K: AdjustKeeper>(
     ensures rows { IsRowsLoad (shelf_change S.holds S.begun S.sound S.faults shelf.old shelf.new)
         (keeper_change K.lists K.sound K.faults K.calls keeper.old keeper.new)
         (world_names_of names.now) sessions.now assets.now result }
-    ensures made { IfOk result (λ r. AreMadeFor sessions.now assets.now r.labels.rows r.bars r.adjustments) }
+    ensures made { IfOk result (λ r.
+        AreMadeFor sessions.now assets.now r.labels.rows r.bars r.adjustments []) }
 {
     let labels = read_labels(alloc, shelf, names.labels, assets)?;
     let bars = read_bars(alloc, shelf, names.bars, sessions, assets)?;

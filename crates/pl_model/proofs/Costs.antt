@@ -156,6 +156,7 @@ module _ (w : World) (c : Parts) (ok : IsChecked (pipeline_of c)) (t s : ℕ) (a
       three _ _ _ _ _ _ (ap (λ o. session_cost (world_of w) (tree_cost (input_tree (trees (graph_of c.graph)) o)) (pos s)) (inputs-at n 0) ∙ row-cost (slice_get n.inputs 0)) (option-cost n.mask) (option-cost n.group)
   kind-is (kinds.Constant f) = refl
   kind-is (kinds.Label f) = refl
+  kind-is (kinds.Number f) = refl
   kind-is (kinds.StaticSids f) = refl
   kind-is (kinds.Downsample f) = ap (λ o. tree_cost (input_tree (trees (graph_of c.graph)) o) a (period_start f w.sessions.now (pos s))) (inputs-at n 0) ∙ input-cost-at (slice_get n.inputs 0) (period_start f w.sessions.now (pos s))
 

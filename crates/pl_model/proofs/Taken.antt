@@ -49,6 +49,9 @@ module _ (w : World) (c : Parts) (t s a : ℕ) (n : Node) (is : slice_get c.grap
   pub label-free : (name : ℕ) → kind_of n.kind ≡ kinds.Label name → old ≡ old + all
   label-free name e = free (all-of ∙ ap (λ k. given_cost_of w c k n a s) e)
 
+  pub number-free : (name : ℕ) → kind_of n.kind ≡ kinds.Number name → old ≡ old + all
+  number-free name e = free (all-of ∙ ap (λ k. given_cost_of w c k n a s) e)
+
   pub static-free : is_sids (kind_of n.kind) ≡ true → old ≡ old + all
   static-free e = free (all-of ∙ ap (λ k. given_cost_of w c k n a s) (sids-is (kind_of n.kind) e).1)
 

@@ -28,7 +28,7 @@ use pl_terms::{Checked, Input, TermId};
 use pl_values::{
     Family, empty_value, family_of, label_test_value, point_value, sids_value, window_value,
 };
-use pl_world::{World, exists, input_at, label_cell, section_input};
+use pl_world::{World, exists, input_at, label_cell, number_cell, section_input};
 use std::alloc::Global;
 use std::sync::ledger::Ledger;
 
@@ -117,6 +117,7 @@ fn given<L: Ledger>(
     match family_of(&node.kind) {
         Family::Constant(value) => Ok(value),
         Family::Label(name) => Ok(label_cell(world, checked, name, col, session)),
+        Family::Number(name) => Ok(number_cell(world, checked, name, col, session)),
         Family::Sids => Ok(sids_value(&node.kind, world.assets.sid(col))),
         Family::Window => window_cell(alloc, world, checked, t, col, session, steps),
         Family::Point => point_cell(alloc, world, checked, t, col, session, steps),

@@ -3,7 +3,9 @@ pub mod NumberKeys
 pub mod NumberFields
 pub mod NumbersRead
 pub mod NumberTables
+pub mod NumberCuts
 pub mod NumberSearch
+pub mod NumberNames
 pub mod NumbersSaid
 pub mod NumbersMoved
 pub mod NumberWorlds

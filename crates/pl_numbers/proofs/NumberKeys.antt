@@ -23,7 +23,8 @@ use Rattle.pl_assets.proofs.LabelOrder.{same_key}
 use Rattle.pl_assets.proofs.TextLists.{any-map, place_there}
 use Rattle.pl_lifetimes.proofs.Filters.{any-same}
 use Rattle.std.proofs.lemmas.List.{get_or_default}
-use Rattle.pl_numbers.specs.Numbers.{ColumnNumber, is_from}
+use Rattle.pl_spec.specs.Parts.{ColumnNumber}
+use Rattle.pl_numbers.specs.Numbers.{is_from}
 use Rattle.pl_numbers.specs.NumberPlaces.{AreKeys, AreNumbered, AreSeen, IsPlace, Rise, key_of, row_at, shown_rows}
 use Rattle.pl_numbers.specs.declared.rows.Place.{Place}
 use Rattle.pl_numbers.specs.declared.rows.NumberRows.{NumberRows}

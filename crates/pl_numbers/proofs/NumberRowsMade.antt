@@ -8,7 +8,8 @@ use Rattle.std.specs.Str.{bytes_eq}
 use Rattle.pl_assets.specs.Labels.{first_seen, with_text}
 use Rattle.pl_assets.proofs.FirstSeen.{Once, seen-more, seen-once, seen-count, text_stays, more_texts, text_placed}
 use Rattle.pl_assets.proofs.TextLists.{not_new}
-use Rattle.pl_numbers.specs.Numbers.{ColumnNumber, names_of}
+use Rattle.pl_spec.specs.Parts.{ColumnNumber}
+use Rattle.pl_numbers.specs.Numbers.{names_of}
 use Rattle.pl_numbers.specs.NumberPlaces.{AreNumbered, IsPlace, shown_rows, row_at}
 use Rattle.pl_numbers.specs.declared.rows.Place.{Place}
 use Rattle.pl_numbers.specs.declared.rows.NumberRows.{NumberRows}

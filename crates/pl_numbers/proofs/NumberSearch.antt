@@ -18,7 +18,8 @@ use Rattle.pl_assets.proofs.FirstSeen.{one_place, same_text, equal_text}
 use Rattle.pl_assets.proofs.LabelOrder.{keys_back, keys_between, keys_rise}
 use Rattle.pl_assets.proofs.LabelSearch.{contains_mapped, mapped_contains}
 use Rattle.std.proofs.lemmas.List.{get_or_default}
-use Rattle.pl_numbers.specs.Numbers.{ColumnNumber, by_column, number_on}
+use Rattle.pl_spec.specs.Parts.{ColumnNumber}
+use Rattle.pl_numbers.specs.Numbers.{by_column, number_on}
 use Rattle.pl_numbers.specs.NumberPlaces.{AllLow, IsPlace, IsTable, KeyPoint, Rise, key_of, row_at, shown_rows}
 use Rattle.pl_numbers.specs.declared.rows.Place.{Place}
 use Rattle.pl_numbers.specs.declared.rows.NumberRows.{NumberRows}

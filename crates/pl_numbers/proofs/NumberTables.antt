@@ -15,7 +15,8 @@ use Rattle.pl_assets.specs.LabelPlaces.{key}
 use Rattle.pl_assets.proofs.FirstSeen.{one_place}
 use Rattle.pl_assets.proofs.LabelOrder.{same_key}
 use Rattle.std.proofs.lemmas.List.{get_or_default}
-use Rattle.pl_numbers.specs.Numbers.{AreNumbers, ColumnNumber, is_from, key_in, table_of}
+use Rattle.pl_spec.specs.Parts.{ColumnNumber}
+use Rattle.pl_numbers.specs.Numbers.{AreNumbers, is_from, key_in, table_of}
 use Rattle.pl_numbers.specs.NumberPlaces.{AreNumbered, IsPlace, IsTable, key_of, row_at, shown_rows, table_in}
 use Rattle.pl_numbers.specs.declared.rows.Place.{Place}
 use Rattle.pl_numbers.specs.declared.rows.NumberRows.{NumberRows}
@@ -122,7 +123,7 @@ module _ (t new : NumberRows) (numbered : AreNumbered t) (names : new.names ≡ 
         names = rw names (once_named t numbered);
         rise = rw places (sorted-rises key_of t.places.items (own_keys t numbered read.once));
         few = rw places (omega (arith, length-sorted_by key_of t.places.items, read.few, length-map t.places.items (row_at t.names)));
-        few_names = rw (places, names) (omega (arith, length-sorted_by key_of t.places.items, few_names t numbered));
+        few_names = rw names (omega (arith, few_names t numbered, read.few, length-map t.places.items (row_at t.names)));
         cells = All-permutation (λ (p : Place). IsCell p.value) t.places.items new.places.items moved cells;
       }
     where

@@ -4,13 +4,13 @@ use Rattle.std.specs.List.{list_all}
 use Rattle.std.specs.Int.RustNames.{int_le}
 use Rattle.std.proofs.lemmas.List.Folds.{list_all-map}
 use Rattle.pl_spec.specs.Numbers.{NumberRow, is_number_of, last_known}
-use Rattle.pl_spec.specs.Parts.{sid_at}
+use Rattle.pl_spec.specs.Parts.{ColumnNumber, number_of, sid_at}
 use Rattle.pl_spec.specs.Rounding.{MISSING}
 use Rattle.pl_assets.proofs.LabelWorlds.{find-mapped, find-same}
 use Rattle.pl_lifetimes.proofs.Columns.{same_col}
 use Rattle.pl_spec.proofs.Lists.{filter-map, filter-same}
-use Rattle.pl_numbers.specs.Numbers.{ColumnNumber, by_column, number_on}
-use Rattle.pl_numbers.specs.NumberLaws.{NumbersAreThose, number_of}
+use Rattle.pl_numbers.specs.Numbers.{by_column, number_on}
+use Rattle.pl_numbers.specs.NumberLaws.{NumbersAreThose}
 
 -- the row that was known last
 last_row : List ColumnNumber → Option ColumnNumber

@@ -9,7 +9,8 @@ use Rattle.pl_records.specs.Reading.{Record, Fault, ◌>>=◌}
 use Rattle.pl_records.specs.Sorted.{sorted_by}
 use Rattle.pl_records.proofs.Orders.{Fits, under-permuted}
 use Rattle.pl_records.proofs.Sorts.{sorted-permutes}
-use Rattle.pl_numbers.specs.Numbers.{Rule, ColumnNumber, NumberTable, table_of, is_from, key_in, names_of, says_number, number_rows_in, numbers_of, header}
+use Rattle.pl_spec.specs.Parts.{ColumnNumber}
+use Rattle.pl_numbers.specs.Numbers.{Rule, NumberTable, table_of, is_from, key_in, names_of, says_number, number_rows_in, numbers_of, header}
 use Rattle.pl_numbers.specs.Numbers as rules
 use Rattle.pl_numbers.proofs.NumberKeys.{from_parts, parts_from}
 use Rattle.pl_numbers.proofs.NumbersRead.{Says, says_number-ok}

@@ -14,7 +14,8 @@ use Rattle.pl_spec.specs.declared.AssetRow.{AssetRow}
 use Rattle.pl_records.proofs.Readings.{rows-keep, under_ok}
 use Rattle.pl_records.proofs.RuleTables.{and_then_some, map_some, told_ok, ok_or-Ok}
 use Rattle.pl_lifetimes.specs.Assets.{sid_of}
-use Rattle.pl_numbers.specs.Numbers.{ColumnNumber, breaks, col_in, in_column, row_of, header, number_in, is_from, says_number, number_rows_in}
+use Rattle.pl_spec.specs.Parts.{ColumnNumber}
+use Rattle.pl_numbers.specs.Numbers.{breaks, col_in, in_column, row_of, header, number_in, is_from, says_number, number_rows_in}
 use Rattle.pl_numbers.specs.Numbers as rules
 use Rattle.pl_numbers.proofs.NumberFields.{number_cell}
 use Rattle.pl_numbers.proofs.NumberKeys.{from_parts, parts_from}

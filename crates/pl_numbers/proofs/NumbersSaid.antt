@@ -13,7 +13,8 @@ use Rattle.pl_records.proofs.Readings.{under-are, under-fault}
 use Rattle.pl_records.proofs.RuleTables.{and_then_some, map_some, lacks-tells, has-tells, Judges-table}
 use Rattle.pl_lifetimes.specs.Assets.{AreAssets, HasSid}
 use Rattle.pl_lifetimes.proofs.SidColumns.{sid_form}
-use Rattle.pl_numbers.specs.Numbers.{Rule, ColumnNumber, NumberTable, breaks, col_in, in_column, row_of, header, key_in, names_of, number_in, is_from, says_number, number_rows_in, numbers_of, table_of}
+use Rattle.pl_spec.specs.Parts.{ColumnNumber}
+use Rattle.pl_numbers.specs.Numbers.{Rule, NumberTable, breaks, col_in, in_column, row_of, header, key_in, names_of, number_in, is_from, says_number, number_rows_in, numbers_of, table_of}
 use Rattle.pl_numbers.specs.Numbers as rules
 use Rattle.pl_numbers.specs.NumberRules.{IsNumberRecord, IsRowRecord, CountWith, IsNumber, Breaks, AreNumbersOf, IsNumbersFault}
 use Rattle.pl_numbers.proofs.NumberFields.{number_form}

@@ -1,12 +1,9 @@
 -- The numbers of a table are those of the rows of its assets' sids.
 use Rattle.std.specs.Prelude.{◌≡◌, ℕ, ◌<◌, ℤ, List, length, map, All, AllPairs}
-use Rattle.pl_spec.specs.Numbers.{NumberRow, number_at}
-use Rattle.pl_spec.specs.Parts.{sid_at}
+use Rattle.pl_spec.specs.Numbers.{number_at}
+use Rattle.pl_spec.specs.Parts.{ColumnNumber, number_of, sid_at}
 use Rattle.pl_spec.specs.declared.AssetRow.{AssetRow}
-use Rattle.pl_numbers.specs.Numbers.{ColumnNumber, number_on}
-
-abbrev pub number_of : List AssetRow → ColumnNumber → NumberRow
-number_of assets r = record { name = r.name; sid = sid_at assets r.col; known = r.known; value = r.value }
+use Rattle.pl_numbers.specs.Numbers.{number_on}
 
 -- where the sids ascend and the rows are in columns of assets
 abbrev pub NumbersAreThose : Type 0

@@ -1,6 +1,7 @@
 -- Rows of numbers as they are kept: numbers for their names, by which they stand.
-use Rattle.std.specs.Prelude.{◌≡◌, ℕ, ◌^◌, ◌==◌, ◌<◌, ◌≤◌, nat_eq, nat_le, true, false, ℤ, List, [], length, map, slice_index_or, bytes_eq, All, AllPairs, Option, Some, None, FitsSigned}
+use Rattle.std.specs.Prelude.{◌≡◌, ℕ, ◌^◌, ◌==◌, ◌<◌, ◌≤◌, nat_eq, nat_le, true, false, ℤ, List, [], length, map, filter, slice_index_or, bytes_eq, All, AllPairs, Option, Some, None, FitsSigned}
 use Rattle.std.specs.Int.{w32}
+use Rattle.std.specs.Int.RustNames.{int_le}
 use Rattle.std.specs.List.{list_any}
 use Rattle.std.specs.List.Sorted.{IsPartitionPoint}
 use Rattle.std.specs.HashSet.{HashSet, contains}
@@ -9,7 +10,8 @@ use Rattle.pl_spec.specs.Numbers.{NumberRow}
 use Rattle.pl_spec.specs.Rounding.{IsCell}
 use Rattle.pl_records.specs.Reading.{Record, field}
 use Rattle.pl_assets.specs.LabelPlaces.{key}
-use Rattle.pl_numbers.specs.Numbers.{ColumnNumber, NumberTable, names_of}
+use Rattle.pl_spec.specs.Parts.{ColumnNumber}
+use Rattle.pl_numbers.specs.Numbers.{NumberTable, names_of}
 use Rattle.pl_numbers.specs.declared.rows.Place.{Place}
 use Rattle.pl_numbers.specs.declared.rows.NumberRows.{NumberRows}
 use Rattle.pl_numbers.specs.declared.reading.Fields.{Fields}
@@ -31,6 +33,10 @@ pub record IsPlace (names : List (List ℕ)) (p : Place) : Type 0 where
   pub name : p.name < length names
   pub col : p.col < 2 ^ 32
   pub day : FitsSigned w32 p.known
+
+-- the rows that were known by the day
+abbrev pub places_by : ℤ → List Place → List Place
+places_by day places = filter (λ p. int_le p.known day) places
 
 -- the names are those of the rows, in the order in which they first stand there
 pub record AreNumbered (t : NumberRows) : Type 0 where
@@ -85,5 +91,5 @@ pub record IsTable (t : NumberRows) : Type 0 where
   pub names : AllPairs (λ x y. bytes_eq x y ≡ false) t.names
   pub rise : Rise t.places.items
   pub few : length t.places.items ≤ most_numbers
-  pub few_names : length t.names ≤ length t.places.items
+  pub few_names : length t.names ≤ most_numbers
   pub cells : All (λ p. IsCell p.value) t.places.items

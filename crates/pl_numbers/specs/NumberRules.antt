@@ -11,7 +11,8 @@ use Rattle.pl_spec.specs.Numbers.{NumberRow}
 use Rattle.pl_spec.specs.declared.AssetRow.{AssetRow}
 use Rattle.pl_lifetimes.specs.Assets.{HasSid}
 use Rattle.pl_bars.specs.Rules.{IsCellText}
-use Rattle.pl_numbers.specs.Numbers.{Rule, BadHeader, TooMany, BadField, UnknownSid, Duplicate, ColumnNumber, NumberTable, rules, header, names_of, key_in}
+use Rattle.pl_spec.specs.Parts.{ColumnNumber}
+use Rattle.pl_numbers.specs.Numbers.{Rule, BadHeader, TooMany, BadField, UnknownSid, Duplicate, NumberTable, rules, header, names_of, key_in}
 
 -- the record is the name, the sid, without sign and leading zeros, the date from which the number counts and
 -- the text of its cell

@@ -12,19 +12,13 @@ use Rattle.pl_spec.specs.Decimals.{sid_in}
 use Rattle.pl_spec.specs.Limits.{most_numbers}
 use Rattle.pl_spec.specs.Names.{is_name}
 use Rattle.pl_spec.specs.Numbers.{NumberRow, number_at}
+use Rattle.pl_spec.specs.Parts.{ColumnNumber}
 use Rattle.pl_spec.specs.Rounding.{IsCell}
 use Rattle.pl_spec.specs.declared.AssetRow.{AssetRow}
 use Rattle.pl_lifetimes.specs.Assets.{sid_of}
 use Rattle.pl_assets.specs.Labels.{first_seen}
 use Rattle.pl_assets.specs.LabelPlaces.{key}
 use Rattle.pl_bars.specs.Bars.{cell_in}
-
--- the number of the asset in a column
-pub record ColumnNumber : Type 0 where
-  pub name : List ℕ
-  pub col : ℕ
-  pub known : ℤ
-  pub value : ℤ
 
 -- the rows of numbers, and their distinct names: a name's place in that list, from 0, is its number
 pub record NumberTable : Type 0 where

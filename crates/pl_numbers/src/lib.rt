@@ -3,14 +3,17 @@
 #![tactic(auto)]
 
 ghost use Rattle.std.specs.Prelude.{◌≡◌, ℕ, ◌+◌, ◌<◌, ◌≤◌, [], length, pos, position, slice_index_or, bytes_eq, All, IfOk, IfSome};
+ghost use Rattle.pl_spec.specs.AsOf.{column_numbers_by};
 ghost use Rattle.pl_spec.specs.Rounding.{IsCell};
 ghost use Rattle.pl_records.specs.Reading.{Answers};
 ghost use Rattle.pl_records.specs.Records.{csv_records};
 ghost use Rattle.pl_numbers.specs.Numbers.{AreNumbers, number_on, numbers_of};
 ghost use Rattle.pl_numbers.specs.NumberFaults.{fault_of};
 
+mod cut;
 mod error;
 pub mod laws;
+mod named;
 mod order;
 mod reading;
 mod rows;
@@ -19,6 +22,7 @@ mod seen;
 
 pub use error::NumbersError;
 use pl_calendar::Sessions;
+use pl_fixed::Memory;
 use pl_lifetimes::Assets;
 use rows::NumberRows;
 use std::alloc::Global;
@@ -53,6 +57,16 @@ impl Model for Numbers {
 }
 
 impl Numbers {
+    /// No names and no rows.
+    pub fn none(alloc: Global) -> Numbers
+        ensures names { result.names ≡ [] }
+        ensures rows { result.rows ≡ [] }
+    {
+        Numbers {
+            rows: NumberRows::new(alloc),
+        }
+    }
+
     /// The numbers of a file: the header `name,sid,known,value`, and in each further record a name, the sid
     /// of an asset, a date and a decimal. From the date on the asset has the number; an empty field says that
     /// it has none.
@@ -68,6 +82,16 @@ impl Numbers {
     {
         let read = reading::read_rows(alloc, bytes, assets)?;
         let rows = order::ordered(read);
+        Ok(Numbers { rows })
+    }
+
+    /// The rows that were known by a day, counted from 1970-01-01. All names stay, so that each keeps its
+    /// number. The only error is want of memory.
+    pub fn cut(&self, alloc: Global, day: i32) -> Result<Numbers, Memory>
+        ensures rows { IfOk result (λ n. n.rows ≡ column_numbers_by day self.now.rows) }
+        ensures names { IfOk result (λ n. n.names ≡ self.now.names) }
+    {
+        let rows = cut::rows_by(alloc, &self.rows, day)?;
         Ok(Numbers { rows })
     }
 

@@ -26,7 +26,8 @@ last_before days ex = last_of (length (filter (λ d. int_lt d ex) days))
 
 -- the raw close of an asset on a session
 abbrev pub raw_close : List ℤ → List AssetRow → List BarRow → ℕ → ℕ → ℤ
-raw_close days assets bars sid session = bar_cell (world_of days assets [] [] bars []) sid Close (pos session)
+raw_close days assets bars sid session =
+    bar_cell (world_of days assets [] [] bars [] []) sid Close (pos session)
 
 -- that of the last session before the ex day
 unfoldable pub close_before : List ℤ → List AssetRow → List BarRow → Payout → Option ℤ

@@ -80,6 +80,7 @@ cross_name (kind.PercentileBetween low high) = codes "PercentileBetween"
 unfoldable pub kind_name : Kind → List ℕ
 kind_name (kind.Constant cell) = codes "Const"
 kind_name (kind.Label name) = codes "Label"
+kind_name (kind.Number name) = codes "Number"
 kind_name (kind.StaticSids sids) = codes "StaticSids"
 kind_name (kind.Window k) = window_name k
 kind_name (kind.Point k) = point_name k

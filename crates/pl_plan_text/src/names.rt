@@ -29,6 +29,7 @@ pub(crate) fn kind_name(kind: &TermKind) -> &'static str
         TermKind::Const { .. } => "Const",
         TermKind::Latest => "Latest",
         TermKind::Label { .. } => "Label",
+        TermKind::Number { .. } => "Number",
         TermKind::StaticSids { .. } => "StaticSids",
         TermKind::SimpleMovingAverage => "SimpleMovingAverage",
         TermKind::LinearWeightedMovingAverage => "LinearWeightedMovingAverage",

@@ -4,7 +4,7 @@ use Rattle.std.proofs.lemmas.Int.{ints}
 use Rattle.pl_spec.specs.declared.Frequency.{Frequency}
 use Rattle.pl_spec.specs.Periods.{first_session, period_start}
 use Rattle.pl_spec.specs.Kind.{Kind}
-use Rattle.pl_spec.specs.Kind.Kind.{Constant, Label, StaticSids, Window, Point, LabelTest, Cross, Downsample}
+use Rattle.pl_spec.specs.Kind.Kind.{Constant, Label, Number, StaticSids, Window, Point, LabelTest, Cross, Downsample}
 use Rattle.pl_spec.specs.Graph.{reads_at}
 
 start-in : (f : Frequency) (days : List ℤ) (d : ℤ) → pos 0 ≤ℤ d → pos 0 ≤ℤ period_start f days d
@@ -24,6 +24,7 @@ start-before f days (pos d) h = absurd (omega (arith, ints))
 pub late-still : (days : List ℤ) (k : Kind) (d : ℤ) → pos 0 ≤ℤ d → pos 0 ≤ℤ reads_at days k d
 late-still days (Constant cell) d h = h
 late-still days (Label n) d h = h
+late-still days (Number n) d h = h
 late-still days (StaticSids sids) d h = h
 late-still days (Window k) d h = h
 late-still days (Point k) d h = h
@@ -34,6 +35,7 @@ late-still days (Downsample f) d h = start-in f days d h
 pub early-still : (days : List ℤ) (k : Kind) (d : ℤ) → d <ℤ pos 0 → reads_at days k d ≡ d
 early-still days (Constant cell) d h = refl
 early-still days (Label n) d h = refl
+early-still days (Number n) d h = refl
 early-still days (StaticSids sids) d h = refl
 early-still days (Window k) d h = refl
 early-still days (Point k) d h = refl

@@ -1,6 +1,6 @@
 -- The plan of a run, and why there is none.
 use Rattle.std.specs.Prelude.{◌≡◌, ℕ, ◌<◌, ◌≤◌, ◌+◌, ◌-◌, ◌*◌, ◌⊎◌, Bool, true, false, ◌&&◌, if◌then◌else◌, nat_le, nat_lt, ℤ, pos, ◌-ℤ◌, ◌<ℤ◌, ◌≤ℤ◌, List, length, get_or, slice_get, Option, Some, None}
-use Rattle.pl_spec.specs.Limits.{most_extra_rows}
+use Rattle.pl_spec.specs.Limits.{most_extra_rows, most_terms}
 use Rattle.pl_spec.specs.Window.{before}
 use Rattle.pl_spec.specs.Term.{Graph, Node}
 use Rattle.pl_spec.specs.Graph.{Used, contains, mentions_at, live_terms, columns_at, bound}
@@ -154,8 +154,8 @@ IsPlanFault days p from to Memory = Unit {0}
 pub record KeepsLimits (plan : Planned) : Type 0 where
   pub order : plan.from ≤ plan.to
   pub early : pos 0 ≤ℤ plan.reach
-  pub few : plan.bound ≤ 261
-  pub terms : length plan.uses ≤ 256
+  pub few : plan.bound ≤ most_terms + 5
+  pub terms : length plan.uses ≤ most_terms
   pub within : (t : ℕ) → is_used plan t ≡ true → t < length plan.slots
   pub size : length plan.extras ≡ (plan.to + 1 - plan.from) * length plan.uses
   pub rows : (t s : ℕ) → IsAsked plan t s → (extra_at plan.extras (length plan.uses) (s - plan.from) t ≤ s)

@@ -1,6 +1,7 @@
 -- Slots for the results of terms and for their bar columns, of those that are free the lowest ones.
 use Rattle.std.specs.Prelude.{◌≡◌, ℕ, ◌+◌, ◌<◌, ◌≤◌, ◌⊎◌, Bool, true, false, if◌then◌else◌, List, [], length, get_or, sum_by, count_by}
 use Rattle.std.specs.List.{range_with_len}
+use Rattle.pl_spec.specs.Limits.{most_terms}
 use Rattle.pl_planner.specs.declared.uses.Use.{Use}
 use Rattle.pl_planner.specs.declared.slots.TermSlots.{TermSlots}
 use Rattle.pl_planner.specs.Uses.{is_kept}
@@ -46,7 +47,7 @@ pub record IsSlotted (uses : List Use) (slots : List TermSlots) (k : ℕ) (new :
 -- the terms have their slots
 pub record AreSlotted (uses : List Use) (slots : List TermSlots) : Type 0 where
   pub each : (k : ℕ) → k < length slots → IsSlotted uses slots k (slots_at slots k)
-  pub few : (t : ℕ) → own_slot slots t ≤ 256
+  pub few : (t : ℕ) → own_slot slots t ≤ most_terms
 
 -- those marks tell which slots are taken
 pub record Tells (IsTaken : ℕ → Type 0) (taken : List Bool) : Type 0 where
@@ -55,6 +56,6 @@ pub record Tells (IsTaken : ℕ → Type 0) (taken : List Bool) : Type 0 where
 
 -- the slots of the terms below n that are kept up to term k are taken, and no more than there are such terms
 pub record IsTaken (uses : List Use) (slots : List TermSlots) (k n : ℕ) (taken : List Bool) : Type 0 where
-  pub size : length taken ≡ 260
+  pub size : length taken ≡ most_terms + 4
   pub tells : Tells (IsHad uses slots k n) taken
   pub few : sum_by one taken ≤ count_by (is_kept uses k) (range_with_len 0 n)

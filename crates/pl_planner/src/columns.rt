@@ -2,6 +2,7 @@
 
 ghost use Rattle.std.specs.Prelude.{◌≡◌, ◌||◌, if◌then◌else◌, ◌+◌, ◌*◌, ◌<◌, ◌≤◌, count_by, filter_map, fold, length, map, max, option_to_list};
 ghost use Rattle.std.specs.List.{list_any, range_with_len};
+ghost use Rattle.pl_spec.specs.Limits.{most_terms, most_window};
 ghost use Rattle.pl_spec.specs.World.{column_number};
 ghost use Rattle.pl_spec.specs.Graph.{bound, columns_at, contains, input_column};
 ghost use Rattle.pl_terms.specs.Checked.{IsChecked, pipeline_of};
@@ -83,9 +84,9 @@ fn columns_of(node: &Node) -> usize
 fn held_at(checked: &Checked, uses: &[Use], k: usize) -> usize
     requires uses { AreUses (pipeline_of checked.now).graph (outputs (pipeline_of checked.now)) uses.now }
     requires within { k < length uses.now }
-    requires few { length uses.now ≤ 256 }
+    requires few { length uses.now ≤ most_terms }
     ensures value { result ≡ held_at (pipeline_of checked.now).graph uses.now k }
-    ensures few { result ≤ 261 }
+    ensures few { result ≤ most_terms + 5 }
 {
     if uses[k].used {
         live_at(uses, k) + columns_of(node_at(checked, k))
@@ -98,9 +99,9 @@ fn held_at(checked: &Checked, uses: &[Use], k: usize) -> usize
 pub(crate) fn bound_of(checked: &Checked, uses: &[Use]) -> usize
     requires { AreUses (pipeline_of checked.now).graph (outputs (pipeline_of checked.now)) uses.now }
     ensures value { result ≡ bound (pipeline_of checked.now).graph (outputs (pipeline_of checked.now)) }
-    ensures few { result ≤ 261 }
+    ensures few { result ≤ most_terms + 5 }
     ensures checked { IsChecked (pipeline_of checked.now) }
-    ensures terms { length (pipeline_of checked.now).graph ≤ 256 }
+    ensures terms { length (pipeline_of checked.now).graph ≤ most_terms }
 {
     let mut bound = 0;
     for k in 0..count(checked) {
@@ -145,7 +146,7 @@ fn reads_back(
     requires session { session < length sessions.now }
     requires within { t < length uses.now }
     ensures value { result ≡ reads_back sessions.now session (pipeline_of checked.now).graph uses.now t }
-    ensures few { result ≤ session + 1260 * 257 }
+    ensures few { result ≤ session + most_window * (most_terms + 1) }
 {
     let _count = sessions.len();
     if uses[t].used {
@@ -169,7 +170,7 @@ pub(crate) fn most_back(
     requires within { session < length sessions.now }
     ensures value { result ≡ most_back sessions.now session (pipeline_of checked.now).graph uses.now
         (length (pipeline_of checked.now).graph) }
-    ensures few { result ≤ session + 1260 * 257 }
+    ensures few { result ≤ session + most_window * (most_terms + 1) }
     ensures checked { IsChecked (pipeline_of checked.now) }
 {
     let mut most = 0;

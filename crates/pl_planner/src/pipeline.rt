@@ -1,6 +1,7 @@
 //! The terms of a checked pipeline by their numbers.
 
 ghost use Rattle.std.specs.Prelude.{◌≡◌, ◌<◌, ◌≤◌, Some, length, slice_get};
+ghost use Rattle.pl_spec.specs.Limits.{most_terms};
 ghost use Rattle.pl_terms.specs.Checked.{IsChecked, pipeline_of};
 ghost use Rattle.pl_terms.specs.Nodes.{node_of};
 
@@ -9,7 +10,7 @@ use pl_terms::{Checked, Node, TermId};
 /// How many terms there are.
 pub(crate) fn count(checked: &Checked) -> usize
     ensures count { result ≡ length (pipeline_of checked.now).graph }
-    ensures few { result ≤ 256 }
+    ensures few { result ≤ most_terms }
     ensures checked { IsChecked (pipeline_of checked.now) }
 {
     checked.graph().len()
@@ -19,7 +20,7 @@ pub(crate) fn count(checked: &Checked) -> usize
 pub(crate) fn node_at(checked: &Checked, k: usize) -> &Node
     requires { k < length (pipeline_of checked.now).graph }
     ensures node { slice_get (pipeline_of checked.now).graph k ≡ Some (node_of result.now) }
-    ensures few { length (pipeline_of checked.now).graph ≤ 256 }
+    ensures few { length (pipeline_of checked.now).graph ≤ most_terms }
     ensures checked { IsChecked (pipeline_of checked.now) }
 {
     let graph = checked.graph();

@@ -1,5 +1,6 @@
 //! Plans, and what they say of each term.
-ghost use Rattle.std.specs.Prelude.{◌≡◌, ◌-◌, ◌<◌, ◌≤◌, ◌≤ℤ◌, pos, true, option_map};
+ghost use Rattle.std.specs.Prelude.{◌≡◌, ◌+◌, ◌-◌, ◌<◌, ◌≤◌, ◌≤ℤ◌, pos, true, option_map};
+ghost use Rattle.pl_spec.specs.Limits.{most_extra_rows, most_terms};
 ghost use Rattle.pl_terms.specs.Nodes.{number_of};
 ghost use Rattle.pl_planner.specs.Plans as spec;
 
@@ -75,7 +76,7 @@ impl Plan {
     pub fn extra(&self, t: TermId) -> usize
         requires { spec.is_used self.now t.0 ≡ true }
         ensures value { result ≡ spec.extra self.now t.0 }
-        ensures few { result ≤ 4096 }
+        ensures few { result ≤ most_extra_rows }
     {
         self.from - self.low(t)
     }
@@ -85,7 +86,7 @@ impl Plan {
         requires { spec.is_used self.now t.0 ≡ true }
         ensures value { result ≡ spec.low self.now t.0 }
         ensures within { result ≤ self.now.from }
-        ensures few { self.now.from - result ≤ 4096 }
+        ensures few { self.now.from - result ≤ most_extra_rows }
     {
         self.low_at(t, self.from)
     }
@@ -98,7 +99,7 @@ impl Plan {
         requires to { session ≤ self.now.to }
         ensures value { result ≡ spec.low_at self.now t.0 session }
         ensures within { result ≤ session }
-        ensures few { session - result ≤ 4096 }
+        ensures few { session - result ≤ most_extra_rows }
     {
         session - self.extras[(session - self.from) * self.uses.len() + t.0 as usize]
     }
@@ -115,7 +116,7 @@ impl Plan {
     /// The greatest number of terms and bar columns that are live at once, and so of arrays: at most 261.
     pub fn bound(&self) -> usize
         ensures value { result ≡ self.now.bound }
-        ensures few { result ≤ 261 }
+        ensures few { result ≤ most_terms + 5 }
     {
         self.bound
     }

@@ -1,11 +1,15 @@
 //! The slot of each term and of its bar columns: of those that are free the lowest.
 
 ghost use Rattle.std.specs.Prelude.{◌≡◌, ℕ, ◌+◌, ◌<◌, ◌≤◌, ◌^◌, IfOk, false, true, get_or, length, replicate, slice_set, sum_by};
+ghost use Rattle.pl_spec.specs.Limits.{most_terms};
 ghost use Rattle.pl_planner.specs.Slotting.{AreSlotted, IsSlotted, IsTaken, one, own_slot};
 
 use crate::columns::{either, is_kept};
 use crate::uses::Use;
 use std::alloc::{AllocError, Global};
+
+// Room for the slots of all terms, and of one more with three bar columns.
+const MOST_TAKEN: usize = 260;
 
 /// The slots of the values of a term, and of its bar columns while it is computed.
 #[derive(Clone, Copy, Debug)]
@@ -16,10 +20,10 @@ pub(crate) struct TermSlots {
 
 // The slots of the terms below k that are still to be read.
 fn mark_taken(uses: &[Use], slots: &[TermSlots], k: usize, taken: &mut [bool])
-    requires fresh { taken.old ≡ replicate 260 false }
+    requires fresh { taken.old ≡ replicate (most_terms + 4) false }
     requires uses { k ≤ length uses.now }
     requires slots { k ≤ length slots.now }
-    requires few { (t : ℕ) → own_slot slots.now t ≤ 256 }
+    requires few { (t : ℕ) → own_slot slots.now t ≤ most_terms }
     ensures { IsTaken uses.now slots.now k k taken.new }
 {
     for t in 0..k {
@@ -58,11 +62,11 @@ fn take_free(taken: &mut [bool]) -> usize
 fn slot_term(uses: &[Use], slots: &[TermSlots], k: usize) -> TermSlots
     requires uses { k < length uses.now }
     requires slots { k ≡ length slots.now }
-    requires few_terms { k < 256 }
+    requires few_terms { k < most_terms }
     requires so_far { AreSlotted uses.now slots.now }
     ensures { IsSlotted uses.now slots.now k result }
 {
-    let mut taken = [false; 260];
+    let mut taken = [false; MOST_TAKEN];
     mark_taken(uses, slots, k, &mut taken);
     let own = take_free(&mut taken);
     let first = take_free(&mut taken);
@@ -76,7 +80,7 @@ fn slot_term(uses: &[Use], slots: &[TermSlots], k: usize) -> TermSlots
 
 /// The slots of the terms by number.
 pub(crate) fn slot_terms(alloc: Global, uses: &[Use]) -> Result<Vec<TermSlots>, AllocError>
-    requires { length uses.now ≤ 256 }
+    requires { length uses.now ≤ most_terms }
     ensures slotted { IfOk result (λ slots. AreSlotted uses.now slots.items) }
     ensures size { IfOk result (λ slots. length slots.items ≡ length uses.now) }
 {

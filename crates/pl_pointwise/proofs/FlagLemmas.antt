@@ -1,5 +1,5 @@
--- Which operations are filters.
-use Rattle.std.proofs.Common.{◌≡◌, ℕ, ℤ, [], List, IsTrue, refl}
+-- Which operations are filters, and which are of two factors.
+use Rattle.std.proofs.Common.{◌≡◌, ℕ, ℤ, [], List, true, IsTrue, refl}
 use Rattle.pl_terms.specs.declared.kind.TermKind.{TermKind}
 use Rattle.pl_terms.specs.declared.kind.TermKind.TheVariants as kinds
 use Rattle.pl_terms.specs.declared.kind.LabelValue.TheVariants as label
@@ -8,7 +8,7 @@ use Rattle.pl_spec.specs.Kind.{Kind, PointKind}
 use Rattle.pl_spec.specs.Kind.Kind.{Point}
 use Rattle.pl_spec.specs.Kind.PointKind.{IfElse}
 use Rattle.pl_spec.specs.Value.{is_filter, is_point_filter}
-use Rattle.pl_pointwise.specs.Operands.{IsOperation, AreOperands, AreOperandsOf}
+use Rattle.pl_pointwise.specs.Operands.{IsOperation, AreOperands, AreOperandsOf, is_pair}
 
 -- an operation that is none of those on factors is a filter
 pub flag-left : (k : TermKind) → IsOperation (kind_of k) → (k ≡ kinds.Add → ⊥) → (k ≡ kinds.Sub → ⊥) → (k ≡ kinds.Mul → ⊥) → (k ≡ kinds.Div → ⊥) → (k ≡ kinds.Neg → ⊥)
@@ -47,3 +47,16 @@ two-of op a b c n f h = h
 pub two-operands : (k : Kind) (a b c : List ℤ) (n : ℕ) → IsTrue (is_filter k) → AreOperands k a b c n → AreOperands k a b [] n
 two-operands (Point op) a b c n f h = two-of op a b c n f h
 two-operands k a b c n f h = tt
+
+-- ---- factors of two factors
+
+pub pair-left : (k : TermKind) → is_pair (kind_of k) ≡ true → (k ≡ kinds.Add → ⊥) → (k ≡ kinds.Sub → ⊥) → (k ≡ kinds.Mul → ⊥) → (k ≡ kinds.Div → ⊥) → (k ≡ kinds.FillNa → ⊥) → ⊥
+unfolding kind_of
+pair-left kinds.Add h add sub mul div fill = add refl
+pair-left kinds.Sub h add sub mul div fill = sub refl
+pair-left kinds.Mul h add sub mul div fill = mul refl
+pair-left kinds.Div h add sub mul div fill = div refl
+pair-left kinds.FillNa h add sub mul div fill = fill refl
+pair-left (kinds.LabelIs (label.Number n)) h add sub mul div fill = absurd (cc h)
+pair-left (kinds.LabelIsNot (label.Number n)) h add sub mul div fill = absurd (cc h)
+pair-left k h add sub mul div fill = absurd (cc h)

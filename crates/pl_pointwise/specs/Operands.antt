@@ -1,5 +1,5 @@
 -- Which kinds are operations on the values of one place, what each asks of its operands, and what it gives.
-use Rattle.std.specs.Prelude.{◌≡◌, ℕ, ℤ, List, length, ⊤}
+use Rattle.std.specs.Prelude.{◌≡◌, ℕ, ℤ, List, length, ⊤, Bool, true, false}
 use Rattle.std.specs.List.{All}
 use Rattle.pl_spec.specs.Rounding.{IsCell, MISSING}
 use Rattle.pl_spec.specs.Kind.{Kind, PointKind}
@@ -57,3 +57,12 @@ AreOperands k a b c n = ⊤
 abbrev pub HasNumber : LabelValue → Type 0
 HasNumber (Number n) = ⊤
 HasNumber (Text t) = ⊥
+
+-- it is a factor of two factors
+abbrev pub is_pair : Kind → Bool
+is_pair (Point Add) = true
+is_pair (Point Sub) = true
+is_pair (Point Mul) = true
+is_pair (Point Div) = true
+is_pair (Point FillNa) = true
+is_pair k = false

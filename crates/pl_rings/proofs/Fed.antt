@@ -107,7 +107,7 @@ module _ (g : Start) where
       let second : (get_or (filter (λ (x : ColumnAdjustment). x.col == col) xs) j d).col ≡ col = eqb-true _ col (ours j d m) in
       AllPairs-filter (λ (x y : ColumnAdjustment). x.col ≡ y.col → x.event.day ≤ℤ y.event.day) (λ x. x.col == col) xs up i j d l m (first ∙ sym second)
 
-  pub parts_fit : IsStart g → (days : List FedDay) → AreFed g days → AreFor (days_of days) g.assets g.labels (bars_of days) (adjustments_of days)
+  pub parts_fit : IsStart g → (days : List FedDay) → AreFed g days → AreFor (days_of days) g.assets g.labels (bars_of days) (adjustments_of days) g.numbers
   parts_fit start days are = record {
     days_ascend = days_up days are;
     sids_ascend = start.sids_ascend;
@@ -116,13 +116,14 @@ module _ (g : Start) where
     sessions_in = sessions_known days are;
     adjustments_in = events_known days are;
     events_in_order = of_column (adjustments_of days) (events_up days are);
+    numbers_in = start.numbers_in;
   }
 
 -- ---- the world is one
 
 pub fed_is_a_world : FedIsAWorld
 unfolding fed
-fed_is_a_world g days start are = parts_are_a_world (days_of days) g.assets g.labels g.texts (bars_of days) (adjustments_of days) (parts_fit g start days are)
+fed_is_a_world g days start are = parts_are_a_world (days_of days) g.assets g.labels g.texts (bars_of days) (adjustments_of days) g.numbers (parts_fit g start days are)
 
 -- ---- one more day
 
@@ -207,6 +208,7 @@ module _ (g : Start) (now next : FedDay) (earlier : List FedDay) (start : IsStar
     adjustments = events_stay;
     lifetimes = lives_on_day;
     labels = λ name a s below. labels-of_days (fed g (now ∷ earlier)) (fed g (next ∷ now ∷ earlier)) refl name a s (days_stay s below);
+    numbers = λ name a x below. refl;
   }
     where
       on_bars : (a : ℕ) (c : Column) (s : ℤ) → s <ℤ pos (length earlier) → bar_cell (fed g (now ∷ earlier)) a c s ≡ bar_cell (fed g (next ∷ now ∷ earlier)) a c s

@@ -165,7 +165,7 @@ module _ (g : Start) (start : IsStart g) (c : Column) (col : ℕ) (inside : col 
   cell_fed : (days : List FedDay) → AreFed g days → (s : ℕ) → bar_cell (fed g days) a c (pos s) ≡ cell_at (bars_of days) col c s
   unfolding fed
   cell_fed days are s =
-      sym (cells_raw (days_of days) g.assets g.labels g.texts (bars_of days) (adjustments_of days) start.sids_ascend (parts_fit g start days are).bars_in col c s inside)
+      sym (cells_raw (days_of days) g.assets g.labels g.texts (bars_of days) (adjustments_of days) g.numbers start.sids_ascend (parts_fit g start days are).bars_in col c s inside)
 
   module _ (now next : FedDay) (earlier : List FedDay) (are : AreFed g (next ∷ now ∷ earlier)) where
     abbrev w : World

@@ -6,7 +6,7 @@ use Rattle.pl_spec.specs.declared.BarRow.{BarRow}
 use Rattle.pl_spec.specs.declared.Column.{Column}
 use Rattle.pl_spec.specs.Dates.{IsDay}
 use Rattle.pl_spec.specs.Rounding.{IsCell, MISSING}
-use Rattle.pl_spec.specs.Parts.{ColumnLabel, ColumnAdjustment, world_of}
+use Rattle.pl_spec.specs.Parts.{ColumnLabel, ColumnAdjustment, ColumnNumber, world_of}
 use Rattle.pl_spec.specs.Window.{downward}
 use Rattle.pl_spec.specs.World.{World}
 use Rattle.pl_bars.specs.Bars.{cell_of}
@@ -18,6 +18,7 @@ pub record Start : Type 0 where
   pub assets : List AssetRow
   pub labels : List ColumnLabel
   pub texts : List (List ℕ)
+  pub numbers : List ColumnNumber
 
 -- a day with the bars of the session before it, and the adjustments that are effective later than the day
 -- before and by this one
@@ -50,7 +51,7 @@ adjustments_of (d ∷ earlier) = adjustments_of earlier ++ d.events
 
 -- the world of the days fed so far
 unfoldable pub fed : Start → List FedDay → World
-fed g days = world_of (days_of days) g.assets g.labels g.texts (bars_of days) (adjustments_of days)
+fed g days = world_of (days_of days) g.assets g.labels g.texts (bars_of days) (adjustments_of days) g.numbers
 
 -- its last session
 abbrev pub last_session : List FedDay → ℤ
@@ -88,10 +89,11 @@ pub record MayFollow (g : Start) (earlier : List FedDay) (d : FedDay) : Type 0 w
   pub due : All (λ x. x.event.day ≤ℤ d.day) d.events
   pub by_day : AllPairs (λ x y. x.col ≡ y.col → x.event.day ≤ℤ y.event.day) d.events
 
--- The assets ascend, and the labels were made for them.
+-- The assets ascend, and the labels and numbers were made for them.
 pub record IsStart (g : Start) : Type 0 where
   pub sids_ascend : AllPairs (λ a b. a.sid < b.sid) g.assets
   pub labels_in : All (λ r. r.col < length g.assets) g.labels
+  pub numbers_in : All (λ r. r.col < length g.assets) g.numbers
 
 -- the days ascend, and each may follow those before it
 abbrev pub AreFed : Start → List FedDay → Type 0

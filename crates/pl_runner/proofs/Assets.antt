@@ -1,5 +1,5 @@
 -- The assets of a chunk: each that exists on a session on which a used term is computed, and no other.
-use Rattle.std.proofs.Common.{◌≡◌, ℕ, ◌<◌, ◌≤◌, Bool, true, false, ◌==◌, ℤ, pos, List, length, map, get_or, refl, sym, ap, ◌∙◌, arith, ◌-◌}
+use Rattle.std.proofs.Common.{◌≡◌, ℕ, ◌<◌, ◌≤◌, Bool, true, false, ◌==◌, ℤ, pos, List, length, map, get_or, refl, sym, ap, ◌∙◌, arith}
 use Rattle.std.specs.Prelude.{filter}
 use Rattle.std.specs.List.{range_with_len, All, AllPairs}
 use Rattle.std.proofs.Math.Path.{fun_ext}

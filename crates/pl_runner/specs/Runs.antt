@@ -1,14 +1,20 @@
 -- The steps and the report of a run.
-use Rattle.std.specs.Prelude.{◌≡◌, ℕ, pos, length, sum_by}
+use Rattle.std.specs.Prelude.{◌≡◌, ℕ, ◌+◌, ◌-◌, ◌*◌, ◌≤◌, pos, ◌+ℤ◌, length, sum_by}
 use Rattle.pl_spec.specs.World.{World}
 use Rattle.pl_spec.specs.Graph.{bound}
 use Rattle.pl_spec.specs.Table.{Pipeline, table, cells}
 use Rattle.pl_spec.specs.Limits.{cut}
 use Rattle.pl_terms.specs.Uses.{outputs}
 use Rattle.pl_planner.specs.Plans.{Planned}
+use Rattle.pl_table.specs.Outcomes.{rows_of_sessions}
+use Rattle.pl_table.specs.Sums.{rows_sum}
+use Rattle.pl_table.specs.declared.totals.Totals.{Totals}
 use Rattle.pl_exec.specs.declared.chunk.Chunk.{Chunk}
+use Rattle.pl_exec.specs.declared.chunk.ChunkReport.{ChunkReport}
 use Rattle.pl_runner.specs.Chunks.{chunks_of, columns_of}
 use Rattle.pl_exec.specs.Tasks.{Task, chunk_steps}
+use Rattle.pl_runner.specs.Desks.{IsDeskFor}
+use Rattle.pl_runner.specs.declared.desk.Desk.{Desk}
 use Rattle.pl_runner.specs.declared.run.RunReport.{RunReport}
 
 -- the work of a chunk
@@ -21,6 +27,16 @@ steps_of_chunk w p plan chunk = chunk_steps (task_of w p plan chunk)
 -- the steps of the traversals of all chunks of so many sessions
 unfoldable pub run_steps : World → Pipeline → Planned → ℕ → ℕ
 run_steps w p plan size = sum_by (steps_of_chunk w p plan) (chunks_of plan.from plan.to size)
+
+-- A chunk was computed and its rows were written: they are counted and summed up beside those before, the
+-- desk is again as free as it was, and the work of the chunk is told.
+pub record IsChunkDone (w : World) (p : Pipeline) (plan : Planned) (chunk : Chunk) (old new : Totals) (before after : Desk) (r : ChunkReport) : Type 0 where
+  pub rows : new.rows ≡ old.rows + length (rows_of_sessions w p chunk.from (chunk.to + 1 - chunk.from))
+  pub sum : new.sum ≡ old.sum +ℤ rows_sum w.texts (rows_of_sessions w p chunk.from (chunk.to + 1 - chunk.from))
+  pub few : new.rows ≤ old.rows + (chunk.to + 1 - chunk.from) * length w.assets
+  pub desk : (other : Chunk) → IsDeskFor w p plan other before → IsDeskFor w p plan other after
+  pub peak : r.peak ≡ bound p.graph (outputs p)
+  pub applied : r.applied ≡ cut (steps_of_chunk w p plan chunk)
 
 -- how many rows there are, the sum of their cells, the greatest number of arrays that were held at once, and
 -- the steps of the traversals, as far as 64 bits count

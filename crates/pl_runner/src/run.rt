@@ -1,19 +1,15 @@
 //! The table of a plan's range, chunk by chunk.
-ghost use Rattle.std.specs.Prelude.{◌≡◌, ◌≤◌, ◌<◌, ◌+◌, ◌-◌, ◌*◌, ◌^◌, ◌++◌, ◌⊎◌, pos, ◌+ℤ◌, length, max, IfOk, OnOk, IsErrOf};
-ghost use Rattle.pl_spec.specs.Graph.{bound};
+ghost use Rattle.std.specs.Prelude.{◌≡◌, ◌≤◌, ◌<◌, ◌+◌, ◌-◌, ◌*◌, ◌^◌, ◌++◌, ◌⊎◌, length, IfOk, OnOk, IsErrOf};
 ghost use Rattle.pl_spec.specs.Table.{table};
 ghost use Rattle.pl_spec.specs.Text.{text};
-ghost use Rattle.pl_spec.specs.Limits.{cut};
+ghost use Rattle.pl_spec.specs.Limits.{cut, most_chunk};
 ghost use Rattle.pl_outside.specs.Taken.{IsWrittenIn, Writes};
 ghost use Rattle.pl_world.specs.Worlds.{IsMade, world_of};
 ghost use Rattle.pl_terms.specs.Checked.{pipeline_of};
-ghost use Rattle.pl_terms.specs.Uses.{outputs};
 ghost use Rattle.pl_planner.specs.Plans.{IsPlanOf};
 ghost use Rattle.pl_table.specs.Outcomes.{lines, rows_of_sessions};
-ghost use Rattle.pl_table.specs.Sums.{rows_sum};
-ghost use Rattle.pl_exec.specs.declared.chunk.Chunk.{Chunk};
 ghost use Rattle.pl_runner.specs.Desks.{IsDesk, IsDeskFor};
-ghost use Rattle.pl_runner.specs.Runs.{IsReport, run_steps, steps_of_chunk};
+ghost use Rattle.pl_runner.specs.Runs.{IsChunkDone, IsReport, run_steps, steps_of_chunk};
 ghost use Rattle.pl_table.specs.declared.error.RunError.TheVariants as RunError;
 
 use crate::columns::put_columns;
@@ -61,7 +57,7 @@ pub fn run_table<O: Sink, L: Ledger>(
     requires made { IsMade world.now }
     requires plan { IsPlanOf world.now.sessions.now (pipeline_of checked.now) plan.now }
     requires some { 1 ≤ chunk }
-    requires most { chunk ≤ 4096 }
+    requires most { chunk ≤ most_chunk }
     // Where memory ran out nothing was written; else the text of the table is.
     ensures writes { IsErrOf result RunError.Memory ⊎ Writes O.taken O.faults O.sound O.room out.old out.new
         (text (world_of world.now) (pipeline_of checked.now) format
@@ -100,7 +96,7 @@ fn write_all<O: Sink, L: Ledger>(
     requires made { IsMade world.now }
     requires plan { IsPlanOf world.now.sessions.now (pipeline_of checked.now) plan.now }
     requires some { 1 ≤ size }
-    requires few { size ≤ 4096 }
+    requires few { size ≤ most_chunk }
     requires desk { IsDesk (world_of world.now) (pipeline_of checked.now) plan.now size desk.old }
     ensures writes { Writes O.taken O.faults O.sound O.room out.old out.new
         (header.now ++ lines (world_of world.now) (pipeline_of checked.now) format
@@ -167,24 +163,9 @@ fn write_chunk<O: Sink, L: Ledger>(
         (lines (world_of world.now) (pipeline_of checked.now) format
         (rows_of_sessions (world_of world.now) (pipeline_of checked.now) chunk.from
         (chunk.to + 1 - chunk.from))) result }
-    ensures pieces { OnOk result (IsWrittenIn O.whole O.calls out.old out.new
-        (totals.new.rows - totals.old.rows)) }
-    ensures rows { OnOk result (totals.new.rows ≡ totals.old.rows
-        + length (rows_of_sessions (world_of world.now) (pipeline_of checked.now) chunk.from
-        (chunk.to + 1 - chunk.from))) }
-    ensures sum { OnOk result (totals.new.sum ≡ totals.old.sum
-        +ℤ rows_sum (world_of world.now).texts
-        (rows_of_sessions (world_of world.now) (pipeline_of checked.now) chunk.from
-        (chunk.to + 1 - chunk.from))) }
-    ensures few { OnOk result (totals.new.rows ≤ totals.old.rows
-        + (chunk.to + 1 - chunk.from) * length world.now.assets.now) }
-    ensures desk { OnOk result ((other : Chunk)
-        → IsDeskFor (world_of world.now) (pipeline_of checked.now) plan.now other desk.old
-        → IsDeskFor (world_of world.now) (pipeline_of checked.now) plan.now other desk.new) }
-    ensures peak { IfOk result (λ r. r.peak
-        ≡ bound (pipeline_of checked.now).graph (outputs (pipeline_of checked.now))) }
-    ensures applied { IfOk result (λ r. r.applied
-        ≡ cut (steps_of_chunk (world_of world.now) (pipeline_of checked.now) plan.now chunk)) }
+    ensures done { IfOk result (λ report. IsWrittenIn O.whole O.calls out.old out.new
+        (totals.new.rows - totals.old.rows) × IsChunkDone (world_of world.now) (pipeline_of checked.now)
+        plan.now chunk totals.old totals.new desk.old desk.new report) }
     ensures cost { steps.new ≡ steps.old
         + steps_of_chunk (world_of world.now) (pipeline_of checked.now) plan.now chunk }
 {

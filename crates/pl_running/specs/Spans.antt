@@ -1,5 +1,5 @@
 -- Two windows, the second a place after the first, as one list: all but its last cell, and all but its first.
-use Rattle.std.specs.Prelude.{◌≡◌, ℕ, ◌-◌, ◌≤◌, ℤ, pos, List, length, take, drop, get_or, if◌then◌else◌, IsTrue, ◌⊎◌, Bool, true, false}
+use Rattle.std.specs.Prelude.{◌≡◌, ℕ, ◌+◌, ◌-◌, ◌≤◌, ℤ, pos, List, length, take, drop, get_or, if◌then◌else◌, IsTrue, ◌⊎◌, Bool, true, false}
 use Rattle.std.specs.List.{All}
 use Rattle.pl_spec.specs.Limits.{most_window}
 use Rattle.pl_spec.specs.Rounding.{IsCell, is_missing}
@@ -51,6 +51,6 @@ pub record TakesSpans (k : Kind) (a b c : List ℤ) : Type 0 where
   pub second : All IsCell b
   pub third : All IsCell c
   pub some : 2 ≤ length a
-  pub few : length a ≤ 1261
+  pub few : length a ≤ most_window + 1
   pub paired : IsTrue (takes_pairs k) → length b ≡ length a
   pub range : IsTrue (takes_range k) → (2 ≤ length b) × (2 ≤ length c)

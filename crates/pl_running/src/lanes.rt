@@ -18,6 +18,9 @@ use crate::values::mean;
 use pl_factors::{faded_weights, mean_by};
 use pl_terms::TermKind;
 
+// How many cells the longest window has.
+const MOST_CELLS: usize = 1_260;
+
 // From how many cells on a window of a kind is slid: a shorter one is read anew as quickly.
 fn least_of(kind: &TermKind) -> usize {
     match kind {
@@ -66,11 +69,11 @@ fn window_at(cells: &[i64], k: usize, size: usize) -> &[i64]
 
 // Are there windows, of cells, and not too long?
 fn is_filled(size: usize, a: &[i64], out: &[i64]) -> bool
-    ensures few { result ≡ true → size ≤ 1260 }
+    ensures few { result ≡ true → size ≤ most_window }
     ensures cells { result ≡ true → 0 < length a.now }
     ensures windows { result ≡ true → 0 < length out.now }
 {
-    size <= 1260 && !a.is_empty() && !out.is_empty()
+    size <= MOST_CELLS && !a.is_empty() && !out.is_empty()
 }
 
 // All cells but the first.
@@ -178,9 +181,9 @@ fn fill_slid(kind: &TermKind, size: usize, a: &[i64], b: &[i64], c: &[i64], out:
 fn fill_weighted(weights: &[i64], sum: i128, a: &[i64], out: &mut [i64])
     requires cells { All IsCell a.now }
     requires weights { All IsCell weights.now }
-    requires few { length weights.now ≤ 1260 }
+    requires few { length weights.now ≤ most_window }
     requires sum { sum ≡ total weights.now }
-    requires small { unsigned_abs sum ≤ 1260 * MILLION }
+    requires small { unsigned_abs sum ≤ most_window * MILLION }
     requires long { length weights.now + length out.old ≤ length a.now + 1 }
     ensures { AreWeighted weights.now a.now (length out.old) out.new }
 {
@@ -192,14 +195,14 @@ fn fill_weighted(weights: &[i64], sum: i128, a: &[i64], out: &mut [i64])
 // The exponentially weighted averages. The weights are made once for all.
 fn fill_faded(decay: i64, size: usize, a: &[i64], out: &mut [i64])
     requires cells { All IsCell a.now }
-    requires few { size ≤ 1260 }
+    requires few { size ≤ most_window }
     requires low { pos 0 ≤ℤ decay }
     requires high { decay ≤ℤ pos MILLION }
     requires long { size + length out.old ≤ length a.now + 1 }
     ensures { (b c : List ℤ) → AreValues (Window (ExponentialWeightedMovingAverage decay)) size a.now b c
         (length out.old) out.new }
 {
-    let mut room = [0i64; 1260];
+    let mut room = [0i64; MOST_CELLS];
     let weights = &mut room[..size];
     let sum = faded_weights(decay, weights);
     fill_weighted(&*weights, sum, a, out);

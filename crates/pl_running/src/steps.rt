@@ -1,7 +1,8 @@
 //! What is kept of windows, from what was kept of those before.
 
-ghost use Rattle.std.specs.Prelude.{◌≡◌, ◌≤◌, length};
+ghost use Rattle.std.specs.Prelude.{◌≡◌, ◌+◌, ◌≤◌, length};
 ghost use Rattle.std.specs.List.{All};
+ghost use Rattle.pl_spec.specs.Limits.{most_window};
 ghost use Rattle.pl_spec.specs.Rounding.{IsCell};
 ghost use Rattle.pl_running.specs.Kept.{sums, spreads, weighted, placed, swings};
 ghost use Rattle.pl_running.specs.Spans.{before, after};
@@ -12,7 +13,7 @@ use crate::sums;
 pub(crate) fn next_sums(kept: &Running, a: &[i64]) -> Running
     requires cells { All IsCell a.now }
     requires some { 2 ≤ length a.now }
-    requires few { length a.now ≤ 1261 }
+    requires few { length a.now ≤ most_window + 1 }
     requires stands { kept.now ≡ sums (before a.now) }
     ensures { result ≡ sums (after a.now) }
 {
@@ -28,7 +29,7 @@ pub(crate) fn next_sums(kept: &Running, a: &[i64]) -> Running
 pub(crate) fn next_spreads(kept: &Running, a: &[i64]) -> Running
     requires cells { All IsCell a.now }
     requires some { 2 ≤ length a.now }
-    requires few { length a.now ≤ 1261 }
+    requires few { length a.now ≤ most_window + 1 }
     requires stands { kept.now ≡ spreads (before a.now) }
     ensures { result ≡ spreads (after a.now) }
 {
@@ -46,7 +47,7 @@ pub(crate) fn next_weighted(kept: &Running, a: &[i64], w: &[i64]) -> Running
     requires cells { All IsCell a.now }
     requires weights { All IsCell w.now }
     requires some { 2 ≤ length a.now }
-    requires few { length a.now ≤ 1261 }
+    requires few { length a.now ≤ most_window + 1 }
     requires paired { length w.now ≡ length a.now }
     requires stands { kept.now ≡ weighted (before a.now) (before w.now) }
     ensures { result ≡ weighted (after a.now) (after w.now) }
@@ -63,7 +64,7 @@ pub(crate) fn next_weighted(kept: &Running, a: &[i64], w: &[i64]) -> Running
 pub(crate) fn next_placed(kept: &Running, a: &[i64]) -> Running
     requires cells { All IsCell a.now }
     requires some { 2 ≤ length a.now }
-    requires few { length a.now ≤ 1261 }
+    requires few { length a.now ≤ most_window + 1 }
     requires stands { kept.now ≡ placed (before a.now) }
     ensures { result ≡ placed (after a.now) }
 {
@@ -79,7 +80,7 @@ pub(crate) fn next_placed(kept: &Running, a: &[i64]) -> Running
 pub(crate) fn next_swings(kept: &Running, a: &[i64]) -> Running
     requires cells { All IsCell a.now }
     requires some { 2 ≤ length a.now }
-    requires few { length a.now ≤ 1261 }
+    requires few { length a.now ≤ most_window + 1 }
     requires stands { kept.now ≡ swings (before a.now) }
     ensures { result ≡ swings (after a.now) }
 {

@@ -1,9 +1,9 @@
 //! The sums of a window, from those of the window before it. Both windows are one list: all but its last
-//! cell, and all but
-//! its first.
+//! cell, and all but its first.
 
-ghost use Rattle.std.specs.Prelude.{◌≡◌, ◌≤◌, length};
+ghost use Rattle.std.specs.Prelude.{◌≡◌, ◌+◌, ◌≤◌, length};
 ghost use Rattle.std.specs.List.{All};
+ghost use Rattle.pl_spec.specs.Limits.{most_window};
 ghost use Rattle.pl_spec.specs.Rounding.{IsCell};
 ghost use Rattle.pl_spec.specs.Formula.{present_values, total, count, products, places, differences, gains, losses};
 ghost use Rattle.pl_running.specs.Spans.{before, after};
@@ -14,7 +14,7 @@ use pl_factors::{gain, loss, product};
 pub(crate) fn next_sum(sum: i128, a: &[i64]) -> i128
     requires cells { All IsCell a.now }
     requires some { 2 ≤ length a.now }
-    requires few { length a.now ≤ 1261 }
+    requires few { length a.now ≤ most_window + 1 }
     requires is { sum ≡ total (present_values (before a.now)) }
     ensures { result ≡ total (present_values (after a.now)) }
 {
@@ -24,7 +24,7 @@ pub(crate) fn next_sum(sum: i128, a: &[i64]) -> i128
 pub(crate) fn next_count(kept: usize, a: &[i64]) -> usize
     requires cells { All IsCell a.now }
     requires some { 2 ≤ length a.now }
-    requires few { length a.now ≤ 1261 }
+    requires few { length a.now ≤ most_window + 1 }
     requires is { kept ≡ count (before a.now) }
     ensures { result ≡ count (after a.now) }
 {
@@ -35,7 +35,7 @@ pub(crate) fn next_products(sum: i128, a: &[i64], b: &[i64]) -> i128
     requires cells { All IsCell a.now }
     requires others { All IsCell b.now }
     requires some { 2 ≤ length a.now }
-    requires few { length a.now ≤ 1261 }
+    requires few { length a.now ≤ most_window + 1 }
     requires paired { length b.now ≡ length a.now }
     requires is { sum ≡ total (products (before a.now) (before b.now)) }
     ensures { result ≡ total (products (after a.now) (after b.now)) }
@@ -48,7 +48,7 @@ pub(crate) fn next_products(sum: i128, a: &[i64], b: &[i64]) -> i128
 pub(crate) fn next_placed(placed: i128, sum: i128, a: &[i64]) -> i128
     requires cells { All IsCell a.now }
     requires some { 2 ≤ length a.now }
-    requires few { length a.now ≤ 1261 }
+    requires few { length a.now ≤ most_window + 1 }
     requires placed { placed ≡ total (products (places (before a.now)) (before a.now)) }
     requires sum { sum ≡ total (present_values (before a.now)) }
     ensures { result ≡ total (products (places (after a.now)) (after a.now)) }
@@ -60,7 +60,7 @@ pub(crate) fn next_placed(placed: i128, sum: i128, a: &[i64]) -> i128
 pub(crate) fn next_gains(kept: i128, a: &[i64]) -> i128
     requires cells { All IsCell a.now }
     requires some { 2 ≤ length a.now }
-    requires few { length a.now ≤ 1261 }
+    requires few { length a.now ≤ most_window + 1 }
     requires is { kept ≡ gains (differences (before a.now)) }
     ensures { result ≡ gains (differences (after a.now)) }
 {
@@ -71,7 +71,7 @@ pub(crate) fn next_gains(kept: i128, a: &[i64]) -> i128
 pub(crate) fn next_losses(kept: i128, a: &[i64]) -> i128
     requires cells { All IsCell a.now }
     requires some { 2 ≤ length a.now }
-    requires few { length a.now ≤ 1261 }
+    requires few { length a.now ≤ most_window + 1 }
     requires is { kept ≡ losses (differences (before a.now)) }
     ensures { result ≡ losses (differences (after a.now)) }
 {

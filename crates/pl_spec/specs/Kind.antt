@@ -37,10 +37,11 @@ pub data CrossKind : Type 0 where
   PercentileBetween : (low high : ℕ) → CrossKind
   PeerCount : CrossKind
 
--- the name of a Label is its number among the pipeline's label names
+-- the name of a Label or of a Number is its number among the pipeline's names
 pub data Kind : Type 0 where
   Constant : (cell : ℤ) → Kind
   Label : (name : ℕ) → Kind
+  Number : (name : ℕ) → Kind
   StaticSids : (sids : List ℕ) → Kind
   Window : WindowKind → Kind
   Point : PointKind → Kind

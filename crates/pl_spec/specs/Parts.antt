@@ -1,10 +1,11 @@
--- The world of five parts that name their assets by columns: a column is a place among the assets, from 0.
+-- The world of six parts that name their assets by columns: a column is a place among the assets, from 0.
 use Rattle.std.specs.Prelude.{ℕ, ◌<◌, ℤ, pos, ◌<ℤ◌, ◌≤ℤ◌, List, map, filter, length, unwrap_or, option_map, slice_get, slice_index_or, All, AllPairs, ◌==◌}
 use Rattle.pl_spec.specs.declared.AssetRow.{AssetRow}
 use Rattle.pl_spec.specs.declared.BarRow.{BarRow}
+use Rattle.pl_spec.specs.Numbers.{NumberRow}
 use Rattle.pl_spec.specs.World.{World, LabelRow, Bar, Event, Adjustment}
 
--- a label row and an adjustment of the asset in a column
+-- a label row, an adjustment and a number of the asset in a column
 pub record ColumnLabel : Type 0 where
   pub name : List ℕ
   pub col : ℕ
@@ -14,6 +15,12 @@ pub record ColumnLabel : Type 0 where
 pub record ColumnAdjustment : Type 0 where
   pub col : ℕ
   pub event : Event
+
+pub record ColumnNumber : Type 0 where
+  pub name : List ℕ
+  pub col : ℕ
+  pub known : ℤ
+  pub value : ℤ
 
 -- the sid of a column
 abbrev pub sid_at : List AssetRow → ℕ → ℕ
@@ -37,8 +44,12 @@ label_of assets r = record { name = r.name; sid = sid_at assets r.col; start = r
 abbrev pub adjustment_of : List AssetRow → ColumnAdjustment → Adjustment
 adjustment_of assets x = record { sid = sid_at assets x.col; event = x.event }
 
-abbrev pub world_of : List ℤ → List AssetRow → List ColumnLabel → List (List ℕ) → List BarRow → List ColumnAdjustment → World
-world_of days assets labels texts bars adjustments =
+abbrev pub number_of : List AssetRow → ColumnNumber → NumberRow
+number_of assets r = record { name = r.name; sid = sid_at assets r.col; known = r.known; value = r.value }
+
+abbrev pub world_of : List ℤ → List AssetRow → List ColumnLabel → List (List ℕ) → List BarRow
+    → List ColumnAdjustment → List ColumnNumber → World
+world_of days assets labels texts bars adjustments numbers =
     record {
       days = days;
       assets = assets;
@@ -46,10 +57,12 @@ world_of days assets labels texts bars adjustments =
       texts = texts;
       bars = map (bar_of assets) bars;
       adjustments = map (adjustment_of assets) adjustments;
+      numbers = map (number_of assets) numbers;
     }
 
 -- the parts were made for these sessions and assets
-pub record AreFor (days : List ℤ) (assets : List AssetRow) (labels : List ColumnLabel) (bars : List BarRow) (adjustments : List ColumnAdjustment) : Type 0 where
+pub record AreFor (days : List ℤ) (assets : List AssetRow) (labels : List ColumnLabel) (bars : List BarRow)
+    (adjustments : List ColumnAdjustment) (numbers : List ColumnNumber) : Type 0 where
   pub days_ascend : AllPairs (λ a b. a <ℤ b) days
   pub sids_ascend : AllPairs (λ a b. a.sid < b.sid) assets
   pub labels_in : All (λ r. r.col < length assets) labels
@@ -57,3 +70,4 @@ pub record AreFor (days : List ℤ) (assets : List AssetRow) (labels : List Colu
   pub sessions_in : All (λ b. b.session < length days) bars
   pub adjustments_in : All (λ x. x.col < length assets) adjustments
   pub events_in_order : (col : ℕ) → AllPairs (λ x y. x.event.day ≤ℤ y.event.day) (filter (λ x. x.col == col) adjustments)
+  pub numbers_in : All (λ r. r.col < length assets) numbers

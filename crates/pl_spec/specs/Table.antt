@@ -12,7 +12,7 @@ pub record NamedColumn : Type 0 where
   pub name : List ℕ
   pub term : ℕ
 
--- a checked pipeline: its terms, its columns, its screen and the names of its labels
+-- a checked pipeline: its terms, its columns, its screen and the names of its labels and numbers
 pub record Pipeline : Type 0 where
   pub graph : Graph
   pub columns : List NamedColumn

@@ -5,9 +5,10 @@ use Rattle.std.specs.List.{list_any}
 use Rattle.std.specs.Ordering.{int_eq}
 use Rattle.pl_spec.specs.Rounding.{MISSING, is_present}
 use Rattle.pl_spec.specs.declared.Column.{Column}
-use Rattle.pl_spec.specs.World.{World, exists, living_sids, label_at}
+use Rattle.pl_spec.specs.World.{World, exists, living_sids, label_at, known_number}
 use Rattle.pl_spec.specs.Window.{before, downward, bar_window}
 use Rattle.pl_spec.specs.Periods.{period_start}
+use Rattle.pl_spec.specs.Kind as kind
 use Rattle.pl_spec.specs.Kind.{Kind, WindowKind, PointKind, LabelKind, CrossKind}
 use Rattle.pl_spec.specs.Kind.Kind.{Constant, Label, StaticSids, Window, Point, LabelTest, Cross, Downsample}
 use Rattle.pl_spec.specs.Kind.WindowKind.{All, Any, AtLeastN, AllPresent}
@@ -153,6 +154,7 @@ name_at names n = unwrap_or (slice_get names n) []
 unfoldable pub step : World → List (List ℕ) → Kind → ℕ → Part → Part → Part → Part → Part → Meaning
 step w names (Constant cell) size x y z mask group a d = Number cell
 step w names (Label n) size x y z mask group a d = label_value (label_at w (name_at names n) a d)
+step w names (kind.Number n) size x y z mask group a d = Number (known_number w (name_at names n) a d)
 step w names (StaticSids sids) size x y z mask group a d = Number (truth (list_any (λ b. b == a) sids))
 step w names (Window k) size x y z mask group a d =
     Number (formula k (window_of w size x a d) (window_of w size y a d) (window_of w size z a d))

@@ -1,4 +1,4 @@
--- A world: the session days, the assets, their labels, their daily bars and the adjustments.
+-- A world: the session days, the assets, their labels, their daily bars, the adjustments and the numbers.
 use Rattle.std.specs.Prelude.{ℕ, ◌<◌, Bool, ◌&&◌, ◌==◌, ℤ, pos, negsuc, ◌<ℤ◌, ◌≤ℤ◌, List, [], ◌∷◌, map, filter, find, Option, Some, None, option_map, unwrap_or, option_and_then, bytes_eq, slice_get, AllPairs}
 use Rattle.std.specs.List.{list_any, list_all}
 use Rattle.std.specs.Int.RustNames.{int_lt, int_le}
@@ -7,6 +7,7 @@ use Rattle.pl_spec.specs.declared.AdjustmentKind.{AdjustmentKind}
 use Rattle.pl_spec.specs.declared.Column.{Column}
 use Rattle.pl_spec.specs.declared.Column.TheVariants.{OpenPrice, High, Low, Close, Volume}
 use Rattle.pl_spec.specs.Rounding.{MISSING, Fraction}
+use Rattle.pl_spec.specs.Numbers.{NumberRow, number_at}
 
 -- from the day start on the asset sid has the text as its label under the name; an empty text says that it
 -- has none
@@ -49,6 +50,7 @@ pub record World : Type 0 where
   pub texts : List (List ℕ)
   pub bars : List Bar
   pub adjustments : List Adjustment
+  pub numbers : List NumberRow
 
 -- the adjustments of asset a, in the order in which they act
 abbrev pub events_of : World → ℕ → List Event
@@ -118,3 +120,7 @@ is_label_of name a day r = bytes_eq r.name name && r.sid == a && int_le r.start 
 abbrev pub label_at : World → List ℕ → ℕ → ℤ → Option (List ℕ)
 label_at w name a d =
     option_and_then (λ day. option_and_then (λ r. nonempty r.text) (last_started (filter (is_label_of name a day) w.labels))) (day_of w d)
+
+-- the number of asset a under the name on session d, missing where there is none
+abbrev pub known_number : World → List ℕ → ℕ → ℤ → ℤ
+known_number w name a d = unwrap_or (option_map (number_at w.numbers name a) (day_of w d)) MISSING

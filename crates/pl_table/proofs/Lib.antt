@@ -8,3 +8,4 @@ pub mod Lengths
 pub mod Puts
 pub mod Tiles
 pub mod Pieces
+pub mod Places

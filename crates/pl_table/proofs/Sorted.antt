@@ -109,6 +109,7 @@ filters-are : (k : Kind) → is_filter k ≡ is_filters (sort_of k)
 unfolding sort_of
 filters-are (kind.Constant c) = refl
 filters-are (kind.Label n) = refl
+filters-are (kind.Number n) = refl
 filters-are (kind.StaticSids s) = refl
 filters-are (kind.Window k) = window-filters k
 filters-are (kind.Point k) = point-filters k
@@ -120,6 +121,7 @@ numbers-are : (k : Kind) → is_numbered k ≡ is_numbers (sort_of k)
 unfolding sort_of
 numbers-are (kind.Constant c) = refl
 numbers-are (kind.Label n) = refl
+numbers-are (kind.Number n) = refl
 numbers-are (kind.StaticSids s) = refl
 numbers-are (kind.Window k) = window-numbers k
 numbers-are (kind.Point k) = point-numbers k

@@ -1,5 +1,5 @@
 -- The rows of a tile, number by number.
-use Rattle.std.proofs.Common.{◌≡◌, ℕ, ◌+◌, ◌-◌, ◌*◌, ◌<◌, ◌≤◌, true, false, ℤ, pos, List, [], length, get_or, set, take, drop, Some, option_map, slice_get, refl, sym, ap, ◌∙◌, arith, inl, inr, get_or-set_same, get_or-set_other, length-set, FitsSigned, w64, of_z}
+use Rattle.std.proofs.Common.{◌≡◌, ℕ, ◌+◌, ◌-◌, ◌*◌, ◌<◌, ◌≤◌, true, false, ℤ, pos, List, [], length, get_or, set, take, drop, Some, slice_get, refl, sym, ap, ◌∙◌, arith, inl, inr, get_or-set_same, get_or-set_other, length-set, FitsSigned, w64, of_z}
 use Rattle.std.proofs.lemmas.Bool.{cases_eq}
 use Rattle.std.proofs.lemmas.Nat.{mul-le, same_from_place}
 use Rattle.std.proofs.lemmas.Bool.{true≢false}
@@ -11,13 +11,11 @@ use Rattle.pl_spec.specs.Table.{NamedColumn}
 use Rattle.pl_spec.proofs.Cells.{is_true-truth}
 use Rattle.pl_spec.proofs.Places.{row-within}
 use Rattle.pl_cross.specs.Arrays.{sid_in}
-use Rattle.pl_terms.specs.declared.node.TermId.{TermId}
-use Rattle.pl_terms.specs.declared.checked.NamedColumn as code
 use Rattle.pl_values.specs.Arrays.{cell_of}
 use Rattle.pl_table.specs.declared.outcome.Outcome.{Outcome}
 use Rattle.pl_table.specs.Outcomes.{HasCells, IsOutcome, pipeline_in, sids_in, world_in}
 use Rattle.pl_table.specs.Rows.{has_row}
-use Rattle.pl_table.specs.Tiles.{tile_at, in_row, IsTileRow, HasRows, IsStrip, IsPlace, sessions_in}
+use Rattle.pl_table.specs.Tiles.{height, tile_at, in_row, IsTileRow, HasRows, IsStrip, IsPlace, sessions_in}
 use Rattle.pl_terms.specs.Uses.{outputs}
 use Rattle.pl_terms.proofs.Graphs.{columns-long}
 use Rattle.pl_planner.specs.Plans.{low_at, slot_of}
@@ -25,25 +23,25 @@ use Rattle.pl_planner.proofs.Pipelines.{output-used}
 use Rattle.pl_workspace.specs.Slots.{Live, slot_at}
 use Rattle.std.proofs.lemmas.List.{get_or-take, get_or-drop, length-take-le, length-drop}
 use Rattle.pl_table.proofs.Lengths.{one-true, one-false}
-use Rattle.pl_table.proofs.Outputs.{has-column, term-there}
+use Rattle.pl_table.proofs.Outputs.{has-column}
 
 -- ---- places in a tile
 
 abbrev pub places_of : Outcome → ℕ
 places_of o = length o.cols.now
 
-pub start_within : (places width j i : ℕ) → j < 8 → i < places → (j * places + i) * width + width ≤ 8 * places * width
+pub start_within : (places width j i : ℕ) → j < height → i < places → (j * places + i) * width + width ≤ height * places * width
 start_within places width j i h l =
-    let r : j * places + i < 8 * places = row-within j 8 places i h l in
-    let m = mul-le (j * places + i + 1) width (8 * places) width (omega arith) (omega arith) in
+    let r : j * places + i < height * places = row-within j height places i h l in
+    let m = mul-le (j * places + i + 1) width (height * places) width (omega arith) (omega arith) in
     let e : (j * places + i + 1) * width ≡ (j * places + i) * width + width = omega arith in
     omega (arith, m, e)
 
-pub number_within : (places width j i c at len : ℕ) → at ≡ tile_at places width j i c → j < 8 → i < places → c < width → 8 * places * width ≤ len → at < len
+pub number_within : (places width j i c at len : ℕ) → at ≡ tile_at places width j i c → j < height → i < places → c < width → height * places * width ≤ len → at < len
 number_within places width j i c at len e h l k room = let w = start_within places width j i h l in omega (arith, w)
 
-pub session_within : (places width len : ℕ) → 8 * places * width ≤ len → places * width ≤ len
-session_within places width len room = let e : 8 * places * width ≡ 8 * (places * width) = omega arith in omega arith
+pub session_within : (places width len : ℕ) → height * places * width ≤ len → places * width ≤ len
+session_within places width len room = let e : height * places * width ≡ height * (places * width) = omega arith in omega arith
 
 -- two numbers of a tile that stand in one place are one
 one_place : (places width j i c k t d : ℕ) → i < places → t < places → c < width → d < width → tile_at places width j i c ≡ tile_at places width k t d → (j ≡ k) × (i ≡ t) × (c ≡ d)
@@ -64,7 +62,7 @@ next_session places width j i c at step e f =
 pub no_strip : (f : ℕ → ℤ) (places width i c : ℕ) (tile : List ℤ) → IsStrip f places width 0 i c tile tile
 no_strip f places width i c tile = record { size = refl; written = λ j h. absurd (omega arith); others = λ j t d ht hd ne. refl }
 
-pub one_strip : (f : ℕ → ℤ) (places width n i c : ℕ) (old new : List ℤ) (x : ℤ) (at : ℕ) → IsStrip f places width n i c old new → n < 8 → i < places → c < width → 8 * places * width ≤ length new
+pub one_strip : (f : ℕ → ℤ) (places width n i c : ℕ) (old new : List ℤ) (x : ℤ) (at : ℕ) → IsStrip f places width n i c old new → n < height → i < places → c < width → height * places * width ≤ length new
     → at ≡ tile_at places width n i c → x ≡ f n → IsStrip f places width (n + 1) i c old (set new at x)
 one_strip f places width n i c old new x at strip few place number room is value = rw is (record {
   size = length-set new (tile_at places width n i c) x ∙ strip.size;
@@ -176,7 +174,7 @@ column-begun o first place n old mid new begun inside few strips =
 -- each of its rows is there
 pub rows-of-place : (o : Outcome) (first place n : ℕ) (old new : List ℤ) → IsBegun o first place n old new → length (pipeline_in o).columns ≤ n
     → ((k s : ℕ) (c : NamedColumn) → slice_get (pipeline_in o).columns k ≡ Some c → first ≤ s → s ≤ o.to → IsCell (cell_of (world_in o) (pipeline_in o) (sids_in o) c.term place s))
-    → (j : ℕ) → j < 8 → first + j ≤ o.to → IsTileRow o (first + j) place (in_row o new j place)
+    → (j : ℕ) → j < height → first + j ≤ o.to → IsTileRow o (first + j) place (in_row o new j place)
 rows-of-place o first place n old new begun all whole j h within =
     let few : j < sessions_in first o.to = omega arith in
     record {
@@ -188,7 +186,7 @@ rows-of-place o first place n old new begun all whole j h within =
 -- a place with no rows
 pub no-rows-of-place : (o : Outcome) (first place : ℕ) (old new : List ℤ) → IsBegun o first place 0 old new
     → ((j : ℕ) → j < sessions_in first o.to → has_row (world_in o) (pipeline_in o) (first + j) (sid_in (sids_in o) place) ≡ false)
-    → (j : ℕ) → j < 8 → first + j ≤ o.to → IsTileRow o (first + j) place (in_row o new j place)
+    → (j : ℕ) → j < height → first + j ≤ o.to → IsTileRow o (first + j) place (in_row o new j place)
 no-rows-of-place o first place old new begun none j h within =
     let few : j < sessions_in first o.to = omega arith in
     let mark = ap is_true (begun.marks j few) ∙ is_true-truth (has_row (world_in o) (pipeline_in o) (first + j) (sid_in (sids_in o) place)) in
@@ -201,7 +199,7 @@ no-rows-of-place o first place old new begun none j h within =
 
 -- the rows of one place more
 pub more-rows : (o : Outcome) (first n : ℕ) (old new : List ℤ) → HasRows o first n old → n < places_of o → IsPlace (places_of o) (width_of o) n old new
-    → ((j : ℕ) → j < 8 → first + j ≤ o.to → IsTileRow o (first + j) n (in_row o new j n)) → HasRows o first (n + 1) new
+    → ((j : ℕ) → j < height → first + j ≤ o.to → IsTileRow o (first + j) n (in_row o new j n)) → HasRows o first (n + 1) new
 more-rows o first n old new has few place own j i h within l = elim (cases_eq i n) [
   | inl e ↦ rw e (own j h within)
   | inr ne ↦ (
@@ -245,12 +243,3 @@ module _ (o : Outcome) (tile : List ℤ) (j i at m session : ℕ) (is : at ≡ (
         each = λ k c e. cell k (column-few o k c e) ∙ row.each is_there k c e;
         cell = λ k h. rw (cell k h) (row.cell is_there k h);
       }
-
--- the cell of a column of the code
-pub cell-there : (o : Outcome) (place session : ℕ) (values : List ℤ) → HasCells o place session values
-    → (i : ℕ) (t : TermId) → i < length (pipeline_in o).columns → option_map (λ (c : code.NamedColumn). c.term) (slice_get o.checked.now.columns i) ≡ Some t
-    → get_or values i (pos 0) ≡ cell_of (world_in o) (pipeline_in o) (sids_in o) t.0 place session
-cell-there o place session values has i t h e =
-    let d = has-column o.checked.now.columns i (omega (arith, columns-long o.checked.now.columns)) in
-    has.each i d.0 d.1
-    ∙ ap (λ (u : ℕ). cell_of (world_in o) (pipeline_in o) (sids_in o) u place session) (term-there o.checked.now.columns i t e d.0 d.1)

@@ -1,5 +1,7 @@
 -- The text of rows whose values stand in arrays, and the line that tells a run's numbers.
+pub mod Places
 pub mod Fields
+pub mod Writings
 pub mod Sums
 pub mod Outcomes
 pub mod Rows

@@ -17,6 +17,8 @@ use Rattle.pl_values.specs.Arrays.{cell_of, HasAll, Holds}
 use Rattle.pl_workspace.specs.Slots.{Live, slot_at}
 use Rattle.pl_table.specs.declared.outcome.Outcome.{Outcome}
 use Rattle.pl_table.specs.declared.rows.Cells.{Cells}
+use Rattle.pl_table.specs.declared.rows.Table.{Table}
+use Rattle.pl_table.specs.Writings.{AreWritings}
 
 abbrev pub world_in : Outcome → World
 world_in o = world_of o.world
@@ -58,9 +60,15 @@ pub record HasCells (o : Outcome) (place session : ℕ) (values : List ℤ) : Ty
   pub each : (k : ℕ) (c : NamedColumn) → slice_get (pipeline_in o).columns k ≡ Some c → get_or values k (pos 0) ≡ cell_of (world_in o) (pipeline_in o) (sids_in o) c.term place session
   pub cell : (k : ℕ) → k < length (pipeline_in o).columns → IsCell (get_or values k (pos 0))
 
+-- an outcome, with how its columns are written
+pub record IsTable (t : Table) : Type 0 where
+  pub outcome : IsOutcome t.outcome.now
+  pub writings : AreWritings (pipeline_in t.outcome.now) t.writings.now
+
 -- a row's cells, which are those of its asset on its session
 pub record AreCells (c : Cells) : Type 0 where
   pub outcome : IsOutcome c.outcome.now
+  pub writings : AreWritings (pipeline_in c.outcome.now) c.writings.now
   pub cells : HasCells c.outcome.now c.place c.session c.values.now
 
 -- the lines of rows

@@ -1,5 +1,6 @@
 -- The sum of the cells of rows.
 use Rattle.std.specs.Prelude.{ℕ, ◌*◌, ◌≤◌, ℤ, pos, ◌+ℤ◌, List, fold, unsigned_abs}
+use Rattle.pl_spec.specs.Limits.{most_columns}
 use Rattle.pl_spec.specs.Rounding.{LIMIT}
 use Rattle.pl_spec.specs.Value.{Value}
 use Rattle.pl_spec.specs.Table.{Row, summand}
@@ -13,4 +14,4 @@ rows_sum texts rows = fold (λ n r. n +ℤ values_sum texts r.values) (pos 0) ro
 
 -- so many rows of at most 64 cells
 abbrev pub IsSumOf : ℕ → ℤ → Type 0
-IsSumOf rows sum = unsigned_abs sum ≤ rows * (64 * LIMIT)
+IsSumOf rows sum = unsigned_abs sum ≤ rows * (most_columns * LIMIT)

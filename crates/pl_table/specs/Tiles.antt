@@ -9,9 +9,13 @@ use Rattle.pl_table.specs.declared.outcome.Outcome.{Outcome}
 use Rattle.pl_table.specs.Outcomes.{pipeline_in, sids_in, world_in}
 use Rattle.pl_table.specs.Rows.{has_row}
 
+-- the greatest number of its sessions
+abbrev pub height : ℕ
+height = 16
+
 -- how long it is for so many assets and columns
 abbrev pub tile_len : ℕ → ℕ → ℕ
-tile_len assets columns = 8 * assets * (columns + 1)
+tile_len assets columns = height * assets * (columns + 1)
 
 -- where number c of the row of place i on its j-th session stands
 abbrev pub tile_at : ℕ → ℕ → ℕ → ℕ → ℕ → ℕ
@@ -29,7 +33,7 @@ pub record IsTileRow (o : Outcome) (session place : ℕ) (row : ℕ → ℤ) : T
 
 -- the rows of the first n places, on the sessions from one on
 abbrev pub HasRows : Outcome → ℕ → ℕ → List ℤ → Type 0
-HasRows o first n tile = (j i : ℕ) → j < 8 → first + j ≤ o.to → i < n → IsTileRow o (first + j) i (in_row o tile j i)
+HasRows o first n tile = (j i : ℕ) → j < height → first + j ≤ o.to → i < n → IsTileRow o (first + j) i (in_row o tile j i)
 
 -- Number c of the rows of place i is f's on the first n sessions, and all other numbers are as before.
 pub record IsStrip (f : ℕ → ℤ) (places width n i c : ℕ) (old new : List ℤ) : Type 0 where
@@ -44,8 +48,8 @@ pub record IsPlace (places width i : ℕ) (old new : List ℤ) : Type 0 where
 
 -- how many sessions a tile has that begins with one, up to another
 abbrev pub sessions_in : ℕ → ℕ → ℕ
-sessions_in first to = min 8 (to + 1 - first)
+sessions_in first to = min height (to + 1 - first)
 
 -- the first session of the tile that has a session; the first of all begins with one
 abbrev pub first_in : ℕ → ℕ → ℕ
-first_in from session = session - (session - from) % 8
+first_in from session = session - (session - from) % height

@@ -91,9 +91,14 @@ fn put_number(line: &mut Line, format: Format, labels: &Labels, cell: i64)
         (cell_field format labels.now.texts Writing.Cell cell) }
     ensures within { length line.new ≤ length line.old + 131 }
 {
-    let mut text = [0u8; 32];
-    let len = write_decimal(cell, &mut text);
-    put_text(line, format, &text[..len]);
+    match format {
+        Format::Csv => line.put_decimal(cell),
+        Format::Fixed => {
+            let mut text = [0u8; 32];
+            let len = write_decimal(cell, &mut text);
+            put_text(line, format, &text[..len]);
+        }
+    }
 }
 
 fn put_truth(line: &mut Line, format: Format, labels: &Labels, cell: i64)

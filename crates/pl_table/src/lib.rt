@@ -9,6 +9,7 @@ mod header;
 mod line;
 mod numbers;
 mod outcome;
+mod place;
 mod rows;
 mod tile;
 mod totals;

@@ -1,6 +1,9 @@
 //! A line of the table.
-ghost use Rattle.std.specs.Prelude.{◌≡◌, ◌≤◌, ◌+◌, ◌++◌, [], length, replicate, IfOk};
+ghost use Rattle.std.specs.Prelude.{◌≡◌, ◌≤◌, ◌+◌, ◌++◌, [], ◌∷◌, length, replicate, IfOk};
+ghost use Rattle.pl_spec.specs.Rounding.{IsCell};
+ghost use Rattle.pl_spec.specs.Decimals.{cell_text};
 
+use crate::place::{place_byte, place_bytes, place_cell};
 use std::alloc::{AllocError, Global};
 use std::marker::Model;
 
@@ -8,20 +11,23 @@ use std::marker::Model;
 /// them, a label of 64 quotes in quotes, take 8,406 bytes.
 const MOST: usize = 8_448;
 
-/// A line that is put together before it is written. Its memory is taken once, by `reserve` alone.
+/// A line that is put together before it is written. Its memory is taken once, by `reserve` alone: all bytes
+/// are there from then on, and the first of them count.
 #[derive(Drop)]
 pub struct Line {
     bytes: Vec<u8>,
+    len: usize,
 }
 
 impl Model for Line {
-    ghost use Rattle.std.specs.Prelude.{ℕ, List, ◌≤◌, vec_capacity};
+    ghost use Rattle.std.specs.Prelude.{ℕ, List, take};
+    ghost use Rattle.pl_table.specs.Places.{IsLine};
 
     ghost Value = { List ℕ };
 
-    ghost view = { λ l. l.bytes.items };
+    ghost view = { λ l. take l.len l.bytes.items };
 
-    ghost invariant = { λ l. 8_448 ≤ vec_capacity l.bytes };
+    ghost invariant = { λ l. IsLine l.bytes.items l.len };
 }
 
 impl Line {
@@ -29,15 +35,15 @@ impl Line {
     pub fn reserve(alloc: Global) -> Result<Line, AllocError>
         ensures { IfOk result (λ line. line ≡ []) }
     {
-        let bytes = Vec::with_capacity(alloc, MOST)?;
-        Ok(Line { bytes })
+        let bytes = vec![in alloc; 0u8; MOST]?;
+        Ok(Line { bytes, len: 0 })
     }
 
     /// Begins anew: the line has no bytes.
     pub fn clear(&mut self)
         ensures { self.new ≡ [] }
     {
-        self.bytes.clear();
+        self.len = 0;
     }
 
     /// Puts bytes at the end, for which there is room.
@@ -45,7 +51,7 @@ impl Line {
         requires { length self.old + length piece.now ≤ 8_448 }
         ensures { self.new ≡ self.old ++ piece.now }
     {
-        self.bytes.extend_from_slice(piece).unwrap();
+        self.len = place_bytes(self.bytes.as_mut_slice(), self.len, piece);
     }
 
     /// Puts at most 20 spaces at the end.
@@ -58,10 +64,22 @@ impl Line {
         self.put(&spaces[..count]);
     }
 
+    /// Puts a comma and the decimal text of a cell, which is written where it is to stand.
+    pub(crate) fn put_decimal(&mut self, cell: i64)
+        requires cell { IsCell cell }
+        requires room { length self.old + 33 ≤ 8_448 }
+        ensures text { self.new ≡ self.old ++ 44 ∷ cell_text cell }
+        ensures within { length self.new ≤ length self.old + 33 }
+    {
+        let bytes = self.bytes.as_mut_slice();
+        let at = place_byte(bytes, self.len, b',');
+        self.len = place_cell(bytes, at, cell);
+    }
+
     /// Lends the bytes that were put so far.
     pub fn as_slice(&self) -> &[u8]
         ensures { result.now ≡ self.now }
     {
-        &self.bytes
+        &self.bytes[..self.len]
     }
 }

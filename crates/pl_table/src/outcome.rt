@@ -3,6 +3,7 @@ ghost use Rattle.std.specs.Prelude.{◌≡◌, ◌<◌, ◌≤◌, ◌+◌, ◌-
 ghost use Rattle.pl_spec.specs.Rounding.{IsCell};
 ghost use Rattle.pl_spec.specs.Graph.{contains};
 ghost use Rattle.pl_terms.specs.Uses.{outputs};
+ghost use Rattle.pl_cross.specs.Arrays.{sid_in};
 ghost use Rattle.pl_values.specs.Arrays.{cell_of};
 ghost use Rattle.pl_table.specs.Outcomes.{IsOutcome, IsWithin, pipeline_in, sids_in, world_in};
 
@@ -22,6 +23,15 @@ pub struct Outcome<'a> {
     pub from: usize,
     pub to: usize,
     pub workspace: &'a Workspace,
+}
+
+/// The sid of the asset in a place.
+pub(crate) fn sid_of(outcome: &Outcome<'_>, place: usize) -> u32
+    requires outcome { IsOutcome outcome.now }
+    requires place { place < length outcome.now.cols.now }
+    ensures { result ≡ sid_in (sids_in outcome.now) place }
+{
+    outcome.world.assets.sid(outcome.cols[place] as usize)
 }
 
 /// The cell of an output for the asset in a place on a session.

@@ -1,33 +1,44 @@
 //! The rows of sessions.
 ghost use Rattle.std.specs.Prelude.{◌≡◌, ◌≤◌, ◌<◌, ◌+◌, ◌-◌, ◌*◌, ◌++◌, ◌^◌, pos, ◌+ℤ◌, length, slice_get, unsigned_abs, Some, OnOk};
+ghost use Rattle.pl_spec.specs.Limits.{most_columns};
 ghost use Rattle.pl_spec.specs.Rounding.{LIMIT};
 ghost use Rattle.pl_spec.specs.World.{exists};
 ghost use Rattle.pl_spec.specs.Table.{NamedColumn, is_kept, row, session_rows};
 ghost use Rattle.pl_spec.specs.Text.{row_line};
 ghost use Rattle.pl_outside.specs.Taken.{IsWrittenIn, Writes};
 ghost use Rattle.pl_cross.specs.Arrays.{sid_in};
-ghost use Rattle.pl_table.specs.Outcomes.{AreCells, HasCells, IsOutcome, IsWithin, lines, pipeline_in, rows_of_sessions, sids_in, world_in};
+ghost use Rattle.pl_table.specs.Outcomes.{AreCells, HasCells, IsOutcome, IsTable, IsWithin, lines, pipeline_in, rows_of_sessions, sids_in, world_in};
 ghost use Rattle.pl_table.specs.Rows.{IsPut, has_row, row_values, value_fields};
 ghost use Rattle.pl_table.specs.Sums.{rows_sum, values_sum};
-ghost use Rattle.pl_table.specs.Tiles.{HasRows, first_in, tile_len};
+ghost use Rattle.pl_table.specs.Tiles.{HasRows, first_in, height, tile_len};
 
 use crate::fields::{put_cell, put_date, put_sid};
 use crate::line::Line;
-use crate::outcome::Outcome;
+use crate::outcome::{Outcome, sid_of};
 use crate::tile::{row_at, turn};
 use crate::totals::Totals;
-use crate::writing::writing_of;
+use crate::writing::{Writing, writings_of};
 use pl_fixed::MISSING;
 use pl_outside::{Failed, Sink, write_bytes};
 use pl_spec::Format;
 
-/// The cells of a row, which is that of the asset in a place on a session, column by column.
+/// The rows of an outcome, and how they are written: in which form, and the values of each column.
+#[derive(Clone, Copy)]
+struct Table<'a> {
+    outcome: &'a Outcome<'a>,
+    format: Format,
+    writings: &'a [Writing],
+}
+
+/// The cells of a row, which is that of the asset in a place on a session, column by column, and how each is
+/// written.
 #[derive(Clone, Copy)]
 struct Cells<'a> {
     outcome: &'a Outcome<'a>,
     place: usize,
     session: usize,
     values: &'a [i64],
+    writings: &'a [Writing],
 }
 
 /// Writes the rows of all sessions of an outcome, session by session and by ascending sid, each in one piece,
@@ -63,47 +74,52 @@ pub fn write_rows<O: Sink>(
         + (outcome.now.to + 1 - outcome.now.from) * length outcome.now.cols.now) }
     ensures room { length tile.new ≡ length tile.old }
 {
+    let writings = writings_of(outcome.checked);
+    let table = Table {
+        outcome: &*outcome,
+        format,
+        writings: &writings,
+    };
     for session in outcome.from..outcome.to + 1 {
         let first = turn(outcome, session, tile);
-        write_session(outcome, first, session, &*tile, format, line, totals, out)?;
+        write_session(&table, first, session, &*tile, line, totals, out)?;
     }
     Ok(())
 }
 
 // Writes the rows of one session.
 fn write_session<O: Sink>(
-    outcome: &Outcome<'_>,
+    table: &Table<'_>,
     first: usize,
     session: usize,
     tile: &[i64],
-    format: Format,
     line: &mut Line,
     totals: &mut Totals,
     out: &mut O,
 ) -> Result<(), Failed>
-    requires outcome { IsOutcome outcome.now }
+    requires table { IsTable table.now }
     requires first { first ≤ session }
-    requires near { session < first + 8 }
-    requires session { IsWithin outcome.now session }
-    requires room { tile_len (length outcome.now.cols.now) (length (pipeline_in outcome.now).columns)
-        ≤ length tile.now }
-    requires tile { HasRows outcome.now first (length outcome.now.cols.now) tile.now }
-    requires few { totals.old.rows + length outcome.now.cols.now < 2 ^ 63 }
-    ensures writes { Writes O.taken O.faults O.sound O.room out.old out.new
-        (lines (world_in outcome.now) (pipeline_in outcome.now) format
-        (session_rows (world_in outcome.now) (pipeline_in outcome.now) (pos session))) result }
+    requires near { session < first + height }
+    requires session { IsWithin table.now.outcome.now session }
+    requires room { let o = table.now.outcome.now in
+        tile_len (length o.cols.now) (length (pipeline_in o).columns) ≤ length tile.now }
+    requires rows { let o = table.now.outcome.now in HasRows o first (length o.cols.now) tile.now }
+    requires few { totals.old.rows + length table.now.outcome.now.cols.now < 2 ^ 63 }
+    ensures writes { let o = table.now.outcome.now in Writes O.taken O.faults O.sound O.room out.old out.new
+        (lines (world_in o) (pipeline_in o) table.now.format
+        (session_rows (world_in o) (pipeline_in o) (pos session))) result }
     ensures pieces { OnOk result (IsWrittenIn O.whole O.calls out.old out.new
         (totals.new.rows - totals.old.rows)) }
-    ensures rows { OnOk result (totals.new.rows ≡ totals.old.rows
-        + length (session_rows (world_in outcome.now) (pipeline_in outcome.now) (pos session))) }
-    ensures sum { OnOk result (totals.new.sum ≡ totals.old.sum
-        +ℤ rows_sum (world_in outcome.now).texts
-        (session_rows (world_in outcome.now) (pipeline_in outcome.now) (pos session))) }
-    ensures few { OnOk result (totals.new.rows ≤ totals.old.rows + length outcome.now.cols.now) }
+    ensures rows { let o = table.now.outcome.now in OnOk result (totals.new.rows ≡ totals.old.rows
+        + length (session_rows (world_in o) (pipeline_in o) (pos session))) }
+    ensures sum { let o = table.now.outcome.now in OnOk result (totals.new.sum ≡ totals.old.sum
+        +ℤ rows_sum (world_in o).texts (session_rows (world_in o) (pipeline_in o) (pos session))) }
+    ensures few { OnOk result (totals.new.rows ≤ totals.old.rows + length table.now.outcome.now.cols.now) }
 {
+    let outcome = table.outcome;
     for place in 0..outcome.cols.len() {
         if let Some(values) = row_at(outcome, first, session, place, tile) {
-            write_row(outcome, place, session, values, format, line, totals, out)?;
+            write_row(table, place, session, values, line, totals, out)?;
         }
     }
     Ok(())
@@ -111,43 +127,40 @@ fn write_session<O: Sink>(
 
 // Writes the row of one asset.
 fn write_row<O: Sink>(
-    outcome: &Outcome<'_>,
+    table: &Table<'_>,
     place: usize,
     session: usize,
     values: &[i64],
-    format: Format,
     line: &mut Line,
     totals: &mut Totals,
     out: &mut O,
 ) -> Result<(), Failed>
-    requires outcome { IsOutcome outcome.now }
-    requires place { place < length outcome.now.cols.now }
-    requires session { IsWithin outcome.now session }
-    requires values { HasCells outcome.now place session values.now }
+    requires table { IsTable table.now }
+    requires place { place < length table.now.outcome.now.cols.now }
+    requires session { IsWithin table.now.outcome.now session }
+    requires values { HasCells table.now.outcome.now place session values.now }
     requires few { totals.old.rows < 2 ^ 63 }
-    ensures writes { Writes O.taken O.faults O.sound O.room out.old out.new
-        (row_line (world_in outcome.now) (pipeline_in outcome.now) format
-        (row (world_in outcome.now) (pipeline_in outcome.now) (pos session)
-        (sid_in (sids_in outcome.now) place))) result }
+    ensures writes { let o = table.now.outcome.now in Writes O.taken O.faults O.sound O.room out.old out.new
+        (row_line (world_in o) (pipeline_in o) table.now.format
+        (row (world_in o) (pipeline_in o) (pos session) (sid_in (sids_in o) place))) result }
     ensures pieces { IsWrittenIn O.whole O.calls out.old out.new 1 }
     ensures rows { totals.new.rows ≡ totals.old.rows + 1 }
-    ensures sum { totals.new.sum ≡ totals.old.sum +ℤ values_sum (world_in outcome.now).texts
-        (row (world_in outcome.now) (pipeline_in outcome.now) (pos session)
-        (sid_in (sids_in outcome.now) place)).values }
+    ensures sum { let o = table.now.outcome.now in totals.new.sum ≡ totals.old.sum
+        +ℤ values_sum (world_in o).texts
+        (row (world_in o) (pipeline_in o) (pos session) (sid_in (sids_in o) place)).values }
 {
+    let outcome = table.outcome;
+    let format = table.format;
     let cells = Cells {
         outcome: &*outcome,
         place,
         session,
         values: &*values,
+        writings: table.writings,
     };
     line.clear();
     put_date(line, format, outcome.world.sessions.day(session));
-    put_sid(
-        line,
-        format,
-        outcome.world.assets.sid(outcome.cols[place] as usize),
-    );
+    put_sid(line, format, sid_of(outcome, place));
     let sum = put_values(&cells, format, line);
     line.put(b"\n");
     totals.count_row(sum);
@@ -167,7 +180,7 @@ fn put_values(cells: &Cells<'_>, format: Format, line: &mut Line) -> i128
         (row_values (world_in cells.now.outcome.now) (pipeline_in cells.now.outcome.now)
         (sid_in (sids_in cells.now.outcome.now) cells.now.place) (pos cells.now.session)
         (pipeline_in cells.now.outcome.now).columns) }
-    ensures small { unsigned_abs result ≤ 64 * LIMIT }
+    ensures small { unsigned_abs result ≤ most_columns * LIMIT }
 {
     let checked = cells.outcome.checked;
     let mut sum = 0i128;
@@ -190,9 +203,8 @@ fn put_value(cells: &Cells<'_>, column: usize, format: Format, line: &mut Line) 
     ensures small { unsigned_abs result ≤ LIMIT }
 {
     let outcome = cells.outcome;
-    let term = outcome.checked.column_term(column);
-    let writing = writing_of(outcome.checked.graph(), term);
     let cell = cells.values[column];
+    let writing = cells.writings[column];
     put_cell(line, format, writing, cell, outcome.world.labels);
     if cell == MISSING { 0 } else { i128::from(cell) }
 }

@@ -3,24 +3,26 @@
 
 ghost use Rattle.std.specs.Prelude.{◌≡◌, ◌≤◌, ◌<◌, ◌+◌, ◌-◌, ◌*◌, ◌^◌, ℕ, true, false, pos, length, get_or, slice_get, Some, IfSome, IfNone};
 ghost use Rattle.pl_spec.specs.Formula.{truth};
+ghost use Rattle.pl_spec.specs.Limits.{most_columns};
 ghost use Rattle.pl_spec.specs.Table.{NamedColumn};
 ghost use Rattle.pl_cross.specs.Arrays.{sid_in};
 ghost use Rattle.pl_values.specs.Arrays.{cell_of};
 ghost use Rattle.pl_table.specs.Outcomes.{HasCells, IsOutcome, IsWithin, pipeline_in, sids_in, world_in};
 ghost use Rattle.pl_table.specs.Rows.{has_row};
-ghost use Rattle.pl_table.specs.Tiles.{HasRows, IsPlace, IsStrip, IsTileRow, first_in, in_row, sessions_in, tile_len};
+ghost use Rattle.pl_table.specs.Tiles.{HasRows, IsPlace, IsStrip, IsTileRow, first_in, height, in_row, sessions_in, tile_len};
 
 use crate::asked::has_row;
 use crate::outcome::{Outcome, cells_from};
+use pl_values::truth_of;
 
 /// The greatest number of sessions in a tile.
-const HEIGHT: usize = 8;
+const HEIGHT: usize = 16;
 
 /// How many numbers a tile has for so many assets and columns: of each row whether it is there, and its
 /// cells.
 pub fn tile_len(assets: usize, columns: usize) -> usize
     requires assets { assets < 2 ^ 32 }
-    requires columns { columns ≤ 64 }
+    requires columns { columns ≤ most_columns }
     ensures { result ≡ tile_len assets columns }
 {
     HEIGHT * assets * (columns + 1)
@@ -66,7 +68,7 @@ fn fill_place(outcome: &Outcome<'_>, first: usize, place: usize, tile: &mut [i64
     requires place { place < length outcome.now.cols.now }
     requires room { tile_len (length outcome.now.cols.now) (length (pipeline_in outcome.now).columns)
         ≤ length tile.old }
-    ensures rows { (j : ℕ) → j < 8 → first + j ≤ outcome.now.to
+    ensures rows { (j : ℕ) → j < height → first + j ≤ outcome.now.to
         → IsTileRow outcome.now (first + j) place (in_row outcome.now tile.new j place) }
     ensures others { IsPlace (length outcome.now.cols.now) (length (pipeline_in outcome.now).columns + 1)
         place tile.old tile.new }
@@ -101,12 +103,6 @@ fn mark_rows(outcome: &Outcome<'_>, first: usize, place: usize, tile: &mut [i64]
         some = some || is;
     }
     some
-}
-
-fn truth_of(holds: bool) -> i64
-    ensures { result ≡ truth holds }
-{
-    if holds { 1 } else { 0 }
 }
 
 // Copies the cells of a column. Those of one session stand a row of all assets behind those of the session
@@ -146,7 +142,7 @@ fn width_of(outcome: &Outcome<'_>) -> usize
 // Where the row of a place starts on the j-th session.
 fn start_of(outcome: &Outcome<'_>, j: usize, place: usize, tile: &[i64]) -> usize
     requires outcome { IsOutcome outcome.now }
-    requires session { j < 8 }
+    requires session { j < height }
     requires place { place < length outcome.now.cols.now }
     requires room { tile_len (length outcome.now.cols.now) (length (pipeline_in outcome.now).columns)
         ≤ length tile.now }
@@ -167,7 +163,7 @@ pub(crate) fn row_at<'t>(
 ) -> Option<&'t [i64]>
     requires outcome { IsOutcome outcome.now }
     requires first { first ≤ session }
-    requires near { session < first + 8 }
+    requires near { session < first + height }
     requires session { IsWithin outcome.now session }
     requires place { place < length outcome.now.cols.now }
     requires room { tile_len (length outcome.now.cols.now) (length (pipeline_in outcome.now).columns)

@@ -1,6 +1,7 @@
 //! What is counted of the rows.
 ghost use Rattle.std.specs.Prelude.{◌≡◌, ◌≤◌, ◌<◌, ◌+◌, ◌*◌, ◌^◌, pos, ◌+ℤ◌, unsigned_abs};
 ghost use Rattle.std.specs.Int.{int_rem_euclid};
+ghost use Rattle.pl_spec.specs.Limits.{most_columns};
 ghost use Rattle.pl_spec.specs.Rounding.{LIMIT};
 ghost use Rattle.pl_table.specs.Sums.{IsSumOf};
 
@@ -24,7 +25,7 @@ impl Totals {
     /// Counts a row, whose cells have a sum.
     pub(crate) fn count_row(&mut self, sum: i128)
         requires rows { self.old.rows < 2 ^ 63 }
-        requires sum { unsigned_abs sum ≤ 64 * LIMIT }
+        requires sum { unsigned_abs sum ≤ most_columns * LIMIT }
         ensures rows { self.new.rows ≡ self.old.rows + 1 }
         ensures sum { self.new.sum ≡ self.old.sum +ℤ sum }
     {

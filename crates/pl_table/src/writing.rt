@@ -3,9 +3,11 @@ ghost use Rattle.std.specs.Prelude.{◌≡◌, ◌<◌, Some, length, slice_get}
 ghost use Rattle.pl_terms.specs.Kinds.{is_kind, is_not_kind, kind_of};
 ghost use Rattle.pl_terms.specs.Nodes.{graph_of};
 ghost use Rattle.pl_terms.specs.Sorts.{sort_at, sort_of};
+ghost use Rattle.pl_terms.specs.Checked.{pipeline_of};
 ghost use Rattle.pl_table.specs.Fields.{sort_written};
+ghost use Rattle.pl_table.specs.Writings.{AreWritings};
 
-use pl_terms::{Graph, LabelValue, TermId, TermKind, sorting_kind};
+use pl_terms::{Checked, Graph, LabelValue, TermId, TermKind, sorting_kind};
 
 /// The form of a value: the cell of a factor with six decimals, `true` or `false` of a filter, the whole
 /// number of a numbered classifier, or the text of a label.
@@ -15,6 +17,18 @@ pub enum Writing {
     Truth,
     Whole,
     Label,
+}
+
+/// How the values of each column are written. There are at most 64.
+pub(crate) fn writings_of(checked: &Checked) -> [Writing; 64]
+    ensures { AreWritings (pipeline_of checked.now) result }
+{
+    let graph = checked.graph();
+    let mut writings = [Writing::Cell; 64];
+    for column in 0..checked.columns() {
+        writings[column] = writing_of(graph, checked.column_term(column));
+    }
+    writings
 }
 
 /// How the values of a term are written: a downsampled one's as its input's.

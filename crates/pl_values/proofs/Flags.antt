@@ -2,6 +2,7 @@
 use Rattle.std.proofs.Common.{◌≡◌, ℕ, Bool, true, false, if◌then◌else◌, ℤ, pos, List, [], Some, refl, ◌∙◌, slice_get, ◌==◌, ◌&&◌}
 use Rattle.std.specs.List.{list_any}
 use Rattle.pl_spec.specs.World.{World, exists}
+use Rattle.pl_spec.specs.Kind as kinds
 use Rattle.pl_spec.specs.Kind.{Kind, WindowKind, PointKind, LabelKind, CrossKind}
 use Rattle.pl_spec.specs.Kind.Kind.{Constant, Label, StaticSids, Window, Point, LabelTest, Cross, Downsample}
 use Rattle.pl_spec.specs.Kind.WindowKind.{All, Any, AtLeastN, AllPresent}
@@ -76,6 +77,7 @@ unfolding step sort_of
 step_truth w names (Constant c) size x y z m g a d h = absurd (let bad : Factors ≡ Filters = h in cc)
 step_truth w names (Label n) size x y z m g a d h = absurd (let bad : Labels ≡ Filters = h in cc)
 step_truth w names (Downsample f) size x y z m g a d h = absurd (let bad : Factors ≡ Filters = h in cc)
+step_truth w names (kinds.Number n) size x y z m g a d h = absurd (let bad : Factors ≡ Filters = h in cc)
 step_truth w names (StaticSids sids) size x y z m g a d h = (_, refl)
 step_truth w names (Window k) size x y z m g a d h = window_truth k _ _ _ h
 step_truth w names (Point k) size x y z m g a d h = point_truth k _ _ _ h
@@ -108,6 +110,7 @@ unfolding sort_of
 empty_truth (Constant c) h = absurd (let bad : Factors ≡ Filters = h in cc)
 empty_truth (Label n) h = absurd (let bad : Labels ≡ Filters = h in cc)
 empty_truth (Downsample f) h = absurd (let bad : Factors ≡ Filters = h in cc)
+empty_truth (kinds.Number n) h = absurd (let bad : Factors ≡ Filters = h in cc)
 empty_truth (StaticSids sids) h = (false, refl)
 empty_truth (Window k) h = window_empty k h
 empty_truth (Point k) h = point_empty k h

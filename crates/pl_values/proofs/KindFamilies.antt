@@ -5,7 +5,7 @@ use Rattle.std.specs.List.{list_any}
 use Rattle.std.proofs.lemmas.Bool.{true≢false}
 use Rattle.pl_spec.specs.Rounding.{IsCell, is_missing}
 use Rattle.pl_spec.specs.Kind.{Kind, WindowKind, PointKind, LabelKind, CrossKind}
-use Rattle.pl_spec.specs.Kind.Kind.{Constant, Label, StaticSids, Window, Point, LabelTest, Cross, Downsample}
+use Rattle.pl_spec.specs.Kind.Kind.{Constant, Label, Number, StaticSids, Window, Point, LabelTest, Cross, Downsample}
 use Rattle.pl_spec.specs.declared.Frequency.{Frequency}
 use Rattle.pl_spec.specs.Formula.{truth}
 use Rattle.pl_spec.specs.Pointwise.{label_test}
@@ -18,6 +18,7 @@ pub sids_kind : (k : Kind) → is_sids k ≡ true → (own : List ℕ) × (k ≡
 sids_kind (StaticSids own) e = (own, refl)
 sids_kind (Constant x) e = absurd (true≢false (sym e))
 sids_kind (Label x) e = absurd (true≢false (sym e))
+sids_kind (Number x) e = absurd (true≢false (sym e))
 sids_kind (Window x) e = absurd (true≢false (sym e))
 sids_kind (Point x) e = absurd (true≢false (sym e))
 sids_kind (LabelTest x) e = absurd (true≢false (sym e))
@@ -28,6 +29,7 @@ pub point_kind : (k : Kind) → is_point k ≡ true → (f : PointKind) × (k �
 point_kind (Point f) e = (f, refl)
 point_kind (Constant x) e = absurd (true≢false (sym e))
 point_kind (Label x) e = absurd (true≢false (sym e))
+point_kind (Number x) e = absurd (true≢false (sym e))
 point_kind (StaticSids x) e = absurd (true≢false (sym e))
 point_kind (Window x) e = absurd (true≢false (sym e))
 point_kind (LabelTest x) e = absurd (true≢false (sym e))
@@ -38,6 +40,7 @@ pub label_test_kind : (k : Kind) → is_label_test k ≡ true → (f : LabelKind
 label_test_kind (LabelTest f) e = (f, refl)
 label_test_kind (Constant x) e = absurd (true≢false (sym e))
 label_test_kind (Label x) e = absurd (true≢false (sym e))
+label_test_kind (Number x) e = absurd (true≢false (sym e))
 label_test_kind (StaticSids x) e = absurd (true≢false (sym e))
 label_test_kind (Window x) e = absurd (true≢false (sym e))
 label_test_kind (Point x) e = absurd (true≢false (sym e))
@@ -48,6 +51,7 @@ pub section_kind : (k : Kind) → is_section k ≡ true → (f : CrossKind) × (
 section_kind (Cross f) e = (f, refl)
 section_kind (Constant x) e = absurd (true≢false (sym e))
 section_kind (Label x) e = absurd (true≢false (sym e))
+section_kind (Number x) e = absurd (true≢false (sym e))
 section_kind (StaticSids x) e = absurd (true≢false (sym e))
 section_kind (Window x) e = absurd (true≢false (sym e))
 section_kind (Point x) e = absurd (true≢false (sym e))
@@ -58,6 +62,7 @@ pub window_kind : (k : Kind) → is_windowed k ≡ true → (f : WindowKind) × 
 window_kind (Window f) e = (f, refl)
 window_kind (Constant x) e = absurd (true≢false (sym e))
 window_kind (Label x) e = absurd (true≢false (sym e))
+window_kind (Number x) e = absurd (true≢false (sym e))
 window_kind (StaticSids x) e = absurd (true≢false (sym e))
 window_kind (Point x) e = absurd (true≢false (sym e))
 window_kind (LabelTest x) e = absurd (true≢false (sym e))
@@ -68,6 +73,7 @@ pub downsampled_kind : (k : Kind) → is_downsampled k ≡ true → (f : Frequen
 downsampled_kind (Downsample f) e = (f, refl)
 downsampled_kind (Constant x) e = absurd (true≢false (sym e))
 downsampled_kind (Label x) e = absurd (true≢false (sym e))
+downsampled_kind (Number x) e = absurd (true≢false (sym e))
 downsampled_kind (StaticSids x) e = absurd (true≢false (sym e))
 downsampled_kind (Window x) e = absurd (true≢false (sym e))
 downsampled_kind (Point x) e = absurd (true≢false (sym e))

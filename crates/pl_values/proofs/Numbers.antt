@@ -2,6 +2,7 @@
 use Rattle.std.proofs.Common.{◌≡◌, ℕ, Bool, true, false, ◌&&◌, if◌then◌else◌, ℤ, pos, List, Option, Some, refl, sym, subst, ◌∙◌, slice_get, ◌==◌, inl}
 use Rattle.std.specs.List.{list_any}
 use Rattle.pl_spec.specs.World.{World, exists}
+use Rattle.pl_spec.specs.Kind as kinds
 use Rattle.pl_spec.specs.Kind.{Kind, WindowKind, PointKind, LabelKind, CrossKind}
 use Rattle.pl_spec.specs.Kind.WindowKind.{All, Any, AtLeastN, AllPresent}
 use Rattle.pl_spec.specs.Kind.PointKind.{Add, Sub, Mul, Div, Neg, Abs, Clip, FillNa, IfElse}
@@ -49,6 +50,7 @@ unfolding step
 step_number w names (Constant c) size x y z m g a d h = (c, refl)
 step_number w names (Label n) size x y z m g a d h = absurd (let bad : false ≡ true = h in cc)
 step_number w names (Downsample f) size x y z m g a d h = absurd (let bad : false ≡ true = h in cc)
+step_number w names (kinds.Number n) size x y z m g a d h = (_, refl)
 step_number w names (StaticSids sids) size x y z m g a d h = (_, refl)
 step_number w names (Window k) size x y z m g a d h = (_, refl)
 step_number w names (Point k) size x y z m g a d h = (_, refl)
@@ -62,6 +64,7 @@ unfolding sort_of
 not_label (Label n) h f = absurd (f refl)
 not_label (Downsample f) h g = absurd (let bad : true ≡ false = h in cc)
 not_label (Constant c) h f = refl
+not_label (kinds.Number n) h f = refl
 not_label (StaticSids sids) h f = refl
 not_label (Window k) h f = refl
 not_label (Point k) h f = refl
@@ -99,6 +102,7 @@ label_kind : (k : Kind) → sort_of k ≡ Labels → (l : ℕ) × (k ≡ Label l
 unfolding sort_of
 label_kind (Label l) e = (l, refl)
 label_kind (Constant c) e = absurd (let bad : Factors ≡ Labels = e in cc)
+label_kind (kinds.Number n) e = absurd (let bad : Factors ≡ Labels = e in cc)
 label_kind (StaticSids sids) e = absurd (let bad : Filters ≡ Labels = e in cc)
 label_kind (Window k) e = absurd (window_not k e)
 label_kind (Point k) e = absurd (point_not k e)

@@ -1,14 +1,16 @@
 -- Constants, lists of sids, labels and tests of labels.
-use Rattle.std.proofs.Common.{◌≡◌, ℕ, ◌<◌, true, false, ℤ, pos, List, [], Option, Some, None, length, refl, sym, ◌∙◌, ap, arith, slice_get, get_or, inl, inr, nat_lt, position, unwrap_or, bytes_eq, Contains}
+use Rattle.std.proofs.Common.{◌≡◌, ℕ, ◌<◌, true, false, ℤ, pos, List, [], Option, Some, None, length, refl, sym, ◌∙◌, ap, arith, slice_get, get_or, inl, inr, nat_lt, position, unwrap_or, option_map, bytes_eq, Contains}
 use Rattle.std.proofs.Common.{true≢false}
 use Rattle.std.proofs.lemmas.Bool.Decides.{nat_tests}
 use Rattle.std.proofs.lemmas.Slice.Eq.{bytes_eq-Decides}
 use Rattle.std.proofs.lemmas.List.Quantifiers.{position-Some}
 use Rattle.pl_spec.proofs.Places.{nowhere}
-use Rattle.pl_spec.specs.World.{label_at}
+use Rattle.pl_spec.specs.Numbers.{number_at}
+use Rattle.pl_spec.specs.Rounding.{MISSING}
+use Rattle.pl_spec.specs.World.{World, day_of, label_at, known_number}
 use Rattle.pl_spec.specs.Kind.{Kind, LabelKind}
 use Rattle.pl_spec.specs.declared.Frequency.{Frequency}
-use Rattle.pl_spec.specs.Kind.Kind.{Constant, Label, LabelTest, Downsample}
+use Rattle.pl_spec.specs.Kind.Kind.{Constant, Label, Number, LabelTest, Downsample}
 use Rattle.pl_spec.specs.Formula.{truth}
 use Rattle.pl_spec.specs.Pointwise.{label_test}
 use Rattle.pl_spec.specs.Term.{Node, Input}
@@ -21,7 +23,7 @@ use Rattle.pl_cross.specs.Arrays.{sid_in}
 use Rattle.pl_cross.proofs.Codes.{IsCoded}
 use Rattle.pl_values.specs.Arrays.{cell_of}
 use Rattle.pl_values.specs.Families.{sid_flag, label_code, IsCode, code_flag}
-use Rattle.pl_values.specs.Laws.{UnkeptCells, ConstantCells, SidCells, LabelCells, LabelTestCells, DownsampledCells}
+use Rattle.pl_values.specs.Laws.{UnkeptCells, ConstantCells, SidCells, LabelCells, NumberCells, LabelTestCells, DownsampledCells}
 use Rattle.pl_values.proofs.Typed.{has-input, label-sort}
 use Rattle.pl_values.proofs.Downsampled.{over}
 use Rattle.pl_values.proofs.Numbers.{coded-sort}
@@ -54,6 +56,25 @@ label-cell w p sids k n i s own name e = (
   label-below n.kind n.window _ name e (own.checked.nodes k n own.node).parameters,
   gated w p sids own.checked k n own.node i s (label_code w.texts (label_at w (name_at p.names name) (sid_in sids i) (pos s))) (rw e refl),
 )
+
+number-below : (k : Kind) (w names name : ℕ) → k ≡ Number name → has_parameters k w names ≡ true → name < names
+unfolding has_parameters
+number-below k w names name e h = let l : nat_lt name names ≡ true = rw e at h in grind (arith, nat_tests)
+
+pub number-cell : NumberCells
+unfolding step
+number-cell w p sids k n i s own name e = (
+  number-below n.kind n.window _ name e (own.checked.nodes k n own.node).parameters,
+  gated w p sids own.checked k n own.node i s (known_number w (name_at p.names name) (sid_in sids i) (pos s)) (rw e refl),
+)
+
+-- a world without numbers has none of any asset
+pub no-numbers : (w : World) → w.numbers ≡ [] → (name : List ℕ) (a : ℕ) (d : ℤ) → known_number w name a d ≡ MISSING
+no-numbers w e name a d = ap (λ rows. unwrap_or (option_map (number_at rows name a) (day_of w d)) MISSING) e ∙ here (day_of w d)
+  where
+    here : (o : Option ℤ) → unwrap_or (option_map (number_at [] name a) o) MISSING ≡ MISSING
+    here None = refl
+    here (Some day) = refl
 
 -- ---- tests of labels
 

@@ -23,7 +23,7 @@ text-there texts [] h k = absurd (h refl)
 text-there texts (b ∷ bs) h k = k
 
 pub texts-coded : TextsHaveCodes
-texts-coded days assets t bars adjustments own r there full =
+texts-coded days assets t bars adjustments numbers own r there full =
     let made = in-map (label_of assets) t.rows r (contains-in (map (label_of assets) t.rows) r there) in
     let same : r.text ≡ made.0.text = ap (λ (q : LabelRow). q.text) made.2 in
     let at = in-contains t.rows made.0 made.1 in

@@ -2,12 +2,12 @@
 -- any checked pipeline.
 use Rattle.std.specs.Prelude.{◌≡◌, ℕ, ◌+◌, ◌<◌, ◌≤◌, false, ℤ, pos, List, length, Option, Some, slice_get, get_or}
 use Rattle.pl_spec.specs.Rounding.{IsCell}
-use Rattle.pl_spec.specs.World.{World, label_at}
+use Rattle.pl_spec.specs.World.{World, label_at, known_number}
 use Rattle.pl_spec.specs.Kind as spec
 use Rattle.pl_spec.specs.Kind.{WindowKind, PointKind, LabelKind, CrossKind}
 use Rattle.pl_spec.specs.Periods.{period_start}
 use Rattle.pl_spec.specs.declared.Frequency.{Frequency}
-use Rattle.pl_spec.specs.Parts.{ColumnAdjustment, world_of}
+use Rattle.pl_spec.specs.Parts.{ColumnAdjustment, ColumnNumber, world_of}
 use Rattle.pl_spec.specs.Term.{Node}
 use Rattle.pl_spec.specs.Term.Input.{TermInput}
 use Rattle.pl_spec.specs.Table.{Pipeline}
@@ -73,6 +73,11 @@ abbrev pub LabelCells : Type 0
 LabelCells = OfNodes (λ w p sids k n i s. (name : ℕ) → n.kind ≡ spec.Label name
     → (name < length p.names) × IsGiven w p sids k n i s (label_code w.texts (label_at w (name_at p.names name) (sid_in sids i) (pos s))))
 
+-- so is the name of a number, which is as given
+abbrev pub NumberCells : Type 0
+NumberCells = OfNodes (λ w p sids k n i s. (name : ℕ) → n.kind ≡ spec.Number name
+    → (name < length p.names) × IsGiven w p sids k n i s (known_number w (name_at p.names name) (sid_in sids i) (pos s)))
+
 -- a test of the label that a code stands for
 abbrev pub LabelTestCells : Type 0
 LabelTestCells = OfNodes (λ w p sids k n i s. (f : LabelKind) (t : ℕ) → HasTexts w → n.kind ≡ spec.LabelTest f
@@ -97,5 +102,6 @@ FilterCells = (w : World) (p : Pipeline) (sids : List ℕ) (t i s : ℕ) → IsC
 
 -- in the world of a table of labels each text has a code
 abbrev pub TextsHaveCodes : Type 0
-TextsHaveCodes = (days : List ℤ) (assets : List AssetRow) (t : LabelTable) (bars : List BarRow) (adjustments : List ColumnAdjustment)
-    → AreLabels t → HasTexts (world_of days assets t.rows t.texts bars adjustments)
+TextsHaveCodes = (days : List ℤ) (assets : List AssetRow) (t : LabelTable) (bars : List BarRow)
+    (adjustments : List ColumnAdjustment) (numbers : List ColumnNumber)
+    → AreLabels t → HasTexts (world_of days assets t.rows t.texts bars adjustments numbers)

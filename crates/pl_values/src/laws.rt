@@ -1,6 +1,6 @@
 //! What the cells of a numbered term are, over the cells of the terms that it mentions. The functions do
 //! nothing: the contract of each is a law.
-ghost use Rattle.pl_values.specs.Laws.{UnkeptCells, ConstantCells, WindowCells, PointCells, PointOperands, SidCells, LabelCells, LabelTestCells, SectionCells, DownsampledCells, FilterCells, TextsHaveCodes};
+ghost use Rattle.pl_values.specs.Laws.{UnkeptCells, ConstantCells, WindowCells, PointCells, PointOperands, SidCells, LabelCells, NumberCells, LabelTestCells, SectionCells, DownsampledCells, FilterCells, TextsHaveCodes};
 
 /// In a checked pipeline the cell of a term for an asset on a session is the empty one where the asset does
 /// not exist or does not pass the term's mask, and else what the call of its kind's family gives over the
@@ -13,6 +13,7 @@ pub fn cells_are_given()
     ensures operands { PointOperands }
     ensures sids { SidCells }
     ensures labels { LabelCells }
+    ensures numbers { NumberCells }
     ensures label_tests { LabelTestCells }
     ensures sections { SectionCells }
     ensures downsampled { DownsampledCells }

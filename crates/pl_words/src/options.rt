@@ -12,6 +12,9 @@ use clap::ArgMatches;
 use pl_fixed::{is_name, read_day, read_sid};
 use pl_spec::Format;
 
+// How many sessions a chunk has at most.
+const MOST_CHUNK: u32 = 4096;
+
 pub(crate) fn options<'a>(matches: &ArgMatches<'a>) -> Option<Options<'a>>
     ensures { MatchOption result (options_by (values_in matches.now) ≡ None)
         (λ s. options_by (values_in matches.now) ≡ Some (options_of s)) }
@@ -118,7 +121,7 @@ fn chunk_in(text: &str) -> Option<u32>
 {
     // The bytes of a sid are those of any number of 32 bits without sign or leading zeros.
     let number = read_sid(text.as_bytes())?;
-    if 1 <= number && number <= 4096 {
+    if 1 <= number && number <= MOST_CHUNK {
         Some(number)
     } else {
         None

@@ -103,6 +103,7 @@ unfolding has_window
 one-of (kinds.Window f) size e h = absurd (let bad : true ≡ false = e in cc)
 one-of (kinds.Constant f) size e h = grind (arith, nat_tests)
 one-of (kinds.Label f) size e h = grind (arith, nat_tests)
+one-of (kinds.Number f) size e h = grind (arith, nat_tests)
 one-of (kinds.StaticSids f) size e h = grind (arith, nat_tests)
 one-of (kinds.Point f) size e h = grind (arith, nat_tests)
 one-of (kinds.LabelTest f) size e h = grind (arith, nat_tests)

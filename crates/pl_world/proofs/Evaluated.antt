@@ -12,7 +12,7 @@ use Rattle.pl_spec.specs.Kind.{Kind, WindowKind, PointKind, LabelKind, CrossKind
 use Rattle.pl_spec.specs.Term as spec
 use Rattle.pl_spec.specs.Term.{term_at}
 use Rattle.pl_spec.specs.Value.{number_of as number_in, empty, sort_kind, name_at}
-use Rattle.pl_spec.specs.World.{label_at}
+use Rattle.pl_spec.specs.World.{label_at, known_number}
 use Rattle.pl_spec.proofs.Unfolds.{past}
 use Rattle.pl_terms.specs.declared.node.TermId.{TermId}
 use Rattle.pl_terms.specs.declared.node.Input.{Input}
@@ -30,7 +30,7 @@ use Rattle.pl_values.specs.Arrays.{cell_of, empty_cell, is_kept, chosen}
 use Rattle.pl_values.specs.Inputs.{input_window, AreWindows, IsInputRow, AreRows}
 use Rattle.pl_values.specs.Families.{windowed, TakesWindows, sid_flag, label_code, IsCode, code_flag, is_sids, is_point, is_label_test}
 use Rattle.pl_values.specs.Laws.{IsNode}
-use Rattle.pl_values.proofs.Given.{unkept-cell, constant-cell, window-cell, point-cell, point-operands, sid-cell, label-cell, label-test-cell, label-input, section-input, window-input, downsampled-cell, downsampled-input}
+use Rattle.pl_values.proofs.Given.{unkept-cell, constant-cell, window-cell, point-cell, point-operands, sid-cell, label-cell, number-cell, label-test-cell, label-input, section-input, window-input, downsampled-cell, downsampled-input}
 use Rattle.pl_world.specs.declared.world.World.{World}
 use Rattle.pl_world.specs.Worlds.{world_of}
 use Rattle.pl_world.specs.Evaluations.{IsAskedInput, IsKept, as_input, lets_pass, cell_in, input_cell_in, window_in}
@@ -42,6 +42,7 @@ pub windowed-is : (k : Kind) → is_windowed k ≡ true → (f : WindowKind) × 
 windowed-is (kinds.Window f) e = (f, refl)
 windowed-is (kinds.Constant f) e = absurd (let bad : false ≡ true = e in cc)
 windowed-is (kinds.Label f) e = absurd (let bad : false ≡ true = e in cc)
+windowed-is (kinds.Number f) e = absurd (let bad : false ≡ true = e in cc)
 windowed-is (kinds.StaticSids f) e = absurd (let bad : false ≡ true = e in cc)
 windowed-is (kinds.Point f) e = absurd (let bad : false ≡ true = e in cc)
 windowed-is (kinds.LabelTest f) e = absurd (let bad : false ≡ true = e in cc)
@@ -52,6 +53,7 @@ pub point-is : (k : Kind) → is_point k ≡ true → (f : PointKind) × (k ≡ 
 point-is (kinds.Point f) e = (f, refl)
 point-is (kinds.Constant f) e = absurd (let bad : false ≡ true = e in cc)
 point-is (kinds.Label f) e = absurd (let bad : false ≡ true = e in cc)
+point-is (kinds.Number f) e = absurd (let bad : false ≡ true = e in cc)
 point-is (kinds.StaticSids f) e = absurd (let bad : false ≡ true = e in cc)
 point-is (kinds.Window f) e = absurd (let bad : false ≡ true = e in cc)
 point-is (kinds.LabelTest f) e = absurd (let bad : false ≡ true = e in cc)
@@ -62,6 +64,7 @@ pub label-test-is : (k : Kind) → is_label_test k ≡ true → (f : LabelKind) 
 label-test-is (kinds.LabelTest f) e = (f, refl)
 label-test-is (kinds.Constant f) e = absurd (let bad : false ≡ true = e in cc)
 label-test-is (kinds.Label f) e = absurd (let bad : false ≡ true = e in cc)
+label-test-is (kinds.Number f) e = absurd (let bad : false ≡ true = e in cc)
 label-test-is (kinds.StaticSids f) e = absurd (let bad : false ≡ true = e in cc)
 label-test-is (kinds.Window f) e = absurd (let bad : false ≡ true = e in cc)
 label-test-is (kinds.Point f) e = absurd (let bad : false ≡ true = e in cc)
@@ -72,6 +75,7 @@ pub sids-is : (k : Kind) → is_sids k ≡ true → (own : List ℕ) × (k ≡ k
 sids-is (kinds.StaticSids f) e = (f, refl)
 sids-is (kinds.Constant f) e = absurd (let bad : false ≡ true = e in cc)
 sids-is (kinds.Label f) e = absurd (let bad : false ≡ true = e in cc)
+sids-is (kinds.Number f) e = absurd (let bad : false ≡ true = e in cc)
 sids-is (kinds.LabelTest f) e = absurd (let bad : false ≡ true = e in cc)
 sids-is (kinds.Window f) e = absurd (let bad : false ≡ true = e in cc)
 sids-is (kinds.Point f) e = absurd (let bad : false ≡ true = e in cc)
@@ -82,6 +86,7 @@ pub section-is : (k : Kind) → is_section k ≡ true → (f : CrossKind) × (k 
 section-is (kinds.Cross f) e = (f, refl)
 section-is (kinds.Constant f) e = absurd (let bad : false ≡ true = e in cc)
 section-is (kinds.Label f) e = absurd (let bad : false ≡ true = e in cc)
+section-is (kinds.Number f) e = absurd (let bad : false ≡ true = e in cc)
 section-is (kinds.StaticSids f) e = absurd (let bad : false ≡ true = e in cc)
 section-is (kinds.Window f) e = absurd (let bad : false ≡ true = e in cc)
 section-is (kinds.Point f) e = absurd (let bad : false ≡ true = e in cc)
@@ -96,7 +101,7 @@ term-input (Some (input.Term u)) t e = (u, refl, let same : Some (spec.TermInput
 
 -- a world with nothing in it
 no_world : SpecWorld
-no_world = record { days = []; assets = []; labels = []; texts = []; bars = []; adjustments = [] }
+no_world = record { days = []; assets = []; labels = []; texts = []; bars = []; adjustments = []; numbers = [] }
 
 module _ (c : Parts) (ok : IsChecked (pipeline_of c)) (t : ℕ) (n : Node) (is : slice_get c.graph t ≡ Some n) where
   there : slice_get (graph_of c.graph) t ≡ Some (node_of n)
@@ -150,6 +155,7 @@ not-windowed (kinds.Window f) (inr (inl e)) = absurd (let bad : false ≡ true =
 not-windowed (kinds.Window f) (inr (inr e)) = absurd (let bad : false ≡ true = e in cc)
 not-windowed (kinds.Constant f) e = refl
 not-windowed (kinds.Label f) e = refl
+not-windowed (kinds.Number f) e = refl
 not-windowed (kinds.StaticSids f) e = refl
 not-windowed (kinds.Point f) e = refl
 not-windowed (kinds.LabelTest f) e = refl
@@ -212,6 +218,14 @@ module _ (w : World) (c : Parts) (ok : IsChecked (pipeline_of c)) (t : ℕ) (n :
       pub label-given : (name : ℕ) → kind_of n.kind ≡ kinds.Label name → label_code (world_of w).texts (label_at (world_of w) (name_at (pipeline_of c).names name) a (pos s)) ≡ cell_in w c t a s
       unfolding node_of
       label-given name e = held _ (label-cell (world_of w) (pipeline_of c) (a ∷ []) t (node_of n) 0 s own name e).1
+
+      pub number-named : (name : ℕ) → kind_of n.kind ≡ kinds.Number name → name < length (pipeline_of c).names
+      unfolding node_of
+      number-named name e = (number-cell (world_of w) (pipeline_of c) (a ∷ []) t (node_of n) 0 s own name e).0
+
+      pub number-given : (name : ℕ) → kind_of n.kind ≡ kinds.Number name → known_number (world_of w) (name_at (pipeline_of c).names name) a (pos s) ≡ cell_in w c t a s
+      unfolding node_of
+      number-given name e = held _ (number-cell (world_of w) (pipeline_of c) (a ∷ []) t (node_of n) 0 s own name e).1
 
       pub label-test-given : HasTexts (world_of w) → is_label_test (kind_of n.kind) ≡ true → (x : ℤ) → x ≡ input_cell_in w c (slice_get n.inputs 0) a s
           → IsCode (world_of w).texts x × (code_flag (world_of w).texts (kind_of n.kind) x ≡ cell_in w c t a s)

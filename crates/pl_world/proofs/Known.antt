@@ -1,6 +1,6 @@
 -- The parts that are known by a session.
 use Rattle.std.proofs.Common.{◌≡◌, ℕ, suc, ◌+◌, ℤ, pos, take, Some, slice_get, ◌∙◌, ap, arith}
-use Rattle.pl_spec.specs.AsOf.{as_of, sessions_to, labels_by, bars_before, adjustments_by}
+use Rattle.pl_spec.specs.AsOf.{as_of, sessions_to, labels_by, bars_before, adjustments_by, column_numbers_by}
 use Rattle.pl_laws.proofs.AsOf.{agrees, is-world, parts-of}
 use Rattle.pl_laws.proofs.Law.{agree-seen}
 use Rattle.pl_laws.proofs.TableLaw.{table_same}
@@ -21,6 +21,7 @@ pub record AreCut (w : World) (d : ℕ) (day : ℤ) (v : OwnedWorld) : Type 0 wh
   pub texts : v.labels.texts ≡ w.labels.now.texts
   pub bars : v.bars ≡ bars_before d w.bars.now
   pub adjustments : v.adjustments ≡ adjustments_by day w.adjustments.now
+  pub numbers : v.numbers.rows ≡ column_numbers_by day w.numbers.now.rows
 
 module _ (w : World) (d : ℕ) (day : ℤ) (v : OwnedWorld) (are : AreCut w d day v) (made : PartsMakeAWorld w) where
   sessions_are : v.sessions ≡ sessions_to d w.sessions.now
@@ -28,8 +29,8 @@ module _ (w : World) (d : ℕ) (day : ℤ) (v : OwnedWorld) (are : AreCut w d da
 
   world_is : owned_world v ≡ as_of (world_of w) d day
   world_is =
-      rw (sessions_are, are.assets, are.labels, are.texts, are.bars, are.adjustments)
-      (parts-of w.sessions.now w.assets.now w.labels.now.rows w.labels.now.texts w.bars.now w.adjustments.now d day).world
+      rw (sessions_are, are.assets, are.labels, are.texts, are.bars, are.adjustments, are.numbers)
+      (parts-of w.sessions.now w.assets.now w.labels.now.rows w.labels.now.texts w.bars.now w.adjustments.now w.numbers.now.rows d day).world
 
   pub is_known : IsKnown w d v
   is_known =
@@ -42,15 +43,16 @@ module _ (w : World) (d : ℕ) (day : ℤ) (v : OwnedWorld) (are : AreCut w d da
         texts = are.texts;
         bars = are.bars;
         adjustments = are.adjustments;
+        numbers = are.numbers;
         world = world_is;
         agrees = rw world_is (agrees (world_of w) d day made.world are.is_day);
       }
 
   pub is_owned : IsOwned v
   is_owned =
-      let parts = (parts-of w.sessions.now w.assets.now w.labels.now.rows w.labels.now.texts w.bars.now w.adjustments.now d day).parts made.parts are.is_day in
-      rw (sessions_are, are.assets, are.labels, are.bars, are.adjustments)
-      record { labels_in = parts.labels_in; bars_in = parts.bars_in; sessions_in = parts.sessions_in; adjustments_in = parts.adjustments_in }
+      let parts = (parts-of w.sessions.now w.assets.now w.labels.now.rows w.labels.now.texts w.bars.now w.adjustments.now w.numbers.now.rows d day).parts made.parts are.is_day in
+      rw (sessions_are, are.assets, are.labels, are.bars, are.adjustments, are.numbers)
+      record { labels_in = parts.labels_in; bars_in = parts.bars_in; sessions_in = parts.sessions_in; adjustments_in = parts.adjustments_in; numbers_in = parts.numbers_in }
 
   pub shows_same : ShowsSameUpTo w d v
   shows_same p from to h =

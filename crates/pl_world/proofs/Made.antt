@@ -1,6 +1,6 @@
 -- The world that parts make: its adjustments by sid, and its cells as they are seen.
 use Rattle.std.proofs.Common.{◌≡◌, ℕ, ◌<◌, false, IsTrue, ℤ, pos, ◌<ℤ◌, inl, inr, List, [], ◌∷◌, map, length, get_or, slice_get, Some, sym, ◌∙◌, ap, arith}
-use Rattle.std.specs.List.{AllPairs, Contains}
+use Rattle.std.specs.List.{AllPairs, Contains, All}
 use Rattle.std.proofs.lemmas.Bool.{cases_lt, true≢false}
 use Rattle.std.proofs.lemmas.Bool.Decides.{nat_tests}
 use Rattle.std.proofs.lemmas.List.{get_or-map, length-map}
@@ -9,8 +9,9 @@ use Rattle.pl_spec.specs.declared.AssetRow.{AssetRow}
 use Rattle.pl_spec.specs.declared.BarRow.{BarRow}
 use Rattle.pl_spec.specs.declared.Column.{Column}
 use Rattle.pl_spec.specs.Lookups.{BarsOnce, LabelsOnce}
+use Rattle.pl_spec.specs.Numbers.{NumbersOnce}
 use Rattle.pl_spec.specs.Parts as parts
-use Rattle.pl_spec.specs.Parts.{ColumnAdjustment, ColumnLabel, bar_of, label_of, sid_at}
+use Rattle.pl_spec.specs.Parts.{ColumnAdjustment, ColumnLabel, ColumnNumber, bar_of, label_of, number_of, sid_at}
 use Rattle.pl_spec.specs.World as spec
 use Rattle.pl_spec.specs.World.{IsWorld, events_of}
 use Rattle.pl_spec.specs.Window.{after_all, effects, effects_in, seen_cell}
@@ -22,6 +23,9 @@ use Rattle.pl_lifetimes.proofs.Columns.{one_col}
 use Rattle.pl_assets.proofs.LabelKeys.{parts_from}
 use Rattle.pl_bars.specs.Bars.{AreBars, cell_at, is_before}
 use Rattle.pl_bars.proofs.BarWorlds.{cells_raw}
+use Rattle.pl_numbers.specs.Numbers as number_tables
+use Rattle.pl_numbers.specs.Numbers.{AreNumbers}
+use Rattle.pl_numbers.proofs.NumberKeys as number_keys
 use Rattle.pl_adjust.specs.Columns.{StandByDay, events_at}
 use Rattle.pl_adjust.proofs.Sids.{column_events}
 use Rattle.pl_world.specs.declared.world.World.{World}
@@ -32,7 +36,7 @@ module _ (w : World) (made : IsMade w) (assets : AreAssets w.assets.now) (col : 
   pub events_of-at : events_of (world_of w) (sid_at w.assets.now col) ≡ events_at w.adjustments.now col
   events_of-at =
       ap (events_of (world_of w)) (sid_at-row w.assets.now col no_asset inside)
-      ∙ column_events w.sessions.now w.assets.now w.labels.now.rows w.labels.now.texts w.bars.now w.adjustments.now assets.ascend made.adjustments_in
+      ∙ column_events w.sessions.now w.assets.now w.labels.now.rows w.labels.now.texts w.bars.now w.adjustments.now w.numbers.now.rows assets.ascend made.adjustments_in
       col (get_or w.assets.now col no_asset) (slice_get-get_or w.assets.now col no_asset inside)
 
   pub effects-at : (c : Column) (s d : ℕ) (low high : ℤ) → slice_get w.sessions.now s ≡ Some low → slice_get w.sessions.now d ≡ Some high
@@ -46,9 +50,9 @@ module _ (w : World) (made : IsMade w) (assets : AreAssets w.assets.now) (col : 
   seen-at c s d low high at_s at_d =
       ap (after_all _) (effects-at c s d low high at_s at_d)
       ∙ ap (λ x. after_all x (effects_in c low low high (events_at w.adjustments.now col)))
-      (sym (cells_raw w.sessions.now w.assets.now w.labels.now.rows w.labels.now.texts w.bars.now w.adjustments.now assets.ascend made.bars_in col c s inside))
+      (sym (cells_raw w.sessions.now w.assets.now w.labels.now.rows w.labels.now.texts w.bars.now w.adjustments.now w.numbers.now.rows assets.ascend made.bars_in col c s inside))
 
--- ---- each bar and each label row stands once
+-- ---- each bar, each label row and each number stands once
 
 -- where no two elements are the same, two that are mapped to the same are one
 once-mapped : {A B : Type 0} (f : A → B) (Same : B → B → Type 0) → ((b c : B) → Same b c → Same c b) → (xs : List A) → AllPairs (λ x y. ¬ Same (f x) (f y)) xs
@@ -77,12 +81,25 @@ once-mapped {A} {B} f Same back (x ∷ xs) differ b c first second same = elim (
     at_second : c ≡ f (get_or (x ∷ xs) second.0 x)
     at_second = sym second.2 ∙ get_or-map f (x ∷ xs) second.0 x c in_second
 
-module _ (days : List ℤ) (assets : List AssetRow) (labels : List ColumnLabel) (texts : List (List ℕ)) (bars : List BarRow) (adjustments : List ColumnAdjustment)
-    (made : AreMadeFor days assets labels bars adjustments) (days_up : AllPairs (λ a b. a <ℤ b) days) (sids_up : AllPairs (λ a b. a.sid < b.sid) assets)
+-- the numbers of rows no two of which are of one name, column and day
+numbers-once : (assets : List AssetRow) (rows : List ColumnNumber) → AllPairs (λ a b. a.sid < b.sid) assets → All (λ r. r.col < length assets) rows
+    → AllPairs (λ r q. number_tables.is_from r.name r.col r.known q ≡ false) rows → NumbersOnce (map (number_of assets) rows)
+numbers-once assets rows up inside once r q first second names sids days =
+    once-mapped (number_of assets) (λ r q. (r.name ≡ q.name) × (r.sid ≡ q.sid) × (r.known ≡ q.known)) (λ r q same. (sym same.0, sym same.1, sym same.2)) rows
+    (λ i j d lt l same.
+    let first_in : (get_or rows i d).col < length assets = inside i d (omega arith) in
+    let second_in : (get_or rows j d).col < length assets = inside j d l in
+    let row = get_or rows i d in
+    true≢false (sym (number_keys.parts_from row.name row.col row.known (get_or rows j d) (sym same.0) (sym (one_col assets up _ _ first_in second_in same.1)) (sym same.2))
+    ∙ once i j d lt l))
+    r q first second (names, sids, days)
+
+module _ (days : List ℤ) (assets : List AssetRow) (labels : List ColumnLabel) (texts : List (List ℕ)) (bars : List BarRow) (adjustments : List ColumnAdjustment) (numbers : List ColumnNumber)
+    (made : AreMadeFor days assets labels bars adjustments []) (days_up : AllPairs (λ a b. a <ℤ b) days) (sids_up : AllPairs (λ a b. a.sid < b.sid) assets)
     (starts_own : AllPairs (λ r q. is_from r.name r.col r.start q ≡ false) labels) (bars_up : AllPairs (λ a b. IsTrue (is_before b.col b.session a)) bars)
     (in_order : StandByDay adjustments) where
   abbrev whole : spec.World
-  whole = parts.world_of days assets labels texts bars adjustments
+  whole = parts.world_of days assets labels texts bars adjustments numbers
 
   pub bars_once : BarsOnce whole
   bars_once b c first second sids sessions =
@@ -110,7 +127,7 @@ module _ (days : List ℤ) (assets : List AssetRow) (labels : List ColumnLabel) 
   events_in : (col : ℕ) → col < length assets → events_of whole (sid_at assets col) ≡ events_at adjustments col
   events_in col inside =
       ap (events_of whole) (sid_at-row assets col no_asset inside)
-      ∙ column_events days assets labels texts bars adjustments sids_up made.adjustments_in col (get_or assets col no_asset) (slice_get-get_or assets col no_asset inside)
+      ∙ column_events days assets labels texts bars adjustments numbers sids_up made.adjustments_in col (get_or assets col no_asset) (slice_get-get_or assets col no_asset inside)
 
   pub is_world : IsWorld whole
   is_world = record {
@@ -122,11 +139,13 @@ module _ (days : List ℤ) (assets : List AssetRow) (labels : List ColumnLabel) 
     ];
   }
 
-pub parts_make_a_world : (w : World) → IsMade w → AreDays w.sessions.now → AreAssets w.assets.now → AreLabels w.labels.now → AreBars w.bars.now → StandByDay w.adjustments.now
+pub parts_make_a_world : (w : World) → IsMade w → AreDays w.sessions.now → AreAssets w.assets.now → AreLabels w.labels.now → AreBars w.bars.now → StandByDay w.adjustments.now → AreNumbers w.numbers.now
     → PartsMakeAWorld w
-parts_make_a_world w made days assets labels bars in_order =
+parts_make_a_world w made days assets labels bars in_order own =
     let rows = w.labels.now.rows in
     let texts = w.labels.now.texts in
+    let bare : AreMadeFor w.sessions.now w.assets.now rows w.bars.now w.adjustments.now [] =
+    record { labels_in = made.labels_in; bars_in = made.bars_in; sessions_in = made.sessions_in; adjustments_in = made.adjustments_in; numbers_in = λ k d l. absurd (omega arith) } in
     record {
       parts = record {
         days_ascend = days.ascend;
@@ -136,8 +155,10 @@ parts_make_a_world w made days assets labels bars in_order =
         sessions_in = made.sessions_in;
         adjustments_in = made.adjustments_in;
         events_in_order = in_order;
+        numbers_in = made.numbers_in;
       };
-      world = is_world w.sessions.now w.assets.now rows texts w.bars.now w.adjustments.now made days.ascend assets.ascend labels.once bars.ascend in_order;
-      bars_once = bars_once w.sessions.now w.assets.now rows texts w.bars.now w.adjustments.now made days.ascend assets.ascend labels.once bars.ascend in_order;
-      labels_once = labels_once w.sessions.now w.assets.now rows texts w.bars.now w.adjustments.now made days.ascend assets.ascend labels.once bars.ascend in_order;
+      world = is_world w.sessions.now w.assets.now rows texts w.bars.now w.adjustments.now w.numbers.now.rows bare days.ascend assets.ascend labels.once bars.ascend in_order;
+      bars_once = bars_once w.sessions.now w.assets.now rows texts w.bars.now w.adjustments.now w.numbers.now.rows bare days.ascend assets.ascend labels.once bars.ascend in_order;
+      labels_once = labels_once w.sessions.now w.assets.now rows texts w.bars.now w.adjustments.now w.numbers.now.rows bare days.ascend assets.ascend labels.once bars.ascend in_order;
+      numbers_once = numbers-once w.assets.now w.numbers.now.rows assets.ascend made.numbers_in own.once;
     }

@@ -1,11 +1,11 @@
 -- Files whose records stand in another order show the same.
-use Rattle.std.proofs.Common.{◌≡◌, ◌<◌, ℤ, List, [], ◌∷◌, length, All, IsPermutation, Result, Ok, Err, refl}
+use Rattle.std.proofs.Common.{◌≡◌, ◌<◌, ℤ, List, [], ◌∷◌, length, All, IsPermutation, Result, Ok, Err, refl, arith}
 use Rattle.std.proofs.lemmas.List.Sorted.{IsPermutation-map}
 use Rattle.pl_records.specs.Reading.{Record, Fault, ◌>>=◌}
 use Rattle.pl_spec.specs.declared.AssetRow.{AssetRow}
 use Rattle.pl_spec.specs.declared.BarRow.{BarRow}
 use Rattle.pl_spec.specs.Parts as parts
-use Rattle.pl_spec.specs.Parts.{ColumnAdjustment, ColumnLabel, label_of}
+use Rattle.pl_spec.specs.Parts.{ColumnAdjustment, ColumnLabel, ColumnNumber, label_of}
 use Rattle.pl_spec.specs.Permuted.{AgreeInAll}
 use Rattle.pl_spec.specs.World.{World, IsWorld}
 use Rattle.pl_calendar.specs.Days.{AreDays}
@@ -56,24 +56,24 @@ labels-read assets [] others m table e = (table, rw m e, record { moves = []; be
 labels-read assets (r ∷ rs) [] m table e = absurd m
 labels-read assets (r ∷ rs) (q ∷ qs) m table e = rw m.0 at (labels-moved assets r rs qs m.1 table e)
 
-module _ (days : List ℤ) (assets : List AssetRow) (labels other : LabelTable) (bars : List BarRow) (adjustments : List ColumnAdjustment)
+module _ (days : List ℤ) (assets : List AssetRow) (labels other : LabelTable) (bars : List BarRow) (adjustments : List ColumnAdjustment) (numbers : List ColumnNumber)
     (days_are : AreDays days) (assets_are : AreAssets assets) (bars_are : AreBars bars) (labels_are : AreRead assets labels.rows) (others_are : AreRead assets other.rows)
     (bars_in : All (λ b. b.col < length assets) bars) (sessions_in : All (λ b. b.session < length days) bars)
     (adjustments_in : All (λ x. x.col < length assets) adjustments) (in_order : StandByDay adjustments) (moved : IsPermutation labels.rows other.rows) where
   abbrev w : World
-  w = parts.world_of days assets labels.rows labels.texts bars adjustments
+  w = parts.world_of days assets labels.rows labels.texts bars adjustments numbers
 
   abbrev v : World
-  v = parts.world_of days assets other.rows other.texts bars adjustments
+  v = parts.world_of days assets other.rows other.texts bars adjustments numbers
 
-  made : (rows : List ColumnLabel) → AreRead assets rows → AreMadeFor days assets rows bars adjustments
-  made rows are = record { labels_in = are.cols; bars_in = bars_in; sessions_in = sessions_in; adjustments_in = adjustments_in }
+  made : (rows : List ColumnLabel) → AreRead assets rows → AreMadeFor days assets rows bars adjustments []
+  made rows are = record { labels_in = are.cols; bars_in = bars_in; sessions_in = sessions_in; adjustments_in = adjustments_in; numbers_in = λ k d l. absurd (omega arith) }
 
   w_is : IsWorld w
-  w_is = is_world days assets labels.rows labels.texts bars adjustments (made labels.rows labels_are) days_are.ascend assets_are.ascend labels_are.once bars_are.ascend in_order
+  w_is = is_world days assets labels.rows labels.texts bars adjustments numbers (made labels.rows labels_are) days_are.ascend assets_are.ascend labels_are.once bars_are.ascend in_order
 
   v_is : IsWorld v
-  v_is = is_world days assets other.rows other.texts bars adjustments (made other.rows others_are) days_are.ascend assets_are.ascend others_are.once bars_are.ascend in_order
+  v_is = is_world days assets other.rows other.texts bars adjustments numbers (made other.rows others_are) days_are.ascend assets_are.ascend others_are.once bars_are.ascend in_order
 
   agree : AgreeInAll w v
   agree = record {
@@ -82,8 +82,9 @@ module _ (days : List ℤ) (assets : List AssetRow) (labels other : LabelTable) 
     adjustments = λ a. refl;
     lifetimes = λ a s. refl;
     labels = order-changes-nothing.labels w v
-        (labels_once days assets labels.rows labels.texts bars adjustments (made labels.rows labels_are) days_are.ascend assets_are.ascend labels_are.once bars_are.ascend in_order)
+        (labels_once days assets labels.rows labels.texts bars adjustments numbers (made labels.rows labels_are) days_are.ascend assets_are.ascend labels_are.once bars_are.ascend in_order)
         refl (IsPermutation-map (label_of assets) labels.rows other.rows moved);
+    numbers = λ name a day. refl;
   }
 
   shown : ShowAlike w v
@@ -104,6 +105,6 @@ records-in-any-order files others m days assets labels bars are =
         bars_read = bars-read days assets days_are files.bars others.bars m.bars bars are.bars_read;
       },
       found.2,
-      λ adjustments adjustments_in in_order. shown days assets labels found.0 bars adjustments days_are assets_are bars_are
+      λ adjustments adjustments_in in_order numbers. shown days assets labels found.0 bars adjustments numbers days_are assets_are bars_are
           (AreRead-labels assets files.labels labels are.labels_read) (AreRead-labels assets others.labels found.0 found.1) inside.cols inside.sessions adjustments_in in_order found.2,
     )

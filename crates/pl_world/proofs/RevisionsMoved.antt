@@ -1,10 +1,10 @@
 -- Revisions whose records stand in another order show the same tables.
-use Rattle.std.proofs.Common.{◌≡◌, ◌<◌, ◌==◌, ℤ, List, [], ◌∷◌, length, All, Ok, refl, sym, ◌∙◌, ap}
+use Rattle.std.proofs.Common.{◌≡◌, ◌<◌, ◌==◌, ℤ, List, [], ◌∷◌, length, All, Ok, refl, sym, ◌∙◌, ap, arith}
 use Rattle.pl_records.specs.Reading.{Record}
 use Rattle.pl_spec.specs.declared.AssetRow.{AssetRow}
 use Rattle.pl_spec.specs.declared.BarRow.{BarRow}
 use Rattle.pl_spec.specs.Parts as parts
-use Rattle.pl_spec.specs.Parts.{ColumnAdjustment, sid_at}
+use Rattle.pl_spec.specs.Parts.{ColumnAdjustment, ColumnNumber, sid_at}
 use Rattle.pl_spec.specs.Window.{effects_in}
 use Rattle.pl_spec.specs.World.{World, IsWorld}
 use Rattle.pl_calendar.specs.Days.{AreDays}
@@ -32,14 +32,15 @@ others-read days assets ud ua (r ∷ rs) [] m old xs e = absurd m
 others-read days assets ud ua (r ∷ rs) (q ∷ qs) m old xs e = rw m.0 at (picked-alike days assets ud ua r rs qs m.1 old xs e)
 
 module _ (days : List ℤ) (assets : List AssetRow) (labels : LabelTable) (bars : List BarRow) (days_are : AreDays days) (assets_are : AreAssets assets) (bars_are : AreBars bars)
-    (labels_are : AreRead assets labels.rows) (bars_in : All (λ b. b.col < length assets) bars) (sessions_in : All (λ b. b.session < length days) bars) where
+    (labels_are : AreRead assets labels.rows) (bars_in : All (λ b. b.col < length assets) bars) (sessions_in : All (λ b. b.session < length days) bars)
+    (numbers : List ColumnNumber) where
   abbrev whole : List ColumnAdjustment → World
-  whole xs = parts.world_of days assets labels.rows labels.texts bars xs
+  whole xs = parts.world_of days assets labels.rows labels.texts bars xs numbers
 
   made : (xs : List ColumnAdjustment) → All (λ x. x.col < length assets) xs × StandByDay xs → IsWorld (whole xs)
   made xs kept =
-      is_world days assets labels.rows labels.texts bars xs
-      (record { labels_in = labels_are.cols; bars_in = bars_in; sessions_in = sessions_in; adjustments_in = kept.0 })
+      is_world days assets labels.rows labels.texts bars xs numbers
+      (record { labels_in = labels_are.cols; bars_in = bars_in; sessions_in = sessions_in; adjustments_in = kept.0; numbers_in = λ k d l. absurd (omega arith) })
       days_are.ascend assets_are.ascend labels_are.once bars_are.ascend kept.1
 
   seen : (xs ys : List ColumnAdjustment) → PickedAlike xs ys → SeenInAll (whole xs) (whole ys)
@@ -48,11 +49,12 @@ module _ (days : List ℤ) (assets : List AssetRow) (labels : LabelTable) (bars 
         days = refl;
         bars = λ a c s. refl;
         changes = λ a c bar low high.
-            ap (effects_in c bar low high) (parts_events days assets labels.rows labels.texts bars xs assets_are.ascend a)
+            ap (effects_in c bar low high) (parts_events days assets labels.rows labels.texts bars xs numbers assets_are.ascend a)
             ∙ alike (λ n. sid_at assets n == a) c bar low high
-            ∙ sym (ap (effects_in c bar low high) (parts_events days assets labels.rows labels.texts bars ys assets_are.ascend a));
+            ∙ sym (ap (effects_in c bar low high) (parts_events days assets labels.rows labels.texts bars ys numbers assets_are.ascend a));
         lifetimes = λ a s. refl;
         labels = λ name a s. refl;
+        numbers = λ name a day. refl;
       }
 
   same : (xs ys : List ColumnAdjustment) → IsWorld (whole xs) → IsWorld (whole ys) → PickedAlike xs ys → HaveSameTables (whole xs) (whole ys)
@@ -70,6 +72,11 @@ revisions-in-any-order files days assets labels bars are records others m old xs
     let inside = AreInside-read days assets files.bars bars are.bars_read in
     let labels_are = AreRead-labels assets files.labels labels are.labels_read in
     let it = others-read days assets days_are assets_are records others m old xs e in
-    let first = made days assets labels bars days_are assets_are bars_are labels_are inside.cols inside.sessions xs (kept-revised days assets days_are assets_are records old xs cols e) in
-    let second = made days assets labels bars days_are assets_are bars_are labels_are inside.cols inside.sessions it.0 (kept-revised days assets days_are assets_are others old it.0 cols it.1) in
-    (it.0, it.1, same days assets labels bars days_are assets_are bars_are labels_are inside.cols inside.sessions xs it.0 first second it.2)
+    let first = kept-revised days assets days_are assets_are records old xs cols e in
+    let second = kept-revised days assets days_are assets_are others old it.0 cols it.1 in (
+      it.0,
+      it.1,
+      λ numbers.
+          let is = made days assets labels bars days_are assets_are bars_are labels_are inside.cols inside.sessions numbers in
+          same days assets labels bars days_are assets_are bars_are labels_are inside.cols inside.sessions numbers xs it.0 (is xs first) (is it.0 second) it.2,
+    )

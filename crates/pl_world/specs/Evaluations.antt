@@ -5,7 +5,9 @@ use Rattle.pl_spec.specs.declared.AssetRow.{AssetRow}
 use Rattle.pl_spec.specs.Parts.{sid_at}
 use Rattle.pl_spec.specs.World as spec
 use Rattle.pl_spec.specs.World.{exists}
-use Rattle.pl_spec.specs.Kind.{Kind}
+use Rattle.pl_spec.specs.Cross.{at}
+use Rattle.pl_spec.specs.Kind.{Kind, CrossKind}
+use Rattle.pl_spec.specs.Kind.Kind.{Cross}
 use Rattle.pl_spec.specs.Term.{term_at}
 use Rattle.pl_spec.specs.Formula.{is_true}
 use Rattle.pl_spec.specs.Graph.{reach}
@@ -17,6 +19,7 @@ use Rattle.pl_terms.specs.declared.node.Node.{Node}
 use Rattle.pl_terms.specs.Kinds.{kind_of}
 use Rattle.pl_terms.specs.Nodes.{graph_of, input_of, number_of}
 use Rattle.pl_terms.specs.Checked.{Parts, pipeline_of}
+use Rattle.pl_cross.specs.Arrays.{section_at}
 use Rattle.pl_values.specs.Arrays.{IsKeep, is_kept}
 use Rattle.pl_values.specs.Inputs.{input_window}
 use Rattle.pl_world.specs.declared.world.World.{World}
@@ -113,3 +116,9 @@ pub record AreRowsOf (w : World) (c : Parts) (t session : ℕ) (xs : List ℤ) (
   pub groups : (n : Node) → slice_get c.graph t ≡ Some n → gs ≡ optional_row_in w c n.group session
   pub mask_cells : IfSome ms (All IsCell)
   pub group_cells : IfSome gs (All IsCell)
+
+-- the cells of a cross-section over the rows of its input, of who is kept, and of its group
+pub record AreSectionCells (f : Kind) (xs ks : List ℤ) (ls : Option (List ℤ)) (row : List ℤ) : Type 0 where
+  pub long : length row ≡ length xs
+  pub each : (k : CrossKind) → f ≡ Cross k → (i : ℕ) → i < length xs → at row i ≡ section_at k xs ks ls i
+  pub cells : All IsCell row

@@ -1,7 +1,7 @@
 -- What is known of a world by a session.
 use Rattle.std.specs.Prelude.{◌≡◌, ℕ, ℤ, pos, ◌≤ℤ◌, Some, slice_get}
 use Rattle.pl_spec.specs.Agree.{Agree}
-use Rattle.pl_spec.specs.AsOf.{as_of, sessions_to, labels_by, bars_before, adjustments_by}
+use Rattle.pl_spec.specs.AsOf.{as_of, sessions_to, labels_by, bars_before, adjustments_by, column_numbers_by}
 use Rattle.pl_spec.specs.declared.Format.{Format}
 use Rattle.pl_spec.specs.World as spec
 use Rattle.pl_spec.specs.Table.{Pipeline, table}
@@ -21,6 +21,7 @@ pub record IsKnown (w : World) (d : ℕ) (v : OwnedWorld) : Type 0 where
   pub texts : v.labels.texts ≡ w.labels.now.texts
   pub bars : v.bars ≡ bars_before d w.bars.now
   pub adjustments : v.adjustments ≡ adjustments_by day w.adjustments.now
+  pub numbers : v.numbers.rows ≡ column_numbers_by day w.numbers.now.rows
   pub world : owned_world v ≡ as_of (world_of w) d day
   pub agrees : Agree (owned_world v) (world_of w) (pos d) day
 

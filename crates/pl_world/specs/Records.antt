@@ -5,7 +5,7 @@ use Rattle.pl_spec.specs.declared.AssetRow.{AssetRow}
 use Rattle.pl_spec.specs.declared.BarRow.{BarRow}
 use Rattle.pl_spec.specs.declared.Format.{Format}
 use Rattle.pl_spec.specs.Parts as parts
-use Rattle.pl_spec.specs.Parts.{ColumnAdjustment}
+use Rattle.pl_spec.specs.Parts.{ColumnAdjustment, ColumnNumber}
 use Rattle.pl_spec.specs.Table.{Pipeline, table}
 use Rattle.pl_spec.specs.Text.{text}
 use Rattle.pl_spec.specs.World.{World}
@@ -45,16 +45,16 @@ pub record FilesAreMoved (files others : DataFiles) : Type 0 where
   pub bars : AreMoved files.bars others.bars
 
 -- The others are read too, as the same sessions, assets and bars and as the same label rows in some order.
--- With any adjustments of these assets the two worlds show the same.
+-- With any adjustments of these assets and any numbers the two worlds show the same.
 abbrev pub RecordsInAnyOrder : Type 0
 RecordsInAnyOrder = (files others : DataFiles) → FilesAreMoved files others
     → (days : List ℤ) (assets : List AssetRow) (labels : LabelTable) (bars : List BarRow)
     → AreReadAs files days assets labels bars
     → (other : LabelTable) × AreReadAs others days assets other bars × IsPermutation labels.rows other.rows
     × ((adjustments : List ColumnAdjustment)
-    → All (λ x. x.col < length assets) adjustments → StandByDay adjustments
-    → ShowAlike (parts.world_of days assets labels.rows labels.texts bars adjustments)
-    (parts.world_of days assets other.rows other.texts bars adjustments))
+    → All (λ x. x.col < length assets) adjustments → StandByDay adjustments → (numbers : List ColumnNumber)
+    → ShowAlike (parts.world_of days assets labels.rows labels.texts bars adjustments numbers)
+    (parts.world_of days assets other.rows other.texts bars adjustments numbers))
 
 -- the rows of each pipeline are the same, and they are written alike
 pub record HaveSameTables (w v : World) : Type 0 where
@@ -62,8 +62,8 @@ pub record HaveSameTables (w v : World) : Type 0 where
   pub texts : (p : Pipeline) (format : Format) (from to : ℕ)
       → text w p format (table w p from to) ≡ text v p format (table v p from to)
 
--- Beside adjustments of these assets revisions may stand in any order too: the others are read, and the two
--- worlds have the same tables.
+-- Beside adjustments of these assets revisions may stand in any order too: the others are read, and with any
+-- numbers the two worlds have the same tables.
 abbrev pub RevisionsInAnyOrder : Type 0
 RevisionsInAnyOrder = (files : DataFiles) (days : List ℤ) (assets : List AssetRow) (labels : LabelTable)
     (bars : List BarRow) → AreReadAs files days assets labels bars
@@ -71,5 +71,6 @@ RevisionsInAnyOrder = (files : DataFiles) (days : List ℤ) (assets : List Asset
     → (adjustments revised : List ColumnAdjustment) → All (λ x. x.col < length assets) adjustments
     → revised_in days assets adjustments revisions ≡ Ok revised
     → (other : List ColumnAdjustment) × (revised_in days assets adjustments others ≡ Ok other)
-    × HaveSameTables (parts.world_of days assets labels.rows labels.texts bars revised)
-    (parts.world_of days assets labels.rows labels.texts bars other)
+    × ((numbers : List ColumnNumber)
+    → HaveSameTables (parts.world_of days assets labels.rows labels.texts bars revised numbers)
+    (parts.world_of days assets labels.rows labels.texts bars other numbers))

@@ -11,8 +11,8 @@ use pl_fixed::Memory;
 use std::alloc::Global;
 
 /// The world as of a session, copied: its sessions up to that one, the bars of the sessions before it, the
-/// label rows and the adjustments that count by its day, all assets, and all label texts with their codes.
-/// The only error is want of memory.
+/// label rows, the adjustments and the numbers that count by its day, all assets, and all label texts with
+/// their codes. The only error is want of memory.
 pub fn asof_world(alloc: Global, world: &World, session: usize) -> Result<OwnedWorld, Memory>
     requires made { IsMade world.now }
     requires within { session < length world.now.sessions.now }
@@ -29,11 +29,13 @@ pub fn asof_world(alloc: Global, world: &World, session: usize) -> Result<OwnedW
     let labels = world.labels.cut(alloc, day)?;
     let bars = world.bars.cut(alloc, session)?;
     let adjustments = world.adjustments.cut(alloc, day)?;
+    let numbers = world.numbers.cut(alloc, day)?;
     Ok(OwnedWorld {
         sessions,
         assets,
         labels,
         bars,
         adjustments,
+        numbers,
     })
 }

@@ -12,7 +12,7 @@ use pl_terms::Checked;
 
 /// Parts that were made for the world's own sessions and assets make a world: the days of the sessions and
 /// the sids of the assets ascend, the adjustments of an asset are in the order in which they act, and no two
-/// bars or label rows are one bar or one label.
+/// bars, label rows or numbers are one bar, one label or one number.
 pub fn parts_make_a_world(world: &World)
     requires { IsMade world.now }
     ensures { PartsMakeAWorld world.now }
@@ -22,11 +22,12 @@ pub fn parts_make_a_world(world: &World)
     let _labels = world.labels.len();
     let _bars = world.bars.len();
     let _adjustments = world.adjustments.len();
+    let _numbers = world.numbers.len();
 }
 
-/// The order of rows changes nothing: worlds with the same assets, label rows, bars and adjustments show the
-/// same rows, written alike, in whatever order theirs are. Only the adjustments of one asset and one day have
-/// an order that counts, that in which they act. The codes of labels go by the order of rows.
+/// The order of rows changes nothing: worlds with the same assets, label rows, bars, numbers and adjustments
+/// show the same rows, written alike, in whatever order theirs are. Only the adjustments of one asset and one
+/// day have an order that counts, that in which they act. The codes of labels go by the order of rows.
 pub fn order_changes_nothing(world: &World, other: &World)
     requires made { IsMade world.now }
     requires other_made { IsMade other.now }

@@ -11,5 +11,5 @@ mod world;
 pub use asof::asof_world;
 pub use cell::exists;
 pub use owned::OwnedWorld;
-pub use parts::{input_at, label_cell, section_input, section_row};
+pub use parts::{input_at, label_cell, number_cell, section_input, section_row};
 pub use world::World;

@@ -7,6 +7,7 @@ use pl_adjust::Adjustments;
 use pl_assets::{Assets, Labels};
 use pl_bars::Bars;
 use pl_calendar::Sessions;
+use pl_numbers::Numbers;
 
 /// The parts of a world, owned. Sessions, assets and bars count from 0 as `World` says.
 pub struct OwnedWorld {
@@ -15,6 +16,7 @@ pub struct OwnedWorld {
     pub labels: Labels,
     pub bars: Bars,
     pub adjustments: Adjustments,
+    pub numbers: Numbers,
 }
 
 // One call lets it go, so that no caller's proof goes into its parts.
@@ -26,6 +28,7 @@ impl Drop for OwnedWorld {
             labels: _labels,
             bars: _bars,
             adjustments: _adjustments,
+            numbers: _numbers,
         } = self;
     }
 }
@@ -38,6 +41,7 @@ impl OwnedWorld {
         ensures labels { result.labels.now ≡ self.now.labels }
         ensures bars { result.bars.now ≡ self.now.bars }
         ensures adjustments { result.adjustments.now ≡ self.now.adjustments }
+        ensures numbers { result.numbers.now ≡ self.now.numbers }
     {
         World {
             sessions: &self.sessions,
@@ -45,6 +49,7 @@ impl OwnedWorld {
             labels: &self.labels,
             bars: &self.bars,
             adjustments: &self.adjustments,
+            numbers: &self.numbers,
         }
     }
 }

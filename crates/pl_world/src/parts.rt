@@ -1,24 +1,26 @@
 //! What an evaluation reads besides the values of other terms.
 
-ghost use Rattle.std.specs.Prelude.{◌≡◌, ◌<◌, ◌&&◌, All, IfOk, IfSome, Some, length, option_map, pos, slice_get};
+ghost use Rattle.std.specs.Prelude.{◌≡◌, ◌<◌, ◌≤◌, ◌&&◌, true, All, IfOk, IfSome, Some, length, option_map, pos, slice_get};
 ghost use Rattle.pl_spec.specs.Parts.{sid_at};
 ghost use Rattle.pl_spec.specs.Rounding.{IsCell};
 ghost use Rattle.pl_spec.specs.Value.{name_at};
 ghost use Rattle.pl_spec.specs.Formula.{is_true};
-ghost use Rattle.pl_spec.specs.World.{exists, label_at};
+ghost use Rattle.pl_spec.specs.World.{exists, known_number, label_at};
 ghost use Rattle.pl_terms.specs.Checked.{pipeline_of};
-ghost use Rattle.pl_cross.specs.Listing.{labels_in};
-ghost use Rattle.pl_cross.specs.Section.{is_section};
+ghost use Rattle.pl_cross.specs.Listing.{Fits, labels_in};
+ghost use Rattle.pl_cross.specs.Section.{HasParameters, is_section};
+ghost use Rattle.pl_spec.specs.Limits.{most_assets};
+ghost use Rattle.pl_terms.specs.Kinds.{kind_of};
 ghost use Rattle.pl_values.specs.Families.{label_code};
 ghost use Rattle.pl_world.specs.Worlds.{world_of, IsMade};
 ghost use Rattle.pl_world.specs.Evaluations as spec;
-ghost use Rattle.pl_world.specs.Evaluations.{HasKind, row_in, AreRowsOf, IsKeepRow};
+ghost use Rattle.pl_world.specs.Evaluations.{HasKind, row_in, AreRowsOf, AreSectionCells, IsKeepRow};
 
 use crate::cell::exists;
 use crate::world::World;
 use pl_cross::Cross;
 use pl_fixed::Memory;
-use pl_terms::{Checked, Input, Node, TermId};
+use pl_terms::{Checked, Input, Node, TermId, TermKind};
 use pl_values::{label_value, section_values};
 use std::alloc::Global;
 
@@ -45,6 +47,25 @@ pub fn label_cell(world: &World, checked: &Checked, name: u32, col: usize, sessi
     let day = world.sessions.day(session);
     let text = checked.label_name(name);
     label_value(world.labels, text, world.labels.name_of(text), col, day)
+}
+
+/// The number of the asset on a session, under the name of that number in the pipeline; `MISSING` where there
+/// is none.
+pub fn number_cell(world: &World, checked: &Checked, name: u32, col: usize, session: usize) -> i64
+    requires made { IsMade world.now }
+    requires name { name < length checked.now.names }
+    requires col { col < length world.now.assets.now }
+    requires session { session < length world.now.sessions.now }
+    ensures value { result ≡ known_number (world_of world.now) (name_at (pipeline_of checked.now).names name)
+        (sid_at world.now.assets.now col) (pos session) }
+    ensures cell { IsCell result }
+{
+    let _assets = world.assets.len();
+    let day = world.sessions.day(session);
+    let text = checked.label_name(name);
+    world
+        .numbers
+        .number_under(text, world.numbers.name_of(text), col, day)
 }
 
 /// The input of a cross-section, which is a term.
@@ -117,12 +138,32 @@ pub fn section_row(
     ensures cells { IfOk result (λ v. All IsCell v.items) }
 {
     let kind = &checked.graph().node(t).kind;
-    let assets = world.assets.len();
+    let _assets = world.assets.len();
     let _rows = world.labels.len();
     let keep = keep_row(alloc, world, session, mask)?;
-    let mut cross = Cross::reserve(alloc, assets)?;
-    let mut out = vec![in alloc; 0; assets]?;
-    section_values(kind, &mut cross, values, &keep, lent(groups), &mut out);
+    section_cells(alloc, kind, values, &keep, lent(groups))
+}
+
+// The cells of a cross-section over the rows of its input, of who is kept, and of its group.
+fn section_cells(
+    alloc: Global,
+    kind: &TermKind,
+    values: &[i64],
+    keep: &[i64],
+    groups: Option<&[i64]>,
+) -> Result<Vec<i64>, Memory>
+    requires kind { is_section (kind_of kind.now) ≡ true }
+    requires parameters { HasParameters (kind_of kind.now) }
+    requires few { length values.now ≤ most_assets }
+    requires cells { All IsCell values.now }
+    requires keep { length keep.now ≡ length values.now }
+    requires groups { Fits (length values.now) (labels_in groups) }
+    ensures { IfOk result (λ v. AreSectionCells (kind_of kind.now) values.now keep.now
+        (labels_in groups.entry) v.items) }
+{
+    let mut cross = Cross::reserve(alloc, values.len())?;
+    let mut out = vec![in alloc; 0; values.len()]?;
+    section_values(kind, &mut cross, values, keep, groups, &mut out);
     Ok(out)
 }
 

@@ -4,10 +4,11 @@ use pl_adjust::Adjustments;
 use pl_assets::{Assets, Labels};
 use pl_bars::Bars;
 use pl_calendar::Sessions;
+use pl_numbers::Numbers;
 
-/// The sessions, assets, labels, bars and adjustments of a world, each lent by its owner. A session is known
-/// by its place among the sessions, an asset by its column, which is its place among the assets; both are
-/// counted from 0.
+/// The sessions, assets, labels, bars, adjustments and numbers of a world, each lent by its owner. A session
+/// is known by its place among the sessions, an asset by its column, which is its place among the assets; both
+/// are counted from 0.
 #[derive(Clone, Copy)]
 pub struct World<'a> {
     pub sessions: &'a Sessions,
@@ -15,4 +16,5 @@ pub struct World<'a> {
     pub labels: &'a Labels,
     pub bars: &'a Bars,
     pub adjustments: &'a Adjustments,
+    pub numbers: &'a Numbers,
 }

@@ -8,6 +8,7 @@ returns-clause-stated c = record {
   labels = c.in_ok-drawn.ensures.labels;
   bars = c.in_ok-drawn.ensures.bars;
   adjustments = c.in_ok-drawn.ensures.adjustments;
+  numbers = c.none-numbers.ensures.rows;
 }
 
 pub returns-clause-world : goal.returns-clause-world

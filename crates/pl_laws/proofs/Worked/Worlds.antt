@@ -79,6 +79,7 @@ world assets labels texts bars t =
       texts = texts;
       bars = bars;
       adjustments = adjustments_of assets t.splits t.mergers t.dividends;
+      numbers = [];
     }
 
 abbrev pub closes : List Bar

@@ -6,30 +6,6 @@ use Rattle.pl_pointwise.specs.Operands.{AreCells, AreFlags, AreOperands}
 use Rattle.pl_pointwise.proofs.FlagLemmas.{flag-left, two-operands}
 use Rattle.pl_pointwise.proofs.write_places.Goals as goal
 
-pub at_each_pair-requires : goal.at_each_pair-requires
-unfolding kind_of
-at_each_pair-requires c =
-    let o : AreCells (length c.args.out.now) c.args.a.now × AreCells (length c.args.out.now) c.args.b.now = subst (λ (k : TermKind). AreOperands (kind_of k) c.args.a.now c.args.b.now c.args.c.now (length c.args.out.now)) c.in-Add.is c.requires.operands in
-    record { callable = search rules; left = o.0; right = o.1 }
-
-pub at_each_pair-requires-in-Sub : goal.at_each_pair-requires-in-Sub
-unfolding kind_of
-at_each_pair-requires-in-Sub c =
-    let o : AreCells (length c.args.out.now) c.args.a.now × AreCells (length c.args.out.now) c.args.b.now = subst (λ (k : TermKind). AreOperands (kind_of k) c.args.a.now c.args.b.now c.args.c.now (length c.args.out.now)) c.in-Sub.is c.requires.operands in
-    record { callable = search rules; left = o.0; right = o.1 }
-
-pub at_each_pair-requires-in-Mul : goal.at_each_pair-requires-in-Mul
-unfolding kind_of
-at_each_pair-requires-in-Mul c =
-    let o : AreCells (length c.args.out.now) c.args.a.now × AreCells (length c.args.out.now) c.args.b.now = subst (λ (k : TermKind). AreOperands (kind_of k) c.args.a.now c.args.b.now c.args.c.now (length c.args.out.now)) c.in-Mul.is c.requires.operands in
-    record { callable = search rules; left = o.0; right = o.1 }
-
-pub at_each_pair-requires-in-Div : goal.at_each_pair-requires-in-Div
-unfolding kind_of
-at_each_pair-requires-in-Div c =
-    let o : AreCells (length c.args.out.now) c.args.a.now × AreCells (length c.args.out.now) c.args.b.now = subst (λ (k : TermKind). AreOperands (kind_of k) c.args.a.now c.args.b.now c.args.c.now (length c.args.out.now)) c.in-Div.is c.requires.operands in
-    record { callable = search rules; left = o.0; right = o.1 }
-
 pub at_each-requires : goal.at_each-requires
 unfolding kind_of
 at_each-requires c =
@@ -48,12 +24,6 @@ at_each-requires-in-Clip c =
     let o : AreCells (length c.args.out.now) c.args.a.now = subst (λ (k : TermKind). AreOperands (kind_of k) c.args.a.now c.args.b.now c.args.c.now (length c.args.out.now)) c.in-Clip.is c.requires.operands in
     record { callable = search rules; cells = o }
 
-pub at_each_pair-requires-in-FillNa : goal.at_each_pair-requires-in-FillNa
-unfolding kind_of
-at_each_pair-requires-in-FillNa c =
-    let o : AreCells (length c.args.out.now) c.args.a.now × AreCells (length c.args.out.now) c.args.b.now = subst (λ (k : TermKind). AreOperands (kind_of k) c.args.a.now c.args.b.now c.args.c.now (length c.args.out.now)) c.in-FillNa.is c.requires.operands in
-    record { callable = search rules; left = o.0; right = o.1 }
-
 pub select-requires : goal.select-requires
 unfolding kind_of
 select-requires c =
@@ -66,36 +36,6 @@ select-requires c =
       left_length = o.1.many;
       right_length = o.2.many;
     }
-
-pub returns-in-Add-clause-values : goal.returns-in-Add-clause-values
-unfolding kind_of pointwise
-returns-in-Add-clause-values c = λ k h.
-    let v = c.at_each_pair.ensures.values k h in
-    rw c.in-Add.is (search rules)
-
-pub returns-in-Sub-clause-values : goal.returns-in-Sub-clause-values
-unfolding kind_of pointwise
-returns-in-Sub-clause-values c = λ k h.
-    let v = c.at_each_pair-in-Sub.ensures.values k h in
-    rw c.in-Sub.is (search rules)
-
-pub returns-in-Mul-clause-values : goal.returns-in-Mul-clause-values
-unfolding kind_of pointwise
-returns-in-Mul-clause-values c = λ k h.
-    let v = c.at_each_pair-in-Mul.ensures.values k h in
-    rw c.in-Mul.is (search rules)
-
-pub returns-in-Div-clause-values : goal.returns-in-Div-clause-values
-unfolding kind_of pointwise
-returns-in-Div-clause-values c = λ k h.
-    let v = c.at_each_pair-in-Div.ensures.values k h in
-    rw c.in-Div.is (search rules)
-
-pub returns-in-FillNa-clause-values : goal.returns-in-FillNa-clause-values
-unfolding kind_of pointwise
-returns-in-FillNa-clause-values c = λ k h.
-    let v = c.at_each_pair-in-FillNa.ensures.values k h in
-    rw c.in-FillNa.is (search rules)
 
 pub returns-in-Neg-clause-values : goal.returns-in-Neg-clause-values
 unfolding kind_of pointwise

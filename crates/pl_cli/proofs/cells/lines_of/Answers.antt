@@ -8,11 +8,11 @@ returns-clause-exact g c =
     let w = c.world-world.ensures in
     let l = c.args.loaded.now in
     lent-lines c.world-world.result l.world (pipeline_of l.checked) l.cell.term.0 l.cell.col l.cell.session
-    (lent-world c.world-world.result l.world w.sessions w.assets w.labels w.bars w.adjustments) w.assets c.explain_cell.result c.explain_cell.ensures.exact
+    (lent-world c.world-world.result l.world w.sessions w.assets w.labels w.bars w.adjustments w.numbers) w.assets c.explain_cell.result c.explain_cell.ensures.exact
 
 pub returns-clause-long : goal.returns-clause-long
 returns-clause-long g c =
     let w = c.world-world.ensures in
     let l = c.args.loaded.now in
     lent-count c.world-world.result l.world (pipeline_of l.checked) l.cell.term.0 l.cell.col l.cell.session
-    (lent-world c.world-world.result l.world w.sessions w.assets w.labels w.bars w.adjustments) w.assets c.explain_cell.result c.explain_cell.ensures.long
+    (lent-world c.world-world.result l.world w.sessions w.assets w.labels w.bars w.adjustments w.numbers) w.assets c.explain_cell.result c.explain_cell.ensures.long

@@ -1,8 +1,10 @@
-use Rattle.std.proofs.Common.{ap, ◌∙◌, sym, arith, max}
-use Rattle.pl_exec.specs.Tasks.{held_in, steps_in}
+use Rattle.std.proofs.Common.{◌≡◌, ◌+◌, ap, ◌∙◌, sym, arith, length, max}
+use Rattle.pl_spec.specs.Limits.{cut}
+use Rattle.pl_exec.specs.Tasks.{graph_in, held_in, steps_in}
 use Rattle.pl_exec.specs.Jobs.{task_of}
 use Rattle.pl_exec.proofs.Listed.{sum_more}
 use Rattle.pl_exec.proofs.Releases.{cut_more, most_three}
+use Rattle.pl_exec.proofs.Sids.{held_most, outputs_held, steps_sum}
 use Rattle.pl_planner.proofs.Counting.{most_more}
 use Rattle.pl_exec.proofs.chunk.run_terms.Goals as goal
 
@@ -24,3 +26,28 @@ loop-k-preserved g c =
       cross = c.run_term-filled.ensures.cross ∙ c.loop-k.invariant.cross;
       rows = c.run_term-filled.ensures.rows ∙ c.loop-k.invariant.rows;
     }
+
+pub returns-clause-outputs : goal.returns-clause-outputs
+returns-clause-outputs g c =
+    let all : c.loop-k.k ≡ length (graph_in (task_of c.args.job.now)) = omega (arith, c.loop-k-test.false, c.loop-k.auto.k-end, c.term_count-k-end.ensures) in
+    outputs_held (task_of c.args.job.now) c.requires.job.task c.loop-k.k all c.loop-k.workspace c.loop-k.invariant.live
+
+pub returns-clause-workspace : goal.returns-clause-workspace
+returns-clause-workspace g c =
+    let all : c.loop-k.k ≡ length (graph_in (task_of c.args.job.now)) = omega (arith, c.loop-k-test.false, c.loop-k.auto.k-end, c.term_count-k-end.ensures) in
+    c.loop-k.invariant.most ∙ ap (max c.args.workspace.now.peak) (held_most (task_of c.args.job.now) c.requires.job.task c.loop-k.k all)
+
+pub returns-clause-peak : goal.returns-clause-peak
+returns-clause-peak g c =
+    let all : c.loop-k.k ≡ length (graph_in (task_of c.args.job.now)) = omega (arith, c.loop-k-test.false, c.loop-k.auto.k-end, c.term_count-k-end.ensures) in
+    c.loop-k.invariant.held ∙ held_most (task_of c.args.job.now) c.requires.job.task c.loop-k.k all
+
+pub returns-clause-applied : goal.returns-clause-applied
+returns-clause-applied g c =
+    let all : c.loop-k.k ≡ length (graph_in (task_of c.args.job.now)) = omega (arith, c.loop-k-test.false, c.loop-k.auto.k-end, c.term_count-k-end.ensures) in
+    c.loop-k.invariant.applied ∙ ap cut (steps_sum (task_of c.args.job.now) c.requires.job.task c.loop-k.k all)
+
+pub returns-clause-cost : goal.returns-clause-cost
+returns-clause-cost g c =
+    let all : c.loop-k.k ≡ length (graph_in (task_of c.args.job.now)) = omega (arith, c.loop-k-test.false, c.loop-k.auto.k-end, c.term_count-k-end.ensures) in
+    c.loop-k.invariant.cost ∙ ap (λ m. c.args.steps.now + m) (steps_sum (task_of c.args.job.now) c.requires.job.task c.loop-k.k all)

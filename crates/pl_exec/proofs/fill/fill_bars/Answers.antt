@@ -3,7 +3,8 @@ use Rattle.std.proofs.lemmas.List.{take_all}
 use Rattle.pl_spec.specs.Limits.{cut}
 use Rattle.pl_exec.specs.Tasks.{assets_in, cell_in}
 use Rattle.pl_exec.specs.Jobs.{node_in, steps_of, task_in}
-use Rattle.pl_exec.proofs.Courses.{all_laned, course_array, lane_room, none_laned, one_laned}
+use Rattle.pl_exec.proofs.Courses.{course_array, lane_room, none_laned, one_laned}
+use Rattle.pl_exec.proofs.Spans.{all_written}
 use Rattle.pl_exec.proofs.Stands.{cut_two, steps_all, steps_more, steps_none}
 use Rattle.pl_exec.proofs.fill.fill_bars.Goals as goal
 
@@ -30,7 +31,7 @@ loop-i-preserved g c =
 pub returns-clause-array : goal.returns-clause-array
 returns-clause-array g c =
     course_array c.args.course.now c.requires.course c.loop-i.own
-    (all_laned (cell_in (task_in c.args.course.now) c.args.course.now.term.0) (assets_in (task_in c.args.course.now)) c.args.course.now.low c.args.course.now.count c.loop-i.i c.loop-i.own c.loop-i.invariant.lanes (omega (arith, c.loop-i-test.false)) (omega (arith, c.requires.room, c.loop-i.auto.own)))
+    (all_written (cell_in (task_in c.args.course.now) c.args.course.now.term.0) c.args.course.now.low c.args.course.now.count (assets_in (task_in c.args.course.now)) c.loop-i.i c.args.course.now.count c.loop-i.own c.loop-i.invariant.lanes (omega (arith, c.loop-i-test.false)) (omega arith) (omega (arith, c.requires.room, c.loop-i.auto.own)))
 
 pub returns-clause-cost : goal.returns-clause-cost
 returns-clause-cost g c =

@@ -1,7 +1,8 @@
 use Rattle.std.proofs.Common.{◌≤◌, ◌*◌, ◌+◌, length, arith}
 use Rattle.pl_exec.specs.Tasks.{assets_in, cell_in}
 use Rattle.pl_exec.specs.Jobs.{task_in}
-use Rattle.pl_exec.proofs.Courses.{all_laned, course_array, lane_room, none_laned, one_laned}
+use Rattle.pl_exec.proofs.Courses.{course_array, lane_room, none_laned, one_laned}
+use Rattle.pl_exec.proofs.Spans.{all_written}
 use Rattle.pl_exec.proofs.fill.fill_lanes.Goals as goal
 
 pub loop-i-init : goal.loop-i-init
@@ -20,4 +21,4 @@ loop-i-preserved c =
 pub returns : goal.returns
 returns c =
     course_array c.args.course.now c.requires.course c.loop-i.own
-    (all_laned (cell_in (task_in c.args.course.now) c.args.course.now.term.0) (assets_in (task_in c.args.course.now)) c.args.course.now.low c.args.course.now.count c.loop-i.i c.loop-i.own c.loop-i.invariant (omega (arith, c.loop-i-test.false)) (omega (arith, c.requires.room, c.loop-i.auto.own)))
+    (all_written (cell_in (task_in c.args.course.now) c.args.course.now.term.0) c.args.course.now.low c.args.course.now.count (assets_in (task_in c.args.course.now)) c.loop-i.i c.args.course.now.count c.loop-i.own c.loop-i.invariant (omega (arith, c.loop-i-test.false)) (omega arith) (omega (arith, c.requires.room, c.loop-i.auto.own)))

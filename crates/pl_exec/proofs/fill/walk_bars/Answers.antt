@@ -1,30 +1,20 @@
 use Rattle.std.proofs.Common.{◌≡◌, ◌+◌, ◌-◌, ◌∙◌, arith, subst, ap, length, length-take, length-drop, take, drop}
 use Rattle.pl_exec.specs.Jobs.{AreBars, AreStill, IsGivenOn, node_in, one_col}
 use Rattle.pl_exec.proofs.Courses.{count_of}
-use Rattle.pl_exec.proofs.Stands.{bars_begun, bars_here, bars_later, bars_next, stands_on}
+use Rattle.pl_exec.proofs.Stands.{bars_begun, bars_go_on, bars_here, bars_later, bars_next}
 use Rattle.pl_exec.proofs.Stretches.{kept_lane, more_given}
 use Rattle.pl_exec.proofs.fill.walk_bars.Goals as goal
 
-pub advance_all-requires-clause-first : goal.advance_all-requires-clause-first
-advance_all-requires-clause-first g c =
-    let n = count_of c.args.course.now c.requires.course in
-    stands_on c.args.course.now.job.now c.args.course.now.workspace.now c.args.course.now.term.0 (node_in c.args.course.now) c.requires.run (one_col c.args.course.now.job.now c.args.i) 0 c.loop-done.done (omega (arith, n, c.loop-done-test.true, c.loop-done.auto.out, c.requires.long)) c.loop-done.bars.first c.loop-done.invariant.bars.first
-
-pub advance_all-requires-clause-second : goal.advance_all-requires-clause-second
-advance_all-requires-clause-second g c =
-    let n = count_of c.args.course.now c.requires.course in
-    stands_on c.args.course.now.job.now c.args.course.now.workspace.now c.args.course.now.term.0 (node_in c.args.course.now) c.requires.run (one_col c.args.course.now.job.now c.args.i) 1 c.loop-done.done (omega (arith, n, c.loop-done-test.true, c.loop-done.auto.out, c.requires.long)) c.loop-done.bars.second c.loop-done.invariant.bars.second
-
-pub advance_all-requires-clause-third : goal.advance_all-requires-clause-third
-advance_all-requires-clause-third g c =
-    let n = count_of c.args.course.now c.requires.course in
-    stands_on c.args.course.now.job.now c.args.course.now.workspace.now c.args.course.now.term.0 (node_in c.args.course.now) c.requires.run (one_col c.args.course.now.job.now c.args.i) 2 c.loop-done.done (omega (arith, n, c.loop-done-test.true, c.loop-done.auto.out, c.requires.long)) c.loop-done.bars.third c.loop-done.invariant.bars.third
+pub advance_all-requires : goal.advance_all-requires
+advance_all-requires g c =
+    let n = count_of c.args.lane.now.course.now c.requires.lane.course in
+    bars_go_on c.args.lane.now.course.now.job.now c.args.lane.now.course.now.workspace.now c.args.lane.now.course.now.term.0 (node_in c.args.lane.now.course.now) c.requires.run (one_col c.args.lane.now.course.now.job.now c.args.lane.now.i) c.loop-done.done (omega (arith, n, c.loop-done-test.true, c.loop-done.auto.out, c.requires.long)) c.loop-done.bars c.loop-done.invariant.bars
 
 pub fill_stretch-requires-clause-bars : goal.fill_stretch-requires-clause-bars
 fill_stretch-requires-clause-bars g c =
-    bars_here c.args.course.now.job.now c.args.course.now.workspace.now c.args.course.now.term.0 (node_in c.args.course.now) c.requires.run (one_col c.args.course.now.job.now c.args.i) c.loop-done.done _ c.advance_all.new.bars
-    (bars_next c.args.course.now.job.now c.args.course.now.workspace.now c.args.course.now.term.0 (node_in c.args.course.now) c.requires.run (one_col c.args.course.now.job.now c.args.i) c.loop-done.done c.loop-done.bars c.advance_all.new.bars c.loop-done.invariant.bars c.advance_all.ensures.first c.advance_all.ensures.second c.advance_all.ensures.third)
-    (ap (λ l. l + c.loop-done.done) c.requires.course.low)
+    bars_here c.args.lane.now.course.now.job.now c.args.lane.now.course.now.workspace.now c.args.lane.now.course.now.term.0 (node_in c.args.lane.now.course.now) c.requires.run (one_col c.args.lane.now.course.now.job.now c.args.lane.now.i) c.loop-done.done _ c.advance_all.new.bars
+    (bars_next c.args.lane.now.course.now.job.now c.args.lane.now.course.now.workspace.now c.args.lane.now.course.now.term.0 (node_in c.args.lane.now.course.now) c.requires.run (one_col c.args.lane.now.course.now.job.now c.args.lane.now.i) c.loop-done.done c.loop-done.bars c.advance_all.new.bars c.loop-done.invariant.bars c.advance_all.ensures.next)
+    (ap (λ l. l + c.loop-done.done) c.requires.lane.course.low)
 
 pub fill_stretch-requires-clause-still : goal.fill_stretch-requires-clause-still
 fill_stretch-requires-clause-still g c =
@@ -42,37 +32,27 @@ loop-done-preserved g c =
     let part : length (take (c.loop-done.done + n + 1 - c.loop-done.done) (drop c.loop-done.done c.loop-done.out)) ≡ n + 1 = omega (arith, taken, dropped, c.still-more.ensures.few, c.loop-done-test.true) in
     record {
       within = omega (arith, c.still-more.ensures.few, c.loop-done-test.true, c.loop-done.auto.out, c.requires.long);
-      given = λ m h. more_given (λ k x. IsGivenOn c.args.course.now c.args.i k x) c.loop-done.out c.fill_stretch.new.out c.loop-done.done (n + 1) _ (omega (arith, c.loop-done-test.true)) (c.fill_stretch.ensures.long ∙ part)
+      given = λ m h. more_given (λ k x. IsGivenOn c.args.lane.now.course.now c.args.lane.now.i k x) c.loop-done.out c.fill_stretch.new.out c.loop-done.done (n + 1) _ (omega (arith, c.loop-done-test.true)) (c.fill_stretch.ensures.long ∙ part)
           c.loop-done.invariant.given (λ k l. c.fill_stretch.ensures.values k (omega (arith, l, part))) m (omega (arith, h));
-      bars = bars_later c.args.course.now.job.now c.args.course.now.workspace.now c.args.course.now.term.0 (node_in c.args.course.now) c.requires.run (one_col c.args.course.now.job.now c.args.i) c.loop-done.done n c.advance_all.new.bars c.pass.new.bars
-          (bars_next c.args.course.now.job.now c.args.course.now.workspace.now c.args.course.now.term.0 (node_in c.args.course.now) c.requires.run (one_col c.args.course.now.job.now c.args.i) c.loop-done.done c.loop-done.bars c.advance_all.new.bars c.loop-done.invariant.bars c.advance_all.ensures.first c.advance_all.ensures.second c.advance_all.ensures.third)
-          c.pass.ensures.first c.pass.ensures.second c.pass.ensures.third;
+      bars = bars_later c.args.lane.now.course.now.job.now c.args.lane.now.course.now.workspace.now c.args.lane.now.course.now.term.0 (node_in c.args.lane.now.course.now) c.requires.run (one_col c.args.lane.now.course.now.job.now c.args.lane.now.i) c.loop-done.done n c.advance_all.new.bars c.pass.new.bars
+          (bars_next c.args.lane.now.course.now.job.now c.args.lane.now.course.now.workspace.now c.args.lane.now.course.now.term.0 (node_in c.args.lane.now.course.now) c.requires.run (one_col c.args.lane.now.course.now.job.now c.args.lane.now.i) c.loop-done.done c.loop-done.bars c.advance_all.new.bars c.loop-done.invariant.bars c.advance_all.ensures.next)
+          c.pass.ensures.next;
       cost = omega (arith, c.advance_all.ensures.cost, c.loop-done.invariant.cost, c.pass.ensures.cost);
     }
 
-pub pass-requires-clause-first : goal.pass-requires-clause-first
-pass-requires-clause-first g c =
-    (bars_begun c.args.course.now.job.now c.args.course.now.workspace.now c.args.course.now.term.0 (node_in c.args.course.now) c.requires.run (one_col c.args.course.now.job.now c.args.i) c.loop-done.done c.advance_all.new.bars
-    (bars_next c.args.course.now.job.now c.args.course.now.workspace.now c.args.course.now.term.0 (node_in c.args.course.now) c.requires.run (one_col c.args.course.now.job.now c.args.i) c.loop-done.done c.loop-done.bars c.advance_all.new.bars c.loop-done.invariant.bars c.advance_all.ensures.first c.advance_all.ensures.second c.advance_all.ensures.third)).0
-
-pub pass-requires-clause-second : goal.pass-requires-clause-second
-pass-requires-clause-second g c =
-    (bars_begun c.args.course.now.job.now c.args.course.now.workspace.now c.args.course.now.term.0 (node_in c.args.course.now) c.requires.run (one_col c.args.course.now.job.now c.args.i) c.loop-done.done c.advance_all.new.bars
-    (bars_next c.args.course.now.job.now c.args.course.now.workspace.now c.args.course.now.term.0 (node_in c.args.course.now) c.requires.run (one_col c.args.course.now.job.now c.args.i) c.loop-done.done c.loop-done.bars c.advance_all.new.bars c.loop-done.invariant.bars c.advance_all.ensures.first c.advance_all.ensures.second c.advance_all.ensures.third)).1
-
-pub pass-requires-clause-third : goal.pass-requires-clause-third
-pass-requires-clause-third g c =
-    (bars_begun c.args.course.now.job.now c.args.course.now.workspace.now c.args.course.now.term.0 (node_in c.args.course.now) c.requires.run (one_col c.args.course.now.job.now c.args.i) c.loop-done.done c.advance_all.new.bars
-    (bars_next c.args.course.now.job.now c.args.course.now.workspace.now c.args.course.now.term.0 (node_in c.args.course.now) c.requires.run (one_col c.args.course.now.job.now c.args.i) c.loop-done.done c.loop-done.bars c.advance_all.new.bars c.loop-done.invariant.bars c.advance_all.ensures.first c.advance_all.ensures.second c.advance_all.ensures.third)).2
+pub pass-requires-clause-begun : goal.pass-requires-clause-begun
+pass-requires-clause-begun g c =
+    bars_begun c.args.lane.now.course.now.job.now c.args.lane.now.course.now.workspace.now c.args.lane.now.course.now.term.0 (node_in c.args.lane.now.course.now) c.requires.run (one_col c.args.lane.now.course.now.job.now c.args.lane.now.i) c.loop-done.done c.advance_all.new.bars
+    (bars_next c.args.lane.now.course.now.job.now c.args.lane.now.course.now.workspace.now c.args.lane.now.course.now.term.0 (node_in c.args.lane.now.course.now) c.requires.run (one_col c.args.lane.now.course.now.job.now c.args.lane.now.i) c.loop-done.done c.loop-done.bars c.advance_all.new.bars c.loop-done.invariant.bars c.advance_all.ensures.next)
 
 pub returns-clause-out : goal.returns-clause-out
 returns-clause-out g c =
-    kept_lane c.args.course.now c.requires.course c.args.i c.loop-done.out c.keep_lane.new.out
+    kept_lane c.args.lane.now.course.now c.requires.lane.course c.args.lane.now.i c.loop-done.out c.keep_lane.new.out
     (λ m h. c.loop-done.invariant.given m (omega (arith, h, c.loop-done-test.false, c.loop-done.auto.out, c.requires.long)))
     c.keep_lane.ensures.each
     (c.keep_lane.ensures.long ∙ c.loop-done.auto.out ∙ c.requires.long)
 
 pub returns-clause-bars : goal.returns-clause-bars
 returns-clause-bars g c =
-    let e : c.loop-done.done ≡ c.args.course.now.count = omega (arith, c.loop-done-test.false, c.loop-done.auto.out, c.loop-done.invariant.within, c.requires.long) in
-    subst (λ m. AreBars c.args.course.now.job.now c.args.course.now.term.0 (node_in c.args.course.now) (one_col c.args.course.now.job.now c.args.i) m c.loop-done.bars) e c.loop-done.invariant.bars
+    let e : c.loop-done.done ≡ c.args.lane.now.course.now.count = omega (arith, c.loop-done-test.false, c.loop-done.auto.out, c.loop-done.invariant.within, c.requires.long) in
+    subst (λ m. AreBars c.args.lane.now.course.now.job.now c.args.lane.now.course.now.term.0 (node_in c.args.lane.now.course.now) (one_col c.args.lane.now.course.now.job.now c.args.lane.now.i) m c.loop-done.bars) e c.loop-done.invariant.bars

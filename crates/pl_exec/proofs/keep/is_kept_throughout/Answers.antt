@@ -9,7 +9,7 @@ use Rattle.pl_exec.proofs.keep.is_kept_throughout.Goals as goal
 
 pub returns-then-lives : goal.returns-then-lives
 returns-then-lives c t j h =
-    kept_throughout c.args.course.now c.requires.course c.args.i c.requires.asset (subst (IsMaskLent (task_in c.args.course.now) (node_in c.args.course.now).mask) c.in-None.is c.requires.lent.mask)
-    (subst (λ (u : Turn). exists (task_at u).world (sid_in (sids_in (task_at u)) c.args.i) (pos u.session) ≡ true) c.turn_on.ensures.is (sym c.lives.ensures ∙ c.if-lives.true))
-    (subst (λ (u : Turn). exists (task_at u).world (sid_in (sids_in (task_at u)) c.args.i) (pos u.session) ≡ true) c.turn_on-then-lives.ensures.is (sym c.lives-then-lives.ensures ∙ t))
+    kept_throughout c.args.lane.now.course.now c.requires.lane.course c.args.lane.now.i c.requires.lane.asset (subst (IsMaskLent (task_in c.args.lane.now.course.now) (node_in c.args.lane.now.course.now).mask) c.in-None.is c.requires.lane.lent.mask)
+    (subst (λ (u : Turn). exists (task_at u).world (sid_in (sids_in (task_at u)) c.args.lane.now.i) (pos u.session) ≡ true) c.turn_on.ensures.is (sym c.lives.ensures ∙ c.if-lives.true))
+    (subst (λ (u : Turn). exists (task_at u).world (sid_in (sids_in (task_at u)) c.args.lane.now.i) (pos u.session) ≡ true) c.turn_on-then-lives.ensures.is (sym c.lives-then-lives.ensures ∙ t))
     j h

@@ -2,27 +2,28 @@ use Rattle.std.proofs.Common.{rules, ◌<◌, ◌∙◌, arith, ap, sym, subst, 
 use Rattle.std.proofs.lemmas.Int.{to_z-of_z}
 use Rattle.pl_spec.specs.Rounding.{IsCell}
 use Rattle.pl_values.specs.Families.{label_code}
+use Rattle.pl_values.proofs.Written.{one_given}
 use Rattle.pl_exec.specs.Jobs.{IsGivenOn, turn_in}
 use Rattle.pl_exec.proofs.Courses.{course_turn}
 use Rattle.pl_exec.proofs.Givens.{label_given, label_here}
-use Rattle.pl_exec.proofs.Stretches.{given_by, one_given}
+use Rattle.pl_exec.proofs.Stretches.{given_by}
 use Rattle.pl_exec.proofs.leaves.label_lane.Goals as goal
 
 pub label_name-name-requires : goal.label_name-name-requires
-label_name-name-requires c = (label_given (turn_in c.args.course.now 0) (course_turn c.args.course.now c.requires.course 0 c.requires.course.some) c.args.name 0 c.requires.kind).0
+label_name-name-requires c = (label_given (turn_in c.args.lane.now.course.now 0) (course_turn c.args.lane.now.course.now c.requires.lane.course 0 c.requires.lane.course.some) c.args.name 0 c.requires.kind).0
 
 pub loop-j-preserved : goal.loop-j-preserved
 loop-j-preserved c =
     let d : FitsSigned w32 c.day-day.result = search rules in
     let v : FitsSigned w64 c.label_value.result = search rules in
     let value = simp to_z-of_z at c.label_value.ensures.value in
-    let here : c.loop-j.j < c.args.course.now.count = omega (arith, c.loop-j-test.true, c.loop-j.auto.out, c.requires.long) in
-    let turn = course_turn c.args.course.now c.requires.course c.loop-j.j here in
-    let said = label_here (turn_in c.args.course.now c.loop-j.j) turn c.args.i c.args.name c.label_name-name.result.now c.day-day.result c.requires.asset c.label_name-name.ensures c.day-day.ensures.exact in
-    let g = (label_given (turn_in c.args.course.now c.loop-j.j) turn c.args.name c.args.i c.requires.kind).1 in
-    let same = value ∙ ap (label_code c.args.course.now.job.now.world.labels.now.texts) (sym said) in
-    rw (to_z-of_z w64 _ v) (one_given (λ k x. IsGivenOn c.args.course.now c.args.i k x) c.loop-j.j c.loop-j.out c.label_value.result c.loop-j.invariant (omega (arith, c.loop-j-test.true))
-    (given_by c.args.course.now c.args.i c.loop-j.j _ c.label_value.result same g (subst IsCell same c.label_value.ensures.cell)))
+    let here : c.loop-j.j < c.args.lane.now.course.now.count = omega (arith, c.loop-j-test.true, c.loop-j.auto.out, c.requires.long) in
+    let turn = course_turn c.args.lane.now.course.now c.requires.lane.course c.loop-j.j here in
+    let said = label_here (turn_in c.args.lane.now.course.now c.loop-j.j) turn c.args.lane.now.i c.args.name c.label_name-name.result.now c.day-day.result c.requires.lane.asset c.label_name-name.ensures c.day-day.ensures.exact in
+    let g = (label_given (turn_in c.args.lane.now.course.now c.loop-j.j) turn c.args.name c.args.lane.now.i c.requires.kind).1 in
+    let same = value ∙ ap (label_code c.args.lane.now.course.now.job.now.world.labels.now.texts) (sym said) in
+    rw (to_z-of_z w64 _ v) (one_given (λ k x. IsGivenOn c.args.lane.now.course.now c.args.lane.now.i k x) c.loop-j.j c.loop-j.out c.label_value.result c.loop-j.invariant (omega (arith, c.loop-j-test.true))
+    (given_by c.args.lane.now.course.now c.args.lane.now.i c.loop-j.j _ c.label_value.result same g (subst IsCell same c.label_value.ensures.cell)))
 
 pub returns : goal.returns
 returns c j h = c.loop-j.invariant j (omega (arith, h, c.loop-j-test.false, c.loop-j.auto.out, c.requires.long))

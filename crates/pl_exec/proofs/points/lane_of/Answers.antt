@@ -7,9 +7,9 @@ pub overflow_sub-after : goal.overflow_sub-after
 overflow_sub-after c = omega (arith, c.requires.read.1.early)
 
 pub cells_from-requires : goal.cells_from-requires
-cells_from-requires c = lane_within c.args.course.now c.requires.read.0 c.args.array.now c.requires.course c.requires.read.1 c.args.i c.requires.asset
+cells_from-requires c = lane_within c.args.lane.now.course.now c.requires.read.0 c.args.array.now c.requires.lane.course c.requires.read.1 c.args.lane.now.i c.requires.lane.asset
 
 pub returns : goal.returns
 returns c u read =
-    subst (λ row. IsOperand c.args.course.now u c.args.i row) (sym c.cells_from.ensures)
-    (lane_read c.args.course.now u c.args.array.now c.requires.course read c.args.i c.requires.asset c.args.course.now.count refl)
+    subst (λ row. IsOperand c.args.lane.now.course.now u c.args.lane.now.i row) (sym c.cells_from.ensures)
+    (lane_read c.args.lane.now.course.now u c.args.array.now c.requires.lane.course read c.args.lane.now.i c.requires.lane.asset c.args.lane.now.course.now.count refl)

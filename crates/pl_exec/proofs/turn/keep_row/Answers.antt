@@ -12,9 +12,8 @@ term_row-requires-clause-read c =
 pub returns-in-Some-clause-keep : goal.returns-in-Some-clause-keep
 returns-in-Some-clause-keep c =
     let e : (node_at c.args.turn.now).mask ≡ Some c.in-Some.term.0 = search rules in
-    let t = task_at c.args.turn.now in
     rw e (kept_masked (task_at c.args.turn.now).world (task_at c.args.turn.now).pipeline (sids_in (task_at c.args.turn.now)) c.in-Some.term.0 (assets_in (task_at c.args.turn.now)) c.args.turn.now.session
-    c.existing_row.new.keep c.masked_row.new.keep c.term_row.new.row c.existing_row.ensures c.term_row.ensures c.masked_row.ensures.length c.masked_row.ensures.each)
+    c.existing_row.new.keep c.keep_values.new.out c.term_row.new.row c.existing_row.ensures c.term_row.ensures c.keep_values.ensures.length c.keep_values.ensures.each)
 
 pub returns-in_default-clause-keep : goal.returns-in_default-clause-keep
 returns-in_default-clause-keep c =

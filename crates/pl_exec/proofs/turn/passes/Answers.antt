@@ -2,7 +2,8 @@ use Rattle.std.proofs.Common.{rules, ◌<◌, ◌+◌, ◌-◌, ◌*◌, subst, 
 use Rattle.std.proofs.lemmas.Int.{to_z-of_z}
 use Rattle.pl_spec.specs.Formula.{is_true}
 use Rattle.pl_exec.specs.Jobs.{IsMaskLent, node_at, passes, task_at}
-use Rattle.pl_exec.proofs.Courses.{masked_by, cell_within, cell_is}
+use Rattle.pl_exec.proofs.Courses.{masked_by}
+use Rattle.pl_exec.proofs.Held.{cell_within, cell_is}
 use Rattle.pl_exec.proofs.turn.passes.Goals as goal
 
 pub offset_bounds-array-i : goal.offset_bounds-array-i

@@ -6,7 +6,7 @@ use Rattle.pl_exec.proofs.Stretches.{reach_cells, reach_end, reach_size, term_re
 use Rattle.pl_exec.proofs.turn.term_reach.Goals as goal
 
 pub overflow_sub-last : goal.overflow_sub-last
-overflow_sub-last c = let l = c.requires.lent.1 in omega (arith, l.read.early, l.read.some, l.low)
+overflow_sub-last c = let l = c.requires.lent.1 in omega (arith, l.read.early, l.read.some, l.array.low)
 
 pub cells_up_to-requires-clause-end : goal.cells_up_to-requires-clause-end
 cells_up_to-requires-clause-end c =

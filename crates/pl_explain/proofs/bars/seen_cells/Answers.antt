@@ -19,10 +19,9 @@ returns-clause-value g c =
     let low = c.day-bar_day.result in
     let high = c.day-day.result in
     let made = c.requires.made in
-    let assets = c.len-assets.ensures.assets in
-    let raw = cells_raw w.sessions.now w.assets.now w.labels.now.rows w.labels.now.texts w.bars.now w.adjustments.now assets.ascend made.bars_in c.args.col c.args.column c.args.bar c.requires.col in
+    let raw = cells_raw w.sessions.now w.assets.now w.labels.now.rows w.labels.now.texts w.bars.now w.adjustments.now w.numbers.now.rows c.requires.assets.ascend made.bars_in c.args.col c.args.column c.args.bar c.requires.col in
     let list = ap (filter_map (effect c.args.column low)) (simp to_z-of_z at c.events_between-list.ensures.events) in
-    let all = effects-at w made assets c.args.col c.requires.col c.args.column c.args.bar c.args.session low high c.day-bar_day.ensures.exact c.day-day.ensures.exact in
+    let all = effects-at w made c.requires.assets c.args.col c.requires.col c.args.column c.args.bar c.args.session low high c.day-bar_day.ensures.exact c.day-day.ensures.exact in
     let given = simp to_z-of_z at c.after_each.ensures.value in
     IfOk-weaker c.after_each.result _ _
     (λ v h. h ∙ ap (after_each c.get-cell.result) (list ∙ sym all) ∙ ap (λ x. after_each x (effects (world_of w) a c.args.column (pos c.args.bar) (pos c.args.session))) (c.get-cell.ensures.value ∙ raw)) given
@@ -35,6 +34,6 @@ returns-clause-cost g c =
     let low = c.day-bar_day.result in
     let high = c.day-day.result in
     let list = ap (filter_map (effect c.args.column low)) (simp to_z-of_z at c.events_between-list.ensures.events) in
-    let all = effects-at w c.requires.made c.len-assets.ensures.assets c.args.col c.requires.col c.args.column c.args.bar c.args.session low high c.day-bar_day.ensures.exact c.day-day.ensures.exact in
+    let all = effects-at w c.requires.made c.requires.assets c.args.col c.requires.col c.args.column c.args.bar c.args.session low high c.day-bar_day.ensures.exact c.day-day.ensures.exact in
     let given = simp to_z-of_z at c.after_each.ensures.cost in
     on_ok_weaker c.after_each.result (λ h. h ∙ ap (λ es. c.args.steps.now + step_count es) (list ∙ sym all)) given

@@ -1,7 +1,5 @@
 use Rattle.std.proofs.Common.{◌≤◌, ◌∙◌, take, length, ap, sym, arith}
 use Rattle.pl_terms.specs.Checked.{pipeline_of}
-use Rattle.pl_cross.specs.Arrays.{HasTexts}
-use Rattle.pl_values.proofs.Texts.{texts-coded}
 use Rattle.pl_derivation.specs.Right.{is_told}
 use Rattle.pl_derivation.proofs.Truths.{sound}
 use Rattle.pl_derivation.specs.Listed.{line_of}
@@ -15,10 +13,9 @@ returns-then-not-branch-clause-exact g c =
     let w = c.args.world.now in
     let p = c.args.checked.now in
     let lines = c.args.derivation.now in
-    let texts : HasTexts (world_of w) = texts-coded w.sessions.now w.assets.now w.labels.now w.bars.now w.adjustments.now c.len-rows.ensures.labels in
     let so_far = c.loop-i.invariant in
     let l = line_of c.line-line.result.now in
-    let judged = judged-right (world_of w) (pipeline_of p) texts c.graph-terms.ensures.checked.graph c.loop-i.told (take c.loop-i.i lines) so_far.none so_far.told l in
+    let judged = judged-right (world_of w) (pipeline_of p) c.parts_are_ready.ensures.texts c.parts_are_ready.ensures.checked.graph c.loop-i.told (take c.loop-i.i lines) so_far.none so_far.told l in
     sym (stop (world_of w) (pipeline_of p) lines c.loop-i.i l c.line-line.ensures.line so_far.none (sym judged ∙ sym c.in_ok-is_right.ensures.exact ∙ c.if-not-branch.true))
 
 pub loop-i-preserved : goal.loop-i-preserved
@@ -26,11 +23,10 @@ loop-i-preserved g c =
     let w = c.args.world.now in
     let p = c.args.checked.now in
     let lines = c.args.derivation.now in
-    let texts : HasTexts (world_of w) = texts-coded w.sessions.now w.assets.now w.labels.now w.bars.now w.adjustments.now c.len-rows.ensures.labels in
     let so_far = c.loop-i.invariant in
     let i = c.loop-i.i in
     let l = line_of c.line-line.result.now in
-    let judged = judged-right (world_of w) (pipeline_of p) texts c.graph-terms.ensures.checked.graph c.loop-i.told (take i lines) so_far.none so_far.told l in
+    let judged = judged-right (world_of w) (pipeline_of p) c.parts_are_ready.ensures.texts c.parts_are_ready.ensures.checked.graph c.loop-i.told (take i lines) so_far.none so_far.told l in
     let more = c.in_ok-is_right.ensures.told c.if-not-branch.false in
     record {
       none = pass (world_of w) (pipeline_of p) lines i l c.line-line.ensures.line so_far.none (sym judged ∙ sym c.in_ok-is_right.ensures.exact ∙ c.if-not-branch.false);
@@ -43,6 +39,5 @@ returns-clause-truth g c =
     let w = c.args.world.now in
     let p = c.args.checked.now in
     let lines = c.args.derivation.now in
-    let texts : HasTexts (world_of w) = texts-coded w.sessions.now w.assets.now w.labels.now w.bars.now w.adjustments.now c.len-rows.ensures.labels in
     let end : length lines ≤ c.loop-i.i = omega (arith, c.loop-i-test.false, c.len-i-end.ensures.length) in
-    λ _ i l at. sound (world_of w) (pipeline_of p) texts c.graph-terms.ensures.checked.graph lines (whole (world_of w) (pipeline_of p) lines c.loop-i.i end c.loop-i.invariant.none) i l at
+    λ _ i l at. sound (world_of w) (pipeline_of p) c.parts_are_ready.ensures.texts c.parts_are_ready.ensures.checked.graph lines (whole (world_of w) (pipeline_of p) lines c.loop-i.i end c.loop-i.invariant.none) i l at

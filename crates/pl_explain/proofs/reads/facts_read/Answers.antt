@@ -1,4 +1,4 @@
-use Rattle.std.proofs.Common.{◌≡◌, ◌∙◌, ap, sym, subst, true, Some, pos, slice_get}
+use Rattle.std.proofs.Common.{◌≡◌, ◌∙◌, ap, sym, subst, true, pos, slice_get}
 use Rattle.std.proofs.lemmas.Result.{IfOk-weaker}
 use Rattle.pl_spec.specs.Parts.{sid_at}
 use Rattle.pl_terms.specs.Kinds.{kind_of}
@@ -8,43 +8,29 @@ use Rattle.pl_values.specs.Families.{IsOf}
 use Rattle.pl_derivation.specs.Facts.{over_inputs, window_facts}
 use Rattle.pl_world.proofs.Asked.{first-asked, second-asked, third-asked}
 use Rattle.pl_world.proofs.Evaluated.{sid-of}
-use Rattle.pl_explain.proofs.Behind.{roomy, windows-read}
+use Rattle.pl_explain.proofs.Behind.{roomy}
+use Rattle.pl_explain.proofs.Values.{read-windows}
 use Rattle.pl_explain.proofs.reads.facts_read.Goals as goal
 
-pub windows_read-requires-clause-first : goal.windows_read-requires-clause-first
-windows_read-requires-clause-first c =
+pub windows_read-requires : goal.windows_read-requires
+windows_read-requires c =
     let w = c.args.world.now in
     let p = c.args.checked.now in
     let s = c.args.session in
-    let n = c.node-node.result.now in
-    let is : slice_get p.graph c.args.t.0 ≡ Some n = ap (λ ns. slice_get ns c.args.t.0) (sym c.graph.ensures.value) ∙ c.node-node.ensures in
-    roomy w p (slice_get n.inputs 0) n.window s (first-asked w p c.graph.ensures.checked c.args.t.0 s c.requires.asked n is)
-
-pub windows_read-requires-clause-second : goal.windows_read-requires-clause-second
-windows_read-requires-clause-second c =
-    let w = c.args.world.now in
-    let p = c.args.checked.now in
-    let s = c.args.session in
-    let n = c.node-node.result.now in
-    let is : slice_get p.graph c.args.t.0 ≡ Some n = ap (λ ns. slice_get ns c.args.t.0) (sym c.graph.ensures.value) ∙ c.node-node.ensures in
-    roomy w p (slice_get n.inputs 1) n.window s (second-asked w p c.graph.ensures.checked c.args.t.0 s c.requires.asked n is)
-
-pub windows_read-requires-clause-third : goal.windows_read-requires-clause-third
-windows_read-requires-clause-third c =
-    let w = c.args.world.now in
-    let p = c.args.checked.now in
-    let s = c.args.session in
-    let n = c.node-node.result.now in
-    let is : slice_get p.graph c.args.t.0 ≡ Some n = ap (λ ns. slice_get ns c.args.t.0) (sym c.graph.ensures.value) ∙ c.node-node.ensures in
-    roomy w p (slice_get n.inputs 2) n.window s (third-asked w p c.graph.ensures.checked c.args.t.0 s c.requires.asked n is)
+    let n = c.node_in-node.result.now in
+    let ok = c.requires.ready.checked in
+    record {
+      first = roomy w p (slice_get n.inputs 0) n.window s (first-asked w p ok c.args.t.0 s c.requires.asked n c.node_in-node.ensures);
+      second = roomy w p (slice_get n.inputs 1) n.window s (second-asked w p ok c.args.t.0 s c.requires.asked n c.node_in-node.ensures);
+      third = roomy w p (slice_get n.inputs 2) n.window s (third-asked w p ok c.args.t.0 s c.requires.asked n c.node_in-node.ensures);
+    }
 
 pub returns-in-Window : goal.returns-in-Window
 returns-in-Window c =
     let w = c.args.world.now in
     let p = c.args.checked.now in
     let s = c.args.session in
-    let n = c.node-node.result.now in
-    let is : slice_get p.graph c.args.t.0 ≡ Some n = ap (λ ns. slice_get ns c.args.t.0) (sym c.graph.ensures.value) ∙ c.node-node.ensures in
+    let n = c.node_in-node.result.now in
     let kind : is_windowed (kind_of n.kind) ≡ true = subst (IsOf (kind_of n.kind)) c.in-Window.is c.family_of.ensures in
     let sid = sid-of w.assets.now c.args.col c.sid-sid.result c.sid-sid.ensures in
-    IfOk-weaker c.windows_read.result _ _ (λ v h. h ∙ ap (λ a. over_inputs (window_facts n.window a (pos s)) (node_of n)) sid ∙ windows-read w p c.args.t.0 (sid_at w.assets.now c.args.col) s n is kind) c.windows_read.ensures
+    IfOk-weaker c.windows_read.result _ _ (λ v h. h ∙ ap (λ a. over_inputs (window_facts n.window a (pos s)) (node_of n)) sid ∙ sym (read-windows w p c.requires.ready.checked c.args.t.0 n c.node_in-node.ensures (sid_at w.assets.now c.args.col) s kind)) c.windows_read.ensures

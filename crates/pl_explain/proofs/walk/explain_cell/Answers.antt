@@ -3,8 +3,6 @@ use Rattle.std.proofs.lemmas.Result.{err_from_is_err_and}
 use Rattle.pl_spec.specs.Limits.{most_lines}
 use Rattle.pl_spec.specs.Parts.{sid_at}
 use Rattle.pl_terms.specs.Checked.{pipeline_of}
-use Rattle.pl_cross.specs.Arrays.{HasTexts}
-use Rattle.pl_values.proofs.Texts.{texts-coded}
 use Rattle.pl_derivation.specs.Facts.Fact.{Worth}
 use Rattle.pl_derivation.specs.Laws.{IsDerivation}
 use Rattle.pl_derivation.specs.Walks.{derivation, facts_for}
@@ -20,7 +18,7 @@ pub finish-requires-clause-stands : goal.finish-requires-clause-stands
 finish-requires-clause-stands g c =
     let w = c.args.world.now in
     let p = c.args.checked.now in
-    stands-first w p (record { told = c.new.result; rows = c.new-2.result; lines = c.new-3.result }) c.new.ensures c.new-2.ensures c.new-3.ensures.items
+    stands-first w p (record { told = c.new.result; rows = c.new-2.result; lines = c.new-3.result }) c.new.ensures c.new-2.ensures c.new-3.ensures.items c.parts_are_ready.ensures
 
 pub finish-requires-clause-fact : goal.finish-requires-clause-fact
 finish-requires-clause-fact g c =
@@ -65,15 +63,5 @@ pub returns-clause-right : goal.returns-clause-right
 returns-clause-right g c =
     let w = c.args.world.now in
     let p = c.args.checked.now in
-    let t0 = c.args.t.0 in
-    let d = c.args.session in
-    let a = c.sid.result in
-    let walk : Walk = record { told = c.new.result; rows = c.new-2.result; lines = c.new-3.result } in
-    let same = sid-of w.assets.now c.args.col a c.sid.ensures in
-    let deep : suc (suc t0) ≡ t0 + 2 = omega arith in
-    let done = subst (λ k. Finishes w p k walk c.finish.new.walk (Worth t0 a (pos d) ∷ [])) deep c.in_ok-finish.ensures.finished in
-    let exact = c.of.ensures ∙ derived w p walk c.new.ensures c.new-2.ensures c.new-3.ensures.items t0 a d c.finish.new.walk done
-    ∙ ap (λ b. derivation (world_of w) (pipeline_of p) t0 b (pos d)) same in
-    let texts : HasTexts (world_of w) = texts-coded w.sessions.now w.assets.now w.labels.now w.bars.now w.adjustments.now c.len-rows.ensures.labels in
-    subst (λ ls. IsDerivation (world_of w) (pipeline_of p) t0 (sid_at w.assets.now c.args.col) d ls) (sym exact)
-    (asked-right w p t0 c.args.col d c.requires.used c.requires.col c.requires.session c.requires.reach c.graph-terms.ensures.checked texts c.parts_make_a_world.ensures)
+    subst (λ ls. IsDerivation (world_of w) (pipeline_of p) c.args.t.0 (sid_at w.assets.now c.args.col) c.args.session ls) (sym (returns-clause-exact g c))
+    (asked-right w p c.args.t.0 c.args.col c.args.session c.requires.used c.requires.col c.requires.session c.requires.reach c.parts_are_ready.ensures.checked c.parts_are_ready.ensures.texts c.parts_make_a_world.ensures)

@@ -40,7 +40,7 @@ returns-clause-fed g c =
     let day : to_z w32 (of_z w32 c.day.result) ≡ day_at w.sessions.now s = to_z-of_z w32 c.day.result fits ∙ sym (get_or_from_slice_get w.sessions.now s c.day.result (pos 0) c.day.ensures.exact) in
     let d : FedDay = record { day = to_z w32 (of_z w32 c.day.result); bars = c.deref.result.now; events = map column_event c.deref-2.result.now } in
     let is = handed-is w s d day (c.deref.ensures.value ∙ c.fill_bars.ensures.bars) (ap (map column_event) c.deref-2.ensures.value ∙ c.fill_events.ensures.events) in
-    next-fed w h.pipeline s h c.requires.fed c.advance.new.self d is c.in-Ok.ensures.pipeline c.in-Ok.ensures.assets c.in-Ok.ensures.labels c.in-Ok.ensures.fed
+    next-fed w h.pipeline s h c.requires.fed c.advance.new.self d is c.in-Ok.ensures.pipeline c.in-Ok.ensures.assets c.in-Ok.ensures.labels c.in-Ok.ensures.numbers c.in-Ok.ensures.fed
     (c.in-Ok.ensures.follow (fed_days w s) c.requires.fed.stands (next-follows w h.pipeline s h c.requires.fed sound c.requires.session d is))
 
 pub returns-clause-cost : goal.returns-clause-cost

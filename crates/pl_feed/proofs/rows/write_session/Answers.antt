@@ -24,7 +24,7 @@ loop-i-init g c =
         answered = c.requires.answered;
         values = values w sound p c.args.session c.requires.session c.parts_make_a_world.ensures.world;
         checked = c.graph-checked.ensures.checked;
-        texts = texts-coded w.sessions.now w.assets.now w.labels.now w.bars.now w.adjustments.now c.len-labels.ensures.labels;
+        texts = texts-coded w.sessions.now w.assets.now w.labels.now w.bars.now w.adjustments.now w.numbers.now.rows c.len-labels.ensures.labels;
       };
       pieces = written-none refl;
       writing = writing-start g.O.Sink.taken g.O.Sink.faults g.O.Sink.sound g.O.Sink.room c.args.out.now (lines_of (world_of w) p c.args.format c.args.session (map (sid_at w.assets.now) c.args.daily.now.kept));

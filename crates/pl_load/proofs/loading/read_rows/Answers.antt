@@ -1,4 +1,4 @@
-use Rattle.std.proofs.Common.{false, refl}
+use Rattle.std.proofs.Common.{false, refl, arith}
 use Rattle.std.proofs.lemmas.Result.{err_from_is_err_and}
 use Rattle.pl_words.specs.declared.request.InputFile.TheVariants.{Labels, Bars}
 use Rattle.pl_words.specs.Views.{world_names_of}
@@ -36,3 +36,12 @@ returns-clause-rows g c = λ asked names.
     (AreBarsHeld (world_names_of c.args.names.now) c.args.sessions.now c.args.assets.now c.in_ok-bars.bars c.in_ok-adjustments.adjustments)
     (file-read _ asked Bars names.bars (file-one Bars _) c.in_ok-bars.ensures.read) (c.in_ok-adjustments.ensures.revised asked names) (is_file Bars) false (λ f r m. refl)
     (λ f r m h. record { bars = m; adjustments = h })) (is_file Labels) false (λ f r m. refl) (λ f r m h. record { labels = m; bars = h.bars; adjustments = h.adjustments })
+
+pub returns-clause-made : goal.returns-clause-made
+returns-clause-made g c = record {
+  labels_in = c.in_ok-labels.ensures.cols;
+  bars_in = c.in_ok-bars.ensures.cols;
+  sessions_in = c.in_ok-bars.ensures.sessions;
+  adjustments_in = c.in_ok-adjustments.ensures.cols;
+  numbers_in = λ k d l. absurd (omega arith);
+}

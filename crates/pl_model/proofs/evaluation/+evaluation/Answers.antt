@@ -20,10 +20,10 @@ use Rattle.pl_world.specs.Worlds.{world_of}
 use Rattle.pl_world.specs.Evaluations.{IsAsked, IsAskedInput, as_input, lets_pass, above, cell_in, input_cell_in, window_in}
 use Rattle.pl_model.specs.Costs.{cost_in, input_cost_in}
 use Rattle.pl_world.proofs.Asked.{first-asked, second-asked, third-asked, input-below, window-one, start-asked}
-use Rattle.pl_world.proofs.Evaluated.{lacks-value, cell-barred, cell-kept, kept-mask, mask-passed, sid-of, not-windowed, constant-given, sid-given, label-named, label-given, label-test-given, window-early, windows-given, point-given, start-given, downsampled-plain}
+use Rattle.pl_world.proofs.Evaluated.{lacks-value, cell-barred, cell-kept, kept-mask, mask-passed, sid-of, not-windowed, constant-given, sid-given, label-named, label-given, number-named, number-given, label-test-given, window-early, windows-given, point-given, start-given, downsampled-plain}
 use Rattle.pl_model.proofs.Costs.{cost-lacks, cost-barred, cost-kept, start-cost}
 use Rattle.pl_model.proofs.Ready.{input-ready, mask-ready, mask-row-ready, group-row-ready, section-ready, sid-cell, code-cell, cell-after, in-turn}
-use Rattle.pl_model.proofs.Taken.{constant-free, label-free, static-free, test-taken, windows-taken, points-taken, rows-taken}
+use Rattle.pl_model.proofs.Taken.{constant-free, label-free, number-free, static-free, test-taken, windows-taken, points-taken, rows-taken}
 use Rattle.pl_world.proofs.Windowing.{cells-more, steps-more, cells-all, steps-all, all-more, row-more, row-steps-more, row-all, row-steps-all}
 use Rattle.pl_model.proofs.evaluation.+evaluation.Goals as goal
 
@@ -148,6 +148,37 @@ given-returns-in-Label g t c =
       cost = label-free w p t0 s a n is c.args.steps.now c.in-Label.name kind;
     }
 
+pub given-number_cell-requires-clause-name : goal.given-number_cell-requires-clause-name
+given-number_cell-requires-clause-name g t c =
+    let w = c.args.world.now in
+    let p = c.args.checked.now in
+    let t0 = c.args.t.0 in
+    let s = c.args.session in
+    let ok = c.graph.ensures.checked in
+    let n = c.node-node.result.now in
+    let is : slice_get p.graph t0 ≡ Some n = ap (λ ns. slice_get ns c.args.t.0) (sym c.graph.ensures.value) ∙ c.node-node.ensures in
+    let a = sid_at c.args.world.now.assets.now c.args.col in
+    let kind : IsOf (kind_of n.kind) (family.Number c.in-Number.name) = subst (IsOf (kind_of n.kind)) c.in-Number.is c.family_of.ensures in
+    number-named w p ok t0 n is a s c.requires.kept c.in-Number.name kind
+
+pub given-returns-in-Number : goal.given-returns-in-Number
+given-returns-in-Number g t c =
+    let w = c.args.world.now in
+    let p = c.args.checked.now in
+    let t0 = c.args.t.0 in
+    let s = c.args.session in
+    let ok = c.graph.ensures.checked in
+    let n = c.node-node.result.now in
+    let is : slice_get p.graph t0 ≡ Some n = ap (λ ns. slice_get ns c.args.t.0) (sym c.graph.ensures.value) ∙ c.node-node.ensures in
+    let a = sid_at c.args.world.now.assets.now c.args.col in
+    let kind : IsOf (kind_of n.kind) (family.Number c.in-Number.name) = subst (IsOf (kind_of n.kind)) c.in-Number.is c.family_of.ensures in
+    let fits : FitsSigned w64 c.number_cell.result = search rules in
+    record {
+      value = to_z-of_z w64 _ fits ∙ c.number_cell.ensures.value ∙ number-given w p ok t0 n is a s c.requires.kept c.in-Number.name kind;
+      cell = subst IsCell (sym (to_z-of_z w64 _ fits)) c.number_cell.ensures.cell;
+      cost = number-free w p t0 s a n is c.args.steps.now c.in-Number.name kind;
+    }
+
 pub given-returns-in-Constant : goal.given-returns-in-Constant
 given-returns-in-Constant g t c =
     let w = c.args.world.now in
@@ -213,7 +244,7 @@ given-label_test_value-requires-clause-code g t c =
     let kind : IsOf (kind_of n.kind) family.LabelTest = subst (IsOf (kind_of n.kind)) c.in-LabelTest.is c.family_of.ensures in
     let fx : FitsSigned w64 c.in_ok-code-in-LabelTest.code = search rules in
     let code = c.in_ok-code-in-LabelTest.code in
-    let texts : HasTexts (world_of w) = texts-coded w.sessions.now w.assets.now w.labels.now w.bars.now w.adjustments.now c.len-rows.ensures.labels in
+    let texts : HasTexts (world_of w) = texts-coded w.sessions.now w.assets.now w.labels.now w.bars.now w.adjustments.now w.numbers.now.rows c.len-rows.ensures.labels in
     let read : code ≡ input_cell_in w p (slice_get n.inputs 0) a s = c.in_ok-code-in-LabelTest.ensures.value ∙ ap (λ o. input_cell_in w p o a s) c.input_at-input.ensures in
     let given = label-test-given w p ok t0 n is a s c.requires.kept texts kind code read in
     subst (IsCode w.labels.now.texts) (sym (to_z-of_z w64 _ fx)) given.0
@@ -231,7 +262,7 @@ given-returns-in_ok-code-in-LabelTest g t c =
     let kind : IsOf (kind_of n.kind) family.LabelTest = subst (IsOf (kind_of n.kind)) c.in-LabelTest.is c.family_of.ensures in
     let fx : FitsSigned w64 c.in_ok-code-in-LabelTest.code = search rules in
     let code = c.in_ok-code-in-LabelTest.code in
-    let texts : HasTexts (world_of w) = texts-coded w.sessions.now w.assets.now w.labels.now w.bars.now w.adjustments.now c.len-rows.ensures.labels in
+    let texts : HasTexts (world_of w) = texts-coded w.sessions.now w.assets.now w.labels.now w.bars.now w.adjustments.now w.numbers.now.rows c.len-rows.ensures.labels in
     let read : code ≡ input_cell_in w p (slice_get n.inputs 0) a s = c.in_ok-code-in-LabelTest.ensures.value ∙ ap (λ o. input_cell_in w p o a s) c.input_at-input.ensures in
     let given = label-test-given w p ok t0 n is a s c.requires.kept texts kind code read in
     let fits : FitsSigned w64 c.label_test_value.result = search rules in

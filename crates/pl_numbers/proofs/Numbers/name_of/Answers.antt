@@ -6,5 +6,5 @@ pub overflow_cast-result : goal.overflow_cast-result
 overflow_cast-result c =
     let rows = c.self.inside.rows in
     let inside : c.in-Some.number < length rows.names = number_inside rows.names c.args.name.now c.in-Some.number (sym c.number_of.ensures ∙ c.in-Some.is) in
-    let small : c.in-Some.number < 2 ^ 32 = omega (arith, c.self.invariant.few_names, c.self.invariant.few) in
+    let small : c.in-Some.number < 2 ^ 32 = omega (arith, c.self.invariant.few_names) in
     search rules

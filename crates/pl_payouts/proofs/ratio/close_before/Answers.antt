@@ -44,6 +44,6 @@ returns-clause-exact c =
     let has = (sid_form assets c.len-assets.ensures.assets sid col).0 found in
     let its_sid : sid_at assets col ≡ sid = ap (λ (o : Option ℕ). unwrap_or o 0) has in
     let inside : col < length assets = slice_within assets col sid has in
-    let raw = cells_raw days assets [] [] bars [] c.len-assets.ensures.assets.ascend c.requires.cols col Close c.in_ok-session.session inside in
+    let raw = cells_raw days assets [] [] bars [] [] c.len-assets.ensures.assets.ascend c.requires.cols col Close c.in_ok-session.session inside in
     ap (λ x. Some x) (to_z-of_z w64 c.get.result cell ∙ c.get.ensures.value ∙ raw ∙ ap (λ s. raw_close days assets bars s c.in_ok-session.session) its_sid)
     ∙ ap (option_map (raw_close days assets bars sid)) (sym c.in_ok-session.was ∙ last)

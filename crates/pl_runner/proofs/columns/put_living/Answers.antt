@@ -1,4 +1,4 @@
-use Rattle.std.proofs.Common.{◌++◌, ◌∷◌, [], ◌∙◌, ap, sym, ℕ, List, arith, ◌+◌}
+use Rattle.std.proofs.Common.{◌++◌, ◌∷◌, [], ◌∙◌, ap, sym, ℕ, List, arith}
 use Rattle.pl_spec.proofs.Ranges.{filter-with, filter-without}
 use Rattle.pl_world.specs.Worlds.{world_of}
 use Rattle.pl_runner.specs.Chunks.{lives_within}

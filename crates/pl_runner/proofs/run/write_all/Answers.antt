@@ -98,13 +98,13 @@ loop-i-preserved g c =
     record {
       within = omega (arith, before);
       writing = writing-more _ _ (writing-over next c.loop-i.invariant.writing) c.in_ok-report.ensures.writes;
-      pieces = written-more c.loop-i.invariant.pieces c.in_ok-report.ensures.pieces (omega (arith, c.in_ok-report.ensures.rows));
-      rows = omega (arith, ap length split, length-append own rest, c.loop-i.invariant.rows, c.in_ok-report.ensures.rows);
-      sum = omega (arith, ints, ap (rows_sum w.texts) split, rows_sum-append w.texts own rest, c.loop-i.invariant.sum, c.in_ok-report.ensures.sum);
-      few = omega (arith, m, times-more i (size * length w.assets), c.loop-i.invariant.few, c.in_ok-report.ensures.few);
-      done = (done.0 + here, omega (arith, done.1, c.in_ok-report.ensures.cost), omega (arith, done.2, c.in_ok-report.ensures.applied, c.saturating_add-applied.ensures), omega (arith, steps, done.3));
-      peak = λ some. c.in_ok-report.ensures.peak;
-      desk = λ j h. c.in_ok-report.ensures.desk (chunk_at plan.from plan.to size j) (c.loop-i.invariant.desk j h);
+      pieces = written-more c.loop-i.invariant.pieces c.in_ok-report.ensures.done.0 (omega (arith, c.in_ok-report.ensures.done.1.rows));
+      rows = omega (arith, ap length split, length-append own rest, c.loop-i.invariant.rows, c.in_ok-report.ensures.done.1.rows);
+      sum = omega (arith, ints, ap (rows_sum w.texts) split, rows_sum-append w.texts own rest, c.loop-i.invariant.sum, c.in_ok-report.ensures.done.1.sum);
+      few = omega (arith, m, times-more i (size * length w.assets), c.loop-i.invariant.few, c.in_ok-report.ensures.done.1.few);
+      done = (done.0 + here, omega (arith, done.1, c.in_ok-report.ensures.cost), omega (arith, done.2, c.in_ok-report.ensures.done.1.applied, c.saturating_add-applied.ensures), omega (arith, steps, done.3));
+      peak = λ some. c.in_ok-report.ensures.done.1.peak;
+      desk = λ j h. c.in_ok-report.ensures.done.1.desk (chunk_at plan.from plan.to size j) (c.loop-i.invariant.desk j h);
     }
 
 pub returns-clause-writes : goal.returns-clause-writes

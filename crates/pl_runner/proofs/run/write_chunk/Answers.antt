@@ -1,10 +1,14 @@
-use Rattle.std.proofs.Common.{◌≡◌, ◌*◌, ℤ, List, ap, ◌+◌, ◌-◌, length, sym, ◌∙◌, subst, arith}
+use Rattle.std.proofs.Common.{◌≡◌, ◌≤◌, ◌*◌, ℕ, ℤ, List, ap, ◌+◌, ◌-◌, length, sym, ◌∙◌, subst, arith}
+use Rattle.std.proofs.lemmas.List.{take_at}
 use Rattle.std.proofs.lemmas.Nat.{mul-le}
+use Rattle.pl_spec.specs.Limits.{cut}
 use Rattle.pl_values.proofs.Texts.{texts-coded}
+use Rattle.pl_table.specs.Tiles.{height, tile_len}
 use Rattle.pl_runner.specs.Chunks.{columns_of}
+use Rattle.pl_runner.specs.Room.{HasRoom}
 use Rattle.pl_world.specs.Worlds.{world_of}
 use Rattle.pl_terms.specs.Checked.{pipeline_of}
-use Rattle.pl_exec.specs.Tasks.{HoldsOutputs}
+use Rattle.pl_exec.specs.Tasks.{HoldsOutputs, chunk_steps}
 use Rattle.pl_runner.proofs.ChunkWork as work
 use Rattle.pl_runner.proofs.run.write_chunk.Goals as goal
 
@@ -54,7 +58,7 @@ write_rows-requires-clause-outcome g c =
       fits = omega (arith, c.requires.to, c.requires.plan.within, c.len-sessions.ensures.length, c.len-sessions.ensures.few);
       cols = cols.within;
       all = there;
-      texts = texts-coded world.sessions.now world.assets.now world.labels.now world.bars.now world.adjustments.now c.len-labels.ensures.labels;
+      texts = texts-coded world.sessions.now world.assets.now world.labels.now world.bars.now world.adjustments.now world.numbers.now.rows c.len-labels.ensures.labels;
       arrays = λ t out. let a = outputs.arrays t out in record { cells = a.cells; live = a.is; holds = a.holds };
     }
 
@@ -71,14 +75,36 @@ write_rows-requires-clause-room g c =
     let w = world_of c.args.world.now in
     let p = pipeline_of c.args.checked.now in
     let few = work.few-columns c.args.world.now.sessions.now w p c.args.plan.now c.args.chunk c.graph-checked.ensures.checked c.requires.plan c.requires.from c.requires.order c.requires.to c.deref-2.result.now (c.deref-2.ensures.value ∙ c.put_columns.ensures.cols) in
-    let m = mul-le (8 * length c.deref-2.result.now) (length p.columns + 1) (8 * length w.assets) (length p.columns + 1) (omega (arith, few)) (omega arith) in
+    let m = mul-le (height * length c.deref-2.result.now) (length p.columns + 1) (height * length w.assets) (length p.columns + 1) (omega (arith, few)) (omega arith) in
     let own = ap (λ (l : List ℤ). length l) c.deref_mut.ensures.value in
     omega (arith, m, own, c.requires.desk.tile)
 
-pub returns-clause-few : goal.returns-clause-few
-returns-clause-few g c =
+pub returns-clause-done : goal.returns-clause-done
+returns-clause-done g c =
     let w = world_of c.args.world.now in
     let p = pipeline_of c.args.checked.now in
+    let len = c.release_outputs.ensures.len ∙ c.execute_chunk-report.ensures.len in
+    let slots = c.release_outputs.ensures.slots ∙ c.execute_chunk-report.ensures.slots in
+    let own = ap (λ (l : List ℤ). length l) c.deref_mut.ensures.value in
+    let kept = c.in_ok-write_rows.ensures.room in
+    let long : length c.write_rows.new.tile ≡ c.args.desk.now.tile.len = kept ∙ c.deref_mut.ensures.len in
     let few = work.few-columns c.args.world.now.sessions.now w p c.args.plan.now c.args.chunk c.graph-checked.ensures.checked c.requires.plan c.requires.from c.requires.order c.requires.to c.deref-2.result.now (c.deref-2.ensures.value ∙ c.put_columns.ensures.cols) in
-    let m = mul-le (c.args.chunk.to + 1 - c.args.chunk.from) (length c.deref-2.result.now) (c.args.chunk.to + 1 - c.args.chunk.from) (length c.args.world.now.assets.now) (omega arith) few in
-    omega (arith, m, c.in_ok-write_rows.ensures.few)
+    let m = mul-le (c.args.chunk.to + 1 - c.args.chunk.from) (length c.deref-2.result.now) (c.args.chunk.to + 1 - c.args.chunk.from) (length c.args.world.now.assets.now) (omega arith) few in (
+      c.in_ok-write_rows.ensures.pieces,
+      record {
+        rows = c.in_ok-write_rows.ensures.rows;
+        sum = c.in_ok-write_rows.ensures.sum;
+        few = omega (arith, m, c.in_ok-write_rows.ensures.few);
+        desk = λ other h. record {
+          room = subst (HasRoom w p c.args.plan.now other) (sym len) h.room;
+          slots = omega (arith, slots, h.slots);
+          free = c.release_outputs.ensures.free;
+          cross = omega (arith, c.execute_chunk-report.ensures.cross, h.cross);
+          rows = omega (arith, c.execute_chunk-report.ensures.rows, h.rows);
+          cols = c.put_columns.ensures.room;
+          tile = subst (λ (l : List ℤ). tile_len (length w.assets) (length p.columns) ≤ length l) (sym (take_at c.write_rows.new.tile _ c.args.desk.now.tile.len long)) (omega (arith, own, kept, h.tile));
+        };
+        peak = c.execute_chunk-report.ensures.peak;
+        applied = c.execute_chunk-report.ensures.applied ∙ ap (λ (cs : List ℕ). cut (chunk_steps (work.work w p c.args.plan.now cs c.args.chunk))) (c.deref.ensures.value ∙ c.put_columns.ensures.cols);
+      },
+    )

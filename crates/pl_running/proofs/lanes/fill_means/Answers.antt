@@ -3,7 +3,7 @@ use Rattle.std.proofs.lemmas.Int.{to_z-of_z}
 use Rattle.pl_spec.specs.Formula.{mean}
 use Rattle.pl_spec.specs.Rounding.{IsCell}
 use Rattle.pl_running.specs.Kept.{sums}
-use Rattle.pl_running.proofs.Following.{cells_at, means_are, one_mean, span_after}
+use Rattle.pl_running.proofs.Following.{cells_at, means_are, no_means, one_mean, span_after}
 use Rattle.pl_running.proofs.lanes.fill_means.Goals as goal
 
 pub mean-requires-in-loop-k-clause-cells : goal.mean-requires-in-loop-k-clause-cells
@@ -12,6 +12,15 @@ mean-requires-in-loop-k-clause-cells c =
     let room : c.loop-k.k - 1 + (c.args.size + 1) ≤ length c.args.a.now = omega (arith, size, c.loop-k-test.true, c.loop-k.auto.k, c.loop-k.auto.out, c.requires.long) in
     let here : c.loop-k.k ≡ c.loop-k.k - 1 + 1 = omega (arith, c.loop-k.auto.k) in
     subst (All IsCell) (sym (c.after.ensures ∙ span_after c.args.size c.loop-k.k c.loop-k.k here c.args.a.now _ (λ some. room) c.window_at-span.ensures)) (cells_at c.args.size c.loop-k.k c.args.a.now c.requires.cells)
+
+pub loop-k-init : goal.loop-k-init
+loop-k-init c =
+    let r : FitsSigned w64 c.mean.result = search rules in
+    rw (to_z-of_z w64 _ r) (record {
+      stands = c.sums_of-kept.ensures ∙ ap sums c.window_at-first.ensures;
+      means = one_mean c.args.size c.args.a.now 0 c.args.out.now c.mean.result (no_means c.args.size c.args.a.now c.args.out.now) c.requires.windows
+          (c.mean.ensures.value ∙ ap mean c.window_at-first.ensures) c.mean.ensures.cell;
+    })
 
 pub loop-k-preserved : goal.loop-k-preserved
 loop-k-preserved c =

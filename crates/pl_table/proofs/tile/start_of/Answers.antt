@@ -1,16 +1,17 @@
 use Rattle.std.proofs.Common.{refl, arith}
 use Rattle.pl_spec.proofs.Places.{row-within}
+use Rattle.pl_table.specs.Tiles.{height}
 use Rattle.pl_table.proofs.Tiles as tiles
 use Rattle.pl_table.proofs.tile.start_of.Goals as goal
 
 pub overflow_mul-result : goal.overflow_mul-result
 overflow_mul-result c =
-    let w = row-within c.args.j 8 (tiles.places_of c.args.outcome.now) c.args.place c.requires.session c.requires.place in
+    let w = row-within c.args.j height (tiles.places_of c.args.outcome.now) c.args.place c.requires.session c.requires.place in
     omega (arith, w)
 
 pub overflow_add-result : goal.overflow_add-result
 overflow_add-result c =
-    let w = row-within c.args.j 8 (tiles.places_of c.args.outcome.now) c.args.place c.requires.session c.requires.place in
+    let w = row-within c.args.j height (tiles.places_of c.args.outcome.now) c.args.place c.requires.session c.requires.place in
     omega (arith, w)
 
 pub overflow_mul-result-2 : goal.overflow_mul-result-2

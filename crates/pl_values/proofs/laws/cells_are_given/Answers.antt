@@ -1,4 +1,4 @@
-use Rattle.pl_values.proofs.Given.{unkept-cell, constant-cell, window-cell, point-cell, point-operands, sid-cell, label-cell, label-test-cell, section-cell, downsampled-cell}
+use Rattle.pl_values.proofs.Given.{unkept-cell, constant-cell, window-cell, point-cell, point-operands, sid-cell, label-cell, number-cell, label-test-cell, section-cell, downsampled-cell}
 use Rattle.pl_values.proofs.laws.cells_are_given.Goals as goal
 
 pub returns-clause-unkept : goal.returns-clause-unkept
@@ -21,6 +21,9 @@ returns-clause-sids c = sid-cell
 
 pub returns-clause-labels : goal.returns-clause-labels
 returns-clause-labels c = label-cell
+
+pub returns-clause-numbers : goal.returns-clause-numbers
+returns-clause-numbers c = number-cell
 
 pub returns-clause-label_tests : goal.returns-clause-label_tests
 returns-clause-label_tests c = label-test-cell

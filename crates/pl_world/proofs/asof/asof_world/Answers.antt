@@ -12,7 +12,7 @@ overflow_add-session c =
 pub returns-clause-known : goal.returns-clause-known
 returns-clause-known c =
     let fits : FitsSigned w32 c.day-day.result = search rules in
-    let parts : OwnedWorld = record { sessions = c.in_ok-sessions.sessions; assets = c.in_ok-assets.assets; labels = c.in_ok-labels.labels; bars = c.in_ok-bars.bars; adjustments = c.in_ok-adjustments.adjustments } in
+    let parts : OwnedWorld = record { sessions = c.in_ok-sessions.sessions; assets = c.in_ok-assets.assets; labels = c.in_ok-labels.labels; bars = c.in_ok-bars.bars; adjustments = c.in_ok-adjustments.adjustments; numbers = c.in_ok-numbers.numbers } in
     let cut : AreCut c.args.world.now c.args.session c.day-day.result parts = record {
       is_day = c.day-day.ensures.exact;
       sessions = c.in_ok-sessions.ensures;
@@ -21,13 +21,14 @@ returns-clause-known c =
       texts = c.in_ok-labels.ensures.texts;
       bars = c.in_ok-bars.ensures;
       adjustments = simp to_z-of_z at c.in_ok-adjustments.ensures;
+      numbers = simp to_z-of_z at c.in_ok-numbers.ensures.rows;
     } in
     is_known c.args.world.now c.args.session c.day-day.result parts cut c.parts_make_a_world.ensures
 
 pub returns-clause-made : goal.returns-clause-made
 returns-clause-made c =
     let fits : FitsSigned w32 c.day-day.result = search rules in
-    let parts : OwnedWorld = record { sessions = c.in_ok-sessions.sessions; assets = c.in_ok-assets.assets; labels = c.in_ok-labels.labels; bars = c.in_ok-bars.bars; adjustments = c.in_ok-adjustments.adjustments } in
+    let parts : OwnedWorld = record { sessions = c.in_ok-sessions.sessions; assets = c.in_ok-assets.assets; labels = c.in_ok-labels.labels; bars = c.in_ok-bars.bars; adjustments = c.in_ok-adjustments.adjustments; numbers = c.in_ok-numbers.numbers } in
     let cut : AreCut c.args.world.now c.args.session c.day-day.result parts = record {
       is_day = c.day-day.ensures.exact;
       sessions = c.in_ok-sessions.ensures;
@@ -36,13 +37,14 @@ returns-clause-made c =
       texts = c.in_ok-labels.ensures.texts;
       bars = c.in_ok-bars.ensures;
       adjustments = simp to_z-of_z at c.in_ok-adjustments.ensures;
+      numbers = simp to_z-of_z at c.in_ok-numbers.ensures.rows;
     } in
     is_owned c.args.world.now c.args.session c.day-day.result parts cut c.parts_make_a_world.ensures
 
 pub returns-clause-same : goal.returns-clause-same
 returns-clause-same c =
     let fits : FitsSigned w32 c.day-day.result = search rules in
-    let parts : OwnedWorld = record { sessions = c.in_ok-sessions.sessions; assets = c.in_ok-assets.assets; labels = c.in_ok-labels.labels; bars = c.in_ok-bars.bars; adjustments = c.in_ok-adjustments.adjustments } in
+    let parts : OwnedWorld = record { sessions = c.in_ok-sessions.sessions; assets = c.in_ok-assets.assets; labels = c.in_ok-labels.labels; bars = c.in_ok-bars.bars; adjustments = c.in_ok-adjustments.adjustments; numbers = c.in_ok-numbers.numbers } in
     let cut : AreCut c.args.world.now c.args.session c.day-day.result parts = record {
       is_day = c.day-day.ensures.exact;
       sessions = c.in_ok-sessions.ensures;
@@ -51,5 +53,6 @@ returns-clause-same c =
       texts = c.in_ok-labels.ensures.texts;
       bars = c.in_ok-bars.ensures;
       adjustments = simp to_z-of_z at c.in_ok-adjustments.ensures;
+      numbers = simp to_z-of_z at c.in_ok-numbers.ensures.rows;
     } in
     shows_same c.args.world.now c.args.session c.day-day.result parts cut c.parts_make_a_world.ensures

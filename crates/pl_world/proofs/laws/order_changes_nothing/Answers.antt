@@ -9,4 +9,4 @@ returns c same =
     let v = world_of c.args.other.now in
     let one = c.parts_make_a_world.ensures in
     let two = c.parts_make_a_world-2.ensures in
-    show-alike w v one.world two.world (order-changes-nothing.all w v one.world two.world one.bars_once one.labels_once same)
+    show-alike w v one.world two.world (order-changes-nothing.all w v one.world two.world one.bars_once one.labels_once one.numbers_once same)

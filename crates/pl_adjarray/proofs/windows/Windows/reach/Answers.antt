@@ -24,7 +24,7 @@ returns-clause-long c =
     subst T c.self.view_is inner
 
 pub returns-clause-windows : goal.returns-clause-windows
-returns-clause-windows c m few assets labels texts made inside =
+returns-clause-windows c m few assets labels texts numbers made inside =
     let w = c.self.inside in
     let b = c.self.inside.array.now in
     let q = c.args.self.now.array in
@@ -39,7 +39,7 @@ returns-clause-windows c m few assets labels texts made inside =
     let T : Traversal → Type 0 = λ t. take t.window (drop m (take ((i * c.array.inside.rows + (w.session - c.array.inside.first) + n) - (i * c.array.inside.rows + (w.session - c.array.inside.first) - w.window))
     (drop (i * c.array.inside.rows + (w.session - c.array.inside.first) - w.window) w.scratch.now))) ≡ bar_window (world_of t.array) t.array.column t.window (col_at t.array i) (pos (t.session + m)) in
     subst T c.self.view_is inner
-    ∙ window-same q.days assets labels texts q.bars q.adjustments made (col_at q i) inside q.column c.args.self.now.window (pos (c.args.self.now.session + m))
+    ∙ window-same q.days assets labels texts q.bars q.adjustments numbers made (col_at q i) inside q.column c.args.self.now.window (pos (c.args.self.now.session + m))
 
 pub returns-clause-cells : goal.returns-clause-cells
 returns-clause-cells c =

@@ -22,11 +22,11 @@ returns-clause-columns c =
     ∙ ap (λ (t : Traversal). bar_window (world_of t.array) t.array.column t.window (col_at t.array c.args.i) (pos t.session)) c.self.view_is
 
 pub returns-clause-world : goal.returns-clause-world
-returns-clause-world c assets labels texts made inside =
+returns-clause-world c assets labels texts numbers made inside =
     let t = c.args.self.now in
     let b = c.args.self.now.array in
     returns-clause-columns c
-    ∙ window-same b.days assets labels texts b.bars b.adjustments made (col_at b c.args.i) inside b.column t.window (pos t.session)
+    ∙ window-same b.days assets labels texts b.bars b.adjustments numbers made (col_at b c.args.i) inside b.column t.window (pos t.session)
 
 pub returns-clause-cells : goal.returns-clause-cells
 returns-clause-cells c =

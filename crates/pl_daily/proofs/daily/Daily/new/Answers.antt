@@ -45,4 +45,4 @@ returns-clause-stands c =
     let begun_starts : AreBegunStarts n p (length p.graph) starts = subst (λ m. AreBegunStarts m p (length p.graph) starts) many c.in_ok-begin_starts.ensures in
     let begins : BeginColumns n bars = subst (λ m. BeginColumns m bars) many c.in_ok-begin_rings.ensures.begins in
     stands_first n p c.column_windows.result bars terms starts c.column_windows.ensures c.in_ok-begin_rings.ensures.room are begun begun_starts _
-    (record { sids_ascend = c.len-many.ensures.assets.ascend; labels_in = c.requires.labels }) refl refl refl refl begins refl c.count-terms.result c.in_ok-begin_since.ensures
+    (record { sids_ascend = c.len-many.ensures.assets.ascend; labels_in = c.requires.labels; numbers_in = c.requires.numbers }) refl refl refl refl begins refl c.count-terms.result c.in_ok-begin_since.ensures

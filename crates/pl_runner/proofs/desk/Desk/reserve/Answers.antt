@@ -4,6 +4,7 @@ use Rattle.pl_workspace.specs.Slots.{Slots, Free, Begun, fresh, slot_at}
 use Rattle.pl_world.specs.Worlds.{world_of}
 use Rattle.pl_terms.specs.Checked.{pipeline_of}
 use Rattle.pl_terms.proofs.Graphs.{columns-long}
+use Rattle.pl_table.specs.Tiles.{tile_len}
 use Rattle.pl_runner.specs.Chunks.{chunk_at}
 use Rattle.pl_runner.specs.Room.{HasRoom}
 use Rattle.pl_runner.proofs.desk.Desk.reserve.Goals as goal
@@ -22,7 +23,7 @@ returns-clause-desk c i h =
     let is = c.in-Ok.ensures in
     let len : c.in-Ok.workspace.len ≡ c.longest_array-longest.result = ap (λ (w : Slots). w.len) is in
     let columns = c.columns.ensures ∙ sym (columns-long c.args.checked.now.columns) in
-    let wide = c.tile_len.ensures ∙ ap (λ (n : ℕ). 8 * n * (c.columns.result + 1)) c.len-assets.ensures.length ∙ ap (λ (n : ℕ). 8 * length c.args.world.now.assets.now * (n + 1)) columns in
+    let wide = c.tile_len.ensures ∙ ap (λ (n : ℕ). tile_len n c.columns.result) c.len-assets.ensures.length ∙ ap (tile_len (length c.args.world.now.assets.now)) columns in
     record {
       room = subst (λ (n : ℕ). HasRoom (world_of c.args.world.now) (pipeline_of c.args.checked.now) c.args.plan.now (chunk_at c.args.plan.now.from c.args.plan.now.to c.args.size i) n) (sym len) (c.longest_array-longest.ensures.each i h);
       slots = omega (arith, fresh-many c.in-Ok.workspace c.bound.result c.longest_array-longest.result is, c.bound.ensures.value);
@@ -38,7 +39,7 @@ returns-clause-least c =
     let is = c.in-Ok.ensures in
     let len : c.in-Ok.workspace.len ≡ c.longest_array-longest.result = ap (λ (w : Slots). w.len) is in
     let columns = c.columns.ensures ∙ sym (columns-long c.args.checked.now.columns) in
-    let wide = c.tile_len.ensures ∙ ap (λ (n : ℕ). 8 * n * (c.columns.result + 1)) c.len-assets.ensures.length ∙ ap (λ (n : ℕ). 8 * length c.args.world.now.assets.now * (n + 1)) columns in
+    let wide = c.tile_len.ensures ∙ ap (λ (n : ℕ). tile_len n c.columns.result) c.len-assets.ensures.length ∙ ap (tile_len (length c.args.world.now.assets.now)) columns in
     record {
       slots = fresh-many c.in-Ok.workspace c.bound.result c.longest_array-longest.result is ∙ c.bound.ensures.value;
       cells = λ most room. (let own = c.longest_array-longest.ensures.least most room in omega (arith, own, len));

@@ -1,6 +1,0 @@
-use Rattle.std.proofs.Common.{◌<◌, ℕ, get_or, pos}
-use Rattle.pl_exec.specs.Jobs.{IsGivenOn}
-use Rattle.pl_exec.proofs.leaves.label_test_lane.Given as goal
-
-abbrev pub invariant-loop-j : goal.invariant-loop-j
-invariant-loop-j l = (m : ℕ) → m < l.j → IsGivenOn l.course l.fn.i m (get_or l.out m (pos 0))

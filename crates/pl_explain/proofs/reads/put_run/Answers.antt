@@ -1,0 +1,34 @@
+use Rattle.std.proofs.Common.{◌≡◌, ℕ, ◌-◌, ◌≤◌, ◌++◌, ◌∷◌, [], ◌∙◌, pos, map, ap, sym, subst, Some, arith, rules}
+use Rattle.std.specs.List.{range_with_len}
+use Rattle.pl_terms.specs.Nodes.{input_of}
+use Rattle.pl_derivation.specs.Facts.{window_facts}
+use Rattle.pl_explain.specs.Reading.{fact_at, ArePut}
+use Rattle.pl_explain.proofs.Facts.{window-run}
+use Rattle.pl_explain.proofs.Behind.{put-one, run-more, run-all}
+use Rattle.pl_explain.proofs.reads.put_run.Goals as goal
+
+pub loop-earlier-preserved : goal.loop-earlier-preserved
+loop-earlier-preserved c =
+    let k = c.loop-earlier.earlier in
+    let first = c.end_of-end.result - c.args.size in
+    let f = λ (j : ℕ). fact_at (input_of c.args.input) c.args.sid (pos j) (pos c.args.session) in
+    let so_far = c.loop-earlier.invariant in
+    let pushed : c.push.new.self.items ≡ c.loop-earlier.facts.items ++ c.fact_at.result ∷ [] = search rules in
+    let put : ArePut c.loop-earlier.facts.items c.push.new.self.items (f k ∷ []) = subst (λ x. ArePut c.loop-earlier.facts.items c.push.new.self.items (x ∷ [])) c.fact_at.ensures (put-one c.loop-earlier.facts.items c.push.new.self.items c.fact_at.result pushed) in
+    record {
+      from = omega (arith, so_far.from);
+      to = omega (arith, c.loop-earlier-test.true);
+      facts = run-more f first k so_far.from c.args.facts.now.items c.loop-earlier.facts.items c.push.new.self.items so_far.facts put;
+    }
+
+pub returns : goal.returns
+returns c =
+    let s = c.args.session in
+    let k = c.loop-earlier.earlier in
+    let i = input_of c.args.input in
+    let end = c.end_of-end.result in
+    let f = λ (j : ℕ). fact_at i c.args.sid (pos j) (pos s) in
+    let room : c.args.size ≤ end = subst (λ n. c.args.size ≤ n) (sym c.end_of-end.ensures.end) c.requires in
+    let long : k - (end - c.args.size) ≡ c.args.size = omega (arith, room, c.loop-earlier-test.false, c.loop-earlier.invariant.to) in
+    run-all f (end - c.args.size) k c.args.size c.args.facts.now.items c.loop-earlier.facts.items (window_facts c.args.size c.args.sid (pos s) (Some i)) long
+    (window-run i c.args.sid s c.args.size c.requires ∙ ap (λ n. map f (range_with_len (n - c.args.size) c.args.size)) (sym c.end_of-end.ensures.end)) c.loop-earlier.invariant.facts

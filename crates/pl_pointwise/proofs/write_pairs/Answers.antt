@@ -1,0 +1,40 @@
+use Rattle.std.proofs.Common.{rules}
+use Rattle.pl_terms.specs.Kinds.{kind_of}
+use Rattle.pl_spec.specs.Pointwise.{pointwise}
+use Rattle.pl_pointwise.proofs.FlagLemmas.{pair-left}
+use Rattle.pl_pointwise.proofs.write_pairs.Goals as goal
+
+pub returns-in-Add-clause-values : goal.returns-in-Add-clause-values
+unfolding kind_of pointwise
+returns-in-Add-clause-values c = λ k z h.
+    let v = c.at_each_pair.ensures.values k h in
+    rw c.in-Add.is (search rules)
+
+pub returns-in-Sub-clause-values : goal.returns-in-Sub-clause-values
+unfolding kind_of pointwise
+returns-in-Sub-clause-values c = λ k z h.
+    let v = c.at_each_pair-in-Sub.ensures.values k h in
+    rw c.in-Sub.is (search rules)
+
+pub returns-in-Mul-clause-values : goal.returns-in-Mul-clause-values
+unfolding kind_of pointwise
+returns-in-Mul-clause-values c = λ k z h.
+    let v = c.at_each_pair-in-Mul.ensures.values k h in
+    rw c.in-Mul.is (search rules)
+
+pub returns-in-Div-clause-values : goal.returns-in-Div-clause-values
+unfolding kind_of pointwise
+returns-in-Div-clause-values c = λ k z h.
+    let v = c.at_each_pair-in-Div.ensures.values k h in
+    rw c.in-Div.is (search rules)
+
+pub returns-in-FillNa-clause-values : goal.returns-in-FillNa-clause-values
+unfolding kind_of pointwise
+returns-in-FillNa-clause-values c = λ k z h.
+    let v = c.at_each_pair-in-FillNa.ensures.values k h in
+    rw c.in-FillNa.is (search rules)
+
+pub unreachable-requires : goal.unreachable-requires
+unreachable-requires c =
+    let left = c.in_default in
+    pair-left c.args.kind.now c.requires.pair left.not-Add left.not-Sub left.not-Mul left.not-Div left.not-FillNa
