@@ -84,7 +84,7 @@ pub fn cell_now<L: Ledger>(
 #[cycle(evaluation)]
 fn cell<L: Ledger>(ask: Request, steps: &mut Steps<L>) -> Result<i64, Memory>
     requires asked { IsRequest ask }
-    ensures { IfOk result (IsCellOf (asked_cell ask) (asked_cost ask) steps.old steps.new) }
+    ensures { IfOk result (IsCellOf (asked_cell ask.entry) (asked_cost ask.entry) steps.old steps.new) }
 {
     let graph = ask.checked.graph();
     let node = graph.node(ask.term);
@@ -100,7 +100,7 @@ fn cell<L: Ledger>(ask: Request, steps: &mut Steps<L>) -> Result<i64, Memory>
 #[cycle(evaluation)]
 fn is_kept<L: Ledger>(ask: Request, node: &Node, steps: &mut Steps<L>) -> Result<bool, Memory>
     requires asked { IsRequestOf ask node.now }
-    ensures { IfOk result (IsVerdict ask node.now steps.old steps.new) }
+    ensures { IfOk result (IsVerdict ask.entry node.now steps.old steps.new) }
 {
     if !exists(ask.world, ask.col, ask.session) {
         return Ok(false);
@@ -119,7 +119,7 @@ fn is_kept<L: Ledger>(ask: Request, node: &Node, steps: &mut Steps<L>) -> Result
 fn given<L: Ledger>(ask: Request, node: &Node, steps: &mut Steps<L>) -> Result<i64, Memory>
     requires asked { IsRequestOf ask node.now }
     requires kept { IsKeptFor ask }
-    ensures { IfOk result (IsCellOf (asked_cell ask) (given_cost ask node.now) steps.old steps.new) }
+    ensures { IfOk result (IsCellOf (asked_cell ask.entry) (given_cost ask.entry node.now) steps.old steps.new) }
 {
     let world = ask.world;
     match family_of(&node.kind) {
@@ -148,7 +148,7 @@ fn window_cell<L: Ledger>(ask: Request, node: &Node, steps: &mut Steps<L>) -> Re
     requires asked { IsRequestOf ask node.now }
     requires kept { IsKeptFor ask }
     requires kind { HasKind ask.checked.now ask.term.0 is_windowed }
-    ensures { IfOk result (IsCellOf (asked_cell ask) (given_cost ask node.now) steps.old steps.new) }
+    ensures { IfOk result (IsCellOf (asked_cell ask.entry) (given_cost ask.entry node.now) steps.old steps.new) }
 {
     let size = node.window as usize;
     let first = input_at(node, 0);
@@ -165,7 +165,7 @@ fn point_cell<L: Ledger>(ask: Request, node: &Node, steps: &mut Steps<L>) -> Res
     requires asked { IsRequestOf ask node.now }
     requires kept { IsKeptFor ask }
     requires kind { HasKind ask.checked.now ask.term.0 is_point }
-    ensures { IfOk result (IsCellOf (asked_cell ask) (given_cost ask node.now) steps.old steps.new) }
+    ensures { IfOk result (IsCellOf (asked_cell ask.entry) (given_cost ask.entry node.now) steps.old steps.new) }
 {
     let first = input_at(node, 0);
     let x = input_cell(ask, first, ask.session, steps)?;
@@ -180,7 +180,7 @@ fn point_cell<L: Ledger>(ask: Request, node: &Node, steps: &mut Steps<L>) -> Res
 fn section_cell<L: Ledger>(ask: Request, node: &Node, steps: &mut Steps<L>) -> Result<i64, Memory>
     requires asked { IsRequestOf ask node.now }
     requires kind { HasKind ask.checked.now ask.term.0 is_section }
-    ensures { IfOk result (IsCellOf (asked_cell ask) (given_cost ask node.now) steps.old steps.new) }
+    ensures { IfOk result (IsCellOf (asked_cell ask.entry) (given_cost ask.entry node.now) steps.old steps.new) }
 {
     let input = section_input(ask.checked, ask.term);
     let values = term_row(ask, input, steps)?;
@@ -210,8 +210,9 @@ fn input_window<L: Ledger>(
     requires asked { IsRequest ask }
     requires input { IsAskedInput ask.world.now ask.checked.now input size ask.session }
     ensures { IfOk result (λ v. AreCellsOf
-        (window_in ask.world.now ask.checked.now size input (asset_of ask) ask.session)
-        (window_cost_in ask.world.now ask.checked.now size input (asset_of ask) ask.session)
+        (window_in ask.entry.world.now ask.entry.checked.now size input (asset_of ask.entry) ask.entry.session)
+        (window_cost_in ask.entry.world.now ask.entry.checked.now size input
+        (asset_of ask.entry) ask.entry.session)
         steps.old steps.new v.items) }
 {
     match input {
@@ -240,8 +241,10 @@ fn cells_up_to<L: Ledger>(
     requires asked { IsRequest ask }
     requires input { IsAskedInput ask.world.now ask.checked.now (Some (Input.Term u)) size ask.session }
     ensures { IfOk result (λ v. AreCellsOf
-        (window_in ask.world.now ask.checked.now size (Some (Input.Term u)) (asset_of ask) ask.session)
-        (window_cost_in ask.world.now ask.checked.now size (Some (Input.Term u)) (asset_of ask) ask.session)
+        (window_in ask.entry.world.now ask.entry.checked.now size (Some (Input.Term u))
+        (asset_of ask.entry) ask.entry.session)
+        (window_cost_in ask.entry.world.now ask.entry.checked.now size (Some (Input.Term u))
+        (asset_of ask.entry) ask.entry.session)
         steps.old steps.new v.items) }
 {
     let _sessions = ask.world.sessions.len();
@@ -268,8 +271,8 @@ fn input_cell<L: Ledger>(
     requires asked { IsRequest ask }
     requires input { IsAskedInput ask.world.now ask.checked.now input 1 session }
     ensures { IfOk result (IsCellOf
-        (input_cell_in ask.world.now ask.checked.now input (asset_of ask) session)
-        (input_cost_in ask.world.now ask.checked.now input (asset_of ask) session)
+        (input_cell_in ask.entry.world.now ask.entry.checked.now input (asset_of ask.entry) session)
+        (input_cost_in ask.entry.world.now ask.entry.checked.now input (asset_of ask.entry) session)
         steps.old steps.new) }
 {
     match input {
@@ -290,8 +293,8 @@ fn input_cell<L: Ledger>(
 fn term_row<L: Ledger>(ask: Request, u: TermId, steps: &mut Steps<L>) -> Result<Vec<i64>, Memory>
     requires asked { IsRequest ask }
     requires term { IsAsked ask.world.now ask.checked.now u.0 ask.session }
-    ensures { IfOk result (λ v. AreCellsOf (row_in ask.world.now ask.checked.now u.0 ask.session)
-        (row_cost_in ask.world.now ask.checked.now u.0 ask.session) steps.old steps.new v.items) }
+    ensures { IfOk result (λ v. AreCellsOf (row_in ask.entry.world.now ask.entry.checked.now u.0 ask.entry.session)
+        (row_cost_in ask.entry.world.now ask.entry.checked.now u.0 ask.entry.session) steps.old steps.new v.items) }
 {
     let mut row = Vec::new(ask.alloc);
     for col in 0..ask.world.assets.len() {
@@ -314,8 +317,8 @@ fn optional_row<L: Ledger>(
 ) -> Result<Option<Vec<i64>>, Memory>
     requires asked { IsRequest ask }
     requires term { IsAskedOption ask.world.now ask.checked.now u ask.session }
-    ensures { IfOk result (λ o. IsRowOf (optional_row_in ask.world.now ask.checked.now u ask.session)
-        (optional_cost_in ask.world.now ask.checked.now u ask.session) steps.old steps.new
+    ensures { IfOk result (λ o. IsRowOf (optional_row_in ask.entry.world.now ask.entry.checked.now u ask.entry.session)
+        (optional_cost_in ask.entry.world.now ask.entry.checked.now u ask.entry.session) steps.old steps.new
         (option_map (λ v. v.items) o)) }
 {
     match u {
