@@ -1,4 +1,4 @@
-use Rattle.std.proofs.Common.{rules, ◌≡◌, ◌+◌, ◌-◌, ◌<◌, ◌≤◌, ◌++◌, ◌∷◌, [], ◌∙◌, true, false, length, sym, ap, subst, arith, inl, inr, w64, FitsSigned}
+use Rattle.std.proofs.Common.{rules, ℕ, ◌≡◌, ◌+◌, ◌-◌, ◌<◌, ◌≤◌, ◌++◌, ◌∷◌, [], ◌∙◌, true, false, length, sym, ap, subst, arith, inl, inr, w64, FitsSigned}
 use Rattle.std.proofs.lemmas.Int.{to_z-of_z}
 use Rattle.std.proofs.lemmas.Result.{IfOk-weaker}
 use Rattle.pl_spec.specs.Rounding.{IsCell}
@@ -224,14 +224,14 @@ section_cell-optional_row-requires-2 g t c =
 pub section_cell-index-requires : goal.section_cell-index-requires
 section_cell-index-requires g t c =
     let r = c.args.ask in
-    let long = row-long (λ a. cell_in r.world.now r.checked.now r.term.0 a r.session) r.world.now.assets.now c.in_ok-row.row.items c.in_ok-row.ensures.row in
+    let long = row-long (λ (a : ℕ). cell_in r.world.now r.checked.now r.term.0 a r.session) r.world.now.assets.now c.in_ok-row.row.items c.in_ok-row.ensures.row in
     omega (arith, long, c.in_ok-row.row.ok.0, c.requires.asked.request.col)
 
 pub section_cell-returns : goal.section_cell-returns
 section_cell-returns g t c =
     let r = c.args.ask in
     let n = c.args.node.now in
-    let f = λ a. cell_in r.world.now r.checked.now r.term.0 a r.session in
+    let f = λ (a : ℕ). cell_in r.world.now r.checked.now r.term.0 a r.session in
     let col = c.requires.asked.request.col in
     let long = row-long f r.world.now.assets.now c.in_ok-row.row.items c.in_ok-row.ensures.row in
     let own = c.section_input-input.ensures n c.requires.asked.node in
@@ -270,8 +270,8 @@ cells_up_to-returns g t c =
 pub cells_up_to-loop-session-preserved : goal.cells_up_to-loop-session-preserved
 cells_up_to-loop-session-preserved g t c =
     let r = c.args.ask in
-    let f = λ k. cell_in r.world.now r.checked.now c.args.u.0 (asset_of r) k in
-    let k = λ k. cost_in r.world.now r.checked.now c.args.u.0 (asset_of r) k in
+    let f = λ (k : ℕ). cell_in r.world.now r.checked.now c.args.u.0 (asset_of r) k in
+    let k = λ (k : ℕ). cost_in r.world.now r.checked.now c.args.u.0 (asset_of r) k in
     let first = r.session + 1 - c.args.size in
     let e = c.loop-session.session in
     let so_far = c.loop-session.invariant in
@@ -300,8 +300,8 @@ term_row-returns g t c =
 pub term_row-loop-col-preserved : goal.term_row-loop-col-preserved
 term_row-loop-col-preserved g t c =
     let r = c.args.ask in
-    let f = λ a. cell_in r.world.now r.checked.now c.args.u.0 a r.session in
-    let k = λ a. cost_in r.world.now r.checked.now c.args.u.0 a r.session in
+    let f = λ (a : ℕ). cell_in r.world.now r.checked.now c.args.u.0 a r.session in
+    let k = λ (a : ℕ). cost_in r.world.now r.checked.now c.args.u.0 a r.session in
     let assets = r.world.now.assets.now in
     let i = c.loop-col.col in
     let inside : i < length assets = omega (arith, c.loop-col-test.true, c.len-col-end.ensures.length) in
