@@ -119,7 +119,8 @@ fn is_kept<L: Ledger>(ask: Request, node: &Node, steps: &mut Steps<L>) -> Result
 fn given<L: Ledger>(ask: Request, node: &Node, steps: &mut Steps<L>) -> Result<i64, Memory>
     requires asked { IsRequestOf ask node.now }
     requires kept { IsKeptFor ask }
-    ensures { IfOk result (IsCellOf (asked_cell ask.entry) (given_cost ask.entry node.now) steps.old steps.new) }
+    ensures { IfOk result
+        (IsCellOf (asked_cell ask.entry) (given_cost ask.entry node.now) steps.old steps.new) }
 {
     let world = ask.world;
     match family_of(&node.kind) {
@@ -149,7 +150,8 @@ fn window_cell<L: Ledger>(ask: Request, node: &Node, steps: &mut Steps<L>) -> Re
     requires asked { IsRequestOf ask node.now }
     requires kept { IsKeptFor ask }
     requires kind { HasKind ask.checked.now ask.term.0 is_windowed }
-    ensures { IfOk result (IsCellOf (asked_cell ask.entry) (given_cost ask.entry node.now) steps.old steps.new) }
+    ensures { IfOk result
+        (IsCellOf (asked_cell ask.entry) (given_cost ask.entry node.now) steps.old steps.new) }
 {
     let size = node.window as usize;
     let first = input_at(node, 0);
@@ -166,7 +168,8 @@ fn point_cell<L: Ledger>(ask: Request, node: &Node, steps: &mut Steps<L>) -> Res
     requires asked { IsRequestOf ask node.now }
     requires kept { IsKeptFor ask }
     requires kind { HasKind ask.checked.now ask.term.0 is_point }
-    ensures { IfOk result (IsCellOf (asked_cell ask.entry) (given_cost ask.entry node.now) steps.old steps.new) }
+    ensures { IfOk result
+        (IsCellOf (asked_cell ask.entry) (given_cost ask.entry node.now) steps.old steps.new) }
 {
     let first = input_at(node, 0);
     let x = input_cell(ask, first, ask.session, steps)?;
@@ -181,7 +184,8 @@ fn point_cell<L: Ledger>(ask: Request, node: &Node, steps: &mut Steps<L>) -> Res
 fn section_cell<L: Ledger>(ask: Request, node: &Node, steps: &mut Steps<L>) -> Result<i64, Memory>
     requires asked { IsRequestOf ask node.now }
     requires kind { HasKind ask.checked.now ask.term.0 is_section }
-    ensures { IfOk result (IsCellOf (asked_cell ask.entry) (given_cost ask.entry node.now) steps.old steps.new) }
+    ensures { IfOk result
+        (IsCellOf (asked_cell ask.entry) (given_cost ask.entry node.now) steps.old steps.new) }
 {
     let input = section_input(ask.checked, ask.term);
     let values = term_row(ask, input, steps)?;
@@ -211,7 +215,8 @@ fn input_window<L: Ledger>(
     requires asked { IsRequest ask }
     requires input { IsAskedInput ask.world.now ask.checked.now input size ask.session }
     ensures { IfOk result (λ v. AreCellsOf
-        (window_in ask.entry.world.now ask.entry.checked.now size input (asset_of ask.entry) ask.entry.session)
+        (window_in ask.entry.world.now ask.entry.checked.now size input
+        (asset_of ask.entry) ask.entry.session)
         (window_cost_in ask.entry.world.now ask.entry.checked.now size input
         (asset_of ask.entry) ask.entry.session)
         steps.old steps.new v.items) }
@@ -294,8 +299,10 @@ fn input_cell<L: Ledger>(
 fn term_row<L: Ledger>(ask: Request, u: TermId, steps: &mut Steps<L>) -> Result<Vec<i64>, Memory>
     requires asked { IsRequest ask }
     requires term { IsAsked ask.world.now ask.checked.now u.0 ask.session }
-    ensures { IfOk result (λ v. AreCellsOf (row_in ask.entry.world.now ask.entry.checked.now u.0 ask.entry.session)
-        (row_cost_in ask.entry.world.now ask.entry.checked.now u.0 ask.entry.session) steps.old steps.new v.items) }
+    ensures { IfOk result (λ v. AreCellsOf
+        (row_in ask.entry.world.now ask.entry.checked.now u.0 ask.entry.session)
+        (row_cost_in ask.entry.world.now ask.entry.checked.now u.0 ask.entry.session)
+        steps.old steps.new v.items) }
 {
     let mut row = Vec::new(ask.alloc);
     for col in 0..ask.world.assets.len() {
@@ -318,7 +325,8 @@ fn optional_row<L: Ledger>(
 ) -> Result<Option<Vec<i64>>, Memory>
     requires asked { IsRequest ask }
     requires term { IsAskedOption ask.world.now ask.checked.now u ask.session }
-    ensures { IfOk result (λ o. IsRowOf (optional_row_in ask.entry.world.now ask.entry.checked.now u ask.entry.session)
+    ensures { IfOk result (λ o. IsRowOf
+        (optional_row_in ask.entry.world.now ask.entry.checked.now u ask.entry.session)
         (optional_cost_in ask.entry.world.now ask.entry.checked.now u ask.entry.session) steps.old steps.new
         (option_map (λ v. v.items) o)) }
 {
