@@ -23,7 +23,7 @@ pub struct Lent<'t> {
     pub checked: &'t Checked,
     pub assets: &'t Assets,
     pub labels: &'t Labels,
-    pub numbers: &'t Numbers,
+    pub numbers: Option<&'t Numbers>,
     pub bars: &'t BarRings,
     pub day: i32,
     pub last: Option<i32>,
