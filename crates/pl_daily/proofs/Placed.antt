@@ -33,7 +33,7 @@ use Rattle.pl_rings.specs.Changes.{Ring, AreRings, ring_at}
 use Rattle.pl_rings.specs.Columns.{HoldColumns, rings_of}
 use Rattle.pl_day_rows.specs.declared.turn.TermCells.{TermCells}
 use Rattle.pl_day_rows.specs.declared.turn.Turn.{Turn}
-use Rattle.pl_day_rows.specs.Rows.{capacity_of, rings_in, row_of}
+use Rattle.pl_day_rows.specs.Rows.{capacity_of, rings_in, row_of, rows_lent}
 use Rattle.pl_day_rows.specs.Turns.{Moment, IsAlways, IsTurn, IsDayIn, HoldsRow, HoldsRings, HoldsBars, HoldsStart, assets_at, node_at, pipeline_at, sids_at, cell_on, day_window_of}
 use Rattle.pl_day_rows.proofs.Sessions.{fed_days_are_sessions}
 use Rattle.pl_daily.specs.declared.starts.StartCells.{StartCells}
@@ -73,10 +73,10 @@ pub input_used : (p : Pipeline) (k : ℕ) (f : Frequency) (u : ℕ) → IsChecke
 input_used p k f u checked down = read_used p checked k down.node down.used down.at u _ (Reads.input 0 down.input)
 
 module _ (t : Turn) (next : FedDay) (days : List FedDay) (s : StartCells)
-    (start : IsStart (start_of t.assets.now t.labels.now t.numbers.now.rows)) (are_fed : AreFed (start_of t.assets.now t.labels.now t.numbers.now.rows) (next ∷ days)) (day : next.day ≡ t.day)
-    (bars : HoldColumns (start_of t.assets.now t.labels.now t.numbers.now.rows) (next ∷ days) t.bars.now)
-    (held : TermsHold (start_of t.assets.now t.labels.now t.numbers.now.rows) days (next ∷ days) (pipeline_at t) t.term.0 t.terms.now)
-    (begun : IsStartOf (start_of t.assets.now t.labels.now t.numbers.now.rows) (next ∷ days) (pipeline_at t) t.term.0 s)
+    (start : IsStart (start_of t.assets.now t.labels.now (rows_lent t.numbers))) (are_fed : AreFed (start_of t.assets.now t.labels.now (rows_lent t.numbers)) (next ∷ days)) (day : next.day ≡ t.day)
+    (bars : HoldColumns (start_of t.assets.now t.labels.now (rows_lent t.numbers)) (next ∷ days) t.bars.now)
+    (held : TermsHold (start_of t.assets.now t.labels.now (rows_lent t.numbers)) days (next ∷ days) (pipeline_at t) t.term.0 t.terms.now)
+    (begun : IsStartOf (start_of t.assets.now t.labels.now (rows_lent t.numbers)) (next ∷ days) (pipeline_at t) t.term.0 s)
     (lent : t.start.now ≡ s.row.items) (room : IsStartRoom (assets_at t) (pipeline_at t) t.term.0 s)
     (are : AreTerms (assets_at t) (pipeline_at t) t.bars.now t.terms.now) (checked : IsChecked (pipeline_at t)) (used : is_used (pipeline_at t) t.term.0 ≡ true)
     (node : slice_get (pipeline_at t).graph t.term.0 ≡ Some (node_at t)) (few : assets_at t ≤ 8000) (labels : AreLabels t.labels.now) where
@@ -84,7 +84,7 @@ module _ (t : Turn) (next : FedDay) (days : List FedDay) (s : StartCells)
   p = pipeline_at t
 
   abbrev g : Start
-  g = start_of t.assets.now t.labels.now t.numbers.now.rows
+  g = start_of t.assets.now t.labels.now (rows_lent t.numbers)
 
   abbrev n : Node
   n = node_at t
@@ -93,7 +93,7 @@ module _ (t : Turn) (next : FedDay) (days : List FedDay) (s : StartCells)
   w = fed g (next ∷ days)
 
   abbrev v : Moment
-  v = record { world = fed (start_of t.assets.now t.labels.now t.numbers.now.rows) (next ∷ days); session = length days }
+  v = record { world = fed (start_of t.assets.now t.labels.now (rows_lent t.numbers)) (next ∷ days); session = length days }
 
   is_read : (u : ℕ) (r : ℤ) → Reads [] n (pos 0) u r → (u < t.term.0) × (u < length t.terms.now) × (is_used p u ≡ true)
   is_read u r reads = let x = read_used p checked t.term.0 n used node u r reads in (x.0, omega (arith, x.1, are.many), x.2)
@@ -134,8 +134,8 @@ module _ (t : Turn) (next : FedDay) (days : List FedDay) (s : StartCells)
         ∙ ap (λ a. bar_window w c (rings_of t.bars.now c).capacity a (pos (length days))) (sym (sid_is t.assets.now i l));
   }
 
-  here_is : IsDayIn t.assets.now t.labels.now t.numbers.now.rows t.day v
-  here_is = subst (λ d. IsDayIn t.assets.now t.labels.now t.numbers.now.rows d v) day (fed_days_are_sessions g t.labels.now next days start labels refl refl are_fed)
+  here_is : IsDayIn t.assets.now t.labels.now (rows_lent t.numbers) t.day v
+  here_is = subst (λ d. IsDayIn t.assets.now t.labels.now (rows_lent t.numbers) d v) day (fed_days_are_sessions g t.labels.now next days start labels refl refl are_fed)
 
   start_held : (f : Frequency) (u : ℕ) → n.kind ≡ Downsample f → slice_get n.inputs 0 ≡ Some (TermInput u) → HoldsStart t v f u
   start_held f u kind input =

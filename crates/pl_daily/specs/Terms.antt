@@ -18,7 +18,7 @@ use Rattle.pl_rings.specs.Days.{Start, FedDay, fed, days_of, last_day, last_sess
 use Rattle.pl_rings.specs.declared.columns.BarRings.{BarRings}
 use Rattle.pl_rings.specs.Columns.{AreBarRings, HoldColumns, rings_of}
 use Rattle.pl_day_rows.specs.declared.turn.TermCells.{TermCells}
-use Rattle.pl_day_rows.specs.Rows.{sids_of}
+use Rattle.pl_day_rows.specs.Rows.{rows_lent, sids_of}
 use Rattle.pl_day_rows.specs.Turns.{cell_on}
 use Rattle.pl_day_rows.specs.Held.{AreTermCells, HoldsTerm}
 use Rattle.pl_daily.specs.declared.starts.StartCells.{StartCells}
@@ -31,7 +31,7 @@ abbrev pub start_of : List AssetRow → LabelTable → List ColumnNumber → Sta
 start_of assets table numbers = record { assets = assets; labels = table.rows; texts = table.texts; numbers = numbers }
 
 abbrev pub start_at : Lent → Start
-start_at l = start_of l.assets.now l.labels.now l.numbers.now.rows
+start_at l = start_of l.assets.now l.labels.now (rows_lent l.numbers)
 
 abbrev pub pipeline_at : Lent → Pipeline
 pipeline_at l = pipeline_of l.checked.now

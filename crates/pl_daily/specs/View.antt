@@ -4,6 +4,7 @@ use Rattle.pl_spec.specs.declared.Column.{Column}
 use Rattle.pl_terms.specs.Checked.{IsChecked, pipeline_of}
 use Rattle.pl_rings.specs.Columns.{rings_of}
 use Rattle.pl_day_rows.specs.declared.turn.TermCells.{TermCells}
+use Rattle.pl_day_rows.specs.Rows.{rows_lent}
 use Rattle.pl_daily.specs.declared.daily.Daily.TheInside.{Inside}
 use Rattle.pl_daily.specs.Capacities.{column_window, term_window}
 use Rattle.pl_daily.specs.Daily.{Held}
@@ -16,7 +17,7 @@ held_of d =
       pipeline = pipeline_of d.checked.now;
       assets = d.assets.now;
       labels = d.labels.now;
-      numbers = d.numbers.now.rows;
+      numbers = rows_lent d.numbers;
       fed = d.fed;
       last = d.last;
       answered = d.answered;

@@ -10,6 +10,7 @@ ghost use Rattle.pl_rings.specs.Changes.{AreRings, IsHandedIn};
 ghost use Rattle.pl_rings.specs.Columns.{FollowColumns, rings_of};
 ghost use Rattle.pl_rings.specs.Days.{FedDay, IsLaterThan, MayFollow, last_session};
 ghost use Rattle.pl_day_rows.specs.declared.turn.TermCells.{TermCells};
+ghost use Rattle.pl_day_rows.specs.Rows.{rows_lent};
 ghost use Rattle.pl_day_rows.specs.Turns.{number_row};
 ghost use Rattle.pl_daily.specs.Capacities.{column_window, term_window};
 ghost use Rattle.pl_daily.specs.Daily.{Stands, day_work, handed, last_of, start_in, world_in};
@@ -48,7 +49,7 @@ pub struct Daily<'a> {
     checked: &'a Checked,
     assets: &'a Assets,
     labels: &'a Labels,
-    numbers: &'a Numbers,
+    numbers: Option<&'a Numbers>,
     fed: usize,
     last: i32,
     answered: bool,
@@ -93,9 +94,27 @@ impl<'a> Model for Daily<'a> {
 }
 
 impl<'a> Daily<'a> {
-    /// An evaluation of the pipeline over these assets, labels and numbers, which stay lent to it; no day was
-    /// taken in. The only error is want of memory.
+    /// An evaluation of the pipeline over these assets and labels, which stay lent to it, and over no numbers;
+    /// no day was taken in. The only error is want of memory.
     pub fn new(
+        alloc: Global,
+        checked: &'a Checked,
+        assets: &'a Assets,
+        labels: &'a Labels,
+    ) -> Result<Daily<'a>, Memory>
+        requires labels { All (λ r. r.col < length assets.now) labels.now.rows }
+        ensures pipeline { IfOk result (λ d. d.pipeline ≡ pipeline_of checked.entry.now) }
+        ensures assets { IfOk result (λ d. d.assets ≡ assets.entry.now) }
+        ensures labels { IfOk result (λ d. d.labels ≡ labels.entry.now) }
+        ensures numbers { IfOk result (λ d. d.numbers ≡ []) }
+        ensures none { IfOk result (λ d. d.fed ≡ 0) }
+        ensures stands { IfOk result (λ d. Stands d []) }
+    {
+        Daily::begin(alloc, checked, assets, labels, None)
+    }
+
+    /// The same over these numbers, too, which stay lent to it: a day reads those that were known by then.
+    pub fn with_numbers(
         alloc: Global,
         checked: &'a Checked,
         assets: &'a Assets,
@@ -108,6 +127,26 @@ impl<'a> Daily<'a> {
         ensures assets { IfOk result (λ d. d.assets ≡ assets.entry.now) }
         ensures labels { IfOk result (λ d. d.labels ≡ labels.entry.now) }
         ensures numbers { IfOk result (λ d. d.numbers ≡ numbers.entry.now.rows) }
+        ensures none { IfOk result (λ d. d.fed ≡ 0) }
+        ensures stands { IfOk result (λ d. Stands d []) }
+    {
+        Daily::begin(alloc, checked, assets, labels, Some(numbers))
+    }
+
+    // An evaluation into which no day was taken.
+    fn begin(
+        alloc: Global,
+        checked: &'a Checked,
+        assets: &'a Assets,
+        labels: &'a Labels,
+        numbers: Option<&'a Numbers>,
+    ) -> Result<Daily<'a>, Memory>
+        requires labels { All (λ r. r.col < length assets.now) labels.now.rows }
+        requires numbers { All (λ r. r.col < length assets.now) (rows_lent numbers) }
+        ensures pipeline { IfOk result (λ d. d.pipeline ≡ pipeline_of checked.entry.now) }
+        ensures assets { IfOk result (λ d. d.assets ≡ assets.entry.now) }
+        ensures labels { IfOk result (λ d. d.labels ≡ labels.entry.now) }
+        ensures numbers { IfOk result (λ d. d.numbers ≡ rows_lent numbers.entry) }
         ensures none { IfOk result (λ d. d.fed ≡ 0) }
         ensures stands { IfOk result (λ d. Stands d []) }
     {

@@ -16,14 +16,14 @@ use pl_rings::BarRings;
 use pl_terms::{Checked, TermId};
 
 /// What the terms of a day are computed from: the pipeline, the assets, their labels and numbers, the rings
-/// of bars with the day, the day itself, the one before it, if there is one, and how many there are before it. Days
-/// are counted from 1970-01-01.
+/// of bars with the day, the day itself, the one before it, if there is one, and how many there are before
+/// it. Days are counted from 1970-01-01.
 #[derive(Clone, Copy)]
 pub struct Lent<'t> {
     pub checked: &'t Checked,
     pub assets: &'t Assets,
     pub labels: &'t Labels,
-    pub numbers: &'t Numbers,
+    pub numbers: Option<&'t Numbers>,
     pub bars: &'t BarRings,
     pub day: i32,
     pub last: Option<i32>,

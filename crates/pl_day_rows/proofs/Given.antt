@@ -41,7 +41,7 @@ use Rattle.pl_rings.specs.Changes.{Ring, ring_at}
 use Rattle.pl_rings.specs.Columns.{rings_of}
 use Rattle.pl_day_rows.specs.declared.turn.Turn.{Turn}
 use Rattle.pl_day_rows.specs.declared.turn.TermCells.{TermCells}
-use Rattle.pl_day_rows.specs.Rows.{Shows, is_kept_by, row_of, rings_in, capacity_of, input_row, ring_window}
+use Rattle.pl_day_rows.specs.Rows.{Shows, is_kept_by, row_of, rows_lent, rings_in, capacity_of, input_row, ring_window}
 use Rattle.pl_day_rows.specs.Turns.{Moment, IsTurn, IsKept, IsOut, HoldsStart, assets_at, sids_at, node_at, pipeline_at, keeps, number_row, cell_on, day_window_of}
 use Rattle.pl_day_rows.specs.Windows.{window_at, windowed_by}
 use Rattle.pl_day_rows.proofs.DayWindows.{AreDayWindows, takes-day-windows, day-window-cell}
@@ -133,7 +133,7 @@ module _ (t : Turn) (v : Moment) (is : IsTurn t v) where
 
   -- a number is that of the column
   pub number_given : (number i : ℕ) (name : List ℕ) → n.kind ≡ Number number → slice_get p.names number ≡ Some name → i < assets_at t
-      → IsGiven w p sids t.term.0 n i s (number_on t.numbers.now.rows name i t.day)
+      → IsGiven w p sids t.term.0 n i s (number_on (rows_lent t.numbers) name i t.day)
   number_given number i name e named h =
       subst (IsGiven w p sids t.term.0 n i s)
       (ap (λ m. known_number w m (sid_in sids i) (pos s)) (ap (λ o. unwrap_or o []) named) ∙ is.here.known name i h)

@@ -1,12 +1,15 @@
 -- Rows of cells, one for each asset, and windows of them, by what is held.
 use Rattle.std.specs.Prelude.{◌≡◌, ℕ, ◌<◌, Bool, false, ◌&&◌, ℤ, pos, List, [], length, map, get_or, slice_get, Option, Some, None, option_map, unwrap_or}
+use Rattle.std.specs.Borrow.{Bor}
 use Rattle.circular_buffer.specs.Buffer.{keep_last}
 use Rattle.pl_spec.specs.declared.AssetRow.{AssetRow}
+use Rattle.pl_spec.specs.Parts.{ColumnNumber}
 use Rattle.pl_spec.specs.Rounding.{IsCell}
 use Rattle.pl_spec.specs.Formula.{is_true}
 use Rattle.pl_spec.specs.Term.{Input}
 use Rattle.pl_spec.specs.Term.Input.{BarColumn, TermInput}
 use Rattle.pl_spec.specs.World.{lives_on}
+use Rattle.pl_numbers.specs.Numbers.{NumberTable}
 use Rattle.pl_values.specs.Arrays.{kept_or}
 use Rattle.pl_rings.specs.declared.columns.BarRings.{BarRings}
 use Rattle.pl_rings.specs.Changes.{Ring, ring_at}
@@ -30,6 +33,11 @@ pub record Shows (f : ℕ → ℤ) (none : ℤ) (keep row : List ℤ) : Type 0 w
   pub long : length row ≡ length keep
   pub each : (i : ℕ) → i < length keep → get_or row i (pos 0) ≡ kept_or none keep f i
   pub cell : (i : ℕ) → i < length keep → IsCell (get_or row i (pos 0))
+
+-- the rows of numbers that are lent, none where no numbers are
+abbrev pub rows_lent : Option (Bor NumberTable) → List ColumnNumber
+rows_lent None = []
+rows_lent (Some b) = b.now.rows
 
 -- ---- what is held of terms
 

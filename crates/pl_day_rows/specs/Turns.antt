@@ -24,7 +24,7 @@ use Rattle.pl_rings.specs.Changes.{AreRings, ring_at}
 use Rattle.pl_rings.specs.Columns.{rings_of}
 use Rattle.pl_day_rows.specs.declared.turn.TermCells.{TermCells}
 use Rattle.pl_day_rows.specs.declared.turn.Turn.{Turn}
-use Rattle.pl_day_rows.specs.Rows.{capacity_of, is_kept_by, lives_at, rings_in, row_of, sids_of}
+use Rattle.pl_day_rows.specs.Rows.{capacity_of, is_kept_by, lives_at, rings_in, row_of, rows_lent, sids_of}
 
 -- a session of a world
 pub record Moment : Type 0 where
@@ -106,7 +106,7 @@ pub record IsTurn (t : Turn) (v : Moment) : Type 0 where
   pub checked : IsChecked (pipeline_at t)
   pub node : slice_get (pipeline_at t).graph t.term.0 ≡ Some (node_at t)
   pub few : assets_at t ≤ most_assets
-  pub here : IsDayIn t.assets.now t.labels.now t.numbers.now.rows t.day v
+  pub here : IsDayIn t.assets.now t.labels.now (rows_lent t.numbers) t.day v
   pub rows : (place u : ℕ) → slice_get (node_at t).inputs place ≡ Some (TermInput u) → HoldsRow t v u
   pub mask : (u : ℕ) → (node_at t).mask ≡ Some u → HoldsRow t v u
   pub group : (u : ℕ) → (node_at t).group ≡ Some u → HoldsRow t v u

@@ -8,9 +8,10 @@ ghost use Rattle.pl_cross.specs.Arrays.{sid_in};
 ghost use Rattle.pl_cross.specs.Listing.{labels_in};
 ghost use Rattle.pl_values.specs.Arrays.{IsKeep};
 ghost use Rattle.pl_values.specs.Families.{is_sids, label_code, sid_flag};
-ghost use Rattle.pl_day_rows.specs.Rows.{is_kept_by, sids_of};
+ghost use Rattle.pl_day_rows.specs.Rows.{is_kept_by, rows_lent, sids_of};
 
 use pl_assets::{Assets, Labels};
+use pl_fixed::MISSING;
 use pl_numbers::Numbers;
 use pl_terms::TermKind;
 use pl_values::{is_one, label_value, sids_value, truth_of};
@@ -66,8 +67,21 @@ pub(crate) fn label_row(labels: &Labels, name: &[u8], day: i32, out: &mut [i64])
     }
 }
 
-/// Numbers under a name.
-pub(crate) fn known_row(numbers: &Numbers, name: &[u8], day: i32, out: &mut [i64])
+/// Numbers under a name; where none are lent, all are missing.
+pub(crate) fn known_row(numbers: Option<&Numbers>, name: &[u8], day: i32, out: &mut [i64])
+    ensures length { length out.new ≡ length out.old }
+    ensures each { (i : ℕ) → i < length out.old
+        → get_or out.new i (pos 0) ≡ number_on (rows_lent numbers.entry) name.now i day }
+    ensures cells { (i : ℕ) → i < length out.old → IsCell (get_or out.new i (pos 0)) }
+{
+    match numbers {
+        None => out.fill(MISSING),
+        Some(lent) => lent_row(lent, name, day, out),
+    }
+}
+
+// The numbers of a table.
+fn lent_row(numbers: &Numbers, name: &[u8], day: i32, out: &mut [i64])
     ensures length { length out.new ≡ length out.old }
     ensures each { (i : ℕ) → i < length out.old
         → get_or out.new i (pos 0) ≡ number_on numbers.now.rows name.now i day }

@@ -20,7 +20,7 @@ pub struct Turn<'t> {
     pub checked: &'t Checked,
     pub assets: &'t Assets,
     pub labels: &'t Labels,
-    pub numbers: &'t Numbers,
+    pub numbers: Option<&'t Numbers>,
     pub bars: &'t BarRings,
     pub terms: &'t [TermCells],
     pub term: TermId,

@@ -50,7 +50,7 @@ impl<'a> Desk<'a> {
         let bars = Vec::with_capacity(alloc, world.assets.len())?;
         let events = Vec::with_capacity(alloc, world.adjustments.len())?;
         let line = Line::reserve(alloc)?;
-        let daily = Daily::new(alloc, checked, world.assets, world.labels, world.numbers)?;
+        let daily = Daily::with_numbers(alloc, checked, world.assets, world.labels, world.numbers)?;
         Ok(Desk {
             daily,
             places,

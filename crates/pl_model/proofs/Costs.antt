@@ -28,7 +28,7 @@ use Rattle.pl_values.proofs.Cells.{keeps-is}
 use Rattle.pl_world.specs.declared.world.World.{World}
 use Rattle.pl_world.specs.Worlds.{world_of}
 use Rattle.pl_world.specs.Evaluations.{as_input, IsAsked, IsAskedInput}
-use Rattle.pl_model.specs.Costs.{Cost, cost, window_cost, session_cost, kind_cost, cost_in, input_cost_in, input_cost_at, window_cost_in, input_row_cost_in, optional_cost_in, given_cost_of, given_cost_in}
+use Rattle.pl_model.specs.Costs.{Cost, cost, window_cost, session_cost, kind_cost, cost_in, input_cost_in, input_cost_at, window_cost_in, input_row_cost_in, optional_cost_in, given_cost_of}
 use Rattle.pl_world.proofs.Asked.{inputs-at, has-node, first-asked, second-asked, third-asked}
 
 -- ---- sums
@@ -74,14 +74,7 @@ module _ (w : World) (c : Parts) (ok : IsChecked (pipeline_of c)) (t s : ℕ) (a
   abbrev tree_cost : Term → Cost
   tree_cost x = cost (world_of w) (pipeline_of c).names x
 
-  -- an input on the session
-  input-cost : (o : Option Input) → tree_cost (input_tree (trees (graph_of c.graph)) (option_map input_of o)) a (pos s) ≡ input_cost_in w c o a s
-  unfolding cost
-  input-cost None = refl
-  input-cost (Some (input.Column k)) = refl
-  input-cost (Some (input.Term u)) = refl
-
-  -- on any session
+  -- an input on any session
   input-cost-at : (o : Option Input) (d : ℤ) → tree_cost (input_tree (trees (graph_of c.graph)) (option_map input_of o)) a d ≡ input_cost_at w c o a d
   unfolding cost
   input-cost-at None d = refl
@@ -132,7 +125,7 @@ module _ (w : World) (c : Parts) (ok : IsChecked (pipeline_of c)) (t s : ℕ) (a
   over j = window_cost (world_of w) n.window (place j) (tree_cost (place j)) a (pos s)
 
   one-is : (j : ℕ) → one j ≡ input_cost_in w c (slice_get n.inputs j) a s
-  one-is j = ap (λ o. tree_cost (input_tree (trees (graph_of c.graph)) o) a (pos s)) (inputs-at n j) ∙ input-cost (slice_get n.inputs j)
+  one-is j = ap (λ o. tree_cost (input_tree (trees (graph_of c.graph)) o) a (pos s)) (inputs-at n j) ∙ input-cost-at (slice_get n.inputs j) (pos s)
 
   over-is : (j : ℕ) → IsAskedInput w c (slice_get n.inputs j) n.window s → over j ≡ window_cost_in w c n.window (slice_get n.inputs j) a s
   over-is j asks =
@@ -160,10 +153,10 @@ module _ (w : World) (c : Parts) (ok : IsChecked (pipeline_of c)) (t s : ℕ) (a
   kind-is (kinds.StaticSids f) = refl
   kind-is (kinds.Downsample f) = ap (λ o. tree_cost (input_tree (trees (graph_of c.graph)) o) a (period_start f w.sessions.now (pos s))) (inputs-at n 0) ∙ input-cost-at (slice_get n.inputs 0) (period_start f w.sessions.now (pos s))
 
-  given-is : given_cost_in w c t a s ≡ given_cost_of w c (kind_of n.kind) n a s
-  given-is = rw is refl
+  abbrev given : ℕ
+  given = given_cost_of w c (kind_of n.kind) n a s
 
-  pub cost-node : cost_in w c t a s ≡ input_cost_in w c (as_input n.mask) a s + (if is_kept (world_of w) (pipeline_of c) (a ∷ []) (option_map number_of n.mask) 0 s then given_cost_in w c t a s else 0)
+  pub cost-node : cost_in w c t a s ≡ input_cost_in w c (as_input n.mask) a s + (if is_kept (world_of w) (pipeline_of c) (a ∷ []) (option_map number_of n.mask) 0 s then given else 0)
   unfolding cost node_of
   cost-node =
       ap (λ x. tree_cost x a (pos s)) (term_at-node (graph_of c.graph) t (node_of n) ok.graph there)
@@ -172,20 +165,15 @@ module _ (w : World) (c : Parts) (ok : IsChecked (pipeline_of c)) (t s : ℕ) (a
       (mask-part (world_of w) (pipeline_of c).names (graph_of c.graph) (option_map number_of n.mask) ok.graph
       (λ k e. let l = (ok.graph.lower t (node_of n) there).mask k e in let r = asked.term in omega (arith, l, r, graph-long c.graph)))
       ∙ ap (λ b. input_cost_in w c (as_input n.mask) a s + (if b then kind_costs (kind_of n.kind) else 0)) (keeps-is (world_of w) (pipeline_of c) (a ∷ []) ok t (node_of n) there 0 s)
-      ∙ ap (λ k. input_cost_in w c (as_input n.mask) a s + (if is_kept (world_of w) (pipeline_of c) (a ∷ []) (option_map number_of n.mask) 0 s then k else 0)) (kind-is (kind_of n.kind) ∙ sym given-is)
+      ∙ ap (λ k. input_cost_in w c (as_input n.mask) a s + (if is_kept (world_of w) (pipeline_of c) (a ∷ []) (option_map number_of n.mask) 0 s then k else 0)) (kind-is (kind_of n.kind))
 
   pub cost-barred : is_kept (world_of w) (pipeline_of c) (a ∷ []) (option_map number_of n.mask) 0 s ≡ false → cost_in w c t a s ≡ input_cost_in w c (as_input n.mask) a s
-  cost-barred e = cost-node ∙ ap (λ b. input_cost_in w c (as_input n.mask) a s + (if b then given_cost_in w c t a s else 0)) e ∙ add-zero (input_cost_in w c (as_input n.mask) a s)
+  cost-barred e = cost-node ∙ ap (λ b. input_cost_in w c (as_input n.mask) a s + (if b then given else 0)) e ∙ add-zero (input_cost_in w c (as_input n.mask) a s)
 
-  pub cost-kept : is_kept (world_of w) (pipeline_of c) (a ∷ []) (option_map number_of n.mask) 0 s ≡ true → cost_in w c t a s ≡ input_cost_in w c (as_input n.mask) a s + given_cost_in w c t a s
-  cost-kept e = cost-node ∙ ap (λ b. input_cost_in w c (as_input n.mask) a s + (if b then given_cost_in w c t a s else 0)) e
+  pub cost-kept : is_kept (world_of w) (pipeline_of c) (a ∷ []) (option_map number_of n.mask) 0 s ≡ true → cost_in w c t a s ≡ input_cost_in w c (as_input n.mask) a s + given
+  cost-kept e = cost-node ∙ ap (λ b. input_cost_in w c (as_input n.mask) a s + (if b then given else 0)) e
 
 -- a downsampled term takes what its input takes on the first session of the period
-pub start-cost : (w : World) (c : Parts) (t s r a : ℕ) (n : Node) (f : Frequency) → slice_get c.graph t ≡ Some n → kind_of n.kind ≡ kinds.Downsample f → pos r ≡ period_start f w.sessions.now (pos s)
-    → given_cost_in w c t a s ≡ input_cost_in w c (slice_get n.inputs 0) a r
-start-cost w c t s r a n f is e h = rw (is, e) (here (slice_get n.inputs 0))
-  where
-    here : (o : Option Input) → input_cost_at w c o a (period_start f w.sessions.now (pos s)) ≡ input_cost_in w c o a r
-    here None = refl
-    here (Some (input.Column k)) = refl
-    here (Some (input.Term u)) = ap (λ d. input_cost_at w c (Some (input.Term u)) a d) (sym h)
+pub start-cost : (w : World) (c : Parts) (s r a : ℕ) (n : Node) (f : Frequency) → kind_of n.kind ≡ kinds.Downsample f → pos r ≡ period_start f w.sessions.now (pos s)
+    → given_cost_of w c (kind_of n.kind) n a s ≡ input_cost_in w c (slice_get n.inputs 0) a r
+start-cost w c s r a n f e h = rw e (ap (λ d. input_cost_at w c (slice_get n.inputs 0) a d) (sym h))

@@ -1,4 +1,4 @@
 pub mod Runs
+pub mod Rows
 pub mod Costs
-pub mod Taken
-pub mod Ready
+pub mod Parts

@@ -13,7 +13,6 @@ use Rattle.pl_terms.specs.declared.node.TermId.{TermId}
 use Rattle.pl_terms.specs.declared.node.Input.{Input}
 use Rattle.pl_terms.specs.declared.node.Input.TheVariants as input
 use Rattle.pl_terms.specs.declared.node.Node.{Node}
-use Rattle.pl_terms.specs.Kinds.{kind_of}
 use Rattle.pl_terms.specs.Nodes.{graph_of}
 use Rattle.pl_terms.specs.Checked.{Parts, pipeline_of}
 use Rattle.pl_world.specs.declared.world.World.{World}
@@ -62,14 +61,12 @@ cost w names (node k size x y z m g) a d =
 abbrev pub cost_in : World → Parts → ℕ → ℕ → ℕ → ℕ
 cost_in w c t a session = cost (world_of w) (pipeline_of c).names (term_at (graph_of c.graph) t) a (pos session)
 
-abbrev pub input_cost_in : World → Parts → Option Input → ℕ → ℕ → ℕ
-input_cost_in w c (Some (input.Term u)) a session = cost_in w c u.0 a session
-input_cost_in w c o a session = 0
-
--- on any session
 abbrev pub input_cost_at : World → Parts → Option Input → ℕ → ℤ → ℕ
 input_cost_at w c (Some (input.Term u)) a d = cost (world_of w) (pipeline_of c).names (term_at (graph_of c.graph) u.0) a d
 input_cost_at w c o a d = 0
+
+abbrev pub input_cost_in : World → Parts → Option Input → ℕ → ℕ → ℕ
+input_cost_in w c o a session = input_cost_at w c o a (pos session)
 
 abbrev pub window_cost_in : World → Parts → ℕ → Option Input → ℕ → ℕ → ℕ
 window_cost_in w c size None a session = 0
@@ -96,10 +93,3 @@ given_cost_of w c (LabelTest k) n a s = input_cost_in w c (slice_get n.inputs 0)
 given_cost_of w c (Cross k) n a s = input_row_cost_in w c (slice_get n.inputs 0) s + optional_cost_in w c n.mask s + optional_cost_in w c n.group s
 given_cost_of w c (Downsample f) n a s = input_cost_at w c (slice_get n.inputs 0) a (period_start f w.sessions.now (pos s))
 given_cost_of w c k n a s = 0
-
-abbrev pub given_cost_at : World → Parts → Option Node → ℕ → ℕ → ℕ
-given_cost_at w c None a s = 0
-given_cost_at w c (Some n) a s = given_cost_of w c (kind_of n.kind) n a s
-
-abbrev pub given_cost_in : World → Parts → ℕ → ℕ → ℕ → ℕ
-given_cost_in w c t a s = given_cost_at w c (slice_get c.graph t) a s

@@ -1,3 +1,4 @@
 pub mod Costs
 pub mod WindowSteps
+pub mod Requests
 pub mod Gives

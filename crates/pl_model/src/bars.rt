@@ -1,41 +1,25 @@
-//! The bars that an evaluation reads, and what it makes of a mask and of a cross-section's row.
+//! The bars that an evaluation reads, and what it makes of a mask.
 
-ghost use Rattle.std.specs.Prelude.{◌≡◌, ◌+◌, ◌<◌, ◌≤◌, All, IfOk, OnOk, length, option_map, pos};
+ghost use Rattle.std.specs.Prelude.{◌≡◌, ◌+◌, ◌<◌, ◌≤◌, All, IfOk, OnOk, length, pos};
+ghost use Rattle.pl_spec.specs.Formula.{is_true};
 ghost use Rattle.pl_spec.specs.Parts.{sid_at};
 ghost use Rattle.pl_spec.specs.Rounding.{IsCell};
 ghost use Rattle.pl_spec.specs.Window.{bar_window, effects, seen_cell, step_count};
-ghost use Rattle.pl_cross.specs.Section.{is_section};
 ghost use Rattle.pl_lifetimes.specs.Assets.{AreAssets};
 ghost use Rattle.pl_world.specs.Worlds.{world_of, IsMade};
-ghost use Rattle.pl_world.specs.Evaluations as spec;
-ghost use Rattle.pl_world.specs.Evaluations.{IsAsked, HasKind, cell_in, AreRowsOf};
 ghost use Rattle.pl_model.specs.WindowSteps.{window_steps};
 
 use pl_adjust::seen_now;
 use pl_fixed::{Column, Memory, Steps};
-use pl_terms::{Checked, Input, TermId};
-use pl_world::{World, section_row};
+use pl_world::World;
 use std::alloc::Global;
 use std::sync::ledger::Ledger;
 
-/// A mask is read as an input is.
-pub(crate) fn as_input(mask: Option<TermId>) -> Option<Input>
-    ensures { result ≡ spec.as_input mask }
+/// Whether a mask of this value lets the asset pass.
+pub(crate) fn is_true(value: i64) -> bool
+    ensures { result ≡ is_true value }
 {
-    match mask {
-        Some(t) => Some(Input::Term(t)),
-        None => None,
-    }
-}
-
-/// Whether a mask of this value lets the asset pass; without one it does.
-pub(crate) fn lets_pass(mask: Option<Input>, value: i64) -> bool
-    ensures { result ≡ spec.lets_pass mask value }
-{
-    match mask {
-        Some(_) => value == 1,
-        None => true,
-    }
+    value == 1
 }
 
 /// The cell of the bar of an earlier session as it is seen on this one.
@@ -97,29 +81,4 @@ pub(crate) fn bars_before<L: Ledger>(
         cells.push(seen_cell(world, column, col, bar_session, session, steps))?;
     }
     Ok(cells)
-}
-
-/// The cross-section's value at a column, over the rows of its input, its mask and its group.
-pub(crate) fn section_at(
-    alloc: Global,
-    world: &World,
-    checked: &Checked,
-    t: TermId,
-    col: usize,
-    session: usize,
-    values: &[i64],
-    mask: &Option<Vec<i64>>,
-    groups: &Option<Vec<i64>>,
-) -> Result<i64, Memory>
-    requires asked { IsAsked world.now checked.now t.0 session }
-    requires col { col < length world.now.assets.now }
-    requires kind { HasKind checked.now t.0 is_section }
-    requires rows { AreRowsOf world.now checked.now t.0 session values.now
-        (option_map (λ m. m.items) mask.now) (option_map (λ m. m.items) groups.now) }
-    ensures value { IfOk result (λ x. x ≡ cell_in world.now checked.now t.0
-        (sid_at world.now.assets.now col) session) }
-    ensures cell { IfOk result IsCell }
-{
-    let row = section_row(alloc, world, checked, t, session, values, mask, groups)?;
-    Ok(row[col])
 }

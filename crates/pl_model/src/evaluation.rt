@@ -1,36 +1,42 @@
 //! The value of any term, one cell at a time.
 
-ghost use Rattle.std.specs.Prelude.{◌≡◌, ◌+◌, ◌∷◌, ◌<◌, ◌≤◌, ◌≤ℤ◌, [], All, IfOk, IfSome, OnOk, Some, length, option_map, pos, slice_get, map, get_or};
-ghost use Rattle.pl_spec.specs.Formula.{is_true};
+ghost use Rattle.std.specs.Prelude.{◌≡◌, ◌+◌, ◌<◌, ◌≤ℤ◌, IfOk, OnOk, Some, length, option_map, pos};
 ghost use Rattle.pl_spec.specs.Rounding.{IsCell};
 ghost use Rattle.pl_spec.specs.Graph.{reach};
 ghost use Rattle.pl_spec.specs.Parts.{sid_at};
 ghost use Rattle.pl_spec.specs.Term.{term_at};
-ghost use Rattle.pl_spec.specs.World.{exists};
 ghost use Rattle.pl_spec.specs.Table.{in_array, value_of};
-ghost use Rattle.pl_spec.specs.Window.{bar_window};
 ghost use Rattle.pl_terms.specs.Checked.{pipeline_of};
 ghost use Rattle.pl_terms.specs.Sorts.{is_windowed};
+ghost use Rattle.pl_terms.specs.Nodes.{graph_of};
 ghost use Rattle.pl_cross.specs.Section.{is_section};
 ghost use Rattle.pl_values.specs.Families.{is_point};
-ghost use Rattle.pl_terms.specs.Nodes.{graph_of, number_of};
-ghost use Rattle.pl_lifetimes.specs.Assets.{AreAssets};
-ghost use Rattle.pl_values.specs.Arrays.{IsKeep, is_kept};
 ghost use Rattle.pl_world.specs.Worlds.{world_of, IsMade};
-ghost use Rattle.pl_model.specs.WindowSteps.{window_steps};
-ghost use Rattle.pl_world.specs.Evaluations.{IsAsked, IsAskedInput, IsAskedOption, IsKept, HasKind, cell_in, input_cell_in, window_in, row_in, optional_row_in};
-ghost use Rattle.pl_model.specs.Gives.{IsCellOf, AreCellsOf, IsRowOf};
-ghost use Rattle.pl_model.specs.Costs.{given_cost_in, cost_in, input_cost_in, window_cost_in, row_cost_in, optional_cost_in};
+ghost use Rattle.pl_world.specs.Evaluations.{IsAsked, IsAskedInput, IsAskedOption, HasKind, input_cell_in, window_in, row_in, optional_row_in};
+ghost use Rattle.pl_model.specs.Costs.{cost_in, input_cost_in, window_cost_in, row_cost_in, optional_cost_in};
+ghost use Rattle.pl_model.specs.Requests.{IsRequest, IsRequestOf, IsKeptFor, asset_of, asked_cell, asked_cost, given_cost};
+ghost use Rattle.pl_model.specs.Gives.{IsCellOf, AreCellsOf, IsRowOf, IsVerdict};
 
-use crate::bars::{as_input, bars_before, lets_pass, section_at};
+use crate::bars::{bars_before, is_true};
 use pl_fixed::{MISSING, Memory, Steps};
-use pl_terms::{Checked, Input, TermId};
+use pl_terms::{Checked, Input, Node, TermId};
 use pl_values::{
     Family, empty_value, family_of, label_test_value, point_value, sids_value, window_value,
 };
-use pl_world::{World, exists, input_at, label_cell, number_cell, section_input};
+use pl_world::{World, exists, input_at, label_cell, number_cell, section_input, section_row};
 use std::alloc::Global;
 use std::sync::ledger::Ledger;
+
+// A term, for the asset in a column on a session, and where rows are held.
+#[derive(Clone, Copy)]
+struct Request<'a> {
+    alloc: Global,
+    world: &'a World<'a>,
+    checked: &'a Checked,
+    term: TermId,
+    col: usize,
+    session: usize,
+}
 
 /// The value of a term for the asset in column `col` on a session, by itself and plainly: by recursion on
 /// the term's number, each cell computed anew wherever it is read. It is a cell in millionths, a filter's 1
@@ -63,221 +69,199 @@ pub fn cell_now<L: Ledger>(
         + cost_in world.now checked.now t.0 (sid_at world.now.assets.now col) session) }
 {
     let _sessions = world.sessions.len();
-    cell(alloc, world, checked, t, col, session, steps)
+    let _graph = checked.graph();
+    let ask = Request {
+        alloc,
+        world,
+        checked,
+        term: t,
+        col,
+        session,
+    };
+    cell(ask, steps)
 }
 
 #[cycle(evaluation)]
-fn cell<L: Ledger>(
-    alloc: Global,
-    world: &World,
-    checked: &Checked,
-    t: TermId,
-    col: usize,
-    session: usize,
-    steps: &mut Steps<L>,
-) -> Result<i64, Memory>
-    requires asked { IsAsked world.now checked.now t.0 session }
-    requires col { col < length world.now.assets.now }
-    ensures { IfOk result (IsCellOf
-        (cell_in world.now checked.now t.0 (sid_at world.now.assets.now col) session)
-        (cost_in world.now checked.now t.0 (sid_at world.now.assets.now col) session) steps.old steps.new) }
+fn cell<L: Ledger>(ask: Request, steps: &mut Steps<L>) -> Result<i64, Memory>
+    requires asked { IsRequest ask }
+    ensures { IfOk result (IsCellOf (asked_cell ask.entry) (asked_cost ask.entry) steps.old steps.new) }
 {
-    let graph = checked.graph();
-    if !exists(world, col, session) {
-        return Ok(empty_value(graph, t));
+    let graph = ask.checked.graph();
+    let node = graph.node(ask.term);
+    let kept = is_kept(ask, node, steps)?;
+    if kept {
+        given(ask, node, steps)
+    } else {
+        Ok(empty_value(graph, ask.term))
     }
-    let mask = as_input(graph.node(t).mask);
-    let passes = input_cell(alloc, world, checked, mask, col, session, steps)?;
-    if !lets_pass(mask, passes) {
-        return Ok(empty_value(graph, t));
+}
+
+// Whether the asset exists and passes the term's mask.
+#[cycle(evaluation)]
+fn is_kept<L: Ledger>(ask: Request, node: &Node, steps: &mut Steps<L>) -> Result<bool, Memory>
+    requires asked { IsRequestOf ask node.now }
+    ensures { IfOk result (IsVerdict ask.entry node.now steps.old steps.new) }
+{
+    if !exists(ask.world, ask.col, ask.session) {
+        return Ok(false);
     }
-    given(alloc, world, checked, t, col, session, steps)
+    match node.mask {
+        None => Ok(true),
+        Some(mask) => {
+            let flag = cell(Request { term: mask, ..ask }, steps)?;
+            Ok(is_true(flag))
+        }
+    }
 }
 
 // What the kind gives where the asset is kept.
 #[cycle(evaluation)]
-fn given<L: Ledger>(
-    alloc: Global,
-    world: &World,
-    checked: &Checked,
-    t: TermId,
-    col: usize,
-    session: usize,
-    steps: &mut Steps<L>,
-) -> Result<i64, Memory>
-    requires asked { IsAsked world.now checked.now t.0 session }
-    requires col { col < length world.now.assets.now }
-    requires kept { IsKept world.now checked.now t.0 (sid_at world.now.assets.now col) session }
-    ensures { IfOk result (IsCellOf
-        (cell_in world.now checked.now t.0 (sid_at world.now.assets.now col) session)
-        (given_cost_in world.now checked.now t.0 (sid_at world.now.assets.now col) session)
-        steps.old steps.new) }
+fn given<L: Ledger>(ask: Request, node: &Node, steps: &mut Steps<L>) -> Result<i64, Memory>
+    requires asked { IsRequestOf ask node.now }
+    requires kept { IsKeptFor ask }
+    ensures { IfOk result
+        (IsCellOf (asked_cell ask.entry) (given_cost ask.entry node.now) steps.old steps.new) }
 {
-    let node = checked.graph().node(t);
+    let world = ask.world;
     match family_of(&node.kind) {
         Family::Constant(value) => Ok(value),
-        Family::Label(name) => Ok(label_cell(world, checked, name, col, session)),
-        Family::Number(name) => Ok(number_cell(world, checked, name, col, session)),
-        Family::Sids => Ok(sids_value(&node.kind, world.assets.sid(col))),
-        Family::Window => window_cell(alloc, world, checked, t, col, session, steps),
-        Family::Point => point_cell(alloc, world, checked, t, col, session, steps),
+        Family::Label(name) => Ok(label_cell(world, ask.checked, name, ask.col, ask.session)),
+        Family::Number(name) => Ok(number_cell(world, ask.checked, name, ask.col, ask.session)),
+        Family::Sids => Ok(sids_value(&node.kind, world.assets.sid(ask.col))),
+        Family::Window => window_cell(ask, node, steps),
+        Family::Point => point_cell(ask, node, steps),
         Family::LabelTest => {
             let _rows = world.labels.len();
             let input = input_at(node, 0);
-            let code = input_cell(alloc, world, checked, input, col, session, steps)?;
+            let code = input_cell(ask, input, ask.session, steps)?;
             Ok(label_test_value(&node.kind, world.labels, code))
         }
-        Family::Section => section_cell(alloc, world, checked, t, col, session, steps),
+        Family::Section => section_cell(ask, node, steps),
         Family::Downsample(frequency) => {
-            let start = world.sessions.period_start(frequency, session);
+            let start = world.sessions.period_start(frequency, ask.session);
             let input = input_at(node, 0);
-            input_cell(alloc, world, checked, input, col, start, steps)
+            input_cell(ask, input, start, steps)
         }
     }
 }
 
 #[cycle(evaluation)]
-fn window_cell<L: Ledger>(
-    alloc: Global,
-    world: &World,
-    checked: &Checked,
-    t: TermId,
-    col: usize,
-    session: usize,
-    steps: &mut Steps<L>,
-) -> Result<i64, Memory>
-    requires asked { IsAsked world.now checked.now t.0 session }
-    requires col { col < length world.now.assets.now }
-    requires kept { IsKept world.now checked.now t.0 (sid_at world.now.assets.now col) session }
-    requires kind { HasKind checked.now t.0 is_windowed }
-    ensures { IfOk result (IsCellOf
-        (cell_in world.now checked.now t.0 (sid_at world.now.assets.now col) session)
-        (given_cost_in world.now checked.now t.0 (sid_at world.now.assets.now col) session)
-        steps.old steps.new) }
+fn window_cell<L: Ledger>(ask: Request, node: &Node, steps: &mut Steps<L>) -> Result<i64, Memory>
+    requires asked { IsRequestOf ask node.now }
+    requires kept { IsKeptFor ask }
+    requires kind { HasKind ask.checked.now ask.term.0 is_windowed }
+    ensures { IfOk result
+        (IsCellOf (asked_cell ask.entry) (given_cost ask.entry node.now) steps.old steps.new) }
 {
-    let node = checked.graph().node(t);
     let size = node.window as usize;
     let first = input_at(node, 0);
-    let a = input_window(alloc, world, checked, first, size, col, session, steps)?;
+    let a = input_window(ask, first, size, steps)?;
     let second = input_at(node, 1);
-    let b = input_window(alloc, world, checked, second, size, col, session, steps)?;
+    let b = input_window(ask, second, size, steps)?;
     let third = input_at(node, 2);
-    let c = input_window(alloc, world, checked, third, size, col, session, steps)?;
+    let c = input_window(ask, third, size, steps)?;
     Ok(window_value(&node.kind, &a, &b, &c))
 }
 
 #[cycle(evaluation)]
-fn point_cell<L: Ledger>(
-    alloc: Global,
-    world: &World,
-    checked: &Checked,
-    t: TermId,
-    col: usize,
-    session: usize,
-    steps: &mut Steps<L>,
-) -> Result<i64, Memory>
-    requires asked { IsAsked world.now checked.now t.0 session }
-    requires col { col < length world.now.assets.now }
-    requires kept { IsKept world.now checked.now t.0 (sid_at world.now.assets.now col) session }
-    requires kind { HasKind checked.now t.0 is_point }
-    ensures { IfOk result (IsCellOf
-        (cell_in world.now checked.now t.0 (sid_at world.now.assets.now col) session)
-        (given_cost_in world.now checked.now t.0 (sid_at world.now.assets.now col) session)
-        steps.old steps.new) }
+fn point_cell<L: Ledger>(ask: Request, node: &Node, steps: &mut Steps<L>) -> Result<i64, Memory>
+    requires asked { IsRequestOf ask node.now }
+    requires kept { IsKeptFor ask }
+    requires kind { HasKind ask.checked.now ask.term.0 is_point }
+    ensures { IfOk result
+        (IsCellOf (asked_cell ask.entry) (given_cost ask.entry node.now) steps.old steps.new) }
 {
-    let node = checked.graph().node(t);
     let first = input_at(node, 0);
-    let x = input_cell(alloc, world, checked, first, col, session, steps)?;
+    let x = input_cell(ask, first, ask.session, steps)?;
     let second = input_at(node, 1);
-    let y = input_cell(alloc, world, checked, second, col, session, steps)?;
+    let y = input_cell(ask, second, ask.session, steps)?;
     let third = input_at(node, 2);
-    let z = input_cell(alloc, world, checked, third, col, session, steps)?;
+    let z = input_cell(ask, third, ask.session, steps)?;
     Ok(point_value(&node.kind, x, y, z))
 }
 
 #[cycle(evaluation)]
-fn section_cell<L: Ledger>(
-    alloc: Global,
-    world: &World,
-    checked: &Checked,
-    t: TermId,
-    col: usize,
-    session: usize,
-    steps: &mut Steps<L>,
-) -> Result<i64, Memory>
-    requires asked { IsAsked world.now checked.now t.0 session }
-    requires col { col < length world.now.assets.now }
-    requires kind { HasKind checked.now t.0 is_section }
-    ensures { IfOk result (IsCellOf
-        (cell_in world.now checked.now t.0 (sid_at world.now.assets.now col) session)
-        (given_cost_in world.now checked.now t.0 (sid_at world.now.assets.now col) session)
-        steps.old steps.new) }
+fn section_cell<L: Ledger>(ask: Request, node: &Node, steps: &mut Steps<L>) -> Result<i64, Memory>
+    requires asked { IsRequestOf ask node.now }
+    requires kind { HasKind ask.checked.now ask.term.0 is_section }
+    ensures { IfOk result
+        (IsCellOf (asked_cell ask.entry) (given_cost ask.entry node.now) steps.old steps.new) }
 {
-    let node = checked.graph().node(t);
-    let input = section_input(checked, t);
-    let values = term_row(alloc, world, checked, input, session, steps)?;
-    let mask = optional_row(alloc, world, checked, node.mask, session, steps)?;
-    let groups = optional_row(alloc, world, checked, node.group, session, steps)?;
-    section_at(
-        alloc, world, checked, t, col, session, &values, &mask, &groups,
-    )
+    let input = section_input(ask.checked, ask.term);
+    let values = term_row(ask, input, steps)?;
+    let mask = optional_row(ask, node.mask, steps)?;
+    let groups = optional_row(ask, node.group, steps)?;
+    let row = section_row(
+        ask.alloc,
+        ask.world,
+        ask.checked,
+        ask.term,
+        ask.session,
+        &values,
+        &mask,
+        &groups,
+    )?;
+    Ok(row[ask.col])
 }
 
 // The window of an input, oldest first; none where there is no input.
 #[cycle(evaluation)]
 fn input_window<L: Ledger>(
-    alloc: Global,
-    world: &World,
-    checked: &Checked,
+    ask: Request,
     input: Option<Input>,
     size: usize,
-    col: usize,
-    session: usize,
     steps: &mut Steps<L>,
 ) -> Result<Vec<i64>, Memory>
-    requires made { IsMade world.now }
-    requires asked { IsAskedInput world.now checked.now input size session }
-    requires session { session < length world.now.sessions.now }
-    requires col { col < length world.now.assets.now }
+    requires asked { IsRequest ask }
+    requires input { IsAskedInput ask.world.now ask.checked.now input size ask.session }
     ensures { IfOk result (λ v. AreCellsOf
-        (window_in world.now checked.now size input (sid_at world.now.assets.now col) session)
-        (window_cost_in world.now checked.now size input (sid_at world.now.assets.now col) session)
+        (window_in ask.entry.world.now ask.entry.checked.now size input
+        (asset_of ask.entry) ask.entry.session)
+        (window_cost_in ask.entry.world.now ask.entry.checked.now size input
+        (asset_of ask.entry) ask.entry.session)
         steps.old steps.new v.items) }
 {
     match input {
-        None => Ok(Vec::new(alloc)),
-        Some(Input::Column(column)) => {
-            bars_before(alloc, world, column, size, col, session, steps)
-        }
-        Some(Input::Term(u)) => cells_up_to(alloc, world, checked, u, size, col, session, steps),
+        None => Ok(Vec::new(ask.alloc)),
+        Some(Input::Column(column)) => bars_before(
+            ask.alloc,
+            ask.world,
+            column,
+            size,
+            ask.col,
+            ask.session,
+            steps,
+        ),
+        Some(Input::Term(u)) => cells_up_to(ask, u, size, steps),
     }
 }
 
 // The cells of a term on the sessions up to one.
 #[cycle(evaluation)]
 fn cells_up_to<L: Ledger>(
-    alloc: Global,
-    world: &World,
-    checked: &Checked,
+    ask: Request,
     u: TermId,
     size: usize,
-    col: usize,
-    session: usize,
     steps: &mut Steps<L>,
 ) -> Result<Vec<i64>, Memory>
-    requires asked { IsAskedInput world.now checked.now (Some (Input.Term u)) size session }
-    requires session { session < length world.now.sessions.now }
-    requires col { col < length world.now.assets.now }
+    requires asked { IsRequest ask }
+    requires input { IsAskedInput ask.world.now ask.checked.now (Some (Input.Term u)) size ask.session }
     ensures { IfOk result (λ v. AreCellsOf
-        (window_in world.now checked.now size (Some (Input.Term u)) (sid_at world.now.assets.now col)
-        session)
-        (window_cost_in world.now checked.now size (Some (Input.Term u))
-        (sid_at world.now.assets.now col) session) steps.old steps.new v.items) }
+        (window_in ask.entry.world.now ask.entry.checked.now size (Some (Input.Term u))
+        (asset_of ask.entry) ask.entry.session)
+        (window_cost_in ask.entry.world.now ask.entry.checked.now size (Some (Input.Term u))
+        (asset_of ask.entry) ask.entry.session)
+        steps.old steps.new v.items) }
 {
-    let _sessions = world.sessions.len();
-    let mut cells = Vec::new(alloc);
-    for earlier in session + 1 - size..session + 1 {
-        cells.push(cell(alloc, world, checked, u, col, earlier, steps)?)?;
+    let _sessions = ask.world.sessions.len();
+    let mut cells = Vec::new(ask.alloc);
+    for session in ask.session + 1 - size..ask.session + 1 {
+        let at = Request {
+            term: u,
+            session,
+            ..ask
+        };
+        cells.push(cell(at, steps)?)?;
     }
     Ok(cells)
 }
@@ -285,44 +269,49 @@ fn cells_up_to<L: Ledger>(
 // The value of an input on the session; of a bar column there is none.
 #[cycle(evaluation)]
 fn input_cell<L: Ledger>(
-    alloc: Global,
-    world: &World,
-    checked: &Checked,
+    ask: Request,
     input: Option<Input>,
-    col: usize,
     session: usize,
     steps: &mut Steps<L>,
 ) -> Result<i64, Memory>
-    requires asked { IsAskedInput world.now checked.now input 1 session }
-    requires col { col < length world.now.assets.now }
+    requires asked { IsRequest ask }
+    requires input { IsAskedInput ask.world.now ask.checked.now input 1 session }
     ensures { IfOk result (IsCellOf
-        (input_cell_in world.now checked.now input (sid_at world.now.assets.now col) session)
-        (input_cost_in world.now checked.now input (sid_at world.now.assets.now col) session)
+        (input_cell_in ask.entry.world.now ask.entry.checked.now input (asset_of ask.entry) session)
+        (input_cost_in ask.entry.world.now ask.entry.checked.now input (asset_of ask.entry) session)
         steps.old steps.new) }
 {
     match input {
-        Some(Input::Term(u)) => cell(alloc, world, checked, u, col, session, steps),
+        Some(Input::Term(u)) => {
+            let at = Request {
+                term: u,
+                session,
+                ..ask
+            };
+            cell(at, steps)
+        }
         _ => Ok(MISSING),
     }
 }
 
 // The cells of a term for all assets.
 #[cycle(evaluation)]
-fn term_row<L: Ledger>(
-    alloc: Global,
-    world: &World,
-    checked: &Checked,
-    u: TermId,
-    session: usize,
-    steps: &mut Steps<L>,
-) -> Result<Vec<i64>, Memory>
-    requires asked { IsAsked world.now checked.now u.0 session }
-    ensures { IfOk result (λ v. AreCellsOf (row_in world.now checked.now u.0 session)
-        (row_cost_in world.now checked.now u.0 session) steps.old steps.new v.items) }
+fn term_row<L: Ledger>(ask: Request, u: TermId, steps: &mut Steps<L>) -> Result<Vec<i64>, Memory>
+    requires asked { IsRequest ask }
+    requires term { IsAsked ask.world.now ask.checked.now u.0 ask.session }
+    ensures { IfOk result (λ v. AreCellsOf
+        (row_in ask.entry.world.now ask.entry.checked.now u.0 ask.entry.session)
+        (row_cost_in ask.entry.world.now ask.entry.checked.now u.0 ask.entry.session)
+        steps.old steps.new v.items) }
 {
-    let mut row = Vec::new(alloc);
-    for col in 0..world.assets.len() {
-        row.push(cell(alloc, world, checked, u, col, session, steps)?)?;
+    let mut row = Vec::new(ask.alloc);
+    for col in 0..ask.world.assets.len() {
+        let at = Request {
+            term: u,
+            col,
+            ..ask
+        };
+        row.push(cell(at, steps)?)?;
     }
     Ok(row)
 }
@@ -330,20 +319,19 @@ fn term_row<L: Ledger>(
 // The cells of a mask or a group for all assets.
 #[cycle(evaluation)]
 fn optional_row<L: Ledger>(
-    alloc: Global,
-    world: &World,
-    checked: &Checked,
+    ask: Request,
     u: Option<TermId>,
-    session: usize,
     steps: &mut Steps<L>,
 ) -> Result<Option<Vec<i64>>, Memory>
-    requires asked { IsAskedOption world.now checked.now u session }
-    ensures { IfOk result (λ o. IsRowOf (optional_row_in world.now checked.now u session)
-        (optional_cost_in world.now checked.now u session) steps.old steps.new
+    requires asked { IsRequest ask }
+    requires term { IsAskedOption ask.world.now ask.checked.now u ask.session }
+    ensures { IfOk result (λ o. IsRowOf
+        (optional_row_in ask.entry.world.now ask.entry.checked.now u ask.entry.session)
+        (optional_cost_in ask.entry.world.now ask.entry.checked.now u ask.entry.session) steps.old steps.new
         (option_map (λ v. v.items) o)) }
 {
     match u {
-        Some(u) => Ok(Some(term_row(alloc, world, checked, u, session, steps)?)),
+        Some(u) => Ok(Some(term_row(ask, u, steps)?)),
         None => Ok(None),
     }
 }

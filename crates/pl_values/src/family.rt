@@ -11,8 +11,9 @@ use pl_fixed::{Frequency, MISSING};
 use pl_terms::{Graph, LabelValue, TermId, TermKind, sorting_kind};
 
 /// How the value of a kind comes from those of its inputs: a constant in millionths, a label under the name
-/// of a number, a number beside bars under such a name, a list of sids, a formula or a filter over windows, an operation on the values of one place,
-/// a test of a label, a cross-section, or the input's value on the first session of the period.
+/// of a number, a number beside bars under such a name, a list of sids, a formula or a filter over windows,
+/// an operation on the values of one place, a test of a label, a cross-section, or the input's value on the
+/// first session of the period.
 #[derive(Clone, Copy, Debug, PartialEq, Eq)]
 pub enum Family {
     Constant(i64),

@@ -7,8 +7,8 @@ use pl_calendar::Sessions;
 use pl_numbers::Numbers;
 
 /// The sessions, assets, labels, bars, adjustments and numbers of a world, each lent by its owner. A session
-/// is known by its place among the sessions, an asset by its column, which is its place among the assets; both
-/// are counted from 0.
+/// is known by its place among the sessions, an asset by its column, which is its place among the assets;
+/// both are counted from 0.
 #[derive(Clone, Copy)]
 pub struct World<'a> {
     pub sessions: &'a Sessions,

@@ -4,7 +4,7 @@ use Rattle.pl_terms.specs.Checked.{pipeline_of}
 use Rattle.pl_rings.specs.Columns.{AreBarRings, BeginColumns}
 use Rattle.pl_daily.specs.Room.{AreBegun, AreBegunStarts, IsRoom, no_session}
 use Rattle.pl_daily.proofs.Begun.{columns_fit, stands_first, starts_are, terms_are}
-use Rattle.pl_daily.proofs.daily.Daily.new.Goals as goal
+use Rattle.pl_daily.proofs.daily.Daily.begin.Goals as goal
 
 pub invariant_of-result : goal.invariant_of-result
 invariant_of-result c =

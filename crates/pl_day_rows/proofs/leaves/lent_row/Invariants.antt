@@ -1,7 +1,7 @@
 use Rattle.std.proofs.Common.{◌≡◌, ◌<◌, ℕ, get_or, pos}
 use Rattle.pl_spec.specs.Rounding.{IsCell}
 use Rattle.pl_numbers.specs.Numbers.{number_on}
-use Rattle.pl_day_rows.proofs.leaves.known_row.Given as goal
+use Rattle.pl_day_rows.proofs.leaves.lent_row.Given as goal
 
 abbrev pub invariant-loop-i : goal.invariant-loop-i
 invariant-loop-i l = record {
