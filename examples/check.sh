@@ -191,7 +191,7 @@ same_files() {
 mornings() {
     local day recipe=$PWD/examples/recipes first=$PWD/examples/first
     mkdir store news
-    cp examples/first/averages.pl store/p.pl
+    (sed 's/^pipeline 1/pipeline 3/' "$first/averages.pl"; echo 'column score = number("score");') > store/p.pl
     sqlite3 store/adjustments.db < examples/first/adjustments.sql
     sqlite3 store/adjustments.db 'DELETE FROM splits'
     head -n 3 "$first/sessions.csv" > store/sessions.csv
@@ -199,21 +199,26 @@ mornings() {
     sed -n 2,3p "$first/bars.csv" >> store/bars.csv
     head -n 1 "$first/revisions.csv" > store/revisions.csv
     printf 'sid,start,end\n1,2024-01-02,2024-01-05\n' > store/assets.csv
-    printf 'session,sid,latest,mean_3\n' > rows
+    printf 'session,sid,latest,mean_3,score\n' > rows
+    printf 'name,sid,known,value\nscore,1,2024-01-05,1.5\nscore,1,2024-01-06,-2\n' > numbers.csv
     for day in 2024-01-05 2024-01-08 2024-01-09; do
         rm -rf news
         mkdir news
         (head -n 1 "$first/bars.csv"; grep ",$(tail -n 1 store/sessions.csv)," "$first/bars.csv") > news/bars.csv
         if [ "$day" = 2024-01-05 ]; then
             cp "$first/revisions.csv" news
+            head -n 2 numbers.csv > news/numbers.csv
             printf 'date,num,den,sid\n2024-01-04,1,2,1\n' > news/splits.csv
         fi
-        [ "$day" != 2024-01-08 ] || cp "$first/assets.csv" news
+        if [ "$day" = 2024-01-08 ]; then
+            cp "$first/assets.csv" news
+            sed 2d numbers.csv > news/numbers.csv
+        fi
         "$recipe/morning.sh" store news "$day" 2>> said | tail -n +2 >> rows
         "$recipe/morning.sh" store news "$day" > /dev/null 2>> said || fail "morning.sh: $day once more"
     done
     same "morning.sh" rows "$program" run store/p.pl "$first/sessions.csv" "$first/assets.csv" "$first/bars.csv" 2024-01-05 2024-01-09 \
-        --adjustments store/adjustments.db --revisions "$first/revisions.csv"
+        --adjustments store/adjustments.db --revisions "$first/revisions.csv" --numbers numbers.csv
     printf 'sid,start,end\n1,2024-01-02,2024-01-09\n' > news/assets.csv
     rm -f news/bars.csv
     "$recipe/morning.sh" store news 2024-01-10 2> said > /dev/null || fail "morning.sh: a day more"

@@ -15,7 +15,7 @@ import pandas as pd
 
 RANGES = {"momentum": ("2023-12-18", "2023-12-29"), "crossings": ("2023-01-03", "2023-12-29"),
           "bands": ("2023-10-02", "2023-12-29"), "liquidity": ("2023-12-01", "2023-12-08"),
-          "revised": ("2023-10-02", "2023-12-29")}
+          "value": ("2023-10-26", "2023-11-07"), "revised": ("2023-10-02", "2023-12-29")}
 KINDS = ["splits", "mergers", "dividends", "revisions"]
 
 
@@ -27,6 +27,7 @@ class Market:
         self.raw = {name: bars.pivot(index="session", columns="sid", values=name).reindex(self.days)
                     for name in ("open", "high", "low", "close", "volume")}
         self.labels = pd.read_csv(folder / "labels.csv", parse_dates=["start"], keep_default_na=False)
+        self.numbers = pd.read_csv(folder / "numbers.csv", parse_dates=["known"])
         store = sqlite3.connect(":memory:")
         store.executescript((folder / "adjustments.sql").read_text())
         self.events = []
@@ -58,6 +59,10 @@ class Market:
     def label(self, day):
         held = self.labels[self.labels.start <= day].sort_values("start").groupby("sid").label.last()
         return held.where(held != "")
+
+    def number(self, name, day):
+        rows = self.numbers[(self.numbers["name"] == name) & (self.numbers.known <= day)]
+        return rows.sort_values("known").drop_duplicates("sid", keep="last").set_index("sid").value
 
 
 def dollars(market, day, window):
@@ -124,6 +129,19 @@ def liquidity(market, day, before):
     low, high = np.nanpercentile(last, [10, 90])
     kept = traded & (low <= last) & (last <= high)
     return pd.DataFrame({"money": money, "share": share, "fifth": fifth, "peers": peers})[kept]
+
+
+def value(market, day, before):
+    sids = market.existing(day)
+    liquid = dollars(market, day, 30)[sids].rank(ascending=False, method="first") <= 15
+    earned = market.number("earnings", day).reindex(sids)
+    ratio = earned / market.seen("close", day, 1).iloc[-1].reindex(sids)
+    listed = ratio[liquid].dropna()
+    sector = market.label(day).reindex(sids)
+    place = listed.groupby(sector.reindex(listed.index)).rank(ascending=False, method="first")
+    score = (listed - listed.mean()) / listed.std(ddof=0)
+    columns = {"sector": sector, "earnings": earned, "yield": ratio, "place": place, "score": score}
+    return pd.DataFrame(columns, index=sids)[liquid]
 
 
 def revised(market, day, before):

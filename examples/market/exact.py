@@ -1,5 +1,6 @@
 #!/usr/bin/env python3
-"""Computes momentum.csv once more with fractions, by the rules of docs/TERMS.md, and compares it to the byte.
+"""Computes momentum.csv and value.csv once more with fractions, by the rules of docs/TERMS.md, and compares
+them to the byte.
 
 Usage: exact.py FOLDER, a folder with the files of this one. It uses nothing but Python itself and nothing of
 the program. Each step is exact and rounded once, to the nearest millionth, ties away from zero; a standard
@@ -13,7 +14,9 @@ import sys
 from fractions import Fraction
 from pathlib import Path
 
-FIRST, LAST = "2023-12-18", "2023-12-29"
+RANGES = {"momentum": ("2023-12-18", "2023-12-29"), "value": ("2023-10-26", "2023-11-07")}
+HEADERS = {"momentum": "session,sid,sector,momentum,place,score",
+           "value": "session,sid,sector,earnings,yield,place,score"}
 MILLION = 1_000_000
 
 
@@ -38,6 +41,8 @@ class Market:
         self.assets = {int(row["sid"]): (row["start"], row["end"]) for row in rows(folder / "assets.csv")}
         self.bars = {(int(row["sid"]), row["session"]): row for row in rows(folder / "bars.csv")}
         self.labels = sorted((row["start"], int(row["sid"]), row["label"]) for row in rows(folder / "labels.csv"))
+        self.numbers = sorted((row["known"], int(row["sid"]), row["value"]) for row in rows(folder / "numbers.csv")
+                              if row["name"] == "earnings")
         store = sqlite3.connect(":memory:")
         store.executescript((folder / "adjustments.sql").read_text())
         self.events = sorted((datetime.date.fromordinal(719163 + seconds // 86400).isoformat(), at, number, sid, table, Fraction(num, den))
@@ -66,6 +71,23 @@ class Market:
         held = [label for start, asset, label in self.labels if asset == sid and start <= day]
         return held[-1] if held else ""
 
+    def earnings(self, sid, day):
+        """What was known last by a day, None where nothing was or its field is empty."""
+        known = [value for start, asset, value in self.numbers if asset == sid and start <= day]
+        return millionths(Fraction(known[-1])) if known and known[-1] else None
+
+    def existing(self, day):
+        return sorted(sid for sid, (start, end) in self.assets.items() if start < day <= end)
+
+    def liquid(self, day):
+        """The 15 assets of the greatest dollar volume over 30 sessions."""
+        money = {}
+        for sid in self.existing(day):
+            pairs = zip(self.window(sid, "close", 30, day), self.window(sid, "volume", 30, day))
+            whole = sum(close * volume for close, volume in pairs if None not in (close, volume))
+            money[sid] = millionths(whole / Fraction(30))
+        return sorted(sorted(money, key=lambda sid: (-money[sid], sid))[:15])
+
 
 def returns(window):
     oldest, newest = window[0], window[-1]
@@ -86,39 +108,52 @@ def text(value):
     return f"{'-' * (whole < 0)}{abs(whole) // MILLION}.{abs(whole) % MILLION:06}"
 
 
-def session(market, day):
-    sids = sorted(sid for sid, (start, end) in market.assets.items() if start < day <= end)
-    money, momentum = {}, {}
-    for sid in sids:
-        pairs = zip(market.window(sid, "close", 30, day), market.window(sid, "volume", 30, day))
-        money[sid] = millionths(sum(close * volume for close, volume in pairs if None not in (close, volume)) / Fraction(30))
-        year, month = returns(market.window(sid, "close", 252, day)), returns(market.window(sid, "close", 22, day))
-        momentum[sid] = None if None in (year, month) or month == -1 else millionths((1 + year) / (1 + month)) - 1
-    liquid = sorted(sids, key=lambda sid: (-money[sid], sid))[:15]
-    listed = [sid for sid in sids if sid in liquid and momentum[sid] is not None]
-    mean = millionths(sum(momentum[sid] for sid in listed) / len(listed))
-    deviation = spread([momentum[sid] for sid in listed])
-    sector = {sid: market.label(sid, day) for sid in sids}
-    for sid in (sid for sid in sids if sid in liquid):
+def places(market, day, values, liquid):
+    """The sector of each liquid asset, its place in it by descending value, and the z-score among all."""
+    listed = [sid for sid in liquid if values[sid] is not None]
+    sector = {sid: market.label(sid, day) for sid in liquid}
+    mean = millionths(sum(values[sid] for sid in listed) / len(listed))
+    deviation = spread([values[sid] for sid in listed])
+    for sid in liquid:
         place = score = None
         if sid in listed:
-            place = 1 + sum(sector[other] == sector[sid] and (-momentum[other], other) < (-momentum[sid], sid) for other in listed)
-            place = place if sector[sid] else None
-            score = millionths((momentum[sid] - mean) / deviation) if deviation else None
-        yield ",".join([day, str(sid), sector[sid], text(momentum[sid]), text(place), text(score)])
+            peers = [other for other in listed if sector[other] == sector[sid] != ""]
+            place = sum((-values[other], other) <= (-values[sid], sid) for other in peers) or None
+            score = millionths((values[sid] - mean) / deviation) if deviation else None
+        yield sid, sector[sid], place, score
+
+
+def momentum(market, day):
+    liquid, values = market.liquid(day), {}
+    for sid in liquid:
+        year, month = returns(market.window(sid, "close", 252, day)), returns(market.window(sid, "close", 22, day))
+        values[sid] = None if None in (year, month) or month == -1 else millionths((1 + year) / (1 + month)) - 1
+    for sid, sector, place, score in places(market, day, values, liquid):
+        yield ",".join([day, str(sid), sector, text(values[sid]), text(place), text(score)])
+
+
+def value(market, day):
+    liquid, values = market.liquid(day), {}
+    for sid in liquid:
+        earned, close = market.earnings(sid, day), market.window(sid, "close", 1, day)[0]
+        values[sid] = None if earned is None or not close else millionths(earned / close)
+    for sid, sector, place, score in places(market, day, values, liquid):
+        numbers = (market.earnings(sid, day), values[sid], place, score)
+        yield ",".join([day, str(sid), sector, *map(text, numbers)])
 
 
 def main(folder):
     market = Market(folder)
-    lines = ["session,sid,sector,momentum,place,score"]
-    for day in market.days:
-        if FIRST <= day <= LAST:
-            lines += session(market, day)
-    own, stored = lines, (folder / "momentum.csv").read_text().splitlines()
-    wrong = [(mine, theirs) for mine, theirs in zip(own, stored) if mine != theirs]
-    if wrong or len(own) != len(stored):
-        sys.exit(f"momentum: {len(own)} lines beside {len(stored)}, {len(wrong)} differ: {wrong[:3]}")
-    print(f"momentum: {len(own) - 1} rows, the same to the byte")
+    for name, (first, last) in RANGES.items():
+        lines = [HEADERS[name]]
+        for day in market.days:
+            if first <= day <= last:
+                lines += globals()[name](market, day)
+        stored = (folder / f"{name}.csv").read_text().splitlines()
+        wrong = [(mine, theirs) for mine, theirs in zip(lines, stored) if mine != theirs]
+        if wrong or len(lines) != len(stored):
+            sys.exit(f"{name}: {len(lines)} lines beside {len(stored)}, {len(wrong)} differ: {wrong[:3]}")
+        print(f"{name}: {len(lines) - 1} rows, the same to the byte")
 
 
 if __name__ == "__main__":

@@ -21,6 +21,9 @@ SPLITS = [(103, 150, 1, 2), (111, 260, 1, 3), (116, 200, 10, 1)]       # sid, se
 MERGERS = [(107, 220, 9, 10)]
 DIVIDENDS = [(101, 60), (101, 123), (101, 186), (101, 249), (106, 90), (106, 216), (114, 140), (114, 266)]
 SECTOR_CHANGES = [(105, 180, "Technology"), (112, 240, "")]
+QUARTERS = ["2022-03-31", "2022-06-30", "2022-09-30", "2022-12-31", "2023-03-31", "2023-06-30", "2023-09-30"]
+SILENT = 120             # an asset that publishes nothing
+ENDED = (112, 5)         # sid and quarter, by number, from which on an asset has no earnings
 
 
 def sessions():
@@ -37,6 +40,10 @@ def seconds(day):
 
 def cents(amount):
     return f"{amount // 100}.{amount % 100:02d}"
+
+
+def signed_cents(amount):
+    return f"{'-' * (amount < 0)}{cents(abs(amount))}"
 
 
 def main(folder):
@@ -94,6 +101,54 @@ def write_files(folder, days, sids, bars, closes):
             before = max(n for (s, n) in closes if s == sid and n < number)
             file.write(f"{sid},{days[number]},{cents(max(1, closes[sid, before] // 80))}\n")
     write_adjustments(folder, days, closes)
+    write_numbers(folder, days, sids, closes)
+
+
+def earnings(days, sids, closes):
+    """Yields sid, day and cents, or None: the earnings per share of a year, published 25 to 55 days after
+    each quarter, in the shares of that day. On the day of a split a row has them in the new shares."""
+    rng = random.Random(20220331)
+    for sid in sids:
+        level, rows = rng.gauss(0.05, 0.03), []
+        for number, text in enumerate(QUARTERS):
+            level += rng.gauss(0, 0.01)
+            end = datetime.date.fromisoformat(text)
+            known = end + datetime.timedelta(days=rng.randrange(25, 56))
+            if is_published(sid, number, end, known, days):
+                amount = level * close_on(sid, end, days, closes) * shares(sid, end, known, days)
+                rows.append((known, None if (sid, number) == ENDED else round(amount)))
+        for _, number, _, _ in (split for split in SPLITS if split[0] == sid):
+            before, amount = max(row for row in rows if row[0] < days[number])
+            rows.append((days[number], round(amount * shares(sid, before, days[number], days))))
+        yield from ((sid, known, amount) for known, amount in sorted(rows))
+
+
+def is_published(sid, number, end, known, days):
+    first, last = days[LATE.get(sid, 0)], days[EARLY.get(sid, len(days) - 1)]
+    ended = sid == ENDED[0] and number > ENDED[1]
+    return sid != SILENT and not ended and known <= last and end >= first - datetime.timedelta(days=95)
+
+
+def close_on(sid, day, days, closes):
+    """The last close of an asset by a day, or its first one."""
+    numbers = sorted(number for s, number in closes if s == sid)
+    return closes[sid, max((n for n in numbers if days[n] <= day), default=numbers[0])]
+
+
+def shares(sid, after, upto, days):
+    """What the splits after one day, up to another, make of a figure per share."""
+    ratio = 1.0
+    for asset, number, num, den in SPLITS:
+        if asset == sid and after < days[number] <= upto:
+            ratio = ratio * num / den
+    return ratio
+
+
+def write_numbers(folder, days, sids, closes):
+    with open(folder / "numbers.csv", "w") as file:
+        file.write("name,sid,known,value\n")
+        for sid, known, amount in earnings(days, sids, closes):
+            file.write(f"earnings,{sid},{known},{'' if amount is None else signed_cents(amount)}\n")
 
 
 def write_adjustments(folder, days, closes):
