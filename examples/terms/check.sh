@@ -10,7 +10,7 @@ examples=0
 refused=0
 while IFS= read -r line; do
     # a screen alone is no pipeline
-    printf 'pipeline 2;\n%s\ncolumn one = 1;\n' "$line" > "$folder/p.pl"
+    printf 'pipeline 3;\n%s\ncolumn one = 1;\n' "$line" > "$folder/p.pl"
     examples=$((examples + 1))
     if ! "$program" check "$folder/p.pl" > "$folder/out" 2> "$folder/err"; then
         refused=$((refused + 1))
