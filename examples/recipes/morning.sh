@@ -5,10 +5,10 @@
 # STORE holds the files of a run: p.pl, sessions.csv, assets.csv, bars.csv, and where they are used
 # labels.csv, numbers.csv, revisions.csv and adjustments.db. NEWS holds what came; what did not come may be
 # left out:
-#   bars.csv, labels.csv, numbers.csv,
-#   revisions.csv                             rows to add, under the headers of those files
-#   assets.csv                                new assets, and those with another end, in place of the old rows
-#   splits.csv, mergers.csv, dividends.csv    as adjustments.sh takes them
+#   bars.csv, labels.csv, numbers.csv, revisions.csv    rows to add, under the headers of those files
+#   assets.csv                                          new assets, and those with another end, in place of the
+#                                                       old rows
+#   splits.csv, mergers.csv, dividends.csv              as adjustments.sh takes them
 # The program runs over the files with the news before they are put into STORE: where it finds a fault in
 # them, STORE stays as it was. A second call for the same morning adds nothing. Assets whose end is reached
 # are named on standard error, since they have no row from today on. TOHMERIL names the program, if it is not
