@@ -1,6 +1,7 @@
 pub mod Lifetimes
 pub mod Made
 pub mod Moved
+pub mod NumbersMoved
 pub mod RevisionsMoved
 pub mod Asked
 pub mod Evaluated

@@ -82,7 +82,7 @@ once-mapped {A} {B} f Same back (x ∷ xs) differ b c first second same = elim (
     at_second = sym second.2 ∙ get_or-map f (x ∷ xs) second.0 x c in_second
 
 -- the numbers of rows no two of which are of one name, column and day
-numbers-once : (assets : List AssetRow) (rows : List ColumnNumber) → AllPairs (λ a b. a.sid < b.sid) assets → All (λ r. r.col < length assets) rows
+pub numbers-once : (assets : List AssetRow) (rows : List ColumnNumber) → AllPairs (λ a b. a.sid < b.sid) assets → All (λ r. r.col < length assets) rows
     → AllPairs (λ r q. number_tables.is_from r.name r.col r.known q ≡ false) rows → NumbersOnce (map (number_of assets) rows)
 numbers-once assets rows up inside once r q first second names sids days =
     once-mapped (number_of assets) (λ r q. (r.name ≡ q.name) × (r.sid ≡ q.sid) × (r.known ≡ q.known)) (λ r q same. (sym same.0, sym same.1, sym same.2)) rows

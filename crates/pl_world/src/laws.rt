@@ -4,7 +4,7 @@
 ghost use Rattle.pl_spec.specs.Permuted.{HaveSameRows};
 ghost use Rattle.pl_world.specs.Laws.{EarlyBarsChangeNothing, LaterDataChangeNothing, ShowAlike};
 ghost use Rattle.pl_world.specs.Laws.{ValuesFollowNodes};
-ghost use Rattle.pl_world.specs.Records.{RecordsInAnyOrder, RevisionsInAnyOrder};
+ghost use Rattle.pl_world.specs.Records.{NumbersInAnyOrder, RecordsInAnyOrder, RevisionsInAnyOrder};
 ghost use Rattle.pl_world.specs.Worlds.{IsMade, PartsMakeAWorld, world_of};
 
 use crate::world::World;
@@ -42,6 +42,12 @@ pub fn order_changes_nothing(world: &World, other: &World)
 /// shows the same rows, written alike. The sessions alone have one order.
 pub fn records_in_any_order()
     ensures { RecordsInAnyOrder }
+{}
+
+/// Records of numbers after the header may stand in another order: they are read as the same rows in some
+/// order, and the worlds show the same rows, written alike.
+pub fn numbers_in_any_order()
+    ensures { NumbersInAnyOrder }
 {}
 
 /// Records of revisions after the header may stand in another order: the tables are the same. Of one asset
