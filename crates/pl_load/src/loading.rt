@@ -190,7 +190,7 @@ fn read_rows<S: Shelf, K: AdjustKeeper>(
     })
 }
 
-// The adjustments of the world of these names with their revisions, after the labels, the numbers and the bars.
+// The adjustments of the world of these names with their revisions, after the labels, numbers and bars.
 fn read_revised<S: Shelf, K: AdjustKeeper>(
     alloc: Global,
     names: &WorldNames<'_>,
