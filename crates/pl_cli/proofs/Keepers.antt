@@ -87,7 +87,7 @@ of-data held q table h =
     ]
 
 -- no table is read with the pipeline file
-of-pipeline : (numbers file : Option (List ℕ)) (rest : List Step) (table : Table) → ReachesRead (evaluated_steps numbers file ++ rest) (Load table) → ReachesRead rest (Load table)
+of-pipeline : (numbers file : Option (List ℕ)) (rest : List Step) (table : Table) → ReachesRead (evaluated_steps file numbers ++ rest) (Load table) → ReachesRead rest (Load table)
 of-pipeline numbers file rest table h = elim h [
   | inl p ↦ no-input p
   | inr a ↦ elim a.1 [ inl p ↦ no-read p | inr b ↦ elim b.1 [ inl p ↦ no-read p | inr c ↦ c.1 ] ]

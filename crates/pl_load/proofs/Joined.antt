@@ -17,7 +17,7 @@ use Rattle.pl_judge.specs.Steps.{Source, Step, reads_in, names_read, tables_read
 use Rattle.pl_judge.specs.Steps.Source.{Input}
 use Rattle.pl_judge.specs.Stages.{StageEnds, IsRisen}
 use Rattle.pl_judge.specs.Held.{script_in}
-use Rattle.pl_judge.specs.Work.{read_step, script_rule, syntax_step, pipeline_steps, evaluated_steps, labels_steps, numbers_steps, revisions_steps}
+use Rattle.pl_judge.specs.Work.{read_step, script_rule, syntax_step, pipeline_steps, evaluated_steps, numbers_step, labels_steps, numbers_steps, revisions_steps}
 use Rattle.pl_judge.proofs.Steps.{stage-stops, stage-goes_on, stage-done, stage-weaker, stage-over, always}
 use Rattle.pl_judge.proofs.StepsRead.{read-stops, read-goes_on, read-all, read-over, front-none, one-read, names-append, tables-append}
 use Rattle.pl_load.specs.Reads.{IsRead, AreLoaded}
@@ -324,9 +324,9 @@ file-one f rule x = one-read (read_step f rule x) (Input f) [] refl tt
 pub pipeline-one : (x : Option (List ℕ)) → reads_in (pipeline_steps x) ≡ Input Pipeline ∷ []
 pipeline-one x = one-read (syntax_step x) (Input Pipeline) (rule (script_rule (script_in x)) ∷ []) refl (refl, tt)
 
-pub evaluated-one : (numbers : Option (List ℕ)) (x : Option (List ℕ)) → reads_in (evaluated_steps numbers x) ≡ Input Pipeline ∷ []
+pub evaluated-one : (numbers : Option (List ℕ)) (x : Option (List ℕ)) → reads_in (evaluated_steps x numbers) ≡ Input Pipeline ∷ []
 evaluated-one numbers x =
-    one-read (syntax_step x) (Input Pipeline) (rule (script_rule (script_in x)) ∷ rule (unnumbered (script_in x) numbers) ∷ []) refl (refl, refl, tt)
+    one-read (syntax_step x) (Input Pipeline) (rule (script_rule (script_in x)) ∷ numbers_step (script_in x) numbers ∷ []) refl (refl, refl, tt)
 
 pub labels-one : (assets : List AssetRow) (name x : Option (List ℕ)) → reads_in (labels_steps assets name x) ≡ inputs Labels name
 labels-one assets None x = refl

@@ -16,7 +16,7 @@ use Rattle.pl_judge.specs.declared.fault.Fault.{Fault}
 use Rattle.pl_judge.specs.declared.fault.Fault.TheVariants.{Memory}
 use Rattle.pl_judge.specs.Rules.{syntax_error, check_error}
 use Rattle.pl_judge.specs.Held.{script_in, pipeline_in}
-use Rattle.pl_judge.specs.Work.{syntax_rule, script_rule, syntax_step, pipeline_steps, evaluated_steps, unnumbered}
+use Rattle.pl_judge.specs.Work.{syntax_rule, script_rule, syntax_step, pipeline_steps, evaluated_steps, numbers_step}
 use Rattle.pl_judge.specs.Steps.{Step, rule}
 use Rattle.pl_judge.specs.Stages.{StageEnds, IsRisen}
 use Rattle.pl_judge.proofs.Steps.{always, stage-done, stage-goes_on, stage-over, stage-stops, stage-weaker, risen-inside}
@@ -93,13 +93,13 @@ stopped-before steps more First Means h =
 -- ---- the numbers of a script
 
 numbers-over : {T : Type 0} {s k : Bool} {r : Result T Fault} (held script : Parsed) (asked : Option (List ℕ)) → held ≡ script
-    → StageEnds s k (rule (unnumbered script asked) ∷ []) r → StageEnds s k (rule (unnumbered held asked) ∷ []) r
-numbers-over held script asked e h = stage-over (ap (λ x. rule (unnumbered x asked) ∷ []) (sym e)) h
+    → StageEnds s k (numbers_step script asked ∷ []) r → StageEnds s k (numbers_step held asked ∷ []) r
+numbers-over held script asked e h = stage-over (ap (λ x. numbers_step x asked ∷ []) (sym e)) h
 
 pub evaluated-read : {S T U : Type 0} {c : Change ShelfView} {name : Option (List ℕ)} {script : S} {u : U} (said : S → Parsed) (means : T → Pipeline) (asked : Option (List ℕ)) (x : T)
     → IsRead c name (λ held. syntax_step held ∷ []) (λ held y. script_in held ≡ said y) (Ok script) → typed (said script) ≡ Ok (means x)
-    → StageEnds true true (rule (unnumbered (said script) asked) ∷ []) (Ok u)
-    → IsRead c name (evaluated_steps asked) (λ held y. pipeline_in held ≡ means y) (Ok x)
+    → StageEnds true true (numbers_step (said script) asked ∷ []) (Ok u)
+    → IsRead c name (λ held. evaluated_steps held asked) (λ held y. pipeline_in held ≡ means y) (Ok x)
 evaluated-read {script = script} said means asked x h e judged =
     record {
       file = h.file;
@@ -115,8 +115,8 @@ evaluated-read {script = script} said means asked x h e judged =
 pub no-numbers : {S T U V : Type 0} {c : Change ShelfView} {name : Option (List ℕ)} {script : S} (said : S → Parsed) (means : V → Pipeline) (Means : Option (List ℕ) → T → Type 0)
     (asked : Option (List ℕ)) (x : V) (fault : Fault)
     → IsRead c name (λ held. syntax_step held ∷ []) (λ held y. script_in held ≡ said y) (Ok script) → typed (said script) ≡ Ok (means x)
-    → StageEnds {T = U} true true (rule (unnumbered (said script) asked) ∷ []) (Err fault) → IsRisen ⊥ ⊥ fault
-    → IsRead c name (evaluated_steps asked) Means (Err fault)
+    → StageEnds {T = U} true true (numbers_step (said script) asked ∷ []) (Err fault) → IsRisen ⊥ ⊥ fault
+    → IsRead c name (λ held. evaluated_steps held asked) Means (Err fault)
 no-numbers {c = c} {script = script} said means Means asked x fault h e judged inside =
     record {
       file = h.file;

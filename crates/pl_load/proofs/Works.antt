@@ -58,9 +58,9 @@ range-is p days from to as_of a b e f = ap₂ (λ x y. dates_steps from to as_of
 -- ---- a run and a plan
 
 pub run-first : (q : RunRequest) (p : Pipeline) (f r : Contents) → pipeline_in (f.file file.Pipeline) ≡ p
-    → run_steps (joint (is_file file.Pipeline) false f r) q ≡ evaluated_steps q.world.numbers (f.file file.Pipeline) ++ world_steps q p r
+    → run_steps (joint (is_file file.Pipeline) false f r) q ≡ evaluated_steps (f.file file.Pipeline) q.world.numbers ++ world_steps q p r
 unfolding data_steps
-run-first q p f r m = ap (λ x. evaluated_steps q.world.numbers (f.file file.Pipeline) ++ world_steps q x r) m
+run-first q p f r m = ap (λ x. evaluated_steps (f.file file.Pipeline) q.world.numbers ++ world_steps q x r) m
 
 pub world-first : (q : RunRequest) (p : Pipeline) (w : OwnedWorld) (f r : Contents) → IsWorldHeld q.world f w
     → world_steps q p (joint whole true f r) ≡ data_steps f q.world ++ range_steps p w.sessions q.from q.to q.options.as_of
@@ -92,9 +92,9 @@ abbrev pub cell_rest : ExplainRequest → Pipeline → Contents → List Step
 cell_rest q p held = data_steps held q.world ++ cell_steps p (days_held held) (assets_held held) q
 
 pub cell-first : (q : ExplainRequest) (p : Pipeline) (f r : Contents) → pipeline_in (f.file file.Pipeline) ≡ p
-    → cell_work (joint (is_file file.Pipeline) false f r) q ≡ evaluated_steps q.world.numbers (f.file file.Pipeline) ++ cell_rest q p r
+    → cell_work (joint (is_file file.Pipeline) false f r) q ≡ evaluated_steps (f.file file.Pipeline) q.world.numbers ++ cell_rest q p r
 unfolding data_steps
-cell-first q p f r m = ap (λ x. evaluated_steps q.world.numbers (f.file file.Pipeline) ++ cell_rest q x r) m
+cell-first q p f r m = ap (λ x. evaluated_steps (f.file file.Pipeline) q.world.numbers ++ cell_rest q x r) m
 
 pub cell-world : (q : ExplainRequest) (p : Pipeline) (w : OwnedWorld) (f r : Contents) → IsWorldHeld q.world f w
     → cell_rest q p (joint whole true f r) ≡ data_steps f q.world ++ cell_steps p w.sessions w.assets q
@@ -106,7 +106,7 @@ abbrev pub verify_rest : VerifyRequest → Contents → List Step
 verify_rest q held = data_steps held q.world ++ derivation_step (held.file file.Derivation) ∷ []
 
 pub verify-first : (q : VerifyRequest) (f r : Contents)
-    → verify_steps (joint (is_file file.Pipeline) false f r) q ≡ evaluated_steps q.world.numbers (f.file file.Pipeline) ++ verify_rest q r
+    → verify_steps (joint (is_file file.Pipeline) false f r) q ≡ evaluated_steps (f.file file.Pipeline) q.world.numbers ++ verify_rest q r
 unfolding data_steps
 verify-first q f r = refl
 

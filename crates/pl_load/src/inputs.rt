@@ -79,7 +79,7 @@ pub fn read_evaluated<S: Shelf>(
 ) -> Result<Checked, Fault>
     ensures { let asked = option_map (λ n. n.now) numbers.entry in
         IsRead (shelf_change S.holds S.begun S.sound S.faults shelf.old shelf.new)
-        (Some name.now) (evaluated_steps asked)
+        (Some name.now) (λ held. evaluated_steps held asked)
         (λ held checked. pipeline_in held ≡ pipeline_of checked) result }
 {
     let script = read_script(alloc, shelf, name)?;

@@ -5,7 +5,7 @@ use Rattle.pl_syntax.specs.Scripts.{parsed}
 use Rattle.pl_terms.specs.Checked.{Parts, pipeline_of}
 use Rattle.pl_judge.specs.Held.{script_in, pipeline_in}
 use Rattle.pl_judge.specs.Steps.{rule}
-use Rattle.pl_judge.specs.Work.{pipeline_steps, script_rule, syntax_step, unnumbered}
+use Rattle.pl_judge.specs.Work.{pipeline_steps, script_rule, syntax_step, numbers_step}
 use Rattle.pl_load.proofs.ScriptReads.{evaluated-read, no-numbers, no-pipeline, stopped-before}
 use Rattle.pl_load.proofs.inputs.read_evaluated.Goals as goal
 
@@ -16,13 +16,13 @@ pub returns-in_err-script : goal.returns-in_err-script
 returns-in_err-script g c =
     let p = err_from_is_err_and c.from_residual.result c.from_residual.ensures.1 in
     rw (p.1, p.2)
-    (stopped-before (λ held. syntax_step held ∷ []) (λ held. rule (script_rule (script_in held)) ∷ rule (unnumbered (script_in held) _) ∷ []) _ Means c.in_err-script.ensures)
+    (stopped-before (λ held. syntax_step held ∷ []) (λ held. rule (script_rule (script_in held)) ∷ numbers_step (script_in held) _ ∷ []) _ Means c.in_err-script.ensures)
 
 pub returns-in_err-check : goal.returns-in_err-check
 returns-in_err-check g c =
     let p = err_from_is_err_and c.from_residual-in_err-check.result c.from_residual-in_err-check.ensures.1 in
     rw p.1
-    (stopped-before pipeline_steps (λ held. rule (unnumbered (script_in held) _) ∷ []) Means Means
+    (stopped-before pipeline_steps (λ held. numbers_step (script_in held) _ ∷ []) Means Means
     (no-pipeline (λ (s : Script). parsed s) Means _ p.0 c.in_ok-script.ensures c.in_err-check.ensures.value p.2.is p.2.inside))
 
 pub returns-in_err-judge_numbers : goal.returns-in_err-judge_numbers
