@@ -17,6 +17,7 @@ ghost use Rattle.pl_world.specs.Evaluations as spec;
 ghost use Rattle.pl_world.specs.Evaluations.{HasKind, row_in, AreRowsOf, AreSectionCells, IsKeepRow};
 
 use crate::cell::exists;
+use crate::laws::{assets_and_labels, parts_make_a_world};
 use crate::world::World;
 use pl_cross::Cross;
 use pl_fixed::Memory;
@@ -43,7 +44,7 @@ pub fn label_cell(world: &World, checked: &Checked, name: u32, col: usize, sessi
         (sid_at world.now.assets.now col) (pos session)) }
     ensures cell { IsCell result }
 {
-    let _assets = world.assets.len();
+    parts_make_a_world(world);
     let day = world.sessions.day(session);
     let text = checked.label_name(name);
     label_value(world.labels, text, world.labels.name_of(text), col, day)
@@ -60,7 +61,7 @@ pub fn number_cell(world: &World, checked: &Checked, name: u32, col: usize, sess
         (sid_at world.now.assets.now col) (pos session) }
     ensures cell { IsCell result }
 {
-    let _assets = world.assets.len();
+    parts_make_a_world(world);
     let day = world.sessions.day(session);
     let text = checked.label_name(name);
     world
@@ -138,8 +139,7 @@ pub fn section_row(
     ensures cells { IfOk result (λ v. All IsCell v.items) }
 {
     let kind = &checked.graph().node(t).kind;
-    let _assets = world.assets.len();
-    let _rows = world.labels.len();
+    assets_and_labels(world);
     let keep = keep_row(alloc, world, session, mask)?;
     section_cells(alloc, kind, values, &keep, lent(groups))
 }

@@ -17,7 +17,7 @@ returns-clause-value c =
     let sid = sid_at w.assets.now c.args.col in
     let text = c.label_name-text.result.now in
     let name : name_at c.args.checked.now.names c.args.name ≡ text = ap (λ (o : Option (List ℕ)). unwrap_or o []) c.label_name-text.ensures in
-    let those = numbers_those w.assets.now w.numbers.now.rows c.len-assets.ensures.assets.ascend c.requires.made.numbers_in text c.args.col c.day-day.result c.requires.col in
+    let those = numbers_those w.assets.now w.numbers.now.rows c.parts_make_a_world.ensures.sound.assets.ascend c.requires.made.numbers_in text c.args.col c.day-day.result c.requires.col in
     to_z-of_z w64 _ fits ∙ simp to_z-of_z at c.number_under.ensures.value
     ∙ sym (ap (λ m. known_number (world_of w) m sid (pos c.args.session)) name
     ∙ ap (λ (o : Option ℤ). unwrap_or (option_map (number_at (world_of w).numbers text sid) o) MISSING) c.day-day.ensures.exact ∙ those)
