@@ -280,7 +280,7 @@ fn broken(place: Place, fault: CheckFault) -> Fault
     }
 }
 
-fn ruled(place: Place, fault: RuleFault) -> Fault
+pub(crate) fn ruled(place: Place, fault: RuleFault) -> Fault
     ensures { result ≡ Fault.Rule place fault }
 {
     Fault::Rule { place, fault }

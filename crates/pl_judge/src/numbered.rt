@@ -5,6 +5,7 @@ ghost use Rattle.pl_syntax.specs.Scripts.{parsed};
 ghost use Rattle.pl_judge.specs.Stages.{StageEnds, IsRisen};
 ghost use Rattle.pl_judge.specs.Work.{numbers_step};
 
+use crate::errors::ruled;
 use crate::{Fault, RuleFault};
 use pl_check::first_number;
 use pl_syntax::Script;
@@ -16,14 +17,11 @@ pub fn judge_numbers(script: &Script, numbers: Option<&str>) -> Result<(), Fault
         (numbers_step (parsed script.now) (option_map (λ name. name.now) numbers.entry) ∷ []) result }
     ensures risen { IfErr result (IsRisen ⊥ ⊥) }
 {
-    if numbers.is_some() {
-        return Ok(());
-    }
-    match first_number(script) {
-        None => Ok(()),
-        Some(place) => Err(Fault::Rule {
-            place,
-            fault: RuleFault::NoNumbers,
-        }),
+    match numbers {
+        Some(_) => Ok(()),
+        None => match first_number(script) {
+            None => Ok(()),
+            Some(place) => Err(ruled(place, RuleFault::NoNumbers)),
+        },
     }
 }
