@@ -4,13 +4,13 @@ ghost use Rattle.std.specs.Prelude.{◌≡◌, ◌≤◌, ◌+◌, ◌⊎◌, �
 ghost use Rattle.pl_outside.specs.Taken.{Writes};
 ghost use Rattle.pl_words.specs.Request.{Run, Fmt, Check, Plan, IsChunk};
 ghost use Rattle.pl_words.specs.Views.{run_of, plan_of};
-ghost use Rattle.pl_table.specs.Numbers.{stats_line};
 ghost use Rattle.pl_load.specs.Views.{KeeperView, change, unchanged, shelf_change, keeper_change};
 ghost use Rattle.pl_load.specs.Loads.{IsReady};
 ghost use Rattle.pl_terms.specs.Checked.{pipeline_of};
-ghost use Rattle.pl_cli.specs.Texts.{check_text};
+ghost use Rattle.pl_cli.specs.Texts.{check_text, told_line};
 ghost use Rattle.pl_cli.specs.Commands.{IsAnswered, sink_change, loaded_text, loaded_steps, loaded_stats, stats_told};
 
+use crate::stats::present_of;
 use itoa::Buffer;
 use pl_fixed::Steps;
 use pl_judge::Fault;
@@ -25,12 +25,14 @@ use pl_words::{Options, PlanRequest, RunRequest};
 use std::alloc::Global;
 use std::sync::ledger::Ledger;
 
-/// The numbers of a run where they are asked for, and how often an adjustment was applied to a buffered bar,
-/// at most u64's greatest value.
+/// The numbers of a run where they are asked for, how often an adjustment was applied to a buffered bar, at
+/// most u64's greatest value, and how many cells of numbers beside bars are present, where the pipeline uses
+/// such numbers.
 #[derive(Clone, Copy, Debug, PartialEq, Eq)]
 pub struct Stats {
     pub numbers: Numbers,
     pub applied: u64,
+    pub present: Option<u64>,
 }
 
 /// Reads and judges what the request names, and writes the table. It gives the numbers of the run where they
@@ -73,6 +75,7 @@ fn write_loaded<O: Sink, L: Ledger>(
     ensures cost { OnOk result (steps.new ≡ steps.old + loaded_steps loaded.now options.now.chunk) }
     ensures most { steps.new ≤ steps.old + loaded_steps loaded.now options.now.chunk }
 {
+    let present = present_of(alloc, loaded, options.stats)?;
     let world = loaded.world.world();
     match run_table(
         alloc,
@@ -84,17 +87,27 @@ fn write_loaded<O: Sink, L: Ledger>(
         out,
         steps,
     ) {
-        Ok(report) => Ok(stats_of(options.stats, &report, loaded.plan.bound())),
+        Ok(report) => Ok(stats_of(
+            options.stats,
+            &report,
+            loaded.plan.bound(),
+            present,
+        )),
         Err(RunError::Memory) => Err(Fault::Memory),
         Err(RunError::WriteFault) => Err(Fault::Unwritten),
     }
 }
 
 // The numbers of a run, where they are asked for.
-fn stats_of(asked: bool, report: &RunReport, bound: usize) -> Option<Stats>
+fn stats_of(
+    asked: bool,
+    report: &RunReport,
+    bound: usize,
+    present: Option<u64>,
+) -> Option<Stats>
     ensures { stats_told result
-        ≡ (if asked then stats_line report.now.rows report.now.cells report.now.peak bound report.now.applied
-        else []) }
+        ≡ (if asked then told_line report.now.rows report.now.cells report.now.peak bound report.now.applied
+        present else []) }
 {
     if !asked {
         return None;
@@ -108,6 +121,7 @@ fn stats_of(asked: bool, report: &RunReport, bound: usize) -> Option<Stats>
     Some(Stats {
         numbers,
         applied: report.applied,
+        present,
     })
 }
 

@@ -17,10 +17,10 @@ use crate::daily::daily_command;
 use crate::derivations::verify_command;
 use crate::payouts::payouts_command;
 use crate::stated::bench_command;
+use crate::stats::write_told;
 use pl_fixed::Steps;
 use pl_judge::{Fault, write_line};
 use pl_outside::{AdjustKeeper, Shelf, Sink};
-use pl_table::write_stats;
 use pl_words::{Request, read_words};
 use std::alloc::Global;
 use std::sync::ledger::Ledger;
@@ -153,7 +153,7 @@ fn finish<E: Sink>(
     match ended {
         Ok(None) => 0,
         Ok(Some(stats)) => {
-            let _ = write_stats(err, stats.numbers, stats.applied);
+            let _ = write_told(err, stats);
             0
         }
         Err(fault) => {
