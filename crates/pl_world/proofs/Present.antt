@@ -1,5 +1,5 @@
 -- The numbers that are present, session by session, asset by asset and term by term.
-use Rattle.std.proofs.Common.{◌≡◌, ℕ, zero, suc, ◌+◌, ◌-◌, ◌<◌, Bool, true, false, cond, ◌&&◌, if◌then◌else◌, ℤ, pos, List, [], ◌∷◌, ◌++◌, length, map, Option, Some, None, IfSome, IfNone, slice_get, refl, sym, ◌∙◌, ap, ap₂, subst, arith, sum_by}
+use Rattle.std.proofs.Common.{◌≡◌, ℕ, suc, ◌+◌, ◌-◌, ◌<◌, ◌≤◌, Bool, true, false, cond, ◌&&◌, if◌then◌else◌, ℤ, pos, List, [], ◌∷◌, ◌++◌, length, map, Option, Some, None, IfSome, IfNone, slice_get, refl, sym, ◌∙◌, ap, ap₂, arith, sum_by}
 use Rattle.std.specs.List.{range_with_len, count_by}
 use Rattle.std.proofs.lemmas.List.Sums.{sum_by-cons, sum_by_push}
 use Rattle.pl_spec.specs.declared.AssetRow.{AssetRow}
@@ -11,7 +11,7 @@ use Rattle.pl_spec.specs.Value as values
 use Rattle.pl_spec.specs.Value.{name_at, number_of, step}
 use Rattle.pl_spec.specs.World.{World, exists, known_number}
 use Rattle.pl_spec.specs.Table.{Pipeline, value_of}
-use Rattle.pl_spec.proofs.Ranges.{range-snoc}
+use Rattle.pl_spec.proofs.Ranges.{range-more}
 use Rattle.pl_spec.proofs.Unfolds.{value_at-node}
 use Rattle.pl_terms.specs.declared.node.Node as code
 use Rattle.pl_terms.specs.Checked.{IsChecked}
@@ -24,16 +24,26 @@ use Rattle.pl_world.specs.Present.{IsNumberUnder, is_number_kind, is_number_node
 
 -- ---- counts
 
-pub count-range : (p q : ℕ → Bool) (from n : ℕ) → ((k : ℕ) → k < n → p (from + k) ≡ q (from + k)) → count_by p (range_with_len from n) ≡ count_by q (range_with_len from n)
-count-range p q from zero h = refl
-count-range p q from (suc n) h =
-    ap (count_by p) (range-snoc from n) ∙ sum_by_push (λ s. cond (p s) 1 0) (range_with_len from n) (from + n)
-    ∙ ap₂ (λ (a : ℕ) (b : Bool). a + cond b 1 0) (count-range p q from n (λ k l. h k (omega arith))) (h n (omega arith))
-    ∙ sym (ap (count_by q) (range-snoc from n) ∙ sum_by_push (λ s. cond (q s) 1 0) (range_with_len from n) (from + n))
+count-more : (p : ℕ → Bool) (from s : ℕ) → from ≤ s → count_by p (range_with_len from (s + 1 - from)) ≡ count_by p (range_with_len from (s - from)) + cond (p s) 1 0
+count-more p from s h =
+    let size : s + 1 - from ≡ (s - from) + 1 = omega arith in
+    let last : from + (s - from) ≡ s = omega arith in
+    ap (λ n. count_by p (range_with_len from n)) size ∙ ap (count_by p) (range-more from (s - from)) ∙ sum_by_push (λ k. cond (p k) 1 0) (range_with_len from (s - from)) (from + (s - from))
+    ∙ ap (λ k. count_by p (range_with_len from (s - from)) + cond (p k) 1 0) last
+
+-- a session more that counts, or does not
+pub count-with : (p : ℕ → Bool) (from s : ℕ) → from ≤ s → p s ≡ true → count_by p (range_with_len from (s + 1 - from)) ≡ count_by p (range_with_len from (s - from)) + 1
+count-with p from s h e = count-more p from s h ∙ ap (λ b. count_by p (range_with_len from (s - from)) + cond b 1 0) e
+
+pub count-without : (p : ℕ → Bool) (from s : ℕ) → from ≤ s → p s ≡ false → count_by p (range_with_len from (s + 1 - from)) ≡ count_by p (range_with_len from (s - from))
+count-without p from s h e = let more = count-more p from s h ∙ ap (λ b. count_by p (range_with_len from (s - from)) + cond b 1 0) e in omega (arith, more)
 
 sum-each : {X : Type 0} (f g : X → ℕ) → ((x : X) → f x ≡ g x) → (xs : List X) → sum_by f xs ≡ sum_by g xs
 sum-each f g h [] = refl
 sum-each f g h (x ∷ xs) = omega (arith, sum_by-cons f x xs, sum_by-cons g x xs, h x, sum-each f g h xs)
+
+count-each : {X : Type 0} (p q : X → Bool) → ((x : X) → p x ≡ q x) → (xs : List X) → count_by p xs ≡ count_by q xs
+count-each p q h xs = sum-each (λ x. cond (p x) 1 0) (λ x. cond (q x) 1 0) (λ x. ap (λ b. cond b 1 0) (h x)) xs
 
 -- ---- a term of a number
 
@@ -60,15 +70,11 @@ module _ (w : World) (p : Pipeline) (ok : IsChecked p) (t name : ℕ) (is : IsNu
       here false x = refl
 
   -- the sum over the assets is the count of the definitions
-  pub present-under : (text : List ℕ) → name_at p.names name ≡ text → (from count : ℕ) → 0 < count
-      → sum_by (λ x. known_on w text x.sid from count) w.assets ≡ present_in w p from (from + count - 1) t
-  present-under text e from count some =
-      let size : suc (from + count - 1) - from ≡ count = omega arith in
-      sum-each (λ (x : AssetRow). known_on w text x.sid from count) (λ (x : AssetRow). present_on w p from (from + count - 1) t x.sid)
-      (λ x. ap (λ m. known_on w m x.sid from count) (sym e)
-      ∙ count-range _ _ from count (λ k l. sym (present-is x.sid (from + k)))
-      ∙ ap (λ n. count_by (λ s. is_present (number_of (value_of w p t x.sid (pos s)))) (range_with_len from n)) (sym size)) w.assets
-      ∙ ap (λ b. if b then sum_by (λ (x : AssetRow). present_on w p from (from + count - 1) t x.sid) w.assets else 0) (sym is.own)
+  pub present-under : (text : List ℕ) → name_at p.names name ≡ text → (from to : ℕ) → sum_by (λ x. known_on w from to text x.sid) w.assets ≡ present_in w p from to t
+  present-under text e from to =
+      sum-each (λ (x : AssetRow). known_on w from to text x.sid) (λ (x : AssetRow). present_on w p from to t x.sid)
+      (λ x. ap (λ m. known_on w from to m x.sid) (sym e) ∙ count-each _ _ (λ s. sym (present-is x.sid s)) (range_with_len from (suc to - from))) w.assets
+      ∙ ap (λ b. if b then sum_by (λ (x : AssetRow). present_on w p from to t x.sid) w.assets else 0) (sym is.own)
 
 -- another term counts nothing
 pub present-not : (w : World) (p : Pipeline) (from to t : ℕ) → is_number_term p t ≡ false → 0 ≡ present_in w p from to t

@@ -49,7 +49,7 @@ has_numbers p = list_any (is_number_term p) (range_with_len 0 (length p.graph))
 
 -- ---- how they are counted
 
--- on how many of so many sessions from one on asset a exists and has a number under the name
-abbrev pub known_on : World → List ℕ → ℕ → ℕ → ℕ → ℕ
-known_on w name a from count =
-    count_by (λ s. exists w a (pos s) && is_present (known_number w name a (pos s))) (range_with_len from count)
+-- on how many of the sessions from .. to asset a exists and has a number under the name
+abbrev pub known_on : World → ℕ → ℕ → List ℕ → ℕ → ℕ
+known_on w from to name a =
+    count_by (λ s. exists w a (pos s) && is_present (known_number w name a (pos s))) (range_with_len from (suc to - from))

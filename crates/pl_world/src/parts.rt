@@ -1,6 +1,6 @@
 //! What an evaluation reads besides the values of other terms.
 
-ghost use Rattle.std.specs.Prelude.{◌≡◌, ◌<◌, ◌≤◌, ◌&&◌, true, All, IfOk, IfSome, Some, length, option_map, pos, slice_get};
+ghost use Rattle.std.specs.Prelude.{◌≡◌, ◌<◌, ◌≤◌, ◌&&◌, true, All, IfOk, IfSome, Some, length, option_map, pos, position, bytes_eq, slice_get};
 ghost use Rattle.pl_spec.specs.Parts.{sid_at};
 ghost use Rattle.pl_spec.specs.Rounding.{IsCell};
 ghost use Rattle.pl_spec.specs.Value.{name_at};
@@ -61,12 +61,29 @@ pub fn number_cell(world: &World, checked: &Checked, name: u32, col: usize, sess
         (sid_at world.now.assets.now col) (pos session) }
     ensures cell { IsCell result }
 {
+    let text = checked.label_name(name);
+    number_of(world, text, world.numbers.name_of(text), col, session)
+}
+
+/// The same under a name; `number` is the name's number in the file, as `name_of` of the numbers gives it.
+pub(crate) fn number_of(
+    world: &World,
+    name: &[u8],
+    number: Option<u32>,
+    col: usize,
+    session: usize,
+) -> i64
+    requires made { IsMade world.now }
+    requires name { number ≡ position (bytes_eq name.now) world.now.numbers.now.names }
+    requires col { col < length world.now.assets.now }
+    requires session { session < length world.now.sessions.now }
+    ensures value { result ≡ known_number (world_of world.now) name.now
+        (sid_at world.now.assets.now col) (pos session) }
+    ensures cell { IsCell result }
+{
     parts_make_a_world(world);
     let day = world.sessions.day(session);
-    let text = checked.label_name(name);
-    world
-        .numbers
-        .number_under(text, world.numbers.name_of(text), col, day)
+    world.numbers.number_under(name, number, col, day)
 }
 
 /// The input of a cross-section, which is a term.

@@ -1,12 +1,11 @@
 //! How many numbers beside bars a pipeline reads.
 
-ghost use Rattle.std.specs.Prelude.{◌≡◌, ◌+◌, ◌-◌, ◌*◌, ◌<◌, ◌≤◌, ◌&&◌, false, pos, length, sum_by, count_by, slice_index_or, IfOk, IfSome, IfNone};
-ghost use Rattle.std.specs.List.{range_with_len};
+ghost use Rattle.std.specs.Prelude.{◌≡◌, ◌*◌, ◌<◌, ◌≤◌, ◌&&◌, false, pos, length, position, sum_by, bytes_eq, IfSome, IfNone};
 ghost use Rattle.pl_spec.specs.Kind.Kind.{Number};
 ghost use Rattle.pl_spec.specs.Limits.{most_assets, most_sessions, most_terms};
 ghost use Rattle.pl_spec.specs.Parts.{sid_at};
 ghost use Rattle.pl_spec.specs.Rounding.{is_present};
-ghost use Rattle.pl_spec.specs.World.{exists};
+ghost use Rattle.pl_spec.specs.World.{exists, known_number};
 ghost use Rattle.pl_terms.specs.Checked.{IsChecked, pipeline_of};
 ghost use Rattle.pl_terms.specs.Kinds.{kind_of};
 ghost use Rattle.pl_world.specs.Present as spec;
@@ -14,11 +13,11 @@ ghost use Rattle.pl_world.specs.Worlds.{world_of, IsMade};
 
 use crate::cell::exists;
 use crate::laws::parts_make_a_world;
+use crate::parts::number_of;
 use crate::world::World;
-use pl_fixed::{MISSING, Memory};
+use pl_fixed::MISSING;
 use pl_terms::{Checked, Node, TermId};
 use pl_values::{Family, family_of};
-use std::alloc::Global;
 
 /// Whether the pipeline reads numbers beside bars: whether a term that it uses is one.
 pub fn has_numbers(checked: &Checked) -> bool
@@ -33,24 +32,19 @@ pub fn has_numbers(checked: &Checked) -> bool
 }
 
 /// How many cells of numbers beside bars are present on the sessions `from` to `to`, which count from 0: one
-/// for each used term that is a number, each asset, and each session on which the asset exists and has it. The
-/// only error is want of memory.
-pub fn present_numbers(
-    alloc: Global,
-    world: &World,
-    checked: &Checked,
-    from: usize,
-    to: usize,
-) -> Result<u64, Memory>
+/// for each used term that is a number, each asset, and each session on which the asset exists and has it.
+pub fn present_numbers(world: &World, checked: &Checked, from: usize, to: usize) -> u64
     requires made { IsMade world.now }
     requires order { from ≤ to }
     requires within { to < length world.now.sessions.now }
-    ensures { IfOk result (λ n. n
-        ≡ spec.present_numbers (world_of world.now) (pipeline_of checked.now) from to) }
+    ensures { result ≡ spec.present_numbers (world_of world.now) (pipeline_of checked.now) from to }
 {
     parts_make_a_world(world);
-    let mut cells = vec![in alloc; 0; to + 1 - from]?;
-    Ok(present_from(world, checked, from, &mut cells))
+    let mut count = 0;
+    for t in 0..count_terms(checked) {
+        count += present_in(world, checked, TermId(t as u8), from, to);
+    }
+    count
 }
 
 // How many terms there are.
@@ -70,7 +64,11 @@ fn number_name(checked: &Checked, t: TermId) -> Option<u32>
     ensures checked { IsChecked (pipeline_of checked.now) }
 {
     let node = checked.graph().node(t);
-    if checked.is_used(t) { name_in(node) } else { None }
+    if checked.is_used(t) {
+        name_in(node)
+    } else {
+        None
+    }
 }
 
 fn name_in(node: &Node) -> Option<u32>
@@ -83,99 +81,75 @@ fn name_in(node: &Node) -> Option<u32>
     }
 }
 
-// The present cells on the sessions from one on, over room for those of one asset.
-#[tactic(auto, unfolding(crate::specs::Present::present_numbers))]
-fn present_from(world: &World, checked: &Checked, from: usize, cells: &mut [i64]) -> u64
-    requires made { IsMade world.now }
-    requires some { 0 < length cells.old }
-    requires few { length cells.old ≤ most_sessions }
-    requires within { from + length cells.old ≤ length world.now.sessions.now }
-    ensures { result ≡ spec.present_numbers (world_of world.now) (pipeline_of checked.now) from
-        (from + length cells.old - 1) }
-{
-    let mut count = 0;
-    for t in 0..count_terms(checked) {
-        count += present_in(world, checked, TermId(t as u8), from, cells);
-    }
-    count
-}
-
-// Those of one term.
-fn present_in(world: &World, checked: &Checked, t: TermId, from: usize, cells: &mut [i64]) -> u64
+// How many cells of a term are present.
+fn present_in(world: &World, checked: &Checked, t: TermId, from: usize, to: usize) -> u64
     requires made { IsMade world.now }
     requires term { t.0 < length checked.now.graph }
-    requires some { 0 < length cells.old }
-    requires few { length cells.old ≤ most_sessions }
-    requires within { from + length cells.old ≤ length world.now.sessions.now }
-    ensures count { result ≡ spec.present_in (world_of world.now) (pipeline_of checked.now) from
-        (from + length cells.old - 1) t.0 }
+    requires order { from ≤ to }
+    requires within { to < length world.now.sessions.now }
+    requires few { to < most_sessions }
+    ensures count { result ≡ spec.present_in (world_of world.now) (pipeline_of checked.now) from to t.0 }
     ensures few { result ≤ most_assets * most_sessions }
-    ensures long { length cells.new ≡ length cells.old }
 {
     match number_name(checked, t) {
-        Some(name) => present_under(world, checked.label_name(name), from, cells),
+        Some(name) => present_under(world, checked.label_name(name), from, to),
         None => 0,
     }
 }
 
-// Those under one name.
-fn present_under(world: &World, name: &[u8], from: usize, cells: &mut [i64]) -> u64
+// Those under a name.
+fn present_under(world: &World, name: &[u8], from: usize, to: usize) -> u64
     requires made { IsMade world.now }
-    requires few { length cells.old ≤ most_sessions }
-    requires within { from + length cells.old ≤ length world.now.sessions.now }
-    ensures count { result ≡ sum_by (λ x. spec.known_on (world_of world.now) name.now x.sid from
-        (length cells.old)) world.now.assets.now }
+    requires order { from ≤ to }
+    requires within { to < length world.now.sessions.now }
+    requires few { to < most_sessions }
+    ensures count { result ≡ sum_by (λ x. spec.known_on (world_of world.now) from to name.now x.sid)
+        world.now.assets.now }
     ensures few { result ≤ most_assets * most_sessions }
-    ensures long { length cells.new ≡ length cells.old }
 {
     let mut count = 0;
     for col in 0..world.assets.len() {
-        count += present_of(world, name, col, from, cells);
+        count += present_of(world, name, col, from, to);
     }
     count
 }
 
-// Those of one asset.
-fn present_of(world: &World, name: &[u8], col: usize, from: usize, cells: &mut [i64]) -> u64
+// Those of an asset.
+fn present_of(world: &World, name: &[u8], col: usize, from: usize, to: usize) -> u64
     requires made { IsMade world.now }
     requires col { col < length world.now.assets.now }
-    requires within { from + length cells.old ≤ length world.now.sessions.now }
-    ensures count { result ≡ spec.known_on (world_of world.now) name.now (sid_at world.now.assets.now col)
-        from (length cells.old) }
-    ensures few { result ≤ length cells.old }
-    ensures long { length cells.new ≡ length cells.old }
+    requires order { from ≤ to }
+    requires within { to < length world.now.sessions.now }
+    requires few { to < most_sessions }
+    ensures count { result ≡ spec.known_on (world_of world.now) from to name.now
+        (sid_at world.now.assets.now col) }
+    ensures few { result ≤ most_sessions }
 {
-    parts_make_a_world(world);
-    world
-        .numbers
-        .fill_under(name, col, world.sessions, from, cells);
-    count_present(world, col, from, cells)
-}
-
-// How many of the cells of an asset, on the sessions from one on, are present where it exists.
-fn count_present(world: &World, col: usize, from: usize, cells: &[i64]) -> u64
-    requires col { col < length world.now.assets.now }
-    requires within { from + length cells.now ≤ length world.now.sessions.now }
-    ensures count { result ≡ count_by (λ s. exists (world_of world.now)
-        (sid_at world.now.assets.now col) (pos s) && is_present (slice_index_or cells.now (s - from) (pos 0)))
-        (range_with_len from (length cells.now)) }
-    ensures few { result ≤ length cells.now }
-{
+    let number = world.numbers.name_of(name);
     let mut count = 0;
-    for k in 0..cells.len() {
-        if has_number(world, col, from + k, cells[k]) {
+    for session in from..to + 1 {
+        if has_number(world, name, number, col, session) {
             count += 1;
         }
     }
     count
 }
 
-// The asset exists on the session, and the cell is present.
-fn has_number(world: &World, col: usize, session: usize, cell: i64) -> bool
+// The asset exists on the session, and has a number under the name.
+fn has_number(world: &World, name: &[u8], number: Option<u32>, col: usize, session: usize) -> bool
+    requires made { IsMade world.now }
+    requires name { number ≡ position (bytes_eq name.now) world.now.numbers.now.names }
     requires col { col < length world.now.assets.now }
     requires session { session < length world.now.sessions.now }
     ensures { result ≡ (exists (world_of world.now) (sid_at world.now.assets.now col) (pos session)
-        && is_present cell) }
+        && is_present (known_number (world_of world.now) name.now
+        (sid_at world.now.assets.now col) (pos session))) }
 {
-    exists(world, col, session) && cell != MISSING
+    exists(world, col, session) && is_present(number_of(world, name, number, col, session))
+}
+
+fn is_present(cell: i64) -> bool
+    ensures { result ≡ is_present cell }
+{
+    cell != MISSING
 }

@@ -1,4 +1,4 @@
-use Rattle.std.proofs.Common.{◌≡◌, ◌≤◌, ◌*◌, length, sum_by, take}
+use Rattle.std.proofs.Common.{◌≡◌, ◌≤◌, ◌*◌, sum_by, take}
 use Rattle.pl_spec.specs.Limits.{most_sessions}
 use Rattle.pl_world.specs.Present.{known_on}
 use Rattle.pl_world.specs.Worlds.{world_of}
@@ -6,7 +6,6 @@ use Rattle.pl_world.proofs.present.present_under.Given as goal
 
 abbrev pub invariant-loop-col : goal.invariant-loop-col
 invariant-loop-col l = record {
-  count : l.count ≡ sum_by (λ x. known_on (world_of l.world) l.name x.sid l.from (length l.fn.cells)) (take l.col l.world.assets.now);
+  count : l.count ≡ sum_by (λ x. known_on (world_of l.world) l.from l.to l.name x.sid) (take l.col l.world.assets.now);
   few : l.count ≤ l.col * most_sessions;
-  long : length l.cells ≡ length l.fn.cells;
 }
