@@ -8,7 +8,7 @@ ghost use Rattle.pl_load.specs.Views.{KeeperView, change, unchanged, shelf_chang
 ghost use Rattle.pl_load.specs.Loads.{IsReady};
 ghost use Rattle.pl_terms.specs.Checked.{pipeline_of};
 ghost use Rattle.pl_cli.specs.Texts.{check_text, told_line};
-ghost use Rattle.pl_cli.specs.Commands.{IsAnswered, sink_change, loaded_text, loaded_steps, loaded_stats, stats_told};
+ghost use Rattle.pl_cli.specs.Commands.{IsAnswered, sink_change, loaded_text, loaded_present, loaded_steps, loaded_stats, stats_told};
 
 use crate::stats::present_of;
 use itoa::Buffer;
@@ -75,7 +75,6 @@ fn write_loaded<O: Sink, L: Ledger>(
     ensures cost { OnOk result (steps.new ≡ steps.old + loaded_steps loaded.now options.now.chunk) }
     ensures most { steps.new ≤ steps.old + loaded_steps loaded.now options.now.chunk }
 {
-    let present = present_of(alloc, loaded, options.stats)?;
     let world = loaded.world.world();
     match run_table(
         alloc,
@@ -87,27 +86,18 @@ fn write_loaded<O: Sink, L: Ledger>(
         out,
         steps,
     ) {
-        Ok(report) => Ok(stats_of(
-            options.stats,
-            &report,
-            loaded.plan.bound(),
-            present,
-        )),
+        Ok(report) => Ok(stats_of(options.stats, &report, loaded)),
         Err(RunError::Memory) => Err(Fault::Memory),
         Err(RunError::WriteFault) => Err(Fault::Unwritten),
     }
 }
 
 // The numbers of a run, where they are asked for.
-fn stats_of(
-    asked: bool,
-    report: &RunReport,
-    bound: usize,
-    present: Option<u64>,
-) -> Option<Stats>
+fn stats_of(asked: bool, report: &RunReport, loaded: &Loaded) -> Option<Stats>
+    requires ready { IsReady loaded.now }
     ensures { stats_told result
-        ≡ (if asked then told_line report.now.rows report.now.cells report.now.peak bound report.now.applied
-        present else []) }
+        ≡ (if asked then told_line report.now.rows report.now.cells report.now.peak loaded.now.plan.bound
+        report.now.applied (loaded_present loaded.now) else []) }
 {
     if !asked {
         return None;
@@ -116,12 +106,12 @@ fn stats_of(
         rows: report.rows,
         cells: report.cells,
         peak: report.peak,
-        bound,
+        bound: loaded.plan.bound(),
     };
     Some(Stats {
         numbers,
         applied: report.applied,
-        present,
+        present: present_of(loaded),
     })
 }
 

@@ -1,6 +1,6 @@
 //! The line of the numbers of a run, and the numbers beside bars that it counts.
 
-ghost use Rattle.std.specs.Prelude.{◌≡◌, if◌then◌else◌, None, Some, IfOk, IfErr};
+ghost use Rattle.std.specs.Prelude.{◌≡◌, Some};
 ghost use Rattle.pl_outside.specs.Taken.{Writes};
 ghost use Rattle.pl_load.specs.Loads.{IsReady};
 ghost use Rattle.pl_cli.specs.Texts.{told_line};
@@ -8,31 +8,23 @@ ghost use Rattle.pl_cli.specs.Commands.{loaded_present, stats_told};
 
 use crate::commands::Stats;
 use itoa::Buffer;
-use pl_judge::Fault;
 use pl_load::Loaded;
 use pl_outside::{Failed, Sink, write_pieces};
 use pl_table::{Numbers, write_stats};
 use pl_world::{has_numbers, present_numbers};
-use std::alloc::Global;
 
-// How many cells of numbers beside bars are present on the sessions of the table, where that is asked for and
-// the pipeline uses such numbers.
-pub(crate) fn present_of(
-    alloc: Global,
-    loaded: &Loaded,
-    asked: bool,
-) -> Result<Option<u64>, Fault>
+// How many cells of numbers beside bars are present on the sessions of the table, where the pipeline uses such
+// numbers.
+pub(crate) fn present_of(loaded: &Loaded) -> Option<u64>
     requires ready { IsReady loaded.now }
-    ensures present { IfOk result (λ present. present ≡ (if asked then loaded_present loaded.now else None)) }
-    ensures memory { IfErr result (λ fault. fault ≡ Fault.Memory) }
+    ensures { result ≡ loaded_present loaded.now }
 {
-    if !asked || !has_numbers(&loaded.checked) {
-        return Ok(None);
+    if !has_numbers(&loaded.checked) {
+        return None;
     }
     let world = loaded.world.world();
     let plan = &loaded.plan;
-    let count = present_numbers(alloc, &world, &loaded.checked, plan.from(), plan.to())?;
-    Ok(Some(count))
+    Some(present_numbers(&world, &loaded.checked, plan.from(), plan.to()))
 }
 
 // Writes the line of the numbers of a run.

@@ -85,26 +85,35 @@ no-pipeline {script = script} said Means e fault h fails is inside =
     })
 
 -- what stops some steps stops them with more
-pub stopped-before : {S T : Type 0} {c : Change ShelfView} {name : Option (List ℕ)} {fault : Fault} (steps more : Option (List ℕ) → List Step) (First : Option (List ℕ) → S → Type 0)
-    (Means : Option (List ℕ) → T → Type 0) → IsRead c name steps First (Err fault) → IsRead c name (λ held. steps held ++ more held) Means (Err fault)
-stopped-before steps more First Means h =
-    record { file = h.file; is_told = h.is_told; ends = stage-stops (more h.file) h.ends; means = tt; begun = h.begun; risen = h.risen; left = h.left }
+pub stopped-before : {S T : Type 0} {c : Change ShelfView} {name : Option (List ℕ)} {fault : Fault} {first steps : Option (List ℕ) → List Step} {First : Option (List ℕ) → S → Type 0}
+    {Means : Option (List ℕ) → T → Type 0} → IsRead c name first First (Err fault) → (more : Option (List ℕ) → List Step) → ((x : Option (List ℕ)) → steps x ≡ first x ++ more x)
+    → IsRead c name steps Means (Err fault)
+stopped-before h more same =
+    record {
+      file = h.file;
+      is_told = h.is_told;
+      ends = stage-over (sym (same h.file)) (stage-stops (more h.file) h.ends);
+      means = tt;
+      begun = h.begun;
+      risen = h.risen;
+      left = h.left;
+    }
 
 -- ---- the numbers of a script
 
 numbers-over : {T : Type 0} {s k : Bool} {r : Result T Fault} (held script : Parsed) (asked : Option (List ℕ)) → held ≡ script
     → StageEnds s k (numbers_step script asked ∷ []) r → StageEnds s k (numbers_step held asked ∷ []) r
-numbers-over held script asked e h = stage-over (ap (λ x. numbers_step x asked ∷ []) (sym e)) h
+numbers-over held script asked e h = stage-over (ap (λ (x : Parsed). numbers_step x asked ∷ []) (sym e)) h
 
 pub evaluated-read : {S T U : Type 0} {c : Change ShelfView} {name : Option (List ℕ)} {script : S} {u : U} (said : S → Parsed) (means : T → Pipeline) (asked : Option (List ℕ)) (x : T)
     → IsRead c name (λ held. syntax_step held ∷ []) (λ held y. script_in held ≡ said y) (Ok script) → typed (said script) ≡ Ok (means x)
     → StageEnds true true (numbers_step (said script) asked ∷ []) (Ok u)
     → IsRead c name (λ held. evaluated_steps held asked) (λ held y. pipeline_in held ≡ means y) (Ok x)
-evaluated-read {script = script} said means asked x h e judged =
+evaluated-read {c = c} {script = script} said means asked x h e judged =
     record {
       file = h.file;
       is_told = h.is_told;
-      ends = stage-goes_on (stage-goes_on h.ends (rules-pass (script_in h.file) (said script) (means x) x h.means e))
+      ends = stage-goes_on (stage-goes_on h.ends (rules-pass {s = c.before.sound} {k = true} (script_in h.file) (said script) (means x) x h.means e))
           (stage-done {y = x} (numbers-over (script_in h.file) (said script) asked h.means judged));
       means = pipeline-in h.file (said script) (means x) h.means e;
       begun = h.begun;
@@ -121,7 +130,7 @@ no-numbers {c = c} {script = script} said means Means asked x fault h e judged i
     record {
       file = h.file;
       is_told = h.is_told;
-      ends = stage-goes_on (stage-goes_on h.ends (rules-pass (script_in h.file) (said script) (means x) x h.means e))
+      ends = stage-goes_on (stage-goes_on h.ends (rules-pass {s = c.before.sound} {k = true} (script_in h.file) (said script) (means x) x h.means e))
           (stage-weaker always (λ t. t) (numbers-over (script_in h.file) (said script) asked h.means judged));
       means = tt;
       begun = h.begun;

@@ -1,11 +1,9 @@
-use Rattle.std.proofs.Common.{◌≡◌, [], ◌∷◌, List, ℕ, Option}
+use Rattle.std.proofs.Common.{◌≡◌, ℕ, List, Option, refl}
 use Rattle.std.proofs.lemmas.Result.{err_from_is_err_and}
 use Rattle.pl_syntax.specs.declared.script.Script.{Script}
 use Rattle.pl_syntax.specs.Scripts.{parsed}
 use Rattle.pl_terms.specs.Checked.{Parts, pipeline_of}
-use Rattle.pl_judge.specs.Held.{script_in, pipeline_in}
-use Rattle.pl_judge.specs.Steps.{rule}
-use Rattle.pl_judge.specs.Work.{pipeline_steps, script_rule, syntax_step, numbers_step}
+use Rattle.pl_judge.specs.Held.{pipeline_in}
 use Rattle.pl_load.proofs.ScriptReads.{evaluated-read, no-numbers, no-pipeline, stopped-before}
 use Rattle.pl_load.proofs.inputs.read_evaluated.Goals as goal
 
@@ -15,15 +13,13 @@ Means held p = pipeline_in held ≡ pipeline_of p
 pub returns-in_err-script : goal.returns-in_err-script
 returns-in_err-script g c =
     let p = err_from_is_err_and c.from_residual.result c.from_residual.ensures.1 in
-    rw (p.1, p.2)
-    (stopped-before (λ held. syntax_step held ∷ []) (λ held. rule (script_rule (script_in held)) ∷ numbers_step (script_in held) _ ∷ []) _ Means c.in_err-script.ensures)
+    rw (p.1, p.2) (stopped-before c.in_err-script.ensures _ (λ held. refl))
 
-pub returns-in_err-check : goal.returns-in_err-check
-returns-in_err-check g c =
-    let p = err_from_is_err_and c.from_residual-in_err-check.result c.from_residual-in_err-check.ensures.1 in
+pub returns-in_err-checked : goal.returns-in_err-checked
+returns-in_err-checked g c =
+    let p = err_from_is_err_and c.from_residual-in_err-checked.result c.from_residual-in_err-checked.ensures.1 in
     rw p.1
-    (stopped-before pipeline_steps (λ held. numbers_step (script_in held) _ ∷ []) Means Means
-    (no-pipeline (λ (s : Script). parsed s) Means _ p.0 c.in_ok-script.ensures c.in_err-check.ensures.value p.2.is p.2.inside))
+    (stopped-before (no-pipeline (λ (s : Script). parsed s) Means _ p.0 c.in_ok-script.ensures c.in_err-checked.ensures.value p.2.is p.2.inside) _ (λ held. refl))
 
 pub returns-in_err-judge_numbers : goal.returns-in_err-judge_numbers
 returns-in_err-judge_numbers g c =
