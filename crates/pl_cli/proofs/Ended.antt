@@ -223,6 +223,7 @@ no-name file.Pipeline = refl
 no-name file.Sessions = refl
 no-name file.Assets = refl
 no-name file.Labels = refl
+no-name file.Numbers = refl
 no-name file.Bars = refl
 no-name file.Revisions = refl
 no-name file.Payouts = refl

@@ -5,7 +5,7 @@ use Rattle.pl_spec.specs.declared.RawAdjust.{RawAdjust}
 use Rattle.pl_spec.specs.Table.{Pipeline}
 use Rattle.pl_outside.specs.declared.keeper.Table.{Table}
 use Rattle.pl_words.specs.declared.request.InputFile.{InputFile}
-use Rattle.pl_words.specs.declared.request.InputFile.TheVariants.{Labels as LabelsFile, Revisions as RevisionsFile}
+use Rattle.pl_words.specs.declared.request.InputFile.TheVariants.{Pipeline as PipelineFile, Labels as LabelsFile, Numbers as NumbersFile, Revisions as RevisionsFile}
 use Rattle.pl_words.specs.Request.{Request, Run, Fmt, Check, Plan, Bench, Payouts, Explain, Verify, Daily, RunRequest, PlanRequest, ExplainRequest, VerifyRequest, WorldNames, Dated, adjustments_of}
 use Rattle.pl_spec.specs.World.{World}
 use Rattle.pl_judge.specs.Cells.{cell_steps, lines_step}
@@ -14,7 +14,7 @@ use Rattle.pl_judge.specs.Held.{assets_held, days_held, pipeline_held, world_hel
 use Rattle.pl_judge.specs.Steps.{Source, Step, ReachesRead}
 use Rattle.pl_judge.specs.Steps.Source.{Input, Load}
 use Rattle.pl_judge.specs.Range.{index_of, dates_steps, plan_steps, range_steps}
-use Rattle.pl_judge.specs.Work.{labels_steps, adjustments_steps, revisions_steps, data_steps, planning_steps, payouts_steps, run_steps, cell_work, explain_steps, verify_steps, work}
+use Rattle.pl_judge.specs.Work.{evaluated_steps, labels_steps, numbers_steps, adjustments_steps, revisions_steps, data_steps, planning_steps, payouts_steps, run_steps, cell_work, explain_steps, verify_steps, work}
 
 no-input : {A : Type 0} {file : InputFile} {table : Table} → Some (Input file) ≡ Some (Load table) → A
 no-input h = absurd (cc)
@@ -32,6 +32,10 @@ reaches-one (s ∷ ss) ts source h = elim h [
 of-labels : (assets : List AssetRow) (labels file : Option (List ℕ)) (table : Table) → ReachesRead (labels_steps assets labels file) (Load table) → ⊥
 of-labels assets None file table h = h
 of-labels assets (Some n) file table h = elim h [ inl p ↦ no-input p | inr q ↦ q.1 ]
+
+of-numbers : (assets : List AssetRow) (numbers file : Option (List ℕ)) (table : Table) → ReachesRead (numbers_steps assets numbers file) (Load table) → ⊥
+of-numbers assets None file table h = h
+of-numbers assets (Some n) file table h = elim h [ inl p ↦ no-input p | inr q ↦ q.1 ]
 
 of-adjustments : (assets : List AssetRow) (adjustments : Option (List ℕ)) (rows : Table → List RawAdjust) (table : Table) → ReachesRead (adjustments_steps assets adjustments rows) (Load table) → IsSome adjustments
 of-adjustments assets None rows table h = absurd h
@@ -68,39 +72,37 @@ of-data held q table h =
         | inl p ↦ no-input p
         | inr b ↦ elim (reaches-one (labels_steps (assets_held held) q.labels (held.file LabelsFile)) _ (Load table) b.1) [
           | inl l ↦ absurd (of-labels (assets_held held) q.labels (held.file LabelsFile) table l)
-          | inr m ↦ elim m [
-            | inl p ↦ no-input p
-            | inr x ↦ elim (reaches-one (adjustments_steps (assets_held held) q.adjustments held.rows) _ (Load table) x.1) [
-              | inl r ↦ of-adjustments (assets_held held) q.adjustments held.rows table r
-              | inr r ↦ absurd (of-revisions (days_held held) (assets_held held) q.revisions (held.file RevisionsFile) table r)
+          | inr n ↦ elim (reaches-one (numbers_steps (assets_held held) q.numbers (held.file NumbersFile)) _ (Load table) n) [
+            | inl l ↦ absurd (of-numbers (assets_held held) q.numbers (held.file NumbersFile) table l)
+            | inr m ↦ elim m [
+              | inl p ↦ no-input p
+              | inr x ↦ elim (reaches-one (adjustments_steps (assets_held held) q.adjustments held.rows) _ (Load table) x.1) [
+                | inl r ↦ of-adjustments (assets_held held) q.adjustments held.rows table r
+                | inr r ↦ absurd (of-revisions (days_held held) (assets_held held) q.revisions (held.file RevisionsFile) table r)
+              ]
             ]
           ]
         ]
       ]
     ]
 
-of-run : (held : Contents) (q : RunRequest) (table : Table) → ReachesRead (run_steps held q) (Load table) → IsSome q.world.adjustments
-of-run held q table h = elim h [
+-- no table is read with the pipeline file
+of-pipeline : (numbers file : Option (List ℕ)) (rest : List Step) (table : Table) → ReachesRead (evaluated_steps file numbers ++ rest) (Load table) → ReachesRead rest (Load table)
+of-pipeline numbers file rest table h = elim h [
   | inl p ↦ no-input p
-  | inr a ↦ elim a.1 [
-    | inl p ↦ no-read p
-    | inr b ↦ elim (reaches-one (data_steps held q.world) _ (Load table) b.1) [
-      | inl e ↦ of-data held q.world table e
-      | inr r ↦ absurd (of-range (pipeline_held held) (days_held held) q.from q.to q.options.as_of table r)
-    ]
-  ]
+  | inr a ↦ elim a.1 [ inl p ↦ no-read p | inr b ↦ elim b.1 [ inl p ↦ no-read p | inr c ↦ c.1 ] ]
+]
+
+of-run : (held : Contents) (q : RunRequest) (table : Table) → ReachesRead (run_steps held q) (Load table) → IsSome q.world.adjustments
+of-run held q table h = elim (reaches-one (data_steps held q.world) _ (Load table) (of-pipeline q.world.numbers (held.file PipelineFile) _ table h)) [
+  | inl e ↦ of-data held q.world table e
+  | inr r ↦ absurd (of-range (pipeline_held held) (days_held held) q.from q.to q.options.as_of table r)
 ]
 
 of-verify : (held : Contents) (q : VerifyRequest) (table : Table) → ReachesRead (verify_steps held q) (Load table) → IsSome q.world.adjustments
-of-verify held q table h = elim h [
-  | inl p ↦ no-input p
-  | inr a ↦ elim a.1 [
-    | inl p ↦ no-read p
-    | inr b ↦ elim (reaches-one (data_steps held q.world) _ (Load table) b.1) [
-      | inl e ↦ of-data held q.world table e
-      | inr d ↦ elim d [ inl p ↦ no-input p | inr e ↦ absurd e.1 ]
-    ]
-  ]
+of-verify held q table h = elim (reaches-one (data_steps held q.world) _ (Load table) (of-pipeline q.world.numbers (held.file PipelineFile) _ table h)) [
+  | inl e ↦ of-data held q.world table e
+  | inr d ↦ elim d [ inl p ↦ no-input p | inr e ↦ absurd e.1 ]
 ]
 
 of-cell : (p : Pipeline) (days : List ℤ) (assets : List AssetRow) (q : ExplainRequest) (table : Table) → ReachesRead (cell_steps p days assets q) (Load table) → ⊥
@@ -118,15 +120,9 @@ unfolding lines_step
 of-lines w p q table h = elim h [ inl e ↦ no-read e | inr a ↦ a.1 ]
 
 of-cell-work : (held : Contents) (q : ExplainRequest) (table : Table) → ReachesRead (cell_work held q) (Load table) → IsSome q.world.adjustments
-of-cell-work held q table h = elim h [
-  | inl p ↦ no-input p
-  | inr a ↦ elim a.1 [
-    | inl p ↦ no-read p
-    | inr b ↦ elim (reaches-one (data_steps held q.world) _ (Load table) b.1) [
-      | inl e ↦ of-data held q.world table e
-      | inr c ↦ absurd (of-cell (pipeline_held held) (days_held held) (assets_held held) q table c)
-    ]
-  ]
+of-cell-work held q table h = elim (reaches-one (data_steps held q.world) _ (Load table) (of-pipeline q.world.numbers (held.file PipelineFile) _ table h)) [
+  | inl e ↦ of-data held q.world table e
+  | inr c ↦ absurd (of-cell (pipeline_held held) (days_held held) (assets_held held) q table c)
 ]
 
 of-explain : (held : Contents) (q : ExplainRequest) (table : Table) → ReachesRead (explain_steps held q) (Load table) → IsSome q.world.adjustments

@@ -20,7 +20,7 @@ use Rattle.pl_load.specs.Loads.{IsLoaded}
 use Rattle.pl_world.specs.Worlds.{owned_world}
 use Rattle.pl_world.specs.Known.{ShowsSame}
 use Rattle.pl_cli.specs.declared.commands.Stats.{Stats}
-use Rattle.pl_cli.specs.Texts.{text_of, check_text, numbers_of, table_stats, run_stats, TakesSteps, TellsNumbers}
+use Rattle.pl_cli.specs.Texts.{text_of, check_text, numbers_of, present_in, table_stats, run_stats, TakesSteps, TellsNumbers}
 use Rattle.pl_cli.specs.Commands.{loaded_text, loaded_steps, loaded_stats, stats_told}
 
 same-text : (format : Format) (v w : World) (p r : Pipeline) (a b from to : ℕ) → ShowsSame v w r from to → p ≡ r → a ≡ from → b ≡ to
@@ -35,12 +35,13 @@ loaded-steps : (held : Contents) (q : RunRequest) (l : Loaded) (P : ℕ → Type
 loaded-steps held q l P h k =
     (l.plan, record { is = rw h.pipeline h.plan; from = sym h.from; to = sym h.to }, rw (h.world, h.pipeline) k)
 
-same-numbers : (asked : Bool) (steps : ℕ) (v w : World) (p r : Pipeline) (a b from to : ℕ) → ShowsSame v w r from to → p ≡ r → a ≡ from → b ≡ to
-    → cond asked (table_stats v r (table v r from to) steps) [] ≡ cond asked (table_stats w p (table w p a b) steps) []
-same-numbers asked steps v w p r a b from to h c f t =
-    rw (c, f, t)
-    (ap (λ rows. cond asked (table_stats v r rows steps) []) h.rows
-    ∙ ap (λ texts. cond asked (numbers_of texts r (table w r from to) steps) []) h.codes)
+same-numbers : (asked : Bool) (steps : ℕ) (v w known : World) (p r : Pipeline) (a b from to : ℕ) → ShowsSame v w r from to → known ≡ v → p ≡ r → a ≡ from → b ≡ to
+    → cond asked (table_stats v r (table v r from to) steps (present_in v r from to)) [] ≡ cond asked (table_stats w p (table w p a b) steps (present_in known p a b)) []
+same-numbers asked steps v w known p r a b from to h k c f t =
+    let present = present_in v r from to in
+    rw (k, c, f, t)
+    (ap (λ rows. cond asked (table_stats v r rows steps present) []) h.rows
+    ∙ ap (λ texts. cond asked (numbers_of texts r (table w r from to) steps present) []) h.codes)
 
 same-steps : (v w : World) (p r : Pipeline) (plan : Planned) (size : ℕ) → v ≡ w → p ≡ r → run_steps w r plan size ≡ run_steps v p plan size
 same-steps v w p r plan size e c = rw (e, c) refl
@@ -51,7 +52,7 @@ loaded-numbers : (held : Contents) (q : RunRequest) (l : Loaded) (line : List �
 loaded-numbers held q l line h e = (
   l.plan,
   record { is = rw h.pipeline h.plan; from = sym h.from; to = sym h.to },
-  e ∙ same-numbers q.options.stats (loaded_steps l q.options.chunk) (owned_world l.world) (world_held held q.world) (pipeline_held held) (pipeline_of l.checked) _ _ l.plan.from l.plan.to h.same h.pipeline h.from h.to
+  e ∙ same-numbers q.options.stats (loaded_steps l q.options.chunk) (owned_world l.world) (world_held held q.world) (world_known held q) (pipeline_held held) (pipeline_of l.checked) _ _ l.plan.from l.plan.to h.same h.world h.pipeline h.from h.to
       ∙ ap (λ n. run_stats held q n) (same-steps (world_known held q) (owned_world l.world) (pipeline_held held) (pipeline_of l.checked) l.plan q.options.chunk h.world h.pipeline),
 )
 

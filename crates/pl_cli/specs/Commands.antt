@@ -11,7 +11,6 @@ use Rattle.pl_terms.specs.Checked.{pipeline_of}
 use Rattle.pl_words.specs.Request.{Request, name_asked, adjustments_of}
 use Rattle.pl_judge.specs.declared.fault.Fault.{Fault}
 use Rattle.pl_judge.specs.declared.fault.Fault.TheVariants.{Usage, Unread, Unloaded, Unwritten}
-use Rattle.pl_table.specs.Numbers.{stats_line}
 use Rattle.pl_judge.specs.Contents.{Contents, AreHeld}
 use Rattle.pl_judge.specs.Steps.{Source, first_fault, names_read, tables_read}
 use Rattle.pl_judge.specs.Work.{work}
@@ -22,7 +21,7 @@ use Rattle.pl_world.specs.Worlds.{owned_world}
 use Rattle.pl_runner.specs.Runs.{run_steps}
 use Rattle.pl_feed.specs.Feeds.{daily_steps}
 use Rattle.pl_cli.specs.declared.commands.Stats.{Stats}
-use Rattle.pl_cli.specs.Texts.{text_of, table_stats, TakesSteps, TellsNumbers}
+use Rattle.pl_cli.specs.Texts.{text_of, told_line, table_stats, present_in, TakesSteps, TellsNumbers}
 use Rattle.pl_cli.specs.Runs.{Observed, HasRoom}
 
 -- the table of what was loaded, its steps in chunks of so many sessions, and the line of its numbers where it
@@ -36,11 +35,15 @@ loaded_text l format =
 abbrev pub loaded_steps : Loaded → ℕ → ℕ
 loaded_steps l chunk = run_steps (owned_world l.world) (pipeline_of l.checked) l.plan chunk
 
+-- how many numbers beside bars are present on its sessions, where the pipeline uses some
+abbrev pub loaded_present : Loaded → Option ℕ
+loaded_present l = present_in (owned_world l.world) (pipeline_of l.checked) l.plan.from l.plan.to
+
 abbrev pub loaded_stats : Bool → Loaded → ℕ → List ℕ
 loaded_stats asked l chunk =
     let w = owned_world l.world in
     let p = pipeline_of l.checked in
-    if asked then table_stats w p (table w p l.plan.from l.plan.to) (loaded_steps l chunk) else []
+    if asked then table_stats w p (table w p l.plan.from l.plan.to) (loaded_steps l chunk) (loaded_present l) else []
 
 -- the steps where its sessions are fed one by one
 abbrev pub loaded_days : Loaded → ℕ
@@ -49,7 +52,7 @@ loaded_days l = daily_steps (owned_world l.world) (pipeline_of l.checked) l.plan
 -- the line of the numbers that a command gives
 abbrev pub stats_told : Option Stats → List ℕ
 stats_told None = []
-stats_told (Some s) = stats_line s.numbers.rows s.numbers.cells s.numbers.peak s.numbers.bound s.applied
+stats_told (Some s) = told_line s.numbers.rows s.numbers.cells s.numbers.peak s.numbers.bound s.applied s.present
 
 abbrev pub numbers_told : Result (Option Stats) Fault → List ℕ
 numbers_told (Ok stats) = stats_told stats

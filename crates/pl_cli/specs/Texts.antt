@@ -17,13 +17,14 @@ use Rattle.pl_derivation.specs.Right.{first_wrong}
 use Rattle.pl_derivation.specs.Walks.{derivation}
 use Rattle.pl_runner.specs.Runs.{run_steps}
 use Rattle.pl_feed.specs.Feeds.{daily_steps}
+use Rattle.pl_world.specs.Present.{has_numbers, present_numbers}
 use Rattle.pl_words.specs.declared.request.InputFile.TheVariants.{Pipeline as PipelineFile}
 use Rattle.pl_words.specs.Request.{Request, Run, Fmt, Check, Plan, Bench, Payouts, Explain, Verify, Daily, RunRequest, ExplainRequest}
 use Rattle.pl_judge.specs.Cells.{term_asked}
 use Rattle.pl_judge.specs.Contents.{Contents}
 use Rattle.pl_judge.specs.Held.{script_in, pipeline_in, pipeline_held, days_held, assets_held, bars_held, payouts_held, derivation_held, world_held}
 use Rattle.pl_judge.specs.Known.{world_known}
-use Rattle.pl_table.specs.Numbers.{stats_line}
+use Rattle.pl_table.specs.Numbers.{numbers_text, stats_line}
 use Rattle.pl_judge.specs.Planning.{extra_of, reach_at}
 use Rattle.pl_judge.specs.Range.{index_of}
 
@@ -92,22 +93,35 @@ TakesSteps held (Some (Daily q)) P =
     P (daily_steps (world_known held q) (pipeline_held held) (index_of (days_held held) q.to.day))
 TakesSteps held asked P = P 0
 
--- The line of the numbers of a table: how many rows it has, the sum of their cells modulo 2 ^ 64, how many
--- arrays are held at once, which is as many as may be, and its steps, as far as 64 bits count.
-abbrev pub numbers_of : List (List ℕ) → Pipeline → List Row → ℕ → List ℕ
-numbers_of texts p rows steps =
-    let most = bound p.graph (outputs p) in
-    stats_line (length rows) (unsigned_abs (cells texts rows)) most most (cut steps)
+-- the line of the numbers of a table, which ends with how many numbers beside bars are present where there
+-- may be some
+abbrev pub told_line : ℕ → ℕ → ℕ → ℕ → ℕ → Option ℕ → List ℕ
+told_line rows sum peak most applied None = stats_line rows sum peak most applied
+told_line rows sum peak most applied (Some present) =
+    numbers_text rows sum peak most ++ codes " applied=" ++ decimal applied ++ codes " numbers=" ++ decimal present
+    ++ 10 ∷ []
 
-abbrev pub table_stats : World → Pipeline → List Row → ℕ → List ℕ
-table_stats w p rows steps = numbers_of w.texts p rows steps
+-- how many cells of numbers beside bars are present on these sessions, where the pipeline uses numbers
+abbrev pub present_in : World → Pipeline → ℕ → ℕ → Option ℕ
+present_in w p from to = if has_numbers p then Some (present_numbers w p from to) else None
+
+-- The numbers of a table: how many rows it has, the sum of their cells modulo 2 ^ 64, how many arrays are held
+-- at once, which is as many as may be, its steps, as far as 64 bits count, and what is present.
+abbrev pub numbers_of : List (List ℕ) → Pipeline → List Row → ℕ → Option ℕ → List ℕ
+numbers_of texts p rows steps present =
+    let most = bound p.graph (outputs p) in
+    told_line (length rows) (unsigned_abs (cells texts rows)) most most (cut steps) present
+
+abbrev pub table_stats : World → Pipeline → List Row → ℕ → Option ℕ → List ℕ
+table_stats w p rows steps present = numbers_of w.texts p rows steps present
 
 -- of a run, where it is asked for
 abbrev pub run_stats : Contents → RunRequest → ℕ → List ℕ
 run_stats held q steps =
     let w = world_held held q.world in
     let p = pipeline_held held in
-    if q.options.stats then table_stats w p (rows_asked w p q) steps else []
+    let present = present_in (world_known held q) p (index_of (days_held held) q.from.day) (index_of (days_held held) q.to.day) in
+    if q.options.stats then table_stats w p (rows_asked w p q) steps present else []
 
 -- With its text a run tells the line of its numbers where it is asked for; nothing else tells numbers.
 abbrev pub TellsNumbers : Contents → Option Request → List ℕ → Type 0

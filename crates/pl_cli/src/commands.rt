@@ -4,13 +4,13 @@ ghost use Rattle.std.specs.Prelude.{◌≡◌, ◌≤◌, ◌+◌, ◌⊎◌, �
 ghost use Rattle.pl_outside.specs.Taken.{Writes};
 ghost use Rattle.pl_words.specs.Request.{Run, Fmt, Check, Plan, IsChunk};
 ghost use Rattle.pl_words.specs.Views.{run_of, plan_of};
-ghost use Rattle.pl_table.specs.Numbers.{stats_line};
 ghost use Rattle.pl_load.specs.Views.{KeeperView, change, unchanged, shelf_change, keeper_change};
 ghost use Rattle.pl_load.specs.Loads.{IsReady};
 ghost use Rattle.pl_terms.specs.Checked.{pipeline_of};
-ghost use Rattle.pl_cli.specs.Texts.{check_text};
-ghost use Rattle.pl_cli.specs.Commands.{IsAnswered, sink_change, loaded_text, loaded_steps, loaded_stats, stats_told};
+ghost use Rattle.pl_cli.specs.Texts.{check_text, told_line};
+ghost use Rattle.pl_cli.specs.Commands.{IsAnswered, sink_change, loaded_text, loaded_present, loaded_steps, loaded_stats, stats_told};
 
+use crate::stats::present_of;
 use itoa::Buffer;
 use pl_fixed::Steps;
 use pl_judge::Fault;
@@ -25,12 +25,14 @@ use pl_words::{Options, PlanRequest, RunRequest};
 use std::alloc::Global;
 use std::sync::ledger::Ledger;
 
-/// The numbers of a run where they are asked for, and how often an adjustment was applied to a buffered bar,
-/// at most u64's greatest value.
+/// The numbers of a run where they are asked for, how often an adjustment was applied to a buffered bar, at
+/// most u64's greatest value, and how many cells of numbers beside bars are present, where the pipeline uses
+/// such numbers.
 #[derive(Clone, Copy, Debug, PartialEq, Eq)]
 pub struct Stats {
     pub numbers: Numbers,
     pub applied: u64,
+    pub present: Option<u64>,
 }
 
 /// Reads and judges what the request names, and writes the table. It gives the numbers of the run where they
@@ -84,17 +86,18 @@ fn write_loaded<O: Sink, L: Ledger>(
         out,
         steps,
     ) {
-        Ok(report) => Ok(stats_of(options.stats, &report, loaded.plan.bound())),
+        Ok(report) => Ok(stats_of(options.stats, &report, loaded)),
         Err(RunError::Memory) => Err(Fault::Memory),
         Err(RunError::WriteFault) => Err(Fault::Unwritten),
     }
 }
 
 // The numbers of a run, where they are asked for.
-fn stats_of(asked: bool, report: &RunReport, bound: usize) -> Option<Stats>
+fn stats_of(asked: bool, report: &RunReport, loaded: &Loaded) -> Option<Stats>
+    requires ready { IsReady loaded.now }
     ensures { stats_told result
-        ≡ (if asked then stats_line report.now.rows report.now.cells report.now.peak bound report.now.applied
-        else []) }
+        ≡ (if asked then told_line report.now.rows report.now.cells report.now.peak loaded.now.plan.bound
+        report.now.applied (loaded_present loaded.now) else []) }
 {
     if !asked {
         return None;
@@ -103,11 +106,12 @@ fn stats_of(asked: bool, report: &RunReport, bound: usize) -> Option<Stats>
         rows: report.rows,
         cells: report.cells,
         peak: report.peak,
-        bound,
+        bound: loaded.plan.bound(),
     };
     Some(Stats {
         numbers,
         applied: report.applied,
+        present: present_of(loaded),
     })
 }
 

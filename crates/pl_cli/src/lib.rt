@@ -11,6 +11,7 @@ mod daily;
 mod derivations;
 mod payouts;
 mod stated;
+mod stats;
 mod top;
 
 pub use top::run_program;

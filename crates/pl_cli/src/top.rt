@@ -17,10 +17,10 @@ use crate::daily::daily_command;
 use crate::derivations::verify_command;
 use crate::payouts::payouts_command;
 use crate::stated::bench_command;
+use crate::stats::write_told;
 use pl_fixed::Steps;
 use pl_judge::{Fault, write_line};
 use pl_outside::{AdjustKeeper, Shelf, Sink};
-use pl_table::write_stats;
 use pl_words::{Request, read_words};
 use std::alloc::Global;
 use std::sync::ledger::Ledger;
@@ -51,7 +51,8 @@ use std::sync::ledger::Ledger;
 ///
 /// - 0: all was read, judged and written;
 /// - 2: the words are of none of these forms;
-/// - 3: the pipeline file is not in the language, by its syntax or, but for `fmt`, by its rules;
+/// - 3: the pipeline file is not in the language, by its syntax or, but for `fmt`, by its rules; or a command
+///   that reads bars is given a pipeline with a number, and no numbers file;
 /// - 4: a record of a data file or a row of the adjustments breaks a rule; 5: the range is not one of
 ///   sessions with the bars that the columns show, or the cell is none of the table's; 6: a limit is passed;
 /// - 7: the shelf counted a fault; 8: the keeper did; 9: `out` did, and it took a prefix of the text;
@@ -59,8 +60,8 @@ use std::sync::ledger::Ledger;
 ///
 /// Every status but 0 has its line on `err`; status 0 has none but the numbers that are asked for. The first
 /// fault in the order of work decides: the words, the pipeline file, the sessions, the assets, the labels,
-/// the bars, the payouts, the adjustments, the revisions, the range or the cell, the derivation. The parts
-/// are handed back, so that a caller can run again.
+/// the numbers, the bars, the payouts, the adjustments, the revisions, the range or the cell, the derivation.
+/// The parts are handed back, so that a caller can run again.
 pub fn run_program<S: Shelf, K: AdjustKeeper, O: Sink, E: Sink, L: Ledger>(
     alloc: Global,
     words: &[String],
@@ -152,7 +153,7 @@ fn finish<E: Sink>(
     match ended {
         Ok(None) => 0,
         Ok(Some(stats)) => {
-            let _ = write_stats(err, stats.numbers, stats.applied);
+            let _ = write_told(err, stats);
             0
         }
         Err(fault) => {

@@ -7,11 +7,12 @@ use Rattle.pl_spec.specs.declared.BarRow.{BarRow}
 use Rattle.pl_spec.specs.declared.RawAdjust.{RawAdjust}
 use Rattle.pl_spec.specs.World.{World}
 use Rattle.pl_spec.specs.Table.{Pipeline}
-use Rattle.pl_spec.specs.Parts.{ColumnAdjustment, world_of}
+use Rattle.pl_spec.specs.Parts.{ColumnAdjustment, ColumnNumber, world_of}
 use Rattle.pl_records.specs.Records.{csv_records}
 use Rattle.pl_calendar.specs.Days.{sessions_of}
 use Rattle.pl_lifetimes.specs.Assets.{assets_of}
 use Rattle.pl_assets.specs.Labels.{LabelTable, no_labels, labels_of}
+use Rattle.pl_numbers.specs.Numbers.{NumberTable, numbers_of}
 use Rattle.pl_bars.specs.Bars.{bars_of}
 use Rattle.pl_payouts.specs.declared.reading.Dividend.{Dividend}
 use Rattle.pl_payouts.specs.Payouts.{payouts_of}
@@ -27,7 +28,7 @@ use Rattle.pl_syntax.specs.Said.{Said, Spelled, Faulty, said}
 use Rattle.pl_check.specs.Typed.{typed}
 use Rattle.pl_outside.specs.declared.keeper.Table.{Table}
 use Rattle.pl_outside.specs.declared.keeper.Table.TheVariants.{Splits, Mergers, Dividends}
-use Rattle.pl_words.specs.declared.request.InputFile.TheVariants.{Pipeline as PipelineFile, Sessions, Assets, Labels, Bars, Revisions, Payouts, Derivation}
+use Rattle.pl_words.specs.declared.request.InputFile.TheVariants.{Pipeline as PipelineFile, Sessions, Assets, Labels, Numbers, Bars, Revisions, Payouts, Derivation}
 use Rattle.pl_words.specs.Request.{WorldNames}
 use Rattle.pl_judge.specs.Contents.{Contents}
 
@@ -58,6 +59,12 @@ assets_in file = result_unwrap_or (assets_of (csv_records (bytes_in file))) []
 unfoldable pub labels_in : List AssetRow → Option (List ℕ) → LabelTable
 labels_in assets file = result_unwrap_or (labels_of assets (csv_records (bytes_in file))) no_labels
 
+abbrev pub no_numbers : NumberTable
+no_numbers = record { names = []; rows = [] }
+
+unfoldable pub numbers_in : List AssetRow → Option (List ℕ) → NumberTable
+numbers_in assets file = result_unwrap_or (numbers_of assets (csv_records (bytes_in file))) no_numbers
+
 unfoldable pub bars_in : List ℤ → List AssetRow → Option (List ℕ) → List BarRow
 bars_in days assets file = result_unwrap_or (bars_of days assets (csv_records (bytes_in file))) []
 
@@ -82,6 +89,10 @@ adjustments_from assets rows = result_unwrap_or (adjustments_of_rows assets rows
 abbrev pub labels_asked : List AssetRow → Option (List ℕ) → Option (List ℕ) → LabelTable
 labels_asked assets None file = no_labels
 labels_asked assets (Some name) file = labels_in assets file
+
+abbrev pub numbers_asked : List AssetRow → Option (List ℕ) → Option (List ℕ) → List ColumnNumber
+numbers_asked assets None file = []
+numbers_asked assets (Some name) file = (numbers_in assets file).rows
 
 abbrev pub adjustments_asked : List AssetRow → Option (List ℕ) → (Table → List RawAdjust) → List ColumnAdjustment
 adjustments_asked assets None rows = []
@@ -125,4 +136,5 @@ abbrev pub world_held : Contents → WorldNames → World
 world_held held q =
     let assets = assets_held held in
     let labels = labels_asked assets q.labels (held.file Labels) in
-    world_of (days_held held) assets labels.rows labels.texts (bars_held held) (adjustments_held held q) []
+    let numbers = numbers_asked assets q.numbers (held.file Numbers) in
+    world_of (days_held held) assets labels.rows labels.texts (bars_held held) (adjustments_held held q) numbers

@@ -5,6 +5,7 @@ use Rattle.pl_records.specs.Reading as reading
 use Rattle.pl_calendar.specs.Days as calendar
 use Rattle.pl_lifetimes.specs.Assets as assets
 use Rattle.pl_assets.specs.Labels as labels
+use Rattle.pl_numbers.specs.Numbers as numbers
 use Rattle.pl_bars.specs.Bars as bars
 use Rattle.pl_adjust.specs.Walk as rows
 use Rattle.pl_adjust.specs.Revisions as revisions
@@ -72,6 +73,13 @@ labels_fault line labels.BadField = Data files.Labels line BadField
 labels_fault line labels.LabelTooLong = Data files.Labels line LabelTooLong
 labels_fault line labels.UnknownSid = Data files.Labels line UnknownSid
 labels_fault line labels.DuplicateStart = Data files.Labels line DuplicateStart
+
+abbrev pub numbers_fault : ℕ → numbers.Rule → Fault
+numbers_fault line numbers.BadHeader = Data files.Numbers line BadHeader
+numbers_fault line numbers.TooMany = Passed limits.Numbers
+numbers_fault line numbers.BadField = Data files.Numbers line BadField
+numbers_fault line numbers.UnknownSid = Data files.Numbers line UnknownSid
+numbers_fault line numbers.Duplicate = Data files.Numbers line Duplicate
 
 abbrev pub bars_fault : ℕ → bars.Rule → Fault
 bars_fault line bars.BadHeader = Data files.Bars line BadHeader

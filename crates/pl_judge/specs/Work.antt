@@ -1,5 +1,5 @@
 -- The work of a command in its order, over the contents of its files and tables.
-use Rattle.std.specs.Prelude.{ℕ, ℤ, List, [], ◌∷◌, ◌++◌, length, nat_lt, if◌then◌else◌, Option, Some, None, Result, Ok, Err}
+use Rattle.std.specs.Prelude.{ℕ, ℤ, List, [], ◌∷◌, ◌++◌, length, nat_lt, if◌then◌else◌, Option, Some, None, option_map, Result, Ok, Err}
 use Rattle.pl_records.specs.Reading as reading
 use Rattle.pl_spec.specs.declared.AssetRow.{AssetRow}
 use Rattle.pl_spec.specs.declared.RawAdjust.{RawAdjust}
@@ -7,6 +7,7 @@ use Rattle.pl_records.specs.Records.{csv_records}
 use Rattle.pl_calendar.specs.Days.{sessions_of}
 use Rattle.pl_lifetimes.specs.Assets.{assets_of}
 use Rattle.pl_assets.specs.Labels.{labels_of}
+use Rattle.pl_numbers.specs.Numbers.{numbers_of}
 use Rattle.pl_bars.specs.Bars.{bars_of}
 use Rattle.pl_payouts.specs.Payouts.{payouts_of}
 use Rattle.pl_adjust.specs.Walk as rows
@@ -15,20 +16,23 @@ use Rattle.pl_derivation.specs.Lines.{Line}
 use Rattle.pl_derivation.specs.Texts.{Broken as BrokenLines, lines_in}
 use Rattle.pl_syntax.specs.Spells.{Parsed}
 use Rattle.pl_syntax.specs.Said.{Said, Spelled, Faulty, said}
+use Rattle.pl_grammar.specs.declared.Place.{Place}
 use Rattle.pl_check.specs.Faults.{Broken}
+use Rattle.pl_check.specs.Numbered.{first_number}
 use Rattle.pl_check.specs.Typed.{typed}
 use Rattle.pl_outside.specs.declared.keeper.Table.{Table}
 use Rattle.pl_outside.specs.declared.keeper.Table.TheVariants.{Splits, Mergers, Dividends}
 use Rattle.pl_words.specs.declared.request.InputFile.{InputFile}
-use Rattle.pl_words.specs.declared.request.InputFile.TheVariants.{Pipeline as PipelineFile, Sessions, Assets, Labels, Bars, Revisions, Payouts as PayoutsFile, Derivation}
+use Rattle.pl_words.specs.declared.request.InputFile.TheVariants.{Pipeline as PipelineFile, Sessions, Assets, Labels, Numbers, Bars, Revisions, Payouts as PayoutsFile, Derivation}
 use Rattle.pl_words.specs.Request.{Request, Run, Fmt, Check, Plan, Bench, Payouts, Explain, Verify, Daily, RunRequest, PlanRequest, ExplainRequest, VerifyRequest, WorldNames}
 use Rattle.pl_spec.specs.Limits.{most_pipeline_bytes, most_file_bytes}
 use Rattle.pl_judge.specs.declared.fault.Limit.{Limit}
 use Rattle.pl_judge.specs.declared.fault.Limit.TheVariants as limits
 use Rattle.pl_judge.specs.declared.fault.Fault.{Fault}
-use Rattle.pl_judge.specs.declared.fault.Fault.TheVariants.{Usage, Passed, Unread}
+use Rattle.pl_judge.specs.declared.fault.Fault.TheVariants.{Usage, Rule, Passed, Unread}
+use Rattle.pl_judge.specs.declared.fault.RuleFault.TheVariants.{NoNumbers}
 use Rattle.pl_judge.specs.Contents.{Contents}
-use Rattle.pl_judge.specs.Rules.{syntax_fault, rule_fault, sessions_fault, assets_fault, labels_fault, bars_fault, revisions_fault, payouts_fault, lines_fault, rows_fault}
+use Rattle.pl_judge.specs.Rules.{syntax_fault, rule_fault, sessions_fault, assets_fault, labels_fault, numbers_fault, bars_fault, revisions_fault, payouts_fault, lines_fault, rows_fault}
 use Rattle.pl_judge.specs.Held.{script_in, pipeline_held, days_held, assets_held, world_held, adjustments_of_rows}
 use Rattle.pl_judge.specs.Steps.{Step, rule}
 use Rattle.pl_judge.specs.Steps.Source.{Input, Load}
@@ -42,6 +46,7 @@ cap_of PipelineFile = most_pipeline_bytes
 cap_of Sessions = most_file_bytes
 cap_of Assets = most_file_bytes
 cap_of Labels = most_file_bytes
+cap_of Numbers = most_file_bytes
 cap_of Bars = most_file_bytes
 cap_of Revisions = most_file_bytes
 cap_of PayoutsFile = most_file_bytes
@@ -52,6 +57,7 @@ limit_of PipelineFile = limits.Pipeline
 limit_of Sessions = limits.File
 limit_of Assets = limits.File
 limit_of Labels = limits.File
+limit_of Numbers = limits.File
 limit_of Bars = limits.File
 limit_of Revisions = limits.File
 limit_of PayoutsFile = limits.File
@@ -94,6 +100,9 @@ assets_rule bytes = fault_in assets_fault (assets_of (csv_records bytes))
 unfoldable pub labels_rule : List AssetRow → List ℕ → Option Fault
 labels_rule assets bytes = fault_in labels_fault (labels_of assets (csv_records bytes))
 
+unfoldable pub numbers_rule : List AssetRow → List ℕ → Option Fault
+numbers_rule assets bytes = fault_in numbers_fault (numbers_of assets (csv_records bytes))
+
 unfoldable pub bars_rule : List ℤ → List AssetRow → List ℕ → Option Fault
 bars_rule days assets bytes = fault_in bars_fault (bars_of days assets (csv_records bytes))
 
@@ -126,6 +135,22 @@ syntax_step file = read_step PipelineFile syntax_rule file
 abbrev pub pipeline_steps : Option (List ℕ) → List Step
 pipeline_steps file = syntax_step file ∷ rule (script_rule (script_in file)) ∷ []
 
+-- A pipeline that mentions a number is not computed where no numbers file is named; the fault stands at the
+-- first mention.
+abbrev pub no_numbers_at : Place → Fault
+no_numbers_at place = Rule place NoNumbers
+
+abbrev pub unnumbered : Parsed → Option (List ℕ) → Option Fault
+unnumbered script None = option_map no_numbers_at (first_number script)
+unnumbered script (Some name) = None
+
+abbrev pub numbers_step : Parsed → Option (List ℕ) → Step
+numbers_step script numbers = rule (unnumbered script numbers)
+
+-- the pipeline file of a command that reads bars
+abbrev pub evaluated_steps : Option (List ℕ) → Option (List ℕ) → List Step
+evaluated_steps file numbers = pipeline_steps file ++ numbers_step (script_in file) numbers ∷ []
+
 abbrev pub sessions_step : Option (List ℕ) → Step
 sessions_step file = read_step Sessions sessions_rule file
 
@@ -133,6 +158,11 @@ sessions_step file = read_step Sessions sessions_rule file
 abbrev pub labels_steps : List AssetRow → Option (List ℕ) → Option (List ℕ) → List Step
 labels_steps assets None file = []
 labels_steps assets (Some name) file = read_step Labels (labels_rule assets) file ∷ []
+
+-- and so is a numbers file
+abbrev pub numbers_steps : List AssetRow → Option (List ℕ) → Option (List ℕ) → List Step
+numbers_steps assets None file = []
+numbers_steps assets (Some name) file = read_step Numbers (numbers_rule assets) file ∷ []
 
 abbrev pub load_step : Table → Step
 load_step table = record { reads = Some (Load table); fault = None }
@@ -153,11 +183,12 @@ abbrev pub revised_steps : List ℤ → List AssetRow → Contents → WorldName
 revised_steps days assets held q =
     adjustments_steps assets q.adjustments held.rows ++ revisions_steps days assets q.revisions (held.file Revisions)
 
--- the labels, the bars and the adjustments of a world with these sessions and assets
+-- the labels, the numbers, the bars and the adjustments of a world with these sessions and assets
 abbrev pub rows_steps : List ℤ → List AssetRow → Contents → WorldNames → List Step
 rows_steps days assets held q =
     labels_steps assets q.labels (held.file Labels)
-    ++ read_step Bars (bars_rule days assets) (held.file Bars) ∷ revised_steps days assets held q
+    ++ (numbers_steps assets q.numbers (held.file Numbers)
+    ++ read_step Bars (bars_rule days assets) (held.file Bars) ∷ revised_steps days assets held q)
 
 -- Each file is read whole and judged before the next one is begun.
 unfoldable pub data_steps : Contents → WorldNames → List Step
@@ -168,7 +199,7 @@ data_steps held q =
 -- first the pipeline file, then the data, and then the range
 abbrev pub run_steps : Contents → RunRequest → List Step
 run_steps held q =
-    pipeline_steps (held.file PipelineFile)
+    evaluated_steps (held.file PipelineFile) q.world.numbers
     ++ (data_steps held q.world ++ range_steps (pipeline_held held) (days_held held) q.from q.to q.options.as_of)
 
 abbrev pub derivation_step : Option (List ℕ) → Step
@@ -177,7 +208,7 @@ derivation_step file = read_step Derivation lines_rule file
 -- the pipeline file, the data, and then the cell
 abbrev pub cell_work : Contents → ExplainRequest → List Step
 cell_work held q =
-    pipeline_steps (held.file PipelineFile)
+    evaluated_steps (held.file PipelineFile) q.world.numbers
     ++ (data_steps held q.world ++ cell_steps (pipeline_held held) (days_held held) (assets_held held) q)
 
 -- ... and how long its derivation is
@@ -187,7 +218,8 @@ explain_steps held q = cell_work held q ++ lines_step (world_held held q.world) 
 -- the pipeline file, the data, and then the derivation
 abbrev pub verify_steps : Contents → VerifyRequest → List Step
 verify_steps held q =
-    pipeline_steps (held.file PipelineFile) ++ (data_steps held q.world ++ derivation_step (held.file Derivation) ∷ [])
+    evaluated_steps (held.file PipelineFile) q.world.numbers
+    ++ (data_steps held q.world ++ derivation_step (held.file Derivation) ∷ [])
 
 -- the pipeline file, the sessions, and the range
 abbrev pub planning_steps : Contents → PlanRequest → List Step

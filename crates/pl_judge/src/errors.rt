@@ -2,7 +2,7 @@
 
 ghost use Rattle.std.specs.Prelude.{◌≡◌};
 ghost use Rattle.pl_judge.specs.Stages.{Tells};
-ghost use Rattle.pl_judge.specs.Rules.{told_at, told, sessions_fault, assets_fault, labels_fault, bars_fault, revisions_fault, payouts_fault, rows_fault, syntax_error, rule_fault, check_error, plan_error, lines_error, explain_error};
+ghost use Rattle.pl_judge.specs.Rules.{told_at, told, sessions_fault, assets_fault, labels_fault, numbers_fault, bars_fault, revisions_fault, payouts_fault, rows_fault, syntax_error, rule_fault, check_error, plan_error, lines_error, explain_error};
 
 use crate::{DataFault, Fault, Limit, RowFault, RuleFault, SyntaxFault};
 use pl_adjust::{AdjustError, RevisionsError};
@@ -12,6 +12,7 @@ use pl_calendar::CalendarError;
 use pl_check::{CheckError, CheckFault};
 use pl_derivation::{ExplainError, LinesError};
 use pl_fixed::Memory;
+use pl_numbers::NumbersError;
 use pl_payouts::PayoutsError;
 use pl_planner::PlanError;
 use pl_syntax::{Place, SyntaxError};
@@ -115,6 +116,24 @@ impl From<LabelsError> for Fault {
             LabelsError::DuplicateStart { line } => faulty(file, line, DataFault::DuplicateStart),
             LabelsError::TooMany { .. } => Fault::Passed(Limit::Labels),
             LabelsError::Memory => Fault::Memory,
+        }
+    }
+}
+
+impl From<NumbersError> for Fault {
+    ghost use Rattle.pl_numbers.specs.NumberFaults as numbers;
+
+    ghost from_gives = { λ error fault. Tells fault (told_at numbers_fault (numbers.fault_of error)) };
+
+    fn from(error: NumbersError) -> Fault {
+        let file = InputFile::Numbers;
+        match error {
+            NumbersError::BadHeader => faulty(file, 1, DataFault::BadHeader),
+            NumbersError::BadField { line } => faulty(file, line, DataFault::BadField),
+            NumbersError::UnknownSid { line } => faulty(file, line, DataFault::UnknownSid),
+            NumbersError::Duplicate { line } => faulty(file, line, DataFault::Duplicate),
+            NumbersError::TooMany { .. } => Fault::Passed(Limit::Numbers),
+            NumbersError::Memory => Fault::Memory,
         }
     }
 }
@@ -261,7 +280,7 @@ fn broken(place: Place, fault: CheckFault) -> Fault
     }
 }
 
-fn ruled(place: Place, fault: RuleFault) -> Fault
+pub(crate) fn ruled(place: Place, fault: RuleFault) -> Fault
     ensures { result ≡ Fault.Rule place fault }
 {
     Fault::Rule { place, fault }

@@ -21,6 +21,7 @@ pub enum Limit {
     Sessions,
     Assets,
     Labels,
+    Numbers,
     Bars,
     Adjustments,
     Revisions,
@@ -41,7 +42,8 @@ pub enum SyntaxFault {
     LongStatement,
 }
 
-/// The rule that the script of a pipeline file breaks; `CheckFault` of pl_check says where each comes.
+/// The rule that the script of a pipeline file breaks; `CheckFault` of pl_check says where each comes, but for
+/// the last.
 #[derive(Clone, Copy, Debug, PartialEq, Eq)]
 pub enum RuleFault {
     UnknownName,
@@ -51,6 +53,8 @@ pub enum RuleFault {
     BadWindow,
     NotWindowSafe,
     NoColumn,
+    /// A number is mentioned, first at this place, and no numbers file is named.
+    NoNumbers,
 }
 
 /// The rule that a record of a data file breaks, or a line of a derivation; docs/FILES.md says of each file
@@ -85,7 +89,7 @@ pub enum DataFault {
     NotPositive,
     /// The revision is not known later than on the day of its bar.
     TooSoon,
-    /// An earlier record is of the same bar, or of the same cell and known day.
+    /// An earlier record is of the same bar, or of the same cell or number and known day.
     Duplicate,
     /// The line is none of a derivation's.
     BadLine,
@@ -206,6 +210,7 @@ impl RuleFault {
             RuleFault::BadWindow => "BadWindow",
             RuleFault::NotWindowSafe => "NotWindowSafe",
             RuleFault::NoColumn => "NoColumn",
+            RuleFault::NoNumbers => "NoNumbers",
         }
     }
 }
@@ -261,6 +266,7 @@ impl Limit {
             Limit::Sessions => "sessions",
             Limit::Assets => "assets",
             Limit::Labels => "labels",
+            Limit::Numbers => "numbers",
             Limit::Bars => "bars",
             Limit::Adjustments => "adjustments",
             Limit::Revisions => "revisions",

@@ -11,10 +11,12 @@ mod errors;
 mod fault;
 mod limits;
 mod line;
+mod numbered;
 mod range;
 
 pub use cell::{CellPlace, judge_cell};
 pub use fault::{DataFault, Fault, Limit, RowFault, RuleFault, SyntaxFault};
 pub use limits::{FILE_CAP, PIPELINE_CAP, cap_of, limit_of};
 pub use line::write_line;
+pub use numbered::judge_numbers;
 pub use range::{Range, judge_dates, judge_plan};

@@ -22,6 +22,7 @@ pub fn cap_of(file: InputFile) -> usize
         InputFile::Sessions
         | InputFile::Assets
         | InputFile::Labels
+        | InputFile::Numbers
         | InputFile::Bars
         | InputFile::Revisions
         | InputFile::Payouts
@@ -38,6 +39,7 @@ pub fn limit_of(file: InputFile) -> Limit
         InputFile::Sessions
         | InputFile::Assets
         | InputFile::Labels
+        | InputFile::Numbers
         | InputFile::Bars
         | InputFile::Revisions
         | InputFile::Payouts

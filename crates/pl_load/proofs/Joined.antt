@@ -8,7 +8,7 @@ use Rattle.pl_outside.specs.Files.{Files, BeginsAll}
 use Rattle.pl_outside.specs.Lists.{Lists}
 use Rattle.pl_outside.specs.declared.keeper.Table.{Table}
 use Rattle.pl_words.specs.declared.request.InputFile.{InputFile}
-use Rattle.pl_words.specs.declared.request.InputFile.TheVariants.{Pipeline, Sessions, Assets, Labels, Bars, Revisions, Payouts, Derivation}
+use Rattle.pl_words.specs.declared.request.InputFile.TheVariants.{Pipeline, Sessions, Assets, Labels, Numbers, Bars, Revisions, Payouts, Derivation}
 use Rattle.pl_words.specs.Request.{Request, name_asked, adjustments_of}
 use Rattle.pl_judge.specs.declared.fault.Fault.{Fault}
 use Rattle.pl_judge.specs.declared.fault.Fault.TheVariants.{Memory}
@@ -17,7 +17,7 @@ use Rattle.pl_judge.specs.Steps.{Source, Step, reads_in, names_read, tables_read
 use Rattle.pl_judge.specs.Steps.Source.{Input}
 use Rattle.pl_judge.specs.Stages.{StageEnds, IsRisen}
 use Rattle.pl_judge.specs.Held.{script_in}
-use Rattle.pl_judge.specs.Work.{read_step, script_rule, syntax_step, pipeline_steps, labels_steps, revisions_steps}
+use Rattle.pl_judge.specs.Work.{read_step, script_rule, syntax_step, pipeline_steps, evaluated_steps, numbers_step, labels_steps, numbers_steps, revisions_steps}
 use Rattle.pl_judge.proofs.Steps.{stage-stops, stage-goes_on, stage-done, stage-weaker, stage-over, always}
 use Rattle.pl_judge.proofs.StepsRead.{read-stops, read-goes_on, read-all, read-over, front-none, one-read, names-append, tables-append}
 use Rattle.pl_load.specs.Reads.{IsRead, AreLoaded}
@@ -61,6 +61,7 @@ is_file Pipeline Pipeline = true
 is_file Sessions Sessions = true
 is_file Assets Assets = true
 is_file Labels Labels = true
+is_file Numbers Numbers = true
 is_file Bars Bars = true
 is_file Revisions Revisions = true
 is_file Payouts Payouts = true
@@ -72,6 +73,7 @@ itself Pipeline = refl
 itself Sessions = refl
 itself Assets = refl
 itself Labels = refl
+itself Numbers = refl
 itself Bars = refl
 itself Revisions = refl
 itself Payouts = refl
@@ -83,6 +85,7 @@ by-file P Pipeline x y p q Pipeline = p
 by-file P Sessions x y p q Sessions = p
 by-file P Assets x y p q Assets = p
 by-file P Labels x y p q Labels = p
+by-file P Numbers x y p q Numbers = p
 by-file P Bars x y p q Bars = p
 by-file P Revisions x y p q Revisions = p
 by-file P Payouts x y p q Payouts = p
@@ -321,9 +324,17 @@ file-one f rule x = one-read (read_step f rule x) (Input f) [] refl tt
 pub pipeline-one : (x : Option (List ℕ)) → reads_in (pipeline_steps x) ≡ Input Pipeline ∷ []
 pipeline-one x = one-read (syntax_step x) (Input Pipeline) (rule (script_rule (script_in x)) ∷ []) refl (refl, tt)
 
+pub evaluated-one : (numbers : Option (List ℕ)) (x : Option (List ℕ)) → reads_in (evaluated_steps x numbers) ≡ Input Pipeline ∷ []
+evaluated-one numbers x =
+    one-read (syntax_step x) (Input Pipeline) (rule (script_rule (script_in x)) ∷ numbers_step (script_in x) numbers ∷ []) refl (refl, refl, tt)
+
 pub labels-one : (assets : List AssetRow) (name x : Option (List ℕ)) → reads_in (labels_steps assets name x) ≡ inputs Labels name
 labels-one assets None x = refl
 labels-one assets (Some n) x = file-one Labels _ x
+
+pub numbers-one : (assets : List AssetRow) (name x : Option (List ℕ)) → reads_in (numbers_steps assets name x) ≡ inputs Numbers name
+numbers-one assets None x = refl
+numbers-one assets (Some n) x = file-one Numbers _ x
 
 pub revisions-one : (days : List ℤ) (assets : List AssetRow) (name x : Option (List ℕ)) → reads_in (revisions_steps days assets name x) ≡ inputs Revisions name
 revisions-one days assets None x = refl

@@ -1,5 +1,5 @@
 -- The pipeline file that was read, and its rules.
-use Rattle.std.proofs.Common.{◌≡◌, ◌⊎◌, inl, inr, ◌≤◌, ℕ, List, [], ◌∷◌, Bool, length, Option, Some, Ok, Err, refl, arith}
+use Rattle.std.proofs.Common.{◌≡◌, ◌⊎◌, inl, inr, ◌≤◌, ℕ, List, [], ◌∷◌, ◌++◌, Bool, true, length, Option, Some, Result, Ok, Err, refl, sym, ap, arith}
 use Rattle.pl_grammar.specs.Faults as syntax
 use Rattle.pl_syntax.specs.declared.error.SyntaxError.{SyntaxError}
 use Rattle.pl_syntax.specs.declared.error.SyntaxError.TheVariants as errors
@@ -16,10 +16,10 @@ use Rattle.pl_judge.specs.declared.fault.Fault.{Fault}
 use Rattle.pl_judge.specs.declared.fault.Fault.TheVariants.{Memory}
 use Rattle.pl_judge.specs.Rules.{syntax_error, check_error}
 use Rattle.pl_judge.specs.Held.{script_in, pipeline_in}
-use Rattle.pl_judge.specs.Work.{syntax_rule, script_rule, syntax_step, pipeline_steps}
-use Rattle.pl_judge.specs.Steps.{rule}
+use Rattle.pl_judge.specs.Work.{syntax_rule, script_rule, syntax_step, pipeline_steps, evaluated_steps, numbers_step}
+use Rattle.pl_judge.specs.Steps.{Step, rule}
 use Rattle.pl_judge.specs.Stages.{StageEnds, IsRisen}
-use Rattle.pl_judge.proofs.Steps.{stage-goes_on, stage-stops, risen-inside}
+use Rattle.pl_judge.proofs.Steps.{always, stage-done, stage-goes_on, stage-over, stage-stops, stage-weaker, risen-inside}
 use Rattle.pl_load.specs.Reads.{IsRead}
 use Rattle.pl_load.specs.Views.{ShelfView, Change}
 
@@ -84,9 +84,56 @@ no-pipeline {script = script} said Means e fault h fails is inside =
       left = h.left;
     })
 
--- the file was not read, or holds no script
-pub no-script : {S T : Type 0} {c : Change ShelfView} {name : Option (List ℕ)} {fault : Fault} (Said : Option (List ℕ) → S → Type 0) (Means : Option (List ℕ) → T → Type 0)
-    → IsRead {T = S} c name (λ held. syntax_step held ∷ []) Said (Err fault)
-    → IsRead c name pipeline_steps Means (Err fault)
-no-script Said Means h =
-    record { file = h.file; is_told = h.is_told; ends = stage-stops _ h.ends; means = tt; begun = h.begun; risen = h.risen; left = h.left }
+-- what stops some steps stops them with more
+pub stopped-before : {S T : Type 0} {c : Change ShelfView} {name : Option (List ℕ)} {fault : Fault} {first steps : Option (List ℕ) → List Step} {First : Option (List ℕ) → S → Type 0}
+    {Means : Option (List ℕ) → T → Type 0} → IsRead c name first First (Err fault) → (more : Option (List ℕ) → List Step) → ((x : Option (List ℕ)) → steps x ≡ first x ++ more x)
+    → IsRead c name steps Means (Err fault)
+stopped-before h more same =
+    record {
+      file = h.file;
+      is_told = h.is_told;
+      ends = stage-over (sym (same h.file)) (stage-stops (more h.file) h.ends);
+      means = tt;
+      begun = h.begun;
+      risen = h.risen;
+      left = h.left;
+    }
+
+-- ---- the numbers of a script
+
+numbers-over : {T : Type 0} {s k : Bool} {r : Result T Fault} (held script : Parsed) (asked : Option (List ℕ)) → held ≡ script
+    → StageEnds s k (numbers_step script asked ∷ []) r → StageEnds s k (numbers_step held asked ∷ []) r
+numbers-over held script asked e h = stage-over (ap (λ (x : Parsed). numbers_step x asked ∷ []) (sym e)) h
+
+pub evaluated-read : {S T U : Type 0} {c : Change ShelfView} {name : Option (List ℕ)} {script : S} {u : U} (said : S → Parsed) (means : T → Pipeline) (asked : Option (List ℕ)) (x : T)
+    → IsRead c name (λ held. syntax_step held ∷ []) (λ held y. script_in held ≡ said y) (Ok script) → typed (said script) ≡ Ok (means x)
+    → StageEnds true true (numbers_step (said script) asked ∷ []) (Ok u)
+    → IsRead c name (λ held. evaluated_steps held asked) (λ held y. pipeline_in held ≡ means y) (Ok x)
+evaluated-read {c = c} {script = script} said means asked x h e judged =
+    record {
+      file = h.file;
+      is_told = h.is_told;
+      ends = stage-goes_on (stage-goes_on h.ends (rules-pass {s = c.before.sound} {k = true} (script_in h.file) (said script) (means x) x h.means e))
+          (stage-done {y = x} (numbers-over (script_in h.file) (said script) asked h.means judged));
+      means = pipeline-in h.file (said script) (means x) h.means e;
+      begun = h.begun;
+      risen = tt;
+      left = h.left;
+    }
+
+pub no-numbers : {S T U V : Type 0} {c : Change ShelfView} {name : Option (List ℕ)} {script : S} (said : S → Parsed) (means : V → Pipeline) (Means : Option (List ℕ) → T → Type 0)
+    (asked : Option (List ℕ)) (x : V) (fault : Fault)
+    → IsRead c name (λ held. syntax_step held ∷ []) (λ held y. script_in held ≡ said y) (Ok script) → typed (said script) ≡ Ok (means x)
+    → StageEnds {T = U} true true (numbers_step (said script) asked ∷ []) (Err fault) → IsRisen ⊥ ⊥ fault
+    → IsRead c name (λ held. evaluated_steps held asked) Means (Err fault)
+no-numbers {c = c} {script = script} said means Means asked x fault h e judged inside =
+    record {
+      file = h.file;
+      is_told = h.is_told;
+      ends = stage-goes_on (stage-goes_on h.ends (rules-pass {s = c.before.sound} {k = true} (script_in h.file) (said script) (means x) x h.means e))
+          (stage-weaker always (λ t. t) (numbers-over (script_in h.file) (said script) asked h.means judged));
+      means = tt;
+      begun = h.begun;
+      risen = risen-inside _ _ fault inside;
+      left = h.left;
+    }

@@ -15,7 +15,7 @@ use Rattle.pl_judge.specs.Planning.{HasRows}
 use Rattle.pl_judge.specs.Cells.{cell_steps}
 use Rattle.pl_judge.specs.Range.{dates_steps, plan_steps, range_steps, index_of}
 use Rattle.pl_judge.specs.Steps.{Step}
-use Rattle.pl_judge.specs.Work.{read_step, sessions_step, bars_rule, assets_rule, payouts_rule, derivation_step, pipeline_steps, revised_steps, rows_steps, data_steps, run_steps, planning_steps, payouts_steps, cell_work, verify_steps}
+use Rattle.pl_judge.specs.Work.{read_step, sessions_step, bars_rule, assets_rule, payouts_rule, derivation_step, pipeline_steps, evaluated_steps, numbers_steps, revised_steps, rows_steps, data_steps, run_steps, planning_steps, payouts_steps, cell_work, verify_steps}
 use Rattle.pl_load.specs.Loads.{IsWorldHeld}
 use Rattle.pl_load.specs.Parts.{world_steps, plan_steps_for}
 use Rattle.pl_load.proofs.Joined.{joint, is_file}
@@ -42,9 +42,12 @@ pub assets-first : (q : WorldNames) (days : List ℤ) (assets : List AssetRow) (
     → after_days q days (joint (is_file file.Assets) false f r) ≡ read_step file.Assets assets_rule (f.file file.Assets) ∷ rows_steps days assets r q
 assets-first q days assets f r m = ap (λ a. read_step file.Assets assets_rule (f.file file.Assets) ∷ rows_steps days a r q) m
 
--- after the labels
+-- after the numbers, and after the labels
+abbrev pub after_numbers : WorldNames → List ℤ → List AssetRow → Contents → List Step
+after_numbers q days assets held = read_step file.Bars (bars_rule days assets) (held.file file.Bars) ∷ revised_steps days assets held q
+
 abbrev pub after_labels : WorldNames → List ℤ → List AssetRow → Contents → List Step
-after_labels q days assets held = read_step file.Bars (bars_rule days assets) (held.file file.Bars) ∷ revised_steps days assets held q
+after_labels q days assets held = numbers_steps assets q.numbers (held.file file.Numbers) ++ after_numbers q days assets held
 
 -- ---- a range
 
@@ -55,9 +58,9 @@ range-is p days from to as_of a b e f = ap₂ (λ x y. dates_steps from to as_of
 -- ---- a run and a plan
 
 pub run-first : (q : RunRequest) (p : Pipeline) (f r : Contents) → pipeline_in (f.file file.Pipeline) ≡ p
-    → run_steps (joint (is_file file.Pipeline) false f r) q ≡ pipeline_steps (f.file file.Pipeline) ++ world_steps q p r
+    → run_steps (joint (is_file file.Pipeline) false f r) q ≡ evaluated_steps (f.file file.Pipeline) q.world.numbers ++ world_steps q p r
 unfolding data_steps
-run-first q p f r m = ap (λ x. pipeline_steps (f.file file.Pipeline) ++ world_steps q x r) m
+run-first q p f r m = ap (λ x. evaluated_steps (f.file file.Pipeline) q.world.numbers ++ world_steps q x r) m
 
 pub world-first : (q : RunRequest) (p : Pipeline) (w : OwnedWorld) (f r : Contents) → IsWorldHeld q.world f w
     → world_steps q p (joint whole true f r) ≡ data_steps f q.world ++ range_steps p w.sessions q.from q.to q.options.as_of
@@ -89,9 +92,9 @@ abbrev pub cell_rest : ExplainRequest → Pipeline → Contents → List Step
 cell_rest q p held = data_steps held q.world ++ cell_steps p (days_held held) (assets_held held) q
 
 pub cell-first : (q : ExplainRequest) (p : Pipeline) (f r : Contents) → pipeline_in (f.file file.Pipeline) ≡ p
-    → cell_work (joint (is_file file.Pipeline) false f r) q ≡ pipeline_steps (f.file file.Pipeline) ++ cell_rest q p r
+    → cell_work (joint (is_file file.Pipeline) false f r) q ≡ evaluated_steps (f.file file.Pipeline) q.world.numbers ++ cell_rest q p r
 unfolding data_steps
-cell-first q p f r m = ap (λ x. pipeline_steps (f.file file.Pipeline) ++ cell_rest q x r) m
+cell-first q p f r m = ap (λ x. evaluated_steps (f.file file.Pipeline) q.world.numbers ++ cell_rest q x r) m
 
 pub cell-world : (q : ExplainRequest) (p : Pipeline) (w : OwnedWorld) (f r : Contents) → IsWorldHeld q.world f w
     → cell_rest q p (joint whole true f r) ≡ data_steps f q.world ++ cell_steps p w.sessions w.assets q
@@ -103,7 +106,7 @@ abbrev pub verify_rest : VerifyRequest → Contents → List Step
 verify_rest q held = data_steps held q.world ++ derivation_step (held.file file.Derivation) ∷ []
 
 pub verify-first : (q : VerifyRequest) (f r : Contents)
-    → verify_steps (joint (is_file file.Pipeline) false f r) q ≡ pipeline_steps (f.file file.Pipeline) ++ verify_rest q r
+    → verify_steps (joint (is_file file.Pipeline) false f r) q ≡ evaluated_steps (f.file file.Pipeline) q.world.numbers ++ verify_rest q r
 unfolding data_steps
 verify-first q f r = refl
 

@@ -7,11 +7,11 @@ use Rattle.pl_spec.specs.Table.{Pipeline}
 use Rattle.pl_planner.specs.Plans.{Planned, IsPlanOf}
 use Rattle.pl_world.specs.Known.{ShowsSame}
 use Rattle.pl_world.specs.Worlds.{owned_world}
-use Rattle.pl_words.specs.declared.request.InputFile.TheVariants.{Sessions, Labels, Bars, Revisions}
+use Rattle.pl_words.specs.declared.request.InputFile.TheVariants.{Sessions, Labels, Numbers, Bars, Revisions}
 use Rattle.pl_words.specs.Request.{Request, PlanRequest, RunRequest, WorldNames, Run, Plan}
 use Rattle.pl_judge.specs.declared.fault.Fault.{Fault}
 use Rattle.pl_judge.specs.Contents.{Contents}
-use Rattle.pl_judge.specs.Held.{days_held, world_held, labels_asked, bars_in, adjustments_asked, revised_asked}
+use Rattle.pl_judge.specs.Held.{days_held, world_held, labels_asked, numbers_asked, bars_in, adjustments_asked, revised_asked}
 use Rattle.pl_judge.specs.Known.{world_known}
 use Rattle.pl_judge.specs.Planning.{HasRows}
 use Rattle.pl_judge.specs.Range.{index_of, range_steps}
@@ -33,9 +33,10 @@ IsRevisedLoad shelf keeper q days assets result =
     (asked : Option Request) → AsksWorld asked q
     → IsLoadOf shelf keeper asked (λ held. revised_steps days assets held q) (AreRevised q days assets) result
 
--- the labels, the bars and the adjustments
+-- the labels, the numbers, the bars and the adjustments
 pub record AreRows (q : WorldNames) (days : List ℤ) (assets : List AssetRow) (held : Contents) (r : WorldRows) : Type 0 where
   pub labels : labels_asked assets q.labels (held.file Labels) ≡ r.labels
+  pub numbers : numbers_asked assets q.numbers (held.file Numbers) ≡ r.numbers.rows
   pub bars : bars_in days assets (held.file Bars) ≡ r.bars
   pub adjustments : AreRevised q days assets held r.adjustments
 

@@ -5,7 +5,7 @@ ghost use Rattle.pl_words.specs.Views.{explain_of};
 ghost use Rattle.pl_load.specs.Views.{shelf_change, keeper_change};
 ghost use Rattle.pl_load.specs.Celled.{IsCellLoad, IsExplainable};
 
-use crate::inputs::read_checked;
+use crate::inputs::read_evaluated;
 use crate::loading::read_world;
 use pl_judge::{CellPlace, Fault, judge_cell};
 use pl_outside::{AdjustKeeper, Shelf};
@@ -45,7 +45,7 @@ pub fn load_cell<S: Shelf, K: AdjustKeeper>(
         (explain_of request.now) result }
     ensures explainable { IfOk result IsExplainable }
 {
-    let checked = read_checked(alloc, shelf, request.pipeline)?;
+    let checked = read_evaluated(alloc, shelf, request.pipeline, request.world.numbers)?;
     let world = read_world(alloc, &request.world, shelf, keeper)?;
     let cell = judge_cell(alloc, request, &checked, &world.sessions, &world.assets)?;
     Ok(LoadedCell {

@@ -6,7 +6,7 @@ ghost use Rattle.pl_world.specs.Worlds.{IsOwned};
 ghost use Rattle.pl_load.specs.Views.{shelf_change, keeper_change};
 ghost use Rattle.pl_load.specs.Derived.{IsDerivationLoad};
 
-use crate::inputs::{read_checked, read_derivation};
+use crate::inputs::{read_derivation, read_evaluated};
 use crate::loading::read_world;
 use pl_derivation::Derivation;
 use pl_judge::Fault;
@@ -48,7 +48,7 @@ pub fn load_derivation<S: Shelf, K: AdjustKeeper>(
         (verify_of request.now) result }
     ensures made { IfOk result (λ l. IsOwned l.world) }
 {
-    let checked = read_checked(alloc, shelf, request.pipeline)?;
+    let checked = read_evaluated(alloc, shelf, request.pipeline, request.world.numbers)?;
     let world = read_world(alloc, &request.world, shelf, keeper)?;
     let derivation = read_derivation(alloc, shelf, request.derivation)?;
     Ok(LoadedDerivation {

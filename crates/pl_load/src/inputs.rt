@@ -5,8 +5,8 @@ ghost use Rattle.pl_payouts.specs.Payouts.{AreKnown};
 ghost use Rattle.pl_syntax.specs.Scripts.{parsed};
 ghost use Rattle.pl_terms.specs.Checked.{pipeline_of};
 ghost use Rattle.pl_words.specs.declared.request.InputFile.TheVariants as files;
-ghost use Rattle.pl_judge.specs.Held.{script_in, pipeline_in, days_in, assets_in, labels_asked, bars_in, revised_asked, payouts_in, derivation_in};
-ghost use Rattle.pl_judge.specs.Work.{cap_of, read_step, syntax_step, pipeline_steps, sessions_rule, assets_rule, labels_steps, bars_rule, revisions_steps, payouts_rule, derivation_step};
+ghost use Rattle.pl_judge.specs.Held.{script_in, pipeline_in, days_in, assets_in, labels_asked, numbers_asked, bars_in, revised_asked, payouts_in, derivation_in};
+ghost use Rattle.pl_judge.specs.Work.{cap_of, read_step, syntax_step, pipeline_steps, evaluated_steps, sessions_rule, assets_rule, labels_steps, numbers_steps, bars_rule, revisions_steps, payouts_rule, derivation_step};
 ghost use Rattle.pl_load.specs.Views.{shelf_change};
 ghost use Rattle.pl_load.specs.Reads.{IsRead, no_rule};
 
@@ -16,7 +16,8 @@ use pl_bars::Bars;
 use pl_calendar::Sessions;
 use pl_check::check;
 use pl_derivation::{Derivation, read_lines};
-use pl_judge::{Fault, cap_of, limit_of};
+use pl_judge::{Fault, cap_of, judge_numbers, limit_of};
+use pl_numbers::Numbers;
 use pl_outside::{ReadError, Shelf, read_file};
 use pl_payouts::Payouts;
 use pl_syntax::{Script, parse};
@@ -68,6 +69,25 @@ pub fn read_checked<S: Shelf>(alloc: Global, shelf: &mut S, name: &str) -> Resul
     Ok(check(alloc, &script)?)
 }
 
+/// The same for a command that reads bars, and the numbers file of the other name where one is given. The
+/// fault is also that the pipeline has a number, and no numbers file is named.
+pub fn read_evaluated<S: Shelf>(
+    alloc: Global,
+    shelf: &mut S,
+    name: &str,
+    numbers: Option<&str>,
+) -> Result<Checked, Fault>
+    ensures { let asked = option_map (λ n. n.now) numbers.entry in
+        IsRead (shelf_change S.holds S.begun S.sound S.faults shelf.old shelf.new)
+        (Some name.now) (λ held. evaluated_steps held asked)
+        (λ held checked. pipeline_in held ≡ pipeline_of checked) result }
+{
+    let script = read_script(alloc, shelf, name)?;
+    let checked = check(alloc, &script)?;
+    judge_numbers(&script, numbers)?;
+    Ok(checked)
+}
+
 /// The sessions of the sessions file of that name. The fault is that the shelf refused it, it is too long, or
 /// it has a faulty record; or want of memory. So it is with each further file.
 pub fn read_sessions<S: Shelf>(alloc: Global, shelf: &mut S, name: &str) -> Result<Sessions, Fault>
@@ -110,6 +130,29 @@ pub fn read_labels<S: Shelf>(
         Some(name) => {
             let bytes = read_input(alloc, shelf, name, InputFile::Labels)?;
             Ok(Labels::read(alloc, &bytes, assets)?)
+        }
+    }
+}
+
+/// The numbers of the numbers file of that name, for these assets; no numbers where no name is given, and
+/// then nothing is read.
+pub fn read_numbers<S: Shelf>(
+    alloc: Global,
+    shelf: &mut S,
+    name: Option<&str>,
+    assets: &Assets,
+) -> Result<Numbers, Fault>
+    ensures read { let asked = option_map (λ n. n.now) name.entry in
+        IsRead (shelf_change S.holds S.begun S.sound S.faults shelf.old shelf.new)
+        asked (numbers_steps assets.now asked)
+        (λ held numbers. numbers_asked assets.now asked held ≡ numbers.rows) result }
+    ensures cols { IfOk result (λ numbers. All (λ r. r.col < length assets.now) numbers.rows) }
+{
+    match name {
+        None => Ok(Numbers::none(alloc)),
+        Some(name) => {
+            let bytes = read_input(alloc, shelf, name, InputFile::Numbers)?;
+            Ok(Numbers::read(alloc, &bytes, assets)?)
         }
     }
 }

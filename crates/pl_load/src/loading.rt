@@ -11,7 +11,8 @@ ghost use Rattle.pl_load.specs.Parts.{IsWorldLoad, IsRowsLoad, IsRevisedLoad};
 ghost use Rattle.pl_load.specs.Loads.{IsData, IsKnown, IsLoad, IsReady};
 
 use crate::inputs::{
-    read_assets, read_bars, read_checked, read_labels, read_revisions, read_sessions,
+    read_assets, read_bars, read_evaluated, read_labels, read_numbers, read_revisions,
+    read_sessions,
 };
 use crate::tables::read_adjustments;
 use pl_adjust::Adjustments;
@@ -57,13 +58,14 @@ pub(crate) struct PlannedWorld {
 #[derive(Drop)]
 pub(crate) struct WorldRows {
     pub(crate) labels: Labels,
+    pub(crate) numbers: Numbers,
     pub(crate) bars: Bars,
     pub(crate) adjustments: Adjustments,
 }
 
 /// Reads and judges all that a run asks for, each file whole before the next one: the pipeline file, the
-/// sessions, assets, labels, bars, adjustments and revisions, and then the range. Labels, adjustments and
-/// revisions are read only where they are asked for. The fault is the first one in this order, or want of
+/// sessions, assets, labels, numbers, bars, adjustments and revisions, and then the range. Labels, numbers,
+/// adjustments and revisions are read only where they are asked for. The fault is the first one in this order, or want of
 /// memory.
 pub fn load<S: Shelf, K: AdjustKeeper>(
     alloc: Global,
@@ -76,7 +78,7 @@ pub fn load<S: Shelf, K: AdjustKeeper>(
         (run_of request.now) result }
     ensures ready { IfOk result IsReady }
 {
-    let checked = read_checked(alloc, shelf, request.pipeline)?;
+    let checked = read_evaluated(alloc, shelf, request.pipeline, request.world.numbers)?;
     let planned = load_world(alloc, request, &checked, shelf, keeper)?;
     let PlannedWorld { world, plan } = planned;
     Ok(Loaded {
@@ -147,10 +149,10 @@ pub(crate) fn read_world<S: Shelf, K: AdjustKeeper>(
     let rows = read_rows(alloc, names, &sessions, &assets, shelf, keeper)?;
     let WorldRows {
         labels,
+        numbers,
         bars,
         adjustments,
     } = rows;
-    let numbers = Numbers::none(alloc);
     Ok(OwnedWorld {
         sessions,
         assets,
@@ -174,19 +176,21 @@ fn read_rows<S: Shelf, K: AdjustKeeper>(
         (keeper_change K.lists K.sound K.faults K.calls keeper.old keeper.new)
         (world_names_of names.now) sessions.now assets.now result }
     ensures made { IfOk result (λ r.
-        AreMadeFor sessions.now assets.now r.labels.rows r.bars r.adjustments []) }
+        AreMadeFor sessions.now assets.now r.labels.rows r.bars r.adjustments r.numbers.rows) }
 {
     let labels = read_labels(alloc, shelf, names.labels, assets)?;
+    let numbers = read_numbers(alloc, shelf, names.numbers, assets)?;
     let bars = read_bars(alloc, shelf, names.bars, sessions, assets)?;
     let adjustments = read_revised(alloc, names, sessions, assets, shelf, keeper)?;
     Ok(WorldRows {
         labels,
+        numbers,
         bars,
         adjustments,
     })
 }
 
-// The adjustments of the world of these names with their revisions, after the labels and the bars.
+// The adjustments of the world of these names with their revisions, after the labels, numbers and bars.
 fn read_revised<S: Shelf, K: AdjustKeeper>(
     alloc: Global,
     names: &WorldNames<'_>,

@@ -15,12 +15,13 @@ names = codes "p.pl" ∷ codes "sessions.csv" ∷ codes "assets.csv" ∷ codes "
 abbrev dates : List Word
 dates = codes "2024-01-03" ∷ codes "2024-01-04" ∷ []
 
-abbrev over : Option Word → Option Word → Option Word → WorldNames
-over labels adjustments revisions = record {
+abbrev over : Option Word → Option Word → Option Word → Option Word → WorldNames
+over labels numbers adjustments revisions = record {
   sessions = codes "sessions.csv";
   assets = codes "assets.csv";
   bars = codes "bars.csv";
   labels = labels;
+  numbers = numbers;
   adjustments = adjustments;
   revisions = revisions;
 }
@@ -34,17 +35,17 @@ table world chunk format stats = record {
   options = record { chunk = chunk; format = format; stats = stats; as_of = None };
 }
 
-abbrev asks : Option Word → Option Word → Option Word → ℕ → Format → Bool → Option Request
-asks labels adjustments revisions chunk format stats = Some (Run (table (over labels adjustments revisions) chunk format stats))
+abbrev asks : Option Word → Option Word → Option Word → Option Word → ℕ → Format → Bool → Option Request
+asks labels numbers adjustments revisions chunk format stats = Some (Run (table (over labels numbers adjustments revisions) chunk format stats))
 
 abbrev by_days : WorldNames → Format → Option Request
 by_days world format = Some (Daily (table world 126 format false))
 
-no_options : request (codes "run" ∷ (names ++ dates)) ≡ asks None None None 126 Csv false
+no_options : request (codes "run" ∷ (names ++ dates)) ≡ asks None None None None 126 Csv false
 unfolding request counted date_in day_if days_from_civil day_count days_of_years days_of_months decimal_digits digits date_text
 no_options = refl
 
-mixed : request (codes "run" ∷ codes "--labels=-l" ∷ (names ++ codes "--adjustments" ∷ codes "a.db" ∷ codes "--revisions=r" ∷ codes "--" ∷ dates)) ≡ asks (Some (codes "-l")) (Some (codes "a.db")) (Some (codes "r")) 126 Csv false
+mixed : request (codes "run" ∷ codes "--labels=-l" ∷ codes "--numbers=n" ∷ (names ++ codes "--adjustments" ∷ codes "a.db" ∷ codes "--revisions=r" ∷ codes "--" ∷ dates)) ≡ asks (Some (codes "-l")) (Some (codes "n")) (Some (codes "a.db")) (Some (codes "r")) 126 Csv false
 unfolding request counted date_in day_if days_from_civil day_count days_of_years days_of_months decimal_digits digits date_text
 mixed = refl
 
@@ -53,7 +54,7 @@ with_options : map (λ (options : List Word). request (codes "run" ∷ (options 
     ∷ (codes "--chunk" ∷ codes "4096" ∷ [])
     ∷ (codes "--stats" ∷ codes "--format=fixed" ∷ [])
     ∷ (codes "--format" ∷ codes "csv" ∷ []) ∷ [])
-    ≡ asks None None None 1 Csv false ∷ asks None None None 4096 Csv false ∷ asks None None None 126 Fixed true ∷ asks None None None 126 Csv false ∷ []
+    ≡ asks None None None None 1 Csv false ∷ asks None None None None 4096 Csv false ∷ asks None None None None 126 Fixed true ∷ asks None None None None 126 Csv false ∷ []
 unfolding request counted sid_in date_in day_if days_from_civil day_count days_of_years days_of_months decimal_digits digits date_text
 with_options = refl
 
@@ -84,39 +85,39 @@ of_payouts = refl
 
 of_cells : map (λ (words : List Word). request (codes "explain" ∷ words)) (
     (names ++ codes "7" ∷ codes "2024-01-04" ∷ codes "c" ∷ [])
-    ∷ (codes "--labels=l" ∷ codes "--revisions=r" ∷ (names ++ codes "7" ∷ codes "2024-01-04" ∷ codes "c" ∷ codes "--adjustments" ∷ codes "a.db" ∷ []))
+    ∷ (codes "--labels=l" ∷ codes "--numbers" ∷ codes "n" ∷ codes "--revisions=r" ∷ (names ++ codes "7" ∷ codes "2024-01-04" ∷ codes "c" ∷ codes "--adjustments" ∷ codes "a.db" ∷ []))
     ∷ (names ++ codes "07" ∷ codes "2024-01-04" ∷ codes "c" ∷ [])
     ∷ (names ++ codes "7" ∷ codes "2024-1-4" ∷ codes "c" ∷ [])
     ∷ (names ++ codes "7" ∷ codes "2024-01-04" ∷ codes "let" ∷ [])
     ∷ (names ++ codes "7" ∷ codes "2024-01-04" ∷ [])
     ∷ (codes "--chunk=1" ∷ (names ++ codes "7" ∷ codes "2024-01-04" ∷ codes "c" ∷ [])) ∷ [])
-    ≡ Some (Explain (record { pipeline = codes "p.pl"; world = over None None None; sid = 7; date = record { text = codes "2024-01-04"; day = pos 19726 }; column = codes "c" }))
-    ∷ Some (Explain (record { pipeline = codes "p.pl"; world = over (Some (codes "l")) (Some (codes "a.db")) (Some (codes "r")); sid = 7; date = record { text = codes "2024-01-04"; day = pos 19726 }; column = codes "c" }))
+    ≡ Some (Explain (record { pipeline = codes "p.pl"; world = over None None None None; sid = 7; date = record { text = codes "2024-01-04"; day = pos 19726 }; column = codes "c" }))
+    ∷ Some (Explain (record { pipeline = codes "p.pl"; world = over (Some (codes "l")) (Some (codes "n")) (Some (codes "a.db")) (Some (codes "r")); sid = 7; date = record { text = codes "2024-01-04"; day = pos 19726 }; column = codes "c" }))
     ∷ None ∷ None ∷ None ∷ None ∷ None ∷ []
 unfolding request counted sid_in date_in day_if days_from_civil day_count days_of_years days_of_months decimal_digits digits date_text
 of_cells = refl
 
 of_derivations : map (λ (words : List Word). request (codes "verify" ∷ words)) (
     (names ++ codes "why.txt" ∷ [])
-    ∷ (codes "--labels=l" ∷ codes "--revisions=r" ∷ (names ++ codes "why.txt" ∷ codes "--adjustments" ∷ codes "a.db" ∷ []))
+    ∷ (codes "--labels=l" ∷ codes "--numbers" ∷ codes "n" ∷ codes "--revisions=r" ∷ (names ++ codes "why.txt" ∷ codes "--adjustments" ∷ codes "a.db" ∷ []))
     ∷ names
     ∷ (codes "--chunk=1" ∷ (names ++ codes "why.txt" ∷ []))
     ∷ (names ++ codes "why.txt" ∷ codes "--labels=l" ∷ codes "--labels=l" ∷ []) ∷ [])
-    ≡ Some (Verify (record { pipeline = codes "p.pl"; world = over None None None; derivation = codes "why.txt" }))
-    ∷ Some (Verify (record { pipeline = codes "p.pl"; world = over (Some (codes "l")) (Some (codes "a.db")) (Some (codes "r")); derivation = codes "why.txt" }))
+    ≡ Some (Verify (record { pipeline = codes "p.pl"; world = over None None None None; derivation = codes "why.txt" }))
+    ∷ Some (Verify (record { pipeline = codes "p.pl"; world = over (Some (codes "l")) (Some (codes "n")) (Some (codes "a.db")) (Some (codes "r")); derivation = codes "why.txt" }))
     ∷ None ∷ None ∷ None ∷ []
 unfolding request counted
 of_derivations = refl
 
 of_days : map (λ (options : List Word). request (codes "daily" ∷ (options ++ (names ++ dates)))) (
     []
-    ∷ (codes "--format=fixed" ∷ codes "--labels=l" ∷ codes "--adjustments" ∷ codes "a.db" ∷ codes "--revisions=r" ∷ [])
+    ∷ (codes "--format=fixed" ∷ codes "--numbers=n" ∷ codes "--labels=l" ∷ codes "--adjustments" ∷ codes "a.db" ∷ codes "--revisions=r" ∷ [])
     ∷ (codes "--chunk=1" ∷ [])
     ∷ (codes "--stats" ∷ [])
     ∷ (codes "--asof=2024-01-04" ∷ [])
     ∷ (codes "p.pl" ∷ [])
     ∷ (codes "--format=csv" ∷ codes "--format=csv" ∷ []) ∷ [])
-    ≡ by_days (over None None None) Csv ∷ by_days (over (Some (codes "l")) (Some (codes "a.db")) (Some (codes "r"))) Fixed ∷ None ∷ None ∷ None ∷ None ∷ None ∷ []
+    ≡ by_days (over None None None None) Csv ∷ by_days (over (Some (codes "l")) (Some (codes "n")) (Some (codes "a.db")) (Some (codes "r"))) Fixed ∷ None ∷ None ∷ None ∷ None ∷ None ∷ []
 unfolding request counted date_in day_if days_from_civil day_count days_of_years days_of_months decimal_digits digits date_text
 of_days = refl
 
@@ -130,13 +131,14 @@ refused : map request (
     ∷ (codes "fmt" ∷ [])
     ∷ (codes "plan" ∷ codes "p.pl" ∷ codes "s" ∷ [])
     ∷ (codes "plan" ∷ codes "--labels" ∷ codes "l" ∷ codes "p.pl" ∷ codes "s" ∷ dates)
+    ∷ (codes "plan" ∷ codes "--numbers" ∷ codes "n" ∷ codes "p.pl" ∷ codes "s" ∷ dates)
     ∷ (codes "fmt" ∷ codes "p.pl" ∷ codes "q.pl" ∷ [])
     ∷ (codes "fmt" ∷ [] ∷ [])
     ∷ (codes "fmt" ∷ codes "--" ∷ codes "-" ∷ [])
     ∷ (codes "fmt" ∷ codes "-p" ∷ [])
     ∷ (codes "fmt" ∷ codes "--help" ∷ [])
     ∷ (codes "fmt" ∷ codes "--labels" ∷ codes "l" ∷ codes "p.pl" ∷ []) ∷ [])
-    ≡ None ∷ None ∷ None ∷ None ∷ None ∷ None ∷ None ∷ None ∷ None ∷ None ∷ None ∷ []
+    ≡ None ∷ None ∷ None ∷ None ∷ None ∷ None ∷ None ∷ None ∷ None ∷ None ∷ None ∷ None ∷ []
 unfolding request counted
 refused = refl
 
@@ -149,6 +151,9 @@ refused_runs : map (λ (options : List Word). request (codes "run" ∷ (options 
     ∷ (codes "--label" ∷ codes "a" ∷ [])
     ∷ (codes "--revisions=r" ∷ codes "--revisions" ∷ codes "r" ∷ [])
     ∷ (codes "--revision" ∷ codes "r" ∷ [])
+    ∷ (codes "--numbers=n" ∷ codes "--numbers=n" ∷ [])
+    ∷ (codes "--numbers=" ∷ [])
+    ∷ (codes "--number" ∷ codes "n" ∷ [])
     ∷ (codes "--chunk" ∷ codes "2" ∷ codes "--chunk=2" ∷ [])
     ∷ (codes "--chunk" ∷ codes "0" ∷ [])
     ∷ (codes "--chunk=4097" ∷ [])
@@ -159,6 +164,7 @@ refused_runs : map (λ (options : List Word). request (codes "run" ∷ (options 
     ∷ (codes "--stats" ∷ codes "--stats" ∷ [])
     ∷ (codes "--format" ∷ codes "Csv" ∷ [])
     ∷ (codes "--format=csv" ∷ codes "--format" ∷ codes "fixed" ∷ []) ∷ [])
-    ≡ None ∷ None ∷ None ∷ None ∷ None ∷ None ∷ None ∷ None ∷ None ∷ None ∷ None ∷ None ∷ None ∷ None ∷ None ∷ None ∷ None ∷ None ∷ []
+    ≡ None ∷ None ∷ None ∷ None ∷ None ∷ None ∷ None ∷ None ∷ None ∷ None ∷ None ∷ None ∷ None ∷ None ∷ None ∷ None ∷ None ∷ None
+    ∷ None ∷ None ∷ None ∷ []
 unfolding request counted sid_in date_in day_if decimal_digits digits
 refused_runs = refl

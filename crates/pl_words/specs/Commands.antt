@@ -1,7 +1,7 @@
 -- The commands, as data.
 use Rattle.std.specs.Prelude.{ℕ, List, [], ◌∷◌, Option, find, bytes_eq, codes}
 use Rattle.pl_words.specs.declared.commands.OptionName.{OptionName}
-use Rattle.pl_words.specs.declared.commands.OptionName.TheVariants.{Labels, Adjustments, Revisions, Chunk, Format, Stats, AsOf}
+use Rattle.pl_words.specs.declared.commands.OptionName.TheVariants.{Labels, Numbers, Adjustments, Revisions, Chunk, Format, Stats, AsOf}
 use Rattle.pl_words.specs.declared.commands.CommandName.{CommandName}
 use Rattle.pl_words.specs.declared.commands.CommandName.TheVariants.{Run, Check, Fmt, Plan, Bench, Payouts, Explain, Verify, Daily}
 use Rattle.pl_words.specs.Parts.{Word}
@@ -34,15 +34,15 @@ places_of Daily = 6  -- PIPELINE SESSIONS ASSETS BARS FROM TO
 
 -- the options that it knows
 abbrev pub options_of : CommandName → List OptionName
-options_of Run = Labels ∷ Adjustments ∷ Revisions ∷ Chunk ∷ Format ∷ Stats ∷ AsOf ∷ []
+options_of Run = Labels ∷ Numbers ∷ Adjustments ∷ Revisions ∷ Chunk ∷ Format ∷ Stats ∷ AsOf ∷ []
 options_of Check = []
 options_of Fmt = []
 options_of Plan = []
 options_of Bench = Chunk ∷ []
 options_of Payouts = []
-options_of Explain = Labels ∷ Adjustments ∷ Revisions ∷ []
-options_of Verify = Labels ∷ Adjustments ∷ Revisions ∷ []
-options_of Daily = Labels ∷ Adjustments ∷ Revisions ∷ Format ∷ []
+options_of Explain = Labels ∷ Numbers ∷ Adjustments ∷ Revisions ∷ []
+options_of Verify = Labels ∷ Numbers ∷ Adjustments ∷ Revisions ∷ []
+options_of Daily = Labels ∷ Numbers ∷ Adjustments ∷ Revisions ∷ Format ∷ []
 
 abbrev pub command_named : Word → Option CommandName
 command_named word = find (λ c. bytes_eq word (command_text c)) all_commands

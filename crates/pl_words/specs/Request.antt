@@ -31,12 +31,14 @@ pub record Options : Type 0 where
   pub stats : Bool
   pub as_of : Option Dated
 
--- the names of the files of a world, and those of its labels, adjustments and revisions where it has some
+-- the names of the files of a world, and those of its labels, numbers, adjustments and revisions where it has
+-- some
 pub record WorldNames : Type 0 where
   pub sessions : List ℕ
   pub assets : List ℕ
   pub bars : List ℕ
   pub labels : Option (List ℕ)
+  pub numbers : Option (List ℕ)
   pub adjustments : Option (List ℕ)
   pub revisions : Option (List ℕ)
 
@@ -153,23 +155,25 @@ options_by values =
 abbrev pub usual : form.Format → Options
 usual format = record { chunk = usual_chunk; format = format; stats = false; as_of = None }
 
-abbrev pub world_over : List Word → Option Word → Option Word → Option Word → WorldNames
-world_over names labels adjustments revisions =
+abbrev pub world_over : List Word → Option Word → Option Word → Option Word → Option Word → WorldNames
+world_over names labels numbers adjustments revisions =
     record {
       sessions = name names 1;
       assets = name names 2;
       bars = name names 3;
       labels = labels;
+      numbers = numbers;
       adjustments = adjustments;
       revisions = revisions;
     }
 
--- three names after that of the pipeline, and three options
+-- three names after that of the pipeline, and four options
 abbrev pub world_in : List Word → Values → Option WorldNames
 world_in names values =
-    option_and_then (λ labels. option_and_then (λ adjustments.
-    option_map (λ revisions. world_over names labels adjustments revisions)
-    (one_value (values option.Revisions))) (one_value (values option.Adjustments))) (one_value (values option.Labels))
+    option_and_then (λ labels. option_and_then (λ numbers. option_and_then (λ adjustments.
+    option_map (λ revisions. world_over names labels numbers adjustments revisions)
+    (one_value (values option.Revisions))) (one_value (values option.Adjustments)))
+    (one_value (values option.Numbers))) (one_value (values option.Labels))
 
 abbrev pub table_over : List Word → Options → Dated → Dated → WorldNames → RunRequest
 table_over names options from to world =
@@ -272,6 +276,7 @@ pub record Names : Type 0 where
   pub sessions : Option (List ℕ)
   pub assets : Option (List ℕ)
   pub labels : Option (List ℕ)
+  pub numbers : Option (List ℕ)
   pub bars : Option (List ℕ)
   pub adjustments : Option (List ℕ)
   pub revisions : Option (List ℕ)
@@ -290,6 +295,7 @@ no_names =
       sessions = None;
       assets = None;
       labels = None;
+      numbers = None;
       bars = None;
       adjustments = None;
       revisions = None;
@@ -309,6 +315,7 @@ names_over pipeline w = record no_names {
   sessions = Some w.sessions;
   assets = Some w.assets;
   labels = w.labels;
+  numbers = w.numbers;
   bars = Some w.bars;
   adjustments = w.adjustments;
   revisions = w.revisions;
@@ -351,6 +358,7 @@ file_named names file.Pipeline = names.pipeline
 file_named names file.Sessions = names.sessions
 file_named names file.Assets = names.assets
 file_named names file.Labels = names.labels
+file_named names file.Numbers = names.numbers
 file_named names file.Bars = names.bars
 file_named names file.Revisions = names.revisions
 file_named names file.Payouts = names.payouts

@@ -28,6 +28,7 @@ world_names_of r =
       assets = r.assets.now;
       bars = r.bars.now;
       labels = option_map (λ n. n.now) r.labels;
+      numbers = option_map (λ n. n.now) r.numbers;
       adjustments = option_map (λ n. n.now) r.adjustments;
       revisions = option_map (λ n. n.now) r.revisions;
     }
@@ -89,6 +90,7 @@ names_view n =
       sessions = text_of n.sessions;
       assets = text_of n.assets;
       labels = text_of n.labels;
+      numbers = text_of n.numbers;
       bars = text_of n.bars;
       adjustments = text_of n.adjustments;
       revisions = text_of n.revisions;

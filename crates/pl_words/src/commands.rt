@@ -22,6 +22,7 @@ pub enum CommandName {
 #[derive(Clone, Copy, Debug, PartialEq, Eq)]
 pub enum OptionName {
     Labels,
+    Numbers,
     Adjustments,
     Revisions,
     Chunk,
@@ -68,6 +69,7 @@ impl CommandName {
         match self {
             CommandName::Run => &[
                 OptionName::Labels,
+                OptionName::Numbers,
                 OptionName::Adjustments,
                 OptionName::Revisions,
                 OptionName::Chunk,
@@ -77,11 +79,13 @@ impl CommandName {
             ],
             CommandName::Explain | CommandName::Verify => &[
                 OptionName::Labels,
+                OptionName::Numbers,
                 OptionName::Adjustments,
                 OptionName::Revisions,
             ],
             CommandName::Daily => &[
                 OptionName::Labels,
+                OptionName::Numbers,
                 OptionName::Adjustments,
                 OptionName::Revisions,
                 OptionName::Format,
@@ -99,6 +103,7 @@ impl OptionName {
     {
         match self {
             OptionName::Labels => "labels",
+            OptionName::Numbers => "numbers",
             OptionName::Adjustments => "adjustments",
             OptionName::Revisions => "revisions",
             OptionName::Chunk => "chunk",

@@ -31,7 +31,7 @@ pub(crate) fn options<'a>(matches: &ArgMatches<'a>) -> Option<Options<'a>>
     })
 }
 
-/// The names of a world: three of the names, and the values of three options.
+/// The names of a world: three of the names, and the values of four options.
 pub(crate) fn world_in<'a>(names: &[&'a str], matches: &ArgMatches<'a>) -> Option<WorldNames<'a>>
     requires { 4 ≤ length names.now }
     ensures { MatchOption result
@@ -39,6 +39,7 @@ pub(crate) fn world_in<'a>(names: &[&'a str], matches: &ArgMatches<'a>) -> Optio
         (λ r. world_in (map (λ v. v.now) names.now) (values_in matches.now) ≡ Some (world_names_of r)) }
 {
     let labels = value(matches, OptionName::Labels).ok()?;
+    let numbers = value(matches, OptionName::Numbers).ok()?;
     let adjustments = value(matches, OptionName::Adjustments).ok()?;
     let revisions = value(matches, OptionName::Revisions).ok()?;
     Some(WorldNames {
@@ -46,6 +47,7 @@ pub(crate) fn world_in<'a>(names: &[&'a str], matches: &ArgMatches<'a>) -> Optio
         assets: names[2],
         bars: names[3],
         labels,
+        numbers,
         adjustments,
         revisions,
     })

@@ -9,6 +9,7 @@ pub enum InputFile {
     Sessions,
     Assets,
     Labels,
+    Numbers,
     Bars,
     Revisions,
     Payouts,
@@ -41,13 +42,15 @@ pub struct Options<'a> {
     pub as_of: Option<DateWord<'a>>,
 }
 
-/// The names of the files of a world, and those of its labels, adjustments and revisions where it has some.
+/// The names of the files of a world, and those of its labels, numbers, adjustments and revisions where it
+/// has some.
 #[derive(Clone, Copy)]
 pub struct WorldNames<'a> {
     pub sessions: &'a str,
     pub assets: &'a str,
     pub bars: &'a str,
     pub labels: Option<&'a str>,
+    pub numbers: Option<&'a str>,
     pub adjustments: Option<&'a str>,
     pub revisions: Option<&'a str>,
 }

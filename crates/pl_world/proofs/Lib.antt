@@ -1,9 +1,11 @@
 pub mod Lifetimes
 pub mod Made
 pub mod Moved
+pub mod NumbersMoved
 pub mod RevisionsMoved
 pub mod Asked
 pub mod Evaluated
 pub mod Sections
 pub mod Windowing
 pub mod Known
+pub mod Present

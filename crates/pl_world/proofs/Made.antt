@@ -1,5 +1,5 @@
 -- The world that parts make: its adjustments by sid, and its cells as they are seen.
-use Rattle.std.proofs.Common.{◌≡◌, ℕ, ◌<◌, false, IsTrue, ℤ, pos, ◌<ℤ◌, inl, inr, List, [], ◌∷◌, map, length, get_or, slice_get, Some, sym, ◌∙◌, ap, arith}
+use Rattle.std.proofs.Common.{◌≡◌, ℕ, ◌<◌, false, IsTrue, ℤ, pos, ◌<ℤ◌, inl, inr, List, [], ◌∷◌, map, length, get_or, slice_get, Some, refl, sym, ◌∙◌, ap, ap₂, arith}
 use Rattle.std.specs.List.{AllPairs, Contains, All}
 use Rattle.std.proofs.lemmas.Bool.{cases_lt, true≢false}
 use Rattle.std.proofs.lemmas.Bool.Decides.{nat_tests}
@@ -16,20 +16,18 @@ use Rattle.pl_spec.specs.World as spec
 use Rattle.pl_spec.specs.World.{IsWorld, events_of}
 use Rattle.pl_spec.specs.Window.{after_all, effects, effects_in, seen_cell}
 use Rattle.pl_spec.proofs.Columns.{sid-found, events-by-day, no_asset, sid_at-row}
-use Rattle.pl_calendar.specs.Days.{AreDays}
 use Rattle.pl_lifetimes.specs.Assets.{AreAssets}
-use Rattle.pl_assets.specs.Labels.{AreLabels, is_from}
+use Rattle.pl_assets.specs.Labels.{is_from}
 use Rattle.pl_lifetimes.proofs.Columns.{one_col}
 use Rattle.pl_assets.proofs.LabelKeys.{parts_from}
-use Rattle.pl_bars.specs.Bars.{AreBars, cell_at, is_before}
+use Rattle.pl_bars.specs.Bars.{cell_at, is_before}
 use Rattle.pl_bars.proofs.BarWorlds.{cells_raw}
 use Rattle.pl_numbers.specs.Numbers as number_tables
-use Rattle.pl_numbers.specs.Numbers.{AreNumbers}
 use Rattle.pl_numbers.proofs.NumberKeys as number_keys
 use Rattle.pl_adjust.specs.Columns.{StandByDay, events_at}
 use Rattle.pl_adjust.proofs.Sids.{column_events}
 use Rattle.pl_world.specs.declared.world.World.{World}
-use Rattle.pl_world.specs.Worlds.{world_of, AreMadeFor, IsMade, PartsMakeAWorld}
+use Rattle.pl_world.specs.Worlds.{world_of, AreMadeFor, AreSound, IsMade, PartsMakeAWorld}
 
 module _ (w : World) (made : IsMade w) (assets : AreAssets w.assets.now) (col : ℕ) (inside : col < length w.assets.now) where
   -- the adjustments of the asset in a column
@@ -81,18 +79,28 @@ once-mapped {A} {B} f Same back (x ∷ xs) differ b c first second same = elim (
     at_second : c ≡ f (get_or (x ∷ xs) second.0 x)
     at_second = sym second.2 ∙ get_or-map f (x ∷ xs) second.0 x c in_second
 
+-- rows of assets that are told apart by their columns and keys are so by their sids and keys
+once-keyed : {A B K : Type 0} (f : A → B) (col : A → ℕ) (key : A → K) (sid : B → ℕ) (key_of : B → K) (assets : List AssetRow) → AllPairs (λ a b. a.sid < b.sid) assets
+    → ((x : A) → sid (f x) ≡ sid_at assets (col x)) → ((x : A) → key_of (f x) ≡ key x) → (xs : List A) → All (λ x. col x < length assets) xs
+    → AllPairs (λ x y. col y ≡ col x → key y ≡ key x → ⊥) xs → (b c : B) → Contains (map f xs) b → Contains (map f xs) c → sid b ≡ sid c → key_of b ≡ key_of c → b ≡ c
+once-keyed {A} {B} {K} f col key sid key_of assets up sids keys xs inside differ b c first second same_sid same_key =
+    once-mapped f (λ b c. (sid b ≡ sid c) × (key_of b ≡ key_of c)) (λ b c same. (sym same.0, sym same.1)) xs
+    (λ i j d lt l same.
+    let x : A = get_or xs i d in
+    let y : A = get_or xs j d in
+    let cols : col x ≡ col y = one_col assets up (col x) (col y) (inside i d (omega arith)) (inside j d l) (sym (sids x) ∙ same.0 ∙ sids y) in
+    differ i j d lt l (sym cols) (sym (keys y) ∙ sym same.1 ∙ keys x))
+    b c first second (same_sid, same_key)
+
 -- the numbers of rows no two of which are of one name, column and day
-numbers-once : (assets : List AssetRow) (rows : List ColumnNumber) → AllPairs (λ a b. a.sid < b.sid) assets → All (λ r. r.col < length assets) rows
+pub numbers-once : (assets : List AssetRow) (rows : List ColumnNumber) → AllPairs (λ a b. a.sid < b.sid) assets → All (λ r. r.col < length assets) rows
     → AllPairs (λ r q. number_tables.is_from r.name r.col r.known q ≡ false) rows → NumbersOnce (map (number_of assets) rows)
 numbers-once assets rows up inside once r q first second names sids days =
-    once-mapped (number_of assets) (λ r q. (r.name ≡ q.name) × (r.sid ≡ q.sid) × (r.known ≡ q.known)) (λ r q same. (sym same.0, sym same.1, sym same.2)) rows
-    (λ i j d lt l same.
-    let first_in : (get_or rows i d).col < length assets = inside i d (omega arith) in
-    let second_in : (get_or rows j d).col < length assets = inside j d l in
+    once-keyed (number_of assets) (λ r. r.col) (λ r. (r.name, r.known)) (λ r. r.sid) (λ r. (r.name, r.known)) assets up (λ r. refl) (λ r. refl) rows inside
+    (λ i j d lt l cols keys.
     let row = get_or rows i d in
-    true≢false (sym (number_keys.parts_from row.name row.col row.known (get_or rows j d) (sym same.0) (sym (one_col assets up _ _ first_in second_in same.1)) (sym same.2))
-    ∙ once i j d lt l))
-    r q first second (names, sids, days)
+    true≢false (sym (number_keys.parts_from row.name row.col row.known (get_or rows j d) (ap (λ (k : List ℕ × ℤ). k.0) keys) cols (ap (λ (k : List ℕ × ℤ). k.1) keys)) ∙ once i j d lt l))
+    r q first second sids (ap₂ (λ (n : List ℕ) (d : ℤ). (n, d)) names days)
 
 module _ (days : List ℤ) (assets : List AssetRow) (labels : List ColumnLabel) (texts : List (List ℕ)) (bars : List BarRow) (adjustments : List ColumnAdjustment) (numbers : List ColumnNumber)
     (made : AreMadeFor days assets labels bars adjustments []) (days_up : AllPairs (λ a b. a <ℤ b) days) (sids_up : AllPairs (λ a b. a.sid < b.sid) assets)
@@ -102,27 +110,20 @@ module _ (days : List ℤ) (assets : List AssetRow) (labels : List ColumnLabel) 
   whole = parts.world_of days assets labels texts bars adjustments numbers
 
   pub bars_once : BarsOnce whole
-  bars_once b c first second sids sessions =
-      once-mapped (bar_of assets) (λ b c. (b.sid ≡ c.sid) × (b.session ≡ c.session)) (λ b c same. (sym same.0, sym same.1)) bars
-      (λ i j d lt l same.
-      let first_in : (get_or bars i d).col < length assets = made.bars_in i d (omega arith) in
-      let second_in : (get_or bars j d).col < length assets = made.bars_in j d l in
-      differ (get_or bars i d) (get_or bars j d) (bars_up i j d lt l) (one_col assets sids_up _ _ first_in second_in same.0) same.1)
-      b c first second (sids, sessions)
+  bars_once =
+      once-keyed (bar_of assets) (λ b. b.col) (λ b. b.session) (λ b. b.sid) (λ b. b.session) assets sids_up (λ b. refl) (λ b. refl) bars made.bars_in
+      (λ i j d lt l cols sessions. differ (get_or bars i d) (get_or bars j d) (bars_up i j d lt l) cols sessions)
     where
-      differ : (x y : BarRow) → IsTrue (is_before y.col y.session x) → x.col ≡ y.col → x.session ≡ y.session → ⊥
+      differ : (x y : BarRow) → IsTrue (is_before y.col y.session x) → y.col ≡ x.col → y.session ≡ x.session → ⊥
       differ x y before cols sessions = grind (arith, nat_tests)
 
   pub labels_once : LabelsOnce whole
   labels_once r q first second names sids starts =
-      once-mapped (label_of assets) (λ r q. (r.name ≡ q.name) × (r.sid ≡ q.sid) × (r.start ≡ q.start)) (λ r q same. (sym same.0, sym same.1, sym same.2)) labels
-      (λ i j d lt l same.
-      let first_in : (get_or labels i d).col < length assets = made.labels_in i d (omega arith) in
-      let second_in : (get_or labels j d).col < length assets = made.labels_in j d l in
+      once-keyed (label_of assets) (λ r. r.col) (λ r. (r.name, r.start)) (λ r. r.sid) (λ r. (r.name, r.start)) assets sids_up (λ r. refl) (λ r. refl) labels made.labels_in
+      (λ i j d lt l cols keys.
       let row = get_or labels i d in
-      true≢false (sym (parts_from row.name row.col row.start (get_or labels j d) (sym same.0) (sym (one_col assets sids_up _ _ first_in second_in same.1)) (sym same.2))
-      ∙ starts_own i j d lt l))
-      r q first second (names, sids, starts)
+      true≢false (sym (parts_from row.name row.col row.start (get_or labels j d) (ap (λ (k : List ℕ × ℤ). k.0) keys) cols (ap (λ (k : List ℕ × ℤ). k.1) keys)) ∙ starts_own i j d lt l))
+      r q first second sids (ap₂ (λ (n : List ℕ) (d : ℤ). (n, d)) names starts)
 
   events_in : (col : ℕ) → col < length assets → events_of whole (sid_at assets col) ≡ events_at adjustments col
   events_in col inside =
@@ -139,26 +140,28 @@ module _ (days : List ℤ) (assets : List AssetRow) (labels : List ColumnLabel) 
     ];
   }
 
-pub parts_make_a_world : (w : World) → IsMade w → AreDays w.sessions.now → AreAssets w.assets.now → AreLabels w.labels.now → AreBars w.bars.now → StandByDay w.adjustments.now → AreNumbers w.numbers.now
-    → PartsMakeAWorld w
-parts_make_a_world w made days assets labels bars in_order own =
+pub parts_make_a_world : (w : World) → AreSound w → PartsMakeAWorld w
+parts_make_a_world w sound =
+    let made = sound.made in
     let rows = w.labels.now.rows in
     let texts = w.labels.now.texts in
+    let numbers = w.numbers.now.rows in
     let bare : AreMadeFor w.sessions.now w.assets.now rows w.bars.now w.adjustments.now [] =
     record { labels_in = made.labels_in; bars_in = made.bars_in; sessions_in = made.sessions_in; adjustments_in = made.adjustments_in; numbers_in = λ k d l. absurd (omega arith) } in
     record {
+      sound = sound;
       parts = record {
-        days_ascend = days.ascend;
-        sids_ascend = assets.ascend;
+        days_ascend = sound.days.ascend;
+        sids_ascend = sound.assets.ascend;
         labels_in = made.labels_in;
         bars_in = made.bars_in;
         sessions_in = made.sessions_in;
         adjustments_in = made.adjustments_in;
-        events_in_order = in_order;
+        events_in_order = sound.in_order;
         numbers_in = made.numbers_in;
       };
-      world = is_world w.sessions.now w.assets.now rows texts w.bars.now w.adjustments.now w.numbers.now.rows bare days.ascend assets.ascend labels.once bars.ascend in_order;
-      bars_once = bars_once w.sessions.now w.assets.now rows texts w.bars.now w.adjustments.now w.numbers.now.rows bare days.ascend assets.ascend labels.once bars.ascend in_order;
-      labels_once = labels_once w.sessions.now w.assets.now rows texts w.bars.now w.adjustments.now w.numbers.now.rows bare days.ascend assets.ascend labels.once bars.ascend in_order;
-      numbers_once = numbers-once w.assets.now w.numbers.now.rows assets.ascend made.numbers_in own.once;
+      world = is_world w.sessions.now w.assets.now rows texts w.bars.now w.adjustments.now numbers bare sound.days.ascend sound.assets.ascend sound.labels.once sound.bars.ascend sound.in_order;
+      bars_once = bars_once w.sessions.now w.assets.now rows texts w.bars.now w.adjustments.now numbers bare sound.days.ascend sound.assets.ascend sound.labels.once sound.bars.ascend sound.in_order;
+      labels_once = labels_once w.sessions.now w.assets.now rows texts w.bars.now w.adjustments.now numbers bare sound.days.ascend sound.assets.ascend sound.labels.once sound.bars.ascend sound.in_order;
+      numbers_once = numbers-once w.assets.now numbers sound.assets.ascend made.numbers_in sound.numbers.once;
     }

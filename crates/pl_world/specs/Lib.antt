@@ -1,5 +1,6 @@
 pub mod Evaluations
 pub mod Known
 pub mod Laws
+pub mod Present
 pub mod Records
 pub mod Worlds

@@ -13,6 +13,7 @@ use Rattle.pl_calendar.specs.Days.{sessions_of}
 use Rattle.pl_lifetimes.specs.Assets.{assets_of}
 use Rattle.pl_assets.specs.Labels.{LabelTable, labels_of}
 use Rattle.pl_bars.specs.Bars.{bars_of}
+use Rattle.pl_numbers.specs.Numbers.{NumberTable, numbers_of}
 use Rattle.pl_adjust.specs.Columns.{StandByDay}
 use Rattle.pl_adjust.specs.Revised.{revised_in}
 use Rattle.pl_world.specs.Laws.{ShowAlike}
@@ -55,6 +56,19 @@ RecordsInAnyOrder = (files others : DataFiles) → FilesAreMoved files others
     → All (λ x. x.col < length assets) adjustments → StandByDay adjustments → (numbers : List ColumnNumber)
     → ShowAlike (parts.world_of days assets labels.rows labels.texts bars adjustments numbers)
     (parts.world_of days assets other.rows other.texts bars adjustments numbers))
+
+-- Beside the parts of the four files and any adjustments of these assets the records of numbers may stand in
+-- any order too: the others are read, as the same rows in some order, and the two worlds show the same.
+abbrev pub NumbersInAnyOrder : Type 0
+NumbersInAnyOrder = (files : DataFiles) (days : List ℤ) (assets : List AssetRow) (labels : LabelTable)
+    (bars : List BarRow) → AreReadAs files days assets labels bars
+    → (records others : List Record) → AreMoved records others
+    → (numbers : NumberTable) → numbers_of assets records ≡ Ok numbers
+    → (other : NumberTable) × (numbers_of assets others ≡ Ok other) × IsPermutation numbers.rows other.rows
+    × ((adjustments : List ColumnAdjustment)
+    → All (λ x. x.col < length assets) adjustments → StandByDay adjustments
+    → ShowAlike (parts.world_of days assets labels.rows labels.texts bars adjustments numbers.rows)
+    (parts.world_of days assets labels.rows labels.texts bars adjustments other.rows))
 
 -- the rows of each pipeline are the same, and they are written alike
 pub record HaveSameTables (w v : World) : Type 0 where

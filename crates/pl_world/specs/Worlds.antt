@@ -8,6 +8,13 @@ use Rattle.pl_spec.specs.Lookups.{BarsOnce, LabelsOnce}
 use Rattle.pl_spec.specs.Numbers.{NumbersOnce}
 use Rattle.pl_spec.specs.Parts as parts
 use Rattle.pl_spec.specs.Parts.{AreFor, ColumnAdjustment, ColumnLabel, ColumnNumber}
+use Rattle.pl_calendar.specs.Days.{AreDays}
+use Rattle.pl_lifetimes.specs.Assets.{AreAssets}
+use Rattle.pl_assets.specs.Labels.{AreLabels}
+use Rattle.pl_bars.specs.Bars.{AreBars}
+use Rattle.pl_adjust.specs.Columns.{StandByDay}
+use Rattle.pl_adjust.specs.Events.{PutsCell}
+use Rattle.pl_numbers.specs.Numbers.{AreNumbers}
 use Rattle.pl_world.specs.declared.owned.OwnedWorld.{OwnedWorld}
 use Rattle.pl_world.specs.declared.world.World.{World}
 
@@ -40,8 +47,20 @@ IsMade w =
 abbrev pub IsOwned : OwnedWorld → Type 0
 IsOwned w = AreMadeFor w.sessions w.assets w.labels.rows w.bars w.adjustments w.numbers.rows
 
+-- the parts were made for one another, and each is as its type keeps it
+pub record AreSound (w : World) : Type 0 where
+  pub made : IsMade w
+  pub days : AreDays w.sessions.now
+  pub assets : AreAssets w.assets.now
+  pub labels : AreLabels w.labels.now
+  pub bars : AreBars w.bars.now
+  pub in_order : StandByDay w.adjustments.now
+  pub puts : All (λ x. PutsCell x.event) w.adjustments.now
+  pub numbers : AreNumbers w.numbers.now
+
 -- The parts stand in their orders, and are a world that has each bar, each label row and each number once.
 pub record PartsMakeAWorld (w : World) : Type 0 where
+  pub sound : AreSound w
   pub parts : AreFor w.sessions.now w.assets.now w.labels.now.rows w.bars.now w.adjustments.now
       w.numbers.now.rows
   pub world : IsWorld (world_of w)

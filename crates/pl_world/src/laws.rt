@@ -2,9 +2,12 @@
 //! nothing but ask for a size: what the types keep is enough.
 
 ghost use Rattle.pl_spec.specs.Permuted.{HaveSameRows};
+ghost use Rattle.pl_lifetimes.specs.Assets.{AreAssets};
+ghost use Rattle.pl_assets.specs.Labels.{AreLabels};
 ghost use Rattle.pl_world.specs.Laws.{EarlyBarsChangeNothing, LaterDataChangeNothing, ShowAlike};
+ghost use Rattle.pl_terms.specs.Checked.{IsChecked, pipeline_of};
 ghost use Rattle.pl_world.specs.Laws.{ValuesFollowNodes};
-ghost use Rattle.pl_world.specs.Records.{RecordsInAnyOrder, RevisionsInAnyOrder};
+ghost use Rattle.pl_world.specs.Records.{NumbersInAnyOrder, RecordsInAnyOrder, RevisionsInAnyOrder};
 ghost use Rattle.pl_world.specs.Worlds.{IsMade, PartsMakeAWorld, world_of};
 
 use crate::world::World;
@@ -17,9 +20,8 @@ pub fn parts_make_a_world(world: &World)
     requires { IsMade world.now }
     ensures { PartsMakeAWorld world.now }
 {
+    assets_and_labels(world);
     let _sessions = world.sessions.len();
-    let _assets = world.assets.len();
-    let _labels = world.labels.len();
     let _bars = world.bars.len();
     let _adjustments = world.adjustments.len();
     let _numbers = world.numbers.len();
@@ -44,6 +46,12 @@ pub fn records_in_any_order()
     ensures { RecordsInAnyOrder }
 {}
 
+/// Records of numbers after the header may stand in another order: they are read as the same rows in some
+/// order, and the worlds show the same rows, written alike.
+pub fn numbers_in_any_order()
+    ensures { NumbersInAnyOrder }
+{}
+
 /// Records of revisions after the header may stand in another order: the tables are the same. Of one asset
 /// and one known day the revisions then act in another order, but each on a cell of its own.
 pub fn revisions_in_any_order()
@@ -54,7 +62,7 @@ pub fn revisions_in_any_order()
 pub fn early_bars_change_nothing(checked: &Checked)
     ensures { EarlyBarsChangeNothing checked.now }
 {
-    let _terms = checked.graph();
+    is_checked(checked);
 }
 
 /// A term of a checked pipeline has the value that its node gives over the values of the terms of lower
@@ -62,13 +70,29 @@ pub fn early_bars_change_nothing(checked: &Checked)
 pub fn values_follow_nodes(checked: &Checked)
     ensures { ValuesFollowNodes checked.now }
 {
-    let _terms = checked.graph();
+    is_checked(checked);
 }
 
 /// What comes to be known later changes nothing: in worlds that agree up to a session, every term of a
 /// checked pipeline has the same values up to it, and its table the same rows.
 pub fn later_data_change_nothing(checked: &Checked)
     ensures { LaterDataChangeNothing checked.now }
+{
+    is_checked(checked);
+}
+
+// Assets and labels are as their types keep them.
+pub(crate) fn assets_and_labels(world: &World)
+    ensures assets { AreAssets world.now.assets.now }
+    ensures labels { AreLabels world.now.labels.now }
+{
+    let _assets = world.assets.len();
+    let _labels = world.labels.len();
+}
+
+// The terms, the columns and the screen are as the language allows.
+fn is_checked(checked: &Checked)
+    ensures { IsChecked (pipeline_of checked.now) }
 {
     let _terms = checked.graph();
 }

@@ -1,6 +1,6 @@
 //! What an evaluation reads besides the values of other terms.
 
-ghost use Rattle.std.specs.Prelude.{◌≡◌, ◌<◌, ◌≤◌, ◌&&◌, true, All, IfOk, IfSome, Some, length, option_map, pos, slice_get};
+ghost use Rattle.std.specs.Prelude.{◌≡◌, ◌<◌, ◌≤◌, ◌&&◌, true, All, IfOk, IfSome, Some, length, option_map, pos, position, bytes_eq, slice_get};
 ghost use Rattle.pl_spec.specs.Parts.{sid_at};
 ghost use Rattle.pl_spec.specs.Rounding.{IsCell};
 ghost use Rattle.pl_spec.specs.Value.{name_at};
@@ -17,6 +17,7 @@ ghost use Rattle.pl_world.specs.Evaluations as spec;
 ghost use Rattle.pl_world.specs.Evaluations.{HasKind, row_in, AreRowsOf, AreSectionCells, IsKeepRow};
 
 use crate::cell::exists;
+use crate::laws::{assets_and_labels, parts_make_a_world};
 use crate::world::World;
 use pl_cross::Cross;
 use pl_fixed::Memory;
@@ -43,7 +44,7 @@ pub fn label_cell(world: &World, checked: &Checked, name: u32, col: usize, sessi
         (sid_at world.now.assets.now col) (pos session)) }
     ensures cell { IsCell result }
 {
-    let _assets = world.assets.len();
+    parts_make_a_world(world);
     let day = world.sessions.day(session);
     let text = checked.label_name(name);
     label_value(world.labels, text, world.labels.name_of(text), col, day)
@@ -60,12 +61,29 @@ pub fn number_cell(world: &World, checked: &Checked, name: u32, col: usize, sess
         (sid_at world.now.assets.now col) (pos session) }
     ensures cell { IsCell result }
 {
-    let _assets = world.assets.len();
-    let day = world.sessions.day(session);
     let text = checked.label_name(name);
-    world
-        .numbers
-        .number_under(text, world.numbers.name_of(text), col, day)
+    number_of(world, text, world.numbers.name_of(text), col, session)
+}
+
+/// The same under a name; `number` is the name's number in the file, as `name_of` of the numbers gives it.
+pub(crate) fn number_of(
+    world: &World,
+    name: &[u8],
+    number: Option<u32>,
+    col: usize,
+    session: usize,
+) -> i64
+    requires made { IsMade world.now }
+    requires name { number ≡ position (bytes_eq name.now) world.now.numbers.now.names }
+    requires col { col < length world.now.assets.now }
+    requires session { session < length world.now.sessions.now }
+    ensures value { result ≡ known_number (world_of world.now) name.now
+        (sid_at world.now.assets.now col) (pos session) }
+    ensures cell { IsCell result }
+{
+    parts_make_a_world(world);
+    let day = world.sessions.day(session);
+    world.numbers.number_under(name, number, col, day)
 }
 
 /// The input of a cross-section, which is a term.
@@ -138,8 +156,7 @@ pub fn section_row(
     ensures cells { IfOk result (λ v. All IsCell v.items) }
 {
     let kind = &checked.graph().node(t).kind;
-    let _assets = world.assets.len();
-    let _rows = world.labels.len();
+    assets_and_labels(world);
     let keep = keep_row(alloc, world, session, mask)?;
     section_cells(alloc, kind, values, &keep, lent(groups))
 }

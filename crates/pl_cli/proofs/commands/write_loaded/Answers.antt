@@ -1,4 +1,4 @@
-use Rattle.std.proofs.Common.{◌∙◌, inl, inr}
+use Rattle.std.proofs.Common.{◌∙◌, inl, inr, refl}
 use Rattle.pl_cli.proofs.Stats.{stats-are}
 use Rattle.pl_cli.proofs.commands.write_loaded.Goals as goal
 
@@ -13,4 +13,4 @@ returns-in-Ok-clause-writes g c =
 pub returns-in-Ok-clause-stats : goal.returns-in-Ok-clause-stats
 returns-in-Ok-clause-stats g c =
     let report = rw (c.world-world.ensures.sessions, c.world-world.ensures.assets, c.world-world.ensures.labels, c.world-world.ensures.bars, c.world-world.ensures.adjustments, c.world-world.ensures.numbers) at c.in-Ok.ensures.report in
-    c.stats_of.ensures ∙ stats-are c.args.options.now.stats _ _ _ _ _ _ report c.requires.ready.plan c.bound.ensures.value
+    c.stats_of.ensures ∙ stats-are c.args.options.now.stats _ _ _ _ _ _ _ report c.requires.ready.plan refl

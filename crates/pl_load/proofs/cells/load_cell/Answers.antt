@@ -7,7 +7,7 @@ use Rattle.pl_words.specs.declared.request.InputFile.TheVariants.{Pipeline}
 use Rattle.pl_words.specs.Request.{Explain}
 use Rattle.pl_words.specs.Views.{explain_of}
 use Rattle.pl_judge.proofs.StepsRead.{cell-quiet}
-use Rattle.pl_load.proofs.Joined.{is_file, file-read, pipeline-one, judged, refused, stops, part-stops, part-stops-later, part-done, stops-later, both-done}
+use Rattle.pl_load.proofs.Joined.{is_file, file-read, evaluated-one, judged, refused, stops, part-stops, part-stops-later, part-done, stops-later, both-done}
 use Rattle.pl_load.proofs.Works.{whole, cell_rest, cell-first, cell-world}
 use Rattle.pl_load.proofs.KnownWorlds.{explain-asks}
 use Rattle.pl_load.proofs.cells.load_cell.Goals as goal
@@ -15,14 +15,14 @@ use Rattle.pl_load.proofs.cells.load_cell.Goals as goal
 pub returns-in_err-checked-clause-load : goal.returns-in_err-checked-clause-load
 returns-in_err-checked-clause-load g c =
     let p = err_from_is_err_and c.from_residual.result c.from_residual.ensures.1 in
-    rw (p.1, p.2) (stops (file-read _ (Some (Explain (explain_of c.args.request.now))) Pipeline refl pipeline-one c.in_err-checked.ensures) _ (λ held. refl))
+    rw (p.1, p.2) (stops (file-read _ (Some (Explain (explain_of c.args.request.now))) Pipeline refl (evaluated-one _) c.in_err-checked.ensures) _ (λ held. refl))
 
 pub returns-in_err-world-clause-load : goal.returns-in_err-world-clause-load
 returns-in_err-world-clause-load g c =
     let p = err_from_is_err_and c.from_residual-in_err-world.result c.from_residual-in_err-world.ensures.1 in
     let q = explain_of c.args.request.now in
     rw (p.1, p.2)
-    (stops-later (file-read _ (Some (Explain q)) Pipeline refl pipeline-one c.in_ok-checked.ensures)
+    (stops-later (file-read _ (Some (Explain q)) Pipeline refl (evaluated-one _) c.in_ok-checked.ensures)
     (part-stops (cell_rest q (pipeline_of c.in_ok-checked.checked)) (c.in_err-world.ensures.data (Some (Explain q)) (explain-asks q)) _ (λ held. refl)) (is_file Pipeline) false (λ f r m. cell-first q _ f r m))
 
 pub returns-in_err-cell-clause-load : goal.returns-in_err-cell-clause-load
@@ -31,7 +31,7 @@ returns-in_err-cell-clause-load g c =
     let q = explain_of c.args.request.now in
     let cell = c.in_err-cell.ensures in
     rw (p.1, p.2)
-    (stops-later (file-read _ (Some (Explain q)) Pipeline refl pipeline-one c.in_ok-checked.ensures)
+    (stops-later (file-read _ (Some (Explain q)) Pipeline refl (evaluated-one _) c.in_ok-checked.ensures)
     (part-stops-later (cell_rest q (pipeline_of c.in_ok-checked.checked)) (c.in_ok-world.ensures.data (Some (Explain q)) (explain-asks q)) (refused _ _ (Some (Explain q)) (cell-quiet _ _ _ q) cell.ends cell.risen) whole true
     (λ f r m. cell-world q _ _ f r m)) (is_file Pipeline) false (λ f r m. cell-first q _ f r m))
 
@@ -39,7 +39,7 @@ pub returns-clause-load : goal.returns-clause-load
 returns-clause-load g c =
     let q = explain_of c.args.request.now in
     let cell = c.in_ok-cell.ensures in
-    both-done (file-read _ (Some (Explain q)) Pipeline refl pipeline-one c.in_ok-checked.ensures)
+    both-done (file-read _ (Some (Explain q)) Pipeline refl (evaluated-one _) c.in_ok-checked.ensures)
     (part-done (cell_rest q (pipeline_of c.in_ok-checked.checked)) (λ held. world_held held q.world ≡ owned_world c.in_ok-world.world) (c.in_ok-world.ensures.data (Some (Explain q)) (explain-asks q)) (judged _ _ (Some (Explain q)) (cell-quiet _ _ _ q) cell.ends) whole true
     (λ f r m. cell-world q _ _ f r m) (λ f r m h. m.world)) (is_file Pipeline) false (λ f r m. cell-first q _ f r m)
     (λ f r m h. record { pipeline = m; world = h; term = cell.term; asset = cell.asset; session = cell.session })

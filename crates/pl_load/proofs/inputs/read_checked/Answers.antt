@@ -1,14 +1,15 @@
+use Rattle.std.proofs.Common.{refl}
 use Rattle.std.proofs.lemmas.Result.{err_from_is_err_and}
 use Rattle.pl_syntax.specs.declared.script.Script.{Script}
 use Rattle.pl_syntax.specs.Scripts.{parsed}
 use Rattle.pl_terms.specs.Checked.{Parts, pipeline_of}
-use Rattle.pl_load.proofs.ScriptReads.{pipeline-read, no-pipeline, no-script}
+use Rattle.pl_load.proofs.ScriptReads.{pipeline-read, no-pipeline, stopped-before}
 use Rattle.pl_load.proofs.inputs.read_checked.Goals as goal
 
 pub returns-in_err-script : goal.returns-in_err-script
 returns-in_err-script g c =
     let p = err_from_is_err_and c.from_residual.result c.from_residual.ensures.1 in
-    rw (p.1, p.2) (no-script _ _ c.in_err-script.ensures)
+    rw (p.1, p.2) (stopped-before c.in_err-script.ensures _ (λ held. refl))
 
 pub returns-in_err-check : goal.returns-in_err-check
 returns-in_err-check g c =

@@ -37,12 +37,9 @@ pub returns-clause-data : goal.returns-clause-data
 returns-clause-data g c = λ asked names.
     let q = world_names_of c.args.names.now in
     let days = c.in_ok-sessions.sessions in
-    let w = with_rows days c.in_ok-assets.assets c.in_ok-rows.rows c.none-numbers.result in
+    let w = with_rows days c.in_ok-assets.assets c.in_ok-rows.rows in
     both-done (file-read _ asked Sessions names.sessions (file-one Sessions _) c.in_ok-sessions.ensures)
     (part-done (after_days q days) (λ held. world_over q days held ≡ owned_world w)
     (file-read _ asked Assets names.assets (file-one Assets _) c.in_ok-assets.ensures) (c.in_ok-rows.ensures.rows asked names) (is_file Assets) false
-    (λ f r m. assets-first q days _ f r m) (λ f r m h. rows-world q days _ _ c.none-numbers.result f r c.none-numbers.ensures.rows m h)) (is_file Sessions) false
+    (λ f r m. assets-first q days _ f r m) (λ f r m h. rows-world q days _ _ f r m h)) (is_file Sessions) false
     (λ f r m. days-first q days f r m) (λ f r m h. days-world q w f r m h)
-
-pub returns-clause-made : goal.returns-clause-made
-returns-clause-made g c = rw c.none-numbers.ensures.rows c.in_ok-rows.ensures.made

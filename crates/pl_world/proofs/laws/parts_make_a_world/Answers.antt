@@ -3,4 +3,14 @@ use Rattle.pl_world.proofs.laws.parts_make_a_world.Goals as goal
 
 pub returns : goal.returns
 returns c =
-    parts_make_a_world c.args.world.now c.requires c.len-sessions.ensures.days c.len-assets.ensures.assets c.len-labels.ensures.labels c.len-bars.ensures.bars c.len-adjustments.ensures.in_order c.len-numbers.ensures.numbers
+    parts_make_a_world c.args.world.now
+    record {
+      made = c.requires;
+      days = c.len-sessions.ensures.days;
+      assets = c.assets_and_labels.ensures.assets;
+      labels = c.assets_and_labels.ensures.labels;
+      bars = c.len-bars.ensures.bars;
+      in_order = c.len-adjustments.ensures.in_order;
+      puts = c.len-adjustments.ensures.cells;
+      numbers = c.len-numbers.ensures.numbers;
+    }

@@ -5,4 +5,4 @@ use Rattle.pl_world.proofs.laws.values_follow_nodes.Goals as goal
 pub returns : goal.returns
 returns c w t n e a d =
     let p = pipeline_of c.args.checked.now in
-    value_at-node w p.names p.graph c.graph-terms.ensures.checked.graph t n e a d
+    value_at-node w p.names p.graph c.is_checked.ensures.graph t n e a d

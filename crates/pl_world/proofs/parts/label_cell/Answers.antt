@@ -13,7 +13,7 @@ returns-clause-value c =
     let w = c.args.world.now in
     let texts = c.args.world.now.labels.now.texts in
     let name : name_at c.args.checked.now.names c.args.name ≡ c.label_name-text.result.now = ap (λ (o : Option (List ℕ)). unwrap_or o []) c.label_name-text.ensures in
-    let those = labels_those w.sessions.now w.assets.now w.labels.now.rows texts w.bars.now w.adjustments.now w.numbers.now.rows c.len-assets.ensures.assets.ascend c.requires.made.labels_in
+    let those = labels_those w.sessions.now w.assets.now w.labels.now.rows texts w.bars.now w.adjustments.now w.numbers.now.rows c.parts_make_a_world.ensures.sound.assets.ascend c.requires.made.labels_in
     (name_at c.args.checked.now.names c.args.name) c.args.col (pos c.args.session) c.requires.col in
     to_z-of_z w64 _ fits ∙ simp to_z-of_z at c.label_value.ensures.value
     ∙ sym (ap (label_code texts) (those

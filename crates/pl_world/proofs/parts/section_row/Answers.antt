@@ -16,8 +16,8 @@ keep_row-requires-clause-mask c =
     let w = c.args.world.now in
     let n = c.node.result.now in
     let is : slice_get c.args.checked.now.graph c.args.t.0 ≡ Some n = ap (λ ns. slice_get ns c.args.t.0) (sym c.graph.ensures.value) ∙ c.node.ensures in
-    let texts : HasTexts (world_of w) = texts-coded w.sessions.now w.assets.now w.labels.now w.bars.now w.adjustments.now w.numbers.now.rows c.len-rows.ensures.labels in
-    let fit = mask-fits w c.args.checked.now c.graph.ensures.checked c.len-assets.ensures.assets c.args.session c.args.t.0 n is (c.requires.kind n is) texts c.args.values.now _ _ c.requires.rows in
+    let texts : HasTexts (world_of w) = texts-coded w.sessions.now w.assets.now w.labels.now w.bars.now w.adjustments.now w.numbers.now.rows c.assets_and_labels.ensures.labels in
+    let fit = mask-fits w c.args.checked.now c.graph.ensures.checked c.assets_and_labels.ensures.assets c.args.session c.args.t.0 n is (c.requires.kind n is) texts c.args.values.now _ _ c.requires.rows in
     some-mapped (λ v. v.items) (λ (m : List ℤ). length m ≡ length w.assets.now) c.args.mask.now fit
 
 pub section_cells-requires-clause-parameters : goal.section_cells-requires-clause-parameters
@@ -25,17 +25,17 @@ section_cells-requires-clause-parameters c =
     let w = c.args.world.now in
     let n = c.node.result.now in
     let is : slice_get c.args.checked.now.graph c.args.t.0 ≡ Some n = ap (λ ns. slice_get ns c.args.t.0) (sym c.graph.ensures.value) ∙ c.node.ensures in
-    let texts : HasTexts (world_of w) = texts-coded w.sessions.now w.assets.now w.labels.now w.bars.now w.adjustments.now w.numbers.now.rows c.len-rows.ensures.labels in
-    right w c.args.checked.now c.graph.ensures.checked c.len-assets.ensures.assets c.args.session c.args.t.0 n is (c.requires.kind n is) texts
+    let texts : HasTexts (world_of w) = texts-coded w.sessions.now w.assets.now w.labels.now w.bars.now w.adjustments.now w.numbers.now.rows c.assets_and_labels.ensures.labels in
+    right w c.args.checked.now c.graph.ensures.checked c.assets_and_labels.ensures.assets c.args.session c.args.t.0 n is (c.requires.kind n is) texts
 
 pub section_cells-requires-clause-groups : goal.section_cells-requires-clause-groups
 section_cells-requires-clause-groups c =
     let w = c.args.world.now in
     let n = c.node.result.now in
     let is : slice_get c.args.checked.now.graph c.args.t.0 ≡ Some n = ap (λ ns. slice_get ns c.args.t.0) (sym c.graph.ensures.value) ∙ c.node.ensures in
-    let texts : HasTexts (world_of w) = texts-coded w.sessions.now w.assets.now w.labels.now w.bars.now w.adjustments.now w.numbers.now.rows c.len-rows.ensures.labels in
+    let texts : HasTexts (world_of w) = texts-coded w.sessions.now w.assets.now w.labels.now w.bars.now w.adjustments.now w.numbers.now.rows c.assets_and_labels.ensures.labels in
     subst (Fits (length c.args.values.now)) (sym c.lent.ensures)
-    (groups-fit w c.args.checked.now c.graph.ensures.checked c.len-assets.ensures.assets c.args.session c.args.t.0 n is (c.requires.kind n is) texts c.args.values.now _ _ c.requires.rows)
+    (groups-fit w c.args.checked.now c.graph.ensures.checked c.assets_and_labels.ensures.assets c.args.session c.args.t.0 n is (c.requires.kind n is) texts c.args.values.now _ _ c.requires.rows)
 
 pub returns-clause-row : goal.returns-clause-row
 returns-clause-row c =
@@ -43,10 +43,10 @@ returns-clause-row c =
     let p = c.args.checked.now in
     let n = c.node.result.now in
     let is : slice_get c.args.checked.now.graph c.args.t.0 ≡ Some n = ap (λ ns. slice_get ns c.args.t.0) (sym c.graph.ensures.value) ∙ c.node.ensures in
-    let texts : HasTexts (world_of w) = texts-coded w.sessions.now w.assets.now w.labels.now w.bars.now w.adjustments.now w.numbers.now.rows c.len-rows.ensures.labels in
+    let texts : HasTexts (world_of w) = texts-coded w.sessions.now w.assets.now w.labels.now w.bars.now w.adjustments.now w.numbers.now.rows c.assets_and_labels.ensures.labels in
     let f = section-is (kind_of n.kind) (c.requires.kind n is) in
     let ok = c.graph.ensures.checked in
-    let assets = c.len-assets.ensures.assets in
+    let assets = c.assets_and_labels.ensures.assets in
     let given = section-given w p ok assets c.args.session c.args.t.0 n is (c.requires.kind n is) texts c.args.values.now _ _ c.requires.rows c.in_ok-keep.keep.items c.in_ok-keep.ensures f.0 f.1 in
     let wide = values-long w p ok assets c.args.session c.args.t.0 n is (c.requires.kind n is) texts c.args.values.now _ _ c.requires.rows in
     IfOk-weaker c.section_cells.result _ _ (λ v h. row-whole w p c.args.t.0 c.args.session v.items MISSING (h.long ∙ wide)
