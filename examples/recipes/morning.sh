@@ -3,10 +3,12 @@
 # Usage: morning.sh STORE NEWS TODAY
 #
 # STORE holds the files of a run: p.pl, sessions.csv, assets.csv, bars.csv, and where they are used
-# labels.csv, revisions.csv and adjustments.db. NEWS holds what came; what did not come may be left out:
-#   bars.csv, labels.csv, revisions.csv       rows to add, under the headers of those files
-#   assets.csv                                new assets, and those with another end, in place of the old rows
-#   splits.csv, mergers.csv, dividends.csv    as adjustments.sh takes them
+# labels.csv, numbers.csv, revisions.csv and adjustments.db. NEWS holds what came; what did not come may be
+# left out:
+#   bars.csv, labels.csv, numbers.csv, revisions.csv    rows to add, under the headers of those files
+#   assets.csv                                          new assets, and those with another end, in place of the
+#                                                       old rows
+#   splits.csv, mergers.csv, dividends.csv              as adjustments.sh takes them
 # The program runs over the files with the news before they are put into STORE: where it finds a fault in
 # them, STORE stays as it was. A second call for the same morning adds nothing. Assets whose end is reached
 # are named on standard error, since they have no row from today on. TOHMERIL names the program, if it is not
@@ -59,7 +61,7 @@ SQL
 # Today's rows, over the files of the current folder.
 run_today() {
     local option options=()
-    for option in labels:labels.csv revisions:revisions.csv adjustments:adjustments.db; do
+    for option in labels:labels.csv numbers:numbers.csv revisions:revisions.csv adjustments:adjustments.db; do
         [ ! -e "${option#*:}" ] || options+=("--${option%%:*}" "${option#*:}")
     done
     "${TOHMERIL:-tohmeril}" run p.pl sessions.csv assets.csv bars.csv "$today" "$today" "${options[@]}"
@@ -78,10 +80,10 @@ fi
 work=$(mktemp -d "$store/morning.XXXXXX")
 trap 'rm -rf "$work"' EXIT
 cd "$work"
-for file in p.pl assets.csv bars.csv labels.csv revisions.csv adjustments.db; do
+for file in p.pl assets.csv bars.csv labels.csv numbers.csv revisions.csv adjustments.db; do
     [ ! -e "$store/$file" ] || ln -s "$store/$file" "$file"
 done
-for file in bars labels revisions; do
+for file in bars labels numbers revisions; do
     add_rows "$file.csv"
 done
 replace_assets
@@ -95,7 +97,7 @@ run_today > rows || status=$?
 ended=$(tr -d '\r' < assets.csv | awk -F, -v last="$last" -v today="$today" '$3 >= last && $3 < today { printf " %s", $1 }')
 [ -z "$ended" ] || echo "morning: the end of these assets is reached, so that they have no row from $today on:$ended;" \
     "give those that still trade a later end" >&2
-for file in assets.csv bars.csv labels.csv revisions.csv adjustments.db sessions.csv; do
+for file in assets.csv bars.csv labels.csv numbers.csv revisions.csv adjustments.db sessions.csv; do
     [ -L "$file" ] || [ ! -e "$file" ] || mv "$file" "$store"
 done
 cat rows
