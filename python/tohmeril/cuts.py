@@ -11,6 +11,7 @@ import shutil
 import sqlite3
 import zlib
 from contextlib import closing, contextmanager
+from itertools import islice
 from pathlib import Path
 from tempfile import TemporaryDirectory
 from typing import Iterator, NamedTuple, Sequence, Union
@@ -90,14 +91,15 @@ def _table(data: Data, part: str) -> pd.DataFrame:
         raise DataFault(f"{path}:1: data BadHeader")
     columns: dict[str, list[str]] = {name: [] for name in header}
     once: dict[str, str] = {}  # equal texts are one, since there may be millions
-    for number, row in enumerate(rows, 2):
-        if len(row) != len(header):
-            raise DataFault(f"{path}:{number}: data BadField")
-        for column, field in zip(columns.values(), row):
-            column.append(once.setdefault(field, field))
+    while block := list(islice(rows, 1 << 16)):
+        for at, row in enumerate(block, len(columns["sid"]) + 2):
+            if len(row) != len(header):
+                raise DataFault(f"{path}:{at}: data BadField")
+        for column, fields in zip(columns.values(), zip(*block)):
+            column.extend(map(once.setdefault, fields, fields))
     table = pd.DataFrame(columns, dtype=object)
     table.index += 1
-    return table.sort_values(SINCE[part], kind="stable") if part in SINCE else table
+    return table.sort_values(SINCE[part], kind="stable", key=lambda days: days.astype("category").cat.codes) if part in SINCE else table
 
 
 def _kept(part: str, table: pd.DataFrame, span: Span) -> pd.Series:
