@@ -4,7 +4,7 @@ symbol.
 
 Usage: bars.py FOLDER close.csv volume.csv .. Each file is named by what it holds: open, high, low, close or
 volume. Prices are as they were quoted on their day; an empty field is a missing value. It needs the package
-in python/, whose Data.write takes splits, dividends, labels and revisions too.
+in python/, whose Data.write takes splits, dividends, labels, numbers and revisions too.
 """
 import sys
 from pathlib import Path

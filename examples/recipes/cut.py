@@ -3,9 +3,9 @@
 few bars each.
 
 Usage: cut.py PIPELINE FOLDER FROM TO PIECES TARGET. It makes the folders TARGET/0, TARGET/1 .. with the bars,
-assets, labels, adjustments and revisions that a piece reads (`plan` says from which session on), and prints a
-line for each piece: its folder, its first and its last session. A run of each piece and their tables joined
-in order give the table of the whole. It needs the package in python/.
+assets, labels, numbers, adjustments and revisions that a piece reads (`plan` says from which session on), and
+prints a line for each piece: its folder, its first and its last session. A run of each piece and their tables
+joined in order give the table of the whole. It needs the package in python/.
 """
 import sys
 from pathlib import Path

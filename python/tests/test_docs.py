@@ -10,13 +10,14 @@ from conftest import CHECKOUT
 
 from tohmeril import plots, run_chunked_pipeline, run_pipeline
 from tohmeril.pipeline import Inexpressible, Pipeline, classifiers, factors, filters
-from tohmeril.pipeline.data import Column, DataSet, EquityPricing, Labels
+from tohmeril.pipeline.data import Column, DataSet, DataSetFamily, EquityPricing, Labels
 
 PAGES = [CHECKOUT / "python/README.md", CHECKOUT / "docs/ZIPLINE.md"]
 ZIPLINE = PAGES[1].read_text()
 NAMES = {**vars(factors), **vars(filters), **vars(classifiers), "Labels": Labels, "c": Labels.sector.latest, "y": factors.Returns(window_length=5),
          "z": factors.RSI(), **{name: getattr(EquityPricing, name) for name in ("open", "high", "low", "close", "volume")}}
-NAMES.update(Column=Column, DataSet=DataSet, f=NAMES["close"].latest > 5, g=NAMES["volume"].latest > 0, abs=abs, len=len)
+NAMES.update(Column=Column, DataSetFamily=DataSetFamily, Fundamentals=type("Fundamentals", (DataSet,), {"earnings": Column(float)}),
+             f=NAMES["close"].latest > 5, g=NAMES["volume"].latest > 0, abs=abs, len=len)
 
 
 def cells(heading):

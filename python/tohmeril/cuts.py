@@ -11,6 +11,7 @@ import shutil
 import sqlite3
 import zlib
 from contextlib import closing, contextmanager
+from itertools import islice
 from pathlib import Path
 from tempfile import TemporaryDirectory
 from typing import Iterator, NamedTuple, Sequence, Union
@@ -24,6 +25,7 @@ from .pipeline.script import Script
 from .plans import plan
 
 BLOCK = 8 << 20  # bytes of bars at a time
+SINCE = {"labels": "start", "numbers": "known"}  # the day from which on a record of these files holds, until the next one of its name
 
 
 class Span(NamedTuple):
@@ -39,7 +41,7 @@ def cut_files(script: Script, data: Data, ranges: Sequence[tuple[str, str]], fol
     for part, path in data.files.items():
         if part != "adjustments" and not os.access(path, os.R_OK):
             raise ReadFault(f"read: {path}")
-    tables = {part: _table(data, part) for part in ("assets", "labels", "revisions") if part in data.files}
+    tables = {part: _table(data, part) for part in ("assets", "labels", "numbers", "revisions") if part in data.files}
     assets = tables["assets"]
     spans = []
     for at, (start, end) in enumerate(ranges):
@@ -49,7 +51,7 @@ def cut_files(script: Script, data: Data, ranges: Sequence[tuple[str, str]], fol
         span.folder.mkdir()
         shutil.copyfile(data.files["sessions"], span.folder / FILES["sessions"])
         for part, table in tables.items():
-            rows = table[_kept(part, table, span)]
+            rows = table[_kept(part, table, span)].sort_index()
             rows.to_csv(span.folder / FILES[part], index=False)
             np.append(1, rows.index + 1).astype("i8").tofile(span.folder / f"{part}.records")
         if "adjustments" in data.files:
@@ -83,23 +85,31 @@ def unpacked(data: Union[Data, dict[str, bytes]]) -> Iterator[Data]:
 
 
 def _table(data: Data, part: str) -> pd.DataFrame:
-    """The records of a file as texts, by their numbers less 1."""
-    path, header, rows = data.files[part], HEADERS[part], list(records(data.files[part]))
-    if rows[:1] != [header]:
+    """The records of a file as texts, by their numbers less 1, and by day where they hold from a day on."""
+    path, header, rows = data.files[part], HEADERS[part], records(data.files[part])
+    if next(rows, None) != header:
         raise DataFault(f"{path}:1: data BadHeader")
-    for number, row in enumerate(rows, 1):
-        if len(row) != len(header):
-            raise DataFault(f"{path}:{number}: data BadField")
-    return pd.DataFrame(rows, columns=header).drop(index=0)
+    columns: dict[str, list[str]] = {name: [] for name in header}
+    once: dict[str, str] = {}  # equal texts are one, since there may be millions
+    while block := list(islice(rows, 1 << 16)):
+        for at, row in enumerate(block, len(columns["sid"]) + 2):
+            if len(row) != len(header):
+                raise DataFault(f"{path}:{at}: data BadField")
+        for column, fields in zip(columns.values(), zip(*block)):
+            column.extend(map(once.setdefault, fields, fields))
+    table = pd.DataFrame(columns, dtype=object)
+    table.index += 1
+    return table.sort_values(SINCE[part], kind="stable", key=lambda days: days.astype("category").cat.codes) if part in SINCE else table
 
 
 def _kept(part: str, table: pd.DataFrame, span: Span) -> pd.Series:
-    """Which records of the assets, the labels or the revisions a piece reads."""
+    """Which records of a table a piece reads."""
     kept = table.sid.isin(span.sids)
-    if part == "labels":  # those that begin within the piece, and the newest ones before it
-        kept &= table.start <= span.last
-        old = table[kept & (table.start <= span.first)].sort_values("start", kind="stable")
-        kept &= (table.start > span.first) | table.index.isin(old.drop_duplicates(["name", "sid"], keep="last").index)
+    if part in SINCE:  # those that begin within the piece, and the newest ones before it
+        since = table[SINCE[part]]
+        kept &= since <= span.last
+        old = table[kept & (since <= span.first)]
+        kept &= (since > span.first) | table.index.isin(old.drop_duplicates(["name", "sid"], keep="last").index)
     if part == "revisions":
         kept &= (table.session >= span.first) & (table.session < span.last) & (table.known <= span.last)
     return kept

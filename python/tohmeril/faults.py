@@ -23,6 +23,7 @@ HINTS = {  # by the last word of the line; docs/FILES.md and docs/LANGUAGE.md in
                      "Returns and ranks",
     "Redefined": "a column, a let or the screen is there twice, or a let has a name of the language",
     "NoColumn": "a pipeline has one column at least",
+    "NoNumbers": "the data have no numbers; Data.write takes them as numbers=, or write numbers.csv into the folder",
     "BadHeader": "write the header of docs/FILES.md",
     "BadDate": "write YYYY-MM-DD; the sessions have no header",
     "NotAscending": "sort the sessions, each once",
@@ -48,6 +49,7 @@ HINTS = {  # by the last word of the line; docs/FILES.md and docs/LANGUAGE.md in
     "sessions": "a calendar has at most 16,000 sessions; leave out the oldest",
     "assets": "a run reads at most 8,000 assets" + CUT,
     "labels": "a run reads at most 200,000 labels; leave out those that change nothing, or" + CUT[1:],
+    "numbers": "a run reads at most 2,000,000 numbers; leave out those that change nothing, or" + CUT[1:],
     "bars": "a run reads at most 4,000,000 bars" + CUT,
     "adjustments": "a run reads at most 1,000,000 adjustments" + CUT,
     "revisions": "a run reads at most 200,000 revisions" + CUT,
@@ -58,7 +60,7 @@ DATE, SID, DECIMAL = r"\d{4}-\d\d-\d\d", r"0|[1-9]\d{0,9}", r"-?\d+(\.\d{1,18})?
 FORMS = {"sid": SID, **dict.fromkeys(("session", "start", "end", "known", "ex"), DATE), "column": "open|high|low|close|volume",
          "name": r"[A-Za-z_]\w{0,31}", "label": r"[ -~]{0,64}", "amount": DECIMAL,
          **dict.fromkeys(("open", "high", "low", "close", "volume", "value"), f"({DECIMAL})?")}
-WRONG = {"NotSession": "session", "UnknownSid": "sid", "DuplicateSid": "sid", "Duplicate": "session", "StartAfterEnd": "start",
+WRONG = {"NotSession": "session", "UnknownSid": "sid", "DuplicateSid": "sid", "Duplicate": "session known", "StartAfterEnd": "start",
          "LabelTooLong": "label", "DuplicateStart": "start", "TooSoon": "known", "NotPositive": "amount", "BadEffective": "effective_date"}
 
 
@@ -151,7 +153,7 @@ class DataFault(Fault, status=4):
         breaks = {"BadField": lambda name, field: not re.fullmatch(FORMS.get(name, ".*"), field),
                   "Negative": lambda name, field: field.startswith("-"),
                   "BadRatio": lambda name, field: name in ("num", "den") and not 1 <= int(field) <= 10**9,
-                  }.get(self.rule, lambda name, field: name == WRONG.get(self.rule))
+                  }.get(self.rule, lambda name, field: name in WRONG.get(self.rule, "").split())
         shown = f"    {'row' if self.table else 'record'} {self.record}: {','.join(fields)}"
         for at, (name, field) in enumerate(zip(names, fields)):
             if breaks(name, field):

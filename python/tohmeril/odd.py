@@ -24,7 +24,8 @@ def check(data: Data, pipelines: Sequence = (), table: Optional[pd.DataFrame] = 
     ----------
     data : Data
     pipelines : sequence of Pipeline, str or Path
-        All pipelines that are run over the data: with them, labels that none of them names and names without labels are listed.
+        All pipelines that are run over the data: with them, labels and numbers that none of them names, and names without labels
+        or numbers, are listed.
     table : DataFrame, optional
         A frame of `run_pipeline`: its columns without any value are listed.
 
@@ -41,7 +42,8 @@ def check(data: Data, pipelines: Sequence = (), table: Optional[pd.DataFrame] = 
     except LimitFault as fault:  # the rest can be looked at all the same
         found.append(str(fault).replace("\n", ": "))
     assets = pd.read_csv(data.files["assets"])
-    return [*found, *_lives(assets, last), *_bars(data), *_adjustments(data, assets), *_labels(data, pipelines), *_columns(table)]
+    return [*found, *_lives(assets, last), *_bars(data), *_adjustments(data, assets), *_names(data, pipelines, "labels"),
+            *_names(data, pipelines, "numbers"), *_periods(data), *_columns(table)]
 
 
 def _lives(assets: pd.DataFrame, last: str) -> Iterator[str]:
@@ -78,12 +80,21 @@ def _adjustments(data: Data, assets: pd.DataFrame) -> Iterator[str]:
                 yield f"{name}: none of {len(rows)} falls within the bars, so that none does anything"
 
 
-def _labels(data: Data, pipelines: Sequence) -> Iterator[str]:
-    named = {name for pipeline in pipelines for name in re.findall(r'label\("(\w+)"\)', scripted(pipeline).text)}
-    there = set(pd.read_csv(data.files["labels"], usecols=["name"], dtype=str)["name"]) if "labels" in data.files else set()
+def _names(data: Data, pipelines: Sequence, part: str) -> Iterator[str]:
+    """What is named in the labels or the numbers and in no pipeline, and the other way round."""
+    named = {name for pipeline in pipelines for name in re.findall(rf'\b{part[:-1]}\("(\w+)"\)', scripted(pipeline).text)}
+    there = set(pd.read_csv(data.files[part], usecols=["name"], dtype="category", na_filter=False)["name"]) if part in data.files else set()
     if pipelines:
-        yield from (f"labels: no pipeline names {name!r}" for name in sorted(there - named))
-    yield from (f"labels: there are none of the name {name!r}, so that its column is empty" for name in sorted(named - there))
+        yield from (f"{part}: no pipeline names {name!r}" for name in sorted(there - named))
+    yield from (f"{part}: there are none of the name {name!r}, so that its column is empty" for name in sorted(named - there))
+
+
+def _periods(data: Data) -> Iterator[str]:
+    if "numbers" in data.files:
+        rows = pd.read_csv(data.files["numbers"], usecols=["name", "known"], dtype="category", na_filter=False).drop_duplicates()
+        for name, known in rows.groupby("name", observed=True).known:
+            if len(known) > 2 and pd.to_datetime(known.astype(str)).dt.is_month_end.all():
+                yield f"numbers: {name!r} is known on the last days of months alone, as periods end: give the days of publication"
 
 
 def _columns(table: Optional[pd.DataFrame]) -> Iterator[str]:

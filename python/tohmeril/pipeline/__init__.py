@@ -54,7 +54,7 @@ class Pipeline:
         if not isinstance(name, str):
             raise TypeError(f"the name of a column is a text, not {name!r}")
         if isinstance(term, BoundColumn) or not isinstance(term, Term):
-            raise TypeError(f"column {name!r} is {term!r} and no factor, filter or classifier; .latest is the newest value of bars")
+            raise TypeError(f"column {name!r} is {term!r} and no factor, filter or classifier; .latest is the newest value of a column")
         if name in self._columns and not overwrite:
             raise KeyError(f"Column {name!r} already exists.")
         self._columns[name] = term

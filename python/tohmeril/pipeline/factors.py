@@ -24,7 +24,7 @@ from typing import Optional, Sequence
 import numpy as np
 
 from .data import EquityPricing
-from .term import CALL, Absent, BoundColumn, Classifier, Factor, Filter, Mask, Term
+from .term import CALL, Absent, BoundColumn, Classifier, Factor, Filter, Mask, NumberColumn, Term
 
 _HIGH, _LOW, _CLOSE, _VOLUME = (getattr(EquityPricing, name) for name in ("high", "low", "close", "volume"))
 
@@ -57,6 +57,7 @@ class Windowed:
                 raise TypeError(f"{cls.__name__}: {term!r} can't be its input")
         if cls.fixed and inputs != tuple(cls.inputs):
             Absent(f"{cls.__name__} of {', '.join(map(repr, inputs))}", f"that of {', '.join(map(repr, cls.inputs))}")()
+        inputs = tuple(term.latest if isinstance(term, NumberColumn) else term for term in inputs)
         return cls.term(() if cls.fixed else inputs, window_length, mask, **params)
 
     @classmethod

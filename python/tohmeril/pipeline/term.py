@@ -23,7 +23,9 @@ from numbers import Real
 from typing import Callable, Iterable, Optional, Union
 from weakref import WeakValueDictionary
 
-CALL, MEMBER, PROPERTY, INFIX, PREFIX, WORD, ALIAS = "call", "member", "property", "infix", "prefix", "word", "alias"
+import numpy as np
+
+CALL, MEMBER, PROPERTY, INFIX, PREFIX, WORD, TEXT, ALIAS = "call", "member", "property", "infix", "prefix", "word", "text", "alias"
 GREATEST = Decimal(10) ** 11  # no cell has a greater magnitude
 Value = Union["Factor", float]
 Mask, Group = Optional["Filter"], Optional["Classifier"]
@@ -77,7 +79,7 @@ def factor(value: Value) -> Factor:
     if isinstance(value, Factor):
         return value
     if isinstance(value, BoundColumn):
-        raise TypeError(f"{value!r} is a column of bars and no factor: write .latest for its newest value")
+        raise TypeError(f"{value!r} is a column of {value.holds} and no factor: write .latest for its newest value")
     if isinstance(value, float) and math.isnan(value):
         return Factor(INFIX, "/", factor(1), factor(0))
     return Factor(WORD, f"{number(value):f}")
@@ -160,6 +162,7 @@ def _arithmetic(sign: str, doc: str) -> tuple[Callable, Callable]:
 class BoundColumn(Term):
     """A column of bars, such as `EquityPricing.close`: an input of windows, and by `latest` a factor."""
     __slots__ = ()
+    holds = "bars"
 
     @property
     def latest(self) -> Factor:
@@ -167,7 +170,32 @@ class BoundColumn(Term):
         return Factor(PROPERTY, "latest", self)
 
     def __getattr__(self, name):
-        raise AttributeError(f"{self!r} is a column of bars and has no {name}: write {self!r}.latest for its newest value")
+        raise AttributeError(f"{self!r} is a column of {self.holds} and has no {name}: write {self!r}.latest for its newest value")
+
+
+class NumberColumn(BoundColumn):
+    """A column of a DataSet, such as `Fundamentals.earnings`: the numbers that go by `name` in the data.
+
+    As an input of windows it is its `latest`, so that a window of W holds today's value and those of the W - 1 sessions before.
+    """
+    __slots__ = ()
+    holds = "numbers"
+    dtype = np.dtype("float64")
+    missing_value = np.nan
+    alias = downsample = property()  # those of `latest`
+
+    @property
+    def latest(self) -> Factor:
+        """The value that became known last, of those known by today. Missing where there is none, or where it ended. Exact."""
+        return Factor(CALL, "number", self)
+
+    @property
+    def qualname(self) -> str:
+        """The names of the DataSet and of the attribute."""
+        return self.args[0]
+
+    def __repr__(self) -> str:
+        return self.qualname
 
 
 class Filter(Term):

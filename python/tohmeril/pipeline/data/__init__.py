@@ -1,8 +1,9 @@
-"""What pipelines read: the columns of bars, and the labels of assets."""
+"""What pipelines read: the columns of bars, numbers beside them, and the labels of assets."""
 from __future__ import annotations
 
 from ..script import BARS
 from ..term import CALL, WORD, Absent, BoundColumn, Text
+from .dataset import Column, DataSet
 
 
 class EquityPricing:
@@ -42,5 +43,4 @@ class _Labels:
 
 
 Labels = _Labels()
-DataSet = Absent("DataSet", "EquityPricing for numbers, Labels.NAME.latest for texts of the labels file")
-Column = DataSetFamily = Absent("Column", DataSet.nearest)
+DataSetFamily = Absent("DataSetFamily", "a DataSet for each member of the family, whose columns have names of their own")
