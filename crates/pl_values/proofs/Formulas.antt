@@ -10,7 +10,7 @@ use Rattle.pl_spec.specs.World.{World}
 use Rattle.pl_spec.specs.Window.{before, downward, seen_cell}
 use Rattle.pl_spec.specs.Kind.{Kind, WindowKind}
 use Rattle.pl_spec.specs.Kind.Kind.{Window}
-use Rattle.pl_spec.specs.Kind.WindowKind.{Latest, BollingerLower, BollingerUpper, Returns, PercentChange, RateOfChangePercentage, RSI, VWAP, AverageDollarVolume, WeightedAverageValue, TrueRange, ExponentialWeightedMovingAverage, AroonUp, AroonDown, All as AllTrue, Any, AtLeastN, AllPresent}
+use Rattle.pl_spec.specs.Kind.WindowKind.{Latest, BollingerLower, BollingerUpper, VWAP, AverageDollarVolume, WeightedAverageValue, TrueRange, ExponentialWeightedMovingAverage, All as AllTrue, Any, AtLeastN, AllPresent}
 use Rattle.pl_spec.specs.Formula.{formula}
 use Rattle.pl_spec.specs.Term.{Node, Input}
 use Rattle.pl_spec.specs.Term.Input.{BarColumn, TermInput}
@@ -71,13 +71,7 @@ from-most least w h = let m : nat_le w 1260 ≡ true = (and_parts (nat_le least 
 window-most : (f : WindowKind) (w : ℕ) → window_fits f w ≡ true → w ≤ 1260
 window-most Latest w h = let e : w ≡ 1 = grind (arith, nat_tests) in omega arith
 window-most TrueRange w h = let e : w ≡ 2 = grind (arith, nat_tests) in omega arith
-window-most Returns w h = from-most 2 w h
-window-most PercentChange w h = from-most 2 w h
-window-most RateOfChangePercentage w h = from-most 2 w h
-window-most RSI w h = from-most 2 w h
-window-most AroonUp w h = from-most 2 w h
-window-most AroonDown w h = from-most 2 w h
-window-most f w h = from-most 1 w h
+window-most f w h = from-most _ w h
 
 -- the window of an input as the definitions have it, sessions below 0 among them
 abbrev pub seen_window : World → Pipeline → List ℕ → Node → Option Input → ℕ → ℕ → List ℤ

@@ -1,5 +1,5 @@
--- Cells of a term in a row, over places or over sessions: what is given, and then put away where the asset is not kept;
--- and those of a cross-section.
+-- A term's cells in a row, over places or over sessions: what is given, and then put away where the asset is
+-- not kept; and those of a cross-section.
 use Rattle.std.proofs.Common.{◌≡◌, ℕ, ◌<◌, true, ℤ, pos, List, [], length, get_or, Option, Some, slice_get, sym, ◌∙◌, ap, subst, arith, All, AllPairs, unwrap_or}
 use Rattle.std.proofs.lemmas.List.{get_or_default}
 use Rattle.pl_spec.specs.Rounding.{MISSING, IsCell}
@@ -115,16 +115,16 @@ module _ (w : World) (p : Pipeline) (sids : List ℕ) (k : ℕ) (n : Node) (plac
 -- ---- cross-sections
 
 -- the rows of a node's cross-section on session s, for the assets in size places
-pub record IsSection (w : World) (p : Pipeline) (sids : List ℕ) (k : ℕ) (n : Node) (s size : ℕ) (values keep : List ℤ) (labels : Option (List ℤ)) : Type 0 where
+pub record IsSection (w : World) (p : Pipeline) (sids : List ℕ) (k : ℕ) (n : Node) (s size : ℕ) (xs ks : List ℤ) (ls : Option (List ℤ)) : Type 0 where
   pub node : IsNode p k n
   pub kind : is_section n.kind ≡ true
   pub texts : HasTexts w
   pub long : length sids ≡ size
   pub ascend : AllPairs (λ a b. a < b) sids
   pub all : HasAll w sids s
-  pub values : IsInputRow w p sids size (slice_get n.inputs 0) s values
-  pub keep : IsKeep (λ i. is_kept w p sids n.mask i s) size keep
-  pub groups : IsGroupRow w p sids n.group s labels
+  pub values : IsInputRow w p sids size (slice_get n.inputs 0) s xs
+  pub keep : IsKeep (λ i. is_kept w p sids n.mask i s) size ks
+  pub groups : IsGroupRow w p sids n.group s ls
 
 module _ (w : World) (p : Pipeline) (sids : List ℕ) (k : ℕ) (n : Node) (s size : ℕ) (values keep : List ℤ) (labels : Option (List ℤ)) (is : IsSection w p sids k n s size values keep labels) where
   abbrev f : CrossKind
@@ -133,8 +133,8 @@ module _ (w : World) (p : Pipeline) (sids : List ℕ) (k : ℕ) (n : Node) (s si
   kind-is : n.kind ≡ Cross f
   kind-is = (section_kind n.kind is.kind).1
 
-  rows : AreSectionRows w p sids n s values keep labels
-  rows = record {
+  section-rows : AreSectionRows w p sids n s values keep labels
+  section-rows = record {
     ascend = is.ascend;
     all = is.all;
     values = subst (λ m. IsInputRow w p sids m (slice_get n.inputs 0) s values) (sym is.long) is.values;
@@ -142,19 +142,19 @@ module _ (w : World) (p : Pipeline) (sids : List ℕ) (k : ℕ) (n : Node) (s si
     groups = is.groups;
   }
 
-  input : (t : ℕ) × Fills (λ i. cell_of w p sids t i s) size values
-  input =
+  section-row : (t : ℕ) × Fills (λ i. cell_of w p sids t i s) size values
+  section-row =
       let x = section-input w p sids is.node.checked k n is.node.node f kind-is in
       (x.0, subst (λ o. IsInputRow w p sids size o s values) x.1 is.values)
 
   pub section-long : length values ≡ size
-  section-long = input.1.long
+  section-long = section-row.1.long
 
   pub section-right : HasParameters n.kind
-  section-right = subst HasParameters (sym kind-is) (section-cell w p sids k n 0 s is.node f values keep labels is.texts kind-is rows).0
+  section-right = subst HasParameters (sym kind-is) (section-cell w p sids k n 0 s is.node f values keep labels is.texts kind-is section-rows).0
 
   pub section-cells : All IsCell values
-  section-cells = fills-all IsCell (λ i. cell_of w p sids input.0 i s) size values input.1 input.1.cell
+  section-cells = fills-all IsCell (λ i. cell_of w p sids section-row.0 i s) size values section-row.1 section-row.1.cell
 
   pub section-out : (out : List ℤ) → length out ≡ size → ((g : CrossKind) → n.kind ≡ Cross g → (i : ℕ) → i < size → at out i ≡ section_at g values keep labels i) → All IsCell out
       → Fills (λ i. cell_of w p sids k i s) size out
@@ -166,5 +166,5 @@ module _ (w : World) (p : Pipeline) (sids : List ℕ) (k : ℕ) (n : Node) (s si
     where
       is-cell : (i : ℕ) → i < size → get_or out i (pos 0) ≡ cell_of w p sids k i s
       is-cell i h =
-          let r = section-cell w p sids k n i s is.node f values keep labels is.texts kind-is rows in
+          let r = section-cell w p sids k n i s is.node f values keep labels is.texts kind-is section-rows in
           get_or_default out i (pos 0) MISSING (omega (arith, h, long)) ∙ each f kind-is i h ∙ sym (r.1 (omega (arith, h, is.long)))
