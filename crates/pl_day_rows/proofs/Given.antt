@@ -86,7 +86,8 @@ module _ (t : Turn) (v : Moment) (is : IsTurn t v) where
       (λ i h. picked i h ∙ ap (λ b. chosen b (get_or made i (pos 0)) none) ((kept_is keep kept).each i h)) size (given v is)
 
   -- a row that shows what is given where the asset is kept
-  pub shown_out : (keep out : List ℤ) (none : ℤ) (f : ℕ → ℤ) → IsKept t keep → none ≡ empty_cell p t.term.0 → Shows f none keep out → ((i : ℕ) → i < assets_at t → IsGiven w p sids t.term.0 n i s (f i)) → IsOut t v out
+  pub shown_out : (keep out : List ℤ) (none : ℤ) (f : ℕ → ℤ) → IsKept t keep → none ≡ empty_cell p t.term.0 → Shows f none keep out
+      → ((i : ℕ) → i < assets_at t → IsGiven w p sids t.term.0 n i s (f i)) → IsOut t v out
   shown_out keep out none f kept empty shows given =
       shown-cells w p sids t.term.0 n (λ i. i) (λ i. s) (assets_at t) f out none empty
       (λ i h. shows.each i (omega (arith, h, kept.long)) ∙ ap (λ b. chosen b (f i) none) ((kept_is keep kept).each i h)) (shows.long ∙ kept.long) given
@@ -129,7 +130,8 @@ module _ (t : Turn) (v : Moment) (is : IsTurn t v) where
       by_input (Some (BarColumn c)) e = tt
       by_input (Some (TermInput u)) e = (is.rows place u e).fills
 
-  pub rows_read : (a b c : List ℤ) → a ≡ input_row t.terms.now (slice_get n.inputs 0) → b ≡ input_row t.terms.now (slice_get n.inputs 1) → c ≡ input_row t.terms.now (slice_get n.inputs 2) → AreRows w p sids n s (assets_at t) a b c
+  pub rows_read : (a b c : List ℤ) → a ≡ input_row t.terms.now (slice_get n.inputs 0) → b ≡ input_row t.terms.now (slice_get n.inputs 1) → c ≡ input_row t.terms.now (slice_get n.inputs 2)
+      → AreRows w p sids n s (assets_at t) a b c
   rows_read a b c ra rb rc = record { first = input_read 0 a ra; second = input_read 1 b rb; third = input_read 2 c rc }
 
   -- ---- windows
@@ -159,7 +161,8 @@ module _ (t : Turn) (v : Moment) (is : IsTurn t v) where
     same_window place i None h = refl
     same_window place i (Some (BarColumn c)) h = refl
     same_window place i (Some (TermInput u)) h =
-        ap (λ (g : ℕ → ℤ). map g (downward n.window)) (fun_ext (λ m. sym (number_is w p is.checked u (term-numbered w p sids is.checked t.term.0 n is.node windowed_is.0 windowed_is.1 place u h) (sid_in sids i) (before (pos s) m))))
+        ap (λ (g : ℕ → ℤ). map g (downward n.window)) (fun_ext (λ m. sym (number_is w p is.checked u (term-numbered w p sids is.checked t.term.0 n is.node windowed_is.0 windowed_is.1 place u h)
+        (sid_in sids i) (before (pos s) m))))
 
     windows : (i : ℕ) → i < assets_at t → AreSeen w p sids n i s (window_at t 0 i) (window_at t 1 i) (window_at t 2 i)
     windows i h =
@@ -180,7 +183,8 @@ module _ (t : Turn) (v : Moment) (is : IsTurn t v) where
   groups_is None e = refl
   groups_is (Some u) e = subst (λ m. Fills (λ i. cell_of w p sids u i s) m (row_of (slice_get t.terms.now u))) (sym sids_long) (is.group u e).fills
 
-  pub section_is : (values keep : List ℤ) (labels : Option (List ℤ)) → values ≡ input_row t.terms.now (slice_get n.inputs 0) → labels ≡ number_row t.terms.now n.group → IsKept t keep → is_section n.kind ≡ true
+  pub section_is : (values keep : List ℤ) (labels : Option (List ℤ)) → values ≡ input_row t.terms.now (slice_get n.inputs 0) → labels ≡ number_row t.terms.now n.group → IsKept t keep
+      → is_section n.kind ≡ true
       → IsSection w p sids t.term.0 n s (assets_at t) values keep labels
   section_is values keep labels read grouped kept e = record {
     node = node_is;

@@ -56,7 +56,8 @@ module _ (t : Turn) (is : IsTurn t) where
   pub start_input : is_downsampled n.kind ≡ true → (u : ℕ) × (slice_get n.inputs 0 ≡ Some (TermInput u))
   start_input e = let o = over p is.job.task.checked t.term.0 n is.node e in (o.input, o.first)
 
-  pub start_given : (f : Frequency) (u r : ℕ) (row : List ℤ) → n.kind ≡ Downsample f → slice_get n.inputs 0 ≡ Some (TermInput u) → pos r ≡ period_start f w.days (pos t.session) → Fills (λ i. cell_of w p sids u i r) (assets_in (task_at t)) row
+  pub start_given : (f : Frequency) (u r : ℕ) (row : List ℤ) → n.kind ≡ Downsample f → slice_get n.inputs 0 ≡ Some (TermInput u) → pos r ≡ period_start f w.days (pos t.session)
+      → Fills (λ i. cell_of w p sids u i r) (assets_in (task_at t)) row
       → (i : ℕ) → i < assets_in (task_at t) → IsGivenCell w p sids t.term.0 n i t.session (get_or row i (pos 0))
   start_given f u r row e input h read i l = given-by w p sids t.term.0 n i t.session _ _ (read.each i l) (downsampled-cell w p sids t.term.0 n i t.session node_is f u r e input h) (read.cell i l)
 
@@ -91,13 +92,15 @@ module _ (t : Turn) (is : IsTurn t) where
   fills_sids f row b = subst (λ m. Fills f m row) (sym sids_long) b
 
   -- what is computed for all assets, and then put away where they are not kept
-  pub kept_out : (keep made out : List ℤ) → IsKept t keep → ((i : ℕ) → i < assets_in (task_at t) → IsGivenCell w p sids t.term.0 n i t.session (get_or made i (pos 0))) → length out ≡ assets_in (task_at t)
+  pub kept_out : (keep made out : List ℤ) → IsKept t keep → ((i : ℕ) → i < assets_in (task_at t) → IsGivenCell w p sids t.term.0 n i t.session (get_or made i (pos 0)))
+      → length out ≡ assets_in (task_at t)
       → ((i : ℕ) → i < assets_in (task_at t) → get_or out i (pos 0) ≡ kept_or t.none keep (λ j. get_or made j (pos 0)) i) → IsOut t out
   kept_out keep made out kept given size picked =
       kept-cells w p sids t.term.0 n (λ i. i) (λ i. t.session) (assets_in (task_at t)) (λ i. get_or made i (pos 0)) out t.none is.none
       (λ i h. picked i h ∙ ap (λ b. chosen b (get_or made i (pos 0)) t.none) (kept.each i h)) size given
 
-  pub section_is : (values keep : List ℤ) (labels : Option (List ℤ)) → IsInputRow w p sids (assets_in (task_at t)) (slice_get n.inputs 0) t.session values → IsKept t keep → IsGroupRow w p sids n.group t.session labels
+  pub section_is : (values keep : List ℤ) (labels : Option (List ℤ)) → IsInputRow w p sids (assets_in (task_at t)) (slice_get n.inputs 0) t.session values → IsKept t keep
+      → IsGroupRow w p sids n.group t.session labels
       → is_section n.kind ≡ true → IsSection w p sids t.term.0 n t.session (assets_in (task_at t)) values keep labels
   section_is values keep labels read kept grouped e = record {
     node = node_is;

@@ -51,7 +51,8 @@ module _ (w : World) (p : Pipeline) (sids : List ℕ) (k : ℕ) (n : Node) (own 
   pub label-given : (number : ℕ) (name : List ℕ) → n.kind ≡ Label number → slice_get p.names number ≡ Some name → x ≡ label_code w.texts (label_at w name (sid_in sids i) (pos s)) → IsCell x
       → IsGivenCell w p sids k n i s x
   label-given number name e named same cell = record {
-    given = subst (IsGiven w p sids k n i s) (ap (λ m. label_code w.texts (label_at w m (sid_in sids i) (pos s))) (ap (λ o. unwrap_or o []) named) ∙ sym same) (label-cell w p sids k n i s own number e).1;
+    given = subst (IsGiven w p sids k n i s) (ap (λ m. label_code w.texts (label_at w m (sid_in sids i) (pos s))) (ap (λ o. unwrap_or o []) named) ∙ sym same)
+    (label-cell w p sids k n i s own number e).1;
     cell = cell;
   }
 
@@ -65,7 +66,8 @@ module _ (w : World) (p : Pipeline) (sids : List ℕ) (k : ℕ) (n : Node) (own 
 -- ---- rows of entries: entry j is for the asset in place (place j) on session (on j)
 
 -- an operation
-module _ (w : World) (p : Pipeline) (sids : List ℕ) (k : ℕ) (n : Node) (own : IsNode p k n) (place on : ℕ → ℕ) (size : ℕ) (a b c : List ℤ) (rows : AreEntries w p sids n place on size a b c) (e : is_point n.kind ≡ true) where
+module _ (w : World) (p : Pipeline) (sids : List ℕ) (k : ℕ) (n : Node) (own : IsNode p k n) (place on : ℕ → ℕ) (size : ℕ) (a b c : List ℤ) (rows : AreEntries w p sids n place on size a b c)
+    (e : is_point n.kind ≡ true) where
   pub point-asks : IsOperation n.kind × AreOperands n.kind a b c size
   point-asks = let f = point_kind n.kind e in entries-asked w p sids k n own f.0 f.1 place on size a b c rows
 
@@ -75,7 +77,8 @@ module _ (w : World) (p : Pipeline) (sids : List ℕ) (k : ℕ) (n : Node) (own 
       record { given = subst (IsGiven w p sids k n (place j) (on j)) (sym same) (entry-given w p sids k n own f.0 f.1 place on size a b c rows j h); cell = cell }
 
 -- a test of labels, by their codes
-module _ (w : World) (p : Pipeline) (sids : List ℕ) (k : ℕ) (n : Node) (own : IsNode p k n) (place on : ℕ → ℕ) (size : ℕ) (codes : List ℤ) (read : IsEntryRow w p sids place on size (slice_get n.inputs 0) codes)
+module _ (w : World) (p : Pipeline) (sids : List ℕ) (k : ℕ) (n : Node) (own : IsNode p k n) (place on : ℕ → ℕ) (size : ℕ) (codes : List ℤ)
+    (read : IsEntryRow w p sids place on size (slice_get n.inputs 0) codes)
     (e : is_label_test n.kind ≡ true) (coded : HasTexts w) (texts : List (List ℕ)) (told : w.texts ≡ texts) where
   tested : (u : ℕ) × (slice_get n.inputs 0 ≡ Some (TermInput u)) × (Fills (λ j. cell_of w p sids u (place j) (on j)) size codes)
   tested =
@@ -102,7 +105,8 @@ module _ (w : World) (p : Pipeline) (sids : List ℕ) (k : ℕ) (n : Node) (own 
 -- what is given in a row, and the empty value where the asset is not kept; entry j is of a place and a session
 module _ (w : World) (p : Pipeline) (sids : List ℕ) (k : ℕ) (n : Node) (place on : ℕ → ℕ) (size : ℕ) (made : ℕ → ℤ) (out : List ℤ) (none : ℤ) (empty : none ≡ empty_cell p k)
     (kept : (j : ℕ) → j < size → get_or out j (pos 0) ≡ chosen (is_kept w p sids n.mask (place j) (on j)) (made j) none) (long : length out ≡ size) where
-  pub shown-cells : ((j : ℕ) → j < size → IsGiven w p sids k n (place j) (on j) (made j)) → ((j : ℕ) → j < size → IsCell (get_or out j (pos 0))) → Fills (λ j. cell_of w p sids k (place j) (on j)) size out
+  pub shown-cells : ((j : ℕ) → j < size → IsGiven w p sids k n (place j) (on j) (made j)) → ((j : ℕ) → j < size → IsCell (get_or out j (pos 0)))
+      → Fills (λ j. cell_of w p sids k (place j) (on j)) size out
   shown-cells given cells = record { long = long; each = cell-is; cell = λ j h. subst IsCell (cell-is j h) (cells j h) }
     where
       cell-is : (j : ℕ) → j < size → get_or out j (pos 0) ≡ cell_of w p sids k (place j) (on j)

@@ -30,22 +30,27 @@ label_test_values-requires-clause-codes c j h =
     let v = c.requires.turn.0 in
     let is = c.requires.turn.1 in
     let kind = subst (IsOf (node_at c.args.turn.now).kind) c.in-LabelTest.is c.requires.family in
-    let l = codes-long _ _ _ _ _ (node_is c.args.turn.now v is) (λ j. j) (λ j. v.session) (assets_at c.args.turn.now) c.row_at-codes.result.now (input_read c.args.turn.now v is 0 _ c.row_at-codes.ensures) kind is.here.coded _ is.here.texts in
-    code-read _ _ _ _ _ (node_is c.args.turn.now v is) (λ j. j) (λ j. v.session) (assets_at c.args.turn.now) c.row_at-codes.result.now (input_read c.args.turn.now v is 0 _ c.row_at-codes.ensures) kind is.here.coded _ is.here.texts j (omega (arith, h, l))
+    let l = codes-long _ _ _ _ _ (node_is c.args.turn.now v is) (λ j. j) (λ j. v.session) (assets_at c.args.turn.now) c.row_at-codes.result.now
+    (input_read c.args.turn.now v is 0 _ c.row_at-codes.ensures) kind is.here.coded _ is.here.texts in
+    code-read _ _ _ _ _ (node_is c.args.turn.now v is) (λ j. j) (λ j. v.session) (assets_at c.args.turn.now) c.row_at-codes.result.now
+    (input_read c.args.turn.now v is 0 _ c.row_at-codes.ensures) kind is.here.coded _ is.here.texts j (omega (arith, h, l))
 
 pub label_test_values-requires-clause-many : goal.label_test_values-requires-clause-many
 label_test_values-requires-clause-many c =
     let v = c.requires.turn.0 in
     let is = c.requires.turn.1 in
     let kind = subst (IsOf (node_at c.args.turn.now).kind) c.in-LabelTest.is c.requires.family in
-    codes-long _ _ _ _ _ (node_is c.args.turn.now v is) (λ j. j) (λ j. v.session) (assets_at c.args.turn.now) c.row_at-codes.result.now (input_read c.args.turn.now v is 0 _ c.row_at-codes.ensures) kind is.here.coded _ is.here.texts ∙ sym c.requires.long
+    codes-long _ _ _ _ _ (node_is c.args.turn.now v is) (λ j. j) (λ j. v.session) (assets_at c.args.turn.now) c.row_at-codes.result.now
+    (input_read c.args.turn.now v is 0 _ c.row_at-codes.ensures) kind is.here.coded _ is.here.texts ∙ sym c.requires.long
 
 pub pointwise-requires-clause-kind : goal.pointwise-requires-clause-kind
 pointwise-requires-clause-kind c =
     let v = c.requires.turn.0 in
     let is = c.requires.turn.1 in
     let kind = subst (IsOf (node_at c.args.turn.now).kind) c.in-Point.is c.requires.family in
-    subst IsOperation (sym c.kind_of-kind.ensures) (point-asks _ _ _ _ _ (node_is c.args.turn.now v is) (λ j. j) (λ j. v.session) (assets_at c.args.turn.now) c.row_at-first.result.now c.row_at-second.result.now c.row_at-third.result.now (rows_read c.args.turn.now v is _ _ _ c.row_at-first.ensures c.row_at-second.ensures c.row_at-third.ensures) kind).0
+    subst IsOperation (sym c.kind_of-kind.ensures) (point-asks _ _ _ _ _ (node_is c.args.turn.now v is) (λ j. j) (λ j. v.session)
+    (assets_at c.args.turn.now) c.row_at-first.result.now c.row_at-second.result.now c.row_at-third.result.now
+    (rows_read c.args.turn.now v is _ _ _ c.row_at-first.ensures c.row_at-second.ensures c.row_at-third.ensures) kind).0
 
 pub pointwise-requires-clause-operands : goal.pointwise-requires-clause-operands
 pointwise-requires-clause-operands c =
@@ -54,7 +59,8 @@ pointwise-requires-clause-operands c =
     let kind = subst (IsOf (node_at c.args.turn.now).kind) c.in-Point.is c.requires.family in
     subst (λ m. AreOperands (kind_of c.kind_of-kind.result.now) c.row_at-first.result.now c.row_at-second.result.now c.row_at-third.result.now m) (sym c.requires.long)
     (subst (λ (k : Kind). AreOperands k c.row_at-first.result.now c.row_at-second.result.now c.row_at-third.result.now (assets_at c.args.turn.now)) (sym c.kind_of-kind.ensures)
-    (point-asks _ _ _ _ _ (node_is c.args.turn.now v is) (λ j. j) (λ j. v.session) (assets_at c.args.turn.now) c.row_at-first.result.now c.row_at-second.result.now c.row_at-third.result.now (rows_read c.args.turn.now v is _ _ _ c.row_at-first.ensures c.row_at-second.ensures c.row_at-third.ensures) kind).1)
+    (point-asks _ _ _ _ _ (node_is c.args.turn.now v is) (λ j. j) (λ j. v.session) (assets_at c.args.turn.now) c.row_at-first.result.now c.row_at-second.result.now c.row_at-third.result.now
+    (rows_read c.args.turn.now v is _ _ _ c.row_at-first.ensures c.row_at-second.ensures c.row_at-third.ensures) kind).1)
 
 pub copy_from_slice-requires : goal.copy_from_slice-requires
 copy_from_slice-requires c =
@@ -72,33 +78,40 @@ returns-in-Constant-clause-given c v is i h =
 pub returns-in-Sids-clause-given : goal.returns-in-Sids-clause-given
 returns-in-Sids-clause-given c v is i h =
     let kind = subst (IsOf (node_at c.args.turn.now).kind) c.in-Sids.is c.requires.family in
-    sid-given _ _ _ _ _ (node_is c.args.turn.now v is) i v.session _ kind (c.sids_row.ensures.each i (omega (arith, h, c.requires.long)) ∙ ap (λ (k : Kind). sid_flag k (sid_in (sids_at c.args.turn.now) i)) c.kind_of-kind.ensures)
+    sid-given _ _ _ _ _ (node_is c.args.turn.now v is) i v.session _ kind (c.sids_row.ensures.each i (omega (arith, h, c.requires.long))
+    ∙ ap (λ (k : Kind). sid_flag k (sid_in (sids_at c.args.turn.now) i)) c.kind_of-kind.ensures)
 
 pub returns-in-Label-clause-given : goal.returns-in-Label-clause-given
 returns-in-Label-clause-given c v is i h =
     let kind = subst (IsOf (node_at c.args.turn.now).kind) c.in-Label.is c.requires.family in
     let day : FitsSigned w32 c.args.turn.now.day = search rules in
     let made = simp to_z-of_z at c.label_row.ensures.each in
-    label_given c.args.turn.now v is c.in-Label.name i c.label_name.result.now _ kind c.label_name.ensures h (made i (omega (arith, h, c.requires.long))) (c.label_row.ensures.cells i (omega (arith, h, c.requires.long)))
+    label_given c.args.turn.now v is c.in-Label.name i c.label_name.result.now _ kind c.label_name.ensures h (made i (omega (arith, h, c.requires.long)))
+    (c.label_row.ensures.cells i (omega (arith, h, c.requires.long)))
 
 pub returns-in-Number-clause-given : goal.returns-in-Number-clause-given
 returns-in-Number-clause-given c v is i h =
     let kind = subst (IsOf (node_at c.args.turn.now).kind) c.in-Number.is c.requires.family in
     let day : FitsSigned w32 c.args.turn.now.day = search rules in
     let made = simp to_z-of_z at c.known_row.ensures.each in
-    number_given c.args.turn.now v is c.in-Number.name i c.label_name-in-Number.result.now _ kind c.label_name-in-Number.ensures h (made i (omega (arith, h, c.requires.long))) (c.known_row.ensures.cells i (omega (arith, h, c.requires.long)))
+    number_given c.args.turn.now v is c.in-Number.name i c.label_name-in-Number.result.now _ kind c.label_name-in-Number.ensures h (made i (omega (arith, h, c.requires.long)))
+    (c.known_row.ensures.cells i (omega (arith, h, c.requires.long)))
 
 pub returns-in-LabelTest-clause-given : goal.returns-in-LabelTest-clause-given
 returns-in-LabelTest-clause-given c v is i h =
     let kind = subst (IsOf (node_at c.args.turn.now).kind) c.in-LabelTest.is c.requires.family in
-    test-given _ _ _ _ _ (node_is c.args.turn.now v is) (λ j. j) (λ j. v.session) (assets_at c.args.turn.now) c.row_at-codes.result.now (input_read c.args.turn.now v is 0 _ c.row_at-codes.ensures) kind is.here.coded _ is.here.texts i _ h
-    (c.label_test_values.ensures.each i (omega (arith, h, c.requires.long)) ∙ ap (λ (k : Kind). code_flag c.args.turn.now.labels.now.texts k (get_or c.row_at-codes.result.now i (pos 0))) c.kind_of-kind.ensures)
+    test-given _ _ _ _ _ (node_is c.args.turn.now v is) (λ j. j) (λ j. v.session) (assets_at c.args.turn.now) c.row_at-codes.result.now
+    (input_read c.args.turn.now v is 0 _ c.row_at-codes.ensures) kind is.here.coded _ is.here.texts i _ h
+    (c.label_test_values.ensures.each i (omega (arith, h, c.requires.long)) ∙ ap (λ (k : Kind). code_flag c.args.turn.now.labels.now.texts k (get_or c.row_at-codes.result.now i (pos 0)))
+    c.kind_of-kind.ensures)
 
 pub returns-in-Point-clause-given : goal.returns-in-Point-clause-given
 returns-in-Point-clause-given c v is i h =
     let kind = subst (IsOf (node_at c.args.turn.now).kind) c.in-Point.is c.requires.family in
-    point-given _ _ _ _ _ (node_is c.args.turn.now v is) (λ j. j) (λ j. v.session) (assets_at c.args.turn.now) c.row_at-first.result.now c.row_at-second.result.now c.row_at-third.result.now (rows_read c.args.turn.now v is _ _ _ c.row_at-first.ensures c.row_at-second.ensures c.row_at-third.ensures) kind i _ h
-    (c.pointwise.ensures.values i (omega (arith, h, c.requires.long)) ∙ ap (λ (k : Kind). operation k (get_or c.row_at-first.result.now i (pos 0)) (get_or c.row_at-second.result.now i (pos 0)) (get_or c.row_at-third.result.now i (pos 0))) c.kind_of-kind.ensures)
+    point-given _ _ _ _ _ (node_is c.args.turn.now v is) (λ j. j) (λ j. v.session) (assets_at c.args.turn.now) c.row_at-first.result.now c.row_at-second.result.now c.row_at-third.result.now
+    (rows_read c.args.turn.now v is _ _ _ c.row_at-first.ensures c.row_at-second.ensures c.row_at-third.ensures) kind i _ h
+    (c.pointwise.ensures.values i (omega (arith, h, c.requires.long)) ∙ ap (λ (k : Kind). operation k (get_or c.row_at-first.result.now i (pos 0)) (get_or c.row_at-second.result.now i (pos 0))
+    (get_or c.row_at-third.result.now i (pos 0))) c.kind_of-kind.ensures)
     (c.pointwise.ensures.cells i (pos 0) (omega (arith, h, c.requires.long, c.pointwise.ensures.length)))
 
 pub returns-in-Downsample-clause-given : goal.returns-in-Downsample-clause-given

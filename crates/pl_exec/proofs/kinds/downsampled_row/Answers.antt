@@ -19,6 +19,7 @@ returns c =
     let e : FitsSigned w64 c.args.turn.now.none = search rules in
     let kept = simp to_z-of_z at c.keep_values.ensures.each in
     kept_out c.args.turn.now c.requires.turn c.args.keep.now c.cells_on.new.row c.keep_values.new.out c.requires.keep
-    (start_given c.args.turn.now c.requires.turn c.args.frequency c.downsampled_input.result.0 c.period_start-start.result c.cells_on.new.row c.requires.kind c.downsampled_input.ensures c.period_start-start.ensures.exact c.cells_on.ensures)
+    (start_given c.args.turn.now c.requires.turn c.args.frequency c.downsampled_input.result.0 c.period_start-start.result c.cells_on.new.row c.requires.kind c.downsampled_input.ensures
+    c.period_start-start.ensures.exact c.cells_on.ensures)
     (c.keep_values.ensures.length ∙ c.cells_on.ensures.long)
     (λ i h. kept i (omega (arith, h, c.cells_on.ensures.long)))

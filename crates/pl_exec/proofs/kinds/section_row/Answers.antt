@@ -13,13 +13,15 @@ term_row-requires-clause-read c =
 pub section_values-requires-clause-parameters : goal.section_values-requires-clause-parameters
 section_values-requires-clause-parameters c =
     let e : (node_at c.args.turn.now).group ≡ Some c.in-Some.group.0 = search rules in
-    let own = section_is c.args.turn.now c.requires.turn c.input_row.new.row c.args.keep.now (Some c.term_row.new.row) c.input_row.ensures.row c.requires.keep (rw e (fills_sids c.args.turn.now c.requires.turn _ _ c.term_row.ensures)) c.requires.kind in
+    let own = section_is c.args.turn.now c.requires.turn c.input_row.new.row c.args.keep.now (Some c.term_row.new.row) c.input_row.ensures.row c.requires.keep
+    (rw e (fills_sids c.args.turn.now c.requires.turn _ _ c.term_row.ensures)) c.requires.kind in
     subst HasParameters (sym c.kind_of.ensures) (section-right _ _ _ _ _ _ _ _ _ _ own)
 
 pub section_values-requires-clause-cells : goal.section_values-requires-clause-cells
 section_values-requires-clause-cells c =
     let e : (node_at c.args.turn.now).group ≡ Some c.in-Some.group.0 = search rules in
-    let own = section_is c.args.turn.now c.requires.turn c.input_row.new.row c.args.keep.now (Some c.term_row.new.row) c.input_row.ensures.row c.requires.keep (rw e (fills_sids c.args.turn.now c.requires.turn _ _ c.term_row.ensures)) c.requires.kind in
+    let own = section_is c.args.turn.now c.requires.turn c.input_row.new.row c.args.keep.now (Some c.term_row.new.row) c.input_row.ensures.row c.requires.keep
+    (rw e (fills_sids c.args.turn.now c.requires.turn _ _ c.term_row.ensures)) c.requires.kind in
     section-cells _ _ _ _ _ _ _ _ _ _ own
 
 pub section_values-requires-in-None-clause-parameters : goal.section_values-requires-in-None-clause-parameters
@@ -37,7 +39,8 @@ section_values-requires-in-None-clause-cells c =
 pub returns-in-Some-clause-out : goal.returns-in-Some-clause-out
 returns-in-Some-clause-out c =
     let e : (node_at c.args.turn.now).group ≡ Some c.in-Some.group.0 = search rules in
-    let own = section_is c.args.turn.now c.requires.turn c.input_row.new.row c.args.keep.now (Some c.term_row.new.row) c.input_row.ensures.row c.requires.keep (rw e (fills_sids c.args.turn.now c.requires.turn _ _ c.term_row.ensures)) c.requires.kind in
+    let own = section_is c.args.turn.now c.requires.turn c.input_row.new.row c.args.keep.now (Some c.term_row.new.row) c.input_row.ensures.row c.requires.keep
+    (rw e (fills_sids c.args.turn.now c.requires.turn _ _ c.term_row.ensures)) c.requires.kind in
     section-out _ _ _ _ _ _ _ _ _ _ own c.section_values.new.out (c.section_values.ensures.length ∙ c.requires.long)
     (λ f q i h. c.section_values.ensures.each f (c.kind_of.ensures ∙ q) i (omega (arith, h, c.input_row.ensures.long, c.requires.values))) c.section_values.ensures.cells
 

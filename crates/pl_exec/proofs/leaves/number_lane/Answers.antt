@@ -20,4 +20,5 @@ returns c j h =
     let within = is.job.task.plan.within in
     let dated = slice_get-get_or days (c.args.lane.now.course.now.low + j) (pos 0) (omega (arith, h, end, to, within)) in
     let said = number_here (turn_in c.args.lane.now.course.now j) turn c.args.lane.now.i c.label_name-name.result.now _ c.requires.lane.asset dated in
-    number-given _ _ _ _ _ (course_node c.args.lane.now.course.now c.requires.lane.course) c.args.lane.now.i _ _ c.args.name c.label_name-name.result.now c.requires.kind c.label_name-name.ensures (c.fill_under.ensures.values j room ∙ sym said) (c.fill_under.ensures.cells j room)
+    number-given _ _ _ _ _ (course_node c.args.lane.now.course.now c.requires.lane.course) c.args.lane.now.i _ _ c.args.name c.label_name-name.result.now c.requires.kind c.label_name-name.ensures
+    (c.fill_under.ensures.values j room ∙ sym said) (c.fill_under.ensures.cells j room)
