@@ -1,4 +1,4 @@
-use Rattle.std.proofs.Common.{◌∙◌, ap, sym}
+use Rattle.std.proofs.Common.{◌∙◌, ap}
 use Rattle.pl_grammar.specs.Tree.{Tree}
 use Rattle.pl_check.specs.Numbered.{calls, first_place}
 use Rattle.pl_check.proofs.FirstCall.{stated-some, stated-none}
