@@ -24,9 +24,12 @@ fn first_in(expr: &Expr) -> Option<Place>
             Some(place) => Some(place),
             None => first_in(right),
         },
-        ExprNode::Member { object, args, .. } => match (first_in(object), args) {
-            (None, Some(list)) => first_among(slice_of(list)),
-            (first, _) => first,
+        ExprNode::Member { object, args, .. } => match first_in(object) {
+            Some(place) => Some(place),
+            None => match args {
+                Some(list) => first_among(slice_of(list)),
+                None => None,
+            },
         },
         ExprNode::Call { name, .. } if name.bytes() == b"number".as_slice() => Some(expr.place),
         ExprNode::Call { args, .. } => first_among(slice_of(args)),
