@@ -231,7 +231,9 @@ def test_why_a_number_is_what_it_is(whole, reports):
         derived = explain(pipe, "2023-12-20", sid, column, whole)
         assert derived.value == frame.loc[("2023-12-20", sid), column] and verify(pipe, derived, whole)
         assert not verify(pipe, derived, Data(whole.folder, revisions=None, adjustments=None, numbers=empty(whole)))
-    assert str(derived).count('number("short_interest")') == 4
+    lines = [line for line in str(derived).splitlines() if 'number("short_interest")' in line][1:]
+    days = reports.known[reports["name"].eq("short_interest") & reports.asset.eq(sid)]
+    assert len(lines) == 3 and all(line.endswith(f" since {days[days <= '2023-12-18'].max()}") for line in lines[:1])
 
 
 def empty(whole):
@@ -262,7 +264,8 @@ def test_records(header, fields, rule, shown, options, market, tmp_path):
     assert told.value.record == (1 if rule == "BadHeader" else 5)
 
 
-def test_no_numbers(data, whole):
+def test_no_numbers(market, whole):
+    data = Data(market, revisions=None, adjustments=None, numbers=None)
     both = Pipeline({"price": price, "rank": 1 + earnings.rank()})
     assert check(both).columns == 2
     for call in (lambda: run_pipeline(both, "2023-12-18", "2023-12-29", data), lambda: explain(both, "2023-12-18", 105, "price", data)):
