@@ -2,11 +2,12 @@
 """The program's files from a vendor's, checked against the vendor's adjusted closes.
 
 Usage: vendor.py SOURCE TARGET. SOURCE is a folder as examples/vendor, with these files, of which the last
-three may be left out:
+four may be left out:
   prices.csv      date,ticker,open,high,low,close,volume,adjClose: raw bars, dates with or without a time
   splits.csv      date,ticker,split: 20:1 is twenty new shares for an old one
   dividends.csv   ex_date,ticker,amount: cash, in the money of the prices
   sectors.csv     date,ticker,sector: from the date on
+  numbers.csv     known,ticker,name,value: a figure, as its earnings, from the day of publication on
 TARGET becomes the folder of a run. Tickers get sids in alphabetic order, which are in TARGET/symbols.csv.
 Where the vendor's columns have other names, rename them below. It needs the package in python/.
 """
@@ -27,7 +28,7 @@ def read(name):
 
 prices, sectors = read("prices"), read("sectors")
 labels = None if sectors is None else sectors.rename(columns={"date": "start", "sector": "label"}).assign(name="sector")
-data = Data.write(target, prices, splits=read("splits"), dividends=read("dividends"), labels=labels)
+data = Data.write(target, prices, splits=read("splits"), dividends=read("dividends"), labels=labels, numbers=read("numbers"))
 print(*data.check() or ["nothing looks odd"], sep="\n")
 
 # The change of each close as the program adjusts it, beside that of the vendor's adjusted closes. A session

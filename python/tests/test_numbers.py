@@ -62,8 +62,9 @@ def test_texts_without_numbers_stay():
     assert str(pipe) == "pipeline 1;\nlet number = close.latest.abs() + 1;\ncolumn number = close.latest;\ncolumn a = number.rank();"
     pipe.add(earnings, "b")
     assert str(pipe).startswith("pipeline 3;\nlet number_2 = close.latest.abs() + 1;")
-    pipe.add(earnings.rank(), "earnings")
-    assert 'let earnings = number("earnings");\n' in str(pipe) and check(pipe).columns == 4
+    pipe.add(earnings.rank() - interest.alias("short").rank(), "c")
+    assert 'let b = number("earnings");\nlet short = number("short_interest");\n' in str(pipe) and check(pipe) == (10, 4)
+    assert str(Pipeline({"a": earnings.rank(), "b": earnings / price})).startswith('pipeline 3;\nlet earnings = number("earnings");\n')
 
 
 def test_a_data_set():
@@ -160,7 +161,7 @@ def whole(market, reports, tmp_path_factory):
     """The market with these numbers."""
     path = tmp_path_factory.mktemp("numbers") / "numbers.csv"
     reports.set_axis(["name", "sid", "known", "value"], axis=1).to_csv(path, index=False, float_format="%.6f")
-    return Data(market, revisions=None, numbers=path)
+    return Data(market, revisions=None, adjustments=None, numbers=path)
 
 
 def as_of(frame, reports, name, asof="2199-12-31"):
@@ -198,7 +199,7 @@ def test_as_of(whole, reports):
     np.testing.assert_array_equal(frame.earnings, as_of(frame, reports, "earnings", asof="2023-12-29"))
 
 
-@pytest.mark.parametrize("options", [{"pieces": 5}, {"pieces": 5, "cut": True}, {"pieces": 60, "cut": True}, {"chunksize": 7}, {"asof": "2023-12-29", "pieces": 2, "cut": True}],
+@pytest.mark.parametrize("options", [{"pieces": 3}, {"pieces": 3, "cut": True}, {"chunksize": 7}, {"asof": "2023-12-29", "pieces": 2, "cut": True}],
                          ids=str)
 def test_pieces(options, whole):
     wide = Pipeline({"earnings": earnings, "trend": SimpleMovingAverage([interest], window_length=30), "old": interest.downsample("quarter_start"),
@@ -211,15 +212,15 @@ def test_a_piece_has_no_more_than_it_reads(whole, reports, monkeypatch):
 
     def look(*args):
         pieces = cuts.cut_files(*args)
-        made.extend(pd.read_csv(piece.files["numbers"]) for piece in pieces)
+        made.extend([pd.read_csv(piece.files[part]) for part in ("numbers", "assets")] for piece in pieces)
         return pieces
     monkeypatch.setattr(runs, "cut_files", look)
     run_text(pipe, "2023-10-02", "2023-12-29", whole, pieces=2, cut=True)
-    for numbers, (first, last) in zip(made, whole.pieces("2023-10-02", "2023-12-29", 2)):
-        old = numbers[numbers.known <= first]
-        assert not old.duplicated(["name", "sid"]).any() and 0 < len(numbers) < len(reports) / 2 and numbers.known.max() <= last
-        later = reports[(reports.known > first) & (reports.known <= last) & reports.asset.isin(pd.read_csv(whole.files["assets"]).sid)]
-        assert len(numbers) - len(old) == len(later)
+    for (numbers, assets), (first, last) in zip(made, whole.pieces("2023-10-02", "2023-12-29", 2)):
+        mine = reports[reports.asset.isin(assets.sid) & (reports.known <= last)].sort_values("known")
+        old = mine[mine.known <= first].drop_duplicates(["name", "asset"], keep="last")
+        assert set(zip(numbers["name"], numbers.sid, numbers.known)) == \
+            set(zip(*(pd.concat([old, mine[mine.known > first]])[key] for key in ("name", "asset", "known"))))
 
 
 def test_why_a_number_is_what_it_is(whole, reports):
@@ -229,8 +230,10 @@ def test_why_a_number_is_what_it_is(whole, reports):
         sid = frame[column].dropna().index[0][1]
         derived = explain(pipe, "2023-12-20", sid, column, whole)
         assert derived.value == frame.loc[("2023-12-20", sid), column] and verify(pipe, derived, whole)
-        assert not verify(pipe, derived, Data(whole.folder, revisions=None, numbers=empty(whole)))
-    assert str(derived).count('number("short_interest")') == 4
+        assert not verify(pipe, derived, Data(whole.folder, revisions=None, adjustments=None, numbers=empty(whole)))
+    lines = [line for line in str(derived).splitlines() if 'number("short_interest")' in line][1:]
+    days = reports.known[reports["name"].eq("short_interest") & reports.asset.eq(sid)]
+    assert len(lines) == 3 and all(line.endswith(f" since {days[days <= '2023-12-18'].max()}") for line in lines[:1])
 
 
 def empty(whole):
@@ -251,7 +254,7 @@ def empty(whole):
 def test_records(header, fields, rule, shown, options, market, tmp_path):
     path = tmp_path / "numbers.csv"
     path.write_text(f"{header}\nearnings,102,2023-12-20,-2\n\nearnings,101,2023-12-21,\nearnings,102,2023-12-27,2\n{fields}\n")
-    data = Data(market, revisions=None, numbers=path)
+    data = Data(market, revisions=None, adjustments=None, numbers=path)
     if options and rule == "UnknownSid":
         assert len(run_pipeline(pipe, "2023-12-18", "2023-12-29", data, **options))  # what no piece reads is not judged
         return
@@ -261,7 +264,8 @@ def test_records(header, fields, rule, shown, options, market, tmp_path):
     assert told.value.record == (1 if rule == "BadHeader" else 5)
 
 
-def test_no_numbers(data, whole):
+def test_no_numbers(market, whole):
+    data = Data(market, revisions=None, adjustments=None, numbers=None)
     both = Pipeline({"price": price, "rank": 1 + earnings.rank()})
     assert check(both).columns == 2
     for call in (lambda: run_pipeline(both, "2023-12-18", "2023-12-29", data), lambda: explain(both, "2023-12-18", 105, "price", data)):
