@@ -7,7 +7,7 @@ use Rattle.std.proofs.lemmas.List.Sums.{count_by-le-length, length-filter}
 use Rattle.std.proofs.lemmas.List.FromFn.{length-range_with_len}
 use Rattle.pl_spec.specs.Rounding.{MISSING, MILLION, LIMIT, IsCell}
 use Rattle.pl_spec.specs.Kind.{CrossKind}
-use Rattle.pl_spec.specs.Kind.CrossKind.{Rank, Demean, ZScore, Quantiles, Top, Bottom, PercentileBetween, PeerCount}
+use Rattle.pl_spec.specs.Kind.CrossKind.{Rank, Demean, ZScore, Quantiles, PeerCount}
 use Rattle.pl_spec.specs.declared.RankMethod.{RankMethod}
 use Rattle.pl_spec.specs.declared.RankMethod.TheVariants.{Ordinal, Min, Max, Dense, Average}
 use Rattle.pl_spec.specs.declared.RankOrder.{RankOrder}
@@ -72,10 +72,8 @@ cross-cell (Rank m order) list a x r few = rank-cell list a x few m order
 cross-cell Demean list a x r few = sub-cell _ _
 cross-cell ZScore list a x r few = quot-cell _ _
 cross-cell (Quantiles bins) list a x r few = bin-cell list a x few bins r.1
-cross-cell (Top n) list a x r few = truth-cell _
-cross-cell (Bottom n) list a x r few = truth-cell _
-cross-cell (PercentileBetween low high) list a x r few = truth-cell _
 cross-cell PeerCount list a x r few = let l : length list * MILLION ≤ LIMIT = omega arith in small-cell _ l
+cross-cell k list a x r few = truth-cell _
 
 empty-cell : (k : CrossKind) → IsCell (empty_number k)
 empty-cell k = let l : 0 ≤ LIMIT = omega arith in chosen-has IsCell (is_cross_filter k) (pos 0) MISSING (inr l) (inl refl)

@@ -15,7 +15,7 @@ use Rattle.pl_spec.specs.Value.Part.{Values}
 use Rattle.pl_spec.specs.NodeValue.{meaning_of, input_part, number_part}
 use Rattle.pl_spec.specs.Table.{Pipeline, in_array}
 use Rattle.pl_terms.specs.Checked.{IsChecked}
-use Rattle.pl_terms.specs.Sorts.{Sort, Factors, Labels, Numbers, Place, Factor, Classifier, sort_at, places, cross_places, fits, all_fit, takes_sort, takes_column, has_group}
+use Rattle.pl_terms.specs.Sorts.{Sort, Factors, Labels, Numbers, Place, Factor, Classifier, sort_at, places, cross_places, fits, all_fit, takes_sort, has_group}
 use Rattle.pl_cross.specs.Section.{IsRight, HasParameters}
 use Rattle.pl_cross.specs.Listing.{labels_for}
 use Rattle.pl_cross.specs.Arrays.{sid_in, IsArray, IsNumbered, IsLabelled, IsGroupArray, HasNumbers, Columns, AreArrays, HasTexts}
@@ -24,7 +24,8 @@ use Rattle.pl_cross.proofs.Allowed.{allowed-right}
 use Rattle.pl_values.specs.Arrays.{cell_of, is_kept, Fills, IsKeep}
 use Rattle.pl_values.specs.Inputs.{IsInputRow, IsGroupRow}
 use Rattle.pl_values.specs.Laws.{SectionCells}
-use Rattle.pl_values.proofs.Typed.{has-input, optional-sort}
+use Rattle.pl_values.proofs.Typed.{has-input, optional-sort, no_column, no-takes, crosses-free}
+use Rattle.pl_values.proofs.Operations.{all-at}
 use Rattle.pl_values.proofs.Numbers.{numbered-sort, coded-sort}
 use Rattle.pl_values.proofs.Cells.{keeps-is}
 
@@ -39,10 +40,6 @@ first_place k = Factor
 cross-first : (f : CrossKind) → slice_get (cross_places f) 0 ≡ Some (first_place f)
 cross-first PeerCount = refl
 cross-first f = refl
-
-no-bar : (f : CrossKind) (c : _) → takes_column (first_place f) c ≡ true → ⊥
-no-bar PeerCount c h = let bad : false ≡ true = h in cc
-no-bar f c h = let bad : false ≡ true = h in cc
 
 factor-sort : (o : Option Sort) → takes_sort Factor o ≡ true → o ≡ Some Factors
 factor-sort (Some Factors) h = refl
@@ -91,7 +88,7 @@ module _ (w : World) (p : Pipeline) (sids : List ℕ) (ok : IsChecked p) where
       where
         here : (x : Input) → slice_get n.inputs 0 ≡ Some x → fits p.graph (first_place f) x ≡ true → (t : ℕ) × (slice_get n.inputs 0 ≡ Some (TermInput t)) × (takes_sort (first_place f) (sort_at p.graph t) ≡ true)
         here (TermInput t) g l = (t, g, l)
-        here (BarColumn c) g l = absurd (no-bar f c l)
+        here (BarColumn c) g l = absurd (no-takes (first_place f) c (all-at no_column (cross_places f) 0 (first_place f) (crosses-free f) (cross-first f)) l)
 
     group-sort : (t : ℕ) → n.group ≡ Some t → takes_sort Classifier (sort_at p.graph t) ≡ true
     group-sort t h = optional-sort p.graph (has_group n.kind) Classifier n.group t (ok.nodes k n is).group h

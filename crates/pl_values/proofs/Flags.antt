@@ -1,13 +1,12 @@
 -- A filter is worth 0 or 1.
-use Rattle.std.proofs.Common.{◌≡◌, ℕ, Bool, true, false, if◌then◌else◌, ℤ, pos, List, [], Some, refl, ◌∙◌, slice_get, ◌==◌, ◌&&◌}
+use Rattle.std.proofs.Common.{◌≡◌, ℕ, Bool, true, false, if◌then◌else◌, ℤ, pos, List, [], Some, refl, ◌∙◌, slice_get, ◌==◌, ◌&&◌, sym, ap, true≢false}
 use Rattle.std.specs.List.{list_any}
 use Rattle.pl_spec.specs.World.{World, exists}
-use Rattle.pl_spec.specs.Kind as kinds
 use Rattle.pl_spec.specs.Kind.{Kind, WindowKind, PointKind, LabelKind, CrossKind}
-use Rattle.pl_spec.specs.Kind.Kind.{Constant, Label, StaticSids, Window, Point, LabelTest, Cross, Downsample}
+use Rattle.pl_spec.specs.Kind.Kind.{Constant, StaticSids, Window, Point, LabelTest, Cross, Downsample}
 use Rattle.pl_spec.specs.Kind.WindowKind.{All, Any, AtLeastN, AllPresent}
-use Rattle.pl_spec.specs.Kind.PointKind.{Add, Sub, Mul, Div, Neg, Comparison, And, Or, Not, Abs, Clip, FillNa, IsNull, NotNull, IfElse, NumberIs, NumberIsNot}
-use Rattle.pl_spec.specs.Kind.CrossKind.{Quantiles, Top, Bottom, PercentileBetween}
+use Rattle.pl_spec.specs.Kind.PointKind.{Comparison, And, Or, Not, IsNull, NotNull, NumberIs, NumberIsNot}
+use Rattle.pl_spec.specs.Kind.CrossKind.{Top, Bottom, PercentileBetween}
 use Rattle.pl_spec.specs.Formula.{truth, formula}
 use Rattle.pl_spec.specs.Pointwise.{pointwise, label_test}
 use Rattle.pl_spec.specs.Cross.{cross}
@@ -17,7 +16,7 @@ use Rattle.pl_spec.specs.Value.Value.{Number, Text}
 use Rattle.pl_spec.specs.NodeValue.{node_value, input_part, number_part}
 use Rattle.pl_spec.specs.Table.{Pipeline, value_of, in_array}
 use Rattle.pl_terms.specs.Checked.{IsChecked}
-use Rattle.pl_terms.specs.Sorts.{Factors, Filters, Labels, Numbers, sort_of, sort_at, window_sort, point_sort, cross_sort}
+use Rattle.pl_terms.specs.Sorts.{Sort, Factors, Filters, sort_of, sort_at, window_sort, point_sort, cross_sort}
 use Rattle.pl_lanes.specs.Flags.{IsFlag}
 use Rattle.pl_cross.specs.Arrays.{sid_in}
 use Rattle.pl_values.specs.Arrays.{cell_of}
@@ -27,6 +26,10 @@ use Rattle.pl_pointwise.proofs.ResultLemmas.{truth-flag}
 
 abbrev IsTruth : Value → Type 0
 IsTruth v = (b : Bool) × (v ≡ Number (truth b))
+
+abbrev is_filters : Sort → Bool
+is_filters Filters = true
+is_filters r = false
 
 window_truth : (k : WindowKind) (a b c : List ℤ) → window_sort k ≡ Filters → IsTruth (Number (formula k a b c))
 unfolding formula
@@ -38,15 +41,6 @@ window_truth k a b c e = absurd (let bad : Factors ≡ Filters = e in cc)
 
 point_truth : (k : PointKind) (x y z : ℤ) → point_sort k ≡ Filters → IsTruth (Number (pointwise k x y z))
 unfolding pointwise
-point_truth Add x y z e = absurd (let bad : Factors ≡ Filters = e in cc)
-point_truth Sub x y z e = absurd (let bad : Factors ≡ Filters = e in cc)
-point_truth Mul x y z e = absurd (let bad : Factors ≡ Filters = e in cc)
-point_truth Div x y z e = absurd (let bad : Factors ≡ Filters = e in cc)
-point_truth Neg x y z e = absurd (let bad : Factors ≡ Filters = e in cc)
-point_truth Abs x y z e = absurd (let bad : Factors ≡ Filters = e in cc)
-point_truth (Clip low high) x y z e = absurd (let bad : Factors ≡ Filters = e in cc)
-point_truth FillNa x y z e = absurd (let bad : Factors ≡ Filters = e in cc)
-point_truth IfElse x y z e = absurd (let bad : Factors ≡ Filters = e in cc)
 point_truth (Comparison c) x y z e = (_, refl)
 point_truth And x y z e = (_, refl)
 point_truth Or x y z e = (_, refl)
@@ -55,6 +49,7 @@ point_truth IsNull x y z e = (_, refl)
 point_truth NotNull x y z e = (_, refl)
 point_truth (NumberIs n) x y z e = (_, refl)
 point_truth (NumberIsNot n) x y z e = (_, refl)
+point_truth k x y z e = absurd (true≢false (sym (ap is_filters e)))
 
 either_truth : (b : Bool) (v u : Value) → IsTruth v → IsTruth u → IsTruth (if b then v else u)
 either_truth true v u h k = h
@@ -65,8 +60,7 @@ unfolding cross
 cross_truth (Top n) list a x e = ((_, refl), (false, refl))
 cross_truth (Bottom n) list a x e = ((_, refl), (false, refl))
 cross_truth (PercentileBetween low high) list a x e = ((_, refl), (false, refl))
-cross_truth (Quantiles bins) list a x e = absurd (let bad : Numbers ≡ Filters = e in cc)
-cross_truth k list a x e = absurd (let bad : Factors ≡ Filters = e in cc)
+cross_truth k list a x e = absurd (true≢false (sym (ap is_filters e)))
 
 test_truth : (k : LabelKind) (v : Value) → IsTruth (test_value k v)
 test_truth k (Number x) = (false, refl)
@@ -74,10 +68,6 @@ test_truth k (Text t) = (label_test k t, refl)
 
 step_truth : (w : World) (names : List (List ℕ)) (k : Kind) (size : ℕ) (x y z m g : Part) (a : ℕ) (d : ℤ) → sort_of k ≡ Filters → IsTruth (step w names k size x y z m g a d)
 unfolding step sort_of
-step_truth w names (Constant c) size x y z m g a d h = absurd (let bad : Factors ≡ Filters = h in cc)
-step_truth w names (Label n) size x y z m g a d h = absurd (let bad : Labels ≡ Filters = h in cc)
-step_truth w names (Downsample f) size x y z m g a d h = absurd (let bad : Factors ≡ Filters = h in cc)
-step_truth w names (kinds.Number n) size x y z m g a d h = absurd (let bad : Factors ≡ Filters = h in cc)
 step_truth w names (StaticSids sids) size x y z m g a d h = (_, refl)
 step_truth w names (Window k) size x y z m g a d h = window_truth k _ _ _ h
 step_truth w names (Point k) size x y z m g a d h = point_truth k _ _ _ h
@@ -85,6 +75,7 @@ step_truth w names (LabelTest k) size x y z m g a d h = test_truth k (now x a d)
 step_truth w names (Cross k) size x y z m g a d h =
     let t = cross_truth k (eligible w x m (group_of k x g) a d) a (number_of (now x a d)) h in
     either_truth (list_any (λ e. e.0 == a) (eligible w x m (group_of k x g) a d)) _ (empty (Cross k)) t.0 t.1
+step_truth w names k size x y z m g a d h = absurd (true≢false (sym (ap is_filters h)))
 
 window_empty : (k : WindowKind) → window_sort k ≡ Filters → IsTruth (empty (Window k))
 window_empty All e = (false, refl)
@@ -94,28 +85,24 @@ window_empty AllPresent e = (false, refl)
 window_empty k e = absurd (let bad : Factors ≡ Filters = e in cc)
 
 point_empty : (k : PointKind) → point_sort k ≡ Filters → IsTruth (empty (Point k))
-point_empty Add e = absurd (let bad : Factors ≡ Filters = e in cc)
-point_empty Sub e = absurd (let bad : Factors ≡ Filters = e in cc)
-point_empty Mul e = absurd (let bad : Factors ≡ Filters = e in cc)
-point_empty Div e = absurd (let bad : Factors ≡ Filters = e in cc)
-point_empty Neg e = absurd (let bad : Factors ≡ Filters = e in cc)
-point_empty Abs e = absurd (let bad : Factors ≡ Filters = e in cc)
-point_empty (Clip low high) e = absurd (let bad : Factors ≡ Filters = e in cc)
-point_empty FillNa e = absurd (let bad : Factors ≡ Filters = e in cc)
-point_empty IfElse e = absurd (let bad : Factors ≡ Filters = e in cc)
-point_empty k e = (false, refl)
+point_empty (Comparison c) e = (false, refl)
+point_empty And e = (false, refl)
+point_empty Or e = (false, refl)
+point_empty Not e = (false, refl)
+point_empty IsNull e = (false, refl)
+point_empty NotNull e = (false, refl)
+point_empty (NumberIs n) e = (false, refl)
+point_empty (NumberIsNot n) e = (false, refl)
+point_empty k e = absurd (true≢false (sym (ap is_filters e)))
 
 empty_truth : (k : Kind) → sort_of k ≡ Filters → IsTruth (empty k)
 unfolding sort_of
-empty_truth (Constant c) h = absurd (let bad : Factors ≡ Filters = h in cc)
-empty_truth (Label n) h = absurd (let bad : Labels ≡ Filters = h in cc)
-empty_truth (Downsample f) h = absurd (let bad : Factors ≡ Filters = h in cc)
-empty_truth (kinds.Number n) h = absurd (let bad : Factors ≡ Filters = h in cc)
 empty_truth (StaticSids sids) h = (false, refl)
 empty_truth (Window k) h = window_empty k h
 empty_truth (Point k) h = point_empty k h
 empty_truth (LabelTest k) h = (false, refl)
 empty_truth (Cross k) h = (cross_truth k [] 0 (pos 0) h).1
+empty_truth k h = absurd (true≢false (sym (ap is_filters h)))
 
 over_truth : (k i : Kind) → sort_of k ≡ Filters → IsTruth (empty (sort_over k i))
 unfolding sort_of

@@ -1,5 +1,5 @@
 -- Formulas and filters over windows.
-use Rattle.std.proofs.Common.{◌≡◌, ℕ, zero, suc, ◌+◌, ◌-◌, ◌<◌, ◌≤◌, Bool, true, false, ◌&&◌, ℤ, pos, ◌≤ℤ◌, List, Option, Some, None, length, map, refl, sym, ◌∙◌, ap, arith, slice_get, get_or, nat_le, All, subst, inl, inr, IsTrue}
+use Rattle.std.proofs.Common.{◌≡◌, ℕ, zero, suc, ◌+◌, ◌-◌, ◌<◌, ◌≤◌, true, false, ◌&&◌, ℤ, pos, ◌≤ℤ◌, List, Option, Some, None, length, map, refl, sym, ◌∙◌, ap, arith, slice_get, get_or, nat_le, All, subst, inl, inr, IsTrue}
 use Rattle.std.specs.List.{list_all}
 use Rattle.std.specs.Int.RustNames.{int_lt}
 use Rattle.std.proofs.lemmas.Int.{ints}
@@ -10,7 +10,7 @@ use Rattle.pl_spec.specs.World.{World}
 use Rattle.pl_spec.specs.Window.{before, downward, seen_cell}
 use Rattle.pl_spec.specs.Kind.{Kind, WindowKind}
 use Rattle.pl_spec.specs.Kind.Kind.{Window}
-use Rattle.pl_spec.specs.Kind.WindowKind.{Latest, BollingerLower, BollingerUpper, Returns, PercentChange, RateOfChangePercentage, RSI, VWAP, AverageDollarVolume, WeightedAverageValue, TrueRange, ExponentialWeightedMovingAverage, AroonUp, AroonDown, All as AllTrue, Any, AtLeastN, AllPresent}
+use Rattle.pl_spec.specs.Kind.WindowKind.{Latest, BollingerLower, BollingerUpper, VWAP, AverageDollarVolume, WeightedAverageValue, TrueRange, ExponentialWeightedMovingAverage, All as AllTrue, Any, AtLeastN, AllPresent}
 use Rattle.pl_spec.specs.Formula.{formula}
 use Rattle.pl_spec.specs.Term.{Node, Input}
 use Rattle.pl_spec.specs.Term.Input.{BarColumn, TermInput}
@@ -19,19 +19,19 @@ use Rattle.pl_spec.specs.NodeValue.{input_part}
 use Rattle.pl_spec.specs.Table.{Pipeline, value_of}
 use Rattle.pl_spec.proofs.Windows.{before-pos, map-downward}
 use Rattle.pl_terms.specs.Checked.{IsChecked}
-use Rattle.pl_terms.specs.Sorts.{Sort, Factors, Filters, Place, Own, Bar, Series, Filter, sort_at, places, window_places, window_fits, fits, all_fit, takes_sort, has_window, has_parameters, is_limited}
+use Rattle.pl_terms.specs.Sorts.{Place, Filter, sort_at, places, window_places, window_fits, fits, all_fit, has_window, has_parameters, is_limited}
 use Rattle.pl_lanes.specs.Flags.{IsFlag}
 use Rattle.pl_factors.specs.Kinds.{takes_pairs}
 use Rattle.pl_cross.specs.Arrays.{sid_in}
 use Rattle.pl_values.specs.Arrays.{cell_of}
-use Rattle.pl_values.specs.Inputs.{input_window, AreWindows}
+use Rattle.pl_values.specs.Inputs.{input_window}
 use Rattle.pl_values.specs.Families.{IsWindowed, windowed, TakesWindows}
-use Rattle.pl_values.specs.Laws.{WindowCells}
+use Rattle.pl_values.specs.Laws.{IsNode, IsGiven, WindowCells}
 use Rattle.pl_values.proofs.Typed.{fit-at, has-input, filter-sort}
-use Rattle.pl_values.proofs.Numbers.{plain_sort, plain-number, IsNumberedTerm}
+use Rattle.pl_values.proofs.Numbers.{plain-number, number_is, IsNumberedTerm}
 use Rattle.pl_values.proofs.Cells.{gated, cell-number}
-use Rattle.pl_values.proofs.Flags.{filter-cell}
-use Rattle.pl_values.proofs.Operations.{all-at, limited-cell}
+use Rattle.pl_values.proofs.Flags.{filter-flag}
+use Rattle.pl_values.proofs.Operations.{plain_place, takes-plain, all-at, limited-cell}
 
 -- ---- lists over the numbers below one, the greatest first
 
@@ -49,25 +49,13 @@ all-below P f (suc size) h = λ k d l. here k d l (all-below P f size h)
 
 -- ---- what stands at the places of a window
 
-abbrev pub window_place : Place → Bool
-window_place (Own c) = true
-window_place Bar = true
-window_place Series = true
-window_place Filter = true
-window_place q = false
-
-pub windows-plain : (f : WindowKind) → list_all window_place (window_places f) ≡ true
+pub windows-plain : (f : WindowKind) → list_all plain_place (window_places f) ≡ true
 windows-plain Latest = refl
 windows-plain f = refl
 
 pub first-place : (f : WindowKind) → (q : Place) × (slice_get (window_places f) 0 ≡ Some q)
 first-place Latest = (_, refl)
 first-place f = (_, refl)
-
-pub takes-plain : (q : Place) (o : Option Sort) → (window_place q && takes_sort q o) ≡ true → plain_sort o ≡ true
-takes-plain Series (Some Factors) h = refl
-takes-plain Filter (Some Filters) h = refl
-takes-plain q o h = absurd (let bad : false ≡ true = h in cc)
 
 places-of : (k : Kind) (f : WindowKind) → k ≡ Window f → places k ≡ window_places f
 unfolding places
@@ -83,13 +71,20 @@ from-most least w h = let m : nat_le w 1260 ≡ true = (and_parts (nat_le least 
 window-most : (f : WindowKind) (w : ℕ) → window_fits f w ≡ true → w ≤ 1260
 window-most Latest w h = let e : w ≡ 1 = grind (arith, nat_tests) in omega arith
 window-most TrueRange w h = let e : w ≡ 2 = grind (arith, nat_tests) in omega arith
-window-most Returns w h = from-most 2 w h
-window-most PercentChange w h = from-most 2 w h
-window-most RateOfChangePercentage w h = from-most 2 w h
-window-most RSI w h = from-most 2 w h
-window-most AroonUp w h = from-most 2 w h
-window-most AroonDown w h = from-most 2 w h
-window-most f w h = from-most 1 w h
+window-most f w h = from-most _ w h
+
+-- the window of an input as the definitions have it, sessions below 0 among them
+abbrev pub seen_window : World → Pipeline → List ℕ → Node → Option Input → ℕ → ℕ → List ℤ
+seen_window w p sids n o i s = window_of w n.window (input_part w p.names p.graph o) (sid_in sids i) (pos s)
+
+-- those of a node's inputs
+pub record AreSeen (w : World) (p : Pipeline) (sids : List ℕ) (n : Node) (i s : ℕ) (a b c : List ℤ) : Type 0 where
+  pub first : a ≡ seen_window w p sids n (slice_get n.inputs 0) i s
+  pub second : b ≡ seen_window w p sids n (slice_get n.inputs 1) i s
+  pub third : c ≡ seen_window w p sids n (slice_get n.inputs 2) i s
+  pub first_cells : All IsCell a
+  pub second_cells : All IsCell b
+  pub third_cells : All IsCell c
 
 module _ (w : World) (p : Pipeline) (sids : List ℕ) (ok : IsChecked p) (k : ℕ) (n : Node) (is : slice_get p.graph k ≡ Some n) (f : WindowKind) (e : n.kind ≡ Window f) where
   pub fit : all_fit p.graph (window_places f) n.inputs ≡ true
@@ -109,42 +104,44 @@ module _ (w : World) (p : Pipeline) (sids : List ℕ) (ok : IsChecked p) (k : �
   pub term-numbered : (j t : ℕ) → slice_get n.inputs j ≡ Some (TermInput t) → IsNumberedTerm w p ok t
   term-numbered j t h =
       let q = fit-at p.graph (window_places f) n.inputs j (TermInput t) fit h in
-      plain-number w p ok t (sort_at p.graph t) refl (takes-plain q.0 (sort_at p.graph t) (and_from (window_place q.0) _ (all-at window_place (window_places f) j q.0 (windows-plain f) q.1) q.2))
+      plain-number w p ok t (sort_at p.graph t) refl (takes-plain q.0 (sort_at p.graph t) (and_from (plain_place q.0) _ (all-at plain_place (window_places f) j q.0 (windows-plain f) q.1) q.2))
 
-  module _ (i s : ℕ) (early : n.window ≤ s + 1) where
-    window-same : (j : ℕ) (o : Option Input) → slice_get n.inputs j ≡ o → window_of w n.window (input_part w p.names p.graph o) (sid_in sids i) (pos s) ≡ input_window w p sids n.window o i s
-    window-same j None h = refl
-    window-same j (Some (BarColumn c)) h = refl
-    window-same j (Some (TermInput t)) h =
+  module _ (i s : ℕ) where
+    -- an input's cells up to the session
+    window-same : n.window ≤ s + 1 → (j : ℕ) (o : Option Input) → slice_get n.inputs j ≡ o → seen_window w p sids n o i s ≡ input_window w p sids n.window o i s
+    window-same early j None h = refl
+    window-same early j (Some (BarColumn c)) h = refl
+    window-same early j (Some (TermInput t)) h =
         map-downward (λ m. number_of (value_of w p t (sid_in sids i) (before (pos s) m))) (λ m. cell_of w p sids t i (s - m)) n.window
         (λ m l. ap (λ d. number_of (value_of w p t (sid_in sids i) d)) (before-pos s m (omega arith)) ∙ cell-number w p sids ok t (term-numbered j t h) i (s - m))
 
-    window-long : (o : Option Input) → length (input_window w p sids n.window o i s) ≤ n.window
-    window-long None = omega arith
-    window-long (Some (BarColumn c)) = let l = length-below (λ m. seen_cell w (sid_in sids i) c (before (pos s) (suc m)) (pos s)) n.window in omega (arith, l)
-    window-long (Some (TermInput t)) = let l = length-below (λ m. cell_of w p sids t i (s - m)) n.window in omega (arith, l)
-
-    window-full : (x : Input) → length (input_window w p sids n.window (Some x) i s) ≡ n.window
+    window-full : (x : Input) → length (seen_window w p sids n (Some x) i s) ≡ n.window
     window-full (BarColumn c) = length-below (λ m. seen_cell w (sid_in sids i) c (before (pos s) (suc m)) (pos s)) n.window
-    window-full (TermInput t) = length-below (λ m. cell_of w p sids t i (s - m)) n.window
+    window-full (TermInput t) = length-below (λ m. number_of (value_of w p t (sid_in sids i) (before (pos s) m))) n.window
+
+    window-long : (o : Option Input) → length (seen_window w p sids n o i s) ≤ n.window
+    window-long None = omega arith
+    window-long (Some x) = let l = window-full x in omega (arith, l)
 
     -- the window of a filter
-    flags-in : (a : List ℤ) → slice_get (window_places f) 0 ≡ Some Filter → a ≡ input_window w p sids n.window (slice_get n.inputs 0) i s → All IsFlag a
+    flags-in : (a : List ℤ) → slice_get (window_places f) 0 ≡ Some Filter → a ≡ seen_window w p sids n (slice_get n.inputs 0) i s → All IsFlag a
     flags-in a h g = let x = has-input p.graph (window_places f) n.inputs 0 Filter fit h in here x.0 x.1 x.2
       where
         here : (x : Input) → slice_get n.inputs 0 ≡ Some x → fits p.graph Filter x ≡ true → All IsFlag a
         here (BarColumn c) u v = absurd (let bad : false ≡ true = v in cc)
-        here (TermInput t) u v = subst (All IsFlag) (sym (g ∙ ap (λ o. input_window w p sids n.window o i s) u))
-            (all-below IsFlag (λ m. cell_of w p sids t i (s - m)) n.window (λ m. filter-cell w p sids t i (s - m) ok (filter-sort (sort_at p.graph t) v)))
+        here (TermInput t) u v = subst (All IsFlag) (sym (g ∙ ap (λ o. seen_window w p sids n o i s) u))
+            (all-below IsFlag (λ m. number_of (value_of w p t (sid_in sids i) (before (pos s) m))) n.window
+            (λ m. subst IsFlag (sym (number_is w p ok t (term-numbered 0 t u) (sid_in sids i) (before (pos s) m)))
+            (filter-flag w p t (sid_in sids i) (before (pos s) m) ok (filter-sort (sort_at p.graph t) v))))
 
     -- two windows are of one length
     two-full : (a b : List ℤ) (q r : Place) → slice_get (window_places f) 0 ≡ Some q → slice_get (window_places f) 1 ≡ Some r
-        → a ≡ input_window w p sids n.window (slice_get n.inputs 0) i s → b ≡ input_window w p sids n.window (slice_get n.inputs 1) i s → length b ≡ length a
+        → a ≡ seen_window w p sids n (slice_get n.inputs 0) i s → b ≡ seen_window w p sids n (slice_get n.inputs 1) i s → length b ≡ length a
     two-full a b q r h g u v =
         let x = has-input p.graph (window_places f) n.inputs 0 q fit h in
         let y = has-input p.graph (window_places f) n.inputs 1 r fit g in
-        ap length (v ∙ ap (λ o. input_window w p sids n.window o i s) y.1) ∙ window-full y.0
-        ∙ sym (ap length (u ∙ ap (λ o. input_window w p sids n.window o i s) x.1) ∙ window-full x.0)
+        ap length (v ∙ ap (λ o. seen_window w p sids n o i s) y.1) ∙ window-full y.0
+        ∙ sym (ap length (u ∙ ap (λ o. seen_window w p sids n o i s) x.1) ∙ window-full x.0)
 
 -- ---- what the calls ask for
 
@@ -176,32 +173,39 @@ paired-places AverageDollarVolume h = (_, _, refl, refl)
 paired-places WeightedAverageValue h = (_, _, refl, refl)
 paired-places f h = absurd (let bad : false ≡ true = h in cc)
 
-pub takes-windows : (w : World) (p : Pipeline) (sids : List ℕ) (ok : IsChecked p) (k : ℕ) (n : Node) → slice_get p.graph k ≡ Some n → (f : WindowKind) → n.kind ≡ Window f
-    → (i s : ℕ) → n.window ≤ s + 1 → (a b c : List ℤ) → AreWindows w p sids n i s a b c → TakesWindows (Window f) a b c
-takes-windows w p sids ok k n is f e i s early a b c g =
-    let parameters = subst (λ q. has_parameters q n.window (length p.names) ≡ true) e (ok.nodes k n is).parameters in
-    record {
-      kind = takes-kind f n.window (length p.names) a parameters (λ h. flags-in w p sids ok k n is f e i s early a h g.first) g.first_cells;
-      first = g.first_cells;
-      second = g.second_cells;
-      third = g.third_cells;
-      few =
-          (let long : length a ≤ n.window = subst (λ l. length l ≤ n.window) (sym g.first) (window-long w p sids ok k n is f e i s early (slice_get n.inputs 0)) in
-          let m = most w p sids ok k n is f e in omega arith);
-      paired = λ h. let q = paired-places f h in two-full w p sids ok k n is f e i s early a b q.0 q.1 q.2 q.3 g.first g.second;
-    }
+module _ (w : World) (p : Pipeline) (sids : List ℕ) (k : ℕ) (n : Node) (own : IsNode p k n) (f : WindowKind) (e : n.kind ≡ Window f) (i s : ℕ) (a b c : List ℤ) (g : AreSeen w p sids n i s a b c) where
+  pub seen-takes : TakesWindows n.kind a b c
+  seen-takes =
+      let parameters = subst (λ q. has_parameters q n.window (length p.names) ≡ true) e (own.checked.nodes k n own.node).parameters in
+      subst (λ q. TakesWindows q a b c) (sym e) (record {
+        kind = takes-kind f n.window (length p.names) a parameters (λ h. flags-in w p sids own.checked k n own.node f e i s a h g.first) g.first_cells;
+        first = g.first_cells;
+        second = g.second_cells;
+        third = g.third_cells;
+        few =
+            (let long : length a ≤ n.window = subst (λ l. length l ≤ n.window) (sym g.first) (window-long w p sids own.checked k n own.node f e i s (slice_get n.inputs 0)) in
+            let m = most w p sids own.checked k n own.node f e in omega (arith, long, m));
+        paired = λ h. let q = paired-places f h in two-full w p sids own.checked k n own.node f e i s a b q.0 q.1 q.2 q.3 g.first g.second;
+      })
+
+  pub seen-given : IsGiven w p sids k n i s (windowed n.kind a b c)
+  unfolding step
+  seen-given =
+      gated w p sids own.checked k n own.node i s (windowed n.kind a b c)
+      (rw e
+      (ap (λ x. formula f x (seen_window w p sids n (slice_get n.inputs 1) i s) (seen_window w p sids n (slice_get n.inputs 2) i s)) (sym g.first)
+      ∙ ap (λ x. formula f a x (seen_window w p sids n (slice_get n.inputs 2) i s)) (sym g.second)
+      ∙ ap (λ x. formula f a b x) (sym g.third)))
 
 pub window-cell : WindowCells
-unfolding step
 window-cell w p sids k n i s own f a b c e early g =
-    let ok = own.checked in
-    let is = own.node in (
-      subst (λ q. TakesWindows q a b c) (sym e) (takes-windows w p sids ok k n is f e i s early a b c g),
-      gated w p sids ok k n is i s (windowed n.kind a b c)
-          (rw e
-          (ap (λ x. formula f x (window_of w n.window (input_part w p.names p.graph (slice_get n.inputs 1)) (sid_in sids i) (pos s)) (window_of w n.window (input_part w p.names p.graph (slice_get n.inputs 2)) (sid_in sids i) (pos s)))
-          (window-same w p sids ok k n is f e i s early 0 (slice_get n.inputs 0) refl ∙ sym g.first)
-          ∙ ap (λ x. formula f a x (window_of w n.window (input_part w p.names p.graph (slice_get n.inputs 2)) (sid_in sids i) (pos s)))
-          (window-same w p sids ok k n is f e i s early 1 (slice_get n.inputs 1) refl ∙ sym g.second)
-          ∙ ap (λ x. formula f a b x) (window-same w p sids ok k n is f e i s early 2 (slice_get n.inputs 2) refl ∙ sym g.third))),
-    )
+    let same = window-same w p sids own.checked k n own.node f e i s early in
+    let seen : AreSeen w p sids n i s a b c = record {
+      first = g.first ∙ sym (same 0 (slice_get n.inputs 0) refl);
+      second = g.second ∙ sym (same 1 (slice_get n.inputs 1) refl);
+      third = g.third ∙ sym (same 2 (slice_get n.inputs 2) refl);
+      first_cells = g.first_cells;
+      second_cells = g.second_cells;
+      third_cells = g.third_cells;
+    } in
+    (seen-takes w p sids k n own f e i s a b c seen, seen-given w p sids k n own f e i s a b c seen)

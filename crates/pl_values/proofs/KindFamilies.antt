@@ -5,7 +5,7 @@ use Rattle.std.specs.List.{list_any}
 use Rattle.std.proofs.lemmas.Bool.{true≢false}
 use Rattle.pl_spec.specs.Rounding.{IsCell, is_missing}
 use Rattle.pl_spec.specs.Kind.{Kind, WindowKind, PointKind, LabelKind, CrossKind}
-use Rattle.pl_spec.specs.Kind.Kind.{Constant, Label, Number, StaticSids, Window, Point, LabelTest, Cross, Downsample}
+use Rattle.pl_spec.specs.Kind.Kind.{StaticSids, Window, Point, LabelTest, Cross, Downsample}
 use Rattle.pl_spec.specs.declared.Frequency.{Frequency}
 use Rattle.pl_spec.specs.Formula.{truth}
 use Rattle.pl_spec.specs.Pointwise.{label_test}
@@ -16,69 +16,27 @@ use Rattle.pl_values.specs.Families.{is_sids, is_point, is_label_test, sid_flag,
 
 pub sids_kind : (k : Kind) → is_sids k ≡ true → (own : List ℕ) × (k ≡ StaticSids own)
 sids_kind (StaticSids own) e = (own, refl)
-sids_kind (Constant x) e = absurd (true≢false (sym e))
-sids_kind (Label x) e = absurd (true≢false (sym e))
-sids_kind (Number x) e = absurd (true≢false (sym e))
-sids_kind (Window x) e = absurd (true≢false (sym e))
-sids_kind (Point x) e = absurd (true≢false (sym e))
-sids_kind (LabelTest x) e = absurd (true≢false (sym e))
-sids_kind (Cross x) e = absurd (true≢false (sym e))
-sids_kind (Downsample x) e = absurd (true≢false (sym e))
+sids_kind k e = absurd (true≢false (sym e))
 
 pub point_kind : (k : Kind) → is_point k ≡ true → (f : PointKind) × (k ≡ Point f)
 point_kind (Point f) e = (f, refl)
-point_kind (Constant x) e = absurd (true≢false (sym e))
-point_kind (Label x) e = absurd (true≢false (sym e))
-point_kind (Number x) e = absurd (true≢false (sym e))
-point_kind (StaticSids x) e = absurd (true≢false (sym e))
-point_kind (Window x) e = absurd (true≢false (sym e))
-point_kind (LabelTest x) e = absurd (true≢false (sym e))
-point_kind (Cross x) e = absurd (true≢false (sym e))
-point_kind (Downsample x) e = absurd (true≢false (sym e))
+point_kind k e = absurd (true≢false (sym e))
 
 pub label_test_kind : (k : Kind) → is_label_test k ≡ true → (f : LabelKind) × (k ≡ LabelTest f)
 label_test_kind (LabelTest f) e = (f, refl)
-label_test_kind (Constant x) e = absurd (true≢false (sym e))
-label_test_kind (Label x) e = absurd (true≢false (sym e))
-label_test_kind (Number x) e = absurd (true≢false (sym e))
-label_test_kind (StaticSids x) e = absurd (true≢false (sym e))
-label_test_kind (Window x) e = absurd (true≢false (sym e))
-label_test_kind (Point x) e = absurd (true≢false (sym e))
-label_test_kind (Cross x) e = absurd (true≢false (sym e))
-label_test_kind (Downsample x) e = absurd (true≢false (sym e))
+label_test_kind k e = absurd (true≢false (sym e))
 
 pub section_kind : (k : Kind) → is_section k ≡ true → (f : CrossKind) × (k ≡ Cross f)
 section_kind (Cross f) e = (f, refl)
-section_kind (Constant x) e = absurd (true≢false (sym e))
-section_kind (Label x) e = absurd (true≢false (sym e))
-section_kind (Number x) e = absurd (true≢false (sym e))
-section_kind (StaticSids x) e = absurd (true≢false (sym e))
-section_kind (Window x) e = absurd (true≢false (sym e))
-section_kind (Point x) e = absurd (true≢false (sym e))
-section_kind (LabelTest x) e = absurd (true≢false (sym e))
-section_kind (Downsample x) e = absurd (true≢false (sym e))
+section_kind k e = absurd (true≢false (sym e))
 
 pub window_kind : (k : Kind) → is_windowed k ≡ true → (f : WindowKind) × (k ≡ Window f)
 window_kind (Window f) e = (f, refl)
-window_kind (Constant x) e = absurd (true≢false (sym e))
-window_kind (Label x) e = absurd (true≢false (sym e))
-window_kind (Number x) e = absurd (true≢false (sym e))
-window_kind (StaticSids x) e = absurd (true≢false (sym e))
-window_kind (Point x) e = absurd (true≢false (sym e))
-window_kind (LabelTest x) e = absurd (true≢false (sym e))
-window_kind (Cross x) e = absurd (true≢false (sym e))
-window_kind (Downsample x) e = absurd (true≢false (sym e))
+window_kind k e = absurd (true≢false (sym e))
 
 pub downsampled_kind : (k : Kind) → is_downsampled k ≡ true → (f : Frequency) × (k ≡ Downsample f)
 downsampled_kind (Downsample f) e = (f, refl)
-downsampled_kind (Constant x) e = absurd (true≢false (sym e))
-downsampled_kind (Label x) e = absurd (true≢false (sym e))
-downsampled_kind (Number x) e = absurd (true≢false (sym e))
-downsampled_kind (StaticSids x) e = absurd (true≢false (sym e))
-downsampled_kind (Window x) e = absurd (true≢false (sym e))
-downsampled_kind (Point x) e = absurd (true≢false (sym e))
-downsampled_kind (LabelTest x) e = absurd (true≢false (sym e))
-downsampled_kind (Cross x) e = absurd (true≢false (sym e))
+downsampled_kind k e = absurd (true≢false (sym e))
 
 -- ---- cells
 

@@ -1,13 +1,12 @@
 -- Which terms are worth numbers, and which labels of the world.
-use Rattle.std.proofs.Common.{◌≡◌, ℕ, Bool, true, false, ◌&&◌, if◌then◌else◌, ℤ, pos, List, Option, Some, refl, sym, subst, ◌∙◌, slice_get, ◌==◌, inl}
+use Rattle.std.proofs.Common.{◌≡◌, ℕ, Bool, true, false, ◌&&◌, if◌then◌else◌, ℤ, pos, List, Option, Some, refl, sym, subst, ◌∙◌, slice_get, ◌==◌, inl, ap, true≢false}
 use Rattle.std.specs.List.{list_any}
 use Rattle.pl_spec.specs.World.{World, exists}
-use Rattle.pl_spec.specs.Kind as kinds
 use Rattle.pl_spec.specs.Kind.{Kind, WindowKind, PointKind, LabelKind, CrossKind}
-use Rattle.pl_spec.specs.Kind.WindowKind.{All, Any, AtLeastN, AllPresent}
-use Rattle.pl_spec.specs.Kind.PointKind.{Add, Sub, Mul, Div, Neg, Abs, Clip, FillNa, IfElse}
-use Rattle.pl_spec.specs.Kind.CrossKind.{Quantiles, Top, Bottom, PercentileBetween}
-use Rattle.pl_spec.specs.Kind.Kind.{Constant, Label, StaticSids, Window, Point, LabelTest, Cross, Downsample}
+use Rattle.pl_spec.specs.Kind.WindowKind.{All}
+use Rattle.pl_spec.specs.Kind.PointKind.{Add}
+use Rattle.pl_spec.specs.Kind.CrossKind.{Demean}
+use Rattle.pl_spec.specs.Kind.Kind.{Label, Window, Point, LabelTest, Cross, Downsample}
 use Rattle.pl_spec.specs.Formula.{truth}
 use Rattle.pl_spec.specs.Pointwise.{label_test}
 use Rattle.pl_spec.specs.Term.{Node, input_tree, trees}
@@ -47,68 +46,44 @@ gives_numbers k = true
 
 step_number : (w : World) (names : List (List ℕ)) (k : Kind) (size : ℕ) (x y z m g : Part) (a : ℕ) (d : ℤ) → gives_numbers k ≡ true → IsNumber (step w names k size x y z m g a d)
 unfolding step
-step_number w names (Constant c) size x y z m g a d h = (c, refl)
-step_number w names (Label n) size x y z m g a d h = absurd (let bad : false ≡ true = h in cc)
-step_number w names (Downsample f) size x y z m g a d h = absurd (let bad : false ≡ true = h in cc)
-step_number w names (kinds.Number n) size x y z m g a d h = (_, refl)
-step_number w names (StaticSids sids) size x y z m g a d h = (_, refl)
-step_number w names (Window k) size x y z m g a d h = (_, refl)
-step_number w names (Point k) size x y z m g a d h = (_, refl)
+step_number w names (Label n) size x y z m g a d h = absurd (true≢false (sym h))
+step_number w names (Downsample f) size x y z m g a d h = absurd (true≢false (sym h))
 step_number w names (LabelTest k) size x y z m g a d h = test_number k (now x a d)
 step_number w names (Cross k) size x y z m g a d h =
     either_number (list_any (λ e. e.0 == a) (eligible w x m (group_of k x g) a d)) _ (empty (Cross k)) (_, refl) (number_of (empty (Cross k)), empty_is (Cross k))
+step_number w names k size x y z m g a d h = (_, refl)
 
 -- the kind of a term that is neither downsampled nor a label
 not_label : (k : Kind) → is_downsampled k ≡ false → (sort_of k ≡ Labels → ⊥) → gives_numbers k ≡ true
 unfolding sort_of
 not_label (Label n) h f = absurd (f refl)
-not_label (Downsample f) h g = absurd (let bad : true ≡ false = h in cc)
-not_label (Constant c) h f = refl
-not_label (kinds.Number n) h f = refl
-not_label (StaticSids sids) h f = refl
-not_label (Window k) h f = refl
-not_label (Point k) h f = refl
-not_label (LabelTest k) h f = refl
-not_label (Cross k) h f = refl
+not_label (Downsample f) h g = absurd (true≢false h)
+not_label k h f = refl
+
+abbrev is_labels : Sort → Bool
+is_labels Labels = true
+is_labels r = false
 
 window_not : (k : WindowKind) → window_sort k ≡ Labels → ⊥
-window_not All e = absurd (let bad : Filters ≡ Labels = e in cc)
-window_not Any e = absurd (let bad : Filters ≡ Labels = e in cc)
-window_not (AtLeastN n) e = absurd (let bad : Filters ≡ Labels = e in cc)
-window_not AllPresent e = absurd (let bad : Filters ≡ Labels = e in cc)
-window_not k e = absurd (let bad : Factors ≡ Labels = e in cc)
+window_not All e = true≢false (sym (ap is_labels e))
+window_not k e = true≢false (sym (ap is_labels e))
 
 point_not : (k : PointKind) → point_sort k ≡ Labels → ⊥
-point_not Add e = absurd (let bad : Factors ≡ Labels = e in cc)
-point_not Sub e = absurd (let bad : Factors ≡ Labels = e in cc)
-point_not Mul e = absurd (let bad : Factors ≡ Labels = e in cc)
-point_not Div e = absurd (let bad : Factors ≡ Labels = e in cc)
-point_not Neg e = absurd (let bad : Factors ≡ Labels = e in cc)
-point_not Abs e = absurd (let bad : Factors ≡ Labels = e in cc)
-point_not (Clip low high) e = absurd (let bad : Factors ≡ Labels = e in cc)
-point_not FillNa e = absurd (let bad : Factors ≡ Labels = e in cc)
-point_not IfElse e = absurd (let bad : Factors ≡ Labels = e in cc)
-point_not k e = absurd (let bad : Filters ≡ Labels = e in cc)
+point_not Add e = true≢false (sym (ap is_labels e))
+point_not k e = true≢false (sym (ap is_labels e))
 
 cross_not : (k : CrossKind) → cross_sort k ≡ Labels → ⊥
-cross_not (Quantiles bins) e = absurd (let bad : Numbers ≡ Labels = e in cc)
-cross_not (Top n) e = absurd (let bad : Filters ≡ Labels = e in cc)
-cross_not (Bottom n) e = absurd (let bad : Filters ≡ Labels = e in cc)
-cross_not (PercentileBetween low high) e = absurd (let bad : Filters ≡ Labels = e in cc)
-cross_not k e = absurd (let bad : Factors ≡ Labels = e in cc)
+cross_not Demean e = true≢false (sym (ap is_labels e))
+cross_not k e = true≢false (sym (ap is_labels e))
 
 -- a term of labels is a label
 label_kind : (k : Kind) → sort_of k ≡ Labels → (l : ℕ) × (k ≡ Label l)
 unfolding sort_of
 label_kind (Label l) e = (l, refl)
-label_kind (Constant c) e = absurd (let bad : Factors ≡ Labels = e in cc)
-label_kind (kinds.Number n) e = absurd (let bad : Factors ≡ Labels = e in cc)
-label_kind (StaticSids sids) e = absurd (let bad : Filters ≡ Labels = e in cc)
 label_kind (Window k) e = absurd (window_not k e)
 label_kind (Point k) e = absurd (point_not k e)
-label_kind (LabelTest k) e = absurd (let bad : Filters ≡ Labels = e in cc)
 label_kind (Cross k) e = absurd (cross_not k e)
-label_kind (Downsample f) e = absurd (let bad : Factors ≡ Labels = e in cc)
+label_kind k e = absurd (true≢false (sym (ap is_labels e)))
 
 -- a term of the sort is worth numbers
 abbrev pub plain_sort : Option Sort → Bool

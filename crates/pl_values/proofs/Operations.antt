@@ -9,7 +9,7 @@ use Rattle.pl_spec.specs.Rounding.{MISSING, LIMIT, IsCell}
 use Rattle.pl_spec.specs.World.{World}
 use Rattle.pl_spec.specs.Kind.{Kind, PointKind}
 use Rattle.pl_spec.specs.Kind.Kind.{Point}
-use Rattle.pl_spec.specs.Kind.PointKind.{Add, Sub, Mul, Div, Neg, Comparison, And, Or, Not, Abs, Clip, FillNa, IsNull, NotNull, IfElse, NumberIs, NumberIsNot}
+use Rattle.pl_spec.specs.Kind.PointKind.{Add, Sub, Mul, Div, Comparison, And, Or, Not, Clip, FillNa, IsNull, NotNull, IfElse}
 use Rattle.pl_spec.specs.Pointwise.{pointwise}
 use Rattle.pl_spec.specs.Term.{Node, Input}
 use Rattle.pl_spec.specs.Term.Input.{BarColumn, TermInput}
@@ -18,14 +18,14 @@ use Rattle.pl_spec.specs.Value.Value.{Number, Text}
 use Rattle.pl_spec.specs.NodeValue.{input_part}
 use Rattle.pl_spec.specs.Table.{Pipeline, value_of, in_array}
 use Rattle.pl_terms.specs.Checked.{IsChecked}
-use Rattle.pl_terms.specs.Sorts.{Sort, Factors, Filters, Numbers, Place, Factor, Filter, FactorOrClassifier, NumberedClassifier, sort_at, places, point_places, fits, all_fit, takes_sort, takes_column, has_parameters, is_limited}
+use Rattle.pl_terms.specs.Sorts.{Sort, Factors, Filters, Numbers, Place, AnyTerm, Series, Factor, Filter, FactorOrClassifier, Classifier, LabelClassifier, NumberedClassifier, sort_at, places, point_places, fits, all_fit, takes_sort, has_parameters, is_limited}
 use Rattle.pl_lanes.specs.Flags.{IsFlag}
 use Rattle.pl_pointwise.specs.Operands.{IsOperation, HasCells, AreOperands, AreOperandsOf, AreCells, AreFlags, operation}
 use Rattle.pl_cross.specs.Arrays.{sid_in}
 use Rattle.pl_values.specs.Arrays.{cell_of, Fills}
-use Rattle.pl_values.specs.Inputs.{IsInputRow, AreRows}
-use Rattle.pl_values.specs.Laws.{PointCells, PointOperands}
-use Rattle.pl_values.proofs.Typed.{has-input, filter-sort}
+use Rattle.pl_values.specs.Inputs.{IsEntryRow, AreEntries}
+use Rattle.pl_values.specs.Laws.{IsNode, IsGiven, PointCells, PointOperands}
+use Rattle.pl_values.proofs.Typed.{has-input, filter-sort, no_column, no-takes, points-free}
 use Rattle.pl_values.proofs.Numbers.{plain_sort, plain-number}
 use Rattle.pl_values.proofs.Cells.{gated, cell-number}
 use Rattle.pl_values.proofs.Flags.{filter-cell}
@@ -44,22 +44,7 @@ used k j x = if nat_lt j (length (point_places k)) then x else MISSING
 uses-its-own : (k : PointKind) (x y z : ℤ) → pointwise k x y z ≡ pointwise k (used k 0 x) (used k 1 y) (used k 2 z)
 unfolding pointwise
 uses-its-own Add x y z = refl
-uses-its-own Sub x y z = refl
-uses-its-own Mul x y z = refl
-uses-its-own Div x y z = refl
-uses-its-own Neg x y z = refl
-uses-its-own (Comparison c) x y z = refl
-uses-its-own And x y z = refl
-uses-its-own Or x y z = refl
-uses-its-own Not x y z = refl
-uses-its-own Abs x y z = refl
-uses-its-own (Clip low high) x y z = refl
-uses-its-own FillNa x y z = refl
-uses-its-own IsNull x y z = refl
-uses-its-own NotNull x y z = refl
-uses-its-own IfElse x y z = refl
-uses-its-own (NumberIs n) x y z = refl
-uses-its-own (NumberIsNot n) x y z = refl
+uses-its-own k x y z = refl
 
 -- whether a value is present is told by its cell
 asked-same : (k : PointKind) (texts : List (List ℕ)) (v : Value) (y z : ℤ) → is_asked k ≡ true → pointwise k (number_of v) y z ≡ pointwise k (in_array texts v) y z
@@ -78,18 +63,12 @@ first-alone g h x y z u v = absurd (let bad : false ≡ true = h in cc)
 
 -- ---- what stands at the places of an operation
 
-abbrev plain_place : Place → Bool
-plain_place Factor = true
-plain_place Filter = true
-plain_place NumberedClassifier = true
-plain_place q = false
-
-abbrev term_place : Place → Bool
-term_place Factor = true
-term_place Filter = true
-term_place FactorOrClassifier = true
-term_place NumberedClassifier = true
-term_place q = false
+abbrev pub plain_place : Place → Bool
+plain_place AnyTerm = false
+plain_place FactorOrClassifier = false
+plain_place Classifier = false
+plain_place LabelClassifier = false
+plain_place q = true
 
 pub all-at : {X : Type 0} (f : X → Bool) (xs : List X) (i : ℕ) (x : X) → list_all f xs ≡ true → slice_get xs i ≡ Some x → f x ≡ true
 all-at f [] i x h e = cc
@@ -101,19 +80,12 @@ points-plain IsNull h = absurd (let bad : true ≡ false = h in cc)
 points-plain NotNull h = absurd (let bad : true ≡ false = h in cc)
 points-plain f h = refl
 
-points-terms : (f : PointKind) → list_all term_place (point_places f) ≡ true
-points-terms IsNull = refl
-points-terms f = refl
-
-takes-plain : (q : Place) (o : Option Sort) → (plain_place q && takes_sort q o) ≡ true → plain_sort o ≡ true
+pub takes-plain : (q : Place) (o : Option Sort) → (plain_place q && takes_sort q o) ≡ true → plain_sort o ≡ true
+takes-plain Series (Some Factors) h = refl
 takes-plain Factor (Some Factors) h = refl
 takes-plain Filter (Some Filters) h = refl
 takes-plain NumberedClassifier (Some Numbers) h = refl
 takes-plain q o h = absurd (let bad : false ≡ true = h in cc)
-
-takes-no-bar : (q : Place) (c : _) → (term_place q && takes_column q c) ≡ true → ⊥
-takes-no-bar Factor c h = let bad : false ≡ true = h in absurd (let worse : false ≡ true = bad in cc)
-takes-no-bar q c h = absurd (let bad : false ≡ true = h in cc)
 
 place-at : (ps : List Place) (j : ℕ) → nat_lt j (length ps) ≡ true → (q : Place) × (slice_get ps j ≡ Some q)
 place-at [] j h = let l : j < 0 = grind (arith, nat_tests) in absurd (omega (arith, l))
@@ -139,101 +111,105 @@ module _ (w : World) (p : Pipeline) (sids : List ℕ) (ok : IsChecked p) (k : �
     where
       here : (x : Input) → slice_get n.inputs j ≡ Some x → fits p.graph q x ≡ true → (t : ℕ) × (slice_get n.inputs j ≡ Some (TermInput t)) × (takes_sort q (sort_at p.graph t) ≡ true)
       here (TermInput t) g l = (t, g, l)
-      here (BarColumn c) g l = absurd (takes-no-bar q c (and_from (term_place q) _ (all-at term_place (point_places f) j q (points-terms f) h) l))
+      here (BarColumn c) g l = absurd (no-takes q c (all-at no_column (point_places f) j q (points-free f) h) l)
 
-  row-is : (j t s size : ℕ) (row : List ℤ) → slice_get n.inputs j ≡ Some (TermInput t) → IsInputRow w p sids size (slice_get n.inputs j) s row → Fills (λ i. cell_of w p sids t i s) size row
-  row-is j t s size row g r = rw g at r
+  module _ (place on : ℕ → ℕ) (size : ℕ) where
+    row-is : (j t : ℕ) (row : List ℤ) → slice_get n.inputs j ≡ Some (TermInput t) → IsEntryRow w p sids place on size (slice_get n.inputs j) row
+        → Fills (λ i. cell_of w p sids t (place i) (on i)) size row
+    row-is j t row g r = rw g at r
 
-  module _ (s size : ℕ) (i : ℕ) (inside : i < size) where
-    operand-same : (j : ℕ) (row : List ℤ) → is_asked f ≡ false → IsInputRow w p sids size (slice_get n.inputs j) s row
-        → used f j (number_of (now (input_part w p.names p.graph (slice_get n.inputs j)) (sid_in sids i) (pos s))) ≡ used f j (get_or row i (pos 0))
-    operand-same j row h r = here (nat_lt j (length (point_places f))) refl
+    module _ (i : ℕ) (inside : i < size) where
+      operand-same : (j : ℕ) (row : List ℤ) → is_asked f ≡ false → IsEntryRow w p sids place on size (slice_get n.inputs j) row
+          → used f j (number_of (now (input_part w p.names p.graph (slice_get n.inputs j)) (sid_in sids (place i)) (pos (on i)))) ≡ used f j (get_or row i (pos 0))
+      operand-same j row h r = here (nat_lt j (length (point_places f))) refl
+        where
+          here : (b : Bool) → nat_lt j (length (point_places f)) ≡ b
+              → used f j (number_of (now (input_part w p.names p.graph (slice_get n.inputs j)) (sid_in sids (place i)) (pos (on i)))) ≡ used f j (get_or row i (pos 0))
+          here false g = rw g refl
+          here true g =
+              let q = place-at (point_places f) j g in
+              let x = term-at j q.0 q.1 in
+              let plain = all-at plain_place (point_places f) j q.0 (points-plain f h) q.1 in
+              let numbered = plain-number w p ok x.0 (sort_at p.graph x.0) refl (takes-plain q.0 (sort_at p.graph x.0) (and_from _ _ plain x.2)) in
+              let row_cell : get_or row i (pos 0) ≡ cell_of w p sids x.0 (place i) (on i) = (row-is j x.0 row x.1 r).each i inside in
+              let value_cell : number_of (now (input_part w p.names p.graph (slice_get n.inputs j)) (sid_in sids (place i)) (pos (on i))) ≡ cell_of w p sids x.0 (place i) (on i) =
+              ap (λ (o : Option Input). number_of (now (input_part w p.names p.graph o) (sid_in sids (place i)) (pos (on i)))) x.1 ∙ cell-number w p sids ok x.0 numbered (place i) (on i) in
+              ap (used f j) (value_cell ∙ sym row_cell)
+
+    -- ---- the cell
+
+    abbrev value-at : ℕ → ℕ → Value
+    value-at j i = now (input_part w p.names p.graph (slice_get n.inputs j)) (sid_in sids (place i)) (pos (on i))
+
+    plainly : (i : ℕ) (a b c : List ℤ) → i < size → AreEntries w p sids n place on size a b c → is_asked f ≡ false
+        → pointwise f (number_of (value-at 0 i)) (number_of (value-at 1 i)) (number_of (value-at 2 i)) ≡ pointwise f (get_or a i (pos 0)) (get_or b i (pos 0)) (get_or c i (pos 0))
+    plainly i a b c inside rows h =
+        uses-its-own f _ _ _
+        ∙ ap (λ x. pointwise f x (used f 1 (number_of (value-at 1 i))) (used f 2 (number_of (value-at 2 i)))) (operand-same i inside 0 a h rows.first)
+        ∙ ap (λ x. pointwise f (used f 0 (get_or a i (pos 0))) x (used f 2 (number_of (value-at 2 i)))) (operand-same i inside 1 b h rows.second)
+        ∙ ap (λ x. pointwise f (used f 0 (get_or a i (pos 0))) (used f 1 (get_or b i (pos 0))) x) (operand-same i inside 2 c h rows.third)
+        ∙ sym (uses-its-own f _ _ _)
+
+    asked-place : is_asked f ≡ true → slice_get (point_places f) 0 ≡ Some FactorOrClassifier
+    asked-place h = asked-first f h
       where
-        here : (b : Bool) → nat_lt j (length (point_places f)) ≡ b
-            → used f j (number_of (now (input_part w p.names p.graph (slice_get n.inputs j)) (sid_in sids i) (pos s))) ≡ used f j (get_or row i (pos 0))
-        here false g = rw g refl
-        here true g =
-            let q = place-at (point_places f) j g in
-            let x = term-at j q.0 q.1 in
-            let plain = all-at plain_place (point_places f) j q.0 (points-plain f h) q.1 in
-            let numbered = plain-number w p ok x.0 (sort_at p.graph x.0) refl (takes-plain q.0 (sort_at p.graph x.0) (and_from _ _ plain x.2)) in
-            let row_cell : get_or row i (pos 0) ≡ cell_of w p sids x.0 i s = (row-is j x.0 s size row x.1 r).each i inside in
-            let value_cell : number_of (now (input_part w p.names p.graph (slice_get n.inputs j)) (sid_in sids i) (pos s)) ≡ cell_of w p sids x.0 i s =
-            ap (λ (o : Option Input). number_of (now (input_part w p.names p.graph o) (sid_in sids i) (pos s))) x.1 ∙ cell-number w p sids ok x.0 numbered i s in
-            ap (used f j) (value_cell ∙ sym row_cell)
+        asked-first : (g : PointKind) → is_asked g ≡ true → slice_get (point_places g) 0 ≡ Some FactorOrClassifier
+        asked-first IsNull h = refl
+        asked-first NotNull h = refl
+        asked-first g h = absurd (let bad : false ≡ true = h in cc)
 
-  -- ---- the cell
+    asked : (i : ℕ) (a b c : List ℤ) → i < size → AreEntries w p sids n place on size a b c → is_asked f ≡ true
+        → pointwise f (number_of (value-at 0 i)) (number_of (value-at 1 i)) (number_of (value-at 2 i)) ≡ pointwise f (get_or a i (pos 0)) (get_or b i (pos 0)) (get_or c i (pos 0))
+    unfolding cell_of
+    asked i a b c inside rows h =
+        let x = term-at 0 FactorOrClassifier (asked-place h) in
+        let row_cell : get_or a i (pos 0) ≡ in_array w.texts (value_of w p x.0 (sid_in sids (place i)) (pos (on i))) = (row-is 0 x.0 a x.1 rows.first).each i inside in
+        first-alone f h _ _ _ (get_or b i (pos 0)) (get_or c i (pos 0))
+        ∙ ap (λ (o : Option Input). pointwise f (number_of (now (input_part w p.names p.graph o) (sid_in sids (place i)) (pos (on i)))) (get_or b i (pos 0)) (get_or c i (pos 0))) x.1
+        ∙ asked-same f w.texts (value_of w p x.0 (sid_in sids (place i)) (pos (on i))) (get_or b i (pos 0)) (get_or c i (pos 0)) h
+        ∙ ap (λ y. pointwise f y (get_or b i (pos 0)) (get_or c i (pos 0))) (sym row_cell)
 
-  abbrev value-at : ℕ → ℕ → ℕ → Value
-  value-at j i s = now (input_part w p.names p.graph (slice_get n.inputs j)) (sid_in sids i) (pos s)
+    same-point : (i : ℕ) (a b c : List ℤ) → i < size → AreEntries w p sids n place on size a b c → (r : Bool) → is_asked f ≡ r
+        → pointwise f (number_of (value-at 0 i)) (number_of (value-at 1 i)) (number_of (value-at 2 i)) ≡ pointwise f (get_or a i (pos 0)) (get_or b i (pos 0)) (get_or c i (pos 0))
+    same-point i a b c inside rows false h = plainly i a b c inside rows h
+    same-point i a b c inside rows true h = asked i a b c inside rows h
 
-  plainly : (s size i : ℕ) (a b c : List ℤ) → i < size → AreRows w p sids n s size a b c → is_asked f ≡ false
-      → pointwise f (number_of (value-at 0 i s)) (number_of (value-at 1 i s)) (number_of (value-at 2 i s)) ≡ pointwise f (get_or a i (pos 0)) (get_or b i (pos 0)) (get_or c i (pos 0))
-  plainly s size i a b c inside rows h =
-      uses-its-own f _ _ _
-      ∙ ap (λ x. pointwise f x (used f 1 (number_of (value-at 1 i s))) (used f 2 (number_of (value-at 2 i s)))) (operand-same s size i inside 0 a h rows.first)
-      ∙ ap (λ x. pointwise f (used f 0 (get_or a i (pos 0))) x (used f 2 (number_of (value-at 2 i s)))) (operand-same s size i inside 1 b h rows.second)
-      ∙ ap (λ x. pointwise f (used f 0 (get_or a i (pos 0))) (used f 1 (get_or b i (pos 0))) x) (operand-same s size i inside 2 c h rows.third)
-      ∙ sym (uses-its-own f _ _ _)
+    -- ---- the operands
 
-  asked-place : is_asked f ≡ true → slice_get (point_places f) 0 ≡ Some FactorOrClassifier
-  asked-place h = asked-first f h
-    where
-      asked-first : (g : PointKind) → is_asked g ≡ true → slice_get (point_places g) 0 ≡ Some FactorOrClassifier
-      asked-first IsNull h = refl
-      asked-first NotNull h = refl
-      asked-first g h = absurd (let bad : false ≡ true = h in cc)
+    cells-at : (j : ℕ) (row : List ℤ) (q : Place) → IsEntryRow w p sids place on size (slice_get n.inputs j) row → slice_get (point_places f) j ≡ Some q → AreCells size row
+    cells-at j row q r h =
+        let x = term-at j q h in
+        let b = row-is j x.0 row x.1 r in
+        record { cells = fills-all IsCell (λ i. cell_of w p sids x.0 (place i) (on i)) size row b b.cell; many = b.long }
 
-  asked : (s size i : ℕ) (a b c : List ℤ) → i < size → AreRows w p sids n s size a b c → is_asked f ≡ true
-      → pointwise f (number_of (value-at 0 i s)) (number_of (value-at 1 i s)) (number_of (value-at 2 i s)) ≡ pointwise f (get_or a i (pos 0)) (get_or b i (pos 0)) (get_or c i (pos 0))
-  unfolding cell_of
-  asked s size i a b c inside rows h =
-      let x = term-at 0 FactorOrClassifier (asked-place h) in
-      let row_cell : get_or a i (pos 0) ≡ in_array w.texts (value_of w p x.0 (sid_in sids i) (pos s)) = (row-is 0 x.0 s size a x.1 rows.first).each i inside in
-      first-alone f h _ _ _ (get_or b i (pos 0)) (get_or c i (pos 0))
-      ∙ ap (λ (o : Option Input). pointwise f (number_of (now (input_part w p.names p.graph o) (sid_in sids i) (pos s))) (get_or b i (pos 0)) (get_or c i (pos 0))) x.1
-      ∙ asked-same f w.texts (value_of w p x.0 (sid_in sids i) (pos s)) (get_or b i (pos 0)) (get_or c i (pos 0)) h
-      ∙ ap (λ y. pointwise f y (get_or b i (pos 0)) (get_or c i (pos 0))) (sym row_cell)
-
-  same-point : (s size i : ℕ) (a b c : List ℤ) → i < size → AreRows w p sids n s size a b c → (r : Bool) → is_asked f ≡ r
-      → pointwise f (number_of (value-at 0 i s)) (number_of (value-at 1 i s)) (number_of (value-at 2 i s)) ≡ pointwise f (get_or a i (pos 0)) (get_or b i (pos 0)) (get_or c i (pos 0))
-  same-point s size i a b c inside rows false h = plainly s size i a b c inside rows h
-  same-point s size i a b c inside rows true h = asked s size i a b c inside rows h
-
-  -- ---- the operands
-
-  cells-at : (j s size : ℕ) (row : List ℤ) (q : Place) → IsInputRow w p sids size (slice_get n.inputs j) s row → slice_get (point_places f) j ≡ Some q → AreCells size row
-  cells-at j s size row q r h =
-      let x = term-at j q h in
-      let b = row-is j x.0 s size row x.1 r in
-      record { cells = fills-all IsCell (λ i. cell_of w p sids x.0 i s) size row b b.cell; many = b.long }
-
-  flags-at : (j s size : ℕ) (row : List ℤ) → IsInputRow w p sids size (slice_get n.inputs j) s row → slice_get (point_places f) j ≡ Some Filter → AreFlags size row
-  flags-at j s size row r h =
-      let x = term-at j Filter h in
-      let b = row-is j x.0 s size row x.1 r in
-      record { flags = fills-all IsFlag (λ i. cell_of w p sids x.0 i s) size row b (λ i l. filter-cell w p sids x.0 i s ok (filter-sort (sort_at p.graph x.0) x.2)); many = b.long }
+    flags-at : (j : ℕ) (row : List ℤ) → IsEntryRow w p sids place on size (slice_get n.inputs j) row → slice_get (point_places f) j ≡ Some Filter → AreFlags size row
+    flags-at j row r h =
+        let x = term-at j Filter h in
+        let b = row-is j x.0 row x.1 r in
+        record { flags = fills-all IsFlag (λ i. cell_of w p sids x.0 (place i) (on i)) size row b
+        (λ i l. filter-cell w p sids x.0 (place i) (on i) ok (filter-sort (sort_at p.graph x.0) x.2)); many = b.long }
 
 operands-of : (w : World) (p : Pipeline) (sids : List ℕ) (ok : IsChecked p) (k : ℕ) (n : Node) → slice_get p.graph k ≡ Some n → (f : PointKind) → n.kind ≡ Point f
-    → (s size : ℕ) (a b c : List ℤ) → AreRows w p sids n s size a b c → AreOperandsOf f a b c size
-operands-of w p sids ok k n is Add e s size a b c r = (cells-at w p sids ok k n is Add e 0 s size a Factor r.first refl, cells-at w p sids ok k n is Add e 1 s size b Factor r.second refl)
-operands-of w p sids ok k n is Sub e s size a b c r = (cells-at w p sids ok k n is Sub e 0 s size a Factor r.first refl, cells-at w p sids ok k n is Sub e 1 s size b Factor r.second refl)
-operands-of w p sids ok k n is Mul e s size a b c r = (cells-at w p sids ok k n is Mul e 0 s size a Factor r.first refl, cells-at w p sids ok k n is Mul e 1 s size b Factor r.second refl)
-operands-of w p sids ok k n is Div e s size a b c r = (cells-at w p sids ok k n is Div e 0 s size a Factor r.first refl, cells-at w p sids ok k n is Div e 1 s size b Factor r.second refl)
-operands-of w p sids ok k n is (Comparison t) e s size a b c r = (cells-at w p sids ok k n is (Comparison t) e 0 s size a Factor r.first refl, cells-at w p sids ok k n is (Comparison t) e 1 s size b Factor r.second refl)
-operands-of w p sids ok k n is FillNa e s size a b c r = (cells-at w p sids ok k n is FillNa e 0 s size a Factor r.first refl, cells-at w p sids ok k n is FillNa e 1 s size b Factor r.second refl)
-operands-of w p sids ok k n is And e s size a b c r = (flags-at w p sids ok k n is And e 0 s size a r.first refl, flags-at w p sids ok k n is And e 1 s size b r.second refl)
-operands-of w p sids ok k n is Or e s size a b c r = (flags-at w p sids ok k n is Or e 0 s size a r.first refl, flags-at w p sids ok k n is Or e 1 s size b r.second refl)
-operands-of w p sids ok k n is IfElse e s size a b c r =
-    (flags-at w p sids ok k n is IfElse e 0 s size a r.first refl, cells-at w p sids ok k n is IfElse e 1 s size b Factor r.second refl, cells-at w p sids ok k n is IfElse e 2 s size c Factor r.third refl)
-operands-of w p sids ok k n is Not e s size a b c r = flags-at w p sids ok k n is Not e 0 s size a r.first refl
-operands-of w p sids ok k n is Neg e s size a b c r = cells-at w p sids ok k n is Neg e 0 s size a Factor r.first refl
-operands-of w p sids ok k n is Abs e s size a b c r = cells-at w p sids ok k n is Abs e 0 s size a Factor r.first refl
-operands-of w p sids ok k n is (Clip low high) e s size a b c r = cells-at w p sids ok k n is (Clip low high) e 0 s size a Factor r.first refl
-operands-of w p sids ok k n is IsNull e s size a b c r = cells-at w p sids ok k n is IsNull e 0 s size a FactorOrClassifier r.first refl
-operands-of w p sids ok k n is NotNull e s size a b c r = cells-at w p sids ok k n is NotNull e 0 s size a FactorOrClassifier r.first refl
-operands-of w p sids ok k n is (NumberIs x) e s size a b c r = cells-at w p sids ok k n is (NumberIs x) e 0 s size a NumberedClassifier r.first refl
-operands-of w p sids ok k n is (NumberIsNot x) e s size a b c r = cells-at w p sids ok k n is (NumberIsNot x) e 0 s size a NumberedClassifier r.first refl
+    → (place on : ℕ → ℕ) (size : ℕ) (a b c : List ℤ) → AreEntries w p sids n place on size a b c → AreOperandsOf f a b c size
+operands-of w p sids ok k n is Add e place on size a b c r = (cells-at w p sids ok k n is Add e place on size 0 a Factor r.first refl, cells-at w p sids ok k n is Add e place on size 1 b Factor
+    r.second refl)
+operands-of w p sids ok k n is Sub e place on size a b c r = (cells-at w p sids ok k n is Sub e place on size 0 a Factor r.first refl, cells-at w p sids ok k n is Sub e place on size 1 b Factor
+    r.second refl)
+operands-of w p sids ok k n is Mul e place on size a b c r = (cells-at w p sids ok k n is Mul e place on size 0 a Factor r.first refl, cells-at w p sids ok k n is Mul e place on size 1 b Factor
+    r.second refl)
+operands-of w p sids ok k n is Div e place on size a b c r = (cells-at w p sids ok k n is Div e place on size 0 a Factor r.first refl, cells-at w p sids ok k n is Div e place on size 1 b Factor
+    r.second refl)
+operands-of w p sids ok k n is (Comparison t) e place on size a b c r = (cells-at w p sids ok k n is (Comparison t) e place on size 0 a Factor r.first refl, cells-at w p sids ok k n is
+    (Comparison t) e place on size 1 b Factor r.second refl)
+operands-of w p sids ok k n is FillNa e place on size a b c r = (cells-at w p sids ok k n is FillNa e place on size 0 a Factor r.first refl, cells-at w p sids ok k n is FillNa e place on size 1 b
+    Factor r.second refl)
+operands-of w p sids ok k n is And e place on size a b c r = (flags-at w p sids ok k n is And e place on size 0 a r.first refl, flags-at w p sids ok k n is And e place on size 1 b r.second refl)
+operands-of w p sids ok k n is Or e place on size a b c r = (flags-at w p sids ok k n is Or e place on size 0 a r.first refl, flags-at w p sids ok k n is Or e place on size 1 b r.second refl)
+operands-of w p sids ok k n is IfElse e place on size a b c r =
+    (flags-at w p sids ok k n is IfElse e place on size 0 a r.first refl, cells-at w p sids ok k n is IfElse e place on size 1 b Factor r.second refl, cells-at w p sids ok k n is IfElse e place
+    on size 2 c Factor r.third refl)
+operands-of w p sids ok k n is Not e place on size a b c r = flags-at w p sids ok k n is Not e place on size 0 a r.first refl
+operands-of w p sids ok k n is f e place on size a b c r = cells-at w p sids ok k n is f e place on size 0 a _ r.first refl
 
 pub limited-cell : (x : ℤ) → is_limited x ≡ true → IsCell x
 limited-cell x h = let l : unsigned_abs x ≤ LIMIT = grind (arith, nat_tests) in inr l
@@ -247,15 +223,23 @@ has-cells (Clip low high) w names h =
     (limited-cell low b.1, limited-cell high a.1)
 has-cells f w names h = tt
 
+module _ (w : World) (p : Pipeline) (sids : List ℕ) (k : ℕ) (n : Node) (own : IsNode p k n) (f : PointKind) (e : n.kind ≡ Point f) (place on : ℕ → ℕ) (size : ℕ) (a b c : List ℤ)
+    (rows : AreEntries w p sids n place on size a b c) where
+  pub entries-asked : IsOperation n.kind × AreOperands n.kind a b c size
+  entries-asked =
+      let parameters = subst (λ q. has_parameters q n.window (length p.names) ≡ true) e (own.checked.nodes k n own.node).parameters in (
+        subst IsOperation (sym e) (has-cells f n.window (length p.names) parameters),
+        subst (λ q. AreOperands q a b c size) (sym e) (operands-of w p sids own.checked k n own.node f e place on size a b c rows),
+      )
+
+  pub entry-given : (i : ℕ) → i < size → IsGiven w p sids k n (place i) (on i) (operation n.kind (get_or a i (pos 0)) (get_or b i (pos 0)) (get_or c i (pos 0)))
+  unfolding step
+  entry-given i inside =
+      gated w p sids own.checked k n own.node (place i) (on i) (operation n.kind (get_or a i (pos 0)) (get_or b i (pos 0)) (get_or c i (pos 0)))
+      (rw e (same-point w p sids own.checked k n own.node f e place on size i a b c inside rows (is_asked f) refl))
+
 pub point-operands : PointOperands
-point-operands w p sids k n i s own f size a b c e rows =
-    let parameters = subst (λ q. has_parameters q n.window (length p.names) ≡ true) e (own.checked.nodes k n own.node).parameters in (
-      subst IsOperation (sym e) (has-cells f n.window (length p.names) parameters),
-      subst (λ q. AreOperands q a b c size) (sym e) (operands-of w p sids own.checked k n own.node f e s size a b c rows),
-    )
+point-operands w p sids k n i s own f size a b c e rows = entries-asked w p sids k n own f e (λ j. j) (λ j. s) size a b c rows
 
 pub point-cell : PointCells
-unfolding step
-point-cell w p sids k n i s own f size a b c e rows inside =
-    gated w p sids own.checked k n own.node i s (operation n.kind (get_or a i (pos 0)) (get_or b i (pos 0)) (get_or c i (pos 0)))
-    (rw e (same-point w p sids own.checked k n own.node f e s size i a b c inside rows (is_asked f) refl))
+point-cell w p sids k n i s own f size a b c e rows inside = entry-given w p sids k n own f e (λ j. j) (λ j. s) size a b c rows i inside

@@ -46,7 +46,7 @@ pub sid-cell : SidCells
 unfolding step
 sid-cell w p sids k n i s own list e = gated w p sids own.checked k n own.node i s (sid_flag n.kind (sid_in sids i)) (rw e refl)
 
-label-below : (k : Kind) (w names name : ℕ) → k ≡ Label name → has_parameters k w names ≡ true → name < names
+pub label-below : (k : Kind) (w names name : ℕ) → k ≡ Label name → has_parameters k w names ≡ true → name < names
 unfolding has_parameters
 label-below k w names name e h = let l : nat_lt name names ≡ true = rw e at h in grind (arith, nat_tests)
 
@@ -57,7 +57,7 @@ label-cell w p sids k n i s own name e = (
   gated w p sids own.checked k n own.node i s (label_code w.texts (label_at w (name_at p.names name) (sid_in sids i) (pos s))) (rw e refl),
 )
 
-number-below : (k : Kind) (w names name : ℕ) → k ≡ Number name → has_parameters k w names ≡ true → name < names
+pub number-below : (k : Kind) (w names name : ℕ) → k ≡ Number name → has_parameters k w names ≡ true → name < names
 unfolding has_parameters
 number-below k w names name e h = let l : nat_lt name names ≡ true = rw e at h in grind (arith, nat_tests)
 

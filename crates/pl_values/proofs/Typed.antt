@@ -1,8 +1,13 @@
 -- What the nodes of a checked pipeline mention.
 use Rattle.std.proofs.Common.{◌≡◌, ℕ, zero, suc, Bool, true, false, List, [], ◌∷◌, Option, Some, None, refl, sym, ◌∙◌, ap, slice_get}
-use Rattle.std.proofs.lemmas.Bool.{and_parts}
+use Rattle.std.specs.List.{list_all}
+use Rattle.std.proofs.lemmas.Bool.{and_parts, true≢false}
+use Rattle.pl_spec.specs.declared.Column.{Column}
+use Rattle.pl_spec.specs.Kind.{PointKind, CrossKind}
+use Rattle.pl_spec.specs.Kind.PointKind.{Neg}
+use Rattle.pl_spec.specs.Kind.CrossKind.{PeerCount}
 use Rattle.pl_spec.specs.Term.{Graph, Input}
-use Rattle.pl_terms.specs.Sorts.{Sort, Factors, Filters, Labels, Numbers, sort_at, Place, takes_sort, fits, all_fit, optional_fits}
+use Rattle.pl_terms.specs.Sorts.{Sort, Filters, Labels, sort_at, Place, Own, Bar, Series, point_places, cross_places, takes_sort, takes_column, fits, all_fit, optional_fits}
 
 -- each input is one that its place takes
 pub fit-at : (g : Graph) (ps : List Place) (is : List Input) (i : ℕ) (x : Input) → all_fit g ps is ≡ true → slice_get is i ≡ Some x
@@ -41,14 +46,30 @@ optional-sort g b q (Some k) t h e = let same : k ≡ t = cc in ap (λ z. takes_
 -- what a place of each kind takes
 pub filter-sort : (o : Option Sort) → takes_sort Place.Filter o ≡ true → o ≡ Some Filters
 filter-sort (Some Filters) h = refl
-filter-sort (Some Factors) h = absurd (let bad : false ≡ true = h in cc)
-filter-sort (Some Labels) h = absurd (let bad : false ≡ true = h in cc)
-filter-sort (Some Numbers) h = absurd (let bad : false ≡ true = h in cc)
-filter-sort None h = absurd (let bad : false ≡ true = h in cc)
+filter-sort o h = absurd (let bad : false ≡ true = h in cc)
 
 pub label-sort : (o : Option Sort) → takes_sort Place.LabelClassifier o ≡ true → o ≡ Some Labels
 label-sort (Some Labels) h = refl
-label-sort (Some Filters) h = absurd (let bad : false ≡ true = h in cc)
-label-sort (Some Factors) h = absurd (let bad : false ≡ true = h in cc)
-label-sort (Some Numbers) h = absurd (let bad : false ≡ true = h in cc)
-label-sort None h = absurd (let bad : false ≡ true = h in cc)
+label-sort o h = absurd (let bad : false ≡ true = h in cc)
+
+-- ---- only formulas over windows read bar columns
+
+abbrev pub no_column : Place → Bool
+no_column (Own c) = false
+no_column Bar = false
+no_column Series = false
+no_column q = true
+
+pub no-takes : (q : Place) (c : Column) → no_column q ≡ true → takes_column q c ≡ true → ⊥
+no-takes (Own d) c e f = true≢false (sym e)
+no-takes Bar c e f = true≢false (sym e)
+no-takes Series c e f = true≢false (sym e)
+no-takes q c e f = true≢false (sym f)
+
+pub points-free : (f : PointKind) → list_all no_column (point_places f) ≡ true
+points-free Neg = refl
+points-free f = refl
+
+pub crosses-free : (f : CrossKind) → list_all no_column (cross_places f) ≡ true
+crosses-free PeerCount = refl
+crosses-free f = refl

@@ -27,16 +27,24 @@ pub record AreWindows (w : World) (p : Pipeline) (sids : List ℕ) (n : Node) (i
   pub second_cells : All IsCell b
   pub third_cells : All IsCell c
 
--- the row of an input that is a term; any other row is of no matter
-abbrev pub IsInputRow : World → Pipeline → List ℕ → ℕ → Option Input → ℕ → List ℤ → Type 0
-IsInputRow w p sids n (Some (TermInput t)) s row = Fills (λ i. cell_of w p sids t i s) n row
-IsInputRow w p sids n o s row = Unit {0}
+-- the row of an input that is a term: entry j is for the asset in place (place j) on session (on j); any
+-- other row is of no matter
+abbrev pub IsEntryRow : World → Pipeline → List ℕ → (ℕ → ℕ) → (ℕ → ℕ) → ℕ → Option Input → List ℤ → Type 0
+IsEntryRow w p sids place on n (Some (TermInput t)) row = Fills (λ j. cell_of w p sids t (place j) (on j)) n row
+IsEntryRow w p sids place on n o row = Unit {0}
 
--- the rows of a node's inputs on session s, in order
-pub record AreRows (w : World) (p : Pipeline) (sids : List ℕ) (n : Node) (s size : ℕ) (a b c : List ℤ) : Type 0 where
-  pub first : IsInputRow w p sids size (slice_get n.inputs 0) s a
-  pub second : IsInputRow w p sids size (slice_get n.inputs 1) s b
-  pub third : IsInputRow w p sids size (slice_get n.inputs 2) s c
+-- the rows of a node's inputs, in order
+pub record AreEntries (w : World) (p : Pipeline) (sids : List ℕ) (n : Node) (place on : ℕ → ℕ) (size : ℕ) (a b c : List ℤ) : Type 0 where
+  pub first : IsEntryRow w p sids place on size (slice_get n.inputs 0) a
+  pub second : IsEntryRow w p sids place on size (slice_get n.inputs 1) b
+  pub third : IsEntryRow w p sids place on size (slice_get n.inputs 2) c
+
+-- the row of an input on session s, an entry for each place
+abbrev pub IsInputRow : World → Pipeline → List ℕ → ℕ → Option Input → ℕ → List ℤ → Type 0
+IsInputRow w p sids n o s row = IsEntryRow w p sids (λ i. i) (λ i. s) n o row
+
+abbrev pub AreRows : World → Pipeline → List ℕ → Node → ℕ → ℕ → List ℤ → List ℤ → List ℤ → Type 0
+AreRows w p sids n s size a b c = AreEntries w p sids n (λ i. i) (λ i. s) size a b c
 
 -- the row of a group, where there is one
 abbrev pub IsGroupRow : World → Pipeline → List ℕ → Option ℕ → ℕ → Option (List ℤ) → Type 0

@@ -34,6 +34,11 @@ pub record IsNode (p : Pipeline) (k : ℕ) (n : Node) : Type 0 where
 abbrev pub IsGiven : World → Pipeline → List ℕ → ℕ → Node → ℕ → ℕ → ℤ → Type 0
 IsGiven w p sids k n i s x = cell_of w p sids k i s ≡ chosen (is_kept w p sids n.mask i s) x (empty_cell p k)
 
+-- and x is a cell
+pub record IsGivenCell (w : World) (p : Pipeline) (sids : List ℕ) (k : ℕ) (n : Node) (i s : ℕ) (x : ℤ) : Type 0 where
+  pub given : IsGiven w p sids k n i s x
+  pub cell : IsCell x
+
 -- a law of the cells of each node for any places, on any session
 abbrev pub OfNodes : (World → Pipeline → List ℕ → ℕ → Node → ℕ → ℕ → Type 0) → Type 0
 OfNodes law = (w : World) (p : Pipeline) (sids : List ℕ) (k : ℕ) (n : Node) (i s : ℕ) → IsNode p k n → law w p sids k n i s

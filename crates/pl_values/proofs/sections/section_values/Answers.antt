@@ -3,7 +3,7 @@ use Rattle.std.proofs.lemmas.List.{get_or_default}
 use Rattle.pl_spec.specs.Rounding.{MISSING, IsCell}
 use Rattle.pl_spec.specs.Cross.{at}
 use Rattle.pl_spec.specs.Kind.{Kind, CrossKind}
-use Rattle.pl_spec.specs.Kind.Kind.{Constant, Label, Number, StaticSids, Window, Point, LabelTest, Cross, Downsample}
+use Rattle.pl_spec.specs.Kind.Kind.{Cross}
 use Rattle.pl_cross.specs.Section.{HasParameters, is_section}
 use Rattle.pl_cross.specs.Arrays.{section_at}
 use Rattle.pl_values.proofs.CrossCells.{section-is-cell}
@@ -14,14 +14,7 @@ cells-out : (k : Kind) → is_section k ≡ true → HasParameters k → (vs kee
 cells-out (Cross f) h r vs keep out labels few long each = λ i d l.
     let m : i < length vs = omega (arith, l, long) in
     subst IsCell (sym (get_or_default out i d MISSING l ∙ each f refl i m)) (section-is-cell f vs keep labels i r few)
-cells-out (Constant c) h r vs keep out labels few long each = absurd (let bad : false ≡ true = h in cc)
-cells-out (Label c) h r vs keep out labels few long each = absurd (let bad : false ≡ true = h in cc)
-cells-out (Number c) h r vs keep out labels few long each = absurd (let bad : false ≡ true = h in cc)
-cells-out (StaticSids c) h r vs keep out labels few long each = absurd (let bad : false ≡ true = h in cc)
-cells-out (Window c) h r vs keep out labels few long each = absurd (let bad : false ≡ true = h in cc)
-cells-out (Point c) h r vs keep out labels few long each = absurd (let bad : false ≡ true = h in cc)
-cells-out (LabelTest c) h r vs keep out labels few long each = absurd (let bad : false ≡ true = h in cc)
-cells-out (Downsample c) h r vs keep out labels few long each = absurd (let bad : false ≡ true = h in cc)
+cells-out k h r vs keep out labels few long each = absurd (let bad : false ≡ true = h in cc)
 
 pub returns-then-is_choice-clause-cells : goal.returns-then-is_choice-clause-cells
 returns-then-is_choice-clause-cells c =
