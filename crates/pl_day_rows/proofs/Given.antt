@@ -1,50 +1,48 @@
 -- What the term of a turn is worth, family by family.
-use Rattle.std.proofs.Common.{◌≡◌, ℕ, suc, ◌-◌, ◌<◌, ◌≤◌, true, ◌&&◌, ℤ, pos, List, [], length, get_or, Option, Some, None, slice_get, refl, sym, ◌∙◌, ap, subst, arith, All, unwrap_or, option_map, IfSome}
+use Rattle.std.proofs.Common.{◌≡◌, ℕ, suc, ◌-◌, ◌<◌, ◌≤◌, true, ◌&&◌, ℤ, pos, List, [], length, get_or, Option, Some, None, slice_get, refl, sym, ◌∙◌, ap, subst, arith, All, option_map, IfSome, map}
+use Rattle.std.proofs.Math.Path.{fun_ext}
 use Rattle.std.proofs.lemmas.List.{length-map, get_or_default}
 use Rattle.circular_buffer.specs.Buffer.{buffer, keep_last}
 use Rattle.pl_spec.specs.declared.AssetRow.{AssetRow}
-use Rattle.pl_spec.specs.Rounding.{IsCell, MISSING}
-use Rattle.pl_spec.specs.World.{World, label_at, known_number}
-use Rattle.pl_spec.specs.Kind.{CrossKind}
-use Rattle.pl_spec.specs.Kind.Kind.{Constant, Label, Number, Cross, Downsample}
+use Rattle.pl_spec.specs.Rounding.{IsCell}
+use Rattle.pl_spec.specs.World.{World}
+use Rattle.pl_spec.specs.Kind.{WindowKind}
+use Rattle.pl_spec.specs.Kind.Kind.{Label, Number, Window, Downsample}
 use Rattle.pl_spec.specs.declared.Frequency.{Frequency}
 use Rattle.pl_spec.specs.Formula.{is_true}
-use Rattle.pl_spec.specs.Cross.{at}
 use Rattle.pl_spec.specs.Term as spec
 use Rattle.pl_spec.specs.Term.Input.{BarColumn, TermInput}
 use Rattle.pl_spec.specs.Table.{Pipeline}
-use Rattle.pl_spec.specs.Value.{sort_kind}
-use Rattle.pl_spec.specs.Window.{before, seen_cell}
-use Rattle.pl_spec.proofs.Cells.{chosen-cell, empty-cell}
+use Rattle.pl_spec.specs.Window.{before, downward, seen_cell}
 use Rattle.pl_terms.specs.declared.node.TermId.{TermId}
 use Rattle.pl_terms.specs.Nodes.{number_of, graph_of}
-use Rattle.pl_terms.specs.Sorts.{is_downsampled, is_windowed}
+use Rattle.pl_terms.specs.Sorts.{is_windowed}
 use Rattle.pl_terms.proofs.Graphs.{graph-long}
 use Rattle.pl_cross.specs.Listing.{Fits, labels_in}
 use Rattle.std.specs.Borrow.{Bor}
 use Rattle.std.proofs.lemmas.Option.{slice_get_within, slice_get-get_or}
 use Rattle.std.proofs.lemmas.List.Elements.{All-drop}
-use Rattle.pl_cross.specs.Arrays.{sid_in, section_at}
-use Rattle.pl_cross.specs.Section.{is_section, HasParameters}
+use Rattle.pl_cross.specs.Arrays.{sid_in}
+use Rattle.pl_cross.specs.Section.{is_section}
 use Rattle.pl_assets.specs.Labels.{label_on}
 use Rattle.pl_numbers.specs.Numbers.{number_on}
-use Rattle.pl_pointwise.specs.Operands.{IsOperation, AreOperands, operation}
 use Rattle.pl_values.specs.Arrays.{cell_of, empty_cell, is_kept, chosen, kept_or, Fills, IsKeep}
-use Rattle.pl_values.specs.Families.{is_sids, is_point, is_label_test, sid_flag, code_flag, label_code, IsCode, TakesWindows}
-use Rattle.pl_values.specs.Laws.{IsNode, IsGiven}
-use Rattle.pl_values.specs.Inputs.{IsInputRow, IsGroupRow, AreRows, AreSectionRows}
-use Rattle.pl_values.proofs.Given.{constant-cell, sid-cell, label-cell, number-cell, label-test-cell, label-input, point-cell, point-operands, section-cell, section-input, downsampled-cell, downsampled-input}
-use Rattle.pl_values.proofs.Operations.{fills-all}
-use Rattle.pl_values.proofs.KindFamilies.{sids_kind, point_kind, label_test_kind, section_kind, window_kind, downsampled_kind}
+use Rattle.pl_values.specs.Families.{label_code, TakesWindows}
+use Rattle.pl_values.specs.Laws.{IsNode, IsGiven, IsGivenCell}
+use Rattle.pl_values.specs.Inputs.{IsInputRow, IsGroupRow, AreRows}
+use Rattle.pl_values.proofs.Given.{downsampled-cell, downsampled-input}
+use Rattle.pl_values.proofs.Rows.{given-by, label-given, number-given, kept-cells, shown-cells, IsSection}
+use Rattle.pl_values.proofs.Formulas.{AreSeen, seen_window, seen-takes, seen-given, term-numbered}
+use Rattle.pl_values.proofs.Numbers.{number_is}
+use Rattle.pl_values.proofs.KindFamilies.{window_kind}
 use Rattle.pl_rings.proofs.Moves.{ends}
 use Rattle.pl_rings.specs.Changes.{Ring, ring_at}
 use Rattle.pl_rings.specs.Columns.{rings_of}
 use Rattle.pl_day_rows.specs.declared.turn.Turn.{Turn}
 use Rattle.pl_day_rows.specs.declared.turn.TermCells.{TermCells}
 use Rattle.pl_day_rows.specs.Rows.{Shows, is_kept_by, row_of, rows_lent, rings_in, capacity_of, input_row, ring_window}
-use Rattle.pl_day_rows.specs.Turns.{Moment, IsTurn, IsKept, IsOut, HoldsStart, assets_at, sids_at, node_at, pipeline_at, keeps, number_row, cell_on, day_window_of}
+use Rattle.pl_day_rows.specs.Turns.{Moment, IsTurn, IsKept, IsOut, AreGiven, HoldsStart, assets_at, sids_at, node_at, pipeline_at, keeps, number_row, cell_on, day_window_of}
 use Rattle.pl_day_rows.specs.Windows.{window_at, windowed_by}
-use Rattle.pl_day_rows.proofs.DayWindows.{AreDayWindows, takes-day-windows, day-window-cell}
 
 module _ (t : Turn) (v : Moment) (is : IsTurn t v) where
   abbrev w : World
@@ -65,9 +63,6 @@ module _ (t : Turn) (v : Moment) (is : IsTurn t v) where
   pub node_is : IsNode p t.term.0 n
   node_is = record { checked = is.checked; node = is.node }
 
-  pub none_cell : IsCell (empty_cell p t.term.0)
-  none_cell = empty-cell (sort_kind (spec.term_at p.graph t.term.0))
-
   pub sids_long : length sids ≡ assets_at t
   sids_long = length-map t.assets.now (λ (a : AssetRow). a.sid)
 
@@ -83,122 +78,61 @@ module _ (t : Turn) (v : Moment) (is : IsTurn t v) where
   pub kept_is : (keep : List ℤ) → IsKept t keep → IsKeep (λ i. is_kept w p sids n.mask i s) (assets_at t) keep
   kept_is keep kept = record { long = kept.long; each = λ i h. kept.each i h ∙ keeps_is i h }
 
-  -- a row that shows what is given where the asset is kept
-  pub out_is : (keep row : List ℤ) (none : ℤ) (f : ℕ → ℤ) → IsKept t keep → none ≡ empty_cell p t.term.0 → Shows f none keep row
-      → ((i : ℕ) → i < assets_at t → IsGiven w p sids t.term.0 n i s (f i)) → IsOut t v row
-  out_is keep row none f kept empty shows given = record {
-    long = shows.long ∙ kept.long;
-    each = at;
-    cell = λ i h. subst IsCell (at i h) (shows.cell i (omega (arith, h, kept.long)));
-  }
-    where
-      at : (i : ℕ) → i < assets_at t → get_or row i (pos 0) ≡ cell_of w p sids t.term.0 i s
-      at i h =
-          shows.each i (omega (arith, h, kept.long))
-          ∙ ap (λ b. chosen b (f i) none) ((kept_is keep kept).each i h)
-          ∙ ap (chosen (is_kept w p sids n.mask i s) (f i)) empty
-          ∙ sym (given i h)
-
-  -- what is given for all, and then put away where the asset is not kept
-  pub kept_out : (f : ℕ → ℤ) (keep made out : List ℤ) (none : ℤ) → IsKept t keep → none ≡ empty_cell p t.term.0 → length out ≡ assets_at t
-      → ((i : ℕ) → i < assets_at t → get_or made i (pos 0) ≡ f i) → ((i : ℕ) → i < assets_at t → IsCell (f i)) → ((i : ℕ) → i < assets_at t → IsGiven w p sids t.term.0 n i s (f i))
+  -- what is given for each asset, and then put away where it is not kept
+  pub given_out : (keep made out : List ℤ) (none : ℤ) → IsKept t keep → none ≡ empty_cell p t.term.0 → length out ≡ assets_at t → AreGiven t made
       → ((i : ℕ) → i < assets_at t → get_or out i (pos 0) ≡ kept_or none keep (λ j. get_or made j (pos 0)) i) → IsOut t v out
-  kept_out f keep made out none kept empty size made_is cells given picked = out_is keep out none f kept empty (record {
-    long = size ∙ sym kept.long;
-    each = λ i h. shown i (omega (arith, h, kept.long));
-    cell = λ i h. subst IsCell (sym (shown i (omega (arith, h, kept.long)))) (chosen-cell (is_true (get_or keep i (pos 0))) (f i) none (cells i (omega (arith, h, kept.long))) (subst IsCell (sym empty) none_cell));
-  }) given
-    where
-      shown : (i : ℕ) → i < assets_at t → get_or out i (pos 0) ≡ kept_or none keep f i
-      shown i h = picked i h ∙ ap (λ x. chosen (is_true (get_or keep i (pos 0))) x none) (made_is i h)
+  given_out keep made out none kept empty size given picked =
+      kept-cells w p sids t.term.0 n (λ i. i) (λ i. s) (assets_at t) (λ i. get_or made i (pos 0)) out none empty
+      (λ i h. picked i h ∙ ap (λ b. chosen b (get_or made i (pos 0)) none) ((kept_is keep kept).each i h)) size (given v is)
 
-  pub constant_given : (value : ℤ) (i : ℕ) → n.kind ≡ Constant value → IsCell value × IsGiven w p sids t.term.0 n i s value
-  constant_given value i e = constant-cell w p sids t.term.0 n i s node_is value e
-
-  pub sid_given : (i : ℕ) → is_sids n.kind ≡ true → IsGiven w p sids t.term.0 n i s (sid_flag n.kind (sid_in sids i))
-  sid_given i e = let k = sids_kind n.kind e in sid-cell w p sids t.term.0 n i s node_is k.0 k.1
+  -- a row that shows what is given where the asset is kept
+  pub shown_out : (keep out : List ℤ) (none : ℤ) (f : ℕ → ℤ) → IsKept t keep → none ≡ empty_cell p t.term.0 → Shows f none keep out
+      → ((i : ℕ) → i < assets_at t → IsGiven w p sids t.term.0 n i s (f i)) → IsOut t v out
+  shown_out keep out none f kept empty shows given =
+      shown-cells w p sids t.term.0 n (λ i. i) (λ i. s) (assets_at t) f out none empty
+      (λ i h. shows.each i (omega (arith, h, kept.long)) ∙ ap (λ b. chosen b (f i) none) ((kept_is keep kept).each i h)) (shows.long ∙ kept.long) given
+      (λ i h. shows.cell i (omega (arith, h, kept.long)))
 
   -- a label is that of the column
-  pub label_given : (number i : ℕ) (name : List ℕ) → n.kind ≡ Label number → slice_get p.names number ≡ Some name → i < assets_at t
-      → IsGiven w p sids t.term.0 n i s (label_code t.labels.now.texts (label_on t.labels.now.rows name i t.day))
-  label_given number i name e named h =
-      subst (IsGiven w p sids t.term.0 n i s)
-      (ap (λ m. label_code w.texts (label_at w m (sid_in sids i) (pos s))) (ap (λ o. unwrap_or o []) named)
-      ∙ ap (label_code w.texts) (is.here.labels name i h)
-      ∙ ap (λ texts. label_code texts (label_on t.labels.now.rows name i t.day)) is.here.texts)
-      (label-cell w p sids t.term.0 n i s node_is number e).1
-
-  pub label_known : (number : ℕ) → n.kind ≡ Label number → number < length p.names
-  label_known number e = (label-cell w p sids t.term.0 n 0 s node_is number e).0
+  pub label_given : (number i : ℕ) (name : List ℕ) (x : ℤ) → n.kind ≡ Label number → slice_get p.names number ≡ Some name → i < assets_at t
+      → x ≡ label_code t.labels.now.texts (label_on t.labels.now.rows name i t.day) → IsCell x → IsGivenCell w p sids t.term.0 n i s x
+  label_given number i name x e named h same cell =
+      label-given w p sids t.term.0 n node_is i s x number name e named
+      (same ∙ sym (ap (label_code w.texts) (is.here.labels name i h) ∙ ap (λ texts. label_code texts (label_on t.labels.now.rows name i t.day)) is.here.texts)) cell
 
   -- a number is that of the column
-  pub number_given : (number i : ℕ) (name : List ℕ) → n.kind ≡ Number number → slice_get p.names number ≡ Some name → i < assets_at t
-      → IsGiven w p sids t.term.0 n i s (number_on (rows_lent t.numbers) name i t.day)
-  number_given number i name e named h =
-      subst (IsGiven w p sids t.term.0 n i s)
-      (ap (λ m. known_number w m (sid_in sids i) (pos s)) (ap (λ o. unwrap_or o []) named) ∙ is.here.known name i h)
-      (number-cell w p sids t.term.0 n i s node_is number e).1
-
-  pub number_known : (number : ℕ) → n.kind ≡ Number number → number < length p.names
-  number_known number e = (number-cell w p sids t.term.0 n 0 s node_is number e).0
+  pub number_given : (number i : ℕ) (name : List ℕ) (x : ℤ) → n.kind ≡ Number number → slice_get p.names number ≡ Some name → i < assets_at t
+      → x ≡ number_on (rows_lent t.numbers) name i t.day → IsCell x → IsGivenCell w p sids t.term.0 n i s x
+  number_given number i name x e named h same cell = number-given w p sids t.term.0 n node_is i s x number name e named (same ∙ sym (is.here.known name i h)) cell
 
   -- a downsampled term has the cells that its input had on the first session of the period
-  start_held : is_downsampled n.kind ≡ true → (f : Frequency) × (n.kind ≡ Downsample f) × (u : ℕ) × (slice_get n.inputs 0 ≡ Some (TermInput u)) × HoldsStart t v f u
-  start_held e =
-      let k = downsampled_kind n.kind e in
-      let x = downsampled-input p is.checked t.term.0 n is.node k.0 k.1 in
-      (k.0, k.1, x.0, x.1, is.start k.0 x.0 k.1 x.1)
+  module _ (f : Frequency) (e : n.kind ≡ Downsample f) where
+    start_input : (u : ℕ) × (slice_get n.inputs 0 ≡ Some (TermInput u))
+    start_input = downsampled-input p is.checked t.term.0 n is.node f e
 
-  pub start_long : is_downsampled n.kind ≡ true → length t.start.now ≡ assets_at t
-  start_long e = let x = start_held e in x.4.fills.long
+    start_held : HoldsStart t v f start_input.0
+    start_held = is.start f start_input.0 e start_input.1
 
-  pub start_cell : (i : ℕ) → is_downsampled n.kind ≡ true → i < assets_at t → IsCell (get_or t.start.now i (pos 0))
-  start_cell i e h = let x = start_held e in subst IsCell (sym (x.4.fills.each i h)) (x.4.fills.cell i h)
+    pub start_long : length t.start.now ≡ assets_at t
+    start_long = start_held.fills.long
 
-  pub start_given : (i : ℕ) → is_downsampled n.kind ≡ true → i < assets_at t → IsGiven w p sids t.term.0 n i s (get_or t.start.now i (pos 0))
-  start_given i e h =
-      let x = start_held e in
-      subst (IsGiven w p sids t.term.0 n i s) (sym (x.4.fills.each i h)) (downsampled-cell w p sids t.term.0 n i s node_is x.0 x.2 x.4.first x.1 x.3 x.4.is)
+    pub start_given : (i : ℕ) (x : ℤ) → i < assets_at t → x ≡ get_or t.start.now i (pos 0) → IsGivenCell w p sids t.term.0 n i s x
+    start_given i x h same = given-by w p sids t.term.0 n i s _ x (same ∙ start_held.fills.each i h)
+        (downsampled-cell w p sids t.term.0 n i s node_is f start_input.0 start_held.first e start_input.1 start_held.is) (start_held.fills.cell i h)
 
   -- ---- rows of inputs
 
-  pub input_is : (place : ℕ) → IsInputRow w p sids (assets_at t) (slice_get n.inputs place) s (input_row t.terms.now (slice_get n.inputs place))
-  input_is place = by_input (slice_get n.inputs place) refl
+  pub input_read : (place : ℕ) (row : List ℤ) → row ≡ input_row t.terms.now (slice_get n.inputs place) → IsInputRow w p sids (assets_at t) (slice_get n.inputs place) s row
+  input_read place row same = subst (IsInputRow w p sids (assets_at t) (slice_get n.inputs place) s) (sym same) (by_input (slice_get n.inputs place) refl)
     where
       by_input : (o : Option spec.Input) → slice_get n.inputs place ≡ o → IsInputRow w p sids (assets_at t) o s (input_row t.terms.now o)
       by_input None e = tt
       by_input (Some (BarColumn c)) e = tt
       by_input (Some (TermInput u)) e = (is.rows place u e).fills
 
-  pub input_long : (place u : ℕ) → slice_get n.inputs place ≡ Some (TermInput u) → length (input_row t.terms.now (slice_get n.inputs place)) ≡ assets_at t
-  input_long place u e = ap (λ o. length (input_row t.terms.now o)) e ∙ (is.rows place u e).fills.long
-
-  pub label_test_given : (i : ℕ) → is_label_test n.kind ≡ true → i < assets_at t
-      → IsCode t.labels.now.texts (get_or (input_row t.terms.now (slice_get n.inputs 0)) i (pos 0))
-      × IsGiven w p sids t.term.0 n i s (code_flag t.labels.now.texts n.kind (get_or (input_row t.terms.now (slice_get n.inputs 0)) i (pos 0)))
-  label_test_given i e h =
-      let k = label_test_kind n.kind e in
-      let x = label-input p is.checked t.term.0 n is.node k.0 k.1 in
-      let law = label-test-cell w p sids t.term.0 n i s node_is k.0 x.0 is.here.coded k.1 x.1 in
-      let same : cell_of w p sids x.0 i s ≡ get_or (input_row t.terms.now (slice_get n.inputs 0)) i (pos 0) =
-      sym (ap (λ o. get_or (input_row t.terms.now o) i (pos 0)) x.1 ∙ (is.rows 0 x.0 x.1).fills.each i h) in (
-        subst (IsCode t.labels.now.texts) same (subst (λ texts. IsCode texts (cell_of w p sids x.0 i s)) is.here.texts law.0),
-        subst (IsGiven w p sids t.term.0 n i s) (ap (code_flag w.texts n.kind) same ∙ ap (λ texts. code_flag texts n.kind (get_or (input_row t.terms.now (slice_get n.inputs 0)) i (pos 0))) is.here.texts) law.1,
-      )
-
-  pub label_test_long : is_label_test n.kind ≡ true → length (input_row t.terms.now (slice_get n.inputs 0)) ≡ assets_at t
-  label_test_long e = let k = label_test_kind n.kind e in let x = label-input p is.checked t.term.0 n is.node k.0 k.1 in input_long 0 x.0 x.1
-
-  rows : AreRows w p sids n s (assets_at t) (input_row t.terms.now (slice_get n.inputs 0)) (input_row t.terms.now (slice_get n.inputs 1)) (input_row t.terms.now (slice_get n.inputs 2))
-  rows = record { first = input_is 0; second = input_is 1; third = input_is 2 }
-
-  pub point_asks : is_point n.kind ≡ true
-      → IsOperation n.kind × AreOperands n.kind (input_row t.terms.now (slice_get n.inputs 0)) (input_row t.terms.now (slice_get n.inputs 1)) (input_row t.terms.now (slice_get n.inputs 2)) (assets_at t)
-  point_asks e = let k = point_kind n.kind e in point-operands w p sids t.term.0 n 0 s node_is k.0 (assets_at t) _ _ _ k.1 rows
-
-  pub point_given : is_point n.kind ≡ true → (i : ℕ) → i < assets_at t
-      → IsGiven w p sids t.term.0 n i s (operation n.kind (get_or (input_row t.terms.now (slice_get n.inputs 0)) i (pos 0)) (get_or (input_row t.terms.now (slice_get n.inputs 1)) i (pos 0)) (get_or (input_row t.terms.now (slice_get n.inputs 2)) i (pos 0)))
-  point_given e i h = let k = point_kind n.kind e in point-cell w p sids t.term.0 n i s node_is k.0 (assets_at t) _ _ _ k.1 rows h
+  pub rows_read : (a b c : List ℤ) → a ≡ input_row t.terms.now (slice_get n.inputs 0) → b ≡ input_row t.terms.now (slice_get n.inputs 1) → c ≡ input_row t.terms.now (slice_get n.inputs 2)
+      → AreRows w p sids n s (assets_at t) a b c
+  rows_read a b c ra rb rc = record { first = input_read 0 a ra; second = input_read 1 b rb; third = input_read 2 c rc }
 
   -- ---- windows
 
@@ -218,75 +152,51 @@ module _ (t : Turn) (v : Moment) (is : IsTurn t v) where
         All-drop IsCell (length items - n.window) items (held.rings.each i inside).cells,
       )
 
-  windows : is_windowed n.kind ≡ true → (i : ℕ) → i < assets_at t → AreDayWindows w p sids n i s (window_at t 0 i) (window_at t 1 i) (window_at t 2 i)
-  windows e i h =
-      let a = ends_window n.window (slice_get n.inputs 0) i e 0 refl h in
-      let b = ends_window n.window (slice_get n.inputs 1) i e 1 refl h in
-      let c = ends_window n.window (slice_get n.inputs 2) i e 2 refl h in
-      record { first = a.0; second = b.0; third = c.0; first_cells = a.1; second_cells = b.1; third_cells = c.1 }
+  module _ (e : is_windowed n.kind ≡ true) where
+    windowed_is : (f : WindowKind) × (n.kind ≡ Window f)
+    windowed_is = window_kind n.kind e
 
-  pub window_takes : is_windowed n.kind ≡ true → (i : ℕ) → i < assets_at t → TakesWindows n.kind (window_at t 0 i) (window_at t 1 i) (window_at t 2 i)
-  window_takes e i h = let k = window_kind n.kind e in takes-day-windows w p sids is.checked t.term.0 n is.node k.0 k.1 i s _ _ _ (windows e i h)
+    -- of a term in a window the array has the numbers
+    same_window : (place i : ℕ) (o : Option spec.Input) → slice_get n.inputs place ≡ o → day_window_of w p sids n.window o i s ≡ seen_window w p sids n o i s
+    same_window place i None h = refl
+    same_window place i (Some (BarColumn c)) h = refl
+    same_window place i (Some (TermInput u)) h =
+        ap (λ (g : ℕ → ℤ). map g (downward n.window)) (fun_ext (λ m. sym (number_is w p is.checked u (term-numbered w p sids is.checked t.term.0 n is.node windowed_is.0 windowed_is.1 place u h)
+        (sid_in sids i) (before (pos s) m))))
 
-  pub window_given : is_windowed n.kind ≡ true → (i : ℕ) → i < assets_at t → IsGiven w p sids t.term.0 n i s (windowed_by t i)
-  window_given e i h = let k = window_kind n.kind e in day-window-cell w p sids is.checked t.term.0 n is.node k.0 k.1 i s _ _ _ (windows e i h)
+    windows : (i : ℕ) → i < assets_at t → AreSeen w p sids n i s (window_at t 0 i) (window_at t 1 i) (window_at t 2 i)
+    windows i h =
+        let a = ends_window n.window (slice_get n.inputs 0) i e 0 refl h in
+        let b = ends_window n.window (slice_get n.inputs 1) i e 1 refl h in
+        let c = ends_window n.window (slice_get n.inputs 2) i e 2 refl h in
+        record { first = a.0 ∙ same_window 0 i _ refl; second = b.0 ∙ same_window 1 i _ refl; third = c.0 ∙ same_window 2 i _ refl; first_cells = a.1; second_cells = b.1; third_cells = c.1 }
+
+    pub window_takes : (i : ℕ) → i < assets_at t → TakesWindows n.kind (window_at t 0 i) (window_at t 1 i) (window_at t 2 i)
+    window_takes i h = seen-takes w p sids t.term.0 n node_is windowed_is.0 windowed_is.1 i s _ _ _ (windows i h)
+
+    pub window_given : (i : ℕ) → i < assets_at t → IsGiven w p sids t.term.0 n i s (windowed_by t i)
+    window_given i h = seen-given w p sids t.term.0 n node_is windowed_is.0 windowed_is.1 i s _ _ _ (windows i h)
 
   -- ---- cross-sections
 
-  abbrev values : List ℤ
-  values = input_row t.terms.now (slice_get n.inputs 0)
+  groups_is : (o : Option ℕ) → n.group ≡ o → IsGroupRow w p sids o s (number_row t.terms.now o)
+  groups_is None e = refl
+  groups_is (Some u) e = subst (λ m. Fills (λ i. cell_of w p sids u i s) m (row_of (slice_get t.terms.now u))) (sym sids_long) (is.group u e).fills
 
-  abbrev labels : Option (List ℤ)
-  labels = number_row t.terms.now n.group
-
-  groups_is : IsGroupRow w p sids n.group s labels
-  groups_is = by_group n.group refl
-    where
-      by_group : (o : Option ℕ) → n.group ≡ o → IsGroupRow w p sids o s (number_row t.terms.now o)
-      by_group None e = refl
-      by_group (Some u) e = subst (λ m. Fills (λ i. cell_of w p sids u i s) m (row_of (slice_get t.terms.now u))) (sym sids_long) (is.group u e).fills
-
-  section_rows : (keep : List ℤ) → IsKept t keep → AreSectionRows w p sids n s values keep labels
-  section_rows keep kept = record {
+  pub section_is : (values keep : List ℤ) (labels : Option (List ℤ)) → values ≡ input_row t.terms.now (slice_get n.inputs 0) → labels ≡ number_row t.terms.now n.group → IsKept t keep
+      → is_section n.kind ≡ true
+      → IsSection w p sids t.term.0 n s (assets_at t) values keep labels
+  section_is values keep labels read grouped kept e = record {
+    node = node_is;
+    kind = e;
+    texts = is.here.coded;
+    long = sids_long;
     ascend = is.here.up;
     all = is.here.all;
-    values = subst (λ m. IsInputRow w p sids m (slice_get n.inputs 0) s values) (sym sids_long) (input_is 0);
-    keep = subst (λ m. IsKeep (λ i. is_kept w p sids n.mask i s) m keep) (sym sids_long) (kept_is keep kept);
-    groups = groups_is;
+    values = input_read 0 values read;
+    keep = kept_is keep kept;
+    groups = subst (IsGroupRow w p sids n.group s) (sym grouped) (groups_is n.group refl);
   }
-
-  pub section_long : is_section n.kind ≡ true → length values ≡ assets_at t
-  section_long e = let k = section_kind n.kind e in let x = section-input w p sids is.checked t.term.0 n is.node k.0 k.1 in input_long 0 x.0 x.1
-
-  pub section_cells : is_section n.kind ≡ true → All IsCell values
-  section_cells e =
-      let k = section_kind n.kind e in
-      let x = section-input w p sids is.checked t.term.0 n is.node k.0 k.1 in
-      let f = (is.rows 0 x.0 x.1).fills in
-      subst (All IsCell) (sym (ap (input_row t.terms.now) x.1)) (fills-all IsCell (λ i. cell_of w p sids x.0 i s) (assets_at t) (row_of (slice_get t.terms.now x.0)) f f.cell)
-
-  pub section_right : (keep : List ℤ) → IsKept t keep → is_section n.kind ≡ true → HasParameters n.kind
-  section_right keep kept e =
-      let k = section_kind n.kind e in
-      let r = section-cell w p sids t.term.0 n 0 s node_is k.0 values keep labels is.here.coded k.1 (section_rows keep kept) in subst HasParameters (sym k.1) r.0
-
-  pub section_out : (keep out : List ℤ) → IsKept t keep → is_section n.kind ≡ true → length out ≡ assets_at t
-      → ((f : CrossKind) → n.kind ≡ Cross f → (i : ℕ) → i < assets_at t → at out i ≡ section_at f values keep labels i) → All IsCell out → IsOut t v out
-  section_out keep out kept e size each cells = record {
-    long = size;
-    each = λ i h. is_cell i h;
-    cell = λ i h. subst IsCell (is_cell i h) (cells i (pos 0) (omega (arith, h, size)));
-  }
-    where
-      is_cell : (i : ℕ) → i < assets_at t → get_or out i (pos 0) ≡ cell_of w p sids t.term.0 i s
-      is_cell i h =
-          let k = section_kind n.kind e in
-          let r = section-cell w p sids t.term.0 n i s node_is k.0 values keep labels is.here.coded k.1 (section_rows keep kept) in
-          let l = sids_long in
-          get_or_default out i (pos 0) MISSING (omega (arith, h, size)) ∙ each k.0 k.1 i h ∙ sym (r.1 (omega (arith, h, l)))
-
-  pub group_long : (u : ℕ) → n.group ≡ Some u → length (row_of (slice_get t.terms.now u)) ≡ assets_at t
-  group_long u e = (is.group u e).fills.long
 
   pub group_known : (o : Option TermId) → option_map number_of o ≡ n.group → IfSome o (λ t'. t'.0 < length t.terms.now)
   group_known None e = tt
@@ -296,8 +206,8 @@ module _ (t : Turn) (v : Moment) (is : IsTurn t v) where
   mask_known None e = tt
   mask_known (Some u) e = (is.mask u.0 (sym e)).known
 
-  pub groups_fit : Fits (assets_at t) labels
-  groups_fit = by_group n.group refl
+  pub groups_fit : (labels : Option (List ℤ)) → labels ≡ number_row t.terms.now n.group → Fits (assets_at t) labels
+  groups_fit labels same = subst (Fits (assets_at t)) (sym same) (by_group n.group refl)
     where
       by_group : (o : Option ℕ) → n.group ≡ o → Fits (assets_at t) (number_row t.terms.now o)
       by_group None e = tt

@@ -1,5 +1,5 @@
 -- One term on a day, in a world in which the day is a session.
-use Rattle.std.specs.Prelude.{◌≡◌, ℕ, ◌<◌, ◌≤◌, Bool, true, ℤ, pos, List, [], ◌∷◌, length, map, Option, Some, None, slice_get, AllPairs}
+use Rattle.std.specs.Prelude.{◌≡◌, ℕ, ◌<◌, ◌≤◌, Bool, true, false, ℤ, pos, List, [], ◌∷◌, length, map, get_or, Option, Some, None, slice_get, AllPairs}
 use Rattle.pl_spec.specs.Limits.{most_assets}
 use Rattle.pl_spec.specs.Term as spec
 use Rattle.pl_spec.specs.declared.Frequency.{Frequency}
@@ -19,6 +19,9 @@ use Rattle.pl_terms.specs.Checked.{IsChecked, pipeline_of}
 use Rattle.pl_terms.specs.Nodes.{node_of}
 use Rattle.pl_terms.specs.Sorts.{is_windowed}
 use Rattle.pl_values.specs.Arrays.{cell_of, HasAll, Fills, IsKeep}
+use Rattle.pl_values.specs.Laws.{IsGivenCell}
+use Rattle.pl_values.specs.declared.family.Family.{Family}
+use Rattle.pl_values.specs.declared.family.Family.TheVariants as families
 use Rattle.pl_rings.specs.Days.{Start, FedDay, fed, IsStart, AreFed}
 use Rattle.pl_rings.specs.Changes.{AreRings, ring_at}
 use Rattle.pl_rings.specs.Columns.{rings_of}
@@ -121,6 +124,17 @@ IsOut t v row = Fills (λ i. cell_of v.world (pipeline_at t) (sids_at t) t.term.
 -- it has them in every world in which the day is a session for which rings and rows stand
 abbrev pub IsAlways : Turn → List ℤ → Type 0
 IsAlways t row = (v : Moment) → IsTurn t v → IsOut t v row
+
+-- a row has in every such world what is given for each asset, kept or not
+abbrev pub AreGiven : Turn → List ℤ → Type 0
+AreGiven t row = (v : Moment) → IsTurn t v → (i : ℕ) → i < assets_at t
+    → IsGivenCell v.world (pipeline_at t) (sids_at t) t.term.0 (node_at t) i v.session (get_or row i (pos 0))
+
+-- the families of which a row depends on who is kept
+abbrev pub asks_keep : Family → Bool
+asks_keep families.Window = true
+asks_keep families.Section = true
+asks_keep f = false
 
 -- the last of days that were fed is a session of their world
 abbrev pub FedDaysAreSessions : Type 0

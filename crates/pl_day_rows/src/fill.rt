@@ -1,15 +1,13 @@
 //! The row of a term.
 ghost use Rattle.std.specs.Prelude.{◌≡◌, ◌≤◌, length};
-ghost use Rattle.pl_values.specs.Arrays.{empty_cell};
-ghost use Rattle.pl_day_rows.specs.Turns.{IsAlways, IsKept, IsTurn, Moment, assets_at, node_at, pipeline_at};
+ghost use Rattle.pl_day_rows.specs.Turns.{IsAlways, IsKept, IsTurn, Moment, assets_at, node_at};
 
-use crate::families::{
-    constant, downsampled, label, label_test, number, number_row, point, section, sids, window,
-};
+use crate::families::{given_row, number_row, section};
 use crate::leaves::keep_row;
 use crate::turn::Turn;
+use crate::windows::window_row;
 use pl_cross::Cross;
-use pl_values::{Family, empty_value, family_of, kind_of, mask_of};
+use pl_values::{Family, empty_value, family_of, keep_values, kind_of, mask_of};
 
 // The row of a term, for the assets that are kept.
 fn kind_row(
@@ -18,7 +16,6 @@ fn kind_row(
     first: &mut [i64],
     second: &mut [i64],
     third: &mut [i64],
-    none: i64,
     keep: &[i64],
     out: &mut [i64],
 )
@@ -27,7 +24,6 @@ fn kind_row(
     requires first { (node_at turn.now).window ≤ length first.old }
     requires second { (node_at turn.now).window ≤ length second.old }
     requires third { (node_at turn.now).window ≤ length third.old }
-    requires none { none ≡ empty_cell (pipeline_at turn.now) turn.now.term.0 }
     requires keep { IsKept turn.now keep.now }
     requires long { length out.old ≡ assets_at turn.now }
     ensures out { IsAlways turn.now out.new }
@@ -36,16 +32,14 @@ fn kind_row(
     ensures second { length second.new ≡ length second.old }
     ensures third { length third.new ≡ length third.old }
 {
+    let none = empty_value(turn.checked.graph(), turn.term);
     match family_of(kind_of(turn.node)) {
-        Family::Constant(value) => constant(turn, value, none, keep, out),
-        Family::Label(name) => label(turn, name, none, keep, out),
-        Family::Number(name) => number(turn, name, none, keep, out),
-        Family::Sids => sids(turn, none, keep, out),
-        Family::Window => window(turn, first, second, third, none, keep, out),
-        Family::Point => point(turn, none, keep, out),
-        Family::LabelTest => label_test(turn, none, keep, out),
+        Family::Window => window_row(turn, first, second, third, none, keep, out),
         Family::Section => section(turn, cross, keep, out),
-        Family::Downsample(_) => downsampled(turn, none, keep, out),
+        family => {
+            given_row(turn, family, out);
+            keep_values(keep, none, out);
+        }
     }
 }
 
@@ -75,12 +69,7 @@ pub fn fill_row(
     ensures second { length second.new ≡ length second.old }
     ensures third { length third.new ≡ length third.old }
 {
-    let none = empty_value(turn.checked.graph(), turn.term);
-    keep_row(
-        turn.assets,
-        turn.day,
-        number_row(turn, mask_of(turn.node)),
-        keep,
-    );
-    kind_row(turn, cross, first, second, third, none, keep, out);
+    let mask = number_row(turn, mask_of(turn.node));
+    keep_row(turn.assets, turn.day, mask, keep);
+    kind_row(turn, cross, first, second, third, keep, out);
 }

@@ -3,9 +3,9 @@ ghost use Rattle.std.specs.Prelude.{◌≡◌, ◌≤◌, ◌<◌, true, length,
 ghost use Rattle.pl_spec.specs.Rounding.{IsCell};
 ghost use Rattle.pl_spec.specs.Formula.{is_true};
 ghost use Rattle.pl_terms.specs.Sorts.{is_windowed};
-ghost use Rattle.pl_values.specs.Arrays.{chosen};
+ghost use Rattle.pl_values.specs.Arrays.{chosen, empty_cell};
 ghost use Rattle.pl_day_rows.specs.Rows.{Shows, ring_window};
-ghost use Rattle.pl_day_rows.specs.Turns.{IsTurn, Moment, assets_at, node_at};
+ghost use Rattle.pl_day_rows.specs.Turns.{IsAlways, IsKept, IsTurn, Moment, assets_at, node_at, pipeline_at};
 ghost use Rattle.pl_day_rows.specs.Windows.{windowed_by, window_size};
 
 use crate::turn::Turn;
@@ -114,13 +114,13 @@ pub(crate) fn window_row(
 )
     requires turn { (v : Moment) × IsTurn turn.now v }
     requires kind { is_windowed (node_at turn.now).kind ≡ true }
-    requires none { IsCell none }
+    requires none { none ≡ empty_cell (pipeline_at turn.now) turn.now.term.0 }
     requires first { (node_at turn.now).window ≤ length first.old }
     requires second { (node_at turn.now).window ≤ length second.old }
     requires third { (node_at turn.now).window ≤ length third.old }
-    requires keep { length keep.now ≡ assets_at turn.now }
-    requires long { length out.old ≡ length keep.now }
-    ensures shows { Shows (windowed_by turn.now) none keep.now out.new }
+    requires keep { IsKept turn.now keep.now }
+    requires long { length out.old ≡ assets_at turn.now }
+    ensures out { IsAlways turn.now out.new }
     ensures first { length first.new ≡ length first.old }
     ensures second { length second.new ≡ length second.old }
     ensures third { length third.new ≡ length third.old }
