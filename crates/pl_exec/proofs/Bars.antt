@@ -89,38 +89,33 @@ module _ (t : Turn) (is : IsTurn t) (i more : ℕ) (cells : List ℤ) where
         windows = λ m k. rw e (empty_window (node_at t).window m);
         long = λ some. absurd (let n = ap length e in omega (arith, some, n));
       }
-      here (Some (spec.BarColumn c)) l = absurd l
-      here (Some (spec.TermInput u)) l = absurd l
+      here o l = absurd l
 
   pub column_lent_reach : (q : ℕ) → IsColumnReach t i q more cells → IsLentReach t (InColumn q) i more cells
   column_lent_reach q w p lent = here (slice_get (node_at t).inputs p) refl lent
     where
       here : (o : Option spec.Input) → slice_get (node_at t).inputs p ≡ o → IsLent (task_at t) (node_at t) o (InColumn q) → IsReach t o i more cells
-      here None e l = absurd l
       here (Some (spec.BarColumn c)) e l = w p c e l
-      here (Some (spec.TermInput u)) e l = absurd l
+      here o e l = absurd l
 
   pub term_lent_reach : (a : Array) → ((u : ℕ) → IsTermLent t u a → IsReach t (Some (spec.TermInput u)) i more cells) → IsLentReach t (InTerm a) i more cells
   term_lent_reach a w p lent = here (slice_get (node_at t).inputs p) refl lent
     where
       here : (o : Option spec.Input) → slice_get (node_at t).inputs p ≡ o → IsLent (task_at t) (node_at t) o (InTerm a) → IsReach t o i more cells
-      here None e l = absurd l
-      here (Some (spec.BarColumn c)) e l = absurd l
       here (Some (spec.TermInput u)) e l = w u (record { read = is.ready.inputs p u e; array = l })
+      here o e l = absurd l
 
 -- the input whose windows lie in a traversal or in an array
 pub column_of : (t : Turn) (q : ℕ) → IsLentAt t (InColumn q) → IsColumnAt t q
 column_of t q lent = here (slice_get (node_at t).inputs lent.0) refl lent.1
   where
     here : (o : Option spec.Input) → slice_get (node_at t).inputs lent.0 ≡ o → IsLent (task_at t) (node_at t) o (InColumn q) → IsColumnAt t q
-    here None e l = absurd l
     here (Some (spec.BarColumn c)) e l = (lent.0, (c, (e, l)))
-    here (Some (spec.TermInput u)) e l = absurd l
+    here o e l = absurd l
 
 pub term_of : (t : Turn) → IsTurn t → (a : Array) → IsLentAt t (InTerm a) → (u : ℕ) × IsTermLent t u a
 term_of t is a lent = here (slice_get (node_at t).inputs lent.0) refl lent.1
   where
     here : (o : Option spec.Input) → slice_get (node_at t).inputs lent.0 ≡ o → IsLent (task_at t) (node_at t) o (InTerm a) → (u : ℕ) × IsTermLent t u a
-    here None e l = absurd l
-    here (Some (spec.BarColumn c)) e l = absurd l
     here (Some (spec.TermInput u)) e l = (u, record { read = is.ready.inputs lent.0 u e; array = l })
+    here o e l = absurd l

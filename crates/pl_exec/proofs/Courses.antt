@@ -4,11 +4,12 @@ use Rattle.std.proofs.lemmas.List.{get_or-take, get_or-drop, length-take-le, len
 use Rattle.std.proofs.Math.Nat.{mul_comm}
 use Rattle.pl_spec.specs.Rounding.{IsCell}
 use Rattle.pl_spec.specs.Term as spec
-use Rattle.pl_spec.specs.Term.Input.{BarColumn, TermInput}
+use Rattle.pl_spec.specs.Term.Input.{TermInput}
 use Rattle.pl_spec.proofs.Places.{row-within}
 use borrow.Rule.Slice.PartMut.{put_mid}
 use Rattle.pl_bars.proofs.BarFilling.{part_within, part_written}
 use Rattle.pl_values.specs.Arrays.{Holds, Fills, is_kept}
+use Rattle.pl_values.specs.Laws.{IsNode}
 use Rattle.pl_exec.specs.declared.job.Array.{Array}
 use Rattle.pl_exec.specs.declared.course.Course.{Course}
 use Rattle.pl_exec.specs.declared.windows.Source.TheVariants.{InTerm}
@@ -19,6 +20,9 @@ use Rattle.pl_exec.proofs.Held.{turn_is, held}
 
 pub course_turn : (c : Course) → IsCourse c → (j : ℕ) → j < c.count → IsTurn (turn_in c j)
 course_turn c is j h = turn_is (turn_in c j) is.job is.run is.node (let l = is.low in omega arith) (let e = is.end in omega arith) is.none
+
+pub course_node : (c : Course) → IsCourse c → IsNode (task_in c).pipeline c.term.0 (node_in c)
+course_node c is = record { checked = is.job.task.checked; node = is.node }
 
 -- the mask that is there
 pub masked_by : (t : Task) (m : Option ℕ) (a : Array) → IsMaskLent t m (Some a) → (u : ℕ) × ((m ≡ Some u) × IsArrayOf t u a)
@@ -102,8 +106,7 @@ pub read_from : (c : Course) → IsCourse c → (place : ℕ) (a : Array) → Is
 read_from c is place a lent = here (slice_get (node_in c).inputs place) refl lent
   where
     here : (o : Option spec.Input) → slice_get (node_in c).inputs place ≡ o → IsLent (task_in c) (node_in c) o (InTerm a) → (u : ℕ) × ((slice_get (node_in c).inputs place ≡ Some (TermInput u)) × IsReadFrom c u a)
-    here None e l = absurd l
-    here (Some (BarColumn x)) e l = absurd l
     here (Some (TermInput u)) e l =
         let r = (is.run.ready (node_in c) is.node).inputs place u e in
         (u, (e, record { array = l; early = (let x = r.early in let y = r.some in let z = is.low in let v = l.low in omega arith) }))
+    here o e l = absurd l

@@ -2,20 +2,19 @@
 use Rattle.std.proofs.Common.{◌≡◌, ℕ, zero, suc, ◌+◌, ◌*◌, ◌<◌, ◌≤◌, Bool, true, false, List, ◌++◌, length, take, drop, sum_by, Option, Some, None, slice_get, get_or, refl, sym, ◌∙◌, ap, subst, arith, ◌⊎◌, inl, inr, ℤ}
 use Rattle.std.specs.List.{list_all}
 use Rattle.std.proofs.lemmas.Int.{ints}
-use Rattle.std.proofs.lemmas.Bool.{true≢false}
 use Rattle.std.proofs.lemmas.List.{append-nil, drop_all, take_all}
 use Rattle.pl_spec.specs.declared.Column.{Column}
 use Rattle.pl_spec.specs.World.{column_number}
 use Rattle.pl_spec.specs.Kind as kind
-use Rattle.pl_spec.specs.Kind.{Kind, PointKind, CrossKind}
+use Rattle.pl_spec.specs.Kind.{Kind}
 use Rattle.pl_spec.specs.Term as spec
 use Rattle.pl_spec.specs.Term.Input.{BarColumn, TermInput}
 use Rattle.pl_spec.specs.Graph.{columns_at, contains}
 use Rattle.pl_spec.specs.Window.{applied_steps}
 use Rattle.pl_laws.specs.LowLaws.{HasBar}
-use Rattle.pl_terms.specs.Sorts.{Place, Own, Bar, Series, is_windowed, places, point_places, cross_places, takes_column}
+use Rattle.pl_terms.specs.Sorts.{is_windowed, places}
 use Rattle.pl_values.proofs.Operations.{all-at}
-use Rattle.pl_values.proofs.Typed.{fit-at}
+use Rattle.pl_values.proofs.Typed.{fit-at, no_column, no-takes, points-free, crosses-free}
 use Rattle.pl_planner.specs.Plans.{column_slot}
 use Rattle.pl_planner.proofs.Pipelines.{is-pipeline}
 use Rattle.pl_workspace.specs.Slots.{Slots, Free, Begun, Live, slot_at, with_slot, live_count}
@@ -150,43 +149,19 @@ whole_written old new e = ap (λ l. take (length old) (new ++ l)) (drop_all (len
 
 -- ---- only formulas over windows read bar columns
 
-abbrev no_column : Place → Bool
-no_column (Own c) = false
-no_column Bar = false
-no_column Series = false
-no_column q = true
-
-no_takes : (q : Place) (c : Column) → no_column q ≡ true → takes_column q c ≡ true → ⊥
-no_takes (Own d) c e f = true≢false (sym e)
-no_takes Bar c e f = true≢false (sym e)
-no_takes Series c e f = true≢false (sym e)
-no_takes q c e f = true≢false (sym f)
-
-points_free : (f : PointKind) → list_all no_column (point_places f) ≡ true
-points_free kind.Neg = refl
-points_free f = refl
-
-crosses_free : (f : CrossKind) → list_all no_column (cross_places f) ≡ true
-crosses_free kind.PeerCount = refl
-crosses_free f = refl
-
 kinds_free : (k : Kind) → (is_windowed k ≡ true) ⊎ (list_all no_column (places k) ≡ true)
 unfolding places
 kinds_free (kind.Window f) = inl refl
-kinds_free (kind.Constant x) = inr refl
-kinds_free (kind.Label x) = inr refl
-kinds_free (kind.Number x) = inr refl
-kinds_free (kind.StaticSids x) = inr refl
-kinds_free (kind.Point f) = inr (points_free f)
-kinds_free (kind.LabelTest x) = inr refl
-kinds_free (kind.Cross f) = inr (crosses_free f)
-kinds_free (kind.Downsample x) = inr refl
+kinds_free (kind.Point f) = inr (points-free f)
+kinds_free (kind.Cross f) = inr (crosses-free f)
+kinds_free k = inr refl
 
 module _ (j : Job) (job : IsJob j) (k : ℕ) (n : spec.Node) (node : slice_get (graph_in (task_of j)) k ≡ Some n) where
   bar_windowed : (p : ℕ) (c : Column) → slice_get n.inputs p ≡ Some (BarColumn c) → is_windowed n.kind ≡ true
   bar_windowed p c e = elim (kinds_free n.kind) [
     | inl w ↦ w
-    | inr f ↦ (let x = fit-at (graph_in (task_of j)) (places n.kind) n.inputs p (BarColumn c) (job.task.checked.nodes k n node).inputs e in absurd (no_takes x.0 c (all-at no_column (places n.kind) p x.0 f x.1) x.2))
+    | inr f ↦ (let x = fit-at (graph_in (task_of j)) (places n.kind) n.inputs p (BarColumn c) (job.task.checked.nodes k n node).inputs e in absurd
+    (no-takes x.0 c (all-at no_column (places n.kind) p x.0 f x.1) x.2))
   ]
 
   new_bar : (p : ℕ) (c : Column) → new_column n p ≡ Some c → slice_get n.inputs p ≡ Some (BarColumn c)

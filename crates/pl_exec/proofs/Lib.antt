@@ -11,7 +11,6 @@ pub mod Lives
 pub mod Living
 pub mod Mentions
 pub mod Places
-pub mod PointLanes
 pub mod Releases
 pub mod Sids
 pub mod Spans

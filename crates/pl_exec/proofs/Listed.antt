@@ -1,76 +1,35 @@
 -- The used terms as a choice among all numbers, what they hold at once, and their sums.
-use Rattle.std.proofs.Common.{◌≡◌, ℕ, zero, suc, ◌+◌, ◌-◌, ◌<◌, ◌≤◌, Bool, true, false, cond, ◌&&◌, ◌||◌, if◌then◌else◌, max, nat_le, List, [], ◌∷◌, ◌++◌, length, map, fold, filter, sum_by, Some, slice_get, refl, sym, ◌∙◌, ap, arith, inl, inr, ◌==◌}
+use Rattle.std.proofs.Common.{◌≡◌, ℕ, suc, ◌+◌, ◌-◌, ◌<◌, Bool, true, false, ◌&&◌, if◌then◌else◌, max, nat_le, List, [], ◌∷◌, length, map, fold, filter, sum_by, Some, slice_get, refl, sym, ◌∙◌, ap, arith, inl, inr, ◌==◌}
 use Rattle.std.specs.List.{range_with_len, count_by}
-use Rattle.std.proofs.lemmas.Bool.{true≢false, or_cases, or_right, eqb-true}
-use Rattle.std.proofs.lemmas.List.Elements.{filter-append}
+use Rattle.std.proofs.lemmas.Bool.{true≢false, or_cases, eqb-true}
 use Rattle.std.proofs.lemmas.List.Sums.{length-filter, sum_by-append, sum_by-cons}
-use Rattle.std.proofs.lemmas.List.Folds.{list_any-append}
 use Rattle.pl_spec.specs.Term.{Graph, IsGraph}
-use Rattle.pl_spec.specs.Graph.{contains, mentions_at, Used, used_below, used_terms, is_live, live_terms, columns_at, bound}
+use Rattle.pl_spec.specs.Graph.{contains, Used, used_terms, is_live, live_terms, columns_at, bound}
 use Rattle.pl_spec.proofs.Lists.{filter-twice}
-use Rattle.pl_spec.proofs.Contained.{not-in-back, alone-in, not-in-alone}
 use Rattle.pl_laws.proofs.Uses.{lower}
 use Rattle.pl_planner.proofs.Counting.{count_cut, count_same, most_chosen, most_same}
+use Rattle.pl_planner.proofs.Live.{filtered}
 use Rattle.pl_exec.proofs.Counts.{range_suc}
 
-module _ (g : Graph) where
-  low : (n : ℕ) (marks : List ℕ) (t : ℕ) → n ≤ t → contains (used_below g n marks) t ≡ false
-  low zero marks t h = refl
-  low (suc n) marks t h = here (contains marks n) refl (λ m. low n m t (omega arith))
+module _ (g : Graph) (outputs : List ℕ) where
+  pub used_listed : (q : ℕ → Bool) → ((t : ℕ) → q t ≡ contains (used_terms g outputs) t) → used_terms g outputs ≡ filter q (range_with_len 0 (length g))
+  used_listed q h = filtered g q (length g) outputs (λ t l. h t)
+
+  pub used_within : (ok : IsGraph g) → ((i o : ℕ) → slice_get outputs i ≡ Some o → o < length g) → (t : ℕ) → Used g outputs t → t < length g
+  used_within ok outs t (Used.output e) = found outputs outs e
     where
-      here : (b : Bool) → contains marks n ≡ b → ((m : List ℕ) → contains (used_below g n m) t ≡ false)
-          → contains (used_below g n (cond b (marks ++ mentions_at g n) marks) ++ cond b (n ∷ []) []) t ≡ false
-      here true e ih = not-in-back (used_below g n (marks ++ mentions_at g n)) (n ∷ []) t (not-in-alone n t (λ p. omega arith)) ∙ ih (marks ++ mentions_at g n)
-      here false e ih = not-in-back (used_below g n marks) [] t refl ∙ ih marks
-
-  filtered : (q : ℕ → Bool) (n : ℕ) (marks : List ℕ) → ((t : ℕ) → t < n → q t ≡ contains (used_below g n marks) t) → used_below g n marks ≡ filter q (range_with_len 0 n)
-  filtered q zero marks h = refl
-  filtered q (suc n) marks h = here (contains marks n) refl h (λ m k. filtered q n m k)
-    where
-      split : filter q (range_with_len 0 (suc n)) ≡ filter q (range_with_len 0 n) ++ filter q (n ∷ [])
-      split = ap (filter q) (range_suc n) ∙ filter-append q (range_with_len 0 n) (n ∷ [])
-
-      here : (b : Bool) → contains marks n ≡ b → ((t : ℕ) → t < suc n → q t ≡ contains (used_below g n (cond b (marks ++ mentions_at g n) marks) ++ cond b (n ∷ []) []) t)
-          → ((m : List ℕ) → ((t : ℕ) → t < n → q t ≡ contains (used_below g n m) t) → used_below g n m ≡ filter q (range_with_len 0 n))
-          → used_below g n (cond b (marks ++ mentions_at g n) marks) ++ cond b (n ∷ []) [] ≡ filter q (range_with_len 0 (suc n))
-      here true e h ih =
-          let front : used_below g n (marks ++ mentions_at g n) ≡ filter q (range_with_len 0 n)
-          = ih (marks ++ mentions_at g n) (λ t l. h t (omega arith) ∙ not-in-back (used_below g n (marks ++ mentions_at g n)) (n ∷ []) t (not-in-alone n t (λ p. omega arith))) in
-          let own : q n ≡ true = h n (omega arith) ∙ list_any-append (λ x. x == n) (used_below g n (marks ++ mentions_at g n)) (n ∷ []) ∙ or_right (contains (used_below g n (marks ++ mentions_at g n)) n) (contains (n ∷ []) n) (alone-in n) in
-          let back : n ∷ [] ≡ filter q (n ∷ []) = rw own refl in
-          ap (λ l. l ++ n ∷ []) front ∙ ap (λ l. filter q (range_with_len 0 n) ++ l) back ∙ sym split
-      here false e h ih =
-          let front : used_below g n marks ≡ filter q (range_with_len 0 n) = ih marks (λ t l. h t (omega arith) ∙ not-in-back (used_below g n marks) [] t refl) in
-          let own : q n ≡ false = h n (omega arith) ∙ not-in-back (used_below g n marks) [] n refl ∙ low n marks n (omega arith) in
-          let back : [] ≡ filter q (n ∷ []) = rw own refl in
-          ap (λ l. l ++ []) front ∙ ap (λ l. filter q (range_with_len 0 n) ++ l) back ∙ sym split
-
-  module _ (outputs : List ℕ) where
-    -- none after the last
-    pub listed_below : (k : ℕ) → length g ≤ k → contains (used_terms g outputs) k ≡ false
-    listed_below k h = low (length g) outputs k h
-
-    pub used_listed : (q : ℕ → Bool) → ((t : ℕ) → q t ≡ contains (used_terms g outputs) t) → used_terms g outputs ≡ filter q (range_with_len 0 (length g))
-    used_listed q h = filtered q (length g) outputs (λ t l. h t)
-
-    pub used_within : (ok : IsGraph g) → ((i o : ℕ) → slice_get outputs i ≡ Some o → o < length g) → (t : ℕ) → Used g outputs t → t < length g
-    used_within ok outs t (Used.output e) = found outputs outs e
-      where
-        found : (os : List ℕ) → ((i o : ℕ) → slice_get os i ≡ Some o → o < length g) → contains os t ≡ true → t < length g
-        found [] h f = absurd (true≢false (sym f))
-        found (o ∷ os) h f = elim (or_cases (o == t) (contains os t) f) [
-          | inl p ↦ (let s : o ≡ t = eqb-true o t p in let l : o < length g = h 0 o refl in omega arith)
-          | inr p ↦ found os (λ i x e. h (suc i) x e) p
-        ]
-    used_within ok outs t (Used.mentioned u v e) = let a = used_within ok outs u v in let b : t < u = lower g outputs ok u t e in omega arith
+      found : (os : List ℕ) → ((i o : ℕ) → slice_get os i ≡ Some o → o < length g) → contains os t ≡ true → t < length g
+      found [] h f = absurd (true≢false (sym f))
+      found (o ∷ os) h f = elim (or_cases (o == t) (contains os t) f) [
+        | inl p ↦ (let s : o ≡ t = eqb-true o t p in let l : o < length g = h 0 o refl in omega arith)
+        | inr p ↦ found os (λ i x e. h (suc i) x e) p
+      ]
+  used_within ok outs t (Used.mentioned u v e) = let a = used_within ok outs u v in let b : t < u = lower g outputs ok u t e in omega arith
 
 contains_filter : (p : ℕ → Bool) (xs : List ℕ) (t : ℕ) → contains (filter p xs) t ≡ (contains xs t && p t)
 contains_filter p [] t = refl
 contains_filter p (x ∷ xs) t = here (p x) refl (x == t) refl (contains_filter p xs t)
   where
-    absorbed : (a b : Bool) → b ≡ true → (a && b) ≡ (true || a && b) → true ≡ b
-    absorbed a b e f = sym e
-
     here : (b : Bool) → p x ≡ b → (c : Bool) → (x == t) ≡ c → contains (filter p xs) t ≡ (contains xs t && p t) → contains (filter p (x ∷ xs)) t ≡ (contains (x ∷ xs) t && p t)
     here true e true f ih = let s : p t ≡ true = ap p (sym (eqb-true x t f)) ∙ e in rw (e, f, s) refl
     here true e false f ih = rw (e, f) ih

@@ -1,6 +1,6 @@
 -- What a used term mentions is there while it is computed, and in which slots.
 use Rattle.std.proofs.Common.{◌≡◌, ℕ, ◌+◌, ◌-◌, ◌<◌, ◌≤◌, Bool, true, false, ◌&&◌, nat_le, ℤ, pos, ◌-ℤ◌, ◌≤ℤ◌, List, length, Option, Some, None, slice_get, refl, sym, ◌∙◌, ap, subst, arith, ◌⊎◌, inl, inr}
-use Rattle.std.proofs.lemmas.Bool.{true≢false, cases_lt, eqb-true, and_from}
+use Rattle.std.proofs.lemmas.Bool.{true≢false, eqb-true, and_from}
 use Rattle.std.proofs.lemmas.Bool.Decides.{nat_tests}
 use Rattle.std.proofs.lemmas.Int.{ints}
 use Rattle.std.specs.Cmp.{first_so, second_so}
@@ -29,7 +29,7 @@ use Rattle.pl_workspace.specs.Slots.{Slots, Free, Begun, slot_at, with_slot}
 use Rattle.pl_exec.specs.Slotted.{AreApart, AreLive, ends_at}
 use Rattle.pl_exec.specs.Tasks.{Task, IsArray, graph_in, kept_in, low_in}
 use Rattle.pl_exec.specs.Jobs.{AreFree, IsRead, IsReady, IsRun, IsTask}
-use Rattle.pl_exec.proofs.Listed.{listed_below, used_within}
+use Rattle.pl_exec.proofs.Listed.{used_within}
 use Rattle.pl_exec.proofs.Trips.{still_free, still_held, long}
 
 -- ---- kinds over windows have an input
@@ -37,14 +37,7 @@ use Rattle.pl_exec.proofs.Trips.{still_free, still_held, long}
 window_or_one : (k : Kind) (w : ℕ) → has_window k w ≡ true → ((q : Place) × (slice_get (places k) 0 ≡ Some q)) ⊎ (w ≡ 1)
 unfolding has_window places
 window_or_one (kind.Window f) w e = inl (first-place f)
-window_or_one (kind.Constant x) w e = inr (eqb-true w 1 e)
-window_or_one (kind.Label x) w e = inr (eqb-true w 1 e)
-window_or_one (kind.Number x) w e = inr (eqb-true w 1 e)
-window_or_one (kind.StaticSids x) w e = inr (eqb-true w 1 e)
-window_or_one (kind.Point x) w e = inr (eqb-true w 1 e)
-window_or_one (kind.LabelTest x) w e = inr (eqb-true w 1 e)
-window_or_one (kind.Cross x) w e = inr (eqb-true w 1 e)
-window_or_one (kind.Downsample x) w e = inr (eqb-true w 1 e)
+window_or_one k w e = inr (eqb-true w 1 e)
 
 module _ (t : Task) (is : IsTask t) where
   abbrev g : Graph
@@ -68,10 +61,7 @@ module _ (t : Task) (is : IsTask t) where
   is_used' k e = used_terms-sound g outs pipe.graph k (sym (is.plan.used k) ∙ e)
 
   pub used_known : (k : ℕ) → is_used t.plan k ≡ true → k < length g
-  used_known k e = elim (cases_lt k (length g)) [
-    | inl p ↦ p
-    | inr p ↦ absurd (true≢false (sym (sym (is.plan.used k) ∙ e) ∙ listed_below g outs k p))
-  ]
+  used_known k e = used_within g outs pipe.graph pipe.outputs_in k (is_used' k e)
 
   -- a kept term is live, and the other way round
   pub live_kept : (k u : ℕ) → k < length g → IsLive t.pipeline k u → (u ≤ k) × (kept_in t k u ≡ true)

@@ -27,6 +27,23 @@ in_front ns k j ne = list_any-append (λ x. x == j) ns (k ∷ []) ∙ ap (λ b. 
 in_back : (ns : List ℕ) (k : ℕ) → contains (ns ++ k ∷ []) k ≡ true
 in_back ns k = list_any-append (λ x. x == k) ns (k ∷ []) ∙ or_right (contains ns k) (contains (k ∷ []) k) (or_left (k == k) false (eq-eqb k k refl))
 
+-- what one number more adds to a sum over those that are listed
+one_grown : (ns : List ℕ) (k j x : ℕ) → (if contains (ns ++ k ∷ []) j then x else 0) ≡ (if contains ns j then x else 0) + (if k == j then (if contains ns k then 0 else x) else 0)
+one_grown ns k j x = here (k == j) refl
+  where
+    listed : (b : Bool) → x ≡ (if b then x else 0) + (if b then 0 else x)
+    listed true = omega arith
+    listed false = omega arith
+
+    here : (b : Bool) → (k == j) ≡ b → (if contains (ns ++ k ∷ []) j then x else 0) ≡ (if contains ns j then x else 0) + (if b then (if contains ns k then 0 else x) else 0)
+    here true e =
+        let same : k ≡ j = eqb-true k j e in
+        let own : contains (ns ++ k ∷ []) j ≡ true = ap (contains (ns ++ k ∷ [])) (sym same) ∙ in_back ns k in
+        rw own (listed (contains ns k) ∙ ap (λ n. (if contains ns n then x else 0) + (if contains ns k then 0 else x)) same)
+    here false e =
+        let other : contains (ns ++ k ∷ []) j ≡ contains ns j = in_front ns k j (λ p. true≢false (sym (eq-eqb k j (sym p)) ∙ e)) in
+        rw other (let z : (if contains ns j then x else 0) ≡ (if contains ns j then x else 0) + 0 = omega arith in z)
+
 -- a sum over the columns whose numbers are listed
 abbrev five : List Column
 five = OpenPrice ∷ High ∷ Low ∷ Close ∷ Volume ∷ []
@@ -36,60 +53,19 @@ total_of f ns = sum_by (λ c. if contains ns (column_number c) then f c else 0) 
 
 one_more : (f : Column → ℕ) (ns : List ℕ) (d : Column) → total_of f (ns ++ column_number d ∷ []) ≡ total_of f ns + (if contains ns (column_number d) then 0 else f d)
 one_more f ns OpenPrice =
-    let e0 : contains (ns ++ 0 ∷ []) 0 ≡ true = in_back ns 0 in
-    let e1 : contains (ns ++ 0 ∷ []) 1 ≡ contains ns 1 = in_front ns 0 1 (λ p. omega arith) in
-    let e2 : contains (ns ++ 0 ∷ []) 2 ≡ contains ns 2 = in_front ns 0 2 (λ p. omega arith) in
-    let e3 : contains (ns ++ 0 ∷ []) 3 ≡ contains ns 3 = in_front ns 0 3 (λ p. omega arith) in
-    let e4 : contains (ns ++ 0 ∷ []) 4 ≡ contains ns 4 = in_front ns 0 4 (λ p. omega arith) in
-    rw (e0, e1, e2, e3, e4) (here (contains ns 0))
-  where
-    here : (b : Bool) → 0 + (if true then f OpenPrice else 0) + (if contains ns 1 then f High else 0) + (if contains ns 2 then f Low else 0) + (if contains ns 3 then f Close else 0) + (if contains ns 4 then f Volume else 0) ≡ 0 + (if b then f OpenPrice else 0) + (if contains ns 1 then f High else 0) + (if contains ns 2 then f Low else 0) + (if contains ns 3 then f Close else 0) + (if contains ns 4 then f Volume else 0) + (if b then 0 else f OpenPrice)
-    here true = omega arith
-    here false = omega arith
-one_more f ns High =
-    let e0 : contains (ns ++ 1 ∷ []) 0 ≡ contains ns 0 = in_front ns 1 0 (λ p. omega arith) in
-    let e1 : contains (ns ++ 1 ∷ []) 1 ≡ true = in_back ns 1 in
-    let e2 : contains (ns ++ 1 ∷ []) 2 ≡ contains ns 2 = in_front ns 1 2 (λ p. omega arith) in
-    let e3 : contains (ns ++ 1 ∷ []) 3 ≡ contains ns 3 = in_front ns 1 3 (λ p. omega arith) in
-    let e4 : contains (ns ++ 1 ∷ []) 4 ≡ contains ns 4 = in_front ns 1 4 (λ p. omega arith) in
-    rw (e0, e1, e2, e3, e4) (here (contains ns 1))
-  where
-    here : (b : Bool) → 0 + (if contains ns 0 then f OpenPrice else 0) + (if true then f High else 0) + (if contains ns 2 then f Low else 0) + (if contains ns 3 then f Close else 0) + (if contains ns 4 then f Volume else 0) ≡ 0 + (if contains ns 0 then f OpenPrice else 0) + (if b then f High else 0) + (if contains ns 2 then f Low else 0) + (if contains ns 3 then f Close else 0) + (if contains ns 4 then f Volume else 0) + (if b then 0 else f High)
-    here true = omega arith
-    here false = omega arith
-one_more f ns Low =
-    let e0 : contains (ns ++ 2 ∷ []) 0 ≡ contains ns 0 = in_front ns 2 0 (λ p. omega arith) in
-    let e1 : contains (ns ++ 2 ∷ []) 1 ≡ contains ns 1 = in_front ns 2 1 (λ p. omega arith) in
-    let e2 : contains (ns ++ 2 ∷ []) 2 ≡ true = in_back ns 2 in
-    let e3 : contains (ns ++ 2 ∷ []) 3 ≡ contains ns 3 = in_front ns 2 3 (λ p. omega arith) in
-    let e4 : contains (ns ++ 2 ∷ []) 4 ≡ contains ns 4 = in_front ns 2 4 (λ p. omega arith) in
-    rw (e0, e1, e2, e3, e4) (here (contains ns 2))
-  where
-    here : (b : Bool) → 0 + (if contains ns 0 then f OpenPrice else 0) + (if contains ns 1 then f High else 0) + (if true then f Low else 0) + (if contains ns 3 then f Close else 0) + (if contains ns 4 then f Volume else 0) ≡ 0 + (if contains ns 0 then f OpenPrice else 0) + (if contains ns 1 then f High else 0) + (if b then f Low else 0) + (if contains ns 3 then f Close else 0) + (if contains ns 4 then f Volume else 0) + (if b then 0 else f Low)
-    here true = omega arith
-    here false = omega arith
-one_more f ns Close =
-    let e0 : contains (ns ++ 3 ∷ []) 0 ≡ contains ns 0 = in_front ns 3 0 (λ p. omega arith) in
-    let e1 : contains (ns ++ 3 ∷ []) 1 ≡ contains ns 1 = in_front ns 3 1 (λ p. omega arith) in
-    let e2 : contains (ns ++ 3 ∷ []) 2 ≡ contains ns 2 = in_front ns 3 2 (λ p. omega arith) in
-    let e3 : contains (ns ++ 3 ∷ []) 3 ≡ true = in_back ns 3 in
-    let e4 : contains (ns ++ 3 ∷ []) 4 ≡ contains ns 4 = in_front ns 3 4 (λ p. omega arith) in
-    rw (e0, e1, e2, e3, e4) (here (contains ns 3))
-  where
-    here : (b : Bool) → 0 + (if contains ns 0 then f OpenPrice else 0) + (if contains ns 1 then f High else 0) + (if contains ns 2 then f Low else 0) + (if true then f Close else 0) + (if contains ns 4 then f Volume else 0) ≡ 0 + (if contains ns 0 then f OpenPrice else 0) + (if contains ns 1 then f High else 0) + (if contains ns 2 then f Low else 0) + (if b then f Close else 0) + (if contains ns 4 then f Volume else 0) + (if b then 0 else f Close)
-    here true = omega arith
-    here false = omega arith
-one_more f ns Volume =
-    let e0 : contains (ns ++ 4 ∷ []) 0 ≡ contains ns 0 = in_front ns 4 0 (λ p. omega arith) in
-    let e1 : contains (ns ++ 4 ∷ []) 1 ≡ contains ns 1 = in_front ns 4 1 (λ p. omega arith) in
-    let e2 : contains (ns ++ 4 ∷ []) 2 ≡ contains ns 2 = in_front ns 4 2 (λ p. omega arith) in
-    let e3 : contains (ns ++ 4 ∷ []) 3 ≡ contains ns 3 = in_front ns 4 3 (λ p. omega arith) in
-    let e4 : contains (ns ++ 4 ∷ []) 4 ≡ true = in_back ns 4 in
-    rw (e0, e1, e2, e3, e4) (here (contains ns 4))
-  where
-    here : (b : Bool) → 0 + (if contains ns 0 then f OpenPrice else 0) + (if contains ns 1 then f High else 0) + (if contains ns 2 then f Low else 0) + (if contains ns 3 then f Close else 0) + (if true then f Volume else 0) ≡ 0 + (if contains ns 0 then f OpenPrice else 0) + (if contains ns 1 then f High else 0) + (if contains ns 2 then f Low else 0) + (if contains ns 3 then f Close else 0) + (if b then f Volume else 0) + (if b then 0 else f Volume)
-    here true = omega arith
-    here false = omega arith
+    let p = one_grown ns (0) 0 (f OpenPrice) in
+    let q = one_grown ns (0) 1 (f High) in
+    let r = one_grown ns (0) 2 (f Low) in
+    let s = one_grown ns (0) 3 (f Close) in
+    let t = one_grown ns (0) 4 (f Volume) in
+    omega (arith, p, q, r, s, t)
+one_more f ns d =
+    let p = one_grown ns (column_number d) 0 (f OpenPrice) in
+    let q = one_grown ns (column_number d) 1 (f High) in
+    let r = one_grown ns (column_number d) 2 (f Low) in
+    let s = one_grown ns (column_number d) 3 (f Close) in
+    let t = one_grown ns (column_number d) 4 (f Volume) in
+    omega (arith, p, q, r, s, t)
 
 abbrev pub part : (Column → ℕ) → Option Column → ℕ
 part f None = 0

@@ -9,7 +9,6 @@ use Rattle.pl_spec.specs.Term as spec
 use Rattle.pl_spec.specs.Window.{downward}
 use Rattle.pl_spec.proofs.Lists.{get_or-front, get_or-behind}
 use Rattle.pl_spec.proofs.Windows.{length-downward}
-use Rattle.pl_spec.proofs.Cells.{chosen-cell}
 use Rattle.pl_terms.specs.Sorts.{is_windowed}
 use Rattle.pl_factors.specs.Kinds.{formula_of}
 use Rattle.pl_running.specs.Lanes.{AreValues, TakesLanes, window_at}
@@ -27,7 +26,8 @@ use Rattle.pl_exec.specs.declared.job.Array.{Array}
 use Rattle.pl_exec.specs.Tasks.{assets_in, cell_in, sids_in}
 use Rattle.pl_exec.specs.Jobs.{IsCourse, IsGivenOn, FillsLane, IsReach, IsTermLent, IsTurn, node_at, node_in, task_at, task_in, turn_in}
 use Rattle.pl_exec.proofs.Courses.{course_turn}
-use Rattle.pl_exec.proofs.Givens.{node_is, none_cell}
+use Rattle.pl_values.proofs.Rows.{kept-cells}
+use Rattle.pl_exec.proofs.Givens.{node_is}
 use Rattle.pl_exec.proofs.Held.{held}
 use Rattle.pl_exec.proofs.Spans.{at_downward, end_within, size_within, window_cells, window_is}
 
@@ -162,25 +162,9 @@ more_given P xs ys done n k within size so_far more m h = elim (cases_lt m done)
       subst (P m) (sym own) (subst (λ x. P x (get_or ys (m - done) (pos 0))) (sym e) (more (m - done) inside)))
 ]
 
--- a cell that is said otherwise
-pub given_by : (c : Course) (i j : ℕ) (x y : ℤ) → y ≡ x → IsGiven (task_in c).world (task_in c).pipeline (sids_in (task_in c)) c.term.0 (node_in c) i (c.low + j) x → IsCell x → IsGivenOn c i j y
-given_by c i j x y e given cell = record {
-  given = subst (IsGiven (task_in c).world (task_in c).pipeline (sids_in (task_in c)) c.term.0 (node_in c) i (c.low + j)) (sym e) given;
-  cell = subst IsCell (sym e) cell;
-}
-
 -- and then the empty value where the asset is not kept
-module _ (c : Course) (is : IsCourse c) (i : ℕ) (made out : List ℤ) (given : (j : ℕ) → j < c.count → IsGivenOn c i j (get_or made j (pos 0)))
-    (kept : (j : ℕ) → j < c.count → get_or out j (pos 0) ≡ chosen (is_kept (task_in c).world (task_in c).pipeline (sids_in (task_in c)) (node_in c).mask i (c.low + j)) (get_or made j (pos 0)) c.none) where
-  cell_at : (j : ℕ) → j < c.count → get_or out j (pos 0) ≡ cell_in (task_in c) c.term.0 i (c.low + j)
-  cell_at j h =
-      kept j h
-      ∙ ap (chosen (is_kept (task_in c).world (task_in c).pipeline (sids_in (task_in c)) (node_in c).mask i (c.low + j)) (get_or made j (pos 0))) is.none
-      ∙ sym (given j h).given
-
-  pub kept_lane : length out ≡ c.count → FillsLane c i out
-  kept_lane size = record {
-    long = size;
-    each = cell_at;
-    cell = λ j h. subst IsCell (sym (kept j h) ∙ cell_at j h) (chosen-cell (is_kept (task_in c).world (task_in c).pipeline (sids_in (task_in c)) (node_in c).mask i (c.low + j)) (get_or made j (pos 0)) c.none (given j h).cell (none_cell (turn_in c j) (course_turn c is j h)));
-  }
+pub kept_lane : (c : Course) (is : IsCourse c) (i : ℕ) (made out : List ℤ) → ((j : ℕ) → j < c.count → IsGivenOn c i j (get_or made j (pos 0)))
+    → ((j : ℕ) → j < c.count → get_or out j (pos 0) ≡ chosen (is_kept (task_in c).world (task_in c).pipeline (sids_in (task_in c)) (node_in c).mask i (c.low + j)) (get_or made j (pos 0)) c.none)
+    → length out ≡ c.count → FillsLane c i out
+kept_lane c is i made out given kept size =
+    kept-cells (task_in c).world (task_in c).pipeline (sids_in (task_in c)) c.term.0 (node_in c) (λ j. i) (λ j. c.low + j) c.count (λ j. get_or made j (pos 0)) out c.none is.none kept size given

@@ -14,7 +14,7 @@ use Rattle.pl_spec.specs.Term.Input.{BarColumn, TermInput}
 use Rattle.pl_spec.specs.Graph.{contains, columns_at, input_column}
 use Rattle.pl_assets.specs.Labels.{AreLabels}
 use Rattle.pl_cross.specs.Arrays.{HasTexts}
-use Rattle.pl_values.specs.Inputs.{input_window}
+use Rattle.pl_values.specs.Inputs.{input_window, IsEntryRow}
 use Rattle.pl_values.specs.declared.family.Family.{Family}
 use Rattle.pl_values.specs.declared.family.Family.TheVariants as families
 use Rattle.pl_terms.specs.Checked.{IsChecked, pipeline_of}
@@ -29,7 +29,7 @@ use Rattle.pl_adjarray.specs.Buffered.{Buffered, applied_at}
 use Rattle.pl_adjarray.specs.Traversals.{Traversal, advances}
 use Rattle.pl_adjarray.specs.Stillness.{IsStill}
 use Rattle.pl_running.specs.Lanes.{HasWindows, window_at}
-use Rattle.pl_values.specs.Laws.{IsGiven}
+use Rattle.pl_values.specs.Laws.{IsGivenCell}
 use Rattle.pl_workspace.specs.Slots.{Slots, Free, slot_at}
 use Rattle.std.specs.Borrow.{Bor}
 use Rattle.pl_exec.specs.declared.job.Job.{Job}
@@ -329,8 +329,7 @@ abbrev pub IsOperand : Course → ℕ → ℕ → List ℤ → Type 0
 IsOperand c u i row = Fills (λ j. cell_in (task_in c) u i (c.low + j)) c.count row
 
 abbrev pub IsOperandOf : Course → Option spec.Input → ℕ → List ℤ → Type 0
-IsOperandOf c (Some (TermInput u)) i row = IsOperand c u i row
-IsOperandOf c o i row = Unit {0}
+IsOperandOf c o i row = IsEntryRow (task_in c).world (task_in c).pipeline (sids_in (task_in c)) (λ j. i) (λ j. c.low + j) c.count o row
 
 -- the families of which cells come row by row
 abbrev pub by_rows : Family → Bool
@@ -361,9 +360,8 @@ abbrev pub IsLentReach : Turn → Source → ℕ → ℕ → List ℤ → Type 0
 IsLentReach t s i more cells = (p : ℕ) → IsLent (task_at t) (node_at t) (slice_get (node_at t).inputs p) s → IsReach t (slice_get (node_at t).inputs p) i more cells
 
 -- on session j of the course the term is worth x for an asset where that is kept
-pub record IsGivenOn (c : Course) (i j : ℕ) (x : ℤ) : Type 0 where
-  pub given : IsGiven (task_in c).world (task_in c).pipeline (sids_in (task_in c)) c.term.0 (node_in c) i (c.low + j) x
-  pub cell : IsCell x
+abbrev pub IsGivenOn : Course → ℕ → ℕ → ℤ → Type 0
+IsGivenOn c i j x = IsGivenCell (task_in c).world (task_in c).pipeline (sids_in (task_in c)) c.term.0 (node_in c) i (c.low + j) x
 
 -- and so on each session
 abbrev pub AreGiven : Course → ℕ → List ℤ → Type 0

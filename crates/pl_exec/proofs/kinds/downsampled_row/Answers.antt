@@ -1,8 +1,6 @@
 use Rattle.std.proofs.Common.{◌∙◌, arith, w64, FitsSigned, ap, rules}
 use Rattle.std.proofs.lemmas.Int.{to_z-of_z}
 use Rattle.pl_terms.specs.Sorts.{is_downsampled}
-use Rattle.pl_exec.specs.Tasks.{cell_in}
-use Rattle.pl_exec.specs.Jobs.{task_at}
 use Rattle.pl_exec.proofs.Givens.{kept_out, start_given, start_read}
 use Rattle.pl_exec.proofs.kinds.downsampled_row.Goals as goal
 
@@ -20,7 +18,8 @@ pub returns : goal.returns
 returns c =
     let e : FitsSigned w64 c.args.turn.now.none = search rules in
     let kept = simp to_z-of_z at c.keep_values.ensures.each in
-    kept_out c.args.turn.now c.requires.turn (λ i. cell_in (task_at c.args.turn.now) c.downsampled_input.result.0 i c.period_start-start.result) c.args.keep.now c.cells_on.new.row c.keep_values.new.out c.requires.keep c.cells_on.ensures
+    kept_out c.args.turn.now c.requires.turn c.args.keep.now c.cells_on.new.row c.keep_values.new.out c.requires.keep
+    (start_given c.args.turn.now c.requires.turn c.args.frequency c.downsampled_input.result.0 c.period_start-start.result c.cells_on.new.row c.requires.kind c.downsampled_input.ensures
+    c.period_start-start.ensures.exact c.cells_on.ensures)
     (c.keep_values.ensures.length ∙ c.cells_on.ensures.long)
-    (λ i. start_given c.args.turn.now c.requires.turn c.args.frequency i c.downsampled_input.result.0 c.period_start-start.result c.requires.kind c.downsampled_input.ensures c.period_start-start.ensures.exact)
     (λ i h. kept i (omega (arith, h, c.cells_on.ensures.long)))

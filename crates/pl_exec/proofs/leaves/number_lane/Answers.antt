@@ -1,14 +1,13 @@
-use Rattle.std.proofs.Common.{◌+◌, ◌<◌, ◌∙◌, arith, sym, subst, length, pos}
+use Rattle.std.proofs.Common.{◌+◌, ◌<◌, ◌∙◌, arith, sym, length, pos}
 use Rattle.std.proofs.lemmas.Option.{slice_get-get_or}
-use Rattle.pl_spec.specs.Rounding.{IsCell}
+use Rattle.pl_values.proofs.Rows.{number-given, number-known}
 use Rattle.pl_exec.specs.Jobs.{turn_in}
-use Rattle.pl_exec.proofs.Courses.{course_turn}
-use Rattle.pl_exec.proofs.Givens.{number_given, number_here}
-use Rattle.pl_exec.proofs.Stretches.{given_by}
+use Rattle.pl_exec.proofs.Courses.{course_node, course_turn}
+use Rattle.pl_exec.proofs.Givens.{number_here}
 use Rattle.pl_exec.proofs.leaves.number_lane.Goals as goal
 
 pub label_name-name-requires : goal.label_name-name-requires
-label_name-name-requires c = (number_given (turn_in c.args.lane.now.course.now 0) (course_turn c.args.lane.now.course.now c.requires.lane.course 0 c.requires.lane.course.some) c.args.name 0 c.requires.kind).0
+label_name-name-requires c = number-known _ _ _ (course_node c.args.lane.now.course.now c.requires.lane.course) c.args.name c.requires.kind
 
 pub returns : goal.returns
 returns c j h =
@@ -20,7 +19,6 @@ returns c j h =
     let to = is.job.task.to in
     let within = is.job.task.plan.within in
     let dated = slice_get-get_or days (c.args.lane.now.course.now.low + j) (pos 0) (omega (arith, h, end, to, within)) in
-    let said = number_here (turn_in c.args.lane.now.course.now j) turn c.args.lane.now.i c.args.name c.label_name-name.result.now _ c.requires.lane.asset c.label_name-name.ensures dated in
-    let g = (number_given (turn_in c.args.lane.now.course.now j) turn c.args.name c.args.lane.now.i c.requires.kind).1 in
-    let same = c.fill_under.ensures.values j room ∙ sym said in
-    given_by c.args.lane.now.course.now c.args.lane.now.i j _ _ same g (subst IsCell same (c.fill_under.ensures.cells j room))
+    let said = number_here (turn_in c.args.lane.now.course.now j) turn c.args.lane.now.i c.label_name-name.result.now _ c.requires.lane.asset dated in
+    number-given _ _ _ _ _ (course_node c.args.lane.now.course.now c.requires.lane.course) c.args.lane.now.i _ _ c.args.name c.label_name-name.result.now c.requires.kind c.label_name-name.ensures
+    (c.fill_under.ensures.values j room ∙ sym said) (c.fill_under.ensures.cells j room)

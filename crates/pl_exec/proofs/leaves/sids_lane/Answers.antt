@@ -3,13 +3,11 @@ use Rattle.std.proofs.lemmas.Int.{to_z-of_z}
 use Rattle.std.proofs.lemmas.List.{get_or-replicate}
 use Rattle.pl_cross.specs.Arrays.{sid_in}
 use Rattle.pl_values.specs.Families.{sid_flag}
-use Rattle.pl_values.proofs.KindFamilies.{sid_flag_cell}
+use Rattle.pl_values.proofs.Rows.{sid-given}
 use Rattle.pl_exec.specs.Tasks.{sids_in}
-use Rattle.pl_exec.specs.Jobs.{node_in, task_in, turn_in}
-use Rattle.pl_exec.proofs.Courses.{course_turn}
-use Rattle.pl_exec.proofs.Givens.{sid_given}
+use Rattle.pl_exec.specs.Jobs.{node_in, task_in}
+use Rattle.pl_exec.proofs.Courses.{course_node}
 use Rattle.pl_exec.proofs.Places.{sid_told}
-use Rattle.pl_exec.proofs.Stretches.{given_by}
 use Rattle.pl_exec.proofs.leaves.sids_lane.Goals as goal
 
 pub returns : goal.returns
@@ -20,4 +18,4 @@ returns c j h =
     let sid = sid_told c.args.lane.now.course.now.job.now.world.assets.now c.args.lane.now.course.now.job.now.cols.now c.args.lane.now.i c.requires.lane.asset c.sid-sid.result c.sid-sid.ensures in
     let flag : c.sids_value.result ≡ sid_flag (node_in c.args.lane.now.course.now).kind (sid_in (sids_in (task_in c.args.lane.now.course.now)) c.args.lane.now.i)
     = c.sids_value.ensures ∙ ap (λ q. sid_flag q c.sid-sid.result) c.kind_of.ensures ∙ ap (sid_flag (node_in c.args.lane.now.course.now).kind) (sym sid) in
-    given_by c.args.lane.now.course.now c.args.lane.now.i j _ _ (same ∙ flag) (sid_given (turn_in c.args.lane.now.course.now j) (course_turn c.args.lane.now.course.now c.requires.lane.course j h) c.args.lane.now.i c.requires.kind) (sid_flag_cell _ _ c.requires.kind)
+    sid-given _ _ _ _ _ (course_node c.args.lane.now.course.now c.requires.lane.course) c.args.lane.now.i _ _ c.requires.kind (same ∙ flag)
