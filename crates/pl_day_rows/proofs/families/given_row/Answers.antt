@@ -7,7 +7,7 @@ use Rattle.pl_pointwise.specs.Operands.{AreOperands, IsOperation, operation}
 use Rattle.pl_cross.specs.Arrays.{sid_in}
 use Rattle.pl_values.specs.Families.{IsOf, sid_flag, code_flag}
 use Rattle.pl_values.proofs.Rows.{constant-given, sid-given, label-known, number-known, codes-long, code-read, test-given, point-asks, point-given}
-use Rattle.pl_day_rows.specs.Turns.{assets_at, node_at, sids_at}
+use Rattle.pl_day_rows.specs.Turns.{assets_at, node_at, pipeline_at, sids_at}
 use Rattle.pl_day_rows.proofs.Given.{node_is, input_read, rows_read, label_given, number_given, start_long, start_given}
 use Rattle.pl_day_rows.proofs.families.given_row.Goals as goal
 
@@ -30,9 +30,11 @@ label_test_values-requires-clause-codes c j h =
     let v = c.requires.turn.0 in
     let is = c.requires.turn.1 in
     let kind = subst (IsOf (node_at c.args.turn.now).kind) c.in-LabelTest.is c.requires.family in
-    let l = codes-long _ _ _ _ _ (node_is c.args.turn.now v is) (λ j. j) (λ j. v.session) (assets_at c.args.turn.now) c.row_at-codes.result.now
+    let l = codes-long v.world (pipeline_at c.args.turn.now) (sids_at c.args.turn.now) c.args.turn.now.term.0 (node_at c.args.turn.now) (node_is c.args.turn.now v is) (λ j. j) (λ j. v.session)
+    (assets_at c.args.turn.now) c.row_at-codes.result.now
     (input_read c.args.turn.now v is 0 _ c.row_at-codes.ensures) kind is.here.coded _ is.here.texts in
-    code-read _ _ _ _ _ (node_is c.args.turn.now v is) (λ j. j) (λ j. v.session) (assets_at c.args.turn.now) c.row_at-codes.result.now
+    code-read v.world (pipeline_at c.args.turn.now) (sids_at c.args.turn.now) c.args.turn.now.term.0 (node_at c.args.turn.now) (node_is c.args.turn.now v is) (λ j. j) (λ j. v.session)
+    (assets_at c.args.turn.now) c.row_at-codes.result.now
     (input_read c.args.turn.now v is 0 _ c.row_at-codes.ensures) kind is.here.coded _ is.here.texts j (omega (arith, h, l))
 
 pub label_test_values-requires-clause-many : goal.label_test_values-requires-clause-many
@@ -40,7 +42,8 @@ label_test_values-requires-clause-many c =
     let v = c.requires.turn.0 in
     let is = c.requires.turn.1 in
     let kind = subst (IsOf (node_at c.args.turn.now).kind) c.in-LabelTest.is c.requires.family in
-    codes-long _ _ _ _ _ (node_is c.args.turn.now v is) (λ j. j) (λ j. v.session) (assets_at c.args.turn.now) c.row_at-codes.result.now
+    codes-long v.world (pipeline_at c.args.turn.now) (sids_at c.args.turn.now) c.args.turn.now.term.0 (node_at c.args.turn.now) (node_is c.args.turn.now v is) (λ j. j) (λ j. v.session)
+    (assets_at c.args.turn.now) c.row_at-codes.result.now
     (input_read c.args.turn.now v is 0 _ c.row_at-codes.ensures) kind is.here.coded _ is.here.texts ∙ sym c.requires.long
 
 pub pointwise-requires-clause-kind : goal.pointwise-requires-clause-kind
@@ -48,7 +51,8 @@ pointwise-requires-clause-kind c =
     let v = c.requires.turn.0 in
     let is = c.requires.turn.1 in
     let kind = subst (IsOf (node_at c.args.turn.now).kind) c.in-Point.is c.requires.family in
-    subst IsOperation (sym c.kind_of-kind.ensures) (point-asks _ _ _ _ _ (node_is c.args.turn.now v is) (λ j. j) (λ j. v.session)
+    subst IsOperation (sym c.kind_of-kind.ensures) (point-asks v.world (pipeline_at c.args.turn.now) (sids_at c.args.turn.now) c.args.turn.now.term.0 (node_at c.args.turn.now)
+    (node_is c.args.turn.now v is) (λ j. j) (λ j. v.session)
     (assets_at c.args.turn.now) c.row_at-first.result.now c.row_at-second.result.now c.row_at-third.result.now
     (rows_read c.args.turn.now v is _ _ _ c.row_at-first.ensures c.row_at-second.ensures c.row_at-third.ensures) kind).0
 
@@ -59,7 +63,8 @@ pointwise-requires-clause-operands c =
     let kind = subst (IsOf (node_at c.args.turn.now).kind) c.in-Point.is c.requires.family in
     subst (λ m. AreOperands (kind_of c.kind_of-kind.result.now) c.row_at-first.result.now c.row_at-second.result.now c.row_at-third.result.now m) (sym c.requires.long)
     (subst (λ (k : Kind). AreOperands k c.row_at-first.result.now c.row_at-second.result.now c.row_at-third.result.now (assets_at c.args.turn.now)) (sym c.kind_of-kind.ensures)
-    (point-asks _ _ _ _ _ (node_is c.args.turn.now v is) (λ j. j) (λ j. v.session) (assets_at c.args.turn.now) c.row_at-first.result.now c.row_at-second.result.now c.row_at-third.result.now
+    (point-asks v.world (pipeline_at c.args.turn.now) (sids_at c.args.turn.now) c.args.turn.now.term.0 (node_at c.args.turn.now) (node_is c.args.turn.now v is) (λ j. j) (λ j. v.session)
+    (assets_at c.args.turn.now) c.row_at-first.result.now c.row_at-second.result.now c.row_at-third.result.now
     (rows_read c.args.turn.now v is _ _ _ c.row_at-first.ensures c.row_at-second.ensures c.row_at-third.ensures) kind).1)
 
 pub copy_from_slice-requires : goal.copy_from_slice-requires
@@ -100,7 +105,8 @@ returns-in-Number-clause-given c v is i h =
 pub returns-in-LabelTest-clause-given : goal.returns-in-LabelTest-clause-given
 returns-in-LabelTest-clause-given c v is i h =
     let kind = subst (IsOf (node_at c.args.turn.now).kind) c.in-LabelTest.is c.requires.family in
-    test-given _ _ _ _ _ (node_is c.args.turn.now v is) (λ j. j) (λ j. v.session) (assets_at c.args.turn.now) c.row_at-codes.result.now
+    test-given v.world (pipeline_at c.args.turn.now) (sids_at c.args.turn.now) c.args.turn.now.term.0 (node_at c.args.turn.now) (node_is c.args.turn.now v is) (λ j. j) (λ j. v.session)
+    (assets_at c.args.turn.now) c.row_at-codes.result.now
     (input_read c.args.turn.now v is 0 _ c.row_at-codes.ensures) kind is.here.coded _ is.here.texts i _ h
     (c.label_test_values.ensures.each i (omega (arith, h, c.requires.long)) ∙ ap (λ (k : Kind). code_flag c.args.turn.now.labels.now.texts k (get_or c.row_at-codes.result.now i (pos 0)))
     c.kind_of-kind.ensures)
@@ -108,7 +114,8 @@ returns-in-LabelTest-clause-given c v is i h =
 pub returns-in-Point-clause-given : goal.returns-in-Point-clause-given
 returns-in-Point-clause-given c v is i h =
     let kind = subst (IsOf (node_at c.args.turn.now).kind) c.in-Point.is c.requires.family in
-    point-given _ _ _ _ _ (node_is c.args.turn.now v is) (λ j. j) (λ j. v.session) (assets_at c.args.turn.now) c.row_at-first.result.now c.row_at-second.result.now c.row_at-third.result.now
+    point-given v.world (pipeline_at c.args.turn.now) (sids_at c.args.turn.now) c.args.turn.now.term.0 (node_at c.args.turn.now) (node_is c.args.turn.now v is) (λ j. j) (λ j. v.session)
+    (assets_at c.args.turn.now) c.row_at-first.result.now c.row_at-second.result.now c.row_at-third.result.now
     (rows_read c.args.turn.now v is _ _ _ c.row_at-first.ensures c.row_at-second.ensures c.row_at-third.ensures) kind i _ h
     (c.pointwise.ensures.values i (omega (arith, h, c.requires.long)) ∙ ap (λ (k : Kind). operation k (get_or c.row_at-first.result.now i (pos 0)) (get_or c.row_at-second.result.now i (pos 0))
     (get_or c.row_at-third.result.now i (pos 0))) c.kind_of-kind.ensures)
