@@ -7,4 +7,4 @@ pub mod Evaluated
 pub mod Sections
 pub mod Windowing
 pub mod Known
-pub mod Present
+pub mod Counted
