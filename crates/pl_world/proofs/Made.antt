@@ -96,11 +96,11 @@ once-keyed {A} {B} {K} f col key sid key_of assets up sids keys xs inside differ
 pub numbers-once : (assets : List AssetRow) (rows : List ColumnNumber) → AllPairs (λ a b. a.sid < b.sid) assets → All (λ r. r.col < length assets) rows
     → AllPairs (λ r q. number_tables.is_from r.name r.col r.known q ≡ false) rows → NumbersOnce (map (number_of assets) rows)
 numbers-once assets rows up inside once r q first second names sids days =
-    once-keyed (number_of assets) (λ r. r.col) (λ r. (r.name, r.known)) (λ r. r.sid) (λ r. (r.name, r.known)) assets up (λ r. refl) (λ r. refl) rows inside
+    once-keyed {K = List ℕ × ℤ} (number_of assets) (λ r. r.col) (λ r. (r.name, r.known)) (λ r. r.sid) (λ r. (r.name, r.known)) assets up (λ r. refl) (λ r. refl) rows inside
     (λ i j d lt l cols keys.
     let row = get_or rows i d in
     true≢false (sym (number_keys.parts_from row.name row.col row.known (get_or rows j d) (ap (λ (k : List ℕ × ℤ). k.0) keys) cols (ap (λ (k : List ℕ × ℤ). k.1) keys)) ∙ once i j d lt l))
-    r q first second sids (ap₂ (λ (n : List ℕ) (d : ℤ). (n, d)) names days)
+    r q first second sids (ap₂ {C = List ℕ × ℤ} (λ n d. (n, d)) names days)
 
 module _ (days : List ℤ) (assets : List AssetRow) (labels : List ColumnLabel) (texts : List (List ℕ)) (bars : List BarRow) (adjustments : List ColumnAdjustment) (numbers : List ColumnNumber)
     (made : AreMadeFor days assets labels bars adjustments []) (days_up : AllPairs (λ a b. a <ℤ b) days) (sids_up : AllPairs (λ a b. a.sid < b.sid) assets)
@@ -111,7 +111,7 @@ module _ (days : List ℤ) (assets : List AssetRow) (labels : List ColumnLabel) 
 
   pub bars_once : BarsOnce whole
   bars_once =
-      once-keyed (bar_of assets) (λ b. b.col) (λ b. b.session) (λ b. b.sid) (λ b. b.session) assets sids_up (λ b. refl) (λ b. refl) bars made.bars_in
+      once-keyed {K = ℕ} (bar_of assets) (λ b. b.col) (λ b. b.session) (λ b. b.sid) (λ b. b.session) assets sids_up (λ b. refl) (λ b. refl) bars made.bars_in
       (λ i j d lt l cols sessions. differ (get_or bars i d) (get_or bars j d) (bars_up i j d lt l) cols sessions)
     where
       differ : (x y : BarRow) → IsTrue (is_before y.col y.session x) → y.col ≡ x.col → y.session ≡ x.session → ⊥
@@ -119,11 +119,11 @@ module _ (days : List ℤ) (assets : List AssetRow) (labels : List ColumnLabel) 
 
   pub labels_once : LabelsOnce whole
   labels_once r q first second names sids starts =
-      once-keyed (label_of assets) (λ r. r.col) (λ r. (r.name, r.start)) (λ r. r.sid) (λ r. (r.name, r.start)) assets sids_up (λ r. refl) (λ r. refl) labels made.labels_in
+      once-keyed {K = List ℕ × ℤ} (label_of assets) (λ r. r.col) (λ r. (r.name, r.start)) (λ r. r.sid) (λ r. (r.name, r.start)) assets sids_up (λ r. refl) (λ r. refl) labels made.labels_in
       (λ i j d lt l cols keys.
       let row = get_or labels i d in
       true≢false (sym (parts_from row.name row.col row.start (get_or labels j d) (ap (λ (k : List ℕ × ℤ). k.0) keys) cols (ap (λ (k : List ℕ × ℤ). k.1) keys)) ∙ starts_own i j d lt l))
-      r q first second sids (ap₂ (λ (n : List ℕ) (d : ℤ). (n, d)) names starts)
+      r q first second sids (ap₂ {C = List ℕ × ℤ} (λ n d. (n, d)) names starts)
 
   events_in : (col : ℕ) → col < length assets → events_of whole (sid_at assets col) ≡ events_at adjustments col
   events_in col inside =

@@ -1,6 +1,9 @@
 -- The numbers that are present, session by session, asset by asset and term by term.
 use Rattle.std.proofs.Common.{◌≡◌, ℕ, suc, ◌+◌, ◌-◌, ◌<◌, ◌≤◌, Bool, true, false, cond, ◌&&◌, if◌then◌else◌, ℤ, pos, List, [], ◌∷◌, ◌++◌, length, map, Option, Some, None, IfSome, IfNone, slice_get, refl, sym, ◌∙◌, ap, ap₂, arith, sum_by}
-use Rattle.std.specs.List.{range_with_len, count_by}
+use Rattle.std.specs.List.{range_with_len, count_by, list_any}
+use Rattle.std.specs.Option.{is_some}
+use Rattle.std.proofs.lemmas.List.Folds.{list_any-append, list_any_at}
+use Rattle.std.proofs.lemmas.List.FromFn.{get_or-range_with_len, length-range_with_len}
 use Rattle.std.proofs.lemmas.List.Sums.{sum_by-cons, sum_by_push}
 use Rattle.pl_spec.specs.declared.AssetRow.{AssetRow}
 use Rattle.pl_spec.specs.Kind.{Kind}
@@ -11,7 +14,7 @@ use Rattle.pl_spec.specs.Value as values
 use Rattle.pl_spec.specs.Value.{name_at, number_of, step}
 use Rattle.pl_spec.specs.World.{World, exists, known_number}
 use Rattle.pl_spec.specs.Table.{Pipeline, value_of}
-use Rattle.pl_spec.proofs.Ranges.{range-more}
+use Rattle.pl_spec.proofs.Ranges.{range-more, range-next}
 use Rattle.pl_spec.proofs.Unfolds.{value_at-node}
 use Rattle.pl_terms.specs.declared.node.Node as code
 use Rattle.pl_terms.specs.Checked.{IsChecked}
@@ -98,3 +101,15 @@ module _ (p : Pipeline) (t : ℕ) (n : code.Node) (at : slice_get p.graph t ≡ 
 
 pub unused : (p : Pipeline) (t : ℕ) → is_used p t ≡ false → is_number_term p t ≡ false
 unused p t e = ap (λ b. b && is_number_node (slice_get p.graph t)) e
+
+pub some-is : (p : Pipeline) (t : ℕ) (o : Option ℕ) → IfSome o (IsNumberUnder p t) → IfNone o (is_number_term p t ≡ false) → is_some o ≡ is_number_term p t
+some-is p t None some none = sym none
+some-is p t (Some name) some none = sym some.own
+
+-- ---- whether any term is one
+
+pub any-range : (f : ℕ → Bool) (n t : ℕ) → t < n → f t ≡ true → list_any f (range_with_len 0 n) ≡ true
+any-range f n t h e = list_any_at f (range_with_len 0 n) t 0 (omega (arith, h, length-range_with_len 0 n)) (ap f (get_or-range_with_len 0 n t 0 h) ∙ e)
+
+pub none-more : (f : ℕ → Bool) (t : ℕ) → list_any f (range_with_len 0 t) ≡ false → f t ≡ false → list_any f (range_with_len 0 (t + 1)) ≡ false
+none-more f t before e = ap (list_any f) (range-next t) ∙ list_any-append f (range_with_len 0 t) (t ∷ []) ∙ rw (before, e) refl

@@ -24,7 +24,7 @@ pub fn has_numbers(checked: &Checked) -> bool
     ensures { result ≡ spec.has_numbers (pipeline_of checked.now) }
 {
     for t in 0..count_terms(checked) {
-        if number_name(checked, TermId(t as u8)).is_some() {
+        if is_number(checked, TermId(t as u8)) {
             return true;
         }
     }
@@ -54,6 +54,14 @@ fn count_terms(checked: &Checked) -> usize
     ensures few { result ≤ most_terms }
 {
     checked.graph().len()
+}
+
+// Whether the term is used, and a number beside bars.
+fn is_number(checked: &Checked, t: TermId) -> bool
+    requires { t.0 < length checked.now.graph }
+    ensures { result ≡ spec.is_number_term (pipeline_of checked.now) t.0 }
+{
+    number_name(checked, t).is_some()
 }
 
 // The number of the name under which a used term is a number; `None` for another term.
@@ -145,7 +153,19 @@ fn has_number(world: &World, name: &[u8], number: Option<u32>, col: usize, sessi
         && is_present (known_number (world_of world.now) name.now
         (sid_at world.now.assets.now col) (pos session))) }
 {
-    exists(world, col, session) && is_present(number_of(world, name, number, col, session))
+    exists(world, col, session) && has_cell(world, name, number, col, session)
+}
+
+// There is a number, whether the asset exists or not.
+fn has_cell(world: &World, name: &[u8], number: Option<u32>, col: usize, session: usize) -> bool
+    requires made { IsMade world.now }
+    requires name { number ≡ position (bytes_eq name.now) world.now.numbers.now.names }
+    requires col { col < length world.now.assets.now }
+    requires session { session < length world.now.sessions.now }
+    ensures { result ≡ is_present (known_number (world_of world.now) name.now
+        (sid_at world.now.assets.now col) (pos session)) }
+{
+    is_present(number_of(world, name, number, col, session))
 }
 
 fn is_present(cell: i64) -> bool

@@ -13,11 +13,11 @@ loop-t-preserved c =
     let t = c.loop-t.t in
     record {
       count = ap₂ (λ (a b : ℕ). a + b) c.loop-t.invariant.count c.present_in.ensures.count ∙ sym (ap (sum_by f) (range-next t) ∙ sum_by_push f (range_with_len 0 t) t);
-      few = omega (arith, c.loop-t.invariant.few, c.present_in.ensures.few);
+      few = omega arith;
     }
 
 pub returns : goal.returns
 unfolding present_numbers
 returns c =
-    let end : c.loop-t.t ≡ length (pipeline_of c.args.checked.now).graph = omega (arith, c.loop-t-test.false, c.loop-t.auto.t-end, c.count_terms-t-end.ensures.count) in
+    let end : c.loop-t.t ≡ length (pipeline_of c.args.checked.now).graph = omega arith in
     c.loop-t.invariant.count ∙ ap (λ n. sum_by (present_in (world_of c.args.world.now) (pipeline_of c.args.checked.now) c.args.from c.args.to) (range_with_len 0 n)) end

@@ -16,17 +16,17 @@ loop-session-preserved c =
     elim c.if-has_number.branch [
       | then-has_number b ↦
           rw b.count-is record {
-            from = omega (arith, from);
+            from = omega arith;
             count = ap (λ n. n + 1) c.loop-session.invariant.count
                 ∙ sym (count-with (λ s. exists w a (pos s) && is_present (known_number w c.args.name.now a (pos s))) c.args.from c.loop-session.session from (sym c.has_number.ensures ∙ b.if-has_number.true));
-            few = omega (arith, from, c.loop-session.invariant.few);
+            few = omega arith;
           }
       | else-has_number b ↦
           rw b.count-is record {
-            from = omega (arith, from);
+            from = omega arith;
             count = c.loop-session.invariant.count
                 ∙ sym (count-without (λ s. exists w a (pos s) && is_present (known_number w c.args.name.now a (pos s))) c.args.from c.loop-session.session from (sym c.has_number.ensures ∙ b.if-has_number.false));
-            few = omega (arith, from, c.loop-session.invariant.few);
+            few = omega arith;
           }
     ]
 
@@ -34,6 +34,6 @@ pub returns-clause-count : goal.returns-clause-count
 returns-clause-count c =
     let w = world_of c.args.world.now in
     let a = sid_at c.args.world.now.assets.now c.args.col in
-    let end : c.loop-session.session - c.args.from ≡ suc c.args.to - c.args.from = omega (arith, c.loop-session-test.false, c.loop-session.auto.session-end, c.requires.order) in
+    let end : c.loop-session.session - c.args.from ≡ suc c.args.to - c.args.from = omega arith in
     c.loop-session.invariant.count
     ∙ ap (λ n. count_by (λ s. exists w a (pos s) && is_present (known_number w c.args.name.now a (pos s))) (range_with_len c.args.from n)) end

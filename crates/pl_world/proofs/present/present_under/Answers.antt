@@ -12,11 +12,11 @@ loop-col-preserved c =
     let w = world_of c.args.world.now in
     let assets = c.args.world.now.assets.now in
     let col = c.loop-col.col in
-    let inside : col < length assets = omega (arith, c.loop-col-test.true, c.len-col-end.ensures.length) in
+    let inside : col < length assets = omega arith in
     let own = c.present_of.ensures.count ∙ ap (known_on w c.args.from c.args.to c.args.name.now) (sid_at-row assets col no_asset inside) in
     record {
       count = ap₂ (λ (a b : ℕ). a + b) c.loop-col.invariant.count own ∙ sym (sum_by_more (λ (x : AssetRow). known_on w c.args.from c.args.to c.args.name.now x.sid) assets col no_asset inside);
-      few = omega (arith, c.loop-col.invariant.few, c.present_of.ensures.few);
+      few = omega arith;
     }
 
 pub returns-clause-count : goal.returns-clause-count
@@ -24,4 +24,4 @@ returns-clause-count c =
     let assets = c.args.world.now.assets.now in
     c.loop-col.invariant.count
     ∙ ap (sum_by (λ (x : AssetRow). known_on (world_of c.args.world.now) c.args.from c.args.to c.args.name.now x.sid))
-    (take_all c.loop-col.col assets (omega (arith, c.loop-col-test.false, c.len-col-end.ensures.length)))
+    (take_all c.loop-col.col assets (omega arith))
