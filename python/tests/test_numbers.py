@@ -136,7 +136,7 @@ def test_spoilt_frames(numbers, told, tmp_path):
 
 @pytest.mark.parametrize("period, count", [
     (["2024-01-01", "2024-01-03", "2024-02-29"], 2), (pd.to_datetime(["2023-12-31"] * 3), 0), (pd.PeriodIndex(["2024-01"] * 3, freq="M"), 3),
-    (["2023Q4", "2024Q1", None], 1), ([20231231, 20240102, 20240104], 1), (pd.to_datetime(["2024-01-03"] * 3).tz_localize("UTC"), 2),
+    (["2023Q4", "2024Q1", None], 1), (["FY", "Q1", "Q2"], 0), ([20231231, 20240103, None], 1), ([20231231, 20240102, 20240104], 1), (pd.to_datetime(["2024-01-03"] * 3).tz_localize("UTC"), 2),
 ])
 def test_days_of_publication(period, count, tmp_path):
     with warnings.catch_warnings(record=True) as told:
