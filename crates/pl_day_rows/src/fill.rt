@@ -33,10 +33,11 @@ fn kind_row(
     ensures third { length third.new ≡ length third.old }
 {
     let none = empty_value(turn.checked.graph(), turn.term);
-    match family_of(kind_of(turn.node)) {
+    let family = family_of(kind_of(turn.node));
+    match family {
         Family::Window => window_row(turn, first, second, third, none, keep, out),
         Family::Section => section(turn, cross, keep, out),
-        family => {
+        _ => {
             given_row(turn, family, out);
             keep_values(keep, none, out);
         }
