@@ -1,15 +1,15 @@
 //! Whether a script speaks of numbers beside bars.
-ghost use Rattle.std.specs.Prelude.{◌≡◌, true};
+ghost use Rattle.std.specs.Prelude.{◌≡◌};
 ghost use Rattle.pl_grammar.specs.Machine.{args_of};
 ghost use Rattle.pl_syntax.specs.Frames.{args_list};
-ghost use Rattle.pl_syntax.specs.Plain.{plain, args_tree};
+ghost use Rattle.pl_syntax.specs.Plain.{plain};
 ghost use Rattle.pl_syntax.specs.Scripts.{parsed};
 ghost use Rattle.pl_syntax.specs.Statements.{statements_of};
 ghost use Rattle.pl_check.specs.Numbered as spec;
 
 use crate::expressions::slice_of;
 use crate::statements::expr_of;
-use pl_syntax::{Arg, ArgList, Expr, ExprNode, Place, Script, Statement};
+use pl_syntax::{Arg, Expr, ExprNode, Place, Script, Statement};
 
 // The first call of `number` in an expression.
 #[cycle(first_in)]
@@ -66,7 +66,7 @@ fn first_stated(statements: &[Statement]) -> Option<Place>
 }
 
 /// The place of the first call of the function `number`, in the order of the text, whether a column uses it
-/// or not. A fault of that call would be there.
+/// or not; none where there is no such call. It is where a fault of that call would be.
 #[tactic(auto, unfolding(crate::specs::Numbered::first_number))]
 pub fn first_number(script: &Script) -> Option<Place>
     ensures { result ≡ spec.first_number (parsed script.now) }
