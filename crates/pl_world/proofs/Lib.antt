@@ -8,4 +8,4 @@ pub mod Evaluated
 pub mod Sections
 pub mod Windowing
 pub mod Known
-pub mod Present
+pub mod Counted

@@ -2,7 +2,7 @@ use Rattle.std.proofs.Common.{◌≡◌, ◌∙◌, ap, sym, length, arith}
 use Rattle.std.specs.List.{range_with_len, list_any}
 use Rattle.pl_terms.specs.Checked.{pipeline_of}
 use Rattle.pl_world.specs.Present.{is_number_term}
-use Rattle.pl_world.proofs.Present.{any-range, none-more}
+use Rattle.pl_world.proofs.Counted.{any-range, none-more}
 use Rattle.pl_world.proofs.present.has_numbers.Goals as goal
 
 pub returns-then-is_number : goal.returns-then-is_number

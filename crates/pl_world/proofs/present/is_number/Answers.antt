@@ -1,6 +1,6 @@
 use Rattle.std.proofs.Common.{◌∙◌}
 use Rattle.pl_terms.specs.Checked.{pipeline_of}
-use Rattle.pl_world.proofs.Present.{some-is}
+use Rattle.pl_world.proofs.Counted.{some-is}
 use Rattle.pl_world.proofs.present.is_number.Goals as goal
 
 pub returns : goal.returns

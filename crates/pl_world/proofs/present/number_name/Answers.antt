@@ -1,7 +1,7 @@
 use Rattle.std.proofs.Common.{◌∙◌, ap, sym, slice_get}
 use Rattle.pl_terms.specs.Checked.{pipeline_of}
 use Rattle.pl_terms.proofs.Graphs.{graph-at}
-use Rattle.pl_world.proofs.Present.{name-none, name-some, unused}
+use Rattle.pl_world.proofs.Counted.{name-none, name-some, unused}
 use Rattle.pl_world.proofs.present.number_name.Goals as goal
 
 pub returns-then-is_used-clause-some : goal.returns-then-is_used-clause-some

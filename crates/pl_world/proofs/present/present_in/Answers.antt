@@ -3,7 +3,7 @@ use Rattle.pl_spec.specs.Value.{name_at}
 use Rattle.pl_terms.specs.Checked.{pipeline_of}
 use Rattle.pl_world.specs.Present.{IsNumberUnder, is_number_term}
 use Rattle.pl_world.specs.Worlds.{world_of}
-use Rattle.pl_world.proofs.Present.{named, present-not, present-under}
+use Rattle.pl_world.proofs.Counted.{named, present-not, present-under}
 use Rattle.pl_world.proofs.present.present_in.Goals as goal
 
 pub label_name-requires : goal.label_name-requires

@@ -4,7 +4,7 @@ use Rattle.pl_spec.specs.Parts.{sid_at}
 use Rattle.pl_spec.specs.Rounding.{is_present}
 use Rattle.pl_spec.specs.World.{exists, known_number}
 use Rattle.pl_world.specs.Worlds.{world_of}
-use Rattle.pl_world.proofs.Present.{count-with, count-without}
+use Rattle.pl_world.proofs.Counted.{count-with, count-without}
 use Rattle.pl_world.proofs.present.present_of.Goals as goal
 use Rattle.pl_world.proofs.present.present_of.Goals.{then-has_number, else-has_number}
 
