@@ -10,7 +10,7 @@ ghost use Rattle.pl_terms.specs.Checked.{pipeline_of};
 ghost use Rattle.pl_cli.specs.Texts.{check_text, told_line};
 ghost use Rattle.pl_cli.specs.Commands.{IsAnswered, sink_change, loaded_text, loaded_present, loaded_steps, loaded_stats, stats_told};
 
-use crate::stats::present_of;
+use crate::present::present_of;
 use itoa::Buffer;
 use pl_fixed::Steps;
 use pl_judge::Fault;

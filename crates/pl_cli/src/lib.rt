@@ -10,8 +10,8 @@ mod commands;
 mod daily;
 mod derivations;
 mod payouts;
+mod present;
 mod stated;
-mod stats;
 mod top;
 
 pub use top::run_program;

@@ -16,8 +16,8 @@ use crate::commands::{Stats, check_command, fmt_command, plan_command, run_comma
 use crate::daily::daily_command;
 use crate::derivations::verify_command;
 use crate::payouts::payouts_command;
+use crate::present::write_told;
 use crate::stated::bench_command;
-use crate::stats::write_told;
 use pl_fixed::Steps;
 use pl_judge::{Fault, write_line};
 use pl_outside::{AdjustKeeper, Shelf, Sink};

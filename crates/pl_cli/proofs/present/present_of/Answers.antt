@@ -1,5 +1,5 @@
 use Rattle.std.proofs.Common.{◌≡◌, ◌<◌, Bool, true, false, length, Option, Some, None, cond, sym, ap, arith, refl}
-use Rattle.pl_cli.proofs.stats.present_of.Goals as goal
+use Rattle.pl_cli.proofs.present.present_of.Goals as goal
 
 pub present_numbers-requires-clause-within : goal.present_numbers-requires-clause-within
 present_numbers-requires-clause-within c =

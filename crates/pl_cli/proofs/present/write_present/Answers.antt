@@ -1,7 +1,7 @@
 use Rattle.std.proofs.Common.{[], ◌∷◌, codes}
 use Rattle.pl_outside.proofs.Pieces.{writes-over}
 use Rattle.pl_cli.proofs.Counts.{told-are}
-use Rattle.pl_cli.proofs.stats.write_present.Goals as goal
+use Rattle.pl_cli.proofs.present.write_present.Goals as goal
 
 pub returns : goal.returns
 returns g c =
