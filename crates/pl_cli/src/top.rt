@@ -27,11 +27,12 @@ use std::sync::ledger::Ledger;
 
 /// Runs the program on the words after its name:
 ///
-/// - `run PIPELINE SESSIONS ASSETS BARS FROM TO`, with the options `--labels NAME`, `--adjustments NAME`,
-///   `--revisions NAME`, `--chunk N`, `--format csv`, `--format fixed`, `--stats` and `--asof DATE` anywhere
-///   among these words, reads the files from the shelf and the adjustments from the keeper, and writes the
-///   table of the sessions FROM to TO to `out`, computed N sessions at a time, 126 where N is not given, and
-///   with `--asof` over what is known by that session; with `--stats` it writes its numbers on `err`;
+/// - `run PIPELINE SESSIONS ASSETS BARS FROM TO`, with the options `--labels NAME`, `--numbers NAME`,
+///   `--adjustments NAME`, `--revisions NAME`, `--chunk N`, `--format csv`, `--format fixed`, `--stats` and
+///   `--asof DATE` anywhere among these words, reads the files from the shelf and the adjustments from the
+///   keeper, and writes the table of the sessions FROM to TO to `out`, computed N sessions at a time, 126
+///   where N is not given, and with `--asof` over what is known by that session; with `--stats` it writes its
+///   numbers on `err`;
 /// - `fmt PIPELINE` writes the canonical text of the pipeline file;
 /// - `check PIPELINE` writes how many terms and columns its pipeline has;
 /// - `plan PIPELINE SESSIONS FROM TO` writes what is computed for these sessions: a line for each used term,
@@ -39,7 +40,7 @@ use std::sync::ledger::Ledger;
 /// - `payouts SESSIONS ASSETS BARS PAYOUTS` writes the rows of the payouts file for the table of dividends,
 ///   or why a payout has none;
 /// - `explain PIPELINE SESSIONS ASSETS BARS SID DATE COLUMN`, with the options `--labels NAME`,
-///   `--adjustments NAME` and `--revisions NAME`, writes the derivation of a cell;
+///   `--numbers NAME`, `--adjustments NAME` and `--revisions NAME`, writes the derivation of a cell;
 /// - `verify PIPELINE SESSIONS ASSETS BARS DERIVATION`, with the same options, writes whether all lines of a
 ///   derivation are right, or the number of the first that is not;
 /// - `daily PIPELINE SESSIONS ASSETS BARS FROM TO`, with the same options and `--format csv` and
