@@ -109,7 +109,8 @@ some-is p t (Some name) some none = sym some.own
 -- ---- whether any term is one
 
 pub any-range : (f : ℕ → Bool) (n t : ℕ) → t < n → f t ≡ true → list_any f (range_with_len 0 n) ≡ true
-any-range f n t h e = list_any_at f (range_with_len 0 n) t 0 (omega (arith, h, length-range_with_len 0 n)) (ap f (get_or-range_with_len 0 n t 0 h) ∙ e)
+any-range f n t h e = list_any_at f (range_with_len 0 n) t 0 (omega (arith, h, length-range_with_len 0 n))
+    (let z : 0 + t ≡ t = omega arith in ap f (get_or-range_with_len 0 n t 0 h ∙ z) ∙ e)
 
 pub none-more : (f : ℕ → Bool) (t : ℕ) → list_any f (range_with_len 0 t) ≡ false → f t ≡ false → list_any f (range_with_len 0 (t + 1)) ≡ false
 none-more f t before e = ap (list_any f) (range-next t) ∙ list_any-append f (range_with_len 0 t) (t ∷ []) ∙ rw (before, e) refl

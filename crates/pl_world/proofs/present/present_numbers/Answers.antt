@@ -12,7 +12,7 @@ loop-t-preserved c =
     let f : ℕ → ℕ = present_in (world_of c.args.world.now) (pipeline_of c.args.checked.now) c.args.from c.args.to in
     let t = c.loop-t.t in
     record {
-      count = ap₂ (λ (a b : ℕ). a + b) c.loop-t.invariant.count c.present_in.ensures.count ∙ sym (ap (sum_by f) (range-next t) ∙ sum_by_push f (range_with_len 0 t) t);
+      count = ap₂ (λ (a b : ℕ). a + b) c.loop-t.invariant.count c.present_in-count.ensures.count ∙ sym (ap (sum_by f) (range-next t) ∙ sum_by_push f (range_with_len 0 t) t);
       few = omega arith;
     }
 

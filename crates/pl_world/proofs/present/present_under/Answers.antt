@@ -13,7 +13,7 @@ loop-col-preserved c =
     let assets = c.args.world.now.assets.now in
     let col = c.loop-col.col in
     let inside : col < length assets = omega arith in
-    let own = c.present_of.ensures.count ∙ ap (known_on w c.args.from c.args.to c.args.name.now) (sid_at-row assets col no_asset inside) in
+    let own = c.present_of-count.ensures.count ∙ ap (known_on w c.args.from c.args.to c.args.name.now) (sid_at-row assets col no_asset inside) in
     record {
       count = ap₂ (λ (a b : ℕ). a + b) c.loop-col.invariant.count own ∙ sym (sum_by_more (λ (x : AssetRow). known_on w c.args.from c.args.to c.args.name.now x.sid) assets col no_asset inside);
       few = omega arith;
