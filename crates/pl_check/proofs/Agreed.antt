@@ -97,12 +97,12 @@ stored-agrees p v s f w i = require-agrees of_meaning (Stored s) _ p (is_storabl
 
 -- ---- one statement
 
-taken-same : (g : Graph) (ds : List Definition) (es : List by_tree.Definition) (n : List ℕ) → AreMeant g ds es → by_tree.is_taken es n ≡ is_taken ds n
-taken-same g ds es n a = ap (λ o. is_some (bar_column n) || is_some (function_named n) || is_some o) (defined-is g ds es n a) ∙ ap (λ b. is_some (bar_column n) || is_some (function_named n) || b) (here (defined ds n))
+taken-same : (v : ℕ) (g : Graph) (ds : List Definition) (es : List by_tree.Definition) (n : List ℕ) → AreMeant g ds es → by_tree.is_taken v es n ≡ is_taken v ds n
+taken-same v g ds es n a = ap (λ o. is_some (bar_column n) || is_some (function_named v n) || is_some o) (defined-is g ds es n a) ∙ ap (λ b. is_some (bar_column n) || is_some (function_named v n) || b) (here (defined ds n))
   where
     here : (o : Option Value) → is_some (option_map (meaning_of g) o) ≡ is_some o
     here None = refl
-    here (Some v) = refl
+    here (Some x) = refl
 
 meant-append : (g : Graph) (ds : List Definition) (es : List by_tree.Definition) (n : List ℕ) (v : Value) (m : Meaning) → AreMeant g ds es → IsIn g v → m ≡ meaning_of g v
     → AreMeant g (ds ++ record { name = n; value = v } ∷ []) (es ++ record { name = n; meaning = m } ∷ [])
@@ -111,10 +111,10 @@ meant-append g [] (e ∷ es) n v m a i q = absurd a
 meant-append g (d ∷ ds) [] n v m a i q = absurd a
 meant-append g (d ∷ ds) (e ∷ es) n v m a i q = (a.0, a.1, a.2, meant-append g ds es n v m a.3 i q)
 
-let-agrees : (j : typed.Judged) (k : by_tree.Judged) (p : Place) (n : List ℕ) (r : Found Value) (m : After Meaning) → SameJudged j k → Means j.terms r m → Agrees of_judged SameJudged (let_judged j p n r) (by_tree.let_judged k p n m)
+let-agrees : (v : ℕ) (j : typed.Judged) (k : by_tree.Judged) (p : Place) (n : List ℕ) (r : Found Value) (m : After Meaning) → SameJudged j k → Means j.terms r m → Agrees of_judged SameJudged (let_judged v j p n r) (by_tree.let_judged v k p n m)
 unfolding let_judged by_tree.let_judged
-let-agrees j k p n r m w h =
-    require-agrees of_judged SameJudged _ p (not (is_taken j.definitions n)) (not (by_tree.is_taken k.definitions n)) _ _ (ap not (taken-same j.terms.graph j.definitions k.definitions n w.meant))
+let-agrees v j k p n r m w h =
+    require-agrees of_judged SameJudged _ p (not (is_taken v j.definitions n)) (not (by_tree.is_taken v k.definitions n)) _ _ (ap not (taken-same v j.terms.graph j.definitions k.definitions n w.meant))
     (λ e. (
       _,
       refl,
@@ -206,12 +206,12 @@ stored-after s r m p h =
     (λ x y k. (record { later = later-still s.graph r.terms.graph x.terms.graph h.later k.0.later; inside = k.0.inside; is = k.0.is; same = k.0.same }, k.1))
     (stored-agrees p r.value r.terms m.forest h.same h.inside))
 
-head-agrees : (j : typed.Judged) (k : by_tree.Judged) (h : Head) (r : Found Value) (m : After Meaning) → SameJudged j k → Means j.terms r m → Agrees of_judged SameJudged (head_judged j h r) (by_tree.head_judged k h m)
-head-agrees j k (LetHead p n) r m w v =
-    then-agrees of_meaning of_judged (Stored j.terms) SameJudged (stored p r) (by_tree.stored p m) _ _ (stored-after j.terms r m p v) (λ q x y. let-agrees j k p n q x w y.0) (λ x z e. let-extends k p n x z e)
-head-agrees j k (ColumnHead p n) r m w v =
+head-agrees : (v : ℕ) (j : typed.Judged) (k : by_tree.Judged) (h : Head) (r : Found Value) (m : After Meaning) → SameJudged j k → Means j.terms r m → Agrees of_judged SameJudged (head_judged v j h r) (by_tree.head_judged v k h m)
+head-agrees version j k (LetHead p n) r m w v =
+    then-agrees of_meaning of_judged (Stored j.terms) SameJudged (stored p r) (by_tree.stored p m) _ _ (stored-after j.terms r m p v) (λ q x y. let-agrees version j k p n q x w y.0) (λ x z e. let-extends version k p n x z e)
+head-agrees version j k (ColumnHead p n) r m w v =
     then-agrees of_meaning of_judged (Stored j.terms) SameJudged (stored p r) (by_tree.stored p m) _ _ (stored-after j.terms r m p v) (λ q x y. column-agrees j k p n q x w y) (λ x z e. column-extends k p n x z e)
-head-agrees j k (ScreenHead p) r m w v = screen-agrees j k p r m w v
+head-agrees version j k (ScreenHead p) r m w v = screen-agrees j k p r m w v
 
 -- ---- all statements
 
@@ -219,7 +219,7 @@ statement-agrees : (v : ℕ) (j : typed.Judged) (k : by_tree.Judged) (s : Statem
 unfolding statement_judged
 statement-agrees v j k s w =
     then-agrees of_meaning of_judged (Means j.terms) SameJudged (worth v j.definitions s.tree j.terms) (meaning v k.definitions s.tree k.forest) _ _ (worth-agrees v j.definitions k.definitions s.tree j.terms k.forest w.same w.meant)
-    (λ r m h. head-agrees j k s.head r m w h) (λ m z e. head-extends k s.head m z e)
+    (λ r m h. head-agrees v j k s.head r m w h) (λ m z e. head-extends v k s.head m z e)
 
 statements-agree : (v : ℕ) (j : typed.Judged) (k : by_tree.Judged) (ss : List Statement) → SameJudged j k → Agrees of_judged SameJudged (statements_judged v j ss) (by_tree.statements_judged v k ss)
 unfolding statements_judged by_tree.statements_judged

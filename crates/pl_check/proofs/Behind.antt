@@ -62,8 +62,8 @@ module _ (v : ℕ) (ds : List Definition) (p : Place) (s : Terms) where
 
   pub call-fails : (e : CheckError) (f : List ℕ) (ps : Args) → Fails e (args_worth v ds [] ps s) → Fails e (worth v ds (call p f ps) s)
   unfolding worth
-  call-fails e f ps h = fails-then e (args_worth v ds [] ps s) (λ r. function_called p f r.value r.terms) h
+  call-fails e f ps h = fails-then e (args_worth v ds [] ps s) (λ r. function_called v p f r.value r.terms) h
 
-  pub call-is : (f : List ℕ) (ps : Args) (ws : List Written) (t : Terms) → args_worth v ds [] ps s ≡ Ok (found ws t) → worth v ds (call p f ps) s ≡ function_called p f ws t
+  pub call-is : (f : List ℕ) (ps : Args) (ws : List Written) (t : Terms) → args_worth v ds [] ps s ≡ Ok (found ws t) → worth v ds (call p f ps) s ≡ function_called v p f ws t
   unfolding worth
-  call-is f ps ws t h = ap (λ o. o >>= λ r. function_called p f r.value r.terms) h
+  call-is f ps ws t h = ap (λ o. o >>= λ r. function_called v p f r.value r.terms) h

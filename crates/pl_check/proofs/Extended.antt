@@ -107,8 +107,8 @@ mutual
   meaning-extends v ds (text p t) f m h = found-extends _ f m h
   meaning-extends v ds (name p n) f m h = let r = then-ok (or_fault UnknownName p (meaning_named ds n (bar_column n))) (λ x. Ok (after x f)) m h in found-extends r.0 f m r.2
   meaning-extends v ds (call p n ps) f m h =
-      let r = then-ok (arguments v ds (record { written = []; trees = [] }) ps f) (λ r. or_fault UnknownName p (function_named n) >>= λ o. called p o [] [] r.value r.forest) m h in
-      let o = then-ok (or_fault UnknownName p (function_named n)) (λ o. called p o [] [] r.0.value r.0.forest) m r.2 in
+      let r = then-ok (arguments v ds (record { written = []; trees = [] }) ps f) (λ r. or_fault UnknownName p (function_named v n) >>= λ o. called p o [] [] r.value r.forest) m h in
+      let o = then-ok (or_fault UnknownName p (function_named v n)) (λ o. called p o [] [] r.0.value r.0.forest) m r.2 in
       extends-further f r.0.forest m.forest (arguments-extends v ds (record { written = []; trees = [] }) ps f r.0 r.1) (called-extends p o.0 [] [] r.0.value r.0.forest m o.2)
   meaning-extends v ds (prefix p sign e) f m h =
       let r = then-ok (meaning v ds e f) (λ r. prefixed p sign r.value.value r.value.tree r.forest) m h in
@@ -154,9 +154,9 @@ stored-extends p r m h =
 judged-one : (x y : Judged) → answer x ≡ Ok y → Extends x.forest y.forest
 judged-one x y q = subst (λ (z : Judged). Extends x.forest z.forest) (let e : x ≡ y = cc in e) (same-extends x.forest)
 
-pub let-extends : (j : Judged) (p : Place) (n : List ℕ) (r : After Meaning) (k : Judged) → let_judged j p n r ≡ Ok k → Extends r.forest k.forest
+pub let-extends : (v : ℕ) (j : Judged) (p : Place) (n : List ℕ) (r : After Meaning) (k : Judged) → let_judged v j p n r ≡ Ok k → Extends r.forest k.forest
 unfolding let_judged
-let-extends j p n r k h = judged-one _ k (require-ok (not (is_taken j.definitions n)) _ p (answer _) k h)
+let-extends v j p n r k h = judged-one _ k (require-ok (not (is_taken v j.definitions n)) _ p (answer _) k h)
 
 pub column-extends : (j : Judged) (p : Place) (n : List ℕ) (r : After Meaning) (k : Judged) → column_judged j p n r ≡ Ok k → Extends r.forest k.forest
 unfolding column_judged
@@ -167,19 +167,19 @@ screen-extends : (j : Judged) (p : Place) (r : After Meaning) (k : Judged) → s
 unfolding screen_judged
 screen-extends j p r k h = judged-one _ k (require-ok (not (is_some j.screen)) _ p (answer _) k (require-ok (is_term_filter r.value.value) _ p _ k h))
 
-pub head-extends : (j : Judged) (h : Head) (r : After Meaning) (k : Judged) → head_judged j h r ≡ Ok k → Extends r.forest k.forest
-head-extends j (LetHead p n) r k h =
-    let a = then-ok (stored p r) (λ v. let_judged j p n v) k h in
-    extends-further r.forest a.0.forest k.forest (stored-extends p r a.0 a.1) (let-extends j p n a.0 k a.2)
-head-extends j (ColumnHead p n) r k h =
-    let a = then-ok (stored p r) (λ v. column_judged j p n v) k h in
+pub head-extends : (v : ℕ) (j : Judged) (h : Head) (r : After Meaning) (k : Judged) → head_judged v j h r ≡ Ok k → Extends r.forest k.forest
+head-extends v j (LetHead p n) r k h =
+    let a = then-ok (stored p r) (λ x. let_judged v j p n x) k h in
+    extends-further r.forest a.0.forest k.forest (stored-extends p r a.0 a.1) (let-extends v j p n a.0 k a.2)
+head-extends v j (ColumnHead p n) r k h =
+    let a = then-ok (stored p r) (λ x. column_judged j p n x) k h in
     extends-further r.forest a.0.forest k.forest (stored-extends p r a.0 a.1) (column-extends j p n a.0 k a.2)
-head-extends j (ScreenHead p) r k h = screen-extends j p r k h
+head-extends v j (ScreenHead p) r k h = screen-extends j p r k h
 
 pub statement-extends : (v : ℕ) (j : Judged) (s : Statement) (k : Judged) → statement_judged v j s ≡ Ok k → Extends j.forest k.forest
 statement-extends v j s k h =
-    let r = then-ok (meaning v j.definitions s.tree j.forest) (λ r. head_judged j s.head r) k h in
-    extends-further j.forest r.0.forest k.forest (meaning-extends v j.definitions s.tree j.forest r.0 r.1) (head-extends j s.head r.0 k r.2)
+    let r = then-ok (meaning v j.definitions s.tree j.forest) (λ r. head_judged v j s.head r) k h in
+    extends-further j.forest r.0.forest k.forest (meaning-extends v j.definitions s.tree j.forest r.0 r.1) (head-extends v j s.head r.0 k r.2)
 
 pub statements-extend : (v : ℕ) (j : Judged) (ss : List Statement) (k : Judged) → statements_judged v j ss ≡ Ok k → Extends j.forest k.forest
 unfolding statements_judged

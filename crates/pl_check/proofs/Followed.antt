@@ -318,9 +318,9 @@ mutual
   worth-agrees v ds es (call p n ps) s f w a =
       then-agrees of_arguments of_meaning (MeanAll s) (Means s) (args_worth v ds [] ps s) (arguments v es none ps f) _ _
       (args-agrees v ds es [] none ps s f w a tt refl)
-      (λ r m k. subst (λ x. Agrees of_meaning (Means s) (or_fault UnknownName p (function_named n) >>= λ o. called p o [] r.value r.terms) (or_fault UnknownName p (function_named n) >>= λ o. by_tree.called p o [] [] x m.forest)) (sym k.is)
-      (looked-agrees of_meaning (Means s) UnknownName p (function_named n) _ _ (λ o. behind s r.terms _ _ k.later (called-agrees p o [] r.value r.terms m.forest k.same tt k.inside))))
-      (λ m z h. let o = then-ok (or_fault UnknownName p (function_named n)) (λ o. by_tree.called p o [] [] m.value m.forest) z h in called-extends p o.0 [] [] m.value m.forest z o.2)
+      (λ r m k. subst (λ x. Agrees of_meaning (Means s) (or_fault UnknownName p (function_named v n) >>= λ o. called p o [] r.value r.terms) (or_fault UnknownName p (function_named v n) >>= λ o. by_tree.called p o [] [] x m.forest)) (sym k.is)
+      (looked-agrees of_meaning (Means s) UnknownName p (function_named v n) _ _ (λ o. behind s r.terms _ _ k.later (called-agrees p o [] r.value r.terms m.forest k.same tt k.inside))))
+      (λ m z h. let o = then-ok (or_fault UnknownName p (function_named v n)) (λ o. by_tree.called p o [] [] m.value m.forest) z h in called-extends p o.0 [] [] m.value m.forest z o.2)
   worth-agrees v ds es (prefix p sign e) s f w a =
       then-agrees of_meaning of_meaning (Means s) (Means s) (worth v ds e s) (meaning v es e f) _ _ (worth-agrees v ds es e s f w a)
       (λ r m k. subst (λ (x : Meaning). Agrees of_meaning (Means s) (prefixed p sign r.value r.terms) (by_tree.prefixed p sign x.value x.tree m.forest)) (sym k.is)

@@ -200,6 +200,7 @@ kind-bare op.ExponentialWeightedMovingAverage bs names = ap (λ n. kind.Window (
 kind-bare op.AtLeastN bs names = ap (λ n. kind.Window (kind.AtLeastN (whole n))) (number-given bs parameter.AtLeast)
 kind-bare op.StaticSids bs names = ap kind.StaticSids (ap sorted_sids (values-given bs parameter.Sid) ∙ sids-bare (values_given bs parameter.Sid))
 kind-bare op.Label bs names = ap (λ t. kind.Label (name_number names t)) (text-given bs parameter.Name)
+kind-bare op.Number bs names = ap (λ t. kind.Number (name_number names t)) (text-given bs parameter.Name)
 kind-bare op.Clip bs names =
     ap (λ n. kind.Point (kind.Clip n (number_given (map bare bs) parameter.High))) (number-given bs parameter.Low) ∙ ap (λ n. kind.Point (kind.Clip (number_given bs parameter.Low) n)) (number-given bs parameter.High)
 kind-bare op.Rank bs names =
@@ -224,6 +225,7 @@ kind-bare o bs names = refl
 
 pub names-bare : (o : Operation) (bs : List Bound) (names : List (List ℕ)) → names_after o (map bare bs) names ≡ names_after o bs names
 names-bare op.Label bs names = ap (with_name names) (text-given bs parameter.Name)
+names-bare op.Number bs names = ap (with_name names) (text-given bs parameter.Name)
 names-bare o bs names = refl
 
 abbrev window_of : Operation → Option Value → Option Value → ℕ

@@ -36,7 +36,7 @@ pub record Meaning : Type 0 where
 abbrev pub plain : Value → Meaning
 plain v = record { value = v; tree = None }
 
--- the trees of the terms so far, and the names of the labels among them
+-- the trees of the terms so far, and the names of the labels and numbers among them
 pub record Forest : Type 0 where
   pub trees : List Term
   pub names : List (List ℕ)
@@ -182,7 +182,7 @@ unfoldable mutual
   meaning v ds (text p t) s = Ok (after (plain (Text t)) s)
   meaning v ds (name p n) s = or_fault UnknownName p (meaning_named ds n (bar_column n)) >>= λ m. Ok (after m s)
   meaning v ds (call p f ps) s =
-      arguments v ds no_arguments ps s >>= λ r. or_fault UnknownName p (function_named f) >>= λ op. called p op [] [] r.value r.forest
+      arguments v ds no_arguments ps s >>= λ r. or_fault UnknownName p (function_named v f) >>= λ op. called p op [] [] r.value r.forest
   meaning v ds (prefix p sign e) s = meaning v ds e s >>= λ r. prefixed p sign r.value.value r.value.tree r.forest
   meaning v ds (binary p sign a b) s = meaning v ds a s >>= λ l. meaning v ds b l.forest >>= λ r. combined p sign l.value r.value r.forest
   meaning v ds (member p e m) s =
@@ -211,8 +211,8 @@ pub record Judged : Type 0 where
 abbrev pub nothing : Judged
 nothing = record { forest = record { trees = []; names = [] }; definitions = []; columns = []; screen = None }
 
-abbrev pub is_taken : List Definition → List ℕ → Bool
-is_taken ds n = is_some (bar_column n) || is_some (function_named n) || is_some (defined ds n)
+abbrev pub is_taken : ℕ → List Definition → List ℕ → Bool
+is_taken version ds n = is_some (bar_column n) || is_some (function_named version n) || is_some (defined ds n)
 
 -- the value of a `let` or a `column`: a number becomes its constant
 unfoldable pub stored : Place → After Meaning → Result (After Meaning) Broken
@@ -221,9 +221,9 @@ stored p r =
     (Ok (after (record { value = factor_of r.value.value; tree = option_or (constant_of r.value.value) r.value.tree })
     (with_trees r.forest (option_to_list (constant_of r.value.value)))))
 
-unfoldable pub let_judged : Judged → Place → List ℕ → After Meaning → Result Judged Broken
-let_judged j p n r =
-    require (not (is_taken j.definitions n)) Redefined p
+unfoldable pub let_judged : ℕ → Judged → Place → List ℕ → After Meaning → Result Judged Broken
+let_judged v j p n r =
+    require (not (is_taken v j.definitions n)) Redefined p
     (Ok (record { forest = r.forest; definitions = j.definitions ++ record { name = n; meaning = r.value } ∷ []; columns = j.columns; screen = j.screen }))
 
 unfoldable pub column_judged : Judged → Place → List ℕ → After Meaning → Result Judged Broken
@@ -238,13 +238,13 @@ screen_judged j p r =
     (require (not (is_some j.screen)) Redefined p
     (Ok (record { forest = r.forest; definitions = j.definitions; columns = j.columns; screen = r.value.tree })))
 
-abbrev pub head_judged : Judged → Head → After Meaning → Result Judged Broken
-head_judged j (LetHead p n) r = stored p r >>= λ v. let_judged j p n v
-head_judged j (ColumnHead p n) r = stored p r >>= λ v. column_judged j p n v
-head_judged j (ScreenHead p) r = screen_judged j p r
+abbrev pub head_judged : ℕ → Judged → Head → After Meaning → Result Judged Broken
+head_judged v j (LetHead p n) r = stored p r >>= λ x. let_judged v j p n x
+head_judged v j (ColumnHead p n) r = stored p r >>= λ x. column_judged j p n x
+head_judged v j (ScreenHead p) r = screen_judged j p r
 
 abbrev pub statement_judged : ℕ → Judged → Statement → Result Judged Broken
-statement_judged v j s = meaning v j.definitions s.tree j.forest >>= λ r. head_judged j s.head r
+statement_judged v j s = meaning v j.definitions s.tree j.forest >>= λ r. head_judged v j s.head r
 
 unfoldable pub statements_judged : ℕ → Judged → List Statement → Result Judged Broken
 statements_judged v j [] = Ok j

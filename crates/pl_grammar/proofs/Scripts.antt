@@ -114,10 +114,12 @@ pub number_told : (n : ℕ) → is_known n ≡ true → version_of (version_numb
 number_told zero h = absurd (let bad : false ≡ true = h in cc)
 number_told (suc zero) h = refl
 number_told (suc (suc zero)) h = refl
-number_told (suc (suc (suc n))) h =
-    let one : (suc (suc (suc n)) == 1) ≡ false = grind (arith, nat_tests) in
-    let two : (suc (suc (suc n)) == 2) ≡ false = grind (arith, nat_tests) in
-    absurd (let bad : false ≡ true = rw (one, two) at h in cc)
+number_told (suc (suc (suc zero))) h = refl
+number_told (suc (suc (suc (suc n)))) h =
+    let one : (suc (suc (suc (suc n))) == 1) ≡ false = grind (arith, nat_tests) in
+    let two : (suc (suc (suc (suc n))) == 2) ≡ false = grind (arith, nat_tests) in
+    let three : (suc (suc (suc (suc n))) == 3) ≡ false = grind (arith, nat_tests) in
+    absurd (let bad : false ≡ true = rw (one, two, three) at h in cc)
 
 pub script_derives : (p : Token → Bool) (n : ℕ) (ss : List Statement) → is_known n ≡ true → are_sound p ss ≡ true → Script most_depth (script_tokens n ss) ss
 unfolding script_tokens

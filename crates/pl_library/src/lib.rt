@@ -37,7 +37,7 @@ pub mod world {
 
 /// Pipelines: texts, terms, and the plan of a range.
 pub mod pipelines {
-    pub use pl_check::{CheckError, CheckFault, check};
+    pub use pl_check::{CheckError, CheckFault, check, first_number};
     pub use pl_planner::{Plan, PlanError, plan, reach_at};
     pub use pl_syntax::{
         Arg, ArgList, BinarySign, Expr, ExprNode, Place, PrefixSign, Script, Statement,

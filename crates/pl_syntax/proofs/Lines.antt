@@ -21,15 +21,18 @@ unfolding statements_text
 no_line = refl
 
 -- the first line of each version
-pub first_line : (n : ℕ) → is_known n ≡ true → (ds : List ℕ) → (n ≡ 1 → ds ≡ codes "pipeline 1;\n") → (n ≡ 2 → ds ≡ codes "pipeline 2;\n") → ds ≡ version_text n
+pub first_line : (n : ℕ) → is_known n ≡ true → (ds : List ℕ) → (n ≡ 1 → ds ≡ codes "pipeline 1;\n") → (n ≡ 2 → ds ≡ codes "pipeline 2;\n") → (n ≡ 3 → ds ≡ codes "pipeline 3;\n")
+    → ds ≡ version_text n
 unfolding version_text
-first_line zero h ds one two = absurd (let bad : false ≡ true = h in cc)
-first_line (suc zero) h ds one two = one refl ∙ sym (ap (λ ds. codes "pipeline " ++ (ds ++ codes ";\n")) (decimal_digit 1 (omega arith)))
-first_line (suc (suc zero)) h ds one two = two refl ∙ sym (ap (λ ds. codes "pipeline " ++ (ds ++ codes ";\n")) (decimal_digit 2 (omega arith)))
-first_line (suc (suc (suc n))) h ds one two =
-    let first : (suc (suc (suc n)) == 1) ≡ false = grind (arith, nat_tests) in
-    let second : (suc (suc (suc n)) == 2) ≡ false = grind (arith, nat_tests) in
-    absurd (let bad : false ≡ true = rw (first, second) at h in cc)
+first_line zero h ds one two three = absurd (let bad : false ≡ true = h in cc)
+first_line (suc zero) h ds one two three = one refl ∙ sym (ap (λ ds. codes "pipeline " ++ (ds ++ codes ";\n")) (decimal_digit 1 (omega arith)))
+first_line (suc (suc zero)) h ds one two three = two refl ∙ sym (ap (λ ds. codes "pipeline " ++ (ds ++ codes ";\n")) (decimal_digit 2 (omega arith)))
+first_line (suc (suc (suc zero))) h ds one two three = three refl ∙ sym (ap (λ ds. codes "pipeline " ++ (ds ++ codes ";\n")) (decimal_digit 3 (omega arith)))
+first_line (suc (suc (suc (suc n)))) h ds one two three =
+    let first : (suc (suc (suc (suc n))) == 1) ≡ false = grind (arith, nat_tests) in
+    let second : (suc (suc (suc (suc n))) == 2) ≡ false = grind (arith, nat_tests) in
+    let third : (suc (suc (suc (suc n))) == 3) ≡ false = grind (arith, nat_tests) in
+    absurd (let bad : false ≡ true = rw (first, second, third) at h in cc)
 
 pub begun_lines : (n : ℕ) (xs ys : List Statement) (made out line : List ℕ) → xs ≡ ys → made ≡ [] → out ≡ made ++ line → line ≡ version_text n → out ++ lines_text xs ≡ script_text n (statements_of ys)
 unfolding script_text

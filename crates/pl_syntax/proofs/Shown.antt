@@ -25,7 +25,7 @@ use Rattle.pl_spec.specs.Names.{is_digit, starts_word, is_word_byte, is_name}
 use Rattle.pl_tokens.specs.Tokens.{NoDecimals}
 use Rattle.pl_tokens.specs.Numerals.{number_text}
 use Rattle.pl_tokens.specs.Sound.{is_number, is_written}
-use Rattle.pl_tokens.proofs.Shows.{Shows, end_shows, pair_shows, word_shows, one_shows, two_shows, blank_shows, sign_shows, name_shows, text_shows, number_shows}
+use Rattle.pl_tokens.proofs.Shows.{Shows, end_shows, pair_shows, word_shows, one_shows, two_shows, three_shows, blank_shows, sign_shows, name_shows, text_shows, number_shows}
 use Rattle.pl_syntax.specs.Canonical.{prefix_text, binary_text, placed_text, name_text, comma_text, in_parentheses, tree_text, list_text, head_text, statements_text, version_text, script_text}
 
 -- what may follow an operand: nothing that a name or a number before it would take
@@ -294,10 +294,13 @@ number_line (suc zero) h rest us p s k =
     subst (λ z. Shows (z ++ rest) (mark p (t.Number (pos 1000000)) ∷ us)) (sym (decimal_digit 1 (omega arith))) (one_shows rest us p s k)
 number_line (suc (suc zero)) h rest us p s k =
     subst (λ z. Shows (z ++ rest) (mark p (t.Number (pos 2000000)) ∷ us)) (sym (decimal_digit 2 (omega arith))) (two_shows rest us p s k)
-number_line (suc (suc (suc n))) h rest us p s k =
-    let first : (suc (suc (suc n)) == 1) ≡ false = grind (arith, nat_tests) in
-    let second : (suc (suc (suc n)) == 2) ≡ false = grind (arith, nat_tests) in
-    absurd (let bad : false ≡ true = rw (first, second) at h in cc)
+number_line (suc (suc (suc zero))) h rest us p s k =
+    subst (λ z. Shows (z ++ rest) (mark p (t.Number (pos 3000000)) ∷ us)) (sym (decimal_digit 3 (omega arith))) (three_shows rest us p s k)
+number_line (suc (suc (suc (suc n)))) h rest us p s k =
+    let first : (suc (suc (suc (suc n))) == 1) ≡ false = grind (arith, nat_tests) in
+    let second : (suc (suc (suc (suc n))) == 2) ≡ false = grind (arith, nat_tests) in
+    let third : (suc (suc (suc (suc n))) == 3) ≡ false = grind (arith, nat_tests) in
+    absurd (let bad : false ≡ true = rw (first, second, third) at h in cc)
 
 pub script_shows : (n : ℕ) (ss : List Statement) → is_known n ≡ true → are_sound is_written ss ≡ true → Shows (script_text n ss) (script_tokens n ss)
 unfolding script_tokens script_text version_text

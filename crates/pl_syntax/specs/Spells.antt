@@ -13,7 +13,7 @@ pub record Parsed : Type 0 where
   pub statements : List Statement
   pub end : Place
 
--- The bytes are tokens, and the tokens derive the script by the grammar's rules, which are those of both
+-- The bytes are tokens, and the tokens derive the script by the grammar's rules, which are those of all
 -- versions, within the limits: 32 constructs inside one another, 1,024 tokens of a statement, and no number
 -- past the limits of numbers. The tokens tell the version.
 pub record Spells (bytes : List ℕ) (s : Parsed) : Type 0 where

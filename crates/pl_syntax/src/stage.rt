@@ -51,6 +51,8 @@ const FIRST: i64 = 1_000_000;
 
 const SECOND: i64 = 2_000_000;
 
+const THIRD: i64 = 3_000_000;
+
 // The version that a number names; 0 for none.
 fn version_of(value: i64) -> u32
     ensures { result ≡ version_of value }
@@ -59,6 +61,8 @@ fn version_of(value: i64) -> u32
         1
     } else if value == SECOND {
         2
+    } else if value == THIRD {
+        3
     } else {
         0
     }

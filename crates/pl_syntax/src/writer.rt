@@ -285,8 +285,10 @@ fn version_line(version: u32) -> &'static [u8]
 {
     if version == 1 {
         b"pipeline 1;\n"
-    } else {
+    } else if version == 2 {
         b"pipeline 2;\n"
+    } else {
+        b"pipeline 3;\n"
     }
 }
 

@@ -211,3 +211,7 @@ one_shows rest us p s k = token_shows (49 ∷ []) rest (Number 1 0) us p (t.Numb
 pub two_shows : (rest : List ℕ) (us : List Lexeme) (p : Place) → NoDecimals rest → Shows rest us → Shows (50 ∷ rest) (mark p (t.Number (pos 2000000)) ∷ us)
 unfolding div_round
 two_shows rest us p s k = token_shows (50 ∷ []) rest (Number 1 0) us p (t.Number (pos 2000000)) (a_whole 50 [] refl refl s) refl k
+
+pub three_shows : (rest : List ℕ) (us : List Lexeme) (p : Place) → NoDecimals rest → Shows rest us → Shows (51 ∷ rest) (mark p (t.Number (pos 3000000)) ∷ us)
+unfolding div_round
+three_shows rest us p s k = token_shows (51 ∷ []) rest (Number 1 0) us p (t.Number (pos 3000000)) (a_whole 51 [] refl refl s) refl k
