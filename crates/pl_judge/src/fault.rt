@@ -42,8 +42,8 @@ pub enum SyntaxFault {
     LongStatement,
 }
 
-/// The rule that the script of a pipeline file breaks; `CheckFault` of pl_check says where each comes, but for
-/// the last.
+/// The rule that the script of a pipeline file breaks; `CheckFault` of pl_check says where each but the last
+/// comes.
 #[derive(Clone, Copy, Debug, PartialEq, Eq)]
 pub enum RuleFault {
     UnknownName,
