@@ -9,8 +9,8 @@ use Rattle.pl_spec.specs.World.{World, IsWorld, day_of, bar_cell, events_of}
 use Rattle.pl_spec.specs.declared.Column.{Column}
 use Rattle.pl_spec.specs.Rounding.{IsCell}
 use Rattle.pl_spec.specs.Window.{seen_cell, after_all, effects, effects_in, step_count, step_of, bar_window}
-use Rattle.pl_laws.proofs.Buffer.{effects-split, no_effects, seen_next}
-use Rattle.pl_laws.proofs.Steps.{bars-alike}
+use Rattle.pl_spec.proofs.Buffer.{effects-split, no_effects, seen_next}
+use Rattle.pl_spec.proofs.Steps.{bars-alike}
 use Rattle.pl_spec.proofs.Windows.{bar_window-sessions}
 use Rattle.pl_spec.specs.Limits.{cut}
 use Rattle.pl_adjarray.specs.Buffered.{Buffered, AreSeen, HasCells, cell_at, ratio_count, row_count, applied_at, world_of}

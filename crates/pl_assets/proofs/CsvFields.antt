@@ -4,7 +4,7 @@ use Rattle.std.specs.List.{flat_map, list_any}
 use Rattle.std.proofs.lemmas.Bool.Decides.{nat_tests}
 use Rattle.csv.specs.Writing.{default_writer, escaped, field_text, needs_byte}
 use Rattle.pl_lifetimes.proofs.Filters.{any-same}
-use Rattle.pl_spec.specs.Text.{calls_for_quotes, quote, quoted_byte}
+use Rattle.pl_spec.specs.Lines.{calls_for_quotes, quote, quoted_byte}
 
 same_need : (b : ℕ) → calls_for_quotes b ≡ needs_byte default_writer b
 same_need b = here (b == 44) (b == 34) (b == 13) (b == 10)

@@ -4,7 +4,7 @@ ghost use Rattle.std.specs.Prelude.{◌≡◌, ◌<◌, ◌≤◌, ◌++◌, ◌
 ghost use Rattle.std.specs.List.{list_any, position_or_len};
 ghost use Rattle.pl_records.specs.Reading.{Answers};
 ghost use Rattle.pl_spec.specs.AsOf.{labels_by};
-ghost use Rattle.pl_spec.specs.Text.{quote};
+ghost use Rattle.pl_spec.specs.Lines.{quote};
 ghost use Rattle.pl_records.specs.Records.{csv_records};
 ghost use Rattle.pl_lifetimes.specs.Assets.{sid_of};
 ghost use Rattle.pl_assets.specs.Labels.{AreLabels, MayFollow, is_printable, label_on, label_row, labels_of, names_of, no_labels, with_label};

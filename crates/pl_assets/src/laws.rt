@@ -7,7 +7,7 @@ ghost use Rattle.csv.specs.Writing.{default_writer, field_text};
 ghost use Rattle.pl_spec.specs.declared.AssetRow.{AssetRow};
 ghost use Rattle.pl_records.specs.Reading.{Record, Fault, Judges};
 ghost use Rattle.pl_records.specs.RuleTable.{IsFirstBroken};
-ghost use Rattle.pl_spec.specs.Text.{quote};
+ghost use Rattle.pl_spec.specs.Lines.{quote};
 ghost use Rattle.pl_lifetimes.specs.Assets.{AreAssets};
 ghost use Rattle.pl_assets.specs.Labels as labels;
 ghost use Rattle.pl_assets.specs.LabelRules as label_rules;

@@ -2,8 +2,8 @@
 use Rattle.std.proofs.Common.{◌≡◌, ◌+◌, ℕ, pos, length, subst, ap, ◌∙◌, refl}
 use Rattle.std.specs.Int.RustNames.{unsigned_abs}
 use Rattle.pl_spec.specs.World.{World}
-use Rattle.pl_spec.specs.Graph.{bound}
-use Rattle.pl_spec.specs.Table.{Pipeline, table, cells}
+use Rattle.pl_pipeline.specs.Graph.{bound}
+use Rattle.pl_pipeline.specs.Table.{Pipeline, table, cells}
 use Rattle.pl_terms.specs.Uses.{outputs}
 use Rattle.pl_planner.specs.Plans.{Planned}
 use Rattle.pl_runner.specs.declared.run.RunReport.{RunReport}

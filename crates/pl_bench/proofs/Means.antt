@@ -1,6 +1,6 @@
 -- The script means the pipeline, by computing.
 use Rattle.std.proofs.Common.{◌≡◌, Ok, Err, refl, sym, ap, ◌∙◌}
-use Rattle.pl_spec.specs.Table.{Pipeline}
+use Rattle.pl_pipeline.specs.Table.{Pipeline}
 use Rattle.pl_grammar.specs.declared.Place.{Place}
 use Rattle.pl_syntax.specs.Spells.{Parsed}
 use Rattle.pl_check.specs.declared.fault.CheckFault.{CheckFault}

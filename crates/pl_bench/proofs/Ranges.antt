@@ -2,9 +2,9 @@
 use Rattle.std.proofs.Common.{◌≡◌, ℕ, zero, suc, ◌-◌, ℤ, pos, List, Some, slice_get, refl, subst, ◌∙◌, arith}
 use Rattle.std.proofs.lemmas.Int.{ints}
 use Rattle.pl_spec.specs.Window.{before}
-use Rattle.pl_spec.specs.Term.{Node, TermInput}
-use Rattle.pl_spec.specs.Graph.{reach, reads_at}
-use Rattle.pl_spec.specs.Lows.{Reads, input, mask, group, Needs, output, read, least_reach}
+use Rattle.pl_pipeline.specs.Term.{Node, TermInput}
+use Rattle.pl_pipeline.specs.Graph.{reach, reads_at}
+use Rattle.pl_pipeline.specs.Lows.{Reads, input, mask, group, Needs, output, read, least_reach}
 use Rattle.pl_spec.proofs.Windows.{before-zero}
 use Rattle.pl_terms.specs.Uses.{outputs}
 use Rattle.pl_planner.specs.declared.plans.PlanError.{PlanError}

@@ -2,8 +2,8 @@
 use Rattle.std.specs.Prelude.{◌≡◌, ℕ, pos, List, length}
 use Rattle.std.specs.Int.RustNames.{unsigned_abs}
 use Rattle.pl_spec.specs.World.{World}
-use Rattle.pl_spec.specs.Graph.{bound}
-use Rattle.pl_spec.specs.Table.{Row, table, cells}
+use Rattle.pl_pipeline.specs.Graph.{bound}
+use Rattle.pl_pipeline.specs.Table.{Row, table, cells}
 use Rattle.pl_terms.specs.Uses.{outputs}
 use Rattle.pl_planner.specs.Plans.{Planned}
 use Rattle.pl_runner.specs.Runs.{run_steps}

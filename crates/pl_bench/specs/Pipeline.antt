@@ -1,11 +1,11 @@
 -- The pipeline file, the script that it spells, and the pipeline that it means.
 use Rattle.std.specs.Prelude.{◌≡◌, ℕ, pos, List, [], ◌∷◌, ◌++◌, codes, Option, Some, None, Ok}
 use Rattle.pl_spec.specs.declared.Column.TheVariants.{Close, Volume}
-use Rattle.pl_spec.specs.declared.RankMethod.TheVariants.{Ordinal}
-use Rattle.pl_spec.specs.declared.RankOrder.TheVariants.{Ascending}
-use Rattle.pl_spec.specs.Kind.{Window, Cross, Label, AverageDollarVolume, Top, Returns, Rank}
-use Rattle.pl_spec.specs.Term.{Node, BarColumn, TermInput}
-use Rattle.pl_spec.specs.Table.{Pipeline}
+use Rattle.pl_pipeline.specs.declared.RankMethod.TheVariants.{Ordinal}
+use Rattle.pl_pipeline.specs.declared.RankOrder.TheVariants.{Ascending}
+use Rattle.pl_pipeline.specs.Kind.{Window, Cross, Label, AverageDollarVolume, Top, Returns, Rank}
+use Rattle.pl_pipeline.specs.Term.{Node, BarColumn, TermInput}
+use Rattle.pl_pipeline.specs.Table.{Pipeline}
 use Rattle.pl_grammar.specs.declared.Place.{Place}
 use Rattle.pl_grammar.specs.Tree.{Tree, number, text, name, call, method, no_args, arg}
 use Rattle.pl_grammar.specs.Script.{Statement, LetHead, ColumnHead, ScreenHead}

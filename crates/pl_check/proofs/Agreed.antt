@@ -5,8 +5,8 @@ use Rattle.std.specs.Option.{option_or}
 use Rattle.std.specs.List.{list_any}
 use Rattle.std.proofs.lemmas.List.{length-map, map-append}
 use Rattle.pl_spec.specs.Limits.{most_columns}
-use Rattle.pl_spec.specs.Term.{Term, Graph, term_at}
-use Rattle.pl_spec.specs.Table.{NamedColumn, Pipeline}
+use Rattle.pl_pipeline.specs.Term.{Term, Graph, term_at}
+use Rattle.pl_pipeline.specs.Table.{NamedColumn, Pipeline}
 use Rattle.pl_grammar.specs.declared.Place.{Place}
 use Rattle.pl_grammar.specs.Script.{Head, LetHead, ColumnHead, ScreenHead, Statement}
 use Rattle.pl_terms.proofs.Interning.{Later, later-still}

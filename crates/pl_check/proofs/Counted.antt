@@ -6,9 +6,9 @@ use Rattle.std.specs.List.{Contains, cons_option}
 use Rattle.std.proofs.lemmas.Bool.{cases_lt}
 use Rattle.std.proofs.lemmas.List.{map-append}
 use Rattle.std.proofs.lemmas.List.Elements.{Contains-get_or, Contains-append_left, Contains-append_right, Contains-append_cases}
-use Rattle.pl_spec.proofs.Distinct.{one_tree}
+use Rattle.pl_pipeline.proofs.Distinct.{one_tree}
 use Rattle.pl_spec.specs.Limits.{most_terms}
-use Rattle.pl_spec.specs.Term.{Term, absent, TermInput, Node, Graph, IsGraph, MentionsBelow, tree_over, trees, term_at}
+use Rattle.pl_pipeline.specs.Term.{Term, absent, TermInput, Node, Graph, IsGraph, MentionsBelow, tree_over, trees, term_at}
 use Rattle.pl_terms.specs.Nodes.{Interned, interned}
 use Rattle.pl_terms.proofs.Interning.{Later, later-same, later-still, later-more, length-trees, IsPut, put, IsFull, refused}
 use Rattle.pl_check.specs.declared.operation.Operation.{Operation}

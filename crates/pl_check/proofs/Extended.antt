@@ -5,7 +5,7 @@ use Rattle.std.specs.Option.{option_or}
 use Rattle.std.specs.List.{list_any}
 use Rattle.pl_spec.specs.Limits.{most_columns}
 use Rattle.std.proofs.lemmas.List.Elements.{Contains-append_left}
-use Rattle.pl_spec.specs.Term.{Term, tree_at}
+use Rattle.pl_pipeline.specs.Term.{Term, tree_at}
 use Rattle.pl_grammar.specs.declared.Place.{Place}
 use Rattle.pl_grammar.specs.declared.PrefixSign.{PrefixSign}
 use Rattle.pl_grammar.specs.declared.PrefixSign.TheVariants.{Minus, Not}

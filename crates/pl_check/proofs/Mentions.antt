@@ -2,8 +2,8 @@
 use Rattle.std.proofs.Common.{◌≡◌, ℕ, zero, suc, ◌<◌, Bool, true, false, List, [], ◌∷◌, length, Option, Some, None, slice_get, option_map, sym, ap, subst, ◌∙◌, refl}
 use Rattle.std.proofs.lemmas.Bool.{and_parts}
 use Rattle.std.proofs.lemmas.Option.{slice_get_within}
-use Rattle.pl_spec.specs.Term.{Graph, Node, Input, TermInput, MentionsBelow}
-use Rattle.pl_spec.specs.Text.{kind_at}
+use Rattle.pl_pipeline.specs.Term.{Graph, Node, Input, TermInput, MentionsBelow}
+use Rattle.pl_pipeline.specs.Text.{kind_at}
 use Rattle.pl_terms.specs.Sorts as sorts
 use Rattle.pl_terms.specs.Sorts.{Place, Series, sort_of, sort_at, takes_sort, fits, all_fit, optional_fits, has_mask, has_group, places, IsAllowed}
 

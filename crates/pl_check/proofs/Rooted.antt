@@ -4,8 +4,8 @@ use Rattle.std.specs.Prelude.{filter_map, option_and_then}
 use Rattle.std.specs.List.{cons_option}
 use Rattle.std.proofs.lemmas.List.{map-append}
 use Rattle.pl_spec.specs.declared.Column.{Column}
-use Rattle.pl_spec.specs.Kind.{Kind}
-use Rattle.pl_spec.specs.Term.{Term, absent, column, node, Input, BarColumn, TermInput, Graph, MentionsBelow, input_tree, number_tree, tree_over, trees, term_at}
+use Rattle.pl_pipeline.specs.Kind.{Kind}
+use Rattle.pl_pipeline.specs.Term.{Term, absent, column, node, Input, BarColumn, TermInput, Graph, MentionsBelow, input_tree, number_tree, tree_over, trees, term_at}
 use Rattle.pl_terms.proofs.Interning.{Later}
 use Rattle.pl_check.specs.declared.operation.Operation.{Operation}
 use Rattle.pl_check.specs.declared.operation.Parameter.{Parameter}

@@ -4,8 +4,8 @@ use Rattle.std.specs.Prelude.{option_and_then}
 use Rattle.std.specs.List.{list_all, list_any, filter_map, cons_option}
 use Rattle.std.proofs.Math.Bool.{or-true, not-or_self}
 use Rattle.pl_spec.specs.declared.Column.{Column}
-use Rattle.pl_spec.specs.Kind.{Kind}
-use Rattle.pl_spec.specs.Term.{Graph, Node, Input, BarColumn, TermInput}
+use Rattle.pl_pipeline.specs.Kind.{Kind}
+use Rattle.pl_pipeline.specs.Term.{Graph, Node, Input, BarColumn, TermInput}
 use Rattle.pl_terms.specs.Sorts.{is_windowed, is_safe_kind, is_safe_over, IsSafe, of_kind, of_inputs}
 use Rattle.pl_check.specs.declared.operation.Operation.{Operation}
 use Rattle.pl_check.specs.declared.operation.Operation.TheVariants as op

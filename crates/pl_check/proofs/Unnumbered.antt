@@ -3,7 +3,7 @@ use Rattle.std.proofs.Common.{◌≡◌, ℕ, ℤ, Bool, true, false, ◌&&◌, 
 use Rattle.std.specs.Prelude.{filter, is_some, option_and_then}
 use Rattle.std.proofs.lemmas.List.{length-map, map-append}
 use Rattle.std.specs.Int.RustNames.{int_le}
-use Rattle.pl_spec.specs.Kind as kind
+use Rattle.pl_pipeline.specs.Kind as kind
 use Rattle.pl_grammar.specs.declared.BinarySign.{BinarySign}
 use Rattle.pl_grammar.specs.declared.BinarySign.TheVariants as signs
 use Rattle.pl_check.specs.declared.operation.Operation.{Operation}

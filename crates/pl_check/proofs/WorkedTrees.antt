@@ -1,7 +1,7 @@
 -- A script with its trees, worked out by hand.
 use Rattle.std.specs.Prelude.{◌≡◌, ℕ, pos, [], ◌∷◌, codes, None, Ok, refl}
-use Rattle.pl_spec.specs.Kind.{Point, Constant, Sub}
-use Rattle.pl_spec.specs.Term.{Term, absent, node}
+use Rattle.pl_pipeline.specs.Kind.{Point, Constant, Sub}
+use Rattle.pl_pipeline.specs.Term.{Term, absent, node}
 use Rattle.pl_grammar.specs.declared.Place.{Place}
 use Rattle.pl_grammar.specs.declared.BinarySign.TheVariants as sign
 use Rattle.pl_grammar.specs.Tree.{number, binary}

@@ -2,8 +2,8 @@
 use Rattle.std.specs.Prelude.{◌≡◌, ◌<◌, ◌≤◌, ◌⊎◌, ℕ, List, [], ◌∷◌, ◌++◌, length, map, option_map, Ok, Err}
 use Rattle.std.specs.List.{Contains}
 use Rattle.pl_spec.specs.Limits.{most_terms}
-use Rattle.pl_spec.specs.Term.{Term, Graph, tree_at, trees, term_at}
-use Rattle.pl_spec.specs.Table.{NamedColumn, Pipeline}
+use Rattle.pl_pipeline.specs.Term.{Term, Graph, tree_at, trees, term_at}
+use Rattle.pl_pipeline.specs.Table.{NamedColumn, Pipeline}
 use Rattle.pl_syntax.specs.Spells.{Parsed}
 use Rattle.pl_check.specs.declared.fault.CheckFault.TheVariants.{TooManyTerms}
 use Rattle.pl_check.specs.Faults.{Broken}

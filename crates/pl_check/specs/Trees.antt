@@ -6,8 +6,8 @@ use Rattle.std.specs.List.{list_any}
 use lib.IntN.{neg_ℤ}
 use Rattle.pl_spec.specs.Limits.{most_columns}
 use Rattle.pl_spec.specs.declared.Column.{Column}
-use Rattle.pl_spec.specs.Kind.{Kind, Constant}
-use Rattle.pl_spec.specs.Term.{Term, absent, column, node}
+use Rattle.pl_pipeline.specs.Kind.{Kind, Constant}
+use Rattle.pl_pipeline.specs.Term.{Term, absent, column, node}
 use Rattle.pl_grammar.specs.declared.Place.{Place}
 use Rattle.pl_grammar.specs.declared.PrefixSign.{PrefixSign}
 use Rattle.pl_grammar.specs.declared.PrefixSign.TheVariants.{Minus}

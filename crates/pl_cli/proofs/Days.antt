@@ -1,7 +1,7 @@
 -- How a table that is computed session by session ends.
 use Rattle.std.proofs.Common.{◌≡◌, ℕ, ◌+◌, ◌≤◌, Option, Some, Result, Ok, Err, OnOk, refl, subst}
 use Rattle.pl_spec.specs.World.{World}
-use Rattle.pl_spec.specs.Table.{Pipeline}
+use Rattle.pl_pipeline.specs.Table.{Pipeline}
 use Rattle.pl_terms.specs.Checked.{pipeline_of}
 use Rattle.pl_feed.specs.Feeds.{daily_steps}
 use Rattle.pl_words.specs.Request.{Daily, RunRequest}

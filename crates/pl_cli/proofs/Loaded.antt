@@ -2,8 +2,8 @@
 use Rattle.std.proofs.Common.{◌≡◌, ℕ, ◌+◌, ◌≤◌, Bool, cond, List, [], Option, Some, Result, Ok, Err, OnOk, IfOk, refl, sym, ap, ◌∙◌}
 use Rattle.pl_spec.specs.declared.Format.{Format}
 use Rattle.pl_spec.specs.World.{World}
-use Rattle.pl_spec.specs.Table.{Pipeline, table}
-use Rattle.pl_spec.specs.Text.{text}
+use Rattle.pl_pipeline.specs.Table.{Pipeline, table}
+use Rattle.pl_pipeline.specs.Text.{text}
 use Rattle.pl_syntax.specs.Spells.{Parsed}
 use Rattle.pl_syntax.specs.Canonical.{script_text}
 use Rattle.pl_terms.specs.Checked.{pipeline_of}

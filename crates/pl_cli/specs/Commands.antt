@@ -1,8 +1,8 @@
 -- How a command ends, in the words of the code.
 use Rattle.std.specs.Prelude.{◌≡◌, ℕ, ◌+◌, ◌≤◌, List, [], length, Bool, if◌then◌else◌, IsTrue, Option, Some, None, Result, Ok, Err, OnOk, IfOk, IfErr}
 use Rattle.pl_spec.specs.declared.Format.{Format}
-use Rattle.pl_spec.specs.Table.{table}
-use Rattle.pl_spec.specs.Text.{text}
+use Rattle.pl_pipeline.specs.Table.{table}
+use Rattle.pl_pipeline.specs.Text.{text}
 use Rattle.pl_outside.specs.Counts.{Rose, count_plus}
 use Rattle.pl_outside.specs.Files.{BeginsAll}
 use Rattle.pl_outside.specs.Left.{LeavesSink}

@@ -2,9 +2,9 @@
 use Rattle.std.specs.Prelude.{◌≡◌, ℕ, ℤ, pos, List, [], ◌∷◌, ◌++◌, length, codes, decimal, if◌then◌else◌, Option, Some, None}
 use Rattle.std.specs.Int.RustNames.{unsigned_abs}
 use Rattle.pl_spec.specs.World.{World}
-use Rattle.pl_spec.specs.Table.{Pipeline, Row, table, cells}
-use Rattle.pl_spec.specs.Text.{text}
-use Rattle.pl_spec.specs.Graph.{bound}
+use Rattle.pl_pipeline.specs.Table.{Pipeline, Row, table, cells}
+use Rattle.pl_pipeline.specs.Text.{text}
+use Rattle.pl_pipeline.specs.Graph.{bound}
 use Rattle.pl_spec.specs.Limits.{cut}
 use Rattle.pl_terms.specs.Uses.{outputs}
 use Rattle.pl_plan_text.specs.Text.{plan_text}

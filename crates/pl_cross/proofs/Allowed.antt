@@ -1,9 +1,9 @@
 -- What the language allows is what the calls ask for.
 use Rattle.std.proofs.Common.{◌≡◌, ℕ, true, leb-true}
 use Rattle.std.proofs.lemmas.Bool.{and_parts}
-use Rattle.pl_spec.specs.Kind.{Kind}
-use Rattle.pl_spec.specs.Kind.Kind.{Constant, Label, Number, StaticSids, Window, Point, LabelTest, Cross, Downsample}
-use Rattle.pl_spec.specs.Kind.CrossKind.{Rank, Demean, ZScore, Quantiles, Top, Bottom, PercentileBetween, PeerCount}
+use Rattle.pl_pipeline.specs.Kind.{Kind}
+use Rattle.pl_pipeline.specs.Kind.Kind.{Constant, Label, Number, StaticSids, Window, Point, LabelTest, Cross, Downsample}
+use Rattle.pl_pipeline.specs.Kind.CrossKind.{Rank, Demean, ZScore, Quantiles, Top, Bottom, PercentileBetween, PeerCount}
 use Rattle.pl_terms.specs.Sorts.{has_parameters}
 use Rattle.pl_cross.specs.Section.{HasParameters}
 

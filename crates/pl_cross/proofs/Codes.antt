@@ -5,9 +5,9 @@ use Rattle.std.proofs.lemmas.Bool.Decides.{Decides-int_eq}
 use Rattle.std.proofs.lemmas.Slice.Eq.{bytes_eq-Decides}
 use Rattle.std.proofs.lemmas.List.Quantifiers.{position-Some}
 use Rattle.pl_spec.specs.Rounding.{MISSING, is_present}
-use Rattle.pl_spec.specs.Value.{Value, number_of, is_same}
-use Rattle.pl_spec.specs.Value.Value.{Number, Text}
-use Rattle.pl_spec.specs.Table.{in_array}
+use Rattle.pl_pipeline.specs.Value.{Value, number_of, is_same}
+use Rattle.pl_pipeline.specs.Value.Value.{Number, Text}
+use Rattle.pl_pipeline.specs.Table.{in_array}
 use Rattle.pl_spec.proofs.Places.{nowhere}
 
 -- after a text's code stands the text

@@ -2,11 +2,11 @@
 use Rattle.std.proofs.Common.{◌≡◌, ◌⊎◌, ℕ, Bool, true, false, ◌&&◌, cond, if◌then◌else◌, ℤ, List, [], ◌∷◌, filter, find, Option, Some, None, option_and_then, refl, sym, ◌∙◌, ap, subst, inl, inr, Contains}
 use Rattle.pl_spec.specs.Rounding.{MISSING}
 use Rattle.pl_spec.specs.World.{World, LabelRow, day_of, exists, last_started, is_label_of, nonempty, label_at}
-use Rattle.pl_spec.specs.Kind.Kind.{Label}
-use Rattle.pl_spec.specs.Term.{Term}
-use Rattle.pl_spec.specs.Term.Term.{node}
-use Rattle.pl_spec.specs.Value.{passes, part_of, name_at, label_value, step, value}
-use Rattle.pl_spec.specs.Value.Value.{Number}
+use Rattle.pl_pipeline.specs.Kind.Kind.{Label}
+use Rattle.pl_pipeline.specs.Term.{Term}
+use Rattle.pl_pipeline.specs.Term.Term.{node}
+use Rattle.pl_pipeline.specs.Value.{passes, part_of, name_at, label_value, step, value}
+use Rattle.pl_pipeline.specs.Value.Value.{Number}
 use Rattle.pl_spec.proofs.Members.{In, in-contains}
 use Rattle.pl_cross.specs.Arrays.{HasTexts}
 use Rattle.pl_cross.proofs.Members.{in-filter}

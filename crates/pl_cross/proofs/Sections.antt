@@ -8,19 +8,19 @@ use Rattle.std.proofs.lemmas.Simd.{map-map}
 use Rattle.std.proofs.lemmas.List.{length-map}
 use Rattle.pl_spec.specs.Rounding.{MISSING, MILLION, is_present}
 use Rattle.pl_spec.specs.World.{World, exists}
-use Rattle.pl_spec.specs.Kind.{CrossKind}
-use Rattle.pl_spec.specs.Kind.CrossKind.{Rank, Demean, ZScore, Quantiles, Top, Bottom, PercentileBetween, PeerCount}
-use Rattle.pl_spec.specs.Kind.Kind.{Cross}
-use Rattle.pl_spec.specs.Cross.{Entry, cross, cross_at, entries_for, counts_at, same_group, at}
-use Rattle.pl_spec.specs.Term.{Term, Node, Graph, IsGraph, input_tree, trees}
-use Rattle.pl_spec.specs.Term.Term.{node}
-use Rattle.pl_spec.specs.Value.{Part, Value, number_of, now, passes, in_group, is_same, entry, counts_for, eligible, group_of, is_cross_filter, empty, sort_over, sort_kind, step, value, part_of}
-use Rattle.pl_spec.specs.Value.Part.{Nothing, Bars, Values}
-use Rattle.pl_spec.specs.Value.Value.{Number}
-use Rattle.pl_spec.specs.NodeValue.{meaning_of, input_part, number_part}
-use Rattle.pl_spec.specs.Table.{in_array}
-use Rattle.pl_spec.specs.Formula.{is_true}
-use Rattle.pl_spec.proofs.Unfolds.{value_at-node}
+use Rattle.pl_pipeline.specs.Kind.{CrossKind}
+use Rattle.pl_pipeline.specs.Kind.CrossKind.{Rank, Demean, ZScore, Quantiles, Top, Bottom, PercentileBetween, PeerCount}
+use Rattle.pl_pipeline.specs.Kind.Kind.{Cross}
+use Rattle.pl_pipeline.specs.Cross.{Entry, cross, cross_at, entries_for, counts_at, same_group, at}
+use Rattle.pl_pipeline.specs.Term.{Term, Node, Graph, IsGraph, input_tree, trees}
+use Rattle.pl_pipeline.specs.Term.Term.{node}
+use Rattle.pl_pipeline.specs.Value.{Part, Value, number_of, now, passes, in_group, is_same, entry, counts_for, eligible, group_of, is_cross_filter, empty, sort_over, sort_kind, step, value, part_of}
+use Rattle.pl_pipeline.specs.Value.Part.{Nothing, Bars, Values}
+use Rattle.pl_pipeline.specs.Value.Value.{Number}
+use Rattle.pl_pipeline.specs.NodeValue.{meaning_of, input_part, number_part}
+use Rattle.pl_pipeline.specs.Table.{in_array}
+use Rattle.pl_spec.specs.Cells.{is_true}
+use Rattle.pl_pipeline.proofs.Unfolds.{value_at-node}
 use Rattle.pl_spec.proofs.Lists.{filter-map, filter-twice}
 use Rattle.pl_cross.specs.Listing.{labels_for, group_at}
 use Rattle.pl_cross.specs.Arrays.{sid_in, IsArray, IsNumbered, IsLabelled, IsGroupArray, HasNumbers, Columns, AreArrays, AreNodeArrays, empty_number, section_at, section_in}

@@ -2,18 +2,18 @@
 use Rattle.std.specs.Prelude.{◌≡◌, ◌≢◌, ◌⊎◌, ℕ, ◌<◌, ◌&&◌, if◌then◌else◌, ℤ, pos, List, [], length, filter, get_or, Option, Some, None, slice_get, AllPairs, Contains}
 use Rattle.pl_spec.specs.Rounding.{MISSING}
 use Rattle.pl_spec.specs.World.{World, LabelRow, exists, living_sids}
-use Rattle.pl_spec.specs.Kind.{CrossKind}
-use Rattle.pl_spec.specs.Kind.CrossKind.{PeerCount}
-use Rattle.pl_spec.specs.Kind.Kind.{Cross, Label}
-use Rattle.pl_spec.specs.Formula.{is_true}
-use Rattle.pl_spec.specs.Cross.{at, cross_at}
-use Rattle.pl_spec.specs.Term.{Term, Node, Graph, IsGraph}
-use Rattle.pl_spec.specs.Term.Term.{node}
-use Rattle.pl_spec.specs.Value.{Part, part_of, now, passes, group_of, is_cross_filter, value}
-use Rattle.pl_spec.specs.Value.Part.{Nothing, Values}
-use Rattle.pl_spec.specs.Value.Value.{Number, Text}
-use Rattle.pl_spec.specs.NodeValue.{meaning_of, input_part, number_part}
-use Rattle.pl_spec.specs.Table.{in_array}
+use Rattle.pl_pipeline.specs.Kind.{CrossKind}
+use Rattle.pl_pipeline.specs.Kind.CrossKind.{PeerCount}
+use Rattle.pl_pipeline.specs.Kind.Kind.{Cross, Label}
+use Rattle.pl_spec.specs.Cells.{is_true}
+use Rattle.pl_pipeline.specs.Cross.{at, cross_at}
+use Rattle.pl_pipeline.specs.Term.{Term, Node, Graph, IsGraph}
+use Rattle.pl_pipeline.specs.Term.Term.{node}
+use Rattle.pl_pipeline.specs.Value.{Part, part_of, now, passes, group_of, is_cross_filter, value}
+use Rattle.pl_pipeline.specs.Value.Part.{Nothing, Values}
+use Rattle.pl_pipeline.specs.Value.Value.{Number, Text}
+use Rattle.pl_pipeline.specs.NodeValue.{meaning_of, input_part, number_part}
+use Rattle.pl_pipeline.specs.Table.{in_array}
 use Rattle.pl_cross.specs.Listing.{labels_for}
 
 -- the sid of a place

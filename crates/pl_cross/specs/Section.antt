@@ -1,11 +1,11 @@
 -- The cross-sections of the code as kinds of the definitions.
 use Rattle.std.specs.Prelude.{◌≡◌, ℕ, ◌≤◌, Bool, true, false, not, ℤ, neg_ℤ}
-use Rattle.pl_spec.specs.declared.RankOrder.{RankOrder}
-use Rattle.pl_spec.specs.declared.RankOrder.TheVariants.{Ascending, Descending}
-use Rattle.pl_spec.specs.Kind.{Kind, CrossKind}
-use Rattle.pl_spec.specs.Kind.Kind.{Cross}
-use Rattle.pl_spec.specs.Kind.CrossKind.{Rank, Demean, ZScore, Quantiles, Top, Bottom, PercentileBetween, PeerCount}
-use Rattle.pl_spec.specs.Value.{is_cross_filter}
+use Rattle.pl_pipeline.specs.declared.RankOrder.{RankOrder}
+use Rattle.pl_pipeline.specs.declared.RankOrder.TheVariants.{Ascending, Descending}
+use Rattle.pl_pipeline.specs.Kind.{Kind, CrossKind}
+use Rattle.pl_pipeline.specs.Kind.Kind.{Cross}
+use Rattle.pl_pipeline.specs.Kind.CrossKind.{Rank, Demean, ZScore, Quantiles, Top, Bottom, PercentileBetween, PeerCount}
+use Rattle.pl_pipeline.specs.Value.{is_cross_filter}
 use Rattle.pl_terms.specs.Sorts.{has_parameters}
 use Rattle.pl_cross.specs.declared.section.Section.{Section}
 use Rattle.pl_cross.specs.declared.section.Section.TheVariants as code

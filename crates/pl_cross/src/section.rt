@@ -1,10 +1,10 @@
 //! The cross-sections among the kinds of terms.
 ghost use Rattle.std.specs.Prelude.{◌≡◌, true};
-ghost use Rattle.pl_spec.specs.Kind.Kind.{Cross};
+ghost use Rattle.pl_pipeline.specs.Kind.Kind.{Cross};
 ghost use Rattle.pl_terms.specs.Kinds.{kind_of};
 ghost use Rattle.pl_cross.specs.Section.{cross_of, is_section, order_of};
 
-use pl_spec::{RankMethod, RankOrder};
+use pl_pipeline::{RankMethod, RankOrder};
 use pl_terms::TermKind;
 
 /// What is computed over a session's assets. The bounds of `PercentileBetween` are hundredths of a percent.

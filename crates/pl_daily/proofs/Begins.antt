@@ -10,8 +10,8 @@ use Rattle.std.specs.Int.Signed.{≤ℤ_refl}
 use Rattle.circular_buffer.proofs.Places.{slice_get-append_left, slice_get-append_right}
 use Rattle.pl_spec.specs.declared.Frequency.{Frequency}
 use Rattle.pl_spec.specs.Periods.{period, same_period, first_session, period_start}
-use Rattle.pl_spec.specs.Table.{Pipeline, value_of, in_array}
-use Rattle.pl_spec.specs.Term.{term_at}
+use Rattle.pl_pipeline.specs.Table.{Pipeline, value_of, in_array}
+use Rattle.pl_pipeline.specs.Term.{term_at}
 use Rattle.pl_spec.specs.Window.{before}
 use Rattle.pl_spec.proofs.Places.{first_at}
 use Rattle.pl_spec.proofs.PeriodsRise.{period-rises}
@@ -20,7 +20,7 @@ use Rattle.pl_laws.proofs.Starts.{start-same, start-within}
 use Rattle.pl_cross.specs.Arrays.{sid_in}
 use Rattle.pl_rings.specs.Days.{Start, FedDay, fed, days_of, last_day, last_session, IsStart, AreFed}
 use Rattle.pl_rings.proofs.Fed.{length-days, all_before}
-use Rattle.pl_rings.proofs.Values.{values_stay}
+use Rattle.pl_day_rows.proofs.Values.{values_stay}
 use Rattle.pl_day_rows.specs.declared.turn.TermCells.{TermCells}
 use Rattle.pl_day_rows.specs.Rows.{sids_of}
 use Rattle.pl_day_rows.specs.Turns.{cell_on}

@@ -3,11 +3,11 @@ use Rattle.std.proofs.Common.{rules, IfNone, IfSome, ◌≡◌, ℕ, true, false
 use Rattle.std.proofs.lemmas.Bool.{true≢false}
 use Rattle.std.proofs.lemmas.Option.{same_Some}
 use Rattle.pl_spec.specs.declared.Frequency.{Frequency}
-use Rattle.pl_spec.specs.Kind.{Kind}
-use Rattle.pl_spec.specs.Kind.Kind.{Downsample}
-use Rattle.pl_spec.specs.Table.{Pipeline}
-use Rattle.pl_spec.specs.Term.{Input, Node}
-use Rattle.pl_spec.specs.Term.Input.{BarColumn, TermInput}
+use Rattle.pl_pipeline.specs.Kind.{Kind}
+use Rattle.pl_pipeline.specs.Kind.Kind.{Downsample}
+use Rattle.pl_pipeline.specs.Table.{Pipeline}
+use Rattle.pl_pipeline.specs.Term.{Input, Node}
+use Rattle.pl_pipeline.specs.Term.Input.{BarColumn, TermInput}
 use Rattle.pl_terms.specs.Sorts.{first_term, is_downsampled}
 use Rattle.pl_terms.specs.Uses.{is_used}
 use Rattle.pl_terms.specs.Kinds.{kind_of}

@@ -9,12 +9,12 @@ use Rattle.std.specs.Cmp.{both_ways}
 use Rattle.std.proofs.lemmas.List.Folds.{list_all-append}
 use Rattle.pl_spec.specs.declared.Frequency.{Frequency}
 use Rattle.pl_spec.specs.Periods.{period_start}
-use Rattle.pl_spec.specs.Term.{Term, Node, term_at, IsGraph}
-use Rattle.pl_spec.specs.Graph.{contains, mentions, reach, reads_at, Used}
-use Rattle.pl_spec.specs.Graph.Used.{output, mentioned}
-use Rattle.pl_spec.specs.Lows.{least_reach}
-use Rattle.pl_spec.specs.Table.{Pipeline}
-use Rattle.pl_spec.proofs.Unfolds.{past}
+use Rattle.pl_pipeline.specs.Term.{Term, Node, term_at, IsGraph}
+use Rattle.pl_pipeline.specs.Graph.{contains, mentions, reach, reads_at, Used}
+use Rattle.pl_pipeline.specs.Graph.Used.{output, mentioned}
+use Rattle.pl_pipeline.specs.Lows.{least_reach}
+use Rattle.pl_pipeline.specs.Table.{Pipeline}
+use Rattle.pl_pipeline.proofs.Unfolds.{past}
 use Rattle.pl_spec.proofs.Signed.{le-int_le, int_le-true}
 use Rattle.pl_laws.proofs.Calendars.{reach-same}
 use Rattle.pl_laws.proofs.Reaches.{AllFrom, below_least}

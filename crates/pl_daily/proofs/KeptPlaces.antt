@@ -6,10 +6,10 @@ use Rattle.std.proofs.lemmas.Int.{ints}
 use Rattle.std.proofs.lemmas.List.Elements.{All-filter}
 use Rattle.std.proofs.lemmas.List.FromFn.{get_or-range_with_len, length-range_with_len}
 use Rattle.pl_spec.specs.declared.AssetRow.{AssetRow}
-use Rattle.pl_spec.specs.Formula.{is_true}
+use Rattle.pl_spec.specs.Cells.{is_true}
 use Rattle.pl_spec.specs.Parts.{sid_at}
-use Rattle.pl_spec.specs.Table.{Pipeline, value_of, is_kept, kept_sids}
-use Rattle.pl_spec.specs.Value.{holds}
+use Rattle.pl_pipeline.specs.Table.{Pipeline, value_of, is_kept, kept_sids}
+use Rattle.pl_pipeline.specs.Value.{holds}
 use Rattle.pl_spec.specs.Window.{before}
 use Rattle.pl_spec.specs.World.{World, day_of, living_sids, lives_on}
 use Rattle.pl_spec.proofs.Lists.{filter-map}

@@ -6,18 +6,18 @@ use Rattle.std.proofs.lemmas.Bool.Decides.{nat_tests}
 use Rattle.std.proofs.lemmas.Int.{ints}
 use Rattle.std.proofs.lemmas.List.Folds.{list_any-append}
 use Rattle.std.proofs.lemmas.Option.{slice_get_within}
-use Rattle.pl_spec.specs.Kind.{Kind}
-use Rattle.pl_spec.specs.Kind.Kind.{Constant, Label, Number, StaticSids, Window, Point, LabelTest, Cross, Downsample}
+use Rattle.pl_pipeline.specs.Kind.{Kind}
+use Rattle.pl_pipeline.specs.Kind.Kind.{Constant, Label, Number, StaticSids, Window, Point, LabelTest, Cross, Downsample}
 use Rattle.pl_spec.specs.declared.Frequency.{Frequency}
 use Rattle.pl_spec.specs.Periods.{period_start}
 use Rattle.pl_spec.specs.Window.{before, downward}
-use Rattle.pl_spec.specs.Term.{Term, Input, Node, Graph, input_tree, number_tree, trees, term_at, MentionsBelow, IsGraph}
-use Rattle.pl_spec.specs.Term.Term.{absent, column, node}
-use Rattle.pl_spec.specs.Term.Input.{BarColumn, TermInput}
-use Rattle.pl_spec.specs.Graph.{input_number, mentions, contains, least_of, part_reach, reads_at, reach}
-use Rattle.pl_spec.proofs.Trees.{term_at-node}
-use Rattle.pl_spec.proofs.Unfolds.{past}
-use Rattle.pl_spec.proofs.Contained.{option-in, input-in}
+use Rattle.pl_pipeline.specs.Term.{Term, Input, Node, Graph, input_tree, number_tree, trees, term_at, MentionsBelow, IsGraph}
+use Rattle.pl_pipeline.specs.Term.Term.{absent, column, node}
+use Rattle.pl_pipeline.specs.Term.Input.{BarColumn, TermInput}
+use Rattle.pl_pipeline.specs.Graph.{input_number, mentions, contains, least_of, part_reach, reads_at, reach}
+use Rattle.pl_pipeline.proofs.Trees.{term_at-node}
+use Rattle.pl_pipeline.proofs.Unfolds.{past}
+use Rattle.pl_pipeline.proofs.Contained.{option-in, input-in}
 use Rattle.pl_laws.proofs.Lows.{reach-rises, reaches-rise, reads_at-within, least_above}
 use Rattle.pl_laws.proofs.Reaches.{AllFrom, below_least, at_downward}
 use Rattle.pl_daily.specs.Reaches.{IsFirst}

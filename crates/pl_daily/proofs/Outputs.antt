@@ -4,10 +4,10 @@ use Rattle.std.proofs.lemmas.List.{length-map}
 use Rattle.std.proofs.lemmas.Option.{slice_get_within}
 use Rattle.circular_buffer.proofs.Places.{slice_get-append_left, slice_get-append_right}
 use Rattle.pl_spec.specs.declared.Frequency.{Frequency}
-use Rattle.pl_spec.specs.Kind.Kind.{Downsample}
-use Rattle.pl_spec.specs.Table.{Pipeline, NamedColumn}
-use Rattle.pl_spec.specs.Term.{Graph, Input, Node}
-use Rattle.pl_spec.specs.Term.Input.{BarColumn, TermInput}
+use Rattle.pl_pipeline.specs.Kind.Kind.{Downsample}
+use Rattle.pl_pipeline.specs.Table.{Pipeline, NamedColumn}
+use Rattle.pl_pipeline.specs.Term.{Graph, Input, Node}
+use Rattle.pl_pipeline.specs.Term.Input.{BarColumn, TermInput}
 use Rattle.pl_terms.specs.Checked.{IsChecked, Parts, columns_of, pipeline_of}
 use Rattle.pl_terms.specs.declared.checked.NamedColumn as code
 use Rattle.pl_terms.specs.declared.node.TermId.{TermId}

@@ -5,16 +5,16 @@ use Rattle.std.proofs.lemmas.List.{get_or_default}
 use Rattle.std.proofs.lemmas.Option.{slice_get_within}
 use Rattle.pl_spec.specs.declared.Column.{Column}
 use Rattle.pl_spec.specs.declared.Frequency.{Frequency}
-use Rattle.pl_spec.specs.Kind.Kind.{Downsample}
+use Rattle.pl_pipeline.specs.Kind.Kind.{Downsample}
 use Rattle.pl_spec.specs.Periods.{period_start}
 use Rattle.pl_spec.specs.Rounding.{IsCell}
-use Rattle.pl_spec.specs.Table.{Pipeline}
-use Rattle.pl_spec.specs.Term.{Node}
-use Rattle.pl_spec.specs.Term.Input.{BarColumn, TermInput}
+use Rattle.pl_pipeline.specs.Table.{Pipeline}
+use Rattle.pl_pipeline.specs.Term.{Node}
+use Rattle.pl_pipeline.specs.Term.Input.{BarColumn, TermInput}
 use Rattle.pl_spec.specs.Window.{bar_window}
 use Rattle.pl_spec.specs.World.{World}
-use Rattle.pl_spec.specs.Graph.{Used, contains, mentions_at}
-use Rattle.pl_spec.specs.Lows.{Reads}
+use Rattle.pl_pipeline.specs.Graph.{Used, contains, mentions_at}
+use Rattle.pl_pipeline.specs.Lows.{Reads}
 use Rattle.pl_laws.proofs.Uses.{used_terms-sound, used_terms-complete, lower}
 use Rattle.pl_assets.specs.Labels.{AreLabels}
 use Rattle.pl_terms.specs.declared.node.Node as code

@@ -3,7 +3,7 @@ use Rattle.std.proofs.Common.{◌≡◌, ℕ, ◌<◌, true, ℤ, pos, List, len
 use Rattle.std.proofs.lemmas.Option.{get_or_from_slice_get, slice_get-get_or, slice_get-map, slice_get_read, same_Some}
 use Rattle.pl_spec.specs.Parts.{sid_at}
 use Rattle.pl_spec.specs.Rounding.{IsCell}
-use Rattle.pl_spec.specs.Table.{NamedColumn, Pipeline, in_array, value_of}
+use Rattle.pl_pipeline.specs.Table.{NamedColumn, Pipeline, in_array, value_of}
 use Rattle.pl_spec.specs.World.{World}
 use Rattle.pl_cross.specs.Arrays.{sid_in}
 use Rattle.pl_terms.specs.Checked.{pipeline_of}

@@ -2,9 +2,9 @@
 use Rattle.std.specs.Prelude.{ℕ, Bool, ◌&&◌, if◌then◌else◌, max, map, fold, filter_map, Option, Some, None, slice_get}
 use Rattle.pl_spec.specs.declared.Column.{Column}
 use Rattle.pl_spec.specs.World.{column_number}
-use Rattle.pl_spec.specs.Term.{Node}
-use Rattle.pl_spec.specs.Graph.{contains, input_column, input_number, used_terms}
-use Rattle.pl_spec.specs.Table.{Pipeline}
+use Rattle.pl_pipeline.specs.Term.{Node}
+use Rattle.pl_pipeline.specs.Graph.{contains, input_column, input_number, used_terms}
+use Rattle.pl_pipeline.specs.Table.{Pipeline}
 use Rattle.pl_terms.specs.Sorts.{is_windowed}
 use Rattle.pl_terms.specs.Uses.{outputs}
 

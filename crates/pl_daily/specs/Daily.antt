@@ -4,9 +4,9 @@ use Rattle.std.specs.Int.RustNames.{int_le}
 use Rattle.pl_spec.specs.declared.AssetRow.{AssetRow}
 use Rattle.pl_spec.specs.declared.Column.{Column}
 use Rattle.pl_spec.specs.declared.Column.TheVariants.{OpenPrice, High, Low, Close, Volume}
-use Rattle.pl_spec.specs.Lows.{least_reach}
+use Rattle.pl_pipeline.specs.Lows.{least_reach}
 use Rattle.pl_spec.specs.Parts.{ColumnNumber, sid_at}
-use Rattle.pl_spec.specs.Table.{Pipeline, kept_sids}
+use Rattle.pl_pipeline.specs.Table.{Pipeline, kept_sids}
 use Rattle.pl_spec.specs.World.{World}
 use Rattle.pl_assets.specs.Labels.{LabelTable}
 use Rattle.pl_terms.specs.Uses.{is_used, outputs}

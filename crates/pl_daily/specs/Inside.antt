@@ -1,7 +1,7 @@
 -- What the code keeps of terms one by one.
 use Rattle.std.specs.Prelude.{ℕ, Bool, if◌then◌else◌, slice_get}
-use Rattle.pl_spec.specs.Term.{Node}
-use Rattle.pl_spec.specs.Table.{Pipeline}
+use Rattle.pl_pipeline.specs.Term.{Node}
+use Rattle.pl_pipeline.specs.Table.{Pipeline}
 use Rattle.pl_terms.specs.Uses.{is_used}
 use Rattle.pl_daily.specs.Capacities.{window_if}
 

@@ -1,11 +1,11 @@
 -- The first session for which a term reaches no session below 0.
 use Rattle.std.specs.Prelude.{◌≡◌, ℕ, ◌<◌, true, ℤ, pos, ◌≤ℤ◌, ◌<ℤ◌, List, [], ◌∷◌, ◌++◌, length, get_or, slice_get, AllPairs, Option, Some, None}
 use Rattle.pl_spec.specs.declared.Frequency.{Frequency}
-use Rattle.pl_spec.specs.Kind.Kind.{Downsample}
+use Rattle.pl_pipeline.specs.Kind.Kind.{Downsample}
 use Rattle.pl_spec.specs.Periods.{period_start}
-use Rattle.pl_spec.specs.Term.{Term, Node, term_at}
-use Rattle.pl_spec.specs.Graph.{reach}
-use Rattle.pl_spec.specs.Table.{Pipeline}
+use Rattle.pl_pipeline.specs.Term.{Term, Node, term_at}
+use Rattle.pl_pipeline.specs.Graph.{reach}
+use Rattle.pl_pipeline.specs.Table.{Pipeline}
 use Rattle.pl_terms.specs.Uses.{is_used}
 
 -- of the sessions of these days; none so far

@@ -1,8 +1,8 @@
 -- A day part by part: first the rings of bars, then the terms, then the session.
 use Rattle.std.specs.Prelude.{◌≡◌, ℕ, ℤ, pos, ◌<ℤ◌, Bool, List, [], ◌∷◌, ◌++◌, length, map, AllPairs, Option}
 use Rattle.std.specs.Int.RustNames.{int_le}
-use Rattle.pl_spec.specs.Lows.{least_reach}
-use Rattle.pl_spec.specs.Table.{Pipeline}
+use Rattle.pl_pipeline.specs.Lows.{least_reach}
+use Rattle.pl_pipeline.specs.Table.{Pipeline}
 use Rattle.pl_terms.specs.Uses.{outputs}
 use Rattle.pl_rings.specs.Columns.{HoldColumns}
 use Rattle.pl_rings.specs.Days.{FedDay, last_day, IsStart, AreFed}

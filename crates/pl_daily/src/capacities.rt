@@ -2,7 +2,7 @@
 ghost use Rattle.std.specs.Prelude.{◌≡◌, ◌<◌, ◌≤◌, Some, filter_map, length, map, slice_get};
 ghost use Rattle.pl_spec.specs.Limits.{most_terms, most_window};
 ghost use Rattle.pl_spec.specs.World.{column_number};
-ghost use Rattle.pl_spec.specs.Graph.{contains, input_column, input_number};
+ghost use Rattle.pl_pipeline.specs.Graph.{contains, input_column, input_number};
 ghost use Rattle.pl_terms.specs.Checked.{IsChecked, pipeline_of};
 ghost use Rattle.pl_terms.specs.Kinds.{kind_of};
 ghost use Rattle.pl_terms.specs.Nodes.{input_of, node_of};

@@ -3,7 +3,7 @@ ghost use Rattle.std.specs.Prelude.{◌≡◌, ◌≢◌, ◌<◌, ◌+◌, ◌^
 ghost use Rattle.pl_spec.specs.Dates.{IsDay};
 ghost use Rattle.pl_spec.specs.Rounding.{IsCell};
 ghost use Rattle.pl_spec.specs.Parts.{sid_at};
-ghost use Rattle.pl_spec.specs.Table.{NamedColumn, in_array, kept_sids, value_of};
+ghost use Rattle.pl_pipeline.specs.Table.{NamedColumn, in_array, kept_sids, value_of};
 ghost use Rattle.pl_terms.specs.Checked.{pipeline_of};
 ghost use Rattle.pl_terms.specs.Uses.{is_used};
 ghost use Rattle.pl_rings.specs.Changes.{AreRings, IsHandedIn};

@@ -2,7 +2,7 @@
 ghost use Rattle.std.specs.Prelude.{◌≡◌, ℤ, ◌<ℤ◌, ◌≤◌, ◌<◌, pos, AllPairs, None, List, [], ◌∷◌, ◌++◌, get_or, length, map, option_map, option_to_list};
 ghost use Rattle.std.specs.List.{list_all};
 ghost use Rattle.std.specs.Int.RustNames.{int_le};
-ghost use Rattle.pl_spec.specs.Lows.{least_reach};
+ghost use Rattle.pl_pipeline.specs.Lows.{least_reach};
 ghost use Rattle.pl_terms.specs.Checked.{columns_of, pipeline_of};
 ghost use Rattle.pl_terms.specs.Nodes.{input_of, node_of, number_of};
 ghost use Rattle.pl_terms.specs.Uses.{outputs};

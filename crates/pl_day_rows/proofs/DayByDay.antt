@@ -3,10 +3,10 @@ use Rattle.std.proofs.Common.{◌≡◌, ℕ, suc, ◌<◌, ◌++◌, ℤ, pos, 
 use Rattle.std.proofs.lemmas.Int.{ints}
 use Rattle.std.proofs.lemmas.List.{get_or-replicate}
 use Rattle.circular_buffer.specs.Buffer.{buffer, keep_last}
-use Rattle.pl_spec.specs.Table.{Pipeline, value_of, in_array}
-use Rattle.pl_spec.specs.Term.{Term, term_at}
-use Rattle.pl_spec.specs.Term.Term.{absent, column, node}
-use Rattle.pl_spec.specs.Value.{empty, sort_kind}
+use Rattle.pl_pipeline.specs.Table.{Pipeline, value_of, in_array}
+use Rattle.pl_pipeline.specs.Term.{Term, term_at}
+use Rattle.pl_pipeline.specs.Term.Term.{absent, column, node}
+use Rattle.pl_pipeline.specs.Value.{empty, sort_kind}
 use Rattle.pl_spec.specs.Window.{before, downward}
 use Rattle.pl_spec.specs.World.{World}
 use Rattle.pl_cross.specs.Arrays.{sid_in}
@@ -15,7 +15,7 @@ use Rattle.pl_values.proofs.Numbers.{empty_is}
 use Rattle.pl_rings.specs.Days.{Start, FedDay, fed, last_session, IsStart, AreFed}
 use Rattle.pl_rings.specs.Changes.{Ring, pushed, ring_at}
 use Rattle.pl_rings.proofs.Moves.{slides, constant, below_none, below_first}
-use Rattle.pl_rings.proofs.Values.{nobody, value_below, values_stay}
+use Rattle.pl_day_rows.proofs.Values.{nobody, value_below, values_stay}
 use Rattle.pl_day_rows.specs.declared.turn.TermCells.{TermCells}
 use Rattle.pl_day_rows.specs.Rows.{sids_of}
 use Rattle.pl_day_rows.specs.Turns.{cell_on}

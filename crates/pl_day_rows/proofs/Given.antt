@@ -6,13 +6,13 @@ use Rattle.circular_buffer.specs.Buffer.{buffer, keep_last}
 use Rattle.pl_spec.specs.declared.AssetRow.{AssetRow}
 use Rattle.pl_spec.specs.Rounding.{IsCell}
 use Rattle.pl_spec.specs.World.{World}
-use Rattle.pl_spec.specs.Kind.{WindowKind}
-use Rattle.pl_spec.specs.Kind.Kind.{Label, Number, Window, Downsample}
+use Rattle.pl_pipeline.specs.Kind.{WindowKind}
+use Rattle.pl_pipeline.specs.Kind.Kind.{Label, Number, Window, Downsample}
 use Rattle.pl_spec.specs.declared.Frequency.{Frequency}
-use Rattle.pl_spec.specs.Formula.{is_true}
-use Rattle.pl_spec.specs.Term as spec
-use Rattle.pl_spec.specs.Term.Input.{BarColumn, TermInput}
-use Rattle.pl_spec.specs.Table.{Pipeline}
+use Rattle.pl_spec.specs.Cells.{is_true}
+use Rattle.pl_pipeline.specs.Term as spec
+use Rattle.pl_pipeline.specs.Term.Input.{BarColumn, TermInput}
+use Rattle.pl_pipeline.specs.Table.{Pipeline}
 use Rattle.pl_spec.specs.Window.{before, downward, seen_cell}
 use Rattle.pl_terms.specs.declared.node.TermId.{TermId}
 use Rattle.pl_terms.specs.Nodes.{number_of, graph_of}

@@ -1,4 +1,5 @@
 pub mod Sessions
+pub mod Values
 pub mod Shown
 pub mod Given
 pub mod DayByDay

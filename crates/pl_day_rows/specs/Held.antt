@@ -1,7 +1,7 @@
 -- What is held of a term stands for the days that were fed.
 use Rattle.std.specs.Prelude.{◌≡◌, ℕ, ◌<◌, ℤ, pos, List, [], ◌∷◌, length, map, get_or, All}
 use Rattle.pl_spec.specs.Rounding.{IsCell}
-use Rattle.pl_spec.specs.Table.{Pipeline}
+use Rattle.pl_pipeline.specs.Table.{Pipeline}
 use Rattle.pl_spec.specs.Window.{before, downward}
 use Rattle.pl_values.specs.Arrays.{empty_cell}
 use Rattle.pl_rings.specs.Days.{Start, FedDay, fed, last_session, IsStart, AreFed}

@@ -3,3 +3,4 @@ pub mod Rows
 pub mod Turns
 pub mod Windows
 pub mod Held
+pub mod Laws

@@ -5,9 +5,9 @@ use Rattle.circular_buffer.specs.Buffer.{keep_last}
 use Rattle.pl_spec.specs.declared.AssetRow.{AssetRow}
 use Rattle.pl_spec.specs.Parts.{ColumnNumber}
 use Rattle.pl_spec.specs.Rounding.{IsCell}
-use Rattle.pl_spec.specs.Formula.{is_true}
-use Rattle.pl_spec.specs.Term.{Input}
-use Rattle.pl_spec.specs.Term.Input.{BarColumn, TermInput}
+use Rattle.pl_spec.specs.Cells.{is_true}
+use Rattle.pl_pipeline.specs.Term.{Input}
+use Rattle.pl_pipeline.specs.Term.Input.{BarColumn, TermInput}
 use Rattle.pl_spec.specs.World.{lives_on}
 use Rattle.pl_numbers.specs.Numbers.{NumberTable}
 use Rattle.pl_values.specs.Arrays.{kept_or}

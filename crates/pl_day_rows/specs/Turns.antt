@@ -1,13 +1,13 @@
 -- One term on a day, in a world in which the day is a session.
 use Rattle.std.specs.Prelude.{◌≡◌, ℕ, ◌<◌, ◌≤◌, Bool, true, false, ℤ, pos, List, [], ◌∷◌, length, map, get_or, Option, Some, None, slice_get, AllPairs}
 use Rattle.pl_spec.specs.Limits.{most_assets}
-use Rattle.pl_spec.specs.Term as spec
+use Rattle.pl_pipeline.specs.Term as spec
 use Rattle.pl_spec.specs.declared.Frequency.{Frequency}
-use Rattle.pl_spec.specs.Kind.Kind.{Downsample}
+use Rattle.pl_pipeline.specs.Kind.Kind.{Downsample}
 use Rattle.pl_spec.specs.Periods.{period_start}
-use Rattle.pl_spec.specs.Term.Input.{BarColumn, TermInput}
+use Rattle.pl_pipeline.specs.Term.Input.{BarColumn, TermInput}
 use Rattle.pl_spec.specs.declared.Column.{Column}
-use Rattle.pl_spec.specs.Table.{Pipeline, value_of, in_array}
+use Rattle.pl_pipeline.specs.Table.{Pipeline, value_of, in_array}
 use Rattle.pl_spec.specs.Window.{before, downward, bar_window}
 use Rattle.pl_spec.specs.Parts.{ColumnNumber}
 use Rattle.pl_spec.specs.World.{World, exists, label_at, known_number}

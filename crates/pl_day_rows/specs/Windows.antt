@@ -1,6 +1,6 @@
 -- The windows of a term on a day, by the rings.
 use Rattle.std.specs.Prelude.{ℕ, ℤ, List, Option, Some, None, slice_get}
-use Rattle.pl_spec.specs.Term.{Node, Input}
+use Rattle.pl_pipeline.specs.Term.{Node, Input}
 use Rattle.pl_values.specs.Families.{windowed}
 use Rattle.pl_day_rows.specs.declared.turn.Turn.{Turn}
 use Rattle.pl_day_rows.specs.Rows.{ring_window}

@@ -1,7 +1,7 @@
 //! Formulas and filters over the windows of a node's inputs, which are the ends of rings.
 ghost use Rattle.std.specs.Prelude.{◌≡◌, ◌≤◌, ◌<◌, true, length, slice_get};
 ghost use Rattle.pl_spec.specs.Rounding.{IsCell};
-ghost use Rattle.pl_spec.specs.Formula.{is_true};
+ghost use Rattle.pl_spec.specs.Cells.{is_true};
 ghost use Rattle.pl_terms.specs.Sorts.{is_windowed};
 ghost use Rattle.pl_values.specs.Arrays.{chosen, empty_cell};
 ghost use Rattle.pl_day_rows.specs.Rows.{Shows, ring_window};

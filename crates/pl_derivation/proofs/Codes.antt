@@ -12,22 +12,22 @@ use Rattle.pl_spec.specs.declared.Column.{Column}
 use Rattle.pl_spec.specs.World.{World, exists}
 use Rattle.pl_spec.specs.Window.{downward, seen_cell}
 use Rattle.pl_spec.specs.Periods.{period_start}
-use Rattle.pl_spec.specs.Kind as kinds
-use Rattle.pl_spec.specs.Kind.{Kind, WindowKind, LabelKind, CrossKind}
-use Rattle.pl_spec.specs.Kind.Kind.{Constant, Label, StaticSids, Window, Point, LabelTest, Cross, Downsample}
-use Rattle.pl_spec.specs.Term.{Term, Graph, Input, Node, IsGraph, tree_over, trees, term_at}
-use Rattle.pl_spec.specs.Term.Term.{absent, column, node}
-use Rattle.pl_spec.specs.Term.Input.{BarColumn, TermInput}
-use Rattle.pl_spec.specs.Cross.{cross}
-use Rattle.pl_spec.specs.Value.{Value, Part, part_of, number_of, now, passes, eligible, group_of, window_of, is_window_filter, is_point_filter, is_cross_filter, sort_kind, test_value, step, empty, value}
-use Rattle.pl_spec.specs.Value.Value.{Number, Text}
-use Rattle.pl_spec.specs.Value.Part.{Bars, Values}
-use Rattle.pl_spec.specs.NodeValue.{meaning_of, input_part, number_part, node_value}
-use Rattle.pl_spec.specs.Table.{Pipeline, value_of, in_array}
-use Rattle.pl_spec.specs.Text.{kind_at}
+use Rattle.pl_pipeline.specs.Kind as kinds
+use Rattle.pl_pipeline.specs.Kind.{Kind, WindowKind, LabelKind, CrossKind}
+use Rattle.pl_pipeline.specs.Kind.Kind.{Constant, Label, StaticSids, Window, Point, LabelTest, Cross, Downsample}
+use Rattle.pl_pipeline.specs.Term.{Term, Graph, Input, Node, IsGraph, tree_over, trees, term_at}
+use Rattle.pl_pipeline.specs.Term.Term.{absent, column, node}
+use Rattle.pl_pipeline.specs.Term.Input.{BarColumn, TermInput}
+use Rattle.pl_pipeline.specs.Cross.{cross}
+use Rattle.pl_pipeline.specs.Value.{Value, Part, part_of, number_of, now, passes, eligible, group_of, window_of, is_window_filter, is_point_filter, is_cross_filter, sort_kind, test_value, step, empty, value}
+use Rattle.pl_pipeline.specs.Value.Value.{Number, Text}
+use Rattle.pl_pipeline.specs.Value.Part.{Bars, Values}
+use Rattle.pl_pipeline.specs.NodeValue.{meaning_of, input_part, number_part, node_value}
+use Rattle.pl_pipeline.specs.Table.{Pipeline, value_of, in_array}
+use Rattle.pl_pipeline.specs.Text.{kind_at}
 use Rattle.pl_spec.proofs.Members.{In, contains-in}
-use Rattle.pl_spec.proofs.Trees.{term_at-node}
-use Rattle.pl_spec.proofs.Unfolds.{value_at-node, past}
+use Rattle.pl_pipeline.proofs.Trees.{term_at-node}
+use Rattle.pl_pipeline.proofs.Unfolds.{value_at-node, past}
 use Rattle.pl_cross.specs.Arrays.{HasTexts}
 use Rattle.pl_cross.proofs.Codes.{IsCoded}
 use Rattle.pl_cross.proofs.LabelCodes.{labels-coded}

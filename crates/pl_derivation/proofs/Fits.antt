@@ -10,24 +10,24 @@ use Rattle.pl_spec.specs.declared.Frequency.{Frequency}
 use Rattle.pl_spec.specs.World.{World, day_of, lives_on, living_sids, exists}
 use Rattle.pl_spec.specs.Window.{before, downward}
 use Rattle.pl_spec.specs.Periods.{first_session, period_start}
-use Rattle.pl_spec.specs.Kind.{Kind}
-use Rattle.pl_spec.specs.Kind.Kind.{Constant, Label, Number, StaticSids, Window, Point, LabelTest, Cross, Downsample}
-use Rattle.pl_spec.specs.Term.{Term, Graph, Input, Node, IsGraph, input_tree, number_tree, tree_over, trees, term_at}
-use Rattle.pl_spec.specs.Term.Term.{absent, column, node}
-use Rattle.pl_spec.specs.Term.Input.{BarColumn, TermInput}
-use Rattle.pl_spec.specs.Value.{passes}
-use Rattle.pl_spec.specs.Graph.{part_reach, reads_at, reach, input_number, mentions, contains}
-use Rattle.pl_spec.specs.Graph.Used.{mentioned}
-use Rattle.pl_spec.specs.Table.{Pipeline}
-use Rattle.pl_spec.proofs.Trees.{term_at-node}
-use Rattle.pl_spec.proofs.Unfolds.{past}
+use Rattle.pl_pipeline.specs.Kind.{Kind}
+use Rattle.pl_pipeline.specs.Kind.Kind.{Constant, Label, Number, StaticSids, Window, Point, LabelTest, Cross, Downsample}
+use Rattle.pl_pipeline.specs.Term.{Term, Graph, Input, Node, IsGraph, input_tree, number_tree, tree_over, trees, term_at}
+use Rattle.pl_pipeline.specs.Term.Term.{absent, column, node}
+use Rattle.pl_pipeline.specs.Term.Input.{BarColumn, TermInput}
+use Rattle.pl_pipeline.specs.Value.{passes}
+use Rattle.pl_pipeline.specs.Graph.{part_reach, reads_at, reach, input_number, mentions, contains}
+use Rattle.pl_pipeline.specs.Graph.Used.{mentioned}
+use Rattle.pl_pipeline.specs.Table.{Pipeline}
+use Rattle.pl_pipeline.proofs.Trees.{term_at-node}
+use Rattle.pl_pipeline.proofs.Unfolds.{past}
 use Rattle.pl_laws.proofs.Uses.{used_terms-sound, used_terms-complete}
 use Rattle.pl_laws.proofs.Reaches.{below_least, at_downward}
 use Rattle.pl_laws.proofs.Starts.{start-within}
 use Rattle.pl_terms.specs.Uses.{outputs, is_used}
 use Rattle.pl_spec.proofs.Each.{Each, each_both, each_in_map, each_in_flat, each_more}
 use Rattle.pl_spec.proofs.Signed.{lt-int_lt}
-use Rattle.pl_spec.proofs.Contained.{in-front, in-back, option-in, input-in}
+use Rattle.pl_pipeline.proofs.Contained.{in-front, in-back, option-in, input-in}
 use Rattle.pl_spec.proofs.Windows.{before-zero, before-less}
 use Rattle.pl_derivation.specs.Facts.{Fact, Reading, window_facts, facts_now, number_facts, over_inputs, entry_facts, kind_facts, number_read, node_facts, premises}
 use Rattle.pl_derivation.specs.Facts.Fact.{Seen, Worth}

@@ -1,7 +1,7 @@
 -- A walk only puts facts after those that are finished.
 use Rattle.std.proofs.Common.{◌≡◌, ℕ, zero, suc, Bool, true, false, List, [], ◌∷◌, ◌++◌, fold, refl, sym, ◌∙◌, ap, append_assoc, append-nil}
 use Rattle.pl_spec.specs.World.{World}
-use Rattle.pl_spec.specs.Table.{Pipeline}
+use Rattle.pl_pipeline.specs.Table.{Pipeline}
 use Rattle.pl_derivation.specs.Facts.{Fact, number_in, premises}
 use Rattle.pl_derivation.specs.Walks.{is_in, finish}
 

@@ -6,8 +6,8 @@ use Rattle.std.proofs.lemmas.Bool.{true≢false, or_cases, or_left}
 use Rattle.std.proofs.lemmas.List.Folds.{list_any-append}
 use Rattle.std.specs.Cmp.{both_ways}
 use Rattle.pl_spec.specs.World.{World}
-use Rattle.pl_spec.specs.Term.{IsGraph}
-use Rattle.pl_spec.specs.Table.{Pipeline}
+use Rattle.pl_pipeline.specs.Term.{IsGraph}
+use Rattle.pl_pipeline.specs.Table.{Pipeline}
 use Rattle.pl_derivation.specs.Facts.{Fact, Reading, number_in, premises, single_step}
 use Rattle.pl_derivation.specs.Facts.Fact.{Seen, Worth}
 use Rattle.pl_derivation.specs.Lines.{Line}

@@ -4,16 +4,16 @@ use Rattle.std.proofs.lemmas.Int.{ints}
 use Rattle.pl_spec.specs.declared.Column.{Column}
 use Rattle.pl_spec.specs.World.{World, exists, living_sids}
 use Rattle.pl_spec.specs.Window.{before, downward}
-use Rattle.pl_spec.specs.Kind.{Kind, WindowKind, CrossKind}
-use Rattle.pl_spec.specs.Kind.Kind.{Constant, Label, Number, StaticSids, Window, Point, LabelTest, Cross, Downsample}
+use Rattle.pl_pipeline.specs.Kind.{Kind, WindowKind, CrossKind}
+use Rattle.pl_pipeline.specs.Kind.Kind.{Constant, Label, Number, StaticSids, Window, Point, LabelTest, Cross, Downsample}
 use Rattle.pl_spec.specs.Periods.{period_start}
-use Rattle.pl_spec.specs.Kind.CrossKind.{PeerCount}
-use Rattle.pl_spec.specs.Term.{Input, Node}
-use Rattle.pl_spec.specs.Term.Input.{BarColumn, TermInput}
-use Rattle.pl_spec.specs.Value.{Value, Part, number_of, holds, now, window_of, passes, in_group, entry, counts_for, eligible, group_of, step}
-use Rattle.pl_spec.specs.Value.Part.{Nothing, Bars, Values}
-use Rattle.pl_spec.specs.Text.{kind_at}
-use Rattle.pl_spec.specs.Table.{Pipeline, in_array}
+use Rattle.pl_pipeline.specs.Kind.CrossKind.{PeerCount}
+use Rattle.pl_pipeline.specs.Term.{Input, Node}
+use Rattle.pl_pipeline.specs.Term.Input.{BarColumn, TermInput}
+use Rattle.pl_pipeline.specs.Value.{Value, Part, number_of, holds, now, window_of, passes, in_group, entry, counts_for, eligible, group_of, step}
+use Rattle.pl_pipeline.specs.Value.Part.{Nothing, Bars, Values}
+use Rattle.pl_pipeline.specs.Text.{kind_at}
+use Rattle.pl_pipeline.specs.Table.{Pipeline, in_array}
 use Rattle.pl_derivation.specs.Facts.{Fact, Reading, window_facts, facts_now, number_facts, over_inputs, entry_facts, kind_facts, value_from, column_read, input_read, number_read, node_read, node_facts, premises, single_step}
 use Rattle.pl_derivation.specs.Facts.Fact.{Seen, Worth}
 use Rattle.pl_spec.proofs.Each.{Each, each_front, each_back, each_of_map, each_of_flat, each_more, each_known, map_each, filter_each}

@@ -16,7 +16,7 @@ use Rattle.pl_spec.specs.Decimals.{sid_in}
 use Rattle.pl_spec.proofs.DatesRead.{IsDate-date_in}
 use Rattle.pl_spec.proofs.DatesWritten.{date_text-IsDate, IsDay-IsDate}
 use Rattle.pl_spec.proofs.SidsRead.{decimal-sid_in}
-use Rattle.pl_spec.proofs.Greatest.{missing-far}
+use Rattle.pl_spec.proofs.Within.{missing-far}
 use Rattle.pl_spec.specs.Names.{column_name}
 use Rattle.pl_derivation.specs.Lines.{Line}
 use Rattle.pl_derivation.specs.Lines.Line.{SeenLine, ValueLine}

@@ -12,8 +12,8 @@ use Rattle.pl_spec.specs.declared.Column.{Column}
 use Rattle.pl_spec.specs.Rounding.{MISSING}
 use Rattle.pl_spec.specs.World.{World, day_of, bar_cell, column_number}
 use Rattle.pl_spec.specs.Window.{Effect, changed, after_all, effects, seen_cell}
-use Rattle.pl_spec.specs.Term.{IsGraph}
-use Rattle.pl_spec.specs.Table.{Pipeline}
+use Rattle.pl_pipeline.specs.Term.{IsGraph}
+use Rattle.pl_pipeline.specs.Table.{Pipeline}
 use Rattle.pl_derivation.specs.Facts.{Fact, Reading, same_fact, number_in, premises, single_step}
 use Rattle.pl_derivation.specs.Facts.Fact.{Seen, Worth}
 use Rattle.pl_derivation.specs.Lines.{Line}

@@ -10,8 +10,8 @@ use Rattle.std.proofs.lemmas.List.Folds.{list_any-append}
 use Rattle.std.proofs.lemmas.List.{map-append}
 use Rattle.std.proofs.lemmas.Option.{slice_get_within, get_or_from_slice_get}
 use Rattle.pl_spec.specs.World.{World, IsWorld, day_of}
-use Rattle.pl_spec.specs.Term.{IsGraph}
-use Rattle.pl_spec.specs.Table.{Pipeline}
+use Rattle.pl_pipeline.specs.Term.{IsGraph}
+use Rattle.pl_pipeline.specs.Table.{Pipeline}
 use Rattle.pl_spec.proofs.Places.{is_at}
 use Rattle.pl_derivation.specs.Facts.{Fact, Reading, same_fact, number_in, premises, single_step}
 use Rattle.pl_derivation.specs.Facts.Fact.{Seen, Worth}

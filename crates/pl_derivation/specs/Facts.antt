@@ -7,15 +7,15 @@ use Rattle.pl_spec.specs.Rounding.{MISSING, is_missing}
 use Rattle.pl_spec.specs.World.{World, exists, living_sids, column_number}
 use Rattle.pl_spec.specs.Periods.{period_start}
 use Rattle.pl_spec.specs.Window.{seen_cell, before, downward}
-use Rattle.pl_spec.specs.Kind.{Kind}
-use Rattle.pl_spec.specs.Kind.Kind.{Label, Window, Point, LabelTest, Cross, Downsample}
-use Rattle.pl_spec.specs.Term.{Input, Node}
-use Rattle.pl_spec.specs.Term.Input.{BarColumn, TermInput}
-use Rattle.pl_spec.specs.Value.{Value, Meaning, Part, passes, step, empty, name_at}
-use Rattle.pl_spec.specs.Value.Value.{Number, Text}
-use Rattle.pl_spec.specs.Value.Part.{Nothing, Bars, Values}
-use Rattle.pl_spec.specs.Table.{Pipeline, value_of, in_array}
-use Rattle.pl_spec.specs.Text.{kind_at}
+use Rattle.pl_pipeline.specs.Kind.{Kind}
+use Rattle.pl_pipeline.specs.Kind.Kind.{Label, Window, Point, LabelTest, Cross, Downsample}
+use Rattle.pl_pipeline.specs.Term.{Input, Node}
+use Rattle.pl_pipeline.specs.Term.Input.{BarColumn, TermInput}
+use Rattle.pl_pipeline.specs.Value.{Value, Meaning, Part, passes, step, empty, name_at}
+use Rattle.pl_pipeline.specs.Value.Value.{Number, Text}
+use Rattle.pl_pipeline.specs.Value.Part.{Nothing, Bars, Values}
+use Rattle.pl_pipeline.specs.Table.{Pipeline, value_of, in_array}
+use Rattle.pl_pipeline.specs.Text.{kind_at}
 
 -- the bar of session s of asset a as it is seen on session d, or the value of term number t for asset a on
 -- session d

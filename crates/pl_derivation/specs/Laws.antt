@@ -5,9 +5,9 @@ use Rattle.std.specs.Ordering.{int_eq}
 use Rattle.std.specs.Cmp.Lexicographic.{pointwise}
 use Rattle.pl_spec.specs.World.{World, IsWorld, day_of}
 use Rattle.pl_spec.specs.Window.{seen_cell}
-use Rattle.pl_spec.specs.Term.{IsGraph, term_at}
-use Rattle.pl_spec.specs.Graph.{reach}
-use Rattle.pl_spec.specs.Table.{Pipeline, value_of, in_array}
+use Rattle.pl_pipeline.specs.Term.{IsGraph, term_at}
+use Rattle.pl_pipeline.specs.Graph.{reach}
+use Rattle.pl_pipeline.specs.Table.{Pipeline, value_of, in_array}
 use Rattle.pl_derivation.specs.Facts.{Fact, number_in, premises}
 use Rattle.pl_derivation.specs.Facts.Fact.{Seen, Worth}
 use Rattle.pl_terms.specs.Checked.{IsChecked}

@@ -2,7 +2,7 @@
 use Rattle.std.specs.Prelude.{◌≡◌, false, ℕ, zero, suc, Bool, if◌then◌else◌, ℤ, pos, List, [], ◌∷◌, ◌++◌, map, fold, unwrap_or}
 use Rattle.std.specs.List.{list_any}
 use Rattle.pl_spec.specs.World.{World, day_of}
-use Rattle.pl_spec.specs.Table.{Pipeline}
+use Rattle.pl_pipeline.specs.Table.{Pipeline}
 use Rattle.pl_derivation.specs.Facts.{Fact, same_fact, number_in, premises}
 use Rattle.pl_derivation.specs.Facts.Fact.{Seen, Worth}
 use Rattle.pl_derivation.specs.Lines.{Line}

@@ -4,7 +4,7 @@ use Rattle.std.specs.List.{range_with_len}
 use Rattle.std.proofs.lemmas.List.{ext_get_or, get_or-take, get_or-drop, length-take-le, length-drop, length-map}
 use Rattle.std.proofs.lemmas.List.FromFn.{get_or-map-range_with_len, length-map-range_with_len}
 use Rattle.pl_spec.specs.Parts.{sid_at}
-use Rattle.pl_spec.specs.Table.{array_of, in_array, value_of}
+use Rattle.pl_pipeline.specs.Table.{array_of, in_array, value_of}
 use Rattle.pl_values.specs.Arrays.{cell_of}
 use Rattle.pl_exec.specs.Tasks.{Task, IsArray, assets_in, count_in, low_in, sids_in}
 

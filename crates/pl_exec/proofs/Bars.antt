@@ -3,7 +3,7 @@ use Rattle.std.proofs.Common.{◌≡◌, ℕ, zero, suc, ◌+◌, ◌<◌, ◌�
 use Rattle.std.proofs.lemmas.List.{drop_all, take_all}
 use Rattle.pl_spec.specs.declared.Column.{Column}
 use Rattle.pl_spec.specs.Window.{bar_window}
-use Rattle.pl_spec.specs.Term as spec
+use Rattle.pl_pipeline.specs.Term as spec
 use Rattle.pl_adjarray.specs.Buffered.{Buffered}
 use Rattle.pl_adjarray.specs.Stillness.{IsStill}
 use Rattle.pl_adjarray.specs.Traversals.{Traversal}

@@ -3,8 +3,8 @@ use Rattle.std.proofs.Common.{◌≡◌, ℕ, ◌+◌, ◌-◌, ◌*◌, ◌<◌
 use Rattle.std.proofs.lemmas.List.{get_or-take, get_or-drop, length-take-le, length-drop}
 use Rattle.std.proofs.Math.Nat.{mul_comm}
 use Rattle.pl_spec.specs.Rounding.{IsCell}
-use Rattle.pl_spec.specs.Term as spec
-use Rattle.pl_spec.specs.Term.Input.{TermInput}
+use Rattle.pl_pipeline.specs.Term as spec
+use Rattle.pl_pipeline.specs.Term.Input.{TermInput}
 use Rattle.pl_spec.proofs.Places.{row-within}
 use borrow.Rule.Slice.PartMut.{put_mid}
 use Rattle.pl_bars.proofs.BarFilling.{part_within, part_written}

@@ -5,8 +5,8 @@ use Rattle.pl_laws.proofs.Rises.{start-rises}
 use Rattle.pl_spec.specs.Rounding.{IsCell}
 use Rattle.pl_spec.proofs.Places.{row-within}
 use Rattle.pl_spec.specs.World.{World, exists}
-use Rattle.pl_spec.specs.Table.{Pipeline}
-use Rattle.pl_spec.specs.Formula.{is_true}
+use Rattle.pl_pipeline.specs.Table.{Pipeline}
+use Rattle.pl_spec.specs.Cells.{is_true}
 use Rattle.pl_cross.specs.Arrays.{sid_in}
 use Rattle.pl_values.specs.Arrays.{Holds, Fills, IsKeep, is_kept, kept_or, cell_of, empty_cell}
 use Rattle.pl_workspace.specs.Slots.{Slots}

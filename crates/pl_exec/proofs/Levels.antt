@@ -5,11 +5,11 @@ use Rattle.std.proofs.lemmas.Int.{ints}
 use Rattle.std.proofs.lemmas.List.{append-nil, drop_all, take_all}
 use Rattle.pl_spec.specs.declared.Column.{Column}
 use Rattle.pl_spec.specs.World.{column_number}
-use Rattle.pl_spec.specs.Kind as kind
-use Rattle.pl_spec.specs.Kind.{Kind}
-use Rattle.pl_spec.specs.Term as spec
-use Rattle.pl_spec.specs.Term.Input.{BarColumn, TermInput}
-use Rattle.pl_spec.specs.Graph.{columns_at, contains}
+use Rattle.pl_pipeline.specs.Kind as kind
+use Rattle.pl_pipeline.specs.Kind.{Kind}
+use Rattle.pl_pipeline.specs.Term as spec
+use Rattle.pl_pipeline.specs.Term.Input.{BarColumn, TermInput}
+use Rattle.pl_pipeline.specs.Graph.{columns_at, contains}
 use Rattle.pl_spec.specs.Window.{applied_steps}
 use Rattle.pl_laws.specs.LowLaws.{HasBar}
 use Rattle.pl_terms.specs.Sorts.{is_windowed, places}

@@ -3,8 +3,8 @@ use Rattle.std.proofs.Common.{◌≡◌, ℕ, suc, ◌+◌, ◌-◌, ◌<◌, Bo
 use Rattle.std.specs.List.{range_with_len, count_by}
 use Rattle.std.proofs.lemmas.Bool.{true≢false, or_cases, eqb-true}
 use Rattle.std.proofs.lemmas.List.Sums.{length-filter, sum_by-append, sum_by-cons}
-use Rattle.pl_spec.specs.Term.{Graph, IsGraph}
-use Rattle.pl_spec.specs.Graph.{contains, Used, used_terms, is_live, live_terms, columns_at, bound}
+use Rattle.pl_pipeline.specs.Term.{Graph, IsGraph}
+use Rattle.pl_pipeline.specs.Graph.{contains, Used, used_terms, is_live, live_terms, columns_at, bound}
 use Rattle.pl_spec.proofs.Lists.{filter-twice}
 use Rattle.pl_laws.proofs.Uses.{lower}
 use Rattle.pl_planner.proofs.Counting.{count_cut, count_same, most_chosen, most_same}

@@ -5,16 +5,16 @@ use Rattle.std.proofs.lemmas.Bool.Decides.{nat_tests}
 use Rattle.std.proofs.lemmas.Int.{ints}
 use Rattle.std.specs.Cmp.{first_so, second_so}
 use Rattle.pl_spec.specs.Window.{before}
-use Rattle.pl_spec.specs.Kind as kind
-use Rattle.pl_spec.specs.Kind.{Kind}
-use Rattle.pl_spec.specs.Term.{Graph, Node, Input}
-use Rattle.pl_spec.specs.Term.Input.{BarColumn, TermInput}
+use Rattle.pl_pipeline.specs.Kind as kind
+use Rattle.pl_pipeline.specs.Kind.{Kind}
+use Rattle.pl_pipeline.specs.Term.{Graph, Node, Input}
+use Rattle.pl_pipeline.specs.Term.Input.{BarColumn, TermInput}
 use Rattle.pl_spec.specs.declared.Frequency.{Frequency}
 use Rattle.pl_spec.specs.Periods.{period_start}
-use Rattle.pl_spec.specs.Kind.Kind.{Downsample}
-use Rattle.pl_spec.specs.Graph.{Used, contains, columns_at, reads_at}
+use Rattle.pl_pipeline.specs.Kind.Kind.{Downsample}
+use Rattle.pl_pipeline.specs.Graph.{Used, contains, columns_at, reads_at}
 use Rattle.pl_laws.proofs.Lows.{reads_at-within}
-use Rattle.pl_spec.specs.Lows.{Reads}
+use Rattle.pl_pipeline.specs.Lows.{Reads}
 use Rattle.pl_laws.specs.LowLaws.{HasBar}
 use Rattle.pl_laws.proofs.Uses.{lower, used_terms-sound, used_terms-complete}
 use Rattle.pl_terms.specs.Sorts.{Place, has_window, places}

@@ -9,9 +9,9 @@ use Rattle.std.proofs.Math.Bool.{or-false}
 use Rattle.pl_spec.specs.declared.Column.{Column}
 use Rattle.pl_spec.specs.declared.Column.TheVariants.{OpenPrice, High, Low, Close, Volume}
 use Rattle.pl_spec.specs.World.{column_number}
-use Rattle.pl_spec.specs.Graph.{contains, columns_at, input_column}
-use Rattle.pl_spec.specs.Term as spec
-use Rattle.pl_spec.specs.Term.Input.{BarColumn, TermInput}
+use Rattle.pl_pipeline.specs.Graph.{contains, columns_at, input_column}
+use Rattle.pl_pipeline.specs.Term as spec
+use Rattle.pl_pipeline.specs.Term.Input.{BarColumn, TermInput}
 use Rattle.pl_exec.specs.Tasks.{columns_of}
 use Rattle.pl_exec.specs.Jobs.{columns_before, new_column, one_new, place_among, unless}
 use Rattle.pl_exec.proofs.Listed.{sum_filter}

@@ -2,11 +2,11 @@
 use Rattle.std.proofs.Common.{◌≡◌, ℕ, zero, suc, ◌+◌, ◌<◌, Bool, true, false, ◌&&◌, ◌||◌, filter_map, take, ℤ, pos, List, [], ◌∷◌, length, map, get_or, Some, None, option_map, unwrap_or, slice_get, refl, sym, ◌∙◌, ap, arith, subst, if◌then◌else◌}
 use Rattle.pl_spec.specs.declared.AssetRow.{AssetRow}
 use Rattle.pl_spec.specs.Parts.{sid_at}
-use Rattle.pl_spec.specs.Formula.{is_true}
+use Rattle.pl_spec.specs.Cells.{is_true}
 use Rattle.pl_spec.specs.declared.Column.{Column}
 use Rattle.pl_spec.specs.World.{column_number}
-use Rattle.pl_spec.specs.Graph.{contains, input_column}
-use Rattle.pl_spec.specs.Term as spec
+use Rattle.pl_pipeline.specs.Graph.{contains, input_column}
+use Rattle.pl_pipeline.specs.Term as spec
 use Rattle.pl_terms.specs.declared.node.Input.{Input}
 use Rattle.pl_terms.specs.Nodes.{input_of}
 use Rattle.pl_exec.specs.Jobs.{is_column, place_among, new_column}

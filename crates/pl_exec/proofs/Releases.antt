@@ -3,9 +3,9 @@ use Rattle.std.proofs.Common.{◌≡◌, ℕ, ◌+◌, ◌<◌, ◌≤◌, Bool,
 use Rattle.std.specs.List.{range_with_len, count_by}
 use Rattle.std.proofs.lemmas.Bool.{true≢false, and_from}
 use Rattle.std.specs.Cmp.{first_so, second_so}
-use Rattle.pl_spec.specs.Term as spec
-use Rattle.pl_spec.specs.Term.{IsGraph}
-use Rattle.pl_spec.specs.Graph.{columns_at}
+use Rattle.pl_pipeline.specs.Term as spec
+use Rattle.pl_pipeline.specs.Term.{IsGraph}
+use Rattle.pl_pipeline.specs.Graph.{columns_at}
 use Rattle.pl_spec.specs.Limits.{cut}
 use Rattle.pl_planner.specs.Plans.{is_used, last_user, slot_of}
 use Rattle.pl_planner.proofs.Counting.{count_more}

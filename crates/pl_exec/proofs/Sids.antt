@@ -4,7 +4,7 @@ use Rattle.std.specs.List.{range_with_len}
 use Rattle.std.proofs.lemmas.List.{length-map, get_or_default}
 use Rattle.pl_spec.specs.declared.AssetRow.{AssetRow}
 use Rattle.pl_spec.specs.Parts.{sid_at}
-use Rattle.pl_spec.specs.Graph.{bound, contains}
+use Rattle.pl_pipeline.specs.Graph.{bound, contains}
 use Rattle.pl_spec.proofs.Columns.{sid_at-row}
 use Rattle.pl_terms.specs.Uses.{outputs}
 use Rattle.pl_planner.specs.Plans.{is_used, last_user, is_read_by, slot_of}

@@ -5,7 +5,7 @@ use Rattle.std.proofs.lemmas.List.{take_more}
 use Rattle.std.proofs.lemmas.List.Sums.{fold-append}
 use Rattle.pl_spec.specs.declared.Column.{Column}
 use Rattle.pl_spec.specs.Window.{applied_steps}
-use Rattle.pl_spec.specs.Term as spec
+use Rattle.pl_pipeline.specs.Term as spec
 use Rattle.pl_spec.specs.Limits.{cut}
 use Rattle.pl_adjarray.specs.Buffered.{Buffered, applied_at, row_count as applied_row}
 use Rattle.pl_adjarray.specs.Traversals.{Traversal, advances}

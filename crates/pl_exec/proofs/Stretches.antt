@@ -4,8 +4,8 @@ use Rattle.std.proofs.lemmas.Bool.{cases_lt}
 use Rattle.std.proofs.lemmas.List.{ext_get_or, get_or-take, get_or-drop, get_or_append_left, length-map, length-take, length-drop}
 use borrow.Rule.Slice.PartMut.{put_mid, post_of}
 use Rattle.pl_spec.specs.Rounding.{IsCell}
-use Rattle.pl_spec.specs.Kind.{Kind}
-use Rattle.pl_spec.specs.Term as spec
+use Rattle.pl_pipeline.specs.Kind.{Kind}
+use Rattle.pl_pipeline.specs.Term as spec
 use Rattle.pl_spec.specs.Window.{downward}
 use Rattle.pl_spec.proofs.Lists.{get_or-front, get_or-behind}
 use Rattle.pl_spec.proofs.Windows.{length-downward}

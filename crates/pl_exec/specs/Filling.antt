@@ -1,7 +1,7 @@
 -- A term that is computed while its bar columns are in slots.
 use Rattle.std.specs.Prelude.{◌≡◌, ℕ, ◌+◌, ◌-◌, ℤ, List, max}
 use Rattle.pl_spec.specs.Limits.{cut}
-use Rattle.pl_spec.specs.Term as spec
+use Rattle.pl_pipeline.specs.Term as spec
 use Rattle.pl_terms.specs.Nodes.{node_of}
 use Rattle.pl_workspace.specs.Slots.{Slots, live_count}
 use Rattle.pl_exec.specs.declared.compute.Filled.{Filled}

@@ -6,9 +6,9 @@ use Rattle.pl_spec.specs.declared.Column.TheVariants.{OpenPrice, High, Low, Clos
 use Rattle.pl_spec.specs.Parts.{sid_at}
 use Rattle.pl_spec.specs.World.{World, column_number}
 use Rattle.pl_spec.specs.Window.{applied_steps}
-use Rattle.pl_spec.specs.Term.{Graph, Node}
-use Rattle.pl_spec.specs.Graph.{contains, columns_at, input_column, used_terms}
-use Rattle.pl_spec.specs.Table.{Pipeline, array_of}
+use Rattle.pl_pipeline.specs.Term.{Graph, Node}
+use Rattle.pl_pipeline.specs.Graph.{contains, columns_at, input_column, used_terms}
+use Rattle.pl_pipeline.specs.Table.{Pipeline, array_of}
 use Rattle.pl_terms.specs.Uses.{outputs}
 use Rattle.pl_planner.specs.Plans.{Planned, is_used, low_at, last_user, slot_of}
 use Rattle.pl_values.specs.Arrays.{cell_of, Holds, HasAll}

@@ -1,6 +1,6 @@
 //! The used terms of a chunk, one after the other, each in its planned slot.
 ghost use Rattle.std.specs.Prelude.{◌≡◌, ◌+◌, ◌<◌, ◌≤◌, ◌&&◌, ℕ, true, length, max, option_map};
-ghost use Rattle.pl_spec.specs.Graph.{bound, columns_at};
+ghost use Rattle.pl_pipeline.specs.Graph.{bound, columns_at};
 ghost use Rattle.pl_spec.specs.Limits.{cut};
 ghost use Rattle.pl_terms.specs.Checked.{pipeline_of};
 ghost use Rattle.pl_terms.specs.Nodes.{number_of};

@@ -1,7 +1,7 @@
 //! The distinct bar columns among the inputs of a node.
 ghost use Rattle.std.specs.Prelude.{◌≡◌, ◌≤◌, length, filter_map, map, option_map, slice_get};
 ghost use Rattle.pl_spec.specs.World.{column_number};
-ghost use Rattle.pl_spec.specs.Graph.{contains, input_column};
+ghost use Rattle.pl_pipeline.specs.Graph.{contains, input_column};
 ghost use Rattle.pl_terms.specs.Nodes.{input_of, node_of};
 ghost use Rattle.pl_exec.specs.Jobs as spec;
 

@@ -1,6 +1,6 @@
 //! One term, with its bar columns in their slots while it is computed.
 ghost use Rattle.std.specs.Prelude.{◌≡◌, ◌+◌, ◌*◌, ◌<◌, ◌≤◌, length};
-ghost use Rattle.pl_spec.specs.Graph.{columns_at};
+ghost use Rattle.pl_pipeline.specs.Graph.{columns_at};
 ghost use Rattle.pl_terms.specs.Nodes.{node_of};
 ghost use Rattle.pl_workspace.specs.Slots.{live_count};
 ghost use Rattle.pl_exec.specs.Tasks.{assets_in, count_in, graph_in, row_count};

@@ -2,7 +2,7 @@
 //! else session by session.
 ghost use Rattle.std.specs.Prelude.{◌≡◌, ◌+◌, ◌*◌, ◌<◌, ◌≤◌, ℕ, true, false, pos, get_or, length, slice_set, [], ◌∷◌};
 ghost use Rattle.pl_spec.specs.Rounding.{IsCell};
-ghost use Rattle.pl_spec.specs.Graph.{columns_at};
+ghost use Rattle.pl_pipeline.specs.Graph.{columns_at};
 ghost use Rattle.pl_spec.specs.Limits.{cut};
 ghost use Rattle.pl_adjarray.specs.Buffered.{applied_at};
 ghost use Rattle.pl_values.specs.Arrays.{IsRow};

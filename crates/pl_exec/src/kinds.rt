@@ -1,7 +1,7 @@
 //! The cells of one term on one session, family by family of kinds.
 ghost use Rattle.std.specs.Prelude.{◌≡◌, ◌+◌, ◌<◌, ◌≤◌, true, Some, length, slice_get};
-ghost use Rattle.pl_spec.specs.Kind.Kind.{Downsample};
-ghost use Rattle.pl_spec.specs.Term.Input.{TermInput};
+ghost use Rattle.pl_pipeline.specs.Kind.Kind.{Downsample};
+ghost use Rattle.pl_pipeline.specs.Term.Input.{TermInput};
 ghost use Rattle.pl_terms.specs.Sorts.{is_downsampled};
 ghost use Rattle.pl_cross.specs.Section.{is_section};
 ghost use Rattle.pl_values.specs.Families.{IsOf};

@@ -1,6 +1,6 @@
 //! Constants, sids, labels, numbers and tests of labels, for an asset on all sessions at once, kept or not.
 ghost use Rattle.std.specs.Prelude.{◌≡◌, true, length};
-ghost use Rattle.pl_spec.specs.Kind.Kind.{Constant, Label, Number};
+ghost use Rattle.pl_pipeline.specs.Kind.Kind.{Constant, Label, Number};
 ghost use Rattle.pl_values.specs.Families.{is_label_test, is_sids};
 ghost use Rattle.pl_exec.specs.Jobs.{AreGiven, IsLane, node_in};
 

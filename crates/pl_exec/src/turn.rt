@@ -2,7 +2,7 @@
 ghost use Rattle.std.specs.Prelude.{◌≡◌, ◌+◌, ◌<◌, ◌≤◌, ℕ, All, Some, length, pos, get_or, slice_get};
 ghost use Rattle.pl_spec.specs.Rounding.{IsCell};
 ghost use Rattle.pl_spec.specs.World.{exists};
-ghost use Rattle.pl_spec.specs.Term.Input.{TermInput};
+ghost use Rattle.pl_pipeline.specs.Term.Input.{TermInput};
 ghost use Rattle.pl_cross.specs.Arrays.{sid_in};
 ghost use Rattle.pl_values.specs.Arrays.{Fills, IsKeep, chosen, is_kept};
 ghost use Rattle.pl_values.specs.Inputs.{IsInputRow};

@@ -8,10 +8,10 @@ use Rattle.std.proofs.lemmas.List.FromFn.{map-range_with_len_more}
 use Rattle.std.proofs.lemmas.Option.{slice_get_within}
 use Rattle.pl_spec.specs.declared.AssetRow.{AssetRow}
 use Rattle.pl_spec.specs.Parts.{sid_at}
-use Rattle.pl_spec.specs.Term as spec
-use Rattle.pl_spec.specs.Term.{tree_over, trees, term_at}
-use Rattle.pl_spec.specs.Reaching.{HasWindows}
-use Rattle.pl_spec.proofs.Trees.{term_at-node}
+use Rattle.pl_pipeline.specs.Term as spec
+use Rattle.pl_pipeline.specs.Term.{tree_over, trees, term_at}
+use Rattle.pl_pipeline.specs.Reaching.{HasWindows}
+use Rattle.pl_pipeline.proofs.Trees.{term_at-node}
 use Rattle.pl_terms.proofs.Windowed.{windowed}
 use Rattle.pl_terms.specs.declared.node.Input.{Input}
 use Rattle.pl_terms.specs.declared.node.Input.TheVariants as input

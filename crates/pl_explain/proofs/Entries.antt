@@ -7,8 +7,8 @@ use Rattle.pl_spec.specs.declared.AssetRow.{AssetRow}
 use Rattle.pl_spec.specs.Parts.{sid_at}
 use Rattle.pl_spec.specs.Rounding.{IsCell}
 use Rattle.pl_spec.specs.World.{exists, living_sids}
-use Rattle.pl_spec.specs.Term.{Node}
-use Rattle.pl_spec.specs.Term.Input.{TermInput}
+use Rattle.pl_pipeline.specs.Term.{Node}
+use Rattle.pl_pipeline.specs.Term.Input.{TermInput}
 use Rattle.pl_derivation.specs.Facts.{Fact, number_facts, facts_now, over_inputs, entry_facts}
 use Rattle.pl_derivation.specs.Facts.Fact.{Worth}
 use Rattle.pl_explain.specs.declared.told.Told.{Told}

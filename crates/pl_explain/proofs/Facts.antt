@@ -5,8 +5,8 @@ use Rattle.std.proofs.lemmas.Bool.{cases_lt}
 use Rattle.std.proofs.lemmas.Int.{ints}
 use Rattle.pl_spec.specs.declared.Column.{Column}
 use Rattle.pl_spec.specs.Window.{before}
-use Rattle.pl_spec.specs.Term.{Input}
-use Rattle.pl_spec.specs.Term.Input.{BarColumn, TermInput}
+use Rattle.pl_pipeline.specs.Term.{Input}
+use Rattle.pl_pipeline.specs.Term.Input.{BarColumn, TermInput}
 use Rattle.pl_spec.proofs.Windows.{bar_window-sessions, before-pos, downward-sessions}
 use Rattle.pl_terms.specs.declared.node.Input as code
 use Rattle.pl_terms.specs.declared.node.Input.TheVariants as inputs

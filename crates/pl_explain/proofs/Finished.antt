@@ -13,8 +13,8 @@ use Rattle.pl_spec.specs.Rounding.{IsCell}
 use Rattle.pl_spec.specs.Parts.{sid_at}
 use Rattle.pl_spec.specs.World.{World as SpecWorld, exists, bar_cell}
 use Rattle.pl_spec.specs.Window.{Effect, effects}
-use Rattle.pl_spec.specs.Term.{term_at}
-use Rattle.pl_spec.specs.Graph.{reach}
+use Rattle.pl_pipeline.specs.Term.{term_at}
+use Rattle.pl_pipeline.specs.Graph.{reach}
 use Rattle.pl_terms.specs.declared.node.Node.{Node}
 use Rattle.pl_terms.specs.Checked.{Parts, pipeline_of, IsChecked}
 use Rattle.pl_terms.specs.Nodes.{graph_of, number_of}

@@ -7,8 +7,8 @@ use Rattle.std.proofs.lemmas.Bool.{true≢false, or_cases, or_left}
 use Rattle.std.proofs.lemmas.List.Folds.{list_any-append}
 use Rattle.pl_spec.specs.Rounding.{IsCell}
 use Rattle.pl_spec.specs.World.{World as SpecWorld}
-use Rattle.pl_spec.specs.Term.{IsGraph}
-use Rattle.pl_spec.specs.Table.{Pipeline}
+use Rattle.pl_pipeline.specs.Term.{IsGraph}
+use Rattle.pl_pipeline.specs.Table.{Pipeline}
 use Rattle.pl_cross.specs.Arrays.{HasTexts}
 use Rattle.pl_derivation.specs.Lines.{Line}
 use Rattle.pl_derivation.specs.Facts.{Fact, same_fact, number_in, premises}

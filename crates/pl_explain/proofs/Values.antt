@@ -5,14 +5,14 @@ use Rattle.pl_spec.specs.Rounding.{IsCell}
 use Rattle.pl_spec.specs.World.{World as SpecWorld, exists}
 use Rattle.pl_spec.specs.declared.Frequency.{Frequency}
 use Rattle.pl_spec.specs.Periods.{period_start}
-use Rattle.pl_spec.specs.Kind as kinds
-use Rattle.pl_spec.specs.Kind.{Kind}
-use Rattle.pl_spec.specs.Term as spec
-use Rattle.pl_spec.specs.Value.{passes, holds, number_of as number_in_value, empty, sort_kind}
-use Rattle.pl_spec.specs.NodeValue.{number_part}
-use Rattle.pl_spec.specs.Table.{Pipeline}
-use Rattle.pl_spec.specs.Term.{IsGraph, term_at}
-use Rattle.pl_spec.proofs.Cells.{empty-cell}
+use Rattle.pl_pipeline.specs.Kind as kinds
+use Rattle.pl_pipeline.specs.Kind.{Kind}
+use Rattle.pl_pipeline.specs.Term as spec
+use Rattle.pl_pipeline.specs.Value.{passes, holds, number_of as number_in_value, empty, sort_kind}
+use Rattle.pl_pipeline.specs.NodeValue.{number_part}
+use Rattle.pl_pipeline.specs.Table.{Pipeline}
+use Rattle.pl_pipeline.specs.Term.{IsGraph, term_at}
+use Rattle.pl_pipeline.proofs.Cells.{empty-cell}
 use Rattle.pl_terms.specs.declared.node.TermId.{TermId}
 use Rattle.pl_terms.specs.declared.node.Input.{Input}
 use Rattle.pl_terms.specs.declared.node.Input.TheVariants as input

@@ -5,9 +5,9 @@ use Rattle.pl_spec.specs.Rounding.{IsCell}
 use Rattle.pl_spec.specs.World.{World as SpecWorld, known_number, label_at}
 use Rattle.pl_spec.specs.declared.Frequency.{Frequency}
 use Rattle.pl_spec.specs.Periods.{period_start}
-use Rattle.pl_spec.specs.Value.{name_at}
-use Rattle.pl_spec.specs.Kind as kinds
-use Rattle.pl_spec.specs.Term as spec
+use Rattle.pl_pipeline.specs.Value.{name_at}
+use Rattle.pl_pipeline.specs.Kind as kinds
+use Rattle.pl_pipeline.specs.Term as spec
 use Rattle.pl_terms.specs.declared.node.Input.{Input}
 use Rattle.pl_terms.specs.declared.node.Node.{Node}
 use Rattle.pl_terms.specs.Kinds.{kind_of}

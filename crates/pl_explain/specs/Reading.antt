@@ -1,7 +1,7 @@
 -- The facts of windows, and facts that are put after others.
 use Rattle.std.specs.Prelude.{◌≡◌, ℕ, ◌+◌, ◌≤◌, ℤ, List, ◌++◌, map, Option, Some, None}
-use Rattle.pl_spec.specs.Term as term
-use Rattle.pl_spec.specs.Term.Input.{BarColumn, TermInput}
+use Rattle.pl_pipeline.specs.Term as term
+use Rattle.pl_pipeline.specs.Term.Input.{BarColumn, TermInput}
 use Rattle.pl_terms.specs.declared.node.Input.{Input}
 use Rattle.pl_terms.specs.Nodes.{input_of}
 use Rattle.pl_derivation.specs.Facts as spec

@@ -3,8 +3,8 @@ use Rattle.std.specs.Prelude.{◌≡◌, ℕ, ◌<◌, ◌≤◌, true, ℤ, pos
 use Rattle.pl_spec.specs.Limits.{most_lines}
 use Rattle.pl_spec.specs.World as spec
 use Rattle.pl_spec.specs.World.{day_of}
-use Rattle.pl_spec.specs.Term.{term_at}
-use Rattle.pl_spec.specs.Graph.{reach}
+use Rattle.pl_pipeline.specs.Term.{term_at}
+use Rattle.pl_pipeline.specs.Graph.{reach}
 use Rattle.pl_terms.specs.Checked.{Parts, pipeline_of}
 use Rattle.pl_world.specs.declared.world.World.{World}
 use Rattle.pl_world.specs.Worlds.{world_of}

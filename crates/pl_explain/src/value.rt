@@ -1,6 +1,6 @@
 //! The value of a term for an asset on a session.
 ghost use Rattle.std.specs.Prelude.{◌≡◌, ◌<◌, IfOk, OnOk, length, slice_get, Some};
-ghost use Rattle.pl_spec.specs.Kind.{Kind};
+ghost use Rattle.pl_pipeline.specs.Kind.{Kind};
 ghost use Rattle.pl_spec.specs.Rounding.{IsCell};
 ghost use Rattle.pl_terms.specs.Kinds.{kind_of};
 ghost use Rattle.pl_terms.specs.Sorts.{is_windowed};

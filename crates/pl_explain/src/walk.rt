@@ -1,10 +1,10 @@
 //! The derivation of a value.
 ghost use Rattle.std.specs.Prelude.{◌≡◌, ◌<◌, ◌≤◌, ◌≤ℤ◌, ◌∷◌, [], ◌+◌, IfErr, IfOk, IsTrue, OnOk, false, length, map, pos, true};
 ghost use Rattle.pl_spec.specs.Limits.{most_lines};
-ghost use Rattle.pl_spec.specs.Graph.{reach};
+ghost use Rattle.pl_pipeline.specs.Graph.{reach};
 ghost use Rattle.pl_spec.specs.Parts.{sid_at};
 ghost use Rattle.pl_spec.specs.Rounding.{IsCell};
-ghost use Rattle.pl_spec.specs.Term.{term_at};
+ghost use Rattle.pl_pipeline.specs.Term.{term_at};
 ghost use Rattle.pl_spec.specs.World.{exists};
 ghost use Rattle.pl_cross.specs.Section.{is_section};
 ghost use Rattle.pl_derivation.specs.Facts.Fact.{Seen, Worth};

@@ -18,7 +18,7 @@ use Rattle.pl_spec.specs.Rounding.{MISSING}
 use Rattle.pl_spec.specs.World.{Event, bar_cell, cell_in, day_of, events_of, exists, lives_on}
 use Rattle.pl_spec.proofs.Lists.{filter-filter}
 use Rattle.pl_laws.proofs.AsOf.{slice_get-take}
-use Rattle.pl_laws.proofs.Law.{labels-of_days}
+use Rattle.pl_spec.proofs.Labels.{labels-of_days}
 use Rattle.pl_bars.specs.Bars.{cell_at, cell_of, is_at}
 use Rattle.pl_bars.proofs.BarWorlds.{cells_raw}
 use Rattle.pl_adjust.specs.Columns.{events_at}

@@ -3,7 +3,7 @@ use Rattle.std.proofs.Common.{◌≡◌, ℕ, suc, ◌+◌, ◌<◌, ℤ, pos, L
 use Rattle.std.proofs.lemmas.Option.{slice_get-get_or}
 use Rattle.pl_spec.specs.declared.AssetRow.{AssetRow}
 use Rattle.pl_spec.specs.Parts.{ColumnAdjustment, ColumnNumber, sid_at}
-use Rattle.pl_spec.specs.Table.{NamedColumn, Pipeline, in_array, value_of}
+use Rattle.pl_pipeline.specs.Table.{NamedColumn, Pipeline, in_array, value_of}
 use Rattle.pl_assets.specs.Labels.{LabelTable}
 use Rattle.pl_values.specs.Arrays.{cell_of}
 use Rattle.pl_table.proofs.Outputs.{cell-is, sid-of-place}

@@ -9,12 +9,12 @@ use Rattle.std.proofs.lemmas.Int.{ints}
 use Rattle.std.proofs.lemmas.List.{drop_all}
 use Rattle.pl_spec.specs.declared.AssetRow.{AssetRow}
 use Rattle.pl_spec.specs.declared.Format.{Format}
-use Rattle.pl_spec.specs.Graph.{least_of, reach}
-use Rattle.pl_spec.specs.Lows.{least_reach}
+use Rattle.pl_pipeline.specs.Graph.{least_of, reach}
+use Rattle.pl_pipeline.specs.Lows.{least_reach}
 use Rattle.pl_spec.specs.Parts.{ColumnNumber, sid_at}
-use Rattle.pl_spec.specs.Table.{Pipeline, Row, kept_sids, row, session_rows, table, value_of}
-use Rattle.pl_spec.specs.Term.{Graph, term_at}
-use Rattle.pl_spec.specs.Text.{row_line}
+use Rattle.pl_pipeline.specs.Table.{Pipeline, Row, kept_sids, row, session_rows, table, value_of}
+use Rattle.pl_pipeline.specs.Term.{Graph, term_at}
+use Rattle.pl_pipeline.specs.Text.{row_line}
 use Rattle.pl_spec.specs.World as worlds
 use Rattle.pl_spec.specs.World.{IsWorld}
 use Rattle.pl_spec.proofs.Signed.{min-rises}

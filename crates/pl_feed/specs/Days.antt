@@ -5,7 +5,7 @@ use Rattle.pl_spec.specs.declared.BarRow.{BarRow}
 use Rattle.pl_spec.specs.Parts.{ColumnAdjustment}
 use Rattle.pl_spec.specs.World as worlds
 use Rattle.pl_spec.specs.World.{Event}
-use Rattle.pl_spec.specs.Table.{Pipeline}
+use Rattle.pl_pipeline.specs.Table.{Pipeline}
 use Rattle.pl_bars.specs.Bars.{cells_at}
 use Rattle.pl_adjust.specs.Columns.{events_at}
 use Rattle.pl_world.specs.declared.world.World.{World}

@@ -1,6 +1,6 @@
 -- The memory of a run.
 use Rattle.std.specs.Prelude.{ℕ, ◌≤◌, length, vec_capacity}
-use Rattle.pl_spec.specs.Table.{Pipeline}
+use Rattle.pl_pipeline.specs.Table.{Pipeline}
 use Rattle.pl_world.specs.declared.world.World.{World}
 use Rattle.pl_feed.specs.declared.desk.Desk.{Desk}
 use Rattle.pl_feed.specs.Days.{IsFed}

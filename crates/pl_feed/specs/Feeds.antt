@@ -6,7 +6,7 @@ use Rattle.pl_spec.specs.declared.Column.{Column}
 use Rattle.pl_spec.specs.declared.Column.TheVariants.{OpenPrice, High, Low, Close, Volume}
 use Rattle.pl_spec.specs.Window.{is_between}
 use Rattle.pl_spec.specs.World.{World, Event, events_of}
-use Rattle.pl_spec.specs.Table.{Pipeline}
+use Rattle.pl_pipeline.specs.Table.{Pipeline}
 use Rattle.pl_rings.specs.Rings.{scales}
 use Rattle.pl_daily.specs.Capacities.{column_window}
 

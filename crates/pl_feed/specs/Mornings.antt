@@ -2,7 +2,7 @@
 use Rattle.std.specs.Prelude.{◌≡◌, ℕ, ◌+◌, ◌<◌, true, if◌then◌else◌, nat_le, pos, List, [], length, map}
 use Rattle.pl_spec.specs.Parts.{sid_at}
 use Rattle.pl_spec.specs.World as worlds
-use Rattle.pl_spec.specs.Table.{Pipeline, Row, session_rows, value_of}
+use Rattle.pl_pipeline.specs.Table.{Pipeline, Row, session_rows, value_of}
 use Rattle.pl_cross.specs.Arrays.{HasTexts, sid_in}
 use Rattle.pl_world.specs.Worlds.{world_of}
 use Rattle.pl_terms.specs.Checked.{IsChecked, pipeline_of}

@@ -1,7 +1,7 @@
 //! One session.
 ghost use Rattle.std.specs.Prelude.{◌≡◌, ◌≤◌, ◌<◌, ◌+◌, length, vec_capacity};
 ghost use Rattle.pl_world.specs.Worlds.{IsMade, world_of};
-ghost use Rattle.pl_spec.specs.Table.{Pipeline};
+ghost use Rattle.pl_pipeline.specs.Table.{Pipeline};
 ghost use Rattle.pl_terms.specs.Checked.{pipeline_of};
 ghost use Rattle.pl_feed.specs.Feeds.{session_work};
 ghost use Rattle.pl_feed.specs.Days.{IsFed};

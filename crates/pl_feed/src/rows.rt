@@ -1,7 +1,7 @@
 //! The rows of a session.
 ghost use Rattle.std.specs.Prelude.{◌≡◌, ◌≤◌, ◌<◌, ◌+◌, ◌++◌, true, pos, length, slice_get, Some, OnOk};
-ghost use Rattle.pl_spec.specs.Table.{NamedColumn, row, session_rows};
-ghost use Rattle.pl_spec.specs.Text.{row_line};
+ghost use Rattle.pl_pipeline.specs.Table.{NamedColumn, row, session_rows};
+ghost use Rattle.pl_pipeline.specs.Text.{row_line};
 ghost use Rattle.pl_outside.specs.Taken.{IsWrittenIn, Writes};
 ghost use Rattle.pl_world.specs.Worlds.{IsMade, world_of};
 ghost use Rattle.pl_terms.specs.Checked.{pipeline_of};

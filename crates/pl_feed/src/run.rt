@@ -1,7 +1,7 @@
 //! The table of a plan's range, session by session.
 ghost use Rattle.std.specs.Prelude.{◌≡◌, ◌≤◌, ◌+◌, ◌++◌, ◌⊎◌, length, OnOk, IsErrOf};
-ghost use Rattle.pl_spec.specs.Table.{table};
-ghost use Rattle.pl_spec.specs.Text.{text};
+ghost use Rattle.pl_pipeline.specs.Table.{table};
+ghost use Rattle.pl_pipeline.specs.Text.{text};
 ghost use Rattle.pl_outside.specs.Taken.{IsWrittenIn, Writes};
 ghost use Rattle.pl_world.specs.Worlds.{IsMade, world_of};
 ghost use Rattle.pl_terms.specs.Checked.{pipeline_of};

@@ -5,7 +5,7 @@ use Rattle.std.proofs.lemmas.Bool.Decides.{nat_tests}
 use Rattle.std.proofs.lemmas.Int.{ints}
 use Rattle.std.proofs.lemmas.List.Elements.{All-tail}
 use Rattle.pl_spec.specs.Rounding.{is_present}
-use Rattle.pl_spec.specs.Formula.{is_true, present_values, total, count}
+use Rattle.pl_spec.specs.Cells.{is_true, present_values, total, count}
 use Rattle.pl_spec.proofs.Counts.{count-cons}
 use Rattle.pl_lanes.specs.Flags.{IsFlag}
 use Rattle.pl_lanes.proofs.Cells.{total-cons, few-present}

@@ -2,11 +2,11 @@
 use Rattle.std.specs.Prelude.{ℕ, ℤ, Bool, false, List, [], ⊤}
 use Rattle.std.specs.List.{All}
 use Rattle.pl_spec.specs.Rounding.{IsCell, MISSING}
-use Rattle.pl_spec.specs.Formula.{formula}
-use Rattle.pl_spec.specs.Kind.{Kind}
-use Rattle.pl_spec.specs.Kind.Kind.{Window, LabelTest}
-use Rattle.pl_spec.specs.Kind.{WindowKind as window}
-use Rattle.pl_spec.specs.Pointwise.{label_test}
+use Rattle.pl_pipeline.specs.Formula.{formula}
+use Rattle.pl_pipeline.specs.Kind.{Kind}
+use Rattle.pl_pipeline.specs.Kind.Kind.{Window, LabelTest}
+use Rattle.pl_pipeline.specs.Kind.{WindowKind as window}
+use Rattle.pl_pipeline.specs.Pointwise.{label_test}
 use Rattle.pl_terms.specs.declared.kind.LabelValue.{LabelValue}
 use Rattle.pl_terms.specs.declared.kind.LabelValue.TheVariants.{Number, Text}
 use Rattle.pl_lanes.specs.Flags.{IsFlag}

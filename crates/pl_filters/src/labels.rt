@@ -9,7 +9,7 @@ use pl_terms::{LabelValue, TermKind, Text};
 /// Whether a label's text passes the test: it is the kind's text, is another, begins or ends with it, or is
 /// one of the kind's list, byte by byte, as Zipline's classifiers test theirs. It asks for one of these
 /// kinds; a comparison with a number is none. It takes no memory.
-#[tactic(auto, unfolding(pl_spec::specs::Pointwise::label_test, pl_terms::specs::Kinds::kind_of))]
+#[tactic(auto, unfolding(pl_pipeline::specs::Pointwise::label_test, pl_terms::specs::Kinds::kind_of))]
 pub fn label_test(kind: &TermKind, text: &[u8]) -> bool
     requires { IsLabelTest (kind_of kind.now) }
     ensures { result ≡ passes (kind_of kind.now) text.now }

@@ -3,8 +3,9 @@ ghost use Rattle.std.specs.Prelude.{◌≡◌, ◌≤◌, [], length};
 ghost use Rattle.std.specs.List.{All, count_by};
 ghost use Rattle.pl_spec.specs.Limits.{most_window};
 ghost use Rattle.pl_spec.specs.Rounding.{IsCell};
-ghost use Rattle.pl_spec.specs.Formula.{is_true, formula};
-ghost use Rattle.pl_spec.specs.Kind.{WindowKind as window};
+ghost use Rattle.pl_spec.specs.Cells.{is_true};
+ghost use Rattle.pl_pipeline.specs.Formula.{formula};
+ghost use Rattle.pl_pipeline.specs.Kind.{WindowKind as window};
 ghost use Rattle.pl_terms.specs.Kinds.{kind_of};
 ghost use Rattle.pl_lanes.specs.Flags.{IsFlag};
 ghost use Rattle.pl_filters.specs.Filters.{IsWindowFilter, AreValues, filtered};
@@ -33,7 +34,7 @@ pub fn window_filter(kind: &TermKind, a: &[i64]) -> i64
 }
 
 // Whether at least n values of a filter are true.
-#[tactic(auto, unfolding(pl_spec::specs::Formula::formula))]
+#[tactic(auto, unfolding(pl_pipeline::specs::Formula::formula))]
 fn at_least(n: usize, flags: &[i64]) -> i64
     requires flags { All IsFlag flags.now }
     requires few { length flags.now ≤ most_window }
@@ -53,7 +54,7 @@ fn true_count(flags: &[i64]) -> usize
 }
 
 // Whether no cell is missing.
-#[tactic(auto, unfolding(pl_spec::specs::Formula::formula))]
+#[tactic(auto, unfolding(pl_pipeline::specs::Formula::formula))]
 fn all_present(cells: &[i64]) -> i64
     requires cells { All IsCell cells.now }
     requires few { length cells.now ≤ most_window }

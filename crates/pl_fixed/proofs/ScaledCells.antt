@@ -2,7 +2,7 @@
 use Rattle.std.proofs.Common.{◌≡◌, ℕ, zero, suc, ◌+◌, ◌*◌, ◌/◌, ◌<◌, ◌≤◌, false, ℤ, pos, negsuc, ◌*ℤ◌, unsigned_abs, refl, ap, ◌∙◌, sym, arith}
 use Rattle.std.proofs.Math.IntN.{pos-*ℤ-pos, negsuc-*ℤ-pos}
 use Rattle.pl_spec.specs.Rounding.{Fraction, LIMIT, div_round, is_missing, scaled, to_cell}
-use Rattle.pl_spec.proofs.Means.{to_cell-within}
+use Rattle.pl_spec.proofs.Within.{to_cell-within}
 use Rattle.pl_fixed.specs.Ratios.{signed}
 use Rattle.pl_fixed.proofs.RoundingLemmas.{div_round-neg}
 

@@ -9,8 +9,8 @@ use Rattle.std.proofs.lemmas.Option.{slice_get-get_or}
 use Rattle.pl_spec.specs.Limits.{most_lines}
 use Rattle.pl_spec.specs.declared.AssetRow.{AssetRow}
 use Rattle.pl_spec.specs.Parts.{sid_at}
-use Rattle.pl_spec.specs.Graph.Used.{output}
-use Rattle.pl_spec.specs.Table.{Pipeline, NamedColumn}
+use Rattle.pl_pipeline.specs.Graph.Used.{output}
+use Rattle.pl_pipeline.specs.Table.{Pipeline, NamedColumn}
 use Rattle.pl_spec.specs.World.{World}
 use Rattle.pl_derivation.specs.Facts.Fact.{Worth}
 use Rattle.pl_derivation.specs.Walks.{facts_for}

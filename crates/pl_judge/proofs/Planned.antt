@@ -10,9 +10,9 @@ use Rattle.std.proofs.lemmas.List.Folds.{list_any_at}
 use Rattle.std.proofs.lemmas.List.FromFn.{get_or-range_with_len, length-range_with_len}
 use Rattle.std.specs.Int.Signed.{≤ℤ_refl}
 use Rattle.pl_spec.specs.Limits.{most_extra_rows}
-use Rattle.pl_spec.specs.Graph.{contains, least_of, Used}
-use Rattle.pl_spec.specs.Lows.{Needs, IsLow}
-use Rattle.pl_spec.specs.Table.{Pipeline}
+use Rattle.pl_pipeline.specs.Graph.{contains, least_of, Used}
+use Rattle.pl_pipeline.specs.Lows.{Needs, IsLow}
+use Rattle.pl_pipeline.specs.Table.{Pipeline}
 use Rattle.pl_spec.proofs.Signed.{le-both}
 use Rattle.pl_laws.proofs.Reaches.{AllFrom, below_least}
 use Rattle.pl_laws.proofs.Uses.{lower, used_terms-complete}

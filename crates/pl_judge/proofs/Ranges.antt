@@ -6,8 +6,8 @@ use Rattle.std.specs.Ordering.{int_eq}
 use Rattle.std.proofs.lemmas.Bool.Decides.{nat_tests}
 use Rattle.std.proofs.lemmas.List.Quantifiers.{position-Some}
 use Rattle.std.proofs.lemmas.Option.{slice_get-get_or}
-use Rattle.pl_spec.specs.Lows.{least_reach}
-use Rattle.pl_spec.specs.Table.{Pipeline}
+use Rattle.pl_pipeline.specs.Lows.{least_reach}
+use Rattle.pl_pipeline.specs.Table.{Pipeline}
 use Rattle.pl_terms.specs.Checked.{IsChecked}
 use Rattle.pl_terms.specs.Uses.{outputs}
 use Rattle.pl_planner.specs.declared.plans.PlanError.{PlanError}

@@ -3,9 +3,9 @@ use Rattle.std.specs.Prelude.{ℕ, ℤ, pos, List, [], ◌∷◌, length, nat_lt
 use Rattle.std.specs.Int.RustNames.{int_lt}
 use Rattle.pl_spec.specs.Limits.{most_lines}
 use Rattle.pl_spec.specs.declared.AssetRow.{AssetRow}
-use Rattle.pl_spec.specs.Graph.{reach}
-use Rattle.pl_spec.specs.Term.{term_at}
-use Rattle.pl_spec.specs.Table.{Pipeline}
+use Rattle.pl_pipeline.specs.Graph.{reach}
+use Rattle.pl_pipeline.specs.Term.{term_at}
+use Rattle.pl_pipeline.specs.Table.{Pipeline}
 use Rattle.pl_spec.specs.World.{World}
 use Rattle.pl_lifetimes.specs.Assets.{sid_of}
 use Rattle.pl_derivation.specs.Facts.Fact.{Worth}

@@ -5,10 +5,10 @@ use Rattle.std.specs.Int.{int_gap}
 use Rattle.std.specs.Int.RustNames.{int_lt}
 use Rattle.pl_spec.specs.Limits.{most_extra_rows}
 use Rattle.pl_spec.specs.Window.{before}
-use Rattle.pl_spec.specs.Term.{Node, Graph}
-use Rattle.pl_spec.specs.Graph.{input_number, least_of, reads_at}
-use Rattle.pl_spec.specs.Lows.{least_reach}
-use Rattle.pl_spec.specs.Table.{Pipeline}
+use Rattle.pl_pipeline.specs.Term.{Node, Graph}
+use Rattle.pl_pipeline.specs.Graph.{input_number, least_of, reads_at}
+use Rattle.pl_pipeline.specs.Lows.{least_reach}
+use Rattle.pl_pipeline.specs.Table.{Pipeline}
 use Rattle.pl_terms.specs.Uses.{outputs, is_used}
 use Rattle.pl_planner.specs.Plans.{Planned, extra}
 

@@ -2,7 +2,7 @@
 use Rattle.std.specs.Prelude.{◌≡◌, ⊤, ℕ, ℤ, pos, List, [], ◌∷◌, ◌++◌, not, ◌||◌, Bool, false, nat_lt, Option, Some, None, is_some, option_map, unwrap_or, position, slice_get}
 use Rattle.std.specs.Int.RustNames.{int_lt}
 use Rattle.std.specs.Ordering.{int_eq}
-use Rattle.pl_spec.specs.Table.{Pipeline}
+use Rattle.pl_pipeline.specs.Table.{Pipeline}
 use Rattle.pl_words.specs.declared.request.RangeDate.TheVariants.{From, To, AsOf}
 use Rattle.pl_words.specs.Request.{Dated}
 use Rattle.pl_judge.specs.declared.fault.Fault.TheVariants.{NotSession, Backwards, TooEarly, Passed}

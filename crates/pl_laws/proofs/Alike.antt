@@ -10,12 +10,13 @@ use Rattle.pl_spec.specs.Numbers.{number_at}
 use Rattle.pl_spec.specs.Permuted.{AgreeInAll}
 use Rattle.pl_spec.specs.Window.{effects_in}
 use Rattle.pl_spec.specs.World.{World, IsWorld, bar_cell, day_of, events_of, exists, label_at, living_sids, lives_on}
-use Rattle.pl_spec.specs.Term.{Term}
-use Rattle.pl_spec.specs.Term.Term.{absent, column, node}
-use Rattle.pl_spec.specs.Value.{empty, sort_kind, value}
-use Rattle.pl_spec.specs.Table.{Pipeline, Row, is_kept, row, session_rows, table}
+use Rattle.pl_pipeline.specs.Term.{Term}
+use Rattle.pl_pipeline.specs.Term.Term.{absent, column, node}
+use Rattle.pl_pipeline.specs.Value.{empty, sort_kind, value}
+use Rattle.pl_pipeline.specs.Table.{Pipeline, Row, is_kept, row, session_rows, table}
 use Rattle.pl_spec.specs.Dates.{date_text}
-use Rattle.pl_spec.specs.Text.{header, line, row_fields, row_line, text}
+use Rattle.pl_pipeline.specs.Text.{header, row_fields, row_line, text}
+use Rattle.pl_spec.specs.Lines.{line}
 use Rattle.pl_laws.specs.PermutedLaws.{AgreeingWorldsAreAlike}
 use Rattle.pl_laws.proofs.Law as law
 use Rattle.pl_laws.proofs.Law.{SeenAlike}

@@ -19,7 +19,8 @@ use Rattle.pl_spec.specs.AsOf.{as_of, has_started, bars_before, adjustments_by, 
 use Rattle.pl_spec.proofs.Lists.{filter-map, filter-filter, filter-swap}
 use Rattle.pl_spec.proofs.Numbers.{numbers_look_back}
 use Rattle.pl_laws.specs.AsOfLaws.{PartsOf}
-use Rattle.pl_laws.proofs.Law.{day_by, labels-of_days}
+use Rattle.pl_laws.proofs.Law.{day_by}
+use Rattle.pl_spec.proofs.Labels.{labels-of_days}
 
 -- ---- lists
 

@@ -3,14 +3,14 @@
 use Rattle.std.proofs.Common.{◌≡◌, ℕ, ◌-◌, ℤ, pos, ◌≤ℤ◌, List, [], ◌∷◌, map, slice_get, refl, sym, ◌∙◌, ap, subst, arith}
 use Rattle.std.proofs.lemmas.Int.{ints}
 use Rattle.pl_spec.specs.Window.{before, downward}
-use Rattle.pl_spec.specs.Kind.{Kind}
-use Rattle.pl_spec.specs.Kind.Kind.{Constant, Label, Number, StaticSids, Window, Point, LabelTest, Cross, Downsample}
-use Rattle.pl_spec.specs.Term.{Term, Node, Graph, term_at}
-use Rattle.pl_spec.specs.Term.Term.{absent, column, node}
-use Rattle.pl_spec.specs.Graph.{least_of, part_reach, reads_at, reach}
-use Rattle.pl_spec.specs.Lows.{Reads, Needs, IsLow, least_reach}
-use Rattle.pl_spec.specs.Lows.Reads.{input, mask, group}
-use Rattle.pl_spec.specs.Lows.Needs.{output, read}
+use Rattle.pl_pipeline.specs.Kind.{Kind}
+use Rattle.pl_pipeline.specs.Kind.Kind.{Constant, Label, Number, StaticSids, Window, Point, LabelTest, Cross, Downsample}
+use Rattle.pl_pipeline.specs.Term.{Term, Node, Graph, term_at}
+use Rattle.pl_pipeline.specs.Term.Term.{absent, column, node}
+use Rattle.pl_pipeline.specs.Graph.{least_of, part_reach, reads_at, reach}
+use Rattle.pl_pipeline.specs.Lows.{Reads, Needs, IsLow, least_reach}
+use Rattle.pl_pipeline.specs.Lows.Reads.{input, mask, group}
+use Rattle.pl_pipeline.specs.Lows.Needs.{output, read}
 use Rattle.pl_laws.proofs.Starts.{start-same, start-within}
 
 -- up to session k

@@ -3,7 +3,7 @@ use Rattle.std.proofs.Common.{◌≡◌, ℕ, suc, ◌+◌, ◌-◌, ◌≤◌, 
 use Rattle.std.proofs.lemmas.Grind.{flat_map-append}
 use Rattle.std.specs.List.{range_with_len}
 use Rattle.pl_spec.specs.World.{World}
-use Rattle.pl_spec.specs.Table.{Pipeline, session_rows, table}
+use Rattle.pl_pipeline.specs.Table.{Pipeline, session_rows, table}
 use Rattle.pl_spec.proofs.Ranges.{range-split}
 
 pub table-split : (w : World) (p : Pipeline) (from mid to : ℕ) → from ≤ suc mid → mid ≤ to → table w p from to ≡ table w p from mid ++ table w p (suc mid) to

@@ -1,27 +1,27 @@
 -- What came to be known later doesn't change a value.
-use Rattle.std.proofs.Common.{◌≡◌, ℕ, suc, ◌<◌, ◌≤◌, Bool, true, false, ◌&&◌, cond, ℤ, pos, negsuc, ◌<ℤ◌, ◌≤ℤ◌, List, [], ◌∷◌, length, map, get_or, Option, Some, None, refl, sym, ◌∙◌, ap, arith, inl, inr, filter, filter_map, slice_get, AllPairs, ◌==◌, option_and_then, unwrap_or, option_map}
+use Rattle.std.proofs.Common.{◌≡◌, ℕ, suc, ◌<◌, ◌≤◌, Bool, true, false, ◌&&◌, cond, ℤ, pos, negsuc, ◌<ℤ◌, ◌≤ℤ◌, List, [], ◌∷◌, length, map, get_or, Option, Some, None, refl, sym, ◌∙◌, ap, arith, inl, inr, filter, filter_map, slice_get, AllPairs, ◌==◌, unwrap_or, option_map}
 use Rattle.std.proofs.Math.Path.{fun_ext}
 use Rattle.std.specs.List.{list_any}
 use Rattle.std.proofs.lemmas.Int.{ints}
 use Rattle.std.proofs.lemmas.Bool.{eqb-true, eq-eqb, ne_eqb, or_cases, or_left, true≢false, false_from_ne_true, cases_eq}
 use Rattle.std.proofs.lemmas.Option.{get_or_from_slice_get, slice_get_within}
 use Rattle.pl_spec.specs.Rounding.{MISSING, is_present}
-use Rattle.pl_spec.specs.World.{World, IsWorld, Event, events_of, day_of, bar_cell, exists, living_sids, label_at, is_label_of, last_started, nonempty, lives_on, known_number}
+use Rattle.pl_spec.specs.World.{World, IsWorld, Event, events_of, day_of, bar_cell, exists, living_sids, label_at, lives_on, known_number}
 use Rattle.pl_spec.specs.declared.AssetRow.{AssetRow}
 use Rattle.pl_spec.specs.declared.Column.{Column}
 use Rattle.pl_spec.specs.Window.{effect, is_between, effects_from, effects_in, effects, after_all, seen_cell, before, downward}
 use Rattle.pl_spec.specs.Agree.{Agree, is_known}
-use Rattle.pl_spec.specs.Kind.{Kind, CrossKind}
-use Rattle.pl_spec.specs.Kind as kinds
+use Rattle.pl_pipeline.specs.Kind.{Kind, CrossKind}
+use Rattle.pl_pipeline.specs.Kind as kinds
 use Rattle.pl_spec.specs.Numbers.{number_at}
-use Rattle.pl_spec.specs.Kind.Kind.{Constant, Label, StaticSids, Window, Point, LabelTest, Cross, Downsample}
-use Rattle.pl_spec.specs.Kind.CrossKind.{PeerCount}
+use Rattle.pl_pipeline.specs.Kind.Kind.{Constant, Label, StaticSids, Window, Point, LabelTest, Cross, Downsample}
+use Rattle.pl_pipeline.specs.Kind.CrossKind.{PeerCount}
 use Rattle.pl_spec.specs.Periods.{period_start}
 use Rattle.pl_laws.proofs.Starts.{start-same, start-within}
-use Rattle.pl_spec.specs.Term.{Term}
-use Rattle.pl_spec.specs.Term.Term.{absent, column, node}
-use Rattle.pl_spec.specs.Value.Value.{Number}
-use Rattle.pl_spec.specs.Value.{Meaning, part_of, number_of, holds, now, window_of, passes, in_group, entry, counts_for, eligible, group_of, label_value, name_at, test_value, step, value}
+use Rattle.pl_pipeline.specs.Term.{Term}
+use Rattle.pl_pipeline.specs.Term.Term.{absent, column, node}
+use Rattle.pl_pipeline.specs.Value.Value.{Number}
+use Rattle.pl_pipeline.specs.Value.{Meaning, part_of, number_of, holds, now, window_of, passes, in_group, entry, counts_for, eligible, group_of, label_value, name_at, test_value, step, value}
 use Rattle.pl_spec.proofs.Lists.{filter-filter}
 use Rattle.pl_spec.proofs.Windows.{before-less}
 
@@ -135,14 +135,6 @@ pub day_by : (w : World) → IsWorld w → (s d x day : ℤ) → s ≤ℤ d → 
 day_by w ok (pos i) (pos j) x day h e f = days_rise w.days i j x day ok.days_ascend (omega (arith, ints)) e f
 day_by w ok (pos i) (negsuc j) x day h e f = cc
 day_by w ok (negsuc i) d x day h e f = cc
-
--- ---- labels
-
--- worlds of the same label rows have the same labels on a session whose day is the same
-pub labels-of_days : (w v : World) → w.labels ≡ v.labels → (name : List ℕ) (a : ℕ) (s : ℤ) → day_of w s ≡ day_of v s → label_at w name a s ≡ label_at v name a s
-labels-of_days w v rows name a s days =
-    ap (λ ls. option_and_then (λ day. option_and_then (λ r. nonempty r.text) (last_started (filter (is_label_of name a day) ls))) (day_of w s)) rows
-    ∙ ap (λ o. option_and_then (λ day. option_and_then (λ r. nonempty r.text) (last_started (filter (is_label_of name a day) v.labels))) o) days
 
 -- ---- what worlds show up to a session
 

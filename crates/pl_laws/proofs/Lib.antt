@@ -1,4 +1,3 @@
-pub mod Buffer
 pub mod TableLaw
 pub mod Law
 pub mod AsOf
@@ -9,7 +8,6 @@ pub mod Worked
 pub mod Uses
 pub mod NoEvents
 pub mod Masks
-pub mod Steps
 pub mod Starts
 pub mod Rises
 pub mod Lows

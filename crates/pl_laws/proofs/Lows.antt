@@ -9,22 +9,22 @@ use Rattle.std.proofs.lemmas.Option.{slice_get-get_or, slice_get_within}
 use Rattle.std.specs.Int.Signed.{≤ℤ_refl}
 use Rattle.pl_spec.specs.declared.Frequency.{Frequency}
 use Rattle.pl_spec.specs.Periods.{period, same_period, first_session, period_start}
-use Rattle.pl_spec.specs.Kind.{Kind}
-use Rattle.pl_spec.specs.Kind.Kind.{Constant, Label, Number, StaticSids, Window, Point, LabelTest, Cross, Downsample}
+use Rattle.pl_pipeline.specs.Kind.{Kind}
+use Rattle.pl_pipeline.specs.Kind.Kind.{Constant, Label, Number, StaticSids, Window, Point, LabelTest, Cross, Downsample}
 use Rattle.pl_spec.specs.Window.{before, downward}
-use Rattle.pl_spec.specs.Term.{Term, Input, Node, Graph, input_tree, number_tree, tree_over, trees, term_at, IsGraph}
-use Rattle.pl_spec.specs.Term.Term.{absent, column, node}
-use Rattle.pl_spec.specs.Graph.{least_of, part_reach, reads_at, reach}
-use Rattle.pl_spec.specs.Graph.{contains}
-use Rattle.pl_spec.specs.Term.Input.{BarColumn, TermInput}
+use Rattle.pl_pipeline.specs.Term.{Term, Input, Node, Graph, input_tree, number_tree, tree_over, trees, term_at, IsGraph}
+use Rattle.pl_pipeline.specs.Term.Term.{absent, column, node}
+use Rattle.pl_pipeline.specs.Graph.{least_of, part_reach, reads_at, reach}
+use Rattle.pl_pipeline.specs.Graph.{contains}
+use Rattle.pl_pipeline.specs.Term.Input.{BarColumn, TermInput}
 use Rattle.pl_spec.specs.declared.Column.{Column}
-use Rattle.pl_spec.specs.Lows.{Reads, Needs, least_reach}
+use Rattle.pl_pipeline.specs.Lows.{Reads, Needs, least_reach}
 use Rattle.pl_laws.specs.LowLaws.{bar_from, own_from, LowsCover, ReachCovers, StartsAreFirst, ReachesRise}
 use Rattle.pl_laws.proofs.Starts.{first_within, start-within}
 use Rattle.pl_laws.proofs.Rises.{start-rises}
 use Rattle.pl_laws.proofs.Reaches.{AllFrom, below_least, at_downward}
-use Rattle.pl_spec.proofs.Trees.{term_at-node}
-use Rattle.pl_spec.proofs.Unfolds.{past}
+use Rattle.pl_pipeline.proofs.Trees.{term_at-node}
+use Rattle.pl_pipeline.proofs.Unfolds.{past}
 use Rattle.pl_spec.proofs.Signed.{int_eq-true, eq-int_eq, int_eq-itself, le-both, min-rises, min-either}
 use Rattle.pl_spec.proofs.Windows.{before-zero}
 

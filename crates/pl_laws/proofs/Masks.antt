@@ -4,15 +4,15 @@ use Rattle.std.specs.List.{list_any}
 use Rattle.std.proofs.lemmas.Bool.{eq-eqb, or_left, or_right}
 use Rattle.pl_spec.specs.Rounding.{is_present}
 use Rattle.pl_spec.specs.World.{World, exists, living_sids}
-use Rattle.pl_spec.specs.Kind as kinds
-use Rattle.pl_spec.specs.Kind.{Kind, CrossKind}
-use Rattle.pl_spec.specs.Kind.Kind.{Constant, Label, StaticSids, Window, Point, LabelTest, Cross, Downsample}
-use Rattle.pl_spec.specs.Cross.{Entry, cross}
-use Rattle.pl_spec.specs.Term.{Term}
-use Rattle.pl_spec.specs.Term.Term.{absent, column, node}
-use Rattle.pl_spec.specs.Value.{Part, part_of, number_of, holds, now, passes, in_group, entry, counts_for, eligible, group_of, sort_over, sort_kind, empty, step, value}
-use Rattle.pl_spec.specs.Value.Value.{Number}
-use Rattle.pl_spec.specs.Value.Part.{Nothing}
+use Rattle.pl_pipeline.specs.Kind as kinds
+use Rattle.pl_pipeline.specs.Kind.{Kind, CrossKind}
+use Rattle.pl_pipeline.specs.Kind.Kind.{Constant, Label, StaticSids, Window, Point, LabelTest, Cross, Downsample}
+use Rattle.pl_pipeline.specs.Cross.{Entry, cross}
+use Rattle.pl_pipeline.specs.Term.{Term}
+use Rattle.pl_pipeline.specs.Term.Term.{absent, column, node}
+use Rattle.pl_pipeline.specs.Value.{Part, part_of, number_of, holds, now, passes, in_group, entry, counts_for, eligible, group_of, sort_over, sort_kind, empty, step, value}
+use Rattle.pl_pipeline.specs.Value.Value.{Number}
+use Rattle.pl_pipeline.specs.Value.Part.{Nothing}
 
 -- two tests that agree on what stands in a list leave the same of it
 filter-agree : (p q : ℕ → Bool) (xs : List ℕ) → ((b : ℕ) → list_any (λ x. x == b) xs ≡ true → p b ≡ q b) → filter p xs ≡ filter q xs

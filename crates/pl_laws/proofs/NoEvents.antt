@@ -6,8 +6,8 @@ use Rattle.std.proofs.lemmas.Int.{ints}
 use Rattle.pl_spec.specs.declared.Column.{Column}
 use Rattle.pl_spec.specs.World.{World, day_of, events_of, bar_cell}
 use Rattle.pl_spec.specs.Window.{effects_from, after_all, seen_cell, before, downward, bar_window, raw_window}
-use Rattle.pl_spec.specs.Value.{Meaning, number_of, window_of}
-use Rattle.pl_spec.specs.Value.Part.{Values}
+use Rattle.pl_pipeline.specs.Value.{Meaning, number_of, window_of}
+use Rattle.pl_pipeline.specs.Value.Part.{Values}
 
 none_between : (c : Column) (low high : Option ℤ) → effects_from c low high [] ≡ []
 none_between c (Some low) (Some high) = refl

@@ -6,10 +6,11 @@ use Rattle.std.specs.Int.RustNames.{unsigned_abs}
 use Rattle.std.proofs.lemmas.Int.{ints}
 use Rattle.std.proofs.lemmas.List.Elements.{All-from_recursion}
 use Rattle.pl_spec.specs.Rounding.{MISSING, LIMIT, IsCell, is_missing, div_round, to_cell, quot}
-use Rattle.pl_spec.specs.Formula.{present_values, total, mean, if_any, greatest, least, formula}
+use Rattle.pl_spec.specs.Cells.{present_values, total, greatest, least}
+use Rattle.pl_pipeline.specs.Formula.{mean, if_any, formula}
 use Rattle.pl_laws.specs.ListLaws.{summaries}
-use Rattle.pl_spec.proofs.Means.{to_cell-within}
-use Rattle.pl_spec.proofs.Greatest.{missing-far}
+use Rattle.pl_spec.proofs.Within.{to_cell-within}
+use Rattle.pl_spec.proofs.Within.{missing-far}
 use Rattle.pl_spec.proofs.Nearest.{nearest_is-div_round}
 
 one_present : (x : ℤ) → is_missing x ≡ false → present_values (x ∷ []) ≡ x ∷ []

@@ -10,9 +10,9 @@ use Rattle.std.proofs.lemmas.List.Sorted.{IsPermutation-refl, IsPermutation-cons
 use Rattle.std.proofs.lemmas.List.Sums.{count_by-le-length}
 use Rattle.std.proofs.lemmas.Option.{slice_get_within, get_or_from_slice_get}
 use Rattle.std.proofs.lemmas.Simd.{map-map}
-use Rattle.pl_spec.specs.declared.RankOrder.{RankOrder}
-use Rattle.pl_spec.specs.declared.RankOrder.TheVariants.{Ascending, Descending}
-use Rattle.pl_spec.specs.Cross.{Entry, values, precedes, preceding, earlier_same, ordinal}
+use Rattle.pl_pipeline.specs.declared.RankOrder.{RankOrder}
+use Rattle.pl_pipeline.specs.declared.RankOrder.TheVariants.{Ascending, Descending}
+use Rattle.pl_pipeline.specs.Cross.{Entry, values, precedes, preceding, earlier_same, ordinal}
 use Rattle.pl_laws.specs.ListLaws.{StandsBefore}
 use Rattle.pl_spec.proofs.Counts.{count-cons, count-within, count-fewer, map-agree}
 use Rattle.pl_spec.proofs.Members.{In, in-contains}

@@ -8,15 +8,15 @@ use Rattle.pl_spec.specs.declared.Column.{Column}
 use Rattle.pl_spec.specs.Rounding.{is_present}
 use Rattle.pl_spec.specs.World.{World, Bar}
 use Rattle.pl_spec.specs.Window.{effects, after_all, seen_cell, before, downward}
-use Rattle.pl_spec.specs.Kind.{Kind, CrossKind}
-use Rattle.pl_spec.specs.Kind.Kind.{Constant, Label, Number, StaticSids, Window, Point, LabelTest, Cross, Downsample}
-use Rattle.pl_spec.specs.Kind.CrossKind.{PeerCount}
-use Rattle.pl_spec.specs.Term.{Term}
-use Rattle.pl_spec.specs.Term.Term.{absent, column, node}
-use Rattle.pl_spec.specs.Value.{Meaning, part_of, number_of, holds, now, window_of, passes, in_group, entry, counts_for, eligible, group_of, test_value, step, value}
-use Rattle.pl_spec.specs.Graph.{least_of, part_reach, reads_at, reach}
+use Rattle.pl_pipeline.specs.Kind.{Kind, CrossKind}
+use Rattle.pl_pipeline.specs.Kind.Kind.{Constant, Label, Number, StaticSids, Window, Point, LabelTest, Cross, Downsample}
+use Rattle.pl_pipeline.specs.Kind.CrossKind.{PeerCount}
+use Rattle.pl_pipeline.specs.Term.{Term}
+use Rattle.pl_pipeline.specs.Term.Term.{absent, column, node}
+use Rattle.pl_pipeline.specs.Value.{Meaning, part_of, number_of, holds, now, window_of, passes, in_group, entry, counts_for, eligible, group_of, test_value, step, value}
+use Rattle.pl_pipeline.specs.Graph.{least_of, part_reach, reads_at, reach}
 use Rattle.pl_spec.specs.Periods.{period_start}
-use Rattle.pl_spec.specs.Reaching.{HasWindows, SameBarsFrom}
+use Rattle.pl_pipeline.specs.Reaching.{HasWindows, SameBarsFrom}
 use Rattle.pl_spec.proofs.Windows.{map-downward, before-zero}
 
 -- ---- the least of sessions

@@ -4,8 +4,8 @@ use Rattle.std.proofs.Math.Path.{fun_ext}
 use Rattle.std.specs.List.{range_with_len}
 use Rattle.std.proofs.lemmas.Int.{ints}
 use Rattle.pl_spec.specs.World.{World, IsWorld, living_sids}
-use Rattle.pl_spec.specs.Value.{Value, holds}
-use Rattle.pl_spec.specs.Table.{Pipeline, Row, is_kept, kept_sids, row, session_rows, table}
+use Rattle.pl_pipeline.specs.Value.{Value, holds}
+use Rattle.pl_pipeline.specs.Table.{Pipeline, Row, is_kept, kept_sids, row, session_rows, table}
 use Rattle.pl_laws.proofs.Law as law
 use Rattle.pl_laws.proofs.Law.{SeenAlike}
 

@@ -8,8 +8,9 @@ use Rattle.pl_spec.specs.declared.Format.{Format}
 use Rattle.pl_spec.specs.Dates.{date_text}
 use Rattle.pl_spec.specs.World.{World, IsWorld}
 use Rattle.pl_spec.specs.Agree.{Agree}
-use Rattle.pl_spec.specs.Table.{Pipeline, Row, kept_sids, row, session_rows, table}
-use Rattle.pl_spec.specs.Text.{header, line, row_fields, row_line, text}
+use Rattle.pl_pipeline.specs.Table.{Pipeline, Row, kept_sids, row, session_rows, table}
+use Rattle.pl_pipeline.specs.Text.{header, row_fields, row_line, text}
+use Rattle.pl_spec.specs.Lines.{line}
 use Rattle.pl_laws.proofs.Law.{agree-seen}
 use Rattle.pl_laws.proofs.TableLaw.{table_same}
 

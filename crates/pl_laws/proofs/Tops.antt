@@ -3,13 +3,13 @@ use Rattle.std.proofs.Common.{◌≡◌, ◌≢◌, ℕ, zero, suc, ◌+◌, ◌
 use Rattle.std.specs.List.{AllPairs, count_by, range_with_len}
 use Rattle.std.proofs.lemmas.Bool.Decides.{nat_tests}
 use Rattle.std.proofs.lemmas.List.Sorted.{sum_by-IsPermutation}
-use Rattle.pl_spec.specs.declared.RankOrder.{RankOrder}
-use Rattle.pl_spec.specs.declared.RankOrder.TheVariants.{Ascending, Descending}
-use Rattle.pl_spec.specs.Formula.{is_true}
-use Rattle.pl_spec.specs.Kind.CrossKind.{Top, Bottom}
-use Rattle.pl_spec.specs.Cross.{Entry, ordinal, cross}
+use Rattle.pl_pipeline.specs.declared.RankOrder.{RankOrder}
+use Rattle.pl_pipeline.specs.declared.RankOrder.TheVariants.{Ascending, Descending}
+use Rattle.pl_spec.specs.Cells.{is_true}
+use Rattle.pl_pipeline.specs.Kind.CrossKind.{Top, Bottom}
+use Rattle.pl_pipeline.specs.Cross.{Entry, ordinal, cross}
 use Rattle.pl_spec.proofs.Counts.{count-cons, count-agree, count-map}
-use Rattle.pl_spec.proofs.Cells.{is_true-truth}
+use Rattle.pl_pipeline.proofs.Cells.{is_true-truth}
 use Rattle.pl_laws.proofs.Ordinals.{ordinals-numbers}
 
 -- how many of the m numbers from a on are at most n

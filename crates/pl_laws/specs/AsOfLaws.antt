@@ -6,7 +6,7 @@ use Rattle.pl_spec.specs.World.{World, IsWorld}
 use Rattle.pl_spec.specs.Parts.{ColumnLabel, ColumnAdjustment, ColumnNumber, world_of, AreFor}
 use Rattle.pl_spec.specs.Agree.{Agree}
 use Rattle.pl_spec.specs.AsOf.{as_of, sessions_to, labels_by, bars_before, adjustments_by, column_numbers_by}
-use Rattle.pl_spec.specs.Table.{Pipeline, table}
+use Rattle.pl_pipeline.specs.Table.{Pipeline, table}
 
 -- the world as of a session is a world, and agrees with the whole up to the session
 abbrev pub AsOfAgrees : Type 0

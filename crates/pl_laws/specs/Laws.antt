@@ -1,20 +1,19 @@
 -- The laws of the definitions, each the contract of a function.
-use Rattle.std.specs.Prelude.{◌≡◌, true, ℕ, suc, ◌<◌, ◌≤◌, ◌++◌, ℤ, pos, ◌+ℤ◌, ◌≤ℤ◌, List, [], ◌∷◌, length, Some, slice_get}
-use Rattle.pl_spec.specs.Rounding.{Fraction, IsNearest, div_round, IsRoot, isqrt}
-use Rattle.pl_spec.specs.Graph.{Used, contains, used_terms}
+use Rattle.std.specs.Prelude.{◌≡◌, true, ℕ, suc, ◌<◌, ◌≤◌, ◌++◌, ℤ, pos, ◌≤ℤ◌, List, [], ◌∷◌, length, Some, slice_get}
+use Rattle.pl_spec.specs.Rounding.{IsNearest, div_round, IsRoot, isqrt}
+use Rattle.pl_pipeline.specs.Graph.{Used, contains, used_terms}
 use Rattle.pl_spec.specs.Order.{IsByDay, by_day}
-use Rattle.pl_spec.specs.Table.{Pipeline, table}
+use Rattle.pl_pipeline.specs.Table.{Pipeline, table}
 use Rattle.pl_spec.specs.declared.Column.{Column}
-use Rattle.pl_spec.specs.World.{World, IsWorld, Event, Adjustment, day_of, events_of, exists}
-use Rattle.pl_spec.specs.World.Change.{Scale}
-use Rattle.pl_spec.specs.Window.{effect, step_count, seen_cell, after_all, effects_in, bar_window, raw_window}
+use Rattle.pl_spec.specs.World.{World, IsWorld, Adjustment, events_of, exists}
+use Rattle.pl_spec.specs.Window.{bar_window, raw_window}
 use Rattle.pl_spec.specs.Agree.{Agree}
-use Rattle.pl_spec.specs.Kind.{Kind}
-use Rattle.pl_spec.specs.Term.{Term, Node, Graph, IsGraph, term_at}
-use Rattle.pl_spec.specs.Term.Term.{absent, node}
-use Rattle.pl_spec.specs.NodeValue.{meaning_of, node_value}
-use Rattle.pl_spec.specs.Value.{Meaning, number_of, holds, window_of, value}
-use Rattle.pl_spec.specs.Value.Part.{Values}
+use Rattle.pl_pipeline.specs.Kind.{Kind}
+use Rattle.pl_pipeline.specs.Term.{Term, Node, Graph, IsGraph, term_at}
+use Rattle.pl_pipeline.specs.Term.Term.{absent, node}
+use Rattle.pl_pipeline.specs.NodeValue.{meaning_of, node_value}
+use Rattle.pl_pipeline.specs.Value.{Meaning, number_of, holds, window_of, value}
+use Rattle.pl_pipeline.specs.Value.Part.{Values}
 
 -- later data changes no value: of every term, for every sid, at every session up to d
 abbrev pub ValuesAgree : Type 0
@@ -24,18 +23,6 @@ ValuesAgree = (w v : World) (d day : ℤ) → IsWorld w → IsWorld v → Agree 
 -- there is one nearest number, and div_round is it
 abbrev pub RoundingIsExact : Type 0
 RoundingIsExact = (a : ℤ) (b : ℕ) (q : ℤ) → 0 < b → IsNearest a b (div_round a b) × (IsNearest a b q → q ≡ div_round a b)
-
--- the buffer's step: a row as it is seen on d becomes the row as it is seen on the next session by the events
--- between the two days
-abbrev pub BufferSteps : Type 0
-BufferSteps = (w : World) → IsWorld w → (a : ℕ) (c : Column) (s d low mid high : ℤ)
-    → day_of w s ≡ Some low → day_of w d ≡ Some mid → day_of w (d +ℤ pos 1) ≡ Some high → low ≤ℤ mid → mid ≤ℤ high
-    → seen_cell w a c s (d +ℤ pos 1) ≡ after_all (seen_cell w a c s d) (effects_in c low mid high (events_of w a))
-
--- A ratio does the same to every bar, and the steps of one bar are those of any other.
-pub record BarsAreAlike : Type 0 where
-  pub ratios : (c : Column) (bar other : ℤ) (e : Event) (ratio : Fraction) → e.change ≡ Scale ratio → effect c bar e ≡ effect c other e
-  pub steps : (c : Column) (bar other low high : ℤ) (es : List Event) → step_count (effects_in c bar low high es) ≡ step_count (effects_in c other low high es)
 
 -- and no row of the table up to d
 abbrev pub TablesAgree : Type 0

@@ -1,15 +1,16 @@
 -- The laws of cross-sections and of windows on lists, each the contract of a function.
 use Rattle.std.specs.Prelude.{◌≡◌, ◌≢◌, ◌⊎◌, ◌↔◌, true, ℕ, ◌+◌, ◌-◌, ◌*◌, ◌<◌, ◌≤◌, min, ℤ, pos, neg_ℤ, ◌*ℤ◌, ◌<ℤ◌, ◌≤ℤ◌, List, [], ◌∷◌, length, map, Some, slice_get, count_by, All, AllPairs, Contains, IsPermutation}
 use Rattle.std.specs.List.{range_with_len}
-use Rattle.pl_spec.specs.declared.RankMethod.{RankMethod}
-use Rattle.pl_spec.specs.declared.RankOrder.{RankOrder}
-use Rattle.pl_spec.specs.declared.RankOrder.TheVariants.{Ascending, Descending}
+use Rattle.pl_pipeline.specs.declared.RankMethod.{RankMethod}
+use Rattle.pl_pipeline.specs.declared.RankOrder.{RankOrder}
+use Rattle.pl_pipeline.specs.declared.RankOrder.TheVariants.{Ascending, Descending}
 use Rattle.pl_spec.specs.Rounding.{IsCell, neg}
-use Rattle.pl_spec.specs.Formula.{is_true, count, least, greatest, mean, formula}
-use Rattle.pl_spec.specs.Kind.{WindowKind as window}
-use Rattle.pl_spec.specs.Kind.CrossKind.{Top, Bottom, PercentileBetween}
-use Rattle.pl_spec.specs.CrossFacts.{IsValueAt, edge_of, AreRanks, negated}
-use Rattle.pl_spec.specs.Cross.{Entry, values, precedes, ordinal, rank, value_at, edge, bin_of, cross}
+use Rattle.pl_spec.specs.Cells.{is_true, count, least, greatest}
+use Rattle.pl_pipeline.specs.Formula.{mean, formula}
+use Rattle.pl_pipeline.specs.Kind.{WindowKind as window}
+use Rattle.pl_pipeline.specs.Kind.CrossKind.{Top, Bottom, PercentileBetween}
+use Rattle.pl_pipeline.specs.CrossFacts.{IsValueAt, edge_of, AreRanks, negated}
+use Rattle.pl_pipeline.specs.Cross.{Entry, values, precedes, ordinal, rank, value_at, edge, bin_of, cross}
 
 -- the values in ascending order are those that value_at counts out
 abbrev pub ValuesAreSorted : Type 0

@@ -4,13 +4,13 @@ use Rattle.pl_spec.specs.declared.Column.{Column}
 use Rattle.pl_spec.specs.declared.Frequency.{Frequency}
 use Rattle.pl_spec.specs.Periods.{period, period_start}
 use Rattle.pl_spec.specs.Window.{before}
-use Rattle.pl_spec.specs.Term.{Term, Input, Node, Graph, term_at, IsGraph}
-use Rattle.pl_spec.specs.Term.Input.{BarColumn, TermInput}
-use Rattle.pl_spec.specs.Graph.{least_of, reads_at, reach}
+use Rattle.pl_pipeline.specs.Term.{Term, Input, Node, Graph, term_at, IsGraph}
+use Rattle.pl_pipeline.specs.Term.Input.{BarColumn, TermInput}
+use Rattle.pl_pipeline.specs.Graph.{least_of, reads_at, reach}
 use Rattle.pl_spec.specs.World.{World, Bar}
-use Rattle.pl_spec.specs.Reaching.{HasWindows, SameBarsFrom}
-use Rattle.pl_spec.specs.Value.{value}
-use Rattle.pl_spec.specs.Lows.{Reads, Needs, IsLow, least_reach}
+use Rattle.pl_pipeline.specs.Reaching.{HasWindows, SameBarsFrom}
+use Rattle.pl_pipeline.specs.Value.{value}
+use Rattle.pl_pipeline.specs.Lows.{Reads, Needs, IsLow, least_reach}
 
 -- bars before a term's reach may be others, or none: its value stays
 abbrev pub ReachIsEnough : Type 0

@@ -11,10 +11,10 @@ use Rattle.pl_spec.specs.Lookups.{BarsOnce, LabelsOnce}
 use Rattle.pl_spec.specs.Numbers.{NumbersOnce, number_at}
 use Rattle.pl_spec.specs.Order.{of_table, adjustments_of}
 use Rattle.pl_spec.specs.Permuted.{AgreeInAll, HaveSameRows, EventsHaveOwnDays, events_on}
-use Rattle.pl_spec.specs.Term.{Term}
-use Rattle.pl_spec.specs.Value.{value}
-use Rattle.pl_spec.specs.Table.{Pipeline, table}
-use Rattle.pl_spec.specs.Text.{text}
+use Rattle.pl_pipeline.specs.Term.{Term}
+use Rattle.pl_pipeline.specs.Value.{value}
+use Rattle.pl_pipeline.specs.Table.{Pipeline, table}
+use Rattle.pl_pipeline.specs.Text.{text}
 
 -- Worlds in which whatever is looked up is the same have the same values of every term for every sid on every
 -- session, and the same rows, and these are written alike.

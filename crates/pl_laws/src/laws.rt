@@ -1,6 +1,7 @@
 //! The laws of worlds, terms, tables and texts. The functions do nothing: the contract of each is a law.
 ghost use Rattle.pl_spec.specs.Lookups.{BarsAreFound, LabelsAreFound};
-ghost use Rattle.pl_laws.specs.Laws.{ValuesAgree, RoundingIsExact, BufferSteps, BarsAreAlike, TablesAgree, NodesUnfold};
+ghost use Rattle.pl_laws.specs.Laws.{ValuesAgree, RoundingIsExact, TablesAgree, NodesUnfold};
+ghost use Rattle.pl_spec.specs.Buffered.{BufferSteps, BarsAreAlike};
 ghost use Rattle.pl_laws.specs.Laws.{TermsAreDistinct, OrderIsOne, OrderIsKept, RootIsGreatest, UsedAreListed};
 ghost use Rattle.pl_laws.specs.Laws.{RawWithoutEvents, WindowOfOne, OpenMasksChangeNothing, TablesConcatenate};
 ghost use Rattle.pl_laws.specs.AsOfLaws.{AsOfAgrees, TablesAsOf, PartsAsOf};

@@ -3,7 +3,7 @@ use Rattle.std.proofs.Common.{◌≡◌, ℕ, suc, ◌<◌, ◌≤◌, ℤ, pos,
 use Rattle.std.proofs.lemmas.Int.{ints}
 use Rattle.std.proofs.lemmas.List.{length-take}
 use Rattle.pl_spec.specs.AsOf.{as_of}
-use Rattle.pl_spec.specs.Table.{Pipeline}
+use Rattle.pl_pipeline.specs.Table.{Pipeline}
 use Rattle.pl_spec.specs.World.{World}
 use Rattle.pl_laws.proofs.AsOf.{slice_get-take}
 use Rattle.pl_laws.proofs.Calendars.{SameDays}

@@ -7,7 +7,7 @@ use Rattle.pl_syntax.specs.Parsing.{IsCause}
 use Rattle.pl_syntax.specs.Spells.{Parsed}
 use Rattle.pl_syntax.specs.Said.{said}
 use Rattle.pl_syntax.proofs.TextsSaid.{fault-said}
-use Rattle.pl_spec.specs.Table.{Pipeline}
+use Rattle.pl_pipeline.specs.Table.{Pipeline}
 use Rattle.pl_check.specs.declared.fault.CheckError.{CheckError}
 use Rattle.pl_check.specs.declared.fault.CheckError.TheVariants as check_errors
 use Rattle.pl_check.specs.Answers.{Fails}

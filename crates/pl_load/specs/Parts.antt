@@ -3,7 +3,7 @@
 use Rattle.std.specs.Prelude.{◌≡◌, ℤ, List, ◌∷◌, ◌++◌, Option, Some, None, Result}
 use Rattle.pl_spec.specs.declared.AssetRow.{AssetRow}
 use Rattle.pl_spec.specs.Parts.{ColumnAdjustment}
-use Rattle.pl_spec.specs.Table.{Pipeline}
+use Rattle.pl_pipeline.specs.Table.{Pipeline}
 use Rattle.pl_planner.specs.Plans.{Planned, IsPlanOf}
 use Rattle.pl_world.specs.Known.{ShowsSame}
 use Rattle.pl_world.specs.Worlds.{owned_world}

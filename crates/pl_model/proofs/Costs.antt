@@ -6,14 +6,14 @@ use Rattle.pl_spec.specs.declared.Frequency.{Frequency}
 use Rattle.pl_spec.specs.World.{World as SpecWorld, exists}
 use Rattle.pl_spec.specs.Window.{before, downward}
 use Rattle.pl_spec.specs.Periods.{period_start}
-use Rattle.pl_spec.specs.Kind as kinds
-use Rattle.pl_spec.specs.Kind.{Kind}
-use Rattle.pl_spec.specs.Term as spec
-use Rattle.pl_spec.specs.Term.{Term, Graph, input_tree, number_tree, trees, term_at, IsGraph}
-use Rattle.pl_spec.specs.Term.Term.{absent, column, node}
-use Rattle.pl_spec.specs.Value.{Meaning, Part, part_of, passes, value}
-use Rattle.pl_spec.specs.NodeValue.{number_part}
-use Rattle.pl_spec.proofs.Trees.{term_at-node}
+use Rattle.pl_pipeline.specs.Kind as kinds
+use Rattle.pl_pipeline.specs.Kind.{Kind}
+use Rattle.pl_pipeline.specs.Term as spec
+use Rattle.pl_pipeline.specs.Term.{Term, Graph, input_tree, number_tree, trees, term_at, IsGraph}
+use Rattle.pl_pipeline.specs.Term.Term.{absent, column, node}
+use Rattle.pl_pipeline.specs.Value.{Meaning, Part, part_of, passes, value}
+use Rattle.pl_pipeline.specs.NodeValue.{number_part}
+use Rattle.pl_pipeline.proofs.Trees.{term_at-node}
 use Rattle.pl_spec.proofs.Windows.{before-pos}
 use Rattle.pl_terms.specs.declared.node.TermId.{TermId}
 use Rattle.pl_terms.specs.declared.node.Input.{Input}

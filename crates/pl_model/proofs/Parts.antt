@@ -4,16 +4,16 @@ use Rattle.std.proofs.lemmas.Int.{to_z-of_z}
 use Rattle.std.specs.List.{list_any}
 use Rattle.std.specs.Int.RustNames.{unsigned_abs}
 use Rattle.pl_spec.specs.declared.Frequency.{Frequency}
-use Rattle.pl_spec.specs.Formula.{is_true, truth}
-use Rattle.pl_spec.specs.Kind as kinds
-use Rattle.pl_spec.specs.Kind.{Kind}
+use Rattle.pl_spec.specs.Cells.{is_true, truth}
+use Rattle.pl_pipeline.specs.Kind as kinds
+use Rattle.pl_pipeline.specs.Kind.{Kind}
 use Rattle.pl_spec.specs.Periods.{period_start}
-use Rattle.pl_spec.specs.Pointwise.{label_test}
+use Rattle.pl_pipeline.specs.Pointwise.{label_test}
 use Rattle.pl_spec.specs.Rounding.{IsCell, is_missing}
-use Rattle.pl_spec.specs.Term.{term_at}
-use Rattle.pl_spec.specs.Value.{number_of as number_in, empty, sort_kind, name_at}
+use Rattle.pl_pipeline.specs.Term.{term_at}
+use Rattle.pl_pipeline.specs.Value.{number_of as number_in, empty, sort_kind, name_at}
 use Rattle.pl_spec.specs.World.{exists, known_number, label_at}
-use Rattle.pl_spec.proofs.Cells.{zero-cell, truth-cell, chosen-cell, empty-cell}
+use Rattle.pl_pipeline.proofs.Cells.{zero-cell, truth-cell, chosen-cell, empty-cell}
 use Rattle.pl_terms.specs.declared.node.TermId.{TermId}
 use Rattle.pl_terms.specs.declared.node.Input.{Input}
 use Rattle.pl_terms.specs.declared.node.Input.TheVariants as input

@@ -3,12 +3,12 @@ use Rattle.std.specs.Prelude.{ℕ, ◌+◌, ◌-◌, ◌&&◌, if◌then◌else�
 use Rattle.pl_spec.specs.World as spec
 use Rattle.pl_spec.specs.World.{exists}
 use Rattle.pl_spec.specs.Window.{before, downward}
-use Rattle.pl_spec.specs.Kind.{Kind}
-use Rattle.pl_spec.specs.Kind.Kind.{Window, Point, LabelTest, Cross, Downsample}
+use Rattle.pl_pipeline.specs.Kind.{Kind}
+use Rattle.pl_pipeline.specs.Kind.Kind.{Window, Point, LabelTest, Cross, Downsample}
 use Rattle.pl_spec.specs.Periods.{period_start}
-use Rattle.pl_spec.specs.Term.{Term, term_at}
-use Rattle.pl_spec.specs.Term.Term.{absent, column, node}
-use Rattle.pl_spec.specs.Value.{passes, part_of, value}
+use Rattle.pl_pipeline.specs.Term.{Term, term_at}
+use Rattle.pl_pipeline.specs.Term.Term.{absent, column, node}
+use Rattle.pl_pipeline.specs.Value.{passes, part_of, value}
 use Rattle.pl_terms.specs.declared.node.TermId.{TermId}
 use Rattle.pl_terms.specs.declared.node.Input.{Input}
 use Rattle.pl_terms.specs.declared.node.Input.TheVariants as input

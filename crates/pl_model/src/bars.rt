@@ -1,7 +1,7 @@
 //! The bars that an evaluation reads, and what it makes of a mask.
 
 ghost use Rattle.std.specs.Prelude.{◌≡◌, ◌+◌, ◌<◌, ◌≤◌, All, IfOk, OnOk, length, pos};
-ghost use Rattle.pl_spec.specs.Formula.{is_true};
+ghost use Rattle.pl_spec.specs.Cells.{is_true};
 ghost use Rattle.pl_spec.specs.Parts.{sid_at};
 ghost use Rattle.pl_spec.specs.Rounding.{IsCell};
 ghost use Rattle.pl_spec.specs.Window.{bar_window, effects, seen_cell, step_count};

@@ -2,10 +2,10 @@
 
 ghost use Rattle.std.specs.Prelude.{◌≡◌, ◌+◌, ◌<◌, ◌≤ℤ◌, IfOk, OnOk, Some, length, option_map, pos};
 ghost use Rattle.pl_spec.specs.Rounding.{IsCell};
-ghost use Rattle.pl_spec.specs.Graph.{reach};
+ghost use Rattle.pl_pipeline.specs.Graph.{reach};
 ghost use Rattle.pl_spec.specs.Parts.{sid_at};
-ghost use Rattle.pl_spec.specs.Term.{term_at};
-ghost use Rattle.pl_spec.specs.Table.{in_array, value_of};
+ghost use Rattle.pl_pipeline.specs.Term.{term_at};
+ghost use Rattle.pl_pipeline.specs.Table.{in_array, value_of};
 ghost use Rattle.pl_terms.specs.Checked.{pipeline_of};
 ghost use Rattle.pl_terms.specs.Sorts.{is_windowed};
 ghost use Rattle.pl_terms.specs.Nodes.{graph_of};

@@ -1,7 +1,7 @@
 -- The text of a plan by the definitions.
 use Rattle.std.proofs.Common.{◌≡◌, ℕ, ◌-◌, ◌≤◌, pos, ◌-ℤ◌, ap, ◌∙◌, subst, arith}
 use Rattle.std.proofs.lemmas.Int.{ints}
-use Rattle.pl_spec.specs.Lows.{IsLow, least_reach}
+use Rattle.pl_pipeline.specs.Lows.{IsLow, least_reach}
 use Rattle.pl_terms.specs.Uses.{outputs}
 use Rattle.pl_planner.specs.Plans.{low_at, extra, IsAsked}
 use Rattle.pl_plan_text.specs.Text.{plan_text}

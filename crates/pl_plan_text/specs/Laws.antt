@@ -1,6 +1,6 @@
 -- What the text of a plan tells.
 use Rattle.std.specs.Prelude.{ℤ, List}
-use Rattle.pl_spec.specs.Table.{Pipeline}
+use Rattle.pl_pipeline.specs.Table.{Pipeline}
 use Rattle.pl_planner.specs.Plans.{Planned, IsPlanOf, extra}
 use Rattle.pl_plan_text.specs.Text.{plan_text, IsPlanText}
 

@@ -1,11 +1,11 @@
 -- The text of a plan.
 use Rattle.std.specs.Prelude.{◌≡◌, ℕ, true, if◌then◌else◌, ℤ, pos, ◌-ℤ◌, List, [], ◌∷◌, ◌++◌, codes, decimal, flat_map, Option, Some, None, slice_get}
-use Rattle.pl_spec.specs.Term.{Input, Node}
-use Rattle.pl_spec.specs.Term.Input.{BarColumn, TermInput}
+use Rattle.pl_pipeline.specs.Term.{Input, Node}
+use Rattle.pl_pipeline.specs.Term.Input.{BarColumn, TermInput}
 use Rattle.std.specs.Fmt.{signed_decimal}
-use Rattle.pl_spec.specs.Graph.{used_terms, bound}
-use Rattle.pl_spec.specs.Lows.{IsLow, least_reach}
-use Rattle.pl_spec.specs.Table.{Pipeline}
+use Rattle.pl_pipeline.specs.Graph.{used_terms, bound}
+use Rattle.pl_pipeline.specs.Lows.{IsLow, least_reach}
+use Rattle.pl_pipeline.specs.Table.{Pipeline}
 use Rattle.pl_spec.specs.Names.{column_name}
 use Rattle.pl_terms.specs.Uses.{outputs, is_used, uses}
 use Rattle.pl_plan_text.specs.Names.{kind_name}

@@ -1,7 +1,7 @@
 -- A plan over a calendar is one over each other that has the same sessions up to its last one.
 use Rattle.std.proofs.Common.{ℕ, ◌<◌, ◌≤◌, ℤ, pos, List, length, ◌∙◌, arith}
 use Rattle.std.proofs.lemmas.Int.{ints}
-use Rattle.pl_spec.specs.Table.{Pipeline}
+use Rattle.pl_pipeline.specs.Table.{Pipeline}
 use Rattle.pl_laws.proofs.Calendars.{SameDays, least_reach-same, lows-same}
 use Rattle.pl_terms.specs.Uses.{outputs}
 use Rattle.pl_planner.specs.Plans.{Planned, IsPlanOf}

@@ -5,10 +5,10 @@ use Rattle.std.proofs.lemmas.Bool.{true≢false, cases_lt, or_right, eqb-true, a
 use Rattle.std.proofs.lemmas.Bool.Decides.{nat_tests}
 use Rattle.std.proofs.lemmas.Int.{ints}
 use Rattle.std.proofs.lemmas.Option.{slice_get_within}
-use Rattle.pl_spec.specs.Table.{Pipeline}
-use Rattle.pl_spec.specs.Term.{Node, Graph}
-use Rattle.pl_spec.specs.Graph.{reads_at, contains, mentions_at, Used, used_terms, is_live, live_terms, columns_at, bound}
-use Rattle.pl_spec.specs.Lows.{Reads, Needs, IsLow, least_reach}
+use Rattle.pl_pipeline.specs.Table.{Pipeline}
+use Rattle.pl_pipeline.specs.Term.{Node, Graph}
+use Rattle.pl_pipeline.specs.Graph.{reads_at, contains, mentions_at, Used, used_terms, is_live, live_terms, columns_at, bound}
+use Rattle.pl_pipeline.specs.Lows.{Reads, Needs, IsLow, least_reach}
 use Rattle.pl_spec.specs.Window.{before}
 use Rattle.pl_laws.specs.LowLaws.{HasBar, ReachCovers}
 use Rattle.pl_laws.proofs.Lows.{lows-cover, reach-covers, reads_at-within}

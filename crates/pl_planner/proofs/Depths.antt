@@ -11,11 +11,11 @@ use Rattle.std.proofs.lemmas.Option.{slice_get_within}
 use Rattle.std.specs.Int.Signed.{≤ℤ_refl}
 use Rattle.pl_spec.specs.declared.Column.{Column}
 use Rattle.pl_spec.specs.Window.{before, downward}
-use Rattle.pl_spec.specs.Term.{Input, Node, Graph, IsGraph, MentionsBelow, input_tree, number_tree, trees, term_at}
-use Rattle.pl_spec.specs.Term.Input.{BarColumn, TermInput}
-use Rattle.pl_spec.specs.Graph.{least_of, part_reach, reads_at, reach}
-use Rattle.pl_spec.proofs.Trees.{term_at-node}
-use Rattle.pl_spec.proofs.Unfolds.{past}
+use Rattle.pl_pipeline.specs.Term.{Input, Node, Graph, IsGraph, MentionsBelow, input_tree, number_tree, trees, term_at}
+use Rattle.pl_pipeline.specs.Term.Input.{BarColumn, TermInput}
+use Rattle.pl_pipeline.specs.Graph.{least_of, part_reach, reads_at, reach}
+use Rattle.pl_pipeline.proofs.Trees.{term_at-node}
+use Rattle.pl_pipeline.proofs.Unfolds.{past}
 use Rattle.pl_laws.proofs.Reaches.{AllFrom, below_least, at_downward}
 use Rattle.pl_laws.proofs.Lows.{reaches-rise, reads_at-within}
 use Rattle.pl_planner.proofs.Pipelines.{ReadsTerms}

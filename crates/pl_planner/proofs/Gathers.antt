@@ -4,11 +4,11 @@ use Rattle.std.proofs.lemmas.Bool.{cases_lt, cases_eq, true≢false, or_cases, o
 use Rattle.std.proofs.lemmas.Int.{ints}
 use Rattle.std.proofs.lemmas.List.{map-append, length-replicate}
 use Rattle.std.proofs.lemmas.Option.{slice_get_within, slice_get_past}
-use Rattle.pl_spec.specs.Term.{Input, Node, Graph, IsGraph}
-use Rattle.pl_spec.specs.Term.Input.{BarColumn, TermInput}
-use Rattle.pl_spec.specs.Kind.{Kind}
-use Rattle.pl_spec.specs.Graph.{reads_at, input_number, mentions, contains, mentions_at, Used}
-use Rattle.pl_spec.specs.Graph.Used.{output, mentioned}
+use Rattle.pl_pipeline.specs.Term.{Input, Node, Graph, IsGraph}
+use Rattle.pl_pipeline.specs.Term.Input.{BarColumn, TermInput}
+use Rattle.pl_pipeline.specs.Kind.{Kind}
+use Rattle.pl_pipeline.specs.Graph.{reads_at, input_number, mentions, contains, mentions_at, Used}
+use Rattle.pl_pipeline.specs.Graph.Used.{output, mentioned}
 use Rattle.pl_laws.proofs.Uses.{lower}
 use Rattle.pl_laws.proofs.Lows.{reads_at-rises, reads_at-within}
 use Rattle.pl_planner.proofs.Moved.{early-still, late-still}

@@ -6,11 +6,11 @@ use Rattle.std.proofs.lemmas.Bool.{cases_lt, true≢false, or_cases, or_left, or
 use Rattle.std.proofs.lemmas.List.Elements.{filter-append}
 use Rattle.std.proofs.lemmas.List.Sums.{length-filter}
 use Rattle.std.proofs.lemmas.List.Folds.{list_any-append}
-use Rattle.pl_spec.specs.Term.{Graph, IsGraph}
-use Rattle.pl_spec.specs.Graph.{contains, mentions_at, Used, used_below, used_terms, is_live, live_terms, columns_at, bound}
+use Rattle.pl_pipeline.specs.Term.{Graph, IsGraph}
+use Rattle.pl_pipeline.specs.Graph.{contains, mentions_at, Used, used_below, used_terms, is_live, live_terms, columns_at, bound}
 use Rattle.pl_spec.proofs.Ranges.{range-next}
 use Rattle.pl_spec.proofs.Lists.{filter-twice}
-use Rattle.pl_spec.proofs.Contained.{not-in-back, alone-in, not-in-alone}
+use Rattle.pl_pipeline.proofs.Contained.{not-in-back, alone-in, not-in-alone}
 use Rattle.pl_laws.proofs.Uses.{used_terms-sound, used_terms-complete}
 use Rattle.pl_planner.specs.declared.uses.Use.{Use}
 use Rattle.pl_planner.specs.Uses.{unused, use_at, is_kept, AreUses, IsLast}

@@ -4,10 +4,10 @@ use Rattle.std.specs.List.{list_any}
 use Rattle.std.proofs.lemmas.Bool.{true≢false, cases_lt, or_cases, eqb-true, eq-eqb, or_left, or_right}
 use Rattle.std.proofs.lemmas.Int.{ints}
 use Rattle.pl_spec.specs.Window.{before}
-use Rattle.pl_spec.specs.Term.{Input, Node, Graph, term_at}
-use Rattle.pl_spec.specs.Term.Input.{BarColumn, TermInput}
-use Rattle.pl_spec.specs.Graph.{contains, reads_at, reach, Used}
-use Rattle.pl_spec.specs.Lows.{Reads, Needs, IsLow, least_reach}
+use Rattle.pl_pipeline.specs.Term.{Input, Node, Graph, term_at}
+use Rattle.pl_pipeline.specs.Term.Input.{BarColumn, TermInput}
+use Rattle.pl_pipeline.specs.Graph.{contains, reads_at, reach, Used}
+use Rattle.pl_pipeline.specs.Lows.{Reads, Needs, IsLow, least_reach}
 use Rattle.pl_laws.specs.LowLaws.{ReachCovers, bar_from, own_from}
 use Rattle.pl_laws.proofs.Reaches.{AllFrom, below_least}
 use Rattle.pl_laws.proofs.Lows.{reach-covers, reaches-meet, reads-rise, least_above}

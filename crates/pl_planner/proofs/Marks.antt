@@ -5,7 +5,7 @@ use Rattle.pl_terms.specs.declared.checked.NamedColumn.{NamedColumn}
 use Rattle.pl_terms.specs.declared.node.TermId.{TermId}
 use Rattle.pl_terms.specs.Checked.{Parts, columns_of, pipeline_of, IsChecked}
 use Rattle.pl_terms.specs.Nodes.{number_of}
-use Rattle.pl_spec.specs.Table as table
+use Rattle.pl_pipeline.specs.Table as table
 use Rattle.pl_planner.specs.declared.uses.Use.{Use}
 use Rattle.pl_planner.specs.Uses.{marked, all_marked}
 use Rattle.pl_planner.proofs.Pipelines.{column-in, screen-in}

@@ -3,9 +3,9 @@ use Rattle.std.proofs.Common.{◌≡◌, ℤ, pos, negsuc, ◌<ℤ◌, ◌≤ℤ
 use Rattle.std.proofs.lemmas.Int.{ints}
 use Rattle.pl_spec.specs.declared.Frequency.{Frequency}
 use Rattle.pl_spec.specs.Periods.{first_session, period_start}
-use Rattle.pl_spec.specs.Kind.{Kind}
-use Rattle.pl_spec.specs.Kind.Kind.{Constant, Label, Number, StaticSids, Window, Point, LabelTest, Cross, Downsample}
-use Rattle.pl_spec.specs.Graph.{reads_at}
+use Rattle.pl_pipeline.specs.Kind.{Kind}
+use Rattle.pl_pipeline.specs.Kind.Kind.{Constant, Label, Number, StaticSids, Window, Point, LabelTest, Cross, Downsample}
+use Rattle.pl_pipeline.specs.Graph.{reads_at}
 
 start-in : (f : Frequency) (days : List ℤ) (d : ℤ) → pos 0 ≤ℤ d → pos 0 ≤ℤ period_start f days d
 unfolding period_start

@@ -3,9 +3,9 @@ use Rattle.std.proofs.Common.{◌≡◌, ℕ, zero, suc, ◌+◌, ◌*◌, ◌-�
 use Rattle.std.specs.List.{list_any}
 use Rattle.std.proofs.lemmas.Bool.{true≢false, or_cases, eqb-true}
 use Rattle.std.proofs.lemmas.Option.{slice_get_within}
-use Rattle.pl_spec.specs.Term.{Node, Graph, MentionsBelow}
-use Rattle.pl_spec.specs.Graph.{contains}
-use Rattle.pl_spec.specs.Kind.{Kind}
+use Rattle.pl_pipeline.specs.Term.{Node, Graph, MentionsBelow}
+use Rattle.pl_pipeline.specs.Graph.{contains}
+use Rattle.pl_pipeline.specs.Kind.{Kind}
 use Rattle.pl_planner.specs.declared.uses.Use.{Use}
 use Rattle.pl_planner.specs.Extra.{asks, asks_of, asks_at, back_from, IsBack}
 use Rattle.pl_planner.specs.Columns.{is_bar, bars_back}

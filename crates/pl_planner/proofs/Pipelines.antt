@@ -4,16 +4,16 @@ use Rattle.std.proofs.lemmas.Int.{ints}
 use Rattle.std.proofs.lemmas.Bool.{and_parts, true≢false, eqb-true, or_left, eq-eqb}
 use Rattle.std.proofs.lemmas.Bool.Decides.{nat_tests}
 use Rattle.std.proofs.lemmas.Option.{slice_get_within}
-use Rattle.pl_spec.specs.Kind as kind
-use Rattle.pl_spec.specs.Kind.{Kind, WindowKind}
-use Rattle.pl_spec.specs.Table.{Pipeline, NamedColumn}
+use Rattle.pl_pipeline.specs.Kind as kind
+use Rattle.pl_pipeline.specs.Kind.{Kind, WindowKind}
+use Rattle.pl_pipeline.specs.Table.{Pipeline, NamedColumn}
 use Rattle.pl_spec.specs.declared.Frequency.{Frequency}
 use Rattle.pl_spec.specs.Periods.{period_start}
-use Rattle.pl_spec.specs.Term.{Graph, Node, Input, IsGraph}
-use Rattle.pl_spec.specs.Term.Input.{BarColumn, TermInput}
-use Rattle.pl_spec.specs.Graph.{contains, reads_at}
-use Rattle.pl_spec.specs.Graph.Used.{output}
-use Rattle.pl_spec.proofs.Contained.{place-of}
+use Rattle.pl_pipeline.specs.Term.{Graph, Node, Input, IsGraph}
+use Rattle.pl_pipeline.specs.Term.Input.{BarColumn, TermInput}
+use Rattle.pl_pipeline.specs.Graph.{contains, reads_at}
+use Rattle.pl_pipeline.specs.Graph.Used.{output}
+use Rattle.pl_pipeline.proofs.Contained.{place-of}
 use Rattle.pl_terms.specs.Sorts.{has_window, window_fits, is_window_from, sort_at, Filters, places, all_fit, AnyTerm, is_downsampled}
 use Rattle.pl_terms.specs.Checked.{IsChecked}
 use Rattle.pl_terms.specs.Uses.{outputs}

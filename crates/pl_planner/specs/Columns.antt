@@ -1,9 +1,9 @@
 -- What is held while a term is computed, and how far back terms read.
 use Rattle.std.specs.Prelude.{ℕ, ◌+◌, if◌then◌else◌, Bool, true, false, max, ℤ, List, [], ◌∷◌, map, fold, count_by, filter_map, Option, Some, None, slice_get}
 use Rattle.std.specs.List.{range_with_len, list_any}
-use Rattle.pl_spec.specs.Term.{Node, Graph, Input}
-use Rattle.pl_spec.specs.Term.Input.{BarColumn, TermInput}
-use Rattle.pl_spec.specs.Graph.{contains, input_column, columns_at}
+use Rattle.pl_pipeline.specs.Term.{Node, Graph, Input}
+use Rattle.pl_pipeline.specs.Term.Input.{BarColumn, TermInput}
+use Rattle.pl_pipeline.specs.Graph.{contains, input_column, columns_at}
 use Rattle.pl_planner.specs.declared.uses.Use.{Use}
 use Rattle.pl_planner.specs.Extra.{back_from}
 use Rattle.pl_planner.specs.Uses.{use_at, is_kept}

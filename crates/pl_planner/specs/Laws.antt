@@ -1,8 +1,8 @@
 -- What a plan is good for.
 use Rattle.std.specs.Prelude.{◌≡◌, ℕ, ◌<◌, true, ℤ, pos, ◌≤ℤ◌, ◌<ℤ◌, List, AllPairs, Some, slice_get}
-use Rattle.pl_spec.specs.Term.{Node}
-use Rattle.pl_spec.specs.Lows.{Reads}
-use Rattle.pl_spec.specs.Table.{Pipeline}
+use Rattle.pl_pipeline.specs.Term.{Node}
+use Rattle.pl_pipeline.specs.Lows.{Reads}
+use Rattle.pl_pipeline.specs.Table.{Pipeline}
 use Rattle.pl_terms.specs.Checked.{IsChecked}
 use Rattle.pl_planner.specs.Plans.{Planned, IsAsked, IsPlanOf, is_used, low_at, IsLive}
 

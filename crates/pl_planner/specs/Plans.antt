@@ -2,10 +2,10 @@
 use Rattle.std.specs.Prelude.{◌≡◌, ℕ, ◌<◌, ◌≤◌, ◌+◌, ◌-◌, ◌*◌, ◌⊎◌, Bool, true, false, ◌&&◌, if◌then◌else◌, nat_le, nat_lt, ℤ, pos, ◌-ℤ◌, ◌<ℤ◌, ◌≤ℤ◌, List, length, get_or, slice_get, Option, Some, None}
 use Rattle.pl_spec.specs.Limits.{most_extra_rows, most_terms}
 use Rattle.pl_spec.specs.Window.{before}
-use Rattle.pl_spec.specs.Term.{Graph, Node}
-use Rattle.pl_spec.specs.Graph.{Used, contains, mentions_at, live_terms, columns_at, bound}
-use Rattle.pl_spec.specs.Lows.{IsLow, least_reach}
-use Rattle.pl_spec.specs.Table.{Pipeline}
+use Rattle.pl_pipeline.specs.Term.{Graph, Node}
+use Rattle.pl_pipeline.specs.Graph.{Used, contains, mentions_at, live_terms, columns_at, bound}
+use Rattle.pl_pipeline.specs.Lows.{IsLow, least_reach}
+use Rattle.pl_pipeline.specs.Table.{Pipeline}
 use Rattle.pl_laws.specs.LowLaws.{HasBar}
 use Rattle.pl_terms.specs.Uses as pipeline
 use Rattle.pl_terms.specs.Uses.{outputs}

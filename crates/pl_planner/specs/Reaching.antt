@@ -1,7 +1,7 @@
 -- How far back terms are read for the value of one, by number.
 use Rattle.std.specs.Prelude.{ℕ, ◌+◌, if◌then◌else◌, max, List, ◌++◌, fold, filter_map, get_or, slice_set, Option, Some, None}
 use Rattle.std.specs.List.{list_any}
-use Rattle.pl_spec.specs.Term.{Node}
+use Rattle.pl_pipeline.specs.Term.{Node}
 use Rattle.pl_planner.specs.Extra.{Ask, input_ask, number_asks}
 use Rattle.pl_planner.specs.Columns.{is_bar}
 

@@ -1,6 +1,6 @@
 -- The extra sessions of all terms for each session of a range.
 use Rattle.std.specs.Prelude.{◌≡◌, ℕ, ◌+◌, ◌*◌, ◌<◌, if◌then◌else◌, max, ℤ, List, length, fold, get_or}
-use Rattle.pl_spec.specs.Term.{Graph}
+use Rattle.pl_pipeline.specs.Term.{Graph}
 use Rattle.pl_planner.specs.declared.uses.Use.{Use}
 use Rattle.pl_planner.specs.Uses.{use_at, AreUses, HaveExtras}
 

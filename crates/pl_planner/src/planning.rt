@@ -1,6 +1,6 @@
 //! The plan of a run.
 ghost use Rattle.std.specs.Prelude.{◌≡◌, ◌<◌, ◌≤◌, pos, IfErr, IfOk, length};
-ghost use Rattle.pl_spec.specs.Lows.{least_reach};
+ghost use Rattle.pl_pipeline.specs.Lows.{least_reach};
 ghost use Rattle.pl_calendar.specs.Days.{AreDays};
 ghost use Rattle.pl_terms.specs.Checked.{IsChecked, pipeline_of};
 ghost use Rattle.pl_terms.specs.Uses.{outputs};

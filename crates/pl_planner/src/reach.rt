@@ -1,8 +1,8 @@
 //! The first session that a value needs.
 ghost use Rattle.std.specs.Prelude.{◌≡◌, ◌<◌, ◌≤◌, ◌+◌, ◌^◌, IfOk, IfSome, filter_map, get_or, length, map, None, option_map, option_to_list, pos, replicate, slice_set, Some};
 ghost use Rattle.std.specs.List.{list_any};
-ghost use Rattle.pl_spec.specs.Graph.{reach};
-ghost use Rattle.pl_spec.specs.Term.{MentionsBelow, term_at};
+ghost use Rattle.pl_pipeline.specs.Graph.{reach};
+ghost use Rattle.pl_pipeline.specs.Term.{MentionsBelow, term_at};
 ghost use Rattle.pl_spec.specs.Window.{before};
 ghost use Rattle.pl_terms.specs.Nodes.{graph_of, input_of, node_of, number_of};
 ghost use Rattle.pl_planner.specs.Extra.{IsBelow, input_ask, number_asks};

@@ -1,8 +1,8 @@
 //! Which terms are used, how far back, and by which term last, from the users down to their inputs.
 
 ghost use Rattle.std.specs.Prelude.{◌≡◌, ℕ, All, IfSome, option_map, option_to_list, replicate, ◌+◌, ◌<◌, ◌≤◌, ◌^◌, IfOk, length, map, slice_set, filter_map, fold, get_or};
-ghost use Rattle.pl_spec.specs.Kind.Kind.{Downsample};
-ghost use Rattle.pl_spec.specs.Term.{MentionsBelow};
+ghost use Rattle.pl_pipeline.specs.Kind.Kind.{Downsample};
+ghost use Rattle.pl_pipeline.specs.Term.{MentionsBelow};
 ghost use Rattle.pl_terms.specs.Checked.{columns_of, pipeline_of};
 ghost use Rattle.pl_terms.specs.Nodes.{input_of, node_of, number_of};
 ghost use Rattle.pl_terms.specs.Uses.{outputs};

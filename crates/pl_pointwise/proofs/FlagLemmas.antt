@@ -4,10 +4,10 @@ use Rattle.pl_terms.specs.declared.kind.TermKind.{TermKind}
 use Rattle.pl_terms.specs.declared.kind.TermKind.TheVariants as kinds
 use Rattle.pl_terms.specs.declared.kind.LabelValue.TheVariants as label
 use Rattle.pl_terms.specs.Kinds.{kind_of}
-use Rattle.pl_spec.specs.Kind.{Kind, PointKind}
-use Rattle.pl_spec.specs.Kind.Kind.{Point}
-use Rattle.pl_spec.specs.Kind.PointKind.{IfElse}
-use Rattle.pl_spec.specs.Value.{is_filter, is_point_filter}
+use Rattle.pl_pipeline.specs.Kind.{Kind, PointKind}
+use Rattle.pl_pipeline.specs.Kind.Kind.{Point}
+use Rattle.pl_pipeline.specs.Kind.PointKind.{IfElse}
+use Rattle.pl_pipeline.specs.Value.{is_filter, is_point_filter}
 use Rattle.pl_pointwise.specs.Operands.{IsOperation, AreOperands, AreOperandsOf, is_pair}
 
 -- an operation that is none of those on factors is a filter

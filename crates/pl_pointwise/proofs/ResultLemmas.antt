@@ -5,14 +5,14 @@ use Rattle.std.specs.Int.RustNames.{unsigned_abs, int_lt}
 use Rattle.std.specs.Int.{int_min}
 use Rattle.std.proofs.lemmas.List.Elements.{All-from_get_or}
 use Rattle.pl_spec.specs.Rounding.{IsCell, MISSING, of_both, add, mul, div, neg, is_missing}
-use Rattle.pl_spec.specs.Formula.{truth}
-use Rattle.pl_spec.specs.Kind.{Kind, PointKind}
-use Rattle.pl_spec.specs.Kind.Kind.{Point}
-use Rattle.pl_spec.specs.Kind.PointKind.{Add, Sub, Mul, Div, Neg, Comparison, And, Or, Not, Abs, Clip, FillNa, IsNull, NotNull, IfElse, NumberIs, NumberIsNot}
-use Rattle.pl_spec.specs.Pointwise.{pointwise}
-use Rattle.pl_spec.specs.Value.{is_filter, is_point_filter}
+use Rattle.pl_spec.specs.Cells.{truth}
+use Rattle.pl_pipeline.specs.Kind.{Kind, PointKind}
+use Rattle.pl_pipeline.specs.Kind.Kind.{Point}
+use Rattle.pl_pipeline.specs.Kind.PointKind.{Add, Sub, Mul, Div, Neg, Comparison, And, Or, Not, Abs, Clip, FillNa, IsNull, NotNull, IfElse, NumberIs, NumberIsNot}
+use Rattle.pl_pipeline.specs.Pointwise.{pointwise}
+use Rattle.pl_pipeline.specs.Value.{is_filter, is_point_filter}
 use Rattle.pl_spec.proofs.Signed.{unsigned_abs-neg}
-use Rattle.pl_spec.proofs.Cells.{chosen-has, to_cell-cell, quot-cell, sub-cell}
+use Rattle.pl_pipeline.proofs.Cells.{chosen-has, to_cell-cell, quot-cell, sub-cell}
 use Rattle.pl_lanes.specs.Flags.{IsFlag}
 use Rattle.pl_lanes.proofs.Cells.{is_within}
 use Rattle.pl_pointwise.specs.Operands.{HasCells, IsOperation, AreCells, AreFlags, AreOperands, AreOperandsOf, operation}

@@ -2,10 +2,10 @@
 use Rattle.std.specs.Prelude.{◌≡◌, ℕ, ℤ, List, length, ⊤, Bool, true, false}
 use Rattle.std.specs.List.{All}
 use Rattle.pl_spec.specs.Rounding.{IsCell, MISSING}
-use Rattle.pl_spec.specs.Kind.{Kind, PointKind}
-use Rattle.pl_spec.specs.Kind.Kind.{Point}
-use Rattle.pl_spec.specs.Kind.PointKind.{Add, Sub, Mul, Div, Comparison, And, Or, Not, Clip, FillNa, IfElse}
-use Rattle.pl_spec.specs.Pointwise.{pointwise}
+use Rattle.pl_pipeline.specs.Kind.{Kind, PointKind}
+use Rattle.pl_pipeline.specs.Kind.Kind.{Point}
+use Rattle.pl_pipeline.specs.Kind.PointKind.{Add, Sub, Mul, Div, Comparison, And, Or, Not, Clip, FillNa, IfElse}
+use Rattle.pl_pipeline.specs.Pointwise.{pointwise}
 use Rattle.pl_terms.specs.declared.kind.LabelValue.{LabelValue}
 use Rattle.pl_terms.specs.declared.kind.LabelValue.TheVariants.{Number, Text}
 use Rattle.pl_lanes.specs.Flags.{IsFlag}

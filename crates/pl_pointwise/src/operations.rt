@@ -2,8 +2,8 @@
 ghost use Rattle.std.specs.Prelude.{◌≡◌, ◌&&◌, not, pos, unsigned_abs, if◌then◌else◌};
 ghost use Rattle.std.specs.Int.{int_max, int_min};
 ghost use Rattle.pl_spec.specs.Rounding.{IsCell, MISSING, is_missing, is_present};
-ghost use Rattle.pl_spec.specs.Formula.{truth, is_true};
-ghost use Rattle.pl_spec.specs.Pointwise.{is_number};
+ghost use Rattle.pl_spec.specs.Cells.{truth, is_true};
+ghost use Rattle.pl_pipeline.specs.Pointwise.{is_number};
 
 use pl_fixed::MISSING;
 

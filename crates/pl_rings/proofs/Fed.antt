@@ -17,7 +17,7 @@ use Rattle.pl_spec.specs.Rounding.{MISSING}
 use Rattle.pl_spec.specs.World.{Bar, Event, cell_of, bar_cell, events_of, day_of, exists, lives_on}
 use Rattle.pl_spec.proofs.Signed.{lt-is-le, le-lt}
 use Rattle.pl_spec.proofs.Lists.{no-pairs}
-use Rattle.pl_laws.proofs.Law.{labels-of_days}
+use Rattle.pl_spec.proofs.Labels.{labels-of_days}
 use Rattle.pl_rings.proofs.PartsWorld.{parts_are_a_world}
 use Rattle.pl_rings.specs.Days.{Start, FedDay, fed, bar_row, bars_behind, days_of, bars_of, adjustments_of, last_day, IsStart, IsLaterThan, AreFed}
 use Rattle.pl_rings.specs.Laws.{FedIsAWorld, FedAgrees}

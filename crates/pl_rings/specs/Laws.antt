@@ -4,8 +4,6 @@ use Rattle.circular_buffer.specs.Buffer.{keep_last}
 use Rattle.pl_spec.specs.declared.Column.{Column}
 use Rattle.pl_spec.specs.Agree.{Agree}
 use Rattle.pl_spec.specs.Rounding.{MISSING}
-use Rattle.pl_spec.specs.Term.{Term}
-use Rattle.pl_spec.specs.Value.{value}
 use Rattle.pl_spec.specs.World.{World, IsWorld, day_of}
 use Rattle.pl_spec.specs.Window.{before, bar_window}
 use Rattle.pl_rings.specs.Days.{Start, FedDay, fed, IsStart, AreFed, cell_brought, day_back, day_window, last_session}
@@ -28,11 +26,6 @@ pub record BarRingsMove : Type 0 where
       → bar_ring g (next ∷ days) c size col
       ≡ changed_cells c (events_at next.events col) (day_window days size) (keep_last size (bar_ring g days c size col ++ cell_brought c next.bars col ∷ []))
   pub windows : (w : World) (c : Column) (small size a : ℕ) (d : ℤ) → small ≤ size → keep_last small (bar_window w c size a d) ≡ bar_window w c small a d
-
--- what a term was worth it is worth a day later
-abbrev pub ValuesStay : Type 0
-ValuesStay = (g : Start) (next : FedDay) (days : List FedDay) → IsStart g → AreFed g (next ∷ days) → (names : List (List ℕ)) (t : Term) (a n : ℕ)
-    → value (fed g (next ∷ days)) names t a (before (last_session days) n) ≡ value (fed g days) names t a (before (last_session days) n)
 
 -- the days of the sessions are those that were fed
 abbrev pub DaysAreFed : Type 0

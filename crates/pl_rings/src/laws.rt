@@ -1,5 +1,5 @@
 //! Laws of fed days. The functions do nothing: the contract of each is a law.
-ghost use Rattle.pl_rings.specs.Laws.{BarRingsMove, DaysAreFed, FedAgrees, FedIsAWorld, ValuesStay};
+ghost use Rattle.pl_rings.specs.Laws.{BarRingsMove, DaysAreFed, FedAgrees, FedIsAWorld};
 
 /// Days that were fed, each as it may be fed after those before it, make a world.
 pub fn fed_is_a_world()
@@ -19,9 +19,4 @@ pub fn fed_agrees()
 /// What a day does to the cells of a bar column, and what windows they have.
 pub fn bar_rings_move()
     ensures { BarRingsMove }
-{}
-
-/// One more day changes no value of an earlier session.
-pub fn values_stay()
-    ensures { ValuesStay }
 {}

@@ -6,7 +6,7 @@ use Rattle.std.proofs.lemmas.List.Sums.{sum_by-cons}
 use Rattle.std.proofs.lemmas.Nat.{mul-le}
 use Rattle.std.proofs.Math.Nat.{div-mul-le_self, lt-div-mul-add}
 use Rattle.pl_spec.specs.World.{World}
-use Rattle.pl_spec.specs.Table.{Pipeline, Row, session_rows, table}
+use Rattle.pl_pipeline.specs.Table.{Pipeline, Row, session_rows, table}
 use Rattle.pl_spec.proofs.Ranges.{range-split}
 use Rattle.pl_planner.specs.Plans.{Planned}
 use Rattle.pl_table.specs.Outcomes.{rows_of_sessions}

@@ -4,8 +4,8 @@ use Rattle.std.proofs.lemmas.Bool.{cases_eq, cases_lt, true≢false}
 use Rattle.std.proofs.lemmas.Nat.{mul-le}
 use Rattle.std.proofs.lemmas.Option.{slice_get_cases}
 use Rattle.pl_spec.specs.World.{World}
-use Rattle.pl_spec.specs.Term.{Node}
-use Rattle.pl_spec.specs.Table.{Pipeline}
+use Rattle.pl_pipeline.specs.Term.{Node}
+use Rattle.pl_pipeline.specs.Table.{Pipeline}
 use Rattle.pl_terms.specs.declared.node.Node as code
 use Rattle.pl_terms.specs.Nodes.{graph_of, node_of}
 use Rattle.pl_planner.proofs.Pipelines.{window-is}

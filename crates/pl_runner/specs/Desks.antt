@@ -1,7 +1,7 @@
 -- The memory of a run.
 use Rattle.std.specs.Prelude.{◌≡◌, ℕ, ◌<◌, ◌≤◌, length, vec_capacity}
 use Rattle.pl_spec.specs.World.{World}
-use Rattle.pl_spec.specs.Table.{Pipeline}
+use Rattle.pl_pipeline.specs.Table.{Pipeline}
 use Rattle.pl_planner.specs.Plans.{Planned}
 use Rattle.pl_workspace.specs.Slots.{Free, slot_at}
 use Rattle.pl_exec.specs.declared.chunk.Chunk.{Chunk}

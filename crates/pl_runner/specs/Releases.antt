@@ -1,7 +1,7 @@
 -- Which slots are held when some outputs are released.
 use Rattle.std.specs.Prelude.{◌≡◌, ℕ, ◌<◌, ◌≤◌, true, length}
-use Rattle.pl_spec.specs.Graph.{contains}
-use Rattle.pl_spec.specs.Table.{Pipeline}
+use Rattle.pl_pipeline.specs.Graph.{contains}
+use Rattle.pl_pipeline.specs.Table.{Pipeline}
 use Rattle.pl_terms.specs.Uses.{outputs}
 use Rattle.pl_planner.specs.Plans.{Planned, slot_of}
 use Rattle.pl_workspace.specs.Slots.{Slots, Free, IsLive, slot_at}

@@ -1,8 +1,8 @@
 -- How long arrays are at most.
 use Rattle.std.specs.Prelude.{◌≡◌, ℕ, ◌+◌, ◌-◌, ◌*◌, ◌<◌, ◌≤◌, ◌⊎◌, true, length, Some, slice_get}
 use Rattle.pl_spec.specs.World.{World}
-use Rattle.pl_spec.specs.Term.{Node}
-use Rattle.pl_spec.specs.Table.{Pipeline}
+use Rattle.pl_pipeline.specs.Term.{Node}
+use Rattle.pl_pipeline.specs.Table.{Pipeline}
 use Rattle.pl_planner.specs.Plans.{Planned, is_used, low_at}
 use Rattle.pl_exec.specs.declared.chunk.Chunk.{Chunk}
 use Rattle.pl_runner.specs.Chunks.{columns_of}

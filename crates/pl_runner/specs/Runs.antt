@@ -1,8 +1,8 @@
 -- The steps and the report of a run.
 use Rattle.std.specs.Prelude.{◌≡◌, ℕ, ◌+◌, ◌-◌, ◌*◌, ◌≤◌, pos, ◌+ℤ◌, length, sum_by}
 use Rattle.pl_spec.specs.World.{World}
-use Rattle.pl_spec.specs.Graph.{bound}
-use Rattle.pl_spec.specs.Table.{Pipeline, table, cells}
+use Rattle.pl_pipeline.specs.Graph.{bound}
+use Rattle.pl_pipeline.specs.Table.{Pipeline, table, cells}
 use Rattle.pl_spec.specs.Limits.{cut}
 use Rattle.pl_terms.specs.Uses.{outputs}
 use Rattle.pl_planner.specs.Plans.{Planned}

@@ -1,6 +1,6 @@
 //! The slots of a chunk's outputs are given back.
 ghost use Rattle.std.specs.Prelude.{◌≡◌, ◌<◌, ℕ, length};
-ghost use Rattle.pl_spec.specs.Graph.{contains};
+ghost use Rattle.pl_pipeline.specs.Graph.{contains};
 ghost use Rattle.pl_terms.specs.Checked.{IsChecked, pipeline_of};
 ghost use Rattle.pl_terms.specs.Uses.{outputs};
 ghost use Rattle.pl_planner.specs.Plans.{IsPlanOf};

@@ -3,7 +3,7 @@ ghost use Rattle.std.specs.Prelude.{◌≡◌, ◌≤◌, ◌<◌, ◌+◌, ◌-
 ghost use Rattle.pl_world.specs.Worlds.{world_of};
 ghost use Rattle.pl_terms.specs.Checked.{pipeline_of};
 ghost use Rattle.pl_planner.specs.Plans.{IsPlanOf, is_used, low_at};
-ghost use Rattle.pl_spec.specs.Term.{Node};
+ghost use Rattle.pl_pipeline.specs.Term.{Node};
 ghost use Rattle.pl_runner.specs.Chunks as spec;
 ghost use Rattle.pl_runner.specs.Room.{HasRoom, IsMost};
 

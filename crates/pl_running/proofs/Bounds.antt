@@ -7,7 +7,8 @@ use Rattle.std.proofs.lemmas.Nat.{mul-le}
 use Rattle.std.proofs.lemmas.List.{length-take, get_or_past}
 use Rattle.std.proofs.lemmas.List.Elements.{All-take, All-get_or}
 use Rattle.pl_spec.specs.Rounding.{LIMIT, IsCell, is_missing}
-use Rattle.pl_spec.specs.Formula.{present_values, total, products, places, differences, gains, losses}
+use Rattle.pl_spec.specs.Cells.{present_values, total}
+use Rattle.pl_pipeline.specs.Formula.{products, places, differences, gains, losses}
 use Rattle.pl_lanes.proofs.Bits.{cell-fits}
 use Rattle.pl_lanes.proofs.Cells.{total-few, few-present, is_within}
 use Rattle.pl_factors.specs.Terms.{product, gain, loss}

@@ -2,8 +2,9 @@
 use Rattle.std.proofs.Common.{◌≡◌, ◌↔◌, ◌⊎◌, true, nat_le, ℤ, List, length, inl, inr, ◌∙◌}
 use Rattle.std.specs.List.{All, count_by}
 use Rattle.pl_spec.specs.Rounding.{IsCell, is_missing}
-use Rattle.pl_spec.specs.Formula.{formula, count, truth, is_true}
-use Rattle.pl_spec.proofs.Filters.{filters-count}
+use Rattle.pl_pipeline.specs.Formula.{formula}
+use Rattle.pl_spec.specs.Cells.{count, truth, is_true}
+use Rattle.pl_pipeline.proofs.Filters.{filters-count}
 use Rattle.pl_terms.specs.declared.kind.TermKind.{TermKind}
 use Rattle.pl_terms.specs.declared.kind.TermKind.TheVariants as kind
 use Rattle.pl_terms.specs.Kinds.{kind_of}

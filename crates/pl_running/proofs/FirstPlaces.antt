@@ -9,7 +9,7 @@ use Rattle.std.proofs.lemmas.List.{length-take}
 use Rattle.std.proofs.lemmas.List.Folds.{position_or_len_push}
 use Rattle.std.proofs.lemmas.List.Elements.{All-take, All-tail}
 use Rattle.pl_spec.specs.Rounding.{MISSING, IsCell}
-use Rattle.pl_spec.specs.Formula.{greatest, least}
+use Rattle.pl_spec.specs.Cells.{greatest, least}
 use Rattle.pl_spec.proofs.Signed.{int_eq-itself}
 use Rattle.pl_lanes.specs.Heights.{height, depth, peak}
 use Rattle.pl_lanes.proofs.Heights.{height-missing, depth-missing, greatest-height, least-depth}

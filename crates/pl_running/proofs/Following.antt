@@ -5,11 +5,11 @@ use Rattle.std.proofs.lemmas.Bool.{cases_eq, cases_lt}
 use Rattle.std.proofs.lemmas.List.{take-take, take_all, drop-drop, drop-take}
 use Rattle.std.proofs.lemmas.List.Elements.{All-take, All-drop}
 use Rattle.pl_spec.specs.Rounding.{IsCell}
-use Rattle.pl_spec.specs.Formula.{faded, faded_mean, formula, mean}
+use Rattle.pl_pipeline.specs.Formula.{faded, faded_mean, formula, mean}
 use Rattle.pl_spec.specs.Window.{downward}
-use Rattle.pl_spec.specs.Kind.{Kind}
-use Rattle.pl_spec.specs.Kind.Kind.{Window}
-use Rattle.pl_spec.specs.Kind.WindowKind.{ExponentialWeightedMovingAverage, SimpleMovingAverage}
+use Rattle.pl_pipeline.specs.Kind.{Kind}
+use Rattle.pl_pipeline.specs.Kind.Kind.{Window}
+use Rattle.pl_pipeline.specs.Kind.WindowKind.{ExponentialWeightedMovingAverage, SimpleMovingAverage}
 use Rattle.pl_factors.specs.Terms.{mean_by}
 use Rattle.pl_running.specs.Lanes.{AreValues, AreWeighted, HasWindows, TakesLanes, formula_at, window_at}
 use Rattle.pl_running.specs.Spans.{TakesSpans, after, before, takes_range}

@@ -6,7 +6,7 @@ use Rattle.std.specs.Int.RustNames.{int_lt}
 use Rattle.std.proofs.lemmas.Int.{ints, to_z-of_z}
 use Rattle.std.proofs.lemmas.List.Elements.{All-take, All-tail}
 use Rattle.pl_spec.specs.Rounding.{MISSING, LIMIT, IsCell, is_missing}
-use Rattle.pl_spec.specs.Formula.{greatest, least}
+use Rattle.pl_spec.specs.Cells.{greatest, least}
 use Rattle.pl_lanes.specs.Heights.{height, depth, peak}
 use Rattle.pl_lanes.proofs.Bits.{cell-fits}
 use Rattle.pl_lanes.proofs.Cells.{is_within, is_gone, missing-is}

@@ -4,7 +4,8 @@ use Rattle.std.proofs.lemmas.Int.{ints}
 use Rattle.std.proofs.lemmas.List.Elements.{filter-append}
 use Rattle.std.proofs.lemmas.List.{get_or-take, length-take, length-drop}
 use Rattle.pl_spec.specs.Rounding.{is_missing, is_present}
-use Rattle.pl_spec.specs.Formula.{present_values, total, count, products, places, differences, gains, losses}
+use Rattle.pl_spec.specs.Cells.{present_values, total, count}
+use Rattle.pl_pipeline.specs.Formula.{products, places, differences, gains, losses}
 use Rattle.pl_lanes.proofs.Cells.{total-cons}
 use Rattle.pl_factors.specs.Terms.{product, gain, loss}
 use Rattle.pl_factors.proofs.Sums.{sum_terms, terms-first, terms-same}

@@ -5,7 +5,8 @@ use Rattle.std.proofs.Math.IntN.{*ℤ_comm, *ℤ-zero}
 use borrow.Author.Differences.{up, down}
 use Rattle.std.proofs.lemmas.List.Sums.{sum_by-cons}
 use Rattle.pl_spec.specs.Rounding.{is_missing}
-use Rattle.pl_spec.specs.Formula.{present_values, total, products, square, count}
+use Rattle.pl_spec.specs.Cells.{present_values, total, count}
+use Rattle.pl_pipeline.specs.Formula.{products, square}
 use Rattle.pl_lanes.proofs.Cells.{total-cons}
 use Rattle.pl_running.specs.Laws.{about}
 

@@ -2,10 +2,11 @@
 -- windows.
 use Rattle.std.specs.Prelude.{ℕ, ℤ, pos, List, unwrap_or, position}
 use Rattle.std.specs.Ordering.{int_eq}
-use Rattle.pl_spec.specs.Formula.{present_values, total, count, products, places, differences, gains, losses, greatest, least}
-use Rattle.pl_spec.specs.Kind.{Kind, WindowKind}
-use Rattle.pl_spec.specs.Kind.Kind.{Window}
-use Rattle.pl_spec.specs.Kind.WindowKind.{SimpleMovingAverage, LinearWeightedMovingAverage, WindowSum, WindowMax, WindowMin, FastStochasticOscillator, AroonUp, AroonDown, WindowStd, BollingerMiddle, BollingerLower, BollingerUpper, RSI, VWAP, AverageDollarVolume, WeightedAverageValue, All, Any, AtLeastN, AllPresent}
+use Rattle.pl_spec.specs.Cells.{present_values, total, count, greatest, least}
+use Rattle.pl_pipeline.specs.Formula.{products, places, differences, gains, losses}
+use Rattle.pl_pipeline.specs.Kind.{Kind, WindowKind}
+use Rattle.pl_pipeline.specs.Kind.Kind.{Window}
+use Rattle.pl_pipeline.specs.Kind.WindowKind.{SimpleMovingAverage, LinearWeightedMovingAverage, WindowSum, WindowMax, WindowMin, FastStochasticOscillator, AroonUp, AroonDown, WindowStd, BollingerMiddle, BollingerLower, BollingerUpper, RSI, VWAP, AverageDollarVolume, WeightedAverageValue, All, Any, AtLeastN, AllPresent}
 
 -- two sums and a count; which they are depends on the kind
 pub record Kept : Type 0 where

@@ -2,7 +2,7 @@
 use Rattle.std.specs.Prelude.{◌≡◌, ℕ, ◌+◌, ◌<◌, ◌≤◌, ℤ, pos, List, length, take, drop, get_or}
 use Rattle.std.specs.List.{All}
 use Rattle.pl_spec.specs.Rounding.{IsCell}
-use Rattle.pl_spec.specs.Kind.{Kind}
+use Rattle.pl_pipeline.specs.Kind.{Kind}
 use Rattle.pl_factors.specs.Kinds.{formula_of}
 use Rattle.pl_factors.specs.Terms.{mean_by}
 use Rattle.pl_running.specs.Spans.{TakesWindows}

@@ -1,6 +1,7 @@
 -- How the sums of a window move when it loses its first cell and gains a last one.
 use Rattle.std.specs.Prelude.{◌≡◌, ℕ, suc, ◌<◌, map, ◌+◌, ◌-◌, ◌≤◌, ℤ, pos, ◌+ℤ◌, ◌-ℤ◌, ◌*ℤ◌, List, length, get_or, ◌≢◌, ◌⊎◌, if◌then◌else◌}
-use Rattle.pl_spec.specs.Formula.{present_values, total, count, products, places, differences, gains, losses, greatest, least}
+use Rattle.pl_spec.specs.Cells.{present_values, total, count, greatest, least}
+use Rattle.pl_pipeline.specs.Formula.{products, places, differences, gains, losses}
 use Rattle.std.specs.List.{All}
 use Rattle.std.specs.Int.{int_max, int_min}
 use Rattle.pl_spec.specs.Rounding.{IsCell, MISSING, is_missing}

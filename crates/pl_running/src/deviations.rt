@@ -4,7 +4,8 @@ ghost use Rattle.std.specs.Prelude.{◌≡◌, ◌≤◌, ◌*◌, ℤ, pos, ◌
 ghost use Rattle.std.specs.List.{All};
 ghost use Rattle.pl_spec.specs.Limits.{most_window};
 ghost use Rattle.pl_spec.specs.Rounding.{IsCell, LIMIT, add, sub, mul};
-ghost use Rattle.pl_spec.specs.Formula.{present_values, mean, deviation, square};
+ghost use Rattle.pl_spec.specs.Cells.{present_values};
+ghost use Rattle.pl_pipeline.specs.Formula.{mean, deviation, square};
 ghost use Rattle.pl_running.specs.Kept.{spreads};
 ghost use Rattle.pl_running.specs.Laws.{about};
 

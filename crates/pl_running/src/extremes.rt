@@ -5,7 +5,7 @@
 ghost use Rattle.std.specs.Prelude.{◌≡◌, ◌≤◌, length};
 ghost use Rattle.std.specs.List.{All};
 ghost use Rattle.pl_spec.specs.Rounding.{IsCell};
-ghost use Rattle.pl_spec.specs.Formula.{greatest, least};
+ghost use Rattle.pl_spec.specs.Cells.{greatest, least};
 ghost use Rattle.pl_running.specs.Kept.{highest, lowest, range};
 ghost use Rattle.pl_running.specs.Laws.{least_of};
 ghost use Rattle.pl_running.specs.Spans.{before, after};

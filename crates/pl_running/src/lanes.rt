@@ -2,9 +2,10 @@
 ghost use Rattle.std.specs.Prelude.{◌≡◌, ◌+◌, ◌*◌, ◌<◌, ◌≤◌, ℤ, pos, ◌≤ℤ◌, unsigned_abs, List, true, All, IsTrue, length};
 ghost use Rattle.pl_spec.specs.Limits.{most_window};
 ghost use Rattle.pl_spec.specs.Rounding.{IsCell, MILLION};
-ghost use Rattle.pl_spec.specs.Formula.{total};
-ghost use Rattle.pl_spec.specs.Kind.Kind.{Window};
-ghost use Rattle.pl_spec.specs.Kind.WindowKind.{ExponentialWeightedMovingAverage, Latest, SimpleMovingAverage};
+ghost use Rattle.pl_spec.specs.Cells.{total};
+ghost use Rattle.pl_pipeline.specs.Kind.Kind.{Window};
+ghost use Rattle.pl_pipeline.specs.Kind.WindowKind.{ExponentialWeightedMovingAverage, Latest};
+ghost use Rattle.pl_pipeline.specs.Kind.WindowKind.{SimpleMovingAverage};
 ghost use Rattle.pl_terms.specs.Kinds.{kind_of};
 ghost use Rattle.pl_factors.specs.Kinds.{formula_of};
 ghost use Rattle.pl_running.specs.Kept.{kept_of};

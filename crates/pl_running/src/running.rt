@@ -98,7 +98,7 @@ impl Running {
 
     /// The value of the formula over windows that this stands for, a cell in millionths: what `formula` and
     /// `window_filter` give. A formula of which nothing is kept is computed anew.
-    #[tactic(auto, unfolding(pl_spec::specs::Formula::formula, pl_terms::specs::Kinds::kind_of, crate::specs::Kept::kept_of))]
+    #[tactic(auto, unfolding(pl_pipeline::specs::Formula::formula, pl_terms::specs::Kinds::kind_of, crate::specs::Kept::kept_of))]
     pub fn value(&self, kind: &TermKind, a: &[i64], b: &[i64], c: &[i64]) -> i64
         requires windows { TakesWindows (kind_of kind.now) a.now b.now c.now }
         requires stands { self.now ≡ kept_of (kind_of kind.now) a.now b.now c.now }

@@ -5,7 +5,8 @@ ghost use Rattle.std.specs.Prelude.{◌≡◌, ◌+◌, ◌≤◌, length};
 ghost use Rattle.std.specs.List.{All};
 ghost use Rattle.pl_spec.specs.Limits.{most_window};
 ghost use Rattle.pl_spec.specs.Rounding.{IsCell};
-ghost use Rattle.pl_spec.specs.Formula.{present_values, total, count, products, places, differences, gains, losses};
+ghost use Rattle.pl_spec.specs.Cells.{present_values, total, count};
+ghost use Rattle.pl_pipeline.specs.Formula.{products, places, differences, gains, losses};
 ghost use Rattle.pl_running.specs.Spans.{before, after};
 
 use crate::parts::{moved, part, presence};

@@ -4,7 +4,9 @@ ghost use Rattle.std.specs.Prelude.{◌≡◌, ◌≤◌, ◌*◌, ◌/◌, ◌+
 ghost use Rattle.std.specs.List.{All, count_by, list_all};
 ghost use Rattle.pl_spec.specs.Limits.{most_window};
 ghost use Rattle.pl_spec.specs.Rounding.{IsCell, MILLION, quot, to_cell, is_present};
-ghost use Rattle.pl_spec.specs.Formula.{HUNDRED, present_values, total, count, mean, if_any, products, places, weighted_mean, differences, gains, losses, truth, is_true, newest, of_all};
+ghost use Rattle.pl_pipeline.specs.Formula.{HUNDRED, mean, if_any, products, places, weighted_mean};
+ghost use Rattle.pl_pipeline.specs.Formula.{differences, gains, losses, newest, of_all};
+ghost use Rattle.pl_spec.specs.Cells.{present_values, total, count, truth, is_true};
 ghost use Rattle.pl_lanes.specs.Flags.{IsFlag};
 ghost use Rattle.pl_running.specs.Kept.{sums, weighted, placed, swings};
 

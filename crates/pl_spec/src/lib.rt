@@ -1,4 +1,5 @@
-//! What pipelines mean: the definitions on which every contract of the project rests.
+//! What a world is: the definitions of numbers, days, sessions, assets, bars, labels, adjustments and windows,
+//! on which every contract of the project rests. What pipelines mean in a world is the crate `pl_pipeline`.
 //!
 //! The definitions are in `specs/`, and docs/DEFINITIONS.md explains each of them. The types here are those
 //! that both the definitions and the code speak of; the crates that they belong to export them. The laws of
@@ -35,25 +36,6 @@ pub enum Compare {
     GreaterEqual,
     Equal,
     NotEqual,
-}
-
-/// Which rank equal values have: places of their own by ascending sid, the least or the greatest of their
-/// places, one place for each distinct value, or the average of their places. These are the methods of
-/// Zipline's `Factor.rank`.
-#[derive(Clone, Copy, Debug, PartialEq, Eq)]
-pub enum RankMethod {
-    Ordinal,
-    Min,
-    Max,
-    Dense,
-    Average,
-}
-
-/// Whether the least value or the greatest has the first rank, which is 1.
-#[derive(Clone, Copy, Debug, PartialEq, Eq)]
-pub enum RankOrder {
-    Ascending,
-    Descending,
 }
 
 /// At which sessions a downsampled term takes its input's value: the first of each year, quarter, month or

@@ -4,11 +4,11 @@ use lib.Dec.{eqb}
 use Rattle.std.specs.Prelude.{unsigned_abs}
 use Rattle.std.proofs.lemmas.Bool.Decides.{nat_tests, Decides-int_eq}
 use Rattle.std.proofs.lemmas.Int.{ints, to_z-of_z}
-use Rattle.pl_spec.specs.Formula.{is_true}
+use Rattle.pl_spec.specs.Cells.{is_true}
 use Rattle.std.specs.Prelude.{flat_map}
 use Rattle.std.specs.List.{list_any}
 use Rattle.pl_spec.specs.Rounding.{MISSING, is_missing}
-use Rattle.pl_spec.specs.Text.{quote, quoted_byte, calls_for_quotes}
+use Rattle.pl_spec.specs.Lines.{quote, quoted_byte, calls_for_quotes}
 use Rattle.pl_values.specs.Families.{IsCode}
 
 byte-long : (b : ℕ) (c : Bool) → (b == 34) ≡ c → length (quoted_byte b) ≤ 2

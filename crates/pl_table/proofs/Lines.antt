@@ -4,8 +4,9 @@ use Rattle.std.specs.Prelude.{flat_map}
 use Rattle.std.proofs.lemmas.List.Folds.{flat_map-map}
 use Rattle.pl_spec.specs.declared.Format.{Format}
 use Rattle.pl_spec.specs.declared.Format.TheVariants.{Csv, Fixed}
-use Rattle.pl_spec.specs.Table.{Pipeline, NamedColumn}
-use Rattle.pl_spec.specs.Text.{line, header, left_in, right_in}
+use Rattle.pl_pipeline.specs.Table.{Pipeline, NamedColumn}
+use Rattle.pl_spec.specs.Lines.{line, left_in, right_in}
+use Rattle.pl_pipeline.specs.Text.{header}
 use Rattle.pl_table.specs.Fields.{date_part, sid_part, field_part}
 
 -- a text, a field after it, further fields and the end

@@ -9,7 +9,7 @@ use Rattle.pl_spec.specs.declared.Format.{Format}
 use Rattle.pl_table.specs.Fields.{field_part}
 use Rattle.pl_spec.specs.Parts.{sid_at}
 use Rattle.pl_spec.specs.World.{World}
-use Rattle.pl_spec.specs.Table.{Pipeline, NamedColumn, value_of, in_array}
+use Rattle.pl_pipeline.specs.Table.{Pipeline, NamedColumn, value_of, in_array}
 use Rattle.pl_cross.specs.Arrays.{sid_in}
 use Rattle.pl_values.specs.Arrays.{cell_of}
 use Rattle.pl_terms.specs.declared.node.TermId.{TermId}

@@ -3,8 +3,8 @@ use Rattle.std.proofs.Common.{◌≡◌, ℕ, if◌then◌else◌, ℤ, pos, Lis
 use Rattle.pl_spec.specs.declared.Format.{Format}
 use Rattle.pl_spec.specs.Rounding.{is_missing}
 use Rattle.pl_spec.specs.World.{World}
-use Rattle.pl_spec.specs.Table.{Pipeline, NamedColumn, value_of, summand}
-use Rattle.pl_spec.specs.Text.{field, kind_at}
+use Rattle.pl_pipeline.specs.Table.{Pipeline, NamedColumn, value_of, summand}
+use Rattle.pl_pipeline.specs.Text.{field, kind_at}
 use Rattle.pl_terms.specs.Checked.{IsChecked}
 use Rattle.pl_terms.specs.Sorts.{sort_at}
 use Rattle.pl_cross.specs.Arrays.{HasTexts, sid_in}

@@ -8,8 +8,9 @@ use Rattle.std.proofs.lemmas.Option.{get_or_from_slice_get}
 use Rattle.pl_spec.specs.declared.Format.{Format}
 use Rattle.pl_spec.specs.Dates.{date_text}
 use Rattle.pl_spec.specs.World.{World, day_of}
-use Rattle.pl_spec.specs.Table.{Pipeline, NamedColumn, row}
-use Rattle.pl_spec.specs.Text.{line, row_fields, row_line}
+use Rattle.pl_pipeline.specs.Table.{Pipeline, NamedColumn, row}
+use Rattle.pl_spec.specs.Lines.{line}
+use Rattle.pl_pipeline.specs.Text.{row_fields, row_line}
 use Rattle.pl_table.specs.Fields.{date_part, sid_part, field_part}
 use Rattle.pl_table.specs.Rows.{row_values, value_part, value_fields}
 use Rattle.pl_table.proofs.Lines.{line-is}

@@ -9,7 +9,7 @@ use Rattle.std.proofs.lemmas.List.Sums.{fold-append}
 use Rattle.std.proofs.lemmas.Option.{get_or_from_slice_get}
 use Rattle.pl_spec.specs.Rounding.{LIMIT}
 use Rattle.pl_spec.specs.World.{World}
-use Rattle.pl_spec.specs.Table.{Pipeline, NamedColumn, Row, value_of, summand}
+use Rattle.pl_pipeline.specs.Table.{Pipeline, NamedColumn, Row, value_of, summand}
 use Rattle.pl_table.specs.Rows.{row_values}
 use Rattle.pl_table.specs.Sums.{values_sum, rows_sum}
 

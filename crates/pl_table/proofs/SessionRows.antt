@@ -5,8 +5,8 @@ use Rattle.std.proofs.lemmas.List.{drop_all}
 use Rattle.std.proofs.lemmas.Grind.{flat_map-append}
 use Rattle.pl_spec.specs.declared.Format.{Format}
 use Rattle.pl_spec.specs.World.{World, exists}
-use Rattle.pl_spec.specs.Table.{Pipeline, Row, is_kept, row, session_rows}
-use Rattle.pl_spec.specs.Text.{row_line}
+use Rattle.pl_pipeline.specs.Table.{Pipeline, Row, is_kept, row, session_rows}
+use Rattle.pl_pipeline.specs.Text.{row_line}
 use Rattle.pl_spec.proofs.Lists.{filter-twice}
 use Rattle.pl_values.specs.Arrays.{HasAll}
 use Rattle.pl_table.specs.Outcomes.{lines, rows_of_sessions}

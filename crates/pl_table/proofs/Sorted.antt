@@ -3,18 +3,19 @@ use Rattle.std.proofs.Common.{arith, ◌≡◌, inl, inr, ℕ, ◌<◌, Bool, tr
 use Rattle.pl_spec.specs.declared.Format.{Format}
 use Rattle.pl_spec.specs.Rounding.{MISSING, is_missing}
 use Rattle.pl_spec.specs.Decimals.{cell_text}
-use Rattle.pl_spec.specs.Formula.{is_true}
+use Rattle.pl_spec.specs.Cells.{is_true}
 use Rattle.pl_spec.specs.World.{World}
-use Rattle.pl_spec.specs.Kind as kind
-use Rattle.pl_spec.specs.Kind.{Kind, WindowKind, PointKind, CrossKind}
-use Rattle.pl_spec.specs.Term as spec
-use Rattle.pl_spec.specs.Value.{Value, is_filter, is_window_filter, is_point_filter, is_cross_filter, holds}
-use Rattle.pl_spec.specs.Table.{Pipeline, value_of, in_array, is_kept}
+use Rattle.pl_pipeline.specs.Kind as kind
+use Rattle.pl_pipeline.specs.Kind.{Kind, WindowKind, PointKind, CrossKind}
+use Rattle.pl_pipeline.specs.Term as spec
+use Rattle.pl_pipeline.specs.Value.{Value, is_filter, is_window_filter, is_point_filter, is_cross_filter, holds}
+use Rattle.pl_pipeline.specs.Table.{Pipeline, value_of, in_array, is_kept}
 use Rattle.pl_spec.specs.declared.Format.TheVariants.{Csv}
 use Rattle.pl_cross.specs.Arrays.{sid_in}
 use Rattle.pl_values.specs.Arrays.{cell_of}
 use Rattle.pl_table.proofs.Outputs.{cell-is}
-use Rattle.pl_spec.specs.Text.{field, kind_at, label_text, number_text, is_numbered}
+use Rattle.pl_pipeline.specs.Text.{field, kind_at, number_text, is_numbered}
+use Rattle.pl_spec.specs.Lines.{label_text}
 use Rattle.pl_terms.specs.declared.node.Node.{Node}
 use Rattle.pl_terms.specs.Nodes.{graph_of}
 use Rattle.pl_terms.specs.Checked.{IsChecked}
@@ -24,7 +25,7 @@ use Rattle.pl_cross.proofs.Codes.{IsCoded}
 use Rattle.pl_values.specs.Families.{IsCode}
 use Rattle.pl_terms.proofs.TermSorts.{sorted-there}
 use Rattle.pl_terms.proofs.Graphs.{graph-long}
-use Rattle.pl_spec.proofs.Unfolds.{past}
+use Rattle.pl_pipeline.proofs.Unfolds.{past}
 use Rattle.pl_values.proofs.Numbers.{numbered-sort, coded-sort}
 use Rattle.pl_values.proofs.Plain.{placed, coded-code}
 use Rattle.pl_table.specs.declared.writing.Writing.{Writing}

@@ -5,10 +5,10 @@ use Rattle.std.proofs.lemmas.Nat.{mul-le, same_from_place}
 use Rattle.std.proofs.lemmas.Bool.{true≢false}
 use Rattle.std.proofs.lemmas.Option.{slice_get-get_or, slice_get_within}
 use Rattle.pl_spec.specs.Rounding.{IsCell}
-use Rattle.pl_spec.specs.Formula.{is_true, truth}
-use Rattle.pl_spec.specs.Graph.{contains}
-use Rattle.pl_spec.specs.Table.{NamedColumn}
-use Rattle.pl_spec.proofs.Cells.{is_true-truth}
+use Rattle.pl_spec.specs.Cells.{is_true, truth}
+use Rattle.pl_pipeline.specs.Graph.{contains}
+use Rattle.pl_pipeline.specs.Table.{NamedColumn}
+use Rattle.pl_pipeline.proofs.Cells.{is_true-truth}
 use Rattle.pl_spec.proofs.Places.{row-within}
 use Rattle.pl_cross.specs.Arrays.{sid_in}
 use Rattle.pl_values.specs.Arrays.{cell_of}

@@ -4,8 +4,9 @@ use Rattle.pl_spec.specs.declared.Format.{Format}
 use Rattle.pl_spec.specs.declared.Format.TheVariants.{Csv, Fixed}
 use Rattle.pl_spec.specs.Rounding.{is_missing}
 use Rattle.pl_spec.specs.Decimals.{cell_text}
-use Rattle.pl_spec.specs.Formula.{is_true}
-use Rattle.pl_spec.specs.Text.{left_in, right_in, label_text, truth_text}
+use Rattle.pl_spec.specs.Cells.{is_true}
+use Rattle.pl_spec.specs.Lines.{left_in, right_in, label_text}
+use Rattle.pl_pipeline.specs.Text.{truth_text}
 use Rattle.pl_terms.specs.Sorts.{Sort, Factors, Filters, Labels, Numbers}
 use Rattle.pl_table.specs.declared.writing.Writing.{Writing}
 use Rattle.pl_table.specs.declared.writing.Writing.TheVariants.{Cell, Truth, Whole, Label}

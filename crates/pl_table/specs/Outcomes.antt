@@ -4,10 +4,10 @@ use Rattle.std.specs.List.{range_with_len}
 use Rattle.pl_spec.specs.declared.Format.{Format}
 use Rattle.pl_spec.specs.Parts.{sid_at}
 use Rattle.pl_spec.specs.World.{World}
-use Rattle.pl_spec.specs.Graph.{contains}
+use Rattle.pl_pipeline.specs.Graph.{contains}
 use Rattle.pl_spec.specs.Rounding.{IsCell}
-use Rattle.pl_spec.specs.Table.{NamedColumn, Pipeline, Row, session_rows}
-use Rattle.pl_spec.specs.Text.{row_line}
+use Rattle.pl_pipeline.specs.Table.{NamedColumn, Pipeline, Row, session_rows}
+use Rattle.pl_pipeline.specs.Text.{row_line}
 use Rattle.pl_cross.specs.Arrays.{HasTexts}
 use Rattle.pl_world.specs.Worlds.{world_of}
 use Rattle.pl_terms.specs.Checked.{IsChecked, pipeline_of}

@@ -2,9 +2,9 @@
 use Rattle.std.specs.Prelude.{◌≡◌, ℕ, Bool, ◌&&◌, ℤ, pos, List, ◌++◌, map, flat_map}
 use Rattle.pl_spec.specs.declared.Format.{Format}
 use Rattle.pl_spec.specs.World.{World, exists}
-use Rattle.pl_spec.specs.Value.{Value}
-use Rattle.pl_spec.specs.Table.{Pipeline, NamedColumn, value_of, is_kept, summand}
-use Rattle.pl_spec.specs.Text.{field, kind_at}
+use Rattle.pl_pipeline.specs.Value.{Value}
+use Rattle.pl_pipeline.specs.Table.{Pipeline, NamedColumn, value_of, is_kept, summand}
+use Rattle.pl_pipeline.specs.Text.{field, kind_at}
 use Rattle.pl_table.specs.Fields.{field_part}
 
 -- the asset exists on the session, and the screen keeps it

@@ -2,8 +2,8 @@
 use Rattle.std.specs.Prelude.{ℕ, ◌*◌, ◌≤◌, ℤ, pos, ◌+ℤ◌, List, fold, unsigned_abs}
 use Rattle.pl_spec.specs.Limits.{most_columns}
 use Rattle.pl_spec.specs.Rounding.{LIMIT}
-use Rattle.pl_spec.specs.Value.{Value}
-use Rattle.pl_spec.specs.Table.{Row, summand}
+use Rattle.pl_pipeline.specs.Value.{Value}
+use Rattle.pl_pipeline.specs.Table.{Row, summand}
 
 -- of some values, and of the values of all rows; missing ones count 0
 abbrev pub values_sum : List (List ℕ) → List Value → ℤ

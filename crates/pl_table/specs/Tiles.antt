@@ -1,8 +1,8 @@
 -- A tile: the rows of a few sessions side by side, each with a mark and its cells.
 use Rattle.std.specs.Prelude.{◌≡◌, ℕ, ◌+◌, ◌-◌, ◌*◌, ◌%◌, ◌<◌, ◌≤◌, true, min, ℤ, pos, List, length, get_or, slice_get, Some}
 use Rattle.pl_spec.specs.Rounding.{IsCell}
-use Rattle.pl_spec.specs.Formula.{is_true}
-use Rattle.pl_spec.specs.Table.{NamedColumn}
+use Rattle.pl_spec.specs.Cells.{is_true}
+use Rattle.pl_pipeline.specs.Table.{NamedColumn}
 use Rattle.pl_cross.specs.Arrays.{sid_in}
 use Rattle.pl_values.specs.Arrays.{cell_of}
 use Rattle.pl_table.specs.declared.outcome.Outcome.{Outcome}

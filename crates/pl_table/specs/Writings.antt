@@ -1,6 +1,6 @@
 -- How the values of each column of a pipeline are written.
 use Rattle.std.specs.Prelude.{◌≡◌, ℕ, List, length, get_or, slice_get, Some}
-use Rattle.pl_spec.specs.Table.{NamedColumn, Pipeline}
+use Rattle.pl_pipeline.specs.Table.{NamedColumn, Pipeline}
 use Rattle.pl_terms.specs.Sorts.{sort_at}
 use Rattle.pl_table.specs.declared.writing.Writing.{Writing}
 use Rattle.pl_table.specs.declared.writing.Writing.TheVariants.{Cell}

@@ -1,7 +1,7 @@
 //! Which rows there are.
 ghost use Rattle.std.specs.Prelude.{◌≡◌, ◌<◌, pos, length};
 ghost use Rattle.pl_spec.specs.World.{exists};
-ghost use Rattle.pl_spec.specs.Table.{is_kept};
+ghost use Rattle.pl_pipeline.specs.Table.{is_kept};
 ghost use Rattle.pl_cross.specs.Arrays.{sid_in};
 ghost use Rattle.pl_table.specs.Outcomes.{IsOutcome, IsWithin, pipeline_in, sids_in, world_in};
 ghost use Rattle.pl_table.specs.Rows.{has_row};

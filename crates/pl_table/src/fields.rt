@@ -2,7 +2,7 @@
 ghost use Rattle.std.specs.Prelude.{◌≡◌, ◌≤◌, ◌<◌, ◌+◌, ◌++◌, [], length, decimal, slice_index_or};
 ghost use Rattle.pl_spec.specs.Rounding.{IsCell};
 ghost use Rattle.pl_spec.specs.Dates.{IsDay, date_text};
-ghost use Rattle.pl_spec.specs.Text.{label_text};
+ghost use Rattle.pl_spec.specs.Lines.{label_text};
 ghost use Rattle.pl_values.specs.Families.{IsCode};
 ghost use Rattle.pl_table.specs.Fields.{cell_field, date_part, field_part, sid_part};
 ghost use Rattle.pl_table.specs.declared.writing.Writing.TheVariants as Writing;

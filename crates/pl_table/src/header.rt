@@ -1,6 +1,6 @@
 //! The table's first line.
 ghost use Rattle.std.specs.Prelude.{◌≡◌, ◌≤◌, ◌++◌, replicate, IfOk, OnOk};
-ghost use Rattle.pl_spec.specs.Text.{header};
+ghost use Rattle.pl_pipeline.specs.Text.{header};
 ghost use Rattle.pl_terms.specs.Checked.{pipeline_of};
 ghost use Rattle.pl_table.specs.Fields.{field_part};
 

@@ -1,7 +1,7 @@
 //! The values of some sessions, in a workspace.
 ghost use Rattle.std.specs.Prelude.{◌≡◌, ◌<◌, ◌≤◌, ◌+◌, ◌-◌, ◌*◌, ℕ, true, pos, length, get_or};
 ghost use Rattle.pl_spec.specs.Rounding.{IsCell};
-ghost use Rattle.pl_spec.specs.Graph.{contains};
+ghost use Rattle.pl_pipeline.specs.Graph.{contains};
 ghost use Rattle.pl_terms.specs.Uses.{outputs};
 ghost use Rattle.pl_cross.specs.Arrays.{sid_in};
 ghost use Rattle.pl_values.specs.Arrays.{cell_of};

@@ -3,8 +3,8 @@ ghost use Rattle.std.specs.Prelude.{◌≡◌, ◌≤◌, ◌<◌, ◌+◌, ◌-
 ghost use Rattle.pl_spec.specs.Limits.{most_columns};
 ghost use Rattle.pl_spec.specs.Rounding.{LIMIT};
 ghost use Rattle.pl_spec.specs.World.{exists};
-ghost use Rattle.pl_spec.specs.Table.{NamedColumn, is_kept, row, session_rows};
-ghost use Rattle.pl_spec.specs.Text.{row_line};
+ghost use Rattle.pl_pipeline.specs.Table.{NamedColumn, is_kept, row, session_rows};
+ghost use Rattle.pl_pipeline.specs.Text.{row_line};
 ghost use Rattle.pl_outside.specs.Taken.{IsWrittenIn, Writes};
 ghost use Rattle.pl_cross.specs.Arrays.{sid_in};
 ghost use Rattle.pl_table.specs.Outcomes.{AreCells, HasCells, IsOutcome, IsTable, IsWithin, lines, pipeline_in, rows_of_sessions, sids_in, world_in};

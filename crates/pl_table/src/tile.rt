@@ -2,9 +2,9 @@
 //! another, and those of a row far apart.
 
 ghost use Rattle.std.specs.Prelude.{◌≡◌, ◌≤◌, ◌<◌, ◌+◌, ◌-◌, ◌*◌, ◌^◌, ℕ, true, false, pos, length, get_or, slice_get, Some, IfSome, IfNone};
-ghost use Rattle.pl_spec.specs.Formula.{truth};
+ghost use Rattle.pl_spec.specs.Cells.{truth};
 ghost use Rattle.pl_spec.specs.Limits.{most_columns};
-ghost use Rattle.pl_spec.specs.Table.{NamedColumn};
+ghost use Rattle.pl_pipeline.specs.Table.{NamedColumn};
 ghost use Rattle.pl_cross.specs.Arrays.{sid_in};
 ghost use Rattle.pl_values.specs.Arrays.{cell_of};
 ghost use Rattle.pl_table.specs.Outcomes.{HasCells, IsOutcome, IsWithin, pipeline_in, sids_in, world_in};

@@ -4,9 +4,9 @@ use Rattle.std.proofs.lemmas.Bool.{or_left, or_right, eq-eqb}
 use Rattle.std.proofs.lemmas.List.{length-map}
 use Rattle.std.proofs.lemmas.List.Folds.{list_any-append}
 use Rattle.std.proofs.lemmas.Option.{slice_get-map}
-use Rattle.pl_spec.specs.Graph.{contains}
-use Rattle.pl_spec.specs.Table.{NamedColumn, Pipeline}
-use Rattle.pl_spec.proofs.Contained.{used-below}
+use Rattle.pl_pipeline.specs.Graph.{contains}
+use Rattle.pl_pipeline.specs.Table.{NamedColumn, Pipeline}
+use Rattle.pl_pipeline.proofs.Contained.{used-below}
 use Rattle.pl_terms.specs.declared.node.Node as code
 use Rattle.pl_terms.specs.declared.checked.NamedColumn as code_column
 use Rattle.pl_terms.specs.Nodes.{graph_of, node_of}

@@ -7,10 +7,10 @@ use Rattle.std.proofs.lemmas.Option.{slice_get_within, slice_get-get_or}
 use Rattle.std.proofs.Math.ListN.{get_or-append}
 use Rattle.std.proofs.Math.Seq.{get_or-append_seam}
 use Rattle.pl_spec.specs.Limits.{most_terms}
-use Rattle.pl_spec.specs.Term.{Term, Node, Graph, IsGraph, MentionsBelow, tree_at, tree_over, trees_after, trees, term_at}
-use Rattle.pl_spec.specs.Term.Term.{absent}
-use Rattle.pl_spec.proofs.Trees.{term_at-node}
-use Rattle.pl_spec.proofs.Distinct.{one_tree}
+use Rattle.pl_pipeline.specs.Term.{Term, Node, Graph, IsGraph, MentionsBelow, tree_at, tree_over, trees_after, trees, term_at}
+use Rattle.pl_pipeline.specs.Term.Term.{absent}
+use Rattle.pl_pipeline.proofs.Trees.{term_at-node}
+use Rattle.pl_pipeline.proofs.Distinct.{one_tree}
 use Rattle.pl_terms.specs.Nodes.{place_from, Interned, interned}
 use Rattle.pl_terms.specs.Laws.{IsNew}
 use Rattle.pl_terms.proofs.Shared.{not-there, place-is, graph-more}

@@ -2,7 +2,7 @@
 use Rattle.std.proofs.Common.{◌≡◌, ℕ, zero, suc, ◌+◌, ◌≤◌, Bool, true, false, cond, [], ◌∷◌, ◌++◌, length, Option, Some, None, refl, sym, ap, ◌∙◌, arith, nat_lt}
 use Rattle.std.proofs.lemmas.Bool.Decides.{nat_tests}
 use Rattle.pl_spec.specs.Limits.{most_terms}
-use Rattle.pl_spec.specs.Term.{Graph, Node}
+use Rattle.pl_pipeline.specs.Term.{Graph, Node}
 use Rattle.pl_terms.specs.Nodes.{same_node, place_from, interned}
 use Rattle.std.specs.Prelude.{Result, Ok, Err}
 use Rattle.pl_terms.specs.declared.graph.GraphError.{GraphError}

@@ -4,12 +4,12 @@ use Rattle.std.proofs.lemmas.Option.{slice_get_within}
 use Rattle.std.proofs.Math.ListN.{get_or-append}
 use Rattle.std.proofs.Math.Seq.{get_or-append_seam}
 use Rattle.pl_spec.specs.Rounding.{MISSING}
-use Rattle.pl_spec.specs.Kind as kind
-use Rattle.pl_spec.specs.Kind.{Kind}
-use Rattle.pl_spec.specs.Term.{IsGraph, Term, Graph, Node, Input, BarColumn, TermInput, tree_at, input_tree, tree_over, trees_after, trees, term_at}
-use Rattle.pl_spec.specs.Term.Term.{absent}
-use Rattle.pl_spec.specs.Value.{sort_over, sort_kind}
-use Rattle.pl_spec.specs.Text.{kind_at}
+use Rattle.pl_pipeline.specs.Kind as kind
+use Rattle.pl_pipeline.specs.Kind.{Kind}
+use Rattle.pl_pipeline.specs.Term.{IsGraph, Term, Graph, Node, Input, BarColumn, TermInput, tree_at, input_tree, tree_over, trees_after, trees, term_at}
+use Rattle.pl_pipeline.specs.Term.Term.{absent}
+use Rattle.pl_pipeline.specs.Value.{sort_over, sort_kind}
+use Rattle.pl_pipeline.specs.Text.{kind_at}
 use Rattle.pl_terms.specs.declared.node.Node as code
 use Rattle.pl_terms.specs.declared.node.TermId.{TermId}
 use Rattle.pl_terms.specs.Kinds.{kind_of}

@@ -2,11 +2,11 @@
 use Rattle.std.proofs.Common.{◌≡◌, ℕ, zero, suc, ◌≤◌, ◌==◌, nat_le, true, List, [], ◌∷◌, ◌++◌, Option, Some, None, slice_get, refl, arith}
 use Rattle.std.proofs.lemmas.Bool.{and_parts}
 use Rattle.std.proofs.lemmas.Bool.Decides.{nat_tests}
-use Rattle.pl_spec.specs.Kind as kind
-use Rattle.pl_spec.specs.Kind.{Kind, WindowKind}
-use Rattle.pl_spec.specs.Table.{Pipeline}
-use Rattle.pl_spec.specs.Term.{Term, Graph, Node, Input, BarColumn, TermInput, tree_at, input_tree, number_tree, tree_over, trees_after, term_at}
-use Rattle.pl_spec.specs.Reaching.{HasWindows}
+use Rattle.pl_pipeline.specs.Kind as kind
+use Rattle.pl_pipeline.specs.Kind.{Kind, WindowKind}
+use Rattle.pl_pipeline.specs.Table.{Pipeline}
+use Rattle.pl_pipeline.specs.Term.{Term, Graph, Node, Input, BarColumn, TermInput, tree_at, input_tree, number_tree, tree_over, trees_after, term_at}
+use Rattle.pl_pipeline.specs.Reaching.{HasWindows}
 use Rattle.pl_terms.specs.Sorts.{has_window, window_fits, is_window_from}
 use Rattle.pl_terms.specs.Checked.{IsChecked}
 

@@ -1,8 +1,8 @@
 //! The kinds whose sorts terms have.
 ghost use Rattle.std.specs.Prelude.{◌≡◌, ◌<◌, false, length, IfSome, IfNone, option_map};
 ghost use Rattle.pl_spec.specs.Rounding.{MISSING};
-ghost use Rattle.pl_spec.specs.Kind.Kind.{Constant, Downsample};
-ghost use Rattle.pl_spec.specs.Text.{kind_at};
+ghost use Rattle.pl_pipeline.specs.Kind.Kind.{Constant, Downsample};
+ghost use Rattle.pl_pipeline.specs.Text.{kind_at};
 ghost use Rattle.pl_terms.specs.Kinds.{kind_of};
 ghost use Rattle.pl_terms.specs.Nodes.{node_of, graph_of, number_of};
 ghost use Rattle.pl_terms.specs.Sorts as spec;

@@ -1,13 +1,13 @@
 -- The cell of a term is what its kind gives where the asset is kept, and the empty one elsewhere.
 use Rattle.std.proofs.Common.{◌≡◌, ℕ, Bool, true, false, ◌&&◌, if◌then◌else◌, ℤ, pos, List, Option, Some, None, refl, sym, ◌∙◌, ap, slice_get}
 use Rattle.pl_spec.specs.World.{World, exists}
-use Rattle.pl_spec.specs.Formula.{is_true}
-use Rattle.pl_spec.specs.Term.{Node, input_tree, trees}
-use Rattle.pl_spec.specs.Value.{Value, number_of, passes, empty, sort_over, sort_kind, step}
-use Rattle.pl_spec.specs.Value.Value.{Number}
-use Rattle.pl_spec.specs.NodeValue.{input_part, number_part}
-use Rattle.pl_spec.specs.Table.{Pipeline, value_of, in_array}
-use Rattle.pl_spec.proofs.Trees.{term_at-node}
+use Rattle.pl_spec.specs.Cells.{is_true}
+use Rattle.pl_pipeline.specs.Term.{Node, input_tree, trees}
+use Rattle.pl_pipeline.specs.Value.{Value, number_of, passes, empty, sort_over, sort_kind, step}
+use Rattle.pl_pipeline.specs.Value.Value.{Number}
+use Rattle.pl_pipeline.specs.NodeValue.{input_part, number_part}
+use Rattle.pl_pipeline.specs.Table.{Pipeline, value_of, in_array}
+use Rattle.pl_pipeline.proofs.Trees.{term_at-node}
 use Rattle.pl_terms.specs.Checked.{IsChecked}
 use Rattle.pl_terms.specs.Sorts.{Place, Filters, Labels, sort_at, has_mask}
 use Rattle.pl_cross.specs.Arrays.{sid_in}

@@ -6,14 +6,14 @@ use Rattle.std.proofs.lemmas.List.{length-map}
 use Rattle.std.proofs.lemmas.List.Sums.{count_by-le-length, length-filter}
 use Rattle.std.proofs.lemmas.List.FromFn.{length-range_with_len}
 use Rattle.pl_spec.specs.Rounding.{MISSING, MILLION, LIMIT, IsCell}
-use Rattle.pl_spec.specs.Kind.{CrossKind}
-use Rattle.pl_spec.specs.Kind.CrossKind.{Rank, Demean, ZScore, Quantiles, PeerCount}
-use Rattle.pl_spec.specs.declared.RankMethod.{RankMethod}
-use Rattle.pl_spec.specs.declared.RankMethod.TheVariants.{Ordinal, Min, Max, Dense, Average}
-use Rattle.pl_spec.specs.declared.RankOrder.{RankOrder}
-use Rattle.pl_spec.specs.Cross.{Entry, values, precedes, preceding, same, earlier_same, distinct_values, rank, bin_of, cross, counts_at, entries_for, at}
-use Rattle.pl_spec.specs.Value.{is_cross_filter}
-use Rattle.pl_spec.proofs.Cells.{truth-cell, chosen-has, quot-cell, sub-cell}
+use Rattle.pl_pipeline.specs.Kind.{CrossKind}
+use Rattle.pl_pipeline.specs.Kind.CrossKind.{Rank, Demean, ZScore, Quantiles, PeerCount}
+use Rattle.pl_pipeline.specs.declared.RankMethod.{RankMethod}
+use Rattle.pl_pipeline.specs.declared.RankMethod.TheVariants.{Ordinal, Min, Max, Dense, Average}
+use Rattle.pl_pipeline.specs.declared.RankOrder.{RankOrder}
+use Rattle.pl_pipeline.specs.Cross.{Entry, values, precedes, preceding, same, earlier_same, distinct_values, rank, bin_of, cross, counts_at, entries_for, at}
+use Rattle.pl_pipeline.specs.Value.{is_cross_filter}
+use Rattle.pl_pipeline.proofs.Cells.{truth-cell, chosen-has, quot-cell, sub-cell}
 use Rattle.pl_cross.specs.Section.{IsRight}
 use Rattle.pl_cross.specs.Listing.{labels_for}
 use Rattle.pl_cross.specs.Arrays.{section_at, empty_number}

@@ -3,17 +3,17 @@ use Rattle.std.proofs.Common.{◌≡◌, ◌⊎◌, ℕ, ◌<◌, true, false, �
 use Rattle.std.proofs.lemmas.List.{get_or_default}
 use Rattle.pl_spec.specs.Rounding.{MISSING}
 use Rattle.pl_spec.specs.World.{World, exists}
-use Rattle.pl_spec.specs.Kind.{Kind, CrossKind}
-use Rattle.pl_spec.specs.Kind.Kind.{Cross}
-use Rattle.pl_spec.specs.Kind.CrossKind.{PeerCount}
-use Rattle.pl_spec.specs.Formula.{is_true}
-use Rattle.pl_spec.specs.Cross.{at}
-use Rattle.pl_spec.specs.Term.{Node, Input}
-use Rattle.pl_spec.specs.Term.Input.{BarColumn, TermInput}
-use Rattle.pl_spec.specs.Value.{Part, passes, group_of}
-use Rattle.pl_spec.specs.Value.Part.{Values}
-use Rattle.pl_spec.specs.NodeValue.{meaning_of, input_part, number_part}
-use Rattle.pl_spec.specs.Table.{Pipeline, in_array}
+use Rattle.pl_pipeline.specs.Kind.{Kind, CrossKind}
+use Rattle.pl_pipeline.specs.Kind.Kind.{Cross}
+use Rattle.pl_pipeline.specs.Kind.CrossKind.{PeerCount}
+use Rattle.pl_spec.specs.Cells.{is_true}
+use Rattle.pl_pipeline.specs.Cross.{at}
+use Rattle.pl_pipeline.specs.Term.{Node, Input}
+use Rattle.pl_pipeline.specs.Term.Input.{BarColumn, TermInput}
+use Rattle.pl_pipeline.specs.Value.{Part, passes, group_of}
+use Rattle.pl_pipeline.specs.Value.Part.{Values}
+use Rattle.pl_pipeline.specs.NodeValue.{meaning_of, input_part, number_part}
+use Rattle.pl_pipeline.specs.Table.{Pipeline, in_array}
 use Rattle.pl_terms.specs.Checked.{IsChecked}
 use Rattle.pl_terms.specs.Sorts.{Sort, Factors, Labels, Numbers, Place, Factor, Classifier, sort_at, places, cross_places, fits, all_fit, takes_sort, has_group}
 use Rattle.pl_cross.specs.Section.{IsRight, HasParameters}

@@ -3,16 +3,16 @@ use Rattle.std.proofs.Common.{◌≡◌, ℕ, zero, suc, ◌<◌, Bool, true, fa
 use Rattle.pl_spec.specs.declared.Frequency.{Frequency}
 use Rattle.pl_spec.specs.World.{World, exists}
 use Rattle.pl_spec.specs.Periods.{period_start}
-use Rattle.pl_spec.specs.Kind.{Kind}
-use Rattle.pl_spec.specs.Kind.Kind.{Downsample}
-use Rattle.pl_spec.specs.Term.{Node, Input, input_tree, trees}
-use Rattle.pl_spec.specs.Term.Input.{BarColumn, TermInput}
-use Rattle.pl_spec.specs.Text.{kind_at}
-use Rattle.pl_spec.specs.Value.{Value, passes, now, empty, sort_over, sort_kind, step}
-use Rattle.pl_spec.specs.NodeValue.{node_value, input_part, number_part}
-use Rattle.pl_spec.specs.Table.{Pipeline, value_of}
-use Rattle.pl_spec.proofs.Unfolds.{value_at-node}
-use Rattle.pl_spec.proofs.Trees.{term_at-node}
+use Rattle.pl_pipeline.specs.Kind.{Kind}
+use Rattle.pl_pipeline.specs.Kind.Kind.{Downsample}
+use Rattle.pl_pipeline.specs.Term.{Node, Input, input_tree, trees}
+use Rattle.pl_pipeline.specs.Term.Input.{BarColumn, TermInput}
+use Rattle.pl_pipeline.specs.Text.{kind_at}
+use Rattle.pl_pipeline.specs.Value.{Value, passes, now, empty, sort_over, sort_kind, step}
+use Rattle.pl_pipeline.specs.NodeValue.{node_value, input_part, number_part}
+use Rattle.pl_pipeline.specs.Table.{Pipeline, value_of}
+use Rattle.pl_pipeline.proofs.Unfolds.{value_at-node}
+use Rattle.pl_pipeline.proofs.Trees.{term_at-node}
 use Rattle.pl_terms.specs.Checked.{IsChecked}
 use Rattle.pl_terms.specs.Sorts.{Sort, AnyTerm, sort_of, sort_at, is_downsampled, first_term, places, fits, takes_sort}
 use Rattle.pl_terms.proofs.TermSorts.{kind-own, sort-input, sorted-there}

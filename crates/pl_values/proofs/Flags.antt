@@ -2,19 +2,20 @@
 use Rattle.std.proofs.Common.{◌≡◌, ℕ, Bool, true, false, if◌then◌else◌, ℤ, pos, List, [], Some, refl, ◌∙◌, slice_get, ◌==◌, ◌&&◌, sym, ap, true≢false}
 use Rattle.std.specs.List.{list_any}
 use Rattle.pl_spec.specs.World.{World, exists}
-use Rattle.pl_spec.specs.Kind.{Kind, WindowKind, PointKind, LabelKind, CrossKind}
-use Rattle.pl_spec.specs.Kind.Kind.{Constant, StaticSids, Window, Point, LabelTest, Cross, Downsample}
-use Rattle.pl_spec.specs.Kind.WindowKind.{All, Any, AtLeastN, AllPresent}
-use Rattle.pl_spec.specs.Kind.PointKind.{Comparison, And, Or, Not, IsNull, NotNull, NumberIs, NumberIsNot}
-use Rattle.pl_spec.specs.Kind.CrossKind.{Top, Bottom, PercentileBetween}
-use Rattle.pl_spec.specs.Formula.{truth, formula}
-use Rattle.pl_spec.specs.Pointwise.{pointwise, label_test}
-use Rattle.pl_spec.specs.Cross.{cross}
-use Rattle.pl_spec.specs.Term.{Node, input_tree, trees}
-use Rattle.pl_spec.specs.Value.{Value, Part, now, passes, eligible, group_of, test_value, empty, number_of, sort_over, sort_kind, step}
-use Rattle.pl_spec.specs.Value.Value.{Number, Text}
-use Rattle.pl_spec.specs.NodeValue.{node_value, input_part, number_part}
-use Rattle.pl_spec.specs.Table.{Pipeline, value_of, in_array}
+use Rattle.pl_pipeline.specs.Kind.{Kind, WindowKind, PointKind, LabelKind, CrossKind}
+use Rattle.pl_pipeline.specs.Kind.Kind.{Constant, StaticSids, Window, Point, LabelTest, Cross, Downsample}
+use Rattle.pl_pipeline.specs.Kind.WindowKind.{All, Any, AtLeastN, AllPresent}
+use Rattle.pl_pipeline.specs.Kind.PointKind.{Comparison, And, Or, Not, IsNull, NotNull, NumberIs, NumberIsNot}
+use Rattle.pl_pipeline.specs.Kind.CrossKind.{Top, Bottom, PercentileBetween}
+use Rattle.pl_spec.specs.Cells.{truth}
+use Rattle.pl_pipeline.specs.Formula.{formula}
+use Rattle.pl_pipeline.specs.Pointwise.{pointwise, label_test}
+use Rattle.pl_pipeline.specs.Cross.{cross}
+use Rattle.pl_pipeline.specs.Term.{Node, input_tree, trees}
+use Rattle.pl_pipeline.specs.Value.{Value, Part, now, passes, eligible, group_of, test_value, empty, number_of, sort_over, sort_kind, step}
+use Rattle.pl_pipeline.specs.Value.Value.{Number, Text}
+use Rattle.pl_pipeline.specs.NodeValue.{node_value, input_part, number_part}
+use Rattle.pl_pipeline.specs.Table.{Pipeline, value_of, in_array}
 use Rattle.pl_terms.specs.Checked.{IsChecked}
 use Rattle.pl_terms.specs.Sorts.{Sort, Factors, Filters, sort_of, sort_at, window_sort, point_sort, cross_sort}
 use Rattle.pl_lanes.specs.Flags.{IsFlag}

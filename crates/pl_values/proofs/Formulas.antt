@@ -8,15 +8,15 @@ use Rattle.std.proofs.lemmas.Bool.Decides.{nat_tests}
 use Rattle.pl_spec.specs.Rounding.{MILLION, IsCell}
 use Rattle.pl_spec.specs.World.{World}
 use Rattle.pl_spec.specs.Window.{before, downward, seen_cell}
-use Rattle.pl_spec.specs.Kind.{Kind, WindowKind}
-use Rattle.pl_spec.specs.Kind.Kind.{Window}
-use Rattle.pl_spec.specs.Kind.WindowKind.{Latest, BollingerLower, BollingerUpper, VWAP, AverageDollarVolume, WeightedAverageValue, TrueRange, ExponentialWeightedMovingAverage, All as AllTrue, Any, AtLeastN, AllPresent}
-use Rattle.pl_spec.specs.Formula.{formula}
-use Rattle.pl_spec.specs.Term.{Node, Input}
-use Rattle.pl_spec.specs.Term.Input.{BarColumn, TermInput}
-use Rattle.pl_spec.specs.Value.{number_of, window_of, step}
-use Rattle.pl_spec.specs.NodeValue.{input_part}
-use Rattle.pl_spec.specs.Table.{Pipeline, value_of}
+use Rattle.pl_pipeline.specs.Kind.{Kind, WindowKind}
+use Rattle.pl_pipeline.specs.Kind.Kind.{Window}
+use Rattle.pl_pipeline.specs.Kind.WindowKind.{Latest, BollingerLower, BollingerUpper, VWAP, AverageDollarVolume, WeightedAverageValue, TrueRange, ExponentialWeightedMovingAverage, All as AllTrue, Any, AtLeastN, AllPresent}
+use Rattle.pl_pipeline.specs.Formula.{formula}
+use Rattle.pl_pipeline.specs.Term.{Node, Input}
+use Rattle.pl_pipeline.specs.Term.Input.{BarColumn, TermInput}
+use Rattle.pl_pipeline.specs.Value.{number_of, window_of, step}
+use Rattle.pl_pipeline.specs.NodeValue.{input_part}
+use Rattle.pl_pipeline.specs.Table.{Pipeline, value_of}
 use Rattle.pl_spec.proofs.Windows.{before-pos, map-downward}
 use Rattle.pl_terms.specs.Checked.{IsChecked}
 use Rattle.pl_terms.specs.Sorts.{Place, Filter, sort_at, places, window_places, window_fits, fits, all_fit, has_window, has_parameters, is_limited}

@@ -4,12 +4,12 @@ use Rattle.std.specs.Prelude.{unsigned_abs}
 use Rattle.std.specs.List.{list_any}
 use Rattle.std.proofs.lemmas.Bool.{true≢false}
 use Rattle.pl_spec.specs.Rounding.{IsCell, is_missing}
-use Rattle.pl_spec.specs.Kind.{Kind, WindowKind, PointKind, LabelKind, CrossKind}
-use Rattle.pl_spec.specs.Kind.Kind.{StaticSids, Window, Point, LabelTest, Cross, Downsample}
+use Rattle.pl_pipeline.specs.Kind.{Kind, WindowKind, PointKind, LabelKind, CrossKind}
+use Rattle.pl_pipeline.specs.Kind.Kind.{StaticSids, Window, Point, LabelTest, Cross, Downsample}
 use Rattle.pl_spec.specs.declared.Frequency.{Frequency}
-use Rattle.pl_spec.specs.Formula.{truth}
-use Rattle.pl_spec.specs.Pointwise.{label_test}
-use Rattle.pl_spec.proofs.Cells.{zero-cell, truth-cell}
+use Rattle.pl_spec.specs.Cells.{truth}
+use Rattle.pl_pipeline.specs.Pointwise.{label_test}
+use Rattle.pl_pipeline.proofs.Cells.{zero-cell, truth-cell}
 use Rattle.pl_terms.specs.Sorts.{is_downsampled, is_windowed}
 use Rattle.pl_cross.specs.Section.{is_section}
 use Rattle.pl_values.specs.Families.{is_sids, is_point, is_label_test, sid_flag, code_flag}

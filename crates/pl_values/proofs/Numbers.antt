@@ -2,19 +2,19 @@
 use Rattle.std.proofs.Common.{◌≡◌, ℕ, Bool, true, false, ◌&&◌, if◌then◌else◌, ℤ, pos, List, Option, Some, refl, sym, subst, ◌∙◌, slice_get, ◌==◌, inl, ap, true≢false}
 use Rattle.std.specs.List.{list_any}
 use Rattle.pl_spec.specs.World.{World, exists}
-use Rattle.pl_spec.specs.Kind.{Kind, WindowKind, PointKind, LabelKind, CrossKind}
-use Rattle.pl_spec.specs.Kind.WindowKind.{All}
-use Rattle.pl_spec.specs.Kind.PointKind.{Add}
-use Rattle.pl_spec.specs.Kind.CrossKind.{Demean}
-use Rattle.pl_spec.specs.Kind.Kind.{Label, Window, Point, LabelTest, Cross, Downsample}
-use Rattle.pl_spec.specs.Formula.{truth}
-use Rattle.pl_spec.specs.Pointwise.{label_test}
-use Rattle.pl_spec.specs.Term.{Node, input_tree, trees}
-use Rattle.pl_spec.specs.Value.{Value, Part, now, passes, eligible, group_of, test_value, empty, is_filter, number_of, sort_over, sort_kind, step}
-use Rattle.pl_spec.specs.Value.Value.{Number, Text}
-use Rattle.pl_spec.specs.NodeValue.{node_value, input_part, number_part}
-use Rattle.pl_spec.specs.Table.{Pipeline, value_of, in_array}
-use Rattle.pl_spec.proofs.Trees.{term_at-node}
+use Rattle.pl_pipeline.specs.Kind.{Kind, WindowKind, PointKind, LabelKind, CrossKind}
+use Rattle.pl_pipeline.specs.Kind.WindowKind.{All}
+use Rattle.pl_pipeline.specs.Kind.PointKind.{Add}
+use Rattle.pl_pipeline.specs.Kind.CrossKind.{Demean}
+use Rattle.pl_pipeline.specs.Kind.Kind.{Label, Window, Point, LabelTest, Cross, Downsample}
+use Rattle.pl_spec.specs.Cells.{truth}
+use Rattle.pl_pipeline.specs.Pointwise.{label_test}
+use Rattle.pl_pipeline.specs.Term.{Node, input_tree, trees}
+use Rattle.pl_pipeline.specs.Value.{Value, Part, now, passes, eligible, group_of, test_value, empty, is_filter, number_of, sort_over, sort_kind, step}
+use Rattle.pl_pipeline.specs.Value.Value.{Number, Text}
+use Rattle.pl_pipeline.specs.NodeValue.{node_value, input_part, number_part}
+use Rattle.pl_pipeline.specs.Table.{Pipeline, value_of, in_array}
+use Rattle.pl_pipeline.proofs.Trees.{term_at-node}
 use Rattle.pl_terms.specs.Checked.{IsChecked}
 use Rattle.pl_terms.specs.Sorts.{Sort, Factors, Filters, Labels, Numbers, sort_of, sort_at, window_sort, point_sort, cross_sort, is_downsampled}
 use Rattle.pl_cross.specs.Arrays.{HasTexts}

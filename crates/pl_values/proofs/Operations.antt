@@ -7,16 +7,16 @@ use Rattle.std.specs.List.{list_all}
 use Rattle.std.proofs.lemmas.List.{get_or_default}
 use Rattle.pl_spec.specs.Rounding.{MISSING, LIMIT, IsCell}
 use Rattle.pl_spec.specs.World.{World}
-use Rattle.pl_spec.specs.Kind.{Kind, PointKind}
-use Rattle.pl_spec.specs.Kind.Kind.{Point}
-use Rattle.pl_spec.specs.Kind.PointKind.{Add, Sub, Mul, Div, Comparison, And, Or, Not, Clip, FillNa, IsNull, NotNull, IfElse}
-use Rattle.pl_spec.specs.Pointwise.{pointwise}
-use Rattle.pl_spec.specs.Term.{Node, Input}
-use Rattle.pl_spec.specs.Term.Input.{BarColumn, TermInput}
-use Rattle.pl_spec.specs.Value.{Value, now, number_of, step}
-use Rattle.pl_spec.specs.Value.Value.{Number, Text}
-use Rattle.pl_spec.specs.NodeValue.{input_part}
-use Rattle.pl_spec.specs.Table.{Pipeline, value_of, in_array}
+use Rattle.pl_pipeline.specs.Kind.{Kind, PointKind}
+use Rattle.pl_pipeline.specs.Kind.Kind.{Point}
+use Rattle.pl_pipeline.specs.Kind.PointKind.{Add, Sub, Mul, Div, Comparison, And, Or, Not, Clip, FillNa, IsNull, NotNull, IfElse}
+use Rattle.pl_pipeline.specs.Pointwise.{pointwise}
+use Rattle.pl_pipeline.specs.Term.{Node, Input}
+use Rattle.pl_pipeline.specs.Term.Input.{BarColumn, TermInput}
+use Rattle.pl_pipeline.specs.Value.{Value, now, number_of, step}
+use Rattle.pl_pipeline.specs.Value.Value.{Number, Text}
+use Rattle.pl_pipeline.specs.NodeValue.{input_part}
+use Rattle.pl_pipeline.specs.Table.{Pipeline, value_of, in_array}
 use Rattle.pl_terms.specs.Checked.{IsChecked}
 use Rattle.pl_terms.specs.Sorts.{Sort, Factors, Filters, Numbers, Place, AnyTerm, Series, Factor, Filter, FactorOrClassifier, Classifier, LabelClassifier, NumberedClassifier, sort_at, places, point_places, fits, all_fit, takes_sort, has_parameters, is_limited}
 use Rattle.pl_lanes.specs.Flags.{IsFlag}

@@ -8,15 +8,15 @@ use Rattle.pl_spec.proofs.Places.{nowhere}
 use Rattle.pl_spec.specs.Numbers.{number_at}
 use Rattle.pl_spec.specs.Rounding.{MISSING}
 use Rattle.pl_spec.specs.World.{World, day_of, label_at, known_number}
-use Rattle.pl_spec.specs.Kind.{Kind, LabelKind}
+use Rattle.pl_pipeline.specs.Kind.{Kind, LabelKind}
 use Rattle.pl_spec.specs.declared.Frequency.{Frequency}
-use Rattle.pl_spec.specs.Kind.Kind.{Constant, Label, Number, LabelTest, Downsample}
-use Rattle.pl_spec.specs.Formula.{truth}
-use Rattle.pl_spec.specs.Pointwise.{label_test}
-use Rattle.pl_spec.specs.Term.{Node, Input}
-use Rattle.pl_spec.specs.Term.Input.{BarColumn, TermInput}
-use Rattle.pl_spec.specs.Value.{Value, name_at, test_value, step}
-use Rattle.pl_spec.specs.Table.{Pipeline, value_of, in_array}
+use Rattle.pl_pipeline.specs.Kind.Kind.{Constant, Label, Number, LabelTest, Downsample}
+use Rattle.pl_spec.specs.Cells.{truth}
+use Rattle.pl_pipeline.specs.Pointwise.{label_test}
+use Rattle.pl_pipeline.specs.Term.{Node, Input}
+use Rattle.pl_pipeline.specs.Term.Input.{BarColumn, TermInput}
+use Rattle.pl_pipeline.specs.Value.{Value, name_at, test_value, step}
+use Rattle.pl_pipeline.specs.Table.{Pipeline, value_of, in_array}
 use Rattle.pl_terms.specs.Checked.{IsChecked}
 use Rattle.pl_terms.specs.Sorts.{LabelClassifier, Labels, sort_at, places, fits, has_parameters, is_limited, is_downsampled}
 use Rattle.pl_cross.specs.Arrays.{sid_in}

@@ -4,14 +4,14 @@ use Rattle.std.proofs.Common.{◌≡◌, ℕ, ◌<◌, true, ℤ, pos, List, [],
 use Rattle.std.proofs.lemmas.List.{get_or_default}
 use Rattle.pl_spec.specs.Rounding.{MISSING, IsCell}
 use Rattle.pl_spec.specs.World.{World, label_at, known_number}
-use Rattle.pl_spec.specs.Kind.{CrossKind}
-use Rattle.pl_spec.specs.Kind.Kind.{Constant, Label, Number, Cross}
-use Rattle.pl_spec.specs.Cross.{at}
-use Rattle.pl_spec.specs.Term.{Node, term_at}
-use Rattle.pl_spec.specs.Term.Input.{TermInput}
-use Rattle.pl_spec.specs.Value.{sort_kind}
-use Rattle.pl_spec.specs.Table.{Pipeline}
-use Rattle.pl_spec.proofs.Cells.{chosen-cell, empty-cell}
+use Rattle.pl_pipeline.specs.Kind.{CrossKind}
+use Rattle.pl_pipeline.specs.Kind.Kind.{Constant, Label, Number, Cross}
+use Rattle.pl_pipeline.specs.Cross.{at}
+use Rattle.pl_pipeline.specs.Term.{Node, term_at}
+use Rattle.pl_pipeline.specs.Term.Input.{TermInput}
+use Rattle.pl_pipeline.specs.Value.{sort_kind}
+use Rattle.pl_pipeline.specs.Table.{Pipeline}
+use Rattle.pl_pipeline.proofs.Cells.{chosen-cell, empty-cell}
 use Rattle.pl_pointwise.specs.Operands.{IsOperation, AreOperands, operation}
 use Rattle.pl_cross.specs.Arrays.{sid_in, section_at, HasTexts}
 use Rattle.pl_cross.specs.Section.{is_section, HasParameters}

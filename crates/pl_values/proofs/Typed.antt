@@ -3,10 +3,10 @@ use Rattle.std.proofs.Common.{◌≡◌, ℕ, zero, suc, Bool, true, false, List
 use Rattle.std.specs.List.{list_all}
 use Rattle.std.proofs.lemmas.Bool.{and_parts, true≢false}
 use Rattle.pl_spec.specs.declared.Column.{Column}
-use Rattle.pl_spec.specs.Kind.{PointKind, CrossKind}
-use Rattle.pl_spec.specs.Kind.PointKind.{Neg}
-use Rattle.pl_spec.specs.Kind.CrossKind.{PeerCount}
-use Rattle.pl_spec.specs.Term.{Graph, Input}
+use Rattle.pl_pipeline.specs.Kind.{PointKind, CrossKind}
+use Rattle.pl_pipeline.specs.Kind.PointKind.{Neg}
+use Rattle.pl_pipeline.specs.Kind.CrossKind.{PeerCount}
+use Rattle.pl_pipeline.specs.Term.{Graph, Input}
 use Rattle.pl_terms.specs.Sorts.{Sort, Filters, Labels, sort_at, Place, Own, Bar, Series, point_places, cross_places, takes_sort, takes_column, fits, all_fit, optional_fits}
 
 -- each input is one that its place takes

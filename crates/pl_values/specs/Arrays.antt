@@ -3,10 +3,10 @@ use Rattle.std.specs.Prelude.{◌≡◌, ℕ, ◌+◌, ◌-◌, ◌*◌, ◌<◌
 use Rattle.pl_spec.specs.Rounding.{IsCell}
 use Rattle.pl_spec.specs.World.{World, exists, living_sids}
 use Rattle.pl_spec.specs.Window.{downward}
-use Rattle.pl_spec.specs.Formula.{is_true}
-use Rattle.pl_spec.specs.Term.{term_at}
-use Rattle.pl_spec.specs.Value.{number_of, empty, sort_kind}
-use Rattle.pl_spec.specs.Table.{Pipeline, value_of, in_array}
+use Rattle.pl_spec.specs.Cells.{is_true}
+use Rattle.pl_pipeline.specs.Term.{term_at}
+use Rattle.pl_pipeline.specs.Value.{number_of, empty, sort_kind}
+use Rattle.pl_pipeline.specs.Table.{Pipeline, value_of, in_array}
 use Rattle.pl_cross.specs.Arrays.{sid_in}
 
 -- what an array of term t holds for the asset in place i on session s

@@ -3,12 +3,13 @@ use Rattle.std.specs.Prelude.{◌≡◌, ℕ, ◌≤◌, ◌<◌, ◌==◌, Bool
 use Rattle.std.specs.List.{list_any}
 use Rattle.pl_spec.specs.Limits.{most_window}
 use Rattle.pl_spec.specs.Rounding.{MISSING, IsCell, is_missing}
-use Rattle.pl_spec.specs.Kind as spec
-use Rattle.pl_spec.specs.Kind.{Kind, WindowKind, PointKind, LabelKind, CrossKind}
-use Rattle.pl_spec.specs.Formula.{truth, formula}
-use Rattle.pl_spec.specs.Pointwise.{label_test}
-use Rattle.pl_spec.specs.Value.{label_value}
-use Rattle.pl_spec.specs.Table.{in_array}
+use Rattle.pl_pipeline.specs.Kind as spec
+use Rattle.pl_pipeline.specs.Kind.{Kind, WindowKind, PointKind, LabelKind, CrossKind}
+use Rattle.pl_spec.specs.Cells.{truth}
+use Rattle.pl_pipeline.specs.Formula.{formula}
+use Rattle.pl_pipeline.specs.Pointwise.{label_test}
+use Rattle.pl_pipeline.specs.Value.{label_value}
+use Rattle.pl_pipeline.specs.Table.{in_array}
 use Rattle.pl_factors.specs.Kinds.{IsWindowFactor, takes_pairs}
 use Rattle.pl_filters.specs.Filters.{IsWindowFilter, AreValues}
 use Rattle.pl_terms.specs.Sorts.{is_windowed}

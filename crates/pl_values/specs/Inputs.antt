@@ -4,9 +4,9 @@ use Rattle.std.specs.Prelude.{◌≡◌, ℕ, ◌<◌, List, [], ℤ, pos, lengt
 use Rattle.pl_spec.specs.Rounding.{IsCell}
 use Rattle.pl_spec.specs.World.{World}
 use Rattle.pl_spec.specs.Window.{bar_window}
-use Rattle.pl_spec.specs.Term.{Input, Node}
-use Rattle.pl_spec.specs.Term.Input.{BarColumn, TermInput}
-use Rattle.pl_spec.specs.Table.{Pipeline}
+use Rattle.pl_pipeline.specs.Term.{Input, Node}
+use Rattle.pl_pipeline.specs.Term.Input.{BarColumn, TermInput}
+use Rattle.pl_pipeline.specs.Table.{Pipeline}
 use Rattle.pl_cross.specs.Arrays.{sid_in}
 use Rattle.pl_values.specs.Arrays.{cell_of, is_kept, window_up_to, HasAll, Fills, IsKeep}
 

@@ -3,15 +3,15 @@
 use Rattle.std.specs.Prelude.{◌≡◌, ℕ, ◌+◌, ◌<◌, ◌≤◌, false, ℤ, pos, List, length, Option, Some, slice_get, get_or}
 use Rattle.pl_spec.specs.Rounding.{IsCell}
 use Rattle.pl_spec.specs.World.{World, label_at, known_number}
-use Rattle.pl_spec.specs.Kind as spec
-use Rattle.pl_spec.specs.Kind.{WindowKind, PointKind, LabelKind, CrossKind}
+use Rattle.pl_pipeline.specs.Kind as spec
+use Rattle.pl_pipeline.specs.Kind.{WindowKind, PointKind, LabelKind, CrossKind}
 use Rattle.pl_spec.specs.Periods.{period_start}
 use Rattle.pl_spec.specs.declared.Frequency.{Frequency}
 use Rattle.pl_spec.specs.Parts.{ColumnAdjustment, ColumnNumber, world_of}
-use Rattle.pl_spec.specs.Term.{Node}
-use Rattle.pl_spec.specs.Term.Input.{TermInput}
-use Rattle.pl_spec.specs.Table.{Pipeline}
-use Rattle.pl_spec.specs.Value.{name_at}
+use Rattle.pl_pipeline.specs.Term.{Node}
+use Rattle.pl_pipeline.specs.Term.Input.{TermInput}
+use Rattle.pl_pipeline.specs.Table.{Pipeline}
+use Rattle.pl_pipeline.specs.Value.{name_at}
 use Rattle.pl_spec.specs.declared.AssetRow.{AssetRow}
 use Rattle.pl_spec.specs.declared.BarRow.{BarRow}
 use Rattle.pl_terms.specs.Checked.{IsChecked}

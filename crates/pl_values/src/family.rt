@@ -1,8 +1,8 @@
 //! The families of kinds.
 ghost use Rattle.std.specs.Prelude.{◌≡◌, ◌<◌, ◌&&◌, length};
-ghost use Rattle.pl_spec.specs.Term.{term_at, IsGraph};
-ghost use Rattle.pl_spec.specs.Value as spec;
-ghost use Rattle.pl_spec.specs.Value.{number_of, empty, sort_kind};
+ghost use Rattle.pl_pipeline.specs.Term.{term_at, IsGraph};
+ghost use Rattle.pl_pipeline.specs.Value as spec;
+ghost use Rattle.pl_pipeline.specs.Value.{number_of, empty, sort_kind};
 ghost use Rattle.pl_terms.specs.Kinds.{is_kind, is_not_kind, kind_of};
 ghost use Rattle.pl_terms.specs.Nodes.{graph_of};
 ghost use Rattle.pl_values.specs.Families.{IsOf};

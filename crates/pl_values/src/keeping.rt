@@ -1,7 +1,7 @@
 //! Who is kept.
 ghost use Rattle.std.specs.Prelude.{◌≡◌, ℕ, ◌<◌, pos, get_or, length};
 ghost use Rattle.pl_spec.specs.Rounding.{IsCell};
-ghost use Rattle.pl_spec.specs.Formula.{is_true, truth};
+ghost use Rattle.pl_spec.specs.Cells.{is_true, truth};
 ghost use Rattle.pl_values.specs.Arrays.{kept_or};
 
 /// 1 for true, 0 for false.

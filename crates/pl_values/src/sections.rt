@@ -2,8 +2,8 @@
 ghost use Rattle.std.specs.Prelude.{◌≡◌, ◌≤◌, ◌<◌, ℕ, All, length, not, true};
 ghost use Rattle.pl_spec.specs.Limits.{most_assets};
 ghost use Rattle.pl_spec.specs.Rounding.{IsCell};
-ghost use Rattle.pl_spec.specs.Cross.{at};
-ghost use Rattle.pl_spec.specs.Kind.{Kind, CrossKind};
+ghost use Rattle.pl_pipeline.specs.Cross.{at};
+ghost use Rattle.pl_pipeline.specs.Kind.{Kind, CrossKind};
 ghost use Rattle.pl_terms.specs.Kinds.{kind_of};
 ghost use Rattle.pl_cross.specs.Section.{HasParameters, is_choice, is_measure, is_section};
 ghost use Rattle.pl_cross.specs.Listing.{Fits, labels_in};

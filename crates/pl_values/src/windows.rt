@@ -11,7 +11,7 @@ use pl_terms::TermKind;
 /// What a formula or a filter gives over the windows of its inputs in order, each oldest first, of at most
 /// 1,260 sessions; a window that the kind does not use is not read. A formula's value is a cell in
 /// millionths, a filter's 1 or 0. It takes no memory.
-#[tactic(auto, unfolding(pl_spec::specs::Formula::formula, pl_terms::specs::Kinds::kind_of))]
+#[tactic(auto, unfolding(pl_pipeline::specs::Formula::formula, pl_terms::specs::Kinds::kind_of))]
 pub fn window_value(kind: &TermKind, a: &[i64], b: &[i64], c: &[i64]) -> i64
     requires { TakesWindows (kind_of kind.now) a.now b.now c.now }
     ensures value { result ≡ windowed (kind_of kind.now) a.now b.now c.now }

@@ -5,13 +5,13 @@ use Rattle.std.proofs.lemmas.Int.{ints, int_min_is}
 use Rattle.std.proofs.lemmas.Bool.Decides.{nat_tests}
 use Rattle.std.proofs.lemmas.Option.{slice_get-map}
 use Rattle.pl_spec.specs.Window.{before, downward}
-use Rattle.pl_spec.specs.Kind as kinds
-use Rattle.pl_spec.specs.Kind.{Kind}
-use Rattle.pl_spec.specs.Term as spec
-use Rattle.pl_spec.specs.Term.{Term, Graph, input_tree, number_tree, trees, term_at, IsGraph}
-use Rattle.pl_spec.specs.Graph.{least_of, part_reach, reads_at, reach}
-use Rattle.pl_spec.proofs.Trees.{term_at-node}
-use Rattle.pl_spec.proofs.Unfolds.{past}
+use Rattle.pl_pipeline.specs.Kind as kinds
+use Rattle.pl_pipeline.specs.Kind.{Kind}
+use Rattle.pl_pipeline.specs.Term as spec
+use Rattle.pl_pipeline.specs.Term.{Term, Graph, input_tree, number_tree, trees, term_at, IsGraph}
+use Rattle.pl_pipeline.specs.Graph.{least_of, part_reach, reads_at, reach}
+use Rattle.pl_pipeline.proofs.Trees.{term_at-node}
+use Rattle.pl_pipeline.proofs.Unfolds.{past}
 use Rattle.pl_spec.proofs.Windows.{before-pos}
 use Rattle.pl_terms.specs.declared.node.TermId.{TermId}
 use Rattle.pl_terms.specs.declared.node.Input.{Input}

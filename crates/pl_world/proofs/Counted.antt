@@ -6,16 +6,16 @@ use Rattle.std.proofs.lemmas.List.Folds.{list_any-append, list_any_at}
 use Rattle.std.proofs.lemmas.List.FromFn.{get_or-range_with_len, length-range_with_len}
 use Rattle.std.proofs.lemmas.List.Sums.{sum_by-cons, sum_by_push}
 use Rattle.pl_spec.specs.declared.AssetRow.{AssetRow}
-use Rattle.pl_spec.specs.Kind.{Kind}
-use Rattle.pl_spec.specs.Kind.Kind.{Number}
+use Rattle.pl_pipeline.specs.Kind.{Kind}
+use Rattle.pl_pipeline.specs.Kind.Kind.{Number}
 use Rattle.pl_spec.specs.Rounding.{MISSING, is_present}
-use Rattle.pl_spec.specs.Term.{Graph, Node}
-use Rattle.pl_spec.specs.Value as values
-use Rattle.pl_spec.specs.Value.{name_at, number_of, step}
+use Rattle.pl_pipeline.specs.Term.{Graph, Node}
+use Rattle.pl_pipeline.specs.Value as values
+use Rattle.pl_pipeline.specs.Value.{name_at, number_of, step}
 use Rattle.pl_spec.specs.World.{World, exists, known_number}
-use Rattle.pl_spec.specs.Table.{Pipeline, value_of}
+use Rattle.pl_pipeline.specs.Table.{Pipeline, value_of}
 use Rattle.pl_spec.proofs.Ranges.{range-more, range-next}
-use Rattle.pl_spec.proofs.Unfolds.{value_at-node}
+use Rattle.pl_pipeline.proofs.Unfolds.{value_at-node}
 use Rattle.pl_terms.specs.declared.node.Node as code
 use Rattle.pl_terms.specs.Checked.{IsChecked}
 use Rattle.pl_terms.specs.Kinds.{kind_of}

@@ -7,13 +7,13 @@ use Rattle.pl_spec.specs.declared.AssetRow.{AssetRow}
 use Rattle.pl_lifetimes.specs.Assets.{sid_of}
 use Rattle.pl_spec.specs.declared.Frequency.{Frequency}
 use Rattle.pl_spec.specs.Periods.{period_start}
-use Rattle.pl_spec.specs.Kind as kinds
-use Rattle.pl_spec.specs.Kind.{Kind, WindowKind, PointKind, LabelKind, CrossKind}
-use Rattle.pl_spec.specs.Term as spec
-use Rattle.pl_spec.specs.Term.{term_at}
-use Rattle.pl_spec.specs.Value.{number_of as number_in, empty, sort_kind, name_at}
+use Rattle.pl_pipeline.specs.Kind as kinds
+use Rattle.pl_pipeline.specs.Kind.{Kind, WindowKind, PointKind, LabelKind, CrossKind}
+use Rattle.pl_pipeline.specs.Term as spec
+use Rattle.pl_pipeline.specs.Term.{term_at}
+use Rattle.pl_pipeline.specs.Value.{number_of as number_in, empty, sort_kind, name_at}
 use Rattle.pl_spec.specs.World.{label_at, known_number}
-use Rattle.pl_spec.proofs.Unfolds.{past}
+use Rattle.pl_pipeline.proofs.Unfolds.{past}
 use Rattle.pl_terms.specs.declared.node.TermId.{TermId}
 use Rattle.pl_terms.specs.declared.node.Input.{Input}
 use Rattle.pl_terms.specs.declared.node.Input.TheVariants as input

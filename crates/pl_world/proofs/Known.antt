@@ -5,8 +5,8 @@ use Rattle.pl_laws.proofs.AsOf.{agrees, is-world, parts-of}
 use Rattle.pl_laws.proofs.Law.{agree-seen}
 use Rattle.pl_laws.proofs.TableLaw.{table_same}
 use Rattle.pl_laws.proofs.Texts.{text_same}
-use Rattle.pl_spec.specs.Table.{table}
-use Rattle.pl_spec.specs.Text.{text}
+use Rattle.pl_pipeline.specs.Table.{table}
+use Rattle.pl_pipeline.specs.Text.{text}
 use Rattle.pl_world.specs.declared.owned.OwnedWorld.{OwnedWorld}
 use Rattle.pl_world.specs.declared.world.World.{World}
 use Rattle.pl_world.specs.Known.{IsKnown, ShowsSameUpTo}

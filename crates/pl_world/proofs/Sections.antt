@@ -7,11 +7,11 @@ use Rattle.std.proofs.Math.Seq.{get_or-append_seam}
 use Rattle.std.proofs.lemmas.List.{get_or-map, length-map, ext_get_or}
 use Rattle.pl_spec.specs.declared.AssetRow.{AssetRow}
 use Rattle.pl_spec.specs.Rounding.{IsCell}
-use Rattle.pl_spec.specs.Formula.{is_true}
+use Rattle.pl_spec.specs.Cells.{is_true}
 use Rattle.pl_spec.specs.Parts.{sid_at}
 use Rattle.pl_spec.specs.World.{World as SpecWorld, exists, day_of, lives_on}
-use Rattle.pl_spec.specs.Kind as kinds
-use Rattle.pl_spec.specs.Kind.{CrossKind}
+use Rattle.pl_pipeline.specs.Kind as kinds
+use Rattle.pl_pipeline.specs.Kind.{CrossKind}
 use Rattle.pl_spec.proofs.Lists.{filter-none}
 use Rattle.pl_spec.proofs.Columns.{no_asset, sid-there}
 use Rattle.pl_terms.specs.declared.node.TermId.{TermId}

@@ -5,13 +5,13 @@ use Rattle.pl_spec.specs.declared.AssetRow.{AssetRow}
 use Rattle.pl_spec.specs.Parts.{sid_at}
 use Rattle.pl_spec.specs.World as spec
 use Rattle.pl_spec.specs.World.{exists}
-use Rattle.pl_spec.specs.Cross.{at}
-use Rattle.pl_spec.specs.Kind.{Kind, CrossKind}
-use Rattle.pl_spec.specs.Kind.Kind.{Cross}
-use Rattle.pl_spec.specs.Term.{term_at}
-use Rattle.pl_spec.specs.Formula.{is_true}
-use Rattle.pl_spec.specs.Graph.{reach}
-use Rattle.pl_spec.specs.Table.{value_of, in_array}
+use Rattle.pl_pipeline.specs.Cross.{at}
+use Rattle.pl_pipeline.specs.Kind.{Kind, CrossKind}
+use Rattle.pl_pipeline.specs.Kind.Kind.{Cross}
+use Rattle.pl_pipeline.specs.Term.{term_at}
+use Rattle.pl_spec.specs.Cells.{is_true}
+use Rattle.pl_pipeline.specs.Graph.{reach}
+use Rattle.pl_pipeline.specs.Table.{value_of, in_array}
 use Rattle.pl_terms.specs.declared.node.TermId.{TermId}
 use Rattle.pl_terms.specs.declared.node.Input.{Input}
 use Rattle.pl_terms.specs.declared.node.Input.TheVariants as input

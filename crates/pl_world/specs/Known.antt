@@ -4,8 +4,8 @@ use Rattle.pl_spec.specs.Agree.{Agree}
 use Rattle.pl_spec.specs.AsOf.{as_of, sessions_to, labels_by, bars_before, adjustments_by, column_numbers_by}
 use Rattle.pl_spec.specs.declared.Format.{Format}
 use Rattle.pl_spec.specs.World as spec
-use Rattle.pl_spec.specs.Table.{Pipeline, table}
-use Rattle.pl_spec.specs.Text.{text}
+use Rattle.pl_pipeline.specs.Table.{Pipeline, table}
+use Rattle.pl_pipeline.specs.Text.{text}
 use Rattle.pl_world.specs.declared.owned.OwnedWorld.{OwnedWorld}
 use Rattle.pl_world.specs.declared.world.World.{World}
 use Rattle.pl_world.specs.Worlds.{owned_world, world_of}

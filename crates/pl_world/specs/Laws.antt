@@ -3,13 +3,13 @@ use Rattle.std.specs.Prelude.{◌≡◌, ℕ, ◌<◌, ℤ, pos, ◌≤ℤ◌, L
 use Rattle.pl_spec.specs.Agree.{Agree}
 use Rattle.pl_spec.specs.Permuted.{AgreeInAll}
 use Rattle.pl_spec.specs.World.{World, Bar, IsWorld}
-use Rattle.pl_spec.specs.Term.{Node, term_at}
-use Rattle.pl_spec.specs.Graph.{reach}
-use Rattle.pl_spec.specs.Reaching.{SameBarsFrom}
-use Rattle.pl_spec.specs.NodeValue.{node_value}
+use Rattle.pl_pipeline.specs.Term.{Node, term_at}
+use Rattle.pl_pipeline.specs.Graph.{reach}
+use Rattle.pl_pipeline.specs.Reaching.{SameBarsFrom}
+use Rattle.pl_pipeline.specs.NodeValue.{node_value}
 use Rattle.pl_spec.specs.declared.Format.{Format}
-use Rattle.pl_spec.specs.Table.{Pipeline, table, value_of}
-use Rattle.pl_spec.specs.Text.{text}
+use Rattle.pl_pipeline.specs.Table.{Pipeline, table, value_of}
+use Rattle.pl_pipeline.specs.Text.{text}
 use Rattle.pl_terms.specs.Nodes.{graph_of}
 use Rattle.pl_terms.specs.Checked.{Parts, pipeline_of}
 

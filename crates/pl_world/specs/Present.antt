@@ -1,12 +1,12 @@
 -- How many numbers beside bars a pipeline reads.
 use Rattle.std.specs.Prelude.{◌≡◌, ℕ, suc, ◌-◌, Bool, true, false, ◌&&◌, if◌then◌else◌, pos, List, length, Option, Some, None, slice_get, count_by, sum_by}
 use Rattle.std.specs.List.{range_with_len, list_any}
-use Rattle.pl_spec.specs.Kind.{Kind}
-use Rattle.pl_spec.specs.Kind.Kind.{Number}
+use Rattle.pl_pipeline.specs.Kind.{Kind}
+use Rattle.pl_pipeline.specs.Kind.Kind.{Number}
 use Rattle.pl_spec.specs.Rounding.{is_present}
-use Rattle.pl_spec.specs.Table.{Pipeline, value_of}
-use Rattle.pl_spec.specs.Term.{Node}
-use Rattle.pl_spec.specs.Value.{number_of}
+use Rattle.pl_pipeline.specs.Table.{Pipeline, value_of}
+use Rattle.pl_pipeline.specs.Term.{Node}
+use Rattle.pl_pipeline.specs.Value.{number_of}
 use Rattle.pl_spec.specs.World.{World, exists, known_number}
 use Rattle.pl_terms.specs.Uses.{is_used}
 

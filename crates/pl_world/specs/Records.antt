@@ -6,8 +6,8 @@ use Rattle.pl_spec.specs.declared.BarRow.{BarRow}
 use Rattle.pl_spec.specs.declared.Format.{Format}
 use Rattle.pl_spec.specs.Parts as parts
 use Rattle.pl_spec.specs.Parts.{ColumnAdjustment, ColumnNumber}
-use Rattle.pl_spec.specs.Table.{Pipeline, table}
-use Rattle.pl_spec.specs.Text.{text}
+use Rattle.pl_pipeline.specs.Table.{Pipeline, table}
+use Rattle.pl_pipeline.specs.Text.{text}
 use Rattle.pl_spec.specs.World.{World}
 use Rattle.pl_calendar.specs.Days.{sessions_of}
 use Rattle.pl_lifetimes.specs.Assets.{assets_of}

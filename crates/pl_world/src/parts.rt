@@ -3,8 +3,8 @@
 ghost use Rattle.std.specs.Prelude.{◌≡◌, ◌<◌, ◌≤◌, ◌&&◌, true, All, IfOk, IfSome, Some, length, option_map, pos, position, bytes_eq, slice_get};
 ghost use Rattle.pl_spec.specs.Parts.{sid_at};
 ghost use Rattle.pl_spec.specs.Rounding.{IsCell};
-ghost use Rattle.pl_spec.specs.Value.{name_at};
-ghost use Rattle.pl_spec.specs.Formula.{is_true};
+ghost use Rattle.pl_pipeline.specs.Value.{name_at};
+ghost use Rattle.pl_spec.specs.Cells.{is_true};
 ghost use Rattle.pl_spec.specs.World.{exists, known_number, label_at};
 ghost use Rattle.pl_terms.specs.Checked.{pipeline_of};
 ghost use Rattle.pl_cross.specs.Listing.{Fits, labels_in};

@@ -1,7 +1,7 @@
 //! How many numbers beside bars a pipeline reads.
 
 ghost use Rattle.std.specs.Prelude.{◌≡◌, ◌*◌, ◌<◌, ◌≤◌, ◌&&◌, false, pos, length, position, sum_by, bytes_eq, IfSome, IfNone};
-ghost use Rattle.pl_spec.specs.Kind.Kind.{Number};
+ghost use Rattle.pl_pipeline.specs.Kind.Kind.{Number};
 ghost use Rattle.pl_spec.specs.Limits.{most_assets, most_sessions, most_terms};
 ghost use Rattle.pl_spec.specs.Parts.{sid_at};
 ghost use Rattle.pl_spec.specs.Rounding.{is_present};

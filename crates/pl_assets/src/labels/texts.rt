@@ -2,7 +2,7 @@
 
 ghost use Rattle.std.specs.Prelude.{◌≡◌, ◌<◌, ◌≤◌, ◌^◌, [], ◌∷◌, ◌++◌, flat_map, length, take, position, slice_index_or, bytes_eq, IfOk, OnOk, OnErr};
 ghost use Rattle.std.specs.List.{list_any, position_or_len};
-ghost use Rattle.pl_spec.specs.Text.{calls_for_quotes, quote, quoted_byte};
+ghost use Rattle.pl_spec.specs.Lines.{calls_for_quotes, quote, quoted_byte};
 ghost use Rattle.pl_assets.specs.Labels.{AreTexts, with_text};
 
 use indexmap::IndexSet;
@@ -105,7 +105,7 @@ pub(crate) struct LabelTexts {
 
 impl Model for LabelTexts {
     ghost use Rattle.std.specs.Prelude.{◌≡◌, List, ℕ, map};
-    ghost use Rattle.pl_spec.specs.Text.{quote};
+    ghost use Rattle.pl_spec.specs.Lines.{quote};
 
     ghost Value = { List (List ℕ) };
 

@@ -2,13 +2,13 @@
 use Rattle.std.specs.Prelude.{◌≡◌, ℤ, pos, negsuc, refl, List, [], ◌∷◌, map}
 use Rattle.pl_spec.specs.Rounding.{MISSING}
 use Rattle.pl_spec.specs.declared.Column.TheVariants.{Close}
-use Rattle.pl_spec.specs.declared.RankMethod.TheVariants as method
-use Rattle.pl_spec.specs.declared.RankOrder.TheVariants.{Ascending, Descending}
-use Rattle.pl_spec.specs.Kind.{WindowKind, CrossKind as kind}
-use Rattle.pl_spec.specs.Cross.{Entry, values, value_at, cross}
-use Rattle.pl_spec.specs.Term.Term.{absent}
-use Rattle.pl_spec.specs.Value.{Value}
-use Rattle.pl_spec.specs.Value.Value.{Number}
+use Rattle.pl_pipeline.specs.declared.RankMethod.TheVariants as method
+use Rattle.pl_pipeline.specs.declared.RankOrder.TheVariants.{Ascending, Descending}
+use Rattle.pl_pipeline.specs.Kind.{WindowKind, CrossKind as kind}
+use Rattle.pl_pipeline.specs.Cross.{Entry, values, value_at, cross}
+use Rattle.pl_pipeline.specs.Term.Term.{absent}
+use Rattle.pl_pipeline.specs.Value.{Value}
+use Rattle.pl_pipeline.specs.Value.Value.{Number}
 use Rattle.pl_laws.proofs.Worked.Worlds.{opened, units, four_bars, three_bars, leaving, window, across, latest, by_asset, by_session}
 
 -- what a cross-section gives to each entry of a list

@@ -4,12 +4,12 @@ use Rattle.pl_spec.specs.Rounding.{MISSING}
 use Rattle.pl_spec.specs.declared.Column.TheVariants.{Close}
 use Rattle.pl_spec.specs.Numbers.{NumberRow}
 use Rattle.pl_spec.specs.World.{World}
-use Rattle.pl_spec.specs.Kind as kind
-use Rattle.pl_spec.specs.Kind.{Kind, WindowKind, PointKind}
-use Rattle.pl_spec.specs.Term.{Term}
-use Rattle.pl_spec.specs.Term.Term.{absent, node}
-use Rattle.pl_spec.specs.Value.{Value, value}
-use Rattle.pl_spec.specs.Value.Value.{Number}
+use Rattle.pl_pipeline.specs.Kind as kind
+use Rattle.pl_pipeline.specs.Kind.{Kind, WindowKind, PointKind}
+use Rattle.pl_pipeline.specs.Term.{Term}
+use Rattle.pl_pipeline.specs.Term.Term.{absent, node}
+use Rattle.pl_pipeline.specs.Value.{Value, value}
+use Rattle.pl_pipeline.specs.Value.Value.{Number}
 use Rattle.pl_laws.proofs.Worked.Worlds.{opened, units, plain, window, point, latest}
 
 earnings : List ℕ

@@ -3,11 +3,11 @@ use Rattle.std.specs.Prelude.{◌≡◌, pos, negsuc, refl, codes, List, [], ◌
 use Rattle.pl_spec.specs.Rounding.{MISSING}
 use Rattle.pl_spec.specs.declared.Column.TheVariants.{Close}
 use Rattle.pl_spec.specs.World.{World, label_at}
-use Rattle.pl_spec.specs.Kind.{Kind, PointKind, LabelKind, CrossKind}
-use Rattle.pl_spec.specs.Term.{Term}
-use Rattle.pl_spec.specs.Term.Term.{absent, node}
-use Rattle.pl_spec.specs.Value.{Value}
-use Rattle.pl_spec.specs.Value.Value.{Number, Text}
+use Rattle.pl_pipeline.specs.Kind.{Kind, PointKind, LabelKind, CrossKind}
+use Rattle.pl_pipeline.specs.Term.{Term}
+use Rattle.pl_pipeline.specs.Term.Term.{absent, node}
+use Rattle.pl_pipeline.specs.Value.{Value}
+use Rattle.pl_pipeline.specs.Value.Value.{Number, Text}
 use Rattle.pl_laws.proofs.Worked.Worlds.{opened, units, label_row, plain, sector, grouped, sectors, point, across, latest, by_asset}
 
 -- a label from 2024-01-03 on, and none from 01-05 on

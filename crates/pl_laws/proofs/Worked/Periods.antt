@@ -3,16 +3,16 @@ use Rattle.std.specs.Prelude.{◌≡◌, ℤ, pos, negsuc, refl, List, [], ◌�
 use Rattle.pl_spec.specs.declared.Column.TheVariants.{Close}
 use Rattle.pl_spec.specs.declared.Compare.TheVariants.{LessEqual}
 use Rattle.pl_spec.specs.declared.Frequency.{Frequency}
-use Rattle.pl_spec.specs.Table.{Pipeline}
+use Rattle.pl_pipeline.specs.Table.{Pipeline}
 use Rattle.pl_spec.specs.declared.Frequency.TheVariants.{YearStart, QuarterStart, MonthStart, WeekStart}
 use Rattle.pl_spec.specs.Rounding.{MISSING}
 use Rattle.pl_spec.specs.Periods.{period, period_start}
 use Rattle.pl_spec.specs.World.{World}
-use Rattle.pl_spec.specs.Kind.{Kind, PointKind, WindowKind as kind}
-use Rattle.pl_spec.specs.Term.{Term}
-use Rattle.pl_spec.specs.Term.Term.{absent, node}
-use Rattle.pl_spec.specs.Value.Value.{Number}
-use Rattle.pl_spec.specs.Graph.{reach}
+use Rattle.pl_pipeline.specs.Kind.{Kind, PointKind, WindowKind as kind}
+use Rattle.pl_pipeline.specs.Term.{Term}
+use Rattle.pl_pipeline.specs.Term.Term.{absent, node}
+use Rattle.pl_pipeline.specs.Value.Value.{Number}
+use Rattle.pl_pipeline.specs.Graph.{reach}
 use Rattle.pl_laws.proofs.Worked.Worlds.{opened, units, asset, world, no_tables, plain, latest, number, by_session, of_bars, of_terms, pipeline, named, csv, lines}
 
 abbrev downsampled : Frequency → Term → Term

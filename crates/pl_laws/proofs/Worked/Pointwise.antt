@@ -3,11 +3,11 @@ use Rattle.std.specs.Prelude.{◌≡◌, pos, negsuc, refl, [], ◌∷◌, map}
 use Rattle.pl_spec.specs.Rounding.{MISSING}
 use Rattle.pl_spec.specs.declared.Column.TheVariants.{Close}
 use Rattle.pl_spec.specs.declared.Compare.TheVariants as compare
-use Rattle.pl_spec.specs.Kind.{Kind, WindowKind, PointKind as kind}
-use Rattle.pl_spec.specs.Pointwise.{pointwise}
-use Rattle.pl_spec.specs.Term.{Term}
-use Rattle.pl_spec.specs.Term.Term.{absent, column, node}
-use Rattle.pl_spec.specs.Value.Value.{Number}
+use Rattle.pl_pipeline.specs.Kind.{Kind, WindowKind, PointKind as kind}
+use Rattle.pl_pipeline.specs.Pointwise.{pointwise}
+use Rattle.pl_pipeline.specs.Term.{Term}
+use Rattle.pl_pipeline.specs.Term.Term.{absent, column, node}
+use Rattle.pl_pipeline.specs.Value.Value.{Number}
 use Rattle.pl_laws.proofs.Worked.Worlds.{opened, units, closed, alone, plain, no_tables, point, number, latest, by_session, on}
 
 -- (close - 50).clip(0, 10) and (close - 60).clip(-8, 8), where the close is 51

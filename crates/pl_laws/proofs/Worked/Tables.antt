@@ -3,13 +3,13 @@ use Rattle.std.specs.Prelude.{◌≡◌, ℕ, ◌++◌, pos, negsuc, refl, codes
 use Rattle.pl_spec.specs.declared.Column.TheVariants.{Close, Volume}
 use Rattle.pl_spec.specs.declared.Compare.TheVariants as compare
 use Rattle.pl_spec.specs.declared.Format.TheVariants as format
-use Rattle.pl_spec.specs.declared.RankMethod.{RankMethod}
-use Rattle.pl_spec.specs.declared.RankMethod.TheVariants as method
-use Rattle.pl_spec.specs.declared.RankOrder.TheVariants.{Ascending}
-use Rattle.pl_spec.specs.Kind.{Kind, WindowKind, PointKind, CrossKind}
-use Rattle.pl_spec.specs.Term.{Node}
-use Rattle.pl_spec.specs.Table.{Pipeline, table, cells}
-use Rattle.pl_spec.specs.Text.{text}
+use Rattle.pl_pipeline.specs.declared.RankMethod.{RankMethod}
+use Rattle.pl_pipeline.specs.declared.RankMethod.TheVariants as method
+use Rattle.pl_pipeline.specs.declared.RankOrder.TheVariants.{Ascending}
+use Rattle.pl_pipeline.specs.Kind.{Kind, WindowKind, PointKind, CrossKind}
+use Rattle.pl_pipeline.specs.Term.{Node}
+use Rattle.pl_pipeline.specs.Table.{Pipeline, table, cells}
+use Rattle.pl_pipeline.specs.Text.{text}
 use Rattle.pl_laws.proofs.Worked.Worlds.{opened, units, closed, row_on, splits_of, no_tables, world, alone, plain, split, gap, outgrown, leaving, three_bars, grouped, sector, sectors, of_bars, of_terms, named, pipeline, latest_close, csv, lines}
 
 -- ---- the latest close

@@ -2,10 +2,10 @@
 use Rattle.std.specs.Prelude.{◌≡◌, pos, negsuc, refl, [], ◌∷◌, map, neg_ℤ}
 use Rattle.pl_spec.specs.Rounding.{MISSING, LIMIT}
 use Rattle.pl_spec.specs.declared.Column.TheVariants.{High, Low, Close, Volume}
-use Rattle.pl_spec.specs.Kind.{WindowKind as kind}
-use Rattle.pl_spec.specs.Formula.{formula}
-use Rattle.pl_spec.specs.Term.Term.{column}
-use Rattle.pl_spec.specs.Value.Value.{Number}
+use Rattle.pl_pipeline.specs.Kind.{WindowKind as kind}
+use Rattle.pl_pipeline.specs.Formula.{formula}
+use Rattle.pl_pipeline.specs.Term.Term.{column}
+use Rattle.pl_pipeline.specs.Value.Value.{Number}
 use Rattle.pl_laws.proofs.Worked.Worlds.{opened, units, bar, alone, plain, gap, no_tables, window, at_close, by_session, on}
 
 -- ---- on 2024-01-09, after closes of 100, 102, 51, 52 and 53

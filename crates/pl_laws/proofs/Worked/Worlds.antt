@@ -13,17 +13,17 @@ use Rattle.pl_spec.specs.Decimals.{cell_text}
 use Rattle.pl_spec.specs.World.{World, Bar, LabelRow}
 use Rattle.pl_spec.specs.Order.{adjustments_of}
 use Rattle.pl_spec.specs.Window.{seen_cell}
-use Rattle.pl_spec.specs.Kind.{Kind, WindowKind, PointKind, CrossKind}
-use Rattle.pl_spec.specs.Formula.{formula}
-use Rattle.pl_spec.specs.Pointwise.{pointwise, label_test}
-use Rattle.pl_spec.specs.Cross.{cross}
-use Rattle.pl_spec.specs.Term.{Term, Input, Node, Graph}
-use Rattle.pl_spec.specs.Term.Term.{absent, column, node}
-use Rattle.pl_spec.specs.Value.{Value, value, step}
-use Rattle.pl_spec.specs.Table.{NamedColumn, Pipeline, table}
-use Rattle.pl_spec.specs.Graph.{reach}
+use Rattle.pl_pipeline.specs.Kind.{Kind, WindowKind, PointKind, CrossKind}
+use Rattle.pl_pipeline.specs.Formula.{formula}
+use Rattle.pl_pipeline.specs.Pointwise.{pointwise, label_test}
+use Rattle.pl_pipeline.specs.Cross.{cross}
+use Rattle.pl_pipeline.specs.Term.{Term, Input, Node, Graph}
+use Rattle.pl_pipeline.specs.Term.Term.{absent, column, node}
+use Rattle.pl_pipeline.specs.Value.{Value, value, step}
+use Rattle.pl_pipeline.specs.Table.{NamedColumn, Pipeline, table}
+use Rattle.pl_pipeline.specs.Graph.{reach}
 use Rattle.pl_spec.specs.Periods.{month_number, period_start}
-use Rattle.pl_spec.specs.Text.{text}
+use Rattle.pl_pipeline.specs.Text.{text}
 
 -- a proof that unfolds this opens all that the examples compute with
 unfoldable pub opened : Unit {0}

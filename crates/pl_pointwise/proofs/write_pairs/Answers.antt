@@ -1,6 +1,6 @@
 use Rattle.std.proofs.Common.{rules}
 use Rattle.pl_terms.specs.Kinds.{kind_of}
-use Rattle.pl_spec.specs.Pointwise.{pointwise}
+use Rattle.pl_pipeline.specs.Pointwise.{pointwise}
 use Rattle.pl_pointwise.proofs.FlagLemmas.{pair-left}
 use Rattle.pl_pointwise.proofs.write_pairs.Goals as goal
 

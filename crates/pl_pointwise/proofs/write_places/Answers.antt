@@ -1,7 +1,7 @@
 use Rattle.std.proofs.Common.{length, subst, rules}
 use Rattle.pl_terms.specs.declared.kind.TermKind.{TermKind}
 use Rattle.pl_terms.specs.Kinds.{kind_of}
-use Rattle.pl_spec.specs.Pointwise.{pointwise}
+use Rattle.pl_pipeline.specs.Pointwise.{pointwise}
 use Rattle.pl_pointwise.specs.Operands.{AreCells, AreFlags, AreOperands}
 use Rattle.pl_pointwise.proofs.FlagLemmas.{flag-left, two-operands}
 use Rattle.pl_pointwise.proofs.write_places.Goals as goal

@@ -2,8 +2,8 @@ use Rattle.std.proofs.Common.{pos, List, refl, ap, ◌∙◌, arith}
 use Rattle.std.specs.Int.{w128}
 use Rattle.std.proofs.lemmas.Int.{to_z-of_z}
 use Rattle.std.proofs.lemmas.List.{take_all}
-use Rattle.pl_spec.specs.Formula.{total}
-use Rattle.pl_spec.specs.Cross.{values}
+use Rattle.pl_spec.specs.Cells.{total}
+use Rattle.pl_pipeline.specs.Cross.{values}
 use Rattle.pl_cross.specs.declared.listing.Listed.{Listed}
 use Rattle.pl_cross.specs.Listing.{entries_of}
 use Rattle.pl_cross.proofs.Centers.{next-total, value-cast}

@@ -1,8 +1,8 @@
 use Rattle.std.proofs.Common.{◌≡◌, length, ap, arith, ◌∙◌, rules, FitsSigned, w64}
 use Rattle.std.proofs.lemmas.Int.{to_z-of_z}
-use Rattle.pl_spec.specs.Term.{term_at}
-use Rattle.pl_spec.specs.Value.{empty, number_of, sort_kind}
-use Rattle.pl_spec.proofs.Cells.{empty-cell}
+use Rattle.pl_pipeline.specs.Term.{term_at}
+use Rattle.pl_pipeline.specs.Value.{empty, number_of, sort_kind}
+use Rattle.pl_pipeline.proofs.Cells.{empty-cell}
 use Rattle.pl_terms.specs.Nodes.{graph_of}
 use Rattle.pl_terms.proofs.Graphs.{graph-long}
 use Rattle.pl_daily.proofs.room.none_of.Goals as goal

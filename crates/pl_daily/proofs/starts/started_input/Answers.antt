@@ -1,7 +1,7 @@
 use Rattle.std.proofs.Common.{rules, ◌≡◌, ℕ, false, sym, ◌∙◌, ap, None, option_map, slice_get, FitsSigned, w32}
 use Rattle.std.proofs.lemmas.Int.{to_z-of_z}
 use Rattle.pl_spec.specs.declared.Frequency.{Frequency}
-use Rattle.pl_spec.specs.Kind.Kind.{Downsample}
+use Rattle.pl_pipeline.specs.Kind.Kind.{Downsample}
 use Rattle.pl_terms.specs.Nodes.{node_of, number_of}
 use Rattle.pl_terms.specs.Sorts.{is_downsampled}
 use Rattle.pl_terms.proofs.Graphs.{graph-at}

@@ -1,7 +1,7 @@
 use Rattle.std.proofs.Common.{◌∙◌, ap, arith, sym, subst, get_or, length, pos, List, ℤ, FitsSigned, w64, w32, rules}
 use Rattle.std.proofs.lemmas.Int.{to_z-of_z}
 use Rattle.std.proofs.lemmas.List.{get_or-replicate}
-use Rattle.pl_spec.specs.Kind.{Kind}
+use Rattle.pl_pipeline.specs.Kind.{Kind}
 use Rattle.pl_terms.specs.Kinds.{kind_of}
 use Rattle.pl_pointwise.specs.Operands.{AreOperands, IsOperation, operation}
 use Rattle.pl_cross.specs.Arrays.{sid_in}

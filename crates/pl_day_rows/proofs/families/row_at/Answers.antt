@@ -1,6 +1,6 @@
 use Rattle.std.proofs.Common.{◌≡◌, Some, slice_get, ap, sym, ◌∙◌}
 use Rattle.std.proofs.lemmas.Option.{slice_get-get_or}
-use Rattle.pl_spec.specs.Term.Input.{TermInput}
+use Rattle.pl_pipeline.specs.Term.Input.{TermInput}
 use Rattle.pl_terms.specs.Nodes.{input_of}
 use Rattle.pl_day_rows.specs.Rows.{input_row, row_of}
 use Rattle.pl_day_rows.specs.Turns.{node_at}

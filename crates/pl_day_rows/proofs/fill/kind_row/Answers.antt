@@ -1,7 +1,7 @@
 use Rattle.std.proofs.Common.{◌<◌, ◌∙◌, ap, arith, length, sym, subst, rules, FitsSigned, w64}
 use Rattle.std.proofs.lemmas.Int.{to_z-of_z}
-use Rattle.pl_spec.specs.Term.{term_at}
-use Rattle.pl_spec.specs.Value.{number_of, empty, sort_kind}
+use Rattle.pl_pipeline.specs.Term.{term_at}
+use Rattle.pl_pipeline.specs.Value.{number_of, empty, sort_kind}
 use Rattle.pl_terms.specs.Nodes.{graph_of}
 use Rattle.pl_day_rows.proofs.Given.{given_out, term_known}
 use Rattle.pl_day_rows.proofs.fill.kind_row.Goals as goal

@@ -1,7 +1,7 @@
 use Rattle.std.proofs.Common.{◌≡◌, ◌+◌, ◌<◌, ℕ, ℤ, List, set, get_or, pos, length, rules, arith, ap, sym, subst, ◌∙◌, length-set, FitsSigned, w64, w32, to_z, of_z}
 use Rattle.std.proofs.lemmas.Int.{to_z-of_z}
-use Rattle.pl_spec.specs.Formula.{is_true}
-use Rattle.pl_spec.proofs.Cells.{is_true-truth}
+use Rattle.pl_spec.specs.Cells.{is_true}
+use Rattle.pl_pipeline.proofs.Cells.{is_true-truth}
 use Rattle.pl_cross.specs.Listing.{labels_in}
 use Rattle.pl_day_rows.specs.Rows.{is_kept_by}
 use Rattle.pl_values.proofs.Written.{one_given}

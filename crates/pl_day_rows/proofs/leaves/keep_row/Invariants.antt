@@ -1,5 +1,5 @@
 use Rattle.std.proofs.Common.{◌≡◌, ℕ, ◌<◌, pos, length, get_or}
-use Rattle.pl_spec.specs.Formula.{is_true}
+use Rattle.pl_spec.specs.Cells.{is_true}
 use Rattle.pl_cross.specs.Listing.{labels_in}
 use Rattle.pl_day_rows.specs.Rows.{is_kept_by}
 use Rattle.pl_day_rows.proofs.leaves.keep_row.Given as goal

@@ -1,5 +1,5 @@
 use Rattle.std.proofs.Common.{sym, subst}
-use Rattle.pl_spec.specs.Kind.{Kind}
+use Rattle.pl_pipeline.specs.Kind.{Kind}
 use Rattle.pl_values.specs.Families.{TakesWindows}
 use Rattle.pl_day_rows.proofs.Given.{window_takes}
 use Rattle.pl_day_rows.proofs.windows.window_cell.Goals as goal

@@ -1,6 +1,6 @@
-use Rattle.pl_spec.specs.Term.{tree_over, trees, term_at}
-use Rattle.pl_spec.specs.Reaching.{HasWindows}
-use Rattle.pl_spec.proofs.Trees.{term_at-node}
+use Rattle.pl_pipeline.specs.Term.{tree_over, trees, term_at}
+use Rattle.pl_pipeline.specs.Reaching.{HasWindows}
+use Rattle.pl_pipeline.proofs.Trees.{term_at-node}
 use Rattle.pl_terms.proofs.Windowed.{windowed}
 use Rattle.pl_derivation.proofs.Walking.{complete}
 use Rattle.pl_derivation.proofs.laws.derivations_are_right.Goals as goal

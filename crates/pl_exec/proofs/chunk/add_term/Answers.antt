@@ -1,5 +1,5 @@
 use Rattle.std.proofs.Common.{ap, ◌∙◌, arith, length}
-use Rattle.pl_spec.specs.Graph.{columns_at}
+use Rattle.pl_pipeline.specs.Graph.{columns_at}
 use Rattle.pl_planner.specs.Plans.{slot_of}
 use Rattle.pl_workspace.specs.Slots.{Slots, Free, Begun, Live, slot_at, with_slot}
 use Rattle.pl_exec.specs.Tasks.{IsArray, graph_in, kept_in}

@@ -1,5 +1,5 @@
 use Rattle.std.proofs.Common.{rules, ◌≡◌, ◌+◌, true, false, ap, ◌∙◌, sym, refl, max}
-use Rattle.pl_spec.specs.Graph.{columns_at}
+use Rattle.pl_pipeline.specs.Graph.{columns_at}
 use Rattle.pl_planner.specs.Plans.{is_used, last_user, slot_of}
 use Rattle.pl_exec.specs.Slotted.{left}
 use Rattle.pl_exec.specs.Tasks.{IsArray, graph_in, kept_in}

@@ -1,7 +1,7 @@
 use Rattle.std.proofs.Common.{rules, ◌≡◌, ◌∙◌, ap, length, min, take, map, filter_map}
 use Rattle.std.proofs.lemmas.List.{take_min}
 use Rattle.pl_spec.specs.World.{column_number}
-use Rattle.pl_spec.specs.Graph.{contains, input_column}
+use Rattle.pl_pipeline.specs.Graph.{contains, input_column}
 use Rattle.pl_terms.specs.Nodes.{input_of}
 use Rattle.pl_exec.proofs.Places.{before_cut}
 use Rattle.pl_exec.proofs.columns.is_before.Goals as goal

@@ -1,5 +1,5 @@
 use Rattle.std.proofs.Common.{◌≡◌, ◌∙◌, refl, ap, sym, subst, arith, length}
-use Rattle.pl_spec.specs.Graph.{columns_at}
+use Rattle.pl_pipeline.specs.Graph.{columns_at}
 use Rattle.pl_spec.specs.Limits.{cut}
 use Rattle.pl_terms.specs.Nodes.{node_of}
 use Rattle.pl_exec.specs.declared.course.Course.{Course}

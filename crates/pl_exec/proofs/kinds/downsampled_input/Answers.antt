@@ -1,5 +1,5 @@
 use Rattle.std.proofs.Common.{◌≡◌, ◌∙◌, sym, Some, None, ap, option_map}
-use Rattle.pl_spec.specs.Term.Input.{BarColumn, TermInput}
+use Rattle.pl_pipeline.specs.Term.Input.{BarColumn, TermInput}
 use Rattle.pl_terms.specs.declared.node.Input.TheVariants as input
 use Rattle.pl_terms.specs.Nodes.{input_of}
 use Rattle.pl_exec.proofs.Givens.{start_input}

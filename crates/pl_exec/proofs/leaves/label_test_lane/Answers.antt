@@ -1,5 +1,5 @@
 use Rattle.std.proofs.Common.{◌+◌, ◌∙◌, arith, ap, sym, get_or, pos, refl}
-use Rattle.pl_spec.specs.Kind.{Kind}
+use Rattle.pl_pipeline.specs.Kind.{Kind}
 use Rattle.pl_values.specs.Families.{code_flag}
 use Rattle.pl_values.proofs.Rows.{code-read, codes-long, test-given}
 use Rattle.pl_exec.specs.Tasks.{sids_in}

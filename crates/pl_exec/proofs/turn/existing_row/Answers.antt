@@ -1,8 +1,8 @@
 use Rattle.std.proofs.Common.{rules, ◌≡◌, ap, ◌∙◌, arith, w64, FitsSigned, pos}
 use Rattle.std.proofs.lemmas.Int.{to_z-of_z}
-use Rattle.pl_spec.specs.Formula.{is_true}
+use Rattle.pl_spec.specs.Cells.{is_true}
 use Rattle.pl_spec.specs.World.{exists}
-use Rattle.pl_spec.proofs.Cells.{is_true-truth}
+use Rattle.pl_pipeline.proofs.Cells.{is_true-truth}
 use Rattle.pl_cross.specs.Arrays.{sid_in}
 use Rattle.pl_values.proofs.Written.{one_given}
 use Rattle.pl_exec.specs.Tasks.{sids_in}

@@ -1,5 +1,5 @@
 use Rattle.std.proofs.Common.{◌≡◌, ℕ, ◌<◌, get_or, pos}
-use Rattle.pl_spec.specs.Formula.{is_true}
+use Rattle.pl_spec.specs.Cells.{is_true}
 use Rattle.pl_spec.specs.World.{exists}
 use Rattle.pl_cross.specs.Arrays.{sid_in}
 use Rattle.pl_exec.specs.Tasks.{sids_in}

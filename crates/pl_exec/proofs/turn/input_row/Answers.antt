@@ -1,5 +1,5 @@
 use Rattle.std.proofs.Common.{rules, ◌≡◌, Some, slice_get}
-use Rattle.pl_spec.specs.Term.Input.{TermInput}
+use Rattle.pl_pipeline.specs.Term.Input.{TermInput}
 use Rattle.pl_exec.specs.Jobs.{node_at}
 use Rattle.pl_exec.proofs.Held.{read_less}
 use Rattle.pl_exec.proofs.turn.input_row.Goals as goal

@@ -1,6 +1,6 @@
 use Rattle.std.proofs.Common.{rules, ◌<◌, ◌+◌, ◌-◌, ◌*◌, subst, sym, ◌∙◌, ap, arith, w64, FitsSigned, get_or, pos, length}
 use Rattle.std.proofs.lemmas.Int.{to_z-of_z}
-use Rattle.pl_spec.specs.Formula.{is_true}
+use Rattle.pl_spec.specs.Cells.{is_true}
 use Rattle.pl_exec.specs.Jobs.{IsMaskLent, node_at, passes, task_at}
 use Rattle.pl_exec.proofs.Courses.{masked_by}
 use Rattle.pl_exec.proofs.Held.{cell_within, cell_is}

@@ -1,6 +1,6 @@
 use Rattle.std.proofs.Common.{◌+◌, All, Some, ap, arith, subst, sym}
 use Rattle.pl_spec.specs.Rounding.{IsCell}
-use Rattle.pl_spec.specs.Term.Input.{TermInput}
+use Rattle.pl_pipeline.specs.Term.Input.{TermInput}
 use Rattle.pl_exec.specs.Jobs.{IsReach}
 use Rattle.pl_exec.proofs.Stretches.{reach_cells, reach_end, reach_size, term_reached}
 use Rattle.pl_exec.proofs.turn.term_reach.Goals as goal

@@ -1,9 +1,9 @@
 use Rattle.std.proofs.Common.{sym, subst, ◌∙◌, rules, w64, FitsSigned}
 use Rattle.std.proofs.lemmas.Int.{to_z-of_z}
 use Rattle.pl_spec.specs.Rounding.{IsCell}
-use Rattle.pl_spec.specs.Value.{sort_kind}
-use Rattle.pl_spec.specs.Term.{term_at}
-use Rattle.pl_spec.proofs.Cells.{empty-cell}
+use Rattle.pl_pipeline.specs.Value.{sort_kind}
+use Rattle.pl_pipeline.specs.Term.{term_at}
+use Rattle.pl_pipeline.proofs.Cells.{empty-cell}
 use Rattle.pl_terms.specs.Nodes.{graph_of}
 use Rattle.pl_world.proofs.Evaluated.{lacks-value}
 use Rattle.pl_explain.specs.Given.{sid_in}

@@ -1,6 +1,6 @@
 use Rattle.std.proofs.Common.{◌≡◌, ◌≤◌, ◌-◌, pos, length, drop, map}
 use Rattle.pl_spec.specs.Rounding.{MILLION}
-use Rattle.pl_spec.specs.Formula.{faded}
+use Rattle.pl_pipeline.specs.Formula.{faded}
 use Rattle.pl_spec.specs.Window.{downward}
 use Rattle.pl_factors.proofs.Sums.{IsTermSum}
 use Rattle.pl_factors.proofs.faded.faded_weights.Given as goal

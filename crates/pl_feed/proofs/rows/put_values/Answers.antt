@@ -1,7 +1,7 @@
 use Rattle.std.proofs.Common.{◌++◌, ◌∙◌, ap, pos, List, arith}
 use Rattle.std.proofs.lemmas.List.{take_all}
 use Rattle.std.proofs.lemmas.Option.{slice_get_within}
-use Rattle.pl_spec.specs.Table.{NamedColumn}
+use Rattle.pl_pipeline.specs.Table.{NamedColumn}
 use Rattle.pl_table.specs.Rows.{value_fields}
 use Rattle.pl_table.proofs.Outputs.{has-column, parts-more}
 use Rattle.pl_table.proofs.RowLines.{fields-more}

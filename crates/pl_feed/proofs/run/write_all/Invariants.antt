@@ -1,7 +1,7 @@
 use Rattle.std.proofs.Common.{◌≡◌, ◌≤◌, ◌+◌, ◌++◌, ℕ, length}
 use Rattle.pl_outside.specs.Taken.{IsWrittenIn}
 use Rattle.pl_outside.proofs.Pieces.{Writing}
-use Rattle.pl_spec.specs.Table.{table}
+use Rattle.pl_pipeline.specs.Table.{table}
 use Rattle.pl_world.specs.Worlds.{world_of}
 use Rattle.pl_terms.specs.Checked.{pipeline_of}
 use Rattle.pl_table.specs.Outcomes.{lines}

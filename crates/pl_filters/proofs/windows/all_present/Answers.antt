@@ -1,6 +1,7 @@
 use Rattle.std.proofs.Common.{◌≡◌, nat_le, length, true, false, refl, sym, arith}
 use Rattle.std.proofs.lemmas.Bool.Decides.{nat_tests}
-use Rattle.pl_spec.specs.Formula.{formula, count}
+use Rattle.pl_pipeline.specs.Formula.{formula}
+use Rattle.pl_spec.specs.Cells.{count}
 use Rattle.pl_filters.proofs.Counting.{all-present}
 use Rattle.pl_filters.proofs.windows.all_present.Goals as goal
 

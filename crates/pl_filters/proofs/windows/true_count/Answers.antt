@@ -3,7 +3,7 @@ use Rattle.std.specs.Int.{w128}
 use Rattle.std.specs.List.{count_by}
 use Rattle.std.proofs.lemmas.Int.{to_z-of_z}
 use Rattle.std.proofs.lemmas.List.Sums.{count_by-le-length}
-use Rattle.pl_spec.specs.Formula.{is_true}
+use Rattle.pl_spec.specs.Cells.{is_true}
 use Rattle.pl_filters.proofs.Counting.{flags-total}
 use Rattle.pl_filters.proofs.windows.true_count.Goals as goal
 

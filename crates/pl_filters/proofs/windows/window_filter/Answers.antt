@@ -1,7 +1,7 @@
 use Rattle.std.proofs.Common.{◌∙◌, [], rules, FitsSigned, w64}
 use Rattle.std.proofs.lemmas.Int.{to_z-of_z}
 use Rattle.pl_terms.specs.Kinds.{kind_of}
-use Rattle.pl_spec.proofs.Filters.{filters-count}
+use Rattle.pl_pipeline.proofs.Filters.{filters-count}
 use Rattle.pl_filters.proofs.windows.window_filter.Goals as goal
 
 pub returns-in-All-clause-value : goal.returns-in-All-clause-value

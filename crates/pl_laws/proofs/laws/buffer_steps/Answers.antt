@@ -1,4 +1,4 @@
-use Rattle.pl_laws.proofs.Buffer.{seen_next}
+use Rattle.pl_spec.proofs.Buffer.{seen_next}
 use Rattle.pl_laws.proofs.laws.buffer_steps.Goals as goal
 
 pub returns : goal.returns

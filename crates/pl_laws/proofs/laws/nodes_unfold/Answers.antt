@@ -1,4 +1,4 @@
-use Rattle.pl_spec.proofs.Unfolds.{value_at-node}
+use Rattle.pl_pipeline.proofs.Unfolds.{value_at-node}
 use Rattle.pl_laws.proofs.laws.nodes_unfold.Goals as goal
 
 pub returns : goal.returns

@@ -1,6 +1,6 @@
 use Rattle.std.proofs.Common.{refl}
-use Rattle.pl_spec.specs.Term.{term_at}
-use Rattle.pl_spec.proofs.Distinct.{one_tree}
+use Rattle.pl_pipeline.specs.Term.{term_at}
+use Rattle.pl_pipeline.proofs.Distinct.{one_tree}
 use Rattle.pl_laws.proofs.laws.terms_are_distinct.Goals as goal
 
 pub returns : goal.returns

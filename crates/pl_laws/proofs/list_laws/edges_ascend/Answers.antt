@@ -1,4 +1,4 @@
-use Rattle.pl_spec.proofs.Edges.{edges-ascend}
+use Rattle.pl_pipeline.proofs.Edges.{edges-ascend}
 use Rattle.pl_laws.proofs.list_laws.edges_ascend.Goals as goal
 
 pub returns : goal.returns

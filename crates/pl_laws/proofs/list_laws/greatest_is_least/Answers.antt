@@ -1,4 +1,4 @@
-use Rattle.pl_spec.proofs.Greatest.{greatest-least}
+use Rattle.pl_pipeline.proofs.Greatest.{greatest-least}
 use Rattle.pl_laws.proofs.list_laws.greatest_is_least.Goals as goal
 
 pub returns : goal.returns

@@ -1,4 +1,4 @@
-use Rattle.pl_spec.proofs.SortedValues.{value_at-counted, counted-is-value_at}
+use Rattle.pl_pipeline.proofs.SortedValues.{value_at-counted, counted-is-value_at}
 use Rattle.pl_laws.proofs.list_laws.values_are_counted.Goals as goal
 
 pub returns : goal.returns

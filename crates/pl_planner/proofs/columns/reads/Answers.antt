@@ -1,7 +1,7 @@
 use Rattle.std.proofs.Common.{ap, ◌∙◌, ◌||◌, filter_map, map, take}
 use Rattle.pl_spec.specs.declared.Column.TheVariants.{OpenPrice}
 use Rattle.pl_spec.specs.World.{column_number}
-use Rattle.pl_spec.specs.Graph.{contains, input_column}
+use Rattle.pl_pipeline.specs.Graph.{contains, input_column}
 use Rattle.pl_terms.specs.Nodes.{input_of}
 use Rattle.pl_terms.specs.declared.node.Input.TheVariants as inputs
 use Rattle.pl_planner.proofs.Counting.{any_more}

@@ -1,6 +1,6 @@
 use Rattle.std.proofs.Common.{◌≡◌, map, take, filter_map}
 use Rattle.pl_spec.specs.World.{column_number}
-use Rattle.pl_spec.specs.Graph.{contains, input_column}
+use Rattle.pl_pipeline.specs.Graph.{contains, input_column}
 use Rattle.pl_terms.specs.Nodes.{input_of}
 use Rattle.pl_planner.proofs.columns.reads.Given as goal
 

@@ -1,13 +1,13 @@
 use Rattle.std.proofs.Common.{rules, ◌≡◌, ℕ, ◌+◌, ◌-◌, ◌<◌, ◌≤◌, ◌^◌, max, ℤ, List, Some, None, length, get_or, slice_get, sym, ◌∙◌, ap, subst, arith}
-use Rattle.pl_spec.specs.Term.{Node}
-use Rattle.pl_spec.specs.Graph.{reads_at}
+use Rattle.pl_pipeline.specs.Term.{Node}
+use Rattle.pl_pipeline.specs.Graph.{reads_at}
 use Rattle.pl_terms.specs.Nodes.{graph_of, node_of}
 use Rattle.pl_terms.specs.Checked.{Parts, pipeline_of, IsChecked}
 use Rattle.pl_terms.proofs.Graphs.{graph-at}
 use Rattle.pl_planner.proofs.Pipelines.{ReadsTerms, is-pipeline, window-is}
 use Rattle.pl_planner.proofs.Gathers.{back-of, back-few}
 use Rattle.pl_planner.specs.Extra.{back_from}
-use Rattle.pl_spec.specs.Kind.{Kind}
+use Rattle.pl_pipeline.specs.Kind.{Kind}
 use Rattle.pl_spec.specs.Window.{before}
 use Rattle.std.proofs.lemmas.Int.{ints}
 use Rattle.std.proofs.Common.{pos, ◌-ℤ◌}

@@ -1,6 +1,6 @@
 use Rattle.std.proofs.Common.{◌≡◌, ℕ, ◌≤◌, ◌<◌, ◌+◌, ◌-◌, ◌*◌, ◌++◌, ◌+ℤ◌, length}
-use Rattle.pl_spec.specs.Graph.{bound}
-use Rattle.pl_spec.specs.Table.{table}
+use Rattle.pl_pipeline.specs.Graph.{bound}
+use Rattle.pl_pipeline.specs.Table.{table}
 use Rattle.pl_spec.specs.Limits.{cut}
 use Rattle.pl_outside.specs.Taken.{IsWrittenIn}
 use Rattle.pl_outside.proofs.Pieces.{Writing}

@@ -2,7 +2,8 @@ use Rattle.std.proofs.Common.{◌≡◌, ◌<◌, ◌/◌, rules, arith, ap, ap�
 use Rattle.std.specs.Int.{w128}
 use Rattle.std.proofs.lemmas.Int.{to_z-of_z, to_z_pos}
 use Rattle.pl_spec.specs.Rounding.{div_round, isqrt, to_cell}
-use Rattle.pl_spec.specs.Formula.{present_values, total, count, square, spread}
+use Rattle.pl_spec.specs.Cells.{present_values, total, count}
+use Rattle.pl_pipeline.specs.Formula.{square, spread}
 use Rattle.pl_lanes.proofs.Cells.{few-present, total-few}
 use Rattle.pl_running.specs.Kept.{Kept}
 use Rattle.pl_running.proofs.Bounds.{sum-within}

@@ -1,7 +1,8 @@
 use Rattle.std.proofs.Common.{◌≡◌, ◌<◌, ◌^◌, pos, ◌-ℤ◌, sum_by, rules, arith, ap, refl, ◌∙◌, FitsSigned, to_z, of_z}
 use Rattle.std.specs.Int.{w128}
 use Rattle.std.proofs.lemmas.Int.{to_z-of_z, to_z_pos}
-use Rattle.pl_spec.specs.Formula.{present_values, total, count, products, square}
+use Rattle.pl_spec.specs.Cells.{present_values, total, count}
+use Rattle.pl_pipeline.specs.Formula.{products, square}
 use Rattle.pl_lanes.proofs.Cells.{few-present}
 use Rattle.pl_running.specs.Kept.{Kept}
 use Rattle.pl_running.proofs.Bounds.{sum-within, products-within}

@@ -2,7 +2,7 @@ use Rattle.std.proofs.Common.{◌≡◌, ◌≢◌, ◌⊎◌, ◌-◌, length, 
 use Rattle.std.specs.Int.{int_max}
 use Rattle.std.proofs.lemmas.Int.{to_z-of_z}
 use Rattle.pl_spec.specs.Rounding.{MISSING}
-use Rattle.pl_spec.specs.Formula.{greatest}
+use Rattle.pl_spec.specs.Cells.{greatest}
 use Rattle.pl_running.specs.Spans.{before, first}
 use Rattle.pl_running.proofs.Bounds.{at-exact}
 use Rattle.pl_running.proofs.Peaks.{leaves-unlike, greatest-slides}

@@ -1,7 +1,7 @@
 use Rattle.std.proofs.Common.{◌≡◌, ◌≢◌, ◌⊎◌, ◌-◌, length, rules, ap₂, sym, ◌∙◌, FitsSigned, w64}
 use Rattle.std.proofs.lemmas.Int.{to_z-of_z}
 use Rattle.pl_spec.specs.Rounding.{MISSING}
-use Rattle.pl_spec.specs.Formula.{least}
+use Rattle.pl_spec.specs.Cells.{least}
 use Rattle.pl_running.specs.Spans.{before, first}
 use Rattle.pl_running.specs.Laws.{least_of}
 use Rattle.pl_running.proofs.Bounds.{at-exact}

@@ -1,6 +1,6 @@
 use Rattle.std.proofs.Common.{rules, ◌≡◌, ◌∙◌, ap, sym, length, map, FitsSigned, w64}
 use Rattle.std.proofs.lemmas.Int.{to_z-of_z}
-use Rattle.pl_spec.specs.Formula.{faded}
+use Rattle.pl_pipeline.specs.Formula.{faded}
 use Rattle.pl_spec.specs.Window.{downward}
 use Rattle.pl_running.proofs.Following.{faded_are}
 use Rattle.pl_running.proofs.lanes.fill_faded.Goals as goal

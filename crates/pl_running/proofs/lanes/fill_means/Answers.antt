@@ -1,6 +1,6 @@
 use Rattle.std.proofs.Common.{rules, ◌≡◌, ◌+◌, ◌-◌, ◌<◌, ◌≤◌, ◌∙◌, ap, sym, subst, arith, length, length-set, to_z, of_z, w64, All, FitsSigned}
 use Rattle.std.proofs.lemmas.Int.{to_z-of_z}
-use Rattle.pl_spec.specs.Formula.{mean}
+use Rattle.pl_pipeline.specs.Formula.{mean}
 use Rattle.pl_spec.specs.Rounding.{IsCell}
 use Rattle.pl_running.specs.Kept.{sums}
 use Rattle.pl_running.proofs.Following.{cells_at, means_are, no_means, one_mean, span_after}

@@ -2,7 +2,8 @@ use Rattle.std.proofs.Common.{◌≡◌, ◌<◌, ◌*◌, ◌^◌, ◌-◌, ℕ
 use Rattle.std.specs.Int.{w128}
 use Rattle.std.proofs.lemmas.Int.{to_z-of_z, to_z_pos}
 use Rattle.pl_spec.specs.Rounding.{quot, is_missing}
-use Rattle.pl_spec.specs.Formula.{HUNDRED, count}
+use Rattle.pl_pipeline.specs.Formula.{HUNDRED}
+use Rattle.pl_spec.specs.Cells.{count}
 use Rattle.pl_running.specs.Kept.{first_place}
 use Rattle.pl_fixed.proofs.CellLemmas.{is_missing-not}
 use Rattle.pl_running.proofs.places.hundredths.Goals as goal

@@ -1,6 +1,6 @@
 use Rattle.std.proofs.Common.{◌≡◌, ◌≤◌, ◌<◌, ◌-◌, length, ap, sym, ◌∙◌, FitsSigned, w64, to_z, of_z}
 use Rattle.std.proofs.lemmas.Int.{to_z-of_z}
-use Rattle.pl_spec.specs.Formula.{greatest}
+use Rattle.pl_spec.specs.Cells.{greatest}
 use Rattle.pl_lanes.specs.Heights.{height}
 use Rattle.pl_lanes.proofs.Bits.{cell-fits}
 use Rattle.pl_factors.proofs.Casts.{wide}

@@ -1,6 +1,6 @@
 use Rattle.std.proofs.Common.{◌≡◌, nat_le, length, true, false, refl, sym, ap, ◌∙◌, arith}
 use Rattle.std.proofs.lemmas.Bool.Decides.{nat_tests}
-use Rattle.pl_spec.specs.Formula.{count}
+use Rattle.pl_spec.specs.Cells.{count}
 use Rattle.pl_filters.proofs.Counting.{all-present}
 use Rattle.pl_lanes.proofs.Cells.{few-present}
 use Rattle.pl_running.specs.Kept.{Kept}

@@ -1,7 +1,7 @@
 use Rattle.std.proofs.Common.{◌≡◌, pos, rules, arith, ap, ap₂, ◌∙◌, ◌+ℤ◌, ◌*ℤ◌, FitsSigned, w64, to_z, of_z}
 use Rattle.std.specs.Int.{w128}
 use Rattle.std.proofs.lemmas.Int.{to_z-of_z}
-use Rattle.pl_spec.specs.Formula.{differences, gains, losses}
+use Rattle.pl_pipeline.specs.Formula.{differences, gains, losses}
 use Rattle.pl_spec.specs.Rounding.{quot}
 use Rattle.pl_running.specs.Kept.{Kept}
 use Rattle.pl_running.proofs.Bounds.{gains-within, losses-within}

@@ -1,6 +1,6 @@
 use Rattle.std.proofs.Common.{◌≡◌, ap, refl, ◌∙◌, rules, FitsSigned, w64, to_z, of_z}
 use Rattle.std.proofs.lemmas.Int.{to_z-of_z}
-use Rattle.pl_spec.specs.Formula.{newest}
+use Rattle.pl_pipeline.specs.Formula.{newest}
 use Rattle.pl_running.specs.Kept.{Kept}
 use Rattle.pl_running.proofs.Peaks.{narrow-cell}
 use Rattle.pl_running.proofs.values.stochastic.Goals as goal

@@ -1,7 +1,7 @@
 use Rattle.std.proofs.Common.{◌≤◌, ◌++◌, ◌∷◌, [], ◌∙◌, ap, sym, ℕ, List, length, codes, arith}
 use Rattle.std.specs.Prelude.{flat_map}
 use Rattle.std.proofs.lemmas.List.{take_all}
-use Rattle.pl_spec.specs.Table.{NamedColumn}
+use Rattle.pl_pipeline.specs.Table.{NamedColumn}
 use Rattle.pl_terms.specs.Checked.{pipeline_of}
 use Rattle.pl_terms.proofs.Graphs.{columns-long}
 use Rattle.pl_table.specs.Fields.{date_part, sid_part, field_part}

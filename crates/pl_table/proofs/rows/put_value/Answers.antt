@@ -3,7 +3,7 @@ use Rattle.std.specs.Prelude.{slice_get}
 use Rattle.std.specs.Int.{w128}
 use Rattle.std.proofs.lemmas.Int.{to_z-of_z}
 use Rattle.pl_spec.specs.Rounding.{is_missing}
-use Rattle.pl_spec.specs.Table.{NamedColumn}
+use Rattle.pl_pipeline.specs.Table.{NamedColumn}
 use Rattle.pl_terms.proofs.Graphs.{columns-long}
 use Rattle.pl_values.specs.Families.{IsCode}
 use Rattle.pl_cross.specs.Arrays.{sid_in}

@@ -5,7 +5,7 @@ use Rattle.std.proofs.lemmas.Int.{to_z-of_z}
 use Rattle.std.proofs.lemmas.List.{take_all}
 use Rattle.std.proofs.lemmas.Option.{slice_get_within}
 use Rattle.pl_spec.specs.Rounding.{LIMIT}
-use Rattle.pl_spec.specs.Table.{NamedColumn}
+use Rattle.pl_pipeline.specs.Table.{NamedColumn}
 use Rattle.pl_cross.specs.Arrays.{sid_in}
 use Rattle.pl_table.specs.Outcomes.{pipeline_in, sids_in, world_in}
 use Rattle.pl_table.specs.Rows.{row_values, value_fields}

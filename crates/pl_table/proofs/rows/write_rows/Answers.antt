@@ -3,7 +3,7 @@ use Rattle.std.proofs.lemmas.Int.{ints}
 use Rattle.std.proofs.lemmas.Nat.{mul-le}
 use Rattle.std.proofs.lemmas.Result.{err_from_is_err_and}
 use Rattle.pl_outside.proofs.Pieces.{writing-start, writing-more, writing-end, writing-stop, writing-over, written-none, written-more}
-use Rattle.pl_spec.specs.Table.{session_rows}
+use Rattle.pl_pipeline.specs.Table.{session_rows}
 use Rattle.pl_table.specs.Outcomes.{lines, pipeline_in, rows_of_sessions, world_in}
 use Rattle.pl_table.specs.Sums.{rows_sum}
 use Rattle.pl_table.specs.Tiles.{HasRows}

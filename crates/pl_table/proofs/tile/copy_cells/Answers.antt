@@ -1,6 +1,6 @@
 use Rattle.std.proofs.Common.{rules, ◌≡◌, ◌≤◌, ◌+◌, ◌*◌, ◌∙◌, ap, sym, subst, refl, true, ℕ, pos, get_or, arith, FitsSigned, w64}
 use Rattle.std.proofs.lemmas.Int.{to_z-of_z}
-use Rattle.pl_spec.specs.Graph.{contains}
+use Rattle.pl_pipeline.specs.Graph.{contains}
 use Rattle.pl_terms.specs.Uses.{outputs}
 use Rattle.pl_terms.proofs.Graphs.{columns-long, column-output}
 use Rattle.pl_table.specs.Outcomes.{pipeline_in}

@@ -1,7 +1,7 @@
 use Rattle.std.proofs.Common.{rules, ◌∙◌, ap, sym, arith, FitsSigned, w64, inl, inr}
 use Rattle.std.proofs.lemmas.Int.{to_z-of_z}
 use Rattle.std.proofs.lemmas.Bool.{cases_eq, true≢false}
-use Rattle.pl_spec.specs.Formula.{truth}
+use Rattle.pl_spec.specs.Cells.{truth}
 use Rattle.pl_table.proofs.Tiles as tiles
 use Rattle.pl_table.proofs.tile.mark_rows.Goals as goal
 use Rattle.pl_table.proofs.tile.mark_rows.Goals.{then-some, else-some}

@@ -1,5 +1,5 @@
 use Rattle.std.proofs.Common.{◌≡◌, ℕ, ◌<◌, length, get_or, slice_get, Some}
-use Rattle.pl_spec.specs.Table.{NamedColumn}
+use Rattle.pl_pipeline.specs.Table.{NamedColumn}
 use Rattle.pl_terms.specs.Checked.{pipeline_of}
 use Rattle.pl_terms.specs.Sorts.{sort_at}
 use Rattle.pl_table.specs.Fields.{sort_written}

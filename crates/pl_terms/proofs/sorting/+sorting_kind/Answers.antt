@@ -1,9 +1,9 @@
 use Rattle.std.proofs.Common.{◌≡◌, ◌<◌, ◌∙◌, IfSome, IfNone, sym, subst, rules, arith}
 use Rattle.std.proofs.lemmas.Option.{slice_get_within}
 use Rattle.pl_terms.specs.Kinds.{kind_of}
-use Rattle.pl_spec.specs.Kind.{Kind}
+use Rattle.pl_pipeline.specs.Kind.{Kind}
 use Rattle.pl_spec.specs.Rounding.{MISSING}
-use Rattle.pl_spec.specs.Kind.Kind.{Constant}
+use Rattle.pl_pipeline.specs.Kind.Kind.{Constant}
 use Rattle.pl_terms.proofs.TermSorts.{own-there, input-below, input-there, none-there}
 use Rattle.pl_terms.proofs.sorting.+sorting_kind.Goals as goal
 

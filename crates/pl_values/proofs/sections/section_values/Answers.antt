@@ -1,9 +1,9 @@
 use Rattle.std.proofs.Common.{◌≡◌, ℕ, ◌<◌, ◌≤◌, true, false, ◌∙◌, ℤ, List, length, All, refl, sym, arith, subst, Option}
 use Rattle.std.proofs.lemmas.List.{get_or_default}
 use Rattle.pl_spec.specs.Rounding.{MISSING, IsCell}
-use Rattle.pl_spec.specs.Cross.{at}
-use Rattle.pl_spec.specs.Kind.{Kind, CrossKind}
-use Rattle.pl_spec.specs.Kind.Kind.{Cross}
+use Rattle.pl_pipeline.specs.Cross.{at}
+use Rattle.pl_pipeline.specs.Kind.{Kind, CrossKind}
+use Rattle.pl_pipeline.specs.Kind.Kind.{Cross}
 use Rattle.pl_cross.specs.Section.{HasParameters, is_section}
 use Rattle.pl_cross.specs.Arrays.{section_at}
 use Rattle.pl_values.proofs.CrossCells.{section-is-cell}

@@ -1,5 +1,5 @@
 use Rattle.pl_laws.proofs.Reaches.{reach-enough}
-use Rattle.pl_spec.specs.Term.{term_at}
+use Rattle.pl_pipeline.specs.Term.{term_at}
 use Rattle.pl_terms.specs.Checked.{pipeline_of}
 use Rattle.pl_terms.proofs.Windowed.{windowed}
 use Rattle.pl_world.proofs.laws.early_bars_change_nothing.Goals as goal

@@ -1,4 +1,4 @@
-use Rattle.pl_spec.specs.Term.{term_at}
+use Rattle.pl_pipeline.specs.Term.{term_at}
 use Rattle.pl_laws.proofs.Law as law
 use Rattle.pl_laws.proofs.TableLaw.{table_same}
 use Rattle.pl_laws.proofs.Texts.{text_same}

@@ -1,4 +1,4 @@
-use Rattle.pl_spec.proofs.Unfolds.{value_at-node}
+use Rattle.pl_pipeline.proofs.Unfolds.{value_at-node}
 use Rattle.pl_terms.specs.Checked.{pipeline_of}
 use Rattle.pl_world.proofs.laws.values_follow_nodes.Goals as goal
 

@@ -1,6 +1,6 @@
 use Rattle.std.proofs.Common.{◌≡◌, [], ◌∙◌, ap, sym, rules, w32, w64, FitsSigned, pos, option_and_then, unwrap_or, Option, List, ℕ}
 use Rattle.std.proofs.lemmas.Int.{to_z-of_z}
-use Rattle.pl_spec.specs.Value.{name_at}
+use Rattle.pl_pipeline.specs.Value.{name_at}
 use Rattle.pl_assets.specs.Labels.{label_on}
 use Rattle.pl_assets.proofs.LabelWorlds.{labels_those}
 use Rattle.pl_values.specs.Families.{label_code}

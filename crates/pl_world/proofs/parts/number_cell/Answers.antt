@@ -1,7 +1,7 @@
 use Rattle.std.proofs.Common.{◌≡◌, [], ◌∙◌, ap, sym, rules, w64, FitsSigned, pos, unwrap_or, Option, List, ℕ}
 use Rattle.std.proofs.lemmas.Int.{to_z-of_z}
 use Rattle.pl_spec.specs.Parts.{sid_at}
-use Rattle.pl_spec.specs.Value.{name_at}
+use Rattle.pl_pipeline.specs.Value.{name_at}
 use Rattle.pl_spec.specs.World.{known_number}
 use Rattle.pl_world.specs.Worlds.{world_of}
 use Rattle.pl_world.proofs.parts.number_cell.Goals as goal

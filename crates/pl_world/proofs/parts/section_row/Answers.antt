@@ -1,7 +1,7 @@
 use Rattle.std.proofs.Common.{◌≡◌, ℤ, List, Some, slice_get, ◌∙◌, sym, ap, length, option_map, subst, arith}
 use Rattle.std.proofs.lemmas.Result.{IfOk-weaker}
 use Rattle.pl_spec.specs.Rounding.{MISSING}
-use Rattle.pl_spec.specs.Cross.{at}
+use Rattle.pl_pipeline.specs.Cross.{at}
 use Rattle.pl_cross.specs.Listing.{labels_in, Fits}
 use Rattle.pl_cross.specs.Arrays.{HasTexts}
 use Rattle.pl_values.proofs.Texts.{texts-coded}

@@ -1,5 +1,5 @@
 use Rattle.std.proofs.Common.{◌≡◌, [], ◌∙◌, ap, subst, unwrap_or, Option, List, ℕ, IfSome, IfNone, false}
-use Rattle.pl_spec.specs.Value.{name_at}
+use Rattle.pl_pipeline.specs.Value.{name_at}
 use Rattle.pl_terms.specs.Checked.{pipeline_of}
 use Rattle.pl_world.specs.Present.{IsNumberUnder, is_number_term}
 use Rattle.pl_world.specs.Worlds.{world_of}

@@ -1,6 +1,6 @@
 use Rattle.std.proofs.Common.{◌≡◌, ◌∷◌, ◌++◌, drop}
 use Rattle.std.specs.List.{flat_map}
-use Rattle.pl_spec.specs.Text.{quoted_byte}
+use Rattle.pl_spec.specs.Lines.{quoted_byte}
 use Rattle.pl_assets.proofs.labels.texts.quoted.Given as goal
 
 -- what has been put, and what is still to be put

@@ -1,7 +1,7 @@
 use Rattle.std.proofs.Common.{◌≡◌, ◌<◌, length, subst, sym, ◌∙◌, ap, arith, rules, vec_len, FitsSigned, w64, Some, slice_get}
 use Rattle.std.proofs.lemmas.Int.{to_z-of_z}
 use Rattle.pl_spec.specs.Parts.{sid_at}
-use Rattle.pl_spec.specs.Table.{in_array, value_of}
+use Rattle.pl_pipeline.specs.Table.{in_array, value_of}
 use Rattle.pl_terms.specs.Checked.{columns_of}
 use Rattle.pl_terms.proofs.Graphs.{columns-long}
 use Rattle.pl_rings.specs.Days.{last_session}

@@ -1,5 +1,5 @@
 use Rattle.std.proofs.Common.{subst}
-use Rattle.pl_spec.specs.Term.{IsGraph}
+use Rattle.pl_pipeline.specs.Term.{IsGraph}
 use Rattle.pl_terms.specs.Nodes.{graph_of}
 use Rattle.pl_terms.proofs.graph.Graph.len.Goals as goal
 

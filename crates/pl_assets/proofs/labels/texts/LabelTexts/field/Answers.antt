@@ -1,5 +1,5 @@
 use Rattle.std.proofs.Common.{◌∙◌, ap, get_or, []}
-use Rattle.pl_spec.specs.Text.{quote}
+use Rattle.pl_spec.specs.Lines.{quote}
 use Rattle.pl_assets.proofs.TextLists.{field_at_code}
 use Rattle.pl_assets.proofs.labels.texts.LabelTexts.field.Goals as goal
 

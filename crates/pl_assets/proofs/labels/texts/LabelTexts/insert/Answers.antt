@@ -1,5 +1,5 @@
 use Rattle.std.proofs.Common.{sym, ◌∙◌}
-use Rattle.pl_spec.specs.Text.{quote}
+use Rattle.pl_spec.specs.Lines.{quote}
 use Rattle.pl_assets.proofs.TextLists.{not_new, field_behind}
 use Rattle.pl_assets.proofs.labels.texts.LabelTexts.insert.Goals as goal
 

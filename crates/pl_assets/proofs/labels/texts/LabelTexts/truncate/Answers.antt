@@ -1,6 +1,6 @@
 use Rattle.std.proofs.Common.{sym, ◌∙◌, ap, map, take}
 use Rattle.std.proofs.lemmas.List.{take-map}
-use Rattle.pl_spec.specs.Text.{quote}
+use Rattle.pl_spec.specs.Lines.{quote}
 use Rattle.pl_assets.proofs.labels.texts.LabelTexts.truncate.Goals as goal
 
 pub invariant_of-self : goal.invariant_of-self

@@ -1,0 +1,12 @@
+pub mod Contained
+pub mod Cells
+pub mod SortedValues
+pub mod Means
+pub mod Bins
+pub mod Ranks
+pub mod Greatest
+pub mod Edges
+pub mod Distinct
+pub mod Filters
+pub mod Unfolds
+pub mod Trees

@@ -1,0 +1,125 @@
+-- The formulas over a window: each is a sum, a greatest or least, a count or a quotient over plain lists,
+-- oldest first.
+use Rattle.std.specs.Prelude.{ℕ, zero, suc, ◌+◌, ◌-◌, ◌*◌, ◌/◌, ◌&&◌, if◌then◌else◌, ◌==◌, nat_le, ℤ, pos, ◌+ℤ◌, ◌-ℤ◌, ◌*ℤ◌, neg_ℤ, List, [], ◌∷◌, length, map, filter, drop, unwrap_or, sum_by, count_by, get_or, position, zip}
+use Rattle.std.specs.List.{list_any, list_all, range_with_len}
+use Rattle.std.specs.Int.RustNames.{unsigned_abs, int_lt}
+use Rattle.std.specs.Ordering.{int_eq}
+use Rattle.pl_spec.specs.Rounding.{MISSING, MILLION, is_missing, is_present, to_cell, quot, of_both, add, sub, mul, div_round, isqrt}
+use Rattle.pl_spec.specs.Window.{downward}
+use Rattle.pl_pipeline.specs.Kind.{WindowKind}
+use Rattle.pl_pipeline.specs.Kind.WindowKind.{Latest, SimpleMovingAverage, LinearWeightedMovingAverage, WindowSum, WindowMax, WindowMin, WindowStd, BollingerMiddle, BollingerLower, BollingerUpper, Returns, PercentChange, RateOfChangePercentage, RSI, VWAP, AverageDollarVolume, WeightedAverageValue, FastStochasticOscillator, TrueRange, ExponentialWeightedMovingAverage, AroonUp, AroonDown, All, Any, AtLeastN, AllPresent}
+use Rattle.pl_spec.specs.Cells.{truth, is_true, present_values, total, count, greatest, least}
+
+-- a hundred, in millionths
+abbrev pub HUNDRED : ℤ
+HUNDRED = pos 100000000
+
+abbrev pub oldest : List ℤ → ℤ
+oldest xs = get_or xs 0 MISSING
+
+abbrev pub newest : List ℤ → ℤ
+newest xs = get_or xs (length xs - 1) MISSING
+
+abbrev pub mean : List ℤ → ℤ
+mean xs = quot (total (present_values xs)) (pos (count xs))
+
+-- v, where a value is present
+abbrev pub if_any : List ℤ → ℤ → ℤ
+if_any xs v = if count xs == 0 then MISSING else v
+
+abbrev pub square : ℤ → ℕ
+square x = unsigned_abs x * unsigned_abs x
+
+-- the standard deviation: the root of the mean square of what lies between the values and their mean
+abbrev pub spread : List ℤ → ℕ
+spread xs = let m = div_round (total xs) (length xs) in isqrt (sum_by (λ x. square (x -ℤ m)) xs / length xs)
+
+abbrev pub deviation : List ℤ → ℤ
+deviation xs = if_any xs (to_cell (pos (spread (present_values xs))))
+
+-- the change over the window, times a scale, over what it is measured by
+abbrev pub change : List ℤ → ℤ → ℤ → ℤ
+change xs scale base = of_both (oldest xs) (newest xs) (quot ((newest xs -ℤ oldest xs) *ℤ scale) base)
+
+-- the pairs of values at one place, where both are present
+abbrev pub present_pairs : List ℤ → List ℤ → List (ℤ × ℤ)
+present_pairs xs ys = filter (λ p. is_present p.0 && is_present p.1) (zip xs ys)
+
+abbrev pub products : List ℤ → List ℤ → List ℤ
+products xs ys = map (λ p. p.0 *ℤ p.1) (present_pairs xs ys)
+
+abbrev pub weighted_mean : List ℤ → List ℤ → ℤ
+weighted_mean xs ws = quot (total (products xs ws)) (total (present_values ws))
+
+-- how much each value lies above the one before it, where both are present
+abbrev pub differences : List ℤ → List ℤ
+differences xs = map (λ p. p.1 -ℤ p.0) (present_pairs xs (drop 1 xs))
+
+abbrev pub gains : List ℤ → ℤ
+gains ds = total (filter (λ x. int_lt (pos 0) x) ds)
+
+abbrev pub losses : List ℤ → ℤ
+losses ds = neg_ℤ (total (filter (λ x. int_lt x (pos 0)) ds))
+
+-- the places in a window, from 1 for the oldest
+abbrev pub places : List ℤ → List ℤ
+places xs = map pos (range_with_len 1 (length xs))
+
+-- the weight of the value n sessions before the newest
+abbrev pub faded : ℤ → ℕ → ℤ
+faded decay zero = pos MILLION
+faded decay (suc n) = div_round (faded decay n *ℤ decay) MILLION
+
+abbrev pub faded_mean : ℤ → List ℤ → ℤ
+faded_mean decay xs =
+    let ws = map (faded decay) (downward (length xs)) in
+    if list_any is_missing xs then MISSING else quot (total (products ws xs)) (total ws)
+
+-- how far apart two cells are
+abbrev pub gap : ℤ → ℤ → ℤ
+gap x y = of_both x y (pos (unsigned_abs (x -ℤ y)))
+
+-- the place of the first value that equals x, in hundredths of the way from the oldest to the newest
+abbrev pub place_of : ℤ → List ℤ → ℤ
+place_of x xs =
+    let place : ℕ = unwrap_or (position (λ y. int_eq y x) xs) 0 in
+    if_any xs (quot (pos place *ℤ HUNDRED) (pos (length xs - 1)))
+
+-- v, unless x, y or z is missing
+abbrev pub of_all : ℤ → ℤ → ℤ → ℤ → ℤ
+of_all x y z v = of_both x y (of_both y z v)
+
+-- a, b and c are the windows of the kind's inputs, in order
+unfoldable pub formula : WindowKind → List ℤ → List ℤ → List ℤ → ℤ
+formula Latest a b c = oldest a
+formula SimpleMovingAverage a b c = mean a
+formula BollingerMiddle a b c = mean a
+formula WindowSum a b c = if_any a (to_cell (total (present_values a)))
+formula WindowMax a b c = greatest a
+formula WindowMin a b c = least a
+formula WindowStd a b c = deviation a
+formula (BollingerLower k) a b c = sub (mean a) (mul k (deviation a))
+formula (BollingerUpper k) a b c = add (mean a) (mul k (deviation a))
+formula Returns a b c = change a (pos MILLION) (oldest a)
+formula PercentChange a b c = change a (pos MILLION) (pos (unsigned_abs (oldest a)))
+formula RateOfChangePercentage a b c = change a HUNDRED (oldest a)
+formula WeightedAverageValue a b c = weighted_mean a b
+formula VWAP a b c = weighted_mean a b
+formula AverageDollarVolume a b c = quot (total (products a b)) (pos (length a * MILLION))
+formula LinearWeightedMovingAverage a b c =
+    quot (total (products (places a) a)) (pos (length a * (length a + 1) / 2))
+formula RSI a b c =
+    let ds = differences a in quot (gains ds *ℤ HUNDRED) (gains ds +ℤ losses ds)
+formula FastStochasticOscillator close low high =
+    of_all (newest close) (least low) (greatest high)
+    (quot ((newest close -ℤ least low) *ℤ HUNDRED) (greatest high -ℤ least low))
+formula TrueRange high low close =
+    let h = newest high in let l = newest low in let c = oldest close in
+    to_cell (greatest (of_both h l (h -ℤ l) ∷ gap h c ∷ gap l c ∷ []))
+formula (ExponentialWeightedMovingAverage decay) a b c = faded_mean decay a
+formula AroonUp a b c = place_of (greatest a) a
+formula AroonDown a b c = place_of (least a) a
+formula All a b c = truth (list_all is_true a)
+formula Any a b c = truth (list_any is_true a)
+formula (AtLeastN n) a b c = truth (nat_le n (count_by is_true a))
+formula AllPresent a b c = truth (list_all is_present a)

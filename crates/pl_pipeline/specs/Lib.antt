@@ -1,0 +1,14 @@
+-- What the contracts of the project cite of pipelines. docs/DEFINITIONS.md explains each definition.
+pub mod Kind
+pub mod Formula
+pub mod Pointwise
+pub mod Cross
+pub mod CrossFacts
+pub mod Term
+pub mod Value
+pub mod NodeValue
+pub mod Table
+pub mod Graph
+pub mod Reaching
+pub mod Lows
+pub mod Text

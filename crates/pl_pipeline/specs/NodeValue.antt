@@ -1,0 +1,28 @@
+-- The value of a numbered term over the values of the lower numbers that it mentions.
+use Rattle.std.specs.Prelude.{ℕ, ◌&&◌, if◌then◌else◌, List, Option, Some, None, slice_get}
+use Rattle.pl_spec.specs.World.{World, exists}
+use Rattle.pl_pipeline.specs.Term.{Input, Node, Graph, input_tree, trees, term_at}
+use Rattle.pl_pipeline.specs.Term.Input.{BarColumn, TermInput}
+use Rattle.pl_pipeline.specs.Value.{Meaning, Part, passes, sort_over, sort_kind, step, value, empty}
+use Rattle.pl_pipeline.specs.Value.Part.{Nothing, Bars, Values}
+
+-- the meaning of number k
+abbrev pub meaning_of : World → List (List ℕ) → Graph → ℕ → Meaning
+meaning_of w names g k = value w names (term_at g k)
+
+abbrev pub input_part : World → List (List ℕ) → Graph → Option Input → Part
+input_part w names g None = Nothing
+input_part w names g (Some (BarColumn c)) = Bars c
+input_part w names g (Some (TermInput k)) = Values (meaning_of w names g k)
+
+abbrev pub number_part : World → List (List ℕ) → Graph → Option ℕ → Part
+number_part w names g None = Nothing
+number_part w names g (Some k) = Values (meaning_of w names g k)
+
+-- what a node is worth, over the values of the terms that it mentions
+abbrev pub node_value : World → List (List ℕ) → Graph → Node → Meaning
+node_value w names g n a d =
+    if exists w a d && passes (number_part w names g n.mask) a d
+    then step w names n.kind n.window (input_part w names g (slice_get n.inputs 0)) (input_part w names g (slice_get n.inputs 1))
+    (input_part w names g (slice_get n.inputs 2)) (number_part w names g n.mask) (number_part w names g n.group) a d
+    else empty (sort_over n.kind (sort_kind (input_tree (trees g) (slice_get n.inputs 0))))

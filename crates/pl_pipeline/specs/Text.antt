@@ -1,0 +1,52 @@
+-- The text of a table.
+use Rattle.std.specs.Prelude.{ℕ, Bool, true, false, if◌then◌else◌, ℤ, pos, List, [], ◌++◌, map, flat_map, unwrap_or, decimal, codes, zip}
+use Rattle.std.specs.Int.RustNames.{unsigned_abs}
+use Rattle.pl_spec.specs.declared.Format.{Format}
+use Rattle.pl_spec.specs.Rounding.{is_missing}
+use Rattle.pl_spec.specs.Dates.{date_text}
+use Rattle.pl_spec.specs.Decimals.{cell_text}
+use Rattle.pl_spec.specs.World.{World, day_of}
+use Rattle.pl_pipeline.specs.Kind.{Kind}
+use Rattle.pl_pipeline.specs.Kind.Kind.{Cross}
+use Rattle.pl_pipeline.specs.Kind.CrossKind.{Quantiles}
+use Rattle.pl_spec.specs.Cells.{is_true}
+use Rattle.pl_pipeline.specs.Term.{Graph, term_at}
+use Rattle.pl_pipeline.specs.Value.{Value, is_filter, sort_kind}
+use Rattle.pl_pipeline.specs.Value.Value.{Number, Text}
+use Rattle.pl_pipeline.specs.Table.{NamedColumn, Pipeline, Row}
+use Rattle.pl_spec.specs.Lines.{label_text, line}
+
+abbrev pub is_numbered : Kind → Bool
+is_numbered (Cross (Quantiles bins)) = true
+is_numbered k = false
+
+abbrev pub truth_text : Bool → List ℕ
+truth_text b = if b then codes "true" else codes "false"
+
+-- a filter's value, a numbered classifier's whole number or a factor's cell; nothing where it is missing
+abbrev pub number_text : Kind → ℤ → List ℕ
+number_text k x =
+    if is_missing x then []
+    else if is_filter k then truth_text (is_true x)
+    else if is_numbered k then decimal (unsigned_abs x) else cell_text x
+
+abbrev pub field : Format → Kind → Value → List ℕ
+field format k (Number x) = number_text k x
+field format k (Text t) = label_text format t
+
+-- the kind as which term number t is written
+abbrev pub kind_at : Graph → ℕ → Kind
+kind_at g t = sort_kind (term_at g t)
+
+abbrev pub header : Pipeline → Format → List ℕ
+header p format = line format (codes "session") (codes "sid") (map (λ c. c.name) p.columns)
+
+abbrev pub row_fields : Pipeline → Format → List NamedColumn → List Value → List (List ℕ)
+row_fields p format cs vs = map (λ x. field format (kind_at p.graph (x.0).term) x.1) (zip cs vs)
+
+abbrev pub row_line : World → Pipeline → Format → Row → List ℕ
+row_line w p format r = line format (date_text (unwrap_or (day_of w r.session) (pos 0))) (decimal r.sid) (row_fields p format p.columns r.values)
+
+-- the header, and a line for each row
+unfoldable pub text : World → Pipeline → Format → List Row → List ℕ
+text w p format rows = header p format ++ flat_map (row_line w p format) rows

@@ -1,0 +1,177 @@
+-- The value of a term for an asset on a session, computed by itself from bars before the session and
+-- adjustments effective by then.
+use Rattle.std.specs.Prelude.{ℕ, Bool, true, false, ◌&&◌, if◌then◌else◌, ◌==◌, ℤ, pos, List, [], map, filter, Option, Some, None, unwrap_or, slice_get, bytes_eq}
+use Rattle.std.specs.List.{list_any}
+use Rattle.std.specs.Ordering.{int_eq}
+use Rattle.pl_spec.specs.Rounding.{MISSING, is_present}
+use Rattle.pl_spec.specs.declared.Column.{Column}
+use Rattle.pl_spec.specs.World.{World, exists, living_sids, label_at, known_number}
+use Rattle.pl_spec.specs.Window.{before, downward, bar_window}
+use Rattle.pl_spec.specs.Periods.{period_start}
+use Rattle.pl_pipeline.specs.Kind as kind
+use Rattle.pl_pipeline.specs.Kind.{Kind, WindowKind, PointKind, LabelKind, CrossKind}
+use Rattle.pl_pipeline.specs.Kind.Kind.{Constant, Label, StaticSids, Window, Point, LabelTest, Cross, Downsample}
+use Rattle.pl_pipeline.specs.Kind.WindowKind.{All, Any, AtLeastN, AllPresent}
+use Rattle.pl_pipeline.specs.Kind.PointKind.{Add, Sub, Mul, Div, Neg, Abs, Clip, FillNa, IfElse}
+use Rattle.pl_pipeline.specs.Kind.CrossKind.{Top, Bottom, PercentileBetween, PeerCount}
+use Rattle.pl_spec.specs.Cells.{truth, is_true}
+use Rattle.pl_pipeline.specs.Formula.{formula}
+use Rattle.pl_pipeline.specs.Pointwise.{pointwise, label_test}
+use Rattle.pl_pipeline.specs.Cross.{Entry, cross}
+use Rattle.pl_pipeline.specs.Term.{Term}
+use Rattle.pl_pipeline.specs.Term.Term.{absent, column, node}
+
+-- A cell, a truth value as 1 or 0, a numbered classifier's number, or a label's text. No label is the number
+-- MISSING.
+pub data Value : Type 0 where
+  Number : ℤ → Value
+  Text : List ℕ → Value
+
+-- a text counts as present
+abbrev pub number_of : Value → ℤ
+number_of (Number x) = x
+number_of (Text t) = pos 0
+
+abbrev pub holds : Value → Bool
+holds v = is_true (number_of v)
+
+abbrev pub is_same : Value → Value → Bool
+is_same (Number x) (Number y) = int_eq x y
+is_same (Text s) (Text t) = bytes_eq s t
+is_same v u = false
+
+-- what a term is worth, by sid and session
+abbrev pub Meaning : Type 0
+Meaning = ℕ → ℤ → Value
+
+-- what stands in a term's place for an input, a mask or a group
+pub data Part : Type 0 where
+  Nothing : Part
+  Bars : Column → Part
+  Values : Meaning → Part
+
+abbrev pub part_of : Term → Meaning → Part
+part_of absent f = Nothing
+part_of (column c) f = Bars c
+part_of (node k size x y z m g) f = Values f
+
+-- the value of a part on the session
+abbrev pub now : Part → Meaning
+now (Values f) a d = f a d
+now p a d = Number MISSING
+
+-- the window of a part: of bars the sessions before d, of values those up to d
+abbrev pub window_of : World → ℕ → Part → ℕ → ℤ → List ℤ
+window_of w size Nothing a d = []
+window_of w size (Bars c) a d = bar_window w c size a d
+window_of w size (Values f) a d = map (λ n. number_of (f a (before d n))) (downward size)
+
+-- without a mask every asset passes
+abbrev pub passes : Part → ℕ → ℤ → Bool
+passes Nothing a d = true
+passes p a d = holds (now p a d)
+
+-- without a group all are of one
+abbrev pub in_group : Part → ℕ → ℤ → ℕ → Bool
+in_group Nothing a d b = true
+in_group p a d b = is_present (number_of (now p a d)) && is_same (now p a d) (now p b d)
+
+abbrev pub entry : Part → ℤ → ℕ → Entry
+entry x d b = (b, number_of (now x b d))
+
+-- asset b counts for asset a: it passes the mask, its value is present, and it is of a's group
+abbrev pub counts_for : Part → Part → Part → ℕ → ℤ → ℕ → Bool
+counts_for x mask group a d b = passes mask b d && is_present (number_of (now x b d)) && in_group group a d b
+
+-- the entries of session d that count for asset a
+abbrev pub eligible : World → Part → Part → Part → ℕ → ℤ → List Entry
+eligible w x mask group a d = map (entry x d) (filter (counts_for x mask group a d) (living_sids w d))
+
+-- of peers those with the asset's own label count
+abbrev pub group_of : CrossKind → Part → Part → Part
+group_of PeerCount x group = x
+group_of k x group = group
+
+abbrev pub is_window_filter : WindowKind → Bool
+is_window_filter All = true
+is_window_filter Any = true
+is_window_filter (AtLeastN n) = true
+is_window_filter AllPresent = true
+is_window_filter k = false
+
+abbrev pub is_point_filter : PointKind → Bool
+is_point_filter Add = false
+is_point_filter Sub = false
+is_point_filter Mul = false
+is_point_filter Div = false
+is_point_filter Neg = false
+is_point_filter Abs = false
+is_point_filter (Clip low high) = false
+is_point_filter FillNa = false
+is_point_filter IfElse = false
+is_point_filter k = true
+
+abbrev pub is_cross_filter : CrossKind → Bool
+is_cross_filter (Top n) = true
+is_cross_filter (Bottom n) = true
+is_cross_filter (PercentileBetween low high) = true
+is_cross_filter k = false
+
+abbrev pub is_filter : Kind → Bool
+is_filter (StaticSids sids) = true
+is_filter (Window k) = is_window_filter k
+is_filter (Point k) = is_point_filter k
+is_filter (LabelTest k) = true
+is_filter (Cross k) = is_cross_filter k
+is_filter k = false
+
+-- the kind whose sort a term has: that of its input where it is downsampled, else its own
+abbrev pub sort_over : Kind → Kind → Kind
+sort_over (Downsample f) input = input
+sort_over k input = k
+
+abbrev pub sort_kind : Term → Kind
+sort_kind absent = Constant MISSING
+sort_kind (column c) = Constant MISSING
+sort_kind (node k size x y z m g) = sort_over k (sort_kind x)
+
+-- false for a filter; no cell or no label for the others
+abbrev pub empty : Kind → Value
+empty k = if is_filter k then Number (pos 0) else Number MISSING
+
+abbrev pub label_value : Option (List ℕ) → Value
+label_value None = Number MISSING
+label_value (Some t) = Text t
+
+abbrev pub test_value : LabelKind → Value → Value
+test_value k (Number x) = Number (pos 0)
+test_value k (Text t) = Number (truth (label_test k t))
+
+-- the name of number n
+abbrev pub name_at : List (List ℕ) → ℕ → List ℕ
+name_at names n = unwrap_or (slice_get names n) []
+
+-- what the kind gives, where the asset exists and passes the mask
+unfoldable pub step : World → List (List ℕ) → Kind → ℕ → Part → Part → Part → Part → Part → Meaning
+step w names (Constant cell) size x y z mask group a d = Number cell
+step w names (Label n) size x y z mask group a d = label_value (label_at w (name_at names n) a d)
+step w names (kind.Number n) size x y z mask group a d = Number (known_number w (name_at names n) a d)
+step w names (StaticSids sids) size x y z mask group a d = Number (truth (list_any (λ b. b == a) sids))
+step w names (Window k) size x y z mask group a d =
+    Number (formula k (window_of w size x a d) (window_of w size y a d) (window_of w size z a d))
+step w names (Point k) size x y z mask group a d =
+    Number (pointwise k (number_of (now x a d)) (number_of (now y a d)) (number_of (now z a d)))
+step w names (LabelTest k) size x y z mask group a d = test_value k (now x a d)
+step w names (Cross k) size x y z mask group a d =
+    let list = eligible w x mask (group_of k x group) a d in
+    if list_any (λ e. e.0 == a) list then Number (cross k list a (number_of (now x a d))) else empty (Cross k)
+step w names (Downsample f) size x y z mask group a d = now x a (period_start f w.days d)
+
+unfoldable pub value : World → List (List ℕ) → Term → Meaning
+value w names absent a d = Number MISSING
+value w names (column c) a d = Number MISSING
+value w names (node k size x y z m g) a d =
+    let mask = part_of m (value w names m) in
+    if exists w a d && passes mask a d
+    then step w names k size (part_of x (value w names x)) (part_of y (value w names y)) (part_of z (value w names z)) mask (part_of g (value w names g)) a d
+    else empty (sort_over k (sort_kind x))
