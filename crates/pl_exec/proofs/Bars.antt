@@ -89,7 +89,8 @@ module _ (t : Turn) (is : IsTurn t) (i more : ℕ) (cells : List ℤ) where
         windows = λ m k. rw e (empty_window (node_at t).window m);
         long = λ some. absurd (let n = ap length e in omega (arith, some, n));
       }
-      here o l = absurd l
+      here (Some (spec.BarColumn c)) l = absurd l
+      here (Some (spec.TermInput u)) l = absurd l
 
   pub column_lent_reach : (q : ℕ) → IsColumnReach t i q more cells → IsLentReach t (InColumn q) i more cells
   column_lent_reach q w p lent = here (slice_get (node_at t).inputs p) refl lent
