@@ -161,7 +161,7 @@ module _ (j : Job) (job : IsJob j) (k : ℕ) (n : spec.Node) (node : slice_get (
   bar_windowed p c e = elim (kinds_free n.kind) [
     | inl w ↦ w
     | inr f ↦ (let x = fit-at (graph_in (task_of j)) (places n.kind) n.inputs p (BarColumn c) (job.task.checked.nodes k n node).inputs e in absurd
-    (no-takes x.0 c (all-at no_column (places n.kind) p x.0 f x.1) x.2))
+        (no-takes x.0 c (all-at no_column (places n.kind) p x.0 f x.1) x.2))
   ]
 
   new_bar : (p : ℕ) (c : Column) → new_column n p ≡ Some c → slice_get n.inputs p ≡ Some (BarColumn c)

@@ -1,5 +1,5 @@
 -- The keys of rows of numbers tell their names, columns and days.
-use Rattle.std.proofs.Common.{◌≡◌, ◌≢◌, ℕ, ◌+◌, ◌-◌, ◌<◌, ◌^◌, ◌==◌, ◌&&◌, ◌||◌, not, nat_eq, nat_lt, cond, Bool, true, false, ℤ, List, [], ◌∷◌, ◌++◌, length, length-append, get_or, Option, Some, None, FitsSigned, w32, refl, sym, ap, ◌∙◌, arith, inl, inr, eq-eqb, eqb-true}
+use Rattle.std.proofs.Common.{◌≡◌, ℕ, ◌+◌, ◌<◌, ◌^◌, ◌==◌, ◌&&◌, ◌||◌, not, nat_eq, nat_lt, cond, Bool, true, false, ℤ, List, [], ◌∷◌, ◌++◌, length, length-append, get_or, Option, Some, None, FitsSigned, w32, refl, sym, ap, ◌∙◌, arith, inl, inr, eq-eqb, eqb-true}
 use Rattle.std.specs.List.{list_any, position_or_len}
 use Rattle.std.specs.List.Sorted.{IsNonDecreasingBy}
 use Rattle.std.specs.HashSet.{HashSet, contains}

@@ -1,5 +1,5 @@
 -- Numbers under a name that a row has, and under one that none has.
-use Rattle.std.proofs.Common.{◌≡◌, ℕ, Bool, true, false, ℤ, List, [], ◌∷◌, Option, Some, None, map, filter, position, option_map, unwrap_or, bytes_eq, get_or, slice_index_or, refl, sym, ◌∙◌, ap, subst, inl, inr, All, Contains, true≢false}
+use Rattle.std.proofs.Common.{◌≡◌, ℕ, Bool, true, false, ℤ, List, [], ◌∷◌, Some, None, map, filter, position, option_map, unwrap_or, bytes_eq, get_or, slice_index_or, refl, sym, ◌∙◌, ap, subst, inl, inr, All, Contains, true≢false}
 use Rattle.std.proofs.lemmas.Slice.Eq.{bytes_eq-Decides}
 use Rattle.std.proofs.lemmas.List.Quantifiers.{position-Some}
 use Rattle.pl_spec.specs.Rounding.{MISSING}

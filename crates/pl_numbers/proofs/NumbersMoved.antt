@@ -1,12 +1,11 @@
 -- Records of numbers in another order are read as the same rows in some order.
-use Rattle.std.proofs.Common.{◌≡◌, ℕ, ◌<◌, ◌==◌, ◌↔◌, nat_le, Bool, true, false, List, [], ◌∷◌, length, IsPermutation, Result, Ok, Err, refl, sym, ◌∙◌, ap, arith}
+use Rattle.std.proofs.Common.{◌≡◌, ℕ, ◌<◌, ◌↔◌, nat_le, Bool, true, false, List, [], ◌∷◌, length, IsPermutation, Result, Ok, Err, refl, sym, ◌∙◌, ap, arith}
 use Rattle.std.specs.List.{list_any}
 use Rattle.std.proofs.lemmas.Bool.Decides.{nat_tests}
 use Rattle.std.proofs.lemmas.List.Sorted.{IsPermutation-sym, IsPermutation-trans}
 use Rattle.pl_spec.specs.Limits.{most_numbers}
 use Rattle.pl_spec.specs.declared.AssetRow.{AssetRow}
 use Rattle.pl_records.specs.Reading.{Record, Fault, ◌>>=◌}
-use Rattle.pl_records.specs.Sorted.{sorted_by}
 use Rattle.pl_records.proofs.Orders.{Fits, under-permuted}
 use Rattle.pl_records.proofs.Sorts.{sorted-permutes}
 use Rattle.pl_spec.specs.Parts.{ColumnNumber}

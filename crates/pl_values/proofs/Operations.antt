@@ -186,28 +186,52 @@ module _ (w : World) (p : Pipeline) (sids : List ℕ) (ok : IsChecked p) (k : �
     flags-at j row r h =
         let x = term-at j Filter h in
         let b = row-is j x.0 row x.1 r in
-        record { flags = fills-all IsFlag (λ i. cell_of w p sids x.0 (place i) (on i)) size row b
-        (λ i l. filter-cell w p sids x.0 (place i) (on i) ok (filter-sort (sort_at p.graph x.0) x.2)); many = b.long }
+        record {
+          flags = fills-all IsFlag (λ i. cell_of w p sids x.0 (place i) (on i)) size row b
+              (λ i l. filter-cell w p sids x.0 (place i) (on i) ok (filter-sort (sort_at p.graph x.0) x.2));
+          many = b.long;
+        }
 
 operands-of : (w : World) (p : Pipeline) (sids : List ℕ) (ok : IsChecked p) (k : ℕ) (n : Node) → slice_get p.graph k ≡ Some n → (f : PointKind) → n.kind ≡ Point f
     → (place on : ℕ → ℕ) (size : ℕ) (a b c : List ℤ) → AreEntries w p sids n place on size a b c → AreOperandsOf f a b c size
-operands-of w p sids ok k n is Add e place on size a b c r = (cells-at w p sids ok k n is Add e place on size 0 a Factor r.first refl, cells-at w p sids ok k n is Add e place on size 1 b Factor
-    r.second refl)
-operands-of w p sids ok k n is Sub e place on size a b c r = (cells-at w p sids ok k n is Sub e place on size 0 a Factor r.first refl, cells-at w p sids ok k n is Sub e place on size 1 b Factor
-    r.second refl)
-operands-of w p sids ok k n is Mul e place on size a b c r = (cells-at w p sids ok k n is Mul e place on size 0 a Factor r.first refl, cells-at w p sids ok k n is Mul e place on size 1 b Factor
-    r.second refl)
-operands-of w p sids ok k n is Div e place on size a b c r = (cells-at w p sids ok k n is Div e place on size 0 a Factor r.first refl, cells-at w p sids ok k n is Div e place on size 1 b Factor
-    r.second refl)
-operands-of w p sids ok k n is (Comparison t) e place on size a b c r = (cells-at w p sids ok k n is (Comparison t) e place on size 0 a Factor r.first refl, cells-at w p sids ok k n is
-    (Comparison t) e place on size 1 b Factor r.second refl)
-operands-of w p sids ok k n is FillNa e place on size a b c r = (cells-at w p sids ok k n is FillNa e place on size 0 a Factor r.first refl, cells-at w p sids ok k n is FillNa e place on size 1 b
-    Factor r.second refl)
+operands-of w p sids ok k n is Add e place on size a b c r = (
+  cells-at w p sids ok k n is Add e place on size 0 a Factor r.first refl,
+  cells-at w p sids ok k n is Add e place on size 1 b Factor
+      r.second refl,
+)
+operands-of w p sids ok k n is Sub e place on size a b c r = (
+  cells-at w p sids ok k n is Sub e place on size 0 a Factor r.first refl,
+  cells-at w p sids ok k n is Sub e place on size 1 b Factor
+      r.second refl,
+)
+operands-of w p sids ok k n is Mul e place on size a b c r = (
+  cells-at w p sids ok k n is Mul e place on size 0 a Factor r.first refl,
+  cells-at w p sids ok k n is Mul e place on size 1 b Factor
+      r.second refl,
+)
+operands-of w p sids ok k n is Div e place on size a b c r = (
+  cells-at w p sids ok k n is Div e place on size 0 a Factor r.first refl,
+  cells-at w p sids ok k n is Div e place on size 1 b Factor
+      r.second refl,
+)
+operands-of w p sids ok k n is (Comparison t) e place on size a b c r = (
+  cells-at w p sids ok k n is (Comparison t) e place on size 0 a Factor r.first refl,
+  cells-at w p sids ok k n is
+      (Comparison t) e place on size 1 b Factor r.second refl,
+)
+operands-of w p sids ok k n is FillNa e place on size a b c r = (
+  cells-at w p sids ok k n is FillNa e place on size 0 a Factor r.first refl,
+  cells-at w p sids ok k n is FillNa e place on size 1 b
+      Factor r.second refl,
+)
 operands-of w p sids ok k n is And e place on size a b c r = (flags-at w p sids ok k n is And e place on size 0 a r.first refl, flags-at w p sids ok k n is And e place on size 1 b r.second refl)
 operands-of w p sids ok k n is Or e place on size a b c r = (flags-at w p sids ok k n is Or e place on size 0 a r.first refl, flags-at w p sids ok k n is Or e place on size 1 b r.second refl)
-operands-of w p sids ok k n is IfElse e place on size a b c r =
-    (flags-at w p sids ok k n is IfElse e place on size 0 a r.first refl, cells-at w p sids ok k n is IfElse e place on size 1 b Factor r.second refl, cells-at w p sids ok k n is IfElse e place
-    on size 2 c Factor r.third refl)
+operands-of w p sids ok k n is IfElse e place on size a b c r = (
+  flags-at w p sids ok k n is IfElse e place on size 0 a r.first refl,
+  cells-at w p sids ok k n is IfElse e place on size 1 b Factor r.second refl,
+  cells-at w p sids ok k n is IfElse e place
+      on size 2 c Factor r.third refl,
+)
 operands-of w p sids ok k n is Not e place on size a b c r = flags-at w p sids ok k n is Not e place on size 0 a r.first refl
 operands-of w p sids ok k n is f e place on size a b c r = cells-at w p sids ok k n is f e place on size 0 a _ r.first refl
 

@@ -52,7 +52,7 @@ module _ (w : World) (p : Pipeline) (sids : List ℕ) (k : ℕ) (n : Node) (own 
       → IsGivenCell w p sids k n i s x
   label-given number name e named same cell = record {
     given = subst (IsGiven w p sids k n i s) (ap (λ m. label_code w.texts (label_at w m (sid_in sids i) (pos s))) (ap (λ o. unwrap_or o []) named) ∙ sym same)
-    (label-cell w p sids k n i s own number e).1;
+        (label-cell w p sids k n i s own number e).1;
     cell = cell;
   }
 

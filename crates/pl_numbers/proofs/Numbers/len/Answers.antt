@@ -1,4 +1,3 @@
-use Rattle.std.proofs.Common.{sym}
 use Rattle.pl_numbers.proofs.NumberTables.{are_numbers}
 use Rattle.pl_numbers.proofs.Numbers.len.Goals as goal
 

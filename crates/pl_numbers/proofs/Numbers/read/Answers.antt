@@ -1,4 +1,4 @@
-use Rattle.std.proofs.Common.{◌∙◌, ◌≡◌, ap, Ok}
+use Rattle.std.proofs.Common.{◌∙◌, ap, Ok}
 use Rattle.pl_records.specs.Reading.{◌>>=◌}
 use Rattle.pl_records.specs.Records.{csv_records}
 use Rattle.pl_numbers.specs.Numbers.{numbers_of, table_of}

@@ -1,9 +1,7 @@
 use Rattle.std.proofs.Common.{◌≡◌, ◌∙◌, ◌<◌, ◌^◌, not, ap, rules, FitsSigned, w32}
 use Rattle.std.proofs.lemmas.Int.{to_z-of_z}
 use Rattle.std.proofs.lemmas.Result.{IfOk-weaker}
-use Rattle.std.specs.List.{list_any}
-use Rattle.pl_numbers.specs.Numbers.{is_from}
-use Rattle.pl_numbers.specs.NumberPlaces.{key_next, key_of, shown_rows}
+use Rattle.pl_numbers.specs.NumberPlaces.{key_next}
 use Rattle.pl_numbers.proofs.NumberKeys.{is_known}
 use Rattle.pl_numbers.proofs.reading.is_new.Goals as goal
 

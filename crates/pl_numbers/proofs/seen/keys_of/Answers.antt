@@ -1,7 +1,7 @@
-use Rattle.std.proofs.Common.{◌<◌, ◌≤◌, ◌≡◌, get_or, length, take, pos, rules, arith}
+use Rattle.std.proofs.Common.{◌<◌, ◌≤◌, get_or, length, take, pos, rules}
 use Rattle.std.proofs.lemmas.List.{take_all, take_more}
 use Rattle.pl_numbers.specs.declared.rows.Place.{Place}
-use Rattle.pl_numbers.proofs.NumberKeys.{AreKeys-more, AreKeys-none}
+use Rattle.pl_numbers.proofs.NumberKeys.{AreKeys-more}
 use Rattle.pl_numbers.proofs.seen.keys_of.Goals as goal
 
 abbrev blank : Place

@@ -1,4 +1,4 @@
-use Rattle.std.proofs.Common.{◌∙◌, ◌-◌, ◌<◌, ◌≡◌, [], All, true, bytes_eq, get_or, length, pos, sym, arith}
+use Rattle.std.proofs.Common.{◌∙◌, ◌-◌, [], All, bytes_eq, length, pos, sym, arith}
 use Rattle.pl_spec.proofs.Places.{nowhere, past_all}
 use Rattle.pl_numbers.specs.NumberPlaces.{IsPlace}
 use Rattle.pl_numbers.specs.declared.rows.Place.{Place}
