@@ -30,9 +30,9 @@ _tohmeril() {
     esac
     if [[ $word == -* ]]; then
         case $command in
-            run) options="--labels --adjustments --revisions --chunk --format --stats --asof" ;;
-            daily) options="--labels --adjustments --revisions --format" ;;
-            explain | verify) options="--labels --adjustments --revisions" ;;
+            run) options="--labels --numbers --adjustments --revisions --chunk --format --stats --asof" ;;
+            daily) options="--labels --numbers --adjustments --revisions --format" ;;
+            explain | verify) options="--labels --numbers --adjustments --revisions" ;;
             bench) options="--chunk" ;;
         esac
         _tohmeril_offer < <(compgen -W "$options" -- "$word")
