@@ -21,8 +21,8 @@ pub record AreBarsHeld (q : WorldNames) (days : List ℤ) (assets : List AssetRo
   pub adjustments : AreRevised q days assets held changes
 
 -- and the numbers
-pub record AreNumbersHeld (q : WorldNames) (days : List ℤ) (assets : List AssetRow) (numbers : List ColumnNumber) (rows : List BarRow) (changes : List ColumnAdjustment) (held : Contents) : Type 0 where
-  pub numbers : numbers_asked assets q.numbers (held.file Numbers) ≡ numbers
+pub record AreNumbersHeld (q : WorldNames) (days : List ℤ) (assets : List AssetRow) (figures : List ColumnNumber) (rows : List BarRow) (changes : List ColumnAdjustment) (held : Contents) : Type 0 where
+  pub numbers : numbers_asked assets q.numbers (held.file Numbers) ≡ figures
   pub others : AreBarsHeld q days assets rows changes held
 
 -- the world of contents over these sessions

@@ -326,7 +326,7 @@ pipeline-one x = one-read (syntax_step x) (Input Pipeline) (rule (script_rule (s
 
 pub evaluated-one : (numbers : Option (List ℕ)) (x : Option (List ℕ)) → reads_in (evaluated_steps x numbers) ≡ Input Pipeline ∷ []
 evaluated-one numbers x =
-    one-read (syntax_step x) (Input Pipeline) (rule (script_rule (script_in x)) ∷ numbers_step (script_in x) numbers ∷ []) refl (refl, refl, tt)
+    one-read (syntax_step x) (Input Pipeline) (rule (script_rule (script_in x)) ∷ numbers_step (script_in x) numbers ∷ []) refl (refl, (refl, tt))
 
 pub labels-one : (assets : List AssetRow) (name x : Option (List ℕ)) → reads_in (labels_steps assets name x) ≡ inputs Labels name
 labels-one assets None x = refl

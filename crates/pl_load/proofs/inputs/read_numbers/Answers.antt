@@ -1,4 +1,4 @@
-use Rattle.std.proofs.Common.{refl, sym}
+use Rattle.std.proofs.Common.{◌≡◌, Some, refl, sym, ap}
 use Rattle.std.proofs.lemmas.Result.{err_from_is_err_and}
 use Rattle.pl_words.specs.declared.request.InputFile.TheVariants as files
 use Rattle.pl_judge.specs.Rules.{numbers_fault}
@@ -27,5 +27,6 @@ pub returns-in_ok-read-in-Some-clause-read : goal.returns-in_ok-read-in-Some-cla
 unfolding numbers_rule numbers_in
 returns-in_ok-read-in-Some-clause-read g c =
     let exact = rw c.deref.ensures.value at c.in_ok-read-in-Some.ensures.exact in
+    let held : numbers_in c.args.assets.now (Some c.in_ok-bytes-in-Some.bytes.items) ≡ c.in_ok-read-in-Some.field-0 = rw exact refl in
     rw c.in-Some.is
-    (read-passes files.Numbers (numbers_rule c.args.assets.now) _ c.in_ok-read-in-Some.field-0 c.in_ok-bytes-in-Some.ensures.read c.in_ok-bytes-in-Some.ensures.within (rw exact refl) (rw exact refl))
+    (read-passes files.Numbers (numbers_rule c.args.assets.now) _ c.in_ok-read-in-Some.field-0 c.in_ok-bytes-in-Some.ensures.read c.in_ok-bytes-in-Some.ensures.within (rw exact refl) (ap (λ t. t.rows) held))

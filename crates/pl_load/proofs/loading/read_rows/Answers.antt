@@ -52,7 +52,7 @@ returns-clause-rows g c = λ asked names.
     (file-read _ asked Numbers names.numbers (numbers-one _ _) c.in_ok-numbers.ensures.read)
     (part-done (after_numbers q days assets) (AreBarsHeld q days assets c.in_ok-bars.bars c.in_ok-adjustments.adjustments)
     (file-read _ asked Bars names.bars (file-one Bars _) c.in_ok-bars.ensures.read) (c.in_ok-adjustments.ensures.revised asked names) (is_file Bars) false (λ f r m. refl)
-    (λ f r m h. record { bars = m; adjustments = h })) (is_file Numbers) false (λ f r m. refl) (λ f r m h. record { numbers = m; others = h }))
+    (λ f r m h. record { bars = m; adjustments = h })) (is_file Numbers) false (λ f r m. refl) (λ f r m h. record { numbers = m; others = record { bars = h.bars; adjustments = h.adjustments } }))
     (is_file Labels) false (λ f r m. refl)
     (λ f r m h. record { labels = m; numbers = h.numbers; bars = h.others.bars; adjustments = h.others.adjustments })
 
