@@ -3,7 +3,10 @@ pub mod NumberKeys
 pub mod NumberFields
 pub mod NumbersRead
 pub mod NumberTables
+pub mod NumberOrder
+pub mod NumbersStated
 pub mod NumberCuts
+pub mod NumbersFound
 pub mod NumberSearch
 pub mod NumberNames
 pub mod NumbersSaid

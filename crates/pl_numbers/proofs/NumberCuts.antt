@@ -6,6 +6,7 @@ use Rattle.std.proofs.lemmas.List.Kept.{AllPairs-filter}
 use Rattle.std.proofs.lemmas.List.Sums.{length-filter, count_by-le-length}
 use Rattle.pl_spec.specs.AsOf.{column_numbers_by}
 use Rattle.pl_spec.specs.Parts.{ColumnNumber}
+use Rattle.pl_spec.specs.Dates.{IsDay}
 use Rattle.pl_spec.specs.Rounding.{IsCell}
 use Rattle.pl_spec.proofs.Lists.{filter-map}
 use Rattle.pl_numbers.specs.NumberPlaces.{IsPlace, IsTable, key_of, places_by, row_at, shown_rows}
@@ -21,6 +22,7 @@ no_table t names places =
       few = rw places (omega arith);
       few_names = rw names (omega arith);
       cells = rw places (λ k d l. absurd (omega arith));
+      days = rw places (λ k d l. absurd (omega arith));
     }
 
 module _ (day : ℤ) (t new : NumberRows) (names : new.names ≡ t.names) (places : new.places.items ≡ places_by day t.places.items) where
@@ -33,6 +35,7 @@ module _ (day : ℤ) (t new : NumberRows) (names : new.names ≡ t.names) (place
         few = rw places (let few = h.few in omega (arith, length-filter (λ (p : Place). int_le p.known day) t.places.items, count_by-le-length (λ (p : Place). int_le p.known day) t.places.items));
         few_names = rw names h.few_names;
         cells = rw places (All-filter (λ p. int_le p.known day) (λ p. IsCell p.value) t.places.items h.cells);
+        days = rw places (All-filter (λ p. int_le p.known day) (λ p. IsDay p.known) t.places.items h.days);
       }
 
   pub rows_cut : shown_rows new ≡ column_numbers_by day (shown_rows t)

@@ -4,12 +4,13 @@ use Rattle.std.proofs.lemmas.Bool.{and_parts}
 use Rattle.std.proofs.lemmas.Bool.Decides.{nat_tests}
 use Rattle.pl_records.specs.Reading.{Record, field}
 use Rattle.pl_records.proofs.RuleTables.{and_then_some, map_some}
-use Rattle.pl_spec.specs.Dates.{date_in}
+use Rattle.pl_spec.specs.Dates.{IsDay, date_in}
 use Rattle.pl_spec.specs.Decimals.{sid_in}
 use Rattle.pl_spec.specs.Names.{is_name}
 use Rattle.pl_spec.specs.Numbers.{NumberRow}
 use Rattle.pl_spec.specs.Rounding.{IsCell}
 use Rattle.pl_spec.proofs.DatesRead.{date_in-IsDate, IsDate-date_in}
+use Rattle.pl_spec.proofs.DatesWritten.{IsDay-IsDate}
 use Rattle.pl_spec.proofs.SidsRead.{sid_in-decimal, decimal-sid_in}
 use Rattle.pl_bars.specs.Bars.{cell_in}
 use Rattle.pl_bars.specs.Rules.{IsCellText}
@@ -67,3 +68,7 @@ number_cell r n e = here (IsNumberRecord-number_in r n e).value
     here : IsCellText (field r 3) n.value → IsCell n.value
     here (inl empty) = inl empty.1
     here (inr read) = inr read.2.1
+
+-- its day is one of the years 1900 to 2199
+pub number_day : (r : Record) (n : NumberRow) → number_in r ≡ Some n → IsDay n.known
+number_day r n e = IsDay-IsDate (field r 2) n.known (IsNumberRecord-number_in r n e).known

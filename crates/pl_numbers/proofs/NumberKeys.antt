@@ -3,7 +3,6 @@ use Rattle.std.proofs.Common.{◌≡◌, ℕ, ◌+◌, ◌<◌, ◌^◌, ◌==�
 use Rattle.std.specs.List.{list_any, position_or_len}
 use Rattle.std.specs.List.Sorted.{IsNonDecreasingBy}
 use Rattle.std.specs.HashSet.{HashSet, contains}
-use Rattle.std.specs.Option.{is_some}
 use Rattle.std.specs.Str.{bytes_eq}
 use Rattle.std.specs.Cmp.{both_ways}
 use Rattle.std.specs.Ordering.{int_eq}
@@ -25,7 +24,7 @@ use Rattle.pl_lifetimes.proofs.Filters.{any-same}
 use Rattle.std.proofs.lemmas.List.{get_or_default}
 use Rattle.pl_spec.specs.Parts.{ColumnNumber}
 use Rattle.pl_numbers.specs.Numbers.{is_from}
-use Rattle.pl_numbers.specs.NumberPlaces.{AreKeys, AreNumbered, AreSeen, IsPlace, Rise, key_of, row_at, shown_rows}
+use Rattle.pl_numbers.specs.NumberPlaces.{AreKeys, AreNumbered, IsPlace, Rise, key_of, row_at, shown_rows}
 use Rattle.pl_numbers.specs.declared.rows.Place.{Place}
 use Rattle.pl_numbers.specs.declared.rows.NumberRows.{NumberRows}
 use Rattle.pl_numbers.proofs.NumberRowsMade.{once_named}
@@ -137,13 +136,6 @@ rise_sorted places own up = sorted-is key_of places places own (IsPermutation-re
       | inl lt ↦ (let it = up i j d lt l in omega (arith, it))
       | inr ge ↦ (let same : i ≡ j = omega arith in let e : key_of (get_or places i d) ≡ key_of (get_or places j d) = ap (λ k. key_of (get_or places k d)) same in omega (arith, e))
     ]
-
--- ---- what a reader has seen
-
-pub rise_none : {S : Type 0} (keys : Option (HashSet ℕ S)) (places : List Place) (b : Bool) → AreSeen keys places → is_some keys ≡ not b → b ≡ true → Rise places
-rise_none None places b h e t = h
-rise_none (Some keys) places true h e t = absurd (true≢false e)
-rise_none (Some keys) places false h e t = absurd (true≢false (sym t))
 
 -- a place that has a text has that text's place
 pub number_there : (names : List (List ℕ)) (name : List ℕ) (i : ℕ) → Once names → i < length names → bytes_eq (get_or names i []) name ≡ true → i ≡ position_or_len (bytes_eq name) names

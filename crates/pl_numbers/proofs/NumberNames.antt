@@ -7,7 +7,7 @@ use Rattle.pl_spec.specs.Numbers.{is_number_of, last_known}
 use Rattle.pl_spec.specs.Parts.{ColumnNumber}
 use Rattle.pl_spec.proofs.Members.{In, in-contains}
 use Rattle.pl_spec.proofs.Places.{nowhere}
-use Rattle.pl_numbers.specs.Numbers.{by_column, number_on}
+use Rattle.pl_numbers.specs.Numbers.{by_column, known_on, number_on}
 
 -- the name of a number
 pub name-behind : (name : List ℕ) (names : List (List ℕ)) (n : ℕ) → position (bytes_eq name) names ≡ Some n → slice_index_or names n [] ≡ name
@@ -38,3 +38,8 @@ pub no-name : (name : List ℕ) (names : List (List ℕ)) (rows : List ColumnNum
 unfolding number_on
 no-name name names rows named e col day =
     sym (ap (λ l. unwrap_or (option_map (λ r. r.value) (last_known l)) MISSING) (unnamed name col day rows (other-name name names rows named e)))
+
+pub no-known : (name : List ℕ) (names : List (List ℕ)) (rows : List ColumnNumber) → All (λ r. Contains names r.name) rows → position (bytes_eq name) names ≡ None
+    → (col : ℕ) (day : ℤ) → None ≡ known_on rows name col day
+unfolding known_on
+no-known name names rows named e col day = sym (ap (λ l. option_map (λ r. r.known) (last_known l)) (unnamed name col day rows (other-name name names rows named e)))

@@ -1,5 +1,5 @@
 -- The number of a column on a day, found by keys.
-use Rattle.std.proofs.Common.{◌≡◌, ℕ, ◌-◌, ◌<◌, ◌≤◌, ◌^◌, ◌==◌, nat_le, true, false, ℤ, pos, negsuc, ◌≤ℤ◌, ◌<ℤ◌, List, [], length, map, get_or, Some, slice_get, neg_ℤ, FitsSigned, w32, refl, sym, ap, ◌∙◌, arith, inl, inr}
+use Rattle.std.proofs.Common.{◌≡◌, ℕ, ◌-◌, ◌<◌, ◌≤◌, ◌^◌, ◌==◌, nat_le, true, false, ℤ, pos, negsuc, ◌≤ℤ◌, ◌<ℤ◌, List, [], length, map, get_or, Option, Some, None, option_map, unwrap_or, slice_get, neg_ℤ, FitsSigned, w32, refl, sym, ap, ◌∙◌, arith, inl, inr}
 use Rattle.std.specs.Prelude.{Contains}
 use Rattle.std.specs.List.Sorted.{IsPartitionedBy}
 use Rattle.std.specs.Int.RustNames.{int_le}
@@ -11,7 +11,6 @@ use Rattle.pl_calendar.specs.Days.{AreDays}
 use Rattle.pl_spec.specs.Dates.{IsDay}
 use Rattle.pl_spec.specs.Numbers.{NumberRow, NumbersOnce, is_number_of}
 use Rattle.pl_spec.specs.Rounding.{MISSING}
-use Rattle.pl_spec.proofs.Numbers.{numbers_are_found}
 use Rattle.pl_spec.proofs.Places.{rising_at}
 use Rattle.pl_assets.specs.LabelPlaces.{key}
 use Rattle.pl_assets.proofs.FirstSeen.{one_place, same_text, equal_text}
@@ -19,10 +18,11 @@ use Rattle.pl_assets.proofs.LabelOrder.{keys_back, keys_between, keys_rise}
 use Rattle.pl_assets.proofs.LabelSearch.{contains_mapped, mapped_contains}
 use Rattle.std.proofs.lemmas.List.{get_or_default}
 use Rattle.pl_spec.specs.Parts.{ColumnNumber}
-use Rattle.pl_numbers.specs.Numbers.{by_column, number_on}
-use Rattle.pl_numbers.specs.NumberPlaces.{AllLow, IsPlace, IsTable, KeyPoint, Rise, key_of, row_at, shown_rows}
+use Rattle.pl_numbers.specs.Numbers.{by_column, known_on, number_on}
+use Rattle.pl_numbers.specs.NumberPlaces.{AllLow, IsNewest, IsPlace, IsTable, KeyPoint, Rise, key_of, row_at, shown_rows}
 use Rattle.pl_numbers.specs.declared.rows.Place.{Place}
 use Rattle.pl_numbers.specs.declared.rows.NumberRows.{NumberRows}
+use Rattle.pl_numbers.proofs.NumbersFound.{last_found, last_none}
 
 blank : Place
 blank = record { name = 0; col = 0; known = pos 0; value = pos 0 }
@@ -135,11 +135,10 @@ module _ (t : NumberRows) (table : IsTable t) where
         rw (n, c) le
 
     -- none was known
-    pub no_number : ((q : Place) → Contains t.places.items q → WasKnown q → ⊥) → number_on (shown_rows t) (get_or t.names number []) col day ≡ MISSING
-    unfolding number_on
-    no_number none =
-        numbers_are_found.none (map by_column (shown_rows t)) (get_or t.names number []) col day
-        (λ q in_rows e. let it = from_place q in_rows in none it.0 it.1 (row_is it.0 it.1 (ap (is_number_of (get_or t.names number []) col day) it.2 ∙ e)))
+    pub no_newest : ((q : Place) → Contains t.places.items q → WasKnown q → ⊥) → IsNewest t number col day None
+    no_newest none =
+        sym (last_none (map by_column (shown_rows t)) (get_or t.names number []) col day
+        (λ q in_rows e. let it = from_place q in_rows in none it.0 it.1 (row_is it.0 it.1 (ap (is_number_of (get_or t.names number []) col day) it.2 ∙ e))))
 
     module _ (n : ℕ) (within : n ≤ length t.places.items) (point : KeyPoint t.places.items (key number col day) n) where
       -- its place is below the point
@@ -186,10 +185,10 @@ module _ (t : NumberRows) (table : IsTable t) where
             let same = keys_between number col q.known p.name p.col p.known day small (let c : p.col < 2 ^ 32 = of_p.col in omega arith) of_q.day of_p.day fits first p_low in
             other same.0 same.1
 
-        pub number_found : p.name ≡ number → p.col ≡ col → number_on (shown_rows t) (get_or t.names number []) col day ≡ p.value
-        unfolding number_on seen_row
-        number_found a b =
-            numbers_are_found.found (map by_column (shown_rows t)) rows_once (get_or t.names number []) col day (seen_row p) (there p here) (is_row p was_known) latest
+        pub newest_found : p.name ≡ number → p.col ≡ col → IsNewest t number col day (Some p)
+        unfolding seen_row
+        newest_found a b =
+            sym (last_found (map by_column (shown_rows t)) (get_or t.names number []) col day rows_once (seen_row p) (there p here) (is_row p was_known) latest)
           where
             own_key : key number col p.known ≤ key number col day
             own_key = (let le : key_of p ≤ key number col day = p_low in rw (a, b) at le)
@@ -207,6 +206,20 @@ module _ (t : NumberRows) (table : IsTable t) where
                 let between : key number col it.0.known ≤ key number col p.known = (rw (c, d, a, b) at le) in
                 let back : it.0.known ≤ℤ p.known = keys_back number col it.0.known p.known (is_place it.0 it.1).day (is_place p here).day between in
                 rw (ap (λ (x : NumberRow). x.known) it.2) at back
+
+-- ---- what is asked of the row that was known last
+
+pub newest_value : (t : NumberRows) (number col : ℕ) (day : ℤ) (place : Option Place) → IsNewest t number col day place
+    → unwrap_or (option_map (λ p. p.value) place) MISSING ≡ number_on (shown_rows t) (get_or t.names number []) col day
+unfolding number_on
+newest_value t number col day None e = ap (λ o. unwrap_or (option_map (λ (r : NumberRow). r.value) o) MISSING) e
+newest_value t number col day (Some p) e = ap (λ o. unwrap_or (option_map (λ (r : NumberRow). r.value) o) MISSING) e
+
+pub newest_known : (t : NumberRows) (number col : ℕ) (day : ℤ) (place : Option Place) → IsNewest t number col day place
+    → option_map (λ p. p.known) place ≡ known_on (shown_rows t) (get_or t.names number []) col day
+unfolding known_on
+newest_known t number col day None e = ap (λ o. option_map (λ (r : NumberRow). r.known) o) e
+newest_known t number col day (Some p) e = ap (λ o. option_map (λ (r : NumberRow). r.known) o) e
 
 -- ---- going on from a place
 

@@ -9,6 +9,7 @@ use Rattle.std.proofs.lemmas.List.Sorted.{All-permutation, IsPermutation-map}
 use Rattle.pl_records.specs.Sorted.{HasOwnKeys, insert_by, sorted_by}
 use Rattle.pl_records.proofs.Sorts.{sorted-rises, sorted-permutes, length-sorted_by}
 use Rattle.pl_spec.proofs.Counts.{count-cons}
+use Rattle.pl_spec.specs.Dates.{IsDay}
 use Rattle.pl_spec.specs.Rounding.{IsCell}
 use Rattle.pl_spec.specs.declared.AssetRow.{AssetRow}
 use Rattle.pl_assets.specs.LabelPlaces.{key}
@@ -41,7 +42,7 @@ none_counted p (x ∷ xs) none = count-cons p x xs ∙ here (p x) (count_by p xs
     here true n e f = absurd (true≢false e)
     here false n e f = omega (arith, f)
 
-counted : (places : List Place) → AllPairs (λ p q. key_of p ≢ key_of q) places → (k : ℕ) → count_by (λ p. key_of p == k) places ≤ 1
+pub counted : (places : List Place) → AllPairs (λ p q. key_of p ≢ key_of q) places → (k : ℕ) → count_by (λ p. key_of p == k) places ≤ 1
 counted [] differ k = omega arith
 counted (p ∷ ps) differ k = rw (count-cons (λ p. key_of p == k) p ps) (here (key_of p == k) refl (counted ps (λ i j d h l. differ (suc i) (suc j) d (omega arith) (omega arith)) k))
   where
@@ -125,6 +126,7 @@ module _ (t new : NumberRows) (numbered : AreNumbered t) (names : new.names ≡ 
         few = rw places (omega (arith, length-sorted_by key_of t.places.items, read.few, length-map t.places.items (row_at t.names)));
         few_names = rw names (omega (arith, few_names t numbered, read.few, length-map t.places.items (row_at t.names)));
         cells = All-permutation (λ (p : Place). IsCell p.value) t.places.items new.places.items moved cells;
+        days = All-permutation (λ (p : Place). IsDay p.known) t.places.items new.places.items moved days;
       }
     where
       cells : All (λ (p : Place). IsCell p.value) t.places.items
@@ -132,12 +134,17 @@ module _ (t new : NumberRows) (numbered : AreNumbered t) (names : new.names ≡ 
           let it = read.cells k (row_at t.names d) (omega (arith, length-map t.places.items (row_at t.names))) in
           subst (λ (r : ColumnNumber). IsCell r.value) (get_or-map (row_at t.names) t.places.items k d (row_at t.names d) l) it
 
+      days : All (λ (p : Place). IsDay p.known) t.places.items
+      days k d l =
+          let it = read.days k (row_at t.names d) (omega (arith, length-map t.places.items (row_at t.names))) in
+          subst (λ (r : ColumnNumber). IsDay r.known) (get_or-map (row_at t.names) t.places.items k d (row_at t.names d) l) it
+
   pub cols_kept : (assets : List AssetRow) → AreRead assets (shown_rows t) → All (λ r. r.col < length assets) (shown_rows new)
   cols_kept assets read = All-permutation (λ (r : ColumnNumber). r.col < length assets) (shown_rows t) (shown_rows new) rows_moved read.cols
 
 -- ---- what a table holds
 
-blank : Place
+pub blank : Place
 blank = record { name = 0; col = 0; known = pos 0; value = pos 0 }
 
 pub are_numbers : (t : NumberRows) → IsTable t → AreNumbers (table_in t)

@@ -9,10 +9,10 @@ use Rattle.pl_records.specs.Reading.{Record, Fault, ◌>>=◌}
 use Rattle.pl_records.proofs.Orders.{Fits, under-permuted}
 use Rattle.pl_records.proofs.Sorts.{sorted-permutes}
 use Rattle.pl_spec.specs.Parts.{ColumnNumber}
-use Rattle.pl_numbers.specs.Numbers.{Rule, NumberTable, table_of, is_from, key_in, names_of, says_number, number_rows_in, numbers_of, header}
+use Rattle.pl_numbers.specs.Numbers.{Rule, NumberTable, table_of, is_from, key_in, names_of, number_or_rule, number_rows_in, numbers_of, header}
 use Rattle.pl_numbers.specs.Numbers as rules
 use Rattle.pl_numbers.proofs.NumberKeys.{from_parts, parts_from}
-use Rattle.pl_numbers.proofs.NumbersRead.{Says, says_number-ok}
+use Rattle.pl_numbers.proofs.NumbersRead.{Says, number_or_rule-ok}
 
 abbrev clash : ColumnNumber → ColumnNumber → Bool
 clash r x = is_from r.name r.col r.known x
@@ -34,8 +34,8 @@ module _ (assets : List AssetRow) where
   abbrev IsOne : Record → ColumnNumber → Type 0
   IsOne r row = Says assets [] r row
 
-  tells : (before : List ColumnNumber) (r : Record) (row : ColumnNumber) → (says_number assets before r ≡ Ok row) ↔ Fits most_numbers IsOne clash before r row
-  unfolding says_number
+  tells : (before : List ColumnNumber) (r : Record) (row : ColumnNumber) → (number_or_rule assets before r ≡ Ok row) ↔ Fits most_numbers IsOne clash before r row
+  unfolding number_or_rule
   tells before r row = (there, back)
     where
       room : (n : ℕ) → nat_le most_numbers n ≡ false → n < most_numbers
@@ -44,16 +44,16 @@ module _ (assets : List AssetRow) where
       some : (n : ℕ) → n < most_numbers → nat_le most_numbers n ≡ false
       some n h = grind (arith, nat_tests)
 
-      there : says_number assets before r ≡ Ok row → Fits most_numbers IsOne clash before r row
+      there : number_or_rule assets before r ≡ Ok row → Fits most_numbers IsOne clash before r row
       there e =
-          let says = says_number-ok assets before r row e in
+          let says = number_or_rule-ok assets before r row e in
           record {
             few = room (length before) says.few;
             is = record { few = refl; number = says.number; written = says.written; col = says.col; own = refl; same = says.same };
             own = ap (λ (x : ColumnNumber). list_any (is_from x.name row.col x.known) before) (sym says.same) ∙ says.own;
           }
 
-      back : Fits most_numbers IsOne clash before r row → says_number assets before r ≡ Ok row
+      back : Fits most_numbers IsOne clash before r row → number_or_rule assets before r ≡ Ok row
       back h =
           let is = h.is in
           let own : list_any (is_from is.number.name row.col is.number.known) before ≡ false = ap (λ (x : ColumnNumber). list_any (is_from x.name row.col x.known) before) is.same ∙ h.own in
@@ -62,7 +62,7 @@ module _ (assets : List AssetRow) where
   rows-moved : (first : Record) (records others : List Record) → IsPermutation records others → (rows : List ColumnNumber) → number_rows_in assets (first ∷ records) ≡ Ok rows
       → (found : List ColumnNumber) × (number_rows_in assets (first ∷ others) ≡ Ok found) × IsPermutation rows found
   unfolding number_rows_in
-  rows-moved first records others m rows e = under-permuted (says_number assets) most_numbers IsOne clash flips tells header rules.BadHeader first records others m rows e
+  rows-moved first records others m rows e = under-permuted (number_or_rule assets) most_numbers IsOne clash flips tells header rules.BadHeader first records others m rows e
 
   pub numbers-moved : (first : Record) (records others : List Record) → IsPermutation records others → (table : NumberTable) → numbers_of assets (first ∷ records) ≡ Ok table
       → (other : NumberTable) × (numbers_of assets (first ∷ others) ≡ Ok other) × IsPermutation table.rows other.rows

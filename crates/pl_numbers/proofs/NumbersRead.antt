@@ -7,6 +7,7 @@ use Rattle.std.proofs.lemmas.List.Quantifiers.{position-Some, all_pairs_push}
 use Rattle.std.proofs.lemmas.List.Elements.{All-append}
 use Rattle.std.proofs.lemmas.List.Folds.{list_any_at}
 use Rattle.pl_records.specs.Reading.{Record}
+use Rattle.pl_spec.specs.Dates.{IsDay}
 use Rattle.pl_spec.specs.Limits.{most_numbers}
 use Rattle.pl_spec.specs.Numbers.{NumberRow}
 use Rattle.pl_spec.specs.Rounding.{IsCell}
@@ -15,9 +16,9 @@ use Rattle.pl_records.proofs.Readings.{rows-keep, under_ok}
 use Rattle.pl_records.proofs.RuleTables.{and_then_some, map_some, told_ok, ok_or-Ok}
 use Rattle.pl_lifetimes.specs.Assets.{sid_of}
 use Rattle.pl_spec.specs.Parts.{ColumnNumber}
-use Rattle.pl_numbers.specs.Numbers.{breaks, col_in, in_column, row_of, header, number_in, is_from, says_number, number_rows_in}
+use Rattle.pl_numbers.specs.Numbers.{breaks, col_in, in_column, row_of, header, number_in, is_from, number_or_rule, number_rows_in}
 use Rattle.pl_numbers.specs.Numbers as rules
-use Rattle.pl_numbers.proofs.NumberFields.{number_cell}
+use Rattle.pl_numbers.proofs.NumberFields.{number_cell, number_day}
 use Rattle.pl_numbers.proofs.NumberKeys.{from_parts, parts_from}
 
 -- ---- what the tests were where a record says its row
@@ -30,9 +31,9 @@ pub record Says (assets : List AssetRow) (before : List ColumnNumber) (r : Recor
   pub own : list_any (is_from number.name row.col number.known) before ≡ false
   pub same : in_column number row.col ≡ row
 
-pub says_number-ok : (assets : List AssetRow) (before : List ColumnNumber) (r : Record) (row : ColumnNumber) → says_number assets before r ≡ Ok row → Says assets before r row
-unfolding says_number
-says_number-ok assets before r row e =
+pub number_or_rule-ok : (assets : List AssetRow) (before : List ColumnNumber) (r : Record) (row : ColumnNumber) → number_or_rule assets before r ≡ Ok row → Says assets before r row
+unfolding number_or_rule
+number_or_rule-ok assets before r row e =
     let k = told_ok rules.rules (breaks assets before r) (ok_or (row_of assets r) rules.BadField) row e in
     let at : row_of assets r ≡ Some row = ok_or-Ok (row_of assets r) rules.BadField row k.1 in
     let n = and_then_some (number_in r) (λ n. option_map (in_column n) (col_in assets n)) row at in
@@ -55,6 +56,7 @@ pub record AreRead (assets : List AssetRow) (rows : List ColumnNumber) : Type 0 
   pub once : AllPairs (λ r q. is_from r.name r.col r.known q ≡ false) rows
   pub few : length rows ≤ most_numbers
   pub cells : All (λ r. IsCell r.value) rows
+  pub days : All (λ r. IsDay r.known) rows
   pub cols : All (λ r. r.col < length assets) rows
 
 one_row : (P : ColumnNumber → Type 0) (r : ColumnNumber) → P r → All P (r ∷ [])
@@ -77,9 +79,9 @@ others-before rows r e k d h = here (is_from (get_or rows k d).name (get_or rows
         let there : list_any (is_from r.name r.col r.known) rows ≡ true = list_any_at (is_from r.name r.col r.known) rows k d h back in
         absurd (let bad : true ≡ false = sym there ∙ e in cc)
 
-read-more : (assets : List AssetRow) (before : List ColumnNumber) (r : Record) (row : ColumnNumber) → AreRead assets before → says_number assets before r ≡ Ok row → AreRead assets (before ++ row ∷ [])
+read-more : (assets : List AssetRow) (before : List ColumnNumber) (r : Record) (row : ColumnNumber) → AreRead assets before → number_or_rule assets before r ≡ Ok row → AreRead assets (before ++ row ∷ [])
 read-more assets before r row h s =
-    let ok = says_number-ok assets before r row s in
+    let ok = number_or_rule-ok assets before r row s in
     let at = position-Some (λ a. sid_of a == ok.number.sid) assets row.col blank ok.col in
     let room : length before < most_numbers = room_left (length before) ok.few in
     let own : list_any (is_from row.name row.col row.known) before ≡ false = ap (λ (x : ColumnNumber). list_any (is_from x.name row.col x.known) before) (sym ok.same) ∙ ok.own in
@@ -88,6 +90,8 @@ read-more assets before r row h s =
       few = omega (arith, length-append before (row ∷ []));
       cells = All-append (λ (x : ColumnNumber). IsCell x.value) before (row ∷ []) h.cells (one_row (λ x. IsCell x.value) row
           (subst (λ (x : ColumnNumber). IsCell x.value) ok.same (number_cell r ok.number ok.written)));
+      days = All-append (λ (x : ColumnNumber). IsDay x.known) before (row ∷ []) h.days (one_row (λ x. IsDay x.known) row
+          (subst (λ (x : ColumnNumber). IsDay x.known) ok.same (number_day r ok.number ok.written)));
       cols = All-append (λ (x : ColumnNumber). x.col < length assets) before (row ∷ []) h.cols (one_row (λ x. x.col < length assets) row at.0);
     }
   where
@@ -95,9 +99,9 @@ read-more assets before r row h s =
     room_left n t = grind (arith, nat_tests)
 
 read-none : (assets : List AssetRow) → AreRead assets []
-read-none assets = record { once = λ i j d h l. absurd (omega arith); few = omega arith; cells = λ k d h. absurd (omega arith); cols = λ k d h. absurd (omega arith) }
+read-none assets = record { once = λ i j d h l. absurd (omega arith); few = omega arith; cells = λ k d h. absurd (omega arith); days = λ k d h. absurd (omega arith); cols = λ k d h. absurd (omega arith) }
 
 pub AreRead-read : (assets : List AssetRow) (records : List Record) (rows : List ColumnNumber) → number_rows_in assets records ≡ Ok rows → AreRead assets rows
 unfolding number_rows_in
 AreRead-read assets records rows e =
-    rows-keep (AreRead assets) 2 (says_number assets) (read-more assets) _ [] rows (read-none assets) (under_ok header rules.BadHeader (says_number assets) records rows e).1
+    rows-keep (AreRead assets) 2 (number_or_rule assets) (read-more assets) _ [] rows (read-none assets) (under_ok header rules.BadHeader (number_or_rule assets) records rows e).1

@@ -14,7 +14,7 @@ use Rattle.pl_records.proofs.RuleTables.{and_then_some, map_some, lacks-tells, h
 use Rattle.pl_lifetimes.specs.Assets.{AreAssets, HasSid}
 use Rattle.pl_lifetimes.proofs.SidColumns.{sid_form}
 use Rattle.pl_spec.specs.Parts.{ColumnNumber}
-use Rattle.pl_numbers.specs.Numbers.{Rule, NumberTable, breaks, col_in, in_column, row_of, header, key_in, names_of, number_in, is_from, says_number, number_rows_in, numbers_of, table_of}
+use Rattle.pl_numbers.specs.Numbers.{Rule, NumberTable, breaks, col_in, in_column, row_of, header, key_in, names_of, number_in, is_from, number_or_rule, number_rows_in, numbers_of, table_of}
 use Rattle.pl_numbers.specs.Numbers as rules
 use Rattle.pl_numbers.specs.NumberRules.{IsNumberRecord, IsRowRecord, CountWith, IsNumber, Breaks, AreNumbersOf, IsNumbersFault}
 use Rattle.pl_numbers.proofs.NumberFields.{number_form}
@@ -68,8 +68,8 @@ tells assets up before r rules.UnknownSid =
     has-tells number_in IsNumberRecord number_form _ _ (lacks-tells (col_in assets) (λ n col. HasSid assets col n.sid) (col_form assets up)) r
 tells assets up before r rules.Duplicate = has-tells (row_of assets) (IsRowRecord assets) (row_form assets up) _ _ (day_tells before) r
 
-pub numbers_judged : (assets : List AssetRow) → AreAssets assets → Judges (IsNumber assets) (Told assets) (says_number assets)
-unfolding says_number
+pub numbers_judged : (assets : List AssetRow) → AreAssets assets → Judges (IsNumber assets) (Told assets) (number_or_rule assets)
+unfolding number_or_rule
 numbers_judged assets up = Judges-table (row_of assets) (IsRowRecord assets) (row_form assets up) rules.rules rules.BadField (breaks assets) (Breaks assets) (tells assets up) some
   where
     some : (before : List ColumnNumber) (r : Record) → KeepsAll rules.rules (Breaks assets before r) → ((row : ColumnNumber) → ¬ IsRowRecord assets r row) → ⊥
@@ -83,7 +83,7 @@ unfolding numbers_of number_rows_in
 numbers-are assets up records table = (forth (number_rows_in assets records) refl, back)
   where
     under : (rows : List ColumnNumber) → (number_rows_in assets records ≡ Ok rows) ↔ AreRowsUnder header (IsNumber assets) records rows
-    under rows = under-are header rules.BadHeader (IsNumber assets) (Told assets) (says_number assets) (numbers_judged assets up) records rows
+    under rows = under-are header rules.BadHeader (IsNumber assets) (Told assets) (number_or_rule assets) (numbers_judged assets up) records rows
 
     forth : (x : Result (List ColumnNumber) (Fault Rule)) → number_rows_in assets records ≡ x → (x >>= λ rows. Ok (table_of rows)) ≡ Ok table → AreNumbersOf assets records table
     forth (Ok rows) was e =
@@ -104,7 +104,7 @@ unfolding numbers_of number_rows_in
 numbers-fault assets up records fault = (λ e. under.0 (forth (number_rows_in assets records) refl e), λ h. back (under.1 h))
   where
     under : (number_rows_in assets records ≡ Err fault) ↔ IsNumbersFault assets records fault
-    under = under-fault header rules.BadHeader (IsNumber assets) (Told assets) (says_number assets) (numbers_judged assets up) records fault
+    under = under-fault header rules.BadHeader (IsNumber assets) (Told assets) (number_or_rule assets) (numbers_judged assets up) records fault
 
     forth : (x : Result (List ColumnNumber) (Fault Rule)) → number_rows_in assets records ≡ x → (x >>= λ rows. Ok (table_of rows)) ≡ Err fault → number_rows_in assets records ≡ Err fault
     forth (Ok rows) was e = absurd (let bad : Ok (table_of rows) ≡ Err fault = e in cc)

@@ -1,17 +1,20 @@
 -- Rows of numbers as they are kept: numbers for their names, by which they stand.
-use Rattle.std.specs.Prelude.{◌≡◌, ℕ, ◌^◌, ◌==◌, ◌<◌, ◌≤◌, nat_eq, nat_le, true, false, ℤ, List, [], length, map, filter, slice_index_or, bytes_eq, All, AllPairs, Option, Some, None, FitsSigned}
+use Rattle.std.specs.Prelude.{◌≡◌, ℕ, ◌^◌, ◌==◌, ◌<◌, ◌≤◌, nat_eq, nat_le, true, false, ℤ, List, [], length, map, filter, slice_index_or, bytes_eq, All, AllPairs, Option, Some, None, option_map, Result, Ok, FitsSigned}
 use Rattle.std.specs.Int.{w32}
 use Rattle.std.specs.Int.RustNames.{int_le}
 use Rattle.std.specs.List.{list_any}
+use Rattle.std.specs.Option.{ok_or}
 use Rattle.std.specs.List.Sorted.{IsPartitionPoint}
 use Rattle.std.specs.HashSet.{HashSet, contains}
 use Rattle.pl_spec.specs.Limits.{most_numbers}
-use Rattle.pl_spec.specs.Numbers.{NumberRow}
+use Rattle.pl_spec.specs.Dates.{IsDay}
+use Rattle.pl_spec.specs.Numbers.{NumberRow, is_number_of, last_known}
 use Rattle.pl_spec.specs.Rounding.{IsCell}
 use Rattle.pl_records.specs.Reading.{Record, field}
 use Rattle.pl_assets.specs.LabelPlaces.{key}
 use Rattle.pl_spec.specs.Parts.{ColumnNumber}
-use Rattle.pl_numbers.specs.Numbers.{NumberTable, names_of}
+use Rattle.pl_spec.specs.declared.AssetRow.{AssetRow}
+use Rattle.pl_numbers.specs.Numbers.{NumberTable, Rule, BadField, by_column, names_of, numbers_of, row_of}
 use Rattle.pl_numbers.specs.declared.rows.Place.{Place}
 use Rattle.pl_numbers.specs.declared.rows.NumberRows.{NumberRows}
 use Rattle.pl_numbers.specs.declared.reading.Fields.{Fields}
@@ -84,6 +87,10 @@ row_from r n = record { name = field r 0; col = n.col; known = n.known; value = 
 abbrev pub key_next : NextNumber → ℕ
 key_next n = key n.name n.col n.known
 
+-- the row of a record, whatever rows stand before it
+abbrev pub states : List AssetRow → List ColumnNumber → Record → Result ColumnNumber Rule
+states assets before r = ok_or (row_of assets r) BadField
+
 -- ---- the table
 
 pub record IsTable (t : NumberRows) : Type 0 where
@@ -93,3 +100,18 @@ pub record IsTable (t : NumberRows) : Type 0 where
   pub few : length t.places.items ≤ most_numbers
   pub few_names : length t.names ≤ most_numbers
   pub cells : All (λ p. IsCell p.value) t.places.items
+  pub days : All (λ p. IsDay p.known) t.places.items
+
+-- the row of the table that was known last in the column by the day
+abbrev pub newest_in : NumberRows → ℕ → ℕ → ℤ → Option NumberRow
+newest_in t name col day = last_known (filter (is_number_of (slice_index_or t.names name []) col day) (map by_column (shown_rows t)))
+
+-- it is this one
+abbrev pub IsNewest : NumberRows → ℕ → ℕ → ℤ → Option Place → Type 0
+IsNewest t name col day place = option_map (λ p. by_column (row_at t.names p)) place ≡ newest_in t name col day
+
+-- it is the table of the records, in columns of assets
+pub record IsTableOf (assets : List AssetRow) (records : List Record) (t : NumberRows) : Type 0 where
+  pub table : IsTable t
+  pub exact : numbers_of assets records ≡ Ok (table_in t)
+  pub cols : All (λ r. r.col < length assets) (shown_rows t)

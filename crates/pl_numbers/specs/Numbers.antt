@@ -11,7 +11,7 @@ use Rattle.pl_spec.specs.Dates.{date_in}
 use Rattle.pl_spec.specs.Decimals.{sid_in}
 use Rattle.pl_spec.specs.Limits.{most_numbers}
 use Rattle.pl_spec.specs.Names.{is_name}
-use Rattle.pl_spec.specs.Numbers.{NumberRow, number_at}
+use Rattle.pl_spec.specs.Numbers.{NumberRow, number_at, known_at}
 use Rattle.pl_spec.specs.Parts.{ColumnNumber}
 use Rattle.pl_spec.specs.Rounding.{IsCell}
 use Rattle.pl_spec.specs.declared.AssetRow.{AssetRow}
@@ -47,6 +47,10 @@ by_column r = record { name = r.name; sid = r.col; known = r.known; value = r.va
 -- none
 unfoldable pub number_on : List ColumnNumber → List ℕ → ℕ → ℤ → ℤ
 number_on rows name col day = number_at (map by_column rows) name col day
+
+-- the day from which that number was known, where there is such a row
+unfoldable pub known_on : List ColumnNumber → List ℕ → ℕ → ℤ → Option ℤ
+known_on rows name col day = known_at (map by_column rows) name col day
 
 -- ---- the records of a file
 
@@ -93,12 +97,12 @@ breaks assets before r UnknownSid = has (λ n. lacks (col_in assets n)) (number_
 breaks assets before r Duplicate = has (λ row. list_any (is_from row.name row.col row.known) before) (row_of assets r)
 
 -- the row of a record after the rows before it, or the first rule that it breaks
-unfoldable pub says_number : List AssetRow → List ColumnNumber → Record → Result ColumnNumber Rule
-says_number assets before r = first_broken rules (breaks assets before r) (ok_or (row_of assets r) BadField)
+unfoldable pub number_or_rule : List AssetRow → List ColumnNumber → Record → Result ColumnNumber Rule
+number_or_rule assets before r = first_broken rules (breaks assets before r) (ok_or (row_of assets r) BadField)
 
 -- the rows of a file in its order, or its first fault
 unfoldable pub number_rows_in : List AssetRow → List Record → Result (List ColumnNumber) (Fault Rule)
-number_rows_in assets records = rows_under header BadHeader (says_number assets) records
+number_rows_in assets records = rows_under header BadHeader (number_or_rule assets) records
 
 -- the same by name, column and day, with their names
 unfoldable pub numbers_of : List AssetRow → List Record → Result NumberTable (Fault Rule)

@@ -9,7 +9,7 @@ ghost use Rattle.pl_records.specs.RuleTable.{IsFirstBroken};
 ghost use Rattle.pl_lifetimes.specs.Assets.{AreAssets};
 ghost use Rattle.pl_numbers.specs.Numbers as numbers;
 ghost use Rattle.pl_numbers.specs.NumberRules as number_rules;
-ghost use Rattle.pl_numbers.specs.NumberLaws.{NumbersAreThose};
+ghost use Rattle.pl_numbers.specs.NumberLaws.{KnownAreThose, NumbersAreThose};
 
 /// A file is read as numbers exactly where it has its header and each further record is a number of
 /// an asset, the only one of its name, asset and day; they stand by name, column and day. It has a
@@ -19,7 +19,7 @@ pub fn numbers_in_plain_words()
     ensures record { (assets : List AssetRow) → AreAssets assets
         → Judges (number_rules.IsNumber assets)
         (λ before r. IsFirstBroken numbers.rules (number_rules.Breaks assets before r))
-        (numbers.says_number assets) }
+        (numbers.number_or_rule assets) }
     ensures numbers { (assets : List AssetRow) → AreAssets assets → (records : List Record)
         (table : numbers.NumberTable) → (numbers.numbers_of assets records ≡ Ok table)
         ↔ number_rules.AreNumbersOf assets records table }
@@ -41,6 +41,11 @@ pub fn numbers_in_any_order()
 /// The number of a column is that of the column's sid.
 pub fn numbers_are_those_of_the_sids()
     ensures { NumbersAreThose }
+{}
+
+/// The day from which the number of a column was known is that of the column's sid.
+pub fn known_days_are_those_of_the_sids()
+    ensures { KnownAreThose }
 {}
 
 /// The number on a day is the value of the one row that was known last.

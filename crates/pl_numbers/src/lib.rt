@@ -4,13 +4,15 @@
 
 ghost use Rattle.std.specs.Prelude.{◌≡◌, ℕ, ◌+◌, ◌<◌, ◌≤◌, [], length, pos, position, slice_index_or, bytes_eq, All, IfOk, IfSome};
 ghost use Rattle.pl_spec.specs.AsOf.{column_numbers_by};
+ghost use Rattle.pl_spec.specs.Dates.{IsDay};
 ghost use Rattle.pl_spec.specs.Rounding.{IsCell};
 ghost use Rattle.pl_records.specs.Reading.{Answers};
 ghost use Rattle.pl_records.specs.Records.{csv_records};
-ghost use Rattle.pl_numbers.specs.Numbers.{AreNumbers, number_on, numbers_of};
+ghost use Rattle.pl_numbers.specs.Numbers.{AreNumbers, known_on, number_on, numbers_of};
 ghost use Rattle.pl_numbers.specs.NumberFaults.{fault_of};
 
 mod cut;
+mod dates;
 mod error;
 pub mod laws;
 mod named;
@@ -19,6 +21,8 @@ mod reading;
 mod rows;
 mod search;
 mod seen;
+mod stated;
+mod table;
 
 pub use error::NumbersError;
 use pl_calendar::Sessions;
@@ -70,7 +74,6 @@ impl Numbers {
     /// The numbers of a file: the header `name,sid,known,value`, and in each further record a name, the sid
     /// of an asset, a date and a decimal. From the date on the asset has the number; an empty field says that
     /// it has none.
-    #[tactic(auto, unfolding(crate::specs::Numbers::numbers_of))]
     pub fn read(alloc: Global, bytes: &[u8], assets: &Assets) -> Result<Numbers, NumbersError>
         // The numbers of the records, or the fault of the first faulty one. Only want of memory may
         // come beside.
@@ -80,8 +83,7 @@ impl Numbers {
         // Each stands in the column of an asset.
         ensures cols { IfOk result (λ n. All (λ r. r.col < length assets.now) n.rows) }
     {
-        let read = reading::read_rows(alloc, bytes, assets)?;
-        let rows = order::ordered(read);
+        let rows = table::read_table(alloc, bytes, assets)?;
         Ok(Numbers { rows })
     }
 
@@ -123,6 +125,16 @@ impl Numbers {
         ensures cell { IsCell result }
     {
         search::number_on(&self.rows, name, col, day)
+    }
+
+    /// The day from which that row counts, where there is one.
+    pub fn known_on(&self, name: u32, col: usize, day: i32) -> Option<i32>
+        requires { name < length self.now.names }
+        ensures exact { result
+            ≡ known_on self.now.rows (slice_index_or self.now.names name []) col day }
+        ensures day { IfSome result IsDay }
+    {
+        search::known_on(&self.rows, name, col, day)
     }
 
     /// Writes the cells of a column under a name on sessions from the first one on. The rows of the column

@@ -1,7 +1,8 @@
 //! Numbers under a name, whether a row has it or not.
-ghost use Rattle.std.specs.Prelude.{◌≡◌, ℕ, ◌+◌, ◌<◌, ◌≤◌, length, pos, position, slice_index_or, bytes_eq};
+ghost use Rattle.std.specs.Prelude.{◌≡◌, ℕ, ◌+◌, ◌<◌, ◌≤◌, length, pos, position, slice_index_or, bytes_eq, IfSome};
+ghost use Rattle.pl_spec.specs.Dates.{IsDay};
 ghost use Rattle.pl_spec.specs.Rounding.{IsCell};
-ghost use Rattle.pl_numbers.specs.Numbers.{number_on};
+ghost use Rattle.pl_numbers.specs.Numbers.{known_on, number_on};
 
 use crate::Numbers;
 use pl_calendar::Sessions;
@@ -19,6 +20,20 @@ impl Numbers {
         match number {
             Some(number) => self.number_on(number, col, day),
             None => MISSING,
+        }
+    }
+
+    /// The day from which that row counts, where there is one: the last day up to this one from which a row
+    /// of the column under the name was known.
+    pub fn known_under(&self, name: &[u8], number: Option<u32>, col: usize, day: i32) -> Option<i32>
+        requires { number ≡ position (bytes_eq name.now) self.now.names }
+        ensures exact { result ≡ known_on self.now.rows name.now col day }
+        ensures day { IfSome result IsDay }
+    {
+        let _rows = self.len();
+        match number {
+            Some(number) => self.known_on(number, col, day),
+            None => None,
         }
     }
 

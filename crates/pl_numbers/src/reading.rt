@@ -1,42 +1,34 @@
-//! Reads the records of a numbers file.
+//! Reads the records of a numbers file one after the other, up to the first fault.
 ghost use Rattle.std.specs.Prelude.{◌≡◌, ◌+◌, ◌==◌, ◌++◌, ◌∷◌, ◌<◌, ◌≤◌, ◌^◌, not, [], length, position, bytes_eq, IfOk, IfSome, IsTrue, OnOk, OnSome, option_map};
 ghost use Rattle.std.specs.List.{list_any, position_or_len};
 ghost use Rattle.pl_spec.specs.Limits.{most_assets, most_numbers};
 ghost use Rattle.pl_records.specs.Reading.{Answers, at_line, field, rows_of};
 ghost use Rattle.pl_records.specs.Records.{csv_records};
 ghost use Rattle.pl_lifetimes.specs.Assets.{sid_of};
-ghost use Rattle.pl_numbers.specs.Numbers.{is_from, number_in, number_rows_in, says_number};
+ghost use Rattle.pl_numbers.specs.Numbers.{is_from, number_in, number_rows_in, number_or_rule};
 ghost use Rattle.pl_numbers.specs.NumberFaults.{fault_of};
-ghost use Rattle.pl_numbers.specs.NumberPlaces.{AreNumbered, AreSeen, Rise, key_next, key_of, number_from, row_from, shown_rows};
+ghost use Rattle.pl_numbers.specs.NumberPlaces.{AreNumbered, AreSeen, key_next, key_of, number_from, row_from, shown_rows};
 
 use crate::MOST_NUMBERS;
+use crate::dates::{Dated, day_of};
 use crate::error::NumbersError;
 use crate::rows::{NumberRows, Place, key};
 use crate::seen::Seen;
 use pl_bars::read_cell;
-use pl_fixed::{is_name, read_day, read_sid};
+use pl_fixed::{is_name, read_sid};
 use pl_lifetimes::Assets;
 use pl_records::Records;
 use std::alloc::{AllocError, Global};
 
-// The numbers in the order of the file, and whether that is seen to be the order of their keys.
-#[derive(Drop)]
-pub(crate) struct Unordered {
-    pub(crate) rows: NumberRows,
-    pub(crate) rise: bool,
-    ghost rises: { IsTrue rise → Rise rows.places.items },
-}
-
-// The numbers of a file in its order.
+// The numbers of a file in its order, or its first fault.
 #[tactic(auto, unfolding(crate::specs::Numbers::number_rows_in))]
 pub(crate) fn read_rows(
     alloc: Global,
     bytes: &[u8],
     assets: &Assets,
-) -> Result<Unordered, NumbersError>
-    ensures exact { Answers (λ u. shown_rows u.rows) fault_of result
-        (number_rows_in assets.now (csv_records bytes.now)) }
-    ensures numbered { IfOk result (λ u. AreNumbered u.rows) }
+) -> Result<NumberRows, NumbersError>
+    ensures exact { Answers shown_rows fault_of result (number_rows_in assets.now (csv_records bytes.now)) }
+    ensures numbered { IfOk result AreNumbered }
 {
     let mut records = Records::new(alloc, bytes);
     if !records.read_header(&[b"name", b"sid", b"known", b"value"])? {
@@ -50,16 +42,15 @@ fn rows_behind(
     alloc: Global,
     records: &mut Records,
     assets: &Assets,
-) -> Result<Unordered, NumbersError>
-    ensures exact { Answers (λ u. shown_rows u.rows) fault_of result
-        (rows_of 2 (says_number assets.now) records.old.left) }
-    ensures numbered { IfOk result (λ u. AreNumbered u.rows) }
+) -> Result<NumberRows, NumbersError>
+    ensures exact { Answers shown_rows fault_of result
+        (rows_of 2 (number_or_rule assets.now) records.old.left) }
+    ensures numbered { IfOk result AreNumbered }
 {
     let mut rows = NumberRows::new(alloc);
     let mut seen = Seen::new(alloc);
     put_rows(&mut rows, &mut seen, records, assets)?;
-    let rise = seen.rise(&rows.places);
-    Ok(Unordered { rows, rise })
+    Ok(rows)
 }
 
 // Puts the rows of the records after the header where there is none yet, and their keys beside them.
@@ -73,7 +64,7 @@ fn put_rows(
     requires numbered { AreNumbered rows.old }
     requires seen { AreSeen seen.old.keys rows.old.places.items }
     ensures exact { Answers (λ u. shown_rows rows.new) fault_of result
-        (rows_of 2 (says_number assets.now) records.old.left) }
+        (rows_of 2 (number_or_rule assets.now) records.old.left) }
     ensures numbered { OnOk result (AreNumbered rows.new) }
     ensures seen { OnOk result (AreSeen seen.new.keys rows.new.places.items) }
 {
@@ -94,7 +85,7 @@ pub(crate) struct NextNumber {
 }
 
 // The number of the record that was read last, after the rows before it, whose keys are given.
-#[tactic(auto, unfolding(crate::specs::Numbers::says_number))]
+#[tactic(auto, unfolding(crate::specs::Numbers::number_or_rule))]
 fn next_number(
     before: &NumberRows,
     seen: &mut Seen,
@@ -110,7 +101,7 @@ fn next_number(
         ≡ position_or_len (bytes_eq (field row.now.fields 0)) before.now.names) }
     ensures exact { Answers (row_from row.now.fields) fault_of result
         (at_line (2 + length (shown_rows before.now))
-        (says_number assets.now (shown_rows before.now) row.now.fields)) }
+        (number_or_rule assets.now (shown_rows before.now) row.now.fields)) }
     ensures seen { IfOk result (λ n. (p : Place) → key_of p ≡ key_next n
         → AreSeen seen.new.keys (before.now.places.items ++ p ∷ [])) }
 {
@@ -118,7 +109,7 @@ fn next_number(
     if before.places.len() >= MOST_NUMBERS {
         return Err(NumbersError::TooMany { line });
     }
-    let Some(fields) = fields_of(row) else {
+    let Some(fields) = fields_of(row, &mut None) else {
         return Err(NumbersError::BadField { line });
     };
     let Some(col) = col_of(&before.places, assets, fields.sid) else {
@@ -157,7 +148,7 @@ fn is_new(
 
 // The column of a sid, if an asset has it. In most files a record is of the asset of the record before it or
 // of the next one, so these are tried before it is searched for.
-fn col_of(before: &[Place], assets: &Assets, sid: u32) -> Option<usize>
+pub(crate) fn col_of(before: &[Place], assets: &Assets, sid: u32) -> Option<usize>
     ensures few { IfSome result (λ i. i < most_assets) }
     ensures exact { result ≡ position (λ a. sid_of a == sid) assets.now }
 {
@@ -177,14 +168,15 @@ fn col_of(before: &[Place], assets: &Assets, sid: u32) -> Option<usize>
 // The sid, the day and the cell of a record.
 #[derive(Clone, Copy)]
 pub(crate) struct Fields {
-    sid: u32,
-    known: i32,
-    value: i64,
+    pub(crate) sid: u32,
+    pub(crate) known: i32,
+    pub(crate) value: i64,
 }
 
-// The fields of the record that was read last, where it is a number.
+// The fields of the record that was read last, where it is a number; `last` is a date before it, and then
+// its own.
 #[tactic(auto, unfolding(crate::specs::Numbers::number_in))]
-fn fields_of(row: &Records) -> Option<Fields>
+pub(crate) fn fields_of(row: &Records, last: &mut Option<Dated>) -> Option<Fields>
     ensures four { OnSome result (length row.now.fields ≡ 4) }
     ensures exact { option_map (number_from row.now.fields) result ≡ number_in row.now.fields }
 {
@@ -192,7 +184,7 @@ fn fields_of(row: &Records) -> Option<Fields>
         return None;
     }
     let sid = read_sid(row.field(1))?;
-    let known = read_day(row.field(2))?;
+    let known = day_of(row.field(2), last)?;
     let value = read_cell(row.field(3))?;
     Some(Fields { sid, known, value })
 }

@@ -1,10 +1,11 @@
 //! The number of a column on a day.
-ghost use Rattle.std.specs.Prelude.{◌≡◌, ◌+◌, ◌<◌, ◌≤◌, [], ℕ, ℤ, FitsSigned, IsTrue, length, nat_le, pos, slice_index_or};
+ghost use Rattle.std.specs.Prelude.{◌≡◌, ◌+◌, ◌<◌, ◌≤◌, [], ℕ, ℤ, FitsSigned, IsTrue, length, nat_le, pos, slice_index_or, IfSome};
 ghost use Rattle.std.specs.Int.{w32};
+ghost use Rattle.pl_spec.specs.Dates.{IsDay};
 ghost use Rattle.pl_spec.specs.Rounding.{IsCell};
 ghost use Rattle.pl_assets.specs.LabelPlaces.{key};
-ghost use Rattle.pl_numbers.specs.Numbers.{number_on};
-ghost use Rattle.pl_numbers.specs.NumberPlaces.{AllLow, IsTable, KeyPoint, Rise, key_of, shown_rows};
+ghost use Rattle.pl_numbers.specs.Numbers.{known_on, number_on};
+ghost use Rattle.pl_numbers.specs.NumberPlaces.{AllLow, IsNewest, IsTable, KeyPoint, Rise, key_of, shown_rows};
 
 use crate::rows::{NumberRows, Place, key, key_of};
 use pl_calendar::Sessions;
@@ -19,6 +20,21 @@ pub(crate) fn number_on(rows: &NumberRows, name: u32, col: usize, day: i32) -> i
 {
     let end = point_of(&rows.places, key(name, col, day));
     value_before(rows, name, col, end)
+}
+
+// The day from which the row under the name counts that was known last in the column by the day.
+pub(crate) fn known_on(rows: &NumberRows, name: u32, col: usize, day: i32) -> Option<i32>
+    requires table { IsTable rows.now }
+    requires name { name < length rows.now.names }
+    ensures exact { result ≡ known_on (shown_rows rows.now) (slice_index_or rows.now.names name []) col day }
+    ensures day { IfSome result IsDay }
+{
+    let end = point_of(&rows.places, key(name, col, day));
+    let newest = newest_before(rows, name, col, end);
+    match newest {
+        Some(place) => Some(place.known),
+        None => None,
+    }
 }
 
 // How many of the rows have no greater key.
@@ -51,8 +67,29 @@ fn is_low(place: &Place, key: u128) -> bool
     key_of(place) <= key
 }
 
-// The cell of the last row before a place, where it is of the name and the column: of a day whose key has its
-// point there, that is the number.
+// The last row before a place, where it is of the name and the column: of a day whose key has its point
+// there, that is the row that was known last.
+fn newest_before(rows: &NumberRows, name: u32, col: usize, end: usize) -> Option<Place>
+    requires table { IsTable rows.now }
+    requires name { name < length rows.now.names }
+    requires within { end ≤ length rows.now.places.items }
+    ensures newest { (day : ℤ) → FitsSigned w32 day → KeyPoint rows.now.places.items (key name col day) end
+        → IsNewest rows.now name col day result }
+    ensures cell { IfSome result (λ p. IsCell p.value) }
+    ensures day { IfSome result (λ p. IsDay p.known) }
+{
+    if end == 0 {
+        return None;
+    }
+    let place = rows.places[end - 1];
+    if place.name == name && place.col as usize == col {
+        Some(place)
+    } else {
+        None
+    }
+}
+
+// The cell of that row.
 fn value_before(rows: &NumberRows, name: u32, col: usize, end: usize) -> i64
     requires table { IsTable rows.now }
     requires name { name < length rows.now.names }
@@ -61,14 +98,9 @@ fn value_before(rows: &NumberRows, name: u32, col: usize, end: usize) -> i64
         → result ≡ number_on (shown_rows rows.now) (slice_index_or rows.now.names name []) col day }
     ensures cell { IsCell result }
 {
-    if end == 0 {
-        return MISSING;
-    }
-    let place = rows.places[end - 1];
-    if place.name == name && place.col as usize == col {
-        place.value
-    } else {
-        MISSING
+    match newest_before(rows, name, col, end) {
+        Some(place) => place.value,
+        None => MISSING,
     }
 }
 

@@ -24,14 +24,6 @@ impl Seen {
         Seen { alloc, keys: None }
     }
 
-    // Whether the rows are seen to rise.
-    pub(crate) fn rise(&self, places: &[Place]) -> bool
-        requires { AreSeen self.now.keys places.now }
-        ensures { IsTrue result → Rise places.now }
-    {
-        self.keys.is_none()
-    }
-
     // Puts the key of the next row beside those of the rows; whether it is new.
     pub(crate) fn insert(&mut self, places: &[Place], key: u128) -> Result<bool, AllocError>
         requires { AreSeen self.old.keys places.now }
@@ -62,7 +54,7 @@ fn is_above(places: &[Place], key: u128) -> bool
     count == 0 || is_below(&places[count - 1], key)
 }
 
-fn is_below(place: &Place, key: u128) -> bool
+pub(crate) fn is_below(place: &Place, key: u128) -> bool
     ensures { result ≡ nat_lt (key_of place.now) key }
 {
     key_of(place) < key

@@ -23,6 +23,10 @@ is_number_of name a day r = bytes_eq r.name name && r.sid == a && int_le r.known
 abbrev pub number_at : List NumberRow → List ℕ → ℕ → ℤ → ℤ
 number_at rows name a day = unwrap_or (option_map (λ r. r.value) (last_known (filter (is_number_of name a day) rows))) MISSING
 
+-- the day from which that number was known, where there is such a row
+abbrev pub known_at : List NumberRow → List ℕ → ℕ → ℤ → Option ℤ
+known_at rows name a day = option_map (λ r. r.known) (last_known (filter (is_number_of name a day) rows))
+
 -- the rows that were known by the day
 abbrev pub numbers_by : ℤ → List NumberRow → List NumberRow
 numbers_by day rows = filter (λ r. int_le r.known day) rows

@@ -1,13 +1,13 @@
 use Rattle.std.proofs.Common.{◌≡◌, ◌≤◌, length}
 use Rattle.pl_records.specs.Reading.{rows_of, rows_behind}
 use Rattle.pl_spec.specs.Limits.{most_numbers}
-use Rattle.pl_numbers.specs.Numbers.{says_number}
+use Rattle.pl_numbers.specs.Numbers.{number_or_rule}
 use Rattle.pl_numbers.specs.NumberPlaces.{AreNumbered, AreSeen, shown_rows}
 use Rattle.pl_numbers.proofs.reading.put_rows.Given as goal
 
 abbrev pub invariant-rows : goal.invariant-rows
 invariant-rows l = record {
-  rest : rows_behind 2 (says_number l.assets) (shown_rows l.rows) l.records.left ≡ rows_of 2 (says_number l.assets) l.fn.records.left;
+  rest : rows_behind 2 (number_or_rule l.assets) (shown_rows l.rows) l.records.left ≡ rows_of 2 (number_or_rule l.assets) l.fn.records.left;
   few : length (shown_rows l.rows) ≤ most_numbers;
   numbered : AreNumbered l.rows;
   seen : AreSeen l.seen.keys l.rows.places.items;

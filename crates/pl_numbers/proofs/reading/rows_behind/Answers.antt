@@ -6,6 +6,3 @@ put_rows-requires-clause-none c = no_rows c.new-rows.result c.new-rows.ensures.p
 
 pub put_rows-requires-clause-numbered : goal.put_rows-requires-clause-numbered
 put_rows-requires-clause-numbered c = no_numbers c.new-rows.result c.new-rows.ensures.names c.new-rows.ensures.places
-
-pub invariant_of-result : goal.invariant_of-result
-invariant_of-result c = record { rises = rw c.deref.ensures.value at c.rise-rise.ensures }

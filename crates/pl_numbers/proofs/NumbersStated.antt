@@ -1,0 +1,142 @@
+-- Records that state rows of which no two have one key say these rows.
+use Rattle.std.proofs.Common.{◌≡◌, ◌≢◌, ℕ, zero, suc, ◌+◌, ◌<◌, ◌≤◌, nat_le, Bool, true, false, true≢false, List, [], ◌∷◌, ◌++◌, length, length-append, append_assoc, map, drop, get_or, AllPairs, IfSome, OnSome, Option, option_map, Some, None, Result, Ok, Err, refl, sym, ap, ◌∙◌, arith}
+use Rattle.std.specs.List.{list_any}
+use Rattle.std.specs.Option.{ok_or}
+use Rattle.std.proofs.lemmas.Bool.Decides.{nat_tests}
+use Rattle.std.proofs.lemmas.List.{append-nil, get_or-map, get_or_append_left, get_or_default, length-map}
+use Rattle.std.proofs.lemmas.List.Folds.{list_any_none}
+use Rattle.pl_records.specs.Reading.{Record, Fault, at_line, ◌>>=◌, rows_behind, rows_under}
+use Rattle.pl_records.specs.Sorted.{HasOwnKeys, sorted_by}
+use Rattle.pl_records.proofs.Readings.{rows-keep, under_ok}
+use Rattle.pl_records.proofs.RuleTables.{and_then_some, map_some}
+use Rattle.pl_records.proofs.Sorts.{other_keys, own_rest}
+use Rattle.pl_spec.proofs.Members.{contains-in}
+use Rattle.pl_spec.specs.Limits.{most_numbers}
+use Rattle.pl_spec.specs.Parts.{ColumnNumber}
+use Rattle.pl_spec.specs.declared.AssetRow.{AssetRow}
+use Rattle.pl_assets.specs.LabelPlaces.{key}
+use Rattle.pl_assets.proofs.FirstSeen.{one_place}
+use Rattle.pl_numbers.specs.Numbers.{Rule, BadField, BadHeader, header, col_in, in_column, is_from, number_in, number_rows_in, numbers_of, row_of, number_or_rule, table_of}
+use Rattle.pl_numbers.specs.NumberPlaces.{AreNumbered, IsPlace, IsTableOf, key_of, row_at, shown_rows, states}
+use Rattle.pl_numbers.specs.declared.rows.Place.{Place}
+use Rattle.pl_numbers.specs.declared.rows.NumberRows.{NumberRows}
+use Rattle.pl_numbers.proofs.NumberKeys.{from_parts, parts_from}
+use Rattle.pl_numbers.proofs.NumberRowsMade.{once_named}
+use Rattle.pl_numbers.proofs.NumbersRead.{AreRead-read}
+use Rattle.pl_numbers.proofs.NumberTables.{blank, cols_kept, table_kept, table_made}
+
+-- ---- rows with keys of their own
+
+differ : {A : Type 0} (k : A → ℕ) (xs : List A) → HasOwnKeys k xs → AllPairs (λ p q. k p ≢ k q) xs
+differ k [] own i j d h l e = absurd (omega arith)
+differ k (x ∷ xs) own i zero d h l e = absurd (omega arith)
+differ k (x ∷ xs) own zero (suc j) d h l e =
+    other_keys k x xs own (get_or xs j d) (contains-in xs (get_or xs j d) (j, omega arith, get_or_default xs j (get_or xs j d) d (omega arith))) (sym e)
+differ k (x ∷ xs) own (suc i) (suc j) d h l e = differ k xs (own_rest k x xs own) i j d (omega arith) (omega arith) e
+
+abbrev Apart : List ColumnNumber → Type 0
+Apart rows = AllPairs (λ r q. is_from r.name r.col r.known q ≡ false) rows
+
+apart : (t : NumberRows) → AreNumbered t → HasOwnKeys key_of t.places.items → Apart (shown_rows t)
+apart t h own i j d lt l =
+    let inside : j < length t.places.items = omega (arith, l, length-map t.places.items (row_at t.names)) in
+    let before : i < length t.places.items = omega arith in
+    rw (get_or-map (row_at t.names) t.places.items i blank d before, get_or-map (row_at t.names) t.places.items j blank d inside)
+    (here (get_or t.places.items i blank) (get_or t.places.items j blank) (h.places i blank before) (h.places j blank inside) (differ key_of t.places.items own i j blank lt inside) _ refl)
+  where
+    here : (p q : Place) → IsPlace t.names p → IsPlace t.names q → key_of p ≢ key_of q → (b : Bool) → is_from (row_at t.names p).name (row_at t.names p).col (row_at t.names p).known (row_at t.names q) ≡ b
+        → is_from (row_at t.names p).name (row_at t.names p).col (row_at t.names p).known (row_at t.names q) ≡ false
+    here p q hp hq ne false e = e
+    here p q hp hq ne true e =
+        let parts = from_parts (row_at t.names p).name (row_at t.names p).col (row_at t.names p).known (row_at t.names q) e in
+        let n : q.name ≡ p.name = one_place t.names q.name p.name (once_named t h) hq.name hp.name parts.0 in
+        let same : key_of q ≡ key_of p = ap (λ m. key m q.col q.known) n ∙ ap (λ c. key p.name c q.known) parts.1 ∙ ap (key p.name p.col) parts.2 in
+        absurd (ne (sym same))
+
+-- ---- a row with others before it
+
+at_end : (xs : List ColumnNumber) (r d : ColumnNumber) → get_or (xs ++ r ∷ []) (length xs) d ≡ r
+at_end [] r d = refl
+at_end (x ∷ xs) r d = at_end xs r d
+
+none_before : (before rest : List ColumnNumber) (row : ColumnNumber) → Apart ((before ++ row ∷ []) ++ rest) → list_any (is_from row.name row.col row.known) before ≡ false
+none_before before rest row parted = list_any_none (is_from row.name row.col row.known) before (λ i d l. back (get_or before i d) (at i d l) _ refl)
+  where
+    at : (i : ℕ) (d : ColumnNumber) → i < length before → is_from (get_or before i d).name (get_or before i d).col (get_or before i d).known row ≡ false
+    at i d l =
+        let more : length (before ++ row ∷ []) ≡ length before + 1 = length-append before (row ∷ []) in
+        let all : length ((before ++ row ∷ []) ++ rest) ≡ length (before ++ row ∷ []) + length rest = length-append (before ++ row ∷ []) rest in
+        let low : get_or ((before ++ row ∷ []) ++ rest) i d ≡ get_or before i d =
+        get_or_append_left (before ++ row ∷ []) rest d i (omega arith) ∙ get_or_append_left before (row ∷ []) d i l in
+        let high : get_or ((before ++ row ∷ []) ++ rest) (length before) d ≡ row =
+        get_or_append_left (before ++ row ∷ []) rest d (length before) (omega arith) ∙ at_end before row d in
+        let one = parted i (length before) d l (omega arith) in
+        rw (low, high) at one
+
+    back : (q : ColumnNumber) → is_from q.name q.col q.known row ≡ false → (b : Bool) → is_from row.name row.col row.known q ≡ b → is_from row.name row.col row.known q ≡ false
+    back q f false e = e
+    back q f true e =
+        let p = from_parts row.name row.col row.known q e in
+        let t : is_from q.name q.col q.known row ≡ true = parts_from q.name q.col q.known row (sym p.0) (sym p.1) (sym p.2) in
+        absurd (true≢false (sym t ∙ f))
+
+-- ---- what is stated is said
+
+say_row : (assets : List AssetRow) (before : List ColumnNumber) (r : Record) (row : ColumnNumber) → row_of assets r ≡ Some row → length before < most_numbers
+    → list_any (is_from row.name row.col row.known) before ≡ false → number_or_rule assets before r ≡ Ok row
+unfolding number_or_rule
+say_row assets before r row at few own =
+    let n = and_then_some (number_in r) (λ n. option_map (in_column n) (col_in assets n)) row at in
+    let c = map_some (col_in assets n.0) (in_column n.0) row n.2 in
+    let room : nat_le most_numbers (length before) ≡ false = grind (arith, nat_tests) in
+    let new : list_any (is_from n.0.name c.0 n.0.known) before ≡ false = ap (λ (x : ColumnNumber). list_any (is_from x.name x.col x.known) before) c.2 ∙ own in
+    rw (room, n.1, c.1, new) (ap (λ (x : ColumnNumber). Ok x) c.2)
+
+module _ (assets : List AssetRow) (rows : List ColumnNumber) (parted : Apart rows) (few : length rows ≤ most_numbers) where
+  prefix : (rs : List Record) (base : List ColumnNumber) → rows_behind 2 (states assets) base rs ≡ Ok rows → (rest : List ColumnNumber) × (rows ≡ base ++ rest)
+  prefix rs base e =
+      rows-keep (λ xs. (rest : List ColumnNumber) × (xs ≡ base ++ rest)) 2 (states assets)
+      (λ before r row h s. (h.0 ++ row ∷ [], ap (λ l. l ++ row ∷ []) h.1 ∙ append_assoc base h.0 (row ∷ []))) rs base rows ([], sym (append-nil base)) e
+
+  rows_said : (rs : List Record) (before : List ColumnNumber) → rows_behind 2 (states assets) before rs ≡ Ok rows → rows_behind 2 (number_or_rule assets) before rs ≡ Ok rows
+  unfolding rows_behind
+  rows_said [] before e = e
+  rows_said (r ∷ rs) before e = here (row_of assets r) refl (λ row s. rows_said rs (before ++ row ∷ []) s) e
+    where
+      here : (o : Option ColumnNumber) → row_of assets r ≡ o
+          → ((row : ColumnNumber) → rows_behind 2 (states assets) (before ++ row ∷ []) rs ≡ Ok rows → rows_behind 2 (number_or_rule assets) (before ++ row ∷ []) rs ≡ Ok rows)
+          → (at_line (2 + length before) (ok_or o BadField) >>= λ row. rows_behind 2 (states assets) (before ++ row ∷ []) rs) ≡ Ok rows
+          → (at_line (2 + length before) (number_or_rule assets before r) >>= λ row. rows_behind 2 (number_or_rule assets) (before ++ row ∷ []) rs) ≡ Ok rows
+      here None at more s = absurd (let bad : Err (record { rule = BadField; line = 2 + length before }) ≡ Ok rows = s in cc)
+      here (Some row) at more s =
+          let p = prefix rs (before ++ row ∷ []) s in
+          let room : length before < most_numbers =
+          omega (arith, few, ap length p.1, length-append (before ++ row ∷ []) p.0, length-append before (row ∷ [])) in
+          let own : list_any (is_from row.name row.col row.known) before ≡ false = none_before before p.0 row (rw p.1 at parted) in
+          rw (say_row assets before r row at room own) (more row s)
+
+pub rows_stated : (assets : List AssetRow) (records : List Record) (t : NumberRows) → AreNumbered t → HasOwnKeys key_of t.places.items → length (shown_rows t) ≤ most_numbers
+    → rows_under header BadHeader (states assets) records ≡ Ok (shown_rows t) → number_rows_in assets records ≡ Ok (shown_rows t)
+unfolding number_rows_in
+rows_stated assets records t h own few e =
+    let u = under_ok header BadHeader (states assets) records (shown_rows t) e in
+    rw u.0 (rows_said assets (shown_rows t) (apart t h own) few (drop 1 records) [] u.1)
+
+pub table_stated : (assets : List AssetRow) (records : List Record) (t new : NumberRows) → AreNumbered t → HasOwnKeys key_of t.places.items → length (shown_rows t) ≤ most_numbers
+    → rows_under header BadHeader (states assets) records ≡ Ok (shown_rows t) → new.names ≡ t.names → new.places.items ≡ sorted_by key_of t.places.items → IsTableOf assets records new
+unfolding numbers_of
+table_stated assets records t new h own few e names places =
+    let said : number_rows_in assets records ≡ Ok (shown_rows t) = rows_stated assets records t h own few e in
+    let read = AreRead-read assets records (shown_rows t) said in
+    record {
+      table = table_kept t new h names places assets read;
+      exact = ap (λ x. x >>= λ rows. Ok (table_of rows)) said ∙ ap Ok (table_made t new h names places);
+      cols = cols_kept t new h names places assets read;
+    }
+
+-- where they can be put in order
+pub stated_in_order : (assets : List AssetRow) (records : List Record) (t : NumberRows) (o : Option NumberRows) → AreNumbered t → length (shown_rows t) ≤ most_numbers
+    → rows_under header BadHeader (states assets) records ≡ Ok (shown_rows t) → OnSome o (HasOwnKeys key_of t.places.items) → IfSome o (λ new. new.names ≡ t.names)
+    → IfSome o (λ new. new.places.items ≡ sorted_by key_of t.places.items) → IfSome o (IsTableOf assets records)
+stated_in_order assets records t None h few e own names places = tt
+stated_in_order assets records t (Some new) h few e own names places = table_stated assets records t new h own few e names places

@@ -1,0 +1,15 @@
+use Rattle.std.proofs.Common.{◌≡◌, ◌≤◌, length}
+use Rattle.pl_records.specs.Reading.{rows_of, rows_behind}
+use Rattle.pl_spec.specs.Limits.{most_numbers}
+use Rattle.pl_numbers.specs.NumberPlaces.{AreNumbered, shown_rows, states}
+use Rattle.pl_numbers.proofs.stated.put_stated.Given as goal
+
+abbrev pub invariant-rows : goal.invariant-rows
+invariant-rows l = record {
+  rest : rows_behind 2 (states l.assets) (shown_rows l.rows) l.records.left ≡ rows_of 2 (states l.assets) l.fn.records.left;
+  few : length (shown_rows l.rows) ≤ most_numbers;
+  numbered : AreNumbered l.rows;
+}
+
+abbrev pub decreases-rows : goal.decreases-rows
+decreases-rows l = length l.records.left

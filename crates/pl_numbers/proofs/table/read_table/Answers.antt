@@ -1,0 +1,1 @@
+use Rattle.pl_numbers.proofs.table.read_table.Goals as goal
