@@ -1,6 +1,7 @@
 """Numbers beside bars: columns of a DataSet, what `Data.write` makes of them, and their values by pandas' own as-of join."""
 import pickle
 import random
+import re
 import warnings
 
 import numpy as np
@@ -231,6 +232,8 @@ def test_why_a_number_is_what_it_is(whole, reports):
         derived = explain(pipe, "2023-12-20", sid, column, whole)
         assert derived.value == frame.loc[("2023-12-20", sid), column] and verify(pipe, derived, whole)
         assert not verify(pipe, derived, Data(whole.folder, revisions=None, adjustments=None, numbers=empty(whole)))
+        undated = re.sub(r"^(value \S+ \S+ \S+ \S+) \S+$", r"\1", derived.text, flags=re.MULTILINE)
+        assert undated != derived.text and not verify(pipe, undated, whole)
     lines = [line for line in str(derived).splitlines() if 'number("short_interest")' in line][1:]
     days = reports.known[reports["name"].eq("short_interest") & reports.asset.eq(sid)]
     assert len(lines) == 3 and all(line.endswith(f" since {days[days <= '2023-12-18'].max()}") for line in lines[:1])

@@ -32,7 +32,7 @@ use Rattle.pl_cross.specs.Arrays.{HasTexts}
 use Rattle.pl_cross.proofs.Codes.{IsCoded}
 use Rattle.pl_cross.proofs.LabelCodes.{labels-coded}
 use Rattle.pl_derivation.specs.Facts.{Fact, number_in, value_from, term_read, column_read, input_read, number_read, node_read, single_step}
-use Rattle.pl_derivation.specs.Facts.Fact.{Seen, Worth}
+use Rattle.pl_derivation.specs.Facts.Fact.{Seen, TermValue}
 use Rattle.pl_spec.proofs.Each.{map_each, each_all}
 use Rattle.pl_derivation.proofs.Finding.{place_within, is_place}
 use Rattle.pl_derivation.proofs.Steps.{before-twice}
@@ -172,8 +172,8 @@ module _ (w : World) (p : Pipeline) (known : HasTexts w) (ok : IsGraph p.graph) 
   pub step_true : (f : Fact) → single_step w p (number_in w p) f ≡ number_in w p f
   unfolding value
   step_true (Seen c a s d) = refl
-  step_true (Worth t a d) = found (slice_get p.graph t) refl
+  step_true (TermValue t a d) = found (slice_get p.graph t) refl
     where
-      found : (o : Option Node) → slice_get p.graph t ≡ o → single_step w p (number_in w p) (Worth t a d) ≡ number_in w p (Worth t a d)
+      found : (o : Option Node) → slice_get p.graph t ≡ o → single_step w p (number_in w p) (TermValue t a d) ≡ number_in w p (TermValue t a d)
       found None e = rw (e, no_term p.graph t e) refl
       found (Some n) e = rw (e, node_is n a d t e, value_at-node w p.names p.graph ok t n e a d) refl

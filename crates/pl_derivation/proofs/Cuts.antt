@@ -7,7 +7,7 @@ use Rattle.pl_spec.specs.Decimals.{sid_in}
 use Rattle.std.proofs.lemmas.List.Quantifiers.{position-Some}
 use Rattle.pl_spec.proofs.Places.{nowhere}
 use Rattle.pl_derivation.specs.Lines.Line.{SeenLine}
-use Rattle.pl_derivation.specs.Texts.{pieces, column_in, numbers_in, seen_line, value_line, line_in_fields}
+use Rattle.pl_derivation.specs.Texts.{pieces, column_in, known_in, numbers_in, seen_line, value_line, line_in_fields}
 use Rattle.pl_derivation.specs.Reading.{bar_line}
 use Rattle.pl_derivation.proofs.TextsSaid.{some_piece}
 
@@ -36,12 +36,12 @@ cut_none m xs e = whole m xs (λ k lt. nowhere (λ b. b == m) xs e k 0 lt)
 
 -- ---- fields
 
-too_many : (t a day v : List ℕ) (ps : List (List ℕ)) → 1 ≤ length ps → value_line (t ∷ a ∷ day ∷ v ∷ ps) ≡ None
-too_many t a day v [] h = absurd (omega arith)
-too_many t a day v (p ∷ ps) h = refl
+too_many : (day : List ℕ) (ps : List (List ℕ)) → 1 ≤ length ps → known_in (day ∷ ps) ≡ None
+too_many day [] h = absurd (omega arith)
+too_many day (p ∷ ps) h = refl
 
-pub value_more : (t a day v r : List ℕ) → value_line (t ∷ a ∷ day ∷ v ∷ pieces 32 r) ≡ None
-value_more t a day v r = too_many t a day v (pieces 32 r) (some_piece 32 r)
+pub known_more : (day r : List ℕ) → known_in (day ∷ pieces 32 r) ≡ None
+known_more day r = too_many day (pieces 32 r) (some_piece 32 r)
 
 seen_by : (c a bar day : List ℕ) (ps : List (List ℕ)) → 1 ≤ length ps → seen_line (c ∷ a ∷ bar ∷ day ∷ ps) ≡ option_and_then (bar_line c a bar day) (numbers_in ps)
 seen_by c a bar day [] h = absurd (omega arith)

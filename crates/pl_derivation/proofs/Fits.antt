@@ -30,7 +30,7 @@ use Rattle.pl_spec.proofs.Signed.{lt-int_lt}
 use Rattle.pl_pipeline.proofs.Contained.{in-front, in-back, option-in, input-in}
 use Rattle.pl_spec.proofs.Windows.{before-zero, before-less}
 use Rattle.pl_derivation.specs.Facts.{Fact, Reading, window_facts, facts_now, number_facts, over_inputs, entry_facts, kind_facts, number_read, node_facts, premises}
-use Rattle.pl_derivation.specs.Facts.Fact.{Seen, Worth}
+use Rattle.pl_derivation.specs.Facts.Fact.{Seen, TermValue}
 use Rattle.pl_derivation.specs.Right.{has_sid, is_fitting}
 use Rattle.pl_derivation.specs.Walks.{depth_of}
 
@@ -117,7 +117,7 @@ module _ (w : World) (p : Pipeline) (ok : IsGraph p.graph) (windows : HasSession
   -- a fact that may stand in a derivation: it fits, and what it reaches to has days
   abbrev pub Fits : Fact → Type 0
   Fits (Seen c a s d) = (is_fitting w p (Seen c a s d) ≡ true) × IsSession w s × IsSession w d
-  Fits (Worth t a d) = (is_fitting w p (Worth t a d) ≡ true) × IsSession w d × (pos 0 ≤ℤ reach w.days (term_at g t) d)
+  Fits (TermValue t a d) = (is_fitting w p (TermValue t a d) ≡ true) × IsSession w d × (pos 0 ≤ℤ reach w.days (term_at g t) d)
 
   -- and of a lower depth
   abbrev pub Ready : ℕ → Fact → Type 0
@@ -179,7 +179,7 @@ module _ (w : World) (p : Pipeline) (ok : IsGraph p.graph) (windows : HasSession
             rw tree at_i
 
     module _ (a : ℕ) (d : ℤ) (sid : has_sid w a ≡ true) (now : IsSession w d) where
-      worth_ready : (t : ℕ) (s : ℤ) → Lower t → IsSession w s → pos 0 ≤ℤ reach w.days (term_at g t) s → Ready (suc k) (Worth t a s)
+      worth_ready : (t : ℕ) (s : ℤ) → Lower t → IsSession w s → pos 0 ≤ℤ reach w.days (term_at g t) s → Ready (suc k) (TermValue t a s)
       worth_ready t s lower at_s low = let l : t < k = lower.below in ((and_from _ _ sid lower.read, at_s, low), omega arith)
 
       bar_ready : (c : Column) (s : ℤ) → s <ℤ d → pos 0 ≤ℤ s → Ready (suc k) (Seen c a s d)
@@ -304,9 +304,9 @@ module _ (w : World) (p : Pipeline) (ok : IsGraph p.graph) (windows : HasSession
   -- the premises of a fact are ready before it
   pub premises_ready : (r : Reading) (f : Fact) (depth : ℕ) → Fits f → depth_of f ≤ suc depth → Each (Ready depth) (premises w p r f)
   premises_ready r (Seen c a s d) depth h l = tt
-  premises_ready r (Worth t a d) depth h l = found (slice_get g t) refl
+  premises_ready r (TermValue t a d) depth h l = found (slice_get g t) refl
     where
-      found : (o : Option Node) → slice_get g t ≡ o → Each (Ready depth) (premises w p r (Worth t a d))
+      found : (o : Option Node) → slice_get g t ≡ o → Each (Ready depth) (premises w p r (TermValue t a d))
       found None e = rw e tt
       found (Some n) e =
           let fit = and_parts (has_sid w a) (is_used p t) h.0 in

@@ -5,6 +5,7 @@ use Rattle.std.specs.List.{flat_map, join_by}
 use Rattle.std.proofs.lemmas.List.Folds.{flat_map-map}
 use Rattle.std.proofs.lemmas.Option.{slice_get-map, slice_get_read}
 use Rattle.std.proofs.lemmas.List.{length-map, flat_map_more, take_more}
+use Rattle.pl_spec.specs.Dates.{date_text}
 use Rattle.pl_derivation.specs.declared.line.Line as code
 use Rattle.pl_derivation.specs.Listed.{line_of}
 use Rattle.pl_derivation.specs.Lines.{Line}
@@ -26,26 +27,25 @@ regroup : (b s f c n : List ℕ) → (((b ++ s) ++ f) ++ c) ++ n ≡ b ++ ((s ++
 regroup [] s f c n = ap (λ x. x ++ n) (append_assoc s f c)
 regroup (x ∷ b) s f c n = ap (λ r. x ∷ r) (regroup b s f c n)
 
-regroup_short : (b s f n : List ℕ) → ((b ++ s) ++ f) ++ n ≡ b ++ ((s ++ f) ++ n)
-regroup_short [] s f n = refl
-regroup_short (x ∷ b) s f n = ap (λ r. x ∷ r) (regroup_short b s f n)
+-- a word, some fields, and one more for each of a list
+joined : (b word : List ℕ) (front : List (List ℕ)) (xs : List ℤ) (spelled : ℤ → List ℕ)
+    → (fold (λ bytes f. bytes ++ ((32 ∷ []) ++ f)) (b ++ word) front ++ flat_map (λ x. (32 ∷ []) ++ spelled x) xs) ++ 10 ∷ []
+    ≡ b ++ ((word ++ behind (front ++ map spelled xs)) ++ 10 ∷ [])
+joined b word front xs spelled =
+    ap (λ t. (t ++ flat_map (λ x. (32 ∷ []) ++ spelled x) xs) ++ 10 ∷ []) (one_by_one (b ++ word) front)
+    ∙ regroup b word (behind front) (flat_map (λ x. (32 ∷ []) ++ spelled x) xs) (10 ∷ [])
+    ∙ ap (λ t. b ++ ((word ++ (behind front ++ t)) ++ 10 ∷ [])) (sym (flat_map-map (λ y. (32 ∷ []) ++ y) spelled xs))
+    ∙ ap (λ t. b ++ ((word ++ t) ++ 10 ∷ [])) (sym (flat_map-append (λ y. (32 ∷ []) ++ y) front (map spelled xs)))
 
 pub seen_joined : (b name a bar day : List ℕ) (cells : List ℤ)
     → ((((((b ++ codes "seen") ++ ((32 ∷ []) ++ name)) ++ ((32 ∷ []) ++ a)) ++ ((32 ∷ []) ++ bar)) ++ ((32 ∷ []) ++ day)) ++ flat_map (λ x. (32 ∷ []) ++ number_text x) cells) ++ 10 ∷ []
     ≡ b ++ (join_by (λ f. f) (32 ∷ []) (codes "seen" ∷ name ∷ a ∷ bar ∷ day ∷ map number_text cells) ++ 10 ∷ [])
-seen_joined b name a bar day cells =
-    let front = name ∷ a ∷ bar ∷ day ∷ [] in
-    ap (λ t. (t ++ flat_map (λ x. (32 ∷ []) ++ number_text x) cells) ++ 10 ∷ []) (one_by_one (b ++ codes "seen") front)
-    ∙ regroup b (codes "seen") (behind front) (flat_map (λ x. (32 ∷ []) ++ number_text x) cells) (10 ∷ [])
-    ∙ ap (λ t. b ++ ((codes "seen" ++ (behind front ++ t)) ++ 10 ∷ [])) (sym (flat_map-map (λ y. (32 ∷ []) ++ y) number_text cells))
-    ∙ ap (λ t. b ++ ((codes "seen" ++ t) ++ 10 ∷ [])) (sym (flat_map-append (λ y. (32 ∷ []) ++ y) front (map number_text cells)))
+seen_joined b name a bar day cells = joined b (codes "seen") (name ∷ a ∷ bar ∷ day ∷ []) cells number_text
 
-pub value_joined : (b t a day v : List ℕ)
-    → (((((b ++ codes "value") ++ ((32 ∷ []) ++ t)) ++ ((32 ∷ []) ++ a)) ++ ((32 ∷ []) ++ day)) ++ ((32 ∷ []) ++ v)) ++ 10 ∷ []
-    ≡ b ++ (join_by (λ f. f) (32 ∷ []) (codes "value" ∷ t ∷ a ∷ day ∷ v ∷ []) ++ 10 ∷ [])
-value_joined b t a day v =
-    let fields = t ∷ a ∷ day ∷ v ∷ [] in
-    ap (λ t. t ++ 10 ∷ []) (one_by_one (b ++ codes "value") fields) ∙ regroup_short b (codes "value") (behind fields) (10 ∷ [])
+pub value_joined : (b t a day v : List ℕ) (known : List ℤ)
+    → ((((((b ++ codes "value") ++ ((32 ∷ []) ++ t)) ++ ((32 ∷ []) ++ a)) ++ ((32 ∷ []) ++ day)) ++ ((32 ∷ []) ++ v)) ++ flat_map (λ x. (32 ∷ []) ++ date_text x) known) ++ 10 ∷ []
+    ≡ b ++ (join_by (λ f. f) (32 ∷ []) (codes "value" ∷ t ∷ a ∷ day ∷ v ∷ map date_text known) ++ 10 ∷ [])
+value_joined b t a day v known = joined b (codes "value") (t ∷ a ∷ day ∷ v ∷ []) known date_text
 
 pub text_begun : text_of [] ≡ []
 unfolding text_of

@@ -15,7 +15,7 @@ use Rattle.pl_pipeline.specs.Value.Part.{Nothing, Bars, Values}
 use Rattle.pl_pipeline.specs.Text.{kind_at}
 use Rattle.pl_pipeline.specs.Table.{Pipeline, in_array}
 use Rattle.pl_derivation.specs.Facts.{Fact, Reading, window_facts, facts_now, number_facts, over_inputs, entry_facts, kind_facts, value_from, column_read, input_read, number_read, node_read, node_facts, premises, single_step}
-use Rattle.pl_derivation.specs.Facts.Fact.{Seen, Worth}
+use Rattle.pl_derivation.specs.Facts.Fact.{Seen, TermValue}
 use Rattle.pl_spec.proofs.Each.{Each, each_front, each_back, each_of_map, each_of_flat, each_more, each_known, map_each, filter_each}
 
 pub before-twice : (d : ℤ) (n : ℕ) → before (before d n) 1 ≡ before d (suc n)
@@ -121,7 +121,7 @@ module _ (w : World) (p : Pipeline) (r q : Reading) where
   window_alike k size a d (Some (TermInput t)) h =
       map_each _ _ (downward size)
       (each_more _ _ (downward size) (λ n e. ap (λ x. number_of (value_from w.texts (kind_at p.graph t) x)) e)
-      (each_of_map Same (λ n. Worth t a (before d n)) (downward size) h))
+      (each_of_map Same (λ n. TermValue t a (before d n)) (downward size) h))
 
   module _ (n : Node) (a : ℕ) (d : ℤ) where
     abbrev input : ℕ → Option Input
@@ -215,10 +215,10 @@ module _ (w : World) (p : Pipeline) (r q : Reading) where
   -- Where two readings have the same numbers for the premises, these are the same and so is the step.
   pub fact_same : (f : Fact) → Each Same (premises w p r f) → (premises w p r f ≡ premises w p q f) × (single_step w p r f ≡ single_step w p q f)
   fact_same (Seen c a s d) h = (refl, refl)
-  fact_same (Worth t a d) h = found (slice_get p.graph t) refl
+  fact_same (TermValue t a d) h = found (slice_get p.graph t) refl
     where
       found : (o : Option Node) → slice_get p.graph t ≡ o
-          → (premises w p r (Worth t a d) ≡ premises w p q (Worth t a d)) × (single_step w p r (Worth t a d) ≡ single_step w p q (Worth t a d))
+          → (premises w p r (TermValue t a d) ≡ premises w p q (TermValue t a d)) × (single_step w p r (TermValue t a d) ≡ single_step w p q (TermValue t a d))
       found None e = (rw e refl, rw e refl)
       found (Some n) e =
           let both = node_same n a d t (rw e at h) in

@@ -1,5 +1,5 @@
 -- What was written of lines is read back.
-use Rattle.std.proofs.Common.{◌≡◌, ℕ, zero, suc, ◌+◌, ◌<◌, ◌≤◌, ◌^◌, ◌==◌, Bool, true, false, not, ◌&&◌, ℤ, pos, negsuc, List, [], ◌∷◌, ◌++◌, length, map, Some, Ok, refl, sym, ◌∙◌, ap, arith, nat_le, nat_lt, bytes_eq, append_assoc, append-nil, codes, inl, inr}
+use Rattle.std.proofs.Common.{◌≡◌, ℕ, zero, suc, ◌+◌, ◌<◌, ◌≤◌, ◌^◌, ◌==◌, Bool, true, false, not, ◌&&◌, ℤ, pos, negsuc, List, [], ◌∷◌, ◌++◌, length, map, Option, Some, None, option_to_list, IfSome, Ok, refl, sym, ◌∙◌, ap, arith, nat_le, nat_lt, bytes_eq, append_assoc, append-nil, codes, inl, inr}
 use Rattle.std.specs.List.{flat_map, list_all, join_by}
 use Rattle.std.specs.Fmt.{decimal, signed_decimal, digits as decimal_digits}
 use Rattle.std.specs.Int.Digits.{digits_of}
@@ -20,7 +20,7 @@ use Rattle.pl_spec.proofs.DatesWritten.{IsDate-date_text}
 use Rattle.pl_spec.proofs.SidsRead.{sid_in-decimal}
 use Rattle.pl_derivation.specs.Lines.{Line}
 use Rattle.pl_derivation.specs.Lines.Line.{SeenLine, ValueLine}
-use Rattle.pl_derivation.specs.Texts.{number_text, fields_of, body_of, text_of, pieces, column_in, number_of_text, numbers_in, line_in_fields, line_in, lines_from, lines_in, AreCells, IsWritable, AreWritable}
+use Rattle.pl_derivation.specs.Texts.{number_text, fields_of, body_of, text_of, pieces, column_in, number_of_text, numbers_in, known_in, line_in_fields, line_in, lines_from, lines_in, AreCells, IsWritable, AreWritable}
 use Rattle.pl_spec.proofs.Each.{Each, each_both, each_in_map, each_all, each_more}
 use Rattle.pl_spec.specs.Names.{column_name}
 
@@ -110,12 +110,16 @@ numbers_plain (x ∷ xs) h = (number_plain x h.0, numbers_plain xs h.1)
 sid_plain : (n : ℕ) → n < 2 ^ 32 → Plain (decimal n)
 sid_plain n h = decimal_plain n (omega arith)
 
+known_plain : (known : Option ℤ) → IfSome known IsDay → Each Plain (map date_text (option_to_list known))
+known_plain None h = tt
+known_plain (Some day) h = (date_plain day h, tt)
+
 fields_plain : (l : Line) → IsWritable l → Each Plain (fields_of l)
 unfolding plain_byte
 fields_plain (SeenLine c a bar day cells) h =
     (literal_plain (codes "seen") refl, (column_plain c, (sid_plain a h.0, (date_plain bar h.1, (date_plain day h.2, numbers_plain cells h.4)))))
-fields_plain (ValueLine t a day v) h =
-    (literal_plain (codes "value") refl, (sid_plain t h.0, (sid_plain a h.1, (date_plain day h.2, (number_plain v h.3, tt)))))
+fields_plain (ValueLine t a day v known) h =
+    (literal_plain (codes "value") refl, (sid_plain t h.0, (sid_plain a h.1, (date_plain day h.2, (number_plain v h.3, known_plain known h.4)))))
 
 -- ---- fields are read back
 
@@ -182,11 +186,15 @@ date_back day h = date_in-IsDate (date_text day) day (IsDate-date_text day h)
 sid_back : (n : ℕ) → n < 2 ^ 32 → sid_in (decimal n) ≡ Some n
 sid_back n h = sid_in-decimal (decimal n) n h refl
 
+known_back : (known : Option ℤ) → IfSome known IsDay → known_in (map date_text (option_to_list known)) ≡ Some known
+known_back None h = refl
+known_back (Some day) h = rw (date_back day h) refl
+
 fields_back : (l : Line) → IsWritable l → line_in_fields (fields_of l) ≡ Some l
 fields_back (SeenLine c a bar day []) h = absurd (let some : 1 ≤ 0 = h.3 in omega arith)
 fields_back (SeenLine c a bar day (x ∷ xs)) h =
     rw (column_back c, sid_back a h.0, date_back bar h.1, date_back day h.2, number_back x h.4.0, numbers_back xs h.4.1) refl
-fields_back (ValueLine t a day v) h = rw (sid_back t h.0, sid_back a h.1, date_back day h.2, number_back v h.3) refl
+fields_back (ValueLine t a day v known) h = rw (sid_back t h.0, sid_back a h.1, date_back day h.2, number_back v h.3, known_back known h.4) refl
 
 -- ---- lines are read back
 
@@ -196,7 +204,7 @@ body_cut (f ∷ fs) some h = pieces_joined f fs (each_more _ _ f (λ x i. i.0) h
 
 some_fields : (l : Line) → 1 ≤ length (fields_of l)
 some_fields (SeenLine c a bar day cells) = omega arith
-some_fields (ValueLine t a day v) = omega arith
+some_fields (ValueLine t a day v known) = omega arith
 
 pub line_back : (l : Line) → IsWritable l → line_in (body_of l) ≡ Some l
 unfolding line_in
@@ -231,7 +239,7 @@ from_back n (l ∷ m ∷ ls) h few =
 text_there : (l : Line) (ls : List Line) → bytes_eq (text_of (l ∷ ls)) [] ≡ false
 unfolding text_of
 text_there (SeenLine c a bar day cells) ls = refl
-text_there (ValueLine t a day v) ls = refl
+text_there (ValueLine t a day v known) ls = refl
 
 pub read : (lines : List Line) → AreWritable lines → 1 ≤ length lines → length lines ≤ most_lines → lines_in (text_of lines) ≡ Ok lines
 unfolding lines_in

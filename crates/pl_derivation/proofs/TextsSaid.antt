@@ -1,5 +1,5 @@
 -- What is read as a line is the text of that line, and of no other.
-use Rattle.std.proofs.Common.{◌≡◌, ℕ, suc, ◌≤◌, ◌==◌, Bool, true, false, ◌&&◌, if◌then◌else◌, ℤ, List, [], ◌∷◌, length, map, Option, Some, None, option_map, refl, sym, ◌∙◌, ap, arith, nat_le, bytes_eq, codes, inl, inr}
+use Rattle.std.proofs.Common.{◌≡◌, ℕ, suc, ◌≤◌, ◌==◌, Bool, true, false, ◌&&◌, if◌then◌else◌, ℤ, List, [], ◌∷◌, length, map, Option, Some, None, option_map, option_to_list, IfSome, refl, sym, ◌∙◌, ap, arith, nat_le, bytes_eq, codes, inl, inr}
 use Rattle.std.specs.List.{join_by}
 use Rattle.std.specs.Option.{option_and_then}
 use Rattle.std.specs.Fmt.{decimal, signed_decimal}
@@ -20,7 +20,7 @@ use Rattle.pl_spec.proofs.Within.{missing-far}
 use Rattle.pl_spec.specs.Names.{column_name}
 use Rattle.pl_derivation.specs.Lines.{Line}
 use Rattle.pl_derivation.specs.Lines.Line.{SeenLine, ValueLine}
-use Rattle.pl_derivation.specs.Texts.{number_text, fields_of, body_of, in_first, pieces, column_in, number_of_text, numbers_in, seen_line, value_line, line_in_fields, line_in, AreCells, IsWritable}
+use Rattle.pl_derivation.specs.Texts.{number_text, fields_of, body_of, in_first, pieces, column_in, number_of_text, numbers_in, known_in, seen_line, value_line, line_in_fields, line_in, AreCells, IsWritable}
 
 -- ---- pieces put together again
 
@@ -151,32 +151,45 @@ seen_said (c ∷ a ∷ bar ∷ day ∷ x ∷ xs) l h =
           ∙ ap (λ f. codes "seen" ∷ column_name column.0 ∷ decimal sid.0 ∷ date_text first.0 ∷ date_text last.0 ∷ f) rest,
     )
 
+known_said : (fs : List (List ℕ)) (known : Option ℤ) → known_in fs ≡ Some known → (fs ≡ map date_text (option_to_list known)) × IfSome known IsDay
+known_said [] known h = let same : Some None ≡ Some known = h in let is : None ≡ known = cc in rw (sym is) (refl, tt)
+known_said (day ∷ []) known h =
+    let at = map_some (λ d. Some d) (date_in day) known h in
+    let is : known ≡ Some at.0 = at.2 in
+    let said = date_said day at.0 at.1 in
+    let spelled : day ≡ date_text at.0 = said.0 in
+    rw is (ap (λ f. f ∷ []) spelled, said.1)
+known_said (day ∷ f ∷ fs) known h = absurd (let bad : None ≡ Some known = h in cc)
+
 value_said : (fs : List (List ℕ)) (l : Line) → value_line fs ≡ Some l → IsWritable l × (codes "value" ∷ fs ≡ fields_of l)
 value_said [] l h = absurd (let bad : None ≡ Some l = h in cc)
 value_said (t ∷ []) l h = absurd (let bad : None ≡ Some l = h in cc)
 value_said (t ∷ a ∷ []) l h = absurd (let bad : None ≡ Some l = h in cc)
 value_said (t ∷ a ∷ day ∷ []) l h = absurd (let bad : None ≡ Some l = h in cc)
-value_said (t ∷ a ∷ day ∷ v ∷ u ∷ us) l h = absurd (let bad : None ≡ Some l = h in cc)
-value_said (t ∷ a ∷ day ∷ v ∷ []) l h =
+value_said (t ∷ a ∷ day ∷ v ∷ more) l h =
     let term = then_some _ (sid_in t) l h in
     let sid = then_some _ (sid_in a) l term.2 in
     let on = then_some _ (date_in day) l sid.2 in
-    let value = map_some _ (number_of_text v) l on.2 in
-    let is : l ≡ ValueLine term.0 sid.0 on.0 value.0 = value.2 in
+    let value = then_some _ (number_of_text v) l on.2 in
+    let known = map_some _ (known_in more) l value.2 in
+    let is : l ≡ ValueLine term.0 sid.0 on.0 value.0 known.0 = known.2 in
     let first = decimal-sid_in t term.0 term.1 in
     let second = decimal-sid_in a sid.0 sid.1 in
     let third = date_said day on.0 on.1 in
     let fourth = number_said v value.0 value.1 in
+    let fifth = known_said more known.0 known.1 in
     let e : t ≡ decimal term.0 = first.1 in
     let f : a ≡ decimal sid.0 = second.1 in
     let g : day ≡ date_text on.0 = third.0 in
     let i : v ≡ number_text value.0 = fourth.0 in
+    let j : more ≡ map date_text (option_to_list known.0) = fifth.0 in
     rw is (
-      (first.0, second.0, third.1, fourth.1),
-      ap (λ x. codes "value" ∷ x ∷ a ∷ day ∷ v ∷ []) e
-          ∙ ap (λ x. codes "value" ∷ decimal term.0 ∷ x ∷ day ∷ v ∷ []) f
-          ∙ ap (λ x. codes "value" ∷ decimal term.0 ∷ decimal sid.0 ∷ x ∷ v ∷ []) g
-          ∙ ap (λ x. codes "value" ∷ decimal term.0 ∷ decimal sid.0 ∷ date_text on.0 ∷ x ∷ []) i,
+      (first.0, second.0, third.1, fourth.1, fifth.1),
+      ap (λ x. codes "value" ∷ x ∷ a ∷ day ∷ v ∷ more) e
+          ∙ ap (λ x. codes "value" ∷ decimal term.0 ∷ x ∷ day ∷ v ∷ more) f
+          ∙ ap (λ x. codes "value" ∷ decimal term.0 ∷ decimal sid.0 ∷ x ∷ v ∷ more) g
+          ∙ ap (λ x. codes "value" ∷ decimal term.0 ∷ decimal sid.0 ∷ date_text on.0 ∷ x ∷ more) i
+          ∙ ap (λ x. codes "value" ∷ decimal term.0 ∷ decimal sid.0 ∷ date_text on.0 ∷ number_text value.0 ∷ x) j,
     )
 
 fields_said : (fs : List (List ℕ)) (l : Line) → line_in_fields fs ≡ Some l → IsWritable l × (fs ≡ fields_of l)

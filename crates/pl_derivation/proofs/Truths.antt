@@ -1,7 +1,7 @@
--- Where no line is wrong, each tells the number that the world has.
+-- Where no line is wrong, each states the number that the world has.
 use Rattle.std.proofs.Common.{◌≡◌, ℕ, suc, Bool, true, false, ◌&&◌, ℤ, pos, List, [], ◌∷◌, ◌++◌, fold, get_or, Option, Some, None, option_map, refl, sym, ◌∙◌, ap, slice_get, ◌==◌, inl, inr}
 use Rattle.std.specs.List.{list_any, list_all}
-use Rattle.std.specs.Option.{option_and_then, option_to_list}
+use Rattle.std.specs.Option.{option_and_then, option_eq, option_to_list}
 use Rattle.std.specs.Ordering.{int_eq}
 use Rattle.std.specs.Cmp.Lexicographic.{pointwise}
 use Rattle.std.proofs.lemmas.Bool.{true≢false, or_cases, and_parts, eqb-true, eq-eqb}
@@ -14,10 +14,10 @@ use Rattle.pl_spec.specs.World.{World, day_of, bar_cell, column_number}
 use Rattle.pl_spec.specs.Window.{Effect, changed, after_all, effects, seen_cell}
 use Rattle.pl_pipeline.specs.Term.{IsGraph}
 use Rattle.pl_pipeline.specs.Table.{Pipeline}
-use Rattle.pl_derivation.specs.Facts.{Fact, Reading, same_fact, number_in, premises, single_step}
-use Rattle.pl_derivation.specs.Facts.Fact.{Seen, Worth}
+use Rattle.pl_derivation.specs.Facts.{Fact, Reading, same_fact, number_in, known_day, premises, single_step}
+use Rattle.pl_derivation.specs.Facts.Fact.{Seen, TermValue}
 use Rattle.pl_derivation.specs.Lines.{Line}
-use Rattle.pl_derivation.specs.Right.{session_of, fact_of, last_cell, number_told, is_about, is_told, reading_of, is_fitting, after_each, seen_cells, tells_step, is_right_about, is_right, wrong_behind, first_wrong}
+use Rattle.pl_derivation.specs.Right.{session_of, fact_of, last_cell, number_stated, is_about, is_stated, reading_of, is_fitting, after_each, seen_cells, states_step, is_right_about, is_right, wrong_behind, first_wrong}
 use Rattle.pl_derivation.specs.Lines.Line.{SeenLine, ValueLine}
 use Rattle.pl_cross.specs.Arrays.{HasTexts}
 use Rattle.pl_derivation.specs.Laws.{IsTrueLine}
@@ -48,15 +48,27 @@ pub same_is : (f g : Fact) → same_fact f g ≡ true → f ≡ g
 same_is (Seen c a s d) (Seen c' a' s' d') h =
     let p = and4 (column_number c == column_number c') (a == a') (int_eq s s') (int_eq d d') h in
     rw (column_same c c' p.0, eqb-true a a' p.1, int_eq-true s s' p.2, int_eq-true d d' p.3) refl
-same_is (Worth t a d) (Worth t' a' d') h =
+same_is (TermValue t a d) (TermValue t' a' d') h =
     let p = and3 (t == t') (a == a') (int_eq d d') h in
     rw (eqb-true t t' p.0, eqb-true a a' p.1, int_eq-true d d' p.2) refl
-same_is (Seen c a s d) (Worth t' a' d') h = absurd (true≢false (sym h))
-same_is (Worth t a d) (Seen c' a' s' d') h = absurd (true≢false (sym h))
+same_is (Seen c a s d) (TermValue t' a' d') h = absurd (true≢false (sym h))
+same_is (TermValue t a d) (Seen c' a' s' d') h = absurd (true≢false (sym h))
 
 pub is_same : (f : Fact) → same_fact f f ≡ true
 is_same (Seen c a s d) = rw (nat_same (column_number c), nat_same a, int_eq-itself s, int_eq-itself d) refl
-is_same (Worth t a d) = rw (nat_same t, nat_same a, int_eq-itself d) refl
+is_same (TermValue t a d) = rw (nat_same t, nat_same a, int_eq-itself d) refl
+
+-- ---- days of records
+
+pub day_same : (x y : Option ℤ) → option_eq int_eq x y ≡ true → x ≡ y
+day_same None None h = refl
+day_same (Some x) (Some y) h = ap Some (int_eq-true x y h)
+day_same None (Some y) h = absurd (true≢false (sym h))
+day_same (Some x) None h = absurd (true≢false (sym h))
+
+pub same_day : (x : Option ℤ) → option_eq int_eq x x ≡ true
+same_day None = refl
+same_day (Some x) = int_eq-itself x
 
 -- ---- the fact of a line
 
@@ -86,9 +98,9 @@ seen_sessions c a f None q h = absurd (let bad : None ≡ Some f = h in cc)
 seen_sessions c a f (Some s) None h = absurd (let bad : None ≡ Some f = h in cc)
 seen_sessions c a f (Some s) (Some d) h = let same : Some (Seen c a (pos s) (pos d)) ≡ Some f = h in (s, d, refl, refl, cc)
 
-value_session : (t a : ℕ) (f : Fact) (q : Option ℕ) → option_map (λ d. Worth t a (pos d)) q ≡ Some f → (d : ℕ) × (q ≡ Some d) × (f ≡ Worth t a (pos d))
+value_session : (t a : ℕ) (f : Fact) (q : Option ℕ) → option_map (λ d. TermValue t a (pos d)) q ≡ Some f → (d : ℕ) × (q ≡ Some d) × (f ≡ TermValue t a (pos d))
 value_session t a f None h = absurd (let bad : None ≡ Some f = h in cc)
-value_session t a f (Some d) h = let same : Some (Worth t a (pos d)) ≡ Some f = h in (d, refl, cc)
+value_session t a f (Some d) h = let same : Some (TermValue t a (pos d)) ≡ Some f = h in (d, refl, cc)
 
 -- ---- the cells of a bar
 
@@ -115,69 +127,78 @@ none_wrong h = cc
 
 module _ (w : World) (p : Pipeline) where
   -- a line whose fact's number is the world's
-  abbrev pub Tells : Line → Type 0
-  Tells l = (f : Fact) → fact_of w l ≡ Some f → number_told l ≡ number_in w p f
+  abbrev pub States : Line → Type 0
+  States l = (f : Fact) → fact_of w l ≡ Some f → number_stated l ≡ number_in w p f
 
-  -- the first line about a fact tells its number
-  pub told_true : (lines : List Line) (f : Fact) → Each Tells lines → is_told w lines f ≡ true → reading_of w lines f ≡ number_in w p f
-  told_true [] f h i = absurd (true≢false (sym i))
-  told_true (l ∷ lines) f h i = step (is_about w f l) refl i (told_true lines f h.1)
+  -- the first line about a fact states its number
+  pub stated_true : (lines : List Line) (f : Fact) → Each States lines → is_stated w lines f ≡ true → reading_of w lines f ≡ number_in w p f
+  stated_true [] f h i = absurd (true≢false (sym i))
+  stated_true (l ∷ lines) f h i = step (is_about w f l) refl i (stated_true lines f h.1)
     where
-      step : (b : Bool) → is_about w f l ≡ b → is_told w (l ∷ lines) f ≡ true → (is_told w lines f ≡ true → reading_of w lines f ≡ number_in w p f)
+      step : (b : Bool) → is_about w f l ≡ b → is_stated w (l ∷ lines) f ≡ true → (is_stated w lines f ≡ true → reading_of w lines f ≡ number_in w p f)
           → reading_of w (l ∷ lines) f ≡ number_in w p f
       step true e i more = rw e (h.0 f (fact_is w f l e))
       step false e i more = rw e (more (rw e at i))
 
-  tells_number : (r : Reading) (l : Line) (f : Fact) → tells_step w p r l f ≡ true → number_told l ≡ single_step w p r f
-  tells_number r (SeenLine c' a' bar day cells) (Seen c a s d) h =
+  states_number : (r : Reading) (l : Line) (f : Fact) → states_step w p r l f ≡ true → number_stated l ≡ single_step w p r f
+  states_number r (SeenLine c' a' bar day cells) (Seen c a s d) h =
       let same : cells ≡ seen_cells w a c s d = (slice_eq-Decides Decides-int_eq cells (seen_cells w a c s d) _ refl).0 h in
       ap last_cell same ∙ last_seen w a c s d
-  tells_number r (SeenLine c' a' bar day cells) (Worth t a d) h = absurd (true≢false (sym h))
-  tells_number r (ValueLine t a day v) f h = int_eq-true v (single_step w p r f) h
+  states_number r (SeenLine c' a' bar day cells) (TermValue t a d) h = absurd (true≢false (sym h))
+  states_number r (ValueLine t a day v known) f h =
+      int_eq-true v (single_step w p r f) (and_parts (int_eq v (single_step w p r f)) (option_eq int_eq known (known_day w p f)) h).0
+
+  -- the day that a line of a value states
+  states_known : (r : Reading) (t a : ℕ) (day v : ℤ) (known : Option ℤ) (f : Fact) → states_step w p r (ValueLine t a day v known) f ≡ true → known ≡ known_day w p f
+  states_known r t a day v known f h =
+      day_same known (known_day w p f) (and_parts (int_eq v (single_step w p r f)) (option_eq int_eq known (known_day w p f)) h).1
 
   module _ (known : HasTexts w) (ok : IsGraph p.graph) where
     -- after true lines a right line is true
-    right_about : (lines : List Line) → Each Tells lines → (l : Line) (f : Fact) → is_right_about w p lines l (Some f) ≡ true → number_told l ≡ number_in w p f
+    right_about : (lines : List Line) → Each States lines → (l : Line) (f : Fact) → is_right_about w p lines l (Some f) ≡ true → number_stated l ≡ number_in w p f
     right_about lines h l f e =
-        let parts = and3 (is_fitting w p f) (list_all (is_told w lines) (premises w p (reading_of w lines) f)) (tells_step w p (reading_of w lines) l f) e in
-        let stand = each_list_all (is_told w lines) (premises w p (reading_of w lines) f) parts.1 in
+        let parts = and3 (is_fitting w p f) (list_all (is_stated w lines) (premises w p (reading_of w lines) f)) (states_step w p (reading_of w lines) l f) e in
+        let stand = each_list_all (is_stated w lines) (premises w p (reading_of w lines) f) parts.1 in
         let agree : Each (λ g. reading_of w lines g ≡ number_in w p g) (premises w p (reading_of w lines) f)
-        = each_more _ _ (premises w p (reading_of w lines) f) (λ g i. told_true lines g h i) stand in
-        tells_number (reading_of w lines) l f parts.2 ∙ (fact_same w p (reading_of w lines) (number_in w p) f agree).1 ∙ step_true w p known ok f
+        = each_more _ _ (premises w p (reading_of w lines) f) (λ g i. stated_true lines g h i) stand in
+        states_number (reading_of w lines) l f parts.2 ∙ (fact_same w p (reading_of w lines) (number_in w p) f agree).1 ∙ step_true w p known ok f
 
-    pub right_tells : (lines : List Line) → Each Tells lines → (l : Line) → is_right w p lines l ≡ true → Tells l
-    right_tells lines h l e f i = right_about lines h l f (rw i at e)
+    pub right_states : (lines : List Line) → Each States lines → (l : Line) → is_right w p lines l ≡ true → States l
+    right_states lines h l e f i = right_about lines h l f (rw i at e)
 
     -- what a right line has besides: its days are sessions, and its cells are those of the bar
-    right_line : (lines : List Line) → Each Tells lines → (l : Line) → is_right w p lines l ≡ true → IsTrueLine w p l
+    right_line : (lines : List Line) → Each States lines → (l : Line) → is_right w p lines l ≡ true → IsTrueLine w p l
     right_line lines h l e = found (fact_of w l) refl
       where
-        true_line : (l : Line) (f : Fact) → fact_of w l ≡ Some f → is_right_about w p lines l (Some f) ≡ true → number_told l ≡ number_in w p f → IsTrueLine w p l
+        true_line : (l : Line) (f : Fact) → fact_of w l ≡ Some f → is_right_about w p lines l (Some f) ≡ true → number_stated l ≡ number_in w p f → IsTrueLine w p l
         true_line (SeenLine c a bar day cells) f i e n =
             let at = seen_sessions c a f (session_of w bar) (session_of w day) i in
             let fact : f ≡ Seen c a (pos at.0) (pos at.1) = at.4 in
-            let parts = and3 (is_fitting w p f) (list_all (is_told w lines) (premises w p (reading_of w lines) f)) (tells_step w p (reading_of w lines) (SeenLine c a bar day cells) f) e in
-            let told : pointwise int_eq cells (seen_cells w a c (pos at.0) (pos at.1)) ≡ true = rw fact at parts.2 in
-            let same : cells ≡ seen_cells w a c (pos at.0) (pos at.1) = (slice_eq-Decides Decides-int_eq cells (seen_cells w a c (pos at.0) (pos at.1)) _ refl).0 told in
+            let parts = and3 (is_fitting w p f) (list_all (is_stated w lines) (premises w p (reading_of w lines) f)) (states_step w p (reading_of w lines) (SeenLine c a bar day cells) f) e in
+            let stated : pointwise int_eq cells (seen_cells w a c (pos at.0) (pos at.1)) ≡ true = rw fact at parts.2 in
+            let same : cells ≡ seen_cells w a c (pos at.0) (pos at.1) = (slice_eq-Decides Decides-int_eq cells (seen_cells w a c (pos at.0) (pos at.1)) _ refl).0 stated in
             let ends : (front : List ℤ) × (seen_cells w a c (pos at.0) (pos at.1) ≡ front ++ seen_cell w a c (pos at.0) (pos at.1) ∷ []) = seen_ends w a c (pos at.0) (pos at.1) in
             (at.0, at.1, session_is w bar at.0 at.2, session_is w day at.1 at.3, ends.0, same ∙ ends.1)
-        true_line (ValueLine t a day v) f i e n =
+        true_line (ValueLine t a day v known) f i e n =
             let at = value_session t a f (session_of w day) i in
-            let fact : f ≡ Worth t a (pos at.0) = at.2 in
-            (at.0, session_is w day at.0 at.1, rw fact at n)
+            let fact : f ≡ TermValue t a (pos at.0) = at.2 in
+            let r : Reading = reading_of w lines in
+            let parts = and3 (is_fitting w p f) (list_all (is_stated w lines) (premises w p r f)) (states_step w p r (ValueLine t a day v known) f) e in
+            let stated : known ≡ known_day w p f = states_known r t a day v known f parts.2 in
+            (at.0, session_is w day at.0 at.1, rw fact at n, rw fact at stated)
 
         found : (o : Option Fact) → fact_of w l ≡ o → IsTrueLine w p l
         found None i = let no : false ≡ true = rw i at e in absurd (true≢false (sym no))
-        found (Some f) i = true_line l f i (rw i at e) (right_tells lines h l e f i)
+        found (Some f) i = true_line l f i (rw i at e) (right_states lines h l e f i)
 
     pub no_map : (o : Option ℕ) → option_map suc o ≡ None → o ≡ None
     no_map None h = refl
     no_map (Some n) h = absurd (let bad : Some (suc n) ≡ None = h in cc)
 
-    pub all_true : (lines ls : List Line) → Each Tells lines → wrong_behind w p lines ls ≡ None → Each (IsTrueLine w p) ls
+    pub all_true : (lines ls : List Line) → Each States lines → wrong_behind w p lines ls ≡ None → Each (IsTrueLine w p) ls
     all_true lines [] h e = tt
     all_true lines (l ∷ ls) h e =
-        step (is_right w p lines l) refl e (λ i. all_true (lines ++ l ∷ []) ls (each_both Tells lines (l ∷ []) h (right_tells lines h l i, tt)))
+        step (is_right w p lines l) refl e (λ i. all_true (lines ++ l ∷ []) ls (each_both States lines (l ∷ []) h (right_states lines h l i, tt)))
       where
         step : (b : Bool) → is_right w p lines l ≡ b → wrong_behind w p lines (l ∷ ls) ≡ None
             → (is_right w p lines l ≡ true → wrong_behind w p (lines ++ l ∷ []) ls ≡ None → Each (IsTrueLine w p) ls) → Each (IsTrueLine w p) (l ∷ ls)

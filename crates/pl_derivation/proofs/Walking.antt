@@ -1,6 +1,7 @@
 -- The lines of a walk are right.
 use Rattle.std.proofs.Common.{◌≡◌, ℕ, zero, suc, ◌<◌, ◌≤◌, Bool, true, false, ◌||◌, ℤ, pos, ◌<ℤ◌, List, [], ◌∷◌, ◌++◌, length, map, fold, get_or, Option, Some, None, option_map, refl, sym, ◌∙◌, ap, arith, AllPairs, inl, inr, ◌⊎◌, append_assoc, append-nil}
 use Rattle.std.specs.List.{list_all}
+use Rattle.std.specs.Option.{option_eq}
 use Rattle.std.specs.Ordering.{int_eq}
 use Rattle.std.proofs.lemmas.Int.{ints}
 use Rattle.std.proofs.lemmas.Bool.{true≢false, cases_Bool, or_cases, or_left, or_right, and_from}
@@ -13,17 +14,17 @@ use Rattle.pl_spec.specs.World.{World, IsWorld, day_of}
 use Rattle.pl_pipeline.specs.Term.{IsGraph}
 use Rattle.pl_pipeline.specs.Table.{Pipeline}
 use Rattle.pl_spec.proofs.Places.{is_at}
-use Rattle.pl_derivation.specs.Facts.{Fact, Reading, same_fact, number_in, premises, single_step}
-use Rattle.pl_derivation.specs.Facts.Fact.{Seen, Worth}
+use Rattle.pl_derivation.specs.Facts.{Fact, Reading, same_fact, number_in, known_day, premises, single_step}
+use Rattle.pl_derivation.specs.Facts.Fact.{Seen, TermValue}
 use Rattle.pl_derivation.specs.Lines.{Line}
-use Rattle.pl_derivation.specs.Right.{session_of, fact_of, number_told, is_about, is_told, reading_of, is_fitting, seen_cells, tells_step, is_right, wrong_behind}
+use Rattle.pl_derivation.specs.Right.{session_of, fact_of, number_stated, is_about, is_stated, reading_of, is_fitting, seen_cells, states_step, is_right, wrong_behind}
 use Rattle.pl_derivation.specs.Walks.{IsOnce, is_in, finish, depth_of, date_of, line_for, derivation}
 use Rattle.pl_cross.specs.Arrays.{HasTexts}
 use Rattle.pl_derivation.specs.Laws.{IsAsked, IsDerivation}
 use Rattle.pl_spec.proofs.Each.{Each, each_both, each_more, each_in_map, list_all_each}
 use Rattle.pl_derivation.proofs.Steps.{fact_same}
 use Rattle.pl_derivation.proofs.Codes.{step_true}
-use Rattle.pl_derivation.proofs.Truths.{same_is, is_same, is_fact, last_seen, Tells, told_true, none_wrong}
+use Rattle.pl_derivation.proofs.Truths.{same_is, is_same, same_day, is_fact, last_seen, States, stated_true, none_wrong}
 use Rattle.pl_derivation.proofs.Fits.{HasSessions, IsSession, Fits, Ready, premises_ready}
 
 not_equal : (x y : ℤ) → x <ℤ y → int_eq x y ≡ false
@@ -51,14 +52,14 @@ module _ (w : World) (p : Pipeline) (ok : IsWorld w) (known : HasTexts w) (graph
   -- a fact's line is about it
   line_is : (f : Fact) → Fit f → fact_of w (line_for w p f) ≡ Some f
   line_is (Seen c a s d) h = let e : s ≡ pos h.1.0 = h.1.2 in let f : d ≡ pos h.2.0 = h.2.2 in rw (date_session s h.1, date_session d h.2) (rw (e, f) refl)
-  line_is (Worth t a d) h = let f : d ≡ pos h.1.0 = h.1.2 in rw (date_session d h.1) (rw f refl)
+  line_is (TermValue t a d) h = let f : d ≡ pos h.1.0 = h.1.2 in rw (date_session d h.1) (rw f refl)
 
-  line_number : (f : Fact) → number_told (line_for w p f) ≡ number_in w p f
+  line_number : (f : Fact) → number_stated (line_for w p f) ≡ number_in w p f
   line_number (Seen c a s d) = last_seen w a c s d
-  line_number (Worth t a d) = refl
+  line_number (TermValue t a d) = refl
 
-  line_tells : (f : Fact) → Fit f → Tells w p (line_for w p f)
-  line_tells f h g e =
+  line_states : (f : Fact) → Fit f → States w p (line_for w p f)
+  line_states f h g e =
       let same : Some f ≡ Some g = sym (line_is f h) ∙ e in
       let fact : f ≡ g = cc in
       line_number f ∙ ap (number_in w p) fact
@@ -66,24 +67,26 @@ module _ (w : World) (p : Pipeline) (ok : IsWorld w) (known : HasTexts w) (graph
   abbrev lines_of : List Fact → List Line
   lines_of done = map (line_for w p) done
 
-  tells_all : (done : List Fact) → Each Fit done → Each (Tells w p) (lines_of done)
-  tells_all done h = each_in_map (Tells w p) (line_for w p) done (each_more _ _ done line_tells h)
+  states_all : (done : List Fact) → Each Fit done → Each (States w p) (lines_of done)
+  states_all done h = each_in_map (States w p) (line_for w p) done (each_more _ _ done line_states h)
 
-  stands : (done : List Fact) (f : Fact) → Each Fit done → is_in done f ≡ true → is_told w (lines_of done) f ≡ true
+  stands : (done : List Fact) (f : Fact) → Each Fit done → is_in done f ≡ true → is_stated w (lines_of done) f ≡ true
   stands [] f h i = absurd (true≢false (sym i))
   stands (g ∷ done) f h i = elim (or_cases (same_fact f g) (is_in done f) i) [
     | inl e ↦ let same : f ≡ g = same_is f g e in
-        or_left (is_about w f (line_for w p g)) (is_told w (lines_of done) f) (is_fact w f (line_for w p g) (line_is g h.0 ∙ ap Some (sym same)))
-    | inr e ↦ or_right (is_about w f (line_for w p g)) (is_told w (lines_of done) f) (stands done f h.1 e)
+        or_left (is_about w f (line_for w p g)) (is_stated w (lines_of done) f) (is_fact w f (line_for w p g) (line_is g h.0 ∙ ap Some (sym same)))
+    | inr e ↦ or_right (is_about w f (line_for w p g)) (is_stated w (lines_of done) f) (stands done f h.1 e)
   ]
 
   fitting : (f : Fact) → Fit f → is_fitting w p f ≡ true
   fitting (Seen c a s d) h = h.0
-  fitting (Worth t a d) h = h.0
+  fitting (TermValue t a d) h = h.0
 
-  tells_step_of : (r : Reading) (f : Fact) → single_step w p r f ≡ number_in w p f → tells_step w p r (line_for w p f) f ≡ true
-  tells_step_of r (Seen c a s d) e = (slice_eq-Decides Decides-int_eq (seen_cells w a c s d) (seen_cells w a c s d) _ refl).1 refl
-  tells_step_of r (Worth t a d) e = (Decides-int_eq (number_in w p (Worth t a d)) (single_step w p r (Worth t a d))).1 (sym e)
+  states_step_of : (r : Reading) (f : Fact) → single_step w p r f ≡ number_in w p f → states_step w p r (line_for w p f) f ≡ true
+  states_step_of r (Seen c a s d) e = (slice_eq-Decides Decides-int_eq (seen_cells w a c s d) (seen_cells w a c s d) _ refl).1 refl
+  states_step_of r (TermValue t a d) e =
+      and_from (int_eq (number_in w p (TermValue t a d)) (single_step w p r (TermValue t a d))) (option_eq int_eq (known_day w p (TermValue t a d)) (known_day w p (TermValue t a d)))
+      ((Decides-int_eq (number_in w p (TermValue t a d)) (single_step w p r (TermValue t a d))).1 (sym e)) (same_day (known_day w p (TermValue t a d)))
 
   -- a fact's line is right after those of its premises
   line_right : (done : List Fact) → Each Fit done → (f : Fact) → Fit f → Each (λ g. is_in done g ≡ true) (premises w p (number_in w p) f)
@@ -91,14 +94,14 @@ module _ (w : World) (p : Pipeline) (ok : IsWorld w) (known : HasTexts w) (graph
   line_right done h f fit behind =
       let r : Reading = reading_of w (lines_of done) in
       let agree : Each (λ g. number_in w p g ≡ reading_of w (lines_of done) g) (premises w p (number_in w p) f)
-      = each_more _ _ (premises w p (number_in w p) f) (λ g i. sym (told_true w p (lines_of done) g (tells_all done h) (stands done g h i))) behind in
+      = each_more _ _ (premises w p (number_in w p) f) (λ g i. sym (stated_true w p (lines_of done) g (states_all done h) (stands done g h i))) behind in
       let both = fact_same w p (number_in w p) (reading_of w (lines_of done)) f agree in
-      let told : list_all (is_told w (lines_of done)) (premises w p (number_in w p) f) ≡ true
-      = list_all_each (is_told w (lines_of done)) (premises w p (number_in w p) f) (each_more _ _ (premises w p (number_in w p) f) (λ g i. stands done g h i) behind) in
-      let told_too : list_all (is_told w (lines_of done)) (premises w p (reading_of w (lines_of done)) f) ≡ true = rw both.0 at told in
-      let step : tells_step w p (reading_of w (lines_of done)) (line_for w p f) f ≡ true
-      = tells_step_of (reading_of w (lines_of done)) f (sym both.1 ∙ step_true w p known graph f) in
-      rw (line_is f fit, fitting f fit, told_too, step) refl
+      let stated : list_all (is_stated w (lines_of done)) (premises w p (number_in w p) f) ≡ true
+      = list_all_each (is_stated w (lines_of done)) (premises w p (number_in w p) f) (each_more _ _ (premises w p (number_in w p) f) (λ g i. stands done g h i) behind) in
+      let stated_too : list_all (is_stated w (lines_of done)) (premises w p (reading_of w (lines_of done)) f) ≡ true = rw both.0 at stated in
+      let step : states_step w p (reading_of w (lines_of done)) (line_for w p f) f ≡ true
+      = states_step_of (reading_of w (lines_of done)) f (sym both.1 ∙ step_true w p known graph f) in
+      rw (line_is f fit, fitting f fit, stated_too, step) refl
 
   one_more : (lines ls : List Line) (l : Line) → wrong_behind w p lines ls ≡ None → is_right w p (lines ++ ls) l ≡ true → wrong_behind w p lines (ls ++ l ∷ []) ≡ None
   one_more lines [] l h e = let here : is_right w p lines l ≡ true = rw (append-nil lines) at e in rw here refl
@@ -207,7 +210,7 @@ module _ (w : World) (p : Pipeline) (ok : IsWorld w) (known : HasTexts w) (graph
 
   some_depth : (f : Fact) → depth_of f ≡ 0 → ⊥
   some_depth (Seen c a s d) l = omega arith
-  some_depth (Worth t a d) l = omega arith
+  some_depth (TermValue t a d) l = omega arith
 
   finish_one : (depth : ℕ) → Finishes depth
   finish_one zero done f h r = absurd (some_depth f (let l : depth_of f ≤ 0 = r.1 in omega arith))
@@ -224,11 +227,11 @@ module _ (w : World) (p : Pipeline) (ok : IsWorld w) (known : HasTexts w) (graph
   -- The law: the derivation of a value is right, and ends with it.
   pub complete : (t a d : ℕ) → IsAsked w p t a d → IsDerivation w p t a d (derivation w p t a (pos d))
   complete t a d ask =
-      let fit : Fit (Worth t a (pos d)) = (and_from _ _ ask.known ask.used, (d, ask.day, refl, ask.session), ask.reached) in
-      let all = finish_one (suc (suc t)) [] (Worth t a (pos d)) (tt, refl, tt) (fit, omega arith) in
+      let fit : Fit (TermValue t a (pos d)) = (and_from _ _ ask.known ask.used, (d, ask.day, refl, ask.session), ask.reached) in
+      let all = finish_one (suc (suc t)) [] (TermValue t a (pos d)) (tt, refl, tt) (fit, omega arith) in
       record {
         right = ap (option_map suc) all.0.1;
         once = all.0.2;
-        front = lines_of (fold (finish w p (suc t)) [] (premises w p (number_in w p) (Worth t a (pos d))));
-        last = map-append (line_for w p) (fold (finish w p (suc t)) [] (premises w p (number_in w p) (Worth t a (pos d)))) (Worth t a (pos d) ∷ []);
+        front = lines_of (fold (finish w p (suc t)) [] (premises w p (number_in w p) (TermValue t a (pos d))));
+        last = map-append (line_for w p) (fold (finish w p (suc t)) [] (premises w p (number_in w p) (TermValue t a (pos d)))) (TermValue t a (pos d) ∷ []);
       }

@@ -1,14 +1,19 @@
 -- Rows that were worked out by hand: they hold by computation.
-use Rattle.std.specs.Prelude.{◌≡◌, refl, pos, List, [], ◌∷◌, ◌++◌, codes, Some, None, Ok, Err}
+use Rattle.std.specs.Prelude.{◌≡◌, ℕ, ℤ, refl, pos, List, [], ◌∷◌, ◌++◌, codes, Some, None, Ok, Err}
 use Rattle.pl_spec.specs.declared.Column.TheVariants.{Close}
-use Rattle.pl_laws.proofs.Worked.Worlds.{opened, split, latest_close, units}
+use Rattle.pl_spec.specs.Rounding.{MISSING}
+use Rattle.pl_spec.specs.Numbers.{NumberRow}
+use Rattle.pl_spec.specs.World.{World}
+use Rattle.pl_pipeline.specs.Kind.{Kind}
+use Rattle.pl_pipeline.specs.Table.{Pipeline}
+use Rattle.pl_laws.proofs.Worked.Worlds.{opened, plain, split, latest_close, of_terms, units}
 use Rattle.pl_derivation.specs.Lines.{Line}
 use Rattle.pl_derivation.specs.Right.{first_wrong}
 use Rattle.pl_derivation.specs.Lines.Line.{SeenLine, ValueLine}
 use Rattle.pl_derivation.specs.Walks.{derivation}
 
 seen_and_value : List Line
-seen_and_value = SeenLine Close 1 (pos 19725) (pos 19726) (units 102 ∷ units 51 ∷ []) ∷ ValueLine 0 1 (pos 19726) (units 51) ∷ []
+seen_and_value = SeenLine Close 1 (pos 19725) (pos 19726) (units 102 ∷ units 51 ∷ []) ∷ ValueLine 0 1 (pos 19726) (units 51) None ∷ []
 
 a_close_before_a_split : derivation split latest_close 0 1 (pos 2) ≡ seen_and_value
 unfolding opened seen_and_value
@@ -18,10 +23,41 @@ all_is_right : first_wrong split latest_close seen_and_value ≡ None
 unfolding opened seen_and_value
 all_is_right = refl
 
-without_its_premise : first_wrong split latest_close (ValueLine 0 1 (pos 19726) (units 51) ∷ []) ≡ Some 1
+without_its_premise : first_wrong split latest_close (ValueLine 0 1 (pos 19726) (units 51) None ∷ []) ≡ Some 1
 unfolding opened
 without_its_premise = refl
 
-with_another_cell : first_wrong split latest_close (SeenLine Close 1 (pos 19725) (pos 19726) (units 102 ∷ pos 51000001 ∷ []) ∷ ValueLine 0 1 (pos 19726) (units 51) ∷ []) ≡ Some 1
+with_another_cell : first_wrong split latest_close (SeenLine Close 1 (pos 19725) (pos 19726) (units 102 ∷ pos 51000001 ∷ []) ∷ ValueLine 0 1 (pos 19726) (units 51) None ∷ []) ≡ Some 1
 unfolding opened
 with_another_cell = refl
+
+-- ---- a number beside bars
+
+score : List ℕ
+score = codes "score"
+
+scored_from : ℕ → ℤ → NumberRow
+scored_from day x = record { name = score; sid = 1; known = pos day; value = x }
+
+-- 3 from 2024-01-03 on, 4 from 01-05 on, and none from 01-09 on
+scored : World
+scored = record plain { numbers = scored_from 19725 (units 3) ∷ scored_from 19731 MISSING ∷ scored_from 19727 (units 4) ∷ [] }
+
+its_number : Pipeline
+its_number = record latest_close { graph = of_terms (Kind.Number 0) [] ∷ []; names = score ∷ [] }
+
+of_the_record_that_was_known_last : derivation scored its_number 0 1 (pos 4) ≡ ValueLine 0 1 (pos 19730) (units 4) (Some (pos 19727)) ∷ []
+unfolding opened scored scored_from its_number score
+of_the_record_that_was_known_last = refl
+
+of_an_empty_field : derivation scored its_number 0 1 (pos 5) ≡ ValueLine 0 1 (pos 19731) MISSING (Some (pos 19731)) ∷ []
+unfolding opened scored scored_from its_number score
+of_an_empty_field = refl
+
+with_the_day_of_an_older_record : first_wrong scored its_number (ValueLine 0 1 (pos 19730) (units 4) (Some (pos 19725)) ∷ []) ≡ Some 1
+unfolding opened scored scored_from its_number score
+with_the_day_of_an_older_record = refl
+
+without_the_records_day : first_wrong scored its_number (ValueLine 0 1 (pos 19730) (units 4) None ∷ []) ≡ Some 1
+unfolding opened scored scored_from its_number score
+without_the_records_day = refl

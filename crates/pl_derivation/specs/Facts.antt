@@ -1,12 +1,14 @@
 -- Facts, the facts that one rests on, and the single step that gives a fact's number from theirs.
-use Rattle.std.specs.Prelude.{ℕ, suc, Bool, false, ◌&&◌, if◌then◌else◌, ◌==◌, ℤ, List, [], ◌∷◌, ◌++◌, map, flat_map, Option, Some, None, option_map, unwrap_or, slice_get}
+use Rattle.std.specs.Prelude.{ℕ, suc, Bool, false, ◌&&◌, if◌then◌else◌, ◌==◌, ℤ, List, [], ◌∷◌, ◌++◌, map, flat_map, Option, Some, None, option_map, option_and_then, unwrap_or, slice_get}
 use Rattle.std.specs.Int.RustNames.{unsigned_abs}
 use Rattle.std.specs.Ordering.{int_eq}
 use Rattle.pl_spec.specs.declared.Column.{Column}
 use Rattle.pl_spec.specs.Rounding.{MISSING, is_missing}
-use Rattle.pl_spec.specs.World.{World, exists, living_sids, column_number}
+use Rattle.pl_spec.specs.Numbers.{known_at}
+use Rattle.pl_spec.specs.World.{World, day_of, exists, living_sids, column_number}
 use Rattle.pl_spec.specs.Periods.{period_start}
 use Rattle.pl_spec.specs.Window.{seen_cell, before, downward}
+use Rattle.pl_pipeline.specs.Kind as kinds
 use Rattle.pl_pipeline.specs.Kind.{Kind}
 use Rattle.pl_pipeline.specs.Kind.Kind.{Label, Window, Point, LabelTest, Cross, Downsample}
 use Rattle.pl_pipeline.specs.Term.{Input, Node}
@@ -21,11 +23,11 @@ use Rattle.pl_pipeline.specs.Text.{kind_at}
 -- session d
 pub data Fact : Type 0 where
   Seen : (column : Column) (a : ℕ) (s d : ℤ) → Fact
-  Worth : (t a : ℕ) (d : ℤ) → Fact
+  TermValue : (t a : ℕ) (d : ℤ) → Fact
 
 abbrev pub same_fact : Fact → Fact → Bool
 same_fact (Seen c a s d) (Seen c' a' s' d') = column_number c == column_number c' && a == a' && int_eq s s' && int_eq d d'
-same_fact (Worth t a d) (Worth t' a' d') = t == t' && a == a' && int_eq d d'
+same_fact (TermValue t a d) (TermValue t' a' d') = t == t' && a == a' && int_eq d d'
 same_fact f g = false
 
 -- a number for each fact, as arrays hold it
@@ -35,7 +37,20 @@ Reading = Fact → ℤ
 -- the numbers of the world itself
 abbrev pub number_in : World → Pipeline → Reading
 number_in w p (Seen c a s d) = seen_cell w a c s d
-number_in w p (Worth t a d) = in_array w.texts (value_of w p t a d)
+number_in w p (TermValue t a d) = in_array w.texts (value_of w p t a d)
+
+-- ---- the record of a number beside bars
+
+-- the day from which the number that a kind has for asset a on session d was known
+abbrev pub kind_known : World → Pipeline → Kind → ℕ → ℤ → Option ℤ
+kind_known w p (kinds.Number n) a d = option_and_then (known_at w.numbers (name_at p.names n) a) (day_of w d)
+kind_known w p k a d = None
+
+-- the day of the record that a fact's number is of, where it is that of a number beside bars
+abbrev pub known_day : World → Pipeline → Fact → Option ℤ
+known_day w p (Seen c a s d) = None
+known_day w p (TermValue t a d) =
+    if exists w a d then option_and_then (λ n. kind_known w p n.kind a d) (slice_get p.graph t) else None
 
 -- ---- the premises of a fact
 
@@ -43,18 +58,18 @@ number_in w p (Worth t a d) = in_array w.texts (value_of w p t a d)
 abbrev pub window_facts : ℕ → ℕ → ℤ → Option Input → List Fact
 window_facts size a d None = []
 window_facts size a d (Some (BarColumn c)) = map (λ n. Seen c a (before d (suc n)) d) (downward size)
-window_facts size a d (Some (TermInput t)) = map (λ n. Worth t a (before d n)) (downward size)
+window_facts size a d (Some (TermInput t)) = map (λ n. TermValue t a (before d n)) (downward size)
 
 -- an input on the session itself
 abbrev pub facts_now : ℕ → ℤ → Option Input → List Fact
 facts_now a d None = []
 facts_now a d (Some (BarColumn c)) = []
-facts_now a d (Some (TermInput t)) = Worth t a d ∷ []
+facts_now a d (Some (TermInput t)) = TermValue t a d ∷ []
 
 -- a mask or a group
 abbrev pub number_facts : ℕ → ℤ → Option ℕ → List Fact
 number_facts a d None = []
-number_facts a d (Some t) = Worth t a d ∷ []
+number_facts a d (Some t) = TermValue t a d ∷ []
 
 -- for each input of a node in turn
 abbrev pub over_inputs : (Option Input → List Fact) → Node → List Fact
@@ -81,7 +96,7 @@ value_from texts (Label n) x = if is_missing x then Number MISSING else Text (na
 value_from texts k x = Number x
 
 abbrev pub term_read : World → Pipeline → Reading → ℕ → Meaning
-term_read w p r t a d = value_from w.texts (kind_at p.graph t) (r (Worth t a d))
+term_read w p r t a d = value_from w.texts (kind_at p.graph t) (r (TermValue t a d))
 
 -- a window over the bars that are seen on session d
 abbrev pub bars_read : Reading → Column → ℤ → Meaning
@@ -118,9 +133,9 @@ node_facts w p r n a d =
 -- the facts that a fact rests on, in order, where the masks have the numbers of the reading
 abbrev pub premises : World → Pipeline → Reading → Fact → List Fact
 premises w p r (Seen c a s d) = []
-premises w p r (Worth t a d) = unwrap_or (option_map (λ n. node_facts w p r n a d) (slice_get p.graph t)) []
+premises w p r (TermValue t a d) = unwrap_or (option_map (λ n. node_facts w p r n a d) (slice_get p.graph t)) []
 
 -- the number of a fact by a single step over the numbers of the reading
 abbrev pub single_step : World → Pipeline → Reading → Fact → ℤ
 single_step w p r (Seen c a s d) = seen_cell w a c s d
-single_step w p r (Worth t a d) = in_array w.texts (unwrap_or (option_map (λ n. node_read w p r t n a d) (slice_get p.graph t)) (Number MISSING))
+single_step w p r (TermValue t a d) = in_array w.texts (unwrap_or (option_map (λ n. node_read w p r t n a d) (slice_get p.graph t)) (Number MISSING))

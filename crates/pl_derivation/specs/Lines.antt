@@ -1,9 +1,10 @@
 -- The lines of a derivation.
-use Rattle.std.specs.Prelude.{ℕ, ℤ, List}
+use Rattle.std.specs.Prelude.{ℕ, ℤ, List, Option}
 use Rattle.pl_spec.specs.declared.Column.{Column}
 
 -- What is said of one fact: the cells of a bar as it is seen on a later day, or the value of a term, by its
--- number, for an asset on a day. The cells are the bar's, and that after each change in turn.
+-- number, for an asset on a day. The cells are the bar's, and that after each change in turn. With the value of
+-- a number beside bars stands the day from which it was known, where any was.
 pub data Line : Type 0 where
   SeenLine : (column : Column) (sid : ℕ) (bar_day day : ℤ) (cells : List ℤ) → Line
-  ValueLine : (term sid : ℕ) (day : ℤ) (value : ℤ) → Line
+  ValueLine : (term sid : ℕ) (day value : ℤ) (known : Option ℤ) → Line

@@ -5,4 +5,4 @@ use Rattle.pl_derivation.specs.declared.line.Line.TheVariants.{Seen, Value}
 
 abbrev pub line_of : Line → spec.Line
 line_of (Seen column sid bar_day day cells) = spec.SeenLine column sid bar_day day cells
-line_of (Value term sid day value) = spec.ValueLine term sid day value
+line_of (Value v) = spec.ValueLine v.term v.sid v.day v.value v.known

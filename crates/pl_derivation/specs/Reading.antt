@@ -18,9 +18,9 @@ behind mark None = []
 behind mark (Some text) = pieces mark text
 
 -- what a text says with further lines in front
-abbrev pub lines_told : List Line → Result (List Line) Broken → Result (List Line) Broken
-lines_told ls (Ok more) = Ok (ls ++ more)
-lines_told ls (Err e) = Err e
+abbrev pub lines_stated : List Line → Result (List Line) Broken → Result (List Line) Broken
+lines_stated ls (Ok more) = Ok (ls ++ more)
+lines_stated ls (Err e) = Err e
 
 -- the fault of the text, or want of memory
 abbrev pub IsLinesFault : List ℕ → LinesError → Type 0
@@ -40,6 +40,6 @@ bar_line c a bar day cells =
 
 -- these lines were read of the text, and so much is left of it
 pub record IsRead (bytes : List ℕ) (items : List code.Line) (left : List ℕ) : Type 0 where
-  pub told : lines_in bytes ≡ lines_told (map line_of items) (lines_from (suc (length items)) (pieces 10 left))
+  pub stated : lines_in bytes ≡ lines_stated (map line_of items) (lines_from (suc (length items)) (pieces 10 left))
   pub few : length items ≤ most_lines
   pub writable : AreWritable (map line_of items)

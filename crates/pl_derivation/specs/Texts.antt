@@ -1,5 +1,5 @@
 -- The text of lines, and what a text says.
-use Rattle.std.specs.Prelude.{◌≡◌, ℕ, suc, ◌<◌, ◌≤◌, ◌^◌, nat_le, nat_lt, ◌&&◌, if◌then◌else◌, ◌==◌, ℤ, List, [], ◌∷◌, ◌++◌, length, map, flat_map, Option, Some, None, option_map, option_and_then, bytes_eq, codes, Result, Ok, Err}
+use Rattle.std.specs.Prelude.{◌≡◌, ℕ, suc, ◌<◌, ◌≤◌, ◌^◌, nat_le, nat_lt, ◌&&◌, if◌then◌else◌, ◌==◌, ℤ, List, [], ◌∷◌, ◌++◌, length, map, flat_map, Option, Some, None, option_map, option_and_then, option_to_list, IfSome, bytes_eq, codes, Result, Ok, Err}
 use Rattle.std.specs.List.{join_by}
 use Rattle.std.specs.Fmt.{decimal, signed_decimal}
 use Rattle.std.specs.Str.Parse.{signed_digits_value}
@@ -22,7 +22,7 @@ number_text x = if is_missing x then 45 ∷ [] else signed_decimal x
 
 abbrev pub fields_of : Line → List (List ℕ)
 fields_of (SeenLine c a bar day cells) = codes "seen" ∷ column_name c ∷ decimal a ∷ date_text bar ∷ date_text day ∷ map number_text cells
-fields_of (ValueLine t a day v) = codes "value" ∷ decimal t ∷ decimal a ∷ date_text day ∷ number_text v ∷ []
+fields_of (ValueLine t a day v known) = codes "value" ∷ decimal t ∷ decimal a ∷ date_text day ∷ number_text v ∷ map date_text (option_to_list known)
 
 -- the fields with one space between two of them
 abbrev pub body_of : Line → List ℕ
@@ -68,9 +68,16 @@ seen_line (c ∷ a ∷ bar ∷ day ∷ x ∷ xs) =
     option_map (SeenLine column sid bar_day view_day) (numbers_in (x ∷ xs))) (date_in day)) (date_in bar)) (sid_in a)) (column_in c)
 seen_line fields = None
 
+-- the day of a record, where there is a further field
+abbrev pub known_in : List (List ℕ) → Option (Option ℤ)
+known_in [] = Some None
+known_in (day ∷ []) = option_map (λ known. Some known) (date_in day)
+known_in fields = None
+
 abbrev pub value_line : List (List ℕ) → Option Line
-value_line (t ∷ a ∷ day ∷ v ∷ []) =
-    option_and_then (λ term. option_and_then (λ sid. option_and_then (λ day. option_map (ValueLine term sid day) (number_of_text v)) (date_in day)) (sid_in a)) (sid_in t)
+value_line (t ∷ a ∷ day ∷ v ∷ more) =
+    option_and_then (λ term. option_and_then (λ sid. option_and_then (λ day. option_and_then (λ value.
+    option_map (ValueLine term sid day value) (known_in more)) (number_of_text v)) (date_in day)) (sid_in a)) (sid_in t)
 value_line fields = None
 
 abbrev pub line_in_fields : List (List ℕ) → Option Line
@@ -113,7 +120,7 @@ AreCells (x ∷ xs) = IsCell x × AreCells xs
 -- what has a text of its own: numbers of 32 bits, days that have dates, cells
 abbrev pub IsWritable : Line → Type 0
 IsWritable (SeenLine c a bar day cells) = (a < 2 ^ 32) × IsDay bar × IsDay day × (1 ≤ length cells) × AreCells cells
-IsWritable (ValueLine t a day v) = (t < 2 ^ 32) × (a < 2 ^ 32) × IsDay day × IsCell v
+IsWritable (ValueLine t a day v known) = (t < 2 ^ 32) × (a < 2 ^ 32) × IsDay day × IsCell v × IfSome known IsDay
 
 abbrev pub AreWritable : List Line → Type 0
 AreWritable [] = Unit {0}

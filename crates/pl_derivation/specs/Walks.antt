@@ -3,8 +3,8 @@ use Rattle.std.specs.Prelude.{◌≡◌, false, ℕ, zero, suc, Bool, if◌then�
 use Rattle.std.specs.List.{list_any}
 use Rattle.pl_spec.specs.World.{World, day_of}
 use Rattle.pl_pipeline.specs.Table.{Pipeline}
-use Rattle.pl_derivation.specs.Facts.{Fact, same_fact, number_in, premises}
-use Rattle.pl_derivation.specs.Facts.Fact.{Seen, Worth}
+use Rattle.pl_derivation.specs.Facts.{Fact, same_fact, number_in, known_day, premises}
+use Rattle.pl_derivation.specs.Facts.Fact.{Seen, TermValue}
 use Rattle.pl_derivation.specs.Lines.{Line}
 use Rattle.pl_derivation.specs.Lines.Line.{SeenLine, ValueLine}
 use Rattle.pl_derivation.specs.Right.{seen_cells}
@@ -26,7 +26,7 @@ finish w p (suc depth) done f =
 
 abbrev pub depth_of : Fact → ℕ
 depth_of (Seen c a s d) = suc zero
-depth_of (Worth t a d) = suc (suc t)
+depth_of (TermValue t a d) = suc (suc t)
 
 -- the facts of the derivation of a fact, that fact last
 abbrev pub facts_for : World → Pipeline → Fact → List Fact
@@ -35,14 +35,14 @@ facts_for w p f = finish w p (depth_of f) [] f
 abbrev pub date_of : World → ℤ → ℤ
 date_of w d = unwrap_or (day_of w d) (pos 0)
 
--- the line that tells of a fact what the world has
+-- the line that states of a fact what the world has
 abbrev pub line_for : World → Pipeline → Fact → Line
 line_for w p (Seen c a s d) = SeenLine c a (date_of w s) (date_of w d) (seen_cells w a c s d)
-line_for w p (Worth t a d) = ValueLine t a (date_of w d) (number_in w p (Worth t a d))
+line_for w p (TermValue t a d) = ValueLine t a (date_of w d) (number_in w p (TermValue t a d)) (known_day w p (TermValue t a d))
 
 -- the derivation of the value of term t for asset a on session d
 abbrev pub derivation : World → Pipeline → ℕ → ℕ → ℤ → List Line
-derivation w p t a d = map (line_for w p) (facts_for w p (Worth t a d))
+derivation w p t a d = map (line_for w p) (facts_for w p (TermValue t a d))
 
 -- a walk only puts facts after those that are finished, so that one which is too long may stop
 abbrev pub WalksGrow : Type 0

@@ -13,7 +13,7 @@ pub fn lines_are_read()
     ensures { LinesAreRead }
 {}
 
-/// A list of right lines tells the truth.
+/// A list of right lines states the truth.
 pub fn right_lines_are_true()
     ensures { RightLinesAreTrue }
 {}
@@ -23,7 +23,7 @@ pub fn derivations_are_right()
     ensures { DerivationsAreRight }
 {}
 
-/// After right lines a line is right where its premises stand and it tells the truth.
+/// After right lines a line is right where its premises stand and it states the truth.
 pub fn right_is_true()
     ensures { RightIsTrue }
 {}

@@ -40,8 +40,20 @@ impl CellList {
     }
 }
 
+/// That a term has a value for an asset on a day. Days are counted from 1970-01-01; `value` is in millionths,
+/// a filter's 1 or 0, a label's code, or `MISSING`.
+#[derive(Clone, Copy, Debug)]
+pub struct ValueLine {
+    pub term: u32,
+    pub sid: u32,
+    pub day: i32,
+    pub value: i64,
+    /// The day from which a number beside bars was known; `None` where none was, and for all other terms.
+    pub known: Option<i32>,
+}
+
 /// What is said of one fact: a bar as it is seen from a later day, or the value of a term. Days are counted
-/// from 1970-01-01; `value` is in millionths, a filter's 1 or 0, a label's code, or `MISSING`.
+/// from 1970-01-01.
 #[derive(Debug, Drop)]
 pub enum Line {
     Seen {
@@ -51,12 +63,7 @@ pub enum Line {
         day: i32,
         cells: CellList,
     },
-    Value {
-        term: u32,
-        sid: u32,
-        day: i32,
-        value: i64,
-    },
+    Value(ValueLine),
 }
 
 /// The most lines of a derivation. The limit is this project's own.

@@ -1,13 +1,14 @@
 //! From lines to their text.
 
-ghost use Rattle.std.specs.Prelude.{◌≡◌, ◌++◌, ◌∷◌, [], IfOk, map, flat_map, decimal, codes};
+ghost use Rattle.std.specs.Prelude.{◌≡◌, ◌++◌, ◌∷◌, [], IfOk, IfSome, map, flat_map, option_to_list, decimal, codes};
 ghost use Rattle.pl_spec.specs.Dates.{IsDay, date_text};
 ghost use Rattle.pl_spec.specs.Names.{column_name};
 ghost use Rattle.pl_derivation.specs.Texts.{number_text, body_of, text_of, IsWritable};
 ghost use Rattle.pl_derivation.specs.Listed.{line_of};
-ghost use Rattle.pl_derivation.specs.Lines.Line.{SeenLine, ValueLine};
+ghost use Rattle.pl_derivation.specs.Lines.Line.{SeenLine};
+ghost use Rattle.pl_derivation.specs.declared.line.Line.TheVariants.{Value};
 
-use crate::line::{CellList, Derivation, Line};
+use crate::line::{CellList, Derivation, Line, ValueLine};
 use itoa::Buffer;
 use pl_fixed::{Memory, write_day};
 use pl_spec::Column;
@@ -93,22 +94,30 @@ fn put_seen(
     bytes.extend_from_slice(b"\n")
 }
 
-fn put_value(
-    bytes: &mut Vec<u8>,
-    term: u32,
-    sid: u32,
-    day: i32,
-    value: i64,
-) -> Result<(), AllocError>
-    requires { IsDay day }
+// The day of a record, where there is one.
+fn put_known(bytes: &mut Vec<u8>, known: Option<i32>) -> Result<(), AllocError>
+    requires { IfSome known IsDay }
     ensures { IfOk result (λ _. bytes.new.items
-        ≡ bytes.old.items ++ (body_of (ValueLine term sid day value) ++ 10 ∷ [])) }
+        ≡ bytes.old.items ++ flat_map (λ d. (32 ∷ []) ++ date_text d) (option_to_list known)) }
+{
+    match known {
+        None => Ok(()),
+        Some(day) => put_day(bytes, day),
+    }
+}
+
+fn put_value(bytes: &mut Vec<u8>, line: &ValueLine) -> Result<(), AllocError>
+    requires day { IsDay line.now.day }
+    requires known { IfSome line.now.known IsDay }
+    ensures { IfOk result (λ _. bytes.new.items
+        ≡ bytes.old.items ++ (body_of (line_of (Value line.now)) ++ 10 ∷ [])) }
 {
     bytes.extend_from_slice(b"value")?;
-    put_whole(bytes, term)?;
-    put_whole(bytes, sid)?;
-    put_day(bytes, day)?;
-    put_number(bytes, value)?;
+    put_whole(bytes, line.term)?;
+    put_whole(bytes, line.sid)?;
+    put_day(bytes, line.day)?;
+    put_number(bytes, line.value)?;
+    put_known(bytes, line.known)?;
     bytes.extend_from_slice(b"\n")
 }
 
@@ -125,12 +134,7 @@ fn put_line(bytes: &mut Vec<u8>, line: &Line) -> Result<(), AllocError>
             day,
             cells,
         } => put_seen(bytes, *column, *sid, *bar_day, *day, cells),
-        Line::Value {
-            term,
-            sid,
-            day,
-            value,
-        } => put_value(bytes, *term, *sid, *day, *value),
+        Line::Value(value) => put_value(bytes, value),
     }
 }
 

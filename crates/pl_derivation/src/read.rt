@@ -1,11 +1,11 @@
 //! Reading the text of lines.
 ghost use Rattle.std.specs.Prelude.{◌≡◌, ◌<◌, ◌+◌, ◌∷◌, ◌++◌, ◌==◌, All, Ok, IfOk, IfErr, IfSome, length, option_map, drop, position, []};
 ghost use Rattle.pl_spec.specs.Rounding.{IsCell};
-ghost use Rattle.pl_derivation.specs.Texts.{pieces, column_in, numbers_in, seen_line, value_line, line_in, lines_in};
+ghost use Rattle.pl_derivation.specs.Texts.{pieces, column_in, known_in, numbers_in, seen_line, value_line, line_in, lines_in};
 ghost use Rattle.pl_derivation.specs.Listed.{line_of};
 ghost use Rattle.pl_derivation.specs.Reading.{behind, bar_line, IsLinesFault};
 
-use crate::line::{CellList, Derivation, Line, MOST_LINES};
+use crate::line::{CellList, Derivation, Line, MOST_LINES, ValueLine};
 use crate::number::read_number;
 use pl_fixed::{read_day, read_sid};
 use pl_spec::Column;
@@ -83,8 +83,21 @@ fn read_cells(alloc: Global, text: &[u8]) -> Result<Option<CellList>, AllocError
     Ok(Some(CellList::new(cells)))
 }
 
+// The day of a record, where the text has a further field.
+#[tactic(auto, using(crate::proofs::Cuts::known_more))]
+fn read_known(text: Option<&[u8]>) -> Option<Option<i32>>
+    ensures { result ≡ known_in (behind 32 (option_map (λ r. r.now) text.entry)) }
+{
+    let Some(text) = text else {
+        return Some(None);
+    };
+    let (day, None) = cut(b' ', text) else {
+        return None;
+    };
+    Some(Some(read_day(day)?))
+}
+
 // What follows the word `value`.
-#[tactic(auto, using(crate::proofs::Cuts::value_more))]
 fn read_value(text: &[u8]) -> Option<Line>
     ensures { option_map line_of result ≡ value_line (pieces 32 text.now) }
 {
@@ -92,15 +105,13 @@ fn read_value(text: &[u8]) -> Option<Line>
     let (sid, rest) = cut(b' ', rest?);
     let (day, rest) = cut(b' ', rest?);
     let (value, rest) = cut(b' ', rest?);
-    match rest {
-        Some(_) => None,
-        None => Some(Line::Value {
-            term: read_sid(term)?,
-            sid: read_sid(sid)?,
-            day: read_day(day)?,
-            value: read_number(value)?,
-        }),
-    }
+    Some(Line::Value(ValueLine {
+        term: read_sid(term)?,
+        sid: read_sid(sid)?,
+        day: read_day(day)?,
+        value: read_number(value)?,
+        known: read_known(rest)?,
+    }))
 }
 
 // What the fields before the cells say of them.

@@ -21,7 +21,7 @@ use Rattle.pl_terms.specs.Nodes.{node_of, input_of, number_of}
 use Rattle.pl_terms.specs.Uses.{is_used}
 use Rattle.pl_terms.proofs.Graphs.{graph-long, used-within}
 use Rattle.pl_derivation.specs.Facts.{Fact, number_in, premises, over_inputs, entry_facts, facts_now, number_facts}
-use Rattle.pl_derivation.specs.Facts.Fact.{Worth}
+use Rattle.pl_derivation.specs.Facts.Fact.{TermValue}
 use Rattle.pl_derivation.specs.Right.{has_sid}
 use Rattle.pl_derivation.proofs.Fits.{HasSessions, premises_ready}
 use Rattle.pl_spec.proofs.Each.{Each}
@@ -32,7 +32,7 @@ use Rattle.pl_world.specs.declared.world.World.{World}
 use Rattle.pl_world.specs.Worlds.{world_of, IsMade}
 use Rattle.pl_world.specs.Evaluations.{IsAsked, IsAskedInput}
 use Rattle.pl_explain.specs.Reading.{ArePut, IsRoomy}
-use Rattle.pl_explain.specs.Walking.{CanStand, CanStandIn}
+use Rattle.pl_explain.specs.Walking.{MayBeDerived, CanStandIn}
 use Rattle.pl_explain.proofs.Values.{over-read}
 
 -- ---- putting
@@ -130,10 +130,10 @@ sessions-held c checked k n e =
 
 module _ (w : World) (c : Parts) (checked : IsChecked (pipeline_of c)) where
   -- the premises of a value that may stand may stand
-  pub premises-stand : (t a d : ℕ) → CanStand w c (Worth t a (pos d)) → Each (CanStandIn w c (t + 1)) (premises (world_of w) (pipeline_of c) (number_in (world_of w) (pipeline_of c)) (Worth t a (pos d)))
-  premises-stand t a d h = premises_ready (world_of w) (pipeline_of c) checked.graph (sessions-held c checked) (number_in (world_of w) (pipeline_of c)) (Worth t a (pos d)) (t + 1) h (omega arith)
+  pub premises-stand : (t a d : ℕ) → MayBeDerived w c (TermValue t a (pos d)) → Each (CanStandIn w c (t + 1)) (premises (world_of w) (pipeline_of c) (number_in (world_of w) (pipeline_of c)) (TermValue t a (pos d)))
+  premises-stand t a d h = premises_ready (world_of w) (pipeline_of c) checked.graph (sessions-held c checked) (number_in (world_of w) (pipeline_of c)) (TermValue t a (pos d)) (t + 1) h (omega arith)
 
-  module _ (t a d : ℕ) (h : CanStand w c (Worth t a (pos d))) where
+  module _ (t a d : ℕ) (h : MayBeDerived w c (TermValue t a (pos d))) where
     pub worth-within : t < length c.graph
     worth-within = let u = used-within (pipeline_of c) t (and_parts (has_sid (world_of w) a) (is_used (pipeline_of c) t) h.0).1 in let long = graph-long c.graph in omega (arith, u, long)
 

@@ -10,8 +10,8 @@ use Rattle.pl_spec.specs.World.{exists, living_sids}
 use Rattle.pl_pipeline.specs.Term.{Node}
 use Rattle.pl_pipeline.specs.Term.Input.{TermInput}
 use Rattle.pl_derivation.specs.Facts.{Fact, number_facts, facts_now, over_inputs, entry_facts}
-use Rattle.pl_derivation.specs.Facts.Fact.{Worth}
-use Rattle.pl_explain.specs.declared.told.Told.{Told}
+use Rattle.pl_derivation.specs.Facts.Fact.{TermValue}
+use Rattle.pl_explain.specs.declared.fact_numbers.FactNumbers.{FactNumbers}
 use Rattle.pl_explain.specs.declared.basis.Basis.{Basis}
 use Rattle.pl_terms.specs.declared.node.TermId.{TermId}
 use Rattle.pl_terms.specs.Nodes.{number_of}
@@ -58,19 +58,19 @@ pub no-facts : (d : ℤ) (bs : List ℕ) → flat_map (λ b. number_facts b d No
 no-facts d [] = refl
 no-facts d (b ∷ bs) = no-facts d bs
 
-pub term-facts : (t : ℕ) (d : ℤ) (bs : List ℕ) → flat_map (λ b. number_facts b d (Some t)) bs ≡ map (λ b. Worth t b d) bs
+pub term-facts : (t : ℕ) (d : ℤ) (bs : List ℕ) → flat_map (λ b. number_facts b d (Some t)) bs ≡ map (λ b. TermValue t b d) bs
 term-facts t d [] = refl
-term-facts t d (b ∷ bs) = ap (λ l. Worth t b d ∷ l) (term-facts t d bs)
+term-facts t d (b ∷ bs) = ap (λ l. TermValue t b d ∷ l) (term-facts t d bs)
 
 pub input-facts : (n : Node) (t : ℕ) (d : ℤ) → slice_get n.inputs 0 ≡ Some (TermInput t) → slice_get n.inputs 1 ≡ None → slice_get n.inputs 2 ≡ None
-    → (bs : List ℕ) → flat_map (λ b. over_inputs (facts_now b d) n) bs ≡ map (λ b. Worth t b d) bs
+    → (bs : List ℕ) → flat_map (λ b. over_inputs (facts_now b d) n) bs ≡ map (λ b. TermValue t b d) bs
 input-facts n t d e f g [] = refl
-input-facts n t d e f g (b ∷ bs) = ap (λ l. l ++ flat_map (λ b. over_inputs (facts_now b d) n) bs) one ∙ ap (λ l. Worth t b d ∷ l) (input-facts n t d e f g bs)
+input-facts n t d e f g (b ∷ bs) = ap (λ l. l ++ flat_map (λ b. over_inputs (facts_now b d) n) bs) one ∙ ap (λ l. TermValue t b d ∷ l) (input-facts n t d e f g bs)
   where
-    one : over_inputs (facts_now b d) n ≡ Worth t b d ∷ []
+    one : over_inputs (facts_now b d) n ≡ TermValue t b d ∷ []
     one = rw (e, f, g) refl
 
-module _ (told : Told) (n : Node) (d : ℤ) (bs : List ℕ) where
+module _ (stated : FactNumbers) (n : Node) (d : ℤ) (bs : List ℕ) where
   abbrev pub masks : List Fact
   masks = flat_map (λ b. number_facts b d n.mask) bs
 
@@ -80,11 +80,11 @@ module _ (told : Told) (n : Node) (d : ℤ) (bs : List ℕ) where
   abbrev pub inputs : List Fact
   inputs = flat_map (λ b. over_inputs (facts_now b d) n) bs
 
-  whole : has_all told (flat_map (entry_facts n d) bs) ≡ (has_all told masks && has_all told groups && has_all told inputs)
-  whole = entries-split (has told) (λ b. number_facts b d n.mask) (λ b. number_facts b d n.group) (λ b. over_inputs (facts_now b d) n) bs
+  whole : has_all stated (flat_map (entry_facts n d) bs) ≡ (has_all stated masks && has_all stated groups && has_all stated inputs)
+  whole = entries-split (has stated) (λ b. number_facts b d n.mask) (λ b. number_facts b d n.group) (λ b. over_inputs (facts_now b d) n) bs
 
-  pub entries-told : has_all told masks ≡ true → has_all told groups ≡ true → has_all told inputs ≡ true → has_all told (flat_map (entry_facts n d) bs) ≡ true
-  entries-told x y z = whole ∙ rw (x, y, z) refl
+  pub entries-stated : has_all stated masks ≡ true → has_all stated groups ≡ true → has_all stated inputs ≡ true → has_all stated (flat_map (entry_facts n d) bs) ≡ true
+  entries-stated x y z = whole ∙ rw (x, y, z) refl
 
   lack : (a b c : Bool) → (a ≡ false) → (a && b && c) ≡ false
   lack a b c e = rw e refl
@@ -98,14 +98,14 @@ module _ (told : Told) (n : Node) (d : ℤ) (bs : List ℕ) where
   lack-third true false c e = refl
   lack-third false b c e = refl
 
-  pub masks-lack : has_all told masks ≡ false → has_all told (flat_map (entry_facts n d) bs) ≡ false
-  masks-lack x = whole ∙ lack (has_all told masks) (has_all told groups) (has_all told inputs) x
+  pub masks-lack : has_all stated masks ≡ false → has_all stated (flat_map (entry_facts n d) bs) ≡ false
+  masks-lack x = whole ∙ lack (has_all stated masks) (has_all stated groups) (has_all stated inputs) x
 
-  pub groups-lack : has_all told groups ≡ false → has_all told (flat_map (entry_facts n d) bs) ≡ false
-  groups-lack x = whole ∙ lack-second (has_all told masks) (has_all told groups) (has_all told inputs) x
+  pub groups-lack : has_all stated groups ≡ false → has_all stated (flat_map (entry_facts n d) bs) ≡ false
+  groups-lack x = whole ∙ lack-second (has_all stated masks) (has_all stated groups) (has_all stated inputs) x
 
-  pub inputs-lack : has_all told inputs ≡ false → has_all told (flat_map (entry_facts n d) bs) ≡ false
-  inputs-lack x = whole ∙ lack-third (has_all told masks) (has_all told groups) (has_all told inputs) x
+  pub inputs-lack : has_all stated inputs ≡ false → has_all stated (flat_map (entry_facts n d) bs) ≡ false
+  inputs-lack x = whole ∙ lack-third (has_all stated masks) (has_all stated groups) (has_all stated inputs) x
 
 -- ---- for the assets that exist, place by place
 
@@ -113,28 +113,28 @@ module _ (told : Told) (n : Node) (d : ℤ) (bs : List ℕ) where
 abbrev pub fact_where : (ℕ → Bool) → (ℕ → Fact) → ℕ → List Fact
 fact_where q f a = if q a then f a ∷ [] else []
 
-module _ (told : Told) (q : ℕ → Bool) (f : ℕ → Fact) where
+module _ (stated : FactNumbers) (q : ℕ → Bool) (f : ℕ → Fact) where
   abbrev sids : List AssetRow → List ℕ
   sids assets = map (λ a. a.sid) assets
 
-  one : (b : Bool) (x : Fact) (xs : List Fact) → has_all told (if b then x ∷ [] else []) ≡ true → has_all told xs ≡ true → has_all told (cond b (x ∷ xs) xs) ≡ true
-  one true x xs h i = both (has told x) (has_all told xs) h i
+  one : (b : Bool) (x : Fact) (xs : List Fact) → has_all stated (if b then x ∷ [] else []) ≡ true → has_all stated xs ≡ true → has_all stated (cond b (x ∷ xs) xs) ≡ true
+  one true x xs h i = both (has stated x) (has_all stated xs) h i
     where
       both : (a c : Bool) → (a && true) ≡ true → c ≡ true → (a && c) ≡ true
       both true c h i = i
       both false c h i = h
   one false x xs h i = i
 
-  own : (b : Bool) (x : Fact) (xs : List Fact) → has_all told (if b then x ∷ [] else []) ≡ false → has_all told (cond b (x ∷ xs) xs) ≡ false
-  own true x xs h = fails (has told x) (has_all told xs) h
+  own : (b : Bool) (x : Fact) (xs : List Fact) → has_all stated (if b then x ∷ [] else []) ≡ false → has_all stated (cond b (x ∷ xs) xs) ≡ false
+  own true x xs h = fails (has stated x) (has_all stated xs) h
     where
       fails : (a c : Bool) → (a && true) ≡ false → (a && c) ≡ false
       fails true c h = absurd (let bad : true ≡ false = h in cc)
       fails false c h = refl
   own false x xs h = absurd (let bad : true ≡ false = h in cc)
 
-  other : (b : Bool) (x : Fact) (xs : List Fact) → has_all told xs ≡ false → has_all told (cond b (x ∷ xs) xs) ≡ false
-  other true x xs h = fails (has told x) (has_all told xs) h
+  other : (b : Bool) (x : Fact) (xs : List Fact) → has_all stated xs ≡ false → has_all stated (cond b (x ∷ xs) xs) ≡ false
+  other true x xs h = fails (has stated x) (has_all stated xs) h
     where
       fails : (a c : Bool) → c ≡ false → (a && c) ≡ false
       fails true c h = h
@@ -145,23 +145,23 @@ module _ (told : Told) (q : ℕ → Bool) (f : ℕ → Fact) where
   kept-first true a bs = refl
   kept-first false a bs = refl
 
-  pub living-told : (assets : List AssetRow) → ((i : ℕ) → i < length assets → has_all told (fact_where q f (sid_at assets i)) ≡ true) → has_all told (map f (filter q (sids assets))) ≡ true
-  living-told [] h = refl
-  living-told (a ∷ assets) h =
-      ap (has_all told) (kept-first (q a.sid) a.sid (filter q (sids assets)))
-      ∙ one (q a.sid) (f a.sid) (map f (filter q (sids assets))) (h 0 (omega arith)) (living-told assets (λ i l. h (suc i) (omega (arith, l))))
+  pub living-stated : (assets : List AssetRow) → ((i : ℕ) → i < length assets → has_all stated (fact_where q f (sid_at assets i)) ≡ true) → has_all stated (map f (filter q (sids assets))) ≡ true
+  living-stated [] h = refl
+  living-stated (a ∷ assets) h =
+      ap (has_all stated) (kept-first (q a.sid) a.sid (filter q (sids assets)))
+      ∙ one (q a.sid) (f a.sid) (map f (filter q (sids assets))) (h 0 (omega arith)) (living-stated assets (λ i l. h (suc i) (omega (arith, l))))
 
-  pub living-lacks : (assets : List AssetRow) (i : ℕ) → i < length assets → has_all told (fact_where q f (sid_at assets i)) ≡ false → has_all told (map f (filter q (sids assets))) ≡ false
+  pub living-lacks : (assets : List AssetRow) (i : ℕ) → i < length assets → has_all stated (fact_where q f (sid_at assets i)) ≡ false → has_all stated (map f (filter q (sids assets))) ≡ false
   living-lacks [] i l h = absurd (omega (arith, l))
-  living-lacks (a ∷ assets) zero l h = ap (has_all told) (kept-first (q a.sid) a.sid (filter q (sids assets))) ∙ own (q a.sid) (f a.sid) (map f (filter q (sids assets))) h
+  living-lacks (a ∷ assets) zero l h = ap (has_all stated) (kept-first (q a.sid) a.sid (filter q (sids assets))) ∙ own (q a.sid) (f a.sid) (map f (filter q (sids assets))) h
   living-lacks (a ∷ assets) (suc i) l h =
-      ap (has_all told) (kept-first (q a.sid) a.sid (filter q (sids assets)))
+      ap (has_all stated) (kept-first (q a.sid) a.sid (filter q (sids assets)))
       ∙ other (q a.sid) (f a.sid) (map f (filter q (sids assets))) (living-lacks assets i (omega (arith, l)) h)
 
 module _ (b : Basis) where
-  -- of an asset that does not exist nothing has to be told
+  -- of an asset that does not exist nothing has to be stated
   pub living-none : (t col s : ℕ) (x : ℤ) → exists (world_of b.world) (sid_in b col) (pos s) ≡ false → x ≡ value_in b t col s → IsCell x
-      → IsGiven IsCell b.told.now (living_facts (world_of b.world) t (sid_in b col) (pos s)) (value_in b t col s) (Some x)
+      → IsGiven IsCell b.stated.now (living_facts (world_of b.world) t (sid_in b col) (pos s)) (value_in b t col s) (Some x)
   living-none t col s x e h cell = record { value = rw (e, h) refl; such = cell }
 
   -- ---- the row of what may not be there
@@ -177,18 +177,18 @@ module _ (b : Basis) where
     row o = optional_row_in b.world b.checked.now o s
 
     abbrev IsRow : Option (Option (List ℤ)) → Type 0
-    IsRow o = IsGiven (λ r. IfSome r (All IsCell)) b.told.now (facts u) (row u) o
+    IsRow o = IsGiven (λ r. IfSome r (All IsCell)) b.stated.now (facts u) (row u) o
 
     pub no-row : u ≡ None → IsRow (Some None)
-    no-row gone = accepted b.told.now [] (facts u) (row u) None (ap facts gone ∙ no-facts (pos s) bs) refl (sym (ap row gone)) tt
+    no-row gone = accepted b.stated.now [] (facts u) (row u) None (ap facts gone ∙ no-facts (pos s) bs) refl (sym (ap row gone)) tt
 
-    pub one-row : (x : TermId) → u ≡ Some x → (r : Option (List ℤ)) → IsGiven (All IsCell) b.told.now (map (λ a. Worth x.0 a (pos s)) bs) (row_in b.world b.checked.now x.0 s) r
+    pub one-row : (x : TermId) → u ≡ Some x → (r : Option (List ℤ)) → IsGiven (All IsCell) b.stated.now (map (λ a. TermValue x.0 a (pos s)) bs) (row_in b.world b.checked.now x.0 s) r
         → IsRow (option_map Some r)
     one-row x is None h =
-        refused b.told.now (map (λ a. Worth x.0 a (pos s)) bs) (facts u) (row u) None (ap facts is ∙ term-facts x.0 (pos s) bs) (lacked b.told.now None h refl) refl
+        refused b.stated.now (map (λ a. TermValue x.0 a (pos s)) bs) (facts u) (row u) None (ap facts is ∙ term-facts x.0 (pos s) bs) (lacked b.stated.now None h refl) refl
     one-row x is (Some xs) h =
-        let both = got b.told.now (Some xs) xs h refl in
-        accepted b.told.now (map (λ a. Worth x.0 a (pos s)) bs) (facts u) (row u) (Some xs) (ap facts is ∙ term-facts x.0 (pos s) bs) both.0 (ap Some both.1 ∙ sym (ap row is)) both.2
+        let both = got b.stated.now (Some xs) xs h refl in
+        accepted b.stated.now (map (λ a. TermValue x.0 a (pos s)) bs) (facts u) (row u) (Some xs) (ap facts is ∙ term-facts x.0 (pos s) bs) both.0 (ap Some both.1 ∙ sym (ap row is)) both.2
 
 -- one place more
 pub next-place : (g : ℕ → Bool) (at : ℕ) → ((i : ℕ) → i < at → g i ≡ true) → g at ≡ true → (i : ℕ) → i < at + 1 → g i ≡ true

@@ -18,8 +18,8 @@ use Rattle.pl_world.specs.Worlds.{world_of}
 use Rattle.pl_world.specs.Evaluations.{cell_in, window_in}
 use Rattle.pl_world.proofs.Windowing.{cells-all}
 use Rattle.pl_derivation.specs.Facts.{Fact, number_in, window_facts}
-use Rattle.pl_derivation.specs.Facts.Fact.{Seen, Worth}
-use Rattle.pl_explain.specs.declared.told.Told.{Told}
+use Rattle.pl_derivation.specs.Facts.Fact.{Seen, TermValue}
+use Rattle.pl_explain.specs.declared.fact_numbers.FactNumbers.{FactNumbers}
 use Rattle.pl_explain.specs.Looking.{look}
 use Rattle.pl_explain.specs.Reading.{end_of, fact_at}
 use Rattle.pl_explain.specs.Given.{has, has_all}
@@ -31,14 +31,14 @@ bars-run : (c : Column) (a s size : ℕ) → size ≤ s → window_facts size a 
 bars-run c a s size h = downward-sessions (λ b. Seen c a b (pos s)) s size h
 
 -- the sessions up to one
-terms-run : (u a s size : ℕ) → size ≤ s + 1 → window_facts size a (pos s) (Some (TermInput u)) ≡ map (λ b. Worth u a (pos b)) (range_with_len (s + 1 - size) size)
+terms-run : (u a s size : ℕ) → size ≤ s + 1 → window_facts size a (pos s) (Some (TermInput u)) ≡ map (λ b. TermValue u a (pos b)) (range_with_len (s + 1 - size) size)
 terms-run u a s zero h = refl
 terms-run u a s (suc size) h =
     let first : before (pos s) size ≡ pos (s + 1 - suc size) = before-pos s size (omega (arith, h)) ∙ ap pos (let k : s - size ≡ s + 1 - suc size = omega (arith, h) in k) in
     let next : s + 1 - size ≡ (s + 1 - suc size) + 1 = omega (arith, h) in
-    ap (λ z. Worth u a z ∷ window_facts size a (pos s) (Some (TermInput u))) first
-    ∙ ap (λ l. Worth u a (pos (s + 1 - suc size)) ∷ l) (terms-run u a s size (omega (arith, h)))
-    ∙ ap (λ k. Worth u a (pos (s + 1 - suc size)) ∷ map (λ b. Worth u a (pos b)) (range_with_len k size)) next
+    ap (λ z. TermValue u a z ∷ window_facts size a (pos s) (Some (TermInput u))) first
+    ∙ ap (λ l. TermValue u a (pos (s + 1 - suc size)) ∷ l) (terms-run u a s size (omega (arith, h)))
+    ∙ ap (λ k. TermValue u a (pos (s + 1 - suc size)) ∷ map (λ b. TermValue u a (pos b)) (range_with_len k size)) next
 
 pub window-run : (i : Input) (a s size : ℕ) → size ≤ end_of i s → window_facts size a (pos s) (Some i) ≡ map (λ b. fact_at i a (pos b) (pos s)) (range_with_len (end_of i s - size) size)
 window-run (BarColumn c) a s size h = bars-run c a s size h
@@ -58,57 +58,57 @@ pub end-near : (i : Input) (s : ℕ) → end_of i s ≤ s + 1
 end-near (BarColumn c) s = omega arith
 end-near (TermInput u) s = omega arith
 
-module _ (told : Told) where
-  -- ---- nothing is told of what is below session 0
+module _ (stated : FactNumbers) where
+  -- ---- nothing is stated of what is below session 0
 
-  low-bar : (c : Column) (a : ℕ) (s d : ℤ) → s <ℤ pos 0 → has told (Seen c a s d) ≡ false
+  low-bar : (c : Column) (a : ℕ) (s d : ℤ) → s <ℤ pos 0 → has stated (Seen c a s d) ≡ false
   unfolding look
   low-bar c a (pos s) d h = absurd (omega (arith, ints, h))
   low-bar c a (negsuc s) d h = refl
 
-  low-term : (t a : ℕ) (d : ℤ) → d <ℤ pos 0 → has told (Worth t a d) ≡ false
+  low-term : (t a : ℕ) (d : ℤ) → d <ℤ pos 0 → has stated (TermValue t a d) ≡ false
   unfolding look
   low-term t a (pos d) h = absurd (omega (arith, ints, h))
   low-term t a (negsuc d) h = refl
 
-  bars-early : (c : Column) (a s size : ℕ) → s < size → has_all told (window_facts size a (pos s) (Some (BarColumn c))) ≡ false
+  bars-early : (c : Column) (a s size : ℕ) → s < size → has_all stated (window_facts size a (pos s) (Some (BarColumn c))) ≡ false
   bars-early c a s zero h = absurd (omega (arith, h))
   bars-early c a s (suc size) h =
       let low : before (pos s) (suc size) <ℤ pos 0 = omega (arith, ints, h) in
       rw (low-bar c a (before (pos s) (suc size)) (pos s) low) refl
 
-  terms-early : (u a s size : ℕ) → s + 1 < size → has_all told (window_facts size a (pos s) (Some (TermInput u))) ≡ false
+  terms-early : (u a s size : ℕ) → s + 1 < size → has_all stated (window_facts size a (pos s) (Some (TermInput u))) ≡ false
   terms-early u a s zero h = absurd (omega (arith, h))
   terms-early u a s (suc size) h =
       let low : before (pos s) size <ℤ pos 0 = omega (arith, ints, h) in
       rw (low-term u a (before (pos s) size) low) refl
 
-  pub window-early : (i : Input) (a s size : ℕ) → end_of i s < size → has_all told (window_facts size a (pos s) (Some i)) ≡ false
+  pub window-early : (i : Input) (a s size : ℕ) → end_of i s < size → has_all stated (window_facts size a (pos s) (Some i)) ≡ false
   window-early (BarColumn c) a s size h = bars-early c a s size h
   window-early (TermInput u) a s size h = terms-early u a s size h
 
   -- ---- facts in a row
 
   module _ (f : ℕ → Fact) where
-    pub run-told : (first n : ℕ) → ((k : ℕ) → first ≤ k → k < first + n → has told (f k) ≡ true) → has_all told (map f (range_with_len first n)) ≡ true
-    run-told first zero h = refl
-    run-told first (suc n) h =
-        rw (h first (omega arith) (omega arith)) (run-told (first + 1) n (λ k l m. h k (omega (arith, l)) (omega (arith, m))))
+    pub run-stated : (first n : ℕ) → ((k : ℕ) → first ≤ k → k < first + n → has stated (f k) ≡ true) → has_all stated (map f (range_with_len first n)) ≡ true
+    run-stated first zero h = refl
+    run-stated first (suc n) h =
+        rw (h first (omega arith) (omega arith)) (run-stated (first + 1) n (λ k l m. h k (omega (arith, l)) (omega (arith, m))))
 
-    pub run-lacks : (first n k : ℕ) → first ≤ k → k < first + n → has told (f k) ≡ false → has_all told (map f (range_with_len first n)) ≡ false
+    pub run-lacks : (first n k : ℕ) → first ≤ k → k < first + n → has stated (f k) ≡ false → has_all stated (map f (range_with_len first n)) ≡ false
     run-lacks first zero k l m e = absurd (omega (arith, l, m))
     run-lacks first (suc n) k l m e = elim (cases_lt first k) [
-      | inl before ↦ later (has told (f first)) (run-lacks (first + 1) n k (omega (arith, before)) (omega (arith, m)) e)
-      | inr here ↦ (let same : first ≡ k = omega (arith, l, here) in let own : has told (f first) ≡ false = ap (λ i. has told (f i)) same ∙ e in rw own refl)
+      | inl before ↦ later (has stated (f first)) (run-lacks (first + 1) n k (omega (arith, before)) (omega (arith, m)) e)
+      | inr here ↦ (let same : first ≡ k = omega (arith, l, here) in let own : has stated (f first) ≡ false = ap (λ i. has stated (f i)) same ∙ e in rw own refl)
     ]
       where
-        later : (b : Bool) → has_all told (map f (range_with_len (first + 1) n)) ≡ false → (b && has_all told (map f (range_with_len (first + 1) n))) ≡ false
+        later : (b : Bool) → has_all stated (map f (range_with_len (first + 1) n)) ≡ false → (b && has_all stated (map f (range_with_len (first + 1) n))) ≡ false
         later true h = h
         later false h = refl
 
     -- one more
-    pub run-more : (first at : ℕ) → ((k : ℕ) → first ≤ k → k < at → has told (f k) ≡ true) → has told (f at) ≡ true → (k : ℕ) → first ≤ k → k < at + 1 → has told (f k) ≡ true
+    pub run-more : (first at : ℕ) → ((k : ℕ) → first ≤ k → k < at → has stated (f k) ≡ true) → has stated (f at) ≡ true → (k : ℕ) → first ≤ k → k < at + 1 → has stated (f k) ≡ true
     run-more first at h e k l m = elim (cases_lt k at) [
       | inl before ↦ h k l before
-      | inr past ↦ (let same : at ≡ k = omega (arith, past, m) in ap (λ i. has told (f i)) (sym same) ∙ e)
+      | inr past ↦ (let same : at ≡ k = omega (arith, past, m) in ap (λ i. has stated (f i)) (sym same) ∙ e)
     ]

@@ -27,8 +27,8 @@ use Rattle.pl_derivation.specs.Listed.{line_of}
 use Rattle.pl_derivation.specs.Lines.Line.{SeenLine, ValueLine}
 use Rattle.pl_derivation.specs.Texts.{AreCells, AreWritable, IsWritable}
 use Rattle.pl_spec.proofs.Each.{Each, each_front, each_back, each_of_map, each_at}
-use Rattle.pl_derivation.specs.Facts.{Fact, number_in, number_facts, premises}
-use Rattle.pl_derivation.specs.Facts.Fact.{Seen, Worth}
+use Rattle.pl_derivation.specs.Facts.{Fact, known_day, number_in, number_facts, premises}
+use Rattle.pl_derivation.specs.Facts.Fact.{Seen, TermValue}
 use Rattle.pl_derivation.specs.Laws as laws
 use Rattle.pl_derivation.specs.Right.{after_each, has_sid, is_fitting, seen_cells}
 use Rattle.pl_derivation.specs.Walks.{is_in, line_for, depth_of, derivation}
@@ -37,7 +37,7 @@ use Rattle.pl_world.specs.declared.world.World.{World}
 use Rattle.pl_world.specs.Worlds.{world_of, PartsMakeAWorld}
 use Rattle.pl_terms.specs.declared.node.TermId.{TermId}
 use Rattle.pl_explain.specs.declared.fact.Fact as code
-use Rattle.pl_explain.specs.declared.told.Told.{Told}
+use Rattle.pl_explain.specs.declared.fact_numbers.FactNumbers.{FactNumbers}
 use Rattle.pl_explain.specs.declared.rows.Rows.{Rows}
 use Rattle.pl_explain.specs.Keys.{fact_of}
 use Rattle.pl_explain.specs.Given.{facts_read, given, has, has_all, mask_passes, own_facts, KeepsRows}
@@ -45,19 +45,19 @@ use Rattle.pl_explain.proofs.Given.{given-yes}
 use Rattle.pl_explain.proofs.Values.{premises-front, premises-kept, premises-barred}
 use Rattle.pl_explain.specs.declared.walk.Walk.{Walk}
 use Rattle.pl_explain.specs.Judging.{IsTable}
-use Rattle.pl_explain.specs.Walking.{CanStand, CanStandIn, HasWalked, StandsIn, Finishes, IsPut, IsTooLong, IsWalkTo}
+use Rattle.pl_explain.specs.Walking.{MayBeDerived, CanStandIn, HasWalked, HoldsSoFar, Finishes, IsPut, IsTooLong, IsWalkTo}
 use Rattle.pl_explain.proofs.Behind.{premises-stand, sessions-held}
 use Rattle.pl_explain.proofs.Standing.{stands-more}
-use Rattle.pl_explain.proofs.Walks.{walk-both, walk-tells, walk-more, long-front, long-back, long-first, long-last, deeper, deeper-long}
+use Rattle.pl_explain.proofs.Walks.{walk-both, walk-states, walk-more, long-front, long-back, long-first, long-last, deeper, deeper-long}
 
 -- want of memory says nothing of the lines
 pub no-memory : {T : Type 0} (w : World) (c : Parts) (most : ℕ) (fs : List Fact) (old new : Walk) (r : Result T ExplainError) → IsErrAnd r (λ e. e ≡ Memory) → IsWalkTo w c most fs old new r
 no-memory w c most fs old new (Ok x) h = absurd h
 no-memory w c most fs old new (Err e) h = record { stands = tt; finished = tt; long = λ i. absurd (let bad : Memory ≡ TooLong = sym h ∙ i in cc) }
 
--- what a walk has finished is told
-pub told-now : (w : World) (c : Parts) (t : ℕ) (old new : Walk) (fs : List Fact) → StandsIn w c old → Finishes w c (t + 1) old new fs → has_all new.told fs ≡ true
-told-now w c t old new fs from first = let one : t + 1 ≡ suc t = omega arith in walk-tells w c t old new fs from (subst (λ k. Finishes w c k old new fs) one first)
+-- what a walk has finished is stated
+pub stated-now : (w : World) (c : Parts) (t : ℕ) (old new : Walk) (fs : List Fact) → HoldsSoFar w c old → Finishes w c (t + 1) old new fs → has_all new.stated fs ≡ true
+stated-now w c t old new fs from first = let one : t + 1 ≡ suc t = omega arith in walk-states w c t old new fs from (subst (λ k. Finishes w c k old new fs) one first)
 
 -- ---- facts, one by one
 
@@ -100,10 +100,11 @@ pub some-cells : (w : SpecWorld) (a : ℕ) (k : Column) (s d : ℤ) → 1 ≤ le
 some-cells w a k s d = some-after (bar_cell w a k s) (effects w a k s d)
 
 module _ (w : World) (c : Parts) where
-  pub value-line : (t a d : ℕ) (day x : ℤ) → slice_get w.sessions.now d ≡ Some day → x ≡ number_in (world_of w) (pipeline_of c) (Worth t a (pos d))
-      → ValueLine t a day x ≡ line_for (world_of w) (pipeline_of c) (Worth t a (pos d))
-  value-line t a d day x at is =
-      ap (λ y. ValueLine t a day y) is ∙ ap (λ o. ValueLine t a (unwrap_or o (pos 0)) (number_in (world_of w) (pipeline_of c) (Worth t a (pos d)))) (sym at)
+  pub value-line : (t a d : ℕ) (day x : ℤ) (known : Option ℤ) → slice_get w.sessions.now d ≡ Some day → x ≡ number_in (world_of w) (pipeline_of c) (TermValue t a (pos d))
+      → known ≡ known_day (world_of w) (pipeline_of c) (TermValue t a (pos d)) → ValueLine t a day x known ≡ line_for (world_of w) (pipeline_of c) (TermValue t a (pos d))
+  value-line t a d day x known at is since =
+      ap (λ y. ValueLine t a day y known) is ∙ ap (ValueLine t a day (number_in (world_of w) (pipeline_of c) (TermValue t a (pos d)))) since
+      ∙ ap (λ o. ValueLine t a (unwrap_or o (pos 0)) (number_in (world_of w) (pipeline_of c) (TermValue t a (pos d))) (known_day (world_of w) (pipeline_of c) (TermValue t a (pos d)))) (sym at)
 
   pub bar-line : (k : Column) (a s d : ℕ) (bar_day day : ℤ) (cells : List ℤ) → slice_get w.sessions.now s ≡ Some bar_day → slice_get w.sessions.now d ≡ Some day
       → cells ≡ seen_cells (world_of w) a k (pos s) (pos d) → SeenLine k a bar_day day cells ≡ line_for (world_of w) (pipeline_of c) (Seen k a (pos s) (pos d))
@@ -116,7 +117,7 @@ module _ (w : World) (c : Parts) where
 less-of : (s d : ℕ) → int_lt (pos s) (pos d) ≡ true → s < d
 less-of s d h = grind (arith, ints)
 
-module _ (w : World) (c : Parts) (k : Column) (a s d : ℕ) (h : CanStand w c (Seen k a (pos s) (pos d))) where
+module _ (w : World) (c : Parts) (k : Column) (a s d : ℕ) (h : MayBeDerived w c (Seen k a (pos s) (pos d))) where
   pub seen-sid : has_sid (world_of w) a ≡ true
   seen-sid = (and_parts (has_sid (world_of w) a) (int_lt (pos s) (pos d)) h.0).0
 
@@ -128,24 +129,24 @@ module _ (w : World) (c : Parts) (k : Column) (a s d : ℕ) (h : CanStand w c (S
 
 -- ---- a walk with other rows
 
-module _ (w : World) (c : Parts) (mid new : Walk) (same : new.told ≡ mid.told) (lines : new.lines ≡ mid.lines) where
+module _ (w : World) (c : Parts) (mid new : Walk) (same : new.stated ≡ mid.stated) (lines : new.lines ≡ mid.lines) where
   items : new.lines.items ≡ mid.lines.items
   items = ap (λ v. v.items) lines
 
   other-walked : (facts : List Fact) → HasWalked w c mid facts → HasWalked w c new facts
   other-walked facts h = record {
-    told = subst (λ (t : Told). (f : Fact) → has t f ≡ is_in facts f) (sym same) h.told;
+    stated = subst (λ (t : FactNumbers). (f : Fact) → has t f ≡ is_in facts f) (sym same) h.stated;
     lines = subst (λ (ls : List Line). map line_of ls ≡ map (line_for (world_of w) (pipeline_of c)) facts) (sym items) h.lines;
   }
 
   pub other-finished : (most : ℕ) (old : Walk) (fs : List Fact) → Finishes w c most old mid fs → Finishes w c most old new fs
   other-finished most old fs first facts h depth l = other-walked _ (first facts h depth l)
 
-  pub other-stands : StandsIn w c mid → KeepsRows w c mid.told new.rows → StandsIn w c new
+  pub other-stands : HoldsSoFar w c mid → KeepsRows w c mid.stated new.rows → HoldsSoFar w c new
   other-stands h kept = record {
     facts = h.facts;
     walked = other-walked h.facts h.walked;
-    table = subst (λ (t : Told). IsTable w c t new.rows) (sym same) (record { ready = h.table.ready; truth = h.table.truth; fits = h.table.fits; kept = kept });
+    table = subst (λ (t : FactNumbers). IsTable w c t new.rows) (sym same) (record { ready = h.table.ready; truth = h.table.truth; fits = h.table.fits; kept = kept });
     writable = subst (λ (ls : List Line). AreWritable (map line_of ls)) (sym items) h.writable;
     few = subst (λ (ls : List Line). length ls ≤ most_lines) (sym items) h.few;
   }
@@ -155,14 +156,14 @@ module _ (w : World) (c : Parts) (mid new : Walk) (same : new.told ≡ mid.told)
 abbrev own_of : World → Parts → Fact → List Fact
 own_of w c f = premises (world_of w) (pipeline_of c) (number_in (world_of w) (pipeline_of c)) f
 
-module _ (w : World) (c : Parts) (most : ℕ) (f : Fact) (old mid new : Walk) (fresh : has old.told f ≡ false) (first : Finishes w c most old mid (own_of w c f))
+module _ (w : World) (c : Parts) (most : ℕ) (f : Fact) (old mid new : Walk) (fresh : has old.stated f ≡ false) (first : Finishes w c most old mid (own_of w c f))
     (line : Line) (x : ℤ) (is : line_of line ≡ line_for (world_of w) (pipeline_of c) f) where
   module _ (deep : ℕ) (depth : suc most ≤ deep) where
-    pub put-walked : {T : Type 0} (r : Result T ExplainError) → StandsIn w c old → StandsIn w c mid → IsWritable (line_of line)
+    pub put-walked : {T : Type 0} (r : Result T ExplainError) → HoldsSoFar w c old → HoldsSoFar w c mid → IsWritable (line_of line)
         → x ≡ number_in (world_of w) (pipeline_of c) f → IsCell x → is_fitting (world_of w) (pipeline_of c) f ≡ true → IsPut f x line mid new r → IsWalkTo w c deep (f ∷ []) old new r
     put-walked (Ok u) from stands text value cell fits h = record {
-      stands = stands-more w c most f old mid new line x from fresh first stands h.told h.lines is text (subst (λ (q : Rows). IsTable w c mid.told q) (sym h.rows) stands.table) value cell fits h.few;
-      finished = deeper w c (suc most) deep old new (f ∷ []) depth (walk-more w c most f old fresh mid new line x h.told h.lines is first);
+      stands = stands-more w c most f old mid new line x from fresh first stands h.stated h.lines is text (subst (λ (q : Rows). IsTable w c mid.stated q) (sym h.rows) stands.table) value cell fits h.few;
+      finished = deeper w c (suc most) deep old new (f ∷ []) depth (walk-more w c most f old fresh mid new line x h.stated h.lines is first);
       long = tt;
     }
     put-walked (Err e) from stands text value cell fits h = record {
@@ -172,9 +173,9 @@ module _ (w : World) (c : Parts) (most : ℕ) (f : Fact) (old mid new : Walk) (f
     }
 
 -- where there is no room for its premises
-module _ (w : World) (c : Parts) (t a d : ℕ) (old : Walk) (fresh : has old.told (Worth t a (pos d)) ≡ false) where
-  pub own-long : IsTooLong w c (t + 1) old (own_of w c (Worth t a (pos d))) → IsTooLong w c (t + 2) old (Worth t a (pos d) ∷ [])
-  own-long long = deeper-long w c (suc (t + 1)) (t + 2) old (Worth t a (pos d) ∷ []) (omega arith) (long-first w c (t + 1) (Worth t a (pos d)) old fresh long)
+module _ (w : World) (c : Parts) (t a d : ℕ) (old : Walk) (fresh : has old.stated (TermValue t a (pos d)) ≡ false) where
+  pub own-long : IsTooLong w c (t + 1) old (own_of w c (TermValue t a (pos d))) → IsTooLong w c (t + 2) old (TermValue t a (pos d) ∷ [])
+  own-long long = deeper-long w c (suc (t + 1)) (t + 2) old (TermValue t a (pos d) ∷ []) (omega arith) (long-first w c (t + 1) (TermValue t a (pos d)) old fresh long)
 
 -- ---- premises
 
@@ -182,7 +183,7 @@ module _ (w : World) (c : Parts) (t a d : ℕ) (old : Walk) (fresh : has old.tol
 pub mask-is : (m : Option TermId) (s sid a : ℕ) (xs ys : List code.Fact) → xs ≡ ys → map fact_of ys ≡ number_facts sid (pos s) (option_map number_of m) → sid ≡ a → map fact_of xs ≡ number_facts a (pos s) (option_map number_of m)
 mask-is m s sid a xs ys e h same = ap (map fact_of) e ∙ h ∙ ap (λ b. number_facts b (pos s) (option_map number_of m)) same
 
-module _ {w : World} {c : Parts} {old : Walk} (from : StandsIn w c old) (t : ℕ) (n : Node) (is : slice_get c.graph t ≡ Some n) (a s : ℕ) (there : exists (world_of w) a (pos s) ≡ true)
+module _ {w : World} {c : Parts} {old : Walk} (from : HoldsSoFar w c old) (t : ℕ) (n : Node) (is : slice_get c.graph t ≡ Some n) (a s : ℕ) (there : exists (world_of w) a (pos s) ≡ true)
     (read : List Fact) (same : read ≡ number_facts a (pos s) (option_map number_of n.mask)) where
   abbrev own : List Fact
   own = own_facts w c t a s
@@ -195,15 +196,15 @@ module _ {w : World} {c : Parts} {old : Walk} (from : StandsIn w c old) (t : ℕ
   kept : mask_passes w c n.mask a s ≡ true → own ≡ read ++ facts_read w c t a s
   kept passed = premises-kept w c from.table.ready.checked t n is a s from.table.ready.texts there passed ∙ ap (λ l. l ++ facts_read w c t a s) (sym same)
 
-  pub mask-stands : CanStand w c (Worth t a (pos s)) → Each (CanStandIn w c (t + 1)) read
+  pub mask-stands : MayBeDerived w c (TermValue t a (pos s)) → Each (CanStandIn w c (t + 1)) read
   mask-stands h = each_front (CanStandIn w c (t + 1)) read front.0 (subst (λ fs. Each (CanStandIn w c (t + 1)) fs) front.1 (premises-stand w c from.table.ready.checked t a s h))
 
   pub mask-long : IsTooLong w c (t + 1) old read → IsTooLong w c (t + 1) old own
   mask-long long = subst (λ fs. IsTooLong w c (t + 1) old fs) (sym front.1) (long-front w c (t + 1) old read front.0 long)
 
-  module _ (mid : Walk) (first : Finishes w c (t + 1) old mid read) (o : Option Bool) (told : o ≡ given mid.told (number_facts a (pos s) (option_map number_of n.mask)) (mask_passes w c n.mask a s)) where
+  module _ (mid : Walk) (first : Finishes w c (t + 1) old mid read) (o : Option Bool) (stated : o ≡ given mid.stated (number_facts a (pos s) (option_map number_of n.mask)) (mask_passes w c n.mask a s)) where
     known : o ≡ Some (mask_passes w c n.mask a s)
-    known = told ∙ given-yes mid.told (number_facts a (pos s) (option_map number_of n.mask)) (mask_passes w c n.mask a s) (ap (has_all mid.told) (sym same) ∙ told-now w c t old mid read from first)
+    known = stated ∙ given-yes mid.stated (number_facts a (pos s) (option_map number_of n.mask)) (mask_passes w c n.mask a s) (ap (has_all mid.stated) (sym same) ∙ stated-now w c t old mid read from first)
 
     passed : (b : Bool) → o ≡ Some b → mask_passes w c n.mask a s ≡ b
     passed b e = sym (same_Some b (mask_passes w c n.mask a s) (sym e ∙ known))
@@ -211,7 +212,7 @@ module _ {w : World} {c : Parts} {old : Walk} (from : StandsIn w c old) (t : ℕ
     pub mask-known : o ≡ None → ⊥
     mask-known e = let bad : None ≡ Some (mask_passes w c n.mask a s) = sym e ∙ known in cc
 
-    pub facts-stand : o ≡ Some true → CanStand w c (Worth t a (pos s)) → Each (CanStandIn w c (t + 1)) (facts_read w c t a s)
+    pub facts-stand : o ≡ Some true → MayBeDerived w c (TermValue t a (pos s)) → Each (CanStandIn w c (t + 1)) (facts_read w c t a s)
     facts-stand e h =
         each_back (CanStandIn w c (t + 1)) read (facts_read w c t a s)
         (subst (λ fs. Each (CanStandIn w c (t + 1)) fs) (kept (passed true e)) (premises-stand w c from.table.ready.checked t a s h))
@@ -245,7 +246,7 @@ module _ (w : World) (c : Parts) (t col d : ℕ) (used : is_used (pipeline_of c)
   day : slice_get w.sessions.now d ≡ Some (get_or w.sessions.now d (pos 0))
   day = slice_get-get_or w.sessions.now d (pos 0) session
 
-  pub asked-stands : CanStand w c (Worth t (sid_at w.assets.now col) (pos d))
+  pub asked-stands : MayBeDerived w c (TermValue t (sid_at w.assets.now col) (pos d))
   asked-stands = (and_from (has_sid (world_of w) (sid_at w.assets.now col)) (is_used (pipeline_of c) t) (sid-known w.assets.now col place) used, (d, get_or w.sessions.now d (pos 0), refl, day), reached)
 
   pub asked-right : IsChecked (pipeline_of c) → HasTexts (world_of w) → PartsMakeAWorld w

@@ -1,4 +1,4 @@
--- A line is judged right by what is told where it is right after the lines that told it.
+-- A line is judged right by what is stated where it is right after the lines that stated it.
 use Rattle.std.proofs.Common.{◌≡◌, Bool, true, false, ◌&&◌, ◌||◌, if◌then◌else◌, ℤ, List, [], ◌∷◌, ◌++◌, Option, Some, None, is_some, refl, sym, ◌∙◌, ap, subst, inl, inr}
 use Rattle.std.specs.List.{list_any, list_all}
 use Rattle.std.specs.Option.{option_to_list}
@@ -12,51 +12,51 @@ use Rattle.pl_pipeline.specs.Table.{Pipeline}
 use Rattle.pl_cross.specs.Arrays.{HasTexts}
 use Rattle.pl_derivation.specs.Lines.{Line}
 use Rattle.pl_derivation.specs.Facts.{Fact, same_fact, number_in, premises}
-use Rattle.pl_derivation.specs.Facts.Fact.{Seen, Worth}
-use Rattle.pl_derivation.specs.Right.{fact_of, is_told, is_about, is_fitting, is_right, first_wrong}
-use Rattle.pl_derivation.specs.Laws.{tells_world}
+use Rattle.pl_derivation.specs.Facts.Fact.{Seen, TermValue}
+use Rattle.pl_derivation.specs.Right.{fact_of, is_stated, is_about, is_fitting, is_right, first_wrong}
+use Rattle.pl_derivation.specs.Laws.{states_world}
 use Rattle.pl_derivation.proofs.Truths.{same_is, is_same}
 use Rattle.pl_derivation.proofs.Standing.{right_is, repeat_is}
 use Rattle.pl_terms.specs.Checked.{Parts, pipeline_of}
 use Rattle.pl_world.specs.declared.world.World.{World}
 use Rattle.pl_world.specs.Worlds.{world_of}
-use Rattle.pl_explain.specs.declared.told.Told.{Told}
+use Rattle.pl_explain.specs.declared.fact_numbers.FactNumbers.{FactNumbers}
 use Rattle.pl_explain.specs.declared.rows.Rows.{Rows}
-use Rattle.pl_explain.specs.Looking.{look, IsTellingOf}
+use Rattle.pl_explain.specs.Looking.{look, IsInsertionOf}
 use Rattle.pl_explain.specs.Given.{has, has_all, KeepsRows}
-use Rattle.pl_explain.specs.Judging.{judged_about, judged, IsJudgement, IsTable, TellsLine}
+use Rattle.pl_explain.specs.Judging.{judged_about, judged, IsJudgement, IsTable, StatesLine}
 
 -- ---- judging
 
-module _ (w : SpecWorld) (p : Pipeline) (known : HasTexts w) (ok : IsGraph p.graph) (told : Told) (lines : List Line) (none : first_wrong w p lines ≡ None)
-    (same : (f : Fact) → has told f ≡ is_told w lines f) where
-  all-same : (fs : List Fact) → has_all told fs ≡ list_all (is_told w lines) fs
+module _ (w : SpecWorld) (p : Pipeline) (known : HasTexts w) (ok : IsGraph p.graph) (stated : FactNumbers) (lines : List Line) (none : first_wrong w p lines ≡ None)
+    (same : (f : Fact) → has stated f ≡ is_stated w lines f) where
+  all-same : (fs : List Fact) → has_all stated fs ≡ list_all (is_stated w lines) fs
   all-same fs = ap (λ h. list_all h fs) (fun_ext same)
 
-  anew : (l : Line) (f : Fact) → fact_of w l ≡ Some f → is_right w p lines l ≡ (is_fitting w p f && has_all told (premises w p (number_in w p) f) && tells_world w p l f)
-  anew l f e = right_is w p known ok lines none l f e ∙ ap (λ b. is_fitting w p f && b && tells_world w p l f) (sym (all-same (premises w p (number_in w p) f)))
+  anew : (l : Line) (f : Fact) → fact_of w l ≡ Some f → is_right w p lines l ≡ (is_fitting w p f && has_all stated (premises w p (number_in w p) f) && states_world w p l f)
+  anew l f e = right_is w p known ok lines none l f e ∙ ap (λ b. is_fitting w p f && b && states_world w p l f) (sym (all-same (premises w p (number_in w p) f)))
 
-  about : (l : Line) (f : Fact) → fact_of w l ≡ Some f → judged_about w p told l (Some f) ≡ is_right w p lines l
+  about : (l : Line) (f : Fact) → fact_of w l ≡ Some f → judged_about w p stated l (Some f) ≡ is_right w p lines l
   about l (Seen c a s d) e = sym (anew l (Seen c a s d) e)
-  about l (Worth t a d) e = here (has told (Worth t a d)) refl
+  about l (TermValue t a d) e = here (has stated (TermValue t a d)) refl
     where
-      here : (b : Bool) → has told (Worth t a d) ≡ b
-          → (if b then tells_world w p l (Worth t a d)
-          else is_fitting w p (Worth t a d) && has_all told (premises w p (number_in w p) (Worth t a d)) && tells_world w p l (Worth t a d)) ≡ is_right w p lines l
-      here true i = sym (repeat_is w p known ok lines none l (Worth t a d) e (sym (same (Worth t a d)) ∙ i))
-      here false i = sym (anew l (Worth t a d) e)
+      here : (b : Bool) → has stated (TermValue t a d) ≡ b
+          → (if b then states_world w p l (TermValue t a d)
+          else is_fitting w p (TermValue t a d) && has_all stated (premises w p (number_in w p) (TermValue t a d)) && states_world w p l (TermValue t a d)) ≡ is_right w p lines l
+      here true i = sym (repeat_is w p known ok lines none l (TermValue t a d) e (sym (same (TermValue t a d)) ∙ i))
+      here false i = sym (anew l (TermValue t a d) e)
 
-  pub judged-right : (l : Line) → judged w p told l ≡ is_right w p lines l
+  pub judged-right : (l : Line) → judged w p stated l ≡ is_right w p lines l
   judged-right l = here (fact_of w l) refl
     where
-      here : (o : Option Fact) → fact_of w l ≡ o → judged w p told l ≡ is_right w p lines l
+      here : (o : Option Fact) → fact_of w l ≡ o → judged w p stated l ≡ is_right w p lines l
       here None e = rw e refl
-      here (Some f) e = ap (judged_about w p told l) e ∙ about l f e
+      here (Some f) e = ap (judged_about w p stated l) e ∙ about l f e
 
--- what is told after one line more
-pub told-behind : (w : SpecWorld) (old new : Told) (lines : List Line) (l : Line) → ((f : Fact) → has old f ≡ is_told w lines f) → TellsLine w old new l → (f : Fact) → has new f ≡ is_told w (lines ++ l ∷ []) f
-told-behind w old new lines l same more f =
-    more f ∙ ap (λ b. b || is_about w f l) (same f) ∙ ap (λ b. is_told w lines f || b) (sym (or-false (is_about w f l))) ∙ sym (list_any-append (is_about w f) lines (l ∷ []))
+-- what is stated after one line more
+pub stated-behind : (w : SpecWorld) (old new : FactNumbers) (lines : List Line) (l : Line) → ((f : Fact) → has old f ≡ is_stated w lines f) → StatesLine w old new l → (f : Fact) → has new f ≡ is_stated w (lines ++ l ∷ []) f
+stated-behind w old new lines l same more f =
+    more f ∙ ap (λ b. b || is_about w f l) (same f) ∙ ap (λ b. is_stated w lines f || b) (sym (or-false (is_about w f l))) ∙ sym (list_any-append (is_about w f) lines (l ∷ []))
   where
     or-false : (b : Bool) → (b || false) ≡ b
     or-false true = refl
@@ -73,9 +73,9 @@ same-turned f g = here (same_fact f g) (same_fact g f) refl refl
     here true false e h = let same : f ≡ g = same_is f g e in absurd (true≢false (sym (is_same g) ∙ ap (same_fact g) (sym same) ∙ h))
     here false true e h = let same : g ≡ f = same_is g f h in absurd (true≢false (sym (is_same f) ∙ ap (same_fact f) (sym same) ∙ e))
 
-module _ (f : Fact) (x : ℤ) (old new : Told) (tells : IsTellingOf f x old new) where
+module _ (f : Fact) (x : ℤ) (old new : FactNumbers) (states : IsInsertionOf f x old new) where
   pub has-more : (g : Fact) → has new g ≡ (has old g || same_fact g f)
-  has-more g = ap is_some (tells g) ∙ ap (λ b. is_some (if b then Some x else look old g)) (same-turned f g) ∙ here (same_fact g f)
+  has-more g = ap is_some (states g) ∙ ap (λ b. is_some (if b then Some x else look old g)) (same-turned f g) ∙ here (same_fact g f)
     where
       here : (b : Bool) → is_some (if b then Some x else look old g) ≡ (is_some (look old g) || b)
       here true = right (is_some (look old g))
@@ -89,20 +89,20 @@ module _ (f : Fact) (x : ℤ) (old new : Told) (tells : IsTellingOf f x old new)
           same true = refl
           same false = refl
 
-  pub kept-told : (g : Fact) → has old g ≡ true → has new g ≡ true
-  kept-told g e = has-more g ∙ or_left (has old g) (same_fact g f) e
+  pub kept-stated : (g : Fact) → has old g ≡ true → has new g ≡ true
+  kept-stated g e = has-more g ∙ or_left (has old g) (same_fact g f) e
 
   kept-all : (gs : List Fact) → has_all old gs ≡ true → has_all new gs ≡ true
   kept-all [] e = refl
-  kept-all (g ∷ gs) e = let both = parts (has old g) (has_all old gs) e in rw (kept-told g both.0) (kept-all gs both.1)
+  kept-all (g ∷ gs) e = let both = parts (has old g) (has_all old gs) e in rw (kept-stated g both.0) (kept-all gs both.1)
     where
       parts : (b c : Bool) → (b && c) ≡ true → (b ≡ true) × (c ≡ true)
       parts true c h = (refl, h)
       parts false c h = absurd (true≢false (sym h))
 
-  -- the line of the fact is told
-  pub tells-line : (w : SpecWorld) (l : Line) → fact_of w l ≡ Some f → TellsLine w old new l
-  tells-line w l e g = has-more g ∙ ap (λ b. has old g || b) (sym (ap (λ o. list_any (same_fact g) (option_to_list o)) e ∙ or-false (same_fact g f)))
+  -- the line of the fact is stated
+  pub states-line : (w : SpecWorld) (l : Line) → fact_of w l ≡ Some f → StatesLine w old new l
+  states-line w l e g = has-more g ∙ ap (λ b. has old g || b) (sym (ap (λ o. list_any (same_fact g) (option_to_list o)) e ∙ or-false (same_fact g f)))
     where
       or-false : (b : Bool) → (b || false) ≡ b
       or-false true = refl
@@ -111,7 +111,7 @@ module _ (f : Fact) (x : ℤ) (old new : Told) (tells : IsTellingOf f x old new)
   pub table-more : (w : World) (c : Parts) (rows : Rows) → IsTable w c old rows → x ≡ number_in (world_of w) (pipeline_of c) f → IsCell x → is_fitting (world_of w) (pipeline_of c) f ≡ true → IsTable w c new rows
   table-more w c rows t is cell fits = record {
     ready = t.ready;
-    truth = λ g y e. truth g y (same_fact f g) refl (sym (tells g) ∙ e);
+    truth = λ g y e. truth g y (same_fact f g) refl (sym (states g) ∙ e);
     fits = λ g e. elim (or_cases (has old g) (same_fact g f) (sym (has-more g) ∙ e)) [
       | inl h ↦ t.fits g h
       | inr h ↦ (let same : g ≡ f = same_is g f h in ap (is_fitting (world_of w) (pipeline_of c)) same ∙ fits)
@@ -126,13 +126,13 @@ module _ (f : Fact) (x : ℤ) (old new : Told) (tells : IsTellingOf f x old new)
           (sym value ∙ is ∙ ap (number_in (world_of w) (pipeline_of c)) same, subst IsCell value cell)
       truth g y false i e = t.truth g y e
 
--- a line that is not right tells nothing
-pub not-right : (w : World) (c : Parts) (l : Line) (told : Told) (rows : Rows) → IsTable w c told rows → false ≡ judged (world_of w) (pipeline_of c) told l → IsJudgement w c l told told rows false
-not-right w c l told rows table exact = record { exact = exact; table = table; told = λ e. absurd (true≢false (sym e)) }
+-- a line that is not right states nothing
+pub not-right : (w : World) (c : Parts) (l : Line) (stated : FactNumbers) (rows : Rows) → IsTable w c stated rows → false ≡ judged (world_of w) (pipeline_of c) stated l → IsJudgement w c l stated stated rows false
+not-right w c l stated rows table exact = record { exact = exact; table = table; stated = λ e. absurd (true≢false (sym e)) }
 
--- a line on a fact that is told already tells nothing
-pub tells-again : (w : SpecWorld) (told : Told) (l : Line) (f : Fact) → fact_of w l ≡ Some f → has told f ≡ true → TellsLine w told told l
-tells-again w told l f e h g = here (same_fact g f) refl
+-- a line on a fact that is stated already states nothing
+pub states-again : (w : SpecWorld) (stated : FactNumbers) (l : Line) (f : Fact) → fact_of w l ≡ Some f → has stated f ≡ true → StatesLine w stated stated l
+states-again w stated l f e h g = here (same_fact g f) refl
   where
     about : (b : Bool) → same_fact g f ≡ b → list_any (same_fact g) (option_to_list (fact_of w l)) ≡ b
     about true i = rw (e, i) refl
@@ -146,10 +146,10 @@ tells-again w told l f e h g = here (same_fact g f) refl
     alone true c i = refl
     alone false c i = sym i
 
-    here : (b : Bool) → same_fact g f ≡ b → has told g ≡ (has told g || list_any (same_fact g) (option_to_list (fact_of w l)))
-    here true i = front (has told g) _ (ap (has told) (same_is g f i) ∙ h)
-    here false i = alone (has told g) _ (about false i)
+    here : (b : Bool) → same_fact g f ≡ b → has stated g ≡ (has stated g || list_any (same_fact g) (option_to_list (fact_of w l)))
+    here true i = front (has stated g) _ (ap (has stated) (same_is g f i) ∙ h)
+    here false i = alone (has stated g) _ (about false i)
 
 -- other rows that are kept
-pub other-rows : (w : World) (c : Parts) (told : Told) (old new : Rows) → IsTable w c told old → KeepsRows w c told new → IsTable w c told new
-other-rows w c told old new t k = record { ready = t.ready; truth = t.truth; fits = t.fits; kept = k }
+pub other-rows : (w : World) (c : Parts) (stated : FactNumbers) (old new : Rows) → IsTable w c stated old → KeepsRows w c stated new → IsTable w c stated new
+other-rows w c stated old new t k = record { ready = t.ready; truth = t.truth; fits = t.fits; kept = k }

@@ -2,6 +2,7 @@ mod Keys
 mod Looking
 mod Given
 mod Facts
+mod Known
 mod Entries
 mod Values
 mod Worths

@@ -1,13 +1,13 @@
 -- What is judged of a line of a bar, and of one of a value.
 use Rattle.std.proofs.Common.{◌≡◌, ℕ, ◌<◌, ◌≤◌, Bool, true, false, ◌&&◌, if◌then◌else◌, ℤ, pos, List, Option, Some, None, option_map, refl, sym, ◌∙◌, ap, subst, arith, [], ◌∷◌, suc, fold, All, inl}
-use Rattle.std.specs.Option.{option_and_then}
+use Rattle.std.specs.Option.{option_and_then, option_eq}
 use Rattle.std.specs.Ordering.{int_eq}
 use Rattle.std.specs.Int.RustNames.{int_lt}
 use Rattle.std.specs.Cmp.Lexicographic.{pointwise}
 use Rattle.std.proofs.lemmas.Int.{ints}
 use Rattle.std.proofs.lemmas.Bool.{true≢false, and_from}
 use Rattle.std.proofs.lemmas.Bool.Decides.{Decides-int_eq}
-use Rattle.std.proofs.Math.Bool.{and-false}
+use Rattle.std.proofs.Math.Bool.{and-false, and-true}
 use Rattle.pl_spec.specs.Rounding.{IsCell, MISSING}
 use Rattle.pl_spec.specs.declared.Column.{Column}
 use Rattle.pl_spec.specs.World.{World as SpecWorld}
@@ -16,19 +16,19 @@ use Rattle.pl_terms.specs.Checked.{Parts, pipeline_of}
 use Rattle.pl_terms.specs.Uses.{is_used}
 use Rattle.pl_derivation.specs.Lines.{Line}
 use Rattle.pl_derivation.specs.Lines.Line.{SeenLine, ValueLine}
-use Rattle.pl_derivation.specs.Facts.{number_in}
-use Rattle.pl_derivation.specs.Facts.Fact.{Seen, Worth}
+use Rattle.pl_derivation.specs.Facts.{known_day, number_in}
+use Rattle.pl_derivation.specs.Facts.Fact.{Seen, TermValue}
 use Rattle.pl_derivation.specs.Right.{session_of, fact_of, has_sid, is_fitting, seen_cells, last_cell}
 use Rattle.pl_world.specs.declared.world.World.{World}
 use Rattle.pl_world.specs.Worlds.{world_of}
 use Rattle.pl_world.specs.Evaluations.{cell_in}
-use Rattle.pl_explain.specs.declared.told.Told.{Told}
+use Rattle.pl_explain.specs.declared.fact_numbers.FactNumbers.{FactNumbers}
 use Rattle.pl_explain.specs.declared.rows.Rows.{Rows}
-use Rattle.pl_explain.specs.Looking.{look, IsTellingOf}
+use Rattle.pl_explain.specs.Looking.{look, IsInsertionOf}
 use Rattle.pl_explain.specs.Given.{has, has_all, own_facts, IsGiven, KeepsRows}
 use Rattle.pl_explain.specs.Judging.{judged_about, judged, IsJudgement, IsTable}
 use Rattle.pl_explain.proofs.Given.{got, lacked, has-none, has-some}
-use Rattle.pl_explain.proofs.Judging.{not-right, table-more, tells-again, tells-line, other-rows}
+use Rattle.pl_explain.proofs.Judging.{not-right, table-more, states-again, states-line, other-rows}
 
 less-not : (s d : ℕ) → d ≤ s → int_lt (pos s) (pos d) ≡ false
 less-not s d h = grind (arith, ints)
@@ -36,7 +36,7 @@ less-not s d h = grind (arith, ints)
 less-is : (s d : ℕ) → s < d → int_lt (pos s) (pos d) ≡ true
 less-is s d h = grind (arith, ints)
 
-module _ {w : World} {c : Parts} {told : Told} {rows : Rows} (table : IsTable w c told rows) where
+module _ {w : World} {c : Parts} {stated : FactNumbers} {rows : Rows} (table : IsTable w c stated rows) where
   abbrev v : SpecWorld
   v = world_of w
 
@@ -49,24 +49,24 @@ module _ {w : World} {c : Parts} {told : Told} {rows : Rows} (table : IsTable w 
     abbrev bar : Line
     bar = SeenLine k sid bar_day day cells
 
-    wrong : false ≡ judged v p told bar → IsJudgement w c bar told told rows false
-    wrong e = not-right w c bar told rows table e
+    wrong : false ≡ judged v p stated bar → IsJudgement w c bar stated stated rows false
+    wrong e = not-right w c bar stated rows table e
 
-    pub bar-unknown : has_sid v sid ≡ false → IsJudgement w c bar told told rows false
+    pub bar-unknown : has_sid v sid ≡ false → IsJudgement w c bar stated stated rows false
     bar-unknown e = wrong (here (session_of v bar_day) (session_of v day))
       where
-        here : (o q : Option ℕ) → false ≡ judged_about v p told bar (option_and_then (λ s. option_map (λ d. Seen k sid (pos s) (pos d)) q) o)
+        here : (o q : Option ℕ) → false ≡ judged_about v p stated bar (option_and_then (λ s. option_map (λ d. Seen k sid (pos s) (pos d)) q) o)
         here None q = refl
         here (Some s) None = refl
         here (Some s) (Some d) = rw e refl
 
-    pub bar-no-session : session_of v bar_day ≡ None → IsJudgement w c bar told told rows false
+    pub bar-no-session : session_of v bar_day ≡ None → IsJudgement w c bar stated stated rows false
     bar-no-session e = wrong (rw e refl)
 
-    pub bar-no-day : session_of v day ≡ None → IsJudgement w c bar told told rows false
+    pub bar-no-day : session_of v day ≡ None → IsJudgement w c bar stated stated rows false
     bar-no-day e = wrong (here (session_of v bar_day))
       where
-        here : (o : Option ℕ) → false ≡ judged_about v p told bar (option_and_then (λ s. option_map (λ d. Seen k sid (pos s) (pos d)) (session_of v day)) o)
+        here : (o : Option ℕ) → false ≡ judged_about v p stated bar (option_and_then (λ s. option_map (λ d. Seen k sid (pos s) (pos d)) (session_of v day)) o)
         here None = refl
         here (Some s) = rw e refl
 
@@ -74,114 +74,141 @@ module _ {w : World} {c : Parts} {told : Told} {rows : Rows} (table : IsTable w 
       bar-fact : fact_of v bar ≡ Some (Seen k sid (pos s) (pos d))
       bar-fact = rw (bar_is, day_is) refl
 
-      pub bar-late : d ≤ s → IsJudgement w c bar told told rows false
-      bar-late l = wrong (sym (ap (judged_about v p told bar) bar-fact ∙ rw (less-not s d l, and-false (has_sid v sid)) refl))
+      pub bar-late : d ≤ s → IsJudgement w c bar stated stated rows false
+      bar-late l = wrong (sym (ap (judged_about v p stated bar) bar-fact ∙ rw (less-not s d l, and-false (has_sid v sid)) refl))
 
       module _ (known : has_sid v sid ≡ true) (early : s < d) where
-        exact : (b : Bool) → b ≡ pointwise int_eq cells (seen_cells v sid k (pos s) (pos d)) → b ≡ judged v p told bar
-        exact b e = e ∙ sym (ap (judged_about v p told bar) bar-fact ∙ step)
+        exact : (b : Bool) → b ≡ pointwise int_eq cells (seen_cells v sid k (pos s) (pos d)) → b ≡ judged v p stated bar
+        exact b e = e ∙ sym (ap (judged_about v p stated bar) bar-fact ∙ step)
           where
-            step : judged_about v p told bar (Some (Seen k sid (pos s) (pos d))) ≡ pointwise int_eq cells (seen_cells v sid k (pos s) (pos d))
+            step : judged_about v p stated bar (Some (Seen k sid (pos s) (pos d))) ≡ pointwise int_eq cells (seen_cells v sid k (pos s) (pos d))
             step = rw (known, less-is s d early) refl
 
-        pub bar-other : false ≡ pointwise int_eq cells (seen_cells v sid k (pos s) (pos d)) → IsJudgement w c bar told told rows false
+        pub bar-other : false ≡ pointwise int_eq cells (seen_cells v sid k (pos s) (pos d)) → IsJudgement w c bar stated stated rows false
         bar-other e = wrong (exact false e)
 
-        pub bar-right : true ≡ pointwise int_eq cells (seen_cells v sid k (pos s) (pos d)) → (x : ℤ) (new : Told) → IsTellingOf (Seen k sid (pos s) (pos d)) x told new
-            → x ≡ number_in v p (Seen k sid (pos s) (pos d)) → IsCell x → IsJudgement w c bar told new rows true
-        bar-right e x new tells number cell = record {
+        pub bar-right : true ≡ pointwise int_eq cells (seen_cells v sid k (pos s) (pos d)) → (x : ℤ) (new : FactNumbers) → IsInsertionOf (Seen k sid (pos s) (pos d)) x stated new
+            → x ≡ number_in v p (Seen k sid (pos s) (pos d)) → IsCell x → IsJudgement w c bar stated new rows true
+        bar-right e x new states number cell = record {
           exact = exact true e;
-          table = table-more (Seen k sid (pos s) (pos d)) x told new tells w c rows table number cell (and_from (has_sid v sid) (int_lt (pos s) (pos d)) known (less-is s d early));
-          told = λ _. tells-line (Seen k sid (pos s) (pos d)) x told new tells v bar bar-fact;
+          table = table-more (Seen k sid (pos s) (pos d)) x stated new states w c rows table number cell (and_from (has_sid v sid) (int_lt (pos s) (pos d)) known (less-is s d early));
+          stated = λ _. states-line (Seen k sid (pos s) (pos d)) x stated new states v bar bar-fact;
         }
 
   -- ---- a value
 
-  module _ (t sid : ℕ) (day x : ℤ) where
+  module _ (t sid : ℕ) (day x : ℤ) (known : Option ℤ) where
     abbrev value : Line
-    value = ValueLine t sid day x
+    value = ValueLine t sid day x known
 
-    -- a fact that fits nowhere is not told either
-    unfit : (has_sid v sid && is_used p t) ≡ false → IsJudgement w c value told told rows false
-    unfit e = not-right w c value told rows table (here (session_of v day))
+    -- the day of the record is stated
+    abbrev states_day : ℕ → Bool
+    states_day d = option_eq int_eq known (known_day v p (TermValue t sid (pos d)))
+
+    -- and the number is
+    abbrev states_both : ℕ → Bool
+    states_both d = int_eq x (number_in v p (TermValue t sid (pos d))) && states_day d
+
+    -- a fact that fits nowhere is not stated either
+    unfit : (has_sid v sid && is_used p t) ≡ false → IsJudgement w c value stated stated rows false
+    unfit e = not-right w c value stated rows table (here (session_of v day))
       where
-        there : (d : ℕ) (b : Bool) → has told (Worth t sid (pos d)) ≡ b
-            → false ≡ (if b then int_eq x (number_in v p (Worth t sid (pos d)))
-            else is_fitting v p (Worth t sid (pos d)) && has_all told (own_facts w c t sid d) && int_eq x (number_in v p (Worth t sid (pos d))))
-        there d true h = absurd (true≢false (sym (table.fits (Worth t sid (pos d)) h) ∙ e))
+        there : (d : ℕ) (b : Bool) → has stated (TermValue t sid (pos d)) ≡ b
+            → false ≡ (if b then states_both d else is_fitting v p (TermValue t sid (pos d)) && has_all stated (own_facts w c t sid d) && states_both d)
+        there d true h = absurd (true≢false (sym (table.fits (TermValue t sid (pos d)) h) ∙ e))
         there d false h = rw e refl
 
-        here : (o : Option ℕ) → false ≡ judged_about v p told value (option_map (λ d. Worth t sid (pos d)) o)
+        here : (o : Option ℕ) → false ≡ judged_about v p stated value (option_map (λ d. TermValue t sid (pos d)) o)
         here None = refl
-        here (Some d) = there d (has told (Worth t sid (pos d))) refl
+        here (Some d) = there d (has stated (TermValue t sid (pos d))) refl
 
-    pub value-unknown : has_sid v sid ≡ false → IsJudgement w c value told told rows false
+    pub value-unknown : has_sid v sid ≡ false → IsJudgement w c value stated stated rows false
     value-unknown e = unfit (ap (λ b. b && is_used p t) e)
 
-    pub value-unused : is_used p t ≡ false → IsJudgement w c value told told rows false
+    pub value-unused : is_used p t ≡ false → IsJudgement w c value stated stated rows false
     value-unused e = unfit (ap (λ b. has_sid v sid && b) e ∙ and-false (has_sid v sid))
 
-    pub value-no-day : session_of v day ≡ None → IsJudgement w c value told told rows false
-    value-no-day e = not-right w c value told rows table (rw e refl)
+    pub value-no-day : session_of v day ≡ None → IsJudgement w c value stated stated rows false
+    value-no-day e = not-right w c value stated rows table (rw e refl)
 
     -- of the session, and of a term and an asset that are the line's own
     module _ (d : ℕ) (day_is : session_of v day ≡ Some d) (u a : ℕ) (term : u ≡ t) where
-      fact-is : fact_of v value ≡ Some (Worth t sid (pos d))
+      fact-is : fact_of v value ≡ Some (TermValue t sid (pos d))
       fact-is = rw day_is refl
 
-      -- what the judgement computes to, where the fact is told already and where not
-      judged-as : (b : Bool) → has told (Worth t sid (pos d)) ≡ b
-          → judged v p told value ≡ (if b then int_eq x (number_in v p (Worth t sid (pos d)))
-          else is_fitting v p (Worth t sid (pos d)) && has_all told (own_facts w c t sid d) && int_eq x (number_in v p (Worth t sid (pos d))))
-      judged-as b h = ap (judged_about v p told value) fact-is
-          ∙ ap (λ r. if r then int_eq x (number_in v p (Worth t sid (pos d)))
-          else is_fitting v p (Worth t sid (pos d)) && has_all told (own_facts w c t sid d) && int_eq x (number_in v p (Worth t sid (pos d)))) h
+      -- what the judgement computes to, where the fact is stated already and where not
+      judged-as : (b : Bool) → has stated (TermValue t sid (pos d)) ≡ b
+          → judged v p stated value ≡ (if b then states_both d else is_fitting v p (TermValue t sid (pos d)) && has_all stated (own_facts w c t sid d) && states_both d)
+      judged-as b h = ap (judged_about v p stated value) fact-is
+          ∙ ap (λ r. if r then states_both d else is_fitting v p (TermValue t sid (pos d)) && has_all stated (own_facts w c t sid d) && states_both d) h
 
-      pub value-repeat : (y : ℤ) → look told (Worth u sid (pos d)) ≡ Some y → (b : Bool) → b ≡ int_eq x y → IsJudgement w c value told told rows b
-      value-repeat y at b e =
-          let own : look told (Worth t sid (pos d)) ≡ Some y = ap (λ t. look told (Worth t sid (pos d))) (sym term) ∙ at in
-          let there = has-some told (Worth t sid (pos d)) y own in
-          record {
-            exact = e ∙ ap (int_eq x) (table.truth (Worth t sid (pos d)) y own).0 ∙ sym (judged-as true there);
-            table = table;
-            told = λ _. tells-again v told value (Worth t sid (pos d)) fact-is there;
-          }
+      -- the day of the record of that term and that asset
+      own-day : a ≡ sid → (b : Bool) → b ≡ option_eq int_eq known (known_day v p (TermValue u a (pos d))) → states_day d ≡ b
+      own-day place b e = sym (e ∙ ap (λ i. option_eq int_eq known (known_day v p (TermValue i a (pos d)))) term ∙ ap (λ i. option_eq int_eq known (known_day v p (TermValue t i (pos d)))) place)
 
-      module _ (fresh : look told (Worth u sid (pos d)) ≡ None) (place : a ≡ sid) (known : has_sid v sid ≡ true) (used : is_used p t ≡ true) (after : Rows) (kept : KeepsRows w c told after) where
-        fits : is_fitting v p (Worth t sid (pos d)) ≡ true
-        fits = and_from (has_sid v sid) (is_used p t) known used
+      -- another day is stated
+      pub value-other-day : a ≡ sid → false ≡ option_eq int_eq known (known_day v p (TermValue u a (pos d))) → IsJudgement w c value stated stated rows false
+      value-other-day place e = not-right w c value stated rows table (sym (judged-as (has stated (TermValue t sid (pos d))) refl ∙ here (has stated (TermValue t sid (pos d)))))
+        where
+          none : states_both d ≡ false
+          none = ap (λ b. int_eq x (number_in v p (TermValue t sid (pos d))) && b) (own-day place false e) ∙ and-false (int_eq x (number_in v p (TermValue t sid (pos d))))
 
-        judged-anew : judged v p told value ≡ (has_all told (own_facts w c u a d) && int_eq x (number_in v p (Worth t sid (pos d))))
-        judged-anew =
-            let none : look told (Worth t sid (pos d)) ≡ None = ap (λ t. look told (Worth t sid (pos d))) (sym term) ∙ fresh in
-            judged-as false (has-none told (Worth t sid (pos d)) none)
-            ∙ ap (λ r. r && has_all told (own_facts w c t sid d) && int_eq x (number_in v p (Worth t sid (pos d)))) fits
-            ∙ ap (λ a. has_all told (own_facts w c t a d) && int_eq x (number_in v p (Worth t sid (pos d)))) (sym place)
-            ∙ ap (λ t'. has_all told (own_facts w c t' a d) && int_eq x (number_in v p (Worth t sid (pos d)))) (sym term)
+          here : (b : Bool) → (if b then states_both d else is_fitting v p (TermValue t sid (pos d)) && has_all stated (own_facts w c t sid d) && states_both d) ≡ false
+          here true = none
+          here false = ap (λ b. is_fitting v p (TermValue t sid (pos d)) && has_all stated (own_facts w c t sid d) && b) none
+              ∙ and-false (is_fitting v p (TermValue t sid (pos d)) && has_all stated (own_facts w c t sid d))
 
-        -- one of its premises is not told
-        pub value-lacks : IsGiven IsCell told (own_facts w c u a d) (cell_in w c u a d) None → IsJudgement w c value told told after false
-        value-lacks h = not-right w c value told after (other-rows w c told rows after table kept)
-            (sym (judged-anew ∙ ap (λ r. r && int_eq x (number_in v p (Worth t sid (pos d)))) (lacked told None h refl)))
+      -- the record's own day
+      module _ (place : a ≡ sid) (since : true ≡ option_eq int_eq known (known_day v p (TermValue u a (pos d)))) where
+        number-alone : states_both d ≡ int_eq x (number_in v p (TermValue t sid (pos d)))
+        number-alone = ap (λ b. int_eq x (number_in v p (TermValue t sid (pos d))) && b) (own-day place true since) ∙ and-true (int_eq x (number_in v p (TermValue t sid (pos d))))
 
-        module _ (y : ℤ) (h : IsGiven IsCell told (own_facts w c u a d) (cell_in w c u a d) (Some y)) where
-          is : y ≡ number_in v p (Worth t sid (pos d))
-          is = (got told (Some y) y h refl).1 ∙ ap (λ t. number_in v p (Worth t a (pos d))) term ∙ ap (λ a. number_in v p (Worth t a (pos d))) place
+        pub value-repeat : (y : ℤ) → look stated (TermValue u sid (pos d)) ≡ Some y → (b : Bool) → b ≡ int_eq x y → IsJudgement w c value stated stated rows b
+        value-repeat y at b e =
+            let own : look stated (TermValue t sid (pos d)) ≡ Some y = ap (λ t. look stated (TermValue t sid (pos d))) (sym term) ∙ at in
+            let there = has-some stated (TermValue t sid (pos d)) y own in
+            record {
+              exact = e ∙ ap (int_eq x) (table.truth (TermValue t sid (pos d)) y own).0 ∙ sym (judged-as true there ∙ number-alone);
+              table = table;
+              stated = λ _. states-again v stated value (TermValue t sid (pos d)) fact-is there;
+            }
 
-          exact-as : (b : Bool) → b ≡ int_eq x y → b ≡ judged v p told value
-          exact-as b e = e ∙ ap (int_eq x) is ∙ sym (judged-anew ∙ ap (λ r. r && int_eq x (number_in v p (Worth t sid (pos d)))) (got told (Some y) y h refl).0)
+        module _ (fresh : look stated (TermValue u sid (pos d)) ≡ None) (known_sid : has_sid v sid ≡ true) (used : is_used p t ≡ true) (after : Rows) (kept : KeepsRows w c stated after) where
+          fits : is_fitting v p (TermValue t sid (pos d)) ≡ true
+          fits = and_from (has_sid v sid) (is_used p t) known_sid used
 
-          pub value-other : false ≡ int_eq x y → IsJudgement w c value told told after false
-          value-other e = not-right w c value told after (other-rows w c told rows after table kept) (exact-as false e)
+          judged-anew : judged v p stated value ≡ (has_all stated (own_facts w c u a d) && int_eq x (number_in v p (TermValue t sid (pos d))))
+          judged-anew =
+              let none : look stated (TermValue t sid (pos d)) ≡ None = ap (λ t. look stated (TermValue t sid (pos d))) (sym term) ∙ fresh in
+              judged-as false (has-none stated (TermValue t sid (pos d)) none)
+              ∙ ap (λ r. is_fitting v p (TermValue t sid (pos d)) && has_all stated (own_facts w c t sid d) && r) number-alone
+              ∙ ap (λ r. r && has_all stated (own_facts w c t sid d) && int_eq x (number_in v p (TermValue t sid (pos d)))) fits
+              ∙ ap (λ a. has_all stated (own_facts w c t a d) && int_eq x (number_in v p (TermValue t sid (pos d)))) (sym place)
+              ∙ ap (λ t'. has_all stated (own_facts w c t' a d) && int_eq x (number_in v p (TermValue t sid (pos d)))) (sym term)
 
-          pub value-right : true ≡ int_eq x y → IsCell x → (new : Told) → IsTellingOf (Worth u sid (pos d)) x told new → IsJudgement w c value told new after true
-          value-right e cell new tells =
-              let own : IsTellingOf (Worth t sid (pos d)) x told new = subst (λ t. IsTellingOf (Worth t sid (pos d)) x told new) term tells in
-              record {
-                exact = exact-as true e;
-                table = table-more (Worth t sid (pos d)) x told new own w c after (other-rows w c told rows after table kept) ((Decides-int_eq x y).0 (sym e) ∙ is) cell fits;
-                told = λ _. tells-line (Worth t sid (pos d)) x told new own v value fact-is;
-              }
+          -- one of its premises is not stated
+          pub value-lacks : IsGiven IsCell stated (own_facts w c u a d) (cell_in w c u a d) None → IsJudgement w c value stated stated after false
+          value-lacks h = not-right w c value stated after (other-rows w c stated rows after table kept)
+              (sym (judged-anew ∙ ap (λ r. r && int_eq x (number_in v p (TermValue t sid (pos d)))) (lacked stated None h refl)))
+
+          module _ (y : ℤ) (h : IsGiven IsCell stated (own_facts w c u a d) (cell_in w c u a d) (Some y)) where
+            is : y ≡ number_in v p (TermValue t sid (pos d))
+            is = (got stated (Some y) y h refl).1 ∙ ap (λ t. number_in v p (TermValue t a (pos d))) term ∙ ap (λ a. number_in v p (TermValue t a (pos d))) place
+
+            exact-as : (b : Bool) → b ≡ int_eq x y → b ≡ judged v p stated value
+            exact-as b e = e ∙ ap (int_eq x) is ∙ sym (judged-anew ∙ ap (λ r. r && int_eq x (number_in v p (TermValue t sid (pos d)))) (got stated (Some y) y h refl).0)
+
+            pub value-other : false ≡ int_eq x y → IsJudgement w c value stated stated after false
+            value-other e = not-right w c value stated after (other-rows w c stated rows after table kept) (exact-as false e)
+
+            pub value-right : true ≡ int_eq x y → IsCell x → (new : FactNumbers) → IsInsertionOf (TermValue u sid (pos d)) x stated new → IsJudgement w c value stated new after true
+            value-right e cell new states =
+                let own : IsInsertionOf (TermValue t sid (pos d)) x stated new = subst (λ t. IsInsertionOf (TermValue t sid (pos d)) x stated new) term states in
+                record {
+                  exact = exact-as true e;
+                  table = table-more (TermValue t sid (pos d)) x stated new own w c after (other-rows w c stated rows after table kept) ((Decides-int_eq x y).0 (sym e) ∙ is) cell fits;
+                  stated = λ _. states-line (TermValue t sid (pos d)) x stated new own v value fact-is;
+                }
 
 last-from : (z : ℤ) → IsCell z → (xs : List ℤ) → All IsCell xs → IsCell (fold (λ x y. y) z xs)
 last-from z h [] all = h

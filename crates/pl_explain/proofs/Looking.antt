@@ -1,4 +1,4 @@
--- One fact more that is told, and one row more that is kept.
+-- One fact more that is stated, and one row more that is kept.
 use Rattle.std.proofs.Common.{◌≡◌, ℕ, ◌+◌, ◌*◌, Bool, true, false, ◌&&◌, if◌then◌else◌, cond, ℤ, Option, Some, None, option_map, refl, sym, ◌∙◌, ap, nat_eq, ◌==◌, Vec, Global}
 use Rattle.std.specs.Option.{option_and_then}
 use Rattle.std.specs.HashMap.{get}
@@ -6,16 +6,16 @@ use Rattle.std.proofs.lemmas.Bool.{true≢false, eqb-true, eq-eqb, and_parts, an
 use Rattle.std.proofs.lemmas.Option.{none-some}
 use Rattle.pl_derivation.specs.Facts.{Fact, same_fact}
 use Rattle.pl_derivation.proofs.Truths.{same_is, is_same}
-use Rattle.pl_explain.specs.declared.told.Told.{Told}
+use Rattle.pl_explain.specs.declared.fact_numbers.FactNumbers.{FactNumbers}
 use Rattle.pl_explain.specs.declared.rows.Rows.{Rows}
 use Rattle.pl_explain.specs.Keys.{is_small, fact_key}
 use Rattle.pl_explain.specs.Looking.{look, row_key, row_at}
 use Rattle.pl_explain.proofs.Keys.{small-is, digits, some-if, key-same}
 
-pub told-more : (old new : Told) (f : Fact) (k : ℕ) (x : ℤ) → fact_key f ≡ Some k → ((q : ℕ) → get nat_eq new.numbers q ≡ cond (nat_eq k q) (Some x) (get nat_eq old.numbers q))
+pub stated-more : (old new : FactNumbers) (f : Fact) (k : ℕ) (x : ℤ) → fact_key f ≡ Some k → ((q : ℕ) → get nat_eq new.numbers q ≡ cond (nat_eq k q) (Some x) (get nat_eq old.numbers q))
     → (g : Fact) → look new g ≡ (if same_fact f g then Some x else look old g)
 unfolding look
-told-more old new f k x e updates g = here (fact_key g) refl
+stated-more old new f k x e updates g = here (fact_key g) refl
   where
     none : (b : Bool) → same_fact f g ≡ b → fact_key g ≡ None → None ≡ (if b then Some x else None)
     none false i h = refl

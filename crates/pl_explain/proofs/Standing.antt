@@ -10,46 +10,46 @@ use Rattle.pl_derivation.specs.declared.line.Line.{Line}
 use Rattle.pl_derivation.specs.Listed.{line_of}
 use Rattle.pl_derivation.specs.Texts.{AreWritable, IsWritable}
 use Rattle.pl_derivation.specs.Facts.{Fact, number_in, premises}
-use Rattle.pl_derivation.specs.Facts.Fact.{Worth}
+use Rattle.pl_derivation.specs.Facts.Fact.{TermValue}
 use Rattle.pl_derivation.specs.Right.{is_fitting}
 use Rattle.pl_derivation.specs.Walks.{finish, facts_for, line_for, derivation}
-use Rattle.pl_explain.specs.Looking.{look, row_at, IsTellingOf}
+use Rattle.pl_explain.specs.Looking.{look, row_at, IsInsertionOf}
 use Rattle.pl_explain.specs.Given.{has, IsReady}
 use Rattle.pl_explain.specs.declared.walk.Walk.{Walk}
 use Rattle.pl_explain.specs.Judging.{IsTable}
-use Rattle.pl_explain.specs.Walking.{HasWalked, StandsIn, Finishes, IsTooLong}
+use Rattle.pl_explain.specs.Walking.{HasWalked, HoldsSoFar, Finishes, IsTooLong}
 use Rattle.pl_explain.proofs.Judging.{table-more}
 use Rattle.pl_explain.proofs.Walks.{writable-more, walk-more}
 
 module _ (w : World) (c : Parts) where
   -- a walk that has put down one fact more stands
-  pub stands-more : (most : ℕ) (f : Fact) (old mid new : Walk) (line : Line) (x : ℤ) → StandsIn w c old → has old.told f ≡ false
+  pub stands-more : (most : ℕ) (f : Fact) (old mid new : Walk) (line : Line) (x : ℤ) → HoldsSoFar w c old → has old.stated f ≡ false
       → Finishes w c most old mid (premises (world_of w) (pipeline_of c) (number_in (world_of w) (pipeline_of c)) f)
-      → StandsIn w c mid → IsTellingOf f x mid.told new.told → new.lines.items ≡ mid.lines.items ++ line ∷ []
-      → line_of line ≡ line_for (world_of w) (pipeline_of c) f → IsWritable (line_of line) → IsTable w c mid.told new.rows
+      → HoldsSoFar w c mid → IsInsertionOf f x mid.stated new.stated → new.lines.items ≡ mid.lines.items ++ line ∷ []
+      → line_of line ≡ line_for (world_of w) (pipeline_of c) f → IsWritable (line_of line) → IsTable w c mid.stated new.rows
       → x ≡ number_in (world_of w) (pipeline_of c) f → IsCell x → is_fitting (world_of w) (pipeline_of c) f ≡ true → length new.lines.items ≤ most_lines
-      → StandsIn w c new
-  stands-more most f old mid new line x from fresh first stands tells put is text table value cell fits few = record {
+      → HoldsSoFar w c new
+  stands-more most f old mid new line x from fresh first stands states put is text table value cell fits few = record {
     facts = fold (finish (world_of w) (pipeline_of c) (suc most)) from.facts (f ∷ []);
-    walked = walk-more w c most f old fresh mid new line x tells put is first from.facts from.walked (suc most) (omega arith);
-    table = table-more f x mid.told new.told tells w c new.rows table value cell fits;
+    walked = walk-more w c most f old fresh mid new line x states put is first from.facts from.walked (suc most) (omega arith);
+    table = table-more f x mid.stated new.stated states w c new.rows table value cell fits;
     writable = subst AreWritable (sym (ap (map line_of) put ∙ map-append line_of mid.lines.items (line ∷ []))) (writable-more (map line_of mid.lines.items) (line_of line) stands.writable text);
     few = few;
   }
 
   -- before the first fact
-  module _ (walk : Walk) (told : (f : Fact) → look walk.told f ≡ None) (rows : (t d : ℕ) → row_at walk.rows t d ≡ None) (none : walk.lines.items ≡ []) where
+  module _ (walk : Walk) (stated : (f : Fact) → look walk.stated f ≡ None) (rows : (t d : ℕ) → row_at walk.rows t d ≡ None) (none : walk.lines.items ≡ []) where
     pub walked-none : HasWalked w c walk []
-    walked-none = record { told = λ f. ap is_some (told f); lines = ap (map line_of) none }
+    walked-none = record { stated = λ f. ap is_some (stated f); lines = ap (map line_of) none }
 
-    pub stands-first : IsReady w c → StandsIn w c walk
+    pub stands-first : IsReady w c → HoldsSoFar w c walk
     stands-first ready = record {
       facts = [];
       walked = walked-none;
       table = record {
         ready = ready;
-        truth = λ f x e. absurd (let bad = sym (told f) ∙ e in cc);
-        fits = λ f e. absurd (let bad = sym (ap is_some (told f)) ∙ e in cc);
+        truth = λ f x e. absurd (let bad = sym (stated f) ∙ e in cc);
+        fits = λ f e. absurd (let bad = sym (ap is_some (stated f)) ∙ e in cc);
         kept = λ t d row e. absurd (let bad = sym (rows t d) ∙ e in cc);
       };
       writable = subst (λ ls. AreWritable (map line_of ls)) (sym none) tt;
@@ -57,12 +57,12 @@ module _ (w : World) (c : Parts) where
     }
 
     -- at the end the lines are the derivation
-    pub derived : (t a d : ℕ) (new : Walk) → Finishes w c (t + 2) walk new (Worth t a (pos d) ∷ []) → map line_of new.lines.items ≡ derivation (world_of w) (pipeline_of c) t a (pos d)
+    pub derived : (t a d : ℕ) (new : Walk) → Finishes w c (t + 2) walk new (TermValue t a (pos d) ∷ []) → map line_of new.lines.items ≡ derivation (world_of w) (pipeline_of c) t a (pos d)
     derived t a d new done =
         let deep : t + 2 ≡ suc (suc t) = omega arith in
-        (done [] walked-none (t + 2) (omega arith)).lines ∙ ap (λ k. map (line_for (world_of w) (pipeline_of c)) (finish (world_of w) (pipeline_of c) k [] (Worth t a (pos d)))) deep
+        (done [] walked-none (t + 2) (omega arith)).lines ∙ ap (λ k. map (line_for (world_of w) (pipeline_of c)) (finish (world_of w) (pipeline_of c) k [] (TermValue t a (pos d)))) deep
 
-    pub derived-long : (t a d : ℕ) → IsTooLong w c (t + 2) walk (Worth t a (pos d) ∷ []) → most_lines < length (facts_for (world_of w) (pipeline_of c) (Worth t a (pos d)))
+    pub derived-long : (t a d : ℕ) → IsTooLong w c (t + 2) walk (TermValue t a (pos d) ∷ []) → most_lines < length (facts_for (world_of w) (pipeline_of c) (TermValue t a (pos d)))
     derived-long t a d long =
         let deep : t + 2 ≡ suc (suc t) = omega arith in
-        subst (λ k. most_lines < length (finish (world_of w) (pipeline_of c) k [] (Worth t a (pos d)))) deep (long [] walked-none (t + 2) (omega arith))
+        subst (λ k. most_lines < length (finish (world_of w) (pipeline_of c) k [] (TermValue t a (pos d)))) deep (long [] walked-none (t + 2) (omega arith))

@@ -35,9 +35,9 @@ use Rattle.pl_world.specs.Worlds.{world_of}
 use Rattle.pl_world.proofs.Asked.{inputs-at}
 use Rattle.pl_world.proofs.Evaluated.{lacks-value, cell-kept, cell-barred, kept-mask, windowed-is, point-is, label-test-is, section-is, sids-is, code-node}
 use Rattle.pl_explain.specs.declared.basis.Basis.{Basis}
-use Rattle.pl_explain.specs.declared.told.Told.{Told}
+use Rattle.pl_explain.specs.declared.fact_numbers.FactNumbers.{FactNumbers}
 use Rattle.pl_explain.specs.Given.{facts_in, facts_read, given, has_all, mask_passes, own_facts, sid_in, value_in, IsAskedAt, IsGiven, IsKeptAt}
-use Rattle.pl_explain.proofs.Given.{given-some, given-none, given-behind, refused, accepted, both-told, front-lacks, three-told, first-lacks, second-lacks, third-lacks}
+use Rattle.pl_explain.proofs.Given.{given-some, given-none, given-behind, refused, accepted, both-stated, front-lacks, three-stated, first-lacks, second-lacks, third-lacks}
 
 -- a mask that is read is the mask
 mask-read : (w : SpecWorld) (p : Pipeline) → HasTexts w → IsGraph p.graph → (o : Option ℕ) (a : ℕ) (d : ℤ) → passes (number_read w p (number_in w p) o) a d ≡ passes (number_part w p.names p.graph o) a d
@@ -67,20 +67,20 @@ pub over-read : (n : Node) (f : Option spec.Input → List Fact) → over_inputs
 unfolding node_of
 over-read n f = rw (inputs-at n 0, inputs-at n 1, inputs-at n 2) refl
 
-module _ (told : Told) (n : Node) (f : Option spec.Input → List Fact) where
+module _ (stated : FactNumbers) (n : Node) (f : Option spec.Input → List Fact) where
   abbrev part : ℕ → List Fact
   part k = f (option_map input_of (slice_get n.inputs k))
 
-  pub same-told : (k : ℕ) (o : Option Input) (b : Bool) → o ≡ slice_get n.inputs k → has_all told (f (option_map input_of o)) ≡ b → has_all told (part k) ≡ b
-  same-told k o b at h = ap (λ o. has_all told (f (option_map input_of o))) (sym at) ∙ h
+  pub same-stated : (k : ℕ) (o : Option Input) (b : Bool) → o ≡ slice_get n.inputs k → has_all stated (f (option_map input_of o)) ≡ b → has_all stated (part k) ≡ b
+  same-stated k o b at h = ap (λ o. has_all stated (f (option_map input_of o))) (sym at) ∙ h
 
-  pub inputs-told : has_all told (part 0) ≡ true → has_all told (part 1) ≡ true → has_all told (part 2) ≡ true → has_all told (over_inputs f (node_of n)) ≡ true
-  inputs-told x y z = ap (has_all told) (over-read n f) ∙ three-told told (part 0) (part 1) (part 2) x y z
+  pub inputs-stated : has_all stated (part 0) ≡ true → has_all stated (part 1) ≡ true → has_all stated (part 2) ≡ true → has_all stated (over_inputs f (node_of n)) ≡ true
+  inputs-stated x y z = ap (has_all stated) (over-read n f) ∙ three-stated stated (part 0) (part 1) (part 2) x y z
 
-  pub input-lacks : (k : ℕ) → k < 3 → has_all told (part k) ≡ false → has_all told (over_inputs f (node_of n)) ≡ false
-  input-lacks zero l h = ap (has_all told) (over-read n f) ∙ first-lacks told (part 0) (part 1) (part 2) h
-  input-lacks (suc zero) l h = ap (has_all told) (over-read n f) ∙ second-lacks told (part 0) (part 1) (part 2) h
-  input-lacks (suc (suc zero)) l h = ap (has_all told) (over-read n f) ∙ third-lacks told (part 0) (part 1) (part 2) h
+  pub input-lacks : (k : ℕ) → k < 3 → has_all stated (part k) ≡ false → has_all stated (over_inputs f (node_of n)) ≡ false
+  input-lacks zero l h = ap (has_all stated) (over-read n f) ∙ first-lacks stated (part 0) (part 1) (part 2) h
+  input-lacks (suc zero) l h = ap (has_all stated) (over-read n f) ∙ second-lacks stated (part 0) (part 1) (part 2) h
+  input-lacks (suc (suc zero)) l h = ap (has_all stated) (over-read n f) ∙ third-lacks stated (part 0) (part 1) (part 2) h
   input-lacks (suc (suc (suc k))) l h = absurd (omega (arith, l))
 
 -- ---- premises
@@ -223,50 +223,50 @@ module _ {b : Basis} {t col s : ℕ} (asked : IsAskedAt b col s) (term : t < len
   own = own_facts b.world b.checked.now t (sid_in b col) s
 
   abbrev IsOwn : Option ℤ → Type 0
-  IsOwn o = IsGiven IsCell b.told.now own cell o
+  IsOwn o = IsGiven IsCell b.stated.now own cell o
 
   -- of an asset that does not exist
   module _ (ns : List Node) (same : ns ≡ b.checked.now.graph) (v : ℤ) (e : v ≡ number_in_value (empty (sort_kind (term_at (graph_of ns) t)))) where
     none : IsCell v
     none = subst IsCell (sym e) (empty-cell (sort_kind (term_at (graph_of ns) t)))
 
-    pub gone-told : exists (world_of b.world) (sid_in b col) (pos s) ≡ false → IsOwn (Some v)
-    gone-told gone =
-        accepted b.told.now [] own cell v (premises-lacks b.world b.checked.now asked.on.ready.checked t (sid_in b col) s term gone) refl
+    pub gone-stated : exists (world_of b.world) (sid_in b col) (pos s) ≡ false → IsOwn (Some v)
+    gone-stated gone =
+        accepted b.stated.now [] own cell v (premises-lacks b.world b.checked.now asked.on.ready.checked t (sid_in b col) s term gone) refl
         (e ∙ lacks-value b.world b.checked.now asked.on.ready.checked t s (sid_in b col) ns same term gone) none
 
     -- or does not pass the mask
-    pub barred-told : (n : Node) → slice_get b.checked.now.graph t ≡ Some n → exists (world_of b.world) (sid_in b col) (pos s) ≡ true
-        → (o : Option Bool) → o ≡ given b.told.now (number_facts (sid_in b col) (pos s) (option_map number_of n.mask)) (mask_passes b.world b.checked.now n.mask (sid_in b col) s) → o ≡ Some false → IsOwn (Some v)
-    barred-told n is there o h f =
+    pub barred-stated : (n : Node) → slice_get b.checked.now.graph t ≡ Some n → exists (world_of b.world) (sid_in b col) (pos s) ≡ true
+        → (o : Option Bool) → o ≡ given b.stated.now (number_facts (sid_in b col) (pos s) (option_map number_of n.mask)) (mask_passes b.world b.checked.now n.mask (sid_in b col) s) → o ≡ Some false → IsOwn (Some v)
+    barred-stated n is there o h f =
         let mask = number_facts (sid_in b col) (pos s) (option_map number_of n.mask) in
-        let read = given-some b.told.now mask (mask_passes b.world b.checked.now n.mask (sid_in b col) s) false o h f in
-        accepted b.told.now (mask ++ []) own cell v (premises-barred b.world b.checked.now asked.on.ready.checked t n is (sid_in b col) s asked.on.ready.texts there (sym read.1))
-        (both-told b.told.now mask [] read.0 refl)
+        let read = given-some b.stated.now mask (mask_passes b.world b.checked.now n.mask (sid_in b col) s) false o h f in
+        accepted b.stated.now (mask ++ []) own cell v (premises-barred b.world b.checked.now asked.on.ready.checked t n is (sid_in b col) s asked.on.ready.texts there (sym read.1))
+        (both-stated b.stated.now mask [] read.0 refl)
         (e ∙ ap (λ m. number_in_value (empty (sort_kind (term_at (graph_of m) t)))) same ∙ sym (cell-barred b.world b.checked.now asked.on.ready.checked t n is (sid_in b col) s there (sym read.1))) none
 
   module _ (n : Node) (is : slice_get b.checked.now.graph t ≡ Some n) (there : exists (world_of b.world) (sid_in b col) (pos s) ≡ true) (o : Option Bool)
-      (h : o ≡ given b.told.now (number_facts (sid_in b col) (pos s) (option_map number_of n.mask)) (mask_passes b.world b.checked.now n.mask (sid_in b col) s)) where
+      (h : o ≡ given b.stated.now (number_facts (sid_in b col) (pos s) (option_map number_of n.mask)) (mask_passes b.world b.checked.now n.mask (sid_in b col) s)) where
     abbrev mask : List Fact
     mask = number_facts (sid_in b col) (pos s) (option_map number_of n.mask)
 
-    -- where the mask is not told
+    -- where the mask is not stated
     pub mask-lacks : o ≡ None → IsOwn None
     mask-lacks f =
         let front = premises-front b.world b.checked.now asked.on.ready.checked t n is (sid_in b col) s asked.on.ready.texts there in
-        refused b.told.now (mask ++ front.0) own cell None front.1 (front-lacks b.told.now mask front.0 (given-none b.told.now mask (mask_passes b.world b.checked.now n.mask (sid_in b col) s) o h f)) refl
+        refused b.stated.now (mask ++ front.0) own cell None front.1 (front-lacks b.stated.now mask front.0 (given-none b.stated.now mask (mask_passes b.world b.checked.now n.mask (sid_in b col) s) o h f)) refl
 
     -- where the asset passes it
     pub passed-kept : o ≡ Some true → IsKeptAt b t col s
     passed-kept f =
-        let read = given-some b.told.now mask (mask_passes b.world b.checked.now n.mask (sid_in b col) s) true o h f in
+        let read = given-some b.stated.now mask (mask_passes b.world b.checked.now n.mask (sid_in b col) s) true o h f in
         record { at = asked; term = term; kept = cell-kept b.world b.checked.now asked.on.ready.checked t n is (sid_in b col) s there (sym read.1) }
 
-    pub passed-told : o ≡ Some true → (q : Option ℤ) → IsGiven IsCell b.told.now (facts_in b t col s) cell q → IsOwn q
-    passed-told f q k =
-        let read = given-some b.told.now mask (mask_passes b.world b.checked.now n.mask (sid_in b col) s) true o h f in
+    pub passed-stated : o ≡ Some true → (q : Option ℤ) → IsGiven IsCell b.stated.now (facts_in b t col s) cell q → IsOwn q
+    passed-stated f q k =
+        let read = given-some b.stated.now mask (mask_passes b.world b.checked.now n.mask (sid_in b col) s) true o h f in
         let all = premises-kept b.world b.checked.now asked.on.ready.checked t n is (sid_in b col) s asked.on.ready.texts there (sym read.1) in
         record {
-          value = k.value ∙ given-behind b.told.now mask (facts_in b t col s) cell read.0 ∙ ap (λ fs. given b.told.now fs cell) (sym all);
+          value = k.value ∙ given-behind b.stated.now mask (facts_in b t col s) cell read.0 ∙ ap (λ fs. given b.stated.now fs cell) (sym all);
           such = k.such;
         }

@@ -16,11 +16,11 @@ use Rattle.pl_derivation.specs.Facts.{Fact, same_fact, number_in, premises}
 use Rattle.pl_derivation.specs.Walks.{is_in, finish, line_for}
 use Rattle.pl_derivation.proofs.Growing.{grow}
 use Rattle.pl_derivation.proofs.Truths.{is_same}
-use Rattle.pl_explain.specs.declared.told.Told.{Told}
-use Rattle.pl_explain.specs.Looking.{IsTellingOf}
+use Rattle.pl_explain.specs.declared.fact_numbers.FactNumbers.{FactNumbers}
+use Rattle.pl_explain.specs.Looking.{IsInsertionOf}
 use Rattle.pl_explain.specs.Given.{has, has_all}
 use Rattle.pl_explain.specs.declared.walk.Walk.{Walk}
-use Rattle.pl_explain.specs.Walking.{HasWalked, StandsIn, Finishes, IsTooLong}
+use Rattle.pl_explain.specs.Walking.{HasWalked, HoldsSoFar, Finishes, IsTooLong}
 use Rattle.pl_explain.proofs.Judging.{has-more}
 
 pub writable-more : (ls : List _) (l : _) → AreWritable ls → IsWritable l → AreWritable (ls ++ l ∷ [])
@@ -85,16 +85,16 @@ module _ (w : World) (c : Parts) where
       let both = and_parts (is_in done f) (list_all (is_in done) fs) e in
       ap (λ l. walked_by depth l fs) (one-again depth done f both.0) ∙ all-again depth fs done both.1
 
-  same-told : (told : Told) (facts fs : List Fact) → ((f : Fact) → has told f ≡ is_in facts f) → has_all told fs ≡ list_all (is_in facts) fs
-  same-told told facts [] h = refl
-  same-told told facts (f ∷ fs) h = let first = h f in let rest = same-told told facts fs h in rw (first, rest) refl
+  same-stated : (stated : FactNumbers) (facts fs : List Fact) → ((f : Fact) → has stated f ≡ is_in facts f) → has_all stated fs ≡ list_all (is_in facts) fs
+  same-stated stated facts [] h = refl
+  same-stated stated facts (f ∷ fs) h = let first = h f in let rest = same-stated stated facts fs h in rw (first, rest) refl
 
   module _ (most : ℕ) where
     pub walk-none : (old : Walk) → Finishes w c most old old []
     walk-none old facts h depth l = h
 
-    pub walk-told : (old : Walk) (fs : List Fact) → has_all old.told fs ≡ true → Finishes w c most old old fs
-    walk-told old fs e facts h depth l = subst (HasWalked w c old) (sym (all-again depth fs facts (sym (same-told old.told facts fs h.told) ∙ e))) h
+    pub walk-stated : (old : Walk) (fs : List Fact) → has_all old.stated fs ≡ true → Finishes w c most old old fs
+    walk-stated old fs e facts h depth l = subst (HasWalked w c old) (sym (all-again depth fs facts (sym (same-stated old.stated facts fs h.stated) ∙ e))) h
 
     pub walk-both : (old mid new : Walk) (fs gs : List Fact) → Finishes w c most old mid fs → Finishes w c most mid new gs → Finishes w c most old new (fs ++ gs)
     walk-both old mid new fs gs first second facts h depth l =
@@ -113,24 +113,24 @@ module _ (w : World) (c : Parts) where
         subst (λ x. most_lines < length x) (sym (fold-append (finish (world_of w) (pipeline_of c) depth) facts fs gs))
         (long (walked_by depth facts fs) (first facts h depth l) depth l)
 
-    -- what a walk has finished is told
-    pub walk-tells : (old new : Walk) (fs : List Fact) → StandsIn w c old → Finishes w c (suc most) old new fs → has_all new.told fs ≡ true
-    walk-tells old new fs stands finished =
+    -- what a walk has finished is stated
+    pub walk-states : (old new : Walk) (fs : List Fact) → HoldsSoFar w c old → Finishes w c (suc most) old new fs → has_all new.stated fs ≡ true
+    walk-states old new fs stands finished =
         let all = finished stands.facts stands.walked (suc most) (omega arith) in
-        same-told new.told (walked_by (suc most) stands.facts fs) fs all.told ∙ all-in most fs stands.facts
+        same-stated new.stated (walked_by (suc most) stands.facts fs) fs all.stated ∙ all-in most fs stands.facts
 
     -- ---- a fact after its premises
 
-    module _ (f : Fact) (old : Walk) (fresh : has old.told f ≡ false) where
+    module _ (f : Fact) (old : Walk) (fresh : has old.stated f ≡ false) where
       -- it is put after them
       anew : (facts : List Fact) → HasWalked w c old facts → (depth : ℕ) → finish (world_of w) (pipeline_of c) (suc depth) facts f ≡ walked_by depth facts (own f) ++ f ∷ []
-      anew facts h depth = ap (λ b. if b then facts else walked_by depth facts (own f) ++ f ∷ []) (sym (h.told f) ∙ fresh)
+      anew facts h depth = ap (λ b. if b then facts else walked_by depth facts (own f) ++ f ∷ []) (sym (h.stated f) ∙ fresh)
 
-      module _ (mid new : Walk) (line : Line) (x : ℤ) (tells : IsTellingOf f x mid.told new.told) (put : new.lines.items ≡ mid.lines.items ++ line ∷ [])
+      module _ (mid new : Walk) (line : Line) (x : ℤ) (states : IsInsertionOf f x mid.stated new.stated) (put : new.lines.items ≡ mid.lines.items ++ line ∷ [])
           (is : line_of line ≡ line_for (world_of w) (pipeline_of c) f) where
         walked-more : (facts : List Fact) → HasWalked w c mid facts → HasWalked w c new (facts ++ f ∷ [])
         walked-more facts h = record {
-          told = λ g. has-more f x mid.told new.told tells g ∙ ap (λ b. b || same_fact g f) (h.told g) ∙ ap (λ b. is_in facts g || b) (sym (or-false (same_fact g f)))
+          stated = λ g. has-more f x mid.stated new.stated states g ∙ ap (λ b. b || same_fact g f) (h.stated g) ∙ ap (λ b. is_in facts g || b) (sym (or-false (same_fact g f)))
               ∙ sym (list_any-append (same_fact g) facts (f ∷ []));
           lines = ap (map line_of) put ∙ map-append line_of mid.lines.items (line ∷ []) ∙ ap (λ ls. ls ++ line_of line ∷ []) h.lines
               ∙ ap (λ l. map (line_for (world_of w) (pipeline_of c)) facts ++ l ∷ []) is ∙ sym (map-append (line_for (world_of w) (pipeline_of c)) facts (f ∷ []));

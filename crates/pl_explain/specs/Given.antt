@@ -1,4 +1,4 @@
--- What is given where facts are told.
+-- What is given where facts are stated.
 use Rattle.std.specs.Prelude.{◌≡◌, ℕ, ◌<◌, ◌≤◌, Bool, true, if◌then◌else◌, ℤ, pos, ◌<ℤ◌, List, [], ◌∷◌, ◌++◌, length, flat_map, Option, Some, None, option_map, unwrap_or, is_some, slice_get, All, AllPairs, IfSome}
 use Rattle.std.specs.List.{list_all}
 use Rattle.pl_spec.specs.Limits.{most_sessions}
@@ -19,33 +19,33 @@ use Rattle.pl_world.specs.declared.world.World.{World}
 use Rattle.pl_world.specs.Worlds.{world_of, IsMade}
 use Rattle.pl_world.specs.Evaluations.{row_in, as_input, cell_in, input_cell_in, lets_pass, IsKept}
 use Rattle.pl_derivation.specs.Facts.{Fact, number_in, entry_facts, kind_facts, premises}
-use Rattle.pl_derivation.specs.Facts.Fact.{Worth}
+use Rattle.pl_derivation.specs.Facts.Fact.{TermValue}
 use Rattle.pl_explain.specs.declared.basis.Basis.{Basis}
-use Rattle.pl_explain.specs.declared.told.Told.{Told}
+use Rattle.pl_explain.specs.declared.fact_numbers.FactNumbers.{FactNumbers}
 use Rattle.pl_explain.specs.declared.rows.Rows.{Rows}
 use Rattle.pl_explain.specs.Looking.{look, row_at}
 
--- ---- what is told
+-- ---- what is stated
 
--- something is told of the fact
-abbrev pub has : Told → Fact → Bool
-has told f = is_some (look told f)
+-- something is stated of the fact
+abbrev pub has : FactNumbers → Fact → Bool
+has stated f = is_some (look stated f)
 
-abbrev pub has_all : Told → List Fact → Bool
-has_all told fs = list_all (has told) fs
+abbrev pub has_all : FactNumbers → List Fact → Bool
+has_all stated fs = list_all (has stated) fs
 
--- x, where something is told of each of the facts
-abbrev pub given : {X : Type 0} → Told → List Fact → X → Option X
-given told fs x = if has_all told fs then Some x else None
+-- x, where something is stated of each of the facts
+abbrev pub given : {X : Type 0} → FactNumbers → List Fact → X → Option X
+given stated fs x = if has_all stated fs then Some x else None
 
--- where the facts are told, x is given, which is such a one
-pub record IsGiven {X : Type 0} (Such : X → Type 0) (told : Told) (fs : List Fact) (x : X) (o : Option X) : Type 0 where
-  pub value : o ≡ given told fs x
+-- where the facts are stated, x is given, which is such a one
+pub record IsGiven {X : Type 0} (Such : X → Type 0) (stated : FactNumbers) (fs : List Fact) (x : X) (o : Option X) : Type 0 where
+  pub value : o ≡ given stated fs x
   pub such : IfSome o Such
 
--- what is told of facts is what the world has
-abbrev pub TellsTruth : spec.World → Pipeline → Told → Type 0
-TellsTruth w p told = (f : Fact) (x : ℤ) → look told f ≡ Some x → (x ≡ number_in w p f) × IsCell x
+-- what is stated of facts is what the world has
+abbrev pub StatesTruth : spec.World → Pipeline → FactNumbers → Type 0
+StatesTruth w p stated = (f : Fact) (x : ℤ) → look stated f ≡ Some x → (x ≡ number_in w p f) × IsCell x
 
 -- ---- what is asked
 
@@ -59,10 +59,10 @@ pub record IsReady (w : World) (c : Parts) : Type 0 where
   pub texts : HasTexts (world_of w)
   pub checked : IsChecked (pipeline_of c)
 
--- a session of a world of which what is told is true
+-- a session of a world of which what is stated is true
 pub record IsAskedOn (b : Basis) (s : ℕ) : Type 0 where
   pub ready : IsReady b.world b.checked.now
-  pub truth : TellsTruth (world_of b.world) (pipeline_of b.checked.now) b.told.now
+  pub truth : StatesTruth (world_of b.world) (pipeline_of b.checked.now) b.stated.now
   pub session : s < length b.world.sessions.now
 
 -- and an asset
@@ -95,11 +95,11 @@ facts_in b t col s = facts_read b.world b.checked.now t (sid_in b col) s
 
 -- what the value of term t for asset a on session s rests on
 abbrev pub own_facts : World → Parts → ℕ → ℕ → ℕ → List Fact
-own_facts w c t a s = premises (world_of w) (pipeline_of c) (number_in (world_of w) (pipeline_of c)) (Worth t a (pos s))
+own_facts w c t a s = premises (world_of w) (pipeline_of c) (number_in (world_of w) (pipeline_of c)) (TermValue t a (pos s))
 
--- the value of a term for an asset that exists; of another there is nothing to be told
+-- the value of a term for an asset that exists; of another there is nothing to be stated
 abbrev pub living_facts : spec.World → ℕ → ℕ → ℤ → List Fact
-living_facts w t a d = if exists w a d then Worth t a d ∷ [] else []
+living_facts w t a d = if exists w a d then TermValue t a d ∷ [] else []
 
 -- whether an asset passes a mask of the code
 abbrev pub mask_passes : World → Parts → Option TermId → ℕ → ℕ → Bool
@@ -107,18 +107,18 @@ mask_passes w c m a s = lets_pass (as_input m) (input_cell_in w c (as_input m) a
 
 -- ---- rows
 
--- a row has the cells of a cross-section, and what these rest on is told
-pub record IsKeptRow (w : World) (c : Parts) (told : Told) (t d : ℕ) (row : List ℤ) : Type 0 where
+-- a row has the cells of a cross-section, and what these rest on is stated
+pub record IsKeptRow (w : World) (c : Parts) (stated : FactNumbers) (t d : ℕ) (row : List ℤ) : Type 0 where
   pub is : row ≡ row_in w c t d
   pub cells : All IsCell row
-  pub stand : (n : Node) → slice_get c.graph t ≡ Some n → has_all told (flat_map (entry_facts (node_of n) (pos d)) (living_sids (world_of w) (pos d))) ≡ true
+  pub stand : (n : Node) → slice_get c.graph t ≡ Some n → has_all stated (flat_map (entry_facts (node_of n) (pos d)) (living_sids (world_of w) (pos d))) ≡ true
 
-abbrev pub KeepsRows : World → Parts → Told → Rows → Type 0
-KeepsRows w c told rows = (t d : ℕ) (row : List ℤ) → row_at rows t d ≡ Some row → IsKeptRow w c told t d row
+abbrev pub KeepsRows : World → Parts → FactNumbers → Rows → Type 0
+KeepsRows w c stated rows = (t d : ℕ) (row : List ℤ) → row_at rows t d ≡ Some row → IsKeptRow w c stated t d row
 
 -- the same of a basis
 abbrev pub KeepsRowsOf : Basis → Rows → Type 0
-KeepsRowsOf b rows = KeepsRows b.world b.checked.now b.told.now rows
+KeepsRowsOf b rows = KeepsRows b.world b.checked.now b.stated.now rows
 
 -- the row of a term on a session is kept
 abbrev pub HasRow : ℕ → ℕ → Rows → Type 0

@@ -1,4 +1,4 @@
--- A line judged by what is told of the facts of the lines before it.
+-- A line judged by what is stated of the facts of the lines before it.
 use Rattle.std.specs.Prelude.{◌≡◌, ℕ, ◌<◌, length, Bool, true, false, ◌&&◌, ◌||◌, if◌then◌else◌, IsTrue, Option, Some, None}
 use Rattle.pl_spec.specs.World as spec
 use Rattle.pl_spec.specs.Parts.{sid_at}
@@ -9,45 +9,45 @@ use Rattle.pl_world.specs.declared.world.World.{World}
 use Rattle.pl_world.specs.Worlds.{world_of}
 use Rattle.pl_derivation.specs.Lines.{Line}
 use Rattle.pl_derivation.specs.Facts.{Fact, number_in, premises}
-use Rattle.pl_derivation.specs.Facts.Fact.{Seen, Worth}
+use Rattle.pl_derivation.specs.Facts.Fact.{Seen, TermValue}
 use Rattle.pl_derivation.specs.Right.{fact_of, has_sid, is_about, is_fitting}
-use Rattle.pl_derivation.specs.Laws.{tells_world}
-use Rattle.pl_explain.specs.declared.told.Told.{Told}
+use Rattle.pl_derivation.specs.Laws.{states_world}
+use Rattle.pl_explain.specs.declared.fact_numbers.FactNumbers.{FactNumbers}
 use Rattle.pl_explain.specs.declared.rows.Rows.{Rows}
-use Rattle.pl_explain.specs.Given.{has, has_all, IsReady, TellsTruth, KeepsRows}
+use Rattle.pl_explain.specs.Given.{has, has_all, IsReady, StatesTruth, KeepsRows}
 
--- a value of which something is told already
-abbrev pub is_repeat : Told → Fact → Bool
-is_repeat told (Seen c a s d) = false
-is_repeat told (Worth t a d) = has told (Worth t a d)
+-- a value of which something is stated already
+abbrev pub is_repeat : FactNumbers → Fact → Bool
+is_repeat stated (Seen c a s d) = false
+is_repeat stated (TermValue t a d) = has stated (TermValue t a d)
 
-abbrev pub judged_about : spec.World → Pipeline → Told → Line → Option Fact → Bool
-judged_about w p told l None = false
-judged_about w p told l (Some f) =
-    if is_repeat told f then tells_world w p l f
-    else is_fitting w p f && has_all told (premises w p (number_in w p) f) && tells_world w p l f
+abbrev pub judged_about : spec.World → Pipeline → FactNumbers → Line → Option Fact → Bool
+judged_about w p stated l None = false
+judged_about w p stated l (Some f) =
+    if is_repeat stated f then states_world w p l f
+    else is_fitting w p f && has_all stated (premises w p (number_in w p) f) && states_world w p l f
 
--- the line is right, where what is told is what the right lines before it tell
-abbrev pub judged : spec.World → Pipeline → Told → Line → Bool
-judged w p told l = judged_about w p told l (fact_of w l)
+-- the line is right, where what is stated is what the right lines before it tell
+abbrev pub judged : spec.World → Pipeline → FactNumbers → Line → Bool
+judged w p stated l = judged_about w p stated l (fact_of w l)
 
--- What is told is the world's, of facts that may stand in a derivation; and so are the rows.
-pub record IsTable (w : World) (c : Parts) (told : Told) (rows : Rows) : Type 0 where
+-- What is stated is the world's, of facts that may stand in a derivation; and so are the rows.
+pub record IsTable (w : World) (c : Parts) (stated : FactNumbers) (rows : Rows) : Type 0 where
   pub ready : IsReady w c
-  pub truth : TellsTruth (world_of w) (pipeline_of c) told
-  pub fits : (f : Fact) → has told f ≡ true → is_fitting (world_of w) (pipeline_of c) f ≡ true
-  pub kept : KeepsRows w c told rows
+  pub truth : StatesTruth (world_of w) (pipeline_of c) stated
+  pub fits : (f : Fact) → has stated f ≡ true → is_fitting (world_of w) (pipeline_of c) f ≡ true
+  pub kept : KeepsRows w c stated rows
 
--- the fact of the line is told besides those before
-abbrev pub TellsLine : spec.World → Told → Told → Line → Type 0
-TellsLine w old new l = (f : Fact) → has new f ≡ (has old f || is_about w f l)
+-- the fact of the line is stated besides those before
+abbrev pub StatesLine : spec.World → FactNumbers → FactNumbers → Line → Type 0
+StatesLine w old new l = (f : Fact) → has new f ≡ (has old f || is_about w f l)
 
--- What is left of a line that was judged: whether it is right, what is told then, and that its fact is told
+-- What is left of a line that was judged: whether it is right, what is stated then, and that its fact is stated
 -- where it is right.
-pub record IsJudgement (w : World) (c : Parts) (l : Line) (old new : Told) (rows : Rows) (right : Bool) : Type 0 where
+pub record IsJudgement (w : World) (c : Parts) (l : Line) (old new : FactNumbers) (rows : Rows) (right : Bool) : Type 0 where
   pub exact : right ≡ judged (world_of w) (pipeline_of c) old l
   pub table : IsTable w c new rows
-  pub told : IsTrue right → TellsLine (world_of w) old new l
+  pub stated : IsTrue right → StatesLine (world_of w) old new l
 
 -- the sid is that of the column
 pub record IsPlace (w : World) (sid col : ℕ) : Type 0 where

@@ -3,11 +3,11 @@ use Rattle.std.specs.Prelude.{ℕ, ◌+◌, ◌*◌, nat_lt, Bool, ◌&&◌, if�
 use Rattle.pl_spec.specs.World.{column_number}
 use Rattle.pl_derivation.specs.Facts as spec
 use Rattle.pl_explain.specs.declared.fact.Fact.{Fact}
-use Rattle.pl_explain.specs.declared.fact.Fact.TheVariants.{Seen, Worth}
+use Rattle.pl_explain.specs.declared.fact.Fact.TheVariants.{Seen, TermValue}
 
 abbrev pub fact_of : Fact → spec.Fact
 fact_of (Seen column sid bar session) = spec.Seen column sid (pos bar) (pos session)
-fact_of (Worth term sid session) = spec.Worth term sid (pos session)
+fact_of (TermValue term sid session) = spec.TermValue term sid (pos session)
 
 -- a number of 32 bits
 abbrev pub is_small : ℕ → Bool
@@ -21,5 +21,5 @@ packed kind a s d = ((kind * 4294967296 + a) * 4294967296 + s) * 4294967296 + d
 -- the terms.
 abbrev pub fact_key : spec.Fact → Option ℕ
 fact_key (spec.Seen c a (pos s) (pos d)) = if is_small a && is_small s && is_small d then Some (packed (column_number c) a s d) else None
-fact_key (spec.Worth t a (pos d)) = if is_small a && is_small d then Some (packed (5 + t) a 0 d) else None
+fact_key (spec.TermValue t a (pos d)) = if is_small a && is_small d then Some (packed (5 + t) a 0 d) else None
 fact_key f = None

@@ -1,4 +1,4 @@
--- What the contracts cite: the keys of facts and what is found by them, what is given where facts are told,
+-- What the contracts cite: the keys of facts and what is found by them, what is given where facts are stated,
 -- lines judged by it, and walks.
 pub mod Keys
 pub mod Looking

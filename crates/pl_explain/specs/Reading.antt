@@ -5,14 +5,14 @@ use Rattle.pl_pipeline.specs.Term.Input.{BarColumn, TermInput}
 use Rattle.pl_terms.specs.declared.node.Input.{Input}
 use Rattle.pl_terms.specs.Nodes.{input_of}
 use Rattle.pl_derivation.specs.Facts as spec
-use Rattle.pl_derivation.specs.Facts.Fact.{Seen, Worth}
+use Rattle.pl_derivation.specs.Facts.Fact.{Seen, TermValue}
 use Rattle.pl_explain.specs.declared.fact.Fact.{Fact}
 use Rattle.pl_explain.specs.Keys.{fact_of}
 
 -- what a window over an input has of session s, where it is read on session d
 abbrev pub fact_at : term.Input → ℕ → ℤ → ℤ → spec.Fact
 fact_at (BarColumn c) a s d = Seen c a s d
-fact_at (TermInput t) a s d = Worth t a s
+fact_at (TermInput t) a s d = TermValue t a s
 
 -- the session before which a window ends that is read on session s
 abbrev pub end_of : term.Input → ℕ → ℕ

@@ -14,24 +14,24 @@ use Rattle.pl_derivation.specs.declared.line.Line.{Line}
 use Rattle.pl_derivation.specs.Listed.{line_of}
 use Rattle.pl_derivation.specs.Texts.{AreWritable}
 use Rattle.pl_derivation.specs.Facts.{Fact}
-use Rattle.pl_derivation.specs.Facts.Fact.{Seen, Worth}
+use Rattle.pl_derivation.specs.Facts.Fact.{Seen, TermValue}
 use Rattle.pl_derivation.specs.Right.{is_fitting}
 use Rattle.pl_derivation.specs.Walks.{is_in, finish, line_for, depth_of}
-use Rattle.pl_explain.specs.Looking.{IsTellingOf}
+use Rattle.pl_explain.specs.Looking.{IsInsertionOf}
 use Rattle.pl_explain.specs.Given.{has}
 use Rattle.pl_explain.specs.Judging.{IsTable}
 use Rattle.pl_explain.specs.declared.walk.Walk.{Walk}
 
--- what is told are the facts, and the lines are theirs
+-- what is stated are the facts, and the lines are theirs
 pub record HasWalked (w : World) (c : Parts) (walk : Walk) (facts : List Fact) : Type 0 where
-  pub told : (f : Fact) → has walk.told f ≡ is_in facts f
+  pub stated : (f : Fact) → has walk.stated f ≡ is_in facts f
   pub lines : map line_of walk.lines.items ≡ map (line_for (world_of w) (pipeline_of c)) facts
 
 -- the walk stands
-pub record StandsIn (w : World) (c : Parts) (walk : Walk) : Type 0 where
+pub record HoldsSoFar (w : World) (c : Parts) (walk : Walk) : Type 0 where
   pub facts : List Fact
   pub walked : HasWalked w c walk facts
-  pub table : IsTable w c walk.told walk.rows
+  pub table : IsTable w c walk.stated walk.rows
   pub writable : AreWritable (map line_of walk.lines.items)
   pub few : length walk.lines.items ≤ most_lines
 
@@ -40,14 +40,14 @@ abbrev pub HasDay : spec.World → ℤ → Type 0
 HasDay w d = (n : ℕ) × (day : ℤ) × (d ≡ pos n) × (day_of w (pos n) ≡ Some day)
 
 -- the fact may stand in a derivation: it fits, and what it reaches to has days
-abbrev pub CanStand : World → Parts → Fact → Type 0
-CanStand w c (Seen k a s d) = (is_fitting (world_of w) (pipeline_of c) (Seen k a s d) ≡ true) × HasDay (world_of w) s × HasDay (world_of w) d
-CanStand w c (Worth t a d) =
-    (is_fitting (world_of w) (pipeline_of c) (Worth t a d) ≡ true) × HasDay (world_of w) d × (pos 0 ≤ℤ reach (world_of w).days (term_at (pipeline_of c).graph t) d)
+abbrev pub MayBeDerived : World → Parts → Fact → Type 0
+MayBeDerived w c (Seen k a s d) = (is_fitting (world_of w) (pipeline_of c) (Seen k a s d) ≡ true) × HasDay (world_of w) s × HasDay (world_of w) d
+MayBeDerived w c (TermValue t a d) =
+    (is_fitting (world_of w) (pipeline_of c) (TermValue t a d) ≡ true) × HasDay (world_of w) d × (pos 0 ≤ℤ reach (world_of w).days (term_at (pipeline_of c).graph t) d)
 
 -- it may, and is at most so deep
 abbrev pub CanStandIn : World → Parts → ℕ → Fact → Type 0
-CanStandIn w c depth f = CanStand w c f × (depth_of f ≤ depth)
+CanStandIn w c depth f = MayBeDerived w c f × (depth_of f ≤ depth)
 
 -- after the facts that it had finished, the walk has finished these, which are at most so deep
 abbrev pub Finishes : World → Parts → ℕ → Walk → Walk → List Fact → Type 0
@@ -62,14 +62,14 @@ IsTooLong w c most old fs =
 -- What a walk to some facts leaves, which are at most so deep: with Ok it stands and has finished them, and
 -- TooLong says that they take it past the most lines.
 pub record IsWalkTo {T : Type 0} (w : World) (c : Parts) (most : ℕ) (fs : List Fact) (old new : Walk) (result : Result T ExplainError) : Type 0 where
-  pub stands : OnOk result (StandsIn w c new)
+  pub stands : OnOk result (HoldsSoFar w c new)
   pub finished : OnOk result (Finishes w c most old new fs)
   pub long : IfErr result (λ e. e ≡ TooLong → IsTooLong w c most old fs)
 
--- What is left where a fact with its number and its line is put: it is told, the line comes after the others,
+-- What is left where a fact with its number and its line is put: it is stated, the line comes after the others,
 -- and the rows stay. TooLong says that there were the most lines already.
 pub record IsPut {T : Type 0} (f : Fact) (x : ℤ) (line : Line) (old new : Walk) (result : Result T ExplainError) : Type 0 where
-  pub told : OnOk result (IsTellingOf f x old.told new.told)
+  pub stated : OnOk result (IsInsertionOf f x old.stated new.stated)
   pub lines : OnOk result (new.lines.items ≡ old.lines.items ++ line ∷ [])
   pub few : OnOk result (length new.lines.items ≤ most_lines)
   pub rows : new.rows ≡ old.rows

@@ -1,19 +1,19 @@
-//! What facts are told of.
+//! What facts are stated of.
 
 ghost use Rattle.std.specs.Prelude.{◌≡◌, ◌<◌, length, slice_get, Some};
 ghost use Rattle.pl_world.specs.Worlds.{IsMade};
 ghost use Rattle.pl_explain.specs.Given.{IsReady};
 
-use crate::told::Told;
+use crate::fact_numbers::FactNumbers;
 use pl_terms::{Checked, Node, TermId};
 use pl_world::World;
 
-/// A world and a checked pipeline, and what is told of their facts.
+/// A world and a checked pipeline, and what is stated of their facts.
 #[derive(Clone, Copy)]
 pub(crate) struct Basis<'a> {
     pub(crate) world: World<'a>,
     pub(crate) checked: &'a Checked,
-    pub(crate) told: &'a Told,
+    pub(crate) stated: &'a FactNumbers,
 }
 
 /// What the parts of a world and a checked pipeline keep is all that is needed of them.

@@ -19,7 +19,7 @@ pub(crate) enum Fact {
         bar: u32,
         session: u32,
     },
-    Worth {
+    TermValue {
         term: u8,
         sid: u32,
         session: u32,
@@ -59,7 +59,7 @@ pub(crate) fn key(fact: Fact) -> u128
             bar,
             session,
         } => packed(column_number(column), sid, bar, session),
-        Fact::Worth { term, sid, session } => packed(5 + term as u32, sid, 0, session),
+        Fact::TermValue { term, sid, session } => packed(5 + term as u32, sid, 0, session),
     }
 }
 
@@ -74,7 +74,7 @@ pub(crate) fn fact_at(input: Input, sid: u32, at: u32, session: u32) -> Fact
             bar: at,
             session,
         },
-        Input::Term(u) => Fact::Worth {
+        Input::Term(u) => Fact::TermValue {
             term: u.0,
             sid,
             session: at,

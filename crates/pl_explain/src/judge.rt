@@ -1,5 +1,6 @@
 //! Checking a derivation.
 ghost use Rattle.std.specs.Prelude.{◌≡◌, ◌<◌, All, IfNone, IfOk, IfSome, None, Some, false, length, slice_get};
+ghost use Rattle.std.specs.Option.{option_eq};
 ghost use Rattle.std.specs.Ordering.{int_eq};
 ghost use Rattle.std.specs.Cmp.Lexicographic.{pointwise};
 ghost use Rattle.pl_spec.specs.Rounding.{IsCell};
@@ -7,7 +8,8 @@ ghost use Rattle.pl_derivation.specs.Laws.{IsTrueLine};
 ghost use Rattle.pl_derivation.specs.Right as spec;
 ghost use Rattle.pl_derivation.specs.Right.{has_sid};
 ghost use Rattle.pl_terms.specs.Uses.{is_used};
-ghost use Rattle.pl_derivation.specs.Lines.Line.{SeenLine, ValueLine};
+ghost use Rattle.pl_derivation.specs.Lines.Line.{SeenLine};
+ghost use Rattle.pl_derivation.specs.declared.line.Line.TheVariants.{Value};
 ghost use Rattle.pl_derivation.specs.Listed.{line_of};
 ghost use Rattle.pl_derivation.specs.Texts.{IsWritable};
 ghost use Rattle.pl_world.specs.Worlds.{world_of, IsMade};
@@ -17,10 +19,11 @@ ghost use Rattle.pl_explain.specs.Judging.{IsJudgement, IsPlace, IsTable, IsUsed
 use crate::bars::seen_cells;
 use crate::basis::{Basis, parts_are_ready};
 use crate::fact::Fact;
+use crate::fact_numbers::FactNumbers;
+use crate::records::known_day;
 use crate::rows::Rows;
-use crate::told::Told;
-use crate::value::value_told;
-use pl_derivation::{Derivation, Line};
+use crate::value::value_stated;
+use pl_derivation::{Derivation, Line, ValueLine};
 use pl_fixed::{Column, MISSING, Memory, Steps};
 use pl_terms::{Checked, TermId};
 use pl_world::World;
@@ -28,9 +31,9 @@ use std::alloc::Global;
 use std::sync::ledger::Ledger;
 
 /// The number, from 1, of the first line that is not right: where its days are sessions, its sid is known,
-/// its term is used, its bar is of an earlier session, each premise is in an earlier line, and its number is
-/// what one step gives over the numbers of these. `None` where all lines are right. The only error is want of
-/// memory.
+/// its term is used, its bar is of an earlier session, each premise is in an earlier line, its number is what
+/// one step gives over the numbers of these, and beside the number of a record is that record's day. `None`
+/// where all lines are right. The only error is want of memory.
 pub fn first_wrong<L: Ledger>(
     alloc: Global,
     world: &World,
@@ -41,37 +44,37 @@ pub fn first_wrong<L: Ledger>(
     requires made { IsMade world.now }
     ensures exact { IfOk result (λ r. r
         ≡ spec.first_wrong (world_of world.now) (pipeline_of checked.now) derivation.now) }
-    // Where no line is wrong, each tells the truth: its last cell is the bar's as it is seen, and its value
+    // Where no line is wrong, each states the truth: its last cell is the bar's as it is seen, and its value
     // the term's.
     ensures truth { IfOk result (λ r. r ≡ None → (i : _) → (l : _) → slice_get derivation.now i ≡ Some l
         → IsTrueLine (world_of world.now) (pipeline_of checked.now) l) }
 {
     parts_are_ready(world, checked);
-    let mut told = Told::new(alloc);
+    let mut stated = FactNumbers::new(alloc);
     let mut rows = Rows::new(alloc);
     for i in 0..derivation.len() {
         let line = derivation.line(i);
-        if !is_right(alloc, world, checked, &mut told, &mut rows, line, steps)? {
+        if !is_right(alloc, world, checked, &mut stated, &mut rows, line, steps)? {
             return Ok(Some(i as u32 + 1));
         }
     }
     Ok(None)
 }
 
-// Whether a line is right after those whose facts are told; its own is told then.
+// Whether a line is right after those whose facts are stated; its own is stated then.
 fn is_right<L: Ledger>(
     alloc: Global,
     world: &World,
     checked: &Checked,
-    told: &mut Told,
+    stated: &mut FactNumbers,
     rows: &mut Rows,
     line: &Line,
     steps: &mut Steps<L>,
 ) -> Result<bool, Memory>
-    requires table { IsTable world.now checked.now told.old rows.old }
+    requires table { IsTable world.now checked.now stated.old rows.old }
     requires writable { IsWritable (line_of line.now) }
     ensures { IfOk result
-        (IsJudgement world.now checked.now (line_of line.now) told.old told.new rows.new) }
+        (IsJudgement world.now checked.now (line_of line.now) stated.old stated.new rows.new) }
 {
     match line {
         Line::Seen {
@@ -83,15 +86,10 @@ fn is_right<L: Ledger>(
         } => {
             let cells = cells.as_slice();
             is_right_bar(
-                alloc, world, checked, told, rows, *column, *sid, *bar_day, *day, cells, steps,
+                alloc, world, checked, stated, rows, *column, *sid, *bar_day, *day, cells, steps,
             )
         }
-        Line::Value {
-            term,
-            sid,
-            day,
-            value,
-        } => is_right_value(alloc, world, checked, told, rows, *term, *sid, *day, *value),
+        Line::Value(value) => is_right_value(alloc, world, checked, stated, rows, value),
     }
 }
 
@@ -100,7 +98,7 @@ fn is_right_bar<L: Ledger>(
     alloc: Global,
     world: &World,
     checked: &Checked,
-    told: &mut Told,
+    stated: &mut FactNumbers,
     rows: &Rows,
     column: Column,
     sid: u32,
@@ -109,9 +107,9 @@ fn is_right_bar<L: Ledger>(
     cells: &[i64],
     steps: &mut Steps<L>,
 ) -> Result<bool, Memory>
-    requires table { IsTable world.now checked.now told.old rows.now }
+    requires table { IsTable world.now checked.now stated.old rows.now }
     ensures { IfOk result (IsJudgement world.now checked.now (SeenLine column sid bar_day day cells.now)
-        told.old told.new rows.now) }
+        stated.old stated.new rows.now) }
 {
     let Some(col) = col_of(world, sid) else {
         return Ok(false);
@@ -135,61 +133,67 @@ fn is_right_bar<L: Ledger>(
         bar: bar as u32,
         session: session as u32,
     };
-    told.tell(fact, last_of(&seen))?;
+    stated.insert(fact, last_of(&seen))?;
     Ok(true)
 }
 
-// The same of a value. Where something is told of its fact, the number alone decides.
+// The same of a value. Where something is stated of its fact, the number and the record's day alone decide.
 fn is_right_value(
     alloc: Global,
     world: &World,
     checked: &Checked,
-    told: &mut Told,
+    stated: &mut FactNumbers,
     rows: &mut Rows,
-    term: u32,
-    sid: u32,
-    day: i32,
-    value: i64,
+    line: &ValueLine,
 ) -> Result<bool, Memory>
-    requires table { IsTable world.now checked.now told.old rows.old }
-    requires cell { IsCell value }
-    ensures { IfOk result (IsJudgement world.now checked.now (ValueLine term sid day value)
-        told.old told.new rows.new) }
+    requires table { IsTable world.now checked.now stated.old rows.old }
+    requires cell { IsCell line.now.value }
+    ensures { IfOk result (IsJudgement world.now checked.now (line_of (Value line.now))
+        stated.old stated.new rows.new) }
 {
-    let Some(col) = col_of(world, sid) else {
+    let Some(col) = col_of(world, line.sid) else {
         return Ok(false);
     };
-    let Some(session) = world.sessions.index_of(day) else {
+    let Some(session) = world.sessions.index_of(line.day) else {
         return Ok(false);
     };
-    let Some(t) = used_term(checked, term) else {
+    let Some(t) = used_term(checked, line.term) else {
         return Ok(false);
     };
-    let fact = Fact::Worth {
+    if !same_day(line.known, known_day(world, checked, t, col, session)) {
+        return Ok(false);
+    }
+    let fact = Fact::TermValue {
         term: t.0,
-        sid,
+        sid: line.sid,
         session: session as u32,
     };
-    if let Some(number) = told.number(fact) {
-        return Ok(same_number(value, number));
+    if let Some(number) = stated.number(fact) {
+        return Ok(same_number(line.value, number));
     }
     let basis = Basis {
         world: *world,
         checked,
-        told,
+        stated,
     };
-    let Some(number) = value_told(alloc, &basis, rows, t, col, session)? else {
+    let Some(number) = value_stated(alloc, &basis, rows, t, col, session)? else {
         return Ok(false);
     };
-    if !same_number(value, number) {
+    if !same_number(line.value, number) {
         return Ok(false);
     }
-    told.tell(fact, value)?;
+    stated.insert(fact, line.value)?;
     Ok(true)
 }
 
 fn same_number(a: i64, b: i64) -> bool
     ensures { result ≡ int_eq a b }
+{
+    a == b
+}
+
+fn same_day(a: Option<i32>, b: Option<i32>) -> bool
+    ensures { result ≡ option_eq int_eq a b }
 {
     a == b
 }

@@ -5,18 +5,19 @@
 mod bars;
 mod basis;
 mod fact;
+mod fact_numbers;
 mod inputs;
 mod judge;
 mod reads;
+mod records;
 mod rows;
 mod sections;
-mod told;
 mod value;
 mod walk;
 
 pub use judge::first_wrong;
 pub use pl_derivation::{
-    CellList, Derivation, ExplainError, Line, LinesError, print_lines, read_lines,
+    CellList, Derivation, ExplainError, Line, LinesError, ValueLine, print_lines, read_lines,
 };
 pub use pl_planner::reach_at;
 pub use walk::explain_cell;

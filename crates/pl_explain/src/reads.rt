@@ -166,7 +166,7 @@ fn put_value(u: TermId, sid: u32, session: u32, facts: &mut Vec<Fact>) -> Result
     ensures { OnOk result (ArePut facts.old.items facts.new.items
         (number_facts sid (pos session) (Some u.0))) }
 {
-    facts.push(Fact::Worth {
+    facts.push(Fact::TermValue {
         term: u.0,
         sid,
         session,

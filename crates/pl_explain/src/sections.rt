@@ -1,17 +1,17 @@
-//! Cross-sections over what is told.
+//! Cross-sections over what is stated.
 ghost use Rattle.std.specs.Prelude.{◌≡◌, ◌<◌, All, IfNone, IfOk, IfSome, OnOk, false, flat_map, length, map, option_map, pos, slice_get, Some};
 ghost use Rattle.pl_spec.specs.Rounding.{IsCell};
 ghost use Rattle.pl_spec.specs.World.{living_sids};
 ghost use Rattle.pl_cross.specs.Section.{is_section};
 ghost use Rattle.pl_terms.specs.Nodes.{node_of, number_of};
 ghost use Rattle.pl_derivation.specs.Facts.{entry_facts, number_facts};
-ghost use Rattle.pl_derivation.specs.Facts.Fact.{Worth};
+ghost use Rattle.pl_derivation.specs.Facts.Fact.{TermValue};
 ghost use Rattle.pl_world.specs.Worlds.{world_of};
 ghost use Rattle.pl_world.specs.Evaluations.{HasKind, optional_row_in, row_in};
 ghost use Rattle.pl_explain.specs.Given.{facts_in, has_all, living_facts, sid_in, value_in, HasRow, IsAskedAt, IsAskedOn, IsGiven, IsKeptAt, IsKeptRow, KeepsAll, KeepsRowsOf};
 
 use crate::basis::{Basis, node_in};
-use crate::inputs::term_told;
+use crate::inputs::term_stated;
 use crate::rows::Rows;
 use pl_fixed::Memory;
 use pl_terms::TermId;
@@ -19,9 +19,9 @@ use pl_values::empty_value;
 use pl_world::{exists, section_input, section_row};
 use std::alloc::Global;
 
-/// The cell of a cross-section, by what is told of all assets. The row of a term and a session is computed
+/// The cell of a cross-section, by what is stated of all assets. The row of a term and a session is computed
 /// once.
-pub(crate) fn section_told(
+pub(crate) fn section_stated(
     alloc: Global,
     basis: &Basis,
     rows: &mut Rows,
@@ -32,7 +32,7 @@ pub(crate) fn section_told(
     requires kept { IsKeptAt basis.now t.0 col session }
     requires rows { KeepsRowsOf basis.now rows.old }
     requires kind { HasKind basis.now.checked.now t.0 is_section }
-    ensures given { IfOk result (IsGiven IsCell basis.now.told.now (facts_in basis.now t.0 col session)
+    ensures given { IfOk result (IsGiven IsCell basis.now.stated.now (facts_in basis.now t.0 col session)
         (value_in basis.now t.0 col session)) }
     ensures rows { OnOk result (KeepsRowsOf basis.now rows.new) }
     ensures kept { IfOk result (λ o. IfSome o (λ _. HasRow t.0 session rows.new)) }
@@ -51,7 +51,7 @@ pub(crate) fn section_told(
     }
 }
 
-// The row of a cross-section, where all that it rests on is told.
+// The row of a cross-section, where all that it rests on is stated.
 fn whole_row(
     alloc: Global,
     basis: &Basis,
@@ -62,20 +62,20 @@ fn whole_row(
     requires term { t.0 < length basis.now.checked.now.graph }
     requires kind { HasKind basis.now.checked.now t.0 is_section }
     ensures row { IfOk result (λ o. IfSome o (λ v. IsKeptRow
-        basis.now.world basis.now.checked.now basis.now.told.now t.0 session v.items)) }
+        basis.now.world basis.now.checked.now basis.now.stated.now t.0 session v.items)) }
     ensures none { IfOk result (λ o. IfNone o ((n : _) → slice_get basis.now.checked.now.graph t.0 ≡ Some n
-        → has_all basis.now.told.now (flat_map (entry_facts (node_of n) (pos session))
+        → has_all basis.now.stated.now (flat_map (entry_facts (node_of n) (pos session))
         (living_sids (world_of basis.now.world) (pos session))) ≡ false)) }
 {
     let node = node_in(basis.checked, t);
     let input = section_input(basis.checked, t);
-    let Some(values) = row_told(alloc, basis, input, session)? else {
+    let Some(values) = row_stated(alloc, basis, input, session)? else {
         return Ok(None);
     };
-    let Some(mask) = optional_row_told(alloc, basis, node.mask, session)? else {
+    let Some(mask) = optional_row_stated(alloc, basis, node.mask, session)? else {
         return Ok(None);
     };
-    let Some(groups) = optional_row_told(alloc, basis, node.group, session)? else {
+    let Some(groups) = optional_row_stated(alloc, basis, node.group, session)? else {
         return Ok(None);
     };
     Ok(Some(section_row(
@@ -90,8 +90,8 @@ fn whole_row(
     )?))
 }
 
-// The cells of a term for all assets, by what is told of those that exist.
-fn row_told(
+// The cells of a term for all assets, by what is stated of those that exist.
+fn row_stated(
     alloc: Global,
     basis: &Basis,
     u: TermId,
@@ -99,13 +99,13 @@ fn row_told(
 ) -> Result<Option<Vec<i64>>, Memory>
     requires on { IsAskedOn basis.now session }
     requires term { u.0 < length basis.now.checked.now.graph }
-    ensures { IfOk result (λ o. IsGiven (All IsCell) basis.now.told.now
-        (map (λ b. Worth u.0 b (pos session)) (living_sids (world_of basis.now.world) (pos session)))
+    ensures { IfOk result (λ o. IsGiven (All IsCell) basis.now.stated.now
+        (map (λ b. TermValue u.0 b (pos session)) (living_sids (world_of basis.now.world) (pos session)))
         (row_in basis.now.world basis.now.checked.now u.0 session) (option_map (λ v. v.items) o)) }
 {
     let mut row = Vec::new(alloc);
     for col in 0..basis.world.assets.len() {
-        match cell_told(basis, u, col, session) {
+        match cell_stated(basis, u, col, session) {
             None => return Ok(None),
             Some(cell) => row.push(cell)?,
         }
@@ -113,23 +113,23 @@ fn row_told(
     Ok(Some(row))
 }
 
-// What is told of a term for an asset that exists; of another the value is the empty one.
-fn cell_told(basis: &Basis, u: TermId, col: usize, session: usize) -> Option<i64>
+// What is stated of a term for an asset that exists; of another the value is the empty one.
+fn cell_stated(basis: &Basis, u: TermId, col: usize, session: usize) -> Option<i64>
     requires at { IsAskedAt basis.now col session }
     requires term { u.0 < length basis.now.checked.now.graph }
-    ensures { IsGiven IsCell basis.now.told.now
+    ensures { IsGiven IsCell basis.now.stated.now
         (living_facts (world_of basis.now.world) u.0 (sid_in basis.now col) (pos session))
         (value_in basis.now u.0 col session) result }
 {
     if exists(&basis.world, col, session) {
-        term_told(basis, u, col, session)
+        term_stated(basis, u, col, session)
     } else {
         Some(empty_value(basis.checked.graph(), u))
     }
 }
 
-// The cells of a mask or a group for all assets, as it is told.
-fn optional_row_told(
+// The cells of a mask or a group for all assets, as it is stated.
+fn optional_row_stated(
     alloc: Global,
     basis: &Basis,
     u: Option<TermId>,
@@ -137,7 +137,7 @@ fn optional_row_told(
 ) -> Result<Option<Option<Vec<i64>>>, Memory>
     requires on { IsAskedOn basis.now session }
     requires term { IfSome u (λ u. u.0 < length basis.now.checked.now.graph) }
-    ensures { IfOk result (λ o. IsGiven (λ r. IfSome r (All IsCell)) basis.now.told.now
+    ensures { IfOk result (λ o. IsGiven (λ r. IfSome r (All IsCell)) basis.now.stated.now
         (flat_map (λ b. number_facts b (pos session) (option_map number_of u))
         (living_sids (world_of basis.now.world) (pos session)))
         (optional_row_in basis.now.world basis.now.checked.now u session)
@@ -146,7 +146,7 @@ fn optional_row_told(
     let Some(u) = u else {
         return Ok(Some(None));
     };
-    match row_told(alloc, basis, u, session)? {
+    match row_stated(alloc, basis, u, session)? {
         None => Ok(None),
         Some(row) => Ok(Some(Some(row))),
     }

@@ -9,9 +9,9 @@ ghost use Rattle.pl_world.specs.Evaluations.{HasKind};
 ghost use Rattle.pl_explain.specs.Given.{facts_in, own_facts, sid_in, value_in, IsAskedAt, IsGiven, IsKeptAt, KeepsRowsOf};
 
 use crate::basis::{Basis, node_in};
-use crate::inputs::{input_told, mask_told, window_told};
+use crate::inputs::{input_stated, mask_stated, window_stated};
 use crate::rows::Rows;
-use crate::sections::section_told;
+use crate::sections::section_stated;
 use pl_fixed::{Frequency, Memory};
 use pl_terms::TermId;
 use pl_values::{
@@ -23,7 +23,7 @@ use std::alloc::Global;
 /// The value of a term for the asset in a column on a session by the numbers of its premises, as arrays hold
 /// it; `None` where one of them has no number. `rows` keeps the rows of cross-sections. The only error is
 /// want of memory.
-pub(crate) fn value_told(
+pub(crate) fn value_stated(
     alloc: Global,
     basis: &Basis,
     rows: &mut Rows,
@@ -34,7 +34,7 @@ pub(crate) fn value_told(
     requires at { IsAskedAt basis.now col session }
     requires term { t.0 < length basis.now.checked.now.graph }
     requires rows { KeepsRowsOf basis.now rows.old }
-    ensures given { IfOk result (IsGiven IsCell basis.now.told.now
+    ensures given { IfOk result (IsGiven IsCell basis.now.stated.now
         (own_facts basis.now.world basis.now.checked.now t.0 (sid_in basis.now col) session)
         (value_in basis.now t.0 col session)) }
     ensures rows { OnOk result (KeepsRowsOf basis.now rows.new) }
@@ -43,15 +43,15 @@ pub(crate) fn value_told(
     if !exists(&basis.world, col, session) {
         return Ok(Some(empty_value(basis.checked.graph(), t)));
     }
-    match mask_told(basis, node.mask, col, session) {
+    match mask_stated(basis, node.mask, col, session) {
         None => Ok(None),
         Some(false) => Ok(Some(empty_value(basis.checked.graph(), t))),
-        Some(true) => kept_told(alloc, basis, rows, t, col, session),
+        Some(true) => kept_stated(alloc, basis, rows, t, col, session),
     }
 }
 
 // What the kind gives where the asset is kept.
-fn kept_told(
+fn kept_stated(
     alloc: Global,
     basis: &Basis,
     rows: &mut Rows,
@@ -61,7 +61,7 @@ fn kept_told(
 ) -> Result<Option<i64>, Memory>
     requires kept { IsKeptAt basis.now t.0 col session }
     requires rows { KeepsRowsOf basis.now rows.old }
-    ensures given { IfOk result (IsGiven IsCell basis.now.told.now (facts_in basis.now t.0 col session)
+    ensures given { IfOk result (IsGiven IsCell basis.now.stated.now (facts_in basis.now t.0 col session)
         (value_in basis.now t.0 col session)) }
     ensures rows { OnOk result (KeepsRowsOf basis.now rows.new) }
 {
@@ -75,7 +75,7 @@ fn kept_told(
         Family::Window => over_windows(alloc, basis, t, col, session),
         Family::Point => Ok(over_operands(basis, t, col, session)),
         Family::LabelTest => Ok(over_label(basis, t, col, session)),
-        Family::Section => section_told(alloc, basis, rows, t, col, session),
+        Family::Section => section_stated(alloc, basis, rows, t, col, session),
         Family::Downsample(frequency) => Ok(over_period(basis, t, frequency, col, session)),
     }
 }
@@ -90,21 +90,21 @@ fn over_windows(
 ) -> Result<Option<i64>, Memory>
     requires kept { IsKeptAt basis.now t.0 col session }
     requires kind { HasKind basis.now.checked.now t.0 is_windowed }
-    ensures { IfOk result (IsGiven IsCell basis.now.told.now (facts_in basis.now t.0 col session)
+    ensures { IfOk result (IsGiven IsCell basis.now.stated.now (facts_in basis.now t.0 col session)
         (value_in basis.now t.0 col session)) }
 {
     let node = node_in(basis.checked, t);
     let size = node.window as usize;
     let first = input_at(node, 0);
-    let Some(a) = window_told(alloc, basis, first, size, col, session)? else {
+    let Some(a) = window_stated(alloc, basis, first, size, col, session)? else {
         return Ok(None);
     };
     let second = input_at(node, 1);
-    let Some(b) = window_told(alloc, basis, second, size, col, session)? else {
+    let Some(b) = window_stated(alloc, basis, second, size, col, session)? else {
         return Ok(None);
     };
     let third = input_at(node, 2);
-    let Some(c) = window_told(alloc, basis, third, size, col, session)? else {
+    let Some(c) = window_stated(alloc, basis, third, size, col, session)? else {
         return Ok(None);
     };
     Ok(Some(window_value(&node.kind, &a, &b, &c)))
@@ -114,16 +114,16 @@ fn over_windows(
 fn over_operands(basis: &Basis, t: TermId, col: usize, session: usize) -> Option<i64>
     requires kept { IsKeptAt basis.now t.0 col session }
     requires kind { HasKind basis.now.checked.now t.0 is_point }
-    ensures { IsGiven IsCell basis.now.told.now (facts_in basis.now t.0 col session)
+    ensures { IsGiven IsCell basis.now.stated.now (facts_in basis.now t.0 col session)
         (value_in basis.now t.0 col session) result }
 {
     let node = node_in(basis.checked, t);
     let first = input_at(node, 0);
-    let x = input_told(basis, first, col, session)?;
+    let x = input_stated(basis, first, col, session)?;
     let second = input_at(node, 1);
-    let y = input_told(basis, second, col, session)?;
+    let y = input_stated(basis, second, col, session)?;
     let third = input_at(node, 2);
-    let z = input_told(basis, third, col, session)?;
+    let z = input_stated(basis, third, col, session)?;
     Some(point_value(&node.kind, x, y, z))
 }
 
@@ -131,12 +131,12 @@ fn over_operands(basis: &Basis, t: TermId, col: usize, session: usize) -> Option
 fn over_label(basis: &Basis, t: TermId, col: usize, session: usize) -> Option<i64>
     requires kept { IsKeptAt basis.now t.0 col session }
     requires kind { HasKind basis.now.checked.now t.0 is_label_test }
-    ensures { IsGiven IsCell basis.now.told.now (facts_in basis.now t.0 col session)
+    ensures { IsGiven IsCell basis.now.stated.now (facts_in basis.now t.0 col session)
         (value_in basis.now t.0 col session) result }
 {
     let node = node_in(basis.checked, t);
     let first = input_at(node, 0);
-    let code = input_told(basis, first, col, session)?;
+    let code = input_stated(basis, first, col, session)?;
     Some(label_test_value(&node.kind, basis.world.labels, code))
 }
 
@@ -151,10 +151,10 @@ fn over_period(
     requires kept { IsKeptAt basis.now t.0 col session }
     requires kind { (n : _) → slice_get basis.now.checked.now.graph t.0 ≡ Some n
         → kind_of n.kind ≡ Kind.Downsample frequency }
-    ensures { IsGiven IsCell basis.now.told.now (facts_in basis.now t.0 col session)
+    ensures { IsGiven IsCell basis.now.stated.now (facts_in basis.now t.0 col session)
         (value_in basis.now t.0 col session) result }
 {
     let node = node_in(basis.checked, t);
     let start = basis.world.sessions.period_start(frequency, session);
-    input_told(basis, input_at(node, 0), col, start)
+    input_stated(basis, input_at(node, 0), col, start)
 }

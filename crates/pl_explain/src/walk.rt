@@ -7,7 +7,7 @@ ghost use Rattle.pl_spec.specs.Rounding.{IsCell};
 ghost use Rattle.pl_pipeline.specs.Term.{term_at};
 ghost use Rattle.pl_spec.specs.World.{exists};
 ghost use Rattle.pl_cross.specs.Section.{is_section};
-ghost use Rattle.pl_derivation.specs.Facts.Fact.{Seen, Worth};
+ghost use Rattle.pl_derivation.specs.Facts.Fact.{Seen, TermValue};
 ghost use Rattle.pl_derivation.specs.Laws.{IsDerivation};
 ghost use Rattle.pl_derivation.specs.Walks.{depth_of, derivation, facts_for};
 ghost use Rattle.pl_spec.proofs.Each.{Each};
@@ -20,18 +20,19 @@ ghost use Rattle.pl_terms.specs.Uses.{is_used};
 ghost use Rattle.pl_explain.specs.Given.{facts_read, has, has_all, own_facts, HasRow, KeepsRows};
 ghost use Rattle.pl_explain.specs.Keys.{fact_of};
 ghost use Rattle.pl_derivation.specs.declared.error.ExplainError.TheVariants.{TooLong};
-ghost use Rattle.pl_explain.specs.Walking.{CanStand, CanStandIn, IsPut, IsWalkTo, StandsIn};
+ghost use Rattle.pl_explain.specs.Walking.{MayBeDerived, CanStandIn, IsPut, IsWalkTo, HoldsSoFar};
 
 use crate::bars::seen_cells;
 use crate::basis::{Basis, node_in, parts_are_ready};
 use crate::fact::Fact;
-use crate::inputs::mask_told;
+use crate::fact_numbers::FactNumbers;
+use crate::inputs::mask_stated;
 use crate::judge::{col_of, last_of};
 use crate::reads::{facts_read, mask_read};
+use crate::records::known_day;
 use crate::rows::Rows;
-use crate::told::Told;
-use crate::value::value_told;
-use pl_derivation::{CellList, Derivation, ExplainError, Line, MOST_LINES};
+use crate::value::value_stated;
+use pl_derivation::{CellList, Derivation, ExplainError, Line, MOST_LINES, ValueLine};
 use pl_fixed::{Column, Memory, Steps};
 use pl_terms::{Checked, TermId};
 use pl_values::{Family, family_of};
@@ -43,7 +44,7 @@ use std::sync::ledger::Ledger;
 // What is finished so far: the number of each fact, found by it, and its line.
 #[derive(Drop)]
 struct Walk {
-    told: Told,
+    stated: FactNumbers,
     rows: Rows,
     lines: Vec<Line>,
 }
@@ -71,20 +72,20 @@ pub fn explain_cell<L: Ledger>(
         (sid_at world.now.assets.now col) (pos session)) }
     ensures few { IfOk result (λ d. length d ≤ most_lines) }
     ensures long { IfErr result (λ e. e ≡ TooLong → most_lines < length (facts_for (world_of world.now)
-        (pipeline_of checked.now) (Worth t.0 (sid_at world.now.assets.now col) (pos session)))) }
-    // No line of it is wrong, no fact stands in it twice, and its last line tells the value.
+        (pipeline_of checked.now) (TermValue t.0 (sid_at world.now.assets.now col) (pos session)))) }
+    // No line of it is wrong, no fact stands in it twice, and its last line states the value.
     ensures right { IfOk result (IsDerivation (world_of world.now) (pipeline_of checked.now) t.0
         (sid_at world.now.assets.now col) session) }
 {
     parts_are_ready(world, checked);
     parts_make_a_world(world);
-    let fact = Fact::Worth {
+    let fact = Fact::TermValue {
         term: t.0,
         sid: world.assets.sid(col),
         session: session as u32,
     };
     let mut walk = Walk {
-        told: Told::new(alloc),
+        stated: FactNumbers::new(alloc),
         rows: Rows::new(alloc),
         lines: Vec::new(alloc),
     };
@@ -102,12 +103,12 @@ fn finish<L: Ledger>(
     fact: Fact,
     steps: &mut Steps<L>,
 ) -> Result<(), ExplainError>
-    requires stands { StandsIn world.now checked.now walk.old }
-    requires fact { CanStand world.now checked.now (fact_of fact) }
+    requires stands { HoldsSoFar world.now checked.now walk.old }
+    requires fact { MayBeDerived world.now checked.now (fact_of fact) }
     ensures { IsWalkTo world.now checked.now (depth_of (fact_of fact)) (fact_of fact ∷ [])
         walk.old walk.new result }
 {
-    if walk.told.number(fact).is_some() {
+    if walk.stated.number(fact).is_some() {
         return Ok(());
     }
     match fact {
@@ -119,7 +120,7 @@ fn finish<L: Ledger>(
         } => finish_bar(
             alloc, world, checked, walk, column, sid, bar, session, steps,
         ),
-        Fact::Worth { term, sid, session } => {
+        Fact::TermValue { term, sid, session } => {
             finish_value(alloc, world, checked, walk, term, sid, session, steps)
         }
     }
@@ -136,7 +137,7 @@ fn finish_all<L: Ledger>(
     facts: &[Fact],
     steps: &mut Steps<L>,
 ) -> Result<(), ExplainError>
-    requires stands { StandsIn world.now checked.now walk.old }
+    requires stands { HoldsSoFar world.now checked.now walk.old }
     requires facts { Each (CanStandIn world.now checked.now (t.0 + 1)) (map fact_of facts.now) }
     ensures { IsWalkTo world.now checked.now (t.0 + 1) (map fact_of facts.now) walk.old walk.new result }
 {
@@ -158,10 +159,10 @@ fn finish_value<L: Ledger>(
     session: u32,
     steps: &mut Steps<L>,
 ) -> Result<(), ExplainError>
-    requires stands { StandsIn world.now checked.now walk.old }
-    requires fact { CanStand world.now checked.now (Worth term sid (pos session)) }
-    requires fresh { has walk.old.told (Worth term sid (pos session)) ≡ false }
-    ensures { IsWalkTo world.now checked.now (term + 2) (Worth term sid (pos session) ∷ [])
+    requires stands { HoldsSoFar world.now checked.now walk.old }
+    requires fact { MayBeDerived world.now checked.now (TermValue term sid (pos session)) }
+    requires fresh { has walk.old.stated (TermValue term sid (pos session)) ≡ false }
+    ensures { IsWalkTo world.now checked.now (term + 2) (TermValue term sid (pos session) ∷ [])
         walk.old walk.new result }
 {
     let Some(col) = col_of(world, sid) else {
@@ -170,13 +171,14 @@ fn finish_value<L: Ledger>(
     let t = TermId(term);
     finish_premises(alloc, world, checked, walk, t, col, session as usize, steps)?;
     let value = value_now(alloc, world, checked, walk, t, col, session as usize)?;
-    let line = Line::Value {
+    let line = Line::Value(ValueLine {
         term: term as u32,
         sid,
         day: world.sessions.day(session as usize),
         value,
-    };
-    put(walk, Fact::Worth { term, sid, session }, value, line)
+        known: known_day(world, checked, t, col, session as usize),
+    });
+    put(walk, Fact::TermValue { term, sid, session }, value, line)
 }
 
 // Finishes the premises of a value: the mask, and where the asset passes it what the kind reads.
@@ -191,13 +193,14 @@ fn finish_premises<L: Ledger>(
     session: usize,
     steps: &mut Steps<L>,
 ) -> Result<(), ExplainError>
-    requires stands { StandsIn world.now checked.now walk.old }
+    requires stands { HoldsSoFar world.now checked.now walk.old }
     requires col { col < length world.now.assets.now }
     requires session { session < length world.now.sessions.now }
-    requires fact { CanStand world.now checked.now
-        (Worth t.0 (sid_at world.now.assets.now col) (pos session)) }
+    requires fact { MayBeDerived world.now checked.now
+        (TermValue t.0 (sid_at world.now.assets.now col) (pos session)) }
     ensures { IsWalkTo world.now checked.now (t.0 + 1)
-        (own_facts world.now checked.now t.0 (sid_at world.now.assets.now col) session) walk.old walk.new result }
+        (own_facts world.now checked.now t.0 (sid_at world.now.assets.now col) session)
+        walk.old walk.new result }
 {
     let node = node_in(checked, t);
     if !exists(world, col, session) {
@@ -208,9 +211,9 @@ fn finish_premises<L: Ledger>(
     let basis = Basis {
         world: *world,
         checked,
-        told: &walk.told,
+        stated: &walk.stated,
     };
-    match mask_told(&basis, node.mask, col, session) {
+    match mask_stated(&basis, node.mask, col, session) {
         Some(true) => finish_kind(alloc, world, checked, walk, t, col, session, steps),
         Some(false) => Ok(()),
         None => unreachable!(),
@@ -229,11 +232,11 @@ fn finish_kind<L: Ledger>(
     session: usize,
     steps: &mut Steps<L>,
 ) -> Result<(), ExplainError>
-    requires stands { StandsIn world.now checked.now walk.old }
+    requires stands { HoldsSoFar world.now checked.now walk.old }
     requires col { col < length world.now.assets.now }
     requires session { session < length world.now.sessions.now }
-    requires fact { CanStand world.now checked.now
-        (Worth t.0 (sid_at world.now.assets.now col) (pos session)) }
+    requires fact { MayBeDerived world.now checked.now
+        (TermValue t.0 (sid_at world.now.assets.now col) (pos session)) }
     requires facts { Each (CanStandIn world.now checked.now (t.0 + 1))
         (facts_read world.now checked.now t.0 (sid_at world.now.assets.now col) session) }
     ensures { IsWalkTo world.now checked.now (t.0 + 1)
@@ -249,11 +252,11 @@ fn finish_kind<L: Ledger>(
 
 // Whether all that a cross-section reads is finished, since its row is kept.
 fn is_whole(world: &World, checked: &Checked, walk: &Walk, t: TermId, session: usize) -> bool
-    requires stands { StandsIn world.now checked.now walk.now }
+    requires stands { HoldsSoFar world.now checked.now walk.now }
     requires term { t.0 < length checked.now.graph }
     requires session { session < length world.now.sessions.now }
     ensures stand { IsTrue result → (a : _)
-        → has_all walk.now.told (facts_read world.now checked.now t.0 a session) ≡ true }
+        → has_all walk.now.stated (facts_read world.now checked.now t.0 a session) ≡ true }
     ensures whole { HasKind checked.now t.0 is_section → HasRow t.0 session walk.now.rows → result ≡ true }
 {
     match family_of(&node_in(checked, t).kind) {
@@ -272,24 +275,25 @@ fn value_now(
     col: usize,
     session: usize,
 ) -> Result<i64, Memory>
-    requires stands { StandsIn world.now checked.now walk.old }
+    requires stands { HoldsSoFar world.now checked.now walk.old }
     requires term { t.0 < length checked.now.graph }
     requires col { col < length world.now.assets.now }
     requires session { session < length world.now.sessions.now }
-    requires premises { has_all walk.old.told (own_facts world.now checked.now t.0 (sid_at world.now.assets.now col) session) ≡ true }
+    requires premises { has_all walk.old.stated
+        (own_facts world.now checked.now t.0 (sid_at world.now.assets.now col) session) ≡ true }
     ensures value { IfOk result (λ x. x ≡ cell_in world.now checked.now t.0
         (sid_at world.now.assets.now col) session) }
     ensures cell { IfOk result IsCell }
-    ensures told { walk.new.told ≡ walk.old.told }
+    ensures stated { walk.new.stated ≡ walk.old.stated }
     ensures lines { walk.new.lines ≡ walk.old.lines }
-    ensures rows { OnOk result (KeepsRows world.now checked.now walk.old.told walk.new.rows) }
+    ensures rows { OnOk result (KeepsRows world.now checked.now walk.old.stated walk.new.rows) }
 {
     let basis = Basis {
         world: *world,
         checked,
-        told: &walk.told,
+        stated: &walk.stated,
     };
-    match value_told(alloc, &basis, &mut walk.rows, t, col, session)? {
+    match value_stated(alloc, &basis, &mut walk.rows, t, col, session)? {
         Some(value) => Ok(value),
         None => unreachable!(),
     }
@@ -307,9 +311,9 @@ fn finish_bar<L: Ledger>(
     session: u32,
     steps: &mut Steps<L>,
 ) -> Result<(), ExplainError>
-    requires stands { StandsIn world.now checked.now walk.old }
-    requires fact { CanStand world.now checked.now (Seen column sid (pos bar) (pos session)) }
-    requires fresh { has walk.old.told (Seen column sid (pos bar) (pos session)) ≡ false }
+    requires stands { HoldsSoFar world.now checked.now walk.old }
+    requires fact { MayBeDerived world.now checked.now (Seen column sid (pos bar) (pos session)) }
+    requires fresh { has walk.old.stated (Seen column sid (pos bar) (pos session)) ≡ false }
     ensures { IsWalkTo world.now checked.now 1 (Seen column sid (pos bar) (pos session) ∷ [])
         walk.old walk.new result }
 {
@@ -350,7 +354,7 @@ fn put(walk: &mut Walk, fact: Fact, number: i64, line: Line) -> Result<(), Expla
     if walk.lines.len() == MOST_LINES {
         return Err(ExplainError::TooLong);
     }
-    walk.told.tell(fact, number)?;
+    walk.stated.insert(fact, number)?;
     walk.lines.push(line)?;
     Ok(())
 }

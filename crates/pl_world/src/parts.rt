@@ -1,11 +1,13 @@
 //! What an evaluation reads besides the values of other terms.
 
-ghost use Rattle.std.specs.Prelude.{◌≡◌, ◌<◌, ◌≤◌, ◌&&◌, true, All, IfOk, IfSome, Some, length, option_map, pos, position, bytes_eq, slice_get};
+ghost use Rattle.std.specs.Prelude.{◌≡◌, ◌<◌, ◌≤◌, ◌&&◌, true, All, IfOk, IfSome, Some, length, option_map, option_and_then, pos, position, bytes_eq, slice_get};
+ghost use Rattle.pl_spec.specs.Dates.{IsDay};
+ghost use Rattle.pl_spec.specs.Numbers.{known_at};
 ghost use Rattle.pl_spec.specs.Parts.{sid_at};
 ghost use Rattle.pl_spec.specs.Rounding.{IsCell};
 ghost use Rattle.pl_pipeline.specs.Value.{name_at};
 ghost use Rattle.pl_spec.specs.Cells.{is_true};
-ghost use Rattle.pl_spec.specs.World.{exists, known_number, label_at};
+ghost use Rattle.pl_spec.specs.World.{day_of, exists, known_number, label_at};
 ghost use Rattle.pl_terms.specs.Checked.{pipeline_of};
 ghost use Rattle.pl_cross.specs.Listing.{Fits, labels_in};
 ghost use Rattle.pl_cross.specs.Section.{HasParameters, is_section};
@@ -65,7 +67,32 @@ pub fn number_cell(world: &World, checked: &Checked, name: u32, col: usize, sess
     number_of(world, text, world.numbers.name_of(text), col, session)
 }
 
-/// The same under a name; `number` is the name's number in the file, as `name_of` of the numbers gives it.
+/// The day from which that number was known; `None` where there is no such record.
+pub fn number_day(
+    world: &World,
+    checked: &Checked,
+    name: u32,
+    col: usize,
+    session: usize,
+) -> Option<i32>
+    requires made { IsMade world.now }
+    requires name { name < length checked.now.names }
+    requires col { col < length world.now.assets.now }
+    requires session { session < length world.now.sessions.now }
+    ensures exact { result ≡ option_and_then (known_at (world_of world.now).numbers
+        (name_at (pipeline_of checked.now).names name) (sid_at world.now.assets.now col))
+        (day_of (world_of world.now) (pos session)) }
+    ensures day { IfSome result IsDay }
+{
+    parts_make_a_world(world);
+    let text = checked.label_name(name);
+    let day = world.sessions.day(session);
+    world
+        .numbers
+        .known_under(text, world.numbers.name_of(text), col, day)
+}
+
+/// The number under a name; `number` is the name's number in the file, as `name_of` of the numbers gives it.
 pub(crate) fn number_of(
     world: &World,
     name: &[u8],

@@ -6,7 +6,7 @@ use Rattle.pl_derivation.proofs.read.read_cells.Given as goal
 
 abbrev pub invariant-loop-left : goal.invariant-loop-left
 invariant-loop-left l = record {
-  told : numbers_in (pieces 32 l.fn.text) ≡ with_front l.cells.items (numbers_in (behind 32 (option_map (λ r. r.now) l.left)));
+  stated : numbers_in (pieces 32 l.fn.text) ≡ with_front l.cells.items (numbers_in (behind 32 (option_map (λ r. r.now) l.left)));
   cells : All IsCell l.cells.items;
 }
 

@@ -12,17 +12,17 @@ loop-left-init c = loop_begun c.args.bytes.now c.new-lines.result.items c.new-li
 
 pub returns-in-None-clause-fault : goal.returns-in-None-clause-fault
 returns-in-None-clause-fault c =
-    no_end c.args.bytes.now (map line_of c.loop-left.lines.items) (length c.loop-left.lines.items) c.loop-left.left.now c.loop-left.invariant.told (grind arith) (sym c.place_of.ensures.place ∙ c.in-None.is)
+    no_end c.args.bytes.now (map line_of c.loop-left.lines.items) (length c.loop-left.lines.items) c.loop-left.left.now c.loop-left.invariant.stated (grind arith) (sym c.place_of.ensures.place ∙ c.in-None.is)
     ∙ ap (λ k. Err (BadLine k)) (omega (arith, c.len.ensures, c.loop-left.lines.ok))
 
 pub returns-in-Ok-None-clause-fault : goal.returns-in-Ok-None-clause-fault
 returns-in-Ok-None-clause-fault c =
-    no_line c.args.bytes.now (map line_of c.loop-left.lines.items) (length c.loop-left.lines.items) c.loop-left.left.now c.loop-left.invariant.told c.in-Some.end (sym c.place_of.ensures.place ∙ c.in-Some.is) (rw c.in-Ok-None.field-0-is at c.in-Ok-None.ensures)
+    no_line c.args.bytes.now (map line_of c.loop-left.lines.items) (length c.loop-left.lines.items) c.loop-left.left.now c.loop-left.invariant.stated c.in-Some.end (sym c.place_of.ensures.place ∙ c.in-Some.is) (rw c.in-Ok-None.field-0-is at c.in-Ok-None.ensures)
     ∙ ap (λ k. Err (BadLine k)) (omega (arith, c.len.ensures, c.loop-left.lines.ok))
 
 pub returns-then-len-eq-MOST_LINES-clause-fault : goal.returns-then-len-eq-MOST_LINES-clause-fault
 returns-then-len-eq-MOST_LINES-clause-fault c =
-    past_most c.args.bytes.now (map line_of c.loop-left.lines.items) (length c.loop-left.lines.items) c.loop-left.left.now c.loop-left.invariant.told c.in-Some.end (sym c.place_of.ensures.place ∙ c.in-Some.is)
+    past_most c.args.bytes.now (map line_of c.loop-left.lines.items) (length c.loop-left.lines.items) c.loop-left.left.now c.loop-left.invariant.stated c.in-Some.end (sym c.place_of.ensures.place ∙ c.in-Some.is)
     (line_of c.in-Ok-Some.line) (rw c.in-Ok-Some.field-0-is at c.in-Ok-Some.ensures) (omega (arith, c.len-in-Ok-Some.ensures, c.loop-left.lines.ok, c.if-len-eq-MOST_LINES.true))
     ∙ ap (λ k. Err (TooMany k)) (omega (arith, c.len.ensures, c.loop-left.lines.ok))
 

@@ -1,11 +1,11 @@
 use Rattle.std.proofs.Common.{◌≤◌, ◌∙◌, take, length, ap, sym, arith}
 use Rattle.pl_terms.specs.Checked.{pipeline_of}
-use Rattle.pl_derivation.specs.Right.{is_told}
+use Rattle.pl_derivation.specs.Right.{is_stated}
 use Rattle.pl_derivation.proofs.Truths.{sound}
 use Rattle.pl_derivation.specs.Listed.{line_of}
 use Rattle.pl_world.specs.Worlds.{world_of}
 use Rattle.pl_explain.proofs.Passing.{pass, stop, whole, taken-more}
-use Rattle.pl_explain.proofs.Judging.{judged-right, told-behind}
+use Rattle.pl_explain.proofs.Judging.{judged-right, stated-behind}
 use Rattle.pl_explain.proofs.judge.first_wrong.Goals as goal
 
 pub returns-then-not-branch-clause-exact : goal.returns-then-not-branch-clause-exact
@@ -15,7 +15,7 @@ returns-then-not-branch-clause-exact g c =
     let lines = c.args.derivation.now in
     let so_far = c.loop-i.invariant in
     let l = line_of c.line-line.result.now in
-    let judged = judged-right (world_of w) (pipeline_of p) c.parts_are_ready.ensures.texts c.parts_are_ready.ensures.checked.graph c.loop-i.told (take c.loop-i.i lines) so_far.none so_far.told l in
+    let judged = judged-right (world_of w) (pipeline_of p) c.parts_are_ready.ensures.texts c.parts_are_ready.ensures.checked.graph c.loop-i.stated (take c.loop-i.i lines) so_far.none so_far.stated l in
     sym (stop (world_of w) (pipeline_of p) lines c.loop-i.i l c.line-line.ensures.line so_far.none (sym judged ∙ sym c.in_ok-is_right.ensures.exact ∙ c.if-not-branch.true))
 
 pub loop-i-preserved : goal.loop-i-preserved
@@ -26,11 +26,11 @@ loop-i-preserved g c =
     let so_far = c.loop-i.invariant in
     let i = c.loop-i.i in
     let l = line_of c.line-line.result.now in
-    let judged = judged-right (world_of w) (pipeline_of p) c.parts_are_ready.ensures.texts c.parts_are_ready.ensures.checked.graph c.loop-i.told (take i lines) so_far.none so_far.told l in
-    let more = c.in_ok-is_right.ensures.told c.if-not-branch.false in
+    let judged = judged-right (world_of w) (pipeline_of p) c.parts_are_ready.ensures.texts c.parts_are_ready.ensures.checked.graph c.loop-i.stated (take i lines) so_far.none so_far.stated l in
+    let more = c.in_ok-is_right.ensures.stated c.if-not-branch.false in
     record {
       none = pass (world_of w) (pipeline_of p) lines i l c.line-line.ensures.line so_far.none (sym judged ∙ sym c.in_ok-is_right.ensures.exact ∙ c.if-not-branch.false);
-      told = λ f. told-behind (world_of w) c.loop-i.told c.is_right.new.told (take i lines) l so_far.told more f ∙ ap (λ ls. is_told (world_of w) ls f) (sym (taken-more (world_of w) (pipeline_of p) lines i l c.line-line.ensures.line));
+      stated = λ f. stated-behind (world_of w) c.loop-i.stated c.is_right.new.stated (take i lines) l so_far.stated more f ∙ ap (λ ls. is_stated (world_of w) ls f) (sym (taken-more (world_of w) (pipeline_of p) lines i l c.line-line.ensures.line));
       table = c.in_ok-is_right.ensures.table;
     }
 

@@ -55,8 +55,8 @@ returns g c =
     let d = c.in-Some-index_of-2.session in
     let seen = c.in_ok-seen.ensures.value ∙ ap (λ a. seen_cells (world_of c.args.world.now) a c.args.column (pos s) (pos d)) place.sid_is in
     let fits : FitsSigned w64 c.last_of.result = search rules in
-    let tells = simp to_z-of_z at c.in_ok-tell.ensures in
+    let states = simp to_z-of_z at c.in_ok-insert.ensures in
     let number = c.last_of.ensures ∙ ap last_cell (c.deref-2.ensures.value ∙ seen) ∙ last_seen (world_of c.args.world.now) c.args.sid c.args.column (pos s) (pos d) in
     let cell : IsCell c.last_of.result = subst IsCell (sym c.last_of.ensures) (last-cell c.deref-2.result.now (subst (All IsCell) (sym c.deref-2.ensures.value) c.in_ok-seen.ensures.cells)) in
     bar-right c.requires.table c.args.column c.args.sid c.args.bar_day c.args.day c.args.cells.now s d bar_is day_is place.known c.if-bar-session.false
-    (sym c.if-not-same_cells.false ∙ c.same_cells.ensures ∙ ap (pointwise int_eq c.args.cells.now) (c.deref.ensures.value ∙ seen)) c.last_of.result c.tell.new.self tells number cell
+    (sym c.if-not-same_cells.false ∙ c.same_cells.ensures ∙ ap (pointwise int_eq c.args.cells.now) (c.deref.ensures.value ∙ seen)) c.last_of.result c.insert.new.self states number cell

@@ -1,7 +1,7 @@
 use Rattle.std.proofs.Common.{arith, rules, ◌∙◌, sym, subst, w64, FitsSigned}
 use Rattle.std.proofs.lemmas.Int.{to_z-of_z}
 use Rattle.pl_spec.specs.Rounding.{IsCell}
-use Rattle.pl_explain.proofs.Worths.{point-lacks, point-told}
+use Rattle.pl_explain.proofs.Worths.{point-lacks, point-stated}
 use Rattle.pl_explain.proofs.value.over_operands.Goals as goal
 
 pub returns-in_err-x : goal.returns-in_err-x
@@ -25,7 +25,7 @@ point_value-requires c =
     let fx : FitsSigned w64 c.in_ok-x.x = search rules in
     let fy : FitsSigned w64 c.in_ok-y.y = search rules in
     let fz : FitsSigned w64 c.in_ok-z.z = search rules in
-    let all = point-told c.requires.kept c.node_in-node.result.now is (c.requires.kind _ is) c.input_at-first.result c.input_at-second.result c.input_at-third.result c.input_at-first.ensures c.input_at-second.ensures c.input_at-third.ensures
+    let all = point-stated c.requires.kept c.node_in-node.result.now is (c.requires.kind _ is) c.input_at-first.result c.input_at-second.result c.input_at-third.result c.input_at-first.ensures c.input_at-second.ensures c.input_at-third.ensures
     c.in_ok-x.x c.in_ok-y.y c.in_ok-z.z c.in_ok-x.ensures c.in_ok-y.ensures c.in_ok-z.ensures in
     rw (to_z-of_z w64 _ fx, to_z-of_z w64 _ fy, to_z-of_z w64 _ fz) (record { kind = all.0; operands = all.1 })
 
@@ -36,7 +36,7 @@ returns c =
     let fy : FitsSigned w64 c.in_ok-y.y = search rules in
     let fz : FitsSigned w64 c.in_ok-z.z = search rules in
     let fits : FitsSigned w64 c.point_value.result = search rules in
-    let all = point-told c.requires.kept c.node_in-node.result.now is (c.requires.kind _ is) c.input_at-first.result c.input_at-second.result c.input_at-third.result c.input_at-first.ensures c.input_at-second.ensures c.input_at-third.ensures
+    let all = point-stated c.requires.kept c.node_in-node.result.now is (c.requires.kind _ is) c.input_at-first.result c.input_at-second.result c.input_at-third.result c.input_at-first.ensures c.input_at-second.ensures c.input_at-third.ensures
     c.in_ok-x.x c.in_ok-y.y c.in_ok-z.z c.in_ok-x.ensures c.in_ok-y.ensures c.in_ok-z.ensures in
     let value = simp to_z-of_z at c.point_value.ensures.value in
     let same = to_z-of_z w64 _ fits in

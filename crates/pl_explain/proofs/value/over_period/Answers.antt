@@ -1,7 +1,7 @@
-use Rattle.pl_explain.proofs.Worths.{period-told}
+use Rattle.pl_explain.proofs.Worths.{period-stated}
 use Rattle.pl_explain.proofs.value.over_period.Goals as goal
 
 pub returns : goal.returns
 returns c =
     let is = c.node_in-node.ensures in
-    period-told c.requires.kept c.node_in-node.result.now is c.args.frequency c.period_start-start.result (c.requires.kind _ is) c.period_start-start.ensures.exact c.input_at.result c.input_at.ensures c.input_told.result c.input_told.ensures
+    period-stated c.requires.kept c.node_in-node.result.now is c.args.frequency c.period_start-start.result (c.requires.kind _ is) c.period_start-start.ensures.exact c.input_at.result c.input_at.ensures c.input_stated.result c.input_stated.ensures

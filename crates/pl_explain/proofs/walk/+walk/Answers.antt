@@ -10,8 +10,8 @@ use Rattle.pl_spec.specs.Parts.{sid_at}
 use Rattle.pl_terms.specs.Checked.{pipeline_of}
 use Rattle.pl_derivation.specs.declared.line.Line.TheVariants as line
 use Rattle.pl_spec.proofs.Each.{Each}
-use Rattle.pl_derivation.specs.Facts.{number_in}
-use Rattle.pl_derivation.specs.Facts.Fact.{Worth}
+use Rattle.pl_derivation.specs.Facts.{known_day, number_in}
+use Rattle.pl_derivation.specs.Facts.Fact.{TermValue}
 use Rattle.pl_derivation.specs.Walks.{depth_of}
 use Rattle.pl_world.specs.Worlds.{world_of}
 use Rattle.pl_world.specs.Evaluations.{cell_in}
@@ -20,11 +20,11 @@ use Rattle.pl_explain.specs.declared.fact.Fact.{Fact}
 use Rattle.pl_explain.specs.Keys.{fact_of}
 use Rattle.pl_explain.specs.Given.{facts_read, has_all, own_facts}
 use Rattle.pl_explain.proofs.Given.{none-holds}
-use Rattle.pl_explain.specs.Walking.{CanStand, CanStandIn, Finishes, IsTooLong, IsWalkTo}
+use Rattle.pl_explain.specs.Walking.{MayBeDerived, CanStandIn, Finishes, IsTooLong, IsWalkTo}
 use Rattle.pl_explain.proofs.Behind.{worth-within, worth-day, worth-sid, worth-asked}
 use Rattle.pl_explain.proofs.Values.{premises-lacks}
-use Rattle.pl_explain.proofs.Walks.{walk-none, walk-told}
-use Rattle.pl_explain.proofs.Finished.{no-memory, told-now, all-stand, all-more, all-long, value-line, other-finished, other-stands, put-walked, own-long, mask-is, mask-stands, mask-long, mask-known, facts-stand, stopped-finished, passed-walked}
+use Rattle.pl_explain.proofs.Walks.{walk-none, walk-stated}
+use Rattle.pl_explain.proofs.Finished.{no-memory, stated-now, all-stand, all-more, all-long, value-line, other-finished, other-stands, put-walked, own-long, mask-is, mask-stands, mask-long, mask-known, facts-stand, stopped-finished, passed-walked}
 use Rattle.pl_explain.proofs.walk.+walk.Goals as goal
 
 -- ---- a fact
@@ -34,8 +34,8 @@ finish-returns-then-is_some g t c =
     let w = c.args.world.now in
     let p = c.args.checked.now in
     let f = fact_of c.args.fact in
-    let there : has_all c.args.walk.now.told (f ∷ []) ≡ true = search rules in
-    record { stands = c.requires.stands; finished = walk-told w p (depth_of f) c.args.walk.now (f ∷ []) there; long = tt }
+    let there : has_all c.args.walk.now.stated (f ∷ []) ≡ true = search rules in
+    record { stands = c.requires.stands; finished = walk-stated w p (depth_of f) c.args.walk.now (f ∷ []) there; long = tt }
 
 pub finish-returns-in-Seen : goal.finish-returns-in-Seen
 finish-returns-in-Seen g t c =
@@ -43,13 +43,13 @@ finish-returns-in-Seen g t c =
     let p = c.args.checked.now in
     subst (λ f. IsWalkTo w p (depth_of (fact_of f)) (fact_of f ∷ []) c.args.walk.now c.finish_bar.new.walk c.finish_bar.result) (sym c.in-Seen.is) c.finish_bar.ensures
 
-pub finish-returns-in-Worth : goal.finish-returns-in-Worth
-finish-returns-in-Worth g t c =
+pub finish-returns-in-TermValue : goal.finish-returns-in-TermValue
+finish-returns-in-TermValue g t c =
     let w = c.args.world.now in
     let p = c.args.checked.now in
-    let deep : c.in-Worth.term + 2 ≡ suc (suc c.in-Worth.term) = omega arith in
-    subst (λ f. IsWalkTo w p (depth_of (fact_of f)) (fact_of f ∷ []) c.args.walk.now c.finish_value.new.walk c.finish_value.result) (sym c.in-Worth.is)
-    (subst (λ k. IsWalkTo w p k (Worth c.in-Worth.term c.in-Worth.sid (pos c.in-Worth.session) ∷ []) c.args.walk.now c.finish_value.new.walk c.finish_value.result) deep c.finish_value.ensures)
+    let deep : c.in-TermValue.term + 2 ≡ suc (suc c.in-TermValue.term) = omega arith in
+    subst (λ f. IsWalkTo w p (depth_of (fact_of f)) (fact_of f ∷ []) c.args.walk.now c.finish_value.new.walk c.finish_value.result) (sym c.in-TermValue.is)
+    (subst (λ k. IsWalkTo w p k (TermValue c.in-TermValue.term c.in-TermValue.sid (pos c.in-TermValue.session) ∷ []) c.args.walk.now c.finish_value.new.walk c.finish_value.result) deep c.finish_value.ensures)
 
 -- ---- facts in a row
 
@@ -62,7 +62,7 @@ finish_all-finish-requires g t c =
     let i = c.loop-fact.fact-index in
     let within : i < length facts = c.loop-fact-test.true in
     let each : (d : Fact) → CanStandIn w p most (fact_of (get_or facts i d)) = λ d. all-stand facts i (get_or facts i d) (slice_get-get_or facts i d within) w p most c.requires.facts in
-    let stand : (d : Fact) → CanStand w p (fact_of (get_or facts i d)) = λ d. (each d).0 in
+    let stand : (d : Fact) → MayBeDerived w p (fact_of (get_or facts i d)) = λ d. (each d).0 in
     let smaller : (d : Fact) → 8 * depth_of (fact_of (get_or facts i d)) + 6 < 8 * (c.args.t.0 + 1) + 7 = λ d. let l = (each d).1 in omega (arith, l) in
     search rules
 
@@ -133,10 +133,16 @@ finish_value-value_now-requires-clause-session g t c = worth-day c.args.world.no
 pub finish_value-value_now-requires-clause-premises : goal.finish_value-value_now-requires-clause-premises
 finish_value-value_now-requires-clause-premises g t c =
     let w = c.args.world.now in
-    told-now w c.args.checked.now c.args.term c.args.walk.now c.finish_premises.new.walk (own_facts w c.args.checked.now c.args.term (sid_at w.assets.now c.in-Some.col) c.args.session) c.requires.stands c.in_ok-finish_premises.ensures.finished
+    stated-now w c.args.checked.now c.args.term c.args.walk.now c.finish_premises.new.walk (own_facts w c.args.checked.now c.args.term (sid_at w.assets.now c.in-Some.col) c.args.session) c.requires.stands c.in_ok-finish_premises.ensures.finished
 
 pub finish_value-day-requires : goal.finish_value-day-requires
 finish_value-day-requires g t c = worth-day c.args.world.now c.args.checked.now c.requires.stands.table.ready.checked c.args.term c.args.sid c.args.session c.requires.fact
+
+pub finish_value-known_day-requires-clause-term : goal.finish_value-known_day-requires-clause-term
+finish_value-known_day-requires-clause-term g t c = worth-within c.args.world.now c.args.checked.now c.requires.stands.table.ready.checked c.args.term c.args.sid c.args.session c.requires.fact
+
+pub finish_value-known_day-requires-clause-session : goal.finish_value-known_day-requires-clause-session
+finish_value-known_day-requires-clause-session g t c = worth-day c.args.world.now c.args.checked.now c.requires.stands.table.ready.checked c.args.term c.args.sid c.args.session c.requires.fact
 
 pub finish_value-returns : goal.finish_value-returns
 finish_value-returns g t c =
@@ -146,12 +152,12 @@ finish_value-returns g t c =
     let a = c.args.sid in
     let s = c.args.session in
     let walk = c.args.walk.now in
-    let f = Worth t0 a (pos s) in
+    let f = TermValue t0 a (pos s) in
     let place = c.in-Some.ensures.some in
     let before = c.finish_premises.new.walk in
     let mid = c.value_now.new.walk in
     let first : Finishes w p (t0 + 1) walk before (own_facts w p t0 a s) = subst (λ b. Finishes w p (t0 + 1) walk before (own_facts w p t0 b s)) place.sid_is c.in_ok-finish_premises.ensures.finished in
-    let behind = other-finished w p before mid c.in_ok-value.ensures.told c.in_ok-value.ensures.lines (t0 + 1) walk (own_facts w p t0 a s) first in
+    let behind = other-finished w p before mid c.in_ok-value.ensures.stated c.in_ok-value.ensures.lines (t0 + 1) walk (own_facts w p t0 a s) first in
     let day = c.day.result in
     let x = c.in_ok-value.value in
     let fits_day : FitsSigned w32 c.day.result = search rules in
@@ -162,9 +168,12 @@ finish_value-returns g t c =
     let date : IsDay day = c.day.ensures.date in
     let small_term : t0 < 2 ^ 32 = omega (arith, c.ranges.term.fits) in
     let small : a < 2 ^ 32 = omega (arith, c.ranges.sid.fits) in
-    let stands = other-stands w p before mid c.in_ok-value.ensures.told c.in_ok-value.ensures.lines c.in_ok-finish_premises.ensures.stands c.in_ok-value.ensures.rows in
-    put-walked w p (t0 + 1) f walk mid c.put.new.walk c.requires.fresh behind (line.Value t0 a day x) x (value-line w p t0 a s day x at value) (t0 + 2) (omega arith) c.put.result c.requires.stands stands
-    (small_term, small, date, cell) value cell c.requires.fact.0 (simp to_z-of_z at c.put.ensures)
+    let known = c.known_day.result in
+    let since : known ≡ known_day (world_of w) (pipeline_of p) f = c.known_day.ensures.exact ∙ ap (λ b. known_day (world_of w) (pipeline_of p) (TermValue t0 b (pos s))) place.sid_is in
+    let said = line.Value (record { term = t0; sid = a; day = day; value = x; known = known }) in
+    let stands = other-stands w p before mid c.in_ok-value.ensures.stated c.in_ok-value.ensures.lines c.in_ok-finish_premises.ensures.stands c.in_ok-value.ensures.rows in
+    put-walked w p (t0 + 1) f walk mid c.put.new.walk c.requires.fresh behind said x (value-line w p t0 a s day x known at value since) (t0 + 2) (omega arith) c.put.result c.requires.stands stands
+    (small_term, small, date, cell, c.known_day.ensures.day) value cell c.requires.fact.0 (simp to_z-of_z at c.put.ensures)
 
 -- ---- the premises
 
@@ -221,7 +230,7 @@ finish_premises-finish_kind-requires g t c =
     let there = sym c.exists.ensures.value ∙ c.if-not-exists.false in
     let read = mask-is n.mask c.args.session c.sid.result a c.deref.result.now c.in_ok-mask.mask.items c.deref.ensures.value c.in_ok-mask.ensures (sid-of w.assets.now c.args.col c.sid.result c.sid.ensures) in
     let facts : Each (CanStandIn w c.args.checked.now (c.args.t.0 + 1)) (facts_read w c.args.checked.now c.args.t.0 a c.args.session) = facts-stand c.requires.stands c.args.t.0 n c.node_in-node.ensures a c.args.session there (map fact_of c.deref.result.now) read
-    c.finish_all.new.walk c.in_ok-finish_all.ensures.finished c.mask_told.result c.mask_told.ensures (c.in-Some-true.is ∙ ap Some c.in-Some-true.field-0-test) c.requires.fact in
+    c.finish_all.new.walk c.in_ok-finish_all.ensures.finished c.mask_stated.result c.mask_stated.ensures (c.in-Some-true.is ∙ ap Some c.in-Some-true.field-0-test) c.requires.fact in
     let smaller : 8 * (c.args.t.0 + 2) + 1 < 8 * (c.args.t.0 + 2) + 2 = omega arith in
     search rules
 
@@ -233,7 +242,7 @@ finish_premises-returns-in-Some-true g t c =
     let there = sym c.exists.ensures.value ∙ c.if-not-exists.false in
     let read = mask-is n.mask c.args.session c.sid.result a c.deref.result.now c.in_ok-mask.mask.items c.deref.ensures.value c.in_ok-mask.ensures (sid-of w.assets.now c.args.col c.sid.result c.sid.ensures) in
     passed-walked c.requires.stands c.args.t.0 n c.node_in-node.ensures a c.args.session there (map fact_of c.deref.result.now) read
-    c.finish_all.new.walk c.in_ok-finish_all.ensures.finished c.mask_told.result c.mask_told.ensures (c.in-Some-true.is ∙ ap Some c.in-Some-true.field-0-test) c.finish_kind.new.walk c.finish_kind.result c.finish_kind.ensures
+    c.finish_all.new.walk c.in_ok-finish_all.ensures.finished c.mask_stated.result c.mask_stated.ensures (c.in-Some-true.is ∙ ap Some c.in-Some-true.field-0-test) c.finish_kind.new.walk c.finish_kind.result c.finish_kind.ensures
 
 pub finish_premises-returns-in-Some-false : goal.finish_premises-returns-in-Some-false
 finish_premises-returns-in-Some-false g t c =
@@ -245,7 +254,7 @@ finish_premises-returns-in-Some-false g t c =
     record {
       stands = c.in_ok-finish_all.ensures.stands;
       finished = stopped-finished c.requires.stands c.args.t.0 n c.node_in-node.ensures a c.args.session there (map fact_of c.deref.result.now) read
-          c.finish_all.new.walk c.in_ok-finish_all.ensures.finished c.mask_told.result c.mask_told.ensures (c.in-Some-false.is ∙ ap Some c.in-Some-false.field-0-test);
+          c.finish_all.new.walk c.in_ok-finish_all.ensures.finished c.mask_stated.result c.mask_stated.ensures (c.in-Some-false.is ∙ ap Some c.in-Some-false.field-0-test);
       long = tt;
     }
 
@@ -257,7 +266,7 @@ finish_premises-unreachable-requires g t c =
     let there = sym c.exists.ensures.value ∙ c.if-not-exists.false in
     let read = mask-is n.mask c.args.session c.sid.result a c.deref.result.now c.in_ok-mask.mask.items c.deref.ensures.value c.in_ok-mask.ensures (sid-of w.assets.now c.args.col c.sid.result c.sid.ensures) in
     mask-known c.requires.stands c.args.t.0 n c.node_in-node.ensures a c.args.session there (map fact_of c.deref.result.now) read
-    c.finish_all.new.walk c.in_ok-finish_all.ensures.finished c.mask_told.result c.mask_told.ensures c.in-None.is
+    c.finish_all.new.walk c.in_ok-finish_all.ensures.finished c.mask_stated.result c.mask_stated.ensures c.in-None.is
 
 -- ---- what the kind reads
 
@@ -271,7 +280,7 @@ finish_kind-returns-then-is_whole g t c =
     let a = sid_at w.assets.now c.args.col in
     record {
       stands = c.requires.stands;
-      finished = walk-told w p (c.args.t.0 + 1) c.args.walk.now (facts_read w p c.args.t.0 a c.args.session) (c.is_whole.ensures.stand c.if-is_whole.true a);
+      finished = walk-stated w p (c.args.t.0 + 1) c.args.walk.now (facts_read w p c.args.t.0 a c.args.session) (c.is_whole.ensures.stand c.if-is_whole.true a);
       long = tt;
     }
 

@@ -1,7 +1,7 @@
 use Rattle.std.proofs.Common.{◌+◌, ◌*◌, map, take}
 use Rattle.pl_derivation.specs.Walks.{depth_of}
 use Rattle.pl_explain.specs.Keys.{fact_of}
-use Rattle.pl_explain.specs.Walking.{StandsIn, Finishes}
+use Rattle.pl_explain.specs.Walking.{HoldsSoFar, Finishes}
 use Rattle.pl_explain.proofs.walk.+walk.Given as goal
 
 abbrev pub decreases-finish : goal.decreases-finish
@@ -22,6 +22,6 @@ decreases-finish_all g l = 8 * (l.t.0 + 1) + 7
 -- the facts that have been passed are finished
 abbrev pub invariant-finish_all-loop-fact : goal.invariant-finish_all-loop-fact
 invariant-finish_all-loop-fact g l = record {
-  stands : StandsIn l.world l.checked l.walk;
+  stands : HoldsSoFar l.world l.checked l.walk;
   finished : Finishes l.world l.checked (l.fn.t.0 + 1) l.fn.walk l.walk (map fact_of (take l.fact-index l.facts));
 }

@@ -3,13 +3,13 @@ use Rattle.std.proofs.lemmas.Result.{err_from_is_err_and}
 use Rattle.pl_spec.specs.Limits.{most_lines}
 use Rattle.pl_spec.specs.Parts.{sid_at}
 use Rattle.pl_terms.specs.Checked.{pipeline_of}
-use Rattle.pl_derivation.specs.Facts.Fact.{Worth}
+use Rattle.pl_derivation.specs.Facts.Fact.{TermValue}
 use Rattle.pl_derivation.specs.Laws.{IsDerivation}
 use Rattle.pl_derivation.specs.Walks.{derivation, facts_for}
 use Rattle.pl_world.specs.Worlds.{world_of}
 use Rattle.pl_world.proofs.Evaluated.{sid-of}
 use Rattle.pl_explain.specs.declared.walk.Walk.{Walk}
-use Rattle.pl_explain.specs.Walking.{CanStand, Finishes, IsTooLong}
+use Rattle.pl_explain.specs.Walking.{MayBeDerived, Finishes, IsTooLong}
 use Rattle.pl_explain.proofs.Standing.{stands-first, derived, derived-long}
 use Rattle.pl_explain.proofs.Finished.{asked-stands, asked-right}
 use Rattle.pl_explain.proofs.walk.explain_cell.Goals as goal
@@ -18,7 +18,7 @@ pub finish-requires-clause-stands : goal.finish-requires-clause-stands
 finish-requires-clause-stands g c =
     let w = c.args.world.now in
     let p = c.args.checked.now in
-    stands-first w p (record { told = c.new.result; rows = c.new-2.result; lines = c.new-3.result }) c.new.ensures c.new-2.ensures c.new-3.ensures.items c.parts_are_ready.ensures
+    stands-first w p (record { stated = c.new.result; rows = c.new-2.result; lines = c.new-3.result }) c.new.ensures c.new-2.ensures c.new-3.ensures.items c.parts_are_ready.ensures
 
 pub finish-requires-clause-fact : goal.finish-requires-clause-fact
 finish-requires-clause-fact g c =
@@ -27,7 +27,7 @@ finish-requires-clause-fact g c =
     let t0 = c.args.t.0 in
     let d = c.args.session in
     let same = sid-of w.assets.now c.args.col c.sid.result c.sid.ensures in
-    subst (λ a. CanStand w p (Worth t0 a (pos d))) (sym same) (asked-stands w p t0 c.args.col d c.requires.used c.requires.col c.requires.session c.requires.reach)
+    subst (λ a. MayBeDerived w p (TermValue t0 a (pos d))) (sym same) (asked-stands w p t0 c.args.col d c.requires.used c.requires.col c.requires.session c.requires.reach)
 
 pub returns-in_err-finish-clause-long : goal.returns-in_err-finish-clause-long
 returns-in_err-finish-clause-long g c =
@@ -36,13 +36,13 @@ returns-in_err-finish-clause-long g c =
     let t0 = c.args.t.0 in
     let d = c.args.session in
     let a = c.sid.result in
-    let walk : Walk = record { told = c.new.result; rows = c.new-2.result; lines = c.new-3.result } in
+    let walk : Walk = record { stated = c.new.result; rows = c.new-2.result; lines = c.new-3.result } in
     let same = sid-of w.assets.now c.args.col a c.sid.ensures in
     let deep : suc (suc t0) ≡ t0 + 2 = omega arith in
     let q = err_from_is_err_and c.from_residual.result c.from_residual.ensures.1 in
     rw (q.1, q.2) (λ e.
-    let long = subst (λ k. IsTooLong w p k walk (Worth t0 a (pos d) ∷ [])) deep (c.in_err-finish.ensures.long e) in
-    subst (λ b. most_lines < length (facts_for (world_of w) (pipeline_of p) (Worth t0 b (pos d)))) same
+    let long = subst (λ k. IsTooLong w p k walk (TermValue t0 a (pos d) ∷ [])) deep (c.in_err-finish.ensures.long e) in
+    subst (λ b. most_lines < length (facts_for (world_of w) (pipeline_of p) (TermValue t0 b (pos d)))) same
     (derived-long w p walk c.new.ensures c.new-2.ensures c.new-3.ensures.items t0 a d long))
 
 pub returns-clause-exact : goal.returns-clause-exact
@@ -52,10 +52,10 @@ returns-clause-exact g c =
     let t0 = c.args.t.0 in
     let d = c.args.session in
     let a = c.sid.result in
-    let walk : Walk = record { told = c.new.result; rows = c.new-2.result; lines = c.new-3.result } in
+    let walk : Walk = record { stated = c.new.result; rows = c.new-2.result; lines = c.new-3.result } in
     let same = sid-of w.assets.now c.args.col a c.sid.ensures in
     let deep : suc (suc t0) ≡ t0 + 2 = omega arith in
-    let done = subst (λ k. Finishes w p k walk c.finish.new.walk (Worth t0 a (pos d) ∷ [])) deep c.in_ok-finish.ensures.finished in
+    let done = subst (λ k. Finishes w p k walk c.finish.new.walk (TermValue t0 a (pos d) ∷ [])) deep c.in_ok-finish.ensures.finished in
     c.of.ensures ∙ derived w p walk c.new.ensures c.new-2.ensures c.new-3.ensures.items t0 a d c.finish.new.walk done
     ∙ ap (λ b. derivation (world_of w) (pipeline_of p) t0 b (pos d)) same
 
