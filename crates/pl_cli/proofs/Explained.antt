@@ -7,7 +7,7 @@ use Rattle.pl_spec.specs.Parts.{sid_at}
 use Rattle.pl_pipeline.specs.Table.{Pipeline}
 use Rattle.pl_derivation.specs.Lines.{Line}
 use Rattle.pl_derivation.specs.Texts as lines
-use Rattle.pl_derivation.specs.Facts.Fact.{Worth}
+use Rattle.pl_derivation.specs.Facts.Fact.{TermValue}
 use Rattle.pl_derivation.specs.Walks.{derivation, facts_for, line_for}
 use Rattle.pl_derivation.specs.declared.error.ExplainError.{ExplainError}
 use Rattle.pl_derivation.specs.declared.error.ExplainError.TheVariants as errors
@@ -45,7 +45,7 @@ loaded_lines l = derivation (owned_world l.world) (pipeline_of l.checked) l.cell
 
 -- how many facts they tell of
 abbrev pub loaded_count : LoadedCell → ℕ
-loaded_count l = length (facts_for (owned_world l.world) (pipeline_of l.checked) (Worth l.cell.term.0 (sid_at l.world.assets l.cell.col) (pos l.cell.session)))
+loaded_count l = length (facts_for (owned_world l.world) (pipeline_of l.checked) (TermValue l.cell.term.0 (sid_at l.world.assets l.cell.col) (pos l.cell.session)))
 
 module _ (q : ExplainRequest) (l : LoadedCell) (held : Contents) (h : IsCellHeld held q l) where
   sid-is : sid_at l.world.assets l.cell.col ≡ q.sid
@@ -54,20 +54,20 @@ module _ (q : ExplainRequest) (l : LoadedCell) (held : Contents) (h : IsCellHeld
   pub long-step : most_lines < loaded_count l → first_fault (lines_step (owned_world l.world) (pipeline_of l.checked) q ∷ []) ≡ Some (Passed limits.Derivation)
   long-step more =
       (too-long (owned_world l.world) (pipeline_of l.checked) q l.cell.term.0 l.cell.session h.term h.session
-      (subst (λ a. most_lines < length (facts_for (owned_world l.world) (pipeline_of l.checked) (Worth l.cell.term.0 a (pos l.cell.session)))) sid-is more))
+      (subst (λ a. most_lines < length (facts_for (owned_world l.world) (pipeline_of l.checked) (TermValue l.cell.term.0 a (pos l.cell.session)))) sid-is more))
 
   pub short-step : loaded_count l ≤ most_lines → first_fault (lines_step (owned_world l.world) (pipeline_of l.checked) q ∷ []) ≡ None
   short-step few =
       (short (owned_world l.world) (pipeline_of l.checked) q l.cell.term.0 l.cell.session h.term h.session
-      (subst (λ a. length (facts_for (owned_world l.world) (pipeline_of l.checked) (Worth l.cell.term.0 a (pos l.cell.session))) ≤ most_lines) sid-is few))
+      (subst (λ a. length (facts_for (owned_world l.world) (pipeline_of l.checked) (TermValue l.cell.term.0 a (pos l.cell.session))) ≤ most_lines) sid-is few))
 
 same-derivation : (w v : World) (r p : Pipeline) (t u a b d k : ℕ) → w ≡ v → r ≡ p → t ≡ u → a ≡ b → d ≡ k → derivation w r t a (pos d) ≡ derivation v p u b (pos k)
 same-derivation w v r p t u a b d k e f g h i =
     ap (λ x. derivation x r t a (pos d)) e ∙ ap (λ x. derivation v x t a (pos d)) f ∙ ap (λ x. derivation v p x a (pos d)) g
     ∙ ap (λ x. derivation v p u x (pos d)) h ∙ ap (λ x. derivation v p u b (pos x)) i
 
-same-count : (w v : World) (p : Pipeline) (t a b d : ℕ) → w ≡ v → a ≡ b → length (facts_for w p (Worth t a (pos d))) ≡ length (facts_for v p (Worth t b (pos d)))
-same-count w v p t a b d e h = ap (λ x. length (facts_for x p (Worth t a (pos d)))) e ∙ ap (λ x. length (facts_for v p (Worth t x (pos d)))) h
+same-count : (w v : World) (p : Pipeline) (t a b d : ℕ) → w ≡ v → a ≡ b → length (facts_for w p (TermValue t a (pos d))) ≡ length (facts_for v p (TermValue t b (pos d)))
+same-count w v p t a b d e h = ap (λ x. length (facts_for x p (TermValue t a (pos d)))) e ∙ ap (λ x. length (facts_for v p (TermValue t x (pos d)))) h
 
 module _ (v : lent.World) (o : OwnedWorld) (p : Pipeline) (t col d : ℕ) (same : world_of v ≡ owned_world o) (assets : v.assets.now ≡ o.assets) where
   pub lent-lines : (r : Result (List Line) ExplainError) → IfOk r (λ ls. ls ≡ derivation (world_of v) p t (sid_at v.assets.now col) (pos d))
@@ -75,8 +75,8 @@ module _ (v : lent.World) (o : OwnedWorld) (p : Pipeline) (t col d : ℕ) (same 
   lent-lines (Ok ls) h = h ∙ same-derivation (world_of v) (owned_world o) p p t t (sid_at v.assets.now col) (sid_at o.assets col) d d same refl refl (ap (λ xs. sid_at xs col) assets) refl
   lent-lines (Err e) h = tt
 
-  pub lent-count : (r : Result (List Line) ExplainError) → IfErr r (λ e. e ≡ errors.TooLong → most_lines < length (facts_for (world_of v) p (Worth t (sid_at v.assets.now col) (pos d))))
-      → IfErr r (λ e. e ≡ errors.TooLong → most_lines < length (facts_for (owned_world o) p (Worth t (sid_at o.assets col) (pos d))))
+  pub lent-count : (r : Result (List Line) ExplainError) → IfErr r (λ e. e ≡ errors.TooLong → most_lines < length (facts_for (world_of v) p (TermValue t (sid_at v.assets.now col) (pos d))))
+      → IfErr r (λ e. e ≡ errors.TooLong → most_lines < length (facts_for (owned_world o) p (TermValue t (sid_at o.assets col) (pos d))))
   lent-count (Ok ls) h = tt
   lent-count (Err e) h = λ is. subst (λ n. most_lines < n)
       (same-count (world_of v) (owned_world o) p t (sid_at v.assets.now col) (sid_at o.assets col) d same (ap (λ xs. sid_at xs col) assets)) (h is)
@@ -98,7 +98,7 @@ pub few-lines : (l : LoadedCell) (ls : List Line) → ls ≡ loaded_lines l → 
 few-lines l ls e few =
     let w = owned_world l.world in
     let p = pipeline_of l.checked in
-    let facts = facts_for w p (Worth l.cell.term.0 (sid_at l.world.assets l.cell.col) (pos l.cell.session)) in
+    let facts = facts_for w p (TermValue l.cell.term.0 (sid_at l.world.assets l.cell.col) (pos l.cell.session)) in
     subst (λ n. n ≤ most_lines) (ap length e ∙ length-map facts (line_for w p)) few
 
 -- ---- the ends

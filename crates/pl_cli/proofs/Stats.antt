@@ -9,18 +9,19 @@ use Rattle.pl_planner.specs.Plans.{Planned, IsPlanOf}
 use Rattle.pl_runner.specs.declared.run.RunReport.{RunReport}
 use Rattle.pl_runner.specs.Runs.{IsReport, run_steps}
 use Rattle.pl_world.specs.Present.{has_numbers, present_numbers}
-use Rattle.pl_cli.specs.Texts.{told_line, table_stats, present_in}
+use Rattle.pl_table.specs.Numbers.{stats_line}
+use Rattle.pl_cli.specs.Texts.{table_stats, present_in}
 
 line-is : (w : World) (p : Pipeline) (plan : Planned) (size most : ℕ) (report : RunReport) (present : Option ℕ) → IsReport w p plan size report
     → most ≡ bound p.graph (outputs p)
-    → told_line report.rows report.cells report.peak most report.applied present ≡ table_stats w p (table w p plan.from plan.to) (run_steps w p plan size) present
+    → stats_line report.rows report.cells report.peak most report.applied present ≡ table_stats w p (table w p plan.from plan.to) (run_steps w p plan size) present
 line-is w p plan size most report present r e =
     let sum : report.cells ≡ unsigned_abs (cells w.texts (table w p plan.from plan.to)) = ap unsigned_abs r.cells in
     rw (r.rows, sum, r.peak, e, r.applied) refl
 
 pub stats-are : (asked : Bool) (w : World) (p : Pipeline) (plan : Planned) (size most : ℕ) (report : RunReport) (present : Option ℕ) → IsReport w p plan size report
     → IsPlanOf w.days p plan → most ≡ plan.bound
-    → cond asked (told_line report.rows report.cells report.peak most report.applied present) []
+    → cond asked (stats_line report.rows report.cells report.peak most report.applied present) []
     ≡ cond asked (table_stats w p (table w p plan.from plan.to) (run_steps w p plan size) present) []
 stats-are asked w p plan size most report present r is e =
     ap (λ l. cond asked l []) (line-is w p plan size most report present r (e ∙ is.held))
@@ -34,5 +35,5 @@ present-some w p from to count some e t h =
 
 -- the line, where it is asked for
 pub told-when : (asked : Bool) (rows sum peak most bound applied : ℕ) (present known : Option ℕ) → asked ≡ true → most ≡ bound → present ≡ known
-    → told_line rows sum peak most applied present ≡ cond asked (told_line rows sum peak bound applied known) []
+    → stats_line rows sum peak most applied present ≡ cond asked (stats_line rows sum peak bound applied known) []
 told-when asked rows sum peak most bound applied present known t e h = rw (t, e, h) refl

@@ -21,7 +21,8 @@ use Rattle.pl_world.specs.Worlds.{owned_world}
 use Rattle.pl_runner.specs.Runs.{run_steps}
 use Rattle.pl_feed.specs.Feeds.{daily_steps}
 use Rattle.pl_cli.specs.declared.commands.Stats.{Stats}
-use Rattle.pl_cli.specs.Texts.{text_of, told_line, table_stats, present_in, TakesSteps, TellsNumbers}
+use Rattle.pl_table.specs.Numbers.{stats_line}
+use Rattle.pl_cli.specs.Texts.{text_of, table_stats, present_in, TakesSteps, TellsNumbers}
 use Rattle.pl_cli.specs.Runs.{Observed, HasRoom}
 
 -- the table of what was loaded, its steps in chunks of so many sessions, and the line of its numbers where it
@@ -52,7 +53,7 @@ loaded_days l = daily_steps (owned_world l.world) (pipeline_of l.checked) l.plan
 -- the line of the numbers that a command gives
 abbrev pub stats_told : Option Stats → List ℕ
 stats_told None = []
-stats_told (Some s) = told_line s.numbers.rows s.numbers.cells s.numbers.peak s.numbers.bound s.applied s.present
+stats_told (Some s) = stats_line s.numbers.rows s.numbers.cells s.numbers.peak s.numbers.bound s.applied s.present
 
 abbrev pub numbers_told : Result (Option Stats) Fault → List ℕ
 numbers_told (Ok stats) = stats_told stats

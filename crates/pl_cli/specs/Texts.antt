@@ -24,7 +24,7 @@ use Rattle.pl_judge.specs.Cells.{term_asked}
 use Rattle.pl_judge.specs.Contents.{Contents}
 use Rattle.pl_judge.specs.Held.{script_in, pipeline_in, pipeline_held, days_held, assets_held, bars_held, payouts_held, derivation_held, world_held}
 use Rattle.pl_judge.specs.Known.{world_known}
-use Rattle.pl_table.specs.Numbers.{numbers_text, stats_line}
+use Rattle.pl_table.specs.Numbers.{stats_line}
 use Rattle.pl_judge.specs.Planning.{extra_of, reach_at}
 use Rattle.pl_judge.specs.Range.{index_of}
 
@@ -93,14 +93,6 @@ TakesSteps held (Some (Daily q)) P =
     P (daily_steps (world_known held q) (pipeline_held held) (index_of (days_held held) q.to.day))
 TakesSteps held asked P = P 0
 
--- the line of the numbers of a table, which ends with how many numbers beside bars are present where there
--- may be some
-abbrev pub told_line : ℕ → ℕ → ℕ → ℕ → ℕ → Option ℕ → List ℕ
-told_line rows sum peak most applied None = stats_line rows sum peak most applied
-told_line rows sum peak most applied (Some present) =
-    numbers_text rows sum peak most ++ codes " applied=" ++ decimal applied ++ codes " numbers=" ++ decimal present
-    ++ 10 ∷ []
-
 -- how many cells of numbers beside bars are present on these sessions, where the pipeline uses numbers
 abbrev pub present_in : World → Pipeline → ℕ → ℕ → Option ℕ
 present_in w p from to = if has_numbers p then Some (present_numbers w p from to) else None
@@ -110,7 +102,7 @@ present_in w p from to = if has_numbers p then Some (present_numbers w p from to
 abbrev pub numbers_of : List (List ℕ) → Pipeline → List Row → ℕ → Option ℕ → List ℕ
 numbers_of texts p rows steps present =
     let most = bound p.graph (outputs p) in
-    told_line (length rows) (unsigned_abs (cells texts rows)) most most (cut steps) present
+    stats_line (length rows) (unsigned_abs (cells texts rows)) most most (cut steps) present
 
 abbrev pub table_stats : World → Pipeline → List Row → ℕ → Option ℕ → List ℕ
 table_stats w p rows steps present = numbers_of w.texts p rows steps present

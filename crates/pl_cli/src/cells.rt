@@ -3,7 +3,7 @@
 ghost use Rattle.std.specs.Prelude.{◌≡◌, ◌<◌, ◌≤◌, ℕ, length, pos, Some, Ok, IfOk, IfErr};
 ghost use Rattle.pl_spec.specs.Limits.{most_lines};
 ghost use Rattle.pl_spec.specs.Parts.{sid_at};
-ghost use Rattle.pl_derivation.specs.Facts.Fact.{Worth};
+ghost use Rattle.pl_derivation.specs.Facts.Fact.{TermValue};
 ghost use Rattle.pl_derivation.specs.Walks.{derivation, facts_for};
 ghost use Rattle.pl_derivation.specs.declared.error.ExplainError.TheVariants.{TooLong};
 ghost use Rattle.pl_world.specs.Worlds.{owned_world};
@@ -79,7 +79,7 @@ fn lines_of<L: Ledger>(
         (sid_at loaded.now.world.assets loaded.now.cell.col) (pos loaded.now.cell.session)) }
     ensures few { IfOk result (λ lines. length lines ≤ most_lines) }
     ensures long { IfErr result (λ error. error ≡ TooLong → most_lines < length (facts_for
-        (owned_world loaded.now.world) (pipeline_of loaded.now.checked) (Worth loaded.now.cell.term.0
+        (owned_world loaded.now.world) (pipeline_of loaded.now.checked) (TermValue loaded.now.cell.term.0
         (sid_at loaded.now.world.assets loaded.now.cell.col) (pos loaded.now.cell.session)))) }
 {
     let mut steps = Steps::<L>::new(blank);

@@ -7,7 +7,8 @@ ghost use Rattle.pl_words.specs.Views.{run_of, plan_of};
 ghost use Rattle.pl_load.specs.Views.{KeeperView, change, unchanged, shelf_change, keeper_change};
 ghost use Rattle.pl_load.specs.Loads.{IsReady};
 ghost use Rattle.pl_terms.specs.Checked.{pipeline_of};
-ghost use Rattle.pl_cli.specs.Texts.{check_text, told_line};
+ghost use Rattle.pl_table.specs.Numbers.{stats_line};
+ghost use Rattle.pl_cli.specs.Texts.{check_text};
 ghost use Rattle.pl_cli.specs.Commands.{IsAnswered, sink_change, loaded_text, loaded_present, loaded_steps, loaded_stats, stats_told};
 
 use crate::present::present_of;
@@ -96,7 +97,7 @@ fn write_loaded<O: Sink, L: Ledger>(
 fn stats_of(asked: bool, report: &RunReport, loaded: &Loaded) -> Option<Stats>
     requires ready { IsReady loaded.now }
     ensures { stats_told result
-        ≡ (if asked then told_line report.now.rows report.now.cells report.now.peak loaded.now.plan.bound
+        ≡ (if asked then stats_line report.now.rows report.now.cells report.now.peak loaded.now.plan.bound
         report.now.applied (loaded_present loaded.now) else []) }
 {
     if !asked {

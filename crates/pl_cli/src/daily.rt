@@ -16,6 +16,7 @@ use pl_load::{Loaded, load};
 use pl_outside::{AdjustKeeper, Shelf, Sink};
 use pl_runner::RunError;
 use pl_spec::Format;
+use pl_table::Asked;
 use pl_words::RunRequest;
 use std::alloc::Global;
 use std::sync::ledger::Ledger;
@@ -57,15 +58,13 @@ fn write_days<O: Sink, L: Ledger>(
     ensures most { steps.new ≤ steps.old + loaded_days loaded.now }
 {
     let world = loaded.world.world();
-    match run_daily(
-        alloc,
-        &world,
-        &loaded.checked,
-        &loaded.plan,
+    let asked = Asked {
+        world,
+        checked: &loaded.checked,
+        plan: &loaded.plan,
         format,
-        out,
-        steps,
-    ) {
+    };
+    match run_daily(alloc, &asked, out, steps) {
         Ok(_) => Ok(None),
         Err(RunError::Memory) => Err(Fault::Memory),
         Err(RunError::WriteFault) => Err(Fault::Unwritten),

@@ -16,11 +16,11 @@ use crate::commands::{Stats, check_command, fmt_command, plan_command, run_comma
 use crate::daily::daily_command;
 use crate::derivations::verify_command;
 use crate::payouts::payouts_command;
-use crate::present::write_told;
 use crate::stated::bench_command;
 use pl_fixed::Steps;
 use pl_judge::{Fault, write_line};
 use pl_outside::{AdjustKeeper, Shelf, Sink};
+use pl_table::write_stats;
 use pl_words::{Request, read_words};
 use std::alloc::Global;
 use std::sync::ledger::Ledger;
@@ -154,7 +154,7 @@ fn finish<E: Sink>(
     match ended {
         Ok(None) => 0,
         Ok(Some(stats)) => {
-            let _ = write_told(err, stats);
+            let _ = write_stats(err, stats.numbers, stats.applied, stats.present);
             0
         }
         Err(fault) => {

@@ -23,7 +23,7 @@ use Rattle.pl_bars.specs.Bars.{cell_at, cell_of, is_at}
 use Rattle.pl_bars.proofs.BarWorlds.{cells_raw}
 use Rattle.pl_adjust.specs.Columns.{events_at}
 use Rattle.pl_world.specs.declared.world.World.{World}
-use Rattle.pl_world.specs.Worlds.{world_of}
+use Rattle.pl_world.specs.Worlds.{AreSound, world_of}
 use Rattle.pl_rings.specs.Days.{adjustments_of, bar_row, bars_of, days_of, fed}
 use Rattle.pl_rings.proofs.Fed.{find-miss, or-none, parts_fit, sessions_below}
 use Rattle.pl_rings.proofs.Moves.{events_at-append}
@@ -31,7 +31,7 @@ use Rattle.pl_rings.proofs.PartsWorld.{events_by-at}
 use Rattle.pl_feed.specs.Days.{bar_at, col_due, day_at, events_due, fed_day, fed_days, fed_world, start_of_world}
 use Rattle.pl_feed.proofs.Lists.{find-range}
 use Rattle.pl_feed.proofs.Merges.{known-split, inside}
-use Rattle.pl_feed.proofs.Following.{AreSound, are_fed, days-are, events-up, many, start}
+use Rattle.pl_feed.proofs.Following.{are_fed, days-are, events-up, many, start}
 
 -- ---- sids
 
@@ -105,8 +105,8 @@ module _ (w : World) (sound : AreSound w) where
   abbrev own_days : List ℤ
   own_days = w.sessions.now
 
-  abbrev told : List ColumnAdjustment
-  told = w.adjustments.now
+  abbrev changes : List ColumnAdjustment
+  changes = w.adjustments.now
 
   -- ---- bars
 
@@ -133,15 +133,15 @@ module _ (w : World) (sound : AreSound w) where
 
   -- ---- adjustments
 
-  fed-events : (n : ℕ) → n < length own_days → (col : ℕ) → col < count → events_at (adjustments_of (fed_days w (suc n))) col ≡ filter (is_known (day_at own_days n)) (events_at told col)
-  fed-events zero m col h = inside (λ k. col_due own_days told 0 k) col 0 count (omega arith) (omega arith)
+  fed-events : (n : ℕ) → n < length own_days → (col : ℕ) → col < count → events_at (adjustments_of (fed_days w (suc n))) col ≡ filter (is_known (day_at own_days n)) (events_at changes col)
+  fed-events zero m col h = inside (λ k. col_due own_days changes 0 k) col 0 count (omega arith) (omega arith)
   fed-events (suc n) m col h =
       let rise : day_at own_days n <ℤ day_at own_days (suc n) = sound.days.ascend n (suc n) (pos 0) (omega arith) m in
       let up : day_at own_days n ≤ℤ day_at own_days (suc n) = omega (arith, ints) in
-      events_at-append (adjustments_of (fed_days w (suc n))) (events_due own_days told count (suc n)) col
-      ∙ ap (λ (es : List Event). es ++ events_at (events_due own_days told count (suc n)) col) (fed-events n (omega arith) col h)
-      ∙ ap (λ (es : List Event). filter (is_known (day_at own_days n)) (events_at told col) ++ es) (inside (λ k. col_due own_days told (suc n) k) col 0 count (omega arith) (omega arith))
-      ∙ sym (known-split (day_at own_days n) (day_at own_days (suc n)) up (events_at told col) (events-up told sound.in_order col))
+      events_at-append (adjustments_of (fed_days w (suc n))) (events_due own_days changes count (suc n)) col
+      ∙ ap (λ (es : List Event). es ++ events_at (events_due own_days changes count (suc n)) col) (fed-events n (omega arith) col h)
+      ∙ ap (λ (es : List Event). filter (is_known (day_at own_days n)) (events_at changes col) ++ es) (inside (λ k. col_due own_days changes (suc n) k) col 0 count (omega arith) (omega arith))
+      ∙ sym (known-split (day_at own_days n) (day_at own_days (suc n)) up (events_at changes col) (events-up changes sound.in_order col))
 
   -- ---- all together
 
@@ -172,12 +172,12 @@ module _ (w : World) (sound : AreSound w) where
     unfolding fed
     same-events a = elim (of_column w.assets.now a) [
       | inr none ↦ ap (filter (is_known (day_at own_days n)))
-          (no-events w.assets.now (adjustments_of (fed_days w (suc n))) a fits.adjustments_in none ∙ sym (no-events w.assets.now told a sound.made.adjustments_in none))
+          (no-events w.assets.now (adjustments_of (fed_days w (suc n))) a fits.adjustments_in none ∙ sym (no-events w.assets.now changes a sound.made.adjustments_in none))
       | inl at ↦ (
           let fed_is = events_by-at w.assets.now (adjustments_of (fed_days w (suc n))) sound.assets.ascend fits.adjustments_in at.0 at.1 in
-          let own_is = events_by-at w.assets.now told sound.assets.ascend sound.made.adjustments_in at.0 at.1 in
+          let own_is = events_by-at w.assets.now changes sound.assets.ascend sound.made.adjustments_in at.0 at.1 in
           rw (← at.2) (ap (filter (is_known (day_at own_days n))) (fed_is ∙ fed-events n inside_days at.0 at.1)
-          ∙ filter-filter (is_known (day_at own_days n)) (is_known (day_at own_days n)) (λ e p. p) (events_at told at.0)
+          ∙ filter-filter (is_known (day_at own_days n)) (is_known (day_at own_days n)) (λ e p. p) (events_at changes at.0)
           ∙ ap (filter (is_known (day_at own_days n))) (sym own_is)))
     ]
 

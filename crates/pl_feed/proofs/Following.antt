@@ -12,29 +12,18 @@ use Rattle.pl_spec.specs.Rounding.{IsCell}
 use Rattle.pl_spec.specs.World.{Event}
 use Rattle.pl_spec.proofs.Ranges.{range-rises}
 use Rattle.pl_spec.proofs.Lists.{no-pairs}
-use Rattle.pl_calendar.specs.Days.{AreDays}
-use Rattle.pl_lifetimes.specs.Assets.{AreAssets}
-use Rattle.pl_bars.specs.Bars.{AreBars, cell_at}
+use Rattle.pl_bars.specs.Bars.{cell_at}
 use Rattle.pl_bars.proofs.BarSearch.{cell_at-IsCell}
 use Rattle.pl_adjust.specs.Columns.{StandByDay, events_at}
 use Rattle.pl_adjust.specs.Events.{PutsCell}
 use Rattle.pl_adjust.proofs.Kept.{cells_at}
 use Rattle.pl_world.specs.declared.world.World.{World}
-use Rattle.pl_world.specs.Worlds.{IsMade}
+use Rattle.pl_world.specs.Worlds.{AreSound}
 use Rattle.pl_rings.specs.declared.day.DayBar.{DayBar}
 use Rattle.pl_rings.specs.Days.{IsStart, IsLaterThan, AreFed, MayFollow, days_of, last_day}
 use Rattle.pl_feed.specs.Feeds.{day_before, is_due}
 use Rattle.pl_feed.specs.Days.{bar_at, bars_due, col_due, day_at, events_due, fed_day, fed_days, in_col, start_of_world}
 use Rattle.pl_feed.proofs.Lists.{range-within, AllPairs-map, flat-all, flat-pairs}
-
--- what the parts of a world keep by themselves
-pub record AreSound (w : World) : Type 0 where
-  pub made : IsMade w
-  pub days : AreDays w.sessions.now
-  pub assets : AreAssets w.assets.now
-  pub bars : AreBars w.bars.now
-  pub in_order : StandByDay w.adjustments.now
-  pub puts : All (λ x. PutsCell x.event) w.adjustments.now
 
 due-by : (last : _) (day : ℤ) (e : Event) → is_due last day e ≡ true → e.day ≤ℤ day
 due-by None day e p = grind (arith, ints)
@@ -57,8 +46,8 @@ module _ (w : World) (sound : AreSound w) where
   abbrev own_days : List ℤ
   own_days = w.sessions.now
 
-  abbrev told : List ColumnAdjustment
-  told = w.adjustments.now
+  abbrev changes : List ColumnAdjustment
+  changes = w.adjustments.now
 
   pub start : IsStart (start_of_world w)
   start = record { sids_ascend = sound.assets.ascend; labels_in = sound.made.labels_in; numbers_in = sound.made.numbers_in }
@@ -97,23 +86,23 @@ module _ (w : World) (sound : AreSound w) where
           (All-cons IsCell e [] (cell_at-IsCell w.bars.now col Volume s sound.bars) (All-nil IsCell)))))
 
   abbrev own : ℕ → ℕ → List Event
-  own s col = col_due own_days told s col
+  own s col = col_due own_days changes s col
 
   -- what is true of each event of each column
-  all-due : (P : ColumnAdjustment → Type 0) (s : ℕ) → ((k : ℕ) → k < count → All (λ e. P (in_col k e)) (own s k)) → All P (events_due own_days told count s)
+  all-due : (P : ColumnAdjustment → Type 0) (s : ℕ) → ((k : ℕ) → k < count → All (λ e. P (in_col k e)) (own s k)) → All P (events_due own_days changes count s)
   all-due P s h = flat-all P (λ col. map (in_col col) (own s col)) 0 count (λ k l m. All-map P (in_col k) (own s k) (h k (omega arith)))
 
   passes : (s k : ℕ) → All (λ e. is_due (day_before own_days s) (day_at own_days s) e ≡ true) (own s k)
-  passes s k = filter_passes (is_due (day_before own_days s) (day_at own_days s)) (events_at told k)
+  passes s k = filter_passes (is_due (day_before own_days s) (day_at own_days s)) (events_at changes k)
 
-  new-events : (s : ℕ) → All (λ x. IsLaterThan (last_day (fed_days w s)) x.event.day) (events_due own_days told count s)
+  new-events : (s : ℕ) → All (λ x. IsLaterThan (last_day (fed_days w s)) x.event.day) (events_due own_days changes count s)
   new-events zero = all-due (λ x. IsLaterThan (last_day (fed_days w 0)) x.event.day) zero (λ k h i d l. tt)
   new-events (suc s) = all-due (λ x. IsLaterThan (last_day (fed_days w (suc s))) x.event.day) (suc s) (λ k h i d l. due-later (day_at own_days s) (day_at own_days (suc s)) (get_or (own (suc s) k) i d) (passes (suc s) k i d l))
 
   abbrev InOrder : ColumnAdjustment → ColumnAdjustment → Type 0
   InOrder x y = x.col ≡ y.col → x.event.day ≤ℤ y.event.day
 
-  by-day : (s : ℕ) → AllPairs InOrder (events_due own_days told count s)
+  by-day : (s : ℕ) → AllPairs InOrder (events_due own_days changes count s)
   by-day s =
       flat-pairs InOrder (λ col. map (in_col col) (own s col)) 0 count
       (λ k. AllPairs-map InOrder (in_col k) (own s k) (λ i j d l m same. up k i j d l m))
@@ -121,7 +110,7 @@ module _ (w : World) (sound : AreSound w) where
       (λ i d l. All-map (InOrder (in_col j (get_or (own s j) i d))) (in_col k) (own s k) (λ i' d' l' same. absurd (omega (arith, less, same)))))
     where
       up : (k : ℕ) → AllPairs (λ (e f : Event). e.day ≤ℤ f.day) (own s k)
-      up k = AllPairs-filter (λ (e f : Event). e.day ≤ℤ f.day) (is_due (day_before own_days s) (day_at own_days s)) (events_at told k) (events-up told sound.in_order k)
+      up k = AllPairs-filter (λ (e f : Event). e.day ≤ℤ f.day) (is_due (day_before own_days s) (day_at own_days s)) (events_at changes k) (events-up changes sound.in_order k)
 
   first-none : (s : ℕ) → fed_days w s ≡ [] → bars_due w.bars.now count s ≡ []
   first-none zero e = refl
@@ -136,7 +125,7 @@ module _ (w : World) (sound : AreSound w) where
         bars_in = bars-in s;
         cells = bar-cells s;
         events_in = all-due (λ x. x.col < count) s (λ k l i d m. l);
-        put_cells = all-due (λ x. PutsCell x.event) s (λ k l. All-filter (is_due (day_before own_days s) (day_at own_days s)) PutsCell (events_at told k) (cells_at told k sound.puts));
+        put_cells = all-due (λ x. PutsCell x.event) s (λ k l. All-filter (is_due (day_before own_days s) (day_at own_days s)) PutsCell (events_at changes k) (cells_at changes k sound.puts));
         new = new-events s;
         due = all-due (λ x. x.event.day ≤ℤ day_at own_days s) s (λ k l i d m. due-by (day_before own_days s) (day_at own_days s) (get_or (own s k) i d) (passes s k i d m));
         by_day = by-day s;

@@ -5,4 +5,4 @@ pub mod Agrees
 pub mod Work
 pub mod Values
 pub mod Puts
-pub mod Turns
+pub mod Sessions

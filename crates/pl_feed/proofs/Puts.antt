@@ -63,24 +63,24 @@ event-more col old now adjusts i d x h is so_far =
     ∙ ap (map (in_col col)) (map-append event_of (take i adjusts) (get_or adjusts i d ∷ []))
     ∙ map-append (in_col col) (map event_of (take i adjusts)) (event_of (get_or adjusts i d) ∷ [])))
 
-module _ (days : List ℤ) (told : List ColumnAdjustment) (s : ℕ) where
+module _ (days : List ℤ) (changes : List ColumnAdjustment) (s : ℕ) where
   abbrev pub due_below : ℕ → List ColumnAdjustment
-  due_below n = events_due days told n s
+  due_below n = events_due days changes n s
 
-  pub due-more : (n : ℕ) → due_below (n + 1) ≡ due_below n ++ map (in_col n) (col_due days told s n)
+  pub due-more : (n : ℕ) → due_below (n + 1) ≡ due_below n ++ map (in_col n) (col_due days changes s n)
   due-more n =
-      let f : ℕ → List ColumnAdjustment = λ col. map (in_col col) (col_due days told s col) in
+      let f : ℕ → List ColumnAdjustment = λ col. map (in_col col) (col_due days changes s col) in
       ap (flat_map f) (range-next n) ∙ flat_map-append f (range_with_len 0 n) (n ∷ []) ∙ ap (λ (l : List ColumnAdjustment). flat_map f (range_with_len 0 n) ++ l) (append-nil (f n))
 
-  pub due-few : (n : ℕ) → length (due_below n) ≤ length told
+  pub due-few : (n : ℕ) → length (due_below n) ≤ length changes
   due-few n =
-      let f : ℕ → List ColumnAdjustment = λ col. map (in_col col) (col_due days told s col) in
+      let f : ℕ → List ColumnAdjustment = λ col. map (in_col col) (col_due days changes s col) in
       let long = length-flat_map f (range_with_len 0 n) in
-      let few = sum-le (λ k. length (f k)) (λ k. length (filter (λ (x : ColumnAdjustment). x.col == k) told)) 0 n
-      (λ k. omega (arith, length-map (col_due days told s k) (in_col k), filter-few (is_due (day_before days s) (day_at days s)) (events_at told k), length-map (filter (λ (x : ColumnAdjustment). x.col == k) told) (λ x. x.event))) in
-      omega (arith, long, few, counted-once (λ (x : ColumnAdjustment). x.col) told 0 n)
+      let few = sum-le (λ k. length (f k)) (λ k. length (filter (λ (x : ColumnAdjustment). x.col == k) changes)) 0 n
+      (λ k. omega (arith, length-map (col_due days changes s k) (in_col k), filter-few (is_due (day_before days s) (day_at days s)) (events_at changes k), length-map (filter (λ (x : ColumnAdjustment). x.col == k) changes) (λ x. x.event))) in
+      omega (arith, long, few, counted-once (λ (x : ColumnAdjustment). x.col) changes 0 n)
 
   -- the events of one column more
-  pub due-longer : (n : ℕ) (adjusts : List Adjust) → map event_of adjusts ≡ col_due days told s n → length (due_below (n + 1)) ≡ length (due_below n) + length adjusts
+  pub due-longer : (n : ℕ) (adjusts : List Adjust) → map event_of adjusts ≡ col_due days changes s n → length (due_below (n + 1)) ≡ length (due_below n) + length adjusts
   due-longer n adjusts is =
-      omega (arith, ap length (due-more n), length-append (due_below n) (map (in_col n) (col_due days told s n)), length-map (col_due days told s n) (in_col n), ap length is, length-map adjusts event_of)
+      omega (arith, ap length (due-more n), length-append (due_below n) (map (in_col n) (col_due days changes s n)), length-map (col_due days changes s n) (in_col n), ap length is, length-map adjusts event_of)

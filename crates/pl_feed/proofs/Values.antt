@@ -24,19 +24,19 @@ use Rattle.pl_laws.proofs.Law.{agree-seen, values_agree}
 use Rattle.pl_laws.proofs.Lows.{reach-rises}
 use Rattle.pl_laws.proofs.TableLaw.{rows_same}
 use Rattle.pl_world.specs.declared.world.World.{World}
-use Rattle.pl_world.specs.Worlds.{world_of}
+use Rattle.pl_world.specs.Worlds.{AreSound, world_of}
 use Rattle.pl_terms.specs.Uses.{outputs}
 use Rattle.pl_planner.specs.Plans.{Planned, IsPlanOf}
 use Rattle.pl_table.specs.Outcomes.{lines, rows_of_sessions}
 use Rattle.pl_table.proofs.SessionRows.{sessions-next, sessions-end}
-use Rattle.pl_feed.specs.Mornings.{asked_rows}
+use Rattle.pl_feed.specs.Sessions.{rows_in_range}
 use Rattle.pl_rings.specs.Days.{days_of, fed, last_session}
 use Rattle.pl_rings.proofs.Fed.{fed_is_a_world}
 use Rattle.pl_assets.specs.Labels.{LabelTable}
 use Rattle.pl_daily.specs.Daily.{Held}
 use Rattle.pl_daily.specs.Terms.{start_of}
 use Rattle.pl_feed.specs.Days.{IsFed, day_at, fed_days, fed_world, start_of_world}
-use Rattle.pl_feed.proofs.Following.{AreSound, are_fed, days-are, many, start}
+use Rattle.pl_feed.proofs.Following.{are_fed, days-are, many, start}
 use Rattle.pl_feed.proofs.Agrees.{agree}
 
 -- ---- reaches
@@ -153,7 +153,7 @@ left-all w p from to =
     let count : to + 1 - from ≡ suc to - from = omega arith in
     ap (λ (s : ℕ). rows_of_sessions w p s (to + 1 - s)) first ∙ ap (rows_of_sessions w p from) count
 
-pub left-next : (w : worlds.World) (p : Pipeline) (from to s : ℕ) → s ≤ to → rows_left w p from to s ≡ asked_rows w p from s ++ rows_left w p from to (s + 1)
+pub left-next : (w : worlds.World) (p : Pipeline) (from to s : ℕ) → s ≤ to → rows_left w p from to s ≡ rows_in_range w p from s ++ rows_left w p from to (s + 1)
 left-next w p from to s h = elim (cases_lt s from) [
   | inl early ↦ (
       let t : nat_le from s ≡ false = grind (arith, nat_tests) in
@@ -173,10 +173,10 @@ left-none w p from to s h l =
     let now : max from s ≡ s = omega arith in
     ap (λ (n : ℕ). rows_of_sessions w p n (to + 1 - n)) now ∙ sessions-end w p s to l
 
-pub asked-rows : (w : worlds.World) (p : Pipeline) (from s : ℕ) → from ≤ s → session_rows w p (pos s) ≡ asked_rows w p from s
-asked-rows w p from s h = let t : nat_le from s ≡ true = grind (arith, nat_tests) in rw t refl
+pub range-rows : (w : worlds.World) (p : Pipeline) (from s : ℕ) → from ≤ s → session_rows w p (pos s) ≡ rows_in_range w p from s
+range-rows w p from s h = let t : nat_le from s ≡ true = grind (arith, nat_tests) in rw t refl
 
-pub no-rows : (w : worlds.World) (p : Pipeline) (from s : ℕ) → (from ≤ s → ⊥) → [] ≡ asked_rows w p from s
+pub no-rows : (w : worlds.World) (p : Pipeline) (from s : ℕ) → (from ≤ s → ⊥) → [] ≡ rows_in_range w p from s
 no-rows w p from s h = elim (cases_lt s from) [
   | inl early ↦ (let t : nat_le from s ≡ false = grind (arith, nat_tests) in rw t refl)
   | inr not_early ↦ absurd (h (omega arith))

@@ -11,7 +11,7 @@ use Rattle.pl_spec.specs.World.{Event}
 use Rattle.pl_spec.proofs.Ranges.{range-next, range-split}
 use Rattle.pl_spec.proofs.Columns.{sids-all}
 use Rattle.pl_world.specs.declared.world.World.{World}
-use Rattle.pl_world.specs.Worlds.{world_of}
+use Rattle.pl_world.specs.Worlds.{AreSound, world_of}
 use Rattle.pl_world.proofs.Made.{events_of-at}
 use Rattle.pl_rings.specs.declared.day.DayEvent.{DayEvent}
 use Rattle.pl_rings.specs.Changes.{column_event}
@@ -21,7 +21,6 @@ use Rattle.pl_daily.specs.Daily.{day_work}
 use Rattle.pl_feed.specs.Feeds.{daily_steps, day_before, due_events, is_due, ratios_due, session_work}
 use Rattle.pl_feed.specs.Days.{col_due, day_at, events_due, in_col}
 use Rattle.pl_feed.proofs.Lists.{filter-mapped, flat-filter, sum-same}
-use Rattle.pl_feed.proofs.Following.{AreSound}
 use Rattle.pl_cross.proofs.Centers.{sum-map}
 
 sum-each : {X : Type 0} (f g : X → ℕ) → ((x : X) → f x ≡ g x) → (xs : List X) → sum_by f xs ≡ sum_by g xs

@@ -12,7 +12,7 @@ use Rattle.pl_world.specs.declared.world.World.{World}
 use Rattle.pl_rings.specs.declared.day.DayBar.{DayBar}
 use Rattle.pl_rings.specs.Days.{Start, FedDay, fed}
 use Rattle.pl_daily.specs.Terms.{start_of}
-use Rattle.pl_daily.specs.Daily.{Held, Stands}
+use Rattle.pl_daily.specs.Daily.{Held, HasBeenFed}
 use Rattle.pl_feed.specs.Feeds.{day_before, is_due}
 
 abbrev pub day_at : List ℤ → ℕ → ℤ
@@ -69,4 +69,4 @@ pub record IsFed (w : World) (p : Pipeline) (s : ℕ) (h : Held) : Type 0 where
   pub labels : h.labels ≡ w.labels.now
   pub numbers : h.numbers ≡ w.numbers.now.rows
   pub count : h.fed ≡ s
-  pub stands : Stands h (fed_days w s)
+  pub stands : HasBeenFed h (fed_days w s)

@@ -1,5 +1,5 @@
 -- A world, day by day.
 pub mod Feeds
 pub mod Days
-pub mod Desks
-pub mod Mornings
+pub mod States
+pub mod Sessions

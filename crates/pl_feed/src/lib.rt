@@ -1,11 +1,11 @@
 //! A world that is fed to a pipeline day by day, and its table.
 #![tactic(auto)]
 
-mod desk;
 mod feed;
-mod handed;
-mod morning;
+mod news;
 mod rows;
 mod run;
+mod session;
+mod state;
 
 pub use run::run_daily;

@@ -3,4 +3,4 @@ pub mod Chunks
 pub mod Room
 pub mod Runs
 pub mod Releases
-pub mod Desks
+pub mod Buffers

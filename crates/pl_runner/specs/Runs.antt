@@ -13,8 +13,8 @@ use Rattle.pl_exec.specs.declared.chunk.Chunk.{Chunk}
 use Rattle.pl_exec.specs.declared.chunk.ChunkReport.{ChunkReport}
 use Rattle.pl_runner.specs.Chunks.{chunks_of, columns_of}
 use Rattle.pl_exec.specs.Tasks.{Task, chunk_steps}
-use Rattle.pl_runner.specs.Desks.{IsDeskFor}
-use Rattle.pl_runner.specs.declared.desk.Desk.{Desk}
+use Rattle.pl_runner.specs.Buffers.{AreBuffersFor}
+use Rattle.pl_runner.specs.declared.buffers.Buffers.{Buffers}
 use Rattle.pl_runner.specs.declared.run.RunReport.{RunReport}
 
 -- the work of a chunk
@@ -29,12 +29,12 @@ unfoldable pub run_steps : World → Pipeline → Planned → ℕ → ℕ
 run_steps w p plan size = sum_by (steps_of_chunk w p plan) (chunks_of plan.from plan.to size)
 
 -- A chunk was computed and its rows were written: they are counted and summed up beside those before, the
--- desk is again as free as it was, and the work of the chunk is told.
-pub record IsChunkDone (w : World) (p : Pipeline) (plan : Planned) (chunk : Chunk) (old new : Totals) (before after : Desk) (r : ChunkReport) : Type 0 where
+-- buffers are again as free as they were, and the report has the work of the chunk.
+pub record IsChunkDone (w : World) (p : Pipeline) (plan : Planned) (chunk : Chunk) (old new : Totals) (before after : Buffers) (r : ChunkReport) : Type 0 where
   pub rows : new.rows ≡ old.rows + length (rows_of_sessions w p chunk.from (chunk.to + 1 - chunk.from))
   pub sum : new.sum ≡ old.sum +ℤ rows_sum w.texts (rows_of_sessions w p chunk.from (chunk.to + 1 - chunk.from))
   pub few : new.rows ≤ old.rows + (chunk.to + 1 - chunk.from) * length w.assets
-  pub desk : (other : Chunk) → IsDeskFor w p plan other before → IsDeskFor w p plan other after
+  pub buffers : (other : Chunk) → AreBuffersFor w p plan other before → AreBuffersFor w p plan other after
   pub peak : r.peak ≡ bound p.graph (outputs p)
   pub applied : r.applied ≡ cut (steps_of_chunk w p plan chunk)
 

@@ -2,8 +2,8 @@
 //! computed, and how much memory the largest one needs.
 #![tactic(auto)]
 
+mod buffers;
 mod columns;
-mod desk;
 mod lows;
 mod pieces;
 mod release;

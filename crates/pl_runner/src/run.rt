@@ -1,19 +1,20 @@
 //! The table of a plan's range, chunk by chunk.
 ghost use Rattle.std.specs.Prelude.{◌≡◌, ◌≤◌, ◌<◌, ◌+◌, ◌-◌, ◌*◌, ◌^◌, ◌++◌, ◌⊎◌, length, IfOk, OnOk, IsErrOf};
-ghost use Rattle.pl_pipeline.specs.Table.{table};
-ghost use Rattle.pl_pipeline.specs.Text.{text};
 ghost use Rattle.pl_spec.specs.Limits.{cut, most_chunk};
 ghost use Rattle.pl_outside.specs.Taken.{IsWrittenIn, Writes};
+ghost use Rattle.pl_pipeline.specs.Table.{table};
+ghost use Rattle.pl_pipeline.specs.Text.{text};
 ghost use Rattle.pl_world.specs.Worlds.{IsMade, world_of};
 ghost use Rattle.pl_terms.specs.Checked.{pipeline_of};
 ghost use Rattle.pl_planner.specs.Plans.{IsPlanOf};
+ghost use Rattle.pl_table.specs.Asked.{IsAsked, asked_pipeline, asked_table, asked_text, asked_world};
 ghost use Rattle.pl_table.specs.Outcomes.{lines, rows_of_sessions};
-ghost use Rattle.pl_runner.specs.Desks.{IsDesk, IsDeskFor};
+ghost use Rattle.pl_runner.specs.Buffers.{AreBuffers, AreBuffersFor};
 ghost use Rattle.pl_runner.specs.Runs.{IsChunkDone, IsReport, run_steps, steps_of_chunk};
 ghost use Rattle.pl_table.specs.declared.error.RunError.TheVariants as RunError;
 
+use crate::buffers::Buffers;
 use crate::columns::put_columns;
-use crate::desk::Desk;
 use crate::pieces::{chunk_at, chunk_count};
 use crate::release::release_outputs;
 use pl_exec::{Chunk, ChunkReport, execute_chunk};
@@ -21,10 +22,9 @@ use pl_fixed::Steps;
 use pl_outside::{Failed, Sink, write_bytes};
 use pl_planner::Plan;
 use pl_spec::Format;
-use pl_table::{Outcome, RunError, Totals, make_header, write_rows};
+use pl_table::{Asked, Outcome, RunError, Totals, is_asked, make_header, write_rows};
 use pl_terms::Checked;
 use pl_world::World;
-use pl_world::laws::parts_make_a_world;
 use std::alloc::Global;
 use std::sync::ledger::Ledger;
 
@@ -71,11 +71,45 @@ pub fn run_table<O: Sink, L: Ledger>(
     ensures at_most { steps.new ≤ steps.old
         + run_steps (world_of world.now) (pipeline_of checked.now) plan.now chunk }
 {
-    let header = make_header(alloc, checked, format)?;
-    let mut desk = Desk::reserve(alloc, world, checked, plan, chunk)?;
-    match write_all(
-        world, checked, plan, chunk, format, &header, &mut desk, out, steps,
-    ) {
+    let asked = Asked {
+        world: *world,
+        checked,
+        plan,
+        format,
+    };
+    run_asked(alloc, &asked, chunk, out, steps)
+}
+
+// The same of what is asked.
+fn run_asked<O: Sink, L: Ledger>(
+    alloc: Global,
+    asked: &Asked<'_>,
+    chunk: usize,
+    out: &mut O,
+    steps: &mut Steps<L>,
+) -> Result<RunReport, RunError>
+    requires made { IsMade asked.now.world }
+    requires plan { IsPlanOf asked.now.world.sessions.now (pipeline_of asked.now.checked.now)
+        asked.now.plan.now }
+    requires some { 1 ≤ chunk }
+    requires most { chunk ≤ most_chunk }
+    // Where memory ran out nothing was written; else the text of the table is.
+    ensures writes { IsErrOf result RunError.Memory
+        ⊎ Writes O.taken O.faults O.sound O.room out.old out.new (asked_text asked.now) result }
+    // A sink that takes each piece whole got the header and each row in one call.
+    ensures pieces { IfOk result (λ report. IsWrittenIn O.whole O.calls out.old out.new (1 + report.rows)) }
+    ensures memory { IsErrOf result RunError.Memory → (out.new ≡ out.old) × (steps.new ≡ steps.old) }
+    ensures report { IfOk result
+        (IsReport (asked_world asked.now) (asked_pipeline asked.now) asked.now.plan.now chunk) }
+    ensures cost { OnOk result (steps.new ≡ steps.old
+        + run_steps (asked_world asked.now) (asked_pipeline asked.now) asked.now.plan.now chunk) }
+    ensures at_most { steps.new ≤ steps.old
+        + run_steps (asked_world asked.now) (asked_pipeline asked.now) asked.now.plan.now chunk }
+{
+    is_asked(asked);
+    let header = make_header(alloc, asked.checked, asked.format)?;
+    let mut buffers = Buffers::reserve(alloc, asked, chunk)?;
+    match write_all(asked, chunk, &header, &mut buffers, out, steps) {
         Ok(report) => Ok(report),
         Err(_) => Err(RunError::WriteFault),
     }
@@ -83,52 +117,36 @@ pub fn run_table<O: Sink, L: Ledger>(
 
 // Writes the header and the rows of all chunks.
 fn write_all<O: Sink, L: Ledger>(
-    world: &World<'_>,
-    checked: &Checked,
-    plan: &Plan,
+    asked: &Asked<'_>,
     size: usize,
-    format: Format,
     header: &[u8],
-    desk: &mut Desk,
+    buffers: &mut Buffers,
     out: &mut O,
     steps: &mut Steps<L>,
 ) -> Result<RunReport, Failed>
-    requires made { IsMade world.now }
-    requires plan { IsPlanOf world.now.sessions.now (pipeline_of checked.now) plan.now }
+    requires asked { IsAsked asked.now }
     requires some { 1 ≤ size }
     requires few { size ≤ most_chunk }
-    requires desk { IsDesk (world_of world.now) (pipeline_of checked.now) plan.now size desk.old }
+    requires buffers { AreBuffers (asked_world asked.now) (asked_pipeline asked.now) asked.now.plan.now size
+        buffers.old }
     ensures writes { Writes O.taken O.faults O.sound O.room out.old out.new
-        (header.now ++ lines (world_of world.now) (pipeline_of checked.now) format
-        (table (world_of world.now) (pipeline_of checked.now) plan.now.from plan.now.to)) result }
+        (header.now ++ lines (asked_world asked.now) (asked_pipeline asked.now) asked.now.format
+        (asked_table asked.now)) result }
     // The pieces, the report and the steps of a run that comes to its end.
     ensures done { IfOk result (λ report. IsWrittenIn O.whole O.calls out.old out.new (1 + report.rows)
-        × IsReport (world_of world.now) (pipeline_of checked.now) plan.now size report
+        × IsReport (asked_world asked.now) (asked_pipeline asked.now) asked.now.plan.now size report
         × (steps.new ≡ steps.old
-        + run_steps (world_of world.now) (pipeline_of checked.now) plan.now size)) }
+        + run_steps (asked_world asked.now) (asked_pipeline asked.now) asked.now.plan.now size)) }
     ensures at_most { steps.new ≤ steps.old
-        + run_steps (world_of world.now) (pipeline_of checked.now) plan.now size }
+        + run_steps (asked_world asked.now) (asked_pipeline asked.now) asked.now.plan.now size }
 {
-    // what a world keeps by itself
-    let _sessions = world.sessions.len();
-    let _assets = world.assets.len();
     write_bytes(out, header)?;
     let mut totals = Totals::none();
     let mut applied = 0u64;
     let mut peak = 0;
-    for i in 0..chunk_count(plan.from(), plan.to(), size) {
-        let chunk = chunk_at(plan.from(), plan.to(), size, i);
-        let report = write_chunk(
-            world,
-            checked,
-            plan,
-            chunk,
-            format,
-            desk,
-            &mut totals,
-            out,
-            steps,
-        )?;
+    for i in 0..chunk_count(asked.plan.from(), asked.plan.to(), size) {
+        let chunk = chunk_at(asked.plan.from(), asked.plan.to(), size, i);
+        let report = write_chunk(asked, chunk, buffers, &mut totals, out, steps)?;
         applied = applied.saturating_add(report.applied);
         peak = report.peak;
     }
@@ -142,67 +160,51 @@ fn write_all<O: Sink, L: Ledger>(
 
 // Computes a chunk, writes its rows and gives its slots back.
 fn write_chunk<O: Sink, L: Ledger>(
-    world: &World<'_>,
-    checked: &Checked,
-    plan: &Plan,
+    asked: &Asked<'_>,
     chunk: Chunk,
-    format: Format,
-    desk: &mut Desk,
+    buffers: &mut Buffers,
     totals: &mut Totals,
     out: &mut O,
     steps: &mut Steps<L>,
 ) -> Result<ChunkReport, Failed>
-    requires made { IsMade world.now }
-    requires plan { IsPlanOf world.now.sessions.now (pipeline_of checked.now) plan.now }
-    requires from { plan.now.from ≤ chunk.from }
+    requires asked { IsAsked asked.now }
+    requires from { asked.now.plan.now.from ≤ chunk.from }
     requires order { chunk.from ≤ chunk.to }
-    requires to { chunk.to ≤ plan.now.to }
-    requires desk { IsDeskFor (world_of world.now) (pipeline_of checked.now) plan.now chunk desk.old }
-    requires few { totals.old.rows + (chunk.to + 1 - chunk.from) * length world.now.assets.now < 2 ^ 63 }
+    requires to { chunk.to ≤ asked.now.plan.now.to }
+    requires buffers { AreBuffersFor (asked_world asked.now) (asked_pipeline asked.now) asked.now.plan.now
+        chunk buffers.old }
+    requires few { totals.old.rows
+        + (chunk.to + 1 - chunk.from) * length asked.now.world.assets.now < 2 ^ 63 }
     ensures writes { Writes O.taken O.faults O.sound O.room out.old out.new
-        (lines (world_of world.now) (pipeline_of checked.now) format
-        (rows_of_sessions (world_of world.now) (pipeline_of checked.now) chunk.from
+        (lines (asked_world asked.now) (asked_pipeline asked.now) asked.now.format
+        (rows_of_sessions (asked_world asked.now) (asked_pipeline asked.now) chunk.from
         (chunk.to + 1 - chunk.from))) result }
     ensures done { IfOk result (λ report. IsWrittenIn O.whole O.calls out.old out.new
-        (totals.new.rows - totals.old.rows) × IsChunkDone (world_of world.now) (pipeline_of checked.now)
-        plan.now chunk totals.old totals.new desk.old desk.new report) }
+        (totals.new.rows - totals.old.rows) × IsChunkDone (asked_world asked.now) (asked_pipeline asked.now)
+        asked.now.plan.now chunk totals.old totals.new buffers.old buffers.new report) }
     ensures cost { steps.new ≡ steps.old
-        + steps_of_chunk (world_of world.now) (pipeline_of checked.now) plan.now chunk }
+        + steps_of_chunk (asked_world asked.now) (asked_pipeline asked.now) asked.now.plan.now chunk }
 {
-    // what the parts of a world keep by themselves
-    parts_make_a_world(world);
-    let _labels = world.labels.len();
-    let _sessions = world.sessions.len();
-    let _checked = checked.graph();
-    put_columns(world, checked, plan, chunk, &mut desk.cols);
+    put_columns(asked, chunk, &mut buffers.cols);
     let report = execute_chunk(
-        world,
-        checked,
-        plan,
+        &asked.world,
+        asked.checked,
+        asked.plan,
         &chunk,
-        &desk.cols,
-        &mut desk.workspace,
-        &mut desk.cross,
-        &mut desk.rows,
+        &buffers.cols,
+        &mut buffers.workspace,
+        &mut buffers.cross,
+        &mut buffers.rows,
         steps,
     );
     let outcome = Outcome {
-        world: *world,
-        checked,
-        plan,
-        cols: &desk.cols,
+        asked: *asked,
+        cols: &buffers.cols,
         from: chunk.from,
         to: chunk.to,
-        workspace: &desk.workspace,
+        workspace: &buffers.workspace,
     };
-    write_rows(
-        &outcome,
-        format,
-        &mut desk.tile,
-        &mut desk.line,
-        totals,
-        out,
-    )?;
-    release_outputs(checked, world.sessions, plan, &mut desk.workspace);
+    write_rows(&outcome, &mut buffers.tile, &mut buffers.line, totals, out)?;
+    release_outputs(asked, &mut buffers.workspace);
     Ok(report)
 }

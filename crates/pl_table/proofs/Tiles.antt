@@ -84,26 +84,26 @@ strip-same f g places width n m i c old new strip few same = record { size = str
 -- ---- the cells of an array
 
 module _ (o : Outcome) (ok : IsOutcome o) (t : ℕ) (output : contains (outputs (pipeline_in o)) t ≡ true) (place : ℕ) (inside : place < places_of o) where
-  pub low_within : low_at o.plan.now t o.from ≤ o.from
-  low_within = (ok.plan.lows.few t o.from (output-used o.world.sessions.now (pipeline_in o) o.plan.now ok.checked ok.plan t output, (ok.from, omega (arith, ok.order, ok.to)))).0
+  pub low_within : low_at o.asked.plan.now t o.from ≤ o.from
+  low_within = (ok.asked.plan.lows.few t o.from (output-used o.asked.world.sessions.now (pipeline_in o) o.asked.plan.now ok.asked.checked ok.asked.plan t output, (ok.from, omega (arith, ok.order, ok.to)))).0
 
   pub cell-within : (s : ℕ) → o.from ≤ s → s ≤ o.to → IsCell (cell_of (world_in o) (pipeline_in o) (sids_in o) t place s)
   cell-within s early late =
-      let low = low_at o.plan.now t o.from in
+      let low = low_at o.asked.plan.now t o.from in
       let r = low_within in
       let at : low + (s - low) ≡ s = omega arith in
       rw (← at) ((ok.arrays t output).holds.cell place (s - low) inside (omega arith))
 
-  module _ (cells : List ℤ) (live : slot_at o.workspace.now (slot_of o.plan.now t) ≡ Live cells) (first count : ℕ) (early : o.from ≤ first) (late : first + count ≤ o.to + 1) where
+  module _ (cells : List ℤ) (live : slot_at o.workspace.now (slot_of o.asked.plan.now t) ≡ Live cells) (first count : ℕ) (early : o.from ≤ first) (late : first + count ≤ o.to + 1) where
     abbrev start : ℕ
-    start = place * (o.to + 1 - low_at o.plan.now t o.from) + (first - low_at o.plan.now t o.from)
+    start = place * (o.to + 1 - low_at o.asked.plan.now t o.from) + (first - low_at o.asked.plan.now t o.from)
 
     own : (ok.arrays t output).cells ≡ cells
     own = let e : Live (ok.arrays t output).cells ≡ Live cells = sym (ok.arrays t output).live ∙ live in cc
 
     pub ends_within : start + count ≤ length cells
     ends_within =
-        let low = low_at o.plan.now t o.from in
+        let low = low_at o.asked.plan.now t o.from in
         let r = low_within in
         let room = (ok.arrays t output).holds.room in
         let m = mul-le (place + 1) (o.to + 1 - low) (places_of o) (o.to + 1 - low) (omega arith) (omega arith) in
@@ -112,7 +112,7 @@ module _ (o : Outcome) (ok : IsOutcome o) (t : ℕ) (output : contains (outputs 
 
     pub part-at : (j : ℕ) → j < count → get_or (take count (drop start cells)) j (pos 0) ≡ cell_of (world_in o) (pipeline_in o) (sids_in o) t place (first + j)
     part-at j h =
-        let low = low_at o.plan.now t o.from in
+        let low = low_at o.asked.plan.now t o.from in
         let r = low_within in
         let at : start + j ≡ place * (o.to + 1 - low) + (first - low + j) = omega arith in
         let s : low + (first - low + j) ≡ first + j = omega arith in
@@ -180,7 +180,7 @@ rows-of-place o first place n old new begun all whole j h within =
     record {
       mark = ap is_true (begun.marks j few) ∙ is_true-truth (has_row (world_in o) (pipeline_in o) (first + j) (sid_in (sids_in o) place));
       each = λ is k c at. (let w = column-few o k c at in begun.cells j k c few (omega arith) at);
-      cell = λ is k hk. (let d = has-column o.checked.now.columns k (omega (arith, columns-long o.checked.now.columns)) in rw (begun.cells j k d.0 few (omega arith) d.1) (whole k (first + j) d.0 d.1 (omega arith) within));
+      cell = λ is k hk. (let d = has-column o.asked.checked.now.columns k (omega (arith, columns-long o.asked.checked.now.columns)) in rw (begun.cells j k d.0 few (omega arith) d.1) (whole k (first + j) d.0 d.1 (omega arith) within));
     }
 
 -- a place with no rows

@@ -3,7 +3,8 @@ pub mod Places
 pub mod Fields
 pub mod Writings
 pub mod Sums
-pub mod Outcomes
 pub mod Rows
+pub mod Asked
+pub mod Outcomes
 pub mod Tiles
 pub mod Numbers

@@ -8,45 +8,41 @@ use Rattle.pl_pipeline.specs.Graph.{contains}
 use Rattle.pl_spec.specs.Rounding.{IsCell}
 use Rattle.pl_pipeline.specs.Table.{NamedColumn, Pipeline, Row, session_rows}
 use Rattle.pl_pipeline.specs.Text.{row_line}
-use Rattle.pl_cross.specs.Arrays.{HasTexts}
-use Rattle.pl_world.specs.Worlds.{world_of}
-use Rattle.pl_terms.specs.Checked.{IsChecked, pipeline_of}
 use Rattle.pl_terms.specs.Uses.{outputs}
-use Rattle.pl_planner.specs.Plans.{IsPlanOf, low_at, slot_of}
+use Rattle.pl_planner.specs.Plans.{low_at, slot_of}
 use Rattle.pl_values.specs.Arrays.{cell_of, HasAll, Holds}
 use Rattle.pl_workspace.specs.Slots.{Live, slot_at}
 use Rattle.pl_table.specs.declared.outcome.Outcome.{Outcome}
 use Rattle.pl_table.specs.declared.rows.Cells.{Cells}
 use Rattle.pl_table.specs.declared.rows.Table.{Table}
+use Rattle.pl_table.specs.Asked.{IsAsked, asked_pipeline, asked_world}
 use Rattle.pl_table.specs.Writings.{AreWritings}
 
 abbrev pub world_in : Outcome → World
-world_in o = world_of o.world
+world_in o = asked_world o.asked
 
 abbrev pub pipeline_in : Outcome → Pipeline
-pipeline_in o = pipeline_of o.checked.now
+pipeline_in o = asked_pipeline o.asked
 
 abbrev pub sids_in : Outcome → List ℕ
-sids_in o = map (sid_at o.world.assets.now) o.cols.now
+sids_in o = map (sid_at o.asked.world.assets.now) o.cols.now
 
 -- the slot of term t holds its values on the sessions up to the last one, for each asset
 pub record HasArray (o : Outcome) (t : ℕ) : Type 0 where
   pub cells : List ℤ
-  pub live : slot_at o.workspace.now (slot_of o.plan.now t) ≡ Live cells
-  pub holds : Holds (cell_of (world_in o) (pipeline_in o) (sids_in o) t) (length o.cols.now) (low_at o.plan.now t o.from) (o.to + 1 - low_at o.plan.now t o.from) cells
+  pub live : slot_at o.workspace.now (slot_of o.asked.plan.now t) ≡ Live cells
+  pub holds : Holds (cell_of (world_in o) (pipeline_in o) (sids_in o) t) (length o.cols.now) (low_at o.asked.plan.now t o.from) (o.to + 1 - low_at o.asked.plan.now t o.from) cells
 
 -- The sessions are of the plan's range, all assets that exist on them are there, and each output has its
 -- array.
 pub record IsOutcome (o : Outcome) : Type 0 where
-  pub checked : IsChecked (pipeline_in o)
-  pub plan : IsPlanOf o.world.sessions.now (pipeline_in o) o.plan.now
-  pub from : o.plan.now.from ≤ o.from
+  pub asked : IsAsked o.asked
+  pub from : o.asked.plan.now.from ≤ o.from
   pub order : o.from ≤ o.to
-  pub to : o.to ≤ o.plan.now.to
+  pub to : o.to ≤ o.asked.plan.now.to
   pub fits : o.to < 2 ^ 63
-  pub cols : All (λ c. c < length o.world.assets.now) o.cols.now
+  pub cols : All (λ c. c < length o.asked.world.assets.now) o.cols.now
   pub all : (s : ℕ) → o.from ≤ s → s ≤ o.to → HasAll (world_in o) (sids_in o) s
-  pub texts : HasTexts (world_in o)
   pub arrays : (t : ℕ) → contains (outputs (pipeline_in o)) t ≡ true → HasArray o t
 
 -- one of its sessions

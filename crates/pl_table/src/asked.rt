@@ -1,48 +1,33 @@
-//! Which rows there are.
-ghost use Rattle.std.specs.Prelude.{◌≡◌, ◌<◌, pos, length};
-ghost use Rattle.pl_spec.specs.World.{exists};
-ghost use Rattle.pl_pipeline.specs.Table.{is_kept};
-ghost use Rattle.pl_cross.specs.Arrays.{sid_in};
-ghost use Rattle.pl_table.specs.Outcomes.{IsOutcome, IsWithin, pipeline_in, sids_in, world_in};
-ghost use Rattle.pl_table.specs.Rows.{has_row};
+//! What a table is asked of.
+ghost use Rattle.pl_world.specs.Worlds.{IsMade};
+ghost use Rattle.pl_terms.specs.Checked.{pipeline_of};
+ghost use Rattle.pl_planner.specs.Plans.{IsPlanOf};
+ghost use Rattle.pl_table.specs.Asked.{IsAsked};
 
-use crate::outcome::{Outcome, cell_at};
+use pl_planner::Plan;
+use pl_spec::Format;
+use pl_terms::Checked;
+use pl_world::World;
+use pl_world::laws::parts_make_a_world;
 
-/// Does the asset exist on the session, and does the screen keep it?
-pub(crate) fn has_row(outcome: &Outcome<'_>, place: usize, session: usize) -> bool
-    requires outcome { IsOutcome outcome.now }
-    requires place { place < length outcome.now.cols.now }
-    requires session { IsWithin outcome.now session }
-    ensures { result ≡ has_row (world_in outcome.now) (pipeline_in outcome.now) session
-        (sid_in (sids_in outcome.now) place) }
-{
-    exists(outcome, place, session) && passes(outcome, place, session)
+/// What a table is asked of: a world, a checked pipeline, its plan over the world's sessions, and the form in
+/// which the rows are written.
+#[derive(Clone, Copy)]
+pub struct Asked<'a> {
+    pub world: World<'a>,
+    pub checked: &'a Checked,
+    pub plan: &'a Plan,
+    pub format: Format,
 }
 
-// Does the asset exist on the session?
-fn exists(outcome: &Outcome<'_>, place: usize, session: usize) -> bool
-    requires outcome { IsOutcome outcome.now }
-    requires place { place < length outcome.now.cols.now }
-    requires session { IsWithin outcome.now session }
-    ensures { result ≡ exists (world_in outcome.now) (sid_in (sids_in outcome.now) place) (pos session) }
+/// What the types keep of the four is at hand after one call. It does nothing: a world whose parts were made
+/// for one another and a plan of the pipeline are enough.
+pub fn is_asked(asked: &Asked<'_>)
+    requires made { IsMade asked.now.world }
+    requires plan { IsPlanOf asked.now.world.sessions.now (pipeline_of asked.now.checked.now)
+        asked.now.plan.now }
+    ensures { IsAsked asked.now }
 {
-    let day = outcome.world.sessions.day(session);
-    outcome
-        .world
-        .assets
-        .exists(outcome.cols[place] as usize, day)
-}
-
-// Does the screen keep it, where there is one?
-fn passes(outcome: &Outcome<'_>, place: usize, session: usize) -> bool
-    requires outcome { IsOutcome outcome.now }
-    requires place { place < length outcome.now.cols.now }
-    requires session { IsWithin outcome.now session }
-    ensures { result ≡ is_kept (world_in outcome.now) (pipeline_in outcome.now)
-        (pipeline_in outcome.now).screen (pos session) (sid_in (sids_in outcome.now) place) }
-{
-    match outcome.checked.screen() {
-        Some(term) => cell_at(outcome, term, place, session) == 1,
-        None => true,
-    }
+    parts_make_a_world(&asked.world);
+    asked.checked.graph();
 }

@@ -4,6 +4,7 @@
 
 mod asked;
 mod error;
+mod existence;
 mod fields;
 mod header;
 mod line;
@@ -15,6 +16,7 @@ mod tile;
 mod totals;
 mod writing;
 
+pub use asked::{Asked, is_asked};
 pub use error::RunError;
 pub use fields::{put_cell, put_date, put_sid};
 pub use header::make_header;

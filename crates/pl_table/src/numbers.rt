@@ -1,7 +1,8 @@
 //! The line that tells the numbers of a run.
 
+ghost use Rattle.std.specs.Prelude.{◌≡◌, ◌++◌};
 ghost use Rattle.pl_outside.specs.Taken.{Writes};
-ghost use Rattle.pl_table.specs.Numbers.{numbers_line, stats_line};
+ghost use Rattle.pl_table.specs.Numbers.{numbers_line, present_text, stats_line};
 
 use itoa::Buffer;
 use pl_outside::{Failed, Sink, write_pieces};
@@ -44,21 +45,29 @@ pub fn write_numbers<O: Sink>(out: &mut O, numbers: Numbers) -> Result<(), Faile
 }
 
 /// Writes `rows=R cells=C peak=P bound=B applied=A` and a line end, where so many adjustments were applied to
-/// buffered bars. `Failed` comes where the sink counted a fault. It takes no memory.
-pub fn write_stats<E: Sink>(err: &mut E, numbers: Numbers, applied: u64) -> Result<(), Failed>
+/// buffered bars. Where `present` tells how many cells of numbers beside bars are present, the line ends with
+/// ` numbers=N`. `Failed` comes where the sink counted a fault. It takes no memory.
+pub fn write_stats<E: Sink>(
+    err: &mut E,
+    numbers: Numbers,
+    applied: u64,
+    present: Option<u64>,
+) -> Result<(), Failed>
     ensures { Writes E.taken E.faults E.sound E.room err.old err.new
-        (stats_line numbers.rows numbers.cells numbers.peak numbers.bound applied) result }
+        (stats_line numbers.rows numbers.cells numbers.peak numbers.bound applied present) result }
 {
     let mut rows = Buffer::new();
     let mut cells = Buffer::new();
     let mut peak = Buffer::new();
     let mut bound = Buffer::new();
     let mut steps = Buffer::new();
+    let mut digits = Buffer::new();
     let rows = rows.format(numbers.rows);
     let cells = cells.format(numbers.cells);
     let peak = peak.format(numbers.peak);
     let bound = bound.format(numbers.bound);
     let steps = steps.format(applied);
+    let (name, count) = present_pieces(present, &mut digits);
     write_pieces(
         err,
         &[
@@ -72,7 +81,19 @@ pub fn write_stats<E: Sink>(err: &mut E, numbers: Numbers, applied: u64) -> Resu
             bound,
             " applied=",
             steps,
+            name,
+            count,
             "\n",
         ],
     )
+}
+
+// What tells how many numbers are present: its name and its digits, both empty where it is not told.
+fn present_pieces(present: Option<u64>, digits: &mut Buffer) -> (&str, &str)
+    ensures { result.0.now ++ result.1.now ≡ present_text present }
+{
+    match present {
+        None => ("", ""),
+        Some(count) => (" numbers=", digits.format(count)),
+    }
 }

@@ -7,18 +7,15 @@ ghost use Rattle.pl_cross.specs.Arrays.{sid_in};
 ghost use Rattle.pl_values.specs.Arrays.{cell_of};
 ghost use Rattle.pl_table.specs.Outcomes.{IsOutcome, IsWithin, pipeline_in, sids_in, world_in};
 
-use pl_planner::Plan;
-use pl_terms::{Checked, TermId};
+use crate::asked::Asked;
+use pl_terms::TermId;
 use pl_workspace::Workspace;
-use pl_world::World;
 
-/// The sessions `from` to `to`, both included, of a planned pipeline, computed for the assets in the columns
-/// `cols`: each output's values are in its slot of the workspace.
+/// The sessions `from` to `to`, both included, of what a table is asked of, computed for the assets in the
+/// columns `cols`: each output's values are in its slot of the workspace.
 #[derive(Clone, Copy)]
 pub struct Outcome<'a> {
-    pub world: World<'a>,
-    pub checked: &'a Checked,
-    pub plan: &'a Plan,
+    pub asked: Asked<'a>,
     pub cols: &'a [u32],
     pub from: usize,
     pub to: usize,
@@ -31,7 +28,7 @@ pub(crate) fn sid_of(outcome: &Outcome<'_>, place: usize) -> u32
     requires place { place < length outcome.now.cols.now }
     ensures { result ≡ sid_in (sids_in outcome.now) place }
 {
-    outcome.world.assets.sid(outcome.cols[place] as usize)
+    outcome.asked.world.assets.sid(outcome.cols[place] as usize)
 }
 
 /// The cell of an output for the asset in a place on a session.
@@ -44,9 +41,9 @@ pub(crate) fn cell_at(outcome: &Outcome<'_>, term: TermId, place: usize, session
         (sids_in outcome.now) term.0 place session }
     ensures cell { IsCell result }
 {
-    let low = outcome.plan.low_at(term, outcome.from);
+    let low = outcome.asked.plan.low_at(term, outcome.from);
     let count = outcome.to + 1 - low;
-    let cells = outcome.workspace.array(outcome.plan.slot(term));
+    let cells = outcome.workspace.array(outcome.asked.plan.slot(term));
     cells[place * count + (session - low)]
 }
 
@@ -67,8 +64,8 @@ pub(crate) fn cells_from<'a>(
     ensures each { (j : ℕ) → j < count → get_or result.now j (pos 0) ≡ cell_of (world_in outcome.now)
         (pipeline_in outcome.now) (sids_in outcome.now) term.0 place (first + j) }
 {
-    let low = outcome.plan.low_at(term, outcome.from);
-    let cells = outcome.workspace.array(outcome.plan.slot(term));
+    let low = outcome.asked.plan.low_at(term, outcome.from);
+    let cells = outcome.workspace.array(outcome.asked.plan.slot(term));
     let start = place * (outcome.to + 1 - low) + (first - low);
     &cells[start..start + count]
 }

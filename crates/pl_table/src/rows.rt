@@ -15,18 +15,16 @@ ghost use Rattle.pl_table.specs.Tiles.{HasRows, first_in, height, tile_len};
 use crate::fields::{put_cell, put_date, put_sid};
 use crate::line::Line;
 use crate::outcome::{Outcome, sid_of};
-use crate::tile::{row_at, turn};
+use crate::tile::{fill_at_first, row_at};
 use crate::totals::Totals;
 use crate::writing::{Writing, writings_of};
 use pl_fixed::MISSING;
 use pl_outside::{Failed, Sink, write_bytes};
-use pl_spec::Format;
 
-/// The rows of an outcome, and how they are written: in which form, and the values of each column.
+/// The rows of an outcome, and how the values of each column are written.
 #[derive(Clone, Copy)]
 struct Table<'a> {
     outcome: &'a Outcome<'a>,
-    format: Format,
     writings: &'a [Writing],
 }
 
@@ -46,7 +44,6 @@ struct Cells<'a> {
 /// where the sink counted a fault; then a prefix of the rows was written.
 pub fn write_rows<O: Sink>(
     outcome: &Outcome<'_>,
-    format: Format,
     tile: &mut [i64],
     line: &mut Line,
     totals: &mut Totals,
@@ -58,7 +55,7 @@ pub fn write_rows<O: Sink>(
     requires few { totals.old.rows
         + (outcome.now.to + 1 - outcome.now.from) * length outcome.now.cols.now < 2 ^ 63 }
     ensures writes { Writes O.taken O.faults O.sound O.room out.old out.new
-        (lines (world_in outcome.now) (pipeline_in outcome.now) format
+        (lines (world_in outcome.now) (pipeline_in outcome.now) outcome.now.asked.format
         (rows_of_sessions (world_in outcome.now) (pipeline_in outcome.now) outcome.now.from
         (outcome.now.to + 1 - outcome.now.from))) result }
     ensures pieces { OnOk result (IsWrittenIn O.whole O.calls out.old out.new
@@ -74,14 +71,13 @@ pub fn write_rows<O: Sink>(
         + (outcome.now.to + 1 - outcome.now.from) * length outcome.now.cols.now) }
     ensures room { length tile.new ≡ length tile.old }
 {
-    let writings = writings_of(outcome.checked);
+    let writings = writings_of(outcome.asked.checked);
     let table = Table {
         outcome: &*outcome,
-        format,
         writings: &writings,
     };
     for session in outcome.from..outcome.to + 1 {
-        let first = turn(outcome, session, tile);
+        let first = fill_at_first(outcome, session, tile);
         write_session(&table, first, session, &*tile, line, totals, out)?;
     }
     Ok(())
@@ -106,7 +102,7 @@ fn write_session<O: Sink>(
     requires rows { let o = table.now.outcome.now in HasRows o first (length o.cols.now) tile.now }
     requires few { totals.old.rows + length table.now.outcome.now.cols.now < 2 ^ 63 }
     ensures writes { let o = table.now.outcome.now in Writes O.taken O.faults O.sound O.room out.old out.new
-        (lines (world_in o) (pipeline_in o) table.now.format
+        (lines (world_in o) (pipeline_in o) o.asked.format
         (session_rows (world_in o) (pipeline_in o) (pos session))) result }
     ensures pieces { OnOk result (IsWrittenIn O.whole O.calls out.old out.new
         (totals.new.rows - totals.old.rows)) }
@@ -141,7 +137,7 @@ fn write_row<O: Sink>(
     requires values { HasCells table.now.outcome.now place session values.now }
     requires few { totals.old.rows < 2 ^ 63 }
     ensures writes { let o = table.now.outcome.now in Writes O.taken O.faults O.sound O.room out.old out.new
-        (row_line (world_in o) (pipeline_in o) table.now.format
+        (row_line (world_in o) (pipeline_in o) o.asked.format
         (row (world_in o) (pipeline_in o) (pos session) (sid_in (sids_in o) place))) result }
     ensures pieces { IsWrittenIn O.whole O.calls out.old out.new 1 }
     ensures rows { totals.new.rows ≡ totals.old.rows + 1 }
@@ -150,7 +146,7 @@ fn write_row<O: Sink>(
         (row (world_in o) (pipeline_in o) (pos session) (sid_in (sids_in o) place)).values }
 {
     let outcome = table.outcome;
-    let format = table.format;
+    let format = outcome.asked.format;
     let cells = Cells {
         outcome: &*outcome,
         place,
@@ -159,20 +155,20 @@ fn write_row<O: Sink>(
         writings: table.writings,
     };
     line.clear();
-    put_date(line, format, outcome.world.sessions.day(session));
+    put_date(line, format, outcome.asked.world.sessions.day(session));
     put_sid(line, format, sid_of(outcome, place));
-    let sum = put_values(&cells, format, line);
+    let sum = put_values(&cells, line);
     line.put(b"\n");
     totals.count_row(sum);
     write_bytes(out, line.as_slice())
 }
 
 // Puts the fields of the columns, and gives the sum of their cells.
-fn put_values(cells: &Cells<'_>, format: Format, line: &mut Line) -> i128
+fn put_values(cells: &Cells<'_>, line: &mut Line) -> i128
     requires cells { AreCells cells.now }
     requires room { length line.old ≤ 21 }
     ensures text { line.new ≡ line.old ++ value_fields (world_in cells.now.outcome.now)
-        (pipeline_in cells.now.outcome.now) format
+        (pipeline_in cells.now.outcome.now) cells.now.outcome.now.asked.format
         (sid_in (sids_in cells.now.outcome.now) cells.now.place) (pos cells.now.session)
         (pipeline_in cells.now.outcome.now).columns }
     ensures within { length line.new ≤ 8_447 }
@@ -182,29 +178,31 @@ fn put_values(cells: &Cells<'_>, format: Format, line: &mut Line) -> i128
         (pipeline_in cells.now.outcome.now).columns) }
     ensures small { unsigned_abs result ≤ most_columns * LIMIT }
 {
-    let checked = cells.outcome.checked;
+    let outcome = cells.outcome;
+    let checked = outcome.asked.checked;
     let mut sum = 0i128;
     for column in 0..checked.columns() {
-        sum += put_value(cells, column, format, line);
+        sum += put_value(cells, column, line);
     }
     sum
 }
 
 // Puts the field of one column, and gives its cell for the sum.
-fn put_value(cells: &Cells<'_>, column: usize, format: Format, line: &mut Line) -> i128
+fn put_value(cells: &Cells<'_>, column: usize, line: &mut Line) -> i128
     requires cells { AreCells cells.now }
     requires column { column < length (pipeline_in cells.now.outcome.now).columns }
     requires room { length line.old + 131 ≤ 8_448 }
     ensures value { (c : NamedColumn) → slice_get (pipeline_in cells.now.outcome.now).columns column ≡ Some c
-        → IsPut (world_in cells.now.outcome.now) (pipeline_in cells.now.outcome.now) format
-        (sid_in (sids_in cells.now.outcome.now) cells.now.place) (pos cells.now.session) c line.old line.new
-        result }
+        → IsPut (world_in cells.now.outcome.now) (pipeline_in cells.now.outcome.now)
+        cells.now.outcome.now.asked.format (sid_in (sids_in cells.now.outcome.now) cells.now.place)
+        (pos cells.now.session) c line.old line.new result }
     ensures within { length line.new ≤ length line.old + 131 }
     ensures small { unsigned_abs result ≤ LIMIT }
 {
     let outcome = cells.outcome;
     let cell = cells.values[column];
     let writing = cells.writings[column];
-    put_cell(line, format, writing, cell, outcome.world.labels);
+    let asked = &outcome.asked;
+    put_cell(line, asked.format, writing, cell, asked.world.labels);
     if cell == MISSING { 0 } else { i128::from(cell) }
 }

@@ -11,7 +11,7 @@ ghost use Rattle.pl_table.specs.Outcomes.{HasCells, IsOutcome, IsWithin, pipelin
 ghost use Rattle.pl_table.specs.Rows.{has_row};
 ghost use Rattle.pl_table.specs.Tiles.{HasRows, IsPlace, IsStrip, IsTileRow, first_in, height, in_row, sessions_in, tile_len};
 
-use crate::asked::has_row;
+use crate::existence::has_row;
 use crate::outcome::{Outcome, cells_from};
 use pl_values::truth_of;
 
@@ -29,7 +29,7 @@ pub fn tile_len(assets: usize, columns: usize) -> usize
 }
 
 /// Has the tile of the session filled where the session is its first, and gives the first.
-pub(crate) fn turn(outcome: &Outcome<'_>, session: usize, tile: &mut [i64]) -> usize
+pub(crate) fn fill_at_first(outcome: &Outcome<'_>, session: usize, tile: &mut [i64]) -> usize
     requires outcome { IsOutcome outcome.now }
     requires session { IsWithin outcome.now session }
     requires room { tile_len (length outcome.now.cols.now) (length (pipeline_in outcome.now).columns)
@@ -74,7 +74,7 @@ fn fill_place(outcome: &Outcome<'_>, first: usize, place: usize, tile: &mut [i64
         place tile.old tile.new }
 {
     if mark_rows(outcome, first, place, tile) {
-        for column in 0..outcome.checked.columns() {
+        for column in 0..outcome.asked.checked.columns() {
             copy_cells(outcome, first, place, column, tile);
         }
     }
@@ -119,7 +119,7 @@ fn copy_cells(outcome: &Outcome<'_>, first: usize, place: usize, column: usize, 
         place (first + j)) (length outcome.now.cols.now) (length (pipeline_in outcome.now).columns + 1)
         (sessions_in first outcome.now.to) place (column + 1) tile.old tile.new }
 {
-    let term = outcome.checked.column_term(column);
+    let term = outcome.asked.checked.column_term(column);
     let count = HEIGHT.min(outcome.to + 1 - first);
     let cells = cells_from(outcome, term, place, first, count);
     let session = outcome.cols.len() * width_of(outcome);
@@ -136,7 +136,7 @@ fn width_of(outcome: &Outcome<'_>) -> usize
     ensures value { result ≡ length (pipeline_in outcome.now).columns + 1 }
     ensures few { result ≤ 65 }
 {
-    outcome.checked.columns() + 1
+    outcome.asked.checked.columns() + 1
 }
 
 // Where the row of a place starts on the j-th session.

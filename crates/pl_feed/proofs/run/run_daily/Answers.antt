@@ -4,8 +4,7 @@ use Rattle.pl_spec.specs.declared.Format.{Format}
 use Rattle.pl_spec.specs.World.{World}
 use Rattle.pl_pipeline.specs.Table.{Pipeline, Row, table}
 use Rattle.pl_pipeline.specs.Text.{header, text}
-use Rattle.pl_world.specs.Worlds.{world_of}
-use Rattle.pl_terms.specs.Checked.{pipeline_of}
+use Rattle.pl_table.specs.Asked.{asked_pipeline, asked_world}
 use Rattle.pl_table.specs.Outcomes.{lines}
 use Rattle.pl_feed.proofs.run.run_daily.Goals as goal
 
@@ -16,20 +15,20 @@ text-is w p format rows head is = ap (λ (h : List ℕ). h ++ lines w p format r
 
 pub returns-in-Ok-clause-writes : goal.returns-in-Ok-clause-writes
 returns-in-Ok-clause-writes g c =
-    let w = world_of c.args.world.now in
-    let p = pipeline_of c.args.checked.now in
-    let rows = table w p c.args.plan.now.from c.args.plan.now.to in
-    let whole = text w p c.args.format rows in
-    let is = text-is w p c.args.format rows c.deref.result.now (c.deref.ensures.value ∙ c.in_ok-header.ensures) in
-    let start = writing-over (is ∙ sym (append-nil (c.deref.result.now ++ lines w p c.args.format rows))) (writing-start g.O.Sink.taken g.O.Sink.faults g.O.Sink.sound g.O.Sink.room c.args.out.now whole) in
+    let w = asked_world c.args.asked.now in
+    let p = asked_pipeline c.args.asked.now in
+    let rows = table w p c.args.asked.now.plan.now.from c.args.asked.now.plan.now.to in
+    let whole = text w p c.args.asked.now.format rows in
+    let is = text-is w p c.args.asked.now.format rows c.deref.result.now (c.deref.ensures.value ∙ c.in_ok-header.ensures) in
+    let start = writing-over (is ∙ sym (append-nil (c.deref.result.now ++ lines w p c.args.asked.now.format rows))) (writing-start g.O.Sink.taken g.O.Sink.faults g.O.Sink.sound g.O.Sink.room c.args.out.now whole) in
     inr (writing-end (writing-more _ _ start c.in-Ok.ensures.writes))
 
 pub returns-clause-writes : goal.returns-clause-writes
 returns-clause-writes g c =
-    let w = world_of c.args.world.now in
-    let p = pipeline_of c.args.checked.now in
-    let rows = table w p c.args.plan.now.from c.args.plan.now.to in
-    let whole = text w p c.args.format rows in
-    let is = text-is w p c.args.format rows c.deref.result.now (c.deref.ensures.value ∙ c.in_ok-header.ensures) in
-    let start = writing-over (is ∙ sym (append-nil (c.deref.result.now ++ lines w p c.args.format rows))) (writing-start g.O.Sink.taken g.O.Sink.faults g.O.Sink.sound g.O.Sink.room c.args.out.now whole) in
+    let w = asked_world c.args.asked.now in
+    let p = asked_pipeline c.args.asked.now in
+    let rows = table w p c.args.asked.now.plan.now.from c.args.asked.now.plan.now.to in
+    let whole = text w p c.args.asked.now.format rows in
+    let is = text-is w p c.args.asked.now.format rows c.deref.result.now (c.deref.ensures.value ∙ c.in_ok-header.ensures) in
+    let start = writing-over (is ∙ sym (append-nil (c.deref.result.now ++ lines w p c.args.asked.now.format rows))) (writing-start g.O.Sink.taken g.O.Sink.faults g.O.Sink.sound g.O.Sink.room c.args.out.now whole) in
     inr (writing-stop _ _ start c.in-Err.ensures.writes)

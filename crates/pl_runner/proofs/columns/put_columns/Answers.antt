@@ -5,9 +5,9 @@ use Rattle.pl_runner.proofs.Assets.{columns-are}
 use Rattle.pl_runner.proofs.columns.put_columns.Goals as goal
 
 pub put_living-requires-clause-to : goal.put_living-requires-clause-to
-put_living-requires-clause-to c = omega (arith, c.requires.plan.within, c.requires.to)
+put_living-requires-clause-to c = omega (arith, c.requires.asked.plan.within, c.requires.to)
 
 pub returns-clause-cols : goal.returns-clause-cols
 returns-clause-cols c =
     c.put_living.ensures.cols
-    ∙ sym (columns-are c.args.world.now.sessions.now (world_of c.args.world.now) (pipeline_of c.args.checked.now) c.args.plan.now c.args.chunk c.requires.plan c.least_low-low.result c.least_low-low.ensures.least)
+    ∙ sym (columns-are c.args.asked.now.world.sessions.now (world_of c.args.asked.now.world) (pipeline_of c.args.asked.now.checked.now) c.args.asked.now.plan.now c.args.chunk c.requires.asked.plan c.least_low-low.result c.least_low-low.ensures.least)

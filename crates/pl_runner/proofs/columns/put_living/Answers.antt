@@ -7,7 +7,7 @@ use Rattle.pl_runner.proofs.columns.put_living.Goals.{then-lives_within, else-li
 
 pub loop-col-preserved : goal.loop-col-preserved
 loop-col-preserved c =
-    let p = lives_within (world_of c.args.world.now) c.args.low c.args.to in
+    let p = lives_within (world_of c.args.asked.now.world) c.args.low c.args.to in
     elim c.if-lives_within.branch [
       | then-lives_within b ↦
           let more = filter-with p c.loop-col.col (sym c.lives_within.ensures ∙ b.if-lives_within.true) in

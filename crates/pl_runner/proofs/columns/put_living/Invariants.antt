@@ -8,7 +8,7 @@ use Rattle.pl_runner.proofs.columns.put_living.Given as goal
 abbrev pub invariant-loop-col : goal.invariant-loop-col
 invariant-loop-col l =
     record {
-      cols : l.cols.items ≡ filter (lives_within (world_of l.world) l.low l.to) (range_with_len 0 l.col);
+      cols : l.cols.items ≡ filter (lives_within (world_of l.asked.world) l.low l.to) (range_with_len 0 l.col);
       few : vec_len l.cols ≤ l.col;
-      room : length l.world.assets.now ≤ vec_capacity l.cols;
+      room : length l.asked.world.assets.now ≤ vec_capacity l.cols;
     }

@@ -6,17 +6,17 @@ use Rattle.pl_runner.proofs.lows.least_low.Goals as goal
 use Rattle.pl_runner.proofs.lows.least_low.Goals.{then-is_used, else-is_used}
 
 pub loop-t-init : goal.loop-t-init
-loop-t-init c = so-far-none c.args.plan.now c.args.from
+loop-t-init c = so-far-none c.args.asked.now.plan.now c.args.from
 
 pub loop-t-preserved : goal.loop-t-preserved
 loop-t-preserved c =
     elim c.if-is_used.branch [
       | then-is_used b ↦ (let m : b.min-low.result ≡ min c.loop-t.low b.low_at.result = search rules in
-          rw b.low-is (so-far-more c.args.plan.now c.args.from c.loop-t.t c.loop-t.low b.low_at.result c.loop-t.invariant (sym c.is_used.ensures ∙ b.if-is_used.true) b.low_at.ensures.value b.low_at.ensures.within _ m))
-      | else-is_used b ↦ rw b.low-is (so-far-same c.args.plan.now c.args.from c.loop-t.t c.loop-t.low c.loop-t.invariant (sym c.is_used.ensures ∙ b.if-is_used.false))
+          rw b.low-is (so-far-more c.args.asked.now.plan.now c.args.from c.loop-t.t c.loop-t.low b.low_at.result c.loop-t.invariant (sym c.is_used.ensures ∙ b.if-is_used.true) b.low_at.ensures.value b.low_at.ensures.within _ m))
+      | else-is_used b ↦ rw b.low-is (so-far-same c.args.asked.now.plan.now c.args.from c.loop-t.t c.loop-t.low c.loop-t.invariant (sym c.is_used.ensures ∙ b.if-is_used.false))
     ]
 
 pub returns-clause-least : goal.returns-clause-least
 returns-clause-least c =
-    let done : length (pipeline_of c.args.checked.now).graph ≤ c.loop-t.t = omega (arith, c.len-t-end.ensures.value, ap length c.graph.ensures.value, graph-long c.args.checked.now.graph) in
-    so-far-end c.args.sessions.now (pipeline_of c.args.checked.now) c.args.plan.now c.args.from c.loop-t.t c.loop-t.low c.graph.ensures.checked c.requires.plan c.requires.from c.requires.to done c.loop-t.invariant
+    let done : length (pipeline_of c.args.asked.now.checked.now).graph ≤ c.loop-t.t = omega (arith, c.len-t-end.ensures.value, ap length c.graph.ensures.value, graph-long c.args.asked.now.checked.now.graph) in
+    so-far-end c.args.asked.now.world.sessions.now (pipeline_of c.args.asked.now.checked.now) c.args.asked.now.plan.now c.args.from c.loop-t.t c.loop-t.low c.requires.asked.checked c.requires.asked.plan c.requires.from c.requires.to done c.loop-t.invariant

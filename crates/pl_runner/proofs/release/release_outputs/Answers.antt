@@ -11,7 +11,7 @@ use Rattle.pl_runner.proofs.release.release_outputs.Goals.{then-is_output, else-
 
 pub slot-requires : goal.slot-requires
 slot-requires c =
-    output-used c.args.sessions.now (pipeline_of c.args.checked.now) c.args.plan.now c.graph.ensures.checked c.requires.plan c.loop-t.t (sym c.is_output.ensures ∙ c.if-is_output.true)
+    output-used c.args.asked.now.world.sessions.now (pipeline_of c.args.asked.now.checked.now) c.args.asked.now.plan.now c.requires.asked.checked c.requires.asked.plan c.loop-t.t (sym c.is_output.ensures ∙ c.if-is_output.true)
 
 pub release-requires : goal.release-requires
 release-requires c =
@@ -20,14 +20,14 @@ release-requires c =
 
 pub loop-t-preserved : goal.loop-t-preserved
 loop-t-preserved c =
-    let p = pipeline_of c.args.checked.now in let plan = c.args.plan.now in
+    let p = pipeline_of c.args.asked.now.checked.now in let plan = c.args.asked.now.plan.now in
     elim c.if-is_output.branch [
       | then-is_output b ↦
           let own = sym c.is_output.ensures ∙ b.if-is_output.true in
           let inside = live-inside c.loop-t.workspace (slot_of plan c.loop-t.t) (c.loop-t.invariant.held.live c.loop-t.t (omega arith) own) in
           let is = b.workspace-is ∙ b.release.ensures ∙ ap (λ (n : ℕ). with_slot c.loop-t.workspace n Free) b.slot.ensures.value in
           record {
-            held = subst (HoldOnly p plan (c.loop-t.t + 1)) (sym is) (released c.args.sessions.now p plan c.graph.ensures.checked c.requires.plan c.loop-t.t c.loop-t.workspace c.loop-t.invariant.held own inside);
+            held = subst (HoldOnly p plan (c.loop-t.t + 1)) (sym is) (released c.args.asked.now.world.sessions.now p plan c.requires.asked.checked c.requires.asked.plan c.loop-t.t c.loop-t.workspace c.loop-t.invariant.held own inside);
             slots = ap (λ (w : Slots). length w.slots) is ∙ slots-long c.loop-t.workspace (slot_of plan c.loop-t.t) ∙ c.loop-t.invariant.slots;
             len = ap (λ (w : Slots). w.len) is ∙ c.loop-t.invariant.len;
           }
@@ -41,5 +41,5 @@ loop-t-preserved c =
 
 pub returns-clause-free : goal.returns-clause-free
 returns-clause-free c =
-    let done : length (pipeline_of c.args.checked.now).graph ≤ c.loop-t.t = omega (arith, c.len-t-end.ensures.value, ap length c.graph.ensures.value, graph-long c.args.checked.now.graph) in
-    all-released c.args.sessions.now (pipeline_of c.args.checked.now) c.args.plan.now c.loop-t.t c.loop-t.workspace c.graph.ensures.checked c.requires.plan done c.loop-t.invariant.held
+    let done : length (pipeline_of c.args.asked.now.checked.now).graph ≤ c.loop-t.t = omega (arith, c.len-t-end.ensures.value, ap length c.graph.ensures.value, graph-long c.args.asked.now.checked.now.graph) in
+    all-released c.args.asked.now.world.sessions.now (pipeline_of c.args.asked.now.checked.now) c.args.asked.now.plan.now c.loop-t.t c.loop-t.workspace c.requires.asked.checked c.requires.asked.plan done c.loop-t.invariant.held

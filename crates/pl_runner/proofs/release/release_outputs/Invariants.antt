@@ -6,7 +6,7 @@ use Rattle.pl_runner.proofs.release.release_outputs.Given as goal
 abbrev pub invariant-loop-t : goal.invariant-loop-t
 invariant-loop-t l =
     record {
-      held : HoldOnly (pipeline_of l.checked) l.plan l.t l.workspace;
+      held : HoldOnly (pipeline_of l.asked.checked.now) l.asked.plan.now l.t l.workspace;
       slots : length l.workspace.slots ≡ length l.fn.workspace.slots;
       len : l.workspace.len ≡ l.fn.workspace.len;
     }

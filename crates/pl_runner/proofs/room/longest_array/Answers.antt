@@ -8,7 +8,7 @@ use Rattle.pl_runner.proofs.room.longest_array.Goals as goal
 
 pub loop-i-preserved : goal.loop-i-preserved
 loop-i-preserved c =
-    let w = world_of c.args.world.now in let p = pipeline_of c.args.checked.now in let plan = c.args.plan.now in
+    let w = world_of c.args.asked.now.world in let p = pipeline_of c.args.asked.now.checked.now in let plan = c.args.asked.now.plan.now in
     let m : c.max-longest.result ≡ max c.loop-i.longest c.array_of.result = search rules in
     let own = room-at w p plan c.args.size c.loop-i.i c.from-in-loop-i.result c.to-in-loop-i.result _ c.array_of.result c.from-in-loop-i.ensures.value c.to-in-loop-i.ensures.value c.chunk_at-chunk.ensures.value c.array_of.ensures.each in
     record {
@@ -19,6 +19,6 @@ loop-i-preserved c =
 
 pub returns-clause-least : goal.returns-clause-least
 returns-clause-least c =
-    let plan = c.args.plan.now in
+    let plan = c.args.asked.now.plan.now in
     let many : c.chunk_count-i-end.result ≡ chunk_count plan.from plan.to c.args.size = c.chunk_count-i-end.ensures.value ∙ ap (λ (x : ℕ). chunk_count x c.to.result c.args.size) c.from.ensures.value ∙ ap (λ (x : ℕ). chunk_count plan.from x c.args.size) c.to.ensures.value in
     λ len h. c.loop-i.invariant.least len (λ i l. h i (omega (arith, l, c.loop-i.auto.i-end, many)))

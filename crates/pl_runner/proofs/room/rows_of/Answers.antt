@@ -9,10 +9,10 @@ use Rattle.pl_terms.proofs.Graphs.{graph-long}
 
 pub node-requires : goal.node-requires
 node-requires c =
-    let inside = used-within c.args.world.now.sessions.now (pipeline_of c.args.checked.now) c.args.plan.now c.requires.plan c.args.term.0 c.requires.used in
-    omega (arith, inside, graph-long c.args.checked.now.graph, ap length c.graph.ensures.value)
+    let inside = used-within c.args.asked.now.world.sessions.now (pipeline_of c.args.asked.now.checked.now) c.args.asked.now.plan.now c.requires.asked.plan c.args.term.0 c.requires.used in
+    omega (arith, inside, graph-long c.args.asked.now.checked.now.graph, ap length c.graph.ensures.value)
 
 pub returns-clause-value : goal.returns-clause-value
 returns-clause-value c =
     let there = subst (λ (ns : List Node). slice_get ns c.args.term.0 ≡ Some c.node.result.now) c.graph.ensures.value c.node.ensures in
-    λ n e. (let w = window-of c.args.checked.now.graph c.args.term.0 c.node.result.now n there e in omega (arith, w, c.low_at-low.ensures.value))
+    λ n e. (let w = window-of c.args.asked.now.checked.now.graph c.args.term.0 c.node.result.now n there e in omega (arith, w, c.low_at-low.ensures.value))

@@ -19,14 +19,14 @@ use Rattle.pl_runner.proofs.run.write_all.Goals as goal
 
 pub loop-i-init : goal.loop-i-init
 loop-i-init g c =
-    let w = world_of c.args.world.now in
-    let p = pipeline_of c.args.checked.now in
-    let plan = c.args.plan.now in
+    let w = world_of c.args.asked.now.world in
+    let p = pipeline_of c.args.asked.now.checked.now in
+    let plan = c.args.asked.now.plan.now in
     let all = rows-all w p plan.from plan.to c.args.size in
-    let whole = lines w p c.args.format (table w p plan.from plan.to) in
+    let whole = lines w p c.args.asked.now.format (table w p plan.from plan.to) in
     record {
       within = omega arith;
-      writing = writing-over (ap (lines w p c.args.format) (sym all))
+      writing = writing-over (ap (lines w p c.args.asked.now.format) (sym all))
           (writing-more c.args.header.now whole (writing-start g.O.Sink.taken g.O.Sink.faults g.O.Sink.sound g.O.Sink.room c.args.out.now (c.args.header.now ++ whole)) c.in_ok-write_bytes.ensures.writes);
       pieces = written-more (written-none refl) c.in_ok-write_bytes.ensures.pieces (omega (arith, c.none-totals.ensures.rows));
       rows = omega (arith, ap length all, c.none-totals.ensures.rows);
@@ -34,23 +34,23 @@ loop-i-init g c =
       few = omega (arith, c.none-totals.ensures.rows);
       done = (0, omega arith, omega arith, omega (arith, steps-all w p plan c.args.size));
       peak = λ some. absurd (omega (arith, some));
-      desk = c.requires.desk;
+      buffers = c.requires.buffers;
     }
 
 pub returns-in_err-write_bytes-clause-writes : goal.returns-in_err-write_bytes-clause-writes
 returns-in_err-write_bytes-clause-writes g c =
-    let w = world_of c.args.world.now in
-    let p = pipeline_of c.args.checked.now in
-    let whole = lines w p c.args.format (table w p c.args.plan.now.from c.args.plan.now.to) in
+    let w = world_of c.args.asked.now.world in
+    let p = pipeline_of c.args.asked.now.checked.now in
+    let whole = lines w p c.args.asked.now.format (table w p c.args.asked.now.plan.now.from c.args.asked.now.plan.now.to) in
     let q = err_from_is_err_and c.from_residual.result c.from_residual.ensures.1 in
     rw (q.1, q.2)
     (writing-stop c.args.header.now whole (writing-start g.O.Sink.taken g.O.Sink.faults g.O.Sink.sound g.O.Sink.room c.args.out.now (c.args.header.now ++ whole)) c.in_err-write_bytes.ensures.writes)
 
 pub returns-in_err-report-clause-writes : goal.returns-in_err-report-clause-writes
 returns-in_err-report-clause-writes g c =
-    let w = world_of c.args.world.now in
-    let p = pipeline_of c.args.checked.now in
-    let plan = c.args.plan.now in
+    let w = world_of c.args.asked.now.world in
+    let p = pipeline_of c.args.asked.now.checked.now in
+    let plan = c.args.asked.now.plan.now in
     let count : c.chunk_count-i-end.result ≡ chunk_count plan.from plan.to c.args.size = c.chunk_count-i-end.ensures.value ∙ ap (λ (n : ℕ). chunk_count n c.to.result c.args.size) c.from.ensures.value ∙ ap (λ (n : ℕ). chunk_count plan.from n c.args.size) c.to.ensures.value in
     let is : c.chunk_at-chunk.result ≡ chunk_at plan.from plan.to c.args.size c.loop-i.i = c.chunk_at-chunk.ensures.value ∙ ap (λ (n : ℕ). chunk_at n c.to-in-loop-i.result c.args.size c.loop-i.i) c.from-in-loop-i.ensures.value ∙ ap (λ (n : ℕ). chunk_at plan.from n c.args.size c.loop-i.i) c.to-in-loop-i.ensures.value in
     let before : c.loop-i.i < chunk_count plan.from plan.to c.args.size = omega (arith, count) in
@@ -58,16 +58,16 @@ returns-in_err-report-clause-writes g c =
     let chunk = c.chunk_at-chunk.result in
     let s = start_of plan.from c.args.size (i + 1) in
     let rest = rows_of_sessions w p s (plan.to + 1 - s) in
-    let next = ap (lines w p c.args.format) (rows-next w p plan.from plan.to c.args.size i c.requires.plan.order c.requires.some before chunk is)
-    ∙ lines-append w p c.args.format (rows_of_sessions w p chunk.from (chunk.to + 1 - chunk.from)) rest in
+    let next = ap (lines w p c.args.asked.now.format) (rows-next w p plan.from plan.to c.args.size i c.requires.asked.plan.order c.requires.some before chunk is)
+    ∙ lines-append w p c.args.asked.now.format (rows_of_sessions w p chunk.from (chunk.to + 1 - chunk.from)) rest in
     let q = err_from_is_err_and c.from_residual-in_err-report.result c.from_residual-in_err-report.ensures.1 in
     rw (q.1, q.2) (writing-stop _ _ (writing-over next c.loop-i.invariant.writing) c.in_err-report.ensures.writes)
 
 pub returns-in_err-report-clause-at_most : goal.returns-in_err-report-clause-at_most
 returns-in_err-report-clause-at_most g c =
-    let w = world_of c.args.world.now in
-    let p = pipeline_of c.args.checked.now in
-    let plan = c.args.plan.now in
+    let w = world_of c.args.asked.now.world in
+    let p = pipeline_of c.args.asked.now.checked.now in
+    let plan = c.args.asked.now.plan.now in
     let count : c.chunk_count-i-end.result ≡ chunk_count plan.from plan.to c.args.size = c.chunk_count-i-end.ensures.value ∙ ap (λ (n : ℕ). chunk_count n c.to.result c.args.size) c.from.ensures.value ∙ ap (λ (n : ℕ). chunk_count plan.from n c.args.size) c.to.ensures.value in
     let is : c.chunk_at-chunk.result ≡ chunk_at plan.from plan.to c.args.size c.loop-i.i = c.chunk_at-chunk.ensures.value ∙ ap (λ (n : ℕ). chunk_at n c.to-in-loop-i.result c.args.size c.loop-i.i) c.from-in-loop-i.ensures.value ∙ ap (λ (n : ℕ). chunk_at plan.from n c.args.size c.loop-i.i) c.to-in-loop-i.ensures.value in
     let before : c.loop-i.i < chunk_count plan.from plan.to c.args.size = omega (arith, count) in
@@ -77,9 +77,9 @@ returns-in_err-report-clause-at_most g c =
 
 pub loop-i-preserved : goal.loop-i-preserved
 loop-i-preserved g c =
-    let w = world_of c.args.world.now in
-    let p = pipeline_of c.args.checked.now in
-    let plan = c.args.plan.now in
+    let w = world_of c.args.asked.now.world in
+    let p = pipeline_of c.args.asked.now.checked.now in
+    let plan = c.args.asked.now.plan.now in
     let count : c.chunk_count-i-end.result ≡ chunk_count plan.from plan.to c.args.size = c.chunk_count-i-end.ensures.value ∙ ap (λ (n : ℕ). chunk_count n c.to.result c.args.size) c.from.ensures.value ∙ ap (λ (n : ℕ). chunk_count plan.from n c.args.size) c.to.ensures.value in
     let is : c.chunk_at-chunk.result ≡ chunk_at plan.from plan.to c.args.size c.loop-i.i = c.chunk_at-chunk.ensures.value ∙ ap (λ (n : ℕ). chunk_at n c.to-in-loop-i.result c.args.size c.loop-i.i) c.from-in-loop-i.ensures.value ∙ ap (λ (n : ℕ). chunk_at plan.from n c.args.size c.loop-i.i) c.to-in-loop-i.ensures.value in
     let before : c.loop-i.i < chunk_count plan.from plan.to c.args.size = omega (arith, count) in
@@ -89,8 +89,8 @@ loop-i-preserved g c =
     let s = start_of plan.from size (i + 1) in
     let own = rows_of_sessions w p chunk.from (chunk.to + 1 - chunk.from) in
     let rest = rows_of_sessions w p s (plan.to + 1 - s) in
-    let split = rows-next w p plan.from plan.to size i c.requires.plan.order c.requires.some before chunk is in
-    let next = ap (lines w p c.args.format) split ∙ lines-append w p c.args.format own rest in
+    let split = rows-next w p plan.from plan.to size i c.requires.asked.plan.order c.requires.some before chunk is in
+    let next = ap (lines w p c.args.asked.now.format) split ∙ lines-append w p c.args.asked.now.format own rest in
     let steps = steps-next w p plan size i before chunk is in
     let done = c.loop-i.invariant.done in
     let here = steps_of_chunk w p plan chunk in
@@ -104,26 +104,26 @@ loop-i-preserved g c =
       few = omega (arith, m, times-more i (size * length w.assets), c.loop-i.invariant.few, c.in_ok-report.ensures.done.1.few);
       done = (done.0 + here, omega (arith, done.1, c.in_ok-report.ensures.cost), omega (arith, done.2, c.in_ok-report.ensures.done.1.applied, c.saturating_add-applied.ensures), omega (arith, steps, done.3));
       peak = λ some. c.in_ok-report.ensures.done.1.peak;
-      desk = λ j h. c.in_ok-report.ensures.done.1.desk (chunk_at plan.from plan.to size j) (c.loop-i.invariant.desk j h);
+      buffers = λ j h. c.in_ok-report.ensures.done.1.buffers (chunk_at plan.from plan.to size j) (c.loop-i.invariant.buffers j h);
     }
 
 pub returns-clause-writes : goal.returns-clause-writes
 returns-clause-writes g c =
-    let w = world_of c.args.world.now in
-    let p = pipeline_of c.args.checked.now in
-    let plan = c.args.plan.now in
+    let w = world_of c.args.asked.now.world in
+    let p = pipeline_of c.args.asked.now.checked.now in
+    let plan = c.args.asked.now.plan.now in
     let count : c.chunk_count-i-end.result ≡ chunk_count plan.from plan.to c.args.size = c.chunk_count-i-end.ensures.value ∙ ap (λ (n : ℕ). chunk_count n c.to.result c.args.size) c.from.ensures.value ∙ ap (λ (n : ℕ). chunk_count plan.from n c.args.size) c.to.ensures.value in
     let after : chunk_count plan.from plan.to c.args.size ≤ c.loop-i.i = omega (arith, count) in
-    writing-end (writing-over (ap (lines w p c.args.format) (rows-end w p plan.from plan.to c.args.size c.loop-i.i c.requires.plan.order c.requires.some after)) c.loop-i.invariant.writing)
+    writing-end (writing-over (ap (lines w p c.args.asked.now.format) (rows-end w p plan.from plan.to c.args.size c.loop-i.i c.requires.asked.plan.order c.requires.some after)) c.loop-i.invariant.writing)
 
 pub returns-clause-done : goal.returns-clause-done
 returns-clause-done g c =
-    let w = world_of c.args.world.now in
-    let p = pipeline_of c.args.checked.now in
-    let plan = c.args.plan.now in
+    let w = world_of c.args.asked.now.world in
+    let p = pipeline_of c.args.asked.now.checked.now in
+    let plan = c.args.asked.now.plan.now in
     let count : c.chunk_count-i-end.result ≡ chunk_count plan.from plan.to c.args.size = c.chunk_count-i-end.ensures.value ∙ ap (λ (n : ℕ). chunk_count n c.to.result c.args.size) c.from.ensures.value ∙ ap (λ (n : ℕ). chunk_count plan.from n c.args.size) c.to.ensures.value in
     let after : chunk_count plan.from plan.to c.args.size ≤ c.loop-i.i = omega (arith, count) in
-    let none = rows-end w p plan.from plan.to c.args.size c.loop-i.i c.requires.plan.order c.requires.some after in
+    let none = rows-end w p plan.from plan.to c.args.size c.loop-i.i c.requires.asked.plan.order c.requires.some after in
     let sum : c.loop-i.totals.sum ≡ rows_sum w.texts (table w p plan.from plan.to) = omega (arith, ints, ap (rows_sum w.texts) none, c.loop-i.invariant.sum) in
     let done = c.loop-i.invariant.done in
     let last = steps-end w p plan c.args.size c.loop-i.i after in

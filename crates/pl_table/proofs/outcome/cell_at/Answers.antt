@@ -4,8 +4,8 @@ use Rattle.pl_table.proofs.outcome.cell_at.Goals as goal
 
 pub low_at-low-requires-clause-used : goal.low_at-low-requires-clause-used
 low_at-low-requires-clause-used c =
-    let o = c.args.outcome.now in output-used o.world.sessions.now (pipeline_in o) o.plan.now c.requires.outcome.checked c.requires.outcome.plan c.args.term.0 c.requires.output
+    let o = c.args.outcome.now in output-used o.asked.world.sessions.now (pipeline_in o) o.asked.plan.now c.requires.outcome.asked.checked c.requires.outcome.asked.plan c.args.term.0 c.requires.output
 
 pub slot-requires : goal.slot-requires
 slot-requires c =
-    let o = c.args.outcome.now in output-used o.world.sessions.now (pipeline_in o) o.plan.now c.requires.outcome.checked c.requires.outcome.plan c.args.term.0 c.requires.output
+    let o = c.args.outcome.now in output-used o.asked.world.sessions.now (pipeline_in o) o.asked.plan.now c.requires.outcome.asked.checked c.requires.outcome.asked.plan c.args.term.0 c.requires.output

@@ -6,5 +6,5 @@ use Rattle.pl_table.proofs.outcome.sid_of.Goals as goal
 pub returns : goal.returns
 returns c =
     let o = c.args.outcome.now in
-    let own : sid_at o.world.assets.now (get_or o.cols.now c.args.place 0) ≡ c.sid.result = ap (λ (x : Option ℕ). unwrap_or x 0) c.sid.ensures in
-    sym (sid-of-place o.world.assets.now o.cols.now c.args.place c.requires.place ∙ own)
+    let own : sid_at o.asked.world.assets.now (get_or o.cols.now c.args.place 0) ≡ c.sid.result = ap (λ (x : Option ℕ). unwrap_or x 0) c.sid.ensures in
+    sym (sid-of-place o.asked.world.assets.now o.cols.now c.args.place c.requires.place ∙ own)

@@ -29,23 +29,23 @@ put_cell-requires-clause-code c =
     let o = r.outcome.now in
     let x = get_or r.values.now c.args.column (pos 0) in
     let fr : FitsSigned w64 x = search rules in
-    let d = has-column o.checked.now.columns c.args.column (omega (arith, c.requires.column, columns-long o.checked.now.columns)) in
-    λ label. subst (IsCode o.world.labels.now.texts) (sym (to_z-of_z w64 x fr))
-    (code-of-cell (world_in o) (pipeline_in o) c.requires.cells.outcome.checked c.requires.cells.outcome.texts (sids_in o) d.0.term r.place r.session (get_or r.writings.now c.args.column Cell) x
+    let d = has-column o.asked.checked.now.columns c.args.column (omega (arith, c.requires.column, columns-long o.asked.checked.now.columns)) in
+    λ label. subst (IsCode o.asked.world.labels.now.texts) (sym (to_z-of_z w64 x fr))
+    (code-of-cell (world_in o) (pipeline_in o) c.requires.cells.outcome.asked.checked c.requires.cells.outcome.asked.texts (sids_in o) d.0.term r.place r.session (get_or r.writings.now c.args.column Cell) x
     (c.requires.cells.writings.each c.args.column d.0 d.1) label (c.requires.cells.cells.each c.args.column d.0 d.1))
 
 -- the field of the cell was put, and x is its summand
 put : (c : After-put_cell) (x : ℤ) → x ≡ (if is_missing (get_or c.args.cells.now.values.now c.args.column (pos 0)) then pos 0 else get_or c.args.cells.now.values.now c.args.column (pos 0))
     → (d : NamedColumn) → slice_get (pipeline_in c.args.cells.now.outcome.now).columns c.args.column ≡ Some d
-    → IsPut (world_in c.args.cells.now.outcome.now) (pipeline_in c.args.cells.now.outcome.now) c.args.format (sid_in (sids_in c.args.cells.now.outcome.now) c.args.cells.now.place) (pos c.args.cells.now.session) d c.args.line.now c.put_cell.new.line x
+    → IsPut (world_in c.args.cells.now.outcome.now) (pipeline_in c.args.cells.now.outcome.now) c.args.cells.now.outcome.now.asked.format (sid_in (sids_in c.args.cells.now.outcome.now) c.args.cells.now.place) (pos c.args.cells.now.session) d c.args.line.now c.put_cell.new.line x
 put c x e d at =
     let r = c.args.cells.now in
     let o = r.outcome.now in
     let y = get_or r.values.now c.args.column (pos 0) in
     let fr : FitsSigned w64 y = search rules in
     let writing = get_or r.writings.now c.args.column Cell in
-    let text = subst (λ (z : ℤ). c.put_cell.new.line ≡ c.args.line.now ++ field_part c.args.format (cell_field c.args.format o.world.labels.now.texts writing z)) (to_z-of_z w64 y fr) c.put_cell.ensures.text in
-    put-is (world_in o) (pipeline_in o) c.requires.cells.outcome.checked c.requires.cells.outcome.texts c.args.format (sids_in o) d.term r.place r.session writing y x c.args.line.now c.put_cell.new.line
+    let text = subst (λ (z : ℤ). c.put_cell.new.line ≡ c.args.line.now ++ field_part o.asked.format (cell_field o.asked.format o.asked.world.labels.now.texts writing z)) (to_z-of_z w64 y fr) c.put_cell.ensures.text in
+    put-is (world_in o) (pipeline_in o) c.requires.cells.outcome.asked.checked c.requires.cells.outcome.asked.texts o.asked.format (sids_in o) d.term r.place r.session writing y x c.args.line.now c.put_cell.new.line
     (c.requires.cells.writings.each c.args.column d at) (c.requires.cells.cells.each c.args.column d at) text e d refl
 
 pub returns-then-cell-clause-value : goal.returns-then-cell-clause-value

@@ -18,25 +18,25 @@ use Rattle.pl_table.proofs.rows.put_values.Goals.{After-loop-column}
 use Rattle.pl_terms.proofs.Graphs.{columns-long}
 
 pub put_value-sum-requires-clause-column : goal.put_value-sum-requires-clause-column
-put_value-sum-requires-clause-column c = omega (arith, c.columns-column-end.ensures, columns-long c.args.cells.now.outcome.now.checked.now.columns)
+put_value-sum-requires-clause-column c = omega (arith, c.columns-column-end.ensures, columns-long c.args.cells.now.outcome.now.asked.checked.now.columns)
 
 pub put_value-sum-requires-clause-room : goal.put_value-sum-requires-clause-room
 put_value-sum-requires-clause-room c =
-    omega (arith, c.columns-column-end.ensures, columns-long c.args.cells.now.outcome.now.checked.now.columns, c.requires.cells.outcome.checked.few_columns, c.requires.room, c.loop-column.invariant.within)
+    omega (arith, c.columns-column-end.ensures, columns-long c.args.cells.now.outcome.now.asked.checked.now.columns, c.requires.cells.outcome.asked.checked.few_columns, c.requires.room, c.loop-column.invariant.within)
 
 pub loop-column-preserved : goal.loop-column-preserved
 loop-column-preserved c =
     let o = c.args.cells.now.outcome.now in
     let w = world_in o in let p = pipeline_in o in let a = sid_in (sids_in o) c.args.cells.now.place in let i = c.loop-column.column in
-    let d = has-column o.checked.now.columns i (omega (arith, c.columns-column-end.ensures)) in
+    let d = has-column o.asked.checked.now.columns i (omega (arith, c.columns-column-end.ensures)) in
     let inside = slice_get_within p.columns i d.0 d.1 in
-    let few : i < 64 = omega (arith, inside, c.requires.cells.outcome.checked.few_columns) in
+    let few : i < 64 = omega (arith, inside, c.requires.cells.outcome.asked.checked.few_columns) in
     let put = c.put_value-sum.ensures.value d.0 d.1 in
     let fr : FitsSigned w128 c.put_value-sum.result = search rules in
     let grown = sum-grows (to_z w128 c.loop-column.sum-bits) c.put_value-sum.result i c.loop-column.invariant.small c.put_value-sum.ensures.small few in
     let is = ap (λ (x : ℤ). to_z w128 (of_z w128 (to_z w128 c.loop-column.sum-bits +ℤ x))) (to_z-of_z w128 c.put_value-sum.result fr) ∙ to_z-of_z w128 _ grown.0 in
     record {
-      text = parts-more c.args.line.now _ _ _ _ _ c.loop-column.invariant.text put.text (fields-more w p c.args.format a (pos c.args.cells.now.session) p.columns i d.0 inside d.1);
+      text = parts-more c.args.line.now _ _ _ _ _ c.loop-column.invariant.text put.text (fields-more w p o.asked.format a (pos c.args.cells.now.session) p.columns i d.0 inside d.1);
       within = omega (arith, c.loop-column.invariant.within, c.put_value-sum.ensures.within);
       sum = is ∙ ap (λ (x : ℤ). x +ℤ c.put_value-sum.result) c.loop-column.invariant.sum
           ∙ ap (λ (x : ℤ). values_sum w.texts (row_values w p a (pos c.args.cells.now.session) (take i p.columns)) +ℤ x) put.sum
@@ -46,17 +46,17 @@ loop-column-preserved c =
 
 -- all columns
 all-columns : (c : After-loop-column) → take c.loop-column.column (pipeline_in c.args.cells.now.outcome.now).columns ≡ (pipeline_in c.args.cells.now.outcome.now).columns
-all-columns c = take_all c.loop-column.column (pipeline_in c.args.cells.now.outcome.now).columns (omega (arith, c.columns-column-end.ensures, columns-long c.args.cells.now.outcome.now.checked.now.columns))
+all-columns c = take_all c.loop-column.column (pipeline_in c.args.cells.now.outcome.now).columns (omega (arith, c.columns-column-end.ensures, columns-long c.args.cells.now.outcome.now.asked.checked.now.columns))
 
 pub returns-clause-text : goal.returns-clause-text
 returns-clause-text c =
     let o = c.args.cells.now.outcome.now in
     c.loop-column.invariant.text
-    ∙ ap (λ (cs : List NamedColumn). c.args.line.now ++ value_fields (world_in o) (pipeline_in o) c.args.format (sid_in (sids_in o) c.args.cells.now.place) (pos c.args.cells.now.session) cs) (all-columns c)
+    ∙ ap (λ (cs : List NamedColumn). c.args.line.now ++ value_fields (world_in o) (pipeline_in o) o.asked.format (sid_in (sids_in o) c.args.cells.now.place) (pos c.args.cells.now.session) cs) (all-columns c)
 
 pub returns-clause-within : goal.returns-clause-within
 returns-clause-within c =
-    omega (arith, c.loop-column.auto.column-end, c.columns-column-end.ensures, columns-long c.args.cells.now.outcome.now.checked.now.columns, c.requires.cells.outcome.checked.few_columns, c.requires.room, c.loop-column.invariant.within)
+    omega (arith, c.loop-column.auto.column-end, c.columns-column-end.ensures, columns-long c.args.cells.now.outcome.now.asked.checked.now.columns, c.requires.cells.outcome.asked.checked.few_columns, c.requires.room, c.loop-column.invariant.within)
 
 pub returns-clause-sum : goal.returns-clause-sum
 returns-clause-sum c =
@@ -66,4 +66,4 @@ returns-clause-sum c =
 
 pub returns-clause-small : goal.returns-clause-small
 returns-clause-small c =
-    omega (arith, c.loop-column.auto.column-end, c.columns-column-end.ensures, columns-long c.args.cells.now.outcome.now.checked.now.columns, c.requires.cells.outcome.checked.few_columns, c.loop-column.invariant.small)
+    omega (arith, c.loop-column.auto.column-end, c.columns-column-end.ensures, columns-long c.args.cells.now.outcome.now.asked.checked.now.columns, c.requires.cells.outcome.asked.checked.few_columns, c.loop-column.invariant.small)

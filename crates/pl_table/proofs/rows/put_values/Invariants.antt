@@ -11,7 +11,7 @@ abbrev pub invariant-loop-column : goal.invariant-loop-column
 invariant-loop-column l =
     let w = world_in l.cells.outcome.now in let p = pipeline_in l.cells.outcome.now in let a = sid_in (sids_in l.cells.outcome.now) l.cells.place in
     record {
-      text : l.line ≡ l.fn.line ++ value_fields w p l.format a (pos l.cells.session) (take l.column p.columns);
+      text : l.line ≡ l.fn.line ++ value_fields w p l.cells.outcome.now.asked.format a (pos l.cells.session) (take l.column p.columns);
       within : length l.line ≤ length l.fn.line + 131 * l.column;
       sum : l.sum ≡ values_sum w.texts (row_values w p a (pos l.cells.session) (take l.column p.columns));
       small : unsigned_abs l.sum ≤ l.column * LIMIT;

@@ -12,7 +12,7 @@ returns-clause-writes g c =
     let o = c.args.table.now.outcome.now in
     let fits : FitsSigned w32 c.day.result = search rules in
     let date = simp to_z-of_z at c.put_date.ensures.text in
-    let text = c.put_sid.ensures.text ∙ ap (λ (n : ℕ). c.put_date.new.line ++ sid_part c.args.table.now.format (decimal n)) c.sid_of.ensures in
+    let text = c.put_sid.ensures.text ∙ ap (λ (n : ℕ). c.put_date.new.line ++ sid_part o.asked.format (decimal n)) c.sid_of.ensures in
     writes-over (c.as_slice.ensures
-    ∙ put-together (world_in o) (pipeline_in o) c.args.table.now.format (sid_in (sids_in o) c.args.place) c.args.session c.day.result _ _ _ _ _ c.day.ensures.exact c.clear.ensures date text c.put_values-sum.ensures.text c.put.ensures)
+    ∙ put-together (world_in o) (pipeline_in o) o.asked.format (sid_in (sids_in o) c.args.place) c.args.session c.day.result _ _ _ _ _ c.day.ensures.exact c.clear.ensures date text c.put_values-sum.ensures.text c.put.ensures)
     c.write_bytes.ensures.writes

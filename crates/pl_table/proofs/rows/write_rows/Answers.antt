@@ -38,7 +38,7 @@ write_session-requires-clause-few g c =
 pub returns-in_err-write_session-clause-writes : goal.returns-in_err-write_session-clause-writes
 returns-in_err-write_session-clause-writes g c =
     let o = c.args.outcome.now in let w = world_in o in let pl = pipeline_in o in let s = c.loop-session.session in
-    let next = ap (lines w pl c.args.format) (sessions-next w pl s o.to (omega arith)) ∙ lines-append w pl c.args.format (session_rows w pl (pos s)) (rows_of_sessions w pl (s + 1) (o.to + 1 - (s + 1))) in
+    let next = ap (lines w pl o.asked.format) (sessions-next w pl s o.to (omega arith)) ∙ lines-append w pl o.asked.format (session_rows w pl (pos s)) (rows_of_sessions w pl (s + 1) (o.to + 1 - (s + 1))) in
     let p = err_from_is_err_and c.from_residual.result c.from_residual.ensures.1 in
     rw (p.1, p.2) (writing-stop _ _ (writing-over next c.loop-session.invariant.writing) c.in_err-write_session.ensures.writes)
 
@@ -47,7 +47,7 @@ loop-session-preserved g c =
     let o = c.args.outcome.now in let w = world_in o in let pl = pipeline_in o in let s = c.loop-session.session in
     let own = sessions-next w pl s o.to (omega arith) in
     let rest = rows_of_sessions w pl (s + 1) (o.to + 1 - (s + 1)) in
-    let next = ap (lines w pl c.args.format) own ∙ lines-append w pl c.args.format (session_rows w pl (pos s)) rest in
+    let next = ap (lines w pl o.asked.format) own ∙ lines-append w pl o.asked.format (session_rows w pl (pos s)) rest in
     let one : s + 1 - o.from ≡ s - o.from + 1 = omega (arith, c.loop-session.invariant.start) in
     let more = ap (λ (n : ℕ). n * length o.cols.now) one ∙ times-more (s - o.from) (length o.cols.now) in
     record {
@@ -58,15 +58,15 @@ loop-session-preserved g c =
       more = omega (arith, c.loop-session.invariant.more, c.in_ok-write_session.ensures.rows);
       rows = omega (arith, ap length own, length-append (session_rows w pl (pos s)) rest, c.loop-session.invariant.rows, c.in_ok-write_session.ensures.rows);
       sum = omega (arith, ints, ap (rows_sum w.texts) own, rows_sum-append w.texts (session_rows w pl (pos s)) rest, c.loop-session.invariant.sum, c.in_ok-write_session.ensures.sum);
-      room = c.turn-first.ensures.size ∙ c.loop-session.invariant.room;
-      filled = λ h. subst (λ (n : ℕ). HasRows o n (length o.cols.now) c.turn-first.new.tile) (c.turn-first.ensures.first ∙ omega (arith, h, c.loop-session.invariant.start)) c.turn-first.ensures.rows;
+      room = c.fill_at_first-first.ensures.size ∙ c.loop-session.invariant.room;
+      filled = λ h. subst (λ (n : ℕ). HasRows o n (length o.cols.now) c.fill_at_first-first.new.tile) (c.fill_at_first-first.ensures.first ∙ omega (arith, h, c.loop-session.invariant.start)) c.fill_at_first-first.ensures.rows;
       few = omega (arith, more, c.loop-session.invariant.few, c.in_ok-write_session.ensures.few);
     }
 
 pub returns-clause-writes : goal.returns-clause-writes
 returns-clause-writes g c =
     let o = c.args.outcome.now in let w = world_in o in let pl = pipeline_in o in
-    writing-end (writing-over (ap (lines w pl c.args.format) (sessions-end w pl c.loop-session.session o.to (omega arith))) c.loop-session.invariant.writing)
+    writing-end (writing-over (ap (lines w pl o.asked.format) (sessions-end w pl c.loop-session.session o.to (omega arith))) c.loop-session.invariant.writing)
 
 pub returns-clause-rows : goal.returns-clause-rows
 returns-clause-rows g c =

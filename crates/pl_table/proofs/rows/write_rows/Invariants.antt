@@ -12,8 +12,8 @@ invariant-loop-session g l =
     record {
       start : from ≤ l.session;
       within : l.session ≤ to + 1;
-      writing : Writing out.taken out.faults out.sound out.room l.fn.out l.out (lines w p l.fn.format (rows_of_sessions w p from (to + 1 - from)))
-          (lines w p l.fn.format (rows_of_sessions w p l.session (to + 1 - l.session)));
+      writing : Writing out.taken out.faults out.sound out.room l.fn.out l.out (lines w p l.outcome.asked.format (rows_of_sessions w p from (to + 1 - from)))
+          (lines w p l.outcome.asked.format (rows_of_sessions w p l.session (to + 1 - l.session)));
       pieces : IsWrittenIn out.whole out.calls l.fn.out l.out (l.totals.rows - l.fn.totals.rows);
       more : l.fn.totals.rows ≤ l.totals.rows;
       rows : l.totals.rows + length (rows_of_sessions w p l.session (to + 1 - l.session)) ≡ l.fn.totals.rows + length (rows_of_sessions w p from (to + 1 - from));

@@ -27,17 +27,17 @@ loop-place-init g c =
 pub returns-in_err-write_row-clause-writes : goal.returns-in_err-write_row-clause-writes
 returns-in_err-write_row-clause-writes g c =
     let o = c.args.table.now.outcome.now in let w = world_in o in let pl = pipeline_in o in
-    let inside : c.loop-place.place < length (sids_in o) = omega (arith, length-map o.cols.now (sid_at o.world.assets.now)) in
+    let inside : c.loop-place.place < length (sids_in o) = omega (arith, length-map o.cols.now (sid_at o.asked.world.assets.now)) in
     let next = rows_with w pl c.args.session (sids_in o) c.loop-place.place inside c.in-Some.ensures.some in
     let p = err_from_is_err_and c.from_residual.result c.from_residual.ensures.1 in
     rw (p.1, p.2)
-    (writes-over (ap (lines w pl c.args.table.now.format) (rows_of_session w pl (sids_in o) c.args.session (c.requires.table.outcome.all c.args.session c.requires.session.from c.requires.session.to)))
-    (writing-stop _ _ (writing-over (ap (lines w pl c.args.table.now.format) next) c.loop-place.invariant.writing) c.in_err-write_row.ensures.writes))
+    (writes-over (ap (lines w pl o.asked.format) (rows_of_session w pl (sids_in o) c.args.session (c.requires.table.outcome.all c.args.session c.requires.session.from c.requires.session.to)))
+    (writing-stop _ _ (writing-over (ap (lines w pl o.asked.format) next) c.loop-place.invariant.writing) c.in_err-write_row.ensures.writes))
 
 pub loop-place-preserved : goal.loop-place-preserved
 loop-place-preserved g c =
     let o = c.args.table.now.outcome.now in let w = world_in o in let pl = pipeline_in o in let i = c.loop-place.place in
-    let inside : i < length (sids_in o) = omega (arith, length-map o.cols.now (sid_at o.world.assets.now)) in
+    let inside : i < length (sids_in o) = omega (arith, length-map o.cols.now (sid_at o.asked.world.assets.now)) in
     elim c.match-row_at.branch [
       | in-Some+in_ok-write_row b ↦
           let next = rows_with w pl c.args.session (sids_in o) i inside b.in-Some.ensures.some in
@@ -45,7 +45,7 @@ loop-place-preserved g c =
           let count = ap (λ (t : Totals). t.rows) b.totals-is in
           let total = ap (λ (t : Totals). t.sum) b.totals-is in
           record {
-            writing = rw b.out-is (writing-more _ _ (writing-over (ap (lines w pl c.args.table.now.format) next) c.loop-place.invariant.writing) b.in_ok-write_row.ensures.writes);
+            writing = rw b.out-is (writing-more _ _ (writing-over (ap (lines w pl o.asked.format) next) c.loop-place.invariant.writing) b.in_ok-write_row.ensures.writes);
             pieces = rw b.out-is (written-more c.loop-place.invariant.pieces b.in_ok-write_row.ensures.pieces (omega (arith, count, c.loop-place.invariant.more, b.in_ok-write_row.ensures.rows)));
             more = omega (arith, count, c.loop-place.invariant.more, b.in_ok-write_row.ensures.rows);
             rows = omega (arith, count, ap length next, c.loop-place.invariant.rows, b.in_ok-write_row.ensures.rows);
@@ -57,7 +57,7 @@ loop-place-preserved g c =
           let count = ap (λ (t : Totals). t.rows) b.totals-is in
           let total = ap (λ (t : Totals). t.sum) b.totals-is in
           record {
-            writing = rw b.out-is (writing-over (ap (lines w pl c.args.table.now.format) next) c.loop-place.invariant.writing);
+            writing = rw b.out-is (writing-over (ap (lines w pl o.asked.format) next) c.loop-place.invariant.writing);
             pieces = rw (b.out-is, count) c.loop-place.invariant.pieces;
             more = omega (arith, count, c.loop-place.invariant.more);
             rows = omega (arith, count, ap length next, c.loop-place.invariant.rows);
@@ -69,20 +69,20 @@ loop-place-preserved g c =
 pub returns-clause-writes : goal.returns-clause-writes
 returns-clause-writes g c =
     let o = c.args.table.now.outcome.now in let w = world_in o in let pl = pipeline_in o in
-    let done : length (sids_in o) ≤ c.loop-place.place = omega (arith, length-map o.cols.now (sid_at o.world.assets.now)) in
-    writes-over (ap (lines w pl c.args.table.now.format) (rows_of_session w pl (sids_in o) c.args.session (c.requires.table.outcome.all c.args.session c.requires.session.from c.requires.session.to)))
-    (writing-end (writing-over (ap (lines w pl c.args.table.now.format) (rows_end w pl c.args.session (sids_in o) c.loop-place.place done)) c.loop-place.invariant.writing))
+    let done : length (sids_in o) ≤ c.loop-place.place = omega (arith, length-map o.cols.now (sid_at o.asked.world.assets.now)) in
+    writes-over (ap (lines w pl o.asked.format) (rows_of_session w pl (sids_in o) c.args.session (c.requires.table.outcome.all c.args.session c.requires.session.from c.requires.session.to)))
+    (writing-end (writing-over (ap (lines w pl o.asked.format) (rows_end w pl c.args.session (sids_in o) c.loop-place.place done)) c.loop-place.invariant.writing))
 
 pub returns-clause-rows : goal.returns-clause-rows
 returns-clause-rows g c =
     let o = c.args.table.now.outcome.now in let w = world_in o in let pl = pipeline_in o in
-    let done : length (sids_in o) ≤ c.loop-place.place = omega (arith, length-map o.cols.now (sid_at o.world.assets.now)) in
+    let done : length (sids_in o) ≤ c.loop-place.place = omega (arith, length-map o.cols.now (sid_at o.asked.world.assets.now)) in
     let all = rows_of_session w pl (sids_in o) c.args.session (c.requires.table.outcome.all c.args.session c.requires.session.from c.requires.session.to) in
     omega (arith, ap length all, ap length (rows_end w pl c.args.session (sids_in o) c.loop-place.place done), c.loop-place.invariant.rows)
 
 pub returns-clause-sum : goal.returns-clause-sum
 returns-clause-sum g c =
     let o = c.args.table.now.outcome.now in let w = world_in o in let pl = pipeline_in o in
-    let done : length (sids_in o) ≤ c.loop-place.place = omega (arith, length-map o.cols.now (sid_at o.world.assets.now)) in
+    let done : length (sids_in o) ≤ c.loop-place.place = omega (arith, length-map o.cols.now (sid_at o.asked.world.assets.now)) in
     let all = rows_of_session w pl (sids_in o) c.args.session (c.requires.table.outcome.all c.args.session c.requires.session.from c.requires.session.to) in
     omega (arith, ints, ap (rows_sum w.texts) all, ap (rows_sum w.texts) (rows_end w pl c.args.session (sids_in o) c.loop-place.place done), c.loop-place.invariant.sum)

@@ -10,7 +10,7 @@ abbrev pub invariant-loop-place : goal.invariant-loop-place
 invariant-loop-place g l =
     let out = g.O.Sink in let w = world_in l.table.outcome.now in let p = pipeline_in l.table.outcome.now in let s = l.session in let sids = sids_in l.table.outcome.now in
     record {
-      writing : Writing out.taken out.faults out.sound out.room l.fn.out l.out (lines w p l.table.format (rows_of w p s sids)) (lines w p l.table.format (rows_of w p s (drop l.place sids)));
+      writing : Writing out.taken out.faults out.sound out.room l.fn.out l.out (lines w p l.table.outcome.now.asked.format (rows_of w p s sids)) (lines w p l.table.outcome.now.asked.format (rows_of w p s (drop l.place sids)));
       pieces : IsWrittenIn out.whole out.calls l.fn.out l.out (l.totals.rows - l.fn.totals.rows);
       more : l.fn.totals.rows ≤ l.totals.rows;
       rows : l.totals.rows + length (rows_of w p s (drop l.place sids)) ≡ l.fn.totals.rows + length (rows_of w p s sids);

@@ -10,13 +10,13 @@ use Rattle.pl_table.proofs.Tiles as tiles
 use Rattle.pl_table.proofs.tile.copy_cells.Goals as goal
 
 pub column_term-term-requires : goal.column_term-term-requires
-column_term-term-requires c = omega (arith, c.requires.column, columns-long c.args.outcome.now.checked.now.columns)
+column_term-term-requires c = omega (arith, c.requires.column, columns-long c.args.outcome.now.asked.checked.now.columns)
 
 pub cells_from-cells-requires-clause-output : goal.cells_from-cells-requires-clause-output
 cells_from-cells-requires-clause-output c =
     let o = c.args.outcome.now in
-    let d = has-column o.checked.now.columns c.args.column (omega (arith, c.requires.column, columns-long o.checked.now.columns)) in
-    let is = term-there o.checked.now.columns c.args.column c.column_term-term.result c.column_term-term.ensures d.0 d.1 in
+    let d = has-column o.asked.checked.now.columns c.args.column (omega (arith, c.requires.column, columns-long o.asked.checked.now.columns)) in
+    let is = term-there o.asked.checked.now.columns c.args.column c.column_term-term.result c.column_term-term.ensures d.0 d.1 in
     subst (λ (t : ℕ). contains (outputs (pipeline_in o)) t ≡ true) is (column-output (pipeline_in o) c.args.column d.0 d.1)
 
 pub loop-j-init : goal.loop-j-init
@@ -64,6 +64,6 @@ pub returns : goal.returns
 returns c d at =
     let o = c.args.outcome.now in
     let few : sessions_in c.args.first o.to ≤ c.loop-j.j = omega (arith, c.min-count.ensures) in
-    let term = term-there o.checked.now.columns c.args.column c.column_term-term.result c.column_term-term.ensures d at in
+    let term = term-there o.asked.checked.now.columns c.args.column c.column_term-term.result c.column_term-term.ensures d at in
     tiles.strip-same (λ j. get_or c.cells_from-cells.result.now j (pos 0)) (tiles.copied o c.args.first c.args.place d.term) (tiles.places_of o) (tiles.width_of o) c.loop-j.j (sessions_in c.args.first o.to) c.args.place (c.args.column + 1) c.args.tile.now c.loop-j.tile c.loop-j.invariant.strip few
     (λ j h. c.cells_from-cells.ensures.each j (omega (arith, c.min-count.ensures)) ∙ ap (λ (t : ℕ). tiles.copied o c.args.first c.args.place t j) (sym term))
